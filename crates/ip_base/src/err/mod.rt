@@ -1,0 +1,8 @@
+//! Errors of the base layer.
+mod layer;
+mod len_error;
+mod value_too_big_error;
+
+pub use layer::Layer;
+pub use len_error::LenError;
+pub use value_too_big_error::ValueTooBigError;

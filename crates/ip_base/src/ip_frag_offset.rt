@@ -1,0 +1,59 @@
+ghost use Rattle.std.specs.Prelude.{◌≡◌, ◌≤◌, ◌↔◌, ℕ, IsOk, IfOk, IfErr};
+
+use crate::err::ValueTooBigError;
+use std::marker::Model;
+
+/// A fragment offset: 13 bits, which count units of 8 bytes (RFC 8200, section 4.5). In a contract it is
+/// its number.
+#[derive(Clone, Copy, Debug, PartialEq, Eq, Hash)]
+pub struct IpFragOffset(u16);
+
+impl Model for IpFragOffset {
+    ghost Value = { ℕ };
+
+    ghost view = { λ offset. offset.0 };
+
+    ghost invariant = { λ offset. offset.0 ≤ 0x1fff };
+
+    ghost inverse = { λ n. record { 0 = n } };
+}
+
+impl IpFragOffset {
+    /// The largest offset.
+    pub const MAX_U16: u16 = 0x1fff;
+
+    /// The offset of this value, or the error that it doesn't fit 13 bits.
+    pub fn try_new(value: u16) -> Result<IpFragOffset, ValueTooBigError>
+        ensures fits { IsOk result ↔ (value ≤ 0x1fff) }
+        ensures value { IfOk result (λ offset. offset ≡ value) }
+        ensures too_big { IfErr result (λ e. e ≡ record { actual = value; max_allowed = 0x1fff }) }
+    {
+        if value > Self::MAX_U16 {
+            return Err(ValueTooBigError {
+                actual: value,
+                max_allowed: Self::MAX_U16,
+            });
+        }
+        Ok(IpFragOffset(value))
+    }
+
+    /// The number of units of 8 bytes.
+    pub fn value(self) -> u16
+        ensures value { result ≡ self }
+        ensures fits { result ≤ 0x1fff }
+    {
+        self.0
+    }
+}
+
+impl TryFrom<u16> for IpFragOffset {
+    type Error = ValueTooBigError;
+
+    fn try_from(value: u16) -> Result<IpFragOffset, ValueTooBigError>
+        ensures fits { IsOk result ↔ (value ≤ 0x1fff) }
+        ensures value { IfOk result (λ offset. offset ≡ value) }
+        ensures too_big { IfErr result (λ e. e ≡ record { actual = value; max_allowed = 0x1fff }) }
+    {
+        IpFragOffset::try_new(value)
+    }
+}

@@ -1,0 +1,2 @@
+//! Errors of single headers.
+pub mod ip_auth;

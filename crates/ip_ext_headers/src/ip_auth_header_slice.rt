@@ -1,0 +1,120 @@
+ghost use Rattle.std.specs.Prelude.{◌≡◌, ℕ, List, IfOk, IfErr};
+ghost use Rattle.ip_ext_spec.specs.Front.{IsFront};
+ghost use Rattle.ip_ext_spec.specs.Header.{IsAuthHeader};
+ghost use Rattle.ip_ext_spec.specs.Fields.{next_number, security_index, sequence_number, check_value};
+
+use crate::err::ip_auth::{HeaderError, HeaderSliceError};
+use ip_base::err::{Layer, LenError};
+use ip_base::{IpNumber, LenSource};
+
+/// One authentication header (RFC 4302, section 2), as a stretch of the caller's bytes. Two are equal where
+/// their bytes are.
+#[derive(Clone, Copy, Debug)]
+pub struct IpAuthHeaderSlice<'a> {
+    slice: &'a [u8],
+    pub ghost header: { IsAuthHeader slice.now },
+}
+
+impl<'a> IpAuthHeaderSlice<'a> {
+    ghost use Rattle.ip_ext_headers.specs.Fault.{auth_fault, too_short};
+    ghost use Rattle.ip_ext_headers.specs.IpAuthHeaderSlice.{bytes};
+
+    /// The header that begins the slice. The error tells, in this order, that there are fewer than 12 bytes,
+    /// that the length field is 0, or that there are fewer bytes than the header's own length.
+    pub fn from_slice(slice: &'a [u8]) -> Result<IpAuthHeaderSlice<'a>, HeaderSliceError>
+        ensures front { IfOk result (λ h. IsFront (bytes h) slice.now) }
+        ensures header { IfOk result (λ h. IsAuthHeader (bytes h)) }
+        ensures none { IfErr result (λ _. (b : List ℕ) → IsAuthHeader b → IsFront b slice.now → ⊥) }
+        ensures fault { IfErr result (λ e. auth_fault slice.now 0 ≡ Some e) }
+    {
+        if slice.len() < 12 {
+            return Err(HeaderSliceError::Len(Self::too_short(slice, 12)));
+        }
+        if slice[1] == 0 {
+            return Err(HeaderSliceError::Content(HeaderError::ZeroPayloadLen));
+        }
+        let len = (usize::from(slice[1]) + 2) * 4;
+        if slice.len() < len {
+            return Err(HeaderSliceError::Len(Self::too_short(slice, len)));
+        }
+        Ok(IpAuthHeaderSlice {
+            slice: &slice[..len],
+        })
+    }
+
+    /// The error that the slice at offset 0 is shorter than `required_len` bytes.
+    fn too_short(slice: &[u8], required_len: usize) -> LenError
+        ensures { result ≡ too_short Layer.IpAuthHeader slice.now 0 required_len }
+    {
+        LenError {
+            required_len,
+            len: slice.len(),
+            len_source: LenSource::Slice,
+            layer: Layer::IpAuthHeader,
+            layer_start_offset: 0,
+        }
+    }
+
+    /// The header's bytes, 12 to 1028.
+    pub fn slice(&self) -> &'a [u8]
+        ensures bytes { result.now ≡ bytes self.now }
+        ensures header { IsAuthHeader result.now }
+    {
+        self.slice
+    }
+
+    /// The number of what follows the header.
+    pub fn next_header(&self) -> IpNumber
+        ensures { result.0 ≡ next_number (bytes self.now) }
+    {
+        IpNumber(self.slice[0])
+    }
+
+    /// The security parameters index, which tells the receiver its association with the sender.
+    pub fn spi(&self) -> u32
+        ensures { result ≡ security_index (bytes self.now) }
+    {
+        u32::from_be_bytes([self.slice[4], self.slice[5], self.slice[6], self.slice[7]])
+    }
+
+    /// The sender's count of packets.
+    pub fn sequence_number(&self) -> u32
+        ensures { result ≡ sequence_number (bytes self.now) }
+    {
+        u32::from_be_bytes([self.slice[8], self.slice[9], self.slice[10], self.slice[11]])
+    }
+
+    /// The integrity check value with its padding, 0 to 1016 bytes.
+    pub fn raw_icv(&self) -> &'a [u8]
+        ensures { result.now ≡ check_value (bytes self.now) }
+    {
+        &self.slice[12..]
+    }
+}
+
+impl PartialEq for IpAuthHeaderSlice<'_> {
+    ghost use Rattle.std.specs.Prelude.{◌↔◌, IsTrue, nat_eq};
+    ghost use Rattle.std.specs.Ordering.{on};
+    ghost use Rattle.std.specs.Cmp.Lexicographic.{pointwise};
+    ghost use Rattle.std.specs.Cmp.Rules.{comparing};
+    ghost use Rattle.std.proofs.Common.{rules};
+    ghost use Rattle.ip_ext_headers.specs.IpAuthHeaderSlice.{bytes};
+
+    ghost eq = { on bytes (pointwise nat_eq) };
+
+    ghost laws = { Prim.search (comparing, rules) };
+
+    fn eq(&self, other: &Self) -> bool
+        ensures answer { result ≡ on bytes (pointwise nat_eq) self.now other.now }
+        ensures same { IsTrue result ↔ (bytes self.now ≡ bytes other.now) }
+    {
+        self.slice == other.slice
+    }
+}
+
+impl Eq for IpAuthHeaderSlice<'_> {
+    ghost use Rattle.std.specs.Cmp.Rules.{comparing};
+    ghost use Rattle.std.proofs.Common.{rules};
+
+    ghost laws = { Prim.search (comparing, rules) };
+}

@@ -1,0 +1,125 @@
+ghost use Rattle.std.specs.Prelude.{◌≡◌, ℕ, List, IfOk, IfErr};
+ghost use Rattle.ip_ext_spec.specs.Front.{IsFront};
+ghost use Rattle.ip_ext_spec.specs.Header.{IsFragmentHeader};
+ghost use Rattle.ip_ext_spec.specs.Fields.{next_number, fragment_offset, has_more, identification, is_fragmenting};
+
+use ip_base::err::{Layer, LenError};
+use ip_base::{IpFragOffset, IpNumber, LenSource};
+use std::alloc::AllocError;
+
+/// One IPv6 fragment header (RFC 8200, section 4.5), as a stretch of the caller's bytes. Two are equal where
+/// their bytes are.
+#[derive(Debug, Drop)]
+pub struct Ipv6FragmentHeaderSlice<'a> {
+    slice: &'a [u8],
+    pub ghost header: { IsFragmentHeader slice.now },
+}
+
+impl<'a> Ipv6FragmentHeaderSlice<'a> {
+    ghost use Rattle.ip_ext_headers.specs.Fault.{fragment_fault};
+    ghost use Rattle.ip_ext_headers.specs.Ipv6FragmentHeaderSlice.{bytes};
+
+    /// The header that begins the slice. The error tells that there are fewer than 8 bytes.
+    pub fn from_slice(slice: &'a [u8]) -> Result<Ipv6FragmentHeaderSlice<'a>, LenError>
+        ensures front { IfOk result (λ h. IsFront (bytes h) slice.now) }
+        ensures header { IfOk result (λ h. IsFragmentHeader (bytes h)) }
+        ensures none { IfErr result (λ _. (b : List ℕ) → IsFragmentHeader b → IsFront b slice.now → ⊥) }
+        ensures fault { IfErr result (λ e. fragment_fault slice.now 0 ≡ Some e) }
+    {
+        if slice.len() < 8 {
+            return Err(LenError {
+                required_len: 8,
+                len: slice.len(),
+                len_source: LenSource::Slice,
+                layer: Layer::Ipv6FragHeader,
+                layer_start_offset: 0,
+            });
+        }
+        Ok(Ipv6FragmentHeaderSlice { slice: &slice[..8] })
+    }
+
+    /// The header's 8 bytes.
+    pub fn slice(&self) -> &'a [u8]
+        ensures bytes { result.now ≡ bytes self.now }
+        ensures header { IsFragmentHeader result.now }
+    {
+        self.slice
+    }
+
+    /// The number of what follows the header.
+    pub fn next_header(&self) -> IpNumber
+        ensures { result.0 ≡ next_number (bytes self.now) }
+    {
+        IpNumber(self.slice[0])
+    }
+
+    /// Where the fragment lies in the payload, in units of 8 bytes.
+    pub fn fragment_offset(&self) -> IpFragOffset
+        ensures { result ≡ fragment_offset (bytes self.now) }
+    {
+        let units = u16::from(self.slice[2]) * 32 + u16::from(self.slice[3] & 0b0001_1111);
+        IpFragOffset::try_new(units).unwrap()
+    }
+
+    /// Whether more fragments of the payload follow.
+    pub fn more_fragments(&self) -> bool
+        ensures { result ≡ has_more (bytes self.now) }
+    {
+        self.slice[3] & 0b1000_0000 != 0
+    }
+
+    /// The number that the fragments of one packet share.
+    pub fn identification(&self) -> u32
+        ensures { result ≡ identification (bytes self.now) }
+    {
+        u32::from_be_bytes([self.slice[4], self.slice[5], self.slice[6], self.slice[7]])
+    }
+
+    /// Whether the packet has a piece of the payload and not the whole: more fragments follow, or the offset
+    /// isn't 0.
+    pub fn is_fragmenting_payload(&self) -> bool
+        ensures { result ≡ is_fragmenting (bytes self.now) }
+    {
+        self.more_fragments() || self.fragment_offset().value() != 0
+    }
+}
+
+impl<'a> Clone for Ipv6FragmentHeaderSlice<'a> {
+    ghost use Rattle.std.specs.Prelude.{⊤};
+    ghost use Rattle.ip_ext_headers.specs.Ipv6FragmentHeaderSlice.{bytes};
+
+    ghost is_clone = { λ h copy. bytes copy ≡ bytes h };
+
+    ghost is_infallible = { λ _. ⊤ };
+
+    fn clone(&self) -> Result<Ipv6FragmentHeaderSlice<'a>, AllocError> {
+        Ok(Ipv6FragmentHeaderSlice { slice: self.slice })
+    }
+}
+
+impl PartialEq for Ipv6FragmentHeaderSlice<'_> {
+    ghost use Rattle.std.specs.Prelude.{◌↔◌, IsTrue, nat_eq};
+    ghost use Rattle.std.specs.Ordering.{on};
+    ghost use Rattle.std.specs.Cmp.Lexicographic.{pointwise};
+    ghost use Rattle.std.specs.Cmp.Rules.{comparing};
+    ghost use Rattle.std.proofs.Common.{rules};
+    ghost use Rattle.ip_ext_headers.specs.Ipv6FragmentHeaderSlice.{bytes};
+
+    ghost eq = { on bytes (pointwise nat_eq) };
+
+    ghost laws = { Prim.search (comparing, rules) };
+
+    fn eq(&self, other: &Self) -> bool
+        ensures answer { result ≡ on bytes (pointwise nat_eq) self.now other.now }
+        ensures same { IsTrue result ↔ (bytes self.now ≡ bytes other.now) }
+    {
+        self.slice == other.slice
+    }
+}
+
+impl Eq for Ipv6FragmentHeaderSlice<'_> {
+    ghost use Rattle.std.specs.Cmp.Rules.{comparing};
+    ghost use Rattle.std.proofs.Common.{rules};
+
+    ghost laws = { Prim.search (comparing, rules) };
+}

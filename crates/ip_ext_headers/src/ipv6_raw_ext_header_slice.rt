@@ -1,0 +1,133 @@
+ghost use Rattle.std.specs.Prelude.{◌≡◌, ◌↔◌, ◌⊎◌, ℕ, List, IfOk, IfErr, IsTrue};
+ghost use Rattle.ip_ext_spec.specs.Front.{IsFront};
+ghost use Rattle.ip_ext_spec.specs.Header.{IsRawHeader};
+ghost use Rattle.ip_ext_spec.specs.Fields.{next_number, raw_payload};
+
+use ip_base::err::{Layer, LenError};
+use ip_base::{IpNumber, LenSource, ip_number};
+use std::alloc::AllocError;
+
+/// One IPv6 header of the common layout (hop by hop options, routing or destination options; RFC 8200,
+/// sections 4.3, 4.4, 4.6), as a stretch of the caller's bytes. Two are equal where their bytes are.
+#[derive(Debug, Drop)]
+pub struct Ipv6RawExtHeaderSlice<'a> {
+    slice: &'a [u8],
+    pub ghost header: { IsRawHeader slice.now },
+}
+
+impl<'a> Ipv6RawExtHeaderSlice<'a> {
+    ghost use Rattle.ip_ext_headers.specs.Fault.{raw_fault, too_short};
+    ghost use Rattle.ip_ext_headers.specs.Ipv6RawExtHeaderSlice.{bytes};
+
+    /// Whether headers of the number have this layout: hop by hop options, routing, destination options,
+    /// mobility, host identity protocol and shim6.
+    pub fn header_type_supported(next_header: IpNumber) -> bool
+        ensures { IsTrue result ↔ ((next_header.0 ≡ 0) ⊎ ((next_header.0 ≡ 43) ⊎ ((next_header.0 ≡ 60)
+            ⊎ ((next_header.0 ≡ 135) ⊎ ((next_header.0 ≡ 139) ⊎ (next_header.0 ≡ 140)))))) }
+    {
+        matches!(
+            next_header,
+            ip_number::IPV6_HOP_BY_HOP
+                | ip_number::IPV6_ROUTE
+                | ip_number::IPV6_DEST_OPTIONS
+                | ip_number::MOBILITY
+                | ip_number::HIP
+                | ip_number::SHIM6
+        )
+    }
+
+    /// The header that begins the slice. The error tells that there are fewer than 8 bytes, or fewer than
+    /// the header's own length.
+    pub fn from_slice(slice: &'a [u8]) -> Result<Ipv6RawExtHeaderSlice<'a>, LenError>
+        ensures front { IfOk result (λ h. IsFront (bytes h) slice.now) }
+        ensures header { IfOk result (λ h. IsRawHeader (bytes h)) }
+        ensures none { IfErr result (λ _. (b : List ℕ) → IsRawHeader b → IsFront b slice.now → ⊥) }
+        ensures fault { IfErr result (λ e. raw_fault slice.now 0 ≡ Some e) }
+    {
+        if slice.len() < 8 {
+            return Err(Self::too_short(slice, 8));
+        }
+        let len = (usize::from(slice[1]) + 1) * 8;
+        if slice.len() < len {
+            return Err(Self::too_short(slice, len));
+        }
+        Ok(Ipv6RawExtHeaderSlice {
+            slice: &slice[..len],
+        })
+    }
+
+    /// The error that the slice at offset 0 is shorter than `required_len` bytes.
+    fn too_short(slice: &[u8], required_len: usize) -> LenError
+        ensures { result ≡ too_short Layer.Ipv6ExtHeader slice.now 0 required_len }
+    {
+        LenError {
+            required_len,
+            len: slice.len(),
+            len_source: LenSource::Slice,
+            layer: Layer::Ipv6ExtHeader,
+            layer_start_offset: 0,
+        }
+    }
+
+    /// The header's bytes, 8 to 2048.
+    pub fn slice(&self) -> &'a [u8]
+        ensures bytes { result.now ≡ bytes self.now }
+        ensures header { IsRawHeader result.now }
+    {
+        self.slice
+    }
+
+    /// The number of what follows the header.
+    pub fn next_header(&self) -> IpNumber
+        ensures { result.0 ≡ next_number (bytes self.now) }
+    {
+        IpNumber(self.slice[0])
+    }
+
+    /// What follows the number and the length, 6 to 2046 bytes.
+    pub fn payload(&self) -> &'a [u8]
+        ensures { result.now ≡ raw_payload (bytes self.now) }
+    {
+        &self.slice[2..]
+    }
+}
+
+impl<'a> Clone for Ipv6RawExtHeaderSlice<'a> {
+    ghost use Rattle.std.specs.Prelude.{⊤};
+    ghost use Rattle.ip_ext_headers.specs.Ipv6RawExtHeaderSlice.{bytes};
+
+    ghost is_clone = { λ h copy. bytes copy ≡ bytes h };
+
+    ghost is_infallible = { λ _. ⊤ };
+
+    fn clone(&self) -> Result<Ipv6RawExtHeaderSlice<'a>, AllocError> {
+        Ok(Ipv6RawExtHeaderSlice { slice: self.slice })
+    }
+}
+
+impl PartialEq for Ipv6RawExtHeaderSlice<'_> {
+    ghost use Rattle.std.specs.Prelude.{◌↔◌, IsTrue, nat_eq};
+    ghost use Rattle.std.specs.Ordering.{on};
+    ghost use Rattle.std.specs.Cmp.Lexicographic.{pointwise};
+    ghost use Rattle.std.specs.Cmp.Rules.{comparing};
+    ghost use Rattle.std.proofs.Common.{rules};
+    ghost use Rattle.ip_ext_headers.specs.Ipv6RawExtHeaderSlice.{bytes};
+
+    ghost eq = { on bytes (pointwise nat_eq) };
+
+    ghost laws = { Prim.search (comparing, rules) };
+
+    fn eq(&self, other: &Self) -> bool
+        ensures answer { result ≡ on bytes (pointwise nat_eq) self.now other.now }
+        ensures same { IsTrue result ↔ (bytes self.now ≡ bytes other.now) }
+    {
+        self.slice == other.slice
+    }
+}
+
+impl Eq for Ipv6RawExtHeaderSlice<'_> {
+    ghost use Rattle.std.specs.Cmp.Rules.{comparing};
+    ghost use Rattle.std.proofs.Common.{rules};
+
+    ghost laws = { Prim.search (comparing, rules) };
+}

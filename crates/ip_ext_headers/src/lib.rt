@@ -1,0 +1,13 @@
+//! Single extension headers: an authentication header (RFC 4302, section 2), an IPv6 fragment header, and
+//! the IPv6 headers of the common layout, hop by hop options, routing and destination options (RFC 8200,
+//! section 4). A header slice borrows the caller's bytes, and its bytes are one header.
+#![tactic(auto)]
+
+pub mod err;
+mod ip_auth_header_slice;
+mod ipv6_fragment_header_slice;
+mod ipv6_raw_ext_header_slice;
+
+pub use ip_auth_header_slice::IpAuthHeaderSlice;
+pub use ipv6_fragment_header_slice::Ipv6FragmentHeaderSlice;
+pub use ipv6_raw_ext_header_slice::Ipv6RawExtHeaderSlice;

@@ -1,0 +1,140 @@
+-- Chains at the front of bytes: what goes on, and the longest.
+use Rattle.std.proofs.Common.{◌≡◌, ◌≢◌, ℕ, zero, suc, ◌+◌, ◌-◌, ◌*◌, ◌<◌, ◌≤◌, List, [], ◌∷◌, ◌++◌, length, take, drop, refl, ap, sym, ◌∙◌, arith, inl, inr, ◌⊎◌, subst, Bool, true, false, append_assoc, nat_eq}
+use Rattle.std.specs.List.{flat_map, AllByRecursion}
+use Rattle.std.proofs.lemmas.List.{append-nil, length-append}
+use Rattle.std.proofs.lemmas.List.Concat.{flat_map-append}
+use Rattle.std.proofs.lemmas.Bool.Decides.{eqb_tells}
+use Rattle.ip_ext_spec.specs.Front.{IsFront}
+use Rattle.ip_ext_spec.specs.LongestOf.{IsLongestOf}
+use Rattle.ip_ext_spec.specs.Header.{IsHeader}
+use Rattle.ip_ext_spec.specs.Fields.{next_number}
+use Rattle.ip_ext_spec.specs.Chain.{Numbered, AreLinked, leads_to, bytes_of, is_empty, IsChain, IsChainAtFront, IsLongestChain, IsNext, IsEnd}
+use Rattle.ip_ext_spec.proofs.FrontLemmas.{front_first, front_second, front_join, rest_join, front-length}
+use Rattle.ip_ext_spec.proofs.HeaderLemmas.{header-least, next_or, one_next}
+use Rattle.ip_ext_spec.proofs.LongestOfLemmas.{Grows, longest_where_none_next, none_next_where_longest, one_longest_of, some_longest_of}
+
+-- A property of each element holds of each element of a beginning, of the one that follows it, and of both joined.
+all_first : {X : Type 0} (P : X → Type 0) (c d : List X) → AllByRecursion P (c ++ d) → AllByRecursion P c
+all_first P [] d a = tt
+all_first P (x ∷ c) d a = (a.0, all_first P c d a.1)
+
+all_next : {X : Type 0} (P : X → Type 0) (c : List X) (x : X) → AllByRecursion P (c ++ x ∷ []) → P x
+all_next P [] x a = a.0
+all_next P (y ∷ c) x a = all_next P c x a.1
+
+all_more : {X : Type 0} (P : X → Type 0) (c : List X) (x : X) → AllByRecursion P c → P x → AllByRecursion P (c ++ x ∷ [])
+all_more P [] x a p = (p, tt)
+all_more P (y ∷ c) x a p = (a.0, all_more P c x a.1 p)
+
+links_first : (n : ℕ) (c d : List Numbered) → AreLinked n (c ++ d) → AreLinked n c
+links_first n [] d a = tt
+links_first n (h ∷ c) d a = (a.0, links_first (next_number h.bytes) c d a.1)
+
+links_next : (n : ℕ) (c : List Numbered) (h : Numbered) → AreLinked n (c ++ h ∷ []) → h.number ≡ leads_to n c
+links_next n [] h a = a.0
+links_next n (g ∷ c) h a = links_next (next_number g.bytes) c h a.1
+
+links_more : (n : ℕ) (c : List Numbered) (h : Numbered) → AreLinked n c → h.number ≡ leads_to n c → AreLinked n (c ++ h ∷ [])
+links_more n [] h a e = (e, tt)
+links_more n (g ∷ c) h a e = (a.0, links_more (next_number g.bytes) c h a.1 e)
+
+NotZero : Numbered → Type 0
+NotZero h = h.number ≢ 0
+
+zero_first : (c d : List Numbered) → AllByRecursion (λ h. h.number ≢ 0) (drop 1 (c ++ d)) → AllByRecursion (λ h. h.number ≢ 0) (drop 1 c)
+zero_first [] d a = tt
+zero_first (h ∷ c) d a = all_first (λ k. k.number ≢ 0) c d a
+
+zero_next : (c : List Numbered) (h : Numbered) → AllByRecursion (λ k. k.number ≢ 0) (drop 1 (c ++ h ∷ [])) → h.number ≡ 0 → is_empty c ≡ true
+zero_next [] h a z = refl
+zero_next (g ∷ c) h a z = absurd (all_next (λ k. k.number ≢ 0) c h a z)
+
+zero_more : (c : List Numbered) (h : Numbered) → AllByRecursion (λ k. k.number ≢ 0) (drop 1 c) → (h.number ≡ 0 → is_empty c ≡ true) → AllByRecursion (λ k. k.number ≢ 0) (drop 1 (c ++ h ∷ []))
+zero_more [] h a b = tt
+zero_more (g ∷ c) h a b = all_more (λ k. k.number ≢ 0) c h a (λ e. let no : false ≡ true = b e in cc)
+
+pub no_chain : (n : ℕ) → IsChain n []
+no_chain n = record { headers = tt; links = tt; zero_only_first = tt }
+
+-- What a chain and one more header make.
+pub bytes_of-more : (c : List Numbered) (h : Numbered) → bytes_of (c ++ h ∷ []) ≡ bytes_of c ++ h.bytes
+bytes_of-more c h = flat_map-append (λ k. k.bytes) c (h ∷ []) ∙ ap (λ x. bytes_of c ++ x) (append-nil h.bytes)
+
+pub leads_to-more : (n : ℕ) (c : List Numbered) (h : Numbered) → leads_to n (c ++ h ∷ []) ≡ next_number h.bytes
+leads_to-more n [] h = refl
+leads_to-more n (g ∷ c) h = leads_to-more (next_number g.bytes) c h
+
+-- the bytes behind a chain
+pub behind : List ℕ → List Numbered → List ℕ
+behind s c = drop (length (bytes_of c)) s
+
+module _ (n : ℕ) (s : List ℕ) where
+  pub begins : (c d : List Numbered) → IsChainAtFront n s (c ++ d) → IsChainAtFront n s c
+  begins c d p = record {
+    chain = record {
+      headers = all_first (λ h. IsHeader h.number h.bytes) c d p.chain.headers;
+      links = links_first n c d p.chain.links;
+      zero_only_first = zero_first c d p.chain.zero_only_first;
+    };
+    front =
+        let F : List ℕ → Type 0 = λ b. IsFront b s in
+        front_first (bytes_of c) (bytes_of d) s (subst F (flat_map-append (λ k. k.bytes) c d) p.front);
+  }
+
+  pub next_of : (c : List Numbered) (h : Numbered) → IsChainAtFront n s (c ++ h ∷ []) → IsNext (is_empty c) (leads_to n c) (drop (length (bytes_of c)) s) h
+  next_of c h p =
+      let number : h.number ≡ leads_to n c = links_next n c h p.chain.links in
+      let H : ℕ → Type 0 = λ m. IsHeader m h.bytes in
+      let F : List ℕ → Type 0 = λ b. IsFront b s in
+      record {
+        number = number;
+        header = subst H number (all_next (λ k. IsHeader k.number k.bytes) c h p.chain.headers);
+        front = front_second (bytes_of c) h.bytes s (subst F (bytes_of-more c h) p.front);
+        zero_only_first = λ z. zero_next c h p.chain.zero_only_first (number ∙ z);
+      }
+
+  pub goes_on : (c : List Numbered) (h : Numbered) → IsChainAtFront n s c → IsNext (is_empty c) (leads_to n c) (drop (length (bytes_of c)) s) h → IsChainAtFront n s (c ++ h ∷ [])
+  goes_on c h p x =
+      let H : ℕ → Type 0 = λ m. IsHeader m h.bytes in
+      let F : List ℕ → Type 0 = λ b. IsFront b s in
+      record {
+        chain = record {
+          headers = all_more (λ k. IsHeader k.number k.bytes) c h p.chain.headers (subst H (sym x.number) x.header);
+          links = links_more n c h p.chain.links x.number;
+          zero_only_first = zero_more c h p.chain.zero_only_first (λ z. x.zero_only_first (sym x.number ∙ z));
+        };
+        front = subst F (sym (bytes_of-more c h)) (front_join (bytes_of c) h.bytes s p.front x.front);
+      }
+
+  pub chains_grow : Grows (IsChainAtFront n s)
+  chains_grow = record {
+    begins = begins;
+    one_next = λ c h g p q. one_next (is_empty c) (leads_to n c) (drop (length (bytes_of c)) s) h g (next_of c h p) (next_of c g q);
+  }
+
+  -- where no header goes on, the chain is the longest, and the other way round
+  pub longest_at_end : (c : List Numbered) → IsChainAtFront n s c → IsEnd (is_empty c) (leads_to n c) (drop (length (bytes_of c)) s) → IsLongestChain n s c
+  longest_at_end c p e = longest_where_none_next (IsChainAtFront n s) chains_grow c p (λ h q. e h (next_of c h q))
+
+  pub longest_ends : (c : List Numbered) → IsLongestChain n s c → IsEnd (is_empty c) (leads_to n c) (drop (length (bytes_of c)) s)
+  longest_ends c l h x = none_next_where_longest (IsChainAtFront n s) c l h (goes_on c h l.has x)
+
+  pub one_longest : (c d : List Numbered) → IsLongestChain n s c → IsLongestChain n s d → c ≡ d
+  one_longest c d = one_longest_of (IsChainAtFront n s) chains_grow c d
+
+-- each header has 8 bytes at least
+pub bytes_of-least : (c : List Numbered) → AllByRecursion (λ h. IsHeader h.number h.bytes) c → 8 * length c ≤ length (bytes_of c)
+bytes_of-least [] a = omega arith
+bytes_of-least (h ∷ c) a = omega (arith, bytes_of-least c a.1, header-least h.number h.bytes a.0, length-append h.bytes (bytes_of c))
+
+-- there is a longest chain
+pub some_longest : (n : ℕ) (s : List ℕ) → (c : List Numbered) × IsLongestChain n s c
+some_longest n s =
+    some_longest_of (IsChainAtFront n s) (chains_grow n s)
+    (λ c p. elim (next_or (is_empty c) (leads_to n c) (drop (length (bytes_of c)) s)) [
+      | inl (h, x) ↦ inl (h, goes_on n s c h p x)
+      | inr none ↦ inr (λ h q. none h (next_of n s c h q))
+    ])
+    (length s)
+    (λ c p. omega (arith, bytes_of-least c p.chain.headers, front-length (bytes_of c) s p.front))
+    (record { chain = no_chain n; front = refl })

@@ -1,0 +1,5 @@
+pub mod FrontLemmas
+pub mod HeaderLemmas
+pub mod LongestOfLemmas
+pub mod ChainLemmas
+pub mod ReadLemmas

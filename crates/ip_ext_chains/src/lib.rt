@@ -1,13 +1,17 @@
-// A library with one function.
+//! Chains of extension headers: the longest chain that begins some bytes, borrowed from them, with the
+//! number to which it leads, the bytes after it and the fault there (RFC 8200, section 4).
 #![tactic(auto)]
 
-ghost use Rattle.std.specs.Prelude.{◌≡◌};
-ghost use Rattle.ip_ext_chains.specs.Echo.{echo_of};
+mod chain_laws;
+pub mod err;
+mod ipv6_ext_slice;
+mod ipv6_ext_slice_iter;
+mod ipv6_exts_slice;
+mod step;
 
-// The `ensures` clause is the contract: what `echo` returns is `echo_of` of its argument, a definition
-// in `specs/Echo.antt`, which a caller's clause can cite too.
-pub fn echo(x: usize) -> usize
-    ensures { result ≡ echo_of x }
-{
-    x
-}
+pub use chain_laws::extension_number_left_has_fault;
+pub use ip_base::{IpNumber, LenSource, ip_number};
+pub use ip_ext_headers::{IpAuthHeaderSlice, Ipv6FragmentHeaderSlice, Ipv6RawExtHeaderSlice};
+pub use ipv6_ext_slice::Ipv6ExtensionSlice;
+pub use ipv6_ext_slice_iter::Ipv6ExtensionSliceIter;
+pub use ipv6_exts_slice::Ipv6ExtensionsSlice;

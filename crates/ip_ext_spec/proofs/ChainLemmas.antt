@@ -3,6 +3,7 @@ use Rattle.std.proofs.Common.{◌≡◌, ◌≢◌, ℕ, zero, suc, ◌+◌, ◌
 use Rattle.std.specs.List.{flat_map, AllByRecursion}
 use Rattle.std.proofs.lemmas.List.{append-nil, length-append}
 use Rattle.std.proofs.lemmas.List.Concat.{flat_map-append}
+use Rattle.std.proofs.Math.Seq.{take-length, drop-length}
 use Rattle.std.proofs.lemmas.Bool.Decides.{eqb_tells}
 use Rattle.ip_ext_spec.specs.Front.{IsFront}
 use Rattle.ip_ext_spec.specs.LongestOf.{IsLongestOf}
@@ -38,9 +39,6 @@ links_more : (n : ℕ) (c : List Numbered) (h : Numbered) → AreLinked n c → 
 links_more n [] h a e = (e, tt)
 links_more n (g ∷ c) h a e = (a.0, links_more (next_number g.bytes) c h a.1 e)
 
-NotZero : Numbered → Type 0
-NotZero h = h.number ≢ 0
-
 zero_first : (c d : List Numbered) → AllByRecursion (λ h. h.number ≢ 0) (drop 1 (c ++ d)) → AllByRecursion (λ h. h.number ≢ 0) (drop 1 c)
 zero_first [] d a = tt
 zero_first (h ∷ c) d a = all_first (λ k. k.number ≢ 0) c d a
@@ -63,10 +61,6 @@ bytes_of-more c h = flat_map-append (λ k. k.bytes) c (h ∷ []) ∙ ap (λ x. b
 pub leads_to-more : (n : ℕ) (c : List Numbered) (h : Numbered) → leads_to n (c ++ h ∷ []) ≡ next_number h.bytes
 leads_to-more n [] h = refl
 leads_to-more n (g ∷ c) h = leads_to-more (next_number g.bytes) c h
-
--- the bytes behind a chain
-pub behind : List ℕ → List Numbered → List ℕ
-behind s c = drop (length (bytes_of c)) s
 
 module _ (n : ℕ) (s : List ℕ) where
   pub begins : (c d : List Numbered) → IsChainAtFront n s (c ++ d) → IsChainAtFront n s c
@@ -138,3 +132,22 @@ some_longest n s =
     (length s)
     (λ c p. omega (arith, bytes_of-least c p.chain.headers, front-length (bytes_of c) s p.front))
     (record { chain = no_chain n; front = refl })
+
+-- the first header of a chain goes on at its front
+pub first_next : (n : ℕ) (s : List ℕ) (h : Numbered) (c : List Numbered) → IsChainAtFront n s (h ∷ c) → IsNext true n s h
+first_next n s h c p = next_of n s [] h (begins n s (h ∷ []) c p)
+
+tail_not_zero : (c : List Numbered) → AllByRecursion (λ k. k.number ≢ 0) c → AllByRecursion (λ k. k.number ≢ 0) (drop 1 c)
+tail_not_zero [] a = tt
+tail_not_zero (h ∷ c) a = a.1
+
+-- the headers behind the first are a chain from the number that it names
+pub tail_chain : (n : ℕ) (h : Numbered) (c : List Numbered) → IsChain n (h ∷ c) → IsChain (next_number h.bytes) c
+tail_chain n h c k = record { headers = k.headers.1; links = k.links.1; zero_only_first = tail_not_zero c k.zero_only_first }
+
+-- a chain is the longest of its own bytes
+pub whole_longest : (n : ℕ) (c : List Numbered) → IsChain n c → IsLongestChain n (bytes_of c) c
+whole_longest n c k =
+    let whole : IsFront (bytes_of c) (bytes_of c) = take-length (bytes_of c) in
+    longest_at_end n (bytes_of c) c (record { chain = k; front = whole })
+    (λ h x. absurd (omega (arith, header-least (leads_to n c) h.bytes x.header, front-length h.bytes (drop (length (bytes_of c)) (bytes_of c)) x.front, ap length (drop-length (bytes_of c)))))

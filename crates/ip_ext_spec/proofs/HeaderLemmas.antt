@@ -1,7 +1,7 @@
 -- Headers, and headers at the front of bytes.
 use Rattle.std.proofs.Common.{◌≡◌, ◌≢◌, ℕ, zero, suc, ◌+◌, ◌*◌, ◌<◌, ◌≤◌, List, [], ◌∷◌, ◌++◌, length, get_or, take, drop, refl, ap, sym, ◌∙◌, arith, inl, inr, ◌⊎◌, subst, Bool, true, false, nat_eq, cond, slice_index}
 use Rattle.std.proofs.lemmas.Grind.{common_steps}
-use Rattle.std.proofs.lemmas.List.{get_or_append_left, take_at, length-take, length-append}
+use Rattle.std.proofs.lemmas.List.{get_or_append_left, take_at, length-take-le}
 use Rattle.std.proofs.Math.Seq.{take-append_seam}
 use Rattle.std.proofs.lemmas.Bool.{cases_lt}
 use Rattle.std.proofs.lemmas.Bool.Decides.{eqb_tells}
@@ -152,3 +152,23 @@ pub one_next : (first : Bool) (m : ℕ) (r : List ℕ) (h g : Numbered) → IsNe
 one_next first m r h g x y =
     numbered-eq h g (x.number ∙ sym y.number)
     (same_header m h.bytes g.bytes _ _ x.header y.header (sym (front-append h.bytes r x.front) ∙ front-append g.bytes r y.front))
+
+-- Where bytes are long enough, a header begins them.
+front_byte : (b s : List ℕ) → IsFront b s → 8 ≤ length b → slice_index b 1 ≡ slice_index s 1
+front_byte b s f l = sym (get_or_append_left b (drop (length b) s) 0 1 (omega arith)) ∙ ap (λ x. get_or x 1 0) (sym (front-append b s f))
+
+module _ (s : List ℕ) (k : ℕ) (enough : k ≤ length s) (least : 8 ≤ k) where
+  taken : length (take k s) ≡ k
+  taken = length-take-le k s enough
+
+  taken_byte : slice_index (take k s) 1 ≡ slice_index s 1
+  taken_byte = front_byte (take k s) s (front_of-take k s) (omega (arith, taken))
+
+  pub raw_begins : k ≡ 8 * (slice_index s 1 + 1) → IsRawHeader (take k s)
+  raw_begins e = record { one_unit = omega (arith, taken); counted = taken ∙ e ∙ ap (λ m. 8 * (m + 1)) (sym taken_byte) }
+
+  pub auth_begins : k ≡ 4 * (slice_index s 1 + 2) → 1 ≤ slice_index s 1 → IsAuthHeader (take k s)
+  auth_begins e some_len = record { not_zero = subst (λ (m : ℕ). 1 ≤ m) (sym taken_byte) some_len; counted = taken ∙ e ∙ ap (λ m. 4 * (m + 2)) (sym taken_byte) }
+
+  pub fragment_begins : k ≡ 8 → IsFragmentHeader (take k s)
+  fragment_begins e = record { eight = taken ∙ e }

@@ -1,0 +1,21 @@
+-- One header of an IPv6 chain.
+use Rattle.std.specs.Prelude.{Bool, ◌==◌, ◌&&◌, nat_eq}
+use Rattle.std.specs.Cmp.Lexicographic.{pointwise}
+use Rattle.ip_ext_headers.specs.Ipv6RawExtHeaderSlice as raw
+use Rattle.ip_ext_headers.specs.Ipv6FragmentHeaderSlice as fragment
+use Rattle.ip_ext_headers.specs.IpAuthHeaderSlice as auth
+use Rattle.ip_ext_spec.specs.Chain.{Numbered}
+use Rattle.ip_ext_chains.specs.declared.ipv6_ext_slice.Ipv6ExtensionSlice.{Ipv6ExtensionSlice}
+use Rattle.ip_ext_chains.specs.declared.ipv6_ext_slice.Ipv6ExtensionSlice.TheVariants.{HopByHop, Routing, Fragment, DestinationOptions, Authentication}
+
+-- its number and bytes
+abbrev pub numbered : Ipv6ExtensionSlice → Numbered
+numbered (HopByHop h) = record { number = 0; bytes = raw.bytes h }
+numbered (Routing h) = record { number = 43; bytes = raw.bytes h }
+numbered (Fragment h) = record { number = 44; bytes = fragment.bytes h }
+numbered (DestinationOptions h) = record { number = 60; bytes = raw.bytes h }
+numbered (Authentication h) = record { number = 51; bytes = auth.bytes h }
+
+-- two have the same number and bytes
+abbrev pub same_header : Ipv6ExtensionSlice → Ipv6ExtensionSlice → Bool
+same_header a b = ((numbered a).number == (numbered b).number) && pointwise nat_eq (numbered a).bytes (numbered b).bytes

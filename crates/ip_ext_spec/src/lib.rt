@@ -6,4 +6,4 @@ mod chain_laws;
 mod plain;
 
 pub use chain_laws::{longest_chain_ends, one_longest_chain};
-pub use plain::{PlainHeader, is_header, longest_chain, next_len};
+pub use plain::{PlainChain, PlainHeader, is_header, longest_chain, next_len};

@@ -1,8 +1,7 @@
 -- The longest chain, and the longest chain of bytes that it takes whole.
 use Rattle.std.proofs.Common.{◌≡◌, ℕ, ◌+◌, ◌*◌, ◌≤◌, List, [], ◌∷◌, ◌++◌, length, drop, refl, ap, sym, ◌∙◌, arith, subst, Bool, true, false, nat_eq}
-use Rattle.std.specs.Prelude.{Result, Ok, Err, IfErr, IsOk}
+use Rattle.std.specs.Prelude.{Option, Some, None, IfNone, IsSome}
 use Rattle.std.proofs.Math.Seq.{drop-append_seam}
-use Rattle.std.proofs.lemmas.Bool.{eqb-true}
 use Rattle.ip_ext_spec.specs.Fields.{next_number}
 use Rattle.ip_ext_spec.specs.Chain.{Numbered, bytes_of, IsChain, IsChainAtFront, IsLongestChain, IsNext, IsEnd}
 use Rattle.ip_ext_spec.proofs.FrontLemmas.{front-length}
@@ -61,16 +60,7 @@ whole_cut n r h k q b e x ek eb eq =
     ap (λ m. longest_chain m q) ek ∙ ap (longest_chain (next_number h.bytes)) (sym left) ∙ longest_chain-bytes_of (next_number h.bytes) cut.others cut.chain in
     (cut.split ∙ ap (λ d. h ∷ d) (sym others), ap bytes_of others ∙ left)
 
--- no bytes have no header
-none_of : (n : ℕ) (c : List Numbered) → IsChainAtFront n [] c → c ≡ []
-none_of n [] p = refl
-none_of n (h ∷ c) p = absurd (let x = first_next n [] h c p in omega (arith, header-least n h.bytes x.header, front-length h.bytes [] x.front))
-
-pub longest_chain-nil : (n : ℕ) (r : List ℕ) → nat_eq (length r) 0 ≡ true → longest_chain n r ≡ []
-longest_chain-nil n [] e = none_of n (longest_chain n []) (longest_chain-longest n []).has
-longest_chain-nil n (x ∷ r) e = absurd (omega (arith, eqb-true (length (x ∷ r)) 0 e))
-
--- where a header goes on, what refuses only at an end doesn't refuse
-pub ok_where_next : {A B : Type 0} (r : Result A B) (first : Bool) (m : ℕ) (s : List ℕ) → IfErr r (λ _. IsEnd first m s) → ((h : Numbered) × IsNext first m s h) → IsOk r
-ok_where_next (Ok x) first m s e next = refl
-ok_where_next (Err x) first m s e (h, next) = absurd (e h next)
+-- where a header goes on, what gives nothing only at an end gives something
+pub some_where_next : {A : Type 0} (o : Option A) (first : Bool) (m : ℕ) (s : List ℕ) → IfNone o (IsEnd first m s) → ((h : Numbered) × IsNext first m s h) → IsSome o
+some_where_next (Some x) first m s e next = refl
+some_where_next None first m s e (h, next) = absurd (e h next)

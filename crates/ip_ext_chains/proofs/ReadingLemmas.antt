@@ -26,12 +26,8 @@ pub record Reading (n : ℕ) (s : List ℕ) (m : ℕ) (r : List ℕ) (flag : Boo
 pub reading_begins : (n : ℕ) (s : List ℕ) → Reading n s n s false
 reading_begins n s = record { chain = []; read = has_read_none n s; fragmented = refl }
 
--- the flag by which the parse tells that it is at the start
-abbrev at_start : List ℕ → List ℕ → Bool
-at_start s r = nat_eq (length s - length r) 0
-
 -- one more header
-pub reads_on : (n : ℕ) (s : List ℕ) (m : ℕ) (r : List ℕ) (flag : Bool) (h : Numbered) (k : ℕ) (q b : List ℕ) (more : Bool) → Reading n s m r flag → IsNext (nat_eq (length s - length r) 0) m r h
+pub reads_on : (n : ℕ) (s : List ℕ) (m : ℕ) (r : List ℕ) (flag : Bool) (h : Numbered) (k : ℕ) (q b : List ℕ) (more : Bool) → Reading n s m r flag → IsNext (nat_eq (length r) (length s)) m r h
     → k ≡ next_number h.bytes → b ≡ h.bytes → q ≡ drop (length b) r → more ≡ fragments h → Reading n s k q (flag || more)
 reads_on n s m r flag h k q b more p x ek eb eq em =
     let F : Bool → Type 0 = λ f. IsNext f m r h in
@@ -51,9 +47,9 @@ pub record AtEnd (n : ℕ) (s : List ℕ) (m : ℕ) (r : List ℕ) (flag : Bool)
   pub number : m ≡ leads_to n (longest_chain n s)
   pub rest : r ≡ rest_after n s
   pub fragmented : flag ≡ has_fragmenting (longest_chain n s)
-  pub fault : fault_at (nat_eq (length s - length r) 0) m r (length s - length r) ≡ chain_fault n s
+  pub fault : fault_at (nat_eq (length r) (length s)) m r (length s - length r) ≡ chain_fault n s
 
-pub at_end : (n : ℕ) (s : List ℕ) (m : ℕ) (r : List ℕ) (flag : Bool) → Reading n s m r flag → IsEnd (nat_eq (length s - length r) 0) m r → AtEnd n s m r flag
+pub at_end : (n : ℕ) (s : List ℕ) (m : ℕ) (r : List ℕ) (flag : Bool) → Reading n s m r flag → IsEnd (nat_eq (length r) (length s)) m r → AtEnd n s m r flag
 at_end n s m r flag p e =
     let c : List Numbered = p.chain in
     let F : Bool → Type 0 = λ f. IsEnd f m r in

@@ -32,7 +32,7 @@ impl<'a> Iterator for Ipv6ExtensionSliceIter<'a> {
             return None;
         }
         // The bytes are whole headers, so the step doesn't fail, and no test is made when it runs.
-        let header = header_at(true, self.next_header, self.rest, 0).unwrap();
+        let header = header_at(true, self.next_header, self.rest).unwrap();
         self.next_header = header.next_header();
         self.rest = after(self.rest, header.slice().len());
         Some(header)

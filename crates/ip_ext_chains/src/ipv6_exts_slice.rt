@@ -8,7 +8,7 @@ ghost use Rattle.ip_ext_chains.specs.StartNumber.{start_number};
 
 use crate::err::Layer;
 use crate::err::ipv6_exts::HeaderSliceError;
-use crate::step::{after, header_at};
+use crate::step::{after, fault_at, header_at};
 use crate::{Ipv6ExtensionSlice, Ipv6ExtensionSliceIter};
 use ip_base::{IpNumber, ip_number};
 use std::alloc::AllocError;
@@ -69,20 +69,19 @@ impl<'a> Ipv6ExtensionsSlice<'a> {
         let mut number = start_ip_number;
         let mut rest = start_slice;
         let mut fragmented = false;
-        'headers: loop {
-            let offset = start_slice.len() - rest.len();
-            match header_at(offset == 0, number, rest, offset) {
-                Ok(header) => {
-                    fragmented |= header.is_fragmenting_payload();
-                    number = header.next_header();
-                    rest = after(rest, header.slice().len());
-                }
-                Err(fault) => {
-                    let found = Self::new(start_ip_number, &start_slice[..offset], fragmented);
-                    return (found, number, rest, fault);
-                }
-            }
+        'headers: while let Some(header) = header_at(
+            rest.len() == start_slice.len(),
+            number,
+            rest,
+        ) {
+            fragmented |= header.is_fragmenting_payload();
+            number = header.next_header();
+            rest = after(rest, header.slice().len());
         }
+        let offset = start_slice.len() - rest.len();
+        let fault = fault_at(rest.len() == start_slice.len(), number, rest, offset);
+        let found = Self::new(start_ip_number, &start_slice[..offset], fragmented);
+        (found, number, rest, fault)
     }
 
     /// What `from_slice_lax` answers, where it tells no fault; else the fault.

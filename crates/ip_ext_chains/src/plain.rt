@@ -67,7 +67,13 @@ fn plain_fragment_fault(left: &[u8], offset: usize) -> Option<Fault>
     ensures { result ≡ option_map (short_at Layer.Ipv6FragHeader) (fragment_fault left.now offset) }
 {
     if left.len() < 8 {
-        return Some(short(Layer::Ipv6FragHeader, left, offset, 8, Layer::Ipv6FragHeader));
+        return Some(short(
+            Layer::Ipv6FragHeader,
+            left,
+            offset,
+            8,
+            Layer::Ipv6FragHeader,
+        ));
     }
     None
 }
@@ -85,7 +91,13 @@ fn plain_auth_fault(left: &[u8], offset: usize) -> Option<Fault>
     }
     let required = 4 * (usize::from(left[1]) + 2);
     if left.len() < required {
-        return Some(short(Layer::IpAuthHeader, left, offset, required, Layer::IpAuthHeader));
+        return Some(short(
+            Layer::IpAuthHeader,
+            left,
+            offset,
+            required,
+            Layer::IpAuthHeader,
+        ));
     }
     None
 }

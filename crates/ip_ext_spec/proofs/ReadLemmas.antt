@@ -46,12 +46,13 @@ module _ (n : ℕ) (s : List ℕ) (c : List Numbered) (m : ℕ) (r : List ℕ) w
       let R : List ℕ → Type 0 = λ q. IsEnd (is_empty c) (leads_to n c) q in
       longest_at_end n s c p.at_front (subst R p.rest (subst M p.number e))
 
-empty_is : (c : List Numbered) → AllByRecursion (λ h. IsHeader h.number h.bytes) c → nat_eq (length (bytes_of c)) 0 ≡ is_empty c
-empty_is [] a = refl
-empty_is (h ∷ c) a = elim (eqb_tells (length (bytes_of (h ∷ c))) 0) [
-  | inl w ↦ absurd (omega (arith, w.1, bytes_of-least (h ∷ c) a))
+-- whether the bytes behind a chain are all bytes tells whether it is empty
+behind_all : (c : List Numbered) (k l : ℕ) → AllByRecursion (λ h. IsHeader h.number h.bytes) c → length (bytes_of c) + k ≡ l → nat_eq k l ≡ is_empty c
+behind_all [] k l a e = elim (eqb_tells k l) [ inl w ↦ w.0 | inr w ↦ absurd (w.1 (omega (arith, e))) ]
+behind_all (h ∷ c) k l a e = elim (eqb_tells k l) [
+  | inl w ↦ absurd (omega (arith, w.1, e, bytes_of-least (h ∷ c) a))
   | inr w ↦ w.0
 ]
 
-pub first_is : (n : ℕ) (s : List ℕ) (c : List Numbered) (m : ℕ) (r : List ℕ) → HasRead n s c m r → nat_eq (length s - length r) 0 ≡ is_empty c
-first_is n s c m r p = ap (λ k. nat_eq k 0) (offset_is n s c m r p) ∙ empty_is c p.at_front.chain.headers
+pub first_is : (n : ℕ) (s : List ℕ) (c : List Numbered) (m : ℕ) (r : List ℕ) → HasRead n s c m r → nat_eq (length r) (length s) ≡ is_empty c
+first_is n s c m r p = behind_all c (length r) (length s) p.at_front.chain.headers (omega (arith, front-length (bytes_of c) s p.at_front.front, ap length p.rest))

@@ -1,10 +1,10 @@
 use Rattle.std.proofs.Common.{◌≡◌, ap, length, arith, ◌∙◌, sym}
-use Rattle.ip_ext_chains.proofs.LongestLemmas.{whole_goes_on, whole_cut, ok_where_next}
+use Rattle.ip_ext_chains.proofs.LongestLemmas.{whole_goes_on, whole_cut, some_where_next}
 use Rattle.ip_ext_chains.proofs.ipv6_ext_slice_iter.Ipv6ExtensionSliceIterIterator.next.Goals as goal
 
 pub unwrap-header-requires : goal.unwrap-header-requires
 unwrap-header-requires c =
-    ok_where_next _ _ _ _ c.header_at.ensures.end (whole_goes_on _ _ c.args.self.now.whole (sym c.is_empty.ensures ∙ c.if-is_empty.false))
+    some_where_next _ _ _ _ c.header_at.ensures.end (whole_goes_on _ _ c.args.self.now.whole (sym c.is_empty.ensures ∙ c.if-is_empty.false))
 
 pub invariant_of-self : goal.invariant_of-self
 invariant_of-self c = record {

@@ -1,15 +1,14 @@
-# `make run` runs the tool over standard input; `make test` passes the merge gate.
+# `make run` answers the lines of standard input; `make test` passes the merge gate.
 .PHONY: run test
 .SILENT:
 
-define need_rt
-command -v rt >/dev/null || { echo "The Rattle toolchain is missing: its command 'rt' has to be on the PATH." >&2; exit 1; }
-endef
+RT_IS_THERE = command -v rt >/dev/null || { \
+	echo "The Rattle toolchain is missing: its command 'rt' has to be on the PATH." >&2; exit 1; }
 
 run:
-	$(need_rt)
-	cd crates/ipexts && rt lib </dev/null >&2 && rt run
+	$(RT_IS_THERE)
+	cd crates/ipexts && rt run
 
 test:
-	$(need_rt)
+	$(RT_IS_THERE)
 	rt ci

@@ -1,13 +1,102 @@
-// A library with one function.
+//! Answers lines that ask about IP extension headers.
+//!
+//! A line is what stands before a newline; the last line may lack it and counts where it isn't empty. Its
+//! fields are separated by one space. `N` is 0 to 255 in decimal without leading zeros. `HEX` is an even
+//! number of hexadecimal digits of either case, at least two, or `-` for no bytes.
+//!
+//! - `exts6 N HEX` asks for the longest chain of IPv6 extension headers from number N that begins the bytes
+//!   (RFC 8200, section 4). The answer has a line `offset name length` for each header, with the names
+//!   `hopopt` (0), `route` (43), `frag` (44), `auth` (51) and `dstopts` (60); then `next N rest L`, the
+//!   number of what follows and how many bytes do; then `ok`, or the fault with ` in ` and the layer at
+//!   which it lies. A fault is `fault len R of L S Y at O`, where R bytes are required and L are there, as
+//!   S tells, for layer Y at offset O; or `fault ZeroPayloadLen`; or `fault HopByHopNotAtStart`.
+//!
+//! A line of more than 8,192 bytes, an empty line and one of no form is answered by `bad line`. Each line of
+//! an answer ends in a newline.
 #![tactic(auto)]
 
-ghost use Rattle.std.specs.Prelude.{◌≡◌};
-ghost use Rattle.ipexts_tool.specs.Echo.{echo_of};
+ghost use Rattle.std.specs.Prelude.{◌≡◌, ℕ, List, take, OnOk, IfOk, IfSome};
+ghost use Rattle.std.specs.Bool.{OnFalse};
+ghost use Rattle.std.specs.Io.KnownBytes.{Appends, IsAtEnd};
+ghost use Rattle.ipexts_tool.specs.Answers.{answers, answers_to};
+ghost use Rattle.ipexts_tool.specs.Lines.{lines_of};
+ghost use Rattle.ipexts_tool.specs.Memory.{OnMemory};
+ghost use Rattle.ipexts_tool.specs.Progress.{Advances, StopsWithin};
 
-// The `ensures` clause is the contract: what `echo` returns is `echo_of` of its argument, a definition
-// in `specs/Echo.antt`, which a caller's clause can cite too.
-pub fn echo(x: usize) -> usize
-    ensures { result ≡ echo_of x }
+mod answer;
+mod exts6;
+mod faults;
+mod feed;
+mod fields;
+mod scratch;
+mod tool_error;
+
+use arrayvec::ArrayVec;
+use feed::{Line, feed, finish};
+use scratch::Scratch;
+use std::alloc::Allocator;
+use std::io;
+use std::io::{ErrorKind, Read, Write};
+pub use tool_error::ToolError;
+
+/// How many bytes are read at once, at most.
+const CHUNK_LEN: usize = 65536;
+
+/// Answers each line of the input. Each answer is put together first and written at once, and the output is
+/// flushed after each read that gave bytes.
+///
+/// A read or a write that fails is an `Io` error, and then nothing is said of the output. So is an input that
+/// isn't at its end after 2^64 - 1 reads, of which one that is interrupted is tried again and counts. Where
+/// there is no memory for an answer, the error is `Memory`, and the answers to all lines before stand.
+pub fn run<A: Allocator + Copy, R: Read, W: Write>(
+    alloc: A,
+    input: &mut R,
+    output: &mut W,
+) -> Result<(), ToolError>
+    ensures end { OnOk result (IsAtEnd (R.remaining input.new)) }
+    ensures answers { OnOk result (IfSome (R.remaining input.old) (λ bytes.
+        Appends (W.contents output.old) (W.contents output.new) (answers bytes))) }
+    ensures memory { OnMemory result (IfSome (R.remaining input.old) (λ bytes. (n : ℕ)
+        × Appends (W.contents output.old) (W.contents output.new) (answers_to (take n (lines_of bytes))))) }
 {
-    x
+    let mut chunk = [0; CHUNK_LEN];
+    let mut line = ArrayVec::new();
+    let mut scratch = Scratch::new(alloc);
+    for _ in 0..u64::MAX {
+        if !advance(input, output, &mut chunk, &mut line, &mut scratch)? {
+            return finish(line.as_slice(), &mut scratch, output);
+        }
+    }
+    Err(ToolError::Io(io::Error::from(ErrorKind::TimedOut)))
 }
+
+/// Reads once, answers the lines that end in what came, and keeps in `line` what follows them. It tells
+/// whether the input may have more.
+fn advance<A: Allocator, R: Read, W: Write>(
+    input: &mut R,
+    output: &mut W,
+    chunk: &mut [u8; CHUNK_LEN],
+    line: &mut Line,
+    scratch: &mut Scratch<A>,
+) -> Result<bool, ToolError>
+    ensures ok { OnOk result (Advances (R.remaining input.old) (R.remaining input.new)
+        (W.contents output.old) (W.contents output.new) line.old.items line.new.items) }
+    ensures end { IfOk result (λ more. OnFalse more (IsAtEnd (R.remaining input.new))) }
+    ensures memory { OnMemory result (StopsWithin (R.remaining input.old)
+        (W.contents output.old) (W.contents output.new) line.old.items) }
+{
+    let n = match input.read(chunk) {
+        Ok(0) => return Ok(false),
+        Ok(n) => n,
+        Err(e) if e.kind() == ErrorKind::Interrupted => return Ok(true),
+        Err(e) => return Err(ToolError::Io(e)),
+    };
+    let answered = feed(&chunk[..n], line, scratch, output);
+    // Where memory ran out, the answers before are flushed too.
+    output.flush()?;
+    answered?;
+    Ok(true)
+}
+
+#[cfg(test)]
+mod tests;

@@ -1,0 +1,6 @@
+pub mod SplitLemmas
+pub mod NumberLemmas
+pub mod BegunLemmas
+pub mod FieldLemmas
+pub mod ProgressLemmas
+pub mod MemoryLemmas

@@ -1,0 +1,20 @@
+use Rattle.std.proofs.Common.{[], take, ap, ◌∙◌, lit≤}
+use Rattle.std.proofs.KnownBytes.{Appends-kept, Consumes-nil, Consumes-kept}
+use Rattle.std.proofs.lemmas.List.{take-take}
+use Rattle.ipexts_tool.proofs.ProgressLemmas.{Advances-none, read_none}
+use Rattle.ipexts_tool.proofs.advance.Goals as goal
+
+pub returns-in-Ok-eq0-clause-ok : goal.returns-in-Ok-eq0-clause-ok
+returns-in-Ok-eq0-clause-ok g c =
+    Advances-none _ _ _ _ (read_none _ _ c.read.result c.read.new.buf c.in-Ok-eq0.field-0 c.in-Ok-eq0.is c.in-Ok-eq0.field-0-test c.read.ensures.bytes)
+
+pub returns-in-Err-clause-ok : goal.returns-in-Err-clause-ok
+returns-in-Err-clause-ok g c = Advances-none _ _ _ _ (Consumes-kept _ _ _ [] (Consumes-nil _) c.in-Err.ensures.bytes)
+
+pub returns-clause-ok : goal.returns-clause-ok
+returns-clause-ok g c = (
+  take c.in-Ok.n c.read.new.buf,
+  c.in-Ok.ensures.bytes.0,
+  Appends-kept _ _ _ _ c.in_ok-answered.ensures.ok c.in_ok-flush.ensures.bytes,
+  ap (take 8193) c.in_ok-answered.ensures.kept ∙ take-take 8193 8193 _ (lit≤ tt),
+)

@@ -1,0 +1,22 @@
+-- The texts of faults.
+use Rattle.std.specs.Prelude.{ℕ, List, ◌++◌, codes}
+use Rattle.std.specs.Fmt.{decimal}
+use Rattle.ip_base.specs.declared.err.len_error.LenError.{LenError}
+use Rattle.ip_ext_headers.specs.declared.err.ip_auth.header_error.HeaderError.TheVariants.{ZeroPayloadLen}
+use Rattle.ip_ext_chains.specs.Names.{layer_name, len_source_name}
+use Rattle.ip_ext_chains.specs.declared.err.ipv6_exts.header_error.HeaderError.TheVariants.{HopByHopNotAtStart, IpAuth}
+use Rattle.ip_ext_chains.specs.declared.err.ipv6_exts.header_slice_error.HeaderSliceError.{HeaderSliceError}
+use Rattle.ip_ext_chains.specs.declared.err.ipv6_exts.header_slice_error.HeaderSliceError.TheVariants.{Len, Content}
+
+-- fewer bytes than required: `fault len R of L S Y at O`
+abbrev pub len_fault_text : LenError → List ℕ
+len_fault_text e =
+    codes "fault len " ++ decimal e.required_len ++ codes " of " ++ decimal e.len
+    ++ codes " " ++ len_source_name e.len_source ++ codes " " ++ layer_name e.layer
+    ++ codes " at " ++ decimal e.layer_start_offset
+
+-- what is wrong in the bytes of an IPv6 chain
+abbrev pub fault_text : HeaderSliceError → List ℕ
+fault_text (Len e) = len_fault_text e
+fault_text (Content HopByHopNotAtStart) = codes "fault HopByHopNotAtStart"
+fault_text (Content (IpAuth ZeroPayloadLen)) = codes "fault ZeroPayloadLen"

@@ -1,0 +1,17 @@
+-- The lines of an input.
+use Rattle.std.specs.Prelude.{ℕ, Bool, ◌==◌, List, [], ◌∷◌}
+use Rattle.std.specs.List.{slice_split}
+
+-- whether a byte is a newline
+abbrev pub is_newline : ℕ → Bool
+is_newline b = b == 10
+
+-- the lines, but for an empty one at the end
+abbrev pub without_empty_last : List (List ℕ) → List (List ℕ)
+without_empty_last [] = []
+without_empty_last ([] ∷ []) = []
+without_empty_last (line ∷ lines) = line ∷ without_empty_last lines
+
+-- what stands before each newline, and what stands behind the last one where that isn't empty
+abbrev pub lines_of : List ℕ → List (List ℕ)
+lines_of bytes = without_empty_last (slice_split is_newline bytes)

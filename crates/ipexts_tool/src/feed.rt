@@ -1,0 +1,104 @@
+//! The lines of an input that comes in chunks.
+ghost use Rattle.std.specs.Prelude.{◌≡◌, ◌++◌, ℕ, [], take, OnOk};
+ghost use Rattle.std.specs.Io.KnownBytes.{Appends, Keeps};
+ghost use Rattle.ipexts_tool.specs.Answers.{answer_of, answers_to};
+ghost use Rattle.ipexts_tool.specs.Begun.{ended_lines, open_line, counted};
+ghost use Rattle.ipexts_tool.specs.Progress.{AnswersFirst};
+ghost use Rattle.ipexts_tool.specs.Memory.{OnMemory};
+
+use crate::ToolError;
+use crate::answer::{MAX_LINE_LEN, answer};
+use crate::fields::split_once;
+use crate::scratch::Scratch;
+use arrayvec::ArrayVec;
+use std::alloc::Allocator;
+use std::io::Write;
+
+/// How many bytes of a line are kept: one more than it may have, which tells that it is too long.
+pub const KEPT_LEN: usize = MAX_LINE_LEN + 1;
+
+/// A line that a chunk's end cut, as far as it is kept.
+pub type Line = ArrayVec<u8, KEPT_LEN>;
+
+/// Writes the answer to `line`.
+fn tell<A: Allocator, W: Write>(
+    line: &[u8],
+    scratch: &mut Scratch<A>,
+    output: &mut W,
+) -> Result<(), ToolError>
+    ensures ok { OnOk result (Appends (W.contents output.old) (W.contents output.new) (answer_of line.now)) }
+    ensures memory { OnMemory result (Keeps (W.contents output.old) (W.contents output.new)) }
+{
+    answer(line, scratch)?;
+    output.write_all(scratch.text.as_bytes())?;
+    Ok(())
+}
+
+/// Goes on with `line`, which stops growing when it is full.
+fn keep(line: &mut Line, part: &[u8])
+    ensures { line.new.items ≡ take 8193 (line.old.items ++ part.now) }
+{
+    let len = part.len().min(line.remaining_capacity());
+    let _ = line.try_extend_from_slice(&part[..len]);
+}
+
+/// Writes the answer to the line that begins with `line` and ends with `part`, and begins a new one.
+fn end_line<A: Allocator, W: Write>(
+    line: &mut Line,
+    part: &[u8],
+    scratch: &mut Scratch<A>,
+    output: &mut W,
+) -> Result<(), ToolError>
+    ensures begun { OnOk result (line.new.items ≡ []) }
+    ensures ok { OnOk result (Appends (W.contents output.old) (W.contents output.new)
+        (answer_of (line.old.items ++ part.now))) }
+    ensures memory { OnMemory result (Keeps (W.contents output.old) (W.contents output.new)) }
+{
+    if line.is_empty() {
+        return tell(part, scratch, output);
+    }
+    keep(line, part);
+    tell(line.as_slice(), scratch, output)?;
+    line.clear();
+    Ok(())
+}
+
+/// Answers the lines that end in `chunk`, the first of which began with `line`, and keeps in `line`
+/// what follows them.
+pub fn feed<A: Allocator, W: Write>(
+    chunk: &[u8],
+    line: &mut Line,
+    scratch: &mut Scratch<A>,
+    output: &mut W,
+) -> Result<(), ToolError>
+    ensures kept { OnOk result (line.new.items ≡ take 8193 (open_line line.old.items chunk.now)) }
+    ensures ok { OnOk result (Appends (W.contents output.old) (W.contents output.new)
+        (answers_to (ended_lines line.old.items chunk.now))) }
+    ensures memory { OnMemory result ((n : ℕ)
+        × AnswersFirst (W.contents output.old) (W.contents output.new) (ended_lines line.old.items chunk.now) n) }
+{
+    let mut rest = chunk;
+    while let Some((part, after)) = split_once(rest, b'\n') {
+        end_line(line, part, scratch, output)?;
+        rest = after;
+    }
+    keep(line, rest);
+    Ok(())
+}
+
+/// Answers a last line that no newline ends.
+pub fn finish<A: Allocator, W: Write>(
+    line: &[u8],
+    scratch: &mut Scratch<A>,
+    output: &mut W,
+) -> Result<(), ToolError>
+    ensures ok { OnOk result (Appends (W.contents output.old) (W.contents output.new)
+        (answers_to (counted line.now))) }
+    ensures memory { OnMemory result (Keeps (W.contents output.old) (W.contents output.new)) }
+{
+    if !line.is_empty() {
+        tell(line, scratch, output)?;
+        output.flush()?;
+    }
+    Ok(())
+}

@@ -1,0 +1,324 @@
+//! Runs over memory, and over readers, writers and allocators that fail.
+use super::{ToolError, run};
+use linked_list_allocator::LocalHeap;
+use std::alloc::{AllocError, Global};
+use std::io;
+use std::io::{ErrorKind, Read, Write};
+use std::test::Fail;
+
+/// A reader that gives one byte a call.
+#[derive(Drop)]
+struct Drip<'a> {
+    bytes: &'a [u8],
+    /// Each second call is interrupted.
+    is_hesitant: bool,
+    /// The end is a failure.
+    is_broken: bool,
+    waits: bool,
+}
+
+impl Read for Drip<'_> {
+    fn read(&mut self, buf: &mut [u8]) -> io::Result<usize> {
+        self.waits = !self.waits && self.is_hesitant;
+        if self.waits {
+            return Err(io::Error::from(ErrorKind::Interrupted));
+        }
+        match (self.bytes.split_first(), buf.first_mut()) {
+            (Some((byte, rest)), Some(place)) => {
+                *place = *byte;
+                self.bytes = rest;
+                Ok(1)
+            }
+            _ if self.is_broken => Err(io::Error::from(ErrorKind::PermissionDenied)),
+            _ => Ok(0),
+        }
+    }
+}
+
+/// A writer that counts its calls, and fails after some writes.
+#[derive(Drop)]
+struct Counter {
+    written: Vec<u8>,
+    writes: u32,
+    writes_left: u32,
+    flushes: u32,
+}
+
+impl Write for Counter {
+    fn write(&mut self, buf: &[u8]) -> io::Result<usize> {
+        if self.writes_left == 0 {
+            return Err(io::Error::from(ErrorKind::PermissionDenied));
+        }
+        self.writes_left -= 1;
+        self.writes = self.writes.wrapping_add(1);
+        self.written.extend_from_slice(buf)?;
+        Ok(buf.len())
+    }
+
+    fn flush(&mut self) -> io::Result<()> {
+        self.flushes = self.flushes.wrapping_add(1);
+        Ok(())
+    }
+}
+
+fn counting(alloc: Global, writes_left: u32) -> Counter {
+    Counter {
+        written: Vec::new(alloc),
+        writes: 0,
+        writes_left,
+        flushes: 0,
+    }
+}
+
+fn dripping(bytes: &[u8]) -> Drip<'_> {
+    Drip {
+        bytes,
+        is_hesitant: false,
+        is_broken: false,
+        waits: false,
+    }
+}
+
+/// What a run over these bytes writes.
+fn output_of(alloc: Global, mut input: &[u8]) -> Result<Vec<u8>, ToolError> {
+    let mut output = Vec::new(alloc);
+    run(alloc, &mut input, &mut output)?;
+    Ok(output)
+}
+
+/// `part`, `count` times over.
+fn repeated(alloc: Global, part: &[u8], count: usize) -> Result<Vec<u8>, AllocError> {
+    let mut all = Vec::new(alloc);
+    for _ in 0..count {
+        all.extend_from_slice(part)?;
+    }
+    Ok(all)
+}
+
+#[test]
+fn exts6_answers(rt: HostRuntime) -> Result<(), Fail> {
+    let rows: [(&str, &[u8], &[u8]); 9] = [
+        (
+            "a header and a fault behind it",
+            b"exts6 60 2b00000000000000\n",
+            b"0 dstopts 8\nnext 43 rest 0\nfault len 8 of 0 Slice Ipv6ExtHeader at 8 in Ipv6RouteHeader\n",
+        ),
+        ("no header", b"exts6 17 00010203\n", b"next 17 rest 4\nok\n"),
+        (
+            "hop by hop options again",
+            b"exts6 0 0000000000000000\n",
+            b"0 hopopt 8\nnext 0 rest 0\nfault HopByHopNotAtStart in Ipv6HopByHopHeader\n",
+        ),
+        (
+            "an authentication header of length 0",
+            b"exts6 51 110000000000000000000000\n",
+            b"next 51 rest 12\nfault ZeroPayloadLen in IpAuthHeader\n",
+        ),
+        (
+            "a fragment header cut short",
+            b"exts6 44 2c00000000000001110000\n",
+            b"0 frag 8\nnext 44 rest 3\nfault len 8 of 3 Slice Ipv6FragHeader at 8 in Ipv6FragHeader\n",
+        ),
+        (
+            "digits of either case",
+            b"exts6 60 2B0000000000000a\n",
+            b"0 dstopts 8\nnext 43 rest 0\nfault len 8 of 0 Slice Ipv6ExtHeader at 8 in Ipv6RouteHeader\n",
+        ),
+        ("no bytes", b"exts6 255 -\n", b"next 255 rest 0\nok\n"),
+        (
+            "the last newline is missing",
+            b"exts6 17 00010203\nexts6 17 00",
+            b"next 17 rest 4\nok\nnext 17 rest 1\nok\n",
+        ),
+        ("no line", b"", b""),
+    ];
+    for (name, input, answer) in rows {
+        assert_eq!(rt; output_of(rt.alloc(), input)?.as_slice(), answer, "{name}");
+    }
+    Ok(())
+}
+
+#[test]
+fn bad_lines(rt: HostRuntime) -> Result<(), Fail> {
+    let rows: [(&str, &[u8]); 22] = [
+        ("an empty line", b""),
+        ("a form alone", b"exts6"),
+        ("a form and a space", b"exts6 "),
+        ("no bytes field", b"exts6 17"),
+        ("an empty bytes field", b"exts6 17 "),
+        ("a field too many", b"exts6 17 00 00"),
+        ("two spaces", b"exts6  17 00"),
+        ("two spaces before the bytes", b"exts6 17  00"),
+        ("a space at the front", b" exts6 17 00"),
+        ("a space at the end", b"exts6 17 00 "),
+        ("a carriage return", b"exts6 17 00\r"),
+        ("a NUL", b"exts6 17 0\x000"),
+        ("bytes that are no text", b"exts6 17 \xff\xfe"),
+        ("another form", b"exts5 17 00"),
+        ("a form in upper case", b"EXTS6 17 00"),
+        ("a number above 255", b"exts6 256 00"),
+        ("a number of many digits", b"exts6 18446744073709551633 00"),
+        ("a leading zero", b"exts6 017 00"),
+        ("a plus", b"exts6 +17 00"),
+        ("an odd number of digits", b"exts6 17 000"),
+        ("a letter that is no digit", b"exts6 17 0g"),
+        ("a dash and digits", b"exts6 17 -00"),
+    ];
+    for (name, line) in rows {
+        let mut input = line.to_vec(rt.alloc())?;
+        input.extend_from_slice(b"\nexts6 17 -\n")?;
+        let output = output_of(rt.alloc(), &input)?;
+        assert_eq!(rt;
+            output.as_slice(),
+            b"bad line\nnext 17 rest 0\nok\n".as_slice(),
+            "{name}"
+        );
+    }
+    Ok(())
+}
+
+#[test]
+fn long_lines(rt: HostRuntime) -> Result<(), Fail> {
+    let mut digits = repeated(rt.alloc(), b"2c00000000000000", 511)?;
+    digits.extend_from_slice(b"00000000\n")?;
+    let mut input = b"exts6 0 ".to_vec(rt.alloc())?;
+    input.extend_from_slice(&digits)?;
+    assert_eq!(rt; input.len(), 8193, "8,192 bytes and a newline");
+    let output = output_of(rt.alloc(), &input)?;
+    assert!(rt; output.starts_with(b"0 hopopt 8\n8 frag 8\n"));
+    assert!(rt;
+        output.ends_with(
+            b"\n4080 frag 8\nnext 44 rest 4\nfault len 8 of 4 Slice Ipv6FragHeader at 4088 in Ipv6FragHeader\n"
+        )
+    );
+    let lines = output.iter().filter(|byte| **byte == b'\n').count();
+    assert_eq!(rt; lines, 513, "a line for each header and two more");
+
+    let mut input = b"exts6 17 ".to_vec(rt.alloc())?;
+    input.extend_from_slice(&digits)?;
+    assert_eq!(rt;
+        output_of(rt.alloc(), &input)?.as_slice(),
+        b"bad line\n".as_slice()
+    );
+
+    let mut input = repeated(rt.alloc(), b"x", 200_000)?;
+    input.extend_from_slice(b"\nexts6 17 -")?;
+    let output = output_of(rt.alloc(), &input)?;
+    assert_eq!(rt;
+        output.as_slice(),
+        b"bad line\nnext 17 rest 0\nok\n".as_slice()
+    );
+    Ok(())
+}
+
+const LINES: &[u8] =
+    b"exts6 17 -\n\nexts6 60 2b00000000000000\nexts6 0 3c000000000000002b000000000000002c00000000";
+
+const ANSWERS: &[u8] =
+    b"next 17 rest 0\nok\nbad line\n0 dstopts 8\nnext 43 rest 0\nfault len 8 of 0 Slice Ipv6ExtHeader at 8 in Ipv6RouteHeader\n0 hopopt 8\n8 dstopts 8\nnext 43 rest 5\nfault len 8 of 5 Slice Ipv6ExtHeader at 16 in Ipv6RouteHeader\n";
+
+#[test]
+fn lines_come_in_pieces(rt: HostRuntime) -> Result<(), Fail> {
+    for is_hesitant in [false, true] {
+        let mut output = Vec::new(rt.alloc());
+        let mut input = Drip {
+            is_hesitant,
+            ..dripping(LINES)
+        };
+        run(rt.alloc(), &mut input, &mut output)?;
+        assert_eq!(rt; output.as_slice(), ANSWERS, "interrupted: {is_hesitant}");
+    }
+    let many = repeated(rt.alloc(), b"exts6 17 00010203\n", 5000)?;
+    let answers = repeated(rt.alloc(), b"next 17 rest 4\nok\n", 5000)?;
+    assert_eq!(rt;
+        output_of(rt.alloc(), &many)?.as_slice(),
+        answers.as_slice()
+    );
+    Ok(())
+}
+
+#[test]
+fn each_answer_is_written_at_once(rt: HostRuntime) -> Result<(), Fail> {
+    let many = repeated(rt.alloc(), b"exts6 17 00010203\n", 5000)?;
+    let mut output = counting(rt.alloc(), u32::MAX);
+    run(rt.alloc(), &mut many.as_slice(), &mut output)?;
+    assert_eq!(rt; (output.writes, output.flushes), (5000, 2), "two chunks");
+
+    let mut output = counting(rt.alloc(), u32::MAX);
+    run(rt.alloc(), &mut &LINES[..], &mut output)?;
+    assert_eq!(rt;
+        (output.writes, output.flushes),
+        (4, 2),
+        "a chunk and a last line"
+    );
+    assert_eq!(rt; output.written.as_slice(), ANSWERS);
+    Ok(())
+}
+
+#[test]
+fn failures_are_told(rt: HostRuntime) -> Result<(), Fail> {
+    let mut output = Vec::new(rt.alloc());
+    let mut input = Drip {
+        is_broken: true,
+        ..dripping(LINES)
+    };
+    let result = run(rt.alloc(), &mut input, &mut output);
+    assert!(rt;
+        matches!(&result, Err(ToolError::Io(e)) if e.kind() == ErrorKind::PermissionDenied)
+    );
+    assert!(rt;
+        ANSWERS.starts_with(&output),
+        "the last line isn't answered"
+    );
+    assert!(rt; output.len() < ANSWERS.len());
+
+    for writes in 0..4 {
+        let mut output = counting(rt.alloc(), writes);
+        let result = run(rt.alloc(), &mut &LINES[..], &mut output);
+        assert!(rt;
+            matches!(&result, Err(ToolError::Io(e)) if e.kind() == ErrorKind::PermissionDenied)
+        );
+        assert_eq!(rt; output.writes, writes);
+    }
+    Ok(())
+}
+
+#[test]
+fn refused_memory_leaves_whole_answers(rt: HostRuntime) -> Result<(), Fail> {
+    let (mut refused, mut answered) = (0, false);
+    for size in 0..24 {
+        let heap = LocalHeap::new(rt.alloc(), size * 16)?;
+        let mut output = counting(rt.alloc(), u32::MAX);
+        match run(&heap, &mut &LINES[..], &mut output) {
+            Ok(()) => {
+                assert_eq!(rt; output.written.as_slice(), ANSWERS, "at {size}");
+                answered = true;
+            }
+            Err(ToolError::Memory(_)) => {
+                assert!(rt; ANSWERS.starts_with(&output.written), "at {size}");
+                assert!(rt;
+                    matches!(output.written.len(), 0 | 18 | 27 | 115),
+                    "at {size}"
+                );
+                assert_eq!(rt; output.flushes, 1, "at {size}");
+                refused = output.written.len().max(refused);
+            }
+            Err(ToolError::Io(_)) => assert!(rt; false, "at {size}"),
+        }
+    }
+    assert_eq!(rt; refused, 27, "the third answer asks for more");
+    assert!(rt; answered);
+    Ok(())
+}
+
+#[test]
+fn errors_have_texts(rt: HostRuntime) -> Result<(), Fail> {
+    let io = ToolError::from(io::Error::from(ErrorKind::TimedOut));
+    assert_eq!(rt;
+        io.to_string(rt.alloc())?.as_str(),
+        "input or output failed"
+    );
+    let memory = ToolError::from(AllocError);
+    assert_eq!(rt; memory.to_string(rt.alloc())?.as_str(), "out of memory");
+    Ok(())
+}

@@ -18,6 +18,10 @@ fragment_offset b = 32 * slice_index b 2 + bit_and (slice_index b 3) 0x1f
 abbrev pub has_more : List ℕ → Bool
 has_more b = not (bit_and (slice_index b 3) 0x80 == 0)
 
+-- byte 3 with its reserved bits put to zero
+abbrev pub unreserved_bits : ℕ → ℕ
+unreserved_bits x = bit_and x 0x9f
+
 -- the packet's identification (RFC 8200, section 4.5)
 abbrev pub identification : List ℕ → ℕ
 identification b = from_be_bytes w32 (slice_range b 4 8)

@@ -195,8 +195,10 @@ impl IpAuthHeader {
     fn first_bytes(&self) -> [u8; 12]
         ensures { IsAuthSpelling self.now (result ++ self.now.raw_icv) }
     {
-        let [spi0, spi1, spi2, spi3] = self.spi.to_be_bytes();
-        let [seq0, seq1, seq2, seq3] = self.sequence_number.to_be_bytes();
+        let spi = self.spi;
+        let sequence_number = self.sequence_number;
+        let [spi0, spi1, spi2, spi3] = spi.to_be_bytes();
+        let [seq0, seq1, seq2, seq3] = sequence_number.to_be_bytes();
         [
             self.next_header.0,
             (self.raw_icv.len() / 4) as u8 + 1,

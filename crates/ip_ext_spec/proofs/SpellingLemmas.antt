@@ -11,7 +11,7 @@ use Rattle.ip_ext_spec.specs.Header.{IsHeader, IsFragmentHeader, IsAuthHeader}
 use Rattle.ip_ext_spec.specs.Fields.{has_more, unreserved_bits}
 use Rattle.ip_ext_spec.specs.FieldsOf.{RawFields, FragmentFields, AuthFields, fragment_fields, auth_fields}
 use Rattle.ip_ext_spec.specs.Cleared.{fragment_cleared, auth_cleared}
-use Rattle.ip_ext_spec.specs.Spelling.{AreBytes, IsRawSpelling, IsFragmentSpelling, IsAuthSpelling}
+use Rattle.ip_ext_spec.specs.Spelling.{AreBytes, IsSpelling, IsRawSpelling, IsFragmentSpelling, IsAuthSpelling}
 use Rattle.ip_ext_spec.specs.Reading.{IsReading}
 use Rattle.ip_ext_spec.proofs.HeaderLemmas.{same_header}
 
@@ -23,6 +23,11 @@ one_reading_of n IsOne fields_of of_number s v w r q x y =
       sym x.fields ∙ ap fields_of same ∙ y.fields,
       append_cancel_left x.bytes r q (x.joined ∙ sym y.joined ∙ ap (λ b. b ++ q) (sym same)),
     )
+
+-- what spells fields is read so, whatever is behind it
+pub spelling_is_read : {V : Type 0} (IsOne : List ℕ → Type 0) (fields_of : List ℕ → V) (cleared : List ℕ → List ℕ) (v : V) (b r : List ℕ)
+    → IsSpelling IsOne fields_of cleared v b → IsReading IsOne fields_of (b ++ r) v r
+spelling_is_read IsOne fields_of cleared v b r s = record { bytes = b; header = s.header; fields = s.fields; joined = refl }
 
 -- The first four of a list.
 pub record FirstFour (b : List ℕ) : Type 0 where

@@ -3,7 +3,7 @@ ghost use Rattle.std.specs.Int.{to_be_bytes, w32};
 ghost use Rattle.ip_ext_spec.specs.Front.{IsFront};
 ghost use Rattle.ip_ext_spec.specs.Header.{IsAuthHeader};
 ghost use Rattle.ip_ext_spec.specs.FieldsOf.{auth_len};
-ghost use Rattle.ip_ext_spec.specs.Spelling.{IsAuthSpelling};
+ghost use Rattle.ip_ext_spec.specs.Spelling.{Appends, IsAuthSpelling};
 ghost use Rattle.ip_ext_spec.specs.Reading.{IsAuthReading};
 
 use crate::IpAuthHeaderSlice;
@@ -71,10 +71,10 @@ impl IpAuthHeader {
     ) -> Result<IpAuthHeader, IcvLenError>
         ensures allowed { IsOk result ↔ IsIcvLen (length raw_icv.now) }
         ensures value { IfOk result (λ h. h ≡ record {
-            next_header = next_header.0;
-            spi = spi;
-            sequence_number = sequence_number;
-            raw_icv = raw_icv.now;
+          next_header = next_header.0;
+          spi = spi;
+          sequence_number = sequence_number;
+          raw_icv = raw_icv.now;
         }) }
         ensures fault { IfErr result (λ e. icv_len_fault (length raw_icv.now) ≡ Some e) }
     {
@@ -91,10 +91,10 @@ impl IpAuthHeader {
     ) -> IpAuthHeader
         requires { IsIcvLen (length raw_icv.now) }
         ensures { result ≡ record {
-            next_header = next_header.0;
-            spi = spi;
-            sequence_number = sequence_number;
-            raw_icv = raw_icv.now;
+          next_header = next_header.0;
+          spi = spi;
+          sequence_number = sequence_number;
+          raw_icv = raw_icv.now;
         } }
     {
         let mut bytes = ArrayVec::new();
@@ -172,7 +172,7 @@ impl IpAuthHeader {
     /// Appends the header's bytes. It refuses only where the vector has no room for them and can't grow;
     /// then its bytes stay as they were.
     pub fn write<A: Allocator>(&self, out: &mut Vec<u8, A>) -> Result<(), AllocError>
-        ensures ok { OnOk result ((b : List ℕ) × IsAuthSpelling self.now b × (out.new.items ≡ out.old.items ++ b)) }
+        ensures ok { OnOk result (Appends (IsAuthSpelling self.now) out.old.items out.new.items) }
         ensures err { OnErr result (out.new.items ≡ out.old.items) }
         ensures full { OnErr result (vec_capacity out.old < vec_len out.old + auth_len self.now) }
         ensures capacity { vec_capacity out.old ≤ vec_capacity out.new }

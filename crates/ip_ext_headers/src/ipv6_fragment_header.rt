@@ -1,7 +1,8 @@
-ghost use Rattle.std.specs.Prelude.{◌≡◌, ◌≤◌, ◌<◌, ◌+◌, ◌++◌, ◌||◌, not, ◌==◌, ℕ, List, OnOk, OnErr, IfOk, IfErr, vec_len, vec_capacity};
+ghost use Rattle.std.specs.Prelude.{◌≡◌, ◌≤◌, ◌<◌, ◌+◌, ◌++◌, ℕ, List, OnOk, OnErr, IfOk, IfErr, vec_len, vec_capacity};
 ghost use Rattle.ip_ext_spec.specs.Front.{IsFront};
 ghost use Rattle.ip_ext_spec.specs.Header.{IsFragmentHeader};
-ghost use Rattle.ip_ext_spec.specs.Spelling.{IsFragmentSpelling};
+ghost use Rattle.ip_ext_spec.specs.Fields.{is_piece};
+ghost use Rattle.ip_ext_spec.specs.Spelling.{Appends, IsFragmentSpelling};
 ghost use Rattle.ip_ext_spec.specs.Reading.{IsFragmentReading};
 
 use crate::Ipv6FragmentHeaderSlice;
@@ -47,10 +48,10 @@ impl Ipv6FragmentHeader {
         identification: u32,
     ) -> Ipv6FragmentHeader
         ensures { result ≡ record {
-            next_header = next_header.0;
-            fragment_offset = fragment_offset;
-            more_fragments = more_fragments;
-            identification = identification;
+          next_header = next_header.0;
+          fragment_offset = fragment_offset;
+          more_fragments = more_fragments;
+          identification = identification;
         } }
     {
         Ipv6FragmentHeader {
@@ -97,7 +98,7 @@ impl Ipv6FragmentHeader {
     /// Appends the header's bytes. It refuses only where the vector has no room for them and can't grow;
     /// then its bytes stay as they were.
     pub fn write<A: Allocator>(&self, out: &mut Vec<u8, A>) -> Result<(), AllocError>
-        ensures ok { OnOk result ((b : List ℕ) × IsFragmentSpelling self.now b × (out.new.items ≡ out.old.items ++ b)) }
+        ensures ok { OnOk result (Appends (IsFragmentSpelling self.now) out.old.items out.new.items) }
         ensures err { OnErr result (out.new.items ≡ out.old.items) }
         ensures full { OnErr result (vec_capacity out.old < vec_len out.old + 8) }
         ensures capacity { vec_capacity out.old ≤ vec_capacity out.new }
@@ -116,7 +117,7 @@ impl Ipv6FragmentHeader {
     /// Whether the packet has a piece of the payload and not the whole: more fragments follow, or the offset
     /// isn't 0.
     pub fn is_fragmenting_payload(&self) -> bool
-        ensures { result ≡ (self.now.more_fragments || not (self.now.fragment_offset == 0)) }
+        ensures { result ≡ is_piece self.now.more_fragments self.now.fragment_offset }
     {
         self.more_fragments || self.fragment_offset.value() != 0
     }

@@ -2,7 +2,7 @@ ghost use Rattle.std.specs.Prelude.{◌≡◌, ◌≤◌, ◌<◌, ◌+◌, ◌*
 ghost use Rattle.ip_ext_spec.specs.Front.{IsFront};
 ghost use Rattle.ip_ext_spec.specs.Header.{IsRawHeader};
 ghost use Rattle.ip_ext_spec.specs.FieldsOf.{raw_fields, raw_len};
-ghost use Rattle.ip_ext_spec.specs.Spelling.{IsRawSpelling};
+ghost use Rattle.ip_ext_spec.specs.Spelling.{Appends, IsRawSpelling};
 ghost use Rattle.ip_ext_spec.specs.Reading.{IsRawReading};
 
 use crate::Ipv6RawExtHeaderSlice;
@@ -160,7 +160,7 @@ impl Ipv6RawExtHeader {
     /// Appends the header's bytes. It refuses only where the vector has no room for them and can't grow;
     /// then its bytes stay as they were.
     pub fn write<A: Allocator>(&self, out: &mut Vec<u8, A>) -> Result<(), AllocError>
-        ensures ok { OnOk result ((b : List ℕ) × IsRawSpelling self.now b × (out.new.items ≡ out.old.items ++ b)) }
+        ensures ok { OnOk result (Appends (IsRawSpelling self.now) out.old.items out.new.items) }
         ensures err { OnErr result (out.new.items ≡ out.old.items) }
         ensures full { OnErr result (vec_capacity out.old < vec_len out.old + raw_len self.now) }
         ensures capacity { vec_capacity out.old ≤ vec_capacity out.new }

@@ -26,9 +26,12 @@ unreserved_bits x = bit_and x 0x9f
 abbrev pub identification : List ℕ → ℕ
 identification b = from_be_bytes w32 (slice_range b 4 8)
 
--- the packet is a piece of a payload, and not the whole
+-- The packet has a piece of a payload, and not the whole: more follow, or it doesn't begin the payload.
+abbrev pub is_piece : Bool → ℕ → Bool
+is_piece more offset = more || not (offset == 0)
+
 abbrev pub is_fragmenting : List ℕ → Bool
-is_fragmenting b = has_more b || not (fragment_offset b == 0)
+is_fragmenting b = is_piece (has_more b) (fragment_offset b)
 
 -- of an authentication header (RFC 4302, sections 2.4 to 2.6): the security parameters index, the
 -- sequence number and the integrity check value

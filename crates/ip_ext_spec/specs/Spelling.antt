@@ -1,5 +1,5 @@
 -- The header that says given fields.
-use Rattle.std.specs.Prelude.{◌≡◌, ◌<◌, ℕ, List, All}
+use Rattle.std.specs.Prelude.{◌≡◌, ◌<◌, ◌++◌, ℕ, List, All}
 use Rattle.ip_ext_spec.specs.Header.{IsRawHeader, IsFragmentHeader, IsAuthHeader}
 use Rattle.ip_ext_spec.specs.FieldsOf.{RawFields, FragmentFields, AuthFields, raw_fields, fragment_fields, auth_fields}
 use Rattle.ip_ext_spec.specs.Cleared.{raw_cleared, fragment_cleared, auth_cleared}
@@ -23,3 +23,7 @@ IsFragmentSpelling v b = IsSpelling IsFragmentHeader fragment_fields fragment_cl
 
 abbrev pub IsAuthSpelling : AuthFields → List ℕ → Type 0
 IsAuthSpelling v b = IsSpelling IsAuthHeader auth_fields auth_cleared v b
+
+-- new is old with bytes behind it that have the property P
+abbrev pub Appends : (List ℕ → Type 0) → List ℕ → List ℕ → Type 0
+Appends P old new = (b : List ℕ) × P b × (new ≡ old ++ b)

@@ -7,6 +7,7 @@ pub mod err;
 mod ipv6_ext_slice;
 mod ipv6_ext_slice_iter;
 mod ipv6_exts_slice;
+mod plain;
 mod step;
 
 pub use chain_laws::extension_number_left_has_fault;
@@ -15,3 +16,4 @@ pub use ip_ext_headers::{IpAuthHeaderSlice, Ipv6FragmentHeaderSlice, Ipv6RawExtH
 pub use ipv6_ext_slice::Ipv6ExtensionSlice;
 pub use ipv6_ext_slice_iter::Ipv6ExtensionSliceIter;
 pub use ipv6_exts_slice::Ipv6ExtensionsSlice;
+pub use plain::plain_fault;

@@ -1,7 +1,7 @@
 //! The definitions computed in the plainest way. It is slow: it tries every length.
-ghost use Rattle.std.specs.Prelude.{◌≡◌, ◌↔◌, ◌≤◌, ℕ, take, length, map, IsTrue, IfOk, IfSome, IfNone};
+ghost use Rattle.std.specs.Prelude.{◌≡◌, ◌↔◌, ◌≤◌, ℕ, take, drop, length, map, IsTrue, IfOk, IfSome, IfNone};
 ghost use Rattle.ip_ext_spec.specs.Header.{IsHeader};
-ghost use Rattle.ip_ext_spec.specs.Chain.{IsLongestChain, IsNext, IsEnd};
+ghost use Rattle.ip_ext_spec.specs.Chain.{IsLongestChain, IsNext, IsEnd, leads_to, bytes_of};
 ghost use Rattle.ip_ext_spec.specs.PlainHeader.{numbered};
 
 use std::alloc::{AllocError, Global};
@@ -45,25 +45,39 @@ pub fn next_len(first: bool, number: u8, bytes: &[u8]) -> Option<usize>
     None
 }
 
+/// A chain that begins some bytes, the number to which it leads and the bytes after it.
+#[derive(Debug, Drop)]
+pub struct PlainChain<'a> {
+    pub headers: Vec<PlainHeader<'a>>,
+    pub number: u8,
+    pub rest: &'a [u8],
+}
+
 /// The longest chain from the number that begins the bytes. It refuses only for want of memory.
 pub fn longest_chain<'a>(
     alloc: Global,
     start: u8,
     bytes: &'a [u8],
-) -> Result<Vec<PlainHeader<'a>>, AllocError>
-    ensures { IfOk result (λ chain. IsLongestChain start bytes.now (map numbered chain.items)) }
+) -> Result<PlainChain<'a>, AllocError>
+    ensures longest { IfOk result (λ chain. IsLongestChain start bytes.now (map numbered chain.headers.items)) }
+    ensures number { IfOk result (λ chain. chain.number ≡ leads_to start (map numbered chain.headers.items)) }
+    ensures rest { IfOk result (λ chain. chain.rest.now ≡ drop (length (bytes_of (map numbered chain.headers.items))) bytes.now) }
 {
-    let mut chain = Vec::new(alloc);
+    let mut headers = Vec::new(alloc);
     let mut number = start;
     let mut rest = bytes;
-    'headers: while let Some(len) = next_len(chain.is_empty(), number, rest) {
+    'headers: while let Some(len) = next_len(headers.is_empty(), number, rest) {
         let (header, after) = rest.split_at(len);
-        chain.push(PlainHeader {
+        headers.push(PlainHeader {
             number,
             bytes: header,
         })?;
         number = header[0];
         rest = after;
     }
-    Ok(chain)
+    Ok(PlainChain {
+        headers,
+        number,
+        rest,
+    })
 }

@@ -25,12 +25,12 @@ one_pushed n s items pushed header first m r front after read f next rest is e =
 
 pub headers-preserved : goal.headers-preserved
 headers-preserved c =
-    let first = c.is_empty.ensures ∙ none_pushed c.headers.chain.items c.headers.chain.len c.headers.chain.ok.0 in
+    let first = c.is_empty.ensures ∙ none_pushed c.headers.headers.items c.headers.headers.len c.headers.headers.ok.0 in
     let next = rw (← c.split_at.ensures.front) at c.in-Some.ensures.next in
     one_pushed _ _ _ _ _ _ _ _ _ _ c.headers.invariant first next (ap (λ k. drop k c.headers.rest.now) c.split_at.ensures.front_len ∙ sym c.split_at.ensures.back) refl c.in_ok-push.ensures.items
 
-pub returns : goal.returns
-returns c =
-    let first = c.is_empty.ensures ∙ none_pushed c.headers.chain.items c.headers.chain.len c.headers.chain.ok.0 in
+pub returns-clause-longest : goal.returns-clause-longest
+returns-clause-longest c =
+    let first = c.is_empty.ensures ∙ none_pushed c.headers.headers.items c.headers.headers.len c.headers.headers.ok.0 in
     let E : Bool → Type 0 = λ b. IsEnd b c.headers.number c.headers.rest.now in
     read_longest _ _ _ _ _ c.headers.invariant (subst E first c.in_default.ensures.none)

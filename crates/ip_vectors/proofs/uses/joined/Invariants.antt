@@ -1,0 +1,13 @@
+use Rattle.std.proofs.Common.{◌≡◌, ◌++◌}
+use Rattle.ip_ext_spec.specs.Chain.{bytes_of}
+use Rattle.ip_ext_chains.specs.Ipv6ExtensionsSlice.{bytes}
+use Rattle.ip_ext_chains.specs.Ipv6ExtensionSliceIter.{headers_left}
+use Rattle.ip_vectors.proofs.uses.joined.Given as goal
+
+-- what was copied and what is to come are the bytes of all headers
+abbrev pub invariant-loop-header : goal.invariant-loop-header
+invariant-loop-header l = record {
+  can : (goal.iterator-loop-header).can_next l.header-iterator;
+  ends : (goal.iterator-loop-header).is_finite l.header-iterator;
+  joined : l.copy.items ++ bytes_of (headers_left l.header-iterator) ≡ bytes l.fn.headers;
+}

@@ -1,0 +1,245 @@
+//! Chains that are borrowed from bytes.
+use ip_base::err::{Layer, LenError};
+use ip_base::{IpNumber, LenSource};
+use ip_ext_chains::err::ip_auth;
+use ip_ext_chains::err::ipv6_exts::{HeaderError, HeaderSliceError};
+use ip_ext_chains::{Ipv6ExtensionSlice, Ipv6ExtensionSliceIter, Ipv6ExtensionsSlice, plain_fault};
+use ip_ext_spec::longest_chain;
+use std::alloc::Global;
+use std::process::Abort;
+use std::test::Fail;
+
+/// Start number and bytes; the number and length of each header; number, rest and fault.
+#[derive(Drop)]
+struct Row<'a> {
+    name: &'a str,
+    start: u8,
+    bytes: &'a [u8],
+    headers: &'a [(u8, usize)],
+    number: u8,
+    rest: &'a [u8],
+    fault: Option<(HeaderSliceError, Layer)>,
+}
+
+fn missing(
+    required_len: usize,
+    len: usize,
+    inner: Layer,
+    offset: usize,
+    layer: Layer,
+) -> Option<(HeaderSliceError, Layer)> {
+    let error = LenError {
+        required_len,
+        len,
+        len_source: LenSource::Slice,
+        layer: inner,
+        layer_start_offset: offset,
+    };
+    Some((HeaderSliceError::Len(error), layer))
+}
+
+/// The number and the bytes of a header.
+fn parts<'a>(header: &Ipv6ExtensionSlice<'a>) -> (u8, &'a [u8]) {
+    match header {
+        Ipv6ExtensionSlice::HopByHop(h) => (0, h.slice()),
+        Ipv6ExtensionSlice::Routing(h) => (43, h.slice()),
+        Ipv6ExtensionSlice::Fragment(h) => (44, h.slice()),
+        Ipv6ExtensionSlice::DestinationOptions(h) => (60, h.slice()),
+        Ipv6ExtensionSlice::Authentication(h) => (51, h.slice()),
+    }
+}
+
+/// The parses of the chain crate answer the row.
+fn check_parse(rt: &impl Abort, row: &Row<'_>) -> Result<(), Fail> {
+    let name = row.name;
+    let start = IpNumber(row.start);
+    let (chain, number, rest, fault) = Ipv6ExtensionsSlice::from_slice_lax(start, row.bytes);
+    assert_eq!(rt; number, IpNumber(row.number), "{name}");
+    assert_eq!(rt; rest, row.rest, "{name}");
+    assert_eq!(rt; fault, row.fault, "{name}");
+    let len = row.bytes.len().saturating_sub(row.rest.len());
+    assert_eq!(rt; chain.slice(), &row.bytes[..len], "{name}");
+    assert_eq!(rt; chain.is_empty(), row.headers.is_empty(), "{name}");
+    let first = if row.headers.is_empty() { None } else { Some(start) };
+    assert_eq!(rt; chain.first_header(), first, "{name}");
+    match (Ipv6ExtensionsSlice::from_slice(start, row.bytes), &row.fault) {
+        (Ok(strict), None) => {
+            assert!(rt; strict.0 == chain, "{name}");
+            assert_eq!(rt; strict.1, number, "{name}");
+            assert_eq!(rt; strict.2, rest, "{name}");
+        }
+        (Err(error), Some((expected, _))) => assert_eq!(rt; error, *expected, "{name}"),
+        _ => assert!(rt; false, "{name}"),
+    }
+    check_iterator(rt, row, chain)
+}
+
+/// The iterator yields the row's headers, and then nothing for ever.
+fn check_iterator(rt: &impl Abort, row: &Row<'_>, chain: Ipv6ExtensionsSlice<'_>) -> Result<(), Fail> {
+    let name = row.name;
+    let mut headers = chain.into_iter();
+    for expected in row.headers {
+        match headers.next() {
+            Some(header) => {
+                let (number, bytes) = parts(&header);
+                assert_eq!(rt; (number, bytes.len()), *expected, "{name}");
+            }
+            None => assert!(rt; false, "{name}"),
+        }
+    }
+    for _ in 0..3 {
+        assert!(rt; headers.next().is_none(), "{name}");
+    }
+    Ok(())
+}
+
+/// The plain slow program answers the row too.
+fn check_plain(rt: &impl Abort, alloc: Global, row: &Row<'_>) -> Result<(), Fail> {
+    let name = row.name;
+    let plain = longest_chain(alloc, row.start, row.bytes)?;
+    assert_eq!(rt; plain.number, row.number, "{name}");
+    assert_eq!(rt; plain.rest, row.rest, "{name}");
+    assert_eq!(rt; plain.headers.len(), row.headers.len(), "{name}");
+    for (header, expected) in plain.headers.iter().zip(row.headers) {
+        assert_eq!(rt; (header.number, header.bytes.len()), *expected, "{name}");
+    }
+    let offset = row.bytes.len().saturating_sub(row.rest.len());
+    let fault = plain_fault(plain.headers.is_empty(), plain.number, plain.rest, offset);
+    assert_eq!(rt; fault, row.fault, "{name}");
+    Ok(())
+}
+
+fn check(rt: &impl Abort, alloc: Global, row: &Row<'_>) -> Result<(), Fail> {
+    check_parse(rt, row)?;
+    check_plain(rt, alloc, row)
+}
+
+#[test]
+fn no_extension_number(rt: HostRuntime) -> Result<(), Fail> {
+    let row = Row {
+        name: "UDP goes on",
+        start: 17,
+        bytes: &[0, 1, 2, 3],
+        headers: &[],
+        number: 17,
+        rest: &[0, 1, 2, 3],
+        fault: None,
+    };
+    check(&rt, rt.alloc(), &row)
+}
+
+#[test]
+fn headers_of_one_kind(rt: HostRuntime) -> Result<(), Fail> {
+    let repeated = Row {
+        name: "destination options twice",
+        start: 60,
+        bytes: &[60, 0, 0, 0, 0, 0, 0, 0, 17, 0, 0, 0, 0, 0, 0, 0],
+        headers: &[(60, 8), (60, 8)],
+        number: 17,
+        rest: &[],
+        fault: None,
+    };
+    check(&rt, rt.alloc(), &repeated)?;
+    let cut = Row {
+        name: "a second fragment header is cut",
+        start: 44,
+        bytes: &[44, 0, 0, 0, 0, 0, 0, 1, 17, 0, 0],
+        headers: &[(44, 8)],
+        number: 44,
+        rest: &[17, 0, 0],
+        fault: missing(8, 3, Layer::Ipv6FragHeader, 8, Layer::Ipv6FragHeader),
+    };
+    check(&rt, rt.alloc(), &cut)
+}
+
+#[test]
+fn headers_of_all_kinds(rt: HostRuntime) -> Result<(), Fail> {
+    let bytes = [
+        60, 0, 0, 0, 0, 0, 0, 0, 43, 0, 0, 0, 0, 0, 0, 0, 44, 0, 0, 0, 0, 0, 0, 0, 51, 0, 0, 1, 0, 0, 0, 0, 60, 1, 0,
+        0, 0, 0, 0, 0, 0, 0, 0, 0, 17, 0, 0, 0, 0, 0, 0, 0, 9, 9,
+    ];
+    let row = Row {
+        name: "one header of each kind and destination options again",
+        start: 0,
+        bytes: &bytes,
+        headers: &[(0, 8), (60, 8), (43, 8), (44, 8), (51, 12), (60, 8)],
+        number: 17,
+        rest: &[9, 9],
+        fault: None,
+    };
+    check(&rt, rt.alloc(), &row)?;
+    let chain = Ipv6ExtensionsSlice::from_slice_lax(IpNumber(0), &bytes).0;
+    assert!(rt; chain.is_fragmenting_payload());
+    assert!(rt; chain.clone()? == chain);
+    let shorter = Ipv6ExtensionsSlice::from_slice_lax(IpNumber(0), &bytes[..24]).0;
+    assert!(rt; !shorter.is_fragmenting_payload());
+    assert!(rt; shorter != chain);
+    Ok(())
+}
+
+#[test]
+fn faults_behind_a_header(rt: HostRuntime) -> Result<(), Fail> {
+    let ends = Row {
+        name: "a routing header is named, and no bytes are left",
+        start: 60,
+        bytes: &[43, 0, 0, 0, 0, 0, 0, 0],
+        headers: &[(60, 8)],
+        number: 43,
+        rest: &[],
+        fault: missing(8, 0, Layer::Ipv6ExtHeader, 8, Layer::Ipv6RouteHeader),
+    };
+    check(&rt, rt.alloc(), &ends)?;
+    let hop_by_hop = Row {
+        name: "hop by hop options behind hop by hop options",
+        start: 0,
+        bytes: &[0, 0, 0, 0, 0, 0, 0, 0],
+        headers: &[(0, 8)],
+        number: 0,
+        rest: &[],
+        fault: Some((
+            HeaderSliceError::Content(HeaderError::HopByHopNotAtStart),
+            Layer::Ipv6HopByHopHeader,
+        )),
+    };
+    check(&rt, rt.alloc(), &hop_by_hop)
+}
+
+#[test]
+fn faults_at_the_start(rt: HostRuntime) -> Result<(), Fail> {
+    let zero = Row {
+        name: "an authentication header with length 0",
+        start: 51,
+        bytes: &[17, 0, 0, 0, 0, 0, 0, 0, 0, 0, 0, 0],
+        headers: &[],
+        number: 51,
+        rest: &[17, 0, 0, 0, 0, 0, 0, 0, 0, 0, 0, 0],
+        fault: Some((
+            HeaderSliceError::Content(HeaderError::IpAuth(ip_auth::HeaderError::ZeroPayloadLen)),
+            Layer::IpAuthHeader,
+        )),
+    };
+    check(&rt, rt.alloc(), &zero)?;
+    let nothing = Row {
+        name: "hop by hop options are named, and there are no bytes",
+        start: 0,
+        bytes: &[],
+        headers: &[],
+        number: 0,
+        rest: &[],
+        fault: missing(8, 0, Layer::Ipv6ExtHeader, 0, Layer::Ipv6HopByHopHeader),
+    };
+    check(&rt, rt.alloc(), &nothing)
+}
+
+#[test]
+fn defaults(rt: HostRuntime) -> Result<(), Fail> {
+    let chain = Ipv6ExtensionsSlice::default();
+    assert!(rt; chain.is_empty());
+    assert_eq!(rt; chain.first_header(), None);
+    assert_eq!(rt; chain.slice(), [].as_slice());
+    let empty = chain.into_iter();
+    assert!(rt; empty != Ipv6ExtensionSliceIter::default());
+    assert!(rt; empty.clone()? == empty);
+    assert!(rt; Ipv6ExtensionSliceIter::default().next().is_none());
+    Ok(())
+}

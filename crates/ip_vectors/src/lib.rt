@@ -1,0 +1,12 @@
+//! Known answers, held against the crates of the repository.
+#![tactic(auto)]
+
+pub mod parts;
+pub mod uses;
+
+#[cfg(test)]
+mod base;
+#[cfg(test)]
+mod chains;
+#[cfg(test)]
+mod header_slices;

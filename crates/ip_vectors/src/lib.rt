@@ -10,3 +10,5 @@ mod base;
 mod chains;
 #[cfg(test)]
 mod header_slices;
+#[cfg(test)]
+mod single_headers;

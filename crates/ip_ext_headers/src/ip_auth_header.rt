@@ -130,8 +130,20 @@ impl IpAuthHeader {
         ensures fault { IfErr result (λ e. auth_fault slice.now 0 ≡ Some e) }
     {
         let header = IpAuthHeaderSlice::from_slice(slice)?;
+        let next_header = header.next_header();
         let rest = &slice[header.slice().len()..];
-        Ok((header.to_header(), rest))
+        // Filled here, so that 1 KB is moved once on the way out.
+        let mut raw_icv = ArrayVec::new();
+        let _ = raw_icv.try_extend_from_slice(header.raw_icv());
+        Ok((
+            IpAuthHeader {
+                next_header,
+                spi: header.spi(),
+                sequence_number: header.sequence_number(),
+                raw_icv,
+            },
+            rest,
+        ))
     }
 
     /// The integrity check value with its padding, 0 to 1016 bytes.

@@ -118,8 +118,18 @@ impl Ipv6RawExtHeader {
         ensures fault { IfErr result (λ e. raw_fault slice.now 0 ≡ Some e) }
     {
         let header = Ipv6RawExtHeaderSlice::from_slice(slice)?;
+        let next_header = header.next_header();
         let rest = &slice[header.slice().len()..];
-        Ok((header.to_header(), rest))
+        // Filled here, so that 2 KB are moved once on the way out.
+        let mut payload = ArrayVec::new();
+        let _ = payload.try_extend_from_slice(header.payload());
+        Ok((
+            Ipv6RawExtHeader {
+                next_header,
+                payload,
+            },
+            rest,
+        ))
     }
 
     /// What follows the number and the length, 6 to 2046 bytes.

@@ -162,6 +162,7 @@ impl IpAuthHeader {
         ensures fault { IfErr result (λ e. icv_len_fault (length raw_icv.now) ≡ Some e) }
         ensures err { OnErr result (self.new ≡ self.old) }
     {
+        // Tested before a byte is touched.
         Self::check_icv_len(raw_icv.len())?;
         self.raw_icv.clear();
         let _ = self.raw_icv.try_extend_from_slice(raw_icv);

@@ -148,6 +148,7 @@ impl Ipv6RawExtHeader {
         ensures fault { IfErr result (λ e. payload_len_fault (length payload.now) ≡ Some e) }
         ensures err { OnErr result (self.new ≡ self.old) }
     {
+        // Tested before a byte is touched.
         Self::check_payload_len(payload.len())?;
         self.payload.clear();
         let _ = self.payload.try_extend_from_slice(payload);

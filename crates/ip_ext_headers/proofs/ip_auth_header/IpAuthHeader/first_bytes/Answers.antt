@@ -1,4 +1,4 @@
-use Rattle.std.proofs.Common.{rules, ◌≡◌, ◌<◌, ◌^◌, ◌%◌, ℕ, length, arith}
+use Rattle.std.proofs.Common.{arith}
 use Rattle.ip_ext_spec.specs.FieldsOf.{AuthFields}
 use Rattle.ip_ext_spec.specs.Spelling.{IsAuthSpelling}
 use Rattle.ip_ext_spec.proofs.SpellingLemmas.{auth_written, auth_written_spells}

@@ -1,4 +1,4 @@
-use Rattle.std.proofs.Common.{rules, ◌≡◌, ◌<◌, ◌^◌, ◌%◌, ◌/◌, ◌++◌, List, ℕ, length, arith, refl, cond}
+use Rattle.std.proofs.Common.{◌≡◌, arith, refl, cond}
 use Rattle.ip_ext_spec.specs.Header.{IsFragmentHeader}
 use Rattle.ip_ext_spec.specs.FieldsOf.{FragmentFields, fragment_fields}
 use Rattle.ip_ext_spec.specs.Cleared.{fragment_cleared}

@@ -99,6 +99,7 @@ impl Ipv6FragmentHeader {
     /// then its bytes stay as they were.
     pub fn write<A: Allocator>(&self, out: &mut Vec<u8, A>) -> Result<(), AllocError>
         ensures ok { OnOk result (Appends (IsFragmentSpelling self.now) out.old.items out.new.items) }
+        ensures len { OnOk result (vec_len out.new ≡ vec_len out.old + 8) }
         ensures err { OnErr result (out.new.items ≡ out.old.items) }
         ensures full { OnErr result (vec_capacity out.old < vec_len out.old + 8) }
         ensures capacity { vec_capacity out.old ≤ vec_capacity out.new }

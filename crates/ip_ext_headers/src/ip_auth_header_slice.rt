@@ -1,11 +1,17 @@
-ghost use Rattle.std.specs.Prelude.{◌≡◌, ℕ, List, IfOk, IfErr};
+ghost use Rattle.std.specs.Prelude.{◌≡◌, ◌≤◌, ℕ, List, length, IfOk, IfErr};
 ghost use Rattle.ip_ext_spec.specs.Front.{IsFront};
 ghost use Rattle.ip_ext_spec.specs.Header.{IsAuthHeader};
 ghost use Rattle.ip_ext_spec.specs.Fields.{next_number, security_index, sequence_number, check_value};
+ghost use Rattle.ip_ext_spec.specs.FieldsOf.{auth_fields};
 
+use crate::IpAuthHeader;
 use crate::err::ip_auth::{HeaderError, HeaderSliceError};
 use ip_base::err::{Layer, LenError};
 use ip_base::{IpNumber, LenSource};
+
+/// The name of this type in earlier versions of the interface.
+#[deprecated(note = "use `IpAuthHeaderSlice`")]
+pub type IpAuthenticationHeaderSlice<'a> = IpAuthHeaderSlice<'a>;
 
 /// One authentication header (RFC 4302, section 2), as a stretch of the caller's bytes. Two are equal where
 /// their bytes are.
@@ -13,6 +19,7 @@ use ip_base::{IpNumber, LenSource};
 pub struct IpAuthHeaderSlice<'a> {
     slice: &'a [u8],
     pub ghost header: { IsAuthHeader slice.now },
+    pub ghost few: { length slice.now ≤ 1028 },
 }
 
 impl<'a> IpAuthHeaderSlice<'a> {
@@ -59,6 +66,7 @@ impl<'a> IpAuthHeaderSlice<'a> {
     pub fn slice(&self) -> &'a [u8]
         ensures bytes { result.now ≡ bytes self.now }
         ensures header { IsAuthHeader result.now }
+        ensures few { length result.now ≤ 1028 }
     {
         self.slice
     }
@@ -89,6 +97,18 @@ impl<'a> IpAuthHeaderSlice<'a> {
         ensures { result.now ≡ check_value (bytes self.now) }
     {
         &self.slice[12..]
+    }
+
+    /// The same header, with bytes of its own.
+    pub fn to_header(&self) -> IpAuthHeader
+        ensures { result ≡ auth_fields (bytes self.now) }
+    {
+        IpAuthHeader::with_icv(
+            self.next_header(),
+            self.spi(),
+            self.sequence_number(),
+            self.raw_icv(),
+        )
     }
 }
 

@@ -2,7 +2,9 @@ ghost use Rattle.std.specs.Prelude.{◌≡◌, ℕ, List, IfOk, IfErr};
 ghost use Rattle.ip_ext_spec.specs.Front.{IsFront};
 ghost use Rattle.ip_ext_spec.specs.Header.{IsFragmentHeader};
 ghost use Rattle.ip_ext_spec.specs.Fields.{next_number, fragment_offset, has_more, identification, is_fragmenting};
+ghost use Rattle.ip_ext_spec.specs.FieldsOf.{fragment_fields};
 
+use crate::Ipv6FragmentHeader;
 use ip_base::err::{Layer, LenError};
 use ip_base::{IpFragOffset, IpNumber, LenSource};
 use std::alloc::AllocError;
@@ -81,6 +83,18 @@ impl<'a> Ipv6FragmentHeaderSlice<'a> {
         ensures { result ≡ is_fragmenting (bytes self.now) }
     {
         self.more_fragments() || self.fragment_offset().value() != 0
+    }
+
+    /// The same header, with fields of its own.
+    pub fn to_header(&self) -> Ipv6FragmentHeader
+        ensures { result ≡ fragment_fields (bytes self.now) }
+    {
+        Ipv6FragmentHeader {
+            next_header: self.next_header(),
+            fragment_offset: self.fragment_offset(),
+            more_fragments: self.more_fragments(),
+            identification: self.identification(),
+        }
     }
 }
 

@@ -1,11 +1,17 @@
-ghost use Rattle.std.specs.Prelude.{◌≡◌, ◌↔◌, ◌⊎◌, ℕ, List, IfOk, IfErr, IsTrue};
+ghost use Rattle.std.specs.Prelude.{◌≡◌, ◌≤◌, ◌↔◌, ◌⊎◌, ℕ, List, length, IfOk, IfErr, IsTrue};
 ghost use Rattle.ip_ext_spec.specs.Front.{IsFront};
 ghost use Rattle.ip_ext_spec.specs.Header.{IsRawHeader};
 ghost use Rattle.ip_ext_spec.specs.Fields.{next_number, raw_payload};
+ghost use Rattle.ip_ext_spec.specs.FieldsOf.{raw_fields};
 
+use crate::Ipv6RawExtHeader;
 use ip_base::err::{Layer, LenError};
 use ip_base::{IpNumber, LenSource, ip_number};
 use std::alloc::AllocError;
+
+/// The name of this type in earlier versions of the interface.
+#[deprecated(note = "use `Ipv6RawExtHeaderSlice`")]
+pub type Ipv6RawExtensionHeaderSlice<'a> = Ipv6RawExtHeaderSlice<'a>;
 
 /// One IPv6 header of the common layout (hop by hop options, routing or destination options; RFC 8200,
 /// sections 4.3, 4.4, 4.6), as a stretch of the caller's bytes. Two are equal where their bytes are.
@@ -13,6 +19,7 @@ use std::alloc::AllocError;
 pub struct Ipv6RawExtHeaderSlice<'a> {
     slice: &'a [u8],
     pub ghost header: { IsRawHeader slice.now },
+    pub ghost few: { length slice.now ≤ 2048 },
 }
 
 impl<'a> Ipv6RawExtHeaderSlice<'a> {
@@ -73,6 +80,7 @@ impl<'a> Ipv6RawExtHeaderSlice<'a> {
     pub fn slice(&self) -> &'a [u8]
         ensures bytes { result.now ≡ bytes self.now }
         ensures header { IsRawHeader result.now }
+        ensures few { length result.now ≤ 2048 }
     {
         self.slice
     }
@@ -89,6 +97,13 @@ impl<'a> Ipv6RawExtHeaderSlice<'a> {
         ensures { result.now ≡ raw_payload (bytes self.now) }
     {
         &self.slice[2..]
+    }
+
+    /// The same header, with bytes of its own.
+    pub fn to_header(&self) -> Ipv6RawExtHeader
+        ensures { result ≡ raw_fields (bytes self.now) }
+    {
+        Ipv6RawExtHeader::with_payload(self.next_header(), self.payload())
     }
 }
 

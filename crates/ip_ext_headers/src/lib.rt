@@ -4,10 +4,16 @@
 #![tactic(auto)]
 
 pub mod err;
+mod ip_auth_header;
 mod ip_auth_header_slice;
+mod ipv6_fragment_header;
 mod ipv6_fragment_header_slice;
+mod ipv6_raw_ext_header;
 mod ipv6_raw_ext_header_slice;
 
-pub use ip_auth_header_slice::IpAuthHeaderSlice;
+pub use ip_auth_header::{IPv6AuthenticationHeader, IpAuthHeader, IpAuthenticationHeader};
+pub use ip_auth_header_slice::{IpAuthHeaderSlice, IpAuthenticationHeaderSlice};
+pub use ipv6_fragment_header::Ipv6FragmentHeader;
 pub use ipv6_fragment_header_slice::Ipv6FragmentHeaderSlice;
-pub use ipv6_raw_ext_header_slice::Ipv6RawExtHeaderSlice;
+pub use ipv6_raw_ext_header::{Ipv6RawExtHeader, Ipv6RawExtensionHeader};
+pub use ipv6_raw_ext_header_slice::{Ipv6RawExtHeaderSlice, Ipv6RawExtensionHeaderSlice};

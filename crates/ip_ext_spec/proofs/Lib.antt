@@ -3,3 +3,4 @@ pub mod HeaderLemmas
 pub mod LongestOfLemmas
 pub mod ChainLemmas
 pub mod ReadLemmas
+pub mod SpellingLemmas

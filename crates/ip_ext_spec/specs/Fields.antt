@@ -18,13 +18,20 @@ fragment_offset b = 32 * slice_index b 2 + bit_and (slice_index b 3) 0x1f
 abbrev pub has_more : List ℕ → Bool
 has_more b = not (bit_and (slice_index b 3) 0x80 == 0)
 
+-- byte 3 with its reserved bits put to zero
+abbrev pub unreserved_bits : ℕ → ℕ
+unreserved_bits x = bit_and x 0x9f
+
 -- the packet's identification (RFC 8200, section 4.5)
 abbrev pub identification : List ℕ → ℕ
 identification b = from_be_bytes w32 (slice_range b 4 8)
 
--- the packet is a piece of a payload, and not the whole
+-- The packet has a piece of a payload, and not the whole: more follow, or it doesn't begin the payload.
+abbrev pub is_piece : Bool → ℕ → Bool
+is_piece more offset = more || not (offset == 0)
+
 abbrev pub is_fragmenting : List ℕ → Bool
-is_fragmenting b = has_more b || not (fragment_offset b == 0)
+is_fragmenting b = is_piece (has_more b) (fragment_offset b)
 
 -- of an authentication header (RFC 4302, sections 2.4 to 2.6): the security parameters index, the
 -- sequence number and the integrity check value

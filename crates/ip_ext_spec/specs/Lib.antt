@@ -2,5 +2,9 @@ pub mod Front
 pub mod LongestOf
 pub mod Header
 pub mod Fields
+pub mod FieldsOf
+pub mod Cleared
+pub mod Spelling
+pub mod Reading
 pub mod Chain
 pub mod PlainHeader

@@ -3,7 +3,9 @@
 #![tactic(auto)]
 
 mod chain_laws;
+mod header_laws;
 mod plain;
 
 pub use chain_laws::{longest_chain_ends, one_longest_chain};
+pub use header_laws::{cleared_header_spells, one_reading, one_spelling, spelling_len};
 pub use plain::{PlainChain, PlainHeader, is_header, longest_chain, next_len};

@@ -6,14 +6,34 @@ use std::test::Fail;
 #[test]
 fn numbers_by_name(rt: HostRuntime) {
     let named = [
-        (IpNumber::IPV6_HEADER_HOP_BY_HOP, ip_number::IPV6_HOP_BY_HOP, 0),
+        (
+            IpNumber::IPV6_HEADER_HOP_BY_HOP,
+            ip_number::IPV6_HOP_BY_HOP,
+            0,
+        ),
         (IpNumber::UDP, ip_number::UDP, 17),
         (IpNumber::IPV6_ROUTE_HEADER, ip_number::IPV6_ROUTE, 43),
-        (IpNumber::IPV6_FRAGMENTATION_HEADER, ip_number::IPV6_FRAG, 44),
+        (
+            IpNumber::IPV6_FRAGMENTATION_HEADER,
+            ip_number::IPV6_FRAG,
+            44,
+        ),
         (IpNumber::AUTHENTICATION_HEADER, ip_number::AUTH, 51),
-        (IpNumber::AUTHENTICATION_HEADER, ip_number::AUTHENTICATION_HEADER, 51),
-        (IpNumber::IPV6_NO_NEXT_HEADER, ip_number::IPV6_NO_NEXT_HEADER, 59),
-        (IpNumber::IPV6_DESTINATION_OPTIONS, ip_number::IPV6_DEST_OPTIONS, 60),
+        (
+            IpNumber::AUTHENTICATION_HEADER,
+            ip_number::AUTHENTICATION_HEADER,
+            51,
+        ),
+        (
+            IpNumber::IPV6_NO_NEXT_HEADER,
+            ip_number::IPV6_NO_NEXT_HEADER,
+            59,
+        ),
+        (
+            IpNumber::IPV6_DESTINATION_OPTIONS,
+            ip_number::IPV6_DEST_OPTIONS,
+            60,
+        ),
         (IpNumber(135), ip_number::MOBILITY, 135),
         (IpNumber(139), ip_number::HIP, 139),
         (IpNumber(140), ip_number::SHIM6, 140),

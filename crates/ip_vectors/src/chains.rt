@@ -60,9 +60,16 @@ fn check_parse(rt: &impl Abort, row: &Row<'_>) -> Result<(), Fail> {
     let len = row.bytes.len().saturating_sub(row.rest.len());
     assert_eq!(rt; chain.slice(), &row.bytes[..len], "{name}");
     assert_eq!(rt; chain.is_empty(), row.headers.is_empty(), "{name}");
-    let first = if row.headers.is_empty() { None } else { Some(start) };
+    let first = if row.headers.is_empty() {
+        None
+    } else {
+        Some(start)
+    };
     assert_eq!(rt; chain.first_header(), first, "{name}");
-    match (Ipv6ExtensionsSlice::from_slice(start, row.bytes), &row.fault) {
+    match (
+        Ipv6ExtensionsSlice::from_slice(start, row.bytes),
+        &row.fault,
+    ) {
         (Ok(strict), None) => {
             assert!(rt; strict.0 == chain, "{name}");
             assert_eq!(rt; strict.1, number, "{name}");
@@ -75,7 +82,11 @@ fn check_parse(rt: &impl Abort, row: &Row<'_>) -> Result<(), Fail> {
 }
 
 /// The iterator yields the row's headers, and then nothing for ever.
-fn check_iterator(rt: &impl Abort, row: &Row<'_>, chain: Ipv6ExtensionsSlice<'_>) -> Result<(), Fail> {
+fn check_iterator(
+    rt: &impl Abort,
+    row: &Row<'_>,
+    chain: Ipv6ExtensionsSlice<'_>,
+) -> Result<(), Fail> {
     let name = row.name;
     let mut headers = chain.into_iter();
     for expected in row.headers {
@@ -155,8 +166,8 @@ fn headers_of_one_kind(rt: HostRuntime) -> Result<(), Fail> {
 #[test]
 fn headers_of_all_kinds(rt: HostRuntime) -> Result<(), Fail> {
     let bytes = [
-        60, 0, 0, 0, 0, 0, 0, 0, 43, 0, 0, 0, 0, 0, 0, 0, 44, 0, 0, 0, 0, 0, 0, 0, 51, 0, 0, 1, 0, 0, 0, 0, 60, 1, 0,
-        0, 0, 0, 0, 0, 0, 0, 0, 0, 17, 0, 0, 0, 0, 0, 0, 0, 9, 9,
+        60, 0, 0, 0, 0, 0, 0, 0, 43, 0, 0, 0, 0, 0, 0, 0, 44, 0, 0, 0, 0, 0, 0, 0, 51, 0, 0, 1, 0,
+        0, 0, 0, 60, 1, 0, 0, 0, 0, 0, 0, 0, 0, 0, 0, 17, 0, 0, 0, 0, 0, 0, 0, 9, 9,
     ];
     let row = Row {
         name: "one header of each kind and destination options again",

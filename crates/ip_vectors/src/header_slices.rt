@@ -19,15 +19,31 @@ fn missing(required_len: usize, len: usize, layer: Layer) -> LenError {
 fn authentication_faults_in_order(rt: HostRuntime) {
     let mut bytes = [0u8; 1028];
     let short = Err(HeaderSliceError::Len(missing(12, 11, Layer::IpAuthHeader)));
-    assert_eq!(rt; IpAuthHeaderSlice::from_slice(&bytes[..11]), short, "too short for the test of the length");
+    assert_eq!(rt;
+        IpAuthHeaderSlice::from_slice(&bytes[..11]),
+        short,
+        "too short for the test of the length"
+    );
     let zero = Err(HeaderSliceError::Content(HeaderError::ZeroPayloadLen));
-    assert_eq!(rt; IpAuthHeaderSlice::from_slice(&bytes[..12]), zero, "a length of zero");
+    assert_eq!(rt;
+        IpAuthHeaderSlice::from_slice(&bytes[..12]),
+        zero,
+        "a length of zero"
+    );
     bytes[1] = 2;
     let longer = Err(HeaderSliceError::Len(missing(16, 12, Layer::IpAuthHeader)));
-    assert_eq!(rt; IpAuthHeaderSlice::from_slice(&bytes[..12]), longer, "longer than the bytes");
+    assert_eq!(rt;
+        IpAuthHeaderSlice::from_slice(&bytes[..12]),
+        longer,
+        "longer than the bytes"
+    );
     bytes[1] = 255;
     let one_less = Err(HeaderSliceError::Len(missing(1028, 1027, Layer::IpAuthHeader)));
-    assert_eq!(rt; IpAuthHeaderSlice::from_slice(&bytes[..1027]), one_less, "one byte less than the longest");
+    assert_eq!(rt;
+        IpAuthHeaderSlice::from_slice(&bytes[..1027]),
+        one_less,
+        "one byte less than the longest"
+    );
 }
 
 #[test]
@@ -88,6 +104,10 @@ fn fragmenting_or_not(rt: HostRuntime) -> Result<(), Fail> {
 fn raw_layout_by_number(rt: HostRuntime) {
     for number in 0..=255u8 {
         let expected = matches!(number, 0 | 43 | 60 | 135 | 139 | 140);
-        assert_eq!(rt; Ipv6RawExtHeaderSlice::header_type_supported(IpNumber(number)), expected, "{number}");
+        assert_eq!(rt;
+            Ipv6RawExtHeaderSlice::header_type_supported(IpNumber(number)),
+            expected,
+            "{number}"
+        );
     }
 }

@@ -1,12 +1,14 @@
 //! Known answers, held against the crates of the repository.
 #![tactic(auto)]
 
-pub mod parts;
-pub mod uses;
-
 #[cfg(test)]
 mod base;
 #[cfg(test)]
 mod chains;
 #[cfg(test)]
 mod header_slices;
+pub mod header_uses;
+pub mod parts;
+#[cfg(test)]
+mod single_headers;
+pub mod uses;

@@ -1,2 +1,3 @@
 //! Errors of single headers.
 pub mod ip_auth;
+pub mod ipv6_exts;

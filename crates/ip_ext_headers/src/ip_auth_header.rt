@@ -1,0 +1,286 @@
+ghost use Rattle.std.specs.Prelude.{◌≡◌, ◌≤◌, ◌<◌, ◌+◌, ◌*◌, ◌++◌, [], ◌∷◌, ◌↔◌, ℕ, List, length, IsOk, OnOk, OnErr, IfOk, IfErr, vec_len, vec_capacity};
+ghost use Rattle.std.specs.Int.{to_be_bytes, w32};
+ghost use Rattle.ip_ext_spec.specs.Front.{IsFront};
+ghost use Rattle.ip_ext_spec.specs.Header.{IsAuthHeader};
+ghost use Rattle.ip_ext_spec.specs.FieldsOf.{auth_len};
+ghost use Rattle.ip_ext_spec.specs.Spelling.{Appends, IsAuthSpelling};
+ghost use Rattle.ip_ext_spec.specs.Reading.{IsAuthReading};
+
+use crate::IpAuthHeaderSlice;
+use crate::err::ip_auth::{HeaderSliceError, IcvLenError};
+use arrayvec::ArrayVec;
+use ip_base::IpNumber;
+use std::alloc::{AllocError, Allocator};
+use std::marker::Model;
+
+/// The name of this type in early versions of the interface.
+#[deprecated(note = "use `IpAuthHeader`")]
+pub type IPv6AuthenticationHeader = IpAuthHeader;
+
+/// The name of this type in earlier versions of the interface.
+#[deprecated(note = "use `IpAuthHeader`")]
+pub type IpAuthenticationHeader = IpAuthHeader;
+
+/// An authentication header (RFC 4302, section 2). Its integrity check value with its padding has 0 to 1016
+/// bytes, in whole units of 4. In a contract it is the record of its four fields.
+#[derive(Debug, Drop)]
+pub struct IpAuthHeader {
+    /// The number of what follows the header.
+    pub next_header: IpNumber,
+    /// The security parameters index, which tells the receiver its association with the sender.
+    pub spi: u32,
+    /// The sender's count of packets.
+    pub sequence_number: u32,
+    raw_icv: ArrayVec<u8, 1016>,
+}
+
+impl Model for IpAuthHeader {
+    ghost use Rattle.std.specs.Prelude.{length};
+    ghost use Rattle.ip_ext_spec.specs.FieldsOf.{AuthFields};
+    ghost use Rattle.ip_ext_headers.specs.Lengths.{IsIcvLen};
+
+    ghost Value = { AuthFields };
+
+    ghost view = { λ h. record { next_header = h.next_header.0; spi = h.spi; sequence_number = h.sequence_number; raw_icv = h.raw_icv.items } };
+
+    ghost invariant = { λ h. IsIcvLen (length h.raw_icv.items) };
+
+    ghost inverse = { λ v. record { next_header = record { 0 = v.next_header }; spi = v.spi; sequence_number = v.sequence_number; raw_icv = record { items = v.raw_icv } } };
+}
+
+impl IpAuthHeader {
+    ghost use Rattle.ip_ext_headers.specs.Fault.{auth_fault};
+    ghost use Rattle.ip_ext_headers.specs.Lengths.{IsIcvLen, icv_len_fault};
+
+    /// The smallest header, in bytes.
+    pub const MIN_LEN: usize = 12;
+
+    /// The largest header, in bytes: 257 units of 4.
+    pub const MAX_LEN: usize = 1028;
+
+    /// The largest integrity check value, in bytes.
+    pub const MAX_ICV_LEN: usize = 1016;
+
+    /// The header with these fields. The error tells, in this order, that the check value has more than 1016
+    /// bytes, or no whole units of 4.
+    pub fn new(
+        next_header: IpNumber,
+        spi: u32,
+        sequence_number: u32,
+        raw_icv: &[u8],
+    ) -> Result<IpAuthHeader, IcvLenError>
+        ensures allowed { IsOk result ↔ IsIcvLen (length raw_icv.now) }
+        ensures value { IfOk result (λ h. h ≡ record {
+          next_header = next_header.0;
+          spi = spi;
+          sequence_number = sequence_number;
+          raw_icv = raw_icv.now;
+        }) }
+        ensures fault { IfErr result (λ e. icv_len_fault (length raw_icv.now) ≡ Some e) }
+    {
+        Self::check_icv_len(raw_icv.len())?;
+        Ok(Self::with_icv(next_header, spi, sequence_number, raw_icv))
+    }
+
+    /// The header with these fields, the check value of an allowed length.
+    pub(crate) fn with_icv(
+        next_header: IpNumber,
+        spi: u32,
+        sequence_number: u32,
+        raw_icv: &[u8],
+    ) -> IpAuthHeader
+        requires { IsIcvLen (length raw_icv.now) }
+        ensures { result ≡ record {
+          next_header = next_header.0;
+          spi = spi;
+          sequence_number = sequence_number;
+          raw_icv = raw_icv.now;
+        } }
+    {
+        let mut bytes = ArrayVec::new();
+        let _ = bytes.try_extend_from_slice(raw_icv);
+        IpAuthHeader {
+            next_header,
+            spi,
+            sequence_number,
+            raw_icv: bytes,
+        }
+    }
+
+    /// Whether a check value may have this many bytes.
+    fn check_icv_len(len: usize) -> Result<(), IcvLenError>
+        ensures allowed { IsOk result ↔ IsIcvLen len }
+        ensures fault { IfErr result (λ e. icv_len_fault len ≡ Some e) }
+    {
+        if len > Self::MAX_ICV_LEN {
+            return Err(IcvLenError::TooBig(len));
+        }
+        if len % 4 != 0 {
+            return Err(IcvLenError::Unaligned(len));
+        }
+        Ok(())
+    }
+
+    /// The header that begins the slice, and what is behind it. The error tells, in this order, that there
+    /// are fewer than 12 bytes, that the length field is 0, or that there are fewer bytes than the header's
+    /// own length.
+    pub fn from_slice(slice: &[u8]) -> Result<(IpAuthHeader, &[u8]), HeaderSliceError>
+        ensures reading { IfOk result (λ p. IsAuthReading slice.now p.0 p.1.now) }
+        ensures none { IfErr result (λ _. (b : List ℕ) → IsAuthHeader b → IsFront b slice.now → ⊥) }
+        ensures fault { IfErr result (λ e. auth_fault slice.now 0 ≡ Some e) }
+    {
+        let header = IpAuthHeaderSlice::from_slice(slice)?;
+        let next_header = header.next_header();
+        let rest = &slice[header.slice().len()..];
+        // Filled here, so that 1 KB is moved once on the way out.
+        let mut raw_icv = ArrayVec::new();
+        let _ = raw_icv.try_extend_from_slice(header.raw_icv());
+        Ok((
+            IpAuthHeader {
+                next_header,
+                spi: header.spi(),
+                sequence_number: header.sequence_number(),
+                raw_icv,
+            },
+            rest,
+        ))
+    }
+
+    /// The integrity check value with its padding, 0 to 1016 bytes.
+    pub fn raw_icv(&self) -> &[u8]
+        ensures icv { result.now ≡ self.now.raw_icv }
+        ensures allowed { IsIcvLen (length result.now) }
+    {
+        self.raw_icv.as_slice()
+    }
+
+    /// Sets the check value. The error tells, in this order, that it has more than 1016 bytes, or no whole
+    /// units of 4; then the header is as it was.
+    pub fn set_raw_icv(&mut self, raw_icv: &[u8]) -> Result<(), IcvLenError>
+        ensures allowed { IsOk result ↔ IsIcvLen (length raw_icv.now) }
+        ensures ok { OnOk result (self.new ≡ record self.old { raw_icv = raw_icv.now }) }
+        ensures fault { IfErr result (λ e. icv_len_fault (length raw_icv.now) ≡ Some e) }
+        ensures err { OnErr result (self.new ≡ self.old) }
+    {
+        // Tested before a byte is touched.
+        Self::check_icv_len(raw_icv.len())?;
+        self.raw_icv.clear();
+        let _ = self.raw_icv.try_extend_from_slice(raw_icv);
+        Ok(())
+    }
+
+    /// The header's bytes, with reserved bytes zero. Read back, also with more bytes behind them, they give
+    /// this header.
+    pub fn to_bytes(&self) -> ArrayVec<u8, 1028>
+        ensures spelling { IsAuthSpelling self.now result.items }
+        ensures len { length result.items ≡ auth_len self.now }
+        ensures read_back { (r : List ℕ) → IsAuthReading (result.items ++ r) self.now r }
+    {
+        let mut bytes = ArrayVec::new();
+        let _ = bytes.try_extend_from_slice(&self.first_bytes());
+        let _ = bytes.try_extend_from_slice(self.raw_icv.as_slice());
+        bytes
+    }
+
+    /// Appends the header's bytes. It refuses only where the vector has no room for them and can't grow;
+    /// then its bytes stay as they were.
+    pub fn write<A: Allocator>(&self, out: &mut Vec<u8, A>) -> Result<(), AllocError>
+        ensures ok { OnOk result (Appends (IsAuthSpelling self.now) out.old.items out.new.items) }
+        ensures len { OnOk result (vec_len out.new ≡ vec_len out.old + auth_len self.now) }
+        ensures err { OnErr result (out.new.items ≡ out.old.items) }
+        ensures full { OnErr result (vec_capacity out.old < vec_len out.old + auth_len self.now) }
+        ensures capacity { vec_capacity out.old ≤ vec_capacity out.new }
+    {
+        out.reserve(self.header_len())?;
+        out.extend_from_slice(&self.first_bytes())?;
+        out.extend_from_slice(self.raw_icv.as_slice())
+    }
+
+    /// The number of the header's bytes, 12 to 1028.
+    pub fn header_len(&self) -> usize
+        ensures len { result ≡ auth_len self.now }
+        ensures least { 12 ≤ result }
+        ensures most { result ≤ 1028 }
+    {
+        self.raw_icv.len() + 12
+    }
+
+    /// What stands before the check value.
+    fn first_bytes(&self) -> [u8; 12]
+        ensures { IsAuthSpelling self.now (result ++ self.now.raw_icv) }
+    {
+        let spi = self.spi;
+        let sequence_number = self.sequence_number;
+        let [spi0, spi1, spi2, spi3] = spi.to_be_bytes();
+        let [seq0, seq1, seq2, seq3] = sequence_number.to_be_bytes();
+        [
+            self.next_header.0,
+            (self.raw_icv.len() / 4) as u8 + 1,
+            0,
+            0,
+            spi0,
+            spi1,
+            spi2,
+            spi3,
+            seq0,
+            seq1,
+            seq2,
+            seq3,
+        ]
+    }
+}
+
+impl Clone for IpAuthHeader {
+    ghost use Rattle.std.specs.Prelude.{⊤, ◌≡◌};
+
+    ghost is_clone = { λ h copy. copy ≡ h };
+
+    ghost is_infallible = { λ _. ⊤ };
+
+    fn clone(&self) -> Result<IpAuthHeader, AllocError> {
+        Ok(Self::with_icv(
+            self.next_header,
+            self.spi,
+            self.sequence_number,
+            self.raw_icv(),
+        ))
+    }
+}
+
+impl Default for IpAuthHeader {
+    ghost use Rattle.std.specs.Prelude.{◌≡◌, []};
+
+    ghost is_default = { λ h. h ≡ record { next_header = 255; spi = 0; sequence_number = 0; raw_icv = [] } };
+
+    fn default() -> IpAuthHeader {
+        Self::with_icv(IpNumber(255), 0, 0, &[])
+    }
+}
+
+impl PartialEq for IpAuthHeader {
+    ghost use Rattle.std.specs.Prelude.{◌≡◌, ◌↔◌, IsTrue};
+    ghost use Rattle.std.specs.Cmp.Rules.{comparing};
+    ghost use Rattle.std.proofs.Common.{rules};
+    ghost use Rattle.ip_ext_headers.specs.Equal.{auth_equal};
+
+    ghost eq = { auth_equal };
+
+    ghost laws = { Prim.search (comparing, rules) };
+
+    fn eq(&self, other: &Self) -> bool
+        ensures answer { result ≡ auth_equal self.now other.now }
+        ensures same { IsTrue result ↔ (self.now ≡ other.now) }
+    {
+        self.next_header == other.next_header
+            && self.spi == other.spi
+            && self.sequence_number == other.sequence_number
+            && self.raw_icv() == other.raw_icv()
+    }
+}
+
+impl Eq for IpAuthHeader {
+    ghost use Rattle.std.specs.Cmp.Rules.{comparing};
+    ghost use Rattle.std.proofs.Common.{rules};
+
+    ghost laws = { Prim.search (comparing, rules) };
+}

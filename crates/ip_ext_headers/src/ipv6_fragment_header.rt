@@ -1,0 +1,170 @@
+ghost use Rattle.std.specs.Prelude.{◌≡◌, ◌≤◌, ◌<◌, ◌+◌, ◌++◌, ℕ, List, OnOk, OnErr, IfOk, IfErr, vec_len, vec_capacity};
+ghost use Rattle.ip_ext_spec.specs.Front.{IsFront};
+ghost use Rattle.ip_ext_spec.specs.Header.{IsFragmentHeader};
+ghost use Rattle.ip_ext_spec.specs.Fields.{is_piece};
+ghost use Rattle.ip_ext_spec.specs.Spelling.{Appends, IsFragmentSpelling};
+ghost use Rattle.ip_ext_spec.specs.Reading.{IsFragmentReading};
+
+use crate::Ipv6FragmentHeaderSlice;
+use ip_base::err::LenError;
+use ip_base::{IpFragOffset, IpNumber};
+use std::alloc::{AllocError, Allocator};
+use std::marker::Model;
+
+/// An IPv6 fragment header (RFC 8200, section 4.5). In a contract it is the record of its four fields.
+#[derive(Debug, Drop)]
+pub struct Ipv6FragmentHeader {
+    /// The number of what follows the header.
+    pub next_header: IpNumber,
+    /// Where the fragment lies in the payload, in units of 8 bytes.
+    pub fragment_offset: IpFragOffset,
+    /// Whether more fragments of the payload follow.
+    pub more_fragments: bool,
+    /// The number that the fragments of one packet share.
+    pub identification: u32,
+}
+
+impl Model for Ipv6FragmentHeader {
+    ghost use Rattle.ip_ext_spec.specs.FieldsOf.{FragmentFields};
+
+    ghost Value = { FragmentFields };
+
+    ghost view = { λ h. record { next_header = h.next_header.0; fragment_offset = h.fragment_offset; more_fragments = h.more_fragments; identification = h.identification } };
+
+    ghost inverse = { λ v. record { next_header = record { 0 = v.next_header }; fragment_offset = v.fragment_offset; more_fragments = v.more_fragments; identification = v.identification } };
+}
+
+impl Ipv6FragmentHeader {
+    ghost use Rattle.ip_ext_headers.specs.Fault.{fragment_fault};
+
+    /// The length of each fragment header, in bytes.
+    pub const LEN: usize = 8;
+
+    /// The header with these fields.
+    pub fn new(
+        next_header: IpNumber,
+        fragment_offset: IpFragOffset,
+        more_fragments: bool,
+        identification: u32,
+    ) -> Ipv6FragmentHeader
+        ensures { result ≡ record {
+          next_header = next_header.0;
+          fragment_offset = fragment_offset;
+          more_fragments = more_fragments;
+          identification = identification;
+        } }
+    {
+        Ipv6FragmentHeader {
+            next_header,
+            fragment_offset,
+            more_fragments,
+            identification,
+        }
+    }
+
+    /// The header that begins the slice, and what is behind it. The error tells that there are fewer than 8
+    /// bytes.
+    pub fn from_slice(slice: &[u8]) -> Result<(Ipv6FragmentHeader, &[u8]), LenError>
+        ensures reading { IfOk result (λ p. IsFragmentReading slice.now p.0 p.1.now) }
+        ensures none { IfErr result (λ _. (b : List ℕ) → IsFragmentHeader b → IsFront b slice.now → ⊥) }
+        ensures fault { IfErr result (λ e. fragment_fault slice.now 0 ≡ Some e) }
+    {
+        let header = Ipv6FragmentHeaderSlice::from_slice(slice)?;
+        let rest = &slice[header.slice().len()..];
+        Ok((header.to_header(), rest))
+    }
+
+    /// The header's bytes, with reserved bits zero. Read back, also with more bytes behind them, they give
+    /// this header.
+    pub fn to_bytes(&self) -> [u8; 8]
+        ensures spelling { IsFragmentSpelling self.now result }
+        ensures read_back { (r : List ℕ) → IsFragmentReading (result ++ r) self.now r }
+    {
+        let offset = self.fragment_offset.value();
+        let flag = if self.more_fragments { 0b1000_0000 } else { 0 };
+        let [id0, id1, id2, id3] = self.identification.to_be_bytes();
+        [
+            self.next_header.0,
+            0,
+            (offset / 32) as u8,
+            (offset % 32) as u8 + flag,
+            id0,
+            id1,
+            id2,
+            id3,
+        ]
+    }
+
+    /// Appends the header's bytes. It refuses only where the vector has no room for them and can't grow;
+    /// then its bytes stay as they were.
+    pub fn write<A: Allocator>(&self, out: &mut Vec<u8, A>) -> Result<(), AllocError>
+        ensures ok { OnOk result (Appends (IsFragmentSpelling self.now) out.old.items out.new.items) }
+        ensures len { OnOk result (vec_len out.new ≡ vec_len out.old + 8) }
+        ensures err { OnErr result (out.new.items ≡ out.old.items) }
+        ensures full { OnErr result (vec_capacity out.old < vec_len out.old + 8) }
+        ensures capacity { vec_capacity out.old ≤ vec_capacity out.new }
+    {
+        out.reserve(self.header_len())?;
+        out.extend_from_slice(&self.to_bytes())
+    }
+
+    /// The number of the header's bytes.
+    pub fn header_len(&self) -> usize
+        ensures { result ≡ 8 }
+    {
+        Self::LEN
+    }
+
+    /// Whether the packet has a piece of the payload and not the whole: more fragments follow, or the offset
+    /// isn't 0.
+    pub fn is_fragmenting_payload(&self) -> bool
+        ensures { result ≡ is_piece self.now.more_fragments self.now.fragment_offset }
+    {
+        self.more_fragments || self.fragment_offset.value() != 0
+    }
+}
+
+impl Clone for Ipv6FragmentHeader {
+    ghost use Rattle.std.specs.Prelude.{⊤, ◌≡◌};
+
+    ghost is_clone = { λ h copy. copy ≡ h };
+
+    ghost is_infallible = { λ _. ⊤ };
+
+    fn clone(&self) -> Result<Ipv6FragmentHeader, AllocError> {
+        Ok(Self::new(
+            self.next_header,
+            self.fragment_offset,
+            self.more_fragments,
+            self.identification,
+        ))
+    }
+}
+
+impl PartialEq for Ipv6FragmentHeader {
+    ghost use Rattle.std.specs.Prelude.{◌≡◌, ◌↔◌, IsTrue};
+    ghost use Rattle.std.specs.Cmp.Rules.{comparing};
+    ghost use Rattle.std.proofs.Common.{rules};
+    ghost use Rattle.ip_ext_headers.specs.Equal.{fragment_equal};
+
+    ghost eq = { fragment_equal };
+
+    ghost laws = { Prim.search (comparing, rules) };
+
+    fn eq(&self, other: &Self) -> bool
+        ensures answer { result ≡ fragment_equal self.now other.now }
+        ensures same { IsTrue result ↔ (self.now ≡ other.now) }
+    {
+        self.next_header == other.next_header
+            && self.fragment_offset == other.fragment_offset
+            && self.more_fragments == other.more_fragments
+            && self.identification == other.identification
+    }
+}
+
+impl Eq for Ipv6FragmentHeader {
+    ghost use Rattle.std.specs.Cmp.Rules.{comparing};
+    ghost use Rattle.std.proofs.Common.{rules};
+
+    ghost laws = { Prim.search (comparing, rules) };
+}

@@ -1,0 +1,248 @@
+ghost use Rattle.std.specs.Prelude.{◌≡◌, ◌≤◌, ◌<◌, ◌+◌, ◌*◌, ◌++◌, ◌↔◌, ◌⊎◌, ℕ, List, length, replicate, IsTrue, IsOk, OnOk, OnErr, IfOk, IfErr, vec_len, vec_capacity};
+ghost use Rattle.ip_ext_spec.specs.Front.{IsFront};
+ghost use Rattle.ip_ext_spec.specs.Header.{IsRawHeader};
+ghost use Rattle.ip_ext_spec.specs.FieldsOf.{raw_fields, raw_len};
+ghost use Rattle.ip_ext_spec.specs.Spelling.{Appends, IsRawSpelling};
+ghost use Rattle.ip_ext_spec.specs.Reading.{IsRawReading};
+
+use crate::Ipv6RawExtHeaderSlice;
+use crate::err::ipv6_exts::ExtPayloadLenError;
+use arrayvec::ArrayVec;
+use ip_base::IpNumber;
+use ip_base::err::LenError;
+use std::alloc::{AllocError, Allocator};
+use std::marker::Model;
+
+/// The name of this type in earlier versions of the interface.
+#[deprecated(note = "use `Ipv6RawExtHeader`")]
+pub type Ipv6RawExtensionHeader = Ipv6RawExtHeader;
+
+/// An IPv6 header of the common layout: hop by hop options, routing or destination options (RFC 8200,
+/// sections 4.3, 4.4, 4.6). Its payload, which is what follows the number and the length, has 6 to 2046 bytes,
+/// and with those two whole units of 8. In a contract it is the record of its next number and its payload.
+#[derive(Debug, Drop)]
+pub struct Ipv6RawExtHeader {
+    /// The number of what follows the header.
+    pub next_header: IpNumber,
+    payload: ArrayVec<u8, 2046>,
+}
+
+impl Model for Ipv6RawExtHeader {
+    ghost use Rattle.std.specs.Prelude.{length};
+    ghost use Rattle.ip_ext_spec.specs.FieldsOf.{RawFields};
+    ghost use Rattle.ip_ext_headers.specs.Lengths.{IsPayloadLen};
+
+    ghost Value = { RawFields };
+
+    ghost view = { λ h. record { next_header = h.next_header.0; payload = h.payload.items } };
+
+    ghost invariant = { λ h. IsPayloadLen (length h.payload.items) };
+
+    ghost inverse = { λ v. record { next_header = record { 0 = v.next_header }; payload = record { items = v.payload } } };
+}
+
+impl Ipv6RawExtHeader {
+    ghost use Rattle.ip_ext_headers.specs.Fault.{raw_fault};
+    ghost use Rattle.ip_ext_headers.specs.Lengths.{IsPayloadLen, payload_len_fault};
+
+    /// The smallest header, in bytes.
+    pub const MIN_LEN: usize = 8;
+
+    /// The largest header, in bytes: 256 units of 8.
+    pub const MAX_LEN: usize = 2048;
+
+    /// The smallest payload, in bytes.
+    pub const MIN_PAYLOAD_LEN: usize = 6;
+
+    /// The largest payload, in bytes.
+    pub const MAX_PAYLOAD_LEN: usize = 2046;
+
+    /// Whether headers of the number have this layout: hop by hop options, routing, destination options,
+    /// mobility, host identity protocol and shim6.
+    pub fn header_type_supported(next_header: IpNumber) -> bool
+        ensures { IsTrue result ↔ ((next_header.0 ≡ 0) ⊎ ((next_header.0 ≡ 43) ⊎ ((next_header.0 ≡ 60)
+            ⊎ ((next_header.0 ≡ 135) ⊎ ((next_header.0 ≡ 139) ⊎ (next_header.0 ≡ 140)))))) }
+    {
+        Ipv6RawExtHeaderSlice::header_type_supported(next_header)
+    }
+
+    /// The header with this next number and this payload. The error tells, in this order, that the payload
+    /// has fewer than 6 bytes, more than 2046, or with two more no whole units of 8.
+    pub fn new_raw(
+        next_header: IpNumber,
+        payload: &[u8],
+    ) -> Result<Ipv6RawExtHeader, ExtPayloadLenError>
+        ensures allowed { IsOk result ↔ IsPayloadLen (length payload.now) }
+        ensures value { IfOk result (λ h. h ≡ record { next_header = next_header.0; payload = payload.now }) }
+        ensures fault { IfErr result (λ e. payload_len_fault (length payload.now) ≡ Some e) }
+    {
+        Self::check_payload_len(payload.len())?;
+        Ok(Self::with_payload(next_header, payload))
+    }
+
+    /// The header with this next number and a payload of an allowed length.
+    pub(crate) fn with_payload(next_header: IpNumber, payload: &[u8]) -> Ipv6RawExtHeader
+        requires { IsPayloadLen (length payload.now) }
+        ensures { result ≡ record { next_header = next_header.0; payload = payload.now } }
+    {
+        let mut bytes = ArrayVec::new();
+        let _ = bytes.try_extend_from_slice(payload);
+        Ipv6RawExtHeader {
+            next_header,
+            payload: bytes,
+        }
+    }
+
+    /// Whether a payload may have this many bytes.
+    fn check_payload_len(len: usize) -> Result<(), ExtPayloadLenError>
+        ensures allowed { IsOk result ↔ IsPayloadLen len }
+        ensures fault { IfErr result (λ e. payload_len_fault len ≡ Some e) }
+    {
+        if len < Self::MIN_PAYLOAD_LEN {
+            return Err(ExtPayloadLenError::TooSmall(len));
+        }
+        if len > Self::MAX_PAYLOAD_LEN {
+            return Err(ExtPayloadLenError::TooBig(len));
+        }
+        if (len + 2) % 8 != 0 {
+            return Err(ExtPayloadLenError::Unaligned(len));
+        }
+        Ok(())
+    }
+
+    /// The header that begins the slice, and what is behind it. The error tells that there are fewer than 8
+    /// bytes, or fewer than the header's own length.
+    pub fn from_slice(slice: &[u8]) -> Result<(Ipv6RawExtHeader, &[u8]), LenError>
+        ensures reading { IfOk result (λ p. IsRawReading slice.now p.0 p.1.now) }
+        ensures none { IfErr result (λ _. (b : List ℕ) → IsRawHeader b → IsFront b slice.now → ⊥) }
+        ensures fault { IfErr result (λ e. raw_fault slice.now 0 ≡ Some e) }
+    {
+        let header = Ipv6RawExtHeaderSlice::from_slice(slice)?;
+        let next_header = header.next_header();
+        let rest = &slice[header.slice().len()..];
+        // Filled here, so that 2 KB are moved once on the way out.
+        let mut payload = ArrayVec::new();
+        let _ = payload.try_extend_from_slice(header.payload());
+        Ok((
+            Ipv6RawExtHeader {
+                next_header,
+                payload,
+            },
+            rest,
+        ))
+    }
+
+    /// What follows the number and the length, 6 to 2046 bytes.
+    pub fn payload(&self) -> &[u8]
+        ensures payload { result.now ≡ self.now.payload }
+        ensures allowed { IsPayloadLen (length result.now) }
+    {
+        self.payload.as_slice()
+    }
+
+    /// Sets the payload. The error tells, in this order, that it has fewer than 6 bytes, more than 2046, or
+    /// with two more no whole units of 8; then the header is as it was.
+    pub fn set_payload(&mut self, payload: &[u8]) -> Result<(), ExtPayloadLenError>
+        ensures allowed { IsOk result ↔ IsPayloadLen (length payload.now) }
+        ensures ok { OnOk result (self.new ≡ record self.old { payload = payload.now }) }
+        ensures fault { IfErr result (λ e. payload_len_fault (length payload.now) ≡ Some e) }
+        ensures err { OnErr result (self.new ≡ self.old) }
+    {
+        // Tested before a byte is touched.
+        Self::check_payload_len(payload.len())?;
+        self.payload.clear();
+        let _ = self.payload.try_extend_from_slice(payload);
+        Ok(())
+    }
+
+    /// The header's bytes. Read back, also with more bytes behind them, they give this header.
+    pub fn to_bytes(&self) -> ArrayVec<u8, 2048>
+        ensures spelling { IsRawSpelling self.now result.items }
+        ensures len { length result.items ≡ raw_len self.now }
+        ensures read_back { (r : List ℕ) → IsRawReading (result.items ++ r) self.now r }
+    {
+        let mut bytes = ArrayVec::new();
+        bytes.push(self.next_header.0);
+        bytes.push(self.length_byte());
+        let _ = bytes.try_extend_from_slice(self.payload.as_slice());
+        bytes
+    }
+
+    /// Appends the header's bytes. It refuses only where the vector has no room for them and can't grow;
+    /// then its bytes stay as they were.
+    pub fn write<A: Allocator>(&self, out: &mut Vec<u8, A>) -> Result<(), AllocError>
+        ensures ok { OnOk result (Appends (IsRawSpelling self.now) out.old.items out.new.items) }
+        ensures len { OnOk result (vec_len out.new ≡ vec_len out.old + raw_len self.now) }
+        ensures err { OnErr result (out.new.items ≡ out.old.items) }
+        ensures full { OnErr result (vec_capacity out.old < vec_len out.old + raw_len self.now) }
+        ensures capacity { vec_capacity out.old ≤ vec_capacity out.new }
+    {
+        out.reserve(self.header_len())?;
+        out.push_reserved(self.next_header.0);
+        out.push_reserved(self.length_byte());
+        out.extend_from_slice(self.payload.as_slice())
+    }
+
+    /// The number of the header's bytes, 8 to 2048.
+    pub fn header_len(&self) -> usize
+        ensures len { result ≡ raw_len self.now }
+        ensures least { 8 ≤ result }
+        ensures most { result ≤ 2048 }
+    {
+        self.payload.len() + 2
+    }
+
+    /// The units of 8 bytes after the first.
+    fn length_byte(&self) -> u8
+        ensures { raw_len self.now ≡ 8 * (result + 1) }
+    {
+        ((self.payload.len() - 6) / 8) as u8
+    }
+}
+
+impl Clone for Ipv6RawExtHeader {
+    ghost use Rattle.std.specs.Prelude.{⊤, ◌≡◌};
+
+    ghost is_clone = { λ h copy. copy ≡ h };
+
+    ghost is_infallible = { λ _. ⊤ };
+
+    fn clone(&self) -> Result<Ipv6RawExtHeader, AllocError> {
+        Ok(Self::with_payload(self.next_header, self.payload.as_slice()))
+    }
+}
+
+impl Default for Ipv6RawExtHeader {
+    ghost use Rattle.std.specs.Prelude.{◌≡◌, replicate};
+
+    ghost is_default = { λ h. h ≡ record { next_header = 255; payload = replicate 6 0 } };
+
+    fn default() -> Ipv6RawExtHeader {
+        Self::with_payload(IpNumber(255), &[0; 6])
+    }
+}
+
+impl PartialEq for Ipv6RawExtHeader {
+    ghost use Rattle.std.specs.Prelude.{◌≡◌, ◌↔◌, IsTrue};
+    ghost use Rattle.std.specs.Cmp.Rules.{comparing};
+    ghost use Rattle.std.proofs.Common.{rules};
+    ghost use Rattle.ip_ext_headers.specs.Equal.{raw_equal};
+
+    ghost eq = { raw_equal };
+
+    ghost laws = { Prim.search (comparing, rules) };
+
+    fn eq(&self, other: &Self) -> bool
+        ensures answer { result ≡ raw_equal self.now other.now }
+        ensures same { IsTrue result ↔ (self.now ≡ other.now) }
+    {
+        self.next_header == other.next_header && self.payload() == other.payload()
+    }
+}
+
+impl Eq for Ipv6RawExtHeader {
+    ghost use Rattle.std.specs.Cmp.Rules.{comparing};
+    ghost use Rattle.std.proofs.Common.{rules};
+
+    ghost laws = { Prim.search (comparing, rules) };
+}

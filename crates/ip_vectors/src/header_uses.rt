@@ -1,0 +1,65 @@
+//! Callers of the owned headers, proved from their public clauses alone.
+ghost use Rattle.std.specs.Prelude.{◌≡◌, ◌≤◌, ◌+◌, IsTrue, IsOk, OnOk, vec_len, vec_capacity};
+ghost use Rattle.ip_ext_spec.specs.FieldsOf.{raw_len, auth_len};
+ghost use Rattle.ip_ext_spec.specs.Spelling.{Appends, IsRawSpelling};
+
+use ip_base::IpNumber;
+use ip_ext_headers::{IpAuthHeader, Ipv6FragmentHeader, Ipv6RawExtHeader};
+use ip_ext_spec::one_reading;
+use std::alloc::AllocError;
+
+/// Appends the header with another next number, and leaves the header itself alone.
+pub fn write_before(
+    header: &Ipv6RawExtHeader,
+    next: IpNumber,
+    out: &mut Vec<u8>,
+) -> Result<(), AllocError>
+    ensures { OnOk result (Appends (IsRawSpelling (record header.now { next_header = next.0 })) out.old.items out.new.items) }
+{
+    let mut copy = header.clone()?;
+    copy.next_header = next;
+    copy.write(out)
+}
+
+/// Puts a number behind each of the three headers.
+pub fn relinked(
+    raw: &mut Ipv6RawExtHeader,
+    fragment: &mut Ipv6FragmentHeader,
+    auth: &mut IpAuthHeader,
+    next: IpNumber,
+)
+    ensures raw { raw.new ≡ record raw.old { next_header = next.0 } }
+    ensures fragment { fragment.new ≡ record fragment.old { next_header = next.0 } }
+    ensures auth { auth.new ≡ record auth.old { next_header = next.0 } }
+{
+    raw.next_header = next;
+    fragment.next_header = next;
+    auth.next_header = next;
+}
+
+/// Appends the three headers, one after the other, into room that was reserved for them. It can't refuse.
+pub fn write_three(
+    raw: &Ipv6RawExtHeader,
+    fragment: &Ipv6FragmentHeader,
+    auth: &IpAuthHeader,
+    out: &mut Vec<u8>,
+) -> Result<(), AllocError>
+    requires { vec_len out.old + raw_len raw.now + 8 + auth_len auth.now ≤ vec_capacity out.old }
+    ensures { IsOk result }
+{
+    raw.write(out)?;
+    fragment.write(out)?;
+    auth.write(out)
+}
+
+/// Whether the header's bytes are read as the header, with nothing behind it.
+pub fn is_read_back(header: &IpAuthHeader) -> bool
+    ensures { IsTrue result }
+{
+    one_reading();
+    let bytes = header.to_bytes();
+    match IpAuthHeader::from_slice(bytes.as_slice()) {
+        Ok((again, rest)) => again == *header && rest.is_empty(),
+        Err(_) => false,
+    }
+}

@@ -1,0 +1,342 @@
+//! Owned headers: read, made, changed and written.
+use arrayvec::ArrayVec;
+use ip_base::err::{Layer, LenError};
+use ip_base::{IpFragOffset, IpNumber, LenSource};
+use ip_ext_headers::err::ip_auth::{HeaderError, HeaderSliceError, IcvLenError};
+use ip_ext_headers::err::ipv6_exts::ExtPayloadLenError;
+use ip_ext_headers::{
+    IPv6AuthenticationHeader, IpAuthHeader, IpAuthHeaderSlice, IpAuthenticationHeader,
+    IpAuthenticationHeaderSlice, Ipv6FragmentHeader, Ipv6FragmentHeaderSlice, Ipv6RawExtHeader,
+    Ipv6RawExtHeaderSlice, Ipv6RawExtensionHeader, Ipv6RawExtensionHeaderSlice,
+};
+use linked_list_allocator::LocalHeap;
+use std::test::Fail;
+
+fn missing(required_len: usize, len: usize, layer: Layer) -> LenError {
+    LenError {
+        required_len,
+        len,
+        len_source: LenSource::Slice,
+        layer,
+        layer_start_offset: 0,
+    }
+}
+
+/// Bytes that differ from place to place, with the length byte, and with 1 and 2 from `end` on.
+fn bytes_with(length: u8, end: usize) -> [u8; 2050] {
+    let mut bytes = [0u8; 2050];
+    for (i, byte) in bytes.iter_mut().enumerate() {
+        *byte = (i % 251) as u8;
+    }
+    bytes[1] = length;
+    if end < 2049 {
+        bytes[end] = 1;
+        bytes[end + 1] = 2;
+    }
+    bytes
+}
+
+#[test]
+fn every_cut_of_raw_headers(rt: HostRuntime) -> Result<(), Fail> {
+    for length in [0u8, 1, 17, 254, 255] {
+        let end = 8 * (usize::from(length) + 1);
+        let bytes = bytes_with(length, end);
+        for cut in 0..end.min(2048) {
+            let required = if cut < 8 { 8 } else { end };
+            let fault = missing(required, cut, Layer::Ipv6ExtHeader);
+            match Ipv6RawExtHeader::from_slice(&bytes[..cut]) {
+                Ok(_) => assert!(rt; false, "{length}: {cut} bytes are enough"),
+                Err(e) => assert_eq!(rt; e, fault, "{length}, {cut}"),
+            }
+        }
+        let (header, rest) = Ipv6RawExtHeader::from_slice(&bytes[..end.min(2048) + 2])?;
+        assert_eq!(rt; rest, [1, 2].as_slice(), "{length}");
+        assert_eq!(rt; header.next_header, IpNumber(0), "{length}");
+        assert_eq!(rt; header.payload(), &bytes[2..end.min(2048)], "{length}");
+        assert_eq!(rt; header.header_len(), end, "{length}");
+        assert_eq!(rt;
+            header.to_bytes().as_slice(),
+            &bytes[..end.min(2048)],
+            "{length}"
+        );
+        assert!(rt; header.clone()? == header, "{length}");
+        let slice = Ipv6RawExtHeaderSlice::from_slice(&bytes)?;
+        assert!(rt; slice.to_header() == header, "{length}");
+        assert!(rt; slice.clone()? == slice, "{length}");
+    }
+    Ok(())
+}
+
+#[test]
+fn every_cut_of_authentication_headers(rt: HostRuntime) -> Result<(), Fail> {
+    for length in [0u8, 1, 2, 17, 18, 254, 255] {
+        let end = 4 * (usize::from(length) + 2);
+        let mut bytes = bytes_with(length, end);
+        for cut in 0..end.min(1028) {
+            let fault = if cut < 12 {
+                HeaderSliceError::Len(missing(12, cut, Layer::IpAuthHeader))
+            } else {
+                HeaderSliceError::Len(missing(end, cut, Layer::IpAuthHeader))
+            };
+            match IpAuthHeader::from_slice(&bytes[..cut]) {
+                Ok(_) => assert!(rt; false, "{length}: {cut} bytes are enough"),
+                Err(e) => assert_eq!(rt; e, fault, "{length}, {cut}"),
+            }
+        }
+        if length == 0 {
+            let zero = HeaderSliceError::Content(HeaderError::ZeroPayloadLen);
+            assert!(rt; matches!(IpAuthHeader::from_slice(&bytes), Err(e) if e == zero));
+            continue;
+        }
+        let (header, rest) = IpAuthHeader::from_slice(&bytes[..end.min(1028) + 2])?;
+        assert_eq!(rt; rest, [1, 2].as_slice(), "{length}");
+        assert_eq!(rt; header.next_header, IpNumber(0), "{length}");
+        assert_eq!(rt; header.spi, 0x0405_0607, "{length}");
+        assert_eq!(rt; header.sequence_number, 0x0809_0a0b, "{length}");
+        assert_eq!(rt;
+            header.raw_icv(),
+            &bytes[12..end.clamp(12, 1028)],
+            "{length}"
+        );
+        assert_eq!(rt; header.header_len(), end, "{length}");
+        assert!(rt; header.clone()? == header, "{length}");
+        let slice = IpAuthHeaderSlice::from_slice(&bytes)?;
+        assert!(rt; slice.to_header() == header, "{length}");
+        bytes[2] = 0;
+        bytes[3] = 0;
+        assert_eq!(rt;
+            header.to_bytes().as_slice(),
+            &bytes[..end.min(1028)],
+            "{length}"
+        );
+    }
+    Ok(())
+}
+
+#[test]
+fn made_and_written(rt: HostRuntime) -> Result<(), Fail> {
+    let mut out = Vec::new(rt.alloc());
+    let auth = IpAuthHeader::new(IpNumber(17), 1, 2, &[9, 8, 7, 6])?;
+    auth.write(&mut out)?;
+    let expected = [17, 2, 0, 0, 0, 0, 0, 1, 0, 0, 0, 2, 9, 8, 7, 6];
+    assert_eq!(rt; out.as_slice(), expected.as_slice(), "authentication");
+    assert_eq!(rt;
+        auth.to_bytes().as_slice(),
+        expected.as_slice(),
+        "authentication"
+    );
+    let mut out = Vec::new(rt.alloc());
+    let raw = Ipv6RawExtHeader::new_raw(IpNumber(17), &[1, 2, 3, 4, 5, 6])?;
+    raw.write(&mut out)?;
+    assert_eq!(rt;
+        out.as_slice(),
+        [17, 0, 1, 2, 3, 4, 5, 6].as_slice(),
+        "common layout"
+    );
+    let rows = [
+        (
+            "largest offset",
+            0x1fff,
+            false,
+            0,
+            [17, 0, 255, 31, 0, 0, 0, 0],
+        ),
+        (
+            "offset and flag",
+            1,
+            true,
+            0x0102_0304,
+            [17, 0, 0, 0x81, 1, 2, 3, 4],
+        ),
+    ];
+    for (name, offset, more, identification, expected) in rows {
+        let mut out = Vec::new(rt.alloc());
+        let offset = IpFragOffset::try_new(offset)?;
+        let header = Ipv6FragmentHeader::new(IpNumber(17), offset, more, identification);
+        assert_eq!(rt; header.to_bytes(), expected, "{name}");
+        header.write(&mut out)?;
+        assert_eq!(rt; out.as_slice(), expected.as_slice(), "{name}");
+        let (read, rest) = Ipv6FragmentHeader::from_slice(&expected)?;
+        assert!(rt; read == header && rest.is_empty(), "{name}");
+    }
+    Ok(())
+}
+
+#[test]
+fn reserved_bits_are_read_over_and_written_as_zero(rt: HostRuntime) -> Result<(), Fail> {
+    let bytes = [17, 0xff, 0, 0xe1, 1, 2, 3, 4, 5];
+    let (header, rest) = Ipv6FragmentHeader::from_slice(&bytes)?;
+    assert_eq!(rt; rest, [5].as_slice());
+    assert_eq!(rt; header.next_header, IpNumber(17));
+    assert_eq!(rt; header.fragment_offset.value(), 1);
+    assert!(rt; header.more_fragments && header.is_fragmenting_payload());
+    assert_eq!(rt; header.identification, 0x0102_0304);
+    assert_eq!(rt; header.to_bytes(), [17, 0, 0, 0x81, 1, 2, 3, 4]);
+    assert!(rt; header.clone()? == header);
+    assert!(rt; Ipv6FragmentHeaderSlice::from_slice(&bytes)?.to_header() == header);
+    for cut in 0..8usize {
+        match Ipv6FragmentHeader::from_slice(&bytes[..cut]) {
+            Ok(_) => assert!(rt; false, "{cut} bytes are enough"),
+            Err(e) => assert_eq!(rt; e, missing(8, cut, Layer::Ipv6FragHeader)),
+        }
+    }
+    Ok(())
+}
+
+#[test]
+fn fragmenting_or_not(rt: HostRuntime) -> Result<(), Fail> {
+    for (offset, more, fragments) in [(0, false, false), (0, true, true), (1, false, true)] {
+        let offset = IpFragOffset::try_new(offset)?;
+        let header = Ipv6FragmentHeader::new(IpNumber(17), offset, more, 123);
+        assert_eq!(rt; header.is_fragmenting_payload(), fragments);
+    }
+    Ok(())
+}
+
+#[test]
+fn refused_lengths(rt: HostRuntime) -> Result<(), Fail> {
+    let bytes = [1u8; 2047];
+    let mut auth = IpAuthHeader::new(IpNumber(17), 1, 2, &bytes[..8])?;
+    let rows = [
+        (&bytes[..3], IcvLenError::Unaligned(3)),
+        (&bytes[..1017], IcvLenError::TooBig(1017)),
+    ];
+    for (icv, fault) in rows {
+        assert!(rt; matches!(IpAuthHeader::new(IpNumber(17), 1, 2, icv), Err(e) if e == fault));
+        assert_eq!(rt; auth.set_raw_icv(icv), Err(fault));
+        assert_eq!(rt; auth.raw_icv(), [1; 8].as_slice());
+    }
+    let mut raw = Ipv6RawExtHeader::new_raw(IpNumber(17), &bytes[..14])?;
+    let rows = [
+        (&bytes[..5], ExtPayloadLenError::TooSmall(5)),
+        (&bytes[..7], ExtPayloadLenError::Unaligned(7)),
+        (&bytes[..2047], ExtPayloadLenError::TooBig(2047)),
+    ];
+    for (payload, fault) in rows {
+        assert!(rt;
+            matches!(Ipv6RawExtHeader::new_raw(IpNumber(17), payload), Err(e) if e == fault)
+        );
+        assert_eq!(rt; raw.set_payload(payload), Err(fault));
+        assert_eq!(rt; raw.payload(), [1; 14].as_slice());
+    }
+    Ok(())
+}
+
+#[test]
+fn shorter_bytes_replace_longer(rt: HostRuntime) -> Result<(), Fail> {
+    let mut auth = IpAuthHeader::new(IpNumber(17), 1, 2, &[1, 2, 3, 4, 5, 6, 7, 8])?;
+    auth.set_raw_icv(&[9, 8, 7, 6])?;
+    let other = IpAuthHeader::new(IpNumber(17), 1, 2, &[9, 8, 7, 6])?;
+    assert!(rt; auth == other);
+    assert_eq!(rt; auth.to_bytes().as_slice(), other.to_bytes().as_slice());
+    let mut raw = Ipv6RawExtHeader::new_raw(IpNumber(17), &[1; 14])?;
+    raw.set_payload(&[2; 6])?;
+    let other = Ipv6RawExtHeader::new_raw(IpNumber(17), &[2; 6])?;
+    assert!(rt; raw == other);
+    assert_eq!(rt; raw.to_bytes().as_slice(), other.to_bytes().as_slice());
+    raw.next_header = IpNumber(6);
+    assert!(rt; raw != other);
+    assert_eq!(rt;
+        raw.to_bytes().as_slice(),
+        [6, 0, 2, 2, 2, 2, 2, 2].as_slice()
+    );
+    Ok(())
+}
+
+#[test]
+fn write_refused_for_want_of_memory(rt: HostRuntime) -> Result<(), Fail> {
+    let auth = IpAuthHeader::new(IpNumber(17), 1, 2, &[7; 1016])?;
+    let raw = Ipv6RawExtHeader::new_raw(IpNumber(17), &[7; 2046])?;
+    let fragment = Ipv6FragmentHeader::new(IpNumber(17), IpFragOffset::try_new(1)?, true, 3);
+    // How many of the three writes, each over a heap of this size that holds three bytes, succeed.
+    for (size, expected) in [(64usize, 1), (1 << 11, 2), (1 << 14, 3)] {
+        let mut succeeded = 0u32;
+        for which in 0..3u8 {
+            let heap = LocalHeap::new(rt.alloc(), size)?;
+            let mut out: Vec<u8, &LocalHeap> = Vec::from_slice(&heap, &[1, 2, 3])?;
+            let (result, len) = match which {
+                0 => (auth.write(&mut out), auth.header_len()),
+                1 => (raw.write(&mut out), raw.header_len()),
+                _ => (fragment.write(&mut out), fragment.header_len()),
+            };
+            if result.is_ok() {
+                assert_eq!(rt; out.len(), 3 + len, "{size}, {which}");
+                succeeded = succeeded.wrapping_add(1);
+            } else {
+                assert_eq!(rt; out.as_slice(), [1, 2, 3].as_slice(), "{size}, {which}");
+            }
+        }
+        assert_eq!(rt; succeeded, expected, "{size}");
+    }
+    Ok(())
+}
+
+#[test]
+fn write_takes_no_memory_where_room_is_reserved(rt: HostRuntime) -> Result<(), Fail> {
+    let auth = IpAuthHeader::new(IpNumber(17), 1, 2, &[7; 1016])?;
+    let raw = Ipv6RawExtHeader::new_raw(IpNumber(17), &[7; 2046])?;
+    let fragment = Ipv6FragmentHeader::new(IpNumber(17), IpFragOffset::try_new(1)?, true, 3);
+    let room = auth.header_len() + raw.header_len() + fragment.header_len();
+    let heap = LocalHeap::new(rt.alloc(), 1 << 12)?;
+    let mut out: Vec<u8, &LocalHeap> = Vec::with_capacity(&heap, room)?;
+    // The rest of the heap is taken, so that each allocation from here on is refused.
+    let mut taken: Vec<u8, &LocalHeap> = Vec::new(&heap);
+    let mut more = true;
+    for _ in 0..1000u32 {
+        more = more && taken.push(0).is_ok();
+    }
+    assert!(rt; taken.reserve(1 << 12).is_err());
+    auth.write(&mut out)?;
+    raw.write(&mut out)?;
+    fragment.write(&mut out)?;
+    assert_eq!(rt; out.len(), room);
+    Ok(())
+}
+
+#[test]
+fn defaults_names_and_numbers(rt: HostRuntime) -> Result<(), Fail> {
+    let raw: Ipv6RawExtensionHeader = Ipv6RawExtHeader::default();
+    let bytes: ArrayVec<u8, 2048> = raw.to_bytes();
+    assert_eq!(rt; bytes.as_slice(), [255, 0, 0, 0, 0, 0, 0, 0].as_slice());
+    let slice: Ipv6RawExtensionHeaderSlice = Ipv6RawExtHeaderSlice::from_slice(bytes.as_slice())?;
+    assert!(rt; slice.to_header() == raw);
+    let auth: IpAuthenticationHeader = IpAuthHeader::default();
+    let again: IPv6AuthenticationHeader = IpAuthHeader::new(IpNumber(255), 0, 0, &[])?;
+    assert!(rt; auth == again);
+    let bytes: ArrayVec<u8, 1028> = auth.to_bytes();
+    assert_eq!(rt;
+        bytes.as_slice(),
+        [255, 1, 0, 0, 0, 0, 0, 0, 0, 0, 0, 0].as_slice()
+    );
+    let slice: IpAuthenticationHeaderSlice = IpAuthHeaderSlice::from_slice(bytes.as_slice())?;
+    assert!(rt; slice.to_header() == auth);
+    assert_eq!(rt;
+        (
+            IpAuthHeader::MIN_LEN,
+            IpAuthHeader::MAX_LEN,
+            IpAuthHeader::MAX_ICV_LEN
+        ),
+        (12, 1028, 1016)
+    );
+    assert_eq!(rt;
+        (Ipv6RawExtHeader::MIN_LEN, Ipv6RawExtHeader::MAX_LEN),
+        (8, 2048)
+    );
+    assert_eq!(rt;
+        (
+            Ipv6RawExtHeader::MIN_PAYLOAD_LEN,
+            Ipv6RawExtHeader::MAX_PAYLOAD_LEN
+        ),
+        (6, 2046)
+    );
+    assert_eq!(rt; Ipv6FragmentHeader::LEN, 8);
+    for number in 0..=255u8 {
+        let expected = matches!(number, 0 | 43 | 60 | 135 | 139 | 140);
+        assert_eq!(rt;
+            Ipv6RawExtHeader::header_type_supported(IpNumber(number)),
+            expected,
+            "{number}"
+        );
+    }
+    Ok(())
+}

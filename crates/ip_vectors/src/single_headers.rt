@@ -133,6 +133,11 @@ fn made_and_written(rt: HostRuntime) -> Result<(), Fail> {
         [17, 0, 1, 2, 3, 4, 5, 6].as_slice(),
         "common layout"
     );
+    Ok(())
+}
+
+#[test]
+fn fragment_headers_made_and_written(rt: HostRuntime) -> Result<(), Fail> {
     let rows = [
         (
             "largest offset",

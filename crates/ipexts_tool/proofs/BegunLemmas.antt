@@ -15,7 +15,7 @@ use Rattle.ipexts_tool.specs.Progress.{SameKept}
 -- ---- one byte more at the front
 
 -- the parts of a list are never none
-some_parts : (bytes : List ℕ) → (line : List ℕ) × (lines : List (List ℕ)) × (slice_split is_newline bytes ≡ line ∷ lines)
+pub some_parts : (bytes : List ℕ) → (line : List ℕ) × (lines : List (List ℕ)) × (slice_split is_newline bytes ≡ line ∷ lines)
 some_parts [] = ([], [], refl)
 some_parts (b ∷ bytes) =
     let rest = some_parts bytes in

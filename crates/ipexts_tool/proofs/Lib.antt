@@ -4,3 +4,4 @@ pub mod BegunLemmas
 pub mod FieldLemmas
 pub mod ProgressLemmas
 pub mod MemoryLemmas
+pub mod PlainLemmas

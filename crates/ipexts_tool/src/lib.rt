@@ -28,11 +28,13 @@ mod exts6;
 mod faults;
 mod feed;
 mod fields;
+mod plain;
 mod scratch;
 mod tool_error;
 
 use arrayvec::ArrayVec;
 use feed::{Line, feed, finish};
+pub use plain::plain_answers;
 use scratch::Scratch;
 use std::alloc::Allocator;
 use std::io;

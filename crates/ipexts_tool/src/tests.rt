@@ -1,5 +1,5 @@
 //! Runs over memory, and over readers, writers and allocators that fail.
-use super::{ToolError, run};
+use super::{ToolError, plain_answers, run};
 use linked_list_allocator::LocalHeap;
 use std::alloc::{AllocError, Global};
 use std::io;
@@ -134,6 +134,11 @@ fn exts6_answers(rt: HostRuntime) -> Result<(), Fail> {
     ];
     for (name, input, answer) in rows {
         assert_eq!(rt; output_of(rt.alloc(), input)?.as_slice(), answer, "{name}");
+        assert_eq!(rt;
+            plain_answers(rt.alloc(), input)?.as_slice(),
+            answer,
+            "{name}"
+        );
     }
     Ok(())
 }
@@ -167,10 +172,15 @@ fn bad_lines(rt: HostRuntime) -> Result<(), Fail> {
     for (name, line) in rows {
         let mut input = line.to_vec(rt.alloc())?;
         input.extend_from_slice(b"\nexts6 17 -\n")?;
-        let output = output_of(rt.alloc(), &input)?;
+        let answers = b"bad line\nnext 17 rest 0\nok\n".as_slice();
         assert_eq!(rt;
-            output.as_slice(),
-            b"bad line\nnext 17 rest 0\nok\n".as_slice(),
+            output_of(rt.alloc(), &input)?.as_slice(),
+            answers,
+            "{name}"
+        );
+        assert_eq!(rt;
+            plain_answers(rt.alloc(), &input)?.as_slice(),
+            answers,
             "{name}"
         );
     }

@@ -4,10 +4,12 @@ ghost use Rattle.ip_ext_spec.specs.Header.{IsHeader};
 ghost use Rattle.ip_ext_spec.specs.Chain.{has_fragmenting, leads_to};
 ghost use Rattle.ip_ext_chains.specs.Longest.{longest_chain, rest_after};
 ghost use Rattle.ip_ext_chains.specs.Ipv6ExtensionsSlice.{bytes};
+ghost use Rattle.ipexts_tool.specs.Answers.{answers};
 
 use ip_base::IpNumber;
 use ip_base::err::LenError;
 use ip_ext_chains::Ipv6ExtensionsSlice;
+use ipexts_tool::{ToolError, run};
 use std::alloc::{AllocError, Global};
 
 /// The offset in a packet of an error in what stands behind its header.
@@ -56,4 +58,14 @@ pub fn joined(alloc: Global, headers: Ipv6ExtensionsSlice<'_>) -> Result<Vec<u8>
         copy.extend_from_slice(crate::parts::bytes_of(&header))?;
     }
     Ok(copy)
+}
+
+/// The answers to the lines of a text that is in memory.
+pub fn answers_in_memory(alloc: Global, text: &[u8]) -> Result<Vec<u8>, ToolError>
+    ensures { IfOk result (λ output. output.items ≡ answers text.now) }
+{
+    let mut input = text;
+    let mut output = Vec::new(alloc);
+    run(alloc, &mut input, &mut output)?;
+    Ok(output)
 }

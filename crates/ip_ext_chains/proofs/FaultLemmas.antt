@@ -1,42 +1,42 @@
--- At an extension number there is a fault wherever no header goes on.
-use Rattle.std.proofs.Common.{◌≡◌, ◌≢◌, ℕ, ◌+◌, ◌*◌, ◌<◌, ◌≤◌, List, length, take, drop, refl, ap, sym, ◌∙◌, arith, inl, inr, ◌⊎◌, subst, Bool, true, false, slice_index}
-use Rattle.std.specs.Prelude.{Option, Some, None, IsSome, IsTrue, nat_lt, ◌==◌, if◌then◌else◌}
+-- At an extension number there is a fault wherever no header goes on, and at another number there is neither.
+use Rattle.std.proofs.Common.{◌≡◌, ◌≢◌, ℕ, ◌+◌, ◌*◌, List, length, take, refl, sym, arith, inl, inr, ◌⊎◌, subst, Bool, true, false, slice_index}
+use Rattle.std.specs.Prelude.{Option, Some, None, IsSome, IsTrue}
 use Rattle.std.specs.Option.{option_map}
-use Rattle.std.proofs.lemmas.Bool.{cases_lt, cond-true, cond-false, lt-ltb, le-ltb}
-use Rattle.std.proofs.lemmas.Bool.Decides.{eqb_tells, nat_tests}
-use Rattle.ip_ext_spec.specs.Header.{IsHeader, IsExtensionNumber, IsRawNumber, raw, fragment, auth}
-use Rattle.ip_ext_spec.specs.Chain.{Numbered, IsNext, IsEnd}
-use Rattle.ip_ext_spec.proofs.FrontLemmas.{front_of-take}
-use Rattle.ip_ext_spec.proofs.HeaderLemmas.{raw_begins, fragment_begins, auth_begins}
+use Rattle.std.proofs.lemmas.Bool.{cases_lt, lt-ltb, le-ltb, ne_eqb}
+use Rattle.std.proofs.lemmas.Bool.Decides.{eqb_tells}
+use Rattle.ip_spec.specs.Header.{IsHeader, IsExtensionNumber, IsRawNumber, raw, fragment, auth}
+use Rattle.ip_spec.specs.Chain.{ExtHeader, IsNext, IsEnd}
+use Rattle.ip_spec.proofs.PrefixLemmas.{prefix_of-take}
+use Rattle.ip_spec.proofs.HeaderLemmas.{raw_begins, fragment_begins, auth_begins}
 use Rattle.ip_ext_headers.specs.Fault.{raw_fault, fragment_fault, auth_fault}
 use Rattle.ip_ext_chains.specs.Fault.{fault_at}
 
-begins : (first : Bool) (m : ℕ) (r b : List ℕ) → IsHeader m b → take (length b) r ≡ b → (m ≡ 0 → IsTrue first) → (h : Numbered) × IsNext first m r h
-begins first m r b h f z = (record { number = m; bytes = b }, record { number = refl; header = h; front = f; zero_only_first = z })
+begins : (first : Bool) (m : ℕ) (r b : List ℕ) → IsHeader m b → take (length b) r ≡ b → (m ≡ 0 → IsTrue first) → (h : ExtHeader) × IsNext first m r h
+begins first m r b h f z = (record { number = m; bytes = b }, record { number = refl; header = h; prefix = f; zero_only_first = z })
 
-raw_or_fault : (first : Bool) (m : ℕ) (r : List ℕ) (k : ℕ) → IsRawNumber m → (m ≡ 0 → IsTrue first) → ((h : Numbered) × IsNext first m r h) ⊎ IsSome (raw_fault r k)
+raw_or_fault : (first : Bool) (m : ℕ) (r : List ℕ) (k : ℕ) → IsRawNumber m → (m ≡ 0 → IsTrue first) → ((h : ExtHeader) × IsNext first m r h) ⊎ IsSome (raw_fault r k)
 raw_or_fault first m r k raw_number z = elim (cases_lt (length r) 8) [
   | inl few ↦ inr (rw (lt-ltb (length r) 8 few) refl)
-  | inr eight ↦ elim (cases_lt (length r) (8 * (slice_index r 1 + 1))) [
-    | inl few ↦ inr (rw (le-ltb (length r) 8 eight, lt-ltb (length r) (8 * (slice_index r 1 + 1)) few) refl)
-    | inr enough ↦ inl (begins first m r (take (8 * (slice_index r 1 + 1)) r) (raw raw_number (raw_begins r (8 * (slice_index r 1 + 1)) enough (omega arith) refl)) (front_of-take (8 * (slice_index r 1 + 1)) r) z)
+  | inr len ↦ elim (cases_lt (length r) (8 * (slice_index r 1 + 1))) [
+    | inl few ↦ inr (rw (le-ltb (length r) 8 len, lt-ltb (length r) (8 * (slice_index r 1 + 1)) few) refl)
+    | inr enough ↦ inl (begins first m r (take (8 * (slice_index r 1 + 1)) r) (raw raw_number (raw_begins r (8 * (slice_index r 1 + 1)) enough (omega arith) refl)) (prefix_of-take (8 * (slice_index r 1 + 1)) r) z)
   ]
 ]
 
-fragment_or_fault : (first : Bool) (m : ℕ) (r : List ℕ) (k : ℕ) → m ≡ 44 → ((h : Numbered) × IsNext first m r h) ⊎ IsSome (fragment_fault r k)
+fragment_or_fault : (first : Bool) (m : ℕ) (r : List ℕ) (k : ℕ) → m ≡ 44 → ((h : ExtHeader) × IsNext first m r h) ⊎ IsSome (fragment_fault r k)
 fragment_or_fault first m r k e = elim (cases_lt (length r) 8) [
   | inl few ↦ inr (rw (lt-ltb (length r) 8 few) refl)
-  | inr enough ↦ inl (begins first m r (take 8 r) (fragment e (fragment_begins r 8 enough (omega arith) refl)) (front_of-take 8 r) (λ z. absurd (omega arith)))
+  | inr enough ↦ inl (begins first m r (take 8 r) (fragment e (fragment_begins r 8 enough (omega arith) refl)) (prefix_of-take 8 r) (λ z. absurd (omega arith)))
 ]
 
-auth_or_fault : (first : Bool) (m : ℕ) (r : List ℕ) (k : ℕ) → m ≡ 51 → ((h : Numbered) × IsNext first m r h) ⊎ IsSome (auth_fault r k)
+auth_or_fault : (first : Bool) (m : ℕ) (r : List ℕ) (k : ℕ) → m ≡ 51 → ((h : ExtHeader) × IsNext first m r h) ⊎ IsSome (auth_fault r k)
 auth_or_fault first m r k e = elim (cases_lt (length r) 12) [
   | inl few ↦ inr (rw (lt-ltb (length r) 12 few) refl)
   | inr twelve ↦ elim (eqb_tells (slice_index r 1) 0) [
     | inl w ↦ inr (rw (le-ltb (length r) 12 twelve, w.0) refl)
     | inr w ↦ elim (cases_lt (length r) (4 * (slice_index r 1 + 2))) [
       | inl few ↦ inr (rw (le-ltb (length r) 12 twelve, w.0, lt-ltb (length r) (4 * (slice_index r 1 + 2)) few) refl)
-      | inr enough ↦ inl (begins first m r (take (4 * (slice_index r 1 + 2)) r) (auth e (auth_begins r (4 * (slice_index r 1 + 2)) enough (omega (arith, w.1)) refl (omega (arith, w.1)))) (front_of-take (4 * (slice_index r 1 + 2)) r) (λ z. absurd (omega arith)))
+      | inr enough ↦ inl (begins first m r (take (4 * (slice_index r 1 + 2)) r) (auth e (auth_begins r (4 * (slice_index r 1 + 2)) enough (omega (arith, w.1)) refl (omega (arith, w.1)))) (prefix_of-take (4 * (slice_index r 1 + 2)) r) (λ z. absurd (omega arith)))
     ]
   ]
 ]
@@ -71,3 +71,15 @@ module _ (r : List ℕ) (k : ℕ) where
       | inr z ↦ let Q : ℕ → Type 0 = λ j. IsSome (fault_at first j r k) in subst Q (sym z) (mapped _ (auth_fault r k) (elim (auth_or_fault first m r k z) [ inl (h, x) ↦ absurd (e h x) | inr s ↦ s ]))
     ]
   ]
+
+number_of : (m : ℕ) (b : List ℕ) → IsHeader m b → IsExtensionNumber m
+number_of m b h = elim h [ raw k x ↦ inl k | fragment e x ↦ inr (inl e) | auth e x ↦ inr (inr e) ]
+
+-- at another number no header goes on
+pub end_at_other : (first : Bool) (m : ℕ) (r : List ℕ) → (IsExtensionNumber m → ⊥) → IsEnd first m r
+end_at_other first m r other = λ h x. other (number_of m h.bytes x.header)
+
+-- and there is no fault
+pub no_fault_at_other : (first : Bool) (m : ℕ) (r : List ℕ) (k : ℕ) → (IsExtensionNumber m → ⊥) → fault_at first m r k ≡ None
+no_fault_at_other first m r k other =
+    rw (ne_eqb m 0 (λ e. other (inl (inl e))), ne_eqb m 43 (λ e. other (inl (inr (inl e)))), ne_eqb m 60 (λ e. other (inl (inr (inr e)))), ne_eqb m 44 (λ e. other (inr (inl e))), ne_eqb m 51 (λ e. other (inr (inr e)))) refl

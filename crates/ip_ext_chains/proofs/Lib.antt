@@ -1,3 +1,3 @@
 pub mod LongestLemmas
-pub mod ReadingLemmas
+pub mod ParseLemmas
 pub mod FaultLemmas

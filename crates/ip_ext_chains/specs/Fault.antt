@@ -7,7 +7,7 @@ use Rattle.ip_base.specs.declared.err.layer.Layer.TheVariants.{Ipv6HopByHopHeade
 use Rattle.ip_ext_headers.specs.declared.err.ip_auth.header_slice_error.HeaderSliceError.{HeaderSliceError as AuthSliceError}
 use Rattle.ip_ext_headers.specs.declared.err.ip_auth.header_slice_error.HeaderSliceError.TheVariants as auth
 use Rattle.ip_ext_headers.specs.Fault.{raw_fault, fragment_fault, auth_fault}
-use Rattle.ip_ext_spec.specs.Chain.{leads_to, is_empty, bytes_of}
+use Rattle.ip_spec.specs.Chain.{leads_to, is_empty, bytes_of}
 use Rattle.ip_ext_chains.specs.Longest.{longest_chain, rest_after}
 use Rattle.ip_ext_chains.specs.declared.err.ipv6_exts.header_error.HeaderError.TheVariants.{HopByHopNotAtStart, IpAuth}
 use Rattle.ip_ext_chains.specs.declared.err.ipv6_exts.header_slice_error.HeaderSliceError.{HeaderSliceError}

@@ -1,7 +1,7 @@
 -- What an iterator over a chain has left.
 use Rattle.std.specs.Prelude.{ℕ, List, Bool, ◌==◌, ◌&&◌, nat_eq}
 use Rattle.std.specs.Cmp.Lexicographic.{pointwise}
-use Rattle.ip_ext_spec.specs.Chain.{Numbered}
+use Rattle.ip_spec.specs.Chain.{ExtHeader}
 use Rattle.ip_ext_chains.specs.Longest.{longest_chain}
 use Rattle.ip_ext_chains.specs.declared.ipv6_ext_slice_iter.Ipv6ExtensionSliceIter.{Ipv6ExtensionSliceIter}
 
@@ -14,7 +14,7 @@ abbrev pub bytes_left : Ipv6ExtensionSliceIter → List ℕ
 bytes_left it = it.rest.now
 
 -- the headers to come: the longest chain that begins these bytes, which is all of them
-abbrev pub headers_left : Ipv6ExtensionSliceIter → List Numbered
+abbrev pub headers_left : Ipv6ExtensionSliceIter → List ExtHeader
 headers_left it = longest_chain it.next_header.0 it.rest.now
 
 -- two have the same number and bytes left

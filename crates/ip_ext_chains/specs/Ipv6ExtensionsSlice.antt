@@ -3,7 +3,7 @@ use Rattle.std.specs.Prelude.{ℕ, List, Option, Bool, ◌==◌, ◌&&◌, nat_e
 use Rattle.std.specs.Option.{option_eq}
 use Rattle.std.specs.Cmp.Lexicographic.{pointwise}
 use Rattle.ip_base.specs.declared.ip_number_impl.IpNumber.{IpNumber}
-use Rattle.ip_ext_spec.specs.Chain.{Numbered}
+use Rattle.ip_spec.specs.Chain.{ExtHeader}
 use Rattle.ip_ext_chains.specs.Longest.{longest_chain}
 use Rattle.ip_ext_chains.specs.StartNumber.{start_number}
 use Rattle.ip_ext_chains.specs.declared.ipv6_exts_slice.Ipv6ExtensionsSlice.{Ipv6ExtensionsSlice}
@@ -17,7 +17,7 @@ abbrev pub bytes : Ipv6ExtensionsSlice → List ℕ
 bytes x = x.slice.now
 
 -- its headers: the longest chain that begins its bytes, which is all of them
-abbrev pub headers_in : Ipv6ExtensionsSlice → List Numbered
+abbrev pub headers_in : Ipv6ExtensionsSlice → List ExtHeader
 headers_in x = longest_chain (start_number x.first_header) x.slice.now
 
 -- two have the same first number and bytes

@@ -1,6 +1,6 @@
 ghost use Rattle.std.specs.Prelude.{◌≡◌, ◌==◌, ◌&&◌};
-ghost use Rattle.ip_ext_spec.specs.Header.{IsHeader};
-ghost use Rattle.ip_ext_spec.specs.Fields.{next_number, is_fragmenting};
+ghost use Rattle.ip_spec.specs.Header.{IsHeader};
+ghost use Rattle.ip_spec.specs.Fields.{next_header, is_fragmenting};
 
 use ip_base::{IpNumber, ip_number};
 use ip_ext_headers::{IpAuthHeaderSlice, Ipv6FragmentHeaderSlice, Ipv6RawExtHeaderSlice};
@@ -22,11 +22,11 @@ pub enum Ipv6ExtensionSlice<'a> {
 }
 
 impl<'a> Ipv6ExtensionSlice<'a> {
-    ghost use Rattle.ip_ext_chains.specs.Ipv6ExtensionSlice.{numbered};
+    ghost use Rattle.ip_ext_chains.specs.Ipv6ExtensionSlice.{header_of};
 
     /// The header's own number.
     fn number(&self) -> IpNumber
-        ensures { result.0 ≡ (numbered self.now).number }
+        ensures { result.0 ≡ (header_of self.now).number }
     {
         match self {
             Ipv6ExtensionSlice::HopByHop(_) => ip_number::IPV6_HOP_BY_HOP,
@@ -39,8 +39,8 @@ impl<'a> Ipv6ExtensionSlice<'a> {
 
     /// The header's bytes.
     pub(crate) fn slice(&self) -> &'a [u8]
-        ensures bytes { result.now ≡ (numbered self.now).bytes }
-        ensures header { IsHeader (numbered self.now).number result.now }
+        ensures bytes { result.now ≡ (header_of self.now).bytes }
+        ensures header { IsHeader (header_of self.now).number result.now }
     {
         match self {
             Ipv6ExtensionSlice::HopByHop(header)
@@ -53,7 +53,7 @@ impl<'a> Ipv6ExtensionSlice<'a> {
 
     /// The number of what follows the header.
     pub(crate) fn next_header(&self) -> IpNumber
-        ensures { result.0 ≡ next_number (numbered self.now).bytes }
+        ensures { result.0 ≡ next_header (header_of self.now).bytes }
     {
         match self {
             Ipv6ExtensionSlice::HopByHop(header)
@@ -66,7 +66,7 @@ impl<'a> Ipv6ExtensionSlice<'a> {
 
     /// Whether it is a fragment header that fragments the payload.
     pub(crate) fn is_fragmenting_payload(&self) -> bool
-        ensures { result ≡ (((numbered self.now).number == 44) && is_fragmenting (numbered self.now).bytes) }
+        ensures { result ≡ (((header_of self.now).number == 44) && is_fragmenting (header_of self.now).bytes) }
     {
         match self {
             Ipv6ExtensionSlice::Fragment(header) => header.is_fragmenting_payload(),
@@ -79,7 +79,7 @@ impl PartialEq for Ipv6ExtensionSlice<'_> {
     ghost use Rattle.std.specs.Prelude.{◌↔◌, IsTrue};
     ghost use Rattle.std.specs.Cmp.Rules.{comparing};
     ghost use Rattle.std.proofs.Common.{rules};
-    ghost use Rattle.ip_ext_chains.specs.Ipv6ExtensionSlice.{numbered, same_header};
+    ghost use Rattle.ip_ext_chains.specs.Ipv6ExtensionSlice.{header_of, same_header};
 
     ghost eq = { same_header };
 
@@ -87,7 +87,7 @@ impl PartialEq for Ipv6ExtensionSlice<'_> {
 
     fn eq(&self, other: &Self) -> bool
         ensures answer { result ≡ same_header self.now other.now }
-        ensures same { IsTrue result ↔ (numbered self.now ≡ numbered other.now) }
+        ensures same { IsTrue result ↔ (header_of self.now ≡ header_of other.now) }
     {
         self.number() == other.number() && self.slice() == other.slice()
     }

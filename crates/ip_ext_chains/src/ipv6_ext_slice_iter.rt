@@ -1,5 +1,5 @@
 ghost use Rattle.std.specs.Prelude.{◌≡◌};
-ghost use Rattle.ip_ext_spec.specs.Chain.{bytes_of};
+ghost use Rattle.ip_spec.specs.Chain.{bytes_of};
 ghost use Rattle.ip_ext_chains.specs.Longest.{longest_chain};
 
 use crate::Ipv6ExtensionSlice;
@@ -20,10 +20,10 @@ impl<'a> Iterator for Ipv6ExtensionSliceIter<'a> {
     type Item = Ipv6ExtensionSlice<'a>;
 
     ghost use Rattle.std.specs.Iterator.{YieldsFirstBy, item_count};
-    ghost use Rattle.ip_ext_chains.specs.Ipv6ExtensionSlice.{numbered};
+    ghost use Rattle.ip_ext_chains.specs.Ipv6ExtensionSlice.{header_of};
     ghost use Rattle.ip_ext_chains.specs.Ipv6ExtensionSliceIter.{headers_left};
 
-    ghost next_gives = { YieldsFirstBy numbered headers_left };
+    ghost next_gives = { YieldsFirstBy header_of headers_left };
 
     ghost remaining = { item_count headers_left };
 

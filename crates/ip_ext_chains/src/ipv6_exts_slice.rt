@@ -1,14 +1,14 @@
 ghost use Rattle.std.specs.Prelude.{◌≡◌, ◌==◌, ℕ, List, [], length, Option, Some, None, is_none, IfOk, IfErr, if◌then◌else◌};
 ghost use Rattle.std.specs.Option.{option_map};
-ghost use Rattle.ip_ext_spec.specs.Front.{IsFront};
-ghost use Rattle.ip_ext_spec.specs.Chain.{bytes_of, leads_to, is_empty, has_fragmenting, IsLongestChain};
+ghost use Rattle.ip_spec.specs.Prefix.{IsPrefix};
+ghost use Rattle.ip_spec.specs.Chain.{bytes_of, leads_to, is_empty, has_fragmenting, IsLongestChain};
 ghost use Rattle.ip_ext_chains.specs.Longest.{longest_chain, rest_after};
 ghost use Rattle.ip_ext_chains.specs.Fault.{chain_fault};
 ghost use Rattle.ip_ext_chains.specs.StartNumber.{start_number};
 
 use crate::err::Layer;
 use crate::err::ipv6_exts::HeaderSliceError;
-use crate::step::{after, fault_at, header_at};
+use crate::step::{after, fault, header_at, is_extension};
 use crate::{Ipv6ExtensionSlice, Ipv6ExtensionSliceIter};
 use ip_base::{IpNumber, ip_number};
 use std::alloc::AllocError;
@@ -48,6 +48,7 @@ impl<'a> Ipv6ExtensionsSlice<'a> {
     /// The longest chain from the number that begins the bytes, with the number to which it leads, the bytes
     /// after it and the fault there. The offset in a fault counts bytes from the start of `start_slice`. There
     /// is no fault where the number is no extension number.
+    #[inline(always)]
     pub fn from_slice_lax(
         start_ip_number: IpNumber,
         start_slice: &'a [u8],
@@ -60,7 +61,7 @@ impl<'a> Ipv6ExtensionsSlice<'a> {
         ensures longest { IsLongestChain start_ip_number.0 start_slice.now (headers_in result.0) }
         ensures headers { headers_in result.0 ≡ longest_chain start_ip_number.0 start_slice.now }
         ensures bytes { bytes result.0 ≡ bytes_of (longest_chain start_ip_number.0 start_slice.now) }
-        ensures front { IsFront (bytes result.0) start_slice.now }
+        ensures prefix { IsPrefix (bytes result.0) start_slice.now }
         ensures first { first_number result.0 ≡ (if length (bytes result.0) == 0 then None else Some start_ip_number) }
         ensures number { result.1.0 ≡ leads_to start_ip_number.0 (longest_chain start_ip_number.0 start_slice.now) }
         ensures rest { result.2.now ≡ rest_after start_ip_number.0 start_slice.now }
@@ -79,9 +80,12 @@ impl<'a> Ipv6ExtensionsSlice<'a> {
             rest = after(rest, header.slice().len());
         }
         let offset = start_slice.len() - rest.len();
-        let fault = fault_at(rest.len() == start_slice.len(), number, rest, offset);
         let found = Self::new(start_ip_number, &start_slice[..offset], fragmented);
-        (found, number, rest, fault)
+        if is_extension(number) {
+            let fault = fault(rest.len() == start_slice.len(), number, rest, offset);
+            return (found, number, rest, Some(fault));
+        }
+        (found, number, rest, None)
     }
 
     /// What `from_slice_lax` answers, where it tells no fault; else the fault.

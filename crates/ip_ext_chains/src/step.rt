@@ -1,15 +1,14 @@
 //! The step from one header of an IPv6 chain to the next.
-ghost use Rattle.std.specs.Prelude.{◌≡◌, ◌≤◌, length, drop, IfSome, IfNone};
-ghost use Rattle.std.specs.Option.{option_map};
-ghost use Rattle.ip_ext_spec.specs.Chain.{IsNext, IsEnd};
-ghost use Rattle.ip_ext_headers.specs.Fault.{raw_fault, fragment_fault, auth_fault};
-ghost use Rattle.ip_ext_chains.specs.Fault.{fault_at, short_at, auth_at};
-ghost use Rattle.ip_ext_chains.specs.Ipv6ExtensionSlice.{numbered};
+ghost use Rattle.std.specs.Prelude.{◌≡◌, ◌≤◌, ◌+◌, ◌*◌, ◌↔◌, ◌==◌, length, drop, slice_index, nat_lt, if◌then◌else◌, IsTrue, Option, Some, IsSome, IfSome, IfNone};
+ghost use Rattle.ip_spec.specs.Header.{IsExtensionNumber};
+ghost use Rattle.ip_spec.specs.Chain.{IsNext, IsEnd};
+ghost use Rattle.ip_ext_chains.specs.Fault.{fault_at};
+ghost use Rattle.ip_ext_chains.specs.Ipv6ExtensionSlice.{header_of};
 
 use crate::Ipv6ExtensionSlice;
 use crate::err::ipv6_exts::{HeaderError, HeaderSliceError};
-use ip_base::err::Layer;
-use ip_base::{IpNumber, ip_number};
+use ip_base::err::{Layer, LenError};
+use ip_base::{IpNumber, LenSource, ip_number};
 use ip_ext_headers::err::ip_auth;
 use ip_ext_headers::{IpAuthHeaderSlice, Ipv6FragmentHeaderSlice, Ipv6RawExtHeaderSlice};
 
@@ -31,7 +30,7 @@ pub(crate) fn header_at(
     number: IpNumber,
     bytes: &[u8],
 ) -> Option<Ipv6ExtensionSlice<'_>>
-    ensures next { IfSome result (λ h. IsNext first number.0 bytes.now (numbered h)) }
+    ensures next { IfSome result (λ h. IsNext first number.0 bytes.now (header_of h)) }
     ensures end { IfNone result (IsEnd first number.0 bytes.now) }
 {
     match number {
@@ -60,76 +59,74 @@ pub(crate) fn header_at(
     }
 }
 
-/// The fault at the number, where `bytes` are left and `offset` bytes are behind; `first` tells that no
-/// header is before it. There is none where a header goes on, and none where the number is no extension
-/// number.
+/// Whether headers of the number are extension headers.
 #[inline]
-pub(crate) fn fault_at(first: bool, number: IpNumber, bytes: &[u8], offset: usize) -> Option<Fault>
-    ensures { result ≡ fault_at first number.0 bytes.now offset }
+pub(crate) fn is_extension(number: IpNumber) -> bool
+    ensures { IsTrue result ↔ IsExtensionNumber number.0 }
 {
-    match number {
+    matches!(
+        number,
         ip_number::IPV6_HOP_BY_HOP
-        | ip_number::IPV6_ROUTE
-        | ip_number::IPV6_FRAG
-        | ip_number::AUTH
-        | ip_number::IPV6_DEST_OPTIONS => extension_fault(first, number, bytes, offset),
-        _ => None,
-    }
+            | ip_number::IPV6_ROUTE
+            | ip_number::IPV6_FRAG
+            | ip_number::AUTH
+            | ip_number::IPV6_DEST_OPTIONS
+    )
 }
 
-/// The fault at an extension number. It stands apart, since most chains end without one.
+/// The fault at an extension number with which no header goes on, where `bytes` are left and `offset` bytes
+/// are behind; `first` tells that no header is before it. It stands apart, since most chains end without one.
 #[cold]
 #[inline(never)]
-fn extension_fault(first: bool, number: IpNumber, bytes: &[u8], offset: usize) -> Option<Fault>
-    ensures { result ≡ fault_at first number.0 bytes.now offset }
+pub(crate) fn fault(first: bool, number: IpNumber, bytes: &[u8], offset: usize) -> Fault
+    requires { IsSome (fault_at first number.0 bytes.now offset) }
+    ensures { fault_at first number.0 bytes.now offset ≡ Some result }
 {
-    match number {
-        ip_number::IPV6_HOP_BY_HOP if !first => Some((
-            HeaderSliceError::Content(HeaderError::HopByHopNotAtStart),
-            Layer::Ipv6HopByHopHeader,
-        )),
-        ip_number::IPV6_HOP_BY_HOP => raw_fault(bytes, offset, Layer::Ipv6HopByHopHeader),
-        ip_number::IPV6_ROUTE => raw_fault(bytes, offset, Layer::Ipv6RouteHeader),
-        ip_number::IPV6_DEST_OPTIONS => raw_fault(bytes, offset, Layer::Ipv6DestOptionsHeader),
-        ip_number::IPV6_FRAG => fragment_fault(bytes, offset),
-        ip_number::AUTH => auth_fault(bytes, offset),
-        _ => None,
-    }
-}
-
-/// The fault at a header of the common layout.
-fn raw_fault(bytes: &[u8], offset: usize, layer: Layer) -> Option<Fault>
-    ensures { result ≡ option_map (short_at layer) (raw_fault bytes.now offset) }
-{
-    match Ipv6RawExtHeaderSlice::from_slice(bytes) {
-        Ok(_) => None,
-        Err(e) => Some((HeaderSliceError::Len(e.add_offset(offset)), layer)),
-    }
-}
-
-/// The fault at a fragment header.
-fn fragment_fault(bytes: &[u8], offset: usize) -> Option<Fault>
-    ensures { result ≡ option_map (short_at Layer.Ipv6FragHeader) (fragment_fault bytes.now offset) }
-{
-    match Ipv6FragmentHeaderSlice::from_slice(bytes) {
-        Ok(_) => None,
-        Err(e) => Some((
-            HeaderSliceError::Len(e.add_offset(offset)),
-            Layer::Ipv6FragHeader,
-        )),
-    }
-}
-
-/// The fault at an authentication header.
-fn auth_fault(bytes: &[u8], offset: usize) -> Option<Fault>
-    ensures { result ≡ option_map auth_at (auth_fault bytes.now offset) }
-{
-    let error = match IpAuthHeaderSlice::from_slice(bytes) {
-        Ok(_) => return None,
-        Err(ip_auth::HeaderSliceError::Len(e)) => HeaderSliceError::Len(e.add_offset(offset)),
-        Err(ip_auth::HeaderSliceError::Content(e)) => {
-            HeaderSliceError::Content(HeaderError::IpAuth(e))
+    let (required_len, short, layer) = match number {
+        ip_number::IPV6_HOP_BY_HOP if !first => {
+            let error = HeaderError::HopByHopNotAtStart;
+            return (HeaderSliceError::Content(error), Layer::Ipv6HopByHopHeader);
         }
+        ip_number::IPV6_HOP_BY_HOP => (
+            raw_len(bytes),
+            Layer::Ipv6ExtHeader,
+            Layer::Ipv6HopByHopHeader,
+        ),
+        ip_number::IPV6_ROUTE => (raw_len(bytes), Layer::Ipv6ExtHeader, Layer::Ipv6RouteHeader),
+        ip_number::IPV6_FRAG => (8, Layer::Ipv6FragHeader, Layer::Ipv6FragHeader),
+        ip_number::AUTH if bytes.len() < 12 => (12, Layer::IpAuthHeader, Layer::IpAuthHeader),
+        ip_number::AUTH if bytes[1] == 0 => {
+            let error = HeaderError::IpAuth(ip_auth::HeaderError::ZeroPayloadLen);
+            return (HeaderSliceError::Content(error), Layer::IpAuthHeader);
+        }
+        ip_number::AUTH => (
+            (usize::from(bytes[1]) + 2) * 4,
+            Layer::IpAuthHeader,
+            Layer::IpAuthHeader,
+        ),
+        _ => (
+            raw_len(bytes),
+            Layer::Ipv6ExtHeader,
+            Layer::Ipv6DestOptionsHeader,
+        ),
     };
-    Some((error, Layer::IpAuthHeader))
+    let error = LenError {
+        required_len,
+        len: bytes.len(),
+        len_source: LenSource::Slice,
+        layer: short,
+        layer_start_offset: offset,
+    };
+    (HeaderSliceError::Len(error), layer)
+}
+
+/// How many bytes a header of the common layout needs: 8, where the bytes are too few to tell its own length.
+#[inline]
+fn raw_len(bytes: &[u8]) -> usize
+    ensures { result ≡ (if nat_lt (length bytes.now) 8 then 8 else 8 * (slice_index bytes.now 1 + 1)) }
+{
+    if bytes.len() < 8 {
+        return 8;
+    }
+    (usize::from(bytes[1]) + 1) * 8
 }

@@ -1,10 +1,10 @@
 ghost use Rattle.std.specs.Prelude.{◌≡◌, ◌≤◌, ◌<◌, ◌+◌, ◌*◌, ◌++◌, [], ◌∷◌, ◌↔◌, ℕ, List, length, IsOk, OnOk, OnErr, IfOk, IfErr, vec_len, vec_capacity};
 ghost use Rattle.std.specs.Int.{to_be_bytes, w32};
-ghost use Rattle.ip_ext_spec.specs.Front.{IsFront};
-ghost use Rattle.ip_ext_spec.specs.Header.{IsAuthHeader};
-ghost use Rattle.ip_ext_spec.specs.FieldsOf.{auth_len};
-ghost use Rattle.ip_ext_spec.specs.Spelling.{Appends, IsAuthSpelling};
-ghost use Rattle.ip_ext_spec.specs.Reading.{IsAuthReading};
+ghost use Rattle.ip_spec.specs.Prefix.{IsPrefix};
+ghost use Rattle.ip_spec.specs.Header.{IsAuthHeader};
+ghost use Rattle.ip_spec.specs.FieldsOf.{auth_len};
+ghost use Rattle.ip_spec.specs.Encoding.{Appends, IsAuthEncoding};
+ghost use Rattle.ip_spec.specs.Decoding.{IsAuthDecoding};
 
 use crate::IpAuthHeaderSlice;
 use crate::err::ip_auth::{HeaderSliceError, IcvLenError};
@@ -36,7 +36,7 @@ pub struct IpAuthHeader {
 
 impl Model for IpAuthHeader {
     ghost use Rattle.std.specs.Prelude.{length};
-    ghost use Rattle.ip_ext_spec.specs.FieldsOf.{AuthFields};
+    ghost use Rattle.ip_spec.specs.FieldsOf.{AuthFields};
     ghost use Rattle.ip_ext_headers.specs.Lengths.{IsIcvLen};
 
     ghost Value = { AuthFields };
@@ -125,8 +125,8 @@ impl IpAuthHeader {
     /// are fewer than 12 bytes, that the length field is 0, or that there are fewer bytes than the header's
     /// own length.
     pub fn from_slice(slice: &[u8]) -> Result<(IpAuthHeader, &[u8]), HeaderSliceError>
-        ensures reading { IfOk result (λ p. IsAuthReading slice.now p.0 p.1.now) }
-        ensures none { IfErr result (λ _. (b : List ℕ) → IsAuthHeader b → IsFront b slice.now → ⊥) }
+        ensures decoding { IfOk result (λ p. IsAuthDecoding slice.now p.0 p.1.now) }
+        ensures none { IfErr result (λ _. (b : List ℕ) → IsAuthHeader b → IsPrefix b slice.now → ⊥) }
         ensures fault { IfErr result (λ e. auth_fault slice.now 0 ≡ Some e) }
     {
         let header = IpAuthHeaderSlice::from_slice(slice)?;
@@ -172,9 +172,9 @@ impl IpAuthHeader {
     /// The header's bytes, with reserved bytes zero. Read back, also with more bytes behind them, they give
     /// this header.
     pub fn to_bytes(&self) -> ArrayVec<u8, 1028>
-        ensures spelling { IsAuthSpelling self.now result.items }
+        ensures encoding { IsAuthEncoding self.now result.items }
         ensures len { length result.items ≡ auth_len self.now }
-        ensures read_back { (r : List ℕ) → IsAuthReading (result.items ++ r) self.now r }
+        ensures read_back { (r : List ℕ) → IsAuthDecoding (result.items ++ r) self.now r }
     {
         let mut bytes = ArrayVec::new();
         let _ = bytes.try_extend_from_slice(&self.first_bytes());
@@ -185,7 +185,7 @@ impl IpAuthHeader {
     /// Appends the header's bytes. It refuses only where the vector has no room for them and can't grow;
     /// then its bytes stay as they were.
     pub fn write<A: Allocator>(&self, out: &mut Vec<u8, A>) -> Result<(), AllocError>
-        ensures ok { OnOk result (Appends (IsAuthSpelling self.now) out.old.items out.new.items) }
+        ensures ok { OnOk result (Appends (IsAuthEncoding self.now) out.old.items out.new.items) }
         ensures len { OnOk result (vec_len out.new ≡ vec_len out.old + auth_len self.now) }
         ensures err { OnErr result (out.new.items ≡ out.old.items) }
         ensures full { OnErr result (vec_capacity out.old < vec_len out.old + auth_len self.now) }
@@ -207,7 +207,7 @@ impl IpAuthHeader {
 
     /// What stands before the check value.
     fn first_bytes(&self) -> [u8; 12]
-        ensures { IsAuthSpelling self.now (result ++ self.now.raw_icv) }
+        ensures { IsAuthEncoding self.now (result ++ self.now.raw_icv) }
     {
         let spi = self.spi;
         let sequence_number = self.sequence_number;

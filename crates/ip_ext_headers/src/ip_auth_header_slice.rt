@@ -1,8 +1,8 @@
 ghost use Rattle.std.specs.Prelude.{◌≡◌, ◌≤◌, ℕ, List, length, IfOk, IfErr};
-ghost use Rattle.ip_ext_spec.specs.Front.{IsFront};
-ghost use Rattle.ip_ext_spec.specs.Header.{IsAuthHeader};
-ghost use Rattle.ip_ext_spec.specs.Fields.{next_number, security_index, sequence_number, check_value};
-ghost use Rattle.ip_ext_spec.specs.FieldsOf.{auth_fields};
+ghost use Rattle.ip_spec.specs.Prefix.{IsPrefix};
+ghost use Rattle.ip_spec.specs.Header.{IsAuthHeader};
+ghost use Rattle.ip_spec.specs.Fields.{next_header, spi, sequence_number, icv};
+ghost use Rattle.ip_spec.specs.FieldsOf.{auth_fields};
 
 use crate::IpAuthHeader;
 use crate::err::ip_auth::{HeaderError, HeaderSliceError};
@@ -29,9 +29,9 @@ impl<'a> IpAuthHeaderSlice<'a> {
     /// The header that begins the slice. The error tells, in this order, that there are fewer than 12 bytes,
     /// that the length field is 0, or that there are fewer bytes than the header's own length.
     pub fn from_slice(slice: &'a [u8]) -> Result<IpAuthHeaderSlice<'a>, HeaderSliceError>
-        ensures front { IfOk result (λ h. IsFront (bytes h) slice.now) }
+        ensures prefix { IfOk result (λ h. IsPrefix (bytes h) slice.now) }
         ensures header { IfOk result (λ h. IsAuthHeader (bytes h)) }
-        ensures none { IfErr result (λ _. (b : List ℕ) → IsAuthHeader b → IsFront b slice.now → ⊥) }
+        ensures none { IfErr result (λ _. (b : List ℕ) → IsAuthHeader b → IsPrefix b slice.now → ⊥) }
         ensures fault { IfErr result (λ e. auth_fault slice.now 0 ≡ Some e) }
     {
         if slice.len() < 12 {
@@ -73,14 +73,14 @@ impl<'a> IpAuthHeaderSlice<'a> {
 
     /// The number of what follows the header.
     pub fn next_header(&self) -> IpNumber
-        ensures { result.0 ≡ next_number (bytes self.now) }
+        ensures { result.0 ≡ next_header (bytes self.now) }
     {
         IpNumber(self.slice[0])
     }
 
     /// The security parameters index, which tells the receiver its association with the sender.
     pub fn spi(&self) -> u32
-        ensures { result ≡ security_index (bytes self.now) }
+        ensures { result ≡ spi (bytes self.now) }
     {
         u32::from_be_bytes([self.slice[4], self.slice[5], self.slice[6], self.slice[7]])
     }
@@ -94,7 +94,7 @@ impl<'a> IpAuthHeaderSlice<'a> {
 
     /// The integrity check value with its padding, 0 to 1016 bytes.
     pub fn raw_icv(&self) -> &'a [u8]
-        ensures { result.now ≡ check_value (bytes self.now) }
+        ensures { result.now ≡ icv (bytes self.now) }
     {
         &self.slice[12..]
     }

@@ -1,9 +1,9 @@
 ghost use Rattle.std.specs.Prelude.{◌≡◌, ◌≤◌, ◌<◌, ◌+◌, ◌++◌, ℕ, List, OnOk, OnErr, IfOk, IfErr, vec_len, vec_capacity};
-ghost use Rattle.ip_ext_spec.specs.Front.{IsFront};
-ghost use Rattle.ip_ext_spec.specs.Header.{IsFragmentHeader};
-ghost use Rattle.ip_ext_spec.specs.Fields.{is_piece};
-ghost use Rattle.ip_ext_spec.specs.Spelling.{Appends, IsFragmentSpelling};
-ghost use Rattle.ip_ext_spec.specs.Reading.{IsFragmentReading};
+ghost use Rattle.ip_spec.specs.Prefix.{IsPrefix};
+ghost use Rattle.ip_spec.specs.Header.{IsFragmentHeader};
+ghost use Rattle.ip_spec.specs.Fields.{is_fragment};
+ghost use Rattle.ip_spec.specs.Encoding.{Appends, IsFragmentEncoding};
+ghost use Rattle.ip_spec.specs.Decoding.{IsFragmentDecoding};
 
 use crate::Ipv6FragmentHeaderSlice;
 use ip_base::err::LenError;
@@ -25,7 +25,7 @@ pub struct Ipv6FragmentHeader {
 }
 
 impl Model for Ipv6FragmentHeader {
-    ghost use Rattle.ip_ext_spec.specs.FieldsOf.{FragmentFields};
+    ghost use Rattle.ip_spec.specs.FieldsOf.{FragmentFields};
 
     ghost Value = { FragmentFields };
 
@@ -65,8 +65,8 @@ impl Ipv6FragmentHeader {
     /// The header that begins the slice, and what is behind it. The error tells that there are fewer than 8
     /// bytes.
     pub fn from_slice(slice: &[u8]) -> Result<(Ipv6FragmentHeader, &[u8]), LenError>
-        ensures reading { IfOk result (λ p. IsFragmentReading slice.now p.0 p.1.now) }
-        ensures none { IfErr result (λ _. (b : List ℕ) → IsFragmentHeader b → IsFront b slice.now → ⊥) }
+        ensures decoding { IfOk result (λ p. IsFragmentDecoding slice.now p.0 p.1.now) }
+        ensures none { IfErr result (λ _. (b : List ℕ) → IsFragmentHeader b → IsPrefix b slice.now → ⊥) }
         ensures fault { IfErr result (λ e. fragment_fault slice.now 0 ≡ Some e) }
     {
         let header = Ipv6FragmentHeaderSlice::from_slice(slice)?;
@@ -77,8 +77,8 @@ impl Ipv6FragmentHeader {
     /// The header's bytes, with reserved bits zero. Read back, also with more bytes behind them, they give
     /// this header.
     pub fn to_bytes(&self) -> [u8; 8]
-        ensures spelling { IsFragmentSpelling self.now result }
-        ensures read_back { (r : List ℕ) → IsFragmentReading (result ++ r) self.now r }
+        ensures encoding { IsFragmentEncoding self.now result }
+        ensures read_back { (r : List ℕ) → IsFragmentDecoding (result ++ r) self.now r }
     {
         let offset = self.fragment_offset.value();
         let flag = if self.more_fragments { 0b1000_0000 } else { 0 };
@@ -98,7 +98,7 @@ impl Ipv6FragmentHeader {
     /// Appends the header's bytes. It refuses only where the vector has no room for them and can't grow;
     /// then its bytes stay as they were.
     pub fn write<A: Allocator>(&self, out: &mut Vec<u8, A>) -> Result<(), AllocError>
-        ensures ok { OnOk result (Appends (IsFragmentSpelling self.now) out.old.items out.new.items) }
+        ensures ok { OnOk result (Appends (IsFragmentEncoding self.now) out.old.items out.new.items) }
         ensures len { OnOk result (vec_len out.new ≡ vec_len out.old + 8) }
         ensures err { OnErr result (out.new.items ≡ out.old.items) }
         ensures full { OnErr result (vec_capacity out.old < vec_len out.old + 8) }
@@ -118,7 +118,7 @@ impl Ipv6FragmentHeader {
     /// Whether the packet has a piece of the payload and not the whole: more fragments follow, or the offset
     /// isn't 0.
     pub fn is_fragmenting_payload(&self) -> bool
-        ensures { result ≡ is_piece self.now.more_fragments self.now.fragment_offset }
+        ensures { result ≡ is_fragment self.now.more_fragments self.now.fragment_offset }
     {
         self.more_fragments || self.fragment_offset.value() != 0
     }

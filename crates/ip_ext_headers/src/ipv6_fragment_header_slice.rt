@@ -1,8 +1,8 @@
 ghost use Rattle.std.specs.Prelude.{◌≡◌, ℕ, List, IfOk, IfErr};
-ghost use Rattle.ip_ext_spec.specs.Front.{IsFront};
-ghost use Rattle.ip_ext_spec.specs.Header.{IsFragmentHeader};
-ghost use Rattle.ip_ext_spec.specs.Fields.{next_number, fragment_offset, has_more, identification, is_fragmenting};
-ghost use Rattle.ip_ext_spec.specs.FieldsOf.{fragment_fields};
+ghost use Rattle.ip_spec.specs.Prefix.{IsPrefix};
+ghost use Rattle.ip_spec.specs.Header.{IsFragmentHeader};
+ghost use Rattle.ip_spec.specs.Fields.{next_header, fragment_offset, more_fragments, identification, is_fragmenting};
+ghost use Rattle.ip_spec.specs.FieldsOf.{fragment_fields};
 
 use crate::Ipv6FragmentHeader;
 use ip_base::err::{Layer, LenError};
@@ -23,9 +23,9 @@ impl<'a> Ipv6FragmentHeaderSlice<'a> {
 
     /// The header that begins the slice. The error tells that there are fewer than 8 bytes.
     pub fn from_slice(slice: &'a [u8]) -> Result<Ipv6FragmentHeaderSlice<'a>, LenError>
-        ensures front { IfOk result (λ h. IsFront (bytes h) slice.now) }
+        ensures prefix { IfOk result (λ h. IsPrefix (bytes h) slice.now) }
         ensures header { IfOk result (λ h. IsFragmentHeader (bytes h)) }
-        ensures none { IfErr result (λ _. (b : List ℕ) → IsFragmentHeader b → IsFront b slice.now → ⊥) }
+        ensures none { IfErr result (λ _. (b : List ℕ) → IsFragmentHeader b → IsPrefix b slice.now → ⊥) }
         ensures fault { IfErr result (λ e. fragment_fault slice.now 0 ≡ Some e) }
     {
         if slice.len() < 8 {
@@ -50,7 +50,7 @@ impl<'a> Ipv6FragmentHeaderSlice<'a> {
 
     /// The number of what follows the header.
     pub fn next_header(&self) -> IpNumber
-        ensures { result.0 ≡ next_number (bytes self.now) }
+        ensures { result.0 ≡ next_header (bytes self.now) }
     {
         IpNumber(self.slice[0])
     }
@@ -65,7 +65,7 @@ impl<'a> Ipv6FragmentHeaderSlice<'a> {
 
     /// Whether more fragments of the payload follow.
     pub fn more_fragments(&self) -> bool
-        ensures { result ≡ has_more (bytes self.now) }
+        ensures { result ≡ more_fragments (bytes self.now) }
     {
         self.slice[3] & 0b1000_0000 != 0
     }

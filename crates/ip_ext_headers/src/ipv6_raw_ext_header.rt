@@ -1,9 +1,9 @@
 ghost use Rattle.std.specs.Prelude.{◌≡◌, ◌≤◌, ◌<◌, ◌+◌, ◌*◌, ◌++◌, ◌↔◌, ◌⊎◌, ℕ, List, length, replicate, IsTrue, IsOk, OnOk, OnErr, IfOk, IfErr, vec_len, vec_capacity};
-ghost use Rattle.ip_ext_spec.specs.Front.{IsFront};
-ghost use Rattle.ip_ext_spec.specs.Header.{IsRawHeader};
-ghost use Rattle.ip_ext_spec.specs.FieldsOf.{raw_fields, raw_len};
-ghost use Rattle.ip_ext_spec.specs.Spelling.{Appends, IsRawSpelling};
-ghost use Rattle.ip_ext_spec.specs.Reading.{IsRawReading};
+ghost use Rattle.ip_spec.specs.Prefix.{IsPrefix};
+ghost use Rattle.ip_spec.specs.Header.{IsRawHeader};
+ghost use Rattle.ip_spec.specs.FieldsOf.{raw_fields, raw_len};
+ghost use Rattle.ip_spec.specs.Encoding.{Appends, IsRawEncoding};
+ghost use Rattle.ip_spec.specs.Decoding.{IsRawDecoding};
 
 use crate::Ipv6RawExtHeaderSlice;
 use crate::err::ipv6_exts::ExtPayloadLenError;
@@ -29,7 +29,7 @@ pub struct Ipv6RawExtHeader {
 
 impl Model for Ipv6RawExtHeader {
     ghost use Rattle.std.specs.Prelude.{length};
-    ghost use Rattle.ip_ext_spec.specs.FieldsOf.{RawFields};
+    ghost use Rattle.ip_spec.specs.FieldsOf.{RawFields};
     ghost use Rattle.ip_ext_headers.specs.Lengths.{IsPayloadLen};
 
     ghost Value = { RawFields };
@@ -113,8 +113,8 @@ impl Ipv6RawExtHeader {
     /// The header that begins the slice, and what is behind it. The error tells that there are fewer than 8
     /// bytes, or fewer than the header's own length.
     pub fn from_slice(slice: &[u8]) -> Result<(Ipv6RawExtHeader, &[u8]), LenError>
-        ensures reading { IfOk result (λ p. IsRawReading slice.now p.0 p.1.now) }
-        ensures none { IfErr result (λ _. (b : List ℕ) → IsRawHeader b → IsFront b slice.now → ⊥) }
+        ensures decoding { IfOk result (λ p. IsRawDecoding slice.now p.0 p.1.now) }
+        ensures none { IfErr result (λ _. (b : List ℕ) → IsRawHeader b → IsPrefix b slice.now → ⊥) }
         ensures fault { IfErr result (λ e. raw_fault slice.now 0 ≡ Some e) }
     {
         let header = Ipv6RawExtHeaderSlice::from_slice(slice)?;
@@ -157,13 +157,13 @@ impl Ipv6RawExtHeader {
 
     /// The header's bytes. Read back, also with more bytes behind them, they give this header.
     pub fn to_bytes(&self) -> ArrayVec<u8, 2048>
-        ensures spelling { IsRawSpelling self.now result.items }
+        ensures encoding { IsRawEncoding self.now result.items }
         ensures len { length result.items ≡ raw_len self.now }
-        ensures read_back { (r : List ℕ) → IsRawReading (result.items ++ r) self.now r }
+        ensures read_back { (r : List ℕ) → IsRawDecoding (result.items ++ r) self.now r }
     {
         let mut bytes = ArrayVec::new();
         bytes.push(self.next_header.0);
-        bytes.push(self.length_byte());
+        bytes.push(self.hdr_ext_len());
         let _ = bytes.try_extend_from_slice(self.payload.as_slice());
         bytes
     }
@@ -171,7 +171,7 @@ impl Ipv6RawExtHeader {
     /// Appends the header's bytes. It refuses only where the vector has no room for them and can't grow;
     /// then its bytes stay as they were.
     pub fn write<A: Allocator>(&self, out: &mut Vec<u8, A>) -> Result<(), AllocError>
-        ensures ok { OnOk result (Appends (IsRawSpelling self.now) out.old.items out.new.items) }
+        ensures ok { OnOk result (Appends (IsRawEncoding self.now) out.old.items out.new.items) }
         ensures len { OnOk result (vec_len out.new ≡ vec_len out.old + raw_len self.now) }
         ensures err { OnErr result (out.new.items ≡ out.old.items) }
         ensures full { OnErr result (vec_capacity out.old < vec_len out.old + raw_len self.now) }
@@ -179,7 +179,7 @@ impl Ipv6RawExtHeader {
     {
         out.reserve(self.header_len())?;
         out.push_reserved(self.next_header.0);
-        out.push_reserved(self.length_byte());
+        out.push_reserved(self.hdr_ext_len());
         out.extend_from_slice(self.payload.as_slice())
     }
 
@@ -193,7 +193,7 @@ impl Ipv6RawExtHeader {
     }
 
     /// The units of 8 bytes after the first.
-    fn length_byte(&self) -> u8
+    fn hdr_ext_len(&self) -> u8
         ensures { raw_len self.now ≡ 8 * (result + 1) }
     {
         ((self.payload.len() - 6) / 8) as u8

@@ -1,8 +1,8 @@
 ghost use Rattle.std.specs.Prelude.{◌≡◌, ◌≤◌, ◌↔◌, ◌⊎◌, ℕ, List, length, IfOk, IfErr, IsTrue};
-ghost use Rattle.ip_ext_spec.specs.Front.{IsFront};
-ghost use Rattle.ip_ext_spec.specs.Header.{IsRawHeader};
-ghost use Rattle.ip_ext_spec.specs.Fields.{next_number, raw_payload};
-ghost use Rattle.ip_ext_spec.specs.FieldsOf.{raw_fields};
+ghost use Rattle.ip_spec.specs.Prefix.{IsPrefix};
+ghost use Rattle.ip_spec.specs.Header.{IsRawHeader};
+ghost use Rattle.ip_spec.specs.Fields.{next_header, raw_payload};
+ghost use Rattle.ip_spec.specs.FieldsOf.{raw_fields};
 
 use crate::Ipv6RawExtHeader;
 use ip_base::err::{Layer, LenError};
@@ -46,9 +46,9 @@ impl<'a> Ipv6RawExtHeaderSlice<'a> {
     /// The header that begins the slice. The error tells that there are fewer than 8 bytes, or fewer than
     /// the header's own length.
     pub fn from_slice(slice: &'a [u8]) -> Result<Ipv6RawExtHeaderSlice<'a>, LenError>
-        ensures front { IfOk result (λ h. IsFront (bytes h) slice.now) }
+        ensures prefix { IfOk result (λ h. IsPrefix (bytes h) slice.now) }
         ensures header { IfOk result (λ h. IsRawHeader (bytes h)) }
-        ensures none { IfErr result (λ _. (b : List ℕ) → IsRawHeader b → IsFront b slice.now → ⊥) }
+        ensures none { IfErr result (λ _. (b : List ℕ) → IsRawHeader b → IsPrefix b slice.now → ⊥) }
         ensures fault { IfErr result (λ e. raw_fault slice.now 0 ≡ Some e) }
     {
         if slice.len() < 8 {
@@ -87,7 +87,7 @@ impl<'a> Ipv6RawExtHeaderSlice<'a> {
 
     /// The number of what follows the header.
     pub fn next_header(&self) -> IpNumber
-        ensures { result.0 ≡ next_number (bytes self.now) }
+        ensures { result.0 ≡ next_header (bytes self.now) }
     {
         IpNumber(self.slice[0])
     }

@@ -4,7 +4,7 @@ use ip_base::{IpNumber, LenSource};
 use ip_ext_chains::err::ip_auth;
 use ip_ext_chains::err::ipv6_exts::{HeaderError, HeaderSliceError};
 use ip_ext_chains::{Ipv6ExtensionSlice, Ipv6ExtensionSliceIter, Ipv6ExtensionsSlice, plain_fault};
-use ip_ext_spec::longest_chain;
+use ip_spec::plain_longest_chain;
 use std::alloc::Global;
 use std::process::Abort;
 use std::test::Fail;
@@ -107,7 +107,7 @@ fn check_iterator(
 /// The plain slow program answers the row too.
 fn check_plain(rt: &impl Abort, alloc: Global, row: &Row<'_>) -> Result<(), Fail> {
     let name = row.name;
-    let plain = longest_chain(alloc, row.start, row.bytes)?;
+    let plain = plain_longest_chain(alloc, row.start, row.bytes)?;
     assert_eq!(rt; plain.number, row.number, "{name}");
     assert_eq!(rt; plain.rest, row.rest, "{name}");
     assert_eq!(rt; plain.headers.len(), row.headers.len(), "{name}");

@@ -1,11 +1,11 @@
 //! Callers of the owned headers, proved from their public clauses alone.
 ghost use Rattle.std.specs.Prelude.{◌≡◌, ◌≤◌, ◌+◌, IsTrue, IsOk, OnOk, vec_len, vec_capacity};
-ghost use Rattle.ip_ext_spec.specs.FieldsOf.{raw_len, auth_len};
-ghost use Rattle.ip_ext_spec.specs.Spelling.{Appends, IsRawSpelling};
+ghost use Rattle.ip_spec.specs.FieldsOf.{raw_len, auth_len};
+ghost use Rattle.ip_spec.specs.Encoding.{Appends, IsRawEncoding};
 
 use ip_base::IpNumber;
 use ip_ext_headers::{IpAuthHeader, Ipv6FragmentHeader, Ipv6RawExtHeader};
-use ip_ext_spec::one_reading;
+use ip_spec::one_decoding;
 use std::alloc::AllocError;
 
 /// Appends the header with another next number, and leaves the header itself alone.
@@ -14,7 +14,7 @@ pub fn write_before(
     next: IpNumber,
     out: &mut Vec<u8>,
 ) -> Result<(), AllocError>
-    ensures { OnOk result (Appends (IsRawSpelling (record header.now { next_header = next.0 })) out.old.items out.new.items) }
+    ensures { OnOk result (Appends (IsRawEncoding (record header.now { next_header = next.0 })) out.old.items out.new.items) }
 {
     let mut copy = header.clone()?;
     copy.next_header = next;
@@ -56,7 +56,7 @@ pub fn write_three(
 pub fn is_read_back(header: &IpAuthHeader) -> bool
     ensures { IsTrue result }
 {
-    one_reading();
+    one_decoding();
     let bytes = header.to_bytes();
     match IpAuthHeader::from_slice(bytes.as_slice()) {
         Ok((again, rest)) => again == *header && rest.is_empty(),

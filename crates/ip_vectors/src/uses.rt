@@ -1,7 +1,7 @@
 //! Short callers of the crates, proved from public clauses alone.
 ghost use Rattle.std.specs.Prelude.{◌≡◌, ◌≤◌, ◌+◌, ◌^◌, ◌<◌, length, take, false, IfOk, IfSome};
-ghost use Rattle.ip_ext_spec.specs.Header.{IsHeader};
-ghost use Rattle.ip_ext_spec.specs.Chain.{has_fragmenting, leads_to};
+ghost use Rattle.ip_spec.specs.Header.{IsHeader};
+ghost use Rattle.ip_spec.specs.Chain.{has_fragmenting, leads_to};
 ghost use Rattle.ip_ext_chains.specs.Longest.{longest_chain, rest_after};
 ghost use Rattle.ip_ext_chains.specs.Ipv6ExtensionsSlice.{bytes};
 ghost use Rattle.ipexts_tool.specs.Answers.{answers};
@@ -24,7 +24,7 @@ pub fn offset_in_packet(error: LenError, header_len: usize) -> usize
 pub fn first_header_len(number: u8, packet: &[u8]) -> Option<usize>
     ensures { IfSome result (λ len. (len ≤ length packet.now) × IsHeader number (take len packet.now)) }
 {
-    ip_ext_spec::next_len(true, number, packet)
+    ip_spec::next_len(true, number, packet)
 }
 
 /// How many extension headers begin the bytes.

@@ -2,7 +2,7 @@
 -- bytes (RFC 8200, section 4), and what comes after it.
 use Rattle.std.specs.Prelude.{ℕ, ◌+◌, ◌==◌, List, [], ◌∷◌, ◌++◌, length, Option, None, Some, if◌then◌else◌, codes}
 use Rattle.std.specs.Fmt.{decimal}
-use Rattle.ip_ext_chains.specs.Chain.{Numbered, leads_to}
+use Rattle.ip_ext_chains.specs.Chain.{ExtHeader, leads_to}
 use Rattle.ip_ext_chains.specs.Fault.{Fault, chain_fault}
 use Rattle.ip_ext_chains.specs.Longest.{longest_chain, rest_after}
 use Rattle.ip_ext_chains.specs.Names.{layer_name}
@@ -19,11 +19,11 @@ header_name n =
     else []
 
 -- `offset name length`
-abbrev pub header_line : ℕ → Numbered → List ℕ
+abbrev pub header_line : ℕ → ExtHeader → List ℕ
 header_line offset h = decimal offset ++ codes " " ++ header_name h.number ++ codes " " ++ decimal (length h.bytes) ++ codes "\n"
 
 -- a line for each header, where the first begins at this offset and each later one where the one before it ends
-abbrev pub header_lines : ℕ → List Numbered → List ℕ
+abbrev pub header_lines : ℕ → List ExtHeader → List ℕ
 header_lines offset [] = []
 header_lines offset (h ∷ headers) = header_line offset h ++ header_lines (offset + length h.bytes) headers
 

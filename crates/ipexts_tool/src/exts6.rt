@@ -1,6 +1,6 @@
 //! The answer to `exts6 N HEX`.
 ghost use Rattle.std.specs.Prelude.{◌≡◌, ◌++◌, ℕ, OnOk, string_bytes};
-ghost use Rattle.ip_ext_chains.specs.Ipv6ExtensionSlice.{numbered};
+ghost use Rattle.ip_ext_chains.specs.Ipv6ExtensionSlice.{header_of};
 ghost use Rattle.ip_ext_chains.specs.Ipv6ExtensionsSlice.{headers_in};
 ghost use Rattle.ipexts_tool.specs.Exts6.{exts6_answer, header_name, header_lines, end_line};
 
@@ -45,7 +45,7 @@ fn push_headers<A: Allocator>(
 
 /// The name of a header.
 fn name_of(header: &Ipv6ExtensionSlice<'_>) -> &'static str
-    ensures { result.now ≡ header_name (numbered header.now).number }
+    ensures { result.now ≡ header_name (header_of header.now).number }
 {
     match header {
         Ipv6ExtensionSlice::HopByHop(_) => "hopopt",
@@ -58,7 +58,7 @@ fn name_of(header: &Ipv6ExtensionSlice<'_>) -> &'static str
 
 /// The bytes of a header.
 fn bytes_of<'a>(header: &Ipv6ExtensionSlice<'a>) -> &'a [u8]
-    ensures { result.now ≡ (numbered header.now).bytes }
+    ensures { result.now ≡ (header_of header.now).bytes }
 {
     match header {
         Ipv6ExtensionSlice::HopByHop(header)

@@ -1,6 +1,6 @@
 use Rattle.std.proofs.Common.{length, drop}
-use Rattle.ip_ext_spec.specs.Chain.{leads_to, bytes_of, is_empty}
-use Rattle.ip_ext_spec.proofs.ChainLemmas.{longest_ends}
+use Rattle.ip_spec.specs.Chain.{leads_to, bytes_of, is_empty}
+use Rattle.ip_spec.proofs.ChainLemmas.{longest_ends}
 use Rattle.ip_ext_chains.proofs.FaultLemmas.{fault_at_end}
 use Rattle.ip_ext_chains.proofs.chain_laws.extension_number_left_has_fault.Goals as goal
 

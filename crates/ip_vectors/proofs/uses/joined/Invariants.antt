@@ -1,5 +1,5 @@
 use Rattle.std.proofs.Common.{◌≡◌, ◌++◌}
-use Rattle.ip_ext_spec.specs.Chain.{bytes_of}
+use Rattle.ip_spec.specs.Chain.{bytes_of}
 use Rattle.ip_ext_chains.specs.Ipv6ExtensionsSlice.{bytes}
 use Rattle.ip_ext_chains.specs.Ipv6ExtensionSliceIter.{headers_left}
 use Rattle.ip_vectors.proofs.uses.joined.Given as goal

@@ -1,4 +1,4 @@
-use Rattle.std.proofs.Common.{◌≡◌, ◌++◌, List, ℕ, ap, sym, ◌∙◌, append_assoc}
+use Rattle.std.proofs.Common.{◌++◌, List, ℕ, ap, sym, ◌∙◌, append_assoc}
 use Rattle.ipexts_tool.specs.Answers.{answer_of, answers}
 use Rattle.ipexts_tool.proofs.PlainLemmas.{answers-found}
 use Rattle.ipexts_tool.proofs.plain.plain_answers.Goals as goal

@@ -1,0 +1,67 @@
+-- The demands: none, at most so many headers, at most so many bytes, at most one header of one number.
+use Rattle.std.proofs.Common.{◌≡◌, ℕ, List, [], ◌∷◌, length, take, drop, refl, ap, sym, ◌∙◌, arith, inl, inr, ◌⊎◌, true}
+use Rattle.std.specs.List.{AllByRecursion}
+use Rattle.std.proofs.lemmas.List.{length-append, take-append-drop, length-take, length-drop}
+use Rattle.std.proofs.lemmas.List.Concat.{flat_map-append}
+use Rattle.ip_spec.specs.Chain.{ExtHeader, bytes_of, IsLongestChain, IsNext, IsEnd}
+use Rattle.ip_spec.specs.Demand.{IsDemand, IsLongestUnder, Keeps, NextBreaks, AtMost, AtMostOneOf, IsWithin}
+use Rattle.ip_spec.proofs.HeaderLemmas.{eq_or}
+use Rattle.ip_spec.proofs.StepLemmas.{all_first, goes_on, no_header_prefix}
+use Rattle.ip_spec.proofs.UnderLemmas.{kept_is_longest, longest_at_end_under}
+use Rattle.ip_spec.proofs.DemandLemmas.{demand_up_to, demand_both, demand_same}
+pub use Rattle.ip_spec.proofs.UnderLemmas.{no_demand}
+
+pub at_most : (k : ℕ) → IsDemand (AtMost k)
+at_most k = demand_up_to length k (omega arith) (λ c d. omega (arith, length-append c d))
+
+most_breaks : (k : ℕ) (d c rest : List ExtHeader) → c ≡ take k d → rest ≡ drop k d → NextBreaks (AtMost k) c rest
+most_breaks k d c [] e f = tt
+most_breaks k d c (x ∷ rest) e f = λ q. omega (arith, length-append c (x ∷ []), ap length e, ap length f, length-take k d, length-drop k d)
+
+-- it keeps the first k
+pub at_most_keeps : (k : ℕ) (d : List ExtHeader) → Keeps (AtMost k) d (take k d)
+at_most_keeps k d = record {
+  rest = drop k d;
+  joined = sym (take-append-drop k d);
+  meets = omega (arith, length-take k d);
+  breaks = most_breaks k d (take k d) (drop k d) refl refl;
+}
+
+-- so the longest chain of at most k headers is the first k of the longest
+pub longest_at_most : (k n : ℕ) (s : List ℕ) (d : List ExtHeader) → IsLongestChain n s d → IsLongestUnder (AtMost k) n s (take k d)
+longest_at_most k n s d l = kept_is_longest (AtMost k) (at_most k) n s d (take k d) l (at_most_keeps k d)
+
+all_or : {X : Type 0} (P : X → Type 0) → ((x : X) → P x ⊎ (P x → ⊥)) → (c : List X) → AllByRecursion P c ⊎ (AllByRecursion P c → ⊥)
+all_or P test [] = inl tt
+all_or P test (x ∷ c) = elim (test x) [
+  | inr fails ↦ inr (λ a. fails a.0)
+  | inl p ↦ elim (all_or P test c) [ inr fails ↦ inr (λ a. fails a.1) | inl a ↦ inl (p, a) ]
+]
+
+pub demand_all : {X : Type 0} (P : X → Type 0) → ((x : X) → P x ⊎ (P x → ⊥)) → IsDemand (AllByRecursion P)
+demand_all P test = record { empty = tt; begins = all_first P; decided = all_or P test }
+
+pub at_most_one_of : (m : ℕ) → IsDemand (AtMostOneOf m)
+at_most_one_of m =
+    let Numbers : List ExtHeader → Type 0 = λ c. AllByRecursion (λ h. h.number ≡ m) c in
+    demand_same (λ c. AtMost 1 c × Numbers c) (AtMostOneOf m)
+    (demand_both (AtMost 1) Numbers (at_most 1) (demand_all (λ h. h.number ≡ m) (λ h. eq_or h.number m)))
+    (λ c a. record { one = a.0; number = a.1 })
+    (λ c a. (a.one, a.number))
+
+-- where a header of number m is first, it alone is the longest, and else there is none
+pub one_of_first : (m n : ℕ) (s : List ℕ) (h : ExtHeader) → IsNext true n s h → n ≡ m → IsLongestUnder (AtMostOneOf m) n s (h ∷ [])
+one_of_first m n s h x e =
+    longest_at_end_under (AtMostOneOf m) (at_most_one_of m) n s (h ∷ [])
+    (record { has = goes_on n s [] h (no_header_prefix n s) x; meets = record { one = omega arith; number = (x.number ∙ e, tt) } })
+    (λ g y q. omega (arith, q.one))
+
+pub one_of_none : (m n : ℕ) (s : List ℕ) → (n ≡ m → IsEnd true n s) → IsLongestUnder (AtMostOneOf m) n s []
+one_of_none m n s e =
+    longest_at_end_under (AtMostOneOf m) (at_most_one_of m) n s []
+    (record { has = no_header_prefix n s; meets = (at_most_one_of m).empty })
+    (λ g y q. e (sym y.number ∙ q.number.0) g y)
+
+-- it only grows
+pub within : (j : ℕ) → IsDemand (IsWithin j)
+within j = demand_up_to (λ (c : List ExtHeader). length (bytes_of c)) j (omega arith) (λ c d. omega (arith, ap length (flat_map-append (λ h. h.bytes) c d), length-append (bytes_of c) (bytes_of d)))

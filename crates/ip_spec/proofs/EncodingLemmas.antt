@@ -1,0 +1,226 @@
+-- The fields of a header, and the header that says them.
+use Rattle.std.proofs.Common.{◌≡◌, ℕ, ◌+◌, ◌-◌, ◌*◌, ◌/◌, ◌%◌, ◌^◌, ◌<◌, ◌≤◌, List, [], ◌∷◌, ◌++◌, length, get_or, take, drop, refl, ap, sym, ◌∙◌, arith, inl, inr, subst, Bool, true, false, cond, bit_and}
+use Rattle.std.specs.Prelude.{◌==◌, not}
+use Rattle.std.specs.Int.{to_be_bytes, from_be_bytes, w32}
+use Rattle.std.proofs.lemmas.List.{append_cancel_left, get_or_past, take_all}
+use Rattle.std.proofs.lemmas.List.Elements.{All-get_or, All-take, All-drop}
+use Rattle.std.proofs.lemmas.Nat.{and_comm, and_assoc, and_mask, and-not, be_bytes_4, from_be_bytes-to_be_bytes_4}
+use Rattle.std.proofs.lemmas.Nat.Bits.{and_high, and_pow}
+use Rattle.std.proofs.lemmas.Bool.{cases_lt}
+use Rattle.ip_spec.specs.Header.{IsHeader, IsFragmentHeader, IsAuthHeader}
+use Rattle.ip_spec.specs.Fields.{more_fragments, unreserved_bits}
+use Rattle.ip_spec.specs.FieldsOf.{RawFields, FragmentFields, AuthFields, fragment_fields, auth_fields}
+use Rattle.ip_spec.specs.Cleared.{cleared_fragment, cleared_auth}
+use Rattle.ip_spec.specs.Encoding.{AreBytes, IsEncoding, IsRawEncoding, IsFragmentEncoding, IsAuthEncoding}
+use Rattle.ip_spec.specs.Decoding.{IsDecoding}
+use Rattle.ip_spec.proofs.HeaderLemmas.{same_header}
+
+-- what bytes begin with is determined where each header of the layout is one of a number
+pub one_decoding_of : {V : Type 0} (n : ℕ) (IsOne : List ℕ → Type 0) (fields_of : List ℕ → V) → ((b : List ℕ) → IsOne b → IsHeader n b)
+    → (s : List ℕ) (v w : V) (r q : List ℕ) → IsDecoding IsOne fields_of s v r → IsDecoding IsOne fields_of s w q → (v ≡ w) × (r ≡ q)
+one_decoding_of n IsOne fields_of of_number s v w r q x y =
+    let same : x.bytes ≡ y.bytes = same_header n x.bytes y.bytes r q (of_number x.bytes x.header) (of_number y.bytes y.header) (x.joined ∙ sym y.joined) in (
+      sym x.fields ∙ ap fields_of same ∙ y.fields,
+      append_cancel_left x.bytes r q (x.joined ∙ sym y.joined ∙ ap (λ b. b ++ q) (sym same)),
+    )
+
+-- what spells fields is read so, whatever is behind it
+pub encoding_is_decoded : {V : Type 0} (IsOne : List ℕ → Type 0) (fields_of : List ℕ → V) (cleared : List ℕ → List ℕ) (v : V) (b r : List ℕ)
+    → IsEncoding IsOne fields_of cleared v b → IsDecoding IsOne fields_of (b ++ r) v r
+encoding_is_decoded IsOne fields_of cleared v b r s = record { bytes = b; header = s.header; fields = s.fields; joined = refl }
+
+-- The first four of a list.
+pub record FirstFour (b : List ℕ) : Type 0 where
+  pub x0 : ℕ
+  pub x1 : ℕ
+  pub x2 : ℕ
+  pub x3 : ℕ
+  pub rest : List ℕ
+  pub joined : x0 ∷ x1 ∷ x2 ∷ x3 ∷ rest ≡ b
+
+pub first_four : (b : List ℕ) → 4 ≤ length b → FirstFour b
+first_four [] l = absurd (omega arith)
+first_four (x0 ∷ []) l = absurd (omega arith)
+first_four (x0 ∷ x1 ∷ []) l = absurd (omega arith)
+first_four (x0 ∷ x1 ∷ x2 ∷ []) l = absurd (omega arith)
+first_four (x0 ∷ x1 ∷ x2 ∷ x3 ∷ rest) l = record { x0 = x0; x1 = x1; x2 = x2; x3 = x3; rest = rest; joined = refl }
+
+-- each number of bytes, and the default behind them, is a byte
+pub byte_at : (b : List ℕ) → AreBytes b → (i : ℕ) → get_or b i 0 < 256
+byte_at b h i = elim (cases_lt i (length b)) [
+  | inl within ↦ All-get_or (λ x. x < 256) b i 0 within h
+  | inr past ↦ rw (get_or_past b i 0 past) (omega arith)
+]
+
+-- Byte 3 of a fragment header.
+module _ (x : ℕ) where
+  pub low_bits : bit_and x 0x1f ≡ x % 32
+  low_bits = and_mask x 5
+
+  pub high_bit : bit_and x 0x80 ≡ x / 128 % 2 * 128
+  high_bit = and_pow x 7
+
+  pub kept_bits : x < 256 → bit_and x 0x9f + x / 32 % 4 * 32 ≡ x
+  kept_bits small =
+      let other : bit_and 0x60 x ≡ x / 32 % 4 * 32 = and_comm 0x60 x ∙ and_high x 2 5 in
+      let all : bit_and 0x9f x + bit_and 0x60 x ≡ x = and-not 8 0x60 x (omega arith) small in
+      omega (arith, all, other, and_comm x 0x9f)
+
+  -- the bits below the flag, and the flag
+  pub flagged : x < 256 → x ≡ x % 128 + cond (not (bit_and x 0x80 == 0)) 128 0
+  flagged small = elim (cases_lt x 128) [
+    | inl low ↦ let e : bit_and x 0x80 ≡ 0 = omega (arith, high_bit) in rw e (omega arith)
+    | inr high ↦ let e : bit_and x 0x80 ≡ 128 = omega (arith, high_bit) in rw e (omega arith)
+  ]
+
+-- The encoding of fields. It is a way to prove, and no definition: the relations say what a encoding is.
+abbrev pub raw_written : RawFields → List ℕ
+raw_written v = v.next_header ∷ (length v.payload - 6) / 8 ∷ v.payload
+
+abbrev pub flagged_byte : ℕ → Bool → ℕ
+flagged_byte offset more = offset % 32 + cond more 128 0
+
+abbrev pub fragment_written : FragmentFields → List ℕ
+fragment_written v =
+    v.next_header ∷ 0 ∷ v.fragment_offset / 32 ∷ flagged_byte v.fragment_offset v.more_fragments ∷ to_be_bytes w32 v.identification
+
+abbrev pub auth_written : AuthFields → List ℕ
+auth_written v =
+    v.next_header ∷ (length v.raw_icv / 4 + 1) ∷ 0 ∷ 0 ∷ (to_be_bytes w32 v.spi ++ (to_be_bytes w32 v.sequence_number ++ v.raw_icv))
+
+-- it spells them
+pub raw_written_encodes : (v : RawFields) → 6 ≤ length v.payload → (length v.payload + 2) % 8 ≡ 0 → IsRawEncoding v (raw_written v)
+raw_written_encodes v least whole = record { header = record { least = omega arith; len = omega arith }; fields = refl; reserved = refl }
+
+module _ (offset : ℕ) where
+  byte_low : (more : Bool) → bit_and (flagged_byte offset more) 0x1f ≡ offset % 32
+  byte_low true = omega (arith, low_bits (offset % 32 + 128))
+  byte_low false = omega (arith, low_bits (offset % 32 + 0))
+
+  byte_flag : (more : Bool) → not (bit_and (flagged_byte offset more) 0x80 == 0) ≡ more
+  byte_flag true = let e : bit_and (offset % 32 + 128) 0x80 ≡ 128 = omega (arith, high_bit (offset % 32 + 128)) in ap (λ n. not (n == 0)) e
+  byte_flag false = let e : bit_and (offset % 32 + 0) 0x80 ≡ 0 = omega (arith, high_bit (offset % 32 + 0)) in ap (λ n. not (n == 0)) e
+
+  byte_kept : (more : Bool) → unreserved_bits (flagged_byte offset more) ≡ flagged_byte offset more
+  byte_kept true = omega (arith, kept_bits (offset % 32 + 128) (omega arith))
+  byte_kept false = omega (arith, kept_bits (offset % 32 + 0) (omega arith))
+
+pub fragment_written_encodes : (v : FragmentFields) → v.identification < 2 ^ 32 → IsFragmentEncoding v (fragment_written v)
+fragment_written_encodes v small =
+    let o : ℕ = v.fragment_offset in
+    let m : Bool = v.more_fragments in
+    let fields : ℕ → Bool → ℕ → FragmentFields = λ a b i. record { next_header = v.next_header; fragment_offset = a; more_fragments = b; identification = i } in
+    let f : List ℕ = fragment_written v in
+    record {
+      header = record { len = refl };
+      fields =
+          ap (λ a. fields a (more_fragments f) (from_be_bytes w32 (to_be_bytes w32 v.identification))) (ap (λ x. 32 * (o / 32) + x) (byte_low o m) ∙ omega arith)
+          ∙ ap (λ b. fields o b (from_be_bytes w32 (to_be_bytes w32 v.identification))) (byte_flag o m)
+          ∙ ap (λ i. fields o m i) (from_be_bytes-to_be_bytes_4 v.identification small);
+      reserved = ap (λ x. v.next_header ∷ 0 ∷ o / 32 ∷ x ∷ to_be_bytes w32 v.identification) (byte_kept o m);
+    }
+
+pub auth_written_encodes : (v : AuthFields) → length v.raw_icv % 4 ≡ 0 → v.spi < 2 ^ 32 → v.sequence_number < 2 ^ 32 → IsAuthEncoding v (auth_written v)
+auth_written_encodes v whole small small' =
+    let fields : ℕ → ℕ → AuthFields = λ a b. record { next_header = v.next_header; spi = a; sequence_number = b; raw_icv = v.raw_icv } in
+    record {
+      header = record { not_zero = omega arith; len = omega arith };
+      fields =
+          ap (λ a. fields a (from_be_bytes w32 (to_be_bytes w32 v.sequence_number))) (from_be_bytes-to_be_bytes_4 v.spi small)
+          ∙ ap (λ b. fields v.spi b) (from_be_bytes-to_be_bytes_4 v.sequence_number small');
+      reserved = refl;
+    }
+
+-- and nothing else does
+fragment_only_parts : (v : FragmentFields) (x0 x1 x2 x3 : ℕ) (rest : List ℕ) → AreBytes (x0 ∷ x1 ∷ x2 ∷ x3 ∷ rest)
+    → IsFragmentEncoding v (x0 ∷ x1 ∷ x2 ∷ x3 ∷ rest) → x0 ∷ x1 ∷ x2 ∷ x3 ∷ rest ≡ fragment_written v
+fragment_only_parts v x0 x1 x2 x3 rest bytes h =
+    let b : List ℕ = x0 ∷ x1 ∷ x2 ∷ x3 ∷ rest in
+    let four : length rest ≡ 4 = omega (arith, h.header.len) in
+    let small : x3 < 256 = byte_at b bytes 3 in
+    let whole : take 4 rest ≡ rest = take_all 4 rest (omega arith) in
+    let number : x0 ≡ v.next_header = ap (λ (w : FragmentFields). w.next_header) h.fields in
+    let offset : 32 * x2 + bit_and x3 0x1f ≡ v.fragment_offset = ap (λ (w : FragmentFields). w.fragment_offset) h.fields in
+    let more : not (bit_and x3 0x80 == 0) ≡ v.more_fragments = ap (λ (w : FragmentFields). w.more_fragments) h.fields in
+    let same_id : from_be_bytes w32 (take 4 rest) ≡ v.identification = ap (λ (w : FragmentFields). w.identification) h.fields in
+    let zero_byte : x1 ≡ 0 = ap (λ l. get_or l 1 0) (sym h.reserved) in
+    let kept : bit_and x3 0x9f ≡ x3 = ap (λ l. get_or l 3 0) h.reserved in
+    let second : x2 ≡ v.fragment_offset / 32 = omega (arith, offset, low_bits x3) in
+    let third : x3 ≡ flagged_byte v.fragment_offset v.more_fragments =
+    rw (← more) (omega (arith, offset, low_bits x3, kept, kept_bits x3 small, flagged x3 small)) in
+    let id : to_be_bytes w32 v.identification ≡ rest =
+    be_bytes_4 rest v.identification four (λ i. byte_at rest (All-drop (λ x. x < 256) 4 b bytes) i) (sym same_id ∙ ap (from_be_bytes w32) whole) in
+    let written : ℕ → ℕ → ℕ → ℕ → List ℕ → List ℕ = λ a c d e f. a ∷ c ∷ d ∷ e ∷ f in
+    ap (λ a. written a x1 x2 x3 rest) number ∙ ap (λ c. written v.next_header c x2 x3 rest) zero_byte
+    ∙ ap (λ d. written v.next_header 0 d x3 rest) second ∙ ap (λ e. written v.next_header 0 (v.fragment_offset / 32) e rest) third
+    ∙ ap (λ f. written v.next_header 0 (v.fragment_offset / 32) (flagged_byte v.fragment_offset v.more_fragments) f) (sym id)
+
+pub fragment_only : (v : FragmentFields) (b : List ℕ) → AreBytes b → IsFragmentEncoding v b → b ≡ fragment_written v
+fragment_only v b bytes h =
+    let f : FirstFour b = first_four b (omega (arith, h.header.len)) in
+    let P : List ℕ → Type 0 = λ l. AreBytes l → IsFragmentEncoding v l → l ≡ fragment_written v in
+    subst P f.joined (fragment_only_parts v f.x0 f.x1 f.x2 f.x3 f.rest) bytes h
+
+module _ (v : AuthFields) (x0 x1 x2 x3 y0 y1 y2 y3 z0 z1 z2 z3 : ℕ) (rest : List ℕ) where
+  abbrev twelve : List ℕ
+  twelve = x0 ∷ x1 ∷ x2 ∷ x3 ∷ y0 ∷ y1 ∷ y2 ∷ y3 ∷ z0 ∷ z1 ∷ z2 ∷ z3 ∷ rest
+
+  auth_only_parts : AreBytes twelve → IsAuthEncoding v twelve → twelve ≡ auth_written v
+  auth_only_parts bytes h =
+      let ys : List ℕ = y0 ∷ y1 ∷ y2 ∷ y3 ∷ [] in
+      let zs : List ℕ = z0 ∷ z1 ∷ z2 ∷ z3 ∷ [] in
+      let number : x0 ≡ v.next_header = ap (λ (w : AuthFields). w.next_header) h.fields in
+      let icv : rest ≡ v.raw_icv = ap (λ (w : AuthFields). w.raw_icv) h.fields in
+      let len : x1 ≡ length v.raw_icv / 4 + 1 = omega (arith, h.header.len, h.header.not_zero, ap length icv) in
+      let zero_two : x2 ≡ 0 = ap (λ l. get_or l 2 0) (sym h.reserved) in
+      let zero_three : x3 ≡ 0 = ap (λ l. get_or l 3 0) (sym h.reserved) in
+      let index : to_be_bytes w32 v.spi ≡ ys =
+      be_bytes_4 ys v.spi refl (λ i. byte_at ys (All-take (λ x. x < 256) 4 (drop 4 twelve) (All-drop (λ x. x < 256) 4 twelve bytes)) i) (sym (ap (λ (w : AuthFields). w.spi) h.fields)) in
+      let sequence : to_be_bytes w32 v.sequence_number ≡ zs =
+      be_bytes_4 zs v.sequence_number refl (λ i. byte_at zs (All-take (λ x. x < 256) 4 (drop 8 twelve) (All-drop (λ x. x < 256) 8 twelve bytes)) i) (sym (ap (λ (w : AuthFields). w.sequence_number) h.fields)) in
+      let written : ℕ → ℕ → ℕ → ℕ → List ℕ → List ℕ → List ℕ → List ℕ = λ a c d e s q i. a ∷ c ∷ d ∷ e ∷ (s ++ (q ++ i)) in
+      ap (λ a. written a x1 x2 x3 ys zs rest) number ∙ ap (λ a. written v.next_header a x2 x3 ys zs rest) len
+      ∙ ap (λ a. written v.next_header (length v.raw_icv / 4 + 1) a x3 ys zs rest) zero_two
+      ∙ ap (λ a. written v.next_header (length v.raw_icv / 4 + 1) 0 a ys zs rest) zero_three
+      ∙ ap (λ s. written v.next_header (length v.raw_icv / 4 + 1) 0 0 s zs rest) (sym index)
+      ∙ ap (λ s. written v.next_header (length v.raw_icv / 4 + 1) 0 0 (to_be_bytes w32 v.spi) s rest) (sym sequence)
+      ∙ ap (λ s. written v.next_header (length v.raw_icv / 4 + 1) 0 0 (to_be_bytes w32 v.spi) (to_be_bytes w32 v.sequence_number) s) icv
+
+pub auth_only : (v : AuthFields) (b : List ℕ) → AreBytes b → IsAuthEncoding v b → b ≡ auth_written v
+auth_only v b bytes h =
+    let f : FirstFour b = first_four b (omega (arith, h.header.len, h.header.not_zero)) in
+    let g : FirstFour f.rest = first_four f.rest (omega (arith, h.header.len, h.header.not_zero, ap length f.joined)) in
+    let k : FirstFour g.rest = first_four g.rest (omega (arith, h.header.len, h.header.not_zero, ap length f.joined, ap length g.joined)) in
+    let e : twelve v f.x0 f.x1 f.x2 f.x3 g.x0 g.x1 g.x2 g.x3 k.x0 k.x1 k.x2 k.x3 k.rest ≡ b =
+    ap (λ l. f.x0 ∷ f.x1 ∷ f.x2 ∷ f.x3 ∷ l) (ap (λ l. g.x0 ∷ g.x1 ∷ g.x2 ∷ g.x3 ∷ l) k.joined ∙ g.joined) ∙ f.joined in
+    let P : List ℕ → Type 0 = λ l. AreBytes l → IsAuthEncoding v l → l ≡ auth_written v in
+    subst P e (auth_only_parts v f.x0 f.x1 f.x2 f.x3 g.x0 g.x1 g.x2 g.x3 k.x0 k.x1 k.x2 k.x3 k.rest) bytes h
+
+-- A header that is cleared says what it said.
+cleared_fragment_parts : (x0 x1 x2 x3 : ℕ) (rest : List ℕ) → length rest ≡ 4
+    → IsFragmentEncoding (fragment_fields (x0 ∷ x1 ∷ x2 ∷ x3 ∷ rest)) (cleared_fragment (x0 ∷ x1 ∷ x2 ∷ x3 ∷ rest))
+cleared_fragment_parts x0 x1 x2 x3 rest four =
+    let fields : ℕ → Bool → FragmentFields = λ a m. record { next_header = x0; fragment_offset = a; more_fragments = m; identification = from_be_bytes w32 (take 4 rest) } in
+    record {
+      header = record { len = omega arith };
+      fields =
+          ap (λ y. fields (32 * x2 + y) (not (bit_and (bit_and x3 0x9f) 0x80 == 0))) (and_assoc 0x1f x3 0x9f)
+          ∙ ap (λ y. fields (32 * x2 + bit_and x3 0x1f) (not (y == 0))) (and_assoc 0x80 x3 0x9f);
+      reserved = ap (λ y. x0 ∷ 0 ∷ x2 ∷ y ∷ rest) (and_assoc 0x9f x3 0x9f);
+    }
+
+pub cleared_fragment_encodes : (b : List ℕ) → IsFragmentHeader b → IsFragmentEncoding (fragment_fields b) (cleared_fragment b)
+cleared_fragment_encodes b h =
+    let f : FirstFour b = first_four b (omega (arith, h.len)) in
+    let P : List ℕ → Type 0 = λ l. IsFragmentEncoding (fragment_fields l) (cleared_fragment l) in
+    subst P f.joined (cleared_fragment_parts f.x0 f.x1 f.x2 f.x3 f.rest (omega (arith, h.len, ap length f.joined)))
+
+cleared_auth_parts : (x0 x1 x2 x3 : ℕ) (rest : List ℕ) → IsAuthHeader (x0 ∷ x1 ∷ x2 ∷ x3 ∷ rest)
+    → IsAuthEncoding (auth_fields (x0 ∷ x1 ∷ x2 ∷ x3 ∷ rest)) (cleared_auth (x0 ∷ x1 ∷ x2 ∷ x3 ∷ rest))
+cleared_auth_parts x0 x1 x2 x3 rest h = record { header = record { not_zero = h.not_zero; len = h.len }; fields = refl; reserved = refl }
+
+pub cleared_auth_encodes : (b : List ℕ) → IsAuthHeader b → IsAuthEncoding (auth_fields b) (cleared_auth b)
+cleared_auth_encodes b h =
+    let f : FirstFour b = first_four b (omega (arith, h.len, h.not_zero)) in
+    let P : List ℕ → Type 0 = λ l. IsAuthHeader l → IsAuthEncoding (auth_fields l) (cleared_auth l) in
+    subst P f.joined (cleared_auth_parts f.x0 f.x1 f.x2 f.x3 f.rest) h

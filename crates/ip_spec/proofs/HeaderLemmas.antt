@@ -1,0 +1,174 @@
+-- Headers, and headers at the prefix of bytes.
+use Rattle.std.proofs.Common.{◌≡◌, ◌≢◌, ℕ, zero, suc, ◌+◌, ◌*◌, ◌<◌, ◌≤◌, List, ◌++◌, length, get_or, take, drop, refl, ap, sym, ◌∙◌, arith, inl, inr, ◌⊎◌, subst, Bool, true, false, nat_eq, cond, slice_index}
+use Rattle.std.proofs.lemmas.Grind.{common_steps}
+use Rattle.std.proofs.lemmas.List.{get_or_append_left, take_at, length-take-le}
+use Rattle.std.proofs.Math.Seq.{take-append_seam}
+use Rattle.std.proofs.lemmas.Bool.{cases_lt}
+use Rattle.std.proofs.lemmas.Bool.Decides.{eqb_tells}
+use Rattle.ip_spec.specs.Header.{IsHeader, IsRawHeader, IsFragmentHeader, IsAuthHeader, IsRawNumber, raw, fragment, auth}
+use Rattle.ip_spec.specs.Prefix.{IsPrefix}
+use Rattle.ip_spec.specs.Chain.{ExtHeader, IsNext, IsEnd}
+use Rattle.ip_spec.proofs.PrefixLemmas.{prefix-append, prefix_of-take, prefix-length}
+
+pub eq_or : (m n : ℕ) → (m ≡ n) ⊎ (m ≢ n)
+eq_or m n = elim (eqb_tells m n) [ inl w ↦ inl w.1 | inr w ↦ inr w.1 ]
+
+le_or : (m n : ℕ) → (m ≤ n) ⊎ (n < m)
+le_or m n = elim (cases_lt n m) [ inl l ↦ inr l | inr l ↦ inl l ]
+
+-- What a number can be.
+pub data Kind (n : ℕ) : Type 0 where
+  is_raw : IsRawNumber n → Kind n
+  is_fragment : n ≡ 44 → Kind n
+  is_auth : n ≡ 51 → Kind n
+  is_other : (IsRawNumber n → ⊥) → n ≢ 44 → n ≢ 51 → Kind n
+
+raw_or : (n : ℕ) → IsRawNumber n ⊎ (IsRawNumber n → ⊥)
+raw_or n = elim (eq_or n 0) [
+  | inl e ↦ inl (inl e)
+  | inr z ↦ elim (eq_or n 43) [
+    | inl e ↦ inl (inr (inl e))
+    | inr r ↦ elim (eq_or n 60) [
+      | inl e ↦ inl (inr (inr e))
+      | inr d ↦ inr (λ k. elim k [ inl e ↦ z e | inr k' ↦ elim k' [ inl e ↦ r e | inr e ↦ d e ] ])
+    ]
+  ]
+]
+
+pub kind : (n : ℕ) → Kind n
+kind n = elim (raw_or n) [
+  | inl k ↦ is_raw k
+  | inr r ↦ elim (eq_or n 44) [
+    | inl e ↦ is_fragment e
+    | inr f ↦ elim (eq_or n 51) [ inl e ↦ is_auth e | inr a ↦ is_other r f a ]
+  ]
+]
+
+-- Of a number, the layout of its headers.
+pub raw_of : (n : ℕ) (b : List ℕ) → IsRawNumber n → IsHeader n b → IsRawHeader b
+raw_of n b k h = elim h [ raw k' r ↦ r | fragment e f ↦ absurd (grind (arith, common_steps)) | auth e a ↦ absurd (grind (arith, common_steps)) ]
+
+pub fragment_of : (n : ℕ) (b : List ℕ) → n ≡ 44 → IsHeader n b → IsFragmentHeader b
+fragment_of n b k h = elim h [ raw k' r ↦ absurd (grind (arith, common_steps)) | fragment e f ↦ f | auth e a ↦ absurd (omega arith) ]
+
+pub auth_of : (n : ℕ) (b : List ℕ) → n ≡ 51 → IsHeader n b → IsAuthHeader b
+auth_of n b k h = elim h [ raw k' r ↦ absurd (grind (arith, common_steps)) | fragment e f ↦ absurd (omega arith) | auth e a ↦ a ]
+
+pub header-least : (n : ℕ) (b : List ℕ) → IsHeader n b → 8 ≤ length b
+header-least n b h = elim h [ raw k r ↦ r.least | fragment k f ↦ omega (arith, f.len) | auth k a ↦ omega (arith, a.len, a.not_zero) ]
+
+-- Whether bytes are a header.
+raw_header_or : (b : List ℕ) → IsRawHeader b ⊎ (IsRawHeader b → ⊥)
+raw_header_or b = elim (le_or 8 (length b)) [
+  | inr few ↦ inr (λ h. omega (arith, h.least))
+  | inl enough ↦ elim (eq_or (length b) (8 * (slice_index b 1 + 1))) [
+    | inl e ↦ inl (record { least = enough; len = e })
+    | inr d ↦ inr (λ h. d h.len)
+  ]
+]
+
+auth_header_or : (b : List ℕ) → IsAuthHeader b ⊎ (IsAuthHeader b → ⊥)
+auth_header_or b = elim (le_or 1 (slice_index b 1)) [
+  | inr zero_len ↦ inr (λ h. omega (arith, h.not_zero))
+  | inl some_len ↦ elim (eq_or (length b) (4 * (slice_index b 1 + 2))) [
+    | inl e ↦ inl (record { not_zero = some_len; len = e })
+    | inr d ↦ inr (λ h. d h.len)
+  ]
+]
+
+pub header_or : (n : ℕ) (b : List ℕ) → IsHeader n b ⊎ (IsHeader n b → ⊥)
+header_or n b = elim (kind n) [
+  | is_raw k ↦ elim (raw_header_or b) [ inl r ↦ inl (raw k r) | inr none ↦ inr (λ h. none (raw_of n b k h)) ]
+  | is_fragment k ↦ elim (eq_or (length b) 8) [ inl e ↦ inl (fragment k (record { len = e })) | inr none ↦ inr (λ h. none (fragment_of n b k h).len) ]
+  | is_auth k ↦ elim (auth_header_or b) [ inl a ↦ inl (auth k a) | inr none ↦ inr (λ h. none (auth_of n b k h)) ]
+  | is_other r f a ↦ inr (λ h. elim h [ raw k x ↦ r k | fragment k x ↦ f k | auth k x ↦ a k ])
+]
+
+-- how long the header of number n with t as byte 1 is
+told : ℕ → ℕ → ℕ
+told n t = cond (nat_eq n 44) 8 (cond (nat_eq n 51) (4 * (t + 2)) (8 * (t + 1)))
+
+told_raw : (n t : ℕ) → IsRawNumber n → told n t ≡ 8 * (t + 1)
+unfolding told
+told_raw n t k = grind (arith, common_steps)
+
+header-told : (n : ℕ) (b : List ℕ) → IsHeader n b → length b ≡ told n (slice_index b 1)
+unfolding told
+header-told n b h = elim h [
+  | raw k r ↦ r.len ∙ sym (told_raw n (slice_index b 1) k)
+  | fragment k f ↦ f.len ∙ ap (λ m. told m (slice_index b 1)) (sym k)
+  | auth k a ↦ a.len ∙ ap (λ m. told m (slice_index b 1)) (sym k)
+]
+
+-- two headers of one number at one place are one
+pub same_header : (n : ℕ) (b d x y : List ℕ) → IsHeader n b → IsHeader n d → b ++ x ≡ d ++ y → b ≡ d
+same_header n b d x y hb hd e =
+    let lb : 8 ≤ length b = header-least n b hb in
+    let ld : 8 ≤ length d = header-least n d hd in
+    let same_byte : slice_index b 1 ≡ slice_index d 1 =
+    sym (get_or_append_left b x 0 1 (omega arith)) ∙ ap (λ l. get_or l 1 0) e ∙ get_or_append_left d y 0 1 (omega arith) in
+    let same_len : length b ≡ length d =
+    header-told n b hb ∙ ap (told n) same_byte ∙ sym (header-told n d hd) in
+    sym (take-append_seam b x) ∙ ap (take (length b)) e ∙ take_at d y (length b) (sym same_len)
+
+-- whether a header of fewer than k bytes begins s
+short_header_or : (n : ℕ) (s : List ℕ) (k : ℕ) → ((b : List ℕ) × IsHeader n b × IsPrefix b s) ⊎ ((b : List ℕ) → IsHeader n b → IsPrefix b s → length b < k → ⊥)
+short_header_or n s zero = inr (λ b h f l. omega arith)
+short_header_or n s (suc k) = elim (short_header_or n s k) [
+  | inl found ↦ inl found
+  | inr none ↦ elim (header_or n (take k s)) [
+    | inl h ↦ inl (take k s, h, prefix_of-take k s)
+    | inr not_here ↦ inr (λ b h f l. elim (eq_or (length b) k) [
+      | inl e ↦ let P : List ℕ → Type 0 = IsHeader n in not_here (subst P (sym f ∙ ap (λ (j : ℕ). take j s) e) h)
+      | inr d ↦ none b h f (omega arith)
+    ])
+  ]
+]
+
+first_or : (m : ℕ) (r : List ℕ) → ((h : ExtHeader) × IsNext true m r h) ⊎ IsEnd true m r
+first_or m r = elim (short_header_or m r (suc (length r))) [
+  | inl (b, h, f) ↦ inl (record { number = m; bytes = b }, record { number = refl; header = h; prefix = f; zero_only_first = λ z. refl })
+  | inr none ↦ inr (λ h x. none h.bytes x.header x.prefix (omega (arith, prefix-length h.bytes r x.prefix)))
+]
+
+-- whether a header goes on
+pub next_or : (first : Bool) (m : ℕ) (r : List ℕ) → ((h : ExtHeader) × IsNext first m r h) ⊎ IsEnd first m r
+next_or true m r = first_or m r
+next_or false m r = elim (eq_or m 0) [
+  | inl z ↦ inr (λ h x. let later : false ≡ true = x.zero_only_first z in cc)
+  | inr nz ↦ elim (first_or m r) [
+    | inl (h, x) ↦ inl (h, record { number = x.number; header = x.header; prefix = x.prefix; zero_only_first = λ z. absurd (nz z) })
+    | inr none ↦ inr (λ h x. none h (record { number = x.number; header = x.header; prefix = x.prefix; zero_only_first = λ z. refl }))
+  ]
+]
+
+pub numbered-eq : (h g : ExtHeader) → h.number ≡ g.number → h.bytes ≡ g.bytes → h ≡ g
+numbered-eq h g p q =
+    let header : ℕ → List ℕ → ExtHeader = λ m b. record { number = m; bytes = b } in
+    ap (λ m. header m h.bytes) p ∙ ap (λ b. header g.number b) q
+
+-- at most one header goes on
+pub one_next : (first : Bool) (m : ℕ) (r : List ℕ) (h g : ExtHeader) → IsNext first m r h → IsNext first m r g → h ≡ g
+one_next first m r h g x y =
+    numbered-eq h g (x.number ∙ sym y.number)
+    (same_header m h.bytes g.bytes _ _ x.header y.header (sym (prefix-append h.bytes r x.prefix) ∙ prefix-append g.bytes r y.prefix))
+
+-- Where bytes are long enough, a header begins them.
+prefix_byte : (b s : List ℕ) → IsPrefix b s → 8 ≤ length b → slice_index b 1 ≡ slice_index s 1
+prefix_byte b s f l = sym (get_or_append_left b (drop (length b) s) 0 1 (omega arith)) ∙ ap (λ x. get_or x 1 0) (sym (prefix-append b s f))
+
+module _ (s : List ℕ) (k : ℕ) (enough : k ≤ length s) (least : 8 ≤ k) where
+  taken : length (take k s) ≡ k
+  taken = length-take-le k s enough
+
+  taken_byte : slice_index (take k s) 1 ≡ slice_index s 1
+  taken_byte = prefix_byte (take k s) s (prefix_of-take k s) (omega (arith, taken))
+
+  pub raw_begins : k ≡ 8 * (slice_index s 1 + 1) → IsRawHeader (take k s)
+  raw_begins e = record { least = omega (arith, taken); len = taken ∙ e ∙ ap (λ m. 8 * (m + 1)) (sym taken_byte) }
+
+  pub auth_begins : k ≡ 4 * (slice_index s 1 + 2) → 1 ≤ slice_index s 1 → IsAuthHeader (take k s)
+  auth_begins e some_len = record { not_zero = subst (λ (m : ℕ). 1 ≤ m) (sym taken_byte) some_len; len = taken ∙ e ∙ ap (λ m. 4 * (m + 2)) (sym taken_byte) }
+
+  pub fragment_begins : k ≡ 8 → IsFragmentHeader (take k s)
+  fragment_begins e = record { len = taken ∙ e }

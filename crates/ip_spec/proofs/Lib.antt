@@ -1,0 +1,12 @@
+pub mod PrefixLemmas
+pub mod HeaderLemmas
+pub mod LongestOfLemmas
+pub mod DemandLemmas
+pub mod StepLemmas
+pub mod UnderLemmas
+pub mod ChainLemmas
+pub mod ReadLemmas
+pub mod DemandKinds
+pub mod FitsLemmas
+pub mod ShorterLemmas
+pub mod EncodingLemmas

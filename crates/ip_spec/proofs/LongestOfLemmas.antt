@@ -1,0 +1,86 @@
+-- A property of lists under which at most one element can come next has exactly one longest list.
+use Rattle.std.proofs.Common.{◌≡◌, ◌≢◌, ℕ, zero, suc, ◌+◌, ◌<◌, ◌≤◌, List, [], ◌∷◌, ◌++◌, length, refl, ap, sym, ◌∙◌, arith, inl, inr, ◌⊎◌, subst, append_assoc}
+use Rattle.std.proofs.lemmas.List.{append-nil, length-append}
+use Rattle.ip_spec.specs.LongestOf.{IsLongestOf}
+
+-- each beginning has the property too, and what comes next is determined
+pub record Grows {X : Type 0} (P : List X → Type 0) : Type 0 where
+  pub begins : (c d : List X) → P (c ++ d) → P c
+  pub one_next : (c : List X) (x y : X) → P (c ++ x ∷ []) → P (c ++ y ∷ []) → x ≡ y
+
+pub data OneBegins {X : Type 0} (c d : List X) : Type 0 where
+  within : (more : List X) → c ≡ d ++ more → OneBegins c d
+  beyond : (x : X) (more : List X) → d ≡ c ++ x ∷ more → OneBegins c d
+
+pub begins_first : {X : Type 0} (P : List X → Type 0) → Grows P → (pre : List X) (x : X) (c : List X) → P (pre ++ x ∷ c) → P (pre ++ x ∷ [])
+begins_first P g pre x c p = g.begins (pre ++ x ∷ []) c (subst P (sym (append_assoc pre (x ∷ []) c)) p)
+
+-- two lists with the property that go on from one list
+compare_from : {X : Type 0} (P : List X → Type 0) → Grows P → (pre c d : List X) → P (pre ++ c) → P (pre ++ d) → OneBegins c d
+compare_from P g pre [] [] p q = within [] refl
+compare_from P g pre [] (y ∷ d) p q = beyond y d refl
+compare_from P g pre (x ∷ c) [] p q = within (x ∷ c) refl
+compare_from P g pre (x ∷ c) (y ∷ d) p q =
+    let same : x ≡ y = g.one_next pre x y (begins_first P g pre x c p) (begins_first P g pre y d q) in
+    let rest = compare_from P g (pre ++ x ∷ []) c d (subst P (sym (append_assoc pre (x ∷ []) c)) p) (subst P (ap (λ z. pre ++ z ∷ d) (sym same) ∙ sym (append_assoc pre (x ∷ []) d)) q) in
+    elim rest [
+      | within more e ↦ within more (ap (λ t. x ∷ t) e ∙ ap (λ z. z ∷ (d ++ more)) same)
+      | beyond z more e ↦ beyond z more (ap (λ w. w ∷ d) (sym same) ∙ ap (λ t. x ∷ t) e)
+    ]
+
+pub compare : {X : Type 0} (P : List X → Type 0) → Grows P → (c d : List X) → P c → P d → OneBegins c d
+compare P g c d p q = compare_from P g [] c d p q
+
+shorter : {X : Type 0} (d c more : List X) → c ≡ d ++ more → d ≢ c → length d < length c
+shorter d c [] w differs = absurd (differs (sym (w ∙ append-nil d)))
+shorter d c (x ∷ more) w differs = omega (arith, ap length w, length-append d (x ∷ more))
+
+-- where nothing can come next, it is the longest
+pub longest_where_none_next : {X : Type 0} (P : List X → Type 0) → Grows P → (c : List X) → P c → ((x : X) → P (c ++ x ∷ []) → ⊥) → IsLongestOf P c
+longest_where_none_next P g c p none = record {
+  has = p;
+  longest = λ d q differs. elim (compare P g c d p q) [
+    | within more w ↦ shorter d c more w differs
+    | beyond x more w ↦ absurd (none x (begins_first P g c x more (subst P w q)))
+  ];
+}
+
+same_within : {X : Type 0} (P : List X → Type 0) (c d more : List X) → c ≡ d ++ more → IsLongestOf P c → IsLongestOf P d → c ≡ d
+same_within P c d [] w lc ld = w ∙ append-nil d
+same_within P c d (x ∷ more) w lc ld =
+    let lens : length c ≡ length d + suc (length more) = ap length w ∙ length-append d (x ∷ more) in
+    let differs : c ≢ d = λ e. omega (arith, ap length e) in
+    absurd (omega (arith, ld.longest c lc.has differs))
+
+-- behind the longest, nothing can come next
+pub none_next_where_longest : {X : Type 0} (P : List X → Type 0) (c : List X) → IsLongestOf P c → (x : X) → P (c ++ x ∷ []) → ⊥
+none_next_where_longest P c l x p =
+    let more : length (c ++ x ∷ []) ≡ length c + 1 = length-append c (x ∷ []) in
+    let differs : c ++ x ∷ [] ≢ c = λ e. omega (arith, ap length e) in
+    omega (arith, l.longest (c ++ x ∷ []) p differs)
+
+-- there is one at most
+pub one_longest_of : {X : Type 0} (P : List X → Type 0) → Grows P → (c d : List X) → IsLongestOf P c → IsLongestOf P d → c ≡ d
+one_longest_of P g c d lc ld = elim (compare P g c d lc.has ld.has) [
+  | within more w ↦ same_within P c d more w lc ld
+  | beyond x more w ↦ sym (same_within P d c (x ∷ more) w ld lc)
+]
+
+-- it can be told whether something comes next
+abbrev pub DecidesNext : {X : Type 0} → (List X → Type 0) → Type 0
+DecidesNext {X} P = (c : List X) → P c → ((x : X) × P (c ++ x ∷ [])) ⊎ ((x : X) → P (c ++ x ∷ []) → ⊥)
+
+-- and there is one, where it can be told whether something comes next, and the lists are bounded
+grown : {X : Type 0} (P : List X → Type 0) → Grows P → DecidesNext P → (k bound : ℕ) → ((c : List X) → P c → length c ≤ bound) → (c : List X) → P c → bound < length c + k → (d : List X) × IsLongestOf P d
+grown P g next zero bound fits c p l = absurd (omega (arith, fits c p))
+grown P g next (suc k) bound fits c p l = elim (next c p) [
+  | inr none ↦ (c, longest_where_none_next P g c p none)
+  | inl (x, q) ↦ grown P g next k bound fits (c ++ x ∷ []) q (omega (arith, length-append c (x ∷ [])))
+]
+
+pub some_longest_of : {X : Type 0} (P : List X → Type 0) → Grows P → DecidesNext P → (bound : ℕ) → ((c : List X) → P c → length c ≤ bound) → P [] → (d : List X) × IsLongestOf P d
+some_longest_of P g next bound fits p = grown P g next (suc bound) bound fits [] p (omega arith)
+
+-- of two properties that hold of the same lists
+pub longest_same : {X : Type 0} (P R : List X → Type 0) → ((c : List X) → P c → R c) → ((c : List X) → R c → P c) → (c : List X) → IsLongestOf P c → IsLongestOf R c
+longest_same P R there back c l = record { has = there c l.has; longest = λ d r differs. l.longest d (back d r) differs }

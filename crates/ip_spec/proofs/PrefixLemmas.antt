@@ -1,0 +1,39 @@
+-- Prefixes of lists of bytes.
+use Rattle.std.proofs.Common.{◌≡◌, ℕ, zero, suc, ◌+◌, List, [], ◌∷◌, ◌++◌, length, take, drop, refl, ap, sym, ◌∙◌, arith, append_assoc}
+use Rattle.std.proofs.lemmas.List.{take-append-drop, length-append}
+use Rattle.std.proofs.lemmas.List.Prefix.{front_rest}
+use Rattle.std.proofs.Math.Seq.{take-append_seam}
+use Rattle.ip_spec.specs.Prefix.{IsPrefix}
+
+pub prefix-append : (b s : List ℕ) → IsPrefix b s → s ≡ b ++ drop (length b) s
+prefix-append b s f = sym (take-append-drop (length b) s) ∙ ap (λ x. x ++ drop (length b) s) f
+
+pub prefix_of-append : (b r s : List ℕ) → s ≡ b ++ r → IsPrefix b s
+prefix_of-append b r s e = ap (take (length b)) e ∙ take-append_seam b r
+
+pub prefix_of-take : (k : ℕ) (s : List ℕ) → IsPrefix (take k s) s
+prefix_of-take zero s = refl
+prefix_of-take (suc k) [] = refl
+prefix_of-take (suc k) (x ∷ s) = ap (λ t. x ∷ t) (prefix_of-take k s)
+
+-- a prefix is no longer, and what is behind it is the rest
+pub prefix-length : (b s : List ℕ) → IsPrefix b s → length b + length (drop (length b) s) ≡ length s
+prefix-length b s f = omega (arith, ap length (prefix-append b s f), length-append b (drop (length b) s))
+
+pub prefix_first : (b d s : List ℕ) → IsPrefix (b ++ d) s → IsPrefix b s
+prefix_first b d s f = prefix_of-append b (d ++ drop (length (b ++ d)) s) s (prefix-append (b ++ d) s f ∙ append_assoc b d (drop (length (b ++ d)) s))
+
+pub prefix_second : (b d s : List ℕ) → IsPrefix (b ++ d) s → IsPrefix d (drop (length b) s)
+prefix_second b d s f =
+    let whole : s ≡ b ++ (d ++ drop (length (b ++ d)) s) = prefix-append (b ++ d) s f ∙ append_assoc b d (drop (length (b ++ d)) s) in
+    prefix_of-append d (drop (length (b ++ d)) s) (drop (length b) s) (front_rest s b (d ++ drop (length (b ++ d)) s) whole)
+
+pub prefix_join : (b d s : List ℕ) → IsPrefix b s → IsPrefix d (drop (length b) s) → IsPrefix (b ++ d) s
+prefix_join b d s f g =
+    prefix_of-append (b ++ d) (drop (length d) (drop (length b) s)) s
+    (prefix-append b s f ∙ ap (λ x. b ++ x) (prefix-append d (drop (length b) s) g) ∙ sym (append_assoc b d (drop (length d) (drop (length b) s))))
+
+-- what is behind two fronts is behind both at once
+pub rest_join : (b d s : List ℕ) → IsPrefix b s → IsPrefix d (drop (length b) s) → drop (length d) (drop (length b) s) ≡ drop (length (b ++ d)) s
+rest_join b d s f g =
+    sym (front_rest s (b ++ d) (drop (length d) (drop (length b) s)) (prefix-append b s f ∙ ap (λ x. b ++ x) (prefix-append d (drop (length b) s) g) ∙ sym (append_assoc b d (drop (length d) (drop (length b) s)))))

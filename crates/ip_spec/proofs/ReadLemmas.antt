@@ -1,0 +1,95 @@
+-- A chain that is being read from the prefix of bytes.
+use Rattle.std.proofs.Common.{◌≡◌, ℕ, ◌+◌, ◌-◌, List, [], ◌∷◌, ◌++◌, length, drop, refl, ap, sym, ◌∙◌, arith, inl, inr, subst, Bool, nat_eq}
+use Rattle.std.proofs.lemmas.Bool.Decides.{eqb_tells}
+use Rattle.std.specs.List.{AllByRecursion}
+use Rattle.ip_spec.specs.Header.{IsHeader}
+use Rattle.ip_spec.specs.Fields.{next_header}
+use Rattle.ip_spec.specs.Chain.{ExtHeader, leads_to, bytes_of, is_empty, IsPrefixChain, IsLongestChain, IsNext, IsEnd}
+use Rattle.ip_spec.proofs.PrefixLemmas.{prefix-length, rest_join}
+use Rattle.ip_spec.specs.Demand.{IsDemand, IsLongestUnder, IsEndUnder, NoDemand}
+use Rattle.ip_spec.proofs.UnderLemmas.{longest_at_end_under, no_demand, longest_without}
+use Rattle.ip_spec.proofs.ChainLemmas.{no_chain, goes_on, bytes_of-more, leads_to-more, bytes_of-least}
+
+-- the chain c from n has been read of s, leads to m and leaves r
+pub record HasRead (n : ℕ) (s : List ℕ) (c : List ExtHeader) (m : ℕ) (r : List ℕ) : Type 0 where
+  pub prefix_chain : IsPrefixChain n s c
+  pub number : m ≡ leads_to n c
+  pub rest : r ≡ drop (length (bytes_of c)) s
+
+pub has_read_none : (n : ℕ) (s : List ℕ) → HasRead n s [] n s
+has_read_none n s = record { prefix_chain = record { chain = no_chain n; prefix = refl }; number = refl; rest = refl }
+
+module _ (n : ℕ) (s : List ℕ) (c : List ExtHeader) (m : ℕ) (r : List ℕ) where
+  pub next_there : (h : ExtHeader) → HasRead n s c m r → IsNext (is_empty c) m r h → IsNext (is_empty c) (leads_to n c) (drop (length (bytes_of c)) s) h
+  next_there h p x =
+      let M : ℕ → Type 0 = λ k. IsNext (is_empty c) k r h in
+      let R : List ℕ → Type 0 = λ q. IsNext (is_empty c) (leads_to n c) q h in
+      subst R p.rest (subst M p.number x)
+
+  pub next_here : (h : ExtHeader) → HasRead n s c m r → IsNext (is_empty c) (leads_to n c) (drop (length (bytes_of c)) s) h → IsNext (is_empty c) m r h
+  next_here h p x =
+      let M : ℕ → Type 0 = λ k. IsNext (is_empty c) k r h in
+      let R : List ℕ → Type 0 = λ q. IsNext (is_empty c) (leads_to n c) q h in
+      subst M (sym p.number) (subst R (sym p.rest) x)
+
+  pub has_read_next : (h : ExtHeader) → HasRead n s c m r → IsNext (is_empty c) m r h → HasRead n s (c ++ h ∷ []) (next_header h.bytes) (drop (length h.bytes) r)
+  has_read_next h p x =
+      let there = next_there h p x in
+      record {
+        prefix_chain = goes_on n s c h p.prefix_chain there;
+        number = sym (leads_to-more n c h);
+        rest =
+            ap (drop (length h.bytes)) p.rest
+            ∙ rest_join (bytes_of c) h.bytes s p.prefix_chain.prefix there.prefix
+            ∙ ap (λ (b : List ℕ). drop (length b) s) (sym (bytes_of-more c h));
+      }
+
+-- the same, and c meets the demand Q
+pub record HasReadUnder (Q : List ExtHeader → Type 0) (n : ℕ) (s : List ℕ) (c : List ExtHeader) (m : ℕ) (r : List ℕ) : Type 0 where
+  pub read : HasRead n s c m r
+  pub meets : Q c
+
+module _ (Q : List ExtHeader → Type 0) (k : IsDemand Q) (n : ℕ) (s : List ℕ) where
+  pub has_read_none_under : HasReadUnder Q n s [] n s
+  has_read_none_under = record { read = has_read_none n s; meets = k.empty }
+
+  module _ (c : List ExtHeader) (m : ℕ) (r : List ℕ) where
+    pub has_read_next_under : (h : ExtHeader) → HasReadUnder Q n s c m r → IsNext (is_empty c) m r h → Q (c ++ h ∷ []) → HasReadUnder Q n s (c ++ h ∷ []) (next_header h.bytes) (drop (length h.bytes) r)
+    has_read_next_under h p x q = record { read = has_read_next n s c m r h p.read x; meets = q }
+
+    -- where no header goes on with the demand still met, the chain that was read is the longest under it
+    pub read_longest_under : HasReadUnder Q n s c m r → IsEndUnder Q c m r → IsLongestUnder Q n s c
+    read_longest_under p e =
+        longest_at_end_under Q k n s c (record { has = p.read.prefix_chain; meets = p.meets })
+        (λ h x q. e h (next_here n s c m r h p.read x) q)
+
+module _ (n : ℕ) (s : List ℕ) (c : List ExtHeader) (m : ℕ) (r : List ℕ) where
+  -- the count of bytes read, and whether there are any
+  pub offset_is : HasRead n s c m r → length s - length r ≡ length (bytes_of c)
+  offset_is p = omega (arith, prefix-length (bytes_of c) s p.prefix_chain.prefix, ap length p.rest)
+
+  pub read_longest : HasRead n s c m r → IsEnd (is_empty c) m r → IsLongestChain n s c
+  read_longest p e = longest_without n s c (read_longest_under NoDemand no_demand n s c m r (record { read = p; meets = tt }) (λ h x q. e h x))
+
+-- whether the bytes behind a chain are all bytes tells whether it is empty
+behind_all : (c : List ExtHeader) (k l : ℕ) → AllByRecursion (λ h. IsHeader h.number h.bytes) c → length (bytes_of c) + k ≡ l → nat_eq k l ≡ is_empty c
+behind_all [] k l a e = elim (eqb_tells k l) [ inl w ↦ w.0 | inr w ↦ absurd (w.1 (omega (arith, e))) ]
+behind_all (h ∷ c) k l a e = elim (eqb_tells k l) [
+  | inl w ↦ absurd (omega (arith, w.1, e, bytes_of-least (h ∷ c) a))
+  | inr w ↦ w.0
+]
+
+pub first_is : (n : ℕ) (s : List ℕ) (c : List ExtHeader) (m : ℕ) (r : List ℕ) → HasRead n s c m r → nat_eq (length r) (length s) ≡ is_empty c
+first_is n s c m r p = behind_all c (length r) (length s) p.prefix_chain.chain.headers (omega (arith, prefix-length (bytes_of c) s p.prefix_chain.prefix, ap length p.rest))
+
+-- The step and the end as code has them: the count of bytes left tells whether the header is the first.
+module _ (n : ℕ) (s : List ℕ) (c : List ExtHeader) (m : ℕ) (r : List ℕ) where
+  pub has_read_on : (h : ExtHeader) (j : ℕ) (q b : List ℕ) → HasRead n s c m r → IsNext (nat_eq (length r) (length s)) m r h → j ≡ next_header h.bytes → b ≡ h.bytes → q ≡ drop (length b) r → HasRead n s (c ++ h ∷ []) j q
+  has_read_on h j q b p x ej eb eq =
+      let F : Bool → Type 0 = λ f. IsNext f m r h in
+      let J : ℕ → Type 0 = λ t. HasRead n s (c ++ h ∷ []) t q in
+      let Q : List ℕ → Type 0 = λ t. HasRead n s (c ++ h ∷ []) (next_header h.bytes) t in
+      subst J (sym ej) (subst Q (sym (eq ∙ ap (λ (y : List ℕ). drop (length y) r) eb)) (has_read_next n s c m r h p (subst F (first_is n s c m r p) x)))
+
+  pub no_next_here : HasRead n s c m r → IsEnd (nat_eq (length r) (length s)) m r → IsEnd (is_empty c) m r
+  no_next_here p e = let F : Bool → Type 0 = λ f. IsEnd f m r in subst F (first_is n s c m r p) e

@@ -1,0 +1,134 @@
+-- Chains at the prefix of bytes, and the header that goes on.
+use Rattle.std.proofs.Common.{◌≡◌, ◌≢◌, ℕ, ◌*◌, ◌≤◌, List, [], ◌∷◌, ◌++◌, length, drop, refl, ap, sym, ◌∙◌, arith, inl, inr, subst, true, false}
+use Rattle.std.specs.List.{AllByRecursion}
+use Rattle.std.proofs.lemmas.List.{append-nil, length-append}
+use Rattle.std.proofs.lemmas.List.Concat.{flat_map-append}
+use Rattle.ip_spec.specs.Prefix.{IsPrefix}
+use Rattle.ip_spec.specs.Header.{IsHeader}
+use Rattle.ip_spec.specs.Fields.{next_header}
+use Rattle.ip_spec.specs.Chain.{ExtHeader, AreLinked, leads_to, bytes_of, is_empty, IsChain, IsPrefixChain, IsNext}
+use Rattle.ip_spec.proofs.PrefixLemmas.{prefix_first, prefix_second, prefix_join, prefix-length}
+use Rattle.ip_spec.proofs.HeaderLemmas.{header-least, next_or, one_next}
+use Rattle.ip_spec.proofs.LongestOfLemmas.{Grows, DecidesNext}
+
+-- A property of each element holds of each element of a beginning, of the one that follows it, and of both joined.
+pub all_first : {X : Type 0} (P : X → Type 0) (c d : List X) → AllByRecursion P (c ++ d) → AllByRecursion P c
+all_first P [] d a = tt
+all_first P (x ∷ c) d a = (a.0, all_first P c d a.1)
+
+all_next : {X : Type 0} (P : X → Type 0) (c : List X) (x : X) → AllByRecursion P (c ++ x ∷ []) → P x
+all_next P [] x a = a.0
+all_next P (y ∷ c) x a = all_next P c x a.1
+
+all_more : {X : Type 0} (P : X → Type 0) (c : List X) (x : X) → AllByRecursion P c → P x → AllByRecursion P (c ++ x ∷ [])
+all_more P [] x a p = (p, tt)
+all_more P (y ∷ c) x a p = (a.0, all_more P c x a.1 p)
+
+links_first : (n : ℕ) (c d : List ExtHeader) → AreLinked n (c ++ d) → AreLinked n c
+links_first n [] d a = tt
+links_first n (h ∷ c) d a = (a.0, links_first (next_header h.bytes) c d a.1)
+
+links_next : (n : ℕ) (c : List ExtHeader) (h : ExtHeader) → AreLinked n (c ++ h ∷ []) → h.number ≡ leads_to n c
+links_next n [] h a = a.0
+links_next n (g ∷ c) h a = links_next (next_header g.bytes) c h a.1
+
+links_more : (n : ℕ) (c : List ExtHeader) (h : ExtHeader) → AreLinked n c → h.number ≡ leads_to n c → AreLinked n (c ++ h ∷ [])
+links_more n [] h a e = (e, tt)
+links_more n (g ∷ c) h a e = (a.0, links_more (next_header g.bytes) c h a.1 e)
+
+zero_first : (c d : List ExtHeader) → AllByRecursion (λ h. h.number ≢ 0) (drop 1 (c ++ d)) → AllByRecursion (λ h. h.number ≢ 0) (drop 1 c)
+zero_first [] d a = tt
+zero_first (h ∷ c) d a = all_first (λ k. k.number ≢ 0) c d a
+
+zero_next : (c : List ExtHeader) (h : ExtHeader) → AllByRecursion (λ k. k.number ≢ 0) (drop 1 (c ++ h ∷ [])) → h.number ≡ 0 → is_empty c ≡ true
+zero_next [] h a z = refl
+zero_next (g ∷ c) h a z = absurd (all_next (λ k. k.number ≢ 0) c h a z)
+
+zero_more : (c : List ExtHeader) (h : ExtHeader) → AllByRecursion (λ k. k.number ≢ 0) (drop 1 c) → (h.number ≡ 0 → is_empty c ≡ true) → AllByRecursion (λ k. k.number ≢ 0) (drop 1 (c ++ h ∷ []))
+zero_more [] h a b = tt
+zero_more (g ∷ c) h a b = all_more (λ k. k.number ≢ 0) c h a (λ e. let no : false ≡ true = b e in cc)
+
+pub no_chain : (n : ℕ) → IsChain n []
+no_chain n = record { headers = tt; links = tt; zero_only_first = tt }
+
+-- What a chain and one more header make.
+pub bytes_of-more : (c : List ExtHeader) (h : ExtHeader) → bytes_of (c ++ h ∷ []) ≡ bytes_of c ++ h.bytes
+bytes_of-more c h = flat_map-append (λ k. k.bytes) c (h ∷ []) ∙ ap (λ x. bytes_of c ++ x) (append-nil h.bytes)
+
+pub leads_to-more : (n : ℕ) (c : List ExtHeader) (h : ExtHeader) → leads_to n (c ++ h ∷ []) ≡ next_header h.bytes
+leads_to-more n [] h = refl
+leads_to-more n (g ∷ c) h = leads_to-more (next_header g.bytes) c h
+
+module _ (n : ℕ) (s : List ℕ) where
+  pub begins : (c d : List ExtHeader) → IsPrefixChain n s (c ++ d) → IsPrefixChain n s c
+  begins c d p = record {
+    chain = record {
+      headers = all_first (λ h. IsHeader h.number h.bytes) c d p.chain.headers;
+      links = links_first n c d p.chain.links;
+      zero_only_first = zero_first c d p.chain.zero_only_first;
+    };
+    prefix =
+        let F : List ℕ → Type 0 = λ b. IsPrefix b s in
+        prefix_first (bytes_of c) (bytes_of d) s (subst F (flat_map-append (λ k. k.bytes) c d) p.prefix);
+  }
+
+  pub next_of : (c : List ExtHeader) (h : ExtHeader) → IsPrefixChain n s (c ++ h ∷ []) → IsNext (is_empty c) (leads_to n c) (drop (length (bytes_of c)) s) h
+  next_of c h p =
+      let number : h.number ≡ leads_to n c = links_next n c h p.chain.links in
+      let H : ℕ → Type 0 = λ m. IsHeader m h.bytes in
+      let F : List ℕ → Type 0 = λ b. IsPrefix b s in
+      record {
+        number = number;
+        header = subst H number (all_next (λ k. IsHeader k.number k.bytes) c h p.chain.headers);
+        prefix = prefix_second (bytes_of c) h.bytes s (subst F (bytes_of-more c h) p.prefix);
+        zero_only_first = λ z. zero_next c h p.chain.zero_only_first (number ∙ z);
+      }
+
+  pub goes_on : (c : List ExtHeader) (h : ExtHeader) → IsPrefixChain n s c → IsNext (is_empty c) (leads_to n c) (drop (length (bytes_of c)) s) h → IsPrefixChain n s (c ++ h ∷ [])
+  goes_on c h p x =
+      let H : ℕ → Type 0 = λ m. IsHeader m h.bytes in
+      let F : List ℕ → Type 0 = λ b. IsPrefix b s in
+      record {
+        chain = record {
+          headers = all_more (λ k. IsHeader k.number k.bytes) c h p.chain.headers (subst H (sym x.number) x.header);
+          links = links_more n c h p.chain.links x.number;
+          zero_only_first = zero_more c h p.chain.zero_only_first (λ z. x.zero_only_first (sym x.number ∙ z));
+        };
+        prefix = subst F (sym (bytes_of-more c h)) (prefix_join (bytes_of c) h.bytes s p.prefix x.prefix);
+      }
+
+  pub chains_grow : Grows (IsPrefixChain n s)
+  chains_grow = record {
+    begins = begins;
+    one_next = λ c h g p q. one_next (is_empty c) (leads_to n c) (drop (length (bytes_of c)) s) h g (next_of c h p) (next_of c g q);
+  }
+
+  -- it can be told whether a header goes on
+  pub chains_decide : DecidesNext (IsPrefixChain n s)
+  chains_decide c p = elim (next_or (is_empty c) (leads_to n c) (drop (length (bytes_of c)) s)) [
+    | inl (h, x) ↦ inl (h, goes_on c h p x)
+    | inr none ↦ inr (λ h q. none h (next_of c h q))
+  ]
+
+-- each header has 8 bytes at least
+pub bytes_of-least : (c : List ExtHeader) → AllByRecursion (λ h. IsHeader h.number h.bytes) c → 8 * length c ≤ length (bytes_of c)
+bytes_of-least [] a = omega arith
+bytes_of-least (h ∷ c) a = omega (arith, bytes_of-least c a.1, header-least h.number h.bytes a.0, length-append h.bytes (bytes_of c))
+
+pub chain-bound : (n : ℕ) (s : List ℕ) (c : List ExtHeader) → IsPrefixChain n s c → length c ≤ length s
+chain-bound n s c p = omega (arith, bytes_of-least c p.chain.headers, prefix-length (bytes_of c) s p.prefix)
+
+pub no_header_prefix : (n : ℕ) (s : List ℕ) → IsPrefixChain n s []
+no_header_prefix n s = record { chain = no_chain n; prefix = refl }
+
+-- the first header of a chain goes on at its prefix
+pub first_next : (n : ℕ) (s : List ℕ) (h : ExtHeader) (c : List ExtHeader) → IsPrefixChain n s (h ∷ c) → IsNext true n s h
+first_next n s h c p = next_of n s [] h (begins n s (h ∷ []) c p)
+
+tail_not_zero : (c : List ExtHeader) → AllByRecursion (λ k. k.number ≢ 0) c → AllByRecursion (λ k. k.number ≢ 0) (drop 1 c)
+tail_not_zero [] a = tt
+tail_not_zero (h ∷ c) a = a.1
+
+-- the headers behind the first are a chain from the number that it names
+pub tail_chain : (n : ℕ) (h : ExtHeader) (c : List ExtHeader) → IsChain n (h ∷ c) → IsChain (next_header h.bytes) c
+tail_chain n h c k = record { headers = k.headers.1; links = k.links.1; zero_only_first = tail_not_zero c k.zero_only_first }

@@ -1,0 +1,9 @@
+use Rattle.std.proofs.Common.{sym, ◌∙◌}
+use Rattle.ip_spec.proofs.EncodingLemmas.{fragment_only, auth_only}
+use Rattle.ip_spec.proofs.header_laws.one_encoding.Goals as goal
+
+pub returns-clause-fragment : goal.returns-clause-fragment
+returns-clause-fragment c = λ v b d bytes bytes' x y. fragment_only v b bytes x ∙ sym (fragment_only v d bytes' y)
+
+pub returns-clause-auth : goal.returns-clause-auth
+returns-clause-auth c = λ v b d bytes bytes' x y. auth_only v b bytes x ∙ sym (auth_only v d bytes' y)

@@ -1,0 +1,63 @@
+-- Demands on lists, and chains under a demand.
+use Rattle.std.specs.Prelude.{◌≡◌, ℕ, ◌≤◌, List, [], ◌∷◌, ◌++◌, length, ⊤, Bool, IsTrue, ◌⊎◌}
+use Rattle.std.specs.List.{AllByRecursion}
+use Rattle.ip_spec.specs.LongestOf.{IsLongestOf}
+use Rattle.ip_spec.specs.Chain.{ExtHeader, bytes_of, is_empty, IsPrefixChain, IsNext}
+
+-- Q is a demand: the empty list meets it, each beginning of a list that meets it does, and it is decided
+-- whether a list does
+pub record IsDemand {X : Type 0} (Q : List X → Type 0) : Type 0 where
+  pub empty : Q []
+  pub begins : (c d : List X) → Q (c ++ d) → Q c
+  pub decided : (c : List X) → Q c ⊎ (Q c → ⊥)
+
+-- c has the property P and meets the demand Q
+pub record IsUnder {X : Type 0} (Q P : List X → Type 0) (c : List X) : Type 0 where
+  pub has : P c
+  pub meets : Q c
+
+-- behind c, the first of `rest` breaks the demand Q, where there is a first
+abbrev pub NextBreaks : {X : Type 0} → (List X → Type 0) → List X → List X → Type 0
+NextBreaks Q c [] = ⊤
+NextBreaks Q c (x ∷ rest) = Q (c ++ x ∷ []) → ⊥
+
+-- Of the list d the demand Q keeps c: a beginning of d that meets it, which is all of d, or behind which the
+-- next element of d breaks it.
+pub record Keeps {X : Type 0} (Q : List X → Type 0) (d c : List X) : Type 0 where
+  pub rest : List X
+  pub joined : d ≡ c ++ rest
+  pub meets : Q c
+  pub breaks : NextBreaks Q c rest
+
+-- c is a chain from n that begins s and meets the demand Q
+abbrev pub IsChainUnder : (List ExtHeader → Type 0) → ℕ → List ℕ → List ExtHeader → Type 0
+IsChainUnder Q n s c = IsUnder Q (IsPrefixChain n s) c
+
+-- the chain from n that begins s and meets the demand Q and is longer than every other such chain
+abbrev pub IsLongestUnder : (List ExtHeader → Type 0) → ℕ → List ℕ → List ExtHeader → Type 0
+IsLongestUnder Q n s c = IsLongestOf (IsChainUnder Q n s) c
+
+-- behind c, no header goes on with number m at bytes r with which the demand Q is still met
+abbrev pub IsEndUnder : (List ExtHeader → Type 0) → List ExtHeader → ℕ → List ℕ → Type 0
+IsEndUnder Q c m r = (h : ExtHeader) → IsNext (is_empty c) m r h → Q (c ++ h ∷ []) → ⊥
+
+-- every list of headers meets it
+abbrev pub NoDemand : List ExtHeader → Type 0
+NoDemand c = ⊤
+
+-- at most k headers
+abbrev pub AtMost : ℕ → List ExtHeader → Type 0
+AtMost k c = length c ≤ k
+
+-- at most j bytes
+abbrev pub IsWithin : ℕ → List ExtHeader → Type 0
+IsWithin j c = length (bytes_of c) ≤ j
+
+-- at most one header, and it is of number m
+pub record AtMostOneOf (m : ℕ) (c : List ExtHeader) : Type 0 where
+  pub one : length c ≤ 1
+  pub number : AllByRecursion (λ h. h.number ≡ m) c
+
+-- the test q answers true
+abbrev pub Passes : {X : Type 0} → (List X → Bool) → List X → Type 0
+Passes q c = IsTrue (q c)

@@ -1,0 +1,32 @@
+-- What bytes are one extension header (RFC 8200, section 4; RFC 4302, section 2).
+use Rattle.std.specs.Prelude.{◌≡◌, ℕ, ◌+◌, ◌*◌, ◌≤◌, List, length, slice_index, ◌⊎◌}
+
+-- Hop by hop options, routing, destination options (RFC 8200, sections 4.3, 4.4, 4.6): byte 1 counts the
+-- units of 8 bytes after the first unit.
+pub record IsRawHeader (b : List ℕ) : Type 0 where
+  pub least : 8 ≤ length b
+  pub len : length b ≡ 8 * (slice_index b 1 + 1)
+
+-- A fragment header (RFC 8200, section 4.5) has 8 bytes.
+pub record IsFragmentHeader (b : List ℕ) : Type 0 where
+  pub len : length b ≡ 8
+
+-- An authentication header (RFC 4302, section 2.2): byte 1, which isn't 0, counts the units of 4 bytes
+-- after the first two units.
+pub record IsAuthHeader (b : List ℕ) : Type 0 where
+  pub not_zero : 1 ≤ slice_index b 1
+  pub len : length b ≡ 4 * (slice_index b 1 + 2)
+
+-- the numbers of the three headers of one layout: hop by hop options 0, routing 43, destination options 60
+abbrev pub IsRawNumber : ℕ → Type 0
+IsRawNumber n = (n ≡ 0) ⊎ ((n ≡ 43) ⊎ (n ≡ 60))
+
+-- those, fragment 44 and authentication 51
+abbrev pub IsExtensionNumber : ℕ → Type 0
+IsExtensionNumber n = IsRawNumber n ⊎ ((n ≡ 44) ⊎ (n ≡ 51))
+
+-- bytes b are a header of number n
+pub data IsHeader (n : ℕ) (b : List ℕ) : Type 0 where
+  raw : IsRawNumber n → IsRawHeader b → IsHeader n b
+  fragment : n ≡ 44 → IsFragmentHeader b → IsHeader n b
+  auth : n ≡ 51 → IsAuthHeader b → IsHeader n b

@@ -1,0 +1,12 @@
+pub mod Prefix
+pub mod LongestOf
+pub mod Header
+pub mod Fields
+pub mod FieldsOf
+pub mod Cleared
+pub mod Encoding
+pub mod Decoding
+pub mod Chain
+pub mod Demand
+pub mod Fits
+pub mod PlainHeader

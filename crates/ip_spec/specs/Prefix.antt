@@ -1,0 +1,6 @@
+-- Prefixes of lists of bytes.
+use Rattle.std.specs.Prelude.{◌≡◌, ℕ, List, length, take}
+
+-- b is a beginning of s, the empty one and the whole one included
+abbrev pub IsPrefix : List ℕ → List ℕ → Type 0
+IsPrefix b s = take (length b) s ≡ b

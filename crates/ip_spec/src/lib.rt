@@ -1,0 +1,17 @@
+//! What a header, a chain of headers and the longest chain are, over plain lists of bytes; the laws of
+//! these notions; and a plain slow program that computes them.
+#![tactic(auto)]
+
+mod chain_laws;
+mod demand_laws;
+mod header_laws;
+mod plain;
+
+pub use chain_laws::{longest_chain_ends, one_longest_chain};
+pub use demand_laws::{
+    demand_keeps_its_longest_chain, demands, fitting_chain_ends, longest_chain_under_a_demand_ends,
+    longest_chains_under_demands, next_number_fits, one_longest_chain_under_a_demand,
+    one_longest_fitting_chain, shorter_bytes_keep_whole_headers,
+};
+pub use header_laws::{cleared_header_encodes, encoding_len, one_decoding, one_encoding};
+pub use plain::{PlainChain, PlainHeader, is_header, next_len, plain_longest_chain};

@@ -1,12 +1,13 @@
 -- What the parse knows of the chain that it has read, and what follows where no header goes on.
 use Rattle.std.proofs.Common.{◌≡◌, ℕ, ◌-◌, List, [], ◌∷◌, ◌++◌, length, take, drop, refl, ap, sym, ◌∙◌, Bool, false, nat_eq}
-use Rattle.std.specs.Prelude.{◌==◌, ◌&&◌, ◌||◌}
+use Rattle.std.specs.Prelude.{Option, ◌==◌, ◌&&◌, ◌||◌}
 use Rattle.std.proofs.Math.Bool.{or-false, or_assoc}
 use Rattle.ip_spec.specs.Fields.{next_header, is_fragmenting}
 use Rattle.ip_spec.specs.Chain.{ExtHeader, leads_to, bytes_of, is_empty, has_fragmenting, IsNext, IsEnd}
 use Rattle.ip_spec.proofs.ReadLemmas.{HasRead, has_read_none, has_read_on, offset_is, first_is, no_next_here, read_longest}
 use Rattle.ip_ext_chains.specs.Longest.{longest_chain, rest_after}
-use Rattle.ip_ext_chains.specs.Fault.{fault_at, chain_fault}
+use Rattle.ip_ext_chains.specs.Fault.{Fault, slice_fault, chain_fault}
+use Rattle.ip_ext_chains.specs.Parse.{IsChainAnswer}
 use Rattle.ip_ext_chains.proofs.LongestLemmas.{longest_chain-is, longest_chain-bytes_of}
 
 -- a fragment header that fragments the payload
@@ -43,7 +44,7 @@ pub record AtEnd (n : ℕ) (s : List ℕ) (m : ℕ) (r : List ℕ) (flag : Bool)
   pub number : m ≡ leads_to n (longest_chain n s)
   pub rest : r ≡ rest_after n s
   pub fragmented : flag ≡ has_fragmenting (longest_chain n s)
-  pub fault : fault_at (nat_eq (length r) (length s)) m r (length s - length r) ≡ chain_fault n s
+  pub fault : slice_fault (length s - length r) (nat_eq (length r) (length s)) m r ≡ chain_fault n s
 
 pub at_end : (n : ℕ) (s : List ℕ) (m : ℕ) (r : List ℕ) (flag : Bool) → ParseState n s m r flag → IsEnd (nat_eq (length r) (length s)) m r → AtEnd n s m r flag
 at_end n s m r flag p e =
@@ -59,9 +60,14 @@ at_end n s m r flag p e =
       rest = p.read.rest ∙ ap (λ d. drop (length (bytes_of d)) s) is;
       fragmented = p.fragmented ∙ ap has_fragmenting is;
       fault =
-          ap (λ f. fault_at f m r (length s - length r)) first
-          ∙ ap (fault_at (is_empty c) m r) offset
-          ∙ ap (λ k. fault_at (is_empty c) k r (length (bytes_of c))) p.read.number
-          ∙ ap (λ t. fault_at (is_empty c) (leads_to n c) t (length (bytes_of c))) p.read.rest
-          ∙ ap (λ d. fault_at (is_empty d) (leads_to n d) (drop (length (bytes_of d)) s) (length (bytes_of d))) is;
+          ap (λ f. slice_fault (length s - length r) f m r) first
+          ∙ ap (λ k. slice_fault k (is_empty c) m r) offset
+          ∙ ap (λ k. slice_fault (length (bytes_of c)) (is_empty c) k r) p.read.number
+          ∙ ap (slice_fault (length (bytes_of c)) (is_empty c) (leads_to n c)) p.read.rest
+          ∙ ap (λ d. slice_fault (length (bytes_of d)) (is_empty d) (leads_to n d) (drop (length (bytes_of d)) s)) is;
     }
+
+-- and it is what the parse answers, where the chain that is handed out is it
+pub answer_at_end : (n : ℕ) (s : List ℕ) (m : ℕ) (r : List ℕ) (flag : Bool) (c : List ExtHeader) (f : Option Fault) → AtEnd n s m r flag
+    → c ≡ longest_chain n (take (length s - length r) s) → f ≡ slice_fault (length s - length r) (nat_eq (length r) (length s)) m r → IsChainAnswer n s c m r f
+answer_at_end n s m r flag c f at is fault = record { headers = is ∙ at.own; number = at.number; rest = at.rest; fault = fault ∙ at.fault }

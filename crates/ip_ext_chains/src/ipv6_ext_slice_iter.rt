@@ -19,11 +19,10 @@ pub struct Ipv6ExtensionSliceIter<'a> {
 impl<'a> Iterator for Ipv6ExtensionSliceIter<'a> {
     type Item = Ipv6ExtensionSlice<'a>;
 
-    ghost use Rattle.std.specs.Iterator.{YieldsFirstBy, item_count};
-    ghost use Rattle.ip_ext_chains.specs.Ipv6ExtensionSlice.{header_of};
-    ghost use Rattle.ip_ext_chains.specs.Ipv6ExtensionSliceIter.{headers_left};
+    ghost use Rattle.std.specs.Iterator.{item_count};
+    ghost use Rattle.ip_ext_chains.specs.Ipv6ExtensionSliceIter.{headers_left, Steps};
 
-    ghost next_gives = { YieldsFirstBy header_of headers_left };
+    ghost next_gives = { Steps };
 
     ghost remaining = { item_count headers_left };
 
@@ -31,7 +30,7 @@ impl<'a> Iterator for Ipv6ExtensionSliceIter<'a> {
         if self.rest.is_empty() {
             return None;
         }
-        // The bytes are whole headers, so the step doesn't fail, and no test is made when it runs.
+        // The bytes are whole headers, so a header goes on: `unwrap` tests nothing when it runs.
         let header = header_at(true, self.next_header, self.rest).unwrap();
         self.next_header = header.next_header();
         self.rest = after(self.rest, header.slice().len());

@@ -1,9 +1,10 @@
 ghost use Rattle.std.specs.Prelude.{◌≡◌, ◌==◌, ℕ, List, [], length, Option, Some, None, is_none, IfOk, IfErr, if◌then◌else◌};
 ghost use Rattle.std.specs.Option.{option_map};
 ghost use Rattle.ip_spec.specs.Prefix.{IsPrefix};
-ghost use Rattle.ip_spec.specs.Chain.{bytes_of, leads_to, is_empty, has_fragmenting, IsLongestChain};
-ghost use Rattle.ip_ext_chains.specs.Longest.{longest_chain, rest_after};
+ghost use Rattle.ip_spec.specs.Chain.{bytes_of, is_empty, has_fragmenting, IsLongestChain};
+ghost use Rattle.ip_ext_chains.specs.Longest.{longest_chain};
 ghost use Rattle.ip_ext_chains.specs.Fault.{chain_fault};
+ghost use Rattle.ip_ext_chains.specs.Parse.{IsChainAnswer};
 ghost use Rattle.ip_ext_chains.specs.StartNumber.{start_number};
 
 use crate::err::Layer;
@@ -59,13 +60,12 @@ impl<'a> Ipv6ExtensionsSlice<'a> {
         Option<(HeaderSliceError, Layer)>,
     )
         ensures longest { IsLongestChain start_ip_number.0 start_slice.now (headers_in result.0) }
-        ensures headers { headers_in result.0 ≡ longest_chain start_ip_number.0 start_slice.now }
+        ensures answer { IsChainAnswer start_ip_number.0 start_slice.now
+            (headers_in result.0) result.1.0 result.2.now result.3 }
         ensures bytes { bytes result.0 ≡ bytes_of (longest_chain start_ip_number.0 start_slice.now) }
         ensures prefix { IsPrefix (bytes result.0) start_slice.now }
-        ensures first { first_number result.0 ≡ (if length (bytes result.0) == 0 then None else Some start_ip_number) }
-        ensures number { result.1.0 ≡ leads_to start_ip_number.0 (longest_chain start_ip_number.0 start_slice.now) }
-        ensures rest { result.2.now ≡ rest_after start_ip_number.0 start_slice.now }
-        ensures fault { result.3 ≡ chain_fault start_ip_number.0 start_slice.now }
+        ensures first { first_number result.0
+            ≡ (if length (bytes result.0) == 0 then None else Some start_ip_number) }
     {
         let mut number = start_ip_number;
         let mut rest = start_slice;
@@ -93,13 +93,14 @@ impl<'a> Ipv6ExtensionsSlice<'a> {
         start_ip_number: IpNumber,
         start_slice: &'a [u8],
     ) -> Result<(Ipv6ExtensionsSlice<'a>, IpNumber, &'a [u8]), HeaderSliceError>
-        ensures no_fault { IfOk result (λ _. chain_fault start_ip_number.0 start_slice.now ≡ None) }
-        ensures fault { IfErr result (λ e. option_map (λ f. f.0) (chain_fault start_ip_number.0 start_slice.now) ≡ Some e) }
-        ensures headers { IfOk result (λ x. headers_in x.0 ≡ longest_chain start_ip_number.0 start_slice.now) }
-        ensures bytes { IfOk result (λ x. bytes x.0 ≡ bytes_of (longest_chain start_ip_number.0 start_slice.now)) }
-        ensures first { IfOk result (λ x. first_number x.0 ≡ (if length (bytes x.0) == 0 then None else Some start_ip_number)) }
-        ensures number { IfOk result (λ x. x.1.0 ≡ leads_to start_ip_number.0 (longest_chain start_ip_number.0 start_slice.now)) }
-        ensures rest { IfOk result (λ x. x.2.now ≡ rest_after start_ip_number.0 start_slice.now) }
+        ensures answer { IfOk result (λ x. IsChainAnswer start_ip_number.0 start_slice.now
+            (headers_in x.0) x.1.0 x.2.now None) }
+        ensures fault { IfErr result (λ e. option_map (λ f. f.0)
+            (chain_fault start_ip_number.0 start_slice.now) ≡ Some e) }
+        ensures bytes { IfOk result (λ x. bytes x.0
+            ≡ bytes_of (longest_chain start_ip_number.0 start_slice.now)) }
+        ensures first { IfOk result (λ x. first_number x.0
+            ≡ (if length (bytes x.0) == 0 then None else Some start_ip_number)) }
     {
         let (headers, number, rest, fault) = Self::from_slice_lax(start_ip_number, start_slice);
         match fault {

@@ -1,7 +1,7 @@
 //! Callers of the owned headers, proved from their public clauses alone.
 ghost use Rattle.std.specs.Prelude.{◌≡◌, ◌≤◌, ◌+◌, IsTrue, IsOk, OnOk, vec_len, vec_capacity};
 ghost use Rattle.ip_spec.specs.FieldsOf.{raw_len, auth_len};
-ghost use Rattle.ip_spec.specs.Encoding.{Appends, IsRawEncoding};
+ghost use Rattle.ip_spec.specs.Encoding.{AppendsOne, IsRawEncoding};
 
 use ip_base::IpNumber;
 use ip_ext_headers::{IpAuthHeader, Ipv6FragmentHeader, Ipv6RawExtHeader};
@@ -14,7 +14,7 @@ pub fn write_before(
     next: IpNumber,
     out: &mut Vec<u8>,
 ) -> Result<(), AllocError>
-    ensures { OnOk result (Appends (IsRawEncoding (record header.now { next_header = next.0 })) out.old.items out.new.items) }
+    ensures { OnOk result (AppendsOne (IsRawEncoding (record header.now { next_header = next.0 })) out.old.items out.new.items) }
 {
     let mut copy = header.clone()?;
     copy.next_header = next;

@@ -19,10 +19,11 @@ pub struct Ipv6ExtensionSliceIter<'a> {
 impl<'a> Iterator for Ipv6ExtensionSliceIter<'a> {
     type Item = Ipv6ExtensionSlice<'a>;
 
-    ghost use Rattle.std.specs.Iterator.{item_count};
-    ghost use Rattle.ip_ext_chains.specs.Ipv6ExtensionSliceIter.{headers_left, Steps};
+    ghost use Rattle.std.specs.Iterator.{YieldsFirstBy, item_count};
+    ghost use Rattle.ip_ext_chains.specs.Ipv6ExtensionSlice.{header_of};
+    ghost use Rattle.ip_ext_chains.specs.Ipv6ExtensionSliceIter.{headers_left};
 
-    ghost next_gives = { Steps };
+    ghost next_gives = { YieldsFirstBy header_of headers_left };
 
     ghost remaining = { item_count headers_left };
 

@@ -13,7 +13,7 @@ invariant_of-self c = record {
 
 pub returns-clause-steps : goal.returns-clause-steps
 returns-clause-steps c =
-    ((whole_cut _ _ _ _ _ _ c.args.self.now.whole (rw c.unwrap-header.ensures at c.header_at.ensures.next) c.next_header-self.ensures c.slice.ensures.bytes c.after-self.ensures).0, c.next_header-self.ensures)
+    (whole_cut _ _ _ _ _ _ c.args.self.now.whole (rw c.unwrap-header.ensures at c.header_at.ensures.next) c.next_header-self.ensures c.slice.ensures.bytes c.after-self.ensures).0
 
 pub returns-clause-goes : goal.returns-clause-goes
 returns-clause-goes c =

@@ -1,0 +1,9 @@
+//! Programs over the crates of the repository, proved from their public contracts alone; and pins of what no
+//! contract says, constants and impls.
+#![tactic(auto)]
+
+pub mod base;
+pub mod chains;
+pub mod headers;
+pub mod pins;
+pub mod tool;

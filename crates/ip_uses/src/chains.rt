@@ -1,6 +1,7 @@
 //! Callers of chains.
-ghost use Rattle.std.specs.Prelude.{◌≡◌, length, false, IfOk, IfSome};
-ghost use Rattle.ip_spec.specs.Chain.{has_fragmenting, leads_to};
+ghost use Rattle.std.specs.Prelude.{◌≡◌, List, length, take, false, IfOk, IfSome};
+ghost use Rattle.ip_spec.specs.Chain.{ExtHeader, bytes_of, has_fragmenting, leads_to};
+ghost use Rattle.ip_spec.specs.Demand.{AtMost, IsLongestUnder};
 ghost use Rattle.ip_ext_chains.specs.Longest.{longest_chain, rest_after};
 ghost use Rattle.ip_ext_chains.specs.Ipv6ExtensionsSlice.{bytes};
 
@@ -39,4 +40,22 @@ pub fn joined(alloc: Global, headers: Ipv6ExtensionsSlice<'_>) -> Result<Vec<u8>
         copy.extend_from_slice(header.slice())?;
     }
     Ok(copy)
+}
+
+/// How many bytes the first `k` headers of the chain take; all of its headers, where there are fewer.
+pub fn first_headers(k: usize, start: IpNumber, packet: &[u8]) -> usize
+    ensures first { result ≡ length (bytes_of (take k (longest_chain start.0 packet.now))) }
+    ensures under { (c : List ExtHeader) → IsLongestUnder (AtMost k) start.0 packet.now c
+        → result ≡ length (bytes_of c) }
+{
+    let (headers, _, _, _) = Ipv6ExtensionsSlice::from_slice_lax(start, packet);
+    let mut headers = headers.into_iter();
+    let mut len = 0;
+    'headers: for _ in 0..k {
+        let Some(header) = headers.next() else {
+            return len;
+        };
+        len += header.slice().len();
+    }
+    len
 }

@@ -28,8 +28,8 @@ fn main() -> ExitCode {
         ["measure", runs] => measure_all(runs.parse().expect("RUNS is a number")),
         ["tool", ours, original, file, bytes] => {
             let (file, len) = (Path::new(file), bytes.parse().expect("BYTES is a number"));
-            tool::write_lines(file, len, SEED).expect("FILE can be written");
-            tool::measure(ours, original, file, 7).print();
+            let count = tool::write_lines(file, len, SEED).expect("FILE can be written");
+            tool::measure(ours, original, file, count, 9).print();
         }
         ["report", ..] if words.len() > 1 => {
             if !report::report(&arguments[1..]) {

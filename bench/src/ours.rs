@@ -34,6 +34,10 @@ unsafe extern "C" {
     pub fn ipexts_fragment_borrowed(bytes: *const u8, len: usize, at: usize) -> u64;
     pub fn ipexts_fragment_owned(bytes: *const u8, len: usize, at: usize) -> u64;
 
+    pub fn ipexts_raw_filter(bytes: *const u8, len: usize, at: usize) -> u64;
+    pub fn ipexts_auth_filter(bytes: *const u8, len: usize, at: usize) -> u64;
+    pub fn ipexts_fragment_filter(bytes: *const u8, len: usize, at: usize) -> u64;
+
     pub fn ipexts_raw_to_bytes(bytes: *const u8, len: usize, at: usize, times: u32) -> u64;
     pub fn ipexts_auth_to_bytes(bytes: *const u8, len: usize, at: usize, times: u32) -> u64;
     pub fn ipexts_fragment_to_bytes(bytes: *const u8, len: usize, at: usize, times: u32) -> u64;

@@ -184,6 +184,9 @@ fn borrowed_and_owned() -> Vec<Row> {
     add("borrowed headers", "authentication header, borrowed", &auth, ipexts_auth_borrowed, original::auth_borrowed);
     add("borrowed headers", "fragment header, borrowed", &fragment, ipexts_fragment_borrowed, original::fragment_borrowed);
     add("borrowed headers", "raw header, borrowed, refused", &refused, ipexts_raw_borrowed, original::raw_borrowed);
+    add("borrowed headers", "raw header, filter", &raw, ipexts_raw_filter, original::raw_filter);
+    add("borrowed headers", "authentication header, filter", &auth, ipexts_auth_filter, original::auth_filter);
+    add("borrowed headers", "fragment header, filter", &fragment, ipexts_fragment_filter, original::fragment_filter);
     add("owned headers", "raw header, owned", &raw, ipexts_raw_owned, original::raw_owned);
     add("owned headers", "authentication header, owned", &auth, ipexts_auth_owned, original::auth_owned);
     add("owned headers", "fragment header, owned", &fragment, ipexts_fragment_owned, original::fragment_owned);

@@ -10,12 +10,13 @@ use std::path::Path;
 use std::process::{Command, Stdio};
 use std::time::Instant;
 
-/// Writes lines that ask for chains like those of real traffic, of so many bytes together.
-pub fn write_lines(path: &Path, len: usize, seed: u64) -> std::io::Result<()> {
+/// Writes lines that ask for chains like those of real traffic, of so many bytes together, and answers how
+/// many they are.
+pub fn write_lines(path: &Path, len: usize, seed: u64) -> std::io::Result<usize> {
     let mut file = BufWriter::new(File::create(path)?);
     let mut random = Random::new(seed);
     let packets = inputs::packets(10_000, seed);
-    let mut written = 0;
+    let (mut written, mut count) = (0, 0);
     let mut line = String::new();
     while written < len {
         for packet in packets.each() {
@@ -31,23 +32,25 @@ pub fn write_lines(path: &Path, len: usize, seed: u64) -> std::io::Result<()> {
             line.push('\n');
             file.write_all(line.as_bytes())?;
             written += line.len();
+            count += 1;
         }
     }
-    file.flush()
+    file.flush()?;
+    Ok(count)
 }
 
 /// Times both programs on the lines, taking turns.
-pub fn measure(ours: &str, original: &str, lines: &Path, runs: usize) -> Line {
+pub fn measure(ours: &str, original: &str, lines: &Path, count: usize, runs: usize) -> Line {
     assert_eq!(digest(ours, lines), digest(original, lines), "the tool's answers differ from the original's");
     let (mut our_times, mut original_times) = (Vec::new(), Vec::new());
     for _ in 0..runs {
-        our_times.push(once(ours, lines));
-        original_times.push(once(original, lines));
+        our_times.push(once(ours, lines) / count as f64);
+        original_times.push(once(original, lines) / count as f64);
     }
     Line {
         group: "the tool".to_owned(),
         name: format!("the tool: {} MB of lines", std::fs::metadata(lines).map_or(0, |file| file.len() / 1_000_000)),
-        unit: "run".to_owned(),
+        unit: "line".to_owned(),
         ours: of_runs(our_times),
         original: of_runs(original_times),
         limit: None,

@@ -219,3 +219,39 @@ pub extern "C" fn ipexts_fragment_write(alloc: Global, bytes: &[u8], at: usize, 
     }
     sum
 }
+
+/// A borrowed header of the common layout, of which a filter reads its next number and its length.
+#[unsafe(no_mangle)]
+pub extern "C" fn ipexts_raw_filter(bytes: &[u8], _at: usize) -> u64 {
+    match Ipv6RawExtHeaderSlice::from_slice(bytes) {
+        Ok(header) => with(
+            header.slice().len() as u64,
+            u64::from(header.next_header().0),
+        ),
+        Err(_) => 0,
+    }
+}
+
+/// The same of an authentication header.
+#[unsafe(no_mangle)]
+pub extern "C" fn ipexts_auth_filter(bytes: &[u8], _at: usize) -> u64 {
+    match IpAuthHeaderSlice::from_slice(bytes) {
+        Ok(header) => with(
+            header.slice().len() as u64,
+            u64::from(header.next_header().0),
+        ),
+        Err(_) => 0,
+    }
+}
+
+/// A borrowed fragment header, of which a filter reads its next number and whether it fragments the payload.
+#[unsafe(no_mangle)]
+pub extern "C" fn ipexts_fragment_filter(bytes: &[u8], _at: usize) -> u64 {
+    match Ipv6FragmentHeaderSlice::from_slice(bytes) {
+        Ok(header) => with(
+            u64::from(header.is_fragmenting_payload()),
+            u64::from(header.next_header().0),
+        ),
+        Err(_) => 0,
+    }
+}

@@ -4,20 +4,9 @@ use ip_ext_chains::err::{Layer, LenError, ip_auth};
 use ip_ext_chains::{IpNumber, Ipv6ExtensionSlice, Ipv6ExtensionsSlice, LenSource};
 use ip_ext_headers::{IpAuthHeaderSlice, Ipv6FragmentHeaderSlice, Ipv6RawExtHeaderSlice};
 
-/// What a lax parse answers.
-pub type LaxAnswer<'a> = (
-    Ipv6ExtensionsSlice<'a>,
-    IpNumber,
-    &'a [u8],
-    Option<(HeaderSliceError, Layer)>,
-);
-
-/// What a strict parse answers.
-pub type StrictAnswer<'a> = Result<(Ipv6ExtensionsSlice<'a>, IpNumber, &'a [u8]), HeaderSliceError>;
-
 /// The digest `sum` with one part more.
 pub fn with(sum: u64, part: u64) -> u64 {
-    sum.rotate_left(7).wrapping_add(part)
+    sum.wrapping_mul(9).wrapping_add(part)
 }
 
 /// A stretch of bytes: its length and its first byte.
@@ -31,21 +20,29 @@ pub fn of_bytes(bytes: &[u8]) -> u64 {
 
 /// Every part of a lax parse's answer.
 #[inline(never)]
-pub fn of_lax(answer: &LaxAnswer<'_>) -> u64 {
-    let chain = of_chain(&answer.0, answer.1, answer.2);
-    match &answer.3 {
+pub fn of_lax(
+    headers: &Ipv6ExtensionsSlice<'_>,
+    number: IpNumber,
+    rest: &[u8],
+    fault: &Option<(HeaderSliceError, Layer)>,
+) -> u64 {
+    let chain = of_chain(headers, number, rest);
+    match fault {
         None => chain,
         Some((fault, layer)) => with(with(chain, of_fault(fault)), u64::from(layer_code(layer))),
     }
 }
 
-/// Every part of a strict parse's answer.
+/// Every part of a strict parse's answer where there is no fault.
 #[inline(never)]
-pub fn of_strict(answer: &StrictAnswer<'_>) -> u64 {
-    match answer {
-        Ok((headers, number, rest)) => of_chain(headers, *number, rest),
-        Err(fault) => of_fault(fault),
-    }
+pub fn of_strict(headers: &Ipv6ExtensionsSlice<'_>, number: IpNumber, rest: &[u8]) -> u64 {
+    of_chain(headers, number, rest)
+}
+
+/// A strict parse's fault.
+#[inline(never)]
+pub fn of_strict_fault(fault: &HeaderSliceError) -> u64 {
+    of_fault(fault)
 }
 
 /// A chain, the number to which it leads and what follows it.

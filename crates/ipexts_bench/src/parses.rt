@@ -1,5 +1,5 @@
 //! The ways to parse a chain that are measured. Each answers a digest of what it read.
-use crate::digest::{of_header, of_lax, of_strict, with};
+use crate::digest::{of_header, of_lax, of_strict, of_strict_fault, with};
 use ip_ext_chains::{IpNumber, Ipv6ExtensionSlice, Ipv6ExtensionsSlice};
 
 /// A way to parse a chain.
@@ -28,15 +28,16 @@ pub struct StrictFilter;
 
 impl Parse for Lax {
     fn digest(start: IpNumber, bytes: &[u8]) -> u64 {
-        of_lax(&Ipv6ExtensionsSlice::from_slice_lax(start, bytes))
+        let (headers, number, rest, fault) = Ipv6ExtensionsSlice::from_slice_lax(start, bytes);
+        of_lax(&headers, number, rest, &fault)
     }
 }
 
 impl Parse for LaxHeaders {
     fn digest(start: IpNumber, bytes: &[u8]) -> u64 {
-        let answer = Ipv6ExtensionsSlice::from_slice_lax(start, bytes);
-        let mut sum = of_lax(&answer);
-        for header in answer.0 {
+        let (headers, number, rest, fault) = Ipv6ExtensionsSlice::from_slice_lax(start, bytes);
+        let mut sum = of_lax(&headers, number, rest, &fault);
+        for header in headers {
             sum = with(sum, of_header(&header));
         }
         sum
@@ -45,7 +46,10 @@ impl Parse for LaxHeaders {
 
 impl Parse for Strict {
     fn digest(start: IpNumber, bytes: &[u8]) -> u64 {
-        of_strict(&Ipv6ExtensionsSlice::from_slice(start, bytes))
+        match Ipv6ExtensionsSlice::from_slice(start, bytes) {
+            Ok((headers, number, rest)) => of_strict(&headers, number, rest),
+            Err(fault) => of_strict_fault(&fault),
+        }
     }
 }
 

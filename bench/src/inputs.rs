@@ -19,7 +19,10 @@ pub struct Packets {
 impl Packets {
     pub fn each(&self) -> Vec<&[u8]> {
         let starts = std::iter::once(0).chain(self.ends.iter().copied());
-        starts.zip(&self.ends).map(|(start, end)| &self.bytes[start..*end]).collect()
+        starts
+            .zip(&self.ends)
+            .map(|(start, end)| &self.bytes[start..*end])
+            .collect()
     }
 }
 
@@ -27,7 +30,11 @@ impl Packets {
 /// often, with a payload of some hundred bytes.
 pub fn packets(count: usize, seed: u64) -> Packets {
     let mut random = Random::new(seed);
-    let mut packets = Packets { bytes: Vec::new(), ends: Vec::new(), chains_len: 0 };
+    let mut packets = Packets {
+        bytes: Vec::new(),
+        ends: Vec::new(),
+        chains_len: 0,
+    };
     for _ in 0..count {
         let numbers = numbers(&mut random);
         let payload = payload_number(&mut random);
@@ -36,7 +43,9 @@ pub fn packets(count: usize, seed: u64) -> Packets {
         let len = (chain.len() + rest) as u16;
         packets.bytes.extend([0x60, 0, 0, 0]);
         packets.bytes.extend(len.to_be_bytes());
-        packets.bytes.extend([*numbers.first().unwrap_or(&payload), 64]);
+        packets
+            .bytes
+            .extend([*numbers.first().unwrap_or(&payload), 64]);
         packets.bytes.extend(random.bytes(32));
         packets.bytes.extend(&chain);
         packets.bytes.extend(random.bytes(rest));
@@ -55,14 +64,26 @@ fn numbers(random: &mut Random) -> Vec<u8> {
         85..95 => 3,
         _ => 4,
     };
-    let places = [HOP_BY_HOP, DEST_OPTIONS, ROUTE, FRAGMENT, AUTH, DEST_OPTIONS];
+    let places = [
+        HOP_BY_HOP,
+        DEST_OPTIONS,
+        ROUTE,
+        FRAGMENT,
+        AUTH,
+        DEST_OPTIONS,
+    ];
     let mut chosen = [false; 6];
     while chosen.iter().filter(|chosen| **chosen).count() < count {
         // An authentication header and last options are rarer than the others.
         let place = random.below(6);
         chosen[place] |= place < 4 || random.percent(50);
     }
-    places.iter().zip(chosen).filter(|(_, chosen)| *chosen).map(|(number, _)| *number).collect()
+    places
+        .iter()
+        .zip(chosen)
+        .filter(|(_, chosen)| *chosen)
+        .map(|(number, _)| *number)
+        .collect()
 }
 
 fn payload_number(random: &mut Random) -> u8 {
@@ -105,11 +126,17 @@ pub fn chain_of(numbers: &[u8], last: u8, random: &mut Random) -> Vec<u8> {
 /// routing and fragment headers in turn.
 pub fn regular(count: usize) -> (u8, Vec<u8>) {
     let mut random = Random::new(7);
-    let numbers: Vec<u8> = (0..count).map(|i| [DEST_OPTIONS, ROUTE, FRAGMENT][i % 3]).collect();
+    let numbers: Vec<u8> = (0..count)
+        .map(|i| [DEST_OPTIONS, ROUTE, FRAGMENT][i % 3])
+        .collect();
     let mut bytes = Vec::new();
     for (index, number) in numbers.iter().enumerate() {
         let next = *numbers.get(index + 1).unwrap_or(&UDP);
-        let units = if *number == FRAGMENT { 0 } else { (index / 3 % 2) as u8 };
+        let units = if *number == FRAGMENT {
+            0
+        } else {
+            (index / 3 % 2) as u8
+        };
         bytes.extend([next, units]);
         bytes.extend(random.bytes(8 * (usize::from(units) + 1) - 2));
     }
@@ -126,7 +153,11 @@ pub fn refusals() -> Vec<(&'static str, u8, Vec<u8>)> {
         ("fragment header of 7 bytes", FRAGMENT, vec![UDP; 7]),
         ("authentication header of 11 bytes", AUTH, vec![UDP; 11]),
         ("authentication header of length 0", AUTH, long(UDP, 0, 16)),
-        ("authentication header that ends early", AUTH, long(UDP, 4, 23)),
+        (
+            "authentication header that ends early",
+            AUTH,
+            long(UDP, 4, 23),
+        ),
         ("late hop by hop options", HOP_BY_HOP, vec![UDP; 8]),
     ]
 }
@@ -141,7 +172,11 @@ fn long(next: u8, field: u8, len: usize) -> Vec<u8> {
 /// Four headers that lead to `number`, and then these bytes.
 pub fn behind_four(number: u8, bytes: &[u8]) -> (u8, Vec<u8>) {
     let mut random = Random::new(9);
-    let mut all = chain_of(&[HOP_BY_HOP, DEST_OPTIONS, ROUTE, FRAGMENT], number, &mut random);
+    let mut all = chain_of(
+        &[HOP_BY_HOP, DEST_OPTIONS, ROUTE, FRAGMENT],
+        number,
+        &mut random,
+    );
     all.extend(bytes);
     (HOP_BY_HOP, all)
 }
@@ -149,7 +184,11 @@ pub fn behind_four(number: u8, bytes: &[u8]) -> (u8, Vec<u8>) {
 /// A single header of this length, with 16 bytes behind it.
 pub fn single(number: u8, len: usize) -> Vec<u8> {
     let mut random = Random::new(11);
-    let field = if number == AUTH { len / 4 - 2 } else { len / 8 - 1 };
+    let field = if number == AUTH {
+        len / 4 - 2
+    } else {
+        len / 8 - 1
+    };
     let mut bytes = vec![UDP, field as u8];
     bytes.extend(random.bytes(len + 14));
     bytes

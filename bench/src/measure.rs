@@ -19,8 +19,16 @@ pub struct Measured {
 
 /// Times a row, after it has shown that both sides answer the same.
 pub fn measure(row: &Row, runs: usize) -> Measured {
-    assert_eq!((row.ours)(), (row.original)(), "{}: the answers differ", row.name);
-    let works: Vec<&Work> = [Some(&row.ours), Some(&row.original), row.limit.as_ref()].into_iter().flatten().collect();
+    assert_eq!(
+        (row.ours)(),
+        (row.original)(),
+        "{}: the answers differ",
+        row.name
+    );
+    let works: Vec<&Work> = [Some(&row.ours), Some(&row.original), row.limit.as_ref()]
+        .into_iter()
+        .flatten()
+        .collect();
     let mut times = vec![Vec::with_capacity(runs); works.len()];
     for run in 0..runs {
         for turn in 0..works.len() {
@@ -30,7 +38,11 @@ pub fn measure(row: &Row, runs: usize) -> Measured {
     }
     let mut kept = times.into_iter().map(of_runs);
     let (ours, original) = (kept.next(), kept.next());
-    Measured { ours: ours.expect("ours ran"), original: original.expect("the original ran"), limit: kept.next() }
+    Measured {
+        ours: ours.expect("ours ran"),
+        original: original.expect("the original ran"),
+        limit: kept.next(),
+    }
 }
 
 fn once(work: &Work, units: usize) -> f64 {
@@ -42,5 +54,8 @@ fn once(work: &Work, units: usize) -> f64 {
 /// The least and the middle.
 pub fn of_runs(mut times: Vec<f64>) -> Time {
     times.sort_by(f64::total_cmp);
-    Time { least: times[0], middle: times[times.len() / 2] }
+    Time {
+        least: times[0],
+        middle: times[times.len() / 2],
+    }
 }

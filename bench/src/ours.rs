@@ -21,11 +21,32 @@ unsafe extern "C" {
     pub fn ipexts_strict_filter(start: u8, bytes: *const u8, len: usize) -> u64;
 
     pub fn ipexts_lax_packets(p: *const u8, len: usize, ends: *const usize, count: usize) -> u64;
-    pub fn ipexts_lax_headers_packets(p: *const u8, len: usize, ends: *const usize, count: usize) -> u64;
-    pub fn ipexts_strict_packets(p: *const u8, len: usize, ends: *const usize, count: usize) -> u64;
-    pub fn ipexts_lax_filter_packets(p: *const u8, len: usize, ends: *const usize, count: usize) -> u64;
-    pub fn ipexts_lax_headers_filter_packets(p: *const u8, len: usize, ends: *const usize, count: usize) -> u64;
-    pub fn ipexts_strict_filter_packets(p: *const u8, len: usize, ends: *const usize, count: usize) -> u64;
+    pub fn ipexts_lax_headers_packets(
+        p: *const u8,
+        len: usize,
+        ends: *const usize,
+        count: usize,
+    ) -> u64;
+    pub fn ipexts_strict_packets(p: *const u8, len: usize, ends: *const usize, count: usize)
+        -> u64;
+    pub fn ipexts_lax_filter_packets(
+        p: *const u8,
+        len: usize,
+        ends: *const usize,
+        count: usize,
+    ) -> u64;
+    pub fn ipexts_lax_headers_filter_packets(
+        p: *const u8,
+        len: usize,
+        ends: *const usize,
+        count: usize,
+    ) -> u64;
+    pub fn ipexts_strict_filter_packets(
+        p: *const u8,
+        len: usize,
+        ends: *const usize,
+        count: usize,
+    ) -> u64;
 
     pub fn ipexts_raw_borrowed(bytes: *const u8, len: usize, at: usize) -> u64;
     pub fn ipexts_raw_owned(bytes: *const u8, len: usize, at: usize) -> u64;

@@ -34,14 +34,27 @@ impl Line {
             group: (*group).to_owned(),
             name: (*name).to_owned(),
             unit: (*unit).to_owned(),
-            ours: Time { least: *least, middle: *middle },
-            original: Time { least: *original_least, middle: *original_middle },
+            ours: Time {
+                least: *least,
+                middle: *middle,
+            },
+            original: Time {
+                least: *original_least,
+                middle: *original_middle,
+            },
             limit: limit.first().copied(),
         })
     }
 
     pub fn print(&self) {
-        let Line { group, name, unit, ours, original, limit } = self;
+        let Line {
+            group,
+            name,
+            unit,
+            ours,
+            original,
+            limit,
+        } = self;
         let limit = limit.map_or(String::new(), |limit| format!("\t{limit}"));
         println!(
             "{group}\t{name}\t{unit}\t{}\t{}\t{}\t{}{limit}",
@@ -59,11 +72,17 @@ impl Line {
 
     /// Keeps the smaller of two measurements of the same row at the same alignment.
     fn join(&mut self, other: &Line) {
-        for (time, other) in [(&mut self.ours, &other.ours), (&mut self.original, &other.original)] {
+        for (time, other) in [
+            (&mut self.ours, &other.ours),
+            (&mut self.original, &other.original),
+        ] {
             time.least = time.least.min(other.least);
             time.middle = time.middle.min(other.middle);
         }
-        self.limit = self.limit.zip(other.limit).map(|(limit, other)| limit.min(other));
+        self.limit = self
+            .limit
+            .zip(other.limit)
+            .map(|(limit, other)| limit.min(other));
     }
 }
 
@@ -88,7 +107,9 @@ pub fn report(files: &[String]) -> bool {
             if !rows.contains_key(&line.name) && !here.contains_key(&line.name) {
                 order.push(line.name.clone());
             }
-            here.entry(line.name.clone()).and_modify(|kept| kept.join(&line)).or_insert(line);
+            here.entry(line.name.clone())
+                .and_modify(|kept| kept.join(&line))
+                .or_insert(line);
         }
         for (name, line) in here {
             rows.entry(name).or_default().push(line);
@@ -107,7 +128,10 @@ fn judge(lines: &[Line]) -> Judged {
     lines.iter().for_each(|other| line.join(other));
     let ratios: Vec<f64> = lines.iter().map(Line::ratio).collect();
     let count = lines.len() as f64;
-    let goal = HIGHER_GOALS.iter().find(|(name, _)| *name == line.name).map_or(GOAL, |(_, goal)| *goal);
+    let goal = HIGHER_GOALS
+        .iter()
+        .find(|(name, _)| *name == line.name)
+        .map_or(GOAL, |(_, goal)| *goal);
     Judged {
         mean: ratios.iter().sum::<f64>() / count,
         middle: lines.iter().map(Line::middle_ratio).sum::<f64>() / count,
@@ -118,7 +142,9 @@ fn judge(lines: &[Line]) -> Judged {
 }
 
 fn range(ratios: &[f64]) -> (f64, f64) {
-    ratios.iter().fold((f64::MAX, 0.0), |(low, high), ratio| (low.min(*ratio), high.max(*ratio)))
+    ratios.iter().fold((f64::MAX, 0.0), |(low, high), ratio| {
+        (low.min(*ratio), high.max(*ratio))
+    })
 }
 
 impl Judged {
@@ -132,8 +158,17 @@ fn print_rows(rows: &[Judged]) {
     println!("| What | Ours, ns | Original, ns | Ratio | Range | Of the middles | Limit | Goal |");
     println!("|---|---|---|---|---|---|---|---|");
     for row in rows {
-        let Line { name, unit, ours, original, limit, .. } = &row.line;
-        let limit = limit.map_or(String::new(), |limit| format!("{:.2}", limit / original.least));
+        let Line {
+            name,
+            unit,
+            ours,
+            original,
+            limit,
+            ..
+        } = &row.line;
+        let limit = limit.map_or(String::new(), |limit| {
+            format!("{:.2}", limit / original.least)
+        });
         let above = if row.is_above() { ", above" } else { "" };
         println!(
             "| {name} | {:.2} a {unit} | {:.2} | {:.2} | {:.2} to {:.2} | {:.2} | {limit} | {:.2}{above} |",
@@ -141,7 +176,9 @@ fn print_rows(rows: &[Judged]) {
         );
     }
     println!("\nTimes are the least of all runs. The limit is a bare walk in C, which only says where each chain");
-    println!("ends, over the original. The mean and the range are over the alignments of our code.\n");
+    println!(
+        "ends, over the original. The mean and the range are over the alignments of our code.\n"
+    );
 }
 
 /// A line for each group of rows: the mean of their ratios, and the lowest and the highest of any row at any
@@ -157,9 +194,15 @@ fn print_groups(rows: &[Judged]) {
     for group in groups {
         let rows: Vec<&Judged> = rows.iter().filter(|row| row.line.group == group).collect();
         let mean = rows.iter().map(|row| row.mean).sum::<f64>() / rows.len() as f64;
-        let ends: Vec<f64> = rows.iter().flat_map(|row| [row.range.0, row.range.1]).collect();
+        let ends: Vec<f64> = rows
+            .iter()
+            .flat_map(|row| [row.range.0, row.range.1])
+            .collect();
         let (low, high) = range(&ends);
-        println!("| {group} | {} | {mean:.2} | {low:.2} to {high:.2} |", rows.len());
+        println!(
+            "| {group} | {} | {mean:.2} | {low:.2} to {high:.2} |",
+            rows.len()
+        );
     }
     println!();
 }

@@ -37,8 +37,20 @@ struct Form {
     original_loop: PacketLoop,
 }
 
-fn form<P: Parse>(name: &'static str, reading: &'static str, ours: ChainCall, our_loop: PacketLoop) -> Form {
-    Form { name, reading, ours, original: original::chain::<P>, our_loop, original_loop: original::packets::<P> }
+fn form<P: Parse>(
+    name: &'static str,
+    reading: &'static str,
+    ours: ChainCall,
+    our_loop: PacketLoop,
+) -> Form {
+    Form {
+        name,
+        reading,
+        ours,
+        original: original::chain::<P>,
+        our_loop,
+        original_loop: original::packets::<P>,
+    }
 }
 
 /// Each parse, read in full and as a filter does.
@@ -46,13 +58,31 @@ fn forms() -> Vec<Form> {
     use ours::*;
     vec![
         form::<original::Lax>("lax", "in full", ipexts_lax, ipexts_lax_packets),
-        form::<original::LaxHeaders>("lax, iterator", "in full", ipexts_lax_headers, ipexts_lax_headers_packets),
-        form::<original::Strict>("strict", "in full", ipexts_strict, ipexts_strict_packets),
-        form::<original::LaxFilter>("lax", "filter", ipexts_lax_filter, ipexts_lax_filter_packets),
-        form::<original::LaxHeadersFilter>(
-            "lax, iterator", "filter", ipexts_lax_headers_filter, ipexts_lax_headers_filter_packets,
+        form::<original::LaxHeaders>(
+            "lax, iterator",
+            "in full",
+            ipexts_lax_headers,
+            ipexts_lax_headers_packets,
         ),
-        form::<original::StrictFilter>("strict", "filter", ipexts_strict_filter, ipexts_strict_filter_packets),
+        form::<original::Strict>("strict", "in full", ipexts_strict, ipexts_strict_packets),
+        form::<original::LaxFilter>(
+            "lax",
+            "filter",
+            ipexts_lax_filter,
+            ipexts_lax_filter_packets,
+        ),
+        form::<original::LaxHeadersFilter>(
+            "lax, iterator",
+            "filter",
+            ipexts_lax_headers_filter,
+            ipexts_lax_headers_filter_packets,
+        ),
+        form::<original::StrictFilter>(
+            "strict",
+            "filter",
+            ipexts_strict_filter,
+            ipexts_strict_filter_packets,
+        ),
     ]
 }
 
@@ -67,7 +97,10 @@ pub fn rows(seed: u64) -> Vec<Row> {
     for form in forms() {
         rows.extend([0, 1, 2, 4, 64, 4096].map(|count| regular_chain(&form, count)));
     }
-    for form in forms().into_iter().filter(|form| form.name != "lax, iterator") {
+    for form in forms()
+        .into_iter()
+        .filter(|form| form.name != "lax, iterator")
+    {
         rows.extend(refusals(&form));
     }
     rows.extend(borrowed_and_owned());
@@ -153,10 +186,21 @@ fn refusals(form: &Form) -> Vec<Row> {
         } else {
             (number, bytes.clone())
         };
-        let at_first = if number == inputs::HOP_BY_HOP { "behind one" } else { "at the first" };
-        for (place, (start, bytes)) in [(at_first, first), ("behind four", inputs::behind_four(number, &bytes))] {
+        let at_first = if number == inputs::HOP_BY_HOP {
+            "behind one"
+        } else {
+            "at the first"
+        };
+        for (place, (start, bytes)) in [
+            (at_first, first),
+            ("behind four", inputs::behind_four(number, &bytes)),
+        ] {
             rows.push(Row {
-                group: if place == "behind four" { "refusals behind four headers" } else { "refusals at the first header" },
+                group: if place == "behind four" {
+                    "refusals behind four headers"
+                } else {
+                    "refusals at the first header"
+                },
                 name: format!("{}, {}: {why}, {place}", form.name, form.reading),
                 unit: "call",
                 units: CALLS,
@@ -178,25 +222,108 @@ fn borrowed_and_owned() -> Vec<Row> {
     let refused = [(7, vec![17; 7])];
     let mut rows = Vec::new();
     let mut add = |group, name: &str, inputs: &[(usize, Vec<u8>)], ours, original| {
-        rows.extend(inputs.iter().map(|(len, bytes)| single(group, name, *len, bytes, ours, original)));
+        rows.extend(
+            inputs
+                .iter()
+                .map(|(len, bytes)| single(group, name, *len, bytes, ours, original)),
+        );
     };
-    add("borrowed headers", "raw header, borrowed", &raw, ipexts_raw_borrowed, original::raw_borrowed);
-    add("borrowed headers", "authentication header, borrowed", &auth, ipexts_auth_borrowed, original::auth_borrowed);
-    add("borrowed headers", "fragment header, borrowed", &fragment, ipexts_fragment_borrowed, original::fragment_borrowed);
-    add("borrowed headers", "raw header, borrowed, refused", &refused, ipexts_raw_borrowed, original::raw_borrowed);
-    add("borrowed headers", "raw header, filter", &raw, ipexts_raw_filter, original::raw_filter);
-    add("borrowed headers", "authentication header, filter", &auth, ipexts_auth_filter, original::auth_filter);
-    add("borrowed headers", "fragment header, filter", &fragment, ipexts_fragment_filter, original::fragment_filter);
-    add("owned headers", "raw header, owned", &raw, ipexts_raw_owned, original::raw_owned);
-    add("owned headers", "authentication header, owned", &auth, ipexts_auth_owned, original::auth_owned);
-    add("owned headers", "fragment header, owned", &fragment, ipexts_fragment_owned, original::fragment_owned);
-    add("owned headers", "raw header, owned, refused", &refused, ipexts_raw_owned, original::raw_owned);
-    add("owned headers", "authentication header, owned, refused", &refused, ipexts_auth_owned, original::auth_owned);
+    add(
+        "borrowed headers",
+        "raw header, borrowed",
+        &raw,
+        ipexts_raw_borrowed,
+        original::raw_borrowed,
+    );
+    add(
+        "borrowed headers",
+        "authentication header, borrowed",
+        &auth,
+        ipexts_auth_borrowed,
+        original::auth_borrowed,
+    );
+    add(
+        "borrowed headers",
+        "fragment header, borrowed",
+        &fragment,
+        ipexts_fragment_borrowed,
+        original::fragment_borrowed,
+    );
+    add(
+        "borrowed headers",
+        "raw header, borrowed, refused",
+        &refused,
+        ipexts_raw_borrowed,
+        original::raw_borrowed,
+    );
+    add(
+        "borrowed headers",
+        "raw header, filter",
+        &raw,
+        ipexts_raw_filter,
+        original::raw_filter,
+    );
+    add(
+        "borrowed headers",
+        "authentication header, filter",
+        &auth,
+        ipexts_auth_filter,
+        original::auth_filter,
+    );
+    add(
+        "borrowed headers",
+        "fragment header, filter",
+        &fragment,
+        ipexts_fragment_filter,
+        original::fragment_filter,
+    );
+    add(
+        "owned headers",
+        "raw header, owned",
+        &raw,
+        ipexts_raw_owned,
+        original::raw_owned,
+    );
+    add(
+        "owned headers",
+        "authentication header, owned",
+        &auth,
+        ipexts_auth_owned,
+        original::auth_owned,
+    );
+    add(
+        "owned headers",
+        "fragment header, owned",
+        &fragment,
+        ipexts_fragment_owned,
+        original::fragment_owned,
+    );
+    add(
+        "owned headers",
+        "raw header, owned, refused",
+        &refused,
+        ipexts_raw_owned,
+        original::raw_owned,
+    );
+    add(
+        "owned headers",
+        "authentication header, owned, refused",
+        &refused,
+        ipexts_auth_owned,
+        original::auth_owned,
+    );
     rows
 }
 
 /// One call on a single header.
-fn single(group: &'static str, name: &str, len: usize, bytes: &[u8], ours: HeaderCall, original: HeaderCall) -> Row {
+fn single(
+    group: &'static str,
+    name: &str,
+    len: usize,
+    bytes: &[u8],
+    ours: HeaderCall,
+    original: HeaderCall,
+) -> Row {
     let over = |call: HeaderCall| -> Work {
         let bytes = bytes.to_vec();
         Box::new(move || {
@@ -226,25 +353,79 @@ fn written() -> Vec<Row> {
     let fragment = [(8, inputs::single(inputs::FRAGMENT, 8))];
     let mut rows = Vec::new();
     let mut add = |group, name: &str, inputs: &[(usize, Vec<u8>)], ours, original| {
-        rows.extend(inputs.iter().map(|(len, bytes)| repeated(group, name, *len, bytes, ours, original)));
+        rows.extend(
+            inputs
+                .iter()
+                .map(|(len, bytes)| repeated(group, name, *len, bytes, ours, original)),
+        );
     };
-    add("to_bytes", "raw header, to_bytes", &raw, ipexts_raw_to_bytes, original::raw_to_bytes);
-    add("to_bytes", "authentication header, to_bytes", &auth, ipexts_auth_to_bytes, original::auth_to_bytes);
-    add("to_bytes", "fragment header, to_bytes", &fragment, ipexts_fragment_to_bytes, original::fragment_to_bytes);
-    add("write", "raw header, write", &raw, ipexts_raw_write, original::raw_write);
-    add("write", "authentication header, write", &auth, ipexts_auth_write, original::auth_write);
-    add("write", "fragment header, write", &fragment, ipexts_fragment_write, original::fragment_write);
+    add(
+        "to_bytes",
+        "raw header, to_bytes",
+        &raw,
+        ipexts_raw_to_bytes,
+        original::raw_to_bytes,
+    );
+    add(
+        "to_bytes",
+        "authentication header, to_bytes",
+        &auth,
+        ipexts_auth_to_bytes,
+        original::auth_to_bytes,
+    );
+    add(
+        "to_bytes",
+        "fragment header, to_bytes",
+        &fragment,
+        ipexts_fragment_to_bytes,
+        original::fragment_to_bytes,
+    );
+    add(
+        "write",
+        "raw header, write",
+        &raw,
+        ipexts_raw_write,
+        original::raw_write,
+    );
+    add(
+        "write",
+        "authentication header, write",
+        &auth,
+        ipexts_auth_write,
+        original::auth_write,
+    );
+    add(
+        "write",
+        "fragment header, write",
+        &fragment,
+        ipexts_fragment_write,
+        original::fragment_write,
+    );
     rows
 }
 
 /// A call that makes a header's bytes again and again.
-fn repeated(group: &'static str, name: &str, len: usize, bytes: &[u8], ours: RepeatedCall, original: RepeatedCall) -> Row {
+fn repeated(
+    group: &'static str,
+    name: &str,
+    len: usize,
+    bytes: &[u8],
+    ours: RepeatedCall,
+    original: RepeatedCall,
+) -> Row {
     let over = |call: RepeatedCall| -> Work {
         let bytes = bytes.to_vec();
         Box::new(move || {
             let call = black_box(call);
             let bytes = black_box(&bytes[..]);
-            unsafe { call(bytes.as_ptr(), bytes.len(), black_box(len - 1), CALLS as u32) }
+            unsafe {
+                call(
+                    bytes.as_ptr(),
+                    bytes.len(),
+                    black_box(len - 1),
+                    CALLS as u32,
+                )
+            }
         })
     };
     Row {

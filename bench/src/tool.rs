@@ -41,7 +41,11 @@ pub fn write_lines(path: &Path, len: usize, seed: u64) -> std::io::Result<usize>
 
 /// Times both programs on the lines, taking turns.
 pub fn measure(ours: &str, original: &str, lines: &Path, count: usize, runs: usize) -> Line {
-    assert_eq!(digest(ours, lines), digest(original, lines), "the tool's answers differ from the original's");
+    assert_eq!(
+        digest(ours, lines),
+        digest(original, lines),
+        "the tool's answers differ from the original's"
+    );
     let (mut our_times, mut original_times) = (Vec::new(), Vec::new());
     for _ in 0..runs {
         our_times.push(once(ours, lines) / count as f64);
@@ -49,7 +53,10 @@ pub fn measure(ours: &str, original: &str, lines: &Path, count: usize, runs: usi
     }
     Line {
         group: "the tool".to_owned(),
-        name: format!("the tool: {} MB of lines", std::fs::metadata(lines).map_or(0, |file| file.len() / 1_000_000)),
+        name: format!(
+            "the tool: {} MB of lines",
+            std::fs::metadata(lines).map_or(0, |file| file.len() / 1_000_000)
+        ),
         unit: "line".to_owned(),
         ours: of_runs(our_times),
         original: of_runs(original_times),
@@ -66,23 +73,36 @@ fn command(program: &str, lines: &Path) -> Command {
 fn once(program: &str, lines: &Path) -> f64 {
     let mut command = command(program, lines);
     let start = Instant::now();
-    let status = command.stdout(Stdio::null()).status().unwrap_or_else(|e| panic!("{program}: {e}"));
+    let status = command
+        .stdout(Stdio::null())
+        .status()
+        .unwrap_or_else(|e| panic!("{program}: {e}"));
     assert!(status.success(), "{program} failed");
     start.elapsed().as_nanos() as f64
 }
 
 /// A digest of what a program answers.
 fn digest(program: &str, lines: &Path) -> u64 {
-    let mut child = command(program, lines).stdout(Stdio::piped()).spawn().unwrap_or_else(|e| panic!("{program}: {e}"));
+    let mut child = command(program, lines)
+        .stdout(Stdio::piped())
+        .spawn()
+        .unwrap_or_else(|e| panic!("{program}: {e}"));
     let mut output = child.stdout.take().expect("standard output is piped");
     let mut chunk = vec![0; 1 << 16];
     let mut sum = 0u64;
     loop {
         match output.read(&mut chunk).expect("a pipe can be read") {
             0 => break,
-            n => sum = chunk[..n].iter().fold(sum, |sum, byte| sum.wrapping_mul(31).wrapping_add(u64::from(*byte))),
+            n => {
+                sum = chunk[..n].iter().fold(sum, |sum, byte| {
+                    sum.wrapping_mul(31).wrapping_add(u64::from(*byte))
+                })
+            }
         }
     }
-    assert!(child.wait().is_ok_and(|status| status.success()), "{program} failed");
+    assert!(
+        child.wait().is_ok_and(|status| status.success()),
+        "{program} failed"
+    );
     sum
 }

@@ -33,7 +33,13 @@ pub fn spoilt(line: &str, random: &mut Random) -> Vec<u8> {
         20 => format!("{word}x {arguments}"),
         21 => return replaced(line, random),
         22 => return of_length(line, MAX_LINE_LEN - 2 + random.below(5)),
-        _ => return random.bytes(20).into_iter().filter(|byte| *byte != b'\n').collect(),
+        _ => {
+            return random
+                .bytes(20)
+                .into_iter()
+                .filter(|byte| *byte != b'\n')
+                .collect()
+        }
     };
     text.into_bytes()
 }

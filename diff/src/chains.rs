@@ -106,7 +106,9 @@ fn lied(random: &mut Random) -> Asked {
     let mut at = 0;
     for _ in 0..random.below(4) {
         // To the length field of a further header, as if all were of the common layout.
-        let len = bytes.get(at + 1).map_or(0, |units| 8 * (usize::from(*units) + 1));
+        let len = bytes
+            .get(at + 1)
+            .map_or(0, |units| 8 * (usize::from(*units) + 1));
         if at + len + 1 < bytes.len() {
             at += len;
         }
@@ -122,7 +124,9 @@ fn lied(random: &mut Random) -> Asked {
 fn cut_everywhere(random: &mut Random) -> Vec<Asked> {
     let (number, bytes) = linked(random, 6);
     let bytes = capped(bytes, 160);
-    (0..=bytes.len()).map(|end| (number, bytes[..end].to_vec())).collect()
+    (0..=bytes.len())
+        .map(|end| (number, bytes[..end].to_vec()))
+        .collect()
 }
 
 fn cut_once(random: &mut Random) -> Asked {
@@ -152,7 +156,11 @@ fn long(random: &mut Random, longest: usize) -> Asked {
     let mut number = start;
     let mut bytes = Vec::new();
     while bytes.len() < end {
-        let next = if random.percent(99) { extension(random).max(43) } else { 17 };
+        let next = if random.percent(99) {
+            extension(random).max(43)
+        } else {
+            17
+        };
         bytes.extend(header(number, next, random));
         number = next;
     }

@@ -26,8 +26,19 @@ fn lines(forms: &[Box<dyn Form>], seed: u64, count: usize) -> impl Iterator<Item
     (0..count).map(move |_| {
         if waiting.is_empty() {
             let form = &forms[random.below(forms.len())];
-            let good = form.arguments(&mut random).into_iter().map(|text| format!("{} {text}", form.name()));
-            waiting = good.map(|line| if random.percent(10) { spoilt(&line, &mut random) } else { line.into_bytes() }).collect();
+            let good = form
+                .arguments(&mut random)
+                .into_iter()
+                .map(|text| format!("{} {text}", form.name()));
+            waiting = good
+                .map(|line| {
+                    if random.percent(10) {
+                        spoilt(&line, &mut random)
+                    } else {
+                        line.into_bytes()
+                    }
+                })
+                .collect();
         }
         waiting.pop().unwrap_or_default()
     })
@@ -35,7 +46,10 @@ fn lines(forms: &[Box<dyn Form>], seed: u64, count: usize) -> impl Iterator<Item
 
 /// Asks the tool and the original `count` lines.
 pub fn lines_of_tool(tool: &str, seed: u64, count: usize) -> io::Result<Outcome> {
-    let mut child = Command::new(tool).stdin(Stdio::piped()).stdout(Stdio::piped()).spawn()?;
+    let mut child = Command::new(tool)
+        .stdin(Stdio::piped())
+        .stdout(Stdio::piped())
+        .spawn()?;
     let mut asked = BufWriter::new(child.stdin.take().expect("standard input is piped"));
     let mut told = BufReader::new(child.stdout.take().expect("standard output is piped"));
     let writer = std::thread::spawn(move || -> io::Result<()> {
@@ -57,7 +71,9 @@ pub fn lines_of_tool(tool: &str, seed: u64, count: usize) -> io::Result<Outcome>
     }
     writer.join().expect("the lines are made")?;
     if !child.wait()?.success() {
-        return Ok(Outcome::Different("our tool ended with another status than 0".to_owned()));
+        return Ok(Outcome::Different(
+            "our tool ended with another status than 0".to_owned(),
+        ));
     }
     Ok(outcome)
 }
@@ -76,14 +92,20 @@ fn compare_lines(told: &mut impl BufRead, seed: u64, count: usize) -> io::Result
             told.read_until(b'\n', &mut ours)?;
         }
         if ours != expected.as_bytes() {
-            let (line, ours) = (String::from_utf8_lossy(&line), String::from_utf8_lossy(&ours));
+            let (line, ours) = (
+                String::from_utf8_lossy(&line),
+                String::from_utf8_lossy(&ours),
+            );
             return Ok(Outcome::Different(format!(
-                "line {}: {line}\nthe original:\n{expected}ours:\n{ours}", index + 1
+                "line {}: {line}\nthe original:\n{expected}ours:\n{ours}",
+                index + 1
             )));
         }
     }
     if told.read_until(b'\n', &mut ours)? > 0 {
-        return Ok(Outcome::Different("our tool answers more lines than it was asked".to_owned()));
+        return Ok(Outcome::Different(
+            "our tool answers more lines than it was asked".to_owned(),
+        ));
     }
     Ok(Outcome::Same(counts))
 }
@@ -96,7 +118,8 @@ pub fn single_headers(ours: impl Fn(&Question) -> Told, seed: u64, count: usize)
         let (ours, original) = (ours(&question), original(&question));
         if ours != original {
             return Outcome::Different(format!(
-                "header {}: {question:?}\nthe original: {original:?}\nours: {ours:?}", index + 1
+                "header {}: {question:?}\nthe original: {original:?}\nours: {ours:?}",
+                index + 1
             ));
         }
     }
@@ -114,7 +137,11 @@ fn question(random: &mut Random) -> Question {
         3 => Question::AuthBorrowed(header_bytes(random, auth, (auth / 4 - 2) as u8)),
         4 => Question::AuthOwned(header_bytes(random, auth, (auth / 4 - 2) as u8)),
         5 => {
-            let (next, spi, sequence) = (random.next() as u8, random.next() as u32, random.next() as u32);
+            let (next, spi, sequence) = (
+                random.next() as u8,
+                random.next() as u32,
+                random.next() as u32,
+            );
             Question::AuthNew(next, spi, sequence, part(random, auth - 12))
         }
         6 => Question::FragmentBorrowed(header_bytes(random, 8, 0)),
@@ -135,7 +162,11 @@ fn units(random: &mut Random) -> usize {
 fn header_bytes(random: &mut Random, len: usize, field: u8) -> Vec<u8> {
     let mut bytes = part(random, len);
     if let Some(second) = bytes.get_mut(1) {
-        *second = if random.percent(90) { field } else { random.next() as u8 };
+        *second = if random.percent(90) {
+            field
+        } else {
+            random.next() as u8
+        };
     }
     bytes
 }
@@ -180,7 +211,10 @@ mod tests {
                 plant(&mut told);
                 told
             };
-            assert!(matches!(single_headers(wrong, 1, 10_000), Outcome::Different(_)));
+            assert!(matches!(
+                single_headers(wrong, 1, 10_000),
+                Outcome::Different(_)
+            ));
         }
     }
 }

@@ -5,15 +5,28 @@ use std::fmt::Write;
 
 /// The text of an error of length.
 pub fn push_len_fault(fault: &LenError, answer: &mut String) {
-    let LenError { required_len, len, len_source, layer, layer_start_offset } = fault;
-    push(answer, format_args!("fault len {required_len} of {len} {len_source:?} {layer:?} at {layer_start_offset}"));
+    let LenError {
+        required_len,
+        len,
+        len_source,
+        layer,
+        layer_start_offset,
+    } = fault;
+    push(
+        answer,
+        format_args!(
+            "fault len {required_len} of {len} {len_source:?} {layer:?} at {layer_start_offset}"
+        ),
+    );
 }
 
 /// The text of a fault of an IPv6 chain.
 pub fn push_ipv6_fault(fault: &HeaderSliceError, answer: &mut String) {
     match fault {
         HeaderSliceError::Len(fault) => push_len_fault(fault, answer),
-        HeaderSliceError::Content(HeaderError::HopByHopNotAtStart) => answer.push_str("fault HopByHopNotAtStart"),
+        HeaderSliceError::Content(HeaderError::HopByHopNotAtStart) => {
+            answer.push_str("fault HopByHopNotAtStart")
+        }
         HeaderSliceError::Content(HeaderError::IpAuth(ip_auth::HeaderError::ZeroPayloadLen)) => {
             answer.push_str("fault ZeroPayloadLen");
         }

@@ -3,8 +3,8 @@ use crate::ours::{self, Header};
 use etherparse::err::ipv6_exts::ExtPayloadLenError;
 use etherparse::err::{ip_auth, Layer, LenError};
 use etherparse::{
-    IpAuthHeader, IpAuthHeaderSlice, IpNumber, Ipv6FragmentHeader, Ipv6FragmentHeaderSlice, Ipv6RawExtHeader,
-    Ipv6RawExtHeaderSlice, LenSource,
+    IpAuthHeader, IpAuthHeaderSlice, IpNumber, Ipv6FragmentHeader, Ipv6FragmentHeaderSlice,
+    Ipv6RawExtHeader, Ipv6RawExtHeaderSlice, LenSource,
 };
 
 /// Room for the longest header and a byte more.
@@ -35,28 +35,40 @@ pub enum Question {
 /// What the library tells.
 pub fn ours(question: &Question) -> Told {
     let (mut payload, mut spelled, mut written) = (vec![0; ROOM], vec![0; ROOM], vec![0; ROOM]);
-    let (p, s, w) = (payload.as_mut_ptr(), spelled.as_mut_ptr(), written.as_mut_ptr());
+    let (p, s, w) = (
+        payload.as_mut_ptr(),
+        spelled.as_mut_ptr(),
+        written.as_mut_ptr(),
+    );
     let mut header = Header::default();
     let out = &raw mut header;
     // SAFETY: each pointer has ROOM bytes behind it, and the inputs have their own lengths.
     unsafe {
         match question {
-            Question::RawBorrowed(b) => ours::ipexts_raw_borrowed_fields(b.as_ptr(), b.len(), p, ROOM, out),
+            Question::RawBorrowed(b) => {
+                ours::ipexts_raw_borrowed_fields(b.as_ptr(), b.len(), p, ROOM, out)
+            }
             Question::RawOwned(b) => {
                 ours::ipexts_raw_owned_fields(b.as_ptr(), b.len(), p, ROOM, s, ROOM, w, ROOM, out);
             }
             Question::RawNew(next, b) => {
                 ours::ipexts_raw_new(*next, b.as_ptr(), b.len(), p, ROOM, s, ROOM, w, ROOM, out);
             }
-            Question::AuthBorrowed(b) => ours::ipexts_auth_borrowed_fields(b.as_ptr(), b.len(), p, ROOM, out),
+            Question::AuthBorrowed(b) => {
+                ours::ipexts_auth_borrowed_fields(b.as_ptr(), b.len(), p, ROOM, out)
+            }
             Question::AuthOwned(b) => {
                 ours::ipexts_auth_owned_fields(b.as_ptr(), b.len(), p, ROOM, s, ROOM, w, ROOM, out);
             }
             Question::AuthNew(next, spi, sequence, b) => {
                 let (b, len) = (b.as_ptr(), b.len());
-                ours::ipexts_auth_new(*next, *spi, *sequence, b, len, p, ROOM, s, ROOM, w, ROOM, out);
+                ours::ipexts_auth_new(
+                    *next, *spi, *sequence, b, len, p, ROOM, s, ROOM, w, ROOM, out,
+                );
             }
-            Question::FragmentBorrowed(b) => ours::ipexts_fragment_borrowed_fields(b.as_ptr(), b.len(), out),
+            Question::FragmentBorrowed(b) => {
+                ours::ipexts_fragment_borrowed_fields(b.as_ptr(), b.len(), out)
+            }
             Question::FragmentOwned(b) => {
                 ours::ipexts_fragment_owned_fields(b.as_ptr(), b.len(), s, ROOM, w, ROOM, out);
             }
@@ -65,26 +77,35 @@ pub fn ours(question: &Question) -> Told {
     payload.truncate(header.payload_len);
     spelled.truncate(header.spelled_len);
     written.truncate(header.written_len);
-    Told { header, payload, spelled, written }
+    Told {
+        header,
+        payload,
+        spelled,
+        written,
+    }
 }
 
 /// What the original tells.
 pub fn original(question: &Question) -> Told {
     match question {
-        Question::RawBorrowed(bytes) => Ipv6RawExtHeaderSlice::from_slice(bytes).map_or_else(too_few, raw_slice),
-        Question::RawOwned(bytes) => {
-            Ipv6RawExtHeader::from_slice(bytes).map_or_else(too_few, |(header, rest)| raw(&header, rest.len()))
+        Question::RawBorrowed(bytes) => {
+            Ipv6RawExtHeaderSlice::from_slice(bytes).map_or_else(too_few, raw_slice)
         }
-        Question::RawNew(next, payload) => match Ipv6RawExtHeader::new_raw(IpNumber(*next), payload) {
-            Ok(header) => raw(&header, 0),
-            Err(ExtPayloadLenError::TooSmall(len)) => refused(3, len),
-            Err(ExtPayloadLenError::TooBig(len)) => refused(4, len),
-            Err(ExtPayloadLenError::Unaligned(len)) => refused(5, len),
-        },
-        Question::AuthBorrowed(bytes) => IpAuthHeaderSlice::from_slice(bytes).map_or_else(no_auth, auth_slice),
-        Question::AuthOwned(bytes) => {
-            IpAuthHeader::from_slice(bytes).map_or_else(no_auth, |(header, rest)| auth(&header, rest.len()))
+        Question::RawOwned(bytes) => Ipv6RawExtHeader::from_slice(bytes)
+            .map_or_else(too_few, |(header, rest)| raw(&header, rest.len())),
+        Question::RawNew(next, payload) => {
+            match Ipv6RawExtHeader::new_raw(IpNumber(*next), payload) {
+                Ok(header) => raw(&header, 0),
+                Err(ExtPayloadLenError::TooSmall(len)) => refused(3, len),
+                Err(ExtPayloadLenError::TooBig(len)) => refused(4, len),
+                Err(ExtPayloadLenError::Unaligned(len)) => refused(5, len),
+            }
         }
+        Question::AuthBorrowed(bytes) => {
+            IpAuthHeaderSlice::from_slice(bytes).map_or_else(no_auth, auth_slice)
+        }
+        Question::AuthOwned(bytes) => IpAuthHeader::from_slice(bytes)
+            .map_or_else(no_auth, |(header, rest)| auth(&header, rest.len())),
         Question::AuthNew(next, spi, sequence, icv) => {
             use ip_auth::IcvLenError;
             match IpAuthHeader::new(IpNumber(*next), *spi, *sequence, icv) {
@@ -138,7 +159,10 @@ fn fragment_slice(header: Ipv6FragmentHeaderSlice<'_>) -> Told {
         header_len: header.slice().len(),
         ..Header::default()
     };
-    Told { header, ..Told::default() }
+    Told {
+        header,
+        ..Told::default()
+    }
 }
 
 fn flags(more_fragments: bool, is_fragmenting: bool) -> u8 {
@@ -219,7 +243,10 @@ fn too_few(fault: LenError) -> Told {
         offset: fault.layer_start_offset,
         ..Header::default()
     };
-    Told { header, ..Told::default() }
+    Told {
+        header,
+        ..Told::default()
+    }
 }
 
 fn no_auth(fault: ip_auth::HeaderSliceError) -> Told {
@@ -230,7 +257,14 @@ fn no_auth(fault: ip_auth::HeaderSliceError) -> Told {
 }
 
 fn refused(fault: u8, found_len: usize) -> Told {
-    Told { header: Header { fault, found_len, ..Header::default() }, ..Told::default() }
+    Told {
+        header: Header {
+            fault,
+            found_len,
+            ..Header::default()
+        },
+        ..Told::default()
+    }
 }
 
 fn layer_code(layer: &Layer) -> u8 {

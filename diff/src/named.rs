@@ -12,7 +12,9 @@ impl Difference {
     /// The difference in the words of the document.
     pub fn words(self) -> &'static str {
         match self {
-            Difference::IteratorReadsOn => "the iterator reads on behind a chain that ended at a fault",
+            Difference::IteratorReadsOn => {
+                "the iterator reads on behind a chain that ended at a fault"
+            }
         }
     }
 }

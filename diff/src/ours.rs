@@ -31,31 +31,75 @@ pub struct Header {
 
 unsafe extern "C" {
     pub fn ipexts_raw_borrowed_fields(
-        bytes: *const u8, len: usize, payload: *mut u8, payload_room: usize, out: *mut Header,
+        bytes: *const u8,
+        len: usize,
+        payload: *mut u8,
+        payload_room: usize,
+        out: *mut Header,
     );
     pub fn ipexts_auth_borrowed_fields(
-        bytes: *const u8, len: usize, icv: *mut u8, icv_room: usize, out: *mut Header,
+        bytes: *const u8,
+        len: usize,
+        icv: *mut u8,
+        icv_room: usize,
+        out: *mut Header,
     );
     pub fn ipexts_fragment_borrowed_fields(bytes: *const u8, len: usize, out: *mut Header);
     pub fn ipexts_raw_owned_fields(
-        bytes: *const u8, len: usize, payload: *mut u8, payload_room: usize,
-        spelled: *mut u8, spelled_room: usize, written: *mut u8, written_room: usize, out: *mut Header,
+        bytes: *const u8,
+        len: usize,
+        payload: *mut u8,
+        payload_room: usize,
+        spelled: *mut u8,
+        spelled_room: usize,
+        written: *mut u8,
+        written_room: usize,
+        out: *mut Header,
     );
     pub fn ipexts_auth_owned_fields(
-        bytes: *const u8, len: usize, icv: *mut u8, icv_room: usize,
-        spelled: *mut u8, spelled_room: usize, written: *mut u8, written_room: usize, out: *mut Header,
+        bytes: *const u8,
+        len: usize,
+        icv: *mut u8,
+        icv_room: usize,
+        spelled: *mut u8,
+        spelled_room: usize,
+        written: *mut u8,
+        written_room: usize,
+        out: *mut Header,
     );
     pub fn ipexts_fragment_owned_fields(
-        bytes: *const u8, len: usize,
-        spelled: *mut u8, spelled_room: usize, written: *mut u8, written_room: usize, out: *mut Header,
+        bytes: *const u8,
+        len: usize,
+        spelled: *mut u8,
+        spelled_room: usize,
+        written: *mut u8,
+        written_room: usize,
+        out: *mut Header,
     );
     pub fn ipexts_raw_new(
-        next_header: u8, payload: *const u8, payload_len: usize, kept: *mut u8, kept_room: usize,
-        spelled: *mut u8, spelled_room: usize, written: *mut u8, written_room: usize, out: *mut Header,
+        next_header: u8,
+        payload: *const u8,
+        payload_len: usize,
+        kept: *mut u8,
+        kept_room: usize,
+        spelled: *mut u8,
+        spelled_room: usize,
+        written: *mut u8,
+        written_room: usize,
+        out: *mut Header,
     );
     pub fn ipexts_auth_new(
-        next_header: u8, spi: u32, sequence_number: u32, raw_icv: *const u8, icv_len: usize,
-        kept: *mut u8, kept_room: usize,
-        spelled: *mut u8, spelled_room: usize, written: *mut u8, written_room: usize, out: *mut Header,
+        next_header: u8,
+        spi: u32,
+        sequence_number: u32,
+        raw_icv: *const u8,
+        icv_len: usize,
+        kept: *mut u8,
+        kept_room: usize,
+        spelled: *mut u8,
+        spelled_room: usize,
+        written: *mut u8,
+        written_room: usize,
+        out: *mut Header,
     );
 }

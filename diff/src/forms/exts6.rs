@@ -24,9 +24,13 @@ impl Form for Exts6 {
 
     fn answer(&self, arguments: &str, answer: &mut String) -> Option<Vec<Difference>> {
         let (number, bytes) = number_and_bytes(arguments)?;
-        let (headers, next, rest, fault) = Ipv6ExtensionsSlice::from_slice_lax(IpNumber(number), &bytes);
+        let (headers, next, rest, fault) =
+            Ipv6ExtensionsSlice::from_slice_lax(IpNumber(number), &bytes);
         let reads_on = push_headers(headers, answer);
-        push(answer, format_args!("next {} rest {}\n", next.0, rest.len()));
+        push(
+            answer,
+            format_args!("next {} rest {}\n", next.0, rest.len()),
+        );
         match fault {
             None => answer.push_str("ok\n"),
             Some((fault, layer)) => {
@@ -34,7 +38,11 @@ impl Form for Exts6 {
                 push(answer, format_args!(" in {layer:?}\n"));
             }
         }
-        Some(if reads_on { vec![Difference::IteratorReadsOn] } else { Vec::new() })
+        Some(if reads_on {
+            vec![Difference::IteratorReadsOn]
+        } else {
+            Vec::new()
+        })
     }
 }
 
@@ -46,7 +54,9 @@ fn push_headers(headers: Ipv6ExtensionsSlice<'_>, answer: &mut String) -> bool {
     let mut offset = 0;
     let mut next = None;
     while offset < end {
-        let header = headers.next().expect("a header for the bytes that are left");
+        let header = headers
+            .next()
+            .expect("a header for the bytes that are left");
         let (name, len, leads_to) = parts(&header);
         push(answer, format_args!("{offset} {name} {len}\n"));
         offset += len;
@@ -58,10 +68,20 @@ fn push_headers(headers: Ipv6ExtensionsSlice<'_>, answer: &mut String) -> bool {
 /// A header's name, its length and the number to which it leads.
 fn parts(header: &Ipv6ExtensionSlice<'_>) -> (&'static str, usize, u8) {
     match header {
-        Ipv6ExtensionSlice::HopByHop(header) => ("hopopt", header.slice().len(), header.next_header().0),
-        Ipv6ExtensionSlice::Routing(header) => ("route", header.slice().len(), header.next_header().0),
-        Ipv6ExtensionSlice::Fragment(header) => ("frag", header.slice().len(), header.next_header().0),
-        Ipv6ExtensionSlice::DestinationOptions(header) => ("dstopts", header.slice().len(), header.next_header().0),
-        Ipv6ExtensionSlice::Authentication(header) => ("auth", header.slice().len(), header.next_header().0),
+        Ipv6ExtensionSlice::HopByHop(header) => {
+            ("hopopt", header.slice().len(), header.next_header().0)
+        }
+        Ipv6ExtensionSlice::Routing(header) => {
+            ("route", header.slice().len(), header.next_header().0)
+        }
+        Ipv6ExtensionSlice::Fragment(header) => {
+            ("frag", header.slice().len(), header.next_header().0)
+        }
+        Ipv6ExtensionSlice::DestinationOptions(header) => {
+            ("dstopts", header.slice().len(), header.next_header().0)
+        }
+        Ipv6ExtensionSlice::Authentication(header) => {
+            ("auth", header.slice().len(), header.next_header().0)
+        }
     }
 }

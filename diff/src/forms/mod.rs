@@ -39,7 +39,10 @@ fn asked(forms: &[Box<dyn Form>], line: &[u8], answer: &mut String) -> Option<Ve
         return None;
     }
     let (word, arguments) = std::str::from_utf8(line).ok()?.split_once(' ')?;
-    forms.iter().find(|form| form.name() == word)?.answer(arguments, answer)
+    forms
+        .iter()
+        .find(|form| form.name() == word)?
+        .answer(arguments, answer)
 }
 
 /// Reads `N HEX`.
@@ -86,5 +89,8 @@ pub fn hex_of(bytes: &[u8], upper: bool) -> String {
     }
     let digits = if upper { UPPER } else { LOWER };
     let digit = |value: u8| char::from(digits[usize::from(value)]);
-    bytes.iter().flat_map(|byte| [digit(byte / 16), digit(byte % 16)]).collect()
+    bytes
+        .iter()
+        .flat_map(|byte| [digit(byte / 16), digit(byte % 16)])
+        .collect()
 }

@@ -27,7 +27,8 @@ impl IpFragOffset {
     pub fn try_new(value: u16) -> Result<IpFragOffset, ValueTooBigError>
         ensures fits { IsOk result ↔ (value ≤ MAX_FRAGMENT_OFFSET) }
         ensures value { IfOk result (λ offset. offset ≡ value) }
-        ensures too_big { IfErr result (λ e. e ≡ record { actual = value; max_allowed = MAX_FRAGMENT_OFFSET }) }
+        ensures too_big { IfErr result (λ e.
+            e ≡ record { actual = value; max_allowed = MAX_FRAGMENT_OFFSET }) }
     {
         if value > Self::MAX_U16 {
             return Err(ValueTooBigError {
@@ -54,12 +55,14 @@ impl TryFrom<u16> for IpFragOffset {
 
     ghost try_from_gives = { λ value result. MatchResult result
         (λ offset. (value ≤ MAX_FRAGMENT_OFFSET) × (offset ≡ value))
-        (λ e. (MAX_FRAGMENT_OFFSET < value) × (e ≡ record { actual = value; max_allowed = MAX_FRAGMENT_OFFSET })) };
+        (λ e. (MAX_FRAGMENT_OFFSET < value)
+        × (e ≡ record { actual = value; max_allowed = MAX_FRAGMENT_OFFSET })) };
 
     fn try_from(value: u16) -> Result<IpFragOffset, ValueTooBigError>
         ensures fits { IsOk result ↔ (value ≤ MAX_FRAGMENT_OFFSET) }
         ensures value { IfOk result (λ offset. offset ≡ value) }
-        ensures too_big { IfErr result (λ e. e ≡ record { actual = value; max_allowed = MAX_FRAGMENT_OFFSET }) }
+        ensures too_big { IfErr result (λ e.
+            e ≡ record { actual = value; max_allowed = MAX_FRAGMENT_OFFSET }) }
     {
         IpFragOffset::try_new(value)
     }

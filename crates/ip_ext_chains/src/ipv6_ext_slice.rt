@@ -66,7 +66,8 @@ impl<'a> Ipv6ExtensionSlice<'a> {
 
     /// Whether it is a fragment header that fragments the payload.
     pub(crate) fn is_fragmenting_payload(&self) -> bool
-        ensures { result ≡ (((header_of self.now).number == 44) && is_fragmenting (header_of self.now).bytes) }
+        ensures { result ≡ (((header_of self.now).number == 44)
+            && is_fragmenting (header_of self.now).bytes) }
     {
         match self {
             Ipv6ExtensionSlice::Fragment(header) => header.is_fragmenting_payload(),

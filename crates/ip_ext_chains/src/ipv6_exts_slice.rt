@@ -23,7 +23,8 @@ pub struct Ipv6ExtensionsSlice<'a> {
     fragmented: bool,
     slice: &'a [u8],
     pub ghost whole: { bytes_of (longest_chain (start_number first_header) slice.now) ≡ slice.now },
-    pub ghost flag: { fragmented ≡ has_fragmenting (longest_chain (start_number first_header) slice.now) },
+    pub ghost flag: { fragmented
+        ≡ has_fragmenting (longest_chain (start_number first_header) slice.now) },
     pub ghost first: { is_none first_header ≡ (length slice.now == 0) },
 }
 
@@ -62,7 +63,8 @@ impl<'a> Ipv6ExtensionsSlice<'a> {
         ensures longest { IsLongestChain start_ip_number.0 start_slice.now (headers_in result.0) }
         ensures answer { IsChainAnswer start_ip_number.0 start_slice.now
             (headers_in result.0) result.1.0 result.2.now result.3 }
-        ensures bytes { bytes result.0 ≡ bytes_of (longest_chain start_ip_number.0 start_slice.now) }
+        ensures bytes { bytes result.0
+            ≡ bytes_of (longest_chain start_ip_number.0 start_slice.now) }
         ensures prefix { IsPrefix (bytes result.0) start_slice.now }
         ensures first { first_number result.0
             ≡ (if length (bytes result.0) == 0 then None else Some start_ip_number) }
@@ -194,7 +196,8 @@ impl PartialEq for Ipv6ExtensionsSlice<'_> {
 
     fn eq(&self, other: &Self) -> bool
         ensures answer { result ≡ same_slice self.now other.now }
-        ensures same { IsTrue result ↔ ((first_number self.now ≡ first_number other.now) × (bytes self.now ≡ bytes other.now)) }
+        ensures same { IsTrue result ↔ ((first_number self.now ≡ first_number other.now)
+            × (bytes self.now ≡ bytes other.now)) }
     {
         self.first_header == other.first_header && self.slice == other.slice
     }

@@ -92,7 +92,11 @@ pub(crate) fn fault(first: bool, number: IpNumber, bytes: &[u8], offset: usize) 
             Layer::Ipv6ExtHeader,
             Layer::Ipv6HopByHopHeader,
         ),
-        ip_number::IPV6_ROUTE => (required_raw_len(bytes), Layer::Ipv6ExtHeader, Layer::Ipv6RouteHeader),
+        ip_number::IPV6_ROUTE => (
+            required_raw_len(bytes),
+            Layer::Ipv6ExtHeader,
+            Layer::Ipv6RouteHeader,
+        ),
         ip_number::IPV6_FRAG => (8, Layer::Ipv6FragHeader, Layer::Ipv6FragHeader),
         ip_number::AUTH if bytes.len() < 12 => (12, Layer::IpAuthHeader, Layer::IpAuthHeader),
         ip_number::AUTH if bytes[1] == 0 => {

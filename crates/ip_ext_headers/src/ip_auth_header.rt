@@ -42,11 +42,21 @@ impl Model for IpAuthHeader {
 
     ghost Value = { AuthFields };
 
-    ghost view = { λ h. record { next_header = h.next_header.0; spi = h.spi; sequence_number = h.sequence_number; raw_icv = h.raw_icv.items } };
+    ghost view = { λ h. record {
+      next_header = h.next_header.0;
+      spi = h.spi;
+      sequence_number = h.sequence_number;
+      raw_icv = h.raw_icv.items;
+    } };
 
     ghost invariant = { λ h. IsIcvLen (length h.raw_icv.items) };
 
-    ghost inverse = { λ v. record { next_header = record { 0 = v.next_header }; spi = v.spi; sequence_number = v.sequence_number; raw_icv = record { items = v.raw_icv } } };
+    ghost inverse = { λ v. record {
+      next_header = record { 0 = v.next_header };
+      spi = v.spi;
+      sequence_number = v.sequence_number;
+      raw_icv = record { items = v.raw_icv };
+    } };
 }
 
 impl IpAuthHeader {
@@ -131,8 +141,10 @@ impl IpAuthHeader {
     /// own length.
     pub fn from_slice(slice: &[u8]) -> Result<(IpAuthHeader, &[u8]), HeaderSliceError>
         ensures decoding { IfOk result (λ p. IsAuthDecoding slice.now p.0 p.1.now) }
-        ensures none { IfErr result (λ _. (b : List ℕ) → IsAuthHeader b → IsPrefix b slice.now → ⊥) }
-        ensures fault { IfErr result (λ e. auth_fault Slice (length slice.now) 0 slice.now ≡ Some e) }
+        ensures none { IfErr result (λ _. (b : List ℕ)
+            → IsAuthHeader b → IsPrefix b slice.now → ⊥) }
+        ensures fault { IfErr result (λ e.
+            auth_fault Slice (length slice.now) 0 slice.now ≡ Some e) }
     {
         let header = IpAuthHeaderSlice::from_slice(slice)?;
         let rest = &slice[header.slice().len()..];
@@ -243,7 +255,8 @@ impl Clone for IpAuthHeader {
 impl Default for IpAuthHeader {
     ghost use Rattle.std.specs.Prelude.{◌≡◌, []};
 
-    ghost is_default = { λ h. h ≡ record { next_header = 255; spi = 0; sequence_number = 0; raw_icv = [] } };
+    ghost is_default = { λ h.
+        h ≡ record { next_header = 255; spi = 0; sequence_number = 0; raw_icv = [] } };
 
     fn default() -> IpAuthHeader {
         Self::with_icv(IpNumber(255), 0, 0, &[])

@@ -33,8 +33,10 @@ impl<'a> IpAuthHeaderSlice<'a> {
     pub fn from_slice(slice: &'a [u8]) -> Result<IpAuthHeaderSlice<'a>, HeaderSliceError>
         ensures prefix { IfOk result (λ h. IsPrefix (bytes h) slice.now) }
         ensures header { IfOk result (λ h. IsAuthHeader (bytes h)) }
-        ensures none { IfErr result (λ _. (b : List ℕ) → IsAuthHeader b → IsPrefix b slice.now → ⊥) }
-        ensures fault { IfErr result (λ e. auth_fault Slice (length slice.now) 0 slice.now ≡ Some e) }
+        ensures none { IfErr result (λ _. (b : List ℕ)
+            → IsAuthHeader b → IsPrefix b slice.now → ⊥) }
+        ensures fault { IfErr result (λ e.
+            auth_fault Slice (length slice.now) 0 slice.now ≡ Some e) }
     {
         if slice.len() < 12 {
             return Err(HeaderSliceError::Len(Self::too_short(slice, 12)));

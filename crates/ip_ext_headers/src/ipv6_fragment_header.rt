@@ -30,9 +30,19 @@ impl Model for Ipv6FragmentHeader {
 
     ghost Value = { FragmentFields };
 
-    ghost view = { λ h. record { next_header = h.next_header.0; fragment_offset = h.fragment_offset; more_fragments = h.more_fragments; identification = h.identification } };
+    ghost view = { λ h. record {
+      next_header = h.next_header.0;
+      fragment_offset = h.fragment_offset;
+      more_fragments = h.more_fragments;
+      identification = h.identification;
+    } };
 
-    ghost inverse = { λ v. record { next_header = record { 0 = v.next_header }; fragment_offset = v.fragment_offset; more_fragments = v.more_fragments; identification = v.identification } };
+    ghost inverse = { λ v. record {
+      next_header = record { 0 = v.next_header };
+      fragment_offset = v.fragment_offset;
+      more_fragments = v.more_fragments;
+      identification = v.identification;
+    } };
 }
 
 impl Ipv6FragmentHeader {
@@ -68,8 +78,10 @@ impl Ipv6FragmentHeader {
     /// bytes.
     pub fn from_slice(slice: &[u8]) -> Result<(Ipv6FragmentHeader, &[u8]), LenError>
         ensures decoding { IfOk result (λ p. IsFragmentDecoding slice.now p.0 p.1.now) }
-        ensures none { IfErr result (λ _. (b : List ℕ) → IsFragmentHeader b → IsPrefix b slice.now → ⊥) }
-        ensures fault { IfErr result (λ e. fragment_fault Slice (length slice.now) 0 slice.now ≡ Some e) }
+        ensures none { IfErr result (λ _. (b : List ℕ)
+            → IsFragmentHeader b → IsPrefix b slice.now → ⊥) }
+        ensures fault { IfErr result (λ e.
+            fragment_fault Slice (length slice.now) 0 slice.now ≡ Some e) }
     {
         let header = Ipv6FragmentHeaderSlice::from_slice(slice)?;
         let rest = &slice[header.slice().len()..];
@@ -84,16 +96,7 @@ impl Ipv6FragmentHeader {
     {
         let (high, low) = pack(self.fragment_offset, self.more_fragments);
         let [id0, id1, id2, id3] = self.identification.to_be_bytes();
-        [
-            self.next_header.0,
-            0,
-            high,
-            low,
-            id0,
-            id1,
-            id2,
-            id3,
-        ]
+        [self.next_header.0, 0, high, low, id0, id1, id2, id3]
     }
 
     /// Appends the header's bytes. It refuses only where the vector has no room for them and can't grow;

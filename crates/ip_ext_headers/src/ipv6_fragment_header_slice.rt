@@ -27,8 +27,10 @@ impl<'a> Ipv6FragmentHeaderSlice<'a> {
     pub fn from_slice(slice: &'a [u8]) -> Result<Ipv6FragmentHeaderSlice<'a>, LenError>
         ensures prefix { IfOk result (λ h. IsPrefix (bytes h) slice.now) }
         ensures header { IfOk result (λ h. IsFragmentHeader (bytes h)) }
-        ensures none { IfErr result (λ _. (b : List ℕ) → IsFragmentHeader b → IsPrefix b slice.now → ⊥) }
-        ensures fault { IfErr result (λ e. fragment_fault Slice (length slice.now) 0 slice.now ≡ Some e) }
+        ensures none { IfErr result (λ _. (b : List ℕ)
+            → IsFragmentHeader b → IsPrefix b slice.now → ⊥) }
+        ensures fault { IfErr result (λ e.
+            fragment_fault Slice (length slice.now) 0 slice.now ≡ Some e) }
     {
         if slice.len() < 8 {
             return Err(LenError {

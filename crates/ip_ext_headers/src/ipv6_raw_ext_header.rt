@@ -39,7 +39,10 @@ impl Model for Ipv6RawExtHeader {
 
     ghost invariant = { λ h. IsPayloadLen (length h.payload.items) };
 
-    ghost inverse = { λ v. record { next_header = record { 0 = v.next_header }; payload = record { items = v.payload } } };
+    ghost inverse = { λ v. record {
+      next_header = record { 0 = v.next_header };
+      payload = record { items = v.payload };
+    } };
 }
 
 impl Ipv6RawExtHeader {
@@ -63,8 +66,8 @@ impl Ipv6RawExtHeader {
     /// Whether headers of the number have this layout: hop by hop options, routing, destination options,
     /// mobility, host identity protocol and shim6.
     pub fn header_type_supported(next_header: IpNumber) -> bool
-        ensures { IsTrue result ↔ ((next_header.0 ≡ 0) ⊎ ((next_header.0 ≡ 43) ⊎ ((next_header.0 ≡ 60)
-            ⊎ ((next_header.0 ≡ 135) ⊎ ((next_header.0 ≡ 139) ⊎ (next_header.0 ≡ 140)))))) }
+        ensures { IsTrue result ↔ ((next_header.0 ≡ 0) ⊎ ((next_header.0 ≡ 43)
+            ⊎ ((next_header.0 ≡ 60) ⊎ ((next_header.0 ≡ 135) ⊎ ((next_header.0 ≡ 139) ⊎ (next_header.0 ≡ 140)))))) }
     {
         Ipv6RawExtHeaderSlice::header_type_supported(next_header)
     }
@@ -76,7 +79,8 @@ impl Ipv6RawExtHeader {
         payload: &[u8],
     ) -> Result<Ipv6RawExtHeader, ExtPayloadLenError>
         ensures allowed { IsOk result ↔ IsPayloadLen (length payload.now) }
-        ensures value { IfOk result (λ h. h ≡ record { next_header = next_header.0; payload = payload.now }) }
+        ensures value { IfOk result (λ h.
+            h ≡ record { next_header = next_header.0; payload = payload.now }) }
         ensures fault { IfErr result (λ e. payload_len_fault (length payload.now) ≡ Some e) }
     {
         Self::check_payload_len(payload.len())?;
@@ -120,7 +124,8 @@ impl Ipv6RawExtHeader {
     pub fn from_slice(slice: &[u8]) -> Result<(Ipv6RawExtHeader, &[u8]), LenError>
         ensures decoding { IfOk result (λ p. IsRawDecoding slice.now p.0 p.1.now) }
         ensures none { IfErr result (λ _. (b : List ℕ) → IsRawHeader b → IsPrefix b slice.now → ⊥) }
-        ensures fault { IfErr result (λ e. raw_fault Slice (length slice.now) 0 slice.now ≡ Some e) }
+        ensures fault { IfErr result (λ e.
+            raw_fault Slice (length slice.now) 0 slice.now ≡ Some e) }
     {
         let header = Ipv6RawExtHeaderSlice::from_slice(slice)?;
         let rest = &slice[header.slice().len()..];

@@ -31,8 +31,8 @@ impl<'a> Ipv6RawExtHeaderSlice<'a> {
     /// Whether headers of the number have this layout: hop by hop options, routing, destination options,
     /// mobility, host identity protocol and shim6.
     pub fn header_type_supported(next_header: IpNumber) -> bool
-        ensures { IsTrue result ↔ ((next_header.0 ≡ 0) ⊎ ((next_header.0 ≡ 43) ⊎ ((next_header.0 ≡ 60)
-            ⊎ ((next_header.0 ≡ 135) ⊎ ((next_header.0 ≡ 139) ⊎ (next_header.0 ≡ 140)))))) }
+        ensures { IsTrue result ↔ ((next_header.0 ≡ 0) ⊎ ((next_header.0 ≡ 43)
+            ⊎ ((next_header.0 ≡ 60) ⊎ ((next_header.0 ≡ 135) ⊎ ((next_header.0 ≡ 139) ⊎ (next_header.0 ≡ 140)))))) }
     {
         matches!(
             next_header,
@@ -51,7 +51,8 @@ impl<'a> Ipv6RawExtHeaderSlice<'a> {
         ensures prefix { IfOk result (λ h. IsPrefix (bytes h) slice.now) }
         ensures header { IfOk result (λ h. IsRawHeader (bytes h)) }
         ensures none { IfErr result (λ _. (b : List ℕ) → IsRawHeader b → IsPrefix b slice.now → ⊥) }
-        ensures fault { IfErr result (λ e. raw_fault Slice (length slice.now) 0 slice.now ≡ Some e) }
+        ensures fault { IfErr result (λ e.
+            raw_fault Slice (length slice.now) 0 slice.now ≡ Some e) }
     {
         if slice.len() < 8 {
             return Err(Self::too_short(slice, 8));

@@ -220,7 +220,7 @@ module _ (x0 x1 x2 x3 : ℕ) (rest : List ℕ) where
       let fields : ℕ → Bool → FragmentFields = λ a m. record { next_header = x0; fragment_offset = a; more_fragments = m; identification = from_be_bytes w32 (take 4 rest) } in (
         record { len = omega arith },
         ap (λ y. fields (32 * x2 + y) (not (bit_and (bit_and x3 0x9f) 0x80 == 0))) (and_assoc 0x1f x3 0x9f)
-        ∙ ap (λ y. fields (32 * x2 + bit_and x3 0x1f) (not (y == 0))) (and_assoc 0x80 x3 0x9f),
+            ∙ ap (λ y. fields (32 * x2 + bit_and x3 0x1f) (not (y == 0))) (and_assoc 0x80 x3 0x9f),
         ap (λ y. x0 ∷ 0 ∷ x2 ∷ y ∷ rest) (and_assoc 0x9f x3 0x9f),
       )
 

@@ -20,7 +20,8 @@ pub fn one_encoding()
     ensures raw { (v : RawFields) (b d : List ℕ) → IsRawEncoding v b → IsRawEncoding v d → b ≡ d }
     ensures fragment { (v : FragmentFields) (b d : List ℕ)
         → IsFragmentEncoding v b → IsFragmentEncoding v d → b ≡ d }
-    ensures auth { (v : AuthFields) (b d : List ℕ) → IsAuthEncoding v b → IsAuthEncoding v d → b ≡ d }
+    ensures auth { (v : AuthFields) (b d : List ℕ) → IsAuthEncoding v b
+        → IsAuthEncoding v d → b ≡ d }
 {}
 
 /// A header whose reserved bits are put to zero is a header with the same fields, and putting them to zero
@@ -36,7 +37,8 @@ pub fn cleared_header_says_the_same()
 
 /// So it encodes them, where its numbers are bytes.
 pub fn cleared_header_encodes()
-    ensures raw { (b : List ℕ) → IsRawHeader b → AreBytes (slice_range b 1 2) → IsRawEncoding (raw_fields b) b }
+    ensures raw { (b : List ℕ) → IsRawHeader b → AreBytes (slice_range b 1 2)
+        → IsRawEncoding (raw_fields b) b }
     ensures fragment { (b : List ℕ) → IsFragmentHeader b → AreBytes (slice_range b 1 8)
         → IsFragmentEncoding (fragment_fields b) (cleared_fragment b) }
     ensures auth { (b : List ℕ) → IsAuthHeader b → AreBytes (slice_range b 1 12)

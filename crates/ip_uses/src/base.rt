@@ -24,7 +24,8 @@ pub fn offset_of_bytes(bytes: u16) -> Result<IpFragOffset, ValueTooBigError>
 
 /// How many bytes the first header has.
 pub fn first_header_len(number: u8, packet: &[u8]) -> Option<usize>
-    ensures { IfSome result (λ len. (len ≤ length packet.now) × IsHeader number (take len packet.now)) }
+    ensures { IfSome result (λ len. (len ≤ length packet.now)
+        × IsHeader number (take len packet.now)) }
 {
     ip_spec::next_len(true, number, packet)
 }

@@ -19,9 +19,11 @@ pub fn count_headers(start: IpNumber, packet: &[u8]) -> usize
 
 /// The payload behind the extension headers with its number, unless it is a fragment.
 pub fn whole_payload(start: IpNumber, packet: &[u8]) -> Option<(IpNumber, &[u8])>
-    ensures number { IfSome result (λ found. found.0.0 ≡ leads_to start.0 (longest_chain start.0 packet.now)) }
+    ensures number { IfSome result (λ found.
+        found.0.0 ≡ leads_to start.0 (longest_chain start.0 packet.now)) }
     ensures payload { IfSome result (λ found. found.1.now ≡ rest_after start.0 packet.now) }
-    ensures whole { IfSome result (λ _. has_fragmenting (longest_chain start.0 packet.now) ≡ false) }
+    ensures whole { IfSome result (λ _.
+        has_fragmenting (longest_chain start.0 packet.now) ≡ false) }
 {
     match Ipv6ExtensionsSlice::from_slice(start, packet) {
         Ok((headers, number, payload)) if !headers.is_fragmenting_payload() => {

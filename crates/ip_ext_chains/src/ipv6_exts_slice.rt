@@ -91,7 +91,12 @@ impl<'a> Ipv6ExtensionsSlice<'a> {
         let (number, rest, len, fragmented) = Self::walk(start_ip_number, start_slice);
         let found = Self::first(start_ip_number, start_slice, len, fragmented);
         if is_extension(number) {
-            return (found, number, rest, Some(fault(len == 0, number, rest, len)));
+            return (
+                found,
+                number,
+                rest,
+                Some(fault(len == 0, number, rest, len)),
+            );
         }
         (found, number, rest, None)
     }

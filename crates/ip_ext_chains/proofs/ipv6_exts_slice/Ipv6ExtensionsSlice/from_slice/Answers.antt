@@ -1,11 +1,8 @@
-use Rattle.std.proofs.Common.{◌≡◌, ◌∙◌, sym, ap, Bool, false, nat_eq}
-use Rattle.std.specs.Prelude.{IsTrue, ◌↔◌}
+use Rattle.std.proofs.Common.{◌∙◌, ap}
 use Rattle.std.specs.Option.{option_map}
-use Rattle.std.proofs.lemmas.Bool.{false≢true}
 use Rattle.ip_base.specs.declared.len_source.LenSource.TheVariants.{Slice}
 use Rattle.ip_ext_chains.specs.Fault.{Fault}
-use Rattle.ip_ext_chains.proofs.LongestLemmas.{longest_chain-longest}
-use Rattle.ip_ext_chains.proofs.FaultLemmas.{fault_at_end, no_fault_at_other}
+use Rattle.ip_ext_chains.proofs.FaultLemmas.{fault_at_end}
 use Rattle.ip_ext_chains.proofs.ParseLemmas.{ends_behind, fault_behind}
 use Rattle.ip_ext_chains.proofs.ipv6_exts_slice.Ipv6ExtensionsSlice.from_slice.Goals as goal
 

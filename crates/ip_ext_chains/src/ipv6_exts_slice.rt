@@ -9,7 +9,7 @@ ghost use Rattle.ip_ext_chains.specs.StartNumber.{start_number};
 
 use crate::err::Layer;
 use crate::err::ipv6_exts::HeaderSliceError;
-use crate::step::{after, fault, header_at, is_extension};
+use crate::step::{after, fault, fault_apart, header_at, is_extension};
 use crate::{Ipv6ExtensionSlice, Ipv6ExtensionSliceIter};
 use ip_base::{IpNumber, ip_number};
 use std::alloc::AllocError;
@@ -91,12 +91,8 @@ impl<'a> Ipv6ExtensionsSlice<'a> {
         let (number, rest, len, fragmented) = Self::walk(start_ip_number, start_slice);
         let found = Self::first(start_ip_number, start_slice, len, fragmented);
         if is_extension(number) {
-            return (
-                found,
-                number,
-                rest,
-                Some(fault(len == 0, number, rest, len)),
-            );
+            let fault = fault_apart(len == 0, number, rest, len);
+            return (found, number, rest, Some(fault));
         }
         (found, number, rest, None)
     }

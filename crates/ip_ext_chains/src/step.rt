@@ -75,9 +75,8 @@ pub(crate) fn is_extension(number: IpNumber) -> bool
 }
 
 /// The fault at an extension number with which no header goes on, where `bytes` are left and `offset` bytes
-/// are behind; `first` tells that no header is before it. It stands apart, since most chains end without one.
-#[cold]
-#[inline(never)]
+/// are behind; `first` tells that no header is before it.
+#[inline(always)]
 pub(crate) fn fault(first: bool, number: IpNumber, bytes: &[u8], offset: usize) -> Fault
     requires { IsSome (slice_fault offset first number.0 bytes.now) }
     ensures { slice_fault offset first number.0 bytes.now ≡ Some result }
@@ -122,6 +121,15 @@ pub(crate) fn fault(first: bool, number: IpNumber, bytes: &[u8], offset: usize) 
         layer_start_offset: offset,
     };
     (HeaderSliceError::Len(error), layer)
+}
+
+/// The same. It stands apart, where a fault is told beside a large answer.
+#[inline(never)]
+pub(crate) fn fault_apart(first: bool, number: IpNumber, bytes: &[u8], offset: usize) -> Fault
+    requires { IsSome (slice_fault offset first number.0 bytes.now) }
+    ensures { slice_fault offset first number.0 bytes.now ≡ Some result }
+{
+    fault(first, number, bytes, offset)
 }
 
 /// How many bytes a header of the common layout needs: 8, where the bytes are too few to tell its own length.

@@ -89,11 +89,12 @@ impl<'a> Ipv6ExtensionsSlice<'a> {
             ≡ (if length (bytes result.0) == 0 then None else Some start_ip_number) }
     {
         let (number, rest, len, fragmented) = Self::walk(start_ip_number, start_slice);
-        let found = Self::first(start_ip_number, start_slice, len, fragmented);
         if is_extension(number) {
             let fault = fault_apart(len == 0, number, rest, len);
+            let found = Self::first(start_ip_number, start_slice, len, fragmented);
             return (found, number, rest, Some(fault));
         }
+        let found = Self::first(start_ip_number, start_slice, len, fragmented);
         (found, number, rest, None)
     }
 

@@ -123,7 +123,8 @@ pub(crate) fn fault(first: bool, number: IpNumber, bytes: &[u8], offset: usize) 
     (HeaderSliceError::Len(error), layer)
 }
 
-/// The same. It stands apart, where a fault is told beside a large answer.
+/// The same. It stands apart, where a fault is told beside a large answer and most answers have none.
+#[cold]
 #[inline(never)]
 pub(crate) fn fault_apart(first: bool, number: IpNumber, bytes: &[u8], offset: usize) -> Fault
     requires { IsSome (slice_fault offset first number.0 bytes.now) }

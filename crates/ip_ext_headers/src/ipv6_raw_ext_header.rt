@@ -171,7 +171,7 @@ impl Ipv6RawExtHeader {
 
     /// Appends the header's bytes. It refuses only where the vector has no room for them and can't grow;
     /// then its bytes stay as they were.
-    #[inline]
+    #[inline(always)]
     pub fn write<A: Allocator>(&self, out: &mut Vec<u8, A>) -> Result<(), AllocError>
         ensures ok { OnOk result (AppendsOne (IsRawEncoding self.now) out.old.items out.new.items) }
         ensures len { OnOk result (vec_len out.new ≡ vec_len out.old + raw_len self.now) }

@@ -6,12 +6,12 @@ use Rattle.ip_ext_chains.proofs.FaultLemmas.{fault_at_end}
 use Rattle.ip_ext_chains.proofs.ParseLemmas.{ends_behind, fault_behind}
 use Rattle.ip_ext_chains.proofs.ipv6_exts_slice.Ipv6ExtensionsSlice.from_slice.Goals as goal
 
-pub fault-requires : goal.fault-requires
-fault-requires c =
+pub error_at-requires : goal.error_at-requires
+error_at-requires c =
     let walked = c.walk-len.ensures in
     fault_at_end Slice _ _ _ _ _ (c.is_extension.ensures.0 c.if-is_extension.true) (ends_behind _ _ _ walked.len _ _ walked.number walked.rest)
 
 pub returns-then-is_extension-clause-fault : goal.returns-then-is_extension-clause-fault
 returns-then-is_extension-clause-fault c =
     let walked = c.walk-len.ensures in
-    ap (option_map (λ (f : Fault). f.0)) (fault_behind _ _ _ walked.len _ _ walked.number walked.rest ∙ c.fault.ensures)
+    ap (option_map (λ (f : Fault). f.0)) (fault_behind _ _ _ walked.len _ _ walked.number walked.rest) ∙ c.error_at.ensures

@@ -3,7 +3,7 @@ use Rattle.std.proofs.Common.{◌≡◌, ℕ, List, [], ◌∷◌, ◌++◌, ref
 use Rattle.std.specs.List.{slice_split}
 use Rattle.ipexts_tool.specs.Lines.{is_newline, without_empty_last}
 use Rattle.ipexts_tool.specs.Answers.{answer_of, answers_to, answers}
-use Rattle.ipexts_tool.proofs.BegunLemmas.{some_parts}
+use Rattle.ipexts_tool.proofs.OpenLineLemmas.{some_parts}
 
 without_empty_last-cons : (part line : List ℕ) (lines : List (List ℕ)) → without_empty_last (part ∷ line ∷ lines) ≡ part ∷ without_empty_last (line ∷ lines)
 without_empty_last-cons [] line lines = refl

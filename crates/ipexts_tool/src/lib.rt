@@ -27,13 +27,15 @@ mod answer;
 mod exts6;
 mod faults;
 mod feed;
-mod fields;
+mod line_fields;
+mod parts;
 mod plain;
+mod request;
 mod scratch;
 mod tool_error;
 
 use arrayvec::ArrayVec;
-use feed::{Line, feed, finish};
+use feed::{OpenLine, feed, finish};
 pub use plain::plain_answers;
 use scratch::Scratch;
 use std::alloc::Allocator;
@@ -59,7 +61,8 @@ pub fn run<A: Allocator + Copy, R: Read, W: Write>(
     ensures answers { OnOk result (IfSome (R.remaining input.old) (λ bytes.
         Appends (W.contents output.old) (W.contents output.new) (answers bytes))) }
     ensures memory { OnMemory result (IfSome (R.remaining input.old) (λ bytes. (n : ℕ)
-        × Appends (W.contents output.old) (W.contents output.new) (answers_to (take n (lines_of bytes))))) }
+        × Appends (W.contents output.old) (W.contents output.new)
+        (answers_to (take n (lines_of bytes))))) }
 {
     let mut chunk = [0; CHUNK_LEN];
     let mut line = ArrayVec::new();
@@ -78,7 +81,7 @@ fn advance<A: Allocator, R: Read, W: Write>(
     input: &mut R,
     output: &mut W,
     chunk: &mut [u8; CHUNK_LEN],
-    line: &mut Line,
+    line: &mut OpenLine,
     scratch: &mut Scratch<A>,
 ) -> Result<bool, ToolError>
     ensures ok { OnOk result (Advances (R.remaining input.old) (R.remaining input.new)

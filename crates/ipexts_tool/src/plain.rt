@@ -3,7 +3,7 @@ ghost use Rattle.std.specs.Prelude.{◌≡◌, IfOk};
 ghost use Rattle.ipexts_tool.specs.Answers.{answers};
 
 use crate::answer::answer;
-use crate::fields::split_once;
+use crate::line_fields::split_once;
 use crate::scratch::Scratch;
 use std::alloc::{AllocError, Allocator};
 

@@ -1,7 +1,12 @@
--- The lines of bytes that go on with a line that has begun.
+-- The lines of bytes that go on with a line that has begun, and the line that they leave open.
 use Rattle.std.specs.Prelude.{ℕ, List, [], ◌∷◌, ◌++◌}
 use Rattle.std.specs.List.{slice_split}
 use Rattle.ipexts_tool.specs.Lines.{is_newline}
+
+-- how many bytes are kept of a line that hasn't ended: one more than it may have, which tells that
+-- it is too long
+abbrev pub kept_len : ℕ
+kept_len = 8193
 
 -- these lines, where the first had begun so
 abbrev pub onto_begun : List ℕ → List (List ℕ) → List (List ℕ)
@@ -28,7 +33,7 @@ ended_lines begun bytes = all_but_last (onto_begun begun (slice_split is_newline
 unfoldable pub open_line : List ℕ → List ℕ → List ℕ
 open_line begun bytes = last_line (onto_begun begun (slice_split is_newline bytes))
 
--- a last line counts where it isn't empty
-abbrev pub counted : List ℕ → List (List ℕ)
-counted [] = []
-counted (b ∷ bytes) = (b ∷ bytes) ∷ []
+-- the line at the end of an input, which is one where it isn't empty
+abbrev pub lines_at_end : List ℕ → List (List ℕ)
+lines_at_end [] = []
+lines_at_end (b ∷ bytes) = (b ∷ bytes) ∷ []

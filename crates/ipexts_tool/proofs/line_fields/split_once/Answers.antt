@@ -1,7 +1,7 @@
 use Rattle.std.proofs.Common.{rules}
 use Rattle.std.proofs.lemmas.List.{take_rest}
 use Rattle.ipexts_tool.proofs.SplitLemmas.{slice_split_absent, slice_split_found}
-use Rattle.ipexts_tool.proofs.fields.split_once.Goals as goal
+use Rattle.ipexts_tool.proofs.line_fields.split_once.Goals as goal
 
 pub returns-in_err-end-clause-absent : goal.returns-in_err-end-clause-absent
 returns-in_err-end-clause-absent c =

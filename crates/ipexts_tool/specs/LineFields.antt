@@ -22,7 +22,8 @@ number_of text = find (λ n. bytes_eq (decimal n) text) (range_with_len 0 256)
 -- the bytes whose hexadecimal digits the text is, in either case: `-` stands for none
 abbrev pub bytes_of_hex : List ℕ → Option (List ℕ)
 bytes_of_hex [] = None
-bytes_of_hex (c ∷ cs) = if bytes_eq (c ∷ cs) (codes "-") then Some [] else result_ok (decode_of (c ∷ cs))
+bytes_of_hex (c ∷ cs) =
+    if bytes_eq (c ∷ cs) (codes "-") then Some [] else result_ok (decode_of (c ∷ cs))
 
 -- what two fields `N HEX` stand for
 abbrev pub number_and_bytes : List (List ℕ) → Option (ℕ × List ℕ)

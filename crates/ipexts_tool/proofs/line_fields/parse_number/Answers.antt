@@ -3,8 +3,8 @@ use Rattle.std.specs.Int.{IsInRange}
 use Rattle.std.specs.Str.Parse.{AllDigits, digits_value}
 use Rattle.std.proofs.lemmas.List.{take_all}
 use Rattle.ipexts_tool.proofs.NumberLemmas.{number_of-empty, number_of-leading_zero, number_of-other_byte, number_of-too_large, number_of-digits, digits_value-next, AllDigits-next}
-use Rattle.ipexts_tool.proofs.fields.parse_number.Goals as goal
-use Rattle.ipexts_tool.proofs.fields.parse_number.Goals.{else-text-eq48-via-then-text-eq48+else-text-gt1, else-text-eq48-via-else-text-eq48}
+use Rattle.ipexts_tool.proofs.line_fields.parse_number.Goals as goal
+use Rattle.ipexts_tool.proofs.line_fields.parse_number.Goals.{else-text-eq48-via-then-text-eq48+else-text-gt1, else-text-eq48-via-else-text-eq48}
 
 pub returns-then-is_empty : goal.returns-then-is_empty
 returns-then-is_empty c = sym (number_of-empty c.args.text.now (search rules))

@@ -11,7 +11,7 @@ use Rattle.std.proofs.lemmas.List.Splits.{join_with_byte-slice_split}
 use Rattle.std.proofs.lemmas.Slice.Eq.{bytes_eq-Decides}
 use Rattle.hex.specs.Hex.{decode_of, is_hex_digit}
 use Rattle.hex.proofs.HexLemmas.{decode_of-ok}
-use Rattle.ipexts_tool.specs.Fields.{fields_of, number_of, bytes_of_hex, number_and_bytes}
+use Rattle.ipexts_tool.specs.LineFields.{fields_of, number_of, bytes_of_hex, number_and_bytes}
 
 -- digits with a space among them stand for no bytes
 space_refused : (text : List ℕ) (r : Result (List ℕ) _) → decode_of text ≡ r → (k : ℕ) → k < length text → get_or text k 0 ≡ 32 → result_ok r ≡ None

@@ -2,9 +2,14 @@
 ghost use Rattle.std.specs.Prelude.{◌≡◌, ◌==◌, ◌<◌, ◌≤◌, ℕ, ◌∷◌, [], take, length, IfSome, IfNone};
 ghost use Rattle.std.specs.List.{slice_split};
 ghost use Rattle.std.specs.Option.{option_map};
-ghost use Rattle.ipexts_tool.specs.Fields.{fields_of, number_of, bytes_of_hex, number_and_bytes};
+ghost use Rattle.ipexts_tool.specs.Lines.{max_line_len};
+ghost use Rattle.ipexts_tool.specs.LineFields.{fields_of, number_of};
+ghost use Rattle.ipexts_tool.specs.LineFields.{bytes_of_hex, number_and_bytes};
 
-use crate::answer::MAX_LINE_LEN;
+use ip_ext_chains::IpNumber;
+
+/// How many bytes a line may have.
+pub const MAX_LINE_LEN: usize = 8192;
 
 /// How many bytes the digits of one line can stand for.
 pub const BYTES_LEN: usize = MAX_LINE_LEN / 2;
@@ -21,7 +26,7 @@ pub fn split_once(text: &[u8], separator: u8) -> Option<(&[u8], &[u8])>
 }
 
 /// The number below 256 whose decimal numeral is `text`.
-pub fn parse_number(text: &[u8]) -> Option<u8>
+fn parse_number(text: &[u8]) -> Option<u8>
     ensures { result ≡ number_of text.now }
 {
     if text.is_empty() {
@@ -40,33 +45,34 @@ pub fn parse_number(text: &[u8]) -> Option<u8>
     Some(number)
 }
 
-/// Puts the bytes whose hexadecimal digits `text` is at the front of `bytes`, and answers how many
-/// they are.
-pub fn parse_hex(text: &[u8], bytes: &mut [u8; BYTES_LEN]) -> Option<usize>
-    requires { length text.now ≤ 8192 }
-    ensures within { IfSome result (λ n. n ≤ 4096) }
-    ensures value { option_map (λ n. take n bytes.new) result ≡ bytes_of_hex text.now }
+/// The bytes whose hexadecimal digits `text` is, put into `buffer`.
+fn parse_hex<'a>(text: &[u8], buffer: &'a mut [u8; BYTES_LEN]) -> Option<&'a [u8]>
+    requires { length text.now ≤ max_line_len }
+    ensures { option_map (λ bytes. bytes.now) result ≡ bytes_of_hex text.now }
 {
     if text == b"-".as_slice() {
-        return Some(0);
+        return Some(&[]);
     }
     if text.len() < 2 {
         return None;
     }
     let len = text.len() / 2;
-    hex::decode_to_slice(text, &mut bytes[..len]).ok()?;
-    Some(len)
+    let bytes = &mut buffer[..len];
+    hex::decode_to_slice(text, bytes).ok()?;
+    Some(bytes)
 }
 
-/// Reads `N HEX`: the number, and how many bytes it put at the front of `bytes`.
-pub fn parse_number_and_hex(text: &[u8], bytes: &mut [u8; BYTES_LEN]) -> Option<(u8, usize)>
-    requires { length text.now ≤ 8192 }
-    ensures within { IfSome result (λ read. read.1 ≤ 4096) }
-    ensures value { option_map (λ read. (read.0, take read.1 bytes.new)) result
+/// Reads `N HEX`.
+pub fn parse_number_and_hex<'a>(
+    text: &[u8],
+    buffer: &'a mut [u8; BYTES_LEN],
+) -> Option<(IpNumber, &'a [u8])>
+    requires { length text.now ≤ max_line_len }
+    ensures { option_map (λ read. (read.0.0, read.1.now)) result
         ≡ number_and_bytes (fields_of text.now) }
 {
     let (number, hex) = split_once(text, b' ')?;
     let number = parse_number(number)?;
-    let len = parse_hex(hex, bytes)?;
-    Some((number, len))
+    let bytes = parse_hex(hex, buffer)?;
+    Some((IpNumber(number), bytes))
 }

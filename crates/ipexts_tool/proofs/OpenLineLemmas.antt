@@ -1,15 +1,17 @@
 -- The lines of bytes that come in parts.
 use Rattle.std.proofs.Common.{◌≡◌, ℕ, zero, suc, min, ◌+◌, ◌<◌, true, false, cond, List, [], ◌∷◌, ◌++◌, length, take, refl, sym, ap, ◌∙◌, arith, inl, inr, append-nil, append_assoc, length-append}
-use Rattle.std.specs.Prelude.{if◌then◌else◌, nat_le}
+use Rattle.std.specs.Prelude.{if◌then◌else◌, nat_le, Option, None}
 use Rattle.std.specs.List.{slice_split, onto_first}
+use Rattle.std.specs.Option.{option_map_or}
 use Rattle.std.proofs.lemmas.Bool.{cases_lt, cases_Bool, cond-false, lt-leb}
 use Rattle.std.proofs.lemmas.List.{take_all, take-append-le, take_at, length-take}
 use Rattle.std.proofs.Math.Seq.{take-append-add}
 use Rattle.std.proofs.lemmas.List.Splits.{slice_split-cons_yes, slice_split-cons_no}
-use Rattle.ipexts_tool.specs.Lines.{is_newline, lines_of, without_empty_last}
-use Rattle.ipexts_tool.specs.Begun.{onto_begun, all_but_last, last_line, ended_lines, open_line, counted}
-use Rattle.ipexts_tool.specs.Answers.{answer_of, answers_to, answer_to_fields, bad_line}
-use Rattle.ipexts_tool.specs.Fields.{fields_of}
+use Rattle.ipexts_tool.specs.Lines.{is_newline, lines_of, without_empty_last, max_line_len}
+use Rattle.ipexts_tool.specs.OpenLine.{onto_begun, all_but_last, last_line, ended_lines, open_line, lines_at_end, kept_len}
+use Rattle.ipexts_tool.specs.Answers.{answer_of, answers_to, bad_line}
+use Rattle.ipexts_tool.specs.Request.{Request, answer_to, request_of, request_of_fields}
+use Rattle.ipexts_tool.specs.LineFields.{fields_of}
 use Rattle.ipexts_tool.specs.Progress.{SameKept}
 
 -- ---- one byte more at the front
@@ -124,13 +126,13 @@ open_line-append begun (b ∷ xs) ys =
 
 -- ---- all the lines
 
-without_empty_last-is : (line : List ℕ) (lines : List (List ℕ)) → without_empty_last (line ∷ lines) ≡ all_but_last (line ∷ lines) ++ counted (last_line (line ∷ lines))
+without_empty_last-is : (line : List ℕ) (lines : List (List ℕ)) → without_empty_last (line ∷ lines) ≡ all_but_last (line ∷ lines) ++ lines_at_end (last_line (line ∷ lines))
 without_empty_last-is [] [] = refl
 without_empty_last-is (b ∷ bytes) [] = refl
 without_empty_last-is [] (next ∷ lines) = ap (λ (ls : List (List ℕ)). [] ∷ ls) (without_empty_last-is next lines)
 without_empty_last-is (b ∷ bytes) (next ∷ lines) = ap (λ (ls : List (List ℕ)). (b ∷ bytes) ∷ ls) (without_empty_last-is next lines)
 
-pub lines_of-is : (bytes : List ℕ) → lines_of bytes ≡ ended_lines [] bytes ++ counted (open_line [] bytes)
+pub lines_of-is : (bytes : List ℕ) → lines_of bytes ≡ ended_lines [] bytes ++ lines_at_end (open_line [] bytes)
 unfolding ended_lines open_line
 lines_of-is bytes =
     let some = some_parts bytes in
@@ -138,24 +140,24 @@ lines_of-is bytes =
 
 -- the lines of an input that begins with xs begin with those that end in xs
 pub lines_of-append : (xs ys : List ℕ)
-    → lines_of (xs ++ ys) ≡ ended_lines [] xs ++ (ended_lines (open_line [] xs) ys ++ counted (open_line [] (xs ++ ys)))
+    → lines_of (xs ++ ys) ≡ ended_lines [] xs ++ (ended_lines (open_line [] xs) ys ++ lines_at_end (open_line [] (xs ++ ys)))
 lines_of-append xs ys =
     lines_of-is (xs ++ ys)
-    ∙ ap (λ (ls : List (List ℕ)). ls ++ counted (open_line [] (xs ++ ys))) (ended_lines-append [] xs ys)
-    ∙ append_assoc (ended_lines [] xs) (ended_lines (open_line [] xs) ys) (counted (open_line [] (xs ++ ys)))
+    ∙ ap (λ (ls : List (List ℕ)). ls ++ lines_at_end (open_line [] (xs ++ ys))) (ended_lines-append [] xs ys)
+    ∙ append_assoc (ended_lines [] xs) (ended_lines (open_line [] xs) ys) (lines_at_end (open_line [] (xs ++ ys)))
 
 -- ---- what is kept of a line that has begun
 
 -- over any limit, since a tactic would count the numeral down
-answer_upto : ℕ → List ℕ → List ℕ
-answer_upto m line = if nat_le (length line) m then answer_to_fields (fields_of line) else bad_line
+request_upto : ℕ → List ℕ → Option Request
+request_upto m line = if nat_le (length line) m then request_of_fields (fields_of line) else None
 
-too_long : (m : ℕ) (line : List ℕ) → m < length line → answer_upto m line ≡ bad_line
-unfolding answer_upto
-too_long m line long = cond-false (nat_le (length line) m) (answer_to_fields (fields_of line)) bad_line (lt-leb (length line) m long)
+too_long : (m : ℕ) (line : List ℕ) → m < length line → request_upto m line ≡ None
+unfolding request_upto
+too_long m line long = cond-false (nat_le (length line) m) (request_of_fields (fields_of line)) None (lt-leb (length line) m long)
 
-answer_upto-kept : (m : ℕ) (begun line : List ℕ) → answer_upto m (take (m + 1) begun ++ line) ≡ answer_upto m (begun ++ line)
-answer_upto-kept m begun line =
+request_upto-kept : (m : ℕ) (begun line : List ℕ) → request_upto m (take (m + 1) begun ++ line) ≡ request_upto m (begun ++ line)
+request_upto-kept m begun line =
     elim (cases_lt m (length begun)) [
       | inl long ↦
           let kept : m < length (take (m + 1) begun ++ line)
@@ -165,13 +167,16 @@ answer_upto-kept m begun line =
       | inr short ↦ rw (take_all (m + 1) begun (omega arith)) refl
     ]
 
--- what is kept of a line suffices for its answer
-pub answer_of-kept : (begun line : List ℕ) → answer_of (take 8193 begun ++ line) ≡ answer_of (begun ++ line)
-unfolding answer_upto
-answer_of-kept begun line = answer_upto-kept 8192 begun line
+request_of-kept : (begun line : List ℕ) → request_of (take kept_len begun ++ line) ≡ request_of (begun ++ line)
+unfolding request_upto
+request_of-kept begun line = request_upto-kept max_line_len begun line
 
-pub answer_of-take : (line : List ℕ) → answer_of (take 8193 line) ≡ answer_of line
-answer_of-take line = rw (← append-nil (take 8193 line)) (answer_of-kept line [] ∙ ap answer_of (append-nil line))
+-- what is kept of a line suffices for its answer
+pub answer_of-kept : (begun line : List ℕ) → answer_of (take kept_len begun ++ line) ≡ answer_of (begun ++ line)
+answer_of-kept begun line = ap (λ (request : Option Request). option_map_or answer_to request bad_line) (request_of-kept begun line)
+
+pub answer_of-take : (line : List ℕ) → answer_of (take kept_len line) ≡ answer_of line
+answer_of-take line = rw (← append-nil (take kept_len line)) (answer_of-kept line [] ∙ ap answer_of (append-nil line))
 
 take_kept : (m : ℕ) (begun line : List ℕ) → take m (take m begun ++ line) ≡ take m (begun ++ line)
 take_kept m begun line =
@@ -195,14 +200,14 @@ take-room m room begun part e =
           rw e (take_all (length part) part (omega arith) ∙ sym (take_all room part all))
     ]))
 
-counted-take : (line : List ℕ) → answers_to (counted (take 8193 line)) ≡ answers_to (counted line)
-counted-take [] = refl
-counted-take (b ∷ bytes) = ap (λ (l : List ℕ). l ++ []) (answer_of-take (b ∷ bytes))
+lines_at_end-take : (line : List ℕ) → answers_to (lines_at_end (take kept_len line)) ≡ answers_to (lines_at_end line)
+lines_at_end-take [] = refl
+lines_at_end-take (b ∷ bytes) = ap (λ (l : List ℕ). l ++ []) (answer_of-take (b ∷ bytes))
 
 -- the answers and what is kept are those of the whole line
 module _ (begun : List ℕ) where
   answers_by_parts : (n : ℕ) (parts : List (List ℕ))
-      → answers_to (take n (all_but_last (onto_begun (take 8193 begun) parts))) ≡ answers_to (take n (all_but_last (onto_begun begun parts)))
+      → answers_to (take n (all_but_last (onto_begun (take kept_len begun) parts))) ≡ answers_to (take n (all_but_last (onto_begun begun parts)))
   answers_by_parts n [] = refl
   answers_by_parts n (line ∷ []) = refl
   answers_by_parts zero (line ∷ next ∷ lines) = refl
@@ -213,13 +218,13 @@ module _ (begun : List ℕ) where
   kept_by_parts m (line ∷ []) = take_kept m begun line
   kept_by_parts m (line ∷ next ∷ lines) = refl
 
-  first_answers-take : (n : ℕ) (bytes : List ℕ) → answers_to (take n (ended_lines (take 8193 begun) bytes)) ≡ answers_to (take n (ended_lines begun bytes))
+  first_answers-take : (n : ℕ) (bytes : List ℕ) → answers_to (take n (ended_lines (take kept_len begun) bytes)) ≡ answers_to (take n (ended_lines begun bytes))
   unfolding ended_lines
   first_answers-take n bytes = answers_by_parts n (slice_split is_newline bytes)
 
-  take-open_line : (bytes : List ℕ) → take 8193 (open_line (take 8193 begun) bytes) ≡ take 8193 (open_line begun bytes)
+  take-open_line : (bytes : List ℕ) → take kept_len (open_line (take kept_len begun) bytes) ≡ take kept_len (open_line begun bytes)
   unfolding open_line
-  take-open_line bytes = kept_by_parts 8193 (slice_split is_newline bytes)
+  take-open_line bytes = kept_by_parts kept_len (slice_split is_newline bytes)
 
 module _ (begun begun' : List ℕ) (same : SameKept begun begun') where
   pub first_answers-kept : (n : ℕ) (bytes : List ℕ) → answers_to (take n (ended_lines begun bytes)) ≡ answers_to (take n (ended_lines begun' bytes))
@@ -238,8 +243,8 @@ module _ (begun begun' : List ℕ) (same : SameKept begun begun') where
   pub open_line-kept : (bytes : List ℕ) → SameKept (open_line begun bytes) (open_line begun' bytes)
   open_line-kept bytes =
       sym (take-open_line begun bytes)
-      ∙ ap (λ (l : List ℕ). take 8193 (open_line l bytes)) same
+      ∙ ap (λ (l : List ℕ). take kept_len (open_line l bytes)) same
       ∙ take-open_line begun' bytes
 
-  pub counted-kept : answers_to (counted begun) ≡ answers_to (counted begun')
-  counted-kept = sym (counted-take begun) ∙ ap (λ (l : List ℕ). answers_to (counted l)) same ∙ counted-take begun'
+  pub lines_at_end-kept : answers_to (lines_at_end begun) ≡ answers_to (lines_at_end begun')
+  lines_at_end-kept = sym (lines_at_end-take begun) ∙ ap (λ (l : List ℕ). answers_to (lines_at_end l)) same ∙ lines_at_end-take begun'

@@ -29,14 +29,12 @@ mod faults;
 mod feed;
 mod line_fields;
 mod parts;
-mod plain;
 mod request;
 mod scratch;
 mod tool_error;
 
 use arrayvec::ArrayVec;
 use feed::{OpenLine, feed, finish};
-pub use plain::plain_answers;
 use scratch::Scratch;
 use std::alloc::Allocator;
 use std::io;

@@ -25,14 +25,14 @@ impl Read for Drip<'_> {
         if self.waits {
             return Err(io::Error::from(ErrorKind::Interrupted));
         }
-        match (self.bytes.split_first(), buf.first_mut(), self.failure) {
-            (Some((byte, rest)), Some(place), _) => {
-                *place = *byte;
-                self.bytes = rest;
-                Ok(1)
-            }
-            (_, _, Some(kind)) => Err(io::Error::from(kind)),
-            _ => Ok(0),
+        if let (Some((byte, rest)), Some(place)) = (self.bytes.split_first(), buf.first_mut()) {
+            *place = *byte;
+            self.bytes = rest;
+            return Ok(1);
+        }
+        match self.failure {
+            Some(kind) => Err(io::Error::from(kind)),
+            None => Ok(0),
         }
     }
 }

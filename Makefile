@@ -1,4 +1,4 @@
-# `make run` answers the lines of standard input; `make test` passes the merge gate.
+# `make run` answers the lines of standard input; `make test` tries the program and passes the merge gate.
 .PHONY: run test
 .SILENT:
 
@@ -11,4 +11,5 @@ run:
 
 test:
 	$(RT_IS_THERE)
+	scripts/test-main
 	rt ci

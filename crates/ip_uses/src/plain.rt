@@ -110,7 +110,7 @@ fn plain_number(alloc: Global, text: &[u8]) -> Result<Option<u8>, AllocError>
 }
 
 /// The value of a hexadecimal digit of either case.
-fn digit_value(digit: u8) -> Option<u8>
+fn hex_digit_value(digit: u8) -> Option<u8>
     ensures { result ≡ hex_digit_value digit }
 {
     match digit {
@@ -125,7 +125,7 @@ fn digit_value(digit: u8) -> Option<u8>
 fn byte_of_digits(high: u8, low: u8) -> Option<u8>
     ensures { result ≡ byte_of_digits high low }
 {
-    Some(digit_value(high)? * 16 + digit_value(low)?)
+    Some(hex_digit_value(high)? * 16 + hex_digit_value(low)?)
 }
 
 /// The bytes whose hexadecimal digits a text is.
@@ -156,13 +156,13 @@ fn push_exts6(alloc: Global, number: u8, bytes: &[u8], text: &mut String) -> Res
     let chain = plain_longest_chain(alloc, number, bytes)?;
     let offset = bytes.len() - chain.rest.len();
     push_headers(&chain.headers, text)?;
-    push_rest(chain.number, chain.rest, text)?;
+    push_next(chain.number, chain.rest, text)?;
     let first = chain.headers.is_empty();
-    push_end(plain_fault(first, chain.number, chain.rest, offset), text)
+    push_chain_end(plain_fault(first, chain.number, chain.rest, offset), text)
 }
 
 /// Appends the number of what follows the headers, and how many bytes do.
-fn push_rest(number: u8, rest: &[u8], text: &mut String) -> Result<(), AllocError>
+fn push_next(number: u8, rest: &[u8], text: &mut String) -> Result<(), AllocError>
     ensures { OnOk result
         (string_bytes text.new ≡ string_bytes text.old ++ next_line number (length rest.now)) }
 {
@@ -178,7 +178,7 @@ fn push_headers(headers: &[PlainHeader<'_>], text: &mut String) -> Result<(), Al
 {
     let mut offset = 0;
     for header in headers {
-        let name = name_of(header.number);
+        let name = header_name(header.number);
         let len = header.bytes.len();
         writeln!(text, "{offset} {name} {len}")?;
         offset += len;
@@ -187,7 +187,7 @@ fn push_headers(headers: &[PlainHeader<'_>], text: &mut String) -> Result<(), Al
 }
 
 /// The name of the headers of a number.
-fn name_of(number: u8) -> &'static str
+fn header_name(number: u8) -> &'static str
     ensures { result.now ≡ header_name number }
 {
     match number {
@@ -201,19 +201,19 @@ fn name_of(number: u8) -> &'static str
 }
 
 /// Appends `ok`, or the fault and its layer.
-fn push_end(fault: Option<(HeaderSliceError, Layer)>, text: &mut String) -> Result<(), AllocError>
+fn push_chain_end(fault: Option<(HeaderSliceError, Layer)>, text: &mut String) -> Result<(), AllocError>
     ensures { OnOk result (string_bytes text.new ≡ string_bytes text.old ++ chain_end_line fault) }
 {
     let Some((fault, layer)) = fault else {
         return text.push_str("ok\n");
     };
-    push_fault(&fault, text)?;
+    push_chain_fault(&fault, text)?;
     let layer = layer.name();
     writeln!(text, " in {layer}")
 }
 
 /// Appends a fault.
-fn push_fault(fault: &HeaderSliceError, text: &mut String) -> Result<(), AllocError>
+fn push_chain_fault(fault: &HeaderSliceError, text: &mut String) -> Result<(), AllocError>
     ensures { OnOk result
         (string_bytes text.new ≡ string_bytes text.old ++ chain_fault_text fault.now) }
 {

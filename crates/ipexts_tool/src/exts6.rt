@@ -34,15 +34,15 @@ fn push_headers<A: Allocator>(
 {
     let mut offset = 0;
     for header in headers {
-        let len = slice_of(&header).len();
-        push_header(offset, number_of(&header), len, text)?;
+        let len = header_bytes(&header).len();
+        push_header(offset, header_number(&header), len, text)?;
         offset += len;
     }
     Ok(())
 }
 
 /// The number of a header.
-fn number_of(header: &Ipv6ExtensionSlice<'_>) -> IpNumber
+fn header_number(header: &Ipv6ExtensionSlice<'_>) -> IpNumber
     ensures { result.0 ≡ (header_of header.now).number }
 {
     match header {
@@ -55,7 +55,7 @@ fn number_of(header: &Ipv6ExtensionSlice<'_>) -> IpNumber
 }
 
 /// The bytes of a header.
-fn slice_of<'a>(header: &Ipv6ExtensionSlice<'a>) -> &'a [u8]
+fn header_bytes<'a>(header: &Ipv6ExtensionSlice<'a>) -> &'a [u8]
     ensures { result.now ≡ (header_of header.now).bytes }
 {
     match header {

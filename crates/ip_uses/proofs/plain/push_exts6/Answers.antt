@@ -25,7 +25,7 @@ returns c =
     let lines : List ℕ = header_lines 0 headers in
     let next : List ℕ = next_line chain.number (length chain.rest.now) in
     let end : List ℕ = chain_end_line c.plain_fault.result in
-    let told = joined (string_bytes c.args.text.now) lines next end (string_bytes c.push_headers.new.text) (string_bytes c.push_rest.new.text) (string_bytes c.push_end.new.text)
-    (rw c.deref.ensures.value at c.in_ok-push_headers.ensures) c.in_ok-push_rest.ensures in
-    let F : List ℕ → Type 0 = λ text. OnOk c.push_end.result (string_bytes c.push_end.new.text ≡ string_bytes c.args.text.now ++ text) in
-    subst F (sym answer) (on_ok_weaker c.push_end.result told c.push_end.ensures)
+    let told = joined (string_bytes c.args.text.now) lines next end (string_bytes c.push_headers.new.text) (string_bytes c.push_next.new.text) (string_bytes c.push_chain_end.new.text)
+    (rw c.deref.ensures.value at c.in_ok-push_headers.ensures) c.in_ok-push_next.ensures in
+    let F : List ℕ → Type 0 = λ text. OnOk c.push_chain_end.result (string_bytes c.push_chain_end.new.text ≡ string_bytes c.args.text.now ++ text) in
+    subst F (sym answer) (on_ok_weaker c.push_chain_end.result told c.push_chain_end.ensures)

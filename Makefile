@@ -1,5 +1,7 @@
 # `make run` answers the lines of standard input; `make test` tries the program and passes the merge gate.
-.PHONY: run test
+# `make bench` measures and `make diff` compares against etherparse 0.19.0; `make diff-test` tests the comparison. These three take
+# CARGO_FLAGS="..", further flags for Cargo, as one that says where the crate lies on a machine without a network.
+.PHONY: run test bench diff diff-test
 .SILENT:
 
 RT_IS_THERE = command -v rt >/dev/null || { \
@@ -13,3 +15,16 @@ test:
 	$(RT_IS_THERE)
 	scripts/test-main
 	rt ci
+
+SEED = 1
+LINES = 1000000
+export SEED LINES CARGO_FLAGS
+
+bench:
+	bench/run
+
+diff:
+	diff/run
+
+diff-test:
+	diff/test

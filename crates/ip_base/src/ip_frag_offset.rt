@@ -1,4 +1,5 @@
 ghost use Rattle.std.specs.Prelude.{◌≡◌, ◌≤◌, ◌↔◌, ℕ, IsOk, IfOk, IfErr};
+ghost use Rattle.ip_spec.specs.Lengths.{MAX_FRAGMENT_OFFSET};
 
 use crate::err::ValueTooBigError;
 use std::marker::Model;
@@ -13,7 +14,7 @@ impl Model for IpFragOffset {
 
     ghost view = { λ offset. offset.0 };
 
-    ghost invariant = { λ offset. offset.0 ≤ 0x1fff };
+    ghost invariant = { λ offset. offset.0 ≤ MAX_FRAGMENT_OFFSET };
 
     ghost inverse = { λ n. record { 0 = n } };
 }
@@ -24,9 +25,10 @@ impl IpFragOffset {
 
     /// The offset of this value, or the error that it doesn't fit 13 bits.
     pub fn try_new(value: u16) -> Result<IpFragOffset, ValueTooBigError>
-        ensures fits { IsOk result ↔ (value ≤ 0x1fff) }
+        ensures fits { IsOk result ↔ (value ≤ MAX_FRAGMENT_OFFSET) }
         ensures value { IfOk result (λ offset. offset ≡ value) }
-        ensures too_big { IfErr result (λ e. e ≡ record { actual = value; max_allowed = 0x1fff }) }
+        ensures too_big { IfErr result (λ e.
+            e ≡ record { actual = value; max_allowed = MAX_FRAGMENT_OFFSET }) }
     {
         if value > Self::MAX_U16 {
             return Err(ValueTooBigError {
@@ -40,7 +42,7 @@ impl IpFragOffset {
     /// The number of units of 8 bytes.
     pub fn value(self) -> u16
         ensures value { result ≡ self }
-        ensures fits { result ≤ 0x1fff }
+        ensures fits { result ≤ MAX_FRAGMENT_OFFSET }
     {
         self.0
     }
@@ -49,10 +51,18 @@ impl IpFragOffset {
 impl TryFrom<u16> for IpFragOffset {
     type Error = ValueTooBigError;
 
+    ghost use Rattle.std.specs.Prelude.{◌≡◌, ◌≤◌, ◌<◌, MatchResult};
+
+    ghost try_from_gives = { λ value result. MatchResult result
+        (λ offset. (value ≤ MAX_FRAGMENT_OFFSET) × (offset ≡ value))
+        (λ e. (MAX_FRAGMENT_OFFSET < value)
+        × (e ≡ record { actual = value; max_allowed = MAX_FRAGMENT_OFFSET })) };
+
     fn try_from(value: u16) -> Result<IpFragOffset, ValueTooBigError>
-        ensures fits { IsOk result ↔ (value ≤ 0x1fff) }
+        ensures fits { IsOk result ↔ (value ≤ MAX_FRAGMENT_OFFSET) }
         ensures value { IfOk result (λ offset. offset ≡ value) }
-        ensures too_big { IfErr result (λ e. e ≡ record { actual = value; max_allowed = 0x1fff }) }
+        ensures too_big { IfErr result (λ e.
+            e ≡ record { actual = value; max_allowed = MAX_FRAGMENT_OFFSET }) }
     {
         IpFragOffset::try_new(value)
     }

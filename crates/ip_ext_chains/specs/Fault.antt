@@ -1,12 +1,16 @@
 -- The fault where an IPv6 chain ends, and the layer at which it lies (RFC 8200, section 4).
-use Rattle.std.specs.Prelude.{ℕ, List, length, Option, Some, None, Bool, ◌==◌, if◌then◌else◌}
+use Rattle.std.specs.Prelude.{ℕ, ◌+◌, ◌<◌, ◌^◌, List, length, Option, Some, None, ⊤, Bool, ◌==◌, if◌then◌else◌}
 use Rattle.std.specs.Option.{option_map}
+use Rattle.ip_base.specs.LenError.{moved}
 use Rattle.ip_base.specs.declared.err.len_error.LenError.{LenError}
 use Rattle.ip_base.specs.declared.err.layer.Layer.{Layer}
 use Rattle.ip_base.specs.declared.err.layer.Layer.TheVariants.{Ipv6HopByHopHeader, Ipv6DestOptionsHeader, Ipv6RouteHeader, Ipv6FragHeader, IpAuthHeader}
+use Rattle.ip_base.specs.declared.len_source.LenSource.{LenSource}
+use Rattle.ip_base.specs.declared.len_source.LenSource.TheVariants.{Slice}
 use Rattle.ip_ext_headers.specs.declared.err.ip_auth.header_slice_error.HeaderSliceError.{HeaderSliceError as AuthSliceError}
 use Rattle.ip_ext_headers.specs.declared.err.ip_auth.header_slice_error.HeaderSliceError.TheVariants as auth
 use Rattle.ip_ext_headers.specs.Fault.{raw_fault, fragment_fault, auth_fault}
+use Rattle.ip_spec.specs.Numbers.{HOP_BY_HOP, ROUTING, FRAGMENT, AUTHENTICATION, DESTINATION_OPTIONS}
 use Rattle.ip_spec.specs.Chain.{leads_to, is_empty, bytes_of}
 use Rattle.ip_ext_chains.specs.Longest.{longest_chain, rest_after}
 use Rattle.ip_ext_chains.specs.declared.err.ipv6_exts.header_error.HeaderError.TheVariants.{HopByHopNotAtStart, IpAuth}
@@ -29,17 +33,30 @@ auth_at (auth.Content e) = (Content (IpAuth e), IpAuthHeader)
 abbrev pub hop_by_hop_later : Fault
 hop_by_hop_later = (Content HopByHopNotAtStart, Ipv6HopByHopHeader)
 
--- The fault at number m, where r is left and k bytes are behind; `first` tells that no header is before.
--- There is none where a header goes on, and none where m is no extension number.
-abbrev pub fault_at : Bool → ℕ → List ℕ → ℕ → Option Fault
-fault_at first m r k =
-    if m == 0 then (if first then option_map (short_at Ipv6HopByHopHeader) (raw_fault r k) else Some hop_by_hop_later)
-    else if m == 43 then option_map (short_at Ipv6RouteHeader) (raw_fault r k)
-    else if m == 60 then option_map (short_at Ipv6DestOptionsHeader) (raw_fault r k)
-    else if m == 44 then option_map (short_at Ipv6FragHeader) (fragment_fault r k)
-    else if m == 51 then option_map auth_at (auth_fault r k)
+-- The fault at number m, where r is left at offset k, n bytes as the source tells; `first` tells that no header
+-- is before. There is none where a header goes on, and none where m is no extension number.
+abbrev pub fault_at : LenSource → ℕ → ℕ → Bool → ℕ → List ℕ → Option Fault
+fault_at source n k first m r =
+    if m == HOP_BY_HOP then (if first then option_map (short_at Ipv6HopByHopHeader) (raw_fault source n k r) else Some hop_by_hop_later)
+    else if m == ROUTING then option_map (short_at Ipv6RouteHeader) (raw_fault source n k r)
+    else if m == DESTINATION_OPTIONS then option_map (short_at Ipv6DestOptionsHeader) (raw_fault source n k r)
+    else if m == FRAGMENT then option_map (short_at Ipv6FragHeader) (fragment_fault source n k r)
+    else if m == AUTHENTICATION then option_map auth_at (auth_fault source n k r)
     else None
+
+-- the same where r itself tells how many bytes there are
+abbrev pub slice_fault : ℕ → Bool → ℕ → List ℕ → Option Fault
+slice_fault k first m r = fault_at Slice (length r) k first m r
 
 -- the fault where the longest chain from n that begins s ends
 abbrev pub chain_fault : ℕ → List ℕ → Option Fault
-chain_fault n s = fault_at (is_empty (longest_chain n s)) (leads_to n (longest_chain n s)) (rest_after n s) (length (bytes_of (longest_chain n s)))
+chain_fault n s = slice_fault (length (bytes_of (longest_chain n s))) (is_empty (longest_chain n s)) (leads_to n (longest_chain n s)) (rest_after n s)
+
+-- the error told from k bytes further to the front, where that is a place
+abbrev pub exts_moved : ℕ → HeaderSliceError → HeaderSliceError
+exts_moved k (Len e) = Len (moved e.len_source k e)
+exts_moved k (Content e) = Content e
+
+abbrev pub ExtsOffsetFits : HeaderSliceError → ℕ → Type 0
+ExtsOffsetFits (Len e) k = e.layer_start_offset + k < 2 ^ 64
+ExtsOffsetFits (Content e) k = ⊤

@@ -25,7 +25,7 @@ impl<'a> Ipv6ExtensionSlice<'a> {
     ghost use Rattle.ip_ext_chains.specs.Ipv6ExtensionSlice.{header_of};
 
     /// The header's own number.
-    fn number(&self) -> IpNumber
+    pub fn number(&self) -> IpNumber
         ensures { result.0 ≡ (header_of self.now).number }
     {
         match self {
@@ -37,8 +37,8 @@ impl<'a> Ipv6ExtensionSlice<'a> {
         }
     }
 
-    /// The header's bytes.
-    pub(crate) fn slice(&self) -> &'a [u8]
+    /// The header's bytes, one header of its number.
+    pub fn slice(&self) -> &'a [u8]
         ensures bytes { result.now ≡ (header_of self.now).bytes }
         ensures header { IsHeader (header_of self.now).number result.now }
     {
@@ -52,7 +52,7 @@ impl<'a> Ipv6ExtensionSlice<'a> {
     }
 
     /// The number of what follows the header.
-    pub(crate) fn next_header(&self) -> IpNumber
+    pub fn next_header(&self) -> IpNumber
         ensures { result.0 ≡ next_header (header_of self.now).bytes }
     {
         match self {
@@ -66,7 +66,8 @@ impl<'a> Ipv6ExtensionSlice<'a> {
 
     /// Whether it is a fragment header that fragments the payload.
     pub(crate) fn is_fragmenting_payload(&self) -> bool
-        ensures { result ≡ (((header_of self.now).number == 44) && is_fragmenting (header_of self.now).bytes) }
+        ensures { result ≡ (((header_of self.now).number == 44)
+            && is_fragmenting (header_of self.now).bytes) }
     {
         match self {
             Ipv6ExtensionSlice::Fragment(header) => header.is_fragmenting_payload(),

@@ -31,7 +31,7 @@ impl<'a> Iterator for Ipv6ExtensionSliceIter<'a> {
         if self.rest.is_empty() {
             return None;
         }
-        // The bytes are whole headers, so the step doesn't fail, and no test is made when it runs.
+        // The bytes are whole headers, so a header goes on: `unwrap` tests nothing when it runs.
         let header = header_at(true, self.next_header, self.rest).unwrap();
         self.next_header = header.next_header();
         self.rest = after(self.rest, header.slice().len());
@@ -43,7 +43,8 @@ impl<'a> Clone for Ipv6ExtensionSliceIter<'a> {
     ghost use Rattle.std.specs.Prelude.{⊤};
     ghost use Rattle.ip_ext_chains.specs.Ipv6ExtensionSliceIter.{number_left, bytes_left};
 
-    ghost is_clone = { λ it copy. (number_left copy ≡ number_left it) × (bytes_left copy ≡ bytes_left it) };
+    ghost is_clone = { λ it copy. (number_left copy ≡ number_left it)
+        × (bytes_left copy ≡ bytes_left it) };
 
     ghost is_infallible = { λ _. ⊤ };
 
@@ -67,7 +68,8 @@ impl PartialEq for Ipv6ExtensionSliceIter<'_> {
 
     fn eq(&self, other: &Self) -> bool
         ensures answer { result ≡ same_left self.now other.now }
-        ensures same { IsTrue result ↔ ((number_left self.now ≡ number_left other.now) × (bytes_left self.now ≡ bytes_left other.now)) }
+        ensures same { IsTrue result ↔ ((number_left self.now ≡ number_left other.now)
+            × (bytes_left self.now ≡ bytes_left other.now)) }
     {
         self.next_header == other.next_header && self.rest == other.rest
     }

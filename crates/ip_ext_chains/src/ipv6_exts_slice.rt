@@ -4,6 +4,7 @@ ghost use Rattle.ip_spec.specs.Prefix.{IsPrefix};
 ghost use Rattle.ip_spec.specs.Chain.{bytes_of, leads_to, is_empty, has_fragmenting, IsLongestChain};
 ghost use Rattle.ip_ext_chains.specs.Longest.{longest_chain, rest_after};
 ghost use Rattle.ip_ext_chains.specs.Fault.{chain_fault};
+ghost use Rattle.ip_ext_chains.specs.Parse.{IsChainAnswer};
 ghost use Rattle.ip_ext_chains.specs.StartNumber.{start_number};
 
 use crate::err::Layer;
@@ -22,7 +23,8 @@ pub struct Ipv6ExtensionsSlice<'a> {
     fragmented: bool,
     slice: &'a [u8],
     pub ghost whole: { bytes_of (longest_chain (start_number first_header) slice.now) ≡ slice.now },
-    pub ghost flag: { fragmented ≡ has_fragmenting (longest_chain (start_number first_header) slice.now) },
+    pub ghost flag: { fragmented
+        ≡ has_fragmenting (longest_chain (start_number first_header) slice.now) },
     pub ghost first: { is_none first_header ≡ (length slice.now == 0) },
 }
 
@@ -30,6 +32,7 @@ impl<'a> Ipv6ExtensionsSlice<'a> {
     ghost use Rattle.ip_ext_chains.specs.Ipv6ExtensionsSlice.{first_number, bytes, headers_in};
 
     /// The chain from `start` that is all of `slice`.
+    #[inline(always)]
     fn new(start: IpNumber, slice: &'a [u8], fragmented: bool) -> Ipv6ExtensionsSlice<'a>
         requires whole { bytes_of (longest_chain start.0 slice.now) ≡ slice.now }
         requires flag { fragmented ≡ has_fragmenting (longest_chain start.0 slice.now) }
@@ -43,6 +46,24 @@ impl<'a> Ipv6ExtensionsSlice<'a> {
             fragmented,
             slice,
         }
+    }
+
+    /// The longest chain from `start` that begins `input`, which is the first `len` of them.
+    #[inline(always)]
+    fn first(
+        start: IpNumber,
+        input: &'a [u8],
+        len: usize,
+        fragmented: bool,
+    ) -> Ipv6ExtensionsSlice<'a>
+        requires len { len ≡ length (bytes_of (longest_chain start.0 input.now)) }
+        requires flag { fragmented ≡ has_fragmenting (longest_chain start.0 input.now) }
+        ensures headers { headers_in result ≡ longest_chain start.0 input.now }
+        ensures bytes { bytes result ≡ bytes_of (longest_chain start.0 input.now) }
+        ensures first { first_number result
+            ≡ (if length (bytes result) == 0 then None else Some start) }
+    {
+        Self::new(start, &input[..len], fragmented)
     }
 
     /// The longest chain from the number that begins the bytes, with the number to which it leads, the bytes
@@ -59,53 +80,63 @@ impl<'a> Ipv6ExtensionsSlice<'a> {
         Option<(HeaderSliceError, Layer)>,
     )
         ensures longest { IsLongestChain start_ip_number.0 start_slice.now (headers_in result.0) }
-        ensures headers { headers_in result.0 ≡ longest_chain start_ip_number.0 start_slice.now }
-        ensures bytes { bytes result.0 ≡ bytes_of (longest_chain start_ip_number.0 start_slice.now) }
+        ensures answer { IsChainAnswer start_ip_number.0 start_slice.now
+            (headers_in result.0) result.1.0 result.2.now result.3 }
+        ensures bytes { bytes result.0
+            ≡ bytes_of (longest_chain start_ip_number.0 start_slice.now) }
         ensures prefix { IsPrefix (bytes result.0) start_slice.now }
-        ensures first { first_number result.0 ≡ (if length (bytes result.0) == 0 then None else Some start_ip_number) }
-        ensures number { result.1.0 ≡ leads_to start_ip_number.0 (longest_chain start_ip_number.0 start_slice.now) }
-        ensures rest { result.2.now ≡ rest_after start_ip_number.0 start_slice.now }
-        ensures fault { result.3 ≡ chain_fault start_ip_number.0 start_slice.now }
+        ensures first { first_number result.0
+            ≡ (if length (bytes result.0) == 0 then None else Some start_ip_number) }
     {
-        let mut number = start_ip_number;
-        let mut rest = start_slice;
-        let mut fragmented = false;
-        'headers: while let Some(header) = header_at(
-            rest.len() == start_slice.len(),
-            number,
-            rest,
-        ) {
-            fragmented |= header.is_fragmenting_payload();
-            number = header.next_header();
-            rest = after(rest, header.slice().len());
-        }
-        let offset = start_slice.len() - rest.len();
-        let found = Self::new(start_ip_number, &start_slice[..offset], fragmented);
+        let (number, rest, len, fragmented) = Self::walk(start_ip_number, start_slice);
+        let found = Self::first(start_ip_number, start_slice, len, fragmented);
         if is_extension(number) {
-            let fault = fault(rest.len() == start_slice.len(), number, rest, offset);
-            return (found, number, rest, Some(fault));
+            return (found, number, rest, Some(fault(len == 0, number, rest, len)));
         }
         (found, number, rest, None)
     }
 
+    /// Goes over the longest chain from the number that begins the bytes: the number to which it leads, the
+    /// bytes after it, how many it has, and whether it fragments the payload.
+    #[inline(always)]
+    fn walk(start: IpNumber, bytes: &'a [u8]) -> (IpNumber, &'a [u8], usize, bool)
+        ensures number { result.0.0 ≡ leads_to start.0 (longest_chain start.0 bytes.now) }
+        ensures rest { result.1.now ≡ rest_after start.0 bytes.now }
+        ensures len { result.2 ≡ length (bytes_of (longest_chain start.0 bytes.now)) }
+        ensures flag { result.3 ≡ has_fragmenting (longest_chain start.0 bytes.now) }
+    {
+        let mut number = start;
+        let mut rest = bytes;
+        let mut fragmented = false;
+        'headers: while let Some(header) = header_at(rest.len() == bytes.len(), number, rest) {
+            fragmented |= header.is_fragmenting_payload();
+            number = header.next_header();
+            rest = after(rest, header.slice().len());
+        }
+        (number, rest, bytes.len() - rest.len(), fragmented)
+    }
+
     /// What `from_slice_lax` answers, where it tells no fault; else the fault.
+    #[inline(always)]
     pub fn from_slice(
         start_ip_number: IpNumber,
         start_slice: &'a [u8],
     ) -> Result<(Ipv6ExtensionsSlice<'a>, IpNumber, &'a [u8]), HeaderSliceError>
-        ensures no_fault { IfOk result (λ _. chain_fault start_ip_number.0 start_slice.now ≡ None) }
-        ensures fault { IfErr result (λ e. option_map (λ f. f.0) (chain_fault start_ip_number.0 start_slice.now) ≡ Some e) }
-        ensures headers { IfOk result (λ x. headers_in x.0 ≡ longest_chain start_ip_number.0 start_slice.now) }
-        ensures bytes { IfOk result (λ x. bytes x.0 ≡ bytes_of (longest_chain start_ip_number.0 start_slice.now)) }
-        ensures first { IfOk result (λ x. first_number x.0 ≡ (if length (bytes x.0) == 0 then None else Some start_ip_number)) }
-        ensures number { IfOk result (λ x. x.1.0 ≡ leads_to start_ip_number.0 (longest_chain start_ip_number.0 start_slice.now)) }
-        ensures rest { IfOk result (λ x. x.2.now ≡ rest_after start_ip_number.0 start_slice.now) }
+        ensures answer { IfOk result (λ x. IsChainAnswer start_ip_number.0 start_slice.now
+            (headers_in x.0) x.1.0 x.2.now None) }
+        ensures fault { IfErr result (λ e. option_map (λ f. f.0)
+            (chain_fault start_ip_number.0 start_slice.now) ≡ Some e) }
+        ensures bytes { IfOk result (λ x. bytes x.0
+            ≡ bytes_of (longest_chain start_ip_number.0 start_slice.now)) }
+        ensures first { IfOk result (λ x. first_number x.0
+            ≡ (if length (bytes x.0) == 0 then None else Some start_ip_number)) }
     {
-        let (headers, number, rest, fault) = Self::from_slice_lax(start_ip_number, start_slice);
-        match fault {
-            None => Ok((headers, number, rest)),
-            Some((e, _)) => Err(e),
+        let (number, rest, len, fragmented) = Self::walk(start_ip_number, start_slice);
+        if is_extension(number) {
+            return Err(fault(len == 0, number, rest, len).0);
         }
+        let found = Self::first(start_ip_number, start_slice, len, fragmented);
+        Ok((found, number, rest))
     }
 
     /// The number of the first header, where there is one.
@@ -193,7 +224,8 @@ impl PartialEq for Ipv6ExtensionsSlice<'_> {
 
     fn eq(&self, other: &Self) -> bool
         ensures answer { result ≡ same_slice self.now other.now }
-        ensures same { IsTrue result ↔ ((first_number self.now ≡ first_number other.now) × (bytes self.now ≡ bytes other.now)) }
+        ensures same { IsTrue result ↔ ((first_number self.now ≡ first_number other.now)
+            × (bytes self.now ≡ bytes other.now)) }
     {
         self.first_header == other.first_header && self.slice == other.slice
     }

@@ -1,8 +1,10 @@
 //! The fault of a chain computed in the plainest way: by the table of faults, row by row.
-ghost use Rattle.std.specs.Prelude.{◌≡◌, Some};
+ghost use Rattle.std.specs.Prelude.{◌≡◌, length, Some};
 ghost use Rattle.std.specs.Option.{option_map};
-ghost use Rattle.ip_ext_headers.specs.Fault.{raw_fault, fragment_fault, auth_fault, too_short};
-ghost use Rattle.ip_ext_chains.specs.Fault.{fault_at, short_at, auth_at};
+ghost use Rattle.ip_ext_headers.specs.Fault.{raw_fault, fragment_fault, auth_fault};
+ghost use Rattle.ip_base.specs.LenError.{too_short};
+ghost use Rattle.ip_base.specs.declared.len_source.LenSource.TheVariants.{Slice};
+ghost use Rattle.ip_ext_chains.specs.Fault.{slice_fault, short_at, auth_at};
 
 use crate::err::ipv6_exts::{HeaderError, HeaderSliceError};
 use crate::step::Fault;
@@ -18,7 +20,7 @@ pub fn plain_fault(
     left: &[u8],
     offset: usize,
 ) -> Option<(HeaderSliceError, Layer)>
-    ensures { result ≡ fault_at first number left.now offset }
+    ensures { result ≡ slice_fault offset first number left.now }
 {
     match number {
         0 if !first => Some((
@@ -36,7 +38,7 @@ pub fn plain_fault(
 
 /// `required` bytes are needed.
 fn short(inner: Layer, left: &[u8], offset: usize, required: usize, layer: Layer) -> Fault
-    ensures { result ≡ short_at layer (too_short inner left.now offset required) }
+    ensures { result ≡ short_at layer (too_short Slice (length left.now) offset inner required) }
 {
     let error = LenError {
         required_len: required,
@@ -50,7 +52,7 @@ fn short(inner: Layer, left: &[u8], offset: usize, required: usize, layer: Layer
 
 /// At hop by hop options, routing and destination options.
 fn plain_raw_fault(left: &[u8], offset: usize, layer: Layer) -> Option<Fault>
-    ensures { result ≡ option_map (short_at layer) (raw_fault left.now offset) }
+    ensures { result ≡ option_map (short_at layer) (raw_fault Slice (length left.now) offset left.now) }
 {
     if left.len() < 8 {
         return Some(short(Layer::Ipv6ExtHeader, left, offset, 8, layer));
@@ -64,7 +66,7 @@ fn plain_raw_fault(left: &[u8], offset: usize, layer: Layer) -> Option<Fault>
 
 /// At a fragment header.
 fn plain_fragment_fault(left: &[u8], offset: usize) -> Option<Fault>
-    ensures { result ≡ option_map (short_at Layer.Ipv6FragHeader) (fragment_fault left.now offset) }
+    ensures { result ≡ option_map (short_at Layer.Ipv6FragHeader) (fragment_fault Slice (length left.now) offset left.now) }
 {
     if left.len() < 8 {
         return Some(short(
@@ -80,7 +82,7 @@ fn plain_fragment_fault(left: &[u8], offset: usize) -> Option<Fault>
 
 /// At an authentication header.
 fn plain_auth_fault(left: &[u8], offset: usize) -> Option<Fault>
-    ensures { result ≡ option_map auth_at (auth_fault left.now offset) }
+    ensures { result ≡ option_map auth_at (auth_fault Slice (length left.now) offset left.now) }
 {
     if left.len() < 12 {
         return Some(short(Layer::IpAuthHeader, left, offset, 12, Layer::IpAuthHeader));

@@ -2,7 +2,7 @@
 ghost use Rattle.std.specs.Prelude.{◌≡◌, ◌≤◌, ◌+◌, ◌*◌, ◌↔◌, ◌==◌, length, drop, slice_index, nat_lt, if◌then◌else◌, IsTrue, Option, Some, IsSome, IfSome, IfNone};
 ghost use Rattle.ip_spec.specs.Header.{IsExtensionNumber};
 ghost use Rattle.ip_spec.specs.Chain.{IsNext, IsEnd};
-ghost use Rattle.ip_ext_chains.specs.Fault.{fault_at};
+ghost use Rattle.ip_ext_chains.specs.Fault.{slice_fault};
 ghost use Rattle.ip_ext_chains.specs.Ipv6ExtensionSlice.{header_of};
 
 use crate::Ipv6ExtensionSlice;
@@ -79,8 +79,8 @@ pub(crate) fn is_extension(number: IpNumber) -> bool
 #[cold]
 #[inline(never)]
 pub(crate) fn fault(first: bool, number: IpNumber, bytes: &[u8], offset: usize) -> Fault
-    requires { IsSome (fault_at first number.0 bytes.now offset) }
-    ensures { fault_at first number.0 bytes.now offset ≡ Some result }
+    requires { IsSome (slice_fault offset first number.0 bytes.now) }
+    ensures { slice_fault offset first number.0 bytes.now ≡ Some result }
 {
     let (required_len, short, layer) = match number {
         ip_number::IPV6_HOP_BY_HOP if !first => {
@@ -88,11 +88,15 @@ pub(crate) fn fault(first: bool, number: IpNumber, bytes: &[u8], offset: usize) 
             return (HeaderSliceError::Content(error), Layer::Ipv6HopByHopHeader);
         }
         ip_number::IPV6_HOP_BY_HOP => (
-            raw_len(bytes),
+            required_raw_len(bytes),
             Layer::Ipv6ExtHeader,
             Layer::Ipv6HopByHopHeader,
         ),
-        ip_number::IPV6_ROUTE => (raw_len(bytes), Layer::Ipv6ExtHeader, Layer::Ipv6RouteHeader),
+        ip_number::IPV6_ROUTE => (
+            required_raw_len(bytes),
+            Layer::Ipv6ExtHeader,
+            Layer::Ipv6RouteHeader,
+        ),
         ip_number::IPV6_FRAG => (8, Layer::Ipv6FragHeader, Layer::Ipv6FragHeader),
         ip_number::AUTH if bytes.len() < 12 => (12, Layer::IpAuthHeader, Layer::IpAuthHeader),
         ip_number::AUTH if bytes[1] == 0 => {
@@ -105,7 +109,7 @@ pub(crate) fn fault(first: bool, number: IpNumber, bytes: &[u8], offset: usize) 
             Layer::IpAuthHeader,
         ),
         _ => (
-            raw_len(bytes),
+            required_raw_len(bytes),
             Layer::Ipv6ExtHeader,
             Layer::Ipv6DestOptionsHeader,
         ),
@@ -122,7 +126,7 @@ pub(crate) fn fault(first: bool, number: IpNumber, bytes: &[u8], offset: usize) 
 
 /// How many bytes a header of the common layout needs: 8, where the bytes are too few to tell its own length.
 #[inline]
-fn raw_len(bytes: &[u8]) -> usize
+fn required_raw_len(bytes: &[u8]) -> usize
     ensures { result ≡ (if nat_lt (length bytes.now) 8 then 8 else 8 * (slice_index bytes.now 1 + 1)) }
 {
     if bytes.len() < 8 {

@@ -1,5 +1,5 @@
 pub mod Fault
-pub mod Lengths
+pub mod LengthFault
 pub mod Equal
 pub mod IpAuthHeaderSlice
 pub mod Ipv6FragmentHeaderSlice

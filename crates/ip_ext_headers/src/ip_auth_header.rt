@@ -3,7 +3,7 @@ ghost use Rattle.std.specs.Int.{to_be_bytes, w32};
 ghost use Rattle.ip_spec.specs.Prefix.{IsPrefix};
 ghost use Rattle.ip_spec.specs.Header.{IsAuthHeader};
 ghost use Rattle.ip_spec.specs.FieldsOf.{auth_len};
-ghost use Rattle.ip_spec.specs.Encoding.{Appends, IsAuthEncoding};
+ghost use Rattle.ip_spec.specs.Encoding.{AppendsOne, IsAuthEncoding};
 ghost use Rattle.ip_spec.specs.Decoding.{IsAuthDecoding};
 
 use crate::IpAuthHeaderSlice;
@@ -25,32 +25,45 @@ pub type IpAuthenticationHeader = IpAuthHeader;
 /// bytes, in whole units of 4. In a contract it is the record of its four fields.
 #[derive(Debug, Drop)]
 pub struct IpAuthHeader {
-    /// The number of what follows the header.
-    pub next_header: IpNumber,
+    // First, so that no padding stands between it and the end of the header.
+    raw_icv: ArrayVec<u8, 1016>,
     /// The security parameters index, which tells the receiver its association with the sender.
     pub spi: u32,
     /// The sender's count of packets.
     pub sequence_number: u32,
-    raw_icv: ArrayVec<u8, 1016>,
+    /// The number of what follows the header.
+    pub next_header: IpNumber,
 }
 
 impl Model for IpAuthHeader {
     ghost use Rattle.std.specs.Prelude.{length};
     ghost use Rattle.ip_spec.specs.FieldsOf.{AuthFields};
-    ghost use Rattle.ip_ext_headers.specs.Lengths.{IsIcvLen};
+    ghost use Rattle.ip_spec.specs.Lengths.{IsIcvLen};
 
     ghost Value = { AuthFields };
 
-    ghost view = { λ h. record { next_header = h.next_header.0; spi = h.spi; sequence_number = h.sequence_number; raw_icv = h.raw_icv.items } };
+    ghost view = { λ h. record {
+      next_header = h.next_header.0;
+      spi = h.spi;
+      sequence_number = h.sequence_number;
+      raw_icv = h.raw_icv.items;
+    } };
 
     ghost invariant = { λ h. IsIcvLen (length h.raw_icv.items) };
 
-    ghost inverse = { λ v. record { next_header = record { 0 = v.next_header }; spi = v.spi; sequence_number = v.sequence_number; raw_icv = record { items = v.raw_icv } } };
+    ghost inverse = { λ v. record {
+      next_header = record { 0 = v.next_header };
+      spi = v.spi;
+      sequence_number = v.sequence_number;
+      raw_icv = record { items = v.raw_icv };
+    } };
 }
 
 impl IpAuthHeader {
+    ghost use Rattle.ip_base.specs.declared.len_source.LenSource.TheVariants.{Slice};
     ghost use Rattle.ip_ext_headers.specs.Fault.{auth_fault};
-    ghost use Rattle.ip_ext_headers.specs.Lengths.{IsIcvLen, icv_len_fault};
+    ghost use Rattle.ip_spec.specs.Lengths.{IsIcvLen};
+    ghost use Rattle.ip_ext_headers.specs.LengthFault.{icv_len_fault};
 
     /// The smallest header, in bytes.
     pub const MIN_LEN: usize = 12;
@@ -82,7 +95,9 @@ impl IpAuthHeader {
         Ok(Self::with_icv(next_header, spi, sequence_number, raw_icv))
     }
 
-    /// The header with these fields, the check value of an allowed length.
+    /// The header with these fields, the check value of an allowed length. It is filled where it is handed
+    /// out.
+    #[inline(always)]
     pub(crate) fn with_icv(
         next_header: IpNumber,
         spi: u32,
@@ -126,24 +141,14 @@ impl IpAuthHeader {
     /// own length.
     pub fn from_slice(slice: &[u8]) -> Result<(IpAuthHeader, &[u8]), HeaderSliceError>
         ensures decoding { IfOk result (λ p. IsAuthDecoding slice.now p.0 p.1.now) }
-        ensures none { IfErr result (λ _. (b : List ℕ) → IsAuthHeader b → IsPrefix b slice.now → ⊥) }
-        ensures fault { IfErr result (λ e. auth_fault slice.now 0 ≡ Some e) }
+        ensures none { IfErr result (λ _. (b : List ℕ)
+            → IsAuthHeader b → IsPrefix b slice.now → ⊥) }
+        ensures fault { IfErr result (λ e.
+            auth_fault Slice (length slice.now) 0 slice.now ≡ Some e) }
     {
         let header = IpAuthHeaderSlice::from_slice(slice)?;
-        let next_header = header.next_header();
         let rest = &slice[header.slice().len()..];
-        // Filled here, so that 1 KB is moved once on the way out.
-        let mut raw_icv = ArrayVec::new();
-        let _ = raw_icv.try_extend_from_slice(header.raw_icv());
-        Ok((
-            IpAuthHeader {
-                next_header,
-                spi: header.spi(),
-                sequence_number: header.sequence_number(),
-                raw_icv,
-            },
-            rest,
-        ))
+        Ok((header.to_header(), rest))
     }
 
     /// The integrity check value with its padding, 0 to 1016 bytes.
@@ -185,7 +190,7 @@ impl IpAuthHeader {
     /// Appends the header's bytes. It refuses only where the vector has no room for them and can't grow;
     /// then its bytes stay as they were.
     pub fn write<A: Allocator>(&self, out: &mut Vec<u8, A>) -> Result<(), AllocError>
-        ensures ok { OnOk result (Appends (IsAuthEncoding self.now) out.old.items out.new.items) }
+        ensures ok { OnOk result (AppendsOne (IsAuthEncoding self.now) out.old.items out.new.items) }
         ensures len { OnOk result (vec_len out.new ≡ vec_len out.old + auth_len self.now) }
         ensures err { OnErr result (out.new.items ≡ out.old.items) }
         ensures full { OnErr result (vec_capacity out.old < vec_len out.old + auth_len self.now) }
@@ -250,7 +255,8 @@ impl Clone for IpAuthHeader {
 impl Default for IpAuthHeader {
     ghost use Rattle.std.specs.Prelude.{◌≡◌, []};
 
-    ghost is_default = { λ h. h ≡ record { next_header = 255; spi = 0; sequence_number = 0; raw_icv = [] } };
+    ghost is_default = { λ h.
+        h ≡ record { next_header = 255; spi = 0; sequence_number = 0; raw_icv = [] } };
 
     fn default() -> IpAuthHeader {
         Self::with_icv(IpNumber(255), 0, 0, &[])

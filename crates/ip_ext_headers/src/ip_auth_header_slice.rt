@@ -23,7 +23,9 @@ pub struct IpAuthHeaderSlice<'a> {
 }
 
 impl<'a> IpAuthHeaderSlice<'a> {
-    ghost use Rattle.ip_ext_headers.specs.Fault.{auth_fault, too_short};
+    ghost use Rattle.ip_base.specs.LenError.{too_short};
+    ghost use Rattle.ip_base.specs.declared.len_source.LenSource.TheVariants.{Slice};
+    ghost use Rattle.ip_ext_headers.specs.Fault.{auth_fault};
     ghost use Rattle.ip_ext_headers.specs.IpAuthHeaderSlice.{bytes};
 
     /// The header that begins the slice. The error tells, in this order, that there are fewer than 12 bytes,
@@ -31,8 +33,10 @@ impl<'a> IpAuthHeaderSlice<'a> {
     pub fn from_slice(slice: &'a [u8]) -> Result<IpAuthHeaderSlice<'a>, HeaderSliceError>
         ensures prefix { IfOk result (λ h. IsPrefix (bytes h) slice.now) }
         ensures header { IfOk result (λ h. IsAuthHeader (bytes h)) }
-        ensures none { IfErr result (λ _. (b : List ℕ) → IsAuthHeader b → IsPrefix b slice.now → ⊥) }
-        ensures fault { IfErr result (λ e. auth_fault slice.now 0 ≡ Some e) }
+        ensures none { IfErr result (λ _. (b : List ℕ)
+            → IsAuthHeader b → IsPrefix b slice.now → ⊥) }
+        ensures fault { IfErr result (λ e.
+            auth_fault Slice (length slice.now) 0 slice.now ≡ Some e) }
     {
         if slice.len() < 12 {
             return Err(HeaderSliceError::Len(Self::too_short(slice, 12)));
@@ -51,7 +55,7 @@ impl<'a> IpAuthHeaderSlice<'a> {
 
     /// The error that the slice at offset 0 is shorter than `required_len` bytes.
     fn too_short(slice: &[u8], required_len: usize) -> LenError
-        ensures { result ≡ too_short Layer.IpAuthHeader slice.now 0 required_len }
+        ensures { result ≡ too_short Slice (length slice.now) 0 Layer.IpAuthHeader required_len }
     {
         LenError {
             required_len,

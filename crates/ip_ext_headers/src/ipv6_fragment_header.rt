@@ -1,11 +1,12 @@
-ghost use Rattle.std.specs.Prelude.{◌≡◌, ◌≤◌, ◌<◌, ◌+◌, ◌++◌, ℕ, List, OnOk, OnErr, IfOk, IfErr, vec_len, vec_capacity};
+ghost use Rattle.std.specs.Prelude.{◌≡◌, ◌≤◌, ◌<◌, ◌+◌, ◌++◌, ℕ, List, OnOk, OnErr, IfOk, IfErr, vec_len, vec_capacity, length};
 ghost use Rattle.ip_spec.specs.Prefix.{IsPrefix};
 ghost use Rattle.ip_spec.specs.Header.{IsFragmentHeader};
 ghost use Rattle.ip_spec.specs.Fields.{is_fragment};
-ghost use Rattle.ip_spec.specs.Encoding.{Appends, IsFragmentEncoding};
+ghost use Rattle.ip_spec.specs.Encoding.{AppendsOne, IsFragmentEncoding};
 ghost use Rattle.ip_spec.specs.Decoding.{IsFragmentDecoding};
 
 use crate::Ipv6FragmentHeaderSlice;
+use crate::fragment_bits::pack;
 use ip_base::err::LenError;
 use ip_base::{IpFragOffset, IpNumber};
 use std::alloc::{AllocError, Allocator};
@@ -29,12 +30,23 @@ impl Model for Ipv6FragmentHeader {
 
     ghost Value = { FragmentFields };
 
-    ghost view = { λ h. record { next_header = h.next_header.0; fragment_offset = h.fragment_offset; more_fragments = h.more_fragments; identification = h.identification } };
+    ghost view = { λ h. record {
+      next_header = h.next_header.0;
+      fragment_offset = h.fragment_offset;
+      more_fragments = h.more_fragments;
+      identification = h.identification;
+    } };
 
-    ghost inverse = { λ v. record { next_header = record { 0 = v.next_header }; fragment_offset = v.fragment_offset; more_fragments = v.more_fragments; identification = v.identification } };
+    ghost inverse = { λ v. record {
+      next_header = record { 0 = v.next_header };
+      fragment_offset = v.fragment_offset;
+      more_fragments = v.more_fragments;
+      identification = v.identification;
+    } };
 }
 
 impl Ipv6FragmentHeader {
+    ghost use Rattle.ip_base.specs.declared.len_source.LenSource.TheVariants.{Slice};
     ghost use Rattle.ip_ext_headers.specs.Fault.{fragment_fault};
 
     /// The length of each fragment header, in bytes.
@@ -66,8 +78,10 @@ impl Ipv6FragmentHeader {
     /// bytes.
     pub fn from_slice(slice: &[u8]) -> Result<(Ipv6FragmentHeader, &[u8]), LenError>
         ensures decoding { IfOk result (λ p. IsFragmentDecoding slice.now p.0 p.1.now) }
-        ensures none { IfErr result (λ _. (b : List ℕ) → IsFragmentHeader b → IsPrefix b slice.now → ⊥) }
-        ensures fault { IfErr result (λ e. fragment_fault slice.now 0 ≡ Some e) }
+        ensures none { IfErr result (λ _. (b : List ℕ)
+            → IsFragmentHeader b → IsPrefix b slice.now → ⊥) }
+        ensures fault { IfErr result (λ e.
+            fragment_fault Slice (length slice.now) 0 slice.now ≡ Some e) }
     {
         let header = Ipv6FragmentHeaderSlice::from_slice(slice)?;
         let rest = &slice[header.slice().len()..];
@@ -80,25 +94,15 @@ impl Ipv6FragmentHeader {
         ensures encoding { IsFragmentEncoding self.now result }
         ensures read_back { (r : List ℕ) → IsFragmentDecoding (result ++ r) self.now r }
     {
-        let offset = self.fragment_offset.value();
-        let flag = if self.more_fragments { 0b1000_0000 } else { 0 };
+        let (high, low) = pack(self.fragment_offset, self.more_fragments);
         let [id0, id1, id2, id3] = self.identification.to_be_bytes();
-        [
-            self.next_header.0,
-            0,
-            (offset / 32) as u8,
-            (offset % 32) as u8 + flag,
-            id0,
-            id1,
-            id2,
-            id3,
-        ]
+        [self.next_header.0, 0, high, low, id0, id1, id2, id3]
     }
 
     /// Appends the header's bytes. It refuses only where the vector has no room for them and can't grow;
     /// then its bytes stay as they were.
     pub fn write<A: Allocator>(&self, out: &mut Vec<u8, A>) -> Result<(), AllocError>
-        ensures ok { OnOk result (Appends (IsFragmentEncoding self.now) out.old.items out.new.items) }
+        ensures ok { OnOk result (AppendsOne (IsFragmentEncoding self.now) out.old.items out.new.items) }
         ensures len { OnOk result (vec_len out.new ≡ vec_len out.old + 8) }
         ensures err { OnErr result (out.new.items ≡ out.old.items) }
         ensures full { OnErr result (vec_capacity out.old < vec_len out.old + 8) }
@@ -115,7 +119,7 @@ impl Ipv6FragmentHeader {
         Self::LEN
     }
 
-    /// Whether the packet has a piece of the payload and not the whole: more fragments follow, or the offset
+    /// Whether the packet has a fragment of the payload and not the whole: more fragments follow, or the offset
     /// isn't 0.
     pub fn is_fragmenting_payload(&self) -> bool
         ensures { result ≡ is_fragment self.now.more_fragments self.now.fragment_offset }

@@ -1,10 +1,11 @@
-ghost use Rattle.std.specs.Prelude.{◌≡◌, ℕ, List, IfOk, IfErr};
+ghost use Rattle.std.specs.Prelude.{◌≡◌, ℕ, List, IfOk, IfErr, length};
 ghost use Rattle.ip_spec.specs.Prefix.{IsPrefix};
 ghost use Rattle.ip_spec.specs.Header.{IsFragmentHeader};
 ghost use Rattle.ip_spec.specs.Fields.{next_header, fragment_offset, more_fragments, identification, is_fragmenting};
 ghost use Rattle.ip_spec.specs.FieldsOf.{fragment_fields};
 
 use crate::Ipv6FragmentHeader;
+use crate::fragment_bits::{unpack_flag, unpack_offset};
 use ip_base::err::{Layer, LenError};
 use ip_base::{IpFragOffset, IpNumber, LenSource};
 use std::alloc::AllocError;
@@ -18,6 +19,7 @@ pub struct Ipv6FragmentHeaderSlice<'a> {
 }
 
 impl<'a> Ipv6FragmentHeaderSlice<'a> {
+    ghost use Rattle.ip_base.specs.declared.len_source.LenSource.TheVariants.{Slice};
     ghost use Rattle.ip_ext_headers.specs.Fault.{fragment_fault};
     ghost use Rattle.ip_ext_headers.specs.Ipv6FragmentHeaderSlice.{bytes};
 
@@ -25,8 +27,10 @@ impl<'a> Ipv6FragmentHeaderSlice<'a> {
     pub fn from_slice(slice: &'a [u8]) -> Result<Ipv6FragmentHeaderSlice<'a>, LenError>
         ensures prefix { IfOk result (λ h. IsPrefix (bytes h) slice.now) }
         ensures header { IfOk result (λ h. IsFragmentHeader (bytes h)) }
-        ensures none { IfErr result (λ _. (b : List ℕ) → IsFragmentHeader b → IsPrefix b slice.now → ⊥) }
-        ensures fault { IfErr result (λ e. fragment_fault slice.now 0 ≡ Some e) }
+        ensures none { IfErr result (λ _. (b : List ℕ)
+            → IsFragmentHeader b → IsPrefix b slice.now → ⊥) }
+        ensures fault { IfErr result (λ e.
+            fragment_fault Slice (length slice.now) 0 slice.now ≡ Some e) }
     {
         if slice.len() < 8 {
             return Err(LenError {
@@ -59,15 +63,14 @@ impl<'a> Ipv6FragmentHeaderSlice<'a> {
     pub fn fragment_offset(&self) -> IpFragOffset
         ensures { result ≡ fragment_offset (bytes self.now) }
     {
-        let units = u16::from(self.slice[2]) * 32 + u16::from(self.slice[3] & 0b0001_1111);
-        IpFragOffset::try_new(units).unwrap()
+        unpack_offset(self.slice[2], self.slice[3])
     }
 
     /// Whether more fragments of the payload follow.
     pub fn more_fragments(&self) -> bool
         ensures { result ≡ more_fragments (bytes self.now) }
     {
-        self.slice[3] & 0b1000_0000 != 0
+        unpack_flag(self.slice[3])
     }
 
     /// The number that the fragments of one packet share.
@@ -77,7 +80,7 @@ impl<'a> Ipv6FragmentHeaderSlice<'a> {
         u32::from_be_bytes([self.slice[4], self.slice[5], self.slice[6], self.slice[7]])
     }
 
-    /// Whether the packet has a piece of the payload and not the whole: more fragments follow, or the offset
+    /// Whether the packet has a fragment of the payload and not the whole: more fragments follow, or the offset
     /// isn't 0.
     pub fn is_fragmenting_payload(&self) -> bool
         ensures { result ≡ is_fragmenting (bytes self.now) }

@@ -2,7 +2,7 @@ ghost use Rattle.std.specs.Prelude.{◌≡◌, ◌≤◌, ◌<◌, ◌+◌, ◌*
 ghost use Rattle.ip_spec.specs.Prefix.{IsPrefix};
 ghost use Rattle.ip_spec.specs.Header.{IsRawHeader};
 ghost use Rattle.ip_spec.specs.FieldsOf.{raw_fields, raw_len};
-ghost use Rattle.ip_spec.specs.Encoding.{Appends, IsRawEncoding};
+ghost use Rattle.ip_spec.specs.Encoding.{AppendsOne, IsRawEncoding};
 ghost use Rattle.ip_spec.specs.Decoding.{IsRawDecoding};
 
 use crate::Ipv6RawExtHeaderSlice;
@@ -22,15 +22,16 @@ pub type Ipv6RawExtensionHeader = Ipv6RawExtHeader;
 /// and with those two whole units of 8. In a contract it is the record of its next number and its payload.
 #[derive(Debug, Drop)]
 pub struct Ipv6RawExtHeader {
+    // First, so that no padding stands between it and the end of the header.
+    payload: ArrayVec<u8, 2046>,
     /// The number of what follows the header.
     pub next_header: IpNumber,
-    payload: ArrayVec<u8, 2046>,
 }
 
 impl Model for Ipv6RawExtHeader {
     ghost use Rattle.std.specs.Prelude.{length};
     ghost use Rattle.ip_spec.specs.FieldsOf.{RawFields};
-    ghost use Rattle.ip_ext_headers.specs.Lengths.{IsPayloadLen};
+    ghost use Rattle.ip_spec.specs.Lengths.{IsPayloadLen};
 
     ghost Value = { RawFields };
 
@@ -38,12 +39,17 @@ impl Model for Ipv6RawExtHeader {
 
     ghost invariant = { λ h. IsPayloadLen (length h.payload.items) };
 
-    ghost inverse = { λ v. record { next_header = record { 0 = v.next_header }; payload = record { items = v.payload } } };
+    ghost inverse = { λ v. record {
+      next_header = record { 0 = v.next_header };
+      payload = record { items = v.payload };
+    } };
 }
 
 impl Ipv6RawExtHeader {
+    ghost use Rattle.ip_base.specs.declared.len_source.LenSource.TheVariants.{Slice};
     ghost use Rattle.ip_ext_headers.specs.Fault.{raw_fault};
-    ghost use Rattle.ip_ext_headers.specs.Lengths.{IsPayloadLen, payload_len_fault};
+    ghost use Rattle.ip_spec.specs.Lengths.{IsPayloadLen};
+    ghost use Rattle.ip_ext_headers.specs.LengthFault.{payload_len_fault};
 
     /// The smallest header, in bytes.
     pub const MIN_LEN: usize = 8;
@@ -60,8 +66,8 @@ impl Ipv6RawExtHeader {
     /// Whether headers of the number have this layout: hop by hop options, routing, destination options,
     /// mobility, host identity protocol and shim6.
     pub fn header_type_supported(next_header: IpNumber) -> bool
-        ensures { IsTrue result ↔ ((next_header.0 ≡ 0) ⊎ ((next_header.0 ≡ 43) ⊎ ((next_header.0 ≡ 60)
-            ⊎ ((next_header.0 ≡ 135) ⊎ ((next_header.0 ≡ 139) ⊎ (next_header.0 ≡ 140)))))) }
+        ensures { IsTrue result ↔ ((next_header.0 ≡ 0) ⊎ ((next_header.0 ≡ 43)
+            ⊎ ((next_header.0 ≡ 60) ⊎ ((next_header.0 ≡ 135) ⊎ ((next_header.0 ≡ 139) ⊎ (next_header.0 ≡ 140)))))) }
     {
         Ipv6RawExtHeaderSlice::header_type_supported(next_header)
     }
@@ -73,14 +79,17 @@ impl Ipv6RawExtHeader {
         payload: &[u8],
     ) -> Result<Ipv6RawExtHeader, ExtPayloadLenError>
         ensures allowed { IsOk result ↔ IsPayloadLen (length payload.now) }
-        ensures value { IfOk result (λ h. h ≡ record { next_header = next_header.0; payload = payload.now }) }
+        ensures value { IfOk result (λ h.
+            h ≡ record { next_header = next_header.0; payload = payload.now }) }
         ensures fault { IfErr result (λ e. payload_len_fault (length payload.now) ≡ Some e) }
     {
         Self::check_payload_len(payload.len())?;
         Ok(Self::with_payload(next_header, payload))
     }
 
-    /// The header with this next number and a payload of an allowed length.
+    /// The header with this next number and a payload of an allowed length. It is filled where it is handed
+    /// out.
+    #[inline(always)]
     pub(crate) fn with_payload(next_header: IpNumber, payload: &[u8]) -> Ipv6RawExtHeader
         requires { IsPayloadLen (length payload.now) }
         ensures { result ≡ record { next_header = next_header.0; payload = payload.now } }
@@ -115,21 +124,12 @@ impl Ipv6RawExtHeader {
     pub fn from_slice(slice: &[u8]) -> Result<(Ipv6RawExtHeader, &[u8]), LenError>
         ensures decoding { IfOk result (λ p. IsRawDecoding slice.now p.0 p.1.now) }
         ensures none { IfErr result (λ _. (b : List ℕ) → IsRawHeader b → IsPrefix b slice.now → ⊥) }
-        ensures fault { IfErr result (λ e. raw_fault slice.now 0 ≡ Some e) }
+        ensures fault { IfErr result (λ e.
+            raw_fault Slice (length slice.now) 0 slice.now ≡ Some e) }
     {
         let header = Ipv6RawExtHeaderSlice::from_slice(slice)?;
-        let next_header = header.next_header();
         let rest = &slice[header.slice().len()..];
-        // Filled here, so that 2 KB are moved once on the way out.
-        let mut payload = ArrayVec::new();
-        let _ = payload.try_extend_from_slice(header.payload());
-        Ok((
-            Ipv6RawExtHeader {
-                next_header,
-                payload,
-            },
-            rest,
-        ))
+        Ok((header.to_header(), rest))
     }
 
     /// What follows the number and the length, 6 to 2046 bytes.
@@ -171,7 +171,7 @@ impl Ipv6RawExtHeader {
     /// Appends the header's bytes. It refuses only where the vector has no room for them and can't grow;
     /// then its bytes stay as they were.
     pub fn write<A: Allocator>(&self, out: &mut Vec<u8, A>) -> Result<(), AllocError>
-        ensures ok { OnOk result (Appends (IsRawEncoding self.now) out.old.items out.new.items) }
+        ensures ok { OnOk result (AppendsOne (IsRawEncoding self.now) out.old.items out.new.items) }
         ensures len { OnOk result (vec_len out.new ≡ vec_len out.old + raw_len self.now) }
         ensures err { OnErr result (out.new.items ≡ out.old.items) }
         ensures full { OnErr result (vec_capacity out.old < vec_len out.old + raw_len self.now) }

@@ -23,14 +23,16 @@ pub struct Ipv6RawExtHeaderSlice<'a> {
 }
 
 impl<'a> Ipv6RawExtHeaderSlice<'a> {
-    ghost use Rattle.ip_ext_headers.specs.Fault.{raw_fault, too_short};
+    ghost use Rattle.ip_base.specs.LenError.{too_short};
+    ghost use Rattle.ip_base.specs.declared.len_source.LenSource.TheVariants.{Slice};
+    ghost use Rattle.ip_ext_headers.specs.Fault.{raw_fault};
     ghost use Rattle.ip_ext_headers.specs.Ipv6RawExtHeaderSlice.{bytes};
 
     /// Whether headers of the number have this layout: hop by hop options, routing, destination options,
     /// mobility, host identity protocol and shim6.
     pub fn header_type_supported(next_header: IpNumber) -> bool
-        ensures { IsTrue result ↔ ((next_header.0 ≡ 0) ⊎ ((next_header.0 ≡ 43) ⊎ ((next_header.0 ≡ 60)
-            ⊎ ((next_header.0 ≡ 135) ⊎ ((next_header.0 ≡ 139) ⊎ (next_header.0 ≡ 140)))))) }
+        ensures { IsTrue result ↔ ((next_header.0 ≡ 0) ⊎ ((next_header.0 ≡ 43)
+            ⊎ ((next_header.0 ≡ 60) ⊎ ((next_header.0 ≡ 135) ⊎ ((next_header.0 ≡ 139) ⊎ (next_header.0 ≡ 140)))))) }
     {
         matches!(
             next_header,
@@ -49,7 +51,8 @@ impl<'a> Ipv6RawExtHeaderSlice<'a> {
         ensures prefix { IfOk result (λ h. IsPrefix (bytes h) slice.now) }
         ensures header { IfOk result (λ h. IsRawHeader (bytes h)) }
         ensures none { IfErr result (λ _. (b : List ℕ) → IsRawHeader b → IsPrefix b slice.now → ⊥) }
-        ensures fault { IfErr result (λ e. raw_fault slice.now 0 ≡ Some e) }
+        ensures fault { IfErr result (λ e.
+            raw_fault Slice (length slice.now) 0 slice.now ≡ Some e) }
     {
         if slice.len() < 8 {
             return Err(Self::too_short(slice, 8));
@@ -65,7 +68,7 @@ impl<'a> Ipv6RawExtHeaderSlice<'a> {
 
     /// The error that the slice at offset 0 is shorter than `required_len` bytes.
     fn too_short(slice: &[u8], required_len: usize) -> LenError
-        ensures { result ≡ too_short Layer.Ipv6ExtHeader slice.now 0 required_len }
+        ensures { result ≡ too_short Slice (length slice.now) 0 Layer.Ipv6ExtHeader required_len }
     {
         LenError {
             required_len,

@@ -4,6 +4,7 @@
 #![tactic(auto)]
 
 pub mod err;
+mod fragment_bits;
 mod ip_auth_header;
 mod ip_auth_header_slice;
 mod ipv6_fragment_header;

@@ -1,14 +1,14 @@
 -- The fields of a header, and the header that says them.
 use Rattle.std.proofs.Common.{◌≡◌, ℕ, ◌+◌, ◌-◌, ◌*◌, ◌/◌, ◌%◌, ◌^◌, ◌<◌, ◌≤◌, List, [], ◌∷◌, ◌++◌, length, get_or, take, drop, refl, ap, sym, ◌∙◌, arith, inl, inr, subst, Bool, true, false, cond, bit_and}
-use Rattle.std.specs.Prelude.{◌==◌, not}
+use Rattle.std.specs.Prelude.{◌==◌, not, slice_range}
 use Rattle.std.specs.Int.{to_be_bytes, from_be_bytes, w32}
 use Rattle.std.proofs.lemmas.List.{append_cancel_left, get_or_past, take_all}
-use Rattle.std.proofs.lemmas.List.Elements.{All-get_or, All-take, All-drop}
+use Rattle.std.proofs.lemmas.List.Elements.{All-from_recursion, recursion_from_All, All-append, All-get_or, All-take, All-drop}
 use Rattle.std.proofs.lemmas.Nat.{and_comm, and_assoc, and_mask, and-not, be_bytes_4, from_be_bytes-to_be_bytes_4}
 use Rattle.std.proofs.lemmas.Nat.Bits.{and_high, and_pow}
 use Rattle.std.proofs.lemmas.Bool.{cases_lt}
 use Rattle.ip_spec.specs.Header.{IsHeader, IsFragmentHeader, IsAuthHeader}
-use Rattle.ip_spec.specs.Fields.{more_fragments, unreserved_bits}
+use Rattle.ip_spec.specs.Fields.{offset_bits, flag_bit, unreserved_bits}
 use Rattle.ip_spec.specs.FieldsOf.{RawFields, FragmentFields, AuthFields, fragment_fields, auth_fields}
 use Rattle.ip_spec.specs.Cleared.{cleared_fragment, cleared_auth}
 use Rattle.ip_spec.specs.Encoding.{AreBytes, IsEncoding, IsRawEncoding, IsFragmentEncoding, IsAuthEncoding}
@@ -25,9 +25,9 @@ one_decoding_of n IsOne fields_of of_number s v w r q x y =
     )
 
 -- what spells fields is read so, whatever is behind it
-pub encoding_is_decoded : {V : Type 0} (IsOne : List ℕ → Type 0) (fields_of : List ℕ → V) (cleared : List ℕ → List ℕ) (v : V) (b r : List ℕ)
-    → IsEncoding IsOne fields_of cleared v b → IsDecoding IsOne fields_of (b ++ r) v r
-encoding_is_decoded IsOne fields_of cleared v b r s = record { bytes = b; header = s.header; fields = s.fields; joined = refl }
+pub encoding_is_decoded : {V : Type 0} (IsOne : List ℕ → Type 0) (fields_of : List ℕ → V) (cleared : List ℕ → List ℕ) (fixed : ℕ) (v : V) (b r : List ℕ)
+    → IsEncoding IsOne fields_of cleared fixed v b → IsDecoding IsOne fields_of (b ++ r) v r
+encoding_is_decoded IsOne fields_of cleared fixed v b r s = record { bytes = b; header = s.header; fields = s.fields; joined = refl }
 
 -- The first four of a list.
 pub record FirstFour (b : List ℕ) : Type 0 where
@@ -74,9 +74,6 @@ module _ (x : ℕ) where
   ]
 
 -- The encoding of fields. It is a way to prove, and no definition: the relations say what a encoding is.
-abbrev pub raw_written : RawFields → List ℕ
-raw_written v = v.next_header ∷ (length v.payload - 6) / 8 ∷ v.payload
-
 abbrev pub flagged_byte : ℕ → Bool → ℕ
 flagged_byte offset more = offset % 32 + cond more 128 0
 
@@ -88,40 +85,46 @@ abbrev pub auth_written : AuthFields → List ℕ
 auth_written v =
     v.next_header ∷ (length v.raw_icv / 4 + 1) ∷ 0 ∷ 0 ∷ (to_be_bytes w32 v.spi ++ (to_be_bytes w32 v.sequence_number ++ v.raw_icv))
 
--- it spells them
-pub raw_written_encodes : (v : RawFields) → 6 ≤ length v.payload → (length v.payload + 2) % 8 ≡ 0 → IsRawEncoding v (raw_written v)
-raw_written_encodes v least whole = record { header = record { least = omega arith; len = omega arith }; fields = refl; reserved = refl }
-
+-- The bits that are packed are those that are unpacked.
 module _ (offset : ℕ) where
   byte_low : (more : Bool) → bit_and (flagged_byte offset more) 0x1f ≡ offset % 32
   byte_low true = omega (arith, low_bits (offset % 32 + 128))
   byte_low false = omega (arith, low_bits (offset % 32 + 0))
 
-  byte_flag : (more : Bool) → not (bit_and (flagged_byte offset more) 0x80 == 0) ≡ more
-  byte_flag true = let e : bit_and (offset % 32 + 128) 0x80 ≡ 128 = omega (arith, high_bit (offset % 32 + 128)) in ap (λ n. not (n == 0)) e
-  byte_flag false = let e : bit_and (offset % 32 + 0) 0x80 ≡ 0 = omega (arith, high_bit (offset % 32 + 0)) in ap (λ n. not (n == 0)) e
+  pub packed_offset : (more : Bool) → offset_bits (offset / 32) (flagged_byte offset more) ≡ offset
+  packed_offset more = ap (λ x. 32 * (offset / 32) + x) (byte_low more) ∙ omega arith
 
-  byte_kept : (more : Bool) → unreserved_bits (flagged_byte offset more) ≡ flagged_byte offset more
-  byte_kept true = omega (arith, kept_bits (offset % 32 + 128) (omega arith))
-  byte_kept false = omega (arith, kept_bits (offset % 32 + 0) (omega arith))
+  pub packed_flag : (more : Bool) → flag_bit (flagged_byte offset more) ≡ more
+  packed_flag true = let e : bit_and (offset % 32 + 128) 0x80 ≡ 128 = omega (arith, high_bit (offset % 32 + 128)) in ap (λ n. not (n == 0)) e
+  packed_flag false = let e : bit_and (offset % 32 + 0) 0x80 ≡ 0 = omega (arith, high_bit (offset % 32 + 0)) in ap (λ n. not (n == 0)) e
 
-pub fragment_written_encodes : (v : FragmentFields) → v.identification < 2 ^ 32 → IsFragmentEncoding v (fragment_written v)
-fragment_written_encodes v small =
-    let o : ℕ = v.fragment_offset in
-    let m : Bool = v.more_fragments in
+  pub packed_reserved : (more : Bool) → unreserved_bits (flagged_byte offset more) ≡ flagged_byte offset more
+  packed_reserved true = omega (arith, kept_bits (offset % 32 + 128) (omega arith))
+  packed_reserved false = omega (arith, kept_bits (offset % 32 + 0) (omega arith))
+
+-- what is written in network byte order is bytes
+be_bytes-are : (n : ℕ) → AreBytes (to_be_bytes w32 n)
+be_bytes-are n = All-from_recursion (λ x. x < 256) (to_be_bytes w32 n) (omega arith, (omega arith, (omega arith, (omega arith, tt))))
+
+-- three bytes before bytes
+three_before : (x1 x2 x3 : ℕ) (rest : List ℕ) → x1 < 256 → x2 < 256 → x3 < 256 → AreBytes rest → AreBytes (x1 ∷ x2 ∷ x3 ∷ rest)
+three_before x1 x2 x3 rest b c d e = All-from_recursion (λ x. x < 256) (x1 ∷ x2 ∷ x3 ∷ rest) (b, (c, (d, recursion_from_All (λ x. x < 256) rest e)))
+
+-- bytes 2 and 3 that have the offset and the flag, and no reserved bit, make the header that says the fields
+pub fragment_encodes : (v : FragmentFields) (high low : ℕ) → offset_bits high low ≡ v.fragment_offset → flag_bit low ≡ v.more_fragments → unreserved_bits low ≡ low
+    → high < 256 → low < 256 → v.identification < 2 ^ 32 → IsFragmentEncoding v (v.next_header ∷ 0 ∷ high ∷ low ∷ to_be_bytes w32 v.identification)
+fragment_encodes v high low offset flag reserved high_byte low_byte small =
     let fields : ℕ → Bool → ℕ → FragmentFields = λ a b i. record { next_header = v.next_header; fragment_offset = a; more_fragments = b; identification = i } in
-    let f : List ℕ = fragment_written v in
+    let id : ℕ = from_be_bytes w32 (to_be_bytes w32 v.identification) in
     record {
       header = record { len = refl };
-      fields =
-          ap (λ a. fields a (more_fragments f) (from_be_bytes w32 (to_be_bytes w32 v.identification))) (ap (λ x. 32 * (o / 32) + x) (byte_low o m) ∙ omega arith)
-          ∙ ap (λ b. fields o b (from_be_bytes w32 (to_be_bytes w32 v.identification))) (byte_flag o m)
-          ∙ ap (λ i. fields o m i) (from_be_bytes-to_be_bytes_4 v.identification small);
-      reserved = ap (λ x. v.next_header ∷ 0 ∷ o / 32 ∷ x ∷ to_be_bytes w32 v.identification) (byte_kept o m);
+      fields = ap (λ a. fields a (flag_bit low) id) offset ∙ ap (λ b. fields v.fragment_offset b id) flag ∙ ap (λ i. fields v.fragment_offset v.more_fragments i) (from_be_bytes-to_be_bytes_4 v.identification small);
+      reserved = ap (λ x. v.next_header ∷ 0 ∷ high ∷ x ∷ to_be_bytes w32 v.identification) reserved;
+      bytes = three_before 0 high low (to_be_bytes w32 v.identification) (omega arith) high_byte low_byte (be_bytes-are v.identification);
     }
 
-pub auth_written_encodes : (v : AuthFields) → length v.raw_icv % 4 ≡ 0 → v.spi < 2 ^ 32 → v.sequence_number < 2 ^ 32 → IsAuthEncoding v (auth_written v)
-auth_written_encodes v whole small small' =
+pub auth_written_encodes : (v : AuthFields) → length v.raw_icv ≤ 1016 → length v.raw_icv % 4 ≡ 0 → v.spi < 2 ^ 32 → v.sequence_number < 2 ^ 32 → IsAuthEncoding v (auth_written v)
+auth_written_encodes v few whole small small' =
     let fields : ℕ → ℕ → AuthFields = λ a b. record { next_header = v.next_header; spi = a; sequence_number = b; raw_icv = v.raw_icv } in
     record {
       header = record { not_zero = omega arith; len = omega arith };
@@ -129,15 +132,19 @@ auth_written_encodes v whole small small' =
           ap (λ a. fields a (from_be_bytes w32 (to_be_bytes w32 v.sequence_number))) (from_be_bytes-to_be_bytes_4 v.spi small)
           ∙ ap (λ b. fields v.spi b) (from_be_bytes-to_be_bytes_4 v.sequence_number small');
       reserved = refl;
+      bytes =
+          three_before (length v.raw_icv / 4 + 1) 0 0 (to_be_bytes w32 v.spi ++ to_be_bytes w32 v.sequence_number)
+          (omega (arith, few)) (omega arith) (omega arith)
+          (All-append (λ x. x < 256) (to_be_bytes w32 v.spi) (to_be_bytes w32 v.sequence_number) (be_bytes-are v.spi) (be_bytes-are v.sequence_number));
     }
 
 -- and nothing else does
-fragment_only_parts : (v : FragmentFields) (x0 x1 x2 x3 : ℕ) (rest : List ℕ) → AreBytes (x0 ∷ x1 ∷ x2 ∷ x3 ∷ rest)
+fragment_only_parts : (v : FragmentFields) (x0 x1 x2 x3 : ℕ) (rest : List ℕ) → AreBytes (x1 ∷ x2 ∷ x3 ∷ take 4 rest)
     → IsFragmentEncoding v (x0 ∷ x1 ∷ x2 ∷ x3 ∷ rest) → x0 ∷ x1 ∷ x2 ∷ x3 ∷ rest ≡ fragment_written v
 fragment_only_parts v x0 x1 x2 x3 rest bytes h =
     let b : List ℕ = x0 ∷ x1 ∷ x2 ∷ x3 ∷ rest in
     let four : length rest ≡ 4 = omega (arith, h.header.len) in
-    let small : x3 < 256 = byte_at b bytes 3 in
+    let small : x3 < 256 = byte_at (x1 ∷ x2 ∷ x3 ∷ take 4 rest) bytes 2 in
     let whole : take 4 rest ≡ rest = take_all 4 rest (omega arith) in
     let number : x0 ≡ v.next_header = ap (λ (w : FragmentFields). w.next_header) h.fields in
     let offset : 32 * x2 + bit_and x3 0x1f ≡ v.fragment_offset = ap (λ (w : FragmentFields). w.fragment_offset) h.fields in
@@ -149,23 +156,23 @@ fragment_only_parts v x0 x1 x2 x3 rest bytes h =
     let third : x3 ≡ flagged_byte v.fragment_offset v.more_fragments =
     rw (← more) (omega (arith, offset, low_bits x3, kept, kept_bits x3 small, flagged x3 small)) in
     let id : to_be_bytes w32 v.identification ≡ rest =
-    be_bytes_4 rest v.identification four (λ i. byte_at rest (All-drop (λ x. x < 256) 4 b bytes) i) (sym same_id ∙ ap (from_be_bytes w32) whole) in
+    be_bytes_4 rest v.identification four (λ i. byte_at rest (subst AreBytes whole (All-drop (λ x. x < 256) 3 (x1 ∷ x2 ∷ x3 ∷ take 4 rest) bytes)) i) (sym same_id ∙ ap (from_be_bytes w32) whole) in
     let written : ℕ → ℕ → ℕ → ℕ → List ℕ → List ℕ = λ a c d e f. a ∷ c ∷ d ∷ e ∷ f in
     ap (λ a. written a x1 x2 x3 rest) number ∙ ap (λ c. written v.next_header c x2 x3 rest) zero_byte
     ∙ ap (λ d. written v.next_header 0 d x3 rest) second ∙ ap (λ e. written v.next_header 0 (v.fragment_offset / 32) e rest) third
     ∙ ap (λ f. written v.next_header 0 (v.fragment_offset / 32) (flagged_byte v.fragment_offset v.more_fragments) f) (sym id)
 
-pub fragment_only : (v : FragmentFields) (b : List ℕ) → AreBytes b → IsFragmentEncoding v b → b ≡ fragment_written v
-fragment_only v b bytes h =
+pub fragment_only : (v : FragmentFields) (b : List ℕ) → IsFragmentEncoding v b → b ≡ fragment_written v
+fragment_only v b h =
     let f : FirstFour b = first_four b (omega (arith, h.header.len)) in
-    let P : List ℕ → Type 0 = λ l. AreBytes l → IsFragmentEncoding v l → l ≡ fragment_written v in
-    subst P f.joined (fragment_only_parts v f.x0 f.x1 f.x2 f.x3 f.rest) bytes h
+    let P : List ℕ → Type 0 = λ l. AreBytes (slice_range l 1 8) → IsFragmentEncoding v l → l ≡ fragment_written v in
+    subst P f.joined (fragment_only_parts v f.x0 f.x1 f.x2 f.x3 f.rest) h.bytes h
 
 module _ (v : AuthFields) (x0 x1 x2 x3 y0 y1 y2 y3 z0 z1 z2 z3 : ℕ) (rest : List ℕ) where
   abbrev twelve : List ℕ
   twelve = x0 ∷ x1 ∷ x2 ∷ x3 ∷ y0 ∷ y1 ∷ y2 ∷ y3 ∷ z0 ∷ z1 ∷ z2 ∷ z3 ∷ rest
 
-  auth_only_parts : AreBytes twelve → IsAuthEncoding v twelve → twelve ≡ auth_written v
+  auth_only_parts : AreBytes (slice_range twelve 1 12) → IsAuthEncoding v twelve → twelve ≡ auth_written v
   auth_only_parts bytes h =
       let ys : List ℕ = y0 ∷ y1 ∷ y2 ∷ y3 ∷ [] in
       let zs : List ℕ = z0 ∷ z1 ∷ z2 ∷ z3 ∷ [] in
@@ -175,9 +182,9 @@ module _ (v : AuthFields) (x0 x1 x2 x3 y0 y1 y2 y3 z0 z1 z2 z3 : ℕ) (rest : Li
       let zero_two : x2 ≡ 0 = ap (λ l. get_or l 2 0) (sym h.reserved) in
       let zero_three : x3 ≡ 0 = ap (λ l. get_or l 3 0) (sym h.reserved) in
       let index : to_be_bytes w32 v.spi ≡ ys =
-      be_bytes_4 ys v.spi refl (λ i. byte_at ys (All-take (λ x. x < 256) 4 (drop 4 twelve) (All-drop (λ x. x < 256) 4 twelve bytes)) i) (sym (ap (λ (w : AuthFields). w.spi) h.fields)) in
+      be_bytes_4 ys v.spi refl (λ i. byte_at ys (All-take (λ x. x < 256) 4 (drop 3 (slice_range twelve 1 12)) (All-drop (λ x. x < 256) 3 (slice_range twelve 1 12) bytes)) i) (sym (ap (λ (w : AuthFields). w.spi) h.fields)) in
       let sequence : to_be_bytes w32 v.sequence_number ≡ zs =
-      be_bytes_4 zs v.sequence_number refl (λ i. byte_at zs (All-take (λ x. x < 256) 4 (drop 8 twelve) (All-drop (λ x. x < 256) 8 twelve bytes)) i) (sym (ap (λ (w : AuthFields). w.sequence_number) h.fields)) in
+      be_bytes_4 zs v.sequence_number refl (λ i. byte_at zs (All-take (λ x. x < 256) 4 (drop 7 (slice_range twelve 1 12)) (All-drop (λ x. x < 256) 7 (slice_range twelve 1 12) bytes)) i) (sym (ap (λ (w : AuthFields). w.sequence_number) h.fields)) in
       let written : ℕ → ℕ → ℕ → ℕ → List ℕ → List ℕ → List ℕ → List ℕ = λ a c d e s q i. a ∷ c ∷ d ∷ e ∷ (s ++ (q ++ i)) in
       ap (λ a. written a x1 x2 x3 ys zs rest) number ∙ ap (λ a. written v.next_header a x2 x3 ys zs rest) len
       ∙ ap (λ a. written v.next_header (length v.raw_icv / 4 + 1) a x3 ys zs rest) zero_two
@@ -186,41 +193,72 @@ module _ (v : AuthFields) (x0 x1 x2 x3 y0 y1 y2 y3 z0 z1 z2 z3 : ℕ) (rest : Li
       ∙ ap (λ s. written v.next_header (length v.raw_icv / 4 + 1) 0 0 (to_be_bytes w32 v.spi) s rest) (sym sequence)
       ∙ ap (λ s. written v.next_header (length v.raw_icv / 4 + 1) 0 0 (to_be_bytes w32 v.spi) (to_be_bytes w32 v.sequence_number) s) icv
 
-pub auth_only : (v : AuthFields) (b : List ℕ) → AreBytes b → IsAuthEncoding v b → b ≡ auth_written v
-auth_only v b bytes h =
+pub auth_only : (v : AuthFields) (b : List ℕ) → IsAuthEncoding v b → b ≡ auth_written v
+auth_only v b h =
     let f : FirstFour b = first_four b (omega (arith, h.header.len, h.header.not_zero)) in
     let g : FirstFour f.rest = first_four f.rest (omega (arith, h.header.len, h.header.not_zero, ap length f.joined)) in
     let k : FirstFour g.rest = first_four g.rest (omega (arith, h.header.len, h.header.not_zero, ap length f.joined, ap length g.joined)) in
     let e : twelve v f.x0 f.x1 f.x2 f.x3 g.x0 g.x1 g.x2 g.x3 k.x0 k.x1 k.x2 k.x3 k.rest ≡ b =
     ap (λ l. f.x0 ∷ f.x1 ∷ f.x2 ∷ f.x3 ∷ l) (ap (λ l. g.x0 ∷ g.x1 ∷ g.x2 ∷ g.x3 ∷ l) k.joined ∙ g.joined) ∙ f.joined in
-    let P : List ℕ → Type 0 = λ l. AreBytes l → IsAuthEncoding v l → l ≡ auth_written v in
-    subst P e (auth_only_parts v f.x0 f.x1 f.x2 f.x3 g.x0 g.x1 g.x2 g.x3 k.x0 k.x1 k.x2 k.x3 k.rest) bytes h
+    let P : List ℕ → Type 0 = λ l. AreBytes (slice_range l 1 12) → IsAuthEncoding v l → l ≡ auth_written v in
+    subst P e (auth_only_parts v f.x0 f.x1 f.x2 f.x3 g.x0 g.x1 g.x2 g.x3 k.x0 k.x1 k.x2 k.x3 k.rest) h.bytes h
 
--- A header that is cleared says what it said.
-cleared_fragment_parts : (x0 x1 x2 x3 : ℕ) (rest : List ℕ) → length rest ≡ 4
-    → IsFragmentEncoding (fragment_fields (x0 ∷ x1 ∷ x2 ∷ x3 ∷ rest)) (cleared_fragment (x0 ∷ x1 ∷ x2 ∷ x3 ∷ rest))
-cleared_fragment_parts x0 x1 x2 x3 rest four =
-    let fields : ℕ → Bool → FragmentFields = λ a m. record { next_header = x0; fragment_offset = a; more_fragments = m; identification = from_be_bytes w32 (take 4 rest) } in
-    record {
-      header = record { len = omega arith };
-      fields =
-          ap (λ y. fields (32 * x2 + y) (not (bit_and (bit_and x3 0x9f) 0x80 == 0))) (and_assoc 0x1f x3 0x9f)
-          ∙ ap (λ y. fields (32 * x2 + bit_and x3 0x1f) (not (y == 0))) (and_assoc 0x80 x3 0x9f);
-      reserved = ap (λ y. x0 ∷ 0 ∷ x2 ∷ y ∷ rest) (and_assoc 0x9f x3 0x9f);
-    }
+-- A header that is cleared says what it said, and clearing it again changes nothing.
+abbrev SaysTheSame : {V : Type 0} → (List ℕ → Type 0) → (List ℕ → V) → (List ℕ → List ℕ) → List ℕ → Type 0
+SaysTheSame IsOne fields_of cleared b = IsOne (cleared b) × (fields_of (cleared b) ≡ fields_of b) × (cleared (cleared b) ≡ cleared b)
 
-pub cleared_fragment_encodes : (b : List ℕ) → IsFragmentHeader b → IsFragmentEncoding (fragment_fields b) (cleared_fragment b)
-cleared_fragment_encodes b h =
+-- cleared numbers that were bytes are
+cleared_byte : (x : ℕ) → x < 256 → bit_and x 0x9f < 256
+cleared_byte x small = omega (arith, kept_bits x small)
+
+module _ (x0 x1 x2 x3 : ℕ) (rest : List ℕ) where
+  abbrev four_and : List ℕ
+  four_and = x0 ∷ x1 ∷ x2 ∷ x3 ∷ rest
+
+  cleared_fragment_parts : length rest ≡ 4 → SaysTheSame IsFragmentHeader fragment_fields cleared_fragment four_and
+  cleared_fragment_parts four =
+      let fields : ℕ → Bool → FragmentFields = λ a m. record { next_header = x0; fragment_offset = a; more_fragments = m; identification = from_be_bytes w32 (take 4 rest) } in (
+        record { len = omega arith },
+        ap (λ y. fields (32 * x2 + y) (not (bit_and (bit_and x3 0x9f) 0x80 == 0))) (and_assoc 0x1f x3 0x9f)
+            ∙ ap (λ y. fields (32 * x2 + bit_and x3 0x1f) (not (y == 0))) (and_assoc 0x80 x3 0x9f),
+        ap (λ y. x0 ∷ 0 ∷ x2 ∷ y ∷ rest) (and_assoc 0x9f x3 0x9f),
+      )
+
+  cleared_fragment_bytes : AreBytes (slice_range four_and 1 8) → AreBytes (slice_range (cleared_fragment four_and) 1 8)
+  cleared_fragment_bytes bytes =
+      three_before 0 x2 (bit_and x3 0x9f) (take 4 rest) (omega arith) (byte_at (slice_range four_and 1 8) bytes 1)
+      (cleared_byte x3 (byte_at (slice_range four_and 1 8) bytes 2)) (All-drop (λ x. x < 256) 3 (slice_range four_and 1 8) bytes)
+
+  cleared_auth_parts : IsAuthHeader four_and → SaysTheSame IsAuthHeader auth_fields cleared_auth four_and
+  cleared_auth_parts h = (record { not_zero = h.not_zero; len = h.len }, refl, refl)
+
+  cleared_auth_bytes : AreBytes (slice_range four_and 1 12) → AreBytes (slice_range (cleared_auth four_and) 1 12)
+  cleared_auth_bytes bytes =
+      three_before x1 0 0 (take 8 rest) (byte_at (slice_range four_and 1 12) bytes 0) (omega arith) (omega arith)
+      (All-drop (λ x. x < 256) 3 (slice_range four_and 1 12) bytes)
+
+pub cleared_fragment_same : (b : List ℕ) → IsFragmentHeader b → SaysTheSame IsFragmentHeader fragment_fields cleared_fragment b
+cleared_fragment_same b h =
     let f : FirstFour b = first_four b (omega (arith, h.len)) in
-    let P : List ℕ → Type 0 = λ l. IsFragmentEncoding (fragment_fields l) (cleared_fragment l) in
+    let P : List ℕ → Type 0 = SaysTheSame IsFragmentHeader fragment_fields cleared_fragment in
     subst P f.joined (cleared_fragment_parts f.x0 f.x1 f.x2 f.x3 f.rest (omega (arith, h.len, ap length f.joined)))
 
-cleared_auth_parts : (x0 x1 x2 x3 : ℕ) (rest : List ℕ) → IsAuthHeader (x0 ∷ x1 ∷ x2 ∷ x3 ∷ rest)
-    → IsAuthEncoding (auth_fields (x0 ∷ x1 ∷ x2 ∷ x3 ∷ rest)) (cleared_auth (x0 ∷ x1 ∷ x2 ∷ x3 ∷ rest))
-cleared_auth_parts x0 x1 x2 x3 rest h = record { header = record { not_zero = h.not_zero; len = h.len }; fields = refl; reserved = refl }
-
-pub cleared_auth_encodes : (b : List ℕ) → IsAuthHeader b → IsAuthEncoding (auth_fields b) (cleared_auth b)
-cleared_auth_encodes b h =
+pub cleared_auth_same : (b : List ℕ) → IsAuthHeader b → SaysTheSame IsAuthHeader auth_fields cleared_auth b
+cleared_auth_same b h =
     let f : FirstFour b = first_four b (omega (arith, h.len, h.not_zero)) in
-    let P : List ℕ → Type 0 = λ l. IsAuthHeader l → IsAuthEncoding (auth_fields l) (cleared_auth l) in
+    let P : List ℕ → Type 0 = λ l. IsAuthHeader l → SaysTheSame IsAuthHeader auth_fields cleared_auth l in
     subst P f.joined (cleared_auth_parts f.x0 f.x1 f.x2 f.x3 f.rest) h
+
+pub cleared_fragment_encodes : (b : List ℕ) → IsFragmentHeader b → AreBytes (slice_range b 1 8) → IsFragmentEncoding (fragment_fields b) (cleared_fragment b)
+cleared_fragment_encodes b h bytes =
+    let f : FirstFour b = first_four b (omega (arith, h.len)) in
+    let P : List ℕ → Type 0 = λ l. AreBytes (slice_range l 1 8) → AreBytes (slice_range (cleared_fragment l) 1 8) in
+    let same = cleared_fragment_same b h in
+    record { header = same.0; fields = same.1; reserved = same.2; bytes = subst P f.joined (cleared_fragment_bytes f.x0 f.x1 f.x2 f.x3 f.rest) bytes }
+
+pub cleared_auth_encodes : (b : List ℕ) → IsAuthHeader b → AreBytes (slice_range b 1 12) → IsAuthEncoding (auth_fields b) (cleared_auth b)
+cleared_auth_encodes b h bytes =
+    let f : FirstFour b = first_four b (omega (arith, h.len, h.not_zero)) in
+    let P : List ℕ → Type 0 = λ l. AreBytes (slice_range l 1 12) → AreBytes (slice_range (cleared_auth l) 1 12) in
+    let same = cleared_auth_same b h in
+    record { header = same.0; fields = same.1; reserved = same.2; bytes = subst P f.joined (cleared_auth_bytes f.x0 f.x1 f.x2 f.x3 f.rest) bytes }

@@ -2,6 +2,7 @@
 use Rattle.std.specs.Prelude.{◌≡◌, ◌≢◌, ℕ, List, [], ◌∷◌, drop, ⊤, Bool, true, false, IsTrue, ◌==◌, ◌&&◌}
 use Rattle.std.specs.List.{flat_map, AllByRecursion, list_any}
 use Rattle.ip_spec.specs.Prefix.{IsPrefix}
+use Rattle.ip_spec.specs.Numbers.{HOP_BY_HOP, FRAGMENT}
 use Rattle.ip_spec.specs.LongestOf.{IsLongestOf}
 use Rattle.ip_spec.specs.Header.{IsHeader}
 use Rattle.ip_spec.specs.Fields.{next_header, is_fragmenting}
@@ -20,7 +21,7 @@ AreLinked n (h ∷ c) = (h.number ≡ n) × AreLinked (next_header h.bytes) c
 pub record IsChain (n : ℕ) (c : List ExtHeader) : Type 0 where
   pub headers : AllByRecursion (λ h. IsHeader h.number h.bytes) c
   pub links : AreLinked n c
-  pub zero_only_first : AllByRecursion (λ h. h.number ≢ 0) (drop 1 c)
+  pub zero_only_first : AllByRecursion (λ h. h.number ≢ HOP_BY_HOP) (drop 1 c)
 
 -- byte 0 of the last header, or n where there is none
 abbrev pub leads_to : ℕ → List ExtHeader → ℕ
@@ -38,7 +39,7 @@ is_empty (h ∷ c) = false
 
 -- some fragment header fragments the payload
 abbrev pub has_fragmenting : List ExtHeader → Bool
-has_fragmenting c = list_any (λ h. (h.number == 44) && is_fragmenting h.bytes) c
+has_fragmenting c = list_any (λ h. (h.number == FRAGMENT) && is_fragmenting h.bytes) c
 
 -- c is a chain from n whose bytes begin s
 pub record IsPrefixChain (n : ℕ) (s : List ℕ) (c : List ExtHeader) : Type 0 where
@@ -55,7 +56,7 @@ pub record IsNext (first : Bool) (m : ℕ) (r : List ℕ) (h : ExtHeader) : Type
   pub number : h.number ≡ m
   pub header : IsHeader m h.bytes
   pub prefix : IsPrefix h.bytes r
-  pub zero_only_first : m ≡ 0 → IsTrue first
+  pub zero_only_first : m ≡ HOP_BY_HOP → IsTrue first
 
 -- no header goes on
 abbrev pub IsEnd : Bool → ℕ → List ℕ → Type 0

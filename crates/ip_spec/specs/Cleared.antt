@@ -1,6 +1,7 @@
 -- Headers with their reserved bits put to zero. The number of what follows and the length stay.
 use Rattle.std.specs.Prelude.{ℕ, List, slice_set, slice_index, ◌==◌, if◌then◌else◌}
 use Rattle.ip_spec.specs.Fields.{unreserved_bits}
+use Rattle.ip_spec.specs.Numbers.{FRAGMENT, AUTHENTICATION}
 
 -- hop by hop options, routing and destination options have none
 abbrev pub cleared_raw : List ℕ → List ℕ
@@ -16,4 +17,4 @@ cleared_auth b = slice_set (slice_set b 2 0) 3 0
 
 -- of a header of number n
 abbrev pub cleared_header : ℕ → List ℕ → List ℕ
-cleared_header n b = if n == 44 then cleared_fragment b else if n == 51 then cleared_auth b else b
+cleared_header n b = if n == FRAGMENT then cleared_fragment b else if n == AUTHENTICATION then cleared_auth b else b

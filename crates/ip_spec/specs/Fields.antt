@@ -10,23 +10,31 @@ next_header b = slice_index b 0
 abbrev pub raw_payload : List ℕ → List ℕ
 raw_payload b = drop 2 b
 
--- of a fragment header: byte 2 above the 5 low bits of byte 3, a count of units of 8 bytes
-abbrev pub fragment_offset : List ℕ → ℕ
-fragment_offset b = 32 * slice_index b 2 + bit_and (slice_index b 3) 0x1f
+-- The bits of bytes 2 and 3 of a fragment header: the offset is byte 2 above the 5 low bits of byte 3,
+abbrev pub offset_bits : ℕ → ℕ → ℕ
+offset_bits high low = 32 * high + bit_and low 0x1f
 
--- more fragments follow: the high bit of byte 3
-abbrev pub more_fragments : List ℕ → Bool
-more_fragments b = not (bit_and (slice_index b 3) 0x80 == 0)
+-- the flag is the high bit of byte 3,
+abbrev pub flag_bit : ℕ → Bool
+flag_bit low = not (bit_and low 0x80 == 0)
 
--- byte 3 with its reserved bits put to zero
+-- and this is byte 3 with its reserved bits put to zero.
 abbrev pub unreserved_bits : ℕ → ℕ
-unreserved_bits x = bit_and x 0x9f
+unreserved_bits low = bit_and low 0x9f
+
+-- where the fragment lies in the payload, in units of 8 bytes
+abbrev pub fragment_offset : List ℕ → ℕ
+fragment_offset b = offset_bits (slice_index b 2) (slice_index b 3)
+
+-- more fragments follow
+abbrev pub more_fragments : List ℕ → Bool
+more_fragments b = flag_bit (slice_index b 3)
 
 -- the packet's identification (RFC 8200, section 4.5)
 abbrev pub identification : List ℕ → ℕ
 identification b = from_be_bytes w32 (slice_range b 4 8)
 
--- The packet has a piece of a payload, and not the whole: more follow, or it doesn't begin the payload.
+-- The packet has a fragment of a payload, and not the whole: more follow, or it doesn't begin the payload.
 abbrev pub is_fragment : Bool → ℕ → Bool
 is_fragment more offset = more || not (offset == 0)
 

@@ -1,5 +1,6 @@
 -- What bytes are one extension header (RFC 8200, section 4; RFC 4302, section 2).
 use Rattle.std.specs.Prelude.{◌≡◌, ℕ, ◌+◌, ◌*◌, ◌≤◌, List, length, slice_index, ◌⊎◌}
+use Rattle.ip_spec.specs.Numbers.{HOP_BY_HOP, ROUTING, FRAGMENT, AUTHENTICATION, DESTINATION_OPTIONS}
 
 -- Hop by hop options, routing, destination options (RFC 8200, sections 4.3, 4.4, 4.6): byte 1 counts the
 -- units of 8 bytes after the first unit.
@@ -17,16 +18,16 @@ pub record IsAuthHeader (b : List ℕ) : Type 0 where
   pub not_zero : 1 ≤ slice_index b 1
   pub len : length b ≡ 4 * (slice_index b 1 + 2)
 
--- the numbers of the three headers of one layout: hop by hop options 0, routing 43, destination options 60
+-- the numbers of the three headers of one layout
 abbrev pub IsRawNumber : ℕ → Type 0
-IsRawNumber n = (n ≡ 0) ⊎ ((n ≡ 43) ⊎ (n ≡ 60))
+IsRawNumber n = (n ≡ HOP_BY_HOP) ⊎ ((n ≡ ROUTING) ⊎ (n ≡ DESTINATION_OPTIONS))
 
--- those, fragment 44 and authentication 51
+-- those, and of fragment and authentication headers
 abbrev pub IsExtensionNumber : ℕ → Type 0
-IsExtensionNumber n = IsRawNumber n ⊎ ((n ≡ 44) ⊎ (n ≡ 51))
+IsExtensionNumber n = IsRawNumber n ⊎ ((n ≡ FRAGMENT) ⊎ (n ≡ AUTHENTICATION))
 
 -- bytes b are a header of number n
 pub data IsHeader (n : ℕ) (b : List ℕ) : Type 0 where
   raw : IsRawNumber n → IsRawHeader b → IsHeader n b
-  fragment : n ≡ 44 → IsFragmentHeader b → IsHeader n b
-  auth : n ≡ 51 → IsAuthHeader b → IsHeader n b
+  fragment : n ≡ FRAGMENT → IsFragmentHeader b → IsHeader n b
+  auth : n ≡ AUTHENTICATION → IsAuthHeader b → IsHeader n b

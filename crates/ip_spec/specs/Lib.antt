@@ -1,4 +1,6 @@
 pub mod Prefix
+pub mod Numbers
+pub mod Lengths
 pub mod LongestOf
 pub mod Header
 pub mod Fields

@@ -4,7 +4,8 @@ ghost use Rattle.ip_spec.specs.Chain.{ExtHeader, IsLongestChain, leads_to, bytes
 /// From each number, exactly one longest chain begins all bytes.
 pub fn one_longest_chain()
     ensures some { (n : ℕ) (s : List ℕ) → (c : List ExtHeader) × IsLongestChain n s c }
-    ensures only { (n : ℕ) (s : List ℕ) (c d : List ExtHeader) → IsLongestChain n s c → IsLongestChain n s d → c ≡ d }
+    ensures only { (n : ℕ) (s : List ℕ) (c d : List ExtHeader) → IsLongestChain n s c
+        → IsLongestChain n s d → c ≡ d }
 {}
 
 /// Where a longest chain ends, no header goes on.

@@ -8,28 +8,35 @@ ghost use Rattle.ip_spec.specs.Fits.{NumbersFit, FitsPlaces, IsTaken, in_place};
 pub fn one_longest_chain_under_a_demand()
     ensures some { (q : List ExtHeader → Bool) → IsDemand (Passes q) → (n : ℕ) (s : List ℕ)
         → (c : List ExtHeader) × IsLongestUnder (Passes q) n s c }
-    ensures only { (q : List ExtHeader → Bool) → IsDemand (Passes q) → (n : ℕ) (s : List ℕ) (c d : List ExtHeader)
+    ensures only { (q : List ExtHeader → Bool) → IsDemand (Passes q)
+        → (n : ℕ) (s : List ℕ) (c d : List ExtHeader)
         → IsLongestUnder (Passes q) n s c → IsLongestUnder (Passes q) n s d → c ≡ d }
 {}
 
 /// Of the longest chain, a demand keeps the longest chain under it, and nothing else.
 pub fn demand_keeps_its_longest_chain()
-    ensures longest { (q : List ExtHeader → Bool) → IsDemand (Passes q) → (n : ℕ) (s : List ℕ) (d c : List ExtHeader)
+    ensures longest { (q : List ExtHeader → Bool) → IsDemand (Passes q)
+        → (n : ℕ) (s : List ℕ) (d c : List ExtHeader)
         → IsLongestChain n s d → IsLongestUnder (Passes q) n s c → Keeps (Passes q) d c }
-    ensures only { (q : List ExtHeader → Bool) → IsDemand (Passes q) → (n : ℕ) (s : List ℕ) (d c : List ExtHeader)
+    ensures only { (q : List ExtHeader → Bool) → IsDemand (Passes q)
+        → (n : ℕ) (s : List ℕ) (d c : List ExtHeader)
         → IsLongestChain n s d → Keeps (Passes q) d c → IsLongestUnder (Passes q) n s c }
 {}
 
 /// Where a longest chain under a demand ends, no header goes on with which the demand is still met.
 pub fn longest_chain_under_a_demand_ends()
-    ensures { (q : List ExtHeader → Bool) → IsDemand (Passes q) → (n : ℕ) (s : List ℕ) (c : List ExtHeader)
-        → IsLongestUnder (Passes q) n s c → IsEndUnder (Passes q) c (leads_to n c) (drop (length (bytes_of c)) s) }
+    ensures { (q : List ExtHeader → Bool) → IsDemand (Passes q)
+        → (n : ℕ) (s : List ℕ) (c : List ExtHeader)
+        → IsLongestUnder (Passes q) n s c
+        → IsEndUnder (Passes q) c (leads_to n c) (drop (length (bytes_of c)) s) }
 {}
 
 /// Of bytes that are cut short, the longest chain is the headers of the whole's longest that lie within them.
 pub fn shorter_bytes_keep_whole_headers()
-    ensures { (q : List ExtHeader → Bool) → IsDemand (Passes q) → (n j : ℕ) (s : List ℕ) (d c : List ExtHeader)
-        → IsLongestUnder (Passes q) n s d → IsLongestUnder (Passes q) n (take j s) c → Keeps (IsWithin j) d c }
+    ensures { (q : List ExtHeader → Bool) → IsDemand (Passes q)
+        → (n j : ℕ) (s : List ℕ) (d c : List ExtHeader)
+        → IsLongestUnder (Passes q) n s d → IsLongestUnder (Passes q) n (take j s) c
+        → Keeps (IsWithin j) d c }
 {}
 
 /// Four demands.
@@ -42,8 +49,10 @@ pub fn demands()
 
 /// Under no demand it is the longest chain, and under that of at most k headers the first k of it.
 pub fn longest_chains_under_demands()
-    ensures none { (n : ℕ) (s : List ℕ) (c : List ExtHeader) → IsLongestUnder NoDemand n s c ↔ IsLongestChain n s c }
-    ensures at_most { (k n : ℕ) (s : List ℕ) (d : List ExtHeader) → IsLongestChain n s d → IsLongestUnder (AtMost k) n s (take k d) }
+    ensures none { (n : ℕ) (s : List ℕ) (c : List ExtHeader) → IsLongestUnder NoDemand n s c
+        ↔ IsLongestChain n s c }
+    ensures at_most { (k n : ℕ) (s : List ℕ) (d : List ExtHeader) → IsLongestChain n s d
+        → IsLongestUnder (AtMost k) n s (take k d) }
 {}
 
 /// In six places, exactly one longest chain fits.
@@ -58,11 +67,13 @@ pub fn one_longest_fitting_chain()
 /// Behind the longest chain that fits six places no header goes on, unless the place of the number there is
 /// taken.
 pub fn fitting_chain_ends()
-    ensures { (n : ℕ) (s : List ℕ) (c : List ExtHeader) → IsLongestUnder FitsPlaces n s c → (IsTaken (leads_to n c) c → ⊥)
+    ensures { (n : ℕ) (s : List ℕ) (c : List ExtHeader) → IsLongestUnder FitsPlaces n s c
+        → (IsTaken (leads_to n c) c → ⊥)
         → IsEnd (is_empty c) (leads_to n c) (drop (length (bytes_of c)) s) }
 {}
 
 /// An extension number fits behind numbers that fit exactly where none of them stands in its place.
 pub fn next_number_fits()
-    ensures { (m : ℕ) (ns : List ℕ) → IsExtensionNumber m → NumbersFit ns → NumbersFit (ns ++ m ∷ []) ↔ (in_place m ns ≡ 0) }
+    ensures { (m : ℕ) (ns : List ℕ) → IsExtensionNumber m → NumbersFit ns
+        → NumbersFit (ns ++ m ∷ []) ↔ (in_place m ns ≡ 0) }
 {}

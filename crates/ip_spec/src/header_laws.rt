@@ -1,4 +1,4 @@
-ghost use Rattle.std.specs.Prelude.{◌≡◌, ℕ, List, length};
+ghost use Rattle.std.specs.Prelude.{◌≡◌, ℕ, List, length, slice_range};
 ghost use Rattle.ip_spec.specs.Header.{IsRawHeader, IsFragmentHeader, IsAuthHeader};
 ghost use Rattle.ip_spec.specs.FieldsOf.{RawFields, FragmentFields, AuthFields, raw_fields, fragment_fields, auth_fields, raw_len, auth_len};
 ghost use Rattle.ip_spec.specs.Cleared.{cleared_fragment, cleared_auth};
@@ -7,24 +7,42 @@ ghost use Rattle.ip_spec.specs.Decoding.{IsRawDecoding, IsFragmentDecoding, IsAu
 
 /// Bytes begin with at most one header of a layout: its fields and the rest behind it are determined.
 pub fn one_decoding()
-    ensures raw { (s : List ℕ) (v w : RawFields) (r q : List ℕ) → IsRawDecoding s v r → IsRawDecoding s w q → (v ≡ w) × (r ≡ q) }
-    ensures fragment { (s : List ℕ) (v w : FragmentFields) (r q : List ℕ) → IsFragmentDecoding s v r → IsFragmentDecoding s w q → (v ≡ w) × (r ≡ q) }
-    ensures auth { (s : List ℕ) (v w : AuthFields) (r q : List ℕ) → IsAuthDecoding s v r → IsAuthDecoding s w q → (v ≡ w) × (r ≡ q) }
+    ensures raw { (s : List ℕ) (v w : RawFields) (r q : List ℕ)
+        → IsRawDecoding s v r → IsRawDecoding s w q → (v ≡ w) × (r ≡ q) }
+    ensures fragment { (s : List ℕ) (v w : FragmentFields) (r q : List ℕ)
+        → IsFragmentDecoding s v r → IsFragmentDecoding s w q → (v ≡ w) × (r ≡ q) }
+    ensures auth { (s : List ℕ) (v w : AuthFields) (r q : List ℕ)
+        → IsAuthDecoding s v r → IsAuthDecoding s w q → (v ≡ w) × (r ≡ q) }
 {}
 
 /// Fields have at most one encoding.
 pub fn one_encoding()
     ensures raw { (v : RawFields) (b d : List ℕ) → IsRawEncoding v b → IsRawEncoding v d → b ≡ d }
-    ensures fragment { (v : FragmentFields) (b d : List ℕ) → AreBytes b → AreBytes d
+    ensures fragment { (v : FragmentFields) (b d : List ℕ)
         → IsFragmentEncoding v b → IsFragmentEncoding v d → b ≡ d }
-    ensures auth { (v : AuthFields) (b d : List ℕ) → AreBytes b → AreBytes d → IsAuthEncoding v b → IsAuthEncoding v d → b ≡ d }
+    ensures auth { (v : AuthFields) (b d : List ℕ) → IsAuthEncoding v b
+        → IsAuthEncoding v d → b ≡ d }
 {}
 
-/// A header put to zero in its reserved bits spells the header's fields.
+/// A header whose reserved bits are put to zero is a header with the same fields, and putting them to zero
+/// again changes nothing. A header of the common layout has no reserved bits.
+pub fn cleared_header_says_the_same()
+    ensures fragment { (b : List ℕ) → IsFragmentHeader b → IsFragmentHeader (cleared_fragment b)
+        × (fragment_fields (cleared_fragment b) ≡ fragment_fields b)
+        × (cleared_fragment (cleared_fragment b) ≡ cleared_fragment b) }
+    ensures auth { (b : List ℕ) → IsAuthHeader b → IsAuthHeader (cleared_auth b)
+        × (auth_fields (cleared_auth b) ≡ auth_fields b)
+        × (cleared_auth (cleared_auth b) ≡ cleared_auth b) }
+{}
+
+/// So it encodes them, where its numbers are bytes.
 pub fn cleared_header_encodes()
-    ensures raw { (b : List ℕ) → IsRawHeader b → IsRawEncoding (raw_fields b) b }
-    ensures fragment { (b : List ℕ) → IsFragmentHeader b → IsFragmentEncoding (fragment_fields b) (cleared_fragment b) }
-    ensures auth { (b : List ℕ) → IsAuthHeader b → IsAuthEncoding (auth_fields b) (cleared_auth b) }
+    ensures raw { (b : List ℕ) → IsRawHeader b → AreBytes (slice_range b 1 2)
+        → IsRawEncoding (raw_fields b) b }
+    ensures fragment { (b : List ℕ) → IsFragmentHeader b → AreBytes (slice_range b 1 8)
+        → IsFragmentEncoding (fragment_fields b) (cleared_fragment b) }
+    ensures auth { (b : List ℕ) → IsAuthHeader b → AreBytes (slice_range b 1 12)
+        → IsAuthEncoding (auth_fields b) (cleared_auth b) }
 {}
 
 /// The fields tell the length.

@@ -13,5 +13,7 @@ pub use demand_laws::{
     longest_chains_under_demands, next_number_fits, one_longest_chain_under_a_demand,
     one_longest_fitting_chain, shorter_bytes_keep_whole_headers,
 };
-pub use header_laws::{cleared_header_encodes, encoding_len, one_decoding, one_encoding};
+pub use header_laws::{
+    cleared_header_encodes, cleared_header_says_the_same, encoding_len, one_decoding, one_encoding,
+};
 pub use plain::{PlainChain, PlainHeader, is_header, next_len, plain_longest_chain};

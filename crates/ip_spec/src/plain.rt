@@ -31,7 +31,8 @@ pub fn is_header(number: u8, bytes: &[u8]) -> bool
 /// before it.
 pub fn next_len(first: bool, number: u8, bytes: &[u8]) -> Option<usize>
     ensures within { IfSome result (λ len. len ≤ length bytes.now) }
-    ensures next { IfSome result (λ len. IsNext first number bytes.now (record { number = number; bytes = take len bytes.now })) }
+    ensures next { IfSome result (λ len.
+        IsNext first number bytes.now (record { number = number; bytes = take len bytes.now })) }
     ensures none { IfNone result (IsEnd first number bytes.now) }
 {
     if number == 0 && !first {
@@ -59,9 +60,12 @@ pub fn plain_longest_chain<'a>(
     start: u8,
     bytes: &'a [u8],
 ) -> Result<PlainChain<'a>, AllocError>
-    ensures longest { IfOk result (λ chain. IsLongestChain start bytes.now (map plain_header_of chain.headers.items)) }
-    ensures number { IfOk result (λ chain. chain.number ≡ leads_to start (map plain_header_of chain.headers.items)) }
-    ensures rest { IfOk result (λ chain. chain.rest.now ≡ drop (length (bytes_of (map plain_header_of chain.headers.items))) bytes.now) }
+    ensures longest { IfOk result (λ chain.
+        IsLongestChain start bytes.now (map plain_header_of chain.headers.items)) }
+    ensures number { IfOk result (λ chain.
+        chain.number ≡ leads_to start (map plain_header_of chain.headers.items)) }
+    ensures rest { IfOk result (λ chain. chain.rest.now
+        ≡ drop (length (bytes_of (map plain_header_of chain.headers.items))) bytes.now) }
 {
     let mut headers = Vec::new(alloc);
     let mut number = start;

@@ -13,7 +13,7 @@ use Rattle.ip_spec.specs.declared.plain.PlainHeader.{PlainHeader}
 use Rattle.std.proofs.lemmas.Bool.Decides.{eqb_tells}
 use Rattle.ip_spec.specs.Prefix.{IsPrefix}
 use Rattle.ip_spec.proofs.ChainLemmas.{one_longest, some_longest}
-use Rattle.ip_ext_chains.specs.Fault.{Fault, fault_at}
+use Rattle.ip_ext_chains.specs.Fault.{Fault, slice_fault}
 use Rattle.ip_ext_chains.specs.Longest.{longest_chain}
 use Rattle.hex.specs.Hex.{decode_pairs, hex_digit_value, digit_or_error, ◌>>=◌}
 use Rattle.hex.specs.declared.error.FromHexError.{FromHexError}
@@ -127,7 +127,7 @@ module _ (text bytes : List ℕ) where
 -- the answer computed from any longest chain, of which there is one
 module _ (n : ℕ) (s : List ℕ) (c : List ExtHeader) (longest : IsLongestChain n s c) where
   pub exts6_answer-longest : (number : ℕ) (rest : List ℕ) (first : Bool) (offset : ℕ) (fault : Option Fault)
-      → number ≡ leads_to n c → rest ≡ drop (length (bytes_of c)) s → first ≡ is_empty c → offset ≡ length (bytes_of c) → fault ≡ fault_at first number rest offset
+      → number ≡ leads_to n c → rest ≡ drop (length (bytes_of c)) s → first ≡ is_empty c → offset ≡ length (bytes_of c) → fault ≡ slice_fault offset first number rest
       → exts6_answer n s ≡ header_lines 0 c ++ next_line number (length rest) ++ chain_end_line fault
   exts6_answer-longest number rest first offset fault leads left one behind is =
       rw (is, leads, left, one, behind, ← one_longest n s (longest_chain n s) c (some_longest n s).1 longest) refl

@@ -1,6 +1,10 @@
-//! Callers of the crates, proved from public clauses, and plain programs that compute the definitions.
+//! Programs over the crates of the repository, proved from their public contracts alone; a plain program that
+//! computes the definitions of the tool; and pins of what no contract says, constants and impls.
 #![tactic(auto)]
 
-mod plain;
-
-pub use plain::plain_answers;
+pub mod base;
+pub mod chains;
+pub mod headers;
+pub mod pins;
+pub mod plain;
+pub mod tool;

@@ -1,6 +1,7 @@
 //! The answers of the tool computed in the plainest way, all in memory and line by line. It is slow, and shares
 //! no code with the tool.
-ghost use Rattle.std.specs.Prelude.{◌≡◌, ◌++◌, ◌==◌, ◌^◌, ◌<◌, ◌≤◌, ◌+◌, length, map, IfOk, OnOk, string_bytes};
+ghost use Rattle.std.specs.Prelude.{◌≡◌, ◌++◌, ◌==◌, ◌^◌, ◌<◌, length, map};
+ghost use Rattle.std.specs.Prelude.{IfOk, OnOk, string_bytes};
 ghost use Rattle.std.specs.List.{slice_split};
 ghost use Rattle.std.specs.Option.{option_map};
 ghost use Rattle.ip_spec.specs.Chain.{bytes_of};
@@ -201,7 +202,10 @@ fn header_name(number: u8) -> &'static str
 }
 
 /// Appends `ok`, or the fault and its layer.
-fn push_chain_end(fault: Option<(HeaderSliceError, Layer)>, text: &mut String) -> Result<(), AllocError>
+fn push_chain_end(
+    fault: Option<(HeaderSliceError, Layer)>,
+    text: &mut String,
+) -> Result<(), AllocError>
     ensures { OnOk result (string_bytes text.new ≡ string_bytes text.old ++ chain_end_line fault) }
 {
     let Some((fault, layer)) = fault else {

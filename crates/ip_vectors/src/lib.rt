@@ -7,8 +7,5 @@ mod base;
 mod chains;
 #[cfg(test)]
 mod header_slices;
-pub mod header_uses;
-pub mod parts;
 #[cfg(test)]
 mod single_headers;
-pub mod uses;

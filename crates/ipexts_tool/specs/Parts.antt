@@ -6,16 +6,17 @@ use Rattle.ip_base.specs.declared.err.layer.Layer.{Layer}
 use Rattle.ip_ext_chains.specs.Chain.{ExtHeader}
 use Rattle.ip_ext_chains.specs.Fault.{Fault}
 use Rattle.ip_ext_chains.specs.Names.{layer_name}
+use Rattle.ip_ext_chains.specs.Numbers.{HOP_BY_HOP, ROUTING, FRAGMENT, AUTHENTICATION, DESTINATION_OPTIONS}
 use Rattle.ipexts_tool.specs.Faults.{chain_fault_text}
 
 -- the name of the headers of a number
 abbrev pub header_name : ℕ → List ℕ
 header_name n =
-    if n == 0 then codes "hopopt"
-    else if n == 43 then codes "route"
-    else if n == 44 then codes "frag"
-    else if n == 51 then codes "auth"
-    else if n == 60 then codes "dstopts"
+    if n == HOP_BY_HOP then codes "hopopt"
+    else if n == ROUTING then codes "route"
+    else if n == FRAGMENT then codes "frag"
+    else if n == AUTHENTICATION then codes "auth"
+    else if n == DESTINATION_OPTIONS then codes "dstopts"
     else []
 
 -- `offset name length`

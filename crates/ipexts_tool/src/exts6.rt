@@ -1,12 +1,11 @@
 //! The answer to `exts6 N HEX`.
 ghost use Rattle.std.specs.Prelude.{◌≡◌, ◌++◌, OnOk, string_bytes};
-ghost use Rattle.ip_ext_chains.specs.Ipv6ExtensionSlice.{header_of};
 ghost use Rattle.ip_ext_chains.specs.Ipv6ExtensionsSlice.{headers_in};
 ghost use Rattle.ipexts_tool.specs.Exts6.{exts6_answer};
 ghost use Rattle.ipexts_tool.specs.Parts.{header_lines};
 
 use crate::parts::{push_chain_end, push_header, push_next};
-use ip_ext_chains::{IpNumber, Ipv6ExtensionSlice, Ipv6ExtensionsSlice, ip_number};
+use ip_ext_chains::{IpNumber, Ipv6ExtensionsSlice};
 use std::alloc::{AllocError, Allocator};
 
 /// Appends what `bytes` are as IPv6 extension headers from `number` on.
@@ -34,35 +33,9 @@ fn push_headers<A: Allocator>(
 {
     let mut offset = 0;
     for header in headers {
-        let len = header_bytes(&header).len();
-        push_header(offset, header_number(&header), len, text)?;
+        let len = header.slice().len();
+        push_header(offset, header.number(), len, text)?;
         offset += len;
     }
     Ok(())
-}
-
-/// The number of a header.
-fn header_number(header: &Ipv6ExtensionSlice<'_>) -> IpNumber
-    ensures { result.0 ≡ (header_of header.now).number }
-{
-    match header {
-        Ipv6ExtensionSlice::HopByHop(_) => ip_number::IPV6_HOP_BY_HOP,
-        Ipv6ExtensionSlice::Routing(_) => ip_number::IPV6_ROUTE,
-        Ipv6ExtensionSlice::Fragment(_) => ip_number::IPV6_FRAG,
-        Ipv6ExtensionSlice::DestinationOptions(_) => ip_number::IPV6_DEST_OPTIONS,
-        Ipv6ExtensionSlice::Authentication(_) => ip_number::AUTH,
-    }
-}
-
-/// The bytes of a header.
-fn header_bytes<'a>(header: &Ipv6ExtensionSlice<'a>) -> &'a [u8]
-    ensures { result.now ≡ (header_of header.now).bytes }
-{
-    match header {
-        Ipv6ExtensionSlice::HopByHop(header)
-        | Ipv6ExtensionSlice::Routing(header)
-        | Ipv6ExtensionSlice::DestinationOptions(header) => header.slice(),
-        Ipv6ExtensionSlice::Fragment(header) => header.slice(),
-        Ipv6ExtensionSlice::Authentication(header) => header.slice(),
-    }
 }

@@ -1,3 +1,5 @@
+ghost use Rattle.std.specs.Prelude.{◌≡◌};
+
 use super::HeaderError;
 use ip_base::err::LenError;
 
@@ -8,4 +10,20 @@ pub enum HeaderSliceError {
     Len(LenError),
     /// The bytes can't be a header.
     Content(HeaderError),
+}
+
+impl HeaderSliceError {
+    ghost use Rattle.ip_ext_headers.specs.Fault.{auth_moved, AuthOffsetFits};
+
+    /// The same error, told from `offset` bytes further to the front: only the offset of a length error
+    /// grows. The sum of the offsets has to fit.
+    pub fn add_slice_offset(self, offset: usize) -> HeaderSliceError
+        requires { AuthOffsetFits self offset }
+        ensures { result ≡ auth_moved offset self }
+    {
+        match self {
+            HeaderSliceError::Len(e) => HeaderSliceError::Len(e.add_offset(offset)),
+            HeaderSliceError::Content(e) => HeaderSliceError::Content(e),
+        }
+    }
 }

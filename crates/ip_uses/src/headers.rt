@@ -1,11 +1,12 @@
-//! Callers of the owned headers, proved from their public clauses alone.
+//! Callers of the owned headers.
 ghost use Rattle.std.specs.Prelude.{◌≡◌, ◌≤◌, ◌+◌, IsTrue, IsOk, OnOk, vec_len, vec_capacity};
 ghost use Rattle.ip_spec.specs.FieldsOf.{raw_len, auth_len};
-ghost use Rattle.ip_spec.specs.Encoding.{Appends, IsRawEncoding};
+ghost use Rattle.ip_spec.specs.Encoding.{AppendsOne, IsRawEncoding};
 
+use arrayvec::ArrayVec;
 use ip_base::IpNumber;
 use ip_ext_headers::{IpAuthHeader, Ipv6FragmentHeader, Ipv6RawExtHeader};
-use ip_spec::one_decoding;
+use ip_spec::{one_decoding, one_encoding};
 use std::alloc::AllocError;
 
 /// Appends the header with another next number, and leaves the header itself alone.
@@ -14,7 +15,7 @@ pub fn write_before(
     next: IpNumber,
     out: &mut Vec<u8>,
 ) -> Result<(), AllocError>
-    ensures { OnOk result (Appends (IsRawEncoding (record header.now { next_header = next.0 })) out.old.items out.new.items) }
+    ensures { OnOk result (AppendsOne (IsRawEncoding (record header.now { next_header = next.0 })) out.old.items out.new.items) }
 {
     let mut copy = header.clone()?;
     copy.next_header = next;
@@ -62,4 +63,37 @@ pub fn is_read_back(header: &IpAuthHeader) -> bool
         Ok((again, rest)) => again == *header && rest.is_empty(),
         Err(_) => false,
     }
+}
+
+/// The bytes of two headers that are equal, which are equal too.
+pub fn equal_bytes_of_raw(
+    a: &Ipv6RawExtHeader,
+    b: &Ipv6RawExtHeader,
+) -> (ArrayVec<u8, 2048>, ArrayVec<u8, 2048>)
+    requires { a.now ≡ b.now }
+    ensures { result.0.items ≡ result.1.items }
+{
+    one_encoding();
+    (a.to_bytes(), b.to_bytes())
+}
+
+/// The same of fragment headers.
+pub fn equal_bytes_of_fragment(a: &Ipv6FragmentHeader, b: &Ipv6FragmentHeader) -> ([u8; 8], [u8; 8])
+    requires { a.now ≡ b.now }
+    ensures { result.0 ≡ result.1 }
+{
+    one_encoding();
+    (a.to_bytes(), b.to_bytes())
+}
+
+/// The same of authentication headers.
+pub fn equal_bytes_of_auth(
+    a: &IpAuthHeader,
+    b: &IpAuthHeader,
+) -> (ArrayVec<u8, 1028>, ArrayVec<u8, 1028>)
+    requires { a.now ≡ b.now }
+    ensures { result.0.items ≡ result.1.items }
+{
+    one_encoding();
+    (a.to_bytes(), b.to_bytes())
 }

@@ -1,0 +1,48 @@
+# Parts of the scripts in bench/ and diff/. `top` is the folder of the repository.
+
+# Ends the script with a sentence.
+give_up() {
+    echo "$1" >&2
+    exit 2
+}
+
+# Says what is missing.
+look_for_tools() {
+    command -v rt >/dev/null || give_up "The Rattle toolchain is missing: its command 'rt' has to be on the PATH."
+    command -v cargo >/dev/null || give_up "Cargo is missing: this is measured and compared against a Rust crate, so 'cargo' has to be on the PATH."
+    command -v "${CC:-cc}" >/dev/null || give_up "A C compiler is missing: '${CC:-cc}' has to be on the PATH, or CC has to name one."
+    command -v ar >/dev/null || give_up "The archiver 'ar' is missing: it has to be on the PATH."
+}
+
+# Proves and builds the static library and the tool.
+build_ours() {
+    (cd "$top/crates/ipexts_bench" && rt lib) >"$work/ours.txt" 2>&1 \
+        && (cd "$top/crates/ipexts" && rt run </dev/null) >>"$work/ours.txt" 2>&1 \
+        || { tail -20 "$work/ours.txt" >&2; give_up "The crates ipexts_bench and ipexts could not be built."; }
+    tool=$top/crates/ipexts/out/ipexts
+}
+
+# Finds the original, without a network where that will do.
+look_for_original() {
+    local folder
+    for folder in "$@"; do
+        cd "$top/$folder"
+        # shellcheck disable=SC2086 # CARGO_FLAGS are several words.
+        cargo fetch --quiet --offline $flags 2>/dev/null || cargo fetch --quiet $flags 2>/dev/null \
+            || give_up "The crate etherparse 0.19.0 is missing: a network is needed, or CARGO_FLAGS with a flag for Cargo that says where it lies."
+    done
+}
+
+# Builds a package in a folder of the repository; the words behind the folder are Cargo's.
+build() {
+    local folder=$1
+    shift
+    cd "$top/$folder"
+    # shellcheck disable=SC2086
+    cargo build --quiet --release --offline $flags "$@" 2>"$work/$folder.txt" \
+        || { tail -40 "$work/$folder.txt" >&2; give_up "The package in $folder/ could not be built."; }
+}
+
+flags=${CARGO_FLAGS:-}
+work=$top/bench/target/work
+mkdir -p "$work"

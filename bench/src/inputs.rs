@@ -1,0 +1,195 @@
+//! What is measured: packets like real traffic, regular chains, and bytes that are refused.
+use crate::random::Random;
+
+pub const HOP_BY_HOP: u8 = 0;
+pub const ROUTE: u8 = 43;
+pub const FRAGMENT: u8 = 44;
+pub const AUTH: u8 = 51;
+pub const DEST_OPTIONS: u8 = 60;
+const UDP: u8 = 17;
+
+/// Packets one after the other.
+pub struct Packets {
+    pub bytes: Vec<u8>,
+    pub ends: Vec<usize>,
+    /// The bytes of all chains together.
+    pub chains_len: usize,
+}
+
+impl Packets {
+    pub fn each(&self) -> Vec<&[u8]> {
+        let starts = std::iter::once(0).chain(self.ends.iter().copied());
+        starts
+            .zip(&self.ends)
+            .map(|(start, end)| &self.bytes[start..*end])
+            .collect()
+    }
+}
+
+/// IPv6 packets without a fault: 0 to 4 extension headers in the order of RFC 8200, section 4.1, fewer more
+/// often, with a payload of some hundred bytes.
+pub fn packets(count: usize, seed: u64) -> Packets {
+    let mut random = Random::new(seed);
+    let mut packets = Packets {
+        bytes: Vec::new(),
+        ends: Vec::new(),
+        chains_len: 0,
+    };
+    for _ in 0..count {
+        let numbers = numbers(&mut random);
+        let payload = payload_number(&mut random);
+        let chain = chain_of(&numbers, payload, &mut random);
+        let rest = payload_len(&mut random);
+        let len = (chain.len() + rest) as u16;
+        packets.bytes.extend([0x60, 0, 0, 0]);
+        packets.bytes.extend(len.to_be_bytes());
+        packets
+            .bytes
+            .extend([*numbers.first().unwrap_or(&payload), 64]);
+        packets.bytes.extend(random.bytes(32));
+        packets.bytes.extend(&chain);
+        packets.bytes.extend(random.bytes(rest));
+        packets.ends.push(packets.bytes.len());
+        packets.chains_len += chain.len();
+    }
+    packets
+}
+
+/// The numbers of a packet's headers: a choice of the six places, in their order.
+fn numbers(random: &mut Random) -> Vec<u8> {
+    let count = match random.below(100) {
+        0..40 => 0,
+        40..70 => 1,
+        70..85 => 2,
+        85..95 => 3,
+        _ => 4,
+    };
+    let places = [
+        HOP_BY_HOP,
+        DEST_OPTIONS,
+        ROUTE,
+        FRAGMENT,
+        AUTH,
+        DEST_OPTIONS,
+    ];
+    let mut chosen = [false; 6];
+    while chosen.iter().filter(|chosen| **chosen).count() < count {
+        // An authentication header and last options are rarer than the others.
+        let place = random.below(6);
+        chosen[place] |= place < 4 || random.percent(50);
+    }
+    places
+        .iter()
+        .zip(chosen)
+        .filter(|(_, chosen)| *chosen)
+        .map(|(number, _)| *number)
+        .collect()
+}
+
+fn payload_number(random: &mut Random) -> u8 {
+    match random.below(100) {
+        0..40 => 6,
+        40..80 => UDP,
+        _ => 58,
+    }
+}
+
+fn payload_len(random: &mut Random) -> usize {
+    match random.below(100) {
+        0..55 => 20 + random.below(80),
+        55..80 => 400 + random.below(200),
+        _ => 1200 + random.below(200),
+    }
+}
+
+/// Headers of these numbers, linked, of lengths as they occur.
+pub fn chain_of(numbers: &[u8], last: u8, random: &mut Random) -> Vec<u8> {
+    let mut bytes = Vec::new();
+    for (index, number) in numbers.iter().enumerate() {
+        let next = *numbers.get(index + 1).unwrap_or(&last);
+        let (len, field) = match *number {
+            FRAGMENT => (8, 0),
+            AUTH if random.percent(67) => (24, 4),
+            AUTH => (28, 5),
+            HOP_BY_HOP if random.percent(75) => (8, 0),
+            HOP_BY_HOP => (16, 1),
+            ROUTE => [(24, 2), (24, 2), (40, 4), (56, 6), (72, 8)][random.below(5)],
+            _ => [(8, 0), (8, 0), (16, 1), (24, 2)][random.below(4)],
+        };
+        bytes.extend([next, field]);
+        bytes.extend(random.bytes(len - 2));
+    }
+    bytes
+}
+
+/// A regular chain of so many headers, its start number, and 16 bytes behind it: destination options,
+/// routing and fragment headers in turn.
+pub fn regular(count: usize) -> (u8, Vec<u8>) {
+    let mut random = Random::new(7);
+    let numbers: Vec<u8> = (0..count)
+        .map(|i| [DEST_OPTIONS, ROUTE, FRAGMENT][i % 3])
+        .collect();
+    let mut bytes = Vec::new();
+    for (index, number) in numbers.iter().enumerate() {
+        let next = *numbers.get(index + 1).unwrap_or(&UDP);
+        let units = if *number == FRAGMENT {
+            0
+        } else {
+            (index / 3 % 2) as u8
+        };
+        bytes.extend([next, units]);
+        bytes.extend(random.bytes(8 * (usize::from(units) + 1) - 2));
+    }
+    bytes.extend(random.bytes(16));
+    (*numbers.first().unwrap_or(&UDP), bytes)
+}
+
+/// Bytes that are refused: why, the number of the header at which, and its bytes.
+pub fn refusals() -> Vec<(&'static str, u8, Vec<u8>)> {
+    vec![
+        ("options of 7 bytes", DEST_OPTIONS, vec![UDP; 7]),
+        ("options that end early", DEST_OPTIONS, long(UDP, 3, 31)),
+        ("routing header that ends early", ROUTE, long(UDP, 3, 31)),
+        ("fragment header of 7 bytes", FRAGMENT, vec![UDP; 7]),
+        ("authentication header of 11 bytes", AUTH, vec![UDP; 11]),
+        ("authentication header of length 0", AUTH, long(UDP, 0, 16)),
+        (
+            "authentication header that ends early",
+            AUTH,
+            long(UDP, 4, 23),
+        ),
+        ("late hop by hop options", HOP_BY_HOP, vec![UDP; 8]),
+    ]
+}
+
+/// A header's first bytes: the number, the length field, then zeros.
+fn long(next: u8, field: u8, len: usize) -> Vec<u8> {
+    let mut bytes = vec![next, field];
+    bytes.resize(len, 0);
+    bytes
+}
+
+/// Four headers that lead to `number`, and then these bytes.
+pub fn behind_four(number: u8, bytes: &[u8]) -> (u8, Vec<u8>) {
+    let mut random = Random::new(9);
+    let mut all = chain_of(
+        &[HOP_BY_HOP, DEST_OPTIONS, ROUTE, FRAGMENT],
+        number,
+        &mut random,
+    );
+    all.extend(bytes);
+    (HOP_BY_HOP, all)
+}
+
+/// A single header of this length, with 16 bytes behind it.
+pub fn single(number: u8, len: usize) -> Vec<u8> {
+    let mut random = Random::new(11);
+    let field = if number == AUTH {
+        len / 4 - 2
+    } else {
+        len / 8 - 1
+    };
+    let mut bytes = vec![UDP, field as u8];
+    bytes.extend(random.bytes(len + 14));
+    bytes
+}

@@ -1,0 +1,60 @@
+//! Measures the calls of this project against those of etherparse 0.19.0.
+//!
+//!     bench measure RUNS                    times of all rows, a line each
+//!     bench tool OURS ORIGINAL FILE BYTES   times of two programs over lines, which are made in FILE
+//!     bench report FILE..                   the table of such lines; a file for each alignment of our code
+mod inputs;
+mod measure;
+mod original;
+mod ours;
+mod random;
+mod report;
+mod rows;
+mod tool;
+
+use report::Line;
+use std::path::Path;
+use std::process::ExitCode;
+
+/// The seed of packets and lines.
+const SEED: u64 = 1;
+
+fn main() -> ExitCode {
+    // Refers to the bytes that move the library, so that they are linked.
+    std::hint::black_box(ours::ipexts_shift as unsafe extern "C" fn());
+    let arguments: Vec<String> = std::env::args().skip(1).collect();
+    let words: Vec<&str> = arguments.iter().map(String::as_str).collect();
+    match &words[..] {
+        ["measure", runs] => measure_all(runs.parse().expect("RUNS is a number")),
+        ["tool", ours, original, file, bytes] => {
+            let (file, len) = (Path::new(file), bytes.parse().expect("BYTES is a number"));
+            let count = tool::write_lines(file, len, SEED).expect("FILE can be written");
+            tool::measure(ours, original, file, count, 9).print();
+        }
+        ["report", ..] if words.len() > 1 => {
+            if !report::report(&arguments[1..]) {
+                return ExitCode::FAILURE;
+            }
+        }
+        _ => {
+            eprintln!("bench: measure RUNS, tool OURS ORIGINAL FILE BYTES, or report FILE..");
+            return ExitCode::from(2);
+        }
+    }
+    ExitCode::SUCCESS
+}
+
+fn measure_all(runs: usize) {
+    for row in rows::rows(SEED) {
+        let times = measure::measure(&row, runs);
+        let line = Line {
+            group: row.group.to_owned(),
+            name: row.name,
+            unit: row.unit.to_owned(),
+            ours: times.ours,
+            original: times.original,
+            limit: times.limit.map(|limit| limit.least),
+        };
+        line.print();
+    }
+}

@@ -1,0 +1,61 @@
+//! Times of rows: the sides take turns, and the least and the middle of many runs are kept.
+use crate::rows::{Row, Work};
+use std::hint::black_box;
+use std::time::Instant;
+
+/// How many nanoseconds one unit took, at least and in the middle of all runs.
+#[derive(Clone, Copy)]
+pub struct Time {
+    pub least: f64,
+    pub middle: f64,
+}
+
+/// The times of a row.
+pub struct Measured {
+    pub ours: Time,
+    pub original: Time,
+    pub limit: Option<Time>,
+}
+
+/// Times a row, after it has shown that both sides answer the same.
+pub fn measure(row: &Row, runs: usize) -> Measured {
+    assert_eq!(
+        (row.ours)(),
+        (row.original)(),
+        "{}: the answers differ",
+        row.name
+    );
+    let works: Vec<&Work> = [Some(&row.ours), Some(&row.original), row.limit.as_ref()]
+        .into_iter()
+        .flatten()
+        .collect();
+    let mut times = vec![Vec::with_capacity(runs); works.len()];
+    for run in 0..runs {
+        for turn in 0..works.len() {
+            let side = (turn + run) % works.len();
+            times[side].push(once(works[side], row.units));
+        }
+    }
+    let mut kept = times.into_iter().map(of_runs);
+    let (ours, original) = (kept.next(), kept.next());
+    Measured {
+        ours: ours.expect("ours ran"),
+        original: original.expect("the original ran"),
+        limit: kept.next(),
+    }
+}
+
+fn once(work: &Work, units: usize) -> f64 {
+    let start = Instant::now();
+    black_box(work());
+    start.elapsed().as_nanos() as f64 / units as f64
+}
+
+/// The least and the middle.
+pub fn of_runs(mut times: Vec<f64>) -> Time {
+    times.sort_by(f64::total_cmp);
+    Time {
+        least: times[0],
+        middle: times[times.len() / 2],
+    }
+}

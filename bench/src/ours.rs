@@ -1,0 +1,74 @@
+//! The calls of the static library `ipexts_bench`, and of the walk in C.
+
+/// The chain from a number that begins the bytes.
+pub type ChainCall = unsafe extern "C" fn(u8, *const u8, usize) -> u64;
+
+/// Packets one after the other, with where each ends.
+pub type PacketLoop = unsafe extern "C" fn(*const u8, usize, *const usize, usize) -> u64;
+
+/// A single header, with the place of the byte to read.
+pub type HeaderCall = unsafe extern "C" fn(*const u8, usize, usize) -> u64;
+
+/// The same, with how often its bytes are made.
+pub type RepeatedCall = unsafe extern "C" fn(*const u8, usize, usize, u32) -> u64;
+
+unsafe extern "C" {
+    pub fn ipexts_lax(start: u8, bytes: *const u8, len: usize) -> u64;
+    pub fn ipexts_lax_headers(start: u8, bytes: *const u8, len: usize) -> u64;
+    pub fn ipexts_strict(start: u8, bytes: *const u8, len: usize) -> u64;
+    pub fn ipexts_lax_filter(start: u8, bytes: *const u8, len: usize) -> u64;
+    pub fn ipexts_lax_headers_filter(start: u8, bytes: *const u8, len: usize) -> u64;
+    pub fn ipexts_strict_filter(start: u8, bytes: *const u8, len: usize) -> u64;
+
+    pub fn ipexts_lax_packets(p: *const u8, len: usize, ends: *const usize, count: usize) -> u64;
+    pub fn ipexts_lax_headers_packets(
+        p: *const u8,
+        len: usize,
+        ends: *const usize,
+        count: usize,
+    ) -> u64;
+    pub fn ipexts_strict_packets(p: *const u8, len: usize, ends: *const usize, count: usize)
+        -> u64;
+    pub fn ipexts_lax_filter_packets(
+        p: *const u8,
+        len: usize,
+        ends: *const usize,
+        count: usize,
+    ) -> u64;
+    pub fn ipexts_lax_headers_filter_packets(
+        p: *const u8,
+        len: usize,
+        ends: *const usize,
+        count: usize,
+    ) -> u64;
+    pub fn ipexts_strict_filter_packets(
+        p: *const u8,
+        len: usize,
+        ends: *const usize,
+        count: usize,
+    ) -> u64;
+
+    pub fn ipexts_raw_borrowed(bytes: *const u8, len: usize, at: usize) -> u64;
+    pub fn ipexts_raw_owned(bytes: *const u8, len: usize, at: usize) -> u64;
+    pub fn ipexts_auth_borrowed(bytes: *const u8, len: usize, at: usize) -> u64;
+    pub fn ipexts_auth_owned(bytes: *const u8, len: usize, at: usize) -> u64;
+    pub fn ipexts_fragment_borrowed(bytes: *const u8, len: usize, at: usize) -> u64;
+    pub fn ipexts_fragment_owned(bytes: *const u8, len: usize, at: usize) -> u64;
+
+    pub fn ipexts_raw_filter(bytes: *const u8, len: usize, at: usize) -> u64;
+    pub fn ipexts_auth_filter(bytes: *const u8, len: usize, at: usize) -> u64;
+    pub fn ipexts_fragment_filter(bytes: *const u8, len: usize, at: usize) -> u64;
+
+    pub fn ipexts_raw_to_bytes(bytes: *const u8, len: usize, at: usize, times: u32) -> u64;
+    pub fn ipexts_auth_to_bytes(bytes: *const u8, len: usize, at: usize, times: u32) -> u64;
+    pub fn ipexts_fragment_to_bytes(bytes: *const u8, len: usize, at: usize, times: u32) -> u64;
+    pub fn ipexts_raw_write(bytes: *const u8, len: usize, at: usize, times: u32) -> u64;
+    pub fn ipexts_auth_write(bytes: *const u8, len: usize, at: usize, times: u32) -> u64;
+    pub fn ipexts_fragment_write(bytes: *const u8, len: usize, at: usize, times: u32) -> u64;
+
+    pub fn walk_chain(start: u8, bytes: *const u8, len: usize) -> u64;
+    pub fn walk_packets(p: *const u8, len: usize, ends: *const usize, count: usize) -> u64;
+
+    /// The bytes that move the library.
+    pub fn ipexts_shift();
+}

@@ -1,0 +1,208 @@
+//! The table, over all alignments of our code, and the judgement by its goals.
+use crate::measure::Time;
+use std::collections::BTreeMap;
+
+/// The highest ratio that is allowed, but for the rows below.
+const GOAL: f64 = 1.0;
+
+/// Rows with a higher goal, each with its reason in docs/DECISIONS.md.
+const HIGHER_GOALS: &[(&str, f64)] = &[];
+
+/// A row at one alignment, as `measure` prints it.
+#[derive(Clone)]
+pub struct Line {
+    pub group: String,
+    pub name: String,
+    pub unit: String,
+    pub ours: Time,
+    pub original: Time,
+    pub limit: Option<f64>,
+}
+
+impl Line {
+    /// Reads a line that `print` wrote.
+    pub fn parse(text: &str) -> Option<Line> {
+        let fields: Vec<&str> = text.split('\t').collect();
+        let [group, name, unit, times @ ..] = &fields[..] else {
+            return None;
+        };
+        let times: Vec<f64> = times.iter().filter_map(|time| time.parse().ok()).collect();
+        let [least, middle, original_least, original_middle, limit @ ..] = &times[..] else {
+            return None;
+        };
+        Some(Line {
+            group: (*group).to_owned(),
+            name: (*name).to_owned(),
+            unit: (*unit).to_owned(),
+            ours: Time {
+                least: *least,
+                middle: *middle,
+            },
+            original: Time {
+                least: *original_least,
+                middle: *original_middle,
+            },
+            limit: limit.first().copied(),
+        })
+    }
+
+    pub fn print(&self) {
+        let Line {
+            group,
+            name,
+            unit,
+            ours,
+            original,
+            limit,
+        } = self;
+        let limit = limit.map_or(String::new(), |limit| format!("\t{limit}"));
+        println!(
+            "{group}\t{name}\t{unit}\t{}\t{}\t{}\t{}{limit}",
+            ours.least, ours.middle, original.least, original.middle
+        );
+    }
+
+    fn ratio(&self) -> f64 {
+        self.ours.least / self.original.least
+    }
+
+    fn middle_ratio(&self) -> f64 {
+        self.ours.middle / self.original.middle
+    }
+
+    /// Keeps the smaller of two measurements of the same row at the same alignment.
+    fn join(&mut self, other: &Line) {
+        for (time, other) in [
+            (&mut self.ours, &other.ours),
+            (&mut self.original, &other.original),
+        ] {
+            time.least = time.least.min(other.least);
+            time.middle = time.middle.min(other.middle);
+        }
+        self.limit = self
+            .limit
+            .zip(other.limit)
+            .map(|(limit, other)| limit.min(other));
+    }
+}
+
+/// A row over all alignments.
+struct Judged {
+    line: Line,
+    mean: f64,
+    middle: f64,
+    range: (f64, f64),
+    goal: f64,
+}
+
+/// Prints the tables of what stands in these files, a file for each alignment. It answers whether no ratio
+/// is above its goal.
+pub fn report(files: &[String]) -> bool {
+    let mut order: Vec<String> = Vec::new();
+    let mut rows: BTreeMap<String, Vec<Line>> = BTreeMap::new();
+    for file in files {
+        let text = std::fs::read_to_string(file).unwrap_or_else(|e| panic!("{file}: {e}"));
+        let mut here: BTreeMap<String, Line> = BTreeMap::new();
+        for line in text.lines().filter_map(Line::parse) {
+            if !rows.contains_key(&line.name) && !here.contains_key(&line.name) {
+                order.push(line.name.clone());
+            }
+            here.entry(line.name.clone())
+                .and_modify(|kept| kept.join(&line))
+                .or_insert(line);
+        }
+        for (name, line) in here {
+            rows.entry(name).or_default().push(line);
+        }
+    }
+    let judged: Vec<Judged> = order.iter().map(|name| judge(&rows[name])).collect();
+    print_rows(&judged);
+    print_groups(&judged);
+    let above = judged.iter().filter(|row| row.is_above()).count();
+    println!("{} rows, {above} above their goal", judged.len());
+    above == 0
+}
+
+fn judge(lines: &[Line]) -> Judged {
+    let mut line = lines[0].clone();
+    lines.iter().for_each(|other| line.join(other));
+    let ratios: Vec<f64> = lines.iter().map(Line::ratio).collect();
+    let count = lines.len() as f64;
+    let goal = HIGHER_GOALS
+        .iter()
+        .find(|(name, _)| *name == line.name)
+        .map_or(GOAL, |(_, goal)| *goal);
+    Judged {
+        mean: ratios.iter().sum::<f64>() / count,
+        middle: lines.iter().map(Line::middle_ratio).sum::<f64>() / count,
+        range: range(&ratios),
+        goal,
+        line,
+    }
+}
+
+fn range(ratios: &[f64]) -> (f64, f64) {
+    ratios.iter().fold((f64::MAX, 0.0), |(low, high), ratio| {
+        (low.min(*ratio), high.max(*ratio))
+    })
+}
+
+impl Judged {
+    /// Judged by two decimals.
+    fn is_above(&self) -> bool {
+        (self.mean * 100.0).round() > (self.goal * 100.0).round()
+    }
+}
+
+fn print_rows(rows: &[Judged]) {
+    println!("| What | Ours, ns | Original, ns | Ratio | Range | Of the middles | Limit | Goal |");
+    println!("|---|---|---|---|---|---|---|---|");
+    for row in rows {
+        let Line {
+            name,
+            unit,
+            ours,
+            original,
+            limit,
+            ..
+        } = &row.line;
+        let limit = limit.map_or(String::new(), |limit| {
+            format!("{:.2}", limit / original.least)
+        });
+        let above = if row.is_above() { ", above" } else { "" };
+        println!(
+            "| {name} | {:.2} a {unit} | {:.2} | {:.2} | {:.2} to {:.2} | {:.2} | {limit} | {:.2}{above} |",
+            ours.least, original.least, row.mean, row.range.0, row.range.1, row.middle, row.goal
+        );
+    }
+    println!("\nTimes are the least of all runs. The limit is a bare walk in C, which only says where each chain");
+    println!(
+        "ends, over the original. The mean and the range are over the alignments of our code.\n"
+    );
+}
+
+/// A line for each group of rows: the mean of their ratios, and the lowest and the highest of any row at any
+/// alignment.
+fn print_groups(rows: &[Judged]) {
+    println!("| Group | Rows | Mean ratio | Range |\n|---|---|---|---|");
+    let mut groups: Vec<&str> = Vec::new();
+    for row in rows {
+        if !groups.contains(&row.line.group.as_str()) {
+            groups.push(&row.line.group);
+        }
+    }
+    for group in groups {
+        let rows: Vec<&Judged> = rows.iter().filter(|row| row.line.group == group).collect();
+        let mean = rows.iter().map(|row| row.mean).sum::<f64>() / rows.len() as f64;
+        let ends: Vec<f64> = rows
+            .iter()
+            .flat_map(|row| [row.range.0, row.range.1])
+            .collect();
+        let (low, high) = range(&ends);
+        println!(
+            "| {group} | {} | {mean:.2} | {low:.2} to {high:.2} |",
+            rows.len()
+        );
+    }
+    println!();
+}

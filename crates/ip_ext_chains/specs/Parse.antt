@@ -1,0 +1,18 @@
+-- What a parse answers, of any form.
+use Rattle.std.specs.Prelude.{◌≡◌, ℕ, List, Option, length, drop}
+use Rattle.ip_spec.specs.Chain.{ExtHeader, leads_to, bytes_of}
+use Rattle.ip_ext_chains.specs.Longest.{longest_chain}
+use Rattle.ip_ext_chains.specs.Fault.{Fault, chain_fault}
+
+-- From number n off the front of bytes s the chain `taken` was taken: the answer is its headers c, the number m
+-- to which it leads, the bytes r behind it, and the fault f that stands there.
+module _ {F : Type 0} (taken : List ExtHeader) (standing : Option F) where
+  pub record IsAnswer (n : ℕ) (s : List ℕ) (c : List ExtHeader) (m : ℕ) (r : List ℕ) (f : Option F) : Type 0 where
+    pub headers : c ≡ taken
+    pub number : m ≡ leads_to n taken
+    pub rest : r ≡ drop (length (bytes_of taken)) s
+    pub fault : f ≡ standing
+
+-- the longest chain was taken
+abbrev pub IsChainAnswer : ℕ → List ℕ → List ExtHeader → ℕ → List ℕ → Option Fault → Type 0
+IsChainAnswer n s c m r f = IsAnswer (longest_chain n s) (chain_fault n s) n s c m r f

@@ -1,0 +1,63 @@
+//! Callers of chains.
+ghost use Rattle.std.specs.Prelude.{◌≡◌, List, length, take, false, IfOk, IfSome};
+ghost use Rattle.ip_spec.specs.Chain.{ExtHeader, bytes_of, has_fragmenting, leads_to};
+ghost use Rattle.ip_spec.specs.Demand.{AtMost, IsLongestUnder};
+ghost use Rattle.ip_ext_chains.specs.Longest.{longest_chain, rest_after};
+ghost use Rattle.ip_ext_chains.specs.Ipv6ExtensionsSlice.{bytes};
+
+use ip_base::IpNumber;
+use ip_ext_chains::Ipv6ExtensionsSlice;
+use std::alloc::{AllocError, Global};
+
+/// How many extension headers begin the bytes.
+pub fn count_headers(start: IpNumber, packet: &[u8]) -> usize
+    ensures { result ≡ length (longest_chain start.0 packet.now) }
+{
+    let (headers, _, _, _) = Ipv6ExtensionsSlice::from_slice_lax(start, packet);
+    headers.into_iter().count()
+}
+
+/// The payload behind the extension headers with its number, unless it is a fragment.
+pub fn whole_payload(start: IpNumber, packet: &[u8]) -> Option<(IpNumber, &[u8])>
+    ensures number { IfSome result (λ found.
+        found.0.0 ≡ leads_to start.0 (longest_chain start.0 packet.now)) }
+    ensures payload { IfSome result (λ found. found.1.now ≡ rest_after start.0 packet.now) }
+    ensures whole { IfSome result (λ _.
+        has_fragmenting (longest_chain start.0 packet.now) ≡ false) }
+{
+    match Ipv6ExtensionsSlice::from_slice(start, packet) {
+        Ok((headers, number, payload)) if !headers.is_fragmenting_payload() => {
+            Some((number, payload))
+        }
+        _ => None,
+    }
+}
+
+/// The headers joined, in new memory.
+pub fn joined(alloc: Global, headers: Ipv6ExtensionsSlice<'_>) -> Result<Vec<u8>, AllocError>
+    ensures { IfOk result (λ copy. copy.items ≡ bytes headers.entry) }
+{
+    let mut copy = Vec::new(alloc);
+    for header in headers {
+        copy.extend_from_slice(header.slice())?;
+    }
+    Ok(copy)
+}
+
+/// How many bytes the first `k` headers of the chain take; all of its headers, where there are fewer.
+pub fn first_headers(k: usize, start: IpNumber, packet: &[u8]) -> usize
+    ensures first { result ≡ length (bytes_of (take k (longest_chain start.0 packet.now))) }
+    ensures under { (c : List ExtHeader) → IsLongestUnder (AtMost k) start.0 packet.now c
+        → result ≡ length (bytes_of c) }
+{
+    let (headers, _, _, _) = Ipv6ExtensionsSlice::from_slice_lax(start, packet);
+    let mut headers = headers.into_iter();
+    let mut len = 0;
+    'headers: for _ in 0..k {
+        let Some(header) = headers.next() else {
+            return len;
+        };
+        len += header.slice().len();
+    }
+    len
+}

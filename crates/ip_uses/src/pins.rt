@@ -1,0 +1,218 @@
+//! What the types have beside their contracts: the values of constants, equality and clones of the errors, and
+//! the impls of each type. A type that is added joins each of the three.
+ghost use Rattle.std.specs.Prelude.{◌≡◌, ◌↔◌, IsTrue, IsFalse, IfOk};
+
+use ip_base::err::{Layer, LenError, ValueTooBigError};
+use ip_base::{IpFragOffset, IpNumber, LenSource, ip_number};
+use ip_ext_chains::err::ipv6_exts;
+use ip_ext_headers::err::ip_auth;
+use ip_ext_headers::err::ipv6_exts::ExtPayloadLenError;
+use ip_ext_headers::{IpAuthHeader, IpAuthHeaderSlice, Ipv6FragmentHeader, Ipv6RawExtHeader};
+use std::alloc::AllocError;
+use std::hash::Hash;
+
+const _: () = prove!(IpNumber::IPV6_HEADER_HOP_BY_HOP.0 == 0);
+
+const _: () = prove!(IpNumber::UDP.0 == 17);
+
+const _: () = prove!(IpNumber::IPV6_ROUTE_HEADER.0 == 43);
+
+const _: () = prove!(IpNumber::IPV6_FRAGMENTATION_HEADER.0 == 44);
+
+const _: () = prove!(IpNumber::AUTHENTICATION_HEADER.0 == 51);
+
+const _: () = prove!(IpNumber::IPV6_NO_NEXT_HEADER.0 == 59);
+
+const _: () = prove!(IpNumber::IPV6_DESTINATION_OPTIONS.0 == 60);
+
+const _: () = prove!(ip_number::IPV6_HOP_BY_HOP.0 == 0);
+
+const _: () = prove!(ip_number::UDP.0 == 17);
+
+const _: () = prove!(ip_number::IPV6_ROUTE.0 == 43);
+
+const _: () = prove!(ip_number::IPV6_FRAG.0 == 44);
+
+const _: () = prove!(ip_number::AUTH.0 == 51);
+
+const _: () = prove!(ip_number::AUTHENTICATION_HEADER.0 == 51);
+
+const _: () = prove!(ip_number::IPV6_NO_NEXT_HEADER.0 == 59);
+
+const _: () = prove!(ip_number::IPV6_DEST_OPTIONS.0 == 60);
+
+const _: () = prove!(ip_number::MOBILITY.0 == 135);
+
+const _: () = prove!(ip_number::HIP.0 == 139);
+
+const _: () = prove!(ip_number::SHIM6.0 == 140);
+
+const _: () = prove!(IpFragOffset::MAX_U16 == 0x1fff);
+
+const _: () = prove!(IpAuthHeader::MIN_LEN == 12);
+
+const _: () = prove!(IpAuthHeader::MAX_LEN == 1028);
+
+const _: () = prove!(IpAuthHeader::MAX_ICV_LEN == 1016);
+
+const _: () = prove!(Ipv6RawExtHeader::MIN_LEN == 8);
+
+const _: () = prove!(Ipv6RawExtHeader::MAX_LEN == 2048);
+
+const _: () = prove!(Ipv6RawExtHeader::MIN_PAYLOAD_LEN == 6);
+
+const _: () = prove!(Ipv6RawExtHeader::MAX_PAYLOAD_LEN == 2046);
+
+const _: () = prove!(Ipv6FragmentHeader::LEN == 8);
+
+/// Whether two errors of a length are equal, and a copy of the first.
+pub fn len_error(a: &LenError, b: &LenError) -> Result<(bool, LenError), AllocError>
+    ensures same { IfOk result (λ r. IsTrue r.0 ↔ (a.now ≡ b.now)) }
+    ensures copy { IfOk result (λ r. r.1 ≡ a.now) }
+{
+    Ok((a == b, a.clone()?))
+}
+
+/// Whether two errors of a value are equal, and a copy of the first.
+pub fn value_too_big(
+    a: &ValueTooBigError,
+    b: &ValueTooBigError,
+) -> Result<(bool, ValueTooBigError), AllocError>
+    ensures same { IfOk result (λ r. IsTrue r.0 ↔ (a.now ≡ b.now)) }
+    ensures copy { IfOk result (λ r. r.1 ≡ a.now) }
+{
+    Ok((a == b, a.clone()?))
+}
+
+/// Whether two content errors of an authentication header are equal, and a copy of the first.
+pub fn zero_payload_len(
+    a: &ip_auth::HeaderError,
+    b: &ip_auth::HeaderError,
+) -> Result<(bool, ip_auth::HeaderError), AllocError>
+    ensures same { IfOk result (λ r. IsTrue r.0 ↔ (a.now ≡ b.now)) }
+    ensures copy { IfOk result (λ r. r.1 ≡ a.now) }
+{
+    Ok((a == b, a.clone()?))
+}
+
+/// Whether two errors of an authentication header are equal that tell a length.
+pub fn auth_slice_error(a: LenError, b: LenError) -> bool
+    ensures { IsTrue result ↔ (a ≡ b) }
+{
+    ip_auth::HeaderSliceError::Len(a) == ip_auth::HeaderSliceError::Len(b)
+}
+
+/// A copy of an error of an authentication header.
+pub fn auth_slice_error_copy(
+    e: &ip_auth::HeaderSliceError,
+) -> Result<ip_auth::HeaderSliceError, AllocError>
+    ensures { IfOk result (λ copy. copy ≡ e.now) }
+{
+    e.clone()
+}
+
+/// Whether two errors of a check value are equal, and a copy of the first.
+pub fn icv_len(
+    a: &ip_auth::IcvLenError,
+    b: &ip_auth::IcvLenError,
+) -> Result<(bool, ip_auth::IcvLenError), AllocError>
+    ensures same { IfOk result (λ r. IsTrue r.0 ↔ (a.now ≡ b.now)) }
+    ensures copy { IfOk result (λ r. r.1 ≡ a.now) }
+{
+    Ok((a == b, a.clone()?))
+}
+
+/// Whether two errors of a payload are equal, and a copy of the first.
+pub fn payload_len(
+    a: &ExtPayloadLenError,
+    b: &ExtPayloadLenError,
+) -> Result<(bool, ExtPayloadLenError), AllocError>
+    ensures same { IfOk result (λ r. IsTrue r.0 ↔ (a.now ≡ b.now)) }
+    ensures copy { IfOk result (λ r. r.1 ≡ a.now) }
+{
+    Ok((a == b, a.clone()?))
+}
+
+/// Whether two content errors of a chain are equal, and a copy of the first.
+pub fn exts_content(
+    a: &ipv6_exts::HeaderError,
+    b: &ipv6_exts::HeaderError,
+) -> Result<(bool, ipv6_exts::HeaderError), AllocError>
+    ensures same { IfOk result (λ r. IsTrue r.0 ↔ (a.now ≡ b.now)) }
+    ensures copy { IfOk result (λ r. r.1 ≡ a.now) }
+{
+    Ok((a == b, a.clone()?))
+}
+
+/// Whether two errors of a chain are equal that tell a length.
+pub fn exts_slice_error(a: LenError, b: LenError) -> bool
+    ensures { IsTrue result ↔ (a ≡ b) }
+{
+    ipv6_exts::HeaderSliceError::Len(a) == ipv6_exts::HeaderSliceError::Len(b)
+}
+
+/// Whether an error of a chain that tells a length is equal to one that tells of its bytes.
+pub fn exts_slice_errors_differ(a: LenError, b: ipv6_exts::HeaderError) -> bool
+    ensures { IsFalse result }
+{
+    ipv6_exts::HeaderSliceError::Len(a) == ipv6_exts::HeaderSliceError::Content(b)
+}
+
+/// A copy of an error of a chain.
+pub fn exts_slice_error_copy(
+    e: &ipv6_exts::HeaderSliceError,
+) -> Result<ipv6_exts::HeaderSliceError, AllocError>
+    ensures { IfOk result (λ copy. copy ≡ e.now) }
+{
+    e.clone()
+}
+
+/// A type that is copied.
+fn needs_copy<T: Copy>(value: &T) -> T {
+    *value
+}
+
+/// A type that is compared and hashed.
+fn needs_hash<T: Eq + Hash>(a: &T, b: &T) -> bool {
+    a == b
+}
+
+/// The types that are copied.
+pub fn copies(
+    number: IpNumber,
+    offset: IpFragOffset,
+    source: LenSource,
+    layer: Layer,
+    header: IpAuthHeaderSlice<'_>,
+) {
+    let _ = needs_copy(&number);
+    let _ = needs_copy(&offset);
+    let _ = needs_copy(&source);
+    let _ = needs_copy(&layer);
+    let _ = needs_copy(&header);
+}
+
+/// The types that are hashed, beside the errors.
+pub fn hashes(number: IpNumber, offset: IpFragOffset, source: LenSource, layer: Layer) -> bool {
+    needs_hash(&number, &number)
+        && needs_hash(&offset, &offset)
+        && needs_hash(&source, &source)
+        && needs_hash(&layer, &layer)
+}
+
+/// The errors are hashed.
+pub fn error_hashes(
+    len: &LenError,
+    value: &ValueTooBigError,
+    auth: &ip_auth::HeaderSliceError,
+    icv: &ip_auth::IcvLenError,
+    payload: &ExtPayloadLenError,
+    chain: &ipv6_exts::HeaderSliceError,
+) -> bool {
+    needs_hash(len, len)
+        && needs_hash(value, value)
+        && needs_hash(auth, auth)
+        && needs_hash(icv, icv)
+        && needs_hash(payload, payload)
+        && needs_hash(chain, chain)
+}

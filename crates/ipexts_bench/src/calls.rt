@@ -1,0 +1,39 @@
+//! A call for each way to parse a chain.
+use crate::parses::{Lax, LaxFilter, LaxHeaders, LaxHeadersFilter, Parse, Strict, StrictFilter};
+use ip_ext_chains::IpNumber;
+
+/// The lax parse, read in full.
+#[unsafe(no_mangle)]
+pub extern "C" fn ipexts_lax(start: u8, bytes: &[u8]) -> u64 {
+    Lax::digest(IpNumber(start), bytes)
+}
+
+/// The lax parse and its headers, read in full.
+#[unsafe(no_mangle)]
+pub extern "C" fn ipexts_lax_headers(start: u8, bytes: &[u8]) -> u64 {
+    LaxHeaders::digest(IpNumber(start), bytes)
+}
+
+/// The strict parse, read in full.
+#[unsafe(no_mangle)]
+pub extern "C" fn ipexts_strict(start: u8, bytes: &[u8]) -> u64 {
+    Strict::digest(IpNumber(start), bytes)
+}
+
+/// The lax parse, read as a filter does.
+#[unsafe(no_mangle)]
+pub extern "C" fn ipexts_lax_filter(start: u8, bytes: &[u8]) -> u64 {
+    LaxFilter::digest(IpNumber(start), bytes)
+}
+
+/// The lax parse and its headers, read as a filter does.
+#[unsafe(no_mangle)]
+pub extern "C" fn ipexts_lax_headers_filter(start: u8, bytes: &[u8]) -> u64 {
+    LaxHeadersFilter::digest(IpNumber(start), bytes)
+}
+
+/// The strict parse, read as a filter does.
+#[unsafe(no_mangle)]
+pub extern "C" fn ipexts_strict_filter(start: u8, bytes: &[u8]) -> u64 {
+    StrictFilter::digest(IpNumber(start), bytes)
+}

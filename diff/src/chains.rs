@@ -1,0 +1,186 @@
+//! Start numbers and bytes that ask about chains of extension headers.
+use crate::random::Random;
+
+/// The numbers of extension headers.
+pub const EXTENSIONS: [u8; 5] = [0, 43, 44, 51, 60];
+
+/// Numbers beside them and others that mean something to a parser of another kind.
+const OTHERS: [u8; 9] = [17, 6, 58, 59, 135, 139, 140, 50, 255];
+
+/// A start number and the bytes behind it.
+pub type Asked = (u8, Vec<u8>);
+
+/// Some questions that belong together, of at most so many bytes each.
+pub fn asked(random: &mut Random, longest: usize) -> Vec<Asked> {
+    match random.below(100) {
+        0..30 => vec![linked(random, 12)],
+        30..50 => vec![flipped(random)],
+        50..65 => vec![lied(random)],
+        65..66 => cut_everywhere(random),
+        66..76 => vec![cut_once(random)],
+        76..77 => every_number(random),
+        77..78 => vec![long(random, longest)],
+        78..88 => vec![noise(random)],
+        _ => vec![few_bytes(random)],
+    }
+}
+
+fn extension(random: &mut Random) -> u8 {
+    // Hop by hop options end most chains that they stand in, so they are rarer.
+    match random.below(100) {
+        0..4 => 0,
+        4..30 => 43,
+        30..55 => 44,
+        55..77 => 51,
+        _ => 60,
+    }
+}
+
+/// The bytes of a header of this number, which leads to `next`.
+fn header(number: u8, next: u8, random: &mut Random) -> Vec<u8> {
+    let units = match random.below(100) {
+        0..60 => random.below(3),
+        60..97 => random.below(12),
+        97..99 => random.below(64),
+        _ => 200 + random.below(56),
+    };
+    let (field, len) = match number {
+        44 => (random.next() as u8, 8),
+        51 => (units.max(1) as u8, 4 * (units.max(1) + 2)),
+        _ => (units as u8, 8 * (units + 1)),
+    };
+    let mut bytes = vec![next, field];
+    bytes.extend(random.bytes(len - 2));
+    if number == 44 && random.percent(30) {
+        // A whole payload: no more flag, offset 0, whichever bits they are.
+        bytes[2..4].fill(0);
+    }
+    bytes
+}
+
+/// A chain of up to so many headers with some bytes behind it.
+fn linked(random: &mut Random, most: usize) -> Asked {
+    let count = random.below(most + 1);
+    let mut numbers: Vec<u8> = (0..count).map(|_| extension(random)).collect();
+    if let Some(first) = numbers.first_mut() {
+        if random.percent(25) {
+            *first = 0;
+        }
+    }
+    let last = match random.below(10) {
+        0..7 => OTHERS[random.below(OTHERS.len())],
+        7 => extension(random),
+        _ => random.next() as u8,
+    };
+    let mut bytes = Vec::new();
+    for (index, number) in numbers.iter().enumerate() {
+        let next = *numbers.get(index + 1).unwrap_or(&last);
+        bytes.extend(header(*number, next, random));
+    }
+    let behind = random.below(20);
+    bytes.extend(random.bytes(behind));
+    (*numbers.first().unwrap_or(&last), capped(bytes, 3000))
+}
+
+fn capped(mut bytes: Vec<u8>, longest: usize) -> Vec<u8> {
+    bytes.truncate(longest);
+    bytes
+}
+
+/// A chain with some bytes turned.
+fn flipped(random: &mut Random) -> Asked {
+    let (number, mut bytes) = linked(random, 6);
+    for _ in 0..=random.below(3) {
+        if bytes.is_empty() {
+            break;
+        }
+        let at = random.below(bytes.len());
+        bytes[at] ^= 1 << random.below(8);
+    }
+    (number, bytes)
+}
+
+/// A chain, one of whose first bytes says another length.
+fn lied(random: &mut Random) -> Asked {
+    let (number, mut bytes) = linked(random, 6);
+    let mut at = 0;
+    for _ in 0..random.below(4) {
+        // To the length field of a further header, as if all were of the common layout.
+        let len = bytes
+            .get(at + 1)
+            .map_or(0, |units| 8 * (usize::from(*units) + 1));
+        if at + len + 1 < bytes.len() {
+            at += len;
+        }
+    }
+    let lie = [0, 1, 2, 255, random.next() as u8][random.below(5)];
+    if let Some(field) = bytes.get_mut(at + 1) {
+        *field = lie;
+    }
+    (number, bytes)
+}
+
+/// A chain cut at every byte.
+fn cut_everywhere(random: &mut Random) -> Vec<Asked> {
+    let (number, bytes) = linked(random, 6);
+    let bytes = capped(bytes, 160);
+    (0..=bytes.len())
+        .map(|end| (number, bytes[..end].to_vec()))
+        .collect()
+}
+
+fn cut_once(random: &mut Random) -> Asked {
+    let (number, mut bytes) = linked(random, 8);
+    let end = random.below(bytes.len() + 1);
+    bytes.truncate(end);
+    (number, bytes)
+}
+
+/// Every number at the start, and every number behind a header.
+fn every_number(random: &mut Random) -> Vec<Asked> {
+    let before = extension(random);
+    let (_, bytes) = linked(random, 3);
+    let start = (0..=255).map(|number| (number, bytes.clone()));
+    let behind = (0..=255).map(|number| {
+        let mut all = header(before, number, &mut Random::new(u64::from(number)));
+        all.extend(&bytes);
+        (before, all)
+    });
+    start.chain(behind.clone()).collect()
+}
+
+/// As many bytes as a line can ask with, or nearly.
+fn long(random: &mut Random, longest: usize) -> Asked {
+    let start = extension(random);
+    let end = longest - random.below(4);
+    let mut number = start;
+    let mut bytes = Vec::new();
+    while bytes.len() < end {
+        let next = if random.percent(99) {
+            extension(random).max(43)
+        } else {
+            17
+        };
+        bytes.extend(header(number, next, random));
+        number = next;
+    }
+    (start, capped(bytes, end))
+}
+
+/// Bytes without order.
+fn noise(random: &mut Random) -> Asked {
+    let len = random.below(80);
+    (extension(random), random.bytes(len))
+}
+
+/// A few small bytes, which are numbers and lengths more often than others.
+fn few_bytes(random: &mut Random) -> Asked {
+    let len = random.below(40);
+    let small = |random: &mut Random| match random.below(4) {
+        0 => EXTENSIONS[random.below(5)],
+        1 => random.below(3) as u8,
+        2 => OTHERS[random.below(OTHERS.len())],
+        _ => random.next() as u8,
+    };
+    (small(random), (0..len).map(|_| small(random)).collect())
+}

@@ -1,0 +1,39 @@
+//! The texts of the original's faults.
+use etherparse::err::ipv6_exts::{HeaderError, HeaderSliceError};
+use etherparse::err::{ip_auth, LenError};
+use std::fmt::Write;
+
+/// The text of an error of length.
+pub fn push_len_fault(fault: &LenError, answer: &mut String) {
+    let LenError {
+        required_len,
+        len,
+        len_source,
+        layer,
+        layer_start_offset,
+    } = fault;
+    push(
+        answer,
+        format_args!(
+            "fault len {required_len} of {len} {len_source:?} {layer:?} at {layer_start_offset}"
+        ),
+    );
+}
+
+/// The text of a fault of an IPv6 chain.
+pub fn push_ipv6_fault(fault: &HeaderSliceError, answer: &mut String) {
+    match fault {
+        HeaderSliceError::Len(fault) => push_len_fault(fault, answer),
+        HeaderSliceError::Content(HeaderError::HopByHopNotAtStart) => {
+            answer.push_str("fault HopByHopNotAtStart")
+        }
+        HeaderSliceError::Content(HeaderError::IpAuth(ip_auth::HeaderError::ZeroPayloadLen)) => {
+            answer.push_str("fault ZeroPayloadLen");
+        }
+    }
+}
+
+/// Appends what `format_args!` says.
+pub fn push(answer: &mut String, text: std::fmt::Arguments<'_>) {
+    answer.write_fmt(text).expect("a String takes all text");
+}

@@ -1,0 +1,87 @@
+//! `exts6 N HEX`: the chain of IPv6 extension headers that begins the bytes.
+use super::{hex_of, number_and_bytes, Form};
+use crate::chains::{self, EXTENSIONS};
+use crate::faults::{push, push_ipv6_fault};
+use crate::named::Difference;
+use crate::random::Random;
+use etherparse::{IpNumber, Ipv6ExtensionSlice, Ipv6ExtensionsSlice};
+
+pub struct Exts6;
+
+impl Form for Exts6 {
+    fn name(&self) -> &'static str {
+        "exts6"
+    }
+
+    fn arguments(&self, random: &mut Random) -> Vec<String> {
+        let upper = random.percent(10);
+        let longest = super::MAX_LINE_LEN - "exts6 255 ".len();
+        chains::asked(random, longest / 2)
+            .into_iter()
+            .map(|(number, bytes)| format!("{number} {}", hex_of(&bytes, upper)))
+            .collect()
+    }
+
+    fn answer(&self, arguments: &str, answer: &mut String) -> Option<Vec<Difference>> {
+        let (number, bytes) = number_and_bytes(arguments)?;
+        let (headers, next, rest, fault) =
+            Ipv6ExtensionsSlice::from_slice_lax(IpNumber(number), &bytes);
+        let reads_on = push_headers(headers, answer);
+        push(
+            answer,
+            format_args!("next {} rest {}\n", next.0, rest.len()),
+        );
+        match fault {
+            None => answer.push_str("ok\n"),
+            Some((fault, layer)) => {
+                push_ipv6_fault(&fault, answer);
+                push(answer, format_args!(" in {layer:?}\n"));
+            }
+        }
+        Some(if reads_on {
+            vec![Difference::IteratorReadsOn]
+        } else {
+            Vec::new()
+        })
+    }
+}
+
+/// Appends a line for each header, and tells whether the original's iterator would go on behind the chain's
+/// bytes: its last header names a further one.
+fn push_headers(headers: Ipv6ExtensionsSlice<'_>, answer: &mut String) -> bool {
+    let end = headers.slice().len();
+    let mut headers = headers.into_iter();
+    let mut offset = 0;
+    let mut next = None;
+    while offset < end {
+        let header = headers
+            .next()
+            .expect("a header for the bytes that are left");
+        let (name, len, leads_to) = parts(&header);
+        push(answer, format_args!("{offset} {name} {len}\n"));
+        offset += len;
+        next = Some(leads_to);
+    }
+    next.is_some_and(|next| EXTENSIONS.contains(&next))
+}
+
+/// A header's name, its length and the number to which it leads.
+fn parts(header: &Ipv6ExtensionSlice<'_>) -> (&'static str, usize, u8) {
+    match header {
+        Ipv6ExtensionSlice::HopByHop(header) => {
+            ("hopopt", header.slice().len(), header.next_header().0)
+        }
+        Ipv6ExtensionSlice::Routing(header) => {
+            ("route", header.slice().len(), header.next_header().0)
+        }
+        Ipv6ExtensionSlice::Fragment(header) => {
+            ("frag", header.slice().len(), header.next_header().0)
+        }
+        Ipv6ExtensionSlice::DestinationOptions(header) => {
+            ("dstopts", header.slice().len(), header.next_header().0)
+        }
+        Ipv6ExtensionSlice::Authentication(header) => {
+            ("auth", header.slice().len(), header.next_header().0)
+        }
+    }
+}

@@ -1,0 +1,96 @@
+//! The forms of a line. A further form is a file here and a line in `forms`.
+mod exts6;
+
+use crate::named::Difference;
+use crate::random::Random;
+
+/// How many bytes a line may have.
+pub const MAX_LINE_LEN: usize = 8192;
+
+/// A form of a line: how it asks, and what the original answers.
+pub trait Form {
+    /// The word with which its lines begin.
+    fn name(&self) -> &'static str;
+
+    /// What stands behind the word in some lines that belong together, as a chain cut at every byte.
+    fn arguments(&self, random: &mut Random) -> Vec<String>;
+
+    /// Appends the original's answer; `None` where the arguments aren't of this form.
+    fn answer(&self, arguments: &str, answer: &mut String) -> Option<Vec<Difference>>;
+}
+
+/// All forms.
+pub fn forms() -> Vec<Box<dyn Form>> {
+    vec![Box::new(exts6::Exts6)]
+}
+
+/// Appends the original's answer to a line, and tells the named differences that it has.
+pub fn answer(forms: &[Box<dyn Form>], line: &[u8], answer: &mut String) -> Vec<Difference> {
+    let before = answer.len();
+    asked(forms, line, answer).unwrap_or_else(|| {
+        answer.truncate(before);
+        answer.push_str("bad line\n");
+        Vec::new()
+    })
+}
+
+fn asked(forms: &[Box<dyn Form>], line: &[u8], answer: &mut String) -> Option<Vec<Difference>> {
+    if line.len() > MAX_LINE_LEN {
+        return None;
+    }
+    let (word, arguments) = std::str::from_utf8(line).ok()?.split_once(' ')?;
+    forms
+        .iter()
+        .find(|form| form.name() == word)?
+        .answer(arguments, answer)
+}
+
+/// Reads `N HEX`.
+pub fn number_and_bytes(arguments: &str) -> Option<(u8, Vec<u8>)> {
+    let (number, hex) = arguments.split_once(' ')?;
+    Some((number_of(number)?, bytes_of(hex)?))
+}
+
+fn number_of(text: &str) -> Option<u8> {
+    let plain = text == "0" || !text.starts_with(['0', '+']);
+    plain.then(|| text.parse().ok()).flatten()
+}
+
+/// The bytes that hexadecimal digits spell, or none for `-`.
+pub fn bytes_of(hex: &str) -> Option<Vec<u8>> {
+    if hex == "-" {
+        return Some(Vec::new());
+    }
+    if hex.is_empty() || hex.len() % 2 != 0 {
+        return None;
+    }
+    let mut bytes = Vec::with_capacity(hex.len() / 2);
+    for pair in hex.as_bytes().chunks_exact(2) {
+        bytes.push(digit(pair[0])? * 16 + digit(pair[1])?);
+    }
+    Some(bytes)
+}
+
+fn digit(byte: u8) -> Option<u8> {
+    match byte {
+        b'0'..=b'9' => Some(byte - b'0'),
+        b'a'..=b'f' => Some(byte - b'a' + 10),
+        b'A'..=b'F' => Some(byte - b'A' + 10),
+        _ => None,
+    }
+}
+
+/// Bytes as hexadecimal digits of either case, or `-`.
+pub fn hex_of(bytes: &[u8], upper: bool) -> String {
+    const LOWER: &[u8; 16] = b"0123456789abcdef";
+    const UPPER: &[u8; 16] = b"0123456789ABCDEF";
+    if bytes.is_empty() {
+        return "-".to_owned();
+    }
+    let digits = if upper { UPPER } else { LOWER };
+    let digit = |value: u8| char::from(digits[usize::from(value)]);
+    bytes
+        .iter()
+        .flat_map(|byte| [digit(byte / 16), digit(byte % 16)])
+        .collect()
+}

@@ -1,0 +1,11 @@
+//! Answers of etherparse 0.19.0 to lines of the tool and over single headers, lines to ask with, and what
+//! is compared.
+pub mod bad_lines;
+pub mod chains;
+pub mod compare;
+pub mod faults;
+pub mod forms;
+pub mod headers;
+pub mod named;
+pub mod ours;
+pub mod random;

@@ -1,0 +1,57 @@
+//! Compares the answers of this project with those of etherparse 0.19.0.
+//!
+//!     diff lines TOOL SEED COUNT    the tool's answers to so many lines from a seed
+//!     diff headers SEED COUNT       the parts of so many single headers and the bytes written of them
+use diff::compare::{lines_of_tool, single_headers, Outcome};
+use diff::headers::ours;
+use std::process::ExitCode;
+
+fn main() -> ExitCode {
+    let arguments: Vec<String> = std::env::args().skip(1).collect();
+    let words: Vec<&str> = arguments.iter().map(String::as_str).collect();
+    let number = |text: &str| {
+        text.parse()
+            .unwrap_or_else(|_| panic!("{text} is no number"))
+    };
+    match &words[..] {
+        ["lines", tool, seed, count] => {
+            match lines_of_tool(tool, number(seed), number(count) as usize) {
+                Ok(outcome) => told("lines", seed, count, outcome),
+                Err(e) => {
+                    eprintln!("diff: {tool}: {e}");
+                    ExitCode::from(2)
+                }
+            }
+        }
+        ["headers", seed, count] => told(
+            "single headers",
+            seed,
+            count,
+            single_headers(ours, number(seed), number(count) as usize),
+        ),
+        _ => {
+            eprintln!("diff: lines TOOL SEED COUNT, or headers SEED COUNT");
+            ExitCode::from(2)
+        }
+    }
+}
+
+/// Prints how a comparison ended.
+fn told(what: &str, seed: &str, count: &str, outcome: Outcome) -> ExitCode {
+    match outcome {
+        Outcome::Same(counts) => {
+            println!("{count} {what} from seed {seed}: the answers are the same");
+            for (difference, times) in counts {
+                println!(
+                    "  but for a named difference, {times} times: {}",
+                    difference.words()
+                );
+            }
+            ExitCode::SUCCESS
+        }
+        Outcome::Different(words) => {
+            println!("{what} from seed {seed}: a difference\n{words}");
+            ExitCode::FAILURE
+        }
+    }
+}

@@ -1,0 +1,20 @@
+//! The differences that docs/DIFFERENCES.md names and that an answer can show.
+
+/// A difference. An answer that has one is the original's but for what the difference says.
+#[derive(Clone, Copy, Debug, PartialEq, Eq, PartialOrd, Ord)]
+pub enum Difference {
+    /// The original's iterator reads on behind the bytes of a chain that a lax parse ended at a fault. It was
+    /// stopped at the chain's bytes.
+    IteratorReadsOn,
+}
+
+impl Difference {
+    /// The difference in the words of the document.
+    pub fn words(self) -> &'static str {
+        match self {
+            Difference::IteratorReadsOn => {
+                "the iterator reads on behind a chain that ended at a fault"
+            }
+        }
+    }
+}

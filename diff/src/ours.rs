@@ -1,0 +1,105 @@
+//! The calls of the static library `ipexts_bench` that tell the parts of single headers.
+
+/// A header or the reason why there is none, as the library tells it.
+#[repr(C)]
+#[derive(Clone, Copy, Debug, Default, PartialEq, Eq)]
+pub struct Header {
+    /// 0: none; 1: too few bytes; 2: an authentication header's length field is 0; 3 to 5: a payload or check
+    /// value is too small, too big, no whole number of units.
+    pub fault: u8,
+    pub source: u8,
+    pub layer: u8,
+    pub next_header: u8,
+    /// 1: more fragments; 2: the payload is fragmented.
+    pub flags: u8,
+    /// The security parameters index, or the identification.
+    pub number: u32,
+    /// The sequence number, or the fragment offset.
+    pub second_number: u32,
+    pub required_len: usize,
+    pub found_len: usize,
+    pub offset: usize,
+    pub header_len: usize,
+    /// The length of the payload or of the check value.
+    pub payload_len: usize,
+    pub rest_len: usize,
+    /// How many bytes `to_bytes` gave.
+    pub spelled_len: usize,
+    /// How many bytes `write` appended.
+    pub written_len: usize,
+}
+
+unsafe extern "C" {
+    pub fn ipexts_raw_borrowed_fields(
+        bytes: *const u8,
+        len: usize,
+        payload: *mut u8,
+        payload_room: usize,
+        out: *mut Header,
+    );
+    pub fn ipexts_auth_borrowed_fields(
+        bytes: *const u8,
+        len: usize,
+        icv: *mut u8,
+        icv_room: usize,
+        out: *mut Header,
+    );
+    pub fn ipexts_fragment_borrowed_fields(bytes: *const u8, len: usize, out: *mut Header);
+    pub fn ipexts_raw_owned_fields(
+        bytes: *const u8,
+        len: usize,
+        payload: *mut u8,
+        payload_room: usize,
+        spelled: *mut u8,
+        spelled_room: usize,
+        written: *mut u8,
+        written_room: usize,
+        out: *mut Header,
+    );
+    pub fn ipexts_auth_owned_fields(
+        bytes: *const u8,
+        len: usize,
+        icv: *mut u8,
+        icv_room: usize,
+        spelled: *mut u8,
+        spelled_room: usize,
+        written: *mut u8,
+        written_room: usize,
+        out: *mut Header,
+    );
+    pub fn ipexts_fragment_owned_fields(
+        bytes: *const u8,
+        len: usize,
+        spelled: *mut u8,
+        spelled_room: usize,
+        written: *mut u8,
+        written_room: usize,
+        out: *mut Header,
+    );
+    pub fn ipexts_raw_new(
+        next_header: u8,
+        payload: *const u8,
+        payload_len: usize,
+        kept: *mut u8,
+        kept_room: usize,
+        spelled: *mut u8,
+        spelled_room: usize,
+        written: *mut u8,
+        written_room: usize,
+        out: *mut Header,
+    );
+    pub fn ipexts_auth_new(
+        next_header: u8,
+        spi: u32,
+        sequence_number: u32,
+        raw_icv: *const u8,
+        icv_len: usize,
+        kept: *mut u8,
+        kept_room: usize,
+        spelled: *mut u8,
+        spelled_room: usize,
+        written: *mut u8,
+        written_room: usize,
+        out: *mut Header,
+    );
+}

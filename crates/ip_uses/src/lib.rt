@@ -1,9 +1,10 @@
-//! Programs over the crates of the repository, proved from their public contracts alone; and pins of what no
-//! contract says, constants and impls.
+//! Programs over the crates of the repository, proved from their public contracts alone; a plain program that
+//! computes the definitions of the tool; and pins of what no contract says, constants and impls.
 #![tactic(auto)]
 
 pub mod base;
 pub mod chains;
 pub mod headers;
 pub mod pins;
+pub mod plain;
 pub mod tool;

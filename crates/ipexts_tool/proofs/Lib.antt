@@ -1,7 +1,6 @@
 pub mod SplitLemmas
 pub mod NumberLemmas
-pub mod BegunLemmas
-pub mod FieldLemmas
+pub mod OpenLineLemmas
+pub mod LineFieldLemmas
 pub mod ProgressLemmas
 pub mod MemoryLemmas
-pub mod PlainLemmas

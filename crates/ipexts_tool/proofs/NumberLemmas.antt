@@ -12,7 +12,7 @@ use Rattle.std.proofs.lemmas.Str.Parse.{IsNumeralModel, numerals_by_value, tells
 use Rattle.std.proofs.lemmas.Int.Digits.{digits_value_more, digits_more}
 use Rattle.std.proofs.lemmas.Bool.Decides.{nat_tests}
 use Rattle.std.proofs.lemmas.Fmt.{decimal_injective, decimal_is_IsNumeral, decimal_digit, first_decimal, decimal-digits_value}
-use Rattle.ipexts_tool.specs.Fields.{number_of}
+use Rattle.ipexts_tool.specs.LineFields.{number_of}
 
 -- over any range, since a tactic would count the numeral down
 module _ (text : List ℕ) where

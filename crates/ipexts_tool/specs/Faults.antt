@@ -2,8 +2,10 @@
 use Rattle.std.specs.Prelude.{ℕ, List, ◌++◌, codes}
 use Rattle.std.specs.Fmt.{decimal}
 use Rattle.ip_base.specs.declared.err.len_error.LenError.{LenError}
+use Rattle.ip_ext_headers.specs.declared.err.ip_auth.header_error.HeaderError.{HeaderError as AuthError}
 use Rattle.ip_ext_headers.specs.declared.err.ip_auth.header_error.HeaderError.TheVariants.{ZeroPayloadLen}
 use Rattle.ip_ext_chains.specs.Names.{layer_name, len_source_name}
+use Rattle.ip_ext_chains.specs.declared.err.ipv6_exts.header_error.HeaderError.{HeaderError}
 use Rattle.ip_ext_chains.specs.declared.err.ipv6_exts.header_error.HeaderError.TheVariants.{HopByHopNotAtStart, IpAuth}
 use Rattle.ip_ext_chains.specs.declared.err.ipv6_exts.header_slice_error.HeaderSliceError.{HeaderSliceError}
 use Rattle.ip_ext_chains.specs.declared.err.ipv6_exts.header_slice_error.HeaderSliceError.TheVariants.{Len, Content}
@@ -15,8 +17,16 @@ len_fault_text e =
     ++ codes " " ++ len_source_name e.len_source ++ codes " " ++ layer_name e.layer
     ++ codes " at " ++ decimal e.layer_start_offset
 
+-- what is wrong in the bytes of an authentication header
+abbrev pub auth_fault_text : AuthError → List ℕ
+auth_fault_text ZeroPayloadLen = codes "fault ZeroPayloadLen"
+
 -- what is wrong in the bytes of an IPv6 chain
-abbrev pub fault_text : HeaderSliceError → List ℕ
-fault_text (Len e) = len_fault_text e
-fault_text (Content HopByHopNotAtStart) = codes "fault HopByHopNotAtStart"
-fault_text (Content (IpAuth ZeroPayloadLen)) = codes "fault ZeroPayloadLen"
+abbrev pub content_fault_text : HeaderError → List ℕ
+content_fault_text HopByHopNotAtStart = codes "fault HopByHopNotAtStart"
+content_fault_text (IpAuth e) = auth_fault_text e
+
+-- why an IPv6 chain doesn't go on
+abbrev pub chain_fault_text : HeaderSliceError → List ℕ
+chain_fault_text (Len e) = len_fault_text e
+chain_fault_text (Content e) = content_fault_text e

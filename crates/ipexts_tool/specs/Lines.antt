@@ -2,6 +2,10 @@
 use Rattle.std.specs.Prelude.{ℕ, Bool, ◌==◌, List, [], ◌∷◌}
 use Rattle.std.specs.List.{slice_split}
 
+-- how many bytes a line of a form may have
+abbrev pub max_line_len : ℕ
+max_line_len = 8192
+
 -- whether a byte is a newline
 abbrev pub is_newline : ℕ → Bool
 is_newline b = b == 10

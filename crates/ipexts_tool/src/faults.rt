@@ -1,6 +1,7 @@
 //! The texts of faults.
 ghost use Rattle.std.specs.Prelude.{◌≡◌, ◌++◌, OnOk, string_bytes};
-ghost use Rattle.ipexts_tool.specs.Faults.{fault_text, len_fault_text};
+ghost use Rattle.ipexts_tool.specs.Faults.{len_fault_text, auth_fault_text};
+ghost use Rattle.ipexts_tool.specs.Faults.{content_fault_text, chain_fault_text};
 
 use ip_ext_chains::err::ipv6_exts::{HeaderError, HeaderSliceError};
 use ip_ext_chains::err::{LenError, ip_auth};
@@ -11,7 +12,8 @@ pub fn push_len_fault<A: Allocator>(
     fault: &LenError,
     text: &mut String<A>,
 ) -> Result<(), AllocError>
-    ensures { OnOk result (string_bytes text.new ≡ string_bytes text.old ++ len_fault_text fault.now) }
+    ensures { OnOk result
+        (string_bytes text.new ≡ string_bytes text.old ++ len_fault_text fault.now) }
 {
     let required_len = fault.required_len;
     let len = fault.len;
@@ -24,20 +26,43 @@ pub fn push_len_fault<A: Allocator>(
     )
 }
 
+/// Appends what is wrong in the bytes of an authentication header.
+pub fn push_auth_fault<A: Allocator>(
+    fault: &ip_auth::HeaderError,
+    text: &mut String<A>,
+) -> Result<(), AllocError>
+    ensures { OnOk result
+        (string_bytes text.new ≡ string_bytes text.old ++ auth_fault_text fault.now) }
+{
+    text.push_str(match fault {
+        ip_auth::HeaderError::ZeroPayloadLen => "fault ZeroPayloadLen",
+    })
+}
+
 /// Appends what is wrong in the bytes of an IPv6 chain.
-pub fn push_fault<A: Allocator>(
+fn push_content_fault<A: Allocator>(
+    fault: &HeaderError,
+    text: &mut String<A>,
+) -> Result<(), AllocError>
+    ensures { OnOk result
+        (string_bytes text.new ≡ string_bytes text.old ++ content_fault_text fault.now) }
+{
+    match fault {
+        HeaderError::HopByHopNotAtStart => text.push_str("fault HopByHopNotAtStart"),
+        HeaderError::IpAuth(fault) => push_auth_fault(fault, text),
+    }
+}
+
+/// Appends why an IPv6 chain doesn't go on.
+pub fn push_chain_fault<A: Allocator>(
     fault: &HeaderSliceError,
     text: &mut String<A>,
 ) -> Result<(), AllocError>
-    ensures { OnOk result (string_bytes text.new ≡ string_bytes text.old ++ fault_text fault.now) }
+    ensures { OnOk result
+        (string_bytes text.new ≡ string_bytes text.old ++ chain_fault_text fault.now) }
 {
     match fault {
-        HeaderSliceError::Len(e) => push_len_fault(e, text),
-        HeaderSliceError::Content(HeaderError::HopByHopNotAtStart) => {
-            text.push_str("fault HopByHopNotAtStart")
-        }
-        HeaderSliceError::Content(HeaderError::IpAuth(ip_auth::HeaderError::ZeroPayloadLen)) => {
-            text.push_str("fault ZeroPayloadLen")
-        }
+        HeaderSliceError::Len(fault) => push_len_fault(fault, text),
+        HeaderSliceError::Content(fault) => push_content_fault(fault, text),
     }
 }

@@ -2,13 +2,13 @@
 ghost use Rattle.std.specs.Prelude.{◌≡◌, ◌++◌, ℕ, [], take, OnOk};
 ghost use Rattle.std.specs.Io.KnownBytes.{Appends, Keeps};
 ghost use Rattle.ipexts_tool.specs.Answers.{answer_of, answers_to};
-ghost use Rattle.ipexts_tool.specs.Begun.{ended_lines, open_line, counted};
+ghost use Rattle.ipexts_tool.specs.OpenLine.{ended_lines, open_line, lines_at_end, kept_len};
 ghost use Rattle.ipexts_tool.specs.Progress.{AnswersFirst};
 ghost use Rattle.ipexts_tool.specs.Memory.{OnMemory};
 
 use crate::ToolError;
-use crate::answer::{MAX_LINE_LEN, answer};
-use crate::fields::split_once;
+use crate::answer::answer;
+use crate::line_fields::{MAX_LINE_LEN, split_once};
 use crate::scratch::Scratch;
 use arrayvec::ArrayVec;
 use std::alloc::Allocator;
@@ -18,7 +18,7 @@ use std::io::Write;
 pub const KEPT_LEN: usize = MAX_LINE_LEN + 1;
 
 /// A line that a chunk's end cut, as far as it is kept.
-pub type Line = ArrayVec<u8, KEPT_LEN>;
+pub type OpenLine = ArrayVec<u8, KEPT_LEN>;
 
 /// Writes the answer to `line`.
 fn tell<A: Allocator, W: Write>(
@@ -26,7 +26,8 @@ fn tell<A: Allocator, W: Write>(
     scratch: &mut Scratch<A>,
     output: &mut W,
 ) -> Result<(), ToolError>
-    ensures ok { OnOk result (Appends (W.contents output.old) (W.contents output.new) (answer_of line.now)) }
+    ensures ok { OnOk result (Appends (W.contents output.old) (W.contents output.new)
+        (answer_of line.now)) }
     ensures memory { OnMemory result (Keeps (W.contents output.old) (W.contents output.new)) }
 {
     answer(line, scratch)?;
@@ -35,8 +36,8 @@ fn tell<A: Allocator, W: Write>(
 }
 
 /// Goes on with `line`, which stops growing when it is full.
-fn keep(line: &mut Line, part: &[u8])
-    ensures { line.new.items ≡ take 8193 (line.old.items ++ part.now) }
+fn keep(line: &mut OpenLine, part: &[u8])
+    ensures { line.new.items ≡ take kept_len (line.old.items ++ part.now) }
 {
     let len = part.len().min(line.remaining_capacity());
     let _ = line.try_extend_from_slice(&part[..len]);
@@ -44,7 +45,7 @@ fn keep(line: &mut Line, part: &[u8])
 
 /// Writes the answer to the line that begins with `line` and ends with `part`, and begins a new one.
 fn end_line<A: Allocator, W: Write>(
-    line: &mut Line,
+    line: &mut OpenLine,
     part: &[u8],
     scratch: &mut Scratch<A>,
     output: &mut W,
@@ -67,15 +68,17 @@ fn end_line<A: Allocator, W: Write>(
 /// what follows them.
 pub fn feed<A: Allocator, W: Write>(
     chunk: &[u8],
-    line: &mut Line,
+    line: &mut OpenLine,
     scratch: &mut Scratch<A>,
     output: &mut W,
 ) -> Result<(), ToolError>
-    ensures kept { OnOk result (line.new.items ≡ take 8193 (open_line line.old.items chunk.now)) }
+    ensures kept { OnOk result
+        (line.new.items ≡ take kept_len (open_line line.old.items chunk.now)) }
     ensures ok { OnOk result (Appends (W.contents output.old) (W.contents output.new)
         (answers_to (ended_lines line.old.items chunk.now))) }
     ensures memory { OnMemory result ((n : ℕ)
-        × AnswersFirst (W.contents output.old) (W.contents output.new) (ended_lines line.old.items chunk.now) n) }
+        × AnswersFirst (W.contents output.old) (W.contents output.new)
+        (ended_lines line.old.items chunk.now) n) }
 {
     let mut rest = chunk;
     while let Some((part, after)) = split_once(rest, b'\n') {
@@ -93,7 +96,7 @@ pub fn finish<A: Allocator, W: Write>(
     output: &mut W,
 ) -> Result<(), ToolError>
     ensures ok { OnOk result (Appends (W.contents output.old) (W.contents output.new)
-        (answers_to (counted line.now))) }
+        (answers_to (lines_at_end line.now))) }
     ensures memory { OnMemory result (Keeps (W.contents output.old) (W.contents output.new)) }
 {
     if !line.is_empty() {

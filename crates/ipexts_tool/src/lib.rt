@@ -1,18 +1,25 @@
 //! Answers lines that ask about IP extension headers.
 //!
+//! # Lines
+//!
 //! A line is what stands before a newline; the last line may lack it and counts where it isn't empty. Its
 //! fields are separated by one space. `N` is 0 to 255 in decimal without leading zeros. `HEX` is an even
-//! number of hexadecimal digits of either case, at least two, or `-` for no bytes.
+//! number of hexadecimal digits of either case, at least two, or `-` for no bytes. A line of more than
+//! 8,192 bytes, an empty line and one of no form below is answered by `bad line`.
 //!
 //! - `exts6 N HEX` asks for the longest chain of IPv6 extension headers from number N that begins the bytes
-//!   (RFC 8200, section 4). The answer has a line `offset name length` for each header, with the names
-//!   `hopopt` (0), `route` (43), `frag` (44), `auth` (51) and `dstopts` (60); then `next N rest L`, the
-//!   number of what follows and how many bytes do; then `ok`, or the fault with ` in ` and the layer at
-//!   which it lies. A fault is `fault len R of L S Y at O`, where R bytes are required and L are there, as
-//!   S tells, for layer Y at offset O; or `fault ZeroPayloadLen`; or `fault HopByHopNotAtStart`.
+//!   (RFC 8200, section 4). The answer has a line for each header, then `next N rest L`, then how the chain
+//!   ended: `ok`, or the fault with ` in ` and the layer at which it lies.
 //!
-//! A line of more than 8,192 bytes, an empty line and one of no form is answered by `bad line`. Each line of
-//! an answer ends in a newline.
+//! # Parts of answers
+//!
+//! Each line of an answer ends in a newline.
+//!
+//! - A header is told by `offset name length`, in bytes from the first one on, with the names `hopopt` (0),
+//!   `route` (43), `frag` (44), `auth` (51) and `dstopts` (60).
+//! - `next N rest L` tells the number of what follows the headers, and how many bytes do.
+//! - A fault is `fault len R of L S Y at O`, where R bytes are required and L are there, as S tells, for
+//!   layer Y at offset O; or `fault ZeroPayloadLen`; or `fault HopByHopNotAtStart`.
 #![tactic(auto)]
 
 ghost use Rattle.std.specs.Prelude.{◌≡◌, ℕ, List, take, OnOk, IfOk, IfSome};
@@ -27,14 +34,14 @@ mod answer;
 mod exts6;
 mod faults;
 mod feed;
-mod fields;
-mod plain;
+mod line_fields;
+mod parts;
+mod request;
 mod scratch;
 mod tool_error;
 
 use arrayvec::ArrayVec;
-use feed::{Line, feed, finish};
-pub use plain::plain_answers;
+use feed::{OpenLine, feed, finish};
 use scratch::Scratch;
 use std::alloc::Allocator;
 use std::io;
@@ -45,11 +52,16 @@ pub use tool_error::ToolError;
 const CHUNK_LEN: usize = 65536;
 
 /// Answers each line of the input. Each answer is put together first and written at once, and the output is
-/// flushed after each read that gave bytes.
+/// flushed after each read that gave bytes and after a last line without a newline.
 ///
-/// A read or a write that fails is an `Io` error, and then nothing is said of the output. So is an input that
-/// isn't at its end after 2^64 - 1 reads, of which one that is interrupted is tried again and counts. Where
-/// there is no memory for an answer, the error is `Memory`, and the answers to all lines before stand.
+/// A read, a write or a flush that fails is an `Io` error, and then nothing is said of the output. So is an
+/// input that isn't at its end after 2^64 - 1 reads, of which one that is interrupted is tried again and
+/// counts. Where there is no memory for an answer, the error is `Memory`, and the answers to all lines before
+/// stand.
+///
+/// The clauses speak of a reader and a writer that tell their bytes, as a slice and a vector do. A file,
+/// standard input and standard output don't, and the clauses say nothing of what those hold. When an error
+/// comes no clause says either: that is tested.
 pub fn run<A: Allocator + Copy, R: Read, W: Write>(
     alloc: A,
     input: &mut R,
@@ -59,7 +71,8 @@ pub fn run<A: Allocator + Copy, R: Read, W: Write>(
     ensures answers { OnOk result (IfSome (R.remaining input.old) (λ bytes.
         Appends (W.contents output.old) (W.contents output.new) (answers bytes))) }
     ensures memory { OnMemory result (IfSome (R.remaining input.old) (λ bytes. (n : ℕ)
-        × Appends (W.contents output.old) (W.contents output.new) (answers_to (take n (lines_of bytes))))) }
+        × Appends (W.contents output.old) (W.contents output.new)
+        (answers_to (take n (lines_of bytes))))) }
 {
     let mut chunk = [0; CHUNK_LEN];
     let mut line = ArrayVec::new();
@@ -78,7 +91,7 @@ fn advance<A: Allocator, R: Read, W: Write>(
     input: &mut R,
     output: &mut W,
     chunk: &mut [u8; CHUNK_LEN],
-    line: &mut Line,
+    line: &mut OpenLine,
     scratch: &mut Scratch<A>,
 ) -> Result<bool, ToolError>
     ensures ok { OnOk result (Advances (R.remaining input.old) (R.remaining input.new)

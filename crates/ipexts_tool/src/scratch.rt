@@ -1,6 +1,6 @@
 ghost use Rattle.std.specs.Prelude.{◌≡◌, [], replicate, string_bytes};
 
-use crate::fields::BYTES_LEN;
+use crate::line_fields::BYTES_LEN;
 use std::alloc::Allocator;
 
 /// Buffers that each line uses anew.
@@ -16,7 +16,7 @@ impl<A: Allocator> Scratch<A> {
     /// Buffers that hold nothing yet.
     pub fn new(alloc: A) -> Self
         ensures text { string_bytes result.text ≡ [] }
-        ensures bytes { result.bytes ≡ replicate 4096 0 }
+        ensures bytes { result.bytes ≡ replicate BYTES_LEN 0 }
     {
         Scratch {
             text: String::new(alloc),

@@ -1,5 +1,5 @@
 //! Runs over memory, and over readers, writers and allocators that fail.
-use super::{ToolError, plain_answers, run};
+use super::{ToolError, run};
 use linked_list_allocator::LocalHeap;
 use std::alloc::{AllocError, Global};
 use std::io;
@@ -12,36 +12,39 @@ struct Drip<'a> {
     bytes: &'a [u8],
     /// Each second call is interrupted.
     is_hesitant: bool,
-    /// The end is a failure.
-    is_broken: bool,
+    /// How the end fails.
+    failure: Option<ErrorKind>,
     waits: bool,
+    calls: u32,
 }
 
 impl Read for Drip<'_> {
     fn read(&mut self, buf: &mut [u8]) -> io::Result<usize> {
+        self.calls = self.calls.wrapping_add(1);
         self.waits = !self.waits && self.is_hesitant;
         if self.waits {
             return Err(io::Error::from(ErrorKind::Interrupted));
         }
-        match (self.bytes.split_first(), buf.first_mut()) {
-            (Some((byte, rest)), Some(place)) => {
-                *place = *byte;
-                self.bytes = rest;
-                Ok(1)
-            }
-            _ if self.is_broken => Err(io::Error::from(ErrorKind::PermissionDenied)),
-            _ => Ok(0),
+        if let (Some((byte, rest)), Some(place)) = (self.bytes.split_first(), buf.first_mut()) {
+            *place = *byte;
+            self.bytes = rest;
+            return Ok(1);
+        }
+        match self.failure {
+            Some(kind) => Err(io::Error::from(kind)),
+            None => Ok(0),
         }
     }
 }
 
-/// A writer that counts its calls, and fails after some writes.
+/// A writer that counts its calls, and fails after some of each.
 #[derive(Drop)]
 struct Counter {
     written: Vec<u8>,
     writes: u32,
     writes_left: u32,
     flushes: u32,
+    flushes_left: u32,
 }
 
 impl Write for Counter {
@@ -56,17 +59,22 @@ impl Write for Counter {
     }
 
     fn flush(&mut self) -> io::Result<()> {
+        if self.flushes_left == 0 {
+            return Err(io::Error::from(ErrorKind::BrokenPipe));
+        }
+        self.flushes_left -= 1;
         self.flushes = self.flushes.wrapping_add(1);
         Ok(())
     }
 }
 
-fn counting(alloc: Global, writes_left: u32) -> Counter {
+fn counting(alloc: Global) -> Counter {
     Counter {
         written: Vec::new(alloc),
         writes: 0,
-        writes_left,
+        writes_left: u32::MAX,
         flushes: 0,
+        flushes_left: u32::MAX,
     }
 }
 
@@ -74,9 +82,15 @@ fn dripping(bytes: &[u8]) -> Drip<'_> {
     Drip {
         bytes,
         is_hesitant: false,
-        is_broken: false,
+        failure: None,
         waits: false,
+        calls: 0,
     }
+}
+
+/// Whether a run failed with this kind of error.
+fn failed_with(ended: &Result<(), ToolError>, kind: ErrorKind) -> bool {
+    matches!(ended, Err(ToolError::Io(e)) if e.kind() == kind)
 }
 
 /// What a run over these bytes writes.
@@ -134,11 +148,6 @@ fn exts6_answers(rt: HostRuntime) -> Result<(), Fail> {
     ];
     for (name, input, answer) in rows {
         assert_eq!(rt; output_of(rt.alloc(), input)?.as_slice(), answer, "{name}");
-        assert_eq!(rt;
-            plain_answers(rt.alloc(), input)?.as_slice(),
-            answer,
-            "{name}"
-        );
     }
     Ok(())
 }
@@ -175,11 +184,6 @@ fn bad_lines(rt: HostRuntime) -> Result<(), Fail> {
         let answers = b"bad line\nnext 17 rest 0\nok\n".as_slice();
         assert_eq!(rt;
             output_of(rt.alloc(), &input)?.as_slice(),
-            answers,
-            "{name}"
-        );
-        assert_eq!(rt;
-            plain_answers(rt.alloc(), &input)?.as_slice(),
             answers,
             "{name}"
         );
@@ -238,23 +242,27 @@ fn lines_come_in_pieces(rt: HostRuntime) -> Result<(), Fail> {
         run(rt.alloc(), &mut input, &mut output)?;
         assert_eq!(rt; output.as_slice(), ANSWERS, "interrupted: {is_hesitant}");
     }
+    // More bytes than a chunk has, at once and one by one.
     let many = repeated(rt.alloc(), b"exts6 17 00010203\n", 5000)?;
     let answers = repeated(rt.alloc(), b"next 17 rest 4\nok\n", 5000)?;
     assert_eq!(rt;
         output_of(rt.alloc(), &many)?.as_slice(),
         answers.as_slice()
     );
+    let mut output = Vec::new(rt.alloc());
+    run(rt.alloc(), &mut dripping(&many), &mut output)?;
+    assert_eq!(rt; output.as_slice(), answers.as_slice(), "90,000 reads");
     Ok(())
 }
 
 #[test]
 fn each_answer_is_written_at_once(rt: HostRuntime) -> Result<(), Fail> {
     let many = repeated(rt.alloc(), b"exts6 17 00010203\n", 5000)?;
-    let mut output = counting(rt.alloc(), u32::MAX);
+    let mut output = counting(rt.alloc());
     run(rt.alloc(), &mut many.as_slice(), &mut output)?;
     assert_eq!(rt; (output.writes, output.flushes), (5000, 2), "two chunks");
 
-    let mut output = counting(rt.alloc(), u32::MAX);
+    let mut output = counting(rt.alloc());
     run(rt.alloc(), &mut &LINES[..], &mut output)?;
     assert_eq!(rt;
         (output.writes, output.flushes),
@@ -267,28 +275,42 @@ fn each_answer_is_written_at_once(rt: HostRuntime) -> Result<(), Fail> {
 
 #[test]
 fn failures_are_told(rt: HostRuntime) -> Result<(), Fail> {
-    let mut output = Vec::new(rt.alloc());
-    let mut input = Drip {
-        is_broken: true,
-        ..dripping(LINES)
-    };
-    let result = run(rt.alloc(), &mut input, &mut output);
-    assert!(rt;
-        matches!(&result, Err(ToolError::Io(e)) if e.kind() == ErrorKind::PermissionDenied)
-    );
-    assert!(rt;
-        ANSWERS.starts_with(&output),
-        "the last line isn't answered"
-    );
-    assert!(rt; output.len() < ANSWERS.len());
-
-    for writes in 0..4 {
-        let mut output = counting(rt.alloc(), writes);
-        let result = run(rt.alloc(), &mut &LINES[..], &mut output);
-        assert!(rt;
-            matches!(&result, Err(ToolError::Io(e)) if e.kind() == ErrorKind::PermissionDenied)
+    for kind in [ErrorKind::PermissionDenied, ErrorKind::WouldBlock] {
+        let mut output = Vec::new(rt.alloc());
+        let mut input = Drip {
+            failure: Some(kind),
+            ..dripping(LINES)
+        };
+        let result = run(rt.alloc(), &mut input, &mut output);
+        assert!(rt; failed_with(&result, kind), "{kind:?}");
+        assert_eq!(rt;
+            input.calls as usize,
+            LINES.len() + 1,
+            "{kind:?}: no call after it"
         );
-        assert_eq!(rt; output.writes, writes);
+        assert_eq!(rt;
+            output.as_slice(),
+            &ANSWERS[..115],
+            "{kind:?}: the last line has no answer"
+        );
+    }
+    for writes_left in 0..4 {
+        let mut output = Counter {
+            writes_left,
+            ..counting(rt.alloc())
+        };
+        let result = run(rt.alloc(), &mut &LINES[..], &mut output);
+        assert!(rt; failed_with(&result, ErrorKind::PermissionDenied));
+        assert_eq!(rt; output.writes, writes_left, "no write after it");
+    }
+    for (flushes_left, writes) in [(0, 3), (1, 4)] {
+        let mut output = Counter {
+            flushes_left,
+            ..counting(rt.alloc())
+        };
+        let result = run(rt.alloc(), &mut &LINES[..], &mut output);
+        assert!(rt; failed_with(&result, ErrorKind::BrokenPipe));
+        assert_eq!(rt; (output.writes, output.flushes), (writes, flushes_left));
     }
     Ok(())
 }
@@ -298,7 +320,7 @@ fn refused_memory_leaves_whole_answers(rt: HostRuntime) -> Result<(), Fail> {
     let (mut refused, mut answered) = (0, false);
     for size in 0..24 {
         let heap = LocalHeap::new(rt.alloc(), size * 16)?;
-        let mut output = counting(rt.alloc(), u32::MAX);
+        let mut output = counting(rt.alloc());
         match run(&heap, &mut &LINES[..], &mut output) {
             Ok(()) => {
                 assert_eq!(rt; output.written.as_slice(), ANSWERS, "at {size}");

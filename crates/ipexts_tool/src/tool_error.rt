@@ -8,7 +8,7 @@ use std::{fmt, io};
 /// Why a run ended before the end of its input.
 #[derive(Debug, Drop)]
 pub enum ToolError {
-    /// A read or a write failed, or the input did not end within 2^64 - 1 reads.
+    /// A read, a write or a flush failed, or the input did not end within 2^64 - 1 reads.
     Io(io::Error),
     /// There was no memory for an answer. The answers to all lines before it were written.
     Memory(AllocError),

@@ -1,6 +1,7 @@
 use Rattle.std.proofs.Common.{[], take, ap, ◌∙◌, lit≤}
 use Rattle.std.proofs.KnownBytes.{Appends-kept, Consumes-nil, Consumes-kept}
 use Rattle.std.proofs.lemmas.List.{take-take}
+use Rattle.ipexts_tool.specs.OpenLine.{kept_len}
 use Rattle.ipexts_tool.proofs.ProgressLemmas.{Advances-none, read_none}
 use Rattle.ipexts_tool.proofs.advance.Goals as goal
 
@@ -16,5 +17,5 @@ returns-clause-ok g c = (
   take c.in-Ok.n c.read.new.buf,
   c.in-Ok.ensures.bytes.0,
   Appends-kept _ _ _ _ c.in_ok-answered.ensures.ok c.in_ok-flush.ensures.bytes,
-  ap (take 8193) c.in_ok-answered.ensures.kept ∙ take-take 8193 8193 _ (lit≤ tt),
+  ap (take kept_len) c.in_ok-answered.ensures.kept ∙ take-take kept_len kept_len _ (lit≤ tt),
 )

@@ -3,7 +3,7 @@ use Rattle.std.specs.Prelude.{string_bytes}
 use Rattle.ip_ext_chains.specs.Chain.{bytes_of}
 use Rattle.ip_ext_chains.specs.Ipv6ExtensionsSlice.{headers_in, bytes}
 use Rattle.ip_ext_chains.specs.Ipv6ExtensionSliceIter.{headers_left}
-use Rattle.ipexts_tool.specs.Exts6.{header_lines}
+use Rattle.ipexts_tool.specs.Parts.{header_lines}
 use Rattle.ipexts_tool.proofs.exts6.push_headers.Given as goal
 
 -- the lines so far and those to come are all the lines, and so are the bytes

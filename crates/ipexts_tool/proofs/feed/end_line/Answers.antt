@@ -1,5 +1,5 @@
 use Rattle.std.proofs.Common.{◌++◌}
-use Rattle.ipexts_tool.proofs.BegunLemmas.{answer_of-take}
+use Rattle.ipexts_tool.proofs.OpenLineLemmas.{answer_of-take}
 use Rattle.ipexts_tool.proofs.feed.end_line.Goals as goal
 
 pub returns-clause-ok : goal.returns-clause-ok

@@ -1,7 +1,7 @@
 use Rattle.std.proofs.Common.{◌≡◌, ◌++◌, ◌∷◌, [], ℕ, List, length, take, ap, sym, ◌∙◌, append_assoc, append-nil}
 use Rattle.std.proofs.lemmas.Result.{err_from_is_err_and}
-use Rattle.ipexts_tool.specs.Begun.{ended_lines, open_line}
-use Rattle.ipexts_tool.proofs.BegunLemmas.{ended_lines-found, open_line-found, ended_lines-absent, open_line-absent}
+use Rattle.ipexts_tool.specs.OpenLine.{ended_lines, open_line, kept_len}
+use Rattle.ipexts_tool.proofs.OpenLineLemmas.{ended_lines-found, open_line-found, ended_lines-absent, open_line-absent}
 use Rattle.ipexts_tool.proofs.MemoryLemmas.{IfMemory-weaker}
 use Rattle.ipexts_tool.proofs.ProgressLemmas.{Appends-more, AnswersFirst-told}
 use Rattle.ipexts_tool.proofs.feed.feed.Goals as goal
@@ -45,7 +45,7 @@ returns-clause-kept g c =
     let line : List ℕ = c.loop-part.line.items in
     let rest : List ℕ = c.loop-part.rest.now in
     c.keep.ensures
-    ∙ ap (take 8193) (sym (c.loop-part.invariant.going_on ∙ open_line-absent line rest c.in_default.ensures.absent))
+    ∙ ap (take kept_len) (sym (c.loop-part.invariant.going_on ∙ open_line-absent line rest c.in_default.ensures.absent))
 
 pub returns-clause-ok : goal.returns-clause-ok
 returns-clause-ok g c =

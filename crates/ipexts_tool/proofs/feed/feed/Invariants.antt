@@ -1,7 +1,7 @@
 use Rattle.std.proofs.Common.{◌≡◌, List, ℕ, ◌++◌, length}
 use Rattle.std.specs.Io.KnownBytes.{Appends}
 use Rattle.ipexts_tool.specs.Answers.{answers_to}
-use Rattle.ipexts_tool.specs.Begun.{ended_lines, open_line}
+use Rattle.ipexts_tool.specs.OpenLine.{ended_lines, open_line}
 use Rattle.ipexts_tool.proofs.feed.feed.Given as goal
 
 -- some lines ended and were answered, and what is left goes on with the line that began

@@ -1,0 +1,238 @@
+//! The answers of the tool computed in the plainest way, all in memory and line by line. It is slow, and shares
+//! no code with the tool.
+ghost use Rattle.std.specs.Prelude.{◌≡◌, ◌++◌, ◌==◌, ◌^◌, ◌<◌, length, map};
+ghost use Rattle.std.specs.Prelude.{IfOk, OnOk, string_bytes};
+ghost use Rattle.std.specs.List.{slice_split};
+ghost use Rattle.std.specs.Option.{option_map};
+ghost use Rattle.ip_spec.specs.Chain.{bytes_of};
+ghost use Rattle.ip_spec.specs.PlainHeader.{plain_header_of};
+ghost use Rattle.ipexts_tool.specs.Answers.{answers, answer_of};
+ghost use Rattle.ipexts_tool.specs.Exts6.{exts6_answer};
+ghost use Rattle.ipexts_tool.specs.Faults.{chain_fault_text};
+ghost use Rattle.ipexts_tool.specs.LineFields.{number_of, bytes_of_hex};
+ghost use Rattle.ipexts_tool.specs.Lines.{lines_of};
+ghost use Rattle.ipexts_tool.specs.Request.{Exts6, request_of_fields};
+ghost use Rattle.ipexts_tool.specs.Parts.{header_name, header_lines, next_line, chain_end_line};
+ghost use Rattle.hex.specs.Hex.{hex_digit_value};
+ghost use Rattle.ip_uses.specs.Digits.{byte_of_digits};
+
+use ip_base::err::Layer;
+use ip_ext_chains::err::ipv6_exts::{HeaderError, HeaderSliceError};
+use ip_ext_chains::plain_fault;
+use ip_spec::{PlainHeader, plain_longest_chain};
+use std::alloc::{AllocError, Global};
+
+/// The answer to a line that asks for nothing.
+const BAD_LINE: &str = "bad line\n";
+
+/// The answers to all lines of `input`, one after the other. It refuses only for want of memory.
+pub fn plain_answers(alloc: Global, input: &[u8]) -> Result<Vec<u8>, AllocError>
+    ensures { IfOk result (λ text. text.items ≡ answers input.now) }
+{
+    let mut text = String::new(alloc);
+    let lines = plain_lines(alloc, input)?;
+    for line in &lines {
+        push_answer(alloc, line, &mut text)?;
+    }
+    Ok(text.into_bytes())
+}
+
+/// The parts of a text that a byte separates.
+fn plain_parts<'a>(
+    alloc: Global,
+    separator: u8,
+    text: &'a [u8],
+) -> Result<Vec<&'a [u8]>, AllocError>
+    ensures { IfOk result (λ parts.
+        map (λ part. part.now) parts.items ≡ slice_split (λ b. b == separator) text.now) }
+{
+    text.split(|byte| *byte == separator).collect(alloc)
+}
+
+/// The lines of an input.
+fn plain_lines<'a>(alloc: Global, input: &'a [u8]) -> Result<Vec<&'a [u8]>, AllocError>
+    ensures { IfOk result (λ lines. map (λ line. line.now) lines.items ≡ lines_of input.now) }
+{
+    let mut lines = plain_parts(alloc, b'\n', input)?;
+    let Some(last) = lines.pop() else {
+        return Ok(lines);
+    };
+    if last.is_empty() {
+        return Ok(lines);
+    }
+    lines.push(last)?;
+    Ok(lines)
+}
+
+/// Appends the answer to a line.
+fn push_answer(alloc: Global, line: &[u8], text: &mut String) -> Result<(), AllocError>
+    ensures { OnOk result (string_bytes text.new ≡ string_bytes text.old ++ answer_of line.now) }
+{
+    if line.len() > 8192 {
+        return text.push_str(BAD_LINE);
+    }
+    let fields = plain_parts(alloc, b' ', line)?;
+    match plain_request(alloc, &fields)? {
+        Some((number, bytes)) => push_exts6(alloc, number, &bytes, text),
+        None => text.push_str(BAD_LINE),
+    }
+}
+
+/// The number and the bytes of which the fields of a line ask for the chain.
+fn plain_request(alloc: Global, fields: &[&[u8]]) -> Result<Option<(u8, Vec<u8>)>, AllocError>
+    ensures { IfOk result (λ request. option_map (λ asked. Exts6 (asked.0, asked.1.items)) request
+        ≡ request_of_fields (map (λ field. field.now) fields.now)) }
+{
+    let [form, number, digits] = fields else {
+        return Ok(None);
+    };
+    if *form != b"exts6".as_slice() {
+        return Ok(None);
+    }
+    let Some(number) = plain_number(alloc, number)? else {
+        return Ok(None);
+    };
+    let Some(bytes) = plain_bytes(alloc, digits)? else {
+        return Ok(None);
+    };
+    Ok(Some((number, bytes)))
+}
+
+/// The number below 256 whose decimal numeral a text is.
+fn plain_number(alloc: Global, text: &[u8]) -> Result<Option<u8>, AllocError>
+    ensures { IfOk result (λ number. number ≡ number_of text.now) }
+{
+    for number in 0..256u16 {
+        if format!(in alloc; "{number}")?.as_bytes() == text {
+            return Ok(Some(number as u8));
+        }
+    }
+    Ok(None)
+}
+
+/// The value of a hexadecimal digit of either case.
+fn hex_digit_value(digit: u8) -> Option<u8>
+    ensures { result ≡ hex_digit_value digit }
+{
+    match digit {
+        b'0'..=b'9' => Some(digit - b'0'),
+        b'a'..=b'f' => Some(digit - b'a' + 10),
+        b'A'..=b'F' => Some(digit - b'A' + 10),
+        _ => None,
+    }
+}
+
+/// The byte of two hexadecimal digits.
+fn byte_of_digits(high: u8, low: u8) -> Option<u8>
+    ensures { result ≡ byte_of_digits high low }
+{
+    Some(hex_digit_value(high)? * 16 + hex_digit_value(low)?)
+}
+
+/// The bytes whose hexadecimal digits a text is.
+fn plain_bytes(alloc: Global, text: &[u8]) -> Result<Option<Vec<u8>>, AllocError>
+    ensures { IfOk result (λ bytes. option_map (λ b. b.items) bytes ≡ bytes_of_hex text.now) }
+{
+    let mut bytes = Vec::new(alloc);
+    if text == b"-".as_slice() {
+        return Ok(Some(bytes));
+    }
+    if text.is_empty() || text.len() % 2 == 1 {
+        return Ok(None);
+    }
+    for pair in 0..text.len() / 2 {
+        let Some(byte) = byte_of_digits(text[2 * pair], text[2 * pair + 1]) else {
+            return Ok(None);
+        };
+        bytes.push(byte)?;
+    }
+    Ok(Some(bytes))
+}
+
+/// Appends the answer to `exts6` with this number and these bytes.
+fn push_exts6(alloc: Global, number: u8, bytes: &[u8], text: &mut String) -> Result<(), AllocError>
+    ensures { OnOk result
+        (string_bytes text.new ≡ string_bytes text.old ++ exts6_answer number bytes.now) }
+{
+    let chain = plain_longest_chain(alloc, number, bytes)?;
+    let offset = bytes.len() - chain.rest.len();
+    push_headers(&chain.headers, text)?;
+    push_next(chain.number, chain.rest, text)?;
+    let first = chain.headers.is_empty();
+    push_chain_end(plain_fault(first, chain.number, chain.rest, offset), text)
+}
+
+/// Appends the number of what follows the headers, and how many bytes do.
+fn push_next(number: u8, rest: &[u8], text: &mut String) -> Result<(), AllocError>
+    ensures { OnOk result
+        (string_bytes text.new ≡ string_bytes text.old ++ next_line number (length rest.now)) }
+{
+    let len = rest.len();
+    writeln!(text, "next {number} rest {len}")
+}
+
+/// Appends a line for each header.
+fn push_headers(headers: &[PlainHeader<'_>], text: &mut String) -> Result<(), AllocError>
+    requires { length (bytes_of (map plain_header_of headers.now)) < 2 ^ 64 }
+    ensures { OnOk result (string_bytes text.new
+        ≡ string_bytes text.old ++ header_lines 0 (map plain_header_of headers.now)) }
+{
+    let mut offset = 0;
+    for header in headers {
+        let name = header_name(header.number);
+        let len = header.bytes.len();
+        writeln!(text, "{offset} {name} {len}")?;
+        offset += len;
+    }
+    Ok(())
+}
+
+/// The name of the headers of a number.
+fn header_name(number: u8) -> &'static str
+    ensures { result.now ≡ header_name number }
+{
+    match number {
+        0 => "hopopt",
+        43 => "route",
+        44 => "frag",
+        51 => "auth",
+        60 => "dstopts",
+        _ => "",
+    }
+}
+
+/// Appends `ok`, or the fault and its layer.
+fn push_chain_end(
+    fault: Option<(HeaderSliceError, Layer)>,
+    text: &mut String,
+) -> Result<(), AllocError>
+    ensures { OnOk result (string_bytes text.new ≡ string_bytes text.old ++ chain_end_line fault) }
+{
+    let Some((fault, layer)) = fault else {
+        return text.push_str("ok\n");
+    };
+    push_chain_fault(&fault, text)?;
+    let layer = layer.name();
+    writeln!(text, " in {layer}")
+}
+
+/// Appends a fault.
+fn push_chain_fault(fault: &HeaderSliceError, text: &mut String) -> Result<(), AllocError>
+    ensures { OnOk result
+        (string_bytes text.new ≡ string_bytes text.old ++ chain_fault_text fault.now) }
+{
+    match fault {
+        HeaderSliceError::Len(e) => {
+            let (required, len, offset) = (e.required_len, e.len, e.layer_start_offset);
+            let (source, layer) = (e.len_source.name(), e.layer.name());
+            write!(
+                text,
+                "fault len {required} of {len} {source} {layer} at {offset}"
+            )
+        }
+        HeaderSliceError::Content(HeaderError::HopByHopNotAtStart) => {
+            text.push_str("fault HopByHopNotAtStart")
+        }
+        HeaderSliceError::Content(HeaderError::IpAuth(_)) => text.push_str("fault ZeroPayloadLen"),
+    }
+}

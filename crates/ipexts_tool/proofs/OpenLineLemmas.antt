@@ -1,0 +1,250 @@
+-- The lines of bytes that come in parts.
+use Rattle.std.proofs.Common.{◌≡◌, ℕ, zero, suc, min, ◌+◌, ◌<◌, true, false, cond, List, [], ◌∷◌, ◌++◌, length, take, refl, sym, ap, ◌∙◌, arith, inl, inr, append-nil, append_assoc, length-append}
+use Rattle.std.specs.Prelude.{if◌then◌else◌, nat_le, Option, None}
+use Rattle.std.specs.List.{slice_split, onto_first}
+use Rattle.std.specs.Option.{option_map_or}
+use Rattle.std.proofs.lemmas.Bool.{cases_lt, cases_Bool, cond-false, lt-leb}
+use Rattle.std.proofs.lemmas.List.{take_all, take-append-le, take_at, length-take}
+use Rattle.std.proofs.Math.Seq.{take-append-add}
+use Rattle.std.proofs.lemmas.List.Splits.{slice_split-cons_yes, slice_split-cons_no}
+use Rattle.ipexts_tool.specs.Lines.{is_newline, lines_of, without_empty_last, max_line_len}
+use Rattle.ipexts_tool.specs.OpenLine.{onto_begun, all_but_last, last_line, ended_lines, open_line, lines_at_end, kept_len}
+use Rattle.ipexts_tool.specs.Answers.{answer_of, answers_to, bad_line}
+use Rattle.ipexts_tool.specs.Request.{Request, answer_to, request_of, request_of_fields}
+use Rattle.ipexts_tool.specs.LineFields.{fields_of}
+use Rattle.ipexts_tool.specs.Progress.{SameKept}
+
+-- ---- one byte more at the front
+
+-- the parts of a list are never none
+pub some_parts : (bytes : List ℕ) → (line : List ℕ) × (lines : List (List ℕ)) × (slice_split is_newline bytes ≡ line ∷ lines)
+some_parts [] = ([], [], refl)
+some_parts (b ∷ bytes) =
+    let rest = some_parts bytes in
+    elim (is_newline b) as (λ t. (line : List ℕ) × (lines : List (List ℕ)) × (cond t ([] ∷ slice_split is_newline bytes) (onto_first b (slice_split is_newline bytes)) ≡ line ∷ lines)) [
+      | true ↦ ([], slice_split is_newline bytes, refl)
+      | false ↦ (b ∷ rest.0, rest.1, ap (onto_first b) rest.2)
+    ]
+
+onto_begun-none : (parts : List (List ℕ)) → onto_begun [] parts ≡ parts
+onto_begun-none [] = refl
+onto_begun-none (line ∷ lines) = refl
+
+onto_begun-first : (begun : List ℕ) (b : ℕ) (line : List ℕ) (lines : List (List ℕ))
+    → onto_begun begun (onto_first b (line ∷ lines)) ≡ onto_begun (begun ++ b ∷ []) (line ∷ lines)
+onto_begun-first begun b line lines = ap (λ (l : List ℕ). l ∷ lines) (sym (append_assoc begun (b ∷ []) line))
+
+-- all but the last line, and the last, where the lines are not none
+module _ (first : List ℕ) (parts : List (List ℕ)) (line : List ℕ) (lines : List (List ℕ)) (some : parts ≡ line ∷ lines) where
+  all_but_last-cons : all_but_last (first ∷ parts) ≡ first ∷ all_but_last parts
+  all_but_last-cons = rw some refl
+
+  last_line-cons : last_line (first ∷ parts) ≡ last_line parts
+  last_line-cons = rw some refl
+
+-- ---- the first newline
+
+module _ (begun bytes part rest : List ℕ) (found : slice_split is_newline bytes ≡ part ∷ slice_split is_newline rest) where
+  pub ended_lines-found : ended_lines begun bytes ≡ (begun ++ part) ∷ ended_lines [] rest
+  unfolding ended_lines
+  ended_lines-found =
+      let some = some_parts rest in
+      ap (λ (parts : List (List ℕ)). all_but_last (onto_begun begun parts)) found
+      ∙ all_but_last-cons (begun ++ part) (slice_split is_newline rest) some.0 some.1 some.2
+      ∙ ap (λ (parts : List (List ℕ)). (begun ++ part) ∷ all_but_last parts) (sym (onto_begun-none (slice_split is_newline rest)))
+
+  pub open_line-found : open_line begun bytes ≡ open_line [] rest
+  unfolding open_line
+  open_line-found =
+      let some = some_parts rest in
+      ap (λ (parts : List (List ℕ)). last_line (onto_begun begun parts)) found
+      ∙ last_line-cons (begun ++ part) (slice_split is_newline rest) some.0 some.1 some.2
+      ∙ ap last_line (sym (onto_begun-none (slice_split is_newline rest)))
+
+module _ (begun bytes : List ℕ) (absent : slice_split is_newline bytes ≡ bytes ∷ []) where
+  pub ended_lines-absent : ended_lines begun bytes ≡ []
+  unfolding ended_lines
+  ended_lines-absent = ap (λ (parts : List (List ℕ)). all_but_last (onto_begun begun parts)) absent
+
+  pub open_line-absent : open_line begun bytes ≡ begun ++ bytes
+  unfolding open_line
+  open_line-absent = ap (λ (parts : List (List ℕ)). last_line (onto_begun begun parts)) absent
+
+-- ---- one byte more at the front
+
+module _ (begun : List ℕ) (b : ℕ) (bytes : List ℕ) where
+  parts-other : is_newline b ≡ false → onto_begun begun (slice_split is_newline (b ∷ bytes)) ≡ onto_begun (begun ++ b ∷ []) (slice_split is_newline bytes)
+  parts-other e =
+      let some = some_parts bytes in
+      ap (onto_begun begun) (slice_split-cons_no is_newline b bytes e ∙ ap (onto_first b) some.2)
+      ∙ onto_begun-first begun b some.0 some.1
+      ∙ ap (onto_begun (begun ++ b ∷ [])) (sym some.2)
+
+  ended_lines-other : is_newline b ≡ false → ended_lines begun (b ∷ bytes) ≡ ended_lines (begun ++ b ∷ []) bytes
+  unfolding ended_lines
+  ended_lines-other e = ap all_but_last (parts-other e)
+
+  open_line-other : is_newline b ≡ false → open_line begun (b ∷ bytes) ≡ open_line (begun ++ b ∷ []) bytes
+  unfolding open_line
+  open_line-other e = ap last_line (parts-other e)
+
+  ended_lines-newline : is_newline b ≡ true → ended_lines begun (b ∷ bytes) ≡ begun ∷ ended_lines [] bytes
+  ended_lines-newline e =
+      ended_lines-found begun (b ∷ bytes) [] bytes (slice_split-cons_yes is_newline b bytes e)
+      ∙ ap (λ (l : List ℕ). l ∷ ended_lines [] bytes) (append-nil begun)
+
+  open_line-newline : is_newline b ≡ true → open_line begun (b ∷ bytes) ≡ open_line [] bytes
+  open_line-newline e = open_line-found begun (b ∷ bytes) [] bytes (slice_split-cons_yes is_newline b bytes e)
+
+-- ---- bytes that come in two parts
+
+pub ended_lines-nil : (begun : List ℕ) → ended_lines begun [] ≡ []
+ended_lines-nil begun = ended_lines-absent begun [] refl
+
+pub open_line-nil : (begun : List ℕ) → open_line begun [] ≡ begun
+open_line-nil begun = open_line-absent begun [] refl ∙ append-nil begun
+
+pub ended_lines-append : (begun xs ys : List ℕ) → ended_lines begun (xs ++ ys) ≡ ended_lines begun xs ++ ended_lines (open_line begun xs) ys
+ended_lines-append begun [] ys = rw (ended_lines-nil begun, open_line-nil begun) refl
+ended_lines-append begun (b ∷ xs) ys =
+    elim (cases_Bool (is_newline b)) [
+      | inl newline ↦
+          rw (ended_lines-newline begun b (xs ++ ys) newline, ended_lines-newline begun b xs newline, open_line-newline begun b xs newline)
+          (ap (λ (ls : List (List ℕ)). begun ∷ ls) (ended_lines-append [] xs ys))
+      | inr other ↦
+          rw (ended_lines-other begun b (xs ++ ys) other, ended_lines-other begun b xs other, open_line-other begun b xs other)
+          (ended_lines-append (begun ++ b ∷ []) xs ys)
+    ]
+
+pub open_line-append : (begun xs ys : List ℕ) → open_line begun (xs ++ ys) ≡ open_line (open_line begun xs) ys
+open_line-append begun [] ys = rw (open_line-nil begun) refl
+open_line-append begun (b ∷ xs) ys =
+    elim (cases_Bool (is_newline b)) [
+      | inl newline ↦ rw (open_line-newline begun b (xs ++ ys) newline, open_line-newline begun b xs newline) (open_line-append [] xs ys)
+      | inr other ↦ rw (open_line-other begun b (xs ++ ys) other, open_line-other begun b xs other) (open_line-append (begun ++ b ∷ []) xs ys)
+    ]
+
+-- ---- all the lines
+
+without_empty_last-is : (line : List ℕ) (lines : List (List ℕ)) → without_empty_last (line ∷ lines) ≡ all_but_last (line ∷ lines) ++ lines_at_end (last_line (line ∷ lines))
+without_empty_last-is [] [] = refl
+without_empty_last-is (b ∷ bytes) [] = refl
+without_empty_last-is [] (next ∷ lines) = ap (λ (ls : List (List ℕ)). [] ∷ ls) (without_empty_last-is next lines)
+without_empty_last-is (b ∷ bytes) (next ∷ lines) = ap (λ (ls : List (List ℕ)). (b ∷ bytes) ∷ ls) (without_empty_last-is next lines)
+
+pub lines_of-is : (bytes : List ℕ) → lines_of bytes ≡ ended_lines [] bytes ++ lines_at_end (open_line [] bytes)
+unfolding ended_lines open_line
+lines_of-is bytes =
+    let some = some_parts bytes in
+    rw (onto_begun-none (slice_split is_newline bytes), some.2) (without_empty_last-is some.0 some.1)
+
+-- the lines of an input that begins with xs begin with those that end in xs
+pub lines_of-append : (xs ys : List ℕ)
+    → lines_of (xs ++ ys) ≡ ended_lines [] xs ++ (ended_lines (open_line [] xs) ys ++ lines_at_end (open_line [] (xs ++ ys)))
+lines_of-append xs ys =
+    lines_of-is (xs ++ ys)
+    ∙ ap (λ (ls : List (List ℕ)). ls ++ lines_at_end (open_line [] (xs ++ ys))) (ended_lines-append [] xs ys)
+    ∙ append_assoc (ended_lines [] xs) (ended_lines (open_line [] xs) ys) (lines_at_end (open_line [] (xs ++ ys)))
+
+-- ---- what is kept of a line that has begun
+
+-- over any limit, since a tactic would count the numeral down
+request_upto : ℕ → List ℕ → Option Request
+request_upto m line = if nat_le (length line) m then request_of_fields (fields_of line) else None
+
+too_long : (m : ℕ) (line : List ℕ) → m < length line → request_upto m line ≡ None
+unfolding request_upto
+too_long m line long = cond-false (nat_le (length line) m) (request_of_fields (fields_of line)) None (lt-leb (length line) m long)
+
+request_upto-kept : (m : ℕ) (begun line : List ℕ) → request_upto m (take (m + 1) begun ++ line) ≡ request_upto m (begun ++ line)
+request_upto-kept m begun line =
+    elim (cases_lt m (length begun)) [
+      | inl long ↦
+          let kept : m < length (take (m + 1) begun ++ line)
+          = omega (arith, length-append (take (m + 1) begun) line, length-take (m + 1) begun) in
+          let whole : m < length (begun ++ line) = omega (arith, length-append begun line) in
+          too_long m (take (m + 1) begun ++ line) kept ∙ sym (too_long m (begun ++ line) whole)
+      | inr short ↦ rw (take_all (m + 1) begun (omega arith)) refl
+    ]
+
+request_of-kept : (begun line : List ℕ) → request_of (take kept_len begun ++ line) ≡ request_of (begun ++ line)
+unfolding request_upto
+request_of-kept begun line = request_upto-kept max_line_len begun line
+
+-- what is kept of a line suffices for its answer
+pub answer_of-kept : (begun line : List ℕ) → answer_of (take kept_len begun ++ line) ≡ answer_of (begun ++ line)
+answer_of-kept begun line = ap (λ (request : Option Request). option_map_or answer_to request bad_line) (request_of-kept begun line)
+
+pub answer_of-take : (line : List ℕ) → answer_of (take kept_len line) ≡ answer_of line
+answer_of-take line = rw (← append-nil (take kept_len line)) (answer_of-kept line [] ∙ ap answer_of (append-nil line))
+
+take_kept : (m : ℕ) (begun line : List ℕ) → take m (take m begun ++ line) ≡ take m (begun ++ line)
+take_kept m begun line =
+    elim (cases_lt m (length begun)) [
+      | inl long ↦
+          let full : length (take m begun) ≡ m = omega (arith, length-take m begun) in
+          take_at (take m begun) line m full ∙ sym (take-append-le m begun line (omega arith))
+      | inr short ↦ rw (take_all m begun short) refl
+    ]
+
+-- what is kept of a line, with as much of its next part as there is room for
+pub take-room : (m room : ℕ) (begun part : List ℕ) → room + length begun ≡ m → begun ++ take (min (length part) room) part ≡ take m (begun ++ part)
+take-room m room begun part e =
+    let whole : length begun + room ≡ m = omega arith in
+    rw (← whole, take-append-add begun part room)
+    (ap (λ (l : List ℕ). begun ++ l)
+    (elim (cases_lt room (length part)) [
+      | inl less ↦ ap (λ (n : ℕ). take n part) (let e : min (length part) room ≡ room = omega arith in e)
+      | inr all ↦
+          let e : min (length part) room ≡ length part = omega arith in
+          rw e (take_all (length part) part (omega arith) ∙ sym (take_all room part all))
+    ]))
+
+lines_at_end-take : (line : List ℕ) → answers_to (lines_at_end (take kept_len line)) ≡ answers_to (lines_at_end line)
+lines_at_end-take [] = refl
+lines_at_end-take (b ∷ bytes) = ap (λ (l : List ℕ). l ++ []) (answer_of-take (b ∷ bytes))
+
+-- the answers and what is kept are those of the whole line
+module _ (begun : List ℕ) where
+  answers_by_parts : (n : ℕ) (parts : List (List ℕ))
+      → answers_to (take n (all_but_last (onto_begun (take kept_len begun) parts))) ≡ answers_to (take n (all_but_last (onto_begun begun parts)))
+  answers_by_parts n [] = refl
+  answers_by_parts n (line ∷ []) = refl
+  answers_by_parts zero (line ∷ next ∷ lines) = refl
+  answers_by_parts (suc n) (line ∷ next ∷ lines) = ap (λ (l : List ℕ). l ++ answers_to (take n (all_but_last (next ∷ lines)))) (answer_of-kept begun line)
+
+  kept_by_parts : (m : ℕ) (parts : List (List ℕ)) → take m (last_line (onto_begun (take m begun) parts)) ≡ take m (last_line (onto_begun begun parts))
+  kept_by_parts m [] = refl
+  kept_by_parts m (line ∷ []) = take_kept m begun line
+  kept_by_parts m (line ∷ next ∷ lines) = refl
+
+  first_answers-take : (n : ℕ) (bytes : List ℕ) → answers_to (take n (ended_lines (take kept_len begun) bytes)) ≡ answers_to (take n (ended_lines begun bytes))
+  unfolding ended_lines
+  first_answers-take n bytes = answers_by_parts n (slice_split is_newline bytes)
+
+  take-open_line : (bytes : List ℕ) → take kept_len (open_line (take kept_len begun) bytes) ≡ take kept_len (open_line begun bytes)
+  unfolding open_line
+  take-open_line bytes = kept_by_parts kept_len (slice_split is_newline bytes)
+
+module _ (begun begun' : List ℕ) (same : SameKept begun begun') where
+  pub first_answers-kept : (n : ℕ) (bytes : List ℕ) → answers_to (take n (ended_lines begun bytes)) ≡ answers_to (take n (ended_lines begun' bytes))
+  first_answers-kept n bytes =
+      sym (first_answers-take begun n bytes)
+      ∙ ap (λ (l : List ℕ). answers_to (take n (ended_lines l bytes))) same
+      ∙ first_answers-take begun' n bytes
+
+  pub answers_to-kept : (bytes : List ℕ) → answers_to (ended_lines begun bytes) ≡ answers_to (ended_lines begun' bytes)
+  answers_to-kept bytes =
+      let n = length (ended_lines begun bytes) + length (ended_lines begun' bytes) in
+      ap answers_to (sym (take_all n (ended_lines begun bytes) (omega arith)))
+      ∙ first_answers-kept n bytes
+      ∙ ap answers_to (take_all n (ended_lines begun' bytes) (omega arith))
+
+  pub open_line-kept : (bytes : List ℕ) → SameKept (open_line begun bytes) (open_line begun' bytes)
+  open_line-kept bytes =
+      sym (take-open_line begun bytes)
+      ∙ ap (λ (l : List ℕ). take kept_len (open_line l bytes)) same
+      ∙ take-open_line begun' bytes
+
+  pub lines_at_end-kept : answers_to (lines_at_end begun) ≡ answers_to (lines_at_end begun')
+  lines_at_end-kept = sym (lines_at_end-take begun) ∙ ap (λ (l : List ℕ). answers_to (lines_at_end l)) same ∙ lines_at_end-take begun'

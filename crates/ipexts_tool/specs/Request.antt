@@ -1,0 +1,38 @@
+-- What a line asks for, and the answer to it. A form has a constructor with its equations in
+-- `request_in` and `answer_to`, and an arm in `request_of_form`.
+use Rattle.std.specs.Prelude.{ℕ, List, [], ◌∷◌, length, nat_le, Option, None, if◌then◌else◌, codes}
+use Rattle.std.specs.Option.{option_map}
+use Rattle.std.specs.Str.{bytes_eq}
+use Rattle.ipexts_tool.specs.Lines.{max_line_len}
+use Rattle.ipexts_tool.specs.Exts6.{exts6_answer}
+use Rattle.ipexts_tool.specs.LineFields.{fields_of, number_and_bytes}
+use Rattle.ipexts_tool.specs.declared.request.Request.{Request as ParsedRequest}
+use Rattle.ipexts_tool.specs.declared.request.Request.TheVariants as parsed
+
+-- a form with what its arguments stand for
+pub data Request : Type 0 where
+  Exts6 : (arguments : ℕ × List ℕ) → Request
+
+-- the request that the program read
+abbrev pub request_in : ParsedRequest → Request
+request_in (parsed.Exts6 number bytes) = Exts6 (number.0, bytes.now)
+
+-- the answer to a request
+abbrev pub answer_to : Request → List ℕ
+answer_to (Exts6 a) = exts6_answer a.0 a.1
+
+-- what a form with these arguments asks for
+abbrev pub request_of_form : List ℕ → List (List ℕ) → Option Request
+request_of_form form arguments =
+    if bytes_eq form (codes "exts6") then option_map Exts6 (number_and_bytes arguments)
+    else None
+
+-- the same, where the form is the first field
+abbrev pub request_of_fields : List (List ℕ) → Option Request
+request_of_fields [] = None
+request_of_fields (form ∷ arguments) = request_of_form form arguments
+
+-- what a line asks for: nothing where it is too long or has no form
+abbrev pub request_of : List ℕ → Option Request
+request_of line =
+    if nat_le (length line) max_line_len then request_of_fields (fields_of line) else None

@@ -1,0 +1,78 @@
+//! The fields of a line, and the numbers and bytes that they stand for.
+ghost use Rattle.std.specs.Prelude.{◌≡◌, ◌==◌, ◌<◌, ◌≤◌, ℕ, ◌∷◌, [], take, length, IfSome, IfNone};
+ghost use Rattle.std.specs.List.{slice_split};
+ghost use Rattle.std.specs.Option.{option_map};
+ghost use Rattle.ipexts_tool.specs.Lines.{max_line_len};
+ghost use Rattle.ipexts_tool.specs.LineFields.{fields_of, number_of};
+ghost use Rattle.ipexts_tool.specs.LineFields.{bytes_of_hex, number_and_bytes};
+
+use ip_ext_chains::IpNumber;
+
+/// How many bytes a line may have.
+pub const MAX_LINE_LEN: usize = 8192;
+
+/// How many bytes the digits of one line can stand for.
+pub const BYTES_LEN: usize = MAX_LINE_LEN / 2;
+
+/// What stands before the first `separator`, and what stands behind it.
+pub fn split_once(text: &[u8], separator: u8) -> Option<(&[u8], &[u8])>
+    ensures found { IfSome result (λ parts. slice_split (λ b. b == separator) text.now
+        ≡ parts.0.now ∷ slice_split (λ b. b == separator) parts.1.now) }
+    ensures shorter { IfSome result (λ parts. length parts.1.now < length text.now) }
+    ensures absent { IfNone result (slice_split (λ b. b == separator) text.now ≡ text.now ∷ []) }
+{
+    let end = text.iter().position(|byte| *byte == separator)?;
+    Some((&text[..end], &text[end + 1..]))
+}
+
+/// The number below 256 whose decimal numeral is `text`.
+fn parse_number(text: &[u8]) -> Option<u8>
+    ensures { result ≡ number_of text.now }
+{
+    if text.is_empty() {
+        return None;
+    }
+    if text[0] == b'0' && text.len() > 1 {
+        return None;
+    }
+    let mut number = 0u8;
+    for byte in text {
+        if !byte.is_ascii_digit() {
+            return None;
+        }
+        number = number.checked_mul(10)?.checked_add(*byte - b'0')?;
+    }
+    Some(number)
+}
+
+/// The bytes whose hexadecimal digits `text` is, put into `buffer`.
+fn parse_hex<'a>(text: &[u8], buffer: &'a mut [u8; BYTES_LEN]) -> Option<&'a [u8]>
+    requires { length text.now ≤ max_line_len }
+    ensures { option_map (λ bytes. bytes.now) result ≡ bytes_of_hex text.now }
+{
+    if text == b"-".as_slice() {
+        return Some(&[]);
+    }
+    if text.len() < 2 {
+        return None;
+    }
+    let len = text.len() / 2;
+    let bytes = &mut buffer[..len];
+    hex::decode_to_slice(text, bytes).ok()?;
+    Some(bytes)
+}
+
+/// Reads `N HEX`.
+pub fn parse_number_and_hex<'a>(
+    text: &[u8],
+    buffer: &'a mut [u8; BYTES_LEN],
+) -> Option<(IpNumber, &'a [u8])>
+    requires { length text.now ≤ max_line_len }
+    ensures { option_map (λ read. (read.0.0, read.1.now)) result
+        ≡ number_and_bytes (fields_of text.now) }
+{
+    let (number, hex) = split_once(text, b' ')?;
+    let number = parse_number(number)?;
+    let bytes = parse_hex(hex, buffer)?;
+    Some((IpNumber(number), bytes))
+}

@@ -1,0 +1,89 @@
+//! The parts of answers that several forms have.
+ghost use Rattle.std.specs.Prelude.{◌≡◌, ◌++◌, OnOk, string_bytes};
+ghost use Rattle.ipexts_tool.specs.Parts.{header_name, header_line, next_line};
+ghost use Rattle.ipexts_tool.specs.Parts.{written_line, ok_line, chain_end_line};
+
+use crate::faults::push_chain_fault;
+use ip_ext_chains::IpNumber;
+use ip_ext_chains::err::Layer;
+use ip_ext_chains::err::ipv6_exts::HeaderSliceError;
+use std::alloc::{AllocError, Allocator};
+
+/// The name of the headers of a number.
+fn header_name(number: IpNumber) -> &'static str
+    ensures { result.now ≡ header_name number.0 }
+{
+    match number.0 {
+        0 => "hopopt",
+        43 => "route",
+        44 => "frag",
+        51 => "auth",
+        60 => "dstopts",
+        _ => "",
+    }
+}
+
+/// Appends `offset name length` of a header.
+pub fn push_header<A: Allocator>(
+    offset: usize,
+    number: IpNumber,
+    len: usize,
+    text: &mut String<A>,
+) -> Result<(), AllocError>
+    ensures { OnOk result
+        (string_bytes text.new ≡ string_bytes text.old ++ header_line offset number.0 len) }
+{
+    let name = header_name(number);
+    writeln!(text, "{offset} {name} {len}")
+}
+
+/// Appends the number of what follows the headers, and how many bytes do.
+pub fn push_next<A: Allocator>(
+    number: IpNumber,
+    len: usize,
+    text: &mut String<A>,
+) -> Result<(), AllocError>
+    ensures { OnOk result
+        (string_bytes text.new ≡ string_bytes text.old ++ next_line number.0 len) }
+{
+    let number = number.0;
+    writeln!(text, "next {number} rest {len}")
+}
+
+/// Appends the bytes that were written.
+pub fn push_written<A: Allocator + Copy>(
+    alloc: A,
+    bytes: &[u8],
+    text: &mut String<A>,
+) -> Result<(), AllocError>
+    ensures { OnOk result
+        (string_bytes text.new ≡ string_bytes text.old ++ written_line bytes.now) }
+{
+    if bytes.is_empty() {
+        return text.push_str("written -\n");
+    }
+    let digits = hex::encode(alloc, bytes)?;
+    writeln!(text, "written {digits}")
+}
+
+/// Appends that there is no fault.
+pub fn push_ok<A: Allocator>(text: &mut String<A>) -> Result<(), AllocError>
+    ensures { OnOk result (string_bytes text.new ≡ string_bytes text.old ++ ok_line) }
+{
+    text.push_str("ok\n")
+}
+
+/// Appends what ended an IPv6 chain.
+pub fn push_chain_end<A: Allocator>(
+    fault: Option<(HeaderSliceError, Layer)>,
+    text: &mut String<A>,
+) -> Result<(), AllocError>
+    ensures { OnOk result (string_bytes text.new ≡ string_bytes text.old ++ chain_end_line fault) }
+{
+    let Some((fault, layer)) = fault else {
+        return push_ok(text);
+    };
+    push_chain_fault(&fault, text)?;
+    let layer = layer.name();
+    writeln!(text, " in {layer}")
+}

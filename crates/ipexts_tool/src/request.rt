@@ -1,0 +1,60 @@
+//! What a line asks for. A form of a line has a variant, an arm where the line is read and an arm where the
+//! request is answered.
+ghost use Rattle.std.specs.Prelude.{◌≡◌, ◌++◌, ◌≤◌, length, OnOk, string_bytes};
+ghost use Rattle.std.specs.Option.{option_map};
+ghost use Rattle.ipexts_tool.specs.Lines.{max_line_len};
+ghost use Rattle.ipexts_tool.specs.Request.{request_in, answer_to, request_of, request_of_form};
+ghost use Rattle.ipexts_tool.specs.LineFields.{fields_of};
+
+use crate::exts6::push_exts6;
+use crate::line_fields::{BYTES_LEN, MAX_LINE_LEN, parse_number_and_hex, split_once};
+use ip_ext_chains::IpNumber;
+use std::alloc::{AllocError, Allocator};
+
+/// What a line asks for.
+#[derive(Drop)]
+pub enum Request<'a> {
+    /// `exts6 N HEX`.
+    Exts6(IpNumber, &'a [u8]),
+}
+
+/// What a line asks for, if it isn't too long and has a form. `buffer` takes the bytes that its digits
+/// stand for.
+pub fn parse_request<'a>(line: &[u8], buffer: &'a mut [u8; BYTES_LEN]) -> Option<Request<'a>>
+    ensures { option_map request_in result ≡ request_of line.now }
+{
+    if line.len() > MAX_LINE_LEN {
+        return None;
+    }
+    let (form, arguments) = split_once(line, b' ')?;
+    parse_form(form, arguments, buffer)
+}
+
+/// What a form with these arguments asks for.
+fn parse_form<'a>(
+    form: &[u8],
+    arguments: &[u8],
+    buffer: &'a mut [u8; BYTES_LEN],
+) -> Option<Request<'a>>
+    requires { length arguments.now ≤ max_line_len }
+    ensures { option_map request_in result ≡ request_of_form form.now (fields_of arguments.now) }
+{
+    if form == b"exts6".as_slice() {
+        let (number, bytes) = parse_number_and_hex(arguments, buffer)?;
+        return Some(Request::Exts6(number, bytes));
+    }
+    None
+}
+
+/// Appends the answer to a request.
+pub fn push_answer<A: Allocator>(
+    request: Request<'_>,
+    text: &mut String<A>,
+) -> Result<(), AllocError>
+    ensures { OnOk result
+        (string_bytes text.new ≡ string_bytes text.old ++ answer_to (request_in request.entry)) }
+{
+    match request {
+        Request::Exts6(number, bytes) => push_exts6(number, bytes, text),
+    }
+}

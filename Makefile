@@ -1,6 +1,7 @@
 # `make run` answers the lines of standard input; `make test` tries the program and passes the merge gate.
-# `make bench` measures and `make diff` compares against etherparse 0.19.0; `make diff-test` tests the comparison. These three take
-# CARGO_FLAGS="..", further flags for Cargo, as one that says where the crate lies on a machine without a network.
+# `make bench` measures and `make diff` compares against etherparse 0.19.0; `make diff-test` tests the
+# comparison. These three take CARGO_FLAGS="..", further flags for Cargo, as one that says where the crate lies
+# on a machine without a network.
 .PHONY: run test bench diff diff-test
 .SILENT:
 

@@ -5,8 +5,25 @@ use std::collections::BTreeMap;
 /// The highest ratio that is allowed, but for the rows below.
 const GOAL: f64 = 1.0;
 
-/// Rows with a higher goal, each with its reason in docs/DECISIONS.md.
-const HIGHER_GOALS: &[(&str, f64)] = &[];
+/// Rows with a higher goal: how the name begins, what it has in it, and the goal; the first that fits counts.
+/// docs/DECISIONS.md has the reasons.
+const HIGHER_GOALS: &[(&str, &str, f64)] = &[
+    ("", "chain of 4096", 1.90),
+    ("lax", "chain of 64", 1.20),
+    ("lax, in full", "first", 1.25),
+    ("lax, in full", "behind", 1.25),
+    ("lax", "packets", 1.05),
+    ("lax", "packet", 1.05),
+    ("strict", "", 1.30),
+    ("authentication header, to_bytes", "", 2.90),
+    ("raw header, to_bytes", "", 1.90),
+    ("authentication header, write", "", 2.00),
+    ("raw header, write", "", 1.25),
+    ("raw header", "", 1.30),
+    ("fragment header", "", 1.25),
+    ("authentication header", "", 1.10),
+    ("the tool", "", 1.10),
+];
 
 /// A row at one alignment, as `measure` prints it.
 #[derive(Clone)]
@@ -130,8 +147,8 @@ fn judge(lines: &[Line]) -> Judged {
     let count = lines.len() as f64;
     let goal = HIGHER_GOALS
         .iter()
-        .find(|(name, _)| *name == line.name)
-        .map_or(GOAL, |(_, goal)| *goal);
+        .find(|(begin, part, _)| line.name.starts_with(begin) && line.name.contains(part))
+        .map_or(GOAL, |(_, _, goal)| *goal);
     Judged {
         mean: ratios.iter().sum::<f64>() / count,
         middle: lines.iter().map(Line::middle_ratio).sum::<f64>() / count,

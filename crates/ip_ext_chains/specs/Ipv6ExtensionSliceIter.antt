@@ -1,12 +1,8 @@
 -- What an iterator over a chain has left.
-use Rattle.std.specs.Prelude.{◌≡◌, ℕ, List, Option, MatchOption, Bool, ◌==◌, ◌&&◌, nat_eq}
-use Rattle.std.specs.Iterator.{YieldsFirstBy}
+use Rattle.std.specs.Prelude.{ℕ, List, Bool, ◌==◌, ◌&&◌, nat_eq}
 use Rattle.std.specs.Cmp.Lexicographic.{pointwise}
 use Rattle.ip_spec.specs.Chain.{ExtHeader}
-use Rattle.ip_spec.specs.Fields.{next_header}
 use Rattle.ip_ext_chains.specs.Longest.{longest_chain}
-use Rattle.ip_ext_chains.specs.Ipv6ExtensionSlice.{header_of}
-use Rattle.ip_ext_chains.specs.declared.ipv6_ext_slice.Ipv6ExtensionSlice.{Ipv6ExtensionSlice}
 use Rattle.ip_ext_chains.specs.declared.ipv6_ext_slice_iter.Ipv6ExtensionSliceIter.{Ipv6ExtensionSliceIter}
 
 -- the number of the next header
@@ -24,10 +20,3 @@ headers_left it = longest_chain it.next_header.0 it.rest.now
 -- two have the same number and bytes left
 abbrev pub same_left : Ipv6ExtensionSliceIter → Ipv6ExtensionSliceIter → Bool
 same_left a b = (number_left a == number_left b) && pointwise nat_eq (bytes_left a) (bytes_left b)
-
--- A step yields the first of the headers left, and the number is then the one that it names; where there is none,
--- nothing changes.
-abbrev pub Steps : Ipv6ExtensionSliceIter → Option Ipv6ExtensionSlice → Ipv6ExtensionSliceIter → Type 0
-Steps before yielded after =
-    YieldsFirstBy header_of headers_left before yielded after
-    × MatchOption yielded (number_left after ≡ number_left before) (λ h. number_left after ≡ next_header (header_of h).bytes)

@@ -9,7 +9,7 @@ ghost use Rattle.ip_ext_chains.specs.StartNumber.{start_number};
 
 use crate::err::Layer;
 use crate::err::ipv6_exts::HeaderSliceError;
-use crate::step::{after, fault, header_at, is_extension};
+use crate::step::{after, error_at, fault, header_at, is_extension};
 use crate::{Ipv6ExtensionSlice, Ipv6ExtensionSliceIter};
 use ip_base::{IpNumber, ip_number};
 use std::alloc::AllocError;
@@ -89,10 +89,12 @@ impl<'a> Ipv6ExtensionsSlice<'a> {
             ≡ (if length (bytes result.0) == 0 then None else Some start_ip_number) }
     {
         let (number, rest, len, fragmented) = Self::walk(start_ip_number, start_slice);
-        let found = Self::first(start_ip_number, start_slice, len, fragmented);
         if is_extension(number) {
-            return (found, number, rest, Some(fault(len == 0, number, rest, len)));
+            let fault = fault(len == 0, number, rest, len);
+            let found = Self::first(start_ip_number, start_slice, len, fragmented);
+            return (found, number, rest, Some(fault));
         }
+        let found = Self::first(start_ip_number, start_slice, len, fragmented);
         (found, number, rest, None)
     }
 
@@ -133,7 +135,7 @@ impl<'a> Ipv6ExtensionsSlice<'a> {
     {
         let (number, rest, len, fragmented) = Self::walk(start_ip_number, start_slice);
         if is_extension(number) {
-            return Err(fault(len == 0, number, rest, len).0);
+            return Err(error_at(len == 0, number, rest, len));
         }
         let found = Self::first(start_ip_number, start_slice, len, fragmented);
         Ok((found, number, rest))

@@ -1,5 +1,6 @@
 //! The step from one header of an IPv6 chain to the next.
 ghost use Rattle.std.specs.Prelude.{◌≡◌, ◌≤◌, ◌+◌, ◌*◌, ◌↔◌, ◌==◌, length, drop, slice_index, nat_lt, if◌then◌else◌, IsTrue, Option, Some, IsSome, IfSome, IfNone};
+ghost use Rattle.std.specs.Option.{option_map};
 ghost use Rattle.ip_spec.specs.Header.{IsExtensionNumber};
 ghost use Rattle.ip_spec.specs.Chain.{IsNext, IsEnd};
 ghost use Rattle.ip_ext_chains.specs.Fault.{slice_fault};
@@ -74,54 +75,56 @@ pub(crate) fn is_extension(number: IpNumber) -> bool
     )
 }
 
-/// The fault at an extension number with which no header goes on, where `bytes` are left and `offset` bytes
-/// are behind; `first` tells that no header is before it. It stands apart, since most chains end without one.
+/// What is wrong at an extension number with which no header goes on, where `bytes` are left and `offset`
+/// bytes are behind; `first` tells that no header is before it.
+#[inline(always)]
+pub(crate) fn error_at(
+    first: bool,
+    number: IpNumber,
+    bytes: &[u8],
+    offset: usize,
+) -> HeaderSliceError
+    requires { IsSome (slice_fault offset first number.0 bytes.now) }
+    ensures { option_map (λ f. f.0) (slice_fault offset first number.0 bytes.now) ≡ Some result }
+{
+    let (required_len, layer) = match number {
+        ip_number::IPV6_HOP_BY_HOP if !first => {
+            return HeaderSliceError::Content(HeaderError::HopByHopNotAtStart);
+        }
+        ip_number::IPV6_FRAG => (8, Layer::Ipv6FragHeader),
+        ip_number::AUTH if bytes.len() < 12 => (12, Layer::IpAuthHeader),
+        ip_number::AUTH if bytes[1] == 0 => {
+            let error = HeaderError::IpAuth(ip_auth::HeaderError::ZeroPayloadLen);
+            return HeaderSliceError::Content(error);
+        }
+        ip_number::AUTH => ((usize::from(bytes[1]) + 2) * 4, Layer::IpAuthHeader),
+        _ => (required_raw_len(bytes), Layer::Ipv6ExtHeader),
+    };
+    HeaderSliceError::Len(LenError {
+        required_len,
+        len: bytes.len(),
+        len_source: LenSource::Slice,
+        layer,
+        layer_start_offset: offset,
+    })
+}
+
+/// The fault at an extension number with which no header goes on, as `error_at`, with its layer. It stands
+/// apart, since most chains end without one.
 #[cold]
 #[inline(never)]
 pub(crate) fn fault(first: bool, number: IpNumber, bytes: &[u8], offset: usize) -> Fault
     requires { IsSome (slice_fault offset first number.0 bytes.now) }
     ensures { slice_fault offset first number.0 bytes.now ≡ Some result }
 {
-    let (required_len, short, layer) = match number {
-        ip_number::IPV6_HOP_BY_HOP if !first => {
-            let error = HeaderError::HopByHopNotAtStart;
-            return (HeaderSliceError::Content(error), Layer::Ipv6HopByHopHeader);
-        }
-        ip_number::IPV6_HOP_BY_HOP => (
-            required_raw_len(bytes),
-            Layer::Ipv6ExtHeader,
-            Layer::Ipv6HopByHopHeader,
-        ),
-        ip_number::IPV6_ROUTE => (
-            required_raw_len(bytes),
-            Layer::Ipv6ExtHeader,
-            Layer::Ipv6RouteHeader,
-        ),
-        ip_number::IPV6_FRAG => (8, Layer::Ipv6FragHeader, Layer::Ipv6FragHeader),
-        ip_number::AUTH if bytes.len() < 12 => (12, Layer::IpAuthHeader, Layer::IpAuthHeader),
-        ip_number::AUTH if bytes[1] == 0 => {
-            let error = HeaderError::IpAuth(ip_auth::HeaderError::ZeroPayloadLen);
-            return (HeaderSliceError::Content(error), Layer::IpAuthHeader);
-        }
-        ip_number::AUTH => (
-            (usize::from(bytes[1]) + 2) * 4,
-            Layer::IpAuthHeader,
-            Layer::IpAuthHeader,
-        ),
-        _ => (
-            required_raw_len(bytes),
-            Layer::Ipv6ExtHeader,
-            Layer::Ipv6DestOptionsHeader,
-        ),
+    let layer = match number {
+        ip_number::IPV6_HOP_BY_HOP => Layer::Ipv6HopByHopHeader,
+        ip_number::IPV6_ROUTE => Layer::Ipv6RouteHeader,
+        ip_number::IPV6_FRAG => Layer::Ipv6FragHeader,
+        ip_number::AUTH => Layer::IpAuthHeader,
+        _ => Layer::Ipv6DestOptionsHeader,
     };
-    let error = LenError {
-        required_len,
-        len: bytes.len(),
-        len_source: LenSource::Slice,
-        layer: short,
-        layer_start_offset: offset,
-    };
-    (HeaderSliceError::Len(error), layer)
+    (error_at(first, number, bytes, offset), layer)
 }
 
 /// How many bytes a header of the common layout needs: 8, where the bytes are too few to tell its own length.

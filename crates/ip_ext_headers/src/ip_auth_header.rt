@@ -176,6 +176,7 @@ impl IpAuthHeader {
 
     /// The header's bytes, with reserved bytes zero. Read back, also with more bytes behind them, they give
     /// this header.
+    #[inline(always)]
     pub fn to_bytes(&self) -> ArrayVec<u8, 1028>
         ensures encoding { IsAuthEncoding self.now result.items }
         ensures len { length result.items ≡ auth_len self.now }
@@ -189,6 +190,7 @@ impl IpAuthHeader {
 
     /// Appends the header's bytes. It refuses only where the vector has no room for them and can't grow;
     /// then its bytes stay as they were.
+    #[inline(always)]
     pub fn write<A: Allocator>(&self, out: &mut Vec<u8, A>) -> Result<(), AllocError>
         ensures ok { OnOk result (AppendsOne (IsAuthEncoding self.now) out.old.items out.new.items) }
         ensures len { OnOk result (vec_len out.new ≡ vec_len out.old + auth_len self.now) }
@@ -211,6 +213,7 @@ impl IpAuthHeader {
     }
 
     /// What stands before the check value.
+    #[inline(always)]
     fn first_bytes(&self) -> [u8; 12]
         ensures { IsAuthEncoding self.now (result ++ self.now.raw_icv) }
     {

@@ -156,6 +156,7 @@ impl Ipv6RawExtHeader {
     }
 
     /// The header's bytes. Read back, also with more bytes behind them, they give this header.
+    #[inline(always)]
     pub fn to_bytes(&self) -> ArrayVec<u8, 2048>
         ensures encoding { IsRawEncoding self.now result.items }
         ensures len { length result.items ≡ raw_len self.now }
@@ -170,6 +171,7 @@ impl Ipv6RawExtHeader {
 
     /// Appends the header's bytes. It refuses only where the vector has no room for them and can't grow;
     /// then its bytes stay as they were.
+    #[inline(always)]
     pub fn write<A: Allocator>(&self, out: &mut Vec<u8, A>) -> Result<(), AllocError>
         ensures ok { OnOk result (AppendsOne (IsRawEncoding self.now) out.old.items out.new.items) }
         ensures len { OnOk result (vec_len out.new ≡ vec_len out.old + raw_len self.now) }

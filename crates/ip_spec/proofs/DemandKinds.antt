@@ -4,7 +4,7 @@ use Rattle.std.specs.List.{AllByRecursion}
 use Rattle.std.proofs.lemmas.List.{length-append, take-append-drop, length-take, length-drop}
 use Rattle.std.proofs.lemmas.List.Concat.{flat_map-append}
 use Rattle.ip_spec.specs.Chain.{ExtHeader, bytes_of, IsLongestChain, IsNext, IsEnd}
-use Rattle.ip_spec.specs.Demand.{IsDemand, IsLongestUnder, Keeps, NextBreaks, AtMost, AtMostOneOf, IsWithin}
+use Rattle.ip_spec.specs.Demand.{IsDemand, IsLongestUnder, KeepsBeginning, NextBreaks, AtMost, AtMostOneOf, IsWithin}
 use Rattle.ip_spec.proofs.HeaderLemmas.{eq_or}
 use Rattle.ip_spec.proofs.StepLemmas.{all_first, goes_on, no_header_prefix}
 use Rattle.ip_spec.proofs.UnderLemmas.{kept_is_longest, longest_at_end_under}
@@ -19,7 +19,7 @@ most_breaks k d c [] e f = tt
 most_breaks k d c (x ∷ rest) e f = λ q. omega (arith, length-append c (x ∷ []), ap length e, ap length f, length-take k d, length-drop k d)
 
 -- it keeps the first k
-pub at_most_keeps : (k : ℕ) (d : List ExtHeader) → Keeps (AtMost k) d (take k d)
+pub at_most_keeps : (k : ℕ) (d : List ExtHeader) → KeepsBeginning (AtMost k) d (take k d)
 at_most_keeps k d = record {
   rest = drop k d;
   joined = sym (take-append-drop k d);

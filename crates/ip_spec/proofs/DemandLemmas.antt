@@ -3,7 +3,7 @@ use Rattle.std.proofs.Common.{◌≡◌, ℕ, ◌≤◌, List, [], ◌∷◌, �
 use Rattle.std.proofs.lemmas.List.{append-nil, append_cancel_left, length-append, map-append}
 use Rattle.std.proofs.lemmas.Bool.{cases_lt}
 use Rattle.ip_spec.specs.LongestOf.{IsLongestOf}
-use Rattle.ip_spec.specs.Demand.{IsDemand, IsUnder, NextBreaks, Keeps, Passes}
+use Rattle.ip_spec.specs.Demand.{IsDemand, IsUnder, NextBreaks, KeepsBeginning, Passes}
 use Rattle.ip_spec.proofs.LongestOfLemmas.{Grows, DecidesNext, within, beyond, compare, begins_first, longest_where_none_next, none_next_where_longest, one_longest_of, some_longest_of}
 
 module _ {X : Type 0} (P Q : List X → Type 0) (g : Grows P) (k : IsDemand Q) where
@@ -44,7 +44,7 @@ module _ {X : Type 0} (P Q : List X → Type 0) (g : Grows P) (k : IsDemand Q) w
       breaks (subst M (g.one_next c x y u.has (begins_first P g c y rest (subst P e l.has))) u.meets)
 
   -- what the demand keeps of the longest is the longest under the demand
-  pub longest_where_kept : (d c : List X) → IsLongestOf P d → Keeps Q d c → IsLongestOf (IsUnder Q P) c
+  pub longest_where_kept : (d c : List X) → IsLongestOf P d → KeepsBeginning Q d c → IsLongestOf (IsUnder Q P) c
   longest_where_kept d c l p =
       longest_where_none_next (IsUnder Q P) under_grows c
       (record { has = g.begins c p.rest (subst P p.joined l.has); meets = p.meets })
@@ -55,23 +55,23 @@ module _ {X : Type 0} (P Q : List X → Type 0) (g : Grows P) (k : IsDemand Q) w
   breaks_behind d c (y ∷ rest) e l u = λ q. none_next_where_longest (IsUnder Q P) c u y (record { has = begins_first P g c y rest (subst P e l.has); meets = q })
 
   -- and the other way round
-  pub kept_where_longest : (d c : List X) → IsLongestOf P d → IsLongestOf (IsUnder Q P) c → Keeps Q d c
+  pub kept_where_longest : (d c : List X) → IsLongestOf P d → IsLongestOf (IsUnder Q P) c → KeepsBeginning Q d c
   kept_where_longest d c l u = elim (compare P g d c l.has u.has.has) [
     | within rest w ↦ record { rest = rest; joined = w; meets = u.has.meets; breaks = breaks_behind d c rest w l u }
     | beyond x rest w ↦ absurd (none_next_where_longest P d l x (begins_first P g d x rest (subst P w u.has.has)))
   ]
 
 -- Of each list a demand keeps something.
-kept_from : {X : Type 0} (Q : List X → Type 0) → IsDemand Q → (c rest : List X) → Q c → (b : List X) × Keeps Q (c ++ rest) b
+kept_from : {X : Type 0} (Q : List X → Type 0) → IsDemand Q → (c rest : List X) → Q c → (b : List X) × KeepsBeginning Q (c ++ rest) b
 kept_from Q k c [] q = (c, record { rest = []; joined = refl; meets = q; breaks = tt })
 kept_from {X} Q k c (x ∷ rest) q = elim (k.decided (c ++ x ∷ [])) [
   | inr breaks ↦ (c, record { rest = x ∷ rest; joined = refl; meets = q; breaks = breaks })
   | inl more ↦
-      let K : List X → Type 0 = λ d. (b : List X) × Keeps Q d b in
+      let K : List X → Type 0 = λ d. (b : List X) × KeepsBeginning Q d b in
       subst K (append_assoc c (x ∷ []) rest) (kept_from Q k (c ++ x ∷ []) rest more)
 ]
 
-pub some_kept : {X : Type 0} (Q : List X → Type 0) → IsDemand Q → (d : List X) → (c : List X) × Keeps Q d c
+pub some_kept : {X : Type 0} (Q : List X → Type 0) → IsDemand Q → (d : List X) → (c : List X) × KeepsBeginning Q d c
 some_kept Q k d = kept_from Q k [] d k.empty
 
 -- The beginnings of a list.
@@ -97,13 +97,13 @@ module _ {X : Type 0} (d : List X) where
 
   module _ (Q : List X → Type 0) (k : IsDemand Q) where
     -- It is determined what a demand keeps, and it is the longest beginning that meets the demand.
-    pub one_kept : (b c : List X) → Keeps Q d b → Keeps Q d c → b ≡ c
+    pub one_kept : (b c : List X) → KeepsBeginning Q d b → KeepsBeginning Q d c → b ≡ c
     one_kept b c p q =
         one_longest_of (IsUnder Q (Begins d)) (under_grows (Begins d) Q beginnings_grow k) b c
         (longest_where_kept (Begins d) Q beginnings_grow k d b all_longest p)
         (longest_where_kept (Begins d) Q beginnings_grow k d c all_longest q)
 
-    pub kept_bounds : (b c rest : List X) → Keeps Q d b → d ≡ c ++ rest → Q c → length c ≤ length b
+    pub kept_bounds : (b c rest : List X) → KeepsBeginning Q d b → d ≡ c ++ rest → Q c → length c ≤ length b
     kept_bounds b c rest p e q =
         longest_under_bounds (Begins d) Q beginnings_grow k b c
         (longest_where_kept (Begins d) Q beginnings_grow k d b all_longest p)

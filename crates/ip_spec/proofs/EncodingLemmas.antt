@@ -1,5 +1,5 @@
 -- The fields of a header, and the header that says them.
-use Rattle.std.proofs.Common.{◌≡◌, ℕ, ◌+◌, ◌-◌, ◌*◌, ◌/◌, ◌%◌, ◌^◌, ◌<◌, ◌≤◌, List, [], ◌∷◌, ◌++◌, length, get_or, take, drop, refl, ap, sym, ◌∙◌, arith, inl, inr, subst, Bool, true, false, cond, bit_and}
+use Rattle.std.proofs.Common.{◌≡◌, ℕ, ◌+◌, ◌*◌, ◌/◌, ◌%◌, ◌^◌, ◌<◌, ◌≤◌, List, [], ◌∷◌, ◌++◌, length, get_or, take, drop, refl, ap, sym, ◌∙◌, arith, inl, inr, subst, Bool, true, false, cond, bit_and}
 use Rattle.std.specs.Prelude.{◌==◌, not, slice_range}
 use Rattle.std.specs.Int.{to_be_bytes, from_be_bytes, w32}
 use Rattle.std.proofs.lemmas.List.{append_cancel_left, get_or_past, take_all}
@@ -9,17 +9,17 @@ use Rattle.std.proofs.lemmas.Nat.Bits.{and_high, and_pow}
 use Rattle.std.proofs.lemmas.Bool.{cases_lt}
 use Rattle.ip_spec.specs.Header.{IsHeader, IsFragmentHeader, IsAuthHeader}
 use Rattle.ip_spec.specs.Fields.{offset_bits, flag_bit, unreserved_bits}
-use Rattle.ip_spec.specs.FieldsOf.{RawFields, FragmentFields, AuthFields, fragment_fields, auth_fields}
+use Rattle.ip_spec.specs.FieldsOf.{FragmentFields, AuthFields, fragment_fields, auth_fields}
 use Rattle.ip_spec.specs.Cleared.{cleared_fragment, cleared_auth}
-use Rattle.ip_spec.specs.Encoding.{AreBytes, IsEncoding, IsRawEncoding, IsFragmentEncoding, IsAuthEncoding}
+use Rattle.ip_spec.specs.Encoding.{AreBytes, IsEncoding, IsFragmentEncoding, IsAuthEncoding}
 use Rattle.ip_spec.specs.Decoding.{IsDecoding}
-use Rattle.ip_spec.proofs.HeaderLemmas.{same_header}
+use Rattle.ip_spec.proofs.HeaderLemmas.{one_header}
 
 -- what bytes begin with is determined where each header of the layout is one of a number
 pub one_decoding_of : {V : Type 0} (n : ℕ) (IsOne : List ℕ → Type 0) (fields_of : List ℕ → V) → ((b : List ℕ) → IsOne b → IsHeader n b)
     → (s : List ℕ) (v w : V) (r q : List ℕ) → IsDecoding IsOne fields_of s v r → IsDecoding IsOne fields_of s w q → (v ≡ w) × (r ≡ q)
 one_decoding_of n IsOne fields_of of_number s v w r q x y =
-    let same : x.bytes ≡ y.bytes = same_header n x.bytes y.bytes r q (of_number x.bytes x.header) (of_number y.bytes y.header) (x.joined ∙ sym y.joined) in (
+    let same : x.bytes ≡ y.bytes = one_header n x.bytes y.bytes r q (of_number x.bytes x.header) (of_number y.bytes y.header) (x.joined ∙ sym y.joined) in (
       sym x.fields ∙ ap fields_of same ∙ y.fields,
       append_cancel_left x.bytes r q (x.joined ∙ sym y.joined ∙ ap (λ b. b ++ q) (sym same)),
     )

@@ -101,8 +101,8 @@ header-told n b h = elim h [
 ]
 
 -- two headers of one number at one place are one
-pub same_header : (n : ℕ) (b d x y : List ℕ) → IsHeader n b → IsHeader n d → b ++ x ≡ d ++ y → b ≡ d
-same_header n b d x y hb hd e =
+pub one_header : (n : ℕ) (b d x y : List ℕ) → IsHeader n b → IsHeader n d → b ++ x ≡ d ++ y → b ≡ d
+one_header n b d x y hb hd e =
     let lb : 8 ≤ length b = header-least n b hb in
     let ld : 8 ≤ length d = header-least n d hd in
     let same_byte : slice_index b 1 ≡ slice_index d 1 =
@@ -142,16 +142,16 @@ next_or false m r = elim (eq_or m 0) [
   ]
 ]
 
-pub numbered-eq : (h g : ExtHeader) → h.number ≡ g.number → h.bytes ≡ g.bytes → h ≡ g
-numbered-eq h g p q =
+pub ext_header-eq : (h g : ExtHeader) → h.number ≡ g.number → h.bytes ≡ g.bytes → h ≡ g
+ext_header-eq h g p q =
     let header : ℕ → List ℕ → ExtHeader = λ m b. record { number = m; bytes = b } in
     ap (λ m. header m h.bytes) p ∙ ap (λ b. header g.number b) q
 
 -- at most one header goes on
 pub one_next : (first : Bool) (m : ℕ) (r : List ℕ) (h g : ExtHeader) → IsNext first m r h → IsNext first m r g → h ≡ g
 one_next first m r h g x y =
-    numbered-eq h g (x.number ∙ sym y.number)
-    (same_header m h.bytes g.bytes _ _ x.header y.header (sym (prefix-append h.bytes r x.prefix) ∙ prefix-append g.bytes r y.prefix))
+    ext_header-eq h g (x.number ∙ sym y.number)
+    (one_header m h.bytes g.bytes _ _ x.header y.header (sym (prefix-append h.bytes r x.prefix) ∙ prefix-append g.bytes r y.prefix))
 
 -- Where bytes are long enough, a header begins them.
 prefix_byte : (b s : List ℕ) → IsPrefix b s → 8 ≤ length b → slice_index b 1 ≡ slice_index s 1

@@ -3,7 +3,7 @@ use Rattle.std.proofs.Common.{ℕ, ◌≤◌, List, length, take, sym, ◌∙◌
 use Rattle.std.proofs.lemmas.List.{take-take}
 use Rattle.ip_spec.specs.Prefix.{IsPrefix}
 use Rattle.ip_spec.specs.Chain.{ExtHeader, bytes_of}
-use Rattle.ip_spec.specs.Demand.{IsDemand, IsUnder, Keeps, IsWithin, IsChainUnder, IsLongestUnder}
+use Rattle.ip_spec.specs.Demand.{IsDemand, IsUnder, KeepsBeginning, IsWithin, IsChainUnder, IsLongestUnder}
 use Rattle.ip_spec.proofs.PrefixLemmas.{prefix-length}
 use Rattle.ip_spec.proofs.LongestOfLemmas.{longest_same}
 use Rattle.ip_spec.proofs.DemandLemmas.{kept_where_longest}
@@ -28,7 +28,7 @@ module _ (Q : List ExtHeader → Type 0) (k : IsDemand Q) (n j : ℕ) (s : List 
   under_shorter c u = record { has = record { chain = u.has.has.chain; prefix = prefix_shorter j (bytes_of c) s u.has.has.prefix u.meets }; meets = u.has.meets }
 
   -- of the longest chain of the whole, the bytes cut short keep the headers that lie wholly within them
-  pub longest_shorter : (d c : List ExtHeader) → IsLongestUnder Q n s d → IsLongestUnder Q n (take j s) c → Keeps (IsWithin j) d c
+  pub longest_shorter : (d c : List ExtHeader) → IsLongestUnder Q n s d → IsLongestUnder Q n (take j s) c → KeepsBeginning (IsWithin j) d c
   longest_shorter d c l m =
       kept_where_longest (IsChainUnder Q n s) (IsWithin j) (chains_grow_under Q k n s) (within j) d c l
       (longest_same (IsChainUnder Q n (take j s)) (IsUnder (IsWithin j) (IsChainUnder Q n s)) shorter_under under_shorter c m)

@@ -3,7 +3,7 @@ use Rattle.std.proofs.Common.{◌≡◌, ℕ, ◌≤◌, List, [], ◌∷◌, �
 use Rattle.std.proofs.Math.Seq.{take-length, drop-length}
 use Rattle.ip_spec.specs.Prefix.{IsPrefix}
 use Rattle.ip_spec.specs.Chain.{ExtHeader, leads_to, bytes_of, is_empty, IsChain, IsPrefixChain, IsLongestChain, IsNext}
-use Rattle.ip_spec.specs.Demand.{IsDemand, Keeps, IsChainUnder, IsLongestUnder, IsEndUnder, NoDemand}
+use Rattle.ip_spec.specs.Demand.{IsDemand, KeepsBeginning, IsChainUnder, IsLongestUnder, IsEndUnder, NoDemand}
 use Rattle.ip_spec.proofs.PrefixLemmas.{prefix-length}
 use Rattle.ip_spec.proofs.HeaderLemmas.{header-least}
 use Rattle.ip_spec.proofs.LongestOfLemmas.{Grows, longest_where_none_next, none_next_where_longest, one_longest_of, longest_same}
@@ -31,10 +31,10 @@ module _ (Q : List ExtHeader → Type 0) (k : IsDemand Q) (n : ℕ) (s : List �
   some_longest_under = some_longest_under_of (IsPrefixChain n s) Q (chains_grow n s) k (chains_decide n s) (length s) (chain-bound n s) (no_header_prefix n s)
 
   -- Of the longest chain d, the demand keeps exactly the longest chain under it.
-  pub longest_keeps : (d c : List ExtHeader) → IsLongestChain n s d → IsLongestUnder Q n s c → Keeps Q d c
+  pub longest_keeps : (d c : List ExtHeader) → IsLongestChain n s d → IsLongestUnder Q n s c → KeepsBeginning Q d c
   longest_keeps = kept_where_longest (IsPrefixChain n s) Q (chains_grow n s) k
 
-  pub kept_is_longest : (d c : List ExtHeader) → IsLongestChain n s d → Keeps Q d c → IsLongestUnder Q n s c
+  pub kept_is_longest : (d c : List ExtHeader) → IsLongestChain n s d → KeepsBeginning Q d c → IsLongestUnder Q n s c
   kept_is_longest = longest_where_kept (IsPrefixChain n s) Q (chains_grow n s) k
 
   pub longest_bounds_under : (c d : List ExtHeader) → IsLongestUnder Q n s c → IsChainUnder Q n s d → length d ≤ length c

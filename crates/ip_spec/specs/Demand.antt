@@ -23,7 +23,7 @@ NextBreaks Q c (x ∷ rest) = Q (c ++ x ∷ []) → ⊥
 
 -- Of the list d the demand Q keeps c: a beginning of d that meets it, which is all of d, or behind which the
 -- next element of d breaks it.
-pub record Keeps {X : Type 0} (Q : List X → Type 0) (d c : List X) : Type 0 where
+pub record KeepsBeginning {X : Type 0} (Q : List X → Type 0) (d c : List X) : Type 0 where
   pub rest : List X
   pub joined : d ≡ c ++ rest
   pub meets : Q c

@@ -1,7 +1,7 @@
 ghost use Rattle.std.specs.Prelude.{◌≡◌, ◌↔◌, ℕ, List, [], ◌∷◌, ◌++◌, Bool, length, take, drop};
 ghost use Rattle.ip_spec.specs.Header.{IsExtensionNumber};
 ghost use Rattle.ip_spec.specs.Chain.{ExtHeader, IsLongestChain, IsEnd, leads_to, bytes_of, is_empty};
-ghost use Rattle.ip_spec.specs.Demand.{IsDemand, Keeps, IsLongestUnder, IsEndUnder, Passes, NoDemand, AtMost, AtMostOneOf, IsWithin};
+ghost use Rattle.ip_spec.specs.Demand.{IsDemand, KeepsBeginning, IsLongestUnder, IsEndUnder, Passes, NoDemand, AtMost, AtMostOneOf, IsWithin};
 ghost use Rattle.ip_spec.specs.Fits.{NumbersFit, FitsPlaces, IsTaken, in_place};
 
 /// Under each demand, from each number, exactly one longest chain begins all bytes.
@@ -17,10 +17,10 @@ pub fn one_longest_chain_under_a_demand()
 pub fn demand_keeps_its_longest_chain()
     ensures longest { (q : List ExtHeader → Bool) → IsDemand (Passes q)
         → (n : ℕ) (s : List ℕ) (d c : List ExtHeader)
-        → IsLongestChain n s d → IsLongestUnder (Passes q) n s c → Keeps (Passes q) d c }
+        → IsLongestChain n s d → IsLongestUnder (Passes q) n s c → KeepsBeginning (Passes q) d c }
     ensures only { (q : List ExtHeader → Bool) → IsDemand (Passes q)
         → (n : ℕ) (s : List ℕ) (d c : List ExtHeader)
-        → IsLongestChain n s d → Keeps (Passes q) d c → IsLongestUnder (Passes q) n s c }
+        → IsLongestChain n s d → KeepsBeginning (Passes q) d c → IsLongestUnder (Passes q) n s c }
 {}
 
 /// Where a longest chain under a demand ends, no header goes on with which the demand is still met.
@@ -36,7 +36,7 @@ pub fn shorter_bytes_keep_whole_headers()
     ensures { (q : List ExtHeader → Bool) → IsDemand (Passes q)
         → (n j : ℕ) (s : List ℕ) (d c : List ExtHeader)
         → IsLongestUnder (Passes q) n s d → IsLongestUnder (Passes q) n (take j s) c
-        → Keeps (IsWithin j) d c }
+        → KeepsBeginning (IsWithin j) d c }
 {}
 
 /// Four demands.
@@ -61,7 +61,7 @@ pub fn one_longest_fitting_chain()
     ensures only { (n : ℕ) (s : List ℕ) (c d : List ExtHeader)
         → IsLongestUnder FitsPlaces n s c → IsLongestUnder FitsPlaces n s d → c ≡ d }
     ensures kept { (n : ℕ) (s : List ℕ) (d c : List ExtHeader)
-        → IsLongestChain n s d → IsLongestUnder FitsPlaces n s c → Keeps FitsPlaces d c }
+        → IsLongestChain n s d → IsLongestUnder FitsPlaces n s c → KeepsBeginning FitsPlaces d c }
 {}
 
 /// Behind the longest chain that fits six places no header goes on, unless the place of the number there is

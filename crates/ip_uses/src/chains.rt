@@ -5,7 +5,7 @@ ghost use Rattle.ip_spec.specs.Demand.{AtMost, IsLongestUnder};
 ghost use Rattle.ip_ext_chains.specs.Longest.{longest_chain, rest_after};
 ghost use Rattle.ip_ext_chains.specs.Ipv6ExtensionsSlice.{bytes};
 
-use ip_base::IpNumber;
+use ip_base::{IpNumber, ip_number};
 use ip_ext_chains::Ipv6ExtensionsSlice;
 use std::alloc::{AllocError, Global};
 
@@ -30,6 +30,14 @@ pub fn whole_payload(start: IpNumber, packet: &[u8]) -> Option<(IpNumber, &[u8])
             Some((number, payload))
         }
         _ => None,
+    }
+}
+
+/// Whether a packet's payload is UDP, and not a fragment of it.
+pub fn is_whole_udp(start: IpNumber, packet: &[u8]) -> bool {
+    match Ipv6ExtensionsSlice::from_slice(start, packet) {
+        Ok((headers, number, _)) => number == ip_number::UDP && !headers.is_fragmenting_payload(),
+        Err(_) => false,
     }
 }
 

@@ -4,7 +4,7 @@ ghost use Rattle.ip_spec.specs.FieldsOf.{raw_len, auth_len};
 ghost use Rattle.ip_spec.specs.Encoding.{AppendsOne, IsRawEncoding};
 
 use arrayvec::ArrayVec;
-use ip_base::IpNumber;
+use ip_base::{IpFragOffset, IpNumber};
 use ip_ext_headers::{IpAuthHeader, Ipv6FragmentHeader, Ipv6RawExtHeader};
 use ip_spec::{one_decoding, one_encoding};
 use std::alloc::AllocError;
@@ -20,6 +20,18 @@ pub fn write_before(
     let mut copy = header.clone()?;
     copy.next_header = next;
     copy.write(out)
+}
+
+/// Appends the header of a fragment, before a payload of the number `next`.
+pub fn write_fragment_header(
+    next: IpNumber,
+    offset: IpFragOffset,
+    is_last: bool,
+    identification: u32,
+    out: &mut Vec<u8>,
+) -> Result<(), AllocError> {
+    let header = Ipv6FragmentHeader::new(next, offset, !is_last, identification);
+    header.write(out)
 }
 
 /// Puts a number behind each of the three headers.

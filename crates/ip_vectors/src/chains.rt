@@ -3,7 +3,7 @@ use ip_base::err::{Layer, LenError};
 use ip_base::{IpNumber, LenSource};
 use ip_ext_chains::err::ip_auth;
 use ip_ext_chains::err::ipv6_exts::{HeaderError, HeaderSliceError};
-use ip_ext_chains::{Ipv6ExtensionSlice, Ipv6ExtensionSliceIter, Ipv6ExtensionsSlice, plain_fault};
+use ip_ext_chains::{Ipv6ExtensionSliceIter, Ipv6ExtensionsSlice, plain_fault};
 use ip_spec::plain_longest_chain;
 use std::alloc::Global;
 use std::process::Abort;
@@ -36,17 +36,6 @@ fn missing(
         layer_start_offset: offset,
     };
     Some((HeaderSliceError::Len(error), layer))
-}
-
-/// The number and the bytes of a header.
-fn parts<'a>(header: &Ipv6ExtensionSlice<'a>) -> (u8, &'a [u8]) {
-    match header {
-        Ipv6ExtensionSlice::HopByHop(h) => (0, h.slice()),
-        Ipv6ExtensionSlice::Routing(h) => (43, h.slice()),
-        Ipv6ExtensionSlice::Fragment(h) => (44, h.slice()),
-        Ipv6ExtensionSlice::DestinationOptions(h) => (60, h.slice()),
-        Ipv6ExtensionSlice::Authentication(h) => (51, h.slice()),
-    }
 }
 
 /// The parses of the chain crate answer the row.
@@ -92,8 +81,12 @@ fn check_iterator(
     for expected in row.headers {
         match headers.next() {
             Some(header) => {
-                let (number, bytes) = parts(&header);
-                assert_eq!(rt; (number, bytes.len()), *expected, "{name}");
+                assert_eq!(rt;
+                    (header.number().0, header.slice().len()),
+                    *expected,
+                    "{name}"
+                );
+                assert!(rt; header.clone()? == header, "{name}");
             }
             None => assert!(rt; false, "{name}"),
         }
@@ -253,4 +246,68 @@ fn defaults(rt: HostRuntime) -> Result<(), Fail> {
     assert!(rt; empty.clone()? == empty);
     assert!(rt; Ipv6ExtensionSliceIter::default().next().is_none());
     Ok(())
+}
+
+/// The iterator behind the last header of a fragment header that names `number`.
+fn exhausted(number: u8) -> Ipv6ExtensionSliceIter<'static> {
+    let bytes: &'static [u8] = match number {
+        17 => &[17, 0, 0, 0, 0, 0, 0, 0],
+        59 => &[59, 0, 0, 0, 0, 0, 0, 0],
+        _ => &[6, 0, 0, 0, 0, 0, 0, 0],
+    };
+    let mut headers = Ipv6ExtensionsSlice::from_slice_lax(IpNumber(44), bytes)
+        .0
+        .into_iter();
+    for _ in 0..3u8 {
+        let _ = headers.next();
+    }
+    headers
+}
+
+#[test]
+fn number_behind_the_last_header(rt: HostRuntime) {
+    let seventeen = Ipv6ExtensionsSlice::default().into_iter();
+    let fifty_nine = Ipv6ExtensionSliceIter::default();
+    assert!(rt; exhausted(17) == seventeen);
+    assert!(rt; exhausted(59) == fifty_nine);
+    assert!(rt; exhausted(6) != seventeen && exhausted(6) != fifty_nine);
+    assert!(rt; exhausted(6) == exhausted(6));
+}
+
+#[test]
+fn five_hundred_headers(rt: HostRuntime) -> Result<(), Fail> {
+    let mut bytes = [0u8; 4096];
+    for (i, byte) in bytes.iter_mut().enumerate() {
+        if i % 8 == 0 {
+            *byte = if i < 4088 { 44 } else { 17 };
+        }
+    }
+    let (chain, number, rest, fault) = Ipv6ExtensionsSlice::from_slice_lax(IpNumber(44), &bytes);
+    assert!(rt; number == IpNumber(17) && rest.is_empty() && fault.is_none());
+    assert_eq!(rt; chain.into_iter().count(), 512);
+    let plain = plain_longest_chain(rt.alloc(), 44, &bytes)?;
+    assert!(rt; plain.number == 17 && plain.rest.is_empty());
+    assert_eq!(rt; plain.headers.len(), 512);
+    Ok(())
+}
+
+#[test]
+fn errors_told_from_further_to_the_front(rt: HostRuntime) {
+    let error = |offset| LenError {
+        required_len: 1,
+        len: 2,
+        len_source: LenSource::Slice,
+        layer: Layer::Icmpv4,
+        layer_start_offset: offset,
+    };
+    let moved = ip_auth::HeaderSliceError::Len(error(3)).add_slice_offset(200);
+    assert!(rt; moved == ip_auth::HeaderSliceError::Len(error(203)));
+    let zero = ip_auth::HeaderSliceError::Content(ip_auth::HeaderError::ZeroPayloadLen);
+    let same = ip_auth::HeaderSliceError::Content(ip_auth::HeaderError::ZeroPayloadLen);
+    assert!(rt; zero.add_slice_offset(200) == same);
+    let moved = HeaderSliceError::Len(error(3)).add_slice_offset(200);
+    assert!(rt; moved == HeaderSliceError::Len(error(203)));
+    let late = HeaderSliceError::Content(HeaderError::HopByHopNotAtStart);
+    let same = HeaderSliceError::Content(HeaderError::HopByHopNotAtStart);
+    assert!(rt; late.add_slice_offset(200) == same);
 }

@@ -1,20 +1,17 @@
-use Rattle.std.proofs.Common.{◌≡◌, ◌∙◌, sym, ap, Bool, false, nat_eq}
-use Rattle.std.specs.Prelude.{IsTrue, ◌↔◌}
+use Rattle.std.proofs.Common.{◌∙◌, ap}
 use Rattle.std.specs.Option.{option_map}
-use Rattle.std.proofs.lemmas.Bool.{false≢true}
 use Rattle.ip_base.specs.declared.len_source.LenSource.TheVariants.{Slice}
 use Rattle.ip_ext_chains.specs.Fault.{Fault}
-use Rattle.ip_ext_chains.proofs.LongestLemmas.{longest_chain-longest}
-use Rattle.ip_ext_chains.proofs.FaultLemmas.{fault_at_end, no_fault_at_other}
+use Rattle.ip_ext_chains.proofs.FaultLemmas.{fault_at_end}
 use Rattle.ip_ext_chains.proofs.ParseLemmas.{ends_behind, fault_behind}
 use Rattle.ip_ext_chains.proofs.ipv6_exts_slice.Ipv6ExtensionsSlice.from_slice.Goals as goal
 
-pub fault-requires : goal.fault-requires
-fault-requires c =
+pub error_at-requires : goal.error_at-requires
+error_at-requires c =
     let walked = c.walk-len.ensures in
     fault_at_end Slice _ _ _ _ _ (c.is_extension.ensures.0 c.if-is_extension.true) (ends_behind _ _ _ walked.len _ _ walked.number walked.rest)
 
 pub returns-then-is_extension-clause-fault : goal.returns-then-is_extension-clause-fault
 returns-then-is_extension-clause-fault c =
     let walked = c.walk-len.ensures in
-    ap (option_map (λ (f : Fault). f.0)) (fault_behind _ _ _ walked.len _ _ walked.number walked.rest ∙ c.fault.ensures)
+    ap (option_map (λ (f : Fault). f.0)) (fault_behind _ _ _ walked.len _ _ walked.number walked.rest) ∙ c.error_at.ensures

@@ -1,16 +1,9 @@
-use Rattle.std.proofs.Common.{◌≡◌, ◌∙◌, sym, ap, Bool, false, nat_eq}
-use Rattle.std.specs.Prelude.{IsTrue, ◌↔◌}
-use Rattle.std.specs.Option.{option_map}
-use Rattle.std.proofs.lemmas.Bool.{false≢true}
 use Rattle.ip_base.specs.declared.len_source.LenSource.TheVariants.{Slice}
-use Rattle.ip_ext_chains.specs.Fault.{Fault}
-use Rattle.ip_ext_chains.proofs.LongestLemmas.{longest_chain-longest}
-use Rattle.ip_ext_chains.proofs.FaultLemmas.{fault_at_end, no_fault_at_other}
-use Rattle.ip_ext_chains.proofs.ParseLemmas.{ends_behind, fault_behind}
+use Rattle.ip_ext_chains.proofs.FaultLemmas.{fault_at_end}
+use Rattle.ip_ext_chains.proofs.ParseLemmas.{ends_behind}
 use Rattle.ip_ext_chains.proofs.ipv6_exts_slice.Ipv6ExtensionsSlice.from_slice_lax.Goals as goal
 
-pub fault-requires : goal.fault-requires
-fault-requires c =
+pub fault-fault-requires : goal.fault-fault-requires
+fault-fault-requires c =
     let walked = c.walk-len.ensures in
     fault_at_end Slice _ _ _ _ _ (c.is_extension.ensures.0 c.if-is_extension.true) (ends_behind _ _ _ walked.len _ _ walked.number walked.rest)
-

@@ -29,7 +29,8 @@ fn push_headers<A: Allocator>(
     text: &mut String<A>,
 ) -> Result<(), AllocError>
     ensures { OnOk result
-        (string_bytes text.new ≡ string_bytes text.old ++ header_lines 0 (headers_in headers.entry)) }
+        (string_bytes text.new
+        ≡ string_bytes text.old ++ header_lines 0 (headers_in headers.entry)) }
 {
     let mut offset = 0;
     for header in headers {

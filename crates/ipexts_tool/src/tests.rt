@@ -12,7 +12,7 @@ struct Drip<'a> {
     bytes: &'a [u8],
     /// Each second call is interrupted.
     is_hesitant: bool,
-    /// How the end fails.
+    /// How the first read at the end fails.
     failure: Option<ErrorKind>,
     waits: bool,
     calls: u32,
@@ -30,7 +30,7 @@ impl Read for Drip<'_> {
             self.bytes = rest;
             return Ok(1);
         }
-        match self.failure {
+        match self.failure.take() {
             Some(kind) => Err(io::Error::from(kind)),
             None => Ok(0),
         }

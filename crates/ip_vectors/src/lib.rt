@@ -8,4 +8,6 @@ mod chains;
 #[cfg(test)]
 mod header_slices;
 #[cfg(test)]
+mod lines;
+#[cfg(test)]
 mod single_headers;

@@ -1,0 +1,55 @@
+//! Lines and their answers, by the plain program and by `run`.
+use ip_uses::plain::plain_answers;
+use ipexts_tool::run;
+use std::alloc::Global;
+use std::test::Fail;
+
+/// Whether both answer the input so.
+fn is_answered(alloc: Global, input: &[u8], answers: &[u8]) -> Result<bool, Fail> {
+    let plain = plain_answers(alloc, input)?;
+    let mut left = input;
+    let mut output = Vec::new(alloc);
+    run(alloc, &mut left, &mut output)?;
+    Ok(plain.as_slice() == answers && output.as_slice() == answers)
+}
+
+#[test]
+fn lines_and_answers(rt: HostRuntime) -> Result<(), Fail> {
+    let rows: [(&[u8], &[u8]); 7] = [
+        (
+            b"exts6 60 2b00000000000000",
+            b"0 dstopts 8\nnext 43 rest 0\nfault len 8 of 0 Slice Ipv6ExtHeader at 8 in Ipv6RouteHeader\n",
+        ),
+        (b"exts6 17 00010203\n", b"next 17 rest 4\nok\n"),
+        (
+            b"exts6 0 0000000000000000\n",
+            b"0 hopopt 8\nnext 0 rest 0\nfault HopByHopNotAtStart in Ipv6HopByHopHeader\n",
+        ),
+        (
+            b"exts6 51 110000000000000000000000\n",
+            b"next 51 rest 12\nfault ZeroPayloadLen in IpAuthHeader\n",
+        ),
+        (
+            b"exts6 44 2c00000000000001110000\n",
+            b"0 frag 8\nnext 44 rest 3\nfault len 8 of 3 Slice Ipv6FragHeader at 8 in Ipv6FragHeader\n",
+        ),
+        (b"exts6 256 00\n", b"bad line\n"),
+        (b"\nexts6 17 -\n", b"bad line\nnext 17 rest 0\nok\n"),
+    ];
+    for (input, answers) in rows {
+        assert!(rt; is_answered(rt.alloc(), input, answers)?, "{input:?}");
+    }
+    Ok(())
+}
+
+#[test]
+fn many_lines(rt: HostRuntime) -> Result<(), Fail> {
+    let mut input = Vec::new(rt.alloc());
+    let mut answers = Vec::new(rt.alloc());
+    for _ in 0..400u16 {
+        input.extend_from_slice(b"exts6 17 00010203\n")?;
+        answers.extend_from_slice(b"next 17 rest 4\nok\n")?;
+    }
+    assert!(rt; is_answered(rt.alloc(), input.as_slice(), answers.as_slice())?);
+    Ok(())
+}

@@ -1,8 +1,9 @@
-# `make run` answers the lines of standard input; `make test` tries the program and passes the merge gate.
-# `make bench` measures and `make diff` compares against etherparse 0.19.0; `make diff-test` tests the
-# comparison. These three take CARGO_FLAGS="..", further flags for Cargo, as one that says where the crate lies
+# `make run` answers the lines of standard input; `make test` tries the program and passes the merge gate;
+# `make mutants` tries the wrong bodies of mutants/ (CRATE=NAME: those of one crate; ONLY=WORD: those whose names
+# have the word). `make bench` measures and `make diff` compares against etherparse 0.19.0; `make diff-test` tests
+# the comparison. These three take CARGO_FLAGS="..", further flags for Cargo, as one that says where the crate lies
 # on a machine without a network.
-.PHONY: run test bench diff diff-test
+.PHONY: run test mutants bench diff diff-test
 .SILENT:
 
 RT_IS_THERE = command -v rt >/dev/null || { \
@@ -16,6 +17,12 @@ test:
 	$(RT_IS_THERE)
 	scripts/test-main
 	rt ci
+
+mutants:
+	$(RT_IS_THERE)
+	command -v python3 >/dev/null || { \
+		echo "Python is missing: its command 'python3' has to be on the PATH." >&2; exit 1; }
+	scripts/mutants $(if $(CRATE),--crate $(CRATE)) $(if $(ONLY),--only $(ONLY))
 
 SEED = 1
 LINES = 1000000

@@ -1,5 +1,5 @@
 -- What the parse knows of the chain that it has read, and what follows where no header goes on.
-use Rattle.std.proofs.Common.{◌≡◌, ℕ, arith, inl, inr, subst, ◌-◌, List, [], ◌∷◌, ◌++◌, length, take, drop, refl, ap, sym, ◌∙◌, Bool, false, nat_eq}
+use Rattle.std.proofs.Common.{◌≡◌, ℕ, arith, inl, inr, subst, ◌-◌, List, [], ◌∷◌, ◌++◌, length, take, drop, ap, sym, ◌∙◌, Bool, nat_eq}
 use Rattle.std.specs.Prelude.{◌==◌, ◌&&◌, ◌||◌}
 use Rattle.std.specs.List.{AllByRecursion}
 use Rattle.std.proofs.Math.Bool.{or-false, or_assoc}
@@ -8,7 +8,7 @@ use Rattle.ip_spec.specs.Header.{IsHeader}
 use Rattle.ip_spec.proofs.ChainLemmas.{longest_ends, bytes_of-least}
 use Rattle.ip_spec.specs.Fields.{next_header, is_fragmenting}
 use Rattle.ip_spec.specs.Chain.{ExtHeader, leads_to, bytes_of, is_empty, has_fragmenting, IsNext, IsEnd}
-use Rattle.ip_spec.proofs.ReadLemmas.{HasRead, has_read_none, has_read_on, offset_is, no_next_here, read_longest}
+use Rattle.ip_spec.proofs.ReadLemmas.{HasRead, has_read_on, offset_is, no_next_here, read_longest}
 use Rattle.ip_ext_chains.specs.Longest.{longest_chain, rest_after}
 use Rattle.ip_ext_chains.specs.Fault.{slice_fault, chain_fault}
 use Rattle.ip_ext_chains.proofs.LongestLemmas.{longest_chain-longest, longest_chain-is, longest_chain-bytes_of}
@@ -26,9 +26,6 @@ pub record ParseState (n : ℕ) (s : List ℕ) (m : ℕ) (r : List ℕ) (flag : 
   pub chain : List ExtHeader
   pub read : HasRead n s chain m r
   pub fragmented : flag ≡ has_fragmenting chain
-
-pub parse_begins : (n : ℕ) (s : List ℕ) → ParseState n s n s false
-parse_begins n s = record { chain = []; read = has_read_none n s; fragmented = refl }
 
 -- one more header
 pub parse_goes_on : (n : ℕ) (s : List ℕ) (m : ℕ) (r : List ℕ) (flag : Bool) (h : ExtHeader) (k : ℕ) (q b : List ℕ) (more : Bool) → ParseState n s m r flag → IsNext (nat_eq (length r) (length s)) m r h

@@ -102,6 +102,20 @@ pub fn auth_slice_error(a: LenError, b: LenError) -> bool
     ip_auth::HeaderSliceError::Len(a) == ip_auth::HeaderSliceError::Len(b)
 }
 
+/// The same of two that tell of the header's bytes.
+pub fn auth_slice_error_of_content(a: ip_auth::HeaderError, b: ip_auth::HeaderError) -> bool
+    ensures { IsTrue result ↔ (a ≡ b) }
+{
+    ip_auth::HeaderSliceError::Content(a) == ip_auth::HeaderSliceError::Content(b)
+}
+
+/// Whether an error of an authentication header that tells a length is equal to one that tells of its bytes.
+pub fn auth_slice_errors_differ(a: LenError, b: ip_auth::HeaderError) -> bool
+    ensures { IsFalse result }
+{
+    ip_auth::HeaderSliceError::Len(a) == ip_auth::HeaderSliceError::Content(b)
+}
+
 /// A copy of an error of an authentication header.
 pub fn auth_slice_error_copy(
     e: &ip_auth::HeaderSliceError,
@@ -149,6 +163,13 @@ pub fn exts_slice_error(a: LenError, b: LenError) -> bool
     ensures { IsTrue result ↔ (a ≡ b) }
 {
     ipv6_exts::HeaderSliceError::Len(a) == ipv6_exts::HeaderSliceError::Len(b)
+}
+
+/// The same of two that tell of the chain's bytes.
+pub fn exts_slice_error_of_content(a: ipv6_exts::HeaderError, b: ipv6_exts::HeaderError) -> bool
+    ensures { IsTrue result ↔ (a ≡ b) }
+{
+    ipv6_exts::HeaderSliceError::Content(a) == ipv6_exts::HeaderSliceError::Content(b)
 }
 
 /// Whether an error of a chain that tells a length is equal to one that tells of its bytes.

@@ -47,6 +47,3 @@ pub number_and_bytes-two : (text number hex : List ℕ) → fields_of text ≡ n
     → number_and_bytes (fields_of text) ≡ option_zip (number_of number) (bytes_of_hex hex)
 number_and_bytes-two text number hex e =
     ap number_and_bytes e ∙ two_fields number hex (fields_of hex) (join_with_byte-slice_split 32 hex)
-
-pub number_and_bytes-one : (text : List ℕ) → fields_of text ≡ text ∷ [] → number_and_bytes (fields_of text) ≡ None
-number_and_bytes-one text e = ap number_and_bytes e

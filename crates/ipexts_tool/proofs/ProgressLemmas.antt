@@ -25,12 +25,6 @@ AnswersFirst-told o₀ o₁ o₂ told more lines e before kept =
     let first : take (length told) lines ≡ told = ap (take (length told)) e ∙ take-append_seam told more in
     subst (λ (ls : List (List ℕ)). Appends o₀ o₂ (answers_to ls)) (sym first) (Appends-kept o₀ o₁ o₂ (answers_to told) before kept)
 
--- a front of what came is a front of the input
-pub front_came : (i i' : Option (List ℕ)) (came : List ℕ) → Consumes i i' came → IfSome i (λ bytes. (rest : List ℕ) × (bytes ≡ came ++ rest))
-front_came None i' came h = tt
-front_came (Some xs) None came h = absurd h
-front_came (Some xs) (Some ys) came h = (ys, h)
-
 -- a read that gave no bytes
 pub read_none : {E : Type 0} (i i' : Option (List ℕ)) (r : Result ℕ E) (buf : List ℕ) (n : ℕ) → r ≡ Ok n → n ≡ 0 → ReadConsumes i i' r buf → Consumes i i' []
 read_none i i' (Ok m) buf n e none h =

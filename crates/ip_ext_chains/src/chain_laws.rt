@@ -7,5 +7,6 @@ ghost use Rattle.ip_ext_chains.specs.Fault.{slice_fault};
 pub fn extension_number_left_has_fault()
     ensures { (n : ℕ) (s : List ℕ) (c : List ExtHeader) → IsLongestChain n s c
         → IsExtensionNumber (leads_to n c)
-        → IsSome (slice_fault (length (bytes_of c)) (is_empty c) (leads_to n c) (drop (length (bytes_of c)) s)) }
+        → IsSome (slice_fault (length (bytes_of c)) (is_empty c) (leads_to n c)
+        (drop (length (bytes_of c)) s)) }
 {}

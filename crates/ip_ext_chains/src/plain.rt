@@ -52,7 +52,8 @@ fn short(inner: Layer, left: &[u8], offset: usize, required: usize, layer: Layer
 
 /// At hop by hop options, routing and destination options.
 fn plain_raw_fault(left: &[u8], offset: usize, layer: Layer) -> Option<Fault>
-    ensures { result ≡ option_map (short_at layer) (raw_fault Slice (length left.now) offset left.now) }
+    ensures { result ≡ option_map (short_at layer)
+        (raw_fault Slice (length left.now) offset left.now) }
 {
     if left.len() < 8 {
         return Some(short(Layer::Ipv6ExtHeader, left, offset, 8, layer));
@@ -66,7 +67,8 @@ fn plain_raw_fault(left: &[u8], offset: usize, layer: Layer) -> Option<Fault>
 
 /// At a fragment header.
 fn plain_fragment_fault(left: &[u8], offset: usize) -> Option<Fault>
-    ensures { result ≡ option_map (short_at Layer.Ipv6FragHeader) (fragment_fault Slice (length left.now) offset left.now) }
+    ensures { result ≡ option_map (short_at Layer.Ipv6FragHeader)
+        (fragment_fault Slice (length left.now) offset left.now) }
 {
     if left.len() < 8 {
         return Some(short(

@@ -130,7 +130,8 @@ pub(crate) fn fault(first: bool, number: IpNumber, bytes: &[u8], offset: usize) 
 /// How many bytes a header of the common layout needs: 8, where the bytes are too few to tell its own length.
 #[inline]
 fn required_raw_len(bytes: &[u8]) -> usize
-    ensures { result ≡ (if nat_lt (length bytes.now) 8 then 8 else 8 * (slice_index bytes.now 1 + 1)) }
+    ensures { result ≡ (if nat_lt (length bytes.now) 8 then 8
+        else 8 * (slice_index bytes.now 1 + 1)) }
 {
     if bytes.len() < 8 {
         return 8;

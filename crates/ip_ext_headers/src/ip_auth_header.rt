@@ -192,7 +192,8 @@ impl IpAuthHeader {
     /// then its bytes stay as they were.
     #[inline(always)]
     pub fn write<A: Allocator>(&self, out: &mut Vec<u8, A>) -> Result<(), AllocError>
-        ensures ok { OnOk result (AppendsOne (IsAuthEncoding self.now) out.old.items out.new.items) }
+        ensures ok { OnOk result
+            (AppendsOne (IsAuthEncoding self.now) out.old.items out.new.items) }
         ensures len { OnOk result (vec_len out.new ≡ vec_len out.old + auth_len self.now) }
         ensures err { OnErr result (out.new.items ≡ out.old.items) }
         ensures full { OnErr result (vec_capacity out.old < vec_len out.old + auth_len self.now) }

@@ -102,7 +102,8 @@ impl Ipv6FragmentHeader {
     /// Appends the header's bytes. It refuses only where the vector has no room for them and can't grow;
     /// then its bytes stay as they were.
     pub fn write<A: Allocator>(&self, out: &mut Vec<u8, A>) -> Result<(), AllocError>
-        ensures ok { OnOk result (AppendsOne (IsFragmentEncoding self.now) out.old.items out.new.items) }
+        ensures ok { OnOk result
+            (AppendsOne (IsFragmentEncoding self.now) out.old.items out.new.items) }
         ensures len { OnOk result (vec_len out.new ≡ vec_len out.old + 8) }
         ensures err { OnErr result (out.new.items ≡ out.old.items) }
         ensures full { OnErr result (vec_capacity out.old < vec_len out.old + 8) }

@@ -67,7 +67,8 @@ impl Ipv6RawExtHeader {
     /// mobility, host identity protocol and shim6.
     pub fn header_type_supported(next_header: IpNumber) -> bool
         ensures { IsTrue result ↔ ((next_header.0 ≡ 0) ⊎ ((next_header.0 ≡ 43)
-            ⊎ ((next_header.0 ≡ 60) ⊎ ((next_header.0 ≡ 135) ⊎ ((next_header.0 ≡ 139) ⊎ (next_header.0 ≡ 140)))))) }
+            ⊎ ((next_header.0 ≡ 60) ⊎ ((next_header.0 ≡ 135)
+            ⊎ ((next_header.0 ≡ 139) ⊎ (next_header.0 ≡ 140)))))) }
     {
         Ipv6RawExtHeaderSlice::header_type_supported(next_header)
     }

@@ -32,7 +32,8 @@ impl<'a> Ipv6RawExtHeaderSlice<'a> {
     /// mobility, host identity protocol and shim6.
     pub fn header_type_supported(next_header: IpNumber) -> bool
         ensures { IsTrue result ↔ ((next_header.0 ≡ 0) ⊎ ((next_header.0 ≡ 43)
-            ⊎ ((next_header.0 ≡ 60) ⊎ ((next_header.0 ≡ 135) ⊎ ((next_header.0 ≡ 139) ⊎ (next_header.0 ≡ 140)))))) }
+            ⊎ ((next_header.0 ≡ 60) ⊎ ((next_header.0 ≡ 135)
+            ⊎ ((next_header.0 ≡ 139) ⊎ (next_header.0 ≡ 140)))))) }
     {
         matches!(
             next_header,

@@ -15,7 +15,8 @@ pub fn write_before(
     next: IpNumber,
     out: &mut Vec<u8>,
 ) -> Result<(), AllocError>
-    ensures { OnOk result (AppendsOne (IsRawEncoding (record header.now { next_header = next.0 })) out.old.items out.new.items) }
+    ensures { OnOk result (AppendsOne
+        (IsRawEncoding (record header.now { next_header = next.0 })) out.old.items out.new.items) }
 {
     let mut copy = header.clone()?;
     copy.next_header = next;

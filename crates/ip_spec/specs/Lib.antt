@@ -11,4 +11,6 @@ pub mod Decoding
 pub mod Chain
 pub mod Demand
 pub mod Fits
+pub mod Places
+pub mod Encoded
 pub mod PlainHeader

@@ -9,3 +9,4 @@ mod fields;
 mod headers;
 mod packets;
 mod parses;
+mod structs;

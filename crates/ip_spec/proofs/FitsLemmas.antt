@@ -3,7 +3,7 @@ use Rattle.std.proofs.Common.{◌≡◌, ◌≢◌, ℕ, suc, ◌+◌, ◌≤◌
 use Rattle.std.specs.Prelude.{◌==◌, not, if◌then◌else◌}
 use Rattle.std.specs.List.{position_or_len}
 use Rattle.std.proofs.lemmas.Bool.Decides.{eqb_tells}
-use Rattle.std.proofs.lemmas.List.{append-nil, map-append}
+use Rattle.std.proofs.lemmas.List.{append-nil, map-append, take-append-drop}
 use Rattle.std.proofs.lemmas.List.Sums.{sum_by-append}
 use Rattle.ip_spec.specs.Header.{IsExtensionNumber}
 use Rattle.ip_spec.specs.Chain.{ExtHeader, leads_to, bytes_of, is_empty, IsEnd}
@@ -116,6 +116,30 @@ numbers_fit =
 pub fits_places : IsDemand FitsPlaces
 fits_places = demand_of-map (λ h. h.number) NumbersFit numbers_fit
 
+-- What stands behind numbers that fit, fits by itself, and so does each single number.
+often_before : (ns : List ℕ) → how_often 60 (before_routing ns) ≤ how_often 60 ns
+often_before ns = let k : ℕ = position_or_len (λ n. n == 43) ns in omega (arith, often-append 60 (take k ns) (drop k ns), ap (how_often 60) (take-append-drop k ns))
+
+often_after : (ns : List ℕ) → how_often 60 (after_routing ns) ≤ how_often 60 ns
+often_after ns = let k : ℕ = position_or_len (λ n. n == 43) ns + 1 in omega (arith, often-append 60 (take k ns) (drop k ns), ap (how_often 60) (take-append-drop k ns))
+
+module _ (xs ys : List ℕ) (f : NumbersFit (xs ++ ys)) where
+  before_behind : how_often 60 (before_routing ys) ≤ 1
+  before_behind = elim (sides xs ys) [ none_yet z a b c d ↦ omega (arith, f.destination) | one_before l c d ↦ omega (arith, f.final_destination, often_before ys) ]
+
+  after_behind : how_often 60 (after_routing ys) ≤ 1
+  after_behind = elim (sides xs ys) [ none_yet z a b c d ↦ omega (arith, f.final_destination) | one_before l c d ↦ omega (arith, f.final_destination, often_after ys) ]
+
+  pub fits_behind : NumbersFit ys
+  fits_behind = record {
+    hop_by_hop = omega (arith, f.hop_by_hop, often-append 0 xs ys);
+    routing = omega (arith, f.routing, often-append 43 xs ys);
+    fragment = omega (arith, f.fragment, often-append 44 xs ys);
+    authentication = omega (arith, f.authentication, often-append 51 xs ys);
+    destination = before_behind;
+    final_destination = after_behind;
+  }
+
 -- One more number fits where nothing stands in its place, and of an extension number only there.
 module _ (m : ℕ) (ns : List ℕ) where
   place_other : (m == 60) ≡ false → in_place m ns ≡ how_often m ns
@@ -220,9 +244,12 @@ module _ (m : ℕ) (ns : List ℕ) where
     ]
   ]
 
+pub one_number_fits : (m : ℕ) → NumbersFit (m ∷ [])
+one_number_fits m = fits_next m [] numbers_fit.empty (elim (eqb_tells m 60) [ inl w ↦ place_before m [] w.0 refl | inr w ↦ place_other m [] w.0 ])
+
 -- At the end of the longest chain that fits, no header goes on, unless the place of the number is taken.
 first_fits : (c : List ExtHeader) (m : ℕ) → m ≡ 0 → is_empty c ≡ true → NumbersFit (numbers_of c ++ m ∷ [])
-first_fits [] m z e = fits_next m [] numbers_fit.empty (ap (λ k. in_place k []) z)
+first_fits [] m z e = one_number_fits m
 first_fits (g ∷ c) m z e = absurd (let differ : false ≡ true = e in cc)
 
 next_number_fits : (c : List ExtHeader) (m : ℕ) → (m ≡ 0 → is_empty c ≡ true) → (IsTaken m c → ⊥) → NumbersFit (numbers_of c ++ m ∷ [])

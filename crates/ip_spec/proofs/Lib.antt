@@ -8,5 +8,7 @@ pub mod ChainLemmas
 pub mod ReadLemmas
 pub mod DemandKinds
 pub mod FitsLemmas
+pub mod CutLemmas
+pub mod RunsLemmas
 pub mod ShorterLemmas
 pub mod EncodingLemmas

@@ -6,6 +6,7 @@ mod chain_laws;
 mod demand_laws;
 mod header_laws;
 mod plain;
+mod runs_laws;
 
 pub use chain_laws::{longest_chain_ends, one_longest_chain};
 pub use demand_laws::{
@@ -17,3 +18,4 @@ pub use header_laws::{
     cleared_header_encodes, cleared_header_says_the_same, encoding_len, one_decoding, one_encoding,
 };
 pub use plain::{PlainChain, PlainHeader, is_header, next_len, plain_longest_chain};
+pub use runs_laws::one_list_of_runs;

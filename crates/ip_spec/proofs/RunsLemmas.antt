@@ -5,13 +5,18 @@ use Rattle.std.proofs.Math.Seq.{take-length}
 use Rattle.std.proofs.lemmas.List.{append-nil, length-append, map-append}
 use Rattle.std.proofs.lemmas.List.Concat.{flat_map-append}
 use Rattle.ip_spec.specs.Prefix.{IsPrefix}
+use Rattle.ip_spec.specs.Header.{IsHeader}
 use Rattle.ip_spec.specs.Fields.{next_header}
 use Rattle.ip_spec.specs.Chain.{ExtHeader, leads_to, bytes_of, is_empty, IsChain, IsPrefixChain, IsLongestChain, IsNext, IsEnd}
 use Rattle.ip_spec.specs.Demand.{KeepsBeginning, NextBreaks, IsLongestUnder}
 use Rattle.ip_spec.specs.Fits.{numbers_of, NumbersFit, FitsPlaces, IsTaken}
 use Rattle.ip_spec.specs.Runs.{joined, how_many, last_piece, IsCut, AreRuns, none, cut, one_more, AreChains, AreLongestFitting}
 use Rattle.ip_spec.proofs.HeaderLemmas.{eq_or}
-use Rattle.ip_spec.proofs.StepLemmas.{begins, tail_chain}
+use Rattle.ip_spec.proofs.PrefixLemmas.{prefix_second, rest_join}
+use Rattle.ip_spec.proofs.LongestOfLemmas.{begins_first}
+use Rattle.ip_spec.proofs.StepLemmas.{begins, next_of, chains_grow, tail_chain}
+use Rattle.ip_spec.proofs.UnderLemmas.{one_longest_under, kept_is_longest}
+use Rattle.ip_spec.proofs.ChainLemmas.{longest_at_end, longest_ends}
 use Rattle.ip_spec.proofs.DemandLemmas.{some_kept}
 use Rattle.ip_spec.proofs.FitsLemmas.{numbers_fit, fits_places, fits_behind, one_number_fits}
 use Rattle.ip_spec.proofs.CutLemmas.{Cuts, how_many-filled, how_many-more, joined-more, cut_more, no_cut, some_cut, one_cut, cut_count, cut_of_none, fewest, some_are_kept}
@@ -215,3 +220,103 @@ leads_to-append n (h ∷ c) d = leads_to-append (next_header h.bytes) c d
 
 bytes_of-append : (c d : List ExtHeader) → bytes_of (c ++ d) ≡ bytes_of c ++ bytes_of d
 bytes_of-append c d = flat_map-append (λ h. h.bytes) c d
+
+module _ (n : ℕ) (s : List ℕ) (p : List ExtHeader) where
+  abbrev number : ℕ
+  number = leads_to n p
+
+  abbrev rest : List ℕ
+  rest = drop (length (bytes_of p)) s
+
+  zero_behind : (c : List ExtHeader) → (c ≡ [] → number ≢ 0) → (leads_to number c ≡ 0 → is_empty c ≡ true) → leads_to number c ≡ 0 → ⊥
+  zero_behind [] nz first z = nz refl z
+  zero_behind (h ∷ c) nz first z = let differ : false ≡ true = first z in cc
+
+  rest_prefix : (c : List ExtHeader) → IsPrefixChain n s (p ++ c) → IsPrefixChain number rest c
+  rest_prefix c q =
+      let F : List ℕ → Type 0 = λ b. IsPrefix b s in
+      record { chain = chain_behind n p c q.chain; prefix = prefix_second (bytes_of p) (bytes_of c) s (subst F (bytes_of-append p c) q.prefix) }
+
+  rest_ends : (c : List ExtHeader) → (c ≡ [] → number ≢ 0) → IsLongestChain n s (p ++ c) → IsEnd (is_empty c) (leads_to number c) (drop (length (bytes_of c)) rest)
+  rest_ends c nz l h x =
+      let H : ℕ → Type 0 = λ m. IsHeader m h.bytes in
+      let F : List ℕ → Type 0 = IsPrefix h.bytes in
+      let same : leads_to number c ≡ leads_to n (p ++ c) = sym (leads_to-append n p c) in
+      let first : IsPrefix (bytes_of p) s = (begins n s p c l.has).prefix in
+      let left : drop (length (bytes_of c)) rest ≡ drop (length (bytes_of (p ++ c))) s =
+      rest_join (bytes_of p) (bytes_of c) s first (rest_prefix c l.has).prefix ∙ ap (λ (b : List ℕ). drop (length b) s) (sym (bytes_of-append p c)) in
+      longest_ends n s (p ++ c) l h (record {
+        number = x.number ∙ same;
+        header = subst H same x.header;
+        prefix = subst F left x.prefix;
+        zero_only_first = λ z. absurd (zero_behind c nz x.zero_only_first (same ∙ z));
+      })
+
+  pub rest_longest : (c : List ExtHeader) → (c ≡ [] → number ≢ 0) → IsLongestChain n s (p ++ c) → IsLongestChain number rest c
+  rest_longest c nz l = longest_at_end number rest c (rest_prefix c l.has) (rest_ends c nz l)
+
+-- So the runs are the longest chains that fit, one behind the other.
+not_first : (p : List ExtHeader) → p ≢ [] → is_empty p ≡ true → ⊥
+not_first [] e w = e refl
+not_first (h ∷ p) e w = let differ : false ≡ true = w in cc
+
+next_taken : (n : ℕ) (s : List ℕ) (p rest : List ExtHeader) → p ≢ [] → IsPrefixChain n s (p ++ rest) → NextBreaks FitsPlaces p rest → (rest ≡ [] → IsTaken (leads_to n p) p) → IsTaken (leads_to n p) p
+next_taken n s p [] e q b on = on refl
+next_taken n s p (h ∷ rest) e q b on =
+    let N : List ℕ → Type 0 = NumbersFit in
+    let x = next_of n s p h (begins_first (IsPrefixChain n s) (chains_grow n s) p h rest q) in
+    let same : numbers_of p ++ leads_to n p ∷ [] ≡ numbers_of (p ++ h ∷ []) = ap (λ m. numbers_of p ++ m ∷ []) (sym x.number) ∙ sym (map-append (λ g. g.number) p (h ∷ [])) in
+    (λ z. not_first p e (x.zero_only_first z), λ f. b (subst N same f))
+
+fitting_more : (n : ℕ) (s : List ℕ) (p : List ExtHeader) (ps : Pieces) → IsLongestUnder FitsPlaces n s p → IsTaken (leads_to n p) p → AreLongestFitting (leads_to n p) (drop (length (bytes_of p)) s) ps → AreLongestFitting n s (p ∷ ps)
+fitting_more n s p [] l t f = absurd f
+fitting_more n s p (q ∷ ps) l t f = (l, t, f)
+
+pub runs_longest_fitting : (ps : Pieces) (n : ℕ) (s : List ℕ) (c : List ExtHeader) → IsLongestChain n s c → AreRuns (leads_to n c) c ps → AreLongestFitting n s ps
+runs_longest_fitting [] n s c l a = absurd (omega (arith, some_run (leads_to n c) c [] a))
+runs_longest_fitting (p ∷ ps) n s c l a = elim (runs_step (leads_to n c) c (p ∷ ps) a) [
+  | ends f free e ↦
+      let A : Pieces → Type 0 = AreLongestFitting n s in
+      let k : KeepsBeginning FitsPlaces c c = record { rest = []; joined = sym (append-nil c); meets = f; breaks = tt } in
+      subst A (sym e) (kept_is_longest FitsPlaces fits_places n s c c l k, free)
+  | goes r k on rs b e ↦
+      let same : p ≡ r = cc in
+      let others : rs ≡ ps = cc in
+      let A : List ExtHeader → Type 0 = λ q. AreLongestFitting n s (q ∷ ps) in
+      let L : List ExtHeader → Type 0 = IsLongestChain n s in
+      let R : ℕ → Type 0 = λ m. AreRuns m k.rest rs in
+      let B : Pieces → Type 0 = AreRuns (leads_to (leads_to n r) k.rest) k.rest in
+      let T : ℕ → Type 0 = λ m. IsTaken m r in
+      let whole : IsLongestChain n s (r ++ k.rest) = subst L k.joined l in
+      let leads : leads_to n c ≡ leads_to (leads_to n r) k.rest = ap (leads_to n) k.joined ∙ leads_to-append n r k.rest in
+      let at_end : k.rest ≡ [] → IsTaken (leads_to n r) r = λ w. subst T (leads ∙ ap (leads_to (leads_to n r)) w) (on w) in
+      let taken = next_taken n s r k.rest (first_filled (leads_to n c) c r k on) whole.has k.breaks at_end in
+      subst A (sym same)
+      (fitting_more n s r ps (kept_is_longest FitsPlaces fits_places n s c r l k) taken
+      (runs_longest_fitting ps (leads_to n r) (drop (length (bytes_of r)) s) k.rest (rest_longest n s r k.rest (λ w. taken.0) whole) (subst B others (subst R leads b))))
+]
+
+-- and these are determined
+module _ (n : ℕ) (s : List ℕ) (p q : List ExtHeader) (l : IsLongestUnder FitsPlaces n s p) (k : IsLongestUnder FitsPlaces n s q) where
+  same_fitting : p ≡ q
+  same_fitting = one_longest_under FitsPlaces fits_places n s p q l k
+
+  taken_too : IsTaken (leads_to n p) p → IsTaken (leads_to n q) q
+  taken_too t = let T : List ExtHeader → Type 0 = λ c. IsTaken (leads_to n c) c in subst T same_fitting t
+
+one_fitting : (ps qs : Pieces) (n : ℕ) (s : List ℕ) → AreLongestFitting n s ps → AreLongestFitting n s qs → ps ≡ qs
+one_fitting [] qs n s a b = absurd a
+one_fitting (p ∷ ps) [] n s a b = absurd b
+one_fitting (p ∷ []) (q ∷ []) n s a b = ap (λ l. l ∷ []) (same_fitting n s p q a.0 b.0)
+one_fitting (p ∷ []) (q ∷ r ∷ qs) n s a b = absurd (a.1 (taken_too n s q p b.0 a.0 b.1))
+one_fitting (p ∷ r ∷ ps) (q ∷ []) n s a b = absurd (b.1 (taken_too n s p q a.0 b.0 a.1))
+one_fitting (p ∷ r ∷ ps) (q ∷ t ∷ qs) n s a b =
+    let same : p ≡ q = same_fitting n s p q a.0 b.0 in
+    let A : List ExtHeader → Type 0 = λ c. AreLongestFitting (leads_to n c) (drop (length (bytes_of c)) s) (r ∷ ps) in
+    ap (λ l. l ∷ r ∷ ps) same ∙ ap (λ l. q ∷ l) (one_fitting (r ∷ ps) (t ∷ qs) (leads_to n q) (drop (length (bytes_of q)) s) (subst A same a.2) b.2)
+
+pub longest_fitting_runs : (ps : Pieces) (n : ℕ) (s : List ℕ) (c : List ExtHeader) → IsLongestChain n s c → AreLongestFitting n s ps → AreRuns (leads_to n c) c ps
+longest_fitting_runs ps n s c l a =
+    let R : Pieces → Type 0 = AreRuns (leads_to n c) c in
+    let runs = some_runs (leads_to n c) c in
+    subst R (one_fitting runs.0 ps n s (runs_longest_fitting runs.0 n s c l runs.1) a) runs.1

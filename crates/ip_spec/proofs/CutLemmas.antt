@@ -1,10 +1,10 @@
 -- Lists cut into pieces under a demand: there is one cut, only one, and none has fewer pieces.
-use Rattle.std.proofs.Common.{◌≡◌, ◌≢◌, ℕ, zero, suc, ◌+◌, ◌≤◌, List, [], ◌∷◌, ◌++◌, length, refl, ap, sym, ◌∙◌, arith, subst, append_assoc}
+use Rattle.std.proofs.Common.{◌≡◌, ◌≢◌, ℕ, zero, suc, ◌≤◌, List, [], ◌∷◌, ◌++◌, length, refl, ap, sym, ◌∙◌, arith, subst, append_assoc}
 use Rattle.std.specs.List.{flat_map, AllByRecursion}
 use Rattle.std.proofs.lemmas.List.{append-nil, append_cancel_left, length-append}
 use Rattle.std.proofs.lemmas.List.Concat.{flat_map-append}
 use Rattle.ip_spec.specs.Demand.{IsDemand, NextBreaks, KeepsBeginning}
-use Rattle.ip_spec.specs.Runs.{joined, how_many, EachBreaks, IsCut}
+use Rattle.ip_spec.specs.Runs.{joined, how_many, IsCut}
 use Rattle.ip_spec.proofs.LongestOfLemmas.{compare, within, beyond}
 use Rattle.ip_spec.proofs.DemandLemmas.{Begins, beginnings_grow, some_kept, one_kept, kept_bounds}
 

@@ -1,5 +1,5 @@
 -- The runs of a chain: what the demand of six places cuts it into.
-use Rattle.std.proofs.Common.{◌≡◌, ◌≢◌, ℕ, ◌+◌, ◌*◌, ◌≤◌, List, [], ◌∷◌, ◌++◌, length, drop, refl, ap, sym, ◌∙◌, arith, inl, inr, ◌⊎◌, subst, true, false}
+use Rattle.std.proofs.Common.{◌≡◌, ◌≢◌, ℕ, ◌+◌, ◌/◌, ◌≤◌, List, [], ◌∷◌, ◌++◌, length, drop, refl, ap, sym, ◌∙◌, arith, inl, inr, ◌⊎◌, subst, true, false}
 use Rattle.std.specs.List.{flat_map, AllByRecursion}
 use Rattle.std.proofs.Math.Seq.{take-length}
 use Rattle.std.proofs.lemmas.List.{append-nil, length-append, map-append}
@@ -7,19 +7,19 @@ use Rattle.std.proofs.lemmas.List.Concat.{flat_map-append}
 use Rattle.ip_spec.specs.Prefix.{IsPrefix}
 use Rattle.ip_spec.specs.Header.{IsHeader}
 use Rattle.ip_spec.specs.Fields.{next_header}
-use Rattle.ip_spec.specs.Chain.{ExtHeader, leads_to, bytes_of, is_empty, IsChain, IsPrefixChain, IsLongestChain, IsNext, IsEnd}
+use Rattle.ip_spec.specs.Chain.{ExtHeader, leads_to, bytes_of, is_empty, IsChain, IsPrefixChain, IsLongestChain, IsEnd}
 use Rattle.ip_spec.specs.Demand.{KeepsBeginning, NextBreaks, IsLongestUnder}
 use Rattle.ip_spec.specs.Fits.{numbers_of, NumbersFit, FitsPlaces, IsTaken}
 use Rattle.ip_spec.specs.Runs.{joined, how_many, last_piece, IsCut, AreRuns, none, cut, one_more, AreChains, AreLongestFitting}
 use Rattle.ip_spec.proofs.HeaderLemmas.{eq_or}
-use Rattle.ip_spec.proofs.PrefixLemmas.{prefix_second, rest_join}
+use Rattle.ip_spec.proofs.PrefixLemmas.{prefix_second, rest_join, prefix-length}
 use Rattle.ip_spec.proofs.LongestOfLemmas.{begins_first}
-use Rattle.ip_spec.proofs.StepLemmas.{begins, next_of, chains_grow, tail_chain}
+use Rattle.ip_spec.proofs.StepLemmas.{begins, next_of, chains_grow, tail_chain, bytes_of-least}
 use Rattle.ip_spec.proofs.UnderLemmas.{one_longest_under, kept_is_longest}
 use Rattle.ip_spec.proofs.ChainLemmas.{longest_at_end, longest_ends}
 use Rattle.ip_spec.proofs.DemandLemmas.{some_kept}
 use Rattle.ip_spec.proofs.FitsLemmas.{numbers_fit, fits_places, fits_behind, one_number_fits}
-use Rattle.ip_spec.proofs.CutLemmas.{Cuts, how_many-filled, how_many-more, joined-more, cut_more, no_cut, some_cut, one_cut, cut_count, cut_of_none, fewest, some_are_kept}
+use Rattle.ip_spec.proofs.CutLemmas.{Cuts, how_many-filled, how_many-more, joined-more, pieces_made, cut_more, no_cut, some_cut, one_cut, cut_count, cut_of_none, fewest, some_are_kept}
 
 abbrev Pieces : Type 0
 Pieces = List (List ExtHeader)
@@ -144,6 +144,9 @@ module _ (m : ℕ) (c : List ExtHeader) where
     | one_more rs i t w ↦ ap joined w ∙ joined-more rs ∙ i.whole
   ]
 
+  pub runs_made : {Y : Type 0} (f : ExtHeader → List Y) (ps : Pieces) → AreRuns m c ps → flat_map (λ p. flat_map f p) ps ≡ flat_map f c
+  runs_made f ps a = pieces_made f ps ∙ ap (flat_map f) (runs_joined ps a)
+
   -- no cut into pieces that fit has fewer that aren't empty
   pub fewest_runs : (ps rs : Pieces) → AreRuns m c ps → joined rs ≡ c → AllByRecursion FitsPlaces rs → how_many ps ≤ how_many rs
   fewest_runs ps rs a e f =
@@ -169,6 +172,9 @@ module _ (m : ℕ) (c : List ExtHeader) where
     | cut s i free ↦ omega (arith, cut_count FitsPlaces cuts_places ps c i)
     | one_more qs i t w ↦ omega (arith, ap length w, length-append qs ([] ∷ []), cut_count FitsPlaces cuts_places qs c i)
   ]
+
+pub runs_bound : (n : ℕ) (s : List ℕ) (c : List ExtHeader) (m : ℕ) (ps : Pieces) → IsPrefixChain n s c → AreRuns m c ps → length ps ≤ length s / 8 + 1
+runs_bound n s c m ps q a = omega (arith, count_runs m c ps a, bytes_of-least c q.chain.headers, prefix-length (bytes_of c) s q.prefix)
 
 -- The runs as steps: they end with what is left, or go on behind what is kept of it.
 pub data RunsStep (m : ℕ) (c : List ExtHeader) (ps : Pieces) : Type 0 where

@@ -1,17 +1,48 @@
-ghost use Rattle.std.specs.Prelude.{◌≡◌, ◌↔◌, ℕ, List};
-ghost use Rattle.ip_spec.specs.Chain.{ExtHeader, IsLongestChain, leads_to};
-ghost use Rattle.ip_spec.specs.Runs.{AreRuns, AreLongestFitting};
+ghost use Rattle.std.specs.Prelude.{◌≡◌, ◌↔◌, ℕ, ◌+◌, ◌/◌, ◌≤◌, List, length};
+ghost use Rattle.std.specs.List.{flat_map, AllByRecursion};
+ghost use Rattle.ip_spec.specs.Chain.{ExtHeader, IsChain, IsLongestChain, leads_to};
+ghost use Rattle.ip_spec.specs.Fits.{FitsPlaces};
+ghost use Rattle.ip_spec.specs.Runs.{AreRuns, AreChains, AreLongestFitting, joined, how_many};
 
-/// Each list of headers and number behind them have exactly one list of runs.
+/// Headers, with a number behind them, have exactly one list of runs.
 pub fn one_list_of_runs()
     ensures some { (m : ℕ) (c : List ExtHeader) → (ps : List (List ExtHeader)) × AreRuns m c ps }
     ensures only { (m : ℕ) (c : List ExtHeader) (ps qs : List (List ExtHeader))
         → AreRuns m c ps → AreRuns m c qs → ps ≡ qs }
 {}
 
+/// The runs are the fewest: each other list of pieces that fit six places and join to the same headers has as
+/// many pieces with a header in them, or more.
+pub fn fewest_runs()
+    ensures { (m : ℕ) (c : List ExtHeader) (ps qs : List (List ExtHeader))
+        → AreRuns m c ps → joined qs ≡ c → AllByRecursion FitsPlaces qs
+        → how_many ps ≤ how_many qs }
+{}
+
+/// There is a run, and of bytes there is at most one for each 8 of them and one more.
+pub fn runs_count()
+    ensures least { (m : ℕ) (c : List ExtHeader) (ps : List (List ExtHeader)) → AreRuns m c ps
+        → 1 ≤ length ps }
+    ensures most { (n : ℕ) (s : List ℕ) (c : List ExtHeader) (ps : List (List ExtHeader))
+        → IsLongestChain n s c → AreRuns (leads_to n c) c ps → length ps ≤ length s / 8 + 1 }
+{}
+
+/// No header is lost: the runs joined are the headers, and whatever is written for each header, written run after
+/// run it is what is written for all of them. Of a chain each run is a chain, from the number to which the run
+/// before it leads.
+pub fn runs_keep_each_header()
+    ensures joined { (m : ℕ) (c : List ExtHeader) (ps : List (List ExtHeader)) → AreRuns m c ps
+        → joined ps ≡ c }
+    ensures written { (f : ExtHeader → List ℕ) (m : ℕ) (c : List ExtHeader)
+        (ps : List (List ExtHeader)) → AreRuns m c ps
+        → flat_map (λ p. flat_map f p) ps ≡ flat_map f c }
+    ensures chains { (n m : ℕ) (c : List ExtHeader) (ps : List (List ExtHeader)) → IsChain n c
+        → AreRuns m c ps → AreChains n ps }
+{}
+
 /// The runs of a longest chain are the longest chains that fit six places, each from the number and at the bytes
 /// that the one before leaves, until a number isn't taken.
-pub fn runs_are_the_longest_fitting_chains()
+pub fn runs_are_longest_fitting_chains()
     ensures { (n : ℕ) (s : List ℕ) (c : List ExtHeader) (ps : List (List ExtHeader))
         → IsLongestChain n s c → AreRuns (leads_to n c) c ps ↔ AreLongestFitting n s ps }
 {}

@@ -1,6 +1,6 @@
 -- Lists cut into pieces under a demand: there is one cut, only one, and none has fewer pieces.
 use Rattle.std.proofs.Common.{◌≡◌, ◌≢◌, ℕ, zero, suc, ◌≤◌, List, [], ◌∷◌, ◌++◌, length, refl, ap, sym, ◌∙◌, arith, subst, append_assoc}
-use Rattle.std.specs.List.{flat_map, AllByRecursion}
+use Rattle.std.specs.List.{AllByRecursion}
 use Rattle.std.proofs.lemmas.List.{append-nil, append_cancel_left, length-append}
 use Rattle.std.proofs.lemmas.List.Concat.{flat_map-append}
 use Rattle.ip_spec.specs.Demand.{IsDemand, NextBreaks, KeepsBeginning}
@@ -41,11 +41,6 @@ how_many-more ((x ∷ p) ∷ ps) = ap suc (how_many-more ps)
 
 pub joined-more : {X : Type 0} (ps : List (List X)) → joined (ps ++ [] ∷ []) ≡ joined ps
 joined-more ps = flat_map-append (λ p. p) ps ([] ∷ []) ∙ append-nil (joined ps)
-
--- what is made of the elements piece by piece is what is made of all of them
-pub pieces_made : {X Y : Type 0} (f : X → List Y) (ps : List (List X)) → flat_map (λ p. flat_map f p) ps ≡ flat_map f (joined ps)
-pieces_made f [] = refl
-pieces_made f (p ∷ ps) = ap (λ l. flat_map f p ++ l) (pieces_made f ps) ∙ sym (flat_map-append f p (joined ps))
 
 module _ {X : Type 0} (Q : List X → Type 0) (q : Cuts Q) where
   none_kept : (d rest : List X) → d ≡ rest → NextBreaks Q [] rest → d ≡ []

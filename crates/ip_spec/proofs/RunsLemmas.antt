@@ -10,6 +10,8 @@ use Rattle.ip_spec.specs.Fields.{next_header}
 use Rattle.ip_spec.specs.Chain.{ExtHeader, leads_to, bytes_of, is_empty, IsChain, IsPrefixChain, IsLongestChain, IsEnd}
 use Rattle.ip_spec.specs.Demand.{KeepsBeginning, NextBreaks, IsLongestUnder}
 use Rattle.ip_spec.specs.Fits.{numbers_of, NumbersFit, FitsPlaces, IsTaken}
+use Rattle.ip_spec.specs.Cleared.{cleared_header}
+use Rattle.ip_spec.specs.Encoded.{cleared_chain}
 use Rattle.ip_spec.specs.Runs.{joined, how_many, last_piece, IsCut, AreRuns, none, cut, one_more, AreChains, AreLongestFitting}
 use Rattle.ip_spec.proofs.HeaderLemmas.{eq_or}
 use Rattle.ip_spec.proofs.PrefixLemmas.{prefix_second, rest_join, prefix-length}
@@ -19,7 +21,7 @@ use Rattle.ip_spec.proofs.UnderLemmas.{one_longest_under, kept_is_longest}
 use Rattle.ip_spec.proofs.ChainLemmas.{longest_at_end, longest_ends}
 use Rattle.ip_spec.proofs.DemandLemmas.{some_kept}
 use Rattle.ip_spec.proofs.FitsLemmas.{numbers_fit, fits_places, fits_behind, one_number_fits}
-use Rattle.ip_spec.proofs.CutLemmas.{Cuts, how_many-filled, how_many-more, joined-more, pieces_made, cut_more, no_cut, some_cut, one_cut, cut_count, cut_of_none, fewest, some_are_kept}
+use Rattle.ip_spec.proofs.CutLemmas.{Cuts, how_many-filled, how_many-more, joined-more, cut_more, no_cut, some_cut, one_cut, cut_count, cut_of_none, fewest, some_are_kept}
 
 abbrev Pieces : Type 0
 Pieces = List (List ExtHeader)
@@ -105,6 +107,16 @@ some_runs m c = elim (some_or_none c) [
       ]
 ]
 
+bytes_of-append : (c d : List ExtHeader) → bytes_of (c ++ d) ≡ bytes_of c ++ bytes_of d
+bytes_of-append c d = flat_map-append (λ h. h.bytes) c d
+
+written_joined : (ps : Pieces) → flat_map (λ p. bytes_of (cleared_chain p)) ps ≡ bytes_of (cleared_chain (joined ps))
+written_joined [] = refl
+written_joined (p ∷ ps) =
+    ap (λ b. bytes_of (cleared_chain p) ++ b) (written_joined ps)
+    ∙ sym (bytes_of-append (cleared_chain p) (cleared_chain (joined ps)))
+    ∙ ap bytes_of (sym (map-append (λ h. record { number = h.number; bytes = cleared_header h.number h.bytes }) p (joined ps)))
+
 module _ (m : ℕ) (c : List ExtHeader) where
   the_cut : (ps qs : Pieces) → IsCut FitsPlaces c ps → IsCut FitsPlaces c qs → ps ≡ qs
   the_cut ps qs = one_cut FitsPlaces cuts_places ps qs c
@@ -144,8 +156,8 @@ module _ (m : ℕ) (c : List ExtHeader) where
     | one_more rs i t w ↦ ap joined w ∙ joined-more rs ∙ i.whole
   ]
 
-  pub runs_made : {Y : Type 0} (f : ExtHeader → List Y) (ps : Pieces) → AreRuns m c ps → flat_map (λ p. flat_map f p) ps ≡ flat_map f c
-  runs_made f ps a = pieces_made f ps ∙ ap (flat_map f) (runs_joined ps a)
+  pub runs_written : (ps : Pieces) → AreRuns m c ps → flat_map (λ p. bytes_of (cleared_chain p)) ps ≡ bytes_of (cleared_chain c)
+  runs_written ps a = written_joined ps ∙ ap (λ d. bytes_of (cleared_chain d)) (runs_joined ps a)
 
   -- no cut into pieces that fit has fewer that aren't empty
   pub fewest_runs : (ps rs : Pieces) → AreRuns m c ps → joined rs ≡ c → AllByRecursion FitsPlaces rs → how_many ps ≤ how_many rs
@@ -223,9 +235,6 @@ runs_chains n m c ps k a = let C : List ExtHeader → Type 0 = IsChain n in chai
 pub leads_to-append : (n : ℕ) (c d : List ExtHeader) → leads_to n (c ++ d) ≡ leads_to (leads_to n c) d
 leads_to-append n [] d = refl
 leads_to-append n (h ∷ c) d = leads_to-append (next_header h.bytes) c d
-
-bytes_of-append : (c d : List ExtHeader) → bytes_of (c ++ d) ≡ bytes_of c ++ bytes_of d
-bytes_of-append c d = flat_map-append (λ h. h.bytes) c d
 
 module _ (n : ℕ) (s : List ℕ) (p : List ExtHeader) where
   abbrev number : ℕ

@@ -1,10 +1,11 @@
 ghost use Rattle.std.specs.Prelude.{◌≡◌, ◌↔◌, ℕ, ◌+◌, ◌/◌, ◌≤◌, List, length};
 ghost use Rattle.std.specs.List.{flat_map, AllByRecursion};
-ghost use Rattle.ip_spec.specs.Chain.{ExtHeader, IsChain, IsLongestChain, leads_to};
+ghost use Rattle.ip_spec.specs.Chain.{ExtHeader, IsChain, IsLongestChain, leads_to, bytes_of};
 ghost use Rattle.ip_spec.specs.Fits.{FitsPlaces};
+ghost use Rattle.ip_spec.specs.Encoded.{cleared_chain};
 ghost use Rattle.ip_spec.specs.Runs.{AreRuns, AreChains, AreLongestFitting, joined, how_many};
 
-/// Headers, with a number behind them, have exactly one list of runs.
+/// Headers and the number to which they lead have exactly one list of runs.
 pub fn one_list_of_runs()
     ensures some { (m : ℕ) (c : List ExtHeader) → (ps : List (List ExtHeader)) × AreRuns m c ps }
     ensures only { (m : ℕ) (c : List ExtHeader) (ps qs : List (List ExtHeader))
@@ -27,15 +28,14 @@ pub fn runs_count()
         → IsLongestChain n s c → AreRuns (leads_to n c) c ps → length ps ≤ length s / 8 + 1 }
 {}
 
-/// No header is lost: the runs joined are the headers, and whatever is written for each header, written run after
-/// run it is what is written for all of them. Of a chain each run is a chain, from the number to which the run
-/// before it leads.
+/// No header is lost: the runs joined are the headers, and what is written of the runs, one after the other, is
+/// what is written of the headers. Of a chain each run is a chain, from the number to which the run before it
+/// leads.
 pub fn runs_keep_each_header()
     ensures joined { (m : ℕ) (c : List ExtHeader) (ps : List (List ExtHeader)) → AreRuns m c ps
         → joined ps ≡ c }
-    ensures written { (f : ExtHeader → List ℕ) (m : ℕ) (c : List ExtHeader)
-        (ps : List (List ExtHeader)) → AreRuns m c ps
-        → flat_map (λ p. flat_map f p) ps ≡ flat_map f c }
+    ensures written { (m : ℕ) (c : List ExtHeader) (ps : List (List ExtHeader)) → AreRuns m c ps
+        → flat_map (λ p. bytes_of (cleared_chain p)) ps ≡ bytes_of (cleared_chain c) }
     ensures chains { (n m : ℕ) (c : List ExtHeader) (ps : List (List ExtHeader)) → IsChain n c
         → AreRuns m c ps → AreChains n ps }
 {}

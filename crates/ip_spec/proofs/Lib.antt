@@ -7,8 +7,10 @@ pub mod UnderLemmas
 pub mod ChainLemmas
 pub mod ReadLemmas
 pub mod DemandKinds
+pub mod FirstLemmas
 pub mod FitsLemmas
 pub mod CutLemmas
 pub mod RunsLemmas
+pub mod PlaceLemmas
 pub mod ShorterLemmas
 pub mod EncodingLemmas

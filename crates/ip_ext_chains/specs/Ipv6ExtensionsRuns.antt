@@ -1,0 +1,17 @@
+-- What an iterator over the runs of a chain has left.
+use Rattle.std.specs.Prelude.{ℕ, List, [], if◌then◌else◌}
+use Rattle.ip_spec.specs.Chain.{ExtHeader}
+use Rattle.ip_ext_chains.specs.Runs.{runs_from}
+use Rattle.ip_ext_chains.specs.Coming.{coming}
+use Rattle.ip_ext_chains.specs.declared.ipv6_exts_runs.Ipv6ExtensionsRuns.{Ipv6ExtensionsRuns}
+
+-- the number and the bytes with which it was made
+abbrev pub start : Ipv6ExtensionsRuns → ℕ
+start r = r.first.0
+
+abbrev pub input : Ipv6ExtensionsRuns → List ℕ
+input r = r.bytes.now
+
+-- the runs to come
+abbrev pub runs_left : Ipv6ExtensionsRuns → List (List ExtHeader)
+runs_left r = if r.done then [] else runs_from r.number.0 (coming r.pending r.headers)

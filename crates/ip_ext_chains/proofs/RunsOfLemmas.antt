@@ -22,6 +22,10 @@ runs_from-is m c ps a = one_runs m c (runs_from m c) ps (runs_from-runs m c) a
 pub runs_from-some : (m : ℕ) (c : List ExtHeader) → runs_from m c ≢ []
 runs_from-some m c e = omega (arith, ap length e, some_run m c (runs_from m c) (runs_from-runs m c))
 
+pub runs_left-some : (done : Bool) (m : ℕ) (c : List ExtHeader) → done ≡ false → (if done then [] else runs_from m c) ≢ []
+runs_left-some true m c w = let differ : true ≡ false = w in cc
+runs_left-some false m c w = runs_from-some m c
+
 -- what is known of the runs of the longest chain from n that begins s
 pub record AreRunsOf (n : ℕ) (s : List ℕ) (ps : List (List ExtHeader)) : Type 0 where
   pub same : ps ≡ runs_of n s

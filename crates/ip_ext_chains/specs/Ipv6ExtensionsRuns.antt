@@ -1,8 +1,10 @@
 -- What an iterator over the runs of a chain has left.
-use Rattle.std.specs.Prelude.{ℕ, List, [], if◌then◌else◌}
+use Rattle.std.specs.Prelude.{ℕ, List, [], map, if◌then◌else◌}
 use Rattle.ip_spec.specs.Chain.{ExtHeader}
 use Rattle.ip_ext_chains.specs.Runs.{runs_from}
-use Rattle.ip_ext_chains.specs.Coming.{coming}
+use Rattle.ip_ext_chains.specs.Ipv6ExtensionSliceIter.{headers_left}
+use Rattle.ip_ext_chains.specs.Ipv6Extensions.{value_of}
+use Rattle.ip_ext_chains.specs.declared.ipv6_exts.Ipv6Extensions.{Ipv6Extensions}
 use Rattle.ip_ext_chains.specs.declared.ipv6_exts_runs.Ipv6ExtensionsRuns.{Ipv6ExtensionsRuns}
 
 -- the number and the bytes with which it was made
@@ -14,4 +16,8 @@ input r = r.bytes.now
 
 -- the runs to come
 abbrev pub runs_left : Ipv6ExtensionsRuns → List (List ExtHeader)
-runs_left r = if r.done then [] else runs_from r.number.0 (coming r.pending r.headers)
+runs_left r = if r.done then [] else runs_from r.number.0 (headers_left r.headers)
+
+-- the values to come
+abbrev pub values_left : Ipv6ExtensionsRuns → List Ipv6Extensions
+values_left r = map value_of (runs_left r)

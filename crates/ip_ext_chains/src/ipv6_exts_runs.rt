@@ -5,8 +5,9 @@ ghost use Rattle.ip_ext_chains.specs.Longest.{longest_chain, rest_after};
 
 use crate::err::Layer;
 use crate::err::ipv6_exts::HeaderSliceError;
+use crate::run::{is_last, take_run};
 use crate::step::{fault, is_extension};
-use crate::{Ipv6ExtensionSlice, Ipv6ExtensionSliceIter, Ipv6ExtensionsSlice};
+use crate::{Ipv6ExtensionSliceIter, Ipv6Extensions, Ipv6ExtensionsSlice};
 use ip_base::IpNumber;
 
 /// The headers of a chain in as few structs of six places as hold them, in order; then `None` for ever.
@@ -15,7 +16,6 @@ pub struct Ipv6ExtensionsRuns<'a> {
     first: IpNumber,
     bytes: &'a [u8],
     headers: Ipv6ExtensionSliceIter<'a>,
-    pending: Option<Ipv6ExtensionSlice<'a>>,
     number: IpNumber,
     rest: &'a [u8],
     done: bool,
@@ -53,7 +53,6 @@ impl<'a> Ipv6ExtensionsRuns<'a> {
             first,
             bytes,
             headers: headers.into_iter(),
-            pending: None,
             number,
             rest,
             done: false,
@@ -80,5 +79,27 @@ impl<'a> Ipv6ExtensionsRuns<'a> {
             return Some((self.number, self.rest, Some(fault)));
         }
         Some((self.number, self.rest, None))
+    }
+}
+
+impl<'a> Iterator for Ipv6ExtensionsRuns<'a> {
+    type Item = Ipv6Extensions;
+
+    ghost use Rattle.std.specs.Iterator.{YieldsFirst, item_count};
+    ghost use Rattle.ip_ext_chains.specs.Ipv6ExtensionsRuns.{values_left};
+
+    ghost next_gives = { YieldsFirst values_left };
+
+    ghost remaining = { item_count values_left };
+
+    fn next(&mut self) -> Option<Ipv6Extensions> {
+        if self.done {
+            return None;
+        }
+        let places = take_run(&mut self.headers);
+        self.done = is_last(&self.headers, &places, self.number);
+        let mut exts = Ipv6Extensions::default();
+        exts.fill(&places);
+        Some(exts)
     }
 }

@@ -12,6 +12,7 @@ mod ipv6_exts_slice;
 mod ipv6_routing_exts;
 mod places;
 mod plain;
+mod run;
 mod step;
 
 pub use chain_laws::extension_number_left_has_fault;

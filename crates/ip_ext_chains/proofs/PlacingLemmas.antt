@@ -1,10 +1,9 @@
 -- What the struct parse knows of the headers that it has put into their places, and what follows where it stops.
-use Rattle.std.proofs.Common.{◌≡◌, ℕ, ◌+◌, ◌≤◌, List, [], ◌∷◌, ◌++◌, length, drop, refl, ap, sym, ◌∙◌, arith, Bool, true, false, subst, inl, inr, append_assoc}
+use Rattle.std.proofs.Common.{◌≡◌, ℕ, ◌+◌, ◌≤◌, List, [], ◌∷◌, ◌++◌, length, drop, refl, ap, sym, ◌∙◌, arith, Bool, true, false, subst, append_assoc}
 use Rattle.std.specs.Prelude.{◌==◌, ◌&&◌, not, Option, Some, None, is_some, IfSome, if◌then◌else◌}
 use Rattle.std.specs.Option.{option_map}
 use Rattle.std.proofs.lemmas.List.{append-nil, length-append}
 use Rattle.std.proofs.lemmas.Bool.{eqb-true}
-use Rattle.std.proofs.lemmas.Bool.Decides.{eqb_tells}
 use Rattle.std.proofs.lemmas.Grind.{flat_map-append}
 use Rattle.ip_spec.specs.Header.{IsExtensionNumber}
 use Rattle.ip_spec.specs.Chain.{ExtHeader, leads_to, bytes_of, is_empty, IsPrefixChain, IsNext}
@@ -19,10 +18,10 @@ use Rattle.ip_spec.proofs.FirstLemmas.{find_passes}
 use Rattle.ip_spec.proofs.FitsLemmas.{fits_places}
 use Rattle.ip_spec.proofs.UnderLemmas.{some_longest_under, one_longest_under, kept_is_longest}
 use Rattle.ip_ext_chains.specs.Longest.{longest_chain, rest_after}
-use Rattle.ip_ext_chains.specs.Fitting.{fitting_chain, fitting_fault, IsFittingAnswer, IsWalked}
+use Rattle.ip_ext_chains.specs.Fitting.{fitting_chain, IsFittingAnswer, IsWalked}
 use Rattle.ip_ext_chains.specs.Fault.{Fault, slice_fault, chain_fault}
 use Rattle.ip_ext_chains.specs.Ipv6ExtensionSlice.{header_of}
-use Rattle.ip_ext_chains.specs.Places.{at, ArePlaced, IsVacant, IsPut, place_in, is_filled, is_taken_in, IsInserted, IsFilled, raw_at, value_at, AreOfNumber}
+use Rattle.ip_ext_chains.specs.Places.{at, ArePlaced, IsVacant, place_in, is_filled, is_taken_in, IsInserted, IsFilled, raw_at, value_at, AreOfNumber}
 use Rattle.ip_ext_chains.specs.Ipv6Extensions.{raw_in, value_of}
 use Rattle.ip_spec.specs.FieldsOf.{raw_fields, fragment_fields, auth_fields}
 use Rattle.ip_ext_chains.specs.declared.ipv6_ext_slice.Ipv6ExtensionSlice.{Ipv6ExtensionSlice}
@@ -39,7 +38,7 @@ pub record IsPlacing (n : ℕ) (s : List ℕ) (left : List ExtHeader) (v : Place
   pub placed : ArePlaced chain v
   pub count : read ≡ length (bytes_of chain)
 
-pub none_in : (p : Place) → header_in p [] ≡ None
+none_in : (p : Place) → header_in p [] ≡ None
 none_in hop_by_hop = refl
 none_in destination = refl
 none_in routing = refl
@@ -72,7 +71,7 @@ module _ (c : List ExtHeader) (v : Places Ipv6ExtensionSlice) (k : ArePlaced c v
   none_same p e = sym (k p) ∙ ap (option_map header_of) e
 
 -- one header more
-pub mapped_if : (b : Bool) (h : Ipv6ExtensionSlice) (o : Option Ipv6ExtensionSlice) → option_map header_of (if b then Some h else o) ≡ (if b then Some (header_of h) else option_map header_of o)
+mapped_if : (b : Bool) (h : Ipv6ExtensionSlice) (o : Option Ipv6ExtensionSlice) → option_map header_of (if b then Some h else o) ≡ (if b then Some (header_of h) else option_map header_of o)
 mapped_if true h o = refl
 mapped_if false h o = refl
 
@@ -162,7 +161,7 @@ module _ (n : ℕ) (s : List ℕ) (v : Places Ipv6ExtensionSlice) (m : ℕ) wher
   filled_alike c k (Some p) = filled_same c v k p
   filled_alike c k None = refl
 
-  pub taken_same : (c : List ExtHeader) → ArePlaced c v → is_taken_in v m ≡ is_taken m c
+  taken_same : (c : List ExtHeader) → ArePlaced c v → is_taken_in v m ≡ is_taken m c
   taken_same c k = ap (λ b. not (m == 0) && b) (ap (λ o. is_filled o v) (place_same c v k m) ∙ filled_alike c k (place_of m (has_routing c)))
 
   placing_whole : (read : ℕ) (r : List ℕ) (f : Option Fault) → IsPlacing n s [] v read → m ≡ leads_to n (longest_chain n s) → r ≡ rest_after n s → f ≡ (if is_taken_in v m then None else chain_fault n s) → IsWalked n s v m r f
@@ -232,5 +231,5 @@ module _ (n : ℕ) (s : List ℕ) (v : Places Ipv6ExtensionSlice) (m : ℕ) (r :
   pub walked_numbers : AreOfNumber v
   walked_numbers p = of_number p (at p v) (k.placed p)
 
-  pub walked_answer : (w : Ipv6Extensions) → w ≡ value_at v → IsFittingAnswer n s w m r f
-  walked_answer w e = record { value = e ∙ value_placed (fitting_chain n s) v k.placed; number = k.number; rest = k.rest; fault = k.fault }
+  pub walked_answer : (w : Ipv6Extensions) (g : Option Fault) → w ≡ value_at v → f ≡ g → IsFittingAnswer n s w m r g
+  walked_answer w g e eg = record { value = e ∙ value_placed (fitting_chain n s) v k.placed; number = k.number; rest = k.rest; fault = sym eg ∙ k.fault }

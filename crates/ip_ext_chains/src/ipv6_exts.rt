@@ -121,13 +121,16 @@ impl Ipv6Extensions {
 
     /// Fills the places, in which nothing is yet, where they lie.
     #[inline(never)]
-    pub(crate) fn fill(&mut self, places: &Places<Ipv6ExtensionSlice<'_>>)
+    fn fill(&mut self, places: &Places<Ipv6ExtensionSlice<'_>>)
         requires empty { self.old ≡ value_of [] }
         requires numbers { AreOfNumber places.now }
         ensures { self.new ≡ value_at places.now }
     {
         put_raw(&mut self.hop_by_hop_options, places.raw(Place::HopByHop));
-        put_raw(&mut self.destination_options, places.raw(Place::Destination));
+        put_raw(
+            &mut self.destination_options,
+            places.raw(Place::Destination),
+        );
         if let Some(header) = places.raw(Place::Routing) {
             self.routing = Some(Ipv6RoutingExtensions {
                 routing: header.to_header(),

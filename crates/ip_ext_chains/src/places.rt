@@ -1,5 +1,5 @@
 //! The six places for the headers of an IPv6 chain (RFC 8200, section 4.1).
-ghost use Rattle.std.specs.Prelude.{◌≡◌, IsTrue, IsFalse, IfSome, IfNone, is_some};
+ghost use Rattle.std.specs.Prelude.{◌≡◌, IsTrue, IsFalse, is_some, IfSome};
 ghost use Rattle.std.specs.Option.{option_map};
 ghost use Rattle.ip_spec.specs.Header.{IsRawNumber};
 ghost use Rattle.ip_spec.specs.FieldsOf.{raw_fields, fragment_fields, auth_fields};

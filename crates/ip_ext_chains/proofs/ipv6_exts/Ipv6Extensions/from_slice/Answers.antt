@@ -5,4 +5,4 @@ pub fill-requires-clause-numbers : goal.fill-requires-clause-numbers
 fill-requires-clause-numbers c = walked_numbers _ _ _ _ _ _ c.walk-fault.ensures
 
 pub returns-clause-answer : goal.returns-clause-answer
-returns-clause-answer c = walked_answer _ _ _ _ _ _ ?
+returns-clause-answer c = walked_answer _ _ _ _ _ _ c.walk-fault.ensures _ _ c.fill.ensures c.in-None.is

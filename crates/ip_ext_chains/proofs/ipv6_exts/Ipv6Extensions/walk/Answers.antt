@@ -1,7 +1,7 @@
 use Rattle.std.proofs.Common.{refl, ap, sym, ◌∙◌}
 use Rattle.std.specs.Prelude.{Option, None, if◌then◌else◌}
 use Rattle.ip_ext_chains.specs.Fault.{Fault}
-use Rattle.ip_ext_chains.proofs.PlacingLemmas.{placing_none, room, next_placed, next_taken, all_placed}
+use Rattle.ip_ext_chains.proofs.PlacingLemmas.{next_placed, next_taken, all_placed}
 use Rattle.ip_ext_chains.proofs.ipv6_exts.Ipv6Extensions.walk.Goals as goal
 
 pub headers-preserved : goal.headers-preserved

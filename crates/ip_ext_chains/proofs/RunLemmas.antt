@@ -1,29 +1,26 @@
 -- Headers that are put into their places, and where a run ends.
-use Rattle.std.proofs.Common.{◌≡◌, ◌≢◌, ℕ, ◌*◌, ◌≤◌, List, [], ◌∷◌, ◌++◌, length, map, nat_eq, arith, refl, ap, sym, ◌∙◌, Bool, true, false, inl, inr, subst, append_assoc}
-use Rattle.std.specs.Prelude.{◌==◌, ◌↔◌, Option, Some, None, is_some, IfSome, if◌then◌else◌}
+use Rattle.std.proofs.Common.{◌≡◌, ◌≢◌, ℕ, ◌*◌, ◌≤◌, List, [], ◌∷◌, ◌++◌, length, map, nat_eq, arith, refl, ap, sym, ◌∙◌, Bool, true, false, subst, append_assoc}
+use Rattle.std.specs.Prelude.{◌==◌, ◌↔◌, Option, Some, None, is_some, if◌then◌else◌}
 use Rattle.std.specs.Option.{option_map}
 use Rattle.std.proofs.lemmas.Bool.{eqb-true}
 use Rattle.ip_spec.specs.Chain.{ExtHeader, bytes_of, IsChain}
 use Rattle.ip_spec.specs.Fits.{FitsPlaces, IsTaken}
-use Rattle.ip_spec.specs.Places.{Place, hop_by_hop, destination, routing, fragment, authentication, final_destination, index, number_in, before_routing_header, after_routing_header, header_in, has_routing, place_of, is_taken}
-use Rattle.ip_spec.proofs.FirstLemmas.{find_passes}
+use Rattle.ip_spec.specs.Places.{Place, index, header_in, has_routing, place_of, is_taken}
 use Rattle.ip_spec.proofs.FitsLemmas.{fits_places}
 use Rattle.ip_spec.proofs.PlaceLemmas.{placed, fits_more, breaks_more, has_place, taken_told}
 use Rattle.ip_ext_chains.specs.Ipv6ExtensionSlice.{header_of}
-use Rattle.ip_ext_chains.specs.Ipv6ExtensionSliceIter.{headers_left}
 use Rattle.ip_ext_chains.specs.Places.{at, IsVacant, place_in, IsPut, IsFreePlace, is_taken_in, IsFilled, ArePlaced, AreOfNumber, value_at}
 use Rattle.ip_ext_chains.specs.Longest.{longest_chain}
 use Rattle.ip_ext_chains.specs.Runs.{runs_from}
 use Rattle.ip_ext_chains.specs.Ipv6Extensions.{value_of}
 use Rattle.ip_ext_chains.specs.Run.{IsRun}
 use Rattle.ip_ext_chains.specs.declared.ipv6_ext_slice.Ipv6ExtensionSlice.{Ipv6ExtensionSlice}
-use Rattle.ip_ext_chains.specs.declared.ipv6_ext_slice.Ipv6ExtensionSlice.TheVariants.{HopByHop, Routing, Fragment, DestinationOptions, Authentication}
-use Rattle.ip_ext_chains.specs.declared.ipv6_ext_slice_iter.Ipv6ExtensionSliceIter.{Ipv6ExtensionSliceIter}
+use Rattle.ip_ext_chains.specs.declared.ipv6_exts.Ipv6Extensions.{Ipv6Extensions}
 use Rattle.ip_ext_chains.specs.declared.places.Places.{Places}
 use Rattle.ip_ext_chains.proofs.LongestLemmas.{longest_chain-least}
 use Rattle.ip_ext_chains.proofs.RunsOfLemmas.{runs_from-next}
 use Rattle.ip_ext_chains.proofs.FaultLemmas.{number_of}
-use Rattle.ip_ext_chains.proofs.PlacingLemmas.{none_in, mapped_if, filled_same, place_same, none_same, taken_same, value_placed}
+use Rattle.ip_ext_chains.proofs.PlacedLemmas.{none_in, mapped_if, filled_same, place_same, none_same, taken_same, value_placed, placed_numbers}
 
 -- of the headers c those before `left` were put into the places
 pub record IsPlacing (c left : List ExtHeader) (v : Places Ipv6ExtensionSlice) : Type 0 where
@@ -88,21 +85,8 @@ pub run_ends : (c left : List ExtHeader) (v : Places Ipv6ExtensionSlice) (m : �
 run_ends c [] v m chain k f = run_all c [] [] v k (refl, refl)
 run_ends c (h ∷ left) v m chain k f = run_full c m h left v chain k f
 
--- what stands in a place is of its number
-header_number : (p : Place) (c : List ExtHeader) (h : ExtHeader) → header_in p c ≡ Some h → h.number ≡ number_in p
-header_number hop_by_hop c h e = eqb-true h.number 0 (find_passes (λ g. g.number == 0) c h e)
-header_number destination c h e = eqb-true h.number 60 (find_passes (λ g. g.number == 60) (before_routing_header c) h e)
-header_number routing c h e = eqb-true h.number 43 (find_passes (λ g. g.number == 43) c h e)
-header_number fragment c h e = eqb-true h.number 44 (find_passes (λ g. g.number == 44) c h e)
-header_number authentication c h e = eqb-true h.number 51 (find_passes (λ g. g.number == 51) c h e)
-header_number final_destination c h e = eqb-true h.number 60 (find_passes (λ g. g.number == 60) (after_routing_header c) h e)
-
-of_number : (p : Place) (c : List ExtHeader) (o : Option Ipv6ExtensionSlice) → option_map header_of o ≡ header_in p c → IfSome o (λ h. (header_of h).number ≡ number_in p)
-of_number p c None e = tt
-of_number p c (Some h) e = header_number p c (header_of h) (sym e)
-
 pub run_numbers : (c d : List ExtHeader) (v : Places Ipv6ExtensionSlice) → IsRun c v d → AreOfNumber v
-run_numbers c d v r = λ p. of_number p r.run (at p v) (r.placed p)
+run_numbers c d v r = placed_numbers r.run v r.placed
 
 -- whether bytes are left tells whether headers are
 no_headers : (c : List ExtHeader) (s : List ℕ) → 8 * length c ≤ length (bytes_of c) → bytes_of c ≡ s → nat_eq (length s) 0 ≡ true → c ≡ []
@@ -126,10 +110,11 @@ module _ (m : ℕ) (c d : List ExtHeader) (v : Places Ipv6ExtensionSlice) (r : I
       let told = taken_told r.run m r.kept.meets in
       (λ t. told.0 (sym same ∙ t), λ t. same ∙ told.1 t)
 
-  pub run_next : (done : Bool) → (done ≡ true → (d ≡ []) × (is_taken_in v m ≡ false)) → (done ≡ false → d ≡ [] → is_taken_in v m ≡ true)
-      → map value_of (runs_from m c) ≡ value_at v ∷ map value_of (if done then [] else runs_from m d)
-  run_next done ends on =
+  pub run_next : (before done : Bool) (x : Ipv6Extensions) → before ≡ false → x ≡ value_at v → (done ≡ true → (d ≡ []) × (is_taken_in v m ≡ false)) → (done ≡ false → d ≡ [] → is_taken_in v m ≡ true)
+      → map value_of (if before then [] else runs_from m c) ≡ x ∷ map value_of (if done then [] else runs_from m d)
+  run_next before done x some is ends on =
       let free : done ≡ true → IsTaken m r.run → ⊥ = λ w t. let differ : true ≡ false = sym (taken_in.1 t) ∙ (ends w).1 in cc in
-      ap (map value_of) (runs_from-next m c r.run r.kept done (λ w. (r.left ∙ (ends w).0, free w)) (λ w e. taken_in.0 (on w (sym r.left ∙ e))))
-      ∙ ap (λ x. x ∷ map value_of (if done then [] else runs_from m r.kept.rest)) (sym (value_placed r.run v r.placed))
-      ∙ ap (λ l. value_at v ∷ map value_of (if done then [] else runs_from m l)) r.left
+      ap (λ b. map value_of (if b then [] else runs_from m c)) some
+      ∙ ap (map value_of) (runs_from-next m c r.run r.kept done (λ w. (r.left ∙ (ends w).0, free w)) (λ w e. taken_in.0 (on w (sym r.left ∙ e))))
+      ∙ ap (λ x. x ∷ map value_of (if done then [] else runs_from m r.kept.rest)) (sym (is ∙ value_placed r.run v r.placed))
+      ∙ ap (λ l. x ∷ map value_of (if done then [] else runs_from m l)) r.left

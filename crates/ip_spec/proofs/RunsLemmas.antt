@@ -275,7 +275,7 @@ not_first : (p : List ExtHeader) → p ≢ [] → is_empty p ≡ true → ⊥
 not_first [] e w = e refl
 not_first (h ∷ p) e w = let differ : false ≡ true = w in cc
 
-next_taken : (n : ℕ) (s : List ℕ) (p rest : List ExtHeader) → p ≢ [] → IsPrefixChain n s (p ++ rest) → NextBreaks FitsPlaces p rest → (rest ≡ [] → IsTaken (leads_to n p) p) → IsTaken (leads_to n p) p
+pub next_taken : (n : ℕ) (s : List ℕ) (p rest : List ExtHeader) → p ≢ [] → IsPrefixChain n s (p ++ rest) → NextBreaks FitsPlaces p rest → (rest ≡ [] → IsTaken (leads_to n p) p) → IsTaken (leads_to n p) p
 next_taken n s p [] e q b on = on refl
 next_taken n s p (h ∷ rest) e q b on =
     let N : List ℕ → Type 0 = NumbersFit in

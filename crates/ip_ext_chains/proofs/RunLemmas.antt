@@ -3,6 +3,8 @@ use Rattle.std.proofs.Common.{◌≡◌, ◌≢◌, ℕ, ◌*◌, ◌≤◌, Lis
 use Rattle.std.specs.Prelude.{◌==◌, ◌↔◌, Option, Some, None, is_some, if◌then◌else◌}
 use Rattle.std.specs.Option.{option_map}
 use Rattle.std.proofs.lemmas.Bool.{eqb-true}
+use Rattle.std.proofs.lemmas.Iterator.{YieldsList}
+use Rattle.std.proofs.lemmas.Iterator.Consumers.{YieldsList-from_shown}
 use Rattle.ip_spec.specs.Chain.{ExtHeader, bytes_of, IsChain}
 use Rattle.ip_spec.specs.Fits.{FitsPlaces, IsTaken}
 use Rattle.ip_spec.specs.Places.{Place, index, header_in, has_routing, place_of, is_taken}
@@ -14,6 +16,8 @@ use Rattle.ip_ext_chains.specs.Longest.{longest_chain}
 use Rattle.ip_ext_chains.specs.Runs.{runs_from}
 use Rattle.ip_ext_chains.specs.Ipv6Extensions.{value_of}
 use Rattle.ip_ext_chains.specs.Run.{IsRun}
+use Rattle.ip_ext_chains.specs.Ipv6ExtensionsRuns.{values_left, GivesRun}
+use Rattle.ip_ext_chains.specs.declared.ipv6_exts_runs.Ipv6ExtensionsRuns.{Ipv6ExtensionsRuns}
 use Rattle.ip_ext_chains.specs.declared.ipv6_ext_slice.Ipv6ExtensionSlice.{Ipv6ExtensionSlice}
 use Rattle.ip_ext_chains.specs.declared.ipv6_exts.Ipv6Extensions.{Ipv6Extensions}
 use Rattle.ip_ext_chains.specs.declared.places.Places.{Places}
@@ -118,3 +122,12 @@ module _ (m : ℕ) (c d : List ExtHeader) (v : Places Ipv6ExtensionSlice) (r : I
       ∙ ap (map value_of) (runs_from-next m c r.run r.kept done (λ w. (r.left ∙ (ends w).0, free w)) (λ w e. taken_in.0 (on w (sym r.left ∙ e))))
       ∙ ap (λ x. x ∷ map value_of (if done then [] else runs_from m r.kept.rest)) (sym (is ∙ value_placed r.run v r.placed))
       ∙ ap (λ l. x ∷ map value_of (if done then [] else runs_from m l)) r.left
+
+-- what an iterator over runs yields
+ended : (r s : Ipv6ExtensionsRuns) → GivesRun r None s → length (values_left r) ≡ 0
+ended r s e = ap length e.0.0
+
+pub runs_yield : (r : Ipv6ExtensionsRuns) (all : List Ipv6Extensions) → values_left r ≡ all → YieldsList GivesRun (λ x. x) r all
+runs_yield r all e =
+    let Y : List Ipv6Extensions → Type 0 = YieldsList GivesRun (λ x. x) r in
+    subst Y e (YieldsList-from_shown GivesRun (λ x. x) values_left ended (λ s x t g. g.0) r)

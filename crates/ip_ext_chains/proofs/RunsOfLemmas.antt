@@ -1,5 +1,5 @@
 -- The runs of the longest chain, and those that are still to come.
-use Rattle.std.proofs.Common.{◌≡◌, ◌≢◌, ℕ, ◌+◌, ◌/◌, ◌≤◌, List, [], ◌∷◌, ◌++◌, length, refl, ap, sym, ◌∙◌, arith, subst, Bool, true, false}
+use Rattle.std.proofs.Common.{◌≡◌, ◌≢◌, ℕ, ◌+◌, ◌/◌, ◌≤◌, List, [], ◌∷◌, ◌++◌, length, map, refl, ap, sym, ◌∙◌, arith, subst, Bool, true, false}
 use Rattle.std.specs.Prelude.{if◌then◌else◌}
 use Rattle.std.specs.List.{AllByRecursion}
 use Rattle.std.proofs.lemmas.List.{append-nil}
@@ -9,6 +9,7 @@ use Rattle.ip_spec.specs.Fits.{FitsPlaces, IsTaken}
 use Rattle.ip_spec.specs.Runs.{AreRuns, joined, how_many}
 use Rattle.ip_spec.proofs.RunsLemmas.{some_runs, one_runs, fewest_runs, some_run, runs_bound, runs_more, runs_end}
 use Rattle.ip_ext_chains.specs.Longest.{longest_chain}
+use Rattle.ip_ext_chains.specs.Ipv6Extensions.{value_of}
 use Rattle.ip_ext_chains.specs.Runs.{runs_from, runs_of}
 use Rattle.ip_ext_chains.proofs.LongestLemmas.{longest_chain-longest}
 
@@ -22,9 +23,13 @@ runs_from-is m c ps a = one_runs m c (runs_from m c) ps (runs_from-runs m c) a
 pub runs_from-some : (m : ℕ) (c : List ExtHeader) → runs_from m c ≢ []
 runs_from-some m c e = omega (arith, ap length e, some_run m c (runs_from m c) (runs_from-runs m c))
 
-pub runs_left-some : (done : Bool) (m : ℕ) (c : List ExtHeader) → done ≡ false → (if done then [] else runs_from m c) ≢ []
-runs_left-some true m c w = let differ : true ≡ false = w in cc
-runs_left-some false m c w = runs_from-some m c
+pub values_left-some : (done : Bool) (m : ℕ) (c : List ExtHeader) → done ≡ false → map value_of (if done then [] else runs_from m c) ≢ []
+values_left-some true m c w = let differ : true ≡ false = w in cc
+values_left-some false m c w = λ e. runs_from-some m c (no_values (runs_from m c) e)
+  where
+    no_values : (ps : List (List ExtHeader)) → map value_of ps ≡ [] → ps ≡ []
+    no_values [] e = refl
+    no_values (p ∷ ps) e = cc
 
 -- what is known of the runs of the longest chain from n that begins s
 pub record AreRunsOf (n : ℕ) (s : List ℕ) (ps : List (List ExtHeader)) : Type 0 where

@@ -1,5 +1,6 @@
 -- What an iterator over the runs of a chain has left.
-use Rattle.std.specs.Prelude.{ℕ, List, [], map, if◌then◌else◌}
+use Rattle.std.specs.Prelude.{◌≡◌, ℕ, List, [], map, Option, if◌then◌else◌}
+use Rattle.std.specs.Iterator.{YieldsFirst}
 use Rattle.ip_spec.specs.Chain.{ExtHeader}
 use Rattle.ip_ext_chains.specs.Runs.{runs_from}
 use Rattle.ip_ext_chains.specs.Ipv6ExtensionSliceIter.{headers_left}
@@ -21,3 +22,7 @@ runs_left r = if r.done then [] else runs_from r.number.0 (headers_left r.header
 -- the values to come
 abbrev pub values_left : Ipv6ExtensionsRuns → List Ipv6Extensions
 values_left r = map value_of (runs_left r)
+
+-- the value of the next run is given, and what the iterator was made with stays
+abbrev pub GivesRun : Ipv6ExtensionsRuns → Option Ipv6Extensions → Ipv6ExtensionsRuns → Type 0
+GivesRun r x s = YieldsFirst values_left r x s × (start s ≡ start r) × (input s ≡ input r)

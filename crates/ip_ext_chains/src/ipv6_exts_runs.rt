@@ -24,13 +24,14 @@ pub struct Ipv6ExtensionsRuns<'a> {
 }
 
 impl<'a> Ipv6ExtensionsRuns<'a> {
-    ghost use Rattle.std.specs.Prelude.{ℕ, ◌+◌, ◌/◌, ◌≤◌, List, [], length, IfSome, IfNone};
+    ghost use Rattle.std.specs.Prelude.{ℕ, ◌+◌, ◌/◌, ◌≤◌, List, [], length, map, IfSome, IfNone};
     ghost use Rattle.ip_spec.specs.Chain.{ExtHeader};
     ghost use Rattle.ip_spec.specs.Fits.{FitsPlaces};
     ghost use Rattle.ip_spec.specs.Runs.{AreRuns, joined, how_many};
     ghost use Rattle.ip_ext_chains.specs.Fault.{chain_fault};
     ghost use Rattle.ip_ext_chains.specs.Runs.{runs_of};
-    ghost use Rattle.ip_ext_chains.specs.Ipv6ExtensionsRuns.{start, input, runs_left};
+    ghost use Rattle.ip_ext_chains.specs.Ipv6Extensions.{value_of};
+    ghost use Rattle.ip_ext_chains.specs.Ipv6ExtensionsRuns.{start, input, runs_left, values_left};
 
     /// The runs of the longest chain from the number that begins the bytes. There is one at least, and one for
     /// each 8 bytes and one more at most.
@@ -38,6 +39,7 @@ impl<'a> Ipv6ExtensionsRuns<'a> {
         ensures start { start result ≡ first.0 }
         ensures input { input result ≡ bytes.now }
         ensures runs { runs_left result ≡ runs_of first.0 bytes.now }
+        ensures values { values_left result ≡ map value_of (runs_of first.0 bytes.now) }
         ensures cut { AreRuns (leads_to first.0 (longest_chain first.0 bytes.now))
             (longest_chain first.0 bytes.now) (runs_left result) }
         ensures only { (ps : List (List ExtHeader))
@@ -62,8 +64,8 @@ impl<'a> Ipv6ExtensionsRuns<'a> {
     /// From the last item on, the number to which the chain leads, the bytes after it and the fault there. The
     /// offset in a fault counts bytes from the start of those that `new` was given.
     pub fn end(&self) -> Option<(IpNumber, &'a [u8], Option<(HeaderSliceError, Layer)>)>
-        ensures before { IfNone result (runs_left self.now ≢ []) }
-        ensures last { IfSome result (λ _. runs_left self.now ≡ []) }
+        ensures before { IfNone result (values_left self.now ≢ []) }
+        ensures last { IfSome result (λ _. values_left self.now ≡ []) }
         ensures number { IfSome result (λ e. e.0.0
             ≡ leads_to (start self.now) (longest_chain (start self.now) (input self.now))) }
         ensures rest { IfSome result (λ e. e.1.now
@@ -85,10 +87,10 @@ impl<'a> Ipv6ExtensionsRuns<'a> {
 impl<'a> Iterator for Ipv6ExtensionsRuns<'a> {
     type Item = Ipv6Extensions;
 
-    ghost use Rattle.std.specs.Iterator.{YieldsFirst, item_count};
-    ghost use Rattle.ip_ext_chains.specs.Ipv6ExtensionsRuns.{values_left};
+    ghost use Rattle.std.specs.Iterator.{item_count};
+    ghost use Rattle.ip_ext_chains.specs.Ipv6ExtensionsRuns.{values_left, GivesRun};
 
-    ghost next_gives = { YieldsFirst values_left };
+    ghost next_gives = { GivesRun };
 
     ghost remaining = { item_count values_left };
 

@@ -3,7 +3,7 @@ use Rattle.ip_base.specs.declared.len_source.LenSource.TheVariants.{Slice}
 use Rattle.ip_ext_chains.specs.Ipv6ExtensionSliceIter.{headers_left}
 use Rattle.ip_ext_chains.proofs.FaultLemmas.{fault_at_end}
 use Rattle.ip_ext_chains.proofs.ParseLemmas.{ends_behind, fault_behind, len_behind}
-use Rattle.ip_ext_chains.proofs.RunsOfLemmas.{runs_left-some}
+use Rattle.ip_ext_chains.proofs.RunsOfLemmas.{values_left-some}
 use Rattle.ip_ext_chains.proofs.ipv6_exts_runs.Ipv6ExtensionsRuns.end.Goals as goal
 
 pub fault-fault-requires : goal.fault-fault-requires
@@ -17,4 +17,4 @@ returns-then-is_extension-clause-fault c =
     sym (fault_behind _ _ _ (len_behind _ _ _ r.after) _ _ r.leads r.after ∙ c.fault-fault.ensures)
 
 pub returns-then-not-self-clause-before : goal.returns-then-not-self-clause-before
-returns-then-not-self-clause-before c = runs_left-some c.args.self.now.done c.args.self.now.number.0 (headers_left c.args.self.now.headers) c.if-not-self.true
+returns-then-not-self-clause-before c = values_left-some c.args.self.now.done c.args.self.now.number.0 (headers_left c.args.self.now.headers) c.if-not-self.true

@@ -10,4 +10,6 @@ mod header_slices;
 #[cfg(test)]
 mod lines;
 #[cfg(test)]
+mod runs;
+#[cfg(test)]
 mod single_headers;

@@ -9,4 +9,4 @@ use Rattle.ip_uses.proofs.runs.count_runs.Goals as goal
 pub returns-clause-exact : goal.returns-clause-exact
 returns-clause-exact c =
     count_from_yields_List _ _ c.count.ensures.ran (runs_yield _ _ c.new.ensures.values)
-    ∙ length-map value_of (runs_of c.args.start.0 c.args.packet.now)
+    ∙ length-map (runs_of c.args.start.0 c.args.packet.now) value_of

@@ -1,4 +1,7 @@
 pub mod LongestLemmas
 pub mod ParseLemmas
 pub mod FaultLemmas
-pub mod PlacingLemmas
+pub mod PlacedLemmas
+pub mod RunsOfLemmas
+pub mod RunLemmas
+pub mod FittingLemmas

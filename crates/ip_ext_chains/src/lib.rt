@@ -7,10 +7,12 @@ pub mod err;
 mod ipv6_ext_slice;
 mod ipv6_ext_slice_iter;
 mod ipv6_exts;
+mod ipv6_exts_runs;
 mod ipv6_exts_slice;
 mod ipv6_routing_exts;
 mod places;
 mod plain;
+mod run;
 mod step;
 
 pub use chain_laws::extension_number_left_has_fault;
@@ -22,6 +24,7 @@ pub use ip_ext_headers::{
 pub use ipv6_ext_slice::Ipv6ExtensionSlice;
 pub use ipv6_ext_slice_iter::Ipv6ExtensionSliceIter;
 pub use ipv6_exts::Ipv6Extensions;
+pub use ipv6_exts_runs::Ipv6ExtensionsRuns;
 pub use ipv6_exts_slice::Ipv6ExtensionsSlice;
 pub use ipv6_routing_exts::Ipv6RoutingExtensions;
 pub use plain::plain_fault;

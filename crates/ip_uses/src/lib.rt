@@ -7,4 +7,5 @@ pub mod chains;
 pub mod headers;
 pub mod pins;
 pub mod plain;
+pub mod runs;
 pub mod tool;

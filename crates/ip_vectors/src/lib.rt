@@ -12,4 +12,6 @@ mod lines;
 #[cfg(test)]
 mod places;
 #[cfg(test)]
+mod runs;
+#[cfg(test)]
 mod single_headers;

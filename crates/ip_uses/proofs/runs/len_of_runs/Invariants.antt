@@ -1,5 +1,5 @@
-use Rattle.std.proofs.Common.{◌≡◌, length}
-use Rattle.ip_ext_chains.specs.Ipv6ExtensionsRuns.{start, input, values_left}
+use Rattle.std.proofs.Common.{◌≡◌}
+use Rattle.ip_ext_chains.specs.Ipv6ExtensionsRuns.{start, input}
 use Rattle.ip_uses.proofs.runs.len_of_runs.Given as goal
 
 abbrev pub invariant-runs : goal.invariant-runs

@@ -144,7 +144,8 @@ impl<'a> Places<Ipv6ExtensionSlice<'a>> {
     /// The fragment header.
     #[inline(always)]
     pub(crate) fn fragment(&self) -> Option<&Ipv6FragmentHeaderSlice<'a>>
-        requires number { IfSome (at fragment self.now) (λ h. (header_of h).number ≡ number_in fragment) }
+        requires number { IfSome (at fragment self.now)
+            (λ h. (header_of h).number ≡ number_in fragment) }
         ensures { option_map (λ h. fragment_fields (fragment_slice.bytes h.now)) result
             ≡ option_map (λ h. fragment_fields (header_of h).bytes) (at fragment self.now) }
     {

@@ -5,7 +5,7 @@ use Rattle.std.specs.Prelude.{Option, Some, None, Ok, Err, ◌↔◌, slice_rang
 use Rattle.std.proofs.lemmas.Bool.{ne_eqb}
 use Rattle.std.proofs.lemmas.Bool.Decides.{eqb_tells}
 use Rattle.std.proofs.lemmas.List.{append-nil}
-use Rattle.std.proofs.lemmas.List.Elements.{All-take, All-drop}
+use Rattle.std.proofs.lemmas.List.Elements.{All-take, All-drop, All-from_recursion}
 use Rattle.std.proofs.Math.Seq.{drop-append_seam}
 use Rattle.ip_base.specs.declared.ip_number_impl.IpNumber.{IpNumber}
 use Rattle.ip_spec.specs.Prefix.{IsPrefix}
@@ -21,6 +21,7 @@ use Rattle.ip_spec.proofs.PrefixLemmas.{prefix_of-append, prefix-length}
 use Rattle.ip_spec.proofs.HeaderLemmas.{auth_of}
 use Rattle.ip_spec.proofs.EncodingLemmas.{auth_only, cleared_auth_encodes}
 use Rattle.ip_ext_chains.specs.declared.err.ipv4_exts.exts_walk_error.ExtsWalkError.{ExtsWalkError}
+use Rattle.ip_ext_chains.specs.declared.err.ipv4_exts.exts_walk_error.ExtsWalkError.TheVariants.{ExtNotReferenced}
 use Rattle.ip_ext_chains.specs.Ipv4Longest.{longest_ipv4_chain}
 use Rattle.ip_ext_chains.specs.Ipv4Parse.{ipv4_value}
 use Rattle.ip_ext_chains.specs.Ipv4Walk.{ipv4_walk, IsIpv4Reading, IsIpv4Encoding, IsIpv4ReadBack}
@@ -59,15 +60,15 @@ encodes : (f : ℕ) (v : Option AuthFields) (b : List ℕ) → IsIpv4Encoding f 
 encodes f v b e = elim (one_or_none f e.headers e.chain e.one) [
   | inl none ↦ inl (record { value = sym e.value ∙ ap ipv4_value none; bytes = sym e.joined ∙ ap bytes_of none })
   | inr one ↦
-    let cleared : AreCleared (record { number = 51; bytes = one.bytes } ∷ []) = subst AreCleared one.alone e.cleared in
-    let joined : one.bytes ≡ b = sym (append-nil one.bytes) ∙ sym (ap bytes_of one.alone) ∙ e.joined in
-    let P : List ℕ → Type 0 = IsAuthEncoding (auth_fields one.bytes) in
-    inr (record {
-      fields = auth_fields one.bytes;
-      named = one.named;
-      value = sym e.value ∙ ap ipv4_value one.alone;
-      encoding = subst P joined (record { header = one.header; fields = refl; reserved = cleared.0.reserved; bytes = cleared.0.bytes });
-    })
+      let cleared : AreCleared (record { number = 51; bytes = one.bytes } ∷ []) = subst AreCleared one.alone e.cleared in
+      let joined : one.bytes ≡ b = sym (append-nil one.bytes) ∙ sym (ap bytes_of one.alone) ∙ e.joined in
+      let P : List ℕ → Type 0 = IsAuthEncoding (auth_fields one.bytes) in
+      inr (record {
+        fields = auth_fields one.bytes;
+        named = one.named;
+        value = sym e.value ∙ ap ipv4_value one.alone;
+        encoding = subst P joined (record { header = one.header; fields = refl; reserved = cleared.0.reserved; bytes = cleared.0.bytes });
+      })
 ]
 
 -- at most one list encodes a value
@@ -77,10 +78,10 @@ one_ipv4_encoding f v b d x y = elim (encodes f v b x) [
   | inr k ↦ elim (encodes f v d y) [
     | inl l ↦ absurd (let no : Some k.fields ≡ None = sym k.value ∙ l.value in cc)
     | inr l ↦
-      let both : Some k.fields ≡ Some l.fields = sym k.value ∙ l.value in
-      let same : k.fields ≡ l.fields = cc in
-      let P : AuthFields → Type 0 = λ w. IsAuthEncoding w b in
-      auth_only l.fields b (subst P same k.encoding) ∙ sym (auth_only l.fields d l.encoding)
+        let both : Some k.fields ≡ Some l.fields = sym k.value ∙ l.value in
+        let same : k.fields ≡ l.fields = cc in
+        let P : AuthFields → Type 0 = λ w. IsAuthEncoding w b in
+        auth_only l.fields b (subst P same k.encoding) ∙ sym (auth_only l.fields d l.encoding)
   ]
 ]
 
@@ -121,12 +122,12 @@ cleared_encodes n s bytes =
     let l = ipv4_longest n s in
     let P : List ExtHeader → Type 0 = λ c. IsIpv4Encoding n (ipv4_value c) (bytes_of (cleared_chain c)) in
     elim (one_or_none n (longest_ipv4_chain n s) l.has.has.chain l.has.meets) [
-  | inl none ↦ subst P (sym none) (none_encodes n None refl)
-  | inr one ↦
-    let prefix : IsPrefix one.bytes s = subst (λ (d : List ℕ). IsPrefix d s) (ap bytes_of one.alone ∙ append-nil one.bytes) l.has.has.prefix in
-    let fixed : AreBytes (slice_range one.bytes 1 12) = All-take (λ x. x < 256) 11 (drop 1 one.bytes) (All-drop (λ x. x < 256) 1 one.bytes (subst AreBytes prefix (All-take (λ x. x < 256) (length one.bytes) s bytes))) in
-    subst P (sym one.alone) (subst (IsIpv4Encoding n (Some (auth_fields one.bytes))) (sym (append-nil (cleared_auth one.bytes))) (one_encodes n (Some (auth_fields one.bytes)) (auth_fields one.bytes) (cleared_auth one.bytes) one.named refl (cleared_auth_encodes one.bytes one.header fixed)))
-]
+      | inl none ↦ subst P (sym none) (none_encodes n None refl)
+      | inr one ↦
+          let prefix : IsPrefix one.bytes s = subst (λ (d : List ℕ). IsPrefix d s) (ap bytes_of one.alone ∙ append-nil one.bytes) l.has.has.prefix in
+          let fixed : AreBytes (slice_range one.bytes 1 12) = All-take (λ x. x < 256) 11 (drop 1 one.bytes) (All-drop (λ x. x < 256) 1 one.bytes (subst AreBytes prefix (All-take (λ x. x < 256) (length one.bytes) s bytes))) in
+          subst P (sym one.alone) (subst (IsIpv4Encoding n (Some (auth_fields one.bytes))) (sym (append-nil (cleared_auth one.bytes))) (one_encodes n (Some (auth_fields one.bytes)) (auth_fields one.bytes) (cleared_auth one.bytes) one.named refl (cleared_auth_encodes one.bytes one.header fixed)))
+    ]
 
 -- As what bytes are read.
 reading : (f : ℕ) (s : List ℕ) (c : List ExtHeader) (v : Option AuthFields) (m : ℕ) (r : List ℕ) → longest_ipv4_chain f s ≡ c → v ≡ ipv4_value c → m ≡ leads_to f c → r ≡ drop (length (bytes_of c)) s → IsIpv4Reading f s v m r
@@ -170,3 +171,45 @@ one_read_back f v w b named value e r m walk nothing =
     let number : w.next_header ≡ m.0 = ap (λ (x : Result IpNumber ExtsWalkError). unwrapped x) (subst (λ (j : ℕ). V j (Some w)) named (subst (V f) value walk)) in
     let P : Option AuthFields → Type 0 = λ u. IsIpv4Reading f (b ++ r) u m.0 r in
     subst P (sym value) (subst (λ (j : ℕ). IsIpv4Reading f (b ++ r) (Some w) j r) number (one_is_read f w b r named e))
+
+-- Some bytes encode the fields.
+abbrev pub IsEncoded : AuthFields → Type 0
+IsEncoded w = (b : List ℕ) × AreBytes b × IsAuthEncoding w b
+
+abbrev number : ℕ → Result IpNumber ExtsWalkError
+number j = Ok (record { 0 = j })
+
+-- Where the headers lead, some bytes are read as them, and the other way round.
+module _ (f : ℕ) (m : IpNumber) where
+  abbrev IsRead : Option AuthFields → Type 0
+  IsRead v = (s : List ℕ) × AreBytes s × IsIpv4Reading f s v m.0 []
+
+  leads_read : (v : Option AuthFields) → ((w : AuthFields) → f ≡ 51 → v ≡ Some w → IsEncoded w) → ipv4_walk v f ≡ Ok m → IsRead v
+  leads_read None encoded walk =
+      ([], All-from_recursion (λ x. x < 256) [] tt, subst (λ (j : ℕ). IsIpv4Reading f [] None j []) (ap unwrapped walk) (none_is_read f [] (λ e. refl)))
+  leads_read (Some w) encoded walk = elim (eqb_tells f 51) [
+    | inl named ↦
+        let (b, bytes, encodes) = encoded w named.1 refl in
+        let W : ℕ → Type 0 = λ j. ipv4_walk (Some w) j ≡ Ok m in
+        let R : List ℕ → ℕ → Type 0 = λ s j. IsIpv4Reading f s (Some w) j [] in
+        let same : w.next_header ≡ m.0 = ap unwrapped (subst W named.1 walk) in
+        (b, bytes, subst (λ (s : List ℕ). R s m.0) (append-nil b) (subst (R (b ++ [])) same (one_is_read f w b [] named.1 encodes)))
+    | inr other ↦ absurd (let no : Err (ExtNotReferenced (record { 0 = 51 })) ≡ Ok m = rw other.0 at walk in cc)
+  ]
+
+  read_leads : (v : Option AuthFields) → IsRead v → ipv4_walk v f ≡ Ok m
+  read_leads v (s, bytes, read) =
+      let l = ipv4_longest f s in
+      elim (one_or_none f (longest_ipv4_chain f s) l.has.has.chain l.has.meets) [
+        | inl none ↦
+            let value : v ≡ None = read.value ∙ ap ipv4_value none in
+            let same : f ≡ m.0 = sym (read.number ∙ ap (leads_to f) none) in
+            ap (λ u. ipv4_walk u f) value ∙ ap number same
+        | inr one ↦
+            let value : v ≡ Some (auth_fields one.bytes) = read.value ∙ ap ipv4_value one.alone in
+            let same : next_header one.bytes ≡ m.0 = sym (read.number ∙ ap (leads_to f) one.alone) in
+            ap (λ u. ipv4_walk u f) value ∙ ap (ipv4_walk (Some (auth_fields one.bytes))) one.named ∙ ap number same
+      ]
+
+  pub walk_read : (v : Option AuthFields) (x : Result IpNumber ExtsWalkError) → ((w : AuthFields) → f ≡ 51 → v ≡ Some w → IsEncoded w) → x ≡ ipv4_walk v f → (x ≡ Ok m) ↔ IsRead v
+  walk_read v x encoded is = (λ e. leads_read v encoded (sym is ∙ e), λ r. is ∙ read_leads v r)

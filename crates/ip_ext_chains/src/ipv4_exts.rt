@@ -1,8 +1,9 @@
-ghost use Rattle.std.specs.Prelude.{◌≡◌, ◌≤◌, ◌<◌, ◌+◌, ◌++◌, ◌↔◌, ℕ, List, [], Option, Some, None, IsOk, OnOk, OnErr, IfOk, IfErr, is_some, is_none, vec_len, vec_capacity, if◌then◌else◌};
+ghost use Rattle.std.specs.Prelude.{◌≡◌, ◌≤◌, ◌<◌, ◌+◌, ◌++◌, ◌↔◌, ℕ, List, [], length, Option, Some, None, IsOk, OnOk, OnErr, IfOk, IfErr, is_some, is_none, vec_len, vec_capacity, if◌then◌else◌};
 ghost use Rattle.std.specs.Option.{option_map};
 ghost use Rattle.ip_spec.specs.Numbers.{AUTHENTICATION};
 ghost use Rattle.ip_spec.specs.FieldsOf.{AuthFields};
-ghost use Rattle.ip_spec.specs.Encoding.{AppendsOne, AreBytes};
+ghost use Rattle.ip_spec.specs.Lengths.{IsIcvLen};
+ghost use Rattle.ip_spec.specs.Encoding.{AppendsOne, AreBytes, IsAuthEncoding};
 ghost use Rattle.ip_spec.specs.Encoded.{cleared_chain};
 ghost use Rattle.ip_spec.specs.Chain.{ExtHeader, bytes_of};
 ghost use Rattle.ip_spec.specs.Demand.{IsLongestUnder, AtMostOneOf};
@@ -46,8 +47,10 @@ impl Ipv4Extensions {
         ensures cleared { IsIpv4Encoding start_ip_number.0 result.0.auth
             (bytes_of (cleared_chain (longest_ipv4_chain start_ip_number.0 start_slice.now))) }
     {
-        let (slice, number, rest, fault) =
-            Ipv4ExtensionsSlice::from_slice_lax(start_ip_number, start_slice);
+        let (slice, number, rest, fault) = Ipv4ExtensionsSlice::from_slice_lax(
+            start_ip_number,
+            start_slice,
+        );
         (slice.to_header(), number, rest, fault)
     }
 
@@ -74,7 +77,15 @@ impl Ipv4Extensions {
     {
         match &self.auth {
             None => Ok(first_next_header),
-            Some(header) if first_next_header == ip_number::AUTH => Ok(header.next_header),
+            Some(header) if first_next_header == ip_number::AUTH => {
+                let (next, spi, sequence) = (
+                    header.next_header,
+                    header.spi,
+                    header.sequence_number,
+                );
+                has_encoding(next, spi, sequence, header.raw_icv());
+                Ok(next)
+            }
             Some(_) => Err(ExtsWalkError::ExtNotReferenced {
                 missing_ext: ip_number::AUTH,
             }),
@@ -159,6 +170,18 @@ impl Ipv4Extensions {
         self.auth.is_none()
     }
 }
+
+/// Says of the fields of a header that some bytes encode them. It does nothing when it runs.
+#[inline(always)]
+fn has_encoding(next_header: IpNumber, spi: u32, sequence_number: u32, raw_icv: &[u8])
+    requires { IsIcvLen (length raw_icv.now) }
+    ensures { (b : List ℕ) × AreBytes b × IsAuthEncoding (record {
+      next_header = next_header.0;
+      spi = spi;
+      sequence_number = sequence_number;
+      raw_icv = raw_icv.now;
+    }) b }
+{}
 
 impl Clone for Ipv4Extensions {
     ghost use Rattle.std.specs.Prelude.{⊤, ◌≡◌};

@@ -1,0 +1,12 @@
+use Rattle.std.proofs.Common.{ℕ, ◌<◌, arith, sym, ap, subst, ◌∙◌, List}
+use Rattle.std.specs.Prelude.{Option}
+use Rattle.std.proofs.lemmas.List.Elements.{All-from_get_or}
+use Rattle.ip_spec.specs.Encoding.{AreBytes}
+use Rattle.ip_ext_chains.specs.Ipv4Parse.{ipv4_value}
+use Rattle.ip_ext_chains.proofs.Ipv4WalkLemmas.{cleared_encodes}
+use Rattle.ip_ext_chains.proofs.ipv4_exts.Ipv4Extensions.from_slice_lax.Goals as goal
+
+pub returns-clause-cleared : goal.returns-clause-cleared
+returns-clause-cleared c =
+    let bytes : AreBytes c.args.start_slice.now = All-from_get_or (λ x. x < 256) c.args.start_slice.now 0 (λ i l. let f = c.type_inv.start_slice i in omega arith) in
+    rw (c.to_header.ensures, c.from_slice_lax-fault.ensures.answer.value) (cleared_encodes _ _ bytes)

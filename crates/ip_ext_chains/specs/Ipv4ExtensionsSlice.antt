@@ -19,4 +19,4 @@ headers_in x = headers_of x.auth
 
 -- two have the same bytes, or no header
 abbrev pub same_slices : Ipv4ExtensionsSlice → Ipv4ExtensionsSlice → Bool
-same_slices a b = option_eq (on auth.bytes (pointwise nat_eq)) a.auth b.auth
+same_slices = on (λ (x : Ipv4ExtensionsSlice). x.auth) (option_eq (on auth.bytes (pointwise nat_eq)))

@@ -1,4 +1,4 @@
-use Rattle.std.proofs.Common.{ℕ, ◌<◌, arith}
+use Rattle.std.proofs.Common.{◌<◌, arith}
 use Rattle.std.proofs.lemmas.List.Elements.{All-from_get_or}
 use Rattle.ip_spec.specs.FieldsOf.{AuthFields}
 use Rattle.ip_spec.specs.Encoding.{AreBytes, IsAuthEncoding}

@@ -1,8 +1,6 @@
-use Rattle.std.proofs.Common.{ℕ, ◌<◌, arith, sym, ap, subst, ◌∙◌, List}
-use Rattle.std.specs.Prelude.{Option}
+use Rattle.std.proofs.Common.{◌<◌, arith}
 use Rattle.std.proofs.lemmas.List.Elements.{All-from_get_or}
 use Rattle.ip_spec.specs.Encoding.{AreBytes}
-use Rattle.ip_ext_chains.specs.Ipv4Parse.{ipv4_value}
 use Rattle.ip_ext_chains.proofs.Ipv4WalkLemmas.{cleared_encodes}
 use Rattle.ip_ext_chains.proofs.ipv4_exts.Ipv4Extensions.from_slice_lax.Goals as goal
 

@@ -1,4 +1,4 @@
-use Rattle.std.proofs.Common.{ℕ, List, subst, rules, ◌≡◌, ◌∙◌, sym, ap, arith}
+use Rattle.std.proofs.Common.{ℕ, List, subst, rules, ◌≡◌, ◌∙◌, sym, ap}
 use Rattle.std.specs.Prelude.{Option, Some, None}
 use Rattle.ip_spec.specs.FieldsOf.{AuthFields}
 use Rattle.ip_ext_chains.specs.Ipv4Walk.{ipv4_walk}

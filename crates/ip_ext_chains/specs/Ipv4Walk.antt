@@ -3,7 +3,7 @@ use Rattle.std.specs.Prelude.{◌≡◌, ℕ, ◌==◌, if◌then◌else◌, Lis
 use Rattle.std.specs.declared.result.Result.{Result}
 use Rattle.ip_base.specs.declared.ip_number_impl.IpNumber.{IpNumber}
 use Rattle.ip_spec.specs.Numbers.{AUTHENTICATION}
-use Rattle.ip_spec.specs.FieldsOf.{AuthFields, auth_len}
+use Rattle.ip_spec.specs.FieldsOf.{AuthFields}
 use Rattle.ip_spec.specs.Chain.{ExtHeader, IsChain, leads_to, bytes_of}
 use Rattle.ip_spec.specs.Demand.{AtMostOneOf}
 use Rattle.ip_spec.specs.Encoded.{AreCleared}
@@ -13,11 +13,6 @@ use Rattle.ip_ext_chains.specs.declared.err.ipv4_exts.exts_walk_error.ExtsWalkEr
 use Rattle.ip_ext_chains.specs.declared.err.ipv4_exts.exts_walk_error.ExtsWalkError.TheVariants.{ExtNotReferenced}
 use Rattle.ip_ext_chains.specs.declared.err.ipv4_exts.header_write_error.HeaderWriteError.{HeaderWriteError}
 use Rattle.ip_ext_chains.specs.declared.err.ipv4_exts.header_write_error.HeaderWriteError.TheVariants.{Io, Content}
-
--- how many bytes the headers have
-abbrev pub ipv4_len : Option AuthFields → ℕ
-ipv4_len None = 0
-ipv4_len (Some v) = auth_len v
 
 -- the number to which the headers lead from number f, or the error that f doesn't name the header
 abbrev pub ipv4_walk : Option AuthFields → ℕ → Result IpNumber ExtsWalkError

@@ -1,16 +1,17 @@
 ghost use Rattle.std.specs.Prelude.{◌≡◌, ◌≤◌, ◌<◌, ◌+◌, ◌++◌, ◌↔◌, ℕ, List, [], length, Option, Some, None, IsOk, OnOk, OnErr, IfOk, IfErr, is_some, is_none, vec_len, vec_capacity, if◌then◌else◌};
 ghost use Rattle.std.specs.Option.{option_map};
 ghost use Rattle.ip_spec.specs.Numbers.{AUTHENTICATION};
-ghost use Rattle.ip_spec.specs.FieldsOf.{AuthFields};
+ghost use Rattle.ip_spec.specs.FieldsOf.{AuthFields, auth_len};
 ghost use Rattle.ip_spec.specs.Lengths.{IsIcvLen};
 ghost use Rattle.ip_spec.specs.Encoding.{AppendsOne, AreBytes, IsAuthEncoding};
 ghost use Rattle.ip_spec.specs.Encoded.{cleared_chain};
 ghost use Rattle.ip_spec.specs.Chain.{ExtHeader, bytes_of};
 ghost use Rattle.ip_spec.specs.Demand.{IsLongestUnder, AtMostOneOf};
+ghost use Rattle.ip_ext_chains.specs.Ipv6Extensions.{len_of};
 ghost use Rattle.ip_ext_chains.specs.Ipv4Longest.{longest_ipv4_chain};
 ghost use Rattle.ip_ext_chains.specs.Ipv4Fault.{ipv4_chain_fault};
 ghost use Rattle.ip_ext_chains.specs.Ipv4Parse.{IsIpv4ValueAnswer, ipv4_value};
-ghost use Rattle.ip_ext_chains.specs.Ipv4Walk.{ipv4_len, ipv4_walk, IsIpv4Reading, IsIpv4Encoding, IsIpv4ReadBack};
+ghost use Rattle.ip_ext_chains.specs.Ipv4Walk.{ipv4_walk, IsIpv4Reading, IsIpv4Encoding, IsIpv4ReadBack};
 ghost use Rattle.ip_ext_chains.specs.Ipv4Walk.{IfContent, OnIo};
 
 use crate::Ipv4ExtensionsSlice;
@@ -131,11 +132,11 @@ impl Ipv4Extensions {
             → IsIpv4Encoding start_ip_number.0 v b → self.now.auth ≡ v }
         ensures read_back { OnOk result (AppendsOne
             (IsIpv4ReadBack start_ip_number.0 self.now.auth) out.old.items out.new.items) }
-        ensures len { OnOk result (vec_len out.new ≡ vec_len out.old + ipv4_len self.now.auth) }
+        ensures len { OnOk result (vec_len out.new ≡ vec_len out.old + len_of auth_len self.now.auth) }
         ensures err { OnErr result (out.new.items ≡ out.old.items) }
         ensures full { IfErr result (λ e. OnIo e
-            (vec_capacity out.old < vec_len out.old + ipv4_len self.now.auth)) }
-        ensures some { IfErr result (λ e. OnIo e (0 < ipv4_len self.now.auth)) }
+            (vec_capacity out.old < vec_len out.old + len_of auth_len self.now.auth)) }
+        ensures some { IfErr result (λ e. OnIo e (0 < len_of auth_len self.now.auth)) }
         ensures capacity { vec_capacity out.old ≤ vec_capacity out.new }
     {
         let Some(header) = &self.auth else {
@@ -154,7 +155,7 @@ impl Ipv4Extensions {
 
     /// The number of the headers' bytes, 0 or 12 to 1028.
     pub fn header_len(&self) -> usize
-        ensures len { result ≡ ipv4_len self.now.auth }
+        ensures len { result ≡ len_of auth_len self.now.auth }
         ensures most { result ≤ 1028 }
     {
         match &self.auth {
@@ -212,17 +213,16 @@ impl Default for Ipv4Extensions {
 }
 
 impl PartialEq for Ipv4Extensions {
-    ghost use Rattle.std.specs.Prelude.{◌≡◌, ◌↔◌, IsTrue};
-    ghost use Rattle.std.specs.Cmp.Rules.{comparing};
-    ghost use Rattle.std.proofs.Common.{rules};
-    ghost use Rattle.ip_ext_chains.specs.Ipv4Equal.{same_values};
+    ghost use Rattle.std.specs.Prelude.{◌↔◌, IsTrue};
+    ghost use Rattle.std.specs.Cmp.{partial_equiv_from_equiv};
+    ghost use Rattle.ip_ext_chains.specs.Equal.{ipv4_exts_equal, ipv4_exts_equivalence};
 
-    ghost eq = { same_values };
+    ghost eq = { ipv4_exts_equal };
 
-    ghost laws = { Prim.search (comparing, rules) };
+    ghost laws = { partial_equiv_from_equiv ipv4_exts_equivalence };
 
     fn eq(&self, other: &Self) -> bool
-        ensures answer { result ≡ same_values self.now other.now }
+        ensures answer { result ≡ ipv4_exts_equal self.now other.now }
         ensures same { IsTrue result ↔ (self.now ≡ other.now) }
     {
         self.auth == other.auth
@@ -230,8 +230,7 @@ impl PartialEq for Ipv4Extensions {
 }
 
 impl Eq for Ipv4Extensions {
-    ghost use Rattle.std.specs.Cmp.Rules.{comparing};
-    ghost use Rattle.std.proofs.Common.{rules};
+    ghost use Rattle.ip_ext_chains.specs.Equal.{ipv4_exts_equivalence};
 
-    ghost laws = { Prim.search (comparing, rules) };
+    ghost laws = { ipv4_exts_equivalence };
 }

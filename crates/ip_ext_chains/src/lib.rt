@@ -8,16 +8,24 @@ mod ipv4_exts;
 mod ipv4_exts_slice;
 mod ipv6_ext_slice;
 mod ipv6_ext_slice_iter;
+mod ipv6_exts;
 mod ipv6_exts_slice;
+mod ipv6_routing_exts;
+mod places;
 mod plain;
 mod step;
 
 pub use chain_laws::extension_number_left_has_fault;
 pub use ip_base::{IpNumber, LenSource, ip_number};
-pub use ip_ext_headers::{IpAuthHeaderSlice, Ipv6FragmentHeaderSlice, Ipv6RawExtHeaderSlice};
+pub use ip_ext_headers::{
+    IpAuthHeader, IpAuthHeaderSlice, Ipv6FragmentHeader, Ipv6FragmentHeaderSlice, Ipv6RawExtHeader,
+    Ipv6RawExtHeaderSlice,
+};
 pub use ipv4_exts::Ipv4Extensions;
 pub use ipv4_exts_slice::Ipv4ExtensionsSlice;
 pub use ipv6_ext_slice::Ipv6ExtensionSlice;
 pub use ipv6_ext_slice_iter::Ipv6ExtensionSliceIter;
+pub use ipv6_exts::Ipv6Extensions;
 pub use ipv6_exts_slice::Ipv6ExtensionsSlice;
+pub use ipv6_routing_exts::Ipv6RoutingExtensions;
 pub use plain::plain_fault;

@@ -1,75 +1,28 @@
 -- Chains whose headers fit six places.
-use Rattle.std.proofs.Common.{◌≡◌, ◌≢◌, ℕ, suc, ◌+◌, ◌≤◌, List, [], ◌∷◌, ◌++◌, length, take, drop, refl, ap, sym, ◌∙◌, arith, inl, inr, true, false, cond, subst}
-use Rattle.std.specs.Prelude.{◌==◌, not, if◌then◌else◌}
-use Rattle.std.specs.List.{position_or_len}
+use Rattle.std.proofs.Common.{◌≡◌, ◌≢◌, ℕ, ◌+◌, ◌≤◌, List, [], ◌∷◌, ◌++◌, length, drop, ap, sym, ◌∙◌, arith, inl, inr, true, false, subst, Bool}
+use Rattle.std.specs.Prelude.{◌==◌, if◌then◌else◌}
 use Rattle.std.proofs.lemmas.Bool.Decides.{eqb_tells}
 use Rattle.std.proofs.lemmas.List.{append-nil, map-append}
-use Rattle.std.proofs.lemmas.List.Sums.{sum_by-append}
 use Rattle.ip_spec.specs.Header.{IsExtensionNumber}
 use Rattle.ip_spec.specs.Chain.{ExtHeader, leads_to, bytes_of, is_empty, IsEnd}
 use Rattle.ip_spec.specs.Demand.{IsDemand, IsLongestUnder}
 use Rattle.ip_spec.specs.Fits.{numbers_of, how_often, before_routing, after_routing, NumbersFit, FitsPlaces, IsTaken, in_place}
+use Rattle.ip_spec.proofs.FirstLemmas.{count-append, count_yes, count_no, before-none, after-none, before-some, after-some, before_one, before_itself, after_one}
 use Rattle.ip_spec.proofs.DemandLemmas.{demand_up_to, demand_both, demand_same, demand_of-map}
 use Rattle.ip_spec.proofs.UnderLemmas.{longest_ends_under}
 
--- The first number, before and after the routing header.
-module _ (x : ℕ) (xs : List ℕ) where
-  before-yes : (x == 43) ≡ true → before_routing (x ∷ xs) ≡ []
-  before-yes e = ap (λ b. take (cond (not b) (1 + position_or_len (λ n. n == 43) xs) 0) (x ∷ xs)) e
-
-  before-no : (x == 43) ≡ false → before_routing (x ∷ xs) ≡ x ∷ before_routing xs
-  before-no e =
-      let k : ℕ = position_or_len (λ n. n == 43) xs in
-      let more : 1 + k ≡ suc k = omega arith in
-      ap (λ b. take (cond (not b) (1 + k) 0) (x ∷ xs)) e ∙ ap (λ j. take j (x ∷ xs)) more
-
-  after-yes : (x == 43) ≡ true → after_routing (x ∷ xs) ≡ xs
-  after-yes e = ap (λ b. drop (cond (not b) (1 + position_or_len (λ n. n == 43) xs) 0 + 1) (x ∷ xs)) e
-
-  after-no : (x == 43) ≡ false → after_routing (x ∷ xs) ≡ after_routing xs
-  after-no e =
-      let k : ℕ = position_or_len (λ n. n == 43) xs in
-      let more : (1 + k) + 1 ≡ suc (k + 1) = omega arith in
-      ap (λ b. drop (cond (not b) (1 + k) 0 + 1) (x ∷ xs)) e ∙ ap (λ j. drop j (x ∷ xs)) more
-
+-- Counts of numbers, and what stands on either side of the first 43.
 often-append : (k : ℕ) (xs ys : List ℕ) → how_often k (xs ++ ys) ≡ how_often k xs + how_often k ys
-often-append k xs ys = sum_by-append (λ m. cond (m == k) 1 0) xs ys
+often-append k = count-append (λ m. m == k)
 
 often_yes : (k x : ℕ) (xs : List ℕ) → (x == k) ≡ true → how_often k (x ∷ xs) ≡ 1 + how_often k xs
-often_yes k x xs e = let one : how_often k (x ∷ []) ≡ 1 = ap (λ b. 0 + cond b 1 0) e in omega (arith, often-append k (x ∷ []) xs)
+often_yes k = count_yes (λ m. m == k)
 
 often_no : (k x : ℕ) (xs : List ℕ) → (x == k) ≡ false → how_often k (x ∷ xs) ≡ how_often k xs
-often_no k x xs e = let none : how_often k (x ∷ []) ≡ 0 = ap (λ b. 0 + cond b 1 0) e in omega (arith, often-append k (x ∷ []) xs)
+often_no k = count_no (λ m. m == k)
 
--- Where there is no 43, what follows stands on the same side of the first 43 as without what is before.
-before-none : (xs ys : List ℕ) → how_often 43 xs ≡ 0 → before_routing (xs ++ ys) ≡ xs ++ before_routing ys
-before-none [] ys e = refl
-before-none (x ∷ xs) ys e = elim (eqb_tells x 43) [
-  | inl w ↦ absurd (omega (arith, often_yes 43 x xs w.0, e))
-  | inr w ↦ before-no x (xs ++ ys) w.0 ∙ ap (λ l. x ∷ l) (before-none xs ys (sym (often_no 43 x xs w.0) ∙ e))
-]
-
-after-none : (xs ys : List ℕ) → how_often 43 xs ≡ 0 → after_routing (xs ++ ys) ≡ after_routing ys
-after-none [] ys e = refl
-after-none (x ∷ xs) ys e = elim (eqb_tells x 43) [
-  | inl w ↦ absurd (omega (arith, often_yes 43 x xs w.0, e))
-  | inr w ↦ after-no x (xs ++ ys) w.0 ∙ after-none xs ys (sym (often_no 43 x xs w.0) ∙ e)
-]
-
--- Where there is one, what follows stands after it.
-before-some : (xs ys : List ℕ) → 1 ≤ how_often 43 xs → before_routing (xs ++ ys) ≡ before_routing xs
-before-some [] ys l = absurd (omega arith)
-before-some (x ∷ xs) ys l = elim (eqb_tells x 43) [
-  | inl w ↦ before-yes x (xs ++ ys) w.0 ∙ sym (before-yes x xs w.0)
-  | inr w ↦ before-no x (xs ++ ys) w.0 ∙ ap (λ l. x ∷ l) (before-some xs ys (omega (arith, often_no 43 x xs w.0, l))) ∙ sym (before-no x xs w.0)
-]
-
-after-some : (xs ys : List ℕ) → 1 ≤ how_often 43 xs → after_routing (xs ++ ys) ≡ after_routing xs ++ ys
-after-some [] ys l = absurd (omega arith)
-after-some (x ∷ xs) ys l = elim (eqb_tells x 43) [
-  | inl w ↦ after-yes x (xs ++ ys) w.0 ∙ ap (λ l. l ++ ys) (sym (after-yes x xs w.0))
-  | inr w ↦ after-no x (xs ++ ys) w.0 ∙ after-some xs ys (omega (arith, often_no 43 x xs w.0, l)) ∙ ap (λ l. l ++ ys) (sym (after-no x xs w.0))
-]
+abbrev is43 : ℕ → Bool
+is43 n = n == 43
 
 -- What follows adds to the counts, on one side of the first 43 or the other.
 data Sides (xs ys : List ℕ) : Type 0 where
@@ -82,13 +35,13 @@ data Sides (xs ys : List ℕ) : Type 0 where
 sides : (xs ys : List ℕ) → Sides xs ys
 sides xs ys = elim (eqb_tells (how_often 43 xs) 0) [
   | inl w ↦ none_yet w.1
-      (ap (how_often 60) (ap before_routing (sym (append-nil xs)) ∙ before-none xs [] w.1 ∙ append-nil xs))
-      (ap (how_often 60) (ap after_routing (sym (append-nil xs)) ∙ after-none xs [] w.1))
-      (ap (how_often 60) (before-none xs ys w.1) ∙ often-append 60 xs (before_routing ys))
-      (ap (how_often 60) (after-none xs ys w.1))
+      (ap (how_often 60) (ap before_routing (sym (append-nil xs)) ∙ before-none is43 xs [] w.1 ∙ append-nil xs))
+      (ap (how_often 60) (ap after_routing (sym (append-nil xs)) ∙ after-none is43 xs [] w.1))
+      (ap (how_often 60) (before-none is43 xs ys w.1) ∙ often-append 60 xs (before_routing ys))
+      (ap (how_often 60) (after-none is43 xs ys w.1))
   | inr w ↦
       let some : 1 ≤ how_often 43 xs = omega (arith, w.1) in
-      one_before some (ap (how_often 60) (before-some xs ys some)) (ap (how_often 60) (after-some xs ys some) ∙ often-append 60 (after_routing xs) ys)
+      one_before some (ap (how_often 60) (before-some is43 xs ys some)) (ap (how_often 60) (after-some is43 xs ys some) ∙ often-append 60 (after_routing xs) ys)
 ]
 
 before_grows : (xs ys : List ℕ) → how_often 60 (before_routing xs) ≤ how_often 60 (before_routing (xs ++ ys))
@@ -118,16 +71,16 @@ fits_places = demand_of-map (λ h. h.number) NumbersFit numbers_fit
 
 -- One more number fits where nothing stands in its place, and of an extension number only there.
 module _ (m : ℕ) (ns : List ℕ) where
-  place_other : (m == 60) ≡ false → in_place m ns ≡ how_often m ns
+  pub place_other : (m == 60) ≡ false → in_place m ns ≡ how_often m ns
   place_other e = ap (λ b. if b then (if how_often 43 ns == 0 then how_often 60 (before_routing ns) else how_often 60 (after_routing ns)) else how_often m ns) e
 
-  place_before : (m == 60) ≡ true → how_often 43 ns ≡ 0 → in_place m ns ≡ how_often 60 (before_routing ns)
+  pub place_before : (m == 60) ≡ true → how_often 43 ns ≡ 0 → in_place m ns ≡ how_often 60 (before_routing ns)
   place_before e z =
       let none : (how_often 43 ns == 0) ≡ true = ap (λ k. k == 0) z in
       ap (λ b. if b then (if how_often 43 ns == 0 then how_often 60 (before_routing ns) else how_often 60 (after_routing ns)) else how_often m ns) e
       ∙ ap (λ b. if b then how_often 60 (before_routing ns) else how_often 60 (after_routing ns)) none
 
-  place_after : (m == 60) ≡ true → 1 ≤ how_often 43 ns → in_place m ns ≡ how_often 60 (after_routing ns)
+  pub place_after : (m == 60) ≡ true → 1 ≤ how_often 43 ns → in_place m ns ≡ how_often 60 (after_routing ns)
   place_after e l = elim (eqb_tells (how_often 43 ns) 0) [
     | inl w ↦ absurd (omega (arith, w.1))
     | inr w ↦
@@ -136,15 +89,12 @@ module _ (m : ℕ) (ns : List ℕ) where
   ]
 
   after_alone : how_often 60 (after_routing (m ∷ [])) ≡ 0
-  after_alone = elim (eqb_tells m 43) [
-    | inl w ↦ ap (how_often 60) (after-yes m [] w.0)
-    | inr w ↦ ap (how_often 60) (after-no m [] w.0)
-  ]
+  after_alone = ap (how_often 60) (after_one is43 m)
 
   before_alone : (m == 60) ≡ false → how_often 60 (before_routing (m ∷ [])) ≡ 0
   before_alone e = elim (eqb_tells m 43) [
-    | inl w ↦ ap (how_often 60) (before-yes m [] w.0)
-    | inr w ↦ ap (how_often 60) (before-no m [] w.0) ∙ often_no 60 m [] e
+    | inl w ↦ ap (how_often 60) (before_itself is43 m w.0)
+    | inr w ↦ ap (how_often 60) (before_one is43 m w.0) ∙ often_no 60 m [] e
   ]
 
   before_alone_60 : m ≡ 60 → how_often 60 (before_routing (m ∷ [])) ≡ 1
@@ -156,38 +106,39 @@ module _ (m : ℕ) (ns : List ℕ) where
     | inr w ↦ omega (arith, often-append k ns (m ∷ []), often_no k m [] w.0)
   ]
 
-  free_of : in_place m ns ≡ 0 → (k : ℕ) → k ≢ 60 → m ≡ k → how_often k ns ≡ 0
-  free_of z k other e = elim (eqb_tells m 60) [
+  free_of : (k : ℕ) → k ≢ 60 → (m ≡ k → in_place m ns ≡ 0) → m ≡ k → how_often k ns ≡ 0
+  free_of k other z e = elim (eqb_tells m 60) [
     | inl w ↦ absurd (other (sym e ∙ w.1))
-    | inr w ↦ ap (λ j. how_often j ns) (sym e) ∙ sym (place_other w.0) ∙ z
+    | inr w ↦ ap (λ j. how_often j ns) (sym e) ∙ sym (place_other w.0) ∙ z e
   ]
 
-  before_next : how_often 60 (before_routing ns) ≤ 1 → in_place m ns ≡ 0 → how_often 60 (before_routing (ns ++ m ∷ [])) ≤ 1
+  before_next : how_often 60 (before_routing ns) ≤ 1 → (m ≡ 60 → in_place m ns ≡ 0) → how_often 60 (before_routing (ns ++ m ∷ [])) ≤ 1
   before_next l z = elim (sides ns (m ∷ [])) [
     | one_before s b a ↦ omega arith
     | none_yet none b a b' a' ↦ elim (eqb_tells m 60) [
-      | inl w ↦ omega (arith, place_before w.0 none, before_alone_60 w.1)
+      | inl w ↦ omega (arith, place_before w.0 none, before_alone_60 w.1, z w.1)
       | inr w ↦ omega (arith, before_alone w.0)
     ]
   ]
 
-  after_next : how_often 60 (after_routing ns) ≤ 1 → in_place m ns ≡ 0 → how_often 60 (after_routing (ns ++ m ∷ [])) ≤ 1
+  after_next : how_often 60 (after_routing ns) ≤ 1 → (m ≡ 60 → in_place m ns ≡ 0) → how_often 60 (after_routing (ns ++ m ∷ [])) ≤ 1
   after_next l z = elim (sides ns (m ∷ [])) [
     | none_yet none b a b' a' ↦ omega (arith, after_alone)
     | one_before s b a ↦ elim (eqb_tells m 60) [
-      | inl w ↦ omega (arith, place_after w.0 s, often_yes 60 m [] w.0)
+      | inl w ↦ omega (arith, place_after w.0 s, often_yes 60 m [] w.0, z w.1)
       | inr w ↦ omega (arith, often_no 60 m [] w.0)
     ]
   ]
 
-  pub fits_next : NumbersFit ns → in_place m ns ≡ 0 → NumbersFit (ns ++ m ∷ [])
+  -- where m is no extension number, no place is asked for
+  pub fits_next : NumbersFit ns → (IsExtensionNumber m → in_place m ns ≡ 0) → NumbersFit (ns ++ m ∷ [])
   fits_next f z = record {
-    hop_by_hop = one_more 0 f.hop_by_hop (free_of z 0 (λ e. omega arith));
-    routing = one_more 43 f.routing (free_of z 43 (λ e. omega arith));
-    fragment = one_more 44 f.fragment (free_of z 44 (λ e. omega arith));
-    authentication = one_more 51 f.authentication (free_of z 51 (λ e. omega arith));
-    destination = before_next f.destination z;
-    final_destination = after_next f.final_destination z;
+    hop_by_hop = one_more 0 f.hop_by_hop (free_of 0 (λ e. omega arith) (λ e. z (inl (inl e))));
+    routing = one_more 43 f.routing (free_of 43 (λ e. omega arith) (λ e. z (inl (inr (inl e)))));
+    fragment = one_more 44 f.fragment (free_of 44 (λ e. omega arith) (λ e. z (inr (inl e))));
+    authentication = one_more 51 f.authentication (free_of 51 (λ e. omega arith) (λ e. z (inr (inr e))));
+    destination = before_next f.destination (λ e. z (inl (inr (inr e))));
+    final_destination = after_next f.final_destination (λ e. z (inl (inr (inr e))));
   }
 
   free_at : (k : ℕ) → k ≢ 60 → how_often k (ns ++ m ∷ []) ≤ 1 → m ≡ k → in_place m ns ≡ 0
@@ -222,7 +173,7 @@ module _ (m : ℕ) (ns : List ℕ) where
 
 -- At the end of the longest chain that fits, no header goes on, unless the place of the number is taken.
 first_fits : (c : List ExtHeader) (m : ℕ) → m ≡ 0 → is_empty c ≡ true → NumbersFit (numbers_of c ++ m ∷ [])
-first_fits [] m z e = fits_next m [] numbers_fit.empty (ap (λ k. in_place k []) z)
+first_fits [] m z e = fits_next m [] numbers_fit.empty (λ x. ap (λ k. in_place k []) z)
 first_fits (g ∷ c) m z e = absurd (let differ : false ≡ true = e in cc)
 
 next_number_fits : (c : List ExtHeader) (m : ℕ) → (m ≡ 0 → is_empty c ≡ true) → (IsTaken m c → ⊥) → NumbersFit (numbers_of c ++ m ∷ [])

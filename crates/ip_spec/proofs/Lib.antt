@@ -7,6 +7,8 @@ pub mod UnderLemmas
 pub mod ChainLemmas
 pub mod ReadLemmas
 pub mod DemandKinds
+pub mod FirstLemmas
 pub mod FitsLemmas
+pub mod PlaceLemmas
 pub mod ShorterLemmas
 pub mod EncodingLemmas

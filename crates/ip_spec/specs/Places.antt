@@ -1,10 +1,9 @@
 -- The six places for the headers of an IPv6 chain (RFC 8200, section 4.1), and what is said in each.
-use Rattle.std.specs.Prelude.{ℕ, List, [], ◌∷◌, Bool, ◌&&◌, ◌==◌, not, nat_lt, Option, if◌then◌else◌}
+use Rattle.std.specs.Prelude.{ℕ, List, [], ◌∷◌, Bool, false, ◌&&◌, ◌==◌, not, Option, Some, None, is_some, if◌then◌else◌}
 use Rattle.std.specs.List.{find, before_first, after_first}
 use Rattle.ip_spec.specs.Numbers.{HOP_BY_HOP, ROUTING, FRAGMENT, AUTHENTICATION, DESTINATION_OPTIONS}
 use Rattle.ip_spec.specs.FieldsOf.{RawFields, FragmentFields, AuthFields, raw_fields, fragment_fields, auth_fields}
 use Rattle.ip_spec.specs.Chain.{ExtHeader}
-use Rattle.ip_spec.specs.Fits.{numbers_of, in_place}
 
 pub data Place : Type 0 where
   hop_by_hop : Place
@@ -17,6 +16,15 @@ pub data Place : Type 0 where
 -- all of them, in the order that RFC 8200 recommends
 abbrev pub places : List Place
 places = hop_by_hop ∷ destination ∷ routing ∷ fragment ∷ authentication ∷ final_destination ∷ []
+
+-- where it stands among them
+abbrev pub index : Place → ℕ
+index hop_by_hop = 0
+index destination = 1
+index routing = 2
+index fragment = 3
+index authentication = 4
+index final_destination = 5
 
 -- the number of the headers that stand in a place
 abbrev pub number_in : Place → ℕ
@@ -60,6 +68,25 @@ fields_of h =
     else if h.number == AUTHENTICATION then auth_header (auth_fields h.bytes)
     else raw_header (raw_fields h.bytes)
 
--- whether m isn't 0 and some header of c stands in the place where a header of m would go behind c
+-- whether a routing header is there
+abbrev pub has_routing : List ExtHeader → Bool
+has_routing c = is_some (header_in routing c)
+
+-- the place of a header of number m, behind a routing header or not
+abbrev pub place_of : ℕ → Bool → Option Place
+place_of m behind_routing =
+    if m == HOP_BY_HOP then Some hop_by_hop
+    else if m == ROUTING then Some routing
+    else if m == DESTINATION_OPTIONS then Some (if behind_routing then final_destination else destination)
+    else if m == FRAGMENT then Some fragment
+    else if m == AUTHENTICATION then Some authentication
+    else None
+
+-- whether a header of the chain c stands in a place
+abbrev pub is_filled : Option Place → List ExtHeader → Bool
+is_filled (Some p) c = is_some (header_in p c)
+is_filled None c = false
+
+-- whether m isn't 0 and its place behind the chain c is filled
 abbrev pub is_taken : ℕ → List ExtHeader → Bool
-is_taken m c = not (m == HOP_BY_HOP) && nat_lt 0 (in_place m (numbers_of c))
+is_taken m c = not (m == HOP_BY_HOP) && is_filled (place_of m (has_routing c)) c

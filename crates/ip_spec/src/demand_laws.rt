@@ -1,8 +1,9 @@
-ghost use Rattle.std.specs.Prelude.{◌≡◌, ◌↔◌, ℕ, List, [], ◌∷◌, ◌++◌, Bool, length, take, drop};
+ghost use Rattle.std.specs.Prelude.{◌≡◌, ◌↔◌, IsTrue, ℕ, List, [], ◌∷◌, ◌++◌, Bool, length, take, drop};
 ghost use Rattle.ip_spec.specs.Header.{IsExtensionNumber};
 ghost use Rattle.ip_spec.specs.Chain.{ExtHeader, IsLongestChain, IsEnd, leads_to, bytes_of, is_empty};
 ghost use Rattle.ip_spec.specs.Demand.{IsDemand, KeepsBeginning, IsLongestUnder, IsEndUnder, Passes, NoDemand, AtMost, AtMostOneOf, IsWithin};
 ghost use Rattle.ip_spec.specs.Fits.{NumbersFit, FitsPlaces, IsTaken, in_place};
+ghost use Rattle.ip_spec.specs.Places.{is_taken};
 
 /// Under each demand, from each number, exactly one longest chain begins all bytes.
 pub fn one_longest_chain_under_a_demand()
@@ -76,4 +77,9 @@ pub fn fitting_chain_ends()
 pub fn next_number_fits()
     ensures { (m : ℕ) (ns : List ℕ) → IsExtensionNumber m → NumbersFit ns
         → NumbersFit (ns ++ m ∷ []) ↔ (in_place m ns ≡ 0) }
+{}
+
+/// A number is taken behind a chain that fits exactly where it isn't 0 and a header stands in its place.
+pub fn taken_numbers()
+    ensures { (m : ℕ) (c : List ExtHeader) → FitsPlaces c → IsTrue (is_taken m c) ↔ IsTaken m c }
 {}

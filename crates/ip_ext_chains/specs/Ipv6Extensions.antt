@@ -1,0 +1,60 @@
+-- What a struct of six places holds.
+use Rattle.std.specs.Prelude.{ℕ, ◌+◌, List, Bool, false, ◌&&◌, Option, Some, None, is_none}
+use Rattle.std.specs.Option.{option_map}
+use Rattle.ip_spec.specs.Fields.{is_fragment}
+use Rattle.ip_spec.specs.FieldsOf.{RawFields, FragmentFields, AuthFields, raw_fields, fragment_fields, auth_fields, raw_len, auth_len}
+use Rattle.ip_spec.specs.Chain.{ExtHeader}
+use Rattle.ip_spec.specs.Places.{Place, hop_by_hop, destination, routing, fragment, authentication, final_destination, header_in, HeaderFields, raw_header, fragment_header, auth_header}
+use Rattle.ip_ext_chains.specs.declared.ipv6_routing_exts.Ipv6RoutingExtensions.{Ipv6RoutingExtensions}
+use Rattle.ip_ext_chains.specs.declared.ipv6_exts.Ipv6Extensions.{Ipv6Extensions}
+
+-- the fields of the header of c in a place of the common layout
+abbrev pub raw_in : Place → List ExtHeader → Option RawFields
+raw_in p c = option_map (λ h. raw_fields h.bytes) (header_in p c)
+
+-- The value of a chain that fits: the fields of each header in its place, and nothing else.
+abbrev pub value_of : List ExtHeader → Ipv6Extensions
+value_of c = record {
+  hop_by_hop_options = raw_in hop_by_hop c;
+  destination_options = raw_in destination c;
+  routing = option_map (λ r. record { routing = r; final_destination_options = raw_in final_destination c }) (raw_in routing c);
+  fragment = option_map (λ h. fragment_fields h.bytes) (header_in fragment c);
+  auth = option_map (λ h. auth_fields h.bytes) (header_in authentication c);
+}
+
+-- the final destination options, which stand with the routing header
+abbrev pub final_of : Option Ipv6RoutingExtensions → Option RawFields
+final_of (Some r) = r.final_destination_options
+final_of None = None
+
+-- what stands in a place
+abbrev pub held : Ipv6Extensions → Place → Option HeaderFields
+held v hop_by_hop = option_map raw_header v.hop_by_hop_options
+held v destination = option_map raw_header v.destination_options
+held v routing = option_map (λ r. raw_header r.routing) v.routing
+held v fragment = option_map fragment_header v.fragment
+held v authentication = option_map auth_header v.auth
+held v final_destination = option_map raw_header (final_of v.routing)
+
+-- how many bytes something has, where it is there
+abbrev pub len_of : {X : Type 0} → (X → ℕ) → Option X → ℕ
+len_of f (Some x) = f x
+len_of f None = 0
+
+abbrev pub routing_len : Ipv6RoutingExtensions → ℕ
+routing_len v = raw_len v.routing + len_of raw_len v.final_destination_options
+
+-- the sum over the places
+abbrev pub exts_len : Ipv6Extensions → ℕ
+exts_len v =
+    len_of raw_len v.hop_by_hop_options + (len_of raw_len v.destination_options + (len_of routing_len v.routing
+    + (len_of (λ h. 8) v.fragment + len_of auth_len v.auth)))
+
+-- no place is filled
+abbrev pub has_none : Ipv6Extensions → Bool
+has_none v = is_none v.hop_by_hop_options && (is_none v.destination_options && (is_none v.routing && (is_none v.fragment && is_none v.auth)))
+
+-- a fragment header is there, and its offset isn't 0 or more fragments follow
+abbrev pub is_fragmented : Option FragmentFields → Bool
+is_fragmented (Some f) = is_fragment f.more_fragments f.fragment_offset
+is_fragmented None = false

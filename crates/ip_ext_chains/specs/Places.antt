@@ -1,0 +1,40 @@
+-- What stands in each place.
+use Rattle.std.specs.Prelude.{◌≡◌, ◌==◌, ◌&&◌, ℕ, Bool, true, false, not, Option, Some, None, is_some, get_or, if◌then◌else◌}
+use Rattle.ip_spec.specs.Numbers.{HOP_BY_HOP}
+use Rattle.ip_spec.specs.Chain.{ExtHeader}
+use Rattle.ip_spec.specs.Places.{Place, index, routing, place_of}
+use Rattle.ip_ext_chains.specs.declared.places.Places.{Places}
+
+abbrev pub at : {T : Type 0} → Place → Places T → Option T
+at p v = get_or v.held (index p) None
+
+-- nothing stands in any place
+abbrev pub IsVacant : {T : Type 0} → Places T → Type 0
+IsVacant v = (p : Place) → at p v ≡ None
+
+-- w is v with x in place q
+abbrev pub IsPut : {T : Type 0} → Place → T → Places T → Places T → Type 0
+IsPut q x v w = (p : Place) → at p w ≡ (if index q == index p then Some x else at p v)
+
+-- the place of a header of number m
+abbrev pub place_in : {T : Type 0} → Places T → ℕ → Option Place
+place_in v m = place_of m (is_some (at routing v))
+
+abbrev pub is_filled : {T : Type 0} → Option Place → Places T → Bool
+is_filled (Some p) v = is_some (at p v)
+is_filled None v = false
+
+-- m isn't 0, and its place is filled
+abbrev pub is_taken_in : {T : Type 0} → Places T → ℕ → Bool
+is_taken_in v m = not (m == HOP_BY_HOP) && is_filled (place_in v m) v
+
+-- w is v with x in the place of m, in which nothing stands in v
+pub record IsInserted {T : Type 0} (m : ℕ) (x : T) (v w : Places T) : Type 0 where
+  pub place : Place
+  pub own : place_in v m ≡ Some place
+  pub free : at place v ≡ None
+  pub put : IsPut place x v w
+
+-- the place of m is filled, where it has one
+pub record IsFilled {T : Type 0} (m : ℕ) (v : Places T) : Type 0 where
+  pub filled : (p : Place) → place_in v m ≡ Some p → is_some (at p v) ≡ true

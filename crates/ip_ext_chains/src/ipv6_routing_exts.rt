@@ -1,0 +1,76 @@
+ghost use Rattle.std.specs.Prelude.{◌≡◌, ◌≤◌};
+ghost use Rattle.ip_ext_chains.specs.Ipv6Extensions.{routing_len};
+
+use ip_ext_headers::Ipv6RawExtHeader;
+use std::alloc::AllocError;
+
+/// An IPv6 routing header (RFC 8200, section 4.4) and the destination options behind it, which only the
+/// destination itself reads (section 4.1).
+#[derive(Debug, Drop)]
+pub struct Ipv6RoutingExtensions {
+    /// The routing header.
+    pub routing: Ipv6RawExtHeader,
+    /// Destination options behind the routing header.
+    pub final_destination_options: Option<Ipv6RawExtHeader>,
+}
+
+impl Ipv6RoutingExtensions {
+    /// The largest routing header, in bytes; the smallest that this type holds has 8.
+    pub const MIN_LEN: usize = 2048;
+
+    /// The largest sum of both headers, in bytes.
+    pub const MAX_LEN: usize = 4096;
+
+    /// The number of the headers' bytes, 8 to 4096.
+    pub fn header_len(&self) -> usize
+        ensures len { result ≡ routing_len self.now }
+        ensures least { 8 ≤ result }
+        ensures most { result ≤ 4096 }
+    {
+        let len = self.routing.header_len();
+        match &self.final_destination_options {
+            Some(options) => len + options.header_len(),
+            None => len,
+        }
+    }
+}
+
+impl Clone for Ipv6RoutingExtensions {
+    ghost use Rattle.std.specs.Prelude.{⊤};
+
+    ghost is_clone = { λ h copy. copy ≡ h };
+
+    ghost is_infallible = { λ _. ⊤ };
+
+    fn clone(&self) -> Result<Ipv6RoutingExtensions, AllocError> {
+        Ok(Ipv6RoutingExtensions {
+            routing: self.routing.clone()?,
+            final_destination_options: self.final_destination_options.clone()?,
+        })
+    }
+}
+
+impl PartialEq for Ipv6RoutingExtensions {
+    ghost use Rattle.std.specs.Prelude.{◌↔◌, IsTrue};
+    ghost use Rattle.std.specs.Cmp.{partial_equiv_from_equiv};
+    ghost use Rattle.ip_ext_chains.specs.Equal.{routing_equivalence};
+    ghost use Rattle.ip_ext_chains.specs.Equal.{routing_equal};
+
+    ghost eq = { routing_equal };
+
+    ghost laws = { partial_equiv_from_equiv routing_equivalence };
+
+    fn eq(&self, other: &Self) -> bool
+        ensures answer { result ≡ routing_equal self.now other.now }
+        ensures same { IsTrue result ↔ (self.now ≡ other.now) }
+    {
+        self.routing == other.routing
+            && self.final_destination_options == other.final_destination_options
+    }
+}
+
+impl Eq for Ipv6RoutingExtensions {
+    ghost use Rattle.ip_ext_chains.specs.Equal.{routing_equivalence};
+
+    ghost laws = { routing_equivalence };
+}

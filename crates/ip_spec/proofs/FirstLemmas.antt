@@ -1,0 +1,138 @@
+-- The first element of a list that passes a test, what stands before it and what after, where lists are joined.
+use Rattle.std.proofs.Common.{◌≡◌, ℕ, suc, ◌+◌, ◌≤◌, List, [], ◌∷◌, ◌++◌, take, drop, map, refl, ap, sym, ◌∙◌, arith, inl, inr, Bool, true, false, cond}
+use Rattle.std.specs.Prelude.{not, count_by, Option, Some, None, is_some}
+use Rattle.std.specs.List.{position_or_len, find, before_first, after_first}
+use Rattle.std.specs.Option.{option_or}
+use Rattle.std.proofs.lemmas.Bool.{cases_Bool}
+use Rattle.std.proofs.lemmas.List.Sums.{sum_by-append}
+use Rattle.std.proofs.lemmas.List.Folds.{find-append}
+
+module _ {X : Type 0} (t : X → Bool) where
+  module _ (x : X) (xs : List X) where
+    before-yes : t x ≡ true → before_first t (x ∷ xs) ≡ []
+    before-yes e = ap (λ b. take (cond (not b) (1 + position_or_len t xs) 0) (x ∷ xs)) e
+
+    before-no : t x ≡ false → before_first t (x ∷ xs) ≡ x ∷ before_first t xs
+    before-no e =
+        let k : ℕ = position_or_len t xs in
+        let more : 1 + k ≡ suc k = omega arith in
+        ap (λ b. take (cond (not b) (1 + k) 0) (x ∷ xs)) e ∙ ap (λ j. take j (x ∷ xs)) more
+
+    after-yes : t x ≡ true → after_first t (x ∷ xs) ≡ xs
+    after-yes e = ap (λ b. drop (cond (not b) (1 + position_or_len t xs) 0 + 1) (x ∷ xs)) e
+
+    after-no : t x ≡ false → after_first t (x ∷ xs) ≡ after_first t xs
+    after-no e =
+        let k : ℕ = position_or_len t xs in
+        let more : (1 + k) + 1 ≡ suc (k + 1) = omega arith in
+        ap (λ b. drop (cond (not b) (1 + k) 0 + 1) (x ∷ xs)) e ∙ ap (λ j. drop j (x ∷ xs)) more
+
+    pub find-yes : t x ≡ true → find t (x ∷ xs) ≡ Some x
+    find-yes e = ap (λ b. cond b (Some x) (find t xs)) e
+
+    pub find-no : t x ≡ false → find t (x ∷ xs) ≡ find t xs
+    find-no e = ap (λ b. cond b (Some x) (find t xs)) e
+
+  pub count-append : (xs ys : List X) → count_by t (xs ++ ys) ≡ count_by t xs + count_by t ys
+  count-append xs ys = sum_by-append (λ x. cond (t x) 1 0) xs ys
+
+  pub count_yes : (x : X) (xs : List X) → t x ≡ true → count_by t (x ∷ xs) ≡ 1 + count_by t xs
+  count_yes x xs e = let one : count_by t (x ∷ []) ≡ 1 = ap (λ b. 0 + cond b 1 0) e in omega (arith, count-append (x ∷ []) xs)
+
+  pub count_no : (x : X) (xs : List X) → t x ≡ false → count_by t (x ∷ xs) ≡ count_by t xs
+  count_no x xs e = let none : count_by t (x ∷ []) ≡ 0 = ap (λ b. 0 + cond b 1 0) e in omega (arith, count-append (x ∷ []) xs)
+
+  -- Where none passes, what follows stands on the same side of the first that does as without what is before.
+  pub before-none : (xs ys : List X) → count_by t xs ≡ 0 → before_first t (xs ++ ys) ≡ xs ++ before_first t ys
+  before-none [] ys e = refl
+  before-none (x ∷ xs) ys e = elim (cases_Bool (t x)) [
+    | inl w ↦ absurd (omega (arith, count_yes x xs w, e))
+    | inr w ↦ before-no x (xs ++ ys) w ∙ ap (λ l. x ∷ l) (before-none xs ys (sym (count_no x xs w) ∙ e))
+  ]
+
+  pub after-none : (xs ys : List X) → count_by t xs ≡ 0 → after_first t (xs ++ ys) ≡ after_first t ys
+  after-none [] ys e = refl
+  after-none (x ∷ xs) ys e = elim (cases_Bool (t x)) [
+    | inl w ↦ absurd (omega (arith, count_yes x xs w, e))
+    | inr w ↦ after-no x (xs ++ ys) w ∙ after-none xs ys (sym (count_no x xs w) ∙ e)
+  ]
+
+  -- Where one does, what follows stands after it.
+  pub before-some : (xs ys : List X) → 1 ≤ count_by t xs → before_first t (xs ++ ys) ≡ before_first t xs
+  before-some [] ys l = absurd (omega arith)
+  before-some (x ∷ xs) ys l = elim (cases_Bool (t x)) [
+    | inl w ↦ before-yes x (xs ++ ys) w ∙ sym (before-yes x xs w)
+    | inr w ↦ before-no x (xs ++ ys) w ∙ ap (λ l. x ∷ l) (before-some xs ys (omega (arith, count_no x xs w, l))) ∙ sym (before-no x xs w)
+  ]
+
+  pub after-some : (xs ys : List X) → 1 ≤ count_by t xs → after_first t (xs ++ ys) ≡ after_first t xs ++ ys
+  after-some [] ys l = absurd (omega arith)
+  after-some (x ∷ xs) ys l = elim (cases_Bool (t x)) [
+    | inl w ↦ after-yes x (xs ++ ys) w ∙ ap (λ l. l ++ ys) (sym (after-yes x xs w))
+    | inr w ↦ after-no x (xs ++ ys) w ∙ after-some xs ys (omega (arith, count_no x xs w, l)) ∙ ap (λ l. l ++ ys) (sym (after-no x xs w))
+  ]
+
+  -- of one element alone
+  pub before_one : (x : X) → t x ≡ false → before_first t (x ∷ []) ≡ x ∷ []
+  before_one x e = before-no x [] e
+
+  pub before_itself : (x : X) → t x ≡ true → before_first t (x ∷ []) ≡ []
+  before_itself x e = before-yes x [] e
+
+  pub after_one : (x : X) → after_first t (x ∷ []) ≡ []
+  after_one x = elim (cases_Bool (t x)) [ inl w ↦ after-yes x [] w | inr w ↦ after-no x [] w ]
+
+  -- The first that passes is there where the count isn't 0, and one more stands behind it.
+  pub find_none : (xs : List X) → count_by t xs ≡ 0 → find t xs ≡ None
+  find_none [] e = refl
+  find_none (x ∷ xs) e = elim (cases_Bool (t x)) [
+    | inl w ↦ absurd (omega (arith, count_yes x xs w, e))
+    | inr w ↦ find-no x xs w ∙ find_none xs (sym (count_no x xs w) ∙ e)
+  ]
+
+  pub find_some : (xs : List X) → 1 ≤ count_by t xs → is_some (find t xs) ≡ true
+  find_some [] l = absurd (omega arith)
+  find_some (x ∷ xs) l = elim (cases_Bool (t x)) [
+    | inl w ↦ ap is_some (find-yes x xs w)
+    | inr w ↦ ap is_some (find-no x xs w) ∙ find_some xs (omega (arith, count_no x xs w, l))
+  ]
+
+  pub find_passes : (xs : List X) (x : X) → find t xs ≡ Some x → t x ≡ true
+  find_passes [] x e = absurd (let differ : false ≡ true = ap is_some e in cc)
+  find_passes (y ∷ ys) x e = elim (cases_Bool (t y)) [
+    | inl w ↦ let same : Some y ≡ Some x = sym (find-yes y ys w) ∙ e in let is : y ≡ x = cc in ap t (sym is) ∙ w
+    | inr w ↦ find_passes ys x (sym (find-no y ys w) ∙ e)
+  ]
+
+  pub find_more-yes : (xs : List X) (x : X) → t x ≡ true → find t (xs ++ x ∷ []) ≡ option_or (find t xs) (Some x)
+  find_more-yes xs x e = find-append t xs (x ∷ []) ∙ ap (λ o. option_or (find t xs) o) (find-yes x [] e)
+
+  or_none : (o : Option X) → option_or o None ≡ o
+  or_none (Some x) = refl
+  or_none None = refl
+
+  pub find_more-no : (xs : List X) (x : X) → t x ≡ false → find t (xs ++ x ∷ []) ≡ find t xs
+  find_more-no xs x e = find-append t xs (x ∷ []) ∙ ap (λ o. option_or (find t xs) o) (find-no x [] e) ∙ or_none (find t xs)
+
+-- Lists of images: what stands before and after the first image that passes.
+module _ {X Y : Type 0} (f : X → Y) (t : Y → Bool) where
+  pub before-map : (xs : List X) → map f (before_first (λ x. t (f x)) xs) ≡ before_first t (map f xs)
+  before-map [] = refl
+  before-map (x ∷ xs) = elim (cases_Bool (t (f x))) [
+    | inl w ↦ ap (map f) (before-yes (λ x. t (f x)) x xs w) ∙ sym (before-yes t (f x) (map f xs) w)
+    | inr w ↦ ap (map f) (before-no (λ x. t (f x)) x xs w) ∙ ap (λ l. f x ∷ l) (before-map xs) ∙ sym (before-no t (f x) (map f xs) w)
+  ]
+
+  pub after-map : (xs : List X) → map f (after_first (λ x. t (f x)) xs) ≡ after_first t (map f xs)
+  after-map [] = refl
+  after-map (x ∷ xs) = elim (cases_Bool (t (f x))) [
+    | inl w ↦ ap (map f) (after-yes (λ x. t (f x)) x xs w) ∙ sym (after-yes t (f x) (map f xs) w)
+    | inr w ↦ ap (map f) (after-no (λ x. t (f x)) x xs w) ∙ after-map xs ∙ sym (after-no t (f x) (map f xs) w)
+  ]
+
+  pub count-map : (xs : List X) → count_by (λ x. t (f x)) xs ≡ count_by t (map f xs)
+  count-map [] = refl
+  count-map (x ∷ xs) = elim (cases_Bool (t (f x))) [
+    | inl w ↦ omega (arith, count_yes (λ x. t (f x)) x xs w, count_yes t (f x) (map f xs) w, count-map xs)
+    | inr w ↦ omega (arith, count_no (λ x. t (f x)) x xs w, count_no t (f x) (map f xs) w, count-map xs)
+  ]

@@ -13,7 +13,8 @@ ghost use Rattle.ipexts_tool.specs.Faults.{chain_fault_text};
 ghost use Rattle.ipexts_tool.specs.LineFields.{number_of, bytes_of_hex};
 ghost use Rattle.ipexts_tool.specs.Lines.{lines_of};
 ghost use Rattle.ipexts_tool.specs.Request.{request_of_fields};
-ghost use Rattle.ipexts_tool.specs.Parts.{header_name, header_lines, next_line, chain_end_line, ipv4_end_line};
+ghost use Rattle.ipexts_tool.specs.Parts.{header_name, header_line, header_lines, next_line};
+ghost use Rattle.ipexts_tool.specs.Parts.{chain_end_line, ipv4_end_line, ok_line};
 ghost use Rattle.hex.specs.Hex.{hex_digit_value};
 ghost use Rattle.ip_base.specs.declared.len_source.LenSource.TheVariants.{Slice};
 ghost use Rattle.ip_ext_headers.specs.Fault.{auth_fault};
@@ -186,14 +187,31 @@ fn push_exts4(number: u8, bytes: &[u8], text: &mut String) -> Result<(), AllocEr
 {
     if number != 51 {
         push_next(number, bytes, text)?;
-        return text.push_str("ok\n");
+        return push_ok(text);
     }
     let Some(len) = next_len(true, 51, bytes) else {
         push_next(51, bytes, text)?;
         return push_auth_fault(bytes, text);
     };
-    writeln!(text, "0 auth {len}")?;
-    push_next(bytes[0], &bytes[len..], text)?;
+    push_header(0, 51, len, text)?;
+    let (_, rest) = bytes.split_at(len);
+    push_next(bytes[0], rest, text)?;
+    push_ok(text)
+}
+
+/// Appends the line of a header.
+fn push_header(offset: usize, number: u8, len: usize, text: &mut String) -> Result<(), AllocError>
+    ensures { OnOk result
+        (string_bytes text.new ≡ string_bytes text.old ++ header_line offset number len) }
+{
+    let name = header_name(number);
+    writeln!(text, "{offset} {name} {len}")
+}
+
+/// Appends that there is no fault.
+fn push_ok(text: &mut String) -> Result<(), AllocError>
+    ensures { OnOk result (string_bytes text.new ≡ string_bytes text.old ++ ok_line) }
+{
     text.push_str("ok\n")
 }
 
@@ -226,9 +244,8 @@ fn push_headers(headers: &[PlainHeader<'_>], text: &mut String) -> Result<(), Al
 {
     let mut offset = 0;
     for header in headers {
-        let name = header_name(header.number);
         let len = header.bytes.len();
-        writeln!(text, "{offset} {name} {len}")?;
+        push_header(offset, header.number, len, text)?;
         offset += len;
     }
     Ok(())

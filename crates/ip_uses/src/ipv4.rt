@@ -1,5 +1,5 @@
 //! Callers of IPv4 extension headers.
-ghost use Rattle.std.specs.Prelude.{◌≡◌, ◌∷◌, ◌++◌, ℕ, List, [], Option, Some, IfOk, OnErr, IsTrue};
+ghost use Rattle.std.specs.Prelude.{◌≡◌, [], IfOk, OnErr, IsTrue};
 ghost use Rattle.std.specs.Option.{option_map};
 ghost use Rattle.ip_spec.specs.FieldsOf.{AuthFields};
 ghost use Rattle.ip_spec.specs.Encoding.{AppendsOne};
@@ -10,7 +10,7 @@ ghost use Rattle.ip_ext_chains.specs.Ipv4Walk.{IsIpv4Reading};
 use ip_base::IpNumber;
 use ip_ext_chains::err::ipv4_exts::HeaderWriteError;
 use ip_ext_chains::{Ipv4Extensions, Ipv4ExtensionsSlice};
-use std::alloc::{AllocError, Global};
+use std::alloc::AllocError;
 
 /// Appends the extension headers that begin a packet's bytes, now before a payload of the number `last`. It
 /// answers the packet's new protocol number, from which they are read again with that number behind them.
@@ -42,18 +42,4 @@ pub fn forms_agree(start: IpNumber, packet: &[u8]) -> bool
     let (slices, number, _, _) = Ipv4ExtensionsSlice::from_slice_lax(start, packet);
     let (headers, same_number, _, _) = Ipv4Extensions::from_slice_lax(start, packet);
     slices.to_header() == headers && number == same_number
-}
-
-/// Whether what is written of headers is read as them, with nothing behind it. It is, where it is written.
-pub fn is_read_back(
-    alloc: Global,
-    headers: &Ipv4Extensions,
-    start: IpNumber,
-) -> Result<bool, HeaderWriteError>
-    ensures { IfOk result (λ same. IsTrue same) }
-{
-    let mut out = Vec::new(alloc);
-    headers.write(&mut out, start)?;
-    let (again, _, rest, _) = Ipv4Extensions::from_slice_lax(start, &out);
-    Ok(again == *headers && rest.is_empty())
 }

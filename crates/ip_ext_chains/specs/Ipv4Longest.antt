@@ -1,5 +1,5 @@
--- The longest chain of IPv4 extension headers that begins bytes: at most one header, an authentication header
--- (RFC 4302, section 3.1.1).
+-- The longest chain of IPv4 extension headers that begins bytes: at most one header, an authentication header,
+-- which stands directly behind the IPv4 header (RFC 4302, section 3.1.1).
 use Rattle.std.specs.Prelude.{ℕ, List, length, drop}
 use Rattle.ip_spec.specs.Numbers.{AUTHENTICATION}
 use Rattle.ip_spec.specs.Chain.{ExtHeader, bytes_of}

@@ -7,5 +7,6 @@ mod calls;
 mod digest;
 mod fields;
 mod headers;
+mod ipv4;
 mod packets;
 mod parses;

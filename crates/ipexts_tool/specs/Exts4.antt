@@ -1,5 +1,5 @@
 -- The answer to `exts4 N HEX`: the longest chain of IPv4 extension headers from number N that begins the bytes,
--- at most one authentication header (RFC 4302, section 3.1.1), and what comes after it.
+-- at most one authentication header (RFC 4302, section 2), and what comes after it.
 use Rattle.std.specs.Prelude.{ℕ, List, ◌++◌, length}
 use Rattle.ip_ext_chains.specs.Chain.{leads_to}
 use Rattle.ip_ext_chains.specs.Ipv4Fault.{ipv4_chain_fault}

@@ -11,7 +11,7 @@
 //!   (RFC 8200, section 4). The answer has a line for each header, then `next N rest L`, then how the chain
 //!   ended: `ok`, or the fault with ` in ` and the layer at which it lies.
 //! - `exts4 N HEX` asks for the longest chain of IPv4 extension headers from number N that begins the bytes: at
-//!   most one authentication header (RFC 4302, section 3.1.1). The answer is the same, but a fault stands
+//!   most one authentication header (RFC 4302, section 2). The answer is the same, but a fault stands
 //!   without a layer.
 //!
 //! # Parts of answers

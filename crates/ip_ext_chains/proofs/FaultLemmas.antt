@@ -73,7 +73,7 @@ module _ (source : LenSource) (n : ℕ) (r : List ℕ) (k : ℕ) where
     ]
   ]
 
-number_of : (m : ℕ) (b : List ℕ) → IsHeader m b → IsExtensionNumber m
+pub number_of : (m : ℕ) (b : List ℕ) → IsHeader m b → IsExtensionNumber m
 number_of m b h = elim h [ raw k x ↦ inl k | fragment e x ↦ inr (inl e) | auth e x ↦ inr (inr e) ]
 
 -- at another number no header goes on

@@ -1,8 +1,13 @@
 -- What stands in each place.
-use Rattle.std.specs.Prelude.{◌≡◌, ◌==◌, ◌&&◌, ℕ, Bool, true, false, not, Option, Some, None, is_some, get_or, if◌then◌else◌}
+use Rattle.std.specs.Prelude.{◌≡◌, ◌==◌, ◌&&◌, ℕ, List, Bool, true, false, not, Option, Some, None, is_some, IfSome, get_or, if◌then◌else◌}
+use Rattle.std.specs.Option.{option_map}
 use Rattle.ip_spec.specs.Numbers.{HOP_BY_HOP}
 use Rattle.ip_spec.specs.Chain.{ExtHeader}
-use Rattle.ip_spec.specs.Places.{Place, index, routing, place_of}
+use Rattle.ip_spec.specs.FieldsOf.{RawFields, raw_fields, fragment_fields, auth_fields}
+use Rattle.ip_spec.specs.Places.{Place, hop_by_hop, destination, routing, fragment, authentication, final_destination, index, number_in, place_of, header_in}
+use Rattle.ip_ext_chains.specs.Ipv6ExtensionSlice.{header_of}
+use Rattle.ip_ext_chains.specs.declared.ipv6_ext_slice.Ipv6ExtensionSlice.{Ipv6ExtensionSlice}
+use Rattle.ip_ext_chains.specs.declared.ipv6_exts.Ipv6Extensions.{Ipv6Extensions}
 use Rattle.ip_ext_chains.specs.declared.places.Places.{Places}
 
 abbrev pub at : {T : Type 0} → Place → Places T → Option T
@@ -38,3 +43,25 @@ pub record IsInserted {T : Type 0} (m : ℕ) (x : T) (v w : Places T) : Type 0 w
 -- the place of m is filled, where it has one
 pub record IsFilled {T : Type 0} (m : ℕ) (v : Places T) : Type 0 where
   pub filled : (p : Place) → place_in v m ≡ Some p → is_some (at p v) ≡ true
+
+-- the places hold the headers of the chain c, each in its own
+abbrev pub ArePlaced : List ExtHeader → Places Ipv6ExtensionSlice → Type 0
+ArePlaced c v = (p : Place) → option_map header_of (at p v) ≡ header_in p c
+
+-- the fields of the header in a place of the common layout
+abbrev pub raw_at : Place → Places Ipv6ExtensionSlice → Option RawFields
+raw_at p v = option_map (λ h. raw_fields (header_of h).bytes) (at p v)
+
+-- what the struct holds that is filled from them
+abbrev pub value_at : Places Ipv6ExtensionSlice → Ipv6Extensions
+value_at v = record {
+  hop_by_hop_options = raw_at hop_by_hop v;
+  destination_options = raw_at destination v;
+  routing = option_map (λ r. record { routing = r; final_destination_options = raw_at final_destination v }) (raw_at routing v);
+  fragment = option_map (λ h. fragment_fields (header_of h).bytes) (at fragment v);
+  auth = option_map (λ h. auth_fields (header_of h).bytes) (at authentication v);
+}
+
+-- each header is of its place's number
+abbrev pub AreOfNumber : Places Ipv6ExtensionSlice → Type 0
+AreOfNumber v = (p : Place) → IfSome (at p v) (λ h. (header_of h).number ≡ number_in p)

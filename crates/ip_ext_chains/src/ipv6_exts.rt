@@ -1,9 +1,20 @@
-ghost use Rattle.std.specs.Prelude.{◌≡◌, ◌≤◌};
-ghost use Rattle.ip_spec.specs.FieldsOf.{raw_len};
-ghost use Rattle.ip_ext_chains.specs.Ipv6Extensions.{exts_len, len_of, has_none, is_fragmented};
+ghost use Rattle.std.specs.Prelude.{◌≡◌, ◌≤◌, [], Some, None, IfOk, IfErr};
+ghost use Rattle.std.specs.Option.{option_map};
+ghost use Rattle.ip_spec.specs.FieldsOf.{raw_len, raw_fields};
+ghost use Rattle.ip_spec.specs.Demand.{IsLongestUnder};
+ghost use Rattle.ip_spec.specs.Fits.{FitsPlaces};
+ghost use Rattle.ip_ext_headers.specs.Ipv6RawExtHeaderSlice.{bytes};
+ghost use Rattle.ip_ext_chains.specs.Fitting.{fitting_chain, fitting_fault, IsFittingAnswer, IsWalked};
+ghost use Rattle.ip_ext_chains.specs.Places.{AreOfNumber, value_at};
+ghost use Rattle.ip_ext_chains.specs.Ipv6Extensions.{value_of, exts_len, len_of, has_none, is_fragmented};
 
-use crate::Ipv6RoutingExtensions;
-use ip_ext_headers::{IpAuthHeader, Ipv6FragmentHeader, Ipv6RawExtHeader};
+use crate::err::Layer;
+use crate::err::ipv6_exts::HeaderSliceError;
+use crate::places::{Place, Places};
+use crate::step::after;
+use crate::{Ipv6ExtensionSlice, Ipv6ExtensionsSlice, Ipv6RoutingExtensions};
+use ip_base::IpNumber;
+use ip_ext_headers::{IpAuthHeader, Ipv6FragmentHeader, Ipv6RawExtHeader, Ipv6RawExtHeaderSlice};
 use std::alloc::AllocError;
 
 /// Six places for IPv6 extension headers, one for each kind but for destination options, which have one
@@ -29,6 +40,114 @@ impl Ipv6Extensions {
 
     /// The largest sum of the headers, in bytes.
     pub const MAX_LEN: usize = 9228;
+
+    /// The longest chain from the number that begins the bytes and has a place for each of its headers, with
+    /// the number to which it leads, the bytes after it and the fault there. The offset in a fault counts bytes
+    /// from the start of `start_slice`. There is no fault where the number is no extension number, and none
+    /// where its place is taken: the bytes there aren't looked at.
+    #[inline(always)]
+    pub fn from_slice_lax(
+        start_ip_number: IpNumber,
+        start_slice: &[u8],
+    ) -> (
+        Ipv6Extensions,
+        IpNumber,
+        &[u8],
+        Option<(HeaderSliceError, Layer)>,
+    )
+        ensures longest { IsLongestUnder FitsPlaces start_ip_number.0 start_slice.now
+            (fitting_chain start_ip_number.0 start_slice.now) }
+        ensures answer { IsFittingAnswer start_ip_number.0 start_slice.now
+            result.0 result.1.0 result.2.now result.3 }
+    {
+        let (places, number, rest, fault) = Self::walk(start_ip_number, start_slice);
+        let mut exts = Self::default();
+        exts.fill(&places);
+        (exts, number, rest, fault)
+    }
+
+    /// What `from_slice_lax` answers, where it tells no fault; else the fault.
+    #[inline(always)]
+    pub fn from_slice(
+        start_ip_number: IpNumber,
+        start_slice: &[u8],
+    ) -> Result<(Ipv6Extensions, IpNumber, &[u8]), HeaderSliceError>
+        ensures answer { IfOk result (λ x. IsFittingAnswer start_ip_number.0 start_slice.now
+            x.0 x.1.0 x.2.now None) }
+        ensures fault { IfErr result (λ e. option_map (λ f. f.0)
+            (fitting_fault start_ip_number.0 start_slice.now) ≡ Some e) }
+    {
+        let (places, number, rest, fault) = Self::walk(start_ip_number, start_slice);
+        match fault {
+            Some((error, _)) => return Err(error),
+            None => {}
+        }
+        let mut exts = Self::default();
+        exts.fill(&places);
+        Ok((exts, number, rest))
+    }
+
+    /// Puts the headers of the longest chain from the number that begins the bytes into their places, up to
+    /// the first whose place is taken: the places, the number to which these headers lead, the bytes after
+    /// them and the fault there. Nothing large is made before a fault is known.
+    #[inline(never)]
+    fn walk(
+        start: IpNumber,
+        bytes: &[u8],
+    ) -> (
+        Places<Ipv6ExtensionSlice<'_>>,
+        IpNumber,
+        &[u8],
+        Option<(HeaderSliceError, Layer)>,
+    )
+        ensures { IsWalked start.0 bytes.now result.0 result.1.0 result.2.now result.3 }
+    {
+        let (chain, number, rest, fault) = Ipv6ExtensionsSlice::from_slice_lax(start, bytes);
+        let mut places = Places::new();
+        let mut read = 0;
+        'headers: for header in chain {
+            let number = header.number();
+            let len = header.slice().len();
+            if !places.insert(number, header) {
+                return (places, number, after(bytes, read), None);
+            }
+            read += len;
+        }
+        if places.is_taken(number) {
+            return (places, number, rest, None);
+        }
+        (places, number, rest, fault)
+    }
+
+    /// Fills the places, in which nothing is yet, where they lie.
+    #[inline(never)]
+    fn fill(&mut self, places: &Places<Ipv6ExtensionSlice<'_>>)
+        requires empty { self.old ≡ value_of [] }
+        requires numbers { AreOfNumber places.now }
+        ensures { self.new ≡ value_at places.now }
+    {
+        put_raw(&mut self.hop_by_hop_options, places.raw(Place::HopByHop));
+        put_raw(
+            &mut self.destination_options,
+            places.raw(Place::Destination),
+        );
+        if let Some(header) = places.raw(Place::Routing) {
+            self.routing = Some(Ipv6RoutingExtensions {
+                routing: header.to_header(),
+                final_destination_options: None,
+            });
+        }
+        if let Some(routing) = &mut self.routing {
+            let options = places.raw(Place::FinalDestination);
+            put_raw(&mut routing.final_destination_options, options);
+        }
+        if let Some(header) = places.fragment() {
+            self.fragment = Some(header.to_header());
+        }
+        if let Some(header) = places.auth() {
+            self.auth = Some(header.to_header());
+        }
+    }
 
     /// The number of the headers' bytes, 0 to 9228.
     pub fn header_len(&self) -> usize
@@ -71,6 +190,17 @@ impl Ipv6Extensions {
             Some(fragment) => fragment.is_fragmenting_payload(),
             None => false,
         }
+    }
+}
+
+/// Puts the header, where there is one, into the place, in which nothing is yet.
+#[inline(always)]
+fn put_raw(place: &mut Option<Ipv6RawExtHeader>, header: Option<&Ipv6RawExtHeaderSlice<'_>>)
+    requires { place.old ≡ None }
+    ensures { place.new ≡ option_map (λ h. raw_fields (bytes h.now)) header.entry }
+{
+    if let Some(header) = header {
+        *place = Some(header.to_header());
     }
 }
 

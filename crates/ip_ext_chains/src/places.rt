@@ -1,10 +1,14 @@
 //! The six places for the headers of an IPv6 chain (RFC 8200, section 4.1).
-ghost use Rattle.std.specs.Prelude.{◌≡◌, IsTrue, IsFalse, is_some};
+ghost use Rattle.std.specs.Prelude.{◌≡◌, IsTrue, IsFalse, is_some, IfSome};
 ghost use Rattle.std.specs.Option.{option_map};
-ghost use Rattle.ip_spec.specs.Places.{place_of, index, routing};
+ghost use Rattle.ip_spec.specs.Header.{IsRawNumber};
+ghost use Rattle.ip_spec.specs.FieldsOf.{raw_fields, fragment_fields, auth_fields};
+ghost use Rattle.ip_spec.specs.Places.{place_of, index, number_in, routing, fragment, authentication};
 ghost use Rattle.ip_ext_chains.specs.Place.{shown};
 
+use crate::Ipv6ExtensionSlice;
 use ip_base::{IpNumber, ip_number};
+use ip_ext_headers::{IpAuthHeaderSlice, Ipv6FragmentHeaderSlice, Ipv6RawExtHeaderSlice};
 
 /// A place for a header.
 #[derive(Clone, Copy)]
@@ -44,6 +48,7 @@ impl Place {
 }
 
 /// Something in each place, or nothing.
+#[derive(Drop)]
 pub(crate) struct Places<T> {
     held: [Option<T>; 6],
 }
@@ -111,5 +116,58 @@ impl<T: Drop> Places<T> {
         ensures { IsPut (shown place) value self.old self.new }
     {
         self.held[place.index()] = Some(value);
+    }
+}
+
+impl<'a> Places<Ipv6ExtensionSlice<'a>> {
+    ghost use Rattle.ip_ext_headers.specs.Ipv6RawExtHeaderSlice as raw_slice;
+    ghost use Rattle.ip_ext_headers.specs.Ipv6FragmentHeaderSlice as fragment_slice;
+    ghost use Rattle.ip_ext_headers.specs.IpAuthHeaderSlice as auth_slice;
+    ghost use Rattle.ip_ext_chains.specs.Places.{at, raw_at, AreOfNumber};
+    ghost use Rattle.ip_ext_chains.specs.Ipv6ExtensionSlice.{header_of};
+
+    /// The header in a place of the common layout.
+    #[inline(always)]
+    pub(crate) fn raw(&self, place: Place) -> Option<&Ipv6RawExtHeaderSlice<'a>>
+        requires common { IsRawNumber (number_in (shown place)) }
+        requires numbers { AreOfNumber self.now }
+        ensures { option_map (λ h. raw_fields (raw_slice.bytes h.now)) result
+            ≡ raw_at (shown place) self.now }
+    {
+        match self.get(place) {
+            Some(
+                Ipv6ExtensionSlice::HopByHop(header)
+                | Ipv6ExtensionSlice::Routing(header)
+                | Ipv6ExtensionSlice::DestinationOptions(header),
+            ) => Some(header),
+            _ => None,
+        }
+    }
+
+    /// The fragment header.
+    #[inline(always)]
+    pub(crate) fn fragment(&self) -> Option<&Ipv6FragmentHeaderSlice<'a>>
+        requires number { IfSome (at fragment self.now) (λ h. (header_of h).number ≡ number_in fragment) }
+        ensures { option_map (λ h. fragment_fields (fragment_slice.bytes h.now)) result
+            ≡ option_map (λ h. fragment_fields (header_of h).bytes) (at fragment self.now) }
+    {
+        match self.get(Place::Fragment) {
+            Some(Ipv6ExtensionSlice::Fragment(header)) => Some(header),
+            _ => None,
+        }
+    }
+
+    /// The authentication header.
+    #[inline(always)]
+    pub(crate) fn auth(&self) -> Option<&IpAuthHeaderSlice<'a>>
+        requires number { IfSome (at authentication self.now)
+            (λ h. (header_of h).number ≡ number_in authentication) }
+        ensures { option_map (λ h. auth_fields (auth_slice.bytes h.now)) result
+            ≡ option_map (λ h. auth_fields (header_of h).bytes) (at authentication self.now) }
+    {
+        match self.get(Place::Authentication) {
+            Some(Ipv6ExtensionSlice::Authentication(header)) => Some(header),
+            _ => None,
+        }
     }
 }

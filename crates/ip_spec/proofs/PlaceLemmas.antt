@@ -242,7 +242,7 @@ is_extension final_destination = inl (inr (inr refl))
 is_extension fragment = inr (inl refl)
 is_extension authentication = inr (inr refl)
 
-has_place : (m : ℕ) (b : Bool) → IsExtensionNumber m → is_some (place_of m b) ≡ true
+pub has_place : (m : ℕ) (b : Bool) → IsExtensionNumber m → is_some (place_of m b) ≡ true
 has_place m b x =
     let P : ℕ → Type 0 = λ k. is_some (place_of k b) ≡ true in
     elim x [

@@ -5,12 +5,12 @@ ghost use Rattle.ip_spec.specs.FieldsOf.{AuthFields, auth_len};
 ghost use Rattle.ip_spec.specs.Lengths.{IsIcvLen};
 ghost use Rattle.ip_spec.specs.Encoding.{AppendsOne, AreBytes, IsAuthEncoding};
 ghost use Rattle.ip_spec.specs.Encoded.{cleared_chain};
-ghost use Rattle.ip_spec.specs.Chain.{ExtHeader, bytes_of};
+ghost use Rattle.ip_spec.specs.Chain.{bytes_of};
 ghost use Rattle.ip_spec.specs.Demand.{IsLongestUnder, AtMostOneOf};
 ghost use Rattle.ip_ext_chains.specs.Ipv6Extensions.{len_of};
 ghost use Rattle.ip_ext_chains.specs.Ipv4Longest.{longest_ipv4_chain};
 ghost use Rattle.ip_ext_chains.specs.Ipv4Fault.{ipv4_chain_fault};
-ghost use Rattle.ip_ext_chains.specs.Ipv4Parse.{IsIpv4ValueAnswer, ipv4_value};
+ghost use Rattle.ip_ext_chains.specs.Ipv4Parse.{IsIpv4ValueAnswer};
 ghost use Rattle.ip_ext_chains.specs.Ipv4Walk.{ipv4_walk, IsIpv4Reading, IsIpv4Encoding, IsIpv4ReadBack};
 ghost use Rattle.ip_ext_chains.specs.Ipv4Walk.{IfContent, OnIo};
 
@@ -41,8 +41,8 @@ impl Ipv4Extensions {
         start_ip_number: IpNumber,
         start_slice: &[u8],
     ) -> (Ipv4Extensions, IpNumber, &[u8], Option<HeaderSliceError>)
-        ensures longest { (c : List ExtHeader) → IsLongestUnder (AtMostOneOf AUTHENTICATION)
-            start_ip_number.0 start_slice.now c → result.0.auth ≡ ipv4_value c }
+        ensures longest { IsLongestUnder (AtMostOneOf AUTHENTICATION) start_ip_number.0
+            start_slice.now (longest_ipv4_chain start_ip_number.0 start_slice.now) }
         ensures answer { IsIpv4ValueAnswer start_ip_number.0 start_slice.now
             result.0.auth result.1.0 result.2.now result.3 }
         ensures cleared { IsIpv4Encoding start_ip_number.0 result.0.auth

@@ -47,8 +47,10 @@ fn of_end(number: IpNumber, rest: &[u8], fault: &Option<HeaderSliceError>) -> u6
 /// The lax parse that borrows.
 #[unsafe(no_mangle)]
 pub extern "C" fn ipexts_ipv4_lax(start: u8, bytes: &[u8]) -> u64 {
-    let (headers, number, rest, fault) =
-        Ipv4ExtensionsSlice::from_slice_lax(IpNumber(start), bytes);
+    let (headers, number, rest, fault) = Ipv4ExtensionsSlice::from_slice_lax(
+        IpNumber(start),
+        bytes,
+    );
     of_slices(&headers, number, rest, &fault)
 }
 

@@ -26,7 +26,7 @@ mutants:
 
 SEED = 1
 LINES = 1000000
-export SEED LINES CARGO_FLAGS
+export SEED LINES ONLY CARGO_FLAGS
 
 bench:
 	bench/run

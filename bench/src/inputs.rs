@@ -144,6 +144,26 @@ pub fn regular(count: usize) -> (u8, Vec<u8>) {
     (*numbers.first().unwrap_or(&UDP), bytes)
 }
 
+/// A chain through all six places, its start number, and 16 bytes behind it. Headers of the common layout have
+/// `len` bytes, the authentication header half of that and 8.
+pub fn full(len: usize) -> (u8, Vec<u8>) {
+    let mut random = Random::new(13);
+    let numbers = [HOP_BY_HOP, DEST_OPTIONS, ROUTE, FRAGMENT, AUTH, DEST_OPTIONS];
+    let mut bytes = Vec::new();
+    for (index, number) in numbers.iter().enumerate() {
+        let next = *numbers.get(index + 1).unwrap_or(&UDP);
+        let (len, field) = match *number {
+            FRAGMENT => (8, 0),
+            AUTH => (len / 2 + 8, len / 8),
+            _ => (len, len / 8 - 1),
+        };
+        bytes.extend([next, field as u8]);
+        bytes.extend(random.bytes(len - 2));
+    }
+    bytes.extend(random.bytes(16));
+    (HOP_BY_HOP, bytes)
+}
+
 /// Bytes that are refused: why, the number of the header at which, and its bytes.
 pub fn refusals() -> Vec<(&'static str, u8, Vec<u8>)> {
     vec![

@@ -1,6 +1,6 @@
 //! Measures the calls of this project against those of etherparse 0.19.0.
 //!
-//!     bench measure RUNS                    times of all rows, a line each
+//!     bench measure RUNS WORD               times of the rows whose names have the word, a line each
 //!     bench tool OURS ORIGINAL FILE BYTES   times of two programs over lines, which are made in FILE
 //!     bench report FILE..                   the table of such lines; a file for each alignment of our code
 mod inputs;
@@ -26,7 +26,7 @@ fn main() -> ExitCode {
     let arguments: Vec<String> = std::env::args().skip(1).collect();
     let words: Vec<&str> = arguments.iter().map(String::as_str).collect();
     match &words[..] {
-        ["measure", runs] => measure_all(runs.parse().expect("RUNS is a number")),
+        ["measure", runs, word] => measure(runs.parse().expect("RUNS is a number"), word),
         ["tool", ours, original, file, bytes] => {
             let (file, len) = (Path::new(file), bytes.parse().expect("BYTES is a number"));
             let count = tool::write_lines(file, len, SEED).expect("FILE can be written");
@@ -38,15 +38,18 @@ fn main() -> ExitCode {
             }
         }
         _ => {
-            eprintln!("bench: measure RUNS, tool OURS ORIGINAL FILE BYTES, or report FILE..");
+            eprintln!("bench: measure RUNS WORD, tool OURS ORIGINAL FILE BYTES, or report FILE..");
             return ExitCode::from(2);
         }
     }
     ExitCode::SUCCESS
 }
 
-fn measure_all(runs: usize) {
+fn measure(runs: usize, word: &str) {
     for row in rows::rows(SEED) {
+        if !row.name.contains(word) {
+            continue;
+        }
         let times = measure::measure(&row, runs);
         let line = Line {
             group: row.group.to_owned(),

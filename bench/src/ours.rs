@@ -48,6 +48,21 @@ unsafe extern "C" {
         count: usize,
     ) -> u64;
 
+    pub fn ipexts_lax_struct(start: u8, bytes: *const u8, len: usize) -> u64;
+    pub fn ipexts_strict_struct(start: u8, bytes: *const u8, len: usize) -> u64;
+    pub fn ipexts_lax_struct_packets(
+        p: *const u8,
+        len: usize,
+        ends: *const usize,
+        count: usize,
+    ) -> u64;
+    pub fn ipexts_strict_struct_packets(
+        p: *const u8,
+        len: usize,
+        ends: *const usize,
+        count: usize,
+    ) -> u64;
+
     pub fn ipexts_raw_borrowed(bytes: *const u8, len: usize, at: usize) -> u64;
     pub fn ipexts_raw_owned(bytes: *const u8, len: usize, at: usize) -> u64;
     pub fn ipexts_auth_borrowed(bytes: *const u8, len: usize, at: usize) -> u64;

@@ -87,6 +87,48 @@ fn forms() -> Vec<Form> {
     ]
 }
 
+/// Each parse into a struct.
+fn struct_forms() -> Vec<Form> {
+    use ours::*;
+    vec![
+        form::<original::LaxStruct>(
+            "struct, lax",
+            "in full",
+            ipexts_lax_struct,
+            ipexts_lax_struct_packets,
+        ),
+        form::<original::StrictStruct>(
+            "struct, strict",
+            "in full",
+            ipexts_strict_struct,
+            ipexts_strict_struct_packets,
+        ),
+    ]
+}
+
+/// A parse into a struct: packets, no headers, all places filled, and refusals.
+fn struct_rows(form: &Form, packets: &'static Packets) -> Vec<Row> {
+    let mut rows = vec![packet_loop(form, packets), packet_calls(form, packets)];
+    rows.push(regular_chain(form, 0));
+    rows.extend([8, 2040].map(|len| full_chain(form, len)));
+    rows.extend(refusals(form));
+    rows
+}
+
+/// A chain through all six places, whose headers of the common layout have `len` bytes each.
+fn full_chain(form: &Form, len: usize) -> Row {
+    let (start, bytes) = inputs::full(len);
+    Row {
+        group: "all places filled",
+        name: format!("{}: six places, options of {len} bytes", form.name),
+        unit: "call",
+        units: CALLS,
+        ours: again(form.ours, start, bytes.clone(), CALLS),
+        original: again(form.original, start, bytes, CALLS),
+        limit: None,
+    }
+}
+
 /// All rows.
 pub fn rows(seed: u64) -> Vec<Row> {
     let packets: &'static Packets = Box::leak(Box::new(inputs::packets(PACKETS, seed)));
@@ -103,6 +145,9 @@ pub fn rows(seed: u64) -> Vec<Row> {
         .filter(|form| form.name != "lax, iterator")
     {
         rows.extend(refusals(&form));
+    }
+    for form in struct_forms() {
+        rows.extend(struct_rows(&form, packets));
     }
     rows.extend(borrowed_and_owned());
     rows.extend(written());

@@ -67,7 +67,7 @@ impl Ipv6Extensions {
     }
 
     /// What `from_slice_lax` answers, where it tells no fault; else the fault.
-    #[inline(always)]
+    #[inline(never)]
     pub fn from_slice(
         start_ip_number: IpNumber,
         start_slice: &[u8],

@@ -1,15 +1,18 @@
 -- Chains whose headers fit six places.
-use Rattle.std.proofs.Common.{◌≡◌, ◌≢◌, ℕ, ◌+◌, ◌≤◌, List, [], ◌∷◌, ◌++◌, length, drop, ap, sym, ◌∙◌, arith, inl, inr, true, false, subst, Bool}
+use Rattle.std.proofs.Common.{◌≡◌, ◌≢◌, ℕ, ◌+◌, ◌≤◌, ◌<◌, List, [], ◌∷◌, ◌++◌, length, drop, ap, sym, ◌∙◌, arith, inl, inr, true, false, subst, Bool}
 use Rattle.std.specs.Prelude.{◌==◌, if◌then◌else◌}
 use Rattle.std.proofs.lemmas.Bool.Decides.{eqb_tells}
-use Rattle.std.proofs.lemmas.List.{append-nil, map-append}
+use Rattle.std.proofs.lemmas.List.{append-nil, map-append, length-append}
 use Rattle.ip_spec.specs.Header.{IsExtensionNumber}
-use Rattle.ip_spec.specs.Chain.{ExtHeader, leads_to, bytes_of, is_empty, IsEnd}
-use Rattle.ip_spec.specs.Demand.{IsDemand, IsLongestUnder}
+use Rattle.ip_spec.specs.Chain.{ExtHeader, leads_to, bytes_of, is_empty, IsPrefixChain, IsLongestChain, IsNext, IsEnd}
+use Rattle.ip_spec.specs.Demand.{IsDemand, IsLongestUnder, NextBreaks}
 use Rattle.ip_spec.specs.Fits.{numbers_of, how_often, before_routing, after_routing, NumbersFit, FitsPlaces, IsTaken, in_place}
 use Rattle.ip_spec.proofs.FirstLemmas.{count-append, count_yes, count_no, before-none, after-none, before-some, after-some, before_one, before_itself, after_one}
 use Rattle.ip_spec.proofs.DemandLemmas.{demand_up_to, demand_both, demand_same, demand_of-map}
-use Rattle.ip_spec.proofs.UnderLemmas.{longest_ends_under}
+use Rattle.ip_spec.proofs.UnderLemmas.{longest_ends_under, longest_keeps}
+use Rattle.ip_spec.proofs.LongestOfLemmas.{begins_first}
+use Rattle.ip_spec.proofs.StepLemmas.{next_of, chains_grow}
+use Rattle.ip_spec.proofs.ChainLemmas.{longest_ends}
 
 -- Counts of numbers, and what stands on either side of the first 43.
 often-append : (k : ℕ) (xs ys : List ℕ) → how_often k (xs ++ ys) ≡ how_often k xs + how_often k ys
@@ -187,3 +190,29 @@ fitting_ends n s c l free h x =
     let N : List ℕ → Type 0 = NumbersFit in
     let same : numbers_of c ++ leads_to n c ∷ [] ≡ numbers_of (c ++ h ∷ []) = ap (λ m. numbers_of c ++ m ∷ []) (sym x.number) ∙ sym (map-append (λ k. k.number) c (h ∷ [])) in
     longest_ends_under FitsPlaces fits_places n s c l h x (subst N same (next_number_fits c (leads_to n c) x.zero_only_first free))
+
+-- It is shorter than the longest chain exactly where a header goes on there whose place is taken.
+module _ (n : ℕ) (s : List ℕ) (d c : List ExtHeader) (l : IsLongestChain n s d) (u : IsLongestUnder FitsPlaces n s c) where
+  taken_next : (h : ExtHeader) → IsNext (is_empty c) (leads_to n c) (drop (length (bytes_of c)) s) h → (FitsPlaces (c ++ h ∷ []) → ⊥) → IsTaken (leads_to n c) c
+  taken_next h x breaks =
+      let N : List ℕ → Type 0 = NumbersFit in
+      let same : numbers_of c ++ leads_to n c ∷ [] ≡ numbers_of (c ++ h ∷ []) = ap (λ m. numbers_of c ++ m ∷ []) (sym x.number) ∙ sym (map-append (λ k. k.number) c (h ∷ [])) in
+      (λ z. breaks (subst N same (first_fits c (leads_to n c) z (x.zero_only_first z))), λ f. breaks (subst N same f))
+
+  taken_behind : (rest : List ExtHeader) → d ≡ c ++ rest → NextBreaks FitsPlaces c rest → length c < length d → IsTaken (leads_to n c) c
+  taken_behind [] e breaks w = absurd (omega (arith, ap length e, ap length (append-nil c), w))
+  taken_behind (h ∷ rest) e breaks w =
+      let C : List ExtHeader → Type 0 = IsPrefixChain n s in
+      taken_next h (next_of n s c h (begins_first (IsPrefixChain n s) (chains_grow n s) c h rest (subst C e l.has))) breaks
+
+  pub taken_where_shorter : length c < length d → IsTaken (leads_to n c) c
+  taken_where_shorter w = let k = longest_keeps FitsPlaces fits_places n s d c l u in taken_behind k.rest k.joined k.breaks w
+
+  longer_behind : (rest : List ExtHeader) → d ≡ c ++ rest → (h : ExtHeader) → IsNext (is_empty c) (leads_to n c) (drop (length (bytes_of c)) s) h → length c < length d
+  longer_behind [] e h x =
+      let M : List ExtHeader → Type 0 = λ b. IsNext (is_empty b) (leads_to n b) (drop (length (bytes_of b)) s) h in
+      absurd (longest_ends n s d l h (subst M (sym (append-nil c) ∙ sym e) x))
+  longer_behind (g ∷ rest) e h x = omega (arith, ap length e, length-append c (g ∷ rest))
+
+  pub shorter_where_next : (h : ExtHeader) → IsNext (is_empty c) (leads_to n c) (drop (length (bytes_of c)) s) h → length c < length d
+  shorter_where_next h x = let k = longest_keeps FitsPlaces fits_places n s d c l u in longer_behind k.rest k.joined h x

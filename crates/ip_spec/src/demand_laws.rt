@@ -1,6 +1,6 @@
-ghost use Rattle.std.specs.Prelude.{◌≡◌, ◌↔◌, IsTrue, ℕ, List, [], ◌∷◌, ◌++◌, Bool, length, take, drop};
+ghost use Rattle.std.specs.Prelude.{◌≡◌, ◌<◌, ◌↔◌, IsTrue, ℕ, List, [], ◌∷◌, ◌++◌, Bool, length, take, drop};
 ghost use Rattle.ip_spec.specs.Header.{IsExtensionNumber};
-ghost use Rattle.ip_spec.specs.Chain.{ExtHeader, IsLongestChain, IsEnd, leads_to, bytes_of, is_empty};
+ghost use Rattle.ip_spec.specs.Chain.{ExtHeader, IsLongestChain, IsNext, IsEnd, leads_to, bytes_of, is_empty};
 ghost use Rattle.ip_spec.specs.Demand.{IsDemand, KeepsBeginning, IsLongestUnder, IsEndUnder, Passes, NoDemand, AtMost, AtMostOneOf, IsWithin};
 ghost use Rattle.ip_spec.specs.Fits.{NumbersFit, FitsPlaces, IsTaken, in_place};
 ghost use Rattle.ip_spec.specs.Places.{is_taken};
@@ -71,6 +71,16 @@ pub fn fitting_chain_ends()
     ensures { (n : ℕ) (s : List ℕ) (c : List ExtHeader) → IsLongestUnder FitsPlaces n s c
         → (IsTaken (leads_to n c) c → ⊥)
         → IsEnd (is_empty c) (leads_to n c) (drop (length (bytes_of c)) s) }
+{}
+
+/// It is shorter than the longest chain exactly where a header goes on with a number that is taken.
+pub fn fitting_chain_stops_where_taken()
+    ensures shorter { (n : ℕ) (s : List ℕ) (d c : List ExtHeader) → IsLongestChain n s d
+        → IsLongestUnder FitsPlaces n s c → length c < length d → IsTaken (leads_to n c) c }
+    ensures next { (n : ℕ) (s : List ℕ) (d c : List ExtHeader) → IsLongestChain n s d
+        → IsLongestUnder FitsPlaces n s c
+        → (h : ExtHeader) → IsNext (is_empty c) (leads_to n c) (drop (length (bytes_of c)) s) h
+        → length c < length d }
 {}
 
 /// An extension number fits behind numbers that fit exactly where none of them stands in its place.

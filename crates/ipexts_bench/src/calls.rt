@@ -1,5 +1,6 @@
 //! A call for each way to parse a chain.
 use crate::parses::{Lax, LaxFilter, LaxHeaders, LaxHeadersFilter, Parse, Strict, StrictFilter};
+use crate::structs::{LaxStruct, StrictStruct};
 use ip_ext_chains::IpNumber;
 
 /// The lax parse, read in full.
@@ -36,4 +37,16 @@ pub extern "C" fn ipexts_lax_headers_filter(start: u8, bytes: &[u8]) -> u64 {
 #[unsafe(no_mangle)]
 pub extern "C" fn ipexts_strict_filter(start: u8, bytes: &[u8]) -> u64 {
     StrictFilter::digest(IpNumber(start), bytes)
+}
+
+/// The lax parse into a struct, read in full.
+#[unsafe(no_mangle)]
+pub extern "C" fn ipexts_lax_struct(start: u8, bytes: &[u8]) -> u64 {
+    LaxStruct::digest(IpNumber(start), bytes)
+}
+
+/// The strict parse into a struct, read in full.
+#[unsafe(no_mangle)]
+pub extern "C" fn ipexts_strict_struct(start: u8, bytes: &[u8]) -> u64 {
+    StrictStruct::digest(IpNumber(start), bytes)
 }

@@ -57,7 +57,7 @@ fn of_chain(headers: &Ipv6ExtensionsSlice<'_>, number: IpNumber, rest: &[u8]) ->
 }
 
 /// A fault of a chain.
-fn of_fault(fault: &HeaderSliceError) -> u64 {
+pub fn of_fault(fault: &HeaderSliceError) -> u64 {
     match fault {
         HeaderSliceError::Len(fault) => of_len_error(fault),
         HeaderSliceError::Content(HeaderError::HopByHopNotAtStart) => 1,

@@ -10,3 +10,4 @@ mod headers;
 mod ipv4;
 mod packets;
 mod parses;
+mod structs;

@@ -1,6 +1,7 @@
 //! Loops over IPv6 packets that stand one after the other in a buffer.
 use crate::digest::with;
 use crate::parses::{Lax, LaxFilter, LaxHeaders, LaxHeadersFilter, Parse, Strict, StrictFilter};
+use crate::structs::{LaxStruct, StrictStruct};
 use ip_ext_chains::IpNumber;
 
 /// Where an IPv6 header names what follows it (RFC 8200, section 3).
@@ -62,4 +63,16 @@ pub extern "C" fn ipexts_lax_headers_filter_packets(packets: &[u8], ends: &[usiz
 #[unsafe(no_mangle)]
 pub extern "C" fn ipexts_strict_filter_packets(packets: &[u8], ends: &[usize]) -> u64 {
     over_packets::<StrictFilter>(packets, ends)
+}
+
+/// The lax parse of each packet into a struct, read in full.
+#[unsafe(no_mangle)]
+pub extern "C" fn ipexts_lax_struct_packets(packets: &[u8], ends: &[usize]) -> u64 {
+    over_packets::<LaxStruct>(packets, ends)
+}
+
+/// The strict parse of each packet into a struct, read in full.
+#[unsafe(no_mangle)]
+pub extern "C" fn ipexts_strict_struct_packets(packets: &[u8], ends: &[usize]) -> u64 {
+    over_packets::<StrictStruct>(packets, ends)
 }

@@ -1,0 +1,89 @@
+//! The parses into a struct of six places, and a digest of what it holds.
+use crate::digest::{layer_code, of_bytes, of_fault, of_strict_fault, with};
+use crate::parses::Parse;
+use ip_ext_chains::{IpAuthHeader, IpNumber, Ipv6Extensions, Ipv6FragmentHeader, Ipv6RawExtHeader};
+
+/// The lax parse into a struct, read in full.
+pub struct LaxStruct;
+
+/// The strict parse into a struct, read in full.
+pub struct StrictStruct;
+
+impl Parse for LaxStruct {
+    fn digest(start: IpNumber, bytes: &[u8]) -> u64 {
+        let (exts, number, rest, fault) = Ipv6Extensions::from_slice_lax(start, bytes);
+        let sum = of_answer(&exts, number, rest);
+        match &fault {
+            None => sum,
+            Some((fault, layer)) => with(with(sum, of_fault(fault)), u64::from(layer_code(layer))),
+        }
+    }
+}
+
+impl Parse for StrictStruct {
+    fn digest(start: IpNumber, bytes: &[u8]) -> u64 {
+        let (exts, number, rest) = match Ipv6Extensions::from_slice(start, bytes) {
+            Ok(found) => found,
+            Err(fault) => return of_strict_fault(&fault),
+        };
+        of_answer(&exts, number, rest)
+    }
+}
+
+/// Every part of a struct, the number to which its chain leads and what follows it.
+#[inline(never)]
+fn of_answer(exts: &Ipv6Extensions, number: IpNumber, rest: &[u8]) -> u64 {
+    with(with(of_exts(exts), u64::from(number.0)), of_bytes(rest))
+}
+
+/// Every part of a struct.
+fn of_exts(exts: &Ipv6Extensions) -> u64 {
+    let options = with(
+        of_raw(&exts.hop_by_hop_options),
+        of_raw(&exts.destination_options),
+    );
+    let routing = match &exts.routing {
+        Some(headers) => with(
+            of_raw_header(&headers.routing),
+            of_raw(&headers.final_destination_options),
+        ),
+        None => 0,
+    };
+    let fragment = match &exts.fragment {
+        Some(header) => of_fragment(header),
+        None => 0,
+    };
+    let auth = match &exts.auth {
+        Some(header) => of_auth(header),
+        None => 0,
+    };
+    with(with(options, routing), with(fragment, auth))
+}
+
+/// Every part of a header of the common layout that may be there.
+fn of_raw(header: &Option<Ipv6RawExtHeader>) -> u64 {
+    match header {
+        Some(header) => of_raw_header(header),
+        None => 0,
+    }
+}
+
+/// Every part of a header of the common layout.
+fn of_raw_header(header: &Ipv6RawExtHeader) -> u64 {
+    with(u64::from(header.next_header.0), of_bytes(header.payload()))
+}
+
+/// Every part of a fragment header.
+fn of_fragment(header: &Ipv6FragmentHeader) -> u64 {
+    let offset = u64::from(header.fragment_offset.value());
+    let flags = with(u64::from(header.more_fragments), offset);
+    let fields = with(flags, u64::from(header.identification));
+    with(u64::from(header.next_header.0), fields)
+}
+
+/// Every part of an authentication header.
+fn of_auth(header: &IpAuthHeader) -> u64 {
+    let numbers = with(u64::from(header.spi), u64::from(header.sequence_number));
+    let fields = with(numbers, of_bytes(header.raw_icv()));
+    with(u64::from(header.next_header.0), fields)
+}

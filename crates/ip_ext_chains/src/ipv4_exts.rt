@@ -10,7 +10,8 @@ ghost use Rattle.ip_spec.specs.Demand.{IsLongestUnder, AtMostOneOf};
 ghost use Rattle.ip_ext_chains.specs.Ipv6Extensions.{len_of};
 ghost use Rattle.ip_ext_chains.specs.Ipv4Longest.{longest_ipv4_chain};
 ghost use Rattle.ip_ext_chains.specs.Ipv4Fault.{ipv4_chain_fault};
-ghost use Rattle.ip_ext_chains.specs.Ipv4Parse.{IsIpv4ValueAnswer};
+ghost use Rattle.ip_ext_chains.specs.Ipv4Parse.{IsIpv4ValueAnswer, ipv4_value};
+ghost use Rattle.ip_ext_chains.specs.Ipv4ExtensionsSlice.{headers_in};
 ghost use Rattle.ip_ext_chains.specs.Ipv4Walk.{ipv4_walk, IsIpv4Reading, IsIpv4Encoding, IsIpv4ReadBack};
 ghost use Rattle.ip_ext_chains.specs.Ipv4Walk.{IfContent, OnIo};
 
@@ -48,11 +49,13 @@ impl Ipv4Extensions {
         ensures cleared { IsIpv4Encoding start_ip_number.0 result.0.auth
             (bytes_of (cleared_chain (longest_ipv4_chain start_ip_number.0 start_slice.now))) }
     {
-        let (slice, number, rest, fault) = Ipv4ExtensionsSlice::from_slice_lax(
+        let (slices, number, rest, fault) = Ipv4ExtensionsSlice::from_slice_lax(
             start_ip_number,
             start_slice,
         );
-        (slice.to_header(), number, rest, fault)
+        let mut headers = Ipv4Extensions { auth: None };
+        headers.fill(&slices);
+        (headers, number, rest, fault)
     }
 
     /// What `from_slice_lax` answers, where it tells no fault; else the fault.
@@ -65,8 +68,21 @@ impl Ipv4Extensions {
             x.0.auth x.1.0 x.2.now None) }
         ensures fault { IfErr result (λ e. ipv4_chain_fault start_ip_number.0 slice.now ≡ Some e) }
     {
-        let (slice, number, rest) = Ipv4ExtensionsSlice::from_slice(start_ip_number, slice)?;
-        Ok((slice.to_header(), number, rest))
+        let (slices, number, rest) = Ipv4ExtensionsSlice::from_slice(start_ip_number, slice)?;
+        let mut headers = Ipv4Extensions { auth: None };
+        headers.fill(&slices);
+        Ok((headers, number, rest))
+    }
+
+    /// Fills the place, in which nothing is yet, where it lies.
+    #[inline(never)]
+    pub(crate) fn fill(&mut self, slices: &Ipv4ExtensionsSlice<'_>)
+        requires { self.old.auth ≡ None }
+        ensures { self.new.auth ≡ ipv4_value (headers_in slices.now) }
+    {
+        if let Some(header) = &slices.auth {
+            self.auth = Some(header.to_header());
+        }
     }
 
     /// The number to which the headers lead, where `first_next_header` is the protocol number of the packet.

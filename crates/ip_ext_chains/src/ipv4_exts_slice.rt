@@ -88,12 +88,9 @@ impl<'a> Ipv4ExtensionsSlice<'a> {
     pub fn to_header(&self) -> Ipv4Extensions
         ensures { result.auth ≡ ipv4_value (headers_in self.now) }
     {
-        match &self.auth {
-            Some(header) => Ipv4Extensions {
-                auth: Some(header.to_header()),
-            },
-            None => Ipv4Extensions { auth: None },
-        }
+        let mut headers = Ipv4Extensions { auth: None };
+        headers.fill(self);
+        headers
     }
 
     /// Whether there is no header.

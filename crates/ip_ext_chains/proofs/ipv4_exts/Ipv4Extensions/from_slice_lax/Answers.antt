@@ -11,4 +11,4 @@ returns-clause-longest c = ipv4_longest _ _
 pub returns-clause-cleared : goal.returns-clause-cleared
 returns-clause-cleared c =
     let bytes : AreBytes c.args.start_slice.now = All-from_get_or (λ x. x < 256) c.args.start_slice.now 0 (λ i l. let f = c.type_inv.start_slice i in omega arith) in
-    rw (c.to_header.ensures, c.from_slice_lax-fault.ensures.answer.value) (cleared_encodes _ _ bytes)
+    rw (c.fill.ensures, c.from_slice_lax-fault.ensures.answer.value) (cleared_encodes _ _ bytes)

@@ -53,9 +53,9 @@ impl Ipv4Extensions {
             start_ip_number,
             start_slice,
         );
-        let mut headers = Ipv4Extensions { auth: None };
-        headers.fill(&slices);
-        (headers, number, rest, fault)
+        let mut answer = (Ipv4Extensions { auth: None }, number, rest, fault);
+        answer.0.fill(&slices);
+        answer
     }
 
     /// What `from_slice_lax` answers, where it tells no fault; else the fault.
@@ -69,9 +69,7 @@ impl Ipv4Extensions {
         ensures fault { IfErr result (λ e. ipv4_chain_fault start_ip_number.0 slice.now ≡ Some e) }
     {
         let (slices, number, rest) = Ipv4ExtensionsSlice::from_slice(start_ip_number, slice)?;
-        let mut headers = Ipv4Extensions { auth: None };
-        headers.fill(&slices);
-        Ok((headers, number, rest))
+        Ok((slices.to_header(), number, rest))
     }
 
     /// Fills the place, in which nothing is yet, where it lies.

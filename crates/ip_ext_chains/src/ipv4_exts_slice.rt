@@ -88,9 +88,12 @@ impl<'a> Ipv4ExtensionsSlice<'a> {
     pub fn to_header(&self) -> Ipv4Extensions
         ensures { result.auth ≡ ipv4_value (headers_in self.now) }
     {
-        let mut headers = Ipv4Extensions { auth: None };
-        headers.fill(self);
-        headers
+        match &self.auth {
+            Some(header) => Ipv4Extensions {
+                auth: Some(header.to_header()),
+            },
+            None => Ipv4Extensions { auth: None },
+        }
     }
 
     /// Whether there is no header.

@@ -7,7 +7,7 @@ use Rattle.ip_base.specs.declared.len_source.LenSource.TheVariants.{Slice}
 use Rattle.ip_ext_headers.specs.declared.err.ip_auth.header_slice_error.HeaderSliceError.{HeaderSliceError}
 use Rattle.ip_ext_headers.specs.Fault.{auth_fault}
 use Rattle.ip_spec.specs.Prefix.{IsPrefix}
-use Rattle.ip_spec.specs.Header.{IsAuthHeader, IsHeader, auth}
+use Rattle.ip_spec.specs.Header.{IsAuthHeader, auth}
 use Rattle.ip_spec.specs.Fields.{next_header}
 use Rattle.ip_spec.specs.Chain.{ExtHeader, bytes_of, is_empty, leads_to}
 use Rattle.ip_spec.specs.Demand.{AtMostOneOf, IsLongestUnder}

@@ -1,9 +1,9 @@
 -- What a parse of IPv4 extension headers answers, and what it reads.
-use Rattle.std.specs.Prelude.{◌≡◌, ℕ, List, [], ◌∷◌, Option, Some, None}
+use Rattle.std.specs.Prelude.{ℕ, List, [], ◌∷◌, Option, Some, None}
 use Rattle.ip_ext_headers.specs.declared.err.ip_auth.header_slice_error.HeaderSliceError.{HeaderSliceError}
 use Rattle.ip_spec.specs.FieldsOf.{AuthFields, auth_fields}
-use Rattle.ip_spec.specs.Chain.{ExtHeader, leads_to}
-use Rattle.ip_ext_chains.specs.Ipv4Longest.{longest_ipv4_chain, ipv4_rest_after}
+use Rattle.ip_spec.specs.Chain.{ExtHeader}
+use Rattle.ip_ext_chains.specs.Ipv4Longest.{longest_ipv4_chain}
 use Rattle.ip_ext_chains.specs.Ipv4Fault.{ipv4_chain_fault}
 use Rattle.ip_ext_chains.specs.Parse.{IsAnswer}
 

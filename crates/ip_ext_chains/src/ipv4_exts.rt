@@ -49,13 +49,13 @@ impl Ipv4Extensions {
         ensures cleared { IsIpv4Encoding start_ip_number.0 result.0.auth
             (bytes_of (cleared_chain (longest_ipv4_chain start_ip_number.0 start_slice.now))) }
     {
-        let (slices, number, rest, fault) = Ipv4ExtensionsSlice::from_slice_lax(
-            start_ip_number,
-            start_slice,
-        );
-        let mut answer = (Ipv4Extensions { auth: None }, number, rest, fault);
-        answer.0.fill(&slices);
-        answer
+        match Ipv4ExtensionsSlice::from_slice(start_ip_number, start_slice) {
+            Ok((slices, number, rest)) => (slices.to_header(), number, rest, None),
+            Err(fault) => {
+                let none = Ipv4Extensions { auth: None };
+                (none, start_ip_number, start_slice, Some(fault))
+            }
+        }
     }
 
     /// What `from_slice_lax` answers, where it tells no fault; else the fault.
@@ -70,17 +70,6 @@ impl Ipv4Extensions {
     {
         let (slices, number, rest) = Ipv4ExtensionsSlice::from_slice(start_ip_number, slice)?;
         Ok((slices.to_header(), number, rest))
-    }
-
-    /// Fills the place, in which nothing is yet, where it lies.
-    #[inline(never)]
-    pub(crate) fn fill(&mut self, slices: &Ipv4ExtensionsSlice<'_>)
-        requires { self.old.auth ≡ None }
-        ensures { self.new.auth ≡ ipv4_value (headers_in slices.now) }
-    {
-        if let Some(header) = &slices.auth {
-            self.auth = Some(header.to_header());
-        }
     }
 
     /// The number to which the headers lead, where `first_next_header` is the protocol number of the packet.

@@ -3,4 +3,7 @@ pub mod ParseLemmas
 pub mod FaultLemmas
 pub mod Ipv4Lemmas
 pub mod Ipv4WalkLemmas
-pub mod PlacingLemmas
+pub mod PlacedLemmas
+pub mod RunsOfLemmas
+pub mod RunLemmas
+pub mod FittingLemmas

@@ -5,6 +5,7 @@ use Rattle.std.specs.List.{AllByRecursion}
 use Rattle.std.proofs.Math.Bool.{or-false, or_assoc}
 use Rattle.std.proofs.lemmas.Bool.Decides.{eqb_tells}
 use Rattle.ip_spec.specs.Header.{IsHeader}
+use Rattle.ip_spec.proofs.PrefixLemmas.{prefix-length}
 use Rattle.ip_spec.proofs.ChainLemmas.{longest_ends, bytes_of-least}
 use Rattle.ip_spec.specs.Fields.{next_header, is_fragmenting}
 use Rattle.ip_spec.specs.Chain.{ExtHeader, leads_to, bytes_of, is_empty, has_fragmenting, IsNext, IsEnd}
@@ -58,6 +59,10 @@ at_end n s m r flag p e =
 no_bytes : (c : List ExtHeader) (k : ℕ) → AllByRecursion (λ h. IsHeader h.number h.bytes) c → k ≡ length (bytes_of c) → nat_eq k 0 ≡ is_empty c
 no_bytes [] k a e = ap (λ j. nat_eq j 0) e
 no_bytes (h ∷ c) k a e = elim (eqb_tells k 0) [ inl w ↦ absurd (omega (arith, w.1, e, bytes_of-least (h ∷ c) a)) | inr w ↦ w.0 ]
+
+-- the bytes before what is left are the chain's
+pub len_behind : (n : ℕ) (s r : List ℕ) → r ≡ rest_after n s → length s - length r ≡ length (bytes_of (longest_chain n s))
+len_behind n s r e = omega (arith, prefix-length (bytes_of (longest_chain n s)) s (longest_chain-longest n s).has.prefix, ap length e)
 
 -- The longest chain of s from n, which has k bytes.
 module _ (n : ℕ) (s : List ℕ) (k : ℕ) (len : k ≡ length (bytes_of (longest_chain n s))) where

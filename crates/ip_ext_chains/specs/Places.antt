@@ -33,12 +33,10 @@ is_filled None v = false
 abbrev pub is_taken_in : {T : Type 0} → Places T → ℕ → Bool
 is_taken_in v m = not (m == HOP_BY_HOP) && is_filled (place_in v m) v
 
--- w is v with x in the place of m, in which nothing stands in v
-pub record IsInserted {T : Type 0} (m : ℕ) (x : T) (v w : Places T) : Type 0 where
-  pub place : Place
-  pub own : place_in v m ≡ Some place
-  pub free : at place v ≡ None
-  pub put : IsPut place x v w
+-- p is the place of m, and nothing stands in it
+pub record IsFreePlace {T : Type 0} (m : ℕ) (p : Place) (v : Places T) : Type 0 where
+  pub own : place_in v m ≡ Some p
+  pub free : at p v ≡ None
 
 -- the place of m is filled, where it has one
 pub record IsFilled {T : Type 0} (m : ℕ) (v : Places T) : Type 0 where

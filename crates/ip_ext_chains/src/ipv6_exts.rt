@@ -11,6 +11,7 @@ ghost use Rattle.ip_ext_chains.specs.Ipv6Extensions.{value_of, exts_len, len_of,
 use crate::err::Layer;
 use crate::err::ipv6_exts::HeaderSliceError;
 use crate::places::{Place, Places};
+use crate::run::take_run;
 use crate::step::after;
 use crate::{Ipv6ExtensionSlice, Ipv6ExtensionsSlice, Ipv6RoutingExtensions};
 use ip_base::IpNumber;
@@ -103,15 +104,12 @@ impl Ipv6Extensions {
         ensures { IsWalked start.0 bytes.now result.0 result.1.0 result.2.now result.3 }
     {
         let (chain, number, rest, fault) = Ipv6ExtensionsSlice::from_slice_lax(start, bytes);
-        let mut places = Places::new();
-        let mut read = 0;
-        'headers: for header in chain {
-            let number = header.number();
-            let len = header.slice().len();
-            if !places.insert(number, header) {
-                return (places, number, after(bytes, read), None);
-            }
-            read += len;
+        let len = chain.slice().len();
+        let mut headers = chain.into_iter();
+        let places = take_run(&mut headers);
+        if !headers.rest.is_empty() {
+            let read = len - headers.rest.len();
+            return (places, headers.next_header, after(bytes, read), None);
         }
         if places.is_taken(number) {
             return (places, number, rest, None);
@@ -121,7 +119,7 @@ impl Ipv6Extensions {
 
     /// Fills the places, in which nothing is yet, where they lie.
     #[inline(never)]
-    fn fill(&mut self, places: &Places<Ipv6ExtensionSlice<'_>>)
+    pub(crate) fn fill(&mut self, places: &Places<Ipv6ExtensionSlice<'_>>)
         requires empty { self.old ≡ value_of [] }
         requires numbers { AreOfNumber places.now }
         ensures { self.new ≡ value_at places.now }

@@ -1,5 +1,5 @@
 //! The six places for the headers of an IPv6 chain (RFC 8200, section 4.1).
-ghost use Rattle.std.specs.Prelude.{◌≡◌, IsTrue, IsFalse, is_some, IfSome};
+ghost use Rattle.std.specs.Prelude.{◌≡◌, is_some, IfSome, IfNone};
 ghost use Rattle.std.specs.Option.{option_map};
 ghost use Rattle.ip_spec.specs.Header.{IsRawNumber};
 ghost use Rattle.ip_spec.specs.FieldsOf.{raw_fields, fragment_fields, auth_fields};
@@ -54,7 +54,7 @@ pub(crate) struct Places<T> {
 }
 
 impl<T: Drop> Places<T> {
-    ghost use Rattle.ip_ext_chains.specs.Places.{at, IsVacant, IsPut, IsInserted, IsFilled, is_taken_in};
+    ghost use Rattle.ip_ext_chains.specs.Places.{at, IsVacant, IsPut, IsFreePlace, IsFilled, is_taken_in};
 
     /// Nothing in any place.
     #[inline(always)]
@@ -94,20 +94,17 @@ impl<T: Drop> Places<T> {
         number != ip_number::IPV6_HOP_BY_HOP && self.get(place).is_some()
     }
 
-    /// Puts it into the place of the number, where nothing is there; else it answers false.
+    /// The place of the number, where nothing is there.
     #[inline(always)]
-    pub(crate) fn insert(&mut self, number: IpNumber, value: T) -> bool
-        ensures free { IsTrue result → IsInserted number.0 value self.old self.new }
-        ensures full { IsFalse result → IsFilled number.0 self.old × (self.new ≡ self.old) }
+    pub(crate) fn free_place(&self, number: IpNumber) -> Option<Place>
+        ensures free { IfSome result (λ p. IsFreePlace number.0 (shown p) self.now) }
+        ensures filled { IfNone result (IsFilled number.0 self.now) }
     {
-        let Some(place) = self.place_of(number) else {
-            return false;
-        };
+        let place = self.place_of(number)?;
         if self.get(place).is_some() {
-            return false;
+            return None;
         }
-        self.put(place, value);
-        true
+        Some(place)
     }
 
     /// Puts it into the place.

@@ -75,7 +75,7 @@ pub some_kept : {X : Type 0} (Q : List X → Type 0) → IsDemand Q → (d : Lis
 some_kept Q k d = kept_from Q k [] d k.empty
 
 -- The beginnings of a list.
-abbrev Begins : {X : Type 0} → List X → List X → Type 0
+abbrev pub Begins : {X : Type 0} → List X → List X → Type 0
 Begins {X} d c = (rest : List X) × (d ≡ c ++ rest)
 
 module _ {X : Type 0} (d : List X) where
@@ -84,7 +84,7 @@ module _ {X : Type 0} (d : List X) where
       let both : x ∷ p ≡ y ∷ q = append_cancel_left c (x ∷ p) (y ∷ q) (sym (append_assoc c (x ∷ []) p) ∙ sym e ∙ f ∙ append_assoc c (y ∷ []) q) in
       cc
 
-  beginnings_grow : Grows (Begins d)
+  pub beginnings_grow : Grows (Begins d)
   beginnings_grow = record {
     begins = λ a b p. (b ++ p.0, p.1 ∙ append_assoc a b p.0);
     one_next = λ c x y p q. same_behind c x y p.0 q.0 p.1 q.1;

@@ -4,6 +4,7 @@ use Rattle.std.specs.Prelude.{not, count_by, Option, Some, None, is_some}
 use Rattle.std.specs.List.{position_or_len, find, before_first, after_first}
 use Rattle.std.specs.Option.{option_or}
 use Rattle.std.proofs.lemmas.Bool.{cases_Bool}
+use Rattle.std.proofs.lemmas.List.{take-append-drop}
 use Rattle.std.proofs.lemmas.List.Sums.{sum_by-append}
 use Rattle.std.proofs.lemmas.List.Folds.{find-append}
 
@@ -113,6 +114,14 @@ module _ {X : Type 0} (t : X → Bool) where
 
   pub find_more-no : (xs : List X) (x : X) → t x ≡ false → find t (xs ++ x ∷ []) ≡ find t xs
   find_more-no xs x e = find-append t xs (x ∷ []) ∙ ap (λ o. option_or (find t xs) o) (find-no x [] e) ∙ or_none (find t xs)
+
+-- On neither side do more elements pass a test than in the whole.
+module _ {X : Type 0} (t u : X → Bool) (xs : List X) where
+  pub count_before : count_by t (before_first u xs) ≤ count_by t xs
+  count_before = let k : ℕ = position_or_len u xs in omega (arith, count-append t (take k xs) (drop k xs), ap (count_by t) (take-append-drop k xs))
+
+  pub count_after : count_by t (after_first u xs) ≤ count_by t xs
+  count_after = let k : ℕ = position_or_len u xs + 1 in omega (arith, count-append t (take k xs) (drop k xs), ap (count_by t) (take-append-drop k xs))
 
 -- Lists of images: what stands before and after the first image that passes.
 module _ {X Y : Type 0} (f : X → Y) (t : Y → Bool) where

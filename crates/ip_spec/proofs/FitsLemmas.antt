@@ -1,5 +1,5 @@
 -- Chains whose headers fit six places.
-use Rattle.std.proofs.Common.{◌≡◌, ◌≢◌, ℕ, ◌+◌, ◌≤◌, ◌<◌, List, [], ◌∷◌, ◌++◌, length, drop, ap, sym, ◌∙◌, arith, inl, inr, true, false, subst, Bool}
+use Rattle.std.proofs.Common.{◌≡◌, ◌≢◌, ℕ, ◌+◌, ◌≤◌, ◌<◌, List, [], ◌∷◌, ◌++◌, length, drop, refl, ap, sym, ◌∙◌, arith, inl, inr, true, false, subst, Bool}
 use Rattle.std.specs.Prelude.{◌==◌, if◌then◌else◌}
 use Rattle.std.proofs.lemmas.Bool.Decides.{eqb_tells}
 use Rattle.std.proofs.lemmas.List.{append-nil, map-append, length-append}
@@ -7,7 +7,7 @@ use Rattle.ip_spec.specs.Header.{IsExtensionNumber}
 use Rattle.ip_spec.specs.Chain.{ExtHeader, leads_to, bytes_of, is_empty, IsPrefixChain, IsLongestChain, IsNext, IsEnd}
 use Rattle.ip_spec.specs.Demand.{IsDemand, IsLongestUnder, NextBreaks}
 use Rattle.ip_spec.specs.Fits.{numbers_of, how_often, before_routing, after_routing, NumbersFit, FitsPlaces, IsTaken, in_place}
-use Rattle.ip_spec.proofs.FirstLemmas.{count-append, count_yes, count_no, before-none, after-none, before-some, after-some, before_one, before_itself, after_one}
+use Rattle.ip_spec.proofs.FirstLemmas.{count-append, count_yes, count_no, before-none, after-none, before-some, after-some, before_one, before_itself, after_one, count_before, count_after}
 use Rattle.ip_spec.proofs.DemandLemmas.{demand_up_to, demand_both, demand_same, demand_of-map}
 use Rattle.ip_spec.proofs.UnderLemmas.{longest_ends_under, longest_keeps}
 use Rattle.ip_spec.proofs.LongestOfLemmas.{begins_first}
@@ -71,6 +71,24 @@ numbers_fit =
 
 pub fits_places : IsDemand FitsPlaces
 fits_places = demand_of-map (λ h. h.number) NumbersFit numbers_fit
+
+-- What stands behind numbers that fit, fits by itself, and so does each single number.
+module _ (xs ys : List ℕ) (f : NumbersFit (xs ++ ys)) where
+  before_behind : how_often 60 (before_routing ys) ≤ 1
+  before_behind = elim (sides xs ys) [ none_yet z a b c d ↦ omega (arith, f.destination) | one_before l c d ↦ omega (arith, f.final_destination, count_before (λ m. m == 60) is43 ys) ]
+
+  after_behind : how_often 60 (after_routing ys) ≤ 1
+  after_behind = elim (sides xs ys) [ none_yet z a b c d ↦ omega (arith, f.final_destination) | one_before l c d ↦ omega (arith, f.final_destination, count_after (λ m. m == 60) is43 ys) ]
+
+  pub fits_behind : NumbersFit ys
+  fits_behind = record {
+    hop_by_hop = omega (arith, f.hop_by_hop, often-append 0 xs ys);
+    routing = omega (arith, f.routing, often-append 43 xs ys);
+    fragment = omega (arith, f.fragment, often-append 44 xs ys);
+    authentication = omega (arith, f.authentication, often-append 51 xs ys);
+    destination = before_behind;
+    final_destination = after_behind;
+  }
 
 -- One more number fits where nothing stands in its place, and of an extension number only there.
 module _ (m : ℕ) (ns : List ℕ) where
@@ -174,9 +192,12 @@ module _ (m : ℕ) (ns : List ℕ) where
     ]
   ]
 
+pub one_number_fits : (m : ℕ) → NumbersFit (m ∷ [])
+one_number_fits m = fits_next m [] numbers_fit.empty (λ x. elim (eqb_tells m 60) [ inl w ↦ place_before m [] w.0 refl | inr w ↦ place_other m [] w.0 ])
+
 -- At the end of the longest chain that fits, no header goes on, unless the place of the number is taken.
 first_fits : (c : List ExtHeader) (m : ℕ) → m ≡ 0 → is_empty c ≡ true → NumbersFit (numbers_of c ++ m ∷ [])
-first_fits [] m z e = fits_next m [] numbers_fit.empty (λ x. ap (λ k. in_place k []) z)
+first_fits [] m z e = one_number_fits m
 first_fits (g ∷ c) m z e = absurd (let differ : false ≡ true = e in cc)
 
 next_number_fits : (c : List ExtHeader) (m : ℕ) → (m ≡ 0 → is_empty c ≡ true) → (IsTaken m c → ⊥) → NumbersFit (numbers_of c ++ m ∷ [])

@@ -9,6 +9,8 @@ pub mod ReadLemmas
 pub mod DemandKinds
 pub mod FirstLemmas
 pub mod FitsLemmas
+pub mod CutLemmas
+pub mod RunsLemmas
 pub mod PlaceLemmas
 pub mod ShorterLemmas
 pub mod EncodingLemmas

@@ -13,4 +13,5 @@ pub mod Demand
 pub mod Fits
 pub mod Places
 pub mod Encoded
+pub mod Runs
 pub mod PlainHeader

@@ -8,4 +8,5 @@ pub mod headers;
 pub mod ipv4;
 pub mod pins;
 pub mod plain;
+pub mod runs;
 pub mod tool;

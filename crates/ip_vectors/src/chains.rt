@@ -21,7 +21,7 @@ struct Row<'a> {
     fault: Option<(HeaderSliceError, Layer)>,
 }
 
-fn missing(
+pub(crate) fn missing(
     required_len: usize,
     len: usize,
     inner: Layer,

@@ -12,4 +12,8 @@ mod ipv4;
 #[cfg(test)]
 mod lines;
 #[cfg(test)]
+mod places;
+#[cfg(test)]
+mod runs;
+#[cfg(test)]
 mod single_headers;

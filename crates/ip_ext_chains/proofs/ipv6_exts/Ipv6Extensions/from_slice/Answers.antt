@@ -1,4 +1,4 @@
-use Rattle.ip_ext_chains.proofs.PlacingLemmas.{walked_numbers, walked_answer}
+use Rattle.ip_ext_chains.proofs.FittingLemmas.{walked_numbers, walked_answer}
 use Rattle.ip_ext_chains.proofs.ipv6_exts.Ipv6Extensions.from_slice.Goals as goal
 
 pub fill-requires-clause-numbers : goal.fill-requires-clause-numbers

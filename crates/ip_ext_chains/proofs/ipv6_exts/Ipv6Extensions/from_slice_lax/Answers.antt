@@ -1,5 +1,5 @@
 use Rattle.std.proofs.Common.{refl}
-use Rattle.ip_ext_chains.proofs.PlacingLemmas.{walked_numbers, walked_answer}
+use Rattle.ip_ext_chains.proofs.FittingLemmas.{walked_numbers, walked_answer}
 use Rattle.ip_ext_chains.proofs.ipv6_exts.Ipv6Extensions.from_slice_lax.Goals as goal
 
 pub fill-requires-clause-numbers : goal.fill-requires-clause-numbers

@@ -1,28 +1,34 @@
-use Rattle.std.proofs.Common.{refl, ap, sym, ◌∙◌}
+use Rattle.std.proofs.Common.{ap, sym, ◌∙◌}
 use Rattle.std.specs.Prelude.{Option, None, if◌then◌else◌}
+use Rattle.ip_spec.specs.Chain.{bytes_of}
 use Rattle.ip_ext_chains.specs.Fault.{Fault}
-use Rattle.ip_ext_chains.proofs.PlacingLemmas.{next_placed, next_taken, all_placed}
+use Rattle.ip_ext_chains.proofs.LongestLemmas.{longest_chain-longest}
+use Rattle.ip_ext_chains.proofs.RunLemmas.{none_left, some_left}
+use Rattle.ip_ext_chains.proofs.FittingLemmas.{walk_stops, walk_ends}
 use Rattle.ip_ext_chains.proofs.ipv6_exts.Ipv6Extensions.walk.Goals as goal
 
-pub headers-preserved : goal.headers-preserved
-headers-preserved c =
-    next_placed _ _ _ _ _ c.headers.invariant _ _ c.in-Some.ensures.steps _ _ _ c.number-number.ensures (c.if-not-insert.ensures.free refl) c.slice-len.ensures.bytes
-
-pub returns-then-not-insert : goal.returns-then-not-insert
-returns-then-not-insert c =
-    let full = c.if-not-insert.ensures.full refl in
-    next_taken _ _ _ _ _ c.headers.invariant _ _ c.in-Some.ensures.steps _ _ _ c.number-number.ensures full.0 full.1 c.after.ensures
+pub returns-then-not-is_empty : goal.returns-then-not-is_empty
+returns-then-not-is_empty c =
+    let headers = c.into_iter-headers.ensures.headers in
+    let left = c.take_run-places.new.headers in
+    walk_stops _ _ _ _ _ c.take_run-places.ensures (headers ∙ c.from_slice_lax-fault.ensures.answer.value)
+    (some_left _ _ left.whole (sym c.is_empty.ensures ∙ c.if-not-is_empty.true)) _ (longest_chain-longest _ _).has.chain
+    _ _ _ (c.slice-len.ensures.joined ∙ sym (ap bytes_of headers)) left.whole c.after.ensures
 
 pub returns-then-is_taken : goal.returns-then-is_taken
 returns-then-is_taken c =
     let answer = c.from_slice_lax-fault.ensures.answer in
+    let left = c.take_run-places.new.headers in
     let dropped : Option Fault = c.from_slice_lax-fault.result.3 in
-    all_placed _ _ _ _ _ c.headers.invariant _ _ _ _ c.in-None.ensures.steps.0 answer.number answer.rest answer.fault
+    walk_ends _ _ _ _ _ c.take_run-places.ensures (c.into_iter-headers.ensures.headers ∙ answer.value)
+    (none_left _ _ left.whole (sym c.is_empty.ensures ∙ c.if-not-is_empty.false)) _ _ _ _ answer.number answer.rest answer.fault
     (sym (ap (λ b. if b then None else dropped) (sym c.is_taken.ensures ∙ c.if-is_taken.true)))
 
 pub returns : goal.returns
 returns c =
     let answer = c.from_slice_lax-fault.ensures.answer in
+    let left = c.take_run-places.new.headers in
     let told : Option Fault = c.from_slice_lax-fault.result.3 in
-    all_placed _ _ _ _ _ c.headers.invariant _ _ _ _ c.in-None.ensures.steps.0 answer.number answer.rest answer.fault
+    walk_ends _ _ _ _ _ c.take_run-places.ensures (c.into_iter-headers.ensures.headers ∙ answer.value)
+    (none_left _ _ left.whole (sym c.is_empty.ensures ∙ c.if-not-is_empty.false)) _ _ _ _ answer.number answer.rest answer.fault
     (sym (ap (λ b. if b then None else told) (sym c.is_taken.ensures ∙ c.if-is_taken.false)))

@@ -1,0 +1,109 @@
+-- The longest chain that fits six places, where the longest chain's first run was taken.
+use Rattle.std.proofs.Common.{◌≡◌, ◌≢◌, ℕ, ◌-◌, List, [], ◌∷◌, ◌++◌, length, drop, refl, ap, sym, ◌∙◌, arith, Bool, true, false, subst}
+use Rattle.std.specs.Prelude.{Option, None, if◌then◌else◌}
+use Rattle.std.proofs.lemmas.List.{append-nil, length-append}
+use Rattle.std.proofs.lemmas.Grind.{flat_map-append}
+use Rattle.ip_spec.specs.Chain.{ExtHeader, leads_to, bytes_of, is_empty, IsChain, IsPrefixChain}
+use Rattle.ip_spec.specs.Demand.{KeepsBeginning, NextBreaks}
+use Rattle.ip_spec.specs.Fits.{FitsPlaces, IsTaken}
+use Rattle.ip_spec.specs.Places.{is_taken}
+use Rattle.ip_spec.proofs.PlaceLemmas.{taken_told}
+use Rattle.ip_spec.proofs.FitsLemmas.{fits_places}
+use Rattle.ip_spec.proofs.UnderLemmas.{some_longest_under, one_longest_under, kept_is_longest}
+use Rattle.ip_spec.proofs.CutLemmas.{some_are_kept}
+use Rattle.ip_spec.proofs.RunsLemmas.{cuts_places, chain_behind, next_taken}
+use Rattle.ip_ext_chains.specs.Longest.{longest_chain, rest_after}
+use Rattle.ip_ext_chains.specs.Fitting.{fitting_chain, fitting_fault, IsFittingAnswer, IsWalked}
+use Rattle.ip_ext_chains.specs.Fault.{Fault, slice_fault, chain_fault}
+use Rattle.ip_ext_chains.specs.Places.{ArePlaced, is_taken_in, value_at, AreOfNumber}
+use Rattle.ip_ext_chains.specs.Run.{IsRun}
+use Rattle.ip_ext_chains.specs.declared.ipv6_ext_slice.Ipv6ExtensionSlice.{Ipv6ExtensionSlice}
+use Rattle.ip_ext_chains.specs.declared.ipv6_exts.Ipv6Extensions.{Ipv6Extensions}
+use Rattle.ip_ext_chains.specs.declared.places.Places.{Places}
+use Rattle.ip_ext_chains.proofs.LongestLemmas.{longest_chain-longest}
+use Rattle.ip_ext_chains.proofs.PlacedLemmas.{taken_same, value_placed, placed_numbers}
+
+-- what is kept of the longest chain is the longest that fits
+fitting_is : (n : ℕ) (s : List ℕ) (c : List ExtHeader) → KeepsBeginning FitsPlaces (longest_chain n s) c → c ≡ fitting_chain n s
+fitting_is n s c kept =
+    one_longest_under FitsPlaces fits_places n s c (fitting_chain n s)
+    (kept_is_longest FitsPlaces fits_places n s (longest_chain n s) c (longest_chain-longest n s) kept)
+    (some_longest_under FitsPlaces fits_places n s).1
+
+no_fault : (b : Bool) (f : Option Fault) → b ≡ true → (if b then None else f) ≡ None
+no_fault true f e = refl
+no_fault false f e = absurd (let differ : false ≡ true = e in cc)
+
+module _ (n : ℕ) (s : List ℕ) (left : List ExtHeader) (v : Places Ipv6ExtensionSlice) (k : IsRun (longest_chain n s) v left) where
+  run_fits : k.run ≡ fitting_chain n s
+  run_fits = fitting_is n s k.run k.kept
+
+  run_whole : longest_chain n s ≡ k.run ++ left
+  run_whole = k.kept.joined ∙ ap (λ l. k.run ++ l) k.left
+
+  run_chain : IsPrefixChain n s (k.run ++ left)
+  run_chain = let C : List ExtHeader → Type 0 = IsPrefixChain n s in subst C run_whole (longest_chain-longest n s).has
+
+  -- how many bytes were read
+  run_len : length (bytes_of (longest_chain n s)) - length (bytes_of left) ≡ length (bytes_of k.run)
+  run_len =
+      let both : bytes_of (k.run ++ left) ≡ bytes_of k.run ++ bytes_of left = flat_map-append (λ h. h.bytes) k.run left in
+      omega (arith, ap (λ c. length (bytes_of c)) run_whole, ap length both, length-append (bytes_of k.run) (bytes_of left))
+
+  walked : (m : ℕ) (r : List ℕ) (f : Option Fault) → m ≡ leads_to n k.run → r ≡ drop (length (bytes_of k.run)) s → f ≡ fitting_fault n s → IsWalked n s v m r f
+  walked m r f em er ef =
+      let A : List ExtHeader → Type 0 = λ c. ArePlaced c v in
+      record {
+        placed = subst A run_fits k.placed;
+        number = em ∙ ap (leads_to n) run_fits;
+        rest = er ∙ ap (λ c. drop (length (bytes_of c)) s) run_fits;
+        fault = ef;
+      }
+
+-- Where headers are left, the place of the next one is taken.
+walked_on : (n : ℕ) (s : List ℕ) (left : List ExtHeader) (v : Places Ipv6ExtensionSlice) → IsRun (longest_chain n s) v left → left ≢ [] → (m : ℕ) → IsChain m left → (r : List ℕ) → r ≡ drop (length (bytes_of (longest_chain n s)) - length (bytes_of left)) s → IsWalked n s v m r None
+walked_on n s [] v k some m chain r er = absurd (some refl)
+walked_on n s (h ∷ left) v k some m chain r er =
+    let c : List ExtHeader = k.run in
+    let p : IsPrefixChain n s (c ++ h ∷ left) = run_chain n s (h ∷ left) v k in
+    let number : h.number ≡ leads_to n c = (chain_behind n c (h ∷ left) p.chain).links.0 in
+    let headers : longest_chain n s ≢ [] = λ e. omega (arith, ap length (sym (run_whole n s (h ∷ left) v k) ∙ e), length-append c (h ∷ left)) in
+    let first : c ≢ [] = some_are_kept FitsPlaces cuts_places (longest_chain n s) c headers k.kept in
+    let B : List ExtHeader → Type 0 = NextBreaks FitsPlaces c in
+    let taken : IsTaken (leads_to n c) c = next_taken n s c (h ∷ left) first p (subst B k.left k.kept.breaks) (λ e. cc) in
+    let fits : c ≡ fitting_chain n s = run_fits n s (h ∷ left) v k in
+    let told : is_taken (leads_to n (fitting_chain n s)) (fitting_chain n s) ≡ true = ap (λ d. is_taken (leads_to n d) d) (sym fits) ∙ (taken_told c (leads_to n c) k.kept.meets).1 taken in
+    walked n s (h ∷ left) v k m r None (sym chain.links.0 ∙ number) (er ∙ ap (λ j. drop j s) (run_len n s (h ∷ left) v k)) (sym (no_fault _ _ told))
+
+-- Where none is, it is the whole chain.
+walked_whole : (n : ℕ) (s : List ℕ) (left : List ExtHeader) (v : Places Ipv6ExtensionSlice) → IsRun (longest_chain n s) v left → left ≡ [] → (m : ℕ) (r : List ℕ) (f g : Option Fault) → m ≡ leads_to n (longest_chain n s) → r ≡ rest_after n s → g ≡ chain_fault n s → f ≡ (if is_taken_in v m then None else g) → IsWalked n s v m r f
+walked_whole n s left v k none m r f g em er eg ef =
+    let c : List ExtHeader = k.run in
+    let all : longest_chain n s ≡ c = run_whole n s left v k ∙ ap (λ l. c ++ l) none ∙ append-nil c in
+    let same : longest_chain n s ≡ fitting_chain n s = all ∙ run_fits n s left v k in
+    let number : m ≡ leads_to n c = em ∙ ap (leads_to n) all in
+    let at : List ExtHeader → Option Fault = λ d. slice_fault (length (bytes_of d)) (is_empty d) (leads_to n d) (drop (length (bytes_of d)) s) in
+    let taken : is_taken_in v m ≡ is_taken (leads_to n (fitting_chain n s)) (fitting_chain n s) =
+    taken_same c v k.placed m ∙ ap (λ j. is_taken j c) number ∙ ap (λ d. is_taken (leads_to n d) d) (run_fits n s left v k) in
+    walked n s left v k m r f number (er ∙ ap (λ d. drop (length (bytes_of d)) s) all)
+    (ef ∙ ap (λ o. if is_taken_in v m then None else o) (eg ∙ ap at same) ∙ ap (λ b. if b then None else at (fitting_chain n s)) taken)
+
+-- The same as code has it: what an iterator has given and left, and the bytes read.
+module _ (n : ℕ) (s : List ℕ) (all left : List ExtHeader) (v : Places Ipv6ExtensionSlice) (k : IsRun all v left) (e : all ≡ longest_chain n s) where
+  of_longest : IsRun (longest_chain n s) v left
+  of_longest = let R : List ExtHeader → Type 0 = λ c. IsRun c v left in subst R e k
+
+  pub walk_stops : left ≢ [] → (m : ℕ) → IsChain m left → (b q r : List ℕ) → b ≡ bytes_of all → bytes_of left ≡ q → r ≡ drop (length b - length q) s → IsWalked n s v m r None
+  walk_stops some m chain b q r eb eq er =
+      walked_on n s left v of_longest some m chain r (er ∙ ap (λ (d : List ℕ). drop (length d - length q) s) (eb ∙ ap bytes_of e) ∙ ap (λ (d : List ℕ). drop (length (bytes_of (longest_chain n s)) - length d) s) (sym eq))
+
+  pub walk_ends : left ≡ [] → (m : ℕ) (r : List ℕ) (f g : Option Fault) → m ≡ leads_to n (longest_chain n s) → r ≡ rest_after n s → g ≡ chain_fault n s → f ≡ (if is_taken_in v m then None else g) → IsWalked n s v m r f
+  walk_ends = walked_whole n s left v of_longest
+
+-- what the walk answers is all that the parse needs
+module _ (n : ℕ) (s : List ℕ) (v : Places Ipv6ExtensionSlice) (m : ℕ) (r : List ℕ) (f : Option Fault) (k : IsWalked n s v m r f) where
+  pub walked_numbers : AreOfNumber v
+  walked_numbers = placed_numbers (fitting_chain n s) v k.placed
+
+  pub walked_answer : (w : Ipv6Extensions) (g : Option Fault) → w ≡ value_at v → f ≡ g → IsFittingAnswer n s w m r g
+  walked_answer w g e eg = record { value = e ∙ value_placed (fitting_chain n s) v k.placed; number = k.number; rest = k.rest; fault = sym eg ∙ k.fault }

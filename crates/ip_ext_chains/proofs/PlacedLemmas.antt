@@ -1,0 +1,76 @@
+-- Headers that stand in their places.
+use Rattle.std.proofs.Common.{◌≡◌, ℕ, List, [], refl, ap, sym, ◌∙◌, Bool, true, false}
+use Rattle.std.specs.Prelude.{◌==◌, ◌&&◌, not, Option, Some, None, is_some, IfSome, if◌then◌else◌}
+use Rattle.std.specs.Option.{option_map}
+use Rattle.std.proofs.lemmas.Bool.{eqb-true}
+use Rattle.ip_spec.specs.FieldsOf.{raw_fields, fragment_fields, auth_fields}
+use Rattle.ip_spec.specs.Chain.{ExtHeader}
+use Rattle.ip_spec.specs.Places.{Place, hop_by_hop, destination, routing, fragment, authentication, final_destination, number_in, before_routing_header, after_routing_header, header_in, has_routing, place_of, is_taken, is_filled as chain_filled}
+use Rattle.ip_spec.proofs.FirstLemmas.{find_passes}
+use Rattle.ip_ext_chains.specs.Ipv6ExtensionSlice.{header_of}
+use Rattle.ip_ext_chains.specs.Places.{at, ArePlaced, place_in, is_filled, is_taken_in, raw_at, value_at, AreOfNumber}
+use Rattle.ip_ext_chains.specs.Ipv6Extensions.{raw_in, value_of}
+use Rattle.ip_ext_chains.specs.declared.ipv6_ext_slice.Ipv6ExtensionSlice.{Ipv6ExtensionSlice}
+use Rattle.ip_ext_chains.specs.declared.places.Places.{Places}
+
+pub none_in : (p : Place) → header_in p [] ≡ None
+none_in hop_by_hop = refl
+none_in destination = refl
+none_in routing = refl
+none_in fragment = refl
+none_in authentication = refl
+none_in final_destination = refl
+
+some_map : (o : Option Ipv6ExtensionSlice) → is_some (option_map header_of o) ≡ is_some o
+some_map (Some h) = refl
+some_map None = refl
+
+pub mapped_if : (b : Bool) (h : Ipv6ExtensionSlice) (o : Option Ipv6ExtensionSlice) → option_map header_of (if b then Some h else o) ≡ (if b then Some (header_of h) else option_map header_of o)
+mapped_if true h o = refl
+mapped_if false h o = refl
+
+in_place_number : (p : Place) (c : List ExtHeader) (h : ExtHeader) → header_in p c ≡ Some h → h.number ≡ number_in p
+in_place_number hop_by_hop c h e = eqb-true h.number 0 (find_passes (λ g. g.number == 0) c h e)
+in_place_number destination c h e = eqb-true h.number 60 (find_passes (λ g. g.number == 60) (before_routing_header c) h e)
+in_place_number routing c h e = eqb-true h.number 43 (find_passes (λ g. g.number == 43) c h e)
+in_place_number fragment c h e = eqb-true h.number 44 (find_passes (λ g. g.number == 44) c h e)
+in_place_number authentication c h e = eqb-true h.number 51 (find_passes (λ g. g.number == 51) c h e)
+in_place_number final_destination c h e = eqb-true h.number 60 (find_passes (λ g. g.number == 60) (after_routing_header c) h e)
+
+-- what is filled in the places is filled in the chain
+module _ (c : List ExtHeader) (v : Places Ipv6ExtensionSlice) (k : ArePlaced c v) where
+  pub filled_same : (p : Place) → is_some (at p v) ≡ is_some (header_in p c)
+  filled_same p = sym (some_map (at p v)) ∙ ap is_some (k p)
+
+  pub place_same : (m : ℕ) → place_in v m ≡ place_of m (has_routing c)
+  place_same m = ap (place_of m) (filled_same routing)
+
+  pub none_same : (p : Place) → at p v ≡ None → header_in p c ≡ None
+  none_same p e = sym (k p) ∙ ap (option_map header_of) e
+
+  filled_alike : (o : Option Place) → is_filled o v ≡ chain_filled o c
+  filled_alike (Some p) = filled_same p
+  filled_alike None = refl
+
+  pub taken_same : (m : ℕ) → is_taken_in v m ≡ is_taken m c
+  taken_same m = ap (λ b. not (m == 0) && b) (ap (λ o. is_filled o v) (place_same m) ∙ filled_alike (place_of m (has_routing c)))
+
+  of_number : (p : Place) (o : Option Ipv6ExtensionSlice) → option_map header_of o ≡ header_in p c → IfSome o (λ h. (header_of h).number ≡ number_in p)
+  of_number p (Some h) e = in_place_number p c (header_of h) (sym e)
+  of_number p None e = tt
+
+  pub placed_numbers : AreOfNumber v
+  placed_numbers p = of_number p (at p v) (k p)
+
+  -- what the places hold is the value of the chain
+  map_map : {A : Type 0} (f : ExtHeader → A) (o : Option Ipv6ExtensionSlice) → option_map (λ h. f (header_of h)) o ≡ option_map f (option_map header_of o)
+  map_map f (Some h) = refl
+  map_map f None = refl
+
+  same_at : {A : Type 0} (f : ExtHeader → A) (p : Place) → option_map (λ h. f (header_of h)) (at p v) ≡ option_map f (header_in p c)
+  same_at f p = map_map f (at p v) ∙ ap (option_map f) (k p)
+
+  pub value_placed : value_at v ≡ value_of c
+  value_placed =
+      let raw : (p : Place) → raw_at p v ≡ raw_in p c = same_at (λ h. raw_fields h.bytes) in
+      rw (raw hop_by_hop, raw destination, raw routing, raw final_destination, same_at (λ h. fragment_fields h.bytes) fragment, same_at (λ h. auth_fields h.bytes) authentication) refl

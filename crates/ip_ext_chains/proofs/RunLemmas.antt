@@ -1,0 +1,133 @@
+-- Headers that are put into their places, and where a run ends.
+use Rattle.std.proofs.Common.{◌≡◌, ◌≢◌, ℕ, ◌*◌, ◌≤◌, List, [], ◌∷◌, ◌++◌, length, map, nat_eq, arith, refl, ap, sym, ◌∙◌, Bool, true, false, subst, append_assoc}
+use Rattle.std.specs.Prelude.{◌==◌, ◌↔◌, Option, Some, None, is_some, if◌then◌else◌}
+use Rattle.std.specs.Option.{option_map}
+use Rattle.std.proofs.lemmas.Bool.{eqb-true}
+use Rattle.std.proofs.lemmas.Iterator.{YieldsList}
+use Rattle.std.proofs.lemmas.Iterator.Consumers.{YieldsList-from_shown}
+use Rattle.ip_spec.specs.Chain.{ExtHeader, bytes_of, IsChain}
+use Rattle.ip_spec.specs.Fits.{FitsPlaces, IsTaken}
+use Rattle.ip_spec.specs.Places.{Place, index, header_in, has_routing, place_of, is_taken}
+use Rattle.ip_spec.proofs.FitsLemmas.{fits_places}
+use Rattle.ip_spec.proofs.PlaceLemmas.{placed, fits_more, breaks_more, has_place, taken_told}
+use Rattle.ip_ext_chains.specs.Ipv6ExtensionSlice.{header_of}
+use Rattle.ip_ext_chains.specs.Places.{at, IsVacant, place_in, IsPut, IsFreePlace, is_taken_in, IsFilled, ArePlaced, AreOfNumber, value_at}
+use Rattle.ip_ext_chains.specs.Longest.{longest_chain}
+use Rattle.ip_ext_chains.specs.Runs.{runs_from}
+use Rattle.ip_ext_chains.specs.Ipv6Extensions.{value_of}
+use Rattle.ip_ext_chains.specs.Run.{IsRun}
+use Rattle.ip_ext_chains.specs.Ipv6ExtensionsRuns.{values_left, GivesRun}
+use Rattle.ip_ext_chains.specs.declared.ipv6_exts_runs.Ipv6ExtensionsRuns.{Ipv6ExtensionsRuns}
+use Rattle.ip_ext_chains.specs.declared.ipv6_ext_slice.Ipv6ExtensionSlice.{Ipv6ExtensionSlice}
+use Rattle.ip_ext_chains.specs.declared.ipv6_exts.Ipv6Extensions.{Ipv6Extensions}
+use Rattle.ip_ext_chains.specs.declared.places.Places.{Places}
+use Rattle.ip_ext_chains.proofs.LongestLemmas.{longest_chain-least}
+use Rattle.ip_ext_chains.proofs.RunsOfLemmas.{runs_from-next}
+use Rattle.ip_ext_chains.proofs.FaultLemmas.{number_of}
+use Rattle.ip_ext_chains.proofs.PlacedLemmas.{none_in, mapped_if, filled_same, place_same, none_same, taken_same, value_placed, placed_numbers}
+
+-- of the headers c those before `left` were put into the places
+pub record IsPlacing (c left : List ExtHeader) (v : Places Ipv6ExtensionSlice) : Type 0 where
+  pub run : List ExtHeader
+  pub whole : c ≡ run ++ left
+  pub fits : FitsPlaces run
+  pub placed : ArePlaced run v
+
+pub placing_none : (c : List ExtHeader) (v : Places Ipv6ExtensionSlice) → IsVacant v → IsPlacing c c v
+placing_none c v none = record { run = []; whole = refl; fits = fits_places.empty; placed = λ p. ap (option_map header_of) (none p) ∙ sym (none_in p) }
+
+module _ (c : List ExtHeader) (m : ℕ) (h : ExtHeader) (left : List ExtHeader) (v : Places Ipv6ExtensionSlice) (chain : IsChain m (h ∷ left)) (k : IsPlacing c (h ∷ left) v) where
+  number : m ≡ h.number
+  number = sym chain.links.0
+
+  own_place : (p : Place) → place_in v m ≡ Some p → place_of h.number (has_routing k.run) ≡ Some p
+  own_place p e = ap (λ j. place_of j (has_routing k.run)) (sym number) ∙ sym (place_same k.run v k.placed m) ∙ e
+
+  breaks : (o : Option Place) → place_of h.number (has_routing k.run) ≡ o → IsFilled m v → FitsPlaces (k.run ++ h ∷ []) → ⊥
+  breaks None e f = absurd (let differ : false ≡ true = sym (ap is_some e) ∙ has_place h.number (has_routing k.run) (number_of h.number h.bytes chain.headers.0) in cc)
+  breaks (Some p) e f =
+      breaks_more k.run h p e (sym (filled_same k.run v k.placed p) ∙ f.filled p (place_same k.run v k.placed m ∙ ap (λ j. place_of j (has_routing k.run)) number ∙ e))
+
+  run_full : IsFilled m v → IsRun c v (h ∷ left)
+  run_full f = record {
+    run = k.run;
+    kept = record { rest = h ∷ left; joined = k.whole; meets = k.fits; breaks = breaks (place_of h.number (has_routing k.run)) refl f };
+    left = refl;
+    placed = k.placed;
+  }
+
+-- one header more
+module _ (c : List ExtHeader) (m : ℕ) (h : Ipv6ExtensionSlice) (left : List ExtHeader) (v w : Places Ipv6ExtensionSlice) (p : Place) where
+  placing_more : IsChain m (header_of h ∷ left) → IsPlacing c (header_of h ∷ left) v → IsFreePlace m p v → IsPut p h v w → IsPlacing c left w
+  placing_more chain k f put =
+      let own : place_of (header_of h).number (has_routing k.run) ≡ Some p = own_place c m (header_of h) left v chain k p f.own in
+      let none : header_in p k.run ≡ None = none_same k.run v k.placed p f.free in
+      record {
+        run = k.run ++ header_of h ∷ [];
+        whole = k.whole ∙ sym (append_assoc k.run (header_of h ∷ []) left);
+        fits = fits_more k.run (header_of h) p k.fits own (ap is_some none);
+        placed = λ q.
+            ap (option_map header_of) (put q)
+            ∙ mapped_if (index p == index q) h (at q v)
+            ∙ ap (λ o. if index p == index q then Some (header_of h) else o) (k.placed q)
+            ∙ sym (placed k.run (header_of h) p own none q);
+      }
+
+  pub placing_next : (all : List ExtHeader) → IsChain m all → IsPlacing c all v → all ≡ header_of h ∷ left → IsFreePlace m p v → IsPut p h v w → IsPlacing c left w
+  placing_next all chain k e =
+      let C : List ExtHeader → Type 0 = IsChain m in
+      let K : List ExtHeader → Type 0 = λ l. IsPlacing c l v in
+      placing_more (subst C e chain) (subst K e k)
+
+-- The run ends where no header is left, and where the place of the next one is filled.
+pub run_all : (c left after : List ExtHeader) (v : Places Ipv6ExtensionSlice) → IsPlacing c left v → (left ≡ []) × (after ≡ []) → IsRun c v after
+run_all c [] [] v k e = record { run = k.run; kept = record { rest = []; joined = k.whole; meets = k.fits; breaks = tt }; left = refl; placed = k.placed }
+run_all c [] (h ∷ after) v k e = let none : h ∷ after ≡ [] = e.1 in cc
+run_all c (h ∷ left) after v k e = let none : h ∷ left ≡ [] = e.0 in cc
+
+pub run_ends : (c left : List ExtHeader) (v : Places Ipv6ExtensionSlice) (m : ℕ) → IsChain m left → IsPlacing c left v → IsFilled m v → IsRun c v left
+run_ends c [] v m chain k f = run_all c [] [] v k (refl, refl)
+run_ends c (h ∷ left) v m chain k f = run_full c m h left v chain k f
+
+pub run_numbers : (c d : List ExtHeader) (v : Places Ipv6ExtensionSlice) → IsRun c v d → AreOfNumber v
+run_numbers c d v r = placed_numbers r.run v r.placed
+
+-- whether bytes are left tells whether headers are
+no_headers : (c : List ExtHeader) (s : List ℕ) → 8 * length c ≤ length (bytes_of c) → bytes_of c ≡ s → nat_eq (length s) 0 ≡ true → c ≡ []
+no_headers [] s l e z = refl
+no_headers (h ∷ c) s l e z = absurd (omega (arith, l, ap length e, eqb-true (length s) 0 z))
+
+module _ (n : ℕ) (s : List ℕ) (whole : bytes_of (longest_chain n s) ≡ s) where
+  pub none_left : nat_eq (length s) 0 ≡ true → longest_chain n s ≡ []
+  none_left = no_headers (longest_chain n s) s (longest_chain-least n s) whole
+
+  pub some_left : nat_eq (length s) 0 ≡ false → longest_chain n s ≢ []
+  some_left z e =
+      let none : nat_eq 0 0 ≡ false = ap (λ (b : List ℕ). nat_eq (length b) 0) (ap bytes_of (sym e) ∙ whole) ∙ z in
+      let differ : true ≡ false = none in cc
+
+-- The step of the iterator: the value of the places is that of the first run, and those of the others follow.
+module _ (m : ℕ) (c d : List ExtHeader) (v : Places Ipv6ExtensionSlice) (r : IsRun c v d) where
+  taken_in : is_taken_in v m ≡ true ↔ IsTaken m r.run
+  taken_in =
+      let same : is_taken_in v m ≡ is_taken m r.run = taken_same r.run v r.placed m in
+      let told = taken_told r.run m r.kept.meets in
+      (λ t. told.0 (sym same ∙ t), λ t. same ∙ told.1 t)
+
+  pub run_next : (before done : Bool) (x : Ipv6Extensions) → before ≡ false → x ≡ value_at v → (done ≡ true → (d ≡ []) × (is_taken_in v m ≡ false)) → (done ≡ false → d ≡ [] → is_taken_in v m ≡ true)
+      → map value_of (if before then [] else runs_from m c) ≡ x ∷ map value_of (if done then [] else runs_from m d)
+  run_next before done x some is ends on =
+      let free : done ≡ true → IsTaken m r.run → ⊥ = λ w t. let differ : true ≡ false = sym (taken_in.1 t) ∙ (ends w).1 in cc in
+      ap (λ b. map value_of (if b then [] else runs_from m c)) some
+      ∙ ap (map value_of) (runs_from-next m c r.run r.kept done (λ w. (r.left ∙ (ends w).0, free w)) (λ w e. taken_in.0 (on w (sym r.left ∙ e))))
+      ∙ ap (λ x. x ∷ map value_of (if done then [] else runs_from m r.kept.rest)) (sym (is ∙ value_placed r.run v r.placed))
+      ∙ ap (λ l. x ∷ map value_of (if done then [] else runs_from m l)) r.left
+
+-- what an iterator over runs yields
+ended : (r s : Ipv6ExtensionsRuns) → GivesRun r None s → length (values_left r) ≡ 0
+ended r s e = ap length e.0.0
+
+pub runs_yield : (r : Ipv6ExtensionsRuns) (all : List Ipv6Extensions) → values_left r ≡ all → YieldsList GivesRun (λ x. x) r all
+runs_yield r all e =
+    let Y : List Ipv6Extensions → Type 0 = YieldsList GivesRun (λ x. x) r in
+    subst Y e (YieldsList-from_shown GivesRun (λ x. x) values_left ended (λ s x t g. g.0) r)

@@ -1,0 +1,25 @@
+use Rattle.std.proofs.Common.{◌∙◌, ap, map}
+use Rattle.ip_ext_chains.specs.Ipv6Extensions.{value_of}
+use Rattle.ip_ext_chains.proofs.RunsOfLemmas.{runs_from-are}
+use Rattle.ip_ext_chains.proofs.ipv6_exts_runs.Ipv6ExtensionsRuns.new.Goals as goal
+
+pub returns-clause-runs : goal.returns-clause-runs
+returns-clause-runs c = (runs_from-are _ _ _ _ c.from_slice_lax.ensures.answer.number (c.into_iter.ensures.headers ∙ c.from_slice_lax.ensures.answer.value)).same
+
+pub returns-clause-values : goal.returns-clause-values
+returns-clause-values c = ap (map value_of) (runs_from-are _ _ _ _ c.from_slice_lax.ensures.answer.number (c.into_iter.ensures.headers ∙ c.from_slice_lax.ensures.answer.value)).same
+
+pub returns-clause-cut : goal.returns-clause-cut
+returns-clause-cut c = (runs_from-are _ _ _ _ c.from_slice_lax.ensures.answer.number (c.into_iter.ensures.headers ∙ c.from_slice_lax.ensures.answer.value)).runs
+
+pub returns-clause-only : goal.returns-clause-only
+returns-clause-only c = (runs_from-are _ _ _ _ c.from_slice_lax.ensures.answer.number (c.into_iter.ensures.headers ∙ c.from_slice_lax.ensures.answer.value)).only
+
+pub returns-clause-fewest : goal.returns-clause-fewest
+returns-clause-fewest c = (runs_from-are _ _ _ _ c.from_slice_lax.ensures.answer.number (c.into_iter.ensures.headers ∙ c.from_slice_lax.ensures.answer.value)).fewest
+
+pub returns-clause-least : goal.returns-clause-least
+returns-clause-least c = (runs_from-are _ _ _ _ c.from_slice_lax.ensures.answer.number (c.into_iter.ensures.headers ∙ c.from_slice_lax.ensures.answer.value)).least
+
+pub returns-clause-most : goal.returns-clause-most
+returns-clause-most c = (runs_from-are _ _ _ _ c.from_slice_lax.ensures.answer.number (c.into_iter.ensures.headers ∙ c.from_slice_lax.ensures.answer.value)).most

@@ -1,0 +1,107 @@
+ghost use Rattle.std.specs.Prelude.{◌≡◌, ◌≢◌};
+ghost use Rattle.std.specs.List.{AllByRecursion};
+ghost use Rattle.ip_spec.specs.Chain.{leads_to};
+ghost use Rattle.ip_ext_chains.specs.Longest.{longest_chain, rest_after};
+
+use crate::err::Layer;
+use crate::err::ipv6_exts::HeaderSliceError;
+use crate::run::{is_last, take_run};
+use crate::step::{fault, is_extension};
+use crate::{Ipv6ExtensionSliceIter, Ipv6Extensions, Ipv6ExtensionsSlice};
+use ip_base::IpNumber;
+
+/// The headers of a chain in as few structs of six places as hold them, in order; then `None` for ever.
+#[derive(Debug, Drop)]
+pub struct Ipv6ExtensionsRuns<'a> {
+    first: IpNumber,
+    bytes: &'a [u8],
+    headers: Ipv6ExtensionSliceIter<'a>,
+    number: IpNumber,
+    rest: &'a [u8],
+    done: bool,
+    pub ghost leads: { number.0 ≡ leads_to first.0 (longest_chain first.0 bytes.now) },
+    pub ghost after: { rest.now ≡ rest_after first.0 bytes.now },
+}
+
+impl<'a> Ipv6ExtensionsRuns<'a> {
+    ghost use Rattle.std.specs.Prelude.{ℕ, ◌+◌, ◌/◌, ◌≤◌, List, [], length, map, IfSome, IfNone};
+    ghost use Rattle.ip_spec.specs.Chain.{ExtHeader};
+    ghost use Rattle.ip_spec.specs.Fits.{FitsPlaces};
+    ghost use Rattle.ip_spec.specs.Runs.{AreRuns, joined, how_many};
+    ghost use Rattle.ip_ext_chains.specs.Fault.{chain_fault};
+    ghost use Rattle.ip_ext_chains.specs.Runs.{runs_of};
+    ghost use Rattle.ip_ext_chains.specs.Ipv6Extensions.{value_of};
+    ghost use Rattle.ip_ext_chains.specs.Ipv6ExtensionsRuns.{start, input, runs_left, values_left};
+
+    /// The runs of the longest chain from the number that begins the bytes. There is one at least, and one for
+    /// each 8 bytes and one more at most.
+    pub fn new(first: IpNumber, bytes: &'a [u8]) -> Ipv6ExtensionsRuns<'a>
+        ensures start { start result ≡ first.0 }
+        ensures input { input result ≡ bytes.now }
+        ensures runs { runs_left result ≡ runs_of first.0 bytes.now }
+        ensures values { values_left result ≡ map value_of (runs_of first.0 bytes.now) }
+        ensures cut { AreRuns (leads_to first.0 (longest_chain first.0 bytes.now))
+            (longest_chain first.0 bytes.now) (runs_left result) }
+        ensures only { (ps : List (List ExtHeader))
+            → AreRuns (leads_to first.0 (longest_chain first.0 bytes.now))
+            (longest_chain first.0 bytes.now) ps → ps ≡ runs_left result }
+        ensures fewest { (ps : List (List ExtHeader)) → joined ps ≡ longest_chain first.0 bytes.now
+            → AllByRecursion FitsPlaces ps → how_many (runs_left result) ≤ how_many ps }
+        ensures least { 1 ≤ length (runs_left result) }
+        ensures most { length (runs_left result) ≤ length bytes.now / 8 + 1 }
+    {
+        let (headers, number, rest, _) = Ipv6ExtensionsSlice::from_slice_lax(first, bytes);
+        Ipv6ExtensionsRuns {
+            first,
+            bytes,
+            headers: headers.into_iter(),
+            number,
+            rest,
+            done: false,
+        }
+    }
+
+    /// From the last item on, the number to which the chain leads, the bytes after it and the fault there. The
+    /// offset in a fault counts bytes from the start of those that `new` was given.
+    pub fn end(&self) -> Option<(IpNumber, &'a [u8], Option<(HeaderSliceError, Layer)>)>
+        ensures before { IfNone result (values_left self.now ≢ []) }
+        ensures last { IfSome result (λ _. values_left self.now ≡ []) }
+        ensures number { IfSome result (λ e. e.0.0
+            ≡ leads_to (start self.now) (longest_chain (start self.now) (input self.now))) }
+        ensures rest { IfSome result (λ e. e.1.now
+            ≡ rest_after (start self.now) (input self.now)) }
+        ensures fault { IfSome result (λ e. e.2 ≡ chain_fault (start self.now) (input self.now)) }
+    {
+        if !self.done {
+            return None;
+        }
+        let len = self.bytes.len() - self.rest.len();
+        if is_extension(self.number) {
+            let fault = fault(len == 0, self.number, self.rest, len);
+            return Some((self.number, self.rest, Some(fault)));
+        }
+        Some((self.number, self.rest, None))
+    }
+}
+
+impl<'a> Iterator for Ipv6ExtensionsRuns<'a> {
+    type Item = Ipv6Extensions;
+
+    ghost use Rattle.std.specs.Iterator.{item_count};
+    ghost use Rattle.ip_ext_chains.specs.Ipv6ExtensionsRuns.{values_left, GivesRun};
+
+    ghost next_gives = { GivesRun };
+
+    ghost remaining = { item_count values_left };
+
+    fn next(&mut self) -> Option<Ipv6Extensions> {
+        if self.done {
+            return None;
+        }
+        let places = take_run(&mut self.headers);
+        self.done = is_last(&self.headers, &places, self.number);
+        let mut exts = Ipv6Extensions::default();
+        exts.fill(&places);
+        Some(exts)
+    }
+}

@@ -1,0 +1,42 @@
+ghost use Rattle.std.specs.Prelude.{◌≡◌, [], true, false, IsTrue, IsFalse};
+ghost use Rattle.ip_ext_chains.specs.Ipv6ExtensionSliceIter.{headers_left};
+ghost use Rattle.ip_ext_chains.specs.Places.{is_taken_in};
+ghost use Rattle.ip_ext_chains.specs.Run.{IsRun};
+
+use crate::places::Places;
+use crate::{Ipv6ExtensionSlice, Ipv6ExtensionSliceIter};
+use ip_base::IpNumber;
+
+/// Puts headers into their places until the place of the next is filled, or none is left.
+#[inline(always)]
+pub(crate) fn take_run<'a>(
+    headers: &mut Ipv6ExtensionSliceIter<'a>,
+) -> Places<Ipv6ExtensionSlice<'a>>
+    ensures { IsRun (headers_left headers.old) result (headers_left headers.new) }
+{
+    let mut places = Places::new();
+    'headers: loop {
+        let Some(place) = places.free_place(headers.next_header) else {
+            return places;
+        };
+        let Some(header) = headers.next() else {
+            return places;
+        };
+        places.put(place, header);
+    }
+}
+
+/// Whether the run in the places is the last: no header is left, and the number at the end isn't taken.
+#[inline(always)]
+pub(crate) fn is_last(
+    headers: &Ipv6ExtensionSliceIter<'_>,
+    places: &Places<Ipv6ExtensionSlice<'_>>,
+    number: IpNumber,
+) -> bool
+    ensures last { IsTrue result → (headers_left headers.now ≡ [])
+        × (is_taken_in places.now number.0 ≡ false) }
+    ensures more { IsFalse result → headers_left headers.now ≡ []
+        → is_taken_in places.now number.0 ≡ true }
+{
+    headers.rest.is_empty() && !places.is_taken(number)
+}

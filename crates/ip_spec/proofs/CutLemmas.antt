@@ -1,0 +1,125 @@
+-- Lists cut into pieces under a demand: there is one cut, only one, and none has fewer pieces.
+use Rattle.std.proofs.Common.{◌≡◌, ◌≢◌, ℕ, zero, suc, ◌≤◌, List, [], ◌∷◌, ◌++◌, length, refl, ap, sym, ◌∙◌, arith, subst, append_assoc}
+use Rattle.std.specs.List.{AllByRecursion}
+use Rattle.std.proofs.lemmas.List.{append-nil, append_cancel_left, length-append}
+use Rattle.std.proofs.lemmas.List.Concat.{flat_map-append}
+use Rattle.ip_spec.specs.Demand.{IsDemand, NextBreaks, KeepsBeginning}
+use Rattle.ip_spec.specs.Runs.{joined, how_many, IsCut}
+use Rattle.ip_spec.proofs.LongestOfLemmas.{compare, within, beyond}
+use Rattle.ip_spec.proofs.DemandLemmas.{Begins, beginnings_grow, some_kept, one_kept, kept_bounds}
+
+-- a demand under which lists can be cut: what is left of a list that meets it, where a beginning is taken off,
+-- meets it too, and so does each single element
+pub record Cuts {X : Type 0} (Q : List X → Type 0) : Type 0 where
+  pub demand : IsDemand Q
+  pub behind : (c d : List X) → Q (c ++ d) → Q d
+  pub one : (x : X) → Q (x ∷ [])
+
+some_element : {X : Type 0} (p : List X) → p ≢ [] → 1 ≤ length p
+some_element [] e = absurd (e refl)
+some_element (x ∷ p) e = omega arith
+
+how_many-least : {X : Type 0} (p : List X) (ps : List (List X)) → how_many ps ≤ how_many (p ∷ ps)
+how_many-least [] ps = omega arith
+how_many-least (x ∷ p) ps = omega arith
+
+how_many-beyond : {X : Type 0} (p : List X) (x : X) (q : List X) (ps : List (List X)) → how_many ((p ++ x ∷ q) ∷ ps) ≡ suc (how_many ps)
+how_many-beyond [] x q ps = refl
+how_many-beyond (y ∷ p) x q ps = refl
+
+-- where all pieces have elements
+pub how_many-filled : {X : Type 0} (ps : List (List X)) → AllByRecursion (λ p. p ≢ []) ps → how_many ps ≡ length ps
+how_many-filled [] a = refl
+how_many-filled ([] ∷ ps) a = absurd (a.0 refl)
+how_many-filled ((x ∷ p) ∷ ps) a = ap suc (how_many-filled ps a.1)
+
+-- an empty piece more
+pub how_many-more : {X : Type 0} (ps : List (List X)) → how_many (ps ++ [] ∷ []) ≡ how_many ps
+how_many-more [] = refl
+how_many-more ([] ∷ ps) = how_many-more ps
+how_many-more ((x ∷ p) ∷ ps) = ap suc (how_many-more ps)
+
+pub joined-more : {X : Type 0} (ps : List (List X)) → joined (ps ++ [] ∷ []) ≡ joined ps
+joined-more ps = flat_map-append (λ p. p) ps ([] ∷ []) ∙ append-nil (joined ps)
+
+module _ {X : Type 0} (Q : List X → Type 0) (q : Cuts Q) where
+  none_kept : (d rest : List X) → d ≡ rest → NextBreaks Q [] rest → d ≡ []
+  none_kept d [] e breaks = e
+  none_kept d (x ∷ rest) e breaks = absurd (breaks (q.one x))
+
+  -- of some elements some are kept
+  pub some_are_kept : (d p : List X) → d ≢ [] → KeepsBeginning Q d p → p ≢ []
+  some_are_kept d [] e k = λ w. e (none_kept d k.rest k.joined k.breaks)
+  some_are_kept d (x ∷ p) e k = λ w. cc
+
+  -- what is kept is the first piece, and the pieces of the rest follow
+  pub cut_more : (d p : List X) (ps : List (List X)) → p ≢ [] → (k : KeepsBeginning Q d p) → IsCut Q k.rest ps → IsCut Q d (p ∷ ps)
+  cut_more d p ps e k c =
+      let B : List X → Type 0 = NextBreaks Q p in
+      record {
+        whole = ap (λ l. p ++ l) c.whole ∙ sym k.joined;
+        filled = (e, c.filled);
+        meets = (k.meets, c.meets);
+        breaks = (subst B (sym c.whole) k.breaks, c.breaks);
+      }
+
+  pub first_kept : (d p : List X) (ps : List (List X)) → IsCut Q d (p ∷ ps) → KeepsBeginning Q d p
+  first_kept d p ps c = record { rest = joined ps; joined = sym c.whole; meets = c.meets.0; breaks = c.breaks.0 }
+
+  pub rest_cut : (d p : List X) (ps : List (List X)) → IsCut Q d (p ∷ ps) → IsCut Q (joined ps) ps
+  rest_cut d p ps c = record { whole = refl; filled = c.filled.1; meets = c.meets.1; breaks = c.breaks.1 }
+
+  pub no_cut : IsCut Q [] []
+  no_cut = record { whole = refl; filled = tt; meets = tt; breaks = tt }
+
+  cut_within : (k : ℕ) (d : List X) → length d ≤ k → (ps : List (List X)) × IsCut Q d ps
+  cut_within k [] l = ([], no_cut)
+  cut_within zero (x ∷ d) l = absurd (omega arith)
+  cut_within (suc k) (x ∷ d) l =
+      let kept = some_kept Q q.demand (x ∷ d) in
+      let first : kept.0 ≢ [] = some_are_kept (x ∷ d) kept.0 (λ e. cc) kept.1 in
+      let less : length kept.1.rest ≤ k = omega (arith, ap length kept.1.joined, length-append kept.0 kept.1.rest, some_element kept.0 first) in
+      let more = cut_within k kept.1.rest less in
+      (kept.0 ∷ more.0, cut_more (x ∷ d) kept.0 more.0 first kept.1 more.1)
+
+  pub some_cut : (d : List X) → (ps : List (List X)) × IsCut Q d ps
+  some_cut d = cut_within (length d) d (omega arith)
+
+  -- at most one piece for each element
+  pub cut_count : (ps : List (List X)) (d : List X) → IsCut Q d ps → length ps ≤ length d
+  cut_count [] d c = omega arith
+  cut_count (p ∷ ps) d c = omega (arith, cut_count ps (joined ps) (rest_cut d p ps c), some_element p c.filled.0, ap length c.whole, length-append p (joined ps))
+
+  pub cut_of_none : (ps : List (List X)) (d : List X) → length d ≡ 0 → IsCut Q d ps → ps ≡ []
+  cut_of_none [] d e c = refl
+  cut_of_none (p ∷ ps) d e c = absurd (omega (arith, cut_count (p ∷ ps) d c))
+
+  pub one_cut : (ps qs : List (List X)) (d : List X) → IsCut Q d ps → IsCut Q d qs → ps ≡ qs
+  one_cut [] qs d a b = sym (cut_of_none qs d (ap length (sym a.whole)) b)
+  one_cut (p ∷ ps) [] d a b = cut_of_none (p ∷ ps) d (ap length (sym b.whole)) a
+  one_cut (p ∷ ps) (r ∷ qs) d a b =
+      let same : p ≡ r = one_kept d Q q.demand p r (first_kept d p ps a) (first_kept d r qs b) in
+      let rest : joined ps ≡ joined qs = append_cancel_left p (joined ps) (joined qs) (a.whole ∙ sym b.whole ∙ ap (λ l. l ++ joined qs) (sym same)) in
+      let C : List X → Type 0 = λ l. IsCut Q l ps in
+      ap (λ l. l ∷ ps) same ∙ ap (λ l. r ∷ l) (one_cut ps qs (joined qs) (subst C rest (rest_cut d p ps a)) (rest_cut d r qs b))
+
+  -- Where d is a back of what pieces join to that meet the demand, its cut has no more pieces than those are.
+  pub fewest : (rs : List (List X)) (x d : List X) (ps : List (List X)) → x ++ d ≡ joined rs → AllByRecursion Q rs → IsCut Q d ps → length ps ≤ how_many rs
+  fewest [] x d ps e a c = omega (arith, cut_count ps d c, ap length e, length-append x d)
+  fewest (r ∷ rs) x d [] e a c = omega arith
+  fewest (r ∷ rs) x d (p ∷ ps) e a c = elim (compare (Begins (r ++ joined rs)) (beginnings_grow (r ++ joined rs)) x r (d, sym e) (joined rs, refl)) [
+    | within more w ↦
+        let rest : more ++ d ≡ joined rs = append_cancel_left r (more ++ d) (joined rs) (sym (append_assoc r more d) ∙ ap (λ l. l ++ d) (sym w) ∙ e) in
+        omega (arith, fewest rs more d (p ∷ ps) rest a.1 c, how_many-least r rs)
+    | beyond y more w ↦
+        let z : List X = y ∷ more in
+        let back : d ≡ z ++ joined rs = append_cancel_left x d (z ++ joined rs) (e ∙ ap (λ l. l ++ joined rs) w ∙ append_assoc x z (joined rs)) in
+        let shorter : length z ≤ length p = kept_bounds d Q q.demand p z (joined rs) (first_kept d p ps c) back (q.behind x z (subst Q w a.0)) in
+        let count : how_many (r ∷ rs) ≡ suc (how_many rs) = ap (λ l. how_many (l ∷ rs)) w ∙ how_many-beyond x y more rs in
+        elim (compare (Begins d) (beginnings_grow d) p z (joined ps, sym c.whole) (joined rs, back)) [
+          | beyond v t u ↦ absurd (omega (arith, shorter, ap length u, length-append p (v ∷ t)))
+          | within t u ↦
+              let rest : t ++ joined ps ≡ joined rs = append_cancel_left z (t ++ joined ps) (joined rs) (sym (append_assoc z t (joined ps)) ∙ ap (λ l. l ++ joined ps) (sym u) ∙ c.whole ∙ back) in
+              omega (arith, fewest rs t (joined ps) ps rest a.1 (rest_cut d p ps c), count)
+        ]
+  ]

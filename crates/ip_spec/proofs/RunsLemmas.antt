@@ -1,0 +1,337 @@
+-- The runs of a chain: what the demand of six places cuts it into.
+use Rattle.std.proofs.Common.{◌≡◌, ◌≢◌, ℕ, ◌+◌, ◌/◌, ◌≤◌, List, [], ◌∷◌, ◌++◌, length, drop, refl, ap, sym, ◌∙◌, arith, inl, inr, ◌⊎◌, subst, true, false}
+use Rattle.std.specs.List.{flat_map, AllByRecursion}
+use Rattle.std.proofs.Math.Seq.{take-length}
+use Rattle.std.proofs.lemmas.List.{append-nil, length-append, map-append}
+use Rattle.std.proofs.lemmas.List.Concat.{flat_map-append}
+use Rattle.ip_spec.specs.Prefix.{IsPrefix}
+use Rattle.ip_spec.specs.Header.{IsHeader}
+use Rattle.ip_spec.specs.Fields.{next_header}
+use Rattle.ip_spec.specs.Chain.{ExtHeader, leads_to, bytes_of, is_empty, IsChain, IsPrefixChain, IsLongestChain, IsEnd}
+use Rattle.ip_spec.specs.Demand.{KeepsBeginning, NextBreaks, IsLongestUnder}
+use Rattle.ip_spec.specs.Fits.{numbers_of, NumbersFit, FitsPlaces, IsTaken}
+use Rattle.ip_spec.specs.Cleared.{cleared_header}
+use Rattle.ip_spec.specs.Encoded.{cleared_chain}
+use Rattle.ip_spec.specs.Runs.{joined, how_many, last_piece, IsCut, AreRuns, none, cut, one_more, AreChains, AreLongestFitting}
+use Rattle.ip_spec.proofs.HeaderLemmas.{eq_or}
+use Rattle.ip_spec.proofs.PrefixLemmas.{prefix_second, rest_join, prefix-length}
+use Rattle.ip_spec.proofs.LongestOfLemmas.{begins_first}
+use Rattle.ip_spec.proofs.StepLemmas.{begins, next_of, chains_grow, tail_chain, bytes_of-least}
+use Rattle.ip_spec.proofs.UnderLemmas.{one_longest_under, kept_is_longest}
+use Rattle.ip_spec.proofs.ChainLemmas.{longest_at_end, longest_ends}
+use Rattle.ip_spec.proofs.DemandLemmas.{some_kept}
+use Rattle.ip_spec.proofs.FitsLemmas.{numbers_fit, fits_places, fits_behind, one_number_fits}
+use Rattle.ip_spec.proofs.CutLemmas.{Cuts, how_many-filled, how_many-more, joined-more, cut_more, no_cut, some_cut, one_cut, cut_count, cut_of_none, fewest, some_are_kept}
+
+abbrev Pieces : Type 0
+Pieces = List (List ExtHeader)
+
+pub cuts_places : Cuts FitsPlaces
+cuts_places = record {
+  demand = fits_places;
+  behind = λ c d f. fits_behind (numbers_of c) (numbers_of d) (subst NumbersFit (map-append (λ h. h.number) c d) f);
+  one = λ h. one_number_fits h.number;
+}
+
+taken_or : (m : ℕ) (c : List ExtHeader) → IsTaken m c ⊎ (IsTaken m c → ⊥)
+taken_or m c = elim (eq_or m 0) [
+  | inl z ↦ inr (λ t. t.0 z)
+  | inr nz ↦ elim (numbers_fit.decided (numbers_of c ++ m ∷ [])) [ inl f ↦ inr (λ t. t.1 f) | inr breaks ↦ inl (nz, breaks) ]
+]
+
+pub none_taken : (m : ℕ) → IsTaken m [] → ⊥
+none_taken m t = t.1 (one_number_fits m)
+
+some_or_none : (c : List ExtHeader) → (c ≡ []) ⊎ (c ≢ [])
+some_or_none [] = inl refl
+some_or_none (h ∷ c) = inr (λ e. cc)
+
+-- The step: what is kept of a chain is its first run, and the runs of the rest follow, where there is a rest or
+-- the number is taken.
+module _ (m : ℕ) (c : List ExtHeader) where
+  last_more : (p : List ExtHeader) (ps : Pieces) → ps ≢ [] → last_piece (p ∷ ps) ≡ last_piece ps
+  last_more p [] e = absurd (e refl)
+  last_more p (r ∷ ps) e = refl
+
+  no_pieces : (ps : Pieces) (d : List ExtHeader) → d ≢ [] → IsCut FitsPlaces d ps → ps ≢ []
+  no_pieces ps d e k = λ w. e (sym k.whole ∙ ap joined w)
+
+  last_taken : (ps : Pieces) → IsTaken m (last_piece ps) → ps ≢ []
+  last_taken ps t = let T : Pieces → Type 0 = λ l. IsTaken m (last_piece l) in λ w. none_taken m (subst T w t)
+
+  module _ (p : List ExtHeader) (k : KeepsBeginning FitsPlaces c p) (on : k.rest ≡ [] → IsTaken m p) where
+    none_left : p ≡ [] → c ≡ []
+    none_left e = elim (some_or_none c) [ inl w ↦ w | inr s ↦ absurd (some_are_kept FitsPlaces cuts_places c p s k e) ]
+
+    first_filled : p ≢ []
+    first_filled e =
+        let T : List ExtHeader → Type 0 = IsTaken m in
+        let rest : k.rest ≡ [] = sym (ap (λ l. l ++ k.rest) e) ∙ sym k.joined ∙ none_left e in
+        none_taken m (subst T e (on rest))
+
+    some_left : c ≢ []
+    some_left e = omega (arith, ap length e, ap length k.joined, length-append p k.rest, some_number p first_filled)
+      where
+        some_number : (l : List ExtHeader) → l ≢ [] → 1 ≤ length l
+        some_number [] w = absurd (w refl)
+        some_number (h ∷ l) w = omega arith
+
+    pub runs_more : (ps : Pieces) → AreRuns m k.rest ps → AreRuns m c (p ∷ ps)
+    runs_more ps r = elim r [
+      | none e w ↦
+          let C : List ExtHeader → Type 0 = λ l. IsCut FitsPlaces l [] in
+          one_more (p ∷ []) (cut_more FitsPlaces cuts_places c p [] first_filled k (subst C (sym e) (no_cut FitsPlaces cuts_places))) (on e) (ap (λ l. p ∷ l) w)
+      | cut s i free ↦
+          let T : List ExtHeader → Type 0 = IsTaken m in
+          cut some_left (cut_more FitsPlaces cuts_places c p ps first_filled k i) (λ t. free (subst T (last_more p ps (no_pieces ps k.rest s i)) t))
+      | one_more qs i t w ↦
+          let T : List ExtHeader → Type 0 = IsTaken m in
+          one_more (p ∷ qs) (cut_more FitsPlaces cuts_places c p qs first_filled k i) (subst T (sym (last_more p qs (last_taken qs t))) t) (ap (λ l. p ∷ l) w)
+    ]
+
+  pub runs_end : FitsPlaces c → (IsTaken m c → ⊥) → AreRuns m c (c ∷ [])
+  runs_end f free = elim (some_or_none c) [
+    | inl e ↦ none e (ap (λ l. l ∷ []) e)
+    | inr s ↦ cut s (record { whole = append-nil c; filled = (s, tt); meets = (f, tt); breaks = (tt, tt) }) free
+  ]
+
+-- There is one list of runs, and no other.
+pub some_runs : (m : ℕ) (c : List ExtHeader) → (ps : Pieces) × AreRuns m c ps
+some_runs m c = elim (some_or_none c) [
+  | inl e ↦ ([] ∷ [], none e refl)
+  | inr s ↦
+      let k = some_cut FitsPlaces cuts_places c in
+      elim (taken_or m (last_piece k.0)) [
+        | inl t ↦ (k.0 ++ [] ∷ [], one_more k.0 k.1 t refl)
+        | inr free ↦ (k.0, cut s k.1 free)
+      ]
+]
+
+bytes_of-append : (c d : List ExtHeader) → bytes_of (c ++ d) ≡ bytes_of c ++ bytes_of d
+bytes_of-append c d = flat_map-append (λ h. h.bytes) c d
+
+written_joined : (ps : Pieces) → flat_map (λ p. bytes_of (cleared_chain p)) ps ≡ bytes_of (cleared_chain (joined ps))
+written_joined [] = refl
+written_joined (p ∷ ps) =
+    ap (λ b. bytes_of (cleared_chain p) ++ b) (written_joined ps)
+    ∙ sym (bytes_of-append (cleared_chain p) (cleared_chain (joined ps)))
+    ∙ ap bytes_of (sym (map-append (λ h. record { number = h.number; bytes = cleared_header h.number h.bytes }) p (joined ps)))
+
+module _ (m : ℕ) (c : List ExtHeader) where
+  the_cut : (ps qs : Pieces) → IsCut FitsPlaces c ps → IsCut FitsPlaces c qs → ps ≡ qs
+  the_cut ps qs = one_cut FitsPlaces cuts_places ps qs c
+
+  empty_none : (ps : Pieces) → c ≡ [] → IsCut FitsPlaces c ps → IsTaken m (last_piece ps) → ⊥
+  empty_none ps e k t =
+      let T : Pieces → Type 0 = λ l. IsTaken m (last_piece l) in
+      none_taken m (subst T (cut_of_none FitsPlaces cuts_places ps c (ap length e) k) t)
+
+  ends_free : (ps qs : Pieces) → IsCut FitsPlaces c ps → (IsTaken m (last_piece ps) → ⊥) → IsCut FitsPlaces c qs → IsTaken m (last_piece qs) → ⊥
+  ends_free ps qs i free k t = let T : Pieces → Type 0 = λ l. IsTaken m (last_piece l) in free (subst T (the_cut qs ps k i) t)
+
+  pub one_runs : (ps qs : Pieces) → AreRuns m c ps → AreRuns m c qs → ps ≡ qs
+  one_runs ps qs a b = elim a [
+    | none e w ↦ elim b [
+      | none e' w' ↦ w ∙ sym w'
+      | cut s i free ↦ absurd (s e)
+      | one_more rs i t w' ↦ absurd (empty_none rs e i t)
+    ]
+    | cut s i free ↦ elim b [
+      | none e w ↦ absurd (s e)
+      | cut s' k free' ↦ the_cut ps qs i k
+      | one_more rs k t w ↦ absurd (ends_free ps rs i free k t)
+    ]
+    | one_more rs i t w ↦ elim b [
+      | none e w' ↦ absurd (empty_none rs e i t)
+      | cut s k free ↦ absurd (ends_free qs rs k free i t)
+      | one_more rs' k t' w' ↦ w ∙ ap (λ l. l ++ [] ∷ []) (the_cut rs rs' i k) ∙ sym w'
+    ]
+  ]
+
+  -- no header is lost
+  pub runs_joined : (ps : Pieces) → AreRuns m c ps → joined ps ≡ c
+  runs_joined ps a = elim a [
+    | none e w ↦ ap joined w ∙ sym e
+    | cut s i free ↦ i.whole
+    | one_more rs i t w ↦ ap joined w ∙ joined-more rs ∙ i.whole
+  ]
+
+  pub runs_written : (ps : Pieces) → AreRuns m c ps → flat_map (λ p. bytes_of (cleared_chain p)) ps ≡ bytes_of (cleared_chain c)
+  runs_written ps a = written_joined ps ∙ ap (λ d. bytes_of (cleared_chain d)) (runs_joined ps a)
+
+  -- no cut into pieces that fit has fewer that aren't empty
+  pub fewest_runs : (ps rs : Pieces) → AreRuns m c ps → joined rs ≡ c → AllByRecursion FitsPlaces rs → how_many ps ≤ how_many rs
+  fewest_runs ps rs a e f =
+      let few : (qs : Pieces) → IsCut FitsPlaces c qs → how_many qs ≤ how_many rs = λ qs i. omega (arith, fewest FitsPlaces cuts_places rs [] c qs (sym e) f i, how_many-filled qs i.filled) in
+      elim a [
+        | none w i ↦ omega (arith, ap how_many i)
+        | cut s i free ↦ few ps i
+        | one_more qs i t w ↦ omega (arith, few qs i, ap how_many w, how_many-more qs)
+      ]
+
+  -- there is one run at least, and one for each header and one more at most
+  pub some_run : (ps : Pieces) → AreRuns m c ps → 1 ≤ length ps
+  some_run [] a = elim a [
+    | none e w ↦ omega (arith, ap length w)
+    | cut s i free ↦ absurd (s (sym i.whole))
+    | one_more qs i t w ↦ omega (arith, ap length w, length-append qs ([] ∷ []))
+  ]
+  some_run (p ∷ ps) a = omega arith
+
+  pub count_runs : (ps : Pieces) → AreRuns m c ps → length ps ≤ length c + 1
+  count_runs ps a = elim a [
+    | none e w ↦ omega (arith, ap length w)
+    | cut s i free ↦ omega (arith, cut_count FitsPlaces cuts_places ps c i)
+    | one_more qs i t w ↦ omega (arith, ap length w, length-append qs ([] ∷ []), cut_count FitsPlaces cuts_places qs c i)
+  ]
+
+pub runs_bound : (n : ℕ) (s : List ℕ) (c : List ExtHeader) (m : ℕ) (ps : Pieces) → IsPrefixChain n s c → AreRuns m c ps → length ps ≤ length s / 8 + 1
+runs_bound n s c m ps q a = omega (arith, count_runs m c ps a, bytes_of-least c q.chain.headers, prefix-length (bytes_of c) s q.prefix)
+
+-- The runs as steps: they end with what is left, or go on behind what is kept of it.
+pub data RunsStep (m : ℕ) (c : List ExtHeader) (ps : Pieces) : Type 0 where
+  ends : FitsPlaces c → (IsTaken m c → ⊥) → ps ≡ c ∷ [] → RunsStep m c ps
+  goes : (p : List ExtHeader) (k : KeepsBeginning FitsPlaces c p) → (k.rest ≡ [] → IsTaken m p) → (rs : Pieces) → AreRuns m k.rest rs → ps ≡ p ∷ rs → RunsStep m c ps
+
+runs_step_at : (m : ℕ) (c p rest : List ExtHeader) (ps : Pieces) → c ≡ p ++ rest → FitsPlaces p → NextBreaks FitsPlaces p rest → AreRuns m c ps → RunsStep m c ps
+runs_step_at m c p [] ps e f b a =
+    let F : List ExtHeader → Type 0 = FitsPlaces in
+    let T : List ExtHeader → Type 0 = IsTaken m in
+    let same : c ≡ p = e ∙ append-nil p in
+    elim (taken_or m p) [
+      | inl t ↦
+          let k : KeepsBeginning FitsPlaces c p = record { rest = []; joined = e; meets = f; breaks = tt } in
+          goes p k (λ w. t) ([] ∷ []) (none refl refl) (one_runs m c ps (p ∷ [] ∷ []) a (runs_more m c p k (λ w. t) ([] ∷ []) (none refl refl)))
+      | inr free ↦
+          let fits : FitsPlaces c = subst F (sym same) f in
+          let not_taken : IsTaken m c → ⊥ = λ t. free (subst T same t) in
+          ends fits not_taken (one_runs m c ps (c ∷ []) a (runs_end m c fits not_taken))
+    ]
+runs_step_at m c p (h ∷ rest) ps e f b a =
+    let k : KeepsBeginning FitsPlaces c p = record { rest = h ∷ rest; joined = e; meets = f; breaks = b } in
+    let on : h ∷ rest ≡ [] → IsTaken m p = λ w. absurd (let differ : 1 + length rest ≡ 0 = omega (arith, ap length w) in omega (arith, differ)) in
+    let more = some_runs m (h ∷ rest) in
+    goes p k on more.0 more.1 (one_runs m c ps (p ∷ more.0) a (runs_more m c p k on more.0 more.1))
+
+pub runs_step : (m : ℕ) (c : List ExtHeader) (ps : Pieces) → AreRuns m c ps → RunsStep m c ps
+runs_step m c ps a = let k = some_kept FitsPlaces fits_places c in runs_step_at m c k.0 k.1.rest ps k.1.joined k.1.meets k.1.breaks a
+
+-- Each run is a chain, from the number to which the one before leads.
+pub chain_behind : (n : ℕ) (c d : List ExtHeader) → IsChain n (c ++ d) → IsChain (leads_to n c) d
+chain_behind n [] d k = k
+chain_behind n (h ∷ c) d k = chain_behind (next_header h.bytes) c d (tail_chain n h (c ++ d) k)
+
+pub chain_begins : (n : ℕ) (c d : List ExtHeader) → IsChain n (c ++ d) → IsChain n c
+chain_begins n c d k = (begins n (bytes_of (c ++ d)) c d (record { chain = k; prefix = take-length (bytes_of (c ++ d)) })).chain
+
+chains_joined : (n : ℕ) (ps : Pieces) → IsChain n (joined ps) → AreChains n ps
+chains_joined n [] k = tt
+chains_joined n (p ∷ ps) k = (chain_begins n p (joined ps) k, chains_joined (leads_to n p) ps (chain_behind n p (joined ps) k))
+
+pub runs_chains : (n m : ℕ) (c : List ExtHeader) (ps : Pieces) → IsChain n c → AreRuns m c ps → AreChains n ps
+runs_chains n m c ps k a = let C : List ExtHeader → Type 0 = IsChain n in chains_joined n ps (subst C (sym (runs_joined m c ps a)) k)
+
+-- Behind a beginning of the longest chain, the rest of it is the longest from there on.
+pub leads_to-append : (n : ℕ) (c d : List ExtHeader) → leads_to n (c ++ d) ≡ leads_to (leads_to n c) d
+leads_to-append n [] d = refl
+leads_to-append n (h ∷ c) d = leads_to-append (next_header h.bytes) c d
+
+module _ (n : ℕ) (s : List ℕ) (p : List ExtHeader) where
+  abbrev number : ℕ
+  number = leads_to n p
+
+  abbrev rest : List ℕ
+  rest = drop (length (bytes_of p)) s
+
+  zero_behind : (c : List ExtHeader) → (c ≡ [] → number ≢ 0) → (leads_to number c ≡ 0 → is_empty c ≡ true) → leads_to number c ≡ 0 → ⊥
+  zero_behind [] nz first z = nz refl z
+  zero_behind (h ∷ c) nz first z = let differ : false ≡ true = first z in cc
+
+  rest_prefix : (c : List ExtHeader) → IsPrefixChain n s (p ++ c) → IsPrefixChain number rest c
+  rest_prefix c q =
+      let F : List ℕ → Type 0 = λ b. IsPrefix b s in
+      record { chain = chain_behind n p c q.chain; prefix = prefix_second (bytes_of p) (bytes_of c) s (subst F (bytes_of-append p c) q.prefix) }
+
+  rest_ends : (c : List ExtHeader) → (c ≡ [] → number ≢ 0) → IsLongestChain n s (p ++ c) → IsEnd (is_empty c) (leads_to number c) (drop (length (bytes_of c)) rest)
+  rest_ends c nz l h x =
+      let H : ℕ → Type 0 = λ m. IsHeader m h.bytes in
+      let F : List ℕ → Type 0 = IsPrefix h.bytes in
+      let same : leads_to number c ≡ leads_to n (p ++ c) = sym (leads_to-append n p c) in
+      let first : IsPrefix (bytes_of p) s = (begins n s p c l.has).prefix in
+      let left : drop (length (bytes_of c)) rest ≡ drop (length (bytes_of (p ++ c))) s =
+      rest_join (bytes_of p) (bytes_of c) s first (rest_prefix c l.has).prefix ∙ ap (λ (b : List ℕ). drop (length b) s) (sym (bytes_of-append p c)) in
+      longest_ends n s (p ++ c) l h (record {
+        number = x.number ∙ same;
+        header = subst H same x.header;
+        prefix = subst F left x.prefix;
+        zero_only_first = λ z. absurd (zero_behind c nz x.zero_only_first (same ∙ z));
+      })
+
+  pub rest_longest : (c : List ExtHeader) → (c ≡ [] → number ≢ 0) → IsLongestChain n s (p ++ c) → IsLongestChain number rest c
+  rest_longest c nz l = longest_at_end number rest c (rest_prefix c l.has) (rest_ends c nz l)
+
+-- So the runs are the longest chains that fit, one behind the other.
+not_first : (p : List ExtHeader) → p ≢ [] → is_empty p ≡ true → ⊥
+not_first [] e w = e refl
+not_first (h ∷ p) e w = let differ : false ≡ true = w in cc
+
+pub next_taken : (n : ℕ) (s : List ℕ) (p rest : List ExtHeader) → p ≢ [] → IsPrefixChain n s (p ++ rest) → NextBreaks FitsPlaces p rest → (rest ≡ [] → IsTaken (leads_to n p) p) → IsTaken (leads_to n p) p
+next_taken n s p [] e q b on = on refl
+next_taken n s p (h ∷ rest) e q b on =
+    let N : List ℕ → Type 0 = NumbersFit in
+    let x = next_of n s p h (begins_first (IsPrefixChain n s) (chains_grow n s) p h rest q) in
+    let same : numbers_of p ++ leads_to n p ∷ [] ≡ numbers_of (p ++ h ∷ []) = ap (λ m. numbers_of p ++ m ∷ []) (sym x.number) ∙ sym (map-append (λ g. g.number) p (h ∷ [])) in
+    (λ z. not_first p e (x.zero_only_first z), λ f. b (subst N same f))
+
+fitting_more : (n : ℕ) (s : List ℕ) (p : List ExtHeader) (ps : Pieces) → IsLongestUnder FitsPlaces n s p → IsTaken (leads_to n p) p → AreLongestFitting (leads_to n p) (drop (length (bytes_of p)) s) ps → AreLongestFitting n s (p ∷ ps)
+fitting_more n s p [] l t f = absurd f
+fitting_more n s p (q ∷ ps) l t f = (l, t, f)
+
+pub runs_longest_fitting : (ps : Pieces) (n : ℕ) (s : List ℕ) (c : List ExtHeader) → IsLongestChain n s c → AreRuns (leads_to n c) c ps → AreLongestFitting n s ps
+runs_longest_fitting [] n s c l a = absurd (omega (arith, some_run (leads_to n c) c [] a))
+runs_longest_fitting (p ∷ ps) n s c l a = elim (runs_step (leads_to n c) c (p ∷ ps) a) [
+  | ends f free e ↦
+      let A : Pieces → Type 0 = AreLongestFitting n s in
+      let k : KeepsBeginning FitsPlaces c c = record { rest = []; joined = sym (append-nil c); meets = f; breaks = tt } in
+      subst A (sym e) (kept_is_longest FitsPlaces fits_places n s c c l k, free)
+  | goes r k on rs b e ↦
+      let same : p ≡ r = cc in
+      let others : rs ≡ ps = cc in
+      let A : List ExtHeader → Type 0 = λ q. AreLongestFitting n s (q ∷ ps) in
+      let L : List ExtHeader → Type 0 = IsLongestChain n s in
+      let R : ℕ → Type 0 = λ m. AreRuns m k.rest rs in
+      let B : Pieces → Type 0 = AreRuns (leads_to (leads_to n r) k.rest) k.rest in
+      let T : ℕ → Type 0 = λ m. IsTaken m r in
+      let whole : IsLongestChain n s (r ++ k.rest) = subst L k.joined l in
+      let leads : leads_to n c ≡ leads_to (leads_to n r) k.rest = ap (leads_to n) k.joined ∙ leads_to-append n r k.rest in
+      let at_end : k.rest ≡ [] → IsTaken (leads_to n r) r = λ w. subst T (leads ∙ ap (leads_to (leads_to n r)) w) (on w) in
+      let taken = next_taken n s r k.rest (first_filled (leads_to n c) c r k on) whole.has k.breaks at_end in
+      subst A (sym same)
+      (fitting_more n s r ps (kept_is_longest FitsPlaces fits_places n s c r l k) taken
+      (runs_longest_fitting ps (leads_to n r) (drop (length (bytes_of r)) s) k.rest (rest_longest n s r k.rest (λ w. taken.0) whole) (subst B others (subst R leads b))))
+]
+
+-- and these are determined
+module _ (n : ℕ) (s : List ℕ) (p q : List ExtHeader) (l : IsLongestUnder FitsPlaces n s p) (k : IsLongestUnder FitsPlaces n s q) where
+  same_fitting : p ≡ q
+  same_fitting = one_longest_under FitsPlaces fits_places n s p q l k
+
+  taken_too : IsTaken (leads_to n p) p → IsTaken (leads_to n q) q
+  taken_too t = let T : List ExtHeader → Type 0 = λ c. IsTaken (leads_to n c) c in subst T same_fitting t
+
+one_fitting : (ps qs : Pieces) (n : ℕ) (s : List ℕ) → AreLongestFitting n s ps → AreLongestFitting n s qs → ps ≡ qs
+one_fitting [] qs n s a b = absurd a
+one_fitting (p ∷ ps) [] n s a b = absurd b
+one_fitting (p ∷ []) (q ∷ []) n s a b = ap (λ l. l ∷ []) (same_fitting n s p q a.0 b.0)
+one_fitting (p ∷ []) (q ∷ r ∷ qs) n s a b = absurd (a.1 (taken_too n s q p b.0 a.0 b.1))
+one_fitting (p ∷ r ∷ ps) (q ∷ []) n s a b = absurd (b.1 (taken_too n s p q a.0 b.0 a.1))
+one_fitting (p ∷ r ∷ ps) (q ∷ t ∷ qs) n s a b =
+    let same : p ≡ q = same_fitting n s p q a.0 b.0 in
+    let A : List ExtHeader → Type 0 = λ c. AreLongestFitting (leads_to n c) (drop (length (bytes_of c)) s) (r ∷ ps) in
+    ap (λ l. l ∷ r ∷ ps) same ∙ ap (λ l. q ∷ l) (one_fitting (r ∷ ps) (t ∷ qs) (leads_to n q) (drop (length (bytes_of q)) s) (subst A same a.2) b.2)
+
+pub longest_fitting_runs : (ps : Pieces) (n : ℕ) (s : List ℕ) (c : List ExtHeader) → IsLongestChain n s c → AreLongestFitting n s ps → AreRuns (leads_to n c) c ps
+longest_fitting_runs ps n s c l a =
+    let R : Pieces → Type 0 = AreRuns (leads_to n c) c in
+    let runs = some_runs (leads_to n c) c in
+    subst R (one_fitting runs.0 ps n s (runs_longest_fitting runs.0 n s c l runs.1) a) runs.1

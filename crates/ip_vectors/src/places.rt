@@ -1,0 +1,296 @@
+//! Chains whose headers are put into six places.
+use crate::chains::missing;
+use ip_base::IpNumber;
+use ip_base::err::Layer;
+use ip_ext_chains::err::ip_auth;
+use ip_ext_chains::err::ipv6_exts::{HeaderError, HeaderSliceError};
+use ip_ext_chains::{Ipv6Extensions, Ipv6RawExtHeader, Ipv6RoutingExtensions};
+use ip_ext_headers::{IpAuthHeaderSlice, Ipv6FragmentHeaderSlice, Ipv6RawExtHeaderSlice};
+use std::process::Abort;
+use std::test::Fail;
+
+/// Start number and bytes; where the header of each place begins and how long it is; number, rest and fault.
+#[derive(Drop)]
+struct Row<'a> {
+    name: &'a str,
+    start: u8,
+    bytes: &'a [u8],
+    places: [Option<(usize, usize)>; 6],
+    number: u8,
+    rest: usize,
+    fault: Option<(HeaderSliceError, Layer)>,
+}
+
+/// The bytes in which a header is expected.
+fn stretch<'a>(bytes: &'a [u8], place: &Option<(usize, usize)>) -> Option<&'a [u8]> {
+    match place {
+        Some((at, len)) => bytes.get(*at..)?.get(..*len),
+        None => None,
+    }
+}
+
+/// The header of the common layout that the bytes are.
+fn raw(bytes: Option<&[u8]>) -> Option<Ipv6RawExtHeader> {
+    let header = Ipv6RawExtHeaderSlice::from_slice(bytes?).ok()?;
+    Some(header.to_header())
+}
+
+/// The struct that the row expects.
+fn expected(row: &Row<'_>) -> Ipv6Extensions {
+    let [hop_by_hop, destination, routing, fragment, auth, last] = &row.places;
+    let routing = match raw(stretch(row.bytes, routing)) {
+        Some(routing) => Some(Ipv6RoutingExtensions {
+            routing,
+            final_destination_options: raw(stretch(row.bytes, last)),
+        }),
+        None => None,
+    };
+    let fragment = match stretch(row.bytes, fragment) {
+        Some(bytes) => match Ipv6FragmentHeaderSlice::from_slice(bytes) {
+            Ok(header) => Some(header.to_header()),
+            Err(_) => None,
+        },
+        None => None,
+    };
+    let auth = match stretch(row.bytes, auth) {
+        Some(bytes) => match IpAuthHeaderSlice::from_slice(bytes) {
+            Ok(header) => Some(header.to_header()),
+            Err(_) => None,
+        },
+        None => None,
+    };
+    Ipv6Extensions {
+        hop_by_hop_options: raw(stretch(row.bytes, hop_by_hop)),
+        destination_options: raw(stretch(row.bytes, destination)),
+        routing,
+        fragment,
+        auth,
+    }
+}
+
+/// Both parses answer the row, and the struct has the lengths of the headers.
+fn check(rt: &impl Abort, row: &Row<'_>) -> Result<(), Fail> {
+    let name = row.name;
+    let start = IpNumber(row.start);
+    let expected = expected(row);
+    let (exts, number, rest, fault) = Ipv6Extensions::from_slice_lax(start, row.bytes);
+    assert!(rt; exts == expected, "{name}");
+    assert_eq!(rt; number, IpNumber(row.number), "{name}");
+    assert_eq!(rt;
+        rest,
+        &row.bytes[row.bytes.len().saturating_sub(row.rest)..],
+        "{name}"
+    );
+    assert_eq!(rt; fault, row.fault, "{name}");
+    assert_eq!(rt;
+        exts.header_len(),
+        row.bytes.len().saturating_sub(row.rest),
+        "{name}"
+    );
+    assert_eq!(rt; exts.is_empty(), row.bytes.len() == row.rest, "{name}");
+    assert!(rt; exts.clone()? == exts, "{name}");
+    match (Ipv6Extensions::from_slice(start, row.bytes), &row.fault) {
+        (Ok((strict, number, rest)), None) => {
+            assert!(rt; strict == exts, "{name}");
+            assert_eq!(rt; (number.0, rest.len()), (row.number, row.rest), "{name}");
+        }
+        (Err(error), Some((expected, _))) => assert_eq!(rt; error, *expected, "{name}"),
+        _ => assert!(rt; false, "{name}"),
+    }
+    Ok(())
+}
+
+#[test]
+fn headers_in_their_places(rt: HostRuntime) -> Result<(), Fail> {
+    let twice = Row {
+        name: "a second header of options has no place",
+        start: 60,
+        bytes: &[60, 0, 0, 0, 0, 0, 0, 0, 17, 0, 0, 0, 0, 0, 0, 0],
+        places: [None, Some((0, 8)), None, None, None, None],
+        number: 60,
+        rest: 8,
+        fault: None,
+    };
+    check(&rt, &twice)?;
+    let both_sides = Row {
+        name: "options before routing and behind it",
+        start: 60,
+        bytes: &[
+            43, 0, 0, 0, 0, 0, 0, 0, 60, 0, 0, 0, 0, 0, 0, 0, 17, 0, 0, 0, 0, 0, 0, 0,
+        ],
+        places: [None, Some((0, 8)), Some((8, 8)), None, None, Some((16, 8))],
+        number: 17,
+        rest: 0,
+        fault: None,
+    };
+    check(&rt, &both_sides)?;
+    let final_only = Row {
+        name: "options behind routing don't take the other place",
+        start: 43,
+        bytes: &[
+            60, 0, 0, 0, 0, 0, 0, 0, 60, 0, 0, 0, 0, 0, 0, 0, 17, 0, 0, 0, 0, 0, 0, 0,
+        ],
+        places: [None, None, Some((0, 8)), None, None, Some((8, 8))],
+        number: 60,
+        rest: 8,
+        fault: None,
+    };
+    check(&rt, &final_only)?;
+    let no_headers = Row {
+        name: "UDP goes on",
+        start: 17,
+        bytes: &[0, 1, 2, 3],
+        places: [None, None, None, None, None, None],
+        number: 17,
+        rest: 4,
+        fault: None,
+    };
+    check(&rt, &no_headers)
+}
+
+#[test]
+fn faults_and_taken_places(rt: HostRuntime) -> Result<(), Fail> {
+    let late = HeaderSliceError::Content(HeaderError::HopByHopNotAtStart);
+    let zero = HeaderError::IpAuth(ip_auth::HeaderError::ZeroPayloadLen);
+    let hop_by_hop_twice = Row {
+        name: "hop by hop options lead to themselves",
+        start: 0,
+        bytes: &[0, 0, 0, 0, 0, 0, 0, 0],
+        places: [Some((0, 8)), None, None, None, None, None],
+        number: 0,
+        rest: 0,
+        fault: Some((late.clone()?, Layer::Ipv6HopByHopHeader)),
+    };
+    check(&rt, &hop_by_hop_twice)?;
+    let no_bytes = Row {
+        name: "no bytes at hop by hop options",
+        start: 0,
+        bytes: &[],
+        places: [None, None, None, None, None, None],
+        number: 0,
+        rest: 0,
+        fault: missing(8, 0, Layer::Ipv6ExtHeader, 0, Layer::Ipv6HopByHopHeader),
+    };
+    check(&rt, &no_bytes)?;
+    let short_and_taken = Row {
+        name: "a second fragment header that is too short isn't looked at",
+        start: 44,
+        bytes: &[44, 0, 0, 0, 0, 0, 0, 1, 17, 0, 0],
+        places: [None, None, None, Some((0, 8)), None, None],
+        number: 44,
+        rest: 3,
+        fault: None,
+    };
+    check(&rt, &short_and_taken)?;
+    let behind_taken = Row {
+        name: "a fault behind a taken number isn't told",
+        start: 44,
+        bytes: &[
+            44, 0, 0, 0, 0, 0, 0, 0, 0, 0, 0, 0, 0, 0, 0, 0, 17, 0, 0, 0, 0, 0, 0, 0,
+        ],
+        places: [None, None, None, Some((0, 8)), None, None],
+        number: 44,
+        rest: 16,
+        fault: None,
+    };
+    check(&rt, &behind_taken)?;
+    let whole_and_taken = Row {
+        name: "the whole chain has places, and its last number is taken",
+        start: 44,
+        bytes: &[60, 0, 0, 0, 0, 0, 0, 0, 44, 0, 0, 0, 0, 0, 0, 0],
+        places: [None, Some((8, 8)), None, Some((0, 8)), None, None],
+        number: 44,
+        rest: 0,
+        fault: None,
+    };
+    check(&rt, &whole_and_taken)?;
+    let zero_len = Row {
+        name: "an authentication header of length 0 behind options",
+        start: 60,
+        bytes: &[51, 0, 0, 0, 0, 0, 0, 0, 17, 0, 0, 0, 0, 0, 0, 0, 0, 0, 0, 0],
+        places: [None, Some((0, 8)), None, None, None, None],
+        number: 51,
+        rest: 12,
+        fault: Some((HeaderSliceError::Content(zero), Layer::IpAuthHeader)),
+    };
+    check(&rt, &zero_len)?;
+    let late_hop_by_hop = Row {
+        name: "hop by hop options behind a fragment header",
+        start: 44,
+        bytes: &[0, 0, 0, 0, 0, 0, 0, 0, 17, 0, 0, 0, 0, 0, 0, 0],
+        places: [None, None, None, Some((0, 8)), None, None],
+        number: 0,
+        rest: 8,
+        fault: Some((late, Layer::Ipv6HopByHopHeader)),
+    };
+    check(&rt, &late_hop_by_hop)
+}
+
+/// Hop by hop options, destination options, routing, fragment, authentication and destination options.
+const SIX: [u8; 52] = [
+    60, 0, 0, 0, 0, 0, 0, 0, 43, 0, 0, 0, 0, 0, 0, 0, 44, 0, 0, 0, 0, 0, 0, 0, 51, 0, 0, 0, 0, 0,
+    0, 0, 60, 1, 0, 0, 0, 0, 0, 0, 0, 0, 0, 0, 17, 0, 0, 0, 0, 0, 0, 0,
+];
+
+/// At each cut: how many bytes its headers have, the number behind them, and how many bytes are missing there.
+fn six_cut_at(cut: usize) -> (usize, u8, usize) {
+    match cut {
+        0..8 => (0, 0, 8),
+        8..16 => (8, 60, 8),
+        16..24 => (16, 43, 8),
+        24..32 => (24, 44, 8),
+        32..44 => (32, 51, 12),
+        44..52 => (44, 60, 8),
+        _ => (52, 17, 0),
+    }
+}
+
+/// What is told where a header of the number is cut short.
+fn layers(number: u8) -> (Layer, Layer) {
+    match number {
+        0 => (Layer::Ipv6ExtHeader, Layer::Ipv6HopByHopHeader),
+        43 => (Layer::Ipv6ExtHeader, Layer::Ipv6RouteHeader),
+        44 => (Layer::Ipv6FragHeader, Layer::Ipv6FragHeader),
+        51 => (Layer::IpAuthHeader, Layer::IpAuthHeader),
+        _ => (Layer::Ipv6ExtHeader, Layer::Ipv6DestOptionsHeader),
+    }
+}
+
+#[test]
+fn six_places_cut_at_each_byte(rt: HostRuntime) -> Result<(), Fail> {
+    let whole = [(0, 8), (8, 8), (16, 8), (24, 8), (32, 12), (44, 8)];
+    for cut in 0..=SIX.len() {
+        let (read, number, required) = six_cut_at(cut);
+        let held = |place: (usize, usize)| -> Option<(usize, usize)> {
+            if place.0.saturating_add(place.1) <= read {
+                Some(place)
+            } else {
+                None
+            }
+        };
+        let (inner, layer) = layers(number);
+        let left = cut.saturating_sub(read);
+        let row = Row {
+            name: "six places, cut short",
+            start: 0,
+            bytes: &SIX[..cut],
+            places: [
+                held(whole[0]),
+                held(whole[1]),
+                held(whole[2]),
+                held(whole[3]),
+                held(whole[4]),
+                held(whole[5]),
+            ],
+            number,
+            rest: left,
+            fault: if required == 0 {
+                None
+            } else {
+                missing(required, left, inner, read, layer)
+            },
+        };
+        check(&rt, &row)?;
+    }
+    Ok(())
+}

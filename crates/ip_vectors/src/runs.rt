@@ -1,0 +1,217 @@
+//! The runs of a chain: structs of six places, one behind the other.
+use ip_base::err::{Layer, LenError};
+use ip_base::{IpNumber, LenSource};
+use ip_ext_chains::err::ipv6_exts::{HeaderError, HeaderSliceError};
+use ip_ext_chains::{Ipv6Extensions, Ipv6ExtensionsRuns};
+use std::process::Abort;
+use std::test::Fail;
+
+/// Which places are filled: hop by hop, destination, routing, fragment, authentication, final destination.
+type Filled = [bool; 6];
+
+const NONE: Filled = [false, false, false, false, false, false];
+
+const HOP_BY_HOP: Filled = [true, false, false, false, false, false];
+
+const DESTINATION: Filled = [false, true, false, false, false, false];
+
+const FRAGMENT: Filled = [false, false, false, true, false, false];
+
+const ROUTING_AND_FINAL: Filled = [false, false, true, false, false, true];
+
+/// Start number and bytes; the items; number, rest and fault at the end.
+#[derive(Drop)]
+struct Row<'a> {
+    name: &'a str,
+    start: u8,
+    bytes: &'a [u8],
+    items: &'a [Filled],
+    number: u8,
+    rest: &'a [u8],
+    fault: Option<(HeaderSliceError, Layer)>,
+}
+
+fn filled(exts: &Ipv6Extensions) -> Filled {
+    let last = match &exts.routing {
+        Some(routing) => routing.final_destination_options.is_some(),
+        None => false,
+    };
+    [
+        exts.hop_by_hop_options.is_some(),
+        exts.destination_options.is_some(),
+        exts.routing.is_some(),
+        exts.fragment.is_some(),
+        exts.auth.is_some(),
+        last,
+    ]
+}
+
+/// A fragment header is missing at the offset, where so many bytes are left.
+fn no_fragment_header(len: usize, offset: usize) -> Option<(HeaderSliceError, Layer)> {
+    let error = LenError {
+        required_len: 8,
+        len,
+        len_source: LenSource::Slice,
+        layer: Layer::Ipv6FragHeader,
+        layer_start_offset: offset,
+    };
+    Some((HeaderSliceError::Len(error), Layer::Ipv6FragHeader))
+}
+
+/// Hop by hop options are named behind a header.
+fn later_hop_by_hop() -> Option<(HeaderSliceError, Layer)> {
+    Some((
+        HeaderSliceError::Content(HeaderError::HopByHopNotAtStart),
+        Layer::Ipv6HopByHopHeader,
+    ))
+}
+
+/// The items and the end are the row's; the end is told from the last item on, and nothing comes behind it.
+fn check(rt: &impl Abort, row: &Row<'_>) -> Result<(), Fail> {
+    let name = row.name;
+    let mut runs = Ipv6ExtensionsRuns::new(IpNumber(row.start), row.bytes);
+    for expected in row.items {
+        assert!(rt; runs.end().is_none(), "{name}");
+        match runs.next() {
+            Some(exts) => assert_eq!(rt; filled(&exts), *expected, "{name}"),
+            None => assert!(rt; false, "{name}"),
+        }
+    }
+    for _ in 0..3 {
+        match runs.end() {
+            Some((number, rest, fault)) => {
+                assert_eq!(rt; number, IpNumber(row.number), "{name}");
+                assert_eq!(rt; rest, row.rest, "{name}");
+                assert_eq!(rt; fault, row.fault, "{name}");
+            }
+            None => assert!(rt; false, "{name}"),
+        }
+        assert!(rt; runs.next().is_none(), "{name}");
+    }
+    Ok(())
+}
+
+#[test]
+fn runs_of_one_place(rt: HostRuntime) -> Result<(), Fail> {
+    let three = Row {
+        name: "three fragment headers",
+        start: 44,
+        bytes: &[
+            44, 0, 0, 0, 0, 0, 0, 0, 44, 0, 0, 0, 0, 0, 0, 0, 17, 0, 0, 0, 0, 0, 0, 0,
+        ],
+        items: &[FRAGMENT, FRAGMENT, FRAGMENT],
+        number: 17,
+        rest: &[],
+        fault: None,
+    };
+    check(&rt, &three)?;
+    let cut = Row {
+        name: "a second fragment header is cut",
+        start: 44,
+        bytes: &[44, 0, 0, 0, 0, 0, 0, 1, 17, 0, 0],
+        items: &[FRAGMENT, NONE],
+        number: 44,
+        rest: &[17, 0, 0],
+        fault: no_fragment_header(3, 8),
+    };
+    check(&rt, &cut)?;
+    let ends = Row {
+        name: "a second fragment header is named, and no bytes are left",
+        start: 44,
+        bytes: &[44, 0, 0, 0, 0, 0, 0, 0],
+        items: &[FRAGMENT, NONE],
+        number: 44,
+        rest: &[],
+        fault: no_fragment_header(0, 8),
+    };
+    check(&rt, &ends)?;
+    let hop_by_hop = Row {
+        name: "hop by hop options behind two fragment headers",
+        start: 44,
+        bytes: &[
+            44, 0, 0, 0, 0, 0, 0, 0, 0, 0, 0, 0, 0, 0, 0, 0, 17, 0, 0, 0, 0, 0, 0, 0,
+        ],
+        items: &[FRAGMENT, FRAGMENT],
+        number: 0,
+        rest: &[17, 0, 0, 0, 0, 0, 0, 0],
+        fault: later_hop_by_hop(),
+    };
+    check(&rt, &hop_by_hop)
+}
+
+#[test]
+fn runs_of_many_places(rt: HostRuntime) -> Result<(), Fail> {
+    let routed = Row {
+        name: "destination options twice behind a routing header",
+        start: 43,
+        bytes: &[
+            60, 0, 0, 0, 0, 0, 0, 0, 60, 0, 0, 0, 0, 0, 0, 0, 17, 0, 0, 0, 0, 0, 0, 0,
+        ],
+        items: &[ROUTING_AND_FINAL, DESTINATION],
+        number: 17,
+        rest: &[],
+        fault: None,
+    };
+    check(&rt, &routed)?;
+    let one = Row {
+        name: "destination options on both sides of a routing header",
+        start: 60,
+        bytes: &[
+            43, 0, 0, 0, 0, 0, 0, 0, 60, 0, 0, 0, 0, 0, 0, 0, 17, 0, 0, 0, 0, 0, 0, 0,
+        ],
+        items: &[[false, true, true, false, false, true]],
+        number: 17,
+        rest: &[],
+        fault: None,
+    };
+    check(&rt, &one)
+}
+
+#[test]
+fn one_run(rt: HostRuntime) -> Result<(), Fail> {
+    let nothing = Row {
+        name: "UDP goes on",
+        start: 17,
+        bytes: &[0, 1, 2, 3],
+        items: &[NONE],
+        number: 17,
+        rest: &[0, 1, 2, 3],
+        fault: None,
+    };
+    check(&rt, &nothing)?;
+    let hop_by_hop = Row {
+        name: "hop by hop options behind hop by hop options",
+        start: 0,
+        bytes: &[0, 0, 0, 0, 0, 0, 0, 0],
+        items: &[HOP_BY_HOP],
+        number: 0,
+        rest: &[],
+        fault: later_hop_by_hop(),
+    };
+    check(&rt, &hop_by_hop)
+}
+
+#[test]
+fn a_run_for_each_of_4096_headers(rt: HostRuntime) -> Result<(), Fail> {
+    let mut bytes = Vec::new(rt.alloc());
+    for header in 0..4096u32 {
+        let next = if header == 4095 { 17 } else { 44 };
+        bytes.extend_from_slice(&[next, 0, 0, 0, 0, 0, 0, 0])?;
+    }
+    let mut runs = Ipv6ExtensionsRuns::new(IpNumber(44), bytes.as_slice());
+    let mut count = 0u32;
+    while let Some(exts) = runs.next() {
+        assert_eq!(&rt; filled(&exts), FRAGMENT);
+        count = count.saturating_add(1);
+    }
+    assert_eq!(&rt; count, 4096);
+    match runs.end() {
+        Some((number, rest, fault)) => {
+            assert_eq!(&rt; number, IpNumber(17));
+            assert!(&rt; rest.is_empty());
+            assert_eq!(&rt; fault, None);
+        }
+        None => assert!(&rt; false),
+    }
+    Ok(())
+}

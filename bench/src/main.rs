@@ -6,6 +6,7 @@
 mod inputs;
 mod measure;
 mod original;
+mod original_ipv4;
 mod ours;
 mod random;
 mod report;

@@ -81,6 +81,13 @@ unsafe extern "C" {
     pub fn ipexts_auth_write(bytes: *const u8, len: usize, at: usize, times: u32) -> u64;
     pub fn ipexts_fragment_write(bytes: *const u8, len: usize, at: usize, times: u32) -> u64;
 
+    pub fn ipexts_ipv4_lax(start: u8, bytes: *const u8, len: usize) -> u64;
+    pub fn ipexts_ipv4_strict(start: u8, bytes: *const u8, len: usize) -> u64;
+    pub fn ipexts_ipv4_filter(start: u8, bytes: *const u8, len: usize) -> u64;
+    pub fn ipexts_ipv4_owned_lax(start: u8, bytes: *const u8, len: usize) -> u64;
+    pub fn ipexts_ipv4_owned_strict(start: u8, bytes: *const u8, len: usize) -> u64;
+    pub fn ipexts_ipv4_write(bytes: *const u8, len: usize, at: usize, times: u32) -> u64;
+
     pub fn walk_chain(start: u8, bytes: *const u8, len: usize) -> u64;
     pub fn walk_packets(p: *const u8, len: usize, ends: *const usize, count: usize) -> u64;
 

@@ -1,6 +1,7 @@
 //! The rows of the table: what is called, on which bytes, on both sides.
 use crate::inputs::{self, Packets};
 use crate::original::{self, Parse};
+use crate::original_ipv4;
 use crate::ours::{self, ChainCall, HeaderCall, PacketLoop, RepeatedCall};
 use std::hint::black_box;
 
@@ -150,6 +151,7 @@ pub fn rows(seed: u64) -> Vec<Row> {
     }
     rows.extend(borrowed_and_owned());
     rows.extend(written());
+    rows.extend(ipv4());
     rows
 }
 
@@ -446,6 +448,74 @@ fn written() -> Vec<Row> {
         ipexts_fragment_write,
         original::fragment_write,
     );
+    rows
+}
+
+/// IPv4 extension headers: one of each length, none, and one that is cut short.
+fn ipv4() -> Vec<Row> {
+    use ours::*;
+    let headers = [12, 64, 1028].map(|len| {
+        let name = format!("a header of {len} bytes");
+        (name, inputs::AUTH, inputs::single(inputs::AUTH, len))
+    });
+    let none = ("no header".to_owned(), 17, vec![17; 20]);
+    let refused = ("a header cut short".to_owned(), inputs::AUTH, vec![17; 7]);
+    let all = [&headers[..], &[none, refused]].concat();
+    let calls: [(&str, &str, ChainCall, ChainCall); 5] = [
+        (
+            "IPv4, borrowed",
+            "IPv4, lax, in full",
+            ipexts_ipv4_lax,
+            original_ipv4::lax,
+        ),
+        (
+            "IPv4, borrowed",
+            "IPv4, strict, in full",
+            ipexts_ipv4_strict,
+            original_ipv4::strict,
+        ),
+        (
+            "IPv4, borrowed",
+            "IPv4, lax, filter",
+            ipexts_ipv4_filter,
+            original_ipv4::filter,
+        ),
+        (
+            "IPv4, owned",
+            "IPv4, owned, lax",
+            ipexts_ipv4_owned_lax,
+            original_ipv4::owned_lax,
+        ),
+        (
+            "IPv4, owned",
+            "IPv4, owned, strict",
+            ipexts_ipv4_owned_strict,
+            original_ipv4::owned_strict,
+        ),
+    ];
+    let mut rows = Vec::new();
+    for (group, call, ours, original) in calls {
+        rows.extend(all.iter().map(|(what, start, bytes)| Row {
+            group,
+            name: format!("{call}: {what}"),
+            unit: "call",
+            units: CALLS,
+            ours: again(ours, *start, bytes.clone(), CALLS),
+            original: again(original, *start, bytes.clone(), CALLS),
+            limit: None,
+        }));
+    }
+    rows.extend(headers.iter().map(|(_, _, bytes)| {
+        let name = "IPv4, linked and written";
+        repeated(
+            "IPv4, write",
+            name,
+            bytes.len(),
+            bytes,
+            ipexts_ipv4_write,
+            original_ipv4::write,
+        )
+    }));
     rows
 }
 

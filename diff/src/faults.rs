@@ -20,6 +20,16 @@ pub fn push_len_fault(fault: &LenError, answer: &mut String) {
     );
 }
 
+/// The text of a fault of an authentication header.
+pub fn push_auth_fault(fault: &ip_auth::HeaderSliceError, answer: &mut String) {
+    match fault {
+        ip_auth::HeaderSliceError::Len(fault) => push_len_fault(fault, answer),
+        ip_auth::HeaderSliceError::Content(ip_auth::HeaderError::ZeroPayloadLen) => {
+            answer.push_str("fault ZeroPayloadLen");
+        }
+    }
+}
+
 /// The text of a fault of an IPv6 chain.
 pub fn push_ipv6_fault(fault: &HeaderSliceError, answer: &mut String) {
     match fault {

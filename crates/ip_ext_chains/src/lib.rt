@@ -4,6 +4,8 @@
 
 mod chain_laws;
 pub mod err;
+mod ipv4_exts;
+mod ipv4_exts_slice;
 mod ipv6_ext_slice;
 mod ipv6_ext_slice_iter;
 mod ipv6_exts;
@@ -21,6 +23,8 @@ pub use ip_ext_headers::{
     IpAuthHeader, IpAuthHeaderSlice, Ipv6FragmentHeader, Ipv6FragmentHeaderSlice, Ipv6RawExtHeader,
     Ipv6RawExtHeaderSlice,
 };
+pub use ipv4_exts::Ipv4Extensions;
+pub use ipv4_exts_slice::Ipv4ExtensionsSlice;
 pub use ipv6_ext_slice::Ipv6ExtensionSlice;
 pub use ipv6_ext_slice_iter::Ipv6ExtensionSliceIter;
 pub use ipv6_exts::Ipv6Extensions;

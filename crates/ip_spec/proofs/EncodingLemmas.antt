@@ -2,7 +2,7 @@
 use Rattle.std.proofs.Common.{◌≡◌, ℕ, ◌+◌, ◌*◌, ◌/◌, ◌%◌, ◌^◌, ◌<◌, ◌≤◌, List, [], ◌∷◌, ◌++◌, length, get_or, take, drop, refl, ap, sym, ◌∙◌, arith, inl, inr, subst, Bool, true, false, cond, bit_and}
 use Rattle.std.specs.Prelude.{◌==◌, not, slice_range}
 use Rattle.std.specs.Int.{to_be_bytes, from_be_bytes, w32}
-use Rattle.std.proofs.lemmas.List.{append_cancel_left, get_or_past, take_all}
+use Rattle.std.proofs.lemmas.List.{append_cancel_left, get_or_past, take_all, take-append-drop}
 use Rattle.std.proofs.lemmas.List.Elements.{All-from_recursion, recursion_from_All, All-append, All-get_or, All-take, All-drop}
 use Rattle.std.proofs.lemmas.Nat.{and_comm, and_assoc, and_mask, and-not, be_bytes_4, from_be_bytes-to_be_bytes_4}
 use Rattle.std.proofs.lemmas.Nat.Bits.{and_high, and_pow}
@@ -262,3 +262,13 @@ cleared_auth_encodes b h bytes =
     let P : List ℕ → Type 0 = λ l. AreBytes (slice_range l 1 12) → AreBytes (slice_range (cleared_auth l) 1 12) in
     let same = cleared_auth_same b h in
     record { header = same.0; fields = same.1; reserved = same.2; bytes = subst P f.joined (cleared_auth_bytes f.x0 f.x1 f.x2 f.x3 f.rest) bytes }
+
+-- where what stands behind the fixed part are bytes and the next header is one, all are
+pub auth_encoding-bytes : (v : AuthFields) (b : List ℕ) → IsAuthEncoding v b → v.next_header < 256 → AreBytes v.raw_icv → AreBytes b
+auth_encoding-bytes v [] h small icv = absurd (omega (arith, h.header.len))
+auth_encoding-bytes v (x ∷ t) h small icv =
+    let number : x ≡ v.next_header = ap (λ (w : AuthFields). w.next_header) h.fields in
+    let behind : drop 11 t ≡ v.raw_icv = ap (λ (w : AuthFields). w.raw_icv) h.fields in
+    let parts : AreBytes (take 11 t ++ drop 11 t) = All-append (λ y. y < 256) (take 11 t) (drop 11 t) h.bytes (subst AreBytes (sym behind) icv) in
+    let rest : AreBytes t = subst AreBytes (take-append-drop 11 t) parts in
+    All-from_recursion (λ y. y < 256) (x ∷ t) (omega arith, recursion_from_All (λ y. y < 256) t rest)

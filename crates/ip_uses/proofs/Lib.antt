@@ -1,2 +1,3 @@
 pub mod FirstLemmas
 pub mod PlainLemmas
+pub mod Exts4Lemmas

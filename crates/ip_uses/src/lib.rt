@@ -5,6 +5,7 @@
 pub mod base;
 pub mod chains;
 pub mod headers;
+pub mod ipv4;
 pub mod pins;
 pub mod plain;
 pub mod runs;

@@ -4,7 +4,8 @@ ghost use Rattle.std.specs.Prelude.{◌≡◌, ◌↔◌, IsTrue, IsFalse, IfOk}
 
 use ip_base::err::{Layer, LenError, ValueTooBigError};
 use ip_base::{IpFragOffset, IpNumber, LenSource, ip_number};
-use ip_ext_chains::err::ipv6_exts;
+use ip_ext_chains::err::{ipv4_exts, ipv6_exts};
+use ip_ext_chains::{Ipv4Extensions, Ipv4ExtensionsSlice};
 use ip_ext_headers::err::ip_auth;
 use ip_ext_headers::err::ipv6_exts::ExtPayloadLenError;
 use ip_ext_headers::{IpAuthHeader, IpAuthHeaderSlice, Ipv6FragmentHeader, Ipv6RawExtHeader};
@@ -64,6 +65,10 @@ const _: () = prove!(Ipv6RawExtHeader::MIN_PAYLOAD_LEN == 6);
 const _: () = prove!(Ipv6RawExtHeader::MAX_PAYLOAD_LEN == 2046);
 
 const _: () = prove!(Ipv6FragmentHeader::LEN == 8);
+
+const _: () = prove!(Ipv4Extensions::MIN_LEN == 0);
+
+const _: () = prove!(Ipv4Extensions::MAX_LEN == 1028);
 
 /// Whether two errors of a length are equal, and a copy of the first.
 pub fn len_error(a: &LenError, b: &LenError) -> Result<(bool, LenError), AllocError>
@@ -188,6 +193,17 @@ pub fn exts_slice_error_copy(
     e.clone()
 }
 
+/// Whether two errors of a walk over IPv4 extension headers are equal, and a copy of the first.
+pub fn ipv4_walk(
+    a: &ipv4_exts::ExtsWalkError,
+    b: &ipv4_exts::ExtsWalkError,
+) -> Result<(bool, ipv4_exts::ExtsWalkError), AllocError>
+    ensures same { IfOk result (λ r. IsTrue r.0 ↔ (a.now ≡ b.now)) }
+    ensures copy { IfOk result (λ r. r.1 ≡ a.now) }
+{
+    Ok((a == b, a.clone()?))
+}
+
 /// A type that is copied.
 fn needs_copy<T: Copy>(value: &T) -> T {
     *value
@@ -205,12 +221,14 @@ pub fn copies(
     source: LenSource,
     layer: Layer,
     header: IpAuthHeaderSlice<'_>,
+    headers: Ipv4ExtensionsSlice<'_>,
 ) {
     let _ = needs_copy(&number);
     let _ = needs_copy(&offset);
     let _ = needs_copy(&source);
     let _ = needs_copy(&layer);
     let _ = needs_copy(&header);
+    let _ = needs_copy(&headers);
 }
 
 /// The types that are hashed, beside the errors.
@@ -229,6 +247,7 @@ pub fn error_hashes(
     icv: &ip_auth::IcvLenError,
     payload: &ExtPayloadLenError,
     chain: &ipv6_exts::HeaderSliceError,
+    walk: &ipv4_exts::ExtsWalkError,
 ) -> bool {
     needs_hash(len, len)
         && needs_hash(value, value)
@@ -236,4 +255,5 @@ pub fn error_hashes(
         && needs_hash(icv, icv)
         && needs_hash(payload, payload)
         && needs_hash(chain, chain)
+        && needs_hash(walk, walk)
 }

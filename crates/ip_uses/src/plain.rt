@@ -8,18 +8,23 @@ ghost use Rattle.ip_spec.specs.Chain.{bytes_of};
 ghost use Rattle.ip_spec.specs.PlainHeader.{plain_header_of};
 ghost use Rattle.ipexts_tool.specs.Answers.{answers, answer_of};
 ghost use Rattle.ipexts_tool.specs.Exts6.{exts6_answer};
+ghost use Rattle.ipexts_tool.specs.Exts4.{exts4_answer};
 ghost use Rattle.ipexts_tool.specs.Faults.{chain_fault_text};
 ghost use Rattle.ipexts_tool.specs.LineFields.{number_of, bytes_of_hex};
 ghost use Rattle.ipexts_tool.specs.Lines.{lines_of};
-ghost use Rattle.ipexts_tool.specs.Request.{Exts6, request_of_fields};
-ghost use Rattle.ipexts_tool.specs.Parts.{header_name, header_lines, next_line, chain_end_line};
+ghost use Rattle.ipexts_tool.specs.Request.{request_of_fields};
+ghost use Rattle.ipexts_tool.specs.Parts.{header_name, header_line, header_lines, next_line};
+ghost use Rattle.ipexts_tool.specs.Parts.{chain_end_line, ipv4_end_line, ok_line};
 ghost use Rattle.hex.specs.Hex.{hex_digit_value};
+ghost use Rattle.ip_base.specs.declared.len_source.LenSource.TheVariants.{Slice};
+ghost use Rattle.ip_ext_headers.specs.Fault.{auth_fault};
 ghost use Rattle.ip_uses.specs.Digits.{byte_of_digits};
+ghost use Rattle.ip_uses.specs.PlainRequest.{asked_by};
 
 use ip_base::err::Layer;
 use ip_ext_chains::err::ipv6_exts::{HeaderError, HeaderSliceError};
 use ip_ext_chains::plain_fault;
-use ip_spec::{PlainHeader, plain_longest_chain};
+use ip_spec::{PlainHeader, next_len, plain_longest_chain};
 use std::alloc::{AllocError, Global};
 
 /// The answer to a line that asks for nothing.
@@ -73,20 +78,29 @@ fn push_answer(alloc: Global, line: &[u8], text: &mut String) -> Result<(), Allo
     }
     let fields = plain_parts(alloc, b' ', line)?;
     match plain_request(alloc, &fields)? {
-        Some((number, bytes)) => push_exts6(alloc, number, &bytes, text),
+        Some(PlainRequest::Exts6(number, bytes)) => push_exts6(alloc, number, &bytes, text),
+        Some(PlainRequest::Exts4(number, bytes)) => push_exts4(number, &bytes, text),
         None => text.push_str(BAD_LINE),
     }
 }
 
-/// The number and the bytes of which the fields of a line ask for the chain.
-fn plain_request(alloc: Global, fields: &[&[u8]]) -> Result<Option<(u8, Vec<u8>)>, AllocError>
-    ensures { IfOk result (λ request. option_map (λ asked. Exts6 (asked.0, asked.1.items)) request
+/// What a line asks for: a form, a number and bytes.
+#[derive(Drop)]
+enum PlainRequest {
+    Exts6(u8, Vec<u8>),
+    Exts4(u8, Vec<u8>),
+}
+
+/// What the fields of a line ask for.
+fn plain_request(alloc: Global, fields: &[&[u8]]) -> Result<Option<PlainRequest>, AllocError>
+    ensures { IfOk result (λ request. option_map asked_by request
         ≡ request_of_fields (map (λ field. field.now) fields.now)) }
 {
     let [form, number, digits] = fields else {
         return Ok(None);
     };
-    if *form != b"exts6".as_slice() {
+    let is_exts6 = *form == b"exts6".as_slice();
+    if !is_exts6 && *form != b"exts4".as_slice() {
         return Ok(None);
     }
     let Some(number) = plain_number(alloc, number)? else {
@@ -95,7 +109,11 @@ fn plain_request(alloc: Global, fields: &[&[u8]]) -> Result<Option<(u8, Vec<u8>)
     let Some(bytes) = plain_bytes(alloc, digits)? else {
         return Ok(None);
     };
-    Ok(Some((number, bytes)))
+    Ok(Some(if is_exts6 {
+        PlainRequest::Exts6(number, bytes)
+    } else {
+        PlainRequest::Exts4(number, bytes)
+    }))
 }
 
 /// The number below 256 whose decimal numeral a text is.
@@ -162,6 +180,53 @@ fn push_exts6(alloc: Global, number: u8, bytes: &[u8], text: &mut String) -> Res
     push_chain_end(plain_fault(first, chain.number, chain.rest, offset), text)
 }
 
+/// Appends the answer to `exts4` with this number and these bytes.
+fn push_exts4(number: u8, bytes: &[u8], text: &mut String) -> Result<(), AllocError>
+    ensures { OnOk result
+        (string_bytes text.new ≡ string_bytes text.old ++ exts4_answer number bytes.now) }
+{
+    if number != 51 {
+        push_next(number, bytes, text)?;
+        return push_ok(text);
+    }
+    let Some(len) = next_len(true, 51, bytes) else {
+        push_next(51, bytes, text)?;
+        return push_auth_fault(bytes, text);
+    };
+    push_header(0, 51, len, text)?;
+    let (_, rest) = bytes.split_at(len);
+    push_next(bytes[0], rest, text)?;
+    push_ok(text)
+}
+
+/// Appends the line of a header.
+fn push_header(offset: usize, number: u8, len: usize, text: &mut String) -> Result<(), AllocError>
+    ensures { OnOk result
+        (string_bytes text.new ≡ string_bytes text.old ++ header_line offset number len) }
+{
+    let name = header_name(number);
+    writeln!(text, "{offset} {name} {len}")
+}
+
+/// Appends that there is no fault.
+fn push_ok(text: &mut String) -> Result<(), AllocError>
+    ensures { OnOk result (string_bytes text.new ≡ string_bytes text.old ++ ok_line) }
+{
+    text.push_str("ok\n")
+}
+
+/// Appends the fault at an authentication header that is to begin the bytes.
+fn push_auth_fault(bytes: &[u8], text: &mut String) -> Result<(), AllocError>
+    ensures { OnOk result (string_bytes text.new ≡ string_bytes text.old
+        ++ ipv4_end_line (auth_fault Slice (length bytes.now) 0 bytes.now)) }
+{
+    let Some((fault, _)) = plain_fault(true, 51, bytes, 0) else {
+        return text.push_str("ok\n");
+    };
+    push_chain_fault(&fault, text)?;
+    text.push_str("\n")
+}
+
 /// Appends the number of what follows the headers, and how many bytes do.
 fn push_next(number: u8, rest: &[u8], text: &mut String) -> Result<(), AllocError>
     ensures { OnOk result
@@ -179,9 +244,8 @@ fn push_headers(headers: &[PlainHeader<'_>], text: &mut String) -> Result<(), Al
 {
     let mut offset = 0;
     for header in headers {
-        let name = header_name(header.number);
         let len = header.bytes.len();
-        writeln!(text, "{offset} {name} {len}")?;
+        push_header(offset, header.number, len, text)?;
         offset += len;
     }
     Ok(())

@@ -8,6 +8,8 @@ mod chains;
 #[cfg(test)]
 mod header_slices;
 #[cfg(test)]
+mod ipv4;
+#[cfg(test)]
 mod lines;
 #[cfg(test)]
 mod places;

@@ -15,7 +15,7 @@ fn is_answered(alloc: Global, input: &[u8], answers: &[u8]) -> Result<bool, Fail
 
 #[test]
 fn lines_and_answers(rt: HostRuntime) -> Result<(), Fail> {
-    let rows: [(&[u8], &[u8]); 7] = [
+    let rows: [(&[u8], &[u8]); 11] = [
         (
             b"exts6 60 2b00000000000000",
             b"0 dstopts 8\nnext 43 rest 0\nfault len 8 of 0 Slice Ipv6ExtHeader at 8 in Ipv6RouteHeader\n",
@@ -33,6 +33,19 @@ fn lines_and_answers(rt: HostRuntime) -> Result<(), Fail> {
             b"exts6 44 2c00000000000001110000\n",
             b"0 frag 8\nnext 44 rest 3\nfault len 8 of 3 Slice Ipv6FragHeader at 8 in Ipv6FragHeader\n",
         ),
+        (
+            b"exts4 51 3301000000000000000000001101\n",
+            b"0 auth 12\nnext 51 rest 2\nok\n",
+        ),
+        (
+            b"exts4 51 110000000000000000000000\n",
+            b"next 51 rest 12\nfault ZeroPayloadLen\n",
+        ),
+        (
+            b"exts4 51 -\n",
+            b"next 51 rest 0\nfault len 12 of 0 Slice IpAuthHeader at 0\n",
+        ),
+        (b"exts4 0 -\n", b"next 0 rest 0\nok\n"),
         (b"exts6 256 00\n", b"bad line\n"),
         (b"\nexts6 17 -\n", b"bad line\nnext 17 rest 0\nok\n"),
     ];

@@ -18,7 +18,7 @@ fn byte_at(bytes: &[u8], at: usize) -> u64 {
 
 /// Bytes that were written: how many, the first, and one that is chosen when it runs.
 #[inline(never)]
-fn of_written(bytes: &[u8], at: usize) -> u64 {
+pub fn of_written(bytes: &[u8], at: usize) -> u64 {
     with(of_bytes(bytes), byte_at(bytes, at))
 }
 
@@ -50,7 +50,7 @@ fn of_owned_raw(header: &Ipv6RawExtHeader, at: usize) -> u64 {
 
 /// Every part of an owned authentication header.
 #[inline(never)]
-fn of_owned_auth(header: &IpAuthHeader, at: usize) -> u64 {
+pub fn of_owned_auth(header: &IpAuthHeader, at: usize) -> u64 {
     let numbers = with(u64::from(header.spi), u64::from(header.sequence_number));
     let fields = with(numbers, u64::from(header.next_header.0));
     let icv = header.raw_icv();

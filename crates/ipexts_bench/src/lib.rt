@@ -7,6 +7,7 @@ mod calls;
 mod digest;
 mod fields;
 mod headers;
+mod ipv4;
 mod packets;
 mod parses;
 mod structs;

@@ -4,6 +4,8 @@ use Rattle.std.specs.Fmt.{decimal}
 use Rattle.ip_base.specs.declared.err.len_error.LenError.{LenError}
 use Rattle.ip_ext_headers.specs.declared.err.ip_auth.header_error.HeaderError.{HeaderError as AuthError}
 use Rattle.ip_ext_headers.specs.declared.err.ip_auth.header_error.HeaderError.TheVariants.{ZeroPayloadLen}
+use Rattle.ip_ext_headers.specs.declared.err.ip_auth.header_slice_error.HeaderSliceError.{HeaderSliceError as AuthSliceError}
+use Rattle.ip_ext_headers.specs.declared.err.ip_auth.header_slice_error.HeaderSliceError.TheVariants as auth
 use Rattle.ip_ext_chains.specs.Names.{layer_name, len_source_name}
 use Rattle.ip_ext_chains.specs.declared.err.ipv6_exts.header_error.HeaderError.{HeaderError}
 use Rattle.ip_ext_chains.specs.declared.err.ipv6_exts.header_error.HeaderError.TheVariants.{HopByHopNotAtStart, IpAuth}
@@ -20,6 +22,11 @@ len_fault_text e =
 -- what is wrong in the bytes of an authentication header
 abbrev pub auth_fault_text : AuthError → List ℕ
 auth_fault_text ZeroPayloadLen = codes "fault ZeroPayloadLen"
+
+-- why no authentication header is there, although one is named
+abbrev pub auth_slice_fault_text : AuthSliceError → List ℕ
+auth_slice_fault_text (auth.Len e) = len_fault_text e
+auth_slice_fault_text (auth.Content e) = auth_fault_text e
 
 -- what is wrong in the bytes of an IPv6 chain
 abbrev pub content_fault_text : HeaderError → List ℕ

@@ -3,11 +3,12 @@ use Rattle.std.specs.Prelude.{ℕ, ◌+◌, ◌==◌, List, [], ◌∷◌, ◌++
 use Rattle.std.specs.Fmt.{decimal}
 use Rattle.hex.specs.Hex.{encode_lower}
 use Rattle.ip_base.specs.declared.err.layer.Layer.{Layer}
+use Rattle.ip_ext_headers.specs.declared.err.ip_auth.header_slice_error.HeaderSliceError.{HeaderSliceError as AuthSliceError}
 use Rattle.ip_ext_chains.specs.Chain.{ExtHeader}
 use Rattle.ip_ext_chains.specs.Fault.{Fault}
 use Rattle.ip_ext_chains.specs.Names.{layer_name}
 use Rattle.ip_ext_chains.specs.Numbers.{HOP_BY_HOP, ROUTING, FRAGMENT, AUTHENTICATION, DESTINATION_OPTIONS}
-use Rattle.ipexts_tool.specs.Faults.{chain_fault_text}
+use Rattle.ipexts_tool.specs.Faults.{auth_slice_fault_text, chain_fault_text}
 
 -- the name of the headers of a number
 abbrev pub header_name : ℕ → List ℕ
@@ -53,3 +54,8 @@ layered_line fault layer = fault ++ codes " in " ++ layer_name layer ++ codes "\
 abbrev pub chain_end_line : Option Fault → List ℕ
 chain_end_line None = ok_line
 chain_end_line (Some fault) = layered_line (chain_fault_text fault.0) fault.1
+
+-- what ended a chain of IPv4 extension headers
+abbrev pub ipv4_end_line : Option AuthSliceError → List ℕ
+ipv4_end_line None = ok_line
+ipv4_end_line (Some fault) = auth_slice_fault_text fault ++ codes "\n"

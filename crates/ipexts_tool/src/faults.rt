@@ -1,6 +1,7 @@
 //! The texts of faults.
 ghost use Rattle.std.specs.Prelude.{◌≡◌, ◌++◌, OnOk, string_bytes};
 ghost use Rattle.ipexts_tool.specs.Faults.{len_fault_text, auth_fault_text};
+ghost use Rattle.ipexts_tool.specs.Faults.{auth_slice_fault_text};
 ghost use Rattle.ipexts_tool.specs.Faults.{content_fault_text, chain_fault_text};
 
 use ip_ext_chains::err::ipv6_exts::{HeaderError, HeaderSliceError};
@@ -27,7 +28,7 @@ pub fn push_len_fault<A: Allocator>(
 }
 
 /// Appends what is wrong in the bytes of an authentication header.
-pub fn push_auth_fault<A: Allocator>(
+fn push_auth_fault<A: Allocator>(
     fault: &ip_auth::HeaderError,
     text: &mut String<A>,
 ) -> Result<(), AllocError>
@@ -37,6 +38,20 @@ pub fn push_auth_fault<A: Allocator>(
     text.push_str(match fault {
         ip_auth::HeaderError::ZeroPayloadLen => "fault ZeroPayloadLen",
     })
+}
+
+/// Appends why no authentication header is there, although one is named.
+pub fn push_auth_slice_fault<A: Allocator>(
+    fault: &ip_auth::HeaderSliceError,
+    text: &mut String<A>,
+) -> Result<(), AllocError>
+    ensures { OnOk result
+        (string_bytes text.new ≡ string_bytes text.old ++ auth_slice_fault_text fault.now) }
+{
+    match fault {
+        ip_auth::HeaderSliceError::Len(fault) => push_len_fault(fault, text),
+        ip_auth::HeaderSliceError::Content(fault) => push_auth_fault(fault, text),
+    }
 }
 
 /// Appends what is wrong in the bytes of an IPv6 chain.

@@ -10,6 +10,9 @@
 //! - `exts6 N HEX` asks for the longest chain of IPv6 extension headers from number N that begins the bytes
 //!   (RFC 8200, section 4). The answer has a line for each header, then `next N rest L`, then how the chain
 //!   ended: `ok`, or the fault with ` in ` and the layer at which it lies.
+//! - `exts4 N HEX` asks for the longest chain of IPv4 extension headers from number N that begins the bytes: at
+//!   most one authentication header (RFC 4302, section 2). The answer is the same, but a fault stands
+//!   without a layer.
 //!
 //! # Parts of answers
 //!
@@ -31,6 +34,7 @@ ghost use Rattle.ipexts_tool.specs.Memory.{OnMemory};
 ghost use Rattle.ipexts_tool.specs.Progress.{Advances, StopsWithin};
 
 mod answer;
+mod exts4;
 mod exts6;
 mod faults;
 mod feed;

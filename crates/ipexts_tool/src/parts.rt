@@ -1,12 +1,12 @@
 //! The parts of answers that several forms have.
 ghost use Rattle.std.specs.Prelude.{◌≡◌, ◌++◌, OnOk, string_bytes};
 ghost use Rattle.ipexts_tool.specs.Parts.{header_name, header_line, next_line};
-ghost use Rattle.ipexts_tool.specs.Parts.{written_line, ok_line, chain_end_line};
+ghost use Rattle.ipexts_tool.specs.Parts.{written_line, ok_line, chain_end_line, ipv4_end_line};
 
-use crate::faults::push_chain_fault;
+use crate::faults::{push_auth_slice_fault, push_chain_fault};
 use ip_ext_chains::IpNumber;
-use ip_ext_chains::err::Layer;
 use ip_ext_chains::err::ipv6_exts::HeaderSliceError;
+use ip_ext_chains::err::{Layer, ip_auth};
 use std::alloc::{AllocError, Allocator};
 
 /// The name of the headers of a number.
@@ -86,4 +86,18 @@ pub fn push_chain_end<A: Allocator>(
     push_chain_fault(&fault, text)?;
     let layer = layer.name();
     writeln!(text, " in {layer}")
+}
+
+/// Appends what ended a chain of IPv4 extension headers.
+pub fn push_ipv4_end<A: Allocator>(
+    fault: Option<ip_auth::HeaderSliceError>,
+    text: &mut String<A>,
+) -> Result<(), AllocError>
+    ensures { OnOk result (string_bytes text.new ≡ string_bytes text.old ++ ipv4_end_line fault) }
+{
+    let Some(fault) = fault else {
+        return push_ok(text);
+    };
+    push_auth_slice_fault(&fault, text)?;
+    text.push_str("\n")
 }

@@ -6,6 +6,7 @@ ghost use Rattle.ipexts_tool.specs.Lines.{max_line_len};
 ghost use Rattle.ipexts_tool.specs.Request.{request_in, answer_to, request_of, request_of_form};
 ghost use Rattle.ipexts_tool.specs.LineFields.{fields_of};
 
+use crate::exts4::push_exts4;
 use crate::exts6::push_exts6;
 use crate::line_fields::{BYTES_LEN, MAX_LINE_LEN, parse_number_and_hex, split_once};
 use ip_ext_chains::IpNumber;
@@ -16,6 +17,8 @@ use std::alloc::{AllocError, Allocator};
 pub enum Request<'a> {
     /// `exts6 N HEX`.
     Exts6(IpNumber, &'a [u8]),
+    /// `exts4 N HEX`.
+    Exts4(IpNumber, &'a [u8]),
 }
 
 /// What a line asks for, if it isn't too long and has a form. `buffer` takes the bytes that its digits
@@ -43,6 +46,10 @@ fn parse_form<'a>(
         let (number, bytes) = parse_number_and_hex(arguments, buffer)?;
         return Some(Request::Exts6(number, bytes));
     }
+    if form == b"exts4".as_slice() {
+        let (number, bytes) = parse_number_and_hex(arguments, buffer)?;
+        return Some(Request::Exts4(number, bytes));
+    }
     None
 }
 
@@ -56,5 +63,6 @@ pub fn push_answer<A: Allocator>(
 {
     match request {
         Request::Exts6(number, bytes) => push_exts6(number, bytes, text),
+        Request::Exts4(number, bytes) => push_exts4(number, bytes, text),
     }
 }

@@ -110,8 +110,8 @@ fn repeated(alloc: Global, part: &[u8], count: usize) -> Result<Vec<u8>, AllocEr
 }
 
 #[test]
-fn exts6_answers(rt: HostRuntime) -> Result<(), Fail> {
-    let rows: [(&str, &[u8], &[u8]); 9] = [
+fn known_answers(rt: HostRuntime) -> Result<(), Fail> {
+    let rows: [(&str, &[u8], &[u8]); 13] = [
         (
             "a header and a fault behind it",
             b"exts6 60 2b00000000000000\n",
@@ -145,6 +145,26 @@ fn exts6_answers(rt: HostRuntime) -> Result<(), Fail> {
             b"next 17 rest 4\nok\nnext 17 rest 1\nok\n",
         ),
         ("no line", b"", b""),
+        (
+            "an IPv4 authentication header, and its number again",
+            b"exts4 51 3301000000000000000000001101\n",
+            b"0 auth 12\nnext 51 rest 2\nok\n",
+        ),
+        (
+            "an IPv4 authentication header of length 0",
+            b"exts4 51 110000000000000000000000\n",
+            b"next 51 rest 12\nfault ZeroPayloadLen\n",
+        ),
+        (
+            "an IPv4 authentication header that isn't there",
+            b"exts4 51 -\n",
+            b"next 51 rest 0\nfault len 12 of 0 Slice IpAuthHeader at 0\n",
+        ),
+        (
+            "no IPv4 extension header",
+            b"exts4 0 -\n",
+            b"next 0 rest 0\nok\n",
+        ),
     ];
     for (name, input, answer) in rows {
         assert_eq!(rt; output_of(rt.alloc(), input)?.as_slice(), answer, "{name}");

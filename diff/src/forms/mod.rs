@@ -1,4 +1,5 @@
 //! The forms of a line. A further form is a file here and a line in `forms`.
+mod exts4;
 mod exts6;
 
 use crate::named::Difference;
@@ -21,7 +22,7 @@ pub trait Form {
 
 /// All forms.
 pub fn forms() -> Vec<Box<dyn Form>> {
-    vec![Box::new(exts6::Exts6)]
+    vec![Box::new(exts6::Exts6), Box::new(exts4::Exts4)]
 }
 
 /// Appends the original's answer to a line, and tells the named differences that it has.

@@ -1,4 +1,5 @@
 //! Errors of chains, and those of the crates below that they contain.
+pub mod ipv4_exts;
 pub mod ipv6_exts;
 
 pub use ip_base::err::{Layer, LenError};

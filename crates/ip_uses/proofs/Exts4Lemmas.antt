@@ -1,0 +1,48 @@
+-- The answer to `exts4`, as the plain program goes through it.
+use Rattle.std.proofs.Common.{◌≡◌, ℕ, zero, suc, ◌≤◌, List, [], ◌∷◌, ◌++◌, length, take, drop, get_or, true, refl, ap, ◌∙◌, arith, append_assoc, append-nil}
+use Rattle.std.proofs.lemmas.List.{length-take-le}
+use Rattle.ip_base.specs.declared.len_source.LenSource.TheVariants.{Slice}
+use Rattle.ip_spec.specs.Chain.{ExtHeader, IsNext, IsEnd, bytes_of, is_empty, leads_to}
+use Rattle.ip_spec.proofs.HeaderLemmas.{header-least}
+use Rattle.ip_spec.proofs.DemandKinds.{one_of_first, one_of_none}
+use Rattle.ip_ext_headers.specs.Fault.{auth_fault}
+use Rattle.ip_ext_chains.specs.Ipv4Fault.{ipv4_fault_at}
+use Rattle.ip_ext_chains.specs.Ipv4Longest.{longest_ipv4_chain}
+use Rattle.ip_ext_chains.proofs.Ipv4Lemmas.{ipv4_longest-is}
+use Rattle.ipexts_tool.specs.Exts4.{exts4_answer}
+use Rattle.ipexts_tool.specs.Parts.{header_line, header_lines, next_line, ipv4_end_line, ok_line}
+
+-- what is told where the chain c was taken
+abbrev told : List ℕ → List ExtHeader → List ℕ
+told s c =
+    let r : List ℕ = drop (length (bytes_of c)) s in
+    header_lines 0 c ++ next_line (leads_to 51 c) (length r) ++ ipv4_end_line (ipv4_fault_at Slice (length r) (length (bytes_of c)) (is_empty c) (leads_to 51 c) r)
+
+first_byte : (k : ℕ) (s : List ℕ) → 8 ≤ k → get_or (take k s) 0 0 ≡ get_or s 0 0
+first_byte zero s few = absurd (omega arith)
+first_byte (suc k) [] few = refl
+first_byte (suc k) (x ∷ s) few = refl
+
+pub exts4_one : (n : ℕ) (s : List ℕ) (k : ℕ) → n ≡ 51 → k ≤ length s → IsNext true 51 s (record { number = 51; bytes = take k s })
+    → exts4_answer n s ≡ header_line 0 51 k ++ next_line (get_or s 0 0) (length (drop k s)) ++ ok_line
+exts4_one n s k e enough next =
+    let h : ExtHeader = record { number = 51; bytes = take k s } in
+    let is : longest_ipv4_chain 51 s ≡ h ∷ [] = ipv4_longest-is 51 s (h ∷ []) (one_of_first 51 51 s h next refl) in
+    let len : length (take k s) ≡ k = length-take-le k s enough in
+    let all : length (take k s ++ []) ≡ k = ap length (append-nil (take k s)) ∙ len in
+    let least : 8 ≤ k = omega (arith, header-least 51 (take k s) next.header, len) in
+    ap (λ m. exts4_answer m s) e ∙ ap (told s) is
+    ∙ ap (λ j. (header_line 0 51 j ++ []) ++ next_line (get_or (take k s) 0 0) (length (drop (length (take k s ++ [])) s)) ++ ok_line) len
+    ∙ ap (λ l. l ++ next_line (get_or (take k s) 0 0) (length (drop (length (take k s ++ [])) s)) ++ ok_line) (append-nil (header_line 0 51 k))
+    ∙ ap (λ j. header_line 0 51 k ++ next_line (get_or (take k s) 0 0) (length (drop j s)) ++ ok_line) all
+    ∙ ap (λ m. header_line 0 51 k ++ next_line m (length (drop k s)) ++ ok_line) (first_byte k s least)
+
+pub exts4_none : (n : ℕ) (s : List ℕ) → n ≡ 51 → IsEnd true 51 s → exts4_answer n s ≡ next_line 51 (length s) ++ ipv4_end_line (auth_fault Slice (length s) 0 s)
+exts4_none n s e end = ap (λ m. exts4_answer m s) e ∙ ap (told s) (ipv4_longest-is 51 s [] (one_of_none 51 51 s (λ z. end)))
+
+-- Parts that were appended one after the other.
+pub two_joined : (text next end t₁ t₂ : List ℕ) → t₁ ≡ text ++ next → t₂ ≡ t₁ ++ end → t₂ ≡ text ++ (next ++ end)
+two_joined text next end t₁ t₂ a b = rw (b, a) (simp append_assoc)
+
+pub three_joined : (text line next end t₁ t₂ t₃ : List ℕ) → t₁ ≡ text ++ line → t₂ ≡ t₁ ++ next → t₃ ≡ t₂ ++ end → t₃ ≡ text ++ (line ++ next ++ end)
+three_joined text line next end t₁ t₂ t₃ a b c = rw (c, b, a) (simp append_assoc)

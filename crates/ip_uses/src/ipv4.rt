@@ -1,0 +1,45 @@
+//! Callers of IPv4 extension headers.
+ghost use Rattle.std.specs.Prelude.{◌≡◌, [], IfOk, OnErr, IsTrue};
+ghost use Rattle.std.specs.Option.{option_map};
+ghost use Rattle.ip_spec.specs.FieldsOf.{AuthFields};
+ghost use Rattle.ip_spec.specs.Encoding.{AppendsOne};
+ghost use Rattle.ip_ext_chains.specs.Ipv4Longest.{longest_ipv4_chain};
+ghost use Rattle.ip_ext_chains.specs.Ipv4Parse.{ipv4_value};
+ghost use Rattle.ip_ext_chains.specs.Ipv4Walk.{IsIpv4Reading};
+
+use ip_base::IpNumber;
+use ip_ext_chains::err::ipv4_exts::HeaderWriteError;
+use ip_ext_chains::{Ipv4Extensions, Ipv4ExtensionsSlice};
+use std::alloc::AllocError;
+
+/// Appends the extension headers that begin a packet's bytes, now before a payload of the number `last`. It
+/// answers the packet's new protocol number, from which they are read again with that number behind them.
+pub fn put_before(
+    start: IpNumber,
+    packet: &[u8],
+    last: IpNumber,
+    out: &mut Vec<u8>,
+) -> Result<IpNumber, AllocError>
+    ensures read { IfOk result (λ first. AppendsOne (λ b. IsIpv4Reading first.0 b
+        (option_map (λ (v : AuthFields). record v { next_header = last.0 })
+        (ipv4_value (longest_ipv4_chain start.0 packet.now))) last.0 [])
+        out.old.items out.new.items) }
+    ensures err { OnErr result (out.new.items ≡ out.old.items) }
+{
+    let (mut headers, _, _, _) = Ipv4Extensions::from_slice_lax(start, packet);
+    let first = headers.set_next_headers(last);
+    match headers.write(out, first) {
+        Ok(()) => Ok(first),
+        Err(HeaderWriteError::Io(e)) => Err(e),
+        Err(HeaderWriteError::Content(_)) => unreachable!(),
+    }
+}
+
+/// Whether both forms of a parse read the same headers, which they do.
+pub fn forms_agree(start: IpNumber, packet: &[u8]) -> bool
+    ensures { IsTrue result }
+{
+    let (slices, number, _, _) = Ipv4ExtensionsSlice::from_slice_lax(start, packet);
+    let (headers, same_number, _, _) = Ipv4Extensions::from_slice_lax(start, packet);
+    slices.to_header() == headers && number == same_number
+}

@@ -1,0 +1,187 @@
+//! IPv4 extension headers.
+use ip_base::err::{Layer, LenError};
+use ip_base::{IpNumber, LenSource};
+use ip_ext_chains::err::ip_auth::{HeaderError, HeaderSliceError};
+use ip_ext_chains::err::ipv4_exts::{ExtsWalkError, HeaderWriteError};
+use ip_ext_chains::{Ipv4Extensions, Ipv4ExtensionsSlice};
+use ip_ext_headers::IpAuthHeader;
+use linked_list_allocator::LocalHeap;
+use std::process::Abort;
+use std::test::Fail;
+
+/// Start number and bytes; the length of the header; number, how many bytes are left, and fault.
+#[derive(Drop)]
+struct Row<'a> {
+    name: &'a str,
+    start: u8,
+    bytes: &'a [u8],
+    header: Option<usize>,
+    number: u8,
+    rest: usize,
+    fault: Option<HeaderSliceError>,
+}
+
+/// All forms of the parse answer the row.
+fn check(rt: &impl Abort, row: &Row<'_>) -> Result<(), Fail> {
+    let name = row.name;
+    let start = IpNumber(row.start);
+    let taken = row.bytes.len().saturating_sub(row.rest);
+    let answer = (IpNumber(row.number), &row.bytes[taken..]);
+    let (slices, number, rest, fault) = Ipv4ExtensionsSlice::from_slice_lax(start, row.bytes);
+    assert_eq!(rt;
+        slices.auth.map(|header| header.slice().len()),
+        row.header,
+        "{name}"
+    );
+    assert_eq!(rt; (number, rest), answer, "{name}");
+    assert_eq!(rt; fault, row.fault, "{name}");
+    assert_eq!(rt; slices.is_empty(), row.header.is_none(), "{name}");
+    let (headers, number, rest, fault) = Ipv4Extensions::from_slice_lax(start, row.bytes);
+    assert!(rt; headers == slices.to_header(), "{name}");
+    assert_eq!(rt; (number, rest), answer, "{name}");
+    assert_eq!(rt; fault, row.fault, "{name}");
+    match (
+        Ipv4ExtensionsSlice::from_slice(start, row.bytes),
+        Ipv4Extensions::from_slice(start, row.bytes),
+        &row.fault,
+    ) {
+        (Ok(strict), Ok(owned), None) => {
+            assert!(rt; strict.0 == slices && owned.0 == headers, "{name}");
+            assert_eq!(rt; (strict.1, strict.2), answer, "{name}");
+            assert_eq!(rt; (owned.1, owned.2), answer, "{name}");
+        }
+        (Err(a), Err(b), Some(expected)) => assert!(rt; a == *expected && b == *expected, "{name}"),
+        _ => assert!(rt; false, "{name}"),
+    }
+    Ok(())
+}
+
+#[test]
+fn parses(rt: HostRuntime) -> Result<(), Fail> {
+    let rows = [
+        Row {
+            name: "no extension number",
+            start: 17,
+            bytes: &[0, 1, 2, 3],
+            header: None,
+            number: 17,
+            rest: 4,
+            fault: None,
+        },
+        Row {
+            name: "no bytes",
+            start: 51,
+            bytes: &[],
+            header: None,
+            number: 51,
+            rest: 0,
+            fault: Some(HeaderSliceError::Len(LenError {
+                required_len: 12,
+                len: 0,
+                len_source: LenSource::Slice,
+                layer: Layer::IpAuthHeader,
+                layer_start_offset: 0,
+            })),
+        },
+        Row {
+            name: "a header",
+            start: 51,
+            bytes: &[17, 1, 0, 0, 0, 0, 0, 0, 0, 0, 0, 0],
+            header: Some(12),
+            number: 17,
+            rest: 0,
+            fault: None,
+        },
+        Row {
+            name: "a header, and its number again",
+            start: 51,
+            bytes: &[51, 1, 0, 0, 0, 0, 0, 0, 0, 0, 0, 0, 17, 1],
+            header: Some(12),
+            number: 51,
+            rest: 2,
+            fault: None,
+        },
+        Row {
+            name: "a header of length 0",
+            start: 51,
+            bytes: &[17, 0, 0, 0, 0, 0, 0, 0, 0, 0, 0, 0],
+            header: None,
+            number: 51,
+            rest: 12,
+            fault: Some(HeaderSliceError::Content(HeaderError::ZeroPayloadLen)),
+        },
+        Row {
+            name: "a fragment header is none here",
+            start: 44,
+            bytes: &[17, 0, 0, 0, 0, 0, 0, 0],
+            header: None,
+            number: 44,
+            rest: 8,
+            fault: None,
+        },
+    ];
+    for row in rows {
+        check(&rt, &row)?;
+    }
+    let made = IpAuthHeader::new(IpNumber(17), 0, 0, &[])?;
+    let (headers, _, _, _) = Ipv4Extensions::from_slice_lax(IpNumber(51), &made.to_bytes());
+    assert!(rt; headers.auth == Some(made));
+    Ok(())
+}
+
+#[test]
+fn linked_and_written(rt: HostRuntime) -> Result<(), Fail> {
+    let mut headers = Ipv4Extensions {
+        auth: Some(IpAuthHeader::new(IpNumber(17), 1, 2, &[9, 8, 7, 6])?),
+    };
+    assert_eq!(rt; headers.header_len(), 16);
+    let missing = ExtsWalkError::ExtNotReferenced {
+        missing_ext: IpNumber(51),
+    };
+    assert_eq!(rt; headers.next_header(IpNumber(17)), Err(missing.clone()?));
+    let mut out = Vec::new(rt.alloc());
+    match headers.write(&mut out, IpNumber(17)) {
+        Err(HeaderWriteError::Content(e)) => assert_eq!(rt; e, missing),
+        _ => assert!(rt; false, "another number names the header"),
+    }
+    assert!(rt; out.is_empty());
+    assert_eq!(rt; headers.set_next_headers(IpNumber(6)), IpNumber(51));
+    assert_eq!(rt; headers.next_header(IpNumber(51)), Ok(IpNumber(6)));
+    assert!(rt; headers.write(&mut out, IpNumber(51)).is_ok());
+    let expected = [6, 2, 0, 0, 0, 0, 0, 1, 0, 0, 0, 2, 9, 8, 7, 6];
+    assert_eq!(rt; out.as_slice(), expected.as_slice());
+    let copy = headers.clone()?;
+    assert!(rt; copy == headers && !copy.is_empty());
+
+    let mut none = Ipv4Extensions::default();
+    assert!(rt; none.is_empty() && none.clone()? == none && none != copy);
+    assert_eq!(rt; none.header_len(), 0);
+    assert_eq!(rt; none.set_next_headers(IpNumber(6)), IpNumber(6));
+    assert_eq!(rt; none.next_header(IpNumber(51)), Ok(IpNumber(51)));
+    assert!(rt; none.write(&mut out, IpNumber(17)).is_ok());
+    assert_eq!(rt; out.len(), 16);
+    assert!(rt; Ipv4ExtensionsSlice::default().to_header() == none);
+    Ok(())
+}
+
+#[test]
+fn write_and_memory(rt: HostRuntime) -> Result<(), Fail> {
+    let headers = Ipv4Extensions {
+        auth: Some(IpAuthHeader::new(IpNumber(17), 1, 2, &[7; 1016])?),
+    };
+    let none = Ipv4Extensions::default();
+    // Whether a vector on a heap of this size, which holds three bytes, takes the header.
+    for (size, expected) in [(64usize, false), (1 << 12, true)] {
+        let heap = LocalHeap::new(rt.alloc(), size)?;
+        let mut out: Vec<u8, &LocalHeap> = Vec::from_slice(&heap, &[1, 2, 3])?;
+        assert!(rt; none.write(&mut out, IpNumber(51)).is_ok(), "{size}");
+        match headers.write(&mut out, IpNumber(51)) {
+            Ok(()) => assert!(rt; expected && out.len() == 3 + 1028, "{size}"),
+            Err(HeaderWriteError::Io(_)) => assert!(rt; !expected, "{size}"),
+            Err(HeaderWriteError::Content(_)) => assert!(rt; false, "{size}"),
+        }
+        assert!(rt; out.as_slice().starts_with(&[1, 2, 3]), "{size}");
+        assert!(rt; expected || out.len() == 3, "{size}");
+    }
+    Ok(())
+}

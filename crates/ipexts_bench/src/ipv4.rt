@@ -1,0 +1,110 @@
+//! IPv4 extension headers, borrowed and owned, and their bytes.
+use crate::digest::{of_auth, of_auth_fault, of_bytes, with};
+use crate::headers::{of_owned_auth, of_written};
+use ip_ext_chains::err::ip_auth::HeaderSliceError;
+use ip_ext_chains::{IpNumber, Ipv4Extensions, Ipv4ExtensionsSlice, ip_number};
+use std::alloc::Global;
+
+/// Every part of an answer that borrows.
+#[inline(never)]
+fn of_slices(
+    headers: &Ipv4ExtensionsSlice<'_>,
+    number: IpNumber,
+    rest: &[u8],
+    fault: &Option<HeaderSliceError>,
+) -> u64 {
+    let header = match &headers.auth {
+        Some(header) => of_auth(header),
+        None => 1,
+    };
+    with(header, of_end(number, rest, fault))
+}
+
+/// Every part of an answer with bytes of its own; of the check value the first byte and the last.
+#[inline(never)]
+fn of_headers(
+    headers: &Ipv4Extensions,
+    number: IpNumber,
+    rest: &[u8],
+    fault: &Option<HeaderSliceError>,
+) -> u64 {
+    let header = match &headers.auth {
+        Some(header) => of_owned_auth(header, header.raw_icv().len().saturating_sub(1)),
+        None => 1,
+    };
+    with(header, of_end(number, rest, fault))
+}
+
+/// Where a chain ended.
+fn of_end(number: IpNumber, rest: &[u8], fault: &Option<HeaderSliceError>) -> u64 {
+    let end = with(u64::from(number.0), of_bytes(rest));
+    match fault {
+        Some(fault) => with(end, of_auth_fault(fault)),
+        None => end,
+    }
+}
+
+/// The lax parse that borrows.
+#[unsafe(no_mangle)]
+pub extern "C" fn ipexts_ipv4_lax(start: u8, bytes: &[u8]) -> u64 {
+    let (headers, number, rest, fault) = Ipv4ExtensionsSlice::from_slice_lax(
+        IpNumber(start),
+        bytes,
+    );
+    of_slices(&headers, number, rest, &fault)
+}
+
+/// The strict parse that borrows.
+#[unsafe(no_mangle)]
+pub extern "C" fn ipexts_ipv4_strict(start: u8, bytes: &[u8]) -> u64 {
+    match Ipv4ExtensionsSlice::from_slice(IpNumber(start), bytes) {
+        Ok((headers, number, rest)) => of_slices(&headers, number, rest, &None),
+        Err(fault) => of_auth_fault(&fault),
+    }
+}
+
+/// The lax parse that borrows, of which a filter reads where the payload lies.
+#[unsafe(no_mangle)]
+pub extern "C" fn ipexts_ipv4_filter(start: u8, bytes: &[u8]) -> u64 {
+    let (_, number, rest, fault) = Ipv4ExtensionsSlice::from_slice_lax(IpNumber(start), bytes);
+    let place = with(u64::from(number.0), rest.len() as u64);
+    with(u64::from(fault.is_none()), place)
+}
+
+/// The lax parse with bytes of its own.
+#[unsafe(no_mangle)]
+pub extern "C" fn ipexts_ipv4_owned_lax(start: u8, bytes: &[u8]) -> u64 {
+    let (headers, number, rest, fault) = Ipv4Extensions::from_slice_lax(IpNumber(start), bytes);
+    of_headers(&headers, number, rest, &fault)
+}
+
+/// The strict parse with bytes of its own.
+#[unsafe(no_mangle)]
+pub extern "C" fn ipexts_ipv4_owned_strict(start: u8, bytes: &[u8]) -> u64 {
+    match Ipv4Extensions::from_slice(IpNumber(start), bytes) {
+        Ok((headers, number, rest)) => of_headers(&headers, number, rest, &None),
+        Err(fault) => of_auth_fault(&fault),
+    }
+}
+
+/// Headers that are linked, gone over and written `times` times into a vector that was emptied before, each
+/// time before another number.
+#[unsafe(no_mangle)]
+pub extern "C" fn ipexts_ipv4_write(alloc: Global, bytes: &[u8], at: usize, times: u32) -> u64 {
+    let (mut headers, _, _, _) = Ipv4Extensions::from_slice_lax(ip_number::AUTH, bytes);
+    let mut out = Vec::new(alloc);
+    let mut sum = 0;
+    for time in 0..times {
+        let first = headers.set_next_headers(IpNumber((time % 256) as u8));
+        let leads = match headers.next_header(first) {
+            Ok(number) => u64::from(number.0),
+            Err(_) => 256,
+        };
+        out.clear();
+        if headers.write(&mut out, first).is_err() {
+            return 0;
+        }
+        sum = with(with(sum, leads), of_written(out.as_slice(), at));
+    }
+    sum
+}

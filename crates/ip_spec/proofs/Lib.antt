@@ -14,3 +14,7 @@ pub mod RunsLemmas
 pub mod PlaceLemmas
 pub mod ShorterLemmas
 pub mod EncodingLemmas
+pub mod ClearedLemmas
+pub mod EncodedLemmas
+pub mod WalkLemmas
+pub mod WalkStepLemmas

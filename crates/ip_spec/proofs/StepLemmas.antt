@@ -16,11 +16,11 @@ pub all_first : {X : Type 0} (P : X → Type 0) (c d : List X) → AllByRecursio
 all_first P [] d a = tt
 all_first P (x ∷ c) d a = (a.0, all_first P c d a.1)
 
-all_next : {X : Type 0} (P : X → Type 0) (c : List X) (x : X) → AllByRecursion P (c ++ x ∷ []) → P x
+pub all_next : {X : Type 0} (P : X → Type 0) (c : List X) (x : X) → AllByRecursion P (c ++ x ∷ []) → P x
 all_next P [] x a = a.0
 all_next P (y ∷ c) x a = all_next P c x a.1
 
-all_more : {X : Type 0} (P : X → Type 0) (c : List X) (x : X) → AllByRecursion P c → P x → AllByRecursion P (c ++ x ∷ [])
+pub all_more : {X : Type 0} (P : X → Type 0) (c : List X) (x : X) → AllByRecursion P c → P x → AllByRecursion P (c ++ x ∷ [])
 all_more P [] x a p = (p, tt)
 all_more P (y ∷ c) x a p = (a.0, all_more P c x a.1 p)
 
@@ -51,6 +51,32 @@ zero_more (g ∷ c) h a b = all_more (λ k. k.number ≢ 0) c h a (λ e. let no 
 pub no_chain : (n : ℕ) → IsChain n []
 no_chain n = record { headers = tt; links = tt; zero_only_first = tt }
 
+-- A beginning of a chain is one, and a header that goes on with the number to which a chain leads makes one.
+module _ (n : ℕ) (c : List ExtHeader) where
+  pub chain_begins : (d : List ExtHeader) → IsChain n (c ++ d) → IsChain n c
+  chain_begins d k = record {
+    headers = all_first (λ h. IsHeader h.number h.bytes) c d k.headers;
+    links = links_first n c d k.links;
+    zero_only_first = zero_first c d k.zero_only_first;
+  }
+
+  module _ (h : ExtHeader) where
+    pub chain_number : IsChain n (c ++ h ∷ []) → h.number ≡ leads_to n c
+    chain_number k = links_next n c h k.links
+
+    pub chain_header : IsChain n (c ++ h ∷ []) → IsHeader h.number h.bytes
+    chain_header k = all_next (λ g. IsHeader g.number g.bytes) c h k.headers
+
+    pub chain_zero : IsChain n (c ++ h ∷ []) → h.number ≡ 0 → is_empty c ≡ true
+    chain_zero k = zero_next c h k.zero_only_first
+
+    pub chain_more : IsChain n c → h.number ≡ leads_to n c → IsHeader h.number h.bytes → (h.number ≡ 0 → is_empty c ≡ true) → IsChain n (c ++ h ∷ [])
+    chain_more k number header zero = record {
+      headers = all_more (λ g. IsHeader g.number g.bytes) c h k.headers header;
+      links = links_more n c h k.links number;
+      zero_only_first = zero_more c h k.zero_only_first zero;
+    }
+
 -- What a chain and one more header make.
 pub bytes_of-more : (c : List ExtHeader) (h : ExtHeader) → bytes_of (c ++ h ∷ []) ≡ bytes_of c ++ h.bytes
 bytes_of-more c h = flat_map-append (λ k. k.bytes) c (h ∷ []) ∙ ap (λ x. bytes_of c ++ x) (append-nil h.bytes)
@@ -62,11 +88,7 @@ leads_to-more n (g ∷ c) h = leads_to-more (next_header g.bytes) c h
 module _ (n : ℕ) (s : List ℕ) where
   pub begins : (c d : List ExtHeader) → IsPrefixChain n s (c ++ d) → IsPrefixChain n s c
   begins c d p = record {
-    chain = record {
-      headers = all_first (λ h. IsHeader h.number h.bytes) c d p.chain.headers;
-      links = links_first n c d p.chain.links;
-      zero_only_first = zero_first c d p.chain.zero_only_first;
-    };
+    chain = chain_begins n c d p.chain;
     prefix =
         let F : List ℕ → Type 0 = λ b. IsPrefix b s in
         prefix_first (bytes_of c) (bytes_of d) s (subst F (flat_map-append (λ k. k.bytes) c d) p.prefix);
@@ -74,14 +96,14 @@ module _ (n : ℕ) (s : List ℕ) where
 
   pub next_of : (c : List ExtHeader) (h : ExtHeader) → IsPrefixChain n s (c ++ h ∷ []) → IsNext (is_empty c) (leads_to n c) (drop (length (bytes_of c)) s) h
   next_of c h p =
-      let number : h.number ≡ leads_to n c = links_next n c h p.chain.links in
+      let number : h.number ≡ leads_to n c = chain_number n c h p.chain in
       let H : ℕ → Type 0 = λ m. IsHeader m h.bytes in
       let F : List ℕ → Type 0 = λ b. IsPrefix b s in
       record {
         number = number;
-        header = subst H number (all_next (λ k. IsHeader k.number k.bytes) c h p.chain.headers);
+        header = subst H number (chain_header n c h p.chain);
         prefix = prefix_second (bytes_of c) h.bytes s (subst F (bytes_of-more c h) p.prefix);
-        zero_only_first = λ z. zero_next c h p.chain.zero_only_first (number ∙ z);
+        zero_only_first = λ z. chain_zero n c h p.chain (number ∙ z);
       }
 
   pub goes_on : (c : List ExtHeader) (h : ExtHeader) → IsPrefixChain n s c → IsNext (is_empty c) (leads_to n c) (drop (length (bytes_of c)) s) h → IsPrefixChain n s (c ++ h ∷ [])
@@ -89,11 +111,7 @@ module _ (n : ℕ) (s : List ℕ) where
       let H : ℕ → Type 0 = λ m. IsHeader m h.bytes in
       let F : List ℕ → Type 0 = λ b. IsPrefix b s in
       record {
-        chain = record {
-          headers = all_more (λ k. IsHeader k.number k.bytes) c h p.chain.headers (subst H (sym x.number) x.header);
-          links = links_more n c h p.chain.links x.number;
-          zero_only_first = zero_more c h p.chain.zero_only_first (λ z. x.zero_only_first (sym x.number ∙ z));
-        };
+        chain = chain_more n c h p.chain x.number (subst H (sym x.number) x.header) (λ z. x.zero_only_first (sym x.number ∙ z));
         prefix = subst F (sym (bytes_of-more c h)) (prefix_join (bytes_of c) h.bytes s p.prefix x.prefix);
       }
 

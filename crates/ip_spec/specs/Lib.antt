@@ -14,4 +14,8 @@ pub mod Fits
 pub mod Places
 pub mod Encoded
 pub mod Runs
+pub mod Walk
+pub mod Links
+pub mod Encodable
+pub mod WalkStep
 pub mod PlainHeader

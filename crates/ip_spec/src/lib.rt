@@ -7,6 +7,7 @@ mod demand_laws;
 mod header_laws;
 mod plain;
 mod runs_laws;
+mod walk_laws;
 
 pub use chain_laws::{longest_chain_ends, one_longest_chain};
 pub use demand_laws::{
@@ -23,3 +24,4 @@ pub use runs_laws::{
     fewest_runs, one_list_of_runs, runs_are_longest_fitting_chains, runs_count,
     runs_keep_each_header,
 };
+pub use walk_laws::cleared_chain_says_the_same;

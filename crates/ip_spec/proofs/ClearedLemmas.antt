@@ -1,0 +1,167 @@
+-- Chains whose reserved bits are put to zero: they lead where they led, stand in the same places and say the same.
+use Rattle.std.proofs.Common.{◌≡◌, ◌≢◌, ℕ, ◌<◌, List, [], ◌∷◌, ◌++◌, length, map, take, drop, refl, ap, sym, ◌∙◌, arith, inl, inr, subst, Bool, true, false, get_or, length-set}
+use Rattle.std.specs.Prelude.{Option, Some, None, All, slice_range, ◌==◌}
+use Rattle.std.specs.List.{AllByRecursion, find, before_first, after_first}
+use Rattle.std.specs.Option.{option_map, ForSome}
+use Rattle.std.proofs.lemmas.Bool.{cases_Bool}
+use Rattle.std.proofs.lemmas.Option.{none-some, same_Some}
+use Rattle.std.proofs.Math.Seq.{take-append_seam, drop-append_seam}
+use Rattle.std.proofs.lemmas.List.Elements.{All-from_recursion, recursion_from_All, All-take, All-drop, All-append}
+use Rattle.ip_spec.specs.Header.{IsHeader, IsRawNumber, raw, fragment, auth}
+use Rattle.ip_spec.specs.Fields.{next_header}
+use Rattle.ip_spec.specs.FieldsOf.{FragmentFields, AuthFields, fragment_fields, auth_fields}
+use Rattle.ip_spec.specs.Cleared.{cleared_header, cleared_fragment, cleared_auth}
+use Rattle.ip_spec.specs.Encoding.{AreBytes}
+use Rattle.ip_spec.specs.Chain.{ExtHeader, AreLinked, leads_to, bytes_of, IsChain}
+use Rattle.ip_spec.specs.Fits.{numbers_of, NumbersFit, FitsPlaces}
+use Rattle.ip_spec.specs.Places.{Place, hop_by_hop, destination, routing, fragment as fragment_place, authentication, final_destination, header_in, first_of, before_routing_header, after_routing_header, HeaderFields, fields_of, fragment_header, auth_header}
+use Rattle.ip_spec.specs.Encoded.{fixed_len, IsCleared, AreCleared, cleared_chain}
+use Rattle.ip_spec.proofs.FirstLemmas.{find-yes, find-no, before-map, after-map}
+use Rattle.ip_spec.proofs.EncodingLemmas.{cleared_fragment_same, cleared_auth_same, cleared_fragment_encodes, cleared_auth_encodes}
+
+-- What clearing leaves of a header.
+pub record ClearedSame (n : ℕ) (b : List ℕ) : Type 0 where
+  pub header : IsHeader n (cleared_header n b)
+  pub fields : fields_of (record { number = n; bytes = cleared_header n b }) ≡ fields_of (record { number = n; bytes = b })
+  pub next : next_header (cleared_header n b) ≡ next_header b
+  pub len : length (cleared_header n b) ≡ length b
+  pub again : cleared_header n (cleared_header n b) ≡ cleared_header n b
+  pub bytes : AreBytes (slice_range b 1 (fixed_len n)) → AreBytes (slice_range (cleared_header n b) 1 (fixed_len n))
+
+module _ (b : List ℕ) where
+  raw_same : (n : ℕ) → IsRawNumber n → IsHeader n b → ClearedSame n b
+  raw_same n k h =
+      let S : ℕ → Type 0 = λ m. IsHeader m b → ClearedSame m b in
+      elim k [
+        | inl e ↦ subst S (sym e) (λ g. record { header = g; fields = refl; next = refl; len = refl; again = refl; bytes = λ a. a }) h
+        | inr k' ↦ elim k' [
+          | inl e ↦ subst S (sym e) (λ g. record { header = g; fields = refl; next = refl; len = refl; again = refl; bytes = λ a. a }) h
+          | inr e ↦ subst S (sym e) (λ g. record { header = g; fields = refl; next = refl; len = refl; again = refl; bytes = λ a. a }) h
+        ]
+      ]
+
+  pub cleared_same : (n : ℕ) → IsHeader n b → ClearedSame n b
+  cleared_same n h =
+      let S : ℕ → Type 0 = λ m. ClearedSame m b in
+      elim h [
+        | raw k r ↦ raw_same n k (raw k r)
+        | fragment e f ↦ subst S (sym e) (
+            let same = cleared_fragment_same b f in
+            record {
+              header = fragment refl same.0;
+              fields = ap fragment_header same.1;
+              next = ap (λ (v : FragmentFields). v.next_header) same.1;
+              len = same.0.len ∙ sym f.len;
+              again = same.2;
+              bytes = λ a. (cleared_fragment_encodes b f a).bytes;
+            })
+        | auth e a ↦ subst S (sym e) (
+            let same = cleared_auth_same b a in
+            record {
+              header = auth refl same.0;
+              fields = ap auth_header same.1;
+              next = ap (λ (v : AuthFields). v.next_header) same.1;
+              len = length-set _ 3 0 ∙ length-set b 2 0;
+              again = same.2;
+              bytes = λ x. (cleared_auth_encodes b a x).bytes;
+            })
+      ]
+
+-- the header h with its reserved bits put to zero
+abbrev pub cleared_of : ExtHeader → ExtHeader
+cleared_of h = record { number = h.number; bytes = cleared_header h.number h.bytes }
+
+abbrev AreHeaders : List ExtHeader → Type 0
+AreHeaders c = AllByRecursion (λ h. IsHeader h.number h.bytes) c
+
+-- The same of chains.
+pub cleared_numbers : (c : List ExtHeader) → numbers_of (cleared_chain c) ≡ numbers_of c
+cleared_numbers [] = refl
+cleared_numbers (h ∷ c) = ap (λ x. h.number ∷ x) (cleared_numbers c)
+
+pub cleared_leads : (n : ℕ) (c : List ExtHeader) → AreHeaders c → leads_to n (cleared_chain c) ≡ leads_to n c
+cleared_leads n [] a = refl
+cleared_leads n (h ∷ c) a = ap (λ m. leads_to m (cleared_chain c)) (cleared_same h.bytes h.number a.0).next ∙ cleared_leads (next_header h.bytes) c a.1
+
+cleared_links : (n : ℕ) (c : List ExtHeader) → AreHeaders c → AreLinked n c → AreLinked n (cleared_chain c)
+cleared_links n [] a l = tt
+cleared_links n (h ∷ c) a l =
+    let L : ℕ → Type 0 = λ m. AreLinked m (cleared_chain c) in
+    (l.0, subst L (sym (cleared_same h.bytes h.number a.0).next) (cleared_links (next_header h.bytes) c a.1 l.1))
+
+cleared_headers : (c : List ExtHeader) → AreHeaders c → AreHeaders (cleared_chain c)
+cleared_headers [] a = tt
+cleared_headers (h ∷ c) a = ((cleared_same h.bytes h.number a.0).header, cleared_headers c a.1)
+
+cleared_not_zero : (c : List ExtHeader) → AllByRecursion (λ h. h.number ≢ 0) c → AllByRecursion (λ h. h.number ≢ 0) (cleared_chain c)
+cleared_not_zero [] a = tt
+cleared_not_zero (h ∷ c) a = (a.0, cleared_not_zero c a.1)
+
+cleared_zero_first : (c : List ExtHeader) → AllByRecursion (λ h. h.number ≢ 0) (drop 1 c) → AllByRecursion (λ h. h.number ≢ 0) (drop 1 (cleared_chain c))
+cleared_zero_first [] a = tt
+cleared_zero_first (h ∷ c) a = cleared_not_zero c a
+
+pub cleared_is_chain : (n : ℕ) (c : List ExtHeader) → IsChain n c → IsChain n (cleared_chain c)
+cleared_is_chain n c k = record {
+  headers = cleared_headers c k.headers;
+  links = cleared_links n c k.headers k.links;
+  zero_only_first = cleared_zero_first c k.zero_only_first;
+}
+
+pub cleared_fits : (c : List ExtHeader) → FitsPlaces c → FitsPlaces (cleared_chain c)
+cleared_fits c f = let N : List ℕ → Type 0 = NumbersFit in subst N (sym (cleared_numbers c)) f
+
+-- of bytes, what is cleared is
+pub cleared_are : (c : List ExtHeader) → AreHeaders c → AreBytes (bytes_of c) → AreCleared (cleared_chain c)
+cleared_are [] a b = tt
+cleared_are (h ∷ c) a b =
+    let same = cleared_same h.bytes h.number a.0 in
+    let P : ℕ → Type 0 = λ x. x < 256 in
+    let mine : AreBytes h.bytes = subst AreBytes (take-append_seam h.bytes (bytes_of c)) (All-take P (length h.bytes) (h.bytes ++ bytes_of c) b) in
+    let others : AreBytes (bytes_of c) = subst AreBytes (drop-append_seam h.bytes (bytes_of c)) (All-drop P (length h.bytes) (h.bytes ++ bytes_of c) b) in
+    (record { reserved = same.again; bytes = same.bytes (All-take P _ (drop 1 h.bytes) (All-drop P 1 h.bytes mine)) }, cleared_are c a.1 others)
+
+-- Each place has the header that it had, cleared.
+find-map : (t : ExtHeader → Bool) → ((h : ExtHeader) → t (cleared_of h) ≡ t h) → (c : List ExtHeader) → find t (cleared_chain c) ≡ option_map cleared_of (find t c)
+find-map t same [] = refl
+find-map t same (h ∷ c) = elim (cases_Bool (t h)) [
+  | inl w ↦ find-yes t (cleared_of h) (cleared_chain c) (same h ∙ w) ∙ sym (ap (option_map cleared_of) (find-yes t h c w))
+  | inr w ↦ find-no t (cleared_of h) (cleared_chain c) (same h ∙ w) ∙ find-map t same c ∙ sym (ap (option_map cleared_of) (find-no t h c w))
+]
+
+first_of-cleared : (m : ℕ) (c : List ExtHeader) → first_of m (cleared_chain c) ≡ option_map cleared_of (first_of m c)
+first_of-cleared m c = find-map (λ h. h.number == m) (λ h. refl) c
+
+pub header_in-cleared : (p : Place) (c : List ExtHeader) → header_in p (cleared_chain c) ≡ option_map cleared_of (header_in p c)
+header_in-cleared hop_by_hop c = first_of-cleared 0 c
+header_in-cleared destination c = ap (first_of 60) (sym (before-map cleared_of (λ h. h.number == 43) c)) ∙ first_of-cleared 60 (before_routing_header c)
+header_in-cleared routing c = first_of-cleared 43 c
+header_in-cleared fragment_place c = first_of-cleared 44 c
+header_in-cleared authentication c = first_of-cleared 51 c
+header_in-cleared final_destination c = ap (first_of 60) (sym (after-map cleared_of (λ h. h.number == 43) c)) ∙ first_of-cleared 60 (after_routing_header c)
+
+-- What holds of each header holds of the one in a place.
+find_has : (P : ExtHeader → Type 0) (t : ExtHeader → Bool) (c : List ExtHeader) → All P c → ForSome (find t c) P
+find_has P t [] a h e = absurd (none-some h e)
+find_has P t (g ∷ c) a h e =
+    let both : AllByRecursion P (g ∷ c) = recursion_from_All P (g ∷ c) a in
+    elim (cases_Bool (t g)) [
+      | inl w ↦ subst P (same_Some g h (sym (find-yes t g c w) ∙ e)) both.0
+      | inr w ↦ find_has P t c (All-from_recursion P c both.1) h (sym (find-no t g c w) ∙ e)
+    ]
+
+pub header_in_has : (P : ExtHeader → Type 0) (p : Place) (c : List ExtHeader) → AllByRecursion P c → ForSome (header_in p c) P
+header_in_has P hop_by_hop c a = find_has P _ c (All-from_recursion P c a)
+header_in_has P destination c a = find_has P _ (before_routing_header c) (All-take P _ c (All-from_recursion P c a))
+header_in_has P routing c a = find_has P _ c (All-from_recursion P c a)
+header_in_has P fragment_place c a = find_has P _ c (All-from_recursion P c a)
+header_in_has P authentication c a = find_has P _ c (All-from_recursion P c a)
+header_in_has P final_destination c a = find_has P _ (after_routing_header c) (All-drop P _ c (All-from_recursion P c a))
+
+-- So a chain says the same cleared.
+fields-cleared : (o : Option ExtHeader) → ForSome o (λ h. IsHeader h.number h.bytes) → option_map fields_of (option_map cleared_of o) ≡ option_map fields_of o
+fields-cleared None a = refl
+fields-cleared (Some h) a = ap Some (cleared_same h.bytes h.number (a h refl)).fields
+
+pub value-cleared : (p : Place) (c : List ExtHeader) → AreHeaders c → option_map fields_of (header_in p (cleared_chain c)) ≡ option_map fields_of (header_in p c)
+value-cleared p c a = ap (option_map fields_of) (header_in-cleared p c) ∙ fields-cleared (header_in p c) (header_in_has (λ h. IsHeader h.number h.bytes) p c a)

@@ -1,0 +1,138 @@
+-- What a value shows, reaches and spells from a number.
+use Rattle.std.proofs.Common.{◌≡◌, ◌≢◌, ℕ, ◌+◌, ◌≤◌, List, [], ◌∷◌, ◌++◌, length, refl, ap, sym, ◌∙◌, arith, inl, inr, ◌⊎◌, subst, append_assoc, Bool, true, false, drop}
+use Rattle.std.specs.Prelude.{Option, Some, None, is_some, ◌==◌, if◌then◌else◌, ◌↔◌}
+use Rattle.std.specs.List.{AllByRecursion}
+use Rattle.std.specs.Option.{option_map, ForSome}
+use Rattle.std.proofs.lemmas.Bool.{cases_Bool}
+use Rattle.std.proofs.lemmas.Bool.Decides.{eqb_tells}
+use Rattle.std.proofs.lemmas.Option.{none-some, same_Some}
+use Rattle.std.proofs.lemmas.List.{append-nil}
+use Rattle.ip_spec.specs.Header.{IsHeader, IsExtensionNumber}
+use Rattle.ip_spec.specs.Chain.{ExtHeader, leads_to, bytes_of, is_empty, IsChain}
+use Rattle.ip_spec.specs.Fits.{FitsPlaces}
+use Rattle.ip_spec.specs.Places.{Place, hop_by_hop, destination, routing, fragment, authentication, final_destination, index, number_in, header_in, has_routing, place_of, fields_of, HeaderFields}
+use Rattle.ip_spec.specs.Encoded.{IsCleared, AreCleared}
+use Rattle.ip_spec.specs.Encodable.{IsEncoded}
+use Rattle.ip_spec.specs.Walk.{Held, IsValueOf, IsSpelling, IsShown, IsReach, unreached}
+use Rattle.ip_spec.proofs.LongestOfLemmas.{Grows, longest_where_none_next, one_longest_of}
+use Rattle.ip_spec.proofs.StepLemmas.{all_first, all_next, all_more, no_chain, chain_begins, chain_number, chain_header, chain_zero, chain_more}
+use Rattle.ip_spec.proofs.FitsLemmas.{fits_places}
+use Rattle.ip_spec.proofs.PlaceLemmas.{same_place, place_number, placed, fits_more, breaks_more}
+use Rattle.ip_spec.proofs.EncodedLemmas.{header_number, one_header_says}
+
+pub none_if : {X : Type 0} (o : Option X) → is_some o ≡ false → o ≡ None
+none_if None e = refl
+none_if (Some x) e = absurd (let differ : true ≡ false = e in cc)
+
+pub some_if : {X : Type 0} (o : Option X) → is_some o ≡ true → (x : X) × (o ≡ Some x)
+some_if None e = absurd (let differ : false ≡ true = e in cc)
+some_if (Some x) e = (x, refl)
+
+-- an extension number has a place
+pub own_place : (m : ℕ) (behind : Bool) → IsExtensionNumber m → (p : Place) × (place_of m behind ≡ Some p)
+own_place m behind x =
+    let P : ℕ → Type 0 = λ k. (p : Place) × (place_of k behind ≡ Some p) in
+    elim x [
+      | inl r ↦ elim r [
+        | inl e ↦ subst P (sym e) (_, refl)
+        | inr r' ↦ elim r' [ inl e ↦ subst P (sym e) (_, refl) | inr e ↦ subst P (sym e) (_, refl) ]
+      ]
+      | inr r ↦ elim r [ inl e ↦ subst P (sym e) (_, refl) | inr e ↦ subst P (sym e) (_, refl) ]
+    ]
+
+-- One more header of a chain that fits: its place was free, it stands there, and the others stay.
+pub record Joins (f : ℕ) (c : List ExtHeader) (x : ExtHeader) : Type 0 where
+  pub place : Place
+  pub at : place_of x.number (has_routing c) ≡ Some place
+  pub free : header_in place c ≡ None
+  pub joined : (p : Place) → header_in p (c ++ x ∷ []) ≡ (if index place == index p then Some x else header_in p c)
+
+pub joins : (f : ℕ) (c : List ExtHeader) (x : ExtHeader) → IsChain f (c ++ x ∷ []) → FitsPlaces (c ++ x ∷ []) → Joins f c x
+joins f c x k fits =
+    let own = own_place x.number (has_routing c) (header_number x.number x.bytes (chain_header f c x k)) in
+    let free : header_in own.0 c ≡ None = elim (cases_Bool (is_some (header_in own.0 c))) [
+      | inl w ↦ absurd (breaks_more c x own.0 own.1 w fits)
+      | inr w ↦ none_if (header_in own.0 c) w
+    ] in
+    record { place = own.0; at = own.1; free = free; joined = placed c x own.0 own.1 free }
+
+module _ {f : ℕ} {c : List ExtHeader} {x : ExtHeader} (j : Joins f c x) where
+  -- it stands in its place
+  pub there : header_in j.place (c ++ x ∷ []) ≡ Some x
+  there = elim (eqb_tells (index j.place) (index j.place)) [
+    | inl w ↦ j.joined j.place ∙ ap (λ b. if b then Some x else header_in j.place c) w.0
+    | inr w ↦ absurd (w.1 refl)
+  ]
+
+  -- and what stood in a place stands there
+  pub kept : (p : Place) (h : ExtHeader) → header_in p c ≡ Some h → header_in p (c ++ x ∷ []) ≡ Some h
+  kept p h e = elim (eqb_tells (index j.place) (index p)) [
+    | inl w ↦ absurd (none-some h (sym (ap (λ q. header_in q c) (sym (same_place j.place p w.1)) ∙ j.free) ∙ e))
+    | inr w ↦ j.joined p ∙ ap (λ b. if b then Some x else header_in p c) w.0 ∙ e
+  ]
+
+pub nothing_in : (p : Place) → header_in p [] ≡ None
+nothing_in hop_by_hop = refl
+nothing_in destination = refl
+nothing_in routing = refl
+nothing_in fragment = refl
+nothing_in authentication = refl
+nothing_in final_destination = refl
+
+module _ (v : Held) (f : ℕ) where
+  -- The header that comes next stands in v, in the place of the number reached.
+  pub record Next (c : List ExtHeader) (x : ExtHeader) : Type 0 where
+    pub number : x.number ≡ leads_to f c
+    pub header : IsHeader x.number x.bytes
+    pub zero : x.number ≡ 0 → is_empty c ≡ true
+    pub cleared : IsCleared x
+    pub joins : Joins f c x
+    pub said : v joins.place ≡ Some (fields_of x)
+
+  pub next_shown : (c : List ExtHeader) (x : ExtHeader) → IsShown v f (c ++ x ∷ []) → Next c x
+  next_shown c x s =
+      let j : Joins f c x = joins f c x s.chain s.fits in
+      record {
+        number = chain_number f c x s.chain;
+        header = chain_header f c x s.chain;
+        zero = chain_zero f c x s.chain;
+        cleared = all_next IsCleared c x s.cleared;
+        joins = j;
+        said = s.shown j.place x (there j);
+      }
+
+  shown_before : (c : List ExtHeader) (x : ExtHeader) → IsShown v f (c ++ x ∷ []) → IsShown v f c
+  shown_before c x s = record {
+    chain = chain_begins f c (x ∷ []) s.chain;
+    fits = fits_places.begins c (x ∷ []) s.fits;
+    shown = λ p h e. s.shown p h (kept (joins f c x s.chain s.fits) p h e);
+    cleared = all_first IsCleared c (x ∷ []) s.cleared;
+  }
+
+  shown_begins : (c d : List ExtHeader) → IsShown v f (c ++ d) → IsShown v f c
+  shown_begins c [] s = subst (IsShown v f) (append-nil c) s
+  shown_begins c (x ∷ d) s = shown_before c x (shown_begins (c ++ x ∷ []) d (subst (IsShown v f) (sym (append_assoc c (x ∷ []) d)) s))
+
+  same_next : (c : List ExtHeader) (x y : ExtHeader) → Next c x → Next c y → x ≡ y
+  same_next c x y a b =
+      let same : x.number ≡ y.number = a.number ∙ sym b.number in
+      let places : Some a.joins.place ≡ Some b.joins.place = sym a.joins.at ∙ ap (λ m. place_of m (has_routing c)) same ∙ b.joins.at in
+      let fields : Some (fields_of x) ≡ Some (fields_of y) = sym a.said ∙ ap v (same_Some _ _ places) ∙ b.said in
+      one_header_says x y same a.header b.header a.cleared b.cleared (same_Some _ _ fields)
+
+  pub shown_grows : Grows (IsShown v f)
+  shown_grows = record {
+    begins = shown_begins;
+    one_next = λ c x y p q. same_next c x y (next_shown c x p) (next_shown c y q);
+  }
+
+  pub one_reach : (c d : List ExtHeader) → IsReach v f c → IsReach v f d → c ≡ d
+  one_reach c d = one_longest_of (IsShown v f) shown_grows c d
+
+  pub none_shown : IsShown v f []
+  none_shown = record {
+    chain = no_chain f;
+    fits = fits_places.empty;
+    shown = λ p h e. absurd (none-some h (sym (nothing_in p) ∙ e));
+    cleared = tt;
+  }

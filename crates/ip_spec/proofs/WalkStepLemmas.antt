@@ -1,0 +1,149 @@
+-- A walk that takes headers out of a value, one after the other.
+use Rattle.std.proofs.Common.{◌≡◌, ◌≢◌, ℕ, ◌+◌, ◌≤◌, List, [], ◌∷◌, ◌++◌, length, refl, ap, sym, ◌∙◌, arith, inl, inr, ◌⊎◌, subst, Bool, true, false}
+use Rattle.std.specs.Prelude.{Option, Some, None, is_some, ◌==◌, ◌&&◌, ◌||◌, not, if◌then◌else◌}
+use Rattle.std.proofs.lemmas.Bool.{cases_Bool, eqb-true, eq-eqb}
+use Rattle.std.proofs.lemmas.Bool.Decides.{eqb_tells}
+use Rattle.std.proofs.lemmas.Option.{none-some, same_Some}
+use Rattle.ip_spec.specs.Header.{IsHeader}
+use Rattle.ip_spec.specs.Fields.{next_header}
+use Rattle.ip_spec.specs.Chain.{ExtHeader, leads_to, bytes_of, is_empty, IsChain}
+use Rattle.ip_spec.specs.Places.{Place, hop_by_hop, destination, routing, fragment, authentication, final_destination, index, number_in, header_in, has_routing, place_of, fields_of, HeaderFields}
+use Rattle.ip_spec.specs.Encoded.{IsCleared}
+use Rattle.ip_spec.specs.Encodable.{IsEncoded, IsEncodable}
+use Rattle.ip_spec.specs.Walk.{Held, IsShown, IsReach, unreached, WalkAnswer, answer_at, IsWalkAnswer}
+use Rattle.ip_spec.specs.WalkStep.{next_place, without}
+use Rattle.ip_spec.proofs.LongestOfLemmas.{longest_where_none_next}
+use Rattle.ip_spec.proofs.StepLemmas.{all_more, leads_to-more, chain_more}
+use Rattle.ip_spec.proofs.PlaceLemmas.{same_place, place_number, placed, fits_more}
+use Rattle.ip_spec.proofs.WalkLemmas.{none_if, Joins, there, Next, next_shown, shown_grows, none_shown, nothing_in}
+
+-- Headers c were reached from f and taken out of v, which leaves u. They lead to m; `first` tells that there is
+-- none, `behind` that a routing header is one of them.
+pub record Walking (v : Held) (f : ℕ) (c : List ExtHeader) (u : Held) (m : ℕ) (first behind : Bool) : Type 0 where
+  pub shown : IsShown v f c
+  pub left : (p : Place) → u p ≡ unreached v c p
+  pub number : m ≡ leads_to f c
+  pub first_is : first ≡ is_empty c
+  pub behind_is : behind ≡ has_routing c
+
+pub walk_begins : (v : Held) (f : ℕ) (u : Held) → ((p : Place) → u p ≡ v p) → Walking v f [] u f true false
+walk_begins v f u e = record {
+  shown = none_shown v f;
+  left = λ p. e p ∙ sym (ap (λ o. if is_some o then None else v p) (nothing_in p));
+  number = refl;
+  first_is = refl;
+  behind_is = refl;
+}
+
+-- what a place that is left says
+left_some : (o : Option ExtHeader) (y : Option HeaderFields) (x : HeaderFields) → (if is_some o then None else y) ≡ Some x → (is_some o ≡ false) × (y ≡ Some x)
+left_some None y x e = (refl, e)
+left_some (Some h) y x e = absurd (none-some x e)
+
+next_place_is : (z first : Bool) (o : Option Place) (p : Place) → (if z && not first then None else o) ≡ Some p → (o ≡ Some p) × (z ≡ true → first ≡ true)
+next_place_is true true o p e = (e, λ w. refl)
+next_place_is true false o p e = absurd (none-some p e)
+next_place_is false first o p e = (e, λ w. let differ : false ≡ true = w in cc)
+
+next_place_of : (z first : Bool) (o : Option Place) → (z ≡ true → first ≡ true) → (if z && not first then None else o) ≡ o
+next_place_of true true o e = refl
+next_place_of true false o e = absurd (let differ : false ≡ true = e refl in cc)
+next_place_of false first o e = refl
+
+-- values that say the same in each place are one
+pub same_held : (v w : Held) → ((p : Place) → v p ≡ w p) → v ≡ w
+same_held v w e = λ i p. e p i
+
+not_empty : (c : List ExtHeader) (h : ExtHeader) → false ≡ is_empty (c ++ h ∷ [])
+not_empty [] h = refl
+not_empty (g ∷ c) h = refl
+
+or_true : (b : Bool) → (b || true) ≡ true
+or_true true = refl
+or_true false = refl
+
+or_false : (b : Bool) → (b || false) ≡ b
+or_false true = refl
+or_false false = refl
+
+routing_only : (p : Place) → number_in p ≡ 43 → index p ≡ 2
+routing_only hop_by_hop e = absurd (omega (arith, e))
+routing_only destination e = absurd (omega (arith, e))
+routing_only routing e = refl
+routing_only fragment e = absurd (omega (arith, e))
+routing_only authentication e = absurd (omega (arith, e))
+routing_only final_destination e = absurd (omega (arith, e))
+
+module _ (c : List ExtHeader) (h : ExtHeader) (p : Place) (number : h.number ≡ number_in p) (joined : (q : Place) → header_in q (c ++ h ∷ []) ≡ (if index p == index q then Some h else header_in q c)) where
+  -- a routing header is there where one was, or where this is one
+  routing_more : has_routing c || (h.number == 43) ≡ has_routing (c ++ h ∷ [])
+  routing_more = elim (eqb_tells (index p) 2) [
+    | inl w ↦
+        let is : p ≡ routing = same_place p routing w.1 in
+        let here : (h.number == 43) ≡ true = eq-eqb h.number 43 (number ∙ ap number_in is) in
+        ap (λ b. has_routing c || b) here ∙ or_true (has_routing c) ∙ sym (ap is_some (joined routing ∙ ap (λ b. if b then Some h else header_in routing c) w.0))
+    | inr w ↦ elim (eqb_tells h.number 43) [
+      | inl k ↦ absurd (w.1 (routing_only p (sym number ∙ k.1)))
+      | inr k ↦ ap (λ b. has_routing c || b) k.0 ∙ or_false (has_routing c) ∙ sym (ap is_some (joined routing ∙ ap (λ b. if b then Some h else header_in routing c) w.0))
+    ]
+  ]
+
+  -- and what was left is left without it
+  left_more : (v : Held) (q : Place) → without p (unreached v c) q ≡ unreached v (c ++ h ∷ []) q
+  left_more v q = elim (eqb_tells (index p) (index q)) [
+    | inl w ↦
+        ap (λ b. if b then None else unreached v c q) w.0
+        ∙ sym (ap (λ o. if is_some o then None else v q) (joined q ∙ ap (λ b. if b then Some h else header_in q c) w.0))
+    | inr w ↦
+        ap (λ b. if b then None else unreached v c q) w.0
+        ∙ sym (ap (λ o. if is_some o then None else v q) (joined q ∙ ap (λ b. if b then Some h else header_in q c) w.0))
+  ]
+
+module _ (v : Held) (f : ℕ) (c : List ExtHeader) (u : Held) (m : ℕ) (first behind : Bool) (k : Walking v f c u m first behind) where
+  -- A header h goes on: it stands in the place of m, and was left there.
+  pub walks_on : (p : Place) (x : HeaderFields) (h : ExtHeader) → next_place first behind m ≡ Some p → u p ≡ Some x → IsEncoded (number_in p) x h
+      → (w : Held) (n : ℕ) (early past : Bool) → ((q : Place) → w q ≡ without p u q) → n ≡ next_header h.bytes → early ≡ false → past ≡ (behind || (m == 43))
+      → Walking v f (c ++ h ∷ []) w n early past
+  walks_on p x h at there e w n early past ew en ee ep =
+      let next = next_place_is (m == 0) first (place_of m behind) p at in
+      let left = left_some (header_in p c) (v p) x (sym (k.left p) ∙ there) in
+      let of_m : m ≡ number_in p = place_number m p behind next.0 in
+      let same : h.number ≡ m = e.number ∙ sym of_m in
+      let H : ℕ → Type 0 = λ j. IsHeader j h.bytes in
+      let own : place_of h.number (has_routing c) ≡ Some p = ap (λ j. place_of j (has_routing c)) same ∙ ap (place_of m) (sym k.behind_is) ∙ next.0 in
+      let joined = placed c h p own (none_if (header_in p c) left.0) in
+      record {
+        shown = record {
+          chain = chain_more f c h k.shown.chain (same ∙ k.number) (subst H (sym e.number) e.header) (λ z. sym k.first_is ∙ next.1 (eq-eqb m 0 (sym same ∙ z)));
+          fits = fits_more c h p k.shown.fits own left.0;
+          shown = λ q g s. elim (eqb_tells (index p) (index q)) [
+            | inl r ↦
+                let is : h ≡ g = same_Some h g (sym (joined q ∙ ap (λ b. if b then Some h else header_in q c) r.0) ∙ s) in
+                ap v (sym (same_place p q r.1)) ∙ left.1 ∙ ap Some (sym e.fields ∙ ap fields_of is)
+            | inr r ↦ k.shown.shown q g (sym (joined q ∙ ap (λ b. if b then Some h else header_in q c) r.0) ∙ s)
+          ];
+          cleared = all_more IsCleared c h k.shown.cleared e.cleared;
+        };
+        left = λ q. ew q ∙ ap (λ o. if index p == index q then None else o) (k.left q) ∙ left_more c h p e.number joined v q;
+        number = en ∙ sym (leads_to-more f c h);
+        first_is = ee ∙ not_empty c h;
+        behind_is = ep ∙ ap (λ b. b || (m == 43)) k.behind_is ∙ ap (λ j. has_routing c || (j == 43)) (sym same) ∙ routing_more c h p e.number joined;
+      }
+
+  -- None goes on: what was reached is all that is.
+  pub walk_stops : ((p : Place) → next_place first behind m ≡ Some p → u p ≡ None) → IsReach v f c
+  walk_stops none =
+      longest_where_none_next (IsShown v f) (shown_grows v f) c k.shown
+      (λ x s.
+      let n : Next v f c x = next_shown v f c x s in
+      let same : x.number ≡ m = n.number ∙ sym k.number in
+      let at : place_of m behind ≡ Some n.joins.place = ap (place_of m) k.behind_is ∙ ap (λ j. place_of j (has_routing c)) (sym same) ∙ n.joins.at in
+      let here : u n.joins.place ≡ Some (fields_of x) = k.left n.joins.place ∙ ap (λ o. if is_some o then None else v n.joins.place) n.joins.free ∙ n.said in
+      none-some (fields_of x) (sym (none n.joins.place (next_place_of (m == 0) first (place_of m behind) (λ z. k.first_is ∙ n.zero (same ∙ eqb-true m 0 z)) ∙ at)) ∙ here))
+
+  pub walk_answers : (w : Held) (n : ℕ) (a : WalkAnswer) → ((p : Place) → next_place first behind m ≡ Some p → u p ≡ None) → ((p : Place) → w p ≡ u p) → n ≡ m → a ≡ answer_at n w → IsWalkAnswer v f a
+  walk_answers w n a none ew en ea = record {
+    reach = c;
+    is_reach = walk_stops none;
+    answer = ea ∙ ap (λ j. answer_at j w) (en ∙ k.number) ∙ ap (answer_at (leads_to f c)) (same_held w (unreached v c) (λ p. ew p ∙ k.left p));
+  }

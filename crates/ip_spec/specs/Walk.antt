@@ -1,0 +1,80 @@
+-- What a value of six places spells, what of it is reached from a number, and what the walk answers.
+use Rattle.std.specs.Prelude.{◌≡◌, ℕ, List, Bool, ◌==◌, ◌&&◌, Option, Some, None, is_some, if◌then◌else◌}
+use Rattle.std.specs.List.{find}
+use Rattle.std.specs.Option.{option_map, ForSome}
+use Rattle.ip_spec.specs.Numbers.{HOP_BY_HOP}
+use Rattle.ip_spec.specs.LongestOf.{IsLongestOf}
+use Rattle.ip_spec.specs.Encoding.{AreBytes}
+use Rattle.ip_spec.specs.Chain.{ExtHeader, IsChain, leads_to, bytes_of}
+use Rattle.ip_spec.specs.Demand.{IsLongestUnder}
+use Rattle.ip_spec.specs.Fits.{FitsPlaces}
+use Rattle.ip_spec.specs.Encoded.{AreCleared}
+use Rattle.ip_spec.specs.Places.{Place, hop_by_hop, places, number_in, header_in, HeaderFields, fields_of}
+
+-- a value: what is said in each place, if anything
+abbrev pub Held : Type 0
+Held = Place → Option HeaderFields
+
+-- the value of the chain c is v: in each place the fields of its header there, and nothing else
+abbrev pub IsValueOf : List ExtHeader → Held → Type 0
+IsValueOf c v = (p : Place) → v p ≡ option_map fields_of (header_in p c)
+
+-- The chain c from f spells v: it fits the places, its value is v, and its reserved bits are zero.
+pub record IsSpelling (v : Held) (f : ℕ) (c : List ExtHeader) : Type 0 where
+  pub chain : IsChain f c
+  pub fits : FitsPlaces c
+  pub value : IsValueOf c v
+  pub cleared : AreCleared c
+
+-- The chain c from f is shown by v: it fits the places, each of its headers has the fields that v has in that
+-- header's place, and its reserved bits are zero.
+pub record IsShown (v : Held) (f : ℕ) (c : List ExtHeader) : Type 0 where
+  pub chain : IsChain f c
+  pub fits : FitsPlaces c
+  pub shown : (p : Place) → ForSome (header_in p c) (λ h. v p ≡ Some (fields_of h))
+  pub cleared : AreCleared c
+
+-- what v reaches from f: the longest chain that it shows
+abbrev pub IsReach : Held → ℕ → List ExtHeader → Type 0
+IsReach v f c = IsLongestOf (IsShown v f) c
+
+-- what v says in the places that the chain c doesn't fill
+abbrev pub unreached : Held → List ExtHeader → Held
+unreached v c p = if is_some (header_in p c) then None else v p
+
+-- the first place, in their order, in which u says something
+abbrev pub first_filled : Held → Option Place
+first_filled u = find (λ p. is_some (u p)) places
+
+-- The answer of a walk: the number to which it leads, or why not all headers are reached.
+pub data WalkAnswer : Type 0 where
+  leads : ℕ → WalkAnswer
+  hop_by_hop_not_at_start : WalkAnswer
+  not_referenced : ℕ → WalkAnswer
+
+abbrev pub fault_or_number : ℕ → Bool → Option Place → WalkAnswer
+fault_or_number m hop_by_hop_left None = leads m
+fault_or_number m hop_by_hop_left (Some p) =
+    if (m == HOP_BY_HOP) && hop_by_hop_left then hop_by_hop_not_at_start
+    else not_referenced (number_in p)
+
+-- The answer where the reach leads to m and leaves u, by the first test that holds: nothing is left; m is 0 and
+-- hop by hop options are left; else the first header left isn't referenced.
+abbrev pub answer_at : ℕ → Held → WalkAnswer
+answer_at m u = fault_or_number m (is_some (u hop_by_hop)) (first_filled u)
+
+-- a is the answer of the walk through v from f
+pub record IsWalkAnswer (v : Held) (f : ℕ) (a : WalkAnswer) : Type 0 where
+  pub reach : List ExtHeader
+  pub is_reach : IsReach v f reach
+  pub answer : a ≡ answer_at (leads_to f reach) (unreached v reach)
+
+-- The value v is read from bytes s with nothing left: the longest chain from f that begins them and fits the
+-- places has the value v, leads to m and takes all of them.
+pub record IsRead (v : Held) (f m : ℕ) (s : List ℕ) : Type 0 where
+  pub bytes : AreBytes s
+  pub chain : List ExtHeader
+  pub longest : IsLongestUnder FitsPlaces f s chain
+  pub value : IsValueOf chain v
+  pub number : leads_to f chain ≡ m
+  pub all : bytes_of chain ≡ s

@@ -1,0 +1,27 @@
+-- One step of a walk along the next numbers of headers.
+use Rattle.std.specs.Prelude.{ℕ, List, Bool, ◌==◌, ◌&&◌, not, Option, None, if◌then◌else◌}
+use Rattle.ip_spec.specs.Numbers.{HOP_BY_HOP}
+use Rattle.ip_spec.specs.Encoding.{IsRawEncoding, IsFragmentEncoding, IsAuthEncoding}
+use Rattle.ip_spec.specs.Places.{Place, index, place_of, HeaderFields, raw_header, fragment_header, auth_header}
+use Rattle.ip_spec.specs.Walk.{Held}
+
+-- the place of a header that goes on with number m, behind a routing header or not; 0 goes on only first
+abbrev pub next_place : Bool → Bool → ℕ → Option Place
+next_place first behind_routing m =
+    if (m == HOP_BY_HOP) && not first then None else place_of m behind_routing
+
+-- u with nothing in the place p
+abbrev pub without : Place → Held → Held
+without p u q = if index p == index q then None else u q
+
+-- the number of what follows the header
+abbrev pub next_of : HeaderFields → ℕ
+next_of (raw_header x) = x.next_header
+next_of (fragment_header x) = x.next_header
+next_of (auth_header x) = x.next_header
+
+-- bytes b encode the fields
+abbrev pub IsEncodingOf : HeaderFields → List ℕ → Type 0
+IsEncodingOf (raw_header x) b = IsRawEncoding x b
+IsEncodingOf (fragment_header x) b = IsFragmentEncoding x b
+IsEncodingOf (auth_header x) b = IsAuthEncoding x b

@@ -18,3 +18,5 @@ pub mod ClearedLemmas
 pub mod EncodedLemmas
 pub mod WalkLemmas
 pub mod WalkStepLemmas
+pub mod SpellingLemmas
+pub mod LinkLemmas

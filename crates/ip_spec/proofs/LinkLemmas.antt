@@ -1,0 +1,290 @@
+-- Headers linked in the order of their places are walked to the end.
+use Rattle.std.proofs.Common.{◌≡◌, ◌≢◌, ℕ, suc, ◌+◌, ◌<◌, ◌≤◌, List, [], ◌∷◌, ◌++◌, length, drop, refl, ap, sym, ◌∙◌, arith, inl, inr, ◌⊎◌, subst, Bool, true, false, cond}
+use Rattle.std.specs.Prelude.{Option, Some, None, is_some, ◌==◌, ◌&&◌, ◌||◌, not, nat_lt, if◌then◌else◌, All, slice_range}
+use Rattle.std.specs.List.{find, AllByRecursion}
+use Rattle.std.specs.Option.{option_map, option_map_or}
+use Rattle.std.proofs.lemmas.Bool.{cases_Bool, cases_lt, lt-ltb, le-ltb}
+use Rattle.std.proofs.lemmas.Bool.Decides.{eqb_tells}
+use Rattle.std.proofs.lemmas.Option.{none-some, same_Some}
+use Rattle.std.proofs.lemmas.List.Elements.{All-from_recursion, recursion_from_All}
+use Rattle.ip_spec.specs.Header.{IsHeader, IsRawNumber, IsRawHeader, IsFragmentHeader, IsAuthHeader, raw, fragment, auth}
+use Rattle.ip_spec.specs.Fields.{next_header}
+use Rattle.ip_spec.specs.FieldsOf.{RawFields, FragmentFields, AuthFields, raw_fields, fragment_fields, auth_fields}
+use Rattle.ip_spec.specs.Cleared.{cleared_header, cleared_fragment, cleared_auth}
+use Rattle.ip_spec.specs.Encoding.{AreBytes}
+use Rattle.ip_spec.specs.Chain.{ExtHeader, leads_to, IsChain}
+use Rattle.ip_spec.specs.Places.{Place, hop_by_hop, destination, routing, fragment as fragment_place, authentication, final_destination, places, index, number_in, header_in, has_routing, place_of, fields_of, HeaderFields, raw_header, fragment_header, auth_header}
+use Rattle.ip_spec.specs.Encoded.{IsCleared, fixed_len}
+use Rattle.ip_spec.specs.Encodable.{IsEncoded, IsEncodable}
+use Rattle.ip_spec.specs.Walk.{Held, unreached, WalkAnswer, leads, answer_at, IsWalkAnswer}
+use Rattle.ip_spec.specs.WalkStep.{next_place, without, next_of}
+use Rattle.ip_spec.specs.Links.{relinked, first_number, places_behind, linked}
+use Rattle.ip_spec.proofs.HeaderLemmas.{raw_of, fragment_of, auth_of, header-least}
+use Rattle.ip_spec.proofs.EncodedLemmas.{header_number}
+use Rattle.ip_spec.proofs.PlaceLemmas.{same_place}
+use Rattle.ip_spec.proofs.WalkLemmas.{none_if, some_if}
+use Rattle.ip_spec.proofs.WalkStepLemmas.{Walking, walk_begins, walks_on, walk_answers}
+use Rattle.ip_spec.proofs.SpellingLemmas.{leads_where_none}
+
+-- Another next number leaves a header what it is.
+-- the header of number n with bytes b
+abbrev of_number : ℕ → List ℕ → ExtHeader
+of_number n b = record { number = n; bytes = b }
+
+module _ (m x0 : ℕ) (rest : List ℕ) (small : m < 256) where
+  -- of number n
+  pub record Relinked (n : ℕ) : Type 0 where
+    pub header : IsHeader n (m ∷ rest)
+    pub fields : fields_of (of_number n (m ∷ rest)) ≡ relinked m (fields_of (of_number n (x0 ∷ rest)))
+    pub cleared : IsCleared (of_number n (m ∷ rest))
+
+  abbrev Same : ℕ → Type 0
+  Same n = IsHeader n (x0 ∷ rest) → IsCleared (of_number n (x0 ∷ rest)) → Relinked n
+
+  raw_relinked : (n : ℕ) → IsRawNumber n → Same n
+  raw_relinked n k =
+      elim k [
+        | inl e ↦ subst Same (sym e) (λ h c. record { header = raw (inl refl) (again 0 (inl refl) h); fields = refl; cleared = record { reserved = refl; bytes = c.bytes } })
+        | inr k' ↦ elim k' [
+          | inl e ↦ subst Same (sym e) (λ h c. record { header = raw (inr (inl refl)) (again 43 (inr (inl refl)) h); fields = refl; cleared = record { reserved = refl; bytes = c.bytes } })
+          | inr e ↦ subst Same (sym e) (λ h c. record { header = raw (inr (inr refl)) (again 60 (inr (inr refl)) h); fields = refl; cleared = record { reserved = refl; bytes = c.bytes } })
+        ]
+      ]
+    where
+      again : (j : ℕ) → IsRawNumber j → IsHeader j (x0 ∷ rest) → IsRawHeader (m ∷ rest)
+      again j l h = let r = raw_of j (x0 ∷ rest) l h in record { least = r.least; len = r.len }
+
+  fragment_relinked : Same 44
+  fragment_relinked h c = record {
+    header = fragment refl (record { len = (fragment_of 44 (x0 ∷ rest) refl h).len });
+    fields = refl;
+    cleared = record { reserved = ap (λ l. m ∷ drop 1 l) c.reserved; bytes = c.bytes };
+  }
+
+  auth_relinked : Same 51
+  auth_relinked h c = record {
+    header = let a = auth_of 51 (x0 ∷ rest) refl h in auth refl (record { not_zero = a.not_zero; len = a.len });
+    fields = refl;
+    cleared = record { reserved = ap (λ l. m ∷ drop 1 l) c.reserved; bytes = c.bytes };
+  }
+
+  relinked_same : (n : ℕ) → Same n
+  relinked_same n h c = elim (header_number n (x0 ∷ rest) h) [
+    | inl k ↦ raw_relinked n k h c
+    | inr k ↦ elim k [ inl e ↦ subst Same (sym e) fragment_relinked h c | inr e ↦ subst Same (sym e) auth_relinked h c ]
+  ]
+
+relinked_list : (n j k : ℕ) (x : HeaderFields) (b : List ℕ) → j < 256 → IsEncoded n x (of_number k b) → (h : ExtHeader) × IsEncoded n (relinked j x) h
+relinked_list n j k x [] small e = absurd (omega (arith, header-least n [] e.header))
+relinked_list n j k x (x0 ∷ rest) small e =
+    let H : ℕ → Type 0 = λ i. IsHeader i (x0 ∷ rest) in
+    let I : ℕ → Type 0 = λ i. IsHeader i (j ∷ rest) in
+    let same : Relinked j x0 rest small k = relinked_same j x0 rest small k (subst H (sym e.number) e.header) e.cleared in (
+      of_number k (j ∷ rest),
+      record {
+        number = e.number;
+        header = subst I e.number same.header;
+        fields = same.fields ∙ ap (relinked j) e.fields;
+        cleared = same.cleared;
+        bytes = All-from_recursion (λ y. y < 256) (j ∷ rest) (small, (recursion_from_All (λ y. y < 256) (x0 ∷ rest) e.bytes).1);
+      },
+    )
+
+pub relinked_encoded : (n j : ℕ) (x : HeaderFields) (h : ExtHeader) → j < 256 → IsEncoded n x h → (g : ExtHeader) × IsEncoded n (relinked j x) g
+relinked_encoded n j x h small e = relinked_list n j h.number x h.bytes small e
+
+number_small : (p : Place) → number_in p < 256
+number_small hop_by_hop = omega arith
+number_small destination = omega arith
+number_small routing = omega arith
+number_small fragment_place = omega arith
+number_small authentication = omega arith
+number_small final_destination = omega arith
+
+pub first_number_small : (v : Held) (ps : List Place) (m : ℕ) → m < 256 → first_number v ps m < 256
+first_number_small v ps m small = of (find (λ p. is_some (v p)) ps)
+  where
+    of : (o : Option Place) → option_map_or number_in o m < 256
+    of None = small
+    of (Some p) = number_small p
+
+mapped_some : (j : ℕ) (o : Option HeaderFields) (y : HeaderFields) → option_map (relinked j) o ≡ Some y → (x : HeaderFields) × (o ≡ Some x) × (relinked j x ≡ y)
+mapped_some j None y e = absurd (none-some y e)
+mapped_some j (Some x) y e = (x, refl, same_Some _ _ e)
+
+mapped_is_some : (j : ℕ) (o : Option HeaderFields) → is_some (option_map (relinked j) o) ≡ is_some o
+mapped_is_some j None = refl
+mapped_is_some j (Some x) = refl
+
+pub linked_encodable : (v : Held) (m : ℕ) → m < 256 → IsEncodable v → IsEncodable (linked v m)
+linked_encodable v m small e = record {
+  encoded = λ p y k.
+      let j : ℕ = first_number v (places_behind p) m in
+      let it = mapped_some j (v p) y k in
+      let own = e.encoded p it.0 it.1 in
+      let E : HeaderFields → Type 0 = λ z. (h : ExtHeader) × IsEncoded (number_in p) z h in
+      subst E it.2 (relinked_encoded (number_in p) j it.0 own.0 (first_number_small v (places_behind p) m small) own.1);
+  nested = λ k. mapped_is_some _ (v routing) ∙ e.nested (sym (mapped_is_some _ (v final_destination)) ∙ k);
+}
+
+-- the fields tell the number of what follows
+pub next_said : (h : ExtHeader) → next_of (fields_of h) ≡ next_header h.bytes
+next_said h =
+    elim (h.number == 44) as (λ b. next_of (if b then fragment_header (fragment_fields h.bytes) else if h.number == 51 then auth_header (auth_fields h.bytes) else raw_header (raw_fields h.bytes)) ≡ next_header h.bytes) [
+      | true ↦ refl
+      | false ↦ elim (h.number == 51) as (λ b. next_of (if b then auth_header (auth_fields h.bytes) else raw_header (raw_fields h.bytes)) ≡ next_header h.bytes) [ true ↦ refl | false ↦ refl ]
+    ]
+
+next_relinked : (j : ℕ) (x : HeaderFields) → next_of (relinked j x) ≡ j
+next_relinked j (raw_header x) = refl
+next_relinked j (fragment_header x) = refl
+next_relinked j (auth_header x) = refl
+
+abbrev nothing : Option HeaderFields
+nothing = None
+
+beyond_it : (i j k : ℕ) → i ≡ k → i ≢ j → k ≤ j → k + 1 ≤ j
+beyond_it i j k e d l = omega (arith, e, d, l)
+
+-- The linked headers that stand in the first k places have been reached.
+abbrev beyond : ℕ → Held → Held
+beyond k w q = if nat_lt (index q) k then None else w q
+
+module _ (v : Held) (m : ℕ) (small : m < 256) (e : IsEncodable v) where
+  abbrev w : Held
+  w = linked v m
+
+  abbrev f : ℕ
+  f = first_number v places m
+
+  record Up (k : ℕ) : Type 0 where
+    reached : List ExtHeader
+    first : Bool
+    behind : Bool
+    walking : Walking w f reached (beyond k w) (first_number v (drop k places) m) first behind
+    start : k ≡ 0 → first ≡ true
+
+  -- one place on
+  beyond_next : (p : Place) (k : ℕ) → index p ≡ k → (q : Place) → beyond (k + 1) w q ≡ without p (beyond k w) q
+  beyond_next p k i q = elim (eqb_tells (index p) (index q)) [
+    | inl r ↦ ap (λ b. if b then None else w q) (lt-ltb (index q) (k + 1) (omega (arith, i, r.1))) ∙ sym (ap (λ b. if b then None else beyond k w q) r.0)
+    | inr r ↦ elim (cases_lt (index q) k) [
+      | inl l ↦
+          ap (λ b. if b then None else w q) (lt-ltb (index q) (k + 1) (omega arith))
+          ∙ sym (ap (λ b. if b then None else w q) (lt-ltb (index q) k l))
+          ∙ sym (ap (λ b. if b then None else beyond k w q) r.0)
+      | inr l ↦
+          ap (λ b. if b then None else w q) (le-ltb (index q) (k + 1) (beyond_it (index p) (index q) k i r.1 l))
+          ∙ sym (ap (λ b. if b then None else w q) (le-ltb (index q) k l))
+          ∙ sym (ap (λ b. if b then None else beyond k w q) r.0)
+    ]
+  ]
+
+  skipped : (p : Place) (k : ℕ) → index p ≡ k → v p ≡ None → (q : Place) → beyond (k + 1) w q ≡ beyond k w q
+  skipped p k i none q = beyond_next p k i q ∙ elim (eqb_tells (index p) (index q)) [
+    | inl r ↦
+        let is : p ≡ q = same_place p q r.1 in
+        let empty : w q ≡ None = ap w (sym is) ∙ ap (option_map (relinked (first_number v (places_behind p) m))) none in
+        ap (λ b. if b then None else beyond k w q) r.0 ∙ sym (ap (λ o. if nat_lt (index q) k then None else o) empty ∙ either (nat_lt (index q) k))
+    | inr r ↦ ap (λ b. if b then None else beyond k w q) r.0
+  ]
+    where
+      either : (b : Bool) → (if b then nothing else nothing) ≡ nothing
+      either true = refl
+      either false = refl
+
+  here : (p : Place) (k : ℕ) → index p ≡ k → beyond k w p ≡ w p
+  here p k i = ap (λ b. if b then None else w p) (le-ltb (index p) k (omega (arith, i)))
+
+  number_none : (p : Place) (ps : List Place) → v p ≡ None → first_number v (p ∷ ps) m ≡ first_number v ps m
+  number_none p ps none = ap (λ o. option_map_or number_in (cond (is_some o) (Some p) (find (λ q. is_some (v q)) ps)) m) none
+
+  number_some : (p : Place) (ps : List Place) (x : HeaderFields) → v p ≡ Some x → first_number v (p ∷ ps) m ≡ number_in p
+  number_some p ps x some = ap (λ o. option_map_or number_in (cond (is_some o) (Some p) (find (λ q. is_some (v q)) ps)) m) some
+
+  module _ (p : Place) (k : ℕ) (i : index p ≡ k) (at : drop k places ≡ p ∷ drop (k + 1) places) (up : Up k) where
+    step_none : v p ≡ None → Up (k + 1)
+    step_none none = record {
+      reached = up.reached;
+      first = up.first;
+      behind = up.behind;
+      walking = record {
+        shown = up.walking.shown;
+        left = λ q. skipped p k i none q ∙ up.walking.left q;
+        number = sym (ap (λ l. first_number v l m) at ∙ number_none p (drop (k + 1) places) none) ∙ up.walking.number;
+        first_is = up.walking.first_is;
+        behind_is = up.walking.behind_is;
+      };
+      start = λ z. absurd (omega (arith, z));
+    }
+
+    step_some : (x : HeaderFields) → v p ≡ Some x → next_place up.first up.behind (number_in p) ≡ Some p → Up (k + 1)
+    step_some x some goes =
+        let j : ℕ = first_number v (places_behind p) m in
+        let it = (linked_encodable v m small e).encoded p (relinked j x) (ap (option_map (relinked j)) some) in
+        let number : first_number v (drop k places) m ≡ number_in p = ap (λ l. first_number v l m) at ∙ number_some p (drop (k + 1) places) x some in
+        let next : next_header it.0.bytes ≡ j = sym (next_said it.0) ∙ ap next_of it.1.fields ∙ next_relinked j x in
+        record {
+          reached = up.reached ++ it.0 ∷ [];
+          first = false;
+          behind = up.behind || (first_number v (drop k places) m == 43);
+          walking = walks_on w f up.reached (beyond k w) (first_number v (drop k places) m) up.first up.behind up.walking p (relinked j x) it.0
+              (ap (next_place up.first up.behind) number ∙ goes)
+              (here p k i ∙ ap (option_map (relinked j)) some)
+              it.1
+              (beyond (k + 1) w) (first_number v (drop (k + 1) places) m) false (up.behind || (first_number v (drop k places) m == 43))
+              (beyond_next p k i)
+              (ap (λ l. first_number v (drop (l + 1) places) m) (sym i) ∙ sym next)
+              refl refl;
+          start = λ z. absurd (omega (arith, z));
+        }
+
+    step : ((x : HeaderFields) → v p ≡ Some x → next_place up.first up.behind (number_in p) ≡ Some p) → Up (k + 1)
+    step goes = elim (cases_Bool (is_some (v p))) [
+      | inl some ↦ let it = some_if (v p) some in step_some it.0 it.1 (goes it.0 it.1)
+      | inr none ↦ step_none (none_if (v p) none)
+    ]
+
+  -- whether a routing header was reached, where it is still left and where it isn't
+  not_behind : (k : ℕ) (up : Up k) → k ≤ 2 → up.behind ≡ false
+  not_behind k up l = elim (cases_Bool (has_routing up.reached)) [
+    | inr none ↦ up.walking.behind_is ∙ none
+    | inl some ↦
+        let it = some_if (header_in routing up.reached) some in
+        let nothing : w routing ≡ None = sym (ap (λ b. if b then None else w routing) (le-ltb 2 k l)) ∙ up.walking.left routing ∙ ap (λ b. if b then None else w routing) some in
+        absurd (none-some (fields_of it.0) (sym nothing ∙ up.walking.shown.shown routing it.0 it.1))
+  ]
+
+  is_behind : (k : ℕ) (up : Up k) → 2 < k → is_some (v routing) ≡ true → up.behind ≡ true
+  is_behind k up l there = elim (cases_Bool (has_routing up.reached)) [
+    | inl some ↦ up.walking.behind_is ∙ some
+    | inr none ↦
+        let it = some_if (v routing) there in
+        let j : ℕ = first_number v (places_behind routing) m in
+        let nothing : w routing ≡ None = sym (sym (ap (λ b. if b then None else w routing) (lt-ltb 2 k l)) ∙ up.walking.left routing ∙ ap (λ b. if b then None else w routing) none) in
+        absurd (none-some (relinked j it.0) (sym nothing ∙ ap (option_map (relinked j)) it.1))
+  ]
+
+  all_reached : Up 6
+  all_reached =
+      let u0 : Up 0 = record { reached = []; first = true; behind = false; walking = walk_begins w f (beyond 0 w) (λ q. ap (λ b. if b then None else w q) (le-ltb (index q) 0 (omega arith))); start = λ z. refl } in
+      let u1 : Up 1 = step hop_by_hop 0 refl refl u0 (λ x k. refl) in
+      let u2 : Up 2 = step destination 1 refl refl u1 (λ x k. ap (λ b. next_place u1.first b 60) (not_behind 1 u1 (omega arith))) in
+      let u3 : Up 3 = step routing 2 refl refl u2 (λ x k. refl) in
+      let u4 : Up 4 = step fragment_place 3 refl refl u3 (λ x k. refl) in
+      let u5 : Up 5 = step authentication 4 refl refl u4 (λ x k. refl) in
+      step final_destination 5 refl refl u5 (λ x k. ap (λ b. next_place u5.first b 60) (is_behind 5 u5 (omega arith) (e.nested (ap is_some k))))
+
+  -- the walk through linked headers leads to m
+  pub linked_leads : IsWalkAnswer (linked v m) (first_number v places m) (leads m)
+  linked_leads =
+      let u : Up 6 = all_reached in
+      walk_answers w f u.reached (beyond 6 w) m u.first u.behind u.walking (beyond 6 w) m (leads m) (λ p k. beyond_all p) (λ p. refl) refl (sym (leads_where_none m (beyond 6 w) beyond_all))
+    where
+      beyond_all : (p : Place) → beyond 6 w p ≡ None
+      beyond_all hop_by_hop = refl
+      beyond_all destination = refl
+      beyond_all routing = refl
+      beyond_all fragment_place = refl
+      beyond_all authentication = refl
+      beyond_all final_destination = refl

@@ -1,0 +1,212 @@
+-- What spells a value, what it is read from, and what its walk answers.
+use Rattle.std.proofs.Common.{◌≡◌, ◌≢◌, ℕ, ◌+◌, ◌<◌, ◌≤◌, List, [], ◌∷◌, ◌++◌, length, drop, refl, ap, sym, ◌∙◌, arith, inl, inr, ◌⊎◌, subst, append_assoc, Bool, true, false, cond}
+use Rattle.std.specs.Prelude.{Option, Some, None, is_some, ◌==◌, ◌&&◌, ◌↔◌, if◌then◌else◌}
+use Rattle.std.specs.List.{find}
+use Rattle.std.specs.Option.{option_map}
+use Rattle.std.proofs.lemmas.Bool.{cases_Bool}
+use Rattle.std.proofs.lemmas.Option.{none-some, same_Some}
+use Rattle.std.proofs.lemmas.List.{append-nil, map-append}
+use Rattle.std.proofs.lemmas.List.Elements.{All-append}
+use Rattle.std.proofs.Math.Seq.{take-length, drop-append_seam}
+use Rattle.ip_spec.specs.Header.{IsHeader, IsExtensionNumber}
+use Rattle.ip_spec.specs.Encoding.{AreBytes}
+use Rattle.ip_spec.specs.Chain.{ExtHeader, leads_to, bytes_of, IsChain, IsLongestChain}
+use Rattle.ip_spec.specs.Demand.{IsLongestUnder}
+use Rattle.ip_spec.specs.Fits.{numbers_of, NumbersFit, FitsPlaces, IsTaken}
+use Rattle.ip_spec.specs.Places.{Place, hop_by_hop, destination, routing, fragment, authentication, final_destination, number_in, header_in, fields_of, HeaderFields}
+use Rattle.ip_spec.specs.Encoded.{cleared_chain}
+use Rattle.ip_spec.specs.Encodable.{IsEncoded, IsEncodable}
+use Rattle.ip_spec.specs.Walk.{Held, IsValueOf, IsSpelling, IsShown, IsReach, unreached, first_filled, WalkAnswer, leads, hop_by_hop_not_at_start, not_referenced, fault_or_number, answer_at, IsWalkAnswer, IsRead}
+use Rattle.ip_spec.proofs.PrefixLemmas.{prefix_of-append}
+use Rattle.ip_spec.proofs.LongestOfLemmas.{longest_where_none_next}
+use Rattle.ip_spec.proofs.StepLemmas.{bytes_of-more}
+use Rattle.ip_spec.proofs.FitsLemmas.{fits_places}
+use Rattle.ip_spec.proofs.UnderLemmas.{longest_at_end_under, whole_longest_under, one_longest_under}
+use Rattle.ip_spec.proofs.ChainLemmas.{whole_longest, one_longest}
+use Rattle.ip_spec.proofs.ClearedLemmas.{cleared_is_chain, cleared_fits, cleared_are, cleared_leads, value-cleared}
+use Rattle.ip_spec.proofs.EncodedLemmas.{header_number, one_header_says}
+use Rattle.ip_spec.proofs.PlaceLemmas.{place_number}
+use Rattle.ip_spec.proofs.WalkLemmas.{none_if, some_if, Next, next_shown, shown_grows, one_reach}
+
+-- A chain that spells v is all that v reaches.
+spelled_shown : (v : Held) (f : ℕ) (c : List ExtHeader) → IsSpelling v f c → IsShown v f c
+spelled_shown v f c s = record {
+  chain = s.chain;
+  fits = s.fits;
+  shown = λ p h e. s.value p ∙ ap (option_map fields_of) e;
+  cleared = s.cleared;
+}
+
+pub spelling_is_reach : (v : Held) (f : ℕ) (c : List ExtHeader) → IsSpelling v f c → IsReach v f c
+spelling_is_reach v f c s =
+    longest_where_none_next (IsShown v f) (shown_grows v f) c (spelled_shown v f c s)
+    (λ x k.
+    let n : Next v f c x = next_shown v f c x k in
+    none-some (fields_of x) (sym (s.value n.joins.place ∙ ap (option_map fields_of) n.joins.free) ∙ n.said))
+
+pub one_spelling : (v : Held) (f : ℕ) (c d : List ExtHeader) → IsSpelling v f c → IsSpelling v f d → c ≡ d
+one_spelling v f c d s t = one_reach v f c d (spelling_is_reach v f c s) (spelling_is_reach v f d t)
+
+-- Where nothing is left, each place of v is that of the chain.
+none_found : (t : Place → Bool) (a b d e g h : Place) → find t (a ∷ b ∷ d ∷ e ∷ g ∷ h ∷ []) ≡ None → (t a ≡ false) × (t b ≡ false) × (t d ≡ false) × (t e ≡ false) × (t g ≡ false) × (t h ≡ false)
+none_found t a b d e g h none =
+    let x0 = out (t a) a (find t (b ∷ d ∷ e ∷ g ∷ h ∷ [])) none in
+    let x1 = out (t b) b (find t (d ∷ e ∷ g ∷ h ∷ [])) x0.1 in
+    let x2 = out (t d) d (find t (e ∷ g ∷ h ∷ [])) x1.1 in
+    let x3 = out (t e) e (find t (g ∷ h ∷ [])) x2.1 in
+    let x4 = out (t g) g (find t (h ∷ [])) x3.1 in
+    let x5 = out (t h) h None x4.1 in
+    (x0.0, x1.0, x2.0, x3.0, x4.0, x5.0)
+  where
+    out : (b : Bool) (q : Place) (o : Option Place) → cond b (Some q) o ≡ None → (b ≡ false) × (o ≡ None)
+    out true q o e = absurd (none-some q (sym e))
+    out false q o e = (refl, e)
+
+pub nothing_filled : (u : Held) → first_filled u ≡ None → (p : Place) → u p ≡ None
+nothing_filled u e p =
+    let none = none_found (λ q. is_some (u q)) hop_by_hop destination routing fragment authentication final_destination e in
+    none_if (u p) (each (λ q. is_some (u q) ≡ false) none.0 none.1 none.2 none.3 none.4 none.5 p)
+  where
+    each : (P : Place → Type 0) → P hop_by_hop → P destination → P routing → P fragment → P authentication → P final_destination → (p : Place) → P p
+    each P a b d e g h hop_by_hop = a
+    each P a b d e g h destination = b
+    each P a b d e g h routing = d
+    each P a b d e g h fragment = e
+    each P a b d e g h authentication = g
+    each P a b d e g h final_destination = h
+
+first_none : (u : Held) → ((p : Place) → u p ≡ None) → first_filled u ≡ None
+first_none u e = simp (e hop_by_hop, e destination, e routing, e fragment, e authentication, e final_destination)
+
+-- an answer that leads on tells that nothing is left, and the other way round
+leads_told : (m k : ℕ) (b : Bool) (o : Option Place) → leads k ≡ fault_or_number m b o → (o ≡ None) × (m ≡ k)
+leads_told m k b None e = let same : leads k ≡ leads m = e in (refl, let is : k ≡ m = cc in sym is)
+leads_told m k b (Some p) e = elim (cases_Bool ((m == 0) && b)) [
+  | inl w ↦ absurd (let no : leads k ≡ hop_by_hop_not_at_start = e ∙ ap (λ x. if x then hop_by_hop_not_at_start else not_referenced (number_in p)) w in cc)
+  | inr w ↦ absurd (let no : leads k ≡ not_referenced (number_in p) = e ∙ ap (λ x. if x then hop_by_hop_not_at_start else not_referenced (number_in p)) w in cc)
+]
+
+pub leads_where_none : (m : ℕ) (u : Held) → ((p : Place) → u p ≡ None) → answer_at m u ≡ leads m
+leads_where_none m u e = ap (fault_or_number m (is_some (u hop_by_hop))) (first_none u e)
+
+left_none : (o : Option ExtHeader) (x : Option HeaderFields) → ((h : ExtHeader) → o ≡ Some h → x ≡ Some (fields_of h)) → (if is_some o then None else x) ≡ None → x ≡ option_map fields_of o
+left_none None x k e = e
+left_none (Some h) x k e = k h refl
+
+module _ (v : Held) (f : ℕ) where
+  shown_whole : (c : List ExtHeader) → IsShown v f c → ((p : Place) → unreached v c p ≡ None) → IsSpelling v f c
+  shown_whole c s none = record {
+    chain = s.chain;
+    fits = s.fits;
+    value = λ p. left_none (header_in p c) (v p) (s.shown p) (none p);
+    cleared = s.cleared;
+  }
+
+  pub one_answer : (a b : WalkAnswer) → IsWalkAnswer v f a → IsWalkAnswer v f b → a ≡ b
+  one_answer a b x y =
+      x.answer ∙ ap (λ c. answer_at (leads_to f c) (unreached v c)) (one_reach v f x.reach y.reach x.is_reach y.is_reach) ∙ sym y.answer
+
+  -- An answer that leads on has a spelling, and a spelling that answer.
+  pub leads_spelled : (m : ℕ) → IsWalkAnswer v f (leads m) → (c : List ExtHeader) × IsSpelling v f c × (leads_to f c ≡ m)
+  leads_spelled m a =
+      let told = leads_told (leads_to f a.reach) m (is_some (unreached v a.reach hop_by_hop)) (first_filled (unreached v a.reach)) a.answer in
+      (a.reach, shown_whole a.reach a.is_reach.has (nothing_filled (unreached v a.reach) told.0), told.1)
+
+  none_unreached : (c : List ExtHeader) → IsValueOf c v → (p : Place) → unreached v c p ≡ None
+  none_unreached c value p = elim (cases_Bool (is_some (header_in p c))) [
+    | inl w ↦ ap (λ b. if b then None else v p) w
+    | inr w ↦ ap (λ b. if b then None else v p) w ∙ value p ∙ ap (option_map fields_of) (none_if (header_in p c) w)
+  ]
+
+  pub spelled_leads : (c : List ExtHeader) → IsSpelling v f c → IsWalkAnswer v f (leads (leads_to f c))
+  spelled_leads c s = record {
+    reach = c;
+    is_reach = spelling_is_reach v f c s;
+    answer = sym (leads_where_none (leads_to f c) (unreached v c) (none_unreached c s.value));
+  }
+
+  -- A chain of bytes spells its value, cleared.
+  pub cleared_spells : (c : List ExtHeader) → IsChain f c → FitsPlaces c → AreBytes (bytes_of c) → IsValueOf c v → IsSpelling v f (cleared_chain c)
+  cleared_spells c k fits bytes value = record {
+    chain = cleared_is_chain f c k;
+    fits = cleared_fits c fits;
+    value = λ p. value p ∙ sym (value-cleared p c k.headers);
+    cleared = cleared_are c k.headers bytes;
+  }
+
+  pub read_leads : (m : ℕ) (s : List ℕ) → IsRead v f m s → IsWalkAnswer v f (leads m)
+  read_leads m s r =
+      let A : WalkAnswer → Type 0 = IsWalkAnswer v f in
+      let chain = r.longest.has.has.chain in
+      subst A (ap leads (cleared_leads f r.chain chain.headers ∙ r.number))
+      (spelled_leads (cleared_chain r.chain) (cleared_spells r.chain chain r.longest.has.meets (subst AreBytes (sym r.all) r.bytes) r.value))
+
+  module _ (e : IsEncodable v) where
+    said_bytes : (c : List ExtHeader) (x : ExtHeader) → Next v f c x → AreBytes x.bytes
+    said_bytes c x n =
+        let it = e.encoded n.joins.place (fields_of x) n.said in
+        let H : ℕ → Type 0 = λ j. IsHeader j it.0.bytes in
+        let same : it.0.number ≡ x.number = it.1.number ∙ sym (place_number x.number n.joins.place _ n.joins.at) in
+        let one : it.0 ≡ x = one_header_says it.0 x same (subst H (sym it.1.number) it.1.header) n.header it.1.cleared n.cleared it.1.fields in
+        subst AreBytes (ap (λ (h : ExtHeader). h.bytes) one) it.1.bytes
+
+    shown_bytes_from : (c d : List ExtHeader) → AreBytes (bytes_of c) → IsShown v f (c ++ d) → AreBytes (bytes_of (c ++ d))
+    shown_bytes_from c [] b s = subst (λ (l : List ExtHeader). AreBytes (bytes_of l)) (sym (append-nil c)) b
+    shown_bytes_from c (x ∷ d) b s =
+        let more : (c ++ x ∷ []) ++ d ≡ c ++ x ∷ d = append_assoc c (x ∷ []) d in
+        let S : List ExtHeader → Type 0 = IsShown v f in
+        let B : List ExtHeader → Type 0 = λ l. AreBytes (bytes_of l) in
+        let whole : IsShown v f ((c ++ x ∷ []) ++ d) = subst S (sym more) s in
+        let n : Next v f c x = next_shown v f c x ((shown_grows v f).begins (c ++ x ∷ []) d whole) in
+        subst B more (shown_bytes_from (c ++ x ∷ []) d (subst AreBytes (sym (bytes_of-more c x)) (All-append (λ y. y < 256) (bytes_of c) x.bytes b (said_bytes c x n))) whole)
+
+    pub shown_bytes : (c : List ExtHeader) → IsShown v f c → AreBytes (bytes_of c)
+    shown_bytes c s = shown_bytes_from [] c (λ k d l. omega arith) s
+
+    -- so an answer leads on exactly where the value is read from some bytes
+    pub leads_read : (m : ℕ) → IsWalkAnswer v f (leads m) → (s : List ℕ) × IsRead v f m s
+    leads_read m a =
+        let it = leads_spelled m a in
+        let s : IsSpelling v f it.0 = it.1 in (
+          bytes_of it.0,
+          record {
+            bytes = shown_bytes it.0 (spelled_shown v f it.0 s);
+            chain = it.0;
+            longest = whole_longest_under FitsPlaces fits_places f it.0 s.chain s.fits;
+            value = s.value;
+            number = it.2;
+            all = refl;
+          },
+        )
+
+    pub leads_exactly : (a : WalkAnswer) → IsWalkAnswer v f a → (m : ℕ) → (a ≡ leads m) ↔ ((s : List ℕ) × IsRead v f m s)
+    leads_exactly a x m = (
+      (λ e. let A : WalkAnswer → Type 0 = IsWalkAnswer v f in leads_read m (subst A e x)),
+      (λ r. one_answer a (leads m) x (read_leads m r.0 r.1)),
+    )
+
+-- What is spelled is read again, whatever follows it, where no extension number follows or one that is taken.
+pub spelled_is_read : (v : Held) (f : ℕ) (c : List ExtHeader) (r : List ℕ) → IsSpelling v f c → (IsExtensionNumber (leads_to f c) → IsTaken (leads_to f c) c) → IsLongestUnder FitsPlaces f (bytes_of c ++ r) c
+spelled_is_read v f c r s taken =
+    longest_at_end_under FitsPlaces fits_places f (bytes_of c ++ r) c
+    (record { has = record { chain = s.chain; prefix = prefix_of-append (bytes_of c) r (bytes_of c ++ r) refl }; meets = s.fits })
+    (λ h x q.
+    let N : List ℕ → Type 0 = NumbersFit in
+    let numbers : numbers_of (c ++ h ∷ []) ≡ numbers_of c ++ leads_to f c ∷ [] = map-append (λ k. k.number) c (h ∷ []) ∙ ap (λ m. numbers_of c ++ m ∷ []) x.number in
+    (taken (header_number (leads_to f c) h.bytes x.header)).1 (subst N numbers q))
+
+-- Writing what was read gives what was read, cleared.
+pub spelled_is_cleared : (v : Held) (f : ℕ) (c d : List ExtHeader) → IsChain f c → FitsPlaces c → AreBytes (bytes_of c) → IsValueOf c v → IsSpelling v f d → d ≡ cleared_chain c
+spelled_is_cleared v f c d k fits bytes value s = one_spelling v f d (cleared_chain c) s (cleared_spells v f c k fits bytes value)
+
+-- Equal bytes are those of equal values.
+same_bytes : (f : ℕ) (c d : List ExtHeader) → IsChain f c → IsChain f d → bytes_of c ≡ bytes_of d → c ≡ d
+same_bytes f c d k l e =
+    let L : List ℕ → Type 0 = λ s. IsLongestChain f s d in
+    one_longest f (bytes_of c) c d (whole_longest f c k) (subst L (sym e) (whole_longest f d l))
+
+pub spelled_alike : (v w : Held) (f : ℕ) (c d : List ExtHeader) → IsSpelling v f c → IsSpelling w f d → (bytes_of c ≡ bytes_of d) ↔ ((p : Place) → v p ≡ w p)
+spelled_alike v w f c d s t = (
+  (λ e p. s.value p ∙ ap (λ l. option_map fields_of (header_in p l)) (same_bytes f c d s.chain t.chain e) ∙ sym (t.value p)),
+  (λ e. ap bytes_of (one_spelling w f c d (record { chain = s.chain; fits = s.fits; value = λ p. sym (e p) ∙ s.value p; cleared = s.cleared }) t)),
+)

@@ -20,3 +20,4 @@ pub mod WalkLemmas
 pub mod WalkStepLemmas
 pub mod SpellingLemmas
 pub mod LinkLemmas
+pub mod SumLemmas

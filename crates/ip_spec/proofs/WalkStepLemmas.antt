@@ -36,7 +36,7 @@ walk_begins v f u e = record {
 }
 
 -- what a place that is left says
-left_some : (o : Option ExtHeader) (y : Option HeaderFields) (x : HeaderFields) → (if is_some o then None else y) ≡ Some x → (is_some o ≡ false) × (y ≡ Some x)
+pub left_some : (o : Option ExtHeader) (y : Option HeaderFields) (x : HeaderFields) → (if is_some o then None else y) ≡ Some x → (is_some o ≡ false) × (y ≡ Some x)
 left_some None y x e = (refl, e)
 left_some (Some h) y x e = absurd (none-some x e)
 

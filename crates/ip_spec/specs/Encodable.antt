@@ -1,11 +1,12 @@
--- Values of which each header can be written.
-use Rattle.std.specs.Prelude.{◌≡◌, ℕ, is_some, IsTrue, IsSome}
-use Rattle.std.specs.Option.{ForSome}
+-- Values of which each header can be written, and how many bytes that takes.
+use Rattle.std.specs.Prelude.{◌≡◌, ℕ, IsSome, sum_by}
+use Rattle.std.specs.Option.{ForSome, option_map_or}
 use Rattle.ip_spec.specs.Header.{IsHeader}
+use Rattle.ip_spec.specs.FieldsOf.{raw_len, auth_len}
 use Rattle.ip_spec.specs.Encoding.{AreBytes}
 use Rattle.ip_spec.specs.Chain.{ExtHeader}
 use Rattle.ip_spec.specs.Encoded.{IsCleared}
-use Rattle.ip_spec.specs.Places.{Place, routing, final_destination, number_in, HeaderFields, fields_of}
+use Rattle.ip_spec.specs.Places.{Place, routing, final_destination, places, number_in, HeaderFields, raw_header, fragment_header, auth_header, fields_of}
 use Rattle.ip_spec.specs.Walk.{Held}
 
 -- h is the header of number n that says x, with its reserved bits zero
@@ -21,3 +22,17 @@ pub record IsEncoded (n : ℕ) (x : HeaderFields) (h : ExtHeader) : Type 0 where
 pub record IsEncodable (v : Held) : Type 0 where
   pub encoded : (p : Place) → ForSome (v p) (λ x. (h : ExtHeader) × IsEncoded (number_in p) x h)
   pub nested : IsSome (v final_destination) → IsSome (v routing)
+
+-- how many bytes a header of these fields has
+abbrev pub fields_len : HeaderFields → ℕ
+fields_len (raw_header x) = raw_len x
+fields_len (fragment_header x) = 8
+fields_len (auth_header x) = auth_len x
+
+-- the sum of f over what is said in the places
+abbrev pub sum_held : (HeaderFields → ℕ) → Held → ℕ
+sum_held f v = sum_by (λ p. option_map_or f (v p) 0) places
+
+-- the headers of all places together
+abbrev pub held_len : Held → ℕ
+held_len v = sum_held fields_len v

@@ -1,21 +1,21 @@
 -- Chains whose reserved bits are put to zero: they lead where they led, stand in the same places and say the same.
-use Rattle.std.proofs.Common.{◌≡◌, ◌≢◌, ℕ, ◌<◌, List, [], ◌∷◌, ◌++◌, length, map, take, drop, refl, ap, sym, ◌∙◌, arith, inl, inr, subst, Bool, true, false, get_or, length-set}
+use Rattle.std.proofs.Common.{◌≡◌, ◌≢◌, ℕ, ◌<◌, List, [], ◌∷◌, ◌++◌, length, drop, refl, ap, sym, ◌∙◌, inl, inr, subst, Bool, length-set}
 use Rattle.std.specs.Prelude.{Option, Some, None, All, slice_range, ◌==◌}
-use Rattle.std.specs.List.{AllByRecursion, find, before_first, after_first}
+use Rattle.std.specs.List.{AllByRecursion, find}
 use Rattle.std.specs.Option.{option_map, ForSome}
 use Rattle.std.proofs.lemmas.Bool.{cases_Bool}
 use Rattle.std.proofs.lemmas.Option.{none-some, same_Some}
 use Rattle.std.proofs.Math.Seq.{take-append_seam, drop-append_seam}
-use Rattle.std.proofs.lemmas.List.Elements.{All-from_recursion, recursion_from_All, All-take, All-drop, All-append}
+use Rattle.std.proofs.lemmas.List.Elements.{All-from_recursion, recursion_from_All, All-take, All-drop}
 use Rattle.ip_spec.specs.Header.{IsHeader, IsRawNumber, raw, fragment, auth}
 use Rattle.ip_spec.specs.Fields.{next_header}
-use Rattle.ip_spec.specs.FieldsOf.{FragmentFields, AuthFields, fragment_fields, auth_fields}
-use Rattle.ip_spec.specs.Cleared.{cleared_header, cleared_fragment, cleared_auth}
+use Rattle.ip_spec.specs.FieldsOf.{FragmentFields, AuthFields}
+use Rattle.ip_spec.specs.Cleared.{cleared_header}
 use Rattle.ip_spec.specs.Encoding.{AreBytes}
 use Rattle.ip_spec.specs.Chain.{ExtHeader, AreLinked, leads_to, bytes_of, IsChain}
 use Rattle.ip_spec.specs.Fits.{numbers_of, NumbersFit, FitsPlaces}
-use Rattle.ip_spec.specs.Places.{Place, hop_by_hop, destination, routing, fragment as fragment_place, authentication, final_destination, header_in, first_of, before_routing_header, after_routing_header, HeaderFields, fields_of, fragment_header, auth_header}
-use Rattle.ip_spec.specs.Encoded.{fixed_len, IsCleared, AreCleared, cleared_chain}
+use Rattle.ip_spec.specs.Places.{Place, hop_by_hop, destination, routing, fragment as fragment_place, authentication, final_destination, header_in, first_of, before_routing_header, after_routing_header, fields_of, fragment_header, auth_header}
+use Rattle.ip_spec.specs.Encoded.{fixed_len, AreCleared, cleared_chain}
 use Rattle.ip_spec.proofs.FirstLemmas.{find-yes, find-no, before-map, after-map}
 use Rattle.ip_spec.proofs.EncodingLemmas.{cleared_fragment_same, cleared_auth_same, cleared_fragment_encodes, cleared_auth_encodes}
 

@@ -1,12 +1,18 @@
 -- Fields determine the header that says them, where its reserved bits are zero.
-use Rattle.std.proofs.Common.{◌≡◌, ℕ, ◌<◌, List, [], ◌∷◌, length, refl, ap, sym, ◌∙◌, arith, inl, inr, subst}
+use Rattle.std.proofs.Common.{◌≡◌, ℕ, ◌+◌, ◌-◌, ◌/◌, ◌^◌, ◌<◌, ◌≤◌, List, [], ◌∷◌, length, drop, Bool, true, false, refl, ap, sym, ◌∙◌, arith, inl, inr, subst}
+use Rattle.std.specs.Prelude.{slice_range}
+use Rattle.std.proofs.lemmas.List.Elements.{All-from_recursion, recursion_from_All, All-append}
 use Rattle.ip_spec.specs.Header.{IsHeader, IsRawHeader, IsFragmentHeader, IsAuthHeader, IsRawNumber, IsExtensionNumber, raw, fragment, auth}
 use Rattle.ip_spec.specs.FieldsOf.{RawFields, FragmentFields, AuthFields, raw_fields, fragment_fields, auth_fields}
+use Rattle.ip_spec.specs.Lengths.{MAX_FRAGMENT_OFFSET, IsPayloadLen, IsIcvLen}
+use Rattle.ip_spec.specs.Encoding.{AreBytes, IsFragmentEncoding, IsAuthEncoding}
 use Rattle.ip_spec.specs.Chain.{ExtHeader}
 use Rattle.ip_spec.specs.Places.{HeaderFields, raw_header, fragment_header, auth_header, fields_of}
 use Rattle.ip_spec.specs.Encoded.{IsCleared}
+use Rattle.ip_spec.specs.Encodable.{IsEncoded}
+use Rattle.ip_spec.specs.WalkStep.{IsEncodingOf}
 use Rattle.ip_spec.proofs.HeaderLemmas.{raw_of, fragment_of, auth_of, ext_header-eq}
-use Rattle.ip_spec.proofs.EncodingLemmas.{fragment_only, auth_only}
+use Rattle.ip_spec.proofs.EncodingLemmas.{fragment_only, auth_only, fragment_encodes, auth_written_encodes, fragment_written, auth_written, flagged_byte, packed_offset, packed_flag, packed_reserved}
 
 -- the number of a header is an extension number
 pub header_number : (n : ℕ) (b : List ℕ) → IsHeader n b → IsExtensionNumber n
@@ -74,3 +80,102 @@ one_header_says h g e x y p q f =
     let C : ℕ → Type 0 = λ n. IsCleared (of_number n g.bytes) in
     let back : ℕ → HeaderFields = λ n. fields_of (of_number n g.bytes) in
     ext_header-eq h g e (one_said h.bytes g.bytes h.number x (subst H (sym e) y) p (subst C (sym e) q) (f ∙ ap back (sym e)))
+
+-- What encodes the fields of a header is that header.
+module _ (d b : List ℕ) where
+  raw_is : (x : HeaderFields) → IsRawHeader d → raw_header (raw_fields d) ≡ x → IsEncodingOf x b → d ≡ b
+  raw_is (raw_header y) r e k = raw_bytes d b r k.header (same_raw _ _ e ∙ sym k.fields)
+  raw_is (fragment_header y) r e k = absurd (let no : raw_header (raw_fields d) ≡ fragment_header y = e in cc)
+  raw_is (auth_header y) r e k = absurd (let no : raw_header (raw_fields d) ≡ auth_header y = e in cc)
+
+  fragment_is : (x : HeaderFields) → IsFragmentHeader d → IsCleared (of_number 44 d) → fragment_header (fragment_fields d) ≡ x → IsEncodingOf x b → d ≡ b
+  fragment_is (raw_header y) f p e k = absurd (let no : fragment_header (fragment_fields d) ≡ raw_header y = e in cc)
+  fragment_is (fragment_header y) f p e k =
+      fragment_only y d (record { header = f; fields = same_fragment _ _ e; reserved = p.reserved; bytes = p.bytes }) ∙ sym (fragment_only y b k)
+  fragment_is (auth_header y) f p e k = absurd (let no : fragment_header (fragment_fields d) ≡ auth_header y = e in cc)
+
+  auth_is : (x : HeaderFields) → IsAuthHeader d → IsCleared (of_number 51 d) → auth_header (auth_fields d) ≡ x → IsEncodingOf x b → d ≡ b
+  auth_is (raw_header y) a p e k = absurd (let no : auth_header (auth_fields d) ≡ raw_header y = e in cc)
+  auth_is (fragment_header y) a p e k = absurd (let no : auth_header (auth_fields d) ≡ fragment_header y = e in cc)
+  auth_is (auth_header y) a p e k =
+      auth_only y d (record { header = a; fields = same_auth _ _ e; reserved = p.reserved; bytes = p.bytes }) ∙ sym (auth_only y b k)
+
+  abbrev Is : HeaderFields → ℕ → Type 0
+  Is x n = IsHeader n d → IsCleared (of_number n d) → fields_of (of_number n d) ≡ x → IsEncodingOf x b → d ≡ b
+
+  encoded_is : (x : HeaderFields) (n : ℕ) → Is x n
+  encoded_is x n h = elim (header_number n d h) [
+    | inl k ↦ elim k [
+      | inl e ↦ subst (Is x) (sym e) (λ g p f. raw_is x (raw_of 0 d (inl refl) g) f) h
+      | inr k' ↦ elim k' [
+        | inl e ↦ subst (Is x) (sym e) (λ g p f. raw_is x (raw_of 43 d (inr (inl refl)) g) f) h
+        | inr e ↦ subst (Is x) (sym e) (λ g p f. raw_is x (raw_of 60 d (inr (inr refl)) g) f) h
+      ]
+    ]
+    | inr k ↦ elim k [
+      | inl e ↦ subst (Is x) (sym e) (λ g p f. fragment_is x (fragment_of 44 d refl g) p f) h
+      | inr e ↦ subst (Is x) (sym e) (λ g p f. auth_is x (auth_of 51 d refl g) p f) h
+    ]
+  ]
+
+pub encoding_is : (n : ℕ) (x : HeaderFields) (h : ExtHeader) (b : List ℕ) → IsEncoded n x h → IsEncodingOf x b → h.bytes ≡ b
+encoding_is n x h b e k =
+    let H : ℕ → Type 0 = λ m. IsHeader m h.bytes in
+    encoded_is h.bytes b x h.number (subst H (sym e.number) e.header) e.cleared e.fields k
+
+-- Fields in their ranges have an encoding of bytes.
+abbrev raw_written : RawFields → List ℕ
+raw_written x = x.next_header ∷ ((length x.payload + 2) / 8 - 1) ∷ x.payload
+
+bytes_first : (x : ℕ) (b : List ℕ) → x < 256 → AreBytes b → AreBytes (x ∷ b)
+bytes_first x b small a = All-from_recursion (λ y. y < 256) (x ∷ b) (small, recursion_from_All (λ y. y < 256) b a)
+
+module _ (x : RawFields) (next : x.next_header < 256) (len : IsPayloadLen (length x.payload)) (bytes : AreBytes x.payload) where
+  units : (length x.payload + 2) / 8 - 1 < 256
+  units = omega (arith, len.most)
+
+  pub raw_encoded : (n : ℕ) → IsRawNumber n → (h : ExtHeader) × IsEncoded n (raw_header x) h
+  raw_encoded n k =
+      let all : AreBytes (raw_written x) = bytes_first x.next_header (drop 1 (raw_written x)) next (bytes_first ((length x.payload + 2) / 8 - 1) x.payload units bytes) in
+      let one : AreBytes (slice_range (raw_written x) 1 2) = bytes_first ((length x.payload + 2) / 8 - 1) [] units (λ i d l. omega arith) in
+      let header : IsRawHeader (raw_written x) = record { least = omega (arith, len.least); len = omega (arith, len.least, len.whole) } in
+      let E : ℕ → Type 0 = λ m. (h : ExtHeader) × IsEncoded m (raw_header x) h in
+      elim k [
+        | inl e ↦ subst E (sym e) (of_number 0 (raw_written x), record { number = refl; header = raw (inl refl) header; fields = refl; cleared = record { reserved = refl; bytes = one }; bytes = all })
+        | inr k' ↦ elim k' [
+          | inl e ↦ subst E (sym e) (of_number 43 (raw_written x), record { number = refl; header = raw (inr (inl refl)) header; fields = refl; cleared = record { reserved = refl; bytes = one }; bytes = all })
+          | inr e ↦ subst E (sym e) (of_number 60 (raw_written x), record { number = refl; header = raw (inr (inr refl)) header; fields = refl; cleared = record { reserved = refl; bytes = one }; bytes = all })
+        ]
+      ]
+
+pub fragment_encoded : (x : FragmentFields) → x.next_header < 256 → x.fragment_offset ≤ MAX_FRAGMENT_OFFSET → x.identification < 2 ^ 32 → (h : ExtHeader) × IsEncoded 44 (fragment_header x) h
+fragment_encoded x next offset id =
+    let e : IsFragmentEncoding x (fragment_written x) = fragment_encodes x (x.fragment_offset / 32) (flagged_byte x.fragment_offset x.more_fragments)
+    (packed_offset x.fragment_offset x.more_fragments) (packed_flag x.fragment_offset x.more_fragments) (packed_reserved x.fragment_offset x.more_fragments)
+    (omega (arith, offset)) (flagged_small x.fragment_offset x.more_fragments) id in (
+      of_number 44 (fragment_written x),
+      record {
+        number = refl;
+        header = fragment refl e.header;
+        fields = ap fragment_header e.fields;
+        cleared = record { reserved = e.reserved; bytes = e.bytes };
+        bytes = bytes_first x.next_header (slice_range (fragment_written x) 1 8) next e.bytes;
+      },
+    )
+  where
+    flagged_small : (o : ℕ) (more : Bool) → flagged_byte o more < 256
+    flagged_small o true = omega arith
+    flagged_small o false = omega arith
+
+pub auth_encoded : (x : AuthFields) → x.next_header < 256 → IsIcvLen (length x.raw_icv) → AreBytes x.raw_icv → x.spi < 2 ^ 32 → x.sequence_number < 2 ^ 32 → (h : ExtHeader) × IsEncoded 51 (auth_header x) h
+auth_encoded x next len icv spi seq =
+    let e : IsAuthEncoding x (auth_written x) = auth_written_encodes x len.most len.whole spi seq in (
+      of_number 51 (auth_written x),
+      record {
+        number = refl;
+        header = auth refl e.header;
+        fields = ap auth_header e.fields;
+        cleared = record { reserved = e.reserved; bytes = e.bytes };
+        bytes = All-append (λ y. y < 256) (x.next_header ∷ slice_range (auth_written x) 1 12) x.raw_icv (bytes_first x.next_header (slice_range (auth_written x) 1 12) next e.bytes) icv;
+      },
+    )

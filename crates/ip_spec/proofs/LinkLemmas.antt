@@ -1,22 +1,20 @@
 -- Headers linked in the order of their places are walked to the end.
-use Rattle.std.proofs.Common.{◌≡◌, ◌≢◌, ℕ, suc, ◌+◌, ◌<◌, ◌≤◌, List, [], ◌∷◌, ◌++◌, length, drop, refl, ap, sym, ◌∙◌, arith, inl, inr, ◌⊎◌, subst, Bool, true, false, cond}
-use Rattle.std.specs.Prelude.{Option, Some, None, is_some, ◌==◌, ◌&&◌, ◌||◌, not, nat_lt, if◌then◌else◌, All, slice_range}
-use Rattle.std.specs.List.{find, AllByRecursion}
+use Rattle.std.proofs.Common.{◌≡◌, ◌≢◌, ℕ, ◌+◌, ◌<◌, ◌≤◌, List, [], ◌∷◌, ◌++◌, drop, refl, ap, sym, ◌∙◌, arith, inl, inr, subst, Bool, true, false, cond}
+use Rattle.std.specs.Prelude.{Option, Some, None, is_some, ◌==◌, ◌||◌, nat_lt, if◌then◌else◌}
+use Rattle.std.specs.List.{find}
 use Rattle.std.specs.Option.{option_map, option_map_or}
 use Rattle.std.proofs.lemmas.Bool.{cases_Bool, cases_lt, lt-ltb, le-ltb}
 use Rattle.std.proofs.lemmas.Bool.Decides.{eqb_tells}
 use Rattle.std.proofs.lemmas.Option.{none-some, same_Some}
 use Rattle.std.proofs.lemmas.List.Elements.{All-from_recursion, recursion_from_All}
-use Rattle.ip_spec.specs.Header.{IsHeader, IsRawNumber, IsRawHeader, IsFragmentHeader, IsAuthHeader, raw, fragment, auth}
+use Rattle.ip_spec.specs.Header.{IsHeader, IsRawNumber, IsRawHeader, raw, fragment, auth}
 use Rattle.ip_spec.specs.Fields.{next_header}
-use Rattle.ip_spec.specs.FieldsOf.{RawFields, FragmentFields, AuthFields, raw_fields, fragment_fields, auth_fields}
-use Rattle.ip_spec.specs.Cleared.{cleared_header, cleared_fragment, cleared_auth}
-use Rattle.ip_spec.specs.Encoding.{AreBytes}
-use Rattle.ip_spec.specs.Chain.{ExtHeader, leads_to, IsChain}
-use Rattle.ip_spec.specs.Places.{Place, hop_by_hop, destination, routing, fragment as fragment_place, authentication, final_destination, places, index, number_in, header_in, has_routing, place_of, fields_of, HeaderFields, raw_header, fragment_header, auth_header}
-use Rattle.ip_spec.specs.Encoded.{IsCleared, fixed_len}
+use Rattle.ip_spec.specs.FieldsOf.{raw_fields, fragment_fields, auth_fields}
+use Rattle.ip_spec.specs.Chain.{ExtHeader}
+use Rattle.ip_spec.specs.Places.{Place, hop_by_hop, destination, routing, fragment as fragment_place, authentication, final_destination, places, index, number_in, header_in, has_routing, fields_of, HeaderFields, raw_header, fragment_header, auth_header}
+use Rattle.ip_spec.specs.Encoded.{IsCleared}
 use Rattle.ip_spec.specs.Encodable.{IsEncoded, IsEncodable}
-use Rattle.ip_spec.specs.Walk.{Held, unreached, WalkAnswer, leads, answer_at, IsWalkAnswer}
+use Rattle.ip_spec.specs.Walk.{Held, leads, IsWalkAnswer}
 use Rattle.ip_spec.specs.WalkStep.{next_place, without, next_of}
 use Rattle.ip_spec.specs.Links.{relinked, first_number, places_behind, linked}
 use Rattle.ip_spec.proofs.HeaderLemmas.{raw_of, fragment_of, auth_of, header-least}

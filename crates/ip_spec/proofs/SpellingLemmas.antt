@@ -1,13 +1,12 @@
 -- What spells a value, what it is read from, and what its walk answers.
-use Rattle.std.proofs.Common.{◌≡◌, ◌≢◌, ℕ, ◌+◌, ◌<◌, ◌≤◌, List, [], ◌∷◌, ◌++◌, length, drop, refl, ap, sym, ◌∙◌, arith, inl, inr, ◌⊎◌, subst, append_assoc, Bool, true, false, cond}
+use Rattle.std.proofs.Common.{◌≡◌, ℕ, ◌<◌, List, [], ◌∷◌, ◌++◌, refl, ap, sym, ◌∙◌, arith, inl, inr, subst, append_assoc, Bool, true, false, cond}
 use Rattle.std.specs.Prelude.{Option, Some, None, is_some, ◌==◌, ◌&&◌, ◌↔◌, if◌then◌else◌}
 use Rattle.std.specs.List.{find}
 use Rattle.std.specs.Option.{option_map}
 use Rattle.std.proofs.lemmas.Bool.{cases_Bool}
-use Rattle.std.proofs.lemmas.Option.{none-some, same_Some}
+use Rattle.std.proofs.lemmas.Option.{none-some}
 use Rattle.std.proofs.lemmas.List.{append-nil, map-append}
 use Rattle.std.proofs.lemmas.List.Elements.{All-append}
-use Rattle.std.proofs.Math.Seq.{take-length, drop-append_seam}
 use Rattle.ip_spec.specs.Header.{IsHeader, IsExtensionNumber}
 use Rattle.ip_spec.specs.Encoding.{AreBytes}
 use Rattle.ip_spec.specs.Chain.{ExtHeader, leads_to, bytes_of, IsChain, IsLongestChain}
@@ -15,18 +14,18 @@ use Rattle.ip_spec.specs.Demand.{IsLongestUnder}
 use Rattle.ip_spec.specs.Fits.{numbers_of, NumbersFit, FitsPlaces, IsTaken}
 use Rattle.ip_spec.specs.Places.{Place, hop_by_hop, destination, routing, fragment, authentication, final_destination, number_in, header_in, fields_of, HeaderFields}
 use Rattle.ip_spec.specs.Encoded.{cleared_chain}
-use Rattle.ip_spec.specs.Encodable.{IsEncoded, IsEncodable}
+use Rattle.ip_spec.specs.Encodable.{IsEncodable}
 use Rattle.ip_spec.specs.Walk.{Held, IsValueOf, IsSpelling, IsShown, IsReach, unreached, first_filled, WalkAnswer, leads, hop_by_hop_not_at_start, not_referenced, fault_or_number, answer_at, IsWalkAnswer, IsRead}
 use Rattle.ip_spec.proofs.PrefixLemmas.{prefix_of-append}
 use Rattle.ip_spec.proofs.LongestOfLemmas.{longest_where_none_next}
 use Rattle.ip_spec.proofs.StepLemmas.{bytes_of-more}
 use Rattle.ip_spec.proofs.FitsLemmas.{fits_places}
-use Rattle.ip_spec.proofs.UnderLemmas.{longest_at_end_under, whole_longest_under, one_longest_under}
+use Rattle.ip_spec.proofs.UnderLemmas.{longest_at_end_under, whole_longest_under}
 use Rattle.ip_spec.proofs.ChainLemmas.{whole_longest, one_longest}
 use Rattle.ip_spec.proofs.ClearedLemmas.{cleared_is_chain, cleared_fits, cleared_are, cleared_leads, value-cleared}
 use Rattle.ip_spec.proofs.EncodedLemmas.{header_number, one_header_says}
 use Rattle.ip_spec.proofs.PlaceLemmas.{place_number}
-use Rattle.ip_spec.proofs.WalkLemmas.{none_if, some_if, Next, next_shown, shown_grows, one_reach}
+use Rattle.ip_spec.proofs.WalkLemmas.{none_if, Next, next_shown, shown_grows, one_reach}
 
 -- A chain that spells v is all that v reaches.
 spelled_shown : (v : Held) (f : ℕ) (c : List ExtHeader) → IsSpelling v f c → IsShown v f c

@@ -1,5 +1,5 @@
 -- Sums over the places of a value and over the headers of a chain.
-use Rattle.std.proofs.Common.{◌≡◌, ℕ, zero, suc, ◌+◌, ◌≤◌, List, [], ◌∷◌, ◌++◌, length, drop, refl, ap, sym, ◌∙◌, arith, inl, inr, subst, append_assoc, Bool, true, false}
+use Rattle.std.proofs.Common.{◌≡◌, ℕ, zero, suc, ◌+◌, ◌≤◌, List, [], ◌∷◌, ◌++◌, length, refl, ap, sym, ◌∙◌, arith, inl, inr, subst, append_assoc, Bool, true, false}
 use Rattle.std.specs.Prelude.{Option, Some, None, sum_by, ◌==◌, ◌||◌, if◌then◌else◌}
 use Rattle.std.specs.List.{AllByRecursion}
 use Rattle.std.specs.Option.{option_map, option_map_or}
@@ -7,17 +7,16 @@ use Rattle.std.proofs.lemmas.Bool.Decides.{eqb_tells}
 use Rattle.std.proofs.lemmas.Option.{none-some, same_Some}
 use Rattle.std.proofs.lemmas.List.{append-nil, length-append, length-drop}
 use Rattle.std.proofs.lemmas.List.Sums.{sum_by-append}
-use Rattle.ip_spec.specs.Header.{IsHeader, IsRawHeader, IsRawNumber, raw, fragment, auth}
-use Rattle.ip_spec.specs.FieldsOf.{raw_fields, fragment_fields, auth_fields}
+use Rattle.ip_spec.specs.Header.{IsHeader, IsRawHeader, raw, fragment, auth}
+use Rattle.ip_spec.specs.FieldsOf.{raw_fields}
 use Rattle.ip_spec.specs.Fields.{next_header}
 use Rattle.ip_spec.specs.Chain.{ExtHeader, leads_to, bytes_of, IsChain}
 use Rattle.ip_spec.specs.Fits.{FitsPlaces}
-use Rattle.ip_spec.specs.Places.{Place, hop_by_hop, destination, routing, fragment as fragment_place, authentication, final_destination, places, index, number_in, header_in, fields_of, HeaderFields, raw_header, fragment_header, auth_header}
-use Rattle.ip_spec.specs.Encodable.{IsEncoded, IsEncodable, fields_len, sum_held, held_len}
+use Rattle.ip_spec.specs.Places.{Place, hop_by_hop, destination, routing, fragment as fragment_place, authentication, final_destination, index, header_in, fields_of, HeaderFields, raw_header}
+use Rattle.ip_spec.specs.Encodable.{IsEncodable, fields_len, sum_held, held_len}
 use Rattle.ip_spec.specs.Walk.{Held, IsValueOf, IsReach, WalkAnswer, answer_at, unreached, IsWalkAnswer}
 use Rattle.ip_spec.specs.WalkStep.{next_place, without}
-use Rattle.ip_spec.proofs.HeaderLemmas.{raw_of}
-use Rattle.ip_spec.proofs.StepLemmas.{chain_begins, chain_header, bytes_of-more}
+use Rattle.ip_spec.proofs.StepLemmas.{chain_begins}
 use Rattle.ip_spec.proofs.FitsLemmas.{fits_places}
 use Rattle.ip_spec.proofs.PlaceLemmas.{same_place}
 use Rattle.ip_spec.proofs.WalkLemmas.{Joins, joins, there}

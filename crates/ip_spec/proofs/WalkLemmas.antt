@@ -1,23 +1,20 @@
 -- What a value shows, reaches and spells from a number.
-use Rattle.std.proofs.Common.{◌≡◌, ◌≢◌, ℕ, ◌+◌, ◌≤◌, List, [], ◌∷◌, ◌++◌, length, refl, ap, sym, ◌∙◌, arith, inl, inr, ◌⊎◌, subst, append_assoc, Bool, true, false, drop}
-use Rattle.std.specs.Prelude.{Option, Some, None, is_some, ◌==◌, if◌then◌else◌, ◌↔◌}
-use Rattle.std.specs.List.{AllByRecursion}
-use Rattle.std.specs.Option.{option_map, ForSome}
+use Rattle.std.proofs.Common.{◌≡◌, ℕ, List, [], ◌∷◌, ◌++◌, refl, ap, sym, ◌∙◌, inl, inr, subst, append_assoc, Bool, true, false}
+use Rattle.std.specs.Prelude.{Option, Some, None, is_some, ◌==◌, if◌then◌else◌}
 use Rattle.std.proofs.lemmas.Bool.{cases_Bool}
 use Rattle.std.proofs.lemmas.Bool.Decides.{eqb_tells}
 use Rattle.std.proofs.lemmas.Option.{none-some, same_Some}
 use Rattle.std.proofs.lemmas.List.{append-nil}
 use Rattle.ip_spec.specs.Header.{IsHeader, IsExtensionNumber}
-use Rattle.ip_spec.specs.Chain.{ExtHeader, leads_to, bytes_of, is_empty, IsChain}
+use Rattle.ip_spec.specs.Chain.{ExtHeader, leads_to, is_empty, IsChain}
 use Rattle.ip_spec.specs.Fits.{FitsPlaces}
-use Rattle.ip_spec.specs.Places.{Place, hop_by_hop, destination, routing, fragment, authentication, final_destination, index, number_in, header_in, has_routing, place_of, fields_of, HeaderFields}
-use Rattle.ip_spec.specs.Encoded.{IsCleared, AreCleared}
-use Rattle.ip_spec.specs.Encodable.{IsEncoded}
-use Rattle.ip_spec.specs.Walk.{Held, IsValueOf, IsSpelling, IsShown, IsReach, unreached}
-use Rattle.ip_spec.proofs.LongestOfLemmas.{Grows, longest_where_none_next, one_longest_of}
-use Rattle.ip_spec.proofs.StepLemmas.{all_first, all_next, all_more, no_chain, chain_begins, chain_number, chain_header, chain_zero, chain_more}
+use Rattle.ip_spec.specs.Places.{Place, hop_by_hop, destination, routing, fragment, authentication, final_destination, index, header_in, has_routing, place_of, fields_of}
+use Rattle.ip_spec.specs.Encoded.{IsCleared}
+use Rattle.ip_spec.specs.Walk.{Held, IsShown, IsReach}
+use Rattle.ip_spec.proofs.LongestOfLemmas.{Grows, one_longest_of}
+use Rattle.ip_spec.proofs.StepLemmas.{all_first, all_next, no_chain, chain_begins, chain_number, chain_header, chain_zero}
 use Rattle.ip_spec.proofs.FitsLemmas.{fits_places}
-use Rattle.ip_spec.proofs.PlaceLemmas.{same_place, place_number, placed, fits_more, breaks_more}
+use Rattle.ip_spec.proofs.PlaceLemmas.{same_place, placed, breaks_more}
 use Rattle.ip_spec.proofs.EncodedLemmas.{header_number, one_header_says}
 
 pub none_if : {X : Type 0} (o : Option X) → is_some o ≡ false → o ≡ None

@@ -1,21 +1,21 @@
 -- A walk that takes headers out of a value, one after the other.
-use Rattle.std.proofs.Common.{◌≡◌, ◌≢◌, ℕ, ◌+◌, ◌≤◌, List, [], ◌∷◌, ◌++◌, length, refl, ap, sym, ◌∙◌, arith, inl, inr, ◌⊎◌, subst, Bool, true, false}
+use Rattle.std.proofs.Common.{◌≡◌, ℕ, List, [], ◌∷◌, ◌++◌, refl, ap, sym, ◌∙◌, arith, inl, inr, subst, Bool, true, false}
 use Rattle.std.specs.Prelude.{Option, Some, None, is_some, ◌==◌, ◌&&◌, ◌||◌, not, if◌then◌else◌}
-use Rattle.std.proofs.lemmas.Bool.{cases_Bool, eqb-true, eq-eqb}
+use Rattle.std.proofs.lemmas.Bool.{eqb-true, eq-eqb}
 use Rattle.std.proofs.lemmas.Bool.Decides.{eqb_tells}
 use Rattle.std.proofs.lemmas.Option.{none-some, same_Some}
 use Rattle.ip_spec.specs.Header.{IsHeader}
 use Rattle.ip_spec.specs.Fields.{next_header}
-use Rattle.ip_spec.specs.Chain.{ExtHeader, leads_to, bytes_of, is_empty, IsChain}
+use Rattle.ip_spec.specs.Chain.{ExtHeader, leads_to, is_empty}
 use Rattle.ip_spec.specs.Places.{Place, hop_by_hop, destination, routing, fragment, authentication, final_destination, index, number_in, header_in, has_routing, place_of, fields_of, HeaderFields}
 use Rattle.ip_spec.specs.Encoded.{IsCleared}
-use Rattle.ip_spec.specs.Encodable.{IsEncoded, IsEncodable}
+use Rattle.ip_spec.specs.Encodable.{IsEncoded}
 use Rattle.ip_spec.specs.Walk.{Held, IsShown, IsReach, unreached, WalkAnswer, answer_at, IsWalkAnswer}
 use Rattle.ip_spec.specs.WalkStep.{next_place, without}
 use Rattle.ip_spec.proofs.LongestOfLemmas.{longest_where_none_next}
 use Rattle.ip_spec.proofs.StepLemmas.{all_more, leads_to-more, chain_more}
 use Rattle.ip_spec.proofs.PlaceLemmas.{same_place, place_number, placed, fits_more}
-use Rattle.ip_spec.proofs.WalkLemmas.{none_if, Joins, there, Next, next_shown, shown_grows, none_shown, nothing_in}
+use Rattle.ip_spec.proofs.WalkLemmas.{none_if, there, Next, next_shown, shown_grows, none_shown, nothing_in}
 
 -- Headers c were reached from f and taken out of v, which leaves u. They lead to m; `first` tells that there is
 -- none, `behind` that a routing header is one of them.

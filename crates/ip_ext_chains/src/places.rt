@@ -38,6 +38,20 @@ impl Place {
         }
     }
 
+    /// The number of the headers that stand in it.
+    #[inline(always)]
+    pub(crate) fn number(self) -> IpNumber
+        ensures { result.0 ≡ number_in (shown self) }
+    {
+        match self {
+            Place::HopByHop => ip_number::IPV6_HOP_BY_HOP,
+            Place::Destination | Place::FinalDestination => ip_number::IPV6_DEST_OPTIONS,
+            Place::Routing => ip_number::IPV6_ROUTE,
+            Place::Fragment => ip_number::IPV6_FRAG,
+            Place::Authentication => ip_number::AUTH,
+        }
+    }
+
     /// Where it stands among the places.
     #[inline(always)]
     fn index(self) -> usize
@@ -55,6 +69,7 @@ pub(crate) struct Places<T> {
 
 impl<T: Drop> Places<T> {
     ghost use Rattle.ip_ext_chains.specs.Places.{at, IsVacant, IsPut, IsFreePlace, IsFilled, is_taken_in};
+    ghost use Rattle.ip_ext_chains.specs.Places.{at, IsVacant, IsPut, IsTaken, first_in, IsInserted, IsFilled, is_taken_in};
 
     /// Nothing in any place.
     #[inline(always)]
@@ -113,6 +128,45 @@ impl<T: Drop> Places<T> {
         ensures { IsPut (shown place) value self.old self.new }
     {
         self.held[place.index()] = Some(value);
+    }
+
+    /// These in the places, in their order.
+    #[inline(always)]
+    pub(crate) fn all(held: [Option<T>; 6]) -> Places<T>
+        ensures { result.held ≡ held }
+    {
+        Places { held }
+    }
+
+    /// Takes out what is in the place.
+    #[inline(always)]
+    pub(crate) fn take(&mut self, place: Place) -> Option<T>
+        ensures taken { result ≡ at (shown place) self.old }
+        ensures left { IsTaken (shown place) self.old self.new }
+    {
+        self.held[place.index()].take()
+    }
+
+    /// The first place in which something is.
+    #[inline(always)]
+    pub(crate) fn first(&self) -> Option<Place>
+        ensures { option_map shown result ≡ first_in self.now }
+    {
+        if self.get(Place::HopByHop).is_some() {
+            Some(Place::HopByHop)
+        } else if self.get(Place::Destination).is_some() {
+            Some(Place::Destination)
+        } else if self.get(Place::Routing).is_some() {
+            Some(Place::Routing)
+        } else if self.get(Place::Fragment).is_some() {
+            Some(Place::Fragment)
+        } else if self.get(Place::Authentication).is_some() {
+            Some(Place::Authentication)
+        } else if self.get(Place::FinalDestination).is_some() {
+            Some(Place::FinalDestination)
+        } else {
+            None
+        }
     }
 }
 

@@ -1,0 +1,9 @@
+-- What a header says where it stands.
+use Rattle.ip_spec.specs.Places.{HeaderFields, raw_header, fragment_header, auth_header}
+use Rattle.ip_ext_chains.specs.declared.header_ref.HeaderRef.{HeaderRef}
+use Rattle.ip_ext_chains.specs.declared.header_ref.HeaderRef.TheVariants.{Raw, Fragment, Authentication}
+
+abbrev pub said : HeaderRef → HeaderFields
+said (Raw h) = raw_header h.now
+said (Fragment h) = fragment_header h.now
+said (Authentication h) = auth_header h.now

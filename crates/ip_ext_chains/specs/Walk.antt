@@ -1,0 +1,43 @@
+-- A walk through the headers of a struct of six places, and what it answers.
+use Rattle.std.specs.Prelude.{◌≡◌, ℕ, ◌==◌, ◌||◌, Bool, false, Option, Some, None, Result, Ok, Err}
+use Rattle.std.specs.Option.{option_map}
+use Rattle.ip_base.specs.declared.ip_number_impl.IpNumber.{IpNumber}
+use Rattle.ip_spec.specs.Numbers.{ROUTING}
+use Rattle.ip_spec.specs.Places.{Place, HeaderFields}
+use Rattle.ip_spec.specs.Walk.{Held, WalkAnswer, leads, hop_by_hop_not_at_start, not_referenced}
+use Rattle.ip_spec.specs.WalkStep.{next_place, without, next_of}
+use Rattle.ip_ext_chains.specs.Places.{at}
+use Rattle.ip_ext_chains.specs.HeaderRef.{said}
+use Rattle.ip_ext_chains.specs.declared.err.ipv6_exts.exts_walk_error.ExtsWalkError.{ExtsWalkError}
+use Rattle.ip_ext_chains.specs.declared.err.ipv6_exts.exts_walk_error.ExtsWalkError.TheVariants.{HopByHopNotAtStart, ExtNotReferenced}
+use Rattle.ip_ext_chains.specs.declared.walk.Walk.{Walk}
+
+-- what an error of a walk says
+abbrev pub fault_told : ExtsWalkError → WalkAnswer
+fault_told HopByHopNotAtStart = hop_by_hop_not_at_start
+fault_told (ExtNotReferenced n) = not_referenced n.0
+
+-- and a result
+abbrev pub told : Result IpNumber ExtsWalkError → WalkAnswer
+told (Ok n) = leads n.0
+told (Err e) = fault_told e
+
+-- what is said by the headers that a walk hasn't reached
+abbrev pub left_in : Walk → Held
+left_in w p = option_map said (at p w.left)
+
+-- a header that says x is next in the walk `old`, and `new` is the walk behind it
+pub record IsStep (old new : Walk) (x : HeaderFields) : Type 0 where
+  pub place : Place
+  pub own : next_place old.first old.behind_routing old.number.0 ≡ Some place
+  pub there : left_in old place ≡ Some x
+  pub taken : (p : Place) → left_in new p ≡ without place (left_in old) p
+  pub number : new.number.0 ≡ next_of x
+  pub first : new.first ≡ false
+  pub behind_routing : new.behind_routing ≡ (old.behind_routing || (old.number.0 == ROUTING))
+
+-- no header is next in the walk `old`, and `new` has come no further
+pub record IsStop (old new : Walk) : Type 0 where
+  pub none : (p : Place) → next_place old.first old.behind_routing old.number.0 ≡ Some p → left_in old p ≡ None
+  pub left : (p : Place) → left_in new p ≡ left_in old p
+  pub number : new.number.0 ≡ old.number.0

@@ -1,0 +1,51 @@
+//! A header where it stands.
+ghost use Rattle.std.specs.Prelude.{◌≡◌, ◌≤◌, ◌<◌, ◌+◌, OnOk, OnErr, vec_len, vec_capacity};
+ghost use Rattle.std.specs.Option.{option_map};
+ghost use Rattle.ip_spec.specs.Encoding.{AppendsOne};
+ghost use Rattle.ip_spec.specs.Encodable.{fields_len};
+ghost use Rattle.ip_spec.specs.WalkStep.{next_of, IsEncodingOf};
+ghost use Rattle.ip_ext_chains.specs.HeaderRef.{said};
+
+use ip_base::IpNumber;
+use ip_ext_headers::{IpAuthHeader, Ipv6FragmentHeader, Ipv6RawExtHeader};
+use std::alloc::{AllocError, Allocator};
+
+/// A header of one of the three layouts.
+#[derive(Clone, Copy)]
+pub(crate) enum HeaderRef<'a> {
+    Raw(&'a Ipv6RawExtHeader),
+    Fragment(&'a Ipv6FragmentHeader),
+    Authentication(&'a IpAuthHeader),
+}
+
+impl<'a> HeaderRef<'a> {
+    /// The number of what follows it.
+    #[inline(always)]
+    pub(crate) fn next_header(&self) -> IpNumber
+        ensures { result.0 ≡ next_of (said self.now) }
+    {
+        match self {
+            HeaderRef::Raw(header) => header.next_header,
+            HeaderRef::Fragment(header) => header.next_header,
+            HeaderRef::Authentication(header) => header.next_header,
+        }
+    }
+
+    /// Appends its bytes.
+    #[inline(always)]
+    pub(crate) fn write<A: Allocator>(&self, out: &mut Vec<u8, A>) -> Result<(), AllocError>
+        ensures ok { OnOk result
+            (AppendsOne (IsEncodingOf (said self.now)) out.old.items out.new.items) }
+        ensures len { OnOk result (vec_len out.new ≡ vec_len out.old + fields_len (said self.now)) }
+        ensures err { OnErr result (out.new.items ≡ out.old.items) }
+        ensures full { OnErr result
+            (vec_capacity out.old < vec_len out.old + fields_len (said self.now)) }
+        ensures capacity { vec_capacity out.old ≤ vec_capacity out.new }
+    {
+        match self {
+            HeaderRef::Raw(header) => header.write(out),
+            HeaderRef::Fragment(header) => header.write(out),
+            HeaderRef::Authentication(header) => header.write(out),
+        }
+    }
+}

@@ -3,6 +3,7 @@
 #![tactic(auto)]
 
 mod chain_laws;
+mod encodable;
 pub mod err;
 mod ipv4_exts;
 mod ipv4_exts_slice;

@@ -1,0 +1,12 @@
+use Rattle.std.proofs.Common.{ap, sym, ◌∙◌, ℕ, subst, Some}
+use Rattle.std.specs.Option.{option_map}
+use Rattle.std.proofs.lemmas.Option.{same_Some}
+use Rattle.ip_spec.specs.Chain.{ExtHeader}
+use Rattle.ip_spec.specs.Places.{HeaderFields, raw_header}
+use Rattle.ip_spec.specs.Encodable.{IsEncoded}
+use Rattle.ip_ext_chains.proofs.encodable.place_encodable.Goals as goal
+
+pub returns-in-Some : goal.returns-in-Some
+returns-in-Some c = λ n k x e.
+    let E : HeaderFields → Type 0 = λ y. (h : ExtHeader) × IsEncoded n y h in
+    subst E (same_Some _ x (sym (ap (option_map raw_header) c.in-Some.is) ∙ e)) (c.raw_encodable.ensures n k)

@@ -1,0 +1,12 @@
+use Rattle.std.proofs.Common.{◌<◌, List, ℕ, length, subst, arith, ap}
+use Rattle.ip_spec.specs.FieldsOf.{RawFields}
+use Rattle.ip_spec.specs.Lengths.{IsPayloadLen}
+use Rattle.ip_spec.specs.Encoding.{AreBytes}
+use Rattle.ip_spec.proofs.EncodedLemmas.{raw_encoded}
+use Rattle.ip_ext_chains.proofs.encodable.raw_encodable.Goals as goal
+
+pub returns : goal.returns
+returns c =
+    let next : c.args.header.now.next_header < 256 = omega (arith, c.number_in_range.ensures, ap (λ (v : RawFields). v.next_header) c.header.view_is) in
+    let L : List ℕ → Type 0 = λ b. IsPayloadLen (length b) in
+    raw_encoded c.args.header.now next (subst L c.payload.ensures.payload c.payload.ensures.allowed) (subst AreBytes c.payload.ensures.payload c.in_range.ensures)

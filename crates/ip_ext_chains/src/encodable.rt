@@ -2,7 +2,7 @@
 ghost use Rattle.std.specs.Prelude.{ℕ, ◌<◌, ◌^◌};
 ghost use Rattle.std.specs.Option.{option_map, ForSome};
 ghost use Rattle.ip_spec.specs.Header.{IsRawNumber};
-ghost use Rattle.ip_spec.specs.Numbers.{FRAGMENT, AUTHENTICATION};
+ghost use Rattle.ip_spec.specs.Numbers.{ROUTING, FRAGMENT, AUTHENTICATION, DESTINATION_OPTIONS};
 ghost use Rattle.ip_spec.specs.Encoding.{AreBytes};
 ghost use Rattle.ip_spec.specs.Chain.{ExtHeader};
 ghost use Rattle.ip_spec.specs.Places.{raw_header, fragment_header, auth_header};
@@ -25,6 +25,7 @@ fn number_in_range(number: IpNumber)
     ensures { number.0 < 256 }
 {}
 
+/// A word has 32 bits.
 #[inline(always)]
 fn word_in_range(word: u32)
     ensures { word < 2 ^ 32 }
@@ -61,13 +62,63 @@ fn auth_encodable(header: &IpAuthHeader)
     in_range(header.raw_icv());
 }
 
-/// One that may be there.
+/// One of the common layout that may be there.
 #[inline(always)]
-fn place_encodable(header: &Option<Ipv6RawExtHeader>)
+fn raw_place_encodable(header: &Option<Ipv6RawExtHeader>)
     ensures { (n : ℕ) → IsRawNumber n → ForSome (option_map raw_header header.now)
         (λ x. (h : ExtHeader) × IsEncoded n x h) }
 {
     if let Some(header) = header {
         raw_encodable(header);
+    }
+}
+
+/// A fragment header that may be there.
+#[inline(always)]
+fn fragment_place_encodable(header: &Option<Ipv6FragmentHeader>)
+    ensures { ForSome (option_map fragment_header header.now)
+        (λ x. (h : ExtHeader) × IsEncoded FRAGMENT x h) }
+{
+    if let Some(header) = header {
+        fragment_encodable(header);
+    }
+}
+
+/// An authentication header that may be there.
+#[inline(always)]
+fn auth_place_encodable(header: &Option<IpAuthHeader>)
+    ensures { ForSome (option_map auth_header header.now)
+        (λ x. (h : ExtHeader) × IsEncoded AUTHENTICATION x h) }
+{
+    if let Some(header) = header {
+        auth_encodable(header);
+    }
+}
+
+/// A routing header and the destination options behind it, that may be there.
+#[inline(always)]
+fn routing_encodable(headers: &Option<Ipv6RoutingExtensions>)
+    ensures routing { ForSome (option_map (λ r. raw_header r.routing) headers.now)
+        (λ x. (h : ExtHeader) × IsEncoded ROUTING x h) }
+    ensures final_destination { ForSome (option_map raw_header (final_of headers.now))
+        (λ x. (h : ExtHeader) × IsEncoded DESTINATION_OPTIONS x h) }
+{
+    if let Some(headers) = headers {
+        raw_encodable(&headers.routing);
+        raw_place_encodable(&headers.final_destination_options);
+    }
+}
+
+impl Ipv6Extensions {
+    /// Each header can be written.
+    #[inline(always)]
+    pub(crate) fn encodable(&self)
+        ensures { IsEncodable (held self.now) }
+    {
+        raw_place_encodable(&self.hop_by_hop_options);
+        raw_place_encodable(&self.destination_options);
+        routing_encodable(&self.routing);
+        fragment_place_encodable(&self.fragment);
+        auth_place_encodable(&self.auth);
     }
 }

@@ -80,7 +80,7 @@ module _ (c : List ExtHeader) where
     | inr l ↦ omega arith
   ]
 
-  none_behind : count_by is_routing c ≡ 0 → after_routing_header c ≡ []
+  pub none_behind : count_by is_routing c ≡ 0 → after_routing_header c ≡ []
   none_behind z = ap after_routing_header (sym (append-nil c)) ∙ after-none is_routing c [] z
 
   all_before : count_by is_routing c ≡ 0 → before_routing_header c ≡ c

@@ -4,7 +4,7 @@ use Rattle.std.proofs.lemmas.Option.{same_Some}
 use Rattle.ip_spec.specs.Chain.{ExtHeader}
 use Rattle.ip_spec.specs.Places.{HeaderFields, raw_header}
 use Rattle.ip_spec.specs.Encodable.{IsEncoded}
-use Rattle.ip_ext_chains.proofs.encodable.place_encodable.Goals as goal
+use Rattle.ip_ext_chains.proofs.encodable.raw_place_encodable.Goals as goal
 
 pub returns-in-Some : goal.returns-in-Some
 returns-in-Some c = λ n k x e.

@@ -1,0 +1,87 @@
+-- What a walk through a struct of six places has reached and written.
+use Rattle.std.proofs.Common.{◌≡◌, ℕ, ◌+◌, ◌<◌, ◌≤◌, List, [], ◌∷◌, ◌++◌, length, refl, ap, sym, ◌∙◌, arith, inl, inr, subst, append_assoc, Bool, true, false}
+use Rattle.std.specs.Prelude.{Option, Some, None, ◌↔◌, Ok, Err}
+use Rattle.std.proofs.lemmas.List.{append-nil, length-append}
+use Rattle.ip_spec.specs.Header.{IsExtensionNumber}
+use Rattle.ip_spec.specs.Encoding.{AreBytes}
+use Rattle.ip_spec.specs.Chain.{ExtHeader, leads_to, bytes_of}
+use Rattle.ip_spec.specs.Demand.{IsLongestUnder}
+use Rattle.ip_spec.specs.Fits.{FitsPlaces}
+use Rattle.ip_spec.specs.Places.{Place, number_in, header_in, HeaderFields, fields_of}
+use Rattle.ip_spec.specs.Encodable.{IsEncoded, IsEncodable, fields_len, sum_held, held_len}
+use Rattle.ip_spec.specs.Walk.{Held, IsSpelling, IsShown, WalkAnswer, leads, answer_at, IsWalkAnswer, unreached}
+use Rattle.ip_spec.specs.WalkStep.{next_of, IsEncodingOf}
+use Rattle.ip_spec.proofs.StepLemmas.{bytes_of-more}
+use Rattle.ip_spec.proofs.EncodedLemmas.{encoding_is}
+use Rattle.ip_spec.proofs.WalkStepLemmas.{Walking, walk_begins, walks_on, walk_stops, walk_answers, left_some}
+use Rattle.ip_spec.proofs.LinkLemmas.{next_said}
+use Rattle.ip_spec.proofs.SumLemmas.{sum_without}
+use Rattle.ip_ext_chains.specs.Ipv6Extensions.{held}
+use Rattle.ip_ext_chains.specs.Walk.{left_in, IsStep, IsStop}
+use Rattle.ip_ext_chains.specs.declared.walk.Walk.{Walk}
+
+-- some headers were reached from f and taken out of v, and w is the walk behind them
+pub record Walked (v : Held) (f : ℕ) (w : Walk) : Type 0 where
+  pub reached : List ExtHeader
+  pub walking : Walking v f reached (left_in w) w.number.0 w.first w.behind_routing
+
+pub walked_none : (v : Held) (f : ℕ) (w : Walk) → ((p : Place) → left_in w p ≡ v p) → w.number.0 ≡ f → w.first ≡ true → w.behind_routing ≡ false → Walked v f w
+walked_none v f w left number first behind =
+    let B : Bool → Type 0 = λ b. Walking v f [] (left_in w) w.number.0 w.first b in
+    let A : Bool → Type 0 = λ b. Walking v f [] (left_in w) w.number.0 b false in
+    let N : ℕ → Type 0 = λ n. Walking v f [] (left_in w) n true false in
+    record { reached = []; walking = subst B (sym behind) (subst A (sym first) (subst N (sym number) (walk_begins v f (left_in w) left))) }
+
+-- how many headers are left, and how many bytes they have
+abbrev pub headers_left : Walk → ℕ
+headers_left w = sum_held (λ x. 1) (left_in w)
+
+pub step_less : (old new : Walk) (x : HeaderFields) → IsStep old new x → headers_left new < headers_left old
+step_less old new x s = omega (arith, sum_without (λ y. 1) (left_in old) (left_in new) s.place x s.there s.taken)
+
+module _ (v : Held) (f : ℕ) (e : IsEncodable v) (old new : Walk) (x : HeaderFields) (s : IsStep old new x) (c : List ExtHeader) (k : Walking v f c (left_in old) old.number.0 old.first old.behind_routing) where
+  abbrev encoded : (h : ExtHeader) × IsEncoded (number_in s.place) x h
+  encoded = e.encoded s.place x (left_some (header_in s.place c) (v s.place) x (sym (k.left s.place) ∙ s.there)).1
+
+  step_walking : Walking v f (c ++ encoded.0 ∷ []) (left_in new) new.number.0 new.first new.behind_routing
+  step_walking =
+      walks_on v f c (left_in old) old.number.0 old.first old.behind_routing k s.place x encoded.0 s.own s.there encoded.1
+      (left_in new) new.number.0 new.first new.behind_routing s.taken
+      (s.number ∙ ap next_of (sym encoded.1.fields) ∙ next_said encoded.0)
+      s.first s.behind_routing
+
+  pub walked_more : Walked v f new
+  walked_more = record { reached = c ++ encoded.0 ∷ []; walking = step_walking }
+
+-- where none goes on, the walk has the answer of what is left
+pub walked_answer : (v : Held) (f : ℕ) (old new : Walk) (a : WalkAnswer) → Walked v f old → IsStop old new → a ≡ answer_at new.number.0 (left_in new) → IsWalkAnswer v f a
+walked_answer v f old new a k s e =
+    walk_answers v f k.reached (left_in old) old.number.0 old.first old.behind_routing k.walking (left_in new) new.number.0 a s.none s.left s.number e
+
+-- The headers that were reached were appended to `before`, and there is room for those that are left.
+pub record Written (v : Held) (f : ℕ) (w : Walk) (before now : List ℕ) (room : ℕ) : Type 0 where
+  pub reached : List ExtHeader
+  pub walking : Walking v f reached (left_in w) w.number.0 w.first w.behind_routing
+  pub appended : now ≡ before ++ bytes_of reached
+  pub fits : length now + held_len (left_in w) ≤ room
+
+module _ (v : Held) (f : ℕ) (e : IsEncodable v) (old new : Walk) (x : HeaderFields) (s : IsStep old new x) (before now more b : List ℕ) (room larger : ℕ) (k : Written v f old before now room) where
+  step_len : held_len (left_in new) + fields_len x ≡ held_len (left_in old)
+  step_len = sum_without fields_len (left_in old) (left_in new) s.place x s.there s.taken
+
+  -- the next header has room
+  pub written_room : length now + fields_len x ≤ room
+  written_room = omega (arith, k.fits, step_len)
+
+  pub written_more : IsEncodingOf x b → more ≡ now ++ b → length more ≡ length now + fields_len x → room ≤ larger → Written v f new before more larger
+  written_more is appended len grows =
+      let h = encoded v f e old new x s k.reached k.walking in
+      record {
+        reached = k.reached ++ h.0 ∷ [];
+        walking = step_walking v f e old new x s k.reached k.walking;
+        appended =
+            appended ∙ ap (λ l. l ++ b) k.appended ∙ append_assoc before (bytes_of k.reached) b
+            ∙ ap (λ l. before ++ (bytes_of k.reached ++ l)) (sym (encoding_is _ x h.0 b h.1 is))
+            ∙ ap (λ l. before ++ l) (sym (bytes_of-more k.reached h.0));
+        fits = omega (arith, k.fits, step_len, len, grows);
+      }

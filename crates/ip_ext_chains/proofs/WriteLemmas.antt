@@ -1,0 +1,158 @@
+-- What is read as a struct of six places, and what is written of one.
+use Rattle.std.proofs.Common.{◌≡◌, ℕ, ◌+◌, ◌<◌, ◌≤◌, List, [], ◌∷◌, ◌++◌, length, take, drop, refl, ap, sym, ◌∙◌, arith, inl, inr, subst, Bool, true, false}
+use Rattle.std.specs.Prelude.{Option, Some, None, ◌↔◌, ◌==◌, ◌&&◌, not, Result, Ok, Err, if◌then◌else◌, is_some}
+use Rattle.std.specs.Option.{option_map}
+use Rattle.std.proofs.Math.Seq.{drop-length, drop-append_seam}
+use Rattle.std.proofs.lemmas.List.{append-nil, append_cancel_left, length-append}
+use Rattle.std.proofs.lemmas.List.Elements.{All-take}
+use Rattle.std.proofs.lemmas.Bool.{cases_Bool}
+use Rattle.ip_base.specs.declared.ip_number_impl.IpNumber.{IpNumber}
+use Rattle.ip_spec.specs.Header.{IsExtensionNumber}
+use Rattle.ip_spec.specs.Encoding.{AreBytes}
+use Rattle.ip_spec.specs.Chain.{ExtHeader, leads_to, bytes_of, is_empty, IsChain}
+use Rattle.ip_spec.specs.Demand.{IsLongestUnder}
+use Rattle.ip_spec.specs.Fits.{FitsPlaces, IsTaken}
+use Rattle.ip_spec.specs.Places.{Place, header_in, fields_of, is_taken}
+use Rattle.ip_spec.specs.Encoded.{cleared_chain}
+use Rattle.ip_spec.specs.Encodable.{IsEncodable, held_len}
+use Rattle.ip_spec.specs.Walk.{Held, IsValueOf, IsSpelling, IsReach, WalkAnswer, leads, hop_by_hop_not_at_start, not_referenced, IsWalkAnswer, IsRead, unreached}
+use Rattle.ip_spec.proofs.PrefixLemmas.{prefix-append}
+use Rattle.ip_spec.proofs.FitsLemmas.{fits_places}
+use Rattle.ip_spec.proofs.UnderLemmas.{some_longest_under, one_longest_under}
+use Rattle.ip_spec.proofs.WalkLemmas.{one_reach}
+use Rattle.ip_spec.proofs.SpellingLemmas.{one_spelling, spelling_is_reach, one_answer, leads_exactly, leads_read, leads_spelled, spelled_leads, cleared_spells, spelled_is_read, spelled_alike}
+use Rattle.ip_spec.proofs.SumLemmas.{bytes_len}
+use Rattle.ip_ext_chains.specs.Fault.{Fault, slice_fault}
+use Rattle.ip_ext_chains.specs.Fitting.{fitting_chain, rest_after_fitting, fitting_fault, IsFittingAnswer}
+use Rattle.ip_ext_chains.specs.Ipv6Extensions.{value_of, held, exts_len}
+use Rattle.ip_ext_chains.specs.Walk.{fault_told}
+use Rattle.ip_ext_chains.specs.Write.{IsReadWhole, IsWritten, IsReachWritten, IsWalkFault}
+use Rattle.ip_ext_chains.specs.declared.ipv6_exts.Ipv6Extensions.{Ipv6Extensions}
+use Rattle.ip_ext_chains.specs.declared.err.ipv6_exts.exts_walk_error.ExtsWalkError.{ExtsWalkError}
+use Rattle.ip_ext_chains.specs.declared.err.ipv6_exts.exts_walk_error.ExtsWalkError.TheVariants.{HopByHopNotAtStart, ExtNotReferenced}
+use Rattle.ip_ext_chains.proofs.FaultLemmas.{no_fault_at_other}
+use Rattle.ip_ext_chains.proofs.HeldLemmas.{held-value_of, held_one, exts_sum}
+
+pub fitting_longest : (n : ℕ) (s : List ℕ) → IsLongestUnder FitsPlaces n s (fitting_chain n s)
+fitting_longest n s = (some_longest_under FitsPlaces fits_places n s).1
+
+pub fitting_is : (n : ℕ) (s : List ℕ) (c : List ExtHeader) → IsLongestUnder FitsPlaces n s c → fitting_chain n s ≡ c
+fitting_is n s c l = one_longest_under FitsPlaces fits_places n s (fitting_chain n s) c (fitting_longest n s) l
+
+module _ (v : Ipv6Extensions) (n : ℕ) where
+  -- a chain has the value v where its headers say what v holds
+  value_is : (c : List ExtHeader) → IsValueOf c (held v) → v ≡ value_of c
+  value_is c k = held_one v (value_of c) (λ p. k p ∙ sym (held-value_of c p))
+
+  value_holds : (c : List ExtHeader) → v ≡ value_of c → IsValueOf c (held v)
+  value_holds c e p = ap (λ w. held w p) e ∙ held-value_of c p
+
+  pub read_whole : (m : ℕ) (s : List ℕ) → IsRead (held v) n m s → IsReadWhole v n m s
+  read_whole m s r =
+      let is : fitting_chain n s ≡ r.chain = fitting_is n s r.chain r.longest in
+      record {
+        bytes = r.bytes;
+        fault = fitting_fault n s;
+        answer = record {
+          value = value_is r.chain r.value ∙ ap value_of (sym is);
+          number = sym r.number ∙ ap (leads_to n) (sym is);
+          rest = sym (drop-length s) ∙ ap (λ (l : List ℕ). drop (length l) s) (sym r.all ∙ ap bytes_of (sym is));
+          fault = refl;
+        };
+      }
+
+  pub whole_read : (m : ℕ) (s : List ℕ) → IsReadWhole v n m s → IsRead (held v) n m s
+  whole_read m s r =
+      let c : List ExtHeader = fitting_chain n s in
+      let l = fitting_longest n s in
+      record {
+        bytes = r.bytes;
+        chain = c;
+        longest = l;
+        value = value_holds c r.answer.value;
+        number = sym r.answer.number;
+        all = sym (prefix-append (bytes_of c) s l.has.has.prefix ∙ ap (λ q. bytes_of c ++ q) (sym r.answer.rest) ∙ append-nil (bytes_of c));
+      }
+
+  pub answer_exactly : IsEncodable (held v) → (a : WalkAnswer) → IsWalkAnswer (held v) n a → (m : ℕ) → (a ≡ leads m) ↔ ((s : List ℕ) × IsReadWhole v n m s)
+  answer_exactly e a k m =
+      let both = leads_exactly (held v) n e a k m in
+      (λ w. let it = both.0 w in (it.0, read_whole m it.0 it.1), λ r. both.1 (r.0, whole_read m r.0 r.1))
+
+  -- what spells the value that was read from bytes, whatever was left behind
+  read_spelled : (s : List ℕ) → AreBytes s → value_of (fitting_chain n s) ≡ v → IsSpelling (held v) n (cleared_chain (fitting_chain n s))
+  read_spelled s bytes e =
+      let l = fitting_longest n s in
+      cleared_spells (held v) n (fitting_chain n s) l.has.has.chain l.has.meets
+      (subst AreBytes l.has.has.prefix (All-take (λ x. x < 256) (length (bytes_of (fitting_chain n s))) s bytes))
+      (value_holds (fitting_chain n s) (sym e))
+
+  leads_differ : (m : ℕ) (e : ExtsWalkError) → leads m ≡ fault_told e → ⊥
+  leads_differ m HopByHopNotAtStart e = let no : leads m ≡ hop_by_hop_not_at_start = e in cc
+  leads_differ m (ExtNotReferenced k) e = let no : leads m ≡ not_referenced k.0 = e in cc
+
+  -- a value that is read from bytes has no fault
+  pub fault_unread : (e : ExtsWalkError) → IsWalkAnswer (held v) n (fault_told e) → (s : List ℕ) → AreBytes s → value_of (fitting_chain n s) ≡ v → ⊥
+  fault_unread e a s bytes k =
+      leads_differ _ e (one_answer (held v) n _ (fault_told e) (spelled_leads (held v) n (cleared_chain (fitting_chain n s)) (read_spelled s bytes k)) a)
+
+  module _ (old new : List ℕ) (w : IsWritten v n old new) where
+    pub written_len : length new ≡ length old + exts_len v
+    written_len = omega (arith, ap length w.appended, length-append old (bytes_of w.chain), bytes_len (held v) n w.chain w.spelling.chain w.spelling.fits w.spelling.value, exts_sum v)
+
+    appended_is : (b : List ℕ) → new ≡ old ++ b → bytes_of w.chain ≡ b
+    appended_is b e = append_cancel_left old (bytes_of w.chain) b (sym w.appended ∙ e)
+
+    none_behind : (k m : ℕ) (c : List ExtHeader) (r : List ℕ) → (IsExtensionNumber m → ⊥) → (if is_taken m c then None else slice_fault k (is_empty c) m r) ≡ None
+    none_behind k m c r other = elim (cases_Bool (is_taken m c)) [
+      | inl t ↦ ap (λ b. if b then None else slice_fault k (is_empty c) m r) t
+      | inr t ↦ ap (λ b. if b then None else slice_fault k (is_empty c) m r) t ∙ no_fault_at_other _ _ (is_empty c) m r k other
+    ]
+
+    -- what was written is read again
+    pub written_again : (b r : List ℕ) (m : ℕ) → new ≡ old ++ b → IsWalkAnswer (held v) n (leads m) → (IsExtensionNumber m → ⊥) → IsFittingAnswer n (b ++ r) v m r None
+    written_again b r m e a other =
+        let c : List ExtHeader = w.chain in
+        let same : leads (leads_to n c) ≡ leads m = one_answer (held v) n _ _ w.answer a in
+        let number : leads_to n c ≡ m = cc in
+        let B : List ℕ → Type 0 = λ l. IsLongestUnder FitsPlaces n (l ++ r) c in
+        let O : ℕ → Type 0 = λ j. IsExtensionNumber j → ⊥ in
+        let none : IsExtensionNumber (leads_to n c) → ⊥ = subst O (sym number) other in
+        let longest : IsLongestUnder FitsPlaces n (b ++ r) c = subst B (appended_is b e) (spelled_is_read (held v) n c r w.spelling (λ x. absurd (none x))) in
+        let is : fitting_chain n (b ++ r) ≡ c = fitting_is n (b ++ r) c longest in
+        let rest : drop (length (bytes_of c)) (b ++ r) ≡ r = ap (λ (l : List ℕ). drop (length l) (b ++ r)) (appended_is b e) ∙ drop-append_seam b r in
+        record {
+          value = value_is c w.spelling.value ∙ ap value_of (sym is);
+          number = sym number ∙ ap (leads_to n) (sym is);
+          rest = sym rest ∙ ap (λ l. drop (length (bytes_of l)) (b ++ r)) (sym is);
+          fault = sym (
+              ap (λ l. if is_taken (leads_to n l) l then None else slice_fault (length (bytes_of l)) (is_empty l) (leads_to n l) (drop (length (bytes_of l)) (b ++ r))) is
+              ∙ none_behind (length (bytes_of c)) (leads_to n c) c (drop (length (bytes_of c)) (b ++ r)) none);
+        }
+
+    -- it is what was read, with its reserved bits put to zero
+    pub written_cleared : (s : List ℕ) → AreBytes s → value_of (fitting_chain n s) ≡ v → new ≡ old ++ bytes_of (cleared_chain (fitting_chain n s))
+    written_cleared s bytes e =
+        w.appended ∙ ap (λ l. old ++ bytes_of l) (one_spelling (held v) n w.chain (cleared_chain (fitting_chain n s)) w.spelling (read_spelled s bytes e))
+
+    -- and of no other value
+    pub written_alike : (x : Ipv6Extensions) (c : List ExtHeader) → IsSpelling (held x) n c → (new ≡ old ++ bytes_of c) ↔ (v ≡ x)
+    written_alike x c k =
+        let both = spelled_alike (held v) (held x) n w.chain c w.spelling k in
+        (λ e. held_one v x (both.0 (appended_is (bytes_of c) e)), λ e. w.appended ∙ ap (λ l. old ++ l) (both.1 (λ p. ap (λ y. held y p) e)))
+
+  -- The walk leads on, and what was reached was appended: that is all.
+  pub all_written : (old new : List ℕ) (m : ℕ) (c : List ExtHeader) → IsReach (held v) n c → IsWalkAnswer (held v) n (leads m) → new ≡ old ++ bytes_of c → IsWritten v n old new
+  all_written old new m c reach a appended =
+      let it = leads_spelled (held v) n m a in
+      let same : it.0 ≡ c = one_reach (held v) n it.0 c (spelling_is_reach (held v) n it.0 it.1) reach in
+      let S : List ExtHeader → Type 0 = IsSpelling (held v) n in
+      let s : IsSpelling (held v) n c = subst S same it.1 in
+      record { chain = c; spelling = s; answer = spelled_leads (held v) n c s; appended = appended }
+
+  pub fault_written : (old new : List ℕ) (e : ExtsWalkError) (c : List ExtHeader) → IsReach (held v) n c → IsWalkAnswer (held v) n (fault_told e) → new ≡ old ++ bytes_of c → IsWalkFault v n old new e
+  fault_written old new e c reach a appended = record {
+    answer = a;
+    written = record { chain = c; reach = reach; appended = appended };
+    unread = fault_unread e a;
+  }

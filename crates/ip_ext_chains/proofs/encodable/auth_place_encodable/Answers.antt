@@ -1,0 +1,13 @@
+use Rattle.std.proofs.Common.{ap, sym, ◌∙◌, subst}
+use Rattle.std.specs.Option.{option_map}
+use Rattle.std.proofs.lemmas.Option.{same_Some}
+use Rattle.ip_spec.specs.Numbers.{AUTHENTICATION}
+use Rattle.ip_spec.specs.Chain.{ExtHeader}
+use Rattle.ip_spec.specs.Places.{HeaderFields, auth_header}
+use Rattle.ip_spec.specs.Encodable.{IsEncoded}
+use Rattle.ip_ext_chains.proofs.encodable.auth_place_encodable.Goals as goal
+
+pub returns-in-Some : goal.returns-in-Some
+returns-in-Some c = λ x e.
+    let E : HeaderFields → Type 0 = λ y. (h : ExtHeader) × IsEncoded AUTHENTICATION y h in
+    subst E (same_Some _ x (sym (ap (option_map auth_header) c.in-Some.is) ∙ e)) c.auth_encodable.ensures

@@ -1,0 +1,27 @@
+use Rattle.std.proofs.Common.{◌≡◌}
+use Rattle.ip_ext_chains.specs.Ipv6Extensions.{held}
+use Rattle.ip_ext_chains.proofs.WalkedLemmas.{walked_none, walked_more, walked_answer, step_less}
+use Rattle.ip_ext_chains.proofs.WriteLemmas.{answer_exactly}
+use Rattle.ip_ext_chains.proofs.ipv6_exts.Ipv6Extensions.next_header.Goals as goal
+
+pub headers-init : goal.headers-init
+headers-init c =
+    let w = c.new-walk.ensures in
+    walked_none (held c.args.self.now) c.args.first.0 c.new-walk.result w.left w.number w.first w.behind_routing
+
+pub headers-smaller : goal.headers-smaller
+headers-smaller c = step_less c.headers.walk c.next.new.self _ c.in-Some.ensures.some
+
+pub headers-preserved : goal.headers-preserved
+headers-preserved c =
+    let k = c.headers.invariant in
+    walked_more (held c.args.self.now) c.args.first.0 c.encodable.ensures c.headers.walk c.next.new.self _ c.in-Some.ensures.some k.reached k.walking
+
+pub returns-clause-answer : goal.returns-clause-answer
+returns-clause-answer c =
+    walked_answer (held c.args.self.now) c.args.first.0 c.headers.walk c.next.new.self _ c.headers.invariant c.in_default.ensures.none c.answer.ensures
+
+pub returns-clause-exactly : goal.returns-clause-exactly
+returns-clause-exactly c =
+    answer_exactly c.args.self.now c.args.first.0 c.encodable.ensures _
+    (walked_answer (held c.args.self.now) c.args.first.0 c.headers.walk c.next.new.self _ c.headers.invariant c.in_default.ensures.none c.answer.ensures)

@@ -9,11 +9,11 @@ use Rattle.ip_spec.specs.Demand.{IsLongestUnder}
 use Rattle.ip_spec.specs.Fits.{FitsPlaces}
 use Rattle.ip_spec.specs.Places.{Place, number_in, header_in, HeaderFields, fields_of}
 use Rattle.ip_spec.specs.Encodable.{IsEncoded, IsEncodable, fields_len, sum_held, held_len}
-use Rattle.ip_spec.specs.Walk.{Held, IsSpelling, IsShown, WalkAnswer, leads, answer_at, IsWalkAnswer, unreached}
+use Rattle.ip_spec.specs.Walk.{Held, IsSpelling, IsReach, WalkAnswer, leads, answer_at, IsWalkAnswer, unreached}
 use Rattle.ip_spec.specs.WalkStep.{next_of, IsEncodingOf}
 use Rattle.ip_spec.proofs.StepLemmas.{bytes_of-more}
 use Rattle.ip_spec.proofs.EncodedLemmas.{encoding_is}
-use Rattle.ip_spec.proofs.WalkStepLemmas.{Walking, walk_begins, walks_on, walk_stops, walk_answers, left_some}
+use Rattle.ip_spec.proofs.WalkStepLemmas.{Walking, walk_begins, walks_on, walk_stops, walk_answers, left_some, same_held}
 use Rattle.ip_spec.proofs.LinkLemmas.{next_said}
 use Rattle.ip_spec.proofs.SumLemmas.{sum_without}
 use Rattle.ip_ext_chains.specs.Ipv6Extensions.{held}
@@ -25,12 +25,15 @@ pub record Walked (v : Held) (f : ℕ) (w : Walk) : Type 0 where
   pub reached : List ExtHeader
   pub walking : Walking v f reached (left_in w) w.number.0 w.first w.behind_routing
 
-pub walked_none : (v : Held) (f : ℕ) (w : Walk) → ((p : Place) → left_in w p ≡ v p) → w.number.0 ≡ f → w.first ≡ true → w.behind_routing ≡ false → Walked v f w
-walked_none v f w left number first behind =
+walking_none : (v : Held) (f : ℕ) (w : Walk) → ((p : Place) → left_in w p ≡ v p) → w.number.0 ≡ f → w.first ≡ true → w.behind_routing ≡ false → Walking v f [] (left_in w) w.number.0 w.first w.behind_routing
+walking_none v f w left number first behind =
     let B : Bool → Type 0 = λ b. Walking v f [] (left_in w) w.number.0 w.first b in
     let A : Bool → Type 0 = λ b. Walking v f [] (left_in w) w.number.0 b false in
     let N : ℕ → Type 0 = λ n. Walking v f [] (left_in w) n true false in
-    record { reached = []; walking = subst B (sym behind) (subst A (sym first) (subst N (sym number) (walk_begins v f (left_in w) left))) }
+    subst B (sym behind) (subst A (sym first) (subst N (sym number) (walk_begins v f (left_in w) left)))
+
+pub walked_none : (v : Held) (f : ℕ) (w : Walk) → ((p : Place) → left_in w p ≡ v p) → w.number.0 ≡ f → w.first ≡ true → w.behind_routing ≡ false → Walked v f w
+walked_none v f w left number first behind = record { reached = []; walking = walking_none v f w left number first behind }
 
 -- how many headers are left, and how many bytes they have
 abbrev pub headers_left : Walk → ℕ
@@ -85,3 +88,20 @@ module _ (v : Held) (f : ℕ) (e : IsEncodable v) (old new : Walk) (x : HeaderFi
             ∙ ap (λ l. before ++ l) (sym (bytes_of-more k.reached h.0));
         fits = omega (arith, k.fits, step_len, len, grows);
       }
+
+pub written_none : (v : Held) (f : ℕ) (w : Walk) → ((p : Place) → left_in w p ≡ v p) → w.number.0 ≡ f → w.first ≡ true → w.behind_routing ≡ false
+    → (before now : List ℕ) (room : ℕ) → now ≡ before → length now + held_len v ≤ room → Written v f w before now room
+written_none v f w left number first behind before now room same fits =
+    record {
+      reached = [];
+      walking = walking_none v f w left number first behind;
+      appended = same ∙ sym (append-nil before);
+      fits = omega (arith, fits, ap held_len (same_held (left_in w) v left));
+    }
+
+-- where none goes on, the walk has the answer of what is left
+pub written_answer : (v : Held) (f : ℕ) (old new : Walk) (before now : List ℕ) (room : ℕ) (a : WalkAnswer) → Written v f old before now room → IsStop old new → a ≡ answer_at new.number.0 (left_in new) → IsWalkAnswer v f a
+written_answer v f old new before now room a k s e = walked_answer v f old new a (record { reached = k.reached; walking = k.walking }) s e
+
+pub written_reach : (v : Held) (f : ℕ) (old new : Walk) (before now : List ℕ) (room : ℕ) (k : Written v f old before now room) → IsStop old new → IsReach v f k.reached
+written_reach v f old new before now room k s = walk_stops v f k.reached (left_in old) old.number.0 old.first old.behind_routing k.walking s.none

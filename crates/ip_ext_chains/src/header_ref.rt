@@ -1,5 +1,5 @@
 //! A header where it stands.
-ghost use Rattle.std.specs.Prelude.{◌≡◌, ◌≤◌, ◌<◌, ◌+◌, OnOk, OnErr, vec_len, vec_capacity};
+ghost use Rattle.std.specs.Prelude.{◌≡◌, ◌≤◌, ◌+◌, vec_len, vec_capacity};
 ghost use Rattle.std.specs.Option.{option_map};
 ghost use Rattle.ip_spec.specs.Encoding.{AppendsOne};
 ghost use Rattle.ip_spec.specs.Encodable.{fields_len};
@@ -8,7 +8,7 @@ ghost use Rattle.ip_ext_chains.specs.HeaderRef.{said};
 
 use ip_base::IpNumber;
 use ip_ext_headers::{IpAuthHeader, Ipv6FragmentHeader, Ipv6RawExtHeader};
-use std::alloc::{AllocError, Allocator};
+use std::alloc::Allocator;
 
 /// A header of one of the three layouts.
 #[derive(Clone, Copy)]
@@ -31,21 +31,19 @@ impl<'a> HeaderRef<'a> {
         }
     }
 
-    /// Appends its bytes.
+    /// Appends its bytes, where there is room for them.
     #[inline(always)]
-    pub(crate) fn write<A: Allocator>(&self, out: &mut Vec<u8, A>) -> Result<(), AllocError>
-        ensures ok { OnOk result
-            (AppendsOne (IsEncodingOf (said self.now)) out.old.items out.new.items) }
-        ensures len { OnOk result (vec_len out.new ≡ vec_len out.old + fields_len (said self.now)) }
-        ensures err { OnErr result (out.new.items ≡ out.old.items) }
-        ensures full { OnErr result
-            (vec_capacity out.old < vec_len out.old + fields_len (said self.now)) }
+    pub(crate) fn append<A: Allocator>(&self, out: &mut Vec<u8, A>)
+        requires room { vec_len out.old + fields_len (said self.now) ≤ vec_capacity out.old }
+        ensures appended { AppendsOne (IsEncodingOf (said self.now)) out.old.items out.new.items }
+        ensures len { vec_len out.new ≡ vec_len out.old + fields_len (said self.now) }
         ensures capacity { vec_capacity out.old ≤ vec_capacity out.new }
     {
-        match self {
+        // It isn't refused.
+        let _ = match self {
             HeaderRef::Raw(header) => header.write(out),
             HeaderRef::Fragment(header) => header.write(out),
             HeaderRef::Authentication(header) => header.write(out),
-        }
+        };
     }
 }

@@ -1,13 +1,19 @@
-ghost use Rattle.std.specs.Prelude.{◌≡◌, ◌↔◌, ℕ, List};
-ghost use Rattle.ip_spec.specs.Walk.{leads, IsWalkAnswer};
-ghost use Rattle.ip_ext_chains.specs.Ipv6Extensions.{held};
+ghost use Rattle.std.specs.Prelude.{◌≡◌, ◌≤◌, ◌↔◌, ◌+◌, ◌++◌, ℕ, List, None, OnOk, IfErr, vec_len, vec_capacity};
+ghost use Rattle.ip_spec.specs.Header.{IsExtensionNumber};
+ghost use Rattle.ip_spec.specs.Encoding.{AreBytes};
+ghost use Rattle.ip_spec.specs.Chain.{ExtHeader, bytes_of};
+ghost use Rattle.ip_spec.specs.Encoded.{cleared_chain};
+ghost use Rattle.ip_spec.specs.Walk.{leads, IsSpelling, IsWalkAnswer};
+ghost use Rattle.ip_ext_chains.specs.Fitting.{fitting_chain, IsFittingAnswer};
+ghost use Rattle.ip_ext_chains.specs.Ipv6Extensions.{held, value_of, exts_len};
 ghost use Rattle.ip_ext_chains.specs.Walk.{told};
-ghost use Rattle.ip_ext_chains.specs.Write.{IsReadWhole};
+ghost use Rattle.ip_ext_chains.specs.Write.{IsReadWhole, IsWritten, IsNotWritten, IsFull};
 
 use crate::Ipv6Extensions;
-use crate::err::ipv6_exts::ExtsWalkError;
+use crate::err::ipv6_exts::{ExtsWalkError, HeaderWriteError};
 use crate::walk::Walk;
 use ip_base::IpNumber;
+use std::alloc::Allocator;
 
 impl Ipv6Extensions {
     /// The number to which the headers lead along their next numbers, where the first is of the number `first`
@@ -21,5 +27,45 @@ impl Ipv6Extensions {
         let mut walk = Walk::new(self, first);
         'headers: while let Some(_) = walk.next() {}
         walk.answer()
+    }
+
+    /// Appends the headers in the order in which they are walked from the number `first`, with their reserved
+    /// bits zero. It is Ok exactly where `next_header` is, want of memory aside; read back, also with more
+    /// bytes behind them, the bytes give this value. Where a header isn't reached, those that are were appended.
+    /// Memory is refused before anything is appended, and only where the vector has no room and can't grow.
+    pub fn write<A: Allocator>(
+        &self,
+        out: &mut Vec<u8, A>,
+        first: IpNumber,
+    ) -> Result<(), HeaderWriteError>
+        ensures ok { OnOk result (IsWritten self.now first.0 out.old.items out.new.items) }
+        ensures len { OnOk result (vec_len out.new ≡ vec_len out.old + exts_len self.now) }
+        ensures read_again { OnOk result ((b r : List ℕ) (m : ℕ) → out.new.items ≡ out.old.items ++ b
+            → IsWalkAnswer (held self.now) first.0 (leads m) → (IsExtensionNumber m → ⊥)
+            → IsFittingAnswer first.0 (b ++ r) self.now m r None) }
+        ensures cleared { OnOk result ((s : List ℕ) → AreBytes s
+            → value_of (fitting_chain first.0 s) ≡ self.now → out.new.items
+            ≡ out.old.items ++ bytes_of (cleared_chain (fitting_chain first.0 s))) }
+        ensures alike { OnOk result ((v : Ipv6Extensions) (c : List ExtHeader)
+            → IsSpelling (held v) first.0 c
+            → (out.new.items ≡ out.old.items ++ bytes_of c) ↔ (self.now ≡ v)) }
+        ensures err { IfErr result (λ e.
+            IsNotWritten self.now first.0 out.old.items out.new.items e) }
+        ensures full { IfErr result (λ e.
+            IsFull (exts_len self.now) (vec_len out.old) (vec_capacity out.old) e) }
+        ensures capacity { vec_capacity out.old ≤ vec_capacity out.new }
+    {
+        self.encodable();
+        if let Err(refused) = out.reserve(self.header_len()) {
+            return Err(HeaderWriteError::Io(refused));
+        }
+        let mut walk = Walk::new(self, first);
+        'headers: while let Some(header) = walk.next() {
+            header.append(out);
+        }
+        match walk.answer() {
+            Ok(_) => Ok(()),
+            Err(fault) => Err(HeaderWriteError::Content(fault)),
+        }
     }
 }

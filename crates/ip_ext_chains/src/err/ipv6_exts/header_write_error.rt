@@ -1,5 +1,3 @@
-ghost use Rattle.std.specs.Prelude.{◌≡◌, Some, None};
-
 use super::ExtsWalkError;
 use std::alloc::AllocError;
 

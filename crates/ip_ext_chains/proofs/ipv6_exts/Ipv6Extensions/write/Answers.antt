@@ -1,0 +1,70 @@
+use Rattle.std.proofs.Common.{◌≡◌, ◌+◌, ◌≤◌, ℕ, arith, ap, sym, ◌∙◌, refl, [], length, vec_len, vec_capacity}
+use Rattle.std.specs.Prelude.{Ok, Err}
+use Rattle.ip_spec.specs.Walk.{leads, IsWalkAnswer}
+use Rattle.ip_spec.specs.Encodable.{held_len}
+use Rattle.ip_ext_chains.specs.Ipv6Extensions.{held}
+use Rattle.ip_ext_chains.specs.Write.{IsWritten}
+use Rattle.ip_ext_chains.proofs.HeldLemmas.{exts_sum}
+use Rattle.ip_ext_chains.proofs.WalkedLemmas.{Written, written_none, written_room, written_more, written_answer, written_reach, step_less}
+use Rattle.ip_ext_chains.proofs.WriteLemmas.{all_written, fault_written, written_len, written_again, written_cleared, written_alike}
+use Rattle.ip_ext_chains.proofs.ipv6_exts.Ipv6Extensions.write.Goals as goal
+
+pub headers-init : goal.headers-init
+headers-init g c =
+    let w = c.new-walk.ensures in (
+      written_none (held c.args.self.now) c.args.first.0 c.new-walk.result w.left w.number w.first w.behind_routing c.args.out.now.items c.reserve.new.self.items (vec_capacity c.reserve.new.self) c.reserve.ensures.items
+          (omega (arith, c.in_default.ensures.ok, c.header_len.ensures.len, exts_sum c.args.self.now, c.reserve.ensures.len, ap length c.reserve.ensures.items, c.reserve.new.self.ok.0)),
+      c.reserve.ensures.capacity,
+    )
+
+pub headers-smaller : goal.headers-smaller
+headers-smaller g c = step_less c.headers.walk c.next.new.self _ c.in-Some.ensures.some
+
+pub append-requires : goal.append-requires
+append-requires g c =
+    omega (arith, c.headers.out.ok.0, written_room (held c.args.self.now) c.args.first.0 c.encodable.ensures c.headers.walk c.next.new.self _ c.in-Some.ensures.some _ _ [] [] _ 0 c.headers.invariant.0)
+
+pub headers-preserved : goal.headers-preserved
+headers-preserved g c =
+    let b = c.append.ensures.appended in (
+      written_more (held c.args.self.now) c.args.first.0 c.encodable.ensures c.headers.walk c.next.new.self _ c.in-Some.ensures.some _ _ _ b.0 _ _ c.headers.invariant.0 b.1 b.2
+          (omega (arith, c.append.ensures.len, c.headers.out.ok.0, c.append.new.out.ok.0)) c.append.ensures.capacity,
+      omega (arith, c.headers.invariant.1, c.append.ensures.capacity),
+    )
+
+pub returns-in-Ok-clause-ok : goal.returns-in-Ok-clause-ok
+returns-in-Ok-clause-ok g c =
+    let k = c.headers.invariant.0 in
+    let s = c.in_default-next.ensures.none in
+    all_written c.args.self.now c.args.first.0 c.args.out.now.items c.headers.out.items c.in-Ok.field-0.0 k.reached
+    (written_reach _ _ c.headers.walk c.next.new.self _ _ _ k s)
+    (written_answer _ _ c.headers.walk c.next.new.self _ _ _ (leads c.in-Ok.field-0.0) k s c.in-Ok.ensures)
+    k.appended
+
+pub returns-in-Ok-clause-len : goal.returns-in-Ok-clause-len
+returns-in-Ok-clause-len g c =
+    omega (arith, written_len c.args.self.now c.args.first.0 c.args.out.now.items c.headers.out.items (returns-in-Ok-clause-ok g c), c.headers.out.ok.0, c.args.out.now.ok.0)
+
+pub returns-in-Ok-clause-read_again : goal.returns-in-Ok-clause-read_again
+returns-in-Ok-clause-read_again g c = written_again c.args.self.now c.args.first.0 c.args.out.now.items c.headers.out.items (returns-in-Ok-clause-ok g c)
+
+pub returns-in-Ok-clause-cleared : goal.returns-in-Ok-clause-cleared
+returns-in-Ok-clause-cleared g c = written_cleared c.args.self.now c.args.first.0 c.args.out.now.items c.headers.out.items (returns-in-Ok-clause-ok g c)
+
+pub returns-in-Ok-clause-alike : goal.returns-in-Ok-clause-alike
+returns-in-Ok-clause-alike g c = written_alike c.args.self.now c.args.first.0 c.args.out.now.items c.headers.out.items (returns-in-Ok-clause-ok g c)
+
+pub returns-in-Ok-clause-capacity : goal.returns-in-Ok-clause-capacity
+returns-in-Ok-clause-capacity g c = c.headers.invariant.1
+
+pub returns-in-Err-answer-clause-capacity : goal.returns-in-Err-answer-clause-capacity
+returns-in-Err-answer-clause-capacity g c = c.headers.invariant.1
+
+pub returns-in-Err-answer-clause-err : goal.returns-in-Err-answer-clause-err
+returns-in-Err-answer-clause-err g c =
+    let k = c.headers.invariant.0 in
+    let s = c.in_default-next.ensures.none in
+    fault_written c.args.self.now c.args.first.0 c.args.out.now.items c.headers.out.items c.in-Err-answer.fault k.reached
+    (written_reach _ _ c.headers.walk c.next.new.self _ _ _ k s)
+    (written_answer _ _ c.headers.walk c.next.new.self _ _ _ _ k s c.in-Err-answer.ensures)
+    k.appended

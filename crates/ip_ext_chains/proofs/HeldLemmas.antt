@@ -1,6 +1,6 @@
 -- A struct of six places, and what it holds in each.
-use Rattle.std.proofs.Common.{◌≡◌, ℕ, ◌+◌, List, [], ◌∷◌, refl, ap, sym, ◌∙◌, arith, inl, inr, subst, Bool, true, false}
-use Rattle.std.specs.Prelude.{Option, Some, None, is_some, ◌==◌, if◌then◌else◌}
+use Rattle.std.proofs.Common.{◌≡◌, ℕ, ◌+◌, List, refl, ap, sym, ◌∙◌, arith, inl, inr, subst, true}
+use Rattle.std.specs.Prelude.{Option, Some, None, is_some, ◌==◌}
 use Rattle.std.specs.List.{find}
 use Rattle.std.specs.Option.{option_map, option_map_or, ForSome}
 use Rattle.std.proofs.lemmas.Bool.{cases_Bool}
@@ -11,7 +11,7 @@ use Rattle.ip_spec.specs.Chain.{ExtHeader}
 use Rattle.ip_spec.specs.Places.{Place, hop_by_hop, destination, routing, fragment, authentication, final_destination, number_in, header_in, has_routing, HeaderFields, raw_header, fragment_header, auth_header, fields_of}
 use Rattle.ip_spec.specs.Encodable.{IsEncoded, IsEncodable, held_len, fields_len}
 use Rattle.ip_spec.proofs.PlaceLemmas.{without_routing, none_behind}
-use Rattle.ip_spec.proofs.WalkLemmas.{none_if, some_if}
+use Rattle.ip_spec.proofs.WalkLemmas.{some_if}
 use Rattle.ip_ext_chains.specs.Ipv6Extensions.{value_of, raw_in, final_of, held, len_of, routing_len, exts_len}
 use Rattle.ip_ext_chains.specs.declared.ipv6_exts.Ipv6Extensions.{Ipv6Extensions}
 use Rattle.ip_ext_chains.specs.declared.ipv6_routing_exts.Ipv6RoutingExtensions.{Ipv6RoutingExtensions}

@@ -11,3 +11,4 @@ pub mod PlacingLemmas
 pub mod HeldLemmas
 pub mod WalkedLemmas
 pub mod WriteLemmas
+pub mod LinkedLemmas

@@ -1,22 +1,16 @@
 -- What a walk through a struct of six places has reached and written.
-use Rattle.std.proofs.Common.{◌≡◌, ℕ, ◌+◌, ◌<◌, ◌≤◌, List, [], ◌∷◌, ◌++◌, length, refl, ap, sym, ◌∙◌, arith, inl, inr, subst, append_assoc, Bool, true, false}
-use Rattle.std.specs.Prelude.{Option, Some, None, ◌↔◌, Ok, Err}
-use Rattle.std.proofs.lemmas.List.{append-nil, length-append}
-use Rattle.ip_spec.specs.Header.{IsExtensionNumber}
-use Rattle.ip_spec.specs.Encoding.{AreBytes}
-use Rattle.ip_spec.specs.Chain.{ExtHeader, leads_to, bytes_of}
-use Rattle.ip_spec.specs.Demand.{IsLongestUnder}
-use Rattle.ip_spec.specs.Fits.{FitsPlaces}
-use Rattle.ip_spec.specs.Places.{Place, number_in, header_in, HeaderFields, fields_of}
+use Rattle.std.proofs.Common.{◌≡◌, ℕ, ◌+◌, ◌<◌, ◌≤◌, List, [], ◌∷◌, ◌++◌, length, ap, sym, ◌∙◌, arith, subst, append_assoc, Bool, true, false}
+use Rattle.std.proofs.lemmas.List.{append-nil}
+use Rattle.ip_spec.specs.Chain.{ExtHeader, bytes_of}
+use Rattle.ip_spec.specs.Places.{Place, number_in, header_in, HeaderFields}
 use Rattle.ip_spec.specs.Encodable.{IsEncoded, IsEncodable, fields_len, sum_held, held_len}
-use Rattle.ip_spec.specs.Walk.{Held, IsSpelling, IsReach, WalkAnswer, leads, answer_at, IsWalkAnswer, unreached}
+use Rattle.ip_spec.specs.Walk.{Held, IsReach, WalkAnswer, answer_at, IsWalkAnswer}
 use Rattle.ip_spec.specs.WalkStep.{next_of, IsEncodingOf}
 use Rattle.ip_spec.proofs.StepLemmas.{bytes_of-more}
 use Rattle.ip_spec.proofs.EncodedLemmas.{encoding_is}
 use Rattle.ip_spec.proofs.WalkStepLemmas.{Walking, walk_begins, walks_on, walk_stops, walk_answers, left_some, same_held}
 use Rattle.ip_spec.proofs.LinkLemmas.{next_said}
 use Rattle.ip_spec.proofs.SumLemmas.{sum_without}
-use Rattle.ip_ext_chains.specs.Ipv6Extensions.{held}
 use Rattle.ip_ext_chains.specs.Walk.{left_in, IsStep, IsStop}
 use Rattle.ip_ext_chains.specs.declared.walk.Walk.{Walk}
 

@@ -1,32 +1,30 @@
 -- What is read as a struct of six places, and what is written of one.
-use Rattle.std.proofs.Common.{◌≡◌, ℕ, ◌+◌, ◌<◌, ◌≤◌, List, [], ◌∷◌, ◌++◌, length, take, drop, refl, ap, sym, ◌∙◌, arith, inl, inr, subst, Bool, true, false}
-use Rattle.std.specs.Prelude.{Option, Some, None, ◌↔◌, ◌==◌, ◌&&◌, not, Result, Ok, Err, if◌then◌else◌, is_some}
-use Rattle.std.specs.Option.{option_map}
+use Rattle.std.proofs.Common.{◌≡◌, ℕ, ◌+◌, ◌<◌, List, ◌++◌, length, drop, refl, ap, sym, ◌∙◌, arith, inl, inr, subst}
+use Rattle.std.specs.Prelude.{None, ◌↔◌, if◌then◌else◌}
 use Rattle.std.proofs.Math.Seq.{drop-length, drop-append_seam}
 use Rattle.std.proofs.lemmas.List.{append-nil, append_cancel_left, length-append}
 use Rattle.std.proofs.lemmas.List.Elements.{All-take}
 use Rattle.std.proofs.lemmas.Bool.{cases_Bool}
-use Rattle.ip_base.specs.declared.ip_number_impl.IpNumber.{IpNumber}
 use Rattle.ip_spec.specs.Header.{IsExtensionNumber}
 use Rattle.ip_spec.specs.Encoding.{AreBytes}
-use Rattle.ip_spec.specs.Chain.{ExtHeader, leads_to, bytes_of, is_empty, IsChain}
+use Rattle.ip_spec.specs.Chain.{ExtHeader, leads_to, bytes_of, is_empty}
 use Rattle.ip_spec.specs.Demand.{IsLongestUnder}
-use Rattle.ip_spec.specs.Fits.{FitsPlaces, IsTaken}
-use Rattle.ip_spec.specs.Places.{Place, header_in, fields_of, is_taken}
+use Rattle.ip_spec.specs.Fits.{FitsPlaces}
+use Rattle.ip_spec.specs.Places.{is_taken}
 use Rattle.ip_spec.specs.Encoded.{cleared_chain}
-use Rattle.ip_spec.specs.Encodable.{IsEncodable, held_len}
-use Rattle.ip_spec.specs.Walk.{Held, IsValueOf, IsSpelling, IsReach, WalkAnswer, leads, hop_by_hop_not_at_start, not_referenced, IsWalkAnswer, IsRead, unreached}
+use Rattle.ip_spec.specs.Encodable.{IsEncodable}
+use Rattle.ip_spec.specs.Walk.{IsValueOf, IsSpelling, IsReach, WalkAnswer, leads, hop_by_hop_not_at_start, not_referenced, IsWalkAnswer, IsRead}
 use Rattle.ip_spec.proofs.PrefixLemmas.{prefix-append}
 use Rattle.ip_spec.proofs.FitsLemmas.{fits_places}
 use Rattle.ip_spec.proofs.UnderLemmas.{some_longest_under, one_longest_under}
 use Rattle.ip_spec.proofs.WalkLemmas.{one_reach}
-use Rattle.ip_spec.proofs.SpellingLemmas.{one_spelling, spelling_is_reach, one_answer, leads_exactly, leads_read, leads_spelled, spelled_leads, cleared_spells, spelled_is_read, spelled_alike}
+use Rattle.ip_spec.proofs.SpellingLemmas.{one_spelling, spelling_is_reach, one_answer, leads_exactly, leads_spelled, spelled_leads, cleared_spells, spelled_is_read, spelled_alike}
 use Rattle.ip_spec.proofs.SumLemmas.{bytes_len}
-use Rattle.ip_ext_chains.specs.Fault.{Fault, slice_fault}
-use Rattle.ip_ext_chains.specs.Fitting.{fitting_chain, rest_after_fitting, fitting_fault, IsFittingAnswer}
+use Rattle.ip_ext_chains.specs.Fault.{slice_fault}
+use Rattle.ip_ext_chains.specs.Fitting.{fitting_chain, fitting_fault, IsFittingAnswer}
 use Rattle.ip_ext_chains.specs.Ipv6Extensions.{value_of, held, exts_len}
 use Rattle.ip_ext_chains.specs.Walk.{fault_told}
-use Rattle.ip_ext_chains.specs.Write.{IsReadWhole, IsWritten, IsReachWritten, IsWalkFault}
+use Rattle.ip_ext_chains.specs.Write.{IsReadWhole, IsWritten, IsWalkFault}
 use Rattle.ip_ext_chains.specs.declared.ipv6_exts.Ipv6Extensions.{Ipv6Extensions}
 use Rattle.ip_ext_chains.specs.declared.err.ipv6_exts.exts_walk_error.ExtsWalkError.{ExtsWalkError}
 use Rattle.ip_ext_chains.specs.declared.err.ipv6_exts.exts_walk_error.ExtsWalkError.TheVariants.{HopByHopNotAtStart, ExtNotReferenced}

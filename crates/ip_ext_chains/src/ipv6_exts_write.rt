@@ -2,8 +2,10 @@ ghost use Rattle.std.specs.Prelude.{◌≡◌, ◌≤◌, ◌↔◌, ◌+◌, �
 ghost use Rattle.ip_spec.specs.Header.{IsExtensionNumber};
 ghost use Rattle.ip_spec.specs.Encoding.{AreBytes};
 ghost use Rattle.ip_spec.specs.Chain.{ExtHeader, bytes_of};
+ghost use Rattle.ip_spec.specs.Places.{Place, places};
 ghost use Rattle.ip_spec.specs.Encoded.{cleared_chain};
 ghost use Rattle.ip_spec.specs.Walk.{leads, IsSpelling, IsWalkAnswer};
+ghost use Rattle.ip_spec.specs.Links.{first_number, linked};
 ghost use Rattle.ip_ext_chains.specs.Fitting.{fitting_chain, IsFittingAnswer};
 ghost use Rattle.ip_ext_chains.specs.Ipv6Extensions.{held, value_of, exts_len};
 ghost use Rattle.ip_ext_chains.specs.Walk.{told};
@@ -11,8 +13,9 @@ ghost use Rattle.ip_ext_chains.specs.Write.{IsReadWhole, IsWritten, IsNotWritten
 
 use crate::Ipv6Extensions;
 use crate::err::ipv6_exts::{ExtsWalkError, HeaderWriteError};
+use crate::links::{link_auth, link_final, link_fragment, link_raw, link_routing};
 use crate::walk::Walk;
-use ip_base::IpNumber;
+use ip_base::{IpNumber, ip_number};
 use std::alloc::Allocator;
 
 impl Ipv6Extensions {
@@ -27,6 +30,30 @@ impl Ipv6Extensions {
         let mut walk = Walk::new(self, first);
         'headers: while let Some(_) = walk.next() {}
         walk.answer()
+    }
+
+    /// Leads each header to the next one that is there, in the order of the places, and the last to `last`. The
+    /// answer is the number of the first, or `last` where there is none: walked from there, they lead to `last`.
+    pub fn set_next_headers(&mut self, last: IpNumber) -> IpNumber
+        ensures links { (p : Place) → held self.new p ≡ linked (held self.old) last.0 p }
+        ensures first { result.0 ≡ first_number (held self.old) places last.0 }
+        ensures leads { IsWalkAnswer (held self.new) result.0 (leads last.0) }
+    {
+        self.encodable();
+        let next = link_final(&mut self.routing, last);
+        let next = link_auth(&mut self.auth, next);
+        let next = link_fragment(&mut self.fragment, next);
+        let next = link_routing(&mut self.routing, next);
+        let next = link_raw(
+            &mut self.destination_options,
+            ip_number::IPV6_DEST_OPTIONS,
+            next,
+        );
+        link_raw(
+            &mut self.hop_by_hop_options,
+            ip_number::IPV6_HOP_BY_HOP,
+            next,
+        )
     }
 
     /// Appends the headers in the order in which they are walked from the number `first`, with their reserved

@@ -15,6 +15,7 @@ mod ipv6_exts_runs;
 mod ipv6_exts_slice;
 mod ipv6_exts_write;
 mod ipv6_routing_exts;
+mod links;
 mod places;
 mod plain;
 mod run;

@@ -1,4 +1,4 @@
-use Rattle.std.proofs.Common.{◌<◌, ◌≤◌, ◌^◌, ℕ, arith, ap}
+use Rattle.std.proofs.Common.{◌<◌, ◌≤◌, ◌^◌, arith, ap}
 use Rattle.ip_spec.specs.FieldsOf.{FragmentFields}
 use Rattle.ip_spec.specs.Lengths.{MAX_FRAGMENT_OFFSET}
 use Rattle.ip_spec.proofs.EncodedLemmas.{fragment_encoded}

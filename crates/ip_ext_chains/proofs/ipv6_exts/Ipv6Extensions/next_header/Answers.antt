@@ -1,4 +1,3 @@
-use Rattle.std.proofs.Common.{◌≡◌}
 use Rattle.ip_ext_chains.specs.Ipv6Extensions.{held}
 use Rattle.ip_ext_chains.proofs.WalkedLemmas.{walked_none, walked_more, walked_answer, step_less}
 use Rattle.ip_ext_chains.proofs.WriteLemmas.{answer_exactly}

@@ -1,11 +1,8 @@
-use Rattle.std.proofs.Common.{◌≡◌, ◌+◌, ◌≤◌, ℕ, arith, ap, sym, ◌∙◌, refl, [], length, vec_len, vec_capacity}
-use Rattle.std.specs.Prelude.{Ok, Err}
-use Rattle.ip_spec.specs.Walk.{leads, IsWalkAnswer}
-use Rattle.ip_spec.specs.Encodable.{held_len}
+use Rattle.std.proofs.Common.{arith, ap, [], length, vec_capacity}
+use Rattle.ip_spec.specs.Walk.{leads}
 use Rattle.ip_ext_chains.specs.Ipv6Extensions.{held}
-use Rattle.ip_ext_chains.specs.Write.{IsWritten}
 use Rattle.ip_ext_chains.proofs.HeldLemmas.{exts_sum}
-use Rattle.ip_ext_chains.proofs.WalkedLemmas.{Written, written_none, written_room, written_more, written_answer, written_reach, step_less}
+use Rattle.ip_ext_chains.proofs.WalkedLemmas.{written_none, written_room, written_more, written_answer, written_reach, step_less}
 use Rattle.ip_ext_chains.proofs.WriteLemmas.{all_written, fault_written, written_len, written_again, written_cleared, written_alike}
 use Rattle.ip_ext_chains.proofs.ipv6_exts.Ipv6Extensions.write.Goals as goal
 

@@ -15,7 +15,8 @@ use crate::Ipv6Extensions;
 use crate::err::ipv6_exts::{ExtsWalkError, HeaderWriteError};
 use crate::links::{link_auth, link_final, link_fragment, link_raw, link_routing};
 use crate::walk::Walk;
-use ip_base::{IpNumber, ip_number};
+use ip_base::IpNumber;
+use ip_base::ip_number::{IPV6_DEST_OPTIONS, IPV6_HOP_BY_HOP};
 use std::alloc::Allocator;
 
 impl Ipv6Extensions {
@@ -44,16 +45,8 @@ impl Ipv6Extensions {
         let next = link_auth(&mut self.auth, next);
         let next = link_fragment(&mut self.fragment, next);
         let next = link_routing(&mut self.routing, next);
-        let next = link_raw(
-            &mut self.destination_options,
-            ip_number::IPV6_DEST_OPTIONS,
-            next,
-        );
-        link_raw(
-            &mut self.hop_by_hop_options,
-            ip_number::IPV6_HOP_BY_HOP,
-            next,
-        )
+        let next = link_raw(&mut self.destination_options, IPV6_DEST_OPTIONS, next);
+        link_raw(&mut self.hop_by_hop_options, IPV6_HOP_BY_HOP, next)
     }
 
     /// Appends the headers in the order in which they are walked from the number `first`, with their reserved

@@ -1,3 +1,6 @@
+ghost use Rattle.std.specs.Prelude.{◌≡◌};
+ghost use Rattle.std.specs.Option.{option_map};
+
 use super::ExtsWalkError;
 use std::alloc::AllocError;
 
@@ -8,4 +11,28 @@ pub enum HeaderWriteError {
     Io(AllocError),
     /// Not each header is reached.
     Content(ExtsWalkError),
+}
+
+impl HeaderWriteError {
+    ghost use Rattle.ip_ext_chains.specs.WriteError.{io_of, content_of};
+
+    /// The refusal of memory, if it is one.
+    pub fn io(&self) -> Option<&AllocError>
+        ensures { option_map (λ e. e.now) result ≡ io_of self.now }
+    {
+        match self {
+            HeaderWriteError::Io(e) => Some(e),
+            HeaderWriteError::Content(_) => None,
+        }
+    }
+
+    /// The fault of the walk, if it is one.
+    pub fn content(&self) -> Option<&ExtsWalkError>
+        ensures { option_map (λ e. e.now) result ≡ content_of self.now }
+    {
+        match self {
+            HeaderWriteError::Io(_) => None,
+            HeaderWriteError::Content(e) => Some(e),
+        }
+    }
 }

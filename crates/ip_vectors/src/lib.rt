@@ -17,3 +17,5 @@ mod places;
 mod runs;
 #[cfg(test)]
 mod single_headers;
+#[cfg(test)]
+mod writes;

@@ -1,0 +1,142 @@
+//! Walks, links and writes of the headers in six places.
+use ip_base::{IpFragOffset, IpNumber};
+use ip_ext_chains::err::ipv6_exts::{ExtsWalkError, HeaderWriteError};
+use ip_ext_chains::{Ipv6Extensions, Ipv6RoutingExtensions};
+use ip_ext_headers::{IpAuthHeader, Ipv6FragmentHeader, Ipv6RawExtHeader};
+use linked_list_allocator::LocalHeap;
+use std::test::Fail;
+
+fn raw(next: u8) -> Ipv6RawExtHeader {
+    let mut header = Ipv6RawExtHeader::default();
+    header.next_header = IpNumber(next);
+    header
+}
+
+fn fragment(next: u8) -> Result<Ipv6FragmentHeader, Fail> {
+    Ok(Ipv6FragmentHeader::new(IpNumber(next), IpFragOffset::try_new(0)?, false, 0))
+}
+
+/// All six places, each raw header of 8 bytes and the authentication header of 12.
+fn all_six() -> Result<Ipv6Extensions, Fail> {
+    Ok(Ipv6Extensions {
+        hop_by_hop_options: Some(raw(1)),
+        destination_options: Some(raw(2)),
+        routing: Some(Ipv6RoutingExtensions {
+            routing: raw(3),
+            final_destination_options: Some(raw(4)),
+        }),
+        fragment: Some(fragment(5)?),
+        auth: Some(IpAuthHeader::new(IpNumber(6), 0, 0, &[])?),
+    })
+}
+
+/// Whether the walk is refused, and the write after it appended just these bytes.
+fn is_refused(
+    exts: &Ipv6Extensions,
+    first: u8,
+    fault: &ExtsWalkError,
+    written: &Result<(), HeaderWriteError>,
+) -> bool {
+    let walk = exts.next_header(IpNumber(first));
+    matches!(walk, Err(e) if e == *fault)
+        && matches!(written, Err(HeaderWriteError::Content(e)) if *e == *fault)
+}
+
+#[test]
+fn no_headers_are_written_as_no_bytes(rt: HostRuntime) -> Result<(), Fail> {
+    let exts = Ipv6Extensions::default();
+    assert_eq!(rt; exts.next_header(IpNumber(0))?, IpNumber(0));
+    let mut out = Vec::new(rt.alloc());
+    exts.write(&mut out, IpNumber(0))?;
+    assert_eq!(rt; out.as_slice(), [].as_slice());
+    Ok(())
+}
+
+#[test]
+fn a_header_that_nothing_names(rt: HostRuntime) -> Result<(), Fail> {
+    let mut exts = Ipv6Extensions::default();
+    exts.fragment = Some(fragment(60)?);
+    exts.destination_options = Some(raw(17));
+    let mut out = Vec::new(rt.alloc());
+    let written = exts.write(&mut out, IpNumber(60));
+    let fault = ExtsWalkError::ExtNotReferenced {
+        missing_ext: IpNumber(44),
+    };
+    assert!(rt; is_refused(&exts, 60, &fault, &written));
+    assert_eq!(rt; out.as_slice(), [17, 0, 0, 0, 0, 0, 0, 0].as_slice());
+    // From the fragment header on, both are reached.
+    assert_eq!(rt; exts.next_header(IpNumber(44))?, IpNumber(17));
+    Ok(())
+}
+
+#[test]
+fn hop_by_hop_options_behind_a_header(rt: HostRuntime) -> Result<(), Fail> {
+    let mut exts = Ipv6Extensions::default();
+    exts.hop_by_hop_options = Some(raw(17));
+    exts.fragment = Some(fragment(0)?);
+    let mut out = Vec::new(rt.alloc());
+    let written = exts.write(&mut out, IpNumber(44));
+    assert!(rt; is_refused(&exts, 44, &ExtsWalkError::HopByHopNotAtStart, &written));
+    assert_eq!(rt; out.as_slice(), [0, 0, 0, 0, 0, 0, 0, 0].as_slice());
+    // Where there are none, the number is just the one that is left.
+    exts.hop_by_hop_options = None;
+    assert_eq!(rt; exts.next_header(IpNumber(44))?, IpNumber(0));
+    Ok(())
+}
+
+#[test]
+fn all_places_linked(rt: HostRuntime) -> Result<(), Fail> {
+    let mut exts = all_six()?;
+    assert_eq!(rt; exts.set_next_headers(IpNumber(17)), IpNumber(0));
+    assert_eq!(rt; exts.next_header(IpNumber(0))?, IpNumber(17));
+    let mut out = Vec::new(rt.alloc());
+    exts.write(&mut out, IpNumber(0))?;
+    assert_eq!(rt; out.len(), 52);
+    let links = [0usize, 8, 16, 24, 32, 44].map(|offset| out[offset]);
+    assert_eq!(rt; links, [60, 43, 44, 51, 60, 17]);
+    let (again, number, rest) = Ipv6Extensions::from_slice(IpNumber(0), out.as_slice())?;
+    assert!(rt; again == exts);
+    assert_eq!(rt; (number, rest.len()), (IpNumber(17), 0));
+    Ok(())
+}
+
+#[test]
+fn reserved_bits_are_written_as_zero(rt: HostRuntime) -> Result<(), Fail> {
+    let bytes = [17, 0xff, 0, 0xe1, 1, 2, 3, 4];
+    let (exts, number, _, fault) = Ipv6Extensions::from_slice_lax(IpNumber(44), &bytes);
+    assert!(rt; number == IpNumber(17) && fault.is_none());
+    let mut out = Vec::new(rt.alloc());
+    exts.write(&mut out, IpNumber(44))?;
+    assert_eq!(rt; out.as_slice(), [17, 0, 0, 0x81, 1, 2, 3, 4].as_slice());
+    Ok(())
+}
+
+#[test]
+fn memory_is_refused_before_anything_is_appended(rt: HostRuntime) -> Result<(), Fail> {
+    let mut exts = all_six()?;
+    let first = exts.set_next_headers(IpNumber(17));
+    let heap = LocalHeap::new(rt.alloc(), 64)?;
+    let mut out: Vec<u8, &LocalHeap> = Vec::from_slice(&heap, &[1, 2, 3])?;
+    let refused = exts.write(&mut out, first);
+    assert!(rt; matches!(&refused, Err(e) if e.io().is_some() && e.content().is_none()));
+    assert_eq!(rt; out.as_slice(), [1, 2, 3].as_slice());
+    Ok(())
+}
+
+#[test]
+fn no_memory_is_taken_where_room_is_reserved(rt: HostRuntime) -> Result<(), Fail> {
+    let mut exts = all_six()?;
+    let first = exts.set_next_headers(IpNumber(17));
+    let heap = LocalHeap::new(rt.alloc(), 128)?;
+    let mut out: Vec<u8, &LocalHeap> = Vec::with_capacity(&heap, exts.header_len())?;
+    // The rest of the heap is taken, so that each allocation from here on is refused.
+    let mut taken: Vec<u8, &LocalHeap> = Vec::new(&heap);
+    let mut more = true;
+    for _ in 0..128u32 {
+        more = more && taken.push(0).is_ok();
+    }
+    assert!(rt; taken.reserve(128).is_err());
+    exts.write(&mut out, first)?;
+    assert_eq!(rt; out.len(), 52);
+    Ok(())
+}

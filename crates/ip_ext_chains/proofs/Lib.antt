@@ -7,7 +7,6 @@ pub mod PlacedLemmas
 pub mod RunsOfLemmas
 pub mod RunLemmas
 pub mod FittingLemmas
-pub mod PlacingLemmas
 pub mod HeldLemmas
 pub mod WalkedLemmas
 pub mod WriteLemmas

@@ -41,6 +41,7 @@ mod feed;
 mod line_fields;
 mod parts;
 mod request;
+mod rewriteall6;
 mod scratch;
 mod tool_error;
 

@@ -1,6 +1,7 @@
 //! The forms of a line. A further form is a file here and a line in `forms`.
 mod exts4;
 mod exts6;
+mod rewrite6;
 
 use crate::named::Difference;
 use crate::random::Random;
@@ -22,7 +23,11 @@ pub trait Form {
 
 /// All forms.
 pub fn forms() -> Vec<Box<dyn Form>> {
-    vec![Box::new(exts6::Exts6), Box::new(exts4::Exts4)]
+    vec![
+        Box::new(exts6::Exts6),
+        Box::new(exts4::Exts4),
+        Box::new(rewrite6::Rewrite6),
+    ]
 }
 
 /// Appends the original's answer to a line, and tells the named differences that it has.

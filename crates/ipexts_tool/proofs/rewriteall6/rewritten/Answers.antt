@@ -1,5 +1,5 @@
-use Rattle.std.proofs.Common.{◌+◌, ◌/◌, ◌≤◌, arith, ap, ◌∙◌, length}
-use Rattle.ipexts_tool.proofs.RewrittenLemmas.{rewriting_begins, rewriting_spelled, rewriting_goes, rewriting_least, rewriting_ends}
+use Rattle.std.proofs.Common.{arith, ap, length}
+use Rattle.ipexts_tool.proofs.RewrittenLemmas.{rewriting_begins, rewriting_spelled, rewriting_goes, rewriting_least}
 use Rattle.ipexts_tool.proofs.rewriteall6.rewritten.Goals as goal
 
 pub runs-init : goal.runs-init
@@ -17,4 +17,3 @@ overflow_add-count g c =
 pub runs-preserved : goal.runs-preserved
 runs-preserved g c =
     rewriting_goes _ _ _ _ _ _ _ _ _ _ c.runs.invariant c.in-Some.ensures.steps c.in_ok-next.ensures.next c.in_ok-next.ensures.written
-

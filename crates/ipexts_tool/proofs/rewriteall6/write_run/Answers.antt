@@ -1,4 +1,4 @@
-use Rattle.std.proofs.Common.{◌≡◌, ◌∙◌, ℕ, List, ap, sym, refl, Bool, true}
+use Rattle.std.proofs.Common.{◌≡◌, ◌∙◌, ℕ, List, ap, sym, refl, true}
 use Rattle.std.specs.Prelude.{Option, Some, None, is_some, Result, Ok, Err, is_ok}
 use Rattle.std.specs.Borrow.{Bor}
 use Rattle.std.specs.Option.{option_map}
@@ -57,7 +57,7 @@ returns-clause-next g c = λ d s.
     let v = held c.args.run.now in
     let n = c.args.number.0 in
     same_number c.unwrap-2.result.0 (leads_to n d) (
-      sym (ap told c.unwrap-2.ensures) ∙ c.one_walk_answer.ensures.only_answer v n _ (leads (leads_to n d)) c.next_header.ensures.answer (c.walk_leads_where_the_value_is_read.ensures.spelling v n d s))
+    sym (ap told c.unwrap-2.ensures) ∙ c.one_walk_answer.ensures.only_answer v n _ (leads (leads_to n d)) c.next_header.ensures.answer (c.walk_leads_where_the_value_is_read.ensures.spelling v n d s))
 
 pub returns-clause-written : goal.returns-clause-written
 returns-clause-written g c = λ d s. (c.in_default.ensures.alike c.args.run.now d s).1 refl

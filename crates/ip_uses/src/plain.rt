@@ -1,5 +1,6 @@
 //! The answers of the tool computed in the plainest way, all in memory and line by line. It is slow, and shares
-//! no code with the tool, but calls the library's parse and `write` for `rewrite6`.
+//! no code with the tool, but calls the library's parse and `write` for `rewrite6`, and its runs for
+//! `rewriteall6`.
 ghost use Rattle.std.specs.Prelude.{◌≡◌, ◌++◌, ◌==◌, ◌^◌, ◌<◌, length, map};
 ghost use Rattle.std.specs.Prelude.{[], ◌∷◌, slice_index, IfOk, OnOk, string_bytes};
 ghost use Rattle.std.specs.List.{slice_split};
@@ -11,10 +12,11 @@ ghost use Rattle.ipexts_tool.specs.Answers.{answers, answer_of};
 ghost use Rattle.ipexts_tool.specs.Exts6.{exts6_answer};
 ghost use Rattle.ipexts_tool.specs.Exts4.{exts4_answer};
 ghost use Rattle.ipexts_tool.specs.Rewrite6.{rewrite6_answer};
+ghost use Rattle.ipexts_tool.specs.RewriteAll6.{rewriteall6_answer};
 ghost use Rattle.ipexts_tool.specs.Faults.{chain_fault_text};
-ghost use Rattle.ipexts_tool.specs.LineFields.{number_of, bytes_of_hex};
+ghost use Rattle.ipexts_tool.specs.LineFields.{number_of, bytes_of_hex, number_and_bytes};
 ghost use Rattle.ipexts_tool.specs.Lines.{lines_of};
-ghost use Rattle.ipexts_tool.specs.Request.{request_of_fields};
+ghost use Rattle.ipexts_tool.specs.Request.{request_of_form, request_of_fields};
 ghost use Rattle.ipexts_tool.specs.Parts.{header_name, header_line, header_lines, next_line};
 ghost use Rattle.ipexts_tool.specs.Parts.{written_line, chain_end_line, ipv4_end_line, ok_line};
 ghost use Rattle.hex.specs.Hex.{hex_digit_value, encode_lower, lower_digits};
@@ -25,10 +27,11 @@ ghost use Rattle.ip_ext_chains.specs.Ipv6Extensions.{value_of};
 ghost use Rattle.ip_uses.specs.Digits.{byte_of_digits};
 ghost use Rattle.ip_uses.specs.PlainRequest.{asked_by};
 
+use crate::runs::write_runs;
 use ip_base::IpNumber;
 use ip_base::err::Layer;
 use ip_ext_chains::err::ipv6_exts::{HeaderError, HeaderSliceError};
-use ip_ext_chains::{Ipv6Extensions, plain_fault};
+use ip_ext_chains::{Ipv6Extensions, Ipv6ExtensionsSlice, plain_fault};
 use ip_spec::{PlainHeader, next_len, plain_longest_chain};
 use std::alloc::{AllocError, Global};
 
@@ -86,6 +89,9 @@ fn push_answer(alloc: Global, line: &[u8], text: &mut String) -> Result<(), Allo
         Some(PlainRequest::Exts6(number, bytes)) => push_exts6(alloc, number, &bytes, text),
         Some(PlainRequest::Exts4(number, bytes)) => push_exts4(number, &bytes, text),
         Some(PlainRequest::Rewrite6(number, bytes)) => push_rewrite6(alloc, number, &bytes, text),
+        Some(PlainRequest::RewriteAll6(number, bytes)) => {
+            push_rewriteall6(alloc, number, &bytes, text)
+        }
         None => text.push_str(BAD_LINE),
     }
 }
@@ -96,6 +102,7 @@ enum PlainRequest {
     Exts6(u8, Vec<u8>),
     Exts4(u8, Vec<u8>),
     Rewrite6(u8, Vec<u8>),
+    RewriteAll6(u8, Vec<u8>),
 }
 
 /// What the fields of a line ask for.
@@ -106,24 +113,54 @@ fn plain_request(alloc: Global, fields: &[&[u8]]) -> Result<Option<PlainRequest>
     let [form, number, digits] = fields else {
         return Ok(None);
     };
-    let is_exts6 = *form == b"exts6".as_slice();
-    let is_exts4 = *form == b"exts4".as_slice();
-    if !is_exts6 && !is_exts4 && *form != b"rewrite6".as_slice() {
-        return Ok(None);
+    plain_form(alloc, form, number, digits)
+}
+
+/// What a form with two fields behind it asks for.
+fn plain_form(
+    alloc: Global,
+    form: &[u8],
+    number: &[u8],
+    digits: &[u8],
+) -> Result<Option<PlainRequest>, AllocError>
+    ensures { IfOk result (λ request. option_map asked_by request
+        ≡ request_of_form form.now (number.now ∷ digits.now ∷ [])) }
+{
+    if form == b"exts6".as_slice() {
+        let asked = plain_arguments(alloc, number, digits)?;
+        return Ok(asked.map(|(number, bytes)| PlainRequest::Exts6(number, bytes)));
     }
+    if form == b"exts4".as_slice() {
+        let asked = plain_arguments(alloc, number, digits)?;
+        return Ok(asked.map(|(number, bytes)| PlainRequest::Exts4(number, bytes)));
+    }
+    if form == b"rewrite6".as_slice() {
+        let asked = plain_arguments(alloc, number, digits)?;
+        return Ok(asked.map(|(number, bytes)| PlainRequest::Rewrite6(number, bytes)));
+    }
+    if form == b"rewriteall6".as_slice() {
+        let asked = plain_arguments(alloc, number, digits)?;
+        return Ok(asked.map(|(number, bytes)| PlainRequest::RewriteAll6(number, bytes)));
+    }
+    Ok(None)
+}
+
+/// The number and the bytes for which two fields stand.
+fn plain_arguments(
+    alloc: Global,
+    number: &[u8],
+    digits: &[u8],
+) -> Result<Option<(u8, Vec<u8>)>, AllocError>
+    ensures { IfOk result (λ asked. option_map (λ a. (a.0, a.1.items)) asked
+        ≡ number_and_bytes (number.now ∷ digits.now ∷ [])) }
+{
     let Some(number) = plain_number(alloc, number)? else {
         return Ok(None);
     };
     let Some(bytes) = plain_bytes(alloc, digits)? else {
         return Ok(None);
     };
-    Ok(Some(if is_exts6 {
-        PlainRequest::Exts6(number, bytes)
-    } else if is_exts4 {
-        PlainRequest::Exts4(number, bytes)
-    } else {
-        PlainRequest::Rewrite6(number, bytes)
-    }))
+    Ok(Some((number, bytes)))
 }
 
 /// The number below 256 whose decimal numeral a text is.
@@ -243,6 +280,25 @@ fn rewritten(
         return Err(*refused.io().unwrap());
     }
     Ok(written)
+}
+
+/// Appends the answer to `rewriteall6` with this number and these bytes. The library reads, cuts and writes them; the
+/// lines are put together here.
+fn push_rewriteall6(
+    alloc: Global,
+    number: u8,
+    bytes: &[u8],
+    text: &mut String,
+) -> Result<(), AllocError>
+    ensures { OnOk result
+        (string_bytes text.new ≡ string_bytes text.old ++ rewriteall6_answer number bytes.now) }
+{
+    let (count, written) = write_runs(alloc, IpNumber(number), bytes)?;
+    let (_, next, rest, fault) = Ipv6ExtensionsSlice::from_slice_lax(IpNumber(number), bytes);
+    write!(text, "runs {count} ")?;
+    push_next(next.0, rest, text)?;
+    push_written(&written, text)?;
+    push_chain_end(fault, text)
 }
 
 /// Appends the bytes that were written.

@@ -8,6 +8,7 @@ pub mod RunsOfLemmas
 pub mod RunLemmas
 pub mod FittingLemmas
 pub mod HeldLemmas
+pub mod RunSpellingLemmas
 pub mod WalkedLemmas
 pub mod WriteLemmas
 pub mod LinkedLemmas

@@ -17,6 +17,9 @@
 //!   headers, of which there are six (RFC 8200, section 4.1), and for its bytes with their reserved bits put to
 //!   zero. The answer has `next N rest L`, then `written HEX` in lower case, or `written -` for no bytes, then
 //!   how the chain ended, as `exts6` tells it. A number whose place is taken ends it with `ok`.
+//! - `rewriteall6 N HEX` asks for the longest chain of IPv6 extension headers as `exts6` does, for how many
+//!   structs of these six places hold it, and for its bytes as they are written of the structs, one after the
+//!   other. The answer is that of `rewrite6` with `runs I ` before it, where I counts the structs.
 //!
 //! # Parts of answers
 //!
@@ -46,6 +49,7 @@ mod line_fields;
 mod parts;
 mod request;
 mod rewrite6;
+mod rewriteall6;
 mod scratch;
 mod tool_error;
 

@@ -111,7 +111,7 @@ fn repeated(alloc: Global, part: &[u8], count: usize) -> Result<Vec<u8>, AllocEr
 
 #[test]
 fn known_answers(rt: HostRuntime) -> Result<(), Fail> {
-    let rows: [(&str, &[u8], &[u8]); 18] = [
+    let rows: [(&str, &[u8], &[u8]); 20] = [
         (
             "a header and a fault behind it",
             b"exts6 60 2b00000000000000\n",
@@ -189,6 +189,16 @@ fn known_answers(rt: HostRuntime) -> Result<(), Fail> {
             "a header that is written, and a fault behind it",
             b"rewrite6 60 2b00000000000000\n",
             b"next 43 rest 0\nwritten 2b00000000000000\nfault len 8 of 0 Slice Ipv6ExtHeader at 8 in Ipv6RouteHeader\n",
+        ),
+        (
+            "two runs",
+            b"rewriteall6 60 2c000000000000002cff0000000000001100000000000000\n",
+            b"runs 2 next 17 rest 0\nwritten 2c000000000000002c000000000000001100000000000000\nok\n",
+        ),
+        (
+            "an empty last run, and the fault behind it",
+            b"rewriteall6 44 2c00000000000000\n",
+            b"runs 2 next 44 rest 0\nwritten 2c00000000000000\nfault len 8 of 0 Slice Ipv6FragHeader at 8 in Ipv6FragHeader\n",
         ),
     ];
     for (name, input, answer) in rows {

@@ -2,6 +2,7 @@
 mod exts4;
 mod exts6;
 mod rewrite6;
+mod rewriteall6;
 
 use crate::named::Difference;
 use crate::random::Random;
@@ -27,6 +28,7 @@ pub fn forms() -> Vec<Box<dyn Form>> {
         Box::new(exts6::Exts6),
         Box::new(exts4::Exts4),
         Box::new(rewrite6::Rewrite6),
+        Box::new(rewriteall6::RewriteAll6),
     ]
 }
 

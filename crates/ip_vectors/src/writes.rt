@@ -92,7 +92,14 @@ fn all_places_linked(rt: HostRuntime) -> Result<(), Fail> {
     let mut out = Vec::new(rt.alloc());
     exts.write(&mut out, IpNumber(0))?;
     assert_eq!(rt; out.len(), 52);
-    for (offset, link) in [(0usize, 60u8), (8, 43), (16, 44), (24, 51), (32, 60), (44, 17)] {
+    for (offset, link) in [
+        (0usize, 60u8),
+        (8, 43),
+        (16, 44),
+        (24, 51),
+        (32, 60),
+        (44, 17),
+    ] {
         assert_eq!(rt; out.get(offset).copied(), Some(link), "{offset}");
     }
     let (again, number, rest) = Ipv6Extensions::from_slice(IpNumber(0), out.as_slice())?;

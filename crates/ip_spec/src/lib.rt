@@ -24,7 +24,6 @@ pub use runs_laws::{
     fewest_runs, one_list_of_runs, runs_are_longest_fitting_chains, runs_count,
     runs_keep_each_header,
 };
-pub use walk_laws::cleared_chain_says_the_same;
 pub use walk_laws::{
     linked_headers_are_walked, one_spelling, one_walk_answer, spelled_bytes_are_read,
     spelling_clears_what_was_read, walk_leads_where_the_value_is_read,

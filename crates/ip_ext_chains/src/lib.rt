@@ -5,9 +5,9 @@
 mod chain_laws;
 mod encodable;
 pub mod err;
+mod header_ref;
 mod ipv4_exts;
 mod ipv4_exts_slice;
-mod header_ref;
 mod ipv6_ext_slice;
 mod ipv6_ext_slice_iter;
 mod ipv6_exts;

@@ -63,6 +63,16 @@ unsafe extern "C" {
         count: usize,
     ) -> u64;
 
+    pub fn ipexts_struct_next_header(bytes: *const u8, len: usize, at: usize, times: u32) -> u64;
+    pub fn ipexts_struct_set_next_headers(
+        bytes: *const u8,
+        len: usize,
+        at: usize,
+        times: u32,
+    ) -> u64;
+    pub fn ipexts_struct_write(bytes: *const u8, len: usize, at: usize, times: u32) -> u64;
+    pub fn ipexts_struct_write_new(bytes: *const u8, len: usize, at: usize, times: u32) -> u64;
+
     pub fn ipexts_raw_borrowed(bytes: *const u8, len: usize, at: usize) -> u64;
     pub fn ipexts_raw_owned(bytes: *const u8, len: usize, at: usize) -> u64;
     pub fn ipexts_auth_borrowed(bytes: *const u8, len: usize, at: usize) -> u64;

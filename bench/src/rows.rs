@@ -151,6 +151,7 @@ pub fn rows(seed: u64) -> Vec<Row> {
     }
     rows.extend(borrowed_and_owned());
     rows.extend(written());
+    rows.extend(struct_written());
     rows.extend(ipv4());
     rows
 }
@@ -516,6 +517,41 @@ fn ipv4() -> Vec<Row> {
             original_ipv4::write,
         )
     }));
+    rows
+}
+
+/// The walk, links and bytes of a struct with all places filled.
+fn struct_written() -> Vec<Row> {
+    use ours::*;
+    let full = [8, 2040].map(|len| (len, inputs::full(len).1));
+    let calls: [(&str, RepeatedCall, RepeatedCall); 4] = [
+        (
+            "struct, next_header, options of",
+            ipexts_struct_next_header,
+            original::struct_next_header,
+        ),
+        (
+            "struct, set_next_headers, options of",
+            ipexts_struct_set_next_headers,
+            original::struct_set_next_headers,
+        ),
+        (
+            "struct, write with room, options of",
+            ipexts_struct_write,
+            original::struct_write,
+        ),
+        (
+            "struct, write into a new vector, options of",
+            ipexts_struct_write_new,
+            original::struct_write_new,
+        ),
+    ];
+    let mut rows = Vec::new();
+    for (name, ours, original) in calls {
+        rows.extend(full.iter().map(|(len, bytes)| {
+            repeated("walk, links, write", name, *len, bytes, ours, original)
+        }));
+    }
     rows
 }
 

@@ -15,7 +15,7 @@ use Rattle.ip_spec.proofs.WalkLemmas.{some_if}
 use Rattle.ip_ext_chains.specs.Ipv6Extensions.{value_of, raw_in, final_of, held, len_of, routing_len, exts_len}
 use Rattle.ip_ext_chains.specs.declared.ipv6_exts.Ipv6Extensions.{Ipv6Extensions}
 use Rattle.ip_ext_chains.specs.declared.ipv6_routing_exts.Ipv6RoutingExtensions.{Ipv6RoutingExtensions}
-use Rattle.ip_ext_chains.proofs.PlacingLemmas.{in_place_number}
+use Rattle.ip_ext_chains.proofs.PlacedLemmas.{in_place_number}
 
 -- What a chain says in a place, of each layout.
 raw_says : (m : ℕ) (b : List ℕ) → IsRawNumber m → raw_header (raw_fields b) ≡ fields_of (record { number = m; bytes = b })

@@ -7,8 +7,8 @@ pub mod PlacedLemmas
 pub mod RunsOfLemmas
 pub mod RunLemmas
 pub mod FittingLemmas
-pub mod PlacingLemmas
 pub mod HeldLemmas
+pub mod RunSpellingLemmas
 pub mod WalkedLemmas
 pub mod WriteLemmas
 pub mod LinkedLemmas

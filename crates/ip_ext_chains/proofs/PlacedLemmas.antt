@@ -29,7 +29,7 @@ pub mapped_if : (b : Bool) (h : Ipv6ExtensionSlice) (o : Option Ipv6ExtensionSli
 mapped_if true h o = refl
 mapped_if false h o = refl
 
-in_place_number : (p : Place) (c : List ExtHeader) (h : ExtHeader) → header_in p c ≡ Some h → h.number ≡ number_in p
+pub in_place_number : (p : Place) (c : List ExtHeader) (h : ExtHeader) → header_in p c ≡ Some h → h.number ≡ number_in p
 in_place_number hop_by_hop c h e = eqb-true h.number 0 (find_passes (λ g. g.number == 0) c h e)
 in_place_number destination c h e = eqb-true h.number 60 (find_passes (λ g. g.number == 60) (before_routing_header c) h e)
 in_place_number routing c h e = eqb-true h.number 43 (find_passes (λ g. g.number == 43) c h e)

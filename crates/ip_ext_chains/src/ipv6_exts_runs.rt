@@ -25,16 +25,19 @@ pub struct Ipv6ExtensionsRuns<'a> {
 
 impl<'a> Ipv6ExtensionsRuns<'a> {
     ghost use Rattle.std.specs.Prelude.{ℕ, ◌+◌, ◌/◌, ◌≤◌, List, [], length, map, IfSome, IfNone};
-    ghost use Rattle.ip_spec.specs.Chain.{ExtHeader};
+    ghost use Rattle.ip_spec.specs.Chain.{ExtHeader, bytes_of};
+    ghost use Rattle.ip_spec.specs.Encoded.{cleared_chain};
     ghost use Rattle.ip_spec.specs.Fits.{FitsPlaces};
     ghost use Rattle.ip_spec.specs.Runs.{AreRuns, joined, how_many};
     ghost use Rattle.ip_ext_chains.specs.Fault.{chain_fault};
-    ghost use Rattle.ip_ext_chains.specs.Runs.{runs_of};
+    ghost use Rattle.ip_ext_chains.specs.Runs.{runs_of, AreSpellings};
     ghost use Rattle.ip_ext_chains.specs.Ipv6Extensions.{value_of};
     ghost use Rattle.ip_ext_chains.specs.Ipv6ExtensionsRuns.{start, input, runs_left, values_left};
 
     /// The runs of the longest chain from the number that begins the bytes. There is one at least, and one for
-    /// each 8 bytes and one more at most.
+    /// each 8 bytes and one more at most. No header is lost: written one after the other, the first from `first`
+    /// and each other from the number to which the one before leads, they are the chain with its reserved bits
+    /// zero.
     pub fn new(first: IpNumber, bytes: &'a [u8]) -> Ipv6ExtensionsRuns<'a>
         ensures start { start result ≡ first.0 }
         ensures input { input result ≡ bytes.now }
@@ -47,6 +50,11 @@ impl<'a> Ipv6ExtensionsRuns<'a> {
             (longest_chain first.0 bytes.now) ps → ps ≡ runs_left result }
         ensures fewest { (ps : List (List ExtHeader)) → joined ps ≡ longest_chain first.0 bytes.now
             → AllByRecursion FitsPlaces ps → how_many (runs_left result) ≤ how_many ps }
+        ensures spelled { AreSpellings first.0 (values_left result)
+            (map cleared_chain (runs_left result)) }
+        ensures written { (ds : List (List ExtHeader))
+            → AreSpellings first.0 (values_left result) ds
+            → bytes_of (joined ds) ≡ bytes_of (cleared_chain (longest_chain first.0 bytes.now)) }
         ensures least { 1 ≤ length (runs_left result) }
         ensures most { length (runs_left result) ≤ length bytes.now / 8 + 1 }
     {

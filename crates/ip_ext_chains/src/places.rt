@@ -68,8 +68,7 @@ pub(crate) struct Places<T> {
 }
 
 impl<T: Drop> Places<T> {
-    ghost use Rattle.ip_ext_chains.specs.Places.{at, IsVacant, IsPut, IsFreePlace, IsFilled, is_taken_in};
-    ghost use Rattle.ip_ext_chains.specs.Places.{at, IsVacant, IsPut, IsTaken, first_in, IsInserted, IsFilled, is_taken_in};
+    ghost use Rattle.ip_ext_chains.specs.Places.{at, IsVacant, IsPut, IsTaken, first_in, IsFreePlace, IsFilled, is_taken_in};
 
     /// Nothing in any place.
     #[inline(always)]

@@ -117,6 +117,10 @@ written_joined (p ∷ ps) =
     ∙ sym (bytes_of-append (cleared_chain p) (cleared_chain (joined ps)))
     ∙ ap bytes_of (sym (map-append (λ h. record { number = h.number; bytes = cleared_header h.number h.bytes }) p (joined ps)))
 
+one_more_fits : (ps : Pieces) → AllByRecursion FitsPlaces ps → AllByRecursion FitsPlaces (ps ++ [] ∷ [])
+one_more_fits [] a = (fits_places.empty, tt)
+one_more_fits (p ∷ ps) a = (a.0, one_more_fits ps a.1)
+
 module _ (m : ℕ) (c : List ExtHeader) where
   the_cut : (ps qs : Pieces) → IsCut FitsPlaces c ps → IsCut FitsPlaces c qs → ps ≡ qs
   the_cut ps qs = one_cut FitsPlaces cuts_places ps qs c
@@ -158,6 +162,15 @@ module _ (m : ℕ) (c : List ExtHeader) where
 
   pub runs_written : (ps : Pieces) → AreRuns m c ps → flat_map (λ p. bytes_of (cleared_chain p)) ps ≡ bytes_of (cleared_chain c)
   runs_written ps a = written_joined ps ∙ ap (λ d. bytes_of (cleared_chain d)) (runs_joined ps a)
+
+  pub runs_fit : (ps : Pieces) → AreRuns m c ps → AllByRecursion FitsPlaces ps
+  runs_fit ps a =
+      let A : Pieces → Type 0 = AllByRecursion FitsPlaces in
+      elim a [
+        | none e w ↦ subst A (sym w) (fits_places.empty, tt)
+        | cut s i free ↦ i.meets
+        | one_more rs i t w ↦ subst A (sym w) (one_more_fits rs i.meets)
+      ]
 
   -- no cut into pieces that fit has fewer that aren't empty
   pub fewest_runs : (ps rs : Pieces) → AreRuns m c ps → joined rs ≡ c → AllByRecursion FitsPlaces rs → how_many ps ≤ how_many rs

@@ -1,8 +1,9 @@
 -- What the plain program reads a line as, in the words of the tool.
-use Rattle.ipexts_tool.specs.Request.{Request, Exts6, Exts4}
+use Rattle.ipexts_tool.specs.Request.{Request, Exts6, Exts4, Rewrite6}
 use Rattle.ip_uses.specs.declared.plain.PlainRequest.{PlainRequest}
 use Rattle.ip_uses.specs.declared.plain.PlainRequest.TheVariants as plain
 
 abbrev pub asked_by : PlainRequest → Request
 asked_by (plain.Exts6 number bytes) = Exts6 (number, bytes.items)
 asked_by (plain.Exts4 number bytes) = Exts4 (number, bytes.items)
+asked_by (plain.Rewrite6 number bytes) = Rewrite6 (number, bytes.items)

@@ -7,6 +7,7 @@ pub mod chains;
 pub mod headers;
 pub mod ipv4;
 pub mod pins;
+pub mod places;
 pub mod plain;
 pub mod runs;
 pub mod tool;

@@ -5,7 +5,7 @@ ghost use Rattle.std.specs.Prelude.{◌≡◌, ◌↔◌, IsTrue, IsFalse, IfOk}
 use ip_base::err::{Layer, LenError, ValueTooBigError};
 use ip_base::{IpFragOffset, IpNumber, LenSource, ip_number};
 use ip_ext_chains::err::{ipv4_exts, ipv6_exts};
-use ip_ext_chains::{Ipv4Extensions, Ipv4ExtensionsSlice};
+use ip_ext_chains::{Ipv4Extensions, Ipv4ExtensionsSlice, Ipv6Extensions, Ipv6RoutingExtensions};
 use ip_ext_headers::err::ip_auth;
 use ip_ext_headers::err::ipv6_exts::ExtPayloadLenError;
 use ip_ext_headers::{IpAuthHeader, IpAuthHeaderSlice, Ipv6FragmentHeader, Ipv6RawExtHeader};
@@ -65,6 +65,14 @@ const _: () = prove!(Ipv6RawExtHeader::MIN_PAYLOAD_LEN == 6);
 const _: () = prove!(Ipv6RawExtHeader::MAX_PAYLOAD_LEN == 2046);
 
 const _: () = prove!(Ipv6FragmentHeader::LEN == 8);
+
+const _: () = prove!(Ipv6RoutingExtensions::MIN_LEN == 2048);
+
+const _: () = prove!(Ipv6RoutingExtensions::MAX_LEN == 4096);
+
+const _: () = prove!(Ipv6Extensions::MIN_LEN == 0);
+
+const _: () = prove!(Ipv6Extensions::MAX_LEN == 9228);
 
 const _: () = prove!(Ipv4Extensions::MIN_LEN == 0);
 
@@ -204,6 +212,17 @@ pub fn ipv4_walk(
     Ok((a == b, a.clone()?))
 }
 
+/// Whether two errors of a walk over IPv6 extension headers are equal, and a copy of the first.
+pub fn ipv6_walk(
+    a: &ipv6_exts::ExtsWalkError,
+    b: &ipv6_exts::ExtsWalkError,
+) -> Result<(bool, ipv6_exts::ExtsWalkError), AllocError>
+    ensures same { IfOk result (λ r. IsTrue r.0 ↔ (a.now ≡ b.now)) }
+    ensures copy { IfOk result (λ r. r.1 ≡ a.now) }
+{
+    Ok((a == b, a.clone()?))
+}
+
 /// A type that is copied.
 fn needs_copy<T: Copy>(value: &T) -> T {
     *value
@@ -248,6 +267,7 @@ pub fn error_hashes(
     payload: &ExtPayloadLenError,
     chain: &ipv6_exts::HeaderSliceError,
     walk: &ipv4_exts::ExtsWalkError,
+    walk6: &ipv6_exts::ExtsWalkError,
 ) -> bool {
     needs_hash(len, len)
         && needs_hash(value, value)
@@ -256,4 +276,5 @@ pub fn error_hashes(
         && needs_hash(payload, payload)
         && needs_hash(chain, chain)
         && needs_hash(walk, walk)
+        && needs_hash(walk6, walk6)
 }

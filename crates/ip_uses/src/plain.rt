@@ -1,29 +1,34 @@
 //! The answers of the tool computed in the plainest way, all in memory and line by line. It is slow, and shares
-//! no code with the tool.
+//! no code with the tool, but calls the library's parse and `write` for `rewrite6`.
 ghost use Rattle.std.specs.Prelude.{◌≡◌, ◌++◌, ◌==◌, ◌^◌, ◌<◌, length, map};
-ghost use Rattle.std.specs.Prelude.{IfOk, OnOk, string_bytes};
+ghost use Rattle.std.specs.Prelude.{[], ◌∷◌, slice_index, IfOk, OnOk, string_bytes};
 ghost use Rattle.std.specs.List.{slice_split};
 ghost use Rattle.std.specs.Option.{option_map};
 ghost use Rattle.ip_spec.specs.Chain.{bytes_of};
+ghost use Rattle.ip_spec.specs.Encoded.{cleared_chain};
 ghost use Rattle.ip_spec.specs.PlainHeader.{plain_header_of};
 ghost use Rattle.ipexts_tool.specs.Answers.{answers, answer_of};
 ghost use Rattle.ipexts_tool.specs.Exts6.{exts6_answer};
 ghost use Rattle.ipexts_tool.specs.Exts4.{exts4_answer};
+ghost use Rattle.ipexts_tool.specs.Rewrite6.{rewrite6_answer};
 ghost use Rattle.ipexts_tool.specs.Faults.{chain_fault_text};
 ghost use Rattle.ipexts_tool.specs.LineFields.{number_of, bytes_of_hex};
 ghost use Rattle.ipexts_tool.specs.Lines.{lines_of};
 ghost use Rattle.ipexts_tool.specs.Request.{request_of_fields};
 ghost use Rattle.ipexts_tool.specs.Parts.{header_name, header_line, header_lines, next_line};
-ghost use Rattle.ipexts_tool.specs.Parts.{chain_end_line, ipv4_end_line, ok_line};
-ghost use Rattle.hex.specs.Hex.{hex_digit_value};
+ghost use Rattle.ipexts_tool.specs.Parts.{written_line, chain_end_line, ipv4_end_line, ok_line};
+ghost use Rattle.hex.specs.Hex.{hex_digit_value, encode_lower, lower_digits};
 ghost use Rattle.ip_base.specs.declared.len_source.LenSource.TheVariants.{Slice};
 ghost use Rattle.ip_ext_headers.specs.Fault.{auth_fault};
+ghost use Rattle.ip_ext_chains.specs.Fitting.{fitting_chain};
+ghost use Rattle.ip_ext_chains.specs.Ipv6Extensions.{value_of};
 ghost use Rattle.ip_uses.specs.Digits.{byte_of_digits};
 ghost use Rattle.ip_uses.specs.PlainRequest.{asked_by};
 
+use ip_base::IpNumber;
 use ip_base::err::Layer;
 use ip_ext_chains::err::ipv6_exts::{HeaderError, HeaderSliceError};
-use ip_ext_chains::plain_fault;
+use ip_ext_chains::{Ipv6Extensions, plain_fault};
 use ip_spec::{PlainHeader, next_len, plain_longest_chain};
 use std::alloc::{AllocError, Global};
 
@@ -80,6 +85,7 @@ fn push_answer(alloc: Global, line: &[u8], text: &mut String) -> Result<(), Allo
     match plain_request(alloc, &fields)? {
         Some(PlainRequest::Exts6(number, bytes)) => push_exts6(alloc, number, &bytes, text),
         Some(PlainRequest::Exts4(number, bytes)) => push_exts4(number, &bytes, text),
+        Some(PlainRequest::Rewrite6(number, bytes)) => push_rewrite6(alloc, number, &bytes, text),
         None => text.push_str(BAD_LINE),
     }
 }
@@ -89,6 +95,7 @@ fn push_answer(alloc: Global, line: &[u8], text: &mut String) -> Result<(), Allo
 enum PlainRequest {
     Exts6(u8, Vec<u8>),
     Exts4(u8, Vec<u8>),
+    Rewrite6(u8, Vec<u8>),
 }
 
 /// What the fields of a line ask for.
@@ -100,7 +107,8 @@ fn plain_request(alloc: Global, fields: &[&[u8]]) -> Result<Option<PlainRequest>
         return Ok(None);
     };
     let is_exts6 = *form == b"exts6".as_slice();
-    if !is_exts6 && *form != b"exts4".as_slice() {
+    let is_exts4 = *form == b"exts4".as_slice();
+    if !is_exts6 && !is_exts4 && *form != b"rewrite6".as_slice() {
         return Ok(None);
     }
     let Some(number) = plain_number(alloc, number)? else {
@@ -111,8 +119,10 @@ fn plain_request(alloc: Global, fields: &[&[u8]]) -> Result<Option<PlainRequest>
     };
     Ok(Some(if is_exts6 {
         PlainRequest::Exts6(number, bytes)
-    } else {
+    } else if is_exts4 {
         PlainRequest::Exts4(number, bytes)
+    } else {
+        PlainRequest::Rewrite6(number, bytes)
     }))
 }
 
@@ -197,6 +207,76 @@ fn push_exts4(number: u8, bytes: &[u8], text: &mut String) -> Result<(), AllocEr
     let (_, rest) = bytes.split_at(len);
     push_next(bytes[0], rest, text)?;
     push_ok(text)
+}
+
+/// Appends the answer to `rewrite6` with this number and these bytes. The library reads and writes them; the lines
+/// are put together here.
+fn push_rewrite6(
+    alloc: Global,
+    number: u8,
+    bytes: &[u8],
+    text: &mut String,
+) -> Result<(), AllocError>
+    ensures { OnOk result
+        (string_bytes text.new ≡ string_bytes text.old ++ rewrite6_answer number bytes.now) }
+{
+    let (headers, next, rest, fault) = Ipv6Extensions::from_slice_lax(IpNumber(number), bytes);
+    let written = rewritten(alloc, number, bytes, &headers)?;
+    push_next(next.0, rest, text)?;
+    push_written(&written, text)?;
+    push_chain_end(fault, text)
+}
+
+/// The headers that were read from the bytes, written.
+fn rewritten(
+    alloc: Global,
+    number: u8,
+    bytes: &[u8],
+    headers: &Ipv6Extensions,
+) -> Result<Vec<u8>, AllocError>
+    requires { headers.now ≡ value_of (fitting_chain number bytes.now) }
+    ensures { IfOk result (λ written.
+        written.items ≡ bytes_of (cleared_chain (fitting_chain number bytes.now))) }
+{
+    let mut written = Vec::new(alloc);
+    if let Err(refused) = headers.write(&mut written, IpNumber(number)) {
+        return Err(*refused.io().unwrap());
+    }
+    Ok(written)
+}
+
+/// Appends the bytes that were written.
+fn push_written(bytes: &[u8], text: &mut String) -> Result<(), AllocError>
+    ensures { OnOk result
+        (string_bytes text.new ≡ string_bytes text.old ++ written_line bytes.now) }
+{
+    if bytes.is_empty() {
+        return text.push_str("written -\n");
+    }
+    text.push_str("written ")?;
+    push_digits(bytes, text)?;
+    text.push_str("\n")
+}
+
+/// Appends the hexadecimal digits of bytes.
+fn push_digits(bytes: &[u8], text: &mut String) -> Result<(), AllocError>
+    ensures { OnOk result
+        (string_bytes text.new ≡ string_bytes text.old ++ encode_lower bytes.now) }
+{
+    for byte in bytes {
+        push_digit(byte / 16, text)?;
+        push_digit(byte % 16, text)?;
+    }
+    Ok(())
+}
+
+/// Appends the hexadecimal digit of a value below 16.
+fn push_digit(value: u8, text: &mut String) -> Result<(), AllocError>
+    requires { value < 16 }
+    ensures { OnOk result (string_bytes text.new
+        ≡ string_bytes text.old ++ slice_index lower_digits value ∷ []) }
+{
+    text.push(char::from(b"0123456789abcdef"[usize::from(value)]))
 }
 
 /// Appends the line of a header.

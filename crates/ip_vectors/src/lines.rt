@@ -15,7 +15,7 @@ fn is_answered(alloc: Global, input: &[u8], answers: &[u8]) -> Result<bool, Fail
 
 #[test]
 fn lines_and_answers(rt: HostRuntime) -> Result<(), Fail> {
-    let rows: [(&[u8], &[u8]); 11] = [
+    let rows: [(&[u8], &[u8]); 16] = [
         (
             b"exts6 60 2b00000000000000",
             b"0 dstopts 8\nnext 43 rest 0\nfault len 8 of 0 Slice Ipv6ExtHeader at 8 in Ipv6RouteHeader\n",
@@ -46,6 +46,26 @@ fn lines_and_answers(rt: HostRuntime) -> Result<(), Fail> {
             b"next 51 rest 0\nfault len 12 of 0 Slice IpAuthHeader at 0\n",
         ),
         (b"exts4 0 -\n", b"next 0 rest 0\nok\n"),
+        (
+            b"rewrite6 44 11ff00e101020304\n",
+            b"next 17 rest 0\nwritten 1100008101020304\nok\n",
+        ),
+        (
+            b"rewrite6 51 1101ffff0000000100000002\n",
+            b"next 17 rest 0\nwritten 110100000000000100000002\nok\n",
+        ),
+        (
+            b"rewrite6 60 3c000000000000001100000000000000\n",
+            b"next 60 rest 8\nwritten 3c00000000000000\nok\n",
+        ),
+        (
+            b"rewrite6 0 -\n",
+            b"next 0 rest 0\nwritten -\nfault len 8 of 0 Slice Ipv6ExtHeader at 0 in Ipv6HopByHopHeader\n",
+        ),
+        (
+            b"rewrite6 60 2b00000000000000\n",
+            b"next 43 rest 0\nwritten 2b00000000000000\nfault len 8 of 0 Slice Ipv6ExtHeader at 8 in Ipv6RouteHeader\n",
+        ),
         (b"exts6 256 00\n", b"bad line\n"),
         (b"\nexts6 17 -\n", b"bad line\nnext 17 rest 0\nok\n"),
     ];

@@ -149,7 +149,7 @@ fn headers_in_their_places(rt: HostRuntime) -> Result<(), Fail> {
 }
 
 #[test]
-fn faults_and_taken_places(rt: HostRuntime) -> Result<(), Fail> {
+fn faults_in_places(rt: HostRuntime) -> Result<(), Fail> {
     let late = HeaderSliceError::Content(HeaderError::HopByHopNotAtStart);
     let zero = HeaderError::IpAuth(ip_auth::HeaderError::ZeroPayloadLen);
     let hop_by_hop_twice = Row {
@@ -172,6 +172,30 @@ fn faults_and_taken_places(rt: HostRuntime) -> Result<(), Fail> {
         fault: missing(8, 0, Layer::Ipv6ExtHeader, 0, Layer::Ipv6HopByHopHeader),
     };
     check(&rt, &no_bytes)?;
+    let zero_len = Row {
+        name: "an authentication header of length 0 behind options",
+        start: 60,
+        bytes: &[51, 0, 0, 0, 0, 0, 0, 0, 17, 0, 0, 0, 0, 0, 0, 0, 0, 0, 0, 0],
+        places: [None, Some((0, 8)), None, None, None, None],
+        number: 51,
+        rest: 12,
+        fault: Some((HeaderSliceError::Content(zero), Layer::IpAuthHeader)),
+    };
+    check(&rt, &zero_len)?;
+    let late_hop_by_hop = Row {
+        name: "hop by hop options behind a fragment header",
+        start: 44,
+        bytes: &[0, 0, 0, 0, 0, 0, 0, 0, 17, 0, 0, 0, 0, 0, 0, 0],
+        places: [None, None, None, Some((0, 8)), None, None],
+        number: 0,
+        rest: 8,
+        fault: Some((late, Layer::Ipv6HopByHopHeader)),
+    };
+    check(&rt, &late_hop_by_hop)
+}
+
+#[test]
+fn taken_places(rt: HostRuntime) -> Result<(), Fail> {
     let short_and_taken = Row {
         name: "a second fragment header that is too short isn't looked at",
         start: 44,
@@ -203,27 +227,7 @@ fn faults_and_taken_places(rt: HostRuntime) -> Result<(), Fail> {
         rest: 0,
         fault: None,
     };
-    check(&rt, &whole_and_taken)?;
-    let zero_len = Row {
-        name: "an authentication header of length 0 behind options",
-        start: 60,
-        bytes: &[51, 0, 0, 0, 0, 0, 0, 0, 17, 0, 0, 0, 0, 0, 0, 0, 0, 0, 0, 0],
-        places: [None, Some((0, 8)), None, None, None, None],
-        number: 51,
-        rest: 12,
-        fault: Some((HeaderSliceError::Content(zero), Layer::IpAuthHeader)),
-    };
-    check(&rt, &zero_len)?;
-    let late_hop_by_hop = Row {
-        name: "hop by hop options behind a fragment header",
-        start: 44,
-        bytes: &[0, 0, 0, 0, 0, 0, 0, 0, 17, 0, 0, 0, 0, 0, 0, 0],
-        places: [None, None, None, Some((0, 8)), None, None],
-        number: 0,
-        rest: 8,
-        fault: Some((late, Layer::Ipv6HopByHopHeader)),
-    };
-    check(&rt, &late_hop_by_hop)
+    check(&rt, &whole_and_taken)
 }
 
 /// Hop by hop options, destination options, routing, fragment, authentication and destination options.

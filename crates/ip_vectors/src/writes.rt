@@ -92,8 +92,16 @@ fn all_places_linked(rt: HostRuntime) -> Result<(), Fail> {
     let mut out = Vec::new(rt.alloc());
     exts.write(&mut out, IpNumber(0))?;
     assert_eq!(rt; out.len(), 52);
-    let links = [0usize, 8, 16, 24, 32, 44].map(|offset| out[offset]);
-    assert_eq!(rt; links, [60, 43, 44, 51, 60, 17]);
+    for (offset, link) in [
+        (0usize, 60u8),
+        (8, 43),
+        (16, 44),
+        (24, 51),
+        (32, 60),
+        (44, 17),
+    ] {
+        assert_eq!(rt; out.get(offset).copied(), Some(link), "{offset}");
+    }
     let (again, number, rest) = Ipv6Extensions::from_slice(IpNumber(0), out.as_slice())?;
     assert!(rt; again == exts);
     assert_eq!(rt; (number, rest.len()), (IpNumber(17), 0));

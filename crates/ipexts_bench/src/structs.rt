@@ -1,7 +1,9 @@
 //! The parses into a struct of six places, and a digest of what it holds.
 use crate::digest::{layer_code, of_bytes, of_fault, of_strict_fault, with};
+use crate::headers::of_written;
 use crate::parses::Parse;
 use ip_ext_chains::{IpAuthHeader, IpNumber, Ipv6Extensions, Ipv6FragmentHeader, Ipv6RawExtHeader};
+use std::alloc::Global;
 
 /// The lax parse into a struct, read in full.
 pub struct LaxStruct;
@@ -86,4 +88,78 @@ fn of_auth(header: &IpAuthHeader) -> u64 {
     let numbers = with(u64::from(header.spi), u64::from(header.sequence_number));
     let fields = with(numbers, of_bytes(header.raw_icv()));
     with(u64::from(header.next_header.0), fields)
+}
+
+/// Leads the last header, the final destination options, to another number each time.
+fn relink(exts: &mut Ipv6Extensions, time: u32) {
+    if let Some(routing) = &mut exts.routing
+        && let Some(options) = &mut routing.final_destination_options
+    {
+        options.next_header = IpNumber((time % 2) as u8 + 16);
+    }
+}
+
+/// A walk through a struct that was read from number 0, `times` times, each time to another number.
+#[unsafe(no_mangle)]
+pub extern "C" fn ipexts_struct_next_header(bytes: &[u8], _at: usize, times: u32) -> u64 {
+    let (mut exts, _, _, _) = Ipv6Extensions::from_slice_lax(IpNumber(0), bytes);
+    let mut sum = 0;
+    for time in 0..times {
+        relink(&mut exts, time);
+        sum = match exts.next_header(IpNumber(0)) {
+            Ok(number) => with(sum, u64::from(number.0)),
+            Err(_) => 0,
+        };
+    }
+    sum
+}
+
+/// Its links, set `times` times, each time to another number.
+#[unsafe(no_mangle)]
+pub extern "C" fn ipexts_struct_set_next_headers(bytes: &[u8], _at: usize, times: u32) -> u64 {
+    let (mut exts, _, _, _) = Ipv6Extensions::from_slice_lax(IpNumber(0), bytes);
+    let mut sum = 0;
+    for time in 0..times {
+        let first = exts.set_next_headers(IpNumber((time % 256) as u8));
+        sum = with(sum, u64::from(first.0));
+    }
+    with(sum, of_exts(&exts))
+}
+
+/// The struct written `times` times into a vector that was emptied before.
+#[unsafe(no_mangle)]
+pub extern "C" fn ipexts_struct_write(alloc: Global, bytes: &[u8], at: usize, times: u32) -> u64 {
+    let (mut exts, _, _, _) = Ipv6Extensions::from_slice_lax(IpNumber(0), bytes);
+    let mut out = Vec::new(alloc);
+    let mut sum = 0;
+    for time in 0..times {
+        relink(&mut exts, time);
+        out.clear();
+        if exts.write(&mut out, IpNumber(0)).is_err() {
+            return 0;
+        }
+        sum = with(sum, of_written(out.as_slice(), at));
+    }
+    sum
+}
+
+/// The struct written `times` times, each time into a new vector.
+#[unsafe(no_mangle)]
+pub extern "C" fn ipexts_struct_write_new(
+    alloc: Global,
+    bytes: &[u8],
+    at: usize,
+    times: u32,
+) -> u64 {
+    let (mut exts, _, _, _) = Ipv6Extensions::from_slice_lax(IpNumber(0), bytes);
+    let mut sum = 0;
+    for time in 0..times {
+        relink(&mut exts, time);
+        let mut out = Vec::new(alloc);
+        if exts.write(&mut out, IpNumber(0)).is_err() {
+            return 0;
+        }
+        sum = with(sum, of_written(out.as_slice(), at));
+    }
+    sum
 }

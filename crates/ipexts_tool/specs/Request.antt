@@ -6,6 +6,8 @@ use Rattle.std.specs.Str.{bytes_eq}
 use Rattle.ipexts_tool.specs.Lines.{max_line_len}
 use Rattle.ipexts_tool.specs.Exts6.{exts6_answer}
 use Rattle.ipexts_tool.specs.Exts4.{exts4_answer}
+use Rattle.ipexts_tool.specs.Rewrite6.{rewrite6_answer}
+use Rattle.ipexts_tool.specs.RewriteAll6.{rewriteall6_answer}
 use Rattle.ipexts_tool.specs.LineFields.{fields_of, number_and_bytes}
 use Rattle.ipexts_tool.specs.declared.request.Request.{Request as ParsedRequest}
 use Rattle.ipexts_tool.specs.declared.request.Request.TheVariants as parsed
@@ -14,22 +16,30 @@ use Rattle.ipexts_tool.specs.declared.request.Request.TheVariants as parsed
 pub data Request : Type 0 where
   Exts6 : (arguments : ℕ × List ℕ) → Request
   Exts4 : (arguments : ℕ × List ℕ) → Request
+  Rewrite6 : (arguments : ℕ × List ℕ) → Request
+  RewriteAll6 : (arguments : ℕ × List ℕ) → Request
 
 -- the request that the program read
 abbrev pub request_in : ParsedRequest → Request
 request_in (parsed.Exts6 number bytes) = Exts6 (number.0, bytes.now)
 request_in (parsed.Exts4 number bytes) = Exts4 (number.0, bytes.now)
+request_in (parsed.Rewrite6 number bytes) = Rewrite6 (number.0, bytes.now)
+request_in (parsed.RewriteAll6 number bytes) = RewriteAll6 (number.0, bytes.now)
 
 -- the answer to a request
 abbrev pub answer_to : Request → List ℕ
 answer_to (Exts6 a) = exts6_answer a.0 a.1
 answer_to (Exts4 a) = exts4_answer a.0 a.1
+answer_to (Rewrite6 a) = rewrite6_answer a.0 a.1
+answer_to (RewriteAll6 a) = rewriteall6_answer a.0 a.1
 
 -- what a form with these arguments asks for
 abbrev pub request_of_form : List ℕ → List (List ℕ) → Option Request
 request_of_form form arguments =
     if bytes_eq form (codes "exts6") then option_map Exts6 (number_and_bytes arguments)
     else if bytes_eq form (codes "exts4") then option_map Exts4 (number_and_bytes arguments)
+    else if bytes_eq form (codes "rewrite6") then option_map Rewrite6 (number_and_bytes arguments)
+    else if bytes_eq form (codes "rewriteall6") then option_map RewriteAll6 (number_and_bytes arguments)
     else None
 
 -- the same, where the form is the first field

@@ -10,12 +10,12 @@ use std::alloc::{AllocError, Allocator};
 const BAD_LINE: &str = "bad line\n";
 
 /// Puts the answer to `line` into `scratch`.
-pub fn answer<A: Allocator>(line: &[u8], scratch: &mut Scratch<A>) -> Result<(), AllocError>
+pub fn answer<A: Allocator + Copy>(line: &[u8], scratch: &mut Scratch<A>) -> Result<(), AllocError>
     ensures { OnOk result (string_bytes scratch.new.text ≡ answer_of line.now) }
 {
     scratch.text.clear();
     match parse_request(line, &mut scratch.bytes) {
-        Some(request) => push_answer(request, &mut scratch.text),
+        Some(request) => push_answer(scratch.alloc, request, &mut scratch.text),
         None => scratch.text.push_str(BAD_LINE),
     }
 }

@@ -21,7 +21,7 @@ pub const KEPT_LEN: usize = MAX_LINE_LEN + 1;
 pub type OpenLine = ArrayVec<u8, KEPT_LEN>;
 
 /// Writes the answer to `line`.
-fn tell<A: Allocator, W: Write>(
+fn tell<A: Allocator + Copy, W: Write>(
     line: &[u8],
     scratch: &mut Scratch<A>,
     output: &mut W,
@@ -44,7 +44,7 @@ fn keep(line: &mut OpenLine, part: &[u8])
 }
 
 /// Writes the answer to the line that begins with `line` and ends with `part`, and begins a new one.
-fn end_line<A: Allocator, W: Write>(
+fn end_line<A: Allocator + Copy, W: Write>(
     line: &mut OpenLine,
     part: &[u8],
     scratch: &mut Scratch<A>,
@@ -66,7 +66,7 @@ fn end_line<A: Allocator, W: Write>(
 
 /// Answers the lines that end in `chunk`, the first of which began with `line`, and keeps in `line`
 /// what follows them.
-pub fn feed<A: Allocator, W: Write>(
+pub fn feed<A: Allocator + Copy, W: Write>(
     chunk: &[u8],
     line: &mut OpenLine,
     scratch: &mut Scratch<A>,
@@ -90,7 +90,7 @@ pub fn feed<A: Allocator, W: Write>(
 }
 
 /// Answers a last line that no newline ends.
-pub fn finish<A: Allocator, W: Write>(
+pub fn finish<A: Allocator + Copy, W: Write>(
     line: &[u8],
     scratch: &mut Scratch<A>,
     output: &mut W,

@@ -13,6 +13,13 @@
 //! - `exts4 N HEX` asks for the longest chain of IPv4 extension headers from number N that begins the bytes: at
 //!   most one authentication header (RFC 4302, section 2). The answer is the same, but a fault stands
 //!   without a layer.
+//! - `rewrite6 N HEX` asks for the longest chain of IPv6 extension headers that has a place for each of its
+//!   headers, of which there are six (RFC 8200, section 4.1), and for its bytes with their reserved bits put to
+//!   zero. The answer has `next N rest L`, then `written HEX` in lower case, or `written -` for no bytes, then
+//!   how the chain ended, as `exts6` tells it. A number whose place is taken ends it with `ok`.
+//! - `rewriteall6 N HEX` asks for the longest chain of IPv6 extension headers as `exts6` does, for how many
+//!   structs of these six places hold it, and for its bytes as they are written of the structs, one after the
+//!   other. The answer is that of `rewrite6` with `runs I ` before it, where I counts the structs.
 //!
 //! # Parts of answers
 //!
@@ -41,6 +48,8 @@ mod feed;
 mod line_fields;
 mod parts;
 mod request;
+mod rewrite6;
+mod rewriteall6;
 mod scratch;
 mod tool_error;
 
@@ -91,7 +100,7 @@ pub fn run<A: Allocator + Copy, R: Read, W: Write>(
 
 /// Reads once, answers the lines that end in what came, and keeps in `line` what follows them. It tells
 /// whether the input may have more.
-fn advance<A: Allocator, R: Read, W: Write>(
+fn advance<A: Allocator + Copy, R: Read, W: Write>(
     input: &mut R,
     output: &mut W,
     chunk: &mut [u8; CHUNK_LEN],

@@ -9,6 +9,8 @@ ghost use Rattle.ipexts_tool.specs.LineFields.{fields_of};
 use crate::exts4::push_exts4;
 use crate::exts6::push_exts6;
 use crate::line_fields::{BYTES_LEN, MAX_LINE_LEN, parse_number_and_hex, split_once};
+use crate::rewrite6::push_rewrite6;
+use crate::rewriteall6::push_rewriteall6;
 use ip_ext_chains::IpNumber;
 use std::alloc::{AllocError, Allocator};
 
@@ -19,6 +21,10 @@ pub enum Request<'a> {
     Exts6(IpNumber, &'a [u8]),
     /// `exts4 N HEX`.
     Exts4(IpNumber, &'a [u8]),
+    /// `rewrite6 N HEX`.
+    Rewrite6(IpNumber, &'a [u8]),
+    /// `rewriteall6 N HEX`.
+    RewriteAll6(IpNumber, &'a [u8]),
 }
 
 /// What a line asks for, if it isn't too long and has a form. `buffer` takes the bytes that its digits
@@ -50,11 +56,20 @@ fn parse_form<'a>(
         let (number, bytes) = parse_number_and_hex(arguments, buffer)?;
         return Some(Request::Exts4(number, bytes));
     }
+    if form == b"rewrite6".as_slice() {
+        let (number, bytes) = parse_number_and_hex(arguments, buffer)?;
+        return Some(Request::Rewrite6(number, bytes));
+    }
+    if form == b"rewriteall6".as_slice() {
+        let (number, bytes) = parse_number_and_hex(arguments, buffer)?;
+        return Some(Request::RewriteAll6(number, bytes));
+    }
     None
 }
 
 /// Appends the answer to a request.
-pub fn push_answer<A: Allocator>(
+pub fn push_answer<A: Allocator + Copy>(
+    alloc: A,
     request: Request<'_>,
     text: &mut String<A>,
 ) -> Result<(), AllocError>
@@ -64,5 +79,7 @@ pub fn push_answer<A: Allocator>(
     match request {
         Request::Exts6(number, bytes) => push_exts6(number, bytes, text),
         Request::Exts4(number, bytes) => push_exts4(number, bytes, text),
+        Request::Rewrite6(number, bytes) => push_rewrite6(alloc, number, bytes, text),
+        Request::RewriteAll6(number, bytes) => push_rewriteall6(alloc, number, bytes, text),
     }
 }

@@ -10,9 +10,11 @@ pub struct Scratch<A: Allocator> {
     pub text: String<A>,
     /// The bytes that a line's digits stand for. Those of lines before may stand behind them.
     pub bytes: [u8; BYTES_LEN],
+    /// Where memory comes from.
+    pub alloc: A,
 }
 
-impl<A: Allocator> Scratch<A> {
+impl<A: Allocator + Copy> Scratch<A> {
     /// Buffers that hold nothing yet.
     pub fn new(alloc: A) -> Self
         ensures text { string_bytes result.text ≡ [] }
@@ -21,6 +23,7 @@ impl<A: Allocator> Scratch<A> {
         Scratch {
             text: String::new(alloc),
             bytes: [0; BYTES_LEN],
+            alloc,
         }
     }
 }

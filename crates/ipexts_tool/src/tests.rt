@@ -111,7 +111,7 @@ fn repeated(alloc: Global, part: &[u8], count: usize) -> Result<Vec<u8>, AllocEr
 
 #[test]
 fn known_answers(rt: HostRuntime) -> Result<(), Fail> {
-    let rows: [(&str, &[u8], &[u8]); 13] = [
+    let rows: [(&str, &[u8], &[u8]); 20] = [
         (
             "a header and a fault behind it",
             b"exts6 60 2b00000000000000\n",
@@ -164,6 +164,41 @@ fn known_answers(rt: HostRuntime) -> Result<(), Fail> {
             "no IPv4 extension header",
             b"exts4 0 -\n",
             b"next 0 rest 0\nok\n",
+        ),
+        (
+            "reserved bits of a fragment header",
+            b"rewrite6 44 11ff00e101020304\n",
+            b"next 17 rest 0\nwritten 1100008101020304\nok\n",
+        ),
+        (
+            "reserved bits of an authentication header",
+            b"rewrite6 51 1101ffff0000000100000002\n",
+            b"next 17 rest 0\nwritten 110100000000000100000002\nok\n",
+        ),
+        (
+            "a place that is taken",
+            b"rewrite6 60 3c000000000000001100000000000000\n",
+            b"next 60 rest 8\nwritten 3c00000000000000\nok\n",
+        ),
+        (
+            "nothing to write",
+            b"rewrite6 0 -\n",
+            b"next 0 rest 0\nwritten -\nfault len 8 of 0 Slice Ipv6ExtHeader at 0 in Ipv6HopByHopHeader\n",
+        ),
+        (
+            "a header that is written, and a fault behind it",
+            b"rewrite6 60 2b00000000000000\n",
+            b"next 43 rest 0\nwritten 2b00000000000000\nfault len 8 of 0 Slice Ipv6ExtHeader at 8 in Ipv6RouteHeader\n",
+        ),
+        (
+            "two runs",
+            b"rewriteall6 60 2c000000000000002cff0000000000001100000000000000\n",
+            b"runs 2 next 17 rest 0\nwritten 2c000000000000002c000000000000001100000000000000\nok\n",
+        ),
+        (
+            "an empty last run, and the fault behind it",
+            b"rewriteall6 44 2c00000000000000\n",
+            b"runs 2 next 44 rest 0\nwritten 2c00000000000000\nfault len 8 of 0 Slice Ipv6FragHeader at 8 in Ipv6FragHeader\n",
         ),
     ];
     for (name, input, answer) in rows {

@@ -1,6 +1,8 @@
 //! The forms of a line. A further form is a file here and a line in `forms`.
 mod exts4;
 mod exts6;
+mod rewrite6;
+mod rewriteall6;
 
 use crate::named::Difference;
 use crate::random::Random;
@@ -22,7 +24,12 @@ pub trait Form {
 
 /// All forms.
 pub fn forms() -> Vec<Box<dyn Form>> {
-    vec![Box::new(exts6::Exts6), Box::new(exts4::Exts4)]
+    vec![
+        Box::new(exts6::Exts6),
+        Box::new(exts4::Exts4),
+        Box::new(rewrite6::Rewrite6),
+        Box::new(rewriteall6::RewriteAll6),
+    ]
 }
 
 /// Appends the original's answer to a line, and tells the named differences that it has.

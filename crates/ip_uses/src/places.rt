@@ -1,0 +1,61 @@
+//! Callers of the parse into six places.
+ghost use Rattle.std.specs.Prelude.{◌≡◌, ◌++◌, ℕ, List, None, IfSome, IfOk, OnErr};
+ghost use Rattle.std.specs.Option.{option_map};
+ghost use Rattle.ip_spec.specs.Header.{IsExtensionNumber};
+ghost use Rattle.ip_spec.specs.FieldsOf.{fragment_fields};
+ghost use Rattle.ip_spec.specs.Chain.{leads_to};
+ghost use Rattle.ip_spec.specs.Places.{fragment, header_in};
+ghost use Rattle.ip_ext_chains.specs.Ipv6Extensions.{value_of};
+ghost use Rattle.ip_ext_chains.specs.Fitting.{fitting_chain, rest_after_fitting, fitting_fault, IsFittingAnswer};
+
+use ip_base::IpNumber;
+use ip_ext_chains::Ipv6Extensions;
+use ip_ext_chains::err::ipv6_exts::HeaderWriteError;
+use ip_ext_headers::Ipv6FragmentHeader;
+use ip_spec::one_walk_answer;
+use std::alloc::AllocError;
+
+/// The fragment header behind an IPv6 header, if there is one: what a defragmenter asks first.
+pub fn fragment_of(start: IpNumber, packet: &[u8]) -> Option<Ipv6FragmentHeader>
+    ensures { result ≡ option_map (λ h. fragment_fields h.bytes)
+        (header_in fragment (fitting_chain start.0 packet.now)) }
+{
+    let (exts, _, _, _) = Ipv6Extensions::from_slice_lax(start, packet);
+    exts.fragment
+}
+
+/// The headers behind an IPv6 header in their places, with the payload and its number, where there is no fault.
+pub fn opened(start: IpNumber, packet: &[u8]) -> Option<(Ipv6Extensions, IpNumber, &[u8])>
+    ensures value { IfSome result (λ x. x.0 ≡ value_of (fitting_chain start.0 packet.now)) }
+    ensures number { IfSome result (λ x.
+        x.1.0 ≡ leads_to start.0 (fitting_chain start.0 packet.now)) }
+    ensures payload { IfSome result (λ x. x.2.now ≡ rest_after_fitting start.0 packet.now) }
+    ensures whole { IfSome result (λ _. fitting_fault start.0 packet.now ≡ None) }
+{
+    match Ipv6Extensions::from_slice(start, packet) {
+        Ok(found) => Some(found),
+        Err(_) => None,
+    }
+}
+
+/// Appends the headers in the order that RFC 8200 recommends, before a payload of the number `payload`. It answers
+/// the number of the first, from which they are read again with the payload behind them, whatever it is.
+pub fn put_in_order(
+    headers: &mut Ipv6Extensions,
+    payload: IpNumber,
+    out: &mut Vec<u8>,
+) -> Result<IpNumber, AllocError>
+    requires { IsExtensionNumber payload.0 → ⊥ }
+    ensures read { IfOk result (λ first. (b r : List ℕ)
+        → out.new.items ≡ out.old.items ++ b
+        → IsFittingAnswer first.0 (b ++ r) headers.new payload.0 r None) }
+    ensures err { OnErr result (out.new.items ≡ out.old.items) }
+{
+    let first = headers.set_next_headers(payload);
+    one_walk_answer();
+    match headers.write(out, first) {
+        Ok(()) => Ok(first),
+        Err(HeaderWriteError::Io(e)) => Err(e),
+        Err(HeaderWriteError::Content(_)) => unreachable!(),
+    }
+}

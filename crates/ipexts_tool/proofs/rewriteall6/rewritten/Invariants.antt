@@ -1,0 +1,5 @@
+use Rattle.ipexts_tool.proofs.RewrittenLemmas.{IsRewriting}
+use Rattle.ipexts_tool.proofs.rewriteall6.rewritten.Given as goal
+
+abbrev pub invariant-runs : goal.invariant-runs
+invariant-runs g l = IsRewriting l.fn.number.0 l.fn.bytes l.runs l.next.0 l.count l.written.items

@@ -1,0 +1,49 @@
+//! `rewrite6 N HEX`: what of the IPv6 extension headers that begin the bytes has a place, as it is written.
+use super::{hex_of, number_and_bytes, Form};
+use crate::chains;
+use crate::faults::{push, push_ipv6_fault};
+use crate::named::Difference;
+use crate::random::Random;
+use etherparse::{IpNumber, Ipv6Extensions};
+
+pub struct Rewrite6;
+
+impl Form for Rewrite6 {
+    fn name(&self) -> &'static str {
+        "rewrite6"
+    }
+
+    fn arguments(&self, random: &mut Random) -> Vec<String> {
+        let upper = random.percent(10);
+        let longest = super::MAX_LINE_LEN - "rewrite6 255 ".len();
+        chains::asked(random, longest / 2)
+            .into_iter()
+            .map(|(number, bytes)| format!("{number} {}", hex_of(&bytes, upper)))
+            .collect()
+    }
+
+    fn answer(&self, arguments: &str, answer: &mut String) -> Option<Vec<Difference>> {
+        let (number, bytes) = number_and_bytes(arguments)?;
+        let (headers, next, rest, fault) = Ipv6Extensions::from_slice_lax(IpNumber(number), &bytes);
+        let mut written = Vec::new();
+        headers
+            .write(&mut written, IpNumber(number))
+            .expect("headers that were read are all reached");
+        push(
+            answer,
+            format_args!("next {} rest {}\n", next.0, rest.len()),
+        );
+        push(
+            answer,
+            format_args!("written {}\n", hex_of(&written, false)),
+        );
+        match fault {
+            None => answer.push_str("ok\n"),
+            Some((fault, layer)) => {
+                push_ipv6_fault(&fault, answer);
+                push(answer, format_args!(" in {layer:?}\n"));
+            }
+        }
+        Some(Vec::new())
+    }
+}

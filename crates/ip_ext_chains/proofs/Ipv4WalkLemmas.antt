@@ -14,7 +14,7 @@ use Rattle.ip_spec.specs.FieldsOf.{AuthFields, auth_fields}
 use Rattle.ip_spec.specs.Cleared.{cleared_auth}
 use Rattle.ip_spec.specs.Encoding.{AreBytes, IsAuthEncoding}
 use Rattle.ip_spec.specs.Encoded.{AreCleared, cleared_chain}
-use Rattle.ip_spec.specs.Chain.{ExtHeader, IsChain, bytes_of, is_empty, leads_to}
+use Rattle.ip_spec.specs.Chain.{ExtHeader, IsChain, bytes_of, leads_to}
 use Rattle.ip_spec.specs.Demand.{AtMostOneOf}
 use Rattle.ip_spec.proofs.PrefixLemmas.{prefix_of-append, prefix-length}
 use Rattle.ip_spec.proofs.HeaderLemmas.{auth_of}
@@ -22,10 +22,7 @@ use Rattle.ip_spec.proofs.EncodingLemmas.{auth_only, cleared_auth_encodes}
 use Rattle.ip_ext_chains.specs.declared.err.ipv4_exts.exts_walk_error.ExtsWalkError.{ExtsWalkError}
 use Rattle.ip_ext_chains.specs.declared.err.ipv4_exts.exts_walk_error.ExtsWalkError.TheVariants.{ExtNotReferenced}
 use Rattle.ip_ext_chains.specs.Ipv4Longest.{longest_ipv4_chain}
-use Rattle.ip_base.specs.declared.len_source.LenSource.TheVariants.{Slice}
-use Rattle.ip_ext_headers.specs.declared.err.ip_auth.header_slice_error.HeaderSliceError.{HeaderSliceError}
-use Rattle.ip_ext_chains.specs.Ipv4Fault.{ipv4_fault_at, ipv4_chain_fault}
-use Rattle.ip_ext_chains.specs.Ipv4Parse.{ipv4_value, IsIpv4ValueAnswer}
+use Rattle.ip_ext_chains.specs.Ipv4Parse.{ipv4_value}
 use Rattle.ip_ext_chains.specs.Ipv4Walk.{ipv4_walk, IsIpv4Reading, IsIpv4Encoding, IsIpv4ReadBack}
 use Rattle.ip_ext_chains.proofs.Ipv4Lemmas.{ipv4_longest, ipv4_one, ipv4_none}
 
@@ -215,24 +212,3 @@ module _ (f : ℕ) (m : IpNumber) where
 
   pub walk_read : (v : Option AuthFields) (x : Result IpNumber ExtsWalkError) → ((w : AuthFields) → f ≡ 51 → v ≡ Some w → IsEncoded w) → x ≡ ipv4_walk v f → (x ≡ Ok m) ↔ IsRead v
   walk_read v x encoded is = (λ e. leads_read v encoded (sym is ∙ e), λ r. is ∙ read_leads v r)
-
--- Where there is a fault, nothing was taken.
-pub nothing_taken : (n : ℕ) (s : List ℕ) (e : HeaderSliceError) → ipv4_chain_fault n s ≡ Some e → longest_ipv4_chain n s ≡ []
-nothing_taken n s e fault =
-    let l = ipv4_longest n s in
-    elim (one_or_none n (longest_ipv4_chain n s) l.has.has.chain l.has.meets) [
-      | inl none ↦ none
-      | inr one ↦
-          let F : List ExtHeader → Type 0 = λ c. ipv4_fault_at Slice (length (drop (length (bytes_of c)) s)) (length (bytes_of c)) (is_empty c) (leads_to n c) (drop (length (bytes_of c)) s) ≡ Some e in
-          absurd (let no : None ≡ Some e = subst F one.alone fault in cc)
-    ]
-
-pub value_of_fault : (n : ℕ) (s : List ℕ) (e : HeaderSliceError) → ipv4_chain_fault n s ≡ Some e → IsIpv4ValueAnswer n s None n s (Some e)
-value_of_fault n s e fault =
-    let none : longest_ipv4_chain n s ≡ [] = nothing_taken n s e fault in
-    record {
-      value = sym (ap ipv4_value none);
-      number = sym (ap (leads_to n) none);
-      rest = sym (ap (λ (c : List ExtHeader). drop (length (bytes_of c)) s) none);
-      fault = sym fault;
-    }

@@ -10,7 +10,7 @@ ghost use Rattle.ip_spec.specs.Demand.{IsLongestUnder, AtMostOneOf};
 ghost use Rattle.ip_ext_chains.specs.Ipv6Extensions.{len_of};
 ghost use Rattle.ip_ext_chains.specs.Ipv4Longest.{longest_ipv4_chain};
 ghost use Rattle.ip_ext_chains.specs.Ipv4Fault.{ipv4_chain_fault};
-ghost use Rattle.ip_ext_chains.specs.Ipv4Parse.{IsIpv4ValueAnswer, ipv4_value};
+ghost use Rattle.ip_ext_chains.specs.Ipv4Parse.{IsIpv4ChainAnswer, IsIpv4ValueAnswer, ipv4_value};
 ghost use Rattle.ip_ext_chains.specs.Ipv4ExtensionsSlice.{headers_in};
 ghost use Rattle.ip_ext_chains.specs.Ipv4Walk.{ipv4_walk, IsIpv4Reading, IsIpv4Encoding, IsIpv4ReadBack};
 ghost use Rattle.ip_ext_chains.specs.Ipv4Walk.{IfContent, OnIo};
@@ -49,13 +49,10 @@ impl Ipv4Extensions {
         ensures cleared { IsIpv4Encoding start_ip_number.0 result.0.auth
             (bytes_of (cleared_chain (longest_ipv4_chain start_ip_number.0 start_slice.now))) }
     {
-        match Ipv4ExtensionsSlice::from_slice(start_ip_number, start_slice) {
-            Ok((slices, number, rest)) => (slices.to_header(), number, rest, None),
-            Err(fault) => {
-                let none = Ipv4Extensions { auth: None };
-                (none, start_ip_number, start_slice, Some(fault))
-            }
-        }
+        let (slices, number, rest, fault) = Self::walk(start_ip_number, start_slice);
+        let mut exts = Self::default();
+        exts.fill(&slices);
+        (exts, number, rest, fault)
     }
 
     /// What `from_slice_lax` answers, where it tells no fault; else the fault.
@@ -70,6 +67,46 @@ impl Ipv4Extensions {
     {
         let (slices, number, rest) = Ipv4ExtensionsSlice::from_slice(start_ip_number, slice)?;
         Ok((slices.to_header(), number, rest))
+    }
+
+    /// What `Ipv4ExtensionsSlice::from_slice_lax` answers. It stands apart, so that one path alone makes and
+    /// moves the header with bytes of its own.
+    #[inline(never)]
+    fn walk(
+        start: IpNumber,
+        bytes: &[u8],
+    ) -> (
+        Ipv4ExtensionsSlice<'_>,
+        IpNumber,
+        &[u8],
+        Option<HeaderSliceError>,
+    )
+        ensures { IsIpv4ChainAnswer start.0 bytes.now
+            (headers_in result.0) result.1.0 result.2.now result.3 }
+    {
+        if start != ip_number::AUTH {
+            // An exit of its own: all but the number and the bytes is zero, and nothing is moved.
+            return (Ipv4ExtensionsSlice { auth: None }, start, bytes, None);
+        }
+        Ipv4ExtensionsSlice::from_slice_lax(start, bytes)
+    }
+
+    /// Fills the place, in which nothing is yet, where it lies.
+    #[inline(never)]
+    fn fill(&mut self, slices: &Ipv4ExtensionsSlice<'_>)
+        requires { self.old.auth ≡ None }
+        ensures { self.new.auth ≡ ipv4_value (headers_in slices.now) }
+    {
+        let Some(slice) = &slices.auth else {
+            return;
+        };
+        self.auth = Some(IpAuthHeader::default());
+        if let Some(header) = &mut self.auth {
+            header.next_header = slice.next_header();
+            header.spi = slice.spi();
+            header.sequence_number = slice.sequence_number();
+            let _ = header.set_raw_icv(slice.raw_icv());
+        }
     }
 
     /// The number to which the headers lead, where `first_next_header` is the protocol number of the packet.

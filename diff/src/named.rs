@@ -6,6 +6,8 @@ pub enum Difference {
     /// The original's iterator reads on behind the bytes of a chain that a lax parse ended at a fault. It was
     /// stopped at the chain's bytes.
     IteratorReadsOn,
+    /// The original's `write` panics from 0 where there are no hop by hop options. It wasn't called.
+    WriteFromZeroPanics,
 }
 
 impl Difference {
@@ -14,6 +16,9 @@ impl Difference {
         match self {
             Difference::IteratorReadsOn => {
                 "the iterator reads on behind a chain that ended at a fault"
+            }
+            Difference::WriteFromZeroPanics => {
+                "`write` panics from 0 where there are no hop by hop options"
             }
         }
     }

@@ -25,10 +25,14 @@ impl Form for Rewrite6 {
     fn answer(&self, arguments: &str, answer: &mut String) -> Option<Vec<Difference>> {
         let (number, bytes) = number_and_bytes(arguments)?;
         let (headers, next, rest, fault) = Ipv6Extensions::from_slice_lax(IpNumber(number), &bytes);
+        // From 0 nothing is read but behind hop by hop options.
+        let panics = number == 0 && headers.hop_by_hop_options.is_none();
         let mut written = Vec::new();
-        headers
-            .write(&mut written, IpNumber(number))
-            .expect("headers that were read are all reached");
+        if !panics {
+            headers
+                .write(&mut written, IpNumber(number))
+                .expect("headers that were read are all reached");
+        }
         push(
             answer,
             format_args!("next {} rest {}\n", next.0, rest.len()),
@@ -44,6 +48,10 @@ impl Form for Rewrite6 {
                 push(answer, format_args!(" in {layer:?}\n"));
             }
         }
-        Some(Vec::new())
+        Some(if panics {
+            vec![Difference::WriteFromZeroPanics]
+        } else {
+            Vec::new()
+        })
     }
 }

@@ -6,6 +6,7 @@ mod chain_laws;
 mod demand_laws;
 mod header_laws;
 mod plain;
+mod plain_fits;
 mod runs_laws;
 mod walk_laws;
 
@@ -20,6 +21,7 @@ pub use header_laws::{
     cleared_header_encodes, cleared_header_says_the_same, encoding_len, one_decoding, one_encoding,
 };
 pub use plain::{PlainChain, PlainHeader, is_header, next_len, plain_longest_chain};
+pub use plain_fits::{fitting_len, numbers_fit};
 pub use runs_laws::{
     fewest_runs, one_list_of_runs, runs_are_longest_fitting_chains, runs_count,
     runs_keep_each_header,

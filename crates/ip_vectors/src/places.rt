@@ -6,6 +6,8 @@ use ip_ext_chains::err::ip_auth;
 use ip_ext_chains::err::ipv6_exts::{HeaderError, HeaderSliceError};
 use ip_ext_chains::{Ipv6Extensions, Ipv6RawExtHeader, Ipv6RoutingExtensions};
 use ip_ext_headers::{IpAuthHeaderSlice, Ipv6FragmentHeaderSlice, Ipv6RawExtHeaderSlice};
+use ip_spec::{fitting_len, plain_longest_chain};
+use std::alloc::Global;
 use std::process::Abort;
 use std::test::Fail;
 
@@ -68,8 +70,14 @@ fn expected(row: &Row<'_>) -> Ipv6Extensions {
     }
 }
 
+/// Both parses and the plain program answer the row.
+fn check(rt: &impl Abort, alloc: Global, row: &Row<'_>) -> Result<(), Fail> {
+    check_plain(rt, alloc, row)?;
+    check_parses(rt, row)
+}
+
 /// Both parses answer the row, and the struct has the lengths of the headers.
-fn check(rt: &impl Abort, row: &Row<'_>) -> Result<(), Fail> {
+fn check_parses(rt: &impl Abort, row: &Row<'_>) -> Result<(), Fail> {
     let name = row.name;
     let start = IpNumber(row.start);
     let expected = expected(row);
@@ -100,6 +108,21 @@ fn check(rt: &impl Abort, row: &Row<'_>) -> Result<(), Fail> {
     Ok(())
 }
 
+/// The plain slow program takes as many bytes.
+fn check_plain(rt: &impl Abort, alloc: Global, row: &Row<'_>) -> Result<(), Fail> {
+    let name = row.name;
+    let plain = plain_longest_chain(alloc, row.start, row.bytes)?;
+    let fitting = fitting_len(plain.headers.as_slice());
+    let (mut read, mut number) = (0usize, row.start);
+    for header in plain.headers.iter().take(fitting) {
+        read = read.saturating_add(header.bytes.len());
+        number = header.bytes.first().copied().unwrap_or(number);
+    }
+    assert_eq!(rt; read, row.bytes.len().saturating_sub(row.rest), "{name}");
+    assert_eq!(rt; number, row.number, "{name}");
+    Ok(())
+}
+
 #[test]
 fn headers_in_their_places(rt: HostRuntime) -> Result<(), Fail> {
     let twice = Row {
@@ -111,7 +134,7 @@ fn headers_in_their_places(rt: HostRuntime) -> Result<(), Fail> {
         rest: 8,
         fault: None,
     };
-    check(&rt, &twice)?;
+    check(&rt, rt.alloc(), &twice)?;
     let both_sides = Row {
         name: "options before routing and behind it",
         start: 60,
@@ -123,7 +146,7 @@ fn headers_in_their_places(rt: HostRuntime) -> Result<(), Fail> {
         rest: 0,
         fault: None,
     };
-    check(&rt, &both_sides)?;
+    check(&rt, rt.alloc(), &both_sides)?;
     let final_only = Row {
         name: "options behind routing don't take the other place",
         start: 43,
@@ -135,7 +158,7 @@ fn headers_in_their_places(rt: HostRuntime) -> Result<(), Fail> {
         rest: 8,
         fault: None,
     };
-    check(&rt, &final_only)?;
+    check(&rt, rt.alloc(), &final_only)?;
     let no_headers = Row {
         name: "UDP goes on",
         start: 17,
@@ -145,7 +168,7 @@ fn headers_in_their_places(rt: HostRuntime) -> Result<(), Fail> {
         rest: 4,
         fault: None,
     };
-    check(&rt, &no_headers)
+    check(&rt, rt.alloc(), &no_headers)
 }
 
 #[test]
@@ -161,7 +184,7 @@ fn faults_in_places(rt: HostRuntime) -> Result<(), Fail> {
         rest: 0,
         fault: Some((late.clone()?, Layer::Ipv6HopByHopHeader)),
     };
-    check(&rt, &hop_by_hop_twice)?;
+    check(&rt, rt.alloc(), &hop_by_hop_twice)?;
     let no_bytes = Row {
         name: "no bytes at hop by hop options",
         start: 0,
@@ -171,7 +194,7 @@ fn faults_in_places(rt: HostRuntime) -> Result<(), Fail> {
         rest: 0,
         fault: missing(8, 0, Layer::Ipv6ExtHeader, 0, Layer::Ipv6HopByHopHeader),
     };
-    check(&rt, &no_bytes)?;
+    check(&rt, rt.alloc(), &no_bytes)?;
     let zero_len = Row {
         name: "an authentication header of length 0 behind options",
         start: 60,
@@ -181,7 +204,7 @@ fn faults_in_places(rt: HostRuntime) -> Result<(), Fail> {
         rest: 12,
         fault: Some((HeaderSliceError::Content(zero), Layer::IpAuthHeader)),
     };
-    check(&rt, &zero_len)?;
+    check(&rt, rt.alloc(), &zero_len)?;
     let late_hop_by_hop = Row {
         name: "hop by hop options behind a fragment header",
         start: 44,
@@ -191,7 +214,7 @@ fn faults_in_places(rt: HostRuntime) -> Result<(), Fail> {
         rest: 8,
         fault: Some((late, Layer::Ipv6HopByHopHeader)),
     };
-    check(&rt, &late_hop_by_hop)
+    check(&rt, rt.alloc(), &late_hop_by_hop)
 }
 
 #[test]
@@ -205,7 +228,7 @@ fn taken_places(rt: HostRuntime) -> Result<(), Fail> {
         rest: 3,
         fault: None,
     };
-    check(&rt, &short_and_taken)?;
+    check(&rt, rt.alloc(), &short_and_taken)?;
     let behind_taken = Row {
         name: "a fault behind a taken number isn't told",
         start: 44,
@@ -217,7 +240,7 @@ fn taken_places(rt: HostRuntime) -> Result<(), Fail> {
         rest: 16,
         fault: None,
     };
-    check(&rt, &behind_taken)?;
+    check(&rt, rt.alloc(), &behind_taken)?;
     let whole_and_taken = Row {
         name: "the whole chain has places, and its last number is taken",
         start: 44,
@@ -227,7 +250,7 @@ fn taken_places(rt: HostRuntime) -> Result<(), Fail> {
         rest: 0,
         fault: None,
     };
-    check(&rt, &whole_and_taken)
+    check(&rt, rt.alloc(), &whole_and_taken)
 }
 
 /// Hop by hop options, destination options, routing, fragment, authentication and destination options.
@@ -294,7 +317,7 @@ fn six_places_cut_at_each_byte(rt: HostRuntime) -> Result<(), Fail> {
                 missing(required, left, inner, read, layer)
             },
         };
-        check(&rt, &row)?;
+        check(&rt, rt.alloc(), &row)?;
     }
     Ok(())
 }

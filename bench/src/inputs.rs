@@ -164,6 +164,17 @@ pub fn full(len: usize) -> (u8, Vec<u8>) {
     (HOP_BY_HOP, bytes)
 }
 
+/// So many fragment headers, which lead to UDP.
+pub fn fragments(count: usize) -> Vec<u8> {
+    let mut random = Random::new(17);
+    let mut bytes = Vec::new();
+    for index in 0..count {
+        bytes.push(if index + 1 == count { UDP } else { FRAGMENT });
+        bytes.extend(random.bytes(7));
+    }
+    bytes
+}
+
 /// Bytes that are refused: why, the number of the header at which, and its bytes.
 pub fn refusals() -> Vec<(&'static str, u8, Vec<u8>)> {
     vec![

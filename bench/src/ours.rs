@@ -63,6 +63,7 @@ unsafe extern "C" {
         count: usize,
     ) -> u64;
 
+    pub fn ipexts_runs(start: u8, bytes: *const u8, len: usize) -> u64;
     pub fn ipexts_struct_next_header(bytes: *const u8, len: usize, at: usize, times: u32) -> u64;
     pub fn ipexts_struct_set_next_headers(
         bytes: *const u8,

@@ -14,6 +14,7 @@ const HIGHER_GOALS: &[(&str, &str, f64)] = &[
     ("lax, in full", "behind", 1.25),
     ("lax", "packet", 1.10),
     ("strict", "", 1.30),
+    ("runs of", "", 1.30),
     ("struct, next_header", "", 1.50),
     ("struct, set_next_headers", "", 3.50),
     ("struct, write with room", "", 1.90),

@@ -152,6 +152,7 @@ pub fn rows(seed: u64) -> Vec<Row> {
     rows.extend(borrowed_and_owned());
     rows.extend(written());
     rows.extend(struct_written());
+    rows.extend(runs());
     rows.extend(ipv4());
     rows
 }
@@ -553,6 +554,27 @@ fn struct_written() -> Vec<Row> {
         }));
     }
     rows
+}
+
+/// The runs of chains of fragment headers, one for each. The original has none: its side calls the struct parse
+/// again and again.
+fn runs() -> Vec<Row> {
+    [4usize, 1024, 2048, 4096]
+        .into_iter()
+        .map(|count| {
+            let bytes = inputs::fragments(count);
+            let calls = (CALLS / (count + 1)).max(2);
+            Row {
+                group: "runs",
+                name: format!("runs of {count} fragment headers"),
+                unit: "header",
+                units: calls * count,
+                ours: again(ours::ipexts_runs, inputs::FRAGMENT, bytes.clone(), calls),
+                original: again(original::runs, inputs::FRAGMENT, bytes, calls),
+                limit: None,
+            }
+        })
+        .collect()
 }
 
 /// A call that makes a header's bytes again and again.

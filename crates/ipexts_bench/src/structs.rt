@@ -2,7 +2,10 @@
 use crate::digest::{layer_code, of_bytes, of_fault, of_strict_fault, with};
 use crate::headers::of_written;
 use crate::parses::Parse;
-use ip_ext_chains::{IpAuthHeader, IpNumber, Ipv6Extensions, Ipv6FragmentHeader, Ipv6RawExtHeader};
+use ip_ext_chains::{
+    IpAuthHeader, IpNumber, Ipv6Extensions, Ipv6ExtensionsRuns, Ipv6FragmentHeader,
+    Ipv6RawExtHeader,
+};
 use std::alloc::Global;
 
 /// The lax parse into a struct, read in full.
@@ -162,4 +165,27 @@ pub extern "C" fn ipexts_struct_write_new(
         sum = with(sum, of_written(out.as_slice(), at));
     }
     sum
+}
+
+/// The runs of a chain, each read in full, and what stands behind the last.
+#[unsafe(no_mangle)]
+pub extern "C" fn ipexts_runs(start: u8, bytes: &[u8]) -> u64 {
+    let mut runs = Ipv6ExtensionsRuns::new(IpNumber(start), bytes);
+    let mut sum = 0;
+    while let Some(exts) = runs.next() {
+        sum = with(sum, of_run(&exts));
+    }
+    match runs.end() {
+        Some((number, rest, fault)) => {
+            let end = with(u64::from(number.0), of_bytes(rest));
+            with(with(sum, end), u64::from(fault.is_some()))
+        }
+        None => sum,
+    }
+}
+
+/// Every part of a run.
+#[inline(never)]
+fn of_run(exts: &Ipv6Extensions) -> u64 {
+    of_exts(exts)
 }

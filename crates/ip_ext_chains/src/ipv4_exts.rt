@@ -172,7 +172,8 @@ impl Ipv4Extensions {
             → IsIpv4Encoding start_ip_number.0 v b → self.now.auth ≡ v }
         ensures read_back { OnOk result (AppendsOne
             (IsIpv4ReadBack start_ip_number.0 self.now.auth) out.old.items out.new.items) }
-        ensures len { OnOk result (vec_len out.new ≡ vec_len out.old + len_of auth_len self.now.auth) }
+        ensures len { OnOk result
+            (vec_len out.new ≡ vec_len out.old + len_of auth_len self.now.auth) }
         ensures err { OnErr result (out.new.items ≡ out.old.items) }
         ensures full { IfErr result (λ e. OnIo e
             (vec_capacity out.old < vec_len out.old + len_of auth_len self.now.auth)) }

@@ -60,7 +60,8 @@ impl Ipv6Extensions {
     ) -> Result<(), HeaderWriteError>
         ensures ok { OnOk result (IsWritten self.now first.0 out.old.items out.new.items) }
         ensures len { OnOk result (vec_len out.new ≡ vec_len out.old + exts_len self.now) }
-        ensures read_again { OnOk result ((b r : List ℕ) (m : ℕ) → out.new.items ≡ out.old.items ++ b
+        ensures read_again { OnOk result ((b r : List ℕ) (m : ℕ)
+            → out.new.items ≡ out.old.items ++ b
             → IsWalkAnswer (held self.now) first.0 (leads m) → (IsExtensionNumber m → ⊥)
             → IsFittingAnswer first.0 (b ++ r) self.now m r None) }
         ensures cleared { OnOk result ((s : List ℕ) → AreBytes s

@@ -4,7 +4,7 @@ use ip_base::IpNumber;
 use ip_base::err::Layer;
 use ip_ext_chains::err::ip_auth;
 use ip_ext_chains::err::ipv6_exts::{HeaderError, HeaderSliceError};
-use ip_ext_chains::{Ipv6Extensions, Ipv6RawExtHeader, Ipv6RoutingExtensions};
+use ip_ext_chains::{Ipv6Extensions, Ipv6ExtensionsSlice, Ipv6RawExtHeader, Ipv6RoutingExtensions};
 use ip_ext_headers::{IpAuthHeaderSlice, Ipv6FragmentHeaderSlice, Ipv6RawExtHeaderSlice};
 use ip_spec::{fitting_len, plain_longest_chain};
 use std::alloc::Global;
@@ -105,6 +105,18 @@ fn check_parses(rt: &impl Abort, row: &Row<'_>) -> Result<(), Fail> {
         (Err(error), Some((expected, _))) => assert_eq!(rt; error, *expected, "{name}"),
         _ => assert!(rt; false, "{name}"),
     }
+    Ok(())
+}
+
+/// The slice parse answers the same number, rest and fault, where no number is taken.
+fn check_slice(rt: &impl Abort, row: &Row<'_>) -> Result<(), Fail> {
+    let name = row.name;
+    let (_, number, rest, fault) = Ipv6ExtensionsSlice::from_slice_lax(
+        IpNumber(row.start),
+        row.bytes,
+    );
+    assert_eq!(rt; (number.0, rest.len()), (row.number, row.rest), "{name}");
+    assert_eq!(rt; fault, row.fault, "{name}");
     Ok(())
 }
 
@@ -318,6 +330,7 @@ fn six_places_cut_at_each_byte(rt: HostRuntime) -> Result<(), Fail> {
             },
         };
         check(&rt, rt.alloc(), &row)?;
+        check_slice(&rt, &row)?;
     }
     Ok(())
 }

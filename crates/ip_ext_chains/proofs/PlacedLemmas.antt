@@ -5,10 +5,10 @@ use Rattle.std.specs.Option.{option_map}
 use Rattle.std.proofs.lemmas.Bool.{eqb-true}
 use Rattle.ip_spec.specs.FieldsOf.{raw_fields, fragment_fields, auth_fields}
 use Rattle.ip_spec.specs.Chain.{ExtHeader}
-use Rattle.ip_spec.specs.Places.{Place, hop_by_hop, destination, routing, fragment, authentication, final_destination, number_in, before_routing_header, after_routing_header, header_in, has_routing, place_of, is_taken, is_filled as chain_filled}
+use Rattle.ip_spec.specs.Places.{Place, hop_by_hop, destination, routing, fragment, authentication, final_destination, number_in, before_routing_header, after_routing_header, header_in, has_routing, place_of, is_taken, is_filled}
 use Rattle.ip_spec.proofs.FirstLemmas.{find_passes}
 use Rattle.ip_ext_chains.specs.Ipv6ExtensionSlice.{header_of}
-use Rattle.ip_ext_chains.specs.Places.{at, ArePlaced, place_in, is_filled, is_taken_in, raw_at, value_at, AreOfNumber}
+use Rattle.ip_ext_chains.specs.Places.{at, ArePlaced, place_in, is_filled_in, is_taken_in, raw_at, value_at, AreOfNumber}
 use Rattle.ip_ext_chains.specs.Ipv6Extensions.{raw_in, value_of}
 use Rattle.ip_ext_chains.specs.declared.ipv6_ext_slice.Ipv6ExtensionSlice.{Ipv6ExtensionSlice}
 use Rattle.ip_ext_chains.specs.declared.places.Places.{Places}
@@ -48,12 +48,12 @@ module _ (c : List ExtHeader) (v : Places Ipv6ExtensionSlice) (k : ArePlaced c v
   pub none_same : (p : Place) → at p v ≡ None → header_in p c ≡ None
   none_same p e = sym (k p) ∙ ap (option_map header_of) e
 
-  filled_alike : (o : Option Place) → is_filled o v ≡ chain_filled o c
+  filled_alike : (o : Option Place) → is_filled_in o v ≡ is_filled o c
   filled_alike (Some p) = filled_same p
   filled_alike None = refl
 
   pub taken_same : (m : ℕ) → is_taken_in v m ≡ is_taken m c
-  taken_same m = ap (λ b. not (m == 0) && b) (ap (λ o. is_filled o v) (place_same m) ∙ filled_alike (place_of m (has_routing c)))
+  taken_same m = ap (λ b. not (m == 0) && b) (ap (λ o. is_filled_in o v) (place_same m) ∙ filled_alike (place_of m (has_routing c)))
 
   of_number : (p : Place) (o : Option Ipv6ExtensionSlice) → option_map header_of o ≡ header_in p c → IfSome o (λ h. (header_of h).number ≡ number_in p)
   of_number p (Some h) e = in_place_number p c (header_of h) (sym e)

@@ -23,8 +23,8 @@ abbrev pub IsPut : {T : Type 0} → Place → T → Places T → Places T → Ty
 IsPut q x v w = (p : Place) → at p w ≡ (if index q == index p then Some x else at p v)
 
 -- w is v with nothing in place q
-abbrev pub IsTaken : {T : Type 0} → Place → Places T → Places T → Type 0
-IsTaken q v w = (p : Place) → at p w ≡ (if index q == index p then None else at p v)
+abbrev pub IsRemoved : {T : Type 0} → Place → Places T → Places T → Type 0
+IsRemoved q v w = (p : Place) → at p w ≡ (if index q == index p then None else at p v)
 
 -- the first place in which something stands
 abbrev pub first_in : {T : Type 0} → Places T → Option Place
@@ -34,13 +34,13 @@ first_in v = find (λ p. is_some (at p v)) places
 abbrev pub place_in : {T : Type 0} → Places T → ℕ → Option Place
 place_in v m = place_of m (is_some (at routing v))
 
-abbrev pub is_filled : {T : Type 0} → Option Place → Places T → Bool
-is_filled (Some p) v = is_some (at p v)
-is_filled None v = false
+abbrev pub is_filled_in : {T : Type 0} → Option Place → Places T → Bool
+is_filled_in (Some p) v = is_some (at p v)
+is_filled_in None v = false
 
 -- m isn't 0, and its place is filled
 abbrev pub is_taken_in : {T : Type 0} → Places T → ℕ → Bool
-is_taken_in v m = not (m == HOP_BY_HOP) && is_filled (place_in v m) v
+is_taken_in v m = not (m == HOP_BY_HOP) && is_filled_in (place_in v m) v
 
 -- p is the place of m, and nothing stands in it
 pub record IsFreePlace {T : Type 0} (m : ℕ) (p : Place) (v : Places T) : Type 0 where

@@ -68,7 +68,7 @@ pub(crate) struct Places<T> {
 }
 
 impl<T: Drop> Places<T> {
-    ghost use Rattle.ip_ext_chains.specs.Places.{at, IsVacant, IsPut, IsTaken, first_in, IsFreePlace, IsFilled, is_taken_in};
+    ghost use Rattle.ip_ext_chains.specs.Places.{at, IsVacant, IsPut, IsRemoved, first_in, IsFreePlace, IsFilled, is_taken_in};
 
     /// Nothing in any place.
     #[inline(always)]
@@ -141,7 +141,7 @@ impl<T: Drop> Places<T> {
     #[inline(always)]
     pub(crate) fn take(&mut self, place: Place) -> Option<T>
         ensures taken { result ≡ at (shown place) self.old }
-        ensures left { IsTaken (shown place) self.old self.new }
+        ensures left { IsRemoved (shown place) self.old self.new }
     {
         self.held[place.index()].take()
     }

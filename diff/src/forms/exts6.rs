@@ -1,6 +1,6 @@
 //! `exts6 N HEX`: the chain of IPv6 extension headers that begins the bytes.
-use super::{hex_of, number_and_bytes, Form};
-use crate::chains::{self, EXTENSIONS};
+use super::{chain_arguments, number_and_bytes, Form};
+use crate::chains::EXTENSIONS;
 use crate::faults::{push, push_ipv6_fault};
 use crate::named::Difference;
 use crate::random::Random;
@@ -14,12 +14,7 @@ impl Form for Exts6 {
     }
 
     fn arguments(&self, random: &mut Random) -> Vec<String> {
-        let upper = random.percent(10);
-        let longest = super::MAX_LINE_LEN - "exts6 255 ".len();
-        chains::asked(random, longest / 2)
-            .into_iter()
-            .map(|(number, bytes)| format!("{number} {}", hex_of(&bytes, upper)))
-            .collect()
+        chain_arguments(self.name(), random)
     }
 
     fn answer(&self, arguments: &str, answer: &mut String) -> Option<Vec<Difference>> {

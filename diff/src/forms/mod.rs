@@ -4,6 +4,7 @@ mod exts6;
 mod rewrite6;
 mod rewriteall6;
 
+use crate::chains;
 use crate::named::Difference;
 use crate::random::Random;
 
@@ -51,6 +52,17 @@ fn asked(forms: &[Box<dyn Form>], line: &[u8], answer: &mut String) -> Option<Ve
         .iter()
         .find(|form| form.name() == word)?
         .answer(arguments, answer)
+}
+
+/// A number and the digits of the bytes that follow it, for a form of this name that asks for a chain of IPv6
+/// extension headers.
+pub fn chain_arguments(name: &str, random: &mut Random) -> Vec<String> {
+    let upper = random.percent(10);
+    let longest = MAX_LINE_LEN - name.len() - " 255 ".len();
+    chains::asked(random, longest / 2)
+        .into_iter()
+        .map(|(number, bytes)| format!("{number} {}", hex_of(&bytes, upper)))
+        .collect()
 }
 
 /// Reads `N HEX`.

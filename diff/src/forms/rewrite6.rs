@@ -1,6 +1,5 @@
 //! `rewrite6 N HEX`: what of the IPv6 extension headers that begin the bytes has a place, as it is written.
-use super::{hex_of, number_and_bytes, Form};
-use crate::chains;
+use super::{chain_arguments, hex_of, number_and_bytes, Form};
 use crate::faults::{push, push_ipv6_fault};
 use crate::named::Difference;
 use crate::random::Random;
@@ -14,12 +13,7 @@ impl Form for Rewrite6 {
     }
 
     fn arguments(&self, random: &mut Random) -> Vec<String> {
-        let upper = random.percent(10);
-        let longest = super::MAX_LINE_LEN - "rewrite6 255 ".len();
-        chains::asked(random, longest / 2)
-            .into_iter()
-            .map(|(number, bytes)| format!("{number} {}", hex_of(&bytes, upper)))
-            .collect()
+        chain_arguments(self.name(), random)
     }
 
     fn answer(&self, arguments: &str, answer: &mut String) -> Option<Vec<Difference>> {

@@ -1,7 +1,7 @@
 //! `rewriteall6 N HEX`: the IPv6 extension headers that begin the bytes in as few structs as hold them, written one
 //! after the other. The original has no such iterator: its struct parse is called again where a place was taken.
-use super::{hex_of, number_and_bytes, Form};
-use crate::chains::{self, EXTENSIONS};
+use super::{chain_arguments, hex_of, number_and_bytes, Form};
+use crate::chains::EXTENSIONS;
 use crate::faults::{push, push_ipv6_fault};
 use crate::named::Difference;
 use crate::random::Random;
@@ -15,12 +15,7 @@ impl Form for RewriteAll6 {
     }
 
     fn arguments(&self, random: &mut Random) -> Vec<String> {
-        let upper = random.percent(10);
-        let longest = super::MAX_LINE_LEN - "rewriteall6 255 ".len();
-        chains::asked(random, longest / 2)
-            .into_iter()
-            .map(|(number, bytes)| format!("{number} {}", hex_of(&bytes, upper)))
-            .collect()
+        chain_arguments(self.name(), random)
     }
 
     fn answer(&self, arguments: &str, answer: &mut String) -> Option<Vec<Difference>> {

@@ -1,7 +1,6 @@
 -- The longest chain of IPv4 extension headers: one header, or none.
-use Rattle.std.proofs.Common.{◌≡◌, ◌≢◌, ℕ, List, [], ◌∷◌, ◌++◌, length, drop, refl, sym, ap, ◌∙◌, subst, true}
+use Rattle.std.proofs.Common.{◌≡◌, ℕ, List, [], ◌∷◌, ◌++◌, length, drop, refl, sym, ap, ◌∙◌, subst, true}
 use Rattle.std.specs.Prelude.{Option, Some, None}
-use Rattle.std.proofs.lemmas.Bool.{ne_eqb}
 use Rattle.std.proofs.lemmas.List.{append-nil}
 use Rattle.ip_base.specs.declared.len_source.LenSource.TheVariants.{Slice}
 use Rattle.ip_ext_headers.specs.declared.err.ip_auth.header_slice_error.HeaderSliceError.{HeaderSliceError}
@@ -56,9 +55,6 @@ pub answer_of_none : (n : ℕ) (s : List ℕ) (f : Option HeaderSliceError) → 
     → IsIpv4ChainAnswer n s [] n s f
 answer_of_none n s f none fault =
     subst (Answers n s [] n s f) (sym (ipv4_none n s none)) (record { value = refl; number = refl; rest = refl; fault = sym fault })
-
-pub answer_of_other : (n : ℕ) (s : List ℕ) → n ≢ 51 → IsIpv4ChainAnswer n s [] n s None
-answer_of_other n s other = answer_of_none n s None (λ e. absurd (other e)) (rw (ne_eqb n 51 other) refl)
 
 pub answer_of_fault : (n : ℕ) (s : List ℕ) (e : HeaderSliceError) → n ≡ 51 → ((b : List ℕ) → IsAuthHeader b → IsPrefix b s → ⊥) → auth_fault Slice (length s) 0 s ≡ Some e
     → IsIpv4ChainAnswer n s [] n s (Some e)

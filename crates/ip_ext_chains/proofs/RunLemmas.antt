@@ -8,10 +8,9 @@ use Rattle.std.proofs.lemmas.Iterator.Consumers.{YieldsList-from_shown}
 use Rattle.ip_spec.specs.Chain.{ExtHeader, bytes_of, IsChain}
 use Rattle.ip_spec.specs.Fits.{FitsPlaces, IsTaken}
 use Rattle.ip_spec.specs.Places.{Place, index, header_in, has_routing, place_of, is_taken}
-use Rattle.ip_spec.proofs.FitsLemmas.{fits_places}
 use Rattle.ip_spec.proofs.PlaceLemmas.{placed, fits_more, breaks_more, has_place, taken_told}
 use Rattle.ip_ext_chains.specs.Ipv6ExtensionSlice.{header_of}
-use Rattle.ip_ext_chains.specs.Places.{at, IsVacant, place_in, IsPut, IsFreePlace, is_taken_in, IsFilled, ArePlaced, AreOfNumber, value_at}
+use Rattle.ip_ext_chains.specs.Places.{at, place_in, IsPut, IsFreePlace, is_taken_in, IsFilled, ArePlaced, AreOfNumber, value_at}
 use Rattle.ip_ext_chains.specs.Longest.{longest_chain}
 use Rattle.ip_ext_chains.specs.Runs.{runs_from}
 use Rattle.ip_ext_chains.specs.Ipv6Extensions.{value_of}
@@ -24,7 +23,7 @@ use Rattle.ip_ext_chains.specs.declared.places.Places.{Places}
 use Rattle.ip_ext_chains.proofs.LongestLemmas.{longest_chain-least}
 use Rattle.ip_ext_chains.proofs.RunsOfLemmas.{runs_from-next}
 use Rattle.ip_ext_chains.proofs.FaultLemmas.{number_of}
-use Rattle.ip_ext_chains.proofs.PlacedLemmas.{none_in, mapped_if, filled_same, place_same, none_same, taken_same, value_placed, placed_numbers}
+use Rattle.ip_ext_chains.proofs.PlacedLemmas.{mapped_if, filled_same, place_same, none_same, taken_same, value_placed, placed_numbers}
 
 -- of the headers c those before `left` were put into the places
 pub record IsPlacing (c left : List ExtHeader) (v : Places Ipv6ExtensionSlice) : Type 0 where
@@ -32,9 +31,6 @@ pub record IsPlacing (c left : List ExtHeader) (v : Places Ipv6ExtensionSlice) :
   pub whole : c ≡ run ++ left
   pub fits : FitsPlaces run
   pub placed : ArePlaced run v
-
-pub placing_none : (c : List ExtHeader) (v : Places Ipv6ExtensionSlice) → IsVacant v → IsPlacing c c v
-placing_none c v none = record { run = []; whole = refl; fits = fits_places.empty; placed = λ p. ap (option_map header_of) (none p) ∙ sym (none_in p) }
 
 module _ (c : List ExtHeader) (m : ℕ) (h : ExtHeader) (left : List ExtHeader) (v : Places Ipv6ExtensionSlice) (chain : IsChain m (h ∷ left)) (k : IsPlacing c (h ∷ left) v) where
   number : m ≡ h.number

@@ -1,7 +1,7 @@
 -- Runs that are written one after the other: what was written and what the others spell is the whole chain.
 use Rattle.std.proofs.Common.{◌≡◌, ℕ, ◌+◌, ◌≤◌, List, [], ◌∷◌, ◌++◌, length, map, refl, ap, sym, ◌∙◌, arith, subst, append_assoc}
 use Rattle.std.specs.Prelude.{Some}
-use Rattle.std.proofs.lemmas.List.{append-nil, length-map}
+use Rattle.std.proofs.lemmas.List.{length-map}
 use Rattle.std.proofs.lemmas.List.Concat.{flat_map-append}
 use Rattle.ip_spec.specs.Runs.{joined}
 use Rattle.ip_spec.specs.Walk.{IsSpelling}
@@ -75,11 +75,3 @@ module _ (n : ℕ) (s : List ℕ) (r : Ipv6ExtensionsRuns) (m count : ℕ) (out 
             ∙ ap (λ l. out ++ l) (sym (flat_map-append (λ (h : ExtHeader). h.bytes) it.next (joined it.others)) ∙ ap (λ l. bytes_of (joined l)) (sym it.all))
             ∙ k.whole;
       }
-
-  pub rewriting_ends : IsRewriting n s r m count out → values_left r ≡ [] → (count ≡ length (runs_of n s)) × (out ≡ bytes_of (cleared_chain (longest_chain n s)))
-  rewriting_ends k none =
-      let S : List Ipv6Extensions → Type 0 = λ l. AreSpellings m l k.left in
-      let empty : k.left ≡ [] = none_spelled m k.left (subst S none k.spelled) in (
-        omega (arith, k.counted, ap length none),
-        sym (append-nil out) ∙ ap (λ l. out ++ bytes_of (joined l)) (sym empty) ∙ k.whole,
-      )

@@ -44,10 +44,6 @@ next_spelled : (m : ℕ) (x : Ipv6Extensions) (vs : List Ipv6Extensions) (ds : L
 next_spelled m x vs [] s = absurd s
 next_spelled m x vs (d ∷ ds) s = record { next = d; others = ds; all = refl; is = s.0; are = s.1 }
 
-none_spelled : (m : ℕ) (ds : List (List ExtHeader)) → AreSpellings m [] ds → ds ≡ []
-none_spelled m [] s = refl
-none_spelled m (d ∷ ds) s = absurd s
-
 module _ (n : ℕ) (s : List ℕ) (r : Ipv6ExtensionsRuns) (m count : ℕ) (out : List ℕ) where
   module _ (x : Ipv6Extensions) (vs : List Ipv6Extensions) (k : IsRewriting n s r m count out) (given : values_left r ≡ x ∷ vs) where
     split : IsNextSpelled m x vs k.left

@@ -125,7 +125,7 @@ impl Ipv6FragmentHeader {
     pub fn is_fragmenting_payload(&self) -> bool
         ensures { result ≡ is_fragment self.now.more_fragments self.now.fragment_offset }
     {
-        self.more_fragments || self.fragment_offset.value() != 0
+        self.more_fragments | (self.fragment_offset.value() != 0)
     }
 }
 

@@ -85,7 +85,8 @@ impl<'a> Ipv6FragmentHeaderSlice<'a> {
     pub fn is_fragmenting_payload(&self) -> bool
         ensures { result ≡ is_fragmenting (bytes self.now) }
     {
-        self.more_fragments() || self.fragment_offset().value() != 0
+        // Without a branch: in a flood of fragments no branch on the flag would be foreseen.
+        self.more_fragments() | (self.fragment_offset().value() != 0)
     }
 
     /// The same header, with fields of its own.

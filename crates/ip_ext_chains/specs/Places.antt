@@ -1,11 +1,10 @@
 -- What stands in each place.
 use Rattle.std.specs.Prelude.{◌≡◌, ◌==◌, ◌&&◌, ℕ, List, Bool, true, false, not, Option, Some, None, is_some, IfSome, get_or, if◌then◌else◌}
-use Rattle.std.specs.List.{find}
 use Rattle.std.specs.Option.{option_map}
 use Rattle.ip_spec.specs.Numbers.{HOP_BY_HOP}
 use Rattle.ip_spec.specs.Chain.{ExtHeader}
 use Rattle.ip_spec.specs.FieldsOf.{RawFields, raw_fields, fragment_fields, auth_fields}
-use Rattle.ip_spec.specs.Places.{Place, hop_by_hop, destination, routing, fragment, authentication, final_destination, places, index, number_in, place_of, header_in}
+use Rattle.ip_spec.specs.Places.{Place, hop_by_hop, destination, routing, fragment, authentication, final_destination, index, number_in, place_of, header_in}
 use Rattle.ip_ext_chains.specs.Ipv6ExtensionSlice.{header_of}
 use Rattle.ip_ext_chains.specs.declared.ipv6_ext_slice.Ipv6ExtensionSlice.{Ipv6ExtensionSlice}
 use Rattle.ip_ext_chains.specs.declared.ipv6_exts.Ipv6Extensions.{Ipv6Extensions}
@@ -21,14 +20,6 @@ IsVacant v = (p : Place) → at p v ≡ None
 -- w is v with x in place q
 abbrev pub IsPut : {T : Type 0} → Place → T → Places T → Places T → Type 0
 IsPut q x v w = (p : Place) → at p w ≡ (if index q == index p then Some x else at p v)
-
--- w is v with nothing in place q
-abbrev pub IsRemoved : {T : Type 0} → Place → Places T → Places T → Type 0
-IsRemoved q v w = (p : Place) → at p w ≡ (if index q == index p then None else at p v)
-
--- the first place in which something stands
-abbrev pub first_in : {T : Type 0} → Places T → Option Place
-first_in v = find (λ p. is_some (at p v)) places
 
 -- the place of a header of number m
 abbrev pub place_in : {T : Type 0} → Places T → ℕ → Option Place

@@ -31,7 +31,7 @@ impl<'a> Iterator for Ipv6ExtensionSliceIter<'a> {
         if self.rest.is_empty() {
             return None;
         }
-        // The bytes are whole headers, so a header goes on: `unwrap` tests nothing when it runs.
+        // The bytes are whole headers, so a header goes on.
         let header = header_at(true, self.next_header, self.rest).unwrap();
         self.next_header = header.next_header();
         self.rest = after(self.rest, header.slice().len());

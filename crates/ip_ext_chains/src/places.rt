@@ -68,7 +68,7 @@ pub(crate) struct Places<T> {
 }
 
 impl<T: Drop> Places<T> {
-    ghost use Rattle.ip_ext_chains.specs.Places.{at, IsVacant, IsPut, IsRemoved, first_in, IsFreePlace, IsFilled, is_taken_in};
+    ghost use Rattle.ip_ext_chains.specs.Places.{at, IsVacant, IsPut, IsFreePlace, IsFilled, is_taken_in};
 
     /// Nothing in any place.
     #[inline(always)]
@@ -127,45 +127,6 @@ impl<T: Drop> Places<T> {
         ensures { IsPut (shown place) value self.old self.new }
     {
         self.held[place.index()] = Some(value);
-    }
-
-    /// These in the places, in their order.
-    #[inline(always)]
-    pub(crate) fn all(held: [Option<T>; 6]) -> Places<T>
-        ensures { result.held ≡ held }
-    {
-        Places { held }
-    }
-
-    /// Takes out what is in the place.
-    #[inline(always)]
-    pub(crate) fn take(&mut self, place: Place) -> Option<T>
-        ensures taken { result ≡ at (shown place) self.old }
-        ensures left { IsRemoved (shown place) self.old self.new }
-    {
-        self.held[place.index()].take()
-    }
-
-    /// The first place in which something is.
-    #[inline(always)]
-    pub(crate) fn first(&self) -> Option<Place>
-        ensures { option_map shown result ≡ first_in self.now }
-    {
-        if self.get(Place::HopByHop).is_some() {
-            Some(Place::HopByHop)
-        } else if self.get(Place::Destination).is_some() {
-            Some(Place::Destination)
-        } else if self.get(Place::Routing).is_some() {
-            Some(Place::Routing)
-        } else if self.get(Place::Fragment).is_some() {
-            Some(Place::Fragment)
-        } else if self.get(Place::Authentication).is_some() {
-            Some(Place::Authentication)
-        } else if self.get(Place::FinalDestination).is_some() {
-            Some(Place::FinalDestination)
-        } else {
-            None
-        }
     }
 }
 

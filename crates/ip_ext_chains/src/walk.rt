@@ -1,31 +1,33 @@
 //! The walk along the next numbers of headers that stand in six places.
-ghost use Rattle.std.specs.Prelude.{◌≡◌, true, false, IfSome, IfNone};
+ghost use Rattle.std.specs.Prelude.{◌≡◌, true, false, Some, IfSome, IfNone};
 ghost use Rattle.std.specs.Option.{option_map};
 ghost use Rattle.ip_spec.specs.Walk.{first_filled, answer_at};
-ghost use Rattle.ip_spec.specs.Places.{Place as spec_place, raw_header, fragment_header, auth_header};
+ghost use Rattle.ip_spec.specs.WalkStep.{next_place};
+ghost use Rattle.ip_spec.specs.Places.{Place as spec_place, raw_header};
 ghost use Rattle.ip_ext_chains.specs.Place.{shown};
 ghost use Rattle.ip_ext_chains.specs.HeaderRef.{said};
-ghost use Rattle.ip_ext_chains.specs.Ipv6Extensions.{held, final_of};
+ghost use Rattle.ip_ext_chains.specs.Ipv6Extensions.{held};
 ghost use Rattle.ip_ext_chains.specs.Walk.{told, left_in, IsStep, IsStop};
 
+use crate::Ipv6Extensions;
 use crate::err::ipv6_exts::ExtsWalkError;
 use crate::header_ref::HeaderRef;
 use crate::places::{Place, Places};
-use crate::{Ipv6Extensions, Ipv6RoutingExtensions};
 use ip_base::{IpNumber, ip_number};
-use ip_ext_headers::{IpAuthHeader, Ipv6FragmentHeader, Ipv6RawExtHeader};
+use ip_ext_headers::Ipv6RawExtHeader;
 
-/// A walk. Each header that it reaches is taken out of its place, so that none is reached twice.
+/// A walk. Each place that it reaches is marked, so that none is reached twice.
 #[derive(Drop)]
 pub(crate) struct Walk<'a> {
-    left: Places<HeaderRef<'a>>,
+    headers: &'a Ipv6Extensions,
+    reached: Places<()>,
     number: IpNumber,
     first: bool,
     behind_routing: bool,
 }
 
 impl<'a> Walk<'a> {
-    /// From the number, with each header in its place.
+    /// From the number, with no header reached.
     #[inline(always)]
     pub(crate) fn new(headers: &'a Ipv6Extensions, start: IpNumber) -> Walk<'a>
         ensures left { (p : spec_place) → left_in result p ≡ held headers.now p }
@@ -33,16 +35,9 @@ impl<'a> Walk<'a> {
         ensures first { result.first ≡ true }
         ensures behind_routing { result.behind_routing ≡ false }
     {
-        let (routing, final_destination) = routing_refs(&headers.routing);
         Walk {
-            left: Places::all([
-                raw_ref(&headers.hop_by_hop_options),
-                raw_ref(&headers.destination_options),
-                routing,
-                fragment_ref(&headers.fragment),
-                auth_ref(&headers.auth),
-                final_destination,
-            ]),
+            headers,
+            reached: Places::new(),
             number: start,
             first: true,
             behind_routing: false,
@@ -58,12 +53,64 @@ impl<'a> Walk<'a> {
         if self.number == ip_number::IPV6_HOP_BY_HOP && !self.first {
             return None;
         }
-        let place = Place::of(self.number, self.behind_routing)?;
-        let header = self.left.take(place)?;
+        // Each arm goes on by itself, so that its place and layout are known when it is compiled.
+        match Place::of(self.number, self.behind_routing)? {
+            Place::HopByHop => self.reach(Place::HopByHop),
+            Place::Destination => self.reach(Place::Destination),
+            Place::Routing => self.reach(Place::Routing),
+            Place::Fragment => self.reach(Place::Fragment),
+            Place::Authentication => self.reach(Place::Authentication),
+            Place::FinalDestination => self.reach(Place::FinalDestination),
+        }
+    }
+
+    /// Reaches the header in the place of the number, where one is left there.
+    #[inline(always)]
+    fn reach(&mut self, place: Place) -> Option<HeaderRef<'a>>
+        requires own { next_place self.old.first self.old.behind_routing self.old.number.0
+            ≡ Some (shown place) }
+        ensures some { IfSome result (λ h. IsStep self.old self.new (said h)) }
+        ensures none { IfNone result (IsStop self.old self.new) }
+    {
+        let header = self.left(place)?;
+        self.reached.put(place, ());
         self.behind_routing = self.behind_routing || self.number == ip_number::IPV6_ROUTE;
         self.first = false;
         self.number = header.next_header();
         Some(header)
+    }
+
+    /// The header in the place, where it isn't reached yet.
+    #[inline(always)]
+    fn left(&self, place: Place) -> Option<HeaderRef<'a>>
+        ensures { option_map said result ≡ left_in self.now (shown place) }
+    {
+        if self.reached.get(place).is_some() {
+            return None;
+        }
+        header_in(self.headers, place)
+    }
+
+    /// The first place, in their order, whose header isn't reached.
+    #[inline(always)]
+    fn first_left(&self) -> Option<Place>
+        ensures { option_map shown result ≡ first_filled (left_in self.now) }
+    {
+        if self.left(Place::HopByHop).is_some() {
+            Some(Place::HopByHop)
+        } else if self.left(Place::Destination).is_some() {
+            Some(Place::Destination)
+        } else if self.left(Place::Routing).is_some() {
+            Some(Place::Routing)
+        } else if self.left(Place::Fragment).is_some() {
+            Some(Place::Fragment)
+        } else if self.left(Place::Authentication).is_some() {
+            Some(Place::Authentication)
+        } else if self.left(Place::FinalDestination).is_some() {
+            Some(Place::FinalDestination)
+        } else {
+            None
+        }
     }
 
     /// The number that was reached, where no header is left.
@@ -71,17 +118,44 @@ impl<'a> Walk<'a> {
     pub(crate) fn answer(&self) -> Result<IpNumber, ExtsWalkError>
         ensures { told result ≡ answer_at self.now.number.0 (left_in self.now) }
     {
-        match self.left.first() {
+        match self.first_left() {
             None => Ok(self.number),
             Some(_)
                 if self.number == ip_number::IPV6_HOP_BY_HOP
-                    && self.left.get(Place::HopByHop).is_some() => {
+                    && self.left(Place::HopByHop).is_some() => {
                 Err(ExtsWalkError::HopByHopNotAtStart)
             }
             Some(place) => Err(ExtsWalkError::ExtNotReferenced {
                 missing_ext: place.number(),
             }),
         }
+    }
+}
+
+/// The header in the place.
+#[inline(always)]
+fn header_in(headers: &Ipv6Extensions, place: Place) -> Option<HeaderRef<'_>>
+    ensures { option_map said result ≡ held headers.now (shown place) }
+{
+    match place {
+        Place::HopByHop => raw_ref(&headers.hop_by_hop_options),
+        Place::Destination => raw_ref(&headers.destination_options),
+        Place::Routing => match &headers.routing {
+            Some(routing) => Some(HeaderRef::Raw(&routing.routing)),
+            None => None,
+        },
+        Place::Fragment => match &headers.fragment {
+            Some(header) => Some(HeaderRef::Fragment(header)),
+            None => None,
+        },
+        Place::Authentication => match &headers.auth {
+            Some(header) => Some(HeaderRef::Authentication(header)),
+            None => None,
+        },
+        Place::FinalDestination => match &headers.routing {
+            Some(routing) => raw_ref(&routing.final_destination_options),
+            None => None,
+        },
     }
 }
 
@@ -92,44 +166,5 @@ fn raw_ref(header: &Option<Ipv6RawExtHeader>) -> Option<HeaderRef<'_>>
     match header {
         Some(header) => Some(HeaderRef::Raw(header)),
         None => None,
-    }
-}
-
-#[inline(always)]
-fn fragment_ref(header: &Option<Ipv6FragmentHeader>) -> Option<HeaderRef<'_>>
-    ensures { option_map said result ≡ option_map fragment_header header.now }
-{
-    match header {
-        Some(header) => Some(HeaderRef::Fragment(header)),
-        None => None,
-    }
-}
-
-#[inline(always)]
-fn auth_ref(header: &Option<IpAuthHeader>) -> Option<HeaderRef<'_>>
-    ensures { option_map said result ≡ option_map auth_header header.now }
-{
-    match header {
-        Some(header) => Some(HeaderRef::Authentication(header)),
-        None => None,
-    }
-}
-
-/// The routing header, and the destination options behind it.
-#[inline(always)]
-fn routing_refs(
-    headers: &Option<Ipv6RoutingExtensions>,
-) -> (Option<HeaderRef<'_>>, Option<HeaderRef<'_>>)
-    ensures routing { option_map said result.0
-        ≡ option_map (λ r. raw_header r.routing) headers.now }
-    ensures final_destination { option_map said result.1
-        ≡ option_map raw_header (final_of headers.now) }
-{
-    match headers {
-        Some(headers) => (
-            Some(HeaderRef::Raw(&headers.routing)),
-            raw_ref(&headers.final_destination_options),
-        ),
-        None => (None, None),
     }
 }

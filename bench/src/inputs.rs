@@ -148,7 +148,14 @@ pub fn regular(count: usize) -> (u8, Vec<u8>) {
 /// `len` bytes, the authentication header half of that and 8.
 pub fn full(len: usize) -> (u8, Vec<u8>) {
     let mut random = Random::new(13);
-    let numbers = [HOP_BY_HOP, DEST_OPTIONS, ROUTE, FRAGMENT, AUTH, DEST_OPTIONS];
+    let numbers = [
+        HOP_BY_HOP,
+        DEST_OPTIONS,
+        ROUTE,
+        FRAGMENT,
+        AUTH,
+        DEST_OPTIONS,
+    ];
     let mut bytes = Vec::new();
     for (index, number) in numbers.iter().enumerate() {
         let next = *numbers.get(index + 1).unwrap_or(&UDP);

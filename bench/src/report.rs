@@ -5,35 +5,35 @@ use std::collections::BTreeMap;
 /// The highest ratio that is allowed, but for the rows below.
 const GOAL: f64 = 1.0;
 
-/// Rows with a higher goal: how the name begins, what it has in it, and the goal; the first that fits counts.
+/// Rows with a goal of their own: how the name begins, what it has in it, and the goal; the first that fits counts.
 /// docs/DECISIONS.md has the reasons.
-const HIGHER_GOALS: &[(&str, &str, f64)] = &[
-    ("", "chain of 4096", 1.90),
-    ("lax", "chain of 64", 1.20),
+const OWN_GOALS: &[(&str, &str, f64)] = &[
+    ("lax, filter", "packet", 0.85),
+    ("", "chain of 4096", 1.30),
+    ("", "chain of 64", 1.25),
     ("lax, in full", "first", 1.25),
     ("lax, in full", "behind", 1.25),
-    ("lax", "packet", 1.10),
-    ("strict", "", 1.30),
-    ("runs of", "", 1.30),
-    ("struct, next_header", "", 1.50),
-    ("struct, set_next_headers", "", 3.50),
-    ("struct, write with room", "", 1.90),
+    ("strict", "packet", 1.05),
+    ("strict", "", 1.25),
+    ("runs of", "", 1.25),
+    ("struct, next_header", "", 1.45),
+    ("struct, set_next_headers", "", 1.20),
+    ("struct, write with room", "", 1.60),
     ("struct, strict", "at the first", 18.0),
-    ("struct, strict", "behind one", 2.00),
-    ("struct, strict", "chain of 0", 1.80),
-    ("struct, strict", "", 1.50),
-    ("IPv4, lax, in full", "cut short", 2.80),
-    ("IPv4, lax, in full", "", 2.10),
-    ("IPv4, lax, filter", "a header of", 1.25),
+    ("struct, strict", "behind one", 1.70),
+    ("struct, strict", "chain of 0", 1.60),
+    ("struct, strict", "", 1.45),
+    ("IPv4, lax, in full", "", 1.60),
+    ("IPv4, lax, filter", "a header of", 1.15),
     ("IPv4, strict", "", 1.30),
-    ("IPv4, owned, lax", "a header of", 1.45),
-    ("IPv4, owned, lax", "", 2.80),
+    ("IPv4, owned, lax", "a header of", 1.35),
+    ("IPv4, owned, lax", "", 2.30),
     ("IPv4, owned, strict", "no header", 1.95),
     ("IPv4, owned, strict", "", 1.25),
     ("IPv4, linked and written", "", 1.25),
     ("authentication header, to_bytes", "", 2.90),
     ("raw header, to_bytes", "", 1.90),
-    ("authentication header, write", "", 2.00),
+    ("authentication header, write", "", 1.70),
     ("raw header, write", "", 1.25),
     ("raw header", "", 1.30),
     ("fragment header", "", 1.25),
@@ -161,7 +161,7 @@ fn judge(lines: &[Line]) -> Judged {
     lines.iter().for_each(|other| line.join(other));
     let ratios: Vec<f64> = lines.iter().map(Line::ratio).collect();
     let count = lines.len() as f64;
-    let goal = HIGHER_GOALS
+    let goal = OWN_GOALS
         .iter()
         .find(|(begin, part, _)| line.name.starts_with(begin) && line.name.contains(part))
         .map_or(GOAL, |(_, _, goal)| *goal);

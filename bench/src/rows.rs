@@ -549,9 +549,11 @@ fn struct_written() -> Vec<Row> {
     ];
     let mut rows = Vec::new();
     for (name, ours, original) in calls {
-        rows.extend(full.iter().map(|(len, bytes)| {
-            repeated("walk, links, write", name, *len, bytes, ours, original)
-        }));
+        rows.extend(
+            full.iter().map(|(len, bytes)| {
+                repeated("walk, links, write", name, *len, bytes, ours, original)
+            }),
+        );
     }
     rows
 }

@@ -102,6 +102,21 @@ fn relink(exts: &mut Ipv6Extensions, time: u32) {
     }
 }
 
+/// Where the headers lead from number 0. A call by itself: else its tests are done once for all times.
+#[inline(never)]
+fn walk(exts: &Ipv6Extensions) -> u64 {
+    match exts.next_header(IpNumber(0)) {
+        Ok(number) => u64::from(number.0),
+        Err(_) => 256,
+    }
+}
+
+/// The number of the first header, linked to the others and to `last`. A call by itself, as well.
+#[inline(never)]
+fn link(exts: &mut Ipv6Extensions, last: u8) -> u64 {
+    u64::from(exts.set_next_headers(IpNumber(last)).0)
+}
+
 /// A walk through a struct that was read from number 0, `times` times, each time to another number.
 #[unsafe(no_mangle)]
 pub extern "C" fn ipexts_struct_next_header(bytes: &[u8], _at: usize, times: u32) -> u64 {
@@ -109,10 +124,7 @@ pub extern "C" fn ipexts_struct_next_header(bytes: &[u8], _at: usize, times: u32
     let mut sum = 0;
     for time in 0..times {
         relink(&mut exts, time);
-        sum = match exts.next_header(IpNumber(0)) {
-            Ok(number) => with(sum, u64::from(number.0)),
-            Err(_) => 0,
-        };
+        sum = with(sum, walk(&exts));
     }
     sum
 }
@@ -123,8 +135,7 @@ pub extern "C" fn ipexts_struct_set_next_headers(bytes: &[u8], _at: usize, times
     let (mut exts, _, _, _) = Ipv6Extensions::from_slice_lax(IpNumber(0), bytes);
     let mut sum = 0;
     for time in 0..times {
-        let first = exts.set_next_headers(IpNumber((time % 256) as u8));
-        sum = with(sum, u64::from(first.0));
+        sum = with(sum, link(&mut exts, (time % 256) as u8));
     }
     with(sum, of_exts(&exts))
 }

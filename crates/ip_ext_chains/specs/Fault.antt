@@ -1,7 +1,7 @@
 -- The fault where an IPv6 chain ends, and the layer at which it lies (RFC 8200, section 4).
-use Rattle.std.specs.Prelude.{ℕ, ◌+◌, ◌<◌, ◌^◌, List, length, Option, Some, None, ⊤, Bool, ◌==◌, if◌then◌else◌}
+use Rattle.std.specs.Prelude.{ℕ, ◌+◌, ◌<◌, ◌^◌, List, length, Option, Some, None, ⊤, Bool, ◌==◌, Result, Ok, Err, if◌then◌else◌}
 use Rattle.std.specs.Option.{option_map}
-use Rattle.ip_base.specs.LenError.{moved}
+use Rattle.ip_base.specs.LenError.{too_short, moved}
 use Rattle.ip_base.specs.declared.err.len_error.LenError.{LenError}
 use Rattle.ip_base.specs.declared.err.layer.Layer.{Layer}
 use Rattle.ip_base.specs.declared.err.layer.Layer.TheVariants.{Ipv6HopByHopHeader, Ipv6DestOptionsHeader, Ipv6RouteHeader, Ipv6FragHeader, IpAuthHeader}
@@ -13,6 +13,7 @@ use Rattle.ip_ext_headers.specs.Fault.{raw_fault, fragment_fault, auth_fault}
 use Rattle.ip_spec.specs.Numbers.{HOP_BY_HOP, ROUTING, FRAGMENT, AUTHENTICATION, DESTINATION_OPTIONS}
 use Rattle.ip_spec.specs.Chain.{leads_to, is_empty, bytes_of}
 use Rattle.ip_ext_chains.specs.Longest.{longest_chain, rest_after}
+use Rattle.ip_ext_chains.specs.declared.err.ipv6_exts.header_error.HeaderError.{HeaderError}
 use Rattle.ip_ext_chains.specs.declared.err.ipv6_exts.header_error.HeaderError.TheVariants.{HopByHopNotAtStart, IpAuth}
 use Rattle.ip_ext_chains.specs.declared.err.ipv6_exts.header_slice_error.HeaderSliceError.{HeaderSliceError}
 use Rattle.ip_ext_chains.specs.declared.err.ipv6_exts.header_slice_error.HeaderSliceError.TheVariants.{Len, Content}
@@ -51,6 +52,11 @@ slice_fault k first m r = fault_at Slice (length r) k first m r
 -- the fault where the longest chain from n that begins s ends
 abbrev pub chain_fault : ℕ → List ℕ → Option Fault
 chain_fault n s = slice_fault (length (bytes_of (longest_chain n s))) (is_empty (longest_chain n s)) (leads_to n (longest_chain n s)) (rest_after n s)
+
+-- the error that n bytes at offset k are fewer than a layer needs, or that a header says what it may not
+abbrev pub caused : ℕ → ℕ → Result (ℕ × Layer) HeaderError → HeaderSliceError
+caused k n (Ok (required, layer)) = Len (too_short Slice n k layer required)
+caused k n (Err e) = Content e
 
 -- the error told from k bytes further to the front, where that is a place
 abbrev pub exts_moved : ℕ → HeaderSliceError → HeaderSliceError

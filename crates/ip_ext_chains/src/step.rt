@@ -1,9 +1,9 @@
 //! The step from one header of an IPv6 chain to the next.
-ghost use Rattle.std.specs.Prelude.{◌≡◌, ◌≤◌, ◌+◌, ◌*◌, ◌↔◌, ◌==◌, length, drop, slice_index, nat_lt, if◌then◌else◌, IsTrue, Option, Some, IsSome, IfSome, IfNone};
+ghost use Rattle.std.specs.Prelude.{◌≡◌, ◌≤◌, ◌+◌, ◌*◌, ◌↔◌, ◌==◌, length, drop, slice_index, nat_lt, if◌then◌else◌, IsTrue, Option, Some, IsSome, IfSome, IfNone, ℕ};
 ghost use Rattle.std.specs.Option.{option_map};
 ghost use Rattle.ip_spec.specs.Header.{IsExtensionNumber};
 ghost use Rattle.ip_spec.specs.Chain.{IsNext, IsEnd};
-ghost use Rattle.ip_ext_chains.specs.Fault.{slice_fault};
+ghost use Rattle.ip_ext_chains.specs.Fault.{slice_fault, caused};
 ghost use Rattle.ip_ext_chains.specs.Ipv6ExtensionSlice.{header_of};
 
 use crate::Ipv6ExtensionSlice;
@@ -75,6 +75,26 @@ pub(crate) fn is_extension(number: IpNumber) -> bool
     )
 }
 
+/// What is wrong at an extension number with which no header goes on: how many bytes the header of which
+/// layer needs, or what it says. `first` tells that no header is before it.
+#[inline(always)]
+fn cause(first: bool, number: IpNumber, bytes: &[u8]) -> Result<(usize, Layer), HeaderError>
+    ensures { (k : ℕ) → IsSome (slice_fault k first number.0 bytes.now)
+        → option_map (λ f. f.0) (slice_fault k first number.0 bytes.now)
+        ≡ Some (caused k (length bytes.now) result) }
+{
+    match number {
+        ip_number::IPV6_HOP_BY_HOP if !first => Err(HeaderError::HopByHopNotAtStart),
+        ip_number::IPV6_FRAG => Ok((8, Layer::Ipv6FragHeader)),
+        ip_number::AUTH if bytes.len() < 12 => Ok((12, Layer::IpAuthHeader)),
+        ip_number::AUTH if bytes[1] == 0 => {
+            Err(HeaderError::IpAuth(ip_auth::HeaderError::ZeroPayloadLen))
+        }
+        ip_number::AUTH => Ok(((usize::from(bytes[1]) + 2) * 4, Layer::IpAuthHeader)),
+        _ => Ok((required_raw_len(bytes), Layer::Ipv6ExtHeader)),
+    }
+}
+
 /// What is wrong at an extension number with which no header goes on, where `bytes` are left and `offset`
 /// bytes are behind; `first` tells that no header is before it.
 #[inline(always)]
@@ -87,30 +107,20 @@ pub(crate) fn error_at(
     requires { IsSome (slice_fault offset first number.0 bytes.now) }
     ensures { option_map (λ f. f.0) (slice_fault offset first number.0 bytes.now) ≡ Some result }
 {
-    let (required_len, layer) = match number {
-        ip_number::IPV6_HOP_BY_HOP if !first => {
-            return HeaderSliceError::Content(HeaderError::HopByHopNotAtStart);
-        }
-        ip_number::IPV6_FRAG => (8, Layer::Ipv6FragHeader),
-        ip_number::AUTH if bytes.len() < 12 => (12, Layer::IpAuthHeader),
-        ip_number::AUTH if bytes[1] == 0 => {
-            let error = HeaderError::IpAuth(ip_auth::HeaderError::ZeroPayloadLen);
-            return HeaderSliceError::Content(error);
-        }
-        ip_number::AUTH => ((usize::from(bytes[1]) + 2) * 4, Layer::IpAuthHeader),
-        _ => (required_raw_len(bytes), Layer::Ipv6ExtHeader),
-    };
-    HeaderSliceError::Len(LenError {
-        required_len,
-        len: bytes.len(),
-        len_source: LenSource::Slice,
-        layer,
-        layer_start_offset: offset,
-    })
+    match cause(first, number, bytes) {
+        Err(error) => HeaderSliceError::Content(error),
+        Ok((required_len, layer)) => HeaderSliceError::Len(LenError {
+            required_len,
+            len: bytes.len(),
+            len_source: LenSource::Slice,
+            layer,
+            layer_start_offset: offset,
+        }),
+    }
 }
 
 /// The fault at an extension number with which no header goes on, as `error_at`, with its layer. It stands
-/// apart, since most chains end without one.
+/// apart, since most chains end without one; each kind of it is put together where it is handed out.
 #[cold]
 #[inline(never)]
 pub(crate) fn fault(first: bool, number: IpNumber, bytes: &[u8], offset: usize) -> Fault
@@ -124,7 +134,18 @@ pub(crate) fn fault(first: bool, number: IpNumber, bytes: &[u8], offset: usize) 
         ip_number::AUTH => Layer::IpAuthHeader,
         _ => Layer::Ipv6DestOptionsHeader,
     };
-    (error_at(first, number, bytes, offset), layer)
+    let (required_len, short) = match cause(first, number, bytes) {
+        Err(error) => return (HeaderSliceError::Content(error), layer),
+        Ok(cause) => cause,
+    };
+    let error = LenError {
+        required_len,
+        len: bytes.len(),
+        len_source: LenSource::Slice,
+        layer: short,
+        layer_start_offset: offset,
+    };
+    (HeaderSliceError::Len(error), layer)
 }
 
 /// How many bytes a header of the common layout needs: 8, where the bytes are too few to tell its own length.

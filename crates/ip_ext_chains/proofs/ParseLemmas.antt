@@ -29,13 +29,13 @@ pub record ParseState (n : ℕ) (s : List ℕ) (m : ℕ) (r : List ℕ) (flag : 
   pub fragmented : flag ≡ has_fragmenting chain
 
 -- one more header
-pub parse_goes_on : (n : ℕ) (s : List ℕ) (m : ℕ) (r : List ℕ) (flag : Bool) (h : ExtHeader) (k : ℕ) (q b : List ℕ) (more : Bool) → ParseState n s m r flag → IsNext (nat_eq (length r) (length s)) m r h
-    → k ≡ next_header h.bytes → b ≡ h.bytes → q ≡ drop (length b) r → more ≡ fragments h → ParseState n s k q (flag || more)
-parse_goes_on n s m r flag h k q b more p x ek eb eq em =
+pub parse_goes_on : (n : ℕ) (s : List ℕ) (m : ℕ) (r : List ℕ) (flag : Bool) (h : ExtHeader) (k : ℕ) (q b : List ℕ) (either : Bool) → ParseState n s m r flag → IsNext (nat_eq (length r) (length s)) m r h
+    → k ≡ next_header h.bytes → b ≡ h.bytes → q ≡ drop (length b) r → either ≡ (flag || fragments h) → ParseState n s k q either
+parse_goes_on n s m r flag h k q b either p x ek eb eq em =
     record {
       chain = p.chain ++ h ∷ [];
       read = has_read_on n s p.chain m r h k q b p.read x ek eb eq;
-      fragmented = ap (λ f. f || more) p.fragmented ∙ ap (λ f. has_fragmenting p.chain || f) em ∙ sym (has_fragmenting-more p.chain h);
+      fragmented = em ∙ ap (λ f. f || fragments h) p.fragmented ∙ sym (has_fragmenting-more p.chain h);
     }
 
 -- where no header goes on, the chain that was read is the longest

@@ -111,7 +111,7 @@ impl<'a> Ipv6ExtensionsSlice<'a> {
         let mut rest = bytes;
         let mut fragmented = false;
         'headers: while let Some(header) = header_at(rest.len() == bytes.len(), number, rest) {
-            fragmented |= header.is_fragmenting_payload();
+            fragmented = fragmented || header.is_fragmenting_payload();
             number = header.next_header();
             rest = after(rest, header.slice().len());
         }

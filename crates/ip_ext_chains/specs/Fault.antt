@@ -53,7 +53,7 @@ slice_fault k first m r = fault_at Slice (length r) k first m r
 abbrev pub chain_fault : ℕ → List ℕ → Option Fault
 chain_fault n s = slice_fault (length (bytes_of (longest_chain n s))) (is_empty (longest_chain n s)) (leads_to n (longest_chain n s)) (rest_after n s)
 
--- the error that n bytes at offset k are fewer than a layer needs, or that a header says what it may not
+-- the error at offset k, where n bytes are left, by its cause: a layer needs more, or what a header says is wrong
 abbrev pub caused : ℕ → ℕ → Result (ℕ × Layer) HeaderError → HeaderSliceError
 caused k n (Ok (required, layer)) = Len (too_short Slice n k layer required)
 caused k n (Err e) = Content e

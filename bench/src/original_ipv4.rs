@@ -1,8 +1,7 @@
 //! IPv4 extension headers by etherparse 0.19.0, with the same digests.
-use crate::original::{of_auth, of_auth_fault, of_bytes, of_owned_auth, of_written, with};
+use crate::original::{from_c, of_auth, of_auth_fault, of_bytes, of_owned_auth, of_written, with};
 use etherparse::err::ip_auth::HeaderSliceError;
 use etherparse::{ip_number, IpNumber, Ipv4Extensions, Ipv4ExtensionsSlice};
-use std::slice::from_raw_parts;
 
 #[inline(never)]
 fn of_slices(
@@ -38,7 +37,7 @@ fn of_end(number: IpNumber, rest: &[u8], fault: &Option<HeaderSliceError>) -> u6
 
 #[inline(never)]
 pub unsafe extern "C" fn lax(start: u8, bytes: *const u8, len: usize) -> u64 {
-    let bytes = unsafe { from_raw_parts(bytes, len) };
+    let bytes = unsafe { from_c(bytes, len) };
     let (headers, number, rest, fault) =
         Ipv4ExtensionsSlice::from_slice_lax(IpNumber(start), bytes);
     of_slices(&headers, number, rest, &fault)
@@ -46,7 +45,7 @@ pub unsafe extern "C" fn lax(start: u8, bytes: *const u8, len: usize) -> u64 {
 
 #[inline(never)]
 pub unsafe extern "C" fn strict(start: u8, bytes: *const u8, len: usize) -> u64 {
-    let bytes = unsafe { from_raw_parts(bytes, len) };
+    let bytes = unsafe { from_c(bytes, len) };
     match Ipv4ExtensionsSlice::from_slice(IpNumber(start), bytes) {
         Ok((headers, number, rest)) => of_slices(&headers, number, rest, &None),
         Err(fault) => of_auth_fault(&fault),
@@ -55,7 +54,7 @@ pub unsafe extern "C" fn strict(start: u8, bytes: *const u8, len: usize) -> u64 
 
 #[inline(never)]
 pub unsafe extern "C" fn filter(start: u8, bytes: *const u8, len: usize) -> u64 {
-    let bytes = unsafe { from_raw_parts(bytes, len) };
+    let bytes = unsafe { from_c(bytes, len) };
     let (_, number, rest, fault) = Ipv4ExtensionsSlice::from_slice_lax(IpNumber(start), bytes);
     let place = with(u64::from(number.0), rest.len() as u64);
     with(u64::from(fault.is_none()), place)
@@ -63,14 +62,14 @@ pub unsafe extern "C" fn filter(start: u8, bytes: *const u8, len: usize) -> u64 
 
 #[inline(never)]
 pub unsafe extern "C" fn owned_lax(start: u8, bytes: *const u8, len: usize) -> u64 {
-    let bytes = unsafe { from_raw_parts(bytes, len) };
+    let bytes = unsafe { from_c(bytes, len) };
     let (headers, number, rest, fault) = Ipv4Extensions::from_slice_lax(IpNumber(start), bytes);
     of_headers(&headers, number, rest, &fault)
 }
 
 #[inline(never)]
 pub unsafe extern "C" fn owned_strict(start: u8, bytes: *const u8, len: usize) -> u64 {
-    let bytes = unsafe { from_raw_parts(bytes, len) };
+    let bytes = unsafe { from_c(bytes, len) };
     match Ipv4Extensions::from_slice(IpNumber(start), bytes) {
         Ok((headers, number, rest)) => of_headers(&headers, number, rest, &None),
         Err(fault) => of_auth_fault(&fault),
@@ -79,7 +78,7 @@ pub unsafe extern "C" fn owned_strict(start: u8, bytes: *const u8, len: usize) -
 
 #[inline(never)]
 pub unsafe extern "C" fn write(bytes: *const u8, len: usize, at: usize, times: u32) -> u64 {
-    let bytes = unsafe { from_raw_parts(bytes, len) };
+    let bytes = unsafe { from_c(bytes, len) };
     let (mut headers, _, _, _) = Ipv4Extensions::from_slice_lax(ip_number::AUTH, bytes);
     let mut out = Vec::new();
     let mut sum = 0;

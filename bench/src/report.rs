@@ -26,7 +26,7 @@ const OWN_GOALS: &[(&str, &str, f64)] = &[
     ("struct, strict", "chain of 0", 1.60),
     ("struct, strict", "", 1.45),
     ("IPv4, lax, in full", "", 1.60),
-    ("IPv4, lax, filter", "", 1.15),
+    ("IPv4, lax, filter", "", 1.25),
     ("IPv4, strict", "", 1.30),
     ("IPv4, owned, lax", "a header of", 1.35),
     ("IPv4, owned, lax", "", 2.30),

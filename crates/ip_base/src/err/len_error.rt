@@ -4,8 +4,9 @@ use crate::LenSource;
 use crate::err::Layer;
 
 /// There were fewer bytes than a header or packet needs.
-// What is 0 most of the time stands apart from the padding, and the small fields where answers that share a
-// place with an error have one too: so no stretch is moved by loads that wait for several stores.
+// The order is for speed. Behind `layer` is padding, and what follows it is never a constant 0, with which it
+// would be cleared and moved as one stretch. Where a `Result` keeps an error or an answer in one place, the small
+// fields of both lie at the same offset.
 #[derive(Clone, Debug, PartialEq, Eq, Hash, Drop)]
 pub struct LenError {
     /// How many bytes are needed.

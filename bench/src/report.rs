@@ -8,7 +8,7 @@ const GOAL: f64 = 1.0;
 /// Rows with a goal of their own: how the name begins, what it has in it, and the goal; the first that fits counts.
 /// docs/DECISIONS.md has the reasons.
 const OWN_GOALS: &[(&str, &str, f64)] = &[
-    ("lax, filter", "packet", 0.85),
+    ("lax, filter", "packet", 0.90),
     ("", "chain of 4096", 1.20),
     ("", "chain of 64", 1.20),
     ("lax, in full", "first", 1.15),

@@ -8,6 +8,16 @@ pub const AUTH: u8 = 51;
 pub const DEST_OPTIONS: u8 = 60;
 const UDP: u8 = 17;
 
+/// The numbers of the six places, in their order.
+const PLACES: [u8; 6] = [
+    HOP_BY_HOP,
+    DEST_OPTIONS,
+    ROUTE,
+    FRAGMENT,
+    AUTH,
+    DEST_OPTIONS,
+];
+
 /// Packets one after the other.
 pub struct Packets {
     pub bytes: Vec<u8>,
@@ -64,21 +74,13 @@ fn numbers(random: &mut Random) -> Vec<u8> {
         85..95 => 3,
         _ => 4,
     };
-    let places = [
-        HOP_BY_HOP,
-        DEST_OPTIONS,
-        ROUTE,
-        FRAGMENT,
-        AUTH,
-        DEST_OPTIONS,
-    ];
     let mut chosen = [false; 6];
     while chosen.iter().filter(|chosen| **chosen).count() < count {
         // An authentication header and last options are rarer than the others.
         let place = random.below(6);
         chosen[place] |= place < 4 || random.percent(50);
     }
-    places
+    PLACES
         .iter()
         .zip(chosen)
         .filter(|(_, chosen)| *chosen)
@@ -148,17 +150,9 @@ pub fn regular(count: usize) -> (u8, Vec<u8>) {
 /// `len` bytes, the authentication header half of that and 8.
 pub fn full(len: usize) -> (u8, Vec<u8>) {
     let mut random = Random::new(13);
-    let numbers = [
-        HOP_BY_HOP,
-        DEST_OPTIONS,
-        ROUTE,
-        FRAGMENT,
-        AUTH,
-        DEST_OPTIONS,
-    ];
     let mut bytes = Vec::new();
-    for (index, number) in numbers.iter().enumerate() {
-        let next = *numbers.get(index + 1).unwrap_or(&UDP);
+    for (index, number) in PLACES.iter().enumerate() {
+        let next = *PLACES.get(index + 1).unwrap_or(&UDP);
         let (len, field) = match *number {
             FRAGMENT => (8, 0),
             AUTH => (len / 2 + 8, len / 8),

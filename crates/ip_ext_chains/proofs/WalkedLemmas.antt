@@ -1,6 +1,8 @@
 -- What a walk through a struct of six places has reached and written.
 use Rattle.std.proofs.Common.{◌≡◌, ℕ, ◌+◌, ◌<◌, ◌≤◌, List, [], ◌∷◌, ◌++◌, length, ap, sym, ◌∙◌, arith, subst, append_assoc, Bool, true, false}
+use Rattle.std.specs.Prelude.{Option, Some, None, IfSome, IfNone}
 use Rattle.std.proofs.lemmas.List.{append-nil}
+use Rattle.ip_spec.specs.Encoding.{AppendsOne}
 use Rattle.ip_spec.specs.Chain.{ExtHeader, bytes_of}
 use Rattle.ip_spec.specs.Places.{Place, number_in, header_in, HeaderFields}
 use Rattle.ip_spec.specs.Encodable.{IsEncoded, IsEncodable, fields_len, sum_held, held_len}
@@ -11,7 +13,9 @@ use Rattle.ip_spec.proofs.EncodedLemmas.{encoding_is}
 use Rattle.ip_spec.proofs.WalkStepLemmas.{Walking, walk_begins, walks_on, walk_stops, walk_answers, left_some, same_held}
 use Rattle.ip_spec.proofs.LinkLemmas.{next_said}
 use Rattle.ip_spec.proofs.SumLemmas.{sum_without}
+use Rattle.ip_ext_chains.specs.HeaderRef.{said}
 use Rattle.ip_ext_chains.specs.Walk.{left_in, IsStep, IsStop}
+use Rattle.ip_ext_chains.specs.declared.header_ref.HeaderRef.{HeaderRef}
 use Rattle.ip_ext_chains.specs.declared.walk.Walk.{Walk}
 
 -- some headers were reached from f and taken out of v, and w is the walk behind them
@@ -50,6 +54,12 @@ module _ (v : Held) (f : ℕ) (e : IsEncodable v) (old new : Walk) (x : HeaderFi
   pub walked_more : Walked v f new
   walked_more = record { reached = c ++ encoded.0 ∷ []; walking = step_walking }
 
+-- a place was asked: its header was reached, or the walk is as it was
+pub walked_in : (v : Held) (f : ℕ) → IsEncodable v → (old new : Walk) (r : Option HeaderRef) → IfSome r (λ h. IsStep old new (said h)) → IfNone r (new ≡ old)
+    → Walked v f old → Walked v f new
+walked_in v f e old new None some none k = subst (Walked v f) (sym none) k
+walked_in v f e old new (Some h) some none k = walked_more v f e old new (said h) some k.reached k.walking
+
 -- where none goes on, the walk has the answer of what is left
 pub walked_answer : (v : Held) (f : ℕ) (old new : Walk) (a : WalkAnswer) → Walked v f old → IsStop old new → a ≡ answer_at new.number.0 (left_in new) → IsWalkAnswer v f a
 walked_answer v f old new a k s e =
@@ -62,26 +72,42 @@ pub record Written (v : Held) (f : ℕ) (w : Walk) (before now : List ℕ) (room
   pub appended : now ≡ before ++ bytes_of reached
   pub fits : length now + held_len (left_in w) ≤ room
 
-module _ (v : Held) (f : ℕ) (e : IsEncodable v) (old new : Walk) (x : HeaderFields) (s : IsStep old new x) (before now more b : List ℕ) (room larger : ℕ) (k : Written v f old before now room) where
-  step_len : held_len (left_in new) + fields_len x ≡ held_len (left_in old)
-  step_len = sum_without fields_len (left_in old) (left_in new) s.place x s.there s.taken
+-- what a step takes out of what is left
+pub step_len : (old new : Walk) (x : HeaderFields) → IsStep old new x → held_len (left_in new) + fields_len x ≡ held_len (left_in old)
+step_len old new x s = sum_without fields_len (left_in old) (left_in new) s.place x s.there s.taken
 
-  -- the next header has room
-  pub written_room : length now + fields_len x ≤ room
-  written_room = omega (arith, k.fits, step_len)
+-- the next header has room
+pub written_room : (v : Held) (f : ℕ) (old new : Walk) (x : HeaderFields) → IsStep old new x → (before now : List ℕ) (room : ℕ) → Written v f old before now room → length now + fields_len x ≤ room
+written_room v f old new x s before now room k = omega (arith, k.fits, step_len old new x s)
 
-  pub written_more : IsEncodingOf x b → more ≡ now ++ b → length more ≡ length now + fields_len x → room ≤ larger → Written v f new before more larger
-  written_more is appended len grows =
-      let h = encoded v f e old new x s k.reached k.walking in
-      record {
-        reached = k.reached ++ h.0 ∷ [];
-        walking = step_walking v f e old new x s k.reached k.walking;
-        appended =
-            appended ∙ ap (λ l. l ++ b) k.appended ∙ append_assoc before (bytes_of k.reached) b
-            ∙ ap (λ l. before ++ (bytes_of k.reached ++ l)) (sym (encoding_is _ x h.0 b h.1 is))
-            ∙ ap (λ l. before ++ l) (sym (bytes_of-more k.reached h.0));
-        fits = omega (arith, k.fits, step_len, len, grows);
-      }
+-- its bytes were appended
+pub written_more : (v : Held) (f : ℕ) → IsEncodable v → (old new : Walk) (x : HeaderFields) → IsStep old new x → (before now more : List ℕ) (room larger : ℕ) → Written v f old before now room
+    → AppendsOne (IsEncodingOf x) now more → length more + held_len (left_in new) ≤ larger → Written v f new before more larger
+written_more v f e old new x s before now more room larger k a fits =
+    let h = encoded v f e old new x s k.reached k.walking in
+    record {
+      reached = k.reached ++ h.0 ∷ [];
+      walking = step_walking v f e old new x s k.reached k.walking;
+      appended =
+          a.2 ∙ ap (λ l. l ++ a.0) k.appended ∙ append_assoc before (bytes_of k.reached) a.0
+          ∙ ap (λ l. before ++ (bytes_of k.reached ++ l)) (sym (encoding_is _ x h.0 a.0 h.1 a.1))
+          ∙ ap (λ l. before ++ l) (sym (bytes_of-more k.reached h.0));
+      fits = fits;
+    }
+
+-- a place was asked: its header was reached and its bytes appended, or all is as it was
+pub written_in : (v : Held) (f : ℕ) → IsEncodable v → (old new : Walk) (before now more : List ℕ) (room larger : ℕ) (r : Option HeaderRef)
+    → IfSome r (λ h. IsStep old new (said h)) → IfSome r (λ h. AppendsOne (IsEncodingOf (said h)) now more) → IfNone r (new ≡ old) → IfNone r (more ≡ now)
+    → length more + held_len (left_in new) ≤ larger → Written v f old before now room → Written v f new before more larger
+written_in v f e old new before now more room larger None some appended none same fits k =
+    let W : Walk → Type 0 = λ w. Walking v f k.reached (left_in w) w.number.0 w.first w.behind_routing in
+    record { reached = k.reached; walking = subst W (sym none) k.walking; appended = same ∙ k.appended; fits = fits }
+written_in v f e old new before now more room larger (Some h) some appended none same fits k =
+    written_more v f e old new (said h) some before now more room larger k appended fits
+
+-- nothing is taken out of what a walk begins with
+pub left_len : (v : Held) (w : Walk) → ((p : Place) → left_in w p ≡ v p) → held_len (left_in w) ≡ held_len v
+left_len v w left = ap held_len (same_held (left_in w) v left)
 
 pub written_none : (v : Held) (f : ℕ) (w : Walk) → ((p : Place) → left_in w p ≡ v p) → w.number.0 ≡ f → w.first ≡ true → w.behind_routing ≡ false
     → (before now : List ℕ) (room : ℕ) → now ≡ before → length now + held_len v ≤ room → Written v f w before now room
@@ -90,7 +116,7 @@ written_none v f w left number first behind before now room same fits =
       reached = [];
       walking = walking_none v f w left number first behind;
       appended = same ∙ sym (append-nil before);
-      fits = omega (arith, fits, ap held_len (same_held (left_in w) v left));
+      fits = omega (arith, fits, left_len v w left);
     }
 
 -- where none goes on, the walk has the answer of what is left

@@ -1,19 +1,24 @@
-ghost use Rattle.std.specs.Prelude.{◌≡◌, ◌≤◌, ◌↔◌, ◌+◌, ◌++◌, ℕ, List, None, OnOk, IfErr, vec_len, vec_capacity};
+ghost use Rattle.std.specs.Prelude.{◌≡◌, ◌≤◌, ◌↔◌, ◌+◌, ◌++◌, ℕ, List, None, OnOk, IfErr, IfSome, IfNone, vec_len, vec_capacity};
 ghost use Rattle.ip_spec.specs.Header.{IsExtensionNumber};
-ghost use Rattle.ip_spec.specs.Encoding.{AreBytes};
+ghost use Rattle.ip_spec.specs.Encoding.{AreBytes, AppendsOne};
+ghost use Rattle.ip_spec.specs.Encodable.{held_len};
 ghost use Rattle.ip_spec.specs.Chain.{ExtHeader, bytes_of};
-ghost use Rattle.ip_spec.specs.Places.{Place, places};
+ghost use Rattle.ip_spec.specs.Places.{Place as spec_place, places};
 ghost use Rattle.ip_spec.specs.Encoded.{cleared_chain};
 ghost use Rattle.ip_spec.specs.Walk.{leads, IsSpelling, IsWalkAnswer};
 ghost use Rattle.ip_spec.specs.Links.{first_number, linked};
+ghost use Rattle.ip_spec.specs.WalkStep.{IsEncodingOf};
+ghost use Rattle.ip_ext_chains.specs.HeaderRef.{said};
 ghost use Rattle.ip_ext_chains.specs.Fitting.{fitting_chain, IsFittingAnswer};
 ghost use Rattle.ip_ext_chains.specs.Ipv6Extensions.{held, value_of, exts_len};
-ghost use Rattle.ip_ext_chains.specs.Walk.{told};
+ghost use Rattle.ip_ext_chains.specs.Walk.{told, left_in, IsStep};
 ghost use Rattle.ip_ext_chains.specs.Write.{IsReadWhole, IsWritten, IsNotWritten, IsFull};
 
 use crate::Ipv6Extensions;
 use crate::err::ipv6_exts::{ExtsWalkError, HeaderWriteError};
+use crate::header_ref::HeaderRef;
 use crate::links::{link_auth, link_final, link_fragment, link_raw, link_routing};
+use crate::places::Place;
 use crate::walk::Walk;
 use ip_base::IpNumber;
 use ip_base::ip_number::{IPV6_DEST_OPTIONS, IPV6_HOP_BY_HOP};
@@ -29,6 +34,13 @@ impl Ipv6Extensions {
     {
         self.encodable();
         let mut walk = Walk::new(self, first);
+        // Linked as they mostly are, in the order of the places, all are reached here.
+        let _ = walk.next_in(Place::HopByHop);
+        let _ = walk.next_in(Place::Destination);
+        let _ = walk.next_in(Place::Routing);
+        let _ = walk.next_in(Place::Fragment);
+        let _ = walk.next_in(Place::Authentication);
+        let _ = walk.next_in(Place::FinalDestination);
         'headers: while let Some(_) = walk.next() {}
         walk.answer()
     }
@@ -36,7 +48,7 @@ impl Ipv6Extensions {
     /// Leads each header to the next one that is there, in the order of the places, and the last to `last`. The
     /// answer is the number of the first, or `last` where there is none: walked from there, they lead to `last`.
     pub fn set_next_headers(&mut self, last: IpNumber) -> IpNumber
-        ensures links { (p : Place) → held self.new p ≡ linked (held self.old) last.0 p }
+        ensures links { (p : spec_place) → held self.new p ≡ linked (held self.old) last.0 p }
         ensures first { result.0 ≡ first_number (held self.old) places last.0 }
         ensures leads { IsWalkAnswer (held self.new) result.0 (leads last.0) }
     {
@@ -81,6 +93,12 @@ impl Ipv6Extensions {
             return Err(HeaderWriteError::Io(refused));
         }
         let mut walk = Walk::new(self, first);
+        let _ = append_next(&mut walk, Place::HopByHop, out);
+        let _ = append_next(&mut walk, Place::Destination, out);
+        let _ = append_next(&mut walk, Place::Routing, out);
+        let _ = append_next(&mut walk, Place::Fragment, out);
+        let _ = append_next(&mut walk, Place::Authentication, out);
+        let _ = append_next(&mut walk, Place::FinalDestination, out);
         'headers: while let Some(header) = walk.next() {
             header.append(out);
         }
@@ -89,4 +107,25 @@ impl Ipv6Extensions {
             Err(fault) => Err(HeaderWriteError::Content(fault)),
         }
     }
+}
+
+/// The next header of the walk, where it stands in the place: its bytes are appended.
+#[inline(always)]
+fn append_next<'a, A: Allocator>(
+    walk: &mut Walk<'a>,
+    place: Place,
+    out: &mut Vec<u8, A>,
+) -> Option<HeaderRef<'a>>
+    requires room { vec_len out.old + held_len (left_in walk.old) ≤ vec_capacity out.old }
+    ensures some { IfSome result (λ h. IsStep walk.old walk.new (said h)) }
+    ensures appended { IfSome result (λ h.
+        AppendsOne (IsEncodingOf (said h)) out.old.items out.new.items) }
+    ensures none { IfNone result (walk.new ≡ walk.old) }
+    ensures same { IfNone result (out.new.items ≡ out.old.items) }
+    ensures room { vec_len out.new + held_len (left_in walk.new) ≤ vec_capacity out.new }
+    ensures capacity { vec_capacity out.old ≤ vec_capacity out.new }
+{
+    let header = walk.next_in(place)?;
+    header.append(out);
+    Some(header)
 }

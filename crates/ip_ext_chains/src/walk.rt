@@ -1,5 +1,5 @@
 //! The walk along the next numbers of headers that stand in six places.
-ghost use Rattle.std.specs.Prelude.{◌≡◌, true, false, Some, IfSome, IfNone};
+ghost use Rattle.std.specs.Prelude.{◌≡◌, ◌↔◌, true, false, IsTrue, Some, IfSome, IfNone};
 ghost use Rattle.std.specs.Option.{option_map};
 ghost use Rattle.ip_spec.specs.Walk.{first_filled, answer_at};
 ghost use Rattle.ip_spec.specs.WalkStep.{next_place};
@@ -64,6 +64,33 @@ impl<'a> Walk<'a> {
         }
     }
 
+    /// The next header, where it stands in the place.
+    #[inline(always)]
+    pub(crate) fn next_in(&mut self, place: Place) -> Option<HeaderRef<'a>>
+        ensures some { IfSome result (λ h. IsStep self.old self.new (said h)) }
+        ensures none { IfNone result (self.new ≡ self.old) }
+    {
+        if !self.goes_on_in(place) {
+            return None;
+        }
+        self.reach(place)
+    }
+
+    /// Whether a header of the number stands in the place.
+    #[inline(always)]
+    fn goes_on_in(&self, place: Place) -> bool
+        ensures { IsTrue result ↔ (next_place self.now.first self.now.behind_routing
+            self.now.number.0 ≡ Some (shown place)) }
+    {
+        let is_own = match place {
+            Place::HopByHop => self.first,
+            Place::Destination => !self.behind_routing,
+            Place::FinalDestination => self.behind_routing,
+            Place::Routing | Place::Fragment | Place::Authentication => true,
+        };
+        is_own && self.number == place.number()
+    }
+
     /// Reaches the header in the place of the number, where one is left there.
     #[inline(always)]
     fn reach(&mut self, place: Place) -> Option<HeaderRef<'a>>
@@ -71,6 +98,7 @@ impl<'a> Walk<'a> {
             ≡ Some (shown place) }
         ensures some { IfSome result (λ h. IsStep self.old self.new (said h)) }
         ensures none { IfNone result (IsStop self.old self.new) }
+        ensures same { IfNone result (self.new ≡ self.old) }
     {
         let header = self.left(place)?;
         self.reached.put(place, ());

@@ -1,12 +1,19 @@
 use Rattle.ip_ext_chains.specs.Ipv6Extensions.{held}
-use Rattle.ip_ext_chains.proofs.WalkedLemmas.{walked_none, walked_more, walked_answer, step_less}
+use Rattle.ip_ext_chains.proofs.WalkedLemmas.{walked_none, walked_in, walked_more, walked_answer, step_less}
 use Rattle.ip_ext_chains.proofs.WriteLemmas.{answer_exactly}
 use Rattle.ip_ext_chains.proofs.ipv6_exts.Ipv6Extensions.next_header.Goals as goal
 
 pub headers-init : goal.headers-init
 headers-init c =
     let w = c.new-walk.ensures in
-    walked_none (held c.args.self.now) c.args.first.0 c.new-walk.result w.left w.number w.first w.behind_routing
+    let on = walked_in (held c.args.self.now) c.args.first.0 c.encodable.ensures in
+    on _ _ _ c.next_in-6.ensures.some c.next_in-6.ensures.none
+    (on _ _ _ c.next_in-5.ensures.some c.next_in-5.ensures.none
+    (on _ _ _ c.next_in-4.ensures.some c.next_in-4.ensures.none
+    (on _ _ _ c.next_in-3.ensures.some c.next_in-3.ensures.none
+    (on _ _ _ c.next_in-2.ensures.some c.next_in-2.ensures.none
+    (on _ _ _ c.next_in.ensures.some c.next_in.ensures.none
+    (walked_none (held c.args.self.now) c.args.first.0 c.new-walk.result w.left w.number w.first w.behind_routing))))))
 
 pub headers-smaller : goal.headers-smaller
 headers-smaller c = step_less c.headers.walk c.next.new.self _ c.in-Some.ensures.some

@@ -31,7 +31,7 @@ impl<'a> HeaderRef<'a> {
         }
     }
 
-    /// Appends its bytes, where there is room for them.
+    /// Appends its bytes, for which there is room.
     #[inline(always)]
     pub(crate) fn append<A: Allocator>(&self, out: &mut Vec<u8, A>)
         requires room { vec_len out.old + fields_len (said self.now) ≤ vec_capacity out.old }
@@ -39,11 +39,10 @@ impl<'a> HeaderRef<'a> {
         ensures len { vec_len out.new ≡ vec_len out.old + fields_len (said self.now) }
         ensures capacity { vec_capacity out.old ≤ vec_capacity out.new }
     {
-        // It isn't refused.
-        let _ = match self {
-            HeaderRef::Raw(header) => header.write(out),
-            HeaderRef::Fragment(header) => header.write(out),
-            HeaderRef::Authentication(header) => header.write(out),
-        };
+        match self {
+            HeaderRef::Raw(header) => header.write_reserved(out),
+            HeaderRef::Fragment(header) => header.write_reserved(out),
+            HeaderRef::Authentication(header) => header.write_reserved(out),
+        }
     }
 }

@@ -200,8 +200,24 @@ impl IpAuthHeader {
         ensures capacity { vec_capacity out.old ≤ vec_capacity out.new }
     {
         out.reserve(self.header_len())?;
-        out.extend_from_slice(&self.first_bytes())?;
-        out.extend_from_slice(self.raw_icv.as_slice())
+        self.write_reserved(out);
+        Ok(())
+    }
+
+    /// Appends the header's bytes, for which there is room.
+    #[inline(always)]
+    pub fn write_reserved<A: Allocator>(&self, out: &mut Vec<u8, A>)
+        requires room { vec_len out.old + auth_len self.now ≤ vec_capacity out.old }
+        ensures appended { AppendsOne (IsAuthEncoding self.now) out.old.items out.new.items }
+        ensures len { vec_len out.new ≡ vec_len out.old + auth_len self.now }
+        ensures capacity { vec_capacity out.old ≤ vec_capacity out.new }
+    {
+        // With room neither is refused.
+        let _ = out.extend_from_slice(&self.first_bytes());
+        let raw_icv = self.raw_icv.as_slice();
+        if !raw_icv.is_empty() {
+            let _ = out.extend_from_slice(raw_icv);
+        }
     }
 
     /// The number of the header's bytes, 12 to 1028.

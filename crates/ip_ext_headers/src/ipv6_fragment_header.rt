@@ -110,7 +110,20 @@ impl Ipv6FragmentHeader {
         ensures capacity { vec_capacity out.old ≤ vec_capacity out.new }
     {
         out.reserve(self.header_len())?;
-        out.extend_from_slice(&self.to_bytes())
+        self.write_reserved(out);
+        Ok(())
+    }
+
+    /// Appends the header's bytes, for which there is room.
+    #[inline(always)]
+    pub fn write_reserved<A: Allocator>(&self, out: &mut Vec<u8, A>)
+        requires room { vec_len out.old + 8 ≤ vec_capacity out.old }
+        ensures appended { AppendsOne (IsFragmentEncoding self.now) out.old.items out.new.items }
+        ensures len { vec_len out.new ≡ vec_len out.old + 8 }
+        ensures capacity { vec_capacity out.old ≤ vec_capacity out.new }
+    {
+        // With room it isn't refused.
+        let _ = out.extend_from_slice(&self.to_bytes());
     }
 
     /// The number of the header's bytes.

@@ -1,4 +1,4 @@
-ghost use Rattle.std.specs.Prelude.{◌≡◌, ◌≤◌, ◌<◌, ◌+◌, ◌*◌, ◌++◌, ◌↔◌, ◌⊎◌, ℕ, List, length, replicate, IsTrue, IsOk, OnOk, OnErr, IfOk, IfErr, vec_len, vec_capacity};
+ghost use Rattle.std.specs.Prelude.{◌≡◌, ◌≤◌, ◌<◌, ◌+◌, ◌*◌, ◌++◌, ◌↔◌, ◌⊎◌, ℕ, List, length, drop, replicate, IsTrue, IsOk, OnOk, OnErr, IfOk, IfErr, vec_len, vec_capacity};
 ghost use Rattle.ip_spec.specs.Prefix.{IsPrefix};
 ghost use Rattle.ip_spec.specs.Header.{IsRawHeader};
 ghost use Rattle.ip_spec.specs.FieldsOf.{raw_fields, raw_len};
@@ -181,9 +181,24 @@ impl Ipv6RawExtHeader {
         ensures capacity { vec_capacity out.old ≤ vec_capacity out.new }
     {
         out.reserve(self.header_len())?;
-        out.push_reserved(self.next_header.0);
-        out.push_reserved(self.hdr_ext_len());
-        out.extend_from_slice(self.payload.as_slice())
+        self.write_reserved(out);
+        Ok(())
+    }
+
+    /// Appends the header's bytes, for which there is room.
+    #[inline(always)]
+    pub fn write_reserved<A: Allocator>(&self, out: &mut Vec<u8, A>)
+        requires room { vec_len out.old + raw_len self.now ≤ vec_capacity out.old }
+        ensures appended { AppendsOne (IsRawEncoding self.now) out.old.items out.new.items }
+        ensures len { vec_len out.new ≡ vec_len out.old + raw_len self.now }
+        ensures capacity { vec_capacity out.old ≤ vec_capacity out.new }
+    {
+        // With room neither is refused.
+        let _ = out.extend_from_slice(&self.first_bytes());
+        let rest = &self.payload.as_slice()[6..];
+        if !rest.is_empty() {
+            let _ = out.extend_from_slice(rest);
+        }
     }
 
     /// The number of the header's bytes, 8 to 2048.
@@ -193,6 +208,24 @@ impl Ipv6RawExtHeader {
         ensures most { result ≤ 2048 }
     {
         self.payload.len() + 2
+    }
+
+    /// The first unit of 8 bytes, which each header has.
+    #[inline(always)]
+    fn first_bytes(&self) -> [u8; 8]
+        ensures { IsRawEncoding self.now (result ++ drop 6 self.now.payload) }
+    {
+        let payload = self.payload.as_slice();
+        [
+            self.next_header.0,
+            self.hdr_ext_len(),
+            payload[0],
+            payload[1],
+            payload[2],
+            payload[3],
+            payload[4],
+            payload[5],
+        ]
     }
 
     /// The units of 8 bytes after the first.

@@ -1,5 +1,5 @@
 //! Callers of the owned headers.
-ghost use Rattle.std.specs.Prelude.{◌≡◌, ◌≤◌, ◌+◌, IsTrue, IsOk, OnOk, vec_len, vec_capacity};
+ghost use Rattle.std.specs.Prelude.{◌≡◌, ◌≤◌, ◌+◌, IsTrue, IsOk, OnOk, OnErr, vec_len, vec_capacity};
 ghost use Rattle.ip_spec.specs.FieldsOf.{raw_len, auth_len};
 ghost use Rattle.ip_spec.specs.Encoding.{AppendsOne, IsRawEncoding};
 
@@ -64,6 +64,22 @@ pub fn write_three(
     raw.write(out)?;
     fragment.write(out)?;
     auth.write(out)
+}
+
+/// Appends the two headers, for both of which room is reserved at once: it refuses before anything is written.
+pub fn write_both(
+    raw: &Ipv6RawExtHeader,
+    auth: &IpAuthHeader,
+    out: &mut Vec<u8>,
+) -> Result<(), AllocError>
+    ensures len { OnOk result
+        (vec_len out.new ≡ vec_len out.old + raw_len raw.now + auth_len auth.now) }
+    ensures err { OnErr result (out.new.items ≡ out.old.items) }
+{
+    out.reserve(raw.header_len() + auth.header_len())?;
+    raw.write_reserved(out);
+    auth.write_reserved(out);
+    Ok(())
 }
 
 /// Whether the header's bytes are read as the header, with nothing behind it.

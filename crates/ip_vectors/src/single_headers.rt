@@ -336,6 +336,27 @@ fn write_takes_no_memory_where_room_is_reserved(rt: HostRuntime) -> Result<(), F
 }
 
 #[test]
+fn written_into_reserved_room(rt: HostRuntime) -> Result<(), Fail> {
+    let raw = Ipv6RawExtHeader::new_raw(
+        IpNumber(44),
+        &[1, 2, 3, 4, 5, 6, 7, 8, 9, 10, 11, 12, 13, 14],
+    )?;
+    let fragment = Ipv6FragmentHeader::new(IpNumber(51), IpFragOffset::try_new(1)?, true, 3);
+    let auth = IpAuthHeader::new(IpNumber(17), 1, 2, &[9, 8, 7, 6])?;
+    let mut out = Vec::new(rt.alloc());
+    out.reserve(raw.header_len() + fragment.header_len() + auth.header_len())?;
+    raw.write_reserved(&mut out);
+    fragment.write_reserved(&mut out);
+    auth.write_reserved(&mut out);
+    let expected = [
+        44, 1, 1, 2, 3, 4, 5, 6, 7, 8, 9, 10, 11, 12, 13, 14, 51, 0, 0, 0x81, 0, 0, 0, 3, 17, 2, 0,
+        0, 0, 0, 0, 1, 0, 0, 0, 2, 9, 8, 7, 6,
+    ];
+    assert_eq!(rt; out.as_slice(), expected.as_slice());
+    Ok(())
+}
+
+#[test]
 fn defaults_names_and_numbers(rt: HostRuntime) -> Result<(), Fail> {
     let raw: Ipv6RawExtensionHeader = Ipv6RawExtHeader::default();
     let bytes: ArrayVec<u8, 2048> = raw.to_bytes();

@@ -11,6 +11,8 @@ const OWN_GOALS: &[(&str, &str, f64)] = &[
     ("lax, filter", "packet", 0.90),
     ("", "chain of 4096", 1.20),
     ("", "chain of 64", 1.20),
+    ("lax, iterator", "chain of 4", 1.05),
+    ("lax, in full", "packet", 1.05),
     ("lax, in full", "first", 1.15),
     ("lax, in full", "behind", 1.15),
     ("strict", "packet", 1.05),

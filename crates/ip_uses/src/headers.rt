@@ -1,7 +1,7 @@
 //! Callers of the owned headers.
-ghost use Rattle.std.specs.Prelude.{◌≡◌, ◌≤◌, ◌+◌, IsTrue, IsOk, OnOk, OnErr, vec_len, vec_capacity};
+ghost use Rattle.std.specs.Prelude.{◌≡◌, ◌≤◌, ◌+◌, ℕ, List, IsTrue, IsOk, OnOk, OnErr, vec_len, vec_capacity};
 ghost use Rattle.ip_spec.specs.FieldsOf.{raw_len, auth_len};
-ghost use Rattle.ip_spec.specs.Encoding.{AppendsOne, IsRawEncoding};
+ghost use Rattle.ip_spec.specs.Encoding.{AppendsOne, IsRawEncoding, IsAuthEncoding};
 
 use arrayvec::ArrayVec;
 use ip_base::{IpFragOffset, IpNumber};
@@ -72,6 +72,9 @@ pub fn write_both(
     auth: &IpAuthHeader,
     out: &mut Vec<u8>,
 ) -> Result<(), AllocError>
+    ensures ok { OnOk result ((m : List ℕ)
+        × AppendsOne (IsRawEncoding raw.now) out.old.items m
+        × AppendsOne (IsAuthEncoding auth.now) m out.new.items) }
     ensures len { OnOk result
         (vec_len out.new ≡ vec_len out.old + raw_len raw.now + auth_len auth.now) }
     ensures err { OnErr result (out.new.items ≡ out.old.items) }

@@ -1,1 +1,2 @@
 pub mod EqualLemmas
+pub mod AuthLemmas

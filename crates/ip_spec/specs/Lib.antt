@@ -11,6 +11,7 @@ pub mod Decoding
 pub mod Requests
 pub mod Chain
 pub mod Demand
+pub mod Parse
 pub mod Fits
 pub mod Places
 pub mod Encoded

@@ -4,3 +4,4 @@ pub mod Ipv4Parse
 pub mod Ipv4Walk
 pub mod Ipv4ExtensionsSlice
 pub mod Ipv4Equal
+pub mod Ipv4Reading

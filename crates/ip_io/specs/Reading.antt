@@ -1,7 +1,7 @@
 -- Reading a header by requests: each asks for as many bytes as follow from those that came, and what was asked
 -- for is taken whole or refused. `Asks done count` tells that behind the bytes `done` count more are asked for.
 -- A limited read is a read of the window: it says the same, and what became of the limit.
-use Rattle.std.specs.Prelude.{ℕ, ◌≡◌, ◌+◌, ◌<◌, ◌≤◌, Bool, List, length, Option}
+use Rattle.std.specs.Prelude.{ℕ, ◌≡◌, ◌+◌, ◌<◌, ◌≤◌, Bool, List, ◌++◌, length, Option}
 use Rattle.std.specs.Io.KnownBytes.{Consumes}
 use Rattle.ip_base.specs.declared.err.layer.Layer.{Layer}
 use Rattle.ip_base.specs.declared.err.len_error.LenError.{LenError}
@@ -64,3 +64,10 @@ module _ {T : Type 0} (bytes_left : T → Option (List ℕ)) where
     abbrev pub IsRefusedInLayer : LimitedReadError → Type 0
     IsRefusedInLayer (Len e) = IsPastLimit e
     IsRefusedInLayer (Io e) = IsRefusedWithin
+
+-- Bytes were taken that are answered alike whatever is behind them: `Answers s rest` says so of bytes s, of which
+-- `rest` is left.
+pub record IsAnswerTaken (Answers : List ℕ → List ℕ → Type 0) (Taken : List ℕ → Type 0) : Type 0 where
+  pub bytes : List ℕ
+  pub taken : Taken bytes
+  pub answer : (rest : List ℕ) → Answers (bytes ++ rest) rest

@@ -1,7 +1,7 @@
 use Rattle.std.proofs.Common.{arith, [], List, ℕ, ap, refl, sym}
 use Rattle.std.proofs.lemmas.Result.{err_from_is_err_and}
 use Rattle.ip_base.specs.declared.err.layer.Layer.TheVariants.{Ipv6FragHeader}
-use Rattle.ip_spec.specs.Requests.{FragmentAsks, whole}
+use Rattle.ip_spec.specs.Requests.{FragmentAsks, fragment_whole}
 use Rattle.ip_io.proofs.ReadingLemmas.{taken_none, taken_more, refused_in_layer}
 use Rattle.ip_ext_headers.proofs.ipv6_fragment_header.Ipv6FragmentHeader.read_limited.Goals as goal
 
@@ -10,7 +10,7 @@ returns-in_err-read_exact-clause-refused g c =
     let p = err_from_is_err_and c.from_residual.result c.from_residual.ensures.1 in
     let t = taken_none g.T.ExactRead.bytes_left Ipv6FragHeader c.args.reader.now c.start_layer.new.self c.start_layer.ensures.reader c.start_layer.ensures.limits in
     rw (p.1, p.2) (refused_in_layer _ _ _ _ FragmentAsks _ _ _ [] _ _ t (ap g.T.ExactRead.is_steady c.start_layer.ensures.reader)
-    (ap g.T.ExactRead.has_failed c.start_layer.ensures.reader) (whole refl refl) c.in_err-read_exact.ensures.refuses c.in_err-read_exact.ensures.stays)
+    (ap g.T.ExactRead.has_failed c.start_layer.ensures.reader) (fragment_whole refl refl) c.in_err-read_exact.ensures.refuses c.in_err-read_exact.ensures.stays)
 
 pub returns-clause-header : goal.returns-clause-header
 returns-clause-header g c =

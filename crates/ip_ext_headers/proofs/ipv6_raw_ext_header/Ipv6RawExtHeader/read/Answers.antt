@@ -1,7 +1,7 @@
 use Rattle.std.proofs.Common.{rules, arith, ◌≡◌, ◌+◌, ◌*◌, ◌++◌, [], length, List, ℕ, ap, ◌∙◌, slice_index, refl, sym}
 use Rattle.std.proofs.KnownBytes.{Consumes-nil, Consumes-trans}
 use Rattle.arrayvec.proofs.ArrayVecLemmas.{items-with_items}
-use Rattle.ip_spec.specs.Requests.{RawAsks, first, rest}
+use Rattle.ip_spec.specs.Requests.{RawAsks, raw_start, raw_rest}
 use Rattle.ip_spec.proofs.RequestLemmas.{raw_joined, raw_joined_fields}
 use Rattle.ip_io.specs.Reading.{IsRefused}
 use Rattle.ip_io.proofs.ReadingLemmas.{refused_behind}
@@ -10,7 +10,7 @@ use Rattle.ip_ext_headers.proofs.ipv6_raw_ext_header.Ipv6RawExtHeader.read.Goals
 pub returns-in_err-read_exact-clause-refused : goal.returns-in_err-read_exact-clause-refused
 returns-in_err-read_exact-clause-refused g c =
     let t : IsRefused RawAsks (g.T.ExactRead.is_steady c.args.reader.now) (g.T.ExactRead.bytes_left c.args.reader.now) (g.T.ExactRead.has_failed c.read_exact.new.self) =
-    refused_behind RawAsks _ _ _ _ _ [] _ refl (Consumes-nil _) (first refl refl) c.in_err-read_exact.ensures.refuses in
+    refused_behind RawAsks _ _ _ _ _ [] _ refl (Consumes-nil _) (raw_start refl refl) c.in_err-read_exact.ensures.refuses in
     search rules
 
 pub returns-in_err-read_exact-2-clause-refused : goal.returns-in_err-read_exact-2-clause-refused
@@ -18,7 +18,7 @@ returns-in_err-read_exact-2-clause-refused g c =
     let h : List ℕ = c.read_exact.new.buf in
     let n : length c.as_mut_slice.result.now ≡ 8 * slice_index h 1 + 6 = omega (arith, ap length c.as_mut_slice.ensures.value) in
     let t : IsRefused RawAsks (g.T.ExactRead.is_steady c.args.reader.now) (g.T.ExactRead.bytes_left c.args.reader.now) (g.T.ExactRead.has_failed c.read_exact-2.new.self) =
-    refused_behind RawAsks _ _ _ _ _ h _ c.in_ok-read_exact.ensures.steady c.in_ok-read_exact.ensures.takes (rest (omega arith) n) c.in_err-read_exact-2.ensures.refuses in
+    refused_behind RawAsks _ _ _ _ _ h _ c.in_ok-read_exact.ensures.steady c.in_ok-read_exact.ensures.takes (raw_rest (omega arith) n) c.in_err-read_exact-2.ensures.refuses in
     search rules
 
 pub returns-clause-header : goal.returns-clause-header

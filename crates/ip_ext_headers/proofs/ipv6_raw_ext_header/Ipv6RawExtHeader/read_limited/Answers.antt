@@ -2,7 +2,7 @@ use Rattle.std.proofs.Common.{arith, ◌≡◌, ◌+◌, ◌*◌, ◌++◌, [], 
 use Rattle.std.proofs.lemmas.Result.{err_from_is_err_and}
 use Rattle.arrayvec.proofs.ArrayVecLemmas.{items-with_items}
 use Rattle.ip_base.specs.declared.err.layer.Layer.TheVariants.{Ipv6ExtHeader}
-use Rattle.ip_spec.specs.Requests.{RawAsks, first, rest}
+use Rattle.ip_spec.specs.Requests.{RawAsks, raw_start, raw_rest}
 use Rattle.ip_spec.proofs.RequestLemmas.{raw_joined, raw_joined_fields}
 use Rattle.ip_io.proofs.ReadingLemmas.{taken_none, taken_more, refused_in_layer}
 use Rattle.ip_ext_headers.proofs.ipv6_raw_ext_header.Ipv6RawExtHeader.read_limited.Goals as goal
@@ -12,7 +12,7 @@ returns-in_err-read_exact-clause-refused g c =
     let p = err_from_is_err_and c.from_residual.result c.from_residual.ensures.1 in
     let t = taken_none g.T.ExactRead.bytes_left Ipv6ExtHeader c.args.reader.now c.start_layer.new.self c.start_layer.ensures.reader c.start_layer.ensures.limits in
     rw (p.1, p.2) (refused_in_layer _ _ _ _ RawAsks _ _ _ [] _ _ t (ap g.T.ExactRead.is_steady c.start_layer.ensures.reader)
-    (ap g.T.ExactRead.has_failed c.start_layer.ensures.reader) (first refl refl) c.in_err-read_exact.ensures.refuses c.in_err-read_exact.ensures.stays)
+    (ap g.T.ExactRead.has_failed c.start_layer.ensures.reader) (raw_start refl refl) c.in_err-read_exact.ensures.refuses c.in_err-read_exact.ensures.stays)
 
 pub returns-in_err-read_exact-2-clause-refused : goal.returns-in_err-read_exact-2-clause-refused
 returns-in_err-read_exact-2-clause-refused g c =
@@ -22,7 +22,7 @@ returns-in_err-read_exact-2-clause-refused g c =
     let t = taken_none g.T.ExactRead.bytes_left Ipv6ExtHeader c.args.reader.now c.start_layer.new.self c.start_layer.ensures.reader c.start_layer.ensures.limits in
     let u = taken_more _ _ _ _ c.read_exact.new.self [] h _ t (omega arith) c.in_ok-read_exact.ensures.takes c.in_ok-read_exact.ensures.within c.in_ok-read_exact.ensures.limits in
     rw (p.1, p.2) (refused_in_layer _ _ _ _ RawAsks _ _ _ h _ _ u (c.in_ok-read_exact.ensures.steady ∙ ap g.T.ExactRead.is_steady c.start_layer.ensures.reader)
-    (c.in_ok-read_exact.ensures.kept ∙ ap g.T.ExactRead.has_failed c.start_layer.ensures.reader) (rest (omega arith) n) c.in_err-read_exact-2.ensures.refuses c.in_err-read_exact-2.ensures.stays)
+    (c.in_ok-read_exact.ensures.kept ∙ ap g.T.ExactRead.has_failed c.start_layer.ensures.reader) (raw_rest (omega arith) n) c.in_err-read_exact-2.ensures.refuses c.in_err-read_exact-2.ensures.stays)
 
 pub returns-clause-header : goal.returns-clause-header
 returns-clause-header g c =

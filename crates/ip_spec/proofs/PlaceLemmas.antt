@@ -52,7 +52,7 @@ pub same_place : (p q : Place) → index p ≡ index q → p ≡ q
 same_place p q e = sym (at_index p) ∙ ap place_at e ∙ at_index q
 
 -- of the two places of 60, it is the final one exactly behind a routing header
-final_behind : (behind : Bool) → place_of 60 behind ≡ Some final_destination → behind ≡ true
+pub final_behind : (behind : Bool) → place_of 60 behind ≡ Some final_destination → behind ≡ true
 final_behind true e = refl
 final_behind false e = let is : destination ≡ final_destination = cc in let no : 1 ≡ 5 = ap index is in absurd (omega (arith, no))
 

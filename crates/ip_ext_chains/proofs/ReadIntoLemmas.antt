@@ -69,6 +69,6 @@ module _ (Taken : List ℕ → Type 0) (v : Ipv6Extensions) {E : Type 0} (r : Re
     taken = k.taken;
     next = k.next;
     value =
-      ap (λ (p : Option RawFields). record v { routing = Some (record x { final_destination_options = p }) }) k.value
-      ∙ ap (λ (q : Option Ipv6RoutingExtensions). record v { routing = option_map {T = Ipv6RoutingExtensions} {U = Ipv6RoutingExtensions} (λ y. record y { final_destination_options = Some (raw_fields k.bytes) }) q }) (sym there);
+        ap (λ (p : Option RawFields). record v { routing = Some (record x { final_destination_options = p }) }) k.value
+        ∙ ap (λ (q : Option Ipv6RoutingExtensions). record v { routing = option_map {T = Ipv6RoutingExtensions} {U = Ipv6RoutingExtensions} (λ y. record y { final_destination_options = Some (raw_fields k.bytes) }) q }) (sym there);
   })

@@ -18,7 +18,7 @@ use Rattle.ip_spec.proofs.PrefixLemmas.{prefix_of-append}
 use Rattle.ip_spec.proofs.ChainLemmas.{no_chain, goes_on, leads_to-more}
 use Rattle.ip_spec.proofs.UnderLemmas.{some_longest_under, one_longest_under, longest_at_end_under}
 use Rattle.ip_spec.proofs.FitsLemmas.{fits_places}
-use Rattle.ip_spec.proofs.PlaceLemmas.{place_number, final_behind, placed, has_place, fits_more, taken_told}
+use Rattle.ip_spec.proofs.PlaceLemmas.{place_number, final_behind, is_extension, placed, has_place, fits_more, taken_told}
 use Rattle.ip_ext_slices.specs.Fault.{Fault, fault_at, chain_faults}
 use Rattle.ip_ext_slices.proofs.FaultLemmas.{end_at_other, no_fault_at_other, number_of}
 use Rattle.ip_ext_slices.proofs.RequestFaultLemmas.{fault_ends}
@@ -187,22 +187,22 @@ module _ (n : ℕ) (c : List ExtHeader) (m : ℕ) (v : Ipv6Extensions) (first : 
   pub no_place_answers : m ≢ 0 → HasNoPlace first m v → (x : List ℕ) → IsFittingAnswer n (bytes_of c ++ x) v m x None
   no_place_answers other none x = elim (place_or (place_of m (is_some v.routing))) [
     | inl e ↦
-      let own : place_of m (has_routing c) ≡ None = ap (place_of m) (sym (routing_there c v k.value)) ∙ e in
-      let free : is_taken (leads_to n c) c ≡ false =
-      ap (λ (j : ℕ). is_taken j c) (sym k.number) ∙ ap (λ (o : Option Place). not (m == 0) && is_filled o c) own ∙ and_false (not (m == 0)) in
-      let X : ℕ → Type 0 = IsExtensionNumber in
-      other_answers n c k.chain k.fits x v m k.value k.number free
-      (λ z. (let differ : false ≡ true = sym (ap is_some e) ∙ has_place m (is_some v.routing) (subst X (sym k.number) z) in cc))
+        let own : place_of m (has_routing c) ≡ None = ap (place_of m) (sym (routing_there c v k.value)) ∙ e in
+        let free : is_taken (leads_to n c) c ≡ false =
+        ap (λ (j : ℕ). is_taken j c) (sym k.number) ∙ ap (λ (o : Option Place). not (m == 0) && is_filled o c) own ∙ and_false (not (m == 0)) in
+        let X : ℕ → Type 0 = IsExtensionNumber in
+        other_answers n c k.chain k.fits x v m k.value k.number free
+        (λ z. (let differ : false ≡ true = sym (ap is_some e) ∙ has_place m (is_some v.routing) (subst X (sym k.number) z) in cc))
     | inr (p, e) ↦
-      let own : place_of m (has_routing c) ≡ Some p = ap (place_of m) (sym (routing_there c v k.value)) ∙ e in
-      elim (cases_Bool (is_some (held v p))) [
-        | inl there ↦
-          let taken : is_taken (leads_to n c) c ≡ true =
-          ap (λ (j : ℕ). is_taken j c) (sym k.number) ∙ ap (λ (o : Option Place). not (m == 0) && is_filled o c) own
-          ∙ ap (λ (b : Bool). not b && is_some (header_in p c)) (ne_eqb m 0 other) ∙ sym (filled c v k.value p) ∙ there in
-          taken_answers n c k.chain k.fits x v m k.value k.number taken
-        | inr free ↦ absurd (none p (record { own = e; free = free; zero_first = λ z. absurd (other z) }))
-      ]
+        let own : place_of m (has_routing c) ≡ Some p = ap (place_of m) (sym (routing_there c v k.value)) ∙ e in
+        elim (cases_Bool (is_some (held v p))) [
+          | inl there ↦
+              let taken : is_taken (leads_to n c) c ≡ true =
+              ap (λ (j : ℕ). is_taken j c) (sym k.number) ∙ ap (λ (o : Option Place). not (m == 0) && is_filled o c) own
+              ∙ ap (λ (b : Bool). not b && is_some (header_in p c)) (ne_eqb m 0 other) ∙ sym (filled c v k.value p) ∙ there in
+              taken_answers n c k.chain k.fits x v m k.value k.number taken
+          | inr free ↦ absurd (none p (record { own = e; free = free; zero_first = λ z. absurd (other z) }))
+        ]
   ]
 
   module _ (p : Place) (next : IsNextPlace first m p v) where
@@ -243,13 +243,13 @@ module _ (n : ℕ) (c : List ExtHeader) (m : ℕ) (v : Ipv6Extensions) (first : 
           fits = fits_more c h p k.fits own free_in;
           number = r.next ∙ sym (leads_to-more n c h);
           value = held_one w (value_of (c ++ h ∷ [])) (λ q.
-            ap (λ (u : Ipv6Extensions). held u q) r.value
-            ∙ put_held p q r.bytes v next.free nested
-            ∙ ap (λ (i : ℕ). if index p == index q then Some (fields_of (record { number = i; bytes = r.bytes })) else held v q) (sym is_number_in)
-            ∙ ap (λ (o : Option HeaderFields). if index p == index q then Some (fields_of h) else o) (ap (λ (u : Ipv6Extensions). held u q) k.value ∙ held-value_of c q)
-            ∙ sym (mapped_if fields_of (index p == index q) h (header_in q c))
-            ∙ ap (option_map fields_of) (sym (placed c h p own (none_of (header_in p c) free_in) q))
-            ∙ sym (held-value_of (c ++ h ∷ []) q));
+              ap (λ (u : Ipv6Extensions). held u q) r.value
+              ∙ put_held p q r.bytes v next.free nested
+              ∙ ap (λ (i : ℕ). if index p == index q then Some (fields_of (record { number = i; bytes = r.bytes })) else held v q) (sym is_number_in)
+              ∙ ap (λ (o : Option HeaderFields). if index p == index q then Some (fields_of h) else o) (ap (λ (u : Ipv6Extensions). held u q) k.value ∙ held-value_of c q)
+              ∙ sym (mapped_if fields_of (index p == index q) h (header_in q c))
+              ∙ ap (option_map fields_of) (sym (placed c h p own (none_of (header_in p c) free_in) q))
+              ∙ sym (held-value_of (c ++ h ∷ []) q));
           none_yet = more_first c h;
         }
 
@@ -297,10 +297,10 @@ module _ (n : ℕ) (c : List ExtHeader) (m : ℕ) (v : Ipv6Extensions) (first : 
   later zero_number none = elim (cases_Bool (is_empty c)) [
     | inr some ↦ some
     | inl start ↦ absurd (none hop_by_hop (record {
-        own = ap (λ (j : ℕ). place_of j (is_some v.routing)) zero_number;
-        free = filled c v k.value hop_by_hop ∙ ap (λ (d : List ExtHeader). is_some (header_in hop_by_hop d)) (empty_is c start);
-        zero_first = λ z. k.none_yet ∙ start;
-      }))
+      own = ap (λ (j : ℕ). place_of j (is_some v.routing)) zero_number;
+      free = filled c v k.value hop_by_hop ∙ ap (λ (d : List ExtHeader). is_some (header_in hop_by_hop d)) (empty_is c start);
+      zero_first = λ z. k.none_yet ∙ start;
+    }))
   ]
 
   pub zero_not_taken : m ≡ 0 → is_taken (leads_to n c) c ≡ false
@@ -309,3 +309,10 @@ module _ (n : ℕ) (c : List ExtHeader) (m : ℕ) (v : Ipv6Extensions) (first : 
   -- the first header's number is the one from which the chain begins
   pub nothing_read : (IsExtensionNumber n → ⊥) → c ≡ []
   nothing_read other = none_from n c k.chain other
+
+  -- so where a header is named, the first number names one
+  pub named : (p : Place) → IsNextPlace first m p v → (IsExtensionNumber n → ⊥) → ⊥
+  named p next other =
+      let X : ℕ → Type 0 = IsExtensionNumber in
+      let starts : m ≡ n = k.number ∙ ap (leads_to n) (nothing_read other) in
+      other (subst X (sym (is_number_in n c m v first k p next) ∙ starts) (is_extension p))

@@ -1,5 +1,5 @@
 -- Reading a chain, one header behind the other, each by its requests.
-use Rattle.std.specs.Prelude.{ℕ, ◌≡◌, ◌≤◌, ◌==◌, Bool, true, false, IsTrue, List, [], ◌∷◌, ◌++◌, length, Option, Some, None, is_some, if◌then◌else◌}
+use Rattle.std.specs.Prelude.{ℕ, ◌≡◌, ◌+◌, ◌==◌, Bool, true, false, IsTrue, List, [], ◌∷◌, ◌++◌, length, Option, Some, None, is_some, if◌then◌else◌}
 use Rattle.std.specs.Option.{option_map}
 use Rattle.std.specs.Io.KnownBytes.{Consumes}
 use Rattle.ip_base.specs.declared.err.layer.Layer.{Layer}
@@ -65,7 +65,7 @@ module _ {T : Type 0} (bytes_left : T → Option (List ℕ)) (is_steady has_fail
 
   -- the same within the limit, each in a layer of its own
   pub record AreTakenInLayers (old new : LimitedReader T) (c : List ExtHeader) : Type 0 where
-    pub within : length (bytes_of c) ≤ left (limits_of old)
+    pub left_over : left (limits_of new) + length (bytes_of c) ≡ left (limits_of old)
     pub limits : limits_of new ≡ limits_behind c (limits_of old)
     pub bytes : Consumes (bytes_left (inner_of old)) (bytes_left (inner_of new)) (bytes_of c)
     pub window : Consumes (window bytes_left old) (window bytes_left new) (bytes_of c)

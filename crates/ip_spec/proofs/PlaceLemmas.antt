@@ -234,7 +234,7 @@ module _ (m : ℕ) (c : List ExtHeader) where
       | inr l ↦ absurd (let differ : true ≡ false = sym some ∙ filled_told p c ∙ le-ltb 0 (how_many p c) l in cc)
     ]
 
-is_extension : (p : Place) → IsExtensionNumber (number_in p)
+pub is_extension : (p : Place) → IsExtensionNumber (number_in p)
 is_extension hop_by_hop = inl (inl refl)
 is_extension routing = inl (inr (inl refl))
 is_extension destination = inl (inr (inr refl))

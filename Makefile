@@ -1,9 +1,10 @@
-# `make run` answers the lines of standard input; `make test` tries the program and passes the merge gate;
+# `make run` answers the lines of standard input; `make try` answers some lines within seconds, with checks as they
+# run in place of proofs, which it tells on standard error; `make test` tries the program and passes the merge gate;
 # `make mutants` tries the wrong bodies of mutants/ (CRATE=NAME: those of one crate; ONLY=WORD: those whose names
 # have the word). `make bench` measures and `make diff` compares against etherparse 0.19.0; `make diff-test` tests
 # the comparison. These three take CARGO_FLAGS="..", further flags for Cargo, as one that says where the crate lies
 # on a machine without a network.
-.PHONY: run test mutants bench diff diff-test
+.PHONY: run try test mutants bench diff diff-test
 .SILENT:
 
 RT_IS_THERE = command -v rt >/dev/null || { \
@@ -12,6 +13,11 @@ RT_IS_THERE = command -v rt >/dev/null || { \
 run:
 	$(RT_IS_THERE)
 	cd crates/ipexts && rt run
+
+try:
+	$(RT_IS_THERE)
+	echo "Nothing is proved here: the program is built with checks in place of proofs." >&2
+	cd crates/ipexts && rt try
 
 test:
 	$(RT_IS_THERE)

@@ -1,5 +1,6 @@
 # `make run` answers the lines of standard input; `make try` answers some lines within seconds, with checks as they
-# run in place of proofs, which it tells on standard error; `make test` tries the program and passes the merge gate;
+# run in place of proofs, which it tells on standard error; `make test` holds the listed contracts against the
+# code, tries the program and passes the merge gate;
 # `make mutants` tries the wrong bodies of mutants/ (CRATE=NAME: those of one crate; ONLY=WORD: those whose names
 # have the word). `make bench` measures and `make diff` compares against etherparse 0.19.0; `make diff-test` tests
 # the comparison. These three take CARGO_FLAGS="..", further flags for Cargo, as one that says where the crate lies
@@ -9,6 +10,9 @@
 
 RT_IS_THERE = command -v rt >/dev/null || { \
 	echo "The Rattle toolchain is missing: its command 'rt' has to be on the PATH." >&2; exit 1; }
+
+PYTHON_IS_THERE = command -v python3 >/dev/null || { \
+	echo "Python is missing: its command 'python3' has to be on the PATH." >&2; exit 1; }
 
 run:
 	$(RT_IS_THERE)
@@ -21,13 +25,14 @@ try:
 
 test:
 	$(RT_IS_THERE)
+	$(PYTHON_IS_THERE)
+	scripts/check-calling
 	scripts/test-main
 	rt ci
 
 mutants:
 	$(RT_IS_THERE)
-	command -v python3 >/dev/null || { \
-		echo "Python is missing: its command 'python3' has to be on the PATH." >&2; exit 1; }
+	$(PYTHON_IS_THERE)
 	scripts/mutants $(if $(CRATE),--crate $(CRATE)) $(if $(ONLY),--only $(ONLY))
 
 SEED = 1

@@ -9,20 +9,20 @@ use Rattle.ip_spec.specs.Chain.{ExtHeader, bytes_of, IsChain}
 use Rattle.ip_spec.specs.Fits.{FitsPlaces, IsTaken}
 use Rattle.ip_spec.specs.Places.{Place, index, header_in, has_routing, place_of, is_taken}
 use Rattle.ip_spec.proofs.PlaceLemmas.{placed, fits_more, breaks_more, has_place, taken_told}
-use Rattle.ip_ext_chains.specs.Ipv6ExtensionSlice.{header_of}
+use Rattle.ip_ext_slices.specs.Ipv6ExtensionSlice.{header_of}
 use Rattle.ip_ext_chains.specs.Places.{at, place_in, IsPut, IsFreePlace, is_taken_in, IsFilled, ArePlaced, AreOfNumber, value_at}
-use Rattle.ip_ext_chains.specs.Longest.{longest_chain}
+use Rattle.ip_ext_slices.specs.Longest.{longest_chain}
 use Rattle.ip_ext_chains.specs.Runs.{runs_from}
 use Rattle.ip_ext_chains.specs.Ipv6Extensions.{value_of}
 use Rattle.ip_ext_chains.specs.Run.{IsRun}
 use Rattle.ip_ext_chains.specs.Ipv6ExtensionsRuns.{values_left, GivesRun}
 use Rattle.ip_ext_chains.specs.declared.ipv6_exts_runs.Ipv6ExtensionsRuns.{Ipv6ExtensionsRuns}
-use Rattle.ip_ext_chains.specs.declared.ipv6_ext_slice.Ipv6ExtensionSlice.{Ipv6ExtensionSlice}
+use Rattle.ip_ext_slices.specs.declared.ipv6_ext_slice.Ipv6ExtensionSlice.{Ipv6ExtensionSlice}
 use Rattle.ip_ext_chains.specs.declared.ipv6_exts.Ipv6Extensions.{Ipv6Extensions}
 use Rattle.ip_ext_chains.specs.declared.places.Places.{Places}
-use Rattle.ip_ext_chains.proofs.LongestLemmas.{longest_chain-least}
+use Rattle.ip_ext_slices.proofs.LongestLemmas.{longest_chain-least}
 use Rattle.ip_ext_chains.proofs.RunsOfLemmas.{runs_from-next}
-use Rattle.ip_ext_chains.proofs.FaultLemmas.{number_of}
+use Rattle.ip_ext_slices.proofs.FaultLemmas.{number_of}
 use Rattle.ip_ext_chains.proofs.PlacedLemmas.{mapped_if, filled_same, place_same, none_same, taken_same, value_placed, placed_numbers}
 
 -- of the headers c those before `left` were put into the places

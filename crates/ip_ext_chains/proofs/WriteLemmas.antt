@@ -6,6 +6,7 @@ use Rattle.std.proofs.lemmas.List.{append-nil, append_cancel_left, length-append
 use Rattle.std.proofs.lemmas.List.Elements.{All-take}
 use Rattle.std.proofs.lemmas.Bool.{cases_Bool}
 use Rattle.ip_spec.specs.Header.{IsExtensionNumber}
+use Rattle.ip_spec.specs.Parse.{rest_behind, fault_behind}
 use Rattle.ip_spec.specs.Encoding.{AreBytes}
 use Rattle.ip_spec.specs.Chain.{ExtHeader, leads_to, bytes_of, is_empty}
 use Rattle.ip_spec.specs.Demand.{IsLongestUnder}
@@ -20,15 +21,16 @@ use Rattle.ip_spec.proofs.UnderLemmas.{some_longest_under, one_longest_under}
 use Rattle.ip_spec.proofs.WalkLemmas.{one_reach}
 use Rattle.ip_spec.proofs.SpellingLemmas.{one_spelling, spelling_is_reach, one_answer, leads_exactly, leads_spelled, spelled_leads, cleared_spells, spelled_is_read, spelled_alike}
 use Rattle.ip_spec.proofs.SumLemmas.{bytes_len}
-use Rattle.ip_ext_chains.specs.Fault.{slice_fault}
-use Rattle.ip_ext_chains.specs.Fitting.{fitting_chain, fitting_fault, IsFittingAnswer}
+use Rattle.ip_base.specs.declared.len_source.LenSource.TheVariants.{Slice}
+use Rattle.ip_ext_slices.specs.Fault.{chain_faults}
+use Rattle.ip_ext_chains.specs.Fitting.{fitting_chain, fitting_faults, fitting_fault, IsFittingAnswer}
 use Rattle.ip_ext_chains.specs.Ipv6Extensions.{value_of, held, exts_len}
 use Rattle.ip_ext_chains.specs.Walk.{fault_told}
 use Rattle.ip_ext_chains.specs.Write.{IsReadWhole, IsWritten, IsWalkFault}
 use Rattle.ip_ext_chains.specs.declared.ipv6_exts.Ipv6Extensions.{Ipv6Extensions}
 use Rattle.ip_ext_chains.specs.declared.err.ipv6_exts.exts_walk_error.ExtsWalkError.{ExtsWalkError}
 use Rattle.ip_ext_chains.specs.declared.err.ipv6_exts.exts_walk_error.ExtsWalkError.TheVariants.{HopByHopNotAtStart, ExtNotReferenced}
-use Rattle.ip_ext_chains.proofs.FaultLemmas.{no_fault_at_other}
+use Rattle.ip_ext_slices.proofs.FaultLemmas.{no_fault_at_other}
 use Rattle.ip_ext_chains.proofs.HeldLemmas.{held-value_of, held_one, exts_sum}
 
 pub fitting_longest : (n : ℕ) (s : List ℕ) → IsLongestUnder FitsPlaces n s (fitting_chain n s)
@@ -101,10 +103,10 @@ module _ (v : Ipv6Extensions) (n : ℕ) where
     appended_is : (b : List ℕ) → new ≡ old ++ b → bytes_of w.chain ≡ b
     appended_is b e = append_cancel_left old (bytes_of w.chain) b (sym w.appended ∙ e)
 
-    none_behind : (k m : ℕ) (c : List ExtHeader) (r : List ℕ) → (IsExtensionNumber m → ⊥) → (if is_taken m c then None else slice_fault k (is_empty c) m r) ≡ None
-    none_behind k m c r other = elim (cases_Bool (is_taken m c)) [
-      | inl t ↦ ap (λ b. if b then None else slice_fault k (is_empty c) m r) t
-      | inr t ↦ ap (λ b. if b then None else slice_fault k (is_empty c) m r) t ∙ no_fault_at_other _ _ (is_empty c) m r k other
+    none_behind : (m : ℕ) (c : List ExtHeader) (r : List ℕ) → (IsExtensionNumber m → ⊥) → fitting_faults c m r ≡ None
+    none_behind m c r other = elim (cases_Bool (is_taken m c)) [
+      | inl t ↦ ap (λ b. if b then None else chain_faults Slice c m r) t
+      | inr t ↦ ap (λ b. if b then None else chain_faults Slice c m r) t ∙ no_fault_at_other _ _ (is_empty c) m r (length (bytes_of c)) other
     ]
 
     -- what was written is read again
@@ -123,9 +125,7 @@ module _ (v : Ipv6Extensions) (n : ℕ) where
           value = value_is c w.spelling.value ∙ ap value_of (sym is);
           number = sym number ∙ ap (leads_to n) (sym is);
           rest = sym rest ∙ ap (λ l. drop (length (bytes_of l)) (b ++ r)) (sym is);
-          fault = sym (
-              ap (λ l. if is_taken (leads_to n l) l then None else slice_fault (length (bytes_of l)) (is_empty l) (leads_to n l) (drop (length (bytes_of l)) (b ++ r))) is
-              ∙ none_behind (length (bytes_of c)) (leads_to n c) c (drop (length (bytes_of c)) (b ++ r)) none);
+          fault = sym (ap (λ l. fault_behind fitting_faults l n (b ++ r)) is ∙ none_behind (leads_to n c) c (rest_behind c (b ++ r)) none);
         }
 
     -- it is what was read, with its reserved bits put to zero

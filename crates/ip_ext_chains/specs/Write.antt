@@ -3,7 +3,7 @@ use Rattle.std.specs.Prelude.{◌≡◌, ℕ, ◌+◌, ◌<◌, List, [], ◌++�
 use Rattle.ip_spec.specs.Encoding.{AreBytes}
 use Rattle.ip_spec.specs.Chain.{ExtHeader, leads_to, bytes_of}
 use Rattle.ip_spec.specs.Walk.{leads, IsSpelling, IsReach, IsWalkAnswer}
-use Rattle.ip_ext_chains.specs.Fault.{Fault}
+use Rattle.ip_ext_slices.specs.Fault.{Fault}
 use Rattle.ip_ext_chains.specs.Fitting.{fitting_chain, IsFittingAnswer}
 use Rattle.ip_ext_chains.specs.Ipv6Extensions.{value_of, held}
 use Rattle.ip_ext_chains.specs.Walk.{fault_told}

@@ -1,19 +1,19 @@
 //! Callers that need what a clause on a chain says of one outcome of a call, as those of single headers beside
 //! them (`outcomes.rt`).
 ghost use Rattle.std.specs.Prelude.{◌≡◌, ◌≢◌, ◌<◌, ◌+◌, ◌++◌, ◌==◌, ◌↔◌, List, [], None, Some, Err, IsOk, length, IfOk, IfErr, IfSome, IfNone, vec_len, vec_capacity, if◌then◌else◌};
-ghost use Rattle.std.specs.Option.{option_map};
+ghost use Rattle.std.specs.Option.{option_map, option_map_or};
 ghost use Rattle.ip_spec.specs.FieldsOf.{auth_len};
 ghost use Rattle.ip_spec.specs.Encoding.{AppendsOne};
 ghost use Rattle.ip_spec.specs.Chain.{ExtHeader, bytes_of};
 ghost use Rattle.ip_spec.specs.Walk.{IsSpelling};
-ghost use Rattle.ip_ext_chains.specs.Longest.{longest_chain};
-ghost use Rattle.ip_ext_chains.specs.Fault.{chain_fault};
+ghost use Rattle.ip_ext_slices.specs.Longest.{longest_chain};
+ghost use Rattle.ip_ext_slices.specs.Fault.{chain_fault};
 ghost use Rattle.ip_ext_chains.specs.Fitting.{fitting_fault};
-ghost use Rattle.ip_ext_chains.specs.Ipv4Fault.{ipv4_chain_fault};
-ghost use Rattle.ip_ext_chains.specs.Ipv4Parse.{IsIpv4ChainAnswer, IsIpv4ValueAnswer};
-ghost use Rattle.ip_ext_chains.specs.Ipv4ExtensionsSlice.{headers_in};
-ghost use Rattle.ip_ext_chains.specs.Ipv4Walk.{ipv4_walk, IsIpv4Encoding, IsIpv4ReadBack};
-ghost use Rattle.ip_ext_chains.specs.Ipv6Extensions.{held, exts_len, len_of};
+ghost use Rattle.ip_ext_ipv4.specs.Ipv4Fault.{ipv4_chain_fault};
+ghost use Rattle.ip_ext_ipv4.specs.Ipv4Parse.{IsIpv4ChainAnswer, IsIpv4ValueAnswer};
+ghost use Rattle.ip_ext_ipv4.specs.Ipv4ExtensionsSlice.{headers_in};
+ghost use Rattle.ip_ext_ipv4.specs.Ipv4Walk.{ipv4_walk, IsIpv4Encoding, IsIpv4ReadBack};
+ghost use Rattle.ip_ext_chains.specs.Ipv6Extensions.{held, exts_len};
 ghost use Rattle.ip_ext_chains.specs.Ipv6ExtensionsRuns.{start, input, values_left};
 ghost use Rattle.ip_ext_chains.specs.Write.{IsWritten, IsWalkFault};
 
@@ -95,7 +95,7 @@ pub fn append_ipv4(headers: &Ipv4Extensions, start: IpNumber, out: &mut Vec<u8>)
     ensures read_back { IfSome result (λ _. AppendsOne (IsIpv4ReadBack start.0 headers.now.auth)
         out.old.items out.new.items) }
     ensures len { IfSome result (λ len.
-        len ≡ vec_len out.old + len_of auth_len headers.now.auth) }
+        len ≡ vec_len out.old + option_map_or auth_len headers.now.auth 0) }
     ensures same { IfNone result (out.new.items ≡ out.old.items) }
 {
     match headers.write(out, start) {
@@ -111,8 +111,8 @@ pub fn ipv4_want_of_memory(
     out: &mut Vec<u8>,
 ) -> Option<AllocError>
     ensures full { IfSome result (λ _.
-        vec_capacity out.old < vec_len out.old + len_of auth_len headers.now.auth) }
-    ensures some { IfSome result (λ _. 0 < len_of auth_len headers.now.auth) }
+        vec_capacity out.old < vec_len out.old + option_map_or auth_len headers.now.auth 0) }
+    ensures some { IfSome result (λ _. 0 < option_map_or auth_len headers.now.auth 0) }
 {
     match headers.write(out, start) {
         Err(ipv4_exts::HeaderWriteError::Io(e)) => Some(e),

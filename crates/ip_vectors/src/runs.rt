@@ -112,9 +112,12 @@ fn check_plain(rt: &impl Abort, alloc: Global, row: &Row<'_>) -> Result<(), Fail
     }
     let mut left = headers.as_slice();
     let mut pieces: usize = 1;
-    'pieces: while fitting_len(left) < left.len() {
-        left = &left[fitting_len(left)..];
-        pieces = pieces.saturating_add(1);
+    for _ in 0..headers.len() {
+        let fitting = fitting_len(left);
+        if fitting < left.len() {
+            left = &left[fitting..];
+            pieces = pieces.saturating_add(1);
+        }
     }
     let name = row.name;
     assert_eq!(rt; pieces, row.items.len(), "{name}");

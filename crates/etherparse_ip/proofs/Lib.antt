@@ -1,0 +1,3 @@
+pub mod BaseLemmas
+pub mod CutLemmas
+pub mod FaultLemmas

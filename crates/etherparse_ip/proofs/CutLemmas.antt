@@ -13,11 +13,11 @@ use Rattle.ip_spec.proofs.UnderLemmas.{some_longest_under}
 use Rattle.ip_spec.proofs.DemandKinds.{at_most_one_of}
 use Rattle.ip_spec.specs.Demand.{AtMostOneOf}
 use Rattle.ip_ext_headers.specs.declared.err.ip_auth.header_slice_error.HeaderSliceError.{HeaderSliceError}
-use Rattle.ip_ext_chains.specs.Longest.{longest_chain}
-use Rattle.ip_ext_chains.specs.Ipv4Longest.{longest_ipv4_chain}
-use Rattle.ip_ext_chains.specs.Fault.{Fault}
-use Rattle.ip_ext_chains.specs.Parse.{IsChainAnswer}
-use Rattle.ip_ext_chains.specs.Ipv4Parse.{IsIpv4ChainAnswer}
+use Rattle.ip_ext_slices.specs.Longest.{longest_chain}
+use Rattle.ip_ext_ipv4.specs.Ipv4Longest.{longest_ipv4_chain}
+use Rattle.ip_ext_slices.specs.Fault.{Fault}
+use Rattle.ip_ext_slices.specs.Parse.{IsChainAnswer}
+use Rattle.ip_ext_ipv4.specs.Ipv4Parse.{IsIpv4ChainAnswer}
 use Rattle.ip_base.specs.Ipv4Header.{IsIpv4Header, total_len, protocol, is_ipv4_fragmenting}
 use Rattle.ip_base.specs.Ipv6Header.{IsIpv6Header, payload_length, ipv6_next_header}
 use Rattle.ip_base.specs.LenError.{too_short}
@@ -25,10 +25,10 @@ use Rattle.ip_base.specs.declared.err.layer.Layer.TheVariants.{Ipv4Packet, Ipv6P
 use Rattle.ip_base.specs.declared.len_source.LenSource.{LenSource}
 use Rattle.ip_base.specs.declared.len_source.LenSource.TheVariants.{Slice, Ipv4HeaderTotalLen, Ipv6HeaderPayloadLen}
 use Rattle.ip_ext_headers.specs.declared.err.ip_auth.header_slice_error.HeaderSliceError.TheVariants as auth
-use Rattle.ip_ext_chains.specs.Fault.{chain_fault}
-use Rattle.ip_ext_chains.specs.declared.err.ipv6_exts.header_slice_error.HeaderSliceError.{HeaderSliceError as ExtsSliceError}
-use Rattle.ip_ext_chains.specs.declared.err.ipv6_exts.header_slice_error.HeaderSliceError.TheVariants as exts
-use Rattle.ip_ext_chains.specs.Ipv4Fault.{ipv4_chain_fault}
+use Rattle.ip_ext_slices.specs.Fault.{chain_fault}
+use Rattle.ip_ext_slices.specs.declared.err.ipv6_exts.header_slice_error.HeaderSliceError.{HeaderSliceError as ExtsSliceError}
+use Rattle.ip_ext_slices.specs.declared.err.ipv6_exts.header_slice_error.HeaderSliceError.TheVariants as exts
+use Rattle.ip_ext_ipv4.specs.Ipv4Fault.{ipv4_chain_fault}
 use Rattle.etherparse_ip.specs.LenSources.{front, ipv6_len_source, strict_error_source, lax_error_source}
 use Rattle.etherparse_ip.specs.Fault.{auth_in_packet, exts_in_packet, ipv4_fault_behind, ipv6_chain_fault, ipv6_fault_behind, ipv6_lax_fault_behind}
 use Rattle.etherparse_ip.proofs.BaseLemmas.{SaysIpv4, says_ipv4, SaysIpv6, says_ipv6}

@@ -13,13 +13,14 @@ use Rattle.ip_spec.proofs.ChainLemmas.{some_longest}
 use Rattle.ip_ext_headers.specs.Fault.{raw_fault, fragment_fault, auth_fault}
 use Rattle.ip_ext_headers.specs.declared.err.ip_auth.header_slice_error.HeaderSliceError.{HeaderSliceError as AuthSliceError}
 use Rattle.ip_ext_headers.specs.declared.err.ip_auth.header_slice_error.HeaderSliceError.TheVariants as auth
-use Rattle.ip_ext_chains.specs.Longest.{longest_chain, rest_after}
-use Rattle.ip_ext_chains.specs.Fault.{Fault, fault_at, chain_fault, short_at, auth_at, ExtsOffsetFits}
+use Rattle.ip_ext_slices.specs.Longest.{longest_chain}
+use Rattle.ip_spec.specs.Parse.{rest_behind}
+use Rattle.ip_ext_slices.specs.Fault.{Fault, fault_at, chain_fault, short_at, auth_at, ExtsOffsetFits}
 use Rattle.ip_base.specs.Ipv6Header.{payload_length, ipv6_next_header, ipv6_header_fault}
 use Rattle.etherparse_ip.specs.LenSources.{strict_error_source, lax_error_source}
 use Rattle.etherparse_ip.specs.Fault.{exts_in_packet, ipv6_behind, ipv6_chain_fault, ipv6_fault_behind, ipv6_lax_fault_behind, ipv6_lax_fault, ipv6_of_header, ipv6_of_exts}
-use Rattle.ip_ext_chains.specs.declared.err.ipv6_exts.header_slice_error.HeaderSliceError.{HeaderSliceError}
-use Rattle.ip_ext_chains.specs.declared.err.ipv6_exts.header_slice_error.HeaderSliceError.TheVariants.{Len, Content}
+use Rattle.ip_ext_slices.specs.declared.err.ipv6_exts.header_slice_error.HeaderSliceError.{HeaderSliceError}
+use Rattle.ip_ext_slices.specs.declared.err.ipv6_exts.header_slice_error.HeaderSliceError.TheVariants.{Len, Content}
 
 -- where one tells a length, it begins at offset k
 abbrev BeginsAt : ℕ → HeaderSliceError → Type 0
@@ -82,8 +83,8 @@ fits k j (Content e) begins small = tt
 pub chain_fault_fits : (n : ℕ) (s : List ℕ) (j : ℕ) (e : HeaderSliceError) → option_map (λ f. f.0) (chain_fault n s) ≡ Some e → length s + j < 2 ^ 64 → ExtsOffsetFits e j
 chain_fault_fits n s j e told small =
     let k : ℕ = length (bytes_of (longest_chain n s)) in
-    let within : k + length (rest_after n s) ≡ length s = prefix-length (bytes_of (longest_chain n s)) s (some_longest n s).1.has.prefix in
-    let begins : If (λ f. BeginsAt k f.0) (chain_fault n s) = fault_begins_at Slice (length (rest_after n s)) k (is_empty (longest_chain n s)) (leads_to n (longest_chain n s)) (rest_after n s) in
+    let within : k + length (rest_behind (longest_chain n s) s) ≡ length s = prefix-length (bytes_of (longest_chain n s)) s (some_longest n s).1.has.prefix in
+    let begins : If (λ f. BeginsAt k f.0) (chain_fault n s) = fault_begins_at Slice (length (rest_behind (longest_chain n s) s)) k (is_empty (longest_chain n s)) (leads_to n (longest_chain n s)) (rest_behind (longest_chain n s) s) in
     let mapped : If (BeginsAt k) (option_map (λ f. f.0) (chain_fault n s)) = if_mapped (λ f. BeginsAt k f.0) (BeginsAt k) (λ f. f.0) (chain_fault n s) (λ f h. h) begins in
     fits k j e (if_some (BeginsAt k) (option_map (λ f. f.0) (chain_fault n s)) e told mapped) (omega (arith, within))
 

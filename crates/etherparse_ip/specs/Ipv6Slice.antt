@@ -1,6 +1,6 @@
 -- What an IPv6 packet shows.
 use Rattle.ip_base.specs.Ipv6HeaderSlice as base
-use Rattle.ip_ext_chains.specs.Ipv6ExtensionsSlice as exts
+use Rattle.ip_ext_slices.specs.Ipv6ExtensionsSlice as exts
 use Rattle.etherparse_ip.specs.Packet.{Parts}
 use Rattle.etherparse_ip.specs.declared.ipv6_slice.Ipv6Slice.{Ipv6Slice}
 

@@ -3,9 +3,9 @@ use Rattle.std.specs.Prelude.{◌≡◌, ℕ, ◌≤◌, Bool, List, ◌++◌, l
 use Rattle.ip_base.specs.declared.len_source.LenSource.{LenSource}
 use Rattle.ip_base.specs.Ipv4Header.{IsIpv4Header, total_len, protocol, is_ipv4_fragmenting}
 use Rattle.ip_base.specs.Ipv6Header.{IsIpv6Header, payload_length, ipv6_next_header}
-use Rattle.ip_ext_chains.specs.Chain.{ExtHeader, bytes_of, has_fragmenting}
-use Rattle.ip_ext_chains.specs.Parse.{IsChainAnswer}
-use Rattle.ip_ext_chains.specs.Ipv4Parse.{IsIpv4ChainAnswer}
+use Rattle.ip_spec.specs.Chain.{ExtHeader, bytes_of, has_fragmenting}
+use Rattle.ip_ext_slices.specs.Parse.{IsChainAnswer}
+use Rattle.ip_ext_ipv4.specs.Ipv4Parse.{IsIpv4ChainAnswer}
 use Rattle.etherparse_ip.specs.LenSources.{front, ipv4_len_source, ipv6_len_source}
 
 -- its base header, its extension headers and its payload; the payload's number, whether it is a fragment, and what

@@ -2,9 +2,9 @@ ghost use Rattle.std.specs.Prelude.{◌≡◌, None, IfOk};
 ghost use Rattle.std.specs.Result.{result_err};
 ghost use Rattle.ip_base.specs.Ipv6Header.{payload_length};
 ghost use Rattle.ip_base.specs.Ipv6HeaderSlice.{bytes};
-ghost use Rattle.ip_ext_chains.specs.Prefix.{IsPrefix};
-ghost use Rattle.ip_ext_chains.specs.Fault.{ExtsOffsetFits};
-ghost use Rattle.ip_ext_chains.specs.Ipv6ExtensionsSlice.{headers_in};
+ghost use Rattle.ip_spec.specs.Prefix.{IsPrefix};
+ghost use Rattle.ip_ext_slices.specs.Fault.{ExtsOffsetFits};
+ghost use Rattle.ip_ext_slices.specs.Ipv6ExtensionsSlice.{headers_in};
 ghost use Rattle.etherparse_ip.specs.Packet.{IsIpv6Packet};
 ghost use Rattle.etherparse_ip.specs.Fault.{exts_in_packet, ipv6_chain_fault};
 ghost use Rattle.etherparse_ip.specs.Fault.{ipv6_fault_behind, ipv6_lax_fault_behind, ipv6_fault, ipv6_lax_fault};
@@ -14,7 +14,7 @@ use crate::err::{Layer, LenError, ipv6_exts};
 use crate::len_sources::{ipv6_front, lax_error_source, strict_error_source};
 use crate::stretch::after;
 use ip_base::{IpNumber, IpPayloadSlice, Ipv6Header, Ipv6HeaderSlice, LenSource};
-use ip_ext_chains::Ipv6ExtensionsSlice;
+use ip_ext_slices::Ipv6ExtensionsSlice;
 
 /// An IPv6 packet (RFC 8200): its base header, its extension headers and its payload, as stretches of the caller's
 /// bytes. Two are equal where all their parts are.

@@ -1,26 +1,31 @@
 -- The longest chain that fits six places, where the longest chain's first run was taken.
-use Rattle.std.proofs.Common.{◌≡◌, ◌≢◌, ℕ, ◌-◌, List, [], ◌∷◌, ◌++◌, length, drop, refl, ap, sym, ◌∙◌, arith, Bool, true, false, subst}
-use Rattle.std.specs.Prelude.{Option, None, if◌then◌else◌}
+use Rattle.std.proofs.Common.{◌≡◌, ◌≢◌, ℕ, ◌-◌, List, [], ◌∷◌, ◌++◌, length, drop, refl, ap, sym, ◌∙◌, arith, inl, inr, Bool, true, false, subst}
+use Rattle.std.specs.Prelude.{Option, None, IsSome, if◌then◌else◌}
+use Rattle.std.proofs.lemmas.Bool.{cases_Bool}
+use Rattle.ip_spec.specs.Header.{IsExtensionNumber}
+use Rattle.ip_ext_slices.proofs.FaultLemmas.{fault_at_end}
 use Rattle.std.proofs.lemmas.List.{append-nil, length-append}
 use Rattle.std.proofs.lemmas.Grind.{flat_map-append}
 use Rattle.ip_spec.specs.Chain.{ExtHeader, leads_to, bytes_of, is_empty, IsChain, IsPrefixChain}
-use Rattle.ip_spec.specs.Demand.{KeepsBeginning, NextBreaks}
+use Rattle.ip_spec.specs.Parse.{rest_behind, fault_behind}
+use Rattle.ip_spec.specs.Demand.{KeepsBeginning, NextBreaks, IsLongestUnder}
 use Rattle.ip_spec.specs.Fits.{FitsPlaces, IsTaken}
 use Rattle.ip_spec.specs.Places.{is_taken}
 use Rattle.ip_spec.proofs.PlaceLemmas.{taken_told}
-use Rattle.ip_spec.proofs.FitsLemmas.{fits_places}
+use Rattle.ip_spec.proofs.FitsLemmas.{fits_places, fitting_ends}
 use Rattle.ip_spec.proofs.UnderLemmas.{some_longest_under, one_longest_under, kept_is_longest}
 use Rattle.ip_spec.proofs.CutLemmas.{some_are_kept}
 use Rattle.ip_spec.proofs.RunsLemmas.{cuts_places, chain_behind, next_taken}
-use Rattle.ip_ext_chains.specs.Longest.{longest_chain, rest_after}
-use Rattle.ip_ext_chains.specs.Fitting.{fitting_chain, fitting_fault, IsFittingAnswer, IsWalked}
-use Rattle.ip_ext_chains.specs.Fault.{Fault, slice_fault, chain_fault}
+use Rattle.ip_ext_slices.specs.Longest.{longest_chain}
+use Rattle.ip_ext_chains.specs.Fitting.{fitting_chain, fitting_faults, fitting_fault, IsFittingAnswer, IsWalked}
+use Rattle.ip_base.specs.declared.len_source.LenSource.TheVariants.{Slice}
+use Rattle.ip_ext_slices.specs.Fault.{Fault, chain_faults, chain_fault}
 use Rattle.ip_ext_chains.specs.Places.{ArePlaced, is_taken_in, value_at, AreOfNumber}
 use Rattle.ip_ext_chains.specs.Run.{IsRun}
-use Rattle.ip_ext_chains.specs.declared.ipv6_ext_slice.Ipv6ExtensionSlice.{Ipv6ExtensionSlice}
+use Rattle.ip_ext_slices.specs.declared.ipv6_ext_slice.Ipv6ExtensionSlice.{Ipv6ExtensionSlice}
 use Rattle.ip_ext_chains.specs.declared.ipv6_exts.Ipv6Extensions.{Ipv6Extensions}
 use Rattle.ip_ext_chains.specs.declared.places.Places.{Places}
-use Rattle.ip_ext_chains.proofs.LongestLemmas.{longest_chain-longest}
+use Rattle.ip_ext_slices.proofs.LongestLemmas.{longest_chain-longest}
 use Rattle.ip_ext_chains.proofs.PlacedLemmas.{taken_same, value_placed, placed_numbers}
 
 -- what is kept of the longest chain is the longest that fits
@@ -76,13 +81,13 @@ walked_on n s (h ∷ left) v k some m chain r er =
     walked n s (h ∷ left) v k m r None (sym chain.links.0 ∙ number) (er ∙ ap (λ j. drop j s) (run_len n s (h ∷ left) v k)) (sym (no_fault _ _ told))
 
 -- Where none is, it is the whole chain.
-walked_whole : (n : ℕ) (s : List ℕ) (left : List ExtHeader) (v : Places Ipv6ExtensionSlice) → IsRun (longest_chain n s) v left → left ≡ [] → (m : ℕ) (r : List ℕ) (f g : Option Fault) → m ≡ leads_to n (longest_chain n s) → r ≡ rest_after n s → g ≡ chain_fault n s → f ≡ (if is_taken_in v m then None else g) → IsWalked n s v m r f
+walked_whole : (n : ℕ) (s : List ℕ) (left : List ExtHeader) (v : Places Ipv6ExtensionSlice) → IsRun (longest_chain n s) v left → left ≡ [] → (m : ℕ) (r : List ℕ) (f g : Option Fault) → m ≡ leads_to n (longest_chain n s) → r ≡ rest_behind (longest_chain n s) s → g ≡ chain_fault n s → f ≡ (if is_taken_in v m then None else g) → IsWalked n s v m r f
 walked_whole n s left v k none m r f g em er eg ef =
     let c : List ExtHeader = k.run in
     let all : longest_chain n s ≡ c = run_whole n s left v k ∙ ap (λ l. c ++ l) none ∙ append-nil c in
     let same : longest_chain n s ≡ fitting_chain n s = all ∙ run_fits n s left v k in
     let number : m ≡ leads_to n c = em ∙ ap (leads_to n) all in
-    let at : List ExtHeader → Option Fault = λ d. slice_fault (length (bytes_of d)) (is_empty d) (leads_to n d) (drop (length (bytes_of d)) s) in
+    let at : List ExtHeader → Option Fault = λ d. fault_behind (chain_faults Slice) d n s in
     let taken : is_taken_in v m ≡ is_taken (leads_to n (fitting_chain n s)) (fitting_chain n s) =
     taken_same c v k.placed m ∙ ap (λ j. is_taken j c) number ∙ ap (λ d. is_taken (leads_to n d) d) (run_fits n s left v k) in
     walked n s left v k m r f number (er ∙ ap (λ d. drop (length (bytes_of d)) s) all)
@@ -97,8 +102,20 @@ module _ (n : ℕ) (s : List ℕ) (all left : List ExtHeader) (v : Places Ipv6Ex
   walk_stops some m chain b q r eb eq er =
       walked_on n s left v of_longest some m chain r (er ∙ ap (λ (d : List ℕ). drop (length d - length q) s) (eb ∙ ap bytes_of e) ∙ ap (λ (d : List ℕ). drop (length (bytes_of (longest_chain n s)) - length d) s) (sym eq))
 
-  pub walk_ends : left ≡ [] → (m : ℕ) (r : List ℕ) (f g : Option Fault) → m ≡ leads_to n (longest_chain n s) → r ≡ rest_after n s → g ≡ chain_fault n s → f ≡ (if is_taken_in v m then None else g) → IsWalked n s v m r f
+  pub walk_ends : left ≡ [] → (m : ℕ) (r : List ℕ) (f g : Option Fault) → m ≡ leads_to n (longest_chain n s) → r ≡ rest_behind (longest_chain n s) s → g ≡ chain_fault n s → f ≡ (if is_taken_in v m then None else g) → IsWalked n s v m r f
   walk_ends = walked_whole n s left v of_longest
+
+-- At an extension number whose place is free there is a fault behind it.
+pub fitting_fault_at_end : (n : ℕ) (s : List ℕ) (c : List ExtHeader) → IsLongestUnder FitsPlaces n s c → IsExtensionNumber (leads_to n c) → (IsTaken (leads_to n c) c → ⊥) → IsSome (fault_behind fitting_faults c n s)
+fitting_fault_at_end n s c l number free =
+    let m : ℕ = leads_to n c in
+    let fault : Option Fault = chain_faults Slice c m (rest_behind c s) in
+    let some : IsSome fault = fault_at_end Slice (length (rest_behind c s)) (rest_behind c s) (length (bytes_of c)) (is_empty c) m number (fitting_ends n s c l free) in
+    let F : Bool → Type 0 = λ b. IsSome (if b then None else fault) in
+    elim (cases_Bool (is_taken m c)) [
+      | inl t ↦ absurd (free ((taken_told c m l.has.meets).0 t))
+      | inr t ↦ subst F (sym t) some
+    ]
 
 -- what the walk answers is all that the parse needs
 module _ (n : ℕ) (s : List ℕ) (v : Places Ipv6ExtensionSlice) (m : ℕ) (r : List ℕ) (f : Option Fault) (k : IsWalked n s v m r f) where

@@ -12,7 +12,7 @@ use Rattle.ip_spec.specs.Places.{Place, hop_by_hop, destination, routing, fragme
 use Rattle.ip_spec.specs.Encodable.{IsEncoded, IsEncodable, held_len, fields_len}
 use Rattle.ip_spec.proofs.PlaceLemmas.{without_routing, none_behind}
 use Rattle.ip_spec.proofs.WalkLemmas.{some_if}
-use Rattle.ip_ext_chains.specs.Ipv6Extensions.{value_of, raw_in, final_of, held, len_of, routing_len, exts_len}
+use Rattle.ip_ext_chains.specs.Ipv6Extensions.{value_of, raw_in, final_of, held, routing_len, exts_len}
 use Rattle.ip_ext_chains.specs.declared.ipv6_exts.Ipv6Extensions.{Ipv6Extensions}
 use Rattle.ip_ext_chains.specs.declared.ipv6_routing_exts.Ipv6RoutingExtensions.{Ipv6RoutingExtensions}
 use Rattle.ip_ext_chains.proofs.PlacedLemmas.{in_place_number}
@@ -106,19 +106,19 @@ held_one v w e =
     ∙ ap (λ g. made w.hop_by_hop_options w.destination_options w.routing w.fragment g) (auth_inside v.auth w.auth (e authentication))
 
 -- The sum over the places.
-raw_sum : (o : Option RawFields) → option_map_or fields_len (option_map raw_header o) 0 ≡ len_of raw_len o
+raw_sum : (o : Option RawFields) → option_map_or fields_len (option_map raw_header o) 0 ≡ option_map_or raw_len o 0
 raw_sum None = refl
 raw_sum (Some x) = refl
 
-fragment_sum : (o : Option FragmentFields) → option_map_or fields_len (option_map fragment_header o) 0 ≡ len_of (λ h. 8) o
+fragment_sum : (o : Option FragmentFields) → option_map_or fields_len (option_map fragment_header o) 0 ≡ option_map_or (λ h. 8) o 0
 fragment_sum None = refl
 fragment_sum (Some x) = refl
 
-auth_sum : (o : Option AuthFields) → option_map_or fields_len (option_map auth_header o) 0 ≡ len_of auth_len o
+auth_sum : (o : Option AuthFields) → option_map_or fields_len (option_map auth_header o) 0 ≡ option_map_or auth_len o 0
 auth_sum None = refl
 auth_sum (Some x) = refl
 
-routing_sum : (o : Option Ipv6RoutingExtensions) → option_map_or fields_len (option_map (λ r. raw_header r.routing) o) 0 + option_map_or fields_len (option_map raw_header (final_of o)) 0 ≡ len_of routing_len o
+routing_sum : (o : Option Ipv6RoutingExtensions) → option_map_or fields_len (option_map (λ r. raw_header r.routing) o) 0 + option_map_or fields_len (option_map raw_header (final_of o)) 0 ≡ option_map_or routing_len o 0
 routing_sum None = refl
 routing_sum (Some r) = omega (arith, raw_sum r.final_destination_options)
 

@@ -1,8 +1,3 @@
-pub mod LongestLemmas
-pub mod ParseLemmas
-pub mod FaultLemmas
-pub mod Ipv4Lemmas
-pub mod Ipv4WalkLemmas
 pub mod PlacedLemmas
 pub mod RunsOfLemmas
 pub mod RunLemmas

@@ -7,10 +7,10 @@ use Rattle.ip_spec.specs.FieldsOf.{raw_fields, fragment_fields, auth_fields}
 use Rattle.ip_spec.specs.Chain.{ExtHeader}
 use Rattle.ip_spec.specs.Places.{Place, hop_by_hop, destination, routing, fragment, authentication, final_destination, number_in, before_routing_header, after_routing_header, header_in, has_routing, place_of, is_taken, is_filled}
 use Rattle.ip_spec.proofs.FirstLemmas.{find_passes}
-use Rattle.ip_ext_chains.specs.Ipv6ExtensionSlice.{header_of}
+use Rattle.ip_ext_slices.specs.Ipv6ExtensionSlice.{header_of}
 use Rattle.ip_ext_chains.specs.Places.{at, ArePlaced, place_in, is_filled_in, is_taken_in, raw_at, value_at, AreOfNumber}
 use Rattle.ip_ext_chains.specs.Ipv6Extensions.{raw_in, value_of}
-use Rattle.ip_ext_chains.specs.declared.ipv6_ext_slice.Ipv6ExtensionSlice.{Ipv6ExtensionSlice}
+use Rattle.ip_ext_slices.specs.declared.ipv6_ext_slice.Ipv6ExtensionSlice.{Ipv6ExtensionSlice}
 use Rattle.ip_ext_chains.specs.declared.places.Places.{Places}
 
 pub none_in : (p : Place) → header_in p [] ≡ None

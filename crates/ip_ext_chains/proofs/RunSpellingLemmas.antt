@@ -13,11 +13,11 @@ use Rattle.ip_spec.proofs.PrefixLemmas.{prefix-append}
 use Rattle.ip_spec.proofs.ClearedLemmas.{cleared_leads}
 use Rattle.ip_spec.proofs.RunsLemmas.{runs_joined, runs_written, runs_fit, runs_chains}
 use Rattle.ip_spec.proofs.SpellingLemmas.{one_spelling, cleared_spells}
-use Rattle.ip_ext_chains.specs.Longest.{longest_chain}
+use Rattle.ip_ext_slices.specs.Longest.{longest_chain}
 use Rattle.ip_ext_chains.specs.Ipv6Extensions.{value_of, held}
 use Rattle.ip_ext_chains.specs.Runs.{AreSpellings}
 use Rattle.ip_ext_chains.specs.declared.ipv6_exts.Ipv6Extensions.{Ipv6Extensions}
-use Rattle.ip_ext_chains.proofs.LongestLemmas.{longest_chain-longest}
+use Rattle.ip_ext_slices.proofs.LongestLemmas.{longest_chain-longest}
 use Rattle.ip_ext_chains.proofs.HeldLemmas.{held-value_of}
 use Rattle.ip_ext_chains.proofs.RunsOfLemmas.{AreRunsOf}
 

@@ -6,7 +6,6 @@ use Rattle.std.specs.Cmp.Lexicographic.{options_equiv}
 use Rattle.std.proofs.lemmas.Cmp.{and_equiv, on_equiv}
 use Rattle.ip_ext_headers.specs.Equal.{raw_equal, fragment_equal, auth_equal}
 use Rattle.ip_ext_headers.proofs.EqualLemmas.{raw_equivalence, fragment_equivalence, auth_equivalence}
-use Rattle.ip_ext_chains.specs.declared.ipv4_exts.Ipv4Extensions.{Ipv4Extensions}
 use Rattle.ip_ext_chains.specs.declared.ipv6_routing_exts.Ipv6RoutingExtensions.{Ipv6RoutingExtensions}
 use Rattle.ip_ext_chains.specs.declared.ipv6_exts.Ipv6Extensions.{Ipv6Extensions}
 
@@ -19,9 +18,6 @@ exts_equal a b =
     && (option_eq raw_equal a.destination_options b.destination_options
     && (option_eq routing_equal a.routing b.routing
     && (option_eq fragment_equal a.fragment b.fragment && option_eq auth_equal a.auth b.auth)))
-
-abbrev pub ipv4_exts_equal : Ipv4Extensions → Ipv4Extensions → Bool
-ipv4_exts_equal a b = option_eq auth_equal a.auth b.auth
 
 -- all are equivalences
 pub routing_equivalence : IsEquivalence routing_equal
@@ -36,6 +32,3 @@ exts_equivalence =
     (and_equiv (on_equiv (λ v. v.routing) (options_equiv routing_equivalence))
     (and_equiv (on_equiv (λ v. v.fragment) (options_equiv fragment_equivalence))
     (on_equiv (λ v. v.auth) (options_equiv auth_equivalence)))))
-
-pub ipv4_exts_equivalence : IsEquivalence ipv4_exts_equal
-ipv4_exts_equivalence = on_equiv (λ v. v.auth) (options_equiv auth_equivalence)

@@ -1,15 +1,16 @@
 -- The longest chain that begins bytes and fits six places.
-use Rattle.std.specs.Prelude.{◌≡◌, ℕ, List, length, drop, Option, None, if◌then◌else◌}
-use Rattle.ip_spec.specs.Chain.{ExtHeader, leads_to, bytes_of, is_empty}
+use Rattle.std.specs.Prelude.{◌≡◌, ℕ, List, Option, None, if◌then◌else◌}
+use Rattle.ip_base.specs.declared.len_source.LenSource.TheVariants.{Slice}
+use Rattle.ip_spec.specs.Chain.{ExtHeader, leads_to}
 use Rattle.ip_spec.specs.Fits.{FitsPlaces}
 use Rattle.ip_spec.specs.Places.{is_taken}
 use Rattle.ip_spec.proofs.UnderLemmas.{some_longest_under}
 use Rattle.ip_spec.proofs.FitsLemmas.{fits_places}
-use Rattle.ip_ext_chains.specs.Fault.{Fault, slice_fault}
-use Rattle.ip_ext_chains.specs.Parse.{IsAnswer}
+use Rattle.ip_spec.specs.Parse.{rest_behind, fault_behind, IsAnswer}
+use Rattle.ip_ext_slices.specs.Fault.{Fault, chain_faults}
 use Rattle.ip_ext_chains.specs.Ipv6Extensions.{value_of}
 use Rattle.ip_ext_chains.specs.Places.{ArePlaced}
-use Rattle.ip_ext_chains.specs.declared.ipv6_ext_slice.Ipv6ExtensionSlice.{Ipv6ExtensionSlice}
+use Rattle.ip_ext_slices.specs.declared.ipv6_ext_slice.Ipv6ExtensionSlice.{Ipv6ExtensionSlice}
 use Rattle.ip_ext_chains.specs.declared.places.Places.{Places}
 use Rattle.ip_ext_chains.specs.declared.ipv6_exts.Ipv6Extensions.{Ipv6Extensions}
 
@@ -17,23 +18,22 @@ use Rattle.ip_ext_chains.specs.declared.ipv6_exts.Ipv6Extensions.{Ipv6Extensions
 abbrev pub fitting_chain : ℕ → List ℕ → List ExtHeader
 fitting_chain n s = (some_longest_under FitsPlaces fits_places n s).0
 
--- what is left after it
-abbrev pub rest_after_fitting : ℕ → List ℕ → List ℕ
-rest_after_fitting n s = drop (length (bytes_of (fitting_chain n s))) s
+-- The fault behind the chain c, at number m with r left. There is none where the place of m is filled: the bytes
+-- there aren't looked at.
+abbrev pub fitting_faults : List ExtHeader → ℕ → List ℕ → Option Fault
+fitting_faults c m r = if is_taken m c then None else chain_faults Slice c m r
 
--- The fault where it ends. There is none where the place of the number is taken: the bytes there aren't looked at.
+-- the fault where the longest chain that fits ends
 abbrev pub fitting_fault : ℕ → List ℕ → Option Fault
-fitting_fault n s =
-    if is_taken (leads_to n (fitting_chain n s)) (fitting_chain n s) then None
-    else slice_fault (length (bytes_of (fitting_chain n s))) (is_empty (fitting_chain n s)) (leads_to n (fitting_chain n s)) (rest_after_fitting n s)
+fitting_fault n s = fault_behind fitting_faults (fitting_chain n s) n s
 
--- its value, with the number, rest and fault behind it
+-- the answer for it, whose value is the fields of each header in its place
 abbrev pub IsFittingAnswer : ℕ → List ℕ → Ipv6Extensions → ℕ → List ℕ → Option Fault → Type 0
-IsFittingAnswer n s v m r f = IsAnswer value_of (fitting_chain n s) (fitting_fault n s) n s v m r f
+IsFittingAnswer n s = IsAnswer value_of fitting_faults (fitting_chain n s) n s
 
 -- what the walk over it answers: its headers in their places, with the number, rest and fault behind it
 pub record IsWalked (n : ℕ) (s : List ℕ) (v : Places Ipv6ExtensionSlice) (m : ℕ) (r : List ℕ) (f : Option Fault) : Type 0 where
   pub placed : ArePlaced (fitting_chain n s) v
   pub number : m ≡ leads_to n (fitting_chain n s)
-  pub rest : r ≡ rest_after_fitting n s
+  pub rest : r ≡ rest_behind (fitting_chain n s) s
   pub fault : f ≡ fitting_fault n s

@@ -1,6 +1,6 @@
 -- What a struct of six places holds.
 use Rattle.std.specs.Prelude.{ℕ, ◌+◌, List, Bool, false, ◌&&◌, Option, Some, None, is_none}
-use Rattle.std.specs.Option.{option_map}
+use Rattle.std.specs.Option.{option_map, option_map_or}
 use Rattle.ip_spec.specs.Fields.{is_fragment}
 use Rattle.ip_spec.specs.FieldsOf.{RawFields, FragmentFields, raw_fields, fragment_fields, auth_fields, raw_len, auth_len}
 use Rattle.ip_spec.specs.Chain.{ExtHeader}
@@ -36,19 +36,14 @@ held v fragment = option_map fragment_header v.fragment
 held v authentication = option_map auth_header v.auth
 held v final_destination = option_map raw_header (final_of v.routing)
 
--- how many bytes something has, where it is there
-abbrev pub len_of : {X : Type 0} → (X → ℕ) → Option X → ℕ
-len_of f (Some x) = f x
-len_of f None = 0
-
 abbrev pub routing_len : Ipv6RoutingExtensions → ℕ
-routing_len v = raw_len v.routing + len_of raw_len v.final_destination_options
+routing_len v = raw_len v.routing + option_map_or raw_len v.final_destination_options 0
 
 -- the sum over the places
 abbrev pub exts_len : Ipv6Extensions → ℕ
 exts_len v =
-    len_of raw_len v.hop_by_hop_options + (len_of raw_len v.destination_options + (len_of routing_len v.routing
-    + (len_of (λ h. 8) v.fragment + len_of auth_len v.auth)))
+    option_map_or raw_len v.hop_by_hop_options 0 + (option_map_or raw_len v.destination_options 0 + (option_map_or routing_len v.routing 0
+    + (option_map_or (λ h. 8) v.fragment 0 + option_map_or auth_len v.auth 0)))
 
 -- no place is filled
 abbrev pub has_none : Ipv6Extensions → Bool

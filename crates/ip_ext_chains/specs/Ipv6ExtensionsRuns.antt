@@ -3,7 +3,7 @@ use Rattle.std.specs.Prelude.{◌≡◌, ℕ, List, [], map, Option, if◌then�
 use Rattle.std.specs.Iterator.{YieldsFirst}
 use Rattle.ip_spec.specs.Chain.{ExtHeader}
 use Rattle.ip_ext_chains.specs.Runs.{runs_from}
-use Rattle.ip_ext_chains.specs.Ipv6ExtensionSliceIter.{headers_left}
+use Rattle.ip_ext_slices.specs.Ipv6ExtensionSliceIter.{headers_left}
 use Rattle.ip_ext_chains.specs.Ipv6Extensions.{value_of}
 use Rattle.ip_ext_chains.specs.declared.ipv6_exts.Ipv6Extensions.{Ipv6Extensions}
 use Rattle.ip_ext_chains.specs.declared.ipv6_exts_runs.Ipv6ExtensionsRuns.{Ipv6ExtensionsRuns}

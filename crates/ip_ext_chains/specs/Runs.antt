@@ -3,7 +3,7 @@ use Rattle.std.specs.Prelude.{ℕ, List, [], ◌∷◌, ⊤}
 use Rattle.ip_spec.specs.Chain.{ExtHeader, leads_to}
 use Rattle.ip_spec.specs.Walk.{IsSpelling}
 use Rattle.ip_spec.proofs.RunsLemmas.{some_runs}
-use Rattle.ip_ext_chains.specs.Longest.{longest_chain}
+use Rattle.ip_ext_slices.specs.Longest.{longest_chain}
 use Rattle.ip_ext_chains.specs.Ipv6Extensions.{held}
 use Rattle.ip_ext_chains.specs.declared.ipv6_exts.Ipv6Extensions.{Ipv6Extensions}
 

@@ -1,12 +1,15 @@
-ghost use Rattle.std.specs.Prelude.{ℕ, List, length, drop, IsSome};
+ghost use Rattle.std.specs.Prelude.{ℕ, List, IsSome};
 ghost use Rattle.ip_spec.specs.Header.{IsExtensionNumber};
-ghost use Rattle.ip_spec.specs.Chain.{ExtHeader, IsLongestChain, leads_to, bytes_of, is_empty};
-ghost use Rattle.ip_ext_chains.specs.Fault.{slice_fault};
+ghost use Rattle.ip_spec.specs.Chain.{ExtHeader, leads_to};
+ghost use Rattle.ip_spec.specs.Demand.{IsLongestUnder};
+ghost use Rattle.ip_spec.specs.Fits.{FitsPlaces, IsTaken};
+ghost use Rattle.ip_spec.specs.Parse.{fault_behind};
+ghost use Rattle.ip_ext_chains.specs.Fitting.{fitting_faults};
 
-/// Where a longest chain leads to the number of an extension header, there is a fault.
-pub fn extension_number_left_has_fault()
-    ensures { (n : ℕ) (s : List ℕ) (c : List ExtHeader) → IsLongestChain n s c
-        → IsExtensionNumber (leads_to n c)
-        → IsSome (slice_fault (length (bytes_of c)) (is_empty c) (leads_to n c)
-        (drop (length (bytes_of c)) s)) }
+/// Where the longest chain that fits six places leads to the number of an extension header whose place is free,
+/// there is a fault.
+pub fn free_extension_number_left_has_fault()
+    ensures { (n : ℕ) (s : List ℕ) (c : List ExtHeader) → IsLongestUnder FitsPlaces n s c
+        → IsExtensionNumber (leads_to n c) → (IsTaken (leads_to n c) c → ⊥)
+        → IsSome (fault_behind fitting_faults c n s) }
 {}

@@ -1,18 +1,17 @@
 ghost use Rattle.std.specs.Prelude.{◌≡◌, ◌≤◌, [], Some, None, IfOk, IfErr};
-ghost use Rattle.std.specs.Option.{option_map};
+ghost use Rattle.std.specs.Option.{option_map, option_map_or};
 ghost use Rattle.ip_spec.specs.FieldsOf.{raw_len, raw_fields};
 ghost use Rattle.ip_spec.specs.Demand.{IsLongestUnder};
 ghost use Rattle.ip_spec.specs.Fits.{FitsPlaces};
 ghost use Rattle.ip_ext_headers.specs.Ipv6RawExtHeaderSlice.{bytes};
 ghost use Rattle.ip_ext_chains.specs.Fitting.{fitting_chain, fitting_fault, IsFittingAnswer, IsWalked};
 ghost use Rattle.ip_ext_chains.specs.Places.{AreOfNumber, value_at};
-ghost use Rattle.ip_ext_chains.specs.Ipv6Extensions.{value_of, exts_len, len_of, has_none, is_fragmented};
+ghost use Rattle.ip_ext_chains.specs.Ipv6Extensions.{value_of, exts_len, has_none, is_fragmented};
 
 use crate::err::Layer;
 use crate::err::ipv6_exts::HeaderSliceError;
 use crate::places::{Place, Places};
 use crate::run::take_run;
-use crate::step::after;
 use crate::{Ipv6ExtensionSlice, Ipv6ExtensionsSlice, Ipv6RoutingExtensions};
 use ip_base::IpNumber;
 use ip_ext_headers::{IpAuthHeader, Ipv6FragmentHeader, Ipv6RawExtHeader, Ipv6RawExtHeaderSlice};
@@ -107,9 +106,10 @@ impl Ipv6Extensions {
         let len = chain.slice().len();
         let mut headers = chain.into_iter();
         let places = take_run(&mut headers);
-        if !headers.rest.is_empty() {
-            let read = len - headers.rest.len();
-            return (places, headers.next_header, after(bytes, read), None);
+        let left = headers.rest();
+        if !left.is_empty() {
+            let read = len - left.len();
+            return (places, headers.next_number(), &bytes[read..], None);
         }
         if places.is_taken(number) {
             return (places, number, rest, None);
@@ -204,7 +204,7 @@ fn put_raw(place: &mut Option<Ipv6RawExtHeader>, header: Option<&Ipv6RawExtHeade
 
 /// The number of the bytes of a header that may be there.
 fn raw_len(header: &Option<Ipv6RawExtHeader>) -> usize
-    ensures len { result ≡ len_of raw_len header.now }
+    ensures len { result ≡ option_map_or raw_len header.now 0 }
     ensures most { result ≤ 2048 }
 {
     match header {

@@ -1,18 +1,19 @@
 ghost use Rattle.std.specs.Prelude.{◌≡◌, ◌≢◌};
 ghost use Rattle.std.specs.List.{AllByRecursion};
 ghost use Rattle.ip_spec.specs.Chain.{leads_to};
-ghost use Rattle.ip_ext_chains.specs.Longest.{longest_chain, rest_after};
+ghost use Rattle.ip_spec.specs.Parse.{rest_behind};
+ghost use Rattle.ip_ext_slices.specs.Longest.{longest_chain};
 
 use crate::err::Layer;
 use crate::err::ipv6_exts::HeaderSliceError;
 use crate::run::{is_last, take_run};
-use crate::step::{fault, is_extension};
-use crate::{Ipv6ExtensionSliceIter, Ipv6Extensions, Ipv6ExtensionsSlice};
+use crate::{Ipv6ExtensionSliceIter, Ipv6Extensions, Ipv6ExtensionsSlice, fault_at};
 use ip_base::IpNumber;
 
 /// The headers of a chain in as few structs of six places as hold them, in order; then `None` for ever.
 #[derive(Debug, Drop)]
 pub struct Ipv6ExtensionsRuns<'a> {
+    // No call reads it: the contracts of `next` and `end` speak of it.
     first: IpNumber,
     bytes: &'a [u8],
     headers: Ipv6ExtensionSliceIter<'a>,
@@ -20,7 +21,7 @@ pub struct Ipv6ExtensionsRuns<'a> {
     rest: &'a [u8],
     done: bool,
     pub ghost leads: { number.0 ≡ leads_to first.0 (longest_chain first.0 bytes.now) },
-    pub ghost after: { rest.now ≡ rest_after first.0 bytes.now },
+    pub ghost after: { rest.now ≡ rest_behind (longest_chain first.0 bytes.now) bytes.now },
 }
 
 impl<'a> Ipv6ExtensionsRuns<'a> {
@@ -29,7 +30,7 @@ impl<'a> Ipv6ExtensionsRuns<'a> {
     ghost use Rattle.ip_spec.specs.Encoded.{cleared_chain};
     ghost use Rattle.ip_spec.specs.Fits.{FitsPlaces};
     ghost use Rattle.ip_spec.specs.Runs.{AreRuns, joined, how_many};
-    ghost use Rattle.ip_ext_chains.specs.Fault.{chain_fault};
+    ghost use Rattle.ip_ext_slices.specs.Fault.{chain_fault};
     ghost use Rattle.ip_ext_chains.specs.Runs.{runs_of, AreSpellings};
     ghost use Rattle.ip_ext_chains.specs.Ipv6Extensions.{value_of};
     ghost use Rattle.ip_ext_chains.specs.Ipv6ExtensionsRuns.{start, input, runs_left, values_left};
@@ -77,18 +78,15 @@ impl<'a> Ipv6ExtensionsRuns<'a> {
         ensures number { IfSome result (λ e. e.0.0
             ≡ leads_to (start self.now) (longest_chain (start self.now) (input self.now))) }
         ensures rest { IfSome result (λ e. e.1.now
-            ≡ rest_after (start self.now) (input self.now)) }
+            ≡ rest_behind (longest_chain (start self.now) (input self.now)) (input self.now)) }
         ensures fault { IfSome result (λ e. e.2 ≡ chain_fault (start self.now) (input self.now)) }
     {
         if !self.done {
             return None;
         }
         let len = self.bytes.len() - self.rest.len();
-        if is_extension(self.number) {
-            let fault = fault(len == 0, self.number, self.rest, len);
-            return Some((self.number, self.rest, Some(fault)));
-        }
-        Some((self.number, self.rest, None))
+        let fault = fault_at(len == 0, self.number, self.rest, len);
+        Some((self.number, self.rest, fault))
     }
 }
 

@@ -135,7 +135,7 @@ impl<'a> Places<Ipv6ExtensionSlice<'a>> {
     ghost use Rattle.ip_ext_headers.specs.Ipv6FragmentHeaderSlice as fragment_slice;
     ghost use Rattle.ip_ext_headers.specs.IpAuthHeaderSlice as auth_slice;
     ghost use Rattle.ip_ext_chains.specs.Places.{at, raw_at, AreOfNumber};
-    ghost use Rattle.ip_ext_chains.specs.Ipv6ExtensionSlice.{header_of};
+    ghost use Rattle.ip_ext_slices.specs.Ipv6ExtensionSlice.{header_of};
 
     /// The header in a place of the common layout.
     #[inline(always)]

@@ -1,5 +1,5 @@
 ghost use Rattle.std.specs.Prelude.{◌≡◌, [], true, false, IsTrue, IsFalse};
-ghost use Rattle.ip_ext_chains.specs.Ipv6ExtensionSliceIter.{headers_left};
+ghost use Rattle.ip_ext_slices.specs.Ipv6ExtensionSliceIter.{headers_left};
 ghost use Rattle.ip_ext_chains.specs.Places.{is_taken_in};
 ghost use Rattle.ip_ext_chains.specs.Run.{IsRun};
 
@@ -16,7 +16,7 @@ pub(crate) fn take_run<'a>(
 {
     let mut places = Places::new();
     'headers: loop {
-        let Some(place) = places.free_place(headers.next_header) else {
+        let Some(place) = places.free_place(headers.next_number()) else {
             return places;
         };
         let Some(header) = headers.next() else {
@@ -38,5 +38,5 @@ pub(crate) fn is_last(
     ensures more { IsFalse result → headers_left headers.now ≡ []
         → is_taken_in places.now number.0 ≡ true }
 {
-    headers.rest.is_empty() && !places.is_taken(number)
+    headers.rest().is_empty() && !places.is_taken(number)
 }

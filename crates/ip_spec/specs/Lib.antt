@@ -10,6 +10,7 @@ pub mod Encoding
 pub mod Decoding
 pub mod Chain
 pub mod Demand
+pub mod Parse
 pub mod Fits
 pub mod Places
 pub mod Encoded

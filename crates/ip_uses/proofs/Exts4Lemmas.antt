@@ -2,21 +2,21 @@
 use Rattle.std.proofs.Common.{◌≡◌, ℕ, zero, suc, ◌≤◌, List, [], ◌∷◌, ◌++◌, length, take, drop, get_or, true, refl, ap, ◌∙◌, arith, append_assoc, append-nil}
 use Rattle.std.proofs.lemmas.List.{length-take-le}
 use Rattle.ip_base.specs.declared.len_source.LenSource.TheVariants.{Slice}
-use Rattle.ip_spec.specs.Chain.{ExtHeader, IsNext, IsEnd, bytes_of, is_empty, leads_to}
+use Rattle.ip_spec.specs.Chain.{ExtHeader, IsNext, IsEnd, leads_to}
+use Rattle.ip_spec.specs.Parse.{rest_behind, fault_behind}
 use Rattle.ip_spec.proofs.HeaderLemmas.{header-least}
 use Rattle.ip_spec.proofs.DemandKinds.{one_of_first, one_of_none}
 use Rattle.ip_ext_headers.specs.Fault.{auth_fault}
-use Rattle.ip_ext_chains.specs.Ipv4Fault.{ipv4_fault_at}
-use Rattle.ip_ext_chains.specs.Ipv4Longest.{longest_ipv4_chain}
-use Rattle.ip_ext_chains.proofs.Ipv4Lemmas.{ipv4_longest-is}
+use Rattle.ip_ext_ipv4.specs.Ipv4Fault.{ipv4_faults}
+use Rattle.ip_ext_ipv4.specs.Ipv4Longest.{longest_ipv4_chain}
+use Rattle.ip_ext_ipv4.proofs.Ipv4Lemmas.{ipv4_longest-is}
 use Rattle.ipexts_tool.specs.Exts4.{exts4_answer}
 use Rattle.ipexts_tool.specs.Parts.{header_line, header_lines, next_line, ipv4_end_line, ok_line}
 
 -- what is told where the chain c was taken
 abbrev told : List ℕ → List ExtHeader → List ℕ
 told s c =
-    let r : List ℕ = drop (length (bytes_of c)) s in
-    header_lines 0 c ++ next_line (leads_to 51 c) (length r) ++ ipv4_end_line (ipv4_fault_at Slice (length r) (length (bytes_of c)) (is_empty c) (leads_to 51 c) r)
+    header_lines 0 c ++ next_line (leads_to 51 c) (length (rest_behind c s)) ++ ipv4_end_line (fault_behind (ipv4_faults Slice) c 51 s)
 
 first_byte : (k : ℕ) (s : List ℕ) → 8 ≤ k → get_or (take k s) 0 0 ≡ get_or s 0 0
 first_byte zero s few = absurd (omega arith)

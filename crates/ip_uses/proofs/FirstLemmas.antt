@@ -6,8 +6,8 @@ use Rattle.ip_spec.specs.Demand.{AtMost, IsLongestUnder}
 use Rattle.ip_spec.proofs.ChainLemmas.{bytes_of-more}
 use Rattle.ip_spec.proofs.UnderLemmas.{one_longest_under}
 use Rattle.ip_spec.proofs.DemandKinds.{at_most, longest_at_most}
-use Rattle.ip_ext_chains.specs.Longest.{longest_chain}
-use Rattle.ip_ext_chains.proofs.LongestLemmas.{longest_chain-longest}
+use Rattle.ip_ext_slices.specs.Longest.{longest_chain}
+use Rattle.ip_ext_slices.proofs.LongestLemmas.{longest_chain-longest}
 
 -- the first i headers of the chain, which have so many bytes, are taken, and the others are left
 pub record FirstTaken (chain left : List ExtHeader) (i bytes : ℕ) : Type 0 where

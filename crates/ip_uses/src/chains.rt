@@ -1,9 +1,10 @@
 //! Callers of chains.
 ghost use Rattle.std.specs.Prelude.{◌≡◌, List, length, take, false, IfOk, IfSome};
 ghost use Rattle.ip_spec.specs.Chain.{ExtHeader, bytes_of, has_fragmenting, leads_to};
+ghost use Rattle.ip_spec.specs.Parse.{rest_behind};
 ghost use Rattle.ip_spec.specs.Demand.{AtMost, IsLongestUnder};
-ghost use Rattle.ip_ext_chains.specs.Longest.{longest_chain, rest_after};
-ghost use Rattle.ip_ext_chains.specs.Ipv6ExtensionsSlice.{bytes};
+ghost use Rattle.ip_ext_slices.specs.Longest.{longest_chain};
+ghost use Rattle.ip_ext_slices.specs.Ipv6ExtensionsSlice.{bytes};
 
 use ip_base::{IpNumber, ip_number};
 use ip_ext_chains::Ipv6ExtensionsSlice;
@@ -21,7 +22,7 @@ pub fn count_headers(start: IpNumber, packet: &[u8]) -> usize
 pub fn whole_payload(start: IpNumber, packet: &[u8]) -> Option<(IpNumber, &[u8])>
     ensures number { IfSome result (λ found.
         found.0.0 ≡ leads_to start.0 (longest_chain start.0 packet.now)) }
-    ensures payload { IfSome result (λ found. found.1.now ≡ rest_after start.0 packet.now) }
+    ensures payload { IfSome result (λ found. found.1.now ≡ rest_behind (longest_chain start.0 packet.now) packet.now) }
     ensures whole { IfSome result (λ _.
         has_fragmenting (longest_chain start.0 packet.now) ≡ false) }
 {

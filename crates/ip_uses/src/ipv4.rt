@@ -3,9 +3,9 @@ ghost use Rattle.std.specs.Prelude.{◌≡◌, [], IfOk, OnErr, IsTrue};
 ghost use Rattle.std.specs.Option.{option_map};
 ghost use Rattle.ip_spec.specs.FieldsOf.{AuthFields};
 ghost use Rattle.ip_spec.specs.Encoding.{AppendsOne};
-ghost use Rattle.ip_ext_chains.specs.Ipv4Longest.{longest_ipv4_chain};
-ghost use Rattle.ip_ext_chains.specs.Ipv4Parse.{ipv4_value};
-ghost use Rattle.ip_ext_chains.specs.Ipv4Walk.{IsIpv4Reading};
+ghost use Rattle.ip_ext_ipv4.specs.Ipv4Longest.{longest_ipv4_chain};
+ghost use Rattle.ip_ext_ipv4.specs.Ipv4Parse.{ipv4_value};
+ghost use Rattle.ip_ext_ipv4.specs.Ipv4Walk.{IsIpv4Reading};
 
 use ip_base::IpNumber;
 use ip_ext_chains::err::ipv4_exts::HeaderWriteError;

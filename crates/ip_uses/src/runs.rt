@@ -1,9 +1,10 @@
 //! Callers of runs.
 ghost use Rattle.std.specs.Prelude.{◌≡◌, ◌+◌, ◌/◌, ◌≤◌, ◌++◌, List, length, map, IfOk};
 ghost use Rattle.ip_spec.specs.Chain.{ExtHeader, leads_to, bytes_of};
+ghost use Rattle.ip_spec.specs.Parse.{rest_behind};
 ghost use Rattle.ip_spec.specs.Encoded.{cleared_chain};
 ghost use Rattle.ip_spec.specs.Walk.{IsSpelling};
-ghost use Rattle.ip_ext_chains.specs.Longest.{longest_chain, rest_after};
+ghost use Rattle.ip_ext_slices.specs.Longest.{longest_chain};
 ghost use Rattle.ip_ext_chains.specs.Runs.{runs_of};
 ghost use Rattle.ip_ext_chains.specs.Ipv6Extensions.{value_of, held};
 
@@ -35,7 +36,7 @@ pub fn list_runs(
 /// The sum of their lengths, and the number and the bytes behind the last.
 pub fn len_of_runs(start: IpNumber, packet: &[u8]) -> (usize, IpNumber, &[u8])
     ensures number { result.1.0 ≡ leads_to start.0 (longest_chain start.0 packet.now) }
-    ensures rest { result.2.now ≡ rest_after start.0 packet.now }
+    ensures rest { result.2.now ≡ rest_behind (longest_chain start.0 packet.now) packet.now }
 {
     let mut runs = Ipv6ExtensionsRuns::new(start, packet);
     let mut len: usize = 0;

@@ -7,7 +7,7 @@ use Rattle.ip_spec.specs.Runs.{joined}
 use Rattle.ip_spec.specs.Walk.{IsSpelling}
 use Rattle.ip_ext_chains.specs.Chain.{ExtHeader, leads_to, bytes_of}
 use Rattle.ip_ext_chains.specs.Encoded.{cleared_chain}
-use Rattle.ip_ext_chains.specs.Longest.{longest_chain}
+use Rattle.ip_ext_slices.specs.Longest.{longest_chain}
 use Rattle.ip_ext_chains.specs.Runs.{runs_of, AreSpellings}
 use Rattle.ip_ext_chains.specs.Ipv6Extensions.{value_of, held}
 use Rattle.ip_ext_chains.specs.Ipv6ExtensionsRuns.{start, input, runs_left, values_left, GivesRun}

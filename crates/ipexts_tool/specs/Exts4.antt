@@ -1,13 +1,14 @@
 -- The answer to `exts4 N HEX`: the longest chain of IPv4 extension headers from number N that begins the bytes,
 -- at most one authentication header (RFC 4302, section 2), and what comes after it.
 use Rattle.std.specs.Prelude.{ℕ, List, ◌++◌, length}
+use Rattle.ip_spec.specs.Parse.{rest_behind}
 use Rattle.ip_ext_chains.specs.Chain.{leads_to}
-use Rattle.ip_ext_chains.specs.Ipv4Fault.{ipv4_chain_fault}
-use Rattle.ip_ext_chains.specs.Ipv4Longest.{longest_ipv4_chain, ipv4_rest_after}
+use Rattle.ip_ext_ipv4.specs.Ipv4Fault.{ipv4_chain_fault}
+use Rattle.ip_ext_ipv4.specs.Ipv4Longest.{longest_ipv4_chain}
 use Rattle.ipexts_tool.specs.Parts.{header_lines, next_line, ipv4_end_line}
 
 abbrev pub exts4_answer : ℕ → List ℕ → List ℕ
 exts4_answer number bytes =
     header_lines 0 (longest_ipv4_chain number bytes)
-    ++ next_line (leads_to number (longest_ipv4_chain number bytes)) (length (ipv4_rest_after number bytes))
+    ++ next_line (leads_to number (longest_ipv4_chain number bytes)) (length (rest_behind (longest_ipv4_chain number bytes) bytes))
     ++ ipv4_end_line (ipv4_chain_fault number bytes)

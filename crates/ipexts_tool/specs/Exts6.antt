@@ -1,13 +1,14 @@
 -- The answer to `exts6 N HEX`: the longest chain of IPv6 extension headers from number N that begins
 -- the bytes (RFC 8200, section 4), and what comes after it.
 use Rattle.std.specs.Prelude.{ℕ, List, ◌++◌, length}
+use Rattle.ip_spec.specs.Parse.{rest_behind}
 use Rattle.ip_ext_chains.specs.Chain.{leads_to}
-use Rattle.ip_ext_chains.specs.Fault.{chain_fault}
-use Rattle.ip_ext_chains.specs.Longest.{longest_chain, rest_after}
+use Rattle.ip_ext_slices.specs.Fault.{chain_fault}
+use Rattle.ip_ext_slices.specs.Longest.{longest_chain}
 use Rattle.ipexts_tool.specs.Parts.{header_lines, next_line, chain_end_line}
 
 abbrev pub exts6_answer : ℕ → List ℕ → List ℕ
 exts6_answer number bytes =
     header_lines 0 (longest_chain number bytes)
-    ++ next_line (leads_to number (longest_chain number bytes)) (length (rest_after number bytes))
+    ++ next_line (leads_to number (longest_chain number bytes)) (length (rest_behind (longest_chain number bytes) bytes))
     ++ chain_end_line (chain_fault number bytes)

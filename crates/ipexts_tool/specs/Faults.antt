@@ -7,10 +7,10 @@ use Rattle.ip_ext_headers.specs.declared.err.ip_auth.header_error.HeaderError.Th
 use Rattle.ip_ext_headers.specs.declared.err.ip_auth.header_slice_error.HeaderSliceError.{HeaderSliceError as AuthSliceError}
 use Rattle.ip_ext_headers.specs.declared.err.ip_auth.header_slice_error.HeaderSliceError.TheVariants as auth
 use Rattle.ip_ext_chains.specs.Names.{layer_name, len_source_name}
-use Rattle.ip_ext_chains.specs.declared.err.ipv6_exts.header_error.HeaderError.{HeaderError}
-use Rattle.ip_ext_chains.specs.declared.err.ipv6_exts.header_error.HeaderError.TheVariants.{HopByHopNotAtStart, IpAuth}
-use Rattle.ip_ext_chains.specs.declared.err.ipv6_exts.header_slice_error.HeaderSliceError.{HeaderSliceError}
-use Rattle.ip_ext_chains.specs.declared.err.ipv6_exts.header_slice_error.HeaderSliceError.TheVariants.{Len, Content}
+use Rattle.ip_ext_slices.specs.declared.err.ipv6_exts.header_error.HeaderError.{HeaderError}
+use Rattle.ip_ext_slices.specs.declared.err.ipv6_exts.header_error.HeaderError.TheVariants.{HopByHopNotAtStart, IpAuth}
+use Rattle.ip_ext_slices.specs.declared.err.ipv6_exts.header_slice_error.HeaderSliceError.{HeaderSliceError}
+use Rattle.ip_ext_slices.specs.declared.err.ipv6_exts.header_slice_error.HeaderSliceError.TheVariants.{Len, Content}
 
 -- fewer bytes than required: `fault len R of L S Y at O`
 abbrev pub len_fault_text : LenError → List ℕ

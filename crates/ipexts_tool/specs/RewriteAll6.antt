@@ -1,17 +1,18 @@
 -- The answer to `rewriteall6 N HEX`: how many runs the longest chain from number N that begins the bytes has, each
 -- of which fits six places (RFC 8200, section 4.1), and the chain written with its reserved bits put to zero.
 use Rattle.std.specs.Prelude.{ℕ, List, ◌++◌, length, codes}
+use Rattle.ip_spec.specs.Parse.{rest_behind}
 use Rattle.std.specs.Fmt.{decimal}
 use Rattle.ip_ext_chains.specs.Chain.{leads_to, bytes_of}
 use Rattle.ip_ext_chains.specs.Encoded.{cleared_chain}
-use Rattle.ip_ext_chains.specs.Fault.{chain_fault}
-use Rattle.ip_ext_chains.specs.Longest.{longest_chain, rest_after}
+use Rattle.ip_ext_slices.specs.Fault.{chain_fault}
+use Rattle.ip_ext_slices.specs.Longest.{longest_chain}
 use Rattle.ip_ext_chains.specs.Runs.{runs_of}
 use Rattle.ipexts_tool.specs.Parts.{next_line, written_line, chain_end_line}
 
 abbrev pub rewriteall6_answer : ℕ → List ℕ → List ℕ
 rewriteall6_answer number bytes =
     codes "runs " ++ decimal (length (runs_of number bytes)) ++ codes " "
-    ++ next_line (leads_to number (longest_chain number bytes)) (length (rest_after number bytes))
+    ++ next_line (leads_to number (longest_chain number bytes)) (length (rest_behind (longest_chain number bytes) bytes))
     ++ written_line (bytes_of (cleared_chain (longest_chain number bytes)))
     ++ chain_end_line (chain_fault number bytes)

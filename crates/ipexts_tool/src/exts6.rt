@@ -1,6 +1,6 @@
 //! The answer to `exts6 N HEX`.
 ghost use Rattle.std.specs.Prelude.{◌≡◌, ◌++◌, OnOk, string_bytes};
-ghost use Rattle.ip_ext_chains.specs.Ipv6ExtensionsSlice.{headers_in};
+ghost use Rattle.ip_ext_slices.specs.Ipv6ExtensionsSlice.{headers_in};
 ghost use Rattle.ipexts_tool.specs.Exts6.{exts6_answer};
 ghost use Rattle.ipexts_tool.specs.Parts.{header_lines};
 

@@ -3,7 +3,7 @@ ghost use Rattle.std.specs.Prelude.{◌≡◌, ◌++◌, List, [], length, OnOk,
 ghost use Rattle.ip_spec.specs.Walk.{IsSpelling};
 ghost use Rattle.ip_ext_chains.specs.Chain.{ExtHeader, leads_to, bytes_of};
 ghost use Rattle.ip_ext_chains.specs.Encoded.{cleared_chain};
-ghost use Rattle.ip_ext_chains.specs.Longest.{longest_chain};
+ghost use Rattle.ip_ext_slices.specs.Longest.{longest_chain};
 ghost use Rattle.ip_ext_chains.specs.Runs.{runs_of};
 ghost use Rattle.ip_ext_chains.specs.Ipv6Extensions.{held};
 ghost use Rattle.ip_ext_chains.specs.Ipv6ExtensionsRuns.{start, input, values_left};

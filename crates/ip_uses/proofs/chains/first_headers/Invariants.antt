@@ -1,5 +1,5 @@
-use Rattle.ip_ext_chains.specs.Longest.{longest_chain}
-use Rattle.ip_ext_chains.specs.Ipv6ExtensionSliceIter.{headers_left}
+use Rattle.ip_ext_slices.specs.Longest.{longest_chain}
+use Rattle.ip_ext_slices.specs.Ipv6ExtensionSliceIter.{headers_left}
 use Rattle.ip_uses.proofs.FirstLemmas.{FirstTaken}
 use Rattle.ip_uses.proofs.chains.first_headers.Given as goal
 

@@ -1,7 +1,7 @@
 use Rattle.std.proofs.Common.{◌≡◌, ◌++◌}
 use Rattle.ip_spec.specs.Chain.{bytes_of}
-use Rattle.ip_ext_chains.specs.Ipv6ExtensionsSlice.{bytes}
-use Rattle.ip_ext_chains.specs.Ipv6ExtensionSliceIter.{headers_left}
+use Rattle.ip_ext_slices.specs.Ipv6ExtensionsSlice.{bytes}
+use Rattle.ip_ext_slices.specs.Ipv6ExtensionSliceIter.{headers_left}
 use Rattle.ip_uses.proofs.chains.joined.Given as goal
 
 -- what was copied and what is to come are the bytes of all headers

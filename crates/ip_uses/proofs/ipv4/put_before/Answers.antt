@@ -2,7 +2,7 @@ use Rattle.std.proofs.Common.{ℕ, List, [], refl, ap, ◌∙◌, subst, append-
 use Rattle.std.specs.Prelude.{Option}
 use Rattle.std.specs.Option.{option_map}
 use Rattle.ip_spec.specs.FieldsOf.{AuthFields}
-use Rattle.ip_ext_chains.specs.Ipv4Walk.{IsIpv4Reading}
+use Rattle.ip_ext_ipv4.specs.Ipv4Walk.{IsIpv4Reading}
 use Rattle.ip_uses.proofs.ipv4.put_before.Goals as goal
 
 pub returns-in-Ok-clause-read : goal.returns-in-Ok-clause-read

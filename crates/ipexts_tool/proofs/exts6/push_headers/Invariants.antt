@@ -1,8 +1,8 @@
 use Rattle.std.proofs.Common.{◌≡◌, ◌++◌, ◌+◌, length}
 use Rattle.std.specs.Prelude.{string_bytes}
 use Rattle.ip_ext_chains.specs.Chain.{bytes_of}
-use Rattle.ip_ext_chains.specs.Ipv6ExtensionsSlice.{headers_in, bytes}
-use Rattle.ip_ext_chains.specs.Ipv6ExtensionSliceIter.{headers_left}
+use Rattle.ip_ext_slices.specs.Ipv6ExtensionsSlice.{headers_in, bytes}
+use Rattle.ip_ext_slices.specs.Ipv6ExtensionSliceIter.{headers_left}
 use Rattle.ipexts_tool.specs.Parts.{header_lines}
 use Rattle.ipexts_tool.proofs.exts6.push_headers.Given as goal
 

@@ -1,8 +1,9 @@
 use Rattle.std.proofs.Common.{ap, sym, ◌∙◌}
+use Rattle.std.proofs.lemmas.List.{take_rest}
 use Rattle.std.specs.Prelude.{Option, None, if◌then◌else◌}
 use Rattle.ip_spec.specs.Chain.{bytes_of}
-use Rattle.ip_ext_chains.specs.Fault.{Fault}
-use Rattle.ip_ext_chains.proofs.LongestLemmas.{longest_chain-longest}
+use Rattle.ip_ext_slices.specs.Fault.{Fault}
+use Rattle.ip_ext_slices.proofs.LongestLemmas.{longest_chain-longest}
 use Rattle.ip_ext_chains.proofs.RunLemmas.{none_left, some_left}
 use Rattle.ip_ext_chains.proofs.FittingLemmas.{walk_stops, walk_ends}
 use Rattle.ip_ext_chains.proofs.ipv6_exts.Ipv6Extensions.walk.Goals as goal
@@ -12,8 +13,8 @@ returns-then-not-is_empty c =
     let headers = c.into_iter-headers.ensures.headers in
     let left = c.take_run-places.new.headers in
     walk_stops _ _ _ _ _ c.take_run-places.ensures (headers ∙ c.from_slice_lax-fault.ensures.answer.value)
-    (some_left _ _ left.whole (sym c.is_empty.ensures ∙ c.if-not-is_empty.true)) _ (longest_chain-longest _ _).has.chain
-    _ _ _ (c.slice-len.ensures.joined ∙ sym (ap bytes_of headers)) left.whole c.after.ensures
+    (some_left _ _ left.whole (rw (sym c.rest-left.ensures) (sym c.is_empty.ensures ∙ c.if-not-is_empty.true))) _ (rw c.next_number.ensures (longest_chain-longest _ _).has.chain)
+    _ _ _ (c.slice-len.ensures.joined ∙ sym (ap bytes_of headers)) left.whole (rw (sym c.rest-left.ensures) (take_rest c.args.bytes.now _))
 
 pub returns-then-is_taken : goal.returns-then-is_taken
 returns-then-is_taken c =
@@ -21,7 +22,7 @@ returns-then-is_taken c =
     let left = c.take_run-places.new.headers in
     let dropped : Option Fault = c.from_slice_lax-fault.result.3 in
     walk_ends _ _ _ _ _ c.take_run-places.ensures (c.into_iter-headers.ensures.headers ∙ answer.value)
-    (none_left _ _ left.whole (sym c.is_empty.ensures ∙ c.if-not-is_empty.false)) _ _ _ _ answer.number answer.rest answer.fault
+    (none_left _ _ left.whole (rw (sym c.rest-left.ensures) (sym c.is_empty.ensures ∙ c.if-not-is_empty.false))) _ _ _ _ answer.number answer.rest answer.fault
     (sym (ap (λ b. if b then None else dropped) (sym c.is_taken.ensures ∙ c.if-is_taken.true)))
 
 pub returns : goal.returns
@@ -30,5 +31,5 @@ returns c =
     let left = c.take_run-places.new.headers in
     let told : Option Fault = c.from_slice_lax-fault.result.3 in
     walk_ends _ _ _ _ _ c.take_run-places.ensures (c.into_iter-headers.ensures.headers ∙ answer.value)
-    (none_left _ _ left.whole (sym c.is_empty.ensures ∙ c.if-not-is_empty.false)) _ _ _ _ answer.number answer.rest answer.fault
+    (none_left _ _ left.whole (rw (sym c.rest-left.ensures) (sym c.is_empty.ensures ∙ c.if-not-is_empty.false))) _ _ _ _ answer.number answer.rest answer.fault
     (sym (ap (λ b. if b then None else told) (sym c.is_taken.ensures ∙ c.if-is_taken.false)))

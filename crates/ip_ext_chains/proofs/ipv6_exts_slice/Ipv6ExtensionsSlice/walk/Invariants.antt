@@ -1,9 +1,0 @@
-use Rattle.std.proofs.Common.{length}
-use Rattle.ip_ext_chains.proofs.ParseLemmas.{ParseState}
-use Rattle.ip_ext_chains.proofs.ipv6_exts_slice.Ipv6ExtensionsSlice.walk.Given as goal
-
-abbrev pub invariant-headers : goal.invariant-headers
-invariant-headers l = ParseState l.fn.start.0 l.bytes l.number.0 l.rest l.fragmented
-
-abbrev pub decreases-headers : goal.decreases-headers
-decreases-headers l = length l.rest

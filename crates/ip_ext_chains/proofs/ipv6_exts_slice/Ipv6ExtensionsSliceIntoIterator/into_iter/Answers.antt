@@ -1,7 +1,0 @@
-use Rattle.std.proofs.Common.{length, ap, arith}
-use Rattle.ip_ext_chains.specs.StartNumber.{start_number}
-use Rattle.ip_ext_chains.proofs.LongestLemmas.{longest_chain-least}
-use Rattle.ip_ext_chains.proofs.ipv6_exts_slice.Ipv6ExtensionsSliceIntoIterator.into_iter.Goals as goal
-
-pub returns-clause-bound : goal.returns-clause-bound
-returns-clause-bound c = omega (arith, longest_chain-least (start_number c.args.self.first_header) c.args.self.slice.now, ap length c.args.self.whole)

@@ -1,0 +1,2 @@
+pub mod Ipv4Lemmas
+pub mod Ipv4WalkLemmas

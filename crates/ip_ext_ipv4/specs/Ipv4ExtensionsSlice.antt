@@ -1,0 +1,22 @@
+-- What slices of IPv4 extension headers show.
+use Rattle.std.specs.Prelude.{List, [], ◌∷◌, Option, Some, None, Bool, nat_eq}
+use Rattle.std.specs.Option.{option_eq}
+use Rattle.std.specs.Ordering.{on}
+use Rattle.std.specs.Cmp.Lexicographic.{pointwise}
+use Rattle.ip_ext_headers.specs.declared.ip_auth_header_slice.IpAuthHeaderSlice.{IpAuthHeaderSlice}
+use Rattle.ip_ext_headers.specs.IpAuthHeaderSlice as auth
+use Rattle.ip_spec.specs.Numbers.{AUTHENTICATION}
+use Rattle.ip_spec.specs.Chain.{ExtHeader}
+use Rattle.ip_ext_ipv4.specs.declared.ipv4_exts_slice.Ipv4ExtensionsSlice.{Ipv4ExtensionsSlice}
+
+abbrev pub headers_of : Option IpAuthHeaderSlice → List ExtHeader
+headers_of None = []
+headers_of (Some h) = record { number = AUTHENTICATION; bytes = auth.bytes h } ∷ []
+
+-- their headers
+abbrev pub headers_in : Ipv4ExtensionsSlice → List ExtHeader
+headers_in x = headers_of x.auth
+
+-- two have the same bytes, or no header
+abbrev pub same_slices : Ipv4ExtensionsSlice → Ipv4ExtensionsSlice → Bool
+same_slices = on (λ (x : Ipv4ExtensionsSlice). x.auth) (option_eq (on auth.bytes (pointwise nat_eq)))

@@ -1,0 +1,22 @@
+-- What a parse of IPv4 extension headers answers, and what it reads.
+use Rattle.std.specs.Prelude.{ℕ, List, [], ◌∷◌, Option, Some, None}
+use Rattle.ip_base.specs.declared.len_source.LenSource.TheVariants.{Slice}
+use Rattle.ip_ext_headers.specs.declared.err.ip_auth.header_slice_error.HeaderSliceError.{HeaderSliceError}
+use Rattle.ip_spec.specs.FieldsOf.{AuthFields, auth_fields}
+use Rattle.ip_spec.specs.Chain.{ExtHeader}
+use Rattle.ip_spec.specs.Parse.{IsAnswer}
+use Rattle.ip_ext_ipv4.specs.Ipv4Longest.{longest_ipv4_chain}
+use Rattle.ip_ext_ipv4.specs.Ipv4Fault.{ipv4_faults}
+
+-- the value of a chain: the fields of its header, if there is one
+abbrev pub ipv4_value : List ExtHeader → Option AuthFields
+ipv4_value [] = None
+ipv4_value (h ∷ c) = Some (auth_fields h.bytes)
+
+-- the answer for the longest chain, whose value is all of its headers
+abbrev pub IsIpv4ChainAnswer : ℕ → List ℕ → List ExtHeader → ℕ → List ℕ → Option HeaderSliceError → Type 0
+IsIpv4ChainAnswer n s = IsAnswer (λ c. c) (ipv4_faults Slice) (longest_ipv4_chain n s) n s
+
+-- the answer for the longest chain, whose value is the fields of its header
+abbrev pub IsIpv4ValueAnswer : ℕ → List ℕ → Option AuthFields → ℕ → List ℕ → Option HeaderSliceError → Type 0
+IsIpv4ValueAnswer n s = IsAnswer ipv4_value (ipv4_faults Slice) (longest_ipv4_chain n s) n s

@@ -1,0 +1,83 @@
+-- At an extension number there is a fault wherever no header goes on, and at another number there is neither.
+use Rattle.std.proofs.Common.{◌≡◌, ◌≢◌, ℕ, ◌+◌, ◌*◌, List, length, take, refl, sym, arith, inl, inr, ◌⊎◌, subst, Bool, true, false, slice_index}
+use Rattle.std.specs.Prelude.{Option, Some, None, IsSome, IsTrue}
+use Rattle.std.specs.Option.{option_map}
+use Rattle.std.proofs.lemmas.Bool.{cases_lt, lt-ltb, le-ltb, ne_eqb}
+use Rattle.std.proofs.lemmas.Bool.Decides.{eqb_tells}
+use Rattle.ip_base.specs.declared.len_source.LenSource.{LenSource}
+use Rattle.ip_spec.specs.Header.{IsHeader, IsExtensionNumber, IsRawNumber, raw, fragment, auth}
+use Rattle.ip_spec.specs.Chain.{ExtHeader, IsNext, IsEnd}
+use Rattle.ip_spec.proofs.PrefixLemmas.{prefix_of-take}
+use Rattle.ip_spec.proofs.HeaderLemmas.{header_number, raw_begins, fragment_begins, auth_begins}
+use Rattle.ip_ext_headers.specs.Fault.{raw_fault, fragment_fault, auth_fault}
+use Rattle.ip_ext_slices.specs.Fault.{fault_at}
+
+begins : (first : Bool) (m : ℕ) (r b : List ℕ) → IsHeader m b → take (length b) r ≡ b → (m ≡ 0 → IsTrue first) → (h : ExtHeader) × IsNext first m r h
+begins first m r b h f z = (record { number = m; bytes = b }, record { number = refl; header = h; prefix = f; zero_only_first = z })
+
+raw_or_fault : (source : LenSource) (n : ℕ) (first : Bool) (m : ℕ) (r : List ℕ) (k : ℕ) → IsRawNumber m → (m ≡ 0 → IsTrue first) → ((h : ExtHeader) × IsNext first m r h) ⊎ IsSome (raw_fault source n k r)
+raw_or_fault source n first m r k raw_number z = elim (cases_lt (length r) 8) [
+  | inl few ↦ inr (rw (lt-ltb (length r) 8 few) refl)
+  | inr len ↦ elim (cases_lt (length r) (8 * (slice_index r 1 + 1))) [
+    | inl few ↦ inr (rw (le-ltb (length r) 8 len, lt-ltb (length r) (8 * (slice_index r 1 + 1)) few) refl)
+    | inr enough ↦ inl (begins first m r (take (8 * (slice_index r 1 + 1)) r) (raw raw_number (raw_begins r (8 * (slice_index r 1 + 1)) enough (omega arith) refl)) (prefix_of-take (8 * (slice_index r 1 + 1)) r) z)
+  ]
+]
+
+fragment_or_fault : (source : LenSource) (n : ℕ) (first : Bool) (m : ℕ) (r : List ℕ) (k : ℕ) → m ≡ 44 → ((h : ExtHeader) × IsNext first m r h) ⊎ IsSome (fragment_fault source n k r)
+fragment_or_fault source n first m r k e = elim (cases_lt (length r) 8) [
+  | inl few ↦ inr (rw (lt-ltb (length r) 8 few) refl)
+  | inr enough ↦ inl (begins first m r (take 8 r) (fragment e (fragment_begins r 8 enough (omega arith) refl)) (prefix_of-take 8 r) (λ z. absurd (omega arith)))
+]
+
+auth_or_fault : (source : LenSource) (n : ℕ) (first : Bool) (m : ℕ) (r : List ℕ) (k : ℕ) → m ≡ 51 → ((h : ExtHeader) × IsNext first m r h) ⊎ IsSome (auth_fault source n k r)
+auth_or_fault source n first m r k e = elim (cases_lt (length r) 12) [
+  | inl few ↦ inr (rw (lt-ltb (length r) 12 few) refl)
+  | inr twelve ↦ elim (eqb_tells (slice_index r 1) 0) [
+    | inl w ↦ inr (rw (le-ltb (length r) 12 twelve, w.0) refl)
+    | inr w ↦ elim (cases_lt (length r) (4 * (slice_index r 1 + 2))) [
+      | inl few ↦ inr (rw (le-ltb (length r) 12 twelve, w.0, lt-ltb (length r) (4 * (slice_index r 1 + 2)) few) refl)
+      | inr enough ↦ inl (begins first m r (take (4 * (slice_index r 1 + 2)) r) (auth e (auth_begins r (4 * (slice_index r 1 + 2)) enough (omega (arith, w.1)) refl (omega (arith, w.1)))) (prefix_of-take (4 * (slice_index r 1 + 2)) r) (λ z. absurd (omega arith)))
+    ]
+  ]
+]
+
+mapped : {A B : Type 0} (f : A → B) (o : Option A) → IsSome o → IsSome (option_map f o)
+mapped f (Some x) s = refl
+mapped f None s = s
+
+module _ (source : LenSource) (n : ℕ) (r : List ℕ) (k : ℕ) where
+  at_zero : (first : Bool) → IsEnd first 0 r → IsSome (fault_at source n k first 0 r)
+  at_zero true e = elim (raw_or_fault source n true 0 r k (inl refl) (λ z. refl)) [ inl (h, x) ↦ absurd (e h x) | inr s ↦ mapped _ (raw_fault source n k r) s ]
+  at_zero false e = refl
+
+  at_raw : (first : Bool) (m : ℕ) → IsRawNumber m → m ≢ 0 → IsEnd first m r → IsSome (raw_fault source n k r)
+  at_raw first m raw_number not_zero e = elim (raw_or_fault source n first m r k raw_number (λ z. absurd (not_zero z))) [ inl (h, x) ↦ absurd (e h x) | inr s ↦ s ]
+
+  fault_of_raw : (first : Bool) (m : ℕ) → IsRawNumber m → IsEnd first m r → IsSome (fault_at source n k first m r)
+  fault_of_raw first m is e = elim is [
+    | inl z ↦ let P : ℕ → Type 0 = λ j. IsEnd first j r in let Q : ℕ → Type 0 = λ j. IsSome (fault_at source n k first j r) in subst Q (sym z) (at_zero first (subst P z e))
+    | inr is' ↦ elim is' [
+      | inl z ↦ let Q : ℕ → Type 0 = λ j. IsSome (fault_at source n k first j r) in subst Q (sym z) (mapped _ (raw_fault source n k r) (at_raw first m (inr (inl z)) (omega arith) e))
+      | inr z ↦ let Q : ℕ → Type 0 = λ j. IsSome (fault_at source n k first j r) in subst Q (sym z) (mapped _ (raw_fault source n k r) (at_raw first m (inr (inr z)) (omega arith) e))
+    ]
+  ]
+
+  -- where no header goes on, an extension number has a fault
+  pub fault_at_end : (first : Bool) (m : ℕ) → IsExtensionNumber m → IsEnd first m r → IsSome (fault_at source n k first m r)
+  fault_at_end first m is e = elim is [
+    | inl raw_number ↦ fault_of_raw first m raw_number e
+    | inr is' ↦ elim is' [
+      | inl z ↦ let Q : ℕ → Type 0 = λ j. IsSome (fault_at source n k first j r) in subst Q (sym z) (mapped _ (fragment_fault source n k r) (elim (fragment_or_fault source n first m r k z) [ inl (h, x) ↦ absurd (e h x) | inr s ↦ s ]))
+      | inr z ↦ let Q : ℕ → Type 0 = λ j. IsSome (fault_at source n k first j r) in subst Q (sym z) (mapped _ (auth_fault source n k r) (elim (auth_or_fault source n first m r k z) [ inl (h, x) ↦ absurd (e h x) | inr s ↦ s ]))
+    ]
+  ]
+
+-- at another number no header goes on
+pub end_at_other : (first : Bool) (m : ℕ) (r : List ℕ) → (IsExtensionNumber m → ⊥) → IsEnd first m r
+end_at_other first m r other = λ h x. other (header_number m h.bytes x.header)
+
+-- and there is no fault
+pub no_fault_at_other : (source : LenSource) (n : ℕ) (first : Bool) (m : ℕ) (r : List ℕ) (k : ℕ) → (IsExtensionNumber m → ⊥) → fault_at source n k first m r ≡ None
+no_fault_at_other source n first m r k other =
+    rw (ne_eqb m 0 (λ e. other (inl (inl e))), ne_eqb m 43 (λ e. other (inl (inr (inl e)))), ne_eqb m 60 (λ e. other (inl (inr (inr e)))), ne_eqb m 44 (λ e. other (inr (inl e))), ne_eqb m 51 (λ e. other (inr (inr e)))) refl

@@ -1,0 +1,3 @@
+pub mod LongestLemmas
+pub mod ParseLemmas
+pub mod FaultLemmas

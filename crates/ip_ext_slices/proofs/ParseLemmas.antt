@@ -1,0 +1,94 @@
+-- What the parse knows of the chain that it has read, and what follows where no header goes on.
+use Rattle.std.proofs.Common.{◌≡◌, ℕ, arith, inl, inr, subst, ◌-◌, List, [], ◌∷◌, ◌++◌, length, take, drop, ap, sym, ◌∙◌, Bool, nat_eq}
+use Rattle.std.specs.Prelude.{◌==◌, ◌&&◌, ◌||◌}
+use Rattle.std.specs.List.{AllByRecursion}
+use Rattle.std.proofs.Math.Bool.{or-false, or_assoc}
+use Rattle.std.proofs.lemmas.Bool.Decides.{eqb_tells}
+use Rattle.ip_spec.specs.Header.{IsHeader}
+use Rattle.ip_spec.specs.Parse.{rest_behind}
+use Rattle.ip_spec.proofs.PrefixLemmas.{prefix-length}
+use Rattle.ip_spec.proofs.ChainLemmas.{longest_ends, bytes_of-least}
+use Rattle.ip_spec.specs.Fields.{next_header, is_fragmenting}
+use Rattle.ip_spec.specs.Chain.{ExtHeader, leads_to, bytes_of, is_empty, has_fragmenting, IsNext, IsEnd}
+use Rattle.ip_spec.proofs.ReadLemmas.{HasRead, has_read_on, offset_is, no_next_here, read_longest}
+use Rattle.ip_ext_slices.specs.Longest.{longest_chain}
+use Rattle.ip_ext_slices.specs.Fault.{slice_fault, chain_fault}
+use Rattle.ip_ext_slices.proofs.LongestLemmas.{longest_chain-longest, longest_chain-is, longest_chain-bytes_of}
+
+-- a fragment header that fragments the payload
+abbrev pub fragments : ExtHeader → Bool
+fragments h = (h.number == 44) && is_fragmenting h.bytes
+
+has_fragmenting-more : (c : List ExtHeader) (h : ExtHeader) → has_fragmenting (c ++ h ∷ []) ≡ (has_fragmenting c || fragments h)
+has_fragmenting-more [] h = or-false _
+has_fragmenting-more (g ∷ c) h = ap (λ b. fragments g || b) (has_fragmenting-more c h) ∙ sym (or_assoc (fragments g) (has_fragmenting c) (fragments h))
+
+-- a chain has been read of s from n, leads to m and leaves r, and the flag tells whether it fragments
+pub record ParseState (n : ℕ) (s : List ℕ) (m : ℕ) (r : List ℕ) (flag : Bool) : Type 0 where
+  pub chain : List ExtHeader
+  pub read : HasRead n s chain m r
+  pub fragmented : flag ≡ has_fragmenting chain
+
+-- one more header
+pub parse_goes_on : (n : ℕ) (s : List ℕ) (m : ℕ) (r : List ℕ) (flag : Bool) (h : ExtHeader) (k : ℕ) (q b : List ℕ) (either : Bool) → ParseState n s m r flag → IsNext (nat_eq (length r) (length s)) m r h
+    → k ≡ next_header h.bytes → b ≡ h.bytes → q ≡ drop (length b) r → either ≡ (flag || fragments h) → ParseState n s k q either
+parse_goes_on n s m r flag h k q b either p x ek eb eq em =
+    record {
+      chain = p.chain ++ h ∷ [];
+      read = has_read_on n s p.chain m r h k q b p.read x ek eb eq;
+      fragmented = em ∙ ap (λ f. f || fragments h) p.fragmented ∙ sym (has_fragmenting-more p.chain h);
+    }
+
+-- where no header goes on, the chain that was read is the longest
+pub record AtEnd (n : ℕ) (s : List ℕ) (m : ℕ) (r : List ℕ) (flag : Bool) : Type 0 where
+  pub number : m ≡ leads_to n (longest_chain n s)
+  pub rest : r ≡ rest_behind (longest_chain n s) s
+  pub len : length s - length r ≡ length (bytes_of (longest_chain n s))
+  pub fragmented : flag ≡ has_fragmenting (longest_chain n s)
+
+pub at_end : (n : ℕ) (s : List ℕ) (m : ℕ) (r : List ℕ) (flag : Bool) → ParseState n s m r flag → IsEnd (nat_eq (length r) (length s)) m r → AtEnd n s m r flag
+at_end n s m r flag p e =
+    let c : List ExtHeader = p.chain in
+    let is : c ≡ longest_chain n s = sym (longest_chain-is n s c (read_longest n s c m r p.read (no_next_here n s c m r p.read e))) in
+    record {
+      number = p.read.number ∙ ap (leads_to n) is;
+      rest = p.read.rest ∙ ap (λ d. drop (length (bytes_of d)) s) is;
+      len = offset_is n s c m r p.read ∙ ap (λ d. length (bytes_of d)) is;
+      fragmented = p.fragmented ∙ ap has_fragmenting is;
+    }
+
+no_bytes : (c : List ExtHeader) (k : ℕ) → AllByRecursion (λ h. IsHeader h.number h.bytes) c → k ≡ length (bytes_of c) → nat_eq k 0 ≡ is_empty c
+no_bytes [] k a e = ap (λ j. nat_eq j 0) e
+no_bytes (h ∷ c) k a e = elim (eqb_tells k 0) [ inl w ↦ absurd (omega (arith, w.1, e, bytes_of-least (h ∷ c) a)) | inr w ↦ w.0 ]
+
+-- the bytes before what is left are the chain's
+pub len_behind : (n : ℕ) (s r : List ℕ) → r ≡ rest_behind (longest_chain n s) s → length s - length r ≡ length (bytes_of (longest_chain n s))
+len_behind n s r e = omega (arith, prefix-length (bytes_of (longest_chain n s)) s (longest_chain-longest n s).has.prefix, ap length e)
+
+-- The longest chain of s from n, which has k bytes.
+module _ (n : ℕ) (s : List ℕ) (k : ℕ) (len : k ≡ length (bytes_of (longest_chain n s))) where
+  pub longest_taken : take k s ≡ bytes_of (longest_chain n s)
+  longest_taken = ap (λ j. take j s) len ∙ (longest_chain-longest n s).has.prefix
+
+  pub longest_own : longest_chain n (take k s) ≡ longest_chain n s
+  longest_own = ap (longest_chain n) longest_taken ∙ longest_chain-bytes_of n (longest_chain n s) (longest_chain-longest n s).has.chain
+
+  first_told : nat_eq k 0 ≡ is_empty (longest_chain n s)
+  first_told = no_bytes (longest_chain n s) k (longest_chain-longest n s).has.chain.headers len
+
+  module _ (m : ℕ) (r : List ℕ) (number : m ≡ leads_to n (longest_chain n s)) (rest : r ≡ rest_behind (longest_chain n s) s) where
+    -- nothing goes on behind it, and what fault stands there
+    pub ends_behind : IsEnd (nat_eq k 0) m r
+    ends_behind =
+        let F : Bool → Type 0 = λ f. IsEnd f m r in
+        let M : ℕ → Type 0 = λ j. IsEnd (is_empty (longest_chain n s)) j r in
+        let R : List ℕ → Type 0 = λ q. IsEnd (is_empty (longest_chain n s)) (leads_to n (longest_chain n s)) q in
+        subst F (sym first_told) (subst M (sym number) (subst R (sym rest) (longest_ends n s (longest_chain n s) (longest_chain-longest n s))))
+
+    pub chain_fault_is : chain_fault n s ≡ slice_fault k (nat_eq k 0) m r
+    chain_fault_is =
+        let c : List ExtHeader = longest_chain n s in
+        sym (ap (λ f. slice_fault k f m r) first_told
+        ∙ ap (λ j. slice_fault j (is_empty c) m r) len
+        ∙ ap (λ j. slice_fault (length (bytes_of c)) (is_empty c) j r) number
+        ∙ ap (slice_fault (length (bytes_of c)) (is_empty c) (leads_to n c)) rest)

@@ -1,0 +1,17 @@
+use Rattle.std.proofs.Common.{◌∙◌, ap}
+use Rattle.std.specs.Option.{option_map}
+use Rattle.ip_base.specs.declared.len_source.LenSource.TheVariants.{Slice}
+use Rattle.ip_ext_slices.specs.Fault.{Fault}
+use Rattle.ip_ext_slices.proofs.FaultLemmas.{fault_at_end}
+use Rattle.ip_ext_slices.proofs.ParseLemmas.{ends_behind, chain_fault_is}
+use Rattle.ip_ext_slices.proofs.ipv6_exts_slice.Ipv6ExtensionsSlice.from_slice.Goals as goal
+
+pub error_at-requires : goal.error_at-requires
+error_at-requires c =
+    let walked = c.walk-len.ensures in
+    fault_at_end Slice _ _ _ _ _ (c.is_extension.ensures.0 c.if-is_extension.true) (ends_behind _ _ _ walked.len _ _ walked.number walked.rest)
+
+pub returns-then-is_extension-clause-fault : goal.returns-then-is_extension-clause-fault
+returns-then-is_extension-clause-fault c =
+    let walked = c.walk-len.ensures in
+    ap (option_map (λ (f : Fault). f.0)) (chain_fault_is _ _ _ walked.len _ _ walked.number walked.rest) ∙ c.error_at.ensures

@@ -1,0 +1,23 @@
+use Rattle.ip_ext_slices.proofs.ParseLemmas.{parse_goes_on, at_end}
+use Rattle.ip_ext_slices.proofs.ipv6_exts_slice.Ipv6ExtensionsSlice.walk.Goals as goal
+use Rattle.ip_ext_slices.proofs.ipv6_exts_slice.Ipv6ExtensionsSlice.walk.Goals.{then-fragmented, else-fragmented}
+
+pub headers-preserved : goal.headers-preserved
+headers-preserved c =
+    parse_goes_on _ _ _ _ _ _ _ _ _ _ c.headers.invariant c.in-Some.ensures.next c.next_header-number.ensures c.slice.ensures.bytes c.after-rest.ensures
+    (elim c.if-fragmented.branch [
+      | then-fragmented w ↦ rw (w.if-fragmented.true, w.fragmented-is) w.if-fragmented.true
+      | else-fragmented w ↦ rw (w.if-fragmented.false, w.fragmented-is) w.is_fragmenting_payload-fragmented.ensures
+    ])
+
+pub returns-clause-number : goal.returns-clause-number
+returns-clause-number c = (at_end _ _ _ _ _ c.headers.invariant c.in_default.ensures.end).number
+
+pub returns-clause-rest : goal.returns-clause-rest
+returns-clause-rest c = (at_end _ _ _ _ _ c.headers.invariant c.in_default.ensures.end).rest
+
+pub returns-clause-flag : goal.returns-clause-flag
+returns-clause-flag c = (at_end _ _ _ _ _ c.headers.invariant c.in_default.ensures.end).fragmented
+
+pub returns-clause-len : goal.returns-clause-len
+returns-clause-len c = (at_end _ _ _ _ _ c.headers.invariant c.in_default.ensures.end).len

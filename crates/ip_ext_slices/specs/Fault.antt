@@ -1,0 +1,73 @@
+-- The fault where an IPv6 chain ends, and the layer at which it lies (RFC 8200, section 4).
+use Rattle.std.specs.Prelude.{ℕ, ◌+◌, ◌<◌, ◌^◌, List, length, Option, Some, None, ⊤, Bool, ◌==◌, Result, Ok, Err, if◌then◌else◌}
+use Rattle.std.specs.Option.{option_map}
+use Rattle.ip_base.specs.LenError.{too_short, moved}
+use Rattle.ip_base.specs.declared.err.len_error.LenError.{LenError}
+use Rattle.ip_base.specs.declared.err.layer.Layer.{Layer}
+use Rattle.ip_base.specs.declared.err.layer.Layer.TheVariants.{Ipv6HopByHopHeader, Ipv6DestOptionsHeader, Ipv6RouteHeader, Ipv6FragHeader, IpAuthHeader}
+use Rattle.ip_base.specs.declared.len_source.LenSource.{LenSource}
+use Rattle.ip_base.specs.declared.len_source.LenSource.TheVariants.{Slice}
+use Rattle.ip_ext_headers.specs.declared.err.ip_auth.header_slice_error.HeaderSliceError.{HeaderSliceError as AuthSliceError}
+use Rattle.ip_ext_headers.specs.declared.err.ip_auth.header_slice_error.HeaderSliceError.TheVariants as auth
+use Rattle.ip_ext_headers.specs.Fault.{raw_fault, fragment_fault, auth_fault}
+use Rattle.ip_spec.specs.Numbers.{HOP_BY_HOP, ROUTING, FRAGMENT, AUTHENTICATION, DESTINATION_OPTIONS}
+use Rattle.ip_spec.specs.Chain.{ExtHeader, is_empty, bytes_of}
+use Rattle.ip_spec.specs.Parse.{fault_behind}
+use Rattle.ip_ext_slices.specs.Longest.{longest_chain}
+use Rattle.ip_ext_slices.specs.declared.err.ipv6_exts.header_error.HeaderError.{HeaderError}
+use Rattle.ip_ext_slices.specs.declared.err.ipv6_exts.header_error.HeaderError.TheVariants.{HopByHopNotAtStart, IpAuth}
+use Rattle.ip_ext_slices.specs.declared.err.ipv6_exts.header_slice_error.HeaderSliceError.{HeaderSliceError}
+use Rattle.ip_ext_slices.specs.declared.err.ipv6_exts.header_slice_error.HeaderSliceError.TheVariants.{Len, Content}
+
+abbrev pub Fault : Type 0
+Fault = HeaderSliceError × Layer
+
+-- there are too few bytes for the header of a layer
+abbrev pub short_at : Layer → LenError → Fault
+short_at layer e = (Len e, layer)
+
+-- the same or a bad length field, at an authentication header
+abbrev pub auth_at : AuthSliceError → Fault
+auth_at (auth.Len e) = short_at IpAuthHeader e
+auth_at (auth.Content e) = (Content (IpAuth e), IpAuthHeader)
+
+-- hop by hop options that are not first
+abbrev pub hop_by_hop_later : Fault
+hop_by_hop_later = (Content HopByHopNotAtStart, Ipv6HopByHopHeader)
+
+-- The fault at number m, where r is left at offset k, n bytes as the source tells; `first` tells that no header
+-- is before. There is none where a header goes on, and none where m is no extension number.
+abbrev pub fault_at : LenSource → ℕ → ℕ → Bool → ℕ → List ℕ → Option Fault
+fault_at source n k first m r =
+    if m == HOP_BY_HOP then (if first then option_map (short_at Ipv6HopByHopHeader) (raw_fault source n k r) else Some hop_by_hop_later)
+    else if m == ROUTING then option_map (short_at Ipv6RouteHeader) (raw_fault source n k r)
+    else if m == DESTINATION_OPTIONS then option_map (short_at Ipv6DestOptionsHeader) (raw_fault source n k r)
+    else if m == FRAGMENT then option_map (short_at Ipv6FragHeader) (fragment_fault source n k r)
+    else if m == AUTHENTICATION then option_map auth_at (auth_fault source n k r)
+    else None
+
+-- the same where r itself says how many bytes there are
+abbrev pub slice_fault : ℕ → Bool → ℕ → List ℕ → Option Fault
+slice_fault k first m r = fault_at Slice (length r) k first m r
+
+-- The fault behind the chain c, at number m with r left; the source says how many bytes that is.
+abbrev pub chain_faults : LenSource → List ExtHeader → ℕ → List ℕ → Option Fault
+chain_faults source c m r = fault_at source (length r) (length (bytes_of c)) (is_empty c) m r
+
+-- the fault where the longest chain from n that begins s ends
+abbrev pub chain_fault : ℕ → List ℕ → Option Fault
+chain_fault n s = fault_behind (chain_faults Slice) (longest_chain n s) n s
+
+-- the error at offset k, where n bytes are left, by its cause: a layer needs more, or what a header says is wrong
+abbrev pub caused : ℕ → ℕ → Result (ℕ × Layer) HeaderError → HeaderSliceError
+caused k n (Ok (required, layer)) = Len (too_short Slice n k layer required)
+caused k n (Err e) = Content e
+
+-- the error told from k bytes further to the front, where that is a place
+abbrev pub exts_moved : ℕ → HeaderSliceError → HeaderSliceError
+exts_moved k (Len e) = Len (moved e.len_source k e)
+exts_moved k (Content e) = Content e
+
+abbrev pub ExtsOffsetFits : HeaderSliceError → ℕ → Type 0
+ExtsOffsetFits (Len e) k = e.layer_start_offset + k < 2 ^ 64
+ExtsOffsetFits (Content e) k = ⊤

@@ -1,0 +1,25 @@
+-- What a slice of IPv6 extension headers shows.
+use Rattle.std.specs.Prelude.{ℕ, List, Option, Bool, ◌==◌, ◌&&◌, nat_eq}
+use Rattle.std.specs.Option.{option_eq}
+use Rattle.std.specs.Cmp.Lexicographic.{pointwise}
+use Rattle.ip_base.specs.declared.ip_number_impl.IpNumber.{IpNumber}
+use Rattle.ip_spec.specs.Chain.{ExtHeader}
+use Rattle.ip_ext_slices.specs.Longest.{longest_chain}
+use Rattle.ip_ext_slices.specs.StartNumber.{start_number}
+use Rattle.ip_ext_slices.specs.declared.ipv6_exts_slice.Ipv6ExtensionsSlice.{Ipv6ExtensionsSlice}
+
+-- the number of its first header
+abbrev pub first_number : Ipv6ExtensionsSlice → Option IpNumber
+first_number x = x.first_header
+
+-- its bytes
+abbrev pub bytes : Ipv6ExtensionsSlice → List ℕ
+bytes x = x.slice.now
+
+-- its headers: the longest chain that begins its bytes, which is all of them
+abbrev pub headers_in : Ipv6ExtensionsSlice → List ExtHeader
+headers_in x = longest_chain (start_number x.first_header) x.slice.now
+
+-- two have the same first number and bytes
+abbrev pub same_slice : Ipv6ExtensionsSlice → Ipv6ExtensionsSlice → Bool
+same_slice a b = option_eq (λ m n. m.0 == n.0) (first_number a) (first_number b) && pointwise nat_eq (bytes a) (bytes b)

@@ -1,0 +1,5 @@
+//! Errors of IPv6 chains, and those of the crates below that they contain.
+pub mod ipv6_exts;
+
+pub use ip_base::err::{Layer, LenError};
+pub use ip_ext_headers::err::ip_auth;

@@ -1,0 +1,257 @@
+ghost use Rattle.std.specs.Prelude.{◌≡◌, ◌==◌, ℕ, List, [], length, Option, Some, None, is_none, IfOk, IfErr, if◌then◌else◌};
+ghost use Rattle.std.specs.Option.{option_map};
+ghost use Rattle.ip_spec.specs.Prefix.{IsPrefix};
+ghost use Rattle.ip_spec.specs.Parse.{rest_behind};
+ghost use Rattle.ip_spec.specs.Chain.{bytes_of, leads_to, is_empty, has_fragmenting, IsLongestChain};
+ghost use Rattle.ip_ext_slices.specs.Longest.{longest_chain};
+ghost use Rattle.ip_ext_slices.specs.Fault.{chain_fault};
+ghost use Rattle.ip_ext_slices.specs.Parse.{IsChainAnswer};
+ghost use Rattle.ip_ext_slices.specs.StartNumber.{start_number};
+
+use crate::err::Layer;
+use crate::err::ipv6_exts::HeaderSliceError;
+use crate::step::{after, error_at, fault, header_at, is_extension};
+use crate::{Ipv6ExtensionSlice, Ipv6ExtensionSliceIter};
+use ip_base::{IpNumber, ip_number};
+use std::alloc::AllocError;
+
+/// A chain of IPv6 extension headers (RFC 8200, section 4), as a stretch of the caller's bytes. Its bytes are
+/// whole headers, linked from the number of the first. Two are equal where the number of the first header
+/// and the bytes are.
+#[derive(Debug, Drop)]
+pub struct Ipv6ExtensionsSlice<'a> {
+    first_header: Option<IpNumber>,
+    fragmented: bool,
+    slice: &'a [u8],
+    pub ghost whole: { bytes_of (longest_chain (start_number first_header) slice.now) ≡ slice.now },
+    pub ghost flag: { fragmented
+        ≡ has_fragmenting (longest_chain (start_number first_header) slice.now) },
+    pub ghost first: { is_none first_header ≡ (length slice.now == 0) },
+}
+
+impl<'a> Ipv6ExtensionsSlice<'a> {
+    ghost use Rattle.ip_ext_slices.specs.Ipv6ExtensionsSlice.{first_number, bytes, headers_in};
+
+    /// The chain from `start` that is all of `slice`.
+    #[inline(always)]
+    fn new(start: IpNumber, slice: &'a [u8], fragmented: bool) -> Ipv6ExtensionsSlice<'a>
+        requires whole { bytes_of (longest_chain start.0 slice.now) ≡ slice.now }
+        requires flag { fragmented ≡ has_fragmenting (longest_chain start.0 slice.now) }
+        ensures bytes { bytes result ≡ slice.now }
+        ensures headers { headers_in result ≡ longest_chain start.0 slice.now }
+        ensures first { first_number result ≡ (if length slice.now == 0 then None else Some start) }
+    {
+        let first_header = if slice.is_empty() { None } else { Some(start) };
+        Ipv6ExtensionsSlice {
+            first_header,
+            fragmented,
+            slice,
+        }
+    }
+
+    /// The longest chain from `start` that begins `input`, which is the first `len` of them.
+    #[inline(always)]
+    fn first(
+        start: IpNumber,
+        input: &'a [u8],
+        len: usize,
+        fragmented: bool,
+    ) -> Ipv6ExtensionsSlice<'a>
+        requires len { len ≡ length (bytes_of (longest_chain start.0 input.now)) }
+        requires flag { fragmented ≡ has_fragmenting (longest_chain start.0 input.now) }
+        ensures headers { headers_in result ≡ longest_chain start.0 input.now }
+        ensures bytes { bytes result ≡ bytes_of (longest_chain start.0 input.now) }
+        ensures first { first_number result
+            ≡ (if length (bytes result) == 0 then None else Some start) }
+    {
+        Self::new(start, &input[..len], fragmented)
+    }
+
+    /// The longest chain from the number that begins the bytes, with the number to which it leads, the bytes
+    /// after it and the fault there. The offset in a fault counts bytes from the start of `start_slice`. There
+    /// is no fault where the number is no extension number.
+    #[inline(always)]
+    pub fn from_slice_lax(
+        start_ip_number: IpNumber,
+        start_slice: &'a [u8],
+    ) -> (
+        Ipv6ExtensionsSlice<'a>,
+        IpNumber,
+        &'a [u8],
+        Option<(HeaderSliceError, Layer)>,
+    )
+        ensures longest { IsLongestChain start_ip_number.0 start_slice.now (headers_in result.0) }
+        ensures answer { IsChainAnswer start_ip_number.0 start_slice.now
+            (headers_in result.0) result.1.0 result.2.now result.3 }
+        ensures bytes { bytes result.0
+            ≡ bytes_of (longest_chain start_ip_number.0 start_slice.now) }
+        ensures prefix { IsPrefix (bytes result.0) start_slice.now }
+        ensures first { first_number result.0
+            ≡ (if length (bytes result.0) == 0 then None else Some start_ip_number) }
+    {
+        let (number, rest, len, fragmented) = Self::walk(start_ip_number, start_slice);
+        if is_extension(number) {
+            let fault = fault(len == 0, number, rest, len);
+            let found = Self::first(start_ip_number, start_slice, len, fragmented);
+            return (found, number, rest, Some(fault));
+        }
+        let found = Self::first(start_ip_number, start_slice, len, fragmented);
+        (found, number, rest, None)
+    }
+
+    /// Goes over the longest chain from the number that begins the bytes: the number to which it leads, the
+    /// bytes after it, how many it has, and whether it fragments the payload.
+    #[inline(always)]
+    fn walk(start: IpNumber, bytes: &'a [u8]) -> (IpNumber, &'a [u8], usize, bool)
+        ensures number { result.0.0 ≡ leads_to start.0 (longest_chain start.0 bytes.now) }
+        ensures rest { result.1.now ≡ rest_behind (longest_chain start.0 bytes.now) bytes.now }
+        ensures len { result.2 ≡ length (bytes_of (longest_chain start.0 bytes.now)) }
+        ensures flag { result.3 ≡ has_fragmenting (longest_chain start.0 bytes.now) }
+    {
+        let mut number = start;
+        let mut rest = bytes;
+        let mut fragmented = false;
+        'headers: while let Some(header) = header_at(rest.len() == bytes.len(), number, rest) {
+            fragmented = fragmented || header.is_fragmenting_payload();
+            number = header.next_header();
+            rest = after(rest, header.slice().len());
+        }
+        (number, rest, bytes.len() - rest.len(), fragmented)
+    }
+
+    /// What `from_slice_lax` answers, where it tells no fault; else the fault.
+    #[inline(always)]
+    pub fn from_slice(
+        start_ip_number: IpNumber,
+        start_slice: &'a [u8],
+    ) -> Result<(Ipv6ExtensionsSlice<'a>, IpNumber, &'a [u8]), HeaderSliceError>
+        ensures answer { IfOk result (λ x. IsChainAnswer start_ip_number.0 start_slice.now
+            (headers_in x.0) x.1.0 x.2.now None) }
+        ensures fault { IfErr result (λ e. option_map (λ f. f.0)
+            (chain_fault start_ip_number.0 start_slice.now) ≡ Some e) }
+        ensures bytes { IfOk result (λ x. bytes x.0
+            ≡ bytes_of (longest_chain start_ip_number.0 start_slice.now)) }
+        ensures first { IfOk result (λ x. first_number x.0
+            ≡ (if length (bytes x.0) == 0 then None else Some start_ip_number)) }
+    {
+        let (number, rest, len, fragmented) = Self::walk(start_ip_number, start_slice);
+        if is_extension(number) {
+            return Err(error_at(len == 0, number, rest, len));
+        }
+        let found = Self::first(start_ip_number, start_slice, len, fragmented);
+        Ok((found, number, rest))
+    }
+
+    /// The number of the first header, where there is one.
+    pub fn first_header(&self) -> Option<IpNumber>
+        ensures number { result ≡ first_number self.now }
+        ensures none { is_none result ≡ is_empty (headers_in self.now) }
+    {
+        self.first_header
+    }
+
+    /// The bytes of the headers.
+    pub fn slice(&self) -> &'a [u8]
+        ensures bytes { result.now ≡ bytes self.now }
+        ensures joined { result.now ≡ bytes_of (headers_in self.now) }
+    {
+        self.slice
+    }
+
+    /// Whether some fragment header of the chain fragments the payload.
+    pub fn is_fragmenting_payload(&self) -> bool
+        ensures { result ≡ has_fragmenting (headers_in self.now) }
+    {
+        self.fragmented
+    }
+
+    /// Whether there is no header.
+    pub fn is_empty(&self) -> bool
+        ensures { result ≡ is_empty (headers_in self.now) }
+    {
+        self.slice.is_empty()
+    }
+}
+
+impl<'a> IntoIterator for Ipv6ExtensionsSlice<'a> {
+    type Item = Ipv6ExtensionSlice<'a>;
+
+    type IntoIter = Ipv6ExtensionSliceIter<'a>;
+
+    ghost use Rattle.std.specs.Prelude.{◌*◌, ◌≤◌};
+    ghost use Rattle.ip_ext_slices.specs.Ipv6ExtensionsSlice.{headers_in, bytes, first_number};
+    ghost use Rattle.ip_ext_slices.specs.Ipv6ExtensionSliceIter.{headers_left, number_left, bytes_left};
+
+    ghost into_iter_gives = { λ x it. headers_left it ≡ headers_in x };
+
+    fn into_iter(self) -> Ipv6ExtensionSliceIter<'a>
+        ensures headers { headers_left result ≡ headers_in self.entry }
+        ensures joined { bytes_of (headers_left result) ≡ bytes self.entry }
+        ensures bound { 8 * length (headers_in self.entry) ≤ length (bytes self.entry) }
+        ensures number { number_left result ≡ start_number (first_number self.entry) }
+        ensures bytes { bytes_left result ≡ bytes self.entry }
+    {
+        Ipv6ExtensionSliceIter {
+            next_header: self.first_header.unwrap_or(ip_number::UDP),
+            rest: self.slice,
+        }
+    }
+}
+
+impl<'a> Clone for Ipv6ExtensionsSlice<'a> {
+    ghost use Rattle.std.specs.Prelude.{⊤};
+    ghost use Rattle.ip_ext_slices.specs.Ipv6ExtensionsSlice.{first_number, bytes};
+
+    ghost is_clone = { λ x copy. (first_number copy ≡ first_number x) × (bytes copy ≡ bytes x) };
+
+    ghost is_infallible = { λ _. ⊤ };
+
+    fn clone(&self) -> Result<Ipv6ExtensionsSlice<'a>, AllocError> {
+        Ok(Ipv6ExtensionsSlice {
+            first_header: self.first_header,
+            fragmented: self.fragmented,
+            slice: self.slice,
+        })
+    }
+}
+
+impl PartialEq for Ipv6ExtensionsSlice<'_> {
+    ghost use Rattle.std.specs.Prelude.{◌↔◌, IsTrue};
+    ghost use Rattle.std.specs.Cmp.Rules.{comparing};
+    ghost use Rattle.std.proofs.Common.{rules};
+    ghost use Rattle.ip_ext_slices.specs.Ipv6ExtensionsSlice.{first_number, bytes, same_slice};
+
+    ghost eq = { same_slice };
+
+    ghost laws = { Prim.search (comparing, rules) };
+
+    fn eq(&self, other: &Self) -> bool
+        ensures answer { result ≡ same_slice self.now other.now }
+        ensures same { IsTrue result ↔ ((first_number self.now ≡ first_number other.now)
+            × (bytes self.now ≡ bytes other.now)) }
+    {
+        self.first_header == other.first_header && self.slice == other.slice
+    }
+}
+
+impl Eq for Ipv6ExtensionsSlice<'_> {
+    ghost use Rattle.std.specs.Cmp.Rules.{comparing};
+    ghost use Rattle.std.proofs.Common.{rules};
+
+    ghost laws = { Prim.search (comparing, rules) };
+}
+
+impl Default for Ipv6ExtensionsSlice<'_> {
+    ghost use Rattle.ip_ext_slices.specs.Ipv6ExtensionsSlice.{first_number, bytes};
+
+    ghost is_default = { λ x. (first_number x ≡ None) × (bytes x ≡ []) };
+
+    /// No headers.
+    fn default() -> Self {
+        Ipv6ExtensionsSlice {
+            first_header: None,
+            fragmented: false,
+            slice: &[],
+        }
+    }
+}

@@ -8,6 +8,7 @@ mod ip_slice;
 mod ipv4_slice;
 mod ipv6_slice;
 mod len_sources;
+mod packet_laws;
 mod stretch;
 
 pub use ip_base::{
@@ -26,3 +27,4 @@ pub use ip_ext_headers::{
 pub use ip_slice::IpSlice;
 pub use ipv4_slice::Ipv4Slice;
 pub use ipv6_slice::Ipv6Slice;
+pub use packet_laws::one_packet;

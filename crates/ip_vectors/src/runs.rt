@@ -115,7 +115,7 @@ fn check_plain(rt: &impl Abort, alloc: Global, row: &Row<'_>) -> Result<(), Fail
     for _ in 0..headers.len() {
         let fitting = fitting_len(left);
         if fitting < left.len() {
-            left = &left[fitting..];
+            left = left.get(fitting..).unwrap_or(&[]);
             pieces = pieces.saturating_add(1);
         }
     }

@@ -1,27 +1,38 @@
-# `make run` answers the lines of standard input; `make test` tries the program and passes the merge gate;
+# `make run` answers the lines of standard input; `make try` answers some lines within seconds, with checks as they
+# run in place of proofs, which it tells on standard error; `make test` holds the listed contracts against the
+# code, tries the program and passes the merge gate;
 # `make mutants` tries the wrong bodies of mutants/ (CRATE=NAME: those of one crate; ONLY=WORD: those whose names
 # have the word). `make bench` measures and `make diff` compares against etherparse 0.19.0; `make diff-test` tests
 # the comparison. These three take CARGO_FLAGS="..", further flags for Cargo, as one that says where the crate lies
 # on a machine without a network.
-.PHONY: run test mutants bench diff diff-test
+.PHONY: run try test mutants bench diff diff-test
 .SILENT:
 
 RT_IS_THERE = command -v rt >/dev/null || { \
 	echo "The Rattle toolchain is missing: its command 'rt' has to be on the PATH." >&2; exit 1; }
 
+PYTHON_IS_THERE = command -v python3 >/dev/null || { \
+	echo "Python is missing: its command 'python3' has to be on the PATH." >&2; exit 1; }
+
 run:
 	$(RT_IS_THERE)
 	cd crates/ipexts && rt run
 
+try:
+	$(RT_IS_THERE)
+	echo "Nothing is proved here: the program is built with checks in place of proofs." >&2
+	cd crates/ipexts && rt try
+
 test:
 	$(RT_IS_THERE)
+	$(PYTHON_IS_THERE)
+	scripts/check-calling
 	scripts/test-main
 	rt ci
 
 mutants:
 	$(RT_IS_THERE)
-	command -v python3 >/dev/null || { \
-		echo "Python is missing: its command 'python3' has to be on the PATH." >&2; exit 1; }
+	$(PYTHON_IS_THERE)
 	scripts/mutants $(if $(CRATE),--crate $(CRATE)) $(if $(ONLY),--only $(ONLY))
 
 SEED = 1

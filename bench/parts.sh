@@ -28,7 +28,8 @@ look_for_original() {
     for folder in "$@"; do
         cd "$top/$folder"
         # shellcheck disable=SC2086 # CARGO_FLAGS are several words.
-        cargo fetch --quiet --offline $flags 2>/dev/null || cargo fetch --quiet $flags 2>/dev/null \
+        cargo fetch --quiet --offline $flags 2>/dev/null \
+            || { [ -z "$offline" ] && cargo fetch --quiet $flags 2>/dev/null; } \
             || give_up "The crate etherparse 0.19.0 is missing: a network is needed, or CARGO_FLAGS with a flag for Cargo that says where it lies."
     done
 }
@@ -43,6 +44,13 @@ build() {
         || { tail -40 "$work/$folder.txt" >&2; give_up "The package in $folder/ could not be built."; }
 }
 
-flags=${CARGO_FLAGS:-}
+# Cargo refuses a flag that is given twice, and each call here but a second `cargo fetch` has `--offline` of its own.
+flags='' offline=''
+for word in ${CARGO_FLAGS:-}; do
+    case $word in
+        --offline) offline=yes ;;
+        *) flags="$flags $word" ;;
+    esac
+done
 work=$top/bench/target/work
 mkdir -p "$work"

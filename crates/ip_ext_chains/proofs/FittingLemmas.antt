@@ -1,20 +1,23 @@
 -- The longest chain that fits six places, where the longest chain's first run was taken.
-use Rattle.std.proofs.Common.{◌≡◌, ◌≢◌, ℕ, ◌-◌, List, [], ◌∷◌, ◌++◌, length, drop, refl, ap, sym, ◌∙◌, arith, Bool, true, false, subst}
-use Rattle.std.specs.Prelude.{Option, None, if◌then◌else◌}
+use Rattle.std.proofs.Common.{◌≡◌, ◌≢◌, ℕ, ◌-◌, List, [], ◌∷◌, ◌++◌, length, drop, refl, ap, sym, ◌∙◌, arith, inl, inr, Bool, true, false, subst}
+use Rattle.std.specs.Prelude.{Option, None, IsSome, if◌then◌else◌}
+use Rattle.std.proofs.lemmas.Bool.{cases_Bool}
+use Rattle.ip_spec.specs.Header.{IsExtensionNumber}
+use Rattle.ip_ext_slices.proofs.FaultLemmas.{fault_at_end}
 use Rattle.std.proofs.lemmas.List.{append-nil, length-append}
 use Rattle.std.proofs.lemmas.Grind.{flat_map-append}
-use Rattle.ip_spec.specs.Chain.{ExtHeader, leads_to, bytes_of, IsChain, IsPrefixChain}
+use Rattle.ip_spec.specs.Chain.{ExtHeader, leads_to, bytes_of, is_empty, IsChain, IsPrefixChain}
 use Rattle.ip_spec.specs.Parse.{rest_behind, fault_behind}
-use Rattle.ip_spec.specs.Demand.{KeepsBeginning, NextBreaks}
+use Rattle.ip_spec.specs.Demand.{KeepsBeginning, NextBreaks, IsLongestUnder}
 use Rattle.ip_spec.specs.Fits.{FitsPlaces, IsTaken}
 use Rattle.ip_spec.specs.Places.{is_taken}
 use Rattle.ip_spec.proofs.PlaceLemmas.{taken_told}
-use Rattle.ip_spec.proofs.FitsLemmas.{fits_places}
+use Rattle.ip_spec.proofs.FitsLemmas.{fits_places, fitting_ends}
 use Rattle.ip_spec.proofs.UnderLemmas.{some_longest_under, one_longest_under, kept_is_longest}
 use Rattle.ip_spec.proofs.CutLemmas.{some_are_kept}
 use Rattle.ip_spec.proofs.RunsLemmas.{cuts_places, chain_behind, next_taken}
 use Rattle.ip_ext_slices.specs.Longest.{longest_chain}
-use Rattle.ip_ext_chains.specs.Fitting.{fitting_chain, fitting_fault, IsFittingAnswer, IsWalked}
+use Rattle.ip_ext_chains.specs.Fitting.{fitting_chain, fitting_faults, fitting_fault, IsFittingAnswer, IsWalked}
 use Rattle.ip_base.specs.declared.len_source.LenSource.TheVariants.{Slice}
 use Rattle.ip_ext_slices.specs.Fault.{Fault, chain_faults, chain_fault}
 use Rattle.ip_ext_chains.specs.Places.{ArePlaced, is_taken_in, value_at, AreOfNumber}
@@ -101,6 +104,18 @@ module _ (n : ℕ) (s : List ℕ) (all left : List ExtHeader) (v : Places Ipv6Ex
 
   pub walk_ends : left ≡ [] → (m : ℕ) (r : List ℕ) (f g : Option Fault) → m ≡ leads_to n (longest_chain n s) → r ≡ rest_behind (longest_chain n s) s → g ≡ chain_fault n s → f ≡ (if is_taken_in v m then None else g) → IsWalked n s v m r f
   walk_ends = walked_whole n s left v of_longest
+
+-- At an extension number whose place is free there is a fault behind it.
+pub fitting_fault_at_end : (n : ℕ) (s : List ℕ) (c : List ExtHeader) → IsLongestUnder FitsPlaces n s c → IsExtensionNumber (leads_to n c) → (IsTaken (leads_to n c) c → ⊥) → IsSome (fault_behind fitting_faults c n s)
+fitting_fault_at_end n s c l number free =
+    let m : ℕ = leads_to n c in
+    let fault : Option Fault = chain_faults Slice c m (rest_behind c s) in
+    let some : IsSome fault = fault_at_end Slice (length (rest_behind c s)) (rest_behind c s) (length (bytes_of c)) (is_empty c) m number (fitting_ends n s c l free) in
+    let F : Bool → Type 0 = λ b. IsSome (if b then None else fault) in
+    elim (cases_Bool (is_taken m c)) [
+      | inl t ↦ absurd (free ((taken_told c m l.has.meets).0 t))
+      | inr t ↦ subst F (sym t) some
+    ]
 
 -- what the walk answers is all that the parse needs
 module _ (n : ℕ) (s : List ℕ) (v : Places Ipv6ExtensionSlice) (m : ℕ) (r : List ℕ) (f : Option Fault) (k : IsWalked n s v m r f) where

@@ -22,7 +22,7 @@ use Rattle.ip_ext_chains.specs.declared.ipv6_exts.Ipv6Extensions.{Ipv6Extensions
 use Rattle.ip_ext_chains.specs.declared.places.Places.{Places}
 use Rattle.ip_ext_slices.proofs.LongestLemmas.{longest_chain-least}
 use Rattle.ip_ext_chains.proofs.RunsOfLemmas.{runs_from-next}
-use Rattle.ip_ext_slices.proofs.FaultLemmas.{number_of}
+use Rattle.ip_spec.proofs.HeaderLemmas.{header_number}
 use Rattle.ip_ext_chains.proofs.PlacedLemmas.{mapped_if, filled_same, place_same, none_same, taken_same, value_placed, placed_numbers}
 
 -- of the headers c those before `left` were put into the places
@@ -40,7 +40,7 @@ module _ (c : List ExtHeader) (m : ℕ) (h : ExtHeader) (left : List ExtHeader) 
   own_place p e = ap (λ j. place_of j (has_routing k.run)) (sym number) ∙ sym (place_same k.run v k.placed m) ∙ e
 
   breaks : (o : Option Place) → place_of h.number (has_routing k.run) ≡ o → IsFilled m v → FitsPlaces (k.run ++ h ∷ []) → ⊥
-  breaks None e f = absurd (let differ : false ≡ true = sym (ap is_some e) ∙ has_place h.number (has_routing k.run) (number_of h.number h.bytes chain.headers.0) in cc)
+  breaks None e f = absurd (let differ : false ≡ true = sym (ap is_some e) ∙ has_place h.number (has_routing k.run) (header_number h.number h.bytes chain.headers.0) in cc)
   breaks (Some p) e f =
       breaks_more k.run h p e (sym (filled_same k.run v k.placed p) ∙ f.filled p (place_same k.run v k.placed m ∙ ap (λ j. place_of j (has_routing k.run)) number ∙ e))
 

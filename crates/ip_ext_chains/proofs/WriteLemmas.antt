@@ -1,6 +1,6 @@
 -- What is read as a struct of six places, and what is written of one.
 use Rattle.std.proofs.Common.{◌≡◌, ℕ, ◌+◌, ◌<◌, List, ◌++◌, length, drop, refl, ap, sym, ◌∙◌, arith, inl, inr, subst}
-use Rattle.std.specs.Prelude.{None, ◌↔◌, if◌then◌else◌}
+use Rattle.std.specs.Prelude.{Err, None, ◌↔◌, if◌then◌else◌}
 use Rattle.std.proofs.Math.Seq.{drop-length, drop-append_seam}
 use Rattle.std.proofs.lemmas.List.{append-nil, append_cancel_left, length-append}
 use Rattle.std.proofs.lemmas.List.Elements.{All-take}
@@ -14,19 +14,19 @@ use Rattle.ip_spec.specs.Fits.{FitsPlaces}
 use Rattle.ip_spec.specs.Places.{is_taken}
 use Rattle.ip_spec.specs.Encoded.{cleared_chain}
 use Rattle.ip_spec.specs.Encodable.{IsEncodable}
-use Rattle.ip_spec.specs.Walk.{IsValueOf, IsSpelling, IsReach, WalkAnswer, leads, hop_by_hop_not_at_start, not_referenced, IsWalkAnswer, IsRead}
-use Rattle.ip_spec.proofs.PrefixLemmas.{prefix-append}
+use Rattle.ip_spec.specs.Walk.{IsValueOf, IsSpelling, IsReach, WalkAnswer, leads, hop_by_hop_not_at_start, not_referenced, IsWalkAnswer}
+use Rattle.ip_spec.specs.Parse.{IsRead}
 use Rattle.ip_spec.proofs.FitsLemmas.{fits_places}
 use Rattle.ip_spec.proofs.UnderLemmas.{some_longest_under, one_longest_under}
 use Rattle.ip_spec.proofs.WalkLemmas.{one_reach}
-use Rattle.ip_spec.proofs.SpellingLemmas.{one_spelling, spelling_is_reach, one_answer, leads_exactly, leads_spelled, spelled_leads, cleared_spells, spelled_is_read, spelled_alike}
+use Rattle.ip_spec.proofs.SpellingLemmas.{one_spelling, spelling_is_reach, one_answer, leads_exactly, leads_spelled, spelled_leads, spelled_whole, cleared_spells, spelled_is_read, spelled_alike}
 use Rattle.ip_spec.proofs.SumLemmas.{bytes_len}
 use Rattle.ip_base.specs.declared.len_source.LenSource.TheVariants.{Slice}
 use Rattle.ip_ext_slices.specs.Fault.{chain_faults}
 use Rattle.ip_ext_chains.specs.Fitting.{fitting_chain, fitting_faults, fitting_fault, IsFittingAnswer}
 use Rattle.ip_ext_chains.specs.Ipv6Extensions.{value_of, held, exts_len}
-use Rattle.ip_ext_chains.specs.Walk.{fault_told}
-use Rattle.ip_ext_chains.specs.Write.{IsReadWhole, IsWritten, IsWalkFault}
+use Rattle.ip_ext_chains.specs.Walk.{walk_answer}
+use Rattle.ip_ext_chains.specs.Write.{IsWritten, IsWalkFault}
 use Rattle.ip_ext_chains.specs.declared.ipv6_exts.Ipv6Extensions.{Ipv6Extensions}
 use Rattle.ip_ext_chains.specs.declared.err.ipv6_exts.exts_walk_error.ExtsWalkError.{ExtsWalkError}
 use Rattle.ip_ext_chains.specs.declared.err.ipv6_exts.exts_walk_error.ExtsWalkError.TheVariants.{HopByHopNotAtStart, ExtNotReferenced}
@@ -47,37 +47,23 @@ module _ (v : Ipv6Extensions) (n : ℕ) where
   value_holds : (c : List ExtHeader) → v ≡ value_of c → IsValueOf c (held v)
   value_holds c e p = ap (λ w. held w p) e ∙ held-value_of c p
 
-  pub read_whole : (m : ℕ) (s : List ℕ) → IsRead (held v) n m s → IsReadWhole v n m s
-  read_whole m s r =
-      let is : fitting_chain n s ≡ r.chain = fitting_is n s r.chain r.longest in
-      record {
-        bytes = r.bytes;
-        fault = fitting_fault n s;
-        answer = record {
-          value = value_is r.chain r.value ∙ ap value_of (sym is);
-          number = sym r.number ∙ ap (leads_to n) (sym is);
-          rest = sym (drop-length s) ∙ ap (λ (l : List ℕ). drop (length l) s) (sym r.all ∙ ap bytes_of (sym is));
-          fault = refl;
-        };
-      }
+  -- what is read as what v holds is read as v, and the other way round
+  abbrev pub IsReadAsHeld : ℕ → List ℕ → Type 0
+  IsReadAsHeld m s = IsRead FitsPlaces (λ c. IsValueOf c (held v)) n m s
 
-  pub whole_read : (m : ℕ) (s : List ℕ) → IsReadWhole v n m s → IsRead (held v) n m s
-  whole_read m s r =
-      let c : List ExtHeader = fitting_chain n s in
-      let l = fitting_longest n s in
-      record {
-        bytes = r.bytes;
-        chain = c;
-        longest = l;
-        value = value_holds c r.answer.value;
-        number = sym r.answer.number;
-        all = sym (prefix-append (bytes_of c) s l.has.has.prefix ∙ ap (λ q. bytes_of c ++ q) (sym r.answer.rest) ∙ append-nil (bytes_of c));
-      }
+  abbrev pub IsReadAsValue : ℕ → List ℕ → Type 0
+  IsReadAsValue m s = IsRead FitsPlaces (λ c. value_of c ≡ v) n m s
 
-  pub answer_exactly : IsEncodable (held v) → (a : WalkAnswer) → IsWalkAnswer (held v) n a → (m : ℕ) → (a ≡ leads m) ↔ ((s : List ℕ) × IsReadWhole v n m s)
+  read_as_value : (m : ℕ) (s : List ℕ) → IsReadAsHeld m s → IsReadAsValue m s
+  read_as_value m s r = record { bytes = r.bytes; chain = r.chain; longest = r.longest; value = sym (value_is r.chain r.value); number = r.number; all = r.all }
+
+  read_as_held : (m : ℕ) (s : List ℕ) → IsReadAsValue m s → IsReadAsHeld m s
+  read_as_held m s r = record { bytes = r.bytes; chain = r.chain; longest = r.longest; value = value_holds r.chain (sym r.value); number = r.number; all = r.all }
+
+  pub answer_exactly : IsEncodable (held v) → (a : WalkAnswer) → IsWalkAnswer (held v) n a → (m : ℕ) → (a ≡ leads m) ↔ ((s : List ℕ) × IsReadAsValue m s)
   answer_exactly e a k m =
       let both = leads_exactly (held v) n e a k m in
-      (λ w. let it = both.0 w in (it.0, read_whole m it.0 it.1), λ r. both.1 (r.0, whole_read m r.0 r.1))
+      (λ w. let it = both.0 w in (it.0, read_as_value m it.0 it.1), λ r. both.1 (r.0, read_as_held m r.0 r.1))
 
   -- what spells the value that was read from bytes, whatever was left behind
   read_spelled : (s : List ℕ) → AreBytes s → value_of (fitting_chain n s) ≡ v → IsSpelling (held v) n (cleared_chain (fitting_chain n s))
@@ -87,14 +73,14 @@ module _ (v : Ipv6Extensions) (n : ℕ) where
       (subst AreBytes l.has.has.prefix (All-take (λ x. x < 256) (length (bytes_of (fitting_chain n s))) s bytes))
       (value_holds (fitting_chain n s) (sym e))
 
-  leads_differ : (m : ℕ) (e : ExtsWalkError) → leads m ≡ fault_told e → ⊥
+  leads_differ : (m : ℕ) (e : ExtsWalkError) → leads m ≡ walk_answer (Err e) → ⊥
   leads_differ m HopByHopNotAtStart e = let no : leads m ≡ hop_by_hop_not_at_start = e in cc
   leads_differ m (ExtNotReferenced k) e = let no : leads m ≡ not_referenced k.0 = e in cc
 
   -- a value that is read from bytes has no fault
-  pub fault_unread : (e : ExtsWalkError) → IsWalkAnswer (held v) n (fault_told e) → (s : List ℕ) → AreBytes s → value_of (fitting_chain n s) ≡ v → ⊥
+  pub fault_unread : (e : ExtsWalkError) → IsWalkAnswer (held v) n (walk_answer (Err e)) → (s : List ℕ) → AreBytes s → value_of (fitting_chain n s) ≡ v → ⊥
   fault_unread e a s bytes k =
-      leads_differ _ e (one_answer (held v) n _ (fault_told e) (spelled_leads (held v) n (cleared_chain (fitting_chain n s)) (read_spelled s bytes k)) a)
+      leads_differ _ e (one_answer (held v) n _ (walk_answer (Err e)) (spelled_leads (held v) n (cleared_chain (fitting_chain n s)) (read_spelled s bytes k)) a)
 
   module _ (old new : List ℕ) (w : IsWritten v n old new) where
     pub written_len : length new ≡ length old + exts_len v
@@ -128,6 +114,15 @@ module _ (v : Ipv6Extensions) (n : ℕ) where
           fault = sym (ap (λ l. fault_behind fitting_faults l n (b ++ r)) is ∙ none_behind (leads_to n c) c (rest_behind c (b ++ r)) none);
         }
 
+    -- and from it nothing is left
+    pub written_whole : IsEncodable (held v) → (b : List ℕ) (m : ℕ) → new ≡ old ++ b → IsWalkAnswer (held v) n (leads m) → IsReadAsValue m b
+    written_whole encodable b m e a =
+        let c : List ExtHeader = w.chain in
+        let same : leads (leads_to n c) ≡ leads m = one_answer (held v) n _ _ w.answer a in
+        let number : leads_to n c ≡ m = cc in
+        let M : ℕ → Type 0 = λ k. IsReadAsHeld k (bytes_of c) in
+        read_as_value m b (subst (IsReadAsHeld m) (appended_is b e) (subst M number (spelled_whole (held v) n encodable c w.spelling)))
+
     -- it is what was read, with its reserved bits put to zero
     pub written_cleared : (s : List ℕ) → AreBytes s → value_of (fitting_chain n s) ≡ v → new ≡ old ++ bytes_of (cleared_chain (fitting_chain n s))
     written_cleared s bytes e =
@@ -148,9 +143,11 @@ module _ (v : Ipv6Extensions) (n : ℕ) where
       let s : IsSpelling (held v) n c = subst S same it.1 in
       record { chain = c; spelling = s; answer = spelled_leads (held v) n c s; appended = appended }
 
-  pub fault_written : (old new : List ℕ) (e : ExtsWalkError) (c : List ExtHeader) → IsReach (held v) n c → IsWalkAnswer (held v) n (fault_told e) → new ≡ old ++ bytes_of c → IsWalkFault v n old new e
+  pub fault_written : (old new : List ℕ) (e : ExtsWalkError) (c : List ExtHeader) → IsReach (held v) n c → IsWalkAnswer (held v) n (walk_answer (Err e)) → new ≡ old ++ bytes_of c → IsWalkFault v n old new e
   fault_written old new e c reach a appended = record {
     answer = a;
-    written = record { chain = c; reach = reach; appended = appended };
+    chain = c;
+    reach = reach;
+    appended = appended;
     unread = fault_unread e a;
   }

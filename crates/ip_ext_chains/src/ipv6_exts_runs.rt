@@ -13,6 +13,7 @@ use ip_base::IpNumber;
 /// The headers of a chain in as few structs of six places as hold them, in order; then `None` for ever.
 #[derive(Debug, Drop)]
 pub struct Ipv6ExtensionsRuns<'a> {
+    // No call reads it: the contracts of `next` and `end` speak of it.
     first: IpNumber,
     bytes: &'a [u8],
     headers: Ipv6ExtensionSliceIter<'a>,

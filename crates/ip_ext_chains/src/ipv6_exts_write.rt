@@ -1,4 +1,4 @@
-ghost use Rattle.std.specs.Prelude.{◌≡◌, ◌≤◌, ◌↔◌, ◌+◌, ◌++◌, ℕ, List, None, OnOk, IfErr, IfSome, IfNone, vec_len, vec_capacity};
+ghost use Rattle.std.specs.Prelude.{◌≡◌, ◌≤◌, ◌<◌, ◌↔◌, ◌+◌, ◌++◌, ℕ, List, None, OnOk, IfErr, IfSome, IfNone, vec_len, vec_capacity};
 ghost use Rattle.ip_spec.specs.Header.{IsExtensionNumber};
 ghost use Rattle.ip_spec.specs.Encoding.{AreBytes, AppendsOne};
 ghost use Rattle.ip_spec.specs.Encodable.{held_len};
@@ -6,13 +6,16 @@ ghost use Rattle.ip_spec.specs.Chain.{ExtHeader, bytes_of};
 ghost use Rattle.ip_spec.specs.Places.{Place as spec_place, places};
 ghost use Rattle.ip_spec.specs.Encoded.{cleared_chain};
 ghost use Rattle.ip_spec.specs.Walk.{leads, IsSpelling, IsWalkAnswer};
+ghost use Rattle.ip_spec.specs.Fits.{FitsPlaces};
+ghost use Rattle.ip_spec.specs.Parse.{IsRead};
 ghost use Rattle.ip_spec.specs.Links.{first_number, linked};
 ghost use Rattle.ip_spec.specs.WalkStep.{IsEncodingOf};
 ghost use Rattle.ip_ext_chains.specs.HeaderRef.{said};
 ghost use Rattle.ip_ext_chains.specs.Fitting.{fitting_chain, IsFittingAnswer};
 ghost use Rattle.ip_ext_chains.specs.Ipv6Extensions.{held, value_of, exts_len};
-ghost use Rattle.ip_ext_chains.specs.Walk.{told, left_in, IsStep};
-ghost use Rattle.ip_ext_chains.specs.Write.{IsReadWhole, IsWritten, IsNotWritten, IsFull};
+ghost use Rattle.ip_ext_chains.specs.Walk.{walk_answer, left_in, IsStep};
+ghost use Rattle.ip_ext_chains.specs.Write.{IsWritten, IsWalkFault};
+ghost use Rattle.ip_ext_chains.specs.WriteError.{io_of, content_of};
 
 use crate::Ipv6Extensions;
 use crate::err::ipv6_exts::{ExtsWalkError, HeaderWriteError};
@@ -28,9 +31,10 @@ impl Ipv6Extensions {
     /// The number to which the headers lead along their next numbers, where the first is of the number `first`
     /// and each is reached. It is Ok exactly where some bytes are read as this value with nothing left.
     pub fn next_header(&self, first: IpNumber) -> Result<IpNumber, ExtsWalkError>
-        ensures answer { IsWalkAnswer (held self.now) first.0 (told result) }
-        ensures exactly { (m : ℕ) → (told result ≡ leads m)
-            ↔ ((s : List ℕ) × IsReadWhole self.now first.0 m s) }
+        ensures answer { IsWalkAnswer (held self.now) first.0 (walk_answer result) }
+        ensures exactly { (m : ℕ) → (walk_answer result ≡ leads m)
+            ↔ ((s : List ℕ)
+            × IsRead FitsPlaces (λ c. value_of c ≡ self.now) first.0 m s) }
     {
         self.encodable();
         let mut walk = Walk::new(self, first);
@@ -62,9 +66,11 @@ impl Ipv6Extensions {
     }
 
     /// Appends the headers in the order in which they are walked from the number `first`, with their reserved
-    /// bits zero. It is Ok exactly where `next_header` is, want of memory aside; read back, also with more
-    /// bytes behind them, the bytes give this value. Where a header isn't reached, those that are were appended.
-    /// Memory is refused before anything is appended, and only where the vector has no room and can't grow.
+    /// bits zero. It is Ok exactly where `next_header` is, want of memory aside. The bytes are read as this value
+    /// again, with nothing left; where they lead to no extension number, also with any bytes behind them. Where
+    /// a header isn't reached, those that are were appended. Memory is asked for first: it is refused before
+    /// anything is appended and before a header that isn't reached is reported, and only where there are headers
+    /// for which the vector has no room and can't grow.
     pub fn write<A: Allocator>(
         &self,
         out: &mut Vec<u8, A>,
@@ -76,16 +82,22 @@ impl Ipv6Extensions {
             → out.new.items ≡ out.old.items ++ b
             → IsWalkAnswer (held self.now) first.0 (leads m) → (IsExtensionNumber m → ⊥)
             → IsFittingAnswer first.0 (b ++ r) self.now m r None) }
+        ensures read_whole { OnOk result ((b : List ℕ) (m : ℕ)
+            → out.new.items ≡ out.old.items ++ b → IsWalkAnswer (held self.now) first.0 (leads m)
+            → IsRead FitsPlaces (λ c. value_of c ≡ self.now) first.0 m b) }
         ensures cleared { OnOk result ((s : List ℕ) → AreBytes s
             → value_of (fitting_chain first.0 s) ≡ self.now → out.new.items
             ≡ out.old.items ++ bytes_of (cleared_chain (fitting_chain first.0 s))) }
         ensures alike { OnOk result ((v : Ipv6Extensions) (c : List ExtHeader)
             → IsSpelling (held v) first.0 c
             → (out.new.items ≡ out.old.items ++ bytes_of c) ↔ (self.now ≡ v)) }
-        ensures err { IfErr result (λ e.
-            IsNotWritten self.now first.0 out.old.items out.new.items e) }
-        ensures full { IfErr result (λ e.
-            IsFull (exts_len self.now) (vec_len out.old) (vec_capacity out.old) e) }
+        ensures unchanged { IfErr result (λ e. IfSome (io_of e) (λ _.
+            out.new.items ≡ out.old.items)) }
+        ensures content { IfErr result (λ e. IfSome (content_of e) (λ fault.
+            IsWalkFault self.now first.0 out.old.items out.new.items fault)) }
+        ensures full { IfErr result (λ e. IfSome (io_of e) (λ _.
+            vec_capacity out.old < vec_len out.old + exts_len self.now)) }
+        ensures some { IfErr result (λ e. IfSome (io_of e) (λ _. 0 < exts_len self.now)) }
         ensures capacity { vec_capacity out.old ≤ vec_capacity out.new }
     {
         self.encodable();

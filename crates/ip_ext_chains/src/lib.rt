@@ -2,6 +2,7 @@
 //! runs of a chain that has more of them. The borrowed chains and those of IPv4 are shown here too.
 #![tactic(auto)]
 
+mod chain_laws;
 mod encodable;
 pub mod err;
 mod header_ref;
@@ -16,6 +17,7 @@ mod places;
 mod run;
 mod walk;
 
+pub use chain_laws::free_extension_number_left_has_fault;
 pub use ip_base::{IpNumber, LenSource, ip_number};
 pub use ip_ext_headers::{
     IpAuthHeader, IpAuthHeaderSlice, Ipv6FragmentHeader, Ipv6FragmentHeaderSlice, Ipv6RawExtHeader,

@@ -1,5 +1,6 @@
 ghost use Rattle.std.specs.Prelude.{◌≡◌, ◌≤◌, ◌<◌, ◌+◌, ◌*◌, ◌++◌, ◌↔◌, ◌⊎◌, ℕ, List, length, drop, replicate, IsTrue, IsOk, OnOk, OnErr, IfOk, IfErr, vec_len, vec_capacity};
 ghost use Rattle.std.specs.Io.KnownBytes.{Consumes};
+ghost use Rattle.ip_spec.specs.Numbers.{HOP_BY_HOP, ROUTING, DESTINATION_OPTIONS};
 ghost use Rattle.ip_spec.specs.Prefix.{IsPrefix, NoPrefix};
 ghost use Rattle.ip_spec.specs.Header.{IsRawHeader};
 ghost use Rattle.ip_spec.specs.FieldsOf.{raw_fields, raw_len};
@@ -75,8 +76,8 @@ impl Ipv6RawExtHeader {
     /// Whether headers of the number have this layout: hop by hop options, routing, destination options,
     /// mobility, host identity protocol and shim6.
     pub fn header_type_supported(next_header: IpNumber) -> bool
-        ensures { IsTrue result ↔ ((next_header.0 ≡ 0) ⊎ ((next_header.0 ≡ 43)
-            ⊎ ((next_header.0 ≡ 60) ⊎ ((next_header.0 ≡ 135)
+        ensures { IsTrue result ↔ ((next_header.0 ≡ HOP_BY_HOP) ⊎ ((next_header.0 ≡ ROUTING)
+            ⊎ ((next_header.0 ≡ DESTINATION_OPTIONS) ⊎ ((next_header.0 ≡ 135)
             ⊎ ((next_header.0 ≡ 139) ⊎ (next_header.0 ≡ 140)))))) }
     {
         Ipv6RawExtHeaderSlice::header_type_supported(next_header)

@@ -1,4 +1,5 @@
 ghost use Rattle.std.specs.Prelude.{◌≡◌, ◌≤◌, ◌↔◌, ◌⊎◌, ℕ, List, length, IfOk, IfErr, IsTrue};
+ghost use Rattle.ip_spec.specs.Numbers.{HOP_BY_HOP, ROUTING, DESTINATION_OPTIONS};
 ghost use Rattle.ip_spec.specs.Prefix.{IsPrefix};
 ghost use Rattle.ip_spec.specs.Header.{IsRawHeader};
 ghost use Rattle.ip_spec.specs.Fields.{next_header, raw_payload};
@@ -31,8 +32,8 @@ impl<'a> Ipv6RawExtHeaderSlice<'a> {
     /// Whether headers of the number have this layout: hop by hop options, routing, destination options,
     /// mobility, host identity protocol and shim6.
     pub fn header_type_supported(next_header: IpNumber) -> bool
-        ensures { IsTrue result ↔ ((next_header.0 ≡ 0) ⊎ ((next_header.0 ≡ 43)
-            ⊎ ((next_header.0 ≡ 60) ⊎ ((next_header.0 ≡ 135)
+        ensures { IsTrue result ↔ ((next_header.0 ≡ HOP_BY_HOP) ⊎ ((next_header.0 ≡ ROUTING)
+            ⊎ ((next_header.0 ≡ DESTINATION_OPTIONS) ⊎ ((next_header.0 ≡ 135)
             ⊎ ((next_header.0 ≡ 139) ⊎ (next_header.0 ≡ 140)))))) }
     {
         matches!(

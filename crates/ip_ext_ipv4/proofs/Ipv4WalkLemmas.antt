@@ -16,14 +16,19 @@ use Rattle.ip_spec.specs.Encoding.{AreBytes, IsAuthEncoding}
 use Rattle.ip_spec.specs.Encoded.{AreCleared, cleared_chain}
 use Rattle.ip_spec.specs.Chain.{ExtHeader, IsChain, bytes_of, leads_to}
 use Rattle.ip_spec.specs.Demand.{AtMostOneOf}
+use Rattle.ip_spec.specs.Parse.{IsAnswer, IsRead}
+use Rattle.ip_base.specs.declared.len_source.LenSource.TheVariants.{Slice}
+use Rattle.std.proofs.lemmas.Bool.{ne_eqb}
+use Rattle.ip_spec.proofs.DemandKinds.{one_of_first, one_of_none}
 use Rattle.ip_spec.proofs.PrefixLemmas.{prefix_of-append, prefix-length}
 use Rattle.ip_spec.proofs.HeaderLemmas.{auth_of}
 use Rattle.ip_spec.proofs.EncodingLemmas.{auth_only, cleared_auth_encodes}
 use Rattle.ip_ext_ipv4.specs.declared.err.ipv4_exts.exts_walk_error.ExtsWalkError.{ExtsWalkError}
 use Rattle.ip_ext_ipv4.specs.declared.err.ipv4_exts.exts_walk_error.ExtsWalkError.TheVariants.{ExtNotReferenced}
 use Rattle.ip_ext_ipv4.specs.Ipv4Longest.{longest_ipv4_chain}
-use Rattle.ip_ext_ipv4.specs.Ipv4Parse.{ipv4_value}
-use Rattle.ip_ext_ipv4.specs.Ipv4Walk.{ipv4_walk, IsIpv4Reading, IsIpv4Encoding, IsIpv4ReadBack}
+use Rattle.ip_ext_ipv4.specs.Ipv4Parse.{ipv4_value, IsIpv4ValueAnswer}
+use Rattle.ip_ext_ipv4.specs.Ipv4Fault.{ipv4_faults}
+use Rattle.ip_ext_ipv4.specs.Ipv4Walk.{ipv4_walk, IsIpv4Encoding}
 use Rattle.ip_ext_ipv4.proofs.Ipv4Lemmas.{ipv4_longest, ipv4_one, ipv4_none}
 
 -- A chain of one authentication header.
@@ -128,87 +133,116 @@ cleared_encodes n s bytes =
           subst P (sym one.alone) (subst (IsIpv4Encoding n (Some (auth_fields one.bytes))) (sym (append-nil (cleared_auth one.bytes))) (one_encodes n (Some (auth_fields one.bytes)) (auth_fields one.bytes) (cleared_auth one.bytes) one.named refl (cleared_auth_encodes one.bytes one.header fixed)))
     ]
 
--- As what bytes are read.
-reading : (f : ℕ) (s : List ℕ) (c : List ExtHeader) (v : Option AuthFields) (m : ℕ) (r : List ℕ) → longest_ipv4_chain f s ≡ c → v ≡ ipv4_value c → m ≡ leads_to f c → r ≡ drop (length (bytes_of c)) s → IsIpv4Reading f s v m r
-reading f s c v m r is value number rest = record {
-  value = value ∙ ap ipv4_value (sym is);
-  number = number ∙ ap (leads_to f) (sym is);
-  rest = rest ∙ ap (λ (d : List ExtHeader). drop (length (bytes_of d)) s) (sym is);
-}
+-- As what bytes are read, also with more behind them.
+again : (f : ℕ) (s : List ℕ) (c : List ExtHeader) (v : Option AuthFields) (m : ℕ) (r : List ℕ) → longest_ipv4_chain f s ≡ c → IsAnswer ipv4_value (ipv4_faults Slice) c f s v m r None → IsIpv4ValueAnswer f s v m r None
+again f s c v m r is a =
+    let A : List ExtHeader → Type 0 = λ d. IsAnswer ipv4_value (ipv4_faults Slice) d f s v m r None in
+    subst A (sym is) a
+
+none_again : (f : ℕ) (r : List ℕ) → (f ≡ 51 → ⊥) → IsIpv4ValueAnswer f r None f r None
+none_again f r other =
+    again f r [] None f r (ipv4_none f r (λ e. absurd (other e)))
+    (record { value = refl; number = refl; rest = refl; fault = rw (ne_eqb f 51 other) refl })
+
+one_again : (f : ℕ) (w : AuthFields) (b r : List ℕ) → f ≡ 51 → IsAuthEncoding w b → IsIpv4ValueAnswer f (b ++ r) (Some w) w.next_header r None
+one_again f w b r named e =
+    let c : List ExtHeader = record { number = 51; bytes = b } ∷ [] in
+    again f (b ++ r) c (Some w) w.next_header r (ipv4_one f (b ++ r) b named e.header (prefix_of-append b r (b ++ r) refl))
+    (record {
+      value = ap (λ (u : AuthFields). Some u) (sym e.fields);
+      number = ap (λ (u : AuthFields). u.next_header) (sym e.fields);
+      rest = sym (drop-append_seam b r) ∙ ap (λ (d : List ℕ). drop (length d) (b ++ r)) (sym (append-nil b));
+      fault = refl;
+    })
+
+-- And with nothing left.
+abbrev pub IsReadAs : Option AuthFields → ℕ → ℕ → List ℕ → Type 0
+IsReadAs v f m s = IsRead (AtMostOneOf 51) (λ c. ipv4_value c ≡ v) f m s
 
 none_begins_nothing : (b : List ℕ) → IsAuthHeader b → IsPrefix b [] → ⊥
 none_begins_nothing b h p = omega (arith, h.len, prefix-length b [] p)
 
-none_is_read : (f : ℕ) (r : List ℕ) → (f ≡ 51 → r ≡ []) → IsIpv4Reading f r None f r
-none_is_read f r nothing =
-    reading f r [] None f r (ipv4_none f r (λ e b h p. none_begins_nothing b h (subst (IsPrefix b) (nothing e) p))) refl refl refl
+none_whole : (f : ℕ) → IsReadAs None f f []
+none_whole f = record {
+  bytes = All-from_recursion (λ x. x < 256) [] tt;
+  chain = [];
+  longest = one_of_none 51 f [] (λ e h x. none_begins_nothing h.bytes (auth_of f h.bytes e x.header) x.prefix);
+  value = refl;
+  number = refl;
+  all = refl;
+}
 
-one_is_read : (f : ℕ) (w : AuthFields) (b r : List ℕ) → f ≡ 51 → IsAuthEncoding w b → IsIpv4Reading f (b ++ r) (Some w) w.next_header r
-one_is_read f w b r named e =
-    let c : List ExtHeader = record { number = 51; bytes = b } ∷ [] in
-    reading f (b ++ r) c (Some w) w.next_header r (ipv4_one f (b ++ r) b named e.header (prefix_of-append b r (b ++ r) refl))
-    (ap (λ (u : AuthFields). Some u) (sym e.fields))
-    (ap (λ (u : AuthFields). u.next_header) (sym e.fields))
-    (sym (drop-append_seam b r) ∙ ap (λ (d : List ℕ). drop (length d) (b ++ r)) (sym (append-nil b)))
+one_whole : (f : ℕ) (w : AuthFields) (b : List ℕ) → f ≡ 51 → AreBytes b → IsAuthEncoding w b → IsReadAs (Some w) f w.next_header b
+one_whole f w b named bytes e =
+    let h : ExtHeader = record { number = 51; bytes = b } in
+    let begins : IsPrefix b b = prefix_of-append b [] b (sym (append-nil b)) in record {
+      bytes = bytes;
+      chain = h ∷ [];
+      longest = one_of_first 51 f b h (record { number = sym named; header = auth named e.header; prefix = begins; zero_only_first = λ z. refl }) named;
+      value = ap (λ (u : AuthFields). Some u) e.fields;
+      number = ap (λ (u : AuthFields). u.next_header) e.fields;
+      all = append-nil b;
+    }
 
 abbrev unwrapped : Result IpNumber ExtsWalkError → ℕ
 unwrapped (Ok m) = m.0
 unwrapped (Err e) = 0
 
--- So is what is written.
-pub none_read_back : (f : ℕ) (v : Option AuthFields) → v ≡ None → IsIpv4ReadBack f v []
-none_read_back f v e r m walk nothing =
-    let V : Option AuthFields → Type 0 = λ u. ipv4_walk u f ≡ Ok m in
-    let number : f ≡ m.0 = ap (λ (w : Result IpNumber ExtsWalkError). unwrapped w) (subst V e walk) in
-    let named : f ≡ 51 → r ≡ [] = nothing e in
-    let P : Option AuthFields → Type 0 = λ u. IsIpv4Reading f r u m.0 r in
-    subst P (sym e) (subst (λ (j : ℕ). IsIpv4Reading f r None j r) number (none_is_read f r named))
-
-pub one_read_back : (f : ℕ) (v : Option AuthFields) (w : AuthFields) (b : List ℕ) → f ≡ 51 → v ≡ Some w → IsAuthEncoding w b → IsIpv4ReadBack f v b
-one_read_back f v w b named value e r m walk nothing =
-    let V : ℕ → Option AuthFields → Type 0 = λ j u. ipv4_walk u j ≡ Ok m in
-    let number : w.next_header ≡ m.0 = ap (λ (x : Result IpNumber ExtsWalkError). unwrapped x) (subst (λ (j : ℕ). V j (Some w)) named (subst (V f) value walk)) in
-    let P : Option AuthFields → Type 0 = λ u. IsIpv4Reading f (b ++ r) u m.0 r in
-    subst P (sym value) (subst (λ (j : ℕ). IsIpv4Reading f (b ++ r) (Some w) j r) number (one_is_read f w b r named e))
-
 -- Some bytes encode the fields.
 abbrev pub IsEncoded : AuthFields → Type 0
 IsEncoded w = (b : List ℕ) × AreBytes b × IsAuthEncoding w b
 
-abbrev number : ℕ → Result IpNumber ExtsWalkError
-number j = Ok (record { 0 = j })
+-- They are the only ones.
+encoding_bytes : (w : AuthFields) (b : List ℕ) → IsEncoded w → IsAuthEncoding w b → AreBytes b
+encoding_bytes w b (d, bytes, encodes) e = subst AreBytes (auth_only w d encodes ∙ sym (auth_only w b e)) bytes
 
--- Where the headers lead, some bytes are read as them, and the other way round.
+-- What is written is read again.
 module _ (f : ℕ) (m : IpNumber) where
-  abbrev IsRead : Option AuthFields → Type 0
-  IsRead v = (s : List ℕ) × AreBytes s × IsIpv4Reading f s v m.0 []
+  pub none_read_again : (v : Option AuthFields) (b r : List ℕ) → v ≡ None → b ≡ [] → ipv4_walk v f ≡ Ok m → (v ≡ None → f ≡ 51 → ⊥) → IsIpv4ValueAnswer f (b ++ r) v m.0 r None
+  none_read_again v b r e nothing walk other =
+      let V : Option AuthFields → Type 0 = λ u. ipv4_walk u f ≡ Ok m in
+      let number : f ≡ m.0 = ap unwrapped (subst V e walk) in
+      rw (e, nothing) (subst (λ (j : ℕ). IsIpv4ValueAnswer f r None j r None) number (none_again f r (other e)))
 
-  leads_read : (v : Option AuthFields) → ((w : AuthFields) → f ≡ 51 → v ≡ Some w → IsEncoded w) → ipv4_walk v f ≡ Ok m → IsRead v
-  leads_read None encoded walk =
-      ([], All-from_recursion (λ x. x < 256) [] tt, subst (λ (j : ℕ). IsIpv4Reading f [] None j []) (ap unwrapped walk) (none_is_read f [] (λ e. refl)))
+  pub one_read_again : (v : Option AuthFields) (w : AuthFields) (b r : List ℕ) → f ≡ 51 → v ≡ Some w → IsAuthEncoding w b → ipv4_walk v f ≡ Ok m → IsIpv4ValueAnswer f (b ++ r) v m.0 r None
+  one_read_again v w b r named value e walk =
+      let V : ℕ → Option AuthFields → Type 0 = λ j u. ipv4_walk u j ≡ Ok m in
+      let number : w.next_header ≡ m.0 = ap unwrapped (subst (λ (j : ℕ). V j (Some w)) named (subst (V f) value walk)) in
+      rw value (subst (λ (j : ℕ). IsIpv4ValueAnswer f (b ++ r) (Some w) j r None) number (one_again f w b r named e))
+
+  pub none_read_whole : (v : Option AuthFields) (b : List ℕ) → v ≡ None → b ≡ [] → ipv4_walk v f ≡ Ok m → IsReadAs v f m.0 b
+  none_read_whole v b e nothing walk =
+      let V : Option AuthFields → Type 0 = λ u. ipv4_walk u f ≡ Ok m in
+      let number : f ≡ m.0 = ap unwrapped (subst V e walk) in
+      rw (e, nothing) (subst (λ (j : ℕ). IsReadAs None f j []) number (none_whole f))
+
+  pub one_read_whole : (v : Option AuthFields) (w : AuthFields) (b : List ℕ) → f ≡ 51 → v ≡ Some w → IsEncoded w → IsAuthEncoding w b → ipv4_walk v f ≡ Ok m → IsReadAs v f m.0 b
+  one_read_whole v w b named value encoded e walk =
+      let V : ℕ → Option AuthFields → Type 0 = λ j u. ipv4_walk u j ≡ Ok m in
+      let number : w.next_header ≡ m.0 = ap unwrapped (subst (λ (j : ℕ). V j (Some w)) named (subst (V f) value walk)) in
+      rw value (subst (λ (j : ℕ). IsReadAs (Some w) f j b) number (one_whole f w b named (encoding_bytes w b encoded e) e))
+
+  -- Where the headers lead, some bytes are read as them, and the other way round.
+  leads_read : (v : Option AuthFields) → ((w : AuthFields) → f ≡ 51 → v ≡ Some w → IsEncoded w) → ipv4_walk v f ≡ Ok m → (s : List ℕ) × IsReadAs v f m.0 s
+  leads_read None encoded walk = ([], none_read_whole None [] refl refl walk)
   leads_read (Some w) encoded walk = elim (eqb_tells f 51) [
-    | inl named ↦
-        let (b, bytes, encodes) = encoded w named.1 refl in
-        let W : ℕ → Type 0 = λ j. ipv4_walk (Some w) j ≡ Ok m in
-        let R : List ℕ → ℕ → Type 0 = λ s j. IsIpv4Reading f s (Some w) j [] in
-        let same : w.next_header ≡ m.0 = ap unwrapped (subst W named.1 walk) in
-        (b, bytes, subst (λ (s : List ℕ). R s m.0) (append-nil b) (subst (R (b ++ [])) same (one_is_read f w b [] named.1 encodes)))
+    | inl named ↦ let it = encoded w named.1 refl in (it.0, one_read_whole (Some w) w it.0 named.1 refl it it.2 walk)
     | inr other ↦ absurd (let no : Err (ExtNotReferenced (record { 0 = 51 })) ≡ Ok m = rw other.0 at walk in cc)
   ]
 
-  read_leads : (v : Option AuthFields) → IsRead v → ipv4_walk v f ≡ Ok m
-  read_leads v (s, bytes, read) =
-      let l = ipv4_longest f s in
-      elim (one_or_none f (longest_ipv4_chain f s) l.has.has.chain l.has.meets) [
+  read_leads : (v : Option AuthFields) (s : List ℕ) → IsReadAs v f m.0 s → ipv4_walk v f ≡ Ok m
+  read_leads v s r =
+      let number : ℕ → Result IpNumber ExtsWalkError = λ j. Ok (record { 0 = j }) in
+      elim (one_or_none f r.chain r.longest.has.has.chain r.longest.has.meets) [
         | inl none ↦
-            let value : v ≡ None = read.value ∙ ap ipv4_value none in
-            let same : f ≡ m.0 = sym (read.number ∙ ap (leads_to f) none) in
+            let value : v ≡ None = sym r.value ∙ ap ipv4_value none in
+            let same : f ≡ m.0 = sym (ap (leads_to f) none) ∙ r.number in
             ap (λ u. ipv4_walk u f) value ∙ ap number same
         | inr one ↦
-            let value : v ≡ Some (auth_fields one.bytes) = read.value ∙ ap ipv4_value one.alone in
-            let same : next_header one.bytes ≡ m.0 = sym (read.number ∙ ap (leads_to f) one.alone) in
+            let value : v ≡ Some (auth_fields one.bytes) = sym r.value ∙ ap ipv4_value one.alone in
+            let same : next_header one.bytes ≡ m.0 = sym (ap (leads_to f) one.alone) ∙ r.number in
             ap (λ u. ipv4_walk u f) value ∙ ap (ipv4_walk (Some (auth_fields one.bytes))) one.named ∙ ap number same
       ]
 
-  pub walk_read : (v : Option AuthFields) (x : Result IpNumber ExtsWalkError) → ((w : AuthFields) → f ≡ 51 → v ≡ Some w → IsEncoded w) → x ≡ ipv4_walk v f → (x ≡ Ok m) ↔ IsRead v
-  walk_read v x encoded is = (λ e. leads_read v encoded (sym is ∙ e), λ r. is ∙ read_leads v r)
+  pub walk_read : (v : Option AuthFields) (x : Result IpNumber ExtsWalkError) → ((w : AuthFields) → f ≡ 51 → v ≡ Some w → IsEncoded w) → x ≡ ipv4_walk v f → (x ≡ Ok m) ↔ ((s : List ℕ) × IsReadAs v f m.0 s)
+  walk_read v x encoded is = (λ e. leads_read v encoded (sym is ∙ e), λ r. is ∙ read_leads v r.0 r.1)

@@ -1,4 +1,4 @@
-ghost use Rattle.std.specs.Prelude.{◌≡◌, ◌≤◌, ◌<◌, ◌+◌, ◌++◌, ◌↔◌, ℕ, List, [], length, Option, Some, None, IsOk, OnOk, OnErr, IfOk, IfErr, is_some, is_none, vec_len, vec_capacity, if◌then◌else◌};
+ghost use Rattle.std.specs.Prelude.{◌≡◌, ◌≤◌, ◌<◌, ◌+◌, ◌++◌, ◌↔◌, ℕ, List, length, Option, Some, None, IsOk, OnOk, OnErr, IfOk, IfErr, IfSome, is_some, is_none, vec_len, vec_capacity, if◌then◌else◌};
 ghost use Rattle.std.specs.Option.{option_map, option_map_or};
 ghost use Rattle.ip_spec.specs.Numbers.{AUTHENTICATION};
 ghost use Rattle.ip_spec.specs.FieldsOf.{AuthFields, auth_len};
@@ -11,8 +11,9 @@ ghost use Rattle.ip_ext_ipv4.specs.Ipv4Longest.{longest_ipv4_chain};
 ghost use Rattle.ip_ext_ipv4.specs.Ipv4Fault.{ipv4_chain_fault};
 ghost use Rattle.ip_ext_ipv4.specs.Ipv4Parse.{IsIpv4ChainAnswer, IsIpv4ValueAnswer, ipv4_value};
 ghost use Rattle.ip_ext_ipv4.specs.Ipv4ExtensionsSlice.{headers_in};
-ghost use Rattle.ip_ext_ipv4.specs.Ipv4Walk.{ipv4_walk, IsIpv4Reading, IsIpv4Encoding, IsIpv4ReadBack};
-ghost use Rattle.ip_ext_ipv4.specs.Ipv4Walk.{IfContent, OnIo};
+ghost use Rattle.ip_ext_ipv4.specs.Ipv4Walk.{ipv4_walk, IsIpv4Encoding};
+ghost use Rattle.ip_ext_ipv4.specs.Ipv4WriteError.{io_of, content_of};
+ghost use Rattle.ip_spec.specs.Parse.{IsRead};
 
 use crate::Ipv4ExtensionsSlice;
 use crate::err::ip_auth::HeaderSliceError;
@@ -112,19 +113,15 @@ impl Ipv4Extensions {
     /// The error tells that a header is there which that number doesn't name.
     pub fn next_header(&self, first_next_header: IpNumber) -> Result<IpNumber, ExtsWalkError>
         ensures answer { result ≡ ipv4_walk self.now.auth first_next_header.0 }
-        ensures read { (m : IpNumber) → (result ≡ Ok m) ↔ ((s : List ℕ) × AreBytes s
-            × IsIpv4Reading first_next_header.0 s self.now.auth m.0 []) }
+        ensures exactly { (m : IpNumber) → (result ≡ Ok m) ↔ ((s : List ℕ)
+            × IsRead (AtMostOneOf AUTHENTICATION) (λ c. ipv4_value c ≡ self.now.auth)
+            first_next_header.0 m.0 s) }
     {
         match &self.auth {
             None => Ok(first_next_header),
             Some(header) if first_next_header == ip_number::AUTH => {
-                let (next, spi, sequence) = (
-                    header.next_header,
-                    header.spi,
-                    header.sequence_number,
-                );
-                has_encoding(next, spi, sequence, header.raw_icv());
-                Ok(next)
+                encodable(header);
+                Ok(header.next_header)
             }
             Some(_) => Err(ExtsWalkError::ExtNotReferenced {
                 missing_ext: ip_number::AUTH,
@@ -150,9 +147,11 @@ impl Ipv4Extensions {
         }
     }
 
-    /// Appends the headers' bytes, where `start_ip_number` is the protocol number of the packet. It refuses
-    /// where that number doesn't name a header that is there, and else only where the vector has no room and
-    /// can't grow; then the vector's bytes stay as they were.
+    /// Appends the header's bytes, where `start_ip_number` is the protocol number of the packet. They are read as
+    /// this value again, with nothing left; where a header is there or that number is another one, also with any
+    /// bytes behind them. It refuses where that number doesn't name a header that is there, and else only where
+    /// there is a header for which the vector has no room and can't grow; then the vector's bytes stay as they
+    /// were. A header that isn't named is reported first: no memory is asked for.
     #[inline(always)]
     pub fn write<A: Allocator>(
         &self,
@@ -160,23 +159,34 @@ impl Ipv4Extensions {
         start_ip_number: IpNumber,
     ) -> Result<(), HeaderWriteError>
         ensures walk { OnOk result (IsOk (ipv4_walk self.now.auth start_ip_number.0)) }
-        ensures content { IfErr result (λ e. IfContent e (λ w.
-            ipv4_walk self.now.auth start_ip_number.0 ≡ Err w)) }
+        ensures content { IfErr result (λ e. IfSome (content_of e) (λ fault.
+            ipv4_walk self.now.auth start_ip_number.0 ≡ Err fault)) }
         ensures ok { OnOk result (AppendsOne (IsIpv4Encoding start_ip_number.0 self.now.auth)
             out.old.items out.new.items) }
         ensures only { (b d : List ℕ) → IsIpv4Encoding start_ip_number.0 self.now.auth b
             → IsIpv4Encoding start_ip_number.0 self.now.auth d → b ≡ d }
-        ensures told { (v : Option AuthFields) (b : List ℕ)
+        ensures alike { (v : Option AuthFields) (b : List ℕ)
             → IsIpv4Encoding start_ip_number.0 self.now.auth b
             → IsIpv4Encoding start_ip_number.0 v b → self.now.auth ≡ v }
-        ensures read_back { OnOk result (AppendsOne
-            (IsIpv4ReadBack start_ip_number.0 self.now.auth) out.old.items out.new.items) }
+        ensures read_again { OnOk result ((b r : List ℕ) (m : IpNumber)
+            → out.new.items ≡ out.old.items ++ b
+            → ipv4_walk self.now.auth start_ip_number.0 ≡ Ok m
+            → (self.now.auth ≡ None → start_ip_number.0 ≡ AUTHENTICATION → ⊥)
+            → IsIpv4ValueAnswer start_ip_number.0 (b ++ r) self.now.auth m.0 r None) }
+        ensures read_whole { OnOk result ((b : List ℕ) (m : IpNumber)
+            → out.new.items ≡ out.old.items ++ b
+            → ipv4_walk self.now.auth start_ip_number.0 ≡ Ok m
+            → IsRead (AtMostOneOf AUTHENTICATION) (λ c. ipv4_value c ≡ self.now.auth)
+            start_ip_number.0 m.0 b) }
         ensures len { OnOk result
             (vec_len out.new ≡ vec_len out.old + option_map_or auth_len self.now.auth 0) }
-        ensures err { OnErr result (out.new.items ≡ out.old.items) }
-        ensures full { IfErr result (λ e. OnIo e
-            (vec_capacity out.old < vec_len out.old + option_map_or auth_len self.now.auth 0)) }
-        ensures some { IfErr result (λ e. OnIo e (0 < option_map_or auth_len self.now.auth 0)) }
+        ensures unchanged { OnErr result (out.new.items ≡ out.old.items) }
+        ensures full { IfErr result (λ e. IfSome (io_of e) (λ _.
+            vec_capacity out.old < vec_len out.old + option_map_or auth_len self.now.auth 0)) }
+        ensures some { IfErr result (λ e. IfSome (io_of e) (λ _.
+            0 < option_map_or auth_len self.now.auth 0)) }
+        ensures named { IfErr result (λ e. IfSome (io_of e) (λ _.
+            IsOk (ipv4_walk self.now.auth start_ip_number.0))) }
         ensures capacity { vec_capacity out.old ≤ vec_capacity out.new }
     {
         let Some(header) = &self.auth else {
@@ -187,6 +197,7 @@ impl Ipv4Extensions {
                 missing_ext: ip_number::AUTH,
             }));
         }
+        encodable(header);
         match header.write(out) {
             Ok(()) => Ok(()),
             Err(e) => Err(HeaderWriteError::Io(e)),
@@ -212,7 +223,20 @@ impl Ipv4Extensions {
     }
 }
 
-/// Says of the fields of a header that some bytes encode them. It does nothing when it runs.
+/// Says of a header that some bytes encode it. It does nothing when it runs.
+#[inline(always)]
+fn encodable(header: &IpAuthHeader)
+    ensures { (b : List ℕ) × AreBytes b × IsAuthEncoding header.now b }
+{
+    let (next, spi, sequence) = (
+        header.next_header,
+        header.spi,
+        header.sequence_number,
+    );
+    has_encoding(next, spi, sequence, header.raw_icv());
+}
+
+/// Says the same of a header's fields.
 #[inline(always)]
 fn has_encoding(next_header: IpNumber, spi: u32, sequence_number: u32, raw_icv: &[u8])
     requires { IsIcvLen (length raw_icv.now) }

@@ -8,7 +8,7 @@ use Rattle.ip_base.specs.declared.len_source.LenSource.{LenSource}
 use Rattle.ip_spec.specs.Header.{IsHeader, IsExtensionNumber, IsRawNumber, raw, fragment, auth}
 use Rattle.ip_spec.specs.Chain.{ExtHeader, IsNext, IsEnd}
 use Rattle.ip_spec.proofs.PrefixLemmas.{prefix_of-take}
-use Rattle.ip_spec.proofs.HeaderLemmas.{raw_begins, fragment_begins, auth_begins}
+use Rattle.ip_spec.proofs.HeaderLemmas.{header_number, raw_begins, fragment_begins, auth_begins}
 use Rattle.ip_ext_headers.specs.Fault.{raw_fault, fragment_fault, auth_fault}
 use Rattle.ip_ext_slices.specs.Fault.{fault_at}
 
@@ -73,12 +73,9 @@ module _ (source : LenSource) (n : ℕ) (r : List ℕ) (k : ℕ) where
     ]
   ]
 
-pub number_of : (m : ℕ) (b : List ℕ) → IsHeader m b → IsExtensionNumber m
-number_of m b h = elim h [ raw k x ↦ inl k | fragment e x ↦ inr (inl e) | auth e x ↦ inr (inr e) ]
-
 -- at another number no header goes on
 pub end_at_other : (first : Bool) (m : ℕ) (r : List ℕ) → (IsExtensionNumber m → ⊥) → IsEnd first m r
-end_at_other first m r other = λ h x. other (number_of m h.bytes x.header)
+end_at_other first m r other = λ h x. other (header_number m h.bytes x.header)
 
 -- and there is no fault
 pub no_fault_at_other : (source : LenSource) (n : ℕ) (first : Bool) (m : ℕ) (r : List ℕ) (k : ℕ) → (IsExtensionNumber m → ⊥) → fault_at source n k first m r ≡ None

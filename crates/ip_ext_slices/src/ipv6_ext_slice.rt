@@ -1,5 +1,6 @@
 ghost use Rattle.std.specs.Prelude.{◌≡◌, ◌==◌, ◌&&◌};
 ghost use Rattle.ip_spec.specs.Header.{IsHeader};
+ghost use Rattle.ip_spec.specs.Numbers.{FRAGMENT};
 ghost use Rattle.ip_spec.specs.Fields.{next_header, is_fragmenting};
 
 use ip_base::{IpNumber, ip_number};
@@ -66,7 +67,7 @@ impl<'a> Ipv6ExtensionSlice<'a> {
 
     /// Whether it is a fragment header that fragments the payload.
     pub(crate) fn is_fragmenting_payload(&self) -> bool
-        ensures { result ≡ (((header_of self.now).number == 44)
+        ensures { result ≡ (((header_of self.now).number == FRAGMENT)
             && is_fragmenting (header_of self.now).bytes) }
     {
         match self {

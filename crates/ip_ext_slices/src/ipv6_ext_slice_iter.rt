@@ -104,9 +104,10 @@ impl Eq for Ipv6ExtensionSliceIter<'_> {
 
 impl Default for Ipv6ExtensionSliceIter<'_> {
     ghost use Rattle.std.specs.Prelude.{[]};
+    ghost use Rattle.ip_spec.specs.Numbers.{NO_NEXT_HEADER};
     ghost use Rattle.ip_ext_slices.specs.Ipv6ExtensionSliceIter.{number_left, bytes_left};
 
-    ghost is_default = { λ it. (number_left it ≡ 59) × (bytes_left it ≡ []) };
+    ghost is_default = { λ it. (number_left it ≡ NO_NEXT_HEADER) × (bytes_left it ≡ []) };
 
     /// No headers. The number is 59, since 0 would name hop by hop options.
     fn default() -> Self {

@@ -3,6 +3,7 @@ use Rattle.std.proofs.Common.{◌≡◌, ℕ, ◌+◌, ◌-◌, ◌/◌, ◌^◌
 use Rattle.std.specs.Prelude.{slice_range}
 use Rattle.std.proofs.lemmas.List.Elements.{All-from_recursion, recursion_from_All, All-append}
 use Rattle.ip_spec.specs.Header.{IsHeader, IsRawHeader, IsFragmentHeader, IsAuthHeader, IsRawNumber, IsExtensionNumber, raw, fragment, auth}
+use Rattle.ip_spec.proofs.HeaderLemmas.{header_number}
 use Rattle.ip_spec.specs.FieldsOf.{RawFields, FragmentFields, AuthFields, raw_fields, fragment_fields, auth_fields}
 use Rattle.ip_spec.specs.Lengths.{MAX_FRAGMENT_OFFSET, IsPayloadLen, IsIcvLen}
 use Rattle.ip_spec.specs.Encoding.{AreBytes, IsFragmentEncoding, IsAuthEncoding}
@@ -15,9 +16,6 @@ use Rattle.ip_spec.proofs.HeaderLemmas.{raw_of, fragment_of, auth_of, ext_header
 use Rattle.ip_spec.proofs.EncodingLemmas.{fragment_only, auth_only, fragment_encodes, auth_written_encodes, fragment_written, auth_written, flagged_byte, packed_offset, packed_flag, packed_reserved}
 
 -- the number of a header is an extension number
-pub header_number : (n : ℕ) (b : List ℕ) → IsHeader n b → IsExtensionNumber n
-header_number n b h = elim h [ raw k r ↦ inl k | fragment e f ↦ inr (inl e) | auth e a ↦ inr (inr e) ]
-
 raw_bytes : (b d : List ℕ) → IsRawHeader b → IsRawHeader d → raw_fields b ≡ raw_fields d → b ≡ d
 raw_bytes [] d h g e = absurd (omega (arith, h.least))
 raw_bytes (x ∷ []) d h g e = absurd (omega (arith, h.least))

@@ -4,6 +4,7 @@ use Rattle.std.specs.Prelude.{◌==◌, if◌then◌else◌}
 use Rattle.std.proofs.lemmas.Bool.Decides.{eqb_tells}
 use Rattle.std.proofs.lemmas.List.{append-nil, map-append, length-append}
 use Rattle.ip_spec.specs.Header.{IsExtensionNumber}
+use Rattle.ip_spec.proofs.HeaderLemmas.{header_number, later_of}
 use Rattle.ip_spec.specs.Chain.{ExtHeader, leads_to, bytes_of, is_empty, IsPrefixChain, IsLongestChain, IsNext, IsEnd}
 use Rattle.ip_spec.specs.Demand.{IsDemand, IsLongestUnder, NextBreaks}
 use Rattle.ip_spec.specs.Fits.{numbers_of, how_often, before_routing, after_routing, NumbersFit, FitsPlaces, IsTaken, in_place}
@@ -200,17 +201,17 @@ first_fits : (c : List ExtHeader) (m : ℕ) → m ≡ 0 → is_empty c ≡ true 
 first_fits [] m z e = one_number_fits m
 first_fits (g ∷ c) m z e = absurd (let differ : false ≡ true = e in cc)
 
-next_number_fits : (c : List ExtHeader) (m : ℕ) → (m ≡ 0 → is_empty c ≡ true) → (IsTaken m c → ⊥) → NumbersFit (numbers_of c ++ m ∷ [])
-next_number_fits c m z free = elim (eqb_tells m 0) [
+next_number_fits : (c : List ExtHeader) (m : ℕ) → IsExtensionNumber m → (m ≡ 0 → is_empty c ≡ true) → (IsTaken m c → ⊥) → NumbersFit (numbers_of c ++ m ∷ [])
+next_number_fits c m x z free = elim (eqb_tells m 0) [
   | inl w ↦ first_fits c m w.1 (z w.1)
-  | inr w ↦ elim (numbers_fit.decided (numbers_of c ++ m ∷ [])) [ inl f ↦ f | inr breaks ↦ absurd (free (w.1, breaks)) ]
+  | inr w ↦ elim (numbers_fit.decided (numbers_of c ++ m ∷ [])) [ inl f ↦ f | inr breaks ↦ absurd (free (later_of m x w.1, breaks)) ]
 ]
 
 pub fitting_ends : (n : ℕ) (s : List ℕ) (c : List ExtHeader) → IsLongestUnder FitsPlaces n s c → (IsTaken (leads_to n c) c → ⊥) → IsEnd (is_empty c) (leads_to n c) (drop (length (bytes_of c)) s)
 fitting_ends n s c l free h x =
     let N : List ℕ → Type 0 = NumbersFit in
     let same : numbers_of c ++ leads_to n c ∷ [] ≡ numbers_of (c ++ h ∷ []) = ap (λ m. numbers_of c ++ m ∷ []) (sym x.number) ∙ sym (map-append (λ k. k.number) c (h ∷ [])) in
-    longest_ends_under FitsPlaces fits_places n s c l h x (subst N same (next_number_fits c (leads_to n c) x.zero_only_first free))
+    longest_ends_under FitsPlaces fits_places n s c l h x (subst N same (next_number_fits c (leads_to n c) (header_number (leads_to n c) h.bytes x.header) x.zero_only_first free))
 
 -- It is shorter than the longest chain exactly where a header goes on there whose place is taken.
 module _ (n : ℕ) (s : List ℕ) (d c : List ExtHeader) (l : IsLongestChain n s d) (u : IsLongestUnder FitsPlaces n s c) where
@@ -218,7 +219,8 @@ module _ (n : ℕ) (s : List ℕ) (d c : List ExtHeader) (l : IsLongestChain n s
   taken_next h x breaks =
       let N : List ℕ → Type 0 = NumbersFit in
       let same : numbers_of c ++ leads_to n c ∷ [] ≡ numbers_of (c ++ h ∷ []) = ap (λ m. numbers_of c ++ m ∷ []) (sym x.number) ∙ sym (map-append (λ k. k.number) c (h ∷ [])) in
-      (λ z. breaks (subst N same (first_fits c (leads_to n c) z (x.zero_only_first z))), λ f. breaks (subst N same f))
+      let later = later_of (leads_to n c) (header_number (leads_to n c) h.bytes x.header) (λ z. breaks (subst N same (first_fits c (leads_to n c) z (x.zero_only_first z)))) in
+      (later, λ f. breaks (subst N same f))
 
   taken_behind : (rest : List ExtHeader) → d ≡ c ++ rest → NextBreaks FitsPlaces c rest → length c < length d → IsTaken (leads_to n c) c
   taken_behind [] e breaks w = absurd (omega (arith, ap length e, ap length (append-nil c), w))

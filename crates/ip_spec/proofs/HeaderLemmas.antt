@@ -5,7 +5,7 @@ use Rattle.std.proofs.lemmas.List.{get_or_append_left, take_at, length-take-le}
 use Rattle.std.proofs.Math.Seq.{take-append_seam}
 use Rattle.std.proofs.lemmas.Bool.{cases_lt}
 use Rattle.std.proofs.lemmas.Bool.Decides.{eqb_tells}
-use Rattle.ip_spec.specs.Header.{IsHeader, IsRawHeader, IsFragmentHeader, IsAuthHeader, IsRawNumber, raw, fragment, auth}
+use Rattle.ip_spec.specs.Header.{IsHeader, IsRawHeader, IsFragmentHeader, IsAuthHeader, IsRawNumber, IsExtensionNumber, IsLaterNumber, raw, fragment, auth}
 use Rattle.ip_spec.specs.Prefix.{IsPrefix}
 use Rattle.ip_spec.specs.Chain.{ExtHeader, IsNext, IsEnd}
 use Rattle.ip_spec.proofs.PrefixLemmas.{prefix-append, prefix_of-take, prefix-length}
@@ -42,6 +42,42 @@ kind n = elim (raw_or n) [
     | inl e ↦ is_fragment e
     | inr f ↦ elim (eq_or n 51) [ inl e ↦ is_auth e | inr a ↦ is_other r f a ]
   ]
+]
+
+pub header_number : (n : ℕ) (b : List ℕ) → IsHeader n b → IsExtensionNumber n
+header_number n b h = elim h [ raw k r ↦ inl k | fragment e f ↦ inr (inl e) | auth e a ↦ inr (inr e) ]
+
+-- The extension numbers but 0 are those of headers that can stand behind another.
+pub later_of : (n : ℕ) → IsExtensionNumber n → n ≢ 0 → IsLaterNumber n
+later_of n x z = elim x [
+  | inl k ↦ elim k [ inl e ↦ absurd (z e) | inr k' ↦ elim k' [ inl e ↦ inl e | inr e ↦ inr (inr (inr e)) ] ]
+  | inr k ↦ elim k [ inl e ↦ inr (inl e) | inr e ↦ inr (inr (inl e)) ]
+]
+
+pub extension_of_later : (n : ℕ) → IsLaterNumber n → IsExtensionNumber n
+extension_of_later n l = elim l [
+  | inl e ↦ inl (inr (inl e))
+  | inr l' ↦ elim l' [ inl e ↦ inr (inl e) | inr l'' ↦ elim l'' [ inl e ↦ inr (inr e) | inr e ↦ inl (inr (inr e)) ] ]
+]
+
+pub later_not_zero : (n : ℕ) → IsLaterNumber n → n ≢ 0
+later_not_zero n l z = elim l [
+  | inl e ↦ omega arith
+  | inr l' ↦ elim l' [ inl e ↦ omega arith | inr l'' ↦ elim l'' [ inl e ↦ omega arith | inr e ↦ omega arith ] ]
+]
+
+extension_or : (n : ℕ) → IsExtensionNumber n ⊎ (IsExtensionNumber n → ⊥)
+extension_or n = elim (kind n) [
+  | is_raw k ↦ inl (inl k)
+  | is_fragment e ↦ inl (inr (inl e))
+  | is_auth e ↦ inl (inr (inr e))
+  | is_other r f a ↦ inr (λ x. elim x [ inl k ↦ r k | inr k ↦ elim k [ inl e ↦ f e | inr e ↦ a e ] ])
+]
+
+pub later_or : (n : ℕ) → IsLaterNumber n ⊎ (IsLaterNumber n → ⊥)
+later_or n = elim (eq_or n 0) [
+  | inl z ↦ inr (λ l. later_not_zero n l z)
+  | inr nz ↦ elim (extension_or n) [ inl x ↦ inl (later_of n x nz) | inr other ↦ inr (λ l. other (extension_of_later n l)) ]
 ]
 
 -- Of a number, the layout of its headers.

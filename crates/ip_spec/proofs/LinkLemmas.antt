@@ -18,7 +18,7 @@ use Rattle.ip_spec.specs.Walk.{Held, leads, IsWalkAnswer}
 use Rattle.ip_spec.specs.WalkStep.{next_place, without, next_of}
 use Rattle.ip_spec.specs.Links.{relinked, first_number, places_behind, linked}
 use Rattle.ip_spec.proofs.HeaderLemmas.{raw_of, fragment_of, auth_of, header-least}
-use Rattle.ip_spec.proofs.EncodedLemmas.{header_number}
+use Rattle.ip_spec.proofs.HeaderLemmas.{header_number}
 use Rattle.ip_spec.proofs.PlaceLemmas.{same_place}
 use Rattle.ip_spec.proofs.WalkLemmas.{none_if, some_if}
 use Rattle.ip_spec.proofs.WalkStepLemmas.{Walking, walk_begins, walks_on, walk_answers}

@@ -7,6 +7,7 @@ use Rattle.std.proofs.lemmas.Bool.{cases_lt, cases_Bool, lt-ltb, le-ltb, eqb-tru
 use Rattle.std.proofs.lemmas.Bool.Decides.{eqb_tells}
 use Rattle.std.proofs.lemmas.List.{append-nil, map-append}
 use Rattle.ip_spec.specs.Header.{IsExtensionNumber}
+use Rattle.ip_spec.proofs.HeaderLemmas.{later_of, later_not_zero}
 use Rattle.ip_spec.specs.Chain.{ExtHeader}
 use Rattle.ip_spec.specs.Fits.{numbers_of, how_often, NumbersFit, FitsPlaces, IsTaken, in_place}
 use Rattle.ip_spec.specs.Places.{Place, hop_by_hop, destination, routing, fragment, authentication, final_destination, index, number_in, first_of, before_routing_header, after_routing_header, header_in, has_routing, place_of, is_filled, is_taken}
@@ -271,13 +272,16 @@ module _ (c : List ExtHeader) where
   breaks_more h p e filled f = let N : List ℕ → Type 0 = NumbersFit in breaks_filled h.number p e filled (subst N (numbers-more h) f)
 
   -- The test and the relation agree.
-  taken_at : (m : ℕ) (o : Option Place) → place_of m (has_routing c) ≡ o → FitsPlaces c → (m ≢ 0) → is_filled o c ≡ true ↔ IsTaken m c
+  taken_at : (m : ℕ) (o : Option Place) → place_of m (has_routing c) ≡ o → FitsPlaces c → m ≢ 0 → is_filled o c ≡ true ↔ IsTaken m c
   taken_at m None e f other = (λ t. absurd (let differ : false ≡ true = t in cc), λ t. absurd (t.1 (fits_next m (numbers_of c) f (λ x. absurd (let differ : false ≡ true = sym (ap is_some e) ∙ has_place m (has_routing c) x in cc)))))
-  taken_at m (Some p) e f other = (λ t. (other, breaks_filled m p e t), λ t. elim (cases_Bool (is_some (header_in p c))) [ inl w ↦ w | inr w ↦ absurd (t.1 (fits_free m p f e w)) ])
+  taken_at m (Some p) e f other = (
+    (λ t. let X : ℕ → Type 0 = IsExtensionNumber in (later_of m (subst X (sym (place_number m p (has_routing c) e)) (is_extension p)) other, breaks_filled m p e t)),
+    λ t. elim (cases_Bool (is_some (header_in p c))) [ inl w ↦ w | inr w ↦ absurd (t.1 (fits_free m p f e w)) ],
+  )
 
   pub taken_told : (m : ℕ) → FitsPlaces c → (is_taken m c ≡ true) ↔ IsTaken m c
   taken_told m f = elim (eqb_tells m 0) [
-    | inl w ↦ (λ t. absurd (let differ : false ≡ true = sym (ap (λ b. not b && is_filled (place_of m (has_routing c)) c) w.0) ∙ t in cc), λ t. absurd (t.0 w.1))
+    | inl w ↦ (λ t. absurd (let differ : false ≡ true = sym (ap (λ b. not b && is_filled (place_of m (has_routing c)) c) w.0) ∙ t in cc), λ t. absurd (later_not_zero m t.0 w.1))
     | inr w ↦
         let same : is_taken m c ≡ is_filled (place_of m (has_routing c)) c = ap (λ b. not b && is_filled (place_of m (has_routing c)) c) w.0 in
         let there = taken_at m (place_of m (has_routing c)) refl f w.1 in

@@ -13,7 +13,7 @@ use Rattle.ip_spec.specs.Fits.{numbers_of, NumbersFit, FitsPlaces, IsTaken}
 use Rattle.ip_spec.specs.Cleared.{cleared_header}
 use Rattle.ip_spec.specs.Encoded.{cleared_chain}
 use Rattle.ip_spec.specs.Runs.{joined, how_many, last_piece, IsCut, AreRuns, none, cut, one_more, AreChains, AreLongestFitting}
-use Rattle.ip_spec.proofs.HeaderLemmas.{eq_or}
+use Rattle.ip_spec.proofs.HeaderLemmas.{header_number, later_of, later_not_zero, later_or}
 use Rattle.ip_spec.proofs.PrefixLemmas.{prefix_second, rest_join, prefix-length}
 use Rattle.ip_spec.proofs.LongestOfLemmas.{begins_first}
 use Rattle.ip_spec.proofs.StepLemmas.{begins, next_of, chains_grow, tail_chain, bytes_of-least}
@@ -34,9 +34,9 @@ cuts_places = record {
 }
 
 taken_or : (m : ℕ) (c : List ExtHeader) → IsTaken m c ⊎ (IsTaken m c → ⊥)
-taken_or m c = elim (eq_or m 0) [
-  | inl z ↦ inr (λ t. t.0 z)
-  | inr nz ↦ elim (numbers_fit.decided (numbers_of c ++ m ∷ [])) [ inl f ↦ inr (λ t. t.1 f) | inr breaks ↦ inl (nz, breaks) ]
+taken_or m c = elim (later_or m) [
+  | inl later ↦ elim (numbers_fit.decided (numbers_of c ++ m ∷ [])) [ inl f ↦ inr (λ t. t.1 f) | inr breaks ↦ inl (later, breaks) ]
+  | inr other ↦ inr (λ t. other t.0)
 ]
 
 pub none_taken : (m : ℕ) → IsTaken m [] → ⊥
@@ -294,7 +294,7 @@ next_taken n s p (h ∷ rest) e q b on =
     let N : List ℕ → Type 0 = NumbersFit in
     let x = next_of n s p h (begins_first (IsPrefixChain n s) (chains_grow n s) p h rest q) in
     let same : numbers_of p ++ leads_to n p ∷ [] ≡ numbers_of (p ++ h ∷ []) = ap (λ m. numbers_of p ++ m ∷ []) (sym x.number) ∙ sym (map-append (λ g. g.number) p (h ∷ [])) in
-    (λ z. not_first p e (x.zero_only_first z), λ f. b (subst N same f))
+    (later_of (leads_to n p) (header_number (leads_to n p) h.bytes x.header) (λ z. not_first p e (x.zero_only_first z)), λ f. b (subst N same f))
 
 fitting_more : (n : ℕ) (s : List ℕ) (p : List ExtHeader) (ps : Pieces) → IsLongestUnder FitsPlaces n s p → IsTaken (leads_to n p) p → AreLongestFitting (leads_to n p) (drop (length (bytes_of p)) s) ps → AreLongestFitting n s (p ∷ ps)
 fitting_more n s p [] l t f = absurd f
@@ -321,7 +321,7 @@ runs_longest_fitting (p ∷ ps) n s c l a = elim (runs_step (leads_to n c) c (p 
       let taken = next_taken n s r k.rest (first_filled (leads_to n c) c r k on) whole.has k.breaks at_end in
       subst A (sym same)
       (fitting_more n s r ps (kept_is_longest FitsPlaces fits_places n s c r l k) taken
-      (runs_longest_fitting ps (leads_to n r) (drop (length (bytes_of r)) s) k.rest (rest_longest n s r k.rest (λ w. taken.0) whole) (subst B others (subst R leads b))))
+      (runs_longest_fitting ps (leads_to n r) (drop (length (bytes_of r)) s) k.rest (rest_longest n s r k.rest (λ w. later_not_zero (leads_to n r) taken.0) whole) (subst B others (subst R leads b))))
 ]
 
 -- and these are determined

@@ -15,7 +15,8 @@ use Rattle.ip_spec.specs.Fits.{numbers_of, NumbersFit, FitsPlaces, IsTaken}
 use Rattle.ip_spec.specs.Places.{Place, hop_by_hop, destination, routing, fragment, authentication, final_destination, number_in, header_in, fields_of, HeaderFields}
 use Rattle.ip_spec.specs.Encoded.{cleared_chain}
 use Rattle.ip_spec.specs.Encodable.{IsEncodable}
-use Rattle.ip_spec.specs.Walk.{Held, IsValueOf, IsSpelling, IsShown, IsReach, unreached, first_filled, WalkAnswer, leads, hop_by_hop_not_at_start, not_referenced, fault_or_number, answer_at, IsWalkAnswer, IsRead}
+use Rattle.ip_spec.specs.Parse.{IsRead}
+use Rattle.ip_spec.specs.Walk.{Held, IsValueOf, IsSpelling, IsShown, IsReach, unreached, first_filled, WalkAnswer, leads, hop_by_hop_not_at_start, not_referenced, fault_or_number, answer_at, IsWalkAnswer}
 use Rattle.ip_spec.proofs.PrefixLemmas.{prefix_of-append}
 use Rattle.ip_spec.proofs.LongestOfLemmas.{longest_where_none_next}
 use Rattle.ip_spec.proofs.StepLemmas.{bytes_of-more}
@@ -23,9 +24,14 @@ use Rattle.ip_spec.proofs.FitsLemmas.{fits_places}
 use Rattle.ip_spec.proofs.UnderLemmas.{longest_at_end_under, whole_longest_under}
 use Rattle.ip_spec.proofs.ChainLemmas.{whole_longest, one_longest}
 use Rattle.ip_spec.proofs.ClearedLemmas.{cleared_is_chain, cleared_fits, cleared_are, cleared_leads, value-cleared}
-use Rattle.ip_spec.proofs.EncodedLemmas.{header_number, one_header_says}
+use Rattle.ip_spec.proofs.HeaderLemmas.{header_number}
+use Rattle.ip_spec.proofs.EncodedLemmas.{one_header_says}
 use Rattle.ip_spec.proofs.PlaceLemmas.{place_number}
 use Rattle.ip_spec.proofs.WalkLemmas.{none_if, Next, next_shown, shown_grows, one_reach}
+
+-- bytes s are read as the value v of six places
+abbrev pub IsReadAs : Held → ℕ → ℕ → List ℕ → Type 0
+IsReadAs v f m s = IsRead FitsPlaces (λ c. IsValueOf c v) f m s
 
 -- A chain that spells v is all that v reaches.
 spelled_shown : (v : Held) (f : ℕ) (c : List ExtHeader) → IsSpelling v f c → IsShown v f c
@@ -133,7 +139,7 @@ module _ (v : Held) (f : ℕ) where
     cleared = cleared_are c k.headers bytes;
   }
 
-  pub read_leads : (m : ℕ) (s : List ℕ) → IsRead v f m s → IsWalkAnswer v f (leads m)
+  pub read_leads : (m : ℕ) (s : List ℕ) → IsReadAs v f m s → IsWalkAnswer v f (leads m)
   read_leads m s r =
       let A : WalkAnswer → Type 0 = IsWalkAnswer v f in
       let chain = r.longest.has.has.chain in
@@ -162,23 +168,25 @@ module _ (v : Held) (f : ℕ) where
     pub shown_bytes : (c : List ExtHeader) → IsShown v f c → AreBytes (bytes_of c)
     shown_bytes c s = shown_bytes_from [] c (λ k d l. omega arith) s
 
+    -- the value is read from the bytes of the chain that spells it
+    pub spelled_whole : (c : List ExtHeader) → IsSpelling v f c → IsReadAs v f (leads_to f c) (bytes_of c)
+    spelled_whole c s = record {
+      bytes = shown_bytes c (spelled_shown v f c s);
+      chain = c;
+      longest = whole_longest_under FitsPlaces fits_places f c s.chain s.fits;
+      value = s.value;
+      number = refl;
+      all = refl;
+    }
+
     -- so an answer leads on exactly where the value is read from some bytes
-    pub leads_read : (m : ℕ) → IsWalkAnswer v f (leads m) → (s : List ℕ) × IsRead v f m s
+    pub leads_read : (m : ℕ) → IsWalkAnswer v f (leads m) → (s : List ℕ) × IsReadAs v f m s
     leads_read m a =
         let it = leads_spelled m a in
-        let s : IsSpelling v f it.0 = it.1 in (
-          bytes_of it.0,
-          record {
-            bytes = shown_bytes it.0 (spelled_shown v f it.0 s);
-            chain = it.0;
-            longest = whole_longest_under FitsPlaces fits_places f it.0 s.chain s.fits;
-            value = s.value;
-            number = it.2;
-            all = refl;
-          },
-        )
+        let R : ℕ → Type 0 = λ k. IsReadAs v f k (bytes_of it.0) in
+        (bytes_of it.0, subst R it.2 (spelled_whole it.0 it.1))
 
-    pub leads_exactly : (a : WalkAnswer) → IsWalkAnswer v f a → (m : ℕ) → (a ≡ leads m) ↔ ((s : List ℕ) × IsRead v f m s)
+    pub leads_exactly : (a : WalkAnswer) → IsWalkAnswer v f a → (m : ℕ) → (a ≡ leads m) ↔ ((s : List ℕ) × IsReadAs v f m s)
     leads_exactly a x m = (
       (λ e. let A : WalkAnswer → Type 0 = IsWalkAnswer v f in leads_read m (subst A e x)),
       (λ r. one_answer a (leads m) x (read_leads m r.0 r.1)),

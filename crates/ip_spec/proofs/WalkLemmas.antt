@@ -15,7 +15,8 @@ use Rattle.ip_spec.proofs.LongestOfLemmas.{Grows, one_longest_of}
 use Rattle.ip_spec.proofs.StepLemmas.{all_first, all_next, no_chain, chain_begins, chain_number, chain_header, chain_zero}
 use Rattle.ip_spec.proofs.FitsLemmas.{fits_places}
 use Rattle.ip_spec.proofs.PlaceLemmas.{same_place, placed, breaks_more}
-use Rattle.ip_spec.proofs.EncodedLemmas.{header_number, one_header_says}
+use Rattle.ip_spec.proofs.HeaderLemmas.{header_number}
+use Rattle.ip_spec.proofs.EncodedLemmas.{one_header_says}
 
 pub none_if : {X : Type 0} (o : Option X) → is_some o ≡ false → o ≡ None
 none_if None e = refl

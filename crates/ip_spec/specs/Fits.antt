@@ -1,9 +1,10 @@
 -- Chains whose headers fit six places: hop by hop options, destination options, routing, fragment,
 -- authentication, and destination options behind the routing header.
-use Rattle.std.specs.Prelude.{◌≢◌, ℕ, ◌≤◌, List, [], ◌∷◌, ◌++◌, map, count_by, ◌==◌, if◌then◌else◌}
+use Rattle.std.specs.Prelude.{ℕ, ◌≤◌, List, [], ◌∷◌, ◌++◌, map, count_by, ◌==◌, if◌then◌else◌}
 use Rattle.std.specs.List.{before_first, after_first}
 use Rattle.ip_spec.specs.Chain.{ExtHeader}
 use Rattle.ip_spec.specs.Numbers.{HOP_BY_HOP, ROUTING, FRAGMENT, AUTHENTICATION, DESTINATION_OPTIONS}
+use Rattle.ip_spec.specs.Header.{IsLaterNumber}
 
 abbrev pub numbers_of : List ExtHeader → List ℕ
 numbers_of c = map (λ h. h.number) c
@@ -32,9 +33,9 @@ pub record NumbersFit (ns : List ℕ) : Type 0 where
 abbrev pub FitsPlaces : List ExtHeader → Type 0
 FitsPlaces c = NumbersFit (numbers_of c)
 
--- m isn't 0, and has no place left behind c
+-- m is 43, 44, 51 or 60, and has no place left behind c
 abbrev pub IsTaken : ℕ → List ExtHeader → Type 0
-IsTaken m c = (m ≢ HOP_BY_HOP) × (NumbersFit (numbers_of c ++ m ∷ []) → ⊥)
+IsTaken m c = IsLaterNumber m × (NumbersFit (numbers_of c ++ m ∷ []) → ⊥)
 
 -- how many of ns stand in the place of m, that of a 60 being the one on its side of the first 43
 abbrev pub in_place : ℕ → List ℕ → ℕ

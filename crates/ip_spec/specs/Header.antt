@@ -26,6 +26,10 @@ IsRawNumber n = (n ≡ HOP_BY_HOP) ⊎ ((n ≡ ROUTING) ⊎ (n ≡ DESTINATION_O
 abbrev pub IsExtensionNumber : ℕ → Type 0
 IsExtensionNumber n = IsRawNumber n ⊎ ((n ≡ FRAGMENT) ⊎ (n ≡ AUTHENTICATION))
 
+-- the numbers of the headers that can stand behind another: all but hop by hop options (RFC 8200, section 4.1)
+abbrev pub IsLaterNumber : ℕ → Type 0
+IsLaterNumber n = (n ≡ ROUTING) ⊎ ((n ≡ FRAGMENT) ⊎ ((n ≡ AUTHENTICATION) ⊎ (n ≡ DESTINATION_OPTIONS)))
+
 -- bytes b are a header of number n
 pub data IsHeader (n : ℕ) (b : List ℕ) : Type 0 where
   raw : IsRawNumber n → IsRawHeader b → IsHeader n b

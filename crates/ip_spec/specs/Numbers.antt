@@ -1,4 +1,4 @@
--- The protocol numbers of extension headers (RFC 8200, section 4; RFC 4302, section 2).
+-- The protocol numbers of extension headers (RFC 8200, section 4; RFC 4302, section 2), and two others.
 use Rattle.std.specs.Prelude.{ℕ}
 
 abbrev pub HOP_BY_HOP : ℕ
@@ -15,3 +15,11 @@ AUTHENTICATION = 51
 
 abbrev pub DESTINATION_OPTIONS : ℕ
 DESTINATION_OPTIONS = 60
+
+-- nothing follows (RFC 8200, section 4.7)
+abbrev pub NO_NEXT_HEADER : ℕ
+NO_NEXT_HEADER = 59
+
+-- user datagrams
+abbrev pub UDP : ℕ
+UDP = 17

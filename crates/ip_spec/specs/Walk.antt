@@ -4,9 +4,7 @@ use Rattle.std.specs.List.{find}
 use Rattle.std.specs.Option.{option_map, ForSome}
 use Rattle.ip_spec.specs.Numbers.{HOP_BY_HOP}
 use Rattle.ip_spec.specs.LongestOf.{IsLongestOf}
-use Rattle.ip_spec.specs.Encoding.{AreBytes}
-use Rattle.ip_spec.specs.Chain.{ExtHeader, IsChain, leads_to, bytes_of}
-use Rattle.ip_spec.specs.Demand.{IsLongestUnder}
+use Rattle.ip_spec.specs.Chain.{ExtHeader, IsChain, leads_to}
 use Rattle.ip_spec.specs.Fits.{FitsPlaces}
 use Rattle.ip_spec.specs.Encoded.{AreCleared}
 use Rattle.ip_spec.specs.Places.{Place, hop_by_hop, places, number_in, header_in, HeaderFields, fields_of}
@@ -68,13 +66,3 @@ pub record IsWalkAnswer (v : Held) (f : ℕ) (a : WalkAnswer) : Type 0 where
   pub reach : List ExtHeader
   pub is_reach : IsReach v f reach
   pub answer : a ≡ answer_at (leads_to f reach) (unreached v reach)
-
--- The value v is read from bytes s with nothing left: the longest chain from f that begins them and fits the
--- places has the value v, leads to m and takes all of them.
-pub record IsRead (v : Held) (f m : ℕ) (s : List ℕ) : Type 0 where
-  pub bytes : AreBytes s
-  pub chain : List ExtHeader
-  pub longest : IsLongestUnder FitsPlaces f s chain
-  pub value : IsValueOf chain v
-  pub number : leads_to f chain ≡ m
-  pub all : bytes_of chain ≡ s

@@ -6,7 +6,8 @@ ghost use Rattle.ip_spec.specs.Demand.{IsLongestUnder};
 ghost use Rattle.ip_spec.specs.Fits.{FitsPlaces, IsTaken};
 ghost use Rattle.ip_spec.specs.Places.{Place, places};
 ghost use Rattle.ip_spec.specs.Encoded.{cleared_chain};
-ghost use Rattle.ip_spec.specs.Walk.{Held, IsValueOf, IsSpelling, IsReach, WalkAnswer, leads, IsWalkAnswer, IsRead};
+ghost use Rattle.ip_spec.specs.Walk.{Held, IsValueOf, IsSpelling, IsReach, WalkAnswer, leads, IsWalkAnswer};
+ghost use Rattle.ip_spec.specs.Parse.{IsRead};
 ghost use Rattle.ip_spec.specs.Links.{first_number, linked};
 ghost use Rattle.ip_spec.specs.Encodable.{IsEncodable, held_len};
 
@@ -27,7 +28,8 @@ pub fn one_walk_answer()
 /// else, and where a chain that leads there spells it.
 pub fn walk_leads_where_the_value_is_read()
     ensures read { (v : Held) → IsEncodable v → (f m : ℕ)
-        → IsWalkAnswer v f (leads m) ↔ ((s : List ℕ) × IsRead v f m s) }
+        → IsWalkAnswer v f (leads m) ↔ ((s : List ℕ)
+        × IsRead FitsPlaces (λ c. IsValueOf c v) f m s) }
     ensures spelled { (v : Held) (f m : ℕ) → IsWalkAnswer v f (leads m)
         → (c : List ExtHeader) × IsSpelling v f c × (leads_to f c ≡ m) }
     ensures spelling { (v : Held) (f : ℕ) (c : List ExtHeader) → IsSpelling v f c

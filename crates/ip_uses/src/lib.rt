@@ -3,9 +3,11 @@
 #![tactic(auto)]
 
 pub mod base;
+pub mod chain_outcomes;
 pub mod chains;
 pub mod headers;
 pub mod ipv4;
+pub mod outcomes;
 pub mod pins;
 pub mod places;
 pub mod plain;

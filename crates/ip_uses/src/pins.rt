@@ -1,15 +1,26 @@
-//! What the types have beside their contracts: the values of constants, equality and clones of the errors, and
-//! the impls of each type. A type that is added joins each of the three.
+//! What the types have beside their contracts: the values of constants, equality and clones of the errors, clones
+//! that no contract of the type's own speaks of, the impls of each type, and how long borrowed bytes live. A type
+//! that is added joins each of these.
 ghost use Rattle.std.specs.Prelude.{◌≡◌, ◌↔◌, IsTrue, IsFalse, IfOk};
+ghost use Rattle.ip_ext_ipv4.specs.Ipv4ExtensionsSlice.{headers_in};
+ghost use Rattle.ip_ext_slices.specs.Ipv6ExtensionSlice.{header_of};
+ghost use Rattle.ip_ext_slices.specs.Ipv6ExtensionsSlice.{bytes};
 
 use ip_base::err::{Layer, LenError, ValueTooBigError};
 use ip_base::{IpFragOffset, IpNumber, LenSource, ip_number};
 use ip_ext_chains::err::{ipv4_exts, ipv6_exts};
-use ip_ext_chains::{Ipv4Extensions, Ipv4ExtensionsSlice, Ipv6Extensions, Ipv6RoutingExtensions};
+use ip_ext_chains::{
+    Ipv4Extensions, Ipv4ExtensionsSlice, Ipv6ExtensionSlice, Ipv6ExtensionSliceIter,
+    Ipv6Extensions, Ipv6ExtensionsRuns, Ipv6ExtensionsSlice, Ipv6RoutingExtensions,
+};
 use ip_ext_headers::err::ip_auth;
 use ip_ext_headers::err::ipv6_exts::ExtPayloadLenError;
-use ip_ext_headers::{IpAuthHeader, IpAuthHeaderSlice, Ipv6FragmentHeader, Ipv6RawExtHeader};
+use ip_ext_headers::{
+    IpAuthHeader, IpAuthHeaderSlice, Ipv6FragmentHeader, Ipv6FragmentHeaderSlice, Ipv6RawExtHeader,
+    Ipv6RawExtHeaderSlice,
+};
 use std::alloc::AllocError;
+use std::fmt::Debug;
 use std::hash::Hash;
 
 const _: () = prove!(IpNumber::IPV6_HEADER_HOP_BY_HOP.0 == 0);
@@ -223,14 +234,110 @@ pub fn ipv6_walk(
     Ok((a == b, a.clone()?))
 }
 
+/// A copy of a protocol number.
+pub fn number_copy(number: &IpNumber) -> Result<IpNumber, AllocError>
+    ensures { IfOk result (λ copy. copy ≡ number.now) }
+{
+    number.clone()
+}
+
+/// A copy of a fragment offset.
+pub fn offset_copy(offset: &IpFragOffset) -> Result<IpFragOffset, AllocError>
+    ensures { IfOk result (λ copy. copy ≡ offset.now) }
+{
+    offset.clone()
+}
+
+/// A copy of a source of lengths.
+pub fn source_copy(source: &LenSource) -> Result<LenSource, AllocError>
+    ensures { IfOk result (λ copy. copy ≡ source.now) }
+{
+    source.clone()
+}
+
+/// A copy of a layer.
+pub fn layer_copy(layer: &Layer) -> Result<Layer, AllocError>
+    ensures { IfOk result (λ copy. copy ≡ layer.now) }
+{
+    layer.clone()
+}
+
+/// A copy of the headers of an IPv4 packet.
+pub fn ipv4_headers_copy<'a>(
+    headers: &Ipv4ExtensionsSlice<'a>,
+) -> Result<Ipv4ExtensionsSlice<'a>, AllocError>
+    ensures { IfOk result (λ copy. headers_in copy ≡ headers_in headers.now) }
+{
+    headers.clone()
+}
+
+/// A copy of one header of an IPv6 chain.
+pub fn ipv6_header_copy<'a>(
+    header: &Ipv6ExtensionSlice<'a>,
+) -> Result<Ipv6ExtensionSlice<'a>, AllocError>
+    ensures { IfOk result (λ copy. header_of copy ≡ header_of header.now) }
+{
+    header.clone()
+}
+
+/// The bytes of a chain live as long as the packet, and not only as long as the chain.
+pub fn bytes_behind_the_chain<'a>(headers: Ipv6ExtensionsSlice<'a>) -> &'a [u8]
+    ensures { result.now ≡ bytes headers.entry }
+{
+    headers.slice()
+}
+
+/// So do the bytes of one header of it.
+pub fn bytes_behind_the_header<'a>(header: Ipv6ExtensionSlice<'a>) -> &'a [u8]
+    ensures { result.now ≡ (header_of header.entry).bytes }
+{
+    header.slice()
+}
+
+/// So do the parts of single headers.
+pub fn parts_behind_the_headers<'a>(
+    raw: Ipv6RawExtHeaderSlice<'a>,
+    fragment: Ipv6FragmentHeaderSlice<'a>,
+    auth: IpAuthHeaderSlice<'a>,
+) -> [&'a [u8]; 5] {
+    [
+        raw.slice(),
+        raw.payload(),
+        fragment.slice(),
+        auth.slice(),
+        auth.raw_icv(),
+    ]
+}
+
+/// So does what is left behind the runs of a chain.
+pub fn rest_behind_the_runs<'a>(runs: Ipv6ExtensionsRuns<'a>) -> Option<&'a [u8]> {
+    match runs.end() {
+        Some((_, rest, _)) => Some(rest),
+        None => None,
+    }
+}
+
 /// A type that is copied.
 fn needs_copy<T: Copy>(value: &T) -> T {
     *value
 }
 
-/// A type that is compared and hashed.
-fn needs_hash<T: Eq + Hash>(a: &T, b: &T) -> bool {
+/// A type that is cloned, compared, hashed and printed.
+fn needs_hash<T: Clone + Eq + Hash + Debug>(a: &T, b: &T) -> bool {
     a == b
+}
+
+/// A type that is cloned, compared and printed.
+fn needs_eq<T: Clone + Eq + Debug>(a: &T, b: &T) -> bool {
+    a == b
+}
+
+/// A type that is printed.
+fn needs_debug<T: Debug>(_value: &T) {}
+
+/// A type that has a default.
+fn needs_default<T: Default>() -> T {
+    T::default()
 }
 
 /// The types that are copied.
@@ -248,6 +355,75 @@ pub fn copies(
     let _ = needs_copy(&layer);
     let _ = needs_copy(&header);
     let _ = needs_copy(&headers);
+}
+
+/// The types with bytes of their own are cloned, compared and printed.
+pub fn owned_are_compared(
+    raw: &Ipv6RawExtHeader,
+    fragment: &Ipv6FragmentHeader,
+    auth: &IpAuthHeader,
+    routing: &Ipv6RoutingExtensions,
+    ipv4: &Ipv4Extensions,
+    ipv6: &Ipv6Extensions,
+) -> bool {
+    needs_eq(raw, raw)
+        && needs_eq(fragment, fragment)
+        && needs_eq(auth, auth)
+        && needs_eq(routing, routing)
+        && needs_eq(ipv4, ipv4)
+        && needs_eq(ipv6, ipv6)
+}
+
+/// The types that borrow are cloned, compared and printed.
+pub fn borrowed_are_compared(
+    raw: &Ipv6RawExtHeaderSlice<'_>,
+    fragment: &Ipv6FragmentHeaderSlice<'_>,
+    auth: &IpAuthHeaderSlice<'_>,
+    header: &Ipv6ExtensionSlice<'_>,
+    ipv4: &Ipv4ExtensionsSlice<'_>,
+    ipv6: &Ipv6ExtensionsSlice<'_>,
+    iterator: &Ipv6ExtensionSliceIter<'_>,
+) -> bool {
+    needs_eq(raw, raw)
+        && needs_eq(fragment, fragment)
+        && needs_eq(auth, auth)
+        && needs_eq(header, header)
+        && needs_eq(ipv4, ipv4)
+        && needs_eq(ipv6, ipv6)
+        && needs_eq(iterator, iterator)
+}
+
+/// The runs of a chain and the errors of writes are printed, and not compared.
+pub fn printed(
+    runs: &Ipv6ExtensionsRuns<'_>,
+    write: &ipv4_exts::HeaderWriteError,
+    write6: &ipv6_exts::HeaderWriteError,
+) {
+    needs_debug(runs);
+    needs_debug(write);
+    needs_debug(write6);
+}
+
+/// The types of single headers with bytes of their own that have a default.
+pub fn header_defaults() -> (IpAuthHeader, Ipv6RawExtHeader) {
+    (needs_default(), needs_default())
+}
+
+/// The types of chains that have one.
+pub fn chain_defaults<'a>() -> (
+    Ipv4Extensions,
+    Ipv6Extensions,
+    Ipv4ExtensionsSlice<'a>,
+    Ipv6ExtensionsSlice<'a>,
+    Ipv6ExtensionSliceIter<'a>,
+) {
+    (
+        needs_default(),
+        needs_default(),
+        needs_default(),
+        needs_default(),
+        needs_default(),
+    )
 }
 
 /// The types that are hashed, beside the errors.

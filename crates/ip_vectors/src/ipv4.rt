@@ -3,8 +3,10 @@ use ip_base::err::{Layer, LenError};
 use ip_base::{IpNumber, LenSource};
 use ip_ext_chains::err::ip_auth::{HeaderError, HeaderSliceError};
 use ip_ext_chains::err::ipv4_exts::{ExtsWalkError, HeaderWriteError};
-use ip_ext_chains::{Ipv4Extensions, Ipv4ExtensionsSlice};
+use ip_ext_chains::err::ipv6_exts;
+use ip_ext_chains::{Ipv4Extensions, Ipv4ExtensionsSlice, plain_fault};
 use ip_ext_headers::IpAuthHeader;
+use ip_spec::next_len;
 use linked_list_allocator::LocalHeap;
 use std::process::Abort;
 use std::test::Fail;
@@ -21,9 +23,33 @@ struct Row<'a> {
     fault: Option<HeaderSliceError>,
 }
 
+/// The plain slow program answers the row: a header goes on at 51 alone, and has a fault there alone.
+fn check_plain(rt: &impl Abort, row: &Row<'_>) {
+    let (mut header, mut fault) = (None, None);
+    if row.start == 51 {
+        header = next_len(true, 51, row.bytes);
+        fault = plain_fault(true, 51, row.bytes, 0);
+    }
+    let number = match header {
+        Some(_) => row.bytes.first().copied(),
+        None => Some(row.start),
+    };
+    let fault = match fault {
+        Some((ipv6_exts::HeaderSliceError::Len(e), _)) => Some(HeaderSliceError::Len(e)),
+        Some((ipv6_exts::HeaderSliceError::Content(ipv6_exts::HeaderError::IpAuth(e)), _)) => {
+            Some(HeaderSliceError::Content(e))
+        }
+        _ => None,
+    };
+    let name = row.name;
+    assert_eq!(rt; (header, number), (row.header, Some(row.number)), "{name}");
+    assert_eq!(rt; fault, row.fault, "{name}");
+}
+
 /// All forms of the parse answer the row.
 fn check(rt: &impl Abort, row: &Row<'_>) -> Result<(), Fail> {
     let name = row.name;
+    check_plain(rt, row);
     let start = IpNumber(row.start);
     let taken = row.bytes.len().saturating_sub(row.rest);
     let answer = (IpNumber(row.number), &row.bytes[taken..]);
@@ -182,6 +208,23 @@ fn write_and_memory(rt: HostRuntime) -> Result<(), Fail> {
         }
         assert!(rt; out.as_slice().starts_with(&[1, 2, 3]), "{size}");
         assert!(rt; expected || out.len() == 3, "{size}");
+    }
+    Ok(())
+}
+
+#[test]
+fn a_vector_grows_no_further_than_the_header_needs(rt: HostRuntime) -> Result<(), Fail> {
+    let one = Ipv4Extensions {
+        auth: Some(IpAuthHeader::new(IpNumber(17), 1, 2, &[7; 4])?),
+    };
+    for headers in [Ipv4Extensions::default(), one] {
+        for room in [0usize, 15, 16, 40] {
+            let mut written = Vec::with_capacity(rt.alloc(), room)?;
+            assert!(rt; headers.write(&mut written, IpNumber(51)).is_ok(), "{room}");
+            let mut reserved: Vec<u8> = Vec::with_capacity(rt.alloc(), room)?;
+            reserved.reserve(headers.header_len())?;
+            assert_eq!(rt; written.capacity(), reserved.capacity(), "{room}");
+        }
     }
     Ok(())
 }

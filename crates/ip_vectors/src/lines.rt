@@ -15,7 +15,7 @@ fn is_answered(alloc: Global, input: &[u8], answers: &[u8]) -> Result<bool, Fail
 
 #[test]
 fn lines_and_answers(rt: HostRuntime) -> Result<(), Fail> {
-    let rows: [(&[u8], &[u8]); 16] = [
+    let rows: [(&[u8], &[u8]); 20] = [
         (
             b"exts6 60 2b00000000000000",
             b"0 dstopts 8\nnext 43 rest 0\nfault len 8 of 0 Slice Ipv6ExtHeader at 8 in Ipv6RouteHeader\n",
@@ -65,6 +65,22 @@ fn lines_and_answers(rt: HostRuntime) -> Result<(), Fail> {
         (
             b"rewrite6 60 2b00000000000000\n",
             b"next 43 rest 0\nwritten 2b00000000000000\nfault len 8 of 0 Slice Ipv6ExtHeader at 8 in Ipv6RouteHeader\n",
+        ),
+        (
+            b"rewriteall6 44 2cff000000000000110000e101020304\n",
+            b"runs 2 next 17 rest 0\nwritten 2c000000000000001100008101020304\nok\n",
+        ),
+        (
+            b"rewriteall6 44 2c00000000000000\n",
+            b"runs 2 next 44 rest 0\nwritten 2c00000000000000\nfault len 8 of 0 Slice Ipv6FragHeader at 8 in Ipv6FragHeader\n",
+        ),
+        (
+            b"rewriteall6 44 2c0000000000000000000000000000001100000000000000\n",
+            b"runs 2 next 0 rest 8\nwritten 2c000000000000000000000000000000\nfault HopByHopNotAtStart in Ipv6HopByHopHeader\n",
+        ),
+        (
+            b"rewriteall6 17 00\n",
+            b"runs 1 next 17 rest 1\nwritten -\nok\n",
         ),
         (b"exts6 256 00\n", b"bad line\n"),
         (b"\nexts6 17 -\n", b"bad line\nnext 17 rest 0\nok\n"),

@@ -108,15 +108,29 @@ fn check_parses(rt: &impl Abort, row: &Row<'_>) -> Result<(), Fail> {
     Ok(())
 }
 
-/// The slice parse answers the same number, rest and fault, where no number is taken.
-fn check_slice(rt: &impl Abort, row: &Row<'_>) -> Result<(), Fail> {
+/// Both slice parses answer this number, so many bytes that are left, and this fault.
+fn check_slice(
+    rt: &impl Abort,
+    row: &Row<'_>,
+    number: u8,
+    rest: usize,
+    fault: &Option<(HeaderSliceError, Layer)>,
+) -> Result<(), Fail> {
     let name = row.name;
-    let (_, number, rest, fault) = Ipv6ExtensionsSlice::from_slice_lax(
-        IpNumber(row.start),
-        row.bytes,
-    );
-    assert_eq!(rt; (number.0, rest.len()), (row.number, row.rest), "{name}");
-    assert_eq!(rt; fault, row.fault, "{name}");
+    let start = IpNumber(row.start);
+    let (slices, reached, left, told) = Ipv6ExtensionsSlice::from_slice_lax(start, row.bytes);
+    assert_eq!(rt; (reached.0, left.len()), (number, rest), "{name}");
+    assert_eq!(rt; told, *fault, "{name}");
+    let taken = row.bytes.len().saturating_sub(rest);
+    assert_eq!(rt; slices.slice(), &row.bytes[..taken], "{name}");
+    match (Ipv6ExtensionsSlice::from_slice(start, row.bytes), fault) {
+        (Ok((strict, reached, left)), None) => {
+            assert!(rt; strict == slices, "{name}");
+            assert_eq!(rt; (reached.0, left.len()), (number, rest), "{name}");
+        }
+        (Err(error), Some((expected, _))) => assert_eq!(rt; error, *expected, "{name}"),
+        _ => assert!(rt; false, "{name}"),
+    }
     Ok(())
 }
 
@@ -253,6 +267,9 @@ fn taken_places(rt: HostRuntime) -> Result<(), Fail> {
         fault: None,
     };
     check(&rt, rt.alloc(), &behind_taken)?;
+    let late = HeaderSliceError::Content(HeaderError::HopByHopNotAtStart);
+    let late = Some((late, Layer::Ipv6HopByHopHeader));
+    check_slice(&rt, &behind_taken, 0, 8, &late)?;
     let whole_and_taken = Row {
         name: "the whole chain has places, and its last number is taken",
         start: 44,
@@ -262,7 +279,9 @@ fn taken_places(rt: HostRuntime) -> Result<(), Fail> {
         rest: 0,
         fault: None,
     };
-    check(&rt, rt.alloc(), &whole_and_taken)
+    check(&rt, rt.alloc(), &whole_and_taken)?;
+    let no_more = missing(8, 0, Layer::Ipv6FragHeader, 16, Layer::Ipv6FragHeader);
+    check_slice(&rt, &whole_and_taken, 44, 0, &no_more)
 }
 
 /// Hop by hop options, destination options, routing, fragment, authentication and destination options.
@@ -330,7 +349,7 @@ fn six_places_cut_at_each_byte(rt: HostRuntime) -> Result<(), Fail> {
             },
         };
         check(&rt, rt.alloc(), &row)?;
-        check_slice(&rt, &row)?;
+        check_slice(&rt, &row, row.number, row.rest, &row.fault)?;
     }
     Ok(())
 }

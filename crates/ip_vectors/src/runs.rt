@@ -3,6 +3,8 @@ use ip_base::err::{Layer, LenError};
 use ip_base::{IpNumber, LenSource};
 use ip_ext_chains::err::ipv6_exts::{HeaderError, HeaderSliceError};
 use ip_ext_chains::{Ipv6Extensions, Ipv6ExtensionsRuns};
+use ip_spec::{PlainHeader, fitting_len, plain_longest_chain};
+use std::alloc::Global;
 use std::process::Abort;
 use std::test::Fail;
 
@@ -66,8 +68,14 @@ fn later_hop_by_hop() -> Option<(HeaderSliceError, Layer)> {
     ))
 }
 
+/// The runs and the plain slow program answer the row.
+fn check(rt: &impl Abort, alloc: Global, row: &Row<'_>) -> Result<(), Fail> {
+    check_plain(rt, alloc, row)?;
+    check_runs(rt, row)
+}
+
 /// The items and the end are the row's; the end is told from the last item on, and nothing comes behind it.
-fn check(rt: &impl Abort, row: &Row<'_>) -> Result<(), Fail> {
+fn check_runs(rt: &impl Abort, row: &Row<'_>) -> Result<(), Fail> {
     let name = row.name;
     let mut runs = Ipv6ExtensionsRuns::new(IpNumber(row.start), row.bytes);
     for expected in row.items {
@@ -91,6 +99,36 @@ fn check(rt: &impl Abort, row: &Row<'_>) -> Result<(), Fail> {
     Ok(())
 }
 
+/// The plain slow program cuts the chain into as many pieces. An extension number behind it counts as a header that
+/// doesn't fit, where its place is filled, but for 0, which has a fault there.
+fn check_plain(rt: &impl Abort, alloc: Global, row: &Row<'_>) -> Result<(), Fail> {
+    let plain = plain_longest_chain(alloc, row.start, row.bytes)?;
+    let mut headers = plain.headers;
+    if matches!(plain.number, 43 | 44 | 51 | 60) {
+        headers.push(PlainHeader {
+            number: plain.number,
+            bytes: &[],
+        })?;
+    }
+    let mut left = headers.as_slice();
+    let mut pieces: usize = 1;
+    for _ in 0..headers.len() {
+        let fitting = fitting_len(left);
+        if fitting < left.len() {
+            left = left.get(fitting..).unwrap_or(&[]);
+            pieces = pieces.saturating_add(1);
+        }
+    }
+    let name = row.name;
+    assert_eq!(rt; pieces, row.items.len(), "{name}");
+    assert_eq!(rt;
+        (plain.number, plain.rest),
+        (row.number, row.rest),
+        "{name}"
+    );
+    Ok(())
+}
+
 #[test]
 fn runs_of_one_place(rt: HostRuntime) -> Result<(), Fail> {
     let three = Row {
@@ -104,7 +142,7 @@ fn runs_of_one_place(rt: HostRuntime) -> Result<(), Fail> {
         rest: &[],
         fault: None,
     };
-    check(&rt, &three)?;
+    check(&rt, rt.alloc(), &three)?;
     let cut = Row {
         name: "a second fragment header is cut",
         start: 44,
@@ -114,7 +152,7 @@ fn runs_of_one_place(rt: HostRuntime) -> Result<(), Fail> {
         rest: &[17, 0, 0],
         fault: no_fragment_header(3, 8),
     };
-    check(&rt, &cut)?;
+    check(&rt, rt.alloc(), &cut)?;
     let ends = Row {
         name: "a second fragment header is named, and no bytes are left",
         start: 44,
@@ -124,7 +162,7 @@ fn runs_of_one_place(rt: HostRuntime) -> Result<(), Fail> {
         rest: &[],
         fault: no_fragment_header(0, 8),
     };
-    check(&rt, &ends)?;
+    check(&rt, rt.alloc(), &ends)?;
     let hop_by_hop = Row {
         name: "hop by hop options behind two fragment headers",
         start: 44,
@@ -136,7 +174,7 @@ fn runs_of_one_place(rt: HostRuntime) -> Result<(), Fail> {
         rest: &[17, 0, 0, 0, 0, 0, 0, 0],
         fault: later_hop_by_hop(),
     };
-    check(&rt, &hop_by_hop)
+    check(&rt, rt.alloc(), &hop_by_hop)
 }
 
 #[test]
@@ -152,7 +190,7 @@ fn runs_of_many_places(rt: HostRuntime) -> Result<(), Fail> {
         rest: &[],
         fault: None,
     };
-    check(&rt, &routed)?;
+    check(&rt, rt.alloc(), &routed)?;
     let one = Row {
         name: "destination options on both sides of a routing header",
         start: 60,
@@ -164,7 +202,7 @@ fn runs_of_many_places(rt: HostRuntime) -> Result<(), Fail> {
         rest: &[],
         fault: None,
     };
-    check(&rt, &one)
+    check(&rt, rt.alloc(), &one)
 }
 
 #[test]
@@ -178,7 +216,7 @@ fn one_run(rt: HostRuntime) -> Result<(), Fail> {
         rest: &[0, 1, 2, 3],
         fault: None,
     };
-    check(&rt, &nothing)?;
+    check(&rt, rt.alloc(), &nothing)?;
     let hop_by_hop = Row {
         name: "hop by hop options behind hop by hop options",
         start: 0,
@@ -188,7 +226,7 @@ fn one_run(rt: HostRuntime) -> Result<(), Fail> {
         rest: &[],
         fault: later_hop_by_hop(),
     };
-    check(&rt, &hop_by_hop)
+    check(&rt, rt.alloc(), &hop_by_hop)
 }
 
 #[test]

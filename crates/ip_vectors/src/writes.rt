@@ -4,6 +4,7 @@ use ip_ext_chains::err::ipv6_exts::{ExtsWalkError, HeaderWriteError};
 use ip_ext_chains::{Ipv6Extensions, Ipv6RoutingExtensions};
 use ip_ext_headers::{IpAuthHeader, Ipv6FragmentHeader, Ipv6RawExtHeader};
 use linked_list_allocator::LocalHeap;
+use std::alloc::{AllocError, Global};
 use std::test::Fail;
 
 fn raw(next: u8) -> Ipv6RawExtHeader {
@@ -146,5 +147,47 @@ fn no_memory_is_taken_where_room_is_reserved(rt: HostRuntime) -> Result<(), Fail
     assert!(rt; taken.reserve(128).is_err());
     exts.write(&mut out, first)?;
     assert_eq!(rt; out.len(), 52);
+    Ok(())
+}
+
+/// Three bytes in a vector with room for so many, or for three where that is more.
+fn with_room(alloc: Global, room: usize) -> Result<Vec<u8>, AllocError> {
+    let mut out = Vec::with_capacity(alloc, room)?;
+    out.extend_from_slice(&[1, 2, 3])?;
+    Ok(out)
+}
+
+#[test]
+fn a_vector_grows_no_further_than_the_headers_need(rt: HostRuntime) -> Result<(), Fail> {
+    let mut one = Ipv6Extensions::default();
+    one.fragment = Some(fragment(0)?);
+    for mut exts in [Ipv6Extensions::default(), one, all_six()?] {
+        let first = exts.set_next_headers(IpNumber(17));
+        for room in [0usize, 3, 11, 30, 55, 100] {
+            let mut written = with_room(rt.alloc(), room)?;
+            exts.write(&mut written, first)?;
+            let mut reserved = with_room(rt.alloc(), room)?;
+            reserved.reserve(exts.header_len())?;
+            assert_eq!(rt; written.capacity(), reserved.capacity(), "{room}");
+        }
+    }
+    Ok(())
+}
+
+#[test]
+fn routing_headers_have_the_length_of_both(rt: HostRuntime) -> Result<(), Fail> {
+    let mut exts = Ipv6RoutingExtensions {
+        routing: raw(17),
+        final_destination_options: None,
+    };
+    assert_eq!(rt; exts.header_len(), 8);
+    exts.routing.set_payload(&[0; 14])?;
+    assert_eq!(rt; exts.header_len(), 16);
+    exts.final_destination_options = Some(raw(17));
+    assert_eq!(rt; exts.header_len(), 24);
+    exts.final_destination_options = Some(Ipv6RawExtHeader::new_raw(IpNumber(17), &[0; 2046])?);
+    assert_eq!(rt; exts.header_len(), 2064);
+    exts.routing.set_payload(&[0; 2046])?;
+    assert_eq!(rt; exts.header_len(), 4096);
     Ok(())
 }

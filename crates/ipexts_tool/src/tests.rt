@@ -45,6 +45,7 @@ struct Counter {
     writes_left: u32,
     flushes: u32,
     flushes_left: u32,
+    flush_failure: ErrorKind,
 }
 
 impl Write for Counter {
@@ -60,7 +61,7 @@ impl Write for Counter {
 
     fn flush(&mut self) -> io::Result<()> {
         if self.flushes_left == 0 {
-            return Err(io::Error::from(ErrorKind::BrokenPipe));
+            return Err(io::Error::from(self.flush_failure));
         }
         self.flushes_left -= 1;
         self.flushes = self.flushes.wrapping_add(1);
@@ -75,6 +76,7 @@ fn counting(alloc: Global) -> Counter {
         writes_left: u32::MAX,
         flushes: 0,
         flushes_left: u32::MAX,
+        flush_failure: ErrorKind::BrokenPipe,
     }
 }
 
@@ -358,14 +360,24 @@ fn failures_are_told(rt: HostRuntime) -> Result<(), Fail> {
         assert!(rt; failed_with(&result, ErrorKind::PermissionDenied));
         assert_eq!(rt; output.writes, writes_left, "no write after it");
     }
-    for (flushes_left, writes) in [(0, 3), (1, 4)] {
-        let mut output = Counter {
-            flushes_left,
-            ..counting(rt.alloc())
-        };
-        let result = run(rt.alloc(), &mut &LINES[..], &mut output);
-        assert!(rt; failed_with(&result, ErrorKind::BrokenPipe));
-        assert_eq!(rt; (output.writes, output.flushes), (writes, flushes_left));
+    for kind in [ErrorKind::BrokenPipe, ErrorKind::Interrupted] {
+        for (flushes_left, writes) in [(0, 3), (1, 4)] {
+            let mut output = Counter {
+                flushes_left,
+                flush_failure: kind,
+                ..counting(rt.alloc())
+            };
+            let result = run(rt.alloc(), &mut &LINES[..], &mut output);
+            assert!(rt;
+                failed_with(&result, kind),
+                "{kind:?}: a flush isn't tried again"
+            );
+            assert_eq!(rt;
+                (output.writes, output.flushes),
+                (writes, flushes_left),
+                "{kind:?}"
+            );
+        }
     }
     Ok(())
 }

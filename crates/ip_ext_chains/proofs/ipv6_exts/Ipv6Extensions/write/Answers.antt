@@ -3,7 +3,7 @@ use Rattle.ip_spec.specs.Walk.{leads}
 use Rattle.ip_ext_chains.specs.Ipv6Extensions.{held}
 use Rattle.ip_ext_chains.proofs.HeldLemmas.{exts_sum}
 use Rattle.ip_ext_chains.proofs.WalkedLemmas.{left_len, written_none, written_in, written_room, written_more, written_answer, written_reach, step_less, step_len}
-use Rattle.ip_ext_chains.proofs.WriteLemmas.{all_written, fault_written, written_len, written_again, written_cleared, written_alike}
+use Rattle.ip_ext_chains.proofs.WriteLemmas.{all_written, fault_written, written_len, written_again, written_whole, written_cleared, written_alike}
 use Rattle.ip_ext_chains.proofs.ipv6_exts.Ipv6Extensions.write.Goals as goal
 
 pub append_next-requires : goal.append_next-requires
@@ -62,6 +62,10 @@ returns-in-Ok-clause-len g c =
 pub returns-in-Ok-clause-read_again : goal.returns-in-Ok-clause-read_again
 returns-in-Ok-clause-read_again g c = written_again c.args.self.now c.args.first.0 c.args.out.now.items c.headers.out.items (returns-in-Ok-clause-ok g c)
 
+pub returns-in-Ok-clause-read_whole : goal.returns-in-Ok-clause-read_whole
+returns-in-Ok-clause-read_whole g c =
+    written_whole c.args.self.now c.args.first.0 c.args.out.now.items c.headers.out.items (returns-in-Ok-clause-ok g c) c.encodable.ensures
+
 pub returns-in-Ok-clause-cleared : goal.returns-in-Ok-clause-cleared
 returns-in-Ok-clause-cleared g c = written_cleared c.args.self.now c.args.first.0 c.args.out.now.items c.headers.out.items (returns-in-Ok-clause-ok g c)
 
@@ -74,8 +78,8 @@ returns-in-Ok-clause-capacity g c = c.headers.invariant.1
 pub returns-in-Err-answer-clause-capacity : goal.returns-in-Err-answer-clause-capacity
 returns-in-Err-answer-clause-capacity g c = c.headers.invariant.1
 
-pub returns-in-Err-answer-clause-err : goal.returns-in-Err-answer-clause-err
-returns-in-Err-answer-clause-err g c =
+pub returns-in-Err-answer-clause-content : goal.returns-in-Err-answer-clause-content
+returns-in-Err-answer-clause-content g c =
     let k = c.headers.invariant.0 in
     let s = c.in_default-next.ensures.none in
     fault_written c.args.self.now c.args.first.0 c.args.out.now.items c.headers.out.items c.in-Err-answer.fault k.reached

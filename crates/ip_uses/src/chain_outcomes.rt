@@ -1,0 +1,196 @@
+//! Callers that need what a clause on a chain says of one outcome of a call, as those of single headers beside
+//! them (`outcomes.rt`).
+ghost use Rattle.std.specs.Prelude.{ℕ, Ok, ◌≡◌, ◌≢◌, ◌<◌, ◌+◌, ◌++◌, ◌==◌, ◌↔◌, List, [], None, Some, Err, IsOk, length, IfOk, IfErr, IfSome, IfNone, vec_len, vec_capacity, if◌then◌else◌};
+ghost use Rattle.std.specs.Option.{option_map, option_map_or};
+ghost use Rattle.ip_spec.specs.FieldsOf.{auth_len};
+ghost use Rattle.ip_spec.specs.Encoding.{AppendsOne};
+ghost use Rattle.ip_spec.specs.Chain.{ExtHeader, bytes_of};
+ghost use Rattle.ip_spec.specs.Walk.{leads, IsSpelling, IsWalkAnswer};
+ghost use Rattle.ip_spec.specs.Numbers.{AUTHENTICATION};
+ghost use Rattle.ip_spec.specs.Demand.{AtMostOneOf};
+ghost use Rattle.ip_spec.specs.Fits.{FitsPlaces};
+ghost use Rattle.ip_spec.specs.Parse.{IsRead};
+ghost use Rattle.ip_ext_slices.specs.Longest.{longest_chain};
+ghost use Rattle.ip_ext_slices.specs.Fault.{chain_fault};
+ghost use Rattle.ip_ext_chains.specs.Fitting.{fitting_fault};
+ghost use Rattle.ip_ext_ipv4.specs.Ipv4Fault.{ipv4_chain_fault};
+ghost use Rattle.ip_ext_ipv4.specs.Ipv4Parse.{IsIpv4ChainAnswer, IsIpv4ValueAnswer, ipv4_value};
+ghost use Rattle.ip_ext_ipv4.specs.Ipv4ExtensionsSlice.{headers_in};
+ghost use Rattle.ip_ext_ipv4.specs.Ipv4Walk.{ipv4_walk, IsIpv4Encoding};
+ghost use Rattle.ip_ext_chains.specs.Ipv6Extensions.{held, value_of, exts_len};
+ghost use Rattle.ip_ext_chains.specs.Ipv6ExtensionsRuns.{start, input, values_left};
+ghost use Rattle.ip_ext_chains.specs.Write.{IsWritten, IsWalkFault};
+
+use ip_base::IpNumber;
+use ip_base::err::Layer;
+use ip_ext_chains::err::ipv6_exts::{ExtsWalkError, HeaderSliceError, HeaderWriteError};
+use ip_ext_chains::err::{ip_auth, ipv4_exts};
+use ip_ext_chains::{
+    Ipv4Extensions, Ipv4ExtensionsSlice, Ipv6Extensions, Ipv6ExtensionsRuns, Ipv6ExtensionsSlice,
+};
+use std::alloc::AllocError;
+
+/// The number and the bytes of the headers where there is no fault, and else the fault.
+pub fn first_and_bytes(
+    start: IpNumber,
+    packet: &[u8],
+) -> Result<(Option<IpNumber>, &[u8]), HeaderSliceError>
+    ensures first { IfOk result (λ x. x.0
+        ≡ (if length (bytes_of (longest_chain start.0 packet.now)) == 0 then None else Some start)) }
+    ensures bytes { IfOk result (λ x. x.1.now ≡ bytes_of (longest_chain start.0 packet.now)) }
+    ensures fault { IfErr result (λ e.
+        option_map (λ f. f.0) (chain_fault start.0 packet.now) ≡ Some e) }
+{
+    let (headers, _, _) = Ipv6ExtensionsSlice::from_slice(start, packet)?;
+    Ok((headers.first_header(), headers.slice()))
+}
+
+/// The fault behind all runs, from the last of them on.
+pub fn fault_behind_runs(runs: &Ipv6ExtensionsRuns<'_>) -> Option<Option<(HeaderSliceError, Layer)>>
+    ensures before { IfNone result (values_left runs.now ≢ []) }
+    ensures last { IfSome result (λ _. values_left runs.now ≡ []) }
+    ensures fault { IfSome result (λ fault.
+        fault ≡ chain_fault (start runs.now) (input runs.now)) }
+{
+    let (_, _, fault) = runs.end()?;
+    Some(fault)
+}
+
+/// The fault of the headers that fit six places, where the strict parse tells one.
+pub fn fitting_fault_of(start: IpNumber, packet: &[u8]) -> Option<HeaderSliceError>
+    ensures { IfSome result (λ e.
+        option_map (λ f. f.0) (fitting_fault start.0 packet.now) ≡ Some e) }
+{
+    match Ipv6Extensions::from_slice(start, packet) {
+        Ok(_) => None,
+        Err(e) => Some(e),
+    }
+}
+
+/// The headers behind an IPv4 header, borrowed, where there is no fault.
+pub fn ipv4_opened(
+    start: IpNumber,
+    packet: &[u8],
+) -> Result<(Ipv4ExtensionsSlice<'_>, IpNumber, &[u8]), ip_auth::HeaderSliceError>
+    ensures answer { IfOk result (λ x. IsIpv4ChainAnswer start.0 packet.now
+        (headers_in x.0) x.1.0 x.2.now None) }
+    ensures fault { IfErr result (λ e. ipv4_chain_fault start.0 packet.now ≡ Some e) }
+{
+    Ipv4ExtensionsSlice::from_slice(start, packet)
+}
+
+/// The same with bytes of their own.
+pub fn ipv4_opened_owned(
+    start: IpNumber,
+    packet: &[u8],
+) -> Result<(Ipv4Extensions, IpNumber, &[u8]), ip_auth::HeaderSliceError>
+    ensures answer { IfOk result (λ x. IsIpv4ValueAnswer start.0 packet.now
+        x.0.auth x.1.0 x.2.now None) }
+    ensures fault { IfErr result (λ e. ipv4_chain_fault start.0 packet.now ≡ Some e) }
+{
+    Ipv4Extensions::from_slice(start, packet)
+}
+
+/// Appends the headers behind an IPv4 header. It answers how long the vector is then, or nothing where it stays.
+pub fn append_ipv4(headers: &Ipv4Extensions, start: IpNumber, out: &mut Vec<u8>) -> Option<usize>
+    ensures walk { IfSome result (λ _. IsOk (ipv4_walk headers.now.auth start.0)) }
+    ensures ok { IfSome result (λ _. AppendsOne (IsIpv4Encoding start.0 headers.now.auth)
+        out.old.items out.new.items) }
+    ensures read_again { IfSome result (λ _. (b r : List ℕ) (m : IpNumber)
+        → out.new.items ≡ out.old.items ++ b → ipv4_walk headers.now.auth start.0 ≡ Ok m
+        → (headers.now.auth ≡ None → start.0 ≡ AUTHENTICATION → ⊥)
+        → IsIpv4ValueAnswer start.0 (b ++ r) headers.now.auth m.0 r None) }
+    ensures read_whole { IfSome result (λ _. (b : List ℕ) (m : IpNumber)
+        → out.new.items ≡ out.old.items ++ b → ipv4_walk headers.now.auth start.0 ≡ Ok m
+        → IsRead (AtMostOneOf AUTHENTICATION) (λ c. ipv4_value c ≡ headers.now.auth)
+        start.0 m.0 b) }
+    ensures len { IfSome result (λ len.
+        len ≡ vec_len out.old + option_map_or auth_len headers.now.auth 0) }
+    ensures same { IfNone result (out.new.items ≡ out.old.items) }
+{
+    match headers.write(out, start) {
+        Ok(()) => Some(out.len()),
+        Err(_) => None,
+    }
+}
+
+/// The refusal of memory, where that is why these headers aren't written: there is one, and no room for it.
+pub fn ipv4_want_of_memory(
+    headers: &Ipv4Extensions,
+    start: IpNumber,
+    out: &mut Vec<u8>,
+) -> Option<AllocError>
+    ensures full { IfSome result (λ _.
+        vec_capacity out.old < vec_len out.old + option_map_or auth_len headers.now.auth 0) }
+    ensures some { IfSome result (λ _. 0 < option_map_or auth_len headers.now.auth 0) }
+    ensures named { IfSome result (λ _. IsOk (ipv4_walk headers.now.auth start.0)) }
+{
+    match headers.write(out, start) {
+        Err(ipv4_exts::HeaderWriteError::Io(e)) => Some(e),
+        _ => None,
+    }
+}
+
+/// The fault of the walk, where that is why they aren't written.
+pub fn ipv4_walk_refused(
+    headers: &Ipv4Extensions,
+    start: IpNumber,
+    out: &mut Vec<u8>,
+) -> Option<ipv4_exts::ExtsWalkError>
+    ensures { IfSome result (λ w. ipv4_walk headers.now.auth start.0 ≡ Err w) }
+{
+    match headers.write(out, start) {
+        Err(ipv4_exts::HeaderWriteError::Content(e)) => Some(e),
+        _ => None,
+    }
+}
+
+/// Appends the headers in six places. It answers how long the vector is then, or nothing where it was refused.
+pub fn append_ipv6(headers: &Ipv6Extensions, first: IpNumber, out: &mut Vec<u8>) -> Option<usize>
+    ensures written { IfSome result (λ _.
+        IsWritten headers.now first.0 out.old.items out.new.items) }
+    ensures len { IfSome result (λ len. len ≡ vec_len out.old + exts_len headers.now) }
+    ensures read_whole { IfSome result (λ _. (b : List ℕ) (m : ℕ)
+        → out.new.items ≡ out.old.items ++ b → IsWalkAnswer (held headers.now) first.0 (leads m)
+        → IsRead FitsPlaces (λ c. value_of c ≡ headers.now) first.0 m b) }
+    ensures alike { IfSome result (λ _. (v : Ipv6Extensions) (c : List ExtHeader)
+        → IsSpelling (held v) first.0 c
+        → (out.new.items ≡ out.old.items ++ bytes_of c) ↔ (headers.now ≡ v)) }
+{
+    match headers.write(out, first) {
+        Ok(()) => Some(out.len()),
+        Err(_) => None,
+    }
+}
+
+/// The refusal of memory, where that is why they aren't written: nothing was appended, and there is no room.
+pub fn ipv6_want_of_memory(
+    headers: &Ipv6Extensions,
+    first: IpNumber,
+    out: &mut Vec<u8>,
+) -> Option<AllocError>
+    ensures same { IfSome result (λ _. out.new.items ≡ out.old.items) }
+    ensures full { IfSome result (λ _.
+        vec_capacity out.old < vec_len out.old + exts_len headers.now) }
+    ensures some { IfSome result (λ _. 0 < exts_len headers.now) }
+{
+    match headers.write(out, first) {
+        Err(HeaderWriteError::Io(e)) => Some(e),
+        _ => None,
+    }
+}
+
+/// The fault of the walk, where that is why they aren't written: what is reached was appended.
+pub fn ipv6_walk_refused(
+    headers: &Ipv6Extensions,
+    first: IpNumber,
+    out: &mut Vec<u8>,
+) -> Option<ExtsWalkError>
+    ensures { IfSome result (λ e.
+        IsWalkFault headers.now first.0 out.old.items out.new.items e) }
+{
+    match headers.write(out, first) {
+        Err(HeaderWriteError::Content(e)) => Some(e),
+        _ => None,
+    }
+}

@@ -1,19 +1,23 @@
 //! Callers that need what a clause on a chain says of one outcome of a call, as those of single headers beside
 //! them (`outcomes.rt`).
-ghost use Rattle.std.specs.Prelude.{◌≡◌, ◌≢◌, ◌<◌, ◌+◌, ◌++◌, ◌==◌, ◌↔◌, List, [], None, Some, Err, IsOk, length, IfOk, IfErr, IfSome, IfNone, vec_len, vec_capacity, if◌then◌else◌};
+ghost use Rattle.std.specs.Prelude.{ℕ, Ok, ◌≡◌, ◌≢◌, ◌<◌, ◌+◌, ◌++◌, ◌==◌, ◌↔◌, List, [], None, Some, Err, IsOk, length, IfOk, IfErr, IfSome, IfNone, vec_len, vec_capacity, if◌then◌else◌};
 ghost use Rattle.std.specs.Option.{option_map, option_map_or};
 ghost use Rattle.ip_spec.specs.FieldsOf.{auth_len};
 ghost use Rattle.ip_spec.specs.Encoding.{AppendsOne};
 ghost use Rattle.ip_spec.specs.Chain.{ExtHeader, bytes_of};
-ghost use Rattle.ip_spec.specs.Walk.{IsSpelling};
+ghost use Rattle.ip_spec.specs.Walk.{leads, IsSpelling, IsWalkAnswer};
+ghost use Rattle.ip_spec.specs.Numbers.{AUTHENTICATION};
+ghost use Rattle.ip_spec.specs.Demand.{AtMostOneOf};
+ghost use Rattle.ip_spec.specs.Fits.{FitsPlaces};
+ghost use Rattle.ip_spec.specs.Parse.{IsRead};
 ghost use Rattle.ip_ext_slices.specs.Longest.{longest_chain};
 ghost use Rattle.ip_ext_slices.specs.Fault.{chain_fault};
 ghost use Rattle.ip_ext_chains.specs.Fitting.{fitting_fault};
 ghost use Rattle.ip_ext_ipv4.specs.Ipv4Fault.{ipv4_chain_fault};
-ghost use Rattle.ip_ext_ipv4.specs.Ipv4Parse.{IsIpv4ChainAnswer, IsIpv4ValueAnswer};
+ghost use Rattle.ip_ext_ipv4.specs.Ipv4Parse.{IsIpv4ChainAnswer, IsIpv4ValueAnswer, ipv4_value};
 ghost use Rattle.ip_ext_ipv4.specs.Ipv4ExtensionsSlice.{headers_in};
-ghost use Rattle.ip_ext_ipv4.specs.Ipv4Walk.{ipv4_walk, IsIpv4Encoding, IsIpv4ReadBack};
-ghost use Rattle.ip_ext_chains.specs.Ipv6Extensions.{held, exts_len};
+ghost use Rattle.ip_ext_ipv4.specs.Ipv4Walk.{ipv4_walk, IsIpv4Encoding};
+ghost use Rattle.ip_ext_chains.specs.Ipv6Extensions.{held, value_of, exts_len};
 ghost use Rattle.ip_ext_chains.specs.Ipv6ExtensionsRuns.{start, input, values_left};
 ghost use Rattle.ip_ext_chains.specs.Write.{IsWritten, IsWalkFault};
 
@@ -92,8 +96,14 @@ pub fn append_ipv4(headers: &Ipv4Extensions, start: IpNumber, out: &mut Vec<u8>)
     ensures walk { IfSome result (λ _. IsOk (ipv4_walk headers.now.auth start.0)) }
     ensures ok { IfSome result (λ _. AppendsOne (IsIpv4Encoding start.0 headers.now.auth)
         out.old.items out.new.items) }
-    ensures read_back { IfSome result (λ _. AppendsOne (IsIpv4ReadBack start.0 headers.now.auth)
-        out.old.items out.new.items) }
+    ensures read_again { IfSome result (λ _. (b r : List ℕ) (m : IpNumber)
+        → out.new.items ≡ out.old.items ++ b → ipv4_walk headers.now.auth start.0 ≡ Ok m
+        → (headers.now.auth ≡ None → start.0 ≡ AUTHENTICATION → ⊥)
+        → IsIpv4ValueAnswer start.0 (b ++ r) headers.now.auth m.0 r None) }
+    ensures read_whole { IfSome result (λ _. (b : List ℕ) (m : IpNumber)
+        → out.new.items ≡ out.old.items ++ b → ipv4_walk headers.now.auth start.0 ≡ Ok m
+        → IsRead (AtMostOneOf AUTHENTICATION) (λ c. ipv4_value c ≡ headers.now.auth)
+        start.0 m.0 b) }
     ensures len { IfSome result (λ len.
         len ≡ vec_len out.old + option_map_or auth_len headers.now.auth 0) }
     ensures same { IfNone result (out.new.items ≡ out.old.items) }
@@ -113,6 +123,7 @@ pub fn ipv4_want_of_memory(
     ensures full { IfSome result (λ _.
         vec_capacity out.old < vec_len out.old + option_map_or auth_len headers.now.auth 0) }
     ensures some { IfSome result (λ _. 0 < option_map_or auth_len headers.now.auth 0) }
+    ensures named { IfSome result (λ _. IsOk (ipv4_walk headers.now.auth start.0)) }
 {
     match headers.write(out, start) {
         Err(ipv4_exts::HeaderWriteError::Io(e)) => Some(e),
@@ -139,6 +150,9 @@ pub fn append_ipv6(headers: &Ipv6Extensions, first: IpNumber, out: &mut Vec<u8>)
     ensures written { IfSome result (λ _.
         IsWritten headers.now first.0 out.old.items out.new.items) }
     ensures len { IfSome result (λ len. len ≡ vec_len out.old + exts_len headers.now) }
+    ensures read_whole { IfSome result (λ _. (b : List ℕ) (m : ℕ)
+        → out.new.items ≡ out.old.items ++ b → IsWalkAnswer (held headers.now) first.0 (leads m)
+        → IsRead FitsPlaces (λ c. value_of c ≡ headers.now) first.0 m b) }
     ensures alike { IfSome result (λ _. (v : Ipv6Extensions) (c : List ExtHeader)
         → IsSpelling (held v) first.0 c
         → (out.new.items ≡ out.old.items ++ bytes_of c) ↔ (headers.now ≡ v)) }
@@ -158,6 +172,7 @@ pub fn ipv6_want_of_memory(
     ensures same { IfSome result (λ _. out.new.items ≡ out.old.items) }
     ensures full { IfSome result (λ _.
         vec_capacity out.old < vec_len out.old + exts_len headers.now) }
+    ensures some { IfSome result (λ _. 0 < exts_len headers.now) }
 {
     match headers.write(out, first) {
         Err(HeaderWriteError::Io(e)) => Some(e),

@@ -1,11 +1,12 @@
 //! Callers of IPv4 extension headers.
-ghost use Rattle.std.specs.Prelude.{◌≡◌, [], IfOk, OnErr, IsTrue};
+ghost use Rattle.std.specs.Prelude.{◌≡◌, ◌++◌, ℕ, List, IfOk, OnErr, IsTrue};
 ghost use Rattle.std.specs.Option.{option_map};
 ghost use Rattle.ip_spec.specs.FieldsOf.{AuthFields};
-ghost use Rattle.ip_spec.specs.Encoding.{AppendsOne};
+ghost use Rattle.ip_spec.specs.Numbers.{AUTHENTICATION};
+ghost use Rattle.ip_spec.specs.Demand.{AtMostOneOf};
+ghost use Rattle.ip_spec.specs.Parse.{IsRead};
 ghost use Rattle.ip_ext_ipv4.specs.Ipv4Longest.{longest_ipv4_chain};
 ghost use Rattle.ip_ext_ipv4.specs.Ipv4Parse.{ipv4_value};
-ghost use Rattle.ip_ext_ipv4.specs.Ipv4Walk.{IsIpv4Reading};
 
 use ip_base::IpNumber;
 use ip_ext_chains::err::ipv4_exts::HeaderWriteError;
@@ -20,10 +21,10 @@ pub fn put_before(
     last: IpNumber,
     out: &mut Vec<u8>,
 ) -> Result<IpNumber, AllocError>
-    ensures read { IfOk result (λ first. AppendsOne (λ b. IsIpv4Reading first.0 b
-        (option_map (λ (v : AuthFields). record v { next_header = last.0 })
-        (ipv4_value (longest_ipv4_chain start.0 packet.now))) last.0 [])
-        out.old.items out.new.items) }
+    ensures read { IfOk result (λ first. (b : List ℕ) → out.new.items ≡ out.old.items ++ b
+        → IsRead (AtMostOneOf AUTHENTICATION) (λ c. ipv4_value c
+        ≡ option_map (λ (v : AuthFields). record v { next_header = last.0 })
+        (ipv4_value (longest_ipv4_chain start.0 packet.now))) first.0 last.0 b) }
     ensures err { OnErr result (out.new.items ≡ out.old.items) }
 {
     let (mut headers, _, _, _) = Ipv4Extensions::from_slice_lax(start, packet);

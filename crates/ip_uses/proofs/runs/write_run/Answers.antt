@@ -1,5 +1,5 @@
 use Rattle.std.proofs.Common.{◌≡◌, ◌∙◌, ℕ, List, ap, sym, refl, true}
-use Rattle.std.specs.Prelude.{Option, Some, None, is_some, Result, Ok, Err, is_ok}
+use Rattle.std.specs.Prelude.{Option, Some, None, is_some, IfSome, Result, Ok, Err, is_ok}
 use Rattle.std.specs.Borrow.{Bor}
 use Rattle.std.specs.Option.{option_map}
 use Rattle.std.specs.declared.alloc.AllocError.{AllocError}
@@ -8,8 +8,8 @@ use Rattle.ip_spec.specs.Walk.{WalkAnswer, leads, hop_by_hop_not_at_start, not_r
 use Rattle.ip_ext_chains.specs.Chain.{leads_to}
 use Rattle.ip_ext_chains.specs.Ipv6Extensions.{held}
 use Rattle.ip_ext_chains.specs.Walk.{fault_told, told}
-use Rattle.ip_ext_chains.specs.Write.{IsNotWritten}
-use Rattle.ip_ext_chains.specs.WriteError.{io_of}
+use Rattle.ip_ext_chains.specs.Write.{IsWalkFault}
+use Rattle.ip_ext_chains.specs.WriteError.{io_of, content_of}
 use Rattle.ip_ext_chains.specs.declared.ipv6_exts.Ipv6Extensions.{Ipv6Extensions}
 use Rattle.ip_ext_chains.specs.declared.err.ipv6_exts.exts_walk_error.ExtsWalkError.{ExtsWalkError}
 use Rattle.ip_ext_chains.specs.declared.err.ipv6_exts.exts_walk_error.ExtsWalkError.TheVariants.{HopByHopNotAtStart, ExtNotReferenced}
@@ -26,7 +26,7 @@ leads_ok : (r : Result IpNumber ExtsWalkError) (m : ℕ) → told r ≡ leads m 
 leads_ok (Ok n) m k = refl
 leads_ok (Err e) m k = absurd (no_fault e m k)
 
-memory_only : (v : Ipv6Extensions) (n m : ℕ) (old new : List ℕ) (e : HeaderWriteError) → ((a : WalkAnswer) → IsWalkAnswer (held v) n a → a ≡ leads m) → IsNotWritten v n old new e → is_some (io_of e) ≡ true
+memory_only : (v : Ipv6Extensions) (n m : ℕ) (old new : List ℕ) (e : HeaderWriteError) → ((a : WalkAnswer) → IsWalkAnswer (held v) n a → a ≡ leads m) → IfSome (content_of e) (λ fault. IsWalkFault v n old new fault) → is_some (io_of e) ≡ true
 memory_only v n m old new (Io x) only k = refl
 memory_only v n m old new (Content x) only k = absurd (no_fault x m (only (fault_told x) k.answer))
 
@@ -43,7 +43,7 @@ unwrap-requires c =
     let n = c.args.number.0 in
     let d = c.requires in
     sym (same_some c.io.result) ∙ ap is_some c.io.ensures
-    ∙ memory_only c.args.run.now n (leads_to n d.0) _ _ c.in-Err.refused (λ a k. c.one_walk_answer.ensures.only_answer v n a (leads (leads_to n d.0)) k (c.walk_leads_where_the_value_is_read.ensures.spelling v n d.0 d.1)) c.in-Err.ensures.err
+    ∙ memory_only c.args.run.now n (leads_to n d.0) _ _ c.in-Err.refused (λ a k. c.one_walk_answer.ensures.only_answer v n a (leads (leads_to n d.0)) k (c.walk_leads_where_the_value_is_read.ensures.spelling v n d.0 d.1)) c.in-Err.ensures.content
 
 pub unwrap-requires-2 : goal.unwrap-requires-2
 unwrap-requires-2 c =

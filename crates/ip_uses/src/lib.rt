@@ -11,5 +11,6 @@ pub mod outcomes;
 pub mod pins;
 pub mod places;
 pub mod plain;
+pub mod readers;
 pub mod runs;
 pub mod tool;

@@ -14,13 +14,14 @@ use Rattle.ip_spec.specs.Demand.{IsEndUnder}
 use Rattle.ip_spec.specs.Fits.{FitsPlaces, NumbersFit, numbers_of, IsTaken}
 use Rattle.ip_spec.specs.Parse.{rest_behind, fault_behind}
 use Rattle.ip_spec.specs.Places.{Place, hop_by_hop, destination, routing, fragment, authentication, final_destination, index, number_in, header_in, has_routing, place_of, is_taken, is_filled, fields_of, HeaderFields, raw_header}
+use Rattle.ip_spec.proofs.HeaderLemmas.{header_number}
 use Rattle.ip_spec.proofs.PrefixLemmas.{prefix_of-append}
 use Rattle.ip_spec.proofs.ChainLemmas.{no_chain, goes_on, leads_to-more}
 use Rattle.ip_spec.proofs.UnderLemmas.{some_longest_under, one_longest_under, longest_at_end_under}
 use Rattle.ip_spec.proofs.FitsLemmas.{fits_places}
 use Rattle.ip_spec.proofs.PlaceLemmas.{place_number, final_behind, is_extension, placed, has_place, fits_more, taken_told}
 use Rattle.ip_ext_slices.specs.Fault.{Fault, fault_at, chain_faults}
-use Rattle.ip_ext_slices.proofs.FaultLemmas.{end_at_other, no_fault_at_other, number_of}
+use Rattle.ip_ext_slices.proofs.FaultLemmas.{end_at_other, no_fault_at_other}
 use Rattle.ip_ext_slices.proofs.RequestFaultLemmas.{fault_ends}
 use Rattle.ip_ext_chains.specs.Fitting.{fitting_chain, fitting_faults, fitting_fault, IsFittingAnswer}
 use Rattle.ip_ext_chains.specs.Ipv6Extensions.{value_of, held, final_of}
@@ -289,7 +290,7 @@ empty_is (h ∷ c) e = absurd (let differ : false ≡ true = e in cc)
 
 none_from : (n : ℕ) (c : List ExtHeader) → IsChain n c → (IsExtensionNumber n → ⊥) → c ≡ []
 none_from n [] k other = refl
-none_from n (h ∷ c) k other = let X : ℕ → Type 0 = IsExtensionNumber in absurd (other (subst X k.links.0 (number_of h.number h.bytes k.headers.0)))
+none_from n (h ∷ c) k other = let X : ℕ → Type 0 = IsExtensionNumber in absurd (other (subst X k.links.0 (header_number h.number h.bytes k.headers.0)))
 
 module _ (n : ℕ) (c : List ExtHeader) (m : ℕ) (v : Ipv6Extensions) (first : Bool) (k : IsReading n c m v first) where
   -- at number 0 a place is missing only behind a header

@@ -84,18 +84,18 @@ module _ {X : Type 0} (t : X → Bool) where
   after_one x = elim (cases_Bool (t x)) [ inl w ↦ after-yes x [] w | inr w ↦ after-no x [] w ]
 
   -- The first that passes is there where the count isn't 0, and one more stands behind it.
-  pub find_none : (xs : List X) → count_by t xs ≡ 0 → find t xs ≡ None
-  find_none [] e = refl
-  find_none (x ∷ xs) e = elim (cases_Bool (t x)) [
-    | inl w ↦ absurd (omega (arith, count_yes x xs w, e))
-    | inr w ↦ find-no x xs w ∙ find_none xs (sym (count_no x xs w) ∙ e)
+  pub counted : (xs : List X) → is_some (find t xs) ≡ true → 1 ≤ count_by t xs
+  counted [] e = absurd (let differ : false ≡ true = e in cc)
+  counted (x ∷ xs) e = elim (cases_Bool (t x)) [
+    | inl w ↦ omega (arith, count_yes x xs w)
+    | inr w ↦ omega (arith, count_no x xs w, counted xs (sym (ap is_some (find-no x xs w)) ∙ e))
   ]
 
-  pub find_some : (xs : List X) → 1 ≤ count_by t xs → is_some (find t xs) ≡ true
-  find_some [] l = absurd (omega arith)
-  find_some (x ∷ xs) l = elim (cases_Bool (t x)) [
-    | inl w ↦ ap is_some (find-yes x xs w)
-    | inr w ↦ ap is_some (find-no x xs w) ∙ find_some xs (omega (arith, count_no x xs w, l))
+  pub none_counted : (xs : List X) → is_some (find t xs) ≡ false → count_by t xs ≡ 0
+  none_counted [] e = refl
+  none_counted (x ∷ xs) e = elim (cases_Bool (t x)) [
+    | inl w ↦ absurd (let differ : true ≡ false = sym (ap is_some (find-yes x xs w)) ∙ e in cc)
+    | inr w ↦ count_no x xs w ∙ none_counted xs (sym (ap is_some (find-no x xs w)) ∙ e)
   ]
 
   pub find_passes : (xs : List X) (x : X) → find t xs ≡ Some x → t x ≡ true

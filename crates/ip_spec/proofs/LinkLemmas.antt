@@ -11,7 +11,7 @@ use Rattle.ip_spec.specs.Header.{IsHeader, IsRawNumber, IsRawHeader, raw, fragme
 use Rattle.ip_spec.specs.Fields.{next_header}
 use Rattle.ip_spec.specs.FieldsOf.{raw_fields, fragment_fields, auth_fields}
 use Rattle.ip_spec.specs.Chain.{ExtHeader}
-use Rattle.ip_spec.specs.Places.{Place, hop_by_hop, destination, routing, fragment as fragment_place, authentication, final_destination, places, index, number_in, header_in, has_routing, fields_of, HeaderFields, raw_header, fragment_header, auth_header}
+use Rattle.ip_spec.specs.Places.{Place, hop_by_hop, destination, routing, fragment as fragment_place, authentication, final_destination, places, index, number_in, header_in, fields_of, HeaderFields, raw_header, fragment_header, auth_header}
 use Rattle.ip_spec.specs.Encoded.{IsCleared}
 use Rattle.ip_spec.specs.Encodable.{IsEncoded, IsEncodable}
 use Rattle.ip_spec.specs.Walk.{Held, leads, IsWalkAnswer}
@@ -19,7 +19,7 @@ use Rattle.ip_spec.specs.WalkStep.{next_place, without, next_of}
 use Rattle.ip_spec.specs.Links.{relinked, first_number, places_behind, linked}
 use Rattle.ip_spec.proofs.HeaderLemmas.{raw_of, fragment_of, auth_of, header-least}
 use Rattle.ip_spec.proofs.HeaderLemmas.{header_number}
-use Rattle.ip_spec.proofs.PlaceLemmas.{same_place}
+use Rattle.ip_spec.proofs.PlaceLemmas.{has_routing, same_place}
 use Rattle.ip_spec.proofs.WalkLemmas.{none_if, some_if}
 use Rattle.ip_spec.proofs.WalkStepLemmas.{Walking, walk_begins, walks_on, walk_answers}
 use Rattle.ip_spec.proofs.SpellingLemmas.{leads_where_none}

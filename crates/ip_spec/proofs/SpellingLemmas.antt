@@ -5,13 +5,13 @@ use Rattle.std.specs.List.{find}
 use Rattle.std.specs.Option.{option_map}
 use Rattle.std.proofs.lemmas.Bool.{cases_Bool}
 use Rattle.std.proofs.lemmas.Option.{none-some}
-use Rattle.std.proofs.lemmas.List.{append-nil, map-append}
+use Rattle.std.proofs.lemmas.List.{append-nil}
 use Rattle.std.proofs.lemmas.List.Elements.{All-append}
 use Rattle.ip_spec.specs.Header.{IsHeader, IsExtensionNumber}
 use Rattle.ip_spec.specs.Encoding.{AreBytes}
 use Rattle.ip_spec.specs.Chain.{ExtHeader, leads_to, bytes_of, IsChain, IsLongestChain}
 use Rattle.ip_spec.specs.Demand.{IsLongestUnder}
-use Rattle.ip_spec.specs.Fits.{numbers_of, NumbersFit, FitsPlaces, IsTaken}
+use Rattle.ip_spec.specs.Fits.{FitsPlaces, IsTaken}
 use Rattle.ip_spec.specs.Places.{Place, hop_by_hop, destination, routing, fragment, authentication, final_destination, number_in, header_in, fields_of, HeaderFields}
 use Rattle.ip_spec.specs.Encoded.{cleared_chain}
 use Rattle.ip_spec.specs.Encodable.{IsEncodable}
@@ -197,10 +197,7 @@ pub spelled_is_read : (v : Held) (f : ℕ) (c : List ExtHeader) (r : List ℕ) �
 spelled_is_read v f c r s taken =
     longest_at_end_under FitsPlaces fits_places f (bytes_of c ++ r) c
     (record { has = record { chain = s.chain; prefix = prefix_of-append (bytes_of c) r (bytes_of c ++ r) refl }; meets = s.fits })
-    (λ h x q.
-    let N : List ℕ → Type 0 = NumbersFit in
-    let numbers : numbers_of (c ++ h ∷ []) ≡ numbers_of c ++ leads_to f c ∷ [] = map-append (λ k. k.number) c (h ∷ []) ∙ ap (λ m. numbers_of c ++ m ∷ []) x.number in
-    (taken (header_number (leads_to f c) h.bytes x.header)).1 (subst N numbers q))
+    (λ h x. (taken (header_number (leads_to f c) h.bytes x.header)).1 h x.number)
 
 -- Writing what was read gives what was read, cleared.
 pub spelled_is_cleared : (v : Held) (f : ℕ) (c d : List ExtHeader) → IsChain f c → FitsPlaces c → AreBytes (bytes_of c) → IsValueOf c v → IsSpelling v f d → d ≡ cleared_chain c

@@ -11,8 +11,9 @@ pub mod Decoding
 pub mod Chain
 pub mod Demand
 pub mod Parse
-pub mod Fits
 pub mod Places
+pub mod Fits
+pub mod NumbersFit
 pub mod Encoded
 pub mod Runs
 pub mod Walk

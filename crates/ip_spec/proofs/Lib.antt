@@ -23,3 +23,4 @@ pub mod SpellingLemmas
 pub mod LinkLemmas
 pub mod SumLemmas
 pub mod PlainFitsLemmas
+pub mod RequestLemmas

@@ -72,10 +72,8 @@ walked_on n s (h ∷ left) v k some m chain r er =
     let c : List ExtHeader = k.run in
     let p : IsPrefixChain n s (c ++ h ∷ left) = run_chain n s (h ∷ left) v k in
     let number : h.number ≡ leads_to n c = (chain_behind n c (h ∷ left) p.chain).links.0 in
-    let headers : longest_chain n s ≢ [] = λ e. omega (arith, ap length (sym (run_whole n s (h ∷ left) v k) ∙ e), length-append c (h ∷ left)) in
-    let first : c ≢ [] = some_are_kept FitsPlaces cuts_places (longest_chain n s) c headers k.kept in
     let B : List ExtHeader → Type 0 = NextBreaks FitsPlaces c in
-    let taken : IsTaken (leads_to n c) c = next_taken n s c (h ∷ left) first p (subst B k.left k.kept.breaks) (λ e. cc) in
+    let taken : IsTaken (leads_to n c) c = next_taken n s c (h ∷ left) p (subst B k.left k.kept.breaks) (λ e. cc) in
     let fits : c ≡ fitting_chain n s = run_fits n s (h ∷ left) v k in
     let told : is_taken (leads_to n (fitting_chain n s)) (fitting_chain n s) ≡ true = ap (λ d. is_taken (leads_to n d) d) (sym fits) ∙ (taken_told c (leads_to n c) k.kept.meets).1 taken in
     walked n s (h ∷ left) v k m r None (sym chain.links.0 ∙ number) (er ∙ ap (λ j. drop j s) (run_len n s (h ∷ left) v k)) (sym (no_fault _ _ told))

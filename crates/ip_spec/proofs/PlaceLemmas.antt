@@ -116,6 +116,12 @@ nothing_on p = refl
 pub nothing_in : (p : Place) → header_in p [] ≡ None
 nothing_in p = ap (find (is_of p)) (nothing_on p)
 
+pub none_behind : (c : List ExtHeader) → has_routing c ≡ false → header_in final_destination c ≡ None
+none_behind c none = elim (sides c []) [
+  | none_yet none all nothing b a ↦ ap (find (is_of final_destination)) nothing
+  | one_before some b a ↦ absurd (let differ : true ≡ false = sym some ∙ none in cc)
+]
+
 -- One more header h behind c stands in one place at most, and the others stay as they are.
 module _ (c : List ExtHeader) (h : ExtHeader) where
   pub data Comes (p : Place) : Type 0 where

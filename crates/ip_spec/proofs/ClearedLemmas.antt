@@ -16,7 +16,7 @@ use Rattle.ip_spec.specs.Chain.{ExtHeader, AreLinked, leads_to, bytes_of, IsChai
 use Rattle.ip_spec.specs.Fits.{FitsPlaces}
 use Rattle.ip_spec.specs.Places.{Place, destination, final_destination, side_of, header_in, fields_of, fragment_header, auth_header}
 use Rattle.ip_spec.specs.Encoded.{fixed_len, AreCleared, cleared_chain}
-use Rattle.ip_spec.proofs.FirstLemmas.{find-yes, find-no, before-map, after-map, count-map}
+use Rattle.ip_spec.proofs.FirstLemmas.{find-yes, find-no, before-map, after-map, find-map, count-map}
 use Rattle.ip_spec.proofs.PlaceLemmas.{is_of}
 use Rattle.ip_spec.proofs.EncodingLemmas.{cleared_fragment_same, cleared_auth_same, cleared_fragment_encodes, cleared_auth_encodes}
 
@@ -116,20 +116,13 @@ cleared_are (h ∷ c) a b =
     (record { reserved = same.again; bytes = same.bytes (All-take P _ (drop 1 h.bytes) (All-drop P 1 h.bytes mine)) }, cleared_are c a.1 others)
 
 -- Each place has the header that it had, cleared.
-find-map : (t : ExtHeader → Bool) → ((h : ExtHeader) → t (cleared_of h) ≡ t h) → (c : List ExtHeader) → find t (cleared_chain c) ≡ option_map cleared_of (find t c)
-find-map t same [] = refl
-find-map t same (h ∷ c) = elim (cases_Bool (t h)) [
-  | inl w ↦ find-yes t (cleared_of h) (cleared_chain c) (same h ∙ w) ∙ sym (ap (option_map cleared_of) (find-yes t h c w))
-  | inr w ↦ find-no t (cleared_of h) (cleared_chain c) (same h ∙ w) ∙ find-map t same c ∙ sym (ap (option_map cleared_of) (find-no t h c w))
-]
-
 side-cleared : (p : Place) (c : List ExtHeader) → side_of p (cleared_chain c) ≡ cleared_chain (side_of p c)
 side-cleared destination c = sym (before-map cleared_of (λ h. h.number == 43) c)
 side-cleared final_destination c = sym (after-map cleared_of (λ h. h.number == 43) c)
 side-cleared p c = refl
 
 pub header_in-cleared : (p : Place) (c : List ExtHeader) → header_in p (cleared_chain c) ≡ option_map cleared_of (header_in p c)
-header_in-cleared p c = ap (find (is_of p)) (side-cleared p c) ∙ find-map (is_of p) (λ h. refl) (side_of p c)
+header_in-cleared p c = ap (find (is_of p)) (side-cleared p c) ∙ find-map cleared_of (is_of p) (side_of p c)
 
 pub cleared_fits : (c : List ExtHeader) → FitsPlaces c → FitsPlaces (cleared_chain c)
 cleared_fits c f p = omega (arith, ap (count_by (is_of p)) (side-cleared p c), count-map cleared_of (is_of p) (side_of p c), f p)

@@ -1,7 +1,6 @@
 -- Chains whose headers fit six places.
-use Rattle.std.proofs.Common.{◌≡◌, ℕ, ◌≤◌, ◌<◌, List, [], ◌∷◌, ◌++◌, length, drop, ap, sym, ◌∙◌, arith, inl, inr, ◌⊎◌, true, false, subst}
+use Rattle.std.proofs.Common.{◌≡◌, ℕ, ◌≤◌, ◌<◌, List, [], ◌∷◌, ◌++◌, length, drop, refl, ap, sym, ◌∙◌, arith, inl, inr, ◌⊎◌, true, false, subst}
 use Rattle.std.specs.Prelude.{count_by}
-use Rattle.std.specs.List.{AllByRecursion}
 use Rattle.std.proofs.lemmas.Bool.{cases_lt}
 use Rattle.std.proofs.lemmas.List.{append-nil, length-append}
 use Rattle.ip_spec.proofs.HeaderLemmas.{header_number, later_of}
@@ -10,7 +9,7 @@ use Rattle.ip_spec.specs.Demand.{IsDemand, IsLongestUnder, NextBreaks}
 use Rattle.ip_spec.specs.Places.{Place, hop_by_hop, destination, routing, fragment, authentication, final_destination, places, side_of, place_of}
 use Rattle.ip_spec.specs.Fits.{FitsPlaces, IsTaken}
 use Rattle.ip_spec.proofs.FirstLemmas.{count-append, count_before, count_after}
-use Rattle.ip_spec.proofs.PlaceLemmas.{has_routing, is_of, count_in, none_yet, one_before, sides, nothing_on, fits_next, none_there}
+use Rattle.ip_spec.proofs.PlaceLemmas.{each, has_routing, is_of, count_in, none_yet, one_before, sides, nothing_on, fits_next, none_there}
 use Rattle.ip_spec.proofs.DemandKinds.{all_or}
 use Rattle.ip_spec.proofs.UnderLemmas.{longest_ends_under, longest_keeps}
 use Rattle.ip_spec.proofs.LongestOfLemmas.{begins_first}
@@ -32,15 +31,7 @@ count_grows final_destination c d = elim (sides c d) [
 ]
 count_grows p c d = omega (arith, count-append (is_of p) c d)
 
--- what holds of all places holds of each
-each : (P : Place → Type 0) → AllByRecursion P places → (p : Place) → P p
-each P a hop_by_hop = a.0
-each P a destination = a.1.0
-each P a routing = a.1.1.0
-each P a fragment = a.1.1.1.0
-each P a authentication = a.1.1.1.1.0
-each P a final_destination = a.1.1.1.1.1.0
-
+-- whether each place has a property
 each_or : (P : Place → Type 0) → ((p : Place) → P p ⊎ (P p → ⊥)) → ((p : Place) → P p) ⊎ (((p : Place) → P p) → ⊥)
 each_or P test = elim (all_or P test places) [
   | inl a ↦ inl (each P a)
@@ -88,16 +79,19 @@ breaks_taken c m r h x breaks = (
 pub fitting_ends : (n : ℕ) (s : List ℕ) (c : List ExtHeader) → IsLongestUnder FitsPlaces n s c → (IsTaken (leads_to n c) c → ⊥) → IsEnd (is_empty c) (leads_to n c) (drop (length (bytes_of c)) s)
 fitting_ends n s c l free h x = free (breaks_taken c (leads_to n c) (drop (length (bytes_of c)) s) h x (longest_ends_under FitsPlaces fits_places n s c l h x))
 
+-- behind what fits of a chain, the number is taken
+pub next_taken : (n : ℕ) (s : List ℕ) (p rest : List ExtHeader) → IsPrefixChain n s (p ++ rest) → NextBreaks FitsPlaces p rest → (rest ≡ [] → IsTaken (leads_to n p) p) → IsTaken (leads_to n p) p
+next_taken n s p [] q b on = on refl
+next_taken n s p (h ∷ rest) q b on =
+    breaks_taken p (leads_to n p) (drop (length (bytes_of p)) s) h (next_of n s p h (begins_first (IsPrefixChain n s) (chains_grow n s) p h rest q)) b
+
 -- It is shorter than the longest chain exactly where a header goes on there whose place is taken.
 module _ (n : ℕ) (s : List ℕ) (d c : List ExtHeader) (l : IsLongestChain n s d) (u : IsLongestUnder FitsPlaces n s c) where
-  taken_behind : (rest : List ExtHeader) → d ≡ c ++ rest → NextBreaks FitsPlaces c rest → length c < length d → IsTaken (leads_to n c) c
-  taken_behind [] e breaks w = absurd (omega (arith, ap length e, ap length (append-nil c), w))
-  taken_behind (h ∷ rest) e breaks w =
-      let C : List ExtHeader → Type 0 = IsPrefixChain n s in
-      breaks_taken c (leads_to n c) (drop (length (bytes_of c)) s) h (next_of n s c h (begins_first (IsPrefixChain n s) (chains_grow n s) c h rest (subst C e l.has))) breaks
-
   pub taken_where_shorter : length c < length d → IsTaken (leads_to n c) c
-  taken_where_shorter w = let k = longest_keeps FitsPlaces fits_places n s d c l u in taken_behind k.rest k.joined k.breaks w
+  taken_where_shorter w =
+      let C : List ExtHeader → Type 0 = IsPrefixChain n s in
+      let k = longest_keeps FitsPlaces fits_places n s d c l u in
+      next_taken n s c k.rest (subst C k.joined l.has) k.breaks (λ e. absurd (omega (arith, ap length k.joined, ap length e, length-append c k.rest, w)))
 
   longer_behind : (rest : List ExtHeader) → d ≡ c ++ rest → (h : ExtHeader) → IsNext (is_empty c) (leads_to n c) (drop (length (bytes_of c)) s) h → length c < length d
   longer_behind [] e h x =

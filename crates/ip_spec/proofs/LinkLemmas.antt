@@ -93,11 +93,7 @@ relinked_encoded n j x h small e = relinked_list n j h.number x h.bytes small e
 
 number_small : (p : Place) → number_in p < 256
 number_small hop_by_hop = omega arith
-number_small destination = omega arith
-number_small routing = omega arith
-number_small fragment_place = omega arith
-number_small authentication = omega arith
-number_small final_destination = omega arith
+number_small p = omega arith
 
 pub first_number_small : (v : Held) (ps : List Place) (m : ℕ) → m < 256 → first_number v ps m < 256
 first_number_small v ps m small = of (find (λ p. is_some (v p)) ps)
@@ -281,8 +277,4 @@ module _ (v : Held) (m : ℕ) (small : m < 256) (e : IsEncodable v) where
     where
       beyond_all : (p : Place) → beyond 6 w p ≡ None
       beyond_all hop_by_hop = refl
-      beyond_all destination = refl
-      beyond_all routing = refl
-      beyond_all fragment_place = refl
-      beyond_all authentication = refl
-      beyond_all final_destination = refl
+      beyond_all p = refl

@@ -1,7 +1,7 @@
 -- The places of a chain's headers, where one more header comes, and which number is taken.
 use Rattle.std.proofs.Common.{◌≡◌, ℕ, zero, suc, ◌+◌, List, [], ◌∷◌, ◌++◌, refl, ap, sym, ◌∙◌, arith, inl, inr, Bool, true, false, subst}
 use Rattle.std.specs.Prelude.{◌≢◌, ◌==◌, ◌&&◌, ◌↔◌, not, count_by, Option, Some, None, is_some, if◌then◌else◌}
-use Rattle.std.specs.List.{find}
+use Rattle.std.specs.List.{find, AllByRecursion}
 use Rattle.std.specs.Option.{option_or, option_map_or}
 use Rattle.std.proofs.lemmas.Bool.{cases_Bool, eqb-true, eq-eqb}
 use Rattle.std.proofs.lemmas.Bool.Decides.{eqb_tells}
@@ -10,9 +10,9 @@ use Rattle.std.proofs.lemmas.List.{append-nil}
 use Rattle.ip_spec.specs.Header.{IsExtensionNumber}
 use Rattle.ip_spec.proofs.HeaderLemmas.{later_of, later_not_zero}
 use Rattle.ip_spec.specs.Chain.{ExtHeader}
-use Rattle.ip_spec.specs.Places.{Place, hop_by_hop, destination, routing, fragment, authentication, final_destination, index, number_in, side_of, header_in, place_of, is_taken}
+use Rattle.ip_spec.specs.Places.{Place, hop_by_hop, destination, routing, fragment, authentication, final_destination, places, index, number_in, side_of, header_in, place_of, is_taken}
 use Rattle.ip_spec.specs.Fits.{FitsPlaces, IsTaken}
-use Rattle.ip_spec.proofs.FirstLemmas.{count-append, count_yes, count_no, before-none, before-some, after-none, after-some, before_one, before_itself, after_one, counted, none_counted, find_more-yes, find_more-no}
+use Rattle.ip_spec.proofs.FirstLemmas.{before-yes, before-no, count-append, count_yes, count_no, before-none, before-some, after-none, after-some, after_one, counted, none_counted, find_more-yes, find_more-no}
 
 -- A place that a number has is one of that number's. What each test says of the number is given.
 module _ (m : ℕ) (p : Place) where
@@ -42,11 +42,7 @@ place_at (suc (suc (suc (suc (suc n))))) = final_destination
 
 at_index : (p : Place) → place_at (index p) ≡ p
 at_index hop_by_hop = refl
-at_index destination = refl
-at_index routing = refl
-at_index fragment = refl
-at_index authentication = refl
-at_index final_destination = refl
+at_index p = refl
 
 -- a place is known by its index
 pub same_place : (p q : Place) → index p ≡ index q → p ≡ q
@@ -60,6 +56,15 @@ final_behind false e = let is : destination ≡ final_destination = cc in let no
 pub destination_before : (behind : Bool) → place_of 60 behind ≡ Some destination → behind ≡ false
 destination_before false e = refl
 destination_before true e = let is : final_destination ≡ destination = cc in let no : 5 ≡ 1 = ap index is in absurd (omega (arith, no))
+
+-- what holds of all places holds of each
+pub each : (P : Place → Type 0) → AllByRecursion P places → (p : Place) → P p
+each P a hop_by_hop = a.0
+each P a destination = a.1.0
+each P a routing = a.1.1.0
+each P a fragment = a.1.1.1.0
+each P a authentication = a.1.1.1.1.0
+each P a final_destination = a.1.1.1.1.1.0
 
 -- an extension number has a place
 pub own_place : (m : ℕ) (behind : Bool) → IsExtensionNumber m → (p : Place) × (place_of m behind ≡ Some p)
@@ -153,8 +158,8 @@ module _ (c : List ExtHeader) (h : ExtHeader) where
   comes destination = elim (sides c (h ∷ [])) [
     | one_before some b a ↦ by_side destination b (λ e. let differ : true ≡ false = sym some ∙ destination_before (has_routing c) e in cc)
     | none_yet none all nothing b a ↦ elim (eqb_tells h.number 43) [
-      | inl w ↦ same_side destination (b ∙ ap (λ l. c ++ l) (before_itself (is_of routing) h w.0) ∙ append-nil c ∙ sym all) (λ e. omega (arith, w.1, place_number h.number destination (has_routing c) e))
-      | inr w ↦ by_number destination (b ∙ ap (λ l. c ++ l) (before_one (is_of routing) h w.0) ∙ ap (λ l. l ++ h ∷ []) (sym all)) (λ e. of_number e ∙ ap (place_of 60) none)
+      | inl w ↦ same_side destination (b ∙ ap (λ l. c ++ l) (before-yes (is_of routing) h [] w.0) ∙ append-nil c ∙ sym all) (λ e. omega (arith, w.1, place_number h.number destination (has_routing c) e))
+      | inr w ↦ by_number destination (b ∙ ap (λ l. c ++ l) (before-no (is_of routing) h [] w.0) ∙ ap (λ l. l ++ h ∷ []) (sym all)) (λ e. of_number e ∙ ap (place_of 60) none)
     ]
   ]
   comes final_destination = elim (sides c (h ∷ [])) [

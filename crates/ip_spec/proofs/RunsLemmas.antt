@@ -15,13 +15,12 @@ use Rattle.ip_spec.specs.Encoded.{cleared_chain}
 use Rattle.ip_spec.specs.Runs.{joined, how_many, last_piece, IsCut, AreRuns, none, cut, one_more, AreChains, AreLongestFitting}
 use Rattle.ip_spec.proofs.HeaderLemmas.{later_not_zero, later_or}
 use Rattle.ip_spec.proofs.PrefixLemmas.{prefix_second, rest_join, prefix-length}
-use Rattle.ip_spec.proofs.LongestOfLemmas.{begins_first}
-use Rattle.ip_spec.proofs.StepLemmas.{begins, next_of, chains_grow, tail_chain, bytes_of-least}
+use Rattle.ip_spec.proofs.StepLemmas.{begins, tail_chain, bytes_of-least}
 use Rattle.ip_spec.proofs.UnderLemmas.{one_longest_under, kept_is_longest}
 use Rattle.ip_spec.proofs.ChainLemmas.{longest_at_end, longest_ends}
 use Rattle.ip_spec.proofs.DemandLemmas.{some_kept}
 use Rattle.ip_spec.proofs.PlaceLemmas.{bare}
-use Rattle.ip_spec.proofs.FitsLemmas.{fits_places, fits_behind, one_fits, number_fits, breaks_taken}
+use Rattle.ip_spec.proofs.FitsLemmas.{fits_places, fits_behind, one_fits, number_fits, next_taken}
 use Rattle.ip_spec.proofs.CutLemmas.{Cuts, how_many-filled, how_many-more, joined-more, cut_more, no_cut, some_cut, one_cut, cut_count, cut_of_none, fewest, some_are_kept}
 
 abbrev Pieces : Type 0
@@ -284,11 +283,6 @@ module _ (n : ℕ) (s : List ℕ) (p : List ExtHeader) where
   rest_longest c nz l = longest_at_end number rest c (rest_prefix c l.has) (rest_ends c nz l)
 
 -- So the runs are the longest chains that fit, one behind the other.
-pub next_taken : (n : ℕ) (s : List ℕ) (p rest : List ExtHeader) → IsPrefixChain n s (p ++ rest) → NextBreaks FitsPlaces p rest → (rest ≡ [] → IsTaken (leads_to n p) p) → IsTaken (leads_to n p) p
-next_taken n s p [] q b on = on refl
-next_taken n s p (h ∷ rest) q b on =
-    breaks_taken p (leads_to n p) (drop (length (bytes_of p)) s) h (next_of n s p h (begins_first (IsPrefixChain n s) (chains_grow n s) p h rest q)) b
-
 fitting_more : (n : ℕ) (s : List ℕ) (p : List ExtHeader) (ps : Pieces) → IsLongestUnder FitsPlaces n s p → IsTaken (leads_to n p) p → AreLongestFitting (leads_to n p) (drop (length (bytes_of p)) s) ps → AreLongestFitting n s (p ∷ ps)
 fitting_more n s p [] l t f = absurd f
 fitting_more n s p (q ∷ ps) l t f = (l, t, f)

@@ -84,9 +84,9 @@ pub fn fitting_chain_stops_where_taken()
         → length c < length d }
 {}
 
-/// A chain fits its places exactly where its numbers do: 0, 43, 44 and 51 stand in it once at most, and 60
+/// A chain fits six places exactly where its numbers do: 0, 43, 44 and 51 stand in it once at most, and 60
 /// once at most on each side of the first 43.
-pub fn numbers_tell_what_fits()
+pub fn chain_fits_by_its_numbers()
     ensures { (c : List ExtHeader) → FitsPlaces c ↔ NumbersFit (numbers_of c) }
 {}
 

@@ -12,7 +12,7 @@ use Rattle.ip_spec.specs.Demand.{KeepsBeginning, NextBreaks, IsLongestUnder}
 use Rattle.ip_spec.specs.Fits.{FitsPlaces, IsTaken}
 use Rattle.ip_spec.specs.Places.{is_taken}
 use Rattle.ip_spec.proofs.PlaceLemmas.{taken_told}
-use Rattle.ip_spec.proofs.FitsLemmas.{fits_places, fitting_ends}
+use Rattle.ip_spec.proofs.FitsLemmas.{fits_places, fitting_ends, next_taken}
 use Rattle.ip_spec.proofs.UnderLemmas.{some_longest_under, one_longest_under, kept_is_longest}
 use Rattle.ip_spec.proofs.CutLemmas.{some_are_kept}
 use Rattle.ip_spec.proofs.RunsLemmas.{chain_behind}

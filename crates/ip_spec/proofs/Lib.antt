@@ -21,4 +21,3 @@ pub mod WalkStepLemmas
 pub mod SpellingLemmas
 pub mod LinkLemmas
 pub mod SumLemmas
-pub mod PlainFitsLemmas

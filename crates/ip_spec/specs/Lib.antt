@@ -19,4 +19,3 @@ pub mod Walk
 pub mod Links
 pub mod Encodable
 pub mod WalkStep
-pub mod PlainHeader

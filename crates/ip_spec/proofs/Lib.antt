@@ -21,5 +21,4 @@ pub mod WalkStepLemmas
 pub mod SpellingLemmas
 pub mod LinkLemmas
 pub mod SumLemmas
-pub mod PlainFitsLemmas
 pub mod RequestLemmas

@@ -20,4 +20,3 @@ pub mod Walk
 pub mod Links
 pub mod Encodable
 pub mod WalkStep
-pub mod PlainHeader

@@ -7,6 +7,8 @@ mod encodable;
 pub mod err;
 mod header_ref;
 mod ipv6_exts;
+mod ipv6_exts_read;
+mod ipv6_exts_read_limited;
 mod ipv6_exts_runs;
 mod ipv6_exts_write;
 mod ipv6_routing_exts;

@@ -10,5 +10,6 @@ pub mod ipv4;
 pub mod outcomes;
 pub mod pins;
 pub mod places;
+pub mod readers;
 pub mod runs;
 pub mod tool;

@@ -1,13 +1,24 @@
-//! What every layer of IP shares: protocol numbers, the names of layers and of length sources, and the
-//! error that tells how many bytes were missing and where.
+//! What every layer of IP shares: protocol numbers, the names of layers and of length sources, the error that
+//! tells how many bytes were missing and where, base headers of IPv4 (RFC 791) and IPv6 (RFC 8200), and
+//! the payload of a packet.
 #![tactic(auto)]
 
 pub mod err;
 mod ip_frag_offset;
 pub mod ip_number;
 mod ip_number_impl;
+mod ip_payload_slice;
+mod ipv4_header;
+mod ipv4_header_slice;
+mod ipv6_header;
+mod ipv6_header_slice;
 mod len_source;
 
 pub use ip_frag_offset::IpFragOffset;
 pub use ip_number_impl::IpNumber;
+pub use ip_payload_slice::IpPayloadSlice;
+pub use ipv4_header::Ipv4Header;
+pub use ipv4_header_slice::Ipv4HeaderSlice;
+pub use ipv6_header::Ipv6Header;
+pub use ipv6_header_slice::Ipv6HeaderSlice;
 pub use len_source::LenSource;

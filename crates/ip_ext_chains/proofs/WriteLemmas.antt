@@ -1,6 +1,6 @@
 -- What is read as a struct of six places, and what is written of one.
 use Rattle.std.proofs.Common.{◌≡◌, ℕ, ◌+◌, ◌<◌, List, ◌++◌, length, drop, refl, ap, sym, ◌∙◌, arith, inl, inr, subst}
-use Rattle.std.specs.Prelude.{None, ◌↔◌, if◌then◌else◌}
+use Rattle.std.specs.Prelude.{Err, None, ◌↔◌, if◌then◌else◌}
 use Rattle.std.proofs.Math.Seq.{drop-length, drop-append_seam}
 use Rattle.std.proofs.lemmas.List.{append-nil, append_cancel_left, length-append}
 use Rattle.std.proofs.lemmas.List.Elements.{All-take}
@@ -25,7 +25,7 @@ use Rattle.ip_base.specs.declared.len_source.LenSource.TheVariants.{Slice}
 use Rattle.ip_ext_slices.specs.Fault.{chain_faults}
 use Rattle.ip_ext_chains.specs.Fitting.{fitting_chain, fitting_faults, fitting_fault, IsFittingAnswer}
 use Rattle.ip_ext_chains.specs.Ipv6Extensions.{value_of, held, exts_len}
-use Rattle.ip_ext_chains.specs.Walk.{fault_told}
+use Rattle.ip_ext_chains.specs.Walk.{walk_answer}
 use Rattle.ip_ext_chains.specs.Write.{IsWritten, IsWalkFault}
 use Rattle.ip_ext_chains.specs.declared.ipv6_exts.Ipv6Extensions.{Ipv6Extensions}
 use Rattle.ip_ext_chains.specs.declared.err.ipv6_exts.exts_walk_error.ExtsWalkError.{ExtsWalkError}
@@ -73,14 +73,14 @@ module _ (v : Ipv6Extensions) (n : ℕ) where
       (subst AreBytes l.has.has.prefix (All-take (λ x. x < 256) (length (bytes_of (fitting_chain n s))) s bytes))
       (value_holds (fitting_chain n s) (sym e))
 
-  leads_differ : (m : ℕ) (e : ExtsWalkError) → leads m ≡ fault_told e → ⊥
+  leads_differ : (m : ℕ) (e : ExtsWalkError) → leads m ≡ walk_answer (Err e) → ⊥
   leads_differ m HopByHopNotAtStart e = let no : leads m ≡ hop_by_hop_not_at_start = e in cc
   leads_differ m (ExtNotReferenced k) e = let no : leads m ≡ not_referenced k.0 = e in cc
 
   -- a value that is read from bytes has no fault
-  pub fault_unread : (e : ExtsWalkError) → IsWalkAnswer (held v) n (fault_told e) → (s : List ℕ) → AreBytes s → value_of (fitting_chain n s) ≡ v → ⊥
+  pub fault_unread : (e : ExtsWalkError) → IsWalkAnswer (held v) n (walk_answer (Err e)) → (s : List ℕ) → AreBytes s → value_of (fitting_chain n s) ≡ v → ⊥
   fault_unread e a s bytes k =
-      leads_differ _ e (one_answer (held v) n _ (fault_told e) (spelled_leads (held v) n (cleared_chain (fitting_chain n s)) (read_spelled s bytes k)) a)
+      leads_differ _ e (one_answer (held v) n _ (walk_answer (Err e)) (spelled_leads (held v) n (cleared_chain (fitting_chain n s)) (read_spelled s bytes k)) a)
 
   module _ (old new : List ℕ) (w : IsWritten v n old new) where
     pub written_len : length new ≡ length old + exts_len v
@@ -143,7 +143,7 @@ module _ (v : Ipv6Extensions) (n : ℕ) where
       let s : IsSpelling (held v) n c = subst S same it.1 in
       record { chain = c; spelling = s; answer = spelled_leads (held v) n c s; appended = appended }
 
-  pub fault_written : (old new : List ℕ) (e : ExtsWalkError) (c : List ExtHeader) → IsReach (held v) n c → IsWalkAnswer (held v) n (fault_told e) → new ≡ old ++ bytes_of c → IsWalkFault v n old new e
+  pub fault_written : (old new : List ℕ) (e : ExtsWalkError) (c : List ExtHeader) → IsReach (held v) n c → IsWalkAnswer (held v) n (walk_answer (Err e)) → new ≡ old ++ bytes_of c → IsWalkFault v n old new e
   fault_written old new e c reach a appended = record {
     answer = a;
     chain = c;

@@ -11,15 +11,11 @@ use Rattle.ip_ext_chains.specs.declared.err.ipv6_exts.exts_walk_error.ExtsWalkEr
 use Rattle.ip_ext_chains.specs.declared.err.ipv6_exts.exts_walk_error.ExtsWalkError.TheVariants.{HopByHopNotAtStart, ExtNotReferenced}
 use Rattle.ip_ext_chains.specs.declared.walk.Walk.{Walk}
 
--- what an error of a walk says
-abbrev pub fault_told : ExtsWalkError → WalkAnswer
-fault_told HopByHopNotAtStart = hop_by_hop_not_at_start
-fault_told (ExtNotReferenced n) = not_referenced n.0
-
--- and a result
-abbrev pub told : Result IpNumber ExtsWalkError → WalkAnswer
-told (Ok n) = leads n.0
-told (Err e) = fault_told e
+-- the answer of a walk that a result is
+abbrev pub walk_answer : Result IpNumber ExtsWalkError → WalkAnswer
+walk_answer (Ok n) = leads n.0
+walk_answer (Err HopByHopNotAtStart) = hop_by_hop_not_at_start
+walk_answer (Err (ExtNotReferenced n)) = not_referenced n.0
 
 -- what is said by the headers that a walk hasn't reached
 abbrev pub left_in : Walk → Held

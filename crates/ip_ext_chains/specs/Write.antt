@@ -1,11 +1,11 @@
 -- What is written of a struct of six places.
-use Rattle.std.specs.Prelude.{◌≡◌, ℕ, List, ◌++◌}
+use Rattle.std.specs.Prelude.{Err, ◌≡◌, ℕ, List, ◌++◌}
 use Rattle.ip_spec.specs.Encoding.{AreBytes}
 use Rattle.ip_spec.specs.Chain.{ExtHeader, leads_to, bytes_of}
 use Rattle.ip_spec.specs.Walk.{leads, IsSpelling, IsReach, IsWalkAnswer}
 use Rattle.ip_ext_chains.specs.Fitting.{fitting_chain}
 use Rattle.ip_ext_chains.specs.Ipv6Extensions.{value_of, held}
-use Rattle.ip_ext_chains.specs.Walk.{fault_told}
+use Rattle.ip_ext_chains.specs.Walk.{walk_answer}
 use Rattle.ip_ext_chains.specs.declared.ipv6_exts.Ipv6Extensions.{Ipv6Extensions}
 use Rattle.ip_ext_chains.specs.declared.err.ipv6_exts.exts_walk_error.ExtsWalkError.{ExtsWalkError}
 
@@ -19,7 +19,7 @@ pub record IsWritten (v : Ipv6Extensions) (n : ℕ) (old new : List ℕ) : Type 
 -- The walk from n through v has the fault e: `new` is `old` with the bytes of the headers that v reaches, and v is
 -- read from no bytes.
 pub record IsWalkFault (v : Ipv6Extensions) (n : ℕ) (old new : List ℕ) (e : ExtsWalkError) : Type 0 where
-  pub answer : IsWalkAnswer (held v) n (fault_told e)
+  pub answer : IsWalkAnswer (held v) n (walk_answer (Err e))
   pub chain : List ExtHeader
   pub reach : IsReach (held v) n chain
   pub appended : new ≡ old ++ bytes_of chain

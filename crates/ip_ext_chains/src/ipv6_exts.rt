@@ -2,11 +2,12 @@ ghost use Rattle.std.specs.Prelude.{◌≡◌, ◌≤◌, [], Some, None, IfOk, 
 ghost use Rattle.std.specs.Option.{option_map, option_map_or};
 ghost use Rattle.ip_spec.specs.FieldsOf.{raw_len, raw_fields};
 ghost use Rattle.ip_spec.specs.Demand.{IsLongestUnder};
+ghost use Rattle.ip_spec.specs.Encodable.{IsEncodable};
 ghost use Rattle.ip_spec.specs.Fits.{FitsPlaces};
 ghost use Rattle.ip_ext_headers.specs.Ipv6RawExtHeaderSlice.{bytes};
 ghost use Rattle.ip_ext_chains.specs.Fitting.{fitting_chain, fitting_fault, IsFittingAnswer, IsWalked};
 ghost use Rattle.ip_ext_chains.specs.Places.{AreOfNumber, value_at};
-ghost use Rattle.ip_ext_chains.specs.Ipv6Extensions.{value_of, exts_len, has_none, is_fragmented};
+ghost use Rattle.ip_ext_chains.specs.Ipv6Extensions.{value_of, held, exts_len, has_none, is_fragmented};
 
 use crate::err::Layer;
 use crate::err::ipv6_exts::HeaderSliceError;
@@ -147,11 +148,13 @@ impl Ipv6Extensions {
         }
     }
 
-    /// The number of the headers' bytes, 0 to 9228.
+    /// The number of the headers' bytes, 0 to 9228. Each header can be written, as the ranges of its fields say.
     pub fn header_len(&self) -> usize
         ensures len { result ≡ exts_len self.now }
         ensures most { result ≤ 9228 }
+        ensures encodable { IsEncodable (held self.now) }
     {
+        self.encodable();
         raw_len(&self.hop_by_hop_options)
             + raw_len(&self.destination_options)
             + match &self.routing {

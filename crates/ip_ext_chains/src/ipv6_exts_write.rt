@@ -1,7 +1,7 @@
 ghost use Rattle.std.specs.Prelude.{◌≡◌, ◌≤◌, ◌<◌, ◌↔◌, ◌+◌, ◌++◌, ℕ, List, None, OnOk, IfErr, IfSome, IfNone, vec_len, vec_capacity};
 ghost use Rattle.ip_spec.specs.Header.{IsExtensionNumber};
 ghost use Rattle.ip_spec.specs.Encoding.{AreBytes, AppendsOne};
-ghost use Rattle.ip_spec.specs.Encodable.{IsEncodable, held_len};
+ghost use Rattle.ip_spec.specs.Encodable.{held_len};
 ghost use Rattle.ip_spec.specs.Chain.{ExtHeader, bytes_of};
 ghost use Rattle.ip_spec.specs.Places.{Place as spec_place, places};
 ghost use Rattle.ip_spec.specs.Encoded.{cleared_chain};
@@ -13,7 +13,7 @@ ghost use Rattle.ip_spec.specs.WalkStep.{IsEncodingOf};
 ghost use Rattle.ip_ext_chains.specs.HeaderRef.{said};
 ghost use Rattle.ip_ext_chains.specs.Fitting.{fitting_chain, IsFittingAnswer};
 ghost use Rattle.ip_ext_chains.specs.Ipv6Extensions.{held, value_of, exts_len};
-ghost use Rattle.ip_ext_chains.specs.Walk.{told, left_in, IsStep};
+ghost use Rattle.ip_ext_chains.specs.Walk.{walk_answer, left_in, IsStep};
 ghost use Rattle.ip_ext_chains.specs.Write.{IsWritten, IsWalkFault};
 ghost use Rattle.ip_ext_chains.specs.WriteError.{io_of, content_of};
 
@@ -31,11 +31,10 @@ impl Ipv6Extensions {
     /// The number to which the headers lead along their next numbers, where the first is of the number `first`
     /// and each is reached. It is Ok exactly where some bytes are read as this value with nothing left.
     pub fn next_header(&self, first: IpNumber) -> Result<IpNumber, ExtsWalkError>
-        ensures answer { IsWalkAnswer (held self.now) first.0 (told result) }
-        ensures exactly { (m : ℕ) → (told result ≡ leads m)
+        ensures answer { IsWalkAnswer (held self.now) first.0 (walk_answer result) }
+        ensures exactly { (m : ℕ) → (walk_answer result ≡ leads m)
             ↔ ((s : List ℕ)
             × IsRead FitsPlaces (λ c. value_of c ≡ self.now) first.0 m s) }
-        ensures encodable { IsEncodable (held self.now) }
     {
         self.encodable();
         let mut walk = Walk::new(self, first);

@@ -7,7 +7,7 @@ ghost use Rattle.ip_spec.specs.Places.{Place as spec_place, raw_header};
 ghost use Rattle.ip_ext_chains.specs.Place.{shown};
 ghost use Rattle.ip_ext_chains.specs.HeaderRef.{said};
 ghost use Rattle.ip_ext_chains.specs.Ipv6Extensions.{held};
-ghost use Rattle.ip_ext_chains.specs.Walk.{told, left_in, IsStep, IsStop};
+ghost use Rattle.ip_ext_chains.specs.Walk.{walk_answer, left_in, IsStep, IsStop};
 
 use crate::Ipv6Extensions;
 use crate::err::ipv6_exts::ExtsWalkError;
@@ -144,7 +144,7 @@ impl<'a> Walk<'a> {
     /// The number that was reached, where no header is left.
     #[inline(always)]
     pub(crate) fn answer(&self) -> Result<IpNumber, ExtsWalkError>
-        ensures { told result ≡ answer_at self.now.number.0 (left_in self.now) }
+        ensures { walk_answer result ≡ answer_at self.now.number.0 (left_in self.now) }
     {
         match self.first_left() {
             None => Ok(self.number),

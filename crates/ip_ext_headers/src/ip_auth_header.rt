@@ -1,15 +1,25 @@
 ghost use Rattle.std.specs.Prelude.{◌≡◌, ◌≤◌, ◌<◌, ◌+◌, ◌*◌, ◌++◌, [], ◌∷◌, ◌↔◌, ℕ, List, length, IsOk, OnOk, OnErr, IfOk, IfErr, vec_len, vec_capacity};
 ghost use Rattle.std.specs.Int.{to_be_bytes, w32};
-ghost use Rattle.ip_spec.specs.Prefix.{IsPrefix};
+ghost use Rattle.std.specs.Io.KnownBytes.{Consumes};
+ghost use Rattle.ip_spec.specs.Prefix.{IsPrefix, NoPrefix};
 ghost use Rattle.ip_spec.specs.Header.{IsAuthHeader};
-ghost use Rattle.ip_spec.specs.FieldsOf.{auth_len};
+ghost use Rattle.ip_spec.specs.FieldsOf.{auth_len, auth_fields};
 ghost use Rattle.ip_spec.specs.Encoding.{AppendsOne, IsAuthEncoding};
 ghost use Rattle.ip_spec.specs.Decoding.{IsAuthDecoding};
+ghost use Rattle.ip_io.specs.ExactRead.{IfSteady};
+ghost use Rattle.ip_io.specs.LimitedReader.{inner_of, window};
+ghost use Rattle.ip_io.specs.Reading.{IsHeaderTaken, IsTakenInLayer};
+ghost use Rattle.ip_base.specs.declared.err.layer.Layer.TheVariants.{IpAuthHeader as AuthLayer};
 
 use crate::IpAuthHeaderSlice;
-use crate::err::ip_auth::{HeaderSliceError, IcvLenError};
+use crate::err::ip_auth::{
+    HeaderError, HeaderLimitedReadError, HeaderReadError, HeaderSliceError, IcvLenError,
+};
 use arrayvec::ArrayVec;
 use ip_base::IpNumber;
+use ip_base::err::Layer;
+use ip_io::err::io::LimitedReadError;
+use ip_io::io::{ExactRead, LimitedReader};
 use std::alloc::{AllocError, Allocator};
 use std::marker::Model;
 
@@ -62,8 +72,10 @@ impl Model for IpAuthHeader {
 impl IpAuthHeader {
     ghost use Rattle.ip_base.specs.declared.len_source.LenSource.TheVariants.{Slice};
     ghost use Rattle.ip_ext_headers.specs.Fault.{auth_fault};
+    ghost use Rattle.ip_spec.specs.Fields as fields;
     ghost use Rattle.ip_spec.specs.Lengths.{IsIcvLen};
     ghost use Rattle.ip_ext_headers.specs.LengthFault.{icv_len_fault};
+    ghost use Rattle.ip_ext_headers.specs.AuthReading.{IsAuthRefused, IsAuthRefusedInLayer, IsSliceError, IsSliceErrorInLayer};
 
     /// The smallest header, in bytes.
     pub const MIN_LEN: usize = 12;
@@ -149,6 +161,101 @@ impl IpAuthHeader {
         let header = IpAuthHeaderSlice::from_slice(slice)?;
         let rest = &slice[header.slice().len()..];
         Ok((header.to_header(), rest))
+    }
+
+    /// Reads a header: 12 bytes, then the check value, of which they tell the length, and no byte beyond.
+    /// `Content` tells that the length field is 0; then the 12 bytes were taken. `Io` is the reader's error; after
+    /// it nothing is known of what was taken.
+    pub fn read<T: ExactRead>(reader: &mut T) -> Result<IpAuthHeader, HeaderReadError>
+        ensures header { IfOk result (IsHeaderTaken IsAuthHeader auth_fields
+            (Consumes (T.bytes_left reader.old) (T.bytes_left reader.new))) }
+        ensures kept { OnOk result (T.has_failed reader.new ≡ T.has_failed reader.old) }
+        ensures steady { T.is_steady reader.new ≡ T.is_steady reader.old }
+        ensures none { OnErr result (IfSteady (T.is_steady reader.old) (T.bytes_left reader.old)
+            (NoPrefix IsAuthHeader)) }
+        ensures fault { IfErr result (IsSliceError (T.is_steady reader.old) (T.bytes_left reader.old)) }
+        ensures refused { IfErr result (IsAuthRefused T.bytes_left T.is_steady T.has_failed
+            reader.old reader.new) }
+    {
+        let mut start = [0; 12];
+        match reader.read_exact(&mut start) {
+            Ok(()) => {}
+            Err(e) => return Err(HeaderReadError::Io(e)),
+        }
+        let payload_len = start[1];
+        if payload_len == 0 {
+            return Err(HeaderReadError::Content(HeaderError::ZeroPayloadLen));
+        }
+        let mut raw_icv = Self::zero_icv(4 * usize::from(payload_len - 1));
+        match reader.read_exact(raw_icv.as_mut_slice()) {
+            Ok(()) => Ok(Self::of_parts(start, raw_icv)),
+            Err(e) => Err(HeaderReadError::Io(e)),
+        }
+    }
+
+    /// Reads a header within a limit, as `read` does of the bytes that may still be read. It starts the layer
+    /// `IpAuthHeader`. `Len` tells the first request that the limit doesn't leave, which took nothing; `Content`
+    /// and `Io` are those of `read`. In all, `read_len` is what came of the header before.
+    pub fn read_limited<T: ExactRead>(
+        reader: &mut LimitedReader<T>,
+    ) -> Result<IpAuthHeader, HeaderLimitedReadError>
+        ensures header { IfOk result (IsHeaderTaken IsAuthHeader auth_fields
+            (IsTakenInLayer T.bytes_left AuthLayer reader.old reader.new)) }
+        ensures kept { OnOk result
+            (T.has_failed (inner_of reader.new) ≡ T.has_failed (inner_of reader.old)) }
+        ensures steady { T.is_steady (inner_of reader.new) ≡ T.is_steady (inner_of reader.old) }
+        ensures none { OnErr result (IfSteady (T.is_steady (inner_of reader.old))
+            (window T.bytes_left reader.old) (NoPrefix IsAuthHeader)) }
+        ensures fault { IfErr result (IsSliceErrorInLayer (T.is_steady (inner_of reader.old))
+            (window T.bytes_left reader.old)) }
+        ensures refused { IfErr result (IsAuthRefusedInLayer T.bytes_left T.is_steady
+            T.has_failed reader.old reader.new) }
+    {
+        reader.start_layer(Layer::IpAuthHeader);
+        let mut start = [0; 12];
+        match reader.read_exact(&mut start) {
+            Ok(()) => {}
+            Err(e) => return Err(HeaderLimitedReadError::of_limited(e)),
+        }
+        let payload_len = start[1];
+        if payload_len == 0 {
+            return Err(HeaderLimitedReadError::Content(HeaderError::ZeroPayloadLen));
+        }
+        let mut raw_icv = Self::zero_icv(4 * usize::from(payload_len - 1));
+        match reader.read_exact(raw_icv.as_mut_slice()) {
+            Ok(()) => Ok(Self::of_parts(start, raw_icv)),
+            Err(e) => Err(HeaderLimitedReadError::of_limited(e)),
+        }
+    }
+
+    /// Zeros, to be read over.
+    #[inline(always)]
+    fn zero_icv(len: usize) -> ArrayVec<u8, 1016>
+        requires { len ≤ 1016 }
+        ensures { length result.items ≡ len }
+    {
+        let mut zeros = ArrayVec::from([0; Self::MAX_ICV_LEN]);
+        zeros.truncate(len);
+        zeros
+    }
+
+    /// The header with these bytes before its check value.
+    #[inline(always)]
+    fn of_parts(start: [u8; 12], raw_icv: ArrayVec<u8, 1016>) -> IpAuthHeader
+        requires { IsIcvLen (length raw_icv.items) }
+        ensures { result ≡ record {
+          next_header = fields.next_header start;
+          spi = fields.spi start;
+          sequence_number = fields.sequence_number start;
+          raw_icv = raw_icv.items;
+        } }
+    {
+        IpAuthHeader {
+            next_header: IpNumber(start[0]),
+            spi: u32::from_be_bytes([start[4], start[5], start[6], start[7]]),
+            sequence_number: u32::from_be_bytes([start[8], start[9], start[10], start[11]]),
+            raw_icv,
+        }
     }
 
     /// The integrity check value with its padding, 0 to 1016 bytes.

@@ -1,15 +1,25 @@
 ghost use Rattle.std.specs.Prelude.{◌≡◌, ◌≤◌, ◌<◌, ◌+◌, ◌++◌, ℕ, List, OnOk, OnErr, IfOk, IfErr, vec_len, vec_capacity, length};
-ghost use Rattle.ip_spec.specs.Prefix.{IsPrefix};
+ghost use Rattle.std.specs.Io.KnownBytes.{Consumes};
+ghost use Rattle.ip_spec.specs.Prefix.{IsPrefix, NoPrefix};
 ghost use Rattle.ip_spec.specs.Header.{IsFragmentHeader};
 ghost use Rattle.ip_spec.specs.Fields.{is_fragment};
 ghost use Rattle.ip_spec.specs.Encoding.{AppendsOne, IsFragmentEncoding};
+ghost use Rattle.ip_spec.specs.FieldsOf.{fragment_fields};
 ghost use Rattle.ip_spec.specs.Decoding.{IsFragmentDecoding};
+ghost use Rattle.ip_spec.specs.Requests.{FragmentAsks};
+ghost use Rattle.ip_io.specs.ExactRead.{IfSteady};
+ghost use Rattle.ip_io.specs.LimitedReader.{inner_of, window};
+ghost use Rattle.ip_io.specs.Reading.{IsHeaderTaken, IsRefused, IsTakenInLayer, IsRefusedInLayer};
+ghost use Rattle.ip_base.specs.declared.err.layer.Layer.TheVariants.{Ipv6FragHeader};
 
 use crate::Ipv6FragmentHeaderSlice;
-use crate::fragment_bits::pack;
-use ip_base::err::LenError;
+use crate::fragment_bits::{pack, unpack_flag, unpack_offset};
+use ip_base::err::{Layer, LenError};
 use ip_base::{IpFragOffset, IpNumber};
+use ip_io::err::io::LimitedReadError;
+use ip_io::io::{ExactRead, LimitedReader};
 use std::alloc::{AllocError, Allocator};
+use std::io;
 use std::marker::Model;
 
 /// An IPv6 fragment header (RFC 8200, section 4.5). In a contract it is the record of its four fields.
@@ -86,6 +96,58 @@ impl Ipv6FragmentHeader {
         let header = Ipv6FragmentHeaderSlice::from_slice(slice)?;
         let rest = &slice[header.slice().len()..];
         Ok((header.to_header(), rest))
+    }
+
+    /// Reads a header: 8 bytes, and no byte beyond. The error is the reader's; after it nothing is known of what
+    /// was taken.
+    pub fn read<T: ExactRead>(reader: &mut T) -> io::Result<Ipv6FragmentHeader>
+        ensures header { IfOk result (IsHeaderTaken IsFragmentHeader fragment_fields
+            (Consumes (T.bytes_left reader.old) (T.bytes_left reader.new))) }
+        ensures kept { OnOk result (T.has_failed reader.new ≡ T.has_failed reader.old) }
+        ensures steady { T.is_steady reader.new ≡ T.is_steady reader.old }
+        ensures none { OnErr result (IfSteady (T.is_steady reader.old) (T.bytes_left reader.old)
+            (NoPrefix IsFragmentHeader)) }
+        ensures refused { OnErr result (IsRefused FragmentAsks (T.is_steady reader.old)
+            (T.bytes_left reader.old) (T.has_failed reader.new)) }
+    {
+        let mut bytes = [0; 8];
+        reader.read_exact(&mut bytes)?;
+        Ok(Self::of_bytes(bytes))
+    }
+
+    /// Reads a header within a limit, as `read` does of the bytes that may still be read. It starts the layer
+    /// `Ipv6FragHeader`. `Len` tells that the limit doesn't leave 8 bytes, and none were taken; `Io` is the
+    /// reader's error. After both `read_len` is 0.
+    pub fn read_limited<T: ExactRead>(
+        reader: &mut LimitedReader<T>,
+    ) -> Result<Ipv6FragmentHeader, LimitedReadError>
+        ensures header { IfOk result (IsHeaderTaken IsFragmentHeader fragment_fields
+            (IsTakenInLayer T.bytes_left Ipv6FragHeader reader.old reader.new)) }
+        ensures kept { OnOk result
+            (T.has_failed (inner_of reader.new) ≡ T.has_failed (inner_of reader.old)) }
+        ensures steady { T.is_steady (inner_of reader.new) ≡ T.is_steady (inner_of reader.old) }
+        ensures none { OnErr result (IfSteady (T.is_steady (inner_of reader.old))
+            (window T.bytes_left reader.old) (NoPrefix IsFragmentHeader)) }
+        ensures refused { IfErr result (IsRefusedInLayer T.bytes_left T.is_steady T.has_failed
+            FragmentAsks Ipv6FragHeader reader.old reader.new) }
+    {
+        reader.start_layer(Layer::Ipv6FragHeader);
+        let mut bytes = [0; 8];
+        reader.read_exact(&mut bytes)?;
+        Ok(Self::of_bytes(bytes))
+    }
+
+    /// The header of these bytes.
+    #[inline(always)]
+    fn of_bytes(bytes: [u8; 8]) -> Ipv6FragmentHeader
+        ensures { result ≡ fragment_fields bytes }
+    {
+        Ipv6FragmentHeader {
+            next_header: IpNumber(bytes[0]),
+            fragment_offset: unpack_offset(bytes[2], bytes[3]),
+            more_fragments: unpack_flag(bytes[3]),
+            identification: u32::from_be_bytes([bytes[4], bytes[5], bytes[6], bytes[7]]),
+        }
     }
 
     /// The header's bytes, with reserved bits zero. Read back, also with more bytes behind them, they give

@@ -1,17 +1,26 @@
 ghost use Rattle.std.specs.Prelude.{◌≡◌, ◌≤◌, ◌<◌, ◌+◌, ◌*◌, ◌++◌, ◌↔◌, ◌⊎◌, ℕ, List, length, drop, replicate, IsTrue, IsOk, OnOk, OnErr, IfOk, IfErr, vec_len, vec_capacity};
+ghost use Rattle.std.specs.Io.KnownBytes.{Consumes};
 ghost use Rattle.ip_spec.specs.Numbers.{HOP_BY_HOP, ROUTING, DESTINATION_OPTIONS};
-ghost use Rattle.ip_spec.specs.Prefix.{IsPrefix};
+ghost use Rattle.ip_spec.specs.Prefix.{IsPrefix, NoPrefix};
 ghost use Rattle.ip_spec.specs.Header.{IsRawHeader};
 ghost use Rattle.ip_spec.specs.FieldsOf.{raw_fields, raw_len};
 ghost use Rattle.ip_spec.specs.Encoding.{AppendsOne, IsRawEncoding};
 ghost use Rattle.ip_spec.specs.Decoding.{IsRawDecoding};
+ghost use Rattle.ip_spec.specs.Requests.{RawAsks};
+ghost use Rattle.ip_io.specs.ExactRead.{IfSteady};
+ghost use Rattle.ip_io.specs.LimitedReader.{inner_of, window};
+ghost use Rattle.ip_io.specs.Reading.{IsHeaderTaken, IsRefused, IsTakenInLayer, IsRefusedInLayer};
+ghost use Rattle.ip_base.specs.declared.err.layer.Layer.TheVariants.{Ipv6ExtHeader};
 
 use crate::Ipv6RawExtHeaderSlice;
 use crate::err::ipv6_exts::ExtPayloadLenError;
 use arrayvec::ArrayVec;
 use ip_base::IpNumber;
-use ip_base::err::LenError;
+use ip_base::err::{Layer, LenError};
+use ip_io::err::io::LimitedReadError;
+use ip_io::io::{ExactRead, LimitedReader};
 use std::alloc::{AllocError, Allocator};
+use std::io;
 use std::marker::Model;
 
 /// The name of this type in earlier versions of the interface.
@@ -132,6 +141,68 @@ impl Ipv6RawExtHeader {
         let header = Ipv6RawExtHeaderSlice::from_slice(slice)?;
         let rest = &slice[header.slice().len()..];
         Ok((header.to_header(), rest))
+    }
+
+    /// Reads a header: 2 bytes, then as many as the second of them tells, and no byte beyond. The error is the
+    /// reader's; after it nothing is known of what was taken.
+    pub fn read<T: ExactRead>(reader: &mut T) -> io::Result<Ipv6RawExtHeader>
+        ensures header { IfOk result (IsHeaderTaken IsRawHeader raw_fields
+            (Consumes (T.bytes_left reader.old) (T.bytes_left reader.new))) }
+        ensures kept { OnOk result (T.has_failed reader.new ≡ T.has_failed reader.old) }
+        ensures steady { T.is_steady reader.new ≡ T.is_steady reader.old }
+        ensures none { OnErr result (IfSteady (T.is_steady reader.old) (T.bytes_left reader.old)
+            (NoPrefix IsRawHeader)) }
+        ensures refused { OnErr result (IsRefused RawAsks (T.is_steady reader.old)
+            (T.bytes_left reader.old) (T.has_failed reader.new)) }
+    {
+        let mut start = [0; 2];
+        reader.read_exact(&mut start)?;
+        let [next_header, hdr_ext_len] = start;
+        let mut payload = Self::zero_payload(8 * usize::from(hdr_ext_len) + 6);
+        reader.read_exact(payload.as_mut_slice())?;
+        Ok(Ipv6RawExtHeader {
+            next_header: IpNumber(next_header),
+            payload,
+        })
+    }
+
+    /// Reads a header within a limit, as `read` does of the bytes that may still be read. It starts the layer
+    /// `Ipv6ExtHeader`. `Len` tells the first request that the limit doesn't leave, which took nothing; `Io` is
+    /// the reader's error. In both, `read_len` is what came of the header before.
+    pub fn read_limited<T: ExactRead>(
+        reader: &mut LimitedReader<T>,
+    ) -> Result<Ipv6RawExtHeader, LimitedReadError>
+        ensures header { IfOk result (IsHeaderTaken IsRawHeader raw_fields
+            (IsTakenInLayer T.bytes_left Ipv6ExtHeader reader.old reader.new)) }
+        ensures kept { OnOk result
+            (T.has_failed (inner_of reader.new) ≡ T.has_failed (inner_of reader.old)) }
+        ensures steady { T.is_steady (inner_of reader.new) ≡ T.is_steady (inner_of reader.old) }
+        ensures none { OnErr result (IfSteady (T.is_steady (inner_of reader.old))
+            (window T.bytes_left reader.old) (NoPrefix IsRawHeader)) }
+        ensures refused { IfErr result (IsRefusedInLayer T.bytes_left T.is_steady T.has_failed
+            RawAsks Ipv6ExtHeader reader.old reader.new) }
+    {
+        reader.start_layer(Layer::Ipv6ExtHeader);
+        let mut start = [0; 2];
+        reader.read_exact(&mut start)?;
+        let [next_header, hdr_ext_len] = start;
+        let mut payload = Self::zero_payload(8 * usize::from(hdr_ext_len) + 6);
+        reader.read_exact(payload.as_mut_slice())?;
+        Ok(Ipv6RawExtHeader {
+            next_header: IpNumber(next_header),
+            payload,
+        })
+    }
+
+    /// Zeros, to be read over.
+    #[inline(always)]
+    fn zero_payload(len: usize) -> ArrayVec<u8, 2046>
+        requires { len ≤ 2046 }
+        ensures { length result.items ≡ len }
+    {
+        let mut zeros = ArrayVec::from([0; Self::MAX_PAYLOAD_LEN]);
+        zeros.truncate(len);
+        zeros
     }
 
     /// What follows the number and the length, 6 to 2046 bytes.

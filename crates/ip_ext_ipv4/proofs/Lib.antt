@@ -1,2 +1,3 @@
 pub mod Ipv4Lemmas
+pub mod Ipv4ReadingLemmas
 pub mod Ipv4WalkLemmas

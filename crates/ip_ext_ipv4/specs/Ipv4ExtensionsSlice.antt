@@ -1,6 +1,6 @@
 -- What slices of IPv4 extension headers show.
 use Rattle.std.specs.Prelude.{List, [], ◌∷◌, Option, Some, None, Bool, nat_eq}
-use Rattle.std.specs.Option.{option_eq}
+use Rattle.std.specs.Option.{option_eq, option_map_or}
 use Rattle.std.specs.Ordering.{on}
 use Rattle.std.specs.Cmp.Lexicographic.{pointwise}
 use Rattle.ip_ext_headers.specs.declared.ip_auth_header_slice.IpAuthHeaderSlice.{IpAuthHeaderSlice}
@@ -9,13 +9,9 @@ use Rattle.ip_spec.specs.Numbers.{AUTHENTICATION}
 use Rattle.ip_spec.specs.Chain.{ExtHeader}
 use Rattle.ip_ext_ipv4.specs.declared.ipv4_exts_slice.Ipv4ExtensionsSlice.{Ipv4ExtensionsSlice}
 
-abbrev pub headers_of : Option IpAuthHeaderSlice → List ExtHeader
-headers_of None = []
-headers_of (Some h) = record { number = AUTHENTICATION; bytes = auth.bytes h } ∷ []
-
 -- their headers
 abbrev pub headers_in : Ipv4ExtensionsSlice → List ExtHeader
-headers_in x = headers_of x.auth
+headers_in x = option_map_or (λ h. record { number = AUTHENTICATION; bytes = auth.bytes h } ∷ []) x.auth []
 
 -- two have the same bytes, or no header
 abbrev pub same_slices : Ipv4ExtensionsSlice → Ipv4ExtensionsSlice → Bool

@@ -5,3 +5,4 @@ pub mod Ipv4Walk
 pub mod Ipv4WriteError
 pub mod Ipv4ExtensionsSlice
 pub mod Ipv4Equal
+pub mod Ipv4Reading

@@ -4,6 +4,7 @@
 
 pub mod err;
 mod ipv4_exts;
+mod ipv4_exts_read;
 mod ipv4_exts_slice;
 
 pub use ipv4_exts::Ipv4Extensions;

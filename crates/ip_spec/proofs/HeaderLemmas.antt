@@ -190,7 +190,7 @@ one_next first m r h g x y =
     (one_header m h.bytes g.bytes _ _ x.header y.header (sym (prefix-append h.bytes r x.prefix) ∙ prefix-append g.bytes r y.prefix))
 
 -- Where bytes are long enough, a header begins them.
-prefix_byte : (b s : List ℕ) → IsPrefix b s → 8 ≤ length b → slice_index b 1 ≡ slice_index s 1
+pub prefix_byte : (b s : List ℕ) → IsPrefix b s → 8 ≤ length b → slice_index b 1 ≡ slice_index s 1
 prefix_byte b s f l = sym (get_or_append_left b (drop (length b) s) 0 1 (omega arith)) ∙ ap (λ x. get_or x 1 0) (sym (prefix-append b s f))
 
 module _ (s : List ℕ) (k : ℕ) (enough : k ≤ length s) (least : 8 ≤ k) where

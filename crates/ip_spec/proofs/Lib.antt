@@ -22,3 +22,4 @@ pub mod SpellingLemmas
 pub mod LinkLemmas
 pub mod SumLemmas
 pub mod PlainFitsLemmas
+pub mod RequestLemmas

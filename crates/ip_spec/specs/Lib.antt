@@ -8,6 +8,7 @@ pub mod FieldsOf
 pub mod Cleared
 pub mod Encoding
 pub mod Decoding
+pub mod Requests
 pub mod Chain
 pub mod Demand
 pub mod Parse

@@ -16,12 +16,11 @@ fault_behind faults c n s = faults c (leads_to n c) (rest_behind c s)
 
 -- The answer for the chain c, from number n off the front of bytes s: its value x, the number m to which it leads,
 -- the rest r behind it, and the fault f there.
-module _ {X F : Type 0} (value_of : List ExtHeader → X) (faults : List ExtHeader → ℕ → List ℕ → Option F) (c : List ExtHeader) where
-  pub record IsAnswer (n : ℕ) (s : List ℕ) (x : X) (m : ℕ) (r : List ℕ) (f : Option F) : Type 0 where
-    pub value : x ≡ value_of c
-    pub number : m ≡ leads_to n c
-    pub rest : r ≡ rest_behind c s
-    pub fault : f ≡ fault_behind faults c n s
+pub record IsAnswer {X F : Type 0} (value_of : List ExtHeader → X) (faults : List ExtHeader → ℕ → List ℕ → Option F) (c : List ExtHeader) (n : ℕ) (s : List ℕ) (x : X) (m : ℕ) (r : List ℕ) (f : Option F) : Type 0 where
+  pub value : x ≡ value_of c
+  pub number : m ≡ leads_to n c
+  pub rest : r ≡ rest_behind c s
+  pub fault : f ≡ fault_behind faults c n s
 
 -- Bytes s are read from number n with nothing left: the longest chain under the demand Q takes all of them and leads
 -- to m, and its value is the one that V tells.

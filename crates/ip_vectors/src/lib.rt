@@ -14,6 +14,8 @@ mod lines;
 #[cfg(test)]
 mod places;
 #[cfg(test)]
+mod readers;
+#[cfg(test)]
 mod runs;
 #[cfg(test)]
 mod single_headers;

@@ -1,4 +1,4 @@
-ghost use Rattle.std.specs.Prelude.{◌≡◌, ◌+◌, ◌^◌, ◌<◌};
+ghost use Rattle.std.specs.Prelude.{◌≡◌, ◌+◌, ◌^◌, ◌<◌, length};
 
 use crate::LenSource;
 use crate::err::Layer;
@@ -22,6 +22,23 @@ pub struct LenError {
 }
 
 impl LenError {
+    ghost use Rattle.ip_base.specs.LenError.{too_short};
+    ghost use Rattle.ip_base.specs.declared.len_source.LenSource.TheVariants.{Slice};
+
+    /// What begins `slice` needs `required_len` bytes, which are more than it has.
+    #[inline(always)]
+    pub fn slice_too_short(slice: &[u8], layer: Layer, required_len: usize) -> LenError
+        ensures { result ≡ too_short Slice (length slice.now) 0 layer required_len }
+    {
+        LenError {
+            required_len,
+            layer_start_offset: 0,
+            len_source: LenSource::Slice,
+            layer,
+            len: slice.len(),
+        }
+    }
+
     /// The same error, told from `offset` bytes further to the front: only `layer_start_offset` grows.
     pub fn add_offset(self, offset: usize) -> LenError
         requires { self.layer_start_offset + offset < 2 ^ 64 }

@@ -1,4 +1,6 @@
 //! Errors of the base layer.
+pub mod ipv4;
+pub mod ipv6;
 mod layer;
 mod len_error;
 mod value_too_big_error;

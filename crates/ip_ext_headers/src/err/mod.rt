@@ -1,3 +1,5 @@
 //! Errors of single headers.
 pub mod ip_auth;
 pub mod ipv6_exts;
+
+pub use ip_io::err::io;

@@ -7,7 +7,7 @@ use Rattle.ip_base.specs.declared.ip_number_impl.IpNumber.{IpNumber}
 use Rattle.ip_spec.specs.Walk.{WalkAnswer, leads, hop_by_hop_not_at_start, not_referenced, IsWalkAnswer}
 use Rattle.ip_ext_chains.specs.Chain.{leads_to}
 use Rattle.ip_ext_chains.specs.Ipv6Extensions.{held}
-use Rattle.ip_ext_chains.specs.Walk.{fault_told, told}
+use Rattle.ip_ext_chains.specs.Walk.{walk_answer}
 use Rattle.ip_ext_chains.specs.Write.{IsWalkFault}
 use Rattle.ip_ext_chains.specs.WriteError.{io_of, content_of}
 use Rattle.ip_ext_chains.specs.declared.ipv6_exts.Ipv6Extensions.{Ipv6Extensions}
@@ -18,17 +18,17 @@ use Rattle.ip_ext_chains.specs.declared.err.ipv6_exts.header_write_error.HeaderW
 use Rattle.ipexts_tool.proofs.rewriteall6.write_run.Goals as goal
 
 -- a fault doesn't lead on
-no_fault : (e : ExtsWalkError) (m : ℕ) → fault_told e ≡ leads m → ⊥
+no_fault : (e : ExtsWalkError) (m : ℕ) → walk_answer (Err e) ≡ leads m → ⊥
 no_fault HopByHopNotAtStart m k = let no : hop_by_hop_not_at_start ≡ leads m = k in cc
 no_fault (ExtNotReferenced n) m k = let no : not_referenced n.0 ≡ leads m = k in cc
 
-leads_ok : (r : Result IpNumber ExtsWalkError) (m : ℕ) → told r ≡ leads m → is_ok r ≡ true
+leads_ok : (r : Result IpNumber ExtsWalkError) (m : ℕ) → walk_answer r ≡ leads m → is_ok r ≡ true
 leads_ok (Ok n) m k = refl
 leads_ok (Err e) m k = absurd (no_fault e m k)
 
 memory_only : (v : Ipv6Extensions) (n m : ℕ) (old new : List ℕ) (e : HeaderWriteError) → ((a : WalkAnswer) → IsWalkAnswer (held v) n a → a ≡ leads m) → IfSome (content_of e) (λ fault. IsWalkFault v n old new fault) → is_some (io_of e) ≡ true
 memory_only v n m old new (Io x) only k = refl
-memory_only v n m old new (Content x) only k = absurd (no_fault x m (only (fault_told x) k.answer))
+memory_only v n m old new (Content x) only k = absurd (no_fault x m (only (walk_answer (Err x)) k.answer))
 
 same_some : (o : Option (Bor AllocError)) → is_some (option_map (λ x. x.now) o) ≡ is_some o
 same_some None = refl
@@ -57,7 +57,7 @@ returns-clause-next g c = λ d s.
     let v = held c.args.run.now in
     let n = c.args.number.0 in
     same_number c.unwrap-2.result.0 (leads_to n d) (
-    sym (ap told c.unwrap-2.ensures) ∙ c.one_walk_answer.ensures.only_answer v n _ (leads (leads_to n d)) c.next_header.ensures.answer (c.walk_leads_where_the_value_is_read.ensures.spelling v n d s))
+    sym (ap walk_answer c.unwrap-2.ensures) ∙ c.one_walk_answer.ensures.only_answer v n _ (leads (leads_to n d)) c.next_header.ensures.answer (c.walk_leads_where_the_value_is_read.ensures.spelling v n d s))
 
 pub returns-clause-written : goal.returns-clause-written
 returns-clause-written g c = λ d s. (c.in_default.ensures.alike c.args.run.now d s).1 refl

@@ -1,0 +1,4 @@
+pub mod BaseLemmas
+pub mod CutLemmas
+pub mod FaultLemmas
+pub mod OnePacketLemmas

@@ -1,0 +1,45 @@
+use Rattle.std.proofs.Common.{◌∙◌, ap, sym, length, arith, Some}
+use Rattle.std.specs.Option.{option_map}
+use Rattle.ip_base.specs.Ipv4HeaderSlice.{bytes}
+use Rattle.ip_base.specs.declared.len_source.LenSource.TheVariants.{Ipv4HeaderTotalLen}
+use Rattle.etherparse_ip.specs.Fault.{auth_in_packet}
+use Rattle.etherparse_ip.proofs.CutLemmas.{AtIpv4, ipv4_packet, ipv4_behind_fault}
+use Rattle.etherparse_ip.proofs.ipv4_slice.Ipv4Slice.behind.Goals as goal
+
+at : (c : goal.In-Ok) → AtIpv4 c.args.slice.now (bytes c.args.header) c.protocol.result.0 (length c.slice-header_len.result.now) c.from-total_len.result c.after.result.now
+at c =
+    record {
+      base = c.args.header.header;
+      prefix = c.requires;
+      number = c.protocol.ensures;
+      len = ap length c.slice-header_len.ensures.bytes;
+      total = c.from-total_len.ensures ∙ c.total_len.ensures;
+      enough = omega arith;
+      within = omega arith;
+      behind = c.after.ensures;
+    }
+
+pub returns-in-Ok-clause-packet : goal.returns-in-Ok-clause-packet
+returns-in-Ok-clause-packet c =
+    ipv4_packet _ _ _ _ _ _ _ _ _ _ (at c) c.is_fragmenting_payload-fragmented.ensures c.in-Ok.ensures.answer
+
+pub returns-in-Ok-clause-fault : goal.returns-in-Ok-clause-fault
+returns-in-Ok-clause-fault c =
+    ap (option_map (auth_in_packet Ipv4HeaderTotalLen (length c.slice-header_len.result.now))) c.in-Ok.ensures.answer.fault ∙ sym (ipv4_behind_fault _ _ _ _ _ _ (at c))
+
+pub returns-in-Err-clause-fault : goal.returns-in-Err-clause-fault
+returns-in-Err-clause-fault c =
+    let at_err : AtIpv4 c.args.slice.now (bytes c.args.header) c.protocol.result.0 (length c.slice-header_len.result.now) c.from-total_len.result c.after.result.now =
+    record {
+      base = c.args.header.header;
+      prefix = c.requires;
+      number = c.protocol.ensures;
+      len = ap length c.slice-header_len.ensures.bytes;
+      total = c.from-total_len.ensures ∙ c.total_len.ensures;
+      enough = omega arith;
+      within = omega arith;
+      behind = c.after.ensures;
+    } in
+    ap Some c.in_packet.ensures
+    ∙ ap (option_map (auth_in_packet Ipv4HeaderTotalLen (length c.slice-header_len.result.now))) (sym c.in-Err.ensures.fault)
+    ∙ sym (ipv4_behind_fault _ _ _ _ _ _ at_err)

@@ -1,0 +1,38 @@
+-- A packet cut into its parts.
+use Rattle.std.specs.Prelude.{◌≡◌, ℕ, ◌≤◌, Bool, List, ◌++◌, length, drop, None}
+use Rattle.ip_base.specs.declared.len_source.LenSource.{LenSource}
+use Rattle.ip_base.specs.Ipv4Header.{IsIpv4Header, total_len, protocol, is_ipv4_fragmenting}
+use Rattle.ip_base.specs.Ipv6Header.{IsIpv6Header, payload_length, ipv6_next_header}
+use Rattle.ip_spec.specs.Chain.{ExtHeader, bytes_of, has_fragmenting}
+use Rattle.ip_ext_slices.specs.Parse.{IsChainAnswer}
+use Rattle.ip_ext_ipv4.specs.Ipv4Parse.{IsIpv4ChainAnswer}
+use Rattle.etherparse_ip.specs.LenSources.{front, ipv4_len_source, ipv6_len_source}
+
+-- its base header, its extension headers and its payload; the payload's number, whether it is a fragment, and what
+-- told where it ends
+pub record Parts : Type 0 where
+  pub base : List ℕ
+  pub headers : List ExtHeader
+  pub payload : List ℕ
+  pub number : ℕ
+  pub fragmented : Bool
+  pub source : LenSource
+
+-- Bytes s begin with an IPv4 packet of these parts (RFC 791, section 3.1). Joined they are the front of s that total
+-- length states, and behind the base header the longest chain of at most one authentication header stands.
+pub record IsIpv4Packet (s : List ℕ) (p : Parts) : Type 0 where
+  pub base : IsIpv4Header p.base
+  pub stated : total_len p.base ≤ length s
+  pub joined : p.base ++ (bytes_of p.headers ++ p.payload) ≡ front p.source (total_len p.base) s
+  pub chain : IsIpv4ChainAnswer (protocol p.base) (drop (length p.base) (front p.source (total_len p.base) s)) p.headers p.number p.payload None
+  pub fragmented : p.fragmented ≡ is_ipv4_fragmenting p.base
+  pub source : p.source ≡ ipv4_len_source
+
+-- Bytes s begin with an IPv6 packet of these parts (RFC 8200, section 3). Joined they are the front of s that its
+-- source tells, and behind the base header the longest chain stands.
+pub record IsIpv6Packet (s : List ℕ) (p : Parts) : Type 0 where
+  pub base : IsIpv6Header p.base
+  pub joined : p.base ++ (bytes_of p.headers ++ p.payload) ≡ front p.source (payload_length p.base) s
+  pub chain : IsChainAnswer (ipv6_next_header p.base) (drop (length p.base) (front p.source (payload_length p.base) s)) p.headers p.number p.payload None
+  pub fragmented : p.fragmented ≡ has_fragmenting p.headers
+  pub source : p.source ≡ ipv6_len_source (payload_length p.base) (length s)

@@ -1,0 +1,8 @@
+//! Errors of packets of either version.
+mod header_error;
+mod headers_error;
+mod slice_error;
+
+pub use header_error::HeaderError;
+pub use headers_error::HeadersError;
+pub use slice_error::SliceError;

@@ -1,0 +1,150 @@
+ghost use Rattle.std.specs.Prelude.{◌≡◌, IfOk};
+ghost use Rattle.std.specs.Result.{result_err};
+ghost use Rattle.ip_base.specs.Ipv4HeaderSlice.{bytes};
+ghost use Rattle.ip_spec.specs.Prefix.{IsPrefix};
+ghost use Rattle.ip_ext_headers.specs.Fault.{AuthOffsetFits};
+ghost use Rattle.ip_ext_ipv4.specs.Ipv4ExtensionsSlice.{headers_in};
+ghost use Rattle.etherparse_ip.specs.LenSources.{ipv4_len_source};
+ghost use Rattle.etherparse_ip.specs.Packet.{IsIpv4Packet};
+ghost use Rattle.etherparse_ip.specs.Fault.{auth_in_packet, ipv4_fault_behind, ipv4_fault};
+
+use crate::err::ipv4::{HeaderSliceError, SliceError};
+use crate::err::{Layer, LenError, ip_auth};
+use crate::stretch::after;
+use ip_base::{IpNumber, IpPayloadSlice, Ipv4HeaderSlice, LenSource};
+use ip_ext_ipv4::Ipv4ExtensionsSlice;
+
+/// An IPv4 packet (RFC 791): its base header, its extension headers and its payload, as stretches of the caller's
+/// bytes. Two are equal where all their parts are.
+#[derive(Clone, Debug, PartialEq, Eq, Drop)]
+pub struct Ipv4Slice<'a> {
+    header: Ipv4HeaderSlice<'a>,
+    exts: Ipv4ExtensionsSlice<'a>,
+    payload: IpPayloadSlice<'a>,
+}
+
+impl<'a> Ipv4Slice<'a> {
+    ghost use Rattle.etherparse_ip.specs.Ipv4Slice.{ipv4_parts};
+
+    /// The packet that begins the slice. Its payload ends where total length says; bytes behind it are left out.
+    ///
+    /// The error tells, in this order, what is wrong with the base header, that total length is below the base
+    /// header's length, that there are fewer bytes than total length, or what is wrong with the extension
+    /// headers, its offset counted from the start of the slice and its length source
+    /// `LenSource::Ipv4HeaderTotalLen`.
+    #[inline(always)]
+    pub fn from_slice(slice: &'a [u8]) -> Result<Ipv4Slice<'a>, SliceError>
+        ensures packet { IfOk result (λ x. IsIpv4Packet slice.now (ipv4_parts x)) }
+        ensures fault { result_err result ≡ ipv4_fault slice.now }
+    {
+        let header = match Ipv4HeaderSlice::from_slice(slice) {
+            Ok(header) => header,
+            Err(HeaderSliceError::Len(e)) => return Err(SliceError::Len(e)),
+            Err(HeaderSliceError::Content(e)) => return Err(SliceError::Header(e)),
+        };
+        match Self::behind(header, slice) {
+            Ok(packet) => Ok(packet),
+            Err(ip_auth::HeaderSliceError::Len(e)) => Err(SliceError::Len(e)),
+            Err(ip_auth::HeaderSliceError::Content(e)) => Err(SliceError::Exts(e)),
+        }
+    }
+
+    /// The packet that begins the slice with this base header.
+    #[inline(always)]
+    pub(crate) fn behind(
+        header: Ipv4HeaderSlice<'a>,
+        slice: &'a [u8],
+    ) -> Result<Ipv4Slice<'a>, ip_auth::HeaderSliceError>
+        requires { IsPrefix (bytes header) slice.now }
+        ensures packet { IfOk result (λ x. IsIpv4Packet slice.now (ipv4_parts x)) }
+        ensures fault { result_err result ≡ ipv4_fault_behind slice.now }
+    {
+        let header_len = header.slice().len();
+        let total_len = usize::from(header.total_len());
+        if total_len < header_len {
+            return Err(ip_auth::HeaderSliceError::Len(LenError {
+                required_len: header_len,
+                layer_start_offset: 0,
+                len_source: LenSource::Ipv4HeaderTotalLen,
+                layer: Layer::Ipv4Packet,
+                len: total_len,
+            }));
+        }
+        if slice.len() < total_len {
+            return Err(ip_auth::HeaderSliceError::Len(LenError::slice_too_short(
+                slice,
+                Layer::Ipv4Packet,
+                total_len,
+            )));
+        }
+        let front = &slice[..total_len];
+        let fragmented = header.is_fragmenting_payload();
+        match Ipv4ExtensionsSlice::from_slice(header.protocol(), after(front, header_len)) {
+            Ok((exts, ip_number, payload)) => Ok(Ipv4Slice {
+                header,
+                exts,
+                payload: IpPayloadSlice {
+                    ip_number,
+                    fragmented,
+                    len_source: LenSource::Ipv4HeaderTotalLen,
+                    payload,
+                },
+            }),
+            Err(e) => Err(in_packet(e, header_len)),
+        }
+    }
+
+    /// The base header, with its options.
+    pub fn header(&self) -> Ipv4HeaderSlice<'_>
+        ensures { bytes result ≡ (ipv4_parts self.now).base }
+    {
+        self.header
+    }
+
+    /// The extension headers: an authentication header, or none.
+    pub fn extensions(&self) -> Ipv4ExtensionsSlice<'_>
+        ensures { headers_in result ≡ (ipv4_parts self.now).headers }
+    {
+        self.exts
+    }
+
+    /// The payload, behind the extension headers.
+    pub fn payload(&self) -> &IpPayloadSlice<'a>
+        ensures bytes { result.now.payload.now ≡ (ipv4_parts self.now).payload }
+        ensures number { result.now.ip_number.0 ≡ (ipv4_parts self.now).number }
+        ensures fragmented { result.now.fragmented ≡ (ipv4_parts self.now).fragmented }
+        ensures source { result.now.len_source ≡ (ipv4_parts self.now).source }
+    {
+        &self.payload
+    }
+
+    /// The payload's number: that of the authentication header's next header, or the protocol of the base header
+    /// where there is none.
+    pub fn payload_ip_number(&self) -> IpNumber
+        ensures { result.0 ≡ (ipv4_parts self.now).number }
+    {
+        self.payload.ip_number
+    }
+
+    /// Whether the payload is a fragment and not the whole, as the base header says.
+    pub fn is_payload_fragmented(&self) -> bool
+        ensures { result ≡ (ipv4_parts self.now).fragmented }
+    {
+        self.payload.fragmented
+    }
+}
+
+/// The error of the extension headers, told from the packet's start.
+#[inline(always)]
+fn in_packet(error: ip_auth::HeaderSliceError, header_len: usize) -> ip_auth::HeaderSliceError
+    requires { AuthOffsetFits error header_len }
+    ensures { result ≡ auth_in_packet ipv4_len_source header_len error }
+{
+    match error {
+        ip_auth::HeaderSliceError::Len(e) => ip_auth::HeaderSliceError::Len(LenError {
+            len_source: LenSource::Ipv4HeaderTotalLen,
+            ..e.add_offset(header_len)
+        }),
+        ip_auth::HeaderSliceError::Content(e) => ip_auth::HeaderSliceError::Content(e),
+    }
+}

@@ -1,0 +1,206 @@
+ghost use Rattle.std.specs.Prelude.{◌≡◌, None, IfOk};
+ghost use Rattle.std.specs.Result.{result_err};
+ghost use Rattle.ip_base.specs.Ipv6Header.{payload_length};
+ghost use Rattle.ip_base.specs.Ipv6HeaderSlice.{bytes};
+ghost use Rattle.ip_spec.specs.Prefix.{IsPrefix};
+ghost use Rattle.ip_ext_slices.specs.Fault.{ExtsOffsetFits};
+ghost use Rattle.ip_ext_slices.specs.Ipv6ExtensionsSlice.{headers_in};
+ghost use Rattle.etherparse_ip.specs.Packet.{IsIpv6Packet};
+ghost use Rattle.etherparse_ip.specs.Fault.{exts_in_packet, ipv6_chain_fault};
+ghost use Rattle.etherparse_ip.specs.Fault.{ipv6_fault_behind, ipv6_lax_fault_behind, ipv6_fault, ipv6_lax_fault};
+
+use crate::err::ipv6::{HeaderSliceError, SliceError};
+use crate::err::{Layer, LenError, ipv6_exts};
+use crate::len_sources::{ipv6_front, lax_error_source, strict_error_source};
+use crate::stretch::after;
+use ip_base::{IpNumber, IpPayloadSlice, Ipv6Header, Ipv6HeaderSlice, LenSource};
+use ip_ext_slices::Ipv6ExtensionsSlice;
+
+/// An IPv6 packet (RFC 8200): its base header, its extension headers and its payload, as stretches of the caller's
+/// bytes. Two are equal where all their parts are.
+#[derive(Clone, Debug, PartialEq, Eq, Drop)]
+pub struct Ipv6Slice<'a> {
+    header: Ipv6HeaderSlice<'a>,
+    exts: Ipv6ExtensionsSlice<'a>,
+    payload: IpPayloadSlice<'a>,
+}
+
+impl<'a> Ipv6Slice<'a> {
+    ghost use Rattle.etherparse_ip.specs.Ipv6Slice.{ipv6_parts};
+
+    /// The packet that begins the slice. Its payload ends where payload length says; bytes behind it are left out.
+    /// Where payload length is 0 and bytes follow the base header, as in a jumbogram (RFC 2675), all of them
+    /// belong to the packet.
+    ///
+    /// The error tells, in this order, what is wrong with the base header, that there are fewer bytes than payload
+    /// length states, or what is wrong with the extension headers, its offset counted from the start of the slice
+    /// and its length source `LenSource::Ipv6HeaderPayloadLen`.
+    #[inline(always)]
+    pub fn from_slice(slice: &'a [u8]) -> Result<Ipv6Slice<'a>, SliceError>
+        ensures packet { IfOk result (λ x. IsIpv6Packet slice.now (ipv6_parts x)) }
+        ensures fault { result_err result ≡ ipv6_fault slice.now }
+        ensures lax { IfOk result (λ _. ipv6_lax_fault slice.now ≡ None) }
+    {
+        let header = match Ipv6HeaderSlice::from_slice(slice) {
+            Ok(header) => header,
+            Err(HeaderSliceError::Len(e)) => return Err(SliceError::Len(e)),
+            Err(HeaderSliceError::Content(e)) => return Err(SliceError::Header(e)),
+        };
+        match Self::behind(header, slice) {
+            Ok(packet) => Ok(packet),
+            Err(ipv6_exts::HeaderSliceError::Len(e)) => Err(SliceError::Len(e)),
+            Err(ipv6_exts::HeaderSliceError::Content(e)) => Err(SliceError::Exts(e)),
+        }
+    }
+
+    /// As `from_slice`, but a packet may be cut short or state no length: where there are fewer bytes than payload
+    /// length states, all of them belong to it. The payload's `len_source` tells whether it ends where the slice
+    /// does.
+    ///
+    /// The error is that of `from_slice`, but it doesn't tell that the packet is cut short, and the length source
+    /// of an error in the extension headers is the one that told the packet's length.
+    #[inline(always)]
+    pub fn from_slice_lax(slice: &'a [u8]) -> Result<Ipv6Slice<'a>, SliceError>
+        ensures packet { IfOk result (λ x. IsIpv6Packet slice.now (ipv6_parts x)) }
+        ensures fault { result_err result ≡ ipv6_lax_fault slice.now }
+    {
+        let header = match Ipv6HeaderSlice::from_slice(slice) {
+            Ok(header) => header,
+            Err(HeaderSliceError::Len(e)) => return Err(SliceError::Len(e)),
+            Err(HeaderSliceError::Content(e)) => return Err(SliceError::Header(e)),
+        };
+        match Self::behind_lax(header, slice) {
+            Ok(packet) => Ok(packet),
+            Err(ipv6_exts::HeaderSliceError::Len(e)) => Err(SliceError::Len(e)),
+            Err(ipv6_exts::HeaderSliceError::Content(e)) => Err(SliceError::Exts(e)),
+        }
+    }
+
+    /// The packet that begins the slice with this base header, which has the length that it states.
+    #[inline(always)]
+    pub(crate) fn behind(
+        header: Ipv6HeaderSlice<'a>,
+        slice: &'a [u8],
+    ) -> Result<Ipv6Slice<'a>, ipv6_exts::HeaderSliceError>
+        requires { IsPrefix (bytes header) slice.now }
+        ensures packet { IfOk result (λ x. IsIpv6Packet slice.now (ipv6_parts x)) }
+        ensures fault { result_err result ≡ ipv6_fault_behind slice.now }
+    {
+        let payload_length = header.payload_length();
+        let required_len = Ipv6Header::LEN + usize::from(payload_length);
+        if slice.len() < required_len {
+            return Err(ipv6_exts::HeaderSliceError::Len(LenError::slice_too_short(
+                slice,
+                Layer::Ipv6Packet,
+                required_len,
+            )));
+        }
+        let error_source = strict_error_source(payload_length, slice.len());
+        Self::cut(header, slice, error_source)
+    }
+
+    /// The packet that begins the slice with this base header, cut short or not.
+    #[inline(always)]
+    fn behind_lax(
+        header: Ipv6HeaderSlice<'a>,
+        slice: &'a [u8],
+    ) -> Result<Ipv6Slice<'a>, ipv6_exts::HeaderSliceError>
+        requires { IsPrefix (bytes header) slice.now }
+        ensures packet { IfOk result (λ x. IsIpv6Packet slice.now (ipv6_parts x)) }
+        ensures fault { result_err result ≡ ipv6_lax_fault_behind slice.now }
+    {
+        let error_source = lax_error_source(header.payload_length(), slice.len());
+        Self::cut(header, slice, error_source)
+    }
+
+    /// The packet that begins the slice with this base header, cut short or not. An error of a length in its
+    /// extension headers names the source.
+    #[inline(always)]
+    fn cut(
+        header: Ipv6HeaderSlice<'a>,
+        slice: &'a [u8],
+        error_source: LenSource,
+    ) -> Result<Ipv6Slice<'a>, ipv6_exts::HeaderSliceError>
+        requires { IsPrefix (bytes header) slice.now }
+        ensures packet { IfOk result (λ x. IsIpv6Packet slice.now (ipv6_parts x)) }
+        ensures fault { result_err result ≡ ipv6_chain_fault error_source slice.now }
+    {
+        let payload_length = header.payload_length();
+        let (front, len_source) = ipv6_front(payload_length, slice);
+        let header_len = header.slice().len();
+        match Ipv6ExtensionsSlice::from_slice(header.next_header(), after(front, header_len)) {
+            Ok((exts, ip_number, payload)) => {
+                let fragmented = exts.is_fragmenting_payload();
+                Ok(Ipv6Slice {
+                    header,
+                    exts,
+                    payload: IpPayloadSlice {
+                        ip_number,
+                        fragmented,
+                        len_source,
+                        payload,
+                    },
+                })
+            }
+            Err(e) => Err(in_packet(e, error_source, header_len)),
+        }
+    }
+
+    /// The base header.
+    pub fn header(&self) -> Ipv6HeaderSlice<'a>
+        ensures { bytes result ≡ (ipv6_parts self.now).base }
+    {
+        self.header
+    }
+
+    /// The extension headers.
+    pub fn extensions(&self) -> &Ipv6ExtensionsSlice<'a>
+        ensures { headers_in result.now ≡ (ipv6_parts self.now).headers }
+    {
+        &self.exts
+    }
+
+    /// The payload, behind the extension headers.
+    pub fn payload(&self) -> &IpPayloadSlice<'a>
+        ensures bytes { result.now.payload.now ≡ (ipv6_parts self.now).payload }
+        ensures number { result.now.ip_number.0 ≡ (ipv6_parts self.now).number }
+        ensures fragmented { result.now.fragmented ≡ (ipv6_parts self.now).fragmented }
+        ensures source { result.now.len_source ≡ (ipv6_parts self.now).source }
+    {
+        &self.payload
+    }
+
+    /// The payload's number: the next header of the last extension header, or of the base header where there is
+    /// none.
+    pub fn payload_ip_number(&self) -> IpNumber
+        ensures { result.0 ≡ (ipv6_parts self.now).number }
+    {
+        self.payload.ip_number
+    }
+
+    /// Whether the payload is a fragment and not the whole: some fragment header of the chain says so.
+    pub fn is_payload_fragmented(&self) -> bool
+        ensures { result ≡ (ipv6_parts self.now).fragmented }
+    {
+        self.payload.fragmented
+    }
+}
+
+/// The error of the extension headers, told from the packet's start.
+#[inline(always)]
+fn in_packet(
+    error: ipv6_exts::HeaderSliceError,
+    len_source: LenSource,
+    header_len: usize,
+) -> ipv6_exts::HeaderSliceError
+    requires { ExtsOffsetFits error header_len }
+    ensures { result ≡ exts_in_packet len_source header_len error }
+{
+    match error {
+        ipv6_exts::HeaderSliceError::Len(e) => ipv6_exts::HeaderSliceError::Len(LenError {
+            len_source,
+            ..e.add_offset(header_len)
+        }),
+        ipv6_exts::HeaderSliceError::Content(e) => ipv6_exts::HeaderSliceError::Content(e),
+    }
+}

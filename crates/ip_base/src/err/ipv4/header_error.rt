@@ -1,0 +1,15 @@
+/// What is wrong in the bytes of an IPv4 base header.
+#[derive(Clone, Debug, PartialEq, Eq, Hash, Drop)]
+pub enum HeaderError {
+    /// The version isn't 4.
+    UnexpectedVersion {
+        /// The version, the high half of byte 0.
+        version_number: u8,
+    },
+    /// The internet header length is below 5, the length of a header without options in units of 4 bytes (RFC
+    /// 791, section 3.1).
+    HeaderLengthSmallerThanHeader {
+        /// The internet header length, the low half of byte 0.
+        ihl: u8,
+    },
+}

@@ -1,0 +1,137 @@
+ghost use Rattle.std.specs.Prelude.{◌≡◌, ◌≤◌, length, IfOk};
+ghost use Rattle.std.specs.Result.{result_err};
+ghost use Rattle.std.specs.Net.Addr.{ipv6_octets};
+ghost use Rattle.ip_spec.specs.Prefix.{IsPrefix};
+ghost use Rattle.ip_base.specs.Ipv4Header.{version};
+ghost use Rattle.ip_base.specs.Ipv6Header.{IsIpv6Header, ipv6_header_fault};
+ghost use Rattle.ip_base.specs.Ipv6Header.{payload_length, ipv6_next_header};
+ghost use Rattle.ip_base.specs.Ipv6Header.{ipv6_source_octets, ipv6_destination_octets};
+
+use crate::err::ipv6::{HeaderError, HeaderSliceError};
+use crate::err::{Layer, LenError};
+use crate::{IpNumber, Ipv6Header};
+use std::net::Ipv6Addr;
+
+/// The base header of an IPv6 packet (RFC 8200, section 3), as a stretch of the caller's bytes. Two are equal
+/// where their bytes are.
+#[derive(Clone, Copy, Debug)]
+pub struct Ipv6HeaderSlice<'a> {
+    slice: &'a [u8],
+    pub ghost header: { IsIpv6Header slice.now },
+}
+
+impl<'a> Ipv6HeaderSlice<'a> {
+    ghost use Rattle.ip_base.specs.Ipv6HeaderSlice.{bytes};
+
+    /// The header that begins the slice. The error tells that there are fewer than 40 bytes, else that the
+    /// version isn't 6.
+    pub fn from_slice(slice: &'a [u8]) -> Result<Ipv6HeaderSlice<'a>, HeaderSliceError>
+        ensures prefix { IfOk result (λ h. IsPrefix (bytes h) slice.now) }
+        ensures header { IfOk result (λ h. IsIpv6Header (bytes h)) }
+        ensures fault { result_err result ≡ ipv6_header_fault slice.now }
+    {
+        if slice.len() < Ipv6Header::LEN {
+            return Err(HeaderSliceError::Len(LenError::slice_too_short(
+                slice,
+                Layer::Ipv6Header,
+                Ipv6Header::LEN,
+            )));
+        }
+        let version_number = slice[0] >> 4;
+        if version_number != 6 {
+            return Err(HeaderSliceError::Content(HeaderError::UnexpectedVersion {
+                version_number,
+            }));
+        }
+        Ok(Self::first(slice, Ipv6Header::LEN))
+    }
+
+    /// The header that is the first `len` bytes.
+    #[inline(always)]
+    fn first(slice: &'a [u8], len: usize) -> Ipv6HeaderSlice<'a>
+        requires len { len ≡ 40 }
+        requires enough { len ≤ length slice.now }
+        requires version { version slice.now ≡ 6 }
+        ensures prefix { IsPrefix (bytes result) slice.now }
+        ensures header { IsIpv6Header (bytes result) }
+    {
+        Ipv6HeaderSlice {
+            slice: &slice[..len],
+        }
+    }
+
+    /// The header's 40 bytes.
+    pub fn slice(&self) -> &'a [u8]
+        ensures bytes { result.now ≡ bytes self.now }
+        ensures header { IsIpv6Header result.now }
+    {
+        self.slice
+    }
+
+    /// How many bytes follow the header in the packet; 0 also in a packet of more bytes than the field can
+    /// tell (RFC 2675).
+    pub fn payload_length(&self) -> u16
+        ensures { result ≡ payload_length (bytes self.now) }
+    {
+        u16::from_be_bytes([self.slice[4], self.slice[5]])
+    }
+
+    /// The number of what follows the header.
+    pub fn next_header(&self) -> IpNumber
+        ensures { result.0 ≡ ipv6_next_header (bytes self.now) }
+    {
+        IpNumber(self.slice[6])
+    }
+
+    /// The address of the packet's sender.
+    pub fn source_addr(&self) -> Ipv6Addr
+        ensures { ipv6_octets result ≡ ipv6_source_octets (bytes self.now) }
+    {
+        address(&self.slice[8..24])
+    }
+
+    /// The address of the packet's receiver, or of the next node of a routing header (RFC 8200, section 4.4).
+    pub fn destination_addr(&self) -> Ipv6Addr
+        ensures { ipv6_octets result ≡ ipv6_destination_octets (bytes self.now) }
+    {
+        address(&self.slice[24..40])
+    }
+}
+
+/// The address of 16 octets.
+fn address(octets: &[u8]) -> Ipv6Addr
+    requires { length octets.now ≡ 16 }
+    ensures { ipv6_octets result ≡ octets.now }
+{
+    match <[u8; 16]>::try_from(octets) {
+        Ok(octets) => Ipv6Addr::from_octets(octets),
+        Err(_) => unreachable!(),
+    }
+}
+
+impl PartialEq for Ipv6HeaderSlice<'_> {
+    ghost use Rattle.std.specs.Prelude.{◌↔◌, IsTrue, nat_eq};
+    ghost use Rattle.std.specs.Ordering.{on};
+    ghost use Rattle.std.specs.Cmp.Lexicographic.{pointwise};
+    ghost use Rattle.std.specs.Cmp.Rules.{comparing};
+    ghost use Rattle.std.proofs.Common.{rules};
+    ghost use Rattle.ip_base.specs.Ipv6HeaderSlice.{bytes};
+
+    ghost eq = { on bytes (pointwise nat_eq) };
+
+    ghost laws = { Prim.search (comparing, rules) };
+
+    fn eq(&self, other: &Self) -> bool
+        ensures answer { result ≡ on bytes (pointwise nat_eq) self.now other.now }
+        ensures same { IsTrue result ↔ (bytes self.now ≡ bytes other.now) }
+    {
+        self.slice == other.slice
+    }
+}
+
+impl Eq for Ipv6HeaderSlice<'_> {
+    ghost use Rattle.std.specs.Cmp.Rules.{comparing};
+    ghost use Rattle.std.proofs.Common.{rules};
+
+    ghost laws = { Prim.search (comparing, rules) };
+}

@@ -1,0 +1,31 @@
+-- Why bytes begin with no authentication header.
+use Rattle.std.proofs.Common.{Bool, ◌≡◌, ℕ, ◌+◌, ◌*◌, ◌<◌, ◌≤◌, List, ◌++◌, length, refl, arith, length-append, slice_index, ap}
+use Rattle.ip_base.specs.declared.err.layer.Layer.TheVariants.{IpAuthHeader}
+use Rattle.ip_base.specs.declared.len_source.LenSource.TheVariants.{Slice}
+use Rattle.ip_spec.specs.Requests.{AuthAsks}
+use Rattle.std.specs.Prelude.{Option}
+use Rattle.ip_ext_headers.proofs.FaultLemmas.{auth_asks_fault}
+use Rattle.ip_io.specs.Reading.{IsRefusedInLayer}
+use Rattle.ip_io.specs.LimitedReader.{inner_of, window}
+use Rattle.ip_io.specs.declared.err.io.limited_read_error.LimitedReadError.{LimitedReadError}
+use Rattle.ip_io.specs.declared.err.io.limited_read_error.LimitedReadError.TheVariants as limit
+use Rattle.ip_io.specs.declared.io.limited_reader.LimitedReader.{LimitedReader}
+use Rattle.ip_io.proofs.ReadingLemmas.{refused_within_short, past_limit_short}
+use Rattle.ip_ext_headers.specs.AuthReading.{IsTooShort, IsAuthRefusedInLayer, IsSliceErrorInLayer, of_limited_error}
+
+-- too few bytes are behind those that came
+pub auth_short : (done : List ℕ) (count : ℕ) (xs : List ℕ) → AuthAsks done count → length xs < count → IsTooShort (done ++ xs)
+auth_short done count xs a few = auth_asks_fault Slice (length (done ++ xs)) 0 done count xs few a
+
+module _ {T : Type 0} (bytes_left : T → Option (List ℕ)) (is_steady has_failed : T → Bool) (old new : LimitedReader T) where
+  -- a refused request of an authentication header is its refusal
+  pub limited_refused : (e : LimitedReadError) → IsRefusedInLayer bytes_left is_steady has_failed AuthAsks IpAuthHeader old new e
+      → IsAuthRefusedInLayer bytes_left is_steady has_failed old new (of_limited_error e)
+  limited_refused (limit.Io e) r = r
+  limited_refused (limit.Len e) r = r
+
+  -- and tells that the window is too short
+  pub limited_short : (e : LimitedReadError) → IsRefusedInLayer bytes_left is_steady has_failed AuthAsks IpAuthHeader old new e
+      → IsSliceErrorInLayer (is_steady (inner_of old)) (window bytes_left old) (of_limited_error e)
+  limited_short (limit.Io e) r = refused_within_short AuthAsks IsTooShort auth_short bytes_left is_steady has_failed IpAuthHeader old new r
+  limited_short (limit.Len e) r = past_limit_short AuthAsks IsTooShort auth_short bytes_left is_steady has_failed IpAuthHeader old new e r

@@ -1,0 +1,88 @@
+-- The fault at bytes: none at a header, and one where a request of a header finds too few bytes.
+use Rattle.std.proofs.Common.{◌≡◌, ℕ, ◌+◌, ◌*◌, ◌<◌, ◌≤◌, List, ◌++◌, length, refl, sym, arith, length-append, slice_index, ap, inl, inr}
+use Rattle.std.specs.Prelude.{Some, None}
+use Rattle.std.proofs.lemmas.Bool.{cases_lt, lt-ltb, le-ltb, ne_eqb}
+use Rattle.std.proofs.lemmas.List.{get_or_append_left}
+use Rattle.ip_base.specs.LenError.{too_short}
+use Rattle.ip_base.specs.declared.err.len_error.LenError.{LenError}
+use Rattle.ip_base.specs.declared.err.layer.Layer.TheVariants.{Ipv6ExtHeader, Ipv6FragHeader, IpAuthHeader}
+use Rattle.ip_base.specs.declared.len_source.LenSource.{LenSource}
+use Rattle.ip_spec.specs.Prefix.{IsPrefix}
+use Rattle.ip_spec.specs.Header.{IsRawHeader, IsFragmentHeader, IsAuthHeader}
+use Rattle.ip_spec.specs.Requests.{RawAsks, raw_start, raw_rest, FragmentAsks, fragment_whole, AuthAsks, auth_start, auth_icv, IsZeroLength}
+use Rattle.ip_spec.proofs.PrefixLemmas.{prefix-length}
+use Rattle.ip_spec.proofs.HeaderLemmas.{prefix_byte}
+use Rattle.ip_ext_headers.specs.Fault.{raw_fault, fragment_fault, auth_fault}
+use Rattle.ip_ext_headers.specs.declared.err.ip_auth.header_error.HeaderError.TheVariants.{ZeroPayloadLen}
+use Rattle.ip_ext_headers.specs.declared.err.ip_auth.header_slice_error.HeaderSliceError.TheVariants.{Len, Content}
+
+module _ (source : LenSource) (n k : ℕ) where
+  pub raw_at_header : (b s : List ℕ) → IsRawHeader b → IsPrefix b s → raw_fault source n k s ≡ None
+  raw_at_header b s h p =
+      let same : slice_index b 1 ≡ slice_index s 1 = prefix_byte b s p h.least in
+      let enough = prefix-length b s p in
+      rw (le-ltb (length s) 8 (omega (arith, h.least)), le-ltb (length s) (8 * (slice_index s 1 + 1)) (omega (arith, h.len))) refl
+
+  pub fragment_at_header : (b s : List ℕ) → IsFragmentHeader b → IsPrefix b s → fragment_fault source n k s ≡ None
+  fragment_at_header b s h p =
+      let enough = prefix-length b s p in
+      rw (le-ltb (length s) 8 (omega (arith, h.len))) refl
+
+  pub auth_at_header : (b s : List ℕ) → IsAuthHeader b → IsPrefix b s → auth_fault source n k s ≡ None
+  auth_at_header b s h p =
+      let same : slice_index b 1 ≡ slice_index s 1 = prefix_byte b s p (omega (arith, h.not_zero, h.len)) in
+      let enough = prefix-length b s p in
+      rw (
+        le-ltb (length s) 12 (omega (arith, h.not_zero, h.len)),
+        ne_eqb (slice_index s 1) 0 (omega (arith, h.not_zero)),
+        le-ltb (length s) (4 * (slice_index s 1 + 2)) (omega (arith, h.len)),
+      ) refl
+
+  raw_rest_fault : (s : List ℕ) → length s < 8 * (slice_index s 1 + 1) → (e : LenError) × (raw_fault source n k s ≡ Some e)
+  raw_rest_fault s few = elim (cases_lt (length s) 8) [
+    | inl less ↦ (too_short source n k Ipv6ExtHeader 8, rw (lt-ltb (length s) 8 less) refl)
+    | inr more ↦ (too_short source n k Ipv6ExtHeader (8 * (slice_index s 1 + 1)), rw (le-ltb (length s) 8 more, lt-ltb (length s) (8 * (slice_index s 1 + 1)) few) refl)
+  ]
+
+  -- where a request behind the bytes that came finds too few
+  module _ (done : List ℕ) (count : ℕ) (xs : List ℕ) (few : length xs < count) where
+    pub raw_asks_fault : RawAsks done count → (e : LenError) × (raw_fault source n k (done ++ xs) ≡ Some e)
+    raw_asks_fault a = elim a [
+      | raw_start none c ↦ (
+        too_short source n k Ipv6ExtHeader 8,
+        rw (lt-ltb (length (done ++ xs)) 8 (omega (arith, length-append done xs, ap length none, few))) refl,
+      )
+      | raw_rest len c ↦ raw_rest_fault (done ++ xs) (omega (arith, length-append done xs, get_or_append_left done xs 0 1 (omega arith), few))
+    ]
+
+    pub fragment_asks_fault : FragmentAsks done count → (e : LenError) × (fragment_fault source n k (done ++ xs) ≡ Some e)
+    fragment_asks_fault a = elim a [
+      | fragment_whole none c ↦ (
+        too_short source n k Ipv6FragHeader 8,
+        rw (lt-ltb (length (done ++ xs)) 8 (omega (arith, length-append done xs, ap length none, few))) refl,
+      )
+    ]
+
+    pub auth_asks_fault : AuthAsks done count → (e : LenError) × (auth_fault source n k (done ++ xs) ≡ Some (Len e))
+    auth_asks_fault a = elim a [
+      | auth_start none c ↦ (
+        too_short source n k IpAuthHeader 12,
+        rw (lt-ltb (length (done ++ xs)) 12 (omega (arith, length-append done xs, ap length none, few))) refl,
+      )
+      | auth_icv len z c ↦
+        let byte : slice_index (done ++ xs) 1 ≡ slice_index done 1 = get_or_append_left done xs 0 1 (omega arith) in (
+          too_short source n k IpAuthHeader (4 * (slice_index (done ++ xs) 1 + 2)),
+          rw (
+            le-ltb (length (done ++ xs)) 12 (omega (arith, length-append done xs)),
+            ne_eqb (slice_index (done ++ xs) 1) 0 (omega arith),
+            lt-ltb (length (done ++ xs)) (4 * (slice_index (done ++ xs) 1 + 2)) (omega (arith, length-append done xs, few)),
+          ) refl,
+        )
+    ]
+
+  -- where the bytes that came tell a length of zero
+  pub auth_zero_fault : (done xs : List ℕ) → IsZeroLength done → auth_fault source n k (done ++ xs) ≡ Some (Content ZeroPayloadLen)
+  auth_zero_fault done xs z =
+      let byte : slice_index (done ++ xs) 1 ≡ slice_index done 1 = get_or_append_left done xs 0 1 (omega (arith, z.len)) in
+      let zero : slice_index (done ++ xs) 1 ≡ 0 = omega (arith, z.zero) in
+      rw (le-ltb (length (done ++ xs)) 12 (omega (arith, z.len, length-append done xs)), zero) refl

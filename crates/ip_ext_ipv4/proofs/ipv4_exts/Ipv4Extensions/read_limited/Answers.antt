@@ -1,0 +1,16 @@
+use Rattle.std.proofs.Common.{◌≡◌, ℕ, [], ap, arith}
+use Rattle.std.proofs.KnownBytes.{Consumes-nil}
+use Rattle.ip_spec.specs.FieldsOf.{AuthFields}
+use Rattle.ip_ext_ipv4.proofs.Ipv4ReadingLemmas.{none_answers, one_answers, limited_error_same}
+use Rattle.ip_ext_ipv4.proofs.ipv4_exts.Ipv4Extensions.read_limited.Goals as goal
+
+pub returns-then-ne-clause-answer : goal.returns-then-ne-clause-answer
+returns-then-ne-clause-answer g c = record { bytes = []; taken = Consumes-nil _; answer = none_answers _ (grind arith) }
+
+pub returns-in-Ok-clause-answer : goal.returns-in-Ok-clause-answer
+returns-in-Ok-clause-answer g c =
+    let t = c.in-Ok.ensures.header in
+    record { bytes = t.bytes; taken = t.taken.window; answer = one_answers _ t.bytes _ _ (grind arith) t.header t.fields (ap (λ (h : AuthFields). h.next_header) c.header.view_is) }
+
+pub returns-in-Err-clause-fault : goal.returns-in-Err-clause-fault
+returns-in-Err-clause-fault g c = limited_error_same _ (grind arith) _ _ _ c.in-Err.ensures.fault

@@ -1,0 +1,5 @@
+pub mod ExactRead
+pub mod OverRead
+pub mod Limits
+pub mod LimitedReader
+pub mod Reading

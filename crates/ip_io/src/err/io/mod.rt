@@ -1,0 +1,4 @@
+//! Errors of reading.
+mod limited_read_error;
+
+pub use limited_read_error::LimitedReadError;

@@ -1,0 +1,2 @@
+//! Errors of readers.
+pub mod io;

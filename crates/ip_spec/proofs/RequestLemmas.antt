@@ -1,0 +1,48 @@
+-- Headers that come in parts.
+use Rattle.std.proofs.Common.{◌≡◌, ℕ, ◌+◌, ◌-◌, ◌*◌, ◌<◌, ◌≤◌, List, [], ◌∷◌, ◌++◌, length, take, drop, refl, ap, sym, ◌∙◌, arith, slice_index, get_or, length-append, length-drop}
+use Rattle.std.specs.Prelude.{slice_range}
+use Rattle.std.specs.Int.{from_be_bytes, w32}
+use Rattle.std.proofs.lemmas.List.{get_or_append_left, take-append-le, drop-append-le}
+use Rattle.std.proofs.Math.Seq.{drop-append_seam}
+use Rattle.ip_spec.specs.Header.{IsRawHeader, IsAuthHeader}
+use Rattle.ip_spec.specs.Fields.{next_header, spi, sequence_number}
+use Rattle.ip_spec.specs.FieldsOf.{RawFields, AuthFields, raw_fields, auth_fields}
+
+-- the fields of a header with h before its check value
+abbrev pub with_icv : List ℕ → List ℕ → AuthFields
+with_icv h p = record { next_header = next_header h; spi = spi h; sequence_number = sequence_number h; raw_icv = p }
+
+module _ (h p : List ℕ) where
+  index_of_joined : (i : ℕ) → i < length h → slice_index (h ++ p) i ≡ slice_index h i
+  index_of_joined i l = get_or_append_left h p 0 i l
+
+  behind : (n : ℕ) → length h ≡ n → drop n (h ++ p) ≡ p
+  behind n e = ap (λ (k : ℕ). drop k (h ++ p)) (sym e) ∙ drop-append_seam h p
+
+  pub raw_joined : length h ≡ 2 → length p ≡ 8 * slice_index h 1 + 6 → IsRawHeader (h ++ p)
+  raw_joined e f = record {
+    least = omega (arith, length-append h p);
+    len = omega (arith, length-append h p, index_of_joined 1 (omega arith));
+  }
+
+  pub raw_joined_fields : length h ≡ 2 → raw_fields (h ++ p) ≡ record { next_header = next_header h; payload = p }
+  raw_joined_fields e =
+      let fields : ℕ → List ℕ → RawFields = λ n q. record { next_header = n; payload = q } in
+      ap (λ (n : ℕ). fields n (drop 2 (h ++ p))) (index_of_joined 0 (omega arith)) ∙ ap (fields (slice_index h 0)) (behind 2 e)
+
+  pub auth_joined : length h ≡ 12 → 1 ≤ slice_index h 1 → length p ≡ 4 * (slice_index h 1 - 1) → IsAuthHeader (h ++ p)
+  auth_joined e l f = record {
+    not_zero = omega (arith, index_of_joined 1 (omega arith));
+    len = omega (arith, length-append h p, index_of_joined 1 (omega arith));
+  }
+
+  word_of_joined : (i : ℕ) → i + 4 ≤ length h → take 4 (drop i (h ++ p)) ≡ take 4 (drop i h)
+  word_of_joined i l = ap (take 4) (drop-append-le i h p (omega arith)) ∙ take-append-le 4 (drop i h) p (omega (arith, length-drop i h))
+
+  pub auth_joined_fields : length h ≡ 12 → auth_fields (h ++ p) ≡ with_icv h p
+  auth_joined_fields e =
+      let fields : ℕ → List ℕ → List ℕ → List ℕ → AuthFields = λ n a b q. record { next_header = n; spi = from_be_bytes w32 a; sequence_number = from_be_bytes w32 b; raw_icv = q } in
+      ap (λ (n : ℕ). fields n (slice_range (h ++ p) 4 8) (slice_range (h ++ p) 8 12) (drop 12 (h ++ p))) (index_of_joined 0 (omega arith))
+      ∙ ap (λ (a : List ℕ). fields (slice_index h 0) a (slice_range (h ++ p) 8 12) (drop 12 (h ++ p))) (word_of_joined 4 (omega arith))
+      ∙ ap (λ (b : List ℕ). fields (slice_index h 0) (slice_range h 4 8) b (drop 12 (h ++ p))) (word_of_joined 8 (omega arith))
+      ∙ ap (fields (slice_index h 0) (slice_range h 4 8) (slice_range h 8 12)) (behind 12 e)

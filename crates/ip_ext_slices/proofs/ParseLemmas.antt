@@ -1,7 +1,9 @@
 -- What the parse knows of the chain that it has read, and what follows where no header goes on.
 use Rattle.std.proofs.Common.{◌≡◌, ℕ, refl, arith, inl, inr, subst, ◌-◌, List, [], ◌∷◌, ◌++◌, length, take, drop, ap, sym, ◌∙◌, Bool, nat_eq}
-use Rattle.std.specs.Prelude.{◌==◌, ◌&&◌, ◌||◌, Option}
+use Rattle.std.specs.Prelude.{◌==◌, ◌&&◌, ◌||◌, Option, None}
 use Rattle.std.specs.List.{AllByRecursion}
+use Rattle.std.proofs.lemmas.Iterator.{YieldsList}
+use Rattle.std.proofs.lemmas.Iterator.Consumers.{YieldsList-from_shown}
 use Rattle.std.proofs.Math.Bool.{or-false, or_assoc}
 use Rattle.std.proofs.lemmas.Bool.Decides.{eqb_tells}
 use Rattle.ip_spec.specs.Header.{IsHeader}
@@ -14,6 +16,9 @@ use Rattle.ip_spec.proofs.ReadLemmas.{HasRead, has_read_on, offset_is, no_next_h
 use Rattle.ip_ext_slices.specs.Longest.{longest_chain, longest_from}
 use Rattle.ip_ext_slices.specs.Fault.{Fault, slice_fault, chain_fault}
 use Rattle.ip_ext_slices.specs.Parse.{IsChainAnswer}
+use Rattle.ip_ext_slices.specs.Ipv6ExtensionSlice.{header_of}
+use Rattle.ip_ext_slices.specs.Ipv6ExtensionsCursor.{headers_left, GivesHeader}
+use Rattle.ip_ext_slices.specs.declared.ipv6_exts_cursor.Ipv6ExtensionsCursor.{Ipv6ExtensionsCursor}
 use Rattle.ip_ext_slices.proofs.LongestLemmas.{longest_chain-longest, longest_chain-is, longest_chain-bytes_of, longest_from-end}
 
 -- a fragment header that fragments the payload
@@ -110,3 +115,12 @@ cursor_at_end n s first m r leads behind e =
       ends = ends_behind n s _ len m r number rest;
       answers = λ f is. record { value = refl; number = number; rest = rest; fault = is ∙ sym (chain_fault_is n s _ len m r number rest) };
     }
+
+-- what a cursor yields
+ended : (c d : Ipv6ExtensionsCursor) → GivesHeader c None d → length (headers_left c) ≡ 0
+ended c d e = ap length e.0.0
+
+pub cursor_yields : (c : Ipv6ExtensionsCursor) (all : List ExtHeader) → headers_left c ≡ all → YieldsList GivesHeader header_of c all
+cursor_yields c all e =
+    let Y : List ExtHeader → Type 0 = YieldsList GivesHeader header_of c in
+    subst Y e (YieldsList-from_shown GivesHeader header_of headers_left ended (λ d x t g. g.0) c)

@@ -96,20 +96,15 @@ impl<'a> Ipv6ExtensionsCursor<'a> {
 impl<'a> Iterator for Ipv6ExtensionsCursor<'a> {
     type Item = Ipv6ExtensionSlice<'a>;
 
-    ghost use Rattle.std.specs.Prelude.{⊤};
-    ghost use Rattle.std.specs.Iterator.{YieldsFirstBy, item_count, MakesProgress};
-    ghost use Rattle.ip_ext_slices.specs.Ipv6ExtensionSlice.{header_of};
+    ghost use Rattle.std.specs.Iterator.{item_count};
     ghost use Rattle.ip_ext_slices.specs.Ipv6ExtensionsCursor.{headers_left, GivesHeader};
 
-    ghost next_gives = { YieldsFirstBy header_of headers_left };
+    ghost next_gives = { GivesHeader };
 
     ghost remaining = { item_count headers_left };
 
     #[inline(always)]
-    fn next(&mut self) -> Option<Ipv6ExtensionSlice<'a>>
-        ensures steps { GivesHeader self.old result self.new }
-        ensures goes { MakesProgress (λ _. ⊤) (item_count headers_left) self.old result self.new }
-    {
+    fn next(&mut self) -> Option<Ipv6ExtensionSlice<'a>> {
         let first = self.rest.len() == self.bytes.len();
         let Some(header) = header_at(first, self.number, self.rest) else {
             return None;

@@ -22,5 +22,4 @@ pub mod WalkStepLemmas
 pub mod SpellingLemmas
 pub mod LinkLemmas
 pub mod SumLemmas
-pub mod PlainFitsLemmas
 pub mod RequestLemmas

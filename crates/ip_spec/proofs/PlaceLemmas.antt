@@ -78,7 +78,7 @@ own_place m behind x =
       | inr r ↦ elim r [ inl e ↦ subst P (sym e) (_, refl) | inr e ↦ subst P (sym e) (_, refl) ]
     ]
 
-is_extension : (p : Place) → IsExtensionNumber (number_in p)
+pub is_extension : (p : Place) → IsExtensionNumber (number_in p)
 is_extension hop_by_hop = inl (inl refl)
 is_extension routing = inl (inr (inl refl))
 is_extension fragment = inr (inl refl)

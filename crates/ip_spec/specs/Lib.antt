@@ -21,4 +21,3 @@ pub mod Walk
 pub mod Links
 pub mod Encodable
 pub mod WalkStep
-pub mod PlainHeader

@@ -1,12 +1,10 @@
-//! What a header, a chain of headers and the longest chain are, over plain lists of bytes; the laws of
-//! these notions; and a plain slow program that computes them.
+//! What a header, a chain of headers and the longest chain are, over plain lists of bytes, and the laws of these
+//! notions.
 #![tactic(auto)]
 
 mod chain_laws;
 mod demand_laws;
 mod header_laws;
-mod plain;
-mod plain_fits;
 mod runs_laws;
 mod walk_laws;
 
@@ -20,8 +18,6 @@ pub use demand_laws::{
 pub use header_laws::{
     cleared_header_encodes, cleared_header_says_the_same, encoding_len, one_decoding, one_encoding,
 };
-pub use plain::{PlainChain, PlainHeader, is_header, next_len, plain_longest_chain};
-pub use plain_fits::{fitting_len, numbers_fit};
 pub use runs_laws::{
     fewest_runs, one_list_of_runs, runs_are_longest_fitting_chains, runs_count,
     runs_keep_each_header,

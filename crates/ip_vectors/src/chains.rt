@@ -3,10 +3,8 @@ use ip_base::err::{Layer, LenError};
 use ip_base::{IpNumber, LenSource};
 use ip_ext_chains::err::ip_auth;
 use ip_ext_chains::err::ipv6_exts::{HeaderError, HeaderSliceError};
-use ip_ext_chains::{
-    Ipv6ExtensionSliceIter, Ipv6ExtensionsCursor, Ipv6ExtensionsSlice, plain_fault,
-};
-use ip_spec::plain_longest_chain;
+use ip_ext_chains::{Ipv6ExtensionSliceIter, Ipv6ExtensionsCursor, Ipv6ExtensionsSlice};
+use ip_plain::{plain_fault, plain_longest_chain};
 use std::alloc::Global;
 use std::process::Abort;
 use std::test::Fail;

@@ -20,7 +20,7 @@ use Rattle.ip_io.specs.Reading.{IsTakenInLayer, IsRefusedInLayer, IsRefusedWithi
 use Rattle.ip_io.specs.declared.io.limited_reader.LimitedReader.{LimitedReader}
 use Rattle.ip_io.proofs.ReadingLemmas.{refused_short, refused_within_short, past_limit_short}
 use Rattle.ip_ext_headers.specs.declared.err.ip_auth.header_error.HeaderError.TheVariants.{ZeroPayloadLen}
-use Rattle.ip_ext_slices.specs.Fault.{Fault, short_at, fault_at, hop_by_hop_later}
+use Rattle.ip_ext_slices.specs.Fault.{Fault, short_at, fault_at}
 use Rattle.ip_ext_slices.specs.declared.err.ipv6_exts.header_error.HeaderError.TheVariants.{HopByHopNotAtStart, IpAuth}
 use Rattle.ip_ext_slices.specs.declared.err.ipv6_exts.header_slice_error.HeaderSliceError.{HeaderSliceError}
 use Rattle.ip_ext_slices.specs.declared.err.ipv6_exts.header_slice_error.HeaderSliceError.TheVariants as slice
@@ -69,7 +69,7 @@ module _ {R : Type 0} (Taken : R → R → List ExtHeader → Type 0) (Refused :
   pub later_is : (x : List ℕ) → leads_to n k.headers ≡ 0 → is_empty k.headers ≡ false → HasError n (slice.Content HopByHopNotAtStart) (bytes_of k.headers ++ x)
   later_is x is later =
       let at : Bool → ℕ → Option Fault = λ b m. fault_at Slice (length x) (length (bytes_of k.headers)) b m x in
-      error_is x hop_by_hop_later (ap (λ (b : Bool). at b (leads_to n k.headers)) later ∙ ap (at false) is)
+      error_is x _ (ap (λ (b : Bool). at b (leads_to n k.headers)) later ∙ ap (at false) is)
 
 module _ {T : Type 0} (bytes_left : T → Option (List ℕ)) (is_steady has_failed : T → Bool) where
   -- a header more was taken

@@ -1,9 +1,9 @@
 -- A chain that is read, header by header, into six places.
 use Rattle.std.proofs.Common.{◌≡◌, ◌≢◌, ℕ, ◌+◌, ◌<◌, List, [], ◌∷◌, ◌++◌, length, drop, take, refl, ap, sym, ◌∙◌, arith, inl, inr, ◌⊎◌, subst, Bool, true, false, append-nil}
 use Rattle.std.specs.Prelude.{◌==◌, ◌&&◌, not, Option, Some, None, is_some, IsTrue, IfSome, if◌then◌else◌}
-use Rattle.std.specs.Option.{option_map}
+use Rattle.std.specs.Option.{option_map, option_map_or}
 use Rattle.std.proofs.lemmas.Bool.{cases_Bool, ne_eqb}
-use Rattle.std.proofs.lemmas.List.{map-append}
+use Rattle.std.proofs.lemmas.Option.{none-some}
 use Rattle.std.proofs.Math.Seq.{take-length, drop-append_seam}
 use Rattle.ip_base.specs.declared.len_source.LenSource.TheVariants.{Slice}
 use Rattle.ip_spec.specs.Header.{IsHeader, IsExtensionNumber}
@@ -11,15 +11,15 @@ use Rattle.ip_spec.specs.FieldsOf.{raw_fields}
 use Rattle.ip_spec.specs.Fields.{next_header}
 use Rattle.ip_spec.specs.Chain.{ExtHeader, IsChain, IsPrefixChain, IsNext, IsEnd, leads_to, bytes_of, is_empty}
 use Rattle.ip_spec.specs.Demand.{IsEndUnder}
-use Rattle.ip_spec.specs.Fits.{FitsPlaces, NumbersFit, numbers_of, IsTaken}
+use Rattle.ip_spec.specs.Fits.{FitsPlaces, IsTaken}
 use Rattle.ip_spec.specs.Parse.{rest_behind, fault_behind}
-use Rattle.ip_spec.specs.Places.{Place, hop_by_hop, destination, routing, fragment, authentication, final_destination, index, number_in, header_in, has_routing, place_of, is_taken, is_filled, fields_of, HeaderFields, raw_header}
+use Rattle.ip_spec.specs.Places.{Place, hop_by_hop, destination, routing, fragment, authentication, final_destination, index, number_in, header_in, place_of, is_taken, fields_of, HeaderFields, raw_header}
 use Rattle.ip_spec.proofs.HeaderLemmas.{header_number}
 use Rattle.ip_spec.proofs.PrefixLemmas.{prefix_of-append}
 use Rattle.ip_spec.proofs.ChainLemmas.{no_chain, goes_on, leads_to-more}
 use Rattle.ip_spec.proofs.UnderLemmas.{some_longest_under, one_longest_under, longest_at_end_under}
 use Rattle.ip_spec.proofs.FitsLemmas.{fits_places}
-use Rattle.ip_spec.proofs.PlaceLemmas.{place_number, final_behind, is_extension, placed, has_place, fits_more, taken_told}
+use Rattle.ip_spec.proofs.PlaceLemmas.{has_routing, place_number, own_place, final_behind, is_extension, placed, fits_more, taken_told}
 use Rattle.ip_ext_slices.specs.Fault.{Fault, fault_at, chain_faults}
 use Rattle.ip_ext_slices.proofs.FaultLemmas.{end_at_other, no_fault_at_other}
 use Rattle.ip_ext_slices.proofs.RequestFaultLemmas.{fault_ends}
@@ -94,8 +94,7 @@ module _ (n : ℕ) (c : List ExtHeader) (chain : IsChain n c) (fits : FitsPlaces
   pub taken_answers : (v : Ipv6Extensions) (m : ℕ) → v ≡ value_of c → m ≡ leads_to n c → is_taken (leads_to n c) c ≡ true → IsFittingAnswer n (bytes_of c ++ x) v m x None
   taken_answers v m value number taken =
       let t : IsTaken (leads_to n c) c = (taken_told c (leads_to n c) fits).0 taken in
-      let N : List ℕ → Type 0 = NumbersFit in
-      answered (λ h y q. t.1 (subst N (map-append (λ (k : ExtHeader). k.number) c (h ∷ []) ∙ ap (λ (j : ℕ). numbers_of c ++ j ∷ []) y.number) q)) v m value number
+      answered (λ h y. t.1 h y.number) v m value number
       (ap (λ (b : Bool). if b then None else chain_faults Slice c (leads_to n c) x) taken)
 
   -- and where the number names no header
@@ -190,16 +189,16 @@ module _ (n : ℕ) (c : List ExtHeader) (m : ℕ) (v : Ipv6Extensions) (first : 
     | inl e ↦
         let own : place_of m (has_routing c) ≡ None = ap (place_of m) (sym (routing_there c v k.value)) ∙ e in
         let free : is_taken (leads_to n c) c ≡ false =
-        ap (λ (j : ℕ). is_taken j c) (sym k.number) ∙ ap (λ (o : Option Place). not (m == 0) && is_filled o c) own ∙ and_false (not (m == 0)) in
+        ap (λ (j : ℕ). is_taken j c) (sym k.number) ∙ ap (λ (o : Option Place). not (m == 0) && option_map_or (λ (q : Place). is_some (header_in q c)) o false) own ∙ and_false (not (m == 0)) in
         let X : ℕ → Type 0 = IsExtensionNumber in
         other_answers n c k.chain k.fits x v m k.value k.number free
-        (λ z. (let differ : false ≡ true = sym (ap is_some e) ∙ has_place m (is_some v.routing) (subst X (sym k.number) z) in cc))
+        (λ z. let there = own_place m (is_some v.routing) (subst X (sym k.number) z) in none-some there.0 (sym e ∙ there.1))
     | inr (p, e) ↦
         let own : place_of m (has_routing c) ≡ Some p = ap (place_of m) (sym (routing_there c v k.value)) ∙ e in
         elim (cases_Bool (is_some (held v p))) [
           | inl there ↦
               let taken : is_taken (leads_to n c) c ≡ true =
-              ap (λ (j : ℕ). is_taken j c) (sym k.number) ∙ ap (λ (o : Option Place). not (m == 0) && is_filled o c) own
+              ap (λ (j : ℕ). is_taken j c) (sym k.number) ∙ ap (λ (o : Option Place). not (m == 0) && option_map_or (λ (q : Place). is_some (header_in q c)) o false) own
               ∙ ap (λ (b : Bool). not b && is_some (header_in p c)) (ne_eqb m 0 other) ∙ sym (filled c v k.value p) ∙ there in
               taken_answers n c k.chain k.fits x v m k.value k.number taken
           | inr free ↦ absurd (none p (record { own = e; free = free; zero_first = λ z. absurd (other z) }))
@@ -219,7 +218,7 @@ module _ (n : ℕ) (c : List ExtHeader) (m : ℕ) (v : Ipv6Extensions) (first : 
     -- its place isn't filled
     pub not_taken : is_taken (leads_to n c) c ≡ false
     not_taken =
-        ap (λ (j : ℕ). is_taken j c) (sym k.number) ∙ ap (λ (o : Option Place). not (m == 0) && is_filled o c) own
+        ap (λ (j : ℕ). is_taken j c) (sym k.number) ∙ ap (λ (o : Option Place). not (m == 0) && option_map_or (λ (q : Place). is_some (header_in q c)) o false) own
         ∙ ap (λ (b : Bool). not (m == 0) && b) free_in ∙ and_false (not (m == 0))
 
     pub nested : p ≡ final_destination → is_some v.routing ≡ true

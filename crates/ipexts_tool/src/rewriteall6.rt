@@ -10,7 +10,7 @@ ghost use Rattle.ip_ext_chains.specs.Ipv6ExtensionsRuns.{start, input, values_le
 ghost use Rattle.ipexts_tool.specs.RewriteAll6.{rewriteall6_answer};
 
 use crate::parts::{push_chain_end, push_next, push_written};
-use ip_ext_chains::{IpNumber, Ipv6Extensions, Ipv6ExtensionsRuns};
+use etherparse_ip::{IpNumber, Ipv6Extensions, Ipv6ExtensionsRuns};
 use ip_spec::{one_walk_answer, walk_leads_where_the_value_is_read};
 use std::alloc::{AllocError, Allocator};
 

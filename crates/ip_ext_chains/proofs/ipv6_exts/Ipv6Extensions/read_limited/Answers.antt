@@ -1,10 +1,13 @@
-use Rattle.std.proofs.Common.{◌≡◌, ℕ, List, [], ◌∷◌, ◌++◌, refl, sym, ◌∙◌, arith}
+use Rattle.std.proofs.Common.{rules, ◌≡◌, ℕ, List, [], ◌∷◌, ◌++◌, refl, sym, ◌∙◌, arith}
 use Rattle.ip_spec.specs.Chain.{ExtHeader}
 use Rattle.ip_ext_chains.proofs.ReadingLemmas.{reading_none, reading_next, nested, is_number_in, not_taken, fewer, later, zero_not_taken, no_place_answers, named}
 use Rattle.ip_ext_chains.proofs.ReadErrorLemmas.{layer_next, no_layer, layer_refused_as, layer_refused_here, layer_refused_error}
 use Rattle.ip_ext_slices.specs.declared.err.ipv6_exts.header_error.HeaderError.TheVariants.{HopByHopNotAtStart}
 use Rattle.ip_ext_chains.specs.declared.err.ipv6_exts.header_limited_read_error.HeaderLimitedReadError.TheVariants as limited
 use Rattle.ip_ext_chains.proofs.ipv6_exts.Ipv6Extensions.read_limited.Goals as goal
+
+pub headers-init : goal.headers-init
+headers-init g c = ([], reading_none _ _ (search rules), no_layer g.T.ExactRead.bytes_left g.T.ExactRead.is_steady g.T.ExactRead.has_failed _)
 
 pub headers-preserved : goal.headers-preserved
 headers-preserved g c =

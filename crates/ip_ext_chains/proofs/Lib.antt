@@ -1,5 +1,7 @@
 pub mod PlacedLemmas
 pub mod RunsOfLemmas
+pub mod RunBytesLemmas
+pub mod RunNumberLemmas
 pub mod RunLemmas
 pub mod FittingLemmas
 pub mod HeldLemmas
@@ -7,3 +9,5 @@ pub mod RunSpellingLemmas
 pub mod WalkedLemmas
 pub mod WriteLemmas
 pub mod LinkedLemmas
+pub mod RefusedLemmas
+pub mod RewritingLemmas

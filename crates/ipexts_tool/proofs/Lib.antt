@@ -4,4 +4,3 @@ pub mod OpenLineLemmas
 pub mod LineFieldLemmas
 pub mod ProgressLemmas
 pub mod MemoryLemmas
-pub mod RewrittenLemmas

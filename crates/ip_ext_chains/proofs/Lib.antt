@@ -11,3 +11,6 @@ pub mod WriteLemmas
 pub mod LinkedLemmas
 pub mod RefusedLemmas
 pub mod RewritingLemmas
+pub mod ReadingLemmas
+pub mod ReadIntoLemmas
+pub mod ReadErrorLemmas

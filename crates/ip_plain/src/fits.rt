@@ -3,7 +3,8 @@ ghost use Rattle.std.specs.Prelude.{◌≡◌, ◌↔◌, ◌≤◌, ◌==◌, l
 ghost use Rattle.std.specs.List.{position_or_len};
 ghost use Rattle.ip_spec.specs.Numbers.{ROUTING};
 ghost use Rattle.ip_spec.specs.Demand.{KeepsBeginning};
-ghost use Rattle.ip_spec.specs.Fits.{numbers_of, how_often, before_routing, after_routing, FitsPlaces};
+ghost use Rattle.ip_spec.specs.Fits.{FitsPlaces};
+ghost use Rattle.ip_spec.specs.NumbersFit.{numbers_of, how_often, before_routing, after_routing};
 ghost use Rattle.ip_plain.specs.PlainHeader.{plain_header_of};
 
 use crate::chain::PlainHeader;

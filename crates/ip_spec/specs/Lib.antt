@@ -12,8 +12,9 @@ pub mod Requests
 pub mod Chain
 pub mod Demand
 pub mod Parse
-pub mod Fits
 pub mod Places
+pub mod Fits
+pub mod NumbersFit
 pub mod Encoded
 pub mod Runs
 pub mod Walk

@@ -10,10 +10,10 @@ mod walk_laws;
 
 pub use chain_laws::{longest_chain_ends, one_longest_chain};
 pub use demand_laws::{
-    demand_keeps_its_longest_chain, demands, fitting_chain_ends, fitting_chain_stops_where_taken,
-    longest_chain_under_a_demand_ends, longest_chains_under_demands, next_number_fits,
-    one_longest_chain_under_a_demand, one_longest_fitting_chain, shorter_bytes_keep_whole_headers,
-    taken_numbers,
+    chain_fits_by_its_numbers, demand_keeps_its_longest_chain, demands, fitting_chain_ends,
+    fitting_chain_stops_where_taken, longest_chain_under_a_demand_ends,
+    longest_chains_under_demands, next_number_fits, one_longest_chain_under_a_demand,
+    one_longest_fitting_chain, shorter_bytes_keep_whole_headers, taken_numbers,
 };
 pub use header_laws::{
     cleared_header_encodes, cleared_header_says_the_same, encoding_len, one_decoding, one_encoding,

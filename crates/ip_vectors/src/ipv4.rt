@@ -2,7 +2,7 @@
 use ip_base::err::{Layer, LenError};
 use ip_base::{IpNumber, LenSource};
 use ip_ext_chains::err::ip_auth::{HeaderError, HeaderSliceError};
-use ip_ext_chains::err::ipv4_exts::{ExtsWalkError, HeaderWriteError};
+use ip_ext_chains::err::ipv4_exts::ExtsWalkError;
 use ip_ext_chains::err::ipv6_exts;
 use ip_ext_chains::{Ipv4Extensions, Ipv4ExtensionsSlice};
 use ip_ext_headers::IpAuthHeader;
@@ -167,8 +167,8 @@ fn linked_and_written(rt: HostRuntime) -> Result<(), Fail> {
     assert_eq!(rt; headers.next_header(IpNumber(17)), Err(missing.clone()?));
     let mut out = Vec::new(rt.alloc());
     match headers.write(&mut out, IpNumber(17)) {
-        Err(HeaderWriteError::Content(e)) => assert_eq!(rt; e, missing),
-        _ => assert!(rt; false, "another number names the header"),
+        Err(e) => assert!(rt; e.io().is_none() && e.content() == Some(&missing)),
+        Ok(()) => assert!(rt; false, "another number names the header"),
     }
     assert!(rt; out.is_empty());
     assert_eq!(rt; headers.set_next_headers(IpNumber(6)), IpNumber(51));
@@ -203,8 +203,10 @@ fn write_and_memory(rt: HostRuntime) -> Result<(), Fail> {
         assert!(rt; none.write(&mut out, IpNumber(51)).is_ok(), "{size}");
         match headers.write(&mut out, IpNumber(51)) {
             Ok(()) => assert!(rt; expected && out.len() == 3 + 1028, "{size}"),
-            Err(HeaderWriteError::Io(_)) => assert!(rt; !expected, "{size}"),
-            Err(HeaderWriteError::Content(_)) => assert!(rt; false, "{size}"),
+            Err(e) => {
+                assert!(rt; !expected, "{size}");
+                assert!(rt; e.io().is_some() && e.content().is_none(), "{size}");
+            }
         }
         assert!(rt; out.as_slice().starts_with(&[1, 2, 3]), "{size}");
         assert!(rt; expected || out.len() == 3, "{size}");

@@ -4,6 +4,8 @@
 #[cfg(test)]
 mod base;
 #[cfg(test)]
+mod chain_readers;
+#[cfg(test)]
 mod chains;
 #[cfg(test)]
 mod header_slices;
@@ -11,6 +13,8 @@ mod header_slices;
 mod ipv4;
 #[cfg(test)]
 mod lines;
+#[cfg(test)]
+mod packets;
 #[cfg(test)]
 mod places;
 #[cfg(test)]

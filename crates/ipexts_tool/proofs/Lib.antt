@@ -4,3 +4,4 @@ pub mod OpenLineLemmas
 pub mod LineFieldLemmas
 pub mod ProgressLemmas
 pub mod MemoryLemmas
+pub mod PacketLemmas

@@ -1,4 +1,4 @@
--- Two fields, where the second one is the rest of the text.
+-- Two fields, where the second one is the rest of the text; and one field, which is the text.
 use Rattle.std.proofs.Common.{◌≡◌, ℕ, ◌<◌, List, [], ◌∷◌, ◌++◌, length, get_or, Option, Some, None, Result, Ok, Err, refl, sym, ap, ◌∙◌, arith}
 use Rattle.std.specs.Prelude.{codes}
 use Rattle.std.specs.List.{join_with_byte}
@@ -11,7 +11,7 @@ use Rattle.std.proofs.lemmas.List.Splits.{join_with_byte-slice_split}
 use Rattle.std.proofs.lemmas.Slice.Eq.{bytes_eq-Decides}
 use Rattle.hex.specs.Hex.{decode_of, is_hex_digit}
 use Rattle.hex.proofs.HexLemmas.{decode_of-ok}
-use Rattle.ipexts_tool.specs.LineFields.{fields_of, number_of, bytes_of_hex, number_and_bytes}
+use Rattle.ipexts_tool.specs.LineFields.{fields_of, number_of, bytes_of_hex, number_and_bytes, bytes_alone}
 
 -- digits with a space among them stand for no bytes
 space_refused : (text : List ℕ) (r : Result (List ℕ) _) → decode_of text ≡ r → (k : ℕ) → k < length text → get_or text k 0 ≡ 32 → result_ok r ≡ None
@@ -47,3 +47,12 @@ pub number_and_bytes-two : (text number hex : List ℕ) → fields_of text ≡ n
     → number_and_bytes (fields_of text) ≡ option_zip (number_of number) (bytes_of_hex hex)
 number_and_bytes-two text number hex e =
     ap number_and_bytes e ∙ two_fields number hex (fields_of hex) (join_with_byte-slice_split 32 hex)
+
+-- one field is all of the text, or there are too many
+one_field : (hex : List ℕ) (parts : List (List ℕ)) → join_with_byte 32 parts ≡ hex → bytes_alone parts ≡ bytes_of_hex hex
+one_field hex [] e = ap bytes_of_hex e
+one_field hex (x ∷ []) e = ap bytes_of_hex e
+one_field hex (x ∷ y ∷ parts) e = sym (bytes_of_hex-space x (join_with_byte 32 (y ∷ parts))) ∙ ap bytes_of_hex e
+
+pub bytes_alone-one : (hex : List ℕ) → bytes_alone (fields_of hex) ≡ bytes_of_hex hex
+bytes_alone-one hex = one_field hex (fields_of hex) (join_with_byte-slice_split 32 hex)

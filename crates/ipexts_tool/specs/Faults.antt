@@ -11,6 +11,12 @@ use Rattle.ip_ext_slices.specs.declared.err.ipv6_exts.header_error.HeaderError.{
 use Rattle.ip_ext_slices.specs.declared.err.ipv6_exts.header_error.HeaderError.TheVariants.{HopByHopNotAtStart, IpAuth}
 use Rattle.ip_ext_slices.specs.declared.err.ipv6_exts.header_slice_error.HeaderSliceError.{HeaderSliceError}
 use Rattle.ip_ext_slices.specs.declared.err.ipv6_exts.header_slice_error.HeaderSliceError.TheVariants.{Len, Content}
+use Rattle.etherparse_ip.specs.declared.err.ip.header_error.HeaderError.{HeaderError as BaseError}
+use Rattle.etherparse_ip.specs.declared.err.ip.header_error.HeaderError.TheVariants.{UnsupportedIpVersion, Ipv4HeaderLengthSmallerThanHeader}
+use Rattle.etherparse_ip.specs.declared.err.ip.headers_error.HeadersError.{HeadersError}
+use Rattle.etherparse_ip.specs.declared.err.ip.headers_error.HeadersError.TheVariants.{Ip, Ipv4Ext, Ipv6Ext}
+use Rattle.etherparse_ip.specs.declared.err.ip.slice_error.SliceError.{SliceError}
+use Rattle.etherparse_ip.specs.declared.err.ip.slice_error.SliceError.TheVariants as packet
 
 -- fewer bytes than required: `fault len R of L S Y at O`
 abbrev pub len_fault_text : LenError → List ℕ
@@ -37,3 +43,19 @@ content_fault_text (IpAuth e) = auth_fault_text e
 abbrev pub chain_fault_text : HeaderSliceError → List ℕ
 chain_fault_text (Len e) = len_fault_text e
 chain_fault_text (Content e) = content_fault_text e
+
+-- what is wrong in the bytes of a base header
+abbrev pub base_fault_text : BaseError → List ℕ
+base_fault_text (UnsupportedIpVersion version) = codes "fault UnsupportedIpVersion " ++ decimal version
+base_fault_text (Ipv4HeaderLengthSmallerThanHeader ihl) = codes "fault Ipv4HeaderLengthSmallerThanHeader " ++ decimal ihl
+
+-- and in those of all headers of a packet
+abbrev pub headers_fault_text : HeadersError → List ℕ
+headers_fault_text (Ip e) = base_fault_text e
+headers_fault_text (Ipv4Ext e) = auth_fault_text e
+headers_fault_text (Ipv6Ext e) = content_fault_text e
+
+-- why there is no packet
+abbrev pub packet_fault_text : SliceError → List ℕ
+packet_fault_text (packet.Len e) = len_fault_text e
+packet_fault_text (packet.IpHeaders e) = headers_fault_text e

@@ -29,3 +29,8 @@ bytes_of_hex (c ∷ cs) =
 abbrev pub number_and_bytes : List (List ℕ) → Option (ℕ × List ℕ)
 number_and_bytes (number ∷ hex ∷ []) = option_zip (number_of number) (bytes_of_hex hex)
 number_and_bytes _ = None
+
+-- what one field `HEX` stands for
+abbrev pub bytes_alone : List (List ℕ) → Option (List ℕ)
+bytes_alone (hex ∷ []) = bytes_of_hex hex
+bytes_alone _ = None

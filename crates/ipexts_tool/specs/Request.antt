@@ -8,7 +8,8 @@ use Rattle.ipexts_tool.specs.Exts6.{exts6_answer}
 use Rattle.ipexts_tool.specs.Exts4.{exts4_answer}
 use Rattle.ipexts_tool.specs.Rewrite6.{rewrite6_answer}
 use Rattle.ipexts_tool.specs.RewriteAll6.{rewriteall6_answer}
-use Rattle.ipexts_tool.specs.LineFields.{fields_of, number_and_bytes}
+use Rattle.ipexts_tool.specs.Packet.{packet_answer}
+use Rattle.ipexts_tool.specs.LineFields.{fields_of, number_and_bytes, bytes_alone}
 use Rattle.ipexts_tool.specs.declared.request.Request.{Request as ParsedRequest}
 use Rattle.ipexts_tool.specs.declared.request.Request.TheVariants as parsed
 
@@ -18,6 +19,7 @@ pub data Request : Type 0 where
   Exts4 : (arguments : ℕ × List ℕ) → Request
   Rewrite6 : (arguments : ℕ × List ℕ) → Request
   RewriteAll6 : (arguments : ℕ × List ℕ) → Request
+  Packet : (bytes : List ℕ) → Request
 
 -- the request that the program read
 abbrev pub request_in : ParsedRequest → Request
@@ -25,6 +27,7 @@ request_in (parsed.Exts6 number bytes) = Exts6 (number.0, bytes.now)
 request_in (parsed.Exts4 number bytes) = Exts4 (number.0, bytes.now)
 request_in (parsed.Rewrite6 number bytes) = Rewrite6 (number.0, bytes.now)
 request_in (parsed.RewriteAll6 number bytes) = RewriteAll6 (number.0, bytes.now)
+request_in (parsed.Packet bytes) = Packet bytes.now
 
 -- the answer to a request
 abbrev pub answer_to : Request → List ℕ
@@ -32,6 +35,7 @@ answer_to (Exts6 a) = exts6_answer a.0 a.1
 answer_to (Exts4 a) = exts4_answer a.0 a.1
 answer_to (Rewrite6 a) = rewrite6_answer a.0 a.1
 answer_to (RewriteAll6 a) = rewriteall6_answer a.0 a.1
+answer_to (Packet bytes) = packet_answer bytes
 
 -- what a form with these arguments asks for
 abbrev pub request_of_form : List ℕ → List (List ℕ) → Option Request
@@ -40,6 +44,7 @@ request_of_form form arguments =
     else if bytes_eq form (codes "exts4") then option_map Exts4 (number_and_bytes arguments)
     else if bytes_eq form (codes "rewrite6") then option_map Rewrite6 (number_and_bytes arguments)
     else if bytes_eq form (codes "rewriteall6") then option_map RewriteAll6 (number_and_bytes arguments)
+    else if bytes_eq form (codes "packet") then option_map Packet (bytes_alone arguments)
     else None
 
 -- the same, where the form is the first field

@@ -5,7 +5,7 @@ ghost use Rattle.ipexts_tool.specs.Exts4.{exts4_answer};
 ghost use Rattle.ipexts_tool.specs.Parts.{header_lines};
 
 use crate::parts::{push_header, push_ipv4_end, push_next};
-use ip_ext_chains::{IpNumber, Ipv4ExtensionsSlice, ip_number};
+use etherparse_ip::{IpNumber, Ipv4ExtensionsSlice, ip_number};
 use std::alloc::{AllocError, Allocator};
 
 /// Appends what `bytes` are as IPv4 extension headers from `number` on.

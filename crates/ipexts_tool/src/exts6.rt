@@ -5,7 +5,7 @@ ghost use Rattle.ipexts_tool.specs.Exts6.{exts6_answer};
 ghost use Rattle.ipexts_tool.specs.Parts.{header_lines};
 
 use crate::parts::{push_chain_end, push_header, push_next};
-use ip_ext_chains::{IpNumber, Ipv6ExtensionsSlice};
+use etherparse_ip::{IpNumber, Ipv6ExtensionsSlice};
 use std::alloc::{AllocError, Allocator};
 
 /// Appends what `bytes` are as IPv6 extension headers from `number` on.

@@ -3,9 +3,10 @@ ghost use Rattle.std.specs.Prelude.{◌≡◌, ◌++◌, OnOk, string_bytes};
 ghost use Rattle.ipexts_tool.specs.Faults.{len_fault_text, auth_fault_text};
 ghost use Rattle.ipexts_tool.specs.Faults.{auth_slice_fault_text};
 ghost use Rattle.ipexts_tool.specs.Faults.{content_fault_text, chain_fault_text};
+ghost use Rattle.ipexts_tool.specs.Faults.{base_fault_text, packet_fault_text};
 
-use ip_ext_chains::err::ipv6_exts::{HeaderError, HeaderSliceError};
-use ip_ext_chains::err::{LenError, ip_auth};
+use etherparse_ip::err::ipv6_exts::{HeaderError, HeaderSliceError};
+use etherparse_ip::err::{LenError, ip, ip_auth};
 use std::alloc::{AllocError, Allocator};
 
 /// Appends that there are fewer bytes than required.
@@ -79,5 +80,41 @@ pub fn push_chain_fault<A: Allocator>(
     match fault {
         HeaderSliceError::Len(fault) => push_len_fault(fault, text),
         HeaderSliceError::Content(fault) => push_content_fault(fault, text),
+    }
+}
+
+/// Appends what is wrong in the bytes of a base header.
+fn push_base_fault<A: Allocator>(
+    fault: &ip::HeaderError,
+    text: &mut String<A>,
+) -> Result<(), AllocError>
+    ensures { OnOk result
+        (string_bytes text.new ≡ string_bytes text.old ++ base_fault_text fault.now) }
+{
+    match fault {
+        ip::HeaderError::UnsupportedIpVersion { version_number } => {
+            write!(text, "fault UnsupportedIpVersion {version_number}")
+        }
+        ip::HeaderError::Ipv4HeaderLengthSmallerThanHeader { ihl } => {
+            write!(text, "fault Ipv4HeaderLengthSmallerThanHeader {ihl}")
+        }
+    }
+}
+
+/// Appends why there is no packet.
+pub fn push_packet_fault<A: Allocator>(
+    fault: &ip::SliceError,
+    text: &mut String<A>,
+) -> Result<(), AllocError>
+    ensures { OnOk result
+        (string_bytes text.new ≡ string_bytes text.old ++ packet_fault_text fault.now) }
+{
+    match fault {
+        ip::SliceError::Len(fault) => push_len_fault(fault, text),
+        ip::SliceError::IpHeaders(ip::HeadersError::Ip(fault)) => push_base_fault(fault, text),
+        ip::SliceError::IpHeaders(ip::HeadersError::Ipv4Ext(fault)) => push_auth_fault(fault, text),
+        ip::SliceError::IpHeaders(ip::HeadersError::Ipv6Ext(fault)) => {
+            push_content_fault(fault, text)
+        }
     }
 }

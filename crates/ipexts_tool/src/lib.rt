@@ -21,6 +21,12 @@
 //!   structs of these six places hold it, and for its bytes as they are written of the structs, one after the
 //!   other. The answer is that of `rewrite6` with `runs I ` before it, where I counts the structs.
 //!
+//! - `packet HEX` asks for the IP packet that begins the bytes, of the version that its first byte states (RFC 791,
+//!   section 3.1; RFC 8200, section 3). The answer is `ipv4 header H exts E payload P` or `ipv6 ..`, with the
+//!   lengths of the base header, of the extension headers and of the payload in bytes; then `next N fragmented yes
+//!   source S` or `no`, with the payload's number, whether it is a fragment, and what told where it ends; then
+//!   `ok`. Where there is no packet it is the fault alone, without a layer.
+//!
 //! # Parts of answers
 //!
 //! Each line of an answer ends in a newline.
@@ -29,7 +35,8 @@
 //!   `route` (43), `frag` (44), `auth` (51) and `dstopts` (60).
 //! - `next N rest L` tells the number of what follows the headers, and how many bytes do.
 //! - A fault is `fault len R of L S Y at O`, where R bytes are required and L are there, as S tells, for
-//!   layer Y at offset O; or `fault ZeroPayloadLen`; or `fault HopByHopNotAtStart`.
+//!   layer Y at offset O; or `fault ZeroPayloadLen`; or `fault HopByHopNotAtStart`. A packet may have `fault
+//!   UnsupportedIpVersion V` too, or `fault Ipv4HeaderLengthSmallerThanHeader I`.
 #![tactic(auto)]
 
 ghost use Rattle.std.specs.Prelude.{◌≡◌, ℕ, List, take, OnOk, IfOk, IfSome};
@@ -46,6 +53,7 @@ mod exts6;
 mod faults;
 mod feed;
 mod line_fields;
+mod packet;
 mod parts;
 mod request;
 mod rewrite6;

@@ -4,9 +4,9 @@ ghost use Rattle.std.specs.List.{slice_split};
 ghost use Rattle.std.specs.Option.{option_map};
 ghost use Rattle.ipexts_tool.specs.Lines.{max_line_len};
 ghost use Rattle.ipexts_tool.specs.LineFields.{fields_of, number_of};
-ghost use Rattle.ipexts_tool.specs.LineFields.{bytes_of_hex, number_and_bytes};
+ghost use Rattle.ipexts_tool.specs.LineFields.{bytes_of_hex, number_and_bytes, bytes_alone};
 
-use ip_ext_chains::IpNumber;
+use etherparse_ip::IpNumber;
 
 /// How many bytes a line may have.
 pub const MAX_LINE_LEN: usize = 8192;
@@ -75,4 +75,12 @@ pub fn parse_number_and_hex<'a>(
     let number = parse_number(number)?;
     let bytes = parse_hex(hex, buffer)?;
     Some((IpNumber(number), bytes))
+}
+
+/// Reads `HEX`.
+pub fn parse_hex_alone<'a>(text: &[u8], buffer: &'a mut [u8; BYTES_LEN]) -> Option<&'a [u8]>
+    requires { length text.now ≤ max_line_len }
+    ensures { option_map (λ bytes. bytes.now) result ≡ bytes_alone (fields_of text.now) }
+{
+    parse_hex(text, buffer)
 }

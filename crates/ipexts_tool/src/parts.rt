@@ -4,9 +4,9 @@ ghost use Rattle.ipexts_tool.specs.Parts.{header_name, header_line, next_line};
 ghost use Rattle.ipexts_tool.specs.Parts.{written_line, ok_line, chain_end_line, ipv4_end_line};
 
 use crate::faults::{push_auth_slice_fault, push_chain_fault};
-use ip_ext_chains::IpNumber;
-use ip_ext_chains::err::ipv6_exts::HeaderSliceError;
-use ip_ext_chains::err::{Layer, ip_auth};
+use etherparse_ip::IpNumber;
+use etherparse_ip::err::ipv6_exts::HeaderSliceError;
+use etherparse_ip::err::{Layer, ip_auth};
 use std::alloc::{AllocError, Allocator};
 
 /// The name of the headers of a number.

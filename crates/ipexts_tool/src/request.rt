@@ -8,10 +8,13 @@ ghost use Rattle.ipexts_tool.specs.LineFields.{fields_of};
 
 use crate::exts4::push_exts4;
 use crate::exts6::push_exts6;
-use crate::line_fields::{BYTES_LEN, MAX_LINE_LEN, parse_number_and_hex, split_once};
+use crate::line_fields::{
+    BYTES_LEN, MAX_LINE_LEN, parse_hex_alone, parse_number_and_hex, split_once,
+};
+use crate::packet::push_packet;
 use crate::rewrite6::push_rewrite6;
 use crate::rewriteall6::push_rewriteall6;
-use ip_ext_chains::IpNumber;
+use etherparse_ip::IpNumber;
 use std::alloc::{AllocError, Allocator};
 
 /// What a line asks for.
@@ -25,6 +28,8 @@ pub enum Request<'a> {
     Rewrite6(IpNumber, &'a [u8]),
     /// `rewriteall6 N HEX`.
     RewriteAll6(IpNumber, &'a [u8]),
+    /// `packet HEX`.
+    Packet(&'a [u8]),
 }
 
 /// What a line asks for, if it isn't too long and has a form. `buffer` takes the bytes that its digits
@@ -64,6 +69,10 @@ fn parse_form<'a>(
         let (number, bytes) = parse_number_and_hex(arguments, buffer)?;
         return Some(Request::RewriteAll6(number, bytes));
     }
+    if form == b"packet".as_slice() {
+        let bytes = parse_hex_alone(arguments, buffer)?;
+        return Some(Request::Packet(bytes));
+    }
     None
 }
 
@@ -81,5 +90,6 @@ pub fn push_answer<A: Allocator + Copy>(
         Request::Exts4(number, bytes) => push_exts4(number, bytes, text),
         Request::Rewrite6(number, bytes) => push_rewrite6(alloc, number, bytes, text),
         Request::RewriteAll6(number, bytes) => push_rewriteall6(alloc, number, bytes, text),
+        Request::Packet(bytes) => push_packet(bytes, text),
     }
 }

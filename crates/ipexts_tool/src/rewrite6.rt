@@ -7,7 +7,7 @@ ghost use Rattle.ip_ext_chains.specs.Ipv6Extensions.{value_of};
 ghost use Rattle.ipexts_tool.specs.Rewrite6.{rewrite6_answer};
 
 use crate::parts::{push_chain_end, push_next, push_written};
-use ip_ext_chains::{IpNumber, Ipv6Extensions};
+use etherparse_ip::{IpNumber, Ipv6Extensions};
 use std::alloc::{AllocError, Allocator};
 
 /// Appends what of `bytes` fits six places from `number` on, as it is written.

@@ -8,7 +8,7 @@ ghost use Rattle.ip_ext_chains.specs.Ipv6ExtensionsRuns.{start, input, values_le
 ghost use Rattle.ipexts_tool.specs.RewriteAll6.{rewriteall6_answer};
 
 use crate::parts::{push_chain_end, push_next, push_written};
-use ip_ext_chains::{IpNumber, Ipv6ExtensionsRuns};
+use etherparse_ip::{IpNumber, Ipv6ExtensionsRuns};
 use std::alloc::{AllocError, Allocator};
 
 /// Appends how many structs of six places hold the headers that begin `bytes` from `number` on, and the headers

@@ -1,0 +1,28 @@
+-- The answer to a packet, by what its parse tells.
+use Rattle.std.proofs.Common.{◌≡◌, ℕ, List, refl, ap, sym, ◌∙◌, arith}
+use Rattle.std.specs.Prelude.{Some, None, codes, ◌==◌, if◌then◌else◌}
+use Rattle.std.proofs.lemmas.Bool.{eq-eqb, ne_eqb}
+use Rattle.ip_base.specs.Ipv4Header.{version}
+use Rattle.etherparse_ip.specs.declared.err.ip.slice_error.SliceError.{SliceError}
+use Rattle.etherparse_ip.specs.Packet.{Parts}
+use Rattle.etherparse_ip.specs.Cut.{ipv4_cut, ipv6_cut}
+use Rattle.etherparse_ip.specs.Fault.{ip_fault}
+use Rattle.ipexts_tool.specs.Packet.{parts_lines, fault_line, packet_lines, packet_answer}
+
+four_lines : (v : ℕ) (four six : List ℕ) → v ≡ 4 → (if v == 4 then four else six) ≡ four
+four_lines v four six e = rw (eq-eqb v 4 e) refl
+
+six_lines : (v : ℕ) (four six : List ℕ) → v ≡ 6 → (if v == 4 then four else six) ≡ six
+six_lines v four six e = rw (ne_eqb v 4 (λ z. absurd (omega arith))) refl
+
+pub ipv4_answer : (s : List ℕ) (p : Parts) → None ≡ ip_fault s → version s ≡ 4 → p ≡ ipv4_cut s → packet_answer s ≡ parts_lines (codes "ipv4") p
+unfolding packet_answer
+ipv4_answer s p ok v is = ap (λ f. packet_lines f s) (sym ok) ∙ four_lines (version s) _ _ v ∙ ap (parts_lines (codes "ipv4")) (sym is)
+
+pub ipv6_answer : (s : List ℕ) (p : Parts) → None ≡ ip_fault s → version s ≡ 6 → p ≡ ipv6_cut s → packet_answer s ≡ parts_lines (codes "ipv6") p
+unfolding packet_answer
+ipv6_answer s p ok v is = ap (λ f. packet_lines f s) (sym ok) ∙ six_lines (version s) _ _ v ∙ ap (parts_lines (codes "ipv6")) (sym is)
+
+pub fault_answer : (s : List ℕ) (e : SliceError) → Some e ≡ ip_fault s → packet_answer s ≡ fault_line e
+unfolding packet_answer
+fault_answer s e told = ap (λ f. packet_lines f s) (sym told)

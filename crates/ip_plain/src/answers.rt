@@ -1,6 +1,6 @@
 //! The answers of the tool computed in the plainest way, all in memory and line by line. It is slow, and shares
-//! no code with the tool, but calls the library's parse and `write` for `rewrite6`, and its runs for
-//! `rewriteall6`.
+//! no code with the tool, but calls the library's parse and `write` for `rewrite6`, its runs for
+//! `rewriteall6`, and its parse for `packet`.
 ghost use Rattle.std.specs.Prelude.{◌≡◌, ◌++◌, ◌==◌, ◌^◌, ◌<◌, length, map};
 ghost use Rattle.std.specs.Prelude.{[], ◌∷◌, slice_index, IfOk, OnOk, string_bytes};
 ghost use Rattle.std.specs.List.{slice_split};
@@ -29,6 +29,7 @@ ghost use Rattle.ip_plain.specs.PlainRequest.{asked_by};
 
 use crate::chain::{PlainHeader, next_len, plain_longest_chain};
 use crate::fault::plain_fault;
+use crate::packet::push_packet;
 use crate::runs::write_runs;
 use ip_base::IpNumber;
 use ip_base::err::Layer;
@@ -93,17 +94,19 @@ fn push_answer(alloc: Global, line: &[u8], text: &mut String) -> Result<(), Allo
         Some(PlainRequest::RewriteAll6(number, bytes)) => {
             push_rewriteall6(alloc, number, &bytes, text)
         }
+        Some(PlainRequest::Packet(bytes)) => push_packet(&bytes, text),
         None => text.push_str(BAD_LINE),
     }
 }
 
-/// What a line asks for: a form, a number and bytes.
+/// What a line asks for: a form, a number and bytes; or a packet's bytes.
 #[derive(Drop)]
 enum PlainRequest {
     Exts6(u8, Vec<u8>),
     Exts4(u8, Vec<u8>),
     Rewrite6(u8, Vec<u8>),
     RewriteAll6(u8, Vec<u8>),
+    Packet(Vec<u8>),
 }
 
 /// What the fields of a line ask for.
@@ -111,10 +114,27 @@ fn plain_request(alloc: Global, fields: &[&[u8]]) -> Result<Option<PlainRequest>
     ensures { IfOk result (λ request. option_map asked_by request
         ≡ request_of_fields (map (λ field. field.now) fields.now)) }
 {
-    let [form, number, digits] = fields else {
-        return Ok(None);
-    };
-    plain_form(alloc, form, number, digits)
+    match fields {
+        [form, digits] => plain_packet(alloc, form, digits),
+        [form, number, digits] => plain_form(alloc, form, number, digits),
+        _ => Ok(None),
+    }
+}
+
+/// What a form with one field behind it asks for.
+fn plain_packet(
+    alloc: Global,
+    form: &[u8],
+    digits: &[u8],
+) -> Result<Option<PlainRequest>, AllocError>
+    ensures { IfOk result (λ request. option_map asked_by request
+        ≡ request_of_form form.now (digits.now ∷ [])) }
+{
+    if form == b"packet".as_slice() {
+        let bytes = plain_bytes(alloc, digits)?;
+        return Ok(bytes.map(PlainRequest::Packet));
+    }
+    Ok(None)
 }
 
 /// What a form with two fields behind it asks for.

@@ -7,6 +7,7 @@ mod answers;
 mod chain;
 mod fault;
 mod fits;
+mod packet;
 mod runs;
 
 pub use answers::plain_answers;

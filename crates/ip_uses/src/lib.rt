@@ -8,6 +8,7 @@ pub mod chains;
 pub mod headers;
 pub mod ipv4;
 pub mod outcomes;
+pub mod packets;
 pub mod pins;
 pub mod places;
 pub mod readers;

@@ -1,8 +1,10 @@
 //! Callers of readers.
-ghost use Rattle.std.specs.Prelude.{◌≡◌, ◌+◌, ◌++◌, ℕ, List, length, true, None, IfOk};
+ghost use Rattle.std.specs.Prelude.{◌≡◌, ◌+◌, ◌++◌, ℕ, List, length, None, IfOk, IfSome, IfNone};
 ghost use Rattle.std.specs.Io.KnownBytes.{Consumes};
+ghost use Rattle.ip_spec.specs.Prefix.{IsPrefix};
 ghost use Rattle.ip_spec.specs.Header.{IsRawHeader, IsAuthHeader};
 ghost use Rattle.ip_spec.specs.FieldsOf.{raw_fields, auth_fields};
+ghost use Rattle.ip_spec.specs.Decoding.{IsRawDecoding};
 ghost use Rattle.ip_ext_chains.specs.Fitting.{IsFittingAnswer};
 
 use ip_base::err::Layer;
@@ -62,17 +64,14 @@ pub fn read_options_and_auth<T: ExactRead>(
     }
 }
 
-/// Whether a read of bytes in memory and their parse answer the same header with the same rest, or both none.
-pub fn read_agrees(bytes: &[u8]) -> bool
-    ensures { result ≡ true }
+/// Reads a header of bytes in memory, and cuts it off. It says what `from_slice` says of these bytes, the rest being
+/// what is left of them.
+pub fn read_in_memory(bytes: &mut &[u8]) -> Option<Ipv6RawExtHeader>
+    ensures decoding { IfSome result (λ h. IsRawDecoding bytes.old.now h bytes.new.now) }
+    ensures none { IfNone result ((b : List ℕ) → IsRawHeader b → IsPrefix b bytes.old.now → ⊥) }
 {
-    let mut left = bytes;
-    match (
-        Ipv6RawExtHeader::read(&mut left),
-        Ipv6RawExtHeader::from_slice(bytes),
-    ) {
-        (Ok(read), Ok((parsed, rest))) => read == parsed && left == rest,
-        (Err(_), Err(_)) => true,
-        _ => false,
+    match Ipv6RawExtHeader::read(bytes) {
+        Ok(header) => Some(header),
+        Err(_) => None,
     }
 }

@@ -182,7 +182,7 @@ fn two_headers_and_what_is_left(rt: HostRuntime) {
     let told = LenSource::Ipv6HeaderPayloadLen;
     let layer = Layer::Ipv6ExtHeader;
     for (limit, outcome, after, unread) in [
-        (16usize, Outcome::Leads(17), (48, 8, 8, layer), 2usize),
+        (16u8, Outcome::Leads(17), (48, 8, 8, layer), 2usize),
         (
             12,
             Outcome::Len(missing(8, 4, layer, 48)),
@@ -190,7 +190,13 @@ fn two_headers_and_what_is_left(rt: HostRuntime) {
             8,
         ),
     ] {
-        let mut reader = LimitedReader::new(TWO.as_slice(), limit, told, 40, Layer::Ipv6Header);
+        let mut reader = LimitedReader::new(
+            TWO.as_slice(),
+            usize::from(limit),
+            told,
+            40,
+            Layer::Ipv6Header,
+        );
         assert_eq!(rt;
             read_limited(&mut reader, 60, &TWO),
             outcome,

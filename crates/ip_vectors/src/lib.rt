@@ -14,6 +14,8 @@ mod ipv4;
 #[cfg(test)]
 mod lines;
 #[cfg(test)]
+mod packets;
+#[cfg(test)]
 mod places;
 #[cfg(test)]
 mod readers;

@@ -16,10 +16,13 @@ six_lines : (v : ℕ) (four six : List ℕ) → v ≡ 6 → (if v == 4 then four
 six_lines v four six e = rw (ne_eqb v 4 (λ z. absurd (omega arith))) refl
 
 pub ipv4_answer : (s : List ℕ) (p : Parts) → None ≡ ip_fault s → version s ≡ 4 → p ≡ ipv4_cut s → packet_answer s ≡ parts_lines (codes "ipv4") p
+unfolding packet_answer
 ipv4_answer s p ok v is = ap (λ f. packet_lines f s) (sym ok) ∙ four_lines (version s) _ _ v ∙ ap (parts_lines (codes "ipv4")) (sym is)
 
 pub ipv6_answer : (s : List ℕ) (p : Parts) → None ≡ ip_fault s → version s ≡ 6 → p ≡ ipv6_cut s → packet_answer s ≡ parts_lines (codes "ipv6") p
+unfolding packet_answer
 ipv6_answer s p ok v is = ap (λ f. packet_lines f s) (sym ok) ∙ six_lines (version s) _ _ v ∙ ap (parts_lines (codes "ipv6")) (sym is)
 
 pub fault_answer : (s : List ℕ) (e : SliceError) → Some e ≡ ip_fault s → packet_answer s ≡ fault_line e
+unfolding packet_answer
 fault_answer s e told = ap (λ f. packet_lines f s) (sym told)

@@ -50,5 +50,5 @@ abbrev pub packet_lines : Option SliceError → List ℕ → List ℕ
 packet_lines None bytes = cut_lines bytes
 packet_lines (Some fault) bytes = fault_line fault
 
-abbrev pub packet_answer : List ℕ → List ℕ
+unfoldable pub packet_answer : List ℕ → List ℕ
 packet_answer bytes = packet_lines (ip_fault bytes) bytes

@@ -113,7 +113,7 @@ fn repeated(alloc: Global, part: &[u8], count: usize) -> Result<Vec<u8>, AllocEr
 
 #[test]
 fn known_answers(rt: HostRuntime) -> Result<(), Fail> {
-    let rows: [(&str, &[u8], &[u8]); 20] = [
+    let rows: [(&str, &[u8], &[u8]); 26] = [
         (
             "a header and a fault behind it",
             b"exts6 60 2b00000000000000\n",
@@ -202,6 +202,36 @@ fn known_answers(rt: HostRuntime) -> Result<(), Fail> {
             b"rewriteall6 44 2c00000000000000\n",
             b"runs 2 next 44 rest 0\nwritten 2c00000000000000\nfault len 8 of 0 Slice Ipv6FragHeader at 8 in Ipv6FragHeader\n",
         ),
+        (
+            "a packet without bytes",
+            b"packet -\n",
+            b"fault len 1 of 0 Slice IpHeader at 0\n",
+        ),
+        (
+            "an IPv4 header length below the least",
+            b"packet 44\n",
+            b"fault Ipv4HeaderLengthSmallerThanHeader 4\n",
+        ),
+        (
+            "another version",
+            b"packet 10\n",
+            b"fault UnsupportedIpVersion 1\n",
+        ),
+        (
+            "an IPv6 packet with a fragment",
+            b"packet 6000000000102c40000000000000000000000000000000000000000000000000000000000000000011000081010203040000000000000000\n",
+            b"ipv6 header 40 exts 8 payload 8\nnext 17 fragmented yes source Ipv6HeaderPayloadLen\nok\n",
+        ),
+        (
+            "an IPv6 packet with a fault in its chain",
+            b"packet 6000000000083c4000000000000000000000000000000000000000000000000000000000000000002b00000000000000\n",
+            b"fault len 8 of 0 Ipv6HeaderPayloadLen Ipv6ExtHeader at 48\n",
+        ),
+        (
+            "an IPv4 packet with an authentication header",
+            b"packet 4500002000000000403300000a0000010a000002110100000000000000000000\n",
+            b"ipv4 header 20 exts 12 payload 0\nnext 17 fragmented no source Ipv4HeaderTotalLen\nok\n",
+        ),
     ];
     for (name, input, answer) in rows {
         assert_eq!(rt; output_of(rt.alloc(), input)?.as_slice(), answer, "{name}");
@@ -211,7 +241,7 @@ fn known_answers(rt: HostRuntime) -> Result<(), Fail> {
 
 #[test]
 fn bad_lines(rt: HostRuntime) -> Result<(), Fail> {
-    let rows: [(&str, &[u8]); 22] = [
+    let rows: [(&str, &[u8]); 26] = [
         ("an empty line", b""),
         ("a form alone", b"exts6"),
         ("a form and a space", b"exts6 "),
@@ -234,6 +264,10 @@ fn bad_lines(rt: HostRuntime) -> Result<(), Fail> {
         ("an odd number of digits", b"exts6 17 000"),
         ("a letter that is no digit", b"exts6 17 0g"),
         ("a dash and digits", b"exts6 17 -00"),
+        ("a packet without a field", b"packet"),
+        ("a packet with an empty field", b"packet "),
+        ("a packet with a number", b"packet 17 00"),
+        ("a packet of half a byte", b"packet 4"),
     ];
     for (name, line) in rows {
         let mut input = line.to_vec(rt.alloc())?;

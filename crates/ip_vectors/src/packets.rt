@@ -1,0 +1,437 @@
+//! Base headers and packets.
+use etherparse_ip::err::{Layer, LenError, ip, ip_auth, ipv4, ipv6, ipv6_exts};
+use etherparse_ip::{
+    IpNumber, IpPayloadSlice, IpSlice, Ipv4Header, Ipv4HeaderSlice, Ipv4Slice, Ipv6Header,
+    Ipv6HeaderSlice, Ipv6Slice, LenSource,
+};
+use std::alloc::{AllocError, Global};
+use std::net::{IpAddr, Ipv4Addr, Ipv6Addr};
+use std::process::Abort;
+use std::test::Fail;
+
+/// How long the base header and the extension headers are; the payload's number and length, whether it is a
+/// fragment, and what told where it ends.
+#[derive(Clone, Copy, Debug, PartialEq)]
+struct Parts {
+    header: usize,
+    exts: usize,
+    number: u8,
+    payload: usize,
+    fragmented: bool,
+    source: LenSource,
+}
+
+/// What a payload shows, behind headers of these lengths.
+fn parts(header: usize, exts: usize, payload: &IpPayloadSlice<'_>) -> Parts {
+    Parts {
+        header,
+        exts,
+        number: payload.ip_number.0,
+        payload: payload.payload.len(),
+        fragmented: payload.fragmented,
+        source: payload.len_source,
+    }
+}
+
+/// What an IPv4 packet shows.
+fn ipv4_parts(packet: &Ipv4Slice<'_>) -> Parts {
+    let exts = packet
+        .extensions()
+        .auth
+        .map_or(0, |header| header.slice().len());
+    parts(packet.header().slice().len(), exts, packet.payload())
+}
+
+/// What an IPv6 packet shows.
+fn ipv6_parts(packet: &Ipv6Slice<'_>) -> Parts {
+    let exts = packet.extensions().slice().len();
+    parts(packet.header().slice().len(), exts, packet.payload())
+}
+
+/// An IPv4 packet from 10.0.0.1 to 10.0.0.2; `behind` begins with its options.
+fn ipv4_bytes(
+    alloc: Global,
+    first: u8,
+    total_len: u16,
+    fragment: [u8; 2],
+    protocol: u8,
+    behind: &[u8],
+) -> Result<Vec<u8>, AllocError> {
+    let [high, low] = total_len.to_be_bytes();
+    let [flags, offset] = fragment;
+    let mut bytes = Vec::from_array(
+        alloc,
+        [
+            first, 0, high, low, 0, 0, flags, offset, 64, protocol, 0, 0, 10, 0, 0, 1, 10, 0, 0, 2,
+        ],
+    )?;
+    bytes.extend_from_slice(behind)?;
+    Ok(bytes)
+}
+
+/// An IPv6 packet from 2001:db8::1 to 2001:db8::2.
+fn ipv6_bytes(
+    alloc: Global,
+    payload_length: u16,
+    next_header: u8,
+    behind: &[u8],
+) -> Result<Vec<u8>, AllocError> {
+    let [high, low] = payload_length.to_be_bytes();
+    let mut bytes = Vec::from_array(alloc, [0x60, 0, 0, 0, high, low, next_header, 64])?;
+    for last in [1, 2] {
+        bytes.extend_from_slice(&[0x20, 1, 0x0d, 0xb8, 0, 0, 0, 0, 0, 0, 0, 0, 0, 0, 0, last])?;
+    }
+    bytes.extend_from_slice(behind)?;
+    Ok(bytes)
+}
+
+/// An error of a length.
+fn len_error(required_len: usize, len: usize, len_source: LenSource, layer: Layer) -> LenError {
+    len_error_at(required_len, len, len_source, layer, 0)
+}
+
+/// An error of a length behind so many bytes.
+fn len_error_at(
+    required_len: usize,
+    len: usize,
+    len_source: LenSource,
+    layer: Layer,
+    layer_start_offset: usize,
+) -> LenError {
+    LenError {
+        required_len,
+        len,
+        len_source,
+        layer,
+        layer_start_offset,
+    }
+}
+
+/// `IpSlice` answers what the slice of the version does.
+fn check_either(rt: &impl Abort, name: &str, bytes: &[u8], parts: Parts) -> Result<(), Fail> {
+    let packet = match IpSlice::from_slice(bytes) {
+        Ok(packet) => packet,
+        Err(_) => {
+            assert!(rt; false, "{name}");
+            return Ok(());
+        }
+    };
+    let shown = match &packet {
+        IpSlice::Ipv4(packet) => ipv4_parts(packet),
+        IpSlice::Ipv6(packet) => ipv6_parts(packet),
+    };
+    assert_eq!(rt; shown, parts, "{name}");
+    assert_eq!(rt;
+        packet.payload_ip_number(),
+        IpNumber(parts.number),
+        "{name}"
+    );
+    assert_eq!(rt; packet.is_fragmenting_payload(), parts.fragmented, "{name}");
+    assert_eq!(rt; packet.payload().payload.len(), parts.payload, "{name}");
+    assert_eq!(rt; packet.ipv4().is_some(), bytes[0] >> 4 == 4, "{name}");
+    assert_eq!(rt; packet.ipv6().is_some(), bytes[0] >> 4 == 6, "{name}");
+    assert!(rt; packet.clone()? == packet, "{name}");
+    Ok(())
+}
+
+#[test]
+fn ipv6_lengths(rt: HostRuntime) -> Result<(), Fail> {
+    let by_header = LenSource::Ipv6HeaderPayloadLen;
+    let shown = |exts, payload, source| Parts {
+        header: 40,
+        exts,
+        number: 17,
+        payload,
+        fragmented: false,
+        source,
+    };
+    let rows: [(&str, u16, usize, usize, LenSource, bool); 5] = [
+        (
+            "no payload is stated and none is there",
+            0,
+            0,
+            0,
+            by_header,
+            true,
+        ),
+        ("a jumbogram", 0, 8, 8, LenSource::Slice, true),
+        ("all that is stated", 8, 8, 8, by_header, true),
+        ("bytes behind the packet", 5, 8, 5, by_header, true),
+        ("stated beyond the bytes", 9, 8, 8, LenSource::Slice, false),
+    ];
+    for (name, stated, there, payload, source, fits) in rows {
+        let bytes = ipv6_bytes(rt.alloc(), stated, 17, &[7; 8][..there])?;
+        let parts = shown(0, payload, source);
+        let lax = Ipv6Slice::from_slice_lax(&bytes).map(|packet| ipv6_parts(&packet));
+        assert_eq!(rt; lax, Ok(parts), "{name}");
+        let strict = Ipv6Slice::from_slice(&bytes).map(|packet| ipv6_parts(&packet));
+        if fits {
+            assert_eq!(rt; strict, Ok(parts), "{name}");
+            check_either(&rt, name, &bytes, parts)?;
+        } else {
+            let error = len_error(49, 48, LenSource::Slice, Layer::Ipv6Packet);
+            assert_eq!(rt; strict, Err(ipv6::SliceError::Len(error)), "{name}");
+        }
+    }
+    Ok(())
+}
+
+#[test]
+fn ipv6_chains(rt: HostRuntime) -> Result<(), Fail> {
+    let alloc = rt.alloc();
+    let route = [43, 0, 0, 0, 0, 0, 0, 0];
+    let jumbo = ipv6_bytes(alloc, 0, 60, &route)?;
+    for (parsed, source) in [
+        (
+            Ipv6Slice::from_slice(&jumbo),
+            LenSource::Ipv6HeaderPayloadLen,
+        ),
+        (Ipv6Slice::from_slice_lax(&jumbo), LenSource::Slice),
+    ] {
+        let error = len_error_at(8, 0, source, Layer::Ipv6ExtHeader, 48);
+        assert_eq!(rt;
+            parsed.map(|packet| ipv6_parts(&packet)),
+            Err(ipv6::SliceError::Len(error)),
+            "a chain that is cut short in a jumbogram"
+        );
+    }
+    let later = ipv6_bytes(
+        alloc,
+        24,
+        44,
+        &[
+            60, 0, 1, 0, 1, 2, 3, 4, 17, 0, 0, 0, 0, 0, 0, 0, 9, 9, 9, 9, 9, 9, 9, 9,
+        ],
+    )?;
+    let parts = Parts {
+        header: 40,
+        exts: 16,
+        number: 17,
+        payload: 8,
+        fragmented: true,
+        source: LenSource::Ipv6HeaderPayloadLen,
+    };
+    check_either(
+        &rt,
+        "headers behind that of a later fragment",
+        &later,
+        parts,
+    )?;
+    let zero = ipv6_bytes(alloc, 8, 60, &[0, 0, 0, 0, 0, 0, 0, 0])?;
+    let content = ipv6_exts::HeaderError::HopByHopNotAtStart;
+    assert_eq!(rt;
+        Ipv6Slice::from_slice(&zero).map(|packet| ipv6_parts(&packet)),
+        Err(ipv6::SliceError::Exts(content.clone()?))
+    );
+    assert_eq!(rt;
+        IpSlice::from_slice(&zero).map(|packet| packet.payload_ip_number()),
+        Err(ip::SliceError::IpHeaders(ip::HeadersError::Ipv6Ext(content)))
+    );
+    Ok(())
+}
+
+#[test]
+fn ipv4_packets(rt: HostRuntime) -> Result<(), Fail> {
+    let alloc = rt.alloc();
+    let shown = |header, exts, number, payload, fragmented| Parts {
+        header,
+        exts,
+        number,
+        payload,
+        fragmented,
+        source: LenSource::Ipv4HeaderTotalLen,
+    };
+    let auth = [17, 1, 0, 0, 0, 0, 0, 0, 0, 0, 0, 0, 9, 9];
+    let rows: [(&str, Vec<u8>, Parts); 8] = [
+        (
+            "bytes behind the packet",
+            ipv4_bytes(alloc, 0x45, 22, [0, 0], 17, &[1, 2, 3, 4])?,
+            shown(20, 0, 17, 2, false),
+        ),
+        (
+            "no payload",
+            ipv4_bytes(alloc, 0x45, 20, [0, 0], 6, &[])?,
+            shown(20, 0, 6, 0, false),
+        ),
+        (
+            "options",
+            ipv4_bytes(alloc, 0x46, 26, [0, 0], 17, &[1, 1, 1, 0, 5, 6])?,
+            shown(24, 0, 17, 2, false),
+        ),
+        (
+            "an authentication header",
+            ipv4_bytes(alloc, 0x45, 34, [0, 0], 51, &auth)?,
+            shown(20, 12, 17, 2, false),
+        ),
+        (
+            "don't fragment",
+            ipv4_bytes(alloc, 0x45, 20, [0x40, 0], 17, &[])?,
+            shown(20, 0, 17, 0, false),
+        ),
+        (
+            "more fragments",
+            ipv4_bytes(alloc, 0x45, 20, [0x20, 0], 17, &[])?,
+            shown(20, 0, 17, 0, true),
+        ),
+        (
+            "a later fragment",
+            ipv4_bytes(alloc, 0x45, 20, [0, 1], 17, &[])?,
+            shown(20, 0, 17, 0, true),
+        ),
+        (
+            "a fragment far behind",
+            ipv4_bytes(alloc, 0x45, 20, [0x10, 0], 17, &[])?,
+            shown(20, 0, 17, 0, true),
+        ),
+    ];
+    for (name, bytes, parts) in &rows {
+        let packet = Ipv4Slice::from_slice(bytes).map(|packet| ipv4_parts(&packet));
+        assert_eq!(rt; packet, Ok(*parts), "{name}");
+        check_either(&rt, name, bytes, *parts)?;
+    }
+    Ok(())
+}
+
+#[test]
+fn ipv4_refusals(rt: HostRuntime) -> Result<(), Fail> {
+    let alloc = rt.alloc();
+    let by_header = LenSource::Ipv4HeaderTotalLen;
+    let zero_len = [17, 0, 0, 0, 0, 0, 0, 0, 0, 0, 0, 0];
+    let rows: [(&str, Vec<u8>, ipv4::SliceError, ip::SliceError); 5] = [
+        (
+            "total length below the header",
+            ipv4_bytes(alloc, 0x45, 19, [0, 0], 17, &[])?,
+            ipv4::SliceError::Len(len_error(20, 19, by_header, Layer::Ipv4Packet)),
+            ip::SliceError::Len(len_error(20, 19, by_header, Layer::Ipv4Packet)),
+        ),
+        (
+            "total length beyond the bytes",
+            ipv4_bytes(alloc, 0x45, 65535, [0, 0], 17, &[])?,
+            ipv4::SliceError::Len(len_error(65535, 20, LenSource::Slice, Layer::Ipv4Packet)),
+            ip::SliceError::Len(len_error(65535, 20, LenSource::Slice, Layer::Ipv4Packet)),
+        ),
+        (
+            "options beyond the bytes",
+            ipv4_bytes(alloc, 0x4f, 60, [0, 0], 17, &[0; 39])?,
+            ipv4::SliceError::Len(len_error(60, 59, LenSource::Slice, Layer::Ipv4Header)),
+            ip::SliceError::Len(len_error(60, 59, LenSource::Slice, Layer::Ipv4Header)),
+        ),
+        (
+            "an authentication header beyond total length",
+            ipv4_bytes(alloc, 0x45, 24, [0, 0], 51, &[0; 12])?,
+            ipv4::SliceError::Len(len_error_at(12, 4, by_header, Layer::IpAuthHeader, 20)),
+            ip::SliceError::Len(len_error_at(12, 4, by_header, Layer::IpAuthHeader, 20)),
+        ),
+        (
+            "an authentication header of length 0",
+            ipv4_bytes(alloc, 0x45, 32, [0, 0], 51, &zero_len)?,
+            ipv4::SliceError::Exts(ip_auth::HeaderError::ZeroPayloadLen),
+            ip::SliceError::IpHeaders(ip::HeadersError::Ipv4Ext(
+                ip_auth::HeaderError::ZeroPayloadLen,
+            )),
+        ),
+    ];
+    for (name, bytes, error, either) in &rows {
+        match Ipv4Slice::from_slice(bytes) {
+            Ok(_) => assert!(rt; false, "{name}"),
+            Err(e) => assert_eq!(rt; e, *error, "{name}"),
+        }
+        match IpSlice::from_slice(bytes) {
+            Ok(_) => assert!(rt; false, "{name}"),
+            Err(e) => assert_eq!(rt; e, *either, "{name}"),
+        }
+    }
+    Ok(())
+}
+
+#[test]
+fn first_bytes(rt: HostRuntime) -> Result<(), Fail> {
+    let of_base = |error| ip::SliceError::IpHeaders(ip::HeadersError::Ip(error));
+    let rows: [(&[u8], ip::SliceError); 5] = [
+        (
+            &[],
+            ip::SliceError::Len(len_error(1, 0, LenSource::Slice, Layer::IpHeader)),
+        ),
+        (
+            &[0x44],
+            of_base(ip::HeaderError::Ipv4HeaderLengthSmallerThanHeader { ihl: 4 }),
+        ),
+        (
+            &[0x10],
+            of_base(ip::HeaderError::UnsupportedIpVersion { version_number: 1 }),
+        ),
+        (
+            &[0x45],
+            ip::SliceError::Len(len_error(20, 1, LenSource::Slice, Layer::Ipv4Header)),
+        ),
+        (
+            &[0x60],
+            ip::SliceError::Len(len_error(40, 1, LenSource::Slice, Layer::Ipv6Header)),
+        ),
+    ];
+    for (bytes, error) in rows {
+        match IpSlice::from_slice(bytes) {
+            Ok(_) => assert!(rt; false, "{bytes:?}"),
+            Err(e) => assert_eq!(rt; e, error, "{bytes:?}"),
+        }
+    }
+    let short = len_error(20, 1, LenSource::Slice, Layer::Ipv4Header);
+    assert!(rt; Ipv4Slice::from_slice(&[0x44]) == Err(ipv4::SliceError::Len(short)));
+    Ok(())
+}
+
+#[test]
+fn base_headers(rt: HostRuntime) -> Result<(), Fail> {
+    let alloc = rt.alloc();
+    let bytes = ipv4_bytes(alloc, 0x46, 28, [0, 0], 6, &[1, 1, 1, 0, 5, 6, 7, 8])?;
+    let header = Ipv4HeaderSlice::from_slice(&bytes)
+        .ok()
+        .expect(&rt, "a header");
+    assert_eq!(rt; header.slice(), &bytes[..24]);
+    assert_eq!(rt; (header.total_len(), header.protocol()), (28, IpNumber(6)));
+    assert!(rt; header.source_addr() == Ipv4Addr::new(10, 0, 0, 1));
+    assert!(rt; header.destination_addr() == Ipv4Addr::new(10, 0, 0, 2));
+    let bytes = ipv6_bytes(alloc, 0x102, 6, &[])?;
+    let header = Ipv6HeaderSlice::from_slice(&bytes)
+        .ok()
+        .expect(&rt, "a header");
+    assert_eq!(rt; header.slice(), bytes.as_slice());
+    assert_eq!(rt;
+        (header.payload_length(), header.next_header()),
+        (0x102, IpNumber(6))
+    );
+    assert!(rt; header.source_addr() == Ipv6Addr::new(0x2001, 0xdb8, 0, 0, 0, 0, 0, 1));
+    assert!(rt; header.destination_addr() == Ipv6Addr::new(0x2001, 0xdb8, 0, 0, 0, 0, 0, 2));
+    assert_eq!(rt; (Ipv4Header::MIN_LEN, Ipv6Header::LEN), (20, 40));
+    let wrong = ipv4::HeaderSliceError::Content(ipv4::HeaderError::UnexpectedVersion {
+        version_number: 6,
+    });
+    assert!(rt; Ipv4HeaderSlice::from_slice(&bytes) == Err(wrong));
+    let low = ipv4_bytes(alloc, 0x44, 20, [0, 0], 17, &[])?;
+    let wrong = ipv4::HeaderError::HeaderLengthSmallerThanHeader { ihl: 4 };
+    assert!(rt; Ipv4HeaderSlice::from_slice(&low) == Err(ipv4::HeaderSliceError::Content(wrong)));
+    let other = ipv4_bytes(alloc, 0x45, 40, [0, 0], 17, &[0; 20])?;
+    let wrong = ipv6::HeaderSliceError::Content(ipv6::HeaderError::UnexpectedVersion {
+        version_number: 4,
+    });
+    assert!(rt; Ipv6HeaderSlice::from_slice(&other) == Err(wrong));
+    Ok(())
+}
+
+#[test]
+fn addresses(rt: HostRuntime) -> Result<(), Fail> {
+    let bytes = ipv4_bytes(rt.alloc(), 0x45, 20, [0, 0], 17, &[])?;
+    let packet = Ipv4Slice::from_slice(&bytes).ok().expect(&rt, "a packet");
+    let packet = IpSlice::from(packet);
+    assert!(rt; packet.source_addr() == IpAddr::V4(Ipv4Addr::new(10, 0, 0, 1)));
+    assert!(rt; packet.destination_addr() == IpAddr::V4(Ipv4Addr::new(10, 0, 0, 2)));
+    let bytes = ipv6_bytes(rt.alloc(), 0, 59, &[])?;
+    let packet = Ipv6Slice::from_slice(&bytes).ok().expect(&rt, "a packet");
+    assert_eq!(rt; packet.payload_ip_number(), IpNumber::IPV6_NO_NEXT_HEADER);
+    assert!(rt; !packet.is_payload_fragmented());
+    let packet = IpSlice::from(packet);
+    let address = |last| IpAddr::V6(Ipv6Addr::new(0x2001, 0xdb8, 0, 0, 0, 0, 0, last));
+    assert!(rt; packet.source_addr() == address(1));
+    assert!(rt; packet.destination_addr() == address(2));
+    Ok(())
+}

@@ -14,7 +14,6 @@ use Rattle.ip_spec.specs.Places.{is_taken}
 use Rattle.ip_spec.proofs.PlaceLemmas.{taken_told}
 use Rattle.ip_spec.proofs.FitsLemmas.{fits_places, fitting_ends, next_taken}
 use Rattle.ip_spec.proofs.UnderLemmas.{some_longest_under, one_longest_under, kept_is_longest}
-use Rattle.ip_spec.proofs.CutLemmas.{some_are_kept}
 use Rattle.ip_spec.proofs.RunsLemmas.{chain_behind}
 use Rattle.ip_ext_slices.specs.Longest.{longest_chain}
 use Rattle.ip_ext_chains.specs.Fitting.{fitting_chain, fitting_faults, fitting_fault, IsFittingAnswer, IsWalked}

@@ -1,7 +1,6 @@
 -- A struct of six places, and what it holds in each.
 use Rattle.std.proofs.Common.{◌≡◌, ℕ, ◌+◌, List, refl, ap, sym, ◌∙◌, arith, inl, inr, subst, true}
-use Rattle.std.specs.Prelude.{Option, Some, None, is_some, ◌==◌}
-use Rattle.std.specs.List.{find}
+use Rattle.std.specs.Prelude.{Option, Some, None, is_some}
 use Rattle.std.specs.Option.{option_map, option_map_or, ForSome}
 use Rattle.std.proofs.lemmas.Bool.{cases_Bool}
 use Rattle.std.proofs.lemmas.Option.{none-some, same_Some}

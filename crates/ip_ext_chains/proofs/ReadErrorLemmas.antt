@@ -1,5 +1,5 @@
 -- What is refused of a chain that is read is what the parse tells.
-use Rattle.std.proofs.Common.{◌≡◌, ◌≢◌, ℕ, ◌<◌, List, [], ◌∷◌, ◌++◌, length, refl, ap, sym, ◌∙◌, subst, inl, inr, Bool, true, false, arith, ◌+◌, length-append}
+use Rattle.std.proofs.Common.{◌≡◌, ℕ, ◌<◌, List, [], ◌∷◌, ◌++◌, length, refl, ap, sym, ◌∙◌, subst, inl, inr, Bool, true, false, arith, length-append}
 use Rattle.std.specs.Prelude.{Option, Some, None, IsTrue, IfSome}
 use Rattle.std.specs.Option.{option_map}
 use Rattle.std.specs.Io.KnownBytes.{Consumes}
@@ -22,7 +22,6 @@ use Rattle.ip_io.proofs.ReadingLemmas.{refused_short, refused_within_short, past
 use Rattle.ip_ext_headers.specs.declared.err.ip_auth.header_error.HeaderError.TheVariants.{ZeroPayloadLen}
 use Rattle.ip_ext_slices.specs.Fault.{Fault, short_at, fault_at}
 use Rattle.ip_ext_slices.specs.declared.err.ipv6_exts.header_error.HeaderError.TheVariants.{HopByHopNotAtStart, IpAuth}
-use Rattle.ip_ext_slices.specs.declared.err.ipv6_exts.header_slice_error.HeaderSliceError.{HeaderSliceError}
 use Rattle.ip_ext_slices.specs.declared.err.ipv6_exts.header_slice_error.HeaderSliceError.TheVariants as slice
 use Rattle.ip_ext_slices.proofs.RequestFaultLemmas.{asks_fault, zero_fault}
 use Rattle.ip_ext_chains.specs.ReadError.{HasError, IsTooShort, IsSliceError, IsSliceErrorInLayers, of_limited_error}
@@ -130,14 +129,14 @@ module _ {T : Type 0} (bytes_left : T → Option (List ℕ)) (is_steady has_fail
       let N : ℕ → Type 0 = λ i. IsTakenInLayer bytes_left (layer_of i) mid new h.bytes in
       let b : IsTakenInLayer bytes_left (layer_of h.number) mid new h.bytes = subst N (sym is) taken in
       record {
-    left_over = omega (arith, ap length (bytes_of-more c h), length-append (bytes_of c) h.bytes, t.left_over, b.within, ap left b.limits);
-    limits = b.limits ∙ ap (λ (l : Limits). advanced (length h.bytes) (started (layer_of h.number) l)) t.limits ∙ sym (limits_behind-more c h (limits_of old));
-    bytes = rw (bytes_of-more c h) (Consumes-trans _ _ _ (bytes_of c) h.bytes t.bytes b.reader);
-    window = rw (bytes_of-more c h) (Consumes-trans _ _ _ (bytes_of c) h.bytes t.window b.window);
-    steady = steady ∙ t.steady;
-    kept = kept ∙ t.kept;
-    none = λ e. absurd (never_empty c h e);
-  }
+        left_over = omega (arith, ap length (bytes_of-more c h), length-append (bytes_of c) h.bytes, t.left_over, b.within, ap left b.limits);
+        limits = b.limits ∙ ap (λ (l : Limits). advanced (length h.bytes) (started (layer_of h.number) l)) t.limits ∙ sym (limits_behind-more c h (limits_of old));
+        bytes = rw (bytes_of-more c h) (Consumes-trans _ _ _ (bytes_of c) h.bytes t.bytes b.reader);
+        window = rw (bytes_of-more c h) (Consumes-trans _ _ _ (bytes_of c) h.bytes t.window b.window);
+        steady = steady ∙ t.steady;
+        kept = kept ∙ t.kept;
+        none = λ e. absurd (never_empty c h e);
+      }
 
   -- a refused request of a header of the common layout
   raw_layer : (m : ℕ) → IsRawNumber m → layer_of m ≡ Ipv6ExtHeader

@@ -1,6 +1,6 @@
 -- A chain that is read, header by header, into six places.
-use Rattle.std.proofs.Common.{◌≡◌, ◌≢◌, ℕ, ◌+◌, ◌<◌, List, [], ◌∷◌, ◌++◌, length, drop, take, refl, ap, sym, ◌∙◌, arith, inl, inr, ◌⊎◌, subst, Bool, true, false, append-nil}
-use Rattle.std.specs.Prelude.{◌==◌, ◌&&◌, not, Option, Some, None, is_some, IsTrue, IfSome, if◌then◌else◌}
+use Rattle.std.proofs.Common.{◌≡◌, ◌≢◌, ℕ, ◌+◌, ◌<◌, List, [], ◌∷◌, ◌++◌, length, drop, take, refl, ap, sym, ◌∙◌, arith, inl, inr, ◌⊎◌, subst, Bool, true, false}
+use Rattle.std.specs.Prelude.{◌==◌, ◌&&◌, not, Option, Some, None, is_some, if◌then◌else◌}
 use Rattle.std.specs.Option.{option_map, option_map_or}
 use Rattle.std.proofs.lemmas.Bool.{cases_Bool, ne_eqb}
 use Rattle.std.proofs.lemmas.Option.{none-some}
@@ -8,8 +8,7 @@ use Rattle.std.proofs.Math.Seq.{take-length, drop-append_seam}
 use Rattle.ip_base.specs.declared.len_source.LenSource.TheVariants.{Slice}
 use Rattle.ip_spec.specs.Header.{IsHeader, IsExtensionNumber}
 use Rattle.ip_spec.specs.FieldsOf.{raw_fields}
-use Rattle.ip_spec.specs.Fields.{next_header}
-use Rattle.ip_spec.specs.Chain.{ExtHeader, IsChain, IsPrefixChain, IsNext, IsEnd, leads_to, bytes_of, is_empty}
+use Rattle.ip_spec.specs.Chain.{ExtHeader, IsChain, IsNext, IsEnd, leads_to, bytes_of, is_empty}
 use Rattle.ip_spec.specs.Demand.{IsEndUnder}
 use Rattle.ip_spec.specs.Fits.{FitsPlaces, IsTaken}
 use Rattle.ip_spec.specs.Parse.{rest_behind, fault_behind}

@@ -1,8 +1,8 @@
 -- What is read as a struct of six places, and what is written of one.
-use Rattle.std.proofs.Common.{◌≡◌, ℕ, ◌+◌, ◌<◌, List, ◌++◌, length, drop, refl, ap, sym, ◌∙◌, arith, inl, inr, subst}
+use Rattle.std.proofs.Common.{◌≡◌, ℕ, ◌+◌, ◌<◌, List, ◌++◌, length, drop, ap, sym, ◌∙◌, arith, inl, inr, subst}
 use Rattle.std.specs.Prelude.{Err, None, ◌↔◌, if◌then◌else◌}
-use Rattle.std.proofs.Math.Seq.{drop-length, drop-append_seam}
-use Rattle.std.proofs.lemmas.List.{append-nil, append_cancel_left, length-append}
+use Rattle.std.proofs.Math.Seq.{drop-append_seam}
+use Rattle.std.proofs.lemmas.List.{append_cancel_left, length-append}
 use Rattle.std.proofs.lemmas.List.Elements.{All-take}
 use Rattle.std.proofs.lemmas.Bool.{cases_Bool}
 use Rattle.ip_spec.specs.Header.{IsExtensionNumber}
@@ -23,7 +23,7 @@ use Rattle.ip_spec.proofs.SpellingLemmas.{one_spelling, spelling_is_reach, one_a
 use Rattle.ip_spec.proofs.SumLemmas.{bytes_len}
 use Rattle.ip_base.specs.declared.len_source.LenSource.TheVariants.{Slice}
 use Rattle.ip_ext_slices.specs.Fault.{chain_faults}
-use Rattle.ip_ext_chains.specs.Fitting.{fitting_chain, fitting_faults, fitting_fault, IsFittingAnswer}
+use Rattle.ip_ext_chains.specs.Fitting.{fitting_chain, fitting_faults, IsFittingAnswer}
 use Rattle.ip_ext_chains.specs.Ipv6Extensions.{value_of, held, exts_len}
 use Rattle.ip_ext_chains.specs.Walk.{walk_answer}
 use Rattle.ip_ext_chains.specs.Write.{IsWritten, IsWalkFault}

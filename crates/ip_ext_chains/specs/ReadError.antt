@@ -5,7 +5,6 @@ use Rattle.ip_base.specs.declared.err.len_error.LenError.{LenError}
 use Rattle.ip_io.specs.ExactRead.{IfSteady}
 use Rattle.ip_io.specs.declared.err.io.limited_read_error.LimitedReadError.{LimitedReadError}
 use Rattle.ip_io.specs.declared.err.io.limited_read_error.LimitedReadError.TheVariants as limit
-use Rattle.ip_ext_slices.specs.declared.err.ipv6_exts.header_error.HeaderError.{HeaderError}
 use Rattle.ip_ext_slices.specs.declared.err.ipv6_exts.header_slice_error.HeaderSliceError.{HeaderSliceError}
 use Rattle.ip_ext_slices.specs.declared.err.ipv6_exts.header_slice_error.HeaderSliceError.TheVariants as slice
 use Rattle.ip_ext_chains.specs.Fitting.{fitting_fault}

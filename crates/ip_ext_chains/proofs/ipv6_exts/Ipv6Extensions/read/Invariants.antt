@@ -1,4 +1,4 @@
-use Rattle.std.proofs.Common.{◌≡◌, ℕ, ◌+◌, List}
+use Rattle.std.proofs.Common.{List}
 use Rattle.ip_spec.specs.Chain.{ExtHeader}
 use Rattle.ip_ext_chains.specs.Reading.{AreTaken}
 use Rattle.ip_ext_chains.proofs.ReadingLemmas.{IsReading, free_places}

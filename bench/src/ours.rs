@@ -19,6 +19,10 @@ unsafe extern "C" {
     pub fn ipexts_lax_filter(start: u8, bytes: *const u8, len: usize) -> u64;
     pub fn ipexts_lax_headers_filter(start: u8, bytes: *const u8, len: usize) -> u64;
     pub fn ipexts_strict_filter(start: u8, bytes: *const u8, len: usize) -> u64;
+    pub fn ipexts_cursor_kinds(start: u8, bytes: *const u8, len: usize) -> u64;
+    pub fn ipexts_lax_kinds(start: u8, bytes: *const u8, len: usize) -> u64;
+    pub fn ipexts_cursor_fragment(start: u8, bytes: *const u8, len: usize) -> u64;
+    pub fn ipexts_lax_fragment(start: u8, bytes: *const u8, len: usize) -> u64;
 
     pub fn ipexts_lax_packets(p: *const u8, len: usize, ends: *const usize, count: usize) -> u64;
     pub fn ipexts_lax_headers_packets(
@@ -42,6 +46,31 @@ unsafe extern "C" {
         count: usize,
     ) -> u64;
     pub fn ipexts_strict_filter_packets(
+        p: *const u8,
+        len: usize,
+        ends: *const usize,
+        count: usize,
+    ) -> u64;
+
+    pub fn ipexts_cursor_kinds_packets(
+        p: *const u8,
+        len: usize,
+        ends: *const usize,
+        count: usize,
+    ) -> u64;
+    pub fn ipexts_lax_kinds_packets(
+        p: *const u8,
+        len: usize,
+        ends: *const usize,
+        count: usize,
+    ) -> u64;
+    pub fn ipexts_cursor_fragment_packets(
+        p: *const u8,
+        len: usize,
+        ends: *const usize,
+        count: usize,
+    ) -> u64;
+    pub fn ipexts_lax_fragment_packets(
         p: *const u8,
         len: usize,
         ends: *const usize,

@@ -8,6 +8,8 @@ const GOAL: f64 = 1.0;
 /// Rows with a goal of their own: how the name begins, what it has in it, and the goal; the first that fits counts.
 /// docs/DECISIONS.md has the reasons.
 const OWN_GOALS: &[(&str, &str, f64)] = &[
+    ("cursor against our two passes", "", 0.82),
+    ("cursor", "packet", 0.75),
     ("lax, filter", "packet", 0.90),
     ("", "chain of 4096", 1.20),
     ("", "chain of 64", 1.20),

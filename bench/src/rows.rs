@@ -87,6 +87,48 @@ fn forms() -> Vec<Form> {
     ]
 }
 
+/// A cursor in one pass, against the original's parse with its iterator and against our own.
+fn cursor_forms() -> Vec<Form> {
+    use ours::*;
+    let against_ours = |reading, ours, our_loop, original, original_loop| Form {
+        name: "cursor against our two passes",
+        reading,
+        ours,
+        original,
+        our_loop,
+        original_loop,
+    };
+    let (all, early) = ("all headers", "first fragment");
+    vec![
+        form::<original::LaxKinds>(
+            "cursor",
+            all,
+            ipexts_cursor_kinds,
+            ipexts_cursor_kinds_packets,
+        ),
+        form::<original::LaxFragment>(
+            "cursor",
+            early,
+            ipexts_cursor_fragment,
+            ipexts_cursor_fragment_packets,
+        ),
+        against_ours(
+            all,
+            ipexts_cursor_kinds,
+            ipexts_cursor_kinds_packets,
+            ipexts_lax_kinds,
+            ipexts_lax_kinds_packets,
+        ),
+        against_ours(
+            early,
+            ipexts_cursor_fragment,
+            ipexts_cursor_fragment_packets,
+            ipexts_lax_fragment,
+            ipexts_lax_fragment_packets,
+        ),
+    ]
+}
+
 /// Each parse into a struct.
 fn struct_forms() -> Vec<Form> {
     use ours::*;
@@ -145,6 +187,11 @@ pub fn rows(seed: u64) -> Vec<Row> {
         .filter(|form| form.name != "lax, iterator")
     {
         rows.extend(refusals(&form));
+    }
+    for form in cursor_forms() {
+        rows.push(packet_loop(&form, packets));
+        rows.push(packet_calls(&form, packets));
+        rows.extend([4, 64].map(|count| regular_chain(&form, count)));
     }
     for form in struct_forms() {
         rows.extend(struct_rows(&form, packets));

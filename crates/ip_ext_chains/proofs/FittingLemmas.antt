@@ -12,10 +12,10 @@ use Rattle.ip_spec.specs.Demand.{KeepsBeginning, NextBreaks, IsLongestUnder}
 use Rattle.ip_spec.specs.Fits.{FitsPlaces, IsTaken}
 use Rattle.ip_spec.specs.Places.{is_taken}
 use Rattle.ip_spec.proofs.PlaceLemmas.{taken_told}
-use Rattle.ip_spec.proofs.FitsLemmas.{fits_places, fitting_ends}
+use Rattle.ip_spec.proofs.FitsLemmas.{fits_places, fitting_ends, next_taken}
 use Rattle.ip_spec.proofs.UnderLemmas.{some_longest_under, one_longest_under, kept_is_longest}
 use Rattle.ip_spec.proofs.CutLemmas.{some_are_kept}
-use Rattle.ip_spec.proofs.RunsLemmas.{cuts_places, chain_behind, next_taken}
+use Rattle.ip_spec.proofs.RunsLemmas.{chain_behind}
 use Rattle.ip_ext_slices.specs.Longest.{longest_chain}
 use Rattle.ip_ext_chains.specs.Fitting.{fitting_chain, fitting_faults, fitting_fault, IsFittingAnswer, IsWalked}
 use Rattle.ip_base.specs.declared.len_source.LenSource.TheVariants.{Slice}
@@ -72,10 +72,8 @@ walked_on n s (h ∷ left) v k some m chain r er =
     let c : List ExtHeader = k.run in
     let p : IsPrefixChain n s (c ++ h ∷ left) = run_chain n s (h ∷ left) v k in
     let number : h.number ≡ leads_to n c = (chain_behind n c (h ∷ left) p.chain).links.0 in
-    let headers : longest_chain n s ≢ [] = λ e. omega (arith, ap length (sym (run_whole n s (h ∷ left) v k) ∙ e), length-append c (h ∷ left)) in
-    let first : c ≢ [] = some_are_kept FitsPlaces cuts_places (longest_chain n s) c headers k.kept in
     let B : List ExtHeader → Type 0 = NextBreaks FitsPlaces c in
-    let taken : IsTaken (leads_to n c) c = next_taken n s c (h ∷ left) first p (subst B k.left k.kept.breaks) (λ e. cc) in
+    let taken : IsTaken (leads_to n c) c = next_taken n s c (h ∷ left) p (subst B k.left k.kept.breaks) (λ e. cc) in
     let fits : c ≡ fitting_chain n s = run_fits n s (h ∷ left) v k in
     let told : is_taken (leads_to n (fitting_chain n s)) (fitting_chain n s) ≡ true = ap (λ d. is_taken (leads_to n d) d) (sym fits) ∙ (taken_told c (leads_to n c) k.kept.meets).1 taken in
     walked n s (h ∷ left) v k m r None (sym chain.links.0 ∙ number) (er ∙ ap (λ j. drop j s) (run_len n s (h ∷ left) v k)) (sym (no_fault _ _ told))

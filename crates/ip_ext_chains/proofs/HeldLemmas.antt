@@ -8,9 +8,9 @@ use Rattle.std.proofs.lemmas.Option.{none-some, same_Some}
 use Rattle.ip_spec.specs.Header.{IsRawNumber}
 use Rattle.ip_spec.specs.FieldsOf.{RawFields, FragmentFields, AuthFields, raw_fields, fragment_fields, auth_fields, raw_len, auth_len}
 use Rattle.ip_spec.specs.Chain.{ExtHeader}
-use Rattle.ip_spec.specs.Places.{Place, hop_by_hop, destination, routing, fragment, authentication, final_destination, number_in, header_in, has_routing, HeaderFields, raw_header, fragment_header, auth_header, fields_of}
+use Rattle.ip_spec.specs.Places.{Place, hop_by_hop, destination, routing, fragment, authentication, final_destination, number_in, header_in, HeaderFields, raw_header, fragment_header, auth_header, fields_of}
 use Rattle.ip_spec.specs.Encodable.{IsEncoded, IsEncodable, held_len, fields_len}
-use Rattle.ip_spec.proofs.PlaceLemmas.{without_routing, none_behind}
+use Rattle.ip_spec.proofs.PlaceLemmas.{has_routing, none_behind}
 use Rattle.ip_spec.proofs.WalkLemmas.{some_if}
 use Rattle.ip_ext_chains.specs.Ipv6Extensions.{value_of, raw_in, final_of, held, routing_len, exts_len}
 use Rattle.ip_ext_chains.specs.declared.ipv6_exts.Ipv6Extensions.{Ipv6Extensions}
@@ -50,7 +50,7 @@ final_place (Some r) p k = refl
 no_final : (c : List ExtHeader) → raw_in routing c ≡ None → raw_in final_destination c ≡ None
 no_final c e = elim (cases_Bool (has_routing c)) [
   | inl some ↦ let it = some_if (header_in routing c) some in absurd (none-some (raw_fields it.0.bytes) (sym e ∙ ap (option_map (λ h. raw_fields h.bytes)) it.1))
-  | inr none ↦ ap (λ l. option_map (λ h. raw_fields h.bytes) (find (λ h. h.number == 60) l)) (none_behind c (without_routing c none))
+  | inr none ↦ ap (option_map (λ h. raw_fields h.bytes)) (none_behind c none)
 ]
 
 -- the value of a chain holds what its headers say

@@ -7,3 +7,6 @@ pub mod RunSpellingLemmas
 pub mod WalkedLemmas
 pub mod WriteLemmas
 pub mod LinkedLemmas
+pub mod ReadingLemmas
+pub mod ReadIntoLemmas
+pub mod ReadErrorLemmas

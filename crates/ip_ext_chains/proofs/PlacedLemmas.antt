@@ -1,25 +1,18 @@
 -- Headers that stand in their places.
 use Rattle.std.proofs.Common.{◌≡◌, ℕ, List, [], refl, ap, sym, ◌∙◌, Bool, true, false}
 use Rattle.std.specs.Prelude.{◌==◌, ◌&&◌, not, Option, Some, None, is_some, IfSome, if◌then◌else◌}
-use Rattle.std.specs.Option.{option_map}
+use Rattle.std.specs.Option.{option_map, option_map_or}
 use Rattle.std.proofs.lemmas.Bool.{eqb-true}
 use Rattle.ip_spec.specs.FieldsOf.{raw_fields, fragment_fields, auth_fields}
 use Rattle.ip_spec.specs.Chain.{ExtHeader}
-use Rattle.ip_spec.specs.Places.{Place, hop_by_hop, destination, routing, fragment, authentication, final_destination, number_in, before_routing_header, after_routing_header, header_in, has_routing, place_of, is_taken, is_filled}
+use Rattle.ip_spec.specs.Places.{Place, hop_by_hop, destination, routing, fragment, authentication, final_destination, number_in, side_of, header_in, place_of, is_taken}
 use Rattle.ip_spec.proofs.FirstLemmas.{find_passes}
+use Rattle.ip_spec.proofs.PlaceLemmas.{has_routing, is_of}
 use Rattle.ip_ext_slices.specs.Ipv6ExtensionSlice.{header_of}
-use Rattle.ip_ext_chains.specs.Places.{at, ArePlaced, place_in, is_filled_in, is_taken_in, raw_at, value_at, AreOfNumber}
+use Rattle.ip_ext_chains.specs.Places.{at, ArePlaced, place_in, is_taken_in, raw_at, value_at, AreOfNumber}
 use Rattle.ip_ext_chains.specs.Ipv6Extensions.{raw_in, value_of}
 use Rattle.ip_ext_slices.specs.declared.ipv6_ext_slice.Ipv6ExtensionSlice.{Ipv6ExtensionSlice}
 use Rattle.ip_ext_chains.specs.declared.places.Places.{Places}
-
-pub none_in : (p : Place) → header_in p [] ≡ None
-none_in hop_by_hop = refl
-none_in destination = refl
-none_in routing = refl
-none_in fragment = refl
-none_in authentication = refl
-none_in final_destination = refl
 
 some_map : (o : Option Ipv6ExtensionSlice) → is_some (option_map header_of o) ≡ is_some o
 some_map (Some h) = refl
@@ -30,12 +23,7 @@ mapped_if true h o = refl
 mapped_if false h o = refl
 
 pub in_place_number : (p : Place) (c : List ExtHeader) (h : ExtHeader) → header_in p c ≡ Some h → h.number ≡ number_in p
-in_place_number hop_by_hop c h e = eqb-true h.number 0 (find_passes (λ g. g.number == 0) c h e)
-in_place_number destination c h e = eqb-true h.number 60 (find_passes (λ g. g.number == 60) (before_routing_header c) h e)
-in_place_number routing c h e = eqb-true h.number 43 (find_passes (λ g. g.number == 43) c h e)
-in_place_number fragment c h e = eqb-true h.number 44 (find_passes (λ g. g.number == 44) c h e)
-in_place_number authentication c h e = eqb-true h.number 51 (find_passes (λ g. g.number == 51) c h e)
-in_place_number final_destination c h e = eqb-true h.number 60 (find_passes (λ g. g.number == 60) (after_routing_header c) h e)
+in_place_number p c h e = eqb-true h.number (number_in p) (find_passes (is_of p) (side_of p c) h e)
 
 -- what is filled in the places is filled in the chain
 module _ (c : List ExtHeader) (v : Places Ipv6ExtensionSlice) (k : ArePlaced c v) where
@@ -48,12 +36,12 @@ module _ (c : List ExtHeader) (v : Places Ipv6ExtensionSlice) (k : ArePlaced c v
   pub none_same : (p : Place) → at p v ≡ None → header_in p c ≡ None
   none_same p e = sym (k p) ∙ ap (option_map header_of) e
 
-  filled_alike : (o : Option Place) → is_filled_in o v ≡ is_filled o c
+  filled_alike : (o : Option Place) → option_map_or (λ p. is_some (at p v)) o false ≡ option_map_or (λ p. is_some (header_in p c)) o false
   filled_alike (Some p) = filled_same p
   filled_alike None = refl
 
   pub taken_same : (m : ℕ) → is_taken_in v m ≡ is_taken m c
-  taken_same m = ap (λ b. not (m == 0) && b) (ap (λ o. is_filled_in o v) (place_same m) ∙ filled_alike (place_of m (has_routing c)))
+  taken_same m = ap (λ b. not (m == 0) && b) (ap (λ o. option_map_or (λ p. is_some (at p v)) o false) (place_same m) ∙ filled_alike (place_of m (has_routing c)))
 
   of_number : (p : Place) (o : Option Ipv6ExtensionSlice) → option_map header_of o ≡ header_in p c → IfSome o (λ h. (header_of h).number ≡ number_in p)
   of_number p (Some h) e = in_place_number p c (header_of h) (sym e)

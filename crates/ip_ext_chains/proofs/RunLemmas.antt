@@ -7,8 +7,8 @@ use Rattle.std.proofs.lemmas.Iterator.{YieldsList}
 use Rattle.std.proofs.lemmas.Iterator.Consumers.{YieldsList-from_shown}
 use Rattle.ip_spec.specs.Chain.{ExtHeader, bytes_of, IsChain}
 use Rattle.ip_spec.specs.Fits.{FitsPlaces, IsTaken}
-use Rattle.ip_spec.specs.Places.{Place, index, header_in, has_routing, place_of, is_taken}
-use Rattle.ip_spec.proofs.PlaceLemmas.{placed, fits_more, breaks_more, has_place, taken_told}
+use Rattle.ip_spec.specs.Places.{Place, index, header_in, place_of, is_taken}
+use Rattle.ip_spec.proofs.PlaceLemmas.{has_routing, own_place, placed, fits_more, breaks_more, taken_told}
 use Rattle.ip_ext_slices.specs.Ipv6ExtensionSlice.{header_of}
 use Rattle.ip_ext_chains.specs.Places.{at, place_in, IsPut, IsFreePlace, is_taken_in, IsFilled, ArePlaced, AreOfNumber, value_at}
 use Rattle.ip_ext_slices.specs.Longest.{longest_chain}
@@ -36,18 +36,18 @@ module _ (c : List ExtHeader) (m : ℕ) (h : ExtHeader) (left : List ExtHeader) 
   number : m ≡ h.number
   number = sym chain.links.0
 
-  own_place : (p : Place) → place_in v m ≡ Some p → place_of h.number (has_routing k.run) ≡ Some p
-  own_place p e = ap (λ j. place_of j (has_routing k.run)) (sym number) ∙ sym (place_same k.run v k.placed m) ∙ e
+  same_own : (p : Place) → place_in v m ≡ Some p → place_of h.number (has_routing k.run) ≡ Some p
+  same_own p e = ap (λ j. place_of j (has_routing k.run)) (sym number) ∙ sym (place_same k.run v k.placed m) ∙ e
 
-  breaks : (o : Option Place) → place_of h.number (has_routing k.run) ≡ o → IsFilled m v → FitsPlaces (k.run ++ h ∷ []) → ⊥
-  breaks None e f = absurd (let differ : false ≡ true = sym (ap is_some e) ∙ has_place h.number (has_routing k.run) (header_number h.number h.bytes chain.headers.0) in cc)
-  breaks (Some p) e f =
-      breaks_more k.run h p e (sym (filled_same k.run v k.placed p) ∙ f.filled p (place_same k.run v k.placed m ∙ ap (λ j. place_of j (has_routing k.run)) number ∙ e))
+  breaks : IsFilled m v → FitsPlaces (k.run ++ h ∷ []) → ⊥
+  breaks f =
+      let own = own_place h.number (has_routing k.run) (header_number h.number h.bytes chain.headers.0) in
+      breaks_more k.run h own.0 own.1 (sym (filled_same k.run v k.placed own.0) ∙ f.filled own.0 (place_same k.run v k.placed m ∙ ap (λ j. place_of j (has_routing k.run)) number ∙ own.1))
 
   run_full : IsFilled m v → IsRun c v (h ∷ left)
   run_full f = record {
     run = k.run;
-    kept = record { rest = h ∷ left; joined = k.whole; meets = k.fits; breaks = breaks (place_of h.number (has_routing k.run)) refl f };
+    kept = record { rest = h ∷ left; joined = k.whole; meets = k.fits; breaks = breaks f };
     left = refl;
     placed = k.placed;
   }
@@ -56,7 +56,7 @@ module _ (c : List ExtHeader) (m : ℕ) (h : ExtHeader) (left : List ExtHeader) 
 module _ (c : List ExtHeader) (m : ℕ) (h : Ipv6ExtensionSlice) (left : List ExtHeader) (v w : Places Ipv6ExtensionSlice) (p : Place) where
   placing_more : IsChain m (header_of h ∷ left) → IsPlacing c (header_of h ∷ left) v → IsFreePlace m p v → IsPut p h v w → IsPlacing c left w
   placing_more chain k f put =
-      let own : place_of (header_of h).number (has_routing k.run) ≡ Some p = own_place c m (header_of h) left v chain k p f.own in
+      let own : place_of (header_of h).number (has_routing k.run) ≡ Some p = same_own c m (header_of h) left v chain k p f.own in
       let none : header_in p k.run ≡ None = none_same k.run v k.placed p f.free in
       record {
         run = k.run ++ header_of h ∷ [];

@@ -1,6 +1,6 @@
 -- What stands in each place.
 use Rattle.std.specs.Prelude.{◌≡◌, ◌==◌, ◌&&◌, ℕ, List, Bool, true, false, not, Option, Some, None, is_some, IfSome, get_or, if◌then◌else◌}
-use Rattle.std.specs.Option.{option_map}
+use Rattle.std.specs.Option.{option_map, option_map_or}
 use Rattle.ip_spec.specs.Numbers.{HOP_BY_HOP}
 use Rattle.ip_spec.specs.Chain.{ExtHeader}
 use Rattle.ip_spec.specs.FieldsOf.{RawFields, raw_fields, fragment_fields, auth_fields}
@@ -25,13 +25,9 @@ IsPut q x v w = (p : Place) → at p w ≡ (if index q == index p then Some x el
 abbrev pub place_in : {T : Type 0} → Places T → ℕ → Option Place
 place_in v m = place_of m (is_some (at routing v))
 
-abbrev pub is_filled_in : {T : Type 0} → Option Place → Places T → Bool
-is_filled_in (Some p) v = is_some (at p v)
-is_filled_in None v = false
-
 -- m isn't 0, and its place is filled
 abbrev pub is_taken_in : {T : Type 0} → Places T → ℕ → Bool
-is_taken_in v m = not (m == HOP_BY_HOP) && is_filled_in (place_in v m) v
+is_taken_in v m = not (m == HOP_BY_HOP) && option_map_or (λ p. is_some (at p v)) (place_in v m) false
 
 -- p is the place of m, and nothing stands in it
 pub record IsFreePlace {T : Type 0} (m : ℕ) (p : Place) (v : Places T) : Type 0 where

@@ -7,6 +7,8 @@ mod encodable;
 pub mod err;
 mod header_ref;
 mod ipv6_exts;
+mod ipv6_exts_read;
+mod ipv6_exts_read_limited;
 mod ipv6_exts_runs;
 mod ipv6_exts_write;
 mod ipv6_routing_exts;
@@ -23,8 +25,8 @@ pub use ip_ext_headers::{
 };
 pub use ip_ext_ipv4::{Ipv4Extensions, Ipv4ExtensionsSlice};
 pub use ip_ext_slices::{
-    Ipv6ExtensionSlice, Ipv6ExtensionSliceIter, Ipv6ExtensionsSlice,
-    extension_number_left_has_fault, fault_at, plain_fault,
+    Ipv6ExtensionSlice, Ipv6ExtensionSliceIter, Ipv6ExtensionsCursor, Ipv6ExtensionsSlice,
+    extension_number_left_has_fault, fault_at,
 };
 pub use ipv6_exts::Ipv6Extensions;
 pub use ipv6_exts_runs::Ipv6ExtensionsRuns;

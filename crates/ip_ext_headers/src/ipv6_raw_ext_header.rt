@@ -158,7 +158,8 @@ impl Ipv6RawExtHeader {
         let mut start = [0; 2];
         reader.read_exact(&mut start)?;
         let [next_header, hdr_ext_len] = start;
-        let mut payload = Self::zero_payload(8 * usize::from(hdr_ext_len) + 6);
+        let len = 8 * usize::from(hdr_ext_len) + 6;
+        let mut payload = Self::zero_payload(len);
         reader.read_exact(payload.as_mut_slice())?;
         Ok(Ipv6RawExtHeader {
             next_header: IpNumber(next_header),

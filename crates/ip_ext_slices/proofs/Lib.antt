@@ -1,3 +1,4 @@
 pub mod LongestLemmas
 pub mod ParseLemmas
 pub mod FaultLemmas
+pub mod RequestFaultLemmas

@@ -1,13 +1,18 @@
 -- The longest chain, and the longest chain of bytes that it takes whole.
-use Rattle.std.proofs.Common.{◌≡◌, ℕ, ◌*◌, ◌≤◌, List, [], ◌∷◌, length, drop, refl, ap, sym, ◌∙◌, arith, subst, Bool, true, false, nat_eq}
+use Rattle.std.proofs.Common.{◌≡◌, ◌≢◌, ℕ, ◌*◌, ◌≤◌, ◌<◌, List, [], ◌∷◌, length, drop, refl, ap, sym, ◌∙◌, arith, inl, inr, subst, Bool, true, false, nat_eq}
 use Rattle.std.specs.Prelude.{Option, Some, None, IfNone, IsSome}
+use Rattle.std.specs.List.{AllByRecursion}
 use Rattle.std.proofs.Math.Seq.{drop-append_seam}
+use Rattle.std.proofs.lemmas.List.{drop-drop, length-append}
+use Rattle.std.proofs.lemmas.Bool.{ne_eqb}
+use Rattle.std.proofs.lemmas.Bool.Decides.{eqb_tells}
 use Rattle.ip_spec.specs.Fields.{next_header}
-use Rattle.ip_spec.specs.Chain.{ExtHeader, bytes_of, IsChain, IsPrefixChain, IsLongestChain, IsNext, IsEnd}
-use Rattle.ip_spec.proofs.PrefixLemmas.{prefix-length}
+use Rattle.ip_spec.specs.Chain.{ExtHeader, AreLinked, leads_to, bytes_of, is_empty, IsChain, IsPrefixChain, IsLongestChain, IsNext, IsEnd}
+use Rattle.ip_spec.specs.Parse.{rest_behind}
+use Rattle.ip_spec.proofs.PrefixLemmas.{prefix-length, prefix_first, prefix_second, rest_join}
 use Rattle.ip_spec.proofs.HeaderLemmas.{header-least, one_next}
-use Rattle.ip_spec.proofs.ChainLemmas.{some_longest, one_longest, whole_longest, first_next, tail_chain, bytes_of-least}
-use Rattle.ip_ext_slices.specs.Longest.{longest_chain}
+use Rattle.ip_spec.proofs.ChainLemmas.{some_longest, one_longest, whole_longest, longest_at_end, longest_ends, first_next, tail_chain, bytes_of-least}
+use Rattle.ip_ext_slices.specs.Longest.{longest_chain, longest_from}
 
 pub longest_chain-longest : (n : ℕ) (s : List ℕ) → IsLongestChain n s (longest_chain n s)
 longest_chain-longest n s = (some_longest n s).1
@@ -64,3 +69,89 @@ whole_cut n r h k q b e x ek eb eq =
 pub some_where_next : {A : Type 0} (o : Option A) (first : Bool) (m : ℕ) (s : List ℕ) → IfNone o (IsEnd first m s) → ((h : ExtHeader) × IsNext first m s h) → IsSome o
 some_where_next (Some x) first m s e next = refl
 some_where_next None first m s e (h, next) = absurd (e h next)
+
+-- Behind another header only number 0 begins no chain, so at another number nothing changes.
+not_zero_ends : (m : ℕ) (r : List ℕ) → m ≢ 0 → IsEnd false m r → IsEnd true m r
+not_zero_ends m r some e = λ h x. e h (record { number = x.number; header = x.header; prefix = x.prefix; zero_only_first = λ z. absurd (some z) })
+
+first_or_later : (first : Bool) (m : ℕ) (r : List ℕ) (h : ExtHeader) → IsNext first m r h → IsNext true m r h
+first_or_later first m r h x = record { number = x.number; header = x.header; prefix = x.prefix; zero_only_first = λ z. refl }
+
+none_begins : (m : ℕ) (r : List ℕ) (c : List ExtHeader) → IsPrefixChain m r c → IsEnd true m r → c ≡ []
+none_begins m r [] p e = refl
+none_begins m r (h ∷ c) p e = absurd (e h (first_next m r h c p))
+
+-- where no header goes on, none is left
+pub longest_from-end : (first : Bool) (m : ℕ) (r : List ℕ) → IsEnd first m r → longest_from first m r ≡ []
+longest_from-end true m r e = none_begins m r (longest_chain m r) (longest_chain-longest m r).has e
+longest_from-end false m r e = elim (eqb_tells m 0) [
+  | inl w ↦ rw w.0 refl
+  | inr w ↦ rw w.0 (none_begins m r (longest_chain m r) (longest_chain-longest m r).has (not_zero_ends m r w.1 e))
+]
+
+-- each header of it has 8 bytes at least
+chain_within : (n : ℕ) (s : List ℕ) → 8 * length (longest_chain n s) ≤ length s
+chain_within n s = omega (arith, longest_chain-least n s, prefix-length (bytes_of (longest_chain n s)) s (longest_chain-longest n s).has.prefix)
+
+pub longest_from-least : (first : Bool) (n : ℕ) (s : List ℕ) → 8 * length (longest_from first n s) ≤ length s
+longest_from-least true n s = chain_within n s
+longest_from-least false n s = elim (eqb_tells n 0) [ inl w ↦ rw w.0 (omega arith) | inr w ↦ rw w.0 (chain_within n s) ]
+
+none_behind_zero : (k : ℕ) (c : List ExtHeader) → k ≡ 0 → AreLinked k c → AllByRecursion (λ h. h.number ≢ 0) c → c ≡ []
+none_behind_zero k [] z links a = refl
+none_behind_zero k (h ∷ c) z links a = absurd (a.0 (links.0 ∙ z))
+
+end_behind : (k : ℕ) (q : List ℕ) (c : List ExtHeader) → k ≢ 0 → IsEnd false (leads_to k c) q → IsEnd (is_empty c) (leads_to k c) q
+end_behind k q [] some e = not_zero_ends k q some e
+end_behind k q (h ∷ c) some e = e
+
+-- the headers behind the first of the longest chain are the longest chain that goes on there
+module _ (n : ℕ) (r : List ℕ) (g : ExtHeader) (c : List ExtHeader) (l : IsLongestChain n r (g ∷ c)) where
+  tail_longest : next_header g.bytes ≢ 0 → IsLongestChain (next_header g.bytes) (drop (length g.bytes) r) c
+  tail_longest some =
+      let first = prefix_first g.bytes (bytes_of c) r l.has.prefix in
+      let second = prefix_second g.bytes (bytes_of c) r l.has.prefix in
+      let E : List ℕ → Type 0 = IsEnd false (leads_to (next_header g.bytes) c) in
+      let rest = rest_join g.bytes (bytes_of c) r first second in
+      longest_at_end _ _ c (record { chain = tail_chain n g c l.has.chain; prefix = second }) (end_behind _ _ c some (subst E (sym rest) (longest_ends n r (g ∷ c) l)))
+
+  tail_is : c ≡ longest_from false (next_header g.bytes) (drop (length g.bytes) r)
+  tail_is = elim (eqb_tells (next_header g.bytes) 0) [
+    | inl w ↦ rw w.0 (none_behind_zero (next_header g.bytes) c w.1 l.has.chain.links.1 l.has.chain.zero_only_first)
+    | inr w ↦ rw w.0 (sym (longest_chain-is _ _ c (tail_longest w.1)))
+  ]
+
+longest_splits : (m : ℕ) (r : List ℕ) (h : ExtHeader) (c : List ExtHeader) → IsLongestChain m r c → IsNext true m r h → c ≡ h ∷ longest_from false (next_header h.bytes) (drop (length h.bytes) r)
+longest_splits m r h [] l x = absurd (longest_ends m r [] l h x)
+longest_splits m r h (g ∷ c) l x =
+    let same : g ≡ h = one_next true m r g h (first_next m r g c l.has) x in
+    ap (λ d. g ∷ d) (tail_is m r g c l) ∙ ap (λ (j : ExtHeader). j ∷ longest_from false (next_header j.bytes) (drop (length j.bytes) r)) same
+
+-- where a header goes on, it is the first that is left, and behind it the others are
+pub longest_from-next : (first : Bool) (m : ℕ) (r : List ℕ) (h : ExtHeader) → IsNext first m r h → longest_from first m r ≡ h ∷ longest_from false (next_header h.bytes) (drop (length h.bytes) r)
+longest_from-next true m r h x = longest_splits m r h (longest_chain m r) (longest_chain-longest m r) x
+longest_from-next false m r h x = elim (eqb_tells m 0) [
+  | inl w ↦ let no : false ≡ true = x.zero_only_first w.1 in cc
+  | inr w ↦ rw w.0 (longest_splits m r h (longest_chain m r) (longest_chain-longest m r) (first_or_later false m r h x))
+]
+
+-- What is left of l bytes, r at number m and then q at number k, from one header to the next.
+pub record GoesBehind (l : ℕ) (m : ℕ) (r : List ℕ) (h : ExtHeader) (k : ℕ) (q : List ℕ) : Type 0 where
+  pub given : longest_from (nat_eq (length r) l) m r ≡ h ∷ longest_from (nat_eq (length q) l) k q
+  pub leads : leads_to m (longest_from (nat_eq (length r) l) m r) ≡ leads_to k (longest_from (nat_eq (length q) l) k q)
+  pub behind : rest_behind (longest_from (nat_eq (length r) l) m r) r ≡ rest_behind (longest_from (nat_eq (length q) l) k q) q
+  pub within : length q ≤ l
+
+pub goes_behind : (l m : ℕ) (r : List ℕ) (h : ExtHeader) (k : ℕ) (q b : List ℕ) → length r ≤ l → IsNext (nat_eq (length r) l) m r h → k ≡ next_header h.bytes → b ≡ h.bytes → q ≡ drop (length b) r → GoesBehind l m r h k q
+goes_behind l m r h k q b within x ek eb eq =
+    let at : q ≡ drop (length h.bytes) r = eq ∙ ap (λ (y : List ℕ). drop (length y) r) eb in
+    let less : length q < l = omega (arith, ap length at, header-least m h.bytes x.header, prefix-length h.bytes r x.prefix, within) in
+    let later : nat_eq (length q) l ≡ false = ne_eqb (length q) l (λ e. absurd (omega (arith, e, less))) in
+    let given : longest_from (nat_eq (length r) l) m r ≡ h ∷ longest_from (nat_eq (length q) l) k q =
+    longest_from-next _ m r h x ∙ ap (λ j. h ∷ longest_from false j (drop (length h.bytes) r)) (sym ek) ∙ ap (λ y. h ∷ longest_from false k y) (sym at) ∙ ap (λ f. h ∷ longest_from f k q) (sym later) in
+    record {
+      given = given;
+      leads = ap (leads_to m) given ∙ ap (λ j. leads_to j (longest_from (nat_eq (length q) l) k q)) (sym ek);
+      behind = ap (λ c. rest_behind c r) given ∙ sym (ap (drop (length (bytes_of (longest_from (nat_eq (length q) l) k q)))) at ∙ drop-drop (length (bytes_of (longest_from (nat_eq (length q) l) k q))) (length h.bytes) r ∙ ap (λ j. drop j r) (sym (length-append h.bytes (bytes_of (longest_from (nat_eq (length q) l) k q)))));
+      within = omega (arith, less);
+    }

@@ -1,7 +1,9 @@
 -- What the parse knows of the chain that it has read, and what follows where no header goes on.
-use Rattle.std.proofs.Common.{◌≡◌, ℕ, arith, inl, inr, subst, ◌-◌, List, [], ◌∷◌, ◌++◌, length, take, drop, ap, sym, ◌∙◌, Bool, nat_eq}
-use Rattle.std.specs.Prelude.{◌==◌, ◌&&◌, ◌||◌}
+use Rattle.std.proofs.Common.{◌≡◌, ℕ, refl, arith, inl, inr, subst, ◌-◌, List, [], ◌∷◌, ◌++◌, length, take, drop, ap, sym, ◌∙◌, Bool, nat_eq}
+use Rattle.std.specs.Prelude.{◌==◌, ◌&&◌, ◌||◌, Option, None}
 use Rattle.std.specs.List.{AllByRecursion}
+use Rattle.std.proofs.lemmas.Iterator.{YieldsList}
+use Rattle.std.proofs.lemmas.Iterator.Consumers.{YieldsList-from_shown}
 use Rattle.std.proofs.Math.Bool.{or-false, or_assoc}
 use Rattle.std.proofs.lemmas.Bool.Decides.{eqb_tells}
 use Rattle.ip_spec.specs.Header.{IsHeader}
@@ -11,9 +13,13 @@ use Rattle.ip_spec.proofs.ChainLemmas.{longest_ends, bytes_of-least}
 use Rattle.ip_spec.specs.Fields.{next_header, is_fragmenting}
 use Rattle.ip_spec.specs.Chain.{ExtHeader, leads_to, bytes_of, is_empty, has_fragmenting, IsNext, IsEnd}
 use Rattle.ip_spec.proofs.ReadLemmas.{HasRead, has_read_on, offset_is, no_next_here, read_longest}
-use Rattle.ip_ext_slices.specs.Longest.{longest_chain}
-use Rattle.ip_ext_slices.specs.Fault.{slice_fault, chain_fault}
-use Rattle.ip_ext_slices.proofs.LongestLemmas.{longest_chain-longest, longest_chain-is, longest_chain-bytes_of}
+use Rattle.ip_ext_slices.specs.Longest.{longest_chain, longest_from}
+use Rattle.ip_ext_slices.specs.Fault.{Fault, slice_fault, chain_fault}
+use Rattle.ip_ext_slices.specs.Parse.{IsChainAnswer}
+use Rattle.ip_ext_slices.specs.Ipv6ExtensionSlice.{header_of}
+use Rattle.ip_ext_slices.specs.Ipv6ExtensionsCursor.{headers_left, GivesHeader}
+use Rattle.ip_ext_slices.specs.declared.ipv6_exts_cursor.Ipv6ExtensionsCursor.{Ipv6ExtensionsCursor}
+use Rattle.ip_ext_slices.proofs.LongestLemmas.{longest_chain-longest, longest_chain-is, longest_chain-bytes_of, longest_from-end}
 
 -- a fragment header that fragments the payload
 abbrev pub fragments : ExtHeader → Bool
@@ -92,3 +98,29 @@ module _ (n : ℕ) (s : List ℕ) (k : ℕ) (len : k ≡ length (bytes_of (longe
         ∙ ap (λ j. slice_fault j (is_empty c) m r) len
         ∙ ap (λ j. slice_fault (length (bytes_of c)) (is_empty c) j r) number
         ∙ ap (slice_fault (length (bytes_of c)) (is_empty c) (leads_to n c)) rest)
+
+-- A cursor over the longest chain of s from n has come to number m with r left, and what is left from there leads to
+-- where the chain leads. Where no header goes on, it is at the end of the chain.
+pub record IsAtEnd (n : ℕ) (s : List ℕ) (m : ℕ) (r : List ℕ) : Type 0 where
+  pub ends : IsEnd (nat_eq (length s - length r) 0) m r
+  pub answers : (f : Option Fault) → f ≡ slice_fault (length s - length r) (nat_eq (length s - length r) 0) m r → IsChainAnswer n s (longest_chain n s) m r f
+
+pub cursor_at_end : (n : ℕ) (s : List ℕ) (first : Bool) (m : ℕ) (r : List ℕ) → leads_to m (longest_from first m r) ≡ leads_to n (longest_chain n s) → rest_behind (longest_from first m r) r ≡ rest_behind (longest_chain n s) s → IsEnd first m r → IsAtEnd n s m r
+cursor_at_end n s first m r leads behind e =
+    let none : [] ≡ longest_from first m r = sym (longest_from-end first m r e) in
+    let number : m ≡ leads_to n (longest_chain n s) = ap (leads_to m) none ∙ leads in
+    let rest : r ≡ rest_behind (longest_chain n s) s = ap (λ c. rest_behind c r) none ∙ behind in
+    let len = len_behind n s r rest in
+    record {
+      ends = ends_behind n s _ len m r number rest;
+      answers = λ f is. record { value = refl; number = number; rest = rest; fault = is ∙ sym (chain_fault_is n s _ len m r number rest) };
+    }
+
+-- what a cursor yields
+ended : (c d : Ipv6ExtensionsCursor) → GivesHeader c None d → length (headers_left c) ≡ 0
+ended c d e = ap length e.0.0
+
+pub cursor_yields : (c : Ipv6ExtensionsCursor) (all : List ExtHeader) → headers_left c ≡ all → YieldsList GivesHeader header_of c all
+cursor_yields c all e =
+    let Y : List ExtHeader → Type 0 = YieldsList GivesHeader header_of c in
+    subst Y e (YieldsList-from_shown GivesHeader header_of headers_left ended (λ d x t g. g.0) c)

@@ -31,15 +31,11 @@ abbrev pub auth_at : AuthSliceError → Fault
 auth_at (auth.Len e) = short_at IpAuthHeader e
 auth_at (auth.Content e) = (Content (IpAuth e), IpAuthHeader)
 
--- hop by hop options that are not first
-abbrev pub hop_by_hop_later : Fault
-hop_by_hop_later = (Content HopByHopNotAtStart, Ipv6HopByHopHeader)
-
 -- The fault at number m, where r is left at offset k, n bytes as the source tells; `first` tells that no header
 -- is before. There is none where a header goes on, and none where m is no extension number.
 abbrev pub fault_at : LenSource → ℕ → ℕ → Bool → ℕ → List ℕ → Option Fault
 fault_at source n k first m r =
-    if m == HOP_BY_HOP then (if first then option_map (short_at Ipv6HopByHopHeader) (raw_fault source n k r) else Some hop_by_hop_later)
+    if m == HOP_BY_HOP then (if first then option_map (short_at Ipv6HopByHopHeader) (raw_fault source n k r) else Some (Content HopByHopNotAtStart, Ipv6HopByHopHeader))
     else if m == ROUTING then option_map (short_at Ipv6RouteHeader) (raw_fault source n k r)
     else if m == DESTINATION_OPTIONS then option_map (short_at Ipv6DestOptionsHeader) (raw_fault source n k r)
     else if m == FRAGMENT then option_map (short_at Ipv6FragHeader) (fragment_fault source n k r)

@@ -7,13 +7,13 @@ mod chain_laws;
 pub mod err;
 mod ipv6_ext_slice;
 mod ipv6_ext_slice_iter;
+mod ipv6_exts_cursor;
 mod ipv6_exts_slice;
-mod plain;
 mod step;
 
 pub use chain_laws::extension_number_left_has_fault;
 pub use ipv6_ext_slice::Ipv6ExtensionSlice;
 pub use ipv6_ext_slice_iter::Ipv6ExtensionSliceIter;
+pub use ipv6_exts_cursor::Ipv6ExtensionsCursor;
 pub use ipv6_exts_slice::Ipv6ExtensionsSlice;
-pub use plain::plain_fault;
 pub use step::fault_at;

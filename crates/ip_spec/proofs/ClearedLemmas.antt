@@ -1,6 +1,6 @@
 -- Chains whose reserved bits are put to zero: they lead where they led, stand in the same places and say the same.
-use Rattle.std.proofs.Common.{◌≡◌, ◌≢◌, ℕ, ◌<◌, List, [], ◌∷◌, ◌++◌, length, drop, refl, ap, sym, ◌∙◌, inl, inr, subst, Bool, length-set}
-use Rattle.std.specs.Prelude.{Option, Some, None, All, slice_range, ◌==◌}
+use Rattle.std.proofs.Common.{◌≡◌, ◌≢◌, ℕ, ◌<◌, List, [], ◌∷◌, ◌++◌, length, drop, refl, ap, sym, ◌∙◌, arith, inl, inr, subst, Bool, length-set}
+use Rattle.std.specs.Prelude.{Option, Some, None, All, count_by, slice_range, ◌==◌}
 use Rattle.std.specs.List.{AllByRecursion, find}
 use Rattle.std.specs.Option.{option_map, ForSome}
 use Rattle.std.proofs.lemmas.Bool.{cases_Bool}
@@ -13,10 +13,11 @@ use Rattle.ip_spec.specs.FieldsOf.{FragmentFields, AuthFields}
 use Rattle.ip_spec.specs.Cleared.{cleared_header}
 use Rattle.ip_spec.specs.Encoding.{AreBytes}
 use Rattle.ip_spec.specs.Chain.{ExtHeader, AreLinked, leads_to, bytes_of, IsChain}
-use Rattle.ip_spec.specs.Fits.{numbers_of, NumbersFit, FitsPlaces}
-use Rattle.ip_spec.specs.Places.{Place, hop_by_hop, destination, routing, fragment as fragment_place, authentication, final_destination, header_in, first_of, before_routing_header, after_routing_header, fields_of, fragment_header, auth_header}
+use Rattle.ip_spec.specs.Fits.{FitsPlaces}
+use Rattle.ip_spec.specs.Places.{Place, destination, final_destination, side_of, header_in, fields_of, fragment_header, auth_header}
 use Rattle.ip_spec.specs.Encoded.{fixed_len, AreCleared, cleared_chain}
-use Rattle.ip_spec.proofs.FirstLemmas.{find-yes, find-no, before-map, after-map}
+use Rattle.ip_spec.proofs.FirstLemmas.{find-yes, find-no, before-map, after-map, find-map, count-map}
+use Rattle.ip_spec.proofs.PlaceLemmas.{is_of}
 use Rattle.ip_spec.proofs.EncodingLemmas.{cleared_fragment_same, cleared_auth_same, cleared_fragment_encodes, cleared_auth_encodes}
 
 -- What clearing leaves of a header.
@@ -75,10 +76,6 @@ abbrev AreHeaders : List ExtHeader → Type 0
 AreHeaders c = AllByRecursion (λ h. IsHeader h.number h.bytes) c
 
 -- The same of chains.
-pub cleared_numbers : (c : List ExtHeader) → numbers_of (cleared_chain c) ≡ numbers_of c
-cleared_numbers [] = refl
-cleared_numbers (h ∷ c) = ap (λ x. h.number ∷ x) (cleared_numbers c)
-
 pub cleared_leads : (n : ℕ) (c : List ExtHeader) → AreHeaders c → leads_to n (cleared_chain c) ≡ leads_to n c
 cleared_leads n [] a = refl
 cleared_leads n (h ∷ c) a = ap (λ m. leads_to m (cleared_chain c)) (cleared_same h.bytes h.number a.0).next ∙ cleared_leads (next_header h.bytes) c a.1
@@ -108,9 +105,6 @@ cleared_is_chain n c k = record {
   zero_only_first = cleared_zero_first c k.zero_only_first;
 }
 
-pub cleared_fits : (c : List ExtHeader) → FitsPlaces c → FitsPlaces (cleared_chain c)
-cleared_fits c f = let N : List ℕ → Type 0 = NumbersFit in subst N (sym (cleared_numbers c)) f
-
 -- of bytes, what is cleared is
 pub cleared_are : (c : List ExtHeader) → AreHeaders c → AreBytes (bytes_of c) → AreCleared (cleared_chain c)
 cleared_are [] a b = tt
@@ -122,23 +116,16 @@ cleared_are (h ∷ c) a b =
     (record { reserved = same.again; bytes = same.bytes (All-take P _ (drop 1 h.bytes) (All-drop P 1 h.bytes mine)) }, cleared_are c a.1 others)
 
 -- Each place has the header that it had, cleared.
-find-map : (t : ExtHeader → Bool) → ((h : ExtHeader) → t (cleared_of h) ≡ t h) → (c : List ExtHeader) → find t (cleared_chain c) ≡ option_map cleared_of (find t c)
-find-map t same [] = refl
-find-map t same (h ∷ c) = elim (cases_Bool (t h)) [
-  | inl w ↦ find-yes t (cleared_of h) (cleared_chain c) (same h ∙ w) ∙ sym (ap (option_map cleared_of) (find-yes t h c w))
-  | inr w ↦ find-no t (cleared_of h) (cleared_chain c) (same h ∙ w) ∙ find-map t same c ∙ sym (ap (option_map cleared_of) (find-no t h c w))
-]
-
-first_of-cleared : (m : ℕ) (c : List ExtHeader) → first_of m (cleared_chain c) ≡ option_map cleared_of (first_of m c)
-first_of-cleared m c = find-map (λ h. h.number == m) (λ h. refl) c
+side-cleared : (p : Place) (c : List ExtHeader) → side_of p (cleared_chain c) ≡ cleared_chain (side_of p c)
+side-cleared destination c = sym (before-map cleared_of (λ h. h.number == 43) c)
+side-cleared final_destination c = sym (after-map cleared_of (λ h. h.number == 43) c)
+side-cleared p c = refl
 
 pub header_in-cleared : (p : Place) (c : List ExtHeader) → header_in p (cleared_chain c) ≡ option_map cleared_of (header_in p c)
-header_in-cleared hop_by_hop c = first_of-cleared 0 c
-header_in-cleared destination c = ap (first_of 60) (sym (before-map cleared_of (λ h. h.number == 43) c)) ∙ first_of-cleared 60 (before_routing_header c)
-header_in-cleared routing c = first_of-cleared 43 c
-header_in-cleared fragment_place c = first_of-cleared 44 c
-header_in-cleared authentication c = first_of-cleared 51 c
-header_in-cleared final_destination c = ap (first_of 60) (sym (after-map cleared_of (λ h. h.number == 43) c)) ∙ first_of-cleared 60 (after_routing_header c)
+header_in-cleared p c = ap (find (is_of p)) (side-cleared p c) ∙ find-map cleared_of (is_of p) (side_of p c)
+
+pub cleared_fits : (c : List ExtHeader) → FitsPlaces c → FitsPlaces (cleared_chain c)
+cleared_fits c f p = omega (arith, ap (count_by (is_of p)) (side-cleared p c), count-map cleared_of (is_of p) (side_of p c), f p)
 
 -- What holds of each header holds of the one in a place.
 find_has : (P : ExtHeader → Type 0) (t : ExtHeader → Bool) (c : List ExtHeader) → All P c → ForSome (find t c) P
@@ -150,13 +137,13 @@ find_has P t (g ∷ c) a h e =
       | inr w ↦ find_has P t c (All-from_recursion P c both.1) h (sym (find-no t g c w) ∙ e)
     ]
 
+side_has : (P : ExtHeader → Type 0) (p : Place) (c : List ExtHeader) → All P c → All P (side_of p c)
+side_has P destination c a = All-take P _ c a
+side_has P final_destination c a = All-drop P _ c a
+side_has P p c a = a
+
 pub header_in_has : (P : ExtHeader → Type 0) (p : Place) (c : List ExtHeader) → AllByRecursion P c → ForSome (header_in p c) P
-header_in_has P hop_by_hop c a = find_has P _ c (All-from_recursion P c a)
-header_in_has P destination c a = find_has P _ (before_routing_header c) (All-take P _ c (All-from_recursion P c a))
-header_in_has P routing c a = find_has P _ c (All-from_recursion P c a)
-header_in_has P fragment_place c a = find_has P _ c (All-from_recursion P c a)
-header_in_has P authentication c a = find_has P _ c (All-from_recursion P c a)
-header_in_has P final_destination c a = find_has P _ (after_routing_header c) (All-drop P _ c (All-from_recursion P c a))
+header_in_has P p c a = find_has P (is_of p) (side_of p c) (side_has P p c (All-from_recursion P c a))
 
 -- So a chain says the same cleared.
 fields-cleared : (o : Option ExtHeader) → ForSome o (λ h. IsHeader h.number h.bytes) → option_map fields_of (option_map cleared_of o) ≡ option_map fields_of o

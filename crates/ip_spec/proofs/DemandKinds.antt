@@ -31,7 +31,7 @@ at_most_keeps k d = record {
 pub longest_at_most : (k n : ℕ) (s : List ℕ) (d : List ExtHeader) → IsLongestChain n s d → IsLongestUnder (AtMost k) n s (take k d)
 longest_at_most k n s d l = kept_is_longest (AtMost k) (at_most k) n s d (take k d) l (at_most_keeps k d)
 
-all_or : {X : Type 0} (P : X → Type 0) → ((x : X) → P x ⊎ (P x → ⊥)) → (c : List X) → AllByRecursion P c ⊎ (AllByRecursion P c → ⊥)
+pub all_or : {X : Type 0} (P : X → Type 0) → ((x : X) → P x ⊎ (P x → ⊥)) → (c : List X) → AllByRecursion P c ⊎ (AllByRecursion P c → ⊥)
 all_or P test [] = inl tt
 all_or P test (x ∷ c) = elim (test x) [
   | inr fails ↦ inr (λ a. fails a.0)

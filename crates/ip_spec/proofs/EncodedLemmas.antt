@@ -2,7 +2,7 @@
 use Rattle.std.proofs.Common.{◌≡◌, ℕ, ◌+◌, ◌-◌, ◌/◌, ◌^◌, ◌<◌, ◌≤◌, List, [], ◌∷◌, length, drop, Bool, true, false, refl, ap, sym, ◌∙◌, arith, inl, inr, subst}
 use Rattle.std.specs.Prelude.{slice_range}
 use Rattle.std.proofs.lemmas.List.Elements.{All-from_recursion, recursion_from_All, All-append}
-use Rattle.ip_spec.specs.Header.{IsHeader, IsRawHeader, IsFragmentHeader, IsAuthHeader, IsRawNumber, IsExtensionNumber, raw, fragment, auth}
+use Rattle.ip_spec.specs.Header.{IsHeader, IsRawHeader, IsFragmentHeader, IsAuthHeader, IsRawNumber, raw, fragment, auth}
 use Rattle.ip_spec.proofs.HeaderLemmas.{header_number}
 use Rattle.ip_spec.specs.FieldsOf.{RawFields, FragmentFields, AuthFields, raw_fields, fragment_fields, auth_fields}
 use Rattle.ip_spec.specs.Lengths.{MAX_FRAGMENT_OFFSET, IsPayloadLen, IsIcvLen}

@@ -1,19 +1,20 @@
 -- The first element of a list that passes a test, what stands before it and what after, where lists are joined.
 use Rattle.std.proofs.Common.{◌≡◌, ℕ, suc, ◌+◌, ◌≤◌, List, [], ◌∷◌, ◌++◌, take, drop, map, refl, ap, sym, ◌∙◌, arith, inl, inr, Bool, true, false, cond}
 use Rattle.std.specs.Prelude.{not, count_by, Option, Some, None, is_some}
-use Rattle.std.specs.List.{position_or_len, find, before_first, after_first}
-use Rattle.std.specs.Option.{option_or}
+use Rattle.std.specs.List.{position_or_len, find, before_first, after_first, AllByRecursion}
+use Rattle.std.specs.Option.{option_or, option_map}
 use Rattle.std.proofs.lemmas.Bool.{cases_Bool}
+use Rattle.std.proofs.lemmas.Option.{none-some}
 use Rattle.std.proofs.lemmas.List.{take-append-drop}
 use Rattle.std.proofs.lemmas.List.Sums.{sum_by-append}
 use Rattle.std.proofs.lemmas.List.Folds.{find-append}
 
 module _ {X : Type 0} (t : X → Bool) where
   module _ (x : X) (xs : List X) where
-    before-yes : t x ≡ true → before_first t (x ∷ xs) ≡ []
+    pub before-yes : t x ≡ true → before_first t (x ∷ xs) ≡ []
     before-yes e = ap (λ b. take (cond (not b) (1 + position_or_len t xs) 0) (x ∷ xs)) e
 
-    before-no : t x ≡ false → before_first t (x ∷ xs) ≡ x ∷ before_first t xs
+    pub before-no : t x ≡ false → before_first t (x ∷ xs) ≡ x ∷ before_first t xs
     before-no e =
         let k : ℕ = position_or_len t xs in
         let more : 1 + k ≡ suc k = omega arith in
@@ -74,28 +75,29 @@ module _ {X : Type 0} (t : X → Bool) where
   ]
 
   -- of one element alone
-  pub before_one : (x : X) → t x ≡ false → before_first t (x ∷ []) ≡ x ∷ []
-  before_one x e = before-no x [] e
-
-  pub before_itself : (x : X) → t x ≡ true → before_first t (x ∷ []) ≡ []
-  before_itself x e = before-yes x [] e
-
   pub after_one : (x : X) → after_first t (x ∷ []) ≡ []
   after_one x = elim (cases_Bool (t x)) [ inl w ↦ after-yes x [] w | inr w ↦ after-no x [] w ]
 
   -- The first that passes is there where the count isn't 0, and one more stands behind it.
-  pub find_none : (xs : List X) → count_by t xs ≡ 0 → find t xs ≡ None
-  find_none [] e = refl
-  find_none (x ∷ xs) e = elim (cases_Bool (t x)) [
-    | inl w ↦ absurd (omega (arith, count_yes x xs w, e))
-    | inr w ↦ find-no x xs w ∙ find_none xs (sym (count_no x xs w) ∙ e)
+  pub counted : (xs : List X) → is_some (find t xs) ≡ true → 1 ≤ count_by t xs
+  counted [] e = absurd (let differ : false ≡ true = e in cc)
+  counted (x ∷ xs) e = elim (cases_Bool (t x)) [
+    | inl w ↦ omega (arith, count_yes x xs w)
+    | inr w ↦ omega (arith, count_no x xs w, counted xs (sym (ap is_some (find-no x xs w)) ∙ e))
   ]
 
-  pub find_some : (xs : List X) → 1 ≤ count_by t xs → is_some (find t xs) ≡ true
-  find_some [] l = absurd (omega arith)
-  find_some (x ∷ xs) l = elim (cases_Bool (t x)) [
-    | inl w ↦ ap is_some (find-yes x xs w)
-    | inr w ↦ ap is_some (find-no x xs w) ∙ find_some xs (omega (arith, count_no x xs w, l))
+  pub none_counted : (xs : List X) → is_some (find t xs) ≡ false → count_by t xs ≡ 0
+  none_counted [] e = refl
+  none_counted (x ∷ xs) e = elim (cases_Bool (t x)) [
+    | inl w ↦ absurd (let differ : true ≡ false = sym (ap is_some (find-yes x xs w)) ∙ e in cc)
+    | inr w ↦ count_no x xs w ∙ none_counted xs (sym (ap is_some (find-no x xs w)) ∙ e)
+  ]
+
+  pub none_passes : (xs : List X) → find t xs ≡ None → AllByRecursion (λ x. t x ≡ false) xs
+  none_passes [] e = tt
+  none_passes (x ∷ xs) e = elim (cases_Bool (t x)) [
+    | inl w ↦ absurd (none-some x (sym e ∙ find-yes x xs w))
+    | inr w ↦ (w, none_passes xs (sym (find-no x xs w) ∙ e))
   ]
 
   pub find_passes : (xs : List X) (x : X) → find t xs ≡ Some x → t x ≡ true
@@ -137,6 +139,13 @@ module _ {X Y : Type 0} (f : X → Y) (t : Y → Bool) where
   after-map (x ∷ xs) = elim (cases_Bool (t (f x))) [
     | inl w ↦ ap (map f) (after-yes (λ x. t (f x)) x xs w) ∙ sym (after-yes t (f x) (map f xs) w)
     | inr w ↦ ap (map f) (after-no (λ x. t (f x)) x xs w) ∙ after-map xs ∙ sym (after-no t (f x) (map f xs) w)
+  ]
+
+  pub find-map : (xs : List X) → find t (map f xs) ≡ option_map f (find (λ x. t (f x)) xs)
+  find-map [] = refl
+  find-map (x ∷ xs) = elim (cases_Bool (t (f x))) [
+    | inl w ↦ find-yes t (f x) (map f xs) w ∙ sym (ap (option_map f) (find-yes (λ x. t (f x)) x xs w))
+    | inr w ↦ find-no t (f x) (map f xs) w ∙ find-map xs ∙ sym (ap (option_map f) (find-no (λ x. t (f x)) x xs w))
   ]
 
   pub count-map : (xs : List X) → count_by (λ x. t (f x)) xs ≡ count_by t (map f xs)

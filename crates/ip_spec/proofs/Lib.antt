@@ -8,10 +8,11 @@ pub mod ChainLemmas
 pub mod ReadLemmas
 pub mod DemandKinds
 pub mod FirstLemmas
+pub mod PlaceLemmas
 pub mod FitsLemmas
+pub mod NumbersFitLemmas
 pub mod CutLemmas
 pub mod RunsLemmas
-pub mod PlaceLemmas
 pub mod ShorterLemmas
 pub mod EncodingLemmas
 pub mod ClearedLemmas
@@ -21,5 +22,4 @@ pub mod WalkStepLemmas
 pub mod SpellingLemmas
 pub mod LinkLemmas
 pub mod SumLemmas
-pub mod PlainFitsLemmas
 pub mod RequestLemmas

@@ -11,7 +11,7 @@ use Rattle.ip_spec.specs.Header.{IsHeader, IsRawNumber, IsRawHeader, raw, fragme
 use Rattle.ip_spec.specs.Fields.{next_header}
 use Rattle.ip_spec.specs.FieldsOf.{raw_fields, fragment_fields, auth_fields}
 use Rattle.ip_spec.specs.Chain.{ExtHeader}
-use Rattle.ip_spec.specs.Places.{Place, hop_by_hop, destination, routing, fragment as fragment_place, authentication, final_destination, places, index, number_in, header_in, has_routing, fields_of, HeaderFields, raw_header, fragment_header, auth_header}
+use Rattle.ip_spec.specs.Places.{Place, hop_by_hop, destination, routing, fragment as fragment_place, authentication, final_destination, places, index, number_in, header_in, fields_of, HeaderFields, raw_header, fragment_header, auth_header}
 use Rattle.ip_spec.specs.Encoded.{IsCleared}
 use Rattle.ip_spec.specs.Encodable.{IsEncoded, IsEncodable}
 use Rattle.ip_spec.specs.Walk.{Held, leads, IsWalkAnswer}
@@ -19,7 +19,7 @@ use Rattle.ip_spec.specs.WalkStep.{next_place, without, next_of}
 use Rattle.ip_spec.specs.Links.{relinked, first_number, places_behind, linked}
 use Rattle.ip_spec.proofs.HeaderLemmas.{raw_of, fragment_of, auth_of, header-least}
 use Rattle.ip_spec.proofs.HeaderLemmas.{header_number}
-use Rattle.ip_spec.proofs.PlaceLemmas.{same_place}
+use Rattle.ip_spec.proofs.PlaceLemmas.{has_routing, same_place}
 use Rattle.ip_spec.proofs.WalkLemmas.{none_if, some_if}
 use Rattle.ip_spec.proofs.WalkStepLemmas.{Walking, walk_begins, walks_on, walk_answers}
 use Rattle.ip_spec.proofs.SpellingLemmas.{leads_where_none}
@@ -93,11 +93,7 @@ relinked_encoded n j x h small e = relinked_list n j h.number x h.bytes small e
 
 number_small : (p : Place) → number_in p < 256
 number_small hop_by_hop = omega arith
-number_small destination = omega arith
-number_small routing = omega arith
-number_small fragment_place = omega arith
-number_small authentication = omega arith
-number_small final_destination = omega arith
+number_small p = omega arith
 
 pub first_number_small : (v : Held) (ps : List Place) (m : ℕ) → m < 256 → first_number v ps m < 256
 first_number_small v ps m small = of (find (λ p. is_some (v p)) ps)
@@ -281,8 +277,4 @@ module _ (v : Held) (m : ℕ) (small : m < 256) (e : IsEncodable v) where
     where
       beyond_all : (p : Place) → beyond 6 w p ≡ None
       beyond_all hop_by_hop = refl
-      beyond_all destination = refl
-      beyond_all routing = refl
-      beyond_all fragment_place = refl
-      beyond_all authentication = refl
-      beyond_all final_destination = refl
+      beyond_all p = refl

@@ -9,38 +9,37 @@ use Rattle.ip_spec.specs.Header.{IsHeader}
 use Rattle.ip_spec.specs.Fields.{next_header}
 use Rattle.ip_spec.specs.Chain.{ExtHeader, leads_to, bytes_of, is_empty, IsChain, IsPrefixChain, IsLongestChain, IsEnd}
 use Rattle.ip_spec.specs.Demand.{KeepsBeginning, NextBreaks, IsLongestUnder}
-use Rattle.ip_spec.specs.Fits.{numbers_of, NumbersFit, FitsPlaces, IsTaken}
+use Rattle.ip_spec.specs.Fits.{FitsPlaces, IsTaken}
 use Rattle.ip_spec.specs.Cleared.{cleared_header}
 use Rattle.ip_spec.specs.Encoded.{cleared_chain}
 use Rattle.ip_spec.specs.Runs.{joined, how_many, last_piece, IsCut, AreRuns, none, cut, one_more, AreChains, AreLongestFitting}
-use Rattle.ip_spec.proofs.HeaderLemmas.{header_number, later_of, later_not_zero, later_or}
+use Rattle.ip_spec.proofs.HeaderLemmas.{later_not_zero, later_or}
 use Rattle.ip_spec.proofs.PrefixLemmas.{prefix_second, rest_join, prefix-length}
-use Rattle.ip_spec.proofs.LongestOfLemmas.{begins_first}
-use Rattle.ip_spec.proofs.StepLemmas.{begins, next_of, chains_grow, tail_chain, bytes_of-least}
+use Rattle.ip_spec.proofs.StepLemmas.{begins, tail_chain, bytes_of-least}
 use Rattle.ip_spec.proofs.UnderLemmas.{one_longest_under, kept_is_longest}
 use Rattle.ip_spec.proofs.ChainLemmas.{longest_at_end, longest_ends}
 use Rattle.ip_spec.proofs.DemandLemmas.{some_kept}
-use Rattle.ip_spec.proofs.FitsLemmas.{numbers_fit, fits_places, fits_behind, one_number_fits}
+use Rattle.ip_spec.proofs.PlaceLemmas.{bare}
+use Rattle.ip_spec.proofs.FitsLemmas.{fits_places, fits_behind, one_fits, number_fits, next_taken}
 use Rattle.ip_spec.proofs.CutLemmas.{Cuts, how_many-filled, how_many-more, joined-more, cut_more, no_cut, some_cut, one_cut, cut_count, cut_of_none, fewest, some_are_kept}
 
 abbrev Pieces : Type 0
 Pieces = List (List ExtHeader)
 
 pub cuts_places : Cuts FitsPlaces
-cuts_places = record {
-  demand = fits_places;
-  behind = λ c d f. fits_behind (numbers_of c) (numbers_of d) (subst NumbersFit (map-append (λ h. h.number) c d) f);
-  one = λ h. one_number_fits h.number;
-}
+cuts_places = record { demand = fits_places; behind = fits_behind; one = one_fits }
 
 taken_or : (m : ℕ) (c : List ExtHeader) → IsTaken m c ⊎ (IsTaken m c → ⊥)
 taken_or m c = elim (later_or m) [
-  | inl later ↦ elim (numbers_fit.decided (numbers_of c ++ m ∷ [])) [ inl f ↦ inr (λ t. t.1 f) | inr breaks ↦ inl (later, breaks) ]
   | inr other ↦ inr (λ t. other t.0)
+  | inl later ↦ elim (fits_places.decided (c ++ bare m ∷ [])) [
+    | inl f ↦ inr (λ t. t.1 (bare m) refl f)
+    | inr breaks ↦ inl (later, λ h e f. breaks (number_fits c h (bare m) e f))
+  ]
 ]
 
 pub none_taken : (m : ℕ) → IsTaken m [] → ⊥
-none_taken m t = t.1 (one_number_fits m)
+none_taken m t = t.1 (bare m) refl (one_fits (bare m))
 
 some_or_none : (c : List ExtHeader) → (c ≡ []) ⊎ (c ≢ [])
 some_or_none [] = inl refl
@@ -284,18 +283,6 @@ module _ (n : ℕ) (s : List ℕ) (p : List ExtHeader) where
   rest_longest c nz l = longest_at_end number rest c (rest_prefix c l.has) (rest_ends c nz l)
 
 -- So the runs are the longest chains that fit, one behind the other.
-not_first : (p : List ExtHeader) → p ≢ [] → is_empty p ≡ true → ⊥
-not_first [] e w = e refl
-not_first (h ∷ p) e w = let differ : false ≡ true = w in cc
-
-pub next_taken : (n : ℕ) (s : List ℕ) (p rest : List ExtHeader) → p ≢ [] → IsPrefixChain n s (p ++ rest) → NextBreaks FitsPlaces p rest → (rest ≡ [] → IsTaken (leads_to n p) p) → IsTaken (leads_to n p) p
-next_taken n s p [] e q b on = on refl
-next_taken n s p (h ∷ rest) e q b on =
-    let N : List ℕ → Type 0 = NumbersFit in
-    let x = next_of n s p h (begins_first (IsPrefixChain n s) (chains_grow n s) p h rest q) in
-    let same : numbers_of p ++ leads_to n p ∷ [] ≡ numbers_of (p ++ h ∷ []) = ap (λ m. numbers_of p ++ m ∷ []) (sym x.number) ∙ sym (map-append (λ g. g.number) p (h ∷ [])) in
-    (later_of (leads_to n p) (header_number (leads_to n p) h.bytes x.header) (λ z. not_first p e (x.zero_only_first z)), λ f. b (subst N same f))
-
 fitting_more : (n : ℕ) (s : List ℕ) (p : List ExtHeader) (ps : Pieces) → IsLongestUnder FitsPlaces n s p → IsTaken (leads_to n p) p → AreLongestFitting (leads_to n p) (drop (length (bytes_of p)) s) ps → AreLongestFitting n s (p ∷ ps)
 fitting_more n s p [] l t f = absurd f
 fitting_more n s p (q ∷ ps) l t f = (l, t, f)
@@ -318,7 +305,7 @@ runs_longest_fitting (p ∷ ps) n s c l a = elim (runs_step (leads_to n c) c (p 
       let whole : IsLongestChain n s (r ++ k.rest) = subst L k.joined l in
       let leads : leads_to n c ≡ leads_to (leads_to n r) k.rest = ap (leads_to n) k.joined ∙ leads_to-append n r k.rest in
       let at_end : k.rest ≡ [] → IsTaken (leads_to n r) r = λ w. subst T (leads ∙ ap (leads_to (leads_to n r)) w) (on w) in
-      let taken = next_taken n s r k.rest (first_filled (leads_to n c) c r k on) whole.has k.breaks at_end in
+      let taken = next_taken n s r k.rest whole.has k.breaks at_end in
       subst A (sym same)
       (fitting_more n s r ps (kept_is_longest FitsPlaces fits_places n s c r l k) taken
       (runs_longest_fitting ps (leads_to n r) (drop (length (bytes_of r)) s) k.rest (rest_longest n s r k.rest (λ w. later_not_zero (leads_to n r) taken.0) whole) (subst B others (subst R leads b))))

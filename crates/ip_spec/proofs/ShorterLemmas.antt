@@ -2,8 +2,8 @@
 use Rattle.std.proofs.Common.{ℕ, ◌≤◌, List, length, take, sym, ◌∙◌, arith, length-take}
 use Rattle.std.proofs.lemmas.List.{take-take}
 use Rattle.ip_spec.specs.Prefix.{IsPrefix}
-use Rattle.ip_spec.specs.Chain.{ExtHeader, bytes_of}
-use Rattle.ip_spec.specs.Demand.{IsDemand, IsUnder, KeepsBeginning, IsWithin, IsChainUnder, IsLongestUnder}
+use Rattle.ip_spec.specs.Chain.{ExtHeader, bytes_of, IsPrefixChain}
+use Rattle.ip_spec.specs.Demand.{IsDemand, IsUnder, KeepsBeginning, IsWithin, IsLongestUnder}
 use Rattle.ip_spec.proofs.PrefixLemmas.{prefix-length}
 use Rattle.ip_spec.proofs.LongestOfLemmas.{longest_same}
 use Rattle.ip_spec.proofs.DemandLemmas.{kept_where_longest}
@@ -19,16 +19,16 @@ prefix_longer j b s f =
     (sym (take-take (length b) j s w) ∙ f, w)
 
 module _ (Q : List ExtHeader → Type 0) (k : IsDemand Q) (n j : ℕ) (s : List ℕ) where
-  shorter_under : (c : List ExtHeader) → IsChainUnder Q n (take j s) c → IsUnder (IsWithin j) (IsChainUnder Q n s) c
+  shorter_under : (c : List ExtHeader) → IsUnder Q (IsPrefixChain n (take j s)) c → IsUnder (IsWithin j) (IsUnder Q (IsPrefixChain n s)) c
   shorter_under c u =
       let f = prefix_longer j (bytes_of c) s u.has.prefix in
       record { has = record { has = record { chain = u.has.chain; prefix = f.0 }; meets = u.meets }; meets = f.1 }
 
-  under_shorter : (c : List ExtHeader) → IsUnder (IsWithin j) (IsChainUnder Q n s) c → IsChainUnder Q n (take j s) c
+  under_shorter : (c : List ExtHeader) → IsUnder (IsWithin j) (IsUnder Q (IsPrefixChain n s)) c → IsUnder Q (IsPrefixChain n (take j s)) c
   under_shorter c u = record { has = record { chain = u.has.has.chain; prefix = prefix_shorter j (bytes_of c) s u.has.has.prefix u.meets }; meets = u.has.meets }
 
   -- of the longest chain of the whole, the bytes cut short keep the headers that lie wholly within them
   pub longest_shorter : (d c : List ExtHeader) → IsLongestUnder Q n s d → IsLongestUnder Q n (take j s) c → KeepsBeginning (IsWithin j) d c
   longest_shorter d c l m =
-      kept_where_longest (IsChainUnder Q n s) (IsWithin j) (chains_grow_under Q k n s) (within j) d c l
-      (longest_same (IsChainUnder Q n (take j s)) (IsUnder (IsWithin j) (IsChainUnder Q n s)) shorter_under under_shorter c m)
+      kept_where_longest (IsUnder Q (IsPrefixChain n s)) (IsWithin j) (chains_grow_under Q k n s) (within j) d c l
+      (longest_same (IsUnder Q (IsPrefixChain n (take j s))) (IsUnder (IsWithin j) (IsUnder Q (IsPrefixChain n s))) shorter_under under_shorter c m)

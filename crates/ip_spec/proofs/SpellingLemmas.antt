@@ -1,22 +1,22 @@
 -- What spells a value, what it is read from, and what its walk answers.
-use Rattle.std.proofs.Common.{◌≡◌, ℕ, ◌<◌, List, [], ◌∷◌, ◌++◌, refl, ap, sym, ◌∙◌, arith, inl, inr, subst, append_assoc, Bool, true, false, cond}
+use Rattle.std.proofs.Common.{◌≡◌, ℕ, ◌<◌, List, [], ◌∷◌, ◌++◌, refl, ap, sym, ◌∙◌, arith, inl, inr, subst, append_assoc, Bool, false}
 use Rattle.std.specs.Prelude.{Option, Some, None, is_some, ◌==◌, ◌&&◌, ◌↔◌, if◌then◌else◌}
-use Rattle.std.specs.List.{find}
 use Rattle.std.specs.Option.{option_map}
 use Rattle.std.proofs.lemmas.Bool.{cases_Bool}
 use Rattle.std.proofs.lemmas.Option.{none-some}
-use Rattle.std.proofs.lemmas.List.{append-nil, map-append}
+use Rattle.std.proofs.lemmas.List.{append-nil}
 use Rattle.std.proofs.lemmas.List.Elements.{All-append}
 use Rattle.ip_spec.specs.Header.{IsHeader, IsExtensionNumber}
 use Rattle.ip_spec.specs.Encoding.{AreBytes}
 use Rattle.ip_spec.specs.Chain.{ExtHeader, leads_to, bytes_of, IsChain, IsLongestChain}
 use Rattle.ip_spec.specs.Demand.{IsLongestUnder}
-use Rattle.ip_spec.specs.Fits.{numbers_of, NumbersFit, FitsPlaces, IsTaken}
-use Rattle.ip_spec.specs.Places.{Place, hop_by_hop, destination, routing, fragment, authentication, final_destination, number_in, header_in, fields_of, HeaderFields}
+use Rattle.ip_spec.specs.Fits.{FitsPlaces, IsTaken}
+use Rattle.ip_spec.specs.Places.{Place, hop_by_hop, destination, routing, fragment, authentication, final_destination, places, number_in, header_in, fields_of, HeaderFields}
 use Rattle.ip_spec.specs.Encoded.{cleared_chain}
 use Rattle.ip_spec.specs.Encodable.{IsEncodable}
 use Rattle.ip_spec.specs.Parse.{IsRead}
 use Rattle.ip_spec.specs.Walk.{Held, IsValueOf, IsSpelling, IsShown, IsReach, unreached, first_filled, WalkAnswer, leads, hop_by_hop_not_at_start, not_referenced, fault_or_number, answer_at, IsWalkAnswer}
+use Rattle.ip_spec.proofs.FirstLemmas.{none_passes}
 use Rattle.ip_spec.proofs.PrefixLemmas.{prefix_of-append}
 use Rattle.ip_spec.proofs.LongestOfLemmas.{longest_where_none_next}
 use Rattle.ip_spec.proofs.StepLemmas.{bytes_of-more}
@@ -26,7 +26,7 @@ use Rattle.ip_spec.proofs.ChainLemmas.{whole_longest, one_longest}
 use Rattle.ip_spec.proofs.ClearedLemmas.{cleared_is_chain, cleared_fits, cleared_are, cleared_leads, value-cleared}
 use Rattle.ip_spec.proofs.HeaderLemmas.{header_number}
 use Rattle.ip_spec.proofs.EncodedLemmas.{one_header_says}
-use Rattle.ip_spec.proofs.PlaceLemmas.{place_number}
+use Rattle.ip_spec.proofs.PlaceLemmas.{each, place_number}
 use Rattle.ip_spec.proofs.WalkLemmas.{none_if, Next, next_shown, shown_grows, one_reach}
 
 -- bytes s are read as the value v of six places
@@ -53,32 +53,8 @@ pub one_spelling : (v : Held) (f : ℕ) (c d : List ExtHeader) → IsSpelling v 
 one_spelling v f c d s t = one_reach v f c d (spelling_is_reach v f c s) (spelling_is_reach v f d t)
 
 -- Where nothing is left, each place of v is that of the chain.
-none_found : (t : Place → Bool) (a b d e g h : Place) → find t (a ∷ b ∷ d ∷ e ∷ g ∷ h ∷ []) ≡ None → (t a ≡ false) × (t b ≡ false) × (t d ≡ false) × (t e ≡ false) × (t g ≡ false) × (t h ≡ false)
-none_found t a b d e g h none =
-    let x0 = out (t a) a (find t (b ∷ d ∷ e ∷ g ∷ h ∷ [])) none in
-    let x1 = out (t b) b (find t (d ∷ e ∷ g ∷ h ∷ [])) x0.1 in
-    let x2 = out (t d) d (find t (e ∷ g ∷ h ∷ [])) x1.1 in
-    let x3 = out (t e) e (find t (g ∷ h ∷ [])) x2.1 in
-    let x4 = out (t g) g (find t (h ∷ [])) x3.1 in
-    let x5 = out (t h) h None x4.1 in
-    (x0.0, x1.0, x2.0, x3.0, x4.0, x5.0)
-  where
-    out : (b : Bool) (q : Place) (o : Option Place) → cond b (Some q) o ≡ None → (b ≡ false) × (o ≡ None)
-    out true q o e = absurd (none-some q (sym e))
-    out false q o e = (refl, e)
-
 pub nothing_filled : (u : Held) → first_filled u ≡ None → (p : Place) → u p ≡ None
-nothing_filled u e p =
-    let none = none_found (λ q. is_some (u q)) hop_by_hop destination routing fragment authentication final_destination e in
-    none_if (u p) (each (λ q. is_some (u q) ≡ false) none.0 none.1 none.2 none.3 none.4 none.5 p)
-  where
-    each : (P : Place → Type 0) → P hop_by_hop → P destination → P routing → P fragment → P authentication → P final_destination → (p : Place) → P p
-    each P a b d e g h hop_by_hop = a
-    each P a b d e g h destination = b
-    each P a b d e g h routing = d
-    each P a b d e g h fragment = e
-    each P a b d e g h authentication = g
-    each P a b d e g h final_destination = h
+nothing_filled u e p = none_if (u p) (each (λ q. is_some (u q) ≡ false) (none_passes (λ q. is_some (u q)) places e) p)
 
 first_none : (u : Held) → ((p : Place) → u p ≡ None) → first_filled u ≡ None
 first_none u e = simp (e hop_by_hop, e destination, e routing, e fragment, e authentication, e final_destination)
@@ -197,10 +173,7 @@ pub spelled_is_read : (v : Held) (f : ℕ) (c : List ExtHeader) (r : List ℕ) �
 spelled_is_read v f c r s taken =
     longest_at_end_under FitsPlaces fits_places f (bytes_of c ++ r) c
     (record { has = record { chain = s.chain; prefix = prefix_of-append (bytes_of c) r (bytes_of c ++ r) refl }; meets = s.fits })
-    (λ h x q.
-    let N : List ℕ → Type 0 = NumbersFit in
-    let numbers : numbers_of (c ++ h ∷ []) ≡ numbers_of c ++ leads_to f c ∷ [] = map-append (λ k. k.number) c (h ∷ []) ∙ ap (λ m. numbers_of c ++ m ∷ []) x.number in
-    (taken (header_number (leads_to f c) h.bytes x.header)).1 (subst N numbers q))
+    (λ h x. (taken (header_number (leads_to f c) h.bytes x.header)).1 h x.number)
 
 -- Writing what was read gives what was read, cleared.
 pub spelled_is_cleared : (v : Held) (f : ℕ) (c d : List ExtHeader) → IsChain f c → FitsPlaces c → AreBytes (bytes_of c) → IsValueOf c v → IsSpelling v f d → d ≡ cleared_chain c

@@ -29,11 +29,7 @@ module _ (g : HeaderFields → ℕ) (u w : Held) where
 
   pub sum_without : (p : Place) (x : HeaderFields) → u p ≡ Some x → ((q : Place) → w q ≡ without p u q) → sum_held g w + g x ≡ sum_held g u
   sum_without hop_by_hop x t e = omega (arith, ap weight t, ap weight (e hop_by_hop), ap weight (e destination), ap weight (e routing), ap weight (e fragment_place), ap weight (e authentication), ap weight (e final_destination))
-  sum_without destination x t e = omega (arith, ap weight t, ap weight (e hop_by_hop), ap weight (e destination), ap weight (e routing), ap weight (e fragment_place), ap weight (e authentication), ap weight (e final_destination))
-  sum_without routing x t e = omega (arith, ap weight t, ap weight (e hop_by_hop), ap weight (e destination), ap weight (e routing), ap weight (e fragment_place), ap weight (e authentication), ap weight (e final_destination))
-  sum_without fragment_place x t e = omega (arith, ap weight t, ap weight (e hop_by_hop), ap weight (e destination), ap weight (e routing), ap weight (e fragment_place), ap weight (e authentication), ap weight (e final_destination))
-  sum_without authentication x t e = omega (arith, ap weight t, ap weight (e hop_by_hop), ap weight (e destination), ap weight (e routing), ap weight (e fragment_place), ap weight (e authentication), ap weight (e final_destination))
-  sum_without final_destination x t e = omega (arith, ap weight t, ap weight (e hop_by_hop), ap weight (e destination), ap weight (e routing), ap weight (e fragment_place), ap weight (e authentication), ap weight (e final_destination))
+  sum_without p x t e = omega (arith, ap weight t, ap weight (e hop_by_hop), ap weight (e destination), ap weight (e routing), ap weight (e fragment_place), ap weight (e authentication), ap weight (e final_destination))
 
 -- The sum over a chain that fits is that over its places.
 abbrev of_chain : List ExtHeader → Held

@@ -3,7 +3,7 @@ use Rattle.std.proofs.Common.{◌≡◌, ℕ, ◌≤◌, List, [], ◌∷◌, �
 use Rattle.std.proofs.Math.Seq.{take-length, drop-length}
 use Rattle.ip_spec.specs.Prefix.{IsPrefix}
 use Rattle.ip_spec.specs.Chain.{ExtHeader, leads_to, bytes_of, is_empty, IsChain, IsPrefixChain, IsLongestChain, IsNext}
-use Rattle.ip_spec.specs.Demand.{IsDemand, KeepsBeginning, IsChainUnder, IsLongestUnder, IsEndUnder, NoDemand}
+use Rattle.ip_spec.specs.Demand.{IsDemand, IsUnder, KeepsBeginning, IsLongestUnder, IsEndUnder, NoDemand}
 use Rattle.ip_spec.proofs.PrefixLemmas.{prefix-length}
 use Rattle.ip_spec.proofs.HeaderLemmas.{header-least}
 use Rattle.ip_spec.proofs.LongestOfLemmas.{Grows, longest_where_none_next, none_next_where_longest, one_longest_of, longest_same}
@@ -11,21 +11,21 @@ use Rattle.ip_spec.proofs.DemandLemmas.{under_grows, some_longest_under_of, long
 use Rattle.ip_spec.proofs.StepLemmas.{next_of, goes_on, chains_grow, chains_decide, chain-bound, no_header_prefix}
 
 module _ (Q : List ExtHeader → Type 0) (k : IsDemand Q) (n : ℕ) (s : List ℕ) where
-  pub chains_grow_under : Grows (IsChainUnder Q n s)
+  pub chains_grow_under : Grows (IsUnder Q (IsPrefixChain n s))
   chains_grow_under = under_grows (IsPrefixChain n s) Q (chains_grow n s) k
 
-  pub goes_on_under : (c : List ExtHeader) (h : ExtHeader) → IsChainUnder Q n s c → IsNext (is_empty c) (leads_to n c) (drop (length (bytes_of c)) s) h → Q (c ++ h ∷ []) → IsChainUnder Q n s (c ++ h ∷ [])
+  pub goes_on_under : (c : List ExtHeader) (h : ExtHeader) → IsUnder Q (IsPrefixChain n s) c → IsNext (is_empty c) (leads_to n c) (drop (length (bytes_of c)) s) h → Q (c ++ h ∷ []) → IsUnder Q (IsPrefixChain n s) (c ++ h ∷ [])
   goes_on_under c h p x q = record { has = goes_on n s c h p.has x; meets = q }
 
   -- where no header goes on with the demand still met, the chain is the longest, and the other way round
-  pub longest_at_end_under : (c : List ExtHeader) → IsChainUnder Q n s c → IsEndUnder Q c (leads_to n c) (drop (length (bytes_of c)) s) → IsLongestUnder Q n s c
-  longest_at_end_under c p e = longest_where_none_next (IsChainUnder Q n s) chains_grow_under c p (λ h u. e h (next_of n s c h u.has) u.meets)
+  pub longest_at_end_under : (c : List ExtHeader) → IsUnder Q (IsPrefixChain n s) c → IsEndUnder Q c (leads_to n c) (drop (length (bytes_of c)) s) → IsLongestUnder Q n s c
+  longest_at_end_under c p e = longest_where_none_next (IsUnder Q (IsPrefixChain n s)) chains_grow_under c p (λ h u. e h (next_of n s c h u.has) u.meets)
 
   pub longest_ends_under : (c : List ExtHeader) → IsLongestUnder Q n s c → IsEndUnder Q c (leads_to n c) (drop (length (bytes_of c)) s)
-  longest_ends_under c l h x q = none_next_where_longest (IsChainUnder Q n s) c l h (goes_on_under c h l.has x q)
+  longest_ends_under c l h x q = none_next_where_longest (IsUnder Q (IsPrefixChain n s)) c l h (goes_on_under c h l.has x q)
 
   pub one_longest_under : (c d : List ExtHeader) → IsLongestUnder Q n s c → IsLongestUnder Q n s d → c ≡ d
-  one_longest_under c d = one_longest_of (IsChainUnder Q n s) chains_grow_under c d
+  one_longest_under c d = one_longest_of (IsUnder Q (IsPrefixChain n s)) chains_grow_under c d
 
   pub some_longest_under : (c : List ExtHeader) × IsLongestUnder Q n s c
   some_longest_under = some_longest_under_of (IsPrefixChain n s) Q (chains_grow n s) k (chains_decide n s) (length s) (chain-bound n s) (no_header_prefix n s)
@@ -37,7 +37,7 @@ module _ (Q : List ExtHeader → Type 0) (k : IsDemand Q) (n : ℕ) (s : List �
   pub kept_is_longest : (d c : List ExtHeader) → IsLongestChain n s d → KeepsBeginning Q d c → IsLongestUnder Q n s c
   kept_is_longest = longest_where_kept (IsPrefixChain n s) Q (chains_grow n s) k
 
-  pub longest_bounds_under : (c d : List ExtHeader) → IsLongestUnder Q n s c → IsChainUnder Q n s d → length d ≤ length c
+  pub longest_bounds_under : (c d : List ExtHeader) → IsLongestUnder Q n s c → IsUnder Q (IsPrefixChain n s) d → length d ≤ length c
   longest_bounds_under = longest_under_bounds (IsPrefixChain n s) Q (chains_grow n s) k
 
 -- a chain that meets the demand is the longest of its own bytes
@@ -53,7 +53,7 @@ no_demand = record { empty = tt; begins = λ c d q. tt; decided = λ c. inl tt }
 
 module _ (n : ℕ) (s : List ℕ) where
   pub longest_under_none : (c : List ExtHeader) → IsLongestChain n s c → IsLongestUnder NoDemand n s c
-  longest_under_none = longest_same (IsPrefixChain n s) (IsChainUnder NoDemand n s) (λ c p. record { has = p; meets = tt }) (λ c u. u.has)
+  longest_under_none = longest_same (IsPrefixChain n s) (IsUnder NoDemand (IsPrefixChain n s)) (λ c p. record { has = p; meets = tt }) (λ c u. u.has)
 
   pub longest_without : (c : List ExtHeader) → IsLongestUnder NoDemand n s c → IsLongestChain n s c
-  longest_without = longest_same (IsChainUnder NoDemand n s) (IsPrefixChain n s) (λ c u. u.has) (λ c p. record { has = p; meets = tt })
+  longest_without = longest_same (IsUnder NoDemand (IsPrefixChain n s)) (IsPrefixChain n s) (λ c u. u.has) (λ c p. record { has = p; meets = tt })

@@ -1,20 +1,20 @@
 -- What a value shows, reaches and spells from a number.
-use Rattle.std.proofs.Common.{◌≡◌, ℕ, List, [], ◌∷◌, ◌++◌, refl, ap, sym, ◌∙◌, inl, inr, subst, append_assoc, Bool, true, false}
+use Rattle.std.proofs.Common.{◌≡◌, ℕ, List, [], ◌∷◌, ◌++◌, refl, ap, sym, ◌∙◌, inl, inr, subst, append_assoc, true, false}
 use Rattle.std.specs.Prelude.{Option, Some, None, is_some, ◌==◌, if◌then◌else◌}
 use Rattle.std.proofs.lemmas.Bool.{cases_Bool}
 use Rattle.std.proofs.lemmas.Bool.Decides.{eqb_tells}
 use Rattle.std.proofs.lemmas.Option.{none-some, same_Some}
 use Rattle.std.proofs.lemmas.List.{append-nil}
-use Rattle.ip_spec.specs.Header.{IsHeader, IsExtensionNumber}
+use Rattle.ip_spec.specs.Header.{IsHeader}
 use Rattle.ip_spec.specs.Chain.{ExtHeader, leads_to, is_empty, IsChain}
 use Rattle.ip_spec.specs.Fits.{FitsPlaces}
-use Rattle.ip_spec.specs.Places.{Place, hop_by_hop, destination, routing, fragment, authentication, final_destination, index, header_in, has_routing, place_of, fields_of}
+use Rattle.ip_spec.specs.Places.{Place, index, header_in, place_of, fields_of}
 use Rattle.ip_spec.specs.Encoded.{IsCleared}
 use Rattle.ip_spec.specs.Walk.{Held, IsShown, IsReach}
 use Rattle.ip_spec.proofs.LongestOfLemmas.{Grows, one_longest_of}
 use Rattle.ip_spec.proofs.StepLemmas.{all_first, all_next, no_chain, chain_begins, chain_number, chain_header, chain_zero}
 use Rattle.ip_spec.proofs.FitsLemmas.{fits_places}
-use Rattle.ip_spec.proofs.PlaceLemmas.{same_place, placed, breaks_more}
+use Rattle.ip_spec.proofs.PlaceLemmas.{has_routing, nothing_in, own_place, same_place, placed, breaks_more}
 use Rattle.ip_spec.proofs.HeaderLemmas.{header_number}
 use Rattle.ip_spec.proofs.EncodedLemmas.{one_header_says}
 
@@ -25,18 +25,6 @@ none_if (Some x) e = absurd (let differ : true ≡ false = e in cc)
 pub some_if : {X : Type 0} (o : Option X) → is_some o ≡ true → (x : X) × (o ≡ Some x)
 some_if None e = absurd (let differ : false ≡ true = e in cc)
 some_if (Some x) e = (x, refl)
-
--- an extension number has a place
-pub own_place : (m : ℕ) (behind : Bool) → IsExtensionNumber m → (p : Place) × (place_of m behind ≡ Some p)
-own_place m behind x =
-    let P : ℕ → Type 0 = λ k. (p : Place) × (place_of k behind ≡ Some p) in
-    elim x [
-      | inl r ↦ elim r [
-        | inl e ↦ subst P (sym e) (_, refl)
-        | inr r' ↦ elim r' [ inl e ↦ subst P (sym e) (_, refl) | inr e ↦ subst P (sym e) (_, refl) ]
-      ]
-      | inr r ↦ elim r [ inl e ↦ subst P (sym e) (_, refl) | inr e ↦ subst P (sym e) (_, refl) ]
-    ]
 
 -- One more header of a chain that fits: its place was free, it stands there, and the others stay.
 pub record Joins (f : ℕ) (c : List ExtHeader) (x : ExtHeader) : Type 0 where
@@ -68,14 +56,6 @@ module _ {f : ℕ} {c : List ExtHeader} {x : ExtHeader} (j : Joins f c x) where
     | inl w ↦ absurd (none-some h (sym (ap (λ q. header_in q c) (sym (same_place j.place p w.1)) ∙ j.free) ∙ e))
     | inr w ↦ j.joined p ∙ ap (λ b. if b then Some x else header_in p c) w.0 ∙ e
   ]
-
-pub nothing_in : (p : Place) → header_in p [] ≡ None
-nothing_in hop_by_hop = refl
-nothing_in destination = refl
-nothing_in routing = refl
-nothing_in fragment = refl
-nothing_in authentication = refl
-nothing_in final_destination = refl
 
 module _ (v : Held) (f : ℕ) where
   -- The header that comes next stands in v, in the place of the number reached.

@@ -1,21 +1,23 @@
 -- A walk that takes headers out of a value, one after the other.
-use Rattle.std.proofs.Common.{◌≡◌, ℕ, List, [], ◌∷◌, ◌++◌, refl, ap, sym, ◌∙◌, arith, inl, inr, subst, Bool, true, false}
+use Rattle.std.proofs.Common.{◌≡◌, ℕ, List, [], ◌∷◌, ◌++◌, refl, ap, sym, ◌∙◌, inl, inr, subst, Bool, true, false}
 use Rattle.std.specs.Prelude.{Option, Some, None, is_some, ◌==◌, ◌&&◌, ◌||◌, not, if◌then◌else◌}
+use Rattle.std.specs.Option.{option_or}
 use Rattle.std.proofs.lemmas.Bool.{eqb-true, eq-eqb}
 use Rattle.std.proofs.lemmas.Bool.Decides.{eqb_tells}
 use Rattle.std.proofs.lemmas.Option.{none-some, same_Some}
 use Rattle.ip_spec.specs.Header.{IsHeader}
 use Rattle.ip_spec.specs.Fields.{next_header}
 use Rattle.ip_spec.specs.Chain.{ExtHeader, leads_to, is_empty}
-use Rattle.ip_spec.specs.Places.{Place, hop_by_hop, destination, routing, fragment, authentication, final_destination, index, number_in, header_in, has_routing, place_of, fields_of, HeaderFields}
+use Rattle.ip_spec.specs.Places.{Place, routing, index, number_in, header_in, place_of, fields_of, HeaderFields}
 use Rattle.ip_spec.specs.Encoded.{IsCleared}
 use Rattle.ip_spec.specs.Encodable.{IsEncoded}
 use Rattle.ip_spec.specs.Walk.{Held, IsShown, IsReach, unreached, WalkAnswer, answer_at, IsWalkAnswer}
 use Rattle.ip_spec.specs.WalkStep.{next_place, without}
 use Rattle.ip_spec.proofs.LongestOfLemmas.{longest_where_none_next}
 use Rattle.ip_spec.proofs.StepLemmas.{all_more, leads_to-more, chain_more}
-use Rattle.ip_spec.proofs.PlaceLemmas.{same_place, place_number, placed, fits_more}
-use Rattle.ip_spec.proofs.WalkLemmas.{none_if, there, Next, next_shown, shown_grows, none_shown, nothing_in}
+use Rattle.ip_spec.proofs.FirstLemmas.{find_more-yes, find_more-no}
+use Rattle.ip_spec.proofs.PlaceLemmas.{has_routing, is_of, nothing_in, same_place, place_number, placed, fits_more}
+use Rattle.ip_spec.proofs.WalkLemmas.{none_if, there, Next, next_shown, shown_grows, none_shown}
 
 -- Headers c were reached from f and taken out of v, which leaves u. They lead to m; `first` tells that there is
 -- none, `behind` that a routing header is one of them.
@@ -66,29 +68,19 @@ or_false : (b : Bool) → (b || false) ≡ b
 or_false true = refl
 or_false false = refl
 
-routing_only : (p : Place) → number_in p ≡ 43 → index p ≡ 2
-routing_only hop_by_hop e = absurd (omega (arith, e))
-routing_only destination e = absurd (omega (arith, e))
-routing_only routing e = refl
-routing_only fragment e = absurd (omega (arith, e))
-routing_only authentication e = absurd (omega (arith, e))
-routing_only final_destination e = absurd (omega (arith, e))
+some_or : (o : Option ExtHeader) (h : ExtHeader) → is_some (option_or o (Some h)) ≡ true
+some_or None h = refl
+some_or (Some g) h = refl
 
-module _ (c : List ExtHeader) (h : ExtHeader) (p : Place) (number : h.number ≡ number_in p) (joined : (q : Place) → header_in q (c ++ h ∷ []) ≡ (if index p == index q then Some h else header_in q c)) where
-  -- a routing header is there where one was, or where this is one
-  routing_more : has_routing c || (h.number == 43) ≡ has_routing (c ++ h ∷ [])
-  routing_more = elim (eqb_tells (index p) 2) [
-    | inl w ↦
-        let is : p ≡ routing = same_place p routing w.1 in
-        let here : (h.number == 43) ≡ true = eq-eqb h.number 43 (number ∙ ap number_in is) in
-        ap (λ b. has_routing c || b) here ∙ or_true (has_routing c) ∙ sym (ap is_some (joined routing ∙ ap (λ b. if b then Some h else header_in routing c) w.0))
-    | inr w ↦ elim (eqb_tells h.number 43) [
-      | inl k ↦ absurd (w.1 (routing_only p (sym number ∙ k.1)))
-      | inr k ↦ ap (λ b. has_routing c || b) k.0 ∙ or_false (has_routing c) ∙ sym (ap is_some (joined routing ∙ ap (λ b. if b then Some h else header_in routing c) w.0))
-    ]
-  ]
+-- a routing header is there where one was, or where this is one
+routing_more : (c : List ExtHeader) (h : ExtHeader) → has_routing c || (h.number == 43) ≡ has_routing (c ++ h ∷ [])
+routing_more c h = elim (eqb_tells h.number 43) [
+  | inl w ↦ ap (λ b. has_routing c || b) w.0 ∙ or_true (has_routing c) ∙ sym (ap is_some (find_more-yes (is_of routing) c h w.0) ∙ some_or (header_in routing c) h)
+  | inr w ↦ ap (λ b. has_routing c || b) w.0 ∙ or_false (has_routing c) ∙ sym (ap is_some (find_more-no (is_of routing) c h w.0))
+]
 
-  -- and what was left is left without it
+module _ (c : List ExtHeader) (h : ExtHeader) (p : Place) (joined : (q : Place) → header_in q (c ++ h ∷ []) ≡ (if index p == index q then Some h else header_in q c)) where
+  -- what was left is left without it
   left_more : (v : Held) (q : Place) → without p (unreached v c) q ≡ unreached v (c ++ h ∷ []) q
   left_more v q = elim (eqb_tells (index p) (index q)) [
     | inl w ↦
@@ -124,10 +116,10 @@ module _ (v : Held) (f : ℕ) (c : List ExtHeader) (u : Held) (m : ℕ) (first b
           ];
           cleared = all_more IsCleared c h k.shown.cleared e.cleared;
         };
-        left = λ q. ew q ∙ ap (λ o. if index p == index q then None else o) (k.left q) ∙ left_more c h p e.number joined v q;
+        left = λ q. ew q ∙ ap (λ o. if index p == index q then None else o) (k.left q) ∙ left_more c h p joined v q;
         number = en ∙ sym (leads_to-more f c h);
         first_is = ee ∙ not_empty c h;
-        behind_is = ep ∙ ap (λ b. b || (m == 43)) k.behind_is ∙ ap (λ j. has_routing c || (j == 43)) (sym same) ∙ routing_more c h p e.number joined;
+        behind_is = ep ∙ ap (λ b. b || (m == 43)) k.behind_is ∙ ap (λ j. has_routing c || (j == 43)) (sym same) ∙ routing_more c h;
       }
 
   -- None goes on: what was reached is all that is.

@@ -29,13 +29,9 @@ pub record KeepsBeginning {X : Type 0} (Q : List X → Type 0) (d c : List X) : 
   pub meets : Q c
   pub breaks : NextBreaks Q c rest
 
--- c is a chain from n that begins s and meets the demand Q
-abbrev pub IsChainUnder : (List ExtHeader → Type 0) → ℕ → List ℕ → List ExtHeader → Type 0
-IsChainUnder Q n s c = IsUnder Q (IsPrefixChain n s) c
-
 -- the chain from n that begins s and meets the demand Q and is longer than every other such chain
 abbrev pub IsLongestUnder : (List ExtHeader → Type 0) → ℕ → List ℕ → List ExtHeader → Type 0
-IsLongestUnder Q n s c = IsLongestOf (IsChainUnder Q n s) c
+IsLongestUnder Q n s c = IsLongestOf (IsUnder Q (IsPrefixChain n s)) c
 
 -- behind c, no header goes on with number m at bytes r with which the demand Q is still met
 abbrev pub IsEndUnder : (List ExtHeader → Type 0) → List ExtHeader → ℕ → List ℕ → Type 0

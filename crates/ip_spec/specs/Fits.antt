@@ -1,44 +1,13 @@
--- Chains whose headers fit six places: hop by hop options, destination options, routing, fragment,
--- authentication, and destination options behind the routing header.
-use Rattle.std.specs.Prelude.{ℕ, ◌≤◌, List, [], ◌∷◌, ◌++◌, map, count_by, ◌==◌, if◌then◌else◌}
-use Rattle.std.specs.List.{before_first, after_first}
+-- Chains whose headers fit the six places, and numbers that are taken behind them.
+use Rattle.std.specs.Prelude.{◌≡◌, ℕ, ◌≤◌, List, [], ◌∷◌, ◌++◌, count_by, ◌==◌}
 use Rattle.ip_spec.specs.Chain.{ExtHeader}
-use Rattle.ip_spec.specs.Numbers.{HOP_BY_HOP, ROUTING, FRAGMENT, AUTHENTICATION, DESTINATION_OPTIONS}
 use Rattle.ip_spec.specs.Header.{IsLaterNumber}
+use Rattle.ip_spec.specs.Places.{Place, number_in, side_of}
 
-abbrev pub numbers_of : List ExtHeader → List ℕ
-numbers_of c = map (λ h. h.number) c
-
-abbrev pub how_often : ℕ → List ℕ → ℕ
-how_often n ns = count_by (λ m. m == n) ns
-
--- what stands before the first 43, or all where there is none
-abbrev pub before_routing : List ℕ → List ℕ
-before_routing ns = before_first (λ n. n == ROUTING) ns
-
--- what stands after the first 43, or nothing where there is none
-abbrev pub after_routing : List ℕ → List ℕ
-after_routing ns = after_first (λ n. n == ROUTING) ns
-
--- at most one of each number, and of 60 one on each side of the first 43
-pub record NumbersFit (ns : List ℕ) : Type 0 where
-  pub hop_by_hop : how_often HOP_BY_HOP ns ≤ 1
-  pub routing : how_often ROUTING ns ≤ 1
-  pub fragment : how_often FRAGMENT ns ≤ 1
-  pub authentication : how_often AUTHENTICATION ns ≤ 1
-  pub destination : how_often DESTINATION_OPTIONS (before_routing ns) ≤ 1
-  pub final_destination : how_often DESTINATION_OPTIONS (after_routing ns) ≤ 1
-
--- the numbers of the headers do
+-- at most one header stands in each place
 abbrev pub FitsPlaces : List ExtHeader → Type 0
-FitsPlaces c = NumbersFit (numbers_of c)
+FitsPlaces c = (p : Place) → count_by (λ h. h.number == number_in p) (side_of p c) ≤ 1
 
--- m is 43, 44, 51 or 60, and has no place left behind c
+-- m is 43, 44, 51 or 60, and no header of number m fits behind c
 abbrev pub IsTaken : ℕ → List ExtHeader → Type 0
-IsTaken m c = IsLaterNumber m × (NumbersFit (numbers_of c ++ m ∷ []) → ⊥)
-
--- how many of ns stand in the place of m, that of a 60 being the one on its side of the first 43
-abbrev pub in_place : ℕ → List ℕ → ℕ
-in_place m ns =
-    if m == DESTINATION_OPTIONS then (if how_often ROUTING ns == 0 then how_often DESTINATION_OPTIONS (before_routing ns) else how_often DESTINATION_OPTIONS (after_routing ns))
-    else how_often m ns
+IsTaken m c = IsLaterNumber m × ((h : ExtHeader) → h.number ≡ m → FitsPlaces (c ++ h ∷ []) → ⊥)

@@ -12,12 +12,12 @@ pub mod Requests
 pub mod Chain
 pub mod Demand
 pub mod Parse
-pub mod Fits
 pub mod Places
+pub mod Fits
+pub mod NumbersFit
 pub mod Encoded
 pub mod Runs
 pub mod Walk
 pub mod Links
 pub mod Encodable
 pub mod WalkStep
-pub mod PlainHeader

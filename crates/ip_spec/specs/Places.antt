@@ -1,6 +1,7 @@
 -- The six places for the headers of an IPv6 chain (RFC 8200, section 4.1), and what is said in each.
 use Rattle.std.specs.Prelude.{ℕ, List, [], ◌∷◌, Bool, false, ◌&&◌, ◌==◌, not, Option, Some, None, is_some, if◌then◌else◌}
 use Rattle.std.specs.List.{find, before_first, after_first}
+use Rattle.std.specs.Option.{option_map_or}
 use Rattle.ip_spec.specs.Numbers.{HOP_BY_HOP, ROUTING, FRAGMENT, AUTHENTICATION, DESTINATION_OPTIONS}
 use Rattle.ip_spec.specs.FieldsOf.{RawFields, FragmentFields, AuthFields, raw_fields, fragment_fields, auth_fields}
 use Rattle.ip_spec.specs.Chain.{ExtHeader}
@@ -35,26 +36,16 @@ number_in fragment = FRAGMENT
 number_in authentication = AUTHENTICATION
 number_in final_destination = DESTINATION_OPTIONS
 
--- the first header of number m
-abbrev pub first_of : ℕ → List ExtHeader → Option ExtHeader
-first_of m c = find (λ h. h.number == m) c
-
--- the headers before the first routing header, or all where there is none
-abbrev pub before_routing_header : List ExtHeader → List ExtHeader
-before_routing_header c = before_first (λ h. h.number == ROUTING) c
-
--- the headers after the first routing header, or nothing where there is none
-abbrev pub after_routing_header : List ExtHeader → List ExtHeader
-after_routing_header c = after_first (λ h. h.number == ROUTING) c
+-- the part of a chain in which the header of a place stands: of destination options what is before the first
+-- routing header, or all where there is none; of the final ones what is after it, or nothing; else all
+abbrev pub side_of : Place → List ExtHeader → List ExtHeader
+side_of destination c = before_first (λ h. h.number == ROUTING) c
+side_of final_destination c = after_first (λ h. h.number == ROUTING) c
+side_of p c = c
 
 -- the header of the chain c that stands in a place
 abbrev pub header_in : Place → List ExtHeader → Option ExtHeader
-header_in hop_by_hop c = first_of HOP_BY_HOP c
-header_in destination c = first_of DESTINATION_OPTIONS (before_routing_header c)
-header_in routing c = first_of ROUTING c
-header_in fragment c = first_of FRAGMENT c
-header_in authentication c = first_of AUTHENTICATION c
-header_in final_destination c = first_of DESTINATION_OPTIONS (after_routing_header c)
+header_in p c = find (λ h. h.number == number_in p) (side_of p c)
 
 -- what a header says
 pub data HeaderFields : Type 0 where
@@ -68,10 +59,6 @@ fields_of h =
     else if h.number == AUTHENTICATION then auth_header (auth_fields h.bytes)
     else raw_header (raw_fields h.bytes)
 
--- whether a routing header is there
-abbrev pub has_routing : List ExtHeader → Bool
-has_routing c = is_some (header_in routing c)
-
 -- the place of a header of number m, behind a routing header or not
 abbrev pub place_of : ℕ → Bool → Option Place
 place_of m behind_routing =
@@ -82,11 +69,8 @@ place_of m behind_routing =
     else if m == AUTHENTICATION then Some authentication
     else None
 
--- whether a header of the chain c stands in a place
-abbrev pub is_filled : Option Place → List ExtHeader → Bool
-is_filled (Some p) c = is_some (header_in p c)
-is_filled None c = false
-
 -- whether m isn't 0 and its place behind the chain c is filled
 abbrev pub is_taken : ℕ → List ExtHeader → Bool
-is_taken m c = not (m == HOP_BY_HOP) && is_filled (place_of m (has_routing c)) c
+is_taken m c =
+    not (m == HOP_BY_HOP)
+    && option_map_or (λ p. is_some (header_in p c)) (place_of m (is_some (header_in routing c))) false

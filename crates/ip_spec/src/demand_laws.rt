@@ -2,7 +2,8 @@ ghost use Rattle.std.specs.Prelude.{◌≡◌, ◌<◌, ◌↔◌, IsTrue, ℕ, 
 ghost use Rattle.ip_spec.specs.Header.{IsExtensionNumber};
 ghost use Rattle.ip_spec.specs.Chain.{ExtHeader, IsLongestChain, IsNext, IsEnd, leads_to, bytes_of, is_empty};
 ghost use Rattle.ip_spec.specs.Demand.{IsDemand, KeepsBeginning, IsLongestUnder, IsEndUnder, Passes, NoDemand, AtMost, AtMostOneOf, IsWithin};
-ghost use Rattle.ip_spec.specs.Fits.{NumbersFit, FitsPlaces, IsTaken, in_place};
+ghost use Rattle.ip_spec.specs.Fits.{FitsPlaces, IsTaken};
+ghost use Rattle.ip_spec.specs.NumbersFit.{NumbersFit, numbers_of, in_place};
 ghost use Rattle.ip_spec.specs.Places.{is_taken};
 
 /// Under each demand, from each number, exactly one longest chain begins all bytes.
@@ -81,6 +82,12 @@ pub fn fitting_chain_stops_where_taken()
         → IsLongestUnder FitsPlaces n s c
         → (h : ExtHeader) → IsNext (is_empty c) (leads_to n c) (drop (length (bytes_of c)) s) h
         → length c < length d }
+{}
+
+/// A chain fits six places exactly where its numbers do: 0, 43, 44 and 51 stand in it once at most, and 60
+/// once at most on each side of the first 43.
+pub fn chain_fits_by_its_numbers()
+    ensures { (c : List ExtHeader) → FitsPlaces c ↔ NumbersFit (numbers_of c) }
 {}
 
 /// An extension number fits behind numbers that fit exactly where none of them stands in its place.

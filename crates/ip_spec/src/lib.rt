@@ -1,27 +1,23 @@
-//! What a header, a chain of headers and the longest chain are, over plain lists of bytes; the laws of
-//! these notions; and a plain slow program that computes them.
+//! What a header, a chain of headers and the longest chain are, over plain lists of bytes, and the laws of these
+//! notions.
 #![tactic(auto)]
 
 mod chain_laws;
 mod demand_laws;
 mod header_laws;
-mod plain;
-mod plain_fits;
 mod runs_laws;
 mod walk_laws;
 
 pub use chain_laws::{longest_chain_ends, one_longest_chain};
 pub use demand_laws::{
-    demand_keeps_its_longest_chain, demands, fitting_chain_ends, fitting_chain_stops_where_taken,
-    longest_chain_under_a_demand_ends, longest_chains_under_demands, next_number_fits,
-    one_longest_chain_under_a_demand, one_longest_fitting_chain, shorter_bytes_keep_whole_headers,
-    taken_numbers,
+    chain_fits_by_its_numbers, demand_keeps_its_longest_chain, demands, fitting_chain_ends,
+    fitting_chain_stops_where_taken, longest_chain_under_a_demand_ends,
+    longest_chains_under_demands, next_number_fits, one_longest_chain_under_a_demand,
+    one_longest_fitting_chain, shorter_bytes_keep_whole_headers, taken_numbers,
 };
 pub use header_laws::{
     cleared_header_encodes, cleared_header_says_the_same, encoding_len, one_decoding, one_encoding,
 };
-pub use plain::{PlainChain, PlainHeader, is_header, next_len, plain_longest_chain};
-pub use plain_fits::{fitting_len, numbers_fit};
 pub use runs_laws::{
     fewest_runs, one_list_of_runs, runs_are_longest_fitting_chains, runs_count,
     runs_keep_each_header,

@@ -1,3 +1,1 @@
 pub mod FirstLemmas
-pub mod PlainLemmas
-pub mod Exts4Lemmas

@@ -1,4 +1,4 @@
-//! Callers of the base layer and of the definitions' plain program.
+//! Callers of the base layer and of the plain program.
 ghost use Rattle.std.specs.Prelude.{◌≡◌, ◌≤◌, ◌<◌, ◌+◌, ◌^◌, length, take, IfOk, IfErr, IfSome};
 ghost use Rattle.ip_spec.specs.Header.{IsHeader};
 ghost use Rattle.ip_spec.specs.Lengths.{MAX_FRAGMENT_OFFSET};
@@ -27,5 +27,5 @@ pub fn first_header_len(number: u8, packet: &[u8]) -> Option<usize>
     ensures { IfSome result (λ len. (len ≤ length packet.now)
         × IsHeader number (take len packet.now)) }
 {
-    ip_spec::next_len(true, number, packet)
+    ip_plain::next_len(true, number, packet)
 }

@@ -1,13 +1,17 @@
 //! Callers of chains.
-ghost use Rattle.std.specs.Prelude.{◌≡◌, List, length, take, false, IfOk, IfSome};
+ghost use Rattle.std.specs.Prelude.{◌≡◌, ◌==◌, List, length, take, false, IfOk, IfSome};
+ghost use Rattle.std.specs.Option.{option_map};
+ghost use Rattle.std.specs.List.{find};
+ghost use Rattle.ip_spec.specs.Numbers.{FRAGMENT};
 ghost use Rattle.ip_spec.specs.Chain.{ExtHeader, bytes_of, has_fragmenting, leads_to};
 ghost use Rattle.ip_spec.specs.Parse.{rest_behind};
 ghost use Rattle.ip_spec.specs.Demand.{AtMost, IsLongestUnder};
 ghost use Rattle.ip_ext_slices.specs.Longest.{longest_chain};
+ghost use Rattle.ip_ext_slices.specs.Ipv6ExtensionSlice.{header_of};
 ghost use Rattle.ip_ext_slices.specs.Ipv6ExtensionsSlice.{bytes};
 
 use ip_base::{IpNumber, ip_number};
-use ip_ext_chains::Ipv6ExtensionsSlice;
+use ip_ext_chains::{Ipv6ExtensionSlice, Ipv6ExtensionsCursor, Ipv6ExtensionsSlice};
 use std::alloc::{AllocError, Global};
 
 /// How many extension headers begin the bytes.
@@ -69,4 +73,41 @@ pub fn first_headers(k: usize, start: IpNumber, packet: &[u8]) -> usize
         len += header.slice().len();
     }
     len
+}
+
+/// The first fragment header. What is behind it isn't parsed.
+pub fn first_fragment(start: IpNumber, packet: &[u8]) -> Option<Ipv6ExtensionSlice<'_>>
+    ensures { option_map header_of result
+        ≡ find (λ h. h.number == FRAGMENT) (longest_chain start.0 packet.now) }
+{
+    for header in Ipv6ExtensionsCursor::new(start, packet) {
+        if header.number() == ip_number::IPV6_FRAG {
+            return Some(header);
+        }
+    }
+    None
+}
+
+/// How many extension headers begin the bytes, with the number and the bytes behind them, in one pass.
+pub fn count_and_payload(start: IpNumber, packet: &[u8]) -> (usize, IpNumber, &[u8])
+    ensures count { result.0 ≡ length (longest_chain start.0 packet.now) }
+    ensures number { result.1.0 ≡ leads_to start.0 (longest_chain start.0 packet.now) }
+    ensures payload { result.2.now ≡ rest_behind (longest_chain start.0 packet.now) packet.now }
+{
+    let mut headers = Ipv6ExtensionsCursor::new(start, packet);
+    let mut count: usize = 0;
+    'headers: while let Some(_) = headers.next() {
+        count += 1;
+    }
+    match headers.end() {
+        Some((number, payload, _)) => (count, number, payload),
+        None => unreachable!(),
+    }
+}
+
+/// How many extension headers begin the bytes, in one pass.
+pub fn count_in_one_pass(start: IpNumber, packet: &[u8]) -> usize
+    ensures { result ≡ length (longest_chain start.0 packet.now) }
+{
+    Ipv6ExtensionsCursor::new(start, packet).count()
 }

@@ -1,5 +1,5 @@
-//! Programs over the crates of the repository, proved from their public contracts alone; a plain program that
-//! computes the definitions of the tool; and pins of what no contract says, constants and impls.
+//! Programs over the crates of the repository, proved from their public contracts alone; and pins of what no
+//! contract says, constants and impls.
 #![tactic(auto)]
 
 pub mod base;
@@ -11,7 +11,6 @@ pub mod outcomes;
 pub mod packets;
 pub mod pins;
 pub mod places;
-pub mod plain;
-mod plain_packet;
+pub mod readers;
 pub mod runs;
 pub mod tool;

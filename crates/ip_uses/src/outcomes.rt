@@ -202,6 +202,6 @@ pub fn len_behind_first(number: u8, packet: &[u8]) -> Option<usize>
         × IsNext true number packet.now (record { number = number; bytes = take len packet.now })) }
     ensures none { IfNone result (IsEnd true number packet.now) }
 {
-    let len = ip_spec::next_len(true, number, packet)?;
+    let len = ip_plain::next_len(true, number, packet)?;
     Some(packet.len() - len)
 }

@@ -11,7 +11,8 @@ use ip_base::{IpFragOffset, IpNumber, LenSource, ip_number};
 use ip_ext_chains::err::{ipv4_exts, ipv6_exts};
 use ip_ext_chains::{
     Ipv4Extensions, Ipv4ExtensionsSlice, Ipv6ExtensionSlice, Ipv6ExtensionSliceIter,
-    Ipv6Extensions, Ipv6ExtensionsRuns, Ipv6ExtensionsSlice, Ipv6RoutingExtensions,
+    Ipv6Extensions, Ipv6ExtensionsCursor, Ipv6ExtensionsRuns, Ipv6ExtensionsSlice,
+    Ipv6RoutingExtensions,
 };
 use ip_ext_headers::err::ip_auth;
 use ip_ext_headers::err::ipv6_exts::ExtPayloadLenError;
@@ -317,6 +318,18 @@ pub fn rest_behind_the_runs<'a>(runs: Ipv6ExtensionsRuns<'a>) -> Option<&'a [u8]
     }
 }
 
+/// So do the headers that a cursor gives, and what is left behind them.
+pub fn next_and_rest_of_the_cursor<'a>(
+    mut headers: Ipv6ExtensionsCursor<'a>,
+) -> (Option<Ipv6ExtensionSlice<'a>>, &'a [u8], Option<&'a [u8]>) {
+    let next = headers.next();
+    let behind = match headers.end() {
+        Some((_, rest, _)) => Some(rest),
+        None => None,
+    };
+    (next, headers.rest(), behind)
+}
+
 /// A type that is copied.
 fn needs_copy<T: Copy>(value: &T) -> T {
     *value
@@ -383,6 +396,7 @@ pub fn borrowed_are_compared(
     ipv4: &Ipv4ExtensionsSlice<'_>,
     ipv6: &Ipv6ExtensionsSlice<'_>,
     iterator: &Ipv6ExtensionSliceIter<'_>,
+    cursor: &Ipv6ExtensionsCursor<'_>,
 ) -> bool {
     needs_eq(raw, raw)
         && needs_eq(fragment, fragment)
@@ -391,6 +405,7 @@ pub fn borrowed_are_compared(
         && needs_eq(ipv4, ipv4)
         && needs_eq(ipv6, ipv6)
         && needs_eq(iterator, iterator)
+        && needs_eq(cursor, cursor)
 }
 
 /// The runs of a chain and the errors of writes are printed, and not compared.
@@ -416,8 +431,10 @@ pub fn chain_defaults<'a>() -> (
     Ipv4ExtensionsSlice<'a>,
     Ipv6ExtensionsSlice<'a>,
     Ipv6ExtensionSliceIter<'a>,
+    Ipv6ExtensionsCursor<'a>,
 ) {
     (
+        needs_default(),
         needs_default(),
         needs_default(),
         needs_default(),

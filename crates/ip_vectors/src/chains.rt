@@ -3,8 +3,8 @@ use ip_base::err::{Layer, LenError};
 use ip_base::{IpNumber, LenSource};
 use ip_ext_chains::err::ip_auth;
 use ip_ext_chains::err::ipv6_exts::{HeaderError, HeaderSliceError};
-use ip_ext_chains::{Ipv6ExtensionSliceIter, Ipv6ExtensionsSlice, plain_fault};
-use ip_spec::plain_longest_chain;
+use ip_ext_chains::{Ipv6ExtensionSliceIter, Ipv6ExtensionsCursor, Ipv6ExtensionsSlice};
+use ip_plain::{plain_fault, plain_longest_chain};
 use std::alloc::Global;
 use std::process::Abort;
 use std::test::Fail;
@@ -97,6 +97,44 @@ fn check_iterator(
     Ok(())
 }
 
+/// The cursor gives the row's headers, tells the end from the last of them on, and gives nothing behind it.
+fn check_cursor(rt: &impl Abort, row: &Row<'_>) -> Result<(), Fail> {
+    let name = row.name;
+    let mut headers = Ipv6ExtensionsCursor::new(IpNumber(row.start), row.bytes);
+    let mut number = row.start;
+    let mut rest = row.bytes;
+    for expected in row.headers {
+        assert_eq!(rt; headers.next_number(), IpNumber(number), "{name}");
+        assert_eq!(rt; headers.rest(), rest, "{name}");
+        assert!(rt; headers.end().is_none(), "{name}");
+        match headers.next() {
+            Some(header) => {
+                assert_eq!(rt;
+                    (header.number().0, header.slice().len()),
+                    *expected,
+                    "{name}"
+                );
+                number = rest.first().copied().unwrap_or(0);
+                rest = rest.get(expected.1..).unwrap_or(&[]);
+            }
+            None => assert!(rt; false, "{name}"),
+        }
+    }
+    for _ in 0..3 {
+        assert!(rt; headers.clone()? == headers, "{name}");
+        match headers.end() {
+            Some((number, rest, fault)) => {
+                assert_eq!(rt; number, IpNumber(row.number), "{name}");
+                assert_eq!(rt; rest, row.rest, "{name}");
+                assert_eq!(rt; fault, row.fault, "{name}");
+            }
+            None => assert!(rt; false, "{name}"),
+        }
+        assert!(rt; headers.next().is_none(), "{name}");
+    }
+    Ok(())
+}
+
 /// The plain slow program answers the row too.
 fn check_plain(rt: &impl Abort, alloc: Global, row: &Row<'_>) -> Result<(), Fail> {
     let name = row.name;
@@ -115,6 +153,7 @@ fn check_plain(rt: &impl Abort, alloc: Global, row: &Row<'_>) -> Result<(), Fail
 
 fn check(rt: &impl Abort, alloc: Global, row: &Row<'_>) -> Result<(), Fail> {
     check_parse(rt, row)?;
+    check_cursor(rt, row)?;
     check_plain(rt, alloc, row)
 }
 
@@ -245,6 +284,24 @@ fn defaults(rt: HostRuntime) -> Result<(), Fail> {
     assert!(rt; empty != Ipv6ExtensionSliceIter::default());
     assert!(rt; empty.clone()? == empty);
     assert!(rt; Ipv6ExtensionSliceIter::default().next().is_none());
+    let mut cursor = Ipv6ExtensionsCursor::default();
+    assert!(rt; cursor == Ipv6ExtensionsCursor::new(IpNumber(59), &[]));
+    assert!(rt; cursor.next().is_none() && cursor.end().is_some());
+    Ok(())
+}
+
+/// Cursors over the same bytes differ where one has gone on, and where they started at other numbers.
+#[test]
+fn cursors_that_differ(rt: HostRuntime) -> Result<(), Fail> {
+    let bytes: &[u8] = &[60, 0, 0, 0, 0, 0, 0, 0, 59, 0, 0, 0, 0, 0, 0, 0];
+    let before = Ipv6ExtensionsCursor::new(IpNumber(43), bytes);
+    let mut behind_routing = before.clone()?;
+    let mut behind_options = Ipv6ExtensionsCursor::new(IpNumber(60), bytes);
+    assert!(rt; before == behind_routing && before != behind_options);
+    assert!(rt; behind_routing.next().is_some() && behind_options.next().is_some());
+    assert!(rt; before != behind_routing && behind_routing != behind_options);
+    let begun_there = Ipv6ExtensionsCursor::new(IpNumber(60), behind_routing.rest());
+    assert!(rt; begun_there != behind_routing);
     Ok(())
 }
 
@@ -285,6 +342,8 @@ fn five_hundred_headers(rt: HostRuntime) -> Result<(), Fail> {
     let (chain, number, rest, fault) = Ipv6ExtensionsSlice::from_slice_lax(IpNumber(44), &bytes);
     assert!(rt; number == IpNumber(17) && rest.is_empty() && fault.is_none());
     assert_eq!(rt; chain.into_iter().count(), 512);
+    let cursor = Ipv6ExtensionsCursor::new(IpNumber(44), &bytes);
+    assert_eq!(rt; cursor.count(), 512);
     let plain = plain_longest_chain(rt.alloc(), 44, &bytes)?;
     assert!(rt; plain.number == 17 && plain.rest.is_empty());
     assert_eq!(rt; plain.headers.len(), 512);

@@ -4,6 +4,8 @@
 #[cfg(test)]
 mod base;
 #[cfg(test)]
+mod chain_readers;
+#[cfg(test)]
 mod chains;
 #[cfg(test)]
 mod header_slices;

@@ -1,5 +1,5 @@
 //! Lines and their answers, by the plain program and by `run`.
-use ip_uses::plain::plain_answers;
+use ip_plain::plain_answers;
 use ipexts_tool::run;
 use std::alloc::Global;
 use std::test::Fail;

@@ -6,7 +6,7 @@ use ip_ext_chains::err::ip_auth;
 use ip_ext_chains::err::ipv6_exts::{HeaderError, HeaderSliceError};
 use ip_ext_chains::{Ipv6Extensions, Ipv6ExtensionsSlice, Ipv6RawExtHeader, Ipv6RoutingExtensions};
 use ip_ext_headers::{IpAuthHeaderSlice, Ipv6FragmentHeaderSlice, Ipv6RawExtHeaderSlice};
-use ip_spec::{fitting_len, plain_longest_chain};
+use ip_plain::{fitting_len, plain_longest_chain};
 use std::alloc::Global;
 use std::process::Abort;
 use std::test::Fail;

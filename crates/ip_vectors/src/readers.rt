@@ -11,8 +11,8 @@ use std::test::Fail;
 
 /// Gives one byte a call, each behind an interrupted call, and then fails or ends.
 #[derive(Drop)]
-struct Drip<'a> {
-    bytes: &'a [u8],
+pub(crate) struct Drip<'a> {
+    pub(crate) bytes: &'a [u8],
     waits: bool,
     fails: bool,
 }
@@ -35,7 +35,8 @@ impl Read for Drip<'_> {
     }
 }
 
-fn dripping(bytes: &[u8], fails: bool) -> OverRead<Drip<'_>> {
+/// A stream of these bytes, that fails or ends behind them.
+pub(crate) fn dripping(bytes: &[u8], fails: bool) -> OverRead<Drip<'_>> {
     OverRead::new(Drip {
         bytes,
         waits: false,
@@ -115,7 +116,8 @@ fn read_limited<T: ExactRead>(kind: Kind, bytes: &[u8], reader: &mut LimitedRead
     }
 }
 
-fn front(bytes: &[u8], len: usize) -> &[u8] {
+/// The first bytes, or all where there are fewer.
+pub(crate) fn front(bytes: &[u8], len: usize) -> &[u8] {
     bytes.get(..len).unwrap_or(bytes)
 }
 

@@ -3,7 +3,7 @@ use ip_base::err::{Layer, LenError};
 use ip_base::{IpNumber, LenSource};
 use ip_ext_chains::err::ipv6_exts::{HeaderError, HeaderSliceError};
 use ip_ext_chains::{Ipv6Extensions, Ipv6ExtensionsRuns};
-use ip_spec::{PlainHeader, fitting_len, plain_longest_chain};
+use ip_plain::{PlainHeader, fitting_len, plain_longest_chain};
 use std::alloc::Global;
 use std::process::Abort;
 use std::test::Fail;

@@ -1,5 +1,8 @@
 //! A call for each way to parse a chain.
-use crate::parses::{Lax, LaxFilter, LaxHeaders, LaxHeadersFilter, Parse, Strict, StrictFilter};
+use crate::parses::{
+    CursorFragment, CursorKinds, Lax, LaxFilter, LaxFragment, LaxHeaders, LaxHeadersFilter, LaxKinds,
+    Parse, Strict, StrictFilter,
+};
 use crate::structs::{LaxStruct, StrictStruct};
 use ip_ext_chains::IpNumber;
 
@@ -49,4 +52,28 @@ pub extern "C" fn ipexts_lax_struct(start: u8, bytes: &[u8]) -> u64 {
 #[unsafe(no_mangle)]
 pub extern "C" fn ipexts_strict_struct(start: u8, bytes: &[u8]) -> u64 {
     StrictStruct::digest(IpNumber(start), bytes)
+}
+
+/// The headers of a cursor, by kind.
+#[unsafe(no_mangle)]
+pub extern "C" fn ipexts_cursor_kinds(start: u8, bytes: &[u8]) -> u64 {
+    CursorKinds::digest(IpNumber(start), bytes)
+}
+
+/// The headers of the lax parse, by kind.
+#[unsafe(no_mangle)]
+pub extern "C" fn ipexts_lax_kinds(start: u8, bytes: &[u8]) -> u64 {
+    LaxKinds::digest(IpNumber(start), bytes)
+}
+
+/// A cursor up to the first fragment header.
+#[unsafe(no_mangle)]
+pub extern "C" fn ipexts_cursor_fragment(start: u8, bytes: &[u8]) -> u64 {
+    CursorFragment::digest(IpNumber(start), bytes)
+}
+
+/// The lax parse and its headers up to the first fragment header.
+#[unsafe(no_mangle)]
+pub extern "C" fn ipexts_lax_fragment(start: u8, bytes: &[u8]) -> u64 {
+    LaxFragment::digest(IpNumber(start), bytes)
 }

@@ -108,6 +108,27 @@ pub fn len_source_code(source: &LenSource) -> u8 {
     }
 }
 
+/// The length of a header, counted by its kind.
+#[inline(always)]
+pub fn of_kind(header: &Ipv6ExtensionSlice<'_>) -> u64 {
+    match header {
+        Ipv6ExtensionSlice::HopByHop(header) => header.slice().len() as u64,
+        Ipv6ExtensionSlice::Routing(header) => (header.slice().len() as u64).wrapping_mul(2),
+        Ipv6ExtensionSlice::Fragment(header) => (header.slice().len() as u64).wrapping_mul(3),
+        Ipv6ExtensionSlice::DestinationOptions(header) => {
+            (header.slice().len() as u64).wrapping_mul(4)
+        }
+        Ipv6ExtensionSlice::Authentication(header) => (header.slice().len() as u64).wrapping_mul(5),
+    }
+}
+
+/// The headers' sum, the number behind them, how many bytes follow, and whether there is a fault.
+#[inline(always)]
+pub fn of_end(sum: u64, number: IpNumber, rest: &[u8], is_fault: bool) -> u64 {
+    let place = with(with(sum, u64::from(number.0)), rest.len() as u64);
+    with(place, u64::from(is_fault))
+}
+
 /// Every part of a header that an iterator yields.
 #[inline(never)]
 pub fn of_header(header: &Ipv6ExtensionSlice<'_>) -> u64 {

@@ -1,6 +1,9 @@
 //! Loops over IPv6 packets that stand one after the other in a buffer.
 use crate::digest::with;
-use crate::parses::{Lax, LaxFilter, LaxHeaders, LaxHeadersFilter, Parse, Strict, StrictFilter};
+use crate::parses::{
+    CursorFragment, CursorKinds, Lax, LaxFilter, LaxFragment, LaxHeaders, LaxHeadersFilter, LaxKinds,
+    Parse, Strict, StrictFilter,
+};
 use crate::structs::{LaxStruct, StrictStruct};
 use ip_ext_chains::IpNumber;
 
@@ -75,4 +78,28 @@ pub extern "C" fn ipexts_lax_struct_packets(packets: &[u8], ends: &[usize]) -> u
 #[unsafe(no_mangle)]
 pub extern "C" fn ipexts_strict_struct_packets(packets: &[u8], ends: &[usize]) -> u64 {
     over_packets::<StrictStruct>(packets, ends)
+}
+
+/// The headers that a cursor gives in each packet, by kind.
+#[unsafe(no_mangle)]
+pub extern "C" fn ipexts_cursor_kinds_packets(packets: &[u8], ends: &[usize]) -> u64 {
+    over_packets::<CursorKinds>(packets, ends)
+}
+
+/// The headers of the lax parse of each packet, by kind.
+#[unsafe(no_mangle)]
+pub extern "C" fn ipexts_lax_kinds_packets(packets: &[u8], ends: &[usize]) -> u64 {
+    over_packets::<LaxKinds>(packets, ends)
+}
+
+/// A cursor over each packet, up to the first fragment header.
+#[unsafe(no_mangle)]
+pub extern "C" fn ipexts_cursor_fragment_packets(packets: &[u8], ends: &[usize]) -> u64 {
+    over_packets::<CursorFragment>(packets, ends)
+}
+
+/// The lax parse of each packet and its headers, up to the first fragment header.
+#[unsafe(no_mangle)]
+pub extern "C" fn ipexts_lax_fragment_packets(packets: &[u8], ends: &[usize]) -> u64 {
+    over_packets::<LaxFragment>(packets, ends)
 }

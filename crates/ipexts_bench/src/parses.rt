@@ -1,6 +1,6 @@
 //! The ways to parse a chain that are measured. Each answers a digest of what it read.
-use crate::digest::{of_header, of_lax, of_strict, of_strict_fault, with};
-use ip_ext_chains::{IpNumber, Ipv6ExtensionSlice, Ipv6ExtensionsSlice};
+use crate::digest::{of_end, of_header, of_kind, of_lax, of_strict, of_strict_fault, with};
+use ip_ext_chains::{IpNumber, Ipv6ExtensionSlice, Ipv6ExtensionsCursor, Ipv6ExtensionsSlice};
 
 /// A way to parse a chain.
 pub trait Parse {
@@ -25,6 +25,18 @@ pub struct LaxHeadersFilter;
 
 /// The strict parse, of which a filter reads where the payload lies and whether it is whole.
 pub struct StrictFilter;
+
+/// The headers that a cursor gives, by kind and length, and its end.
+pub struct CursorKinds;
+
+/// The same of the lax parse and its iterator.
+pub struct LaxKinds;
+
+/// The headers that a cursor gives up to the first fragment header, or its end where there is none.
+pub struct CursorFragment;
+
+/// The same of the lax parse and its iterator.
+pub struct LaxFragment;
 
 impl Parse for Lax {
     fn digest(start: IpNumber, bytes: &[u8]) -> u64 {
@@ -90,5 +102,65 @@ impl Parse for StrictFilter {
             }
             Err(_) => 2,
         }
+    }
+}
+
+impl Parse for CursorKinds {
+    #[inline(always)]
+    fn digest(start: IpNumber, bytes: &[u8]) -> u64 {
+        let mut headers = Ipv6ExtensionsCursor::new(start, bytes);
+        let mut sum: u64 = 0;
+        'headers: while let Some(header) = headers.next() {
+            sum = sum.wrapping_add(of_kind(&header));
+        }
+        match headers.end() {
+            Some((number, rest, fault)) => of_end(sum, number, rest, fault.is_some()),
+            None => unreachable!(),
+        }
+    }
+}
+
+impl Parse for LaxKinds {
+    #[inline(always)]
+    fn digest(start: IpNumber, bytes: &[u8]) -> u64 {
+        let (headers, number, rest, fault) = Ipv6ExtensionsSlice::from_slice_lax(start, bytes);
+        let mut sum: u64 = 0;
+        for header in headers {
+            sum = sum.wrapping_add(of_kind(&header));
+        }
+        of_end(sum, number, rest, fault.is_some())
+    }
+}
+
+impl Parse for CursorFragment {
+    #[inline(always)]
+    fn digest(start: IpNumber, bytes: &[u8]) -> u64 {
+        let mut headers = Ipv6ExtensionsCursor::new(start, bytes);
+        let mut sum: u64 = 0;
+        'headers: while let Some(header) = headers.next() {
+            if let Ipv6ExtensionSlice::Fragment(fragment) = &header {
+                return with(sum, u64::from(fragment.identification()));
+            }
+            sum = sum.wrapping_add(of_kind(&header));
+        }
+        match headers.end() {
+            Some((number, rest, fault)) => of_end(sum, number, rest, fault.is_some()),
+            None => unreachable!(),
+        }
+    }
+}
+
+impl Parse for LaxFragment {
+    #[inline(always)]
+    fn digest(start: IpNumber, bytes: &[u8]) -> u64 {
+        let (headers, number, rest, fault) = Ipv6ExtensionsSlice::from_slice_lax(start, bytes);
+        let mut sum: u64 = 0;
+        for header in headers {
+            if let Ipv6ExtensionSlice::Fragment(fragment) = &header {
+                return with(sum, u64::from(fragment.identification()));
+            }
+            sum = sum.wrapping_add(of_kind(&header));
+        }
+        of_end(sum, number, rest, fault.is_some())
     }
 }

@@ -1,0 +1,214 @@
+-- What is refused of a chain that is read is what the parse tells.
+use Rattle.std.proofs.Common.{◌≡◌, ◌≢◌, ℕ, ◌<◌, List, [], ◌∷◌, ◌++◌, length, refl, ap, sym, ◌∙◌, subst, inl, inr, Bool, true, false, arith, ◌+◌, length-append}
+use Rattle.std.specs.Prelude.{Option, Some, None, IsTrue, IfSome}
+use Rattle.std.specs.Option.{option_map}
+use Rattle.std.specs.Io.KnownBytes.{Consumes}
+use Rattle.std.proofs.KnownBytes.{Consumes-nil, Consumes-trans}
+use Rattle.ip_base.specs.declared.len_source.LenSource.TheVariants.{Slice}
+use Rattle.ip_base.specs.declared.err.layer.Layer.{Layer}
+use Rattle.ip_base.specs.declared.err.layer.Layer.TheVariants.{Ipv6ExtHeader}
+use Rattle.ip_spec.specs.Header.{IsRawNumber}
+use Rattle.ip_spec.specs.Requests.{RawAsks, Asks, asks_raw, IsZeroLength}
+use Rattle.ip_io.specs.declared.err.io.limited_read_error.LimitedReadError.{LimitedReadError}
+use Rattle.ip_io.specs.declared.err.io.limited_read_error.LimitedReadError.TheVariants as limit
+use Rattle.ip_spec.specs.Chain.{ExtHeader, leads_to, bytes_of, is_empty}
+use Rattle.ip_spec.proofs.ChainLemmas.{bytes_of-more}
+use Rattle.ip_io.specs.ExactRead.{IfSteady}
+use Rattle.ip_io.specs.Limits.{Limits, left, started, advanced}
+use Rattle.ip_io.specs.LimitedReader.{inner_of, limits_of, window}
+use Rattle.ip_io.specs.Reading.{IsTakenInLayer, IsRefusedInLayer, IsRefusedWithin, IsPastLimit}
+use Rattle.ip_io.specs.declared.io.limited_reader.LimitedReader.{LimitedReader}
+use Rattle.ip_io.proofs.ReadingLemmas.{refused_short, refused_within_short, past_limit_short}
+use Rattle.ip_ext_headers.specs.declared.err.ip_auth.header_error.HeaderError.TheVariants.{ZeroPayloadLen}
+use Rattle.ip_ext_slices.specs.Fault.{Fault, short_at, fault_at}
+use Rattle.ip_ext_slices.specs.declared.err.ipv6_exts.header_error.HeaderError.TheVariants.{HopByHopNotAtStart, IpAuth}
+use Rattle.ip_ext_slices.specs.declared.err.ipv6_exts.header_slice_error.HeaderSliceError.{HeaderSliceError}
+use Rattle.ip_ext_slices.specs.declared.err.ipv6_exts.header_slice_error.HeaderSliceError.TheVariants as slice
+use Rattle.ip_ext_slices.proofs.RequestFaultLemmas.{asks_fault, zero_fault}
+use Rattle.ip_ext_chains.specs.ReadError.{HasError, IsTooShort, IsSliceError, IsSliceErrorInLayers, of_limited_error}
+use Rattle.ip_ext_chains.specs.Reading.{AreTaken, AreTakenInLayers, IsChainRefused, IsHeaderRefused, IsHeaderRefusedInLayer, layer_of, limits_behind}
+use Rattle.ip_ext_chains.specs.declared.err.ipv6_exts.header_read_error.HeaderReadError.{HeaderReadError}
+use Rattle.ip_ext_chains.specs.declared.err.ipv6_exts.header_read_error.HeaderReadError.TheVariants as read
+use Rattle.ip_ext_chains.specs.declared.err.ipv6_exts.header_limited_read_error.HeaderLimitedReadError.{HeaderLimitedReadError}
+use Rattle.ip_ext_chains.specs.declared.err.ipv6_exts.header_limited_read_error.HeaderLimitedReadError.TheVariants as limited
+use Rattle.ip_ext_chains.proofs.ReadingLemmas.{fitting_fault_is, never_empty}
+
+-- what holds of bytes behind some that were taken
+pub lift_some : (a b : Option (List ℕ)) (done : List ℕ) (Q : List ℕ → Type 0) → Consumes a b done → IfSome b (λ y. Q (done ++ y)) → IfSome a Q
+lift_some None b done Q c f = tt
+lift_some (Some s) None done Q c f = absurd c
+lift_some (Some s) (Some y) done Q c f = subst Q (sym c) f
+
+pub lift_steady : (steady then_steady : Bool) (a b : Option (List ℕ)) (done : List ℕ) (Q : List ℕ → Type 0) → then_steady ≡ steady → Consumes a b done → IfSteady then_steady b (λ y. Q (done ++ y)) → IfSteady steady a Q
+lift_steady false then_steady a b done Q e c f = tt
+lift_steady true false a b done Q e c f = absurd (let differ : false ≡ true = e in cc)
+lift_steady true true a b done Q e c f = lift_some a b done Q c f
+
+pub of_all : (o : Option (List ℕ)) (R : List ℕ → Type 0) → ((y : List ℕ) → R y) → IfSome o R
+of_all None R f = tt
+of_all (Some y) R f = f y
+
+pub of_begun : (a b : Option (List ℕ)) (done : List ℕ) (R : List ℕ → Type 0) → Consumes a b done → ((xs : List ℕ) → R (done ++ xs)) → IfSome a R
+of_begun None b done R c f = tt
+of_begun (Some s) None done R c f = absurd c
+of_begun (Some s) (Some y) done R c f = subst R (sym c) (f y)
+
+-- Behind the headers of a chain that was refused.
+module _ {R : Type 0} (Taken : R → R → List ExtHeader → Type 0) (Refused : Bool → ℕ → R → R → Type 0) (old new : R) (n : ℕ) (k : IsChainRefused Taken Refused old new n) where
+  pub error_is : (x : List ℕ) (f : Fault) → fault_at Slice (length x) (length (bytes_of k.headers)) (is_empty k.headers) (leads_to n k.headers) x ≡ Some f → HasError n f.0 (bytes_of k.headers ++ x)
+  error_is x f e = ap (option_map (λ (g : Fault). g.0)) (fitting_fault_is n k.headers k.chain k.fits x f k.free e)
+
+  pub short_is : (leads_to n k.headers ≡ 0 → IsTrue (is_empty k.headers)) → (done : List ℕ) (count : ℕ) (xs : List ℕ) → Asks (leads_to n k.headers) done count → length xs < count → IsTooShort n (bytes_of k.headers ++ (done ++ xs))
+  short_is zero_first done count xs asks few =
+      let f = asks_fault Slice (length (done ++ xs)) (length (bytes_of k.headers)) (is_empty k.headers) (leads_to n k.headers) done count xs few zero_first asks in
+      (f.0, error_is (done ++ xs) (short_at f.1 f.0) f.2)
+
+  pub zero_is : (done xs : List ℕ) → leads_to n k.headers ≡ 51 → IsZeroLength done → HasError n (slice.Content (IpAuth ZeroPayloadLen)) (bytes_of k.headers ++ (done ++ xs))
+  zero_is done xs is z = error_is (done ++ xs) _ (zero_fault Slice (length (done ++ xs)) (length (bytes_of k.headers)) (is_empty k.headers) (leads_to n k.headers) done xs is z)
+
+  pub later_is : (x : List ℕ) → leads_to n k.headers ≡ 0 → is_empty k.headers ≡ false → HasError n (slice.Content HopByHopNotAtStart) (bytes_of k.headers ++ x)
+  later_is x is later =
+      let at : Bool → ℕ → Option Fault = λ b m. fault_at Slice (length x) (length (bytes_of k.headers)) b m x in
+      error_is x _ (ap (λ (b : Bool). at b (leads_to n k.headers)) later ∙ ap (at false) is)
+
+module _ {T : Type 0} (bytes_left : T → Option (List ℕ)) (is_steady has_failed : T → Bool) where
+  -- a header more was taken
+  pub taken_next : (old mid new : T) (c : List ExtHeader) (h : ExtHeader) → AreTaken bytes_left is_steady has_failed old mid c → Consumes (bytes_left mid) (bytes_left new) h.bytes
+      → is_steady new ≡ is_steady mid → has_failed new ≡ has_failed mid → AreTaken bytes_left is_steady has_failed old new (c ++ h ∷ [])
+  taken_next old mid new c h t b steady kept = record {
+    bytes = rw (bytes_of-more c h) (Consumes-trans _ _ _ (bytes_of c) h.bytes t.bytes b);
+    steady = steady ∙ t.steady;
+    kept = kept ∙ t.kept;
+    none = λ e. absurd (never_empty c h e);
+  }
+
+  pub nothing_taken : (old : T) → AreTaken bytes_left is_steady has_failed old old []
+  nothing_taken old = record { bytes = Consumes-nil (bytes_left old); steady = refl; kept = refl; none = λ e. refl }
+
+  -- a header that is refused where it would be the first, refused where it may be read
+  pub refused_as : (e : HeaderReadError) (first : Bool) (m j : ℕ) (old new : T) → IsHeaderRefused bytes_left is_steady has_failed e true j old new → m ≡ j → (m ≡ 0 → IsTrue first)
+      → IsHeaderRefused bytes_left is_steady has_failed e first m old new
+  refused_as (read.Io e) first m j old new r is zero_first =
+      let P : ℕ → Type 0 = λ i. IsHeaderRefused bytes_left is_steady has_failed (read.Io e) true i old new in
+      let here : IsHeaderRefused bytes_left is_steady has_failed (read.Io e) true m old new = subst P (sym is) r in
+      (zero_first, here.1)
+  refused_as (read.Content HopByHopNotAtStart) first m j old new r is zero_first = absurd (let differ : true ≡ false = r.1 in cc)
+  refused_as (read.Content (IpAuth e)) first m j old new r is zero_first = (is ∙ r.0, r.1)
+
+  -- the same, told of the number to which a chain leads
+  pub refused_here : (e : HeaderReadError) (first other : Bool) (m j : ℕ) (old new : T) → IsHeaderRefused bytes_left is_steady has_failed e first m old new → m ≡ j → first ≡ other
+      → IsHeaderRefused bytes_left is_steady has_failed e other j old new
+  refused_here e first other m j old new r em ef =
+      let M : ℕ → Type 0 = λ i. IsHeaderRefused bytes_left is_steady has_failed e first i old new in
+      let F : Bool → Type 0 = λ b. IsHeaderRefused bytes_left is_steady has_failed e b j old new in
+      subst F ef (subst M em r)
+
+  -- a refused chain has the error of the parse
+  pub refused_error : (e : HeaderReadError) (old new : T) (n : ℕ)
+      → IsChainRefused (AreTaken bytes_left is_steady has_failed) (IsHeaderRefused bytes_left is_steady has_failed e) old new n → IsSliceError n (is_steady old) (bytes_left old) e
+  refused_error (read.Io e) old new n k =
+      let P : List ℕ → Type 0 = λ y. IsTooShort n (bytes_of k.headers ++ y) in
+      lift_steady _ _ _ _ (bytes_of k.headers) (IsTooShort n) k.taken.steady k.taken.bytes
+      (refused_short (Asks (leads_to n k.headers)) P (short_is _ _ old new n k k.refused.0) _ _ _ k.refused.1)
+  refused_error (read.Content HopByHopNotAtStart) old new n k =
+      lift_some _ _ (bytes_of k.headers) (HasError n (slice.Content HopByHopNotAtStart)) k.taken.bytes
+      (of_all (bytes_left k.between) _ (λ y. later_is _ _ old new n k y k.refused.0 k.refused.1))
+  refused_error (read.Content (IpAuth ZeroPayloadLen)) old new n k =
+      lift_some _ _ (bytes_of k.headers) (HasError n (slice.Content (IpAuth ZeroPayloadLen))) k.taken.bytes
+      (of_begun _ _ k.refused.1.done _ k.refused.1.taken (λ xs. zero_is _ _ old new n k k.refused.1.done xs k.refused.0 k.refused.1.zero_length))
+
+-- The same within a limit.
+limits_behind-more : (c : List ExtHeader) (h : ExtHeader) (l : Limits) → limits_behind (c ++ h ∷ []) l ≡ advanced (length h.bytes) (started (layer_of h.number) (limits_behind c l))
+limits_behind-more [] h l = refl
+limits_behind-more (g ∷ c) h l = limits_behind-more c h (advanced (length g.bytes) (started (layer_of g.number) l))
+
+module _ {T : Type 0} (bytes_left : T → Option (List ℕ)) (is_steady has_failed : T → Bool) where
+  -- a header more was taken
+  pub layer_next : (old mid new : LimitedReader T) (c : List ExtHeader) (h : ExtHeader) (j : ℕ) → h.number ≡ j → AreTakenInLayers bytes_left is_steady has_failed old mid c → IsTakenInLayer bytes_left (layer_of j) mid new h.bytes
+      → is_steady (inner_of new) ≡ is_steady (inner_of mid) → has_failed (inner_of new) ≡ has_failed (inner_of mid) → AreTakenInLayers bytes_left is_steady has_failed old new (c ++ h ∷ [])
+  layer_next old mid new c h j is t taken steady kept =
+      let N : ℕ → Type 0 = λ i. IsTakenInLayer bytes_left (layer_of i) mid new h.bytes in
+      let b : IsTakenInLayer bytes_left (layer_of h.number) mid new h.bytes = subst N (sym is) taken in
+      record {
+    left_over = omega (arith, ap length (bytes_of-more c h), length-append (bytes_of c) h.bytes, t.left_over, b.within, ap left b.limits);
+    limits = b.limits ∙ ap (λ (l : Limits). advanced (length h.bytes) (started (layer_of h.number) l)) t.limits ∙ sym (limits_behind-more c h (limits_of old));
+    bytes = rw (bytes_of-more c h) (Consumes-trans _ _ _ (bytes_of c) h.bytes t.bytes b.reader);
+    window = rw (bytes_of-more c h) (Consumes-trans _ _ _ (bytes_of c) h.bytes t.window b.window);
+    steady = steady ∙ t.steady;
+    kept = kept ∙ t.kept;
+    none = λ e. absurd (never_empty c h e);
+  }
+
+  -- a refused request of a header of the common layout
+  raw_layer : (m : ℕ) → IsRawNumber m → layer_of m ≡ Ipv6ExtHeader
+  raw_layer m is =
+      let P : ℕ → Type 0 = λ i. layer_of i ≡ Ipv6ExtHeader in
+      elim is [ inl e ↦ subst P (sym e) refl | inr is' ↦ elim is' [ inl e ↦ subst P (sym e) refl | inr e ↦ subst P (sym e) refl ] ]
+
+  pub raw_refused : (e : LimitedReadError) (old new : LimitedReader T) → IsRefusedInLayer bytes_left is_steady has_failed RawAsks Ipv6ExtHeader old new e
+      → (m : ℕ) → IsRawNumber m → IsHeaderRefusedInLayer bytes_left is_steady has_failed (of_limited_error e) true m old new
+  raw_refused (limit.Io e) old new r m is =
+      let L : Layer → Type 0 = λ l. IsRefusedWithin bytes_left is_steady has_failed (Asks m) l old new in
+      let asked : Asks m r.done r.count = asks_raw is r.refused.asked in (
+        λ z. refl,
+        subst L (sym (raw_layer m is)) (record { done = r.done; count = r.count; within = r.within; limits = r.limits; refused = record { asked = asked; left = r.refused.left; taken = r.refused.taken; refusal = r.refused.refusal } }),
+      )
+  raw_refused (limit.Len e) old new r m is =
+      let L : Layer → Type 0 = λ l. IsPastLimit bytes_left is_steady has_failed (Asks m) l old new e in (
+        λ z. refl,
+        subst L (sym (raw_layer m is)) (record { done = r.done; count = r.count; asked = asks_raw is r.asked; taken = r.taken; beyond = r.beyond; error = r.error; kept = r.kept }),
+      )
+
+  pub no_layer : (old : LimitedReader T) → AreTakenInLayers bytes_left is_steady has_failed old old []
+  no_layer old = record {
+    left_over = omega arith;
+    limits = refl;
+    bytes = Consumes-nil (bytes_left (inner_of old));
+    window = Consumes-nil (window bytes_left old);
+    steady = refl;
+    kept = refl;
+    none = λ e. refl;
+  }
+
+  -- a header that is refused where it would be the first, refused where it may be read
+  pub layer_refused_as : (e : HeaderLimitedReadError) (first : Bool) (m j : ℕ) (old new : LimitedReader T) → IsHeaderRefusedInLayer bytes_left is_steady has_failed e true j old new → m ≡ j → (m ≡ 0 → IsTrue first)
+      → IsHeaderRefusedInLayer bytes_left is_steady has_failed e first m old new
+  layer_refused_as (limited.Io e) first m j old new r is zero_first =
+      let P : ℕ → Type 0 = λ i. IsHeaderRefusedInLayer bytes_left is_steady has_failed (limited.Io e) true i old new in
+      let here : IsHeaderRefusedInLayer bytes_left is_steady has_failed (limited.Io e) true m old new = subst P (sym is) r in
+      (zero_first, here.1)
+  layer_refused_as (limited.Len e) first m j old new r is zero_first =
+      let P : ℕ → Type 0 = λ i. IsHeaderRefusedInLayer bytes_left is_steady has_failed (limited.Len e) true i old new in
+      let here : IsHeaderRefusedInLayer bytes_left is_steady has_failed (limited.Len e) true m old new = subst P (sym is) r in
+      (zero_first, here.1)
+  layer_refused_as (limited.Content HopByHopNotAtStart) first m j old new r is zero_first = absurd (let differ : true ≡ false = r.1 in cc)
+  layer_refused_as (limited.Content (IpAuth e)) first m j old new r is zero_first =
+      let P : ℕ → Type 0 = λ i. IsHeaderRefusedInLayer bytes_left is_steady has_failed (limited.Content (IpAuth e)) first i old new in
+      subst P (sym is) r
+
+  -- the same, told of the number to which a chain leads
+  pub layer_refused_here : (e : HeaderLimitedReadError) (first other : Bool) (m j : ℕ) (old new : LimitedReader T) → IsHeaderRefusedInLayer bytes_left is_steady has_failed e first m old new → m ≡ j → first ≡ other
+      → IsHeaderRefusedInLayer bytes_left is_steady has_failed e other j old new
+  layer_refused_here e first other m j old new r em ef =
+      let M : ℕ → Type 0 = λ i. IsHeaderRefusedInLayer bytes_left is_steady has_failed e first i old new in
+      let F : Bool → Type 0 = λ b. IsHeaderRefusedInLayer bytes_left is_steady has_failed e b j old new in
+      subst F ef (subst M em r)
+
+  -- a refused chain has the error of the parse of the window
+  pub layer_refused_error : (e : HeaderLimitedReadError) (old new : LimitedReader T) (n : ℕ)
+      → IsChainRefused (AreTakenInLayers bytes_left is_steady has_failed) (IsHeaderRefusedInLayer bytes_left is_steady has_failed e) old new n
+      → IsSliceErrorInLayers n (is_steady (inner_of old)) (window bytes_left old) e
+  layer_refused_error (limited.Io e) old new n k =
+      let P : List ℕ → Type 0 = λ y. IsTooShort n (bytes_of k.headers ++ y) in
+      lift_steady _ _ _ _ (bytes_of k.headers) (IsTooShort n) k.taken.steady k.taken.window
+      (refused_within_short (Asks (leads_to n k.headers)) P (short_is _ _ old new n k k.refused.0) bytes_left is_steady has_failed _ k.between new k.refused.1)
+  layer_refused_error (limited.Len e) old new n k =
+      let P : List ℕ → Type 0 = λ y. IsTooShort n (bytes_of k.headers ++ y) in
+      lift_some _ _ (bytes_of k.headers) (IsTooShort n) k.taken.window
+      (past_limit_short (Asks (leads_to n k.headers)) P (short_is _ _ old new n k k.refused.0) bytes_left is_steady has_failed _ k.between new e k.refused.1)
+  layer_refused_error (limited.Content HopByHopNotAtStart) old new n k =
+      lift_some _ _ (bytes_of k.headers) (HasError n (slice.Content HopByHopNotAtStart)) k.taken.window
+      (of_all (window bytes_left k.between) _ (λ y. later_is _ _ old new n k y k.refused.0 k.refused.1))
+  layer_refused_error (limited.Content (IpAuth ZeroPayloadLen)) old new n k =
+      lift_some _ _ (bytes_of k.headers) (HasError n (slice.Content (IpAuth ZeroPayloadLen))) k.taken.window
+      (of_begun _ _ k.refused.1.done _ k.refused.1.taken.window (λ xs. zero_is _ _ old new n k k.refused.1.done xs k.refused.0 k.refused.1.zero_length))

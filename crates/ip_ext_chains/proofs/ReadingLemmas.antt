@@ -1,0 +1,318 @@
+-- A chain that is read, header by header, into six places.
+use Rattle.std.proofs.Common.{◌≡◌, ◌≢◌, ℕ, ◌+◌, ◌<◌, List, [], ◌∷◌, ◌++◌, length, drop, take, refl, ap, sym, ◌∙◌, arith, inl, inr, ◌⊎◌, subst, Bool, true, false, append-nil}
+use Rattle.std.specs.Prelude.{◌==◌, ◌&&◌, not, Option, Some, None, is_some, IsTrue, IfSome, if◌then◌else◌}
+use Rattle.std.specs.Option.{option_map, option_map_or}
+use Rattle.std.proofs.lemmas.Bool.{cases_Bool, ne_eqb}
+use Rattle.std.proofs.lemmas.Option.{none-some}
+use Rattle.std.proofs.Math.Seq.{take-length, drop-append_seam}
+use Rattle.ip_base.specs.declared.len_source.LenSource.TheVariants.{Slice}
+use Rattle.ip_spec.specs.Header.{IsHeader, IsExtensionNumber}
+use Rattle.ip_spec.specs.FieldsOf.{raw_fields}
+use Rattle.ip_spec.specs.Fields.{next_header}
+use Rattle.ip_spec.specs.Chain.{ExtHeader, IsChain, IsPrefixChain, IsNext, IsEnd, leads_to, bytes_of, is_empty}
+use Rattle.ip_spec.specs.Demand.{IsEndUnder}
+use Rattle.ip_spec.specs.Fits.{FitsPlaces, IsTaken}
+use Rattle.ip_spec.specs.Parse.{rest_behind, fault_behind}
+use Rattle.ip_spec.specs.Places.{Place, hop_by_hop, destination, routing, fragment, authentication, final_destination, index, number_in, header_in, place_of, is_taken, fields_of, HeaderFields, raw_header}
+use Rattle.ip_spec.proofs.HeaderLemmas.{header_number}
+use Rattle.ip_spec.proofs.PrefixLemmas.{prefix_of-append}
+use Rattle.ip_spec.proofs.ChainLemmas.{no_chain, goes_on, leads_to-more}
+use Rattle.ip_spec.proofs.UnderLemmas.{some_longest_under, one_longest_under, longest_at_end_under}
+use Rattle.ip_spec.proofs.FitsLemmas.{fits_places}
+use Rattle.ip_spec.proofs.PlaceLemmas.{has_routing, place_number, own_place, final_behind, is_extension, placed, fits_more, taken_told}
+use Rattle.ip_ext_slices.specs.Fault.{Fault, fault_at, chain_faults}
+use Rattle.ip_ext_slices.proofs.FaultLemmas.{end_at_other, no_fault_at_other}
+use Rattle.ip_ext_slices.proofs.RequestFaultLemmas.{fault_ends}
+use Rattle.ip_ext_chains.specs.Fitting.{fitting_chain, fitting_faults, fitting_fault, IsFittingAnswer}
+use Rattle.ip_ext_chains.specs.Ipv6Extensions.{value_of, held, final_of}
+use Rattle.ip_ext_chains.specs.Reading.{with_header, IsNextPlace, HasNoPlace, IsReadInto}
+use Rattle.ip_ext_chains.specs.declared.ipv6_exts.Ipv6Extensions.{Ipv6Extensions}
+use Rattle.ip_ext_chains.specs.declared.ipv6_routing_exts.Ipv6RoutingExtensions.{Ipv6RoutingExtensions}
+use Rattle.ip_ext_chains.proofs.HeldLemmas.{held-value_of, held_one}
+
+-- The chain c from n was read, fits, leads to m and has the value v; `first` tells that it has no header.
+pub record IsReading (n : ℕ) (c : List ExtHeader) (m : ℕ) (v : Ipv6Extensions) (first : Bool) : Type 0 where
+  pub chain : IsChain n c
+  pub fits : FitsPlaces c
+  pub number : m ≡ leads_to n c
+  pub value : v ≡ value_of c
+  pub none_yet : first ≡ is_empty c
+
+pub reading_none : (n : ℕ) (v : Ipv6Extensions) → v ≡ value_of [] → IsReading n [] n v true
+reading_none n v e = record { chain = no_chain n; fits = fits_places.empty; number = refl; value = e; none_yet = refl }
+
+is_some_map : {A B : Type 0} (f : A → B) (o : Option A) → is_some (option_map f o) ≡ is_some o
+is_some_map f (Some x) = refl
+is_some_map f None = refl
+
+-- What is filled of the value is filled of the chain.
+module _ (c : List ExtHeader) (v : Ipv6Extensions) (e : v ≡ value_of c) where
+  pub filled : (p : Place) → is_some (held v p) ≡ is_some (header_in p c)
+  filled p = ap (λ (w : Ipv6Extensions). is_some (held w p)) e ∙ ap is_some (held-value_of c p) ∙ is_some_map fields_of (header_in p c)
+
+  pub routing_there : is_some v.routing ≡ has_routing c
+  routing_there = sym (is_some_map (λ (r : Ipv6RoutingExtensions). raw_header r.routing) v.routing) ∙ filled routing
+
+-- Where a chain that fits ends.
+module _ (n : ℕ) (c : List ExtHeader) (chain : IsChain n c) (fits : FitsPlaces c) (x : List ℕ) where
+  behind : drop (length (bytes_of c)) (bytes_of c ++ x) ≡ x
+  behind = drop-append_seam (bytes_of c) x
+
+  is_fitting : IsEndUnder FitsPlaces c (leads_to n c) x → c ≡ fitting_chain n (bytes_of c ++ x)
+  is_fitting e =
+      let s : List ℕ = bytes_of c ++ x in
+      let E : List ℕ → Type 0 = IsEndUnder FitsPlaces c (leads_to n c) in
+      one_longest_under FitsPlaces fits_places n s c (fitting_chain n s)
+      (longest_at_end_under FitsPlaces fits_places n s c (record { has = record { chain = chain; prefix = prefix_of-append (bytes_of c) x s refl }; meets = fits }) (subst E (sym behind) e))
+      (some_longest_under FitsPlaces fits_places n s).1
+
+  -- the fault there is the fault of the parse
+  pub fitting_fault_is : (f : Fault) → is_taken (leads_to n c) c ≡ false → fault_at Slice (length x) (length (bytes_of c)) (is_empty c) (leads_to n c) x ≡ Some f → fitting_fault n (bytes_of c ++ x) ≡ Some f
+  fitting_fault_is f free fault =
+      let none : IsEnd (is_empty c) (leads_to n c) x = fault_ends Slice (length x) (length (bytes_of c)) x (is_empty c) (leads_to n c) f fault in
+      let there : List ExtHeader → Option Fault = λ d. fault_behind fitting_faults d n (bytes_of c ++ x) in
+      let m : ℕ = leads_to n c in
+      ap there (sym (is_fitting (λ h y q. none h y)))
+      ∙ ap (λ (b : Bool). if b then None else chain_faults Slice c m (rest_behind c (bytes_of c ++ x))) free
+      ∙ ap (λ (r : List ℕ). chain_faults Slice c m r) behind
+      ∙ fault
+
+  -- where no header goes on that fits and there is no fault, the chain is the answer
+  answered : IsEndUnder FitsPlaces c (leads_to n c) x → (v : Ipv6Extensions) (m : ℕ) → v ≡ value_of c → m ≡ leads_to n c → fitting_faults c (leads_to n c) x ≡ None
+      → IsFittingAnswer n (bytes_of c ++ x) v m x None
+  answered e v m value number none =
+      let same : c ≡ fitting_chain n (bytes_of c ++ x) = is_fitting e in
+      let there : List ExtHeader → Option Fault = λ d. fault_behind fitting_faults d n (bytes_of c ++ x) in
+      record {
+        value = value ∙ ap value_of same;
+        number = number ∙ ap (leads_to n) same;
+        rest = sym behind ∙ ap (λ d. rest_behind d (bytes_of c ++ x)) same;
+        fault = sym (ap there (sym same) ∙ ap (λ (r : List ℕ). fitting_faults c (leads_to n c) r) behind ∙ none);
+      }
+
+  -- so it is where the number's place is filled
+  pub taken_answers : (v : Ipv6Extensions) (m : ℕ) → v ≡ value_of c → m ≡ leads_to n c → is_taken (leads_to n c) c ≡ true → IsFittingAnswer n (bytes_of c ++ x) v m x None
+  taken_answers v m value number taken =
+      let t : IsTaken (leads_to n c) c = (taken_told c (leads_to n c) fits).0 taken in
+      answered (λ h y. t.1 h y.number) v m value number
+      (ap (λ (b : Bool). if b then None else chain_faults Slice c (leads_to n c) x) taken)
+
+  -- and where the number names no header
+  pub other_answers : (v : Ipv6Extensions) (m : ℕ) → v ≡ value_of c → m ≡ leads_to n c → is_taken (leads_to n c) c ≡ false → (IsExtensionNumber (leads_to n c) → ⊥) → IsFittingAnswer n (bytes_of c ++ x) v m x None
+  other_answers v m value number free other =
+      answered (λ h y q. end_at_other (is_empty c) (leads_to n c) x other h y) v m value number
+      (ap (λ (b : Bool). if b then None else chain_faults Slice c (leads_to n c) x) free ∙ no_fault_at_other Slice (length x) (is_empty c) (leads_to n c) x (length (bytes_of c)) other)
+
+none_of : {A : Type 0} (o : Option A) → is_some o ≡ false → o ≡ None
+none_of None e = refl
+none_of (Some x) e = absurd (let differ : true ≡ false = e in cc)
+
+and_false : (b : Bool) → (b && false) ≡ false
+and_false true = refl
+and_false false = refl
+
+mapped_if : {A B : Type 0} (f : A → B) (b : Bool) (x : A) (o : Option A) → option_map f (if b then Some x else o) ≡ (if b then Some (f x) else option_map f o)
+mapped_if f true x o = refl
+mapped_if f false x o = refl
+
+-- Destination options behind a routing header.
+no_final : (o : Option Ipv6RoutingExtensions) → is_some (option_map (λ r. raw_header r.routing) o) ≡ false → option_map raw_header (final_of o) ≡ None
+no_final None e = refl
+no_final (Some r) e = absurd (let differ : true ≡ false = e in cc)
+
+module _ (b : List ℕ) where
+  same_routing : (o : Option Ipv6RoutingExtensions) → option_map (λ r. raw_header r.routing) (option_map {T = Ipv6RoutingExtensions} {U = Ipv6RoutingExtensions} (λ r. record r { final_destination_options = Some (raw_fields b) }) o) ≡ option_map (λ r. raw_header r.routing) o
+  same_routing None = refl
+  same_routing (Some r) = refl
+
+  own_final : (o : Option Ipv6RoutingExtensions) → is_some o ≡ true → option_map raw_header (final_of (option_map {T = Ipv6RoutingExtensions} {U = Ipv6RoutingExtensions} (λ r. record r { final_destination_options = Some (raw_fields b) }) o)) ≡ Some (raw_header (raw_fields b))
+  own_final None e = absurd (let differ : false ≡ true = e in cc)
+  own_final (Some r) e = refl
+
+-- One header more.
+put_held : (p q : Place) (b : List ℕ) (v : Ipv6Extensions) → is_some (held v p) ≡ false → (p ≡ final_destination → is_some v.routing ≡ true)
+    → held (with_header p b v) q ≡ (if index p == index q then Some (fields_of (record { number = number_in p; bytes = b })) else held v q)
+put_held hop_by_hop hop_by_hop b v free nested = refl
+put_held hop_by_hop destination b v free nested = refl
+put_held hop_by_hop routing b v free nested = refl
+put_held hop_by_hop fragment b v free nested = refl
+put_held hop_by_hop authentication b v free nested = refl
+put_held hop_by_hop final_destination b v free nested = refl
+put_held destination hop_by_hop b v free nested = refl
+put_held destination destination b v free nested = refl
+put_held destination routing b v free nested = refl
+put_held destination fragment b v free nested = refl
+put_held destination authentication b v free nested = refl
+put_held destination final_destination b v free nested = refl
+put_held routing hop_by_hop b v free nested = refl
+put_held routing destination b v free nested = refl
+put_held routing routing b v free nested = refl
+put_held routing fragment b v free nested = refl
+put_held routing authentication b v free nested = refl
+put_held routing final_destination b v free nested = sym (no_final v.routing free)
+put_held fragment hop_by_hop b v free nested = refl
+put_held fragment destination b v free nested = refl
+put_held fragment routing b v free nested = refl
+put_held fragment fragment b v free nested = refl
+put_held fragment authentication b v free nested = refl
+put_held fragment final_destination b v free nested = refl
+put_held authentication hop_by_hop b v free nested = refl
+put_held authentication destination b v free nested = refl
+put_held authentication routing b v free nested = refl
+put_held authentication fragment b v free nested = refl
+put_held authentication authentication b v free nested = refl
+put_held authentication final_destination b v free nested = refl
+put_held final_destination hop_by_hop b v free nested = refl
+put_held final_destination destination b v free nested = refl
+put_held final_destination routing b v free nested = same_routing b v.routing
+put_held final_destination fragment b v free nested = refl
+put_held final_destination authentication b v free nested = refl
+put_held final_destination final_destination b v free nested = own_final b v.routing (nested refl)
+
+place_or : (o : Option Place) → (o ≡ None) ⊎ ((p : Place) × (o ≡ Some p))
+place_or None = inl refl
+place_or (Some p) = inr (p, refl)
+
+-- c with one header more isn't empty
+pub never_empty : (c : List ExtHeader) (h : ExtHeader) → c ++ h ∷ [] ≡ [] → ⊥
+never_empty [] h e = cc
+never_empty (g ∷ c) h e = cc
+
+more_first : (c : List ExtHeader) (h : ExtHeader) → false ≡ is_empty (c ++ h ∷ [])
+more_first [] h = refl
+more_first (g ∷ c) h = refl
+
+module _ (n : ℕ) (c : List ExtHeader) (m : ℕ) (v : Ipv6Extensions) (first : Bool) (k : IsReading n c m v first) where
+  -- a number that has no place, and isn't 0, ends the chain
+  pub no_place_answers : m ≢ 0 → HasNoPlace first m v → (x : List ℕ) → IsFittingAnswer n (bytes_of c ++ x) v m x None
+  no_place_answers other none x = elim (place_or (place_of m (is_some v.routing))) [
+    | inl e ↦
+        let own : place_of m (has_routing c) ≡ None = ap (place_of m) (sym (routing_there c v k.value)) ∙ e in
+        let free : is_taken (leads_to n c) c ≡ false =
+        ap (λ (j : ℕ). is_taken j c) (sym k.number) ∙ ap (λ (o : Option Place). not (m == 0) && option_map_or (λ (q : Place). is_some (header_in q c)) o false) own ∙ and_false (not (m == 0)) in
+        let X : ℕ → Type 0 = IsExtensionNumber in
+        other_answers n c k.chain k.fits x v m k.value k.number free
+        (λ z. let there = own_place m (is_some v.routing) (subst X (sym k.number) z) in none-some there.0 (sym e ∙ there.1))
+    | inr (p, e) ↦
+        let own : place_of m (has_routing c) ≡ Some p = ap (place_of m) (sym (routing_there c v k.value)) ∙ e in
+        elim (cases_Bool (is_some (held v p))) [
+          | inl there ↦
+              let taken : is_taken (leads_to n c) c ≡ true =
+              ap (λ (j : ℕ). is_taken j c) (sym k.number) ∙ ap (λ (o : Option Place). not (m == 0) && option_map_or (λ (q : Place). is_some (header_in q c)) o false) own
+              ∙ ap (λ (b : Bool). not b && is_some (header_in p c)) (ne_eqb m 0 other) ∙ sym (filled c v k.value p) ∙ there in
+              taken_answers n c k.chain k.fits x v m k.value k.number taken
+          | inr free ↦ absurd (none p (record { own = e; free = free; zero_first = λ z. absurd (other z) }))
+        ]
+  ]
+
+  module _ (p : Place) (next : IsNextPlace first m p v) where
+    own : place_of m (has_routing c) ≡ Some p
+    own = ap (place_of m) (sym (routing_there c v k.value)) ∙ next.own
+
+    free_in : is_some (header_in p c) ≡ false
+    free_in = sym (filled c v k.value p) ∙ next.free
+
+    pub is_number_in : m ≡ number_in p
+    is_number_in = place_number m p (has_routing c) own
+
+    -- its place isn't filled
+    pub not_taken : is_taken (leads_to n c) c ≡ false
+    not_taken =
+        ap (λ (j : ℕ). is_taken j c) (sym k.number) ∙ ap (λ (o : Option Place). not (m == 0) && option_map_or (λ (q : Place). is_some (header_in q c)) o false) own
+        ∙ ap (λ (b : Bool). not (m == 0) && b) free_in ∙ and_false (not (m == 0))
+
+    pub nested : p ≡ final_destination → is_some v.routing ≡ true
+    nested e =
+        let is : m ≡ 60 = is_number_in ∙ ap number_in e in
+        final_behind (is_some v.routing) (ap (λ (j : ℕ). place_of j (is_some v.routing)) (sym is) ∙ next.own ∙ ap (λ (q : Place). Some q) e)
+
+    pub reading_next : (Taken : List ℕ → Type 0) (j : ℕ) (w : Ipv6Extensions) (r : IsReadInto Taken p j v w) → IsReading n (c ++ record { number = m; bytes = r.bytes } ∷ []) j w false
+    reading_next Taken j w r =
+        let h : ExtHeader = record { number = m; bytes = r.bytes } in
+        let s : List ℕ = bytes_of c ++ r.bytes in
+        let H : ℕ → Type 0 = λ i. IsHeader i r.bytes in
+        let header : IsHeader (leads_to n c) r.bytes = subst H (sym is_number_in ∙ k.number) r.header in
+        let there : IsNext (is_empty c) (leads_to n c) (drop (length (bytes_of c)) s) h = record {
+          number = k.number;
+          header = header;
+          prefix = ap (take (length r.bytes)) (drop-append_seam (bytes_of c) r.bytes) ∙ take-length r.bytes;
+          zero_only_first = λ z. sym k.none_yet ∙ next.zero_first (k.number ∙ z);
+        } in
+        record {
+          chain = (goes_on n s c h (record { chain = k.chain; prefix = prefix_of-append (bytes_of c) r.bytes s refl }) there).chain;
+          fits = fits_more c h p k.fits own free_in;
+          number = r.next ∙ sym (leads_to-more n c h);
+          value = held_one w (value_of (c ++ h ∷ [])) (λ q.
+              ap (λ (u : Ipv6Extensions). held u q) r.value
+              ∙ put_held p q r.bytes v next.free nested
+              ∙ ap (λ (i : ℕ). if index p == index q then Some (fields_of (record { number = i; bytes = r.bytes })) else held v q) (sym is_number_in)
+              ∙ ap (λ (o : Option HeaderFields). if index p == index q then Some (fields_of h) else o) (ap (λ (u : Ipv6Extensions). held u q) k.value ∙ held-value_of c q)
+              ∙ sym (mapped_if fields_of (index p == index q) h (header_in q c))
+              ∙ ap (option_map fields_of) (sym (placed c h p own (none_of (header_in p c) free_in) q))
+              ∙ sym (held-value_of (c ++ h ∷ []) q));
+          none_yet = more_first c h;
+        }
+
+-- how many places are empty
+abbrev pub count_empty : {A : Type 0} → Option A → ℕ
+count_empty None = 1
+count_empty (Some x) = 0
+
+abbrev pub free_places : Ipv6Extensions → ℕ
+free_places v =
+    count_empty (held v hop_by_hop) + (count_empty (held v destination) + (count_empty (held v routing) + (count_empty (held v fragment) + (count_empty (held v authentication) + count_empty (held v final_destination)))))
+
+one_empty : (o : Option HeaderFields) → is_some o ≡ false → count_empty o ≡ 1
+one_empty o e = ap count_empty (none_of o e)
+
+fewer_at : (p : Place) (b : List ℕ) (v : Ipv6Extensions) → is_some (held v p) ≡ false → (p ≡ final_destination → is_some v.routing ≡ true) → free_places (with_header p b v) < free_places v
+fewer_at hop_by_hop b v free nested = omega (arith, one_empty (held v hop_by_hop) free)
+fewer_at destination b v free nested = omega (arith, one_empty (held v destination) free)
+fewer_at routing b v free nested = omega (arith, one_empty (held v routing) free, ap count_empty (no_final v.routing free))
+fewer_at fragment b v free nested = omega (arith, one_empty (held v fragment) free)
+fewer_at authentication b v free nested = omega (arith, one_empty (held v authentication) free)
+fewer_at final_destination b v free nested =
+    omega (
+      arith,
+      one_empty (held v final_destination) free,
+      ap count_empty (put_held final_destination final_destination b v free nested),
+      ap count_empty (put_held final_destination routing b v free nested),
+    )
+
+-- each header that is read fills one
+pub fewer : (Taken : List ℕ → Type 0) (first : Bool) (m : ℕ) (p : Place) (j : ℕ) (v w : Ipv6Extensions) → IsNextPlace first m p v → (p ≡ final_destination → is_some v.routing ≡ true) → IsReadInto Taken p j v w → free_places w < free_places v
+fewer Taken first m p j v w next nested r = rw r.value (fewer_at p r.bytes v next.free nested)
+
+empty_is : (c : List ExtHeader) → is_empty c ≡ true → c ≡ []
+empty_is [] e = refl
+empty_is (h ∷ c) e = absurd (let differ : false ≡ true = e in cc)
+
+none_from : (n : ℕ) (c : List ExtHeader) → IsChain n c → (IsExtensionNumber n → ⊥) → c ≡ []
+none_from n [] k other = refl
+none_from n (h ∷ c) k other = let X : ℕ → Type 0 = IsExtensionNumber in absurd (other (subst X k.links.0 (header_number h.number h.bytes k.headers.0)))
+
+module _ (n : ℕ) (c : List ExtHeader) (m : ℕ) (v : Ipv6Extensions) (first : Bool) (k : IsReading n c m v first) where
+  -- at number 0 a place is missing only behind a header
+  pub later : m ≡ 0 → HasNoPlace first m v → is_empty c ≡ false
+  later zero_number none = elim (cases_Bool (is_empty c)) [
+    | inr some ↦ some
+    | inl start ↦ absurd (none hop_by_hop (record {
+      own = ap (λ (j : ℕ). place_of j (is_some v.routing)) zero_number;
+      free = filled c v k.value hop_by_hop ∙ ap (λ (d : List ExtHeader). is_some (header_in hop_by_hop d)) (empty_is c start);
+      zero_first = λ z. k.none_yet ∙ start;
+    }))
+  ]
+
+  pub zero_not_taken : m ≡ 0 → is_taken (leads_to n c) c ≡ false
+  zero_not_taken zero_number = ap (λ (j : ℕ). is_taken j c) (sym k.number ∙ zero_number)
+
+  -- the first header's number is the one from which the chain begins
+  pub nothing_read : (IsExtensionNumber n → ⊥) → c ≡ []
+  nothing_read other = none_from n c k.chain other
+
+  -- so where a header is named, the first number names one
+  pub named : (p : Place) → IsNextPlace first m p v → (IsExtensionNumber n → ⊥) → ⊥
+  named p next other =
+      let X : ℕ → Type 0 = IsExtensionNumber in
+      let starts : m ≡ n = k.number ∙ ap (leads_to n) (nothing_read other) in
+      other (subst X (sym (is_number_in n c m v first k p next) ∙ starts) (is_extension p))

@@ -1,0 +1,131 @@
+-- Reading a chain, one header behind the other, each by its requests.
+use Rattle.std.specs.Prelude.{ℕ, ◌≡◌, ◌+◌, ◌==◌, Bool, true, false, IsTrue, List, [], ◌∷◌, ◌++◌, length, Option, Some, None, is_some, if◌then◌else◌}
+use Rattle.std.specs.Option.{option_map}
+use Rattle.std.specs.Io.KnownBytes.{Consumes}
+use Rattle.ip_base.specs.declared.err.layer.Layer.{Layer}
+use Rattle.ip_base.specs.declared.err.layer.Layer.TheVariants.{Ipv6ExtHeader, Ipv6FragHeader, IpAuthHeader}
+use Rattle.ip_spec.specs.Numbers.{HOP_BY_HOP, FRAGMENT, AUTHENTICATION}
+use Rattle.ip_spec.specs.Header.{IsHeader}
+use Rattle.ip_spec.specs.Fields.{next_header}
+use Rattle.ip_spec.specs.FieldsOf.{raw_fields, fragment_fields, auth_fields}
+use Rattle.ip_spec.specs.Requests.{Asks}
+use Rattle.ip_spec.specs.Chain.{ExtHeader, IsChain, leads_to, bytes_of, is_empty}
+use Rattle.ip_spec.specs.Fits.{FitsPlaces}
+use Rattle.ip_spec.specs.Places.{Place, hop_by_hop, destination, routing, fragment, authentication, final_destination, number_in, place_of, is_taken}
+use Rattle.ip_io.specs.Limits.{Limits, left, started, advanced}
+use Rattle.ip_io.specs.LimitedReader.{inner_of, limits_of, window}
+use Rattle.ip_io.specs.Reading.{IsRefused, IsTakenInLayer, IsPastLimit, IsRefusedWithin}
+use Rattle.ip_io.specs.declared.io.limited_reader.LimitedReader.{LimitedReader}
+use Rattle.ip_ext_headers.specs.AuthReading.{IsZeroTaken}
+use Rattle.ip_ext_slices.specs.declared.err.ipv6_exts.header_error.HeaderError.TheVariants.{HopByHopNotAtStart, IpAuth}
+use Rattle.ip_ext_chains.specs.Fitting.{IsFittingAnswer}
+use Rattle.ip_ext_chains.specs.Ipv6Extensions.{held}
+use Rattle.ip_ext_chains.specs.declared.ipv6_exts.Ipv6Extensions.{Ipv6Extensions}
+use Rattle.ip_ext_chains.specs.declared.ipv6_routing_exts.Ipv6RoutingExtensions.{Ipv6RoutingExtensions}
+use Rattle.ip_ext_chains.specs.declared.err.ipv6_exts.header_read_error.HeaderReadError.{HeaderReadError}
+use Rattle.ip_ext_chains.specs.declared.err.ipv6_exts.header_read_error.HeaderReadError.TheVariants as read
+use Rattle.ip_ext_chains.specs.declared.err.ipv6_exts.header_limited_read_error.HeaderLimitedReadError.{HeaderLimitedReadError}
+use Rattle.ip_ext_chains.specs.declared.err.ipv6_exts.header_limited_read_error.HeaderLimitedReadError.TheVariants as limited
+
+-- the layer that a header of number m begins
+abbrev pub layer_of : ℕ → Layer
+layer_of m = if m == FRAGMENT then Ipv6FragHeader else if m == AUTHENTICATION then IpAuthHeader else Ipv6ExtHeader
+
+-- the limit behind headers c, each of which began a layer of its own
+abbrev pub limits_behind : List ExtHeader → Limits → Limits
+limits_behind [] l = l
+limits_behind (h ∷ c) l = limits_behind c (advanced (length h.bytes) (started (layer_of h.number) l))
+
+-- Headers were taken, and whatever is behind them, the parse of them from number n answers the value v, the number
+-- m, no fault, and leaves what is behind. `Taken` tells which headers a reader gave.
+pub record IsChainTaken {R : Type 0} (Taken : R → R → List ExtHeader → Type 0) (old new : R) (n : ℕ) (v : Ipv6Extensions) (m : ℕ) : Type 0 where
+  pub headers : List ExtHeader
+  pub chain : IsChain n headers
+  pub taken : Taken old new headers
+  pub answer : (rest : List ℕ) → IsFittingAnswer n (bytes_of headers ++ rest) v m rest None
+
+-- Behind headers that were taken no header could be read of the number to which they lead, although its place is
+-- free. `Refused` tells why, from whether it would be the first, its number, and the reader before and after.
+pub record IsChainRefused {R : Type 0} (Taken : R → R → List ExtHeader → Type 0) (Refused : Bool → ℕ → R → R → Type 0) (old new : R) (n : ℕ) : Type 0 where
+  pub headers : List ExtHeader
+  pub chain : IsChain n headers
+  pub fits : FitsPlaces headers
+  pub free : is_taken (leads_to n headers) headers ≡ false
+  pub between : R
+  pub taken : Taken old between headers
+  pub refused : Refused (is_empty headers) (leads_to n headers) between new
+
+module _ {T : Type 0} (bytes_left : T → Option (List ℕ)) (is_steady has_failed : T → Bool) where
+  -- these headers were taken; where there are none, nothing has changed
+  pub record AreTaken (old new : T) (c : List ExtHeader) : Type 0 where
+    pub bytes : Consumes (bytes_left old) (bytes_left new) (bytes_of c)
+    pub steady : is_steady new ≡ is_steady old
+    pub kept : has_failed new ≡ has_failed old
+    pub none : c ≡ [] → new ≡ old
+
+  -- the same within the limit, each in a layer of its own
+  pub record AreTakenInLayers (old new : LimitedReader T) (c : List ExtHeader) : Type 0 where
+    pub left_over : left (limits_of new) + length (bytes_of c) ≡ left (limits_of old)
+    pub limits : limits_of new ≡ limits_behind c (limits_of old)
+    pub bytes : Consumes (bytes_left (inner_of old)) (bytes_left (inner_of new)) (bytes_of c)
+    pub window : Consumes (window bytes_left old) (window bytes_left new) (bytes_of c)
+    pub steady : is_steady (inner_of new) ≡ is_steady (inner_of old)
+    pub kept : has_failed (inner_of new) ≡ has_failed (inner_of old)
+    pub none : c ≡ [] → new ≡ old
+
+  -- Why a header of number m isn't read. Hop by hop options (0) are read only first; later they are an error, and
+  -- nothing is read.
+  abbrev pub IsHeaderRefused : HeaderReadError → Bool → ℕ → T → T → Type 0
+  IsHeaderRefused (read.Io e) first m old new =
+      (m ≡ HOP_BY_HOP → IsTrue first) × IsRefused (Asks m) (is_steady old) (bytes_left old) (has_failed new)
+  IsHeaderRefused (read.Content HopByHopNotAtStart) first m old new = (m ≡ HOP_BY_HOP) × (first ≡ false) × (new ≡ old)
+  IsHeaderRefused (read.Content (IpAuth e)) first m old new =
+      (m ≡ AUTHENTICATION) × IsZeroTaken (Consumes (bytes_left old) (bytes_left new)) (has_failed old) (has_failed new)
+
+  abbrev pub IsHeaderRefusedInLayer : HeaderLimitedReadError → Bool → ℕ → LimitedReader T → LimitedReader T → Type 0
+  IsHeaderRefusedInLayer (limited.Io e) first m old new =
+      (m ≡ HOP_BY_HOP → IsTrue first) × IsRefusedWithin bytes_left is_steady has_failed (Asks m) (layer_of m) old new
+  IsHeaderRefusedInLayer (limited.Len e) first m old new =
+      (m ≡ HOP_BY_HOP → IsTrue first) × IsPastLimit bytes_left is_steady has_failed (Asks m) (layer_of m) old new e
+  IsHeaderRefusedInLayer (limited.Content HopByHopNotAtStart) first m old new = (m ≡ HOP_BY_HOP) × (first ≡ false) × (new ≡ old)
+  IsHeaderRefusedInLayer (limited.Content (IpAuth e)) first m old new =
+      (m ≡ AUTHENTICATION) × IsZeroTaken (IsTakenInLayer bytes_left (layer_of m) old new) (has_failed (inner_of old)) (has_failed (inner_of new))
+
+-- v with the header of these bytes in a place
+abbrev pub with_header : Place → List ℕ → Ipv6Extensions → Ipv6Extensions
+with_header hop_by_hop b v = record v { hop_by_hop_options = Some (raw_fields b) }
+with_header destination b v = record v { destination_options = Some (raw_fields b) }
+with_header routing b v = record v { routing = Some (record { routing = raw_fields b; final_destination_options = None }) }
+with_header fragment b v = record v { fragment = Some (fragment_fields b) }
+with_header authentication b v = record v { auth = Some (auth_fields b) }
+with_header final_destination b v = record v { routing = option_map {T = Ipv6RoutingExtensions} {U = Ipv6RoutingExtensions} (λ r. record r { final_destination_options = Some (raw_fields b) }) v.routing }
+
+-- p is the place of a header of number m, and nothing is in it
+pub record IsNextPlace (first : Bool) (m : ℕ) (p : Place) (v : Ipv6Extensions) : Type 0 where
+  pub own : place_of m (is_some v.routing) ≡ Some p
+  pub free : is_some (held v p) ≡ false
+  pub zero_first : m ≡ HOP_BY_HOP → IsTrue first
+
+-- there is none
+abbrev pub HasNoPlace : Bool → ℕ → Ipv6Extensions → Type 0
+HasNoPlace first m v = (p : Place) → IsNextPlace first m p v → ⊥
+
+-- A header was read into the place p, which leads to number m.
+pub record IsReadInto (Taken : List ℕ → Type 0) (p : Place) (m : ℕ) (old new : Ipv6Extensions) : Type 0 where
+  pub bytes : List ℕ
+  pub header : IsHeader (number_in p) bytes
+  pub taken : Taken bytes
+  pub next : m ≡ next_header bytes
+  pub value : new ≡ with_header p bytes old
+
+-- a routing header without destination options behind it
+abbrev pub routing_fields : List ℕ → Ipv6RoutingExtensions
+routing_fields b = record { routing = raw_fields b; final_destination_options = None }
+
+-- A header was read into a place of its own, and leads to number m.
+pub record IsHeaderRead {V : Type 0} (IsOne : List ℕ → Type 0) (fields_of : List ℕ → V) (Taken : List ℕ → Type 0) (m : ℕ) (place : Option V) : Type 0 where
+  pub bytes : List ℕ
+  pub header : IsOne bytes
+  pub taken : Taken bytes
+  pub next : m ≡ next_header bytes
+  pub value : place ≡ Some (fields_of bytes)

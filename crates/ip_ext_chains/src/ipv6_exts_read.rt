@@ -1,0 +1,216 @@
+ghost use Rattle.std.specs.Prelude.{◌≡◌, ℕ, IsOk, OnOk, IfOk, IfErr, IfSome, IfNone, true, is_some};
+ghost use Rattle.std.specs.Io.KnownBytes.{Consumes};
+ghost use Rattle.ip_spec.specs.Numbers.{ROUTING, FRAGMENT, AUTHENTICATION};
+ghost use Rattle.ip_spec.specs.Header.{IsRawHeader, IsFragmentHeader, IsAuthHeader, IsRawNumber, IsExtensionNumber};
+ghost use Rattle.ip_spec.specs.FieldsOf.{raw_fields, fragment_fields, auth_fields};
+ghost use Rattle.ip_spec.specs.Places.{number_in, final_destination};
+ghost use Rattle.ip_ext_chains.specs.Place.{shown};
+ghost use Rattle.ip_ext_chains.specs.Ipv6Extensions.{held};
+ghost use Rattle.ip_ext_chains.specs.ReadError.{IsSliceError};
+ghost use Rattle.ip_ext_chains.specs.Reading.{AreTaken, IsChainTaken, IsChainRefused, IsHeaderRefused, IsNextPlace, HasNoPlace, IsReadInto, IsHeaderRead, routing_fields};
+
+use crate::err::ip_auth;
+use crate::err::ipv6_exts::{HeaderError, HeaderReadError};
+use crate::places::Place;
+use crate::{Ipv6Extensions, Ipv6RoutingExtensions};
+use ip_base::{IpNumber, ip_number};
+use ip_ext_headers::io::ExactRead;
+use ip_ext_headers::{IpAuthHeader, Ipv6FragmentHeader, Ipv6RawExtHeader};
+
+impl Ipv6Extensions {
+    /// Reads the headers that the number and those read before name, each into its place, with the number of what
+    /// follows them. No byte behind them is taken: what isn't a header, or has its place filled, ends the read
+    /// before it. Where the number names none, nothing is read.
+    ///
+    /// `Content` tells what of a header's first bytes can't be, or that hop by hop options are named which don't
+    /// stand first (RFC 8200, section 4.1). `Io` is the reader's error; after it nothing is known of what was
+    /// taken.
+    pub fn read<T: ExactRead>(
+        reader: &mut T,
+        start_ip_number: IpNumber,
+    ) -> Result<(Ipv6Extensions, IpNumber), HeaderReadError>
+        ensures answer { IfOk result (λ x.
+            IsChainTaken (AreTaken T.bytes_left T.is_steady T.has_failed)
+            reader.old reader.new start_ip_number.0 x.0 x.1.0) }
+        ensures refused { IfErr result (λ e.
+            IsChainRefused (AreTaken T.bytes_left T.is_steady T.has_failed)
+            (IsHeaderRefused T.bytes_left T.is_steady T.has_failed e)
+            reader.old reader.new start_ip_number.0) }
+        ensures fault { IfErr result (IsSliceError start_ip_number.0 (T.is_steady reader.old)
+            (T.bytes_left reader.old)) }
+        ensures steady { T.is_steady reader.new ≡ T.is_steady reader.old }
+        ensures stays { (IsExtensionNumber start_ip_number.0 → ⊥)
+            → IsOk result × (reader.new ≡ reader.old) }
+    {
+        let mut exts = Self::default();
+        let mut number = start_ip_number;
+        let mut is_first = true;
+        'headers: while let Some(place) = exts.next_place(number, is_first) {
+            match exts.read_into(place, reader) {
+                Ok(next_header) => number = next_header,
+                Err(e) => return Err(e),
+            }
+            is_first = false;
+        }
+        if number == ip_number::IPV6_HOP_BY_HOP {
+            return Err(HeaderReadError::Content(HeaderError::HopByHopNotAtStart));
+        }
+        Ok((exts, number))
+    }
+
+    /// The place of a header of the number, where nothing is in it. Hop by hop options have one only first.
+    pub(crate) fn next_place(&self, number: IpNumber, is_first: bool) -> Option<Place>
+        ensures next { IfSome result (λ p. IsNextPlace is_first number.0 (shown p) self.now) }
+        ensures none { IfNone result (HasNoPlace is_first number.0 self.now) }
+    {
+        if number == ip_number::IPV6_HOP_BY_HOP && !is_first {
+            return None;
+        }
+        let place = Place::of(number, self.routing.is_some())?;
+        if self.has(place) {
+            return None;
+        }
+        Some(place)
+    }
+
+    /// Whether a header is in the place.
+    fn has(&self, place: Place) -> bool
+        ensures { result ≡ is_some (held self.now (shown place)) }
+    {
+        match place {
+            Place::HopByHop => self.hop_by_hop_options.is_some(),
+            Place::Destination => self.destination_options.is_some(),
+            Place::Routing => self.routing.is_some(),
+            Place::Fragment => self.fragment.is_some(),
+            Place::Authentication => self.auth.is_some(),
+            Place::FinalDestination => match &self.routing {
+                Some(routing) => routing.final_destination_options.is_some(),
+                None => false,
+            },
+        }
+    }
+
+    /// Reads a header into the place, in which nothing is, and answers the number of what follows it.
+    fn read_into<T: ExactRead>(
+        &mut self,
+        place: Place,
+        reader: &mut T,
+    ) -> Result<IpNumber, HeaderReadError>
+        requires { shown place ≡ final_destination → is_some self.old.routing ≡ true }
+        ensures ok { IfOk result (λ m.
+            IsReadInto (Consumes (T.bytes_left reader.old) (T.bytes_left reader.new))
+            (shown place) m.0 self.old self.new) }
+        ensures kept { OnOk result (T.has_failed reader.new ≡ T.has_failed reader.old) }
+        ensures steady { T.is_steady reader.new ≡ T.is_steady reader.old }
+        ensures refused { IfErr result (λ e. IsHeaderRefused T.bytes_left T.is_steady
+            T.has_failed e true (number_in (shown place)) reader.old reader.new) }
+    {
+        match place {
+            Place::HopByHop => read_raw(&mut self.hop_by_hop_options, reader),
+            Place::Destination => read_raw(&mut self.destination_options, reader),
+            Place::Routing => read_routing(&mut self.routing, reader),
+            Place::Fragment => read_fragment(&mut self.fragment, reader),
+            Place::Authentication => read_auth(&mut self.auth, reader),
+            Place::FinalDestination => match &mut self.routing {
+                Some(routing) => read_raw(&mut routing.final_destination_options, reader),
+                None => unreachable!(),
+            },
+        }
+    }
+}
+
+/// Reads a header of the common layout into the place, and answers the number of what follows it.
+fn read_raw<T: ExactRead>(
+    place: &mut Option<Ipv6RawExtHeader>,
+    reader: &mut T,
+) -> Result<IpNumber, HeaderReadError>
+    ensures ok { IfOk result (λ m.
+        IsHeaderRead IsRawHeader raw_fields (Consumes (T.bytes_left reader.old) (T.bytes_left reader.new))
+        m.0 place.new) }
+    ensures kept { OnOk result (T.has_failed reader.new ≡ T.has_failed reader.old) }
+    ensures steady { T.is_steady reader.new ≡ T.is_steady reader.old }
+    ensures refused { IfErr result (λ e. (m : ℕ) → IsRawNumber m
+        → IsHeaderRefused T.bytes_left T.is_steady T.has_failed e true m reader.old reader.new) }
+{
+    match Ipv6RawExtHeader::read(reader) {
+        Ok(header) => {
+            let next_header = header.next_header;
+            *place = Some(header);
+            Ok(next_header)
+        }
+        Err(e) => Err(HeaderReadError::Io(e)),
+    }
+}
+
+/// Reads a routing header into its place, without destination options behind it, and answers the number of what
+/// follows it.
+fn read_routing<T: ExactRead>(
+    place: &mut Option<Ipv6RoutingExtensions>,
+    reader: &mut T,
+) -> Result<IpNumber, HeaderReadError>
+    ensures ok { IfOk result (λ m. IsHeaderRead IsRawHeader routing_fields
+        (Consumes (T.bytes_left reader.old) (T.bytes_left reader.new)) m.0 place.new) }
+    ensures kept { OnOk result (T.has_failed reader.new ≡ T.has_failed reader.old) }
+    ensures steady { T.is_steady reader.new ≡ T.is_steady reader.old }
+    ensures refused { IfErr result (λ e. IsHeaderRefused T.bytes_left T.is_steady
+        T.has_failed e true ROUTING reader.old reader.new) }
+{
+    match Ipv6RawExtHeader::read(reader) {
+        Ok(header) => {
+            let next_header = header.next_header;
+            *place = Some(Ipv6RoutingExtensions {
+                routing: header,
+                final_destination_options: None,
+            });
+            Ok(next_header)
+        }
+        Err(e) => Err(HeaderReadError::Io(e)),
+    }
+}
+
+/// Reads a fragment header into its place, and answers the number of what follows it.
+fn read_fragment<T: ExactRead>(
+    place: &mut Option<Ipv6FragmentHeader>,
+    reader: &mut T,
+) -> Result<IpNumber, HeaderReadError>
+    ensures ok { IfOk result (λ m. IsHeaderRead IsFragmentHeader fragment_fields
+        (Consumes (T.bytes_left reader.old) (T.bytes_left reader.new)) m.0 place.new) }
+    ensures kept { OnOk result (T.has_failed reader.new ≡ T.has_failed reader.old) }
+    ensures steady { T.is_steady reader.new ≡ T.is_steady reader.old }
+    ensures refused { IfErr result (λ e. IsHeaderRefused T.bytes_left T.is_steady
+        T.has_failed e true FRAGMENT reader.old reader.new) }
+{
+    match Ipv6FragmentHeader::read(reader) {
+        Ok(header) => {
+            let next_header = header.next_header;
+            *place = Some(header);
+            Ok(next_header)
+        }
+        Err(e) => Err(HeaderReadError::Io(e)),
+    }
+}
+
+/// Reads an authentication header into its place, and answers the number of what follows it.
+fn read_auth<T: ExactRead>(
+    place: &mut Option<IpAuthHeader>,
+    reader: &mut T,
+) -> Result<IpNumber, HeaderReadError>
+    ensures ok { IfOk result (λ m. IsHeaderRead IsAuthHeader auth_fields
+        (Consumes (T.bytes_left reader.old) (T.bytes_left reader.new)) m.0 place.new) }
+    ensures kept { OnOk result (T.has_failed reader.new ≡ T.has_failed reader.old) }
+    ensures steady { T.is_steady reader.new ≡ T.is_steady reader.old }
+    ensures refused { IfErr result (λ e. IsHeaderRefused T.bytes_left T.is_steady
+        T.has_failed e true AUTHENTICATION reader.old reader.new) }
+{
+    match IpAuthHeader::read(reader) {
+        Ok(header) => {
+            let next_header = header.next_header;
+            *place = Some(header);
+            Ok(next_header)
+        }
+        Err(ip_auth::HeaderReadError::Io(e)) => Err(HeaderReadError::Io(e)),
+        Err(ip_auth::HeaderReadError::Content(e)) => {
+            Err(HeaderReadError::Content(HeaderError::IpAuth(e)))
+        }
+    }
+}

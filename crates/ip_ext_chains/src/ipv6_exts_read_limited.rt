@@ -1,0 +1,191 @@
+ghost use Rattle.std.specs.Prelude.{◌≡◌, ℕ, IsOk, OnOk, IfOk, IfErr, true, is_some};
+ghost use Rattle.ip_base.specs.declared.err.layer.Layer.TheVariants.{Ipv6ExtHeader, Ipv6FragHeader, IpAuthHeader as AuthLayer};
+ghost use Rattle.ip_spec.specs.Numbers.{ROUTING, FRAGMENT, AUTHENTICATION};
+ghost use Rattle.ip_spec.specs.Header.{IsRawHeader, IsFragmentHeader, IsAuthHeader, IsRawNumber, IsExtensionNumber};
+ghost use Rattle.ip_spec.specs.FieldsOf.{raw_fields, fragment_fields, auth_fields};
+ghost use Rattle.ip_spec.specs.Places.{number_in, final_destination};
+ghost use Rattle.ip_io.specs.LimitedReader.{inner_of, window};
+ghost use Rattle.ip_io.specs.Reading.{IsTakenInLayer};
+ghost use Rattle.ip_ext_chains.specs.Place.{shown};
+ghost use Rattle.ip_ext_chains.specs.ReadError.{IsSliceErrorInLayers};
+ghost use Rattle.ip_ext_chains.specs.Reading.{AreTakenInLayers, IsChainTaken, IsChainRefused, IsHeaderRefusedInLayer, IsReadInto, IsHeaderRead, routing_fields, layer_of};
+
+use crate::err::ip_auth;
+use crate::err::ipv6_exts::{HeaderError, HeaderLimitedReadError};
+use crate::places::Place;
+use crate::{Ipv6Extensions, Ipv6RoutingExtensions};
+use ip_base::{IpNumber, ip_number};
+use ip_ext_headers::io::{ExactRead, LimitedReader};
+use ip_ext_headers::{IpAuthHeader, Ipv6FragmentHeader, Ipv6RawExtHeader};
+
+impl Ipv6Extensions {
+    /// Reads the headers within a limit, as `read` does of the bytes that may still be read. Each header begins a
+    /// layer of its own: `Ipv6ExtHeader`, `Ipv6FragHeader` or `IpAuthHeader`. Where the number names none, nothing
+    /// is read and no layer begins.
+    ///
+    /// `Len` tells the first request that the limit doesn't leave, which took nothing; `Content` and `Io` are those
+    /// of `read`. In all, `read_len` is what came of the header that wasn't read.
+    pub fn read_limited<T: ExactRead>(
+        reader: &mut LimitedReader<T>,
+        start_ip_number: IpNumber,
+    ) -> Result<(Ipv6Extensions, IpNumber), HeaderLimitedReadError>
+        ensures answer { IfOk result (λ x.
+            IsChainTaken (AreTakenInLayers T.bytes_left T.is_steady T.has_failed)
+            reader.old reader.new start_ip_number.0 x.0 x.1.0) }
+        ensures refused { IfErr result (λ e.
+            IsChainRefused (AreTakenInLayers T.bytes_left T.is_steady T.has_failed)
+            (IsHeaderRefusedInLayer T.bytes_left T.is_steady T.has_failed e)
+            reader.old reader.new start_ip_number.0) }
+        ensures fault { IfErr result (IsSliceErrorInLayers start_ip_number.0
+            (T.is_steady (inner_of reader.old)) (window T.bytes_left reader.old)) }
+        ensures steady { T.is_steady (inner_of reader.new) ≡ T.is_steady (inner_of reader.old) }
+        ensures stays { (IsExtensionNumber start_ip_number.0 → ⊥)
+            → IsOk result × (reader.new ≡ reader.old) }
+    {
+        let mut exts = Self::default();
+        let mut number = start_ip_number;
+        let mut is_first = true;
+        'headers: while let Some(place) = exts.next_place(number, is_first) {
+            match exts.read_into_limited(place, reader) {
+                Ok(next_header) => number = next_header,
+                Err(e) => return Err(e),
+            }
+            is_first = false;
+        }
+        if number == ip_number::IPV6_HOP_BY_HOP {
+            return Err(HeaderLimitedReadError::Content(HeaderError::HopByHopNotAtStart));
+        }
+        Ok((exts, number))
+    }
+
+    /// Reads a header into the place, in which nothing is, and answers the number of what follows it.
+    fn read_into_limited<T: ExactRead>(
+        &mut self,
+        place: Place,
+        reader: &mut LimitedReader<T>,
+    ) -> Result<IpNumber, HeaderLimitedReadError>
+        requires { shown place ≡ final_destination → is_some self.old.routing ≡ true }
+        ensures ok { IfOk result (λ m.
+            IsReadInto (IsTakenInLayer T.bytes_left (layer_of (number_in (shown place)))
+            reader.old reader.new) (shown place) m.0 self.old self.new) }
+        ensures kept { OnOk result
+            (T.has_failed (inner_of reader.new) ≡ T.has_failed (inner_of reader.old)) }
+        ensures steady { T.is_steady (inner_of reader.new) ≡ T.is_steady (inner_of reader.old) }
+        ensures refused { IfErr result (λ e. IsHeaderRefusedInLayer T.bytes_left T.is_steady
+            T.has_failed e true (number_in (shown place)) reader.old reader.new) }
+    {
+        match place {
+            Place::HopByHop => read_raw_limited(&mut self.hop_by_hop_options, reader),
+            Place::Destination => read_raw_limited(&mut self.destination_options, reader),
+            Place::Routing => read_routing_limited(&mut self.routing, reader),
+            Place::Fragment => read_fragment_limited(&mut self.fragment, reader),
+            Place::Authentication => read_auth_limited(&mut self.auth, reader),
+            Place::FinalDestination => match &mut self.routing {
+                Some(routing) => read_raw_limited(&mut routing.final_destination_options, reader),
+                None => unreachable!(),
+            },
+        }
+    }
+}
+
+/// Reads a header of the common layout into the place, and answers the number of what follows it.
+fn read_raw_limited<T: ExactRead>(
+    place: &mut Option<Ipv6RawExtHeader>,
+    reader: &mut LimitedReader<T>,
+) -> Result<IpNumber, HeaderLimitedReadError>
+    ensures ok { IfOk result (λ m. IsHeaderRead IsRawHeader raw_fields
+        (IsTakenInLayer T.bytes_left Ipv6ExtHeader reader.old reader.new) m.0 place.new) }
+    ensures kept { OnOk result
+        (T.has_failed (inner_of reader.new) ≡ T.has_failed (inner_of reader.old)) }
+    ensures steady { T.is_steady (inner_of reader.new) ≡ T.is_steady (inner_of reader.old) }
+    ensures refused { IfErr result (λ e. (m : ℕ) → IsRawNumber m
+        → IsHeaderRefusedInLayer T.bytes_left T.is_steady T.has_failed
+        e true m
+        reader.old reader.new) }
+{
+    match Ipv6RawExtHeader::read_limited(reader) {
+        Ok(header) => {
+            let next_header = header.next_header;
+            *place = Some(header);
+            Ok(next_header)
+        }
+        Err(e) => Err(HeaderLimitedReadError::of_limited(e)),
+    }
+}
+
+/// Reads a routing header into its place, without destination options behind it, and answers the number of what
+/// follows it.
+fn read_routing_limited<T: ExactRead>(
+    place: &mut Option<Ipv6RoutingExtensions>,
+    reader: &mut LimitedReader<T>,
+) -> Result<IpNumber, HeaderLimitedReadError>
+    ensures ok { IfOk result (λ m. IsHeaderRead IsRawHeader routing_fields
+        (IsTakenInLayer T.bytes_left Ipv6ExtHeader reader.old reader.new) m.0 place.new) }
+    ensures kept { OnOk result
+        (T.has_failed (inner_of reader.new) ≡ T.has_failed (inner_of reader.old)) }
+    ensures steady { T.is_steady (inner_of reader.new) ≡ T.is_steady (inner_of reader.old) }
+    ensures refused { IfErr result (λ e. IsHeaderRefusedInLayer T.bytes_left T.is_steady
+        T.has_failed e true ROUTING reader.old reader.new) }
+{
+    match Ipv6RawExtHeader::read_limited(reader) {
+        Ok(header) => {
+            let next_header = header.next_header;
+            *place = Some(Ipv6RoutingExtensions {
+                routing: header,
+                final_destination_options: None,
+            });
+            Ok(next_header)
+        }
+        Err(e) => Err(HeaderLimitedReadError::of_limited(e)),
+    }
+}
+
+/// Reads a fragment header into its place, and answers the number of what follows it.
+fn read_fragment_limited<T: ExactRead>(
+    place: &mut Option<Ipv6FragmentHeader>,
+    reader: &mut LimitedReader<T>,
+) -> Result<IpNumber, HeaderLimitedReadError>
+    ensures ok { IfOk result (λ m. IsHeaderRead IsFragmentHeader fragment_fields
+        (IsTakenInLayer T.bytes_left Ipv6FragHeader reader.old reader.new) m.0 place.new) }
+    ensures kept { OnOk result
+        (T.has_failed (inner_of reader.new) ≡ T.has_failed (inner_of reader.old)) }
+    ensures steady { T.is_steady (inner_of reader.new) ≡ T.is_steady (inner_of reader.old) }
+    ensures refused { IfErr result (λ e. IsHeaderRefusedInLayer T.bytes_left T.is_steady
+        T.has_failed e true FRAGMENT reader.old reader.new) }
+{
+    match Ipv6FragmentHeader::read_limited(reader) {
+        Ok(header) => {
+            let next_header = header.next_header;
+            *place = Some(header);
+            Ok(next_header)
+        }
+        Err(e) => Err(HeaderLimitedReadError::of_limited(e)),
+    }
+}
+
+/// Reads an authentication header into its place, and answers the number of what follows it.
+fn read_auth_limited<T: ExactRead>(
+    place: &mut Option<IpAuthHeader>,
+    reader: &mut LimitedReader<T>,
+) -> Result<IpNumber, HeaderLimitedReadError>
+    ensures ok { IfOk result (λ m. IsHeaderRead IsAuthHeader auth_fields
+        (IsTakenInLayer T.bytes_left AuthLayer reader.old reader.new) m.0 place.new) }
+    ensures kept { OnOk result
+        (T.has_failed (inner_of reader.new) ≡ T.has_failed (inner_of reader.old)) }
+    ensures steady { T.is_steady (inner_of reader.new) ≡ T.is_steady (inner_of reader.old) }
+    ensures refused { IfErr result (λ e. IsHeaderRefusedInLayer T.bytes_left T.is_steady
+        T.has_failed e true AUTHENTICATION reader.old reader.new) }
+{
+    match IpAuthHeader::read_limited(reader) {
+        Ok(header) => {
+            let next_header = header.next_header;
+            *place = Some(header);
+            Ok(next_header)
+        }
+        Err(ip_auth::HeaderLimitedReadError::Io(e)) => Err(HeaderLimitedReadError::Io(e)),
+        Err(ip_auth::HeaderLimitedReadError::Len(e)) => Err(HeaderLimitedReadError::Len(e)),
+        Err(ip_auth::HeaderLimitedReadError::Content(e)) => {
+            Err(HeaderLimitedReadError::Content(HeaderError::IpAuth(e)))
+        }
+    }
+}

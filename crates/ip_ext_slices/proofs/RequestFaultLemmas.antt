@@ -1,0 +1,73 @@
+-- The fault at a number: none where a header goes on, and one where a request of a header finds too few bytes.
+use Rattle.std.proofs.Common.{◌≡◌, ℕ, ◌<◌, List, ◌++◌, length, refl, sym, ap, ◌∙◌, inl, inr, subst, Bool, true, false}
+use Rattle.std.specs.Prelude.{Option, Some, None, IsTrue}
+use Rattle.std.specs.Option.{option_map}
+use Rattle.ip_base.specs.declared.err.layer.Layer.{Layer}
+use Rattle.ip_base.specs.declared.err.layer.Layer.TheVariants.{Ipv6HopByHopHeader, Ipv6DestOptionsHeader, Ipv6RouteHeader, Ipv6FragHeader, IpAuthHeader}
+use Rattle.ip_base.specs.declared.err.len_error.LenError.{LenError}
+use Rattle.ip_base.specs.declared.len_source.LenSource.{LenSource}
+use Rattle.ip_spec.specs.Header.{IsHeader, IsRawNumber, raw, fragment, auth}
+use Rattle.ip_spec.specs.Requests.{Asks, asks_raw, asks_fragment, asks_auth, IsZeroLength}
+use Rattle.ip_spec.specs.Chain.{ExtHeader, IsNext, IsEnd}
+use Rattle.ip_ext_headers.specs.Fault.{raw_fault, fragment_fault, auth_fault}
+use Rattle.ip_ext_headers.specs.declared.err.ip_auth.header_error.HeaderError.TheVariants.{ZeroPayloadLen}
+use Rattle.ip_ext_headers.proofs.FaultLemmas.{raw_at_header, fragment_at_header, auth_at_header, raw_asks_fault, fragment_asks_fault, auth_asks_fault, auth_zero_fault}
+use Rattle.ip_ext_slices.specs.Fault.{Fault, short_at, auth_at, fault_at}
+use Rattle.ip_ext_slices.specs.declared.err.ipv6_exts.header_error.HeaderError.TheVariants.{IpAuth}
+use Rattle.ip_ext_slices.specs.declared.err.ipv6_exts.header_slice_error.HeaderSliceError.TheVariants.{Content}
+
+module _ (source : LenSource) (n k : ℕ) (x : List ℕ) where
+  -- the fault at a number is that of its layout
+  fault_first : (first : Bool) → IsTrue first → fault_at source n k first 0 x ≡ option_map (short_at Ipv6HopByHopHeader) (raw_fault source n k x)
+  fault_first true t = refl
+  fault_first false t = absurd (let differ : false ≡ true = t in cc)
+
+  fault_raw : (first : Bool) (m : ℕ) → IsRawNumber m → (m ≡ 0 → IsTrue first) → (l : Layer) × (fault_at source n k first m x ≡ option_map (short_at l) (raw_fault source n k x))
+  fault_raw first m is zero_first =
+      let P : ℕ → Type 0 = λ j. (l : Layer) × (fault_at source n k first j x ≡ option_map (short_at l) (raw_fault source n k x)) in
+      elim is [
+        | inl e ↦ subst P (sym e) (Ipv6HopByHopHeader, fault_first first (zero_first e))
+        | inr is' ↦ elim is' [ inl e ↦ subst P (sym e) (Ipv6RouteHeader, refl) | inr e ↦ subst P (sym e) (Ipv6DestOptionsHeader, refl) ]
+      ]
+
+  fault_fragment : (first : Bool) (m : ℕ) → m ≡ 44 → fault_at source n k first m x ≡ option_map (short_at Ipv6FragHeader) (fragment_fault source n k x)
+  fault_fragment first m e =
+      let P : ℕ → Type 0 = λ j. fault_at source n k first j x ≡ option_map (short_at Ipv6FragHeader) (fragment_fault source n k x) in
+      subst P (sym e) refl
+
+  fault_auth : (first : Bool) (m : ℕ) → m ≡ 51 → fault_at source n k first m x ≡ option_map auth_at (auth_fault source n k x)
+  fault_auth first m e =
+      let P : ℕ → Type 0 = λ j. fault_at source n k first j x ≡ option_map auth_at (auth_fault source n k x) in
+      subst P (sym e) refl
+
+  no_fault_at_next : (first : Bool) (m : ℕ) (h : ExtHeader) → IsNext first m x h → fault_at source n k first m x ≡ None
+  no_fault_at_next first m h y = elim y.header [
+    | raw is r ↦ let f = fault_raw first m is y.zero_only_first in f.1 ∙ ap (option_map (short_at f.0)) (raw_at_header source n k h.bytes x r y.prefix)
+    | fragment e r ↦ fault_fragment first m e ∙ ap (option_map (short_at Ipv6FragHeader)) (fragment_at_header source n k h.bytes x r y.prefix)
+    | auth e r ↦ fault_auth first m e ∙ ap (option_map auth_at) (auth_at_header source n k h.bytes x r y.prefix)
+  ]
+
+  -- so where there is a fault no header goes on
+  pub fault_ends : (first : Bool) (m : ℕ) (f : Fault) → fault_at source n k first m x ≡ Some f → IsEnd first m x
+  fault_ends first m f e = λ h y. (let differ : None ≡ Some f = sym (no_fault_at_next first m h y) ∙ e in cc)
+
+module _ (source : LenSource) (n k : ℕ) (first : Bool) (m : ℕ) where
+  -- a request behind the bytes that came finds too few
+  pub asks_fault : (done : List ℕ) (count : ℕ) (xs : List ℕ) → length xs < count → (m ≡ 0 → IsTrue first) → Asks m done count
+      → (e : LenError) × (l : Layer) × (fault_at source n k first m (done ++ xs) ≡ Some (short_at l e))
+  asks_fault done count xs few zero_first a = elim a [
+    | asks_raw is r ↦
+      let f = fault_raw source n k (done ++ xs) first m is zero_first in
+      let g = raw_asks_fault source n k done count xs few r in
+      (g.0, f.0, f.1 ∙ ap (option_map (short_at f.0)) g.1)
+    | asks_fragment e r ↦
+      let g = fragment_asks_fault source n k done count xs few r in
+      (g.0, Ipv6FragHeader, fault_fragment source n k (done ++ xs) first m e ∙ ap (option_map (short_at Ipv6FragHeader)) g.1)
+    | asks_auth e r ↦
+      let g = auth_asks_fault source n k done count xs few r in
+      (g.0, IpAuthHeader, fault_auth source n k (done ++ xs) first m e ∙ ap (option_map auth_at) g.1)
+  ]
+
+  -- the length of an authentication header is zero
+  pub zero_fault : (done xs : List ℕ) → m ≡ 51 → IsZeroLength done → fault_at source n k first m (done ++ xs) ≡ Some (Content (IpAuth ZeroPayloadLen), IpAuthHeader)
+  zero_fault done xs e z = fault_auth source n k (done ++ xs) first m e ∙ ap (option_map auth_at) (auth_zero_fault source n k done xs z)

@@ -1,0 +1,36 @@
+use Rattle.std.proofs.Common.{◌≡◌, [], ◌∷◌, sym, ◌∙◌, true, false}
+use Rattle.std.specs.Prelude.{None}
+use Rattle.ip_base.specs.declared.len_source.LenSource.TheVariants.{Slice}
+use Rattle.ip_spec.specs.Header.{IsExtensionNumber}
+use Rattle.ip_ext_slices.proofs.FaultLemmas.{fault_at_end, end_at_other, no_fault_at_other}
+use Rattle.ip_ext_slices.proofs.LongestLemmas.{longest_from-end, longest_from-next}
+use Rattle.ip_ext_slices.proofs.ParseLemmas.{cursor_at_end}
+use Rattle.ip_ext_slices.proofs.ipv6_exts_cursor.Ipv6ExtensionsCursor.end.Goals as goal
+
+pub returns-then-not-is_extension-clause-last : goal.returns-then-not-is_extension-clause-last
+returns-then-not-is_extension-clause-last c =
+    let x = c.args.self.now in
+    let other : IsExtensionNumber x.number.0 → ⊥ = λ e. let no : true ≡ false = sym (c.is_extension.ensures.1 e) ∙ c.if-not-is_extension.true in cc in
+    longest_from-end _ x.number.0 x.rest.now (end_at_other _ x.number.0 x.rest.now other)
+
+pub returns-then-not-is_extension-clause-answer : goal.returns-then-not-is_extension-clause-answer
+returns-then-not-is_extension-clause-answer c =
+    let x = c.args.self.now in
+    let other : IsExtensionNumber x.number.0 → ⊥ = λ e. let no : true ≡ false = sym (c.is_extension.ensures.1 e) ∙ c.if-not-is_extension.true in cc in
+    (cursor_at_end x.first.0 x.bytes.now _ x.number.0 x.rest.now x.leads x.behind (end_at_other _ x.number.0 x.rest.now other)).answers None (sym (no_fault_at_other Slice _ _ x.number.0 x.rest.now _ other))
+
+pub fault-fault-requires : goal.fault-fault-requires
+fault-fault-requires c =
+    let x = c.args.self.now in
+    fault_at_end Slice _ _ _ _ _ (c.is_extension.ensures.0 c.if-not-is_extension.false) (cursor_at_end _ _ _ _ _ x.leads x.behind c.in-None.ensures.end).ends
+
+pub returns-in-Some-clause-before : goal.returns-in-Some-clause-before
+returns-in-Some-clause-before c = λ e. let no : _ ∷ _ ≡ [] = sym (longest_from-next _ _ _ _ c.in-Some.ensures.next) ∙ e in cc
+
+pub returns-in-None-clause-last : goal.returns-in-None-clause-last
+returns-in-None-clause-last c = longest_from-end _ _ _ c.in-None.ensures.end
+
+pub returns-in-None-clause-answer : goal.returns-in-None-clause-answer
+returns-in-None-clause-answer c =
+    let x = c.args.self.now in
+    (cursor_at_end _ _ _ _ _ x.leads x.behind c.in-None.ensures.end).answers _ (sym c.fault-fault.ensures)

@@ -1,0 +1,176 @@
+ghost use Rattle.std.specs.Prelude.{◌≡◌, ◌==◌, ◌≤◌, length};
+ghost use Rattle.ip_spec.specs.Chain.{leads_to};
+ghost use Rattle.ip_spec.specs.Parse.{rest_behind};
+ghost use Rattle.ip_ext_slices.specs.Longest.{longest_chain, longest_from};
+
+use crate::Ipv6ExtensionSlice;
+use crate::err::Layer;
+use crate::err::ipv6_exts::HeaderSliceError;
+use crate::step::{after, fault, header_at, is_extension};
+use ip_base::{IpNumber, ip_number};
+use std::alloc::AllocError;
+
+/// The headers of the longest chain from a number that begins some bytes, once in order, then `None` for ever.
+/// Each is parsed when it is asked for, so who stops early pays for no more, and who goes to the end passes over
+/// the bytes once. Two cursors are equal where they were made with the same number and bytes and have come
+/// equally far.
+#[derive(Debug, Drop)]
+pub struct Ipv6ExtensionsCursor<'a> {
+    // Only `eq` reads it; the contracts of `next` and `end` speak of it.
+    first: IpNumber,
+    bytes: &'a [u8],
+    number: IpNumber,
+    rest: &'a [u8],
+    pub ghost leads: { leads_to number.0 (longest_from (length rest.now == length bytes.now) number.0 rest.now)
+        ≡ leads_to first.0 (longest_chain first.0 bytes.now) },
+    pub ghost behind: { rest_behind (longest_from (length rest.now == length bytes.now) number.0 rest.now) rest.now
+        ≡ rest_behind (longest_chain first.0 bytes.now) bytes.now },
+    pub ghost within: { length rest.now ≤ length bytes.now },
+}
+
+impl<'a> Ipv6ExtensionsCursor<'a> {
+    ghost use Rattle.std.specs.Prelude.{◌≢◌, ◌*◌, [], IfSome, IfNone};
+    ghost use Rattle.ip_spec.specs.Chain.{IsLongestChain};
+    ghost use Rattle.ip_ext_slices.specs.Parse.{IsChainAnswer};
+    ghost use Rattle.ip_ext_slices.specs.Ipv6ExtensionsCursor.{start, input, number_left, bytes_left, headers_left};
+
+    /// The headers of the longest chain from the number that begins the bytes.
+    #[inline(always)]
+    pub fn new(first: IpNumber, bytes: &'a [u8]) -> Ipv6ExtensionsCursor<'a>
+        ensures start { start result ≡ first.0 }
+        ensures input { input result ≡ bytes.now }
+        ensures number { number_left result ≡ first.0 }
+        ensures rest { bytes_left result ≡ bytes.now }
+        ensures headers { headers_left result ≡ longest_chain first.0 bytes.now }
+        ensures longest { IsLongestChain first.0 bytes.now (headers_left result) }
+        ensures bound { 8 * length (headers_left result) ≤ length bytes.now }
+    {
+        Ipv6ExtensionsCursor {
+            first,
+            bytes,
+            number: first,
+            rest: bytes,
+        }
+    }
+
+    /// The number of the next header; from the end on, the number to which the chain leads.
+    #[inline(always)]
+    pub fn next_number(&self) -> IpNumber
+        ensures { result.0 ≡ number_left self.now }
+    {
+        self.number
+    }
+
+    /// The bytes behind the last header that was given, all of them where there is none.
+    #[inline(always)]
+    pub fn rest(&self) -> &'a [u8]
+        ensures { result.now ≡ bytes_left self.now }
+    {
+        self.rest
+    }
+
+    /// From the last header on, what a parse answers of the whole: the number to which the chain leads, the bytes
+    /// after it and the fault there. The offset in a fault counts bytes from the start of those that `new` was
+    /// given.
+    #[inline(always)]
+    pub fn end(&self) -> Option<(IpNumber, &'a [u8], Option<(HeaderSliceError, Layer)>)>
+        ensures before { IfNone result (headers_left self.now ≢ []) }
+        ensures last { IfSome result (λ _. headers_left self.now ≡ []) }
+        ensures answer { IfSome result (λ e. IsChainAnswer (start self.now) (input self.now)
+            (longest_chain (start self.now) (input self.now)) e.0.0 e.1.now e.2) }
+    {
+        if !is_extension(self.number) {
+            return Some((self.number, self.rest, None));
+        }
+        let len = self.bytes.len() - self.rest.len();
+        match header_at(self.rest.len() == self.bytes.len(), self.number, self.rest) {
+            Some(_) => None,
+            None => {
+                let fault = fault(len == 0, self.number, self.rest, len);
+                Some((self.number, self.rest, Some(fault)))
+            }
+        }
+    }
+}
+
+impl<'a> Iterator for Ipv6ExtensionsCursor<'a> {
+    type Item = Ipv6ExtensionSlice<'a>;
+
+    ghost use Rattle.std.specs.Iterator.{item_count};
+    ghost use Rattle.ip_ext_slices.specs.Ipv6ExtensionsCursor.{headers_left, GivesHeader};
+
+    ghost next_gives = { GivesHeader };
+
+    ghost remaining = { item_count headers_left };
+
+    #[inline(always)]
+    fn next(&mut self) -> Option<Ipv6ExtensionSlice<'a>> {
+        let first = self.rest.len() == self.bytes.len();
+        let Some(header) = header_at(first, self.number, self.rest) else {
+            return None;
+        };
+        self.number = header.next_header();
+        self.rest = after(self.rest, header.slice().len());
+        Some(header)
+    }
+}
+
+impl<'a> Clone for Ipv6ExtensionsCursor<'a> {
+    ghost use Rattle.std.specs.Prelude.{⊤};
+    ghost use Rattle.ip_ext_slices.specs.Ipv6ExtensionsCursor.{IsSameCursor};
+
+    ghost is_clone = { IsSameCursor };
+
+    ghost is_infallible = { λ _. ⊤ };
+
+    fn clone(&self) -> Result<Ipv6ExtensionsCursor<'a>, AllocError> {
+        Ok(Ipv6ExtensionsCursor {
+            first: self.first,
+            bytes: self.bytes,
+            number: self.number,
+            rest: self.rest,
+        })
+    }
+}
+
+impl PartialEq for Ipv6ExtensionsCursor<'_> {
+    ghost use Rattle.std.specs.Prelude.{◌↔◌, IsTrue};
+    ghost use Rattle.std.specs.Cmp.Rules.{comparing};
+    ghost use Rattle.std.proofs.Common.{rules};
+    ghost use Rattle.ip_ext_slices.specs.Ipv6ExtensionsCursor.{IsSameCursor, same_cursor};
+
+    ghost eq = { same_cursor };
+
+    ghost laws = { Prim.search (comparing, rules) };
+
+    fn eq(&self, other: &Self) -> bool
+        ensures answer { result ≡ same_cursor self.now other.now }
+        ensures same { IsTrue result ↔ IsSameCursor self.now other.now }
+    {
+        self.first == other.first
+            && self.bytes == other.bytes
+            && self.number == other.number
+            && self.rest == other.rest
+    }
+}
+
+impl Eq for Ipv6ExtensionsCursor<'_> {
+    ghost use Rattle.std.specs.Cmp.Rules.{comparing};
+    ghost use Rattle.std.proofs.Common.{rules};
+
+    ghost laws = { Prim.search (comparing, rules) };
+}
+
+impl Default for Ipv6ExtensionsCursor<'_> {
+    ghost use Rattle.std.specs.Prelude.{[]};
+    ghost use Rattle.ip_spec.specs.Numbers.{NO_NEXT_HEADER};
+    ghost use Rattle.ip_ext_slices.specs.Ipv6ExtensionsCursor.{start, input, number_left, bytes_left};
+
+    ghost is_default = { λ c. (start c ≡ NO_NEXT_HEADER) × (input c ≡ [])
+        × (number_left c ≡ NO_NEXT_HEADER) × (bytes_left c ≡ []) };
+
+    /// No headers. The number is 59, since 0 would name hop by hop options.
+    fn default() -> Self {
+        Ipv6ExtensionsCursor::new(ip_number::IPV6_NO_NEXT_HEADER, &[])
+    }
+}

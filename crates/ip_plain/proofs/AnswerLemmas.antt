@@ -1,0 +1,140 @@
+-- The definitions of the tool, as the plain program goes through them.
+use Rattle.std.proofs.Common.{◌≡◌, ◌≢◌, ℕ, ◌+◌, ◌*◌, ◌%◌, ◌==◌, ◌<◌, ◌≤◌, List, [], ◌∷◌, ◌++◌, length, drop, map, refl, sym, ap, ◌∙◌, arith, append-nil, append_assoc, get_or, nat_eq, inl, inr}
+use Rattle.std.specs.Prelude.{Bool, codes, Option, None, Some, Result, Ok, Err}
+use Rattle.std.specs.Option.{option_map}
+use Rattle.std.specs.Str.{bytes_eq}
+use Rattle.std.specs.Result.{result_ok}
+use Rattle.std.proofs.lemmas.Bool.{cond-false, false_from_ne_true, ne_eqb}
+use Rattle.std.proofs.lemmas.Slice.Eq.{bytes_eq-Decides}
+use Rattle.std.proofs.lemmas.List.{length-take, drop_more}
+use Rattle.ip_spec.specs.Chain.{ExtHeader, IsLongestChain, leads_to, bytes_of, is_empty}
+use Rattle.ip_plain.specs.PlainHeader.{plain_header_of}
+use Rattle.ip_plain.specs.declared.chain.PlainHeader.{PlainHeader}
+use Rattle.std.proofs.lemmas.Bool.Decides.{eqb_tells}
+use Rattle.ip_spec.specs.Prefix.{IsPrefix}
+use Rattle.ip_spec.proofs.ChainLemmas.{one_longest, some_longest}
+use Rattle.ip_ext_slices.specs.Fault.{Fault, slice_fault}
+use Rattle.ip_ext_slices.specs.Longest.{longest_chain}
+use Rattle.hex.specs.Hex.{decode_pairs, hex_digit_value, digit_or_error, ◌>>=◌}
+use Rattle.hex.specs.declared.error.FromHexError.{FromHexError}
+use Rattle.hex.specs.declared.error.FromHexError.TheVariants.{OddLength}
+use Rattle.ip_plain.specs.Digits.{byte_of_values, byte_of_digits}
+use Rattle.ipexts_tool.specs.Exts6.{exts6_answer}
+use Rattle.ipexts_tool.specs.LineFields.{bytes_of_hex}
+use Rattle.ipexts_tool.specs.Lines.{without_empty_last}
+use Rattle.ipexts_tool.specs.Parts.{header_lines, next_line, chain_end_line}
+
+-- ---- lines
+
+pub last_dropped : (front : List (List ℕ)) → without_empty_last (front ++ [] ∷ []) ≡ front
+last_dropped [] = refl
+last_dropped ([] ∷ []) = refl
+last_dropped ([] ∷ next ∷ front) = ap (λ (ls : List (List ℕ)). [] ∷ ls) (last_dropped (next ∷ front))
+last_dropped ((b ∷ line) ∷ front) = ap (λ (ls : List (List ℕ)). (b ∷ line) ∷ ls) (last_dropped front)
+
+pub last_kept : (front : List (List ℕ)) (last : List ℕ) → 0 < length last → without_empty_last (front ++ last ∷ []) ≡ front ++ last ∷ []
+last_kept [] [] some = absurd (omega arith)
+last_kept [] (b ∷ last) some = refl
+last_kept ([] ∷ []) last some = ap (λ (ls : List (List ℕ)). [] ∷ ls) (last_kept [] last some)
+last_kept ([] ∷ next ∷ front) last some = ap (λ (ls : List (List ℕ)). [] ∷ ls) (last_kept (next ∷ front) last some)
+last_kept ((b ∷ line) ∷ front) last some = ap (λ (ls : List (List ℕ)). (b ∷ line) ∷ ls) (last_kept front last some)
+
+-- ---- hexadecimal digits
+
+-- a byte in front of others, where all are there
+abbrev pub onto_bytes : Option ℕ → Option (List ℕ) → Option (List ℕ)
+onto_bytes (Some byte) bytes = option_map (λ more. byte ∷ more) bytes
+onto_bytes None bytes = None
+
+-- the bytes of pairs of digits
+abbrev pub bytes_of_pairs : List ℕ → Option (List ℕ)
+bytes_of_pairs [] = Some []
+bytes_of_pairs (digit ∷ []) = None
+bytes_of_pairs (high ∷ low ∷ rest) = onto_bytes (byte_of_digits high low) (bytes_of_pairs rest)
+
+onto_bytes-ok : (i : ℕ) (h l : Option ℕ) (high low : ℕ) (bytes : Result (List ℕ) FromHexError)
+    → result_ok ((digit_or_error high i h >>= (λ a. digit_or_error low (i + 1) l >>= (λ b. Ok (a * 16 + b)))) >>= (λ byte. bytes >>= (λ more. Ok (byte ∷ more))))
+    ≡ onto_bytes (byte_of_values h l) (result_ok bytes)
+onto_bytes-ok i (Some h) (Some l) high low (Ok bytes) = refl
+onto_bytes-ok i (Some h) (Some l) high low (Err e) = refl
+onto_bytes-ok i (Some h) None high low bytes = refl
+onto_bytes-ok i None l high low bytes = refl
+
+-- which is what decoding gives
+pub decode_pairs-bytes : (i : ℕ) (text : List ℕ) → result_ok (decode_pairs i text) ≡ bytes_of_pairs text
+unfolding decode_pairs
+decode_pairs-bytes i [] = refl
+decode_pairs-bytes i (digit ∷ []) = refl
+decode_pairs-bytes i (high ∷ low ∷ rest) =
+    onto_bytes-ok i (hex_digit_value high) (hex_digit_value low) high low (decode_pairs (i + 2) rest)
+    ∙ ap (onto_bytes (byte_of_digits high low)) (decode_pairs-bytes (i + 2) rest)
+
+-- at least two digits, and an even number of them
+pub bytes_of_hex-pairs : (text : List ℕ) → text ≢ codes "-" → 0 < length text → length text % 2 ≢ 1 → bytes_of_hex text ≡ bytes_of_pairs text
+bytes_of_hex-pairs [] dash some even = absurd (omega arith)
+bytes_of_hex-pairs (c ∷ cs) dash some even =
+    cond-false (bytes_eq (c ∷ cs) (codes "-")) (Some []) _ (false_from_ne_true _ (λ same. dash ((bytes_eq-Decides (c ∷ cs) (codes "-")).0 same)))
+    ∙ ap result_ok (cond-false (length (c ∷ cs) % 2 == 1) (Err OddLength) (decode_pairs 0 (c ∷ cs)) (ne_eqb (length (c ∷ cs) % 2) 1 even))
+    ∙ decode_pairs-bytes 0 (c ∷ cs)
+
+-- the bytes so far and those of the digits to come are those of all digits
+pub SoFar : List ℕ → List ℕ → List ℕ → Type 0
+SoFar text left bytes = option_map (λ more. bytes ++ more) (bytes_of_pairs left) ≡ bytes_of_pairs text
+
+option_map-same : (o : Option (List ℕ)) → option_map (λ more. [] ++ more) o ≡ o
+option_map-same None = refl
+option_map-same (Some bytes) = refl
+
+option_map-more : (bytes : List ℕ) (byte : ℕ) (o : Option (List ℕ))
+    → option_map (λ more. (bytes ++ byte ∷ []) ++ more) o ≡ option_map (λ more. bytes ++ more) (onto_bytes (Some byte) o)
+option_map-more bytes byte None = refl
+option_map-more bytes byte (Some more) = ap Some (append_assoc bytes (byte ∷ []) more)
+
+module _ (text bytes : List ℕ) where
+  pub so_far-none : bytes ≡ [] → SoFar text text bytes
+  unfolding SoFar
+  so_far-none e = rw e (option_map-same (bytes_of_pairs text))
+
+  pub so_far-all : SoFar text [] bytes → bytes_of_pairs text ≡ Some bytes
+  unfolding SoFar
+  so_far-all e = sym e ∙ ap Some (append-nil bytes)
+
+  module _ (k : ℕ) (inside : k + 1 < length text) where
+    pair_at : (next : ℕ) → next ≡ k + 2 → bytes_of_pairs (drop k text) ≡ onto_bytes (byte_of_digits (get_or text k 0) (get_or text (k + 1) 0)) (bytes_of_pairs (drop next text))
+    pair_at next e =
+        let behind : k + 1 + 1 ≡ next = omega (arith, e) in
+        ap bytes_of_pairs
+        (drop_more text k 0 (omega arith)
+        ∙ ap (λ (l : List ℕ). get_or text k 0 ∷ l) (drop_more text (k + 1) 0 inside)
+        ∙ ap (λ (n : ℕ). get_or text k 0 ∷ get_or text (k + 1) 0 ∷ drop n text) behind)
+
+    pub so_far-bad : SoFar text (drop k text) bytes → byte_of_digits (get_or text k 0) (get_or text (k + 1) 0) ≡ None → bytes_of_pairs text ≡ None
+    unfolding SoFar
+    so_far-bad e none =
+        sym e
+        ∙ ap (option_map (λ more. bytes ++ more)) (pair_at (k + 2) refl ∙ ap (λ (o : Option ℕ). onto_bytes o (bytes_of_pairs (drop (k + 2) text))) none)
+
+    pub so_far-more : (byte next : ℕ) → next ≡ k + 2 → SoFar text (drop k text) bytes → byte_of_digits (get_or text k 0) (get_or text (k + 1) 0) ≡ Some byte
+        → SoFar text (drop next text) (bytes ++ byte ∷ [])
+    unfolding SoFar
+    so_far-more byte next two e is =
+        option_map-more bytes byte (bytes_of_pairs (drop next text))
+        ∙ ap (option_map (λ more. bytes ++ more)) (ap (λ (o : Option ℕ). onto_bytes o (bytes_of_pairs (drop next text))) (sym is) ∙ sym (pair_at next two))
+        ∙ e
+
+-- ---- chains
+
+-- the answer computed from any longest chain, of which there is one
+module _ (n : ℕ) (s : List ℕ) (c : List ExtHeader) (longest : IsLongestChain n s c) where
+  pub exts6_answer-longest : (number : ℕ) (rest : List ℕ) (first : Bool) (offset : ℕ) (fault : Option Fault)
+      → number ≡ leads_to n c → rest ≡ drop (length (bytes_of c)) s → first ≡ is_empty c → offset ≡ length (bytes_of c) → fault ≡ slice_fault offset first number rest
+      → exts6_answer n s ≡ header_lines 0 c ++ next_line number (length rest) ++ chain_end_line fault
+  exts6_answer-longest number rest first offset fault leads left one behind is =
+      rw (is, leads, left, one, behind, ← one_longest n s (longest_chain n s) c (some_longest n s).1 longest) refl
+
+pub length-prefix : (b s : List ℕ) → IsPrefix b s → length b ≤ length s
+length-prefix b s e = omega (arith, length-take (length b) s, ap length e)
+
+pub is_empty-shown : (items : List PlainHeader) (len : ℕ) → len ≡ length items → nat_eq len 0 ≡ is_empty (map plain_header_of items)
+is_empty-shown [] len e = ap (λ k. nat_eq k 0) e
+is_empty-shown (h ∷ items) len e = elim (eqb_tells len 0) [ inl w ↦ absurd (omega (arith, e, w.1)) | inr w ↦ w.0 ]

@@ -1,0 +1,3 @@
+pub mod FitsLemmas
+pub mod AnswerLemmas
+pub mod Exts4Lemmas

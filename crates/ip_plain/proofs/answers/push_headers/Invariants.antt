@@ -1,0 +1,15 @@
+use Rattle.std.proofs.Common.{◌≡◌, ◌++◌, ◌+◌, length, map, drop}
+use Rattle.std.specs.Prelude.{string_bytes}
+use Rattle.ip_spec.specs.Chain.{bytes_of}
+use Rattle.ip_plain.specs.PlainHeader.{plain_header_of}
+use Rattle.ipexts_tool.specs.Parts.{header_lines}
+use Rattle.ip_plain.proofs.answers.push_headers.Given as goal
+
+-- the lines so far and those to come are all the lines, and so are the bytes
+abbrev pub invariant-loop-header : goal.invariant-loop-header
+invariant-loop-header l = record {
+  lines : string_bytes l.text ++ header_lines l.offset (map plain_header_of (drop l.header-index l.headers))
+      ≡ string_bytes l.fn.text ++ header_lines 0 (map plain_header_of l.headers);
+  behind : l.offset + length (bytes_of (map plain_header_of (drop l.header-index l.headers)))
+      ≡ length (bytes_of (map plain_header_of l.headers));
+}

@@ -1,0 +1,5 @@
+use Rattle.ipexts_tool.proofs.RewrittenLemmas.{IsRewriting}
+use Rattle.ip_plain.proofs.runs.write_runs.Given as goal
+
+abbrev pub invariant-runs : goal.invariant-runs
+invariant-runs l = IsRewriting l.fn.start.0 l.fn.packet l.runs l.next.0 l.count l.written.items

@@ -1,0 +1,3 @@
+pub mod PlainHeader
+pub mod Digits
+pub mod PlainRequest

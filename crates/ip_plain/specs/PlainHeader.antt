@@ -1,0 +1,7 @@
+-- What a header of the plain program shows.
+use Rattle.ip_spec.specs.Chain.{ExtHeader}
+use Rattle.ip_plain.specs.declared.chain.PlainHeader.{PlainHeader}
+
+-- its number and bytes
+abbrev pub plain_header_of : PlainHeader → ExtHeader
+plain_header_of h = record { number = h.number; bytes = h.bytes.now }

@@ -1,0 +1,82 @@
+//! Which headers fit six places, counted in the plainest way.
+ghost use Rattle.std.specs.Prelude.{◌≡◌, ◌↔◌, ◌≤◌, ◌==◌, length, map, take, IsTrue};
+ghost use Rattle.std.specs.List.{position_or_len};
+ghost use Rattle.ip_spec.specs.Numbers.{ROUTING};
+ghost use Rattle.ip_spec.specs.Demand.{KeepsBeginning};
+ghost use Rattle.ip_spec.specs.Fits.{FitsPlaces};
+ghost use Rattle.ip_spec.specs.NumbersFit.{numbers_of, how_often, before_routing, after_routing};
+ghost use Rattle.ip_plain.specs.PlainHeader.{plain_header_of};
+
+use crate::chain::PlainHeader;
+
+/// How many of the headers have the number.
+fn how_often(number: u8, headers: &[PlainHeader<'_>]) -> usize
+    ensures { result ≡ how_often number (numbers_of (map plain_header_of headers.now)) }
+{
+    headers
+        .iter()
+        .filter(|header| header.number == number)
+        .count()
+}
+
+/// How many headers stand before the first routing header, or all where there is none.
+fn routing_at(headers: &[PlainHeader<'_>]) -> usize
+    ensures at { result ≡ position_or_len (λ n. n == ROUTING)
+        (numbers_of (map plain_header_of headers.now)) }
+    ensures within { result ≤ length headers.now }
+{
+    match headers {
+        [] => 0,
+        [first, _others @ ..] if first.number == 43 => 0,
+        [_, others @ ..] => routing_at(others) + 1,
+    }
+}
+
+/// How many of those before the first routing header have it, or of all where there is none.
+fn how_often_before(number: u8, headers: &[PlainHeader<'_>]) -> usize
+    ensures { result
+        ≡ how_often number (before_routing (numbers_of (map plain_header_of headers.now))) }
+{
+    let (before, _) = headers.split_at(routing_at(headers));
+    how_often(number, before)
+}
+
+/// How many of those behind the first routing header have it, or of none where there is none.
+fn how_often_behind(number: u8, headers: &[PlainHeader<'_>]) -> usize
+    ensures { result
+        ≡ how_often number (after_routing (numbers_of (map plain_header_of headers.now))) }
+{
+    let at = routing_at(headers);
+    if at == headers.len() {
+        return 0;
+    }
+    let (_, behind) = headers.split_at(at + 1);
+    how_often(number, behind)
+}
+
+/// Whether the numbers of the headers fit six places: hop by hop options, routing, fragment and authentication
+/// once at most, and destination options once before the first routing header and once behind it.
+pub fn numbers_fit(headers: &[PlainHeader<'_>]) -> bool
+    ensures { IsTrue result ↔ FitsPlaces (map plain_header_of headers.now) }
+{
+    how_often(0, headers) <= 1
+        && how_often(43, headers) <= 1
+        && how_often(44, headers) <= 1
+        && how_often(51, headers) <= 1
+        && how_often_before(60, headers) <= 1
+        && how_often_behind(60, headers) <= 1
+}
+
+/// How many headers fit, from the first on: all, or those before the first with which they don't.
+pub fn fitting_len(headers: &[PlainHeader<'_>]) -> usize
+    ensures within { result ≤ length headers.now }
+    ensures kept { KeepsBeginning FitsPlaces (map plain_header_of headers.now)
+        (map plain_header_of (take result headers.now)) }
+{
+    'lens: for len in 0..headers.len() {
+        if !numbers_fit(&headers[..len + 1]) {
+            return len;
+        }
+    }
+    headers.len()
+}

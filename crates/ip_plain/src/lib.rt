@@ -1,0 +1,16 @@
+//! The definitions computed in the plainest way: what is a header, the longest chain, which headers fit six places,
+//! the fault, and the answers of the tool. All of it is slow: known answers are held against it, and nothing is
+//! parsed with it.
+#![tactic(auto)]
+
+mod answers;
+mod chain;
+mod fault;
+mod fits;
+mod packet;
+mod runs;
+
+pub use answers::plain_answers;
+pub use chain::{PlainChain, PlainHeader, is_header, next_len, plain_longest_chain};
+pub use fault::plain_fault;
+pub use fits::{fitting_len, numbers_fit};

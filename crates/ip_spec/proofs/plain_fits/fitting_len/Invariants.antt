@@ -1,8 +1,0 @@
-use Rattle.std.proofs.Common.{map, take}
-use Rattle.ip_spec.specs.Fits.{FitsPlaces}
-use Rattle.ip_spec.specs.PlainHeader.{plain_header_of}
-use Rattle.ip_spec.proofs.plain_fits.fitting_len.Given as goal
-
--- the first headers fit
-abbrev pub invariant-lens : goal.invariant-lens
-invariant-lens l = FitsPlaces (map plain_header_of (take l.len l.headers))

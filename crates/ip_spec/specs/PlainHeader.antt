@@ -1,7 +1,0 @@
--- What a header of the plain program shows.
-use Rattle.ip_spec.specs.Chain.{ExtHeader}
-use Rattle.ip_spec.specs.declared.plain.PlainHeader.{PlainHeader}
-
--- its number and bytes
-abbrev pub plain_header_of : PlainHeader → ExtHeader
-plain_header_of h = record { number = h.number; bytes = h.bytes.now }

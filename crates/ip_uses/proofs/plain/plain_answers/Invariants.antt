@@ -1,8 +1,0 @@
-use Rattle.std.proofs.Common.{◌≡◌, ◌++◌, map, drop}
-use Rattle.std.specs.Prelude.{string_bytes}
-use Rattle.ipexts_tool.specs.Answers.{answers, answers_to}
-use Rattle.ip_uses.proofs.plain.plain_answers.Given as goal
-
--- the answers so far and those to the lines to come are all answers
-abbrev pub invariant-loop-line : goal.invariant-loop-line
-invariant-loop-line l = string_bytes l.text ++ answers_to (map (λ line. line.now) (drop l.line-index l.line-items)) ≡ answers l.fn.input

@@ -1,6 +1,0 @@
-use Rattle.std.proofs.Common.{◌*◌, drop}
-use Rattle.ip_uses.proofs.PlainLemmas.{SoFar}
-use Rattle.ip_uses.proofs.plain.plain_bytes.Given as goal
-
-abbrev pub invariant-loop-pair : goal.invariant-loop-pair
-invariant-loop-pair l = SoFar l.text (drop (2 * l.pair) l.text) l.bytes.items

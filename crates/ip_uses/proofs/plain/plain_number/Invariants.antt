@@ -1,7 +1,0 @@
-use Rattle.std.proofs.Common.{◌≡◌, ◌<◌, ℕ}
-use Rattle.std.specs.Fmt.{decimal}
-use Rattle.ip_uses.proofs.plain.plain_number.Given as goal
-
--- no number so far has the text as its numeral
-abbrev pub invariant-loop-number : goal.invariant-loop-number
-invariant-loop-number l = (k : ℕ) → k < l.number-counter → decimal k ≡ l.text → ⊥

@@ -1,5 +1,0 @@
-use Rattle.ipexts_tool.proofs.RewrittenLemmas.{IsRewriting}
-use Rattle.ip_uses.proofs.runs.write_runs.Given as goal
-
-abbrev pub invariant-runs : goal.invariant-runs
-invariant-runs l = IsRewriting l.fn.start.0 l.fn.packet l.runs l.next.0 l.count l.written.items

@@ -1,0 +1,370 @@
+//! Chains that are read from bytes in memory and from streams, with and without a limit.
+use crate::readers::{dripping, front};
+use ip_base::err::{Layer, LenError};
+use ip_base::{IpNumber, LenSource};
+use ip_ext_chains::err::ip_auth;
+use ip_ext_chains::err::ipv6_exts::{HeaderError, HeaderLimitedReadError, HeaderReadError};
+use ip_ext_chains::{Ipv4Extensions, Ipv6Extensions};
+use ip_ext_headers::io::{ExactRead, LimitedReader};
+use std::io::ErrorKind;
+use std::test::Fail;
+
+/// What came of a read: the number behind the headers, or the error. Headers other than those that were expected
+/// are `Other`.
+#[derive(Debug, PartialEq, Eq, Drop)]
+enum Outcome {
+    Leads(u8),
+    Other,
+    HopByHopNotAtStart,
+    ZeroPayloadLen,
+    Len(LenError),
+    Io(ErrorKind),
+}
+
+fn content(error: HeaderError) -> Outcome {
+    match error {
+        HeaderError::HopByHopNotAtStart => Outcome::HopByHopNotAtStart,
+        HeaderError::IpAuth(_) => Outcome::ZeroPayloadLen,
+    }
+}
+
+/// Reads headers, which are expected to be those of the bytes.
+fn read<T: ExactRead>(reader: &mut T, start: u8, bytes: &[u8]) -> Outcome {
+    let (expected, _, _, _) = Ipv6Extensions::from_slice_lax(IpNumber(start), bytes);
+    match Ipv6Extensions::read(reader, IpNumber(start)) {
+        Ok((exts, number)) if exts == expected => Outcome::Leads(number.0),
+        Ok(_) => Outcome::Other,
+        Err(HeaderReadError::Io(e)) => Outcome::Io(e.kind()),
+        Err(HeaderReadError::Content(e)) => content(e),
+    }
+}
+
+/// The same within a limit.
+fn read_limited<T: ExactRead>(reader: &mut LimitedReader<T>, start: u8, bytes: &[u8]) -> Outcome {
+    let (expected, _, _, _) = Ipv6Extensions::from_slice_lax(IpNumber(start), bytes);
+    match Ipv6Extensions::read_limited(reader, IpNumber(start)) {
+        Ok((exts, number)) if exts == expected => Outcome::Leads(number.0),
+        Ok(_) => Outcome::Other,
+        Err(HeaderLimitedReadError::Io(e)) => Outcome::Io(e.kind()),
+        Err(HeaderLimitedReadError::Len(e)) => Outcome::Len(e),
+        Err(HeaderLimitedReadError::Content(e)) => content(e),
+    }
+}
+
+/// Offset, limit and bytes read of the layer, and the layer.
+fn state<T>(reader: &LimitedReader<T>) -> (usize, usize, usize, Layer) {
+    (
+        reader.layer_offset(),
+        reader.max_len(),
+        reader.read_len(),
+        reader.layer(),
+    )
+}
+
+fn missing(required_len: usize, len: usize, layer: Layer, offset: usize) -> LenError {
+    LenError {
+        required_len,
+        len,
+        len_source: LenSource::Ipv6HeaderPayloadLen,
+        layer,
+        layer_start_offset: offset,
+    }
+}
+
+/// A header in each of the six places, from number 0 to 17, and two bytes behind them.
+const SIX: [u8; 54] = [
+    60, 0, 1, 2, 3, 4, 5, 6, 43, 0, 1, 2, 3, 4, 5, 6, 44, 0, 1, 2, 3, 4, 5, 6, 51, 0, 0, 0, 1, 2,
+    3, 4, 60, 1, 0, 0, 1, 2, 3, 4, 5, 6, 7, 8, 17, 0, 1, 2, 3, 4, 5, 6, 9, 9,
+];
+
+/// The layers of its headers and their requests.
+const SIX_REQUESTS: [(Layer, &[usize]); 6] = [
+    (Layer::Ipv6ExtHeader, &[2, 6]),
+    (Layer::Ipv6ExtHeader, &[2, 6]),
+    (Layer::Ipv6ExtHeader, &[2, 6]),
+    (Layer::Ipv6FragHeader, &[8]),
+    (Layer::IpAuthHeader, &[12, 0]),
+    (Layer::Ipv6ExtHeader, &[2, 6]),
+];
+
+/// What a read of the six headers answers where this many bytes are there and the limit is this, and the state of
+/// the limit: the first request for which one of them doesn't suffice ends it, the limit asked first.
+fn expected(
+    there: usize,
+    limit: usize,
+    at_end: ErrorKind,
+) -> (Outcome, (usize, usize, usize, Layer)) {
+    let mut begins = 0usize;
+    let mut state = (40, limit, 0, Layer::Ipv6Header);
+    for (layer, requests) in SIX_REQUESTS {
+        let offset = begins.saturating_add(40);
+        let max_len = limit.saturating_sub(begins);
+        let mut came = 0usize;
+        for request in requests {
+            let needed = came.saturating_add(*request);
+            state = (offset, max_len, came, layer);
+            if max_len < needed {
+                return (Outcome::Len(missing(needed, max_len, layer, offset)), state);
+            }
+            if there < begins.saturating_add(needed) {
+                return (Outcome::Io(at_end), state);
+            }
+            came = needed;
+        }
+        state = (offset, max_len, came, layer);
+        begins = begins.saturating_add(came);
+    }
+    (Outcome::Leads(17), state)
+}
+
+/// Reads the six headers behind byte 40 within a limit.
+fn six_within<T: ExactRead + Drop>(
+    source: T,
+    limit: u8,
+) -> (Outcome, (usize, usize, usize, Layer)) {
+    let max_len = usize::from(limit);
+    let told = LenSource::Ipv6HeaderPayloadLen;
+    let mut reader = LimitedReader::new(source, max_len, told, 40, Layer::Ipv6Header);
+    let outcome = read_limited(&mut reader, 0, &SIX);
+    (outcome, state(&reader))
+}
+
+#[test]
+fn six_places_cut_at_every_byte_under_every_limit(rt: HostRuntime) {
+    for there in 0..55usize {
+        for limit in 0..55u8 {
+            let cut = front(&SIX, there);
+            let most = usize::from(limit);
+            let wanted = expected(there, most, ErrorKind::UnexpectedEof);
+            assert_eq!(rt;
+                six_within(cut, limit),
+                wanted,
+                "{there} of memory, limit {limit}"
+            );
+            let got = six_within(dripping(cut, false), limit);
+            assert_eq!(rt; got, wanted, "{there} of a stream, limit {limit}");
+            let wanted = expected(there, most, ErrorKind::ConnectionReset);
+            let got = six_within(dripping(cut, true), limit);
+            assert_eq!(rt; got, wanted, "fails behind {there}, limit {limit}");
+        }
+    }
+}
+
+#[test]
+fn six_places_cut_at_every_byte(rt: HostRuntime) {
+    for there in 0..55usize {
+        let cut = front(&SIX, there);
+        let (wanted, _) = expected(there, 54, ErrorKind::UnexpectedEof);
+        let mut left = cut;
+        assert_eq!(rt; read(&mut left, 0, &SIX), wanted, "{there} of memory");
+        assert!(rt;
+            there < 52 || left == front(&[9, 9], there.saturating_sub(52)),
+            "{there}"
+        );
+        let mut stream = dripping(cut, false);
+        assert_eq!(rt; read(&mut stream, 0, &SIX), wanted, "{there} of a stream");
+        assert_eq!(rt; stream.failed(), there < 52, "{there} of a stream");
+        assert!(rt;
+            there < 54 || stream.into_inner().bytes == [9, 9].as_slice(),
+            "{there}"
+        );
+    }
+}
+
+/// Destination options, a routing header, and two bytes.
+const TWO: [u8; 18] = [43, 0, 0, 0, 0, 0, 0, 0, 17, 0, 0, 0, 0, 0, 0, 0, 9, 9];
+
+#[test]
+fn two_headers_and_what_is_left(rt: HostRuntime) {
+    let mut left = TWO.as_slice();
+    assert_eq!(rt; read(&mut left, 60, &TWO), Outcome::Leads(17));
+    assert_eq!(rt; left, [9, 9].as_slice());
+    let told = LenSource::Ipv6HeaderPayloadLen;
+    let layer = Layer::Ipv6ExtHeader;
+    for (limit, outcome, after, unread) in [
+        (16u8, Outcome::Leads(17), (48, 8, 8, layer), 2usize),
+        (
+            12,
+            Outcome::Len(missing(8, 4, layer, 48)),
+            (48, 4, 2, layer),
+            8,
+        ),
+    ] {
+        let mut reader = LimitedReader::new(
+            TWO.as_slice(),
+            usize::from(limit),
+            told,
+            40,
+            Layer::Ipv6Header,
+        );
+        assert_eq!(rt;
+            read_limited(&mut reader, 60, &TWO),
+            outcome,
+            "limit {limit}"
+        );
+        assert_eq!(rt; state(&reader), after, "limit {limit}");
+        assert_eq!(rt; reader.take_reader().len(), unread, "limit {limit}");
+    }
+    let mut reader = LimitedReader::new(&TWO[..12], 16, told, 40, Layer::Ipv6Header);
+    let eof = Outcome::Io(ErrorKind::UnexpectedEof);
+    assert_eq!(rt; read_limited(&mut reader, 60, &TWO), eof);
+    assert_eq!(rt; state(&reader), (48, 8, 2, layer));
+}
+
+/// Start number, bytes, what a read answers, and how many bytes it leaves.
+const ENDS: [(&str, u8, &[u8], u8, usize); 5] = [
+    (
+        "second destination options",
+        60,
+        &[60, 0, 0, 0, 0, 0, 0, 0, 17, 0, 0, 0, 0, 0, 0, 0],
+        60,
+        8,
+    ),
+    (
+        "second fragment header, cut",
+        44,
+        &[44, 0, 0, 0, 0, 0, 0, 1, 17, 0, 0],
+        44,
+        3,
+    ),
+    (
+        "third destination options",
+        60,
+        &[
+            43, 0, 0, 0, 0, 0, 0, 0, 60, 0, 0, 0, 0, 0, 0, 0, 60, 0, 0, 0, 0, 0, 0, 0, 1,
+        ],
+        60,
+        1,
+    ),
+    ("no extension number", 17, &[43, 0, 0, 0, 0, 0, 0, 0], 17, 8),
+    ("number of no header", 59, &[], 59, 0),
+];
+
+#[test]
+fn nothing_behind_the_last_header_is_taken(rt: HostRuntime) {
+    for (name, start, bytes, number, unread) in ENDS {
+        let mut left = bytes;
+        assert_eq!(rt;
+            read(&mut left, start, bytes),
+            Outcome::Leads(number),
+            "{name}"
+        );
+        assert_eq!(rt; left.len(), unread, "{name}");
+        let mut stream = dripping(bytes, true);
+        assert_eq!(rt;
+            read(&mut stream, start, bytes),
+            Outcome::Leads(number),
+            "{name}"
+        );
+        assert!(rt; !stream.failed(), "{name}");
+        assert_eq!(rt; stream.into_inner().bytes.len(), unread, "{name}");
+        let mut reader = LimitedReader::new(bytes, 100, LenSource::Slice, 7, Layer::IpHeader);
+        assert_eq!(rt;
+            read_limited(&mut reader, start, bytes),
+            Outcome::Leads(number),
+            "{name}"
+        );
+        assert_eq!(rt; reader.take_reader().len(), unread, "{name}");
+    }
+}
+
+#[test]
+fn no_header_leaves_the_reader_as_it_was(rt: HostRuntime) {
+    let mut reader = LimitedReader::new(SIX.as_slice(), 50, LenSource::Slice, 7, Layer::IpHeader);
+    let mut three = [0; 3];
+    assert!(rt; reader.read_exact(&mut three).is_ok());
+    for start in [1, 17, 50, 58, 59, 255] {
+        assert_eq!(rt;
+            read_limited(&mut reader, start, &[]),
+            Outcome::Leads(start)
+        );
+        let answer = Ipv4Extensions::read_limited(&mut reader, IpNumber(start));
+        assert!(rt; matches!(answer, Ok((exts, number)) if exts.is_empty() && number.0 == start));
+    }
+    assert_eq!(rt; state(&reader), (7, 50, 3, Layer::IpHeader));
+    assert_eq!(rt; reader.take_reader().len(), 51);
+}
+
+/// Hop by hop options that aren't first, and an authentication header of length 0.
+const WRONG: [(u8, &[u8], Outcome, usize, Layer); 3] = [
+    (
+        60,
+        &[0, 0, 0, 0, 0, 0, 0, 0, 17, 0, 0, 0, 0, 0, 0, 0],
+        Outcome::HopByHopNotAtStart,
+        8,
+        Layer::Ipv6ExtHeader,
+    ),
+    (
+        0,
+        &[0, 0, 0, 0, 0, 0, 0, 0],
+        Outcome::HopByHopNotAtStart,
+        0,
+        Layer::Ipv6ExtHeader,
+    ),
+    (
+        51,
+        &[17, 0, 0, 0, 0, 0, 0, 0, 0, 0, 0, 0, 1],
+        Outcome::ZeroPayloadLen,
+        1,
+        Layer::IpAuthHeader,
+    ),
+];
+
+#[test]
+fn wrong_content(rt: HostRuntime) {
+    for (start, bytes, outcome, unread, layer) in WRONG {
+        let mut left = bytes;
+        assert_eq!(rt; read(&mut left, start, &[]), outcome, "{start}");
+        assert_eq!(rt; left.len(), unread, "{start}");
+        let mut stream = dripping(bytes, true);
+        assert_eq!(rt; read(&mut stream, start, &[]), outcome, "{start}");
+        assert!(rt; !stream.failed(), "{start}");
+        let mut reader = LimitedReader::new(bytes, 20, LenSource::Slice, 0, Layer::Ipv6Header);
+        assert_eq!(rt; read_limited(&mut reader, start, &[]), outcome, "{start}");
+        let read_len = bytes.len().saturating_sub(unread);
+        assert_eq!(rt; state(&reader), (0, 20, read_len, layer), "{start}");
+        assert_eq!(rt; reader.take_reader().len(), unread, "{start}");
+    }
+}
+
+/// An authentication header, which names another, and that one.
+const AUTHENTICATED: [u8; 24] = [
+    51, 1, 0, 0, 0, 0, 0, 1, 0, 0, 0, 2, 17, 1, 0, 0, 0, 0, 0, 3, 0, 0, 0, 4,
+];
+
+#[test]
+fn ipv4_headers(rt: HostRuntime) -> Result<(), Fail> {
+    let all = AUTHENTICATED.as_slice();
+    let (parsed, _, _) = Ipv4Extensions::from_slice(IpNumber(51), all)?;
+    let mut left = all;
+    let answer = Ipv4Extensions::read(&mut left, IpNumber(51));
+    assert!(rt; matches!(answer, Ok((exts, IpNumber(51))) if exts == parsed));
+    assert_eq!(rt; left.len(), 12);
+    for cut in 0..12usize {
+        let mut left = front(all, cut);
+        let answer = Ipv4Extensions::read(&mut left, IpNumber(51));
+        assert!(rt;
+            matches!(answer, Err(ip_auth::HeaderReadError::Io(_))),
+            "{cut}"
+        );
+        let layer = Layer::Ipv4Header;
+        let mut reader = LimitedReader::new(all, cut, LenSource::Ipv4HeaderTotalLen, 20, layer);
+        let fault = LenError {
+            required_len: 12,
+            len: cut,
+            len_source: LenSource::Ipv4HeaderTotalLen,
+            layer: Layer::IpAuthHeader,
+            layer_start_offset: 20,
+        };
+        let answer = Ipv4Extensions::read_limited(&mut reader, IpNumber(51));
+        assert!(rt;
+            matches!(answer, Err(ip_auth::HeaderLimitedReadError::Len(e)) if e == fault),
+            "{cut}"
+        );
+    }
+    let mut reader = LimitedReader::new(all, 12, LenSource::Slice, 20, Layer::Ipv4Header);
+    let answer = Ipv4Extensions::read_limited(&mut reader, IpNumber(51));
+    assert!(rt; matches!(answer, Ok((exts, IpNumber(51))) if exts == parsed));
+    assert_eq!(rt; state(&reader), (20, 12, 12, Layer::IpAuthHeader));
+    Ok(())
+}

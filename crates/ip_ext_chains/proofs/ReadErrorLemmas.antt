@@ -94,7 +94,7 @@ module _ {T : Type 0} (bytes_left : T → Option (List ℕ)) (is_steady has_fail
   refused_as (read.Content HopByHopNotAtStart) first m j old new r is zero_first = absurd (let differ : true ≡ false = r.1 in cc)
   refused_as (read.Content (IpAuth e)) first m j old new r is zero_first = (is ∙ r.0, r.1)
 
-  -- the same, told of the number to which a chain leads
+  -- the same of the number to which a chain leads
   pub refused_here : (e : HeaderReadError) (first other : Bool) (m j : ℕ) (old new : T) → IsHeaderRefused bytes_left is_steady has_failed e first m old new → m ≡ j → first ≡ other
       → IsHeaderRefused bytes_left is_steady has_failed e other j old new
   refused_here e first other m j old new r em ef =
@@ -185,7 +185,7 @@ module _ {T : Type 0} (bytes_left : T → Option (List ℕ)) (is_steady has_fail
       let P : ℕ → Type 0 = λ i. IsHeaderRefusedInLayer bytes_left is_steady has_failed (limited.Content (IpAuth e)) first i old new in
       subst P (sym is) r
 
-  -- the same, told of the number to which a chain leads
+  -- the same of the number to which a chain leads
   pub layer_refused_here : (e : HeaderLimitedReadError) (first other : Bool) (m j : ℕ) (old new : LimitedReader T) → IsHeaderRefusedInLayer bytes_left is_steady has_failed e first m old new → m ≡ j → first ≡ other
       → IsHeaderRefusedInLayer bytes_left is_steady has_failed e other j old new
   layer_refused_here e first other m j old new r em ef =

@@ -1,5 +1,5 @@
 -- Why bytes begin with no authentication header.
-use Rattle.std.proofs.Common.{Bool, ◌≡◌, ℕ, ◌+◌, ◌*◌, ◌<◌, ◌≤◌, List, ◌++◌, length, refl, arith, length-append, slice_index, ap}
+use Rattle.std.proofs.Common.{Bool, ℕ, ◌<◌, List, ◌++◌, length}
 use Rattle.ip_base.specs.declared.err.layer.Layer.TheVariants.{IpAuthHeader}
 use Rattle.ip_base.specs.declared.len_source.LenSource.TheVariants.{Slice}
 use Rattle.ip_spec.specs.Requests.{AuthAsks}

@@ -1,5 +1,5 @@
 -- The fault at bytes: none at a header, and one where a request of a header finds too few bytes.
-use Rattle.std.proofs.Common.{◌≡◌, ℕ, ◌+◌, ◌*◌, ◌<◌, ◌≤◌, List, ◌++◌, length, refl, sym, arith, length-append, slice_index, ap, inl, inr}
+use Rattle.std.proofs.Common.{◌≡◌, ℕ, ◌+◌, ◌*◌, ◌<◌, List, ◌++◌, length, refl, arith, length-append, slice_index, ap, inl, inr}
 use Rattle.std.specs.Prelude.{Some, None}
 use Rattle.std.proofs.lemmas.Bool.{cases_lt, lt-ltb, le-ltb, ne_eqb}
 use Rattle.std.proofs.lemmas.List.{get_or_append_left}
@@ -70,14 +70,14 @@ module _ (source : LenSource) (n k : ℕ) where
         rw (lt-ltb (length (done ++ xs)) 12 (omega (arith, length-append done xs, ap length none, few))) refl,
       )
       | auth_icv len z c ↦
-        let byte : slice_index (done ++ xs) 1 ≡ slice_index done 1 = get_or_append_left done xs 0 1 (omega arith) in (
-          too_short source n k IpAuthHeader (4 * (slice_index (done ++ xs) 1 + 2)),
-          rw (
-            le-ltb (length (done ++ xs)) 12 (omega (arith, length-append done xs)),
-            ne_eqb (slice_index (done ++ xs) 1) 0 (omega arith),
-            lt-ltb (length (done ++ xs)) (4 * (slice_index (done ++ xs) 1 + 2)) (omega (arith, length-append done xs, few)),
-          ) refl,
-        )
+          let byte : slice_index (done ++ xs) 1 ≡ slice_index done 1 = get_or_append_left done xs 0 1 (omega arith) in (
+            too_short source n k IpAuthHeader (4 * (slice_index (done ++ xs) 1 + 2)),
+            rw (
+              le-ltb (length (done ++ xs)) 12 (omega (arith, length-append done xs)),
+              ne_eqb (slice_index (done ++ xs) 1) 0 (omega arith),
+              lt-ltb (length (done ++ xs)) (4 * (slice_index (done ++ xs) 1 + 2)) (omega (arith, length-append done xs, few)),
+            ) refl,
+          )
     ]
 
   -- where the bytes that came tell a length of zero

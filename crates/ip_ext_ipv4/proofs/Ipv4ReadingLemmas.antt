@@ -1,5 +1,5 @@
 -- What is read of IPv4 extension headers is what is parsed.
-use Rattle.std.proofs.Common.{◌≡◌, ◌≢◌, ℕ, List, [], ◌∷◌, ◌++◌, length, drop, refl, sym, ap, ◌∙◌, subst, Bool, true, false}
+use Rattle.std.proofs.Common.{◌≡◌, ◌≢◌, ℕ, List, [], ◌++◌, length, drop, refl, sym, ap, ◌∙◌, subst, Bool, true, false}
 use Rattle.std.specs.Prelude.{Option, Some, None, IfSome}
 use Rattle.ip_io.specs.ExactRead.{IfSteady}
 use Rattle.ip_ext_headers.specs.declared.err.ip_auth.header_error.HeaderError.{HeaderError}
@@ -18,7 +18,6 @@ use Rattle.ip_ext_headers.specs.declared.err.ip_auth.header_limited_read_error.H
 use Rattle.ip_ext_headers.proofs.FaultLemmas.{auth_at_header}
 use Rattle.ip_spec.specs.Prefix.{IsPrefix}
 use Rattle.ip_spec.specs.Header.{IsAuthHeader}
-use Rattle.ip_spec.specs.Fields.{next_header}
 use Rattle.ip_spec.specs.FieldsOf.{AuthFields, auth_fields}
 use Rattle.ip_spec.specs.Chain.{ExtHeader}
 use Rattle.ip_spec.specs.Parse.{IsAnswer, fault_behind}

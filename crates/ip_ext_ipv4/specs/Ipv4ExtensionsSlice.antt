@@ -1,9 +1,8 @@
 -- What slices of IPv4 extension headers show.
-use Rattle.std.specs.Prelude.{List, [], ◌∷◌, Option, Some, None, Bool, nat_eq}
+use Rattle.std.specs.Prelude.{List, [], ◌∷◌, Bool, nat_eq}
 use Rattle.std.specs.Option.{option_eq, option_map_or}
 use Rattle.std.specs.Ordering.{on}
 use Rattle.std.specs.Cmp.Lexicographic.{pointwise}
-use Rattle.ip_ext_headers.specs.declared.ip_auth_header_slice.IpAuthHeaderSlice.{IpAuthHeaderSlice}
 use Rattle.ip_ext_headers.specs.IpAuthHeaderSlice as auth
 use Rattle.ip_spec.specs.Numbers.{AUTHENTICATION}
 use Rattle.ip_spec.specs.Chain.{ExtHeader}

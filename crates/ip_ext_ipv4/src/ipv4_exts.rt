@@ -228,11 +228,7 @@ impl Ipv4Extensions {
 fn encodable(header: &IpAuthHeader)
     ensures { (b : List ℕ) × AreBytes b × IsAuthEncoding header.now b }
 {
-    let (next, spi, sequence) = (
-        header.next_header,
-        header.spi,
-        header.sequence_number,
-    );
+    let (next, spi, sequence) = (header.next_header, header.spi, header.sequence_number);
     has_encoding(next, spi, sequence, header.raw_icv());
 }
 

@@ -123,8 +123,8 @@ fn six_within<T: ExactRead + Drop>(
     limit: u8,
 ) -> (Outcome, (usize, usize, usize, Layer)) {
     let max_len = usize::from(limit);
-    let told = LenSource::Ipv6HeaderPayloadLen;
-    let mut reader = LimitedReader::new(source, max_len, told, 40, Layer::Ipv6Header);
+    let len_source = LenSource::Ipv6HeaderPayloadLen;
+    let mut reader = LimitedReader::new(source, max_len, len_source, 40, Layer::Ipv6Header);
     let outcome = read_limited(&mut reader, 0, &SIX);
     (outcome, state(&reader))
 }
@@ -179,7 +179,7 @@ fn two_headers_and_what_is_left(rt: HostRuntime) {
     let mut left = TWO.as_slice();
     assert_eq!(rt; read(&mut left, 60, &TWO), Outcome::Leads(17));
     assert_eq!(rt; left, [9, 9].as_slice());
-    let told = LenSource::Ipv6HeaderPayloadLen;
+    let len_source = LenSource::Ipv6HeaderPayloadLen;
     let layer = Layer::Ipv6ExtHeader;
     for (limit, outcome, after, unread) in [
         (16u8, Outcome::Leads(17), (48, 8, 8, layer), 2usize),
@@ -193,7 +193,7 @@ fn two_headers_and_what_is_left(rt: HostRuntime) {
         let mut reader = LimitedReader::new(
             TWO.as_slice(),
             usize::from(limit),
-            told,
+            len_source,
             40,
             Layer::Ipv6Header,
         );
@@ -205,7 +205,7 @@ fn two_headers_and_what_is_left(rt: HostRuntime) {
         assert_eq!(rt; state(&reader), after, "limit {limit}");
         assert_eq!(rt; reader.take_reader().len(), unread, "limit {limit}");
     }
-    let mut reader = LimitedReader::new(&TWO[..12], 16, told, 40, Layer::Ipv6Header);
+    let mut reader = LimitedReader::new(&TWO[..12], 16, len_source, 40, Layer::Ipv6Header);
     let eof = Outcome::Io(ErrorKind::UnexpectedEof);
     assert_eq!(rt; read_limited(&mut reader, 60, &TWO), eof);
     assert_eq!(rt; state(&reader), (48, 8, 2, layer));

@@ -27,7 +27,7 @@ impl<T> LimitedReader<T> {
     ghost use Rattle.ip_io.specs.Limits.{started};
     ghost use Rattle.ip_io.specs.LimitedReader.{inner_of, limits_of};
 
-    /// A reader that gives at most `max_len` bytes. `len_source` is what told that length, and `layer` begins at
+    /// A reader that gives at most `max_len` bytes. `len_source` names what gave that length, and `layer` begins at
     /// `layer_offset` bytes from where offsets are counted. The sum of the offset, the limit and 2048, the
     /// longest header, has to fit.
     pub fn new(
@@ -65,7 +65,7 @@ impl<T> LimitedReader<T> {
         self.max_len
     }
 
-    /// What told the limit.
+    /// What gave the limit.
     pub fn len_source(&self) -> LenSource
         ensures { result ≡ (limits_of self.now).len_source }
     {

@@ -75,7 +75,7 @@ fault_begins_at source n k first m r =
     (if_either P (m == FRAGMENT) _ _ (fragment _)
     (if_either P (m == AUTHENTICATION) _ _ (if_mapped (AuthBeginsAt k) P auth_at (auth_fault source n k r) (auth_at_begins k) (auth_begins_at source n k r)) tt))))
 
--- That of a chain begins within the bytes, so that it can be told from the packet's start.
+-- That of a chain begins within the bytes, so that it can be counted from the packet's start.
 fits : (k j : ℕ) (e : HeaderSliceError) → BeginsAt k e → k + j < 2 ^ 64 → ExtsOffsetFits e j
 fits k j (Len e) begins small = omega (arith, begins)
 fits k j (Content e) begins small = tt

@@ -1,4 +1,4 @@
--- The parts of a packet are told by its bytes.
+-- The bytes determine the parts of a packet.
 use Rattle.std.proofs.Common.{◌≡◌, ℕ, ◌+◌, List, ◌++◌, length, take, drop, ap, sym, ◌∙◌, append_assoc}
 use Rattle.std.proofs.lemmas.List.{take-append-drop}
 use Rattle.ip_base.specs.declared.len_source.LenSource.{LenSource}
@@ -32,8 +32,8 @@ ipv4_prefix s p k = begins p.base _ s (total_len p.base) (k.joined ∙ ap (λ x.
 pub ipv4_version : (s : List ℕ) (p : Parts) → IsIpv4Packet s p → version s ≡ 4
 ipv4_version s p k = sym (says_ipv4 p.base s k.base (ipv4_prefix s p k)).version ∙ k.base.version
 
-pub ipv4_parts_told : (s : List ℕ) (p : Parts) → IsIpv4Packet s p → p ≡ ipv4_cut s
-ipv4_parts_told s p k =
+pub ipv4_parts_are : (s : List ℕ) (p : Parts) → IsIpv4Packet s p → p ≡ ipv4_cut s
+ipv4_parts_are s p k =
     let front_is : front p.source (total_len p.base) s ≡ take (total_len p.base) s = ap (λ x. front x (total_len p.base) s) k.source in
     let prefix : IsPrefix p.base s = ipv4_prefix s p k in
     let says : SaysIpv4 p.base s = says_ipv4 p.base s k.base prefix in
@@ -62,8 +62,8 @@ ipv6_prefix s p k = begins_by p.source (payload_length p.base) s p.base _ k.join
 pub ipv6_version : (s : List ℕ) (p : Parts) → IsIpv6Packet s p → version s ≡ 6
 ipv6_version s p k = sym (says_ipv6 p.base s k.base (ipv6_prefix s p k)).version ∙ k.base.version
 
-pub ipv6_parts_told : (s : List ℕ) (p : Parts) → IsIpv6Packet s p → p ≡ ipv6_cut s
-ipv6_parts_told s p k =
+pub ipv6_parts_are : (s : List ℕ) (p : Parts) → IsIpv6Packet s p → p ≡ ipv6_cut s
+ipv6_parts_are s p k =
     let whole : List ℕ = front p.source (payload_length p.base) s in
     let prefix : IsPrefix p.base s = ipv6_prefix s p k in
     let says : SaysIpv6 p.base s = says_ipv6 p.base s k.base prefix in

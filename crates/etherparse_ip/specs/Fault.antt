@@ -27,7 +27,7 @@ use Rattle.etherparse_ip.specs.declared.err.ip.headers_error.HeadersError.TheVar
 use Rattle.etherparse_ip.specs.declared.err.ip.slice_error.SliceError.{SliceError}
 use Rattle.etherparse_ip.specs.declared.err.ip.slice_error.SliceError.TheVariants.{Len, IpHeaders}
 
--- The fault of the extension headers, told from the packet's start: they begin at offset k, and the source tells how
+-- The fault of the extension headers, counted from the packet's start: they begin at offset k, and the source tells how
 -- many bytes there are.
 abbrev pub auth_in_packet : LenSource → ℕ → AuthSliceError → AuthSliceError
 auth_in_packet source k (auth.Len e) = auth.Len (moved source k e)

@@ -27,6 +27,6 @@ ipv6_len_source n k =
 abbrev pub strict_error_source : ℕ → ℕ → LenSource
 strict_error_source n k = Ipv6HeaderPayloadLen
 
--- IPv6, lax: an error names what told the packet's length
+-- IPv6, lax: an error names what says the packet's length
 abbrev pub lax_error_source : ℕ → ℕ → LenSource
 lax_error_source n k = ipv6_len_source n k

@@ -9,7 +9,7 @@ use Rattle.ip_ext_ipv4.specs.Ipv4Parse.{IsIpv4ChainAnswer}
 use Rattle.etherparse_ip.specs.LenSources.{front, ipv4_len_source, ipv6_len_source}
 
 -- its base header, its extension headers and its payload; the payload's number, whether it is a fragment, and what
--- told where it ends
+-- says where it ends
 pub record Parts : Type 0 where
   pub base : List ℕ
   pub headers : List ExtHeader

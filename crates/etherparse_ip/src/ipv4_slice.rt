@@ -10,11 +10,11 @@ ghost use Rattle.etherparse_ip.specs.Fault.{auth_in_packet, ipv4_fault_behind, i
 
 use crate::err::ipv4::{HeaderSliceError, SliceError};
 use crate::err::{Layer, LenError, ip_auth};
-use crate::stretch::after;
+use crate::rest::after;
 use ip_base::{IpNumber, IpPayloadSlice, Ipv4HeaderSlice, LenSource};
 use ip_ext_ipv4::Ipv4ExtensionsSlice;
 
-/// An IPv4 packet (RFC 791): its base header, its extension headers and its payload, as stretches of the caller's
+/// An IPv4 packet (RFC 791): its base header, its extension headers and its payload, as parts of the caller's
 /// bytes. Two are equal where all their parts are.
 #[derive(Clone, Debug, PartialEq, Eq, Drop)]
 pub struct Ipv4Slice<'a> {
@@ -134,7 +134,7 @@ impl<'a> Ipv4Slice<'a> {
     }
 }
 
-/// The error of the extension headers, told from the packet's start.
+/// The error of the extension headers, counted from the packet's start.
 #[inline(always)]
 fn in_packet(error: ip_auth::HeaderSliceError, header_len: usize) -> ip_auth::HeaderSliceError
     requires { AuthOffsetFits error header_len }

@@ -12,11 +12,11 @@ ghost use Rattle.etherparse_ip.specs.Fault.{ipv6_fault_behind, ipv6_lax_fault_be
 use crate::err::ipv6::{HeaderSliceError, SliceError};
 use crate::err::{Layer, LenError, ipv6_exts};
 use crate::len_sources::{ipv6_front, lax_error_source, strict_error_source};
-use crate::stretch::after;
+use crate::rest::after;
 use ip_base::{IpNumber, IpPayloadSlice, Ipv6Header, Ipv6HeaderSlice, LenSource};
 use ip_ext_slices::Ipv6ExtensionsSlice;
 
-/// An IPv6 packet (RFC 8200): its base header, its extension headers and its payload, as stretches of the caller's
+/// An IPv6 packet (RFC 8200): its base header, its extension headers and its payload, as parts of the caller's
 /// bytes. Two are equal where all their parts are.
 #[derive(Clone, Debug, PartialEq, Eq, Drop)]
 pub struct Ipv6Slice<'a> {
@@ -58,7 +58,7 @@ impl<'a> Ipv6Slice<'a> {
     /// does.
     ///
     /// The error is that of `from_slice`, but it doesn't tell that the packet is cut short, and the length source
-    /// of an error in the extension headers is the one that told the packet's length.
+    /// of an error in the extension headers is the one that says the packet's length.
     #[inline(always)]
     pub fn from_slice_lax(slice: &'a [u8]) -> Result<Ipv6Slice<'a>, SliceError>
         ensures packet { IfOk result (λ x. IsIpv6Packet slice.now (ipv6_parts x)) }
@@ -186,7 +186,7 @@ impl<'a> Ipv6Slice<'a> {
     }
 }
 
-/// The error of the extension headers, told from the packet's start.
+/// The error of the extension headers, counted from the packet's start.
 #[inline(always)]
 fn in_packet(
     error: ipv6_exts::HeaderSliceError,

@@ -9,7 +9,7 @@ mod ipv4_slice;
 mod ipv6_slice;
 mod len_sources;
 mod packet_laws;
-mod stretch;
+mod rest;
 
 pub use ip_base::{
     IpFragOffset, IpNumber, IpPayloadSlice, Ipv4Header, Ipv4HeaderSlice, Ipv6Header,
@@ -24,6 +24,7 @@ pub use ip_ext_headers::{
     IpAuthenticationHeaderSlice, Ipv6FragmentHeader, Ipv6FragmentHeaderSlice, Ipv6RawExtHeader,
     Ipv6RawExtHeaderSlice, Ipv6RawExtensionHeader, Ipv6RawExtensionHeaderSlice,
 };
+pub use ip_io::io;
 pub use ip_slice::IpSlice;
 pub use ipv4_slice::Ipv4Slice;
 pub use ipv6_slice::Ipv6Slice;

@@ -1,13 +1,13 @@
 use crate::{IpNumber, LenSource};
 
-/// The payload of an IP packet, behind its extension headers, as a stretch of the caller's bytes.
+/// The payload of an IP packet, behind its extension headers, as a part of the caller's bytes.
 #[derive(Clone, Debug, PartialEq, Eq, Drop)]
 pub struct IpPayloadSlice<'a> {
     /// What the payload is.
     pub ip_number: IpNumber,
     /// Whether it is a fragment, and not the whole.
     pub fragmented: bool,
-    /// What told where the payload ends.
+    /// What says where the payload ends.
     pub len_source: LenSource,
     /// Its bytes.
     pub payload: &'a [u8],

@@ -11,7 +11,7 @@ use crate::err::{Layer, LenError};
 use crate::{IpNumber, Ipv4Header};
 use std::net::Ipv4Addr;
 
-/// The base header of an IPv4 packet with its options (RFC 791, section 3.1), as a stretch of the caller's
+/// The base header of an IPv4 packet with its options (RFC 791, section 3.1), as a part of the caller's
 /// bytes. Two are equal where their bytes are.
 #[derive(Clone, Copy, Debug)]
 pub struct Ipv4HeaderSlice<'a> {

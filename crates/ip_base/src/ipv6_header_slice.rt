@@ -12,7 +12,7 @@ use crate::err::{Layer, LenError};
 use crate::{IpNumber, Ipv6Header};
 use std::net::Ipv6Addr;
 
-/// The base header of an IPv6 packet (RFC 8200, section 3), as a stretch of the caller's bytes. Two are equal
+/// The base header of an IPv6 packet (RFC 8200, section 3), as a part of the caller's bytes. Two are equal
 /// where their bytes are.
 #[derive(Clone, Copy, Debug)]
 pub struct Ipv6HeaderSlice<'a> {

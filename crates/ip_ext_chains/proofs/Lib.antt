@@ -1,5 +1,7 @@
 pub mod PlacedLemmas
 pub mod RunsOfLemmas
+pub mod RunBytesLemmas
+pub mod RunNumberLemmas
 pub mod RunLemmas
 pub mod FittingLemmas
 pub mod HeldLemmas
@@ -7,6 +9,8 @@ pub mod RunSpellingLemmas
 pub mod WalkedLemmas
 pub mod WriteLemmas
 pub mod LinkedLemmas
+pub mod RefusedLemmas
+pub mod RewritingLemmas
 pub mod ReadingLemmas
 pub mod ReadIntoLemmas
 pub mod ReadErrorLemmas

@@ -110,14 +110,19 @@ module _ (m : ℕ) (c d : List ExtHeader) (v : Places Ipv6ExtensionSlice) (r : I
       let told = taken_told r.run m r.kept.meets in
       (λ t. told.0 (sym same ∙ t), λ t. same ∙ told.1 t)
 
+  pub run_passes : (before done : Bool) → before ≡ false → (done ≡ true → (d ≡ []) × (is_taken_in v m ≡ false)) → (done ≡ false → d ≡ [] → is_taken_in v m ≡ true)
+      → (if before then [] else runs_from m c) ≡ r.run ∷ (if done then [] else runs_from m d)
+  run_passes before done some ends on =
+      let free : done ≡ true → IsTaken m r.run → ⊥ = λ w t. let differ : true ≡ false = sym (taken_in.1 t) ∙ (ends w).1 in cc in
+      ap (λ b. if b then [] else runs_from m c) some
+      ∙ runs_from-next m c r.run r.kept done (λ w. (r.left ∙ (ends w).0, free w)) (λ w e. taken_in.0 (on w (sym r.left ∙ e)))
+      ∙ ap (λ l. r.run ∷ (if done then [] else runs_from m l)) r.left
+
   pub run_next : (before done : Bool) (x : Ipv6Extensions) → before ≡ false → x ≡ value_at v → (done ≡ true → (d ≡ []) × (is_taken_in v m ≡ false)) → (done ≡ false → d ≡ [] → is_taken_in v m ≡ true)
       → map value_of (if before then [] else runs_from m c) ≡ x ∷ map value_of (if done then [] else runs_from m d)
   run_next before done x some is ends on =
-      let free : done ≡ true → IsTaken m r.run → ⊥ = λ w t. let differ : true ≡ false = sym (taken_in.1 t) ∙ (ends w).1 in cc in
-      ap (λ b. map value_of (if b then [] else runs_from m c)) some
-      ∙ ap (map value_of) (runs_from-next m c r.run r.kept done (λ w. (r.left ∙ (ends w).0, free w)) (λ w e. taken_in.0 (on w (sym r.left ∙ e))))
-      ∙ ap (λ x. x ∷ map value_of (if done then [] else runs_from m r.kept.rest)) (sym (is ∙ value_placed r.run v r.placed))
-      ∙ ap (λ l. x ∷ map value_of (if done then [] else runs_from m l)) r.left
+      ap (map value_of) (run_passes before done some ends on)
+      ∙ ap (λ x. x ∷ map value_of (if done then [] else runs_from m d)) (sym (is ∙ value_placed r.run v r.placed))
 
 -- what an iterator over runs yields
 ended : (r s : Ipv6ExtensionsRuns) → GivesRun r None s → length (values_left r) ≡ 0

@@ -1,35 +1,26 @@
 -- What spells the values of runs: the runs themselves, with their reserved bits put to zero.
-use Rattle.std.proofs.Common.{◌≡◌, ℕ, ◌<◌, List, [], ◌∷◌, ◌++◌, length, map, refl, ap, sym, ◌∙◌, subst}
+use Rattle.std.proofs.Common.{◌≡◌, ℕ, List, [], ◌∷◌, ◌++◌, map, refl, ap, sym, ◌∙◌, subst, Bool, true, false}
+use Rattle.std.specs.Prelude.{if◌then◌else◌}
 use Rattle.std.specs.List.{flat_map, AllByRecursion}
-use Rattle.std.proofs.Math.Seq.{take-append_seam, drop-append_seam}
 use Rattle.std.proofs.lemmas.List.Concat.{flat_map-append}
-use Rattle.std.proofs.lemmas.List.Elements.{All-take, All-drop}
 use Rattle.ip_spec.specs.Encoding.{AreBytes}
-use Rattle.ip_spec.specs.Chain.{ExtHeader, leads_to, bytes_of}
+use Rattle.ip_spec.specs.Chain.{ExtHeader, IsChain, leads_to, bytes_of}
 use Rattle.ip_spec.specs.Encoded.{cleared_chain}
 use Rattle.ip_spec.specs.Fits.{FitsPlaces}
-use Rattle.ip_spec.specs.Runs.{AreChains, joined}
-use Rattle.ip_spec.proofs.PrefixLemmas.{prefix-append}
+use Rattle.ip_spec.specs.Runs.{AreChains, AreRuns, joined}
 use Rattle.ip_spec.proofs.ClearedLemmas.{cleared_leads}
 use Rattle.ip_spec.proofs.RunsLemmas.{runs_joined, runs_written, runs_fit, runs_chains}
 use Rattle.ip_spec.proofs.SpellingLemmas.{one_spelling, cleared_spells}
 use Rattle.ip_ext_slices.specs.Longest.{longest_chain}
 use Rattle.ip_ext_chains.specs.Ipv6Extensions.{value_of, held}
-use Rattle.ip_ext_chains.specs.Runs.{AreSpellings}
+use Rattle.ip_ext_chains.specs.Runs.{AreSpellings, runs_from}
+use Rattle.ip_ext_chains.specs.Ipv6ExtensionsRuns.{number_before}
 use Rattle.ip_ext_chains.specs.declared.ipv6_exts.Ipv6Extensions.{Ipv6Extensions}
 use Rattle.ip_ext_slices.proofs.LongestLemmas.{longest_chain-longest}
 use Rattle.ip_ext_chains.proofs.HeldLemmas.{held-value_of}
-use Rattle.ip_ext_chains.proofs.RunsOfLemmas.{AreRunsOf}
-
-module _ (c d : List ExtHeader) (b : AreBytes (bytes_of (c ++ d))) where
-  both_bytes : AreBytes (bytes_of c ++ bytes_of d)
-  both_bytes = subst AreBytes (flat_map-append (λ (h : ExtHeader). h.bytes) c d) b
-
-  first_bytes : AreBytes (bytes_of c)
-  first_bytes = subst AreBytes (take-append_seam (bytes_of c) (bytes_of d)) (All-take (λ x. x < 256) (length (bytes_of c)) (bytes_of c ++ bytes_of d) both_bytes)
-
-  later_bytes : AreBytes (bytes_of d)
-  later_bytes = subst AreBytes (drop-append_seam (bytes_of c) (bytes_of d)) (All-drop (λ x. x < 256) (length (bytes_of c)) (bytes_of c ++ bytes_of d) both_bytes)
+use Rattle.ip_ext_chains.proofs.RunsOfLemmas.{AreRunsOf, runs_from-runs}
+use Rattle.ip_ext_chains.proofs.RunBytesLemmas.{first_bytes, later_bytes, chain_bytes}
+use Rattle.ip_ext_chains.proofs.RunNumberLemmas.{chain_before}
 
 pub pieces_spelled : (n : ℕ) (ps : List (List ExtHeader)) → AreChains n ps → AllByRecursion FitsPlaces ps → AreBytes (bytes_of (joined ps)) → AreSpellings n (map value_of ps) (map cleared_chain ps)
 pieces_spelled n [] k f b = tt
@@ -55,22 +46,26 @@ bytes_joined [] = refl
 bytes_joined (p ∷ ps) =
     flat_map-append (λ (h : ExtHeader). h.bytes) (cleared_chain p) (joined (map cleared_chain ps)) ∙ ap (λ l. bytes_of (cleared_chain p) ++ l) (bytes_joined ps)
 
+chain_spelled : (n m : ℕ) (c : List ExtHeader) (ps : List (List ExtHeader)) → IsChain n c → AreRuns m c ps → AreBytes (bytes_of c) → AreSpellings n (map value_of ps) (map cleared_chain ps)
+chain_spelled n m c ps chain runs bytes =
+    let B : List ExtHeader → Type 0 = λ c. AreBytes (bytes_of c) in
+    pieces_spelled n ps (runs_chains n m c ps chain runs) (runs_fit m c ps runs) (subst B (sym (runs_joined m c ps runs)) bytes)
+
+-- the runs that are left of a chain, from the number before them
+pub left_spelled : (n m : ℕ) (s : List ℕ) (done : Bool) (j : ℕ) → AreBytes (bytes_of (longest_chain n s)) → j ≡ number_before m (longest_chain n s)
+    → AreSpellings j (map value_of (if done then [] else runs_from m (longest_chain n s))) (map cleared_chain (if done then [] else runs_from m (longest_chain n s)))
+left_spelled n m s true j bytes e = tt
+left_spelled n m s false j bytes e =
+    let c : List ExtHeader = longest_chain n s in
+    let S : ℕ → Type 0 = λ i. AreSpellings i (map value_of (runs_from m c)) (map cleared_chain (runs_from m c)) in
+    subst S (sym e) (chain_spelled (number_before m c) m c (runs_from m c) (chain_before n m c (longest_chain-longest n s).has.chain) (runs_from-runs m c) bytes)
+
 -- of the runs of the longest chain that begins bytes
 module _ (n : ℕ) (s : List ℕ) (bytes : AreBytes s) (ps : List (List ExtHeader)) (vs : List Ipv6Extensions) (are : AreRunsOf n s ps) (values : vs ≡ map value_of ps) where
-  chain_bytes : AreBytes (bytes_of (longest_chain n s))
-  chain_bytes =
-      let whole = prefix-append (bytes_of (longest_chain n s)) s (longest_chain-longest n s).has.prefix in
-      subst AreBytes (take-append_seam (bytes_of (longest_chain n s)) _) (All-take (λ x. x < 256) (length (bytes_of (longest_chain n s))) _ (subst AreBytes whole bytes))
-
   pub runs_spelled : AreSpellings n vs (map cleared_chain ps)
   runs_spelled =
-      let B : List ExtHeader → Type 0 = λ c. AreBytes (bytes_of c) in
       let S : List Ipv6Extensions → Type 0 = λ l. AreSpellings n l (map cleared_chain ps) in
-      subst S (sym values) (
-      pieces_spelled n ps
-      (runs_chains n _ (longest_chain n s) ps (longest_chain-longest n s).has.chain are.runs)
-      (runs_fit _ (longest_chain n s) ps are.runs)
-      (subst B (sym (runs_joined _ (longest_chain n s) ps are.runs)) chain_bytes))
+      subst S (sym values) (chain_spelled n _ (longest_chain n s) ps (longest_chain-longest n s).has.chain are.runs (chain_bytes n s bytes))
 
   pub spellings_written : (ds : List (List ExtHeader)) → AreSpellings n vs ds → bytes_of (joined ds) ≡ bytes_of (cleared_chain (longest_chain n s))
   spellings_written ds t =

@@ -1,7 +1,7 @@
 -- What an iterator over the runs of a chain has left.
-use Rattle.std.specs.Prelude.{◌≡◌, ℕ, List, [], map, Option, if◌then◌else◌}
+use Rattle.std.specs.Prelude.{◌≡◌, ℕ, List, [], ◌∷◌, map, Option, IfSome, if◌then◌else◌}
 use Rattle.std.specs.Iterator.{YieldsFirst}
-use Rattle.ip_spec.specs.Chain.{ExtHeader}
+use Rattle.ip_spec.specs.Chain.{ExtHeader, leads_to}
 use Rattle.ip_ext_chains.specs.Runs.{runs_from}
 use Rattle.ip_ext_slices.specs.Ipv6ExtensionSliceIter.{headers_left}
 use Rattle.ip_ext_chains.specs.Ipv6Extensions.{value_of}
@@ -23,6 +23,19 @@ runs_left r = if r.done then [] else runs_from r.number.0 (headers_left r.header
 abbrev pub values_left : Ipv6ExtensionsRuns → List Ipv6Extensions
 values_left r = map value_of (runs_left r)
 
--- the value of the next run is given, and what the iterator was made with stays
+-- the number of the first header, or m where there is none
+abbrev pub number_before : ℕ → List ExtHeader → ℕ
+number_before m [] = m
+number_before m (h ∷ c) = h.number
+
+-- the number from which the next run is to be written
+abbrev pub number_left : Ipv6ExtensionsRuns → ℕ
+number_left r = number_before r.number.0 (headers_left r.headers)
+
+-- the first of the runs to come is behind, and the number left is the one to which it leads
+abbrev pub PassesRun : Ipv6ExtensionsRuns → Ipv6ExtensionsRuns → Type 0
+PassesRun r s = (p : List ExtHeader) × (runs_left r ≡ p ∷ runs_left s) × (number_left s ≡ leads_to (number_left r) p)
+
+-- the value of the next run is given, that run is behind, and what the iterator was made with stays
 abbrev pub GivesRun : Ipv6ExtensionsRuns → Option Ipv6Extensions → Ipv6ExtensionsRuns → Type 0
-GivesRun r x s = YieldsFirst values_left r x s × (start s ≡ start r) × (input s ≡ input r)
+GivesRun r x s = YieldsFirst values_left r x s × (start s ≡ start r) × (input s ≡ input r) × IfSome x (λ _. PassesRun r s)

@@ -1,8 +1,10 @@
-ghost use Rattle.std.specs.Prelude.{◌≡◌, ◌≢◌};
+ghost use Rattle.std.specs.Prelude.{◌≡◌, ◌≢◌, [], IsTrue};
 ghost use Rattle.std.specs.List.{AllByRecursion};
-ghost use Rattle.ip_spec.specs.Chain.{leads_to};
+ghost use Rattle.ip_spec.specs.Encoding.{AreBytes};
+ghost use Rattle.ip_spec.specs.Chain.{leads_to, bytes_of};
 ghost use Rattle.ip_spec.specs.Parse.{rest_behind};
 ghost use Rattle.ip_ext_slices.specs.Longest.{longest_chain};
+ghost use Rattle.ip_ext_slices.specs.Ipv6ExtensionSliceIter.{headers_left};
 
 use crate::err::Layer;
 use crate::err::ipv6_exts::HeaderSliceError;
@@ -13,7 +15,7 @@ use ip_base::IpNumber;
 /// The headers of a chain in as few structs of six places as hold them, in order; then `None` for ever.
 #[derive(Debug, Drop)]
 pub struct Ipv6ExtensionsRuns<'a> {
-    // No call reads it: the contracts of `next` and `end` speak of it.
+    // No call reads it: the contracts of `next`, `next_number` and `end` speak of it.
     first: IpNumber,
     bytes: &'a [u8],
     headers: Ipv6ExtensionSliceIter<'a>,
@@ -22,18 +24,22 @@ pub struct Ipv6ExtensionsRuns<'a> {
     done: bool,
     pub ghost leads: { number.0 ≡ leads_to first.0 (longest_chain first.0 bytes.now) },
     pub ghost after: { rest.now ≡ rest_behind (longest_chain first.0 bytes.now) bytes.now },
+    // what is left of the chain leads where the chain does
+    pub ghost ends: { number.0 ≡ leads_to number.0 (headers_left headers) },
+    pub ghost are_bytes: { AreBytes (bytes_of (headers_left headers)) },
+    pub ghost last: { IsTrue done → headers_left headers ≡ [] },
 }
 
 impl<'a> Ipv6ExtensionsRuns<'a> {
     ghost use Rattle.std.specs.Prelude.{ℕ, ◌+◌, ◌/◌, ◌≤◌, List, [], length, map, IfSome, IfNone};
-    ghost use Rattle.ip_spec.specs.Chain.{ExtHeader, bytes_of};
+    ghost use Rattle.ip_spec.specs.Chain.{ExtHeader};
     ghost use Rattle.ip_spec.specs.Encoded.{cleared_chain};
     ghost use Rattle.ip_spec.specs.Fits.{FitsPlaces};
     ghost use Rattle.ip_spec.specs.Runs.{AreRuns, joined, how_many};
     ghost use Rattle.ip_ext_slices.specs.Fault.{chain_fault};
     ghost use Rattle.ip_ext_chains.specs.Runs.{runs_of, AreSpellings};
     ghost use Rattle.ip_ext_chains.specs.Ipv6Extensions.{value_of};
-    ghost use Rattle.ip_ext_chains.specs.Ipv6ExtensionsRuns.{start, input, runs_left, values_left};
+    ghost use Rattle.ip_ext_chains.specs.Ipv6ExtensionsRuns.{start, input, runs_left, values_left, number_left};
 
     /// The runs of the longest chain from the number that begins the bytes. There is one at least, and one for
     /// each 8 bytes and one more at most. No header is lost: written one after the other, the first from `first`
@@ -42,6 +48,7 @@ impl<'a> Ipv6ExtensionsRuns<'a> {
     pub fn new(first: IpNumber, bytes: &'a [u8]) -> Ipv6ExtensionsRuns<'a>
         ensures start { start result ≡ first.0 }
         ensures input { input result ≡ bytes.now }
+        ensures number { number_left result ≡ first.0 }
         ensures runs { runs_left result ≡ runs_of first.0 bytes.now }
         ensures values { values_left result ≡ map value_of (runs_of first.0 bytes.now) }
         ensures cut { AreRuns (leads_to first.0 (longest_chain first.0 bytes.now))
@@ -68,6 +75,21 @@ impl<'a> Ipv6ExtensionsRuns<'a> {
             rest,
             done: false,
         }
+    }
+
+    /// The number from which the next run is to be written: the first one, and from then on that to which the run
+    /// before leads. Behind the last run it is the number to which the chain leads.
+    pub fn next_number(&self) -> IpNumber
+        ensures number { result.0 ≡ number_left self.now }
+        ensures spelled { AreSpellings result.0 (values_left self.now)
+            (map cleared_chain (runs_left self.now)) }
+        ensures end { values_left self.now ≡ []
+            → result.0 ≡ leads_to (start self.now) (longest_chain (start self.now) (input self.now)) }
+    {
+        if self.headers.rest().is_empty() {
+            return self.number;
+        }
+        self.headers.next_number()
     }
 
     /// From the last item on, the number to which the chain leads, the bytes after it and the fault there. The

@@ -10,10 +10,10 @@ use crate::step::{after, fault, header_at, is_extension};
 use ip_base::{IpNumber, ip_number};
 use std::alloc::AllocError;
 
-/// The headers of the longest chain from a number that begins some bytes, once in order, then `None` for ever.
-/// Each is parsed when it is asked for, so who stops early pays for no more, and who goes to the end passes over
-/// the bytes once. Two cursors are equal where they were made with the same number and bytes and have come
-/// equally far.
+/// The headers of the longest chain (RFC 8200, section 4) from a number that begins some bytes, once in order,
+/// then `None` for ever. Each is parsed when it is asked for, so who stops early pays for no more, and who goes
+/// to the end passes over the bytes once. Two cursors are equal where they were made with the same number and
+/// bytes and have come equally far.
 #[derive(Debug, Drop)]
 pub struct Ipv6ExtensionsCursor<'a> {
     // Only `eq` reads it; the contracts of `next` and `end` speak of it.

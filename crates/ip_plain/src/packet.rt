@@ -81,7 +81,7 @@ fn push_lengths(
     )
 }
 
-/// Appends what the payload is, whether it is a fragment, and what told where it ends.
+/// Appends what the payload is, whether it is a fragment, and what says where it ends.
 fn push_payload(payload: &IpPayloadSlice<'_>, text: &mut String) -> Result<(), AllocError>
     ensures { OnOk result (string_bytes text.new ≡ string_bytes text.old
         ++ payload_line payload.now.ip_number.0 payload.now.fragmented payload.now.len_source) }

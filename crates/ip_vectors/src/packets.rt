@@ -10,7 +10,7 @@ use std::process::Abort;
 use std::test::Fail;
 
 /// How long the base header and the extension headers are; the payload's number and length, whether it is a
-/// fragment, and what told where it ends.
+/// fragment, and what says where it ends.
 #[derive(Clone, Copy, Debug, PartialEq)]
 struct Parts {
     header: usize,
@@ -22,7 +22,7 @@ struct Parts {
 }
 
 /// What a payload shows, behind headers of these lengths.
-fn parts(header: usize, exts: usize, payload: &IpPayloadSlice<'_>) -> Parts {
+fn parts_behind(header: usize, exts: usize, payload: &IpPayloadSlice<'_>) -> Parts {
     Parts {
         header,
         exts,
@@ -39,13 +39,13 @@ fn ipv4_parts(packet: &Ipv4Slice<'_>) -> Parts {
         .extensions()
         .auth
         .map_or(0, |header| header.slice().len());
-    parts(packet.header().slice().len(), exts, packet.payload())
+    parts_behind(packet.header().slice().len(), exts, packet.payload())
 }
 
 /// What an IPv6 packet shows.
 fn ipv6_parts(packet: &Ipv6Slice<'_>) -> Parts {
     let exts = packet.extensions().slice().len();
-    parts(packet.header().slice().len(), exts, packet.payload())
+    parts_behind(packet.header().slice().len(), exts, packet.payload())
 }
 
 /// An IPv4 packet from 10.0.0.1 to 10.0.0.2; `behind` begins with its options.
@@ -387,7 +387,7 @@ fn base_headers(rt: HostRuntime) -> Result<(), Fail> {
     let header = Ipv4HeaderSlice::from_slice(&bytes)
         .ok()
         .expect(&rt, "a header");
-    assert_eq!(rt; header.slice(), &bytes[..24]);
+    assert_eq!(rt; Some(header.slice()), bytes.get(..24));
     assert_eq!(rt; (header.total_len(), header.protocol()), (28, IpNumber(6)));
     assert!(rt; header.source_addr() == Ipv4Addr::new(10, 0, 0, 1));
     assert!(rt; header.destination_addr() == Ipv4Addr::new(10, 0, 0, 2));

@@ -229,6 +229,46 @@ fn one_run(rt: HostRuntime) -> Result<(), Fail> {
     check(&rt, rt.alloc(), &hop_by_hop)
 }
 
+/// The numbers before each run, and the one behind the last.
+#[test]
+fn numbers_before_runs(rt: HostRuntime) -> Result<(), Fail> {
+    let rows: [(&str, u8, &[u8], &[u8]); 4] = [
+        ("UDP goes on", 17, &[1, 2, 3], &[17, 17]),
+        (
+            "a third fragment header is cut",
+            44,
+            &[44, 0, 0, 0, 0, 0, 0, 1, 44, 0, 0, 0, 0, 0, 0, 2, 17, 0],
+            &[44, 44, 44, 44],
+        ),
+        (
+            "destination options and a fragment header, twice",
+            60,
+            &[
+                44, 0, 0, 0, 0, 0, 0, 0, 60, 0, 0, 0, 0, 0, 0, 0, 44, 0, 0, 0, 0, 0, 0, 0, 6, 0, 0,
+                0, 0, 0, 0, 0,
+            ],
+            &[60, 60, 6],
+        ),
+        (
+            "routing between two fragment headers",
+            44,
+            &[
+                43, 0, 0, 0, 0, 0, 0, 0, 44, 0, 0, 0, 0, 0, 0, 0, 17, 0, 0, 0, 0, 0, 0, 0,
+            ],
+            &[44, 44, 17],
+        ),
+    ];
+    for (name, start, bytes, numbers) in rows {
+        let mut runs = Ipv6ExtensionsRuns::new(IpNumber(start), bytes);
+        for number in numbers {
+            assert_eq!(&rt; runs.next_number(), IpNumber(*number), "{name}");
+            let _run = runs.next();
+        }
+        assert!(&rt; runs.end().is_some(), "{name}");
+    }
+    Ok(())
+}
+
 #[test]
 fn a_run_for_each_of_4096_headers(rt: HostRuntime) -> Result<(), Fail> {
     let mut bytes = Vec::new(rt.alloc());

@@ -4,5 +4,4 @@ pub mod OpenLineLemmas
 pub mod LineFieldLemmas
 pub mod ProgressLemmas
 pub mod MemoryLemmas
-pub mod RewrittenLemmas
 pub mod PacketLemmas

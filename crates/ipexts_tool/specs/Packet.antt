@@ -23,7 +23,7 @@ lengths_line name header exts payload =
 abbrev pub yes_or_no : Bool → List ℕ
 yes_or_no b = if b then codes "yes" else codes "no"
 
--- `next N fragmented yes source S`: the payload's number, whether it is a fragment, and what told where it ends
+-- `next N fragmented yes source S`: the payload's number, whether it is a fragment, and what says where it ends
 abbrev pub payload_line : ℕ → Bool → LenSource → List ℕ
 payload_line number fragmented source =
     codes "next " ++ decimal number ++ codes " fragmented " ++ yes_or_no fragmented

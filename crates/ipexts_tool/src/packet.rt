@@ -89,7 +89,7 @@ fn push_lengths<A: Allocator>(
     )
 }
 
-/// Appends what the payload is, whether it is a fragment, and what told where it ends.
+/// Appends what the payload is, whether it is a fragment, and what says where it ends.
 fn push_payload<A: Allocator>(
     payload: &IpPayloadSlice<'_>,
     text: &mut String<A>,

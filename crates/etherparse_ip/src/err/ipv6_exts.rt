@@ -1,5 +1,6 @@
 //! Errors of IPv6 extension headers and of chains of them.
 pub use ip_ext_chains::err::ipv6_exts::{
-    ExtsWalkError, HeaderError, HeaderSliceError, HeaderWriteError,
+    ExtsWalkError, HeaderError, HeaderLimitedReadError, HeaderReadError, HeaderSliceError,
+    HeaderWriteError,
 };
 pub use ip_ext_headers::err::ipv6_exts::ExtPayloadLenError;

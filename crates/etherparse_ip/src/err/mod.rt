@@ -7,3 +7,4 @@ pub mod ipv6_exts;
 
 pub use ip_base::err::{Layer, LenError, ValueTooBigError};
 pub use ip_ext_headers::err::ip_auth;
+pub use ip_io::err::io;

@@ -1,4 +1,4 @@
-use Rattle.ipexts_tool.proofs.RewrittenLemmas.{IsRewriting}
+use Rattle.ip_ext_chains.proofs.RewritingLemmas.{IsRewriting}
 use Rattle.ip_plain.proofs.runs.write_runs.Given as goal
 
 abbrev pub invariant-runs : goal.invariant-runs

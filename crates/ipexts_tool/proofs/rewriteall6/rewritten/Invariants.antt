@@ -1,4 +1,4 @@
-use Rattle.ipexts_tool.proofs.RewrittenLemmas.{IsRewriting}
+use Rattle.ip_ext_chains.proofs.RewritingLemmas.{IsRewriting}
 use Rattle.ipexts_tool.proofs.rewriteall6.rewritten.Given as goal
 
 abbrev pub invariant-runs : goal.invariant-runs

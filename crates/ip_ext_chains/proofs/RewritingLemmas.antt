@@ -1,0 +1,62 @@
+-- Runs that are written one after the other: what was written and what the others spell is the whole chain.
+use Rattle.std.proofs.Common.{◌≡◌, ℕ, ◌+◌, ◌≤◌, List, [], ◌∷◌, ◌++◌, length, map, ap, sym, ◌∙◌, arith, subst, append_assoc}
+use Rattle.std.specs.Prelude.{Some}
+use Rattle.std.proofs.lemmas.List.Concat.{flat_map-append}
+use Rattle.ip_spec.specs.Chain.{ExtHeader, bytes_of}
+use Rattle.ip_spec.specs.Encoded.{cleared_chain}
+use Rattle.ip_spec.specs.Runs.{joined}
+use Rattle.ip_spec.specs.Walk.{IsSpelling}
+use Rattle.ip_ext_slices.specs.Longest.{longest_chain}
+use Rattle.ip_ext_chains.specs.Runs.{runs_of, AreSpellings}
+use Rattle.ip_ext_chains.specs.Ipv6Extensions.{held}
+use Rattle.ip_ext_chains.specs.Ipv6ExtensionsRuns.{start, input, runs_left, values_left, PassesRun, GivesRun}
+use Rattle.ip_ext_chains.specs.declared.ipv6_exts.Ipv6Extensions.{Ipv6Extensions}
+use Rattle.ip_ext_chains.specs.declared.ipv6_exts_runs.Ipv6ExtensionsRuns.{Ipv6ExtensionsRuns}
+
+-- so many runs of the longest chain from n that begins s were written to `out`, and the others are spelled from m
+pub record IsRewriting (n : ℕ) (s : List ℕ) (r : Ipv6ExtensionsRuns) (m count : ℕ) (out : List ℕ) : Type 0 where
+  pub first : start r ≡ n
+  pub bytes : input r ≡ s
+  pub counted : count + length (runs_left r) ≡ length (runs_of n s)
+  pub spelled : AreSpellings m (values_left r) (map cleared_chain (runs_left r))
+  pub whole : out ++ bytes_of (joined (map cleared_chain (runs_left r))) ≡ bytes_of (cleared_chain (longest_chain n s))
+
+pub rewriting_begins : (n : ℕ) (s : List ℕ) (r : Ipv6ExtensionsRuns) (m : ℕ) (out : List ℕ) → start r ≡ n → input r ≡ s → runs_left r ≡ runs_of n s → AreSpellings n (values_left r) (map cleared_chain (runs_left r))
+    → ((ds : List (List ExtHeader)) → AreSpellings n (values_left r) ds → bytes_of (joined ds) ≡ bytes_of (cleared_chain (longest_chain n s))) → AreSpellings m (values_left r) (map cleared_chain (runs_left r)) → out ≡ [] → IsRewriting n s r m 0 out
+rewriting_begins n s r m out first bytes runs all written spelled none = record {
+  first = first;
+  bytes = bytes;
+  counted = omega (arith, ap length runs);
+  spelled = spelled;
+  whole = ap (λ l. l ++ bytes_of (joined (map cleared_chain (runs_left r)))) none ∙ written (map cleared_chain (runs_left r)) all;
+}
+
+-- the next run is given
+module _ (n : ℕ) (s : List ℕ) (r q : Ipv6ExtensionsRuns) (m count : ℕ) (out : List ℕ) (x : Ipv6Extensions) (k : IsRewriting n s r m count out) (given : GivesRun r (Some x) q) where
+  abbrev passes : PassesRun r q
+  passes = given.3
+
+  abbrev run : List ExtHeader
+  run = passes.0
+
+  pub rewriting_least : count + 1 ≤ length (runs_of n s)
+  rewriting_least = omega (arith, k.counted, ap length passes.1)
+
+  pub rewriting_spelled : IsSpelling (held x) m (cleared_chain run)
+  rewriting_spelled =
+      let V : List Ipv6Extensions → Type 0 = λ l. AreSpellings m l (map cleared_chain (runs_left r)) in
+      let R : List (List ExtHeader) → Type 0 = λ l. AreSpellings m (x ∷ values_left q) (map cleared_chain l) in
+      (subst R passes.1 (subst V given.0 k.spelled)).0
+
+  pub rewriting_goes : (j : ℕ) (more : List ℕ) → AreSpellings j (values_left q) (map cleared_chain (runs_left q)) → more ≡ out ++ bytes_of (cleared_chain run) → IsRewriting n s q j (count + 1) more
+  rewriting_goes j more spelled written = record {
+    first = given.1 ∙ k.first;
+    bytes = given.2 ∙ k.bytes;
+    counted = omega (arith, k.counted, ap length passes.1);
+    spelled = spelled;
+    whole =
+        ap (λ l. l ++ bytes_of (joined (map cleared_chain (runs_left q)))) written
+        ∙ append_assoc out (bytes_of (cleared_chain run)) (bytes_of (joined (map cleared_chain (runs_left q))))
+        ∙ ap (λ l. out ++ l) (sym (flat_map-append (λ (h : ExtHeader). h.bytes) (cleared_chain run) (joined (map cleared_chain (runs_left q)))) ∙ ap (λ l. bytes_of (joined (map cleared_chain l))) (sym passes.1))
+        ∙ k.whole;
+  }

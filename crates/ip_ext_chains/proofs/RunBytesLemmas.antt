@@ -1,0 +1,25 @@
+-- The headers of a chain that begins bytes have bytes, and so have those of its parts.
+use Rattle.std.proofs.Common.{ℕ, ◌<◌, List, ◌++◌, length, subst}
+use Rattle.std.proofs.Math.Seq.{take-append_seam, drop-append_seam}
+use Rattle.std.proofs.lemmas.List.Concat.{flat_map-append}
+use Rattle.std.proofs.lemmas.List.Elements.{All-take, All-drop}
+use Rattle.ip_spec.specs.Encoding.{AreBytes}
+use Rattle.ip_spec.specs.Chain.{ExtHeader, bytes_of}
+use Rattle.ip_spec.proofs.PrefixLemmas.{prefix-append}
+use Rattle.ip_ext_slices.specs.Longest.{longest_chain}
+use Rattle.ip_ext_slices.proofs.LongestLemmas.{longest_chain-longest}
+
+module _ (c d : List ExtHeader) (b : AreBytes (bytes_of (c ++ d))) where
+  both_bytes : AreBytes (bytes_of c ++ bytes_of d)
+  both_bytes = subst AreBytes (flat_map-append (λ (h : ExtHeader). h.bytes) c d) b
+
+  pub first_bytes : AreBytes (bytes_of c)
+  first_bytes = subst AreBytes (take-append_seam (bytes_of c) (bytes_of d)) (All-take (λ x. x < 256) (length (bytes_of c)) (bytes_of c ++ bytes_of d) both_bytes)
+
+  pub later_bytes : AreBytes (bytes_of d)
+  later_bytes = subst AreBytes (drop-append_seam (bytes_of c) (bytes_of d)) (All-drop (λ x. x < 256) (length (bytes_of c)) (bytes_of c ++ bytes_of d) both_bytes)
+
+pub chain_bytes : (n : ℕ) (s : List ℕ) → AreBytes s → AreBytes (bytes_of (longest_chain n s))
+chain_bytes n s bytes =
+    let whole = prefix-append (bytes_of (longest_chain n s)) s (longest_chain-longest n s).has.prefix in
+    subst AreBytes (take-append_seam (bytes_of (longest_chain n s)) _) (All-take (λ x. x < 256) (length (bytes_of (longest_chain n s))) _ (subst AreBytes whole bytes))

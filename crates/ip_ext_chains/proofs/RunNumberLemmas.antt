@@ -1,0 +1,65 @@
+-- The number before the runs to come: it begins the headers that are left, and each run leads to the next one.
+use Rattle.std.proofs.Common.{◌≡◌, ◌≢◌, ℕ, List, [], ◌∷◌, ◌++◌, map, refl, ap, sym, ◌∙◌, Bool, true, false, subst}
+use Rattle.std.specs.Prelude.{if◌then◌else◌}
+use Rattle.ip_spec.specs.Encoding.{AreBytes}
+use Rattle.ip_spec.specs.Chain.{ExtHeader, leads_to, bytes_of, IsChain}
+use Rattle.ip_spec.proofs.RunsLemmas.{chain_behind, leads_to-append}
+use Rattle.ip_ext_chains.specs.Ipv6Extensions.{value_of}
+use Rattle.ip_ext_chains.specs.Runs.{runs_from}
+use Rattle.ip_ext_chains.specs.Run.{IsRun}
+use Rattle.ip_ext_chains.specs.Ipv6ExtensionsRuns.{number_before}
+use Rattle.ip_ext_chains.specs.declared.places.Places.{Places}
+use Rattle.ip_ext_slices.specs.declared.ipv6_ext_slice.Ipv6ExtensionSlice.{Ipv6ExtensionSlice}
+use Rattle.ip_ext_chains.proofs.RunsOfLemmas.{values_left-some}
+use Rattle.ip_ext_chains.proofs.RunBytesLemmas.{later_bytes}
+
+-- of a chain from n that leads to m
+pub number_before-chain : (n m : ℕ) (c : List ExtHeader) → IsChain n c → m ≡ leads_to n c → number_before m c ≡ n
+number_before-chain n m [] k e = e
+number_before-chain n m (h ∷ c) k e = k.links.0
+
+-- where it leads doesn't depend on where it begins, but for the empty chain
+pub leads_alike : (n m : ℕ) (c : List ExtHeader) → m ≡ leads_to n c → m ≡ leads_to m c
+leads_alike n m [] e = refl
+leads_alike n m (h ∷ c) e = e
+
+-- the same from the number before it
+pub leads_before : (m : ℕ) (c : List ExtHeader) → m ≡ leads_to m c → m ≡ leads_to (number_before m c) c
+leads_before m [] e = refl
+leads_before m (h ∷ c) e = e
+
+pub chain_before : (n m : ℕ) (c : List ExtHeader) → IsChain n c → IsChain (number_before m c) c
+chain_before n m [] k = record { headers = tt; links = tt; zero_only_first = tt }
+chain_before n m (h ∷ c) k = let C : ℕ → Type 0 = λ j. IsChain j (h ∷ c) in subst C (sym k.links.0) k
+
+pub number_before-some : (n m : ℕ) (c : List ExtHeader) → IsChain n c → c ≢ [] → n ≡ number_before m c
+number_before-some n m [] k some = absurd (some refl)
+number_before-some n m (h ∷ c) k some = sym k.links.0
+
+-- where no run is left, no header is, and the number is that to which the chain leads
+pub number_before-end : (m : ℕ) (c : List ExtHeader) (done : Bool) → (done ≡ true → c ≡ []) → map value_of (if done then [] else runs_from m c) ≡ [] → number_before m c ≡ m
+number_before-end m c true last e = ap (number_before m) (last refl)
+number_before-end m c false last e = absurd (values_left-some false m c refl e)
+
+-- The headers c, which lead to m, are a run and those that are left, d.
+module _ (n m : ℕ) (c d : List ExtHeader) (v : Places Ipv6ExtensionSlice) (chain : IsChain n c) (ends : m ≡ leads_to m c) (r : IsRun c v d) where
+  abbrev p : List ExtHeader
+  p = r.run
+
+  joined : c ≡ p ++ d
+  joined = r.kept.joined ∙ ap (λ l. p ++ l) r.left
+
+  both : IsChain (number_before m c) (p ++ d)
+  both = let C : List ExtHeader → Type 0 = IsChain (number_before m c) in subst C joined (chain_before n m c chain)
+
+  on : m ≡ leads_to (leads_to (number_before m c) p) d
+  on = leads_before m c ends ∙ ap (leads_to (number_before m c)) joined ∙ leads_to-append (number_before m c) p d
+
+  pub run_leads : number_before m d ≡ leads_to (number_before m c) p
+  run_leads = number_before-chain (leads_to (number_before m c) p) m d (chain_behind (number_before m c) p d both) on
+
+  pub bytes_behind : AreBytes (bytes_of c) → AreBytes (bytes_of d)
+  bytes_behind bytes = let B : List ExtHeader → Type 0 = λ l. AreBytes (bytes_of l) in later_bytes p d (subst B joined bytes)
+
+  pub ends_behind : m ≡ leads_to m d
+  ends_behind = leads_alike (leads_to (number_before m c) p) m d on

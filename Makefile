@@ -1,7 +1,7 @@
 # `make run` answers the lines of standard input; `make try` answers some lines within seconds, with checks as they
 # run in place of proofs, which it tells on standard error; `make test` holds the listed contracts against the
 # code, tries the program and passes the merge gate;
-# `make mutants` tries the wrong bodies of mutants/ (CRATE=NAME: those of one crate; ONLY=WORD: those whose names
+# `make mutants` tries the mutants of mutants/ (CRATE=NAME: those of one crate; ONLY=WORD: those whose names
 # have the word). `make bench` measures and `make diff` compares against etherparse 0.19.0; `make diff-test` tests
 # the comparison. These three take CARGO_FLAGS="..", further flags for Cargo, as one that says where the crate lies
 # on a machine without a network.

@@ -8,6 +8,6 @@ use Rattle.ip_base.specs.declared.len_source.LenSource.{LenSource}
 abbrev pub too_short : LenSource → ℕ → ℕ → Layer → ℕ → LenError
 too_short source n k layer required = record { required_len = required; len = n; len_source = source; layer = layer; layer_start_offset = k }
 
--- the same error, told from k bytes further to the front and with this source
+-- the same error, counted from k bytes further to the front and with this source
 abbrev pub moved : LenSource → ℕ → LenError → LenError
 moved source k e = record e { len_source = source; layer_start_offset = e.layer_start_offset + k }

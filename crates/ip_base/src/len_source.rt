@@ -1,6 +1,6 @@
 ghost use Rattle.std.specs.Prelude.{◌≡◌};
 
-/// What told how many bytes there are.
+/// What says how many bytes there are.
 #[derive(Clone, Copy, Debug, PartialEq, Eq, Hash)]
 pub enum LenSource {
     /// The length of the slice that was handed in.

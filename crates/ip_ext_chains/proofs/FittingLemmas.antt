@@ -16,7 +16,7 @@ use Rattle.ip_spec.proofs.FitsLemmas.{fits_places, fitting_ends, next_taken}
 use Rattle.ip_spec.proofs.UnderLemmas.{some_longest_under, one_longest_under, kept_is_longest}
 use Rattle.ip_spec.proofs.RunsLemmas.{chain_behind}
 use Rattle.ip_ext_slices.specs.Longest.{longest_chain}
-use Rattle.ip_ext_chains.specs.Fitting.{fitting_chain, fitting_faults, fitting_fault, IsFittingAnswer, IsWalked}
+use Rattle.ip_ext_chains.specs.Fitting.{fitting_chain, fitting_faults, fitting_fault, IsFittingAnswer, IsPlacedAnswer}
 use Rattle.ip_base.specs.declared.len_source.LenSource.TheVariants.{Slice}
 use Rattle.ip_ext_slices.specs.Fault.{Fault, chain_faults, chain_fault}
 use Rattle.ip_ext_chains.specs.Places.{ArePlaced, is_taken_in, value_at, AreOfNumber}
@@ -54,7 +54,7 @@ module _ (n : ℕ) (s : List ℕ) (left : List ExtHeader) (v : Places Ipv6Extens
       let both : bytes_of (k.run ++ left) ≡ bytes_of k.run ++ bytes_of left = flat_map-append (λ h. h.bytes) k.run left in
       omega (arith, ap (λ c. length (bytes_of c)) run_whole, ap length both, length-append (bytes_of k.run) (bytes_of left))
 
-  walked : (m : ℕ) (r : List ℕ) (f : Option Fault) → m ≡ leads_to n k.run → r ≡ drop (length (bytes_of k.run)) s → f ≡ fitting_fault n s → IsWalked n s v m r f
+  walked : (m : ℕ) (r : List ℕ) (f : Option Fault) → m ≡ leads_to n k.run → r ≡ drop (length (bytes_of k.run)) s → f ≡ fitting_fault n s → IsPlacedAnswer n s v m r f
   walked m r f em er ef =
       let A : List ExtHeader → Type 0 = λ c. ArePlaced c v in
       record {
@@ -65,7 +65,7 @@ module _ (n : ℕ) (s : List ℕ) (left : List ExtHeader) (v : Places Ipv6Extens
       }
 
 -- Where headers are left, the place of the next one is taken.
-walked_on : (n : ℕ) (s : List ℕ) (left : List ExtHeader) (v : Places Ipv6ExtensionSlice) → IsRun (longest_chain n s) v left → left ≢ [] → (m : ℕ) → IsChain m left → (r : List ℕ) → r ≡ drop (length (bytes_of (longest_chain n s)) - length (bytes_of left)) s → IsWalked n s v m r None
+walked_on : (n : ℕ) (s : List ℕ) (left : List ExtHeader) (v : Places Ipv6ExtensionSlice) → IsRun (longest_chain n s) v left → left ≢ [] → (m : ℕ) → IsChain m left → (r : List ℕ) → r ≡ drop (length (bytes_of (longest_chain n s)) - length (bytes_of left)) s → IsPlacedAnswer n s v m r None
 walked_on n s [] v k some m chain r er = absurd (some refl)
 walked_on n s (h ∷ left) v k some m chain r er =
     let c : List ExtHeader = k.run in
@@ -78,7 +78,7 @@ walked_on n s (h ∷ left) v k some m chain r er =
     walked n s (h ∷ left) v k m r None (sym chain.links.0 ∙ number) (er ∙ ap (λ j. drop j s) (run_len n s (h ∷ left) v k)) (sym (no_fault _ _ told))
 
 -- Where none is, it is the whole chain.
-walked_whole : (n : ℕ) (s : List ℕ) (left : List ExtHeader) (v : Places Ipv6ExtensionSlice) → IsRun (longest_chain n s) v left → left ≡ [] → (m : ℕ) (r : List ℕ) (f g : Option Fault) → m ≡ leads_to n (longest_chain n s) → r ≡ rest_behind (longest_chain n s) s → g ≡ chain_fault n s → f ≡ (if is_taken_in v m then None else g) → IsWalked n s v m r f
+walked_whole : (n : ℕ) (s : List ℕ) (left : List ExtHeader) (v : Places Ipv6ExtensionSlice) → IsRun (longest_chain n s) v left → left ≡ [] → (m : ℕ) (r : List ℕ) (f g : Option Fault) → m ≡ leads_to n (longest_chain n s) → r ≡ rest_behind (longest_chain n s) s → g ≡ chain_fault n s → f ≡ (if is_taken_in v m then None else g) → IsPlacedAnswer n s v m r f
 walked_whole n s left v k none m r f g em er eg ef =
     let c : List ExtHeader = k.run in
     let all : longest_chain n s ≡ c = run_whole n s left v k ∙ ap (λ l. c ++ l) none ∙ append-nil c in
@@ -95,11 +95,11 @@ module _ (n : ℕ) (s : List ℕ) (all left : List ExtHeader) (v : Places Ipv6Ex
   of_longest : IsRun (longest_chain n s) v left
   of_longest = let R : List ExtHeader → Type 0 = λ c. IsRun c v left in subst R e k
 
-  pub walk_stops : left ≢ [] → (m : ℕ) → IsChain m left → (b q r : List ℕ) → b ≡ bytes_of all → bytes_of left ≡ q → r ≡ drop (length b - length q) s → IsWalked n s v m r None
+  pub walk_stops : left ≢ [] → (m : ℕ) → IsChain m left → (b q r : List ℕ) → b ≡ bytes_of all → bytes_of left ≡ q → r ≡ drop (length b - length q) s → IsPlacedAnswer n s v m r None
   walk_stops some m chain b q r eb eq er =
       walked_on n s left v of_longest some m chain r (er ∙ ap (λ (d : List ℕ). drop (length d - length q) s) (eb ∙ ap bytes_of e) ∙ ap (λ (d : List ℕ). drop (length (bytes_of (longest_chain n s)) - length d) s) (sym eq))
 
-  pub walk_ends : left ≡ [] → (m : ℕ) (r : List ℕ) (f g : Option Fault) → m ≡ leads_to n (longest_chain n s) → r ≡ rest_behind (longest_chain n s) s → g ≡ chain_fault n s → f ≡ (if is_taken_in v m then None else g) → IsWalked n s v m r f
+  pub walk_ends : left ≡ [] → (m : ℕ) (r : List ℕ) (f g : Option Fault) → m ≡ leads_to n (longest_chain n s) → r ≡ rest_behind (longest_chain n s) s → g ≡ chain_fault n s → f ≡ (if is_taken_in v m then None else g) → IsPlacedAnswer n s v m r f
   walk_ends = walked_whole n s left v of_longest
 
 -- At an extension number whose place is free there is a fault behind it.
@@ -115,7 +115,7 @@ fitting_fault_at_end n s c l number free =
     ]
 
 -- what the walk answers is all that the parse needs
-module _ (n : ℕ) (s : List ℕ) (v : Places Ipv6ExtensionSlice) (m : ℕ) (r : List ℕ) (f : Option Fault) (k : IsWalked n s v m r f) where
+module _ (n : ℕ) (s : List ℕ) (v : Places Ipv6ExtensionSlice) (m : ℕ) (r : List ℕ) (f : Option Fault) (k : IsPlacedAnswer n s v m r f) where
   pub walked_numbers : AreOfNumber v
   walked_numbers = placed_numbers (fitting_chain n s) v k.placed
 

@@ -4,7 +4,7 @@ pub mod RunBytesLemmas
 pub mod RunNumberLemmas
 pub mod RunLemmas
 pub mod FittingLemmas
-pub mod HeldLemmas
+pub mod PlacedFieldsLemmas
 pub mod RunSpellingLemmas
 pub mod WalkedLemmas
 pub mod WriteLemmas

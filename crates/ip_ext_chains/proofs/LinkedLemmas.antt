@@ -4,12 +4,12 @@ use Rattle.std.specs.Prelude.{Option, Some, None, is_some, if◌then◌else◌}
 use Rattle.std.specs.List.{find}
 use Rattle.std.specs.Option.{option_map, option_map_or}
 use Rattle.ip_spec.specs.Places.{Place, number_in, HeaderFields}
-use Rattle.ip_spec.specs.Walk.{Held, WalkAnswer, IsWalkAnswer}
+use Rattle.ip_spec.specs.Walk.{PlacedFields, WalkAnswer, IsWalkAnswer}
 use Rattle.ip_spec.specs.Links.{relinked, first_number}
 use Rattle.ip_spec.proofs.WalkStepLemmas.{same_held}
 
 -- the number to which what is before a place leads
-pub number_before : {X : Type 0} (v : Held) (p : Place) (ps : List Place) (m : ℕ) (f : X → HeaderFields) (o : Option X) (r n : ℕ)
+pub number_before : {X : Type 0} (v : PlacedFields) (p : Place) (ps : List Place) (m : ℕ) (f : X → HeaderFields) (o : Option X) (r n : ℕ)
     → v p ≡ option_map f o → r ≡ (if is_some o then number_in p else n) → n ≡ first_number v ps m → r ≡ first_number v (p ∷ ps) m
 number_before {X} v p ps m f o r n here is behind =
     is ∙ ap (λ k. if is_some o then number_in p else k) behind ∙ either o
@@ -23,8 +23,8 @@ number_before {X} v p ps m f o r n here is behind =
 pub linked_to : (x y z : Option HeaderFields) (k n : ℕ) → x ≡ option_map (relinked k) y → y ≡ z → k ≡ n → x ≡ option_map (relinked n) z
 linked_to x y z k n e f g = e ∙ ap (option_map (relinked k)) f ∙ ap (λ j. option_map (relinked j) z) g
 
-pub answer_same : (v w : Held) (f g : ℕ) (a : WalkAnswer) → ((p : Place) → v p ≡ w p) → f ≡ g → IsWalkAnswer w g a → IsWalkAnswer v f a
+pub answer_same : (v w : PlacedFields) (f g : ℕ) (a : WalkAnswer) → ((p : Place) → v p ≡ w p) → f ≡ g → IsWalkAnswer w g a → IsWalkAnswer v f a
 answer_same v w f g a e k x =
-    let V : Held → Type 0 = λ u. IsWalkAnswer u f a in
+    let V : PlacedFields → Type 0 = λ u. IsWalkAnswer u f a in
     let F : ℕ → Type 0 = λ j. IsWalkAnswer w j a in
     subst V (sym (same_held v w e)) (subst F (sym k) x)

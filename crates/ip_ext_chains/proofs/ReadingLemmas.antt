@@ -23,11 +23,11 @@ use Rattle.ip_ext_slices.specs.Fault.{Fault, fault_at, chain_faults}
 use Rattle.ip_ext_slices.proofs.FaultLemmas.{end_at_other, no_fault_at_other}
 use Rattle.ip_ext_slices.proofs.RequestFaultLemmas.{fault_ends}
 use Rattle.ip_ext_chains.specs.Fitting.{fitting_chain, fitting_faults, fitting_fault, IsFittingAnswer}
-use Rattle.ip_ext_chains.specs.Ipv6Extensions.{value_of, held, final_of}
+use Rattle.ip_ext_chains.specs.Ipv6Extensions.{value_of, placed_fields, final_of}
 use Rattle.ip_ext_chains.specs.Reading.{with_header, IsNextPlace, HasNoPlace, IsReadInto}
 use Rattle.ip_ext_chains.specs.declared.ipv6_exts.Ipv6Extensions.{Ipv6Extensions}
 use Rattle.ip_ext_chains.specs.declared.ipv6_routing_exts.Ipv6RoutingExtensions.{Ipv6RoutingExtensions}
-use Rattle.ip_ext_chains.proofs.HeldLemmas.{held-value_of, held_one}
+use Rattle.ip_ext_chains.proofs.PlacedFieldsLemmas.{placed_fields-value_of, placed_fields_one}
 
 -- The chain c from n was read, fits, leads to m and has the value v; `first` tells that it has no header.
 pub record IsReading (n : ℕ) (c : List ExtHeader) (m : ℕ) (v : Ipv6Extensions) (first : Bool) : Type 0 where
@@ -46,8 +46,8 @@ is_some_map f None = refl
 
 -- What is filled of the value is filled of the chain.
 module _ (c : List ExtHeader) (v : Ipv6Extensions) (e : v ≡ value_of c) where
-  pub filled : (p : Place) → is_some (held v p) ≡ is_some (header_in p c)
-  filled p = ap (λ (w : Ipv6Extensions). is_some (held w p)) e ∙ ap is_some (held-value_of c p) ∙ is_some_map fields_of (header_in p c)
+  pub filled : (p : Place) → is_some (placed_fields v p) ≡ is_some (header_in p c)
+  filled p = ap (λ (w : Ipv6Extensions). is_some (placed_fields w p)) e ∙ ap is_some (placed_fields-value_of c p) ∙ is_some_map fields_of (header_in p c)
 
   pub routing_there : is_some v.routing ≡ has_routing c
   routing_there = sym (is_some_map (λ (r : Ipv6RoutingExtensions). raw_header r.routing) v.routing) ∙ filled routing
@@ -129,8 +129,8 @@ module _ (b : List ℕ) where
   own_final (Some r) e = refl
 
 -- One header more.
-put_held : (p q : Place) (b : List ℕ) (v : Ipv6Extensions) → is_some (held v p) ≡ false → (p ≡ final_destination → is_some v.routing ≡ true)
-    → held (with_header p b v) q ≡ (if index p == index q then Some (fields_of (record { number = number_in p; bytes = b })) else held v q)
+put_held : (p q : Place) (b : List ℕ) (v : Ipv6Extensions) → is_some (placed_fields v p) ≡ false → (p ≡ final_destination → is_some v.routing ≡ true)
+    → placed_fields (with_header p b v) q ≡ (if index p == index q then Some (fields_of (record { number = number_in p; bytes = b })) else placed_fields v q)
 put_held hop_by_hop hop_by_hop b v free nested = refl
 put_held hop_by_hop destination b v free nested = refl
 put_held hop_by_hop routing b v free nested = refl
@@ -194,7 +194,7 @@ module _ (n : ℕ) (c : List ExtHeader) (m : ℕ) (v : Ipv6Extensions) (first : 
         (λ z. let there = own_place m (is_some v.routing) (subst X (sym k.number) z) in none-some there.0 (sym e ∙ there.1))
     | inr (p, e) ↦
         let own : place_of m (has_routing c) ≡ Some p = ap (place_of m) (sym (routing_there c v k.value)) ∙ e in
-        elim (cases_Bool (is_some (held v p))) [
+        elim (cases_Bool (is_some (placed_fields v p))) [
           | inl there ↦
               let taken : is_taken (leads_to n c) c ≡ true =
               ap (λ (j : ℕ). is_taken j c) (sym k.number) ∙ ap (λ (o : Option Place). not (m == 0) && option_map_or (λ (q : Place). is_some (header_in q c)) o false) own
@@ -241,14 +241,14 @@ module _ (n : ℕ) (c : List ExtHeader) (m : ℕ) (v : Ipv6Extensions) (first : 
           chain = (goes_on n s c h (record { chain = k.chain; prefix = prefix_of-append (bytes_of c) r.bytes s refl }) there).chain;
           fits = fits_more c h p k.fits own free_in;
           number = r.next ∙ sym (leads_to-more n c h);
-          value = held_one w (value_of (c ++ h ∷ [])) (λ q.
-              ap (λ (u : Ipv6Extensions). held u q) r.value
+          value = placed_fields_one w (value_of (c ++ h ∷ [])) (λ q.
+              ap (λ (u : Ipv6Extensions). placed_fields u q) r.value
               ∙ put_held p q r.bytes v next.free nested
-              ∙ ap (λ (i : ℕ). if index p == index q then Some (fields_of (record { number = i; bytes = r.bytes })) else held v q) (sym is_number_in)
-              ∙ ap (λ (o : Option HeaderFields). if index p == index q then Some (fields_of h) else o) (ap (λ (u : Ipv6Extensions). held u q) k.value ∙ held-value_of c q)
+              ∙ ap (λ (i : ℕ). if index p == index q then Some (fields_of (record { number = i; bytes = r.bytes })) else placed_fields v q) (sym is_number_in)
+              ∙ ap (λ (o : Option HeaderFields). if index p == index q then Some (fields_of h) else o) (ap (λ (u : Ipv6Extensions). placed_fields u q) k.value ∙ placed_fields-value_of c q)
               ∙ sym (mapped_if fields_of (index p == index q) h (header_in q c))
               ∙ ap (option_map fields_of) (sym (placed c h p own (none_of (header_in p c) free_in) q))
-              ∙ sym (held-value_of (c ++ h ∷ []) q));
+              ∙ sym (placed_fields-value_of (c ++ h ∷ []) q));
           none_yet = more_first c h;
         }
 
@@ -259,21 +259,21 @@ count_empty (Some x) = 0
 
 abbrev pub free_places : Ipv6Extensions → ℕ
 free_places v =
-    count_empty (held v hop_by_hop) + (count_empty (held v destination) + (count_empty (held v routing) + (count_empty (held v fragment) + (count_empty (held v authentication) + count_empty (held v final_destination)))))
+    count_empty (placed_fields v hop_by_hop) + (count_empty (placed_fields v destination) + (count_empty (placed_fields v routing) + (count_empty (placed_fields v fragment) + (count_empty (placed_fields v authentication) + count_empty (placed_fields v final_destination)))))
 
 one_empty : (o : Option HeaderFields) → is_some o ≡ false → count_empty o ≡ 1
 one_empty o e = ap count_empty (none_of o e)
 
-fewer_at : (p : Place) (b : List ℕ) (v : Ipv6Extensions) → is_some (held v p) ≡ false → (p ≡ final_destination → is_some v.routing ≡ true) → free_places (with_header p b v) < free_places v
-fewer_at hop_by_hop b v free nested = omega (arith, one_empty (held v hop_by_hop) free)
-fewer_at destination b v free nested = omega (arith, one_empty (held v destination) free)
-fewer_at routing b v free nested = omega (arith, one_empty (held v routing) free, ap count_empty (no_final v.routing free))
-fewer_at fragment b v free nested = omega (arith, one_empty (held v fragment) free)
-fewer_at authentication b v free nested = omega (arith, one_empty (held v authentication) free)
+fewer_at : (p : Place) (b : List ℕ) (v : Ipv6Extensions) → is_some (placed_fields v p) ≡ false → (p ≡ final_destination → is_some v.routing ≡ true) → free_places (with_header p b v) < free_places v
+fewer_at hop_by_hop b v free nested = omega (arith, one_empty (placed_fields v hop_by_hop) free)
+fewer_at destination b v free nested = omega (arith, one_empty (placed_fields v destination) free)
+fewer_at routing b v free nested = omega (arith, one_empty (placed_fields v routing) free, ap count_empty (no_final v.routing free))
+fewer_at fragment b v free nested = omega (arith, one_empty (placed_fields v fragment) free)
+fewer_at authentication b v free nested = omega (arith, one_empty (placed_fields v authentication) free)
 fewer_at final_destination b v free nested =
     omega (
       arith,
-      one_empty (held v final_destination) free,
+      one_empty (placed_fields v final_destination) free,
       ap count_empty (put_held final_destination final_destination b v free nested),
       ap count_empty (put_held final_destination routing b v free nested),
     )

@@ -9,7 +9,7 @@ use Rattle.ip_spec.specs.Encoding.{AreBytes}
 use Rattle.ip_spec.specs.Walk.{leads, hop_by_hop_not_at_start, not_referenced, IsSpelling}
 use Rattle.ip_spec.proofs.SpellingLemmas.{one_answer, spelled_leads}
 use Rattle.ip_ext_chains.specs.Fitting.{fitting_chain}
-use Rattle.ip_ext_chains.specs.Ipv6Extensions.{value_of, held}
+use Rattle.ip_ext_chains.specs.Ipv6Extensions.{value_of, placed_fields}
 use Rattle.ip_ext_chains.specs.Walk.{walk_answer}
 use Rattle.ip_ext_chains.specs.Write.{IsWalkFault}
 use Rattle.ip_ext_chains.specs.WriteError.{io_of, content_of}
@@ -31,11 +31,11 @@ same_some (Some x) = refl
 -- A write of v from n ended with e, of which `o` shows the refusal of memory.
 module _ (v : Ipv6Extensions) (n : ℕ) (old new : List ℕ) (o : Option (Bor AllocError)) where
   ended : (e : HeaderWriteError) → ((fault : ExtsWalkError) → IsWalkFault v n old new fault → ⊥) → IfSome (content_of e) (λ fault. IsWalkFault v n old new fault) → option_map (λ x. x.now) o ≡ io_of e → is_some o ≡ true
-  ended (Io x) none k shown = sym (same_some o) ∙ ap is_some shown
-  ended (Content x) none k shown = absurd (none x k)
+  ended (Io x) none k as_place = sym (same_some o) ∙ ap is_some as_place
+  ended (Content x) none k as_place = absurd (none x k)
 
-  pub spelled_refused : (e : HeaderWriteError) (d : List ExtHeader) → IsSpelling (held v) n d → IfSome (content_of e) (λ fault. IsWalkFault v n old new fault) → option_map (λ x. x.now) o ≡ io_of e → is_some o ≡ true
-  spelled_refused e d s = ended e (λ fault k. no_fault fault (leads_to n d) (one_answer (held v) n _ _ k.answer (spelled_leads (held v) n d s)))
+  pub spelled_refused : (e : HeaderWriteError) (d : List ExtHeader) → IsSpelling (placed_fields v) n d → IfSome (content_of e) (λ fault. IsWalkFault v n old new fault) → option_map (λ x. x.now) o ≡ io_of e → is_some o ≡ true
+  spelled_refused e d s = ended e (λ fault k. no_fault fault (leads_to n d) (one_answer (placed_fields v) n _ _ k.answer (spelled_leads (placed_fields v) n d s)))
 
   pub read_refused : (e : HeaderWriteError) (s : List ℕ) → AreBytes s → value_of (fitting_chain n s) ≡ v → IfSome (content_of e) (λ fault. IsWalkFault v n old new fault) → option_map (λ x. x.now) o ≡ io_of e → is_some o ≡ true
   read_refused e s bytes read = ended e (λ fault k. k.unread s bytes read)

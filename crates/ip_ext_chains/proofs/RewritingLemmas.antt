@@ -8,7 +8,7 @@ use Rattle.ip_spec.specs.Runs.{joined}
 use Rattle.ip_spec.specs.Walk.{IsSpelling}
 use Rattle.ip_ext_slices.specs.Longest.{longest_chain}
 use Rattle.ip_ext_chains.specs.Runs.{runs_of, AreSpellings}
-use Rattle.ip_ext_chains.specs.Ipv6Extensions.{held}
+use Rattle.ip_ext_chains.specs.Ipv6Extensions.{placed_fields}
 use Rattle.ip_ext_chains.specs.Ipv6ExtensionsRuns.{start, input, runs_left, values_left, PassesRun, GivesRun}
 use Rattle.ip_ext_chains.specs.declared.ipv6_exts.Ipv6Extensions.{Ipv6Extensions}
 use Rattle.ip_ext_chains.specs.declared.ipv6_exts_runs.Ipv6ExtensionsRuns.{Ipv6ExtensionsRuns}
@@ -42,7 +42,7 @@ module _ (n : ℕ) (s : List ℕ) (r q : Ipv6ExtensionsRuns) (m count : ℕ) (ou
   pub rewriting_least : count + 1 ≤ length (runs_of n s)
   rewriting_least = omega (arith, k.counted, ap length passes.1)
 
-  pub rewriting_spelled : IsSpelling (held x) m (cleared_chain run)
+  pub rewriting_spelled : IsSpelling (placed_fields x) m (cleared_chain run)
   rewriting_spelled =
       let V : List Ipv6Extensions → Type 0 = λ l. AreSpellings m l (map cleared_chain (runs_left r)) in
       let R : List (List ExtHeader) → Type 0 = λ l. AreSpellings m (x ∷ values_left q) (map cleared_chain l) in

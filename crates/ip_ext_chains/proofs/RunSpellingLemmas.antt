@@ -12,12 +12,12 @@ use Rattle.ip_spec.proofs.ClearedLemmas.{cleared_leads}
 use Rattle.ip_spec.proofs.RunsLemmas.{runs_joined, runs_written, runs_fit, runs_chains}
 use Rattle.ip_spec.proofs.SpellingLemmas.{one_spelling, cleared_spells}
 use Rattle.ip_ext_slices.specs.Longest.{longest_chain}
-use Rattle.ip_ext_chains.specs.Ipv6Extensions.{value_of, held}
+use Rattle.ip_ext_chains.specs.Ipv6Extensions.{value_of, placed_fields}
 use Rattle.ip_ext_chains.specs.Runs.{AreSpellings, runs_from}
 use Rattle.ip_ext_chains.specs.Ipv6ExtensionsRuns.{number_before}
 use Rattle.ip_ext_chains.specs.declared.ipv6_exts.Ipv6Extensions.{Ipv6Extensions}
 use Rattle.ip_ext_slices.proofs.LongestLemmas.{longest_chain-longest}
-use Rattle.ip_ext_chains.proofs.HeldLemmas.{held-value_of}
+use Rattle.ip_ext_chains.proofs.PlacedFieldsLemmas.{placed_fields-value_of}
 use Rattle.ip_ext_chains.proofs.RunsOfLemmas.{AreRunsOf, runs_from-runs}
 use Rattle.ip_ext_chains.proofs.RunBytesLemmas.{first_bytes, later_bytes, chain_bytes}
 use Rattle.ip_ext_chains.proofs.RunNumberLemmas.{chain_before}
@@ -26,7 +26,7 @@ pub pieces_spelled : (n : ℕ) (ps : List (List ExtHeader)) → AreChains n ps �
 pieces_spelled n [] k f b = tt
 pieces_spelled n (p ∷ ps) k f b =
     let S : ℕ → Type 0 = λ m. AreSpellings m (map value_of ps) (map cleared_chain ps) in (
-      cleared_spells (held (value_of p)) n p k.0 f.0 (first_bytes p (joined ps) b) (held-value_of p),
+      cleared_spells (placed_fields (value_of p)) n p k.0 f.0 (first_bytes p (joined ps) b) (placed_fields-value_of p),
       subst S (sym (cleared_leads n p k.0.headers)) (pieces_spelled (leads_to n p) ps k.1 f.1 (later_bytes p (joined ps) b)),
     )
 
@@ -37,7 +37,7 @@ one_list_of_spellings n [] (d ∷ ds) es s t = absurd s
 one_list_of_spellings n (v ∷ vs) [] es s t = absurd s
 one_list_of_spellings n (v ∷ vs) (d ∷ ds) [] s t = absurd t
 one_list_of_spellings n (v ∷ vs) (d ∷ ds) (e ∷ es) s t =
-    let same : d ≡ e = one_spelling (held v) n d e s.0 t.0 in
+    let same : d ≡ e = one_spelling (placed_fields v) n d e s.0 t.0 in
     let S : List ExtHeader → Type 0 = λ l. AreSpellings (leads_to n l) vs es in
     ap (λ l. l ∷ ds) same ∙ ap (λ l. e ∷ l) (one_list_of_spellings (leads_to n d) vs ds es s.1 (subst S (sym same) t.1))
 

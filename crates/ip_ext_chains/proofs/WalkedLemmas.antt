@@ -5,42 +5,42 @@ use Rattle.std.proofs.lemmas.List.{append-nil}
 use Rattle.ip_spec.specs.Encoding.{AppendsOne}
 use Rattle.ip_spec.specs.Chain.{ExtHeader, bytes_of}
 use Rattle.ip_spec.specs.Places.{Place, number_in, header_in, HeaderFields}
-use Rattle.ip_spec.specs.Encodable.{IsEncoded, IsEncodable, fields_len, sum_held, held_len}
-use Rattle.ip_spec.specs.Walk.{Held, IsReach, WalkAnswer, answer_at, IsWalkAnswer}
+use Rattle.ip_spec.specs.Encodable.{IsEncoded, IsEncodable, fields_len, sum_placed, placed_len}
+use Rattle.ip_spec.specs.Walk.{PlacedFields, IsReach, WalkAnswer, answer_at, IsWalkAnswer}
 use Rattle.ip_spec.specs.WalkStep.{next_of, IsEncodingOf}
 use Rattle.ip_spec.proofs.StepLemmas.{bytes_of-more}
 use Rattle.ip_spec.proofs.EncodedLemmas.{encoding_is}
 use Rattle.ip_spec.proofs.WalkStepLemmas.{Walking, walk_begins, walks_on, walk_stops, walk_answers, left_some, same_held}
 use Rattle.ip_spec.proofs.LinkLemmas.{next_said}
 use Rattle.ip_spec.proofs.SumLemmas.{sum_without}
-use Rattle.ip_ext_chains.specs.HeaderRef.{said}
+use Rattle.ip_ext_chains.specs.HeaderRef.{fields_of_ref}
 use Rattle.ip_ext_chains.specs.Walk.{left_in, IsStep, IsStop}
 use Rattle.ip_ext_chains.specs.declared.header_ref.HeaderRef.{HeaderRef}
 use Rattle.ip_ext_chains.specs.declared.walk.Walk.{Walk}
 
 -- some headers were reached from f and taken out of v, and w is the walk behind them
-pub record Walked (v : Held) (f : ℕ) (w : Walk) : Type 0 where
+pub record Walked (v : PlacedFields) (f : ℕ) (w : Walk) : Type 0 where
   pub reached : List ExtHeader
   pub walking : Walking v f reached (left_in w) w.number.0 w.first w.behind_routing
 
-walking_none : (v : Held) (f : ℕ) (w : Walk) → ((p : Place) → left_in w p ≡ v p) → w.number.0 ≡ f → w.first ≡ true → w.behind_routing ≡ false → Walking v f [] (left_in w) w.number.0 w.first w.behind_routing
+walking_none : (v : PlacedFields) (f : ℕ) (w : Walk) → ((p : Place) → left_in w p ≡ v p) → w.number.0 ≡ f → w.first ≡ true → w.behind_routing ≡ false → Walking v f [] (left_in w) w.number.0 w.first w.behind_routing
 walking_none v f w left number first behind =
     let B : Bool → Type 0 = λ b. Walking v f [] (left_in w) w.number.0 w.first b in
     let A : Bool → Type 0 = λ b. Walking v f [] (left_in w) w.number.0 b false in
     let N : ℕ → Type 0 = λ n. Walking v f [] (left_in w) n true false in
     subst B (sym behind) (subst A (sym first) (subst N (sym number) (walk_begins v f (left_in w) left)))
 
-pub walked_none : (v : Held) (f : ℕ) (w : Walk) → ((p : Place) → left_in w p ≡ v p) → w.number.0 ≡ f → w.first ≡ true → w.behind_routing ≡ false → Walked v f w
+pub walked_none : (v : PlacedFields) (f : ℕ) (w : Walk) → ((p : Place) → left_in w p ≡ v p) → w.number.0 ≡ f → w.first ≡ true → w.behind_routing ≡ false → Walked v f w
 walked_none v f w left number first behind = record { reached = []; walking = walking_none v f w left number first behind }
 
 -- how many headers are left, and how many bytes they have
 abbrev pub headers_left : Walk → ℕ
-headers_left w = sum_held (λ x. 1) (left_in w)
+headers_left w = sum_placed (λ x. 1) (left_in w)
 
 pub step_less : (old new : Walk) (x : HeaderFields) → IsStep old new x → headers_left new < headers_left old
 step_less old new x s = omega (arith, sum_without (λ y. 1) (left_in old) (left_in new) s.place x s.there s.taken)
 
-module _ (v : Held) (f : ℕ) (e : IsEncodable v) (old new : Walk) (x : HeaderFields) (s : IsStep old new x) (c : List ExtHeader) (k : Walking v f c (left_in old) old.number.0 old.first old.behind_routing) where
+module _ (v : PlacedFields) (f : ℕ) (e : IsEncodable v) (old new : Walk) (x : HeaderFields) (s : IsStep old new x) (c : List ExtHeader) (k : Walking v f c (left_in old) old.number.0 old.first old.behind_routing) where
   abbrev encoded : (h : ExtHeader) × IsEncoded (number_in s.place) x h
   encoded = e.encoded s.place x (left_some (header_in s.place c) (v s.place) x (sym (k.left s.place) ∙ s.there)).1
 
@@ -55,34 +55,34 @@ module _ (v : Held) (f : ℕ) (e : IsEncodable v) (old new : Walk) (x : HeaderFi
   walked_more = record { reached = c ++ encoded.0 ∷ []; walking = step_walking }
 
 -- a place was asked: its header was reached, or the walk is as it was
-pub walked_in : (v : Held) (f : ℕ) → IsEncodable v → (old new : Walk) (r : Option HeaderRef) → IfSome r (λ h. IsStep old new (said h)) → IfNone r (new ≡ old)
+pub walked_in : (v : PlacedFields) (f : ℕ) → IsEncodable v → (old new : Walk) (r : Option HeaderRef) → IfSome r (λ h. IsStep old new (fields_of_ref h)) → IfNone r (new ≡ old)
     → Walked v f old → Walked v f new
 walked_in v f e old new None some none k = subst (Walked v f) (sym none) k
-walked_in v f e old new (Some h) some none k = walked_more v f e old new (said h) some k.reached k.walking
+walked_in v f e old new (Some h) some none k = walked_more v f e old new (fields_of_ref h) some k.reached k.walking
 
 -- where none goes on, the walk has the answer of what is left
-pub walked_answer : (v : Held) (f : ℕ) (old new : Walk) (a : WalkAnswer) → Walked v f old → IsStop old new → a ≡ answer_at new.number.0 (left_in new) → IsWalkAnswer v f a
+pub walked_answer : (v : PlacedFields) (f : ℕ) (old new : Walk) (a : WalkAnswer) → Walked v f old → IsStop old new → a ≡ answer_at new.number.0 (left_in new) → IsWalkAnswer v f a
 walked_answer v f old new a k s e =
     walk_answers v f k.reached (left_in old) old.number.0 old.first old.behind_routing k.walking (left_in new) new.number.0 a s.none s.left s.number e
 
 -- The headers that were reached were appended to `before`, and there is room for those that are left.
-pub record Written (v : Held) (f : ℕ) (w : Walk) (before now : List ℕ) (room : ℕ) : Type 0 where
+pub record Written (v : PlacedFields) (f : ℕ) (w : Walk) (before now : List ℕ) (room : ℕ) : Type 0 where
   pub reached : List ExtHeader
   pub walking : Walking v f reached (left_in w) w.number.0 w.first w.behind_routing
   pub appended : now ≡ before ++ bytes_of reached
-  pub fits : length now + held_len (left_in w) ≤ room
+  pub fits : length now + placed_len (left_in w) ≤ room
 
 -- what a step takes out of what is left
-pub step_len : (old new : Walk) (x : HeaderFields) → IsStep old new x → held_len (left_in new) + fields_len x ≡ held_len (left_in old)
+pub step_len : (old new : Walk) (x : HeaderFields) → IsStep old new x → placed_len (left_in new) + fields_len x ≡ placed_len (left_in old)
 step_len old new x s = sum_without fields_len (left_in old) (left_in new) s.place x s.there s.taken
 
 -- the next header has room
-pub written_room : (v : Held) (f : ℕ) (old new : Walk) (x : HeaderFields) → IsStep old new x → (before now : List ℕ) (room : ℕ) → Written v f old before now room → length now + fields_len x ≤ room
+pub written_room : (v : PlacedFields) (f : ℕ) (old new : Walk) (x : HeaderFields) → IsStep old new x → (before now : List ℕ) (room : ℕ) → Written v f old before now room → length now + fields_len x ≤ room
 written_room v f old new x s before now room k = omega (arith, k.fits, step_len old new x s)
 
 -- its bytes were appended
-pub written_more : (v : Held) (f : ℕ) → IsEncodable v → (old new : Walk) (x : HeaderFields) → IsStep old new x → (before now more : List ℕ) (room larger : ℕ) → Written v f old before now room
-    → AppendsOne (IsEncodingOf x) now more → length more + held_len (left_in new) ≤ larger → Written v f new before more larger
+pub written_more : (v : PlacedFields) (f : ℕ) → IsEncodable v → (old new : Walk) (x : HeaderFields) → IsStep old new x → (before now more : List ℕ) (room larger : ℕ) → Written v f old before now room
+    → AppendsOne (IsEncodingOf x) now more → length more + placed_len (left_in new) ≤ larger → Written v f new before more larger
 written_more v f e old new x s before now more room larger k a fits =
     let h = encoded v f e old new x s k.reached k.walking in
     record {
@@ -96,21 +96,21 @@ written_more v f e old new x s before now more room larger k a fits =
     }
 
 -- a place was asked: its header was reached and its bytes appended, or all is as it was
-pub written_in : (v : Held) (f : ℕ) → IsEncodable v → (old new : Walk) (before now more : List ℕ) (room larger : ℕ) (r : Option HeaderRef)
-    → IfSome r (λ h. IsStep old new (said h)) → IfSome r (λ h. AppendsOne (IsEncodingOf (said h)) now more) → IfNone r (new ≡ old) → IfNone r (more ≡ now)
-    → length more + held_len (left_in new) ≤ larger → Written v f old before now room → Written v f new before more larger
+pub written_in : (v : PlacedFields) (f : ℕ) → IsEncodable v → (old new : Walk) (before now more : List ℕ) (room larger : ℕ) (r : Option HeaderRef)
+    → IfSome r (λ h. IsStep old new (fields_of_ref h)) → IfSome r (λ h. AppendsOne (IsEncodingOf (fields_of_ref h)) now more) → IfNone r (new ≡ old) → IfNone r (more ≡ now)
+    → length more + placed_len (left_in new) ≤ larger → Written v f old before now room → Written v f new before more larger
 written_in v f e old new before now more room larger None some appended none same fits k =
     let W : Walk → Type 0 = λ w. Walking v f k.reached (left_in w) w.number.0 w.first w.behind_routing in
     record { reached = k.reached; walking = subst W (sym none) k.walking; appended = same ∙ k.appended; fits = fits }
 written_in v f e old new before now more room larger (Some h) some appended none same fits k =
-    written_more v f e old new (said h) some before now more room larger k appended fits
+    written_more v f e old new (fields_of_ref h) some before now more room larger k appended fits
 
 -- nothing is taken out of what a walk begins with
-pub left_len : (v : Held) (w : Walk) → ((p : Place) → left_in w p ≡ v p) → held_len (left_in w) ≡ held_len v
-left_len v w left = ap held_len (same_held (left_in w) v left)
+pub left_len : (v : PlacedFields) (w : Walk) → ((p : Place) → left_in w p ≡ v p) → placed_len (left_in w) ≡ placed_len v
+left_len v w left = ap placed_len (same_held (left_in w) v left)
 
-pub written_none : (v : Held) (f : ℕ) (w : Walk) → ((p : Place) → left_in w p ≡ v p) → w.number.0 ≡ f → w.first ≡ true → w.behind_routing ≡ false
-    → (before now : List ℕ) (room : ℕ) → now ≡ before → length now + held_len v ≤ room → Written v f w before now room
+pub written_none : (v : PlacedFields) (f : ℕ) (w : Walk) → ((p : Place) → left_in w p ≡ v p) → w.number.0 ≡ f → w.first ≡ true → w.behind_routing ≡ false
+    → (before now : List ℕ) (room : ℕ) → now ≡ before → length now + placed_len v ≤ room → Written v f w before now room
 written_none v f w left number first behind before now room same fits =
     record {
       reached = [];
@@ -120,8 +120,8 @@ written_none v f w left number first behind before now room same fits =
     }
 
 -- where none goes on, the walk has the answer of what is left
-pub written_answer : (v : Held) (f : ℕ) (old new : Walk) (before now : List ℕ) (room : ℕ) (a : WalkAnswer) → Written v f old before now room → IsStop old new → a ≡ answer_at new.number.0 (left_in new) → IsWalkAnswer v f a
+pub written_answer : (v : PlacedFields) (f : ℕ) (old new : Walk) (before now : List ℕ) (room : ℕ) (a : WalkAnswer) → Written v f old before now room → IsStop old new → a ≡ answer_at new.number.0 (left_in new) → IsWalkAnswer v f a
 written_answer v f old new before now room a k s e = walked_answer v f old new a (record { reached = k.reached; walking = k.walking }) s e
 
-pub written_reach : (v : Held) (f : ℕ) (old new : Walk) (before now : List ℕ) (room : ℕ) (k : Written v f old before now room) → IsStop old new → IsReach v f k.reached
+pub written_reach : (v : PlacedFields) (f : ℕ) (old new : Walk) (before now : List ℕ) (room : ℕ) (k : Written v f old before now room) → IsStop old new → IsReach v f k.reached
 written_reach v f old new before now room k s = walk_stops v f k.reached (left_in old) old.number.0 old.first old.behind_routing k.walking s.none

@@ -24,14 +24,14 @@ use Rattle.ip_spec.proofs.SumLemmas.{bytes_len}
 use Rattle.ip_base.specs.declared.len_source.LenSource.TheVariants.{Slice}
 use Rattle.ip_ext_slices.specs.Fault.{chain_faults}
 use Rattle.ip_ext_chains.specs.Fitting.{fitting_chain, fitting_faults, IsFittingAnswer}
-use Rattle.ip_ext_chains.specs.Ipv6Extensions.{value_of, held, exts_len}
+use Rattle.ip_ext_chains.specs.Ipv6Extensions.{value_of, placed_fields, exts_len}
 use Rattle.ip_ext_chains.specs.Walk.{walk_answer}
 use Rattle.ip_ext_chains.specs.Write.{IsWritten, IsWalkFault}
 use Rattle.ip_ext_chains.specs.declared.ipv6_exts.Ipv6Extensions.{Ipv6Extensions}
 use Rattle.ip_ext_chains.specs.declared.err.ipv6_exts.exts_walk_error.ExtsWalkError.{ExtsWalkError}
 use Rattle.ip_ext_chains.specs.declared.err.ipv6_exts.exts_walk_error.ExtsWalkError.TheVariants.{HopByHopNotAtStart, ExtNotReferenced}
 use Rattle.ip_ext_slices.proofs.FaultLemmas.{no_fault_at_other}
-use Rattle.ip_ext_chains.proofs.HeldLemmas.{held-value_of, held_one, exts_sum}
+use Rattle.ip_ext_chains.proofs.PlacedFieldsLemmas.{placed_fields-value_of, placed_fields_one, exts_sum}
 
 pub fitting_longest : (n : ℕ) (s : List ℕ) → IsLongestUnder FitsPlaces n s (fitting_chain n s)
 fitting_longest n s = (some_longest_under FitsPlaces fits_places n s).1
@@ -41,15 +41,15 @@ fitting_is n s c l = one_longest_under FitsPlaces fits_places n s (fitting_chain
 
 module _ (v : Ipv6Extensions) (n : ℕ) where
   -- a chain has the value v where its headers say what v holds
-  value_is : (c : List ExtHeader) → IsValueOf c (held v) → v ≡ value_of c
-  value_is c k = held_one v (value_of c) (λ p. k p ∙ sym (held-value_of c p))
+  value_is : (c : List ExtHeader) → IsValueOf c (placed_fields v) → v ≡ value_of c
+  value_is c k = placed_fields_one v (value_of c) (λ p. k p ∙ sym (placed_fields-value_of c p))
 
-  value_holds : (c : List ExtHeader) → v ≡ value_of c → IsValueOf c (held v)
-  value_holds c e p = ap (λ w. held w p) e ∙ held-value_of c p
+  value_holds : (c : List ExtHeader) → v ≡ value_of c → IsValueOf c (placed_fields v)
+  value_holds c e p = ap (λ w. placed_fields w p) e ∙ placed_fields-value_of c p
 
   -- what is read as what v holds is read as v, and the other way round
   abbrev pub IsReadAsHeld : ℕ → List ℕ → Type 0
-  IsReadAsHeld m s = IsRead FitsPlaces (λ c. IsValueOf c (held v)) n m s
+  IsReadAsHeld m s = IsRead FitsPlaces (λ c. IsValueOf c (placed_fields v)) n m s
 
   abbrev pub IsReadAsValue : ℕ → List ℕ → Type 0
   IsReadAsValue m s = IsRead FitsPlaces (λ c. value_of c ≡ v) n m s
@@ -60,16 +60,16 @@ module _ (v : Ipv6Extensions) (n : ℕ) where
   read_as_held : (m : ℕ) (s : List ℕ) → IsReadAsValue m s → IsReadAsHeld m s
   read_as_held m s r = record { bytes = r.bytes; chain = r.chain; longest = r.longest; value = value_holds r.chain (sym r.value); number = r.number; all = r.all }
 
-  pub answer_exactly : IsEncodable (held v) → (a : WalkAnswer) → IsWalkAnswer (held v) n a → (m : ℕ) → (a ≡ leads m) ↔ ((s : List ℕ) × IsReadAsValue m s)
+  pub answer_exactly : IsEncodable (placed_fields v) → (a : WalkAnswer) → IsWalkAnswer (placed_fields v) n a → (m : ℕ) → (a ≡ leads m) ↔ ((s : List ℕ) × IsReadAsValue m s)
   answer_exactly e a k m =
-      let both = leads_exactly (held v) n e a k m in
+      let both = leads_exactly (placed_fields v) n e a k m in
       (λ w. let it = both.0 w in (it.0, read_as_value m it.0 it.1), λ r. both.1 (r.0, read_as_held m r.0 r.1))
 
   -- what spells the value that was read from bytes, whatever was left behind
-  read_spelled : (s : List ℕ) → AreBytes s → value_of (fitting_chain n s) ≡ v → IsSpelling (held v) n (cleared_chain (fitting_chain n s))
+  read_spelled : (s : List ℕ) → AreBytes s → value_of (fitting_chain n s) ≡ v → IsSpelling (placed_fields v) n (cleared_chain (fitting_chain n s))
   read_spelled s bytes e =
       let l = fitting_longest n s in
-      cleared_spells (held v) n (fitting_chain n s) l.has.has.chain l.has.meets
+      cleared_spells (placed_fields v) n (fitting_chain n s) l.has.has.chain l.has.meets
       (subst AreBytes l.has.has.prefix (All-take (λ x. x < 256) (length (bytes_of (fitting_chain n s))) s bytes))
       (value_holds (fitting_chain n s) (sym e))
 
@@ -78,13 +78,13 @@ module _ (v : Ipv6Extensions) (n : ℕ) where
   leads_differ m (ExtNotReferenced k) e = let no : leads m ≡ not_referenced k.0 = e in cc
 
   -- a value that is read from bytes has no fault
-  pub fault_unread : (e : ExtsWalkError) → IsWalkAnswer (held v) n (walk_answer (Err e)) → (s : List ℕ) → AreBytes s → value_of (fitting_chain n s) ≡ v → ⊥
+  pub fault_unread : (e : ExtsWalkError) → IsWalkAnswer (placed_fields v) n (walk_answer (Err e)) → (s : List ℕ) → AreBytes s → value_of (fitting_chain n s) ≡ v → ⊥
   fault_unread e a s bytes k =
-      leads_differ _ e (one_answer (held v) n _ (walk_answer (Err e)) (spelled_leads (held v) n (cleared_chain (fitting_chain n s)) (read_spelled s bytes k)) a)
+      leads_differ _ e (one_answer (placed_fields v) n _ (walk_answer (Err e)) (spelled_leads (placed_fields v) n (cleared_chain (fitting_chain n s)) (read_spelled s bytes k)) a)
 
   module _ (old new : List ℕ) (w : IsWritten v n old new) where
     pub written_len : length new ≡ length old + exts_len v
-    written_len = omega (arith, ap length w.appended, length-append old (bytes_of w.chain), bytes_len (held v) n w.chain w.spelling.chain w.spelling.fits w.spelling.value, exts_sum v)
+    written_len = omega (arith, ap length w.appended, length-append old (bytes_of w.chain), bytes_len (placed_fields v) n w.chain w.spelling.chain w.spelling.fits w.spelling.value, exts_sum v)
 
     appended_is : (b : List ℕ) → new ≡ old ++ b → bytes_of w.chain ≡ b
     appended_is b e = append_cancel_left old (bytes_of w.chain) b (sym w.appended ∙ e)
@@ -96,15 +96,15 @@ module _ (v : Ipv6Extensions) (n : ℕ) where
     ]
 
     -- what was written is read again
-    pub written_again : (b r : List ℕ) (m : ℕ) → new ≡ old ++ b → IsWalkAnswer (held v) n (leads m) → (IsExtensionNumber m → ⊥) → IsFittingAnswer n (b ++ r) v m r None
+    pub written_again : (b r : List ℕ) (m : ℕ) → new ≡ old ++ b → IsWalkAnswer (placed_fields v) n (leads m) → (IsExtensionNumber m → ⊥) → IsFittingAnswer n (b ++ r) v m r None
     written_again b r m e a other =
         let c : List ExtHeader = w.chain in
-        let same : leads (leads_to n c) ≡ leads m = one_answer (held v) n _ _ w.answer a in
+        let same : leads (leads_to n c) ≡ leads m = one_answer (placed_fields v) n _ _ w.answer a in
         let number : leads_to n c ≡ m = cc in
         let B : List ℕ → Type 0 = λ l. IsLongestUnder FitsPlaces n (l ++ r) c in
         let O : ℕ → Type 0 = λ j. IsExtensionNumber j → ⊥ in
         let none : IsExtensionNumber (leads_to n c) → ⊥ = subst O (sym number) other in
-        let longest : IsLongestUnder FitsPlaces n (b ++ r) c = subst B (appended_is b e) (spelled_is_read (held v) n c r w.spelling (λ x. absurd (none x))) in
+        let longest : IsLongestUnder FitsPlaces n (b ++ r) c = subst B (appended_is b e) (spelled_is_read (placed_fields v) n c r w.spelling (λ x. absurd (none x))) in
         let is : fitting_chain n (b ++ r) ≡ c = fitting_is n (b ++ r) c longest in
         let rest : drop (length (bytes_of c)) (b ++ r) ≡ r = ap (λ (l : List ℕ). drop (length l) (b ++ r)) (appended_is b e) ∙ drop-append_seam b r in
         record {
@@ -115,35 +115,35 @@ module _ (v : Ipv6Extensions) (n : ℕ) where
         }
 
     -- and from it nothing is left
-    pub written_whole : IsEncodable (held v) → (b : List ℕ) (m : ℕ) → new ≡ old ++ b → IsWalkAnswer (held v) n (leads m) → IsReadAsValue m b
+    pub written_whole : IsEncodable (placed_fields v) → (b : List ℕ) (m : ℕ) → new ≡ old ++ b → IsWalkAnswer (placed_fields v) n (leads m) → IsReadAsValue m b
     written_whole encodable b m e a =
         let c : List ExtHeader = w.chain in
-        let same : leads (leads_to n c) ≡ leads m = one_answer (held v) n _ _ w.answer a in
+        let same : leads (leads_to n c) ≡ leads m = one_answer (placed_fields v) n _ _ w.answer a in
         let number : leads_to n c ≡ m = cc in
         let M : ℕ → Type 0 = λ k. IsReadAsHeld k (bytes_of c) in
-        read_as_value m b (subst (IsReadAsHeld m) (appended_is b e) (subst M number (spelled_whole (held v) n encodable c w.spelling)))
+        read_as_value m b (subst (IsReadAsHeld m) (appended_is b e) (subst M number (spelled_whole (placed_fields v) n encodable c w.spelling)))
 
     -- it is what was read, with its reserved bits put to zero
     pub written_cleared : (s : List ℕ) → AreBytes s → value_of (fitting_chain n s) ≡ v → new ≡ old ++ bytes_of (cleared_chain (fitting_chain n s))
     written_cleared s bytes e =
-        w.appended ∙ ap (λ l. old ++ bytes_of l) (one_spelling (held v) n w.chain (cleared_chain (fitting_chain n s)) w.spelling (read_spelled s bytes e))
+        w.appended ∙ ap (λ l. old ++ bytes_of l) (one_spelling (placed_fields v) n w.chain (cleared_chain (fitting_chain n s)) w.spelling (read_spelled s bytes e))
 
     -- and of no other value
-    pub written_alike : (x : Ipv6Extensions) (c : List ExtHeader) → IsSpelling (held x) n c → (new ≡ old ++ bytes_of c) ↔ (v ≡ x)
+    pub written_alike : (x : Ipv6Extensions) (c : List ExtHeader) → IsSpelling (placed_fields x) n c → (new ≡ old ++ bytes_of c) ↔ (v ≡ x)
     written_alike x c k =
-        let both = spelled_alike (held v) (held x) n w.chain c w.spelling k in
-        (λ e. held_one v x (both.0 (appended_is (bytes_of c) e)), λ e. w.appended ∙ ap (λ l. old ++ l) (both.1 (λ p. ap (λ y. held y p) e)))
+        let both = spelled_alike (placed_fields v) (placed_fields x) n w.chain c w.spelling k in
+        (λ e. placed_fields_one v x (both.0 (appended_is (bytes_of c) e)), λ e. w.appended ∙ ap (λ l. old ++ l) (both.1 (λ p. ap (λ y. placed_fields y p) e)))
 
   -- The walk leads on, and what was reached was appended: that is all.
-  pub all_written : (old new : List ℕ) (m : ℕ) (c : List ExtHeader) → IsReach (held v) n c → IsWalkAnswer (held v) n (leads m) → new ≡ old ++ bytes_of c → IsWritten v n old new
+  pub all_written : (old new : List ℕ) (m : ℕ) (c : List ExtHeader) → IsReach (placed_fields v) n c → IsWalkAnswer (placed_fields v) n (leads m) → new ≡ old ++ bytes_of c → IsWritten v n old new
   all_written old new m c reach a appended =
-      let it = leads_spelled (held v) n m a in
-      let same : it.0 ≡ c = one_reach (held v) n it.0 c (spelling_is_reach (held v) n it.0 it.1) reach in
-      let S : List ExtHeader → Type 0 = IsSpelling (held v) n in
-      let s : IsSpelling (held v) n c = subst S same it.1 in
-      record { chain = c; spelling = s; answer = spelled_leads (held v) n c s; appended = appended }
+      let it = leads_spelled (placed_fields v) n m a in
+      let same : it.0 ≡ c = one_reach (placed_fields v) n it.0 c (spelling_is_reach (placed_fields v) n it.0 it.1) reach in
+      let S : List ExtHeader → Type 0 = IsSpelling (placed_fields v) n in
+      let s : IsSpelling (placed_fields v) n c = subst S same it.1 in
+      record { chain = c; spelling = s; answer = spelled_leads (placed_fields v) n c s; appended = appended }
 
-  pub fault_written : (old new : List ℕ) (e : ExtsWalkError) (c : List ExtHeader) → IsReach (held v) n c → IsWalkAnswer (held v) n (walk_answer (Err e)) → new ≡ old ++ bytes_of c → IsWalkFault v n old new e
+  pub fault_written : (old new : List ℕ) (e : ExtsWalkError) (c : List ExtHeader) → IsReach (placed_fields v) n c → IsWalkAnswer (placed_fields v) n (walk_answer (Err e)) → new ≡ old ++ bytes_of c → IsWalkFault v n old new e
   fault_written old new e c reach a appended = record {
     answer = a;
     chain = c;

@@ -32,7 +32,7 @@ abbrev pub IsFittingAnswer : ℕ → List ℕ → Ipv6Extensions → ℕ → Lis
 IsFittingAnswer n s = IsAnswer value_of fitting_faults (fitting_chain n s) n s
 
 -- what the walk over it answers: its headers in their places, with the number, rest and fault behind it
-pub record IsWalked (n : ℕ) (s : List ℕ) (v : Places Ipv6ExtensionSlice) (m : ℕ) (r : List ℕ) (f : Option Fault) : Type 0 where
+pub record IsPlacedAnswer (n : ℕ) (s : List ℕ) (v : Places Ipv6ExtensionSlice) (m : ℕ) (r : List ℕ) (f : Option Fault) : Type 0 where
   pub placed : ArePlaced (fitting_chain n s) v
   pub number : m ≡ leads_to n (fitting_chain n s)
   pub rest : r ≡ rest_behind (fitting_chain n s) s

@@ -3,7 +3,7 @@ use Rattle.ip_spec.specs.Places.{HeaderFields, raw_header, fragment_header, auth
 use Rattle.ip_ext_chains.specs.declared.header_ref.HeaderRef.{HeaderRef}
 use Rattle.ip_ext_chains.specs.declared.header_ref.HeaderRef.TheVariants.{Raw, Fragment, Authentication}
 
-abbrev pub said : HeaderRef → HeaderFields
-said (Raw h) = raw_header h.now
-said (Fragment h) = fragment_header h.now
-said (Authentication h) = auth_header h.now
+abbrev pub fields_of_ref : HeaderRef → HeaderFields
+fields_of_ref (Raw h) = raw_header h.now
+fields_of_ref (Fragment h) = fragment_header h.now
+fields_of_ref (Authentication h) = auth_header h.now

@@ -28,13 +28,13 @@ final_of (Some r) = r.final_destination_options
 final_of None = None
 
 -- what stands in a place
-abbrev pub held : Ipv6Extensions → Place → Option HeaderFields
-held v hop_by_hop = option_map raw_header v.hop_by_hop_options
-held v destination = option_map raw_header v.destination_options
-held v routing = option_map (λ r. raw_header r.routing) v.routing
-held v fragment = option_map fragment_header v.fragment
-held v authentication = option_map auth_header v.auth
-held v final_destination = option_map raw_header (final_of v.routing)
+abbrev pub placed_fields : Ipv6Extensions → Place → Option HeaderFields
+placed_fields v hop_by_hop = option_map raw_header v.hop_by_hop_options
+placed_fields v destination = option_map raw_header v.destination_options
+placed_fields v routing = option_map (λ r. raw_header r.routing) v.routing
+placed_fields v fragment = option_map fragment_header v.fragment
+placed_fields v authentication = option_map auth_header v.auth
+placed_fields v final_destination = option_map raw_header (final_of v.routing)
 
 abbrev pub routing_len : Ipv6RoutingExtensions → ℕ
 routing_len v = raw_len v.routing + option_map_or raw_len v.final_destination_options 0

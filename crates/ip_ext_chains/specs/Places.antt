@@ -11,7 +11,7 @@ use Rattle.ip_ext_chains.specs.declared.ipv6_exts.Ipv6Extensions.{Ipv6Extensions
 use Rattle.ip_ext_chains.specs.declared.places.Places.{Places}
 
 abbrev pub at : {T : Type 0} → Place → Places T → Option T
-at p v = get_or v.held (index p) None
+at p v = get_or v.slots (index p) None
 
 -- nothing stands in any place
 abbrev pub IsVacant : {T : Type 0} → Places T → Type 0

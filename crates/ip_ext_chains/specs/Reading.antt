@@ -19,7 +19,7 @@ use Rattle.ip_io.specs.declared.io.limited_reader.LimitedReader.{LimitedReader}
 use Rattle.ip_ext_headers.specs.AuthReading.{IsZeroTaken}
 use Rattle.ip_ext_slices.specs.declared.err.ipv6_exts.header_error.HeaderError.TheVariants.{HopByHopNotAtStart, IpAuth}
 use Rattle.ip_ext_chains.specs.Fitting.{IsFittingAnswer}
-use Rattle.ip_ext_chains.specs.Ipv6Extensions.{held}
+use Rattle.ip_ext_chains.specs.Ipv6Extensions.{placed_fields}
 use Rattle.ip_ext_chains.specs.declared.ipv6_exts.Ipv6Extensions.{Ipv6Extensions}
 use Rattle.ip_ext_chains.specs.declared.ipv6_routing_exts.Ipv6RoutingExtensions.{Ipv6RoutingExtensions}
 use Rattle.ip_ext_chains.specs.declared.err.ipv6_exts.header_read_error.HeaderReadError.{HeaderReadError}
@@ -103,7 +103,7 @@ with_header final_destination b v = record v { routing = option_map {T = Ipv6Rou
 -- p is the place of a header of number m, and nothing is in it
 pub record IsNextPlace (first : Bool) (m : ℕ) (p : Place) (v : Ipv6Extensions) : Type 0 where
   pub own : place_of m (is_some v.routing) ≡ Some p
-  pub free : is_some (held v p) ≡ false
+  pub free : is_some (placed_fields v p) ≡ false
   pub zero_first : m ≡ HOP_BY_HOP → IsTrue first
 
 -- there is none

@@ -4,7 +4,7 @@ use Rattle.ip_spec.specs.Chain.{ExtHeader, leads_to}
 use Rattle.ip_spec.specs.Walk.{IsSpelling}
 use Rattle.ip_spec.proofs.RunsLemmas.{some_runs}
 use Rattle.ip_ext_slices.specs.Longest.{longest_chain}
-use Rattle.ip_ext_chains.specs.Ipv6Extensions.{held}
+use Rattle.ip_ext_chains.specs.Ipv6Extensions.{placed_fields}
 use Rattle.ip_ext_chains.specs.declared.ipv6_exts.Ipv6Extensions.{Ipv6Extensions}
 
 -- Headers c that lead to m have exactly one list of runs: this is it. Nothing but `AreRuns` is known of it.
@@ -21,4 +21,4 @@ abbrev pub AreSpellings : ℕ → List Ipv6Extensions → List (List ExtHeader) 
 AreSpellings n [] [] = ⊤
 AreSpellings n [] (d ∷ ds) = ⊥
 AreSpellings n (v ∷ vs) [] = ⊥
-AreSpellings n (v ∷ vs) (d ∷ ds) = IsSpelling (held v) n d × AreSpellings (leads_to n d) vs ds
+AreSpellings n (v ∷ vs) (d ∷ ds) = IsSpelling (placed_fields v) n d × AreSpellings (leads_to n d) vs ds

@@ -3,10 +3,10 @@ use Rattle.std.specs.Prelude.{◌≡◌, ◌==◌, ◌||◌, false, Some, None, 
 use Rattle.ip_base.specs.declared.ip_number_impl.IpNumber.{IpNumber}
 use Rattle.ip_spec.specs.Numbers.{ROUTING}
 use Rattle.ip_spec.specs.Places.{Place, HeaderFields}
-use Rattle.ip_spec.specs.Walk.{Held, WalkAnswer, leads, hop_by_hop_not_at_start, not_referenced}
+use Rattle.ip_spec.specs.Walk.{PlacedFields, WalkAnswer, leads, hop_by_hop_not_at_start, not_referenced}
 use Rattle.ip_spec.specs.WalkStep.{next_place, without, next_of}
 use Rattle.ip_ext_chains.specs.Places.{at}
-use Rattle.ip_ext_chains.specs.Ipv6Extensions.{held}
+use Rattle.ip_ext_chains.specs.Ipv6Extensions.{placed_fields}
 use Rattle.ip_ext_chains.specs.declared.err.ipv6_exts.exts_walk_error.ExtsWalkError.{ExtsWalkError}
 use Rattle.ip_ext_chains.specs.declared.err.ipv6_exts.exts_walk_error.ExtsWalkError.TheVariants.{HopByHopNotAtStart, ExtNotReferenced}
 use Rattle.ip_ext_chains.specs.declared.walk.Walk.{Walk}
@@ -17,9 +17,9 @@ walk_answer (Ok n) = leads n.0
 walk_answer (Err HopByHopNotAtStart) = hop_by_hop_not_at_start
 walk_answer (Err (ExtNotReferenced n)) = not_referenced n.0
 
--- what is said by the headers that a walk hasn't reached
-abbrev pub left_in : Walk → Held
-left_in w p = if is_some (at p w.reached) then None else held w.headers.now p
+-- the fields of the headers that a walk hasn't reached
+abbrev pub left_in : Walk → PlacedFields
+left_in w p = if is_some (at p w.reached) then None else placed_fields w.headers.now p
 
 -- a header that says x is next in the walk `old`, and `new` is the walk behind it
 pub record IsStep (old new : Walk) (x : HeaderFields) : Type 0 where

@@ -4,7 +4,7 @@ use Rattle.ip_spec.specs.Encoding.{AreBytes}
 use Rattle.ip_spec.specs.Chain.{ExtHeader, leads_to, bytes_of}
 use Rattle.ip_spec.specs.Walk.{leads, IsSpelling, IsReach, IsWalkAnswer}
 use Rattle.ip_ext_chains.specs.Fitting.{fitting_chain}
-use Rattle.ip_ext_chains.specs.Ipv6Extensions.{value_of, held}
+use Rattle.ip_ext_chains.specs.Ipv6Extensions.{value_of, placed_fields}
 use Rattle.ip_ext_chains.specs.Walk.{walk_answer}
 use Rattle.ip_ext_chains.specs.declared.ipv6_exts.Ipv6Extensions.{Ipv6Extensions}
 use Rattle.ip_ext_chains.specs.declared.err.ipv6_exts.exts_walk_error.ExtsWalkError.{ExtsWalkError}
@@ -12,15 +12,15 @@ use Rattle.ip_ext_chains.specs.declared.err.ipv6_exts.exts_walk_error.ExtsWalkEr
 -- The walk from n through v leads on, and `new` is `old` with the bytes of the chain that spells v.
 pub record IsWritten (v : Ipv6Extensions) (n : ℕ) (old new : List ℕ) : Type 0 where
   pub chain : List ExtHeader
-  pub spelling : IsSpelling (held v) n chain
-  pub answer : IsWalkAnswer (held v) n (leads (leads_to n chain))
+  pub spelling : IsSpelling (placed_fields v) n chain
+  pub answer : IsWalkAnswer (placed_fields v) n (leads (leads_to n chain))
   pub appended : new ≡ old ++ bytes_of chain
 
 -- The walk from n through v has the fault e: `new` is `old` with the bytes of the headers that v reaches, and v is
 -- read from no bytes.
 pub record IsWalkFault (v : Ipv6Extensions) (n : ℕ) (old new : List ℕ) (e : ExtsWalkError) : Type 0 where
-  pub answer : IsWalkAnswer (held v) n (walk_answer (Err e))
+  pub answer : IsWalkAnswer (placed_fields v) n (walk_answer (Err e))
   pub chain : List ExtHeader
-  pub reach : IsReach (held v) n chain
+  pub reach : IsReach (placed_fields v) n chain
   pub appended : new ≡ old ++ bytes_of chain
   pub unread : (s : List ℕ) → AreBytes s → value_of (fitting_chain n s) ≡ v → ⊥

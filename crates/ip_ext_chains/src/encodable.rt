@@ -7,7 +7,7 @@ ghost use Rattle.ip_spec.specs.Encoding.{AreBytes};
 ghost use Rattle.ip_spec.specs.Chain.{ExtHeader};
 ghost use Rattle.ip_spec.specs.Places.{raw_header, fragment_header, auth_header};
 ghost use Rattle.ip_spec.specs.Encodable.{IsEncoded, IsEncodable};
-ghost use Rattle.ip_ext_chains.specs.Ipv6Extensions.{held, final_of};
+ghost use Rattle.ip_ext_chains.specs.Ipv6Extensions.{placed_fields, final_of};
 
 use crate::{Ipv6Extensions, Ipv6RoutingExtensions};
 use ip_base::IpNumber;
@@ -113,7 +113,7 @@ impl Ipv6Extensions {
     /// Each header can be written.
     #[inline(always)]
     pub(crate) fn encodable(&self)
-        ensures { IsEncodable (held self.now) }
+        ensures { IsEncodable (placed_fields self.now) }
     {
         raw_place_encodable(&self.hop_by_hop_options);
         raw_place_encodable(&self.destination_options);

@@ -4,7 +4,7 @@ ghost use Rattle.std.specs.Option.{option_map};
 ghost use Rattle.ip_spec.specs.Encoding.{AppendsOne};
 ghost use Rattle.ip_spec.specs.Encodable.{fields_len};
 ghost use Rattle.ip_spec.specs.WalkStep.{next_of, IsEncodingOf};
-ghost use Rattle.ip_ext_chains.specs.HeaderRef.{said};
+ghost use Rattle.ip_ext_chains.specs.HeaderRef.{fields_of_ref};
 
 use ip_base::IpNumber;
 use ip_ext_headers::{IpAuthHeader, Ipv6FragmentHeader, Ipv6RawExtHeader};
@@ -22,7 +22,7 @@ impl<'a> HeaderRef<'a> {
     /// The number of what follows it.
     #[inline(always)]
     pub(crate) fn next_header(&self) -> IpNumber
-        ensures { result.0 ≡ next_of (said self.now) }
+        ensures { result.0 ≡ next_of (fields_of_ref self.now) }
     {
         match self {
             HeaderRef::Raw(header) => header.next_header,
@@ -34,9 +34,9 @@ impl<'a> HeaderRef<'a> {
     /// Appends its bytes, for which there is room.
     #[inline(always)]
     pub(crate) fn append<A: Allocator>(&self, out: &mut Vec<u8, A>)
-        requires room { vec_len out.old + fields_len (said self.now) ≤ vec_capacity out.old }
-        ensures appended { AppendsOne (IsEncodingOf (said self.now)) out.old.items out.new.items }
-        ensures len { vec_len out.new ≡ vec_len out.old + fields_len (said self.now) }
+        requires room { vec_len out.old + fields_len (fields_of_ref self.now) ≤ vec_capacity out.old }
+        ensures appended { AppendsOne (IsEncodingOf (fields_of_ref self.now)) out.old.items out.new.items }
+        ensures len { vec_len out.new ≡ vec_len out.old + fields_len (fields_of_ref self.now) }
         ensures capacity { vec_capacity out.old ≤ vec_capacity out.new }
     {
         match self {

@@ -5,9 +5,9 @@ ghost use Rattle.ip_spec.specs.Demand.{IsLongestUnder};
 ghost use Rattle.ip_spec.specs.Encodable.{IsEncodable};
 ghost use Rattle.ip_spec.specs.Fits.{FitsPlaces};
 ghost use Rattle.ip_ext_headers.specs.Ipv6RawExtHeaderSlice.{bytes};
-ghost use Rattle.ip_ext_chains.specs.Fitting.{fitting_chain, fitting_fault, IsFittingAnswer, IsWalked};
+ghost use Rattle.ip_ext_chains.specs.Fitting.{fitting_chain, fitting_fault, IsFittingAnswer, IsPlacedAnswer};
 ghost use Rattle.ip_ext_chains.specs.Places.{AreOfNumber, value_at};
-ghost use Rattle.ip_ext_chains.specs.Ipv6Extensions.{value_of, held, exts_len, has_none, is_fragmented};
+ghost use Rattle.ip_ext_chains.specs.Ipv6Extensions.{value_of, placed_fields, exts_len, has_none, is_fragmented};
 
 use crate::err::Layer;
 use crate::err::ipv6_exts::HeaderSliceError;
@@ -61,7 +61,7 @@ impl Ipv6Extensions {
         ensures answer { IsFittingAnswer start_ip_number.0 start_slice.now
             result.0 result.1.0 result.2.now result.3 }
     {
-        let (places, number, rest, fault) = Self::walk(start_ip_number, start_slice);
+        let (places, number, rest, fault) = Self::take_places(start_ip_number, start_slice);
         let mut exts = Self::default();
         exts.fill(&places);
         (exts, number, rest, fault)
@@ -78,7 +78,7 @@ impl Ipv6Extensions {
         ensures fault { IfErr result (λ e. option_map (λ f. f.0)
             (fitting_fault start_ip_number.0 start_slice.now) ≡ Some e) }
     {
-        let (places, number, rest, fault) = Self::walk(start_ip_number, start_slice);
+        let (places, number, rest, fault) = Self::take_places(start_ip_number, start_slice);
         match fault {
             Some((error, _)) => return Err(error),
             None => {}
@@ -92,7 +92,7 @@ impl Ipv6Extensions {
     /// the first whose place is taken: the places, the number to which these headers lead, the bytes after
     /// them and the fault there. Nothing large is made before a fault is known.
     #[inline(never)]
-    fn walk(
+    fn take_places(
         start: IpNumber,
         bytes: &[u8],
     ) -> (
@@ -101,7 +101,7 @@ impl Ipv6Extensions {
         &[u8],
         Option<(HeaderSliceError, Layer)>,
     )
-        ensures { IsWalked start.0 bytes.now result.0 result.1.0 result.2.now result.3 }
+        ensures { IsPlacedAnswer start.0 bytes.now result.0 result.1.0 result.2.now result.3 }
     {
         let (chain, number, rest, fault) = Ipv6ExtensionsSlice::from_slice_lax(start, bytes);
         let len = chain.slice().len();
@@ -152,7 +152,7 @@ impl Ipv6Extensions {
     pub fn header_len(&self) -> usize
         ensures len { result ≡ exts_len self.now }
         ensures most { result ≤ 9228 }
-        ensures encodable { IsEncodable (held self.now) }
+        ensures encodable { IsEncodable (placed_fields self.now) }
     {
         self.encodable();
         raw_len(&self.hop_by_hop_options)

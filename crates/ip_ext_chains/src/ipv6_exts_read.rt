@@ -4,8 +4,8 @@ ghost use Rattle.ip_spec.specs.Numbers.{ROUTING, FRAGMENT, AUTHENTICATION};
 ghost use Rattle.ip_spec.specs.Header.{IsRawHeader, IsFragmentHeader, IsAuthHeader, IsRawNumber, IsExtensionNumber};
 ghost use Rattle.ip_spec.specs.FieldsOf.{raw_fields, fragment_fields, auth_fields};
 ghost use Rattle.ip_spec.specs.Places.{number_in, final_destination};
-ghost use Rattle.ip_ext_chains.specs.Place.{shown};
-ghost use Rattle.ip_ext_chains.specs.Ipv6Extensions.{held};
+ghost use Rattle.ip_ext_chains.specs.Place.{as_place};
+ghost use Rattle.ip_ext_chains.specs.Ipv6Extensions.{placed_fields};
 ghost use Rattle.ip_ext_chains.specs.ReadError.{IsSliceError};
 ghost use Rattle.ip_ext_chains.specs.Reading.{AreTaken, IsChainTaken, IsChainRefused, IsHeaderRefused, IsNextPlace, HasNoPlace, IsReadInto, IsHeaderRead, routing_fields};
 
@@ -60,7 +60,7 @@ impl Ipv6Extensions {
 
     /// The place of a header of the number, where nothing is in it. Hop by hop options have one only first.
     pub(crate) fn next_place(&self, number: IpNumber, is_first: bool) -> Option<Place>
-        ensures next { IfSome result (λ p. IsNextPlace is_first number.0 (shown p) self.now) }
+        ensures next { IfSome result (λ p. IsNextPlace is_first number.0 (as_place p) self.now) }
         ensures none { IfNone result (HasNoPlace is_first number.0 self.now) }
     {
         if number == ip_number::IPV6_HOP_BY_HOP && !is_first {
@@ -75,7 +75,7 @@ impl Ipv6Extensions {
 
     /// Whether a header is in the place.
     fn has(&self, place: Place) -> bool
-        ensures { result ≡ is_some (held self.now (shown place)) }
+        ensures { result ≡ is_some (placed_fields self.now (as_place place)) }
     {
         match place {
             Place::HopByHop => self.hop_by_hop_options.is_some(),
@@ -96,14 +96,14 @@ impl Ipv6Extensions {
         place: Place,
         reader: &mut T,
     ) -> Result<IpNumber, HeaderReadError>
-        requires { shown place ≡ final_destination → is_some self.old.routing ≡ true }
+        requires { as_place place ≡ final_destination → is_some self.old.routing ≡ true }
         ensures ok { IfOk result (λ m.
             IsReadInto (Consumes (T.bytes_left reader.old) (T.bytes_left reader.new))
-            (shown place) m.0 self.old self.new) }
+            (as_place place) m.0 self.old self.new) }
         ensures kept { OnOk result (T.has_failed reader.new ≡ T.has_failed reader.old) }
         ensures steady { T.is_steady reader.new ≡ T.is_steady reader.old }
         ensures refused { IfErr result (λ e. IsHeaderRefused T.bytes_left T.is_steady
-            T.has_failed e true (number_in (shown place)) reader.old reader.new) }
+            T.has_failed e true (number_in (as_place place)) reader.old reader.new) }
     {
         match place {
             Place::HopByHop => read_raw(&mut self.hop_by_hop_options, reader),

@@ -6,7 +6,7 @@ ghost use Rattle.ip_spec.specs.FieldsOf.{raw_fields, fragment_fields, auth_field
 ghost use Rattle.ip_spec.specs.Places.{number_in, final_destination};
 ghost use Rattle.ip_io.specs.LimitedReader.{inner_of, window};
 ghost use Rattle.ip_io.specs.Reading.{IsTakenInLayer};
-ghost use Rattle.ip_ext_chains.specs.Place.{shown};
+ghost use Rattle.ip_ext_chains.specs.Place.{as_place};
 ghost use Rattle.ip_ext_chains.specs.ReadError.{IsSliceErrorInLayers};
 ghost use Rattle.ip_ext_chains.specs.Reading.{AreTakenInLayers, IsChainTaken, IsChainRefused, IsHeaderRefusedInLayer, IsReadInto, IsHeaderRead, routing_fields, layer_of};
 
@@ -64,15 +64,15 @@ impl Ipv6Extensions {
         place: Place,
         reader: &mut LimitedReader<T>,
     ) -> Result<IpNumber, HeaderLimitedReadError>
-        requires { shown place ≡ final_destination → is_some self.old.routing ≡ true }
+        requires { as_place place ≡ final_destination → is_some self.old.routing ≡ true }
         ensures ok { IfOk result (λ m.
-            IsReadInto (IsTakenInLayer T.bytes_left (layer_of (number_in (shown place)))
-            reader.old reader.new) (shown place) m.0 self.old self.new) }
+            IsReadInto (IsTakenInLayer T.bytes_left (layer_of (number_in (as_place place)))
+            reader.old reader.new) (as_place place) m.0 self.old self.new) }
         ensures kept { OnOk result
             (T.has_failed (inner_of reader.new) ≡ T.has_failed (inner_of reader.old)) }
         ensures steady { T.is_steady (inner_of reader.new) ≡ T.is_steady (inner_of reader.old) }
         ensures refused { IfErr result (λ e. IsHeaderRefusedInLayer T.bytes_left T.is_steady
-            T.has_failed e true (number_in (shown place)) reader.old reader.new) }
+            T.has_failed e true (number_in (as_place place)) reader.old reader.new) }
     {
         match place {
             Place::HopByHop => read_raw_limited(&mut self.hop_by_hop_options, reader),

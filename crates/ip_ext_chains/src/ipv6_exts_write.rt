@@ -1,7 +1,7 @@
 ghost use Rattle.std.specs.Prelude.{◌≡◌, ◌≤◌, ◌<◌, ◌↔◌, ◌+◌, ◌++◌, ℕ, List, None, OnOk, IfErr, IfSome, IfNone, vec_len, vec_capacity};
 ghost use Rattle.ip_spec.specs.Header.{IsExtensionNumber};
 ghost use Rattle.ip_spec.specs.Encoding.{AreBytes, AppendsOne};
-ghost use Rattle.ip_spec.specs.Encodable.{held_len};
+ghost use Rattle.ip_spec.specs.Encodable.{placed_len};
 ghost use Rattle.ip_spec.specs.Chain.{ExtHeader, bytes_of};
 ghost use Rattle.ip_spec.specs.Places.{Place as spec_place, places};
 ghost use Rattle.ip_spec.specs.Encoded.{cleared_chain};
@@ -10,9 +10,9 @@ ghost use Rattle.ip_spec.specs.Fits.{FitsPlaces};
 ghost use Rattle.ip_spec.specs.Parse.{IsRead};
 ghost use Rattle.ip_spec.specs.Links.{first_number, linked};
 ghost use Rattle.ip_spec.specs.WalkStep.{IsEncodingOf};
-ghost use Rattle.ip_ext_chains.specs.HeaderRef.{said};
+ghost use Rattle.ip_ext_chains.specs.HeaderRef.{fields_of_ref};
 ghost use Rattle.ip_ext_chains.specs.Fitting.{fitting_chain, IsFittingAnswer};
-ghost use Rattle.ip_ext_chains.specs.Ipv6Extensions.{held, value_of, exts_len};
+ghost use Rattle.ip_ext_chains.specs.Ipv6Extensions.{placed_fields, value_of, exts_len};
 ghost use Rattle.ip_ext_chains.specs.Walk.{walk_answer, left_in, IsStep};
 ghost use Rattle.ip_ext_chains.specs.Write.{IsWritten, IsWalkFault};
 ghost use Rattle.ip_ext_chains.specs.WriteError.{io_of, content_of};
@@ -31,7 +31,7 @@ impl Ipv6Extensions {
     /// The number to which the headers lead along their next numbers, where the first is of the number `first`
     /// and each is reached. It is Ok exactly where some bytes are read as this value with nothing left.
     pub fn next_header(&self, first: IpNumber) -> Result<IpNumber, ExtsWalkError>
-        ensures answer { IsWalkAnswer (held self.now) first.0 (walk_answer result) }
+        ensures answer { IsWalkAnswer (placed_fields self.now) first.0 (walk_answer result) }
         ensures exactly { (m : ℕ) → (walk_answer result ≡ leads m)
             ↔ ((s : List ℕ)
             × IsRead FitsPlaces (λ c. value_of c ≡ self.now) first.0 m s) }
@@ -52,9 +52,9 @@ impl Ipv6Extensions {
     /// Leads each header to the next one that is there, in the order of the places, and the last to `last`. The
     /// answer is the number of the first, or `last` where there is none: walked from there, they lead to `last`.
     pub fn set_next_headers(&mut self, last: IpNumber) -> IpNumber
-        ensures links { (p : spec_place) → held self.new p ≡ linked (held self.old) last.0 p }
-        ensures first { result.0 ≡ first_number (held self.old) places last.0 }
-        ensures leads { IsWalkAnswer (held self.new) result.0 (leads last.0) }
+        ensures links { (p : spec_place) → placed_fields self.new p ≡ linked (placed_fields self.old) last.0 p }
+        ensures first { result.0 ≡ first_number (placed_fields self.old) places last.0 }
+        ensures leads { IsWalkAnswer (placed_fields self.new) result.0 (leads last.0) }
     {
         self.encodable();
         let next = link_final(&mut self.routing, last);
@@ -80,16 +80,16 @@ impl Ipv6Extensions {
         ensures len { OnOk result (vec_len out.new ≡ vec_len out.old + exts_len self.now) }
         ensures read_again { OnOk result ((b r : List ℕ) (m : ℕ)
             → out.new.items ≡ out.old.items ++ b
-            → IsWalkAnswer (held self.now) first.0 (leads m) → (IsExtensionNumber m → ⊥)
+            → IsWalkAnswer (placed_fields self.now) first.0 (leads m) → (IsExtensionNumber m → ⊥)
             → IsFittingAnswer first.0 (b ++ r) self.now m r None) }
         ensures read_whole { OnOk result ((b : List ℕ) (m : ℕ)
-            → out.new.items ≡ out.old.items ++ b → IsWalkAnswer (held self.now) first.0 (leads m)
+            → out.new.items ≡ out.old.items ++ b → IsWalkAnswer (placed_fields self.now) first.0 (leads m)
             → IsRead FitsPlaces (λ c. value_of c ≡ self.now) first.0 m b) }
         ensures cleared { OnOk result ((s : List ℕ) → AreBytes s
             → value_of (fitting_chain first.0 s) ≡ self.now → out.new.items
             ≡ out.old.items ++ bytes_of (cleared_chain (fitting_chain first.0 s))) }
         ensures alike { OnOk result ((v : Ipv6Extensions) (c : List ExtHeader)
-            → IsSpelling (held v) first.0 c
+            → IsSpelling (placed_fields v) first.0 c
             → (out.new.items ≡ out.old.items ++ bytes_of c) ↔ (self.now ≡ v)) }
         ensures unchanged { IfErr result (λ e. IfSome (io_of e) (λ _.
             out.new.items ≡ out.old.items)) }
@@ -128,13 +128,13 @@ fn append_next<'a, A: Allocator>(
     place: Place,
     out: &mut Vec<u8, A>,
 ) -> Option<HeaderRef<'a>>
-    requires room { vec_len out.old + held_len (left_in walk.old) ≤ vec_capacity out.old }
-    ensures some { IfSome result (λ h. IsStep walk.old walk.new (said h)) }
+    requires room { vec_len out.old + placed_len (left_in walk.old) ≤ vec_capacity out.old }
+    ensures some { IfSome result (λ h. IsStep walk.old walk.new (fields_of_ref h)) }
     ensures appended { IfSome result (λ h.
-        AppendsOne (IsEncodingOf (said h)) out.old.items out.new.items) }
+        AppendsOne (IsEncodingOf (fields_of_ref h)) out.old.items out.new.items) }
     ensures none { IfNone result (walk.new ≡ walk.old) }
     ensures same { IfNone result (out.new.items ≡ out.old.items) }
-    ensures room { vec_len out.new + held_len (left_in walk.new) ≤ vec_capacity out.new }
+    ensures room { vec_len out.new + placed_len (left_in walk.new) ≤ vec_capacity out.new }
     ensures capacity { vec_capacity out.old ≤ vec_capacity out.new }
 {
     let header = walk.next_in(place)?;

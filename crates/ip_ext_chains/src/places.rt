@@ -4,7 +4,7 @@ ghost use Rattle.std.specs.Option.{option_map};
 ghost use Rattle.ip_spec.specs.Header.{IsRawNumber};
 ghost use Rattle.ip_spec.specs.FieldsOf.{raw_fields, fragment_fields, auth_fields};
 ghost use Rattle.ip_spec.specs.Places.{place_of, index, number_in, routing, fragment, authentication};
-ghost use Rattle.ip_ext_chains.specs.Place.{shown};
+ghost use Rattle.ip_ext_chains.specs.Place.{as_place};
 
 use crate::Ipv6ExtensionSlice;
 use ip_base::{IpNumber, ip_number};
@@ -25,7 +25,7 @@ impl Place {
     /// The place of a header of the number, behind a routing header or not.
     #[inline(always)]
     pub(crate) fn of(number: IpNumber, behind_routing: bool) -> Option<Place>
-        ensures { option_map shown result ≡ place_of number.0 behind_routing }
+        ensures { option_map as_place result ≡ place_of number.0 behind_routing }
     {
         match number {
             ip_number::IPV6_HOP_BY_HOP => Some(Place::HopByHop),
@@ -41,7 +41,7 @@ impl Place {
     /// The number of the headers that stand in it.
     #[inline(always)]
     pub(crate) fn number(self) -> IpNumber
-        ensures { result.0 ≡ number_in (shown self) }
+        ensures { result.0 ≡ number_in (as_place self) }
     {
         match self {
             Place::HopByHop => ip_number::IPV6_HOP_BY_HOP,
@@ -55,7 +55,7 @@ impl Place {
     /// Where it stands among the places.
     #[inline(always)]
     fn index(self) -> usize
-        ensures { result ≡ index (shown self) }
+        ensures { result ≡ index (as_place self) }
     {
         self as usize
     }
@@ -64,7 +64,7 @@ impl Place {
 /// Something in each place, or nothing.
 #[derive(Drop)]
 pub(crate) struct Places<T> {
-    held: [Option<T>; 6],
+    slots: [Option<T>; 6],
 }
 
 impl<T: Drop> Places<T> {
@@ -76,22 +76,22 @@ impl<T: Drop> Places<T> {
         ensures { IsVacant result }
     {
         Places {
-            held: [None, None, None, None, None, None],
+            slots: [None, None, None, None, None, None],
         }
     }
 
     /// What is in the place.
     #[inline(always)]
     pub(crate) fn get(&self, place: Place) -> Option<&T>
-        ensures { option_map (λ x. x.now) result ≡ at (shown place) self.now }
+        ensures { option_map (λ x. x.now) result ≡ at (as_place place) self.now }
     {
-        self.held[place.index()].as_ref()
+        self.slots[place.index()].as_ref()
     }
 
     /// The place of a header of the number, behind the routing header if one is here.
     #[inline(always)]
     pub(crate) fn place_of(&self, number: IpNumber) -> Option<Place>
-        ensures { option_map shown result ≡ place_of number.0 (is_some (at routing self.now)) }
+        ensures { option_map as_place result ≡ place_of number.0 (is_some (at routing self.now)) }
     {
         Place::of(number, self.get(Place::Routing).is_some())
     }
@@ -111,7 +111,7 @@ impl<T: Drop> Places<T> {
     /// The place of the number, where nothing is there.
     #[inline(always)]
     pub(crate) fn free_place(&self, number: IpNumber) -> Option<Place>
-        ensures free { IfSome result (λ p. IsFreePlace number.0 (shown p) self.now) }
+        ensures free { IfSome result (λ p. IsFreePlace number.0 (as_place p) self.now) }
         ensures filled { IfNone result (IsFilled number.0 self.now) }
     {
         let place = self.place_of(number)?;
@@ -124,9 +124,9 @@ impl<T: Drop> Places<T> {
     /// Puts it into the place.
     #[inline(always)]
     pub(crate) fn put(&mut self, place: Place, value: T)
-        ensures { IsPut (shown place) value self.old self.new }
+        ensures { IsPut (as_place place) value self.old self.new }
     {
-        self.held[place.index()] = Some(value);
+        self.slots[place.index()] = Some(value);
     }
 }
 
@@ -140,10 +140,10 @@ impl<'a> Places<Ipv6ExtensionSlice<'a>> {
     /// The header in a place of the common layout.
     #[inline(always)]
     pub(crate) fn raw(&self, place: Place) -> Option<&Ipv6RawExtHeaderSlice<'a>>
-        requires common { IsRawNumber (number_in (shown place)) }
+        requires common { IsRawNumber (number_in (as_place place)) }
         requires numbers { AreOfNumber self.now }
         ensures { option_map (λ h. raw_fields (raw_slice.bytes h.now)) result
-            ≡ raw_at (shown place) self.now }
+            ≡ raw_at (as_place place) self.now }
     {
         match self.get(place) {
             Some(

@@ -4,9 +4,9 @@ ghost use Rattle.std.specs.Option.{option_map};
 ghost use Rattle.ip_spec.specs.Walk.{first_filled, answer_at};
 ghost use Rattle.ip_spec.specs.WalkStep.{next_place};
 ghost use Rattle.ip_spec.specs.Places.{Place as spec_place, raw_header};
-ghost use Rattle.ip_ext_chains.specs.Place.{shown};
-ghost use Rattle.ip_ext_chains.specs.HeaderRef.{said};
-ghost use Rattle.ip_ext_chains.specs.Ipv6Extensions.{held};
+ghost use Rattle.ip_ext_chains.specs.Place.{as_place};
+ghost use Rattle.ip_ext_chains.specs.HeaderRef.{fields_of_ref};
+ghost use Rattle.ip_ext_chains.specs.Ipv6Extensions.{placed_fields};
 ghost use Rattle.ip_ext_chains.specs.Walk.{walk_answer, left_in, IsStep, IsStop};
 
 use crate::Ipv6Extensions;
@@ -30,7 +30,7 @@ impl<'a> Walk<'a> {
     /// From the number, with no header reached.
     #[inline(always)]
     pub(crate) fn new(headers: &'a Ipv6Extensions, start: IpNumber) -> Walk<'a>
-        ensures left { (p : spec_place) → left_in result p ≡ held headers.now p }
+        ensures left { (p : spec_place) → left_in result p ≡ placed_fields headers.now p }
         ensures number { result.number.0 ≡ start.0 }
         ensures first { result.first ≡ true }
         ensures behind_routing { result.behind_routing ≡ false }
@@ -47,7 +47,7 @@ impl<'a> Walk<'a> {
     /// The next header. Hop by hop options are next only at the start.
     #[inline(always)]
     pub(crate) fn next(&mut self) -> Option<HeaderRef<'a>>
-        ensures some { IfSome result (λ h. IsStep self.old self.new (said h)) }
+        ensures some { IfSome result (λ h. IsStep self.old self.new (fields_of_ref h)) }
         ensures none { IfNone result (IsStop self.old self.new) }
     {
         if self.number == ip_number::IPV6_HOP_BY_HOP && !self.first {
@@ -67,7 +67,7 @@ impl<'a> Walk<'a> {
     /// The next header, where it stands in the place.
     #[inline(always)]
     pub(crate) fn next_in(&mut self, place: Place) -> Option<HeaderRef<'a>>
-        ensures some { IfSome result (λ h. IsStep self.old self.new (said h)) }
+        ensures some { IfSome result (λ h. IsStep self.old self.new (fields_of_ref h)) }
         ensures none { IfNone result (self.new ≡ self.old) }
     {
         if !self.goes_on_in(place) {
@@ -80,7 +80,7 @@ impl<'a> Walk<'a> {
     #[inline(always)]
     fn goes_on_in(&self, place: Place) -> bool
         ensures { IsTrue result ↔ (next_place self.now.first self.now.behind_routing
-            self.now.number.0 ≡ Some (shown place)) }
+            self.now.number.0 ≡ Some (as_place place)) }
     {
         let is_own = match place {
             Place::HopByHop => self.first,
@@ -95,8 +95,8 @@ impl<'a> Walk<'a> {
     #[inline(always)]
     fn reach(&mut self, place: Place) -> Option<HeaderRef<'a>>
         requires own { next_place self.old.first self.old.behind_routing self.old.number.0
-            ≡ Some (shown place) }
-        ensures some { IfSome result (λ h. IsStep self.old self.new (said h)) }
+            ≡ Some (as_place place) }
+        ensures some { IfSome result (λ h. IsStep self.old self.new (fields_of_ref h)) }
         ensures none { IfNone result (IsStop self.old self.new) }
         ensures same { IfNone result (self.new ≡ self.old) }
     {
@@ -111,7 +111,7 @@ impl<'a> Walk<'a> {
     /// The header in the place, where it isn't reached yet.
     #[inline(always)]
     fn left(&self, place: Place) -> Option<HeaderRef<'a>>
-        ensures { option_map said result ≡ left_in self.now (shown place) }
+        ensures { option_map fields_of_ref result ≡ left_in self.now (as_place place) }
     {
         if self.reached.get(place).is_some() {
             return None;
@@ -122,7 +122,7 @@ impl<'a> Walk<'a> {
     /// The first place, in their order, whose header isn't reached.
     #[inline(always)]
     fn first_left(&self) -> Option<Place>
-        ensures { option_map shown result ≡ first_filled (left_in self.now) }
+        ensures { option_map as_place result ≡ first_filled (left_in self.now) }
     {
         if self.left(Place::HopByHop).is_some() {
             Some(Place::HopByHop)
@@ -163,7 +163,7 @@ impl<'a> Walk<'a> {
 /// The header in the place.
 #[inline(always)]
 fn header_in(headers: &Ipv6Extensions, place: Place) -> Option<HeaderRef<'_>>
-    ensures { option_map said result ≡ held headers.now (shown place) }
+    ensures { option_map fields_of_ref result ≡ placed_fields headers.now (as_place place) }
 {
     match place {
         Place::HopByHop => raw_ref(&headers.hop_by_hop_options),
@@ -189,7 +189,7 @@ fn header_in(headers: &Ipv6Extensions, place: Place) -> Option<HeaderRef<'_>>
 
 #[inline(always)]
 fn raw_ref(header: &Option<Ipv6RawExtHeader>) -> Option<HeaderRef<'_>>
-    ensures { option_map said result ≡ option_map raw_header header.now }
+    ensures { option_map fields_of_ref result ≡ option_map raw_header header.now }
 {
     match header {
         Some(header) => Some(HeaderRef::Raw(header)),

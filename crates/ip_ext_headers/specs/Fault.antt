@@ -1,5 +1,5 @@
 -- The fault at bytes r that begin at offset k: the first test that holds, from left to right. Nothing where a
--- header begins r. That n bytes are there is told by the source.
+-- header begins r. The source says that n bytes are there.
 use Rattle.std.specs.Prelude.{ℕ, ◌+◌, ◌*◌, ◌<◌, ◌^◌, List, length, slice_index, Option, Some, None, ⊤, nat_lt, ◌==◌, if◌then◌else◌}
 use Rattle.ip_base.specs.declared.err.len_error.LenError.{LenError}
 use Rattle.ip_base.specs.declared.err.layer.Layer.TheVariants.{Ipv6ExtHeader, Ipv6FragHeader, IpAuthHeader}
@@ -30,7 +30,7 @@ auth_fault source n k r =
     else if nat_lt (length r) (4 * (slice_index r 1 + 2)) then Some (Len (too_short source n k IpAuthHeader (4 * (slice_index r 1 + 2))))
     else None
 
--- the error told from k bytes further to the front, where that is a place
+-- the error counted from k bytes further to the front, where that is a place
 abbrev pub auth_moved : ℕ → HeaderSliceError → HeaderSliceError
 auth_moved k (Len e) = Len (moved e.len_source k e)
 auth_moved k (Content e) = Content e

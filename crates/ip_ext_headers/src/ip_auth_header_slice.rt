@@ -13,7 +13,7 @@ use ip_base::{IpNumber, LenSource};
 #[deprecated(note = "use `IpAuthHeaderSlice`")]
 pub type IpAuthenticationHeaderSlice<'a> = IpAuthHeaderSlice<'a>;
 
-/// One authentication header (RFC 4302, section 2), as a stretch of the caller's bytes. Two are equal where
+/// One authentication header (RFC 4302, section 2), borrowed from the caller's bytes. Two are equal where
 /// their bytes are.
 #[derive(Clone, Copy, Debug)]
 pub struct IpAuthHeaderSlice<'a> {

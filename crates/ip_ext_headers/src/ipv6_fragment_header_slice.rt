@@ -10,7 +10,7 @@ use ip_base::err::{Layer, LenError};
 use ip_base::{IpFragOffset, IpNumber, LenSource};
 use std::alloc::AllocError;
 
-/// One IPv6 fragment header (RFC 8200, section 4.5), as a stretch of the caller's bytes. Two are equal where
+/// One IPv6 fragment header (RFC 8200, section 4.5), borrowed from the caller's bytes. Two are equal where
 /// their bytes are.
 #[derive(Debug, Drop)]
 pub struct Ipv6FragmentHeaderSlice<'a> {

@@ -15,7 +15,7 @@ use std::alloc::AllocError;
 pub type Ipv6RawExtensionHeaderSlice<'a> = Ipv6RawExtHeaderSlice<'a>;
 
 /// One IPv6 header of the common layout (hop by hop options, routing or destination options; RFC 8200,
-/// sections 4.3, 4.4, 4.6), as a stretch of the caller's bytes. Two are equal where their bytes are.
+/// sections 4.3, 4.4, 4.6), borrowed from the caller's bytes. Two are equal where their bytes are.
 #[derive(Debug, Drop)]
 pub struct Ipv6RawExtHeaderSlice<'a> {
     slice: &'a [u8],

@@ -49,7 +49,7 @@ impl Ipv4Extensions {
         ensures cleared { IsIpv4Encoding start_ip_number.0 result.0.auth
             (bytes_of (cleared_chain (longest_ipv4_chain start_ip_number.0 start_slice.now))) }
     {
-        let (slices, number, rest, fault) = Self::walk(start_ip_number, start_slice);
+        let (slices, number, rest, fault) = Self::scan(start_ip_number, start_slice);
         let mut exts = Self::default();
         exts.fill(&slices);
         (exts, number, rest, fault)
@@ -72,7 +72,7 @@ impl Ipv4Extensions {
     /// What `Ipv4ExtensionsSlice::from_slice_lax` answers. It stands apart, so that one path alone makes and
     /// moves the header with bytes of its own.
     #[inline(never)]
-    fn walk(
+    fn scan(
         start: IpNumber,
         bytes: &[u8],
     ) -> (

@@ -10,7 +10,7 @@ use crate::err::ip_auth::HeaderSliceError;
 use ip_base::{IpNumber, ip_number};
 use ip_ext_headers::IpAuthHeaderSlice;
 
-/// The extension headers of an IPv4 packet, as stretches of the caller's bytes: an authentication header (RFC
+/// The extension headers of an IPv4 packet, borrowed from the caller's bytes: an authentication header (RFC
 /// 4302, section 2), or none. Two are equal where their headers' bytes are.
 #[derive(Clone, Copy, Debug)]
 pub struct Ipv4ExtensionsSlice<'a> {

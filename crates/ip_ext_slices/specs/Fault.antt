@@ -55,11 +55,11 @@ abbrev pub chain_fault : ℕ → List ℕ → Option Fault
 chain_fault n s = fault_behind (chain_faults Slice) (longest_chain n s) n s
 
 -- the error at offset k, where n bytes are left, by its cause: a layer needs more, or what a header says is wrong
-abbrev pub caused : ℕ → ℕ → Result (ℕ × Layer) HeaderError → HeaderSliceError
-caused k n (Ok (required, layer)) = Len (too_short Slice n k layer required)
-caused k n (Err e) = Content e
+abbrev pub error_by_cause : ℕ → ℕ → Result (ℕ × Layer) HeaderError → HeaderSliceError
+error_by_cause k n (Ok (required, layer)) = Len (too_short Slice n k layer required)
+error_by_cause k n (Err e) = Content e
 
--- the error told from k bytes further to the front, where that is a place
+-- the error counted from k bytes further to the front, where that is a place
 abbrev pub exts_moved : ℕ → HeaderSliceError → HeaderSliceError
 exts_moved k (Len e) = Len (moved e.len_source k e)
 exts_moved k (Content e) = Content e

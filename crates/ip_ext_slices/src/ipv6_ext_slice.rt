@@ -6,7 +6,7 @@ ghost use Rattle.ip_spec.specs.Fields.{next_header, is_fragmenting};
 use ip_base::{IpNumber, ip_number};
 use ip_ext_headers::{IpAuthHeaderSlice, Ipv6FragmentHeaderSlice, Ipv6RawExtHeaderSlice};
 
-/// One header of an IPv6 chain, as a stretch of the caller's bytes. Two are equal where their variants and
+/// One header of an IPv6 chain, borrowed from the caller's bytes. Two are equal where their variants and
 /// their bytes are.
 #[derive(Clone, Debug, Drop)]
 pub enum Ipv6ExtensionSlice<'a> {

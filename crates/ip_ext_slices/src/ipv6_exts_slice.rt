@@ -15,7 +15,7 @@ use crate::{Ipv6ExtensionSlice, Ipv6ExtensionSliceIter};
 use ip_base::{IpNumber, ip_number};
 use std::alloc::AllocError;
 
-/// A chain of IPv6 extension headers (RFC 8200, section 4), as a stretch of the caller's bytes. Its bytes are
+/// A chain of IPv6 extension headers (RFC 8200, section 4), borrowed from the caller's bytes. Its bytes are
 /// whole headers, linked from the number of the first. Two are equal where the number of the first header
 /// and the bytes are.
 #[derive(Debug, Drop)]
@@ -89,7 +89,7 @@ impl<'a> Ipv6ExtensionsSlice<'a> {
         ensures first { first_number result.0
             ≡ (if length (bytes result.0) == 0 then None else Some start_ip_number) }
     {
-        let (number, rest, len, fragmented) = Self::walk(start_ip_number, start_slice);
+        let (number, rest, len, fragmented) = Self::scan(start_ip_number, start_slice);
         if is_extension(number) {
             let fault = fault(len == 0, number, rest, len);
             let found = Self::first(start_ip_number, start_slice, len, fragmented);
@@ -102,7 +102,7 @@ impl<'a> Ipv6ExtensionsSlice<'a> {
     /// Goes over the longest chain from the number that begins the bytes: the number to which it leads, the
     /// bytes after it, how many it has, and whether it fragments the payload.
     #[inline(always)]
-    fn walk(start: IpNumber, bytes: &'a [u8]) -> (IpNumber, &'a [u8], usize, bool)
+    fn scan(start: IpNumber, bytes: &'a [u8]) -> (IpNumber, &'a [u8], usize, bool)
         ensures number { result.0.0 ≡ leads_to start.0 (longest_chain start.0 bytes.now) }
         ensures rest { result.1.now ≡ rest_behind (longest_chain start.0 bytes.now) bytes.now }
         ensures len { result.2 ≡ length (bytes_of (longest_chain start.0 bytes.now)) }
@@ -134,7 +134,7 @@ impl<'a> Ipv6ExtensionsSlice<'a> {
         ensures first { IfOk result (λ x. first_number x.0
             ≡ (if length (bytes x.0) == 0 then None else Some start_ip_number)) }
     {
-        let (number, rest, len, fragmented) = Self::walk(start_ip_number, start_slice);
+        let (number, rest, len, fragmented) = Self::scan(start_ip_number, start_slice);
         if is_extension(number) {
             return Err(error_at(len == 0, number, rest, len));
         }

@@ -3,7 +3,7 @@ ghost use Rattle.std.specs.Prelude.{◌≡◌, ◌≤◌, ◌+◌, ◌*◌, ◌�
 ghost use Rattle.std.specs.Option.{option_map};
 ghost use Rattle.ip_spec.specs.Header.{IsExtensionNumber};
 ghost use Rattle.ip_spec.specs.Chain.{IsNext, IsEnd};
-ghost use Rattle.ip_ext_slices.specs.Fault.{slice_fault, caused};
+ghost use Rattle.ip_ext_slices.specs.Fault.{slice_fault, error_by_cause};
 ghost use Rattle.ip_ext_slices.specs.Ipv6ExtensionSlice.{header_of};
 
 use crate::Ipv6ExtensionSlice;
@@ -81,7 +81,7 @@ pub(crate) fn is_extension(number: IpNumber) -> bool
 fn cause(first: bool, number: IpNumber, bytes: &[u8]) -> Result<(usize, Layer), HeaderError>
     ensures { (k : ℕ) → IsSome (slice_fault k first number.0 bytes.now)
         → option_map (λ f. f.0) (slice_fault k first number.0 bytes.now)
-        ≡ Some (caused k (length bytes.now) result) }
+        ≡ Some (error_by_cause k (length bytes.now) result) }
 {
     match number {
         ip_number::IPV6_HOP_BY_HOP if !first => Err(HeaderError::HopByHopNotAtStart),

@@ -14,7 +14,7 @@ use Rattle.ip_spec.specs.Chain.{ExtHeader}
 use Rattle.ip_spec.specs.Places.{Place, hop_by_hop, destination, routing, fragment as fragment_place, authentication, final_destination, places, index, number_in, header_in, fields_of, HeaderFields, raw_header, fragment_header, auth_header}
 use Rattle.ip_spec.specs.Encoded.{IsCleared}
 use Rattle.ip_spec.specs.Encodable.{IsEncoded, IsEncodable}
-use Rattle.ip_spec.specs.Walk.{Held, leads, IsWalkAnswer}
+use Rattle.ip_spec.specs.Walk.{PlacedFields, leads, IsWalkAnswer}
 use Rattle.ip_spec.specs.WalkStep.{next_place, without, next_of}
 use Rattle.ip_spec.specs.Links.{relinked, first_number, places_behind, linked}
 use Rattle.ip_spec.proofs.HeaderLemmas.{raw_of, fragment_of, auth_of, header-least}
@@ -95,7 +95,7 @@ number_small : (p : Place) → number_in p < 256
 number_small hop_by_hop = omega arith
 number_small p = omega arith
 
-pub first_number_small : (v : Held) (ps : List Place) (m : ℕ) → m < 256 → first_number v ps m < 256
+pub first_number_small : (v : PlacedFields) (ps : List Place) (m : ℕ) → m < 256 → first_number v ps m < 256
 first_number_small v ps m small = of (find (λ p. is_some (v p)) ps)
   where
     of : (o : Option Place) → option_map_or number_in o m < 256
@@ -110,7 +110,7 @@ mapped_is_some : (j : ℕ) (o : Option HeaderFields) → is_some (option_map (re
 mapped_is_some j None = refl
 mapped_is_some j (Some x) = refl
 
-pub linked_encodable : (v : Held) (m : ℕ) → m < 256 → IsEncodable v → IsEncodable (linked v m)
+pub linked_encodable : (v : PlacedFields) (m : ℕ) → m < 256 → IsEncodable v → IsEncodable (linked v m)
 linked_encodable v m small e = record {
   encoded = λ p y k.
       let j : ℕ = first_number v (places_behind p) m in
@@ -141,11 +141,11 @@ beyond_it : (i j k : ℕ) → i ≡ k → i ≢ j → k ≤ j → k + 1 ≤ j
 beyond_it i j k e d l = omega (arith, e, d, l)
 
 -- The linked headers that stand in the first k places have been reached.
-abbrev beyond : ℕ → Held → Held
+abbrev beyond : ℕ → PlacedFields → PlacedFields
 beyond k w q = if nat_lt (index q) k then None else w q
 
-module _ (v : Held) (m : ℕ) (small : m < 256) (e : IsEncodable v) where
-  abbrev w : Held
+module _ (v : PlacedFields) (m : ℕ) (small : m < 256) (e : IsEncodable v) where
+  abbrev w : PlacedFields
   w = linked v m
 
   abbrev f : ℕ
@@ -203,7 +203,7 @@ module _ (v : Held) (m : ℕ) (small : m < 256) (e : IsEncodable v) where
       first = up.first;
       behind = up.behind;
       walking = record {
-        shown = up.walking.shown;
+        in_value = up.walking.in_value;
         left = λ q. skipped p k i none q ∙ up.walking.left q;
         number = sym (ap (λ l. first_number v l m) at ∙ number_none p (drop (k + 1) places) none) ∙ up.walking.number;
         first_is = up.walking.first_is;
@@ -246,7 +246,7 @@ module _ (v : Held) (m : ℕ) (small : m < 256) (e : IsEncodable v) where
     | inl some ↦
         let it = some_if (header_in routing up.reached) some in
         let nothing : w routing ≡ None = sym (ap (λ b. if b then None else w routing) (le-ltb 2 k l)) ∙ up.walking.left routing ∙ ap (λ b. if b then None else w routing) some in
-        absurd (none-some (fields_of it.0) (sym nothing ∙ up.walking.shown.shown routing it.0 it.1))
+        absurd (none-some (fields_of it.0) (sym nothing ∙ up.walking.in_value.in_value routing it.0 it.1))
   ]
 
   is_behind : (k : ℕ) (up : Up k) → 2 < k → is_some (v routing) ≡ true → up.behind ≡ true

@@ -15,7 +15,7 @@ use Rattle.ip_spec.specs.Places.{Place, hop_by_hop, destination, routing, fragme
 use Rattle.ip_spec.specs.Encoded.{cleared_chain}
 use Rattle.ip_spec.specs.Encodable.{IsEncodable}
 use Rattle.ip_spec.specs.Parse.{IsRead}
-use Rattle.ip_spec.specs.Walk.{Held, IsValueOf, IsSpelling, IsShown, IsReach, unreached, first_filled, WalkAnswer, leads, hop_by_hop_not_at_start, not_referenced, fault_or_number, answer_at, IsWalkAnswer}
+use Rattle.ip_spec.specs.Walk.{PlacedFields, IsValueOf, IsSpelling, IsReachable, IsReach, unreached, first_filled, WalkAnswer, leads, hop_by_hop_not_at_start, not_referenced, fault_or_number, answer_at, IsWalkAnswer}
 use Rattle.ip_spec.proofs.FirstLemmas.{none_passes}
 use Rattle.ip_spec.proofs.PrefixLemmas.{prefix_of-append}
 use Rattle.ip_spec.proofs.LongestOfLemmas.{longest_where_none_next}
@@ -30,33 +30,33 @@ use Rattle.ip_spec.proofs.PlaceLemmas.{each, place_number}
 use Rattle.ip_spec.proofs.WalkLemmas.{none_if, Next, next_shown, shown_grows, one_reach}
 
 -- bytes s are read as the value v of six places
-abbrev pub IsReadAs : Held → ℕ → ℕ → List ℕ → Type 0
+abbrev pub IsReadAs : PlacedFields → ℕ → ℕ → List ℕ → Type 0
 IsReadAs v f m s = IsRead FitsPlaces (λ c. IsValueOf c v) f m s
 
 -- A chain that spells v is all that v reaches.
-spelled_shown : (v : Held) (f : ℕ) (c : List ExtHeader) → IsSpelling v f c → IsShown v f c
+spelled_shown : (v : PlacedFields) (f : ℕ) (c : List ExtHeader) → IsSpelling v f c → IsReachable v f c
 spelled_shown v f c s = record {
   chain = s.chain;
   fits = s.fits;
-  shown = λ p h e. s.value p ∙ ap (option_map fields_of) e;
+  in_value = λ p h e. s.value p ∙ ap (option_map fields_of) e;
   cleared = s.cleared;
 }
 
-pub spelling_is_reach : (v : Held) (f : ℕ) (c : List ExtHeader) → IsSpelling v f c → IsReach v f c
+pub spelling_is_reach : (v : PlacedFields) (f : ℕ) (c : List ExtHeader) → IsSpelling v f c → IsReach v f c
 spelling_is_reach v f c s =
-    longest_where_none_next (IsShown v f) (shown_grows v f) c (spelled_shown v f c s)
+    longest_where_none_next (IsReachable v f) (shown_grows v f) c (spelled_shown v f c s)
     (λ x k.
     let n : Next v f c x = next_shown v f c x k in
     none-some (fields_of x) (sym (s.value n.joins.place ∙ ap (option_map fields_of) n.joins.free) ∙ n.said))
 
-pub one_spelling : (v : Held) (f : ℕ) (c d : List ExtHeader) → IsSpelling v f c → IsSpelling v f d → c ≡ d
+pub one_spelling : (v : PlacedFields) (f : ℕ) (c d : List ExtHeader) → IsSpelling v f c → IsSpelling v f d → c ≡ d
 one_spelling v f c d s t = one_reach v f c d (spelling_is_reach v f c s) (spelling_is_reach v f d t)
 
 -- Where nothing is left, each place of v is that of the chain.
-pub nothing_filled : (u : Held) → first_filled u ≡ None → (p : Place) → u p ≡ None
+pub nothing_filled : (u : PlacedFields) → first_filled u ≡ None → (p : Place) → u p ≡ None
 nothing_filled u e p = none_if (u p) (each (λ q. is_some (u q) ≡ false) (none_passes (λ q. is_some (u q)) places e) p)
 
-first_none : (u : Held) → ((p : Place) → u p ≡ None) → first_filled u ≡ None
+first_none : (u : PlacedFields) → ((p : Place) → u p ≡ None) → first_filled u ≡ None
 first_none u e = simp (e hop_by_hop, e destination, e routing, e fragment, e authentication, e final_destination)
 
 -- an answer that leads on tells that nothing is left, and the other way round
@@ -67,19 +67,19 @@ leads_told m k b (Some p) e = elim (cases_Bool ((m == 0) && b)) [
   | inr w ↦ absurd (let no : leads k ≡ not_referenced (number_in p) = e ∙ ap (λ x. if x then hop_by_hop_not_at_start else not_referenced (number_in p)) w in cc)
 ]
 
-pub leads_where_none : (m : ℕ) (u : Held) → ((p : Place) → u p ≡ None) → answer_at m u ≡ leads m
+pub leads_where_none : (m : ℕ) (u : PlacedFields) → ((p : Place) → u p ≡ None) → answer_at m u ≡ leads m
 leads_where_none m u e = ap (fault_or_number m (is_some (u hop_by_hop))) (first_none u e)
 
 left_none : (o : Option ExtHeader) (x : Option HeaderFields) → ((h : ExtHeader) → o ≡ Some h → x ≡ Some (fields_of h)) → (if is_some o then None else x) ≡ None → x ≡ option_map fields_of o
 left_none None x k e = e
 left_none (Some h) x k e = k h refl
 
-module _ (v : Held) (f : ℕ) where
-  shown_whole : (c : List ExtHeader) → IsShown v f c → ((p : Place) → unreached v c p ≡ None) → IsSpelling v f c
+module _ (v : PlacedFields) (f : ℕ) where
+  shown_whole : (c : List ExtHeader) → IsReachable v f c → ((p : Place) → unreached v c p ≡ None) → IsSpelling v f c
   shown_whole c s none = record {
     chain = s.chain;
     fits = s.fits;
-    value = λ p. left_none (header_in p c) (v p) (s.shown p) (none p);
+    value = λ p. left_none (header_in p c) (v p) (s.in_value p) (none p);
     cleared = s.cleared;
   }
 
@@ -131,17 +131,17 @@ module _ (v : Held) (f : ℕ) where
         let one : it.0 ≡ x = one_header_says it.0 x same (subst H (sym it.1.number) it.1.header) n.header it.1.cleared n.cleared it.1.fields in
         subst AreBytes (ap (λ (h : ExtHeader). h.bytes) one) it.1.bytes
 
-    shown_bytes_from : (c d : List ExtHeader) → AreBytes (bytes_of c) → IsShown v f (c ++ d) → AreBytes (bytes_of (c ++ d))
+    shown_bytes_from : (c d : List ExtHeader) → AreBytes (bytes_of c) → IsReachable v f (c ++ d) → AreBytes (bytes_of (c ++ d))
     shown_bytes_from c [] b s = subst (λ (l : List ExtHeader). AreBytes (bytes_of l)) (sym (append-nil c)) b
     shown_bytes_from c (x ∷ d) b s =
         let more : (c ++ x ∷ []) ++ d ≡ c ++ x ∷ d = append_assoc c (x ∷ []) d in
-        let S : List ExtHeader → Type 0 = IsShown v f in
+        let S : List ExtHeader → Type 0 = IsReachable v f in
         let B : List ExtHeader → Type 0 = λ l. AreBytes (bytes_of l) in
-        let whole : IsShown v f ((c ++ x ∷ []) ++ d) = subst S (sym more) s in
+        let whole : IsReachable v f ((c ++ x ∷ []) ++ d) = subst S (sym more) s in
         let n : Next v f c x = next_shown v f c x ((shown_grows v f).begins (c ++ x ∷ []) d whole) in
         subst B more (shown_bytes_from (c ++ x ∷ []) d (subst AreBytes (sym (bytes_of-more c x)) (All-append (λ y. y < 256) (bytes_of c) x.bytes b (said_bytes c x n))) whole)
 
-    pub shown_bytes : (c : List ExtHeader) → IsShown v f c → AreBytes (bytes_of c)
+    pub shown_bytes : (c : List ExtHeader) → IsReachable v f c → AreBytes (bytes_of c)
     shown_bytes c s = shown_bytes_from [] c (λ k d l. omega arith) s
 
     -- the value is read from the bytes of the chain that spells it
@@ -169,14 +169,14 @@ module _ (v : Held) (f : ℕ) where
     )
 
 -- What is spelled is read again, whatever follows it, where no extension number follows or one that is taken.
-pub spelled_is_read : (v : Held) (f : ℕ) (c : List ExtHeader) (r : List ℕ) → IsSpelling v f c → (IsExtensionNumber (leads_to f c) → IsTaken (leads_to f c) c) → IsLongestUnder FitsPlaces f (bytes_of c ++ r) c
+pub spelled_is_read : (v : PlacedFields) (f : ℕ) (c : List ExtHeader) (r : List ℕ) → IsSpelling v f c → (IsExtensionNumber (leads_to f c) → IsTaken (leads_to f c) c) → IsLongestUnder FitsPlaces f (bytes_of c ++ r) c
 spelled_is_read v f c r s taken =
     longest_at_end_under FitsPlaces fits_places f (bytes_of c ++ r) c
     (record { has = record { chain = s.chain; prefix = prefix_of-append (bytes_of c) r (bytes_of c ++ r) refl }; meets = s.fits })
     (λ h x. (taken (header_number (leads_to f c) h.bytes x.header)).1 h x.number)
 
 -- Writing what was read gives what was read, cleared.
-pub spelled_is_cleared : (v : Held) (f : ℕ) (c d : List ExtHeader) → IsChain f c → FitsPlaces c → AreBytes (bytes_of c) → IsValueOf c v → IsSpelling v f d → d ≡ cleared_chain c
+pub spelled_is_cleared : (v : PlacedFields) (f : ℕ) (c d : List ExtHeader) → IsChain f c → FitsPlaces c → AreBytes (bytes_of c) → IsValueOf c v → IsSpelling v f d → d ≡ cleared_chain c
 spelled_is_cleared v f c d k fits bytes value s = one_spelling v f d (cleared_chain c) s (cleared_spells v f c k fits bytes value)
 
 -- Equal bytes are those of equal values.
@@ -185,7 +185,7 @@ same_bytes f c d k l e =
     let L : List ℕ → Type 0 = λ s. IsLongestChain f s d in
     one_longest f (bytes_of c) c d (whole_longest f c k) (subst L (sym e) (whole_longest f d l))
 
-pub spelled_alike : (v w : Held) (f : ℕ) (c d : List ExtHeader) → IsSpelling v f c → IsSpelling w f d → (bytes_of c ≡ bytes_of d) ↔ ((p : Place) → v p ≡ w p)
+pub spelled_alike : (v w : PlacedFields) (f : ℕ) (c d : List ExtHeader) → IsSpelling v f c → IsSpelling w f d → (bytes_of c ≡ bytes_of d) ↔ ((p : Place) → v p ≡ w p)
 spelled_alike v w f c d s t = (
   (λ e p. s.value p ∙ ap (λ l. option_map fields_of (header_in p l)) (same_bytes f c d s.chain t.chain e) ∙ sym (t.value p)),
   (λ e. ap bytes_of (one_spelling w f c d (record { chain = s.chain; fits = s.fits; value = λ p. sym (e p) ∙ s.value p; cleared = s.cleared }) t)),

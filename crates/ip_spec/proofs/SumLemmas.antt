@@ -13,8 +13,8 @@ use Rattle.ip_spec.specs.Fields.{next_header}
 use Rattle.ip_spec.specs.Chain.{ExtHeader, leads_to, bytes_of, IsChain}
 use Rattle.ip_spec.specs.Fits.{FitsPlaces}
 use Rattle.ip_spec.specs.Places.{Place, hop_by_hop, destination, routing, fragment as fragment_place, authentication, final_destination, index, header_in, fields_of, HeaderFields, raw_header}
-use Rattle.ip_spec.specs.Encodable.{IsEncodable, fields_len, sum_held, held_len}
-use Rattle.ip_spec.specs.Walk.{Held, IsValueOf, IsReach, WalkAnswer, answer_at, unreached, IsWalkAnswer}
+use Rattle.ip_spec.specs.Encodable.{IsEncodable, fields_len, sum_placed, placed_len}
+use Rattle.ip_spec.specs.Walk.{PlacedFields, IsValueOf, IsReach, WalkAnswer, answer_at, unreached, IsWalkAnswer}
 use Rattle.ip_spec.specs.WalkStep.{next_place, without}
 use Rattle.ip_spec.proofs.StepLemmas.{chain_begins}
 use Rattle.ip_spec.proofs.FitsLemmas.{fits_places}
@@ -23,45 +23,45 @@ use Rattle.ip_spec.proofs.WalkLemmas.{Joins, joins, there}
 use Rattle.ip_spec.proofs.WalkStepLemmas.{Walking, walk_begins, walks_on, walk_stops, left_some, same_held}
 
 -- What is taken out of a place is missing in the sum.
-module _ (g : HeaderFields → ℕ) (u w : Held) where
+module _ (g : HeaderFields → ℕ) (u w : PlacedFields) where
   abbrev weight : Option HeaderFields → ℕ
   weight o = option_map_or g o 0
 
-  pub sum_without : (p : Place) (x : HeaderFields) → u p ≡ Some x → ((q : Place) → w q ≡ without p u q) → sum_held g w + g x ≡ sum_held g u
+  pub sum_without : (p : Place) (x : HeaderFields) → u p ≡ Some x → ((q : Place) → w q ≡ without p u q) → sum_placed g w + g x ≡ sum_placed g u
   sum_without hop_by_hop x t e = omega (arith, ap weight t, ap weight (e hop_by_hop), ap weight (e destination), ap weight (e routing), ap weight (e fragment_place), ap weight (e authentication), ap weight (e final_destination))
   sum_without p x t e = omega (arith, ap weight t, ap weight (e hop_by_hop), ap weight (e destination), ap weight (e routing), ap weight (e fragment_place), ap weight (e authentication), ap weight (e final_destination))
 
 -- The sum over a chain that fits is that over its places.
-abbrev of_chain : List ExtHeader → Held
+abbrev of_chain : List ExtHeader → PlacedFields
 of_chain c p = option_map fields_of (header_in p c)
 
 module _ (g : HeaderFields → ℕ) where
   abbrev sum_of : List ExtHeader → ℕ
   sum_of c = sum_by (λ h. g (fields_of h)) c
 
-  sum_more : (f : ℕ) (c : List ExtHeader) (x : ExtHeader) → Joins f c x → sum_held g (of_chain c) + g (fields_of x) ≡ sum_held g (of_chain (c ++ x ∷ []))
+  sum_more : (f : ℕ) (c : List ExtHeader) (x : ExtHeader) → Joins f c x → sum_placed g (of_chain c) + g (fields_of x) ≡ sum_placed g (of_chain (c ++ x ∷ []))
   sum_more f c x j = sum_without g (of_chain (c ++ x ∷ [])) (of_chain c) j.place (fields_of x) (ap (option_map fields_of) (there j)) (λ q. elim (eqb_tells (index j.place) (index q)) [
     | inl r ↦ ap (λ p. of_chain c p) (sym (same_place j.place q r.1)) ∙ ap (option_map fields_of) j.free ∙ sym (ap (λ b. if b then None else of_chain (c ++ x ∷ []) q) r.0)
     | inr r ↦ sym (ap (λ b. if b then None else of_chain (c ++ x ∷ []) q) r.0 ∙ ap (option_map fields_of) (j.joined q ∙ ap (λ b. if b then Some x else header_in q c) r.0))
   ])
 
-  sum_from : (f : ℕ) (c d : List ExtHeader) → sum_of c ≡ sum_held g (of_chain c) → IsChain f (c ++ d) → FitsPlaces (c ++ d) → sum_of (c ++ d) ≡ sum_held g (of_chain (c ++ d))
-  sum_from f c [] e k fits = let S : List ExtHeader → Type 0 = λ l. sum_of l ≡ sum_held g (of_chain l) in subst S (sym (append-nil c)) e
+  sum_from : (f : ℕ) (c d : List ExtHeader) → sum_of c ≡ sum_placed g (of_chain c) → IsChain f (c ++ d) → FitsPlaces (c ++ d) → sum_of (c ++ d) ≡ sum_placed g (of_chain (c ++ d))
+  sum_from f c [] e k fits = let S : List ExtHeader → Type 0 = λ l. sum_of l ≡ sum_placed g (of_chain l) in subst S (sym (append-nil c)) e
   sum_from f c (x ∷ d) e k fits =
       let more : (c ++ x ∷ []) ++ d ≡ c ++ x ∷ d = append_assoc c (x ∷ []) d in
-      let S : List ExtHeader → Type 0 = λ l. sum_of l ≡ sum_held g (of_chain l) in
+      let S : List ExtHeader → Type 0 = λ l. sum_of l ≡ sum_placed g (of_chain l) in
       let K : List ExtHeader → Type 0 = IsChain f in
       let F : List ExtHeader → Type 0 = FitsPlaces in
       let k' : IsChain f ((c ++ x ∷ []) ++ d) = subst K (sym more) k in
       let fits' : FitsPlaces ((c ++ x ∷ []) ++ d) = subst F (sym more) fits in
       let j : Joins f c x = joins f c x (chain_begins f (c ++ x ∷ []) d k') (fits_places.begins (c ++ x ∷ []) d fits') in
-      let one : sum_of (c ++ x ∷ []) ≡ sum_held g (of_chain (c ++ x ∷ [])) = omega (arith, e, sum_by-append (λ h. g (fields_of h)) c (x ∷ []), sum_more f c x j) in
+      let one : sum_of (c ++ x ∷ []) ≡ sum_placed g (of_chain (c ++ x ∷ [])) = omega (arith, e, sum_by-append (λ h. g (fields_of h)) c (x ∷ []), sum_more f c x j) in
       subst S more (sum_from f (c ++ x ∷ []) d one k' fits')
 
-  empty_sum : sum_held g (of_chain []) ≡ 0
+  empty_sum : sum_placed g (of_chain []) ≡ 0
   empty_sum = refl
 
-  pub sum_of_chain : (f : ℕ) (c : List ExtHeader) → IsChain f c → FitsPlaces c → sum_of c ≡ sum_held g (of_chain c)
+  pub sum_of_chain : (f : ℕ) (c : List ExtHeader) → IsChain f c → FitsPlaces c → sum_of c ≡ sum_placed g (of_chain c)
   sum_of_chain f c = sum_from f [] c (sym empty_sum)
 
 -- The fields tell the length of a header.
@@ -85,15 +85,15 @@ bytes_sum [] a = refl
 bytes_sum (h ∷ c) a = omega (arith, length-append h.bytes (bytes_of c), len_said h a.0, bytes_sum c a.1, sum_by-append (λ k. fields_len (fields_of k)) (h ∷ []) c)
 
 -- the bytes of a chain are as many as its value says
-pub bytes_len : (v : Held) (f : ℕ) (c : List ExtHeader) → IsChain f c → FitsPlaces c → IsValueOf c v → length (bytes_of c) ≡ held_len v
-bytes_len v f c k fits value = bytes_sum c k.headers ∙ sum_of_chain fields_len f c k fits ∙ ap held_len (sym (same_held v (of_chain c) value))
+pub bytes_len : (v : PlacedFields) (f : ℕ) (c : List ExtHeader) → IsChain f c → FitsPlaces c → IsValueOf c v → length (bytes_of c) ≡ placed_len v
+bytes_len v f c k fits value = bytes_sum c k.headers ∙ sum_of_chain fields_len f c k fits ∙ ap placed_len (sym (same_held v (of_chain c) value))
 
 -- Whether a header goes on from what is left.
-pub data Going (u : Held) (first behind : Bool) (m : ℕ) : Type 0 where
+pub data Going (u : PlacedFields) (first behind : Bool) (m : ℕ) : Type 0 where
   ends : ((p : Place) → next_place first behind m ≡ Some p → u p ≡ None) → Going u first behind m
   goes : (p : Place) (x : HeaderFields) → next_place first behind m ≡ Some p → u p ≡ Some x → Going u first behind m
 
-module _ (u : Held) (first behind : Bool) (m : ℕ) where
+module _ (u : PlacedFields) (first behind : Bool) (m : ℕ) where
   going_at : (p : Place) (y : Option HeaderFields) → next_place first behind m ≡ Some p → u p ≡ y → Going u first behind m
   going_at p None at e = ends (λ q k. ap u (same_Some q p (sym k ∙ at)) ∙ e)
   going_at p (Some x) at e = goes p x at e
@@ -106,8 +106,8 @@ module _ (u : Held) (first behind : Bool) (m : ℕ) where
   going = going_to (next_place first behind m) refl
 
 -- A value of which each header can be written reaches something.
-module _ (v : Held) (f : ℕ) (e : IsEncodable v) where
-  some_from : (k : ℕ) (c : List ExtHeader) (u : Held) (m : ℕ) (first behind : Bool) → Walking v f c u m first behind → sum_held (λ x. 1) u ≤ k → Going u first behind m → (d : List ExtHeader) × IsReach v f d
+module _ (v : PlacedFields) (f : ℕ) (e : IsEncodable v) where
+  some_from : (k : ℕ) (c : List ExtHeader) (u : PlacedFields) (m : ℕ) (first behind : Bool) → Walking v f c u m first behind → sum_placed (λ x. 1) u ≤ k → Going u first behind m → (d : List ExtHeader) × IsReach v f d
   some_from k c u m first behind w l (ends none) = (c, walk_stops v f c u m first behind w none)
   some_from zero c u m first behind w l (goes p x at there) =
       absurd (let less = sum_without (λ y. 1) u (without p u) p x there (λ q. refl) in omega (arith, less, l))
@@ -119,7 +119,7 @@ module _ (v : Held) (f : ℕ) (e : IsEncodable v) where
       (going (without p u) false (behind || (m == 43)) (next_header h.0.bytes))
 
   pub some_reach : (c : List ExtHeader) × IsReach v f c
-  some_reach = some_from (sum_held (λ x. 1) v) [] v f true false (walk_begins v f v (λ p. refl)) (omega arith) (going v true false f)
+  some_reach = some_from (sum_placed (λ x. 1) v) [] v f true false (walk_begins v f v (λ p. refl)) (omega arith) (going v true false f)
 
   pub some_answer : (a : WalkAnswer) × IsWalkAnswer v f a
   some_answer = let r = some_reach in (answer_at (leads_to f r.0) (unreached v r.0), record { reach = r.0; is_reach = r.1; answer = refl })

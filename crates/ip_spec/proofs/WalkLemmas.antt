@@ -10,7 +10,7 @@ use Rattle.ip_spec.specs.Chain.{ExtHeader, leads_to, is_empty, IsChain}
 use Rattle.ip_spec.specs.Fits.{FitsPlaces}
 use Rattle.ip_spec.specs.Places.{Place, index, header_in, place_of, fields_of}
 use Rattle.ip_spec.specs.Encoded.{IsCleared}
-use Rattle.ip_spec.specs.Walk.{Held, IsShown, IsReach}
+use Rattle.ip_spec.specs.Walk.{PlacedFields, IsReachable, IsReach}
 use Rattle.ip_spec.proofs.LongestOfLemmas.{Grows, one_longest_of}
 use Rattle.ip_spec.proofs.StepLemmas.{all_first, all_next, no_chain, chain_begins, chain_number, chain_header, chain_zero}
 use Rattle.ip_spec.proofs.FitsLemmas.{fits_places}
@@ -57,7 +57,7 @@ module _ {f : ℕ} {c : List ExtHeader} {x : ExtHeader} (j : Joins f c x) where
     | inr w ↦ j.joined p ∙ ap (λ b. if b then Some x else header_in p c) w.0 ∙ e
   ]
 
-module _ (v : Held) (f : ℕ) where
+module _ (v : PlacedFields) (f : ℕ) where
   -- The header that comes next stands in v, in the place of the number reached.
   pub record Next (c : List ExtHeader) (x : ExtHeader) : Type 0 where
     pub number : x.number ≡ leads_to f c
@@ -67,7 +67,7 @@ module _ (v : Held) (f : ℕ) where
     pub joins : Joins f c x
     pub said : v joins.place ≡ Some (fields_of x)
 
-  pub next_shown : (c : List ExtHeader) (x : ExtHeader) → IsShown v f (c ++ x ∷ []) → Next c x
+  pub next_shown : (c : List ExtHeader) (x : ExtHeader) → IsReachable v f (c ++ x ∷ []) → Next c x
   next_shown c x s =
       let j : Joins f c x = joins f c x s.chain s.fits in
       record {
@@ -76,20 +76,20 @@ module _ (v : Held) (f : ℕ) where
         zero = chain_zero f c x s.chain;
         cleared = all_next IsCleared c x s.cleared;
         joins = j;
-        said = s.shown j.place x (there j);
+        said = s.in_value j.place x (there j);
       }
 
-  shown_before : (c : List ExtHeader) (x : ExtHeader) → IsShown v f (c ++ x ∷ []) → IsShown v f c
+  shown_before : (c : List ExtHeader) (x : ExtHeader) → IsReachable v f (c ++ x ∷ []) → IsReachable v f c
   shown_before c x s = record {
     chain = chain_begins f c (x ∷ []) s.chain;
     fits = fits_places.begins c (x ∷ []) s.fits;
-    shown = λ p h e. s.shown p h (kept (joins f c x s.chain s.fits) p h e);
+    in_value = λ p h e. s.in_value p h (kept (joins f c x s.chain s.fits) p h e);
     cleared = all_first IsCleared c (x ∷ []) s.cleared;
   }
 
-  shown_begins : (c d : List ExtHeader) → IsShown v f (c ++ d) → IsShown v f c
-  shown_begins c [] s = subst (IsShown v f) (append-nil c) s
-  shown_begins c (x ∷ d) s = shown_before c x (shown_begins (c ++ x ∷ []) d (subst (IsShown v f) (sym (append_assoc c (x ∷ []) d)) s))
+  shown_begins : (c d : List ExtHeader) → IsReachable v f (c ++ d) → IsReachable v f c
+  shown_begins c [] s = subst (IsReachable v f) (append-nil c) s
+  shown_begins c (x ∷ d) s = shown_before c x (shown_begins (c ++ x ∷ []) d (subst (IsReachable v f) (sym (append_assoc c (x ∷ []) d)) s))
 
   same_next : (c : List ExtHeader) (x y : ExtHeader) → Next c x → Next c y → x ≡ y
   same_next c x y a b =
@@ -98,19 +98,19 @@ module _ (v : Held) (f : ℕ) where
       let fields : Some (fields_of x) ≡ Some (fields_of y) = sym a.said ∙ ap v (same_Some _ _ places) ∙ b.said in
       one_header_says x y same a.header b.header a.cleared b.cleared (same_Some _ _ fields)
 
-  pub shown_grows : Grows (IsShown v f)
+  pub shown_grows : Grows (IsReachable v f)
   shown_grows = record {
     begins = shown_begins;
     one_next = λ c x y p q. same_next c x y (next_shown c x p) (next_shown c y q);
   }
 
   pub one_reach : (c d : List ExtHeader) → IsReach v f c → IsReach v f d → c ≡ d
-  one_reach c d = one_longest_of (IsShown v f) shown_grows c d
+  one_reach c d = one_longest_of (IsReachable v f) shown_grows c d
 
-  pub none_shown : IsShown v f []
+  pub none_shown : IsReachable v f []
   none_shown = record {
     chain = no_chain f;
     fits = fits_places.empty;
-    shown = λ p h e. absurd (none-some h (sym (nothing_in p) ∙ e));
+    in_value = λ p h e. absurd (none-some h (sym (nothing_in p) ∙ e));
     cleared = tt;
   }

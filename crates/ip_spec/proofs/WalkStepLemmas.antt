@@ -11,7 +11,7 @@ use Rattle.ip_spec.specs.Chain.{ExtHeader, leads_to, is_empty}
 use Rattle.ip_spec.specs.Places.{Place, routing, index, number_in, header_in, place_of, fields_of, HeaderFields}
 use Rattle.ip_spec.specs.Encoded.{IsCleared}
 use Rattle.ip_spec.specs.Encodable.{IsEncoded}
-use Rattle.ip_spec.specs.Walk.{Held, IsShown, IsReach, unreached, WalkAnswer, answer_at, IsWalkAnswer}
+use Rattle.ip_spec.specs.Walk.{PlacedFields, IsReachable, IsReach, unreached, WalkAnswer, answer_at, IsWalkAnswer}
 use Rattle.ip_spec.specs.WalkStep.{next_place, without}
 use Rattle.ip_spec.proofs.LongestOfLemmas.{longest_where_none_next}
 use Rattle.ip_spec.proofs.StepLemmas.{all_more, leads_to-more, chain_more}
@@ -21,16 +21,16 @@ use Rattle.ip_spec.proofs.WalkLemmas.{none_if, there, Next, next_shown, shown_gr
 
 -- Headers c were reached from f and taken out of v, which leaves u. They lead to m; `first` tells that there is
 -- none, `behind` that a routing header is one of them.
-pub record Walking (v : Held) (f : ℕ) (c : List ExtHeader) (u : Held) (m : ℕ) (first behind : Bool) : Type 0 where
-  pub shown : IsShown v f c
+pub record Walking (v : PlacedFields) (f : ℕ) (c : List ExtHeader) (u : PlacedFields) (m : ℕ) (first behind : Bool) : Type 0 where
+  pub in_value : IsReachable v f c
   pub left : (p : Place) → u p ≡ unreached v c p
   pub number : m ≡ leads_to f c
   pub first_is : first ≡ is_empty c
   pub behind_is : behind ≡ has_routing c
 
-pub walk_begins : (v : Held) (f : ℕ) (u : Held) → ((p : Place) → u p ≡ v p) → Walking v f [] u f true false
+pub walk_begins : (v : PlacedFields) (f : ℕ) (u : PlacedFields) → ((p : Place) → u p ≡ v p) → Walking v f [] u f true false
 walk_begins v f u e = record {
-  shown = none_shown v f;
+  in_value = none_shown v f;
   left = λ p. e p ∙ sym (ap (λ o. if is_some o then None else v p) (nothing_in p));
   number = refl;
   first_is = refl;
@@ -53,7 +53,7 @@ next_place_of true false o e = absurd (let differ : false ≡ true = e refl in c
 next_place_of false first o e = refl
 
 -- values that say the same in each place are one
-pub same_held : (v w : Held) → ((p : Place) → v p ≡ w p) → v ≡ w
+pub same_held : (v w : PlacedFields) → ((p : Place) → v p ≡ w p) → v ≡ w
 same_held v w e = λ i p. e p i
 
 not_empty : (c : List ExtHeader) (h : ExtHeader) → false ≡ is_empty (c ++ h ∷ [])
@@ -81,7 +81,7 @@ routing_more c h = elim (eqb_tells h.number 43) [
 
 module _ (c : List ExtHeader) (h : ExtHeader) (p : Place) (joined : (q : Place) → header_in q (c ++ h ∷ []) ≡ (if index p == index q then Some h else header_in q c)) where
   -- what was left is left without it
-  left_more : (v : Held) (q : Place) → without p (unreached v c) q ≡ unreached v (c ++ h ∷ []) q
+  left_more : (v : PlacedFields) (q : Place) → without p (unreached v c) q ≡ unreached v (c ++ h ∷ []) q
   left_more v q = elim (eqb_tells (index p) (index q)) [
     | inl w ↦
         ap (λ b. if b then None else unreached v c q) w.0
@@ -91,10 +91,10 @@ module _ (c : List ExtHeader) (h : ExtHeader) (p : Place) (joined : (q : Place) 
         ∙ sym (ap (λ o. if is_some o then None else v q) (joined q ∙ ap (λ b. if b then Some h else header_in q c) w.0))
   ]
 
-module _ (v : Held) (f : ℕ) (c : List ExtHeader) (u : Held) (m : ℕ) (first behind : Bool) (k : Walking v f c u m first behind) where
+module _ (v : PlacedFields) (f : ℕ) (c : List ExtHeader) (u : PlacedFields) (m : ℕ) (first behind : Bool) (k : Walking v f c u m first behind) where
   -- A header h goes on: it stands in the place of m, and was left there.
   pub walks_on : (p : Place) (x : HeaderFields) (h : ExtHeader) → next_place first behind m ≡ Some p → u p ≡ Some x → IsEncoded (number_in p) x h
-      → (w : Held) (n : ℕ) (early past : Bool) → ((q : Place) → w q ≡ without p u q) → n ≡ next_header h.bytes → early ≡ false → past ≡ (behind || (m == 43))
+      → (w : PlacedFields) (n : ℕ) (early past : Bool) → ((q : Place) → w q ≡ without p u q) → n ≡ next_header h.bytes → early ≡ false → past ≡ (behind || (m == 43))
       → Walking v f (c ++ h ∷ []) w n early past
   walks_on p x h at there e w n early past ew en ee ep =
       let next = next_place_is (m == 0) first (place_of m behind) p at in
@@ -105,16 +105,16 @@ module _ (v : Held) (f : ℕ) (c : List ExtHeader) (u : Held) (m : ℕ) (first b
       let own : place_of h.number (has_routing c) ≡ Some p = ap (λ j. place_of j (has_routing c)) same ∙ ap (place_of m) (sym k.behind_is) ∙ next.0 in
       let joined = placed c h p own (none_if (header_in p c) left.0) in
       record {
-        shown = record {
-          chain = chain_more f c h k.shown.chain (same ∙ k.number) (subst H (sym e.number) e.header) (λ z. sym k.first_is ∙ next.1 (eq-eqb m 0 (sym same ∙ z)));
-          fits = fits_more c h p k.shown.fits own left.0;
-          shown = λ q g s. elim (eqb_tells (index p) (index q)) [
+        in_value = record {
+          chain = chain_more f c h k.in_value.chain (same ∙ k.number) (subst H (sym e.number) e.header) (λ z. sym k.first_is ∙ next.1 (eq-eqb m 0 (sym same ∙ z)));
+          fits = fits_more c h p k.in_value.fits own left.0;
+          in_value = λ q g s. elim (eqb_tells (index p) (index q)) [
             | inl r ↦
                 let is : h ≡ g = same_Some h g (sym (joined q ∙ ap (λ b. if b then Some h else header_in q c) r.0) ∙ s) in
                 ap v (sym (same_place p q r.1)) ∙ left.1 ∙ ap Some (sym e.fields ∙ ap fields_of is)
-            | inr r ↦ k.shown.shown q g (sym (joined q ∙ ap (λ b. if b then Some h else header_in q c) r.0) ∙ s)
+            | inr r ↦ k.in_value.in_value q g (sym (joined q ∙ ap (λ b. if b then Some h else header_in q c) r.0) ∙ s)
           ];
-          cleared = all_more IsCleared c h k.shown.cleared e.cleared;
+          cleared = all_more IsCleared c h k.in_value.cleared e.cleared;
         };
         left = λ q. ew q ∙ ap (λ o. if index p == index q then None else o) (k.left q) ∙ left_more c h p joined v q;
         number = en ∙ sym (leads_to-more f c h);
@@ -125,7 +125,7 @@ module _ (v : Held) (f : ℕ) (c : List ExtHeader) (u : Held) (m : ℕ) (first b
   -- None goes on: what was reached is all that is.
   pub walk_stops : ((p : Place) → next_place first behind m ≡ Some p → u p ≡ None) → IsReach v f c
   walk_stops none =
-      longest_where_none_next (IsShown v f) (shown_grows v f) c k.shown
+      longest_where_none_next (IsReachable v f) (shown_grows v f) c k.in_value
       (λ x s.
       let n : Next v f c x = next_shown v f c x s in
       let same : x.number ≡ m = n.number ∙ sym k.number in
@@ -133,7 +133,7 @@ module _ (v : Held) (f : ℕ) (c : List ExtHeader) (u : Held) (m : ℕ) (first b
       let here : u n.joins.place ≡ Some (fields_of x) = k.left n.joins.place ∙ ap (λ o. if is_some o then None else v n.joins.place) n.joins.free ∙ n.said in
       none-some (fields_of x) (sym (none n.joins.place (next_place_of (m == 0) first (place_of m behind) (λ z. k.first_is ∙ n.zero (same ∙ eqb-true m 0 z)) ∙ at)) ∙ here))
 
-  pub walk_answers : (w : Held) (n : ℕ) (a : WalkAnswer) → ((p : Place) → next_place first behind m ≡ Some p → u p ≡ None) → ((p : Place) → w p ≡ u p) → n ≡ m → a ≡ answer_at n w → IsWalkAnswer v f a
+  pub walk_answers : (w : PlacedFields) (n : ℕ) (a : WalkAnswer) → ((p : Place) → next_place first behind m ≡ Some p → u p ≡ None) → ((p : Place) → w p ≡ u p) → n ≡ m → a ≡ answer_at n w → IsWalkAnswer v f a
   walk_answers w n a none ew en ea = record {
     reach = c;
     is_reach = walk_stops none;

@@ -7,7 +7,7 @@ use Rattle.ip_spec.specs.Encoding.{AreBytes}
 use Rattle.ip_spec.specs.Chain.{ExtHeader}
 use Rattle.ip_spec.specs.Encoded.{IsCleared}
 use Rattle.ip_spec.specs.Places.{Place, routing, final_destination, places, number_in, HeaderFields, raw_header, fragment_header, auth_header, fields_of}
-use Rattle.ip_spec.specs.Walk.{Held}
+use Rattle.ip_spec.specs.Walk.{PlacedFields}
 
 -- h is the header of number n that says x, with its reserved bits zero
 pub record IsEncoded (n : ℕ) (x : HeaderFields) (h : ExtHeader) : Type 0 where
@@ -19,7 +19,7 @@ pub record IsEncoded (n : ℕ) (x : HeaderFields) (h : ExtHeader) : Type 0 where
 
 -- in each place stand the fields of some header of that place, and final destination options only behind a
 -- routing header
-pub record IsEncodable (v : Held) : Type 0 where
+pub record IsEncodable (v : PlacedFields) : Type 0 where
   pub encoded : (p : Place) → ForSome (v p) (λ x. (h : ExtHeader) × IsEncoded (number_in p) x h)
   pub nested : IsSome (v final_destination) → IsSome (v routing)
 
@@ -29,10 +29,10 @@ fields_len (raw_header x) = raw_len x
 fields_len (fragment_header x) = 8
 fields_len (auth_header x) = auth_len x
 
--- the sum of f over what is said in the places
-abbrev pub sum_held : (HeaderFields → ℕ) → Held → ℕ
-sum_held f v = sum_by (λ p. option_map_or f (v p) 0) places
+-- the sum of f over the fields in the places
+abbrev pub sum_placed : (HeaderFields → ℕ) → PlacedFields → ℕ
+sum_placed f v = sum_by (λ p. option_map_or f (v p) 0) places
 
 -- the headers of all places together
-abbrev pub held_len : Held → ℕ
-held_len v = sum_held fields_len v
+abbrev pub placed_len : PlacedFields → ℕ
+placed_len v = sum_placed fields_len v

@@ -3,7 +3,7 @@ use Rattle.std.specs.Prelude.{ℕ, ◌+◌, List, drop, is_some}
 use Rattle.std.specs.List.{find}
 use Rattle.std.specs.Option.{option_map, option_map_or}
 use Rattle.ip_spec.specs.Places.{Place, places, index, number_in, HeaderFields, raw_header, fragment_header, auth_header}
-use Rattle.ip_spec.specs.Walk.{Held}
+use Rattle.ip_spec.specs.Walk.{PlacedFields}
 
 -- the fields with another next header
 abbrev pub relinked : ℕ → HeaderFields → HeaderFields
@@ -12,7 +12,7 @@ relinked m (fragment_header x) = fragment_header (record x { next_header = m })
 relinked m (auth_header x) = auth_header (record x { next_header = m })
 
 -- the number of the first of the places in which v says something, or m where there is none
-abbrev pub first_number : Held → List Place → ℕ → ℕ
+abbrev pub first_number : PlacedFields → List Place → ℕ → ℕ
 first_number v ps m = option_map_or number_in (find (λ p. is_some (v p)) ps) m
 
 -- the places that stand behind one
@@ -20,5 +20,5 @@ abbrev pub places_behind : Place → List Place
 places_behind p = drop (index p + 1) places
 
 -- v with each header leading to the next one that is there, and the last to m
-abbrev pub linked : Held → ℕ → Held
+abbrev pub linked : PlacedFields → ℕ → PlacedFields
 linked v m p = option_map (relinked (first_number v (places_behind p) m)) (v p)

@@ -1,4 +1,4 @@
--- The six places for the headers of an IPv6 chain (RFC 8200, section 4.1), and what is said in each.
+-- The six places for the headers of an IPv6 chain (RFC 8200, section 4.1), and the fields in each.
 use Rattle.std.specs.Prelude.{ℕ, List, [], ◌∷◌, Bool, false, ◌&&◌, ◌==◌, not, Option, Some, None, is_some, if◌then◌else◌}
 use Rattle.std.specs.List.{find, before_first, after_first}
 use Rattle.std.specs.Option.{option_map_or}

@@ -9,39 +9,39 @@ use Rattle.ip_spec.specs.Fits.{FitsPlaces}
 use Rattle.ip_spec.specs.Encoded.{AreCleared}
 use Rattle.ip_spec.specs.Places.{Place, hop_by_hop, places, number_in, header_in, HeaderFields, fields_of}
 
--- a value: what is said in each place, if anything
-abbrev pub Held : Type 0
-Held = Place → Option HeaderFields
+-- a value: the fields of a header in each place, if there is one
+abbrev pub PlacedFields : Type 0
+PlacedFields = Place → Option HeaderFields
 
 -- the value of the chain c is v: in each place the fields of its header there, and nothing else
-abbrev pub IsValueOf : List ExtHeader → Held → Type 0
+abbrev pub IsValueOf : List ExtHeader → PlacedFields → Type 0
 IsValueOf c v = (p : Place) → v p ≡ option_map fields_of (header_in p c)
 
 -- The chain c from f spells v: it fits the places, its value is v, and its reserved bits are zero.
-pub record IsSpelling (v : Held) (f : ℕ) (c : List ExtHeader) : Type 0 where
+pub record IsSpelling (v : PlacedFields) (f : ℕ) (c : List ExtHeader) : Type 0 where
   pub chain : IsChain f c
   pub fits : FitsPlaces c
   pub value : IsValueOf c v
   pub cleared : AreCleared c
 
--- The chain c from f is shown by v: it fits the places, each of its headers has the fields that v has in that
+-- The chain c from f is reachable in v: it fits the places, each of its headers has the fields that v has in that
 -- header's place, and its reserved bits are zero.
-pub record IsShown (v : Held) (f : ℕ) (c : List ExtHeader) : Type 0 where
+pub record IsReachable (v : PlacedFields) (f : ℕ) (c : List ExtHeader) : Type 0 where
   pub chain : IsChain f c
   pub fits : FitsPlaces c
-  pub shown : (p : Place) → ForSome (header_in p c) (λ h. v p ≡ Some (fields_of h))
+  pub in_value : (p : Place) → ForSome (header_in p c) (λ h. v p ≡ Some (fields_of h))
   pub cleared : AreCleared c
 
--- what v reaches from f: the longest chain that it shows
-abbrev pub IsReach : Held → ℕ → List ExtHeader → Type 0
-IsReach v f c = IsLongestOf (IsShown v f) c
+-- what v reaches from f: the longest chain that is reachable in it
+abbrev pub IsReach : PlacedFields → ℕ → List ExtHeader → Type 0
+IsReach v f c = IsLongestOf (IsReachable v f) c
 
--- what v says in the places that the chain c doesn't fill
-abbrev pub unreached : Held → List ExtHeader → Held
+-- the fields of v in the places that the chain c doesn't fill
+abbrev pub unreached : PlacedFields → List ExtHeader → PlacedFields
 unreached v c p = if is_some (header_in p c) then None else v p
 
--- the first place, in their order, in which u says something
-abbrev pub first_filled : Held → Option Place
+-- the first place, in their order, in which u has a header
+abbrev pub first_filled : PlacedFields → Option Place
 first_filled u = find (λ p. is_some (u p)) places
 
 -- The answer of a walk: the number to which it leads, or why not all headers are reached.
@@ -58,11 +58,11 @@ fault_or_number m hop_by_hop_left (Some p) =
 
 -- The answer where the reach leads to m and leaves u, by the first test that holds: nothing is left; m is 0 and
 -- hop by hop options are left; else the first header left isn't referenced.
-abbrev pub answer_at : ℕ → Held → WalkAnswer
+abbrev pub answer_at : ℕ → PlacedFields → WalkAnswer
 answer_at m u = fault_or_number m (is_some (u hop_by_hop)) (first_filled u)
 
 -- a is the answer of the walk through v from f
-pub record IsWalkAnswer (v : Held) (f : ℕ) (a : WalkAnswer) : Type 0 where
+pub record IsWalkAnswer (v : PlacedFields) (f : ℕ) (a : WalkAnswer) : Type 0 where
   pub reach : List ExtHeader
   pub is_reach : IsReach v f reach
   pub answer : a ≡ answer_at (leads_to f reach) (unreached v reach)

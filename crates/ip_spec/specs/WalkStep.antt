@@ -3,7 +3,7 @@ use Rattle.std.specs.Prelude.{ℕ, List, Bool, ◌==◌, ◌&&◌, not, Option, 
 use Rattle.ip_spec.specs.Numbers.{HOP_BY_HOP}
 use Rattle.ip_spec.specs.Encoding.{IsRawEncoding, IsFragmentEncoding, IsAuthEncoding}
 use Rattle.ip_spec.specs.Places.{Place, index, place_of, HeaderFields, raw_header, fragment_header, auth_header}
-use Rattle.ip_spec.specs.Walk.{Held}
+use Rattle.ip_spec.specs.Walk.{PlacedFields}
 
 -- the place of a header that goes on with number m, behind a routing header or not; 0 goes on only first
 abbrev pub next_place : Bool → Bool → ℕ → Option Place
@@ -11,7 +11,7 @@ next_place first behind_routing m =
     if (m == HOP_BY_HOP) && not first then None else place_of m behind_routing
 
 -- u with nothing in the place p
-abbrev pub without : Place → Held → Held
+abbrev pub without : Place → PlacedFields → PlacedFields
 without p u q = if index p == index q then None else u q
 
 -- the number of what follows the header

@@ -6,63 +6,63 @@ ghost use Rattle.ip_spec.specs.Demand.{IsLongestUnder};
 ghost use Rattle.ip_spec.specs.Fits.{FitsPlaces, IsTaken};
 ghost use Rattle.ip_spec.specs.Places.{Place, places};
 ghost use Rattle.ip_spec.specs.Encoded.{cleared_chain};
-ghost use Rattle.ip_spec.specs.Walk.{Held, IsValueOf, IsSpelling, IsReach, WalkAnswer, leads, IsWalkAnswer};
+ghost use Rattle.ip_spec.specs.Walk.{PlacedFields, IsValueOf, IsSpelling, IsReach, WalkAnswer, leads, IsWalkAnswer};
 ghost use Rattle.ip_spec.specs.Parse.{IsRead};
 ghost use Rattle.ip_spec.specs.Links.{first_number, linked};
-ghost use Rattle.ip_spec.specs.Encodable.{IsEncodable, held_len};
+ghost use Rattle.ip_spec.specs.Encodable.{IsEncodable, placed_len};
 
 /// From each number, a value of which each header can be written reaches exactly one chain, and its walk has
 /// exactly one answer.
 pub fn one_walk_answer()
-    ensures some_reach { (v : Held) → IsEncodable v → (f : ℕ)
+    ensures some_reach { (v : PlacedFields) → IsEncodable v → (f : ℕ)
         → (c : List ExtHeader) × IsReach v f c }
-    ensures only_reach { (v : Held) (f : ℕ) (c d : List ExtHeader) → IsReach v f c
+    ensures only_reach { (v : PlacedFields) (f : ℕ) (c d : List ExtHeader) → IsReach v f c
         → IsReach v f d → c ≡ d }
-    ensures some_answer { (v : Held) → IsEncodable v → (f : ℕ)
+    ensures some_answer { (v : PlacedFields) → IsEncodable v → (f : ℕ)
         → (a : WalkAnswer) × IsWalkAnswer v f a }
-    ensures only_answer { (v : Held) (f : ℕ) (a b : WalkAnswer) → IsWalkAnswer v f a
+    ensures only_answer { (v : PlacedFields) (f : ℕ) (a b : WalkAnswer) → IsWalkAnswer v f a
         → IsWalkAnswer v f b → a ≡ b }
 {}
 
 /// A walk leads to a number exactly where the value is read from some bytes with that number left and nothing
 /// else, and where a chain that leads there spells it.
 pub fn walk_leads_where_the_value_is_read()
-    ensures read { (v : Held) → IsEncodable v → (f m : ℕ)
+    ensures read { (v : PlacedFields) → IsEncodable v → (f m : ℕ)
         → IsWalkAnswer v f (leads m) ↔ ((s : List ℕ)
         × IsRead FitsPlaces (λ c. IsValueOf c v) f m s) }
-    ensures spelled { (v : Held) (f m : ℕ) → IsWalkAnswer v f (leads m)
+    ensures spelled { (v : PlacedFields) (f m : ℕ) → IsWalkAnswer v f (leads m)
         → (c : List ExtHeader) × IsSpelling v f c × (leads_to f c ≡ m) }
-    ensures spelling { (v : Held) (f : ℕ) (c : List ExtHeader) → IsSpelling v f c
+    ensures spelling { (v : PlacedFields) (f : ℕ) (c : List ExtHeader) → IsSpelling v f c
         → IsWalkAnswer v f (leads (leads_to f c)) }
 {}
 
 /// At most one chain spells a value from a number, and equal bytes only spell equal values.
 pub fn one_spelling()
-    ensures only { (v : Held) (f : ℕ) (c d : List ExtHeader) → IsSpelling v f c
+    ensures only { (v : PlacedFields) (f : ℕ) (c d : List ExtHeader) → IsSpelling v f c
         → IsSpelling v f d → c ≡ d }
-    ensures alike { (v w : Held) (f : ℕ) (c d : List ExtHeader) → IsSpelling v f c
+    ensures alike { (v w : PlacedFields) (f : ℕ) (c d : List ExtHeader) → IsSpelling v f c
         → IsSpelling w f d → (bytes_of c ≡ bytes_of d) ↔ ((p : Place) → v p ≡ w p) }
-    ensures len { (v : Held) (f : ℕ) (c : List ExtHeader) → IsSpelling v f c
-        → length (bytes_of c) ≡ held_len v }
+    ensures len { (v : PlacedFields) (f : ℕ) (c : List ExtHeader) → IsSpelling v f c
+        → length (bytes_of c) ≡ placed_len v }
 {}
 
 /// The chain that spells a value is read from its bytes, whatever follows them, where it leads to no extension
 /// number, or to one that is taken.
 pub fn spelled_bytes_are_read()
-    ensures { (v : Held) (f : ℕ) (c : List ExtHeader) (r : List ℕ) → IsSpelling v f c
+    ensures { (v : PlacedFields) (f : ℕ) (c : List ExtHeader) (r : List ℕ) → IsSpelling v f c
         → (IsExtensionNumber (leads_to f c) → IsTaken (leads_to f c) c)
         → IsLongestUnder FitsPlaces f (bytes_of c ++ r) c }
 {}
 
 /// What spells a value that was read is what was read, with its reserved bits put to zero.
 pub fn spelling_clears_what_was_read()
-    ensures { (v : Held) (f : ℕ) (s : List ℕ) (c d : List ExtHeader)
+    ensures { (v : PlacedFields) (f : ℕ) (s : List ℕ) (c d : List ExtHeader)
         → IsLongestUnder FitsPlaces f s c → AreBytes (bytes_of c) → IsValueOf c v
         → IsSpelling v f d → d ≡ cleared_chain c }
 {}
 
 /// Linked headers are walked to their end.
 pub fn linked_headers_are_walked()
-    ensures { (v : Held) (m : ℕ) → m < 256 → IsEncodable v
+    ensures { (v : PlacedFields) (m : ℕ) → m < 256 → IsEncodable v
         → IsWalkAnswer (linked v m) (first_number v places m) (leads m) }
 {}

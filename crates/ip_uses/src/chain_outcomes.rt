@@ -17,7 +17,7 @@ ghost use Rattle.ip_ext_ipv4.specs.Ipv4Fault.{ipv4_chain_fault};
 ghost use Rattle.ip_ext_ipv4.specs.Ipv4Parse.{IsIpv4ChainAnswer, IsIpv4ValueAnswer, ipv4_value};
 ghost use Rattle.ip_ext_ipv4.specs.Ipv4ExtensionsSlice.{headers_in};
 ghost use Rattle.ip_ext_ipv4.specs.Ipv4Walk.{ipv4_walk, IsIpv4Encoding};
-ghost use Rattle.ip_ext_chains.specs.Ipv6Extensions.{held, value_of, exts_len};
+ghost use Rattle.ip_ext_chains.specs.Ipv6Extensions.{placed_fields, value_of, exts_len};
 ghost use Rattle.ip_ext_chains.specs.Ipv6ExtensionsRuns.{start, input, values_left};
 ghost use Rattle.ip_ext_chains.specs.Write.{IsWritten, IsWalkFault};
 
@@ -151,10 +151,10 @@ pub fn append_ipv6(headers: &Ipv6Extensions, first: IpNumber, out: &mut Vec<u8>)
         IsWritten headers.now first.0 out.old.items out.new.items) }
     ensures len { IfSome result (λ len. len ≡ vec_len out.old + exts_len headers.now) }
     ensures read_whole { IfSome result (λ _. (b : List ℕ) (m : ℕ)
-        → out.new.items ≡ out.old.items ++ b → IsWalkAnswer (held headers.now) first.0 (leads m)
+        → out.new.items ≡ out.old.items ++ b → IsWalkAnswer (placed_fields headers.now) first.0 (leads m)
         → IsRead FitsPlaces (λ c. value_of c ≡ headers.now) first.0 m b) }
     ensures alike { IfSome result (λ _. (v : Ipv6Extensions) (c : List ExtHeader)
-        → IsSpelling (held v) first.0 c
+        → IsSpelling (placed_fields v) first.0 c
         → (out.new.items ≡ out.old.items ++ bytes_of c) ↔ (headers.now ≡ v)) }
 {
     match headers.write(out, first) {

@@ -4,7 +4,15 @@ ghost use Rattle.ip_spec.specs.Chain.{bytes_of};
 ghost use Rattle.ip_ext_ipv4.specs.Ipv4ExtensionsSlice.{headers_in};
 ghost use Rattle.etherparse_ip.specs.IpSlice.{ip_parts};
 
-use etherparse_ip::{IpNumber, IpSlice, Ipv4ExtensionsSlice};
+use etherparse_ip::{IpNumber, IpSlice, Ipv4ExtensionsSlice, ip_number};
+
+/// Whether a packet carries UDP, whole and not a fragment of it.
+pub fn is_whole_udp(packet: &[u8]) -> bool {
+    match IpSlice::from_slice(packet) {
+        Ok(ip) => ip.payload_ip_number() == ip_number::UDP && !ip.is_fragmenting_payload(),
+        Err(_) => false,
+    }
+}
 
 /// Whether the packet has the whole payload, not a fragment of it, and it is of this protocol.
 pub fn reaches_whole(protocol: IpNumber, packet: &IpSlice<'_>) -> bool

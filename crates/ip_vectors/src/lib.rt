@@ -1,4 +1,4 @@
-//! Known answers, held against the crates of the repository.
+//! Known answers, placed_fields against the crates of the repository.
 #![tactic(auto)]
 
 #[cfg(test)]

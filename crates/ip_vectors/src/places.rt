@@ -24,7 +24,7 @@ struct Row<'a> {
 }
 
 /// The bytes in which a header is expected.
-fn stretch<'a>(bytes: &'a [u8], place: &Option<(usize, usize)>) -> Option<&'a [u8]> {
+fn part_of<'a>(bytes: &'a [u8], place: &Option<(usize, usize)>) -> Option<&'a [u8]> {
     match place {
         Some((at, len)) => bytes.get(*at..)?.get(..*len),
         None => None,
@@ -40,21 +40,21 @@ fn raw(bytes: Option<&[u8]>) -> Option<Ipv6RawExtHeader> {
 /// The struct that the row expects.
 fn expected(row: &Row<'_>) -> Ipv6Extensions {
     let [hop_by_hop, destination, routing, fragment, auth, last] = &row.places;
-    let routing = match raw(stretch(row.bytes, routing)) {
+    let routing = match raw(part_of(row.bytes, routing)) {
         Some(routing) => Some(Ipv6RoutingExtensions {
             routing,
-            final_destination_options: raw(stretch(row.bytes, last)),
+            final_destination_options: raw(part_of(row.bytes, last)),
         }),
         None => None,
     };
-    let fragment = match stretch(row.bytes, fragment) {
+    let fragment = match part_of(row.bytes, fragment) {
         Some(bytes) => match Ipv6FragmentHeaderSlice::from_slice(bytes) {
             Ok(header) => Some(header.to_header()),
             Err(_) => None,
         },
         None => None,
     };
-    let auth = match stretch(row.bytes, auth) {
+    let auth = match part_of(row.bytes, auth) {
         Some(bytes) => match IpAuthHeaderSlice::from_slice(bytes) {
             Ok(header) => Some(header.to_header()),
             Err(_) => None,
@@ -62,8 +62,8 @@ fn expected(row: &Row<'_>) -> Ipv6Extensions {
         None => None,
     };
     Ipv6Extensions {
-        hop_by_hop_options: raw(stretch(row.bytes, hop_by_hop)),
-        destination_options: raw(stretch(row.bytes, destination)),
+        hop_by_hop_options: raw(part_of(row.bytes, hop_by_hop)),
+        destination_options: raw(part_of(row.bytes, destination)),
         routing,
         fragment,
         auth,
@@ -303,7 +303,7 @@ fn six_cut_at(cut: usize) -> (usize, u8, usize) {
     }
 }
 
-/// What is told where a header of the number is cut short.
+/// The fault where a header of the number is cut short.
 fn layers(number: u8) -> (Layer, Layer) {
     match number {
         0 => (Layer::Ipv6ExtHeader, Layer::Ipv6HopByHopHeader),
@@ -319,7 +319,7 @@ fn six_places_cut_at_each_byte(rt: HostRuntime) -> Result<(), Fail> {
     let whole = [(0, 8), (8, 8), (16, 8), (24, 8), (32, 12), (44, 8)];
     for cut in 0..=SIX.len() {
         let (read, number, required) = six_cut_at(cut);
-        let held = |place: (usize, usize)| -> Option<(usize, usize)> {
+        let placed_fields = |place: (usize, usize)| -> Option<(usize, usize)> {
             if place.0.saturating_add(place.1) <= read {
                 Some(place)
             } else {
@@ -333,12 +333,12 @@ fn six_places_cut_at_each_byte(rt: HostRuntime) -> Result<(), Fail> {
             start: 0,
             bytes: &SIX[..cut],
             places: [
-                held(whole[0]),
-                held(whole[1]),
-                held(whole[2]),
-                held(whole[3]),
-                held(whole[4]),
-                held(whole[5]),
+                placed_fields(whole[0]),
+                placed_fields(whole[1]),
+                placed_fields(whole[2]),
+                placed_fields(whole[3]),
+                placed_fields(whole[4]),
+                placed_fields(whole[5]),
             ],
             number,
             rest: left,

@@ -74,7 +74,7 @@ fn check(rt: &impl Abort, alloc: Global, row: &Row<'_>) -> Result<(), Fail> {
     check_runs(rt, row)
 }
 
-/// The items and the end are the row's; the end is told from the last item on, and nothing comes behind it.
+/// The items and the end are the row's; the end is known from the last item on, and nothing comes behind it.
 fn check_runs(rt: &impl Abort, row: &Row<'_>) -> Result<(), Fail> {
     let name = row.name;
     let mut runs = Ipv6ExtensionsRuns::new(IpNumber(row.start), row.bytes);

@@ -9,7 +9,7 @@ pub fn with(sum: u64, part: u64) -> u64 {
     sum.wrapping_mul(9).wrapping_add(part)
 }
 
-/// A stretch of bytes: its length and its first byte.
+/// Bytes: their length and its first byte.
 pub fn of_bytes(bytes: &[u8]) -> u64 {
     let first = match bytes.first() {
         Some(byte) => u64::from(*byte),

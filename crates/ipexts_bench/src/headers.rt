@@ -8,7 +8,7 @@ use ip_ext_headers::{
 };
 use std::alloc::Global;
 
-/// The byte of a stretch at a place that is known only when it runs.
+/// The byte of some bytes at a place that is known only when it runs.
 fn byte_at(bytes: &[u8], at: usize) -> u64 {
     match bytes.get(at) {
         Some(byte) => u64::from(*byte),

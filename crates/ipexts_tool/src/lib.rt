@@ -24,14 +24,14 @@
 //! - `packet HEX` asks for the IP packet that begins the bytes, of the version that its first byte states (RFC 791,
 //!   section 3.1; RFC 8200, section 3). The answer is `ipv4 header H exts E payload P` or `ipv6 ..`, with the
 //!   lengths of the base header, of the extension headers and of the payload in bytes; then `next N fragmented yes
-//!   source S` or `no`, with the payload's number, whether it is a fragment, and what told where it ends; then
+//!   source S` or `no`, with the payload's number, whether it is a fragment, and what says where it ends; then
 //!   `ok`. Where there is no packet it is the fault alone, without a layer.
 //!
 //! # Parts of answers
 //!
 //! Each line of an answer ends in a newline.
 //!
-//! - A header is told by `offset name length`, in bytes from the first one on, with the names `hopopt` (0),
+//! - A header is written as `offset name length`, in bytes from the first one on, with the names `hopopt` (0),
 //!   `route` (43), `frag` (44), `auth` (51) and `dstopts` (60).
 //! - `next N rest L` tells the number of what follows the headers, and how many bytes do.
 //! - A fault is `fault len R of L S Y at O`, where R bytes are required and L are there, as S tells, for

@@ -13,7 +13,7 @@ pub struct LenError {
     pub required_len: usize,
     /// Where the header or packet that needs them begins, in bytes from the start of what was handed in.
     pub layer_start_offset: usize,
-    /// What told `len`.
+    /// What says `len`.
     pub len_source: LenSource,
     /// The header or packet that needs them.
     pub layer: Layer,
@@ -39,7 +39,7 @@ impl LenError {
         }
     }
 
-    /// The same error, told from `offset` bytes further to the front: only `layer_start_offset` grows.
+    /// The same error, counted from `offset` bytes further to the front: only `layer_start_offset` grows.
     pub fn add_offset(self, offset: usize) -> LenError
         requires { self.layer_start_offset + offset < 2 ^ 64 }
         ensures { result ≡ record self { layer_start_offset = self.layer_start_offset + offset } }

@@ -15,7 +15,7 @@ pub enum HeaderSliceError {
 impl HeaderSliceError {
     ghost use Rattle.ip_ext_slices.specs.Fault.{exts_moved, ExtsOffsetFits};
 
-    /// The same error, told from `offset` bytes further to the front: only the offset of a length error
+    /// The same error, counted from `offset` bytes further to the front: only the offset of a length error
     /// grows. The sum of the offsets has to fit.
     pub fn add_slice_offset(self, offset: usize) -> HeaderSliceError
         requires { ExtsOffsetFits self offset }

@@ -1,5 +1,5 @@
 use Rattle.std.proofs.Common.{inl, inr, refl}
-use Rattle.ip_ext_chains.proofs.HeldLemmas.{encodable_where}
+use Rattle.ip_ext_chains.proofs.PlacedFieldsLemmas.{encodable_where}
 use Rattle.ip_ext_chains.proofs.ipv6_exts.Ipv6Extensions.encodable.Goals as goal
 
 pub returns : goal.returns

@@ -1,4 +1,4 @@
-use Rattle.ip_ext_chains.specs.Ipv6Extensions.{held}
+use Rattle.ip_ext_chains.specs.Ipv6Extensions.{placed_fields}
 use Rattle.ip_ext_chains.proofs.WalkedLemmas.{walked_none, walked_in, walked_more, walked_answer, step_less}
 use Rattle.ip_ext_chains.proofs.WriteLemmas.{answer_exactly}
 use Rattle.ip_ext_chains.proofs.ipv6_exts.Ipv6Extensions.next_header.Goals as goal
@@ -6,14 +6,14 @@ use Rattle.ip_ext_chains.proofs.ipv6_exts.Ipv6Extensions.next_header.Goals as go
 pub headers-init : goal.headers-init
 headers-init c =
     let w = c.new-walk.ensures in
-    let on = walked_in (held c.args.self.now) c.args.first.0 c.encodable.ensures in
+    let on = walked_in (placed_fields c.args.self.now) c.args.first.0 c.encodable.ensures in
     on _ _ _ c.next_in-6.ensures.some c.next_in-6.ensures.none
     (on _ _ _ c.next_in-5.ensures.some c.next_in-5.ensures.none
     (on _ _ _ c.next_in-4.ensures.some c.next_in-4.ensures.none
     (on _ _ _ c.next_in-3.ensures.some c.next_in-3.ensures.none
     (on _ _ _ c.next_in-2.ensures.some c.next_in-2.ensures.none
     (on _ _ _ c.next_in.ensures.some c.next_in.ensures.none
-    (walked_none (held c.args.self.now) c.args.first.0 c.new-walk.result w.left w.number w.first w.behind_routing))))))
+    (walked_none (placed_fields c.args.self.now) c.args.first.0 c.new-walk.result w.left w.number w.first w.behind_routing))))))
 
 pub headers-smaller : goal.headers-smaller
 headers-smaller c = step_less c.headers.walk c.next.new.self _ c.in-Some.ensures.some
@@ -21,13 +21,13 @@ headers-smaller c = step_less c.headers.walk c.next.new.self _ c.in-Some.ensures
 pub headers-preserved : goal.headers-preserved
 headers-preserved c =
     let k = c.headers.invariant in
-    walked_more (held c.args.self.now) c.args.first.0 c.encodable.ensures c.headers.walk c.next.new.self _ c.in-Some.ensures.some k.reached k.walking
+    walked_more (placed_fields c.args.self.now) c.args.first.0 c.encodable.ensures c.headers.walk c.next.new.self _ c.in-Some.ensures.some k.reached k.walking
 
 pub returns-clause-answer : goal.returns-clause-answer
 returns-clause-answer c =
-    walked_answer (held c.args.self.now) c.args.first.0 c.headers.walk c.next.new.self _ c.headers.invariant c.in_default.ensures.none c.answer.ensures
+    walked_answer (placed_fields c.args.self.now) c.args.first.0 c.headers.walk c.next.new.self _ c.headers.invariant c.in_default.ensures.none c.answer.ensures
 
 pub returns-clause-exactly : goal.returns-clause-exactly
 returns-clause-exactly c =
     answer_exactly c.args.self.now c.args.first.0 c.encodable.ensures _
-    (walked_answer (held c.args.self.now) c.args.first.0 c.headers.walk c.next.new.self _ c.headers.invariant c.in_default.ensures.none c.answer.ensures)
+    (walked_answer (placed_fields c.args.self.now) c.args.first.0 c.headers.walk c.next.new.self _ c.headers.invariant c.in_default.ensures.none c.answer.ensures)

@@ -1,26 +1,26 @@
 use Rattle.std.proofs.Common.{◌≡◌, ◌<◌, ℕ, drop, refl, ap, sym, ◌∙◌, arith}
 use Rattle.std.specs.Option.{option_map}
 use Rattle.ip_spec.specs.Places.{hop_by_hop, destination, routing, fragment, authentication, final_destination, places, raw_header, fragment_header, auth_header}
-use Rattle.ip_spec.specs.Walk.{Held}
+use Rattle.ip_spec.specs.Walk.{PlacedFields}
 use Rattle.ip_spec.specs.Links.{first_number, linked}
 use Rattle.ip_spec.proofs.LinkLemmas.{linked_leads}
-use Rattle.ip_ext_chains.specs.Ipv6Extensions.{held}
+use Rattle.ip_ext_chains.specs.Ipv6Extensions.{placed_fields}
 use Rattle.ip_ext_chains.specs.declared.ipv6_routing_exts.Ipv6RoutingExtensions.{Ipv6RoutingExtensions}
 use Rattle.ip_ext_chains.proofs.LinkedLemmas.{number_before, linked_to, answer_same}
 use Rattle.ip_ext_chains.proofs.ipv6_exts.Ipv6Extensions.set_next_headers.Goals as goal
 
 -- the number to which what is before each place leads
 record Numbers (c : goal.After-link_raw) : Type 0 where
-  hop_by_hop_options : c.link_raw.result.0 ≡ first_number (held c.args.self.now) places c.args.last.0
-  destination_options : c.link_raw-next.result.0 ≡ first_number (held c.args.self.now) (drop 1 places) c.args.last.0
-  routing_header : c.link_routing-next.result.0 ≡ first_number (held c.args.self.now) (drop 2 places) c.args.last.0
-  fragment_header : c.link_fragment-next.result.0 ≡ first_number (held c.args.self.now) (drop 3 places) c.args.last.0
-  auth_header : c.link_auth-next.result.0 ≡ first_number (held c.args.self.now) (drop 4 places) c.args.last.0
-  final_options : c.link_final-next.result.0 ≡ first_number (held c.args.self.now) (drop 5 places) c.args.last.0
+  hop_by_hop_options : c.link_raw.result.0 ≡ first_number (placed_fields c.args.self.now) places c.args.last.0
+  destination_options : c.link_raw-next.result.0 ≡ first_number (placed_fields c.args.self.now) (drop 1 places) c.args.last.0
+  routing_header : c.link_routing-next.result.0 ≡ first_number (placed_fields c.args.self.now) (drop 2 places) c.args.last.0
+  fragment_header : c.link_fragment-next.result.0 ≡ first_number (placed_fields c.args.self.now) (drop 3 places) c.args.last.0
+  auth_header : c.link_auth-next.result.0 ≡ first_number (placed_fields c.args.self.now) (drop 4 places) c.args.last.0
+  final_options : c.link_final-next.result.0 ≡ first_number (placed_fields c.args.self.now) (drop 5 places) c.args.last.0
 
 numbers : (c : goal.After-link_raw) → Numbers c
 numbers c =
-    let v : Held = held c.args.self.now in
+    let v : PlacedFields = placed_fields c.args.self.now in
     let m : ℕ = c.args.last.0 in
     let f = c.link_final-next.ensures in
     let n5 = number_before v final_destination (drop 6 places) m raw_header _ c.link_final-next.result.0 m refl f.number refl in
@@ -38,7 +38,7 @@ pub returns-clause-links : goal.returns-clause-links
 returns-clause-links c p =
     let n : Numbers c = numbers c in
     let f = c.link_final-next.ensures in
-    elim p as (λ q. held _ q ≡ linked (held c.args.self.now) c.args.last.0 q) [
+    elim p as (λ q. placed_fields _ q ≡ linked (placed_fields c.args.self.now) c.args.last.0 q) [
       | hop_by_hop ↦ linked_to _ _ _ _ _ c.link_raw.ensures.linked refl n.destination_options
       | destination ↦ linked_to _ _ _ _ _ c.link_raw-next.ensures.linked refl n.routing_header
       | routing ↦ linked_to _ _ _ _ _ c.link_routing-next.ensures.linked f.routing n.fragment_header
@@ -50,4 +50,4 @@ returns-clause-links c p =
 pub returns-clause-leads : goal.returns-clause-leads
 returns-clause-leads c =
     let small : c.args.last.0 < 256 = omega arith in
-    answer_same _ _ _ _ _ (returns-clause-links c) (numbers c).hop_by_hop_options (linked_leads (held c.args.self.now) c.args.last.0 small c.encodable.ensures)
+    answer_same _ _ _ _ _ (returns-clause-links c) (numbers c).hop_by_hop_options (linked_leads (placed_fields c.args.self.now) c.args.last.0 small c.encodable.ensures)

@@ -1,18 +1,18 @@
 use Rattle.std.proofs.Common.{arith, ap, length, vec_capacity}
 use Rattle.ip_spec.specs.Walk.{leads}
-use Rattle.ip_ext_chains.specs.Ipv6Extensions.{held}
-use Rattle.ip_ext_chains.proofs.HeldLemmas.{exts_sum}
+use Rattle.ip_ext_chains.specs.Ipv6Extensions.{placed_fields}
+use Rattle.ip_ext_chains.proofs.PlacedFieldsLemmas.{exts_sum}
 use Rattle.ip_ext_chains.proofs.WalkedLemmas.{left_len, written_none, written_in, written_room, written_more, written_answer, written_reach, step_less, step_len}
 use Rattle.ip_ext_chains.proofs.WriteLemmas.{all_written, fault_written, written_len, written_again, written_whole, written_cleared, written_alike}
 use Rattle.ip_ext_chains.proofs.ipv6_exts.Ipv6Extensions.write.Goals as goal
 
 pub append_next-requires : goal.append_next-requires
 append_next-requires g c =
-    omega (arith, c.in_default.ensures.ok, c.header_len.ensures.len, exts_sum c.args.self.now, c.reserve.ensures.len, left_len (held c.args.self.now) c.new-walk.result c.new-walk.ensures.left)
+    omega (arith, c.in_default.ensures.ok, c.header_len.ensures.len, exts_sum c.args.self.now, c.reserve.ensures.len, left_len (placed_fields c.args.self.now) c.new-walk.result c.new-walk.ensures.left)
 
 pub headers-init : goal.headers-init
 headers-init g c =
-    let on = written_in (held c.args.self.now) c.args.first.0 c.encodable.ensures in
+    let on = written_in (placed_fields c.args.self.now) c.args.first.0 c.encodable.ensures in
     let w = c.new-walk.ensures in
     let n1 = c.append_next.ensures in
     let n2 = c.append_next-2.ensures in
@@ -26,7 +26,7 @@ headers-init g c =
           (on _ c.append_next-3.new.walk _ _ c.append_next-3.new.out.items _ (vec_capacity c.append_next-3.new.out) _ n3.some n3.appended n3.none n3.same (omega (arith, n3.room, c.append_next-3.new.out.ok.0))
           (on _ c.append_next-2.new.walk _ _ c.append_next-2.new.out.items _ (vec_capacity c.append_next-2.new.out) _ n2.some n2.appended n2.none n2.same (omega (arith, n2.room, c.append_next-2.new.out.ok.0))
           (on _ c.append_next.new.walk _ _ c.append_next.new.out.items _ (vec_capacity c.append_next.new.out) _ n1.some n1.appended n1.none n1.same (omega (arith, n1.room, c.append_next.new.out.ok.0))
-          (written_none (held c.args.self.now) c.args.first.0 c.new-walk.result w.left w.number w.first w.behind_routing c.args.out.now.items c.reserve.new.self.items (vec_capacity c.reserve.new.self) c.reserve.ensures.items
+          (written_none (placed_fields c.args.self.now) c.args.first.0 c.new-walk.result w.left w.number w.first w.behind_routing c.args.out.now.items c.reserve.new.self.items (vec_capacity c.reserve.new.self) c.reserve.ensures.items
           (omega (arith, c.in_default.ensures.ok, c.header_len.ensures.len, exts_sum c.args.self.now, c.reserve.ensures.len, ap length c.reserve.ensures.items, c.reserve.new.self.ok.0))))))))),
       omega (arith, c.reserve.ensures.capacity, n1.capacity, n2.capacity, n3.capacity, n4.capacity, n5.capacity, n6.capacity),
     )
@@ -36,12 +36,12 @@ headers-smaller g c = step_less c.headers.walk c.next.new.self _ c.in-Some.ensur
 
 pub append-requires : goal.append-requires
 append-requires g c =
-    omega (arith, c.headers.out.ok.0, written_room (held c.args.self.now) c.args.first.0 c.headers.walk c.next.new.self _ c.in-Some.ensures.some _ _ _ c.headers.invariant.0)
+    omega (arith, c.headers.out.ok.0, written_room (placed_fields c.args.self.now) c.args.first.0 c.headers.walk c.next.new.self _ c.in-Some.ensures.some _ _ _ c.headers.invariant.0)
 
 pub headers-preserved : goal.headers-preserved
 headers-preserved g c =
     let s = c.in-Some.ensures.some in (
-      written_more (held c.args.self.now) c.args.first.0 c.encodable.ensures c.headers.walk c.next.new.self _ s _ _ _ _ _ c.headers.invariant.0 c.append.ensures.appended
+      written_more (placed_fields c.args.self.now) c.args.first.0 c.encodable.ensures c.headers.walk c.next.new.self _ s _ _ _ _ _ c.headers.invariant.0 c.append.ensures.appended
           (omega (arith, c.headers.invariant.0.fits, step_len c.headers.walk c.next.new.self _ s, c.append.ensures.len, c.append.ensures.capacity, c.headers.out.ok.0, c.append.new.out.ok.0)),
       omega (arith, c.headers.invariant.1, c.append.ensures.capacity),
     )

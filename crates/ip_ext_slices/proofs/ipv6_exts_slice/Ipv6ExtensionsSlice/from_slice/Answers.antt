@@ -8,10 +8,10 @@ use Rattle.ip_ext_slices.proofs.ipv6_exts_slice.Ipv6ExtensionsSlice.from_slice.G
 
 pub error_at-requires : goal.error_at-requires
 error_at-requires c =
-    let walked = c.walk-len.ensures in
-    fault_at_end Slice _ _ _ _ _ (c.is_extension.ensures.0 c.if-is_extension.true) (ends_behind _ _ _ walked.len _ _ walked.number walked.rest)
+    let scanned = c.scan-len.ensures in
+    fault_at_end Slice _ _ _ _ _ (c.is_extension.ensures.0 c.if-is_extension.true) (ends_behind _ _ _ scanned.len _ _ scanned.number scanned.rest)
 
 pub returns-then-is_extension-clause-fault : goal.returns-then-is_extension-clause-fault
 returns-then-is_extension-clause-fault c =
-    let walked = c.walk-len.ensures in
-    ap (option_map (λ (f : Fault). f.0)) (chain_fault_is _ _ _ walked.len _ _ walked.number walked.rest) ∙ c.error_at.ensures
+    let scanned = c.scan-len.ensures in
+    ap (option_map (λ (f : Fault). f.0)) (chain_fault_is _ _ _ scanned.len _ _ scanned.number scanned.rest) ∙ c.error_at.ensures

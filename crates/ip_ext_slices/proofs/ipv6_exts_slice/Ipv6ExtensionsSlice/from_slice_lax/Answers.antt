@@ -5,5 +5,5 @@ use Rattle.ip_ext_slices.proofs.ipv6_exts_slice.Ipv6ExtensionsSlice.from_slice_l
 
 pub fault-fault-requires : goal.fault-fault-requires
 fault-fault-requires c =
-    let walked = c.walk-len.ensures in
-    fault_at_end Slice _ _ _ _ _ (c.is_extension.ensures.0 c.if-is_extension.true) (ends_behind _ _ _ walked.len _ _ walked.number walked.rest)
+    let scanned = c.scan-len.ensures in
+    fault_at_end Slice _ _ _ _ _ (c.is_extension.ensures.0 c.if-is_extension.true) (ends_behind _ _ _ scanned.len _ _ scanned.number scanned.rest)

@@ -6,7 +6,7 @@ use Rattle.ip_ext_slices.specs.Fault.{Fault}
 use Rattle.ip_ext_slices.proofs.LongestLemmas.{longest_chain-longest}
 use Rattle.ip_ext_chains.proofs.RunLemmas.{none_left, some_left}
 use Rattle.ip_ext_chains.proofs.FittingLemmas.{walk_stops, walk_ends}
-use Rattle.ip_ext_chains.proofs.ipv6_exts.Ipv6Extensions.walk.Goals as goal
+use Rattle.ip_ext_chains.proofs.ipv6_exts.Ipv6Extensions.take_places.Goals as goal
 
 pub returns-then-not-is_empty : goal.returns-then-not-is_empty
 returns-then-not-is_empty c =

@@ -1,6 +1,6 @@
 use Rattle.ip_ext_slices.proofs.ParseLemmas.{parse_goes_on, at_end}
-use Rattle.ip_ext_slices.proofs.ipv6_exts_slice.Ipv6ExtensionsSlice.walk.Goals as goal
-use Rattle.ip_ext_slices.proofs.ipv6_exts_slice.Ipv6ExtensionsSlice.walk.Goals.{then-fragmented, else-fragmented}
+use Rattle.ip_ext_slices.proofs.ipv6_exts_slice.Ipv6ExtensionsSlice.scan.Goals as goal
+use Rattle.ip_ext_slices.proofs.ipv6_exts_slice.Ipv6ExtensionsSlice.scan.Goals.{then-fragmented, else-fragmented}
 
 pub headers-preserved : goal.headers-preserved
 headers-preserved c =

@@ -8,10 +8,10 @@ use Rattle.ip_spec.specs.Header.{IsRawNumber}
 use Rattle.ip_spec.specs.FieldsOf.{RawFields, FragmentFields, AuthFields, raw_fields, fragment_fields, auth_fields, raw_len, auth_len}
 use Rattle.ip_spec.specs.Chain.{ExtHeader}
 use Rattle.ip_spec.specs.Places.{Place, hop_by_hop, destination, routing, fragment, authentication, final_destination, number_in, header_in, HeaderFields, raw_header, fragment_header, auth_header, fields_of}
-use Rattle.ip_spec.specs.Encodable.{IsEncoded, IsEncodable, held_len, fields_len}
+use Rattle.ip_spec.specs.Encodable.{IsEncoded, IsEncodable, placed_len, fields_len}
 use Rattle.ip_spec.proofs.PlaceLemmas.{has_routing, none_behind}
 use Rattle.ip_spec.proofs.WalkLemmas.{some_if}
-use Rattle.ip_ext_chains.specs.Ipv6Extensions.{value_of, raw_in, final_of, held, routing_len, exts_len}
+use Rattle.ip_ext_chains.specs.Ipv6Extensions.{value_of, raw_in, final_of, placed_fields, routing_len, exts_len}
 use Rattle.ip_ext_chains.specs.declared.ipv6_exts.Ipv6Extensions.{Ipv6Extensions}
 use Rattle.ip_ext_chains.specs.declared.ipv6_routing_exts.Ipv6RoutingExtensions.{Ipv6RoutingExtensions}
 use Rattle.ip_ext_chains.proofs.PlacedLemmas.{in_place_number}
@@ -53,13 +53,13 @@ no_final c e = elim (cases_Bool (has_routing c)) [
 ]
 
 -- the value of a chain holds what its headers say
-pub held-value_of : (c : List ExtHeader) (p : Place) → held (value_of c) p ≡ option_map fields_of (header_in p c)
-held-value_of c hop_by_hop = raw_place (header_in hop_by_hop c) (λ h e. inl (in_place_number hop_by_hop c h e))
-held-value_of c destination = raw_place (header_in destination c) (λ h e. inr (inr (in_place_number destination c h e)))
-held-value_of c routing = routing_place (raw_in routing c) (raw_in final_destination c) ∙ raw_place (header_in routing c) (λ h e. inr (inl (in_place_number routing c h e)))
-held-value_of c fragment = fragment_place (header_in fragment c) (λ h e. in_place_number fragment c h e)
-held-value_of c authentication = auth_place (header_in authentication c) (λ h e. in_place_number authentication c h e)
-held-value_of c final_destination =
+pub placed_fields-value_of : (c : List ExtHeader) (p : Place) → placed_fields (value_of c) p ≡ option_map fields_of (header_in p c)
+placed_fields-value_of c hop_by_hop = raw_place (header_in hop_by_hop c) (λ h e. inl (in_place_number hop_by_hop c h e))
+placed_fields-value_of c destination = raw_place (header_in destination c) (λ h e. inr (inr (in_place_number destination c h e)))
+placed_fields-value_of c routing = routing_place (raw_in routing c) (raw_in final_destination c) ∙ raw_place (header_in routing c) (λ h e. inr (inl (in_place_number routing c h e)))
+placed_fields-value_of c fragment = fragment_place (header_in fragment c) (λ h e. in_place_number fragment c h e)
+placed_fields-value_of c authentication = auth_place (header_in authentication c) (λ h e. in_place_number authentication c h e)
+placed_fields-value_of c final_destination =
     ap (option_map raw_header) (final_place (raw_in routing c) (raw_in final_destination c) (no_final c))
     ∙ raw_place (header_in final_destination c) (λ h e. inr (inr (in_place_number final_destination c h e)))
 
@@ -94,8 +94,8 @@ routing_inside (Some x) (Some y) e f =
     let is : x.routing ≡ y.routing = cc in
     ap Some (ap (λ r. routing_of r x.final_destination_options) is ∙ ap (routing_of y.routing) (raw_inside x.final_destination_options y.final_destination_options f))
 
-pub held_one : (v w : Ipv6Extensions) → ((p : Place) → held v p ≡ held w p) → v ≡ w
-held_one v w e =
+pub placed_fields_one : (v w : Ipv6Extensions) → ((p : Place) → placed_fields v p ≡ placed_fields w p) → v ≡ w
+placed_fields_one v w e =
     let made : Option RawFields → Option RawFields → Option Ipv6RoutingExtensions → Option FragmentFields → Option AuthFields → Ipv6Extensions =
     λ a b d f g. record { hop_by_hop_options = a; destination_options = b; routing = d; fragment = f; auth = g } in
     ap (λ a. made a v.destination_options v.routing v.fragment v.auth) (raw_inside v.hop_by_hop_options w.hop_by_hop_options (e hop_by_hop))
@@ -121,7 +121,7 @@ routing_sum : (o : Option Ipv6RoutingExtensions) → option_map_or fields_len (o
 routing_sum None = refl
 routing_sum (Some r) = omega (arith, raw_sum r.final_destination_options)
 
-pub exts_sum : (v : Ipv6Extensions) → held_len (held v) ≡ exts_len v
+pub exts_sum : (v : Ipv6Extensions) → placed_len (placed_fields v) ≡ exts_len v
 exts_sum v = omega (arith, raw_sum v.hop_by_hop_options, raw_sum v.destination_options, routing_sum v.routing, fragment_sum v.fragment, auth_sum v.auth)
 
 -- Destination options stand in the final place only behind a routing header, so a struct can be written where each
@@ -133,9 +133,9 @@ nested (Some r) e = refl
 abbrev CanBe : ℕ → Option HeaderFields → Type 0
 CanBe n o = ForSome o (λ x. (h : ExtHeader) × IsEncoded n x h)
 
-pub encodable_where : (v : Ipv6Extensions) → CanBe 0 (held v hop_by_hop) → CanBe 60 (held v destination) → CanBe 43 (held v routing) → CanBe 44 (held v fragment) → CanBe 51 (held v authentication) → CanBe 60 (held v final_destination) → IsEncodable (held v)
+pub encodable_where : (v : Ipv6Extensions) → CanBe 0 (placed_fields v hop_by_hop) → CanBe 60 (placed_fields v destination) → CanBe 43 (placed_fields v routing) → CanBe 44 (placed_fields v fragment) → CanBe 51 (placed_fields v authentication) → CanBe 60 (placed_fields v final_destination) → IsEncodable (placed_fields v)
 encodable_where v a b d e f g = record {
-  encoded = λ p. elim p as (λ q. CanBe (number_in q) (held v q)) [
+  encoded = λ p. elim p as (λ q. CanBe (number_in q) (placed_fields v q)) [
     | hop_by_hop ↦ a
     | destination ↦ b
     | routing ↦ d

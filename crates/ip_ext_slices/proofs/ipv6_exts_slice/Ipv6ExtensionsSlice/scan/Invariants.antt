@@ -1,6 +1,6 @@
 use Rattle.std.proofs.Common.{length}
 use Rattle.ip_ext_slices.proofs.ParseLemmas.{ParseState}
-use Rattle.ip_ext_slices.proofs.ipv6_exts_slice.Ipv6ExtensionsSlice.walk.Given as goal
+use Rattle.ip_ext_slices.proofs.ipv6_exts_slice.Ipv6ExtensionsSlice.scan.Given as goal
 
 abbrev pub invariant-headers : goal.invariant-headers
 invariant-headers l = ParseState l.fn.start.0 l.bytes l.number.0 l.rest l.fragmented

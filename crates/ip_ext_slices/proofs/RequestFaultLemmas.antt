@@ -57,15 +57,15 @@ module _ (source : LenSource) (n k : ℕ) (first : Bool) (m : ℕ) where
       → (e : LenError) × (l : Layer) × (fault_at source n k first m (done ++ xs) ≡ Some (short_at l e))
   asks_fault done count xs few zero_first a = elim a [
     | asks_raw is r ↦
-      let f = fault_raw source n k (done ++ xs) first m is zero_first in
-      let g = raw_asks_fault source n k done count xs few r in
-      (g.0, f.0, f.1 ∙ ap (option_map (short_at f.0)) g.1)
+        let f = fault_raw source n k (done ++ xs) first m is zero_first in
+        let g = raw_asks_fault source n k done count xs few r in
+        (g.0, f.0, f.1 ∙ ap (option_map (short_at f.0)) g.1)
     | asks_fragment e r ↦
-      let g = fragment_asks_fault source n k done count xs few r in
-      (g.0, Ipv6FragHeader, fault_fragment source n k (done ++ xs) first m e ∙ ap (option_map (short_at Ipv6FragHeader)) g.1)
+        let g = fragment_asks_fault source n k done count xs few r in
+        (g.0, Ipv6FragHeader, fault_fragment source n k (done ++ xs) first m e ∙ ap (option_map (short_at Ipv6FragHeader)) g.1)
     | asks_auth e r ↦
-      let g = auth_asks_fault source n k done count xs few r in
-      (g.0, IpAuthHeader, fault_auth source n k (done ++ xs) first m e ∙ ap (option_map auth_at) g.1)
+        let g = auth_asks_fault source n k done count xs few r in
+        (g.0, IpAuthHeader, fault_auth source n k (done ++ xs) first m e ∙ ap (option_map auth_at) g.1)
   ]
 
   -- the length of an authentication header is zero

@@ -1,5 +1,5 @@
 //! The definitions computed in the plainest way: what is a header, the longest chain, which headers fit six places,
-//! the fault, and the answers of the tool. All of it is slow: known answers are placed_fields against it, and nothing is
+//! the fault, and the answers of the tool. All of it is slow: known answers are compared with it, and nothing is
 //! parsed with it.
 #![tactic(auto)]
 

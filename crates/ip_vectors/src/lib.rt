@@ -1,10 +1,8 @@
-//! Known answers, placed_fields against the crates of the repository.
+//! Known answers, compared with what the crates of the repository give.
 #![tactic(auto)]
 
 #[cfg(test)]
 mod base;
-#[cfg(test)]
-mod chain_readers;
 #[cfg(test)]
 mod chains;
 #[cfg(test)]
@@ -14,11 +12,7 @@ mod ipv4;
 #[cfg(test)]
 mod lines;
 #[cfg(test)]
-mod packets;
-#[cfg(test)]
 mod places;
-#[cfg(test)]
-mod readers;
 #[cfg(test)]
 mod runs;
 #[cfg(test)]

@@ -84,7 +84,9 @@ pub fn ipv4_header_slice_errors_differ(a: LenError, b: ipv4::HeaderError) -> boo
 }
 
 /// A copy of an error of an IPv4 base header.
-pub fn ipv4_header_slice_error_copy(e: &ipv4::HeaderSliceError) -> Result<ipv4::HeaderSliceError, AllocError>
+pub fn ipv4_header_slice_error_copy(
+    e: &ipv4::HeaderSliceError,
+) -> Result<ipv4::HeaderSliceError, AllocError>
     ensures { IfOk result (λ copy. copy ≡ e.now) }
 {
     e.clone()
@@ -112,7 +114,9 @@ pub fn ipv6_header_slice_errors_differ(a: LenError, b: ipv6::HeaderError) -> boo
 }
 
 /// A copy of an error of an IPv6 base header.
-pub fn ipv6_header_slice_error_copy(e: &ipv6::HeaderSliceError) -> Result<ipv6::HeaderSliceError, AllocError>
+pub fn ipv6_header_slice_error_copy(
+    e: &ipv6::HeaderSliceError,
+) -> Result<ipv6::HeaderSliceError, AllocError>
     ensures { IfOk result (λ copy. copy ≡ e.now) }
 {
     e.clone()
@@ -178,7 +182,11 @@ pub fn ipv6_slice_error_of_exts(a: ipv6_exts::HeaderError, b: ipv6_exts::HeaderE
 }
 
 /// Whether errors of an IPv6 packet of different variants are equal.
-pub fn ipv6_slice_errors_differ(a: LenError, b: ipv6::HeaderError, c: ipv6_exts::HeaderError) -> bool
+pub fn ipv6_slice_errors_differ(
+    a: LenError,
+    b: ipv6::HeaderError,
+    c: ipv6_exts::HeaderError,
+) -> bool
     ensures { IsFalse result }
 {
     let len = ipv6::SliceError::Len(a);

@@ -276,6 +276,12 @@ pub fn ipv4_packets<'a>(
         IsTrue r.0 → (ipv4_parts a.now).base ≡ (ipv4_parts b.now).base) }
     ensures headers { IfOk result (λ r.
         IsTrue r.0 → (ipv4_parts a.now).headers ≡ (ipv4_parts b.now).headers) }
+    ensures payload { IfOk result (λ r.
+        IsTrue r.0 → (ipv4_parts a.now).payload ≡ (ipv4_parts b.now).payload) }
+    ensures number { IfOk result (λ r.
+        IsTrue r.0 → (ipv4_parts a.now).number ≡ (ipv4_parts b.now).number) }
+    ensures source { IfOk result (λ r.
+        IsTrue r.0 → (ipv4_parts a.now).source ≡ (ipv4_parts b.now).source) }
     ensures fragmented { IfOk result (λ r.
         IsTrue r.0 → (ipv4_parts a.now).fragmented ≡ (ipv4_parts b.now).fragmented) }
     ensures same { IfOk result (λ r. a.now ≡ b.now → IsTrue r.0) }
@@ -293,6 +299,14 @@ pub fn ipv6_packets<'a>(
         IsTrue r.0 → (ipv6_parts a.now).base ≡ (ipv6_parts b.now).base) }
     ensures headers { IfOk result (λ r.
         IsTrue r.0 → (ipv6_parts a.now).headers ≡ (ipv6_parts b.now).headers) }
+    ensures payload { IfOk result (λ r.
+        IsTrue r.0 → (ipv6_parts a.now).payload ≡ (ipv6_parts b.now).payload) }
+    ensures number { IfOk result (λ r.
+        IsTrue r.0 → (ipv6_parts a.now).number ≡ (ipv6_parts b.now).number) }
+    ensures fragmented { IfOk result (λ r.
+        IsTrue r.0 → (ipv6_parts a.now).fragmented ≡ (ipv6_parts b.now).fragmented) }
+    ensures source { IfOk result (λ r.
+        IsTrue r.0 → (ipv6_parts a.now).source ≡ (ipv6_parts b.now).source) }
     ensures same { IfOk result (λ r. a.now ≡ b.now → IsTrue r.0) }
     ensures copy { IfOk result (λ r. ipv6_parts r.1 ≡ ipv6_parts a.now) }
 {

@@ -8,6 +8,8 @@ pub mod chains;
 pub mod headers;
 pub mod ipv4;
 pub mod outcomes;
+pub mod packet_outcomes;
+pub mod packet_pins;
 pub mod packets;
 pub mod pins;
 pub mod places;

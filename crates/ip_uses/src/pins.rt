@@ -6,6 +6,11 @@ ghost use Rattle.ip_ext_ipv4.specs.Ipv4ExtensionsSlice.{headers_in};
 ghost use Rattle.ip_ext_slices.specs.Ipv6ExtensionSlice.{header_of};
 ghost use Rattle.ip_ext_slices.specs.Ipv6ExtensionsSlice.{bytes};
 
+use etherparse_ip::err::{io, ip, ipv4, ipv6};
+use etherparse_ip::io::{LimitedReader, OverRead};
+use etherparse_ip::{
+    IpPayloadSlice, IpSlice, Ipv4HeaderSlice, Ipv4Slice, Ipv6HeaderSlice, Ipv6Slice,
+};
 use ip_base::err::{Layer, LenError, ValueTooBigError};
 use ip_base::{IpFragOffset, IpNumber, LenSource, ip_number};
 use ip_ext_chains::err::{ipv4_exts, ipv6_exts};
@@ -361,6 +366,8 @@ pub fn copies(
     layer: Layer,
     header: IpAuthHeaderSlice<'_>,
     headers: Ipv4ExtensionsSlice<'_>,
+    ipv4: Ipv4HeaderSlice<'_>,
+    ipv6: Ipv6HeaderSlice<'_>,
 ) {
     let _ = needs_copy(&number);
     let _ = needs_copy(&offset);
@@ -368,6 +375,8 @@ pub fn copies(
     let _ = needs_copy(&layer);
     let _ = needs_copy(&header);
     let _ = needs_copy(&headers);
+    let _ = needs_copy(&ipv4);
+    let _ = needs_copy(&ipv6);
 }
 
 /// The types with bytes of their own are cloned, compared and printed.
@@ -408,6 +417,23 @@ pub fn borrowed_are_compared(
         && needs_eq(cursor, cursor)
 }
 
+/// So are base headers, packets and their payloads.
+pub fn packets_are_compared(
+    ipv4_header: &Ipv4HeaderSlice<'_>,
+    ipv6_header: &Ipv6HeaderSlice<'_>,
+    payload: &IpPayloadSlice<'_>,
+    ipv4: &Ipv4Slice<'_>,
+    ipv6: &Ipv6Slice<'_>,
+    packet: &IpSlice<'_>,
+) -> bool {
+    needs_eq(ipv4_header, ipv4_header)
+        && needs_eq(ipv6_header, ipv6_header)
+        && needs_eq(payload, payload)
+        && needs_eq(ipv4, ipv4)
+        && needs_eq(ipv6, ipv6)
+        && needs_eq(packet, packet)
+}
+
 /// The runs of a chain and the errors of writes are printed, and not compared.
 pub fn printed(
     runs: &Ipv6ExtensionsRuns<'_>,
@@ -417,6 +443,27 @@ pub fn printed(
     needs_debug(runs);
     needs_debug(write);
     needs_debug(write6);
+}
+
+/// So are the errors of reads.
+pub fn read_errors_printed(
+    limited: &io::LimitedReadError,
+    auth: &ip_auth::HeaderReadError,
+    auth_limited: &ip_auth::HeaderLimitedReadError,
+    chain: &ipv6_exts::HeaderReadError,
+    chain_limited: &ipv6_exts::HeaderLimitedReadError,
+) {
+    needs_debug(limited);
+    needs_debug(auth);
+    needs_debug(auth_limited);
+    needs_debug(chain);
+    needs_debug(chain_limited);
+}
+
+/// Readers are printed where the readers are that they are made of.
+pub fn readers_printed<T: Debug>(limited: &LimitedReader<T>, over: &OverRead<T>) {
+    needs_debug(limited);
+    needs_debug(over);
 }
 
 /// The types of single headers with bytes of their own that have a default.
@@ -470,4 +517,19 @@ pub fn error_hashes(
         && needs_hash(chain, chain)
         && needs_hash(walk, walk)
         && needs_hash(walk6, walk6)
+}
+
+/// So are those of base headers and of packets.
+pub fn packet_error_hashes(
+    ipv4_header: &ipv4::HeaderSliceError,
+    ipv6_header: &ipv6::HeaderSliceError,
+    ipv4: &ipv4::SliceError,
+    ipv6: &ipv6::SliceError,
+    packet: &ip::SliceError,
+) -> bool {
+    needs_hash(ipv4_header, ipv4_header)
+        && needs_hash(ipv6_header, ipv6_header)
+        && needs_hash(ipv4, ipv4)
+        && needs_hash(ipv6, ipv6)
+        && needs_hash(packet, packet)
 }

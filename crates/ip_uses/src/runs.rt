@@ -1,9 +1,10 @@
 //! Callers of runs.
-ghost use Rattle.std.specs.Prelude.{◌≡◌, ◌+◌, ◌/◌, ◌≤◌, length, map, IfOk};
-ghost use Rattle.ip_spec.specs.Chain.{leads_to};
+ghost use Rattle.std.specs.Prelude.{◌≡◌, ◌+◌, ◌/◌, ◌≤◌, List, ◌∷◌, length, map, IfOk, IfSome};
+ghost use Rattle.ip_spec.specs.Chain.{ExtHeader, leads_to};
 ghost use Rattle.ip_spec.specs.Parse.{rest_behind};
 ghost use Rattle.ip_ext_slices.specs.Longest.{longest_chain};
 ghost use Rattle.ip_ext_chains.specs.Runs.{runs_of};
+ghost use Rattle.ip_ext_chains.specs.Ipv6ExtensionsRuns.{start, input, runs_left, number_left};
 ghost use Rattle.ip_ext_chains.specs.Ipv6Extensions.{value_of};
 
 use ip_base::IpNumber;
@@ -53,4 +54,32 @@ pub fn sum_of_runs(start: IpNumber, packet: &[u8]) -> usize {
         len = len.saturating_add(exts.header_len());
     }
     len
+}
+
+/// The number to which the headers lead, from the last run on.
+pub fn number_behind_runs(runs: &Ipv6ExtensionsRuns<'_>) -> Option<IpNumber>
+    ensures { IfSome result (λ number. number.0
+        ≡ leads_to (start runs.now) (longest_chain (start runs.now) (input runs.now))) }
+{
+    match runs.end() {
+        Some(_) => Some(runs.next_number()),
+        None => None,
+    }
+}
+
+/// The number to which the next run leads, where there is one.
+pub fn number_behind_next_run(runs: &mut Ipv6ExtensionsRuns<'_>) -> Option<IpNumber>
+    ensures { IfSome result (λ number. (run : List ExtHeader)
+        × (runs_left runs.old ≡ run ∷ runs_left runs.new)
+        × (number.0 ≡ leads_to (number_left runs.old) run)) }
+{
+    let _run = runs.next()?;
+    Some(runs.next_number())
+}
+
+/// The number from which the first run is to be written.
+pub fn number_of_first_run(start: IpNumber, packet: &[u8]) -> IpNumber
+    ensures { result.0 ≡ start.0 }
+{
+    Ipv6ExtensionsRuns::new(start, packet).next_number()
 }

@@ -8,4 +8,5 @@ pub mod forms;
 pub mod headers;
 pub mod named;
 pub mod ours;
+pub mod packets;
 pub mod random;

@@ -3,13 +3,14 @@ use crate::inputs::{self, Packets};
 use crate::original::{self, Parse};
 use crate::original_ipv4;
 use crate::ours::{self, ChainCall, HeaderCall, PacketLoop, RepeatedCall};
+use crate::slice_rows;
 use std::hint::black_box;
 
 /// How many calls a run of a row with a single call makes.
-const CALLS: usize = 1000;
+pub const CALLS: usize = 1000;
 
 /// How many packets are parsed.
-const PACKETS: usize = 10_000;
+pub const PACKETS: usize = 10_000;
 
 /// Something to be timed, which answers a digest.
 pub type Work = Box<dyn Fn() -> u64>;
@@ -201,26 +202,29 @@ pub fn rows(seed: u64) -> Vec<Row> {
     rows.extend(struct_written());
     rows.extend(runs());
     rows.extend(ipv4());
+    rows.extend(slice_rows::rows(packets, seed));
     rows
+}
+
+/// A call over all packets.
+pub fn over_packets(call: PacketLoop, packets: &'static Packets) -> Work {
+    Box::new(move || {
+        let call = black_box(call);
+        let (bytes, ends) = (&packets.bytes, &packets.ends);
+        unsafe { call(bytes.as_ptr(), bytes.len(), ends.as_ptr(), ends.len()) }
+    })
 }
 
 /// One exported loop over all packets.
 fn packet_loop(form: &Form, packets: &'static Packets) -> Row {
-    let over = |call: PacketLoop| -> Work {
-        Box::new(move || {
-            let call = black_box(call);
-            let (bytes, ends) = (&packets.bytes, &packets.ends);
-            unsafe { call(bytes.as_ptr(), bytes.len(), ends.as_ptr(), ends.len()) }
-        })
-    };
     Row {
         group: "packets, one loop",
         name: format!("{}, {}: packets in one loop", form.name, form.reading),
         unit: "packet",
         units: packets.ends.len(),
-        ours: over(form.our_loop),
-        original: over(form.original_loop),
-        limit: Some(over(ours::walk_packets)),
+        ours: over_packets(form.our_loop, packets),
+        original: over_packets(form.original_loop, packets),
+        limit: Some(over_packets(ours::walk_packets, packets)),
     }
 }
 

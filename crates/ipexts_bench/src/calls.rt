@@ -1,7 +1,7 @@
 //! A call for each way to parse a chain.
 use crate::parses::{
-    CursorFragment, CursorKinds, Lax, LaxFilter, LaxFragment, LaxHeaders, LaxHeadersFilter, LaxKinds,
-    Parse, Strict, StrictFilter,
+    CursorFragment, CursorKinds, Lax, LaxFilter, LaxFragment, LaxHeaders, LaxHeadersFilter,
+    LaxKinds, Parse, Strict, StrictFilter,
 };
 use crate::structs::{LaxStruct, StrictStruct};
 use ip_ext_chains::IpNumber;

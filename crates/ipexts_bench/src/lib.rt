@@ -10,4 +10,5 @@ mod headers;
 mod ipv4;
 mod packets;
 mod parses;
+mod slices;
 mod structs;

@@ -1,8 +1,8 @@
 //! Loops over IPv6 packets that stand one after the other in a buffer.
 use crate::digest::with;
 use crate::parses::{
-    CursorFragment, CursorKinds, Lax, LaxFilter, LaxFragment, LaxHeaders, LaxHeadersFilter, LaxKinds,
-    Parse, Strict, StrictFilter,
+    CursorFragment, CursorKinds, Lax, LaxFilter, LaxFragment, LaxHeaders, LaxHeadersFilter,
+    LaxKinds, Parse, Strict, StrictFilter,
 };
 use crate::structs::{LaxStruct, StrictStruct};
 use ip_ext_chains::IpNumber;

@@ -184,6 +184,28 @@ unsafe extern "C" {
         count: usize,
     ) -> u64;
 
+    pub fn ipexts_raw_read(bytes: *const u8, len: usize, at: usize) -> u64;
+    pub fn ipexts_raw_read_limited(bytes: *const u8, len: usize, at: usize) -> u64;
+    pub fn ipexts_auth_read(bytes: *const u8, len: usize, at: usize) -> u64;
+    pub fn ipexts_auth_read_limited(bytes: *const u8, len: usize, at: usize) -> u64;
+    pub fn ipexts_fragment_read(bytes: *const u8, len: usize, at: usize) -> u64;
+    pub fn ipexts_fragment_read_limited(bytes: *const u8, len: usize, at: usize) -> u64;
+    pub fn ipexts_ipv4_read(start: u8, bytes: *const u8, len: usize) -> u64;
+    pub fn ipexts_struct_read(start: u8, bytes: *const u8, len: usize) -> u64;
+    pub fn ipexts_struct_read_limited(start: u8, bytes: *const u8, len: usize) -> u64;
+    pub fn ipexts_struct_read_packets(
+        p: *const u8,
+        len: usize,
+        ends: *const usize,
+        count: usize,
+    ) -> u64;
+    pub fn ipexts_struct_read_limited_packets(
+        p: *const u8,
+        len: usize,
+        ends: *const usize,
+        count: usize,
+    ) -> u64;
+
     pub fn walk_chain(start: u8, bytes: *const u8, len: usize) -> u64;
     pub fn walk_packets(p: *const u8, len: usize, ends: *const usize, count: usize) -> u64;
 

@@ -3,6 +3,7 @@ use crate::inputs::{self, Packets};
 use crate::original::{self, Parse};
 use crate::original_ipv4;
 use crate::ours::{self, ChainCall, HeaderCall, PacketLoop, RepeatedCall};
+use crate::read_rows;
 use crate::slice_rows;
 use std::hint::black_box;
 
@@ -30,7 +31,7 @@ pub struct Row {
 }
 
 /// A way to parse a chain, on both sides.
-struct Form {
+pub struct Form {
     name: &'static str,
     reading: &'static str,
     ours: ChainCall,
@@ -39,7 +40,7 @@ struct Form {
     original_loop: PacketLoop,
 }
 
-fn form<P: Parse>(
+pub fn form<P: Parse>(
     name: &'static str,
     reading: &'static str,
     ours: ChainCall,
@@ -159,7 +160,7 @@ fn struct_rows(form: &Form, packets: &'static Packets) -> Vec<Row> {
 }
 
 /// A chain through all six places, whose headers of the common layout have `len` bytes each.
-fn full_chain(form: &Form, len: usize) -> Row {
+pub fn full_chain(form: &Form, len: usize) -> Row {
     let (start, bytes) = inputs::full(len);
     Row {
         group: "all places filled",
@@ -203,6 +204,7 @@ pub fn rows(seed: u64) -> Vec<Row> {
     rows.extend(runs());
     rows.extend(ipv4());
     rows.extend(slice_rows::rows(packets, seed));
+    rows.extend(read_rows::rows(packets));
     rows
 }
 
@@ -216,7 +218,7 @@ pub fn over_packets(call: PacketLoop, packets: &'static Packets) -> Work {
 }
 
 /// One exported loop over all packets.
-fn packet_loop(form: &Form, packets: &'static Packets) -> Row {
+pub fn packet_loop(form: &Form, packets: &'static Packets) -> Row {
     Row {
         group: "packets, one loop",
         name: format!("{}, {}: packets in one loop", form.name, form.reading),
@@ -229,7 +231,7 @@ fn packet_loop(form: &Form, packets: &'static Packets) -> Row {
 }
 
 /// A call for each packet.
-fn packet_calls(form: &Form, packets: &'static Packets) -> Row {
+pub fn packet_calls(form: &Form, packets: &'static Packets) -> Row {
     let each: &'static [&'static [u8]] = Box::leak(packets.each().into_boxed_slice());
     let over = |call: ChainCall| -> Work {
         Box::new(move || {
@@ -252,7 +254,7 @@ fn packet_calls(form: &Form, packets: &'static Packets) -> Row {
 }
 
 /// Calls on the same bytes again and again.
-fn again(call: ChainCall, start: u8, bytes: Vec<u8>, calls: usize) -> Work {
+pub fn again(call: ChainCall, start: u8, bytes: Vec<u8>, calls: usize) -> Work {
     Box::new(move || {
         let call = black_box(call);
         (0..calls).fold(0u64, |sum, _| {
@@ -262,7 +264,7 @@ fn again(call: ChainCall, start: u8, bytes: Vec<u8>, calls: usize) -> Work {
     })
 }
 
-fn regular_chain(form: &Form, count: usize) -> Row {
+pub fn regular_chain(form: &Form, count: usize) -> Row {
     let (start, bytes) = inputs::regular(count);
     let calls = (CALLS / (count + 1)).max(5);
     Row {
@@ -416,7 +418,7 @@ fn borrowed_and_owned() -> Vec<Row> {
 }
 
 /// One call on a single header.
-fn single(
+pub fn single(
     group: &'static str,
     name: &str,
     len: usize,

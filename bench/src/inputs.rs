@@ -225,3 +225,144 @@ pub fn single(number: u8, len: usize) -> Vec<u8> {
     bytes.extend(random.bytes(len + 14));
     bytes
 }
+
+/// IPv4 packets without a fault: some with options, some with an authentication header, some that are fragments,
+/// with a payload of some hundred bytes.
+pub fn ipv4_packets(count: usize, seed: u64) -> Packets {
+    let mut random = Random::new(seed);
+    let mut packets = Packets {
+        bytes: Vec::new(),
+        ends: Vec::new(),
+        chains_len: 0,
+    };
+    for _ in 0..count {
+        let payload = payload_number(&mut random);
+        let numbers: &[u8] = if random.percent(20) { &[AUTH] } else { &[] };
+        let chain = chain_of(numbers, payload, &mut random);
+        let words = if random.percent(90) {
+            5
+        } else {
+            6 + random.below(10)
+        };
+        let fragment: u16 = match random.below(100) {
+            0..60 => 0x4000,
+            60..90 => 0,
+            _ => 0x2000 | random.below(0x100) as u16,
+        };
+        let rest = payload_len(&mut random);
+        let len = (4 * words + chain.len() + rest) as u16;
+        let number = *numbers.first().unwrap_or(&payload);
+        packets.bytes.extend([0x40 | words as u8, 0]);
+        packets.bytes.extend(len.to_be_bytes());
+        packets.bytes.extend(random.bytes(2));
+        packets.bytes.extend(fragment.to_be_bytes());
+        packets.bytes.extend([64, number]);
+        packets.bytes.extend(random.bytes(4 * words - 10));
+        packets.bytes.extend(&chain);
+        packets.bytes.extend(random.bytes(rest));
+        packets.ends.push(packets.bytes.len());
+        packets.chains_len += chain.len();
+    }
+    packets
+}
+
+/// The packets of both in turn, half of each.
+pub fn alternating(one: &Packets, other: &Packets) -> Packets {
+    let mut packets = Packets {
+        bytes: Vec::new(),
+        ends: Vec::new(),
+        chains_len: one.chains_len.midpoint(other.chains_len),
+    };
+    for (index, (one, other)) in one.each().iter().zip(other.each()).enumerate() {
+        packets
+            .bytes
+            .extend(if index % 2 == 0 { *one } else { other });
+        packets.ends.push(packets.bytes.len());
+    }
+    packets
+}
+
+/// A packet that is refused, and why.
+pub struct Refused {
+    pub why: &'static str,
+    /// The version that it states.
+    pub version: u8,
+    /// Whether it is refused for having fewer bytes than it states, which a lax parse doesn't.
+    pub cut_short: bool,
+    pub bytes: Vec<u8>,
+}
+
+/// Packets that are refused for their base header, for their length, or for a header behind it.
+pub fn refused_packets() -> Vec<Refused> {
+    let cut_auth = [UDP; 11];
+    let zero_auth = [UDP, 0, 0, 0, 0, 0, 0, 0, 0, 0, 0, 0];
+    let (_, late) = behind_four(HOP_BY_HOP, &[UDP; 8]);
+    let (_, cut) = behind_four(FRAGMENT, &[UDP; 7]);
+    let refused = |why, bytes: Vec<u8>| Refused {
+        why,
+        version: bytes[0] >> 4,
+        cut_short: false,
+        bytes,
+    };
+    let (short_ipv4, short_ipv6) = (
+        ipv4(UDP, &[0; 30])[..49].to_vec(),
+        ipv6(UDP, &[0; 30])[..69].to_vec(),
+    );
+    let mut small_ihl = ipv4(UDP, &[0; 30]);
+    small_ihl[0] = 0x44;
+    let mut small_total = ipv4(UDP, &[0; 30]);
+    small_total[3] = 19;
+    let mut other = ipv4(UDP, &[0; 30]);
+    other[0] = 0x55;
+    vec![
+        refused("version 5", other),
+        refused("IPv4 header of 19 bytes", ipv4(UDP, &[])[..19].to_vec()),
+        refused("IPv4 header length 4", small_ihl),
+        refused("IPv4 total length of 19 bytes", small_total),
+        refused("IPv4 total length beyond the bytes", short_ipv4),
+        refused("IPv4, authentication header cut", ipv4(AUTH, &cut_auth)),
+        refused(
+            "IPv4, authentication header of length 0",
+            ipv4(AUTH, &zero_auth),
+        ),
+        refused("IPv6 header of 39 bytes", ipv6(UDP, &[])[..39].to_vec()),
+        Refused {
+            cut_short: true,
+            ..refused("IPv6 payload length beyond the bytes", short_ipv6)
+        },
+        refused("IPv6, fragment header cut", ipv6(FRAGMENT, &[UDP; 7])),
+        refused("IPv6, authentication header cut", ipv6(AUTH, &cut_auth)),
+        refused(
+            "IPv6, authentication header of length 0",
+            ipv6(AUTH, &zero_auth),
+        ),
+        refused(
+            "IPv6, fragment header cut behind four",
+            ipv6(HOP_BY_HOP, &cut),
+        ),
+        refused(
+            "IPv6, late hop by hop options behind four",
+            ipv6(HOP_BY_HOP, &late),
+        ),
+    ]
+}
+
+/// An IPv4 packet without options.
+fn ipv4(number: u8, behind: &[u8]) -> Vec<u8> {
+    let mut bytes = vec![0x45, 0];
+    bytes.extend((20 + behind.len() as u16).to_be_bytes());
+    bytes.extend([0, 0, 0, 0, 64, number]);
+    bytes.extend([0; 10]);
+    bytes.extend(behind);
+    bytes
+}
+
+/// An IPv6 packet.
+fn ipv6(number: u8, behind: &[u8]) -> Vec<u8> {
+    let mut bytes = vec![0x60, 0, 0, 0];
+    bytes.extend((behind.len() as u16).to_be_bytes());
+    bytes.extend([number, 64]);
+    bytes.extend([0; 32]);
+    bytes.extend(behind);
+    bytes
+}

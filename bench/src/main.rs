@@ -7,10 +7,14 @@ mod inputs;
 mod measure;
 mod original;
 mod original_ipv4;
+mod original_reads;
+mod original_slices;
 mod ours;
 mod random;
+mod read_rows;
 mod report;
 mod rows;
+mod slice_rows;
 mod tool;
 
 use report::Line;

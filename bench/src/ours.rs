@@ -6,6 +6,9 @@ pub type ChainCall = unsafe extern "C" fn(u8, *const u8, usize) -> u64;
 /// Packets one after the other, with where each ends.
 pub type PacketLoop = unsafe extern "C" fn(*const u8, usize, *const usize, usize) -> u64;
 
+/// The packet that begins the bytes.
+pub type PacketCall = unsafe extern "C" fn(*const u8, usize) -> u64;
+
 /// A single header, with the place of the byte to read.
 pub type HeaderCall = unsafe extern "C" fn(*const u8, usize, usize) -> u64;
 
@@ -127,6 +130,81 @@ unsafe extern "C" {
     pub fn ipexts_ipv4_owned_lax(start: u8, bytes: *const u8, len: usize) -> u64;
     pub fn ipexts_ipv4_owned_strict(start: u8, bytes: *const u8, len: usize) -> u64;
     pub fn ipexts_ipv4_write(bytes: *const u8, len: usize, at: usize, times: u32) -> u64;
+
+    pub fn ipexts_ip(packet: *const u8, len: usize) -> u64;
+    pub fn ipexts_ip_filter(packet: *const u8, len: usize) -> u64;
+    pub fn ipexts_ipv4_slice(packet: *const u8, len: usize) -> u64;
+    pub fn ipexts_ipv4_slice_filter(packet: *const u8, len: usize) -> u64;
+    pub fn ipexts_ipv6_slice(packet: *const u8, len: usize) -> u64;
+    pub fn ipexts_ipv6_slice_filter(packet: *const u8, len: usize) -> u64;
+    pub fn ipexts_ipv6_slice_lax(packet: *const u8, len: usize) -> u64;
+    pub fn ipexts_ipv6_slice_lax_filter(packet: *const u8, len: usize) -> u64;
+
+    pub fn ipexts_ip_packets(p: *const u8, len: usize, ends: *const usize, count: usize) -> u64;
+    pub fn ipexts_ip_filter_packets(
+        p: *const u8,
+        len: usize,
+        ends: *const usize,
+        count: usize,
+    ) -> u64;
+    pub fn ipexts_ipv4_slice_packets(
+        p: *const u8,
+        len: usize,
+        ends: *const usize,
+        count: usize,
+    ) -> u64;
+    pub fn ipexts_ipv4_slice_filter_packets(
+        p: *const u8,
+        len: usize,
+        ends: *const usize,
+        count: usize,
+    ) -> u64;
+    pub fn ipexts_ipv6_slice_packets(
+        p: *const u8,
+        len: usize,
+        ends: *const usize,
+        count: usize,
+    ) -> u64;
+    pub fn ipexts_ipv6_slice_filter_packets(
+        p: *const u8,
+        len: usize,
+        ends: *const usize,
+        count: usize,
+    ) -> u64;
+    pub fn ipexts_ipv6_slice_lax_packets(
+        p: *const u8,
+        len: usize,
+        ends: *const usize,
+        count: usize,
+    ) -> u64;
+    pub fn ipexts_ipv6_slice_lax_filter_packets(
+        p: *const u8,
+        len: usize,
+        ends: *const usize,
+        count: usize,
+    ) -> u64;
+
+    pub fn ipexts_raw_read(bytes: *const u8, len: usize, at: usize) -> u64;
+    pub fn ipexts_raw_read_limited(bytes: *const u8, len: usize, at: usize) -> u64;
+    pub fn ipexts_auth_read(bytes: *const u8, len: usize, at: usize) -> u64;
+    pub fn ipexts_auth_read_limited(bytes: *const u8, len: usize, at: usize) -> u64;
+    pub fn ipexts_fragment_read(bytes: *const u8, len: usize, at: usize) -> u64;
+    pub fn ipexts_fragment_read_limited(bytes: *const u8, len: usize, at: usize) -> u64;
+    pub fn ipexts_ipv4_read(start: u8, bytes: *const u8, len: usize) -> u64;
+    pub fn ipexts_struct_read(start: u8, bytes: *const u8, len: usize) -> u64;
+    pub fn ipexts_struct_read_limited(start: u8, bytes: *const u8, len: usize) -> u64;
+    pub fn ipexts_struct_read_packets(
+        p: *const u8,
+        len: usize,
+        ends: *const usize,
+        count: usize,
+    ) -> u64;
+    pub fn ipexts_struct_read_limited_packets(
+        p: *const u8,
+        len: usize,
+        ends: *const usize,
+        count: usize,
+    ) -> u64;
 
     pub fn walk_chain(start: u8, bytes: *const u8, len: usize) -> u64;
     pub fn walk_packets(p: *const u8, len: usize, ends: *const usize, count: usize) -> u64;

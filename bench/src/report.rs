@@ -8,6 +8,21 @@ const GOAL: f64 = 1.0;
 /// Rows with a goal of their own: how the name begins, what it has in it, and the goal; the first that fits counts.
 /// docs/DECISIONS.md has the reasons.
 const OWN_GOALS: &[(&str, &str, f64)] = &[
+    ("IpSlice, filter", "one loop", 0.85),
+    ("IpSlice, filter", "a call each", 0.95),
+    ("IpSlice, filter", "refused", 0.70),
+    ("Ipv4Slice, filter", "one loop", 0.85),
+    ("Ipv4Slice, filter", "a call each", 0.95),
+    ("Ipv4Slice, filter", "refused", 0.70),
+    ("Ipv6Slice, strict, filter", "one loop", 0.85),
+    ("Ipv6Slice, strict, filter", "a call each", 0.95),
+    ("Ipv6Slice, strict, filter", "refused", 0.70),
+    ("Ipv6Slice, lax, filter", "one loop", 0.85),
+    ("Ipv6Slice, lax, filter", "a call each", 0.95),
+    ("Ipv6Slice, lax, filter", "refused", 0.70),
+    ("raw header, read", "", 1.00),
+    ("authentication header, read", "", 1.00),
+    ("fragment header, read", "", 1.00),
     ("cursor against our two passes", "", 0.82),
     ("cursor", "packet", 0.75),
     ("lax, filter", "packet", 0.90),

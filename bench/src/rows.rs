@@ -3,13 +3,15 @@ use crate::inputs::{self, Packets};
 use crate::original::{self, Parse};
 use crate::original_ipv4;
 use crate::ours::{self, ChainCall, HeaderCall, PacketLoop, RepeatedCall};
+use crate::read_rows;
+use crate::slice_rows;
 use std::hint::black_box;
 
 /// How many calls a run of a row with a single call makes.
-const CALLS: usize = 1000;
+pub const CALLS: usize = 1000;
 
 /// How many packets are parsed.
-const PACKETS: usize = 10_000;
+pub const PACKETS: usize = 10_000;
 
 /// Something to be timed, which answers a digest.
 pub type Work = Box<dyn Fn() -> u64>;
@@ -29,7 +31,7 @@ pub struct Row {
 }
 
 /// A way to parse a chain, on both sides.
-struct Form {
+pub struct Form {
     name: &'static str,
     reading: &'static str,
     ours: ChainCall,
@@ -38,7 +40,7 @@ struct Form {
     original_loop: PacketLoop,
 }
 
-fn form<P: Parse>(
+pub fn form<P: Parse>(
     name: &'static str,
     reading: &'static str,
     ours: ChainCall,
@@ -158,7 +160,7 @@ fn struct_rows(form: &Form, packets: &'static Packets) -> Vec<Row> {
 }
 
 /// A chain through all six places, whose headers of the common layout have `len` bytes each.
-fn full_chain(form: &Form, len: usize) -> Row {
+pub fn full_chain(form: &Form, len: usize) -> Row {
     let (start, bytes) = inputs::full(len);
     Row {
         group: "all places filled",
@@ -201,31 +203,35 @@ pub fn rows(seed: u64) -> Vec<Row> {
     rows.extend(struct_written());
     rows.extend(runs());
     rows.extend(ipv4());
+    rows.extend(slice_rows::rows(packets, seed));
+    rows.extend(read_rows::rows(packets));
     rows
 }
 
+/// A call over all packets.
+pub fn over_packets(call: PacketLoop, packets: &'static Packets) -> Work {
+    Box::new(move || {
+        let call = black_box(call);
+        let (bytes, ends) = (&packets.bytes, &packets.ends);
+        unsafe { call(bytes.as_ptr(), bytes.len(), ends.as_ptr(), ends.len()) }
+    })
+}
+
 /// One exported loop over all packets.
-fn packet_loop(form: &Form, packets: &'static Packets) -> Row {
-    let over = |call: PacketLoop| -> Work {
-        Box::new(move || {
-            let call = black_box(call);
-            let (bytes, ends) = (&packets.bytes, &packets.ends);
-            unsafe { call(bytes.as_ptr(), bytes.len(), ends.as_ptr(), ends.len()) }
-        })
-    };
+pub fn packet_loop(form: &Form, packets: &'static Packets) -> Row {
     Row {
         group: "packets, one loop",
         name: format!("{}, {}: packets in one loop", form.name, form.reading),
         unit: "packet",
         units: packets.ends.len(),
-        ours: over(form.our_loop),
-        original: over(form.original_loop),
-        limit: Some(over(ours::walk_packets)),
+        ours: over_packets(form.our_loop, packets),
+        original: over_packets(form.original_loop, packets),
+        limit: Some(over_packets(ours::walk_packets, packets)),
     }
 }
 
 /// A call for each packet.
-fn packet_calls(form: &Form, packets: &'static Packets) -> Row {
+pub fn packet_calls(form: &Form, packets: &'static Packets) -> Row {
     let each: &'static [&'static [u8]] = Box::leak(packets.each().into_boxed_slice());
     let over = |call: ChainCall| -> Work {
         Box::new(move || {
@@ -248,7 +254,7 @@ fn packet_calls(form: &Form, packets: &'static Packets) -> Row {
 }
 
 /// Calls on the same bytes again and again.
-fn again(call: ChainCall, start: u8, bytes: Vec<u8>, calls: usize) -> Work {
+pub fn again(call: ChainCall, start: u8, bytes: Vec<u8>, calls: usize) -> Work {
     Box::new(move || {
         let call = black_box(call);
         (0..calls).fold(0u64, |sum, _| {
@@ -258,7 +264,7 @@ fn again(call: ChainCall, start: u8, bytes: Vec<u8>, calls: usize) -> Work {
     })
 }
 
-fn regular_chain(form: &Form, count: usize) -> Row {
+pub fn regular_chain(form: &Form, count: usize) -> Row {
     let (start, bytes) = inputs::regular(count);
     let calls = (CALLS / (count + 1)).max(5);
     Row {
@@ -412,7 +418,7 @@ fn borrowed_and_owned() -> Vec<Row> {
 }
 
 /// One call on a single header.
-fn single(
+pub fn single(
     group: &'static str,
     name: &str,
     len: usize,

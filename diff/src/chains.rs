@@ -1,8 +1,11 @@
 //! Start numbers and bytes that ask about chains of extension headers.
 use crate::random::Random;
 
+/// The number of authentication headers.
+pub const AUTH: u8 = 51;
+
 /// The numbers of extension headers.
-pub const EXTENSIONS: [u8; 5] = [0, 43, 44, 51, 60];
+pub const EXTENSIONS: [u8; 5] = [0, 43, 44, AUTH, 60];
 
 /// Numbers beside them and others that mean something to a parser of another kind.
 const OTHERS: [u8; 9] = [17, 6, 58, 59, 135, 139, 140, 50, 255];

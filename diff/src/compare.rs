@@ -1,9 +1,12 @@
 //! Both sides are asked, and the first difference that isn't a named one is told.
 use crate::bad_lines::spoilt;
+use crate::chains;
 use crate::forms::{answer, forms, Form};
 use crate::headers::{original, Question, Told};
 use crate::named::Difference;
+use crate::ours::Start;
 use crate::random::Random;
+use crate::reads::{self, Kind};
 use std::collections::BTreeMap;
 use std::io::{self, BufRead, BufReader, BufWriter, Write};
 use std::process::{Command, Stdio};
@@ -126,6 +129,107 @@ pub fn single_headers(ours: impl Fn(&Question) -> Told, seed: u64, count: usize)
     Outcome::Same(Counts::new())
 }
 
+/// Asks both sides for `count` reads; `ours` tells our answers.
+pub fn all_reads(
+    ours: impl Fn(&reads::Question) -> reads::Told,
+    seed: u64,
+    count: usize,
+) -> Outcome {
+    let mut random = Random::new(seed);
+    let mut waiting: Vec<reads::Question> = Vec::new();
+    for index in 0..count {
+        if waiting.is_empty() {
+            waiting = read_questions(&mut random);
+        }
+        let Some(question) = waiting.pop() else {
+            continue;
+        };
+        let (ours, original) = (ours(&question), reads::original(&question));
+        if ours != original {
+            return Outcome::Different(format!(
+                "read {}: {question:?}\nthe original: {original:?}\nours: {ours:?}",
+                index + 1
+            ));
+        }
+    }
+    Outcome::Same(Counts::new())
+}
+
+/// Some reads that belong together: of a header whose length is right, a few bytes off or any, or of a chain.
+fn read_questions(random: &mut Random) -> Vec<reads::Question> {
+    let (raw, auth) = (8 * (1 + units(random)), 4 * (3 + units(random)).min(257));
+    let (kind, asked) = match random.below(8) {
+        0 => (
+            Kind::Raw,
+            vec![(0, header_bytes(random, raw, (raw / 8 - 1) as u8))],
+        ),
+        1 => (
+            Kind::Auth,
+            vec![(0, header_bytes(random, auth, (auth / 4 - 2) as u8))],
+        ),
+        2 => (Kind::Fragment, vec![(0, header_bytes(random, 8, 0))]),
+        3 => (Kind::Ipv4, chains::asked(random, 6000)),
+        _ => (Kind::Ipv6, chains::asked(random, 6000)),
+    };
+    asked
+        .into_iter()
+        .map(|(number, bytes)| read_question(kind, number, bytes, random))
+        .collect()
+}
+
+fn read_question(kind: Kind, number: u8, bytes: Vec<u8>, random: &mut Random) -> reads::Question {
+    let start = if kind == Kind::Ipv4 && random.percent(70) {
+        chains::AUTH
+    } else {
+        number
+    };
+    let is_over = random.percent(30);
+    if random.percent(40) {
+        return reads::Question {
+            kind,
+            start,
+            is_over,
+            limit: None,
+            bytes,
+        };
+    }
+    let before = if random.percent(50) {
+        0
+    } else {
+        random.below(60)
+    };
+    let mut all = random.bytes(before);
+    all.extend(bytes);
+    reads::Question {
+        kind,
+        start,
+        is_over,
+        limit: Some(Start {
+            source: random.below(3) as u8,
+            max_len: limit(before, all.len(), random) as u32,
+            layer_offset: if random.percent(80) {
+                random.below(100) as u32
+            } else {
+                random.next() as u32
+            },
+            before: before as u8,
+        }),
+        bytes: all,
+    }
+}
+
+/// A limit that all bytes keep, or a few or many don't.
+fn limit(before: usize, len: usize, random: &mut Random) -> usize {
+    match random.below(10) {
+        0..2 => len,
+        2..4 => len.saturating_sub(random.below(20)),
+        4..6 => before + random.below(40),
+        6..8 => random.below(len + 1),
+        8 => len + random.below(20),
+        _ => random.next() as u32 as usize,
+    }
+}
+
 /// A question about a single header. Lengths are right, a few bytes off, or any.
 fn question(random: &mut Random) -> Question {
     let raw = 8 * (1 + units(random));
@@ -158,14 +262,14 @@ fn units(random: &mut Random) -> usize {
     }
 }
 
-/// Bytes about as long as a header of this length, whose second byte mostly says so.
+/// Bytes about as long as a header of this length, whose second byte mostly says so, or 0.
 fn header_bytes(random: &mut Random, len: usize, field: u8) -> Vec<u8> {
     let mut bytes = part(random, len);
     if let Some(second) = bytes.get_mut(1) {
-        *second = if random.percent(90) {
-            field
-        } else {
-            random.next() as u8
+        *second = match random.below(20) {
+            0..18 => field,
+            18 => 0,
+            _ => random.next() as u8,
         };
     }
     bytes
@@ -190,6 +294,70 @@ mod tests {
     #[test]
     fn the_sides_agree() {
         assert!(matches!(single_headers(ours, 1, 10_000), Outcome::Same(_)));
+    }
+
+    #[test]
+    fn the_sides_read_alike() {
+        assert!(matches!(
+            all_reads(reads::ours, 1, 10_000),
+            Outcome::Same(_)
+        ));
+    }
+
+    /// Each part of a read in turn is told wrongly, and the difference is found.
+    #[test]
+    fn a_planted_difference_in_a_read_is_found() {
+        let plants: [fn(&mut reads::Told); 11] = [
+            |told| told.read.fault ^= 1,
+            |told| told.read.source ^= 1,
+            |told| told.read.layer ^= 1,
+            |told| told.read.next_header ^= 1,
+            |told| told.read.places ^= 32,
+            |told| told.read.required_len ^= 8,
+            |told| told.read.offset += 1,
+            |told| told.read.left += 1,
+            |told| told.read.limit.layer_offset += 1,
+            |told| told.read.limit.read_len += 1,
+            |told| told.written.iter_mut().last().map_or((), |byte| *byte ^= 1),
+        ];
+        for plant in plants {
+            let wrong = |question: &reads::Question| {
+                let mut told = reads::ours(question);
+                plant(&mut told);
+                told
+            };
+            assert!(matches!(all_reads(wrong, 1, 10_000), Outcome::Different(_)));
+        }
+    }
+
+    /// Each outcome of a read comes, of each kind.
+    #[test]
+    fn each_outcome_of_a_read_comes() {
+        let met = std::cell::RefCell::new(std::collections::BTreeSet::new());
+        let watching = |question: &reads::Question| {
+            let told = reads::ours(question);
+            let (kind, is_limited) = (question.kind as u8, question.limit.is_some());
+            met.borrow_mut().insert((kind, is_limited, told.read.fault));
+            told
+        };
+        assert!(matches!(all_reads(watching, 2, 20_000), Outcome::Same(_)));
+        let faults = |kind: Kind, is_limited: bool| -> Vec<u8> {
+            let met = met.borrow();
+            let of_kind = met
+                .iter()
+                .filter(|met| (met.0, met.1) == (kind as u8, is_limited));
+            of_kind.map(|met| met.2).collect()
+        };
+        for kind in [Kind::Raw, Kind::Fragment] {
+            assert_eq!(faults(kind, false), [0, 4]);
+            assert_eq!(faults(kind, true), [0, 1, 4]);
+        }
+        for kind in [Kind::Auth, Kind::Ipv4] {
+            assert_eq!(faults(kind, false), [0, 2, 4]);
+            assert_eq!(faults(kind, true), [0, 1, 2, 4]);
+        }
+        assert_eq!(faults(Kind::Ipv6, false), [0, 2, 3, 4]);
+        assert_eq!(faults(Kind::Ipv6, true), [0, 1, 2, 3, 4]);
     }
 
     /// Each part in turn is told wrongly now and then, and the difference is found.

@@ -1,6 +1,6 @@
 //! The texts of the original's faults.
 use etherparse::err::ipv6_exts::{HeaderError, HeaderSliceError};
-use etherparse::err::{ip_auth, LenError};
+use etherparse::err::{ip, ip_auth, LenError};
 use std::fmt::Write;
 
 /// The text of an error of length.
@@ -34,13 +34,39 @@ pub fn push_auth_fault(fault: &ip_auth::HeaderSliceError, answer: &mut String) {
 pub fn push_ipv6_fault(fault: &HeaderSliceError, answer: &mut String) {
     match fault {
         HeaderSliceError::Len(fault) => push_len_fault(fault, answer),
-        HeaderSliceError::Content(HeaderError::HopByHopNotAtStart) => {
-            answer.push_str("fault HopByHopNotAtStart")
-        }
-        HeaderSliceError::Content(HeaderError::IpAuth(ip_auth::HeaderError::ZeroPayloadLen)) => {
-            answer.push_str("fault ZeroPayloadLen");
-        }
+        HeaderSliceError::Content(fault) => answer.push_str(ipv6_content(fault)),
     }
+}
+
+/// The text of a fault of the content of an IPv6 chain.
+fn ipv6_content(fault: &HeaderError) -> &'static str {
+    match fault {
+        HeaderError::HopByHopNotAtStart => "fault HopByHopNotAtStart",
+        HeaderError::IpAuth(ip_auth::HeaderError::ZeroPayloadLen) => "fault ZeroPayloadLen",
+    }
+}
+
+/// The line that says why there is no packet.
+pub fn push_packet_fault(fault: &ip::SliceError, answer: &mut String) {
+    use ip::HeaderError::{Ipv4HeaderLengthSmallerThanHeader, UnsupportedIpVersion};
+    match fault {
+        ip::SliceError::Len(fault) => push_len_fault(fault, answer),
+        ip::SliceError::IpHeaders(fault) => match fault {
+            ip::HeadersError::Ip(UnsupportedIpVersion { version_number }) => push(
+                answer,
+                format_args!("fault UnsupportedIpVersion {version_number}"),
+            ),
+            ip::HeadersError::Ip(Ipv4HeaderLengthSmallerThanHeader { ihl }) => push(
+                answer,
+                format_args!("fault Ipv4HeaderLengthSmallerThanHeader {ihl}"),
+            ),
+            ip::HeadersError::Ipv4Ext(ip_auth::HeaderError::ZeroPayloadLen) => {
+                answer.push_str("fault ZeroPayloadLen");
+            }
+            ip::HeadersError::Ipv6Ext(fault) => answer.push_str(ipv6_content(fault)),
+        },
+    }
+    answer.push('\n');
 }
 
 /// Appends what `format_args!` says.

@@ -267,9 +267,13 @@ fn refused(fault: u8, found_len: usize) -> Told {
     }
 }
 
-fn layer_code(layer: &Layer) -> u8 {
+pub fn layer_code(layer: &Layer) -> u8 {
     match layer {
+        Layer::Ipv4Header => 1,
+        Layer::Ipv4Packet => 2,
         Layer::IpAuthHeader => 3,
+        Layer::Ipv6Header => 4,
+        Layer::Ipv6Packet => 5,
         Layer::Ipv6ExtHeader => 6,
         Layer::Ipv6HopByHopHeader => 7,
         Layer::Ipv6DestOptionsHeader => 8,
@@ -280,7 +284,7 @@ fn layer_code(layer: &Layer) -> u8 {
 }
 
 #[allow(unreachable_patterns)]
-fn len_source_code(source: &LenSource) -> u8 {
+pub fn len_source_code(source: &LenSource) -> u8 {
     match source {
         LenSource::Slice => 0,
         LenSource::Ipv4HeaderTotalLen => 1,

@@ -1,5 +1,5 @@
-//! Answers of etherparse 0.19.0 to lines of the tool and over single headers, lines to ask with, and what
-//! is compared.
+//! Answers of etherparse 0.19.0 to lines of the tool, over single headers and over reads, what to ask with, and
+//! what is compared.
 pub mod bad_lines;
 pub mod chains;
 pub mod compare;
@@ -8,4 +8,6 @@ pub mod forms;
 pub mod headers;
 pub mod named;
 pub mod ours;
+pub mod packets;
 pub mod random;
+pub mod reads;

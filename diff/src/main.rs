@@ -2,8 +2,9 @@
 //!
 //!     diff lines TOOL SEED COUNT    the tool's answers to so many lines from a seed
 //!     diff headers SEED COUNT       the parts of so many single headers and the bytes written of them
-use diff::compare::{lines_of_tool, single_headers, Outcome};
-use diff::headers::ours;
+//!     diff reads SEED COUNT         what so many reads take, leave and refuse
+use diff::compare::{all_reads, lines_of_tool, single_headers, Outcome};
+use diff::{headers, reads};
 use std::process::ExitCode;
 
 fn main() -> ExitCode {
@@ -27,10 +28,16 @@ fn main() -> ExitCode {
             "single headers",
             seed,
             count,
-            single_headers(ours, number(seed), number(count) as usize),
+            single_headers(headers::ours, number(seed), number(count) as usize),
+        ),
+        ["reads", seed, count] => told(
+            "reads",
+            seed,
+            count,
+            all_reads(reads::ours, number(seed), number(count) as usize),
         ),
         _ => {
-            eprintln!("diff: lines TOOL SEED COUNT, or headers SEED COUNT");
+            eprintln!("diff: lines TOOL SEED COUNT, headers SEED COUNT, or reads SEED COUNT");
             ExitCode::from(2)
         }
     }

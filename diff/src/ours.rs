@@ -103,3 +103,73 @@ unsafe extern "C" {
         out: *mut Header,
     );
 }
+
+/// What a read told, as the library tells it.
+#[repr(C)]
+#[derive(Clone, Copy, Debug, Default, PartialEq, Eq)]
+pub struct Read {
+    /// 0: none; 1: the limit leaves too few bytes; 2: an authentication header's length field is 0; 3: hop by hop
+    /// options don't stand first; 4: the reader refused.
+    pub fault: u8,
+    pub source: u8,
+    pub layer: u8,
+    /// The number behind the headers.
+    pub next_header: u8,
+    /// Which places have a header, a bit for each.
+    pub places: u8,
+    pub required_len: usize,
+    pub found_len: usize,
+    pub offset: usize,
+    /// How many bytes `write` appends of the value.
+    pub written_len: usize,
+    /// How many bytes are not yet read; not told where the reader refused.
+    pub left: usize,
+    pub limit: Limit,
+}
+
+/// The state of a limited reader.
+#[repr(C)]
+#[derive(Clone, Copy, Debug, Default, PartialEq, Eq)]
+pub struct Limit {
+    pub source: u8,
+    pub layer: u8,
+    pub max_len: usize,
+    pub layer_offset: usize,
+    pub read_len: usize,
+}
+
+/// How a limited reader begins.
+#[repr(C)]
+#[derive(Clone, Copy, Debug)]
+pub struct Start {
+    /// 0: the slice; 1: an IPv4 header; 2: an IPv6 header.
+    pub source: u8,
+    pub max_len: u32,
+    pub layer_offset: u32,
+    /// How many bytes are read before the header, in the layer in which the reader begins.
+    pub before: u8,
+}
+
+unsafe extern "C" {
+    pub fn ipexts_read_fields(
+        kind: u8,
+        start: u8,
+        is_over: bool,
+        bytes: *const u8,
+        len: usize,
+        written: *mut u8,
+        written_room: usize,
+        out: *mut Read,
+    );
+    pub fn ipexts_read_limited_fields(
+        kind: u8,
+        start: u8,
+        is_over: bool,
+        limit: *const Start,
+        bytes: *const u8,
+        len: usize,
+        written: *mut u8,
+        written_room: usize,
+        out: *mut Read,
+    );
+}

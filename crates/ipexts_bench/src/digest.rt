@@ -60,8 +60,15 @@ fn of_chain(headers: &Ipv6ExtensionsSlice<'_>, number: IpNumber, rest: &[u8]) ->
 pub fn of_fault(fault: &HeaderSliceError) -> u64 {
     match fault {
         HeaderSliceError::Len(fault) => of_len_error(fault),
-        HeaderSliceError::Content(HeaderError::HopByHopNotAtStart) => 1,
-        HeaderSliceError::Content(HeaderError::IpAuth(ip_auth::HeaderError::ZeroPayloadLen)) => 2,
+        HeaderSliceError::Content(fault) => of_content(fault),
+    }
+}
+
+/// A fault of the content of a chain.
+pub fn of_content(fault: &HeaderError) -> u64 {
+    match fault {
+        HeaderError::HopByHopNotAtStart => 1,
+        HeaderError::IpAuth(ip_auth::HeaderError::ZeroPayloadLen) => 2,
     }
 }
 
@@ -89,7 +96,11 @@ pub fn of_len_error(fault: &LenError) -> u64 {
 /// A number for each layer.
 pub fn layer_code(layer: &Layer) -> u8 {
     match layer {
+        Layer::Ipv4Header => 1,
+        Layer::Ipv4Packet => 2,
         Layer::IpAuthHeader => 3,
+        Layer::Ipv6Header => 4,
+        Layer::Ipv6Packet => 5,
         Layer::Ipv6ExtHeader => 6,
         Layer::Ipv6HopByHopHeader => 7,
         Layer::Ipv6DestOptionsHeader => 8,

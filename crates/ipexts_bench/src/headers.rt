@@ -42,7 +42,7 @@ fn of_borrowed_fragment(header: &Ipv6FragmentHeaderSlice<'_>) -> u64 {
 
 /// Every part of an owned header of the common layout.
 #[inline(never)]
-fn of_owned_raw(header: &Ipv6RawExtHeader, at: usize) -> u64 {
+pub fn of_owned_raw(header: &Ipv6RawExtHeader, at: usize) -> u64 {
     let payload = header.payload();
     let fields = with(u64::from(header.next_header.0), of_bytes(payload));
     with(fields, byte_at(payload, at))
@@ -59,7 +59,7 @@ pub fn of_owned_auth(header: &IpAuthHeader, at: usize) -> u64 {
 
 /// Every part of an owned fragment header.
 #[inline(never)]
-fn of_owned_fragment(header: &Ipv6FragmentHeader) -> u64 {
+pub fn of_owned_fragment(header: &Ipv6FragmentHeader) -> u64 {
     let offset = u64::from(header.fragment_offset.value());
     let flags = with(u64::from(header.more_fragments), offset);
     let fields = with(flags, u64::from(header.identification));

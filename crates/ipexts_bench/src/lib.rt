@@ -10,4 +10,7 @@ mod headers;
 mod ipv4;
 mod packets;
 mod parses;
+mod read_fields;
+mod reads;
+mod slices;
 mod structs;

@@ -4,6 +4,7 @@ use crate::parses::{
     CursorFragment, CursorKinds, Lax, LaxFilter, LaxFragment, LaxHeaders, LaxHeadersFilter,
     LaxKinds, Parse, Strict, StrictFilter,
 };
+use crate::reads::{StructRead, StructReadLimited};
 use crate::structs::{LaxStruct, StrictStruct};
 use ip_ext_chains::IpNumber;
 
@@ -102,4 +103,16 @@ pub extern "C" fn ipexts_cursor_fragment_packets(packets: &[u8], ends: &[usize])
 #[unsafe(no_mangle)]
 pub extern "C" fn ipexts_lax_fragment_packets(packets: &[u8], ends: &[usize]) -> u64 {
     over_packets::<LaxFragment>(packets, ends)
+}
+
+/// The read of each packet into a struct, read in full.
+#[unsafe(no_mangle)]
+pub extern "C" fn ipexts_struct_read_packets(packets: &[u8], ends: &[usize]) -> u64 {
+    over_packets::<StructRead>(packets, ends)
+}
+
+/// The same under a limit.
+#[unsafe(no_mangle)]
+pub extern "C" fn ipexts_struct_read_limited_packets(packets: &[u8], ends: &[usize]) -> u64 {
+    over_packets::<StructReadLimited>(packets, ends)
 }

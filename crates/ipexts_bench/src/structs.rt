@@ -37,7 +37,7 @@ impl Parse for StrictStruct {
 
 /// Every part of a struct, the number to which its chain leads and what follows it.
 #[inline(never)]
-fn of_answer(exts: &Ipv6Extensions, number: IpNumber, rest: &[u8]) -> u64 {
+pub fn of_answer(exts: &Ipv6Extensions, number: IpNumber, rest: &[u8]) -> u64 {
     with(with(of_exts(exts), u64::from(number.0)), of_bytes(rest))
 }
 

@@ -1,15 +1,12 @@
 //! `exts4 N HEX`: the IPv4 extension headers that begin the bytes.
 use super::{hex_of, number_and_bytes, Form};
-use crate::chains;
+use crate::chains::{self, AUTH};
 use crate::faults::{push, push_auth_fault};
 use crate::named::Difference;
 use crate::random::Random;
 use etherparse::{IpNumber, Ipv4ExtensionsSlice};
 
 pub struct Exts4;
-
-/// The number of authentication headers.
-const AUTH: u8 = 51;
 
 impl Form for Exts4 {
     fn name(&self) -> &'static str {

@@ -1,6 +1,7 @@
 //! The forms of a line. A further form is a file here and a line in `forms`.
 mod exts4;
 mod exts6;
+mod packet;
 mod rewrite6;
 mod rewriteall6;
 
@@ -30,6 +31,7 @@ pub fn forms() -> Vec<Box<dyn Form>> {
         Box::new(exts4::Exts4),
         Box::new(rewrite6::Rewrite6),
         Box::new(rewriteall6::RewriteAll6),
+        Box::new(packet::Packet),
     ]
 }
 

@@ -1,0 +1,131 @@
+//! The rows of reads: headers, chains of IPv4, and chains of six places, with and without a limit.
+use crate::inputs::{self, Packets};
+use crate::original_reads;
+use crate::ours;
+use crate::rows::{again, form, full_chain, packet_calls, packet_loop, regular_chain, single};
+use crate::rows::{Form, Row, CALLS};
+
+/// All rows, over the packets that the chains' rows have too.
+pub fn rows(packets: &'static Packets) -> Vec<Row> {
+    let mut rows = headers();
+    rows.extend(ipv4());
+    for form in forms() {
+        rows.extend([packet_loop(&form, packets), packet_calls(&form, packets)]);
+        rows.push(regular_chain(&form, 0));
+        rows.extend([8, 2040].map(|len| full_chain(&form, len)));
+    }
+    rows.into_iter()
+        .map(|row| Row {
+            group: if row.name.contains("limited") {
+                "reads under a limit"
+            } else {
+                "reads"
+            },
+            limit: None,
+            ..row
+        })
+        .collect()
+}
+
+/// Chains of six places.
+fn forms() -> [Form; 2] {
+    use ours::*;
+    [
+        form::<original_reads::StructRead>(
+            "struct, read",
+            "in full",
+            ipexts_struct_read,
+            ipexts_struct_read_packets,
+        ),
+        form::<original_reads::StructReadLimited>(
+            "struct, read_limited",
+            "in full",
+            ipexts_struct_read_limited,
+            ipexts_struct_read_limited_packets,
+        ),
+    ]
+}
+
+/// Each header, and one that is cut short.
+fn headers() -> Vec<Row> {
+    use ours::*;
+    let calls: [(&str, u8, &[usize], HeaderCall, HeaderCall); 6] = [
+        (
+            "raw header, read",
+            inputs::ROUTE,
+            &[8, 64, 2048],
+            ipexts_raw_read,
+            original_reads::raw_read,
+        ),
+        (
+            "raw header, read_limited",
+            inputs::ROUTE,
+            &[8, 64, 2048],
+            ipexts_raw_read_limited,
+            original_reads::raw_read_limited,
+        ),
+        (
+            "authentication header, read",
+            inputs::AUTH,
+            &[12, 64, 1028],
+            ipexts_auth_read,
+            original_reads::auth_read,
+        ),
+        (
+            "authentication header, read_limited",
+            inputs::AUTH,
+            &[12, 64, 1028],
+            ipexts_auth_read_limited,
+            original_reads::auth_read_limited,
+        ),
+        (
+            "fragment header, read",
+            inputs::FRAGMENT,
+            &[8],
+            ipexts_fragment_read,
+            original_reads::fragment_read,
+        ),
+        (
+            "fragment header, read_limited",
+            inputs::FRAGMENT,
+            &[8],
+            ipexts_fragment_read_limited,
+            original_reads::fragment_read_limited,
+        ),
+    ];
+    let mut rows = Vec::new();
+    for (name, number, lens, ours, original) in calls {
+        rows.extend(lens.iter().map(|len| {
+            let bytes = inputs::single(number, *len);
+            single("reads", name, *len, &bytes, ours, original)
+        }));
+        rows.push(single(
+            "reads",
+            &format!("{name}, refused"),
+            7,
+            &[17; 7],
+            ours,
+            original,
+        ));
+    }
+    rows
+}
+
+/// The header of IPv4, and none.
+fn ipv4() -> Vec<Row> {
+    let header = inputs::single(inputs::AUTH, 64);
+    [
+        ("a header of 64 bytes", inputs::AUTH, header),
+        ("no header", 17, vec![17; 20]),
+    ]
+    .map(|(what, start, bytes)| Row {
+        group: "reads",
+        name: format!("IPv4, owned, read: {what}"),
+        unit: "call",
+        units: CALLS,
+        ours: again(ours::ipexts_ipv4_read, start, bytes.clone(), CALLS),
+        original: again(original_reads::ipv4_read, start, bytes, CALLS),
+        limit: None,
+    })
+    .into()
+}

@@ -1,0 +1,192 @@
+//! The rows of whole packets: right ones of either version, and refusals.
+use crate::inputs::{self, Packets};
+use crate::original_slices::{self, Packet};
+use crate::ours::{self, PacketCall, PacketLoop};
+use crate::rows::{over_packets, Row, Work, CALLS, PACKETS};
+use std::hint::black_box;
+
+/// A way to parse a packet, on both sides.
+struct Form {
+    name: &'static str,
+    reading: &'static str,
+    ours: PacketCall,
+    original: PacketCall,
+    our_loop: PacketLoop,
+    original_loop: PacketLoop,
+}
+
+fn form<P: Packet>(
+    name: &'static str,
+    reading: &'static str,
+    ours: PacketCall,
+    our_loop: PacketLoop,
+) -> Form {
+    Form {
+        name,
+        reading,
+        ours,
+        original: original_slices::packet::<P>,
+        our_loop,
+        original_loop: original_slices::packets::<P>,
+    }
+}
+
+/// The packets of either version.
+fn ip_forms() -> [Form; 2] {
+    use ours::*;
+    [
+        form::<original_slices::Ip>("IpSlice", "in full", ipexts_ip, ipexts_ip_packets),
+        form::<original_slices::IpFilter>(
+            "IpSlice",
+            "filter",
+            ipexts_ip_filter,
+            ipexts_ip_filter_packets,
+        ),
+    ]
+}
+
+/// Those of IPv4.
+fn ipv4_forms() -> [Form; 2] {
+    use ours::*;
+    [
+        form::<original_slices::Ipv4>(
+            "Ipv4Slice",
+            "in full",
+            ipexts_ipv4_slice,
+            ipexts_ipv4_slice_packets,
+        ),
+        form::<original_slices::Ipv4Filter>(
+            "Ipv4Slice",
+            "filter",
+            ipexts_ipv4_slice_filter,
+            ipexts_ipv4_slice_filter_packets,
+        ),
+    ]
+}
+
+/// Those of IPv6, strict and lax.
+fn ipv6_forms() -> [Form; 4] {
+    use ours::*;
+    [
+        form::<original_slices::Ipv6>(
+            "Ipv6Slice, strict",
+            "in full",
+            ipexts_ipv6_slice,
+            ipexts_ipv6_slice_packets,
+        ),
+        form::<original_slices::Ipv6Filter>(
+            "Ipv6Slice, strict",
+            "filter",
+            ipexts_ipv6_slice_filter,
+            ipexts_ipv6_slice_filter_packets,
+        ),
+        form::<original_slices::Ipv6Lax>(
+            "Ipv6Slice, lax",
+            "in full",
+            ipexts_ipv6_slice_lax,
+            ipexts_ipv6_slice_lax_packets,
+        ),
+        form::<original_slices::Ipv6LaxFilter>(
+            "Ipv6Slice, lax",
+            "filter",
+            ipexts_ipv6_slice_lax_filter,
+            ipexts_ipv6_slice_lax_filter_packets,
+        ),
+    ]
+}
+
+/// All rows, over the packets of IPv6 that the chains' rows have too, and over others.
+pub fn rows(ipv6: &'static Packets, seed: u64) -> Vec<Row> {
+    let ipv4: &'static Packets = Box::leak(Box::new(inputs::ipv4_packets(PACKETS, seed)));
+    let both: &'static Packets = Box::leak(Box::new(inputs::alternating(ipv4, ipv6)));
+    let mut rows = Vec::new();
+    let mut add = |forms: &[Form], inputs: &[(&str, &'static Packets)]| {
+        for form in forms {
+            for (what, packets) in inputs {
+                rows.push(one_loop(form, what, packets));
+                rows.push(a_call_each(form, what, packets));
+            }
+            rows.extend(refusals(form));
+        }
+    };
+    add(
+        &ip_forms(),
+        &[
+            ("IPv6", ipv6),
+            ("IPv4", ipv4),
+            ("either version in turn", both),
+        ],
+    );
+    add(&ipv4_forms(), &[("IPv4", ipv4)]);
+    add(&ipv6_forms(), &[("IPv6", ipv6)]);
+    rows
+}
+
+/// One exported loop over all packets.
+fn one_loop(form: &Form, what: &str, packets: &'static Packets) -> Row {
+    Row {
+        group: "whole packets, one loop",
+        name: format!("{}, {}: {what}, one loop", form.name, form.reading),
+        unit: "packet",
+        units: packets.ends.len(),
+        ours: over_packets(form.our_loop, packets),
+        original: over_packets(form.original_loop, packets),
+        limit: None,
+    }
+}
+
+/// A call for each packet.
+fn a_call_each(form: &Form, what: &str, packets: &'static Packets) -> Row {
+    let each: &'static [&'static [u8]] = Box::leak(packets.each().into_boxed_slice());
+    let over = |call: PacketCall| -> Work {
+        Box::new(move || {
+            let call = black_box(call);
+            each.iter().fold(0u64, |sum, packet| {
+                sum.rotate_left(1) ^ unsafe { call(packet.as_ptr(), packet.len()) }
+            })
+        })
+    };
+    Row {
+        group: "whole packets, a call each",
+        name: format!("{}, {}: {what}, a call each", form.name, form.reading),
+        unit: "packet",
+        units: packets.ends.len(),
+        ours: over(form.ours),
+        original: over(form.original),
+        limit: None,
+    }
+}
+
+/// Each refusal of a packet that the type may be asked for.
+fn refusals(form: &Form) -> Vec<Row> {
+    let lax = form.name.ends_with("lax");
+    inputs::refused_packets()
+        .into_iter()
+        .filter(|refused| match refused.version {
+            4 => !form.name.starts_with("Ipv6"),
+            6 => !form.name.starts_with("Ipv4") && !(lax && refused.cut_short),
+            _ => true,
+        })
+        .map(|refused| {
+            let over = |call: PacketCall| -> Work {
+                let bytes = refused.bytes.clone();
+                Box::new(move || {
+                    let call = black_box(call);
+                    (0..CALLS).fold(0u64, |sum, _| {
+                        let bytes = black_box(&bytes[..]);
+                        sum.rotate_left(1) ^ unsafe { call(bytes.as_ptr(), bytes.len()) }
+                    })
+                })
+            };
+            Row {
+                group: "whole packets refused",
+                name: format!("{}, {}: refused, {}", form.name, form.reading, refused.why),
+                unit: "call",
+                units: CALLS,
+                ours: over(form.ours),
+                original: over(form.original),
+                limit: None,
+            }
+        })
+        .collect()
+}

@@ -1,0 +1,117 @@
+//! `packet HEX`: the IP packet that begins the bytes.
+use super::{bytes_of, hex_of, Form, MAX_LINE_LEN};
+use crate::faults::{push, push_packet_fault};
+use crate::named::Difference;
+use crate::packets;
+use crate::random::Random;
+use etherparse::IpSlice;
+
+pub struct Packet;
+
+impl Form for Packet {
+    fn name(&self) -> &'static str {
+        "packet"
+    }
+
+    fn arguments(&self, random: &mut Random) -> Vec<String> {
+        let upper = random.percent(10);
+        let longest = MAX_LINE_LEN - "packet ".len();
+        packets::asked(random, longest / 2)
+            .into_iter()
+            .map(|bytes| hex_of(&bytes, upper))
+            .collect()
+    }
+
+    fn answer(&self, arguments: &str, answer: &mut String) -> Option<Vec<Difference>> {
+        let bytes = bytes_of(arguments)?;
+        match IpSlice::from_slice(&bytes) {
+            Ok(packet) => push_parts(&packet, answer),
+            Err(fault) => push_packet_fault(&fault, answer),
+        }
+        Some(Vec::new())
+    }
+}
+
+/// Appends how long each part is, and what the payload is.
+fn push_parts(packet: &IpSlice<'_>, answer: &mut String) {
+    let (name, header, exts) = match packet {
+        IpSlice::Ipv4(packet) => {
+            let auth = packet.extensions().auth;
+            let exts = auth.map_or(0, |header| header.slice().len());
+            ("ipv4", packet.header().slice().len(), exts)
+        }
+        IpSlice::Ipv6(packet) => {
+            let exts = packet.extensions().slice().len();
+            ("ipv6", packet.header().slice().len(), exts)
+        }
+    };
+    let payload = packet.payload();
+    push(
+        answer,
+        format_args!(
+            "{name} header {header} exts {exts} payload {}\n",
+            payload.payload.len()
+        ),
+    );
+    let fragmented = if packet.is_fragmenting_payload() {
+        "yes"
+    } else {
+        "no"
+    };
+    push(
+        answer,
+        format_args!(
+            "next {} fragmented {fragmented} source {:?}\nok\n",
+            packet.payload_ip_number().0,
+            payload.len_source
+        ),
+    );
+}
+
+#[cfg(test)]
+mod tests {
+    use super::*;
+
+    /// Each kind of answer is asked for, among a few thousand lines.
+    #[test]
+    fn each_kind_of_answer_is_asked_for() {
+        let mut random = Random::new(1);
+        let mut answers = String::new();
+        for _ in 0..5000 {
+            for arguments in Packet.arguments(&mut random) {
+                Packet.answer(&arguments, &mut answers);
+            }
+        }
+        let kinds = [
+            "ipv4 header 20 exts 0",
+            "ipv4 header 20 exts 12",
+            "ipv4 header 60 ",
+            "ipv6 header 40 exts 0",
+            "ipv6 header 40 exts 16",
+            "fragmented yes source Ipv4HeaderTotalLen",
+            "fragmented no source Ipv4HeaderTotalLen",
+            "fragmented yes source Ipv6HeaderPayloadLen",
+            "fragmented no source Ipv6HeaderPayloadLen",
+            "fragmented yes source Slice",
+            "fragmented no source Slice",
+            "Slice IpHeader at 0",
+            "Slice Ipv4Header at 0",
+            "Slice Ipv4Packet at 0",
+            "Ipv4HeaderTotalLen Ipv4Packet at 0",
+            "Ipv4HeaderTotalLen IpAuthHeader at 20",
+            "Slice Ipv6Header at 0",
+            "Slice Ipv6Packet at 0",
+            "Ipv6HeaderPayloadLen Ipv6FragHeader at 40",
+            "Ipv6HeaderPayloadLen IpAuthHeader at ",
+            "Ipv6HeaderPayloadLen Ipv6ExtHeader at 48",
+            "fault ZeroPayloadLen",
+            "fault HopByHopNotAtStart",
+            "fault UnsupportedIpVersion 0",
+            "fault UnsupportedIpVersion 15",
+            "fault Ipv4HeaderLengthSmallerThanHeader 4",
+        ];
+        for kind in kinds {
+            assert!(answers.contains(kind), "{kind}");
+        }
+    }
+}

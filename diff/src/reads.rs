@@ -1,0 +1,267 @@
+//! Headers and chains that are read from bytes in memory, with and without a limit: what is taken, what is left,
+//! and what is refused.
+use crate::headers::{layer_code, len_source_code};
+use crate::ours::{self, Limit, Read, Start};
+use etherparse::err::io::LimitedReadError;
+use etherparse::err::{ip_auth, ipv6_exts, Layer, LenError};
+use etherparse::io::LimitedReader;
+use etherparse::{
+    IpAuthHeader, IpNumber, Ipv4Extensions, Ipv6Extensions, Ipv6FragmentHeader, Ipv6RawExtHeader,
+    LenSource,
+};
+use std::io::Cursor;
+
+/// Room for the longest headers of a struct and a byte more.
+const ROOM: usize = 4 * 2048 + 1028 + 8 + 1;
+
+/// The code of a refusal by the reader.
+const IO: u8 = 4;
+
+/// What is read.
+#[derive(Clone, Copy, Debug, PartialEq, Eq)]
+pub enum Kind {
+    Raw,
+    Auth,
+    Fragment,
+    Ipv4,
+    Ipv6,
+}
+
+/// What is asked of both sides.
+#[derive(Clone, Debug)]
+pub struct Question {
+    pub kind: Kind,
+    /// The number that names the first header of a chain.
+    pub start: u8,
+    /// Whether our side reads by way of the standard library's reader of bytes.
+    pub is_over: bool,
+    pub limit: Option<Start>,
+    pub bytes: Vec<u8>,
+}
+
+/// What a read told, and the value as it is written.
+#[derive(Clone, Debug, Default, PartialEq, Eq)]
+pub struct Told {
+    pub read: Read,
+    pub written: Vec<u8>,
+}
+
+/// What the library tells.
+pub fn ours(question: &Question) -> Told {
+    let Question {
+        kind,
+        start,
+        is_over,
+        limit,
+        bytes,
+    } = question;
+    let (kind, mut written, mut read) = (*kind as u8, vec![0; ROOM], Read::default());
+    let (b, len, w) = (bytes.as_ptr(), bytes.len(), written.as_mut_ptr());
+    let out = &raw mut read;
+    // SAFETY: each pointer has its length behind it.
+    unsafe {
+        match limit {
+            None => ours::ipexts_read_fields(kind, *start, *is_over, b, len, w, ROOM, out),
+            Some(limit) => ours::ipexts_read_limited_fields(
+                kind, *start, *is_over, limit, b, len, w, ROOM, out,
+            ),
+        }
+    }
+    written.truncate(read.written_len);
+    Told { read, written }
+}
+
+/// What the original tells.
+pub fn original(question: &Question) -> Told {
+    let bytes = &question.bytes[..];
+    match &question.limit {
+        None => {
+            let mut reader = Cursor::new(bytes);
+            let told = read(question, &mut reader);
+            with_left(told, &reader, bytes.len())
+        }
+        Some(limit) => {
+            let mut reader = LimitedReader::new(
+                Cursor::new(bytes),
+                limit.max_len as usize,
+                match limit.source {
+                    0 => LenSource::Slice,
+                    1 => LenSource::Ipv4HeaderTotalLen,
+                    _ => LenSource::Ipv6HeaderPayloadLen,
+                },
+                limit.layer_offset as usize,
+                Layer::Ipv6Header,
+            );
+            let mut told = match reader.read_exact(&mut vec![0; usize::from(limit.before)]) {
+                Ok(()) => read_limited(question, &mut reader),
+                Err(fault) => limited_fault(fault),
+            };
+            told.read.limit = Limit {
+                source: len_source_code(&reader.len_source()),
+                layer: layer_code(&reader.layer()),
+                max_len: reader.max_len(),
+                layer_offset: reader.layer_offset(),
+                read_len: reader.read_len(),
+            };
+            with_left(told, &reader.take_reader(), bytes.len())
+        }
+    }
+}
+
+/// The same with how many bytes are left, where the reader didn't refuse.
+fn with_left(mut told: Told, reader: &Cursor<&[u8]>, len: usize) -> Told {
+    if told.read.fault != IO {
+        told.read.left = len - reader.position() as usize;
+    }
+    told
+}
+
+fn read(question: &Question, reader: &mut Cursor<&[u8]>) -> Told {
+    let start = IpNumber(question.start);
+    match question.kind {
+        Kind::Raw => {
+            Ipv6RawExtHeader::read(reader).map_or_else(|_| refused(IO), |header| raw(&header))
+        }
+        Kind::Fragment => Ipv6FragmentHeader::read(reader)
+            .map_or_else(|_| refused(IO), |header| fragment(&header)),
+        Kind::Auth => {
+            IpAuthHeader::read(reader).map_or_else(auth_read_fault, |header| auth(&header))
+        }
+        Kind::Ipv4 => Ipv4Extensions::read(reader, start)
+            .map_or_else(auth_read_fault, |(headers, next)| {
+                ipv4(&headers, start, next)
+            }),
+        Kind::Ipv6 => match Ipv6Extensions::read(reader, start) {
+            Ok((exts, next)) => ipv6(&exts, start, next),
+            Err(ipv6_exts::HeaderReadError::Io(_)) => refused(IO),
+            Err(ipv6_exts::HeaderReadError::Content(fault)) => content(&fault),
+        },
+    }
+}
+
+fn read_limited(question: &Question, reader: &mut LimitedReader<Cursor<&[u8]>>) -> Told {
+    let start = IpNumber(question.start);
+    match question.kind {
+        Kind::Raw => {
+            Ipv6RawExtHeader::read_limited(reader).map_or_else(limited_fault, |header| raw(&header))
+        }
+        Kind::Fragment => Ipv6FragmentHeader::read_limited(reader)
+            .map_or_else(limited_fault, |header| fragment(&header)),
+        Kind::Auth => {
+            IpAuthHeader::read_limited(reader).map_or_else(auth_fault, |header| auth(&header))
+        }
+        Kind::Ipv4 => Ipv4Extensions::read_limited(reader, start)
+            .map_or_else(auth_fault, |(headers, next)| ipv4(&headers, start, next)),
+        Kind::Ipv6 => match Ipv6Extensions::read_limited(reader, start) {
+            Ok((exts, next)) => ipv6(&exts, start, next),
+            Err(ipv6_exts::HeaderLimitedReadError::Io(_)) => refused(IO),
+            Err(ipv6_exts::HeaderLimitedReadError::Len(fault)) => too_few(&fault),
+            Err(ipv6_exts::HeaderLimitedReadError::Content(fault)) => content(&fault),
+        },
+    }
+}
+
+fn refused(fault: u8) -> Told {
+    let mut told = Told::default();
+    told.read.fault = fault;
+    told
+}
+
+fn too_few(fault: &LenError) -> Told {
+    let read = Read {
+        fault: 1,
+        source: len_source_code(&fault.len_source),
+        layer: layer_code(&fault.layer),
+        required_len: fault.required_len,
+        found_len: fault.len,
+        offset: fault.layer_start_offset,
+        ..Read::default()
+    };
+    Told {
+        read,
+        ..Told::default()
+    }
+}
+
+fn limited_fault(fault: LimitedReadError) -> Told {
+    match fault {
+        LimitedReadError::Io(_) => refused(IO),
+        LimitedReadError::Len(fault) => too_few(&fault),
+    }
+}
+
+fn content(fault: &ipv6_exts::HeaderError) -> Told {
+    match fault {
+        ipv6_exts::HeaderError::HopByHopNotAtStart => refused(3),
+        ipv6_exts::HeaderError::IpAuth(ip_auth::HeaderError::ZeroPayloadLen) => refused(2),
+    }
+}
+
+fn auth_fault(fault: ip_auth::HeaderLimitedReadError) -> Told {
+    match fault {
+        ip_auth::HeaderLimitedReadError::Io(_) => refused(IO),
+        ip_auth::HeaderLimitedReadError::Len(fault) => too_few(&fault),
+        ip_auth::HeaderLimitedReadError::Content(ip_auth::HeaderError::ZeroPayloadLen) => {
+            refused(2)
+        }
+    }
+}
+
+fn auth_read_fault(fault: ip_auth::HeaderReadError) -> Told {
+    match fault {
+        ip_auth::HeaderReadError::Io(_) => refused(IO),
+        ip_auth::HeaderReadError::Content(ip_auth::HeaderError::ZeroPayloadLen) => refused(2),
+    }
+}
+
+/// A value as it is written, with the number behind it and the places that it fills.
+fn value(next: IpNumber, places: u8, written: Vec<u8>) -> Told {
+    let read = Read {
+        next_header: next.0,
+        places,
+        written_len: written.len(),
+        ..Read::default()
+    };
+    Told { read, written }
+}
+
+fn raw(header: &Ipv6RawExtHeader) -> Told {
+    value(header.next_header, 0, header.to_bytes().to_vec())
+}
+
+fn auth(header: &IpAuthHeader) -> Told {
+    value(header.next_header, 0, header.to_bytes().to_vec())
+}
+
+fn fragment(header: &Ipv6FragmentHeader) -> Told {
+    value(header.next_header, 0, header.to_bytes().to_vec())
+}
+
+fn ipv4(headers: &Ipv4Extensions, start: IpNumber, next: IpNumber) -> Told {
+    let mut written = Vec::new();
+    headers
+        .write(&mut written, start)
+        .expect("headers that were read are linked");
+    value(next, u8::from(headers.auth.is_some()), written)
+}
+
+fn ipv6(exts: &Ipv6Extensions, start: IpNumber, next: IpNumber) -> Told {
+    let mut written = Vec::new();
+    exts.write(&mut written, start)
+        .expect("headers that were read are linked");
+    let routing = exts.routing.as_ref();
+    let last = routing.is_some_and(|routing| routing.final_destination_options.is_some());
+    let places = [
+        exts.hop_by_hop_options.is_some(),
+        exts.destination_options.is_some(),
+        routing.is_some(),
+        exts.fragment.is_some(),
+        exts.auth.is_some(),
+        last,
+    ];
+    let bits = places
+        .iter()
+        .rev()
+        .fold(0, |bits, is_there| bits << 1 | u8::from(*is_there));
+    value(next, bits, written)
+}

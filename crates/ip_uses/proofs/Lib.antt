@@ -1,2 +1,1 @@
 pub mod FirstLemmas
-pub mod EqualLemmas

@@ -3,8 +3,8 @@ use Rattle.std.specs.Ordering.{on}
 use Rattle.std.specs.Cmp.Lexicographic.{pointwise}
 use Rattle.ip_base.specs.Ipv6HeaderSlice.{bytes}
 use Rattle.ip_ext_slices.specs.Ipv6ExtensionsSlice.{same_slice}
-use Rattle.ip_uses.proofs.EqualLemmas.{equal_payload}
-use Rattle.ip_uses.proofs.packet_pins.ipv6_packets.Goals as goal
+use Rattle.ip_pins.proofs.EqualLemmas.{equal_payload}
+use Rattle.ip_pins.proofs.packet_pins.ipv6_packets.Goals as goal
 
 pub returns-clause-payload : goal.returns-clause-payload
 returns-clause-payload c = λ k.

@@ -91,11 +91,15 @@ module _ {T : Type 0} (bytes_left : T → Option (List ℕ)) (is_steady has_fail
   IsHeaderRefusedInLayer (limited.Content (IpAuth e)) first m old new =
       (m ≡ AUTHENTICATION) × IsZeroTaken (IsTakenInLayer bytes_left (layer_of m) old new) (has_failed (inner_of old)) (has_failed (inner_of new))
 
+-- a routing header without destination options behind it
+abbrev pub routing_fields : List ℕ → Ipv6RoutingExtensions
+routing_fields b = record { routing = raw_fields b; final_destination_options = None }
+
 -- v with the header of these bytes in a place
 abbrev pub with_header : Place → List ℕ → Ipv6Extensions → Ipv6Extensions
 with_header hop_by_hop b v = record v { hop_by_hop_options = Some (raw_fields b) }
 with_header destination b v = record v { destination_options = Some (raw_fields b) }
-with_header routing b v = record v { routing = Some (record { routing = raw_fields b; final_destination_options = None }) }
+with_header routing b v = record v { routing = Some (routing_fields b) }
 with_header fragment b v = record v { fragment = Some (fragment_fields b) }
 with_header authentication b v = record v { auth = Some (auth_fields b) }
 with_header final_destination b v = record v { routing = option_map {T = Ipv6RoutingExtensions} {U = Ipv6RoutingExtensions} (λ r. record r { final_destination_options = Some (raw_fields b) }) v.routing }
@@ -117,10 +121,6 @@ pub record IsReadInto (Taken : List ℕ → Type 0) (p : Place) (m : ℕ) (old n
   pub taken : Taken bytes
   pub next : m ≡ next_header bytes
   pub value : new ≡ with_header p bytes old
-
--- a routing header without destination options behind it
-abbrev pub routing_fields : List ℕ → Ipv6RoutingExtensions
-routing_fields b = record { routing = raw_fields b; final_destination_options = None }
 
 -- A header was read into a place of its own, and leads to number m.
 pub record IsHeaderRead {V : Type 0} (IsOne : List ℕ → Type 0) (fields_of : List ℕ → V) (Taken : List ℕ → Type 0) (m : ℕ) (place : Option V) : Type 0 where

@@ -11,10 +11,10 @@ use Rattle.ip_io.specs.declared.err.io.limited_read_error.LimitedReadError.{Limi
 use Rattle.ip_io.specs.declared.err.io.limited_read_error.LimitedReadError.TheVariants as limit
 use Rattle.ip_io.specs.declared.io.limited_reader.LimitedReader.{LimitedReader}
 use Rattle.ip_io.proofs.ReadingLemmas.{refused_within_short, past_limit_short}
-use Rattle.ip_ext_headers.specs.AuthReading.{IsTooShort, IsAuthRefusedInLayer, IsSliceErrorInLayer, of_limited_error}
+use Rattle.ip_ext_headers.specs.AuthReading.{auth_slice_fault, IsTooShort, IsAuthRefusedInLayer, IsSliceErrorInLayer, of_limited_error}
 
 -- too few bytes are behind those that came
-pub auth_short : (done : List ℕ) (count : ℕ) (xs : List ℕ) → AuthAsks done count → length xs < count → IsTooShort (done ++ xs)
+pub auth_short : (done : List ℕ) (count : ℕ) (xs : List ℕ) → AuthAsks done count → length xs < count → IsTooShort auth_slice_fault (done ++ xs)
 auth_short done count xs a few = auth_asks_fault Slice (length (done ++ xs)) 0 done count xs few a
 
 module _ {T : Type 0} (bytes_left : T → Option (List ℕ)) (is_steady has_failed : T → Bool) (old new : LimitedReader T) where
@@ -26,6 +26,6 @@ module _ {T : Type 0} (bytes_left : T → Option (List ℕ)) (is_steady has_fail
 
   -- and tells that the window is too short
   pub limited_short : (e : LimitedReadError) → IsRefusedInLayer bytes_left is_steady has_failed AuthAsks IpAuthHeader old new e
-      → IsSliceErrorInLayer (is_steady (inner_of old)) (window bytes_left old) (of_limited_error e)
-  limited_short (limit.Io e) r = refused_within_short AuthAsks IsTooShort auth_short bytes_left is_steady has_failed IpAuthHeader old new r
-  limited_short (limit.Len e) r = past_limit_short AuthAsks IsTooShort auth_short bytes_left is_steady has_failed IpAuthHeader old new e r
+      → IsSliceErrorInLayer auth_slice_fault (is_steady (inner_of old)) (window bytes_left old) (of_limited_error e)
+  limited_short (limit.Io e) r = refused_within_short AuthAsks (IsTooShort auth_slice_fault) auth_short bytes_left is_steady has_failed IpAuthHeader old new r
+  limited_short (limit.Len e) r = past_limit_short AuthAsks (IsTooShort auth_slice_fault) auth_short bytes_left is_steady has_failed IpAuthHeader old new e r

@@ -12,30 +12,32 @@ use Rattle.ip_io.specs.declared.io.limited_reader.LimitedReader.{LimitedReader}
 use Rattle.ip_io.specs.declared.err.io.limited_read_error.LimitedReadError.{LimitedReadError}
 use Rattle.ip_io.specs.declared.err.io.limited_read_error.LimitedReadError.TheVariants as limit
 use Rattle.ip_ext_headers.specs.Fault.{auth_fault}
-use Rattle.ip_ext_headers.specs.declared.err.ip_auth.header_error.HeaderError.{HeaderError}
+use Rattle.ip_ext_headers.specs.declared.err.ip_auth.header_slice_error.HeaderSliceError.{HeaderSliceError}
 use Rattle.ip_ext_headers.specs.declared.err.ip_auth.header_slice_error.HeaderSliceError.TheVariants as slice
 use Rattle.ip_ext_headers.specs.declared.err.ip_auth.header_read_error.HeaderReadError.{HeaderReadError}
 use Rattle.ip_ext_headers.specs.declared.err.ip_auth.header_read_error.HeaderReadError.TheVariants as read
 use Rattle.ip_ext_headers.specs.declared.err.ip_auth.header_limited_read_error.HeaderLimitedReadError.{HeaderLimitedReadError}
 use Rattle.ip_ext_headers.specs.declared.err.ip_auth.header_limited_read_error.HeaderLimitedReadError.TheVariants as limited
 
--- at bytes s a length is too short
-abbrev pub IsTooShort : List ℕ → Type 0
-IsTooShort s = (e : LenError) × (auth_fault Slice (length s) 0 s ≡ Some (slice.Len e))
+-- the error of `from_slice` of bytes s
+abbrev pub auth_slice_fault : List ℕ → Option HeaderSliceError
+auth_slice_fault s = auth_fault Slice (length s) 0 s
 
--- at bytes s the content is wrong
-abbrev pub IsWrong : HeaderError → List ℕ → Type 0
-IsWrong e s = auth_fault Slice (length s) 0 s ≡ Some (slice.Content e)
+-- What a parse says where a read is refused. `fault` tells its error of given bytes.
+module _ (fault : List ℕ → Option HeaderSliceError) where
+  -- at bytes s a length is too short
+  abbrev pub IsTooShort : List ℕ → Type 0
+  IsTooShort s = (e : LenError) × (fault s ≡ Some (slice.Len e))
 
--- `from_slice` tells the same error of the bytes that are left; where the reader fails, of a steady one's
-abbrev pub IsSliceError : Bool → Option (List ℕ) → HeaderReadError → Type 0
-IsSliceError steady left (read.Io e) = IfSteady steady left IsTooShort
-IsSliceError steady left (read.Content e) = IfSome left (IsWrong e)
+  -- it tells the same error of the bytes that are left; where the reader fails, of a steady one's
+  abbrev pub IsSliceError : Bool → Option (List ℕ) → HeaderReadError → Type 0
+  IsSliceError steady left (read.Io e) = IfSteady steady left IsTooShort
+  IsSliceError steady left (read.Content e) = IfSome left (λ s. fault s ≡ Some (slice.Content e))
 
-abbrev pub IsSliceErrorInLayer : Bool → Option (List ℕ) → HeaderLimitedReadError → Type 0
-IsSliceErrorInLayer steady left (limited.Io e) = IfSteady steady left IsTooShort
-IsSliceErrorInLayer steady left (limited.Len e) = IfSome left IsTooShort
-IsSliceErrorInLayer steady left (limited.Content e) = IfSome left (IsWrong e)
+  abbrev pub IsSliceErrorInLayer : Bool → Option (List ℕ) → HeaderLimitedReadError → Type 0
+  IsSliceErrorInLayer steady left (limited.Io e) = IfSteady steady left IsTooShort
+  IsSliceErrorInLayer steady left (limited.Len e) = IfSome left IsTooShort
+  IsSliceErrorInLayer steady left (limited.Content e) = IfSome left (λ s. fault s ≡ Some (slice.Content e))
 
 -- the same error
 abbrev pub of_limited_error : LimitedReadError → HeaderLimitedReadError

@@ -75,7 +75,7 @@ impl IpAuthHeader {
     ghost use Rattle.ip_spec.specs.Fields as fields;
     ghost use Rattle.ip_spec.specs.Lengths.{IsIcvLen};
     ghost use Rattle.ip_ext_headers.specs.LengthFault.{icv_len_fault};
-    ghost use Rattle.ip_ext_headers.specs.AuthReading.{IsAuthRefused, IsAuthRefusedInLayer, IsSliceError, IsSliceErrorInLayer};
+    ghost use Rattle.ip_ext_headers.specs.AuthReading.{auth_slice_fault, IsAuthRefused, IsAuthRefusedInLayer, IsSliceError, IsSliceErrorInLayer};
 
     /// The smallest header, in bytes.
     pub const MIN_LEN: usize = 12;
@@ -173,7 +173,8 @@ impl IpAuthHeader {
         ensures steady { T.is_steady reader.new ≡ T.is_steady reader.old }
         ensures none { OnErr result (IfSteady (T.is_steady reader.old) (T.bytes_left reader.old)
             (NoPrefix IsAuthHeader)) }
-        ensures fault { IfErr result (IsSliceError (T.is_steady reader.old) (T.bytes_left reader.old)) }
+        ensures fault { IfErr result (IsSliceError auth_slice_fault (T.is_steady reader.old)
+            (T.bytes_left reader.old)) }
         ensures refused { IfErr result (IsAuthRefused T.bytes_left T.is_steady T.has_failed
             reader.old reader.new) }
     {
@@ -206,8 +207,8 @@ impl IpAuthHeader {
         ensures steady { T.is_steady (inner_of reader.new) ≡ T.is_steady (inner_of reader.old) }
         ensures none { OnErr result (IfSteady (T.is_steady (inner_of reader.old))
             (window T.bytes_left reader.old) (NoPrefix IsAuthHeader)) }
-        ensures fault { IfErr result (IsSliceErrorInLayer (T.is_steady (inner_of reader.old))
-            (window T.bytes_left reader.old)) }
+        ensures fault { IfErr result (IsSliceErrorInLayer auth_slice_fault
+            (T.is_steady (inner_of reader.old)) (window T.bytes_left reader.old)) }
         ensures refused { IfErr result (IsAuthRefusedInLayer T.bytes_left T.is_steady
             T.has_failed reader.old reader.new) }
     {

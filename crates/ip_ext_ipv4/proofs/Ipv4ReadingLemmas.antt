@@ -7,7 +7,7 @@ use Rattle.std.proofs.lemmas.Bool.{ne_eqb}
 use Rattle.std.proofs.lemmas.List.{append-nil}
 use Rattle.std.proofs.Math.Seq.{drop-append_seam}
 use Rattle.ip_base.specs.declared.len_source.LenSource.TheVariants.{Slice}
-use Rattle.ip_ext_headers.specs.AuthReading as header
+use Rattle.ip_ext_headers.specs.AuthReading.{auth_slice_fault, IsTooShort, IsSliceError, IsSliceErrorInLayer}
 use Rattle.ip_ext_headers.specs.Fault.{auth_fault}
 use Rattle.ip_ext_headers.specs.declared.err.ip_auth.header_slice_error.HeaderSliceError.{HeaderSliceError}
 use Rattle.ip_ext_headers.specs.declared.err.ip_auth.header_slice_error.HeaderSliceError.TheVariants as slice
@@ -24,7 +24,7 @@ use Rattle.ip_spec.specs.Parse.{IsAnswer, fault_behind}
 use Rattle.ip_spec.proofs.PrefixLemmas.{prefix_of-append}
 use Rattle.ip_ext_ipv4.specs.Ipv4Fault.{ipv4_faults, ipv4_chain_fault}
 use Rattle.ip_ext_ipv4.specs.Ipv4Parse.{ipv4_value}
-use Rattle.ip_ext_ipv4.specs.Ipv4Reading.{Answers, IsTooShort, IsWrong, IsSliceError, IsSliceErrorInLayer}
+use Rattle.ip_ext_ipv4.specs.Ipv4Reading.{Answers}
 use Rattle.ip_ext_ipv4.proofs.Ipv4Lemmas.{ipv4_one, ipv4_none}
 
 abbrev For : ℕ → List ℕ → Option AuthFields → ℕ → List ℕ → List ExtHeader → Type 0
@@ -58,28 +58,27 @@ fault_same n s f e fault =
     let N : ℕ → Type 0 = λ j. ipv4_faults Slice [] j s ≡ Some f in
     subst F (sym (ipv4_none n s (λ z. none))) (subst N (sym e) fault)
 
-short_same : (n : ℕ) → n ≡ 51 → (s : List ℕ) → header.IsTooShort s → IsTooShort n s
-short_same n e s t = (t.0, fault_same n s (slice.Len t.0) e t.1)
-
 module _ (n : ℕ) (is : n ≡ 51) where
-  of_steady : (steady : Bool) (left : Option (List ℕ)) → IfSteady steady left header.IsTooShort → IfSteady steady left (IsTooShort n)
+  short_same : (s : List ℕ) → IsTooShort auth_slice_fault s → IsTooShort (ipv4_chain_fault n) s
+  short_same s t = (t.0, fault_same n s (slice.Len t.0) is t.1)
+
+  of_steady : (steady : Bool) (left : Option (List ℕ)) → IfSteady steady left (IsTooShort auth_slice_fault) → IfSteady steady left (IsTooShort (ipv4_chain_fault n))
   of_steady false left t = tt
   of_steady true None t = tt
-  of_steady true (Some s) t = short_same n is s t
+  of_steady true (Some s) t = short_same s t
 
-  of_short : (left : Option (List ℕ)) → IfSome left header.IsTooShort → IfSome left (IsTooShort n)
-  of_short None t = tt
-  of_short (Some s) t = short_same n is s t
+  of_some : (P Q : List ℕ → Type 0) (left : Option (List ℕ)) → ((s : List ℕ) → P s → Q s) → IfSome left P → IfSome left Q
+  of_some P Q None f t = tt
+  of_some P Q (Some s) f t = f s t
 
-  of_wrong : (e : HeaderError) (left : Option (List ℕ)) → IfSome left (header.IsWrong e) → IfSome left (IsWrong n e)
-  of_wrong e None t = tt
-  of_wrong e (Some s) t = fault_same n s (slice.Content e) is t
+  of_wrong : (e : HeaderError) (left : Option (List ℕ)) → IfSome left (λ s. auth_slice_fault s ≡ Some (slice.Content e)) → IfSome left (λ s. ipv4_chain_fault n s ≡ Some (slice.Content e))
+  of_wrong e left t = of_some (λ s. auth_slice_fault s ≡ Some (slice.Content e)) (λ s. ipv4_chain_fault n s ≡ Some (slice.Content e)) left (λ s. fault_same n s (slice.Content e) is) t
 
-  pub header_error_same : (steady : Bool) (left : Option (List ℕ)) (e : HeaderReadError) → header.IsSliceError steady left e → IsSliceError n steady left e
+  pub header_error_same : (steady : Bool) (left : Option (List ℕ)) (e : HeaderReadError) → IsSliceError auth_slice_fault steady left e → IsSliceError (ipv4_chain_fault n) steady left e
   header_error_same steady left (read.Io e) t = of_steady steady left t
   header_error_same steady left (read.Content e) t = of_wrong e left t
 
-  pub limited_error_same : (steady : Bool) (left : Option (List ℕ)) (e : HeaderLimitedReadError) → header.IsSliceErrorInLayer steady left e → IsSliceErrorInLayer n steady left e
+  pub limited_error_same : (steady : Bool) (left : Option (List ℕ)) (e : HeaderLimitedReadError) → IsSliceErrorInLayer auth_slice_fault steady left e → IsSliceErrorInLayer (ipv4_chain_fault n) steady left e
   limited_error_same steady left (limited.Io e) t = of_steady steady left t
-  limited_error_same steady left (limited.Len e) t = of_short left t
+  limited_error_same steady left (limited.Len e) t = of_some (IsTooShort auth_slice_fault) (IsTooShort (ipv4_chain_fault n)) left short_same t
   limited_error_same steady left (limited.Content e) t = of_wrong e left t

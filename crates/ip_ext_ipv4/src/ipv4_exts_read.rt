@@ -6,8 +6,9 @@ ghost use Rattle.ip_spec.specs.Header.{IsAuthHeader};
 ghost use Rattle.ip_spec.specs.FieldsOf.{auth_fields};
 ghost use Rattle.ip_io.specs.LimitedReader.{inner_of, window};
 ghost use Rattle.ip_io.specs.Reading.{IsHeaderTaken, IsAnswerTaken, IsTakenInLayer};
-ghost use Rattle.ip_ext_headers.specs.AuthReading.{IsAuthRefused, IsAuthRefusedInLayer};
-ghost use Rattle.ip_ext_ipv4.specs.Ipv4Reading.{Answers, IsSliceError, IsSliceErrorInLayer};
+ghost use Rattle.ip_ext_headers.specs.AuthReading.{IsAuthRefused, IsAuthRefusedInLayer, IsSliceError, IsSliceErrorInLayer};
+ghost use Rattle.ip_ext_ipv4.specs.Ipv4Fault.{ipv4_chain_fault};
+ghost use Rattle.ip_ext_ipv4.specs.Ipv4Reading.{Answers};
 
 use crate::Ipv4Extensions;
 use crate::err::ip_auth::{HeaderLimitedReadError, HeaderReadError};
@@ -29,8 +30,8 @@ impl Ipv4Extensions {
             (Consumes (T.bytes_left reader.old) (T.bytes_left reader.new)))) }
         ensures kept { OnOk result (T.has_failed reader.new ≡ T.has_failed reader.old) }
         ensures steady { T.is_steady reader.new ≡ T.is_steady reader.old }
-        ensures fault { IfErr result (IsSliceError start_ip_number.0 (T.is_steady reader.old)
-            (T.bytes_left reader.old)) }
+        ensures fault { IfErr result (IsSliceError (ipv4_chain_fault start_ip_number.0)
+            (T.is_steady reader.old) (T.bytes_left reader.old)) }
         ensures refused { IfErr result (IsAuthRefused T.bytes_left T.is_steady T.has_failed
             reader.old reader.new) }
         ensures stays { start_ip_number.0 ≢ AUTHENTICATION
@@ -63,7 +64,7 @@ impl Ipv4Extensions {
         ensures kept { OnOk result
             (T.has_failed (inner_of reader.new) ≡ T.has_failed (inner_of reader.old)) }
         ensures steady { T.is_steady (inner_of reader.new) ≡ T.is_steady (inner_of reader.old) }
-        ensures fault { IfErr result (IsSliceErrorInLayer start_ip_number.0
+        ensures fault { IfErr result (IsSliceErrorInLayer (ipv4_chain_fault start_ip_number.0)
             (T.is_steady (inner_of reader.old)) (window T.bytes_left reader.old)) }
         ensures refused { IfErr result (IsAuthRefusedInLayer T.bytes_left T.is_steady
             T.has_failed reader.old reader.new) }

@@ -1,5 +1,6 @@
 //! Callers of readers.
 ghost use Rattle.std.specs.Prelude.{◌≡◌, ◌+◌, ◌++◌, ℕ, List, length, None, IfOk, IfSome, IfNone};
+ghost use Rattle.std.specs.Int.{from_be_bytes, w16};
 ghost use Rattle.std.specs.Io.KnownBytes.{Consumes};
 ghost use Rattle.ip_spec.specs.Prefix.{IsPrefix};
 ghost use Rattle.ip_spec.specs.Header.{IsRawHeader, IsAuthHeader};
@@ -14,6 +15,17 @@ use ip_ext_chains::err::ipv6_exts::HeaderLimitedReadError;
 use ip_ext_headers::err::ip_auth::HeaderReadError;
 use ip_ext_headers::io::{ExactRead, LimitedReader};
 use ip_ext_headers::{IpAuthHeader, Ipv6RawExtHeader};
+use std::io;
+
+/// Reads a number of two bytes, big endian.
+pub fn read_u16<T: ExactRead>(reader: &mut T) -> io::Result<u16>
+    ensures { IfOk result (λ number. (b : List ℕ) × (from_be_bytes w16 b ≡ number)
+        × Consumes (T.bytes_left reader.old) (T.bytes_left reader.new) b) }
+{
+    let mut bytes = [0; 2];
+    reader.read_exact(&mut bytes)?;
+    Ok(u16::from_be_bytes(bytes))
+}
 
 /// Reads the extension headers of an IPv6 packet from a stream that stands behind its base header, whose next
 /// number and payload length are given: the headers, the number of what follows them, how many bytes of the payload

@@ -4,7 +4,7 @@ use Rattle.arrayvec.proofs.ArrayVecLemmas.{items-with_items}
 use Rattle.ip_spec.specs.Requests.{AuthAsks, auth_start, auth_icv}
 use Rattle.ip_spec.proofs.RequestLemmas.{auth_joined, auth_joined_fields, with_icv}
 use Rattle.ip_io.proofs.ReadingLemmas.{refused_behind, refused_short}
-use Rattle.ip_ext_headers.specs.AuthReading.{IsTooShort}
+use Rattle.ip_ext_headers.specs.AuthReading.{auth_slice_fault, IsTooShort}
 use Rattle.ip_ext_headers.proofs.AuthLemmas.{auth_short}
 use Rattle.ip_ext_headers.proofs.ip_auth_header.IpAuthHeader.read.Goals as goal
 
@@ -13,7 +13,7 @@ returns-in-Err-clause-refused g c =
     refused_behind AuthAsks _ _ _ _ _ [] _ refl (Consumes-nil _) (auth_start refl refl) c.in-Err.ensures.refuses
 
 pub returns-in-Err-clause-fault : goal.returns-in-Err-clause-fault
-returns-in-Err-clause-fault g c = refused_short AuthAsks IsTooShort auth_short _ _ _ (returns-in-Err-clause-refused g c)
+returns-in-Err-clause-fault g c = refused_short AuthAsks (IsTooShort auth_slice_fault) auth_short _ _ _ (returns-in-Err-clause-refused g c)
 
 pub returns-in-Err-read_exact-clause-refused : goal.returns-in-Err-read_exact-clause-refused
 returns-in-Err-read_exact-clause-refused g c =
@@ -22,7 +22,7 @@ returns-in-Err-read_exact-clause-refused g c =
     refused_behind AuthAsks _ _ _ _ _ h _ c.in-Ok.ensures.steady c.in-Ok.ensures.takes (auth_icv (omega arith) (omega arith) n) c.in-Err-read_exact.ensures.refuses
 
 pub returns-in-Err-read_exact-clause-fault : goal.returns-in-Err-read_exact-clause-fault
-returns-in-Err-read_exact-clause-fault g c = refused_short AuthAsks IsTooShort auth_short _ _ _ (returns-in-Err-read_exact-clause-refused g c)
+returns-in-Err-read_exact-clause-fault g c = refused_short AuthAsks (IsTooShort auth_slice_fault) auth_short _ _ _ (returns-in-Err-read_exact-clause-refused g c)
 
 pub returns-in-Ok-read_exact-clause-header : goal.returns-in-Ok-read_exact-clause-header
 returns-in-Ok-read_exact-clause-header g c =

@@ -17,7 +17,7 @@ use Rattle.ip_ext_slices.specs.Longest.{longest_chain}
 use Rattle.ip_ext_ipv4.specs.Ipv4Longest.{longest_ipv4_chain}
 use Rattle.ip_ext_slices.specs.Fault.{Fault}
 use Rattle.ip_ext_slices.specs.Parse.{IsChainAnswer}
-use Rattle.ip_ext_ipv4.specs.Ipv4Parse.{IsIpv4ChainAnswer}
+use Rattle.ip_ext_ipv4.specs.Ipv4Parse.{IsIpv4Answer}
 use Rattle.ip_base.specs.Ipv4Header.{IsIpv4Header, total_len, protocol, is_ipv4_fragmenting}
 use Rattle.ip_base.specs.Ipv6Header.{IsIpv6Header, payload_length, ipv6_next_header}
 use Rattle.ip_base.specs.LenError.{too_short}
@@ -41,8 +41,8 @@ split taken c s r p value rest = ap (λ d. bytes_of d ++ r) value ∙ ap (λ x. 
 answer_split : (n : ℕ) (s : List ℕ) (c : List ExtHeader) (m : ℕ) (r : List ℕ) (f : Option Fault) → IsChainAnswer n s c m r f → bytes_of c ++ r ≡ s
 answer_split n s c m r f a = split (longest_chain n s) c s r (some_longest n s).1.has.prefix a.value a.rest
 
-ipv4_answer_split : (n : ℕ) (s : List ℕ) (c : List ExtHeader) (m : ℕ) (r : List ℕ) (f : Option HeaderSliceError) → IsIpv4ChainAnswer n s c m r f → bytes_of c ++ r ≡ s
-ipv4_answer_split n s c m r f a = split (longest_ipv4_chain n s) c s r (some_longest_under (AtMostOneOf 51) (at_most_one_of 51) n s).1.has.has.prefix a.value a.rest
+ipv4_answer_split : (n : ℕ) (s : List ℕ) (c : List ExtHeader) (m : ℕ) (r : List ℕ) (f : Option HeaderSliceError) → IsIpv4Answer (λ c. c) n s c m r f → bytes_of c ++ r ≡ s
+ipv4_answer_split n s c m r f a = split (longest_ipv4_chain n s) c s r (some_longest_under (AtMostOneOf 51) (at_most_one_of 51) n s).1.has.0.prefix a.value a.rest
 
 -- a beginning of s and what follows it in a front that isn't shorter
 onto_front : (b s front x : List ℕ) (k : ℕ) → IsPrefix b s → front ≡ take k s → length b ≤ k → x ≡ drop (length b) front → b ++ x ≡ front
@@ -50,7 +50,7 @@ onto_front b s front x k p is enough rest =
     let own : b ≡ take (length b) front = sym p ∙ sym (take-take (length b) k s enough) ∙ sym (ap (take (length b)) is) in
     ap (λ y. y ++ x) own ∙ ap (λ y. take (length b) front ++ y) rest ∙ take-append-drop (length b) front
 
-pub ipv4_joined : (b s : List ℕ) (k n : ℕ) (c : List ExtHeader) (m : ℕ) (r : List ℕ) (f : Option HeaderSliceError) → IsPrefix b s → length b ≤ k → IsIpv4ChainAnswer n (drop (length b) (take k s)) c m r f
+pub ipv4_joined : (b s : List ℕ) (k n : ℕ) (c : List ExtHeader) (m : ℕ) (r : List ℕ) (f : Option HeaderSliceError) → IsPrefix b s → length b ≤ k → IsIpv4Answer (λ c. c) n (drop (length b) (take k s)) c m r f
     → b ++ (bytes_of c ++ r) ≡ take k s
 ipv4_joined b s k n c m r f p enough a =
     onto_front b s (take k s) (bytes_of c ++ r) k p refl enough (ipv4_answer_split n (drop (length b) (take k s)) c m r f a)
@@ -72,10 +72,10 @@ pub record AtIpv4 (s b : List ℕ) (n h t : ℕ) (x : List ℕ) : Type 0 where
   pub behind : x ≡ drop h (take t s)
 
 pub ipv4_packet : (s b : List ℕ) (n h t : ℕ) (x : List ℕ) (fragmented : Bool) (c : List ExtHeader) (m : ℕ) (r : List ℕ) → AtIpv4 s b n h t x → fragmented ≡ is_ipv4_fragmenting b
-    → IsIpv4ChainAnswer n x c m r None → IsIpv4Packet s (record { base = b; headers = c; payload = r; number = m; fragmented = fragmented; source = Ipv4HeaderTotalLen })
+    → IsIpv4Answer (λ c. c) n x c m r None → IsIpv4Packet s (record { base = b; headers = c; payload = r; number = m; fragmented = fragmented; source = Ipv4HeaderTotalLen })
 ipv4_packet s b n h t x fragmented c m r at ef a =
-    let N : ℕ → Type 0 = λ j. IsIpv4ChainAnswer j x c m r None in
-    let X : List ℕ → Type 0 = λ y. IsIpv4ChainAnswer (protocol b) y c m r None in
+    let N : ℕ → Type 0 = λ j. IsIpv4Answer (λ c. c) j x c m r None in
+    let X : List ℕ → Type 0 = λ y. IsIpv4Answer (λ c. c) (protocol b) y c m r None in
     let behind : x ≡ drop (length b) (take (total_len b) s) = at.behind ∙ ap (λ j. drop j (take t s)) at.len ∙ ap (λ j. drop (length b) (take j s)) at.total in
     let chain : X (drop (length b) (take (total_len b) s)) = subst X behind (subst N at.number a) in
     record {

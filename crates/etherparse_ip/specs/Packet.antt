@@ -5,7 +5,7 @@ use Rattle.ip_base.specs.Ipv4Header.{IsIpv4Header, total_len, protocol, is_ipv4_
 use Rattle.ip_base.specs.Ipv6Header.{IsIpv6Header, payload_length, ipv6_next_header}
 use Rattle.ip_spec.specs.Chain.{ExtHeader, bytes_of, has_fragmenting}
 use Rattle.ip_ext_slices.specs.Parse.{IsChainAnswer}
-use Rattle.ip_ext_ipv4.specs.Ipv4Parse.{IsIpv4ChainAnswer}
+use Rattle.ip_ext_ipv4.specs.Ipv4Parse.{IsIpv4Answer}
 use Rattle.etherparse_ip.specs.LenSources.{front, ipv4_len_source, ipv6_len_source}
 
 -- its base header, its extension headers and its payload; the payload's number, whether it is a fragment, and what
@@ -24,7 +24,7 @@ pub record IsIpv4Packet (s : List ℕ) (p : Parts) : Type 0 where
   pub base : IsIpv4Header p.base
   pub stated : total_len p.base ≤ length s
   pub joined : p.base ++ (bytes_of p.headers ++ p.payload) ≡ front p.source (total_len p.base) s
-  pub chain : IsIpv4ChainAnswer (protocol p.base) (drop (length p.base) (front p.source (total_len p.base) s)) p.headers p.number p.payload None
+  pub chain : IsIpv4Answer (λ c. c) (protocol p.base) (drop (length p.base) (front p.source (total_len p.base) s)) p.headers p.number p.payload None
   pub fragmented : p.fragmented ≡ is_ipv4_fragmenting p.base
   pub source : p.source ≡ ipv4_len_source
 

@@ -110,7 +110,7 @@ fitting_fault_at_end n s c l number free =
     let some : IsSome fault = fault_at_end Slice (length (rest_behind c s)) (rest_behind c s) (length (bytes_of c)) (is_empty c) m number (fitting_ends n s c l free) in
     let F : Bool → Type 0 = λ b. IsSome (if b then None else fault) in
     elim (cases_Bool (is_taken m c)) [
-      | inl t ↦ absurd (free ((taken_told c m l.has.meets).0 t))
+      | inl t ↦ absurd (free ((taken_told c m l.has.1).0 t))
       | inr t ↦ subst F (sym t) some
     ]
 

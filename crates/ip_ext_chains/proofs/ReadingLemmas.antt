@@ -18,7 +18,7 @@ use Rattle.ip_spec.proofs.PrefixLemmas.{prefix_of-append}
 use Rattle.ip_spec.proofs.ChainLemmas.{no_chain, goes_on, leads_to-more}
 use Rattle.ip_spec.proofs.UnderLemmas.{some_longest_under, one_longest_under, longest_at_end_under}
 use Rattle.ip_spec.proofs.FitsLemmas.{fits_places}
-use Rattle.ip_spec.proofs.PlaceLemmas.{has_routing, place_number, own_place, final_behind, is_extension, placed, fits_more, taken_told}
+use Rattle.ip_spec.proofs.PlaceLemmas.{has_routing, place_number, in_both, own_place, final_behind, is_extension, placed, fits_more, taken_told}
 use Rattle.ip_ext_slices.specs.Fault.{Fault, fault_at, chain_faults}
 use Rattle.ip_ext_slices.proofs.FaultLemmas.{end_at_other, no_fault_at_other}
 use Rattle.ip_ext_slices.proofs.RequestFaultLemmas.{fault_ends}
@@ -62,7 +62,7 @@ module _ (n : ℕ) (c : List ExtHeader) (chain : IsChain n c) (fits : FitsPlaces
       let s : List ℕ = bytes_of c ++ x in
       let E : List ℕ → Type 0 = IsEndUnder FitsPlaces c (leads_to n c) in
       one_longest_under FitsPlaces fits_places n s c (fitting_chain n s)
-      (longest_at_end_under FitsPlaces fits_places n s c (record { has = record { chain = chain; prefix = prefix_of-append (bytes_of c) x s refl }; meets = fits }) (subst E (sym behind) e))
+      (longest_at_end_under FitsPlaces fits_places n s c (record { chain = chain; prefix = prefix_of-append (bytes_of c) x s refl }, fits) (subst E (sym behind) e))
       (some_longest_under FitsPlaces fits_places n s).1
 
   -- the fault there is the fault of the parse
@@ -296,7 +296,7 @@ module _ (n : ℕ) (c : List ExtHeader) (m : ℕ) (v : Ipv6Extensions) (first : 
   later zero_number none = elim (cases_Bool (is_empty c)) [
     | inr some ↦ some
     | inl start ↦ absurd (none hop_by_hop (record {
-      own = ap (λ (j : ℕ). place_of j (is_some v.routing)) zero_number;
+      own = ap (λ (j : ℕ). place_of j (is_some v.routing)) zero_number ∙ in_both 0 hop_by_hop refl refl (is_some v.routing);
       free = filled c v k.value hop_by_hop ∙ ap (λ (d : List ExtHeader). is_some (header_in hop_by_hop d)) (empty_is c start);
       zero_first = λ z. k.none_yet ∙ start;
     }))

@@ -1,6 +1,7 @@
 -- A write of a value that some chain spells, or that was read from bytes, is refused for want of memory alone.
 use Rattle.std.proofs.Common.{◌≡◌, ◌∙◌, ℕ, List, ap, sym, refl, true}
-use Rattle.std.specs.Prelude.{Option, Some, None, Err, is_some, IfSome}
+use Rattle.std.specs.Prelude.{⊤, Option, Some, None, Err, is_some}
+use Rattle.std.specs.declared.result.Result.{Result}
 use Rattle.std.specs.Borrow.{Bor}
 use Rattle.std.specs.Option.{option_map}
 use Rattle.std.specs.declared.alloc.AllocError.{AllocError}
@@ -12,7 +13,7 @@ use Rattle.ip_ext_chains.specs.Fitting.{fitting_chain}
 use Rattle.ip_ext_chains.specs.Ipv6Extensions.{value_of, placed_fields}
 use Rattle.ip_ext_chains.specs.Walk.{walk_answer}
 use Rattle.ip_ext_chains.specs.Write.{IsWalkFault}
-use Rattle.ip_ext_chains.specs.WriteError.{io_of, content_of}
+use Rattle.ip_ext_chains.specs.WriteError.{io_of}
 use Rattle.ip_ext_chains.specs.declared.ipv6_exts.Ipv6Extensions.{Ipv6Extensions}
 use Rattle.ip_ext_chains.specs.declared.err.ipv6_exts.exts_walk_error.ExtsWalkError.{ExtsWalkError}
 use Rattle.ip_ext_chains.specs.declared.err.ipv6_exts.exts_walk_error.ExtsWalkError.TheVariants.{HopByHopNotAtStart, ExtNotReferenced}
@@ -30,12 +31,16 @@ same_some (Some x) = refl
 
 -- A write of v from n ended with e, of which `o` shows the refusal of memory.
 module _ (v : Ipv6Extensions) (n : ℕ) (old new : List ℕ) (o : Option (Bor AllocError)) where
-  ended : (e : HeaderWriteError) → ((fault : ExtsWalkError) → IsWalkFault v n old new fault → ⊥) → IfSome (content_of e) (λ fault. IsWalkFault v n old new fault) → option_map (λ x. x.now) o ≡ io_of e → is_some o ≡ true
-  ended (Io x) none k as_place = sym (same_some o) ∙ ap is_some as_place
-  ended (Content x) none k as_place = absurd (none x k)
+  -- what `write` ensures of a fault of the walk
+  abbrev IsContent : Result ⊤ HeaderWriteError → Type 0
+  IsContent r = (fault : ExtsWalkError) → r ≡ Err (Content fault) → IsWalkFault v n old new fault
 
-  pub spelled_refused : (e : HeaderWriteError) (d : List ExtHeader) → IsSpelling (placed_fields v) n d → IfSome (content_of e) (λ fault. IsWalkFault v n old new fault) → option_map (λ x. x.now) o ≡ io_of e → is_some o ≡ true
+  ended : (e : HeaderWriteError) → ((fault : ExtsWalkError) → IsWalkFault v n old new fault → ⊥) → IsContent (Err e) → option_map (λ x. x.now) o ≡ io_of e → is_some o ≡ true
+  ended (Io x) none k as_place = sym (same_some o) ∙ ap is_some as_place
+  ended (Content x) none k as_place = absurd (none x (k x refl))
+
+  pub spelled_refused : (e : HeaderWriteError) (d : List ExtHeader) → IsSpelling (placed_fields v) n d → IsContent (Err e) → option_map (λ x. x.now) o ≡ io_of e → is_some o ≡ true
   spelled_refused e d s = ended e (λ fault k. no_fault fault (leads_to n d) (one_answer (placed_fields v) n _ _ k.answer (spelled_leads (placed_fields v) n d s)))
 
-  pub read_refused : (e : HeaderWriteError) (s : List ℕ) → AreBytes s → value_of (fitting_chain n s) ≡ v → IfSome (content_of e) (λ fault. IsWalkFault v n old new fault) → option_map (λ x. x.now) o ≡ io_of e → is_some o ≡ true
+  pub read_refused : (e : HeaderWriteError) (s : List ℕ) → AreBytes s → value_of (fitting_chain n s) ≡ v → IsContent (Err e) → option_map (λ x. x.now) o ≡ io_of e → is_some o ≡ true
   read_refused e s bytes read = ended e (λ fault k. k.unread s bytes read)

@@ -69,8 +69,8 @@ module _ (v : Ipv6Extensions) (n : ℕ) where
   read_spelled : (s : List ℕ) → AreBytes s → value_of (fitting_chain n s) ≡ v → IsSpelling (placed_fields v) n (cleared_chain (fitting_chain n s))
   read_spelled s bytes e =
       let l = fitting_longest n s in
-      cleared_spells (placed_fields v) n (fitting_chain n s) l.has.has.chain l.has.meets
-      (subst AreBytes l.has.has.prefix (All-take (λ x. x < 256) (length (bytes_of (fitting_chain n s))) s bytes))
+      cleared_spells (placed_fields v) n (fitting_chain n s) l.has.0.chain l.has.1
+      (subst AreBytes l.has.0.prefix (All-take (λ x. x < 256) (length (bytes_of (fitting_chain n s))) s bytes))
       (value_holds (fitting_chain n s) (sym e))
 
   leads_differ : (m : ℕ) (e : ExtsWalkError) → leads m ≡ walk_answer (Err e) → ⊥
@@ -84,7 +84,7 @@ module _ (v : Ipv6Extensions) (n : ℕ) where
 
   module _ (old new : List ℕ) (w : IsWritten v n old new) where
     pub written_len : length new ≡ length old + exts_len v
-    written_len = omega (arith, ap length w.appended, length-append old (bytes_of w.chain), bytes_len (placed_fields v) n w.chain w.spelling.chain w.spelling.fits w.spelling.value, exts_sum v)
+    written_len = omega (arith, ap length w.appended, length-append old (bytes_of w.chain), bytes_len (placed_fields v) n w.chain w.spelling.reachable.chain w.spelling.reachable.fits w.spelling.value, exts_sum v)
 
     appended_is : (b : List ℕ) → new ≡ old ++ b → bytes_of w.chain ≡ b
     appended_is b e = append_cancel_left old (bytes_of w.chain) b (sym w.appended ∙ e)

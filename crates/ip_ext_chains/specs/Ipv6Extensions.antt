@@ -1,5 +1,5 @@
 -- What a struct of six places holds.
-use Rattle.std.specs.Prelude.{ℕ, ◌+◌, List, Bool, false, ◌&&◌, Option, Some, None, is_none}
+use Rattle.std.specs.Prelude.{ℕ, ◌+◌, List, Bool, false, ◌&&◌, Option, Some, None, is_none, option_and_then}
 use Rattle.std.specs.Option.{option_map, option_map_or}
 use Rattle.ip_spec.specs.Fields.{is_fragment}
 use Rattle.ip_spec.specs.FieldsOf.{RawFields, FragmentFields, raw_fields, fragment_fields, auth_fields, raw_len, auth_len}
@@ -24,8 +24,7 @@ value_of c = record {
 
 -- the final destination options, which stand with the routing header
 abbrev pub final_of : Option Ipv6RoutingExtensions → Option RawFields
-final_of (Some r) = r.final_destination_options
-final_of None = None
+final_of o = option_and_then (λ r. r.final_destination_options) o
 
 -- what stands in a place
 abbrev pub placed_fields : Ipv6Extensions → Place → Option HeaderFields

@@ -1,4 +1,4 @@
-ghost use Rattle.std.specs.Prelude.{◌≡◌, ◌≤◌, ◌<◌, ◌↔◌, ◌+◌, ◌++◌, ℕ, List, None, OnOk, IfErr, IfSome, IfNone, vec_len, vec_capacity};
+ghost use Rattle.std.specs.Prelude.{◌≡◌, ◌≤◌, ◌<◌, ◌↔◌, ◌+◌, ◌++◌, ℕ, List, None, Err, OnOk, IfSome, IfNone, vec_len, vec_capacity};
 ghost use Rattle.ip_spec.specs.Header.{IsExtensionNumber};
 ghost use Rattle.ip_spec.specs.Encoding.{AreBytes, AppendsOne};
 ghost use Rattle.ip_spec.specs.Encodable.{placed_len};
@@ -15,7 +15,7 @@ ghost use Rattle.ip_ext_chains.specs.Fitting.{fitting_chain, IsFittingAnswer};
 ghost use Rattle.ip_ext_chains.specs.Ipv6Extensions.{placed_fields, value_of, exts_len};
 ghost use Rattle.ip_ext_chains.specs.Walk.{walk_answer, left_in, IsStep};
 ghost use Rattle.ip_ext_chains.specs.Write.{IsWritten, IsWalkFault};
-ghost use Rattle.ip_ext_chains.specs.WriteError.{io_of, content_of};
+ghost use Rattle.ip_ext_chains.specs.declared.err.ipv6_exts.header_write_error.HeaderWriteError.TheVariants.{Io, Content};
 
 use crate::Ipv6Extensions;
 use crate::err::ipv6_exts::{ExtsWalkError, HeaderWriteError};
@@ -25,7 +25,7 @@ use crate::places::Place;
 use crate::walk::Walk;
 use ip_base::IpNumber;
 use ip_base::ip_number::{IPV6_DEST_OPTIONS, IPV6_HOP_BY_HOP};
-use std::alloc::Allocator;
+use std::alloc::{AllocError, Allocator};
 
 impl Ipv6Extensions {
     /// The number to which the headers lead along their next numbers, where the first is of the number `first`
@@ -91,13 +91,14 @@ impl Ipv6Extensions {
         ensures alike { OnOk result ((v : Ipv6Extensions) (c : List ExtHeader)
             → IsSpelling (placed_fields v) first.0 c
             → (out.new.items ≡ out.old.items ++ bytes_of c) ↔ (self.now ≡ v)) }
-        ensures unchanged { IfErr result (λ e. IfSome (io_of e) (λ _.
-            out.new.items ≡ out.old.items)) }
-        ensures content { IfErr result (λ e. IfSome (content_of e) (λ fault.
-            IsWalkFault self.now first.0 out.old.items out.new.items fault)) }
-        ensures full { IfErr result (λ e. IfSome (io_of e) (λ _.
-            vec_capacity out.old < vec_len out.old + exts_len self.now)) }
-        ensures some { IfErr result (λ e. IfSome (io_of e) (λ _. 0 < exts_len self.now)) }
+        ensures unchanged { (refused : AllocError) → result ≡ Err (Io refused)
+            → out.new.items ≡ out.old.items }
+        ensures content { (fault : ExtsWalkError) → result ≡ Err (Content fault)
+            → IsWalkFault self.now first.0 out.old.items out.new.items fault }
+        ensures full { (refused : AllocError) → result ≡ Err (Io refused)
+            → vec_capacity out.old < vec_len out.old + exts_len self.now }
+        ensures some { (refused : AllocError) → result ≡ Err (Io refused)
+            → 0 < exts_len self.now }
         ensures capacity { vec_capacity out.old ≤ vec_capacity out.new }
     {
         self.encodable();

@@ -16,7 +16,7 @@ use Rattle.ip_spec.proofs.DemandKinds.{at_most_one_of, one_of_first, one_of_none
 use Rattle.ip_spec.specs.Parse.{IsAnswer}
 use Rattle.ip_ext_ipv4.specs.Ipv4Longest.{longest_ipv4_chain}
 use Rattle.ip_ext_ipv4.specs.Ipv4Fault.{ipv4_faults}
-use Rattle.ip_ext_ipv4.specs.Ipv4Parse.{IsIpv4ChainAnswer}
+use Rattle.ip_ext_ipv4.specs.Ipv4Parse.{IsIpv4Answer}
 
 pub ipv4_longest : (n : ℕ) (s : List ℕ) → IsLongestUnder (AtMostOneOf 51) n s (longest_ipv4_chain n s)
 ipv4_longest n s = (some_longest_under (AtMostOneOf 51) (at_most_one_of 51) n s).1
@@ -38,7 +38,7 @@ abbrev Answers : ℕ → List ℕ → List ExtHeader → ℕ → List ℕ → Op
 Answers n s x m r f c = IsAnswer (λ d. d) (ipv4_faults Slice) c n s x m r f
 
 pub answer_of_one : (n : ℕ) (s b : List ℕ) (m : ℕ) (r : List ℕ) → n ≡ 51 → IsAuthHeader b → IsPrefix b s → m ≡ next_header b → r ≡ drop (length b) s
-    → IsIpv4ChainAnswer n s (record { number = 51; bytes = b } ∷ []) m r None
+    → IsIpv4Answer (λ c. c) n s (record { number = 51; bytes = b } ∷ []) m r None
 answer_of_one n s b m r e header prefix number rest =
     let c : List ExtHeader = record { number = 51; bytes = b } ∷ [] in
     let joined : b ++ [] ≡ b = append-nil b in
@@ -46,12 +46,12 @@ answer_of_one n s b m r e header prefix number rest =
     (record { value = refl; number = number; rest = rest ∙ ap (λ (d : List ℕ). drop (length d) s) (sym joined); fault = refl })
 
 pub answer_of_none : (n : ℕ) (s : List ℕ) (f : Option HeaderSliceError) → (n ≡ 51 → (b : List ℕ) → IsAuthHeader b → IsPrefix b s → ⊥) → ipv4_faults Slice [] n s ≡ f
-    → IsIpv4ChainAnswer n s [] n s f
+    → IsIpv4Answer (λ c. c) n s [] n s f
 answer_of_none n s f none fault =
     subst (Answers n s [] n s f) (sym (ipv4_none n s none)) (record { value = refl; number = refl; rest = refl; fault = sym fault })
 
 pub answer_of_fault : (n : ℕ) (s : List ℕ) (e : HeaderSliceError) → n ≡ 51 → ((b : List ℕ) → IsAuthHeader b → IsPrefix b s → ⊥) → auth_fault Slice (length s) 0 s ≡ Some e
-    → IsIpv4ChainAnswer n s [] n s (Some e)
+    → IsIpv4Answer (λ c. c) n s [] n s (Some e)
 answer_of_fault n s e is none fault =
     let P : ℕ → Type 0 = λ j. ipv4_faults Slice [] j s ≡ Some e in
     answer_of_none n s (Some e) (λ z. none) (subst P (sym is) fault)

@@ -13,10 +13,6 @@ abbrev pub ipv4_value : List ExtHeader → Option AuthFields
 ipv4_value [] = None
 ipv4_value (h ∷ c) = Some (auth_fields h.bytes)
 
--- the answer for the longest chain, whose value is all of its headers
-abbrev pub IsIpv4ChainAnswer : ℕ → List ℕ → List ExtHeader → ℕ → List ℕ → Option HeaderSliceError → Type 0
-IsIpv4ChainAnswer n s = IsAnswer (λ c. c) (ipv4_faults Slice) (longest_ipv4_chain n s) n s
-
--- the answer for the longest chain, whose value is the fields of its header
-abbrev pub IsIpv4ValueAnswer : ℕ → List ℕ → Option AuthFields → ℕ → List ℕ → Option HeaderSliceError → Type 0
-IsIpv4ValueAnswer n s = IsAnswer ipv4_value (ipv4_faults Slice) (longest_ipv4_chain n s) n s
+-- the answer for the longest chain, of which a value is told: all of its headers, or the fields of its header
+abbrev pub IsIpv4Answer : {X : Type 0} → (List ExtHeader → X) → ℕ → List ℕ → X → ℕ → List ℕ → Option HeaderSliceError → Type 0
+IsIpv4Answer value n s = IsAnswer value (ipv4_faults Slice) (longest_ipv4_chain n s) n s

@@ -4,9 +4,9 @@ use Rattle.std.specs.declared.result.Result.{Result}
 use Rattle.ip_base.specs.declared.ip_number_impl.IpNumber.{IpNumber}
 use Rattle.ip_spec.specs.Numbers.{AUTHENTICATION}
 use Rattle.ip_spec.specs.FieldsOf.{AuthFields}
-use Rattle.ip_spec.specs.Chain.{ExtHeader, IsChain, bytes_of}
 use Rattle.ip_spec.specs.Demand.{AtMostOneOf}
 use Rattle.ip_spec.specs.Encoded.{AreCleared}
+use Rattle.ip_spec.specs.Parse.{IsRead}
 use Rattle.ip_ext_ipv4.specs.Ipv4Parse.{ipv4_value}
 use Rattle.ip_ext_ipv4.specs.declared.err.ipv4_exts.exts_walk_error.ExtsWalkError.{ExtsWalkError}
 use Rattle.ip_ext_ipv4.specs.declared.err.ipv4_exts.exts_walk_error.ExtsWalkError.TheVariants.{ExtNotReferenced}
@@ -17,11 +17,6 @@ ipv4_walk None f = Ok (record { 0 = f })
 ipv4_walk (Some v) f =
     if f == AUTHENTICATION then Ok (record { 0 = v.next_header }) else Err (ExtNotReferenced (record { 0 = AUTHENTICATION }))
 
--- From number f, bytes b are a chain of at most one header with the value v, whose reserved bits are zero.
-pub record IsIpv4Encoding (f : ℕ) (v : Option AuthFields) (b : List ℕ) : Type 0 where
-  pub headers : List ExtHeader
-  pub chain : IsChain f headers
-  pub one : AtMostOneOf AUTHENTICATION headers
-  pub value : ipv4_value headers ≡ v
-  pub cleared : AreCleared headers
-  pub joined : bytes_of headers ≡ b
+-- from number f, bytes b are read as v with nothing left, and their reserved bits are zero
+abbrev pub IsIpv4Encoding : ℕ → Option AuthFields → List ℕ → Type 0
+IsIpv4Encoding f v b = (m : ℕ) × IsRead (AtMostOneOf AUTHENTICATION) (λ c. (ipv4_value c ≡ v) × AreCleared c) f m b

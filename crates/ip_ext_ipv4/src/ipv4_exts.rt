@@ -1,4 +1,4 @@
-ghost use Rattle.std.specs.Prelude.{◌≡◌, ◌≤◌, ◌<◌, ◌+◌, ◌++◌, ◌↔◌, ℕ, List, length, Option, Some, None, IsOk, OnOk, OnErr, IfOk, IfErr, IfSome, is_some, is_none, vec_len, vec_capacity, if◌then◌else◌};
+ghost use Rattle.std.specs.Prelude.{◌≡◌, ◌≤◌, ◌<◌, ◌+◌, ◌++◌, ◌↔◌, ℕ, List, length, Option, Some, None, Ok, Err, IsOk, OnOk, OnErr, IfOk, IfErr, IfSome, is_some, is_none, vec_len, vec_capacity, if◌then◌else◌};
 ghost use Rattle.std.specs.Option.{option_map, option_map_or};
 ghost use Rattle.ip_spec.specs.Numbers.{AUTHENTICATION};
 ghost use Rattle.ip_spec.specs.FieldsOf.{AuthFields, auth_len};
@@ -9,10 +9,10 @@ ghost use Rattle.ip_spec.specs.Chain.{bytes_of};
 ghost use Rattle.ip_spec.specs.Demand.{IsLongestUnder, AtMostOneOf};
 ghost use Rattle.ip_ext_ipv4.specs.Ipv4Longest.{longest_ipv4_chain};
 ghost use Rattle.ip_ext_ipv4.specs.Ipv4Fault.{ipv4_chain_fault};
-ghost use Rattle.ip_ext_ipv4.specs.Ipv4Parse.{IsIpv4ChainAnswer, IsIpv4ValueAnswer, ipv4_value};
+ghost use Rattle.ip_ext_ipv4.specs.Ipv4Parse.{IsIpv4Answer, ipv4_value};
 ghost use Rattle.ip_ext_ipv4.specs.Ipv4ExtensionsSlice.{headers_in};
 ghost use Rattle.ip_ext_ipv4.specs.Ipv4Walk.{ipv4_walk, IsIpv4Encoding};
-ghost use Rattle.ip_ext_ipv4.specs.Ipv4WriteError.{io_of, content_of};
+ghost use Rattle.ip_ext_ipv4.specs.declared.err.ipv4_exts.header_write_error.HeaderWriteError.TheVariants.{Io, Content};
 ghost use Rattle.ip_spec.specs.Parse.{IsRead};
 
 use crate::Ipv4ExtensionsSlice;
@@ -44,7 +44,7 @@ impl Ipv4Extensions {
     ) -> (Ipv4Extensions, IpNumber, &[u8], Option<HeaderSliceError>)
         ensures longest { IsLongestUnder (AtMostOneOf AUTHENTICATION) start_ip_number.0
             start_slice.now (longest_ipv4_chain start_ip_number.0 start_slice.now) }
-        ensures answer { IsIpv4ValueAnswer start_ip_number.0 start_slice.now
+        ensures answer { IsIpv4Answer ipv4_value start_ip_number.0 start_slice.now
             result.0.auth result.1.0 result.2.now result.3 }
         ensures cleared { IsIpv4Encoding start_ip_number.0 result.0.auth
             (bytes_of (cleared_chain (longest_ipv4_chain start_ip_number.0 start_slice.now))) }
@@ -61,7 +61,7 @@ impl Ipv4Extensions {
         start_ip_number: IpNumber,
         slice: &[u8],
     ) -> Result<(Ipv4Extensions, IpNumber, &[u8]), HeaderSliceError>
-        ensures answer { IfOk result (λ x. IsIpv4ValueAnswer start_ip_number.0 slice.now
+        ensures answer { IfOk result (λ x. IsIpv4Answer ipv4_value start_ip_number.0 slice.now
             x.0.auth x.1.0 x.2.now None) }
         ensures fault { IfErr result (λ e. ipv4_chain_fault start_ip_number.0 slice.now ≡ Some e) }
     {
@@ -81,7 +81,7 @@ impl Ipv4Extensions {
         &[u8],
         Option<HeaderSliceError>,
     )
-        ensures { IsIpv4ChainAnswer start.0 bytes.now
+        ensures { IsIpv4Answer (λ c. c) start.0 bytes.now
             (headers_in result.0) result.1.0 result.2.now result.3 }
     {
         if start != ip_number::AUTH {
@@ -159,8 +159,8 @@ impl Ipv4Extensions {
         start_ip_number: IpNumber,
     ) -> Result<(), HeaderWriteError>
         ensures walk { OnOk result (IsOk (ipv4_walk self.now.auth start_ip_number.0)) }
-        ensures content { IfErr result (λ e. IfSome (content_of e) (λ fault.
-            ipv4_walk self.now.auth start_ip_number.0 ≡ Err fault)) }
+        ensures content { (fault : ExtsWalkError) → result ≡ Err (Content fault)
+            → ipv4_walk self.now.auth start_ip_number.0 ≡ Err fault }
         ensures ok { OnOk result (AppendsOne (IsIpv4Encoding start_ip_number.0 self.now.auth)
             out.old.items out.new.items) }
         ensures only { (b d : List ℕ) → IsIpv4Encoding start_ip_number.0 self.now.auth b
@@ -172,7 +172,7 @@ impl Ipv4Extensions {
             → out.new.items ≡ out.old.items ++ b
             → ipv4_walk self.now.auth start_ip_number.0 ≡ Ok m
             → (self.now.auth ≡ None → start_ip_number.0 ≡ AUTHENTICATION → ⊥)
-            → IsIpv4ValueAnswer start_ip_number.0 (b ++ r) self.now.auth m.0 r None) }
+            → IsIpv4Answer ipv4_value start_ip_number.0 (b ++ r) self.now.auth m.0 r None) }
         ensures read_whole { OnOk result ((b : List ℕ) (m : IpNumber)
             → out.new.items ≡ out.old.items ++ b
             → ipv4_walk self.now.auth start_ip_number.0 ≡ Ok m
@@ -181,12 +181,12 @@ impl Ipv4Extensions {
         ensures len { OnOk result
             (vec_len out.new ≡ vec_len out.old + option_map_or auth_len self.now.auth 0) }
         ensures unchanged { OnErr result (out.new.items ≡ out.old.items) }
-        ensures full { IfErr result (λ e. IfSome (io_of e) (λ _.
-            vec_capacity out.old < vec_len out.old + option_map_or auth_len self.now.auth 0)) }
-        ensures some { IfErr result (λ e. IfSome (io_of e) (λ _.
-            0 < option_map_or auth_len self.now.auth 0)) }
-        ensures named { IfErr result (λ e. IfSome (io_of e) (λ _.
-            IsOk (ipv4_walk self.now.auth start_ip_number.0))) }
+        ensures full { (refused : AllocError) → result ≡ Err (Io refused)
+            → vec_capacity out.old < vec_len out.old + option_map_or auth_len self.now.auth 0 }
+        ensures some { (refused : AllocError) → result ≡ Err (Io refused)
+            → 0 < option_map_or auth_len self.now.auth 0 }
+        ensures named { (refused : AllocError) → result ≡ Err (Io refused)
+            → IsOk (ipv4_walk self.now.auth start_ip_number.0) }
         ensures capacity { vec_capacity out.old ≤ vec_capacity out.new }
     {
         let Some(header) = &self.auth else {

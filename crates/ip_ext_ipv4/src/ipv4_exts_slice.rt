@@ -3,7 +3,7 @@ ghost use Rattle.ip_spec.specs.Numbers.{AUTHENTICATION};
 ghost use Rattle.ip_spec.specs.Chain.{is_empty};
 ghost use Rattle.ip_spec.specs.Demand.{IsLongestUnder, AtMostOneOf};
 ghost use Rattle.ip_ext_ipv4.specs.Ipv4Fault.{ipv4_chain_fault};
-ghost use Rattle.ip_ext_ipv4.specs.Ipv4Parse.{IsIpv4ChainAnswer, ipv4_value};
+ghost use Rattle.ip_ext_ipv4.specs.Ipv4Parse.{IsIpv4Answer, ipv4_value};
 
 use crate::Ipv4Extensions;
 use crate::err::ip_auth::HeaderSliceError;
@@ -37,7 +37,7 @@ impl<'a> Ipv4ExtensionsSlice<'a> {
     )
         ensures longest { IsLongestUnder (AtMostOneOf AUTHENTICATION)
             start_ip_number.0 start_slice.now (headers_in result.0) }
-        ensures answer { IsIpv4ChainAnswer start_ip_number.0 start_slice.now
+        ensures answer { IsIpv4Answer (λ c. c) start_ip_number.0 start_slice.now
             (headers_in result.0) result.1.0 result.2.now result.3 }
     {
         if start_ip_number != ip_number::AUTH {
@@ -63,7 +63,7 @@ impl<'a> Ipv4ExtensionsSlice<'a> {
         start_ip_number: IpNumber,
         start_slice: &'a [u8],
     ) -> Result<(Ipv4ExtensionsSlice<'a>, IpNumber, &'a [u8]), HeaderSliceError>
-        ensures answer { IfOk result (λ x. IsIpv4ChainAnswer start_ip_number.0 start_slice.now
+        ensures answer { IfOk result (λ x. IsIpv4Answer (λ c. c) start_ip_number.0 start_slice.now
             (headers_in x.0) x.1.0 x.2.now None) }
         ensures fault { IfErr result (λ e.
             ipv4_chain_fault start_ip_number.0 start_slice.now ≡ Some e) }

@@ -14,7 +14,7 @@ ghost use Rattle.ip_ext_slices.specs.Longest.{longest_chain};
 ghost use Rattle.ip_ext_slices.specs.Fault.{chain_fault};
 ghost use Rattle.ip_ext_chains.specs.Fitting.{fitting_fault};
 ghost use Rattle.ip_ext_ipv4.specs.Ipv4Fault.{ipv4_chain_fault};
-ghost use Rattle.ip_ext_ipv4.specs.Ipv4Parse.{IsIpv4ChainAnswer, IsIpv4ValueAnswer, ipv4_value};
+ghost use Rattle.ip_ext_ipv4.specs.Ipv4Parse.{IsIpv4Answer, ipv4_value};
 ghost use Rattle.ip_ext_ipv4.specs.Ipv4ExtensionsSlice.{headers_in};
 ghost use Rattle.ip_ext_ipv4.specs.Ipv4Walk.{ipv4_walk, IsIpv4Encoding};
 ghost use Rattle.ip_ext_chains.specs.Ipv6Extensions.{placed_fields, value_of, exts_len};
@@ -72,7 +72,7 @@ pub fn ipv4_opened(
     start: IpNumber,
     packet: &[u8],
 ) -> Result<(Ipv4ExtensionsSlice<'_>, IpNumber, &[u8]), ip_auth::HeaderSliceError>
-    ensures answer { IfOk result (λ x. IsIpv4ChainAnswer start.0 packet.now
+    ensures answer { IfOk result (λ x. IsIpv4Answer (λ c. c) start.0 packet.now
         (headers_in x.0) x.1.0 x.2.now None) }
     ensures fault { IfErr result (λ e. ipv4_chain_fault start.0 packet.now ≡ Some e) }
 {
@@ -84,7 +84,7 @@ pub fn ipv4_opened_owned(
     start: IpNumber,
     packet: &[u8],
 ) -> Result<(Ipv4Extensions, IpNumber, &[u8]), ip_auth::HeaderSliceError>
-    ensures answer { IfOk result (λ x. IsIpv4ValueAnswer start.0 packet.now
+    ensures answer { IfOk result (λ x. IsIpv4Answer ipv4_value start.0 packet.now
         x.0.auth x.1.0 x.2.now None) }
     ensures fault { IfErr result (λ e. ipv4_chain_fault start.0 packet.now ≡ Some e) }
 {
@@ -99,7 +99,7 @@ pub fn append_ipv4(headers: &Ipv4Extensions, start: IpNumber, out: &mut Vec<u8>)
     ensures read_again { IfSome result (λ _. (b r : List ℕ) (m : IpNumber)
         → out.new.items ≡ out.old.items ++ b → ipv4_walk headers.now.auth start.0 ≡ Ok m
         → (headers.now.auth ≡ None → start.0 ≡ AUTHENTICATION → ⊥)
-        → IsIpv4ValueAnswer start.0 (b ++ r) headers.now.auth m.0 r None) }
+        → IsIpv4Answer ipv4_value start.0 (b ++ r) headers.now.auth m.0 r None) }
     ensures read_whole { IfSome result (λ _. (b : List ℕ) (m : IpNumber)
         → out.new.items ≡ out.old.items ++ b → ipv4_walk headers.now.auth start.0 ≡ Ok m
         → IsRead (AtMostOneOf AUTHENTICATION) (λ c. ipv4_value c ≡ headers.now.auth)

@@ -8,7 +8,7 @@ pub use Rattle.ip_spec.proofs.StepLemmas.{no_chain, bytes_of-more, leads_to-more
 module _ (n : ℕ) (s : List ℕ) (c : List ExtHeader) where
   -- where no header goes on, the chain is the longest, and the other way round
   pub longest_at_end : IsPrefixChain n s c → IsEnd (is_empty c) (leads_to n c) (drop (length (bytes_of c)) s) → IsLongestChain n s c
-  longest_at_end p e = longest_without n s c (longest_at_end_under NoDemand no_demand n s c (record { has = p; meets = tt }) (λ h x q. e h x))
+  longest_at_end p e = longest_without n s c (longest_at_end_under NoDemand no_demand n s c (p, tt) (λ h x q. e h x))
 
   pub longest_ends : IsLongestChain n s c → IsEnd (is_empty c) (leads_to n c) (drop (length (bytes_of c)) s)
   longest_ends l h x = longest_ends_under NoDemand no_demand n s c (longest_under_none n s c l) h x tt

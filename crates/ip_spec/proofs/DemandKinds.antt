@@ -53,13 +53,13 @@ at_most_one_of m =
 pub one_of_first : (m n : ℕ) (s : List ℕ) (h : ExtHeader) → IsNext true n s h → n ≡ m → IsLongestUnder (AtMostOneOf m) n s (h ∷ [])
 one_of_first m n s h x e =
     longest_at_end_under (AtMostOneOf m) (at_most_one_of m) n s (h ∷ [])
-    (record { has = goes_on n s [] h (no_header_prefix n s) x; meets = record { one = omega arith; number = (x.number ∙ e, tt) } })
+    (goes_on n s [] h (no_header_prefix n s) x, record { one = omega arith; number = (x.number ∙ e, tt) })
     (λ g y q. omega (arith, q.one))
 
 pub one_of_none : (m n : ℕ) (s : List ℕ) → (n ≡ m → IsEnd true n s) → IsLongestUnder (AtMostOneOf m) n s []
 one_of_none m n s e =
     longest_at_end_under (AtMostOneOf m) (at_most_one_of m) n s []
-    (record { has = no_header_prefix n s; meets = (at_most_one_of m).empty })
+    (no_header_prefix n s, (at_most_one_of m).empty)
     (λ g y q. e (sym y.number ∙ q.number.0) g y)
 
 -- it only grows

@@ -3,30 +3,34 @@ use Rattle.std.proofs.Common.{◌≡◌, ℕ, ◌≤◌, List, [], ◌∷◌, �
 use Rattle.std.proofs.lemmas.List.{append-nil, append_cancel_left, length-append, map-append}
 use Rattle.std.proofs.lemmas.Bool.{cases_lt}
 use Rattle.ip_spec.specs.LongestOf.{IsLongestOf}
-use Rattle.ip_spec.specs.Demand.{IsDemand, IsUnder, NextBreaks, KeepsBeginning, Passes}
+use Rattle.ip_spec.specs.Demand.{IsDemand, NextBreaks, KeepsBeginning, Passes}
 use Rattle.ip_spec.proofs.LongestOfLemmas.{Grows, DecidesNext, within, beyond, compare, begins_first, longest_where_none_next, none_next_where_longest, one_longest_of, some_longest_of}
+
+-- c has the property P and meets the demand Q
+abbrev pub IsUnder : {X : Type 0} → (List X → Type 0) → (List X → Type 0) → List X → Type 0
+IsUnder Q P c = P c × Q c
 
 module _ {X : Type 0} (P Q : List X → Type 0) (g : Grows P) (k : IsDemand Q) where
   pub under_grows : Grows (IsUnder Q P)
   under_grows = record {
-    begins = λ c d p. record { has = g.begins c d p.has; meets = k.begins c d p.meets };
-    one_next = λ c x y p q. g.one_next c x y p.has q.has;
+    begins = λ c d p. (g.begins c d p.0, k.begins c d p.1);
+    one_next = λ c x y p q. g.one_next c x y p.0 q.0;
   }
 
   next_under : DecidesNext P → DecidesNext (IsUnder Q P)
   next_under next c p =
       let M : X → Type 0 = λ x. Q (c ++ x ∷ []) in
-      elim (next c p.has) [
-        | inr none ↦ inr (λ x u. none x u.has)
+      elim (next c p.0) [
+        | inr none ↦ inr (λ x u. none x u.0)
         | inl (x, h) ↦ elim (k.decided (c ++ x ∷ [])) [
-          | inl q ↦ inl (x, record { has = h; meets = q })
-          | inr breaks ↦ inr (λ y u. breaks (subst M (g.one_next c y x u.has h) u.meets))
+          | inl q ↦ inl (x, (h, q))
+          | inr breaks ↦ inr (λ y u. breaks (subst M (g.one_next c y x u.0 h) u.1))
         ]
       ]
 
   pub some_longest_under_of : DecidesNext P → (bound : ℕ) → ((c : List X) → P c → length c ≤ bound) → P [] → (d : List X) × IsLongestOf (IsUnder Q P) d
   some_longest_under_of next bound fits p =
-      some_longest_of (IsUnder Q P) under_grows (next_under next) bound (λ c u. fits c u.has) (record { has = p; meets = k.empty })
+      some_longest_of (IsUnder Q P) under_grows (next_under next) bound (λ c u. fits c u.0) (p, k.empty)
 
   -- every list under the demand is at most as long as the longest
   pub longest_under_bounds : (c d : List X) → IsLongestOf (IsUnder Q P) c → IsUnder Q P d → length d ≤ length c
@@ -38,27 +42,27 @@ module _ {X : Type 0} (P Q : List X → Type 0) (g : Grows P) (k : IsDemand Q) w
   none_next_where_kept : (d c rest : List X) → d ≡ c ++ rest → NextBreaks Q c rest → IsLongestOf P d → (x : X) → IsUnder Q P (c ++ x ∷ []) → ⊥
   none_next_where_kept d c [] e breaks l x u =
       let M : List X → Type 0 = λ b. P (b ++ x ∷ []) in
-      none_next_where_longest P d l x (subst M (sym (e ∙ append-nil c)) u.has)
+      none_next_where_longest P d l x (subst M (sym (e ∙ append-nil c)) u.0)
   none_next_where_kept d c (y ∷ rest) e breaks l x u =
       let M : X → Type 0 = λ z. Q (c ++ z ∷ []) in
-      breaks (subst M (g.one_next c x y u.has (begins_first P g c y rest (subst P e l.has))) u.meets)
+      breaks (subst M (g.one_next c x y u.0 (begins_first P g c y rest (subst P e l.has))) u.1)
 
   -- what the demand keeps of the longest is the longest under the demand
   pub longest_where_kept : (d c : List X) → IsLongestOf P d → KeepsBeginning Q d c → IsLongestOf (IsUnder Q P) c
   longest_where_kept d c l p =
       longest_where_none_next (IsUnder Q P) under_grows c
-      (record { has = g.begins c p.rest (subst P p.joined l.has); meets = p.meets })
+      (g.begins c p.rest (subst P p.joined l.has), p.meets)
       (none_next_where_kept d c p.rest p.joined p.breaks l)
 
   breaks_behind : (d c rest : List X) → d ≡ c ++ rest → IsLongestOf P d → IsLongestOf (IsUnder Q P) c → NextBreaks Q c rest
   breaks_behind d c [] e l u = tt
-  breaks_behind d c (y ∷ rest) e l u = λ q. none_next_where_longest (IsUnder Q P) c u y (record { has = begins_first P g c y rest (subst P e l.has); meets = q })
+  breaks_behind d c (y ∷ rest) e l u = λ q. none_next_where_longest (IsUnder Q P) c u y (begins_first P g c y rest (subst P e l.has), q)
 
   -- and the other way round
   pub kept_where_longest : (d c : List X) → IsLongestOf P d → IsLongestOf (IsUnder Q P) c → KeepsBeginning Q d c
-  kept_where_longest d c l u = elim (compare P g d c l.has u.has.has) [
-    | within rest w ↦ record { rest = rest; joined = w; meets = u.has.meets; breaks = breaks_behind d c rest w l u }
-    | beyond x rest w ↦ absurd (none_next_where_longest P d l x (begins_first P g d x rest (subst P w u.has.has)))
+  kept_where_longest d c l u = elim (compare P g d c l.has u.has.0) [
+    | within rest w ↦ record { rest = rest; joined = w; meets = u.has.1; breaks = breaks_behind d c rest w l u }
+    | beyond x rest w ↦ absurd (none_next_where_longest P d l x (begins_first P g d x rest (subst P w u.has.0)))
   ]
 
 -- Of each list a demand keeps something.
@@ -107,7 +111,7 @@ module _ {X : Type 0} (d : List X) where
     kept_bounds b c rest p e q =
         longest_under_bounds (Begins d) Q beginnings_grow k b c
         (longest_where_kept (Begins d) Q beginnings_grow k d b all_longest p)
-        (record { has = (rest, e); meets = q })
+        ((rest, e), q)
 
 -- What makes a demand: a test, a number that only grows, two demands, and a demand on images.
 pub demand_of_test : {X : Type 0} (q : List X → Bool) → Passes q [] → ((c d : List X) → Passes q (c ++ d) → Passes q c) → IsDemand (Passes q)

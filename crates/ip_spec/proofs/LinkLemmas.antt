@@ -19,7 +19,7 @@ use Rattle.ip_spec.specs.WalkStep.{next_place, without, next_of}
 use Rattle.ip_spec.specs.Links.{relinked, first_number, places_behind, linked}
 use Rattle.ip_spec.proofs.HeaderLemmas.{raw_of, fragment_of, auth_of, header-least}
 use Rattle.ip_spec.proofs.HeaderLemmas.{header_number}
-use Rattle.ip_spec.proofs.PlaceLemmas.{has_routing, same_place}
+use Rattle.ip_spec.proofs.PlaceLemmas.{in_both, has_routing, same_place}
 use Rattle.ip_spec.proofs.WalkLemmas.{none_if, some_if}
 use Rattle.ip_spec.proofs.WalkStepLemmas.{Walking, walk_begins, walks_on, walk_answers}
 use Rattle.ip_spec.proofs.SpellingLemmas.{leads_where_none}
@@ -264,9 +264,9 @@ module _ (v : PlacedFields) (m : ℕ) (small : m < 256) (e : IsEncodable v) wher
       let u0 : Up 0 = record { reached = []; first = true; behind = false; walking = walk_begins w f (beyond 0 w) (λ q. ap (λ b. if b then None else w q) (le-ltb (index q) 0 (omega arith))); start = λ z. refl } in
       let u1 : Up 1 = step hop_by_hop 0 refl refl u0 (λ x k. refl) in
       let u2 : Up 2 = step destination 1 refl refl u1 (λ x k. ap (λ b. next_place u1.first b 60) (not_behind 1 u1 (omega arith))) in
-      let u3 : Up 3 = step routing 2 refl refl u2 (λ x k. refl) in
-      let u4 : Up 4 = step fragment_place 3 refl refl u3 (λ x k. refl) in
-      let u5 : Up 5 = step authentication 4 refl refl u4 (λ x k. refl) in
+      let u3 : Up 3 = step routing 2 refl refl u2 (λ x k. in_both 43 routing refl refl u2.behind) in
+      let u4 : Up 4 = step fragment_place 3 refl refl u3 (λ x k. in_both 44 fragment_place refl refl u3.behind) in
+      let u5 : Up 5 = step authentication 4 refl refl u4 (λ x k. in_both 51 authentication refl refl u4.behind) in
       step final_destination 5 refl refl u5 (λ x k. ap (λ b. next_place u5.first b 60) (is_behind 5 u5 (omega arith) (e.nested (ap is_some k))))
 
   -- the walk through linked headers leads to m

@@ -12,25 +12,11 @@ use Rattle.ip_spec.proofs.HeaderLemmas.{later_of, later_not_zero}
 use Rattle.ip_spec.specs.Chain.{ExtHeader}
 use Rattle.ip_spec.specs.Places.{Place, hop_by_hop, destination, routing, fragment, authentication, final_destination, places, index, number_in, side_of, header_in, place_of, is_taken}
 use Rattle.ip_spec.specs.Fits.{FitsPlaces, IsTaken}
-use Rattle.ip_spec.proofs.FirstLemmas.{before-yes, before-no, count-append, count_yes, count_no, before-none, before-some, after-none, after-some, after_one, counted, none_counted, find_more-yes, find_more-no}
+use Rattle.ip_spec.proofs.FirstLemmas.{before-yes, before-no, count-append, count_yes, count_no, before-none, before-some, after-none, after-some, after_one, counted, none_counted, find_passes, find_more-yes, find_more-no}
 
--- A place that a number has is one of that number's. What each test says of the number is given.
-module _ (m : ℕ) (p : Place) where
-  same_number : (q : Place) → Some q ≡ Some p → number_in q ≡ number_in p
-  same_number q e = let is : q ≡ p = cc in ap number_in is
-
-  tested : (behind a b d f g : Bool) → (a ≡ true → m ≡ 0) → (b ≡ true → m ≡ 43) → (d ≡ true → m ≡ 60) → (f ≡ true → m ≡ 44) → (g ≡ true → m ≡ 51)
-      → (if a then Some hop_by_hop else if b then Some routing else if d then Some (if behind then final_destination else destination) else if f then Some fragment else if g then Some authentication else None) ≡ Some p → m ≡ number_in p
-  tested behind true b d f g is0 is43 is60 is44 is51 e = is0 refl ∙ same_number hop_by_hop e
-  tested behind false true d f g is0 is43 is60 is44 is51 e = is43 refl ∙ same_number routing e
-  tested true false false true f g is0 is43 is60 is44 is51 e = is60 refl ∙ same_number final_destination e
-  tested false false false true f g is0 is43 is60 is44 is51 e = is60 refl ∙ same_number destination e
-  tested behind false false false true g is0 is43 is60 is44 is51 e = is44 refl ∙ same_number fragment e
-  tested behind false false false false true is0 is43 is60 is44 is51 e = is51 refl ∙ same_number authentication e
-  tested behind false false false false false is0 is43 is60 is44 is51 e = absurd (let differ : false ≡ true = ap is_some e in cc)
-
-  pub place_number : (behind : Bool) → place_of m behind ≡ Some p → m ≡ number_in p
-  place_number behind = tested behind (m == 0) (m == 43) (m == 60) (m == 44) (m == 51) (eqb-true m 0) (eqb-true m 43) (eqb-true m 60) (eqb-true m 44) (eqb-true m 51)
+-- a place that a number has is one of that number's
+pub place_number : (m : ℕ) (p : Place) (behind : Bool) → place_of m behind ≡ Some p → m ≡ number_in p
+place_number m p behind e = sym (eqb-true (number_in p) m (find_passes (λ q. number_in q == m) (if behind then final_destination ∷ places else places) p e))
 
 abbrev place_at : ℕ → Place
 place_at zero = hop_by_hop
@@ -66,16 +52,25 @@ each P a fragment = a.1.1.1.0
 each P a authentication = a.1.1.1.1.0
 each P a final_destination = a.1.1.1.1.1.0
 
+-- the place of a number that has just one
+pub in_both : (m : ℕ) (p : Place) → place_of m true ≡ Some p → place_of m false ≡ Some p → (behind : Bool) → place_of m behind ≡ Some p
+in_both m p behind before true = behind
+in_both m p behind before false = before
+
+destination_place : (behind : Bool) → (p : Place) × (place_of 60 behind ≡ Some p)
+destination_place true = (final_destination, refl)
+destination_place false = (destination, refl)
+
 -- an extension number has a place
 pub own_place : (m : ℕ) (behind : Bool) → IsExtensionNumber m → (p : Place) × (place_of m behind ≡ Some p)
 own_place m behind x =
     let P : ℕ → Type 0 = λ k. (p : Place) × (place_of k behind ≡ Some p) in
     elim x [
       | inl r ↦ elim r [
-        | inl e ↦ subst P (sym e) (_, refl)
-        | inr r' ↦ elim r' [ inl e ↦ subst P (sym e) (_, refl) | inr e ↦ subst P (sym e) (_, refl) ]
+        | inl e ↦ subst P (sym e) (_, in_both 0 hop_by_hop refl refl behind)
+        | inr r' ↦ elim r' [ inl e ↦ subst P (sym e) (_, in_both 43 routing refl refl behind) | inr e ↦ subst P (sym e) (destination_place behind) ]
       ]
-      | inr r ↦ elim r [ inl e ↦ subst P (sym e) (_, refl) | inr e ↦ subst P (sym e) (_, refl) ]
+      | inr r ↦ elim r [ inl e ↦ subst P (sym e) (_, in_both 44 fragment refl refl behind) | inr e ↦ subst P (sym e) (_, in_both 51 authentication refl refl behind) ]
     ]
 
 pub is_extension : (p : Place) → IsExtensionNumber (number_in p)
@@ -167,7 +162,10 @@ module _ (c : List ExtHeader) (h : ExtHeader) where
     | none_yet none all nothing b a ↦
         by_side final_destination (a ∙ after_one (is_of routing) h ∙ sym nothing) (λ e. let differ : true ≡ false = sym (final_behind (has_routing c) e) ∙ none in cc)
   ]
-  comes p = by_number p refl of_number
+  comes hop_by_hop = by_number hop_by_hop refl (λ e. of_number e ∙ in_both 0 hop_by_hop refl refl (has_routing c))
+  comes routing = by_number routing refl (λ e. of_number e ∙ in_both 43 routing refl refl (has_routing c))
+  comes fragment = by_number fragment refl (λ e. of_number e ∙ in_both 44 fragment refl refl (has_routing c))
+  comes authentication = by_number authentication refl (λ e. of_number e ∙ in_both 51 authentication refl refl (has_routing c))
 
   pub placed : (q : Place) → place_of h.number (has_routing c) ≡ Some q → header_in q c ≡ None → (p : Place) → header_in p (c ++ h ∷ []) ≡ (if index q == index p then Some h else header_in p c)
   placed q e free p = elim (comes p) [

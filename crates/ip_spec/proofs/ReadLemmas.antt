@@ -60,7 +60,7 @@ module _ (Q : List ExtHeader → Type 0) (k : IsDemand Q) (n : ℕ) (s : List �
     -- where no header goes on with the demand still met, the chain that was read is the longest under it
     pub read_longest_under : HasReadUnder Q n s c m r → IsEndUnder Q c m r → IsLongestUnder Q n s c
     read_longest_under p e =
-        longest_at_end_under Q k n s c (record { has = p.read.prefix_chain; meets = p.meets })
+        longest_at_end_under Q k n s c (p.read.prefix_chain, p.meets)
         (λ h x q. e h (next_here n s c m r h p.read x) q)
 
 module _ (n : ℕ) (s : List ℕ) (c : List ExtHeader) (m : ℕ) (r : List ℕ) where

@@ -1,7 +1,7 @@
 -- What spells a value, what it is read from, and what its walk answers.
 use Rattle.std.proofs.Common.{◌≡◌, ℕ, ◌<◌, List, [], ◌∷◌, ◌++◌, refl, ap, sym, ◌∙◌, arith, inl, inr, subst, append_assoc, Bool, false}
 use Rattle.std.specs.Prelude.{Option, Some, None, is_some, ◌==◌, ◌&&◌, ◌↔◌, if◌then◌else◌}
-use Rattle.std.specs.Option.{option_map}
+use Rattle.std.specs.Option.{option_map, option_map_or}
 use Rattle.std.proofs.lemmas.Bool.{cases_Bool}
 use Rattle.std.proofs.lemmas.Option.{none-some}
 use Rattle.std.proofs.lemmas.List.{append-nil}
@@ -12,10 +12,10 @@ use Rattle.ip_spec.specs.Chain.{ExtHeader, leads_to, bytes_of, IsChain, IsLonges
 use Rattle.ip_spec.specs.Demand.{IsLongestUnder}
 use Rattle.ip_spec.specs.Fits.{FitsPlaces, IsTaken}
 use Rattle.ip_spec.specs.Places.{Place, hop_by_hop, destination, routing, fragment, authentication, final_destination, places, number_in, header_in, fields_of, HeaderFields}
-use Rattle.ip_spec.specs.Encoded.{cleared_chain}
+use Rattle.ip_spec.specs.Encoded.{AreCleared, cleared_chain}
 use Rattle.ip_spec.specs.Encodable.{IsEncodable}
 use Rattle.ip_spec.specs.Parse.{IsRead}
-use Rattle.ip_spec.specs.Walk.{PlacedFields, IsValueOf, IsSpelling, IsReachable, IsReach, unreached, first_filled, WalkAnswer, leads, hop_by_hop_not_at_start, not_referenced, fault_or_number, answer_at, IsWalkAnswer}
+use Rattle.ip_spec.specs.Walk.{PlacedFields, IsValueOf, IsSpelling, IsReachable, IsReach, unreached, first_filled, WalkAnswer, leads, hop_by_hop_not_at_start, not_referenced, answer_at, IsWalkAnswer}
 use Rattle.ip_spec.proofs.FirstLemmas.{none_passes}
 use Rattle.ip_spec.proofs.PrefixLemmas.{prefix_of-append}
 use Rattle.ip_spec.proofs.LongestOfLemmas.{longest_where_none_next}
@@ -33,18 +33,18 @@ use Rattle.ip_spec.proofs.WalkLemmas.{none_if, Next, next_shown, shown_grows, on
 abbrev pub IsReadAs : PlacedFields → ℕ → ℕ → List ℕ → Type 0
 IsReadAs v f m s = IsRead FitsPlaces (λ c. IsValueOf c v) f m s
 
--- A chain that spells v is all that v reaches.
-spelled_shown : (v : PlacedFields) (f : ℕ) (c : List ExtHeader) → IsSpelling v f c → IsReachable v f c
-spelled_shown v f c s = record {
-  chain = s.chain;
-  fits = s.fits;
-  in_value = λ p h e. s.value p ∙ ap (option_map fields_of) e;
-  cleared = s.cleared;
+-- a chain with the value v spells it
+pub value_spelled : (v : PlacedFields) (f : ℕ) (c : List ExtHeader) → IsChain f c → FitsPlaces c → IsValueOf c v → AreCleared c → IsSpelling v f c
+value_spelled v f c chain fits value cleared = record {
+  reachable = record { chain = chain; fits = fits; in_value = λ p h e. value p ∙ ap (option_map fields_of) e; cleared = cleared };
+  value = value;
 }
+
+-- A chain that spells v is all that v reaches.
 
 pub spelling_is_reach : (v : PlacedFields) (f : ℕ) (c : List ExtHeader) → IsSpelling v f c → IsReach v f c
 spelling_is_reach v f c s =
-    longest_where_none_next (IsReachable v f) (shown_grows v f) c (spelled_shown v f c s)
+    longest_where_none_next (IsReachable v f) (shown_grows v f) c s.reachable
     (λ x k.
     let n : Next v f c x = next_shown v f c x k in
     none-some (fields_of x) (sym (s.value n.joins.place ∙ ap (option_map fields_of) n.joins.free) ∙ n.said))
@@ -60,6 +60,10 @@ first_none : (u : PlacedFields) → ((p : Place) → u p ≡ None) → first_fil
 first_none u e = simp (e hop_by_hop, e destination, e routing, e fragment, e authentication, e final_destination)
 
 -- an answer that leads on tells that nothing is left, and the other way round
+-- the answer by what is left: whether hop by hop options are, and the first place
+abbrev fault_or_number : ℕ → Bool → Option Place → WalkAnswer
+fault_or_number m b o = option_map_or (λ p. if (m == 0) && b then hop_by_hop_not_at_start else not_referenced (number_in p)) o (leads m)
+
 leads_told : (m k : ℕ) (b : Bool) (o : Option Place) → leads k ≡ fault_or_number m b o → (o ≡ None) × (m ≡ k)
 leads_told m k b None e = let same : leads k ≡ leads m = e in (refl, let is : k ≡ m = cc in sym is)
 leads_told m k b (Some p) e = elim (cases_Bool ((m == 0) && b)) [
@@ -76,12 +80,7 @@ left_none (Some h) x k e = k h refl
 
 module _ (v : PlacedFields) (f : ℕ) where
   shown_whole : (c : List ExtHeader) → IsReachable v f c → ((p : Place) → unreached v c p ≡ None) → IsSpelling v f c
-  shown_whole c s none = record {
-    chain = s.chain;
-    fits = s.fits;
-    value = λ p. left_none (header_in p c) (v p) (s.in_value p) (none p);
-    cleared = s.cleared;
-  }
+  shown_whole c s none = record { reachable = s; value = λ p. left_none (header_in p c) (v p) (s.in_value p) (none p) }
 
   pub one_answer : (a b : WalkAnswer) → IsWalkAnswer v f a → IsWalkAnswer v f b → a ≡ b
   one_answer a b x y =
@@ -108,19 +107,16 @@ module _ (v : PlacedFields) (f : ℕ) where
 
   -- A chain of bytes spells its value, cleared.
   pub cleared_spells : (c : List ExtHeader) → IsChain f c → FitsPlaces c → AreBytes (bytes_of c) → IsValueOf c v → IsSpelling v f (cleared_chain c)
-  cleared_spells c k fits bytes value = record {
-    chain = cleared_is_chain f c k;
-    fits = cleared_fits c fits;
-    value = λ p. value p ∙ sym (value-cleared p c k.headers);
-    cleared = cleared_are c k.headers bytes;
-  }
+  cleared_spells c k fits bytes value =
+      value_spelled v f (cleared_chain c) (cleared_is_chain f c k) (cleared_fits c fits) (λ p. value p ∙ sym (value-cleared p c k.headers))
+      (cleared_are c k.headers bytes)
 
   pub read_leads : (m : ℕ) (s : List ℕ) → IsReadAs v f m s → IsWalkAnswer v f (leads m)
   read_leads m s r =
       let A : WalkAnswer → Type 0 = IsWalkAnswer v f in
-      let chain = r.longest.has.has.chain in
+      let chain = r.longest.has.0.chain in
       subst A (ap leads (cleared_leads f r.chain chain.headers ∙ r.number))
-      (spelled_leads (cleared_chain r.chain) (cleared_spells r.chain chain r.longest.has.meets (subst AreBytes (sym r.all) r.bytes) r.value))
+      (spelled_leads (cleared_chain r.chain) (cleared_spells r.chain chain r.longest.has.1 (subst AreBytes (sym r.all) r.bytes) r.value))
 
   module _ (e : IsEncodable v) where
     said_bytes : (c : List ExtHeader) (x : ExtHeader) → Next v f c x → AreBytes x.bytes
@@ -147,9 +143,9 @@ module _ (v : PlacedFields) (f : ℕ) where
     -- the value is read from the bytes of the chain that spells it
     pub spelled_whole : (c : List ExtHeader) → IsSpelling v f c → IsReadAs v f (leads_to f c) (bytes_of c)
     spelled_whole c s = record {
-      bytes = shown_bytes c (spelled_shown v f c s);
+      bytes = shown_bytes c s.reachable;
       chain = c;
-      longest = whole_longest_under FitsPlaces fits_places f c s.chain s.fits;
+      longest = whole_longest_under FitsPlaces fits_places f c s.reachable.chain s.reachable.fits;
       value = s.value;
       number = refl;
       all = refl;
@@ -172,7 +168,7 @@ module _ (v : PlacedFields) (f : ℕ) where
 pub spelled_is_read : (v : PlacedFields) (f : ℕ) (c : List ExtHeader) (r : List ℕ) → IsSpelling v f c → (IsExtensionNumber (leads_to f c) → IsTaken (leads_to f c) c) → IsLongestUnder FitsPlaces f (bytes_of c ++ r) c
 spelled_is_read v f c r s taken =
     longest_at_end_under FitsPlaces fits_places f (bytes_of c ++ r) c
-    (record { has = record { chain = s.chain; prefix = prefix_of-append (bytes_of c) r (bytes_of c ++ r) refl }; meets = s.fits })
+    (record { chain = s.reachable.chain; prefix = prefix_of-append (bytes_of c) r (bytes_of c ++ r) refl }, s.reachable.fits)
     (λ h x. (taken (header_number (leads_to f c) h.bytes x.header)).1 h x.number)
 
 -- Writing what was read gives what was read, cleared.
@@ -187,6 +183,6 @@ same_bytes f c d k l e =
 
 pub spelled_alike : (v w : PlacedFields) (f : ℕ) (c d : List ExtHeader) → IsSpelling v f c → IsSpelling w f d → (bytes_of c ≡ bytes_of d) ↔ ((p : Place) → v p ≡ w p)
 spelled_alike v w f c d s t = (
-  (λ e p. s.value p ∙ ap (λ l. option_map fields_of (header_in p l)) (same_bytes f c d s.chain t.chain e) ∙ sym (t.value p)),
-  (λ e. ap bytes_of (one_spelling w f c d (record { chain = s.chain; fits = s.fits; value = λ p. sym (e p) ∙ s.value p; cleared = s.cleared }) t)),
+  (λ e p. s.value p ∙ ap (λ l. option_map fields_of (header_in p l)) (same_bytes f c d s.reachable.chain t.reachable.chain e) ∙ sym (t.value p)),
+  (λ e. ap bytes_of (one_spelling w f c d (value_spelled w f c s.reachable.chain s.reachable.fits (λ p. sym (e p) ∙ s.value p) s.reachable.cleared) t)),
 )

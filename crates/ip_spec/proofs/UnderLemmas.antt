@@ -3,11 +3,11 @@ use Rattle.std.proofs.Common.{◌≡◌, ℕ, ◌≤◌, List, [], ◌∷◌, �
 use Rattle.std.proofs.Math.Seq.{take-length, drop-length}
 use Rattle.ip_spec.specs.Prefix.{IsPrefix}
 use Rattle.ip_spec.specs.Chain.{ExtHeader, leads_to, bytes_of, is_empty, IsChain, IsPrefixChain, IsLongestChain, IsNext}
-use Rattle.ip_spec.specs.Demand.{IsDemand, IsUnder, KeepsBeginning, IsLongestUnder, IsEndUnder, NoDemand}
+use Rattle.ip_spec.specs.Demand.{IsDemand, KeepsBeginning, IsLongestUnder, IsEndUnder, NoDemand}
 use Rattle.ip_spec.proofs.PrefixLemmas.{prefix-length}
 use Rattle.ip_spec.proofs.HeaderLemmas.{header-least}
 use Rattle.ip_spec.proofs.LongestOfLemmas.{Grows, longest_where_none_next, none_next_where_longest, one_longest_of, longest_same}
-use Rattle.ip_spec.proofs.DemandLemmas.{under_grows, some_longest_under_of, longest_under_bounds, longest_where_kept, kept_where_longest}
+use Rattle.ip_spec.proofs.DemandLemmas.{IsUnder, under_grows, some_longest_under_of, longest_under_bounds, longest_where_kept, kept_where_longest}
 use Rattle.ip_spec.proofs.StepLemmas.{next_of, goes_on, chains_grow, chains_decide, chain-bound, no_header_prefix}
 
 module _ (Q : List ExtHeader → Type 0) (k : IsDemand Q) (n : ℕ) (s : List ℕ) where
@@ -15,11 +15,11 @@ module _ (Q : List ExtHeader → Type 0) (k : IsDemand Q) (n : ℕ) (s : List �
   chains_grow_under = under_grows (IsPrefixChain n s) Q (chains_grow n s) k
 
   pub goes_on_under : (c : List ExtHeader) (h : ExtHeader) → IsUnder Q (IsPrefixChain n s) c → IsNext (is_empty c) (leads_to n c) (drop (length (bytes_of c)) s) h → Q (c ++ h ∷ []) → IsUnder Q (IsPrefixChain n s) (c ++ h ∷ [])
-  goes_on_under c h p x q = record { has = goes_on n s c h p.has x; meets = q }
+  goes_on_under c h p x q = (goes_on n s c h p.0 x, q)
 
   -- where no header goes on with the demand still met, the chain is the longest, and the other way round
   pub longest_at_end_under : (c : List ExtHeader) → IsUnder Q (IsPrefixChain n s) c → IsEndUnder Q c (leads_to n c) (drop (length (bytes_of c)) s) → IsLongestUnder Q n s c
-  longest_at_end_under c p e = longest_where_none_next (IsUnder Q (IsPrefixChain n s)) chains_grow_under c p (λ h u. e h (next_of n s c h u.has) u.meets)
+  longest_at_end_under c p e = longest_where_none_next (IsUnder Q (IsPrefixChain n s)) chains_grow_under c p (λ h u. e h (next_of n s c h u.0) u.1)
 
   pub longest_ends_under : (c : List ExtHeader) → IsLongestUnder Q n s c → IsEndUnder Q c (leads_to n c) (drop (length (bytes_of c)) s)
   longest_ends_under c l h x q = none_next_where_longest (IsUnder Q (IsPrefixChain n s)) c l h (goes_on_under c h l.has x q)
@@ -44,7 +44,7 @@ module _ (Q : List ExtHeader → Type 0) (k : IsDemand Q) (n : ℕ) (s : List �
 pub whole_longest_under : (Q : List ExtHeader → Type 0) → IsDemand Q → (n : ℕ) (c : List ExtHeader) → IsChain n c → Q c → IsLongestUnder Q n (bytes_of c) c
 whole_longest_under Q k n c chain q =
     let whole : IsPrefix (bytes_of c) (bytes_of c) = take-length (bytes_of c) in
-    longest_at_end_under Q k n (bytes_of c) c (record { has = record { chain = chain; prefix = whole }; meets = q })
+    longest_at_end_under Q k n (bytes_of c) c (record { chain = chain; prefix = whole }, q)
     (λ h x m. absurd (omega (arith, header-least (leads_to n c) h.bytes x.header, prefix-length h.bytes (drop (length (bytes_of c)) (bytes_of c)) x.prefix, ap length (drop-length (bytes_of c)))))
 
 -- No demand leaves the chains as they are.
@@ -53,7 +53,7 @@ no_demand = record { empty = tt; begins = λ c d q. tt; decided = λ c. inl tt }
 
 module _ (n : ℕ) (s : List ℕ) where
   pub longest_under_none : (c : List ExtHeader) → IsLongestChain n s c → IsLongestUnder NoDemand n s c
-  longest_under_none = longest_same (IsPrefixChain n s) (IsUnder NoDemand (IsPrefixChain n s)) (λ c p. record { has = p; meets = tt }) (λ c u. u.has)
+  longest_under_none = longest_same (IsPrefixChain n s) (IsUnder NoDemand (IsPrefixChain n s)) (λ c p. (p, tt)) (λ c u. u.0)
 
   pub longest_without : (c : List ExtHeader) → IsLongestUnder NoDemand n s c → IsLongestChain n s c
-  longest_without = longest_same (IsUnder NoDemand (IsPrefixChain n s)) (IsPrefixChain n s) (λ c u. u.has) (λ c p. record { has = p; meets = tt })
+  longest_without = longest_same (IsUnder NoDemand (IsPrefixChain n s)) (IsPrefixChain n s) (λ c u. u.0) (λ c p. (p, tt))

@@ -11,11 +11,6 @@ pub record IsDemand {X : Type 0} (Q : List X → Type 0) : Type 0 where
   pub begins : (c d : List X) → Q (c ++ d) → Q c
   pub decided : (c : List X) → Q c ⊎ (Q c → ⊥)
 
--- c has the property P and meets the demand Q
-pub record IsUnder {X : Type 0} (Q P : List X → Type 0) (c : List X) : Type 0 where
-  pub has : P c
-  pub meets : Q c
-
 -- behind c, the first of `rest` breaks the demand Q, where there is a first
 abbrev pub NextBreaks : {X : Type 0} → (List X → Type 0) → List X → List X → Type 0
 NextBreaks Q c [] = ⊤
@@ -31,7 +26,7 @@ pub record KeepsBeginning {X : Type 0} (Q : List X → Type 0) (d c : List X) : 
 
 -- the chain from n that begins s and meets the demand Q and is longer than every other such chain
 abbrev pub IsLongestUnder : (List ExtHeader → Type 0) → ℕ → List ℕ → List ExtHeader → Type 0
-IsLongestUnder Q n s c = IsLongestOf (IsUnder Q (IsPrefixChain n s)) c
+IsLongestUnder Q n s c = IsLongestOf (λ d. IsPrefixChain n s d × Q d) c
 
 -- behind c, no header goes on with number m at bytes r with which the demand Q is still met
 abbrev pub IsEndUnder : (List ExtHeader → Type 0) → List ExtHeader → ℕ → List ℕ → Type 0

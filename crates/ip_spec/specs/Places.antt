@@ -1,5 +1,5 @@
 -- The six places for the headers of an IPv6 chain (RFC 8200, section 4.1), and the fields in each.
-use Rattle.std.specs.Prelude.{ℕ, List, [], ◌∷◌, Bool, false, ◌&&◌, ◌==◌, not, Option, Some, None, is_some, if◌then◌else◌}
+use Rattle.std.specs.Prelude.{ℕ, List, [], ◌∷◌, Bool, false, ◌&&◌, ◌==◌, not, Option, is_some, if◌then◌else◌}
 use Rattle.std.specs.List.{find, before_first, after_first}
 use Rattle.std.specs.Option.{option_map_or}
 use Rattle.ip_spec.specs.Numbers.{HOP_BY_HOP, ROUTING, FRAGMENT, AUTHENTICATION, DESTINATION_OPTIONS}
@@ -61,13 +61,7 @@ fields_of h =
 
 -- the place of a header of number m, behind a routing header or not
 abbrev pub place_of : ℕ → Bool → Option Place
-place_of m behind_routing =
-    if m == HOP_BY_HOP then Some hop_by_hop
-    else if m == ROUTING then Some routing
-    else if m == DESTINATION_OPTIONS then Some (if behind_routing then final_destination else destination)
-    else if m == FRAGMENT then Some fragment
-    else if m == AUTHENTICATION then Some authentication
-    else None
+place_of m behind_routing = find (λ p. number_in p == m) (if behind_routing then final_destination ∷ places else places)
 
 -- whether m isn't 0 and its place behind the chain c is filled
 abbrev pub is_taken : ℕ → List ExtHeader → Bool

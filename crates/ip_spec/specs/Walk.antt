@@ -1,7 +1,7 @@
 -- What a value of six places spells, what of it is reached from a number, and what the walk answers.
-use Rattle.std.specs.Prelude.{◌≡◌, ℕ, List, Bool, ◌==◌, ◌&&◌, Option, Some, None, is_some, if◌then◌else◌}
+use Rattle.std.specs.Prelude.{◌≡◌, ℕ, List, ◌==◌, ◌&&◌, Option, Some, None, is_some, if◌then◌else◌}
 use Rattle.std.specs.List.{find}
-use Rattle.std.specs.Option.{option_map, ForSome}
+use Rattle.std.specs.Option.{option_map, option_map_or, ForSome}
 use Rattle.ip_spec.specs.Numbers.{HOP_BY_HOP}
 use Rattle.ip_spec.specs.LongestOf.{IsLongestOf}
 use Rattle.ip_spec.specs.Chain.{ExtHeader, IsChain, leads_to}
@@ -17,13 +17,6 @@ PlacedFields = Place → Option HeaderFields
 abbrev pub IsValueOf : List ExtHeader → PlacedFields → Type 0
 IsValueOf c v = (p : Place) → v p ≡ option_map fields_of (header_in p c)
 
--- The chain c from f spells v: it fits the places, its value is v, and its reserved bits are zero.
-pub record IsSpelling (v : PlacedFields) (f : ℕ) (c : List ExtHeader) : Type 0 where
-  pub chain : IsChain f c
-  pub fits : FitsPlaces c
-  pub value : IsValueOf c v
-  pub cleared : AreCleared c
-
 -- The chain c from f is reachable in v: it fits the places, each of its headers has the fields that v has in that
 -- header's place, and its reserved bits are zero.
 pub record IsReachable (v : PlacedFields) (f : ℕ) (c : List ExtHeader) : Type 0 where
@@ -31,6 +24,11 @@ pub record IsReachable (v : PlacedFields) (f : ℕ) (c : List ExtHeader) : Type 
   pub fits : FitsPlaces c
   pub in_value : (p : Place) → ForSome (header_in p c) (λ h. v p ≡ Some (fields_of h))
   pub cleared : AreCleared c
+
+-- The chain c from f spells v: it is reachable in v, and v has nothing else.
+pub record IsSpelling (v : PlacedFields) (f : ℕ) (c : List ExtHeader) : Type 0 where
+  pub reachable : IsReachable v f c
+  pub value : IsValueOf c v
 
 -- what v reaches from f: the longest chain that is reachable in it
 abbrev pub IsReach : PlacedFields → ℕ → List ExtHeader → Type 0
@@ -50,16 +48,12 @@ pub data WalkAnswer : Type 0 where
   hop_by_hop_not_at_start : WalkAnswer
   not_referenced : ℕ → WalkAnswer
 
-abbrev pub fault_or_number : ℕ → Bool → Option Place → WalkAnswer
-fault_or_number m hop_by_hop_left None = leads m
-fault_or_number m hop_by_hop_left (Some p) =
-    if (m == HOP_BY_HOP) && hop_by_hop_left then hop_by_hop_not_at_start
-    else not_referenced (number_in p)
-
 -- The answer where the reach leads to m and leaves u, by the first test that holds: nothing is left; m is 0 and
 -- hop by hop options are left; else the first header left isn't referenced.
 abbrev pub answer_at : ℕ → PlacedFields → WalkAnswer
-answer_at m u = fault_or_number m (is_some (u hop_by_hop)) (first_filled u)
+answer_at m u =
+    option_map_or (λ p. if (m == HOP_BY_HOP) && is_some (u hop_by_hop) then hop_by_hop_not_at_start else not_referenced (number_in p))
+    (first_filled u) (leads m)
 
 -- a is the answer of the walk through v from f
 pub record IsWalkAnswer (v : PlacedFields) (f : ℕ) (a : WalkAnswer) : Type 0 where

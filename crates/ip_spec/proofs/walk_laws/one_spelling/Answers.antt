@@ -9,4 +9,4 @@ pub returns-clause-alike : goal.returns-clause-alike
 returns-clause-alike c = spelling.spelled_alike
 
 pub returns-clause-len : goal.returns-clause-len
-returns-clause-len c = λ v f d s. bytes_len v f d s.chain s.fits s.value
+returns-clause-len c = λ v f d s. bytes_len v f d s.reachable.chain s.reachable.fits s.value

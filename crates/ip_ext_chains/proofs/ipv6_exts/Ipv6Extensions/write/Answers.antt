@@ -1,6 +1,7 @@
-use Rattle.std.proofs.Common.{arith, ap, length, vec_capacity}
+use Rattle.std.proofs.Common.{◌≡◌, subst, arith, ap, length, vec_capacity}
 use Rattle.ip_spec.specs.Walk.{leads}
 use Rattle.ip_ext_chains.specs.Ipv6Extensions.{placed_fields}
+use Rattle.ip_ext_chains.specs.Write.{IsWalkFault}
 use Rattle.ip_ext_chains.proofs.PlacedFieldsLemmas.{exts_sum}
 use Rattle.ip_ext_chains.proofs.WalkedLemmas.{left_len, written_none, written_in, written_room, written_more, written_answer, written_reach, step_less, step_len}
 use Rattle.ip_ext_chains.proofs.WriteLemmas.{all_written, fault_written, written_len, written_again, written_whole, written_cleared, written_alike}
@@ -79,10 +80,12 @@ pub returns-in-Err-answer-clause-capacity : goal.returns-in-Err-answer-clause-ca
 returns-in-Err-answer-clause-capacity g c = c.headers.invariant.1
 
 pub returns-in-Err-answer-clause-content : goal.returns-in-Err-answer-clause-content
-returns-in-Err-answer-clause-content g c =
+returns-in-Err-answer-clause-content g c = λ fault e.
     let k = c.headers.invariant.0 in
     let s = c.in_default-next.ensures.none in
-    fault_written c.args.self.now c.args.first.0 c.args.out.now.items c.headers.out.items c.in-Err-answer.fault k.reached
+    let same : c.in-Err-answer.fault ≡ fault = cc in
+    subst (IsWalkFault c.args.self.now c.args.first.0 c.args.out.now.items c.headers.out.items) same
+    (fault_written c.args.self.now c.args.first.0 c.args.out.now.items c.headers.out.items c.in-Err-answer.fault k.reached
     (written_reach _ _ c.headers.walk c.next.new.self _ _ _ k s)
     (written_answer _ _ c.headers.walk c.next.new.self _ _ _ _ k s c.in-Err-answer.ensures)
-    k.appended
+    k.appended)

@@ -1,7 +1,7 @@
 use Rattle.std.proofs.Common.{[], sym, arith, ◌∙◌, subst}
 use Rattle.std.proofs.lemmas.List.{append-nil, append_cancel_left}
 use Rattle.ip_spec.specs.Encoding.{IsAuthEncoding}
-use Rattle.ip_ext_ipv4.proofs.Ipv4WalkLemmas.{one_ipv4_encoding, one_ipv4_encoded, none_encodes, none_read_again, none_read_whole, one_encodes, one_read_again, one_read_whole}
+use Rattle.ip_ext_ipv4.proofs.Ipv4WalkLemmas.{one_ipv4_encoding, one_ipv4_encoded, none_encodes, none_read_again, none_read_whole, encoding_bytes, one_encodes, one_read_again, one_read_whole}
 use Rattle.ip_ext_ipv4.proofs.ipv4_exts.Ipv4Extensions.write.Goals as goal
 
 pub returns-in_default-clause-ok : goal.returns-in_default-clause-ok
@@ -15,7 +15,7 @@ returns-in_default-clause-read_whole g c = λ b m appended. none_read_whole _ m 
 
 pub returns-in-Ok-clause-ok : goal.returns-in-Ok-clause-ok
 returns-in-Ok-clause-ok g c =
-    let (b, encodes, appended) = c.in-Ok.ensures.ok in (b, one_encodes _ _ _ b (grind arith) c.in-Some.is encodes, appended)
+    let (b, encodes, appended) = c.in-Ok.ensures.ok in (b, one_encodes _ _ _ b (grind arith) c.in-Some.is (encoding_bytes _ b c.encodable.ensures encodes) encodes, appended)
 
 pub returns-in-Ok-clause-read_again : goal.returns-in-Ok-clause-read_again
 returns-in-Ok-clause-read_again g c = λ b r m appended walk other.

@@ -7,3 +7,4 @@ pub mod outcomes;
 pub mod packet_outcomes;
 pub mod packet_pins;
 pub mod pins;
+pub mod read_outcomes;

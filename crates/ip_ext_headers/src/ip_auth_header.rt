@@ -166,6 +166,7 @@ impl IpAuthHeader {
     /// Reads a header: 12 bytes, then the check value, of which they tell the length, and no byte beyond.
     /// `Content` tells that the length field is 0; then the 12 bytes were taken. `Io` is the reader's error; after
     /// it nothing is known of what was taken.
+    #[inline(always)]
     pub fn read<T: ExactRead>(reader: &mut T) -> Result<IpAuthHeader, HeaderReadError>
         ensures header { IfOk result (IsHeaderTaken IsAuthHeader auth_fields
             (Consumes (T.bytes_left reader.old) (T.bytes_left reader.new))) }
@@ -187,8 +188,9 @@ impl IpAuthHeader {
         if payload_len == 0 {
             return Err(HeaderReadError::Content(HeaderError::ZeroPayloadLen));
         }
-        let mut raw_icv = Self::zero_icv(4 * usize::from(payload_len - 1));
-        match reader.read_exact(raw_icv.as_mut_slice()) {
+        let mut buffer = [0; Self::MAX_ICV_LEN];
+        let raw_icv = &mut buffer[..4 * usize::from(payload_len - 1)];
+        match reader.read_exact(raw_icv) {
             Ok(()) => Ok(Self::of_parts(start, raw_icv)),
             Err(e) => Err(HeaderReadError::Io(e)),
         }
@@ -197,6 +199,7 @@ impl IpAuthHeader {
     /// Reads a header within a limit, as `read` does of the bytes that may still be read. It starts the layer
     /// `IpAuthHeader`. `Len` tells the first request that the limit doesn't leave, which took nothing; `Content`
     /// and `Io` are those of `read`. In all, `read_len` is what came of the header before.
+    #[inline(always)]
     pub fn read_limited<T: ExactRead>(
         reader: &mut LimitedReader<T>,
     ) -> Result<IpAuthHeader, HeaderLimitedReadError>
@@ -222,41 +225,28 @@ impl IpAuthHeader {
         if payload_len == 0 {
             return Err(HeaderLimitedReadError::Content(HeaderError::ZeroPayloadLen));
         }
-        let mut raw_icv = Self::zero_icv(4 * usize::from(payload_len - 1));
-        match reader.read_exact(raw_icv.as_mut_slice()) {
+        let mut buffer = [0; Self::MAX_ICV_LEN];
+        let raw_icv = &mut buffer[..4 * usize::from(payload_len - 1)];
+        match reader.read_exact(raw_icv) {
             Ok(()) => Ok(Self::of_parts(start, raw_icv)),
             Err(e) => Err(HeaderLimitedReadError::of_limited(e)),
         }
     }
 
-    /// Zeros, to be read over.
-    #[inline(always)]
-    fn zero_icv(len: usize) -> ArrayVec<u8, 1016>
-        requires { len ≤ 1016 }
-        ensures { length result.items ≡ len }
-    {
-        let mut zeros = ArrayVec::from([0; Self::MAX_ICV_LEN]);
-        zeros.truncate(len);
-        zeros
-    }
-
     /// The header with these bytes before its check value.
     #[inline(always)]
-    fn of_parts(start: [u8; 12], raw_icv: ArrayVec<u8, 1016>) -> IpAuthHeader
-        requires { IsIcvLen (length raw_icv.items) }
+    fn of_parts(start: [u8; 12], raw_icv: &[u8]) -> IpAuthHeader
+        requires { IsIcvLen (length raw_icv.now) }
         ensures { result ≡ record {
           next_header = fields.next_header start;
           spi = fields.spi start;
           sequence_number = fields.sequence_number start;
-          raw_icv = raw_icv.items;
+          raw_icv = raw_icv.now;
         } }
     {
-        IpAuthHeader {
-            next_header: IpNumber(start[0]),
-            spi: u32::from_be_bytes([start[4], start[5], start[6], start[7]]),
-            sequence_number: u32::from_be_bytes([start[8], start[9], start[10], start[11]]),
-            raw_icv,
-        }
+        let spi = u32::from_be_bytes([start[4], start[5], start[6], start[7]]);
+        let sequence_number = u32::from_be_bytes([start[8], start[9], start[10], start[11]]);
+        Self::with_icv(IpNumber(start[0]), spi, sequence_number, raw_icv)
     }
 
     /// The integrity check value with its padding, 0 to 1016 bytes.

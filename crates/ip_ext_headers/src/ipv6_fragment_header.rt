@@ -100,6 +100,7 @@ impl Ipv6FragmentHeader {
 
     /// Reads a header: 8 bytes, and no byte beyond. The error is the reader's; after it nothing is known of what
     /// was taken.
+    #[inline(always)]
     pub fn read<T: ExactRead>(reader: &mut T) -> io::Result<Ipv6FragmentHeader>
         ensures header { IfOk result (IsHeaderTaken IsFragmentHeader fragment_fields
             (Consumes (T.bytes_left reader.old) (T.bytes_left reader.new))) }
@@ -118,6 +119,7 @@ impl Ipv6FragmentHeader {
     /// Reads a header within a limit, as `read` does of the bytes that may still be read. It starts the layer
     /// `Ipv6FragHeader`. `Len` tells that the limit doesn't leave 8 bytes, and none were taken; `Io` is the
     /// reader's error. After both `read_len` is 0.
+    #[inline(always)]
     pub fn read_limited<T: ExactRead>(
         reader: &mut LimitedReader<T>,
     ) -> Result<Ipv6FragmentHeader, LimitedReadError>

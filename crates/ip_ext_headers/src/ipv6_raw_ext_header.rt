@@ -145,6 +145,7 @@ impl Ipv6RawExtHeader {
 
     /// Reads a header: 2 bytes, then as many as the second of them tells, and no byte beyond. The error is the
     /// reader's; after it nothing is known of what was taken.
+    #[inline(always)]
     pub fn read<T: ExactRead>(reader: &mut T) -> io::Result<Ipv6RawExtHeader>
         ensures header { IfOk result (IsHeaderTaken IsRawHeader raw_fields
             (Consumes (T.bytes_left reader.old) (T.bytes_left reader.new))) }
@@ -156,20 +157,24 @@ impl Ipv6RawExtHeader {
             (T.bytes_left reader.old) (T.has_failed reader.new)) }
     {
         let mut start = [0; 2];
-        reader.read_exact(&mut start)?;
+        match reader.read_exact(&mut start) {
+            Ok(()) => {}
+            Err(e) => return Err(e),
+        }
         let [next_header, hdr_ext_len] = start;
         let len = 8 * usize::from(hdr_ext_len) + 6;
-        let mut payload = Self::zero_payload(len);
-        reader.read_exact(payload.as_mut_slice())?;
-        Ok(Ipv6RawExtHeader {
-            next_header: IpNumber(next_header),
-            payload,
-        })
+        let mut buffer = [0; Self::MAX_PAYLOAD_LEN];
+        let payload = &mut buffer[..len];
+        match reader.read_exact(payload) {
+            Ok(()) => Ok(Self::with_payload(IpNumber(next_header), payload)),
+            Err(e) => Err(e),
+        }
     }
 
     /// Reads a header within a limit, as `read` does of the bytes that may still be read. It starts the layer
     /// `Ipv6ExtHeader`. `Len` tells the first request that the limit doesn't leave, which took nothing; `Io` is
     /// the reader's error. In both, `read_len` is what came of the header before.
+    #[inline(always)]
     pub fn read_limited<T: ExactRead>(
         reader: &mut LimitedReader<T>,
     ) -> Result<Ipv6RawExtHeader, LimitedReadError>
@@ -185,25 +190,17 @@ impl Ipv6RawExtHeader {
     {
         reader.start_layer(Layer::Ipv6ExtHeader);
         let mut start = [0; 2];
-        reader.read_exact(&mut start)?;
+        match reader.read_exact(&mut start) {
+            Ok(()) => {}
+            Err(e) => return Err(e),
+        }
         let [next_header, hdr_ext_len] = start;
-        let mut payload = Self::zero_payload(8 * usize::from(hdr_ext_len) + 6);
-        reader.read_exact(payload.as_mut_slice())?;
-        Ok(Ipv6RawExtHeader {
-            next_header: IpNumber(next_header),
-            payload,
-        })
-    }
-
-    /// Zeros, to be read over.
-    #[inline(always)]
-    fn zero_payload(len: usize) -> ArrayVec<u8, 2046>
-        requires { len ≤ 2046 }
-        ensures { length result.items ≡ len }
-    {
-        let mut zeros = ArrayVec::from([0; Self::MAX_PAYLOAD_LEN]);
-        zeros.truncate(len);
-        zeros
+        let mut buffer = [0; Self::MAX_PAYLOAD_LEN];
+        let payload = &mut buffer[..8 * usize::from(hdr_ext_len) + 6];
+        match reader.read_exact(payload) {
+            Ok(()) => Ok(Self::with_payload(IpNumber(next_header), payload)),
+            Err(e) => Err(e),
+        }
     }
 
     /// What follows the number and the length, 6 to 2046 bytes.

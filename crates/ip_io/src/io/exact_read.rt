@@ -45,6 +45,7 @@ impl ExactRead for &[u8] {
     ghost steady_tells = { Prim.search rules };
 
     /// Refuses with the kind `UnexpectedEof`, and then the slice is as it was.
+    #[inline(always)]
     fn read_exact(&mut self, buf: &mut [u8]) -> io::Result<()>
         ensures takes { OnOk result (Consumes (Some self.old.now) (Some self.new.now) buf.new) }
         ensures kept { OnOk result (false ≡ false) }
@@ -57,11 +58,21 @@ impl ExactRead for &[u8] {
     {
         let all: &[u8] = *self;
         if all.len() < buf.len() {
-            return Err(io::Error::from(ErrorKind::UnexpectedEof));
+            return Err(too_few());
         }
         let (front, rest) = all.split_at(buf.len());
         buf.copy_from_slice(front);
         *self = rest;
         Ok(())
     }
+}
+
+/// The error where too few bytes are left. It is put together apart: in place, its parts are moved one by one, and
+/// with them whatever the caller answers.
+#[cold]
+#[inline(never)]
+fn too_few() -> io::Error
+    ensures { error_kind result ≡ ErrorKind.UnexpectedEof }
+{
+    io::Error::from(ErrorKind::UnexpectedEof)
 }

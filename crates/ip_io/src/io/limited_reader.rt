@@ -95,6 +95,7 @@ impl<T> LimitedReader<T> {
     }
 
     /// Begins a layer behind what was read. What may still be read stays the same.
+    #[inline(always)]
     pub fn start_layer(&mut self, layer: Layer)
         ensures reader { inner_of self.new ≡ inner_of self.old }
         ensures limits { limits_of self.new ≡ started layer (limits_of self.old) }
@@ -116,11 +117,12 @@ impl<T> LimitedReader<T> {
 }
 
 impl<T: ExactRead> LimitedReader<T> {
-    ghost use Rattle.ip_io.specs.Limits.{left, advanced};
+    ghost use Rattle.ip_io.specs.Limits.{left, advanced, limit_error};
     ghost use Rattle.ip_io.specs.LimitedReader.{inner_of, limits_of, IsLimitedRefusal};
 
     /// Fills the buffer with the first bytes not yet read. `Len` tells that the limit doesn't leave that many;
     /// then nothing has moved. `Io` tells that the inner reader refused; then `read_len` is as it was.
+    #[inline(always)]
     pub fn read_exact(&mut self, buf: &mut [u8]) -> Result<(), LimitedReadError>
         requires { (limits_of self.old).read_len + length buf.old < 2 ^ 64 }
         ensures takes { OnOk result (Consumes (T.bytes_left (inner_of self.old))
@@ -136,13 +138,7 @@ impl<T: ExactRead> LimitedReader<T> {
         ensures stays { OnErr result (limits_of self.new ≡ limits_of self.old) }
     {
         if self.max_len - self.read_len < buf.len() {
-            return Err(LimitedReadError::Len(LenError {
-                required_len: self.read_len + buf.len(),
-                len: self.max_len,
-                len_source: self.len_source,
-                layer: self.layer,
-                layer_start_offset: self.layer_offset,
-            }));
+            return Err(LimitedReadError::Len(self.past_limit(buf.len())));
         }
         match self.reader.read_exact(buf) {
             Ok(()) => {
@@ -150,6 +146,23 @@ impl<T: ExactRead> LimitedReader<T> {
                 Ok(())
             }
             Err(e) => Err(LimitedReadError::Io(e)),
+        }
+    }
+
+    /// The error of a request for this many bytes, which the limit doesn't leave. It is put together apart, as a
+    /// slice's is.
+    #[cold]
+    #[inline(never)]
+    fn past_limit(&self, count: usize) -> LenError
+        requires { (limits_of self.now).read_len + count < 2 ^ 64 }
+        ensures { result ≡ limit_error count (limits_of self.now) }
+    {
+        LenError {
+            required_len: self.read_len + count,
+            len: self.max_len,
+            len_source: self.len_source,
+            layer: self.layer,
+            layer_start_offset: self.layer_offset,
         }
     }
 }

@@ -1,6 +1,6 @@
 # `make run` answers the lines of standard input; `make try` answers some lines within seconds, with checks as they
-# run in place of proofs, which it tells on standard error; `make test` holds the listed contracts against the
-# code, tries the program and passes the merge gate;
+# run in place of proofs, which it tells on standard error; `make test` holds the listed contracts and the
+# listed errors against the code, tries the program and passes the merge gate;
 # `make mutants` tries the mutants of mutants/ (CRATE=NAME: those of one crate; ONLY=WORD: those whose names
 # have the word). `make bench` measures and `make diff` compares against etherparse 0.19.0; `make diff-test` tests
 # the comparison. These three take CARGO_FLAGS="..", further flags for Cargo, as one that says where the crate lies
@@ -27,6 +27,7 @@ test:
 	$(RT_IS_THERE)
 	$(PYTHON_IS_THERE)
 	scripts/check-calling
+	scripts/check-errors
 	scripts/test-main
 	rt ci
 

@@ -1,6 +1,7 @@
 //! Answers of etherparse 0.19.0 to lines of the tool, over single headers and over reads, what to ask with, and
 //! what is compared.
 pub mod bad_lines;
+pub mod before;
 pub mod chains;
 pub mod compare;
 pub mod faults;

@@ -2,6 +2,12 @@ pub mod LenSources
 pub mod Packet
 pub mod Fault
 pub mod Cut
+pub mod PacketCause
+pub mod HeadersError
+pub mod HeadersSliceError
+pub mod IpSliceError
+pub mod Ipv4SliceError
+pub mod Ipv6SliceError
 pub mod Ipv4Slice
 pub mod Ipv6Slice
 pub mod IpSlice

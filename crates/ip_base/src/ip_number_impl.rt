@@ -1,8 +1,10 @@
 ghost use Rattle.std.specs.Prelude.{◌≡◌};
 
+use std::fmt;
+
 /// A protocol number, as the protocol field of IPv4 and the next header fields of IPv6 and its
 /// extension headers hold it (RFC 8200, section 3).
-#[derive(Clone, Copy, Debug, PartialEq, Eq, Hash)]
+#[derive(Clone, Copy, PartialEq, Eq, Hash)]
 pub struct IpNumber(pub u8);
 
 impl IpNumber {
@@ -26,6 +28,22 @@ impl IpNumber {
 
     /// IPv6 destination options.
     pub const IPV6_DESTINATION_OPTIONS: IpNumber = IpNumber(60);
+}
+
+/// The number in decimal, and behind that of an extension header its name in brackets: `44 (IPv6-Frag - Fragment
+/// Header for IPv6)`.
+impl fmt::Debug for IpNumber {
+    fn fmt<W: fmt::Write>(&self, f: &mut fmt::Formatter<W>) -> fmt::Result {
+        let name = match self.0 {
+            0 => "HOPOPT - IPv6 Hop-by-Hop Option",
+            43 => "IPv6-Route - Routing Header for IPv6",
+            44 => "IPv6-Frag - Fragment Header for IPv6",
+            51 => "AH - Authentication Header",
+            60 => "IPv6-Opts - Destination Options for IPv6",
+            _ => return write!(f, "{}", self.0),
+        };
+        write!(f, "{} ({name})", self.0)
+    }
 }
 
 impl From<u8> for IpNumber {

@@ -15,13 +15,13 @@ use Rattle.ip_ext_chains.specs.Walk.{walk_answer}
 use Rattle.ip_ext_chains.specs.Write.{IsWalkFault}
 use Rattle.ip_ext_chains.specs.WriteError.{io_of}
 use Rattle.ip_ext_chains.specs.declared.ipv6_exts.Ipv6Extensions.{Ipv6Extensions}
-use Rattle.ip_ext_chains.specs.declared.err.ipv6_exts.exts_walk_error.ExtsWalkError.{ExtsWalkError}
-use Rattle.ip_ext_chains.specs.declared.err.ipv6_exts.exts_walk_error.ExtsWalkError.TheVariants.{HopByHopNotAtStart, ExtNotReferenced}
+use Rattle.ip_ext_errors.specs.declared.ipv6_exts.exts_walk_error.ExtsWalkError.{ExtsWalkError}
+use Rattle.ip_ext_errors.specs.declared.ipv6_exts.exts_walk_error.ExtsWalkError.TheVariants.{HopByHopNotAtStart, ExtNotReferenced}
 use Rattle.ip_ext_chains.specs.declared.err.ipv6_exts.header_write_error.HeaderWriteError.{HeaderWriteError}
 use Rattle.ip_ext_chains.specs.declared.err.ipv6_exts.header_write_error.HeaderWriteError.TheVariants.{Io, Content}
 
 -- a fault doesn't lead on
-no_fault : (e : ExtsWalkError) (m : ℕ) → walk_answer (Err e) ≡ leads m → ⊥
+pub no_fault : (e : ExtsWalkError) (m : ℕ) → walk_answer (Err e) ≡ leads m → ⊥
 no_fault HopByHopNotAtStart m k = let no : hop_by_hop_not_at_start ≡ leads m = k in cc
 no_fault (ExtNotReferenced n) m k = let no : not_referenced n.0 ≡ leads m = k in cc
 

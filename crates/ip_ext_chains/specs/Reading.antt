@@ -17,7 +17,7 @@ use Rattle.ip_io.specs.LimitedReader.{inner_of, limits_of, window}
 use Rattle.ip_io.specs.Reading.{IsRefused, IsTakenInLayer, IsPastLimit, IsRefusedWithin}
 use Rattle.ip_io.specs.declared.io.limited_reader.LimitedReader.{LimitedReader}
 use Rattle.ip_ext_headers.specs.AuthReading.{IsZeroTaken}
-use Rattle.ip_ext_slices.specs.declared.err.ipv6_exts.header_error.HeaderError.TheVariants.{HopByHopNotAtStart, IpAuth}
+use Rattle.ip_ext_errors.specs.declared.ipv6_exts.header_error.HeaderError.TheVariants.{HopByHopNotAtStart, IpAuth}
 use Rattle.ip_ext_chains.specs.Fitting.{IsFittingAnswer}
 use Rattle.ip_ext_chains.specs.Ipv6Extensions.{placed_fields}
 use Rattle.ip_ext_chains.specs.declared.ipv6_exts.Ipv6Extensions.{Ipv6Extensions}

@@ -2,6 +2,9 @@ pub mod Fault
 pub mod LengthFault
 pub mod Equal
 pub mod AuthReading
+pub mod AuthSliceError
+pub mod AuthReadError
+pub mod AuthLimitedReadError
 pub mod IpAuthHeaderSlice
 pub mod Ipv6FragmentHeaderSlice
 pub mod Ipv6RawExtHeaderSlice

@@ -2,7 +2,7 @@
 use Rattle.std.proofs.Common.{◌≡◌, ◌≢◌, ℕ, List, [], ◌++◌, length, drop, refl, sym, ap, ◌∙◌, subst, Bool, true, false}
 use Rattle.std.specs.Prelude.{Option, Some, None, IfSome}
 use Rattle.ip_io.specs.ExactRead.{IfSteady}
-use Rattle.ip_ext_headers.specs.declared.err.ip_auth.header_error.HeaderError.{HeaderError}
+use Rattle.ip_ext_errors.specs.declared.ip_auth.header_error.HeaderError.{HeaderError}
 use Rattle.std.proofs.lemmas.Bool.{ne_eqb}
 use Rattle.std.proofs.lemmas.List.{append-nil}
 use Rattle.std.proofs.Math.Seq.{drop-append_seam}

@@ -23,8 +23,8 @@ use Rattle.ip_spec.proofs.DemandKinds.{one_of_first, one_of_none}
 use Rattle.ip_spec.proofs.PrefixLemmas.{prefix_of-append, prefix-length}
 use Rattle.ip_spec.proofs.HeaderLemmas.{auth_of}
 use Rattle.ip_spec.proofs.EncodingLemmas.{auth_only, cleared_auth_encodes}
-use Rattle.ip_ext_ipv4.specs.declared.err.ipv4_exts.exts_walk_error.ExtsWalkError.{ExtsWalkError}
-use Rattle.ip_ext_ipv4.specs.declared.err.ipv4_exts.exts_walk_error.ExtsWalkError.TheVariants.{ExtNotReferenced}
+use Rattle.ip_ext_errors.specs.declared.ipv4_exts.exts_walk_error.ExtsWalkError.{ExtsWalkError}
+use Rattle.ip_ext_errors.specs.declared.ipv4_exts.exts_walk_error.ExtsWalkError.TheVariants.{ExtNotReferenced}
 use Rattle.ip_ext_ipv4.specs.Ipv4Longest.{longest_ipv4_chain}
 use Rattle.ip_ext_ipv4.specs.Ipv4Parse.{ipv4_value, IsIpv4Answer}
 use Rattle.ip_ext_ipv4.specs.Ipv4Fault.{ipv4_faults}

@@ -1,5 +1,6 @@
 pub mod Longest
 pub mod Fault
+pub mod SliceError
 pub mod Parse
 pub mod StartNumber
 pub mod Ipv6ExtensionSlice

@@ -1,4 +1,5 @@
 pub mod ExactRead
+pub mod LimitedReadError
 pub mod OverRead
 pub mod Limits
 pub mod LimitedReader

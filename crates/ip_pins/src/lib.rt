@@ -1,10 +1,6 @@
-//! Pins of what no contract says, constants and impls; and callers for each clause that speaks of one outcome of a
-//! call alone.
+//! Pins of what no contract says: constants, impls and paths.
 #![tactic(auto)]
 
-pub mod chain_outcomes;
-pub mod outcomes;
-pub mod packet_outcomes;
 pub mod packet_pins;
+pub mod paths;
 pub mod pins;
-pub mod read_outcomes;

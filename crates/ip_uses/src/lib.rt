@@ -3,6 +3,7 @@
 
 pub mod base;
 pub mod chains;
+pub mod from_etherparse;
 pub mod headers;
 pub mod ipv4;
 pub mod packets;

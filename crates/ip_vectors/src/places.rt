@@ -353,3 +353,23 @@ fn six_places_cut_at_each_byte(rt: HostRuntime) -> Result<(), Fail> {
     }
     Ok(())
 }
+
+#[test]
+fn routing_headers_are_as_long_as_their_parts(rt: HostRuntime) -> Result<(), Fail> {
+    let zeros = [0u8; 2046];
+    let rows = [
+        (&zeros[..6], &zeros[..14], 8, 24),
+        (&zeros[..2046], &zeros[..6], 2048, 2056),
+        (&zeros[..2046], &zeros[..2046], 2048, 4096),
+    ];
+    for (routing, options, alone, both) in rows {
+        let mut headers = Ipv6RoutingExtensions {
+            routing: Ipv6RawExtHeader::new_raw(IpNumber(60), routing)?,
+            final_destination_options: None,
+        };
+        assert_eq!(rt; headers.header_len(), alone);
+        headers.final_destination_options = Some(Ipv6RawExtHeader::new_raw(IpNumber(17), options)?);
+        assert_eq!(rt; headers.header_len(), both);
+    }
+    Ok(())
+}

@@ -1,10 +1,14 @@
 //! Errors of packets, and those of the crates below under the original's paths.
 pub mod ip;
+pub mod ip_exts;
 pub mod ipv4;
 pub mod ipv4_exts;
 pub mod ipv6;
 pub mod ipv6_exts;
+mod packet_source;
 
 pub use ip_base::err::{Layer, LenError, ValueTooBigError};
+pub use ip_ext_errors::{ChainSource, Source};
 pub use ip_ext_headers::err::ip_auth;
 pub use ip_io::err::io;
+pub use packet_source::PacketSource;

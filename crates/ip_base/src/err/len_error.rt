@@ -2,12 +2,14 @@ ghost use Rattle.std.specs.Prelude.{◌≡◌, ◌+◌, ◌^◌, ◌<◌, length
 
 use crate::LenSource;
 use crate::err::Layer;
+use thiserror::Error;
 
 /// There were fewer bytes than a header or packet needs.
 // The order is for speed. Behind `layer` is padding, and what follows it is never a constant 0, with which it
 // would be cleared and moved as one stretch. Where a `Result` keeps an error or an answer in one place, the small
 // fields of both lie at the same offset.
-#[derive(Clone, Debug, PartialEq, Eq, Hash, Drop)]
+#[derive(Clone, Debug, PartialEq, Eq, Hash, Drop, Error)]
+#[error("not enough bytes for {name} at offset {layer_start_offset}: {required_len} needed, {len} there by {source}", name = .layer.name(), source = .len_source.name())]
 pub struct LenError {
     /// How many bytes are needed.
     pub required_len: usize,

@@ -1,5 +1,8 @@
+use thiserror::Error;
+
 /// A value is above the largest that its field can hold.
-#[derive(Clone, Debug, PartialEq, Eq, Hash, Drop)]
+#[derive(Clone, Debug, PartialEq, Eq, Hash, Drop, Error)]
+#[error("value {actual} is above {max_allowed}")]
 pub struct ValueTooBigError {
     /// The value.
     pub actual: u16,

@@ -1,11 +1,32 @@
+ghost use Rattle.std.specs.Prelude.{◌≡◌, Some};
+ghost use Rattle.std.specs.Option.{option_map};
+ghost use Rattle.etherparse_ip.specs.PacketCause.{packet_cause_in};
+
 use super::HeadersError;
-use crate::err::LenError;
+use crate::err::{LenError, PacketSource};
+use thiserror::Error;
 
 /// Why no packet of either version begins a slice.
-#[derive(Clone, Debug, PartialEq, Eq, Hash, Drop)]
+#[derive(Clone, Debug, PartialEq, Eq, Hash, Drop, Error)]
 pub enum SliceError {
     /// There are fewer bytes than a header or the packet needs.
+    #[error(transparent)]
     Len(LenError),
     /// The bytes of a header can't be one.
+    #[error(transparent)]
     IpHeaders(HeadersError),
+}
+
+impl SliceError {
+    ghost use Rattle.etherparse_ip.specs.IpSliceError.{cause_of};
+
+    /// What the error comes of.
+    pub fn source(&self) -> Option<PacketSource<'_>>
+        ensures { option_map packet_cause_in result ≡ Some (cause_of self.now) }
+    {
+        match self {
+            SliceError::Len(e) => Some(PacketSource::Len(e)),
+            SliceError::IpHeaders(e) => Some(PacketSource::IpHeaders(e)),
+        }
+    }
 }

@@ -1,7 +1,10 @@
+use thiserror::Error;
+
 /// What is wrong in the bytes of an IPv6 base header.
-#[derive(Clone, Debug, PartialEq, Eq, Hash, Drop)]
+#[derive(Clone, Debug, PartialEq, Eq, Hash, Drop, Error)]
 pub enum HeaderError {
     /// The version isn't 6.
+    #[error("IPv6 header: version number {version_number} where 6 is required")]
     UnexpectedVersion {
         /// The version, the high half of byte 0.
         version_number: u8,

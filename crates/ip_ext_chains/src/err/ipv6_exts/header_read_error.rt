@@ -1,11 +1,53 @@
+ghost use Rattle.std.specs.Prelude.{◌≡◌, Some};
+ghost use Rattle.std.specs.Option.{option_map};
+ghost use Rattle.ip_ext_errors.specs.ChainCause.{chain_cause_in};
+
 use super::HeaderError;
+use crate::err::ChainSource;
 use std::io;
+use thiserror::Error;
 
 /// Why IPv6 extension headers weren't read.
-#[derive(Debug, Drop)]
+#[derive(Debug, Drop, Error)]
 pub enum HeaderReadError {
     /// The reader failed.
+    #[error("IPv6 Extension Header IO Error: {0}")]
     Io(io::Error),
     /// The bytes can't be the header that is named.
+    #[error(transparent)]
     Content(HeaderError),
+}
+
+impl HeaderReadError {
+    ghost use Rattle.ip_ext_chains.specs.ChainReadError.{io_of, content_of, cause_of};
+
+    /// The reader's error, if it is one.
+    pub fn io_error(self) -> Option<io::Error>
+        ensures { result ≡ io_of self }
+    {
+        match self {
+            HeaderReadError::Io(e) => Some(e),
+            HeaderReadError::Content(_) => None,
+        }
+    }
+
+    /// What is wrong in the bytes, if it is that.
+    pub fn content_error(self) -> Option<HeaderError>
+        ensures { result ≡ content_of self }
+    {
+        match self {
+            HeaderReadError::Io(_) => None,
+            HeaderReadError::Content(e) => Some(e),
+        }
+    }
+
+    /// What the error comes of.
+    pub fn source(&self) -> Option<ChainSource<'_>>
+        ensures { option_map chain_cause_in result ≡ Some (cause_of self.now) }
+    {
+        match self {
+            HeaderReadError::Io(e) => Some(ChainSource::Io(e)),
+            HeaderReadError::Content(e) => Some(ChainSource::Ipv6Exts(e)),
+        }
+    }
 }

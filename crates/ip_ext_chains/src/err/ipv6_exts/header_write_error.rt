@@ -1,20 +1,25 @@
-ghost use Rattle.std.specs.Prelude.{◌≡◌};
+ghost use Rattle.std.specs.Prelude.{◌≡◌, Some};
 ghost use Rattle.std.specs.Option.{option_map};
+ghost use Rattle.ip_ext_errors.specs.ChainCause.{chain_cause_in};
 
 use super::ExtsWalkError;
+use crate::err::ChainSource;
 use std::alloc::AllocError;
+use thiserror::Error;
 
 /// Why a chain isn't written.
-#[derive(Debug, Drop)]
+#[derive(Debug, Drop, Error)]
 pub enum HeaderWriteError {
     /// The vector has no room, and can't grow.
+    #[error("out of memory")]
     Io(AllocError),
     /// Not each header is reached.
+    #[error(transparent)]
     Content(ExtsWalkError),
 }
 
 impl HeaderWriteError {
-    ghost use Rattle.ip_ext_chains.specs.WriteError.{io_of, content_of};
+    ghost use Rattle.ip_ext_chains.specs.WriteError.{io_of, content_of, cause_of};
 
     /// The refusal of memory, if it is one.
     pub fn io(&self) -> Option<&AllocError>
@@ -33,6 +38,16 @@ impl HeaderWriteError {
         match self {
             HeaderWriteError::Io(_) => None,
             HeaderWriteError::Content(e) => Some(e),
+        }
+    }
+
+    /// What the error comes of.
+    pub fn source(&self) -> Option<ChainSource<'_>>
+        ensures { option_map chain_cause_in result ≡ Some (cause_of self.now) }
+    {
+        match self {
+            HeaderWriteError::Io(e) => Some(ChainSource::Memory(e)),
+            HeaderWriteError::Content(e) => Some(ChainSource::Ipv6Walk(e)),
         }
     }
 }

@@ -1,11 +1,53 @@
+ghost use Rattle.std.specs.Prelude.{◌≡◌, Some};
+ghost use Rattle.std.specs.Option.{option_map};
+ghost use Rattle.ip_ext_errors.specs.Cause.{cause_in};
+
 use super::HeaderError;
+use crate::err::Source;
 use std::io;
+use thiserror::Error;
 
 /// Why no authentication header was read.
-#[derive(Debug, Drop)]
+#[derive(Debug, Drop, Error)]
 pub enum HeaderReadError {
     /// The reader failed.
+    #[error("IP Authentication Header IO Error: {0}")]
     Io(io::Error),
     /// The bytes can't be a header.
+    #[error(transparent)]
     Content(HeaderError),
+}
+
+impl HeaderReadError {
+    ghost use Rattle.ip_ext_headers.specs.AuthReadError.{io_of, content_of, cause_of};
+
+    /// The reader's error, if it is one.
+    pub fn io(self) -> Option<io::Error>
+        ensures { result ≡ io_of self }
+    {
+        match self {
+            HeaderReadError::Io(e) => Some(e),
+            HeaderReadError::Content(_) => None,
+        }
+    }
+
+    /// What is wrong in the bytes, if it is that.
+    pub fn content(self) -> Option<HeaderError>
+        ensures { result ≡ content_of self }
+    {
+        match self {
+            HeaderReadError::Io(_) => None,
+            HeaderReadError::Content(e) => Some(e),
+        }
+    }
+
+    /// What the error comes of.
+    pub fn source(&self) -> Option<Source<'_>>
+        ensures { option_map cause_in result ≡ Some (cause_of self.now) }
+    {
+        match self {
+            HeaderReadError::Io(e) => Some(Source::Io(e)),
+            HeaderReadError::Content(e) => Some(Source::IpAuth(e)),
+        }
+    }
 }

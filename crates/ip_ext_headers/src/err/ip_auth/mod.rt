@@ -1,12 +1,11 @@
 //! Errors of authentication headers.
-mod header_error;
 mod header_limited_read_error;
 mod header_read_error;
 mod header_slice_error;
 mod icv_len_error;
 
-pub use header_error::HeaderError;
 pub use header_limited_read_error::HeaderLimitedReadError;
 pub use header_read_error::HeaderReadError;
 pub use header_slice_error::HeaderSliceError;
 pub use icv_len_error::IcvLenError;
+pub use ip_ext_errors::ip_auth::HeaderError;

@@ -1,19 +1,26 @@
-ghost use Rattle.std.specs.Prelude.{◌≡◌};
+ghost use Rattle.std.specs.Prelude.{◌≡◌, Some};
+ghost use Rattle.std.specs.Option.{option_map};
+ghost use Rattle.ip_ext_errors.specs.ChainCause.{chain_cause_in};
 
 use super::HeaderError;
+use crate::err::ChainSource;
 use ip_base::err::LenError;
+use thiserror::Error;
 
 /// Why an IPv6 chain doesn't go on, although a header is named.
-#[derive(Clone, Debug, PartialEq, Eq, Hash, Drop)]
+#[derive(Clone, Debug, PartialEq, Eq, Hash, Drop, Error)]
 pub enum HeaderSliceError {
     /// There are fewer bytes than the header needs.
+    #[error(transparent)]
     Len(LenError),
     /// The bytes can't be the header that is named.
+    #[error(transparent)]
     Content(HeaderError),
 }
 
 impl HeaderSliceError {
     ghost use Rattle.ip_ext_slices.specs.Fault.{exts_moved, ExtsOffsetFits};
+    ghost use Rattle.ip_ext_slices.specs.SliceError.{len_of, content_of, cause_of};
 
     /// The same error, counted from `offset` bytes further to the front: only the offset of a length error
     /// grows. The sum of the offsets has to fit.
@@ -24,6 +31,36 @@ impl HeaderSliceError {
         match self {
             HeaderSliceError::Len(e) => HeaderSliceError::Len(e.add_offset(offset)),
             HeaderSliceError::Content(e) => HeaderSliceError::Content(e),
+        }
+    }
+
+    /// The error of a length, if it is one.
+    pub fn len_error(&self) -> Option<&LenError>
+        ensures { option_map (λ e. e.now) result ≡ len_of self.now }
+    {
+        match self {
+            HeaderSliceError::Len(e) => Some(e),
+            HeaderSliceError::Content(_) => None,
+        }
+    }
+
+    /// What is wrong in the bytes, if it is that.
+    pub fn content(&self) -> Option<&HeaderError>
+        ensures { option_map (λ e. e.now) result ≡ content_of self.now }
+    {
+        match self {
+            HeaderSliceError::Len(_) => None,
+            HeaderSliceError::Content(e) => Some(e),
+        }
+    }
+
+    /// What the error comes of.
+    pub fn source(&self) -> Option<ChainSource<'_>>
+        ensures { option_map chain_cause_in result ≡ Some (cause_of self.now) }
+    {
+        match self {
+            HeaderSliceError::Len(e) => Some(ChainSource::Len(e)),
+            HeaderSliceError::Content(e) => Some(ChainSource::Ipv6Exts(e)),
         }
     }
 }

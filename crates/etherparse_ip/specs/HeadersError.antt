@@ -1,0 +1,10 @@
+-- What an error in the bytes of a packet's headers comes of.
+use Rattle.etherparse_ip.specs.PacketCause.{PacketCause, IpAuth, Ipv6Exts}
+use Rattle.etherparse_ip.specs.PacketCause as cause
+use Rattle.etherparse_ip.specs.declared.err.ip.headers_error.HeadersError.{HeadersError}
+use Rattle.etherparse_ip.specs.declared.err.ip.headers_error.HeadersError.TheVariants.{Ip, Ipv4Ext, Ipv6Ext}
+
+abbrev pub cause_of : HeadersError → PacketCause
+cause_of (Ip e) = cause.Ip e
+cause_of (Ipv4Ext e) = IpAuth e
+cause_of (Ipv6Ext e) = Ipv6Exts e

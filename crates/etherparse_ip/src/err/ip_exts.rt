@@ -1,0 +1,2 @@
+//! Errors of the extension headers of a packet of either version.
+pub use ip_ext_chains::err::ip_exts::{ExtsWalkError, HeaderError, HeadersSliceError};

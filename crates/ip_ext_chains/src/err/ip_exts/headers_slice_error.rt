@@ -1,0 +1,52 @@
+ghost use Rattle.std.specs.Prelude.{◌≡◌, Some};
+ghost use Rattle.std.specs.Option.{option_map};
+ghost use Rattle.ip_ext_errors.specs.ChainCause.{chain_cause_in};
+
+use super::HeaderError;
+use crate::err::{ChainSource, LenError};
+use thiserror::Error;
+
+/// Why the extension headers of a packet of either version don't go on, although a header is named.
+#[derive(Clone, Debug, PartialEq, Eq, Hash, Drop, Error)]
+pub enum HeadersSliceError {
+    /// There are fewer bytes than the header needs.
+    #[error(transparent)]
+    Len(LenError),
+    /// The bytes can't be the header that is named.
+    #[error(transparent)]
+    Content(HeaderError),
+}
+
+impl HeadersSliceError {
+    ghost use Rattle.ip_ext_chains.specs.HeadersSliceError.{len_of, content_of, cause_of};
+
+    /// The error of a length, if it is one.
+    pub fn len_error(&self) -> Option<&LenError>
+        ensures { option_map (λ e. e.now) result ≡ len_of self.now }
+    {
+        match self {
+            HeadersSliceError::Len(e) => Some(e),
+            HeadersSliceError::Content(_) => None,
+        }
+    }
+
+    /// What is wrong in the bytes, if it is that.
+    pub fn content(&self) -> Option<&HeaderError>
+        ensures { option_map (λ e. e.now) result ≡ content_of self.now }
+    {
+        match self {
+            HeadersSliceError::Len(_) => None,
+            HeadersSliceError::Content(e) => Some(e),
+        }
+    }
+
+    /// What the error comes of.
+    pub fn source(&self) -> Option<ChainSource<'_>>
+        ensures { option_map chain_cause_in result ≡ Some (cause_of self.now) }
+    {
+        match self {
+            HeadersSliceError::Len(e) => Some(ChainSource::Len(e)),
+            HeadersSliceError::Content(e) => Some(ChainSource::IpExts(e)),
+        }
+    }
+}

@@ -1,0 +1,5 @@
+//! Errors of the extension headers of a packet of either version.
+mod headers_slice_error;
+
+pub use headers_slice_error::HeadersSliceError;
+pub use ip_ext_errors::ip_exts::{ExtsWalkError, HeaderError};

@@ -1,0 +1,6 @@
+//! What is wrong in the extension headers of a packet of either version, and in their order.
+mod exts_walk_error;
+mod header_error;
+
+pub use exts_walk_error::ExtsWalkError;
+pub use header_error::HeaderError;

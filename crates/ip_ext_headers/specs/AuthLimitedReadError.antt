@@ -1,0 +1,33 @@
+-- The three kinds of error of a read of an authentication header within a limit.
+use Rattle.std.specs.Prelude.{Option, Some, None}
+use Rattle.std.specs.declared.io.Error.{Error}
+use Rattle.ip_base.specs.declared.err.len_error.LenError.{LenError}
+use Rattle.ip_ext_errors.specs.Cause.{Cause, IpAuth}
+use Rattle.ip_ext_errors.specs.Cause as cause
+use Rattle.ip_ext_errors.specs.declared.ip_auth.header_error.HeaderError.{HeaderError}
+use Rattle.ip_ext_headers.specs.declared.err.ip_auth.header_limited_read_error.HeaderLimitedReadError.{HeaderLimitedReadError}
+use Rattle.ip_ext_headers.specs.declared.err.ip_auth.header_limited_read_error.HeaderLimitedReadError.TheVariants.{Io, Len, Content}
+
+-- the reader's error
+abbrev pub io_of : HeaderLimitedReadError → Option Error
+io_of (Io e) = Some e
+io_of (Len e) = None
+io_of (Content e) = None
+
+-- the error of a length
+abbrev pub len_of : HeaderLimitedReadError → Option LenError
+len_of (Io e) = None
+len_of (Len e) = Some e
+len_of (Content e) = None
+
+-- what is wrong in the bytes
+abbrev pub content_of : HeaderLimitedReadError → Option HeaderError
+content_of (Io e) = None
+content_of (Len e) = None
+content_of (Content e) = Some e
+
+-- what the error comes of
+abbrev pub cause_of : HeaderLimitedReadError → Cause
+cause_of (Io e) = cause.Io e
+cause_of (Len e) = cause.Len e
+cause_of (Content e) = IpAuth e

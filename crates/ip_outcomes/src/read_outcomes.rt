@@ -1,0 +1,136 @@
+//! Callers that need what a clause says of one outcome of a read, of bytes in memory and of a window of them. Their
+//! own clauses tell the outcome by std's words and those of headers, so that none of them is proved where such a
+//! clause, or the word by which it tells the outcome, says nothing.
+ghost use Rattle.std.specs.Prelude.{◌≡◌, ◌≤◌, ◌<◌, ◌+◌, ◌++◌, ℕ, List, false, Some, length, IfSome};
+ghost use Rattle.std.specs.Bool.{OnTrue};
+ghost use Rattle.std.specs.Option.{option_map};
+ghost use Rattle.ip_spec.specs.Prefix.{IsPrefix};
+ghost use Rattle.ip_spec.specs.Header.{IsRawHeader};
+ghost use Rattle.ip_spec.specs.Requests.{RawAsks, Asks};
+ghost use Rattle.ip_spec.specs.Chain.{ExtHeader, IsChain, leads_to, bytes_of};
+ghost use Rattle.ip_spec.specs.Fits.{FitsPlaces};
+ghost use Rattle.ip_spec.specs.Places.{is_taken};
+ghost use Rattle.ip_io.specs.Limits.{left, limit_error};
+ghost use Rattle.ip_io.specs.LimitedReader.{inner_of, limits_of};
+ghost use Rattle.ip_base.specs.declared.err.len_error.LenError.{LenError as LengthError};
+ghost use Rattle.ip_base.specs.declared.len_source.LenSource.TheVariants.{Slice};
+ghost use Rattle.ip_ext_headers.specs.Fault.{auth_fault};
+ghost use Rattle.ip_ext_headers.specs.declared.err.ip_auth.header_slice_error.HeaderSliceError.TheVariants as auth;
+ghost use Rattle.ip_ext_errors.specs.declared.ip_auth.header_error.HeaderError.TheVariants.{ZeroPayloadLen};
+ghost use Rattle.ip_ext_ipv4.specs.Ipv4Fault.{ipv4_chain_fault};
+ghost use Rattle.ip_ext_slices.specs.declared.err.ipv6_exts.header_slice_error.HeaderSliceError.TheVariants as chain;
+ghost use Rattle.ip_ext_chains.specs.Fitting.{fitting_fault};
+
+use ip_base::IpNumber;
+use ip_base::err::LenError;
+use ip_ext_chains::err::{ip_auth, ipv6_exts};
+use ip_ext_chains::{Ipv4Extensions, Ipv6Extensions};
+use ip_ext_headers::err::io::LimitedReadError;
+use ip_ext_headers::io::LimitedReader;
+use ip_ext_headers::{IpAuthHeader, Ipv6RawExtHeader};
+
+/// Whether the bytes begin with no header of the common layout: then there are too few for a request.
+pub fn is_raw_cut(bytes: &mut &[u8]) -> bool
+    ensures asked { OnTrue result ((done : List ℕ) × (count : ℕ) × RawAsks done count
+        × (length bytes.old.now < length done + count)) }
+    ensures none { OnTrue result ((b : List ℕ) → IsRawHeader b
+        → IsPrefix b bytes.old.now → ⊥) }
+{
+    Ipv6RawExtHeader::read(bytes).is_err()
+}
+
+/// Whether an authentication header is cut short: then `from_slice` reports a length.
+pub fn is_auth_cut(bytes: &mut &[u8]) -> bool
+    ensures { OnTrue result ((e : LengthError)
+        × (auth_fault Slice (length bytes.old.now) 0 bytes.old.now ≡ Some (auth.Len e))) }
+{
+    match IpAuthHeader::read(bytes) {
+        Err(ip_auth::HeaderReadError::Io(_)) => true,
+        _ => false,
+    }
+}
+
+/// Whether the length field of an authentication header is 0: then what stands before a check value was taken.
+pub fn is_auth_zero(bytes: &mut &[u8]) -> bool
+    ensures fault { OnTrue result (auth_fault Slice (length bytes.old.now) 0 bytes.old.now
+        ≡ Some (auth.Content ZeroPayloadLen)) }
+    ensures taken { OnTrue result ((done : List ℕ) × (length done ≡ 12)
+        × (bytes.old.now ≡ done ++ bytes.new.now)) }
+{
+    match IpAuthHeader::read(bytes) {
+        Err(ip_auth::HeaderReadError::Content(_)) => true,
+        _ => false,
+    }
+}
+
+/// The error of a limit that doesn't leave a header of the common layout.
+pub fn raw_past_limit(reader: &mut LimitedReader<&[u8]>) -> Option<LenError>
+    ensures { IfSome result (λ e. (done : List ℕ) × (count : ℕ) × RawAsks done count
+        × (left (limits_of reader.old) < length done + count)
+        × (e ≡ limit_error count (limits_of reader.new))) }
+{
+    match Ipv6RawExtHeader::read_limited(reader) {
+        Err(LimitedReadError::Len(e)) => Some(e),
+        _ => None,
+    }
+}
+
+/// Whether a limit leaves a header of the common layout, but the bytes below it don't.
+pub fn is_raw_cut_within(reader: &mut LimitedReader<&[u8]>) -> bool
+    ensures { OnTrue result ((done : List ℕ) × (count : ℕ) × RawAsks done count
+        × (length done + count ≤ left (limits_of reader.old))
+        × (length (inner_of reader.old).now < length done + count)) }
+{
+    match Ipv6RawExtHeader::read_limited(reader) {
+        Err(LimitedReadError::Io(_)) => true,
+        _ => false,
+    }
+}
+
+/// Whether what stands behind an IPv4 header is cut short.
+pub fn is_ipv4_cut(bytes: &mut &[u8], start: IpNumber) -> bool
+    ensures { OnTrue result ((e : LengthError)
+        × (ipv4_chain_fault start.0 bytes.old.now ≡ Some (auth.Len e))) }
+{
+    match Ipv4Extensions::read(bytes, start) {
+        Err(ip_auth::HeaderReadError::Io(_)) => true,
+        _ => false,
+    }
+}
+
+/// What of a header's content can't be, in a chain that is read into six places.
+pub fn chain_content(bytes: &mut &[u8], start: IpNumber) -> Option<ipv6_exts::HeaderError>
+    ensures { IfSome result (λ e. option_map (λ f. f.0) (fitting_fault start.0 bytes.old.now)
+        ≡ Some (chain.Content e)) }
+{
+    match Ipv6Extensions::read(bytes, start) {
+        Err(ipv6_exts::HeaderReadError::Content(e)) => Some(e),
+        _ => None,
+    }
+}
+
+/// Whether such a chain is cut short: then `from_slice` reports a length, and behind headers that fit there are too
+/// few bytes for a request of the next one, whose place is free.
+pub fn is_chain_cut(bytes: &mut &[u8], start: IpNumber) -> bool
+    ensures fault { OnTrue result ((e : LengthError)
+        × (option_map (λ f. f.0) (fitting_fault start.0 bytes.old.now) ≡ Some (chain.Len e))) }
+    ensures headers { OnTrue result ((c : List ExtHeader) × IsChain start.0 c × FitsPlaces c
+        × (is_taken (leads_to start.0 c) c ≡ false) × ((done : List ℕ) × (count : ℕ)
+        × Asks (leads_to start.0 c) done count
+        × (length bytes.old.now < length (bytes_of c) + (length done + count)))) }
+{
+    match Ipv6Extensions::read(bytes, start) {
+        Err(ipv6_exts::HeaderReadError::Io(_)) => true,
+        _ => false,
+    }
+}
+
+/// The error of a limit that doesn't leave the next header of a chain.
+pub fn chain_past_limit(reader: &mut LimitedReader<&[u8]>, start: IpNumber) -> Option<LenError>
+    ensures { IfSome result (λ e. (count : ℕ) × (e ≡ limit_error count (limits_of reader.new))) }
+{
+    match Ipv6Extensions::read_limited(reader, start) {
+        Err(ipv6_exts::HeaderLimitedReadError::Len(e)) => Some(e),
+        _ => None,
+    }
+}

@@ -1,12 +1,12 @@
 -- The longest chain that fits six places, where the longest chain's first run was taken.
-use Rattle.std.proofs.Common.{◌≡◌, ◌≢◌, ℕ, ◌-◌, List, [], ◌∷◌, ◌++◌, length, drop, refl, ap, sym, ◌∙◌, arith, inl, inr, Bool, true, false, subst}
+use Rattle.std.proofs.Common.{◌≡◌, ◌≢◌, ℕ, ◌-◌, List, [], ◌∷◌, ◌++◌, length, take, drop, refl, ap, sym, ◌∙◌, arith, inl, inr, Bool, true, false, subst}
 use Rattle.std.specs.Prelude.{Option, None, IsSome, if◌then◌else◌}
 use Rattle.std.proofs.lemmas.Bool.{cases_Bool}
 use Rattle.ip_spec.specs.Header.{IsExtensionNumber}
 use Rattle.ip_ext_slices.proofs.FaultLemmas.{fault_at_end}
 use Rattle.std.proofs.lemmas.List.{append-nil, length-append}
 use Rattle.std.proofs.lemmas.Grind.{flat_map-append}
-use Rattle.ip_spec.specs.Chain.{ExtHeader, leads_to, bytes_of, is_empty, IsChain, IsPrefixChain}
+use Rattle.ip_spec.specs.Chain.{ExtHeader, leads_to, bytes_of, headers_within, is_empty, IsChain, IsPrefixChain}
 use Rattle.ip_spec.specs.Parse.{rest_behind, fault_behind}
 use Rattle.ip_spec.specs.Demand.{KeepsBeginning, NextBreaks, IsLongestUnder}
 use Rattle.ip_spec.specs.Fits.{FitsPlaces, IsTaken}
@@ -14,6 +14,7 @@ use Rattle.ip_spec.specs.Places.{is_taken}
 use Rattle.ip_spec.proofs.PlaceLemmas.{taken_told}
 use Rattle.ip_spec.proofs.FitsLemmas.{fits_places, fitting_ends, next_taken}
 use Rattle.ip_spec.proofs.UnderLemmas.{some_longest_under, one_longest_under, kept_is_longest}
+use Rattle.ip_spec.proofs.ShorterLemmas.{longest_shorter}
 use Rattle.ip_spec.proofs.RunsLemmas.{chain_behind}
 use Rattle.ip_ext_slices.specs.Longest.{longest_chain}
 use Rattle.ip_ext_chains.specs.Fitting.{fitting_chain, fitting_faults, fitting_fault, IsFittingAnswer, IsPlacedAnswer}
@@ -27,12 +28,19 @@ use Rattle.ip_ext_chains.specs.declared.places.Places.{Places}
 use Rattle.ip_ext_slices.proofs.LongestLemmas.{longest_chain-longest}
 use Rattle.ip_ext_chains.proofs.PlacedLemmas.{taken_same, value_placed, placed_numbers}
 
+pub fitting_longest : (n : ℕ) (s : List ℕ) → IsLongestUnder FitsPlaces n s (fitting_chain n s)
+fitting_longest n s = (some_longest_under FitsPlaces fits_places n s).1
+
+-- of bytes that are cut short it is the headers that lie whole within them
+pub fitting_shorter : (n j : ℕ) (s : List ℕ) → fitting_chain n (take j s) ≡ headers_within j (fitting_chain n s)
+fitting_shorter n j s = longest_shorter FitsPlaces fits_places n j s (fitting_chain n s) (fitting_chain n (take j s)) (fitting_longest n s) (fitting_longest n (take j s))
+
 -- what is kept of the longest chain is the longest that fits
 fitting_is : (n : ℕ) (s : List ℕ) (c : List ExtHeader) → KeepsBeginning FitsPlaces (longest_chain n s) c → c ≡ fitting_chain n s
 fitting_is n s c kept =
     one_longest_under FitsPlaces fits_places n s c (fitting_chain n s)
     (kept_is_longest FitsPlaces fits_places n s (longest_chain n s) c (longest_chain-longest n s) kept)
-    (some_longest_under FitsPlaces fits_places n s).1
+    (fitting_longest n s)
 
 no_fault : (b : Bool) (f : Option Fault) → b ≡ true → (if b then None else f) ≡ None
 no_fault true f e = refl

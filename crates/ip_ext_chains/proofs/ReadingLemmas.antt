@@ -16,7 +16,8 @@ use Rattle.ip_spec.specs.Places.{Place, hop_by_hop, destination, routing, fragme
 use Rattle.ip_spec.proofs.HeaderLemmas.{header_number}
 use Rattle.ip_spec.proofs.PrefixLemmas.{prefix_of-append}
 use Rattle.ip_spec.proofs.ChainLemmas.{no_chain, goes_on, leads_to-more}
-use Rattle.ip_spec.proofs.UnderLemmas.{some_longest_under, one_longest_under, longest_at_end_under}
+use Rattle.ip_spec.proofs.UnderLemmas.{one_longest_under, longest_at_end_under}
+use Rattle.ip_ext_chains.proofs.FittingLemmas.{fitting_longest}
 use Rattle.ip_spec.proofs.FitsLemmas.{fits_places}
 use Rattle.ip_spec.proofs.PlaceLemmas.{has_routing, place_number, in_both, own_place, final_behind, is_extension, placed, fits_more, taken_told}
 use Rattle.ip_ext_slices.specs.Fault.{Fault, fault_at, chain_faults}
@@ -63,7 +64,7 @@ module _ (n : ℕ) (c : List ExtHeader) (chain : IsChain n c) (fits : FitsPlaces
       let E : List ℕ → Type 0 = IsEndUnder FitsPlaces c (leads_to n c) in
       one_longest_under FitsPlaces fits_places n s c (fitting_chain n s)
       (longest_at_end_under FitsPlaces fits_places n s c (record { chain = chain; prefix = prefix_of-append (bytes_of c) x s refl }, fits) (subst E (sym behind) e))
-      (some_longest_under FitsPlaces fits_places n s).1
+      (fitting_longest n s)
 
   -- the fault there is the fault of the parse
   pub fitting_fault_is : (f : Fault) → is_taken (leads_to n c) c ≡ false → fault_at Slice (length x) (length (bytes_of c)) (is_empty c) (leads_to n c) x ≡ Some f → fitting_fault n (bytes_of c ++ x) ≡ Some f

@@ -17,7 +17,7 @@ use Rattle.ip_spec.specs.Encodable.{IsEncodable}
 use Rattle.ip_spec.specs.Walk.{IsValueOf, IsSpelling, IsReach, WalkAnswer, leads, hop_by_hop_not_at_start, not_referenced, IsWalkAnswer}
 use Rattle.ip_spec.specs.Parse.{IsRead}
 use Rattle.ip_spec.proofs.FitsLemmas.{fits_places}
-use Rattle.ip_spec.proofs.UnderLemmas.{some_longest_under, one_longest_under}
+use Rattle.ip_spec.proofs.UnderLemmas.{one_longest_under}
 use Rattle.ip_spec.proofs.WalkLemmas.{one_reach}
 use Rattle.ip_spec.proofs.SpellingLemmas.{one_spelling, spelling_is_reach, one_answer, leads_exactly, leads_spelled, spelled_leads, spelled_whole, cleared_spells, spelled_is_read, spelled_alike}
 use Rattle.ip_spec.proofs.SumLemmas.{bytes_len}
@@ -31,10 +31,8 @@ use Rattle.ip_ext_chains.specs.declared.ipv6_exts.Ipv6Extensions.{Ipv6Extensions
 use Rattle.ip_ext_errors.specs.declared.ipv6_exts.exts_walk_error.ExtsWalkError.{ExtsWalkError}
 use Rattle.ip_ext_errors.specs.declared.ipv6_exts.exts_walk_error.ExtsWalkError.TheVariants.{HopByHopNotAtStart, ExtNotReferenced}
 use Rattle.ip_ext_slices.proofs.FaultLemmas.{no_fault_at_other}
+use Rattle.ip_ext_chains.proofs.FittingLemmas.{fitting_longest}
 use Rattle.ip_ext_chains.proofs.PlacedFieldsLemmas.{placed_fields-value_of, placed_fields_one, exts_sum}
-
-pub fitting_longest : (n : ℕ) (s : List ℕ) → IsLongestUnder FitsPlaces n s (fitting_chain n s)
-fitting_longest n s = (some_longest_under FitsPlaces fits_places n s).1
 
 pub fitting_is : (n : ℕ) (s : List ℕ) (c : List ExtHeader) → IsLongestUnder FitsPlaces n s c → fitting_chain n s ≡ c
 fitting_is n s c l = one_longest_under FitsPlaces fits_places n s (fitting_chain n s) c (fitting_longest n s) l

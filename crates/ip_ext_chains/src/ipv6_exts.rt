@@ -1,6 +1,7 @@
-ghost use Rattle.std.specs.Prelude.{◌≡◌, ◌≤◌, [], Some, None, IfOk, IfErr};
+ghost use Rattle.std.specs.Prelude.{◌≡◌, ◌≤◌, ℕ, [], take, Some, None, IfOk, IfErr};
 ghost use Rattle.std.specs.Option.{option_map, option_map_or};
 ghost use Rattle.ip_spec.specs.FieldsOf.{raw_len, raw_fields};
+ghost use Rattle.ip_spec.specs.Chain.{headers_within};
 ghost use Rattle.ip_spec.specs.Demand.{IsLongestUnder};
 ghost use Rattle.ip_spec.specs.Encodable.{IsEncodable};
 ghost use Rattle.ip_spec.specs.Fits.{FitsPlaces};
@@ -45,7 +46,8 @@ impl Ipv6Extensions {
     /// The longest chain from the number that begins the bytes and has a place for each of its headers, with
     /// the number to which it leads, the bytes after it and the fault there. The offset in a fault counts bytes
     /// from the start of `start_slice`. There is no fault where the number is no extension number, and none
-    /// where its place is taken: the bytes there aren't looked at.
+    /// where its place is taken: the bytes there aren't looked at. Of bytes that are cut short, as a capture's
+    /// are, it answers those of the headers that lie whole within them.
     #[inline(always)]
     pub fn from_slice_lax(
         start_ip_number: IpNumber,
@@ -60,6 +62,8 @@ impl Ipv6Extensions {
             (fitting_chain start_ip_number.0 start_slice.now) }
         ensures answer { IsFittingAnswer start_ip_number.0 start_slice.now
             result.0 result.1.0 result.2.now result.3 }
+        ensures cut { (j : ℕ) → fitting_chain start_ip_number.0 (take j start_slice.now)
+            ≡ headers_within j (fitting_chain start_ip_number.0 start_slice.now) }
     {
         let (places, number, rest, fault) = Self::take_places(start_ip_number, start_slice);
         let mut exts = Self::default();

@@ -1,5 +1,5 @@
 -- The longest chain of IPv4 extension headers: one header, or none.
-use Rattle.std.proofs.Common.{◌≡◌, ℕ, List, [], ◌∷◌, ◌++◌, length, drop, refl, sym, ap, ◌∙◌, subst}
+use Rattle.std.proofs.Common.{◌≡◌, ℕ, List, [], ◌∷◌, ◌++◌, length, take, drop, refl, sym, ap, ◌∙◌, subst}
 use Rattle.std.specs.Prelude.{Option, Some, None}
 use Rattle.std.proofs.lemmas.List.{append-nil}
 use Rattle.ip_base.specs.declared.len_source.LenSource.TheVariants.{Slice}
@@ -8,10 +8,11 @@ use Rattle.ip_ext_headers.specs.Fault.{auth_fault}
 use Rattle.ip_spec.specs.Prefix.{IsPrefix}
 use Rattle.ip_spec.specs.Header.{IsAuthHeader, auth}
 use Rattle.ip_spec.specs.Fields.{next_header}
-use Rattle.ip_spec.specs.Chain.{ExtHeader}
+use Rattle.ip_spec.specs.Chain.{ExtHeader, headers_within}
 use Rattle.ip_spec.specs.Demand.{AtMostOneOf, IsLongestUnder}
 use Rattle.ip_spec.proofs.HeaderLemmas.{auth_of}
 use Rattle.ip_spec.proofs.UnderLemmas.{some_longest_under, one_longest_under}
+use Rattle.ip_spec.proofs.ShorterLemmas.{longest_shorter}
 use Rattle.ip_spec.proofs.DemandKinds.{at_most_one_of, one_of_first, one_of_none}
 use Rattle.ip_spec.specs.Parse.{IsAnswer}
 use Rattle.ip_ext_ipv4.specs.Ipv4Longest.{longest_ipv4_chain}
@@ -23,6 +24,10 @@ ipv4_longest n s = (some_longest_under (AtMostOneOf 51) (at_most_one_of 51) n s)
 
 pub ipv4_longest-is : (n : ℕ) (s : List ℕ) (c : List ExtHeader) → IsLongestUnder (AtMostOneOf 51) n s c → longest_ipv4_chain n s ≡ c
 ipv4_longest-is n s c l = one_longest_under (AtMostOneOf 51) (at_most_one_of 51) n s (longest_ipv4_chain n s) c (ipv4_longest n s) l
+
+-- of bytes that are cut short it is the header that lies whole within them
+pub ipv4_longest-shorter : (n j : ℕ) (s : List ℕ) → longest_ipv4_chain n (take j s) ≡ headers_within j (longest_ipv4_chain n s)
+ipv4_longest-shorter n j s = longest_shorter (AtMostOneOf 51) (at_most_one_of 51) n j s (longest_ipv4_chain n s) (longest_ipv4_chain n (take j s)) (ipv4_longest n s) (ipv4_longest n (take j s))
 
 -- where an authentication header is named and begins the bytes, it is the chain
 pub ipv4_one : (n : ℕ) (s b : List ℕ) → n ≡ 51 → IsAuthHeader b → IsPrefix b s → longest_ipv4_chain n s ≡ record { number = 51; bytes = b } ∷ []

@@ -1,11 +1,11 @@
-ghost use Rattle.std.specs.Prelude.{◌≡◌, ◌≤◌, ◌<◌, ◌+◌, ◌++◌, ◌↔◌, ℕ, List, length, Option, Some, None, Ok, Err, IsOk, OnOk, OnErr, IfOk, IfErr, IfSome, is_some, is_none, vec_len, vec_capacity, if◌then◌else◌};
+ghost use Rattle.std.specs.Prelude.{◌≡◌, ◌≤◌, ◌<◌, ◌+◌, ◌++◌, ◌↔◌, ℕ, List, length, take, Option, Some, None, Ok, Err, IsOk, OnOk, OnErr, IfOk, IfErr, IfSome, is_some, is_none, vec_len, vec_capacity, if◌then◌else◌};
 ghost use Rattle.std.specs.Option.{option_map, option_map_or};
 ghost use Rattle.ip_spec.specs.Numbers.{AUTHENTICATION};
 ghost use Rattle.ip_spec.specs.FieldsOf.{AuthFields, auth_len};
 ghost use Rattle.ip_spec.specs.Lengths.{IsIcvLen};
 ghost use Rattle.ip_spec.specs.Encoding.{AppendsOne, AreBytes, IsAuthEncoding};
 ghost use Rattle.ip_spec.specs.Encoded.{cleared_chain};
-ghost use Rattle.ip_spec.specs.Chain.{bytes_of};
+ghost use Rattle.ip_spec.specs.Chain.{bytes_of, headers_within};
 ghost use Rattle.ip_spec.specs.Demand.{IsLongestUnder, AtMostOneOf};
 ghost use Rattle.ip_ext_ipv4.specs.Ipv4Longest.{longest_ipv4_chain};
 ghost use Rattle.ip_ext_ipv4.specs.Ipv4Fault.{ipv4_chain_fault};
@@ -48,6 +48,8 @@ impl Ipv4Extensions {
             result.0.auth result.1.0 result.2.now result.3 }
         ensures cleared { IsIpv4Encoding start_ip_number.0 result.0.auth
             (bytes_of (cleared_chain (longest_ipv4_chain start_ip_number.0 start_slice.now))) }
+        ensures cut { (j : ℕ) → longest_ipv4_chain start_ip_number.0 (take j start_slice.now)
+            ≡ headers_within j (longest_ipv4_chain start_ip_number.0 start_slice.now) }
     {
         let (slices, number, rest, fault) = Self::scan(start_ip_number, start_slice);
         let mut exts = Self::default();

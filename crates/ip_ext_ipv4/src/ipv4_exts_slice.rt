@@ -1,7 +1,8 @@
-ghost use Rattle.std.specs.Prelude.{◌≡◌, [], IfOk, IfErr, Some, None};
+ghost use Rattle.std.specs.Prelude.{◌≡◌, ℕ, [], take, IfOk, IfErr, Some, None};
 ghost use Rattle.ip_spec.specs.Numbers.{AUTHENTICATION};
-ghost use Rattle.ip_spec.specs.Chain.{is_empty};
+ghost use Rattle.ip_spec.specs.Chain.{headers_within, is_empty};
 ghost use Rattle.ip_spec.specs.Demand.{IsLongestUnder, AtMostOneOf};
+ghost use Rattle.ip_ext_ipv4.specs.Ipv4Longest.{longest_ipv4_chain};
 ghost use Rattle.ip_ext_ipv4.specs.Ipv4Fault.{ipv4_chain_fault};
 ghost use Rattle.ip_ext_ipv4.specs.Ipv4Parse.{IsIpv4Answer, ipv4_value};
 
@@ -24,7 +25,8 @@ impl<'a> Ipv4ExtensionsSlice<'a> {
     /// The longest chain of at most one authentication header from the number that begins the bytes, with the
     /// number to which it leads, the bytes after it and the fault there. There is a fault only where an
     /// authentication header is named at the start and none begins the bytes. What follows a header isn't
-    /// looked at, also where it is named as one more.
+    /// looked at, also where it is named as one more. Of bytes that are cut short, as a capture's are, it
+    /// answers the header where it lies whole within them.
     #[inline(always)]
     pub fn from_slice_lax(
         start_ip_number: IpNumber,
@@ -39,6 +41,8 @@ impl<'a> Ipv4ExtensionsSlice<'a> {
             start_ip_number.0 start_slice.now (headers_in result.0) }
         ensures answer { IsIpv4Answer (λ c. c) start_ip_number.0 start_slice.now
             (headers_in result.0) result.1.0 result.2.now result.3 }
+        ensures cut { (j : ℕ) → longest_ipv4_chain start_ip_number.0 (take j start_slice.now)
+            ≡ headers_within j (headers_in result.0) }
     {
         if start_ip_number != ip_number::AUTH {
             let none = Ipv4ExtensionsSlice { auth: None };

@@ -1,5 +1,5 @@
 -- The longest chain, and the longest chain of bytes that it takes whole.
-use Rattle.std.proofs.Common.{◌≡◌, ◌≢◌, ℕ, ◌*◌, ◌≤◌, ◌<◌, List, [], ◌∷◌, length, drop, refl, ap, sym, ◌∙◌, arith, inl, inr, subst, Bool, true, false, nat_eq}
+use Rattle.std.proofs.Common.{◌≡◌, ◌≢◌, ℕ, ◌*◌, ◌≤◌, ◌<◌, List, [], ◌∷◌, length, take, drop, refl, ap, sym, ◌∙◌, arith, inl, inr, subst, Bool, true, false, nat_eq}
 use Rattle.std.specs.Prelude.{Option, Some, None, IfNone, IsSome}
 use Rattle.std.specs.List.{AllByRecursion}
 use Rattle.std.proofs.Math.Seq.{drop-append_seam}
@@ -7,10 +7,13 @@ use Rattle.std.proofs.lemmas.List.{drop-drop, length-append}
 use Rattle.std.proofs.lemmas.Bool.{ne_eqb}
 use Rattle.std.proofs.lemmas.Bool.Decides.{eqb_tells}
 use Rattle.ip_spec.specs.Fields.{next_header}
-use Rattle.ip_spec.specs.Chain.{ExtHeader, AreLinked, leads_to, bytes_of, is_empty, IsChain, IsPrefixChain, IsLongestChain, IsNext, IsEnd}
+use Rattle.ip_spec.specs.Chain.{ExtHeader, AreLinked, leads_to, bytes_of, headers_within, is_empty, IsChain, IsPrefixChain, IsLongestChain, IsNext, IsEnd}
 use Rattle.ip_spec.specs.Parse.{rest_behind}
 use Rattle.ip_spec.proofs.PrefixLemmas.{prefix-length, prefix_first, prefix_second, rest_join}
 use Rattle.ip_spec.proofs.HeaderLemmas.{header-least, one_next}
+use Rattle.ip_spec.specs.Demand.{IsLongestUnder, NoDemand}
+use Rattle.ip_spec.proofs.UnderLemmas.{no_demand, longest_under_none}
+use Rattle.ip_spec.proofs.ShorterLemmas.{longest_shorter}
 use Rattle.ip_spec.proofs.ChainLemmas.{some_longest, one_longest, whole_longest, longest_at_end, longest_ends, first_next, tail_chain, bytes_of-least}
 use Rattle.ip_ext_slices.specs.Longest.{longest_chain, longest_from}
 
@@ -19,6 +22,12 @@ longest_chain-longest n s = (some_longest n s).1
 
 pub longest_chain-is : (n : ℕ) (s : List ℕ) (c : List ExtHeader) → IsLongestChain n s c → longest_chain n s ≡ c
 longest_chain-is n s c l = one_longest n s (longest_chain n s) c (longest_chain-longest n s) l
+
+-- of bytes that are cut short it is the headers that lie whole within them
+pub longest_chain-shorter : (n j : ℕ) (s : List ℕ) → longest_chain n (take j s) ≡ headers_within j (longest_chain n s)
+longest_chain-shorter n j s =
+    let under : (t : List ℕ) → IsLongestUnder NoDemand n t (longest_chain n t) = λ t. longest_under_none n t (longest_chain n t) (longest_chain-longest n t) in
+    longest_shorter NoDemand no_demand n j s (longest_chain n s) (longest_chain n (take j s)) (under s) (under (take j s))
 
 -- a chain is the longest of its own bytes
 pub longest_chain-bytes_of : (n : ℕ) (c : List ExtHeader) → IsChain n c → longest_chain n (bytes_of c) ≡ c

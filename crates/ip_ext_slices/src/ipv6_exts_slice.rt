@@ -1,8 +1,8 @@
-ghost use Rattle.std.specs.Prelude.{◌≡◌, ◌==◌, ℕ, List, [], length, Option, Some, None, is_none, IfOk, IfErr, if◌then◌else◌};
+ghost use Rattle.std.specs.Prelude.{◌≡◌, ◌==◌, ℕ, List, [], length, take, Option, Some, None, is_none, IfOk, IfErr, if◌then◌else◌};
 ghost use Rattle.std.specs.Option.{option_map};
 ghost use Rattle.ip_spec.specs.Prefix.{IsPrefix};
 ghost use Rattle.ip_spec.specs.Parse.{rest_behind};
-ghost use Rattle.ip_spec.specs.Chain.{bytes_of, leads_to, is_empty, has_fragmenting, IsLongestChain};
+ghost use Rattle.ip_spec.specs.Chain.{bytes_of, leads_to, headers_within, is_empty, has_fragmenting, IsLongestChain};
 ghost use Rattle.ip_ext_slices.specs.Longest.{longest_chain};
 ghost use Rattle.ip_ext_slices.specs.Fault.{chain_fault};
 ghost use Rattle.ip_ext_slices.specs.Parse.{IsChainAnswer};
@@ -69,7 +69,8 @@ impl<'a> Ipv6ExtensionsSlice<'a> {
 
     /// The longest chain from the number that begins the bytes, with the number to which it leads, the bytes
     /// after it and the fault there. The offset in a fault counts bytes from the start of `start_slice`. There
-    /// is no fault where the number is no extension number.
+    /// is no fault where the number is no extension number. Of bytes that are cut short, as a capture's are,
+    /// it answers those of the headers that lie whole within them.
     #[inline(always)]
     pub fn from_slice_lax(
         start_ip_number: IpNumber,
@@ -83,6 +84,8 @@ impl<'a> Ipv6ExtensionsSlice<'a> {
         ensures longest { IsLongestChain start_ip_number.0 start_slice.now (headers_in result.0) }
         ensures answer { IsChainAnswer start_ip_number.0 start_slice.now
             (headers_in result.0) result.1.0 result.2.now result.3 }
+        ensures cut { (j : ℕ) → longest_chain start_ip_number.0 (take j start_slice.now)
+            ≡ headers_within j (headers_in result.0) }
         ensures bytes { bytes result.0
             ≡ bytes_of (longest_chain start_ip_number.0 start_slice.now) }
         ensures prefix { IsPrefix (bytes result.0) start_slice.now }

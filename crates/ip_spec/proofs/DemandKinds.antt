@@ -1,10 +1,10 @@
 -- The demands: none, at most so many headers, at most so many bytes, at most one header of one number.
-use Rattle.std.proofs.Common.{◌≡◌, ℕ, List, [], ◌∷◌, length, take, drop, refl, ap, sym, ◌∙◌, arith, inl, inr, ◌⊎◌, true}
+use Rattle.std.proofs.Common.{◌≡◌, ℕ, ◌≤◌, List, [], ◌∷◌, length, take, drop, refl, ap, sym, ◌∙◌, arith, inl, inr, ◌⊎◌, true}
 use Rattle.std.specs.List.{AllByRecursion}
 use Rattle.std.proofs.lemmas.List.{length-append, take-append-drop, length-take, length-drop}
 use Rattle.std.proofs.lemmas.List.Concat.{flat_map-append}
 use Rattle.ip_spec.specs.Chain.{ExtHeader, bytes_of, IsLongestChain, IsNext, IsEnd}
-use Rattle.ip_spec.specs.Demand.{IsDemand, IsLongestUnder, KeepsBeginning, NextBreaks, AtMost, AtMostOneOf, IsWithin}
+use Rattle.ip_spec.specs.Demand.{IsDemand, IsLongestUnder, KeepsBeginning, NextBreaks, AtMost, AtMostOneOf}
 use Rattle.ip_spec.proofs.HeaderLemmas.{eq_or}
 use Rattle.ip_spec.proofs.StepLemmas.{all_first, goes_on, no_header_prefix}
 use Rattle.ip_spec.proofs.UnderLemmas.{kept_is_longest, longest_at_end_under}
@@ -62,6 +62,9 @@ one_of_none m n s e =
     (no_header_prefix n s, (at_most_one_of m).empty)
     (λ g y q. e (sym y.number ∙ q.number.0) g y)
 
--- it only grows
+-- at most j bytes, which only grow
+abbrev pub IsWithin : ℕ → List ExtHeader → Type 0
+IsWithin j c = length (bytes_of c) ≤ j
+
 pub within : (j : ℕ) → IsDemand (IsWithin j)
 within j = demand_up_to (λ (c : List ExtHeader). length (bytes_of c)) j (omega arith) (λ c d. omega (arith, ap length (flat_map-append (λ h. h.bytes) c d), length-append (bytes_of c) (bytes_of d)))

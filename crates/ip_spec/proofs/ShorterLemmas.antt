@@ -1,14 +1,15 @@
 -- The chains of bytes that are cut short are the chains of the whole bytes that lie within them.
-use Rattle.std.proofs.Common.{ℕ, ◌≤◌, List, length, take, sym, ◌∙◌, arith, length-take}
-use Rattle.std.proofs.lemmas.List.{take-take}
+use Rattle.std.proofs.Common.{◌≡◌, ℕ, ◌+◌, ◌-◌, ◌≤◌, List, [], ◌∷◌, ◌++◌, length, take, refl, ap, sym, ◌∙◌, arith, inl, inr, length-take}
+use Rattle.std.proofs.lemmas.List.{take-take, length-append}
+use Rattle.std.proofs.lemmas.Bool.{cases_lt, lt-ltb, le-ltb}
 use Rattle.ip_spec.specs.Prefix.{IsPrefix}
-use Rattle.ip_spec.specs.Chain.{ExtHeader, bytes_of, IsPrefixChain}
-use Rattle.ip_spec.specs.Demand.{IsDemand, KeepsBeginning, IsWithin, IsLongestUnder}
+use Rattle.ip_spec.specs.Chain.{ExtHeader, bytes_of, headers_within, IsPrefixChain}
+use Rattle.ip_spec.specs.Demand.{IsDemand, NextBreaks, KeepsBeginning, IsLongestUnder}
 use Rattle.ip_spec.proofs.PrefixLemmas.{prefix-length}
 use Rattle.ip_spec.proofs.LongestOfLemmas.{longest_same}
 use Rattle.ip_spec.proofs.DemandLemmas.{IsUnder, kept_where_longest}
 use Rattle.ip_spec.proofs.UnderLemmas.{chains_grow_under}
-use Rattle.ip_spec.proofs.DemandKinds.{within}
+use Rattle.ip_spec.proofs.DemandKinds.{IsWithin, within}
 
 prefix_shorter : (j : ℕ) (b s : List ℕ) → IsPrefix b s → length b ≤ j → IsPrefix b (take j s)
 prefix_shorter j b s f w = take-take (length b) j s w ∙ f
@@ -17,6 +18,24 @@ prefix_longer : (j : ℕ) (b s : List ℕ) → IsPrefix b (take j s) → IsPrefi
 prefix_longer j b s f =
     let w : length b ≤ j = omega (arith, prefix-length b (take j s) f, length-take j s) in
     (sym (take-take (length b) j s w) ∙ f, w)
+
+length_with : (h : ExtHeader) (c : List ExtHeader) → length (bytes_of (h ∷ c)) ≡ length h.bytes + length (bytes_of c)
+length_with h c = length-append h.bytes (bytes_of c)
+
+breaks_behind : (j : ℕ) (h : ExtHeader) (c rest : List ExtHeader) → length h.bytes ≤ j → NextBreaks (IsWithin j) (h ∷ c) rest → NextBreaks (IsWithin (j - length h.bytes)) c rest
+breaks_behind j h c [] few breaks = tt
+breaks_behind j h c (x ∷ rest) few breaks = λ w. breaks (omega (arith, w, few, length_with h (c ++ x ∷ [])))
+
+-- what a bound on the bytes keeps are the headers within it
+within_is : (j : ℕ) (c rest : List ExtHeader) → IsWithin j c → NextBreaks (IsWithin j) c rest → c ≡ headers_within j (c ++ rest)
+within_is j [] [] meets breaks = refl
+within_is j [] (x ∷ rest) meets breaks = elim (cases_lt j (length x.bytes)) [
+  | inl less ↦ rw (lt-ltb j (length x.bytes) less) refl
+  | inr some ↦ absurd (breaks (omega (arith, some, length_with x [])))
+]
+within_is j (h ∷ c) rest meets breaks =
+    let few : length h.bytes ≤ j = omega (arith, meets, length_with h c) in
+    rw (le-ltb j (length h.bytes) few) (ap (λ d. h ∷ d) (within_is (j - length h.bytes) c rest (omega (arith, meets, length_with h c)) (breaks_behind j h c rest few breaks)))
 
 module _ (Q : List ExtHeader → Type 0) (k : IsDemand Q) (n j : ℕ) (s : List ℕ) where
   shorter_under : (c : List ExtHeader) → IsUnder Q (IsPrefixChain n (take j s)) c → IsUnder (IsWithin j) (IsUnder Q (IsPrefixChain n s)) c
@@ -27,8 +46,13 @@ module _ (Q : List ExtHeader → Type 0) (k : IsDemand Q) (n j : ℕ) (s : List 
   under_shorter : (c : List ExtHeader) → IsUnder (IsWithin j) (IsUnder Q (IsPrefixChain n s)) c → IsUnder Q (IsPrefixChain n (take j s)) c
   under_shorter c u = (record { chain = u.0.0.chain; prefix = prefix_shorter j (bytes_of c) s u.0.0.prefix u.1 }, u.0.1)
 
-  -- of the longest chain of the whole, the bytes cut short keep the headers that lie wholly within them
-  pub longest_shorter : (d c : List ExtHeader) → IsLongestUnder Q n s d → IsLongestUnder Q n (take j s) c → KeepsBeginning (IsWithin j) d c
-  longest_shorter d c l m =
+  shorter_kept : (d c : List ExtHeader) → IsLongestUnder Q n s d → IsLongestUnder Q n (take j s) c → KeepsBeginning (IsWithin j) d c
+  shorter_kept d c l m =
       kept_where_longest (IsUnder Q (IsPrefixChain n s)) (IsWithin j) (chains_grow_under Q k n s) (within j) d c l
       (longest_same (IsUnder Q (IsPrefixChain n (take j s))) (IsUnder (IsWithin j) (IsUnder Q (IsPrefixChain n s))) shorter_under under_shorter c m)
+
+  -- of the longest chain of the whole, the bytes cut short keep the headers that lie whole within them
+  pub longest_shorter : (d c : List ExtHeader) → IsLongestUnder Q n s d → IsLongestUnder Q n (take j s) c → c ≡ headers_within j d
+  longest_shorter d c l m =
+      let kept = shorter_kept d c l m in
+      within_is j c kept.rest kept.meets kept.breaks ∙ ap (headers_within j) (sym kept.joined)

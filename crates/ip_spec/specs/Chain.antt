@@ -1,5 +1,5 @@
 -- Chains of extension headers (RFC 8200, section 4).
-use Rattle.std.specs.Prelude.{◌≡◌, ◌≢◌, ℕ, List, [], ◌∷◌, drop, ⊤, Bool, true, false, IsTrue, ◌==◌, ◌&&◌}
+use Rattle.std.specs.Prelude.{◌≡◌, ◌≢◌, ℕ, ◌-◌, nat_lt, List, [], ◌∷◌, length, drop, ⊤, Bool, true, false, IsTrue, ◌==◌, ◌&&◌, if◌then◌else◌}
 use Rattle.std.specs.List.{flat_map, AllByRecursion, list_any}
 use Rattle.ip_spec.specs.Prefix.{IsPrefix}
 use Rattle.ip_spec.specs.Numbers.{HOP_BY_HOP, FRAGMENT}
@@ -31,6 +31,11 @@ leads_to n (h ∷ c) = leads_to (next_header h.bytes) c
 -- the headers joined
 abbrev pub bytes_of : List ExtHeader → List ℕ
 bytes_of c = flat_map (λ h. h.bytes) c
+
+-- of headers that stand one behind the other, those that lie whole within the first j bytes
+abbrev pub headers_within : ℕ → List ExtHeader → List ExtHeader
+headers_within j [] = []
+headers_within j (h ∷ c) = if nat_lt j (length h.bytes) then [] else h ∷ headers_within (j - length h.bytes) c
 
 -- there is no header
 abbrev pub is_empty : List ExtHeader → Bool

@@ -2,7 +2,7 @@
 use Rattle.std.specs.Prelude.{◌≡◌, ℕ, ◌≤◌, List, [], ◌∷◌, ◌++◌, length, ⊤, Bool, IsTrue, ◌⊎◌}
 use Rattle.std.specs.List.{AllByRecursion}
 use Rattle.ip_spec.specs.LongestOf.{IsLongestOf}
-use Rattle.ip_spec.specs.Chain.{ExtHeader, bytes_of, is_empty, IsPrefixChain, IsNext}
+use Rattle.ip_spec.specs.Chain.{ExtHeader, is_empty, IsPrefixChain, IsNext}
 
 -- Q is a demand: the empty list meets it, each beginning of a list that meets it does, and it is decided
 -- whether a list does
@@ -39,10 +39,6 @@ NoDemand c = ⊤
 -- at most k headers
 abbrev pub AtMost : ℕ → List ExtHeader → Type 0
 AtMost k c = length c ≤ k
-
--- at most j bytes
-abbrev pub IsWithin : ℕ → List ExtHeader → Type 0
-IsWithin j c = length (bytes_of c) ≤ j
 
 -- at most one header, and it is of number m
 pub record AtMostOneOf (m : ℕ) (c : List ExtHeader) : Type 0 where

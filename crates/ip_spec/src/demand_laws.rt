@@ -1,7 +1,7 @@
 ghost use Rattle.std.specs.Prelude.{◌≡◌, ◌<◌, ◌↔◌, IsTrue, ℕ, List, [], ◌∷◌, ◌++◌, Bool, length, take, drop};
 ghost use Rattle.ip_spec.specs.Header.{IsExtensionNumber};
-ghost use Rattle.ip_spec.specs.Chain.{ExtHeader, IsLongestChain, IsNext, IsEnd, leads_to, bytes_of, is_empty};
-ghost use Rattle.ip_spec.specs.Demand.{IsDemand, KeepsBeginning, IsLongestUnder, IsEndUnder, Passes, NoDemand, AtMost, AtMostOneOf, IsWithin};
+ghost use Rattle.ip_spec.specs.Chain.{ExtHeader, IsLongestChain, IsNext, IsEnd, leads_to, bytes_of, headers_within, is_empty};
+ghost use Rattle.ip_spec.specs.Demand.{IsDemand, KeepsBeginning, IsLongestUnder, IsEndUnder, Passes, NoDemand, AtMost, AtMostOneOf};
 ghost use Rattle.ip_spec.specs.Fits.{FitsPlaces, IsTaken};
 ghost use Rattle.ip_spec.specs.NumbersFit.{NumbersFit, numbers_of, in_place};
 ghost use Rattle.ip_spec.specs.Places.{is_taken};
@@ -38,7 +38,7 @@ pub fn shorter_bytes_keep_whole_headers()
     ensures { (q : List ExtHeader → Bool) → IsDemand (Passes q)
         → (n j : ℕ) (s : List ℕ) (d c : List ExtHeader)
         → IsLongestUnder (Passes q) n s d → IsLongestUnder (Passes q) n (take j s) c
-        → KeepsBeginning (IsWithin j) d c }
+        → c ≡ headers_within j d }
 {}
 
 /// Four demands.

@@ -1,5 +1,5 @@
 use Rattle.std.proofs.Common.{refl}
-use Rattle.ip_ext_chains.proofs.FittingLemmas.{walked_numbers, walked_answer}
+use Rattle.ip_ext_chains.proofs.FittingLemmas.{fitting_shorter, walked_numbers, walked_answer}
 use Rattle.ip_ext_chains.proofs.ipv6_exts.Ipv6Extensions.from_slice_lax.Goals as goal
 
 pub fill-requires-clause-numbers : goal.fill-requires-clause-numbers
@@ -7,3 +7,6 @@ fill-requires-clause-numbers c = walked_numbers _ _ _ _ _ _ c.take_places-fault.
 
 pub returns-clause-answer : goal.returns-clause-answer
 returns-clause-answer c = walked_answer _ _ _ _ _ _ c.take_places-fault.ensures _ _ c.fill.ensures refl
+
+pub returns-clause-cut : goal.returns-clause-cut
+returns-clause-cut c = λ j. fitting_shorter _ j _

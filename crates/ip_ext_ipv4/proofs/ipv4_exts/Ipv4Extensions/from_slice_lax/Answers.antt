@@ -2,6 +2,7 @@ use Rattle.std.proofs.Common.{ℕ, ◌<◌, List, arith}
 use Rattle.std.specs.Prelude.{slice_index_or}
 use Rattle.std.proofs.lemmas.List.Elements.{All-from_get_or}
 use Rattle.ip_spec.specs.Encoding.{AreBytes}
+use Rattle.ip_ext_ipv4.proofs.Ipv4Lemmas.{ipv4_longest-shorter}
 use Rattle.ip_ext_ipv4.proofs.Ipv4WalkLemmas.{cleared_encodes}
 use Rattle.ip_ext_ipv4.proofs.ipv4_exts.Ipv4Extensions.from_slice_lax.Goals as goal
 
@@ -11,3 +12,6 @@ are_bytes s small = All-from_get_or (λ x. x < 256) s 0 (λ i l. small i)
 pub returns-clause-cleared : goal.returns-clause-cleared
 returns-clause-cleared c =
     rw (c.fill.ensures, c.scan-fault.ensures.value) (cleared_encodes _ _ (are_bytes _ (λ i. let f = c.type_inv.start_slice i in omega arith)))
+
+pub returns-clause-cut : goal.returns-clause-cut
+returns-clause-cut c = λ j. ipv4_longest-shorter _ j _

@@ -29,8 +29,8 @@ use Rattle.ip_ext_slices.specs.Fault.{chain_fault}
 use Rattle.ip_ext_slices.specs.declared.err.ipv6_exts.header_slice_error.HeaderSliceError.{HeaderSliceError as ExtsSliceError}
 use Rattle.ip_ext_slices.specs.declared.err.ipv6_exts.header_slice_error.HeaderSliceError.TheVariants as exts
 use Rattle.ip_ext_ipv4.specs.Ipv4Fault.{ipv4_chain_fault}
-use Rattle.etherparse_ip.specs.LenSources.{front, ipv6_len_source, strict_error_source, lax_error_source}
-use Rattle.etherparse_ip.specs.Fault.{auth_in_packet, exts_in_packet, ipv4_fault_behind, ipv6_chain_fault, ipv6_fault_behind, ipv6_lax_fault_behind}
+use Rattle.etherparse_ip.specs.LenSources.{front, ipv6_len_source}
+use Rattle.etherparse_ip.specs.Fault.{auth_in_packet, exts_in_packet, ipv4_fault_behind, ipv6_chain_fault, ipv6_fault_behind}
 use Rattle.etherparse_ip.proofs.BaseLemmas.{SaysIpv4, says_ipv4, SaysIpv6, says_ipv6}
 use Rattle.etherparse_ip.specs.Packet.{IsIpv4Packet, IsIpv6Packet}
 
@@ -158,17 +158,19 @@ ipv6_packet s b n h k source whole x fragmented c m r at ef a =
       source = source_is;
     }
 
-pub ipv6_behind_fault : (s b : List ℕ) (n h k : ℕ) (source error_source : LenSource) (whole x : List ℕ) → AtIpv6 s b n h k source whole x
-    → ipv6_chain_fault error_source s ≡ option_map (exts_in_packet error_source h) (option_map (λ f. f.0) (chain_fault n x))
-ipv6_behind_fault s b n h k source error_source whole x at =
+pub ipv6_behind_fault : (s b : List ℕ) (n h k : ℕ) (source : LenSource) (whole x : List ℕ) → AtIpv6 s b n h k source whole x
+    → ipv6_chain_fault s ≡ option_map (exts_in_packet source h) (option_map (λ f. f.0) (chain_fault n x))
+ipv6_behind_fault s b n h k source whole x at =
     let says : SaysIpv6 b s = says_ipv6 b s at.base at.prefix in
     let payload : payload_length s ≡ k = sym (at.payload ∙ says.payload) in
     let forty : 40 ≡ h = sym (at.len ∙ at.base.len) in
     let behind : drop 40 (front (ipv6_len_source (payload_length s) (length s)) (payload_length s) s) ≡ x =
     ap (λ j. drop 40 (front (ipv6_len_source j (length s)) j s)) payload ∙ ap (λ y. drop 40 (front y k s)) (sym at.source) ∙ ap (drop 40) (sym at.whole_is) ∙ ap (λ j. drop j whole) forty ∙ sym at.behind in
-    ap (λ j. option_map (exts_in_packet error_source j) (option_map (λ f. f.0) (chain_fault (ipv6_next_header s) (drop 40 (front (ipv6_len_source (payload_length s) (length s)) (payload_length s) s))))) forty
-    ∙ ap (λ j. option_map (exts_in_packet error_source h) (option_map (λ f. f.0) (chain_fault j (drop 40 (front (ipv6_len_source (payload_length s) (length s)) (payload_length s) s))))) (sym says.number ∙ sym at.number)
-    ∙ ap (λ y. option_map (exts_in_packet error_source h) (option_map (λ f. f.0) (chain_fault n y))) behind
+    let told : ipv6_len_source (payload_length s) (length s) ≡ source = ap (λ j. ipv6_len_source j (length s)) payload ∙ sym at.source in
+    ap (λ by. option_map (exts_in_packet by 40) (option_map (λ f. f.0) (chain_fault (ipv6_next_header s) (drop 40 (front (ipv6_len_source (payload_length s) (length s)) (payload_length s) s))))) told
+    ∙ ap (λ j. option_map (exts_in_packet source j) (option_map (λ f. f.0) (chain_fault (ipv6_next_header s) (drop 40 (front (ipv6_len_source (payload_length s) (length s)) (payload_length s) s))))) forty
+    ∙ ap (λ j. option_map (exts_in_packet source h) (option_map (λ f. f.0) (chain_fault j (drop 40 (front (ipv6_len_source (payload_length s) (length s)) (payload_length s) s))))) (sym says.number ∙ sym at.number)
+    ∙ ap (λ y. option_map (exts_in_packet source h) (option_map (λ f. f.0) (chain_fault n y))) behind
 
 -- what follows the base header and the header itself are no more than s
 pub behind-length : (s b : List ℕ) (n h k : ℕ) (by : LenSource) (whole x : List ℕ) → AtIpv6 s b n h k by whole x → length x + h ≤ length s
@@ -178,17 +180,9 @@ behind-length s b n h k by whole x at =
     let whole_is : whole ≡ take taken.len s = at.whole_is ∙ ap (λ j. front by j s) at.payload ∙ taken.taken in
     omega (arith, at.len, at.base.len, ap length at.behind, ap length whole_is, length-drop h whole, length-take taken.len s, taken.enough, prefix-length b s at.prefix)
 
--- the tests before the chain are passed, and what an error names is the same by b and by s
-pub strict_fault_of_chain : (s b : List ℕ) (k : ℕ) (source : LenSource) → IsIpv6Header b → IsPrefix b s → k ≡ payload_length b → 40 + k ≤ length s → source ≡ strict_error_source k (length s)
-    → ipv6_fault_behind s ≡ ipv6_chain_fault source s
-strict_fault_of_chain s b k source base prefix payload enough is =
-    let same : payload_length s ≡ k = sym (payload ∙ (says_ipv6 b s base prefix).payload) in
-    let by : ℕ → Option ExtsSliceError = λ j.
-    if nat_lt (length s) (40 + j) then Some (exts.Len (too_short Slice (length s) 0 Ipv6Packet (40 + j)))
-    else ipv6_chain_fault (strict_error_source j (length s)) s in
-    ap by same ∙ no_test (nat_lt (length s) (40 + k)) _ (ipv6_chain_fault (strict_error_source k (length s)) s) (le-ltb (length s) (40 + k) enough) ∙ ap (λ x. ipv6_chain_fault x s) (sym is)
+-- where as many bytes are there as are stated, the tests before the chain are passed
+pub strict_fault_of_chain : (s : List ℕ) → 40 + payload_length s ≤ length s → ipv6_fault_behind s ≡ ipv6_chain_fault s
+strict_fault_of_chain s enough = no_test (nat_lt (length s) (40 + payload_length s)) _ (ipv6_chain_fault s) (le-ltb (length s) (40 + payload_length s) enough)
 
-pub lax_fault_of_chain : (s b : List ℕ) (k : ℕ) (source : LenSource) → IsIpv6Header b → IsPrefix b s → k ≡ payload_length b → source ≡ lax_error_source k (length s)
-    → ipv6_lax_fault_behind s ≡ ipv6_chain_fault source s
-lax_fault_of_chain s b k source base prefix payload is =
-    ap (λ j. ipv6_chain_fault (lax_error_source j (length s)) s) (sym (payload ∙ (says_ipv6 b s base prefix).payload)) ∙ ap (λ x. ipv6_chain_fault x s) (sym is)
+pub stated_of_base : (s b : List ℕ) (k : ℕ) → IsIpv6Header b → IsPrefix b s → k ≡ payload_length b → k ≡ payload_length s
+stated_of_base s b k base prefix payload = payload ∙ (says_ipv6 b s base prefix).payload

@@ -17,8 +17,7 @@ use Rattle.ip_ext_slices.specs.Longest.{longest_chain}
 use Rattle.ip_spec.specs.Parse.{rest_behind}
 use Rattle.ip_ext_slices.specs.Fault.{Fault, fault_at, chain_fault, short_at, auth_at, ExtsOffsetFits}
 use Rattle.ip_base.specs.Ipv6Header.{payload_length, ipv6_next_header, ipv6_header_fault}
-use Rattle.etherparse_ip.specs.LenSources.{strict_error_source, lax_error_source}
-use Rattle.etherparse_ip.specs.Fault.{exts_in_packet, ipv6_behind, ipv6_chain_fault, ipv6_fault_behind, ipv6_lax_fault_behind, ipv6_lax_fault, ipv6_of_header, ipv6_of_exts}
+use Rattle.etherparse_ip.specs.Fault.{ipv6_chain_fault, ipv6_fault_behind, ipv6_lax_fault, ipv6_of_header, ipv6_of_exts}
 use Rattle.ip_ext_slices.specs.declared.err.ipv6_exts.header_slice_error.HeaderSliceError.{HeaderSliceError}
 use Rattle.ip_ext_slices.specs.declared.err.ipv6_exts.header_slice_error.HeaderSliceError.TheVariants.{Len, Content}
 
@@ -88,20 +87,13 @@ chain_fault_fits n s j e told small =
     let mapped : If (BeginsAt k) (option_map (λ f. f.0) (chain_fault n s)) = if_mapped (λ f. BeginsAt k f.0) (BeginsAt k) (λ f. f.0) (chain_fault n s) (λ f h. h) begins in
     fits k j e (if_some (BeginsAt k) (option_map (λ f. f.0) (chain_fault n s)) e told mapped) (omega (arith, within))
 
-map_none : {X Y : Type 0} (f : X → Y) (o : Option X) → None ≡ option_map f o → None ≡ o
-map_none f (Some x) e = absurd (cc)
-map_none f None e = refl
-
 if_none : {X : Type 0} (b : Bool) (x : X) (o : Option X) → None ≡ (if b then Some x else o) → None ≡ o
 if_none true x o e = absurd (cc)
 if_none false x o e = e
 
 -- where the strict parse finds no fault behind a base header, the lax one finds none
-pub lax_of_strict : (s : List ℕ) → None ≡ ipv6_fault_behind s → None ≡ ipv6_lax_fault_behind s
-lax_of_strict s e =
-    let source : LenSource = strict_error_source (payload_length s) (length s) in
-    let chain : None ≡ option_map (λ f. f.0) (chain_fault (ipv6_next_header s) (ipv6_behind s)) = map_none (exts_in_packet source 40) _ (if_none (nat_lt (length s) (40 + payload_length s)) _ (ipv6_chain_fault source s) e) in
-    ap (option_map (exts_in_packet (lax_error_source (payload_length s) (length s)) 40)) chain
+pub lax_of_strict : (s : List ℕ) → None ≡ ipv6_fault_behind s → None ≡ ipv6_chain_fault s
+lax_of_strict s e = if_none (nat_lt (length s) (40 + payload_length s)) _ (ipv6_chain_fault s) e
 
 pub lax_accepts_strict : (s : List ℕ) → None ≡ ipv6_header_fault s → None ≡ ipv6_fault_behind s → ipv6_lax_fault s ≡ None
 lax_accepts_strict s base behind =

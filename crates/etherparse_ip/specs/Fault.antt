@@ -17,7 +17,7 @@ use Rattle.ip_ext_slices.specs.declared.err.ipv6_exts.header_slice_error.HeaderS
 use Rattle.ip_ext_slices.specs.declared.err.ipv6_exts.header_slice_error.HeaderSliceError.TheVariants as exts
 use Rattle.ip_ext_slices.specs.Fault.{chain_fault}
 use Rattle.ip_ext_ipv4.specs.Ipv4Fault.{ipv4_chain_fault}
-use Rattle.etherparse_ip.specs.LenSources.{front, ipv4_len_source, ipv6_len_source, strict_error_source, lax_error_source}
+use Rattle.etherparse_ip.specs.LenSources.{front, ipv4_len_source, ipv6_len_source}
 use Rattle.etherparse_ip.specs.declared.err.ipv4.slice_error.SliceError.{SliceError as Ipv4SliceError}
 use Rattle.etherparse_ip.specs.declared.err.ipv4.slice_error.SliceError.TheVariants as ipv4
 use Rattle.etherparse_ip.specs.declared.err.ipv6.slice_error.SliceError.{SliceError as Ipv6SliceError}
@@ -51,19 +51,15 @@ ipv4_fault_behind s =
     else if nat_lt (length s) (total_len s) then Some (auth.Len (too_short Slice (length s) 0 layer.Ipv4Packet (total_len s)))
     else option_map (auth_in_packet ipv4_len_source (ipv4_header_len s)) (ipv4_chain_fault (protocol s) (ipv4_behind s))
 
--- of the chain behind an IPv6 base header, where an error names the source
-abbrev pub ipv6_chain_fault : LenSource → List ℕ → Option ExtsSliceError
-ipv6_chain_fault source s = option_map (exts_in_packet source 40) (option_map (λ f. f.0) (chain_fault (ipv6_next_header s) (ipv6_behind s)))
+-- of the chain behind an IPv6 base header
+abbrev pub ipv6_chain_fault : List ℕ → Option ExtsSliceError
+ipv6_chain_fault s = option_map (exts_in_packet (ipv6_len_source (payload_length s) (length s)) 40) (option_map (λ f. f.0) (chain_fault (ipv6_next_header s) (ipv6_behind s)))
 
--- behind an IPv6 base header, strict
+-- the same, where the packet has to have the length that it states
 abbrev pub ipv6_fault_behind : List ℕ → Option ExtsSliceError
 ipv6_fault_behind s =
     if nat_lt (length s) (40 + payload_length s) then Some (exts.Len (too_short Slice (length s) 0 layer.Ipv6Packet (40 + payload_length s)))
-    else ipv6_chain_fault (strict_error_source (payload_length s) (length s)) s
-
--- and lax
-abbrev pub ipv6_lax_fault_behind : List ℕ → Option ExtsSliceError
-ipv6_lax_fault_behind s = ipv6_chain_fault (lax_error_source (payload_length s) (length s)) s
+    else ipv6_chain_fault s
 
 -- as the errors of an IPv4 packet say it
 abbrev pub ipv4_of_header : Ipv4HeaderSliceError → Ipv4SliceError
@@ -102,7 +98,7 @@ ipv6_fault s = option_or (option_map ipv6_of_header (ipv6_header_fault s)) (opti
 
 -- and lax
 abbrev pub ipv6_lax_fault : List ℕ → Option Ipv6SliceError
-ipv6_lax_fault s = option_or (option_map ipv6_of_header (ipv6_header_fault s)) (option_map ipv6_of_exts (ipv6_lax_fault_behind s))
+ipv6_lax_fault s = option_or (option_map ipv6_of_header (ipv6_header_fault s)) (option_map ipv6_of_exts (ipv6_chain_fault s))
 
 -- where neither does: version 4
 abbrev pub ip_fault_of_ipv4 : List ℕ → Option SliceError

@@ -1,5 +1,5 @@
--- What tells how many bytes a packet has, and what an error of a length behind its base header names for it. These
--- rules stand nowhere else.
+-- What tells how many bytes a packet has. An error of a length in its extension headers names the same. This rule
+-- stands nowhere else.
 use Rattle.std.specs.Prelude.{ℕ, ◌+◌, ◌==◌, ◌&&◌, nat_lt, List, take, if◌then◌else◌}
 use Rattle.ip_base.specs.declared.len_source.LenSource.{LenSource}
 use Rattle.ip_base.specs.declared.len_source.LenSource.TheVariants.{Slice, Ipv4HeaderTotalLen, Ipv6HeaderPayloadLen}
@@ -11,7 +11,7 @@ front Slice n s = s
 front Ipv4HeaderTotalLen n s = take n s
 front Ipv6HeaderPayloadLen n s = take (40 + n) s
 
--- IPv4: of a packet and of an error
+-- IPv4
 abbrev pub ipv4_len_source : LenSource
 ipv4_len_source = Ipv4HeaderTotalLen
 
@@ -22,11 +22,3 @@ ipv6_len_source n k =
     if nat_lt k (40 + n) then Slice
     else if (n == 0) && nat_lt 40 k then Slice
     else Ipv6HeaderPayloadLen
-
--- IPv6, strict: an error always names the header's field
-abbrev pub strict_error_source : ℕ → ℕ → LenSource
-strict_error_source n k = Ipv6HeaderPayloadLen
-
--- IPv6, lax: an error names what says the packet's length
-abbrev pub lax_error_source : ℕ → ℕ → LenSource
-lax_error_source n k = ipv6_len_source n k

@@ -1,17 +1,17 @@
-ghost use Rattle.std.specs.Prelude.{◌≡◌, None, IfOk};
+ghost use Rattle.std.specs.Prelude.{◌≡◌, ◌≤◌, ◌+◌, None, IfOk, length};
 ghost use Rattle.std.specs.Result.{result_err};
-ghost use Rattle.ip_base.specs.Ipv6Header.{payload_length};
+ghost use Rattle.ip_base.specs.Ipv6Header.{payload_length, ipv6_header_fault};
 ghost use Rattle.ip_base.specs.Ipv6HeaderSlice.{bytes};
 ghost use Rattle.ip_spec.specs.Prefix.{IsPrefix};
 ghost use Rattle.ip_ext_slices.specs.Fault.{ExtsOffsetFits};
 ghost use Rattle.ip_ext_slices.specs.Ipv6ExtensionsSlice.{headers_in};
 ghost use Rattle.etherparse_ip.specs.Packet.{IsIpv6Packet};
 ghost use Rattle.etherparse_ip.specs.Fault.{exts_in_packet, ipv6_chain_fault};
-ghost use Rattle.etherparse_ip.specs.Fault.{ipv6_fault_behind, ipv6_lax_fault_behind, ipv6_fault, ipv6_lax_fault};
+ghost use Rattle.etherparse_ip.specs.Fault.{ipv6_fault_behind, ipv6_fault, ipv6_lax_fault};
 
 use crate::err::ipv6::{HeaderSliceError, SliceError};
 use crate::err::{Layer, LenError, ipv6_exts};
-use crate::len_sources::{ipv6_front, lax_error_source, strict_error_source};
+use crate::len_sources::ipv6_front;
 use crate::rest::after;
 use ip_base::{IpNumber, IpPayloadSlice, Ipv6Header, Ipv6HeaderSlice, LenSource};
 use ip_ext_slices::Ipv6ExtensionsSlice;
@@ -34,7 +34,8 @@ impl<'a> Ipv6Slice<'a> {
     ///
     /// The error tells, in this order, what is wrong with the base header, that there are fewer bytes than payload
     /// length states, or what is wrong with the extension headers, its offset counted from the start of the slice
-    /// and its length source `LenSource::Ipv6HeaderPayloadLen`.
+    /// and its length source the one that says the packet's length: `LenSource::Slice` where payload length is 0
+    /// and bytes follow the base header, else `LenSource::Ipv6HeaderPayloadLen`.
     #[inline(always)]
     pub fn from_slice(slice: &'a [u8]) -> Result<Ipv6Slice<'a>, SliceError>
         ensures packet { IfOk result (λ x. IsIpv6Packet slice.now (ipv6_parts x)) }
@@ -57,19 +58,23 @@ impl<'a> Ipv6Slice<'a> {
     /// length states, all of them belong to it. The payload's `len_source` tells whether it ends where the slice
     /// does.
     ///
-    /// The error is that of `from_slice`, but it doesn't tell that the packet is cut short, and the length source
-    /// of an error in the extension headers is the one that says the packet's length.
+    /// The answer is that of `from_slice` for each slice but one that a good base header begins and that has
+    /// fewer bytes than payload length states. The length source of an error in the extension headers is the one
+    /// that says the packet's length.
     #[inline(always)]
     pub fn from_slice_lax(slice: &'a [u8]) -> Result<Ipv6Slice<'a>, SliceError>
         ensures packet { IfOk result (λ x. IsIpv6Packet slice.now (ipv6_parts x)) }
         ensures fault { result_err result ≡ ipv6_lax_fault slice.now }
+        ensures strict { (ipv6_header_fault slice.now ≡ None
+            → 40 + payload_length slice.now ≤ length slice.now)
+            → result_err result ≡ ipv6_fault slice.now }
     {
         let header = match Ipv6HeaderSlice::from_slice(slice) {
             Ok(header) => header,
             Err(HeaderSliceError::Len(e)) => return Err(SliceError::Len(e)),
             Err(HeaderSliceError::Content(e)) => return Err(SliceError::Header(e)),
         };
-        match Self::behind_lax(header, slice) {
+        match Self::cut(header, slice) {
             Ok(packet) => Ok(packet),
             Err(ipv6_exts::HeaderSliceError::Len(e)) => Err(SliceError::Len(e)),
             Err(ipv6_exts::HeaderSliceError::Content(e)) => Err(SliceError::Exts(e)),
@@ -95,35 +100,18 @@ impl<'a> Ipv6Slice<'a> {
                 required_len,
             )));
         }
-        let error_source = strict_error_source(payload_length, slice.len());
-        Self::cut(header, slice, error_source)
+        Self::cut(header, slice)
     }
 
     /// The packet that begins the slice with this base header, cut short or not.
     #[inline(always)]
-    fn behind_lax(
-        header: Ipv6HeaderSlice<'a>,
-        slice: &'a [u8],
-    ) -> Result<Ipv6Slice<'a>, ipv6_exts::HeaderSliceError>
-        requires { IsPrefix (bytes header) slice.now }
-        ensures packet { IfOk result (λ x. IsIpv6Packet slice.now (ipv6_parts x)) }
-        ensures fault { result_err result ≡ ipv6_lax_fault_behind slice.now }
-    {
-        let error_source = lax_error_source(header.payload_length(), slice.len());
-        Self::cut(header, slice, error_source)
-    }
-
-    /// The packet that begins the slice with this base header, cut short or not. An error of a length in its
-    /// extension headers names the source.
-    #[inline(always)]
     fn cut(
         header: Ipv6HeaderSlice<'a>,
         slice: &'a [u8],
-        error_source: LenSource,
     ) -> Result<Ipv6Slice<'a>, ipv6_exts::HeaderSliceError>
         requires { IsPrefix (bytes header) slice.now }
         ensures packet { IfOk result (λ x. IsIpv6Packet slice.now (ipv6_parts x)) }
-        ensures fault { result_err result ≡ ipv6_chain_fault error_source slice.now }
+        ensures fault { result_err result ≡ ipv6_chain_fault slice.now }
     {
         let payload_length = header.payload_length();
         let (front, len_source) = ipv6_front(payload_length, slice);
@@ -142,7 +130,7 @@ impl<'a> Ipv6Slice<'a> {
                     },
                 })
             }
-            Err(e) => Err(in_packet(e, error_source, header_len)),
+            Err(e) => Err(in_packet(e, len_source, header_len)),
         }
     }
 

@@ -1,7 +1,6 @@
-//! What tells how many bytes an IPv6 packet has, and what an error behind its base header names for it.
+//! What tells how many bytes an IPv6 packet has.
 ghost use Rattle.std.specs.Prelude.{◌≡◌, length};
 ghost use Rattle.etherparse_ip.specs.LenSources.{front, ipv6_len_source};
-ghost use Rattle.etherparse_ip.specs.LenSources.{strict_error_source, lax_error_source};
 
 use ip_base::{Ipv6Header, LenSource};
 
@@ -19,26 +18,4 @@ pub(crate) fn ipv6_front(payload_length: u16, slice: &[u8]) -> (&[u8], LenSource
         return (slice, LenSource::Slice);
     }
     (&slice[..stated], LenSource::Ipv6HeaderPayloadLen)
-}
-
-/// What an error names, where a packet has to have the length that it states.
-#[inline(always)]
-pub(crate) fn strict_error_source(_payload_length: u16, _len: usize) -> LenSource
-    ensures { result ≡ strict_error_source _payload_length _len }
-{
-    LenSource::Ipv6HeaderPayloadLen
-}
-
-/// What an error names, where a packet may be shorter.
-#[inline(always)]
-pub(crate) fn lax_error_source(payload_length: u16, len: usize) -> LenSource
-    ensures { result ≡ lax_error_source payload_length len }
-{
-    if len < Ipv6Header::LEN + usize::from(payload_length) {
-        return LenSource::Slice;
-    }
-    if payload_length == 0 && len > Ipv6Header::LEN {
-        return LenSource::Slice;
-    }
-    LenSource::Ipv6HeaderPayloadLen
 }

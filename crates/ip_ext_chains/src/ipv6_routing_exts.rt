@@ -15,13 +15,13 @@ pub struct Ipv6RoutingExtensions {
 }
 
 impl Ipv6RoutingExtensions {
-    /// The largest routing header, in bytes; the smallest that this type holds has 8.
-    pub const MIN_LEN: usize = 2048;
+    /// The smallest sum of both headers, in bytes: a routing header without options behind it.
+    pub const MIN_LEN: usize = 8;
 
     /// The largest sum of both headers, in bytes.
     pub const MAX_LEN: usize = 4096;
 
-    /// The number of the headers' bytes, 8 to 4096.
+    /// The number of the headers' bytes, `MIN_LEN` to `MAX_LEN`.
     pub fn header_len(&self) -> usize
         ensures len { result ≡ routing_len self.now }
         ensures least { 8 ≤ result }

@@ -83,7 +83,7 @@ const _: () = prove!(Ipv6RawExtHeader::MAX_PAYLOAD_LEN == 2046);
 
 const _: () = prove!(Ipv6FragmentHeader::LEN == 8);
 
-const _: () = prove!(Ipv6RoutingExtensions::MIN_LEN == 2048);
+const _: () = prove!(Ipv6RoutingExtensions::MIN_LEN == 8);
 
 const _: () = prove!(Ipv6RoutingExtensions::MAX_LEN == 4096);
 

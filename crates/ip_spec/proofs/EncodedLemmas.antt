@@ -13,7 +13,8 @@ use Rattle.ip_spec.specs.Encoded.{IsCleared}
 use Rattle.ip_spec.specs.Encodable.{IsEncoded}
 use Rattle.ip_spec.specs.WalkStep.{IsEncodingOf}
 use Rattle.ip_spec.proofs.HeaderLemmas.{raw_of, fragment_of, auth_of, ext_header-eq}
-use Rattle.ip_spec.proofs.EncodingLemmas.{fragment_only, auth_only, fragment_encodes, auth_written_encodes, fragment_written, auth_written, flagged_byte, packed_offset, packed_flag, packed_reserved}
+use Rattle.ip_spec.proofs.EncodingLemmas.{fragment_only, auth_only, fragment_encodes, auth_written_encodes, fragment_written, auth_written}
+use Rattle.ip_spec.proofs.FragmentBitLemmas.{high_byte, low_byte, packed_offset, packed_flag, packed_reserved, high_small, low_small}
 
 -- the number of a header is an extension number
 raw_bytes : (b d : List ℕ) → IsRawHeader b → IsRawHeader d → raw_fields b ≡ raw_fields d → b ≡ d
@@ -148,9 +149,9 @@ module _ (x : RawFields) (next : x.next_header < 256) (len : IsPayloadLen (lengt
 
 pub fragment_encoded : (x : FragmentFields) → x.next_header < 256 → x.fragment_offset ≤ MAX_FRAGMENT_OFFSET → x.identification < 2 ^ 32 → (h : ExtHeader) × IsEncoded 44 (fragment_header x) h
 fragment_encoded x next offset id =
-    let e : IsFragmentEncoding x (fragment_written x) = fragment_encodes x (x.fragment_offset / 32) (flagged_byte x.fragment_offset x.more_fragments)
+    let e : IsFragmentEncoding x (fragment_written x) = fragment_encodes x (high_byte x.fragment_offset) (low_byte x.fragment_offset x.more_fragments)
     (packed_offset x.fragment_offset x.more_fragments) (packed_flag x.fragment_offset x.more_fragments) (packed_reserved x.fragment_offset x.more_fragments)
-    (omega (arith, offset)) (flagged_small x.fragment_offset x.more_fragments) id in (
+    (high_small x.fragment_offset offset) (low_small x.fragment_offset x.more_fragments) id in (
       of_number 44 (fragment_written x),
       record {
         number = refl;
@@ -160,10 +161,6 @@ fragment_encoded x next offset id =
         bytes = bytes_first x.next_header (slice_range (fragment_written x) 1 8) next e.bytes;
       },
     )
-  where
-    flagged_small : (o : ℕ) (more : Bool) → flagged_byte o more < 256
-    flagged_small o true = omega arith
-    flagged_small o false = omega arith
 
 pub auth_encoded : (x : AuthFields) → x.next_header < 256 → IsIcvLen (length x.raw_icv) → AreBytes x.raw_icv → x.spi < 2 ^ 32 → x.sequence_number < 2 ^ 32 → (h : ExtHeader) × IsEncoded 51 (auth_header x) h
 auth_encoded x next len icv spi seq =

@@ -4,8 +4,7 @@ use Rattle.std.specs.Prelude.{◌==◌, not, slice_range}
 use Rattle.std.specs.Int.{to_be_bytes, from_be_bytes, w32}
 use Rattle.std.proofs.lemmas.List.{append_cancel_left, get_or_past, take_all, take-append-drop}
 use Rattle.std.proofs.lemmas.List.Elements.{All-from_recursion, recursion_from_All, All-append, All-get_or, All-take, All-drop}
-use Rattle.std.proofs.lemmas.Nat.{and_comm, and_assoc, and_mask, and-not, be_bytes_4, from_be_bytes-to_be_bytes_4}
-use Rattle.std.proofs.lemmas.Nat.Bits.{and_high, and_pow}
+use Rattle.std.proofs.lemmas.Nat.{be_bytes_4, from_be_bytes-to_be_bytes_4}
 use Rattle.std.proofs.lemmas.Bool.{cases_lt}
 use Rattle.ip_spec.specs.Header.{IsHeader, IsFragmentHeader, IsAuthHeader}
 use Rattle.ip_spec.specs.Fields.{offset_bits, flag_bit, unreserved_bits}
@@ -14,6 +13,7 @@ use Rattle.ip_spec.specs.Cleared.{cleared_fragment, cleared_auth}
 use Rattle.ip_spec.specs.Encoding.{AreBytes, IsEncoding, IsFragmentEncoding, IsAuthEncoding}
 use Rattle.ip_spec.specs.Decoding.{IsDecoding}
 use Rattle.ip_spec.proofs.HeaderLemmas.{one_header}
+use Rattle.ip_spec.proofs.FragmentBitLemmas.{high_byte, low_byte, unpacked_high, unpacked_low, unreserved_offset, unreserved_flag, unreserved_again, unreserved_small}
 
 -- what bytes begin with is determined where each header of the layout is one of a number
 pub one_decoding_of : {V : Type 0} (n : ℕ) (IsOne : List ℕ → Type 0) (fields_of : List ℕ → V) → ((b : List ℕ) → IsOne b → IsHeader n b)
@@ -52,55 +52,14 @@ byte_at b h i = elim (cases_lt i (length b)) [
   | inr past ↦ rw (get_or_past b i 0 past) (omega arith)
 ]
 
--- Byte 3 of a fragment header.
-module _ (x : ℕ) where
-  pub low_bits : bit_and x 0x1f ≡ x % 32
-  low_bits = and_mask x 5
-
-  pub high_bit : bit_and x 0x80 ≡ x / 128 % 2 * 128
-  high_bit = and_pow x 7
-
-  pub kept_bits : x < 256 → bit_and x 0x9f + x / 32 % 4 * 32 ≡ x
-  kept_bits small =
-      let other : bit_and 0x60 x ≡ x / 32 % 4 * 32 = and_comm 0x60 x ∙ and_high x 2 5 in
-      let all : bit_and 0x9f x + bit_and 0x60 x ≡ x = and-not 8 0x60 x (omega arith) small in
-      omega (arith, all, other, and_comm x 0x9f)
-
-  -- the bits below the flag, and the flag
-  pub flagged : x < 256 → x ≡ x % 128 + cond (not (bit_and x 0x80 == 0)) 128 0
-  flagged small = elim (cases_lt x 128) [
-    | inl low ↦ let e : bit_and x 0x80 ≡ 0 = omega (arith, high_bit) in rw e (omega arith)
-    | inr high ↦ let e : bit_and x 0x80 ≡ 128 = omega (arith, high_bit) in rw e (omega arith)
-  ]
-
 -- The encoding of fields. It is a way to prove, and no definition: the relations say what a encoding is.
-abbrev pub flagged_byte : ℕ → Bool → ℕ
-flagged_byte offset more = offset % 32 + cond more 128 0
-
 abbrev pub fragment_written : FragmentFields → List ℕ
 fragment_written v =
-    v.next_header ∷ 0 ∷ v.fragment_offset / 32 ∷ flagged_byte v.fragment_offset v.more_fragments ∷ to_be_bytes w32 v.identification
+    v.next_header ∷ 0 ∷ high_byte v.fragment_offset ∷ low_byte v.fragment_offset v.more_fragments ∷ to_be_bytes w32 v.identification
 
 abbrev pub auth_written : AuthFields → List ℕ
 auth_written v =
     v.next_header ∷ (length v.raw_icv / 4 + 1) ∷ 0 ∷ 0 ∷ (to_be_bytes w32 v.spi ++ (to_be_bytes w32 v.sequence_number ++ v.raw_icv))
-
--- The bits that are packed are those that are unpacked.
-module _ (offset : ℕ) where
-  byte_low : (more : Bool) → bit_and (flagged_byte offset more) 0x1f ≡ offset % 32
-  byte_low true = omega (arith, low_bits (offset % 32 + 128))
-  byte_low false = omega (arith, low_bits (offset % 32 + 0))
-
-  pub packed_offset : (more : Bool) → offset_bits (offset / 32) (flagged_byte offset more) ≡ offset
-  packed_offset more = ap (λ x. 32 * (offset / 32) + x) (byte_low more) ∙ omega arith
-
-  pub packed_flag : (more : Bool) → flag_bit (flagged_byte offset more) ≡ more
-  packed_flag true = let e : bit_and (offset % 32 + 128) 0x80 ≡ 128 = omega (arith, high_bit (offset % 32 + 128)) in ap (λ n. not (n == 0)) e
-  packed_flag false = let e : bit_and (offset % 32 + 0) 0x80 ≡ 0 = omega (arith, high_bit (offset % 32 + 0)) in ap (λ n. not (n == 0)) e
-
-  pub packed_reserved : (more : Bool) → unreserved_bits (flagged_byte offset more) ≡ flagged_byte offset more
-  packed_reserved true = omega (arith, kept_bits (offset % 32 + 128) (omega arith))
-  packed_reserved false = omega (arith, kept_bits (offset % 32 + 0) (omega arith))
 
 -- what is written in network byte order is bytes
 be_bytes-are : (n : ℕ) → AreBytes (to_be_bytes w32 n)
@@ -147,20 +106,20 @@ fragment_only_parts v x0 x1 x2 x3 rest bytes h =
     let small : x3 < 256 = byte_at (x1 ∷ x2 ∷ x3 ∷ take 4 rest) bytes 2 in
     let whole : take 4 rest ≡ rest = take_all 4 rest (omega arith) in
     let number : x0 ≡ v.next_header = ap (λ (w : FragmentFields). w.next_header) h.fields in
-    let offset : 32 * x2 + bit_and x3 0x1f ≡ v.fragment_offset = ap (λ (w : FragmentFields). w.fragment_offset) h.fields in
-    let more : not (bit_and x3 0x80 == 0) ≡ v.more_fragments = ap (λ (w : FragmentFields). w.more_fragments) h.fields in
+    let offset : offset_bits x2 x3 ≡ v.fragment_offset = ap (λ (w : FragmentFields). w.fragment_offset) h.fields in
+    let more : flag_bit x3 ≡ v.more_fragments = ap (λ (w : FragmentFields). w.more_fragments) h.fields in
     let same_id : from_be_bytes w32 (take 4 rest) ≡ v.identification = ap (λ (w : FragmentFields). w.identification) h.fields in
     let zero_byte : x1 ≡ 0 = ap (λ l. get_or l 1 0) (sym h.reserved) in
-    let kept : bit_and x3 0x9f ≡ x3 = ap (λ l. get_or l 3 0) h.reserved in
-    let second : x2 ≡ v.fragment_offset / 32 = omega (arith, offset, low_bits x3) in
-    let third : x3 ≡ flagged_byte v.fragment_offset v.more_fragments =
-    rw (← more) (omega (arith, offset, low_bits x3, kept, kept_bits x3 small, flagged x3 small)) in
+    let kept : unreserved_bits x3 ≡ x3 = ap (λ l. get_or l 3 0) h.reserved in
+    let second : x2 ≡ high_byte v.fragment_offset = unpacked_high x2 x3 ∙ ap high_byte offset in
+    let third : x3 ≡ low_byte v.fragment_offset v.more_fragments =
+    unpacked_low x2 x3 small kept ∙ ap (λ a. low_byte a (flag_bit x3)) offset ∙ ap (low_byte v.fragment_offset) more in
     let id : to_be_bytes w32 v.identification ≡ rest =
     be_bytes_4 rest v.identification four (λ i. byte_at rest (subst AreBytes whole (All-drop (λ x. x < 256) 3 (x1 ∷ x2 ∷ x3 ∷ take 4 rest) bytes)) i) (sym same_id ∙ ap (from_be_bytes w32) whole) in
     let written : ℕ → ℕ → ℕ → ℕ → List ℕ → List ℕ = λ a c d e f. a ∷ c ∷ d ∷ e ∷ f in
     ap (λ a. written a x1 x2 x3 rest) number ∙ ap (λ c. written v.next_header c x2 x3 rest) zero_byte
-    ∙ ap (λ d. written v.next_header 0 d x3 rest) second ∙ ap (λ e. written v.next_header 0 (v.fragment_offset / 32) e rest) third
-    ∙ ap (λ f. written v.next_header 0 (v.fragment_offset / 32) (flagged_byte v.fragment_offset v.more_fragments) f) (sym id)
+    ∙ ap (λ d. written v.next_header 0 d x3 rest) second ∙ ap (λ e. written v.next_header 0 (high_byte v.fragment_offset) e rest) third
+    ∙ ap (λ f. written v.next_header 0 (high_byte v.fragment_offset) (low_byte v.fragment_offset v.more_fragments) f) (sym id)
 
 pub fragment_only : (v : FragmentFields) (b : List ℕ) → IsFragmentEncoding v b → b ≡ fragment_written v
 fragment_only v b h =
@@ -207,10 +166,6 @@ auth_only v b h =
 abbrev SaysTheSame : {V : Type 0} → (List ℕ → Type 0) → (List ℕ → V) → (List ℕ → List ℕ) → List ℕ → Type 0
 SaysTheSame IsOne fields_of cleared b = IsOne (cleared b) × (fields_of (cleared b) ≡ fields_of b) × (cleared (cleared b) ≡ cleared b)
 
--- cleared numbers that were bytes are
-cleared_byte : (x : ℕ) → x < 256 → bit_and x 0x9f < 256
-cleared_byte x small = omega (arith, kept_bits x small)
-
 module _ (x0 x1 x2 x3 : ℕ) (rest : List ℕ) where
   abbrev four_and : List ℕ
   four_and = x0 ∷ x1 ∷ x2 ∷ x3 ∷ rest
@@ -219,15 +174,14 @@ module _ (x0 x1 x2 x3 : ℕ) (rest : List ℕ) where
   cleared_fragment_parts four =
       let fields : ℕ → Bool → FragmentFields = λ a m. record { next_header = x0; fragment_offset = a; more_fragments = m; identification = from_be_bytes w32 (take 4 rest) } in (
         record { len = omega arith },
-        ap (λ y. fields (32 * x2 + y) (not (bit_and (bit_and x3 0x9f) 0x80 == 0))) (and_assoc 0x1f x3 0x9f)
-            ∙ ap (λ y. fields (32 * x2 + bit_and x3 0x1f) (not (y == 0))) (and_assoc 0x80 x3 0x9f),
-        ap (λ y. x0 ∷ 0 ∷ x2 ∷ y ∷ rest) (and_assoc 0x9f x3 0x9f),
+        ap (λ a. fields a (flag_bit (unreserved_bits x3))) (unreserved_offset x2 x3) ∙ ap (fields (offset_bits x2 x3)) (unreserved_flag x2 x3),
+        ap (λ y. x0 ∷ 0 ∷ x2 ∷ y ∷ rest) (unreserved_again x2 x3),
       )
 
   cleared_fragment_bytes : AreBytes (slice_range four_and 1 8) → AreBytes (slice_range (cleared_fragment four_and) 1 8)
   cleared_fragment_bytes bytes =
-      three_before 0 x2 (bit_and x3 0x9f) (take 4 rest) (omega arith) (byte_at (slice_range four_and 1 8) bytes 1)
-      (cleared_byte x3 (byte_at (slice_range four_and 1 8) bytes 2)) (All-drop (λ x. x < 256) 3 (slice_range four_and 1 8) bytes)
+      three_before 0 x2 (unreserved_bits x3) (take 4 rest) (omega arith) (byte_at (slice_range four_and 1 8) bytes 1)
+      (unreserved_small x2 x3 (byte_at (slice_range four_and 1 8) bytes 2)) (All-drop (λ x. x < 256) 3 (slice_range four_and 1 8) bytes)
 
   cleared_auth_parts : IsAuthHeader four_and → SaysTheSame IsAuthHeader auth_fields cleared_auth four_and
   cleared_auth_parts h = (record { not_zero = h.not_zero; len = h.len }, refl, refl)

@@ -14,6 +14,7 @@ pub mod NumbersFitLemmas
 pub mod CutLemmas
 pub mod RunsLemmas
 pub mod ShorterLemmas
+pub mod FragmentBitLemmas
 pub mod EncodingLemmas
 pub mod ClearedLemmas
 pub mod EncodedLemmas

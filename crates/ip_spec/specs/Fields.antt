@@ -1,5 +1,5 @@
 -- The fields of a header's bytes, big endian. Byte 0 of each header is the number of what follows it.
-use Rattle.std.specs.Prelude.{ℕ, ◌+◌, ◌*◌, ◌==◌, ◌||◌, not, Bool, List, drop, slice_index, slice_range, bit_and}
+use Rattle.std.specs.Prelude.{ℕ, ◌+◌, ◌*◌, ◌/◌, ◌==◌, ◌||◌, not, Bool, List, drop, slice_index, slice_range, bit_and}
 use Rattle.std.specs.Int.{from_be_bytes, w32}
 
 abbrev pub next_header : List ℕ → ℕ
@@ -10,17 +10,18 @@ next_header b = slice_index b 0
 abbrev pub raw_payload : List ℕ → List ℕ
 raw_payload b = drop 2 b
 
--- The bits of bytes 2 and 3 of a fragment header: the offset is byte 2 above the 5 low bits of byte 3,
+-- The bits of bytes 2 and 3 of a fragment header (RFC 8200, section 4.5): the offset is byte 2 above the 5 high bits
+-- of byte 3,
 abbrev pub offset_bits : ℕ → ℕ → ℕ
-offset_bits high low = 32 * high + bit_and low 0x1f
+offset_bits high low = 32 * high + bit_and low 0xf8 / 8
 
--- the flag is the high bit of byte 3,
+-- the flag is the low bit of byte 3,
 abbrev pub flag_bit : ℕ → Bool
-flag_bit low = not (bit_and low 0x80 == 0)
+flag_bit low = not (bit_and low 0x01 == 0)
 
 -- and this is byte 3 with its reserved bits put to zero.
 abbrev pub unreserved_bits : ℕ → ℕ
-unreserved_bits low = bit_and low 0x9f
+unreserved_bits low = bit_and low 0xf9
 
 -- where the fragment lies in the payload, in units of 8 bytes
 abbrev pub fragment_offset : List ℕ → ℕ

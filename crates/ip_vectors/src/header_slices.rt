@@ -76,7 +76,7 @@ fn fields_of_slices(rt: HostRuntime) -> Result<(), Fail> {
     let header = Ipv6FragmentHeaderSlice::from_slice(&fragment)?;
     assert_eq!(rt; header.slice(), fragment.as_slice());
     assert_eq!(rt; header.next_header(), IpNumber(17));
-    assert_eq!(rt; header.fragment_offset().value(), 1);
+    assert_eq!(rt; header.fragment_offset().value(), 28);
     assert!(rt; header.more_fragments());
     assert_eq!(rt; header.identification(), 0x0102_0304);
     assert!(rt; header.is_fragmenting_payload());
@@ -90,6 +90,9 @@ fn fields_of_slices(rt: HostRuntime) -> Result<(), Fail> {
 fn fragmenting_or_not(rt: HostRuntime) -> Result<(), Fail> {
     let rows = [
         ([0, 0, 0, 0, 1, 2, 3, 4], false),
+        ([0, 0, 0, 1, 1, 2, 3, 4], true),
+        ([0, 0, 0, 6, 1, 2, 3, 4], false),
+        ([0, 0, 0, 8, 1, 2, 3, 4], true),
         ([0, 0, 0, 128, 1, 2, 3, 4], true),
         ([0, 0, 1, 0, 1, 2, 3, 4], true),
     ];

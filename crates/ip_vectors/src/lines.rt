@@ -15,7 +15,7 @@ fn is_answered(alloc: Global, input: &[u8], answers: &[u8]) -> Result<bool, Fail
 
 #[test]
 fn lines_and_answers(rt: HostRuntime) -> Result<(), Fail> {
-    let rows: [(&[u8], &[u8]); 20] = [
+    let rows: [(&[u8], &[u8]); 21] = [
         (
             b"exts6 60 2b00000000000000",
             b"0 dstopts 8\nnext 43 rest 0\nfault len 8 of 0 Slice Ipv6ExtHeader at 8 in Ipv6RouteHeader\n",
@@ -48,7 +48,11 @@ fn lines_and_answers(rt: HostRuntime) -> Result<(), Fail> {
         (b"exts4 0 -\n", b"next 0 rest 0\nok\n"),
         (
             b"rewrite6 44 11ff00e101020304\n",
-            b"next 17 rest 0\nwritten 1100008101020304\nok\n",
+            b"next 17 rest 0\nwritten 110000e101020304\nok\n",
+        ),
+        (
+            b"rewrite6 44 1100000601020304\n",
+            b"next 17 rest 0\nwritten 1100000001020304\nok\n",
         ),
         (
             b"rewrite6 51 1101ffff0000000100000002\n",
@@ -68,7 +72,7 @@ fn lines_and_answers(rt: HostRuntime) -> Result<(), Fail> {
         ),
         (
             b"rewriteall6 44 2cff000000000000110000e101020304\n",
-            b"runs 2 next 17 rest 0\nwritten 2c000000000000001100008101020304\nok\n",
+            b"runs 2 next 17 rest 0\nwritten 2c00000000000000110000e101020304\nok\n",
         ),
         (
             b"rewriteall6 44 2c00000000000000\n",

@@ -181,14 +181,14 @@ fn fragment_headers_made_and_written(rt: HostRuntime) -> Result<(), Fail> {
             0x1fff,
             false,
             0,
-            [17, 0, 255, 31, 0, 0, 0, 0],
+            [17, 0, 255, 248, 0, 0, 0, 0],
         ),
         (
             "offset and flag",
             1,
             true,
             0x0102_0304,
-            [17, 0, 0, 0x81, 1, 2, 3, 4],
+            [17, 0, 0, 9, 1, 2, 3, 4],
         ),
     ];
     for (name, offset, more, identification, expected) in rows {
@@ -210,10 +210,10 @@ fn reserved_bits_are_read_over_and_written_as_zero(rt: HostRuntime) -> Result<()
     let (header, rest) = Ipv6FragmentHeader::from_slice(&bytes)?;
     assert_eq!(rt; rest, [5].as_slice());
     assert_eq!(rt; header.next_header, IpNumber(17));
-    assert_eq!(rt; header.fragment_offset.value(), 1);
+    assert_eq!(rt; header.fragment_offset.value(), 28);
     assert!(rt; header.more_fragments && header.is_fragmenting_payload());
     assert_eq!(rt; header.identification, 0x0102_0304);
-    assert_eq!(rt; header.to_bytes(), [17, 0, 0, 0x81, 1, 2, 3, 4]);
+    assert_eq!(rt; header.to_bytes(), [17, 0, 0, 0xe1, 1, 2, 3, 4]);
     assert!(rt; header.clone()? == header);
     assert!(rt; Ipv6FragmentHeaderSlice::from_slice(&bytes)?.to_header() == header);
     for cut in 0..8usize {
@@ -222,6 +222,9 @@ fn reserved_bits_are_read_over_and_written_as_zero(rt: HostRuntime) -> Result<()
             Err(e) => assert_eq!(rt; e, missing(8, cut, Layer::Ipv6FragHeader)),
         }
     }
+    let (header, _) = Ipv6FragmentHeader::from_slice(&[17, 0, 0, 6, 1, 2, 3, 4])?;
+    assert!(rt; !header.is_fragmenting_payload());
+    assert_eq!(rt; header.to_bytes(), [17, 0, 0, 0, 1, 2, 3, 4]);
     Ok(())
 }
 
@@ -349,7 +352,7 @@ fn written_into_reserved_room(rt: HostRuntime) -> Result<(), Fail> {
     fragment.write_reserved(&mut out);
     auth.write_reserved(&mut out);
     let expected = [
-        44, 1, 1, 2, 3, 4, 5, 6, 7, 8, 9, 10, 11, 12, 13, 14, 51, 0, 0, 0x81, 0, 0, 0, 3, 17, 2, 0,
+        44, 1, 1, 2, 3, 4, 5, 6, 7, 8, 9, 10, 11, 12, 13, 14, 51, 0, 0, 9, 0, 0, 0, 3, 17, 2, 0,
         0, 0, 0, 0, 1, 0, 0, 0, 2, 9, 8, 7, 6,
     ];
     assert_eq!(rt; out.as_slice(), expected.as_slice());

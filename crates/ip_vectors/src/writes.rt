@@ -116,7 +116,7 @@ fn reserved_bits_are_written_as_zero(rt: HostRuntime) -> Result<(), Fail> {
     assert!(rt; number == IpNumber(17) && fault.is_none());
     let mut out = Vec::new(rt.alloc());
     exts.write(&mut out, IpNumber(44))?;
-    assert_eq!(rt; out.as_slice(), [17, 0, 0, 0x81, 1, 2, 3, 4].as_slice());
+    assert_eq!(rt; out.as_slice(), [17, 0, 0, 0xe1, 1, 2, 3, 4].as_slice());
     Ok(())
 }
 

@@ -181,20 +181,21 @@ fn ipv6_chains(rt: HostRuntime) -> Result<(), Fail> {
     let alloc = rt.alloc();
     let route = [43, 0, 0, 0, 0, 0, 0, 0];
     let jumbo = ipv6_bytes(alloc, 0, 60, &route)?;
-    for (parsed, source) in [
-        (
-            Ipv6Slice::from_slice(&jumbo),
-            LenSource::Ipv6HeaderPayloadLen,
-        ),
-        (Ipv6Slice::from_slice_lax(&jumbo), LenSource::Slice),
+    let cut_short = len_error_at(8, 0, LenSource::Slice, Layer::Ipv6ExtHeader, 48);
+    for parsed in [
+        Ipv6Slice::from_slice(&jumbo),
+        Ipv6Slice::from_slice_lax(&jumbo),
     ] {
-        let error = len_error_at(8, 0, source, Layer::Ipv6ExtHeader, 48);
         assert_eq!(rt;
             parsed.map(|packet| ipv6_parts(&packet)),
-            Err(ipv6::SliceError::Len(error)),
+            Err(ipv6::SliceError::Len(cut_short.clone()?)),
             "a chain that is cut short in a jumbogram"
         );
     }
+    assert_eq!(rt;
+        IpSlice::from_slice(&jumbo).map(|packet| packet.payload_ip_number()),
+        Err(ip::SliceError::Len(cut_short))
+    );
     let later = ipv6_bytes(
         alloc,
         24,

@@ -113,7 +113,7 @@ fn repeated(alloc: Global, part: &[u8], count: usize) -> Result<Vec<u8>, AllocEr
 
 #[test]
 fn known_answers(rt: HostRuntime) -> Result<(), Fail> {
-    let rows: [(&str, &[u8], &[u8]); 26] = [
+    let rows: [(&str, &[u8], &[u8]); 29] = [
         (
             "a header and a fault behind it",
             b"exts6 60 2b00000000000000\n",
@@ -170,7 +170,12 @@ fn known_answers(rt: HostRuntime) -> Result<(), Fail> {
         (
             "reserved bits of a fragment header",
             b"rewrite6 44 11ff00e101020304\n",
-            b"next 17 rest 0\nwritten 1100008101020304\nok\n",
+            b"next 17 rest 0\nwritten 110000e101020304\nok\n",
+        ),
+        (
+            "reserved bits beside the flag of a fragment header",
+            b"rewrite6 44 1100000601020304\n",
+            b"next 17 rest 0\nwritten 1100000001020304\nok\n",
         ),
         (
             "reserved bits of an authentication header",
@@ -223,9 +228,19 @@ fn known_answers(rt: HostRuntime) -> Result<(), Fail> {
             b"ipv6 header 40 exts 8 payload 8\nnext 17 fragmented yes source Ipv6HeaderPayloadLen\nok\n",
         ),
         (
+            "an IPv6 packet whose fragment header has reserved bits alone",
+            b"packet 6000000000102c40000000000000000000000000000000000000000000000000000000000000000011000006010203040000000000000000\n",
+            b"ipv6 header 40 exts 8 payload 8\nnext 17 fragmented no source Ipv6HeaderPayloadLen\nok\n",
+        ),
+        (
             "an IPv6 packet with a fault in its chain",
             b"packet 6000000000083c4000000000000000000000000000000000000000000000000000000000000000002b00000000000000\n",
             b"fault len 8 of 0 Ipv6HeaderPayloadLen Ipv6ExtHeader at 48\n",
+        ),
+        (
+            "a jumbogram with a fault in its chain",
+            b"packet 6000000000003c4000000000000000000000000000000000000000000000000000000000000000002b00000000000000\n",
+            b"fault len 8 of 0 Slice Ipv6ExtHeader at 48\n",
         ),
         (
             "an IPv4 packet with an authentication header",

@@ -49,8 +49,8 @@ returns-in-Ok-clause-fault c =
       whole_is = c.ipv6_front-len_source.ensures.front;
       behind = c.after.ensures;
     } in
-    ap (λ o. option_map (exts_in_packet c.args.error_source (length c.slice-header_len.result.now)) (option_map (λ f. f.0) o)) c.in-Ok.ensures.answer.fault
-    ∙ sym (ipv6_behind_fault _ _ _ _ _ _ c.args.error_source _ _ at)
+    ap (λ o. option_map (exts_in_packet c.ipv6_front-len_source.result.1 (length c.slice-header_len.result.now)) (option_map (λ f. f.0) o)) c.in-Ok.ensures.answer.fault
+    ∙ sym (ipv6_behind_fault _ _ _ _ _ _ _ _ at)
 
 pub returns-in-Err-clause-fault : goal.returns-in-Err-clause-fault
 returns-in-Err-clause-fault c =
@@ -66,5 +66,5 @@ returns-in-Err-clause-fault c =
       behind = c.after.ensures;
     } in
     ap Some c.in_packet.ensures
-    ∙ ap (option_map (exts_in_packet c.args.error_source (length c.slice-header_len.result.now))) (sym c.in-Err.ensures.fault)
-    ∙ sym (ipv6_behind_fault _ _ _ _ _ _ c.args.error_source _ _ at)
+    ∙ ap (option_map (exts_in_packet c.ipv6_front-len_source.result.1 (length c.slice-header_len.result.now))) (sym c.in-Err.ensures.fault)
+    ∙ sym (ipv6_behind_fault _ _ _ _ _ _ _ _ at)

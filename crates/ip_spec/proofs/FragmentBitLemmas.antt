@@ -1,0 +1,77 @@
+-- Bytes 2 and 3 of a fragment header: the offset and the flag packed into them. No other proof looks at their bits.
+use Rattle.std.proofs.Common.{◌≡◌, ℕ, ◌+◌, ◌*◌, ◌/◌, ◌%◌, ◌<◌, ◌≤◌, ap, ◌∙◌, arith, inl, inr, Bool, true, false, cond, bit_and}
+use Rattle.std.specs.Prelude.{◌==◌, not}
+use Rattle.std.proofs.lemmas.Nat.{and_comm, and_assoc, and_mask, and-not}
+use Rattle.std.proofs.lemmas.Nat.Bits.{and_high}
+use Rattle.std.proofs.lemmas.Bool.Decides.{eqb_tells}
+use Rattle.ip_spec.specs.Lengths.{MAX_FRAGMENT_OFFSET}
+use Rattle.ip_spec.specs.Fields.{offset_bits, flag_bit, unreserved_bits}
+
+-- the bytes that have an offset and a flag, and no reserved bit
+abbrev pub high_byte : ℕ → ℕ
+high_byte offset = offset / 32
+
+abbrev pub low_byte : ℕ → Bool → ℕ
+low_byte offset more = offset % 32 * 8 + cond more 1 0
+
+module _ (low : ℕ) where
+  offset_part : bit_and low 0xf8 ≡ low / 8 % 32 * 8
+  offset_part = and_high low 5 3
+
+  flag_part : bit_and low 0x01 ≡ low % 2
+  flag_part = and_mask low 1
+
+  reserved_part : low < 256 → bit_and low 0xf9 + low / 2 % 4 * 2 ≡ low
+  reserved_part small =
+      let other : bit_and 0x06 low ≡ low / 2 % 4 * 2 = and_comm 0x06 low ∙ and_high low 2 1 in
+      let all : bit_and 0xf9 low + bit_and 0x06 low ≡ low = and-not 8 0x06 low (omega arith) small in
+      omega (arith, all, other, and_comm low 0xf9)
+
+  -- the bits above the flag, and the flag
+  flagged : low ≡ low / 2 * 2 + cond (flag_bit low) 1 0
+  flagged = elim (eqb_tells (bit_and low 0x01) 0) [
+    | inl w ↦ rw w.0 (omega (arith, flag_part, w.1))
+    | inr w ↦ rw w.0 (omega (arith, flag_part, w.1))
+  ]
+
+-- what is packed is unpacked
+module _ (offset : ℕ) where
+  pub packed_offset : (more : Bool) → offset_bits (high_byte offset) (low_byte offset more) ≡ offset
+  packed_offset true = omega (arith, offset_part (offset % 32 * 8 + 1))
+  packed_offset false = omega (arith, offset_part (offset % 32 * 8 + 0))
+
+  pub packed_flag : (more : Bool) → flag_bit (low_byte offset more) ≡ more
+  packed_flag true = let e : bit_and (offset % 32 * 8 + 1) 0x01 ≡ 1 = omega (arith, flag_part (offset % 32 * 8 + 1)) in ap (λ n. not (n == 0)) e
+  packed_flag false = let e : bit_and (offset % 32 * 8 + 0) 0x01 ≡ 0 = omega (arith, flag_part (offset % 32 * 8 + 0)) in ap (λ n. not (n == 0)) e
+
+  pub low_small : (more : Bool) → low_byte offset more < 256
+  low_small true = omega arith
+  low_small false = omega arith
+
+  pub packed_reserved : (more : Bool) → unreserved_bits (low_byte offset more) ≡ low_byte offset more
+  packed_reserved true = omega (arith, reserved_part (offset % 32 * 8 + 1) (omega arith))
+  packed_reserved false = omega (arith, reserved_part (offset % 32 * 8 + 0) (omega arith))
+
+  pub high_small : offset ≤ MAX_FRAGMENT_OFFSET → high_byte offset < 256
+  high_small largest = omega (arith, largest)
+
+module _ (high low : ℕ) where
+  -- what is unpacked, and has no reserved bit, was packed
+  pub unpacked_high : high ≡ high_byte (offset_bits high low)
+  unpacked_high = omega (arith, offset_part low)
+
+  pub unpacked_low : low < 256 → unreserved_bits low ≡ low → low ≡ low_byte (offset_bits high low) (flag_bit low)
+  unpacked_low small kept = omega (arith, offset_part low, reserved_part low small, kept, flagged low)
+
+  -- without its reserved bits the low byte says the same
+  pub unreserved_offset : offset_bits high (unreserved_bits low) ≡ offset_bits high low
+  unreserved_offset = ap (λ bits. 32 * high + bits / 8) (and_assoc 0xf8 low 0xf9)
+
+  pub unreserved_flag : flag_bit (unreserved_bits low) ≡ flag_bit low
+  unreserved_flag = ap (λ bits. not (bits == 0)) (and_assoc 0x01 low 0xf9)
+
+  pub unreserved_again : unreserved_bits (unreserved_bits low) ≡ unreserved_bits low
+  unreserved_again = and_assoc 0xf9 low 0xf9
+
+  pub unreserved_small : low < 256 → unreserved_bits low < 256
+  unreserved_small small = omega (arith, reserved_part low small)

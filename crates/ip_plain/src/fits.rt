@@ -2,6 +2,7 @@
 ghost use Rattle.std.specs.Prelude.{◌≡◌, ◌↔◌, ◌≤◌, ◌==◌, length, map, take, IsTrue};
 ghost use Rattle.std.specs.List.{position_or_len};
 ghost use Rattle.ip_spec.specs.Numbers.{ROUTING};
+ghost use Rattle.ip_spec.specs.Chain.{headers_within};
 ghost use Rattle.ip_spec.specs.Demand.{KeepsBeginning};
 ghost use Rattle.ip_spec.specs.Fits.{FitsPlaces};
 ghost use Rattle.ip_spec.specs.NumbersFit.{numbers_of, how_often, before_routing, after_routing};
@@ -79,4 +80,18 @@ pub fn fitting_len(headers: &[PlainHeader<'_>]) -> usize
         }
     }
     headers.len()
+}
+
+/// How many headers lie whole within the first `len` bytes of all of them joined.
+pub fn whole_within(len: usize, headers: &[PlainHeader<'_>]) -> usize
+    ensures within { result ≤ length headers.now }
+    ensures headers { map plain_header_of (take result headers.now)
+        ≡ headers_within len (map plain_header_of headers.now) }
+{
+    match headers {
+        [first, others @ ..] if first.bytes.len() <= len => {
+            whole_within(len - first.bytes.len(), others) + 1
+        }
+        _ => 0,
+    }
 }

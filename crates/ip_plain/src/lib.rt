@@ -13,4 +13,4 @@ mod runs;
 pub use answers::plain_answers;
 pub use chain::{PlainChain, PlainHeader, is_header, next_len, plain_longest_chain};
 pub use fault::plain_fault;
-pub use fits::{fitting_len, numbers_fit};
+pub use fits::{fitting_len, numbers_fit, whole_within};

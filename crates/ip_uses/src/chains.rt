@@ -1,5 +1,5 @@
 //! Callers of chains.
-ghost use Rattle.std.specs.Prelude.{◌≡◌, ◌==◌, List, length, take, false, IfOk, IfSome};
+ghost use Rattle.std.specs.Prelude.{◌≡◌, ◌==◌, ◌↔◌, List, length, take, false, IsTrue, IfOk, IfSome};
 ghost use Rattle.std.specs.Option.{option_map};
 ghost use Rattle.std.specs.List.{find};
 ghost use Rattle.ip_spec.specs.Numbers.{FRAGMENT};
@@ -36,6 +36,16 @@ pub fn whole_payload(start: IpNumber, packet: &[u8]) -> Option<(IpNumber, &[u8])
         }
         _ => None,
     }
+}
+
+/// Whether a capture that keeps the first `snap` bytes of a packet keeps all its extension headers: then a parse of
+/// what it keeps tells the same headers.
+pub fn keeps_all_headers(start: IpNumber, packet: &[u8], snap: usize) -> bool
+    ensures { IsTrue result
+        ↔ (longest_chain start.0 (take snap packet.now) ≡ longest_chain start.0 packet.now) }
+{
+    let (headers, _, _, _) = Ipv6ExtensionsSlice::from_slice_lax(start, packet);
+    headers.slice().len() <= snap
 }
 
 /// Whether a packet's payload is UDP, and not a fragment of it.

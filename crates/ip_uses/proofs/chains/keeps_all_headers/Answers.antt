@@ -1,0 +1,14 @@
+use Rattle.std.proofs.Common.{ap, sym, ◌∙◌, length, arith}
+use Rattle.std.proofs.lemmas.Bool.{leb-true, le-leb}
+use Rattle.ip_uses.proofs.WithinLemmas.{all_within}
+use Rattle.ip_uses.proofs.chains.keeps_all_headers.Goals as goal
+
+pub returns : goal.returns
+returns c =
+    let cut = c.from_slice_lax.ensures.cut c.args.snap in
+    let whole = c.from_slice_lax.ensures.answer.value in
+    let within = all_within c.args.snap _ in
+    let joined = ap length c.slice.ensures.joined in (
+      λ told. cut ∙ within.0 (omega (arith, leb-true _ _ told, joined)) ∙ whole,
+      λ same. le-leb _ _ (omega (arith, joined, within.1 (sym cut ∙ same ∙ sym whole))),
+    )

@@ -1,0 +1,139 @@
+//! Long chains, and chains that are cut short at each byte.
+use ip_base::IpNumber;
+use ip_ext_chains::{
+    Ipv6Extensions, Ipv6ExtensionsCursor, Ipv6ExtensionsRuns, Ipv6ExtensionsSlice,
+};
+use ip_ext_headers::io::OverRead;
+use ip_plain::{plain_longest_chain, whole_within};
+use std::alloc::{AllocError, Global};
+use std::io;
+use std::io::{ErrorKind, Read};
+use std::test::Fail;
+
+/// Fragment headers, each leading to the next, the last to 17.
+fn fragment_headers(alloc: Global, count: u32) -> Result<Vec<u8>, AllocError> {
+    let mut bytes = Vec::new(alloc);
+    for header in 1..=count {
+        let next = if header == count { 17 } else { 44 };
+        bytes.extend_from_slice(&[next, 0, 0, 0, 0, 0, 0, 0])?;
+    }
+    Ok(bytes)
+}
+
+#[test]
+fn four_thousand_headers(rt: HostRuntime) -> Result<(), Fail> {
+    let bytes = fragment_headers(rt.alloc(), 4096)?;
+    let (chain, number, rest, fault) = Ipv6ExtensionsSlice::from_slice_lax(IpNumber(44), &bytes);
+    assert_eq!(rt; chain.slice().len(), 32_768);
+    assert_eq!(rt; number, IpNumber(17));
+    assert!(rt; rest.is_empty() && fault.is_none());
+    let mut headers = chain.into_iter();
+    let mut cursor = Ipv6ExtensionsCursor::new(IpNumber(44), &bytes);
+    for count in 0..4096u32 {
+        assert!(rt; headers.next().is_some() && cursor.next().is_some(), "{count}");
+    }
+    for _ in 0..3 {
+        assert!(rt; headers.next().is_none() && cursor.next().is_none());
+    }
+    Ok(())
+}
+
+/// Hop by hop options, destination options, routing, fragment, authentication and destination options.
+const SIX: [u8; 52] = [
+    60, 0, 0, 0, 0, 0, 0, 0, 43, 0, 0, 0, 0, 0, 0, 0, 44, 0, 0, 0, 0, 0, 0, 0, 51, 0, 0, 0, 0, 0,
+    0, 0, 60, 1, 0, 0, 0, 0, 0, 0, 0, 0, 0, 0, 17, 0, 0, 0, 0, 0, 0, 0,
+];
+
+/// How many of the first bytes are whole headers, and how many headers they are.
+fn whole_headers(cut: usize) -> (usize, usize) {
+    match cut {
+        0..8 => (0, 0),
+        8..16 => (8, 1),
+        16..24 => (16, 2),
+        24..32 => (24, 3),
+        32..44 => (32, 4),
+        44..52 => (44, 5),
+        _ => (52, 6),
+    }
+}
+
+#[test]
+fn what_is_cut_short_is_written_as_its_whole_headers(rt: HostRuntime) -> Result<(), Fail> {
+    for cut in 0..=52usize {
+        let (len, _) = whole_headers(cut);
+        let (exts, _, _, _) = Ipv6Extensions::from_slice_lax(IpNumber(0), &SIX[..cut]);
+        let mut out = Vec::new(rt.alloc());
+        exts.write(&mut out, IpNumber(0))?;
+        assert_eq!(rt; Some(out.as_slice()), SIX.get(..len), "{cut}");
+    }
+    Ok(())
+}
+
+#[test]
+fn the_headers_of_a_front_are_those_within_it(rt: HostRuntime) -> Result<(), Fail> {
+    let whole = plain_longest_chain(rt.alloc(), 0, &SIX)?;
+    for cut in 0..=60usize {
+        let (_, count) = whole_headers(cut);
+        assert_eq!(rt; whole_within(cut, whole.headers.as_slice()), count, "{cut}");
+        let front = SIX.get(..cut).unwrap_or(&SIX);
+        let (chain, _, _, _) = Ipv6ExtensionsSlice::from_slice_lax(IpNumber(0), front);
+        assert_eq!(rt; chain.into_iter().count(), count, "{cut}");
+    }
+    Ok(())
+}
+
+#[test]
+fn nothing_comes_behind_the_last(rt: HostRuntime) {
+    for cut in 0..=52usize {
+        let (_, count) = whole_headers(cut);
+        let (chain, _, _, _) = Ipv6ExtensionsSlice::from_slice_lax(IpNumber(0), &SIX[..cut]);
+        let mut headers = chain.into_iter();
+        let mut cursor = Ipv6ExtensionsCursor::new(IpNumber(0), &SIX[..cut]);
+        for _ in 0..count {
+            assert!(rt; headers.next().is_some() && cursor.next().is_some(), "{cut}");
+        }
+        let mut runs = Ipv6ExtensionsRuns::new(IpNumber(0), &SIX[..cut]);
+        assert!(rt; runs.next().is_some(), "{cut}");
+        for _ in 0..3 {
+            assert!(rt; headers.next().is_none() && cursor.next().is_none(), "{cut}");
+            assert!(rt; runs.next().is_none(), "{cut}");
+        }
+    }
+}
+
+/// A reader that gives as many bytes as it is asked for, and behind the last refuses.
+#[derive(Drop)]
+struct Forbidden<'a> {
+    bytes: &'a [u8],
+}
+
+impl Read for Forbidden<'_> {
+    fn read(&mut self, buf: &mut [u8]) -> io::Result<usize> {
+        if self.bytes.is_empty() && !buf.is_empty() {
+            return Err(io::Error::from(ErrorKind::PermissionDenied));
+        }
+        let count = self.bytes.len().min(buf.len());
+        buf[..count].copy_from_slice(&self.bytes[..count]);
+        self.bytes = &self.bytes[count..];
+        Ok(count)
+    }
+}
+
+#[test]
+fn a_reader_that_refuses_behind_each_byte(rt: HostRuntime) -> Result<(), Fail> {
+    let (whole, _, _) = Ipv6Extensions::from_slice(IpNumber(0), &SIX)?;
+    for cut in 0..=52usize {
+        let mut reader = OverRead::new(Forbidden { bytes: &SIX[..cut] });
+        match Ipv6Extensions::read(&mut reader, IpNumber(0)) {
+            Ok((exts, number)) => {
+                assert!(rt; cut == 52 && exts == whole && number == IpNumber(17), "{cut}")
+            }
+            Err(e) => {
+                let kind = e.io_error().map(|error| error.kind());
+                assert!(rt; cut < 52 && kind == Some(ErrorKind::PermissionDenied), "{cut}");
+            }
+        }
+        assert_eq!(rt; reader.failed(), cut < 52, "{cut}");
+    }
+    Ok(())
+}

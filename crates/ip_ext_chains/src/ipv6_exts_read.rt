@@ -1,11 +1,14 @@
-ghost use Rattle.std.specs.Prelude.{◌≡◌, ℕ, IsOk, OnOk, IfOk, IfErr, IfSome, IfNone, true, is_some};
+ghost use Rattle.std.specs.Prelude.{◌≡◌, ℕ, [], length, IsOk, OnOk, OnErr, IfOk, IfErr, IfSome, IfNone, true, is_some};
 ghost use Rattle.std.specs.Io.KnownBytes.{Consumes};
 ghost use Rattle.ip_spec.specs.Numbers.{ROUTING, FRAGMENT, AUTHENTICATION};
 ghost use Rattle.ip_spec.specs.Header.{IsRawHeader, IsFragmentHeader, IsAuthHeader, IsRawNumber, IsExtensionNumber};
 ghost use Rattle.ip_spec.specs.FieldsOf.{raw_fields, fragment_fields, auth_fields};
+ghost use Rattle.ip_spec.specs.Lengths.{IsPayloadLen};
 ghost use Rattle.ip_spec.specs.Places.{number_in, final_destination};
+ghost use Rattle.ip_spec.specs.Requests.{RawAsks};
+ghost use Rattle.ip_io.specs.Reading.{IsHeaderTaken, IsRefused};
 ghost use Rattle.ip_ext_chains.specs.Place.{as_place};
-ghost use Rattle.ip_ext_chains.specs.Ipv6Extensions.{placed_fields};
+ghost use Rattle.ip_ext_chains.specs.Ipv6Extensions.{value_of, placed_fields};
 ghost use Rattle.ip_ext_chains.specs.ReadError.{IsSliceError};
 ghost use Rattle.ip_ext_chains.specs.Reading.{AreTaken, IsChainTaken, IsChainRefused, IsHeaderRefused, IsNextPlace, HasNoPlace, IsReadInto, IsHeaderRead, routing_fields};
 
@@ -16,6 +19,7 @@ use crate::{Ipv6Extensions, Ipv6RoutingExtensions};
 use ip_base::{IpNumber, ip_number};
 use ip_ext_headers::io::ExactRead;
 use ip_ext_headers::{IpAuthHeader, Ipv6FragmentHeader, Ipv6RawExtHeader};
+use std::io;
 
 impl Ipv6Extensions {
     /// Reads the headers that the number and those read before name, each into its place, with the number of what
@@ -43,10 +47,39 @@ impl Ipv6Extensions {
             → IsOk result × (reader.new ≡ reader.old) }
     {
         let mut exts = Self::default();
+        match exts.read_headers(reader, start_ip_number) {
+            Ok(number) => Ok((exts, number)),
+            Err(e) => Err(e),
+        }
+    }
+
+    /// Reads the headers into their places, in which nothing is yet, and answers the number of what follows them.
+    /// It stands apart, so that no header is moved with the struct on its way to the caller.
+    #[inline(never)]
+    fn read_headers<T: ExactRead>(
+        &mut self,
+        reader: &mut T,
+        start_ip_number: IpNumber,
+    ) -> Result<IpNumber, HeaderReadError>
+        requires empty { self.old ≡ value_of [] }
+        ensures answer { IfOk result (λ m.
+            IsChainTaken (AreTaken T.bytes_left T.is_steady T.has_failed)
+            reader.old reader.new start_ip_number.0 self.new m.0) }
+        ensures refused { IfErr result (λ e.
+            IsChainRefused (AreTaken T.bytes_left T.is_steady T.has_failed)
+            (IsHeaderRefused T.bytes_left T.is_steady T.has_failed e)
+            reader.old reader.new start_ip_number.0) }
+        ensures fault { IfErr result (IsSliceError start_ip_number.0 (T.is_steady reader.old)
+            (T.bytes_left reader.old)) }
+        ensures steady { T.is_steady reader.new ≡ T.is_steady reader.old }
+        ensures stays { (IsExtensionNumber start_ip_number.0 → ⊥)
+            → IsOk result × (reader.new ≡ reader.old) }
+    {
+        let mut buffer = [0; Ipv6RawExtHeader::MAX_PAYLOAD_LEN];
         let mut number = start_ip_number;
         let mut is_first = true;
-        'headers: while let Some(place) = exts.next_place(number, is_first) {
-            match exts.read_into(place, reader) {
+        'headers: while let Some(place) = self.next_place(number, is_first) {
+            match self.read_into(place, &mut buffer, reader) {
                 Ok(next_header) => number = next_header,
                 Err(e) => return Err(e),
             }
@@ -55,7 +88,7 @@ impl Ipv6Extensions {
         if number == ip_number::IPV6_HOP_BY_HOP {
             return Err(HeaderReadError::Content(HeaderError::HopByHopNotAtStart));
         }
-        Ok((exts, number))
+        Ok(number)
     }
 
     /// The place of a header of the number, where nothing is in it. Hop by hop options have one only first.
@@ -90,10 +123,13 @@ impl Ipv6Extensions {
         }
     }
 
-    /// Reads a header into the place, in which nothing is, and answers the number of what follows it.
+    /// Reads a header into the place, in which nothing is, and answers the number of what follows it. The buffer is
+    /// for what is read of a payload.
+    #[inline(always)]
     fn read_into<T: ExactRead>(
         &mut self,
         place: Place,
+        buffer: &mut [u8; 2046],
         reader: &mut T,
     ) -> Result<IpNumber, HeaderReadError>
         requires { as_place place ≡ final_destination → is_some self.old.routing ≡ true }
@@ -106,22 +142,62 @@ impl Ipv6Extensions {
             T.has_failed e true (number_in (as_place place)) reader.old reader.new) }
     {
         match place {
-            Place::HopByHop => read_raw(&mut self.hop_by_hop_options, reader),
-            Place::Destination => read_raw(&mut self.destination_options, reader),
-            Place::Routing => read_routing(&mut self.routing, reader),
+            Place::HopByHop => read_raw(&mut self.hop_by_hop_options, buffer, reader),
+            Place::Destination => read_raw(&mut self.destination_options, buffer, reader),
+            Place::Routing => read_routing(&mut self.routing, buffer, reader),
             Place::Fragment => read_fragment(&mut self.fragment, reader),
             Place::Authentication => read_auth(&mut self.auth, reader),
             Place::FinalDestination => match &mut self.routing {
-                Some(routing) => read_raw(&mut routing.final_destination_options, reader),
+                Some(routing) => read_raw(&mut routing.final_destination_options, buffer, reader),
                 None => unreachable!(),
             },
         }
     }
 }
 
+/// Reads a header of the common layout, with its payload in the buffer: the number of what follows it, and the
+/// payload.
+#[inline(always)]
+fn take_raw<'a, T: ExactRead>(
+    buffer: &'a mut [u8; 2046],
+    reader: &mut T,
+) -> io::Result<(IpNumber, &'a [u8])>
+    ensures header { IfOk result (λ x. IsHeaderTaken IsRawHeader raw_fields
+        (Consumes (T.bytes_left reader.old) (T.bytes_left reader.new))
+        record { next_header = x.0.0; payload = x.1.now }) }
+    ensures allowed { IfOk result (λ x. IsPayloadLen (length x.1.now)) }
+    ensures kept { OnOk result (T.has_failed reader.new ≡ T.has_failed reader.old) }
+    ensures steady { T.is_steady reader.new ≡ T.is_steady reader.old }
+    ensures refused { OnErr result (IsRefused RawAsks (T.is_steady reader.old)
+        (T.bytes_left reader.old) (T.has_failed reader.new)) }
+{
+    let mut start = [0; 2];
+    match reader.read_exact(&mut start) {
+        Ok(()) => {}
+        Err(e) => return Err(e),
+    }
+    let [next_header, hdr_ext_len] = start;
+    let payload = &mut buffer[..8 * usize::from(hdr_ext_len) + 6];
+    match reader.read_exact(payload) {
+        Ok(()) => Ok((IpNumber(next_header), payload)),
+        Err(e) => Err(e),
+    }
+}
+
+/// Makes the header the one with this next number and a payload of an allowed length, where it lies.
+#[inline(always)]
+pub(crate) fn make_raw(header: &mut Ipv6RawExtHeader, next_header: IpNumber, payload: &[u8])
+    requires { IsPayloadLen (length payload.now) }
+    ensures { header.new ≡ record { next_header = next_header.0; payload = payload.now } }
+{
+    header.next_header = next_header;
+    let _ = header.set_payload(payload);
+}
+
 /// Reads a header of the common layout into the place, and answers the number of what follows it.
 fn read_raw<T: ExactRead>(
     place: &mut Option<Ipv6RawExtHeader>,
+    buffer: &mut [u8; 2046],
     reader: &mut T,
 ) -> Result<IpNumber, HeaderReadError>
     ensures ok { IfOk result (λ m.
@@ -132,10 +208,12 @@ fn read_raw<T: ExactRead>(
     ensures refused { IfErr result (λ e. (m : ℕ) → IsRawNumber m
         → IsHeaderRefused T.bytes_left T.is_steady T.has_failed e true m reader.old reader.new) }
 {
-    match Ipv6RawExtHeader::read(reader) {
-        Ok(header) => {
-            let next_header = header.next_header;
-            *place = Some(header);
+    match take_raw(buffer, reader) {
+        Ok((next_header, payload)) => {
+            *place = Some(Ipv6RawExtHeader::default());
+            if let Some(header) = place {
+                make_raw(header, next_header, payload);
+            }
             Ok(next_header)
         }
         Err(e) => Err(HeaderReadError::Io(e)),
@@ -146,6 +224,7 @@ fn read_raw<T: ExactRead>(
 /// follows it.
 fn read_routing<T: ExactRead>(
     place: &mut Option<Ipv6RoutingExtensions>,
+    buffer: &mut [u8; 2046],
     reader: &mut T,
 ) -> Result<IpNumber, HeaderReadError>
     ensures ok { IfOk result (λ m. IsHeaderRead IsRawHeader routing_fields
@@ -155,13 +234,15 @@ fn read_routing<T: ExactRead>(
     ensures refused { IfErr result (λ e. IsHeaderRefused T.bytes_left T.is_steady
         T.has_failed e true ROUTING reader.old reader.new) }
 {
-    match Ipv6RawExtHeader::read(reader) {
-        Ok(header) => {
-            let next_header = header.next_header;
+    match take_raw(buffer, reader) {
+        Ok((next_header, payload)) => {
             *place = Some(Ipv6RoutingExtensions {
-                routing: header,
+                routing: Ipv6RawExtHeader::default(),
                 final_destination_options: None,
             });
+            if let Some(routing) = place {
+                make_raw(&mut routing.routing, next_header, payload);
+            }
             Ok(next_header)
         }
         Err(e) => Err(HeaderReadError::Io(e)),
@@ -202,12 +283,10 @@ fn read_auth<T: ExactRead>(
     ensures refused { IfErr result (λ e. IsHeaderRefused T.bytes_left T.is_steady
         T.has_failed e true AUTHENTICATION reader.old reader.new) }
 {
-    match IpAuthHeader::read(reader) {
-        Ok(header) => {
-            let next_header = header.next_header;
-            *place = Some(header);
-            Ok(next_header)
-        }
+    *place = Some(IpAuthHeader::default());
+    let Some(header) = place else { unreachable!() };
+    match header.read_over(reader) {
+        Ok(()) => Ok(header.next_header),
         Err(ip_auth::HeaderReadError::Io(e)) => Err(HeaderReadError::Io(e)),
         Err(ip_auth::HeaderReadError::Content(e)) => {
             Err(HeaderReadError::Content(HeaderError::IpAuth(e)))

@@ -233,6 +233,102 @@ impl IpAuthHeader {
         }
     }
 
+    /// Reads a header over this one, as `read` does, and makes it where this one lies, so that nothing is moved.
+    /// After an error this one is as it was.
+    #[inline(never)]
+    pub fn read_over<T: ExactRead>(&mut self, reader: &mut T) -> Result<(), HeaderReadError>
+        ensures header { OnOk result (IsHeaderTaken IsAuthHeader auth_fields
+            (Consumes (T.bytes_left reader.old) (T.bytes_left reader.new)) self.new) }
+        ensures stays { OnErr result (self.new ≡ self.old) }
+        ensures kept { OnOk result (T.has_failed reader.new ≡ T.has_failed reader.old) }
+        ensures steady { T.is_steady reader.new ≡ T.is_steady reader.old }
+        ensures none { OnErr result (IfSteady (T.is_steady reader.old) (T.bytes_left reader.old)
+            (NoPrefix IsAuthHeader)) }
+        ensures fault { IfErr result (IsSliceError auth_slice_fault (T.is_steady reader.old)
+            (T.bytes_left reader.old)) }
+        ensures refused { IfErr result (IsAuthRefused T.bytes_left T.is_steady T.has_failed
+            reader.old reader.new) }
+    {
+        let mut start = [0; 12];
+        match reader.read_exact(&mut start) {
+            Ok(()) => {}
+            Err(e) => return Err(HeaderReadError::Io(e)),
+        }
+        let payload_len = start[1];
+        if payload_len == 0 {
+            let e = HeaderError::ZeroPayloadLen;
+            return Err(HeaderReadError::Content(e));
+        }
+        let mut buffer = [0; Self::MAX_ICV_LEN];
+        let raw_icv = &mut buffer[..4 * usize::from(payload_len - 1)];
+        match reader.read_exact(raw_icv) {
+            Ok(()) => {
+                self.set_parts(start, raw_icv);
+                Ok(())
+            }
+            Err(e) => Err(HeaderReadError::Io(e)),
+        }
+    }
+
+    /// Reads a header over this one within a limit, as `read_limited` does, and makes it where this one lies.
+    /// After an error this one is as it was.
+    #[inline(never)]
+    pub fn read_over_limited<T: ExactRead>(
+        &mut self,
+        reader: &mut LimitedReader<T>,
+    ) -> Result<(), HeaderLimitedReadError>
+        ensures header { OnOk result (IsHeaderTaken IsAuthHeader auth_fields
+            (IsTakenInLayer T.bytes_left AuthLayer reader.old reader.new) self.new) }
+        ensures stays { OnErr result (self.new ≡ self.old) }
+        ensures kept { OnOk result
+            (T.has_failed (inner_of reader.new) ≡ T.has_failed (inner_of reader.old)) }
+        ensures steady { T.is_steady (inner_of reader.new) ≡ T.is_steady (inner_of reader.old) }
+        ensures none { OnErr result (IfSteady (T.is_steady (inner_of reader.old))
+            (window T.bytes_left reader.old) (NoPrefix IsAuthHeader)) }
+        ensures fault { IfErr result (IsSliceErrorInLayer auth_slice_fault
+            (T.is_steady (inner_of reader.old)) (window T.bytes_left reader.old)) }
+        ensures refused { IfErr result (IsAuthRefusedInLayer T.bytes_left T.is_steady
+            T.has_failed reader.old reader.new) }
+    {
+        reader.start_layer(Layer::IpAuthHeader);
+        let mut start = [0; 12];
+        match reader.read_exact(&mut start) {
+            Ok(()) => {}
+            Err(e) => return Err(HeaderLimitedReadError::of_limited(e)),
+        }
+        let payload_len = start[1];
+        if payload_len == 0 {
+            let e = HeaderError::ZeroPayloadLen;
+            return Err(HeaderLimitedReadError::Content(e));
+        }
+        let mut buffer = [0; Self::MAX_ICV_LEN];
+        let raw_icv = &mut buffer[..4 * usize::from(payload_len - 1)];
+        match reader.read_exact(raw_icv) {
+            Ok(()) => {
+                self.set_parts(start, raw_icv);
+                Ok(())
+            }
+            Err(e) => Err(HeaderLimitedReadError::of_limited(e)),
+        }
+    }
+
+    /// Makes it the header with these bytes before its check value, where it lies.
+    #[inline(always)]
+    fn set_parts(&mut self, start: [u8; 12], raw_icv: &[u8])
+        requires { IsIcvLen (length raw_icv.now) }
+        ensures { self.new ≡ record {
+          next_header = fields.next_header start;
+          spi = fields.spi start;
+          sequence_number = fields.sequence_number start;
+          raw_icv = raw_icv.now;
+        } }
+    {
+        self.next_header = IpNumber(start[0]);
+        self.spi = u32::from_be_bytes([start[4], start[5], start[6], start[7]]);
+        self.sequence_number = u32::from_be_bytes([start[8], start[9], start[10], start[11]]);
+        let _ = self.set_raw_icv(raw_icv);
+    }
+
     /// The header with these bytes before its check value.
     #[inline(always)]
     fn of_parts(start: [u8; 12], raw_icv: &[u8]) -> IpAuthHeader

@@ -6,7 +6,7 @@ ghost use Rattle.ip_spec.specs.Header.{IsAuthHeader};
 ghost use Rattle.ip_spec.specs.FieldsOf.{auth_fields};
 ghost use Rattle.ip_io.specs.LimitedReader.{inner_of, window};
 ghost use Rattle.ip_io.specs.Reading.{IsHeaderTaken, IsAnswerTaken, IsTakenInLayer};
-ghost use Rattle.ip_ext_headers.specs.AuthReading.{auth_slice_fault, IsAuthRefused, IsAuthRefusedInLayer, IsSliceError, IsSliceErrorInLayer};
+ghost use Rattle.ip_ext_headers.specs.AuthReading.{IsAuthRefused, IsAuthRefusedInLayer, IsSliceError, IsSliceErrorInLayer};
 ghost use Rattle.ip_ext_ipv4.specs.Ipv4Fault.{ipv4_chain_fault};
 ghost use Rattle.ip_ext_ipv4.specs.Ipv4Reading.{Answers};
 
@@ -40,8 +40,9 @@ impl Ipv4Extensions {
         if start_ip_number != ip_number::AUTH {
             return Ok((Ipv4Extensions { auth: None }, start_ip_number));
         }
-        match read_header(reader) {
-            Ok(header) => {
+        let mut header = IpAuthHeader::default();
+        match header.read_over(reader) {
+            Ok(()) => {
                 let next_header = header.next_header;
                 Ok((Ipv4Extensions { auth: Some(header) }, next_header))
             }
@@ -74,45 +75,13 @@ impl Ipv4Extensions {
         if start_ip_number != ip_number::AUTH {
             return Ok((Ipv4Extensions { auth: None }, start_ip_number));
         }
-        match read_header_limited(reader) {
-            Ok(header) => {
+        let mut header = IpAuthHeader::default();
+        match header.read_over_limited(reader) {
+            Ok(()) => {
                 let next_header = header.next_header;
                 Ok((Ipv4Extensions { auth: Some(header) }, next_header))
             }
             Err(e) => Err(e),
         }
     }
-}
-
-/// Reads a header. It stands apart, so that nothing is cleared for a header where none is named.
-#[inline(never)]
-fn read_header<T: ExactRead>(reader: &mut T) -> Result<IpAuthHeader, HeaderReadError>
-    ensures header { IfOk result (IsHeaderTaken IsAuthHeader auth_fields
-        (Consumes (T.bytes_left reader.old) (T.bytes_left reader.new))) }
-    ensures kept { OnOk result (T.has_failed reader.new ≡ T.has_failed reader.old) }
-    ensures steady { T.is_steady reader.new ≡ T.is_steady reader.old }
-    ensures fault { IfErr result (IsSliceError auth_slice_fault (T.is_steady reader.old)
-        (T.bytes_left reader.old)) }
-    ensures refused { IfErr result (IsAuthRefused T.bytes_left T.is_steady T.has_failed
-        reader.old reader.new) }
-{
-    IpAuthHeader::read(reader)
-}
-
-/// The same within a limit.
-#[inline(never)]
-fn read_header_limited<T: ExactRead>(
-    reader: &mut LimitedReader<T>,
-) -> Result<IpAuthHeader, HeaderLimitedReadError>
-    ensures header { IfOk result (IsHeaderTaken IsAuthHeader auth_fields
-        (IsTakenInLayer T.bytes_left AuthLayer reader.old reader.new)) }
-    ensures kept { OnOk result
-        (T.has_failed (inner_of reader.new) ≡ T.has_failed (inner_of reader.old)) }
-    ensures steady { T.is_steady (inner_of reader.new) ≡ T.is_steady (inner_of reader.old) }
-    ensures fault { IfErr result (IsSliceErrorInLayer auth_slice_fault (T.is_steady (inner_of reader.old))
-        (window T.bytes_left reader.old)) }
-    ensures refused { IfErr result (IsAuthRefusedInLayer T.bytes_left T.is_steady
-        T.has_failed reader.old reader.new) }
-{
-    IpAuthHeader::read_limited(reader)
 }

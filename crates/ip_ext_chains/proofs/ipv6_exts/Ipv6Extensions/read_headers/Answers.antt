@@ -4,7 +4,7 @@ use Rattle.ip_ext_chains.proofs.ReadingLemmas.{reading_next, nested, is_number_i
 use Rattle.ip_ext_chains.proofs.ReadErrorLemmas.{taken_next, refused_as, refused_here, refused_error}
 use Rattle.ip_ext_errors.specs.declared.ipv6_exts.header_error.HeaderError.TheVariants.{HopByHopNotAtStart}
 use Rattle.ip_ext_chains.specs.declared.err.ipv6_exts.header_read_error.HeaderReadError.TheVariants as read
-use Rattle.ip_ext_chains.proofs.ipv6_exts.Ipv6Extensions.read.Goals as goal
+use Rattle.ip_ext_chains.proofs.ipv6_exts.Ipv6Extensions.read_headers.Goals as goal
 
 pub headers-preserved : goal.headers-preserved
 headers-preserved g c =

@@ -4,7 +4,7 @@ use Rattle.ip_ext_chains.proofs.ReadingLemmas.{reading_none, reading_next, neste
 use Rattle.ip_ext_chains.proofs.ReadErrorLemmas.{layer_next, no_layer, layer_refused_as, layer_refused_here, layer_refused_error}
 use Rattle.ip_ext_errors.specs.declared.ipv6_exts.header_error.HeaderError.TheVariants.{HopByHopNotAtStart}
 use Rattle.ip_ext_chains.specs.declared.err.ipv6_exts.header_limited_read_error.HeaderLimitedReadError.TheVariants as limited
-use Rattle.ip_ext_chains.proofs.ipv6_exts.Ipv6Extensions.read_limited.Goals as goal
+use Rattle.ip_ext_chains.proofs.ipv6_exts.Ipv6Extensions.read_headers_limited.Goals as goal
 
 pub headers-init : goal.headers-init
 headers-init g c = ([], reading_none _ _ (search rules), no_layer g.T.ExactRead.bytes_left g.T.ExactRead.is_steady g.T.ExactRead.has_failed _)

@@ -1,0 +1,36 @@
+use Rattle.std.proofs.Common.{rules, arith, ◌≡◌, ◌-◌, ◌*◌, ◌++◌, [], length, List, ℕ, ◌∙◌, slice_index, refl, sym}
+use Rattle.std.proofs.KnownBytes.{Consumes-nil, Consumes-trans}
+use Rattle.ip_spec.specs.Requests.{AuthAsks, auth_start, auth_icv}
+use Rattle.ip_spec.proofs.RequestLemmas.{auth_joined, auth_joined_fields}
+use Rattle.ip_io.proofs.ReadingLemmas.{refused_behind, refused_short}
+use Rattle.ip_ext_headers.specs.AuthReading.{auth_slice_fault, IsTooShort}
+use Rattle.ip_ext_headers.proofs.AuthLemmas.{auth_short}
+use Rattle.ip_ext_headers.proofs.ip_auth_header.IpAuthHeader.read_over.Goals as goal
+
+pub returns-in-Err-clause-refused : goal.returns-in-Err-clause-refused
+returns-in-Err-clause-refused g c =
+    refused_behind AuthAsks _ _ _ _ _ [] _ refl (Consumes-nil _) (auth_start refl refl) c.in-Err.ensures.refuses
+
+pub returns-in-Err-clause-fault : goal.returns-in-Err-clause-fault
+returns-in-Err-clause-fault g c = refused_short AuthAsks (IsTooShort auth_slice_fault) auth_short _ _ _ (returns-in-Err-clause-refused g c)
+
+pub returns-in-Err-read_exact-clause-refused : goal.returns-in-Err-read_exact-clause-refused
+returns-in-Err-read_exact-clause-refused g c =
+    let h : List ℕ = c.read_exact.new.buf in
+    refused_behind AuthAsks _ _ _ _ _ h _ c.in-Ok.ensures.steady c.in-Ok.ensures.takes (auth_icv (omega arith) (omega arith) (search rules)) c.in-Err-read_exact.ensures.refuses
+
+pub returns-in-Err-read_exact-clause-fault : goal.returns-in-Err-read_exact-clause-fault
+returns-in-Err-read_exact-clause-fault g c = refused_short AuthAsks (IsTooShort auth_slice_fault) auth_short _ _ _ (returns-in-Err-read_exact-clause-refused g c)
+
+pub returns-in-Ok-read_exact-clause-header : goal.returns-in-Ok-read_exact-clause-header
+returns-in-Ok-read_exact-clause-header g c =
+    let h : List ℕ = c.read_exact.new.buf in
+    let p : List ℕ = c.read_exact-2.new.buf in
+    let e : length h ≡ 12 = omega arith in
+    let n : length p ≡ 4 * (slice_index h 1 - 1) = search rules in
+    record {
+      bytes = h ++ p;
+      header = auth_joined h p e (omega arith) n;
+      fields = auth_joined_fields h p e ∙ sym c.set_parts.ensures;
+      taken = Consumes-trans _ _ _ h p c.in-Ok.ensures.takes c.in-Ok-read_exact.ensures.takes;
+    }

@@ -48,10 +48,8 @@ impl Ipv6Extensions {
             → IsOk result × (reader.new ≡ reader.old) }
     {
         let mut exts = Self::default();
-        match exts.read_headers_limited(reader, start_ip_number) {
-            Ok(number) => Ok((exts, number)),
-            Err(e) => Err(e),
-        }
+        let number = exts.read_headers_limited(reader, start_ip_number)?;
+        Ok((exts, number))
     }
 
     /// Reads the headers into their places, in which nothing is yet, and answers the number of what follows them.

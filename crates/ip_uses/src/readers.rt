@@ -1,5 +1,6 @@
 //! Callers of readers.
 ghost use Rattle.std.specs.Prelude.{◌≡◌, ◌+◌, ◌++◌, ℕ, List, length, None, IfOk, IfSome, IfNone};
+ghost use Rattle.std.specs.Bool.{OnTrue, OnFalse};
 ghost use Rattle.std.specs.Int.{from_be_bytes, w16};
 ghost use Rattle.std.specs.Io.KnownBytes.{Consumes};
 ghost use Rattle.ip_spec.specs.Prefix.{IsPrefix};
@@ -74,6 +75,15 @@ pub fn read_options_and_auth<T: ExactRead>(
         Ok(auth) => Ok((options, auth)),
         Err(e) => Err(e),
     }
+}
+
+/// Reads the next authentication header over this one. Where none came, this one stays.
+pub fn read_next_auth<T: ExactRead>(header: &mut IpAuthHeader, reader: &mut T) -> bool
+    ensures next { OnTrue result ((b : List ℕ) × IsAuthHeader b × (auth_fields b ≡ header.new)
+        × Consumes (T.bytes_left reader.old) (T.bytes_left reader.new) b) }
+    ensures stays { OnFalse result (header.new ≡ header.old) }
+{
+    header.read_over(reader).is_ok()
 }
 
 /// Reads a header of bytes in memory, and cuts it off. It says what `from_slice` says of these bytes, the rest being

@@ -50,6 +50,8 @@ enum Kind {
     Raw,
     Fragment,
     Authentication,
+    /// Read over another header.
+    AuthenticationOver,
 }
 
 /// What came of a read. A header whose bytes aren't those that it was read from is `Other`.
@@ -93,6 +95,14 @@ fn read<T: ExactRead>(kind: Kind, bytes: &[u8], reader: &mut T) -> Outcome {
             Err(HeaderReadError::Io(e)) => Outcome::Io(e.kind()),
             Err(HeaderReadError::Content(_)) => Outcome::Content,
         },
+        Kind::AuthenticationOver => {
+            let mut header = IpAuthHeader::default();
+            match header.read_over(reader) {
+                Ok(()) => header_if(header.to_bytes().as_slice() == bytes),
+                Err(HeaderReadError::Io(e)) => Outcome::Io(e.kind()),
+                Err(HeaderReadError::Content(_)) => Outcome::Content,
+            }
+        }
     }
 }
 
@@ -113,6 +123,15 @@ fn read_limited<T: ExactRead>(kind: Kind, bytes: &[u8], reader: &mut LimitedRead
             Err(HeaderLimitedReadError::Len(e)) => Outcome::Len(e),
             Err(HeaderLimitedReadError::Content(_)) => Outcome::Content,
         },
+        Kind::AuthenticationOver => {
+            let mut header = IpAuthHeader::default();
+            match header.read_over_limited(reader) {
+                Ok(()) => header_if(header.to_bytes().as_slice() == bytes),
+                Err(HeaderLimitedReadError::Io(e)) => Outcome::Io(e.kind()),
+                Err(HeaderLimitedReadError::Len(e)) => Outcome::Len(e),
+                Err(HeaderLimitedReadError::Content(_)) => Outcome::Content,
+            }
+        }
     }
 }
 
@@ -140,11 +159,17 @@ const FRAGMENT: [u8; 8] = [17, 0, 0x12, 0x81, 1, 2, 3, 4];
 const AUTHENTICATION: [u8; 20] = [6, 3, 0, 0, 0, 0, 0, 7, 0, 0, 0, 9, 1, 2, 3, 4, 5, 6, 7, 8];
 
 /// A header, its requests one behind the other, and its layer.
-const CASES: [(Kind, &[u8], &[usize], Layer); 3] = [
+const CASES: [(Kind, &[u8], &[usize], Layer); 4] = [
     (Kind::Raw, &RAW, &[2, 22], Layer::Ipv6ExtHeader),
     (Kind::Fragment, &FRAGMENT, &[8], Layer::Ipv6FragHeader),
     (
         Kind::Authentication,
+        &AUTHENTICATION,
+        &[12, 8],
+        Layer::IpAuthHeader,
+    ),
+    (
+        Kind::AuthenticationOver,
         &AUTHENTICATION,
         &[12, 8],
         Layer::IpAuthHeader,

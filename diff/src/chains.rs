@@ -54,11 +54,21 @@ fn header(number: u8, next: u8, random: &mut Random) -> Vec<u8> {
     };
     let mut bytes = vec![next, field];
     bytes.extend(random.bytes(len - 2));
-    if number == 44 && random.percent(30) {
-        // A whole payload: no more flag, offset 0, whichever bits they are.
-        bytes[2..4].fill(0);
+    if number == 44 && random.percent(40) {
+        bytes[2..4].copy_from_slice(&fragment_bits(random));
     }
     bytes
+}
+
+/// Bytes 2 and 3 of a fragment header with few bits set: none; the reserved ones at most, so that the payload is whole;
+/// a single one; or those of byte 3.
+pub fn fragment_bits(random: &mut Random) -> [u8; 2] {
+    match random.below(4) {
+        0 => [0, 0],
+        1 => [0, random.next() as u8 & 0b0000_0110],
+        2 => (1u16 << random.below(16)).to_be_bytes(),
+        _ => [0, random.next() as u8],
+    }
 }
 
 /// A chain of up to so many headers with some bytes behind it.

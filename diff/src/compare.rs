@@ -1,6 +1,7 @@
 //! Both sides are asked, and the first difference that isn't a named one is told.
 use crate::bad_lines::spoilt;
 use crate::chains;
+use crate::changes::Changes;
 use crate::forms::{answer, forms, Form};
 use crate::headers::{original, Question, Told};
 use crate::named::Difference;
@@ -87,7 +88,7 @@ fn compare_lines(told: &mut impl BufRead, seed: u64, count: usize) -> io::Result
     let (mut expected, mut ours) = (String::new(), Vec::new());
     for (index, line) in lines(&forms, seed, count).enumerate() {
         expected.clear();
-        for difference in answer(&forms, &line, &mut expected) {
+        for difference in answer(&forms, &line, Changes::ALL, &mut expected) {
             *counts.entry(difference).or_default() += 1;
         }
         ours.clear();
@@ -167,7 +168,7 @@ fn read_questions(random: &mut Random) -> Vec<reads::Question> {
             Kind::Auth,
             vec![(0, header_bytes(random, auth, (auth / 4 - 2) as u8))],
         ),
-        2 => (Kind::Fragment, vec![(0, header_bytes(random, 8, 0))]),
+        2 => (Kind::Fragment, vec![(0, fragment_bytes(random))]),
         3 => (Kind::Ipv4, chains::asked(random, 6000)),
         _ => (Kind::Ipv6, chains::asked(random, 6000)),
     };
@@ -248,8 +249,8 @@ fn question(random: &mut Random) -> Question {
             );
             Question::AuthNew(next, spi, sequence, part(random, auth - 12))
         }
-        6 => Question::FragmentBorrowed(header_bytes(random, 8, 0)),
-        _ => Question::FragmentOwned(header_bytes(random, 8, 0)),
+        6 => Question::FragmentBorrowed(fragment_bytes(random)),
+        _ => Question::FragmentOwned(fragment_bytes(random)),
     }
 }
 
@@ -275,6 +276,15 @@ fn header_bytes(random: &mut Random, len: usize, field: u8) -> Vec<u8> {
     bytes
 }
 
+/// Bytes about as long as a fragment header, of which few bits of offset and flag are set at times.
+fn fragment_bytes(random: &mut Random) -> Vec<u8> {
+    let mut bytes = header_bytes(random, 8, 0);
+    if bytes.len() >= 4 && random.percent(40) {
+        bytes[2..4].copy_from_slice(&chains::fragment_bits(random));
+    }
+    bytes
+}
+
 /// So many bytes, or a few more or fewer, or any number up to there.
 fn part(random: &mut Random, len: usize) -> Vec<u8> {
     let len = match random.below(10) {
@@ -289,6 +299,7 @@ fn part(random: &mut Random, len: usize) -> Vec<u8> {
 #[cfg(test)]
 mod tests {
     use super::*;
+    use crate::fragment_bits::{self, from_the_original, to_the_original};
     use crate::headers::ours;
 
     #[test]
@@ -328,6 +339,62 @@ mod tests {
             };
             assert!(matches!(all_reads(wrong, 1, 10_000), Outcome::Different(_)));
         }
+    }
+
+    /// Fragment headers that are read and written with the bits of the original are told from ours.
+    #[test]
+    fn the_bits_of_the_original_are_found() {
+        let header = |question: &Question| match question {
+            Question::FragmentBorrowed(bytes) => ours(&Question::FragmentBorrowed(
+                fragment_bits::header(bytes, from_the_original),
+            )),
+            Question::FragmentOwned(bytes) => {
+                let bytes = fragment_bits::header(bytes, from_the_original);
+                let mut told = ours(&Question::FragmentOwned(bytes));
+                for written in [&mut told.spelled, &mut told.written] {
+                    *written = fragment_bits::header(written, to_the_original);
+                }
+                told
+            }
+            _ => ours(question),
+        };
+        assert!(matches!(
+            single_headers(header, 1, 10_000),
+            Outcome::Different(_)
+        ));
+        for kind in [Kind::Fragment, Kind::Ipv6] {
+            let read = |question: &reads::Question| {
+                let mut told = reads::ours(question);
+                if question.kind == kind {
+                    told.written = reads::in_layout(question, &told.written, to_the_original);
+                }
+                told
+            };
+            assert!(matches!(all_reads(read, 1, 10_000), Outcome::Different(_)));
+        }
+    }
+
+    /// Among the fragment headers that are asked about, each value of the reserved bits comes with no fragment, with
+    /// a last one and with one that isn't the last.
+    #[test]
+    fn each_kind_of_fragment_header_is_asked_for() {
+        let met = std::cell::RefCell::new(std::collections::BTreeSet::new());
+        let watching = |question: &Question| {
+            let told = ours(question);
+            if let Question::FragmentBorrowed(bytes) | Question::FragmentOwned(bytes) = question {
+                if told.header.fault == 0 {
+                    met.borrow_mut()
+                        .insert((bytes[3] & 0b0000_0110, told.header.flags));
+                }
+            }
+            told
+        };
+        assert!(matches!(
+            single_headers(watching, 1, 20_000),
+            Outcome::Same(_)
+        ));
+        let all = [0, 2, 4, 6].map(|reserved| [0, 2, 3].map(|flags| (reserved, flags)));
+        assert!(met.borrow().iter().eq(all.as_flattened()));
     }
 
     /// Each outcome of a read comes, of each kind.

@@ -1,4 +1,5 @@
 //! Single headers: the parts that each side reads, and the bytes that it writes of them.
+use crate::fragment_bits::{self, from_the_original, to_the_original};
 use crate::ours::{self, Header};
 use etherparse::err::ipv6_exts::ExtPayloadLenError;
 use etherparse::err::{ip_auth, Layer, LenError};
@@ -85,7 +86,7 @@ pub fn ours(question: &Question) -> Told {
     }
 }
 
-/// What the original tells.
+/// What the original tells, with the bits of fragment headers in our layout.
 pub fn original(question: &Question) -> Told {
     match question {
         Question::RawBorrowed(bytes) => {
@@ -115,11 +116,17 @@ pub fn original(question: &Question) -> Told {
             }
         }
         Question::FragmentBorrowed(bytes) => {
-            Ipv6FragmentHeaderSlice::from_slice(bytes).map_or_else(too_few, fragment_slice)
+            let bytes = fragment_bits::header(bytes, to_the_original);
+            Ipv6FragmentHeaderSlice::from_slice(&bytes).map_or_else(too_few, fragment_slice)
         }
-        Question::FragmentOwned(bytes) => Ipv6FragmentHeader::from_slice(bytes)
-            .map_or_else(too_few, |(header, rest)| fragment(&header, rest.len())),
+        Question::FragmentOwned(bytes) => fragment_owned(bytes),
     }
+}
+
+fn fragment_owned(bytes: &[u8]) -> Told {
+    let bytes = fragment_bits::header(bytes, to_the_original);
+    Ipv6FragmentHeader::from_slice(&bytes)
+        .map_or_else(too_few, |(header, rest)| fragment(&header, rest.len()))
 }
 
 fn raw_slice(header: Ipv6RawExtHeaderSlice<'_>) -> Told {
@@ -214,7 +221,8 @@ fn auth(header: &IpAuthHeader, rest_len: usize) -> Told {
 fn fragment(header: &Ipv6FragmentHeader, rest_len: usize) -> Told {
     let mut written = Vec::new();
     header.write(&mut written).expect("a Vec takes all bytes");
-    let spelled = header.to_bytes().to_vec();
+    let written = fragment_bits::header(&written, from_the_original);
+    let spelled = fragment_bits::header(&header.to_bytes(), from_the_original);
     Told {
         header: Header {
             next_header: header.next_header.0,

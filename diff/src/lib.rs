@@ -3,9 +3,11 @@
 pub mod bad_lines;
 pub mod before;
 pub mod chains;
+pub mod changes;
 pub mod compare;
 pub mod faults;
 pub mod forms;
+pub mod fragment_bits;
 pub mod headers;
 pub mod named;
 pub mod ours;

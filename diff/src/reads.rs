@@ -1,5 +1,6 @@
 //! Headers and chains that are read from bytes in memory, with and without a limit: what is taken, what is left,
 //! and what is refused.
+use crate::fragment_bits::{self, from_the_original, to_the_original, Bits};
 use crate::headers::{layer_code, len_source_code};
 use crate::ours::{self, Limit, Read, Start};
 use etherparse::err::io::LimitedReadError;
@@ -71,9 +72,27 @@ pub fn ours(question: &Question) -> Told {
     Told { read, written }
 }
 
-/// What the original tells.
+/// What the original tells, with the bits of fragment headers in our layout.
 pub fn original(question: &Question) -> Told {
-    let bytes = &question.bytes[..];
+    let before = question.limit.map_or(0, |limit| limit.before.into());
+    let (before, headers) = question.bytes.split_at(before);
+    let bytes = [before, &in_layout(question, headers, to_the_original)].concat();
+    let mut told = read_of(question, &bytes);
+    told.written = in_layout(question, &told.written, from_the_original);
+    told
+}
+
+/// The headers that a question reads, or that were written of its answer, in the other layout.
+pub fn in_layout(question: &Question, bytes: &[u8], bits: Bits) -> Vec<u8> {
+    match question.kind {
+        Kind::Fragment => fragment_bits::header(bytes, bits),
+        Kind::Ipv6 => fragment_bits::chain(question.start, bytes, bits),
+        Kind::Raw | Kind::Auth | Kind::Ipv4 => bytes.to_vec(),
+    }
+}
+
+/// What the original tells of the question about these bytes.
+fn read_of(question: &Question, bytes: &[u8]) -> Told {
     match &question.limit {
         None => {
             let mut reader = Cursor::new(bytes);

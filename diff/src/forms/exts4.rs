@@ -1,6 +1,7 @@
 //! `exts4 N HEX`: the IPv4 extension headers that begin the bytes.
 use super::{hex_of, number_and_bytes, Form};
 use crate::chains::{self, AUTH};
+use crate::changes::Changes;
 use crate::faults::{push, push_auth_fault};
 use crate::named::Difference;
 use crate::random::Random;
@@ -27,7 +28,12 @@ impl Form for Exts4 {
             .collect()
     }
 
-    fn answer(&self, arguments: &str, answer: &mut String) -> Option<Vec<Difference>> {
+    fn answer(
+        &self,
+        arguments: &str,
+        _changes: Changes,
+        answer: &mut String,
+    ) -> Option<Vec<Difference>> {
         let (number, bytes) = number_and_bytes(arguments)?;
         let (headers, next, rest, fault) =
             Ipv4ExtensionsSlice::from_slice_lax(IpNumber(number), &bytes);

@@ -1,6 +1,7 @@
 //! `exts6 N HEX`: the chain of IPv6 extension headers that begins the bytes.
 use super::{chain_arguments, number_and_bytes, Form};
 use crate::chains::EXTENSIONS;
+use crate::changes::Changes;
 use crate::faults::{push, push_ipv6_fault};
 use crate::named::Difference;
 use crate::random::Random;
@@ -17,8 +18,14 @@ impl Form for Exts6 {
         chain_arguments(self.name(), random)
     }
 
-    fn answer(&self, arguments: &str, answer: &mut String) -> Option<Vec<Difference>> {
+    fn answer(
+        &self,
+        arguments: &str,
+        changes: Changes,
+        answer: &mut String,
+    ) -> Option<Vec<Difference>> {
         let (number, bytes) = number_and_bytes(arguments)?;
+        let bytes = changes.asked_chain(number, bytes);
         let (headers, next, rest, fault) =
             Ipv6ExtensionsSlice::from_slice_lax(IpNumber(number), &bytes);
         let reads_on = push_headers(headers, answer);

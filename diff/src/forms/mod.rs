@@ -6,6 +6,7 @@ mod rewrite6;
 mod rewriteall6;
 
 use crate::chains;
+use crate::changes::Changes;
 use crate::named::Difference;
 use crate::random::Random;
 
@@ -20,8 +21,13 @@ pub trait Form {
     /// What stands behind the word in some lines that belong together, as a chain cut at every byte.
     fn arguments(&self, random: &mut Random) -> Vec<String>;
 
-    /// Appends the original's answer; `None` where the arguments aren't of this form.
-    fn answer(&self, arguments: &str, answer: &mut String) -> Option<Vec<Difference>>;
+    /// Appends the original's answer with the changes; `None` where the arguments aren't of this form.
+    fn answer(
+        &self,
+        arguments: &str,
+        changes: Changes,
+        answer: &mut String,
+    ) -> Option<Vec<Difference>>;
 }
 
 /// All forms.
@@ -35,17 +41,27 @@ pub fn forms() -> Vec<Box<dyn Form>> {
     ]
 }
 
-/// Appends the original's answer to a line, and tells the named differences that it has.
-pub fn answer(forms: &[Box<dyn Form>], line: &[u8], answer: &mut String) -> Vec<Difference> {
+/// Appends the original's answer to a line with the changes, and tells the named differences that it has.
+pub fn answer(
+    forms: &[Box<dyn Form>],
+    line: &[u8],
+    changes: Changes,
+    answer: &mut String,
+) -> Vec<Difference> {
     let before = answer.len();
-    asked(forms, line, answer).unwrap_or_else(|| {
+    asked(forms, line, changes, answer).unwrap_or_else(|| {
         answer.truncate(before);
         answer.push_str("bad line\n");
         Vec::new()
     })
 }
 
-fn asked(forms: &[Box<dyn Form>], line: &[u8], answer: &mut String) -> Option<Vec<Difference>> {
+fn asked(
+    forms: &[Box<dyn Form>],
+    line: &[u8],
+    changes: Changes,
+    answer: &mut String,
+) -> Option<Vec<Difference>> {
     if line.len() > MAX_LINE_LEN {
         return None;
     }
@@ -53,7 +69,7 @@ fn asked(forms: &[Box<dyn Form>], line: &[u8], answer: &mut String) -> Option<Ve
     forms
         .iter()
         .find(|form| form.name() == word)?
-        .answer(arguments, answer)
+        .answer(arguments, changes, answer)
 }
 
 /// A number and the digits of the bytes that follow it, for a form of this name that asks for a chain of IPv6

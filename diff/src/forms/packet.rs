@@ -1,5 +1,6 @@
 //! `packet HEX`: the IP packet that begins the bytes.
 use super::{bytes_of, hex_of, Form, MAX_LINE_LEN};
+use crate::changes::Changes;
 use crate::faults::{push, push_packet_fault};
 use crate::named::Difference;
 use crate::packets;
@@ -22,8 +23,13 @@ impl Form for Packet {
             .collect()
     }
 
-    fn answer(&self, arguments: &str, answer: &mut String) -> Option<Vec<Difference>> {
-        let bytes = bytes_of(arguments)?;
+    fn answer(
+        &self,
+        arguments: &str,
+        changes: Changes,
+        answer: &mut String,
+    ) -> Option<Vec<Difference>> {
+        let bytes = changes.asked_packet(bytes_of(arguments)?);
         match IpSlice::from_slice(&bytes) {
             Ok(packet) => push_parts(&packet, answer),
             Err(fault) => push_packet_fault(&fault, answer),
@@ -72,6 +78,35 @@ fn push_parts(packet: &IpSlice<'_>, answer: &mut String) {
 mod tests {
     use super::*;
 
+    fn answer(hex: &str, changes: Changes) -> (String, Vec<Difference>) {
+        let mut text = String::new();
+        let named = Packet.answer(hex, changes, &mut text);
+        (text, named.expect("the arguments are of this form"))
+    }
+
+    /// An IPv6 packet with a payload length, a next header, and these bytes behind its base header.
+    fn ipv6(payload_length: u8, next: u8, behind: &str) -> String {
+        format!(
+            "60000000{payload_length:04x}{next:02x}40{}{behind}",
+            "00".repeat(32)
+        )
+    }
+
+    /// A fragment header of the more flag alone, and one of reserved bits alone.
+    #[test]
+    fn a_packet_is_a_fragment_by_the_bits_of_the_standard() {
+        for payload_length in [0, 8] {
+            for (low, fragmented) in [("01", "yes"), ("06", "no"), ("08", "yes"), ("00", "no")] {
+                let hex = ipv6(payload_length, 44, &format!("110000{low}00000000"));
+                let (expected, _) = answer(&hex, Changes::ALL);
+                assert!(
+                    expected.contains(&format!("fragmented {fragmented}")),
+                    "{hex}"
+                );
+            }
+        }
+    }
+
     /// Each kind of answer is asked for, among a few thousand lines.
     #[test]
     fn each_kind_of_answer_is_asked_for() {
@@ -79,7 +114,7 @@ mod tests {
         let mut answers = String::new();
         for _ in 0..5000 {
             for arguments in Packet.arguments(&mut random) {
-                Packet.answer(&arguments, &mut answers);
+                Packet.answer(&arguments, Changes::ALL, &mut answers);
             }
         }
         let kinds = [

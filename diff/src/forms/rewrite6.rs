@@ -1,5 +1,6 @@
 //! `rewrite6 N HEX`: what of the IPv6 extension headers that begin the bytes has a place, as it is written.
 use super::{chain_arguments, hex_of, number_and_bytes, Form};
+use crate::changes::Changes;
 use crate::faults::{push, push_ipv6_fault};
 use crate::named::Difference;
 use crate::random::Random;
@@ -16,8 +17,14 @@ impl Form for Rewrite6 {
         chain_arguments(self.name(), random)
     }
 
-    fn answer(&self, arguments: &str, answer: &mut String) -> Option<Vec<Difference>> {
+    fn answer(
+        &self,
+        arguments: &str,
+        changes: Changes,
+        answer: &mut String,
+    ) -> Option<Vec<Difference>> {
         let (number, bytes) = number_and_bytes(arguments)?;
+        let bytes = changes.asked_chain(number, bytes);
         let (headers, next, rest, fault) = Ipv6Extensions::from_slice_lax(IpNumber(number), &bytes);
         // From 0 nothing is read but behind hop by hop options.
         let panics = number == 0 && headers.hop_by_hop_options.is_none();
@@ -31,6 +38,7 @@ impl Form for Rewrite6 {
             answer,
             format_args!("next {} rest {}\n", next.0, rest.len()),
         );
+        let written = changes.written_chain(number, written);
         push(
             answer,
             format_args!("written {}\n", hex_of(&written, false)),

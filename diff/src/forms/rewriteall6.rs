@@ -2,9 +2,12 @@
 //! after the other. The original has no such iterator: its struct parse is called again where a place was taken.
 use super::{chain_arguments, hex_of, number_and_bytes, Form};
 use crate::chains::EXTENSIONS;
+use crate::changes::Changes;
 use crate::faults::{push, push_ipv6_fault};
 use crate::named::Difference;
 use crate::random::Random;
+use etherparse::err::ipv6_exts::HeaderSliceError;
+use etherparse::err::Layer;
 use etherparse::{IpNumber, Ipv6Extensions};
 
 pub struct RewriteAll6;
@@ -18,36 +21,28 @@ impl Form for RewriteAll6 {
         chain_arguments(self.name(), random)
     }
 
-    fn answer(&self, arguments: &str, answer: &mut String) -> Option<Vec<Difference>> {
-        let (number, bytes) = number_and_bytes(arguments)?;
-        let mut number = IpNumber(number);
-        let mut rest = &bytes[..];
-        let mut runs = 0;
-        let mut written = Vec::new();
-        let fault = loop {
-            let offset = bytes.len() - rest.len();
-            let (headers, next, behind, fault) = Ipv6Extensions::from_slice_lax(number, rest);
-            // From 0 the original's write panics where there are no hop by hop options: then nothing was read.
-            if !headers.is_empty() {
-                headers
-                    .write(&mut written, number)
-                    .expect("headers that were read are all reached");
-            }
-            runs += 1;
-            (number, rest) = (next, behind);
-            if fault.is_some() || !EXTENSIONS.contains(&number.0) {
-                break fault.map(|(fault, layer)| (fault.add_slice_offset(offset), layer));
-            }
-        };
+    fn answer(
+        &self,
+        arguments: &str,
+        changes: Changes,
+        answer: &mut String,
+    ) -> Option<Vec<Difference>> {
+        let (start, bytes) = number_and_bytes(arguments)?;
+        let bytes = changes.asked_chain(start, bytes);
+        let all = all_runs(start, &bytes);
         push(
             answer,
-            format_args!("runs {runs} next {} rest {}\n", number.0, rest.len()),
+            format_args!(
+                "runs {} next {} rest {}\n",
+                all.count, all.next.0, all.rest_len
+            ),
         );
+        let written = changes.written_chain(start, all.written);
         push(
             answer,
             format_args!("written {}\n", hex_of(&written, false)),
         );
-        match fault {
+        match all.fault {
             None => answer.push_str("ok\n"),
             Some((fault, layer)) => {
                 push_ipv6_fault(&fault, answer);
@@ -55,5 +50,40 @@ impl Form for RewriteAll6 {
             }
         }
         Some(Vec::new())
+    }
+}
+
+/// The structs that hold a chain's headers, as they are written, and what is behind the last.
+struct Runs {
+    count: usize,
+    written: Vec<u8>,
+    next: IpNumber,
+    rest_len: usize,
+    fault: Option<(HeaderSliceError, Layer)>,
+}
+
+fn all_runs(start: u8, bytes: &[u8]) -> Runs {
+    let (mut count, mut written) = (0, Vec::new());
+    let (mut number, mut rest) = (IpNumber(start), bytes);
+    loop {
+        let offset = bytes.len() - rest.len();
+        let (headers, next, behind, fault) = Ipv6Extensions::from_slice_lax(number, rest);
+        // From 0 the original's write panics where there are no hop by hop options: then nothing was read.
+        if !headers.is_empty() {
+            headers
+                .write(&mut written, number)
+                .expect("headers that were read are all reached");
+        }
+        count += 1;
+        (number, rest) = (next, behind);
+        if fault.is_some() || !EXTENSIONS.contains(&number.0) {
+            return Runs {
+                count,
+                written,
+                next,
+                rest_len: rest.len(),
+                fault: fault.map(|(fault, layer)| (fault.add_slice_offset(offset), layer)),
+            };
+        }
     }
 }

@@ -8,6 +8,9 @@ pub enum Difference {
     IteratorReadsOn,
     /// The original's `write` panics from 0 where there are no hop by hop options. It wasn't called.
     WriteFromZeroPanics,
+    /// The original's strict parse of an IPv6 packet says that payload length bounds its headers, also where that is
+    /// 0 and the slice does. The source in its answer was replaced.
+    StrictSourceIsPayloadLength,
 }
 
 impl Difference {
@@ -19,6 +22,9 @@ impl Difference {
             }
             Difference::WriteFromZeroPanics => {
                 "`write` panics from 0 where there are no hop by hop options"
+            }
+            Difference::StrictSourceIsPayloadLength => {
+                "a strict IPv6 parse names payload length in a header's error of a length where it is 0"
             }
         }
     }

@@ -16,8 +16,8 @@ pub fn asked(random: &mut Random, longest: usize) -> Vec<Vec<u8>> {
         84..85 => cut_everywhere(random),
         85..86 => every_first_byte(random),
         86..87 => every_number(random),
-        87..90 => vec![without_a_length(random)],
-        90..91 => vec![long(random, longest)],
+        87..92 => vec![without_a_length(random)],
+        92..93 => vec![long(random, longest)],
         _ => vec![noise(random)],
     };
     packets
@@ -197,11 +197,13 @@ fn every_number(random: &mut Random) -> Vec<Vec<u8>> {
 }
 
 /// An IPv6 packet that states the payload length 0, as one of more than 65,535 bytes does, with or without
-/// bytes behind its base header.
+/// bytes behind its base header, and at times cut among its headers.
 fn without_a_length(random: &mut Random) -> Vec<u8> {
     let mut packet = with_length(ipv6(random), 0);
-    if random.percent(20) {
-        packet.truncate(IPV6_LEN + random.below(3));
+    match random.below(10) {
+        0..2 => packet.truncate(IPV6_LEN + random.below(3)),
+        2..6 => packet.truncate(IPV6_LEN + random.below(60)),
+        _ => {}
     }
     packet
 }

@@ -30,11 +30,18 @@ impl Form for Packet {
         answer: &mut String,
     ) -> Option<Vec<Difference>> {
         let bytes = changes.asked_packet(bytes_of(arguments)?);
+        let mut named = Vec::new();
         match IpSlice::from_slice(&bytes) {
             Ok(packet) => push_parts(&packet, answer),
-            Err(fault) => push_packet_fault(&fault, answer),
+            Err(fault) => {
+                let changed = changes.packet_fault(&bytes, &fault);
+                if changed.is_some() {
+                    named.push(Difference::StrictSourceIsPayloadLength);
+                }
+                push_packet_fault(&changed.unwrap_or(fault), answer);
+            }
         }
-        Some(Vec::new())
+        Some(named)
     }
 }
 
@@ -92,6 +99,39 @@ mod tests {
         )
     }
 
+    /// The source of a fault in the headers is the slice where payload length is 0, and nothing else of it changes.
+    #[test]
+    fn the_source_of_a_fault_in_the_headers_is_the_one_really_used() {
+        for (next, behind) in [(60, "2b00000000000000"), (44, "11"), (51, "1101")] {
+            let hex = ipv6(0, next, behind);
+            let (original, named) = answer(&hex, Changes::NONE);
+            assert!(original.contains(" Ipv6HeaderPayloadLen ") && named.is_empty());
+            let (expected, named) = answer(&hex, Changes::ALL);
+            assert_eq!(expected, original.replace("Ipv6HeaderPayloadLen", "Slice"));
+            assert_eq!(named, [Difference::StrictSourceIsPayloadLength]);
+        }
+    }
+
+    /// Every other answer is the original's: a payload length that bounds the headers, no bytes behind the base
+    /// header, a fault of another kind or of the base header, no fault, and IPv4.
+    #[test]
+    fn no_other_source_is_replaced() {
+        let ipv4 = format!("45000018000000004033{}11010000", "00".repeat(10));
+        for hex in [
+            ipv6(8, 60, "2b00000000000000"),
+            ipv6(9, 60, "2b00000000000000"),
+            ipv6(0, 60, ""),
+            ipv6(0, 51, "110000000000000000000000"),
+            ipv6(0, 60, "0000000000000000"),
+            ipv6(0, 60, "1100000000000000"),
+            ipv6(0, 17, "")[..78].to_owned(),
+            ipv4,
+        ] {
+            let (expected, named) = answer(&hex, Changes::ALL);
+            assert_eq!((expected, named), answer(&hex, Changes::NONE), "{hex}");
+        }
+    }
+
     /// A fragment header of the more flag alone, and one of reserved bits alone.
     #[test]
     fn a_packet_is_a_fragment_by_the_bits_of_the_standard() {
@@ -139,6 +179,9 @@ mod tests {
             "Ipv6HeaderPayloadLen Ipv6FragHeader at 40",
             "Ipv6HeaderPayloadLen IpAuthHeader at ",
             "Ipv6HeaderPayloadLen Ipv6ExtHeader at 48",
+            "Slice Ipv6FragHeader at 40",
+            "Slice IpAuthHeader at ",
+            "Slice Ipv6ExtHeader at 48",
             "fault ZeroPayloadLen",
             "fault HopByHopNotAtStart",
             "fault UnsupportedIpVersion 0",

@@ -1,4 +1,6 @@
-//! What is measured: packets like real traffic, regular chains, and bytes that are refused.
+//! What is measured: packets like real traffic, regular chains, and bytes that are refused. The original is given the
+//! same headers with the bits of fragment headers in its own layout, which are put there when the bytes are made.
+use crate::fragment_bits::{self, to_the_original};
 use crate::random::Random;
 
 pub const HOP_BY_HOP: u8 = 0;
@@ -18,6 +20,43 @@ const PLACES: [u8; 6] = [
     DEST_OPTIONS,
 ];
 
+/// A chain of headers from a number, with some bytes behind it, for both sides.
+#[derive(Clone)]
+pub struct Chain {
+    pub start: u8,
+    pub ours: Vec<u8>,
+    pub original: Vec<u8>,
+}
+
+impl Chain {
+    pub fn new(start: u8, ours: Vec<u8>) -> Chain {
+        let original = fragment_bits::chain(start, &ours, to_the_original);
+        Chain {
+            start,
+            ours,
+            original,
+        }
+    }
+}
+
+/// The same packets for both sides.
+#[derive(Clone, Copy)]
+pub struct Sides {
+    pub ours: &'static Packets,
+    pub original: &'static Packets,
+}
+
+impl Sides {
+    /// The packets, which are kept as long as the program runs.
+    pub fn new(packets: Packets) -> Sides {
+        let original = packets.for_the_original();
+        Sides {
+            ours: Box::leak(Box::new(packets)),
+            original: Box::leak(Box::new(original)),
+        }
+    }
+}
+
 /// Packets one after the other.
 pub struct Packets {
     pub bytes: Vec<u8>,
@@ -33,6 +72,18 @@ impl Packets {
             .zip(&self.ends)
             .map(|(start, end)| &self.bytes[start..*end])
             .collect()
+    }
+
+    /// The same packets as the original is given them.
+    fn for_the_original(&self) -> Packets {
+        let each = self.each().into_iter();
+        Packets {
+            bytes: each
+                .flat_map(|packet| fragment_bits::packet(packet, to_the_original))
+                .collect(),
+            ends: self.ends.clone(),
+            chains_len: self.chains_len,
+        }
     }
 }
 
@@ -124,9 +175,9 @@ pub fn chain_of(numbers: &[u8], last: u8, random: &mut Random) -> Vec<u8> {
     bytes
 }
 
-/// A regular chain of so many headers, its start number, and 16 bytes behind it: destination options,
-/// routing and fragment headers in turn.
-pub fn regular(count: usize) -> (u8, Vec<u8>) {
+/// A regular chain of so many headers, and 16 bytes behind it: destination options, routing and fragment headers in
+/// turn.
+pub fn regular(count: usize) -> Chain {
     let mut random = Random::new(7);
     let numbers: Vec<u8> = (0..count)
         .map(|i| [DEST_OPTIONS, ROUTE, FRAGMENT][i % 3])
@@ -143,12 +194,12 @@ pub fn regular(count: usize) -> (u8, Vec<u8>) {
         bytes.extend(random.bytes(8 * (usize::from(units) + 1) - 2));
     }
     bytes.extend(random.bytes(16));
-    (*numbers.first().unwrap_or(&UDP), bytes)
+    Chain::new(*numbers.first().unwrap_or(&UDP), bytes)
 }
 
-/// A chain through all six places, its start number, and 16 bytes behind it. Headers of the common layout have
-/// `len` bytes, the authentication header half of that and 8.
-pub fn full(len: usize) -> (u8, Vec<u8>) {
+/// A chain through all six places, and 16 bytes behind it. Headers of the common layout have `len` bytes, the
+/// authentication header half of that and 8.
+pub fn full(len: usize) -> Chain {
     let mut random = Random::new(13);
     let mut bytes = Vec::new();
     for (index, number) in PLACES.iter().enumerate() {
@@ -162,21 +213,21 @@ pub fn full(len: usize) -> (u8, Vec<u8>) {
         bytes.extend(random.bytes(len - 2));
     }
     bytes.extend(random.bytes(16));
-    (HOP_BY_HOP, bytes)
+    Chain::new(HOP_BY_HOP, bytes)
 }
 
 /// So many fragment headers, which lead to UDP.
-pub fn fragments(count: usize) -> Vec<u8> {
+pub fn fragments(count: usize) -> Chain {
     let mut random = Random::new(17);
     let mut bytes = Vec::new();
     for index in 0..count {
         bytes.push(if index + 1 == count { UDP } else { FRAGMENT });
         bytes.extend(random.bytes(7));
     }
-    bytes
+    Chain::new(FRAGMENT, bytes)
 }
 
-/// Bytes that are refused: why, the number of the header at which, and its bytes.
+/// Bytes that are refused: why, the number of the header at which, and its bytes, none of a whole fragment header.
 pub fn refusals() -> Vec<(&'static str, u8, Vec<u8>)> {
     vec![
         ("options of 7 bytes", DEST_OPTIONS, vec![UDP; 7]),
@@ -202,7 +253,7 @@ fn long(next: u8, field: u8, len: usize) -> Vec<u8> {
 }
 
 /// Four headers that lead to `number`, and then these bytes.
-pub fn behind_four(number: u8, bytes: &[u8]) -> (u8, Vec<u8>) {
+pub fn behind_four(number: u8, bytes: &[u8]) -> Chain {
     let mut random = Random::new(9);
     let mut all = chain_of(
         &[HOP_BY_HOP, DEST_OPTIONS, ROUTE, FRAGMENT],
@@ -210,12 +261,13 @@ pub fn behind_four(number: u8, bytes: &[u8]) -> (u8, Vec<u8>) {
         &mut random,
     );
     all.extend(bytes);
-    (HOP_BY_HOP, all)
+    Chain::new(HOP_BY_HOP, all)
 }
 
 /// A single header of this length, with 16 bytes behind it.
-pub fn single(number: u8, len: usize) -> Vec<u8> {
-    let mut random = Random::new(11);
+pub fn single(number: u8, len: usize) -> Chain {
+    // A seed with which the digest of a fragment header tells the two layouts of its byte 3.
+    let mut random = Random::new(19);
     let field = if number == AUTH {
         len / 4 - 2
     } else {
@@ -223,7 +275,12 @@ pub fn single(number: u8, len: usize) -> Vec<u8> {
     };
     let mut bytes = vec![UDP, field as u8];
     bytes.extend(random.bytes(len + 14));
-    bytes
+    Chain::new(number, bytes)
+}
+
+/// A header of this number that is cut short, of 7 bytes.
+pub fn cut_short(number: u8) -> Chain {
+    Chain::new(number, vec![UDP; 7])
 }
 
 /// IPv4 packets without a fault: some with options, some with an authentication header, some that are fragments,
@@ -289,20 +346,22 @@ pub struct Refused {
     pub version: u8,
     /// Whether it is refused for having fewer bytes than it states, which a lax parse doesn't.
     pub cut_short: bool,
-    pub bytes: Vec<u8>,
+    pub ours: Vec<u8>,
+    pub original: Vec<u8>,
 }
 
 /// Packets that are refused for their base header, for their length, or for a header behind it.
 pub fn refused_packets() -> Vec<Refused> {
     let cut_auth = [UDP; 11];
     let zero_auth = [UDP, 0, 0, 0, 0, 0, 0, 0, 0, 0, 0, 0];
-    let (_, late) = behind_four(HOP_BY_HOP, &[UDP; 8]);
-    let (_, cut) = behind_four(FRAGMENT, &[UDP; 7]);
+    let late = behind_four(HOP_BY_HOP, &[UDP; 8]).ours;
+    let cut = behind_four(FRAGMENT, &[UDP; 7]).ours;
     let refused = |why, bytes: Vec<u8>| Refused {
         why,
         version: bytes[0] >> 4,
         cut_short: false,
-        bytes,
+        original: fragment_bits::packet(&bytes, to_the_original),
+        ours: bytes,
     };
     let (short_ipv4, short_ipv6) = (
         ipv4(UDP, &[0; 30])[..49].to_vec(),

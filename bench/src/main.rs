@@ -1,8 +1,12 @@
 //! Measures the calls of this project against those of etherparse 0.19.0.
 //!
 //!     bench measure RUNS WORD               times of the rows whose names have the word, a line each
-//!     bench tool OURS ORIGINAL FILE BYTES   times of two programs over lines, which are made in FILE
+//!     bench tool OURS ORIGINAL FOLDER BYTES times of two programs over lines, which are made in FOLDER
 //!     bench report FILE..                   the table of such lines; a file for each alignment of our code
+// That of a single header is for diff/.
+#[allow(dead_code)]
+#[path = "../../diff/src/fragment_bits.rs"]
+mod fragment_bits;
 mod inputs;
 mod measure;
 mod original;
@@ -31,10 +35,10 @@ fn main() -> ExitCode {
     let words: Vec<&str> = arguments.iter().map(String::as_str).collect();
     match &words[..] {
         ["measure", runs, word] => measure(runs.parse().expect("RUNS is a number"), word),
-        ["tool", ours, original, file, bytes] => {
-            let (file, len) = (Path::new(file), bytes.parse().expect("BYTES is a number"));
-            let count = tool::write_lines(file, len, SEED).expect("FILE can be written");
-            tool::measure(ours, original, file, count, 9).print();
+        ["tool", ours, original, folder, bytes] => {
+            let (folder, len) = (Path::new(folder), bytes.parse().expect("BYTES is a number"));
+            let lines = tool::write_lines(folder, len, SEED).expect("FOLDER can be written to");
+            tool::measure(ours, original, &lines, 9).print();
         }
         ["report", ..] if words.len() > 1 => {
             if !report::report(&arguments[1..]) {
@@ -42,7 +46,9 @@ fn main() -> ExitCode {
             }
         }
         _ => {
-            eprintln!("bench: measure RUNS WORD, tool OURS ORIGINAL FILE BYTES, or report FILE..");
+            eprintln!(
+                "bench: measure RUNS WORD, tool OURS ORIGINAL FOLDER BYTES, or report FILE.."
+            );
             return ExitCode::from(2);
         }
     }

@@ -17,7 +17,7 @@ pub struct Measured {
     pub limit: Option<Time>,
 }
 
-/// Times a row, after it has shown that both sides answer the same.
+/// Times a row, after it has shown that both sides answer and write the same.
 pub fn measure(row: &Row, runs: usize) -> Measured {
     assert_eq!(
         (row.ours)(),
@@ -25,6 +25,9 @@ pub fn measure(row: &Row, runs: usize) -> Measured {
         "{}: the answers differ",
         row.name
     );
+    if let Some((ours, original)) = row.written.as_ref().map(|written| written()) {
+        assert_eq!(ours, original, "{}: the written bytes differ", row.name);
+    }
     let works: Vec<&Work> = [Some(&row.ours), Some(&row.original), row.limit.as_ref()]
         .into_iter()
         .flatten()
@@ -45,7 +48,9 @@ pub fn measure(row: &Row, runs: usize) -> Measured {
     }
 }
 
+/// One run, behind another that isn't timed: each side has bytes of its own, and finds them where they were just read.
 fn once(work: &Work, units: usize) -> f64 {
+    black_box(work());
     let start = Instant::now();
     black_box(work());
     start.elapsed().as_nanos() as f64 / units as f64

@@ -1,12 +1,12 @@
 //! The rows of reads: headers, chains of IPv4, and chains of six places, with and without a limit.
-use crate::inputs::{self, Packets};
+use crate::inputs::{self, Chain, Sides};
 use crate::original_reads;
 use crate::ours;
 use crate::rows::{again, form, full_chain, packet_calls, packet_loop, regular_chain, single};
 use crate::rows::{Form, Row, CALLS};
 
 /// All rows, over the packets that the chains' rows have too.
-pub fn rows(packets: &'static Packets) -> Vec<Row> {
+pub fn rows(packets: Sides) -> Vec<Row> {
     let mut rows = headers();
     rows.extend(ipv4());
     for form in forms() {
@@ -96,14 +96,14 @@ fn headers() -> Vec<Row> {
     let mut rows = Vec::new();
     for (name, number, lens, ours, original) in calls {
         rows.extend(lens.iter().map(|len| {
-            let bytes = inputs::single(number, *len);
-            single("reads", name, *len, &bytes, ours, original)
+            let chain = inputs::single(number, *len);
+            single("reads", name, *len, &chain, ours, original)
         }));
         rows.push(single(
             "reads",
             &format!("{name}, refused"),
             7,
-            &[17; 7],
+            &inputs::cut_short(number),
             ours,
             original,
         ));
@@ -115,17 +115,23 @@ fn headers() -> Vec<Row> {
 fn ipv4() -> Vec<Row> {
     let header = inputs::single(inputs::AUTH, 64);
     [
-        ("a header of 64 bytes", inputs::AUTH, header),
-        ("no header", 17, vec![17; 20]),
+        ("a header of 64 bytes", header),
+        ("no header", Chain::new(17, vec![17; 20])),
     ]
-    .map(|(what, start, bytes)| Row {
+    .map(|(what, chain)| Row {
         group: "reads",
         name: format!("IPv4, owned, read: {what}"),
         unit: "call",
         units: CALLS,
-        ours: again(ours::ipexts_ipv4_read, start, bytes.clone(), CALLS),
-        original: again(original_reads::ipv4_read, start, bytes, CALLS),
+        ours: again(ours::ipexts_ipv4_read, chain.start, chain.ours, CALLS),
+        original: again(
+            original_reads::ipv4_read,
+            chain.start,
+            chain.original,
+            CALLS,
+        ),
         limit: None,
+        written: None,
     })
     .into()
 }

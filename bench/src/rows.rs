@@ -1,5 +1,6 @@
 //! The rows of the table: what is called, on which bytes, on both sides.
-use crate::inputs::{self, Packets};
+use crate::fragment_bits::{self, from_the_original};
+use crate::inputs::{self, Chain, Packets, Sides};
 use crate::original::{self, Parse};
 use crate::original_ipv4;
 use crate::ours::{self, ChainCall, HeaderCall, PacketLoop, RepeatedCall};
@@ -16,6 +17,9 @@ pub const PACKETS: usize = 10_000;
 /// Something to be timed, which answers a digest.
 pub type Work = Box<dyn Fn() -> u64>;
 
+/// Makes all bytes that our side and the original write, in our layout of fragment headers.
+pub type Written = Box<dyn Fn() -> (Vec<u8>, Vec<u8>)>;
+
 /// A row: the same work on both sides.
 pub struct Row {
     pub group: &'static str,
@@ -28,6 +32,8 @@ pub struct Row {
     pub original: Work,
     /// A bare walk in C over the same bytes.
     pub limit: Option<Work>,
+    /// All that is written, where the row is about that, since its digest has two of the bytes.
+    pub written: Option<Written>,
 }
 
 /// A way to parse a chain, on both sides.
@@ -38,6 +44,43 @@ pub struct Form {
     original: ChainCall,
     our_loop: PacketLoop,
     original_loop: PacketLoop,
+    /// Whether the other side is ours as well, which is given the same bytes.
+    is_against_ours: bool,
+}
+
+impl Form {
+    /// The packets that the other side is given.
+    fn other_packets(&self, packets: Sides) -> &'static Packets {
+        if self.is_against_ours {
+            packets.ours
+        } else {
+            packets.original
+        }
+    }
+
+    /// The chain that the other side is given.
+    fn other_chain(&self, chain: &Chain) -> Vec<u8> {
+        if self.is_against_ours {
+            chain.ours.clone()
+        } else {
+            chain.original.clone()
+        }
+    }
+
+    /// A row of so many calls on a chain.
+    fn row(&self, group: &'static str, name: String, chain: Chain, calls: usize) -> Row {
+        let other = self.other_chain(&chain);
+        Row {
+            group,
+            name,
+            unit: "call",
+            units: calls,
+            ours: again(self.ours, chain.start, chain.ours, calls),
+            original: again(self.original, chain.start, other, calls),
+            limit: None,
+            written: None,
+        }
+    }
 }
 
 pub fn form<P: Parse>(
@@ -53,6 +96,7 @@ pub fn form<P: Parse>(
         original: original::chain::<P>,
         our_loop,
         original_loop: original::packets::<P>,
+        is_against_ours: false,
     }
 }
 
@@ -99,6 +143,7 @@ fn cursor_forms() -> Vec<Form> {
         original,
         our_loop,
         original_loop,
+        is_against_ours: true,
     };
     let (all, early) = ("all headers", "first fragment");
     vec![
@@ -151,7 +196,7 @@ fn struct_forms() -> Vec<Form> {
 }
 
 /// A parse into a struct: packets, no headers, all places filled, and refusals.
-fn struct_rows(form: &Form, packets: &'static Packets) -> Vec<Row> {
+fn struct_rows(form: &Form, packets: Sides) -> Vec<Row> {
     let mut rows = vec![packet_loop(form, packets), packet_calls(form, packets)];
     rows.push(regular_chain(form, 0));
     rows.extend([8, 2040].map(|len| full_chain(form, len)));
@@ -161,21 +206,13 @@ fn struct_rows(form: &Form, packets: &'static Packets) -> Vec<Row> {
 
 /// A chain through all six places, whose headers of the common layout have `len` bytes each.
 pub fn full_chain(form: &Form, len: usize) -> Row {
-    let (start, bytes) = inputs::full(len);
-    Row {
-        group: "all places filled",
-        name: format!("{}: six places, options of {len} bytes", form.name),
-        unit: "call",
-        units: CALLS,
-        ours: again(form.ours, start, bytes.clone(), CALLS),
-        original: again(form.original, start, bytes, CALLS),
-        limit: None,
-    }
+    let name = format!("{}: six places, options of {len} bytes", form.name);
+    form.row("all places filled", name, inputs::full(len), CALLS)
 }
 
 /// All rows.
 pub fn rows(seed: u64) -> Vec<Row> {
-    let packets: &'static Packets = Box::leak(Box::new(inputs::packets(PACKETS, seed)));
+    let packets = Sides::new(inputs::packets(PACKETS, seed));
     let mut rows = Vec::new();
     for form in forms() {
         rows.push(packet_loop(&form, packets));
@@ -218,22 +255,23 @@ pub fn over_packets(call: PacketLoop, packets: &'static Packets) -> Work {
 }
 
 /// One exported loop over all packets.
-pub fn packet_loop(form: &Form, packets: &'static Packets) -> Row {
+pub fn packet_loop(form: &Form, packets: Sides) -> Row {
     Row {
         group: "packets, one loop",
         name: format!("{}, {}: packets in one loop", form.name, form.reading),
         unit: "packet",
-        units: packets.ends.len(),
-        ours: over_packets(form.our_loop, packets),
-        original: over_packets(form.original_loop, packets),
-        limit: Some(over_packets(ours::walk_packets, packets)),
+        units: packets.ours.ends.len(),
+        ours: over_packets(form.our_loop, packets.ours),
+        original: over_packets(form.original_loop, form.other_packets(packets)),
+        limit: Some(over_packets(ours::walk_packets, packets.ours)),
+        written: None,
     }
 }
 
 /// A call for each packet.
-pub fn packet_calls(form: &Form, packets: &'static Packets) -> Row {
-    let each: &'static [&'static [u8]] = Box::leak(packets.each().into_boxed_slice());
-    let over = |call: ChainCall| -> Work {
+pub fn packet_calls(form: &Form, packets: Sides) -> Row {
+    let over = |call: ChainCall, packets: &'static Packets| -> Work {
+        let each = packets.each();
         Box::new(move || {
             let call = black_box(call);
             each.iter().fold(0u64, |sum, packet| {
@@ -246,10 +284,11 @@ pub fn packet_calls(form: &Form, packets: &'static Packets) -> Row {
         group: "packets, a call each",
         name: format!("{}, {}: a call for each packet", form.name, form.reading),
         unit: "packet",
-        units: packets.ends.len(),
-        ours: over(form.ours),
-        original: over(form.original),
-        limit: Some(over(ours::walk_chain)),
+        units: packets.ours.ends.len(),
+        ours: over(form.ours, packets.ours),
+        original: over(form.original, form.other_packets(packets)),
+        limit: Some(over(ours::walk_chain, packets.ours)),
+        written: None,
     }
 }
 
@@ -265,16 +304,15 @@ pub fn again(call: ChainCall, start: u8, bytes: Vec<u8>, calls: usize) -> Work {
 }
 
 pub fn regular_chain(form: &Form, count: usize) -> Row {
-    let (start, bytes) = inputs::regular(count);
+    let chain = inputs::regular(count);
     let calls = (CALLS / (count + 1)).max(5);
+    let name = format!("{}, {}: chain of {count}", form.name, form.reading);
+    let walked = chain.ours.clone();
     Row {
-        group: "regular chains",
-        name: format!("{}, {}: chain of {count}", form.name, form.reading),
         unit: "header",
         units: calls * count.max(1),
-        ours: again(form.ours, start, bytes.clone(), calls),
-        original: again(form.original, start, bytes.clone(), calls),
-        limit: Some(again(ours::walk_chain, start, bytes, calls)),
+        limit: Some(again(ours::walk_chain, chain.start, walked, calls)),
+        ..form.row("regular chains", name, chain, calls)
     }
 }
 
@@ -284,32 +322,26 @@ fn refusals(form: &Form) -> Vec<Row> {
     for (why, number, bytes) in inputs::refusals() {
         // Hop by hop options are refused only behind another header.
         let first = if number == inputs::HOP_BY_HOP {
-            (inputs::DEST_OPTIONS, vec![number, 0, 0, 0, 0, 0, 0, 0])
+            Chain::new(inputs::DEST_OPTIONS, vec![number, 0, 0, 0, 0, 0, 0, 0])
         } else {
-            (number, bytes.clone())
+            Chain::new(number, bytes.clone())
         };
         let at_first = if number == inputs::HOP_BY_HOP {
             "behind one"
         } else {
             "at the first"
         };
-        for (place, (start, bytes)) in [
+        for (place, chain) in [
             (at_first, first),
             ("behind four", inputs::behind_four(number, &bytes)),
         ] {
-            rows.push(Row {
-                group: if place == "behind four" {
-                    "refusals behind four headers"
-                } else {
-                    "refusals at the first header"
-                },
-                name: format!("{}, {}: {why}, {place}", form.name, form.reading),
-                unit: "call",
-                units: CALLS,
-                ours: again(form.ours, start, bytes.clone(), CALLS),
-                original: again(form.original, start, bytes, CALLS),
-                limit: None,
-            });
+            let group = if place == "behind four" {
+                "refusals behind four headers"
+            } else {
+                "refusals at the first header"
+            };
+            let name = format!("{}, {}: {why}, {place}", form.name, form.reading);
+            rows.push(form.row(group, name, chain, CALLS));
         }
     }
     rows
@@ -321,13 +353,14 @@ fn borrowed_and_owned() -> Vec<Row> {
     let raw = [8, 64, 2048].map(|len| (len, inputs::single(inputs::ROUTE, len)));
     let auth = [12, 64, 1028].map(|len| (len, inputs::single(inputs::AUTH, len)));
     let fragment = [(8, inputs::single(inputs::FRAGMENT, 8))];
-    let refused = [(7, vec![17; 7])];
+    let raw_refused = [(7, inputs::cut_short(inputs::ROUTE))];
+    let auth_refused = [(7, inputs::cut_short(inputs::AUTH))];
     let mut rows = Vec::new();
-    let mut add = |group, name: &str, inputs: &[(usize, Vec<u8>)], ours, original| {
+    let mut add = |group, name: &str, inputs: &[(usize, Chain)], ours, original| {
         rows.extend(
             inputs
                 .iter()
-                .map(|(len, bytes)| single(group, name, *len, bytes, ours, original)),
+                .map(|(len, chain)| single(group, name, *len, chain, ours, original)),
         );
     };
     add(
@@ -354,7 +387,7 @@ fn borrowed_and_owned() -> Vec<Row> {
     add(
         "borrowed headers",
         "raw header, borrowed, refused",
-        &refused,
+        &raw_refused,
         ipexts_raw_borrowed,
         original::raw_borrowed,
     );
@@ -403,14 +436,14 @@ fn borrowed_and_owned() -> Vec<Row> {
     add(
         "owned headers",
         "raw header, owned, refused",
-        &refused,
+        &raw_refused,
         ipexts_raw_owned,
         original::raw_owned,
     );
     add(
         "owned headers",
         "authentication header, owned, refused",
-        &refused,
+        &auth_refused,
         ipexts_auth_owned,
         original::auth_owned,
     );
@@ -422,11 +455,11 @@ pub fn single(
     group: &'static str,
     name: &str,
     len: usize,
-    bytes: &[u8],
+    chain: &Chain,
     ours: HeaderCall,
     original: HeaderCall,
 ) -> Row {
-    let over = |call: HeaderCall| -> Work {
+    let over = |call: HeaderCall, bytes: &[u8]| -> Work {
         let bytes = bytes.to_vec();
         Box::new(move || {
             let call = black_box(call);
@@ -441,9 +474,10 @@ pub fn single(
         name: format!("{name}: {len} bytes"),
         unit: "call",
         units: CALLS,
-        ours: over(ours),
-        original: over(original),
+        ours: over(ours, &chain.ours),
+        original: over(original, &chain.original),
         limit: None,
+        written: None,
     }
 }
 
@@ -454,11 +488,11 @@ fn written() -> Vec<Row> {
     let auth = [12, 64, 1028].map(|len| (len, inputs::single(inputs::AUTH, len)));
     let fragment = [(8, inputs::single(inputs::FRAGMENT, 8))];
     let mut rows = Vec::new();
-    let mut add = |group, name: &str, inputs: &[(usize, Vec<u8>)], ours, original| {
+    let mut add = |group, name: &str, inputs: &[(usize, Chain)], ours, original| {
         rows.extend(
             inputs
                 .iter()
-                .map(|(len, bytes)| repeated(group, name, *len, bytes, ours, original)),
+                .map(|(len, chain)| repeated(group, name, *len, chain, ours, original)),
         );
     };
     add(
@@ -511,10 +545,13 @@ fn ipv4() -> Vec<Row> {
     use ours::*;
     let headers = [12, 64, 1028].map(|len| {
         let name = format!("a header of {len} bytes");
-        (name, inputs::AUTH, inputs::single(inputs::AUTH, len))
+        (name, inputs::single(inputs::AUTH, len))
     });
-    let none = ("no header".to_owned(), 17, vec![17; 20]);
-    let refused = ("a header cut short".to_owned(), inputs::AUTH, vec![17; 7]);
+    let none = ("no header".to_owned(), Chain::new(17, vec![17; 20]));
+    let refused = (
+        "a header cut short".to_owned(),
+        inputs::cut_short(inputs::AUTH),
+    );
     let all = [&headers[..], &[none, refused]].concat();
     let calls: [(&str, &str, ChainCall, ChainCall); 5] = [
         (
@@ -550,23 +587,24 @@ fn ipv4() -> Vec<Row> {
     ];
     let mut rows = Vec::new();
     for (group, call, ours, original) in calls {
-        rows.extend(all.iter().map(|(what, start, bytes)| Row {
+        rows.extend(all.iter().map(|(what, chain)| Row {
             group,
             name: format!("{call}: {what}"),
             unit: "call",
             units: CALLS,
-            ours: again(ours, *start, bytes.clone(), CALLS),
-            original: again(original, *start, bytes.clone(), CALLS),
+            ours: again(ours, chain.start, chain.ours.clone(), CALLS),
+            original: again(original, chain.start, chain.original.clone(), CALLS),
             limit: None,
+            written: None,
         }));
     }
-    rows.extend(headers.iter().map(|(_, _, bytes)| {
+    rows.extend(headers.iter().map(|(_, chain)| {
         let name = "IPv4, linked and written";
         repeated(
             "IPv4, write",
             name,
-            bytes.len(),
-            bytes,
+            chain.ours.len(),
+            chain,
             ipexts_ipv4_write,
             original_ipv4::write,
         )
@@ -577,7 +615,7 @@ fn ipv4() -> Vec<Row> {
 /// The walk, links and bytes of a struct with all places filled.
 fn struct_written() -> Vec<Row> {
     use ours::*;
-    let full = [8, 2040].map(|len| (len, inputs::full(len).1));
+    let full = [8, 2040].map(|len| (len, inputs::full(len)));
     let calls: [(&str, RepeatedCall, RepeatedCall); 4] = [
         (
             "struct, next_header, options of",
@@ -603,8 +641,8 @@ fn struct_written() -> Vec<Row> {
     let mut rows = Vec::new();
     for (name, ours, original) in calls {
         rows.extend(
-            full.iter().map(|(len, bytes)| {
-                repeated("walk, links, write", name, *len, bytes, ours, original)
+            full.iter().map(|(len, chain)| {
+                repeated("walk, links, write", name, *len, chain, ours, original)
             }),
         );
     }
@@ -617,16 +655,17 @@ fn runs() -> Vec<Row> {
     [4usize, 1024, 2048, 4096]
         .into_iter()
         .map(|count| {
-            let bytes = inputs::fragments(count);
+            let chain = inputs::fragments(count);
             let calls = (CALLS / (count + 1)).max(2);
             Row {
                 group: "runs",
                 name: format!("runs of {count} fragment headers"),
                 unit: "header",
                 units: calls * count,
-                ours: again(ours::ipexts_runs, inputs::FRAGMENT, bytes.clone(), calls),
-                original: again(original::runs, inputs::FRAGMENT, bytes, calls),
+                ours: again(ours::ipexts_runs, chain.start, chain.ours, calls),
+                original: again(original::runs, chain.start, chain.original, calls),
                 limit: None,
+                written: None,
             }
         })
         .collect()
@@ -637,11 +676,11 @@ fn repeated(
     group: &'static str,
     name: &str,
     len: usize,
-    bytes: &[u8],
+    chain: &Chain,
     ours: RepeatedCall,
     original: RepeatedCall,
 ) -> Row {
-    let over = |call: RepeatedCall| -> Work {
+    let over = |call: RepeatedCall, bytes: &[u8]| -> Work {
         let bytes = bytes.to_vec();
         Box::new(move || {
             let call = black_box(call);
@@ -661,8 +700,30 @@ fn repeated(
         name: format!("{name}: {len} bytes"),
         unit: "call",
         units: CALLS,
-        ours: over(ours),
-        original: over(original),
+        ours: over(ours, &chain.ours),
+        original: over(original, &chain.original),
         limit: None,
+        written: Some(written_by(ours, original, chain.clone())),
     }
+}
+
+/// All bytes that two calls write of a chain.
+fn written_by(ours: RepeatedCall, original: RepeatedCall, chain: Chain) -> Written {
+    Box::new(move || {
+        let theirs = bytes_of(original, &chain.original);
+        (
+            bytes_of(ours, &chain.ours),
+            fragment_bits::chain(chain.start, &theirs, from_the_original),
+        )
+    })
+}
+
+/// The bytes that a call writes once. Its digest ends in the byte at a place, or in 256 where there is none.
+fn bytes_of(call: RepeatedCall, asked: &[u8]) -> Vec<u8> {
+    let digest = |at| unsafe { call(asked.as_ptr(), asked.len(), at, 1) };
+    let no_byte = digest(usize::MAX);
+    (0..)
+        .map(|at| digest(at).wrapping_sub(no_byte).wrapping_add(256))
+        .map_while(|byte| u8::try_from(byte).ok())
+        .collect()
 }

@@ -1,5 +1,5 @@
 //! The rows of whole packets: right ones of either version, and refusals.
-use crate::inputs::{self, Packets};
+use crate::inputs::{self, Packets, Sides};
 use crate::original_slices::{self, Packet};
 use crate::ours::{self, PacketCall, PacketLoop};
 use crate::rows::{over_packets, Row, Work, CALLS, PACKETS};
@@ -96,13 +96,13 @@ fn ipv6_forms() -> [Form; 4] {
 }
 
 /// All rows, over the packets of IPv6 that the chains' rows have too, and over others.
-pub fn rows(ipv6: &'static Packets, seed: u64) -> Vec<Row> {
-    let ipv4: &'static Packets = Box::leak(Box::new(inputs::ipv4_packets(PACKETS, seed)));
-    let both: &'static Packets = Box::leak(Box::new(inputs::alternating(ipv4, ipv6)));
+pub fn rows(ipv6: Sides, seed: u64) -> Vec<Row> {
+    let ipv4 = Sides::new(inputs::ipv4_packets(PACKETS, seed));
+    let both = Sides::new(inputs::alternating(ipv4.ours, ipv6.ours));
     let mut rows = Vec::new();
-    let mut add = |forms: &[Form], inputs: &[(&str, &'static Packets)]| {
+    let mut add = |forms: &[Form], inputs: &[(&str, Sides)]| {
         for form in forms {
-            for (what, packets) in inputs {
+            for (what, packets) in inputs.iter().copied() {
                 rows.push(one_loop(form, what, packets));
                 rows.push(a_call_each(form, what, packets));
             }
@@ -123,22 +123,23 @@ pub fn rows(ipv6: &'static Packets, seed: u64) -> Vec<Row> {
 }
 
 /// One exported loop over all packets.
-fn one_loop(form: &Form, what: &str, packets: &'static Packets) -> Row {
+fn one_loop(form: &Form, what: &str, packets: Sides) -> Row {
     Row {
         group: "whole packets, one loop",
         name: format!("{}, {}: {what}, one loop", form.name, form.reading),
         unit: "packet",
-        units: packets.ends.len(),
-        ours: over_packets(form.our_loop, packets),
-        original: over_packets(form.original_loop, packets),
+        units: packets.ours.ends.len(),
+        ours: over_packets(form.our_loop, packets.ours),
+        original: over_packets(form.original_loop, packets.original),
         limit: None,
+        written: None,
     }
 }
 
 /// A call for each packet.
-fn a_call_each(form: &Form, what: &str, packets: &'static Packets) -> Row {
-    let each: &'static [&'static [u8]] = Box::leak(packets.each().into_boxed_slice());
-    let over = |call: PacketCall| -> Work {
+fn a_call_each(form: &Form, what: &str, packets: Sides) -> Row {
+    let over = |call: PacketCall, packets: &'static Packets| -> Work {
+        let each = packets.each();
         Box::new(move || {
             let call = black_box(call);
             each.iter().fold(0u64, |sum, packet| {
@@ -150,10 +151,11 @@ fn a_call_each(form: &Form, what: &str, packets: &'static Packets) -> Row {
         group: "whole packets, a call each",
         name: format!("{}, {}: {what}, a call each", form.name, form.reading),
         unit: "packet",
-        units: packets.ends.len(),
-        ours: over(form.ours),
-        original: over(form.original),
+        units: packets.ours.ends.len(),
+        ours: over(form.ours, packets.ours),
+        original: over(form.original, packets.original),
         limit: None,
+        written: None,
     }
 }
 
@@ -168,8 +170,7 @@ fn refusals(form: &Form) -> Vec<Row> {
             _ => true,
         })
         .map(|refused| {
-            let over = |call: PacketCall| -> Work {
-                let bytes = refused.bytes.clone();
+            let over = |call: PacketCall, bytes: Vec<u8>| -> Work {
                 Box::new(move || {
                     let call = black_box(call);
                     (0..CALLS).fold(0u64, |sum, _| {
@@ -183,9 +184,10 @@ fn refusals(form: &Form) -> Vec<Row> {
                 name: format!("{}, {}: refused, {}", form.name, form.reading, refused.why),
                 unit: "call",
                 units: CALLS,
-                ours: over(form.ours),
-                original: over(form.original),
+                ours: over(form.ours, refused.ours),
+                original: over(form.original, refused.original),
                 limit: None,
+                written: None,
             }
         })
         .collect()

@@ -1,4 +1,5 @@
-//! The tool against a plain Rust program over the original, on the same lines.
+//! The tool against a plain Rust program over the original, on lines about the same headers.
+use crate::fragment_bits::{self, to_the_original};
 use crate::inputs;
 use crate::measure::of_runs;
 use crate::random::Random;
@@ -6,56 +7,81 @@ use crate::report::Line;
 use std::fmt::Write as _;
 use std::fs::File;
 use std::io::{BufWriter, Read, Write};
-use std::path::Path;
+use std::path::{Path, PathBuf};
 use std::process::{Command, Stdio};
 use std::time::Instant;
 
-/// Writes lines that ask for chains like those of real traffic, of so many bytes together, and answers how
-/// many they are.
-pub fn write_lines(path: &Path, len: usize, seed: u64) -> std::io::Result<usize> {
-    let mut file = BufWriter::new(File::create(path)?);
+/// The files of lines that ask for chains like those of real traffic. The original's have its own bits of fragment
+/// headers.
+pub struct Lines {
+    ours: PathBuf,
+    original: PathBuf,
+    /// How many lines each file has.
+    count: usize,
+}
+
+/// Writes lines of so many bytes together to files in a folder.
+pub fn write_lines(folder: &Path, len: usize, seed: u64) -> std::io::Result<Lines> {
+    let paths = ["lines.txt", "original-lines.txt"].map(|name| folder.join(name));
+    let (mut ours, mut original) = (create(&paths[0])?, create(&paths[1])?);
     let mut random = Random::new(seed);
     let packets = inputs::packets(10_000, seed);
     let (mut written, mut count) = (0, 0);
-    let mut line = String::new();
     while written < len {
         for packet in packets.each() {
-            line.clear();
             let end = packet.len().min(40 + random.below(100));
-            write!(line, "exts6 {} ", packet[6]).expect("a String takes text");
-            if end <= 40 {
-                line.push('-');
-            }
-            for byte in packet.get(40..end).unwrap_or(&[]) {
-                write!(line, "{byte:02x}").expect("a String takes text");
-            }
-            line.push('\n');
-            file.write_all(line.as_bytes())?;
-            written += line.len();
+            let (start, chain) = (packet[6], packet.get(40..end).unwrap_or(&[]));
+            written += write_line(&mut ours, start, chain)?;
+            let theirs = fragment_bits::chain(start, chain, to_the_original);
+            write_line(&mut original, start, &theirs)?;
             count += 1;
         }
     }
-    file.flush()?;
-    Ok(count)
+    ours.flush()?;
+    original.flush()?;
+    let [ours, original] = paths;
+    Ok(Lines {
+        ours,
+        original,
+        count,
+    })
+}
+
+fn create(path: &Path) -> std::io::Result<BufWriter<File>> {
+    Ok(BufWriter::new(File::create(path)?))
+}
+
+/// Writes the line that asks for a chain, and answers how long it is.
+fn write_line(file: &mut impl Write, start: u8, chain: &[u8]) -> std::io::Result<usize> {
+    let mut line = format!("exts6 {start} ");
+    if chain.is_empty() {
+        line.push('-');
+    }
+    for byte in chain {
+        write!(line, "{byte:02x}").expect("a String takes text");
+    }
+    line.push('\n');
+    file.write_all(line.as_bytes())?;
+    Ok(line.len())
 }
 
 /// Times both programs on the lines, taking turns.
-pub fn measure(ours: &str, original: &str, lines: &Path, count: usize, runs: usize) -> Line {
+pub fn measure(ours: &str, original: &str, lines: &Lines, runs: usize) -> Line {
     assert_eq!(
-        digest(ours, lines),
-        digest(original, lines),
+        digest(ours, &lines.ours),
+        digest(original, &lines.original),
         "the tool's answers differ from the original's"
     );
     let (mut our_times, mut original_times) = (Vec::new(), Vec::new());
     for _ in 0..runs {
-        our_times.push(once(ours, lines) / count as f64);
-        original_times.push(once(original, lines) / count as f64);
+        our_times.push(once(ours, &lines.ours) / lines.count as f64);
+        original_times.push(once(original, &lines.original) / lines.count as f64);
     }
     Line {
         group: "the tool".to_owned(),
         name: format!(
             "the tool: {} MB of lines",
-            std::fs::metadata(lines).map_or(0, |file| file.len() / 1_000_000)
+            std::fs::metadata(&lines.ours).map_or(0, |file| file.len() / 1_000_000)
         ),
         unit: "line".to_owned(),
         ours: of_runs(our_times),

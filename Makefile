@@ -3,9 +3,9 @@
 # listed errors against the code, tries the program and passes the merge gate;
 # `make mutants` tries the mutants of mutants/ (CRATE=NAME: those of one crate; ONLY=WORD: those whose names
 # have the word). `make bench` measures and `make diff` compares against etherparse 0.19.0; `make diff-test` tests
-# the comparison. These three take CARGO_FLAGS="..", further flags for Cargo, as one that says where the crate lies
-# on a machine without a network.
-.PHONY: run try test mutants bench diff diff-test
+# the comparison; `make diff-fields` holds fragment headers against scapy's. These four take CARGO_FLAGS="..", further
+# flags for Cargo, as one that says where the crate lies on a machine without a network.
+.PHONY: run try test mutants bench diff diff-test diff-fields
 .SILENT:
 
 RT_IS_THERE = command -v rt >/dev/null || { \
@@ -38,7 +38,8 @@ mutants:
 
 SEED = 1
 LINES = 1000000
-export SEED LINES ONLY CARGO_FLAGS
+HEADERS = 5000
+export SEED LINES HEADERS ONLY CARGO_FLAGS
 
 bench:
 	bench/run
@@ -48,3 +49,6 @@ diff:
 
 diff-test:
 	diff/test
+
+diff-fields:
+	diff/fields

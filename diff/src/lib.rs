@@ -6,6 +6,7 @@ pub mod chains;
 pub mod changes;
 pub mod compare;
 pub mod faults;
+pub mod fields;
 pub mod forms;
 pub mod fragment_bits;
 pub mod headers;

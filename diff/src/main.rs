@@ -3,8 +3,9 @@
 //!     diff lines TOOL SEED COUNT    the tool's answers to so many lines from a seed
 //!     diff headers SEED COUNT       the parts of so many single headers and the bytes written of them
 //!     diff reads SEED COUNT         what so many reads take, leave and refuse
+//!     diff fields                   answers what we read of fragment headers, a line of digits for each
 use diff::compare::{all_reads, lines_of_tool, single_headers, Outcome};
-use diff::{headers, reads};
+use diff::{fields, headers, reads};
 use std::process::ExitCode;
 
 fn main() -> ExitCode {
@@ -18,10 +19,7 @@ fn main() -> ExitCode {
         ["lines", tool, seed, count] => {
             match lines_of_tool(tool, number(seed), number(count) as usize) {
                 Ok(outcome) => told("lines", seed, count, outcome),
-                Err(e) => {
-                    eprintln!("diff: {tool}: {e}");
-                    ExitCode::from(2)
-                }
+                Err(e) => refused(&format!("{tool}: {e}")),
             }
         }
         ["headers", seed, count] => told(
@@ -36,11 +34,20 @@ fn main() -> ExitCode {
             count,
             all_reads(reads::ours, number(seed), number(count) as usize),
         ),
-        _ => {
-            eprintln!("diff: lines TOOL SEED COUNT, headers SEED COUNT, or reads SEED COUNT");
-            ExitCode::from(2)
+        ["fields"] => {
+            match fields::answer_lines(std::io::stdin().lock(), std::io::stdout().lock()) {
+                Ok(()) => ExitCode::SUCCESS,
+                Err(e) => refused(&e.to_string()),
+            }
         }
+        _ => refused("lines TOOL SEED COUNT, headers SEED COUNT, reads SEED COUNT, or fields"),
     }
+}
+
+/// Says why nothing was compared.
+fn refused(why: &str) -> ExitCode {
+    eprintln!("diff: {why}");
+    ExitCode::from(2)
 }
 
 /// Prints how a comparison ended.

@@ -87,3 +87,41 @@ fn parts(header: &Ipv6ExtensionSlice<'_>) -> (&'static str, usize, u8) {
         }
     }
 }
+
+#[cfg(test)]
+mod tests {
+    use super::*;
+    use crate::{chains, fragment_bits};
+
+    /// The places of byte 3 of the fragment headers that the original finds.
+    fn found(number: u8, bytes: &[u8]) -> Vec<usize> {
+        let (headers, ..) = Ipv6ExtensionsSlice::from_slice_lax(IpNumber(number), bytes);
+        let end = headers.slice().len();
+        let (mut headers, mut offset) = (headers.into_iter(), 0);
+        let mut places = Vec::new();
+        while offset < end {
+            let header = headers.next().expect("a header for the bytes left");
+            let (name, len, _) = parts(&header);
+            if name == "frag" {
+                places.push(offset + 3);
+            }
+            offset += len;
+        }
+        places
+    }
+
+    /// The walk that puts fragment headers into another layout meets those that the original finds, and no other byte.
+    #[test]
+    fn the_fragment_headers_of_a_chain_are_those_that_the_original_finds() {
+        let mut random = Random::new(1);
+        for _ in 0..5000 {
+            for (number, bytes) in chains::asked(&mut random, 2000) {
+                let changed = fragment_bits::chain(number, &bytes, |byte| !byte);
+                let places: Vec<usize> = (0..bytes.len())
+                    .filter(|at| changed[*at] != bytes[*at])
+                    .collect();
+                assert_eq!(places, found(number, &bytes), "{number} {bytes:02x?}");
+            }
+        }
+    }
+}

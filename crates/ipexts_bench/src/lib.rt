@@ -5,6 +5,7 @@
 
 mod calls;
 mod digest;
+mod every_byte;
 mod fields;
 mod headers;
 mod ipv4;

@@ -1,0 +1,254 @@
+//! Digests in which every byte of an answer counts, where those of the other modules take a length and the first
+//! byte. They are too slow to be measured; two sides are compared by them.
+use crate::digest::{layer_code, of_auth, of_fault, of_header, of_strict_fault, with};
+use crate::slices::{of_ip_fault, of_ipv4_fault, of_ipv6_fault};
+use crate::structs::of_answer;
+use etherparse_ip::{IpPayloadSlice, IpSlice, Ipv4Slice, Ipv6Slice};
+use ip_ext_chains::{
+    IpNumber, Ipv4Extensions, Ipv4ExtensionsSlice, Ipv6ExtensionSlice, Ipv6Extensions,
+    Ipv6ExtensionsCursor, Ipv6ExtensionsRuns, Ipv6ExtensionsSlice, Ipv6RawExtHeader,
+};
+use std::alloc::Global;
+
+/// What a walk or a write that is refused counts for.
+const REFUSED: u64 = 256;
+
+/// The digest `sum` with all bytes of some more.
+fn with_bytes(sum: u64, bytes: &[u8]) -> u64 {
+    let mut sum = with(sum, bytes.len() as u64);
+    for byte in bytes {
+        sum = sum.wrapping_mul(65_599).wrapping_add(u64::from(*byte));
+    }
+    sum
+}
+
+/// A header's parts and bytes.
+fn with_header(sum: u64, header: &Ipv6ExtensionSlice<'_>) -> u64 {
+    let fields = with(sum, of_header(header));
+    match header {
+        Ipv6ExtensionSlice::HopByHop(header) => {
+            with_bytes(with_bytes(fields, header.slice()), header.payload())
+        }
+        Ipv6ExtensionSlice::Routing(header) => {
+            with_bytes(with_bytes(fields, header.slice()), header.payload())
+        }
+        Ipv6ExtensionSlice::DestinationOptions(header) => {
+            with_bytes(with_bytes(fields, header.slice()), header.payload())
+        }
+        Ipv6ExtensionSlice::Fragment(header) => with_bytes(fields, header.slice()),
+        Ipv6ExtensionSlice::Authentication(header) => {
+            with_bytes(with_bytes(fields, header.slice()), header.raw_icv())
+        }
+    }
+}
+
+/// A chain, what follows it, and its headers one by one.
+fn of_chain(headers: Ipv6ExtensionsSlice<'_>, number: IpNumber, rest: &[u8]) -> u64 {
+    let mut sum = with_bytes(u64::from(number.0), headers.slice());
+    sum = with_bytes(sum, rest);
+    for header in headers {
+        sum = with_header(sum, &header);
+    }
+    sum
+}
+
+/// The lax parse.
+#[unsafe(no_mangle)]
+pub extern "C" fn ipexts_lax_bytes(start: u8, bytes: &[u8]) -> u64 {
+    let (headers, number, rest, _) = Ipv6ExtensionsSlice::from_slice_lax(IpNumber(start), bytes);
+    of_chain(headers, number, rest)
+}
+
+/// The strict parse.
+#[unsafe(no_mangle)]
+pub extern "C" fn ipexts_strict_bytes(start: u8, bytes: &[u8]) -> u64 {
+    match Ipv6ExtensionsSlice::from_slice(IpNumber(start), bytes) {
+        Ok((headers, number, rest)) => of_chain(headers, number, rest),
+        Err(fault) => of_strict_fault(&fault),
+    }
+}
+
+/// The cursor, to its end.
+#[unsafe(no_mangle)]
+pub extern "C" fn ipexts_cursor_bytes(start: u8, bytes: &[u8]) -> u64 {
+    let mut headers = Ipv6ExtensionsCursor::new(IpNumber(start), bytes);
+    let mut sum: u64 = 0;
+    'headers: while let Some(header) = headers.next() {
+        sum = with_header(sum, &header);
+    }
+    let Some((number, rest, fault)) = headers.end() else {
+        return sum;
+    };
+    let place = with_bytes(with(sum, u64::from(number.0)), rest);
+    match &fault {
+        Some((fault, layer)) => with(with(place, of_fault(fault)), u64::from(layer_code(layer))),
+        None => place,
+    }
+}
+
+/// The payload of a header of the common layout that may be there.
+fn with_payload(sum: u64, header: &Option<Ipv6RawExtHeader>) -> u64 {
+    match header {
+        Some(header) => with_bytes(sum, header.payload()),
+        None => with(sum, REFUSED),
+    }
+}
+
+/// The bytes that a struct holds.
+fn with_held(sum: u64, exts: &Ipv6Extensions) -> u64 {
+    let options = with_payload(sum, &exts.hop_by_hop_options);
+    let options = with_payload(options, &exts.destination_options);
+    let routing = match &exts.routing {
+        Some(headers) => with_payload(
+            with_bytes(options, headers.routing.payload()),
+            &headers.final_destination_options,
+        ),
+        None => options,
+    };
+    match &exts.auth {
+        Some(header) => with_bytes(routing, header.raw_icv()),
+        None => routing,
+    }
+}
+
+/// What a struct is as it is written from a number, and where it leads from there.
+fn with_written(alloc: Global, sum: u64, exts: &Ipv6Extensions, start: IpNumber) -> u64 {
+    let leads = match exts.next_header(start) {
+        Ok(number) => u64::from(number.0),
+        Err(_) => REFUSED,
+    };
+    let sum = with(with(sum, leads), exts.header_len() as u64);
+    let mut out = Vec::new(alloc);
+    match exts.write(&mut out, start) {
+        Ok(()) => with_bytes(sum, out.as_slice()),
+        Err(_) => with(sum, REFUSED),
+    }
+}
+
+/// The lax parse into a struct, and the struct as it is written.
+#[unsafe(no_mangle)]
+pub extern "C" fn ipexts_struct_bytes(alloc: Global, start: u8, bytes: &[u8]) -> u64 {
+    let (exts, number, rest, _) = Ipv6Extensions::from_slice_lax(IpNumber(start), bytes);
+    let held = with_held(of_answer(&exts, number, rest), &exts);
+    with_written(alloc, with_bytes(held, rest), &exts, IpNumber(start))
+}
+
+/// The same struct, linked before the number `last`.
+#[unsafe(no_mangle)]
+pub extern "C" fn ipexts_struct_linked_bytes(
+    alloc: Global,
+    start: u8,
+    last: u8,
+    bytes: &[u8],
+) -> u64 {
+    let (mut exts, _, _, _) = Ipv6Extensions::from_slice_lax(IpNumber(start), bytes);
+    let first = exts.set_next_headers(IpNumber(last));
+    with_written(alloc, u64::from(first.0), &exts, first)
+}
+
+/// The runs of a chain, and what stands behind the last.
+#[unsafe(no_mangle)]
+pub extern "C" fn ipexts_runs_bytes(start: u8, bytes: &[u8]) -> u64 {
+    let mut runs = Ipv6ExtensionsRuns::new(IpNumber(start), bytes);
+    let mut sum = 0;
+    while let Some(exts) = runs.next() {
+        sum = with_held(sum, &exts);
+    }
+    match runs.end() {
+        Some((number, rest, _)) => with_bytes(with(sum, u64::from(number.0)), rest),
+        None => sum,
+    }
+}
+
+/// The lax IPv4 parse that borrows, the one with bytes of its own, and what that is as it is written.
+#[unsafe(no_mangle)]
+pub extern "C" fn ipexts_ipv4_bytes(alloc: Global, start: u8, bytes: &[u8]) -> u64 {
+    let (headers, number, rest, _) = Ipv4ExtensionsSlice::from_slice_lax(IpNumber(start), bytes);
+    let sum = with_bytes(u64::from(number.0), rest);
+    let sum = match &headers.auth {
+        Some(header) => with_bytes(with_bytes(sum, header.slice()), header.raw_icv()),
+        None => sum,
+    };
+    let (headers, number, rest, _) = Ipv4Extensions::from_slice_lax(IpNumber(start), bytes);
+    let sum = with_bytes(with(sum, u64::from(number.0)), rest);
+    let sum = match &headers.auth {
+        Some(header) => with_bytes(sum, header.raw_icv()),
+        None => sum,
+    };
+    let mut out = Vec::new(alloc);
+    match headers.write(&mut out, IpNumber(start)) {
+        Ok(()) => with_bytes(sum, out.as_slice()),
+        Err(_) => with(sum, REFUSED),
+    }
+}
+
+/// A payload.
+fn with_payload_of(sum: u64, payload: &IpPayloadSlice<'_>) -> u64 {
+    with_bytes(with(sum, u64::from(payload.ip_number.0)), payload.payload)
+}
+
+/// The parts of an IPv4 packet.
+fn of_ipv4(packet: &Ipv4Slice<'_>) -> u64 {
+    let header = packet.header();
+    let sum = with_bytes(
+        with_bytes(4, header.slice()),
+        &header.source_addr().octets(),
+    );
+    let sum = with_bytes(sum, &header.destination_addr().octets());
+    let exts = match &packet.extensions().auth {
+        Some(header) => with(with_bytes(sum, header.slice()), of_auth(header)),
+        None => sum,
+    };
+    with_payload_of(exts, packet.payload())
+}
+
+/// The parts of an IPv6 packet.
+fn of_ipv6(packet: &Ipv6Slice<'_>) -> u64 {
+    let header = packet.header();
+    let sum = with_bytes(
+        with_bytes(6, header.slice()),
+        &header.source_addr().octets(),
+    );
+    let sum = with_bytes(sum, &header.destination_addr().octets());
+    with_payload_of(
+        with_bytes(sum, packet.extensions().slice()),
+        packet.payload(),
+    )
+}
+
+/// The packet of either version.
+#[unsafe(no_mangle)]
+pub extern "C" fn ipexts_ip_bytes(packet: &[u8]) -> u64 {
+    match IpSlice::from_slice(packet) {
+        Ok(IpSlice::Ipv4(packet)) => of_ipv4(&packet),
+        Ok(IpSlice::Ipv6(packet)) => of_ipv6(&packet),
+        Err(fault) => of_ip_fault(&fault),
+    }
+}
+
+/// The packet of IPv4.
+#[unsafe(no_mangle)]
+pub extern "C" fn ipexts_ipv4_slice_bytes(packet: &[u8]) -> u64 {
+    match Ipv4Slice::from_slice(packet) {
+        Ok(packet) => of_ipv4(&packet),
+        Err(fault) => of_ipv4_fault(&fault),
+    }
+}
+
+/// The packet of IPv6.
+#[unsafe(no_mangle)]
+pub extern "C" fn ipexts_ipv6_slice_bytes(packet: &[u8]) -> u64 {
+    match Ipv6Slice::from_slice(packet) {
+        Ok(packet) => of_ipv6(&packet),
+        Err(fault) => of_ipv6_fault(&fault),
+    }
+}
+
+/// The packet of IPv6, cut short or not.
+#[unsafe(no_mangle)]
+pub extern "C" fn ipexts_ipv6_slice_lax_bytes(packet: &[u8]) -> u64 {
+    match Ipv6Slice::from_slice_lax(packet) {
+        Ok(packet) => of_ipv6(&packet),
+        Err(fault) => of_ipv6_fault(&fault),
+    }
+}

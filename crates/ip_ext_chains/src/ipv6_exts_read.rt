@@ -54,7 +54,7 @@ impl Ipv6Extensions {
     }
 
     /// Reads the headers into their places, in which nothing is yet, and answers the number of what follows them.
-    /// It stands apart, so that no header is moved with the struct on its way to the caller.
+    /// It stands apart: with the loop in `read`, the struct would be cleared and moved once more.
     #[inline(never)]
     fn read_headers<T: ExactRead>(
         &mut self,

@@ -34,6 +34,7 @@ pub fn measure(row: &Row, runs: usize) -> Measured {
         .collect();
     let mut times = vec![Vec::with_capacity(runs); works.len()];
     for run in 0..runs {
+        let _held = held(run % 4);
         for turn in 0..works.len() {
             let side = (turn + run) % works.len();
             times[side].push(once(works[side], row.units));
@@ -46,6 +47,18 @@ pub fn measure(row: &Row, runs: usize) -> Measured {
         original: original.expect("the original ran"),
         limit: kept.next(),
     }
+}
+
+/// The lengths of most of what is written.
+const WRITTEN: [usize; 6] = [8, 12, 64, 80, 1028, 2048];
+
+/// So many blocks of each length, which are held while a run is timed, so that what a call takes for its bytes lies
+/// elsewhere than in other runs: the least time then doesn't hang on one address.
+fn held(count: usize) -> Vec<Vec<u8>> {
+    WRITTEN
+        .iter()
+        .flat_map(|len| std::iter::repeat_with(|| black_box(Vec::with_capacity(*len))).take(count))
+        .collect()
 }
 
 /// One run, behind another that isn't timed: each side has bytes of its own, and finds them where they were just read.

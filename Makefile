@@ -3,9 +3,10 @@
 # listed errors against the code, tries the program and passes the merge gate;
 # `make mutants` tries the mutants of mutants/ (CRATE=NAME: those of one crate; ONLY=WORD: those whose names
 # have the word). `make bench` measures and `make diff` compares against etherparse 0.19.0; `make diff-test` tests
-# the comparison; `make diff-fields` holds fragment headers against scapy's. These four take CARGO_FLAGS="..", further
-# flags for Cargo, as one that says where the crate lies on a machine without a network.
-.PHONY: run try test mutants bench diff diff-test diff-fields
+# the comparison; `make diff-fields` holds fragment headers against scapy's. `make fuzz` compares on inputs that AFL++
+# makes, MINUTES=.. long, and `make fuzz-test` tests that. These six take CARGO_FLAGS="..", further flags for Cargo, as
+# one that says where the crate lies on a machine without a network.
+.PHONY: run try test mutants bench diff diff-test diff-fields fuzz fuzz-test
 .SILENT:
 
 RT_IS_THERE = command -v rt >/dev/null || { \
@@ -39,7 +40,8 @@ mutants:
 SEED = 1
 LINES = 1000000
 HEADERS = 5000
-export SEED LINES HEADERS ONLY CARGO_FLAGS
+MINUTES = 5
+export SEED LINES HEADERS MINUTES ONLY CARGO_FLAGS
 
 bench:
 	bench/run
@@ -52,3 +54,9 @@ diff-test:
 
 diff-fields:
 	diff/fields
+
+fuzz:
+	fuzz/run
+
+fuzz-test:
+	fuzz/test

@@ -1,4 +1,4 @@
-# Parts of the scripts in bench/ and diff/. `top` is the folder of the repository.
+# Parts of the scripts in bench/, diff/ and fuzz/. `top` is the folder of the repository.
 
 # Ends the script with a sentence.
 give_up() {

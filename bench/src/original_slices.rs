@@ -161,7 +161,7 @@ fn of_payload(payload: &IpPayloadSlice<'_>) -> u64 {
 }
 
 #[inline(never)]
-fn of_ip_fault(fault: &SliceError) -> u64 {
+pub fn of_ip_fault(fault: &SliceError) -> u64 {
     match fault {
         SliceError::Len(fault) => of_len_error(fault),
         SliceError::IpHeaders(HeadersError::Ip(fault)) => match fault {
@@ -176,7 +176,7 @@ fn of_ip_fault(fault: &SliceError) -> u64 {
 }
 
 #[inline(never)]
-fn of_ipv4_fault(fault: &ipv4::SliceError) -> u64 {
+pub fn of_ipv4_fault(fault: &ipv4::SliceError) -> u64 {
     match fault {
         ipv4::SliceError::Len(fault) => of_len_error(fault),
         ipv4::SliceError::Header(fault) => match fault {
@@ -190,7 +190,7 @@ fn of_ipv4_fault(fault: &ipv4::SliceError) -> u64 {
 }
 
 #[inline(never)]
-fn of_ipv6_fault(fault: &ipv6::SliceError) -> u64 {
+pub fn of_ipv6_fault(fault: &ipv6::SliceError) -> u64 {
     match fault {
         ipv6::SliceError::Len(fault) => of_len_error(fault),
         ipv6::SliceError::Header(ipv6::HeaderError::UnexpectedVersion { version_number }) => {

@@ -1,6 +1,6 @@
 //! What this project has changed against the original, and how an answer of the original is given the changes.
 use crate::fragment_bits::{self, from_the_original, to_the_original};
-use etherparse::err::{ip, Layer};
+use etherparse::err::{ip, ipv6, Layer, LenError};
 use etherparse::LenSource;
 
 /// The length of an IPv6 header, in bytes.
@@ -58,18 +58,31 @@ impl Changes {
     /// The fault with the source that bounds the headers, where the original names another one: the packet is of
     /// version 6 and states the payload length 0 before some bytes, and a header of its chain is too long for them.
     pub fn packet_fault(self, bytes: &[u8], fault: &ip::SliceError) -> Option<ip::SliceError> {
-        let is_bounded_by_slice =
-            bytes.len() > IPV6_LEN && bytes[0] >> 4 == 6 && bytes[4..6] == [0, 0];
         match fault {
-            ip::SliceError::Len(fault)
-                if self.sources && is_bounded_by_slice && is_of_a_header(&fault.layer) =>
-            {
-                let mut fault = fault.clone();
-                fault.len_source = LenSource::Slice;
-                Some(ip::SliceError::Len(fault))
-            }
+            ip::SliceError::Len(fault) => self.len_error(bytes, fault).map(ip::SliceError::Len),
             _ => None,
         }
+    }
+
+    /// The same of a packet that has to be of version 6.
+    pub fn ipv6_packet_fault(
+        self,
+        bytes: &[u8],
+        fault: &ipv6::SliceError,
+    ) -> Option<ipv6::SliceError> {
+        match fault {
+            ipv6::SliceError::Len(fault) => self.len_error(bytes, fault).map(ipv6::SliceError::Len),
+            _ => None,
+        }
+    }
+
+    fn len_error(self, bytes: &[u8], fault: &LenError) -> Option<LenError> {
+        let is_bounded_by_slice =
+            bytes.len() > IPV6_LEN && bytes[0] >> 4 == 6 && bytes[4..6] == [0, 0];
+        (self.sources && is_bounded_by_slice && is_of_a_header(&fault.layer)).then(|| LenError {
+            len_source: LenSource::Slice,
+            ..fault.clone()
+        })
     }
 }
 

@@ -2,7 +2,7 @@
 use crate::bad_lines::spoilt;
 use crate::chains;
 use crate::changes::Changes;
-use crate::forms::{answer, forms, Form};
+use crate::forms::{answer, forms};
 use crate::headers::{original, Question, Told};
 use crate::named::Difference;
 use crate::ours::Start;
@@ -24,7 +24,8 @@ pub enum Outcome {
 }
 
 /// Lines from a seed: of each form in turn, and every tenth spoilt.
-fn lines(forms: &[Box<dyn Form>], seed: u64, count: usize) -> impl Iterator<Item = Vec<u8>> + '_ {
+fn lines(seed: u64, count: usize) -> impl Iterator<Item = Vec<u8>> {
+    let forms = forms();
     let mut random = Random::new(seed);
     let mut waiting: Vec<Vec<u8>> = Vec::new();
     (0..count).map(move |_| {
@@ -48,25 +49,35 @@ fn lines(forms: &[Box<dyn Form>], seed: u64, count: usize) -> impl Iterator<Item
     })
 }
 
-/// Asks the tool and the original `count` lines.
+/// Asks the tool and the original `count` lines from a seed.
 pub fn lines_of_tool(tool: &str, seed: u64, count: usize) -> io::Result<Outcome> {
+    answers_of_tool(tool, move || lines(seed, count), seed % 2 == 0)
+}
+
+/// Asks the tool and the original the same lines, of which the last may lack its newline, where it isn't empty.
+pub fn answers_of_tool<L: Iterator<Item = Vec<u8>>>(
+    tool: &str,
+    lines: impl Fn() -> L + Clone + Send + 'static,
+    ends_in_newline: bool,
+) -> io::Result<Outcome> {
     let mut child = Command::new(tool)
         .stdin(Stdio::piped())
         .stdout(Stdio::piped())
         .spawn()?;
     let mut asked = BufWriter::new(child.stdin.take().expect("standard input is piped"));
     let mut told = BufReader::new(child.stdout.take().expect("standard output is piped"));
+    let again = lines.clone();
     let writer = std::thread::spawn(move || -> io::Result<()> {
-        for (index, line) in lines(&forms(), seed, count).enumerate() {
+        let mut lines = lines().peekable();
+        while let Some(line) = lines.next() {
             asked.write_all(&line)?;
-            // The last line may lack its newline, where it isn't empty.
-            if index + 1 < count || line.is_empty() || seed % 2 == 0 {
+            if lines.peek().is_some() || line.is_empty() || ends_in_newline {
                 asked.write_all(b"\n")?;
             }
         }
         asked.flush()
     });
-    let outcome = compare_lines(&mut told, seed, count)?;
+    let outcome = compare_lines(&mut told, again())?;
     if matches!(outcome, Outcome::Different(_)) {
         // The lines that are left, and whoever waits to write them, end with this program.
         child.kill()?;
@@ -82,11 +93,14 @@ pub fn lines_of_tool(tool: &str, seed: u64, count: usize) -> io::Result<Outcome>
     Ok(outcome)
 }
 
-fn compare_lines(told: &mut impl BufRead, seed: u64, count: usize) -> io::Result<Outcome> {
+fn compare_lines(
+    told: &mut impl BufRead,
+    lines: impl Iterator<Item = Vec<u8>>,
+) -> io::Result<Outcome> {
     let forms = forms();
     let mut counts = Counts::new();
     let (mut expected, mut ours) = (String::new(), Vec::new());
-    for (index, line) in lines(&forms, seed, count).enumerate() {
+    for (index, line) in lines.enumerate() {
         expected.clear();
         for difference in answer(&forms, &line, Changes::ALL, &mut expected) {
             *counts.entry(difference).or_default() += 1;

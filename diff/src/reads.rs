@@ -75,7 +75,7 @@ pub fn ours(question: &Question) -> Told {
 /// What the original tells, with the bits of fragment headers in our layout.
 pub fn original(question: &Question) -> Told {
     let before = question.limit.map_or(0, |limit| limit.before.into());
-    let (before, headers) = question.bytes.split_at(before);
+    let (before, headers) = question.bytes.split_at(before.min(question.bytes.len()));
     let bytes = [before, &in_layout(question, headers, to_the_original)].concat();
     let mut told = read_of(question, &bytes);
     told.written = in_layout(question, &told.written, from_the_original);

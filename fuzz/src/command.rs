@@ -1,0 +1,87 @@
+//! What the program does by itself, without AFL++.
+use crate::input::Input;
+use crate::plant::Plant;
+use crate::{calls, compare, lines, seeds};
+use diff::compare::Outcome;
+use std::io::{Error, ErrorKind, Result};
+use std::path::{Path, PathBuf};
+use std::process::ExitCode;
+
+/// Does what the words ask for.
+pub fn run(words: &[&str], plant: &Plant) -> Result<ExitCode> {
+    match words {
+        ["seeds", folder, file, seed] => {
+            let seed = seed
+                .parse()
+                .map_err(|_| Error::new(ErrorKind::InvalidInput, "SEED is a number"))?;
+            let lines = std::fs::read(file)?;
+            println!("{}", seeds::write(Path::new(folder), &lines, seed)?);
+            Ok(ExitCode::SUCCESS)
+        }
+        ["inputs", folder] => inputs(folder, plant),
+        ["lines", tool, folder] => {
+            let inputs: Result<Vec<Vec<u8>>> = files(folder)?.iter().map(std::fs::read).collect();
+            Ok(told(lines::ask(tool, &inputs?)?))
+        }
+        ["calls"] => {
+            for call in calls::calls() {
+                println!("{}", call.name);
+            }
+            Ok(ExitCode::SUCCESS)
+        }
+        _ => Err(Error::new(
+            ErrorKind::InvalidInput,
+            "seeds FOLDER FILE SEED, inputs FOLDER, lines TOOL FOLDER, or calls",
+        )),
+    }
+}
+
+/// The files of a folder in the order of their names. AFL++ keeps its own state beside them, in a folder.
+fn files(folder: &str) -> Result<Vec<PathBuf>> {
+    let mut files = Vec::new();
+    for entry in std::fs::read_dir(folder)? {
+        let path = entry?.path();
+        if path.is_file() && !path.ends_with("README.txt") {
+            files.push(path);
+        }
+    }
+    files.sort();
+    Ok(files)
+}
+
+/// Makes all calls on each input, and tells it where the original panics.
+fn inputs(folder: &str, plant: &Plant) -> Result<ExitCode> {
+    let calls = calls::calls();
+    for file in files(folder)? {
+        let input = std::fs::read(file)?;
+        let asked = Input::new(&input).map(|input| compare::words(&input));
+        std::panic::set_hook(Box::new(move |panic| {
+            println!(
+                "a difference: the original panics {}",
+                asked.as_deref().unwrap_or("")
+            );
+            println!("{panic}");
+        }));
+        if let Err(difference) = compare::compare(&calls, plant, &input) {
+            println!("{difference}");
+            return Ok(ExitCode::FAILURE);
+        }
+    }
+    Ok(ExitCode::SUCCESS)
+}
+
+/// Prints how a comparison of lines ended.
+fn told(outcome: Outcome) -> ExitCode {
+    match outcome {
+        Outcome::Same(counts) => {
+            for (difference, times) in counts {
+                println!("a named difference, {times} times: {}", difference.words());
+            }
+            ExitCode::SUCCESS
+        }
+        Outcome::Different(words) => {
+            println!("a difference\n{words}");
+            ExitCode::FAILURE
+        }
+    }
+}

@@ -1,0 +1,48 @@
+//! An input: numbers and limits in its first bytes, and behind them the bytes with which all calls are made.
+use diff::ours::Start;
+
+/// How many bytes stand before those of the calls.
+pub const HEAD_LEN: usize = 8;
+
+/// What a call is made with.
+pub struct Input<'a> {
+    /// The number that names the first header of a chain.
+    pub start: u8,
+    /// The number before which headers are linked, and to which a new header leads.
+    pub last: u8,
+    /// Whether our side reads by way of the standard library's reader of bytes.
+    pub is_over: bool,
+    pub limit: Start,
+    pub bytes: &'a [u8],
+}
+
+impl<'a> Input<'a> {
+    /// Takes an input apart; none is shorter than its head.
+    pub fn new(input: &'a [u8]) -> Option<Input<'a>> {
+        let (head, bytes) = input.split_first_chunk::<HEAD_LEN>()?;
+        let [start, last, kind, before, max_high, max_low, offset_high, offset_low] = *head;
+        Some(Input {
+            start,
+            last,
+            is_over: kind & 1 == 1,
+            limit: Start {
+                source: (kind >> 1) % 3,
+                max_len: u16::from_be_bytes([max_high, max_low]).into(),
+                layer_offset: u16::from_be_bytes([offset_high, offset_low]).into(),
+                before,
+            },
+            bytes,
+        })
+    }
+
+    /// The bytes of the input.
+    #[cfg(not(afl))]
+    pub fn to_bytes(&self) -> Vec<u8> {
+        let kind = u8::from(self.is_over) | self.limit.source << 1;
+        let mut input = vec![self.start, self.last, kind, self.limit.before];
+        input.extend((self.limit.max_len as u16).to_be_bytes());
+        input.extend((self.limit.layer_offset as u16).to_be_bytes());
+        input.extend(self.bytes);
+        input
+    }
+}

@@ -1,0 +1,44 @@
+//! A difference that a test plants, to see that it is found.
+use crate::calls::Answer;
+use crate::input::Input;
+
+/// The call on which our answer is told wrongly.
+pub struct Plant(Option<String>);
+
+/// The name of a difference that only some inputs show, of which no seed is one.
+const HIDDEN: &str = "hidden";
+
+impl Plant {
+    /// What the environment plants: a call's name in FUZZ_PLANT, or nothing.
+    pub fn from_environment() -> Plant {
+        Plant(std::env::var("FUZZ_PLANT").ok())
+    }
+
+    /// Our answer to a call, told wrongly where that is planted.
+    pub fn in_answer(&self, call: &str, input: &Input<'_>, answer: Answer) -> Answer {
+        match &self.0 {
+            Some(planted) if planted == call => wrong(answer),
+            Some(planted) if planted == HIDDEN && is_hidden(input.bytes) => wrong(answer),
+            _ => answer,
+        }
+    }
+}
+
+fn wrong(answer: Answer) -> Answer {
+    match answer {
+        Answer::Digest(digest) => Answer::Digest(digest ^ 1),
+        Answer::Header(mut told) => {
+            told.header.next_header ^= 1;
+            Answer::Header(told)
+        }
+        Answer::Read(mut told) => {
+            told.read.next_header ^= 1;
+            Answer::Read(told)
+        }
+    }
+}
+
+/// Whether the last bytes are those of an IPv6 header's first, which the fuzzer's dictionary has.
+fn is_hidden(bytes: &[u8]) -> bool {
+    bytes.ends_with(&[0x60, 0, 0, 0])
+}

@@ -1,0 +1,73 @@
+//! The inputs with which the fuzzer begins: bytes of the program's own lines, and of chains and packets as `diff/`
+//! makes them.
+use crate::input::Input;
+use diff::chains;
+use diff::forms::{bytes_of, number_and_bytes};
+use diff::ours::Start;
+use diff::packets;
+use diff::random::Random;
+use std::collections::BTreeSet;
+use std::io;
+use std::path::Path;
+
+/// The longest bytes that are made. Longer ones come of the lines, or the fuzzer makes them.
+const LONGEST: usize = 600;
+
+/// How many questions are drawn of each kind.
+const DRAWN: usize = 400;
+
+/// Writes the inputs into a folder, each as a file, and answers how many they are.
+pub fn write(folder: &Path, lines: &[u8], seed: u64) -> io::Result<usize> {
+    let mut random = Random::new(seed);
+    let lines = lines.split(|byte| *byte == b'\n');
+    let mut asked: Vec<chains::Asked> = lines.filter_map(of_line).collect();
+    for _ in 0..DRAWN {
+        asked.extend(chains::asked(&mut random, LONGEST).into_iter().take(4));
+        let packets = packets::asked(&mut random, LONGEST).into_iter().take(4);
+        asked.extend(packets.map(|bytes| (0, bytes)));
+    }
+    let inputs: BTreeSet<Vec<u8>> = asked
+        .iter()
+        .map(|(start, bytes)| input(*start, bytes, &mut random))
+        .collect();
+    std::fs::create_dir_all(folder)?;
+    for (index, input) in inputs.iter().enumerate() {
+        std::fs::write(folder.join(format!("{index:05}")), input)?;
+    }
+    Ok(inputs.len())
+}
+
+/// The number and the bytes of a line, if it asks for any.
+fn of_line(line: &[u8]) -> Option<chains::Asked> {
+    let (form, arguments) = std::str::from_utf8(line).ok()?.split_once(' ')?;
+    if form == "packet" {
+        return Some((0, bytes_of(arguments)?));
+    }
+    number_and_bytes(arguments)
+}
+
+/// An input with these bytes, whose limit holds or falls short.
+fn input(start: u8, bytes: &[u8], random: &mut Random) -> Vec<u8> {
+    let max_len = match random.below(3) {
+        0 => bytes.len(),
+        1 => random.below(bytes.len() + 1),
+        _ => 40,
+    };
+    let input = Input {
+        start,
+        last: [17, 6, 44, 0][random.below(4)],
+        is_over: random.percent(30),
+        limit: Start {
+            source: random.below(3) as u8,
+            max_len: max_len as u32,
+            layer_offset: random.below(60) as u32,
+            before: if random.percent(70) {
+                0
+            } else {
+                random.below(20) as u8
+            },
+        },
+        bytes,
+    };
+    input.to_bytes()
+}

@@ -1,0 +1,76 @@
+//! Strict parses of packets by the original, with the source that bounds the headers in its errors: a named difference
+//! of docs/DIFFERENCES.md.
+use crate::original_slices::{self, of_ip_fault, of_ipv6_fault, Packet};
+use diff::changes::Changes;
+use etherparse::err::{ip, ipv6};
+use etherparse::{IpSlice, Ipv6Slice};
+
+/// The packet of either version.
+pub fn ip(bytes: &[u8]) -> Result<IpSlice<'_>, ip::SliceError> {
+    IpSlice::from_slice(bytes).map_err(|fault| {
+        let changed = Changes::ALL.packet_fault(bytes, &fault);
+        changed.unwrap_or(fault)
+    })
+}
+
+/// The packet of IPv6.
+pub fn ipv6(bytes: &[u8]) -> Result<Ipv6Slice<'_>, ipv6::SliceError> {
+    Ipv6Slice::from_slice(bytes).map_err(|fault| {
+        let changed = Changes::ALL.ipv6_packet_fault(bytes, &fault);
+        changed.unwrap_or(fault)
+    })
+}
+
+/// The digests of `bench/`.
+pub struct Ip;
+pub struct Ipv6;
+
+impl Packet for Ip {
+    fn digest(bytes: &[u8]) -> u64 {
+        match ip(bytes) {
+            Ok(_) => original_slices::Ip::digest(bytes),
+            Err(fault) => of_ip_fault(&fault),
+        }
+    }
+}
+
+impl Packet for Ipv6 {
+    fn digest(bytes: &[u8]) -> u64 {
+        match ipv6(bytes) {
+            Ok(_) => original_slices::Ipv6::digest(bytes),
+            Err(fault) => of_ipv6_fault(&fault),
+        }
+    }
+}
+
+#[cfg(test)]
+mod tests {
+    use super::*;
+    use etherparse::LenSource;
+
+    /// An IPv6 packet with a payload length, and a fragment header of which so many bytes are there.
+    fn cut_short(payload_length: u8, len: usize) -> Vec<u8> {
+        let mut packet = vec![0x60, 0, 0, 0, 0, payload_length, 44];
+        packet.resize(40 + len, 0);
+        packet
+    }
+
+    /// The source of the error of a length by each of the parses.
+    fn sources(packet: &[u8]) -> (LenSource, LenSource) {
+        match (ip(packet), ipv6(packet)) {
+            (Err(ip::SliceError::Len(one)), Err(ipv6::SliceError::Len(other))) => {
+                (one.len_source, other.len_source)
+            }
+            _ => panic!("both parses tell a length"),
+        }
+    }
+
+    #[test]
+    fn the_slice_is_the_source_where_payload_length_is_0_before_some_bytes() {
+        let (slice, payload) = (LenSource::Slice, LenSource::Ipv6HeaderPayloadLen);
+        for (payload_length, len, source) in [(0, 7, slice), (7, 7, payload), (0, 0, payload)] {
+            let told = sources(&cut_short(payload_length, len));
+            assert_eq!(told, (source, source), "{payload_length} {len}");
+        }
+    }
+}

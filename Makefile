@@ -2,11 +2,12 @@
 # run in place of proofs, which it tells on standard error; `make test` holds the listed contracts and the
 # listed errors against the code, tries the program and passes the merge gate;
 # `make mutants` tries the mutants of mutants/ (CRATE=NAME: those of one crate; ONLY=WORD: those whose names
-# have the word). `make bench` measures and `make diff` compares against etherparse 0.19.0; `make diff-test` tests
-# the comparison; `make diff-fields` holds fragment headers against scapy's. `make fuzz` compares on inputs that AFL++
-# makes, MINUTES=.. long, and `make fuzz-test` tests that. These six take CARGO_FLAGS="..", further flags for Cargo, as
-# one that says where the crate lies on a machine without a network.
-.PHONY: run try test mutants bench diff diff-test diff-fields fuzz fuzz-test
+# have the word); `make memory` refuses each allocation of the program in turn. `make bench` measures and `make diff`
+# compares against etherparse 0.19.0; `make diff-test` tests the comparison; `make diff-fields` holds fragment headers
+# against scapy's. `make fuzz` compares on inputs that AFL++ makes, MINUTES=.. long, and `make fuzz-test` tests that.
+# These six take CARGO_FLAGS="..", further flags for Cargo, as one that says where the crate lies on a machine without a
+# network.
+.PHONY: run try test mutants memory bench diff diff-test diff-fields fuzz fuzz-test
 .SILENT:
 
 RT_IS_THERE = command -v rt >/dev/null || { \
@@ -36,6 +37,10 @@ mutants:
 	$(RT_IS_THERE)
 	$(PYTHON_IS_THERE)
 	scripts/mutants $(if $(CRATE),--crate $(CRATE)) $(if $(ONLY),--only $(ONLY))
+
+memory:
+	$(PYTHON_IS_THERE)
+	scripts/refuse-memory
 
 SEED = 1
 LINES = 1000000

@@ -4,10 +4,10 @@
 # `make mutants` tries the mutants of mutants/ (CRATE=NAME: those of one crate; ONLY=WORD: those whose names
 # have the word); `make memory` refuses each allocation of the program in turn. `make bench` measures and `make diff`
 # compares against etherparse 0.19.0; `make diff-test` tests the comparison; `make diff-fields` holds fragment headers
-# against scapy's. `make fuzz` compares on inputs that AFL++ makes, MINUTES=.. long, and `make fuzz-test` tests that.
-# These six take CARGO_FLAGS="..", further flags for Cargo, as one that says where the crate lies on a machine without a
-# network.
-.PHONY: run try test mutants memory bench diff diff-test diff-fields fuzz fuzz-test
+# against scapy's. `make cost` measures what a byte costs at worst. `make fuzz` compares on inputs that AFL++ makes,
+# MINUTES=.. long, and `make fuzz-test` tests that. These seven take CARGO_FLAGS="..", further flags for Cargo, as one
+# that says where the crate lies on a machine without a network.
+.PHONY: run try test mutants memory bench cost diff diff-test diff-fields fuzz fuzz-test
 .SILENT:
 
 RT_IS_THERE = command -v rt >/dev/null || { \
@@ -50,6 +50,9 @@ export SEED LINES HEADERS MINUTES ONLY CARGO_FLAGS
 
 bench:
 	bench/run
+
+cost:
+	bench/cost
 
 diff:
 	diff/run

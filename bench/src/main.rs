@@ -3,6 +3,8 @@
 //!     bench measure RUNS WORD               times of the rows whose names have the word, a line each
 //!     bench tool OURS ORIGINAL FOLDER BYTES times of two programs over lines, which are made in FOLDER
 //!     bench report FILE..                   the table of such lines; a file for each alignment of our code
+//!     bench cost TOOL FILE RUNS             our time for each byte of inputs that are made to take long
+mod cost;
 // That of a single header is for diff/.
 #[allow(dead_code)]
 #[path = "../../diff/src/fragment_bits.rs"]
@@ -45,9 +47,18 @@ fn main() -> ExitCode {
                 return ExitCode::FAILURE;
             }
         }
+        ["cost", tool, file, runs] => {
+            if !cost::cost(
+                tool,
+                Path::new(file),
+                runs.parse().expect("RUNS is a number"),
+            ) {
+                return ExitCode::FAILURE;
+            }
+        }
         _ => {
             eprintln!(
-                "bench: measure RUNS WORD, tool OURS ORIGINAL FOLDER BYTES, or report FILE.."
+                "bench: measure RUNS WORD, tool OURS ORIGINAL FOLDER BYTES, report FILE.., or cost TOOL FILE RUNS"
             );
             return ExitCode::from(2);
         }

@@ -96,7 +96,8 @@ fn command(program: &str, lines: &Path) -> Command {
     command
 }
 
-fn once(program: &str, lines: &Path) -> f64 {
+/// How many nanoseconds a program takes to answer the lines.
+pub fn once(program: &str, lines: &Path) -> f64 {
     let mut command = command(program, lines);
     let start = Instant::now();
     let status = command

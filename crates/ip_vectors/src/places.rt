@@ -371,7 +371,10 @@ fn routing_headers_are_as_long_as_their_parts(rt: HostRuntime) -> Result<(), Fai
         headers.final_destination_options = Some(Ipv6RawExtHeader::new_raw(IpNumber(17), options)?);
         assert_eq!(rt; headers.header_len(), both);
     }
-    let bounds = (Ipv6RoutingExtensions::MIN_LEN, Ipv6RoutingExtensions::MAX_LEN);
+    let bounds = (
+        Ipv6RoutingExtensions::MIN_LEN,
+        Ipv6RoutingExtensions::MAX_LEN,
+    );
     assert_eq!(rt; bounds, (8, 4096));
     Ok(())
 }

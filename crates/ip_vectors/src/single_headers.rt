@@ -352,8 +352,8 @@ fn written_into_reserved_room(rt: HostRuntime) -> Result<(), Fail> {
     fragment.write_reserved(&mut out);
     auth.write_reserved(&mut out);
     let expected = [
-        44, 1, 1, 2, 3, 4, 5, 6, 7, 8, 9, 10, 11, 12, 13, 14, 51, 0, 0, 9, 0, 0, 0, 3, 17, 2, 0,
-        0, 0, 0, 0, 1, 0, 0, 0, 2, 9, 8, 7, 6,
+        44, 1, 1, 2, 3, 4, 5, 6, 7, 8, 9, 10, 11, 12, 13, 14, 51, 0, 0, 9, 0, 0, 0, 3, 17, 2, 0, 0,
+        0, 0, 0, 1, 0, 0, 0, 2, 9, 8, 7, 6,
     ];
     assert_eq!(rt; out.as_slice(), expected.as_slice());
     Ok(())

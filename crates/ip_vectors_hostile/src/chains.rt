@@ -30,7 +30,10 @@ fn four_thousand_headers(rt: HostRuntime) -> Result<(), Fail> {
     let mut headers = chain.into_iter();
     let mut cursor = Ipv6ExtensionsCursor::new(IpNumber(44), &bytes);
     for count in 0..4096u32 {
-        assert!(rt; headers.next().is_some() && cursor.next().is_some(), "{count}");
+        assert!(rt;
+            headers.next().is_some() && cursor.next().is_some(),
+            "{count}"
+        );
     }
     for _ in 0..3 {
         assert!(rt; headers.next().is_none() && cursor.next().is_none());
@@ -90,12 +93,18 @@ fn nothing_comes_behind_the_last(rt: HostRuntime) {
         let mut headers = chain.into_iter();
         let mut cursor = Ipv6ExtensionsCursor::new(IpNumber(0), &SIX[..cut]);
         for _ in 0..count {
-            assert!(rt; headers.next().is_some() && cursor.next().is_some(), "{cut}");
+            assert!(rt;
+                headers.next().is_some() && cursor.next().is_some(),
+                "{cut}"
+            );
         }
         let mut runs = Ipv6ExtensionsRuns::new(IpNumber(0), &SIX[..cut]);
         assert!(rt; runs.next().is_some(), "{cut}");
         for _ in 0..3 {
-            assert!(rt; headers.next().is_none() && cursor.next().is_none(), "{cut}");
+            assert!(rt;
+                headers.next().is_none() && cursor.next().is_none(),
+                "{cut}"
+            );
             assert!(rt; runs.next().is_none(), "{cut}");
         }
     }
@@ -126,11 +135,17 @@ fn a_reader_that_refuses_behind_each_byte(rt: HostRuntime) -> Result<(), Fail> {
         let mut reader = OverRead::new(Forbidden { bytes: &SIX[..cut] });
         match Ipv6Extensions::read(&mut reader, IpNumber(0)) {
             Ok((exts, number)) => {
-                assert!(rt; cut == 52 && exts == whole && number == IpNumber(17), "{cut}")
+                assert!(rt;
+                    cut == 52 && exts == whole && number == IpNumber(17),
+                    "{cut}"
+                )
             }
             Err(e) => {
                 let kind = e.io_error().map(|error| error.kind());
-                assert!(rt; cut < 52 && kind == Some(ErrorKind::PermissionDenied), "{cut}");
+                assert!(rt;
+                    cut < 52 && kind == Some(ErrorKind::PermissionDenied),
+                    "{cut}"
+                );
             }
         }
         assert_eq!(rt; reader.failed(), cut < 52, "{cut}");

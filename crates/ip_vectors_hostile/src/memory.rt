@@ -46,7 +46,10 @@ fn six_places_are_written_where_there_is_room(rt: HostRuntime) -> Result<(), Fai
         let taken = all_that_is_left(&heap);
         let written = exts.write(&mut out, IpNumber(0));
         assert_eq!(rt; written.is_ok(), fits, "{name}");
-        assert!(rt; matches!(&written, Err(e) if e.io().is_some()) || fits, "{name}");
+        assert!(rt;
+            matches!(&written, Err(e) if e.io().is_some()) || fits,
+            "{name}"
+        );
         assert_eq!(rt; out.len(), if fits { 52 } else { 0 }, "{name}");
         drop(taken);
         exts.write(&mut out, IpNumber(0))?;
@@ -86,6 +89,13 @@ fn memory_is_asked_for_before_the_walk(rt: HostRuntime) -> Result<(), Fail> {
     drop(taken);
     assert!(rt; matches!(&exts.write(&mut out, IpNumber(60)), Err(e) if e.content().is_some()));
     assert_eq!(rt; out.as_slice(), [17, 0, 0, 0, 0, 0, 0, 0].as_slice());
+    // Where there is room for both headers, nothing is asked for.
+    let mut with_room: Vec<u8, &LocalHeap> = Vec::with_capacity(&heap, 16)?;
+    let taken = all_that_is_left(&heap);
+    let written = exts.write(&mut with_room, IpNumber(60));
+    assert!(rt; matches!(&written, Err(e) if e.content().is_some()));
+    assert_eq!(rt; with_room.as_slice(), [17, 0, 0, 0, 0, 0, 0, 0].as_slice());
+    drop(taken);
     Ok(())
 }
 

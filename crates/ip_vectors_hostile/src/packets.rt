@@ -67,7 +67,11 @@ fn ipv4_lengths_that_lie(rt: HostRuntime) -> Result<(), Fail> {
     ];
     for (name, bytes, error) in &rows {
         let refused = Ipv4Slice::from_slice(bytes).map(|packet| packet.payload_ip_number());
-        assert_eq!(rt; refused, Err(ipv4::SliceError::Len(error.clone()?)), "{name}");
+        assert_eq!(rt;
+            refused,
+            Err(ipv4::SliceError::Len(error.clone()?)),
+            "{name}"
+        );
         let refused = IpSlice::from_slice(bytes).map(|packet| packet.payload_ip_number());
         assert_eq!(rt; refused, Err(ip::SliceError::Len(error.clone()?)), "{name}");
     }

@@ -5,7 +5,8 @@ use ip_ext_headers::err::ip_auth::{HeaderError, HeaderSliceError};
 use ip_ext_headers::{IpAuthHeaderSlice, Ipv6FragmentHeaderSlice, Ipv6RawExtHeaderSlice};
 use std::test::Fail;
 
-fn missing(required_len: usize, len: usize, layer: Layer) -> LenError {
+/// So many bytes where a header at the front needs more.
+pub(crate) fn missing(required_len: usize, len: usize, layer: Layer) -> LenError {
     LenError {
         required_len,
         len,

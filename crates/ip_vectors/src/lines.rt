@@ -2,6 +2,7 @@
 use ip_plain::plain_answers;
 use ipexts_tool::run;
 use std::alloc::Global;
+use std::process::Abort;
 use std::test::Fail;
 
 /// Whether both answer the input so.
@@ -13,9 +14,17 @@ fn is_answered(alloc: Global, input: &[u8], answers: &[u8]) -> Result<bool, Fail
     Ok(plain.as_slice() == answers && output.as_slice() == answers)
 }
 
+/// Both answer each input as its row says.
+fn check(rt: &impl Abort, alloc: Global, rows: &[(&[u8], &[u8])]) -> Result<(), Fail> {
+    for (input, answers) in rows {
+        assert!(rt; is_answered(alloc, input, answers)?, "{input:?}");
+    }
+    Ok(())
+}
+
 #[test]
-fn lines_and_answers(rt: HostRuntime) -> Result<(), Fail> {
-    let rows: [(&[u8], &[u8]); 21] = [
+fn chains(rt: HostRuntime) -> Result<(), Fail> {
+    let rows: [(&[u8], &[u8]); 5] = [
         (
             b"exts6 60 2b00000000000000",
             b"0 dstopts 8\nnext 43 rest 0\nfault len 8 of 0 Slice Ipv6ExtHeader at 8 in Ipv6RouteHeader\n",
@@ -33,6 +42,13 @@ fn lines_and_answers(rt: HostRuntime) -> Result<(), Fail> {
             b"exts6 44 2c00000000000001110000\n",
             b"0 frag 8\nnext 44 rest 3\nfault len 8 of 3 Slice Ipv6FragHeader at 8 in Ipv6FragHeader\n",
         ),
+    ];
+    check(&rt, rt.alloc(), &rows)
+}
+
+#[test]
+fn ipv4_headers(rt: HostRuntime) -> Result<(), Fail> {
+    let rows: [(&[u8], &[u8]); 4] = [
         (
             b"exts4 51 3301000000000000000000001101\n",
             b"0 auth 12\nnext 51 rest 2\nok\n",
@@ -46,6 +62,13 @@ fn lines_and_answers(rt: HostRuntime) -> Result<(), Fail> {
             b"next 51 rest 0\nfault len 12 of 0 Slice IpAuthHeader at 0\n",
         ),
         (b"exts4 0 -\n", b"next 0 rest 0\nok\n"),
+    ];
+    check(&rt, rt.alloc(), &rows)
+}
+
+#[test]
+fn chains_that_are_written_again(rt: HostRuntime) -> Result<(), Fail> {
+    let rows: [(&[u8], &[u8]); 6] = [
         (
             b"rewrite6 44 11ff00e101020304\n",
             b"next 17 rest 0\nwritten 110000e101020304\nok\n",
@@ -70,6 +93,13 @@ fn lines_and_answers(rt: HostRuntime) -> Result<(), Fail> {
             b"rewrite6 60 2b00000000000000\n",
             b"next 43 rest 0\nwritten 2b00000000000000\nfault len 8 of 0 Slice Ipv6ExtHeader at 8 in Ipv6RouteHeader\n",
         ),
+    ];
+    check(&rt, rt.alloc(), &rows)
+}
+
+#[test]
+fn runs_that_are_written_again(rt: HostRuntime) -> Result<(), Fail> {
+    let rows: [(&[u8], &[u8]); 4] = [
         (
             b"rewriteall6 44 2cff000000000000110000e101020304\n",
             b"runs 2 next 17 rest 0\nwritten 2c00000000000000110000e101020304\nok\n",
@@ -86,13 +116,17 @@ fn lines_and_answers(rt: HostRuntime) -> Result<(), Fail> {
             b"rewriteall6 17 00\n",
             b"runs 1 next 17 rest 1\nwritten -\nok\n",
         ),
+    ];
+    check(&rt, rt.alloc(), &rows)
+}
+
+#[test]
+fn bad_lines(rt: HostRuntime) -> Result<(), Fail> {
+    let rows: [(&[u8], &[u8]); 2] = [
         (b"exts6 256 00\n", b"bad line\n"),
         (b"\nexts6 17 -\n", b"bad line\nnext 17 rest 0\nok\n"),
     ];
-    for (input, answers) in rows {
-        assert!(rt; is_answered(rt.alloc(), input, answers)?, "{input:?}");
-    }
-    Ok(())
+    check(&rt, rt.alloc(), &rows)
 }
 
 #[test]

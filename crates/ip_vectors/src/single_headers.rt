@@ -1,7 +1,8 @@
 //! Owned headers: read, made, changed and written.
+use crate::header_slices::missing;
 use arrayvec::ArrayVec;
 use ip_base::err::{Layer, LenError};
-use ip_base::{IpFragOffset, IpNumber, LenSource};
+use ip_base::{IpFragOffset, IpNumber};
 use ip_ext_headers::err::ip_auth::{HeaderError, HeaderSliceError, IcvLenError};
 use ip_ext_headers::err::ipv6_exts::ExtPayloadLenError;
 use ip_ext_headers::{
@@ -11,16 +12,6 @@ use ip_ext_headers::{
 };
 use linked_list_allocator::LocalHeap;
 use std::test::Fail;
-
-fn missing(required_len: usize, len: usize, layer: Layer) -> LenError {
-    LenError {
-        required_len,
-        len,
-        len_source: LenSource::Slice,
-        layer,
-        layer_start_offset: 0,
-    }
-}
 
 /// Bytes that differ from place to place, with the length byte, and with 1 and 2 from `end` on.
 fn bytes_with(length: u8, end: usize) -> [u8; 2050] {

@@ -161,6 +161,20 @@ fn headers_in_their_places(rt: HostRuntime) -> Result<(), Fail> {
         fault: None,
     };
     check(&rt, rt.alloc(), &twice)?;
+    let no_headers = Row {
+        name: "UDP goes on",
+        start: 17,
+        bytes: &[0, 1, 2, 3],
+        places: [None, None, None, None, None, None],
+        number: 17,
+        rest: 4,
+        fault: None,
+    };
+    check(&rt, rt.alloc(), &no_headers)
+}
+
+#[test]
+fn options_before_routing_and_behind_it(rt: HostRuntime) -> Result<(), Fail> {
     let both_sides = Row {
         name: "options before routing and behind it",
         start: 60,
@@ -184,33 +198,12 @@ fn headers_in_their_places(rt: HostRuntime) -> Result<(), Fail> {
         rest: 8,
         fault: None,
     };
-    check(&rt, rt.alloc(), &final_only)?;
-    let no_headers = Row {
-        name: "UDP goes on",
-        start: 17,
-        bytes: &[0, 1, 2, 3],
-        places: [None, None, None, None, None, None],
-        number: 17,
-        rest: 4,
-        fault: None,
-    };
-    check(&rt, rt.alloc(), &no_headers)
+    check(&rt, rt.alloc(), &final_only)
 }
 
 #[test]
 fn faults_in_places(rt: HostRuntime) -> Result<(), Fail> {
-    let late = HeaderSliceError::Content(HeaderError::HopByHopNotAtStart);
     let zero = HeaderError::IpAuth(ip_auth::HeaderError::ZeroPayloadLen);
-    let hop_by_hop_twice = Row {
-        name: "hop by hop options lead to themselves",
-        start: 0,
-        bytes: &[0, 0, 0, 0, 0, 0, 0, 0],
-        places: [Some((0, 8)), None, None, None, None, None],
-        number: 0,
-        rest: 0,
-        fault: Some((late.clone()?, Layer::Ipv6HopByHopHeader)),
-    };
-    check(&rt, rt.alloc(), &hop_by_hop_twice)?;
     let no_bytes = Row {
         name: "no bytes at hop by hop options",
         start: 0,
@@ -230,7 +223,22 @@ fn faults_in_places(rt: HostRuntime) -> Result<(), Fail> {
         rest: 12,
         fault: Some((HeaderSliceError::Content(zero), Layer::IpAuthHeader)),
     };
-    check(&rt, rt.alloc(), &zero_len)?;
+    check(&rt, rt.alloc(), &zero_len)
+}
+
+#[test]
+fn hop_by_hop_options_that_come_late(rt: HostRuntime) -> Result<(), Fail> {
+    let late = HeaderSliceError::Content(HeaderError::HopByHopNotAtStart);
+    let hop_by_hop_twice = Row {
+        name: "hop by hop options lead to themselves",
+        start: 0,
+        bytes: &[0, 0, 0, 0, 0, 0, 0, 0],
+        places: [Some((0, 8)), None, None, None, None, None],
+        number: 0,
+        rest: 0,
+        fault: Some((late.clone()?, Layer::Ipv6HopByHopHeader)),
+    };
+    check(&rt, rt.alloc(), &hop_by_hop_twice)?;
     let late_hop_by_hop = Row {
         name: "hop by hop options behind a fragment header",
         start: 44,

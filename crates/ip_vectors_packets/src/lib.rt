@@ -6,3 +6,5 @@
 mod lengths_that_lie;
 #[cfg(test)]
 mod packets;
+#[cfg(test)]
+mod samples;

@@ -1,10 +1,10 @@
 //! Base headers and packets.
-use etherparse_ip::err::{Layer, LenError, ip, ip_auth, ipv4, ipv6, ipv6_exts};
+use crate::samples::{ipv4_bytes, ipv6_bytes, len_error, len_error_at};
+use etherparse_ip::err::{Layer, ip, ip_auth, ipv4, ipv6, ipv6_exts};
 use etherparse_ip::{
     IpNumber, IpPayloadSlice, IpSlice, Ipv4Header, Ipv4HeaderSlice, Ipv4Slice, Ipv6Header,
     Ipv6HeaderSlice, Ipv6Slice, LenSource,
 };
-use std::alloc::{AllocError, Global};
 use std::net::{IpAddr, Ipv4Addr, Ipv6Addr};
 use std::process::Abort;
 use std::test::Fail;
@@ -46,65 +46,6 @@ fn ipv4_parts(packet: &Ipv4Slice<'_>) -> Parts {
 fn ipv6_parts(packet: &Ipv6Slice<'_>) -> Parts {
     let exts = packet.extensions().slice().len();
     parts_behind(packet.header().slice().len(), exts, packet.payload())
-}
-
-/// An IPv4 packet from 10.0.0.1 to 10.0.0.2; `behind` begins with its options.
-fn ipv4_bytes(
-    alloc: Global,
-    first: u8,
-    total_len: u16,
-    fragment: [u8; 2],
-    protocol: u8,
-    behind: &[u8],
-) -> Result<Vec<u8>, AllocError> {
-    let [high, low] = total_len.to_be_bytes();
-    let [flags, offset] = fragment;
-    let mut bytes = Vec::from_array(
-        alloc,
-        [
-            first, 0, high, low, 0, 0, flags, offset, 64, protocol, 0, 0, 10, 0, 0, 1, 10, 0, 0, 2,
-        ],
-    )?;
-    bytes.extend_from_slice(behind)?;
-    Ok(bytes)
-}
-
-/// An IPv6 packet from 2001:db8::1 to 2001:db8::2.
-fn ipv6_bytes(
-    alloc: Global,
-    payload_length: u16,
-    next_header: u8,
-    behind: &[u8],
-) -> Result<Vec<u8>, AllocError> {
-    let [high, low] = payload_length.to_be_bytes();
-    let mut bytes = Vec::from_array(alloc, [0x60, 0, 0, 0, high, low, next_header, 64])?;
-    for last in [1, 2] {
-        bytes.extend_from_slice(&[0x20, 1, 0x0d, 0xb8, 0, 0, 0, 0, 0, 0, 0, 0, 0, 0, 0, last])?;
-    }
-    bytes.extend_from_slice(behind)?;
-    Ok(bytes)
-}
-
-/// An error of a length.
-fn len_error(required_len: usize, len: usize, len_source: LenSource, layer: Layer) -> LenError {
-    len_error_at(required_len, len, len_source, layer, 0)
-}
-
-/// An error of a length behind so many bytes.
-fn len_error_at(
-    required_len: usize,
-    len: usize,
-    len_source: LenSource,
-    layer: Layer,
-    layer_start_offset: usize,
-) -> LenError {
-    LenError {
-        required_len,
-        len,
-        len_source,
-        layer,
-        layer_start_offset,
-    }
 }
 
 /// `IpSlice` answers what the slice of the version does.
@@ -177,10 +118,8 @@ fn ipv6_lengths(rt: HostRuntime) -> Result<(), Fail> {
 }
 
 #[test]
-fn ipv6_chains(rt: HostRuntime) -> Result<(), Fail> {
-    let alloc = rt.alloc();
-    let route = [43, 0, 0, 0, 0, 0, 0, 0];
-    let jumbo = ipv6_bytes(alloc, 0, 60, &route)?;
+fn a_chain_that_is_cut_short_in_a_jumbogram(rt: HostRuntime) -> Result<(), Fail> {
+    let jumbo = ipv6_bytes(rt.alloc(), 0, 60, &[43, 0, 0, 0, 0, 0, 0, 0])?;
     let cut_short = len_error_at(8, 0, LenSource::Slice, Layer::Ipv6ExtHeader, 48);
     for parsed in [
         Ipv6Slice::from_slice(&jumbo),
@@ -188,22 +127,22 @@ fn ipv6_chains(rt: HostRuntime) -> Result<(), Fail> {
     ] {
         assert_eq!(rt;
             parsed.map(|packet| ipv6_parts(&packet)),
-            Err(ipv6::SliceError::Len(cut_short.clone()?)),
-            "a chain that is cut short in a jumbogram"
+            Err(ipv6::SliceError::Len(cut_short.clone()?))
         );
     }
     assert_eq!(rt;
         IpSlice::from_slice(&jumbo).map(|packet| packet.payload_ip_number()),
         Err(ip::SliceError::Len(cut_short))
     );
-    let later = ipv6_bytes(
-        alloc,
-        24,
-        44,
-        &[
-            60, 0, 1, 0, 1, 2, 3, 4, 17, 0, 0, 0, 0, 0, 0, 0, 9, 9, 9, 9, 9, 9, 9, 9,
-        ],
-    )?;
+    Ok(())
+}
+
+#[test]
+fn headers_behind_that_of_a_later_fragment(rt: HostRuntime) -> Result<(), Fail> {
+    let chain = [
+        60, 0, 1, 0, 1, 2, 3, 4, 17, 0, 0, 0, 0, 0, 0, 0, 9, 9, 9, 9, 9, 9, 9, 9,
+    ];
+    let later = ipv6_bytes(rt.alloc(), 24, 44, &chain)?;
     let parts = Parts {
         header: 40,
         exts: 16,
@@ -212,13 +151,12 @@ fn ipv6_chains(rt: HostRuntime) -> Result<(), Fail> {
         fragmented: true,
         source: LenSource::Ipv6HeaderPayloadLen,
     };
-    check_either(
-        &rt,
-        "headers behind that of a later fragment",
-        &later,
-        parts,
-    )?;
-    let zero = ipv6_bytes(alloc, 8, 60, &[0, 0, 0, 0, 0, 0, 0, 0])?;
+    check_either(&rt, "a later fragment", &later, parts)
+}
+
+#[test]
+fn hop_by_hop_options_behind_a_header(rt: HostRuntime) -> Result<(), Fail> {
+    let zero = ipv6_bytes(rt.alloc(), 8, 60, &[0, 0, 0, 0, 0, 0, 0, 0])?;
     let content = ipv6_exts::HeaderError::HopByHopNotAtStart;
     assert_eq!(rt;
         Ipv6Slice::from_slice(&zero).map(|packet| ipv6_parts(&packet)),
@@ -231,117 +169,84 @@ fn ipv6_chains(rt: HostRuntime) -> Result<(), Fail> {
     Ok(())
 }
 
-#[test]
-fn ipv4_packets(rt: HostRuntime) -> Result<(), Fail> {
-    let alloc = rt.alloc();
-    let shown = |header, exts, number, payload, fragmented| Parts {
+/// What an IPv4 packet shows whose total length is right.
+fn ipv4_shown(header: usize, exts: usize, number: u8, payload: usize, fragmented: bool) -> Parts {
+    Parts {
         header,
         exts,
         number,
         payload,
         fragmented,
         source: LenSource::Ipv4HeaderTotalLen,
-    };
+    }
+}
+
+/// Both slices answer what the IPv4 packet shows.
+fn check_ipv4(rt: &impl Abort, name: &str, bytes: &[u8], parts: Parts) -> Result<(), Fail> {
+    let packet = Ipv4Slice::from_slice(bytes).map(|packet| ipv4_parts(&packet));
+    assert_eq!(rt; packet, Ok(parts), "{name}");
+    check_either(rt, name, bytes, parts)
+}
+
+#[test]
+fn ipv4_packets(rt: HostRuntime) -> Result<(), Fail> {
+    let alloc = rt.alloc();
     let auth = [17, 1, 0, 0, 0, 0, 0, 0, 0, 0, 0, 0, 9, 9];
-    let rows: [(&str, Vec<u8>, Parts); 8] = [
+    let rows: [(&str, Vec<u8>, Parts); 4] = [
         (
             "bytes behind the packet",
             ipv4_bytes(alloc, 0x45, 22, [0, 0], 17, &[1, 2, 3, 4])?,
-            shown(20, 0, 17, 2, false),
+            ipv4_shown(20, 0, 17, 2, false),
         ),
         (
             "no payload",
             ipv4_bytes(alloc, 0x45, 20, [0, 0], 6, &[])?,
-            shown(20, 0, 6, 0, false),
+            ipv4_shown(20, 0, 6, 0, false),
         ),
         (
             "options",
             ipv4_bytes(alloc, 0x46, 26, [0, 0], 17, &[1, 1, 1, 0, 5, 6])?,
-            shown(24, 0, 17, 2, false),
+            ipv4_shown(24, 0, 17, 2, false),
         ),
         (
             "an authentication header",
             ipv4_bytes(alloc, 0x45, 34, [0, 0], 51, &auth)?,
-            shown(20, 12, 17, 2, false),
-        ),
-        (
-            "don't fragment",
-            ipv4_bytes(alloc, 0x45, 20, [0x40, 0], 17, &[])?,
-            shown(20, 0, 17, 0, false),
-        ),
-        (
-            "more fragments",
-            ipv4_bytes(alloc, 0x45, 20, [0x20, 0], 17, &[])?,
-            shown(20, 0, 17, 0, true),
-        ),
-        (
-            "a later fragment",
-            ipv4_bytes(alloc, 0x45, 20, [0, 1], 17, &[])?,
-            shown(20, 0, 17, 0, true),
-        ),
-        (
-            "a fragment far behind",
-            ipv4_bytes(alloc, 0x45, 20, [0x10, 0], 17, &[])?,
-            shown(20, 0, 17, 0, true),
+            ipv4_shown(20, 12, 17, 2, false),
         ),
     ];
     for (name, bytes, parts) in &rows {
-        let packet = Ipv4Slice::from_slice(bytes).map(|packet| ipv4_parts(&packet));
-        assert_eq!(rt; packet, Ok(*parts), "{name}");
-        check_either(&rt, name, bytes, *parts)?;
+        check_ipv4(&rt, name, bytes, *parts)?;
     }
     Ok(())
 }
 
 #[test]
-fn ipv4_refusals(rt: HostRuntime) -> Result<(), Fail> {
-    let alloc = rt.alloc();
-    let by_header = LenSource::Ipv4HeaderTotalLen;
-    let zero_len = [17, 0, 0, 0, 0, 0, 0, 0, 0, 0, 0, 0];
-    let rows: [(&str, Vec<u8>, ipv4::SliceError, ip::SliceError); 5] = [
-        (
-            "total length below the header",
-            ipv4_bytes(alloc, 0x45, 19, [0, 0], 17, &[])?,
-            ipv4::SliceError::Len(len_error(20, 19, by_header, Layer::Ipv4Packet)),
-            ip::SliceError::Len(len_error(20, 19, by_header, Layer::Ipv4Packet)),
-        ),
-        (
-            "total length beyond the bytes",
-            ipv4_bytes(alloc, 0x45, 65535, [0, 0], 17, &[])?,
-            ipv4::SliceError::Len(len_error(65535, 20, LenSource::Slice, Layer::Ipv4Packet)),
-            ip::SliceError::Len(len_error(65535, 20, LenSource::Slice, Layer::Ipv4Packet)),
-        ),
-        (
-            "options beyond the bytes",
-            ipv4_bytes(alloc, 0x4f, 60, [0, 0], 17, &[0; 39])?,
-            ipv4::SliceError::Len(len_error(60, 59, LenSource::Slice, Layer::Ipv4Header)),
-            ip::SliceError::Len(len_error(60, 59, LenSource::Slice, Layer::Ipv4Header)),
-        ),
-        (
-            "an authentication header beyond total length",
-            ipv4_bytes(alloc, 0x45, 24, [0, 0], 51, &[0; 12])?,
-            ipv4::SliceError::Len(len_error_at(12, 4, by_header, Layer::IpAuthHeader, 20)),
-            ip::SliceError::Len(len_error_at(12, 4, by_header, Layer::IpAuthHeader, 20)),
-        ),
-        (
-            "an authentication header of length 0",
-            ipv4_bytes(alloc, 0x45, 32, [0, 0], 51, &zero_len)?,
-            ipv4::SliceError::Exts(ip_auth::HeaderError::ZeroPayloadLen),
-            ip::SliceError::IpHeaders(ip::HeadersError::Ipv4Ext(
-                ip_auth::HeaderError::ZeroPayloadLen,
-            )),
-        ),
-    ];
-    for (name, bytes, error, either) in &rows {
-        match Ipv4Slice::from_slice(bytes) {
-            Ok(_) => assert!(rt; false, "{name}"),
-            Err(e) => assert_eq!(rt; e, *error, "{name}"),
-        }
-        match IpSlice::from_slice(bytes) {
-            Ok(_) => assert!(rt; false, "{name}"),
-            Err(e) => assert_eq!(rt; e, *either, "{name}"),
-        }
+fn ipv4_fragments(rt: HostRuntime) -> Result<(), Fail> {
+    for (name, fragment, fragmented) in [
+        ("don't fragment", [0x40, 0], false),
+        ("more fragments", [0x20, 0], true),
+        ("a later fragment", [0, 1], true),
+        ("a fragment far behind", [0x10, 0], true),
+    ] {
+        let bytes = ipv4_bytes(rt.alloc(), 0x45, 20, fragment, 17, &[])?;
+        check_ipv4(&rt, name, &bytes, ipv4_shown(20, 0, 17, 0, fragmented))?;
     }
+    Ok(())
+}
+
+#[test]
+fn an_authentication_header_of_length_0(rt: HostRuntime) -> Result<(), Fail> {
+    let behind = [17, 0, 0, 0, 0, 0, 0, 0, 0, 0, 0, 0];
+    let bytes = ipv4_bytes(rt.alloc(), 0x45, 32, [0, 0], 51, &behind)?;
+    let zero = ip_auth::HeaderError::ZeroPayloadLen;
+    assert_eq!(rt;
+        Ipv4Slice::from_slice(&bytes).map(|packet| ipv4_parts(&packet)),
+        Err(ipv4::SliceError::Exts(zero.clone()?))
+    );
+    assert_eq!(rt;
+        IpSlice::from_slice(&bytes).map(|packet| packet.payload_ip_number()),
+        Err(ip::SliceError::IpHeaders(ip::HeadersError::Ipv4Ext(zero)))
+    );
     Ok(())
 }
 

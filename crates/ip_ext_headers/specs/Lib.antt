@@ -8,3 +8,4 @@ pub mod AuthLimitedReadError
 pub mod IpAuthHeaderSlice
 pub mod Ipv6FragmentHeaderSlice
 pub mod Ipv6RawExtHeaderSlice
+pub mod AuthParts

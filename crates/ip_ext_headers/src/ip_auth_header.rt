@@ -12,13 +12,10 @@ ghost use Rattle.ip_io.specs.Reading.{IsHeaderTaken, IsTakenInLayer};
 ghost use Rattle.ip_base.specs.declared.err.layer.Layer.TheVariants.{IpAuthHeader as AuthLayer};
 
 use crate::IpAuthHeaderSlice;
-use crate::err::ip_auth::{
-    HeaderError, HeaderLimitedReadError, HeaderReadError, HeaderSliceError, IcvLenError,
-};
+use crate::auth_parts::AuthParts;
+use crate::err::ip_auth::{HeaderLimitedReadError, HeaderReadError, HeaderSliceError, IcvLenError};
 use arrayvec::ArrayVec;
 use ip_base::IpNumber;
-use ip_base::err::Layer;
-use ip_io::err::io::LimitedReadError;
 use ip_io::io::{ExactRead, LimitedReader};
 use std::alloc::{AllocError, Allocator};
 use std::marker::Model;
@@ -72,9 +69,9 @@ impl Model for IpAuthHeader {
 impl IpAuthHeader {
     ghost use Rattle.ip_base.specs.declared.len_source.LenSource.TheVariants.{Slice};
     ghost use Rattle.ip_ext_headers.specs.Fault.{auth_fault};
-    ghost use Rattle.ip_spec.specs.Fields as fields;
     ghost use Rattle.ip_spec.specs.Lengths.{IsIcvLen};
     ghost use Rattle.ip_ext_headers.specs.LengthFault.{icv_len_fault};
+    ghost use Rattle.ip_ext_headers.specs.AuthParts.{fields_in};
     ghost use Rattle.ip_ext_headers.specs.AuthReading.{auth_slice_fault, IsAuthRefused, IsAuthRefusedInLayer, IsSliceError, IsSliceErrorInLayer};
 
     /// The smallest header, in bytes.
@@ -179,21 +176,9 @@ impl IpAuthHeader {
         ensures refused { IfErr result (IsAuthRefused T.bytes_left T.is_steady T.has_failed
             reader.old reader.new) }
     {
-        let mut start = [0; 12];
-        match reader.read_exact(&mut start) {
-            Ok(()) => {}
-            Err(e) => return Err(HeaderReadError::Io(e)),
-        }
-        let payload_len = start[1];
-        if payload_len == 0 {
-            return Err(HeaderReadError::Content(HeaderError::ZeroPayloadLen));
-        }
         let mut buffer = [0; Self::MAX_ICV_LEN];
-        let raw_icv = &mut buffer[..4 * usize::from(payload_len - 1)];
-        match reader.read_exact(raw_icv) {
-            Ok(()) => Ok(Self::of_parts(start, raw_icv)),
-            Err(e) => Err(HeaderReadError::Io(e)),
-        }
+        let parts = AuthParts::take(&mut buffer, reader)?;
+        Ok(Self::of_parts(parts))
     }
 
     /// Reads a header within a limit, as `read` does of the bytes that may still be read. It starts the layer
@@ -215,22 +200,9 @@ impl IpAuthHeader {
         ensures refused { IfErr result (IsAuthRefusedInLayer T.bytes_left T.is_steady
             T.has_failed reader.old reader.new) }
     {
-        reader.start_layer(Layer::IpAuthHeader);
-        let mut start = [0; 12];
-        match reader.read_exact(&mut start) {
-            Ok(()) => {}
-            Err(e) => return Err(HeaderLimitedReadError::of_limited(e)),
-        }
-        let payload_len = start[1];
-        if payload_len == 0 {
-            return Err(HeaderLimitedReadError::Content(HeaderError::ZeroPayloadLen));
-        }
         let mut buffer = [0; Self::MAX_ICV_LEN];
-        let raw_icv = &mut buffer[..4 * usize::from(payload_len - 1)];
-        match reader.read_exact(raw_icv) {
-            Ok(()) => Ok(Self::of_parts(start, raw_icv)),
-            Err(e) => Err(HeaderLimitedReadError::of_limited(e)),
-        }
+        let parts = AuthParts::take_limited(&mut buffer, reader)?;
+        Ok(Self::of_parts(parts))
     }
 
     /// Reads a header over this one, as `read` does, and makes it where this one lies, so that nothing is moved.
@@ -249,24 +221,13 @@ impl IpAuthHeader {
         ensures refused { IfErr result (IsAuthRefused T.bytes_left T.is_steady T.has_failed
             reader.old reader.new) }
     {
-        let mut start = [0; 12];
-        match reader.read_exact(&mut start) {
-            Ok(()) => {}
-            Err(e) => return Err(HeaderReadError::Io(e)),
-        }
-        let payload_len = start[1];
-        if payload_len == 0 {
-            let e = HeaderError::ZeroPayloadLen;
-            return Err(HeaderReadError::Content(e));
-        }
         let mut buffer = [0; Self::MAX_ICV_LEN];
-        let raw_icv = &mut buffer[..4 * usize::from(payload_len - 1)];
-        match reader.read_exact(raw_icv) {
-            Ok(()) => {
-                self.set_parts(start, raw_icv);
+        match AuthParts::take(&mut buffer, reader) {
+            Ok(parts) => {
+                self.set_parts(parts);
                 Ok(())
             }
-            Err(e) => Err(HeaderReadError::Io(e)),
+            Err(e) => Err(e),
         }
     }
 
@@ -290,59 +251,38 @@ impl IpAuthHeader {
         ensures refused { IfErr result (IsAuthRefusedInLayer T.bytes_left T.is_steady
             T.has_failed reader.old reader.new) }
     {
-        reader.start_layer(Layer::IpAuthHeader);
-        let mut start = [0; 12];
-        match reader.read_exact(&mut start) {
-            Ok(()) => {}
-            Err(e) => return Err(HeaderLimitedReadError::of_limited(e)),
-        }
-        let payload_len = start[1];
-        if payload_len == 0 {
-            let e = HeaderError::ZeroPayloadLen;
-            return Err(HeaderLimitedReadError::Content(e));
-        }
         let mut buffer = [0; Self::MAX_ICV_LEN];
-        let raw_icv = &mut buffer[..4 * usize::from(payload_len - 1)];
-        match reader.read_exact(raw_icv) {
-            Ok(()) => {
-                self.set_parts(start, raw_icv);
+        match AuthParts::take_limited(&mut buffer, reader) {
+            Ok(parts) => {
+                self.set_parts(parts);
                 Ok(())
             }
-            Err(e) => Err(HeaderLimitedReadError::of_limited(e)),
+            Err(e) => Err(e),
         }
     }
 
-    /// Makes it the header with these bytes before its check value, where it lies.
+    /// Makes it the header of these parts, where it lies.
     #[inline(always)]
-    fn set_parts(&mut self, start: [u8; 12], raw_icv: &[u8])
-        requires { IsIcvLen (length raw_icv.now) }
-        ensures { self.new ≡ record {
-          next_header = fields.next_header start;
-          spi = fields.spi start;
-          sequence_number = fields.sequence_number start;
-          raw_icv = raw_icv.now;
-        } }
+    fn set_parts(&mut self, parts: AuthParts<'_>)
+        ensures { self.new ≡ fields_in parts.entry }
     {
-        self.next_header = IpNumber(start[0]);
-        self.spi = u32::from_be_bytes([start[4], start[5], start[6], start[7]]);
-        self.sequence_number = u32::from_be_bytes([start[8], start[9], start[10], start[11]]);
-        let _ = self.set_raw_icv(raw_icv);
+        self.next_header = parts.next_header;
+        self.spi = parts.spi;
+        self.sequence_number = parts.sequence_number;
+        let _ = self.set_raw_icv(parts.raw_icv);
     }
 
-    /// The header with these bytes before its check value.
+    /// The header of these parts.
     #[inline(always)]
-    fn of_parts(start: [u8; 12], raw_icv: &[u8]) -> IpAuthHeader
-        requires { IsIcvLen (length raw_icv.now) }
-        ensures { result ≡ record {
-          next_header = fields.next_header start;
-          spi = fields.spi start;
-          sequence_number = fields.sequence_number start;
-          raw_icv = raw_icv.now;
-        } }
+    fn of_parts(parts: AuthParts<'_>) -> IpAuthHeader
+        ensures { result ≡ fields_in parts.entry }
     {
-        let spi = u32::from_be_bytes([start[4], start[5], start[6], start[7]]);
-        let sequence_number = u32::from_be_bytes([start[8], start[9], start[10], start[11]]);
-        Self::with_icv(IpNumber(start[0]), spi, sequence_number, raw_icv)
+        Self::with_icv(
+            parts.next_header,
+            parts.spi,
+            parts.sequence_number,
+            parts.raw_icv,
+        )
     }
 
     /// The integrity check value with its padding, 0 to 1016 bytes.

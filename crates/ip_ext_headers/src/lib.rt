@@ -3,6 +3,7 @@
 //! section 4). A header slice borrows the caller's bytes, and its bytes are one header.
 #![tactic(auto)]
 
+mod auth_parts;
 pub mod err;
 mod fragment_bits;
 mod ip_auth_header;

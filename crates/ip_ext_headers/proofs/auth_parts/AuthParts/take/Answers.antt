@@ -5,7 +5,7 @@ use Rattle.ip_spec.proofs.RequestLemmas.{auth_joined, auth_joined_fields}
 use Rattle.ip_io.proofs.ReadingLemmas.{refused_behind, refused_short}
 use Rattle.ip_ext_headers.specs.AuthReading.{auth_slice_fault, IsTooShort}
 use Rattle.ip_ext_headers.proofs.AuthLemmas.{auth_short}
-use Rattle.ip_ext_headers.proofs.ip_auth_header.IpAuthHeader.read_over.Goals as goal
+use Rattle.ip_ext_headers.proofs.auth_parts.AuthParts.take.Goals as goal
 
 pub returns-in-Err-clause-refused : goal.returns-in-Err-clause-refused
 returns-in-Err-clause-refused g c =
@@ -31,6 +31,6 @@ returns-in-Ok-read_exact-clause-header g c =
     record {
       bytes = h ++ p;
       header = auth_joined h p e (omega arith) n;
-      fields = auth_joined_fields h p e ∙ sym c.set_parts.ensures;
+      fields = auth_joined_fields h p e ∙ sym c.of_bytes.ensures;
       taken = Consumes-trans _ _ _ h p c.in-Ok.ensures.takes c.in-Ok-read_exact.ensures.takes;
     }

@@ -4,7 +4,7 @@ use Rattle.ip_spec.specs.Requests.{AuthAsks, auth_start, auth_icv}
 use Rattle.ip_spec.proofs.RequestLemmas.{auth_joined, auth_joined_fields}
 use Rattle.ip_io.proofs.ReadingLemmas.{taken_none, taken_more, refused_in_layer}
 use Rattle.ip_ext_headers.proofs.AuthLemmas.{limited_refused, limited_short}
-use Rattle.ip_ext_headers.proofs.ip_auth_header.IpAuthHeader.read_over_limited.Goals as goal
+use Rattle.ip_ext_headers.proofs.auth_parts.AuthParts.take_limited.Goals as goal
 
 pub returns-in-Err-clause-refused : goal.returns-in-Err-clause-refused
 returns-in-Err-clause-refused g c =
@@ -56,6 +56,6 @@ returns-in-Ok-read_exact-clause-header g c =
     record {
       bytes = h ++ p;
       header = auth_joined h p e (omega arith) n;
-      fields = auth_joined_fields h p e ∙ sym c.set_parts.ensures;
+      fields = auth_joined_fields h p e ∙ sym c.of_bytes.ensures;
       taken = taken_more _ _ _ _ _ h p _ u (search rules) c.in-Ok-read_exact.ensures.takes c.in-Ok-read_exact.ensures.within c.in-Ok-read_exact.ensures.limits;
     }

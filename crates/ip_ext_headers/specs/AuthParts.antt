@@ -1,0 +1,12 @@
+-- What a read takes of an authentication header.
+use Rattle.ip_spec.specs.FieldsOf.{AuthFields}
+use Rattle.ip_ext_headers.specs.declared.auth_parts.AuthParts.{AuthParts}
+
+-- the fields of the header of these parts
+abbrev pub fields_in : AuthParts → AuthFields
+fields_in p = record {
+  next_header = p.next_header.0;
+  spi = p.spi;
+  sequence_number = p.sequence_number;
+  raw_icv = p.raw_icv.now;
+}

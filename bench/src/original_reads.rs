@@ -1,8 +1,10 @@
 //! Reads over etherparse 0.19.0, with the same digests. What the original reads only where it can also seek, it
 //! reads from a cursor over the bytes, and the rest from the bytes themselves.
 use crate::original::{
-    from_c, of_answer, of_bytes, of_owned_auth, of_owned_fragment, of_owned_raw, with, Parse,
+    from_c, of_answer, of_bytes, of_content, of_len_error, of_owned_auth, of_owned_fragment,
+    of_owned_raw, with, Parse,
 };
+use etherparse::err::ipv6_exts::{HeaderLimitedReadError, HeaderReadError};
 use etherparse::err::Layer;
 use etherparse::io::LimitedReader;
 use etherparse::{
@@ -24,7 +26,7 @@ impl Parse for StructRead {
         let mut reader = Cursor::new(bytes);
         match Ipv6Extensions::read(&mut reader, start) {
             Ok((exts, number)) => of_answer(&exts, number, left(&reader)),
-            Err(_) => REFUSED,
+            Err(e) => of_refused(&e),
         }
     }
 }
@@ -37,8 +39,25 @@ impl Parse for StructReadLimited {
                 let read = with(reader.layer_offset() as u64, reader.read_len() as u64);
                 with(of_answer(&exts, number, left(&reader.take_reader())), read)
             }
-            Err(_) => REFUSED,
+            Err(e) => of_refused_limited(&e),
         }
+    }
+}
+
+#[inline(never)]
+fn of_refused(error: &HeaderReadError) -> u64 {
+    match error {
+        HeaderReadError::Io(_) => REFUSED,
+        HeaderReadError::Content(e) => with(REFUSED, of_content(e)),
+    }
+}
+
+#[inline(never)]
+fn of_refused_limited(error: &HeaderLimitedReadError) -> u64 {
+    match error {
+        HeaderLimitedReadError::Io(_) => REFUSED,
+        HeaderLimitedReadError::Len(e) => with(REFUSED, of_len_error(e)),
+        HeaderLimitedReadError::Content(e) => with(REFUSED, of_content(e)),
     }
 }
 

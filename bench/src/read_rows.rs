@@ -2,8 +2,8 @@
 use crate::inputs::{self, Chain, Sides};
 use crate::original_reads;
 use crate::ours;
-use crate::rows::{again, form, full_chain, packet_calls, packet_loop, regular_chain, single};
-use crate::rows::{Form, Row, CALLS};
+use crate::rows::{again, form, full_chain, packet_calls, packet_loop, refusals, regular_chain};
+use crate::rows::{single, Form, Row, CALLS};
 
 /// All rows, over the packets that the chains' rows have too.
 pub fn rows(packets: Sides) -> Vec<Row> {
@@ -14,7 +14,8 @@ pub fn rows(packets: Sides) -> Vec<Row> {
         rows.push(regular_chain(&form, 0));
         rows.extend([8, 2040].map(|len| full_chain(&form, len)));
     }
-    rows.into_iter()
+    let mut rows: Vec<Row> = rows
+        .into_iter()
         .map(|row| Row {
             group: if row.name.contains("limited") {
                 "reads under a limit"
@@ -24,7 +25,9 @@ pub fn rows(packets: Sides) -> Vec<Row> {
             limit: None,
             ..row
         })
-        .collect()
+        .collect();
+    rows.extend(refused());
+    rows
 }
 
 /// Chains of six places.
@@ -44,6 +47,15 @@ fn forms() -> [Form; 2] {
             ipexts_struct_read_limited_packets,
         ),
     ]
+}
+
+/// Chains of six places that are refused.
+fn refused() -> Vec<Row> {
+    let mut rows: Vec<Row> = forms().iter().flat_map(refusals).collect();
+    for row in &mut rows {
+        row.group = "refused reads of six places";
+    }
+    rows
 }
 
 /// Each header, and one that is cut short.
@@ -111,12 +123,13 @@ fn headers() -> Vec<Row> {
     rows
 }
 
-/// The header of IPv4, and none.
+/// The header of IPv4, none, and one that is cut short.
 fn ipv4() -> Vec<Row> {
     let header = inputs::single(inputs::AUTH, 64);
     [
         ("a header of 64 bytes", header),
         ("no header", Chain::new(17, vec![17; 20])),
+        ("a header cut short", inputs::cut_short(inputs::AUTH)),
     ]
     .map(|(what, chain)| Row {
         group: "reads",

@@ -317,7 +317,7 @@ pub fn regular_chain(form: &Form, count: usize) -> Row {
 }
 
 /// Each refusal at the first header and behind four.
-fn refusals(form: &Form) -> Vec<Row> {
+pub fn refusals(form: &Form) -> Vec<Row> {
     let mut rows = Vec::new();
     for (why, number, bytes) in inputs::refusals() {
         // Hop by hop options are refused only behind another header.

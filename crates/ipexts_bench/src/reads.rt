@@ -1,10 +1,11 @@
 //! Headers and chains that are read from bytes in memory, with and without a limit. `at` chooses the bytes that
 //! are read of a header, so that none can be left out.
-use crate::digest::{of_bytes, with};
+use crate::digest::{of_bytes, of_content, of_len_error, with};
 use crate::headers::{of_owned_auth, of_owned_fragment, of_owned_raw};
 use crate::parses::Parse;
 use crate::structs::of_answer;
 use etherparse_ip::err::Layer;
+use etherparse_ip::err::ipv6_exts::{HeaderLimitedReadError, HeaderReadError};
 use etherparse_ip::io::LimitedReader;
 use etherparse_ip::{
     IpAuthHeader, IpNumber, Ipv4Extensions, Ipv6Extensions, Ipv6FragmentHeader, Ipv6RawExtHeader,
@@ -17,7 +18,7 @@ const LAYER_OFFSET: usize = 40;
 /// The limit, which the longest chain here doesn't reach.
 const LIMIT: usize = 1_048_576;
 
-/// The digest of a read that failed.
+/// The digest of a read that the reader refused.
 const REFUSED: u64 = 2;
 
 /// A chain that is read into a struct, read in full.
@@ -31,7 +32,7 @@ impl Parse for StructRead {
         let mut reader = bytes;
         match Ipv6Extensions::read(&mut reader, start) {
             Ok((exts, number)) => of_answer(&exts, number, reader),
-            Err(_) => REFUSED,
+            Err(e) => of_refused(&e),
         }
     }
 }
@@ -44,8 +45,27 @@ impl Parse for StructReadLimited {
                 let read = with(reader.layer_offset() as u64, reader.read_len() as u64);
                 with(of_answer(&exts, number, reader.take_reader()), read)
             }
-            Err(_) => REFUSED,
+            Err(e) => of_refused_limited(&e),
         }
+    }
+}
+
+/// Why a chain wasn't read.
+#[inline(never)]
+fn of_refused(error: &HeaderReadError) -> u64 {
+    match error {
+        HeaderReadError::Io(_) => REFUSED,
+        HeaderReadError::Content(e) => with(REFUSED, of_content(e)),
+    }
+}
+
+/// Why a chain wasn't read under a limit.
+#[inline(never)]
+fn of_refused_limited(error: &HeaderLimitedReadError) -> u64 {
+    match error {
+        HeaderLimitedReadError::Io(_) => REFUSED,
+        HeaderLimitedReadError::Len(e) => with(REFUSED, of_len_error(e)),
+        HeaderLimitedReadError::Content(e) => with(REFUSED, of_content(e)),
     }
 }
 

@@ -24,9 +24,10 @@ pub(crate) fn after(bytes: &[u8], len: usize) -> &[u8]
     &bytes[len..]
 }
 
-/// The header that goes on with the number at the bytes; `first` tells that no header is before it.
+/// The header that goes on with the number where the bytes begin; `first` says that no header is before it, since only
+/// there are hop by hop options one (RFC 8200, section 4.1). `None` where none goes on.
 #[inline]
-pub(crate) fn header_at(
+pub fn header_at(
     first: bool,
     number: IpNumber,
     bytes: &[u8],

@@ -3,6 +3,7 @@
 
 pub mod base;
 pub mod chains;
+pub mod cuts;
 pub mod from_etherparse;
 pub mod headers;
 pub mod ipv4;

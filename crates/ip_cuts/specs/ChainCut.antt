@@ -1,0 +1,33 @@
+-- What the cut of a chain says, in the plain fields that a caller in C reads.
+use Rattle.std.specs.Prelude.{ℕ, List, length, Bool, true, false}
+use Rattle.ip_spec.specs.Chain.{bytes_of, leads_to, has_fragmenting}
+use Rattle.ip_ext_slices.specs.Longest.{longest_chain}
+use Rattle.ip_ext_slices.specs.Fault.{chain_fault}
+use Rattle.ip_ext_ipv4.specs.Ipv4Longest.{longest_ipv4_chain}
+use Rattle.ip_ext_ipv4.specs.Ipv4Fault.{ipv4_chain_fault}
+use Rattle.ip_cuts.specs.FaultFields.{chain_fault_fields, ipv4_chain_fault_fields}
+use Rattle.ip_cuts.specs.declared.chain_cut.ChainCut.{ChainCut}
+
+abbrev pub flag : Bool → ℕ
+flag true = 1
+flag false = 0
+
+-- of the longest chain from number n that begins bytes s
+abbrev pub chain_cut : ℕ → List ℕ → ChainCut
+chain_cut n s = record {
+  headers = length (longest_chain n s);
+  len = length (bytes_of (longest_chain n s));
+  fault = chain_fault_fields (chain_fault n s);
+  next_header = leads_to n (longest_chain n s);
+  fragmented = flag (has_fragmenting (longest_chain n s));
+}
+
+-- of that of IPv4, of at most one authentication header
+abbrev pub ipv4_chain_cut : ℕ → List ℕ → ChainCut
+ipv4_chain_cut n s = record {
+  headers = length (longest_ipv4_chain n s);
+  len = length (bytes_of (longest_ipv4_chain n s));
+  fault = ipv4_chain_fault_fields (ipv4_chain_fault n s);
+  next_header = leads_to n (longest_ipv4_chain n s);
+  fragmented = 0;
+}

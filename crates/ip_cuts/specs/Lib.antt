@@ -1,0 +1,6 @@
+pub mod HeaderCut
+pub mod FaultFields
+pub mod ChainCut
+pub mod ChainCursor
+pub mod PacketCut
+pub mod HeaderFields

@@ -1,0 +1,261 @@
+//! Faults in plain fields, with codes that `specs/FaultFields.antt` lists.
+ghost use Rattle.std.specs.Prelude.{◌≡◌, IfSome, IfNone};
+ghost use Rattle.ip_base.specs.declared.err.layer.Layer.{Layer};
+ghost use Rattle.ip_base.specs.declared.len_source.LenSource.{LenSource};
+ghost use Rattle.ip_cuts.specs.FaultFields.{layer_code, len_source_code, len_fields, content_fields, no_fault};
+ghost use Rattle.ip_cuts.specs.FaultFields.{auth_error_fields, auth_fields, exts_error_fields, exts_fields};
+ghost use Rattle.ip_cuts.specs.FaultFields.{chain_fault_fields, ipv4_chain_fault_fields, base_error_fields};
+ghost use Rattle.ip_cuts.specs.FaultFields.{headers_error_fields, packet_fault_fields, ipv6_header_error_fields};
+ghost use Rattle.ip_cuts.specs.FaultFields.{ipv6_fault_fields};
+
+use etherparse_ip::LenSource;
+use etherparse_ip::err::{Layer, LenError, ip, ip_auth, ipv6, ipv6_exts};
+
+/// The kinds of faults.
+pub(crate) mod kind {
+    pub const NONE: u8 = 0;
+
+    pub const TOO_SHORT: u8 = 1;
+
+    pub const HOP_BY_HOP_NOT_AT_START: u8 = 2;
+
+    pub const ZERO_PAYLOAD_LEN: u8 = 3;
+
+    pub const UNSUPPORTED_IP_VERSION: u8 = 4;
+
+    pub const IPV4_HEADER_LENGTH: u8 = 5;
+}
+
+/// What is wrong. A field that the kind doesn't use is 0.
+#[repr(C)]
+#[derive(Clone, Copy, Debug, PartialEq, Eq)]
+pub struct FaultFields {
+    /// How many bytes are needed.
+    pub required_len: usize,
+    /// How many bytes there are.
+    pub len: usize,
+    /// Where what needs them begins, in bytes from the start of what was handed in.
+    pub offset: usize,
+    /// The kind of fault; 0 is none.
+    pub kind: u8,
+    /// The header at which a chain's fault lies, as a layer; 0 in a packet.
+    pub header: u8,
+    /// The layer that needs more bytes.
+    pub layer: u8,
+    /// What says `len`.
+    pub len_source: u8,
+    /// The version or the internet header length that is wrong.
+    pub value: u8,
+}
+
+/// The code of a layer.
+#[inline(always)]
+pub(crate) fn layer_code_of(layer: Layer) -> u8
+    ensures { result ≡ layer_code layer }
+{
+    match layer {
+        Layer::IpHeader => 1,
+        Layer::Ipv4Header => 2,
+        Layer::Ipv4Packet => 3,
+        Layer::IpAuthHeader => 4,
+        Layer::Ipv6Header => 5,
+        Layer::Ipv6Packet => 6,
+        Layer::Ipv6ExtHeader => 7,
+        Layer::Ipv6HopByHopHeader => 8,
+        Layer::Ipv6DestOptionsHeader => 9,
+        Layer::Ipv6RouteHeader => 10,
+        Layer::Ipv6FragHeader => 11,
+        Layer::Icmpv4 => 12,
+    }
+}
+
+/// The code of what says a length.
+#[inline(always)]
+pub(crate) fn len_source_code_of(source: LenSource) -> u8
+    ensures { result ≡ len_source_code source }
+{
+    match source {
+        LenSource::Slice => 1,
+        LenSource::Ipv4HeaderTotalLen => 2,
+        LenSource::Ipv6HeaderPayloadLen => 3,
+    }
+}
+
+impl FaultFields {
+    /// Nothing is wrong.
+    #[inline(always)]
+    pub(crate) fn none() -> FaultFields
+        ensures { result ≡ no_fault }
+    {
+        Self::of_content(0, kind::NONE, 0)
+    }
+
+    /// There are too few bytes.
+    #[inline(always)]
+    pub(crate) fn of_len(header: u8, error: &LenError) -> FaultFields
+        ensures { result ≡ len_fields header error.now }
+    {
+        FaultFields {
+            required_len: error.required_len,
+            len: error.len,
+            offset: error.layer_start_offset,
+            kind: kind::TOO_SHORT,
+            header,
+            layer: layer_code_of(error.layer),
+            len_source: len_source_code_of(error.len_source),
+            value: 0,
+        }
+    }
+
+    /// What a header says is wrong.
+    #[inline(always)]
+    fn of_content(header: u8, kind: u8, value: u8) -> FaultFields
+        ensures { result ≡ content_fields header kind value }
+    {
+        FaultFields {
+            required_len: 0,
+            len: 0,
+            offset: 0,
+            kind,
+            header,
+            layer: 0,
+            len_source: 0,
+            value,
+        }
+    }
+
+    /// What an authentication header says is wrong.
+    #[inline(always)]
+    fn of_auth_error(header: u8, error: &ip_auth::HeaderError) -> FaultFields
+        ensures { result ≡ auth_error_fields header error.now }
+    {
+        match error {
+            ip_auth::HeaderError::ZeroPayloadLen => {
+                Self::of_content(header, kind::ZERO_PAYLOAD_LEN, 0)
+            }
+        }
+    }
+
+    /// What an extension header of IPv6 says is wrong.
+    #[inline(always)]
+    fn of_exts_error(header: u8, error: &ipv6_exts::HeaderError) -> FaultFields
+        ensures { result ≡ exts_error_fields header error.now }
+    {
+        match error {
+            ipv6_exts::HeaderError::HopByHopNotAtStart => {
+                Self::of_content(header, kind::HOP_BY_HOP_NOT_AT_START, 0)
+            }
+            ipv6_exts::HeaderError::IpAuth(error) => Self::of_auth_error(header, error),
+        }
+    }
+
+    /// What is wrong where an IPv6 chain ends.
+    #[inline(always)]
+    pub(crate) fn of_chain(fault: &Option<(ipv6_exts::HeaderSliceError, Layer)>) -> FaultFields
+        ensures { result ≡ chain_fault_fields fault.now }
+    {
+        match fault {
+            None => Self::none(),
+            Some((ipv6_exts::HeaderSliceError::Len(error), header)) => {
+                Self::of_len(layer_code_of(*header), error)
+            }
+            Some((ipv6_exts::HeaderSliceError::Content(error), header)) => {
+                Self::of_exts_error(layer_code_of(*header), error)
+            }
+        }
+    }
+
+    /// What is wrong where a chain of IPv4 ends.
+    #[inline(always)]
+    pub(crate) fn of_ipv4_chain(fault: &Option<ip_auth::HeaderSliceError>) -> FaultFields
+        ensures { result ≡ ipv4_chain_fault_fields fault.now }
+    {
+        let header = layer_code_of(Layer::IpAuthHeader);
+        match fault {
+            None => Self::none(),
+            Some(ip_auth::HeaderSliceError::Len(error)) => Self::of_len(header, error),
+            Some(ip_auth::HeaderSliceError::Content(error)) => Self::of_auth_error(header, error),
+        }
+    }
+
+    /// What a base header says is wrong.
+    #[inline(always)]
+    fn of_base_error(error: &ip::HeaderError) -> FaultFields
+        ensures { result ≡ base_error_fields error.now }
+    {
+        match error {
+            ip::HeaderError::UnsupportedIpVersion { version_number } => {
+                Self::of_content(0, kind::UNSUPPORTED_IP_VERSION, *version_number)
+            }
+            ip::HeaderError::Ipv4HeaderLengthSmallerThanHeader { ihl } => {
+                Self::of_content(0, kind::IPV4_HEADER_LENGTH, *ihl)
+            }
+        }
+    }
+
+    /// Why no packet begins the bytes.
+    #[inline(always)]
+    pub(crate) fn of_packet(error: &ip::SliceError) -> FaultFields
+        ensures { result ≡ packet_fault_fields error.now }
+    {
+        match error {
+            ip::SliceError::Len(error) => Self::of_len(0, error),
+            ip::SliceError::IpHeaders(ip::HeadersError::Ip(error)) => Self::of_base_error(error),
+            ip::SliceError::IpHeaders(ip::HeadersError::Ipv4Ext(error)) => {
+                Self::of_auth_error(0, error)
+            }
+            ip::SliceError::IpHeaders(ip::HeadersError::Ipv6Ext(error)) => {
+                Self::of_exts_error(0, error)
+            }
+        }
+    }
+
+    /// Why no IPv6 packet does.
+    #[inline(always)]
+    pub(crate) fn of_ipv6_packet(error: &ipv6::SliceError) -> FaultFields
+        ensures { result ≡ ipv6_fault_fields error.now }
+    {
+        match error {
+            ipv6::SliceError::Len(error) => Self::of_len(0, error),
+            ipv6::SliceError::Header(ipv6::HeaderError::UnexpectedVersion { version_number }) => {
+                Self::of_content(0, kind::UNSUPPORTED_IP_VERSION, *version_number)
+            }
+            ipv6::SliceError::Exts(error) => Self::of_exts_error(0, error),
+        }
+    }
+}
+
+/// The layer of a code, where it is one.
+pub(crate) fn layer_of(code: u8) -> Option<Layer>
+    ensures some { IfSome result (λ layer. layer_code layer ≡ code) }
+    ensures none { IfNone result ((layer : Layer) → layer_code layer ≡ code → ⊥) }
+{
+    match code {
+        1 => Some(Layer::IpHeader),
+        2 => Some(Layer::Ipv4Header),
+        3 => Some(Layer::Ipv4Packet),
+        4 => Some(Layer::IpAuthHeader),
+        5 => Some(Layer::Ipv6Header),
+        6 => Some(Layer::Ipv6Packet),
+        7 => Some(Layer::Ipv6ExtHeader),
+        8 => Some(Layer::Ipv6HopByHopHeader),
+        9 => Some(Layer::Ipv6DestOptionsHeader),
+        10 => Some(Layer::Ipv6RouteHeader),
+        11 => Some(Layer::Ipv6FragHeader),
+        12 => Some(Layer::Icmpv4),
+        _ => None,
+    }
+}
+
+/// What says a length, of a code.
+pub(crate) fn len_source_of(code: u8) -> Option<LenSource>
+    ensures some { IfSome result (λ source. len_source_code source ≡ code) }
+    ensures none { IfNone result ((source : LenSource) → len_source_code source ≡ code → ⊥) }
+{
+    match code {
+        1 => Some(LenSource::Slice),
+        2 => Some(LenSource::Ipv4HeaderTotalLen),
+        3 => Some(LenSource::Ipv6HeaderPayloadLen),
+        _ => None,
+    }
+}

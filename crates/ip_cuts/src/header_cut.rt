@@ -1,0 +1,91 @@
+ghost use Rattle.std.specs.Prelude.{◌≡◌, ◌+◌, ◌<◌, ◌^◌, length};
+ghost use Rattle.ip_spec.specs.Chain.{bytes_of};
+ghost use Rattle.ip_ext_slices.specs.Ipv6ExtensionSlice.{header_of};
+ghost use Rattle.ip_ext_slices.specs.Ipv6ExtensionsSlice.{bytes, headers_in};
+ghost use Rattle.ip_ext_ipv4.specs.Ipv4ExtensionsSlice.{headers_in as ipv4_headers_in};
+ghost use Rattle.ip_cuts.specs.HeaderCut.{header_cut, cuts_from, filled};
+
+use etherparse_ip::{Ipv4ExtensionsSlice, Ipv6ExtensionSlice, Ipv6ExtensionsSlice, ip_number};
+
+/// Where an extension header lies in the bytes that were handed in, and the numbers that it names.
+#[repr(C)]
+#[derive(Clone, Copy, Debug, PartialEq, Eq)]
+pub struct HeaderCut {
+    /// Where it begins, in bytes from the start of what was handed in.
+    pub offset: usize,
+    /// How many bytes it has.
+    pub len: usize,
+    /// Its own number.
+    pub number: u8,
+    /// The number of what follows it.
+    pub next_header: u8,
+}
+
+impl HeaderCut {
+    /// That of the header, which begins at the offset.
+    #[inline(always)]
+    pub(crate) fn of(header: &Ipv6ExtensionSlice<'_>, offset: usize) -> HeaderCut
+        ensures { result ≡ header_cut offset (header_of header.now) }
+    {
+        HeaderCut {
+            offset,
+            len: header.slice().len(),
+            number: header.number().0,
+            next_header: header.next_header().0,
+        }
+    }
+}
+
+/// Puts the cuts of the headers at the front of `cuts`, as many as fit; the first header begins at the offset. The
+/// answer is how many headers there are.
+#[inline(always)]
+pub(crate) fn put_cuts(
+    headers: &Ipv6ExtensionsSlice<'_>,
+    offset: usize,
+    cuts: &mut [HeaderCut],
+) -> usize
+    requires { offset + length (bytes headers.now) < 2 ^ 64 }
+    ensures count { result ≡ length (headers_in headers.now) }
+    ensures cuts { cuts.new ≡ filled (cuts_from offset (headers_in headers.now)) cuts.old }
+{
+    let mut at = offset;
+    let mut count = 0;
+    let Ok(headers) = headers.clone() else {
+        unreachable!();
+    };
+    for header in headers {
+        let cut = HeaderCut::of(&header, at);
+        if count < cuts.len() {
+            cuts[count] = cut;
+        }
+        count += 1;
+        at += cut.len;
+    }
+    count
+}
+
+/// The same of an IPv4 packet's extension headers; with how many bytes they have.
+#[inline(always)]
+pub(crate) fn put_ipv4_cut(
+    headers: &Ipv4ExtensionsSlice<'_>,
+    offset: usize,
+    cuts: &mut [HeaderCut],
+) -> (usize, usize)
+    ensures count { result.0 ≡ length (ipv4_headers_in headers.now) }
+    ensures len { result.1 ≡ length (bytes_of (ipv4_headers_in headers.now)) }
+    ensures cuts { cuts.new ≡ filled (cuts_from offset (ipv4_headers_in headers.now)) cuts.old }
+{
+    let Some(header) = &headers.auth else {
+        return (0, 0);
+    };
+    let len = header.slice().len();
+    if !cuts.is_empty() {
+        cuts[0] = HeaderCut {
+            offset,
+            len,
+            number: ip_number::AUTH.0,
+            next_header: header.next_header().0,
+        };
+    }
+    (1, len)
+}

@@ -1,0 +1,20 @@
+//! Chains of extension headers (RFC 8200, section 4) and packets, cut into plain numbers: where each header lies,
+//! what follows, and what is wrong, in arrays and structs that the caller owns. Nothing is copied and nothing is
+//! allocated, and there is no value that C or WebAssembly couldn't hand in.
+#![tactic(auto)]
+
+mod chain_cursor;
+mod chain_cut;
+mod fault_fields;
+mod header_cut;
+mod header_fields;
+mod packet_cut;
+mod texts;
+
+pub use chain_cursor::ChainCursor;
+pub use chain_cut::{ChainCut, cut_chain, cut_ipv4_chain};
+pub use fault_fields::FaultFields;
+pub use header_cut::HeaderCut;
+pub use header_fields::{AuthFields, FragmentFields, auth_fields, fragment_fields};
+pub use packet_cut::{PacketCut, cut_packet, cut_packet_lax};
+pub use texts::fault_text;

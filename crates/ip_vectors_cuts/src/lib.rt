@@ -1,0 +1,11 @@
+//! Known answers of chains and packets that are cut into plain numbers.
+#![tactic(auto)]
+
+#[cfg(test)]
+mod chains;
+#[cfg(test)]
+mod packets;
+#[cfg(test)]
+mod samples;
+#[cfg(test)]
+mod texts;

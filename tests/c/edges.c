@@ -1,0 +1,139 @@
+/* What no line asks for: arrays that are too short, null, texts, cursors from anywhere, fields of single headers. */
+#include "wolfaren.h"
+
+#include <stdio.h>
+#include <stdlib.h>
+#include <string.h>
+
+/* Hop by hop options, destination options, routing, fragment, authentication and destination options. */
+static const uint8_t SIX[52] = {60, 0, 0, 0, 0, 0, 0, 0, 43, 0, 0, 0, 0, 0, 0, 0, 44, 0, 0, 0, 0, 0, 0, 0, 51, 0,
+                                0,  0, 0, 0, 0, 0, 60, 1, 0, 0, 0, 0, 0, 0, 0, 0, 0, 0, 17, 0, 0, 0, 0, 0, 0, 0};
+
+static const struct wolfaren_header CUTS[6] = {{0, 8, 0, 60},   {8, 8, 60, 43},   {16, 8, 43, 44},
+                                               {24, 8, 44, 51}, {32, 12, 51, 60}, {44, 8, 60, 17}};
+
+static void check(bool holds, const char *what)
+{
+    if (!holds) {
+        fprintf(stderr, "edges: %s\n", what);
+        exit(1);
+    }
+}
+
+static bool same_header(const struct wolfaren_header *a, const struct wolfaren_header *b)
+{
+    return a->offset == b->offset && a->len == b->len && a->number == b->number && a->next_header == b->next_header;
+}
+
+/* Arrays in memory of just their length: none, one less than the count, the count, and more. */
+static void arrays_of_each_length(void)
+{
+    const struct wolfaren_header stays = {7, 7, 7, 7};
+    for (size_t room = 0; room <= 8; room++) {
+        struct wolfaren_header *headers = malloc(room == 0 ? 1 : room * sizeof *headers);
+        check(headers != NULL, "memory");
+        for (size_t i = 0; i < room; i++) {
+            headers[i] = stays;
+        }
+        struct wolfaren_chain chain;
+        wolfaren_cut_chain(0, SIX, sizeof SIX, room == 0 ? NULL : headers, room, &chain);
+        check(chain.headers == 6 && chain.len == 52 && chain.next_header == 17, "a chain in an array of any length");
+        for (size_t i = 0; i < room; i++) {
+            check(same_header(&headers[i], i < 6 ? &CUTS[i] : &stays), "the headers that fit");
+        }
+        free(headers);
+    }
+}
+
+static void nothing_at_all(void)
+{
+    struct wolfaren_chain chain;
+    wolfaren_cut_chain(17, NULL, 0, NULL, 0, &chain);
+    check(chain.headers == 0 && chain.next_header == 17 && chain.fault.kind == WOLFAREN_NO_FAULT, "no bytes, no header");
+    wolfaren_cut_ipv4_chain(51, NULL, 0, NULL, 0, &chain);
+    check(chain.fault.kind == WOLFAREN_TOO_SHORT && chain.fault.required_len == 12, "no bytes of authentication");
+    struct wolfaren_packet packet;
+    wolfaren_cut_packet(NULL, 0, NULL, 0, &packet);
+    check(packet.version == 0 && packet.fault.layer == WOLFAREN_IP_HEADER, "no bytes, no packet");
+    wolfaren_cut_packet_lax(NULL, 0, NULL, 0, &packet);
+    check(packet.version == 0 && packet.fault.required_len == 1, "no bytes, no packet that is cut short");
+    struct wolfaren_fragment fragment;
+    struct wolfaren_authentication auth;
+    check(!wolfaren_fragment_fields(NULL, 0, &fragment), "no bytes, no fragment header");
+    check(!wolfaren_authentication_fields(NULL, 0, &auth), "no bytes, no authentication header");
+}
+
+static void texts(void)
+{
+    const char *words = "not enough bytes for Ipv6ExtHeader at offset 0: 8 needed, 0 there by Slice";
+    struct wolfaren_chain chain;
+    wolfaren_cut_chain(60, NULL, 0, NULL, 0, &chain);
+    char text[WOLFAREN_TEXT_ROOM];
+    check(wolfaren_fault_text(&chain.fault, text, sizeof text) == strlen(words), "a text's length");
+    check(strcmp(text, words) == 0, "a text");
+    memset(text, 'x', sizeof text);
+    check(wolfaren_fault_text(&chain.fault, text, strlen(words)) == strlen(words), "the length of a text without room");
+    check(text[0] == 'x', "nothing is written where the text has no room");
+    check(wolfaren_fault_text(&chain.fault, NULL, 0) == strlen(words), "the length of a text in no array");
+    chain.fault.kind = 200;
+    check(wolfaren_fault_text(&chain.fault, text, sizeof text) == 0 && text[0] == 0, "a kind that is none");
+    chain.fault.kind = WOLFAREN_TOO_SHORT;
+    chain.fault.layer = 200;
+    check(wolfaren_fault_text(&chain.fault, text, sizeof text) == 0, "a layer that is none");
+}
+
+static void cursors_from_anywhere(void)
+{
+    struct wolfaren_header header = {7, 7, 7, 7};
+    const struct wolfaren_header stays = header;
+    struct wolfaren_cursor cursor = {SIZE_MAX, WOLFAREN_DESTINATION_OPTIONS};
+    check(!wolfaren_next_header(&cursor, SIX, sizeof SIX, &header), "no header behind the bytes");
+    check(cursor.offset == SIZE_MAX && cursor.number == 60 && same_header(&header, &stays), "nothing is written");
+    struct wolfaren_fault fault;
+    wolfaren_fault_at(&cursor, SIX, sizeof SIX, &fault);
+    check(fault.kind == WOLFAREN_TOO_SHORT && fault.offset == SIZE_MAX && fault.len == 0, "a fault behind the bytes");
+    cursor.offset = 8;
+    cursor.number = WOLFAREN_HOP_BY_HOP;
+    wolfaren_fault_at(&cursor, SIX, sizeof SIX, &fault);
+    check(fault.kind == WOLFAREN_HOP_BY_HOP_NOT_AT_START, "hop by hop options later");
+    cursor.number = WOLFAREN_DESTINATION_OPTIONS;
+    check(wolfaren_next_header(&cursor, SIX, sizeof SIX, &header) && same_header(&header, &CUTS[1]), "a step");
+    check(cursor.offset == 16 && cursor.number == WOLFAREN_ROUTING, "the cursor behind it");
+}
+
+static void fields_of_single_headers(void)
+{
+    const uint8_t bytes[8] = {17, 0, 0, 0xe1, 1, 2, 3, 4};
+    struct wolfaren_fragment fragment;
+    check(wolfaren_fragment_fields(bytes, sizeof bytes, &fragment), "a fragment header");
+    check(fragment.fragment_offset == 28 && fragment.more_fragments == 1, "where a fragment lies");
+    check(fragment.identification == 0x01020304 && fragment.next_header == 17, "a fragment's packet");
+    const uint8_t auth_bytes[12] = {17, 1, 0xff, 0xff, 0, 0, 0, 1, 0, 0, 0, 2};
+    struct wolfaren_authentication auth;
+    check(wolfaren_authentication_fields(auth_bytes, sizeof auth_bytes, &auth), "an authentication header");
+    check(auth.len == 12 && auth.spi == 1 && auth.sequence_number == 2 && auth.next_header == 17, "its fields");
+}
+
+static void a_packet_that_is_cut_short(void)
+{
+    uint8_t bytes[48] = {0x60, 0, 0, 0, 0, 100, 60, 64};
+    bytes[40] = 17;
+    struct wolfaren_packet packet;
+    struct wolfaren_header header;
+    wolfaren_cut_packet(bytes, sizeof bytes, &header, 1, &packet);
+    check(packet.fault.kind == WOLFAREN_TOO_SHORT && packet.fault.layer == WOLFAREN_IPV6_PACKET, "a strict cut");
+    wolfaren_cut_packet_lax(bytes, sizeof bytes, &header, 1, &packet);
+    check(packet.version == 6 && packet.headers == 1 && packet.len_source == WOLFAREN_SLICE, "a lax cut");
+    check(packet.payload_offset == 48 && packet.payload_len == 0 && header.offset == 40, "its parts");
+}
+
+int main(void)
+{
+    arrays_of_each_length();
+    nothing_at_all();
+    texts();
+    cursors_from_anywhere();
+    fields_of_single_headers();
+    a_packet_that_is_cut_short();
+    return 0;
+}

@@ -78,7 +78,11 @@ fn base(rt: HostRuntime) -> Result<(), Fail> {
     are_told_apart(
         &rt,
         &[IpFragOffset::try_new(0)?, IpFragOffset::try_new(8191)?],
-    )?;
+    )
+}
+
+#[test]
+fn sources_and_layers(rt: HostRuntime) -> Result<(), Fail> {
     are_told_apart(
         &rt,
         &[

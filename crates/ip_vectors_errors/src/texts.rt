@@ -64,19 +64,6 @@ fn lengths(rt: HostRuntime) -> Result<(), Fail> {
         &nothing,
         "not enough bytes for IpHeader at offset 0: 0 needed, 0 there by Ipv4HeaderTotalLen",
     )?;
-    let largest = LenError {
-        required_len: usize::MAX,
-        len: usize::MAX,
-        len_source: LenSource::Ipv6HeaderPayloadLen,
-        layer: Layer::Ipv6HopByHopHeader,
-        layer_start_offset: usize::MAX,
-    };
-    says(
-        &rt,
-        alloc,
-        &largest,
-        "not enough bytes for Ipv6HopByHopHeader at offset 18446744073709551615: 18446744073709551615 needed, 18446744073709551615 there by Ipv6HeaderPayloadLen",
-    )?;
     // Each number stands in its own place.
     let counted = LenError {
         required_len: 1,
@@ -90,6 +77,23 @@ fn lengths(rt: HostRuntime) -> Result<(), Fail> {
         alloc,
         &counted,
         "not enough bytes for Icmpv4 at offset 3: 1 needed, 2 there by Slice",
+    )
+}
+
+#[test]
+fn lengths_at_their_largest(rt: HostRuntime) -> Result<(), Fail> {
+    let largest = LenError {
+        required_len: usize::MAX,
+        len: usize::MAX,
+        len_source: LenSource::Ipv6HeaderPayloadLen,
+        layer: Layer::Ipv6HopByHopHeader,
+        layer_start_offset: usize::MAX,
+    };
+    says(
+        &rt,
+        rt.alloc(),
+        &largest,
+        "not enough bytes for Ipv6HopByHopHeader at offset 18446744073709551615: 18446744073709551615 needed, 18446744073709551615 there by Ipv6HeaderPayloadLen",
     )
 }
 
@@ -429,6 +433,12 @@ fn ipv6_walks(rt: HostRuntime) -> Result<(), Fail> {
             text,
         )?;
     }
+    Ok(())
+}
+
+#[test]
+fn ipv6_walks_and_writes(rt: HostRuntime) -> Result<(), Fail> {
+    let alloc = rt.alloc();
     says(
         &rt,
         alloc,

@@ -217,6 +217,25 @@ struct wolfaren_authentication {
  */
 bool wolfaren_authentication_fields(const uint8_t *bytes, size_t len, struct wolfaren_authentication *fields);
 
+/*
+ * Leads each header to the next in the array, and the last to `last`: changes `next_header` of each, and nothing else.
+ * Answers the number of the first, to which what is before the headers has to lead, or `last` where there are none.
+ */
+uint8_t wolfaren_link_headers(struct wolfaren_header *headers, size_t count, uint8_t last);
+
+/*
+ * Writes headers from where they lie in the `len` bytes to the front of `out`, one behind the other in the order of the
+ * array: each with the `next_header` of its element, and with its reserved bits zero. So a chain is written in another
+ * order, or without some of its headers, by an array that was linked anew. Where the elements are linked, and hop by hop
+ * options are only first, what is written is a chain again from the number of the first.
+ *
+ * Where all were written, answers true and puts how many bytes they have into `written`. Else nothing is written and the
+ * answer is false: `*written` is how many bytes they would have, which is above `room`, or 0 where some element doesn't
+ * lie within the bytes or isn't just one header of its number.
+ */
+bool wolfaren_write_headers(const uint8_t *bytes, size_t len, const struct wolfaren_header *headers, size_t count,
+                            uint8_t *out, size_t room, size_t *written);
+
 /* Room for every text of a fault and the zero behind it, in bytes. */
 #define WOLFAREN_TEXT_ROOM 256
 

@@ -114,6 +114,29 @@ static void fields_of_single_headers(void)
     check(auth.len == 12 && auth.spi == 1 && auth.sequence_number == 2 && auth.next_header == 17, "its fields");
 }
 
+/* The six headers without the routing header, and then in too little room, and from bytes that are none. */
+static void headers_that_are_written(void)
+{
+    struct wolfaren_header headers[5] = {CUTS[0], CUTS[1], CUTS[3], CUTS[4], CUTS[5]};
+    check(wolfaren_link_headers(headers, 5, 6) == 0, "the first of the links");
+    check(headers[1].next_header == 44 && headers[4].next_header == 6, "links");
+    check(wolfaren_link_headers(NULL, 0, 6) == 6, "links of none");
+    uint8_t *out = malloc(44);
+    check(out != NULL, "memory");
+    memset(out, 9, 44);
+    size_t written = 7;
+    check(!wolfaren_write_headers(SIX, sizeof SIX, headers, 5, out, 43, &written) && written == 44, "room for 43");
+    check(out[0] == 9 && out[43] == 9, "nothing is written");
+    check(wolfaren_write_headers(SIX, sizeof SIX, headers, 5, out, 44, &written) && written == 44, "room for 44");
+    struct wolfaren_chain chain;
+    wolfaren_cut_chain(0, out, 44, NULL, 0, &chain);
+    check(chain.headers == 5 && chain.len == 44 && chain.next_header == 6, "what is written is read");
+    free(out);
+    headers[2].len = 16;
+    check(!wolfaren_write_headers(SIX, sizeof SIX, headers, 5, NULL, 0, &written) && written == 0, "no header");
+    check(wolfaren_write_headers(NULL, 0, NULL, 0, NULL, 0, &written) && written == 0, "nothing to write");
+}
+
 static void a_packet_that_is_cut_short(void)
 {
     uint8_t bytes[48] = {0x60, 0, 0, 0, 0, 100, 60, 64};
@@ -134,6 +157,7 @@ int main(void)
     texts();
     cursors_from_anywhere();
     fields_of_single_headers();
+    headers_that_are_written();
     a_packet_that_is_cut_short();
     return 0;
 }

@@ -1,1 +1,2 @@
 pub mod PacketCutLemmas
+pub mod WrittenLemmas

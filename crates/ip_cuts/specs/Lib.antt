@@ -4,3 +4,5 @@ pub mod ChainCut
 pub mod ChainCursor
 pub mod PacketCut
 pub mod HeaderFields
+pub mod Links
+pub mod Written

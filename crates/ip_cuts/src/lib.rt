@@ -8,13 +8,17 @@ mod chain_cut;
 mod fault_fields;
 mod header_cut;
 mod header_fields;
+mod links;
 mod packet_cut;
 mod texts;
+mod writes;
 
 pub use chain_cursor::ChainCursor;
 pub use chain_cut::{ChainCut, cut_chain, cut_ipv4_chain};
 pub use fault_fields::FaultFields;
 pub use header_cut::HeaderCut;
 pub use header_fields::{AuthFields, FragmentFields, auth_fields, fragment_fields};
+pub use links::link_headers;
 pub use packet_cut::{PacketCut, cut_packet, cut_packet_lax};
 pub use texts::fault_text;
+pub use writes::write_headers;

@@ -9,3 +9,5 @@ mod packets;
 mod samples;
 #[cfg(test)]
 mod texts;
+#[cfg(test)]
+mod writes;

@@ -7,3 +7,4 @@ mod chains;
 mod faults;
 mod headers;
 mod packets;
+mod writes;

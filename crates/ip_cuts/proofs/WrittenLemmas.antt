@@ -1,0 +1,110 @@
+-- Headers that are written one behind the other.
+use Rattle.std.proofs.Common.{◌≡◌, refl, ap, sym, ◌∙◌, subst, ℕ, ◌+◌, ◌-◌, ◌*◌, ◌≤◌, ◌<◌, ◌≢◌, List, [], ◌∷◌, ◌++◌, length, take, drop, slice_index_or, slice_set, true, arith, rules, append_assoc, length-append}
+use Rattle.std.proofs.lemmas.List.{drop_more, drop-drop, length-take-le, length-drop, length-set, get_or-set_other, get_or-set_same}
+use Rattle.std.specs.Prelude.{slice_index}
+use Rattle.std.specs.List.{AllByRecursion}
+use Rattle.std.proofs.lemmas.Slice.{take-put_mid, drop-put_mid}
+use Rattle.std.proofs.Math.Seq.{take-length}
+use borrow.Rule.Slice.PartMut.{put_mid}
+use Rattle.ip_spec.specs.Numbers.{HOP_BY_HOP}
+use Rattle.ip_spec.specs.Header.{IsHeader, raw, fragment, auth}
+use Rattle.ip_spec.specs.Fields.{next_header}
+use Rattle.ip_spec.specs.Chain.{ExtHeader, IsEnd, IsChain, AreLinked}
+use Rattle.ip_spec.proofs.HeaderLemmas.{header-least}
+use Rattle.ip_spec.specs.Cleared.{cleared_header}
+use Rattle.ip_spec.proofs.ClearedLemmas.{ClearedSame, cleared_same}
+use Rattle.ip_cuts.specs.Written.{bytes_at, LiesIn, AllLieIn, written_header, written_cuts, written_chain, begun_with, AreCutsLinked, AreChainCuts}
+use Rattle.ip_cuts.specs.declared.header_cut.HeaderCut.{HeaderCut}
+
+-- where no header goes on, the bytes aren't one
+pub none_at_end : (n : ℕ) (b : List ℕ) → IsEnd true n b → IsHeader n b → ⊥
+none_at_end n b end header =
+    end (record { number = n; bytes = b }) (record { number = refl; header = header; prefix = take-length b; zero_only_first = λ _. refl })
+
+-- what is written of a header has its length
+pub written_len : (s : List ℕ) (x : HeaderCut) → LiesIn s x → length (written_header x.number x.next_header (bytes_at s x)) ≡ x.len
+written_len s x lies =
+    let there : x.len ≤ length (drop x.offset s) = let within : x.offset + x.len ≤ length s = lies.within in rw length-drop (omega arith) in
+    length-set (cleared_header x.number (bytes_at s x)) 0 x.next_header
+    ∙ (cleared_same (bytes_at s x) x.number lies.header).len
+    ∙ length-take-le x.len (drop x.offset s) there
+
+-- a header more is put where those before it end
+pub put_more : (at k j : ℕ) (out b ws : List ℕ) → length b ≡ k → j ≡ k → at + k ≤ length out → take (at + k) (put_mid at j out b) ++ begun_with ws (drop (at + k) (put_mid at j out b)) ≡ take at out ++ begun_with (b ++ ws) (drop at out)
+put_more at k j out b ws len same room =
+    let j_len : length b ≡ j = len ∙ sym same in
+    let front : take (at + k) (put_mid at j out b) ≡ take at out ++ b = take-put_mid at j out b (at + k) (ap (λ n. at + n) (sym len)) (omega arith) in
+    let behind : drop (at + k) (put_mid at j out b) ≡ drop (at + k) out = drop-put_mid at j out b (at + k) (omega arith) (omega arith) j_len in
+    let rest : drop (length ws) (drop (at + k) out) ≡ drop (length (b ++ ws)) (drop at out) =
+    drop-drop (length ws) (at + k) out ∙ ap (λ n. drop n out) (omega (arith, length-append b ws, len)) ∙ sym (drop-drop (length (b ++ ws)) at out) in
+    ap (λ xs. xs ++ begun_with ws (drop (at + k) (put_mid at j out b))) front
+    ∙ ap (λ xs. (take at out ++ b) ++ begun_with ws xs) behind
+    ∙ ap (λ xs. (take at out ++ b) ++ (ws ++ xs)) rest
+    ∙ append_assoc (take at out) b (ws ++ drop (length (b ++ ws)) (drop at out))
+    ∙ ap (λ xs. take at out ++ xs) (sym (append_assoc b ws (drop (length (b ++ ws)) (drop at out))))
+
+-- What `put_headers` keeps: the headers from place i on lie in s, there is room for them from `at` on, and with what was
+-- put before they are all.
+pub record Putting (s : List ℕ) (cuts : List HeaderCut) (old : List ℕ) (i at : ℕ) (out : List ℕ) : Type 0 where
+  pub lie : AllLieIn s (drop i cuts)
+  pub room : at + length (written_cuts s (drop i cuts)) ≤ length old
+  pub put : take at out ++ begun_with (written_cuts s (drop i cuts)) (drop at out) ≡ begun_with (written_cuts s cuts) old
+
+pub putting_more : (s : List ℕ) (cuts : List HeaderCut) (old : List ℕ) (i at j : ℕ) (out b : List ℕ) (d : HeaderCut) → Putting s cuts old i at out → length out ≡ length old → i < length cuts → j ≡ (slice_index_or cuts i d).len → b ≡ written_header (slice_index_or cuts i d).number (slice_index_or cuts i d).next_header (bytes_at s (slice_index_or cuts i d)) → Putting s cuts old (i + 1) (at + (slice_index_or cuts i d).len) (put_mid at j out b)
+putting_more s cuts old i at j out b d putting same there j_len is =
+    let x : HeaderCut = slice_index_or cuts i d in
+    let ws : List ℕ = written_cuts s (drop (i + 1) cuts) in
+    let split : drop i cuts ≡ x ∷ drop (i + 1) cuts = drop_more cuts i d there in
+    let lie : AllLieIn s (x ∷ drop (i + 1) cuts) = subst (AllLieIn s) split putting.lie in
+    let len : length b ≡ x.len = ap length is ∙ written_len s x lie.0 in
+    let all : written_cuts s (drop i cuts) ≡ b ++ ws = ap (written_cuts s) split ∙ ap (λ y. y ++ ws) (sym is) in
+    let room : at + (x.len + length ws) ≤ length old =
+    subst (λ n. at + n ≤ length old) (ap length all ∙ length-append b ws ∙ ap (λ n. n + length ws) len) putting.room in
+    record {
+      lie = lie.1;
+      room = omega arith;
+      put = put_more at x.len j out b ws len j_len (omega arith) ∙ ap (λ y. take at out ++ begun_with y (drop at out)) (sym all) ∙ putting.put;
+    }
+
+-- A header with another next header is one,
+relinked_header : (n m : ℕ) (b : List ℕ) → IsHeader n b → IsHeader n (slice_set b 0 m)
+relinked_header n m b header =
+    let len : length (slice_set b 0 m) ≡ length b = length-set b 0 m in
+    let one : slice_index (slice_set b 0 m) 1 ≡ slice_index b 1 = get_or-set_other b 0 1 m 0 (λ e. absurd (search rules)) in
+    elim header [
+      | raw k h ↦ raw k (record { least = rw len h.least; len = len ∙ h.len ∙ ap (λ i. 8 * (i + 1)) (sym one) })
+      | fragment k h ↦ fragment k (record { len = len ∙ h.len })
+      | auth k h ↦ auth k (record { not_zero = rw one h.not_zero; len = len ∙ h.len ∙ ap (λ i. 4 * (i + 2)) (sym one) })
+    ]
+
+-- and leads there.
+relinked_leads : (n m : ℕ) (b : List ℕ) → IsHeader n b → next_header (slice_set b 0 m) ≡ m
+relinked_leads n m b header = let least : 8 ≤ length b = header-least n b header in get_or-set_same b 0 m 0 (omega arith)
+
+-- So what is written of headers that are linked is a chain.
+module _ (s : List ℕ) where
+  written_headers : (xs : List HeaderCut) → AllLieIn s xs → AllByRecursion (λ h. IsHeader h.number h.bytes) (written_chain s xs)
+  written_headers [] lie = lie
+  written_headers (x ∷ xs) lie = (relinked_header x.number x.next_header _ (cleared_same (bytes_at s x) x.number lie.0.header).header, written_headers xs lie.1)
+
+  written_links : (n : ℕ) (xs : List HeaderCut) → AllLieIn s xs → AreCutsLinked n xs → AreLinked n (written_chain s xs)
+  written_links n [] lie links = links
+  written_links n (x ∷ xs) lie links =
+      let leads : next_header (written_header x.number x.next_header (bytes_at s x)) ≡ x.next_header =
+      relinked_leads x.number x.next_header _ (cleared_same (bytes_at s x) x.number lie.0.header).header in
+      (links.0, subst (λ m. AreLinked m (written_chain s xs)) (sym leads) (written_links x.next_header xs lie.1 links.1))
+
+  written_not_zero : (xs : List HeaderCut) → AllByRecursion (λ x. x.number ≢ HOP_BY_HOP) xs → AllByRecursion (λ h. h.number ≢ HOP_BY_HOP) (written_chain s xs)
+  written_not_zero [] none = none
+  written_not_zero (x ∷ xs) none = (none.0, written_not_zero xs none.1)
+
+  written_zero_first : (xs : List HeaderCut) → AllByRecursion (λ x. x.number ≢ HOP_BY_HOP) (drop 1 xs) → AllByRecursion (λ h. h.number ≢ HOP_BY_HOP) (drop 1 (written_chain s xs))
+  written_zero_first [] none = none
+  written_zero_first (x ∷ xs) none = written_not_zero xs none
+
+  pub written_is_chain : (n : ℕ) (xs : List HeaderCut) → AllLieIn s xs → AreChainCuts n xs → IsChain n (written_chain s xs)
+  written_is_chain n xs lie cuts = record {
+    headers = written_headers xs lie;
+    links = written_links n xs lie cuts.links;
+    zero_only_first = written_zero_first xs cuts.zero_only_first;
+  }

@@ -1,0 +1,162 @@
+#include "capture.h"
+
+#include <errno.h>
+#include <stdio.h>
+#include <string.h>
+#include <sys/stat.h>
+#include <unistd.h>
+
+#include "link_layer.h"
+#include "report.h"
+
+/* After how many packets it is looked whether it is time to tell how far the reading has come. */
+enum { PROGRESS_PACKETS = 1024 };
+
+enum { MAGIC_LEN = 4 };
+
+/*
+ * Reads the first bytes of a file, as many as there are, and puts them back. They stand in the buffer then, where any C
+ * library can put back what it has just given; it answers so, and is asked.
+ */
+static bool look_at_magic(FILE *file, uint8_t magic[MAGIC_LEN]) {
+    size_t len = fread(magic, 1, MAGIC_LEN, file);
+    if (ferror(file)) return false;
+    clearerr(file);
+    for (size_t i = len; i > 0; i--)
+        if (ungetc(magic[i - 1], file) == EOF) return false;
+    memset(magic + len, 0, MAGIC_LEN - len);
+    return true;
+}
+
+/* Whether times may have to be kept in nanoseconds: in files that say so, of either byte order, and in pcapng. */
+static bool has_nanoseconds(const uint8_t magic[MAGIC_LEN]) {
+    static const uint8_t magics[][MAGIC_LEN] = {
+        {0xa1, 0xb2, 0x3c, 0x4d}, {0x4d, 0x3c, 0xb2, 0xa1}, {0x0a, 0x0d, 0x0d, 0x0a}};
+    for (size_t i = 0; i < sizeof magics / sizeof magics[0]; i++)
+        if (memcmp(magics[i], magic, MAGIC_LEN) == 0) return true;
+    return false;
+}
+
+static bool open_file(struct capture *capture, const char *path) {
+    bool is_input = !path || strcmp(path, "-") == 0;
+    capture->name = is_input ? "standard input" : path;
+    capture->file = is_input ? stdin : fopen(path, "rb");
+    if (capture->file) return true;
+    complain("%s: %s", capture->name, strerror(errno));
+    return false;
+}
+
+static void close_file(struct capture *capture) {
+    if (capture->file != stdin) fclose(capture->file);
+}
+
+/* Says why a capture of this link layer isn't read. */
+static void complain_of_link_layer(const struct capture *capture) {
+    const char *name = pcap_datalink_val_to_name(capture->link_layer);
+    const char *words = pcap_datalink_val_to_description(capture->link_layer);
+    if (name && words)
+        complain("%s: link layer %s (%s) isn't supported", capture->name, name, words);
+    else
+        complain("%s: link layer %d isn't supported", capture->name, capture->link_layer);
+}
+
+static bool open_handle(struct capture *capture) {
+    uint8_t magic[MAGIC_LEN];
+    char error[PCAP_ERRBUF_SIZE] = "";
+    errno = 0;
+    if (!look_at_magic(capture->file, magic)) {
+        complain("%s: %s", capture->name, errno ? strerror(errno) : "can't be read");
+        return false;
+    }
+    unsigned precision = has_nanoseconds(magic) ? PCAP_TSTAMP_PRECISION_NANO : PCAP_TSTAMP_PRECISION_MICRO;
+    capture->handle = pcap_fopen_offline_with_tstamp_precision(capture->file, precision, error);
+    if (!capture->handle) {
+        complain("%s: %s", capture->name, error);
+        return false;
+    }
+    capture->link_layer = pcap_datalink(capture->handle);
+    if (is_known_link_layer(capture->link_layer)) return true;
+    complain_of_link_layer(capture);
+    return false;
+}
+
+/* Looks at what is read, and whether anyone sees progress that isn't mixed with the answer. */
+static void begin_progress(struct capture *capture) {
+    struct stat status;
+    bool is_file = fstat(fileno(capture->file), &status) == 0 && S_ISREG(status.st_mode);
+    capture->is_live = !is_file;
+    capture->len = is_file ? status.st_size : 0;
+    capture->shows_progress = isatty(STDERR_FILENO) && !isatty(STDOUT_FILENO);
+    if (clock_gettime(CLOCK_MONOTONIC, &capture->shown) != 0) capture->shows_progress = false;
+}
+
+bool open_capture(struct capture *capture, const char *path) {
+    *capture = (struct capture){0};
+    if (!open_file(capture, path)) return false;
+    if (open_handle(capture)) {
+        begin_progress(capture);
+        return true;
+    }
+    if (capture->handle)
+        close_capture(capture);
+    else
+        close_file(capture);
+    return false;
+}
+
+/* Takes the line of progress away, if there is one. */
+static void clear_progress(const struct capture *capture) {
+    if (capture->shows_progress && capture->number >= PROGRESS_PACKETS) fputs("\r\033[K", stderr);
+}
+
+/* Tells how far the reading has come, once in a second. */
+static void show_progress(struct capture *capture) {
+    struct timespec now;
+    if (!capture->shows_progress || capture->number % PROGRESS_PACKETS != 0) return;
+    if (clock_gettime(CLOCK_MONOTONIC, &now) != 0 || now.tv_sec == capture->shown.tv_sec) return;
+    capture->shown = now;
+    fprintf(stderr, "\r\033[K%s: %llu packets", capture->name, (unsigned long long)capture->number);
+    off_t at = ftello(capture->file);
+    if (capture->len > 0 && at >= 0 && at <= capture->len)
+        fprintf(stderr, ", %d %%", (int)((double)at * 100 / (double)capture->len));
+    fflush(stderr);
+}
+
+/* Says at which packet the reading failed. */
+static void complain_of_end(struct capture *capture) {
+    clear_progress(capture);
+    complain("%s: ends at packet %llu: %s", capture->name, (unsigned long long)capture->number + 1,
+             pcap_geterr(capture->handle));
+}
+
+enum reading read_packet(struct capture *capture, struct packet *packet) {
+    struct pcap_pkthdr *header;
+    int answer = pcap_next_ex(capture->handle, &header, &packet->frame);
+    if (answer == PCAP_ERROR_BREAK) {
+        clear_progress(capture);
+        return READ_END;
+    }
+    if (answer != 1) {
+        complain_of_end(capture);
+        return READ_FAILED;
+    }
+    capture->number++;
+    show_progress(capture);
+    packet->header = *header;
+    packet->is_short = header->caplen < header->len;
+    packet->is_ip = find_ip(capture->link_layer, packet->frame, header->caplen, &packet->ip_offset);
+    return READ_PACKET;
+}
+
+bool cut_captured(struct cut *cut, const struct packet *packet) {
+    size_t len = packet->header.caplen - packet->ip_offset;
+    if (cut_packet(cut, packet->frame + packet->ip_offset, len, packet->is_short)) return true;
+    complain_of_memory();
+    return false;
+}
+
+void close_capture(struct capture *capture) {
+    bool is_input = capture->file == stdin;
+    pcap_close(capture->handle);
+    if (is_input) clearerr(stdin);
+}

@@ -1,0 +1,70 @@
+#include "chain_key.h"
+
+#include <stdio.h>
+#include <string.h>
+
+#include "names.h"
+
+/* The bytes of a key: version, how many headers, their numbers, and at fixed places behind them the last two. */
+enum { VERSION_AT = 0, COUNT_AT = 1, NUMBERS_AT = 2, NEXT_AT = NUMBERS_AT + KEY_HEADERS, END_AT, KEY_USED };
+
+_Static_assert((int)KEY_USED <= (int)KEY_BYTES, "a chain's key fits");
+
+static const char *const end_words[] = {[CHAIN_WHOLE] = "", [CHAIN_FAULTY] = " fault", [CHAIN_CUT] = " cut"};
+
+bool chain_key(const struct cut *cut, struct key *key) {
+    if (cut->count > KEY_HEADERS) return false;
+    memset(key, 0, sizeof *key);
+    key->bytes[VERSION_AT] = cut->version;
+    key->bytes[COUNT_AT] = (uint8_t)cut->count;
+    for (size_t i = 0; i < cut->count; i++) key->bytes[NUMBERS_AT + i] = cut->headers[i].number;
+    key->bytes[NEXT_AT] = cut->number;
+    key->bytes[END_AT] = (uint8_t)cut->end;
+    return true;
+}
+
+void write_chain(const struct key *key, char text[CHAIN_TEXT_ROOM]) {
+    const uint8_t *bytes = key->bytes;
+    int len = snprintf(text, CHAIN_TEXT_ROOM, "IPv%d ", bytes[VERSION_AT]);
+    for (size_t i = 0; i < bytes[COUNT_AT]; i++)
+        len += snprintf(text + len, CHAIN_TEXT_ROOM - (size_t)len, i == 0 ? "%d" : ",%d", bytes[NUMBERS_AT + i]);
+    snprintf(text + len, CHAIN_TEXT_ROOM - (size_t)len, "%s-> %d%s", bytes[COUNT_AT] == 0 ? "" : " ", bytes[NEXT_AT],
+             end_words[bytes[END_AT]]);
+}
+
+/* Puts `text` behind the words where it begins with them. */
+static bool take_words(const char **text, const char *words) {
+    size_t len = strlen(words);
+    if (strncmp(*text, words, len) != 0) return false;
+    *text += len;
+    return true;
+}
+
+/* Reads the numbers before the arrow, with the space behind them. */
+static bool read_numbers(const char **text, struct key *key) {
+    uint8_t *count = &key->bytes[COUNT_AT];
+    if (**text == '-') return true;
+    do {
+        if (*count == KEY_HEADERS || !read_byte_number(text, &key->bytes[NUMBERS_AT + *count])) return false;
+        ++*count;
+    } while (take_words(text, ","));
+    return take_words(text, " ");
+}
+
+bool read_chain(const char *text, struct key *key) {
+    memset(key, 0, sizeof *key);
+    if (!take_words(&text, "IPv") || !read_byte_number(&text, &key->bytes[VERSION_AT])) return false;
+    if (key->bytes[VERSION_AT] != 4 && key->bytes[VERSION_AT] != 6) return false;
+    if (!take_words(&text, " ") || !read_numbers(&text, key)) return false;
+    if (!take_words(&text, "-> ") || !read_byte_number(&text, &key->bytes[NEXT_AT])) return false;
+    for (uint8_t end = CHAIN_WHOLE; end <= CHAIN_CUT; end++) {
+        if (strcmp(text, end_words[end]) != 0) continue;
+        key->bytes[END_AT] = end;
+        return true;
+    }
+    return false;
+}
+
+uint8_t key_version(const struct key *key) {
+    return key->bytes[VERSION_AT];
+}

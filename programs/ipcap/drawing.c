@@ -1,0 +1,171 @@
+#include "drawing.h"
+
+#include <stdio.h>
+#include <string.h>
+
+#include "names.h"
+
+/* A row shows 16 bytes, each in a cell of two digits and a space. */
+enum { ROW_BYTES = 16, CELL = 3, ROW_WIDTH = ROW_BYTES * CELL };
+
+/* What is shown of a packet without a chain. */
+enum { UNREAD_BYTES = 64 };
+
+static const char fault_color[] = "\033[1;31m", plain_color[] = "\033[0m";
+
+/* Some bytes of a packet that belong together. */
+struct range {
+    size_t begin;
+    size_t end;
+    const char *name;
+    const char *color;
+};
+
+struct drawing {
+    const struct cut *cut;
+    bool in_color;
+    size_t index;   /* of the first range that isn't behind the row */
+    bool is_named;  /* the name of the range at `index` was written */
+};
+
+static const char *header_color(uint8_t number) {
+    switch (number) {
+        case WOLFAREN_HOP_BY_HOP: return "\033[33m";
+        case WOLFAREN_ROUTING: return "\033[35m";
+        case WOLFAREN_FRAGMENT: return "\033[34m";
+        case WOLFAREN_AUTHENTICATION: return "\033[32m";
+        default: return "\033[36m";
+    }
+}
+
+/* The ranges of a packet: its base header, its extension headers, and its payload where the chain ends well. */
+static bool range_at(const struct cut *cut, size_t index, struct range *range) {
+    if (cut->version == 0) return false;
+    if (index == 0) {
+        *range = (struct range){0, cut->base_len, cut->version == 4 ? "IPv4" : "IPv6", "\033[1m"};
+        return true;
+    }
+    if (index <= cut->count) {
+        const struct wolfaren_header *header = &cut->headers[index - 1];
+        *range = (struct range){header->offset, header->offset + header->len, number_name(header->number),
+                                header_color(header->number)};
+        return true;
+    }
+    if (index > cut->count + 1 || cut->end != CHAIN_WHOLE || cut->chain_at_end == cut->packet_at_end) return false;
+    const char *name = cut->is_fragment ? "part of payload" : number_name(cut->number);
+    *range = (struct range){cut->chain_at_end, cut->packet_at_end, *name ? name : "payload", plain_color};
+    return true;
+}
+
+static void set_color(const struct drawing *drawing, const char *color) {
+    if (drawing->in_color) fputs(color, stdout);
+}
+
+/* Goes on to the range of a byte. Answers false where it is in none. */
+static bool range_of(struct drawing *drawing, size_t at, struct range *range) {
+    while (range_at(drawing->cut, drawing->index, range) && range->end <= at) {
+        drawing->index++;
+        drawing->is_named = false;
+    }
+    return range_at(drawing->cut, drawing->index, range) && range->begin <= at;
+}
+
+/* Writes a row's bytes, with `drawing` as it is before the row. */
+static void write_bytes(struct drawing drawing, size_t row, size_t end) {
+    struct range range;
+    printf("%04zx  ", row);
+    const char *color = plain_color;
+    for (size_t at = row; at < end; at++) {
+        const char *next = range_of(&drawing, at, &range) ? range.color : plain_color;
+        if (at > row) putchar(' ');
+        if (strcmp(next, color) != 0) set_color(&drawing, next);
+        color = next;
+        printf("%02x", drawing.cut->bytes[at]);
+    }
+    if (strcmp(color, plain_color) != 0) set_color(&drawing, plain_color);
+    putchar('\n');
+}
+
+/* Puts a name into the middle of a mark, with a space on either side where there is room. */
+static bool put_name(char *mark, size_t width, const char *name) {
+    size_t len = strlen(name);
+    if (len > width) return false;
+    char *place = mark + (width - len) / 2;
+    memcpy(place, name, len);
+    if (width < len + 2) return true;
+    place[-1] = ' ';
+    place[len] = ' ';
+    return true;
+}
+
+/* Writes the mark of a range from the byte `begin` to before `end`, with its name where that has room. */
+static void write_mark(struct drawing *drawing, const struct range *range, size_t begin, size_t end) {
+    char mark[ROW_WIDTH + 1];
+    size_t width = (end - begin) * CELL - 1;
+    size_t left = begin == range->begin, right = end == range->end;
+    memset(mark, '-', width);
+    mark[width] = '\0';
+    if (left) mark[0] = '[';
+    if (right) mark[width - 1] = ']';
+    if (!drawing->is_named) drawing->is_named = put_name(mark + left, width - left - right, range->name);
+    set_color(drawing, range->color);
+    fputs(mark, stdout);
+    set_color(drawing, plain_color);
+}
+
+/* Writes the marks below a row. */
+static void write_marks(struct drawing *drawing, size_t row, size_t end) {
+    struct range range;
+    size_t at = row, column = 0;
+    while (at < end && range_of(drawing, at, &range)) {
+        size_t mark_end = range.end < end ? range.end : end;
+        if (column == 0) fputs("      ", stdout);
+        if (column > 0) putchar(' ');
+        write_mark(drawing, &range, at, mark_end);
+        column += (mark_end - at) * CELL;
+        at = mark_end;
+    }
+    if (column > 0) putchar('\n');
+}
+
+/* Writes a caret below a byte of a row, and the words behind it. */
+static void write_caret(const struct drawing *drawing, size_t column, const char *words) {
+    printf("%*s", 6 + (int)(column * CELL), "");
+    set_color(drawing, fault_color);
+    printf("^ %s", words);
+    set_color(drawing, plain_color);
+    putchar('\n');
+}
+
+/* Writes what is wrong below the row in which it begins, or where the bytes end before it. */
+static void write_fault(const struct drawing *drawing, size_t row) {
+    const struct cut *cut = drawing->cut;
+    char text[WOLFAREN_TEXT_ROOM];
+    if (has_fault(cut) && cut->fault_at >= row && cut->fault_at - row < ROW_BYTES) {
+        size_t len = wolfaren_fault_text(&cut->fault, text, sizeof text);
+        write_caret(drawing, cut->fault_at - row, len > 0 && len < sizeof text ? text : "fault");
+    }
+    if (cut->end == CHAIN_CUT && cut->chain_at_end >= row && cut->chain_at_end - row < ROW_BYTES)
+        write_caret(drawing, cut->chain_at_end - row, "cut by the snap length");
+}
+
+/* How many bytes are drawn: to the end of the chain, and some behind it. */
+static size_t shown_length(const struct cut *cut) {
+    size_t end = cut->version == 0 ? UNREAD_BYTES : cut->chain_at_end / ROW_BYTES * ROW_BYTES + 2 * ROW_BYTES;
+    return end < cut->len ? end : cut->len;
+}
+
+void draw_packet(const struct cut *cut, bool in_color) {
+    struct drawing drawing = {.cut = cut, .in_color = in_color};
+    size_t shown = shown_length(cut);
+    size_t last = has_fault(cut) ? cut->fault_at : 0;
+    if (cut->end == CHAIN_CUT) last = cut->chain_at_end;
+    for (size_t row = 0; row < shown || row <= last; row += ROW_BYTES) {
+        size_t left = shown > row ? shown - row : 0;
+        size_t end = row + (left < ROW_BYTES ? left : ROW_BYTES);
+        write_bytes(drawing, row, end);
+        write_marks(&drawing, row, end);
+        write_fault(&drawing, row);
+    }
+    if (shown < cut->len) printf("      and %zu bytes more\n", cut->len - shown);
+}

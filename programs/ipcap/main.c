@@ -1,0 +1,46 @@
+/* ipcap: chains of IP extension headers in captures. */
+#include <stdio.h>
+#include <string.h>
+
+#include "commands.h"
+#include "options.h"
+
+static const char usage[] =
+    "usage: ipcap stat [--json] [FILE..]\n"
+    "       ipcap sum [--json]\n"
+    "       ipcap filter [-w FILE] COND [FILE]\n"
+    "       ipcap show [--color=WHEN] [FILE]\n"
+    "       ipcap --help | --version\n"
+    "Tells of the chains of IP extension headers in captures: counts them, filters by them, draws them.\n"
+    "`ipcap COMMAND --help` says more of each command, and ipcap(1) all.\n";
+
+struct command {
+    const char *name;
+    char *full_name; /* as messages tell it */
+    int (*run)(int count, char **arguments);
+};
+
+static char stat_name[] = "ipcap stat", sum_name[] = "ipcap sum", filter_name[] = "ipcap filter",
+            show_name[] = "ipcap show";
+
+static const struct command commands[] = {
+    {"stat", stat_name, run_stat},
+    {"sum", sum_name, run_sum},
+    {"filter", filter_name, run_filter},
+    {"show", show_name, run_show},
+};
+
+int main(int count, char **arguments) {
+    if (count < 2) return refuse_usage(usage, NULL);
+    const char *name = arguments[1];
+    if (strcmp(name, "--help") == 0 || strcmp(name, "-h") == 0) return print_help(usage);
+    if (strcmp(name, "--version") == 0) return print_version();
+    for (size_t i = 0; i < sizeof commands / sizeof *commands; i++) {
+        if (strcmp(name, commands[i].name) != 0) continue;
+        arguments[1] = commands[i].full_name;
+        return commands[i].run(count - 1, arguments + 1);
+    }
+    char message[96];
+    snprintf(message, sizeof message, "there is no command '%.40s'", name);
+    return refuse_usage(usage, message);
+}

@@ -1,0 +1,100 @@
+/* The subcommand that draws. */
+#include <getopt.h>
+#include <stdio.h>
+#include <stdlib.h>
+#include <string.h>
+#include <unistd.h>
+
+#include "capture.h"
+#include "chain_key.h"
+#include "commands.h"
+#include "drawing.h"
+#include "options.h"
+#include "report.h"
+
+static const char usage[] =
+    "usage: ipcap show [--color=WHEN] [FILE]\n"
+    "Draws each IP packet of a capture, or of the one that standard input has, with its chain of extension headers.\n"
+    "  --color=WHEN  `always`, `never`, or `auto` for where a terminal shows it, which is meant where none is given\n"
+    "  --help        print this text\n"
+    "  --version     print the version\n";
+
+/* Whether standard output is a terminal that shows colours, and they are wanted (no-color.org). */
+static bool is_color_terminal(void) {
+    const char *no_color = getenv("NO_COLOR"), *terminal = getenv("TERM");
+    if (no_color && *no_color) return false;
+    return isatty(STDOUT_FILENO) && terminal && strcmp(terminal, "dumb") != 0;
+}
+
+static bool read_color(const char *when, bool *in_color) {
+    if (strcmp(when, "always") == 0)
+        *in_color = true;
+    else if (strcmp(when, "never") == 0)
+        *in_color = false;
+    else if (strcmp(when, "auto") == 0)
+        *in_color = is_color_terminal();
+    else
+        return false;
+    return true;
+}
+
+/* Writes the line that stands above a packet. */
+static void print_title(const struct capture *capture, const struct packet *packet, const struct cut *cut) {
+    printf("packet %llu: ", (unsigned long long)capture->number);
+    if (packet->is_short) printf("%u of ", packet->header.caplen);
+    printf("%u bytes", packet->header.len > packet->header.caplen ? packet->header.len : packet->header.caplen);
+    if (!packet->is_ip) {
+        puts(", not IP");
+        return;
+    }
+    struct key key;
+    char text[CHAIN_TEXT_ROOM];
+    printf(", IP at %zu: ", packet->ip_offset);
+    if (cut->version == 0) {
+        puts("unread base header");
+    } else if (chain_key(cut, &key)) {
+        write_chain(&key, text);
+        puts(text);
+    } else {
+        printf("IPv%d %zu headers -> %d\n", cut->version, cut->count, cut->number);
+    }
+}
+
+static bool show_packet(const struct capture *capture, const struct packet *packet, struct cut *cut, bool in_color) {
+    if (packet->is_ip && !cut_captured(cut, packet)) return false;
+    if (capture->number > 1) putchar('\n');
+    print_title(capture, packet, cut);
+    if (packet->is_ip) draw_packet(cut, in_color);
+    return capture->is_live ? finish_output() : !ferror(stdout) || finish_output();
+}
+
+static bool show_capture(const char *path, bool in_color) {
+    struct capture capture;
+    struct packet packet;
+    struct cut cut = {0};
+    enum reading reading;
+    bool is_shown = true;
+    if (!open_capture(&capture, path)) return false;
+    while (is_shown && (reading = read_packet(&capture, &packet)) == READ_PACKET)
+        is_shown = show_packet(&capture, &packet, &cut, in_color);
+    close_capture(&capture);
+    free_cut(&cut);
+    return is_shown && finish_output() && reading == READ_END;
+}
+
+int run_show(int count, char **arguments) {
+    static const struct option options[] = {{"color", required_argument, NULL, OPTION_COLOR},
+                                            {"help", no_argument, NULL, OPTION_HELP},
+                                            {"version", no_argument, NULL, OPTION_VERSION},
+                                            {NULL, 0, NULL, 0}};
+    bool in_color = is_color_terminal();
+    int option;
+    while ((option = getopt_long(count, arguments, "h", options, NULL)) != -1) {
+        if (option == OPTION_HELP || option == 'h') return print_help(usage);
+        if (option == OPTION_VERSION) return print_version();
+        if (option != OPTION_COLOR) return refuse_usage(usage, NULL);
+        if (!read_color(optarg, &in_color)) return refuse_usage(usage, "--color takes always, never or auto");
+    }
+    if (count - optind > 1) return refuse_usage(usage, "show reads one file");
+    return show_capture(optind < count ? arguments[optind] : NULL, in_color) ? STATUS_DONE : STATUS_FAILED;
+}

@@ -73,11 +73,11 @@ static bool range_of(struct drawing *drawing, size_t at, struct range *range) {
 /* Writes a row's bytes, with `drawing` as it is before the row. */
 static void write_bytes(struct drawing drawing, size_t row, size_t end) {
     struct range range;
-    printf("%04zx  ", row);
+    printf("%04zx", row);
     const char *color = plain_color;
     for (size_t at = row; at < end; at++) {
         const char *next = range_of(&drawing, at, &range) ? range.color : plain_color;
-        if (at > row) putchar(' ');
+        fputs(at > row ? " " : "  ", stdout);
         if (strcmp(next, color) != 0) set_color(&drawing, next);
         color = next;
         printf("%02x", drawing.cut->bytes[at]);

@@ -1,0 +1,29 @@
+"""All groups of tests."""
+
+import sys
+
+import harness
+import test_filter
+import test_show
+import test_stat
+import test_sum
+import test_use
+
+GROUPS = [("link layers", test_stat.link_layers), ("short frames", test_stat.short_frames), ("faults", test_stat.faults),
+          ("bounds of packets", test_stat.bounds_of_packets), ("fragments", test_stat.fragments),
+          ("snap lengths", test_stat.snap_lengths), ("faults in cut packets", test_stat.faults_in_cut_packets),
+          ("truncated files", test_stat.truncated_files), ("what can't be read", test_stat.what_cant_be_read),
+          ("forms of files", test_stat.forms_of_files), ("chains as tshark finds them", test_stat.tshark_agrees),
+          ("chains as scapy makes them", test_stat.scapy_agrees), ("tables", test_stat.tables),
+          ("sums of parts", test_sum.sums), ("malformed JSON", test_sum.malformed), ("damaged JSON", test_sum.damaged),
+          ("bounds of tables", test_sum.bounds), ("conditions", test_filter.conditions),
+          ("forms of what is written", test_filter.forms_of_files), ("between programs", test_filter.between_programs),
+          ("conditions and outputs that are refused", test_filter.what_is_refused), ("drawings", test_show.drawings),
+          ("places of faults", test_show.places_of_faults), ("long packets", test_show.long_packets),
+          ("colours", test_show.colors), ("help and version", test_use.helps), ("wrong usage", test_use.wrong_usage),
+          ("full outputs", test_use.full_outputs), ("terminals", test_use.terminals),
+          ("bounded memory", test_use.bounded_memory), ("refused memory", test_use.refused_memory),
+          ("damaged captures", test_use.damaged_captures)]
+
+if __name__ == "__main__":
+    sys.exit(harness.main(GROUPS))

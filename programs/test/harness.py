@@ -1,0 +1,113 @@
+"""Runs ipcap as it is used, under valgrind, and with sanitizers, and holds its answers against what is expected."""
+
+import concurrent.futures
+import itertools
+import json
+import os
+import subprocess
+import sys
+import tempfile
+
+
+class Failure(Exception):
+    pass
+
+
+class Harness:
+    def __init__(self, plain, sanitized, refusing, folder):
+        self.plain = [plain]
+        self.sanitized = [sanitized]
+        self.checked = ["valgrind", "--error-exitcode=99", "-q", "--leak-check=full", plain]
+        self.refusing = refusing
+        self.folder = folder
+        self.passed = 0
+        self.files = itertools.count()
+        self.pending = []
+        self.pool = concurrent.futures.ThreadPoolExecutor(os.cpu_count() or 1)
+        self.environment = dict(os.environ, ASAN_OPTIONS="exitcode=98", UBSAN_OPTIONS="halt_on_error=1:exitcode=98")
+        self.environment.pop("NO_COLOR", None)
+
+    def check(self, condition, *words):
+        if not condition:
+            raise Failure(" ".join(str(word) for word in words))
+        self.passed += 1
+
+    def equal(self, found, wanted, *words):
+        self.check(found == wanted, *words, "\n  found  ", repr(found), "\n  wanted ", repr(wanted))
+
+    def path(self, suffix=".pcap"):
+        return os.path.join(self.folder, "%d%s" % (next(self.files), suffix))
+
+    def file(self, content, suffix=".pcap"):
+        path = self.path(suffix)
+        with open(path, "wb") as output:
+            output.write(content)
+        return path
+
+    def answer(self, command, arguments, content, output):
+        """What one build answers: status, standard output, standard error, and what it wrote to the path `{}`."""
+        own = self.path(".own")
+        streams = {"stdin": subprocess.PIPE, "stdout": output or subprocess.PIPE, "stderr": subprocess.PIPE}
+        filled = [argument.replace("{}", own) for argument in arguments]
+        process = subprocess.Popen(command + filled, env=self.environment, **streams)
+        found, told = process.communicate(content)
+        written = None
+        if os.path.exists(own):
+            with open(own, "rb") as file:
+                written = file.read()
+        return process.returncode, found, told.decode().replace(own, "{}"), written
+
+    def run(self, *arguments, content=b"", output=None):
+        """What all builds answer to the arguments: status, standard output, standard error, and what was written to the
+        path `{}`, of which each build has its own. The answer under valgrind is looked at in `settle`."""
+        checked = self.pool.submit(self.answer, self.checked, arguments, content, output)
+        sanitized = self.pool.submit(self.answer, self.sanitized, arguments, content, output)
+        answer = self.answer(self.plain, arguments, content, output)
+        self.check(answer[0] in (0, 1, 2), "status", answer[0], "of", arguments, answer[2])
+        self.equal(sanitized.result(), answer, "another answer with sanitizers to", arguments)
+        self.pending.append((checked, answer, arguments))
+        return answer
+
+    def settle(self):
+        """Waits for what runs under valgrind, and holds it against the answers that were given."""
+        for checked, answer, arguments in self.pending:
+            self.equal(checked.result(), answer, "another answer under valgrind to", arguments)
+        self.pending = []
+
+    def stat(self, *arguments, content=b"", status=0):
+        """The statistics as an object, and what was told on standard error."""
+        found = self.run("stat", "--json", *arguments, content=content)
+        self.equal(found[0], status, "status of stat", arguments, found[2])
+        return json.loads(found[1]), found[2]
+
+    def tshark(self, path, *arguments):
+        command = ["tshark", "-n", "-r", path, *arguments]
+        found = subprocess.run(command, stdout=subprocess.PIPE, stderr=subprocess.DEVNULL)
+        self.equal(found.returncode, 0, "status of tshark on", path)
+        return found.stdout
+
+
+def statistics(**parts):
+    """What `stat` is expected to tell: the parts, and nothing else."""
+    counts = dict.fromkeys(["packets", "ipv4", "ipv6", "unread", "not_ip", "fragments", "cut"], 0)
+    tables = {name: {} for name in ["chains", "chain_bytes", "final_numbers", "faults"]}
+    return {**counts, **tables, **parts}
+
+
+def main(groups):
+    plain, sanitized, refusing, *only = sys.argv[1:]
+    with tempfile.TemporaryDirectory() as folder:
+        harness = Harness(plain, sanitized, refusing, folder)
+        for name, group in groups:
+            if only and name not in only:
+                continue
+            before = harness.passed
+            try:
+                group(harness)
+                harness.settle()
+            except Failure as failure:
+                print("%s: %s" % (name, failure))
+                return 1
+            print("%s: %d checks" % (name, harness.passed - before), flush=True)
+        print("%d passed" % harness.passed)
+    return 0

@@ -1,0 +1,285 @@
+"""What `ipcap stat` tells. What is expected was worked out by hand from the bytes, but where tshark is named."""
+
+import random
+import xml.etree.ElementTree as ElementTree
+
+from captures import *
+from harness import statistics
+
+SHORT_NAMES = {0: "hop-by-hop", 43: "routing", 44: "fragment", 51: "authentication", 60: "destination-options"}
+
+
+def link_layers(harness):
+    """Three frames of each link layer: an IPv6 packet, an IPv4 packet, and one that isn't IP."""
+    six, four = ipv6_chain([0, 43]), ipv4(51, authentication(6) + TCP)
+    cases = [("Ethernet", ETHERNET, ethernet(six), ethernet(four), ethernet(bytes(46), (), 0x0806))]
+    for tags in [(0x8100,), (0x88A8, 0x8100), (0x9100, 0x8100), (0x8100,) * 5]:
+        cases.append((tags, ETHERNET, ethernet(six, tags), ethernet(four, tags), ethernet(bytes(46), tags, 0x0806)))
+    for link_layer, make in [(SLL, cooked), (SLL2, cooked2)]:
+        cases.append((make, link_layer, make(six, 0x86DD), make(four, 0x0800), make(bytes(28), 0x0806)))
+        tag = struct.pack(">HH", 7, 0x86DD)
+        cases.append((make, link_layer, make(tag + six, 0x8100), make(four, 0x0800), make(bytes(28), 0x0806)))
+    for order in "<>":
+        family = lambda number, packet: struct.pack(order + "I", number) + packet
+        for number in [10, 24, 28, 30]:
+            cases.append((number, NULL, family(number, six), family(2, four), family(7, bytes(20))))
+    family = lambda number, packet: struct.pack(">I", number) + packet
+    cases.append(("OpenBSD", LOOP, family(24, six), family(2, four), family(7, bytes(20))))
+    for name, link_layer, *frames in cases:
+        harness.equal(harness.stat(harness.file(capture(frames, link_layer))), (statistics(
+            packets=3, ipv4=1, ipv6=1, not_ip=1, chains={"IPv4 51 -> 6": 1, "IPv6 0,43 -> 17": 1},
+            chain_bytes={"24": 1, "16": 1}, final_numbers={"6": 1, "17": 1}), ""), "link layer", name)
+    for link_layer, packet, version in [(RAW, six, 6), (RAW, four, 4), (IPV6, six, 6), (IPV4, four, 4)]:
+        found, _ = harness.stat(content=capture([packet], link_layer))
+        harness.equal((found["packets"], found["ipv%d" % version]), (1, 1), "link layer", link_layer)
+
+
+def short_frames(harness):
+    """Frames that end within what stands before the IP packet, or directly behind it."""
+    for link_layer, frame, before in [(ETHERNET, ethernet(b""), 14), (ETHERNET, ethernet(b"", (0x8100, 0x8100)), 22),
+                                      (SLL, cooked(b"", 0x86DD), 16), (SLL2, cooked2(b"", 0x86DD), 20),
+                                      (NULL, struct.pack("<I", 30), 4)]:
+        found, _ = harness.stat(content=capture([frame[:n] for n in range(before + 1)], link_layer))
+        harness.equal(found, statistics(packets=before + 1, not_ip=before, unread=1,
+                                        faults={"too-short IP-header": 1}), "link layer", link_layer)
+
+
+def faulty_packets():
+    """Packets with what is wrong with them, and their chains."""
+    for number in [0, 43, 60]:
+        first = header(number, 17, 2)
+        for kept in [0, 1, 7, 8, 23]:
+            yield ipv6(number, first[:kept]), "too-short " + SHORT_NAMES[number], "IPv6 -> %d fault" % number, 0
+    for kept in [0, 7]:
+        yield ipv6(60, options(44) + fragment(17)[:kept]), "too-short fragment", "IPv6 60 -> 44 fault", 8
+    for kept in [0, 11, 12, 23]:
+        cut = authentication(17)[:kept]
+        yield ipv6(43, routing(51, 1) + cut), "too-short authentication", "IPv6 43 -> 51 fault", 16
+        yield ipv4(51, cut), "too-short authentication", "IPv4 -> 51 fault", 0
+    for before in [0, 43, 60]:
+        yield ipv6_chain([before, 0]), "not-at-start hop-by-hop", "IPv6 %d -> 0 fault" % before, 8
+    yield ipv6_chain([44, 0]), "not-at-start hop-by-hop", "IPv6 44 -> 0 fault", 8
+    zero = b"\x11\0" + bytes(22)
+    yield ipv6(51, zero), "zero-length authentication", "IPv6 -> 51 fault", 0
+    yield ipv6(0, options(51) + zero), "zero-length authentication", "IPv6 0 -> 51 fault", 8
+    yield ipv4(51, zero), "zero-length authentication", "IPv4 -> 51 fault", 0
+    yield ipv6_chain([0])[:-1], "too-short IPv6-packet", "IPv6 0 -> 17", 8
+    yield ipv4(17, UDP, total_len=33), "too-short IPv4-packet", "IPv4 -> 17", 0
+    yield ipv4(51, authentication(17), total_len=19), "too-short IPv4-packet", "IPv4 -> 51 fault", 0
+    for packet, fault in [(b"", "too-short IP-header"), (ipv6(17, UDP)[:39], "too-short IPv6-header"),
+                          (ipv4(17, b"")[:19], "too-short IPv4-header"), (b"\x50" + bytes(50), "unsupported-version IP-header"),
+                          (b"\x00" + bytes(50), "unsupported-version IP-header"),
+                          (ipv4(17, UDP, words=4), "header-length IPv4-header"),
+                          (ipv4(17, b"", words=6), "too-short IPv4-header")]:
+        yield packet, fault, None, 0
+
+
+def faults(harness):
+    packets = list(faulty_packets())
+    for packet, fault, chain_text, chain_bytes in packets:
+        found, _ = harness.stat(content=capture([packet], RAW))
+        wanted = statistics(packets=1, faults={fault: 1}, unread=int(chain_text is None))
+        if chain_text:
+            wanted["ipv" + chain_text[3]] = 1
+            wanted.update(chains={chain_text: 1}, chain_bytes={str(chain_bytes): 1})
+            if not chain_text.endswith("fault"):
+                wanted["final_numbers"] = {"17": 1}
+        harness.equal(found, wanted, "packet", packet.hex())
+    found, _ = harness.stat(content=capture([packet for packet, *_ in packets], RAW))
+    harness.equal(sum(found["faults"].values()), len(packets), "all faults in one capture")
+
+
+def bounds_of_packets(harness):
+    """What a packet's length field leaves out isn't of the packet, as the padding of a short frame."""
+    def chains(packet):
+        return harness.stat(content=capture([ethernet(packet)]))[0]["chains"]
+    harness.equal(chains(ipv6(0, options(43) + routing(17), payload_len=8)), {"IPv6 0 -> 43 fault": 1}, "padding")
+    harness.equal(chains(ipv4(17, b"") + bytes(26)), {"IPv4 -> 17": 1}, "IPv4 in a short frame")
+    harness.equal(chains(ipv6(0, options(43) + routing(17), payload_len=0)), {"IPv6 0,43 -> 17": 1}, "jumbogram")
+    words = ipv4(51, authentication(17) + UDP, words=15, option_bytes=b"\1" * 40)
+    harness.equal(chains(words), {"IPv4 51 -> 17": 1}, "IPv4 with options")
+
+
+def fragments(harness):
+    """Behind a fragment header with an offset stands the middle of a payload, whatever number the header names."""
+    packets = [(ipv6(44, fragment(60, 0, 1) + options(17) + UDP), "IPv6 44,60 -> 17", 1),
+               (ipv6(44, fragment(60, 0, 0) + options(17) + UDP), "IPv6 44,60 -> 17", 0),
+               (ipv6(44, fragment(60, 1, 0) + options(17) + UDP), "IPv6 44 -> 60", 1),
+               (ipv6(44, fragment(0, 8191, 1) + b"\xff" * 8), "IPv6 44 -> 0", 1),
+               (ipv6(0, options(44) + fragment(51, 9, 1) + bytes(8)), "IPv6 0,44 -> 51", 1),
+               (ipv4(51, authentication(17) + UDP, 0x2000), "IPv4 51 -> 17", 1),
+               (ipv4(51, authentication(17) + UDP, 0x4000), "IPv4 51 -> 17", 0),
+               (ipv4(51, bytes(24), 0x0001), "IPv4 -> 51", 1), (ipv4(17, UDP, 0x3fff), "IPv4 -> 17", 1)]
+    for packet, chain_text, fragments_wanted in packets:
+        found, _ = harness.stat(content=capture([packet], RAW))
+        harness.equal((found["chains"], found["fragments"], found["faults"]), ({chain_text: 1}, fragments_wanted, {}),
+                      "packet", packet.hex())
+
+
+def snapped(version, ends, numbers, final, kept, before):
+    """The chain of a packet that is cut to `kept` bytes, of which `before` stand before the chain, from where its headers
+    end in it."""
+    if kept < before:
+        return None
+    whole = [n for n, end in zip(numbers, ends) if before + end <= kept]
+    leads_to = (numbers + [final])[len(whole)]
+    text = ",".join(map(str, whole)) + (" " if whole else "")
+    return "IPv%d %s-> %d%s" % (version, text, leads_to, "" if len(whole) == len(numbers) else " cut")
+
+
+def snap_lengths(harness):
+    """Each length to which a packet can be cut."""
+    six = ipv6(0, options(43) + routing(44, 2) + fragment(60) + options(17, 1) + UDP)
+    four = ipv4(51, authentication(17) + UDP)
+    for version, packet, numbers, ends, base in [(6, six, [0, 43, 44, 60], [8, 32, 40, 56], 40),
+                                                 (4, four, [51], [24], 20)]:
+        frame = ethernet(packet)
+        kept = range(14, len(frame))
+        wanted = {}
+        for length in kept:
+            text = snapped(version, ends, numbers, 17, length, 14 + base)
+            wanted[text] = wanted.get(text, 0) + 1
+        unread = wanted.pop(None)
+        found, told = harness.stat(content=file_header() + b"".join(record(frame, length) for length in kept))
+        harness.equal((found["chains"], found["unread"], found["cut"], found["faults"], told),
+                      (wanted, unread, len(kept), {}, ""), "snap lengths of IPv%d" % version)
+
+
+def faults_in_cut_packets(harness):
+    """What is wrong within the bytes that a capture keeps is a fault, and what it leaves out is none."""
+    zero = b"\x11\0" + bytes(22)
+    for packet, kept, faults_wanted in [
+            (ipv6_chain([60, 0]), 70, {"not-at-start hop-by-hop": 1}), (ipv6(51, zero + UDP), 70, {"zero-length authentication": 1}),
+            (ipv4(51, zero + UDP), 60, {"zero-length authentication": 1}), (ipv6(51, zero), 60, {}),
+            (ipv6(0, options(43) + routing(17) + bytes(99), payload_len=12), 90, {"too-short routing": 1}),
+            (b"\x70" + bytes(90), 50, {"unsupported-version IP-header": 1}),
+            (ipv4(17, UDP, words=3), 40, {"header-length IPv4-header": 1}),
+            (ipv4(17, UDP, total_len=10), 40, {"too-short IPv4-packet": 1})]:
+        found, _ = harness.stat(content=file_header() + record(ethernet(packet), kept))
+        harness.equal((found["faults"], found["cut"]), (faults_wanted, 1), "packet", packet.hex())
+
+
+def truncated_files(harness):
+    whole = capture([ethernet(ipv6_chain([0]))] * 3)
+    third = (len(whole) - 24) // 3 * 2 + 24
+    for length in [third + 1, third + 15, third + 16, third + 40, len(whole) - 1]:
+        path = harness.file(whole[:length])
+        found, told = harness.stat(path, status=1)
+        harness.equal(found["packets"], 2, "packets of a file of", length, "bytes")
+        harness.check(told.startswith("ipcap: %s: ends at packet 3: " % path), told)
+    harness.equal(harness.stat(harness.file(whole[:third]))[0]["packets"], 2, "a file that ends behind a packet")
+    for content in [b"", whole[:3], whole[:23], b"no capture at all, but some bytes"]:
+        path = harness.file(content)
+        found, told = harness.stat(path, harness.file(whole), status=1)
+        harness.equal(found["packets"], 3, "the capture behind one that can't be read")
+        harness.check(told.startswith("ipcap: %s: " % path), told)
+    broken = capture([ethernet(ipv6_chain([0]))]) + struct.pack("<IIII", 0, 0, 0x7fffffff, 0x7fffffff) + bytes(60)
+    harness.check("ends at packet 2: " in harness.stat(content=broken, status=1)[1], "a packet of 2 GB")
+
+
+def what_cant_be_read(harness):
+    for link_layer, words in [(105, "link layer IEEE802_11 (802.11) isn't supported"), (9, "link layer PPP (PPP) isn't supported"),
+                              (60000, "link layer 60000 isn't supported")]:
+        path = harness.file(capture([bytes(60)], link_layer))
+        for command in ["stat", "show"]:
+            harness.equal(harness.run(command, path)[0::2], (1, "ipcap: %s: %s\n" % (path, words)), command)
+        harness.equal(harness.run("filter", "fault", path), (1, b"", "ipcap: %s: %s\n" % (path, words), None), "filter")
+    harness.equal(harness.stat("/nonexistent", status=1)[1], "ipcap: /nonexistent: No such file or directory\n", "no file")
+    harness.equal(harness.stat(harness.folder, status=1)[1], "ipcap: %s: Is a directory\n" % harness.folder, "a directory")
+
+
+def forms_of_files(harness):
+    frames = [ethernet(ipv6_chain([0, 44])), ethernet(ipv4(17, UDP))]
+    first, _ = harness.stat(content=capture(frames))
+    for magic in [MICROSECONDS, NANOSECONDS]:
+        for order in "<>":
+            content = capture(frames, magic=magic, order=order)
+            harness.equal(harness.stat(content=content), (first, ""), "standard input", magic, order)
+            harness.equal(harness.stat(harness.file(content)), (first, ""), "a file", magic, order)
+            harness.equal(harness.stat("-", content=content), (first, ""), "-", magic, order)
+
+
+def chain_in(packet):
+    """The chain that tshark finds in a packet, from the fields that name what follows."""
+    names = {"ipv6.nxt": None, "ip.proto": None, "ipv6.hopopts.nxt": 0, "ipv6.routing.nxt": 43, "ipv6.fraghdr.nxt": 44,
+             "ah.next_header": 51, "ipv6.dstopts.nxt": 60}
+    fields = [f for f in packet.iter("field") if f.get("name") in names]
+    fields.sort(key=lambda f: int(f.get("pos")))
+    if not fields:
+        return None
+    version = 6 if fields[0].get("name") == "ipv6.nxt" else 4
+    numbers = [str(names[f.get("name")]) for f in fields[1:]]
+    return "IPv%d %s-> %d" % (version, ",".join(numbers) + " " if numbers else "", int(fields[-1].get("value"), 16))
+
+
+def random_frames(count, seed):
+    """Frames with chains of numbers that are drawn."""
+    draw = random.Random(seed)
+    frames = []
+    for _ in range(count):
+        numbers = [0] * draw.choice([0, 0, 1]) + [draw.choice([43, 44, 51, 60]) for _ in range(draw.choice([0, 0, 1, 2, 3, 6]))]
+        kind = draw.randrange(10)
+        if kind == 0:
+            frames.append(ethernet(bytes(46), (), 0x0806))
+        elif kind < 3:
+            frames.append(ethernet(ipv4(51, authentication(17) + UDP) if draw.randrange(2) else ipv4(6, TCP)))
+        else:
+            final, payload = draw.choice([(17, UDP), (6, TCP), (59, b"")])
+            frames.append(ethernet(ipv6_chain(numbers, final, payload, draw.randrange(3))))
+    return frames
+
+
+def tshark_agrees(harness):
+    """tshark finds the same chains."""
+    path = harness.file(capture(random_frames(400, 1)))
+    wanted = {}
+    for packet in ElementTree.fromstring(harness.tshark(path, "-T", "pdml")).iter("packet"):
+        text = chain_in(packet)
+        wanted[text] = wanted.get(text, 0) + 1
+    not_ip = wanted.pop(None)
+    found, _ = harness.stat(path)
+    harness.check(len(wanted) > 50, "chains that tshark finds:", len(wanted))
+    harness.equal((found["chains"], found["not_ip"], found["packets"]), (wanted, not_ip, 400), "chains that tshark finds")
+
+
+def scapy_agrees(harness):
+    """Packets that scapy makes, with the chains of which it made them."""
+    from scapy.layers.inet import IP, UDP as ScapyUdp
+    from scapy.layers.inet6 import (IPv6, IPv6ExtHdrDestOpt, IPv6ExtHdrFragment, IPv6ExtHdrHopByHop, IPv6ExtHdrRouting,
+                                    PadN)
+    from scapy.layers.ipsec import AH
+    made = [(IPv6() / IPv6ExtHdrHopByHop(options=[PadN(optdata=bytes(12))]) / IPv6ExtHdrRouting(addresses=["::1", "::2"])
+             / IPv6ExtHdrFragment(m=1) / ScapyUdp() / b"data", "IPv6 0,43,44 -> 17", 16 + 40 + 8),
+            (IPv6() / IPv6ExtHdrDestOpt() / AH(nh=60, payloadlen=4, icv=bytes(12)) / IPv6ExtHdrDestOpt() / ScapyUdp(), "IPv6 60,51,60 -> 17", 40),
+            (IP() / AH(nh=17, payloadlen=5, icv=bytes(16)) / ScapyUdp(), "IPv4 51 -> 17", 28), (IP() / ScapyUdp(), "IPv4 -> 17", 0)]
+    for packet, chain_text, chain_bytes in made:
+        found, _ = harness.stat(content=capture([ethernet(bytes(packet))]))
+        harness.equal((found["chains"], found["chain_bytes"]), ({chain_text: 1}, {str(chain_bytes): 1}), chain_text)
+
+
+def tables(harness):
+    """What people read."""
+    path = harness.file(capture([ethernet(ipv6_chain([0, 43])), ethernet(ipv6_chain([0, 43])), ethernet(ipv4(6, TCP)),
+                                 ethernet(ipv6(60, b"")), ethernet(bytes(46), (), 0x0806)]))
+    wanted = """packets
+           5  all
+           1  IPv4
+           3  IPv6
+           0  IP with an unread base header
+           1  not IP
+           0  fragments
+           0  cut by the snap length
+chains
+           2  IPv6 0,43 -> 17
+           1  IPv4 -> 6
+           1  IPv6 -> 60 fault
+bytes of a chain
+           2  0
+           2  16
+final numbers
+           2  17 UDP
+           1  6 TCP
+faults
+           1  too-short destination-options
+"""
+    harness.equal(harness.run("stat", path), (0, wanted.encode(), "", None), "tables")

@@ -1,0 +1,107 @@
+"""What `ipcap sum` reads and refuses."""
+
+import json
+import random
+
+from captures import *
+from harness import statistics
+from test_stat import random_frames
+
+
+def sums(harness):
+    """The statistics of parts, added up, are those of the whole; so are those of parts of parts."""
+    frames = random_frames(300, 2) + [ethernet(b""), ethernet(ipv6(0, b""))]
+    whole = harness.run("stat", "--json", harness.file(capture(frames)))[1]
+    cuts = sorted(random.Random(3).sample(range(len(frames)), 4))
+    files = [harness.file(capture(frames[a:b])) for a, b in zip([0] + cuts, cuts + [len(frames)])]
+    parts = [harness.run("stat", "--json", file)[1] for file in files]
+    harness.equal(harness.run("sum", "--json", content=b"".join(parts)), (0, whole, "", None), "parts")
+    joined = harness.run("sum", "--json", content=b"".join(parts[:2]))[1]
+    rest = harness.run("sum", "--json", content=b"".join(parts[2:]))[1]
+    harness.equal(harness.run("sum", "--json", content=rest + joined), (0, whole, "", None), "parts of parts")
+    harness.equal(harness.run("stat", "--json", *files), (0, whole, "", None), "parts as files")
+    harness.equal(harness.run("sum", content=whole)[1], harness.run("stat", *files)[1], "tables")
+    spread = json.dumps(json.loads(whole), indent=2, sort_keys=True).encode()
+    harness.equal(harness.run("sum", "--json", content=spread), (0, whole, "", None), "white space and another order")
+    total = json.loads(harness.run("sum", "--json", content=whole * 3)[1])
+    one = json.loads(whole)
+    wanted = {name: {k: v * 3 for k, v in part.items()} if isinstance(part, dict) else part * 3 for name, part in one.items()}
+    harness.equal(total, wanted, "three times the whole")
+
+
+def refuse(harness, content, words, name):
+    status, found, told, _ = harness.run("sum", "--json", content=content)
+    harness.equal((status, found), (1, b""), name)
+    harness.check(told.startswith("ipcap: standard input: ") and told.count("\n") == 1 and words in told, name, told)
+
+
+def good(**parts):
+    """An object of one packet."""
+    counts = statistics(packets=1, ipv6=1, chains={"IPv6 0 -> 17": 1}, chain_bytes={"8": 1}, final_numbers={"17": 1})
+    return json.dumps({**counts, **parts}, separators=(",", ":")).encode()
+
+
+def malformed(harness):
+    text = good()
+    cases = [(b"", "no statistics"), (b" \n ", "no statistics"), (b"x", "'x' stands where '{' has to"), (b"[]", "'['"),
+             (b"null", "'n'"), (b"{}", "has no \"packets\""), (b"\xff", "byte 0xff"), (b"{\"packets\":1}", "has no \"ipv4\""),
+             (text + b"x", "'x'"), (text + b",", "','"), (text[:-1] + b",}", "'}' stands where a name"),
+             (text.replace(b":1", b":-1", 1), "'-'"), (text.replace(b":1", b":01", 1), "'1'"), (text.replace(b":1", b":1.5", 1), "'.'"),
+             (text.replace(b":1", b":1e3", 1), "'e'"), (text.replace(b":1", b":\"1\"", 1), "a count"), (text.replace(b":1", b":", 1), "a count"),
+             (text.replace(b":1", b":18446744073709551616", 1), "above 18446744073709551615"),
+             (text.replace(b":1", b":99999999999999999999999", 1), "above 18446744073709551615"),
+             (text.replace(b":1", b":2", 1), "don't add up"), (text.replace(b"packets", b"packet"), "none of the statistics"),
+             (text.replace(b"packets", b"pack\\u0065ts"), "none of the statistics"), (b"{" + text[1:-1] + b",\"packets\":1}", "twice in the object"),
+             (text.replace(b"packets", b"x" * 1000), "longer"), (text.replace(b"packets", b"\0"), "byte 0x00"),
+             (text.replace(b"packets", b"\n"), "byte 0x0a"), (text.replace(b"\"packets\"", b"packets"), "'p'")]
+    tables = [({"chains": {"IPv6 0 -> 17": 0}}, "is 0"), ({"chains": {"x": 1}}, "no chain"), ({"chains": {"IPv5 0 -> 17": 1}}, "no chain"),
+              ({"chains": {"IPv6 256 -> 17": 1}}, "no chain"), ({"chains": {"IPv6 00 -> 17": 1}}, "no chain"), ({"chains": {"": 1}}, "no chain"),
+              ({"chains": {"IPv6 0, -> 17": 1}}, "no chain"), ({"chains": {"IPv6 0 -> 17 faulty": 1}}, "no chain"),
+              ({"chains": {"IPv6 " + "0," * 64 + "0 -> 17": 1}}, "no chain"), ({"chains": {"IPv4 0 -> 17": 1}}, "don't add up"),
+              ({"chains": {}}, "don't add up"), ({"chains": []}, "'['"), ({"chains": {"IPv6 0 -> 17": {}}}, "'{'"), ({"chains": 1}, "'1'"),
+              ({"chain_bytes": {"08": 1}}, "no length"), ({"chain_bytes": {"x": 1}}, "no length"), ({"chain_bytes": {"9" * 40: 1}}, "no length"),
+              ({"chain_bytes": {"8": 2}}, "don't add up"), ({"final_numbers": {"256": 1}}, "no protocol number"),
+              ({"final_numbers": {"17 ": 1}}, "no protocol number"), ({"final_numbers": {"17": 2}}, "don't add up"),
+              ({"faults": {"too-short": 1}}, "no fault"), ({"faults": {"routing": 1}}, "no fault"), ({"not_ip": 1}, "don't add up"),
+              ({"packets": 2**64 - 1, "not_ip": 2**64 - 1}, "don't add up"), ({"fragments": 2}, "don't add up"),
+              ({"chains": {"IPv6 0 -> 17": 1, "other": 2**64 - 1}}, "don't add up")]
+    cases += [(good(**parts), words) for parts, words in tables]
+    twice = text.replace(b"{\"IPv6 0 -> 17\":1}", b"{\"IPv6 0 -> 17\":1,\"IPv6 0 -> 17\":1}")
+    cases += [(twice, "twice in a table"), (text.replace(b"{\"17\":1}", b"{\"17\":1,\"17\":1}"), "twice in a table")]
+    for content, words in cases:
+        refuse(harness, content, words, repr(content[:80]))
+    many = {"IPv6 %d,%d -> 17" % (n // 256, n % 256): 1 for n in range(4097)}
+    refuse(harness, good(chains=many), "more names", "4097 chains")
+    huge = good(packets=2**63, not_ip=2**63 - 1)
+    refuse(harness, huge * 2, "a sum is above 18446744073709551615", "a sum that doesn't fit")
+    harness.check("line 3, column 2: " in harness.run("sum", content=text + b"\n\n{x")[2], "where it is malformed")
+
+
+def damaged(harness):
+    """Each beginning of an object but the whole is refused, and whatever bytes are changed there is an end."""
+    text = good(faults={"too-short routing": 1})
+    draw = random.Random(4)
+    for length in range(1, len(text), 7):
+        refuse(harness, text[:length], "ends where", "the first %d bytes" % length)
+    for _ in range(40):
+        changed = bytearray(text)
+        for _ in range(draw.choice([1, 1, 2, 5])):
+            changed[draw.randrange(len(changed))] = draw.choice([0, 34, 44, 48, 58, 123, 125, 255, draw.randrange(256)])
+        status, found, told, _ = harness.run("sum", content=bytes(changed))
+        harness.check((status == 0) == (told == "") and (status == 1) == (found == b""), bytes(changed), status, told)
+
+
+def bounds(harness):
+    """Past 4096 chains further ones are counted as `other`; so are those of more than 64 headers."""
+    frames = []
+    for number in range(5000):
+        numbers = [43 if number >> bit & 1 else 60 for bit in range(13)]
+        frames.append(ethernet(ipv6_chain(numbers)))
+    found, told = harness.stat(harness.file(capture(frames)))
+    harness.equal((len(found["chains"]), found["chains"]["other"], told), (4097, 904, ""), "5000 chains")
+    harness.equal(found["chain_bytes"], {"104": 5000}, "5000 chains")
+    again = harness.run("sum", "--json", content=json.dumps(found).encode() * 2)
+    harness.equal(json.loads(again[1])["chains"]["other"], 1808, "5000 chains, twice")
+    for count, wanted in [(64, {"IPv6 " + ",".join(["60"] * 64) + " -> 17": 1}), (65, {"other": 1}), (8000, {"other": 1})]:
+        found, _ = harness.stat(content=capture([ethernet(ipv6_chain([60] * count))], snap_len=262144))
+        harness.equal((found["chains"], found["chain_bytes"]), (wanted, {str(8 * count): 1}), count, "headers")

@@ -1,0 +1,138 @@
+"""How the program is called, and what it does where output, terminals or memory fail it."""
+
+import os
+import pty
+import re
+import subprocess
+import time
+
+from captures import *
+
+COMMANDS = ["stat", "sum", "filter", "show"]
+
+
+def helps(harness):
+    for arguments in [["--help"], ["-h"]] + [[c, "--help"] for c in COMMANDS] + [[c, "-h"] for c in COMMANDS]:
+        status, found, told, _ = harness.run(*arguments)
+        harness.equal((status, told), (0, ""), arguments)
+        harness.check(found.startswith(b"usage: ipcap " + (arguments[0].encode() if len(arguments) > 1 else b"stat")), arguments)
+    for arguments in [["--version"]] + [[c, "--version"] for c in COMMANDS]:
+        status, found, told, _ = harness.run(*arguments)
+        harness.equal((status, told), (0, ""), arguments)
+        harness.check(re.match(rb"ipcap \d+\.\d+\.\d+\nlibpcap ", found), arguments, found)
+
+
+def wrong_usage(harness):
+    for arguments in [[], ["frob"], ["--frob"], ["x" * 500], ["stat", "--frob"], ["sum", "file"], ["sum", "--frob"], ["show", "a", "b"],
+                      ["show", "--color"], ["show", "--color=red"], ["show", "-w", "x"], ["stat", "--json=1"]]:
+        status, found, told, _ = harness.run(*arguments)
+        harness.equal((status, found), (2, b""), arguments)
+        harness.check("usage: ipcap " in told, arguments, told)
+
+
+def full_outputs(harness):
+    content = capture([ethernet(ipv6_chain([0, 43]))] * 500)
+    path = harness.file(content)
+    good = harness.run("stat", "--json", path)[1]
+    with open("/dev/full", "wb") as full:
+        for arguments, given in [(["stat", path], b""), (["stat", "--json", path], b""), (["sum"], good), (["sum", "--json"], good),
+                                 (["show", path], b""), (["show"], content), (["filter", "header 0", path], b""), (["filter", "header 0"], content),
+                                 (["filter", "fault", path], b""), (["--help"], b""), (["--version"], b"")]:
+            answer = harness.run(*arguments, content=given, output=full)
+            harness.equal((answer[0], answer[2]), (1, "ipcap: standard output: No space left on device\n"), arguments)
+        answer = harness.run("filter", "header 0", "-w", "/dev/full", path)
+        harness.equal((answer[0], answer[2]), (1, "ipcap: /dev/full: No space left on device\n"), "-w")
+
+
+def in_terminal(command, environment, standard_error=False, feed=None):
+    """What a command shows on a terminal, as its output or as its standard error alone."""
+    master, terminal = pty.openpty()
+    streams = {"stdout": subprocess.DEVNULL, "stderr": terminal} if standard_error else {"stdout": terminal, "stderr": terminal}
+    process = subprocess.Popen(command, stdin=subprocess.PIPE, env=environment, **streams)
+    os.close(terminal)
+    for part in feed or []:
+        process.stdin.write(part)
+        process.stdin.flush()
+        time.sleep(1.1)
+    process.stdin.close()
+    shown = b""
+    while True:
+        try:
+            part = os.read(master, 65536)
+        except OSError:
+            break
+        if not part:
+            break
+        shown += part
+    os.close(master)
+    return process.wait(), shown
+
+
+def terminals(harness):
+    path = harness.file(capture([ethernet(ipv6_chain([0, 43]))]))
+    environment = dict(harness.environment, TERM="xterm")
+    for command in [harness.plain, harness.sanitized, harness.checked]:
+        for more, arguments, is_colored in [({}, [], True), ({"NO_COLOR": "1"}, [], False), ({"NO_COLOR": ""}, [], True), ({"TERM": "dumb"}, [], False),
+                                            ({"NO_COLOR": "1"}, ["--color=always"], True), ({}, ["--color=never"], False)]:
+            status, shown = in_terminal(command + ["show", path] + arguments, dict(environment, **more))
+            harness.equal((status, b"\033[" in shown), (0, is_colored), more, arguments)
+        status, shown = in_terminal(command + ["filter", "fault", path], environment)
+        harness.equal((status, b"isn't written to a terminal" in shown), (2, True), "a capture on a terminal")
+        frames = [record(ethernet(ipv6_chain([0])))] * 1024
+        status, shown = in_terminal(command + ["stat"], environment, True, [file_header(), b"".join(frames), b"".join(frames)])
+        harness.check(status == 0 and b"standard input: 1024 packets" in shown and shown.endswith(b"\r\033[K"), shown)
+        status, shown = in_terminal(command + ["stat", path], environment, True)
+        harness.equal((status, shown), (0, b""), "no progress of a short file")
+
+
+def memory_used(command, path):
+    """The largest size of a run in kilobytes."""
+    started = subprocess.Popen(command + [path], stdout=subprocess.DEVNULL)
+    _, status, usage = os.wait4(started.pid, 0)
+    started.returncode = status
+    return status, usage.ru_maxrss
+
+
+def bounded_memory(harness):
+    """A capture of a thousand times as many packets takes no more memory."""
+    frames = [record(ethernet(ipv6_chain(numbers))) for numbers in [[0], [0, 43], [60, 44], [51]]]
+    short, long = harness.file(file_header() + b"".join(frames) * 50), harness.file(file_header() + b"".join(frames) * 50000)
+    for command in [["stat"], ["filter", "header 44", "-w", "/dev/null"], ["show"]]:
+        few, many = memory_used(harness.plain + command, short), memory_used(harness.plain + command, long)
+        harness.check(few[0] == many[0] == 0 and many[1] < few[1] + 500, command, few, many)
+
+
+def refused_memory(harness):
+    """Each allocation refused in turn ends the program with a message."""
+    content = capture([ethernet(ipv6_chain([60] * 40)), ethernet(ipv4(17, UDP))])
+    path = harness.file(content)
+    counts = harness.run("stat", "--json", path)[1]
+    harness.settle()
+    for arguments, given in [(["stat", path], b""), (["filter", "header 60", path], b""), (["show", path], b""), (["sum"], counts)]:
+        wanted = harness.run(*arguments, content=given)[1]
+        failures, number = 0, 0
+        while number < 100:
+            number += 1
+            environment = dict(harness.environment, LD_PRELOAD=harness.refusing, REFUSED_ALLOCATION=str(number))
+            found = subprocess.run(harness.plain + arguments, input=given, stdout=subprocess.PIPE, stderr=subprocess.PIPE, env=environment)
+            if found.returncode == 0:
+                harness.equal(found.stdout, wanted, "allocation", number, "of", arguments)
+            else:
+                harness.check(found.returncode == 1 and found.stderr.startswith(b"ipcap: "), arguments, number, found)
+                failures += 1
+        harness.check(failures > 1, arguments, "failed on", failures)
+
+
+def damaged_captures(harness):
+    """Whatever bytes of a capture are changed, each command comes to an end."""
+    import random
+    draw = random.Random(5)
+    content = capture([ethernet(ipv6_chain([0, 43, 44, 51, 60])), ethernet(ipv4(51, authentication(17) + UDP), (0x8100,)),
+                       ethernet(ipv6(44, fragment(60, 0, 1) + options(17) + UDP))])
+    for number in range(60):
+        changed = bytearray(content)
+        for _ in range(draw.choice([1, 2, 5, 20])):
+            changed[draw.randrange(0 if number % 4 == 0 else 24, len(changed))] = draw.choice([0, 1, 255, draw.randrange(256)])
+        command = [["stat"], ["show"], ["filter", "header 44 or fault"]][number % 3]
+        status, _, told, _ = harness.run(*command, content=bytes(changed))
+        harness.equal(status == 0, told == "", command, bytes(changed).hex(), told)

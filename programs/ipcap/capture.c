@@ -1,6 +1,7 @@
 #include "capture.h"
 
 #include <errno.h>
+#include <signal.h>
 #include <stdio.h>
 #include <string.h>
 #include <sys/stat.h>
@@ -80,12 +81,32 @@ static bool open_handle(struct capture *capture) {
     return false;
 }
 
-/* Looks at what is read, and whether anyone sees progress that isn't mixed with the answer. */
-static void begin_progress(struct capture *capture) {
+static void leave_interrupt(int signal_number) {
+    (void)signal_number;
+}
+
+/*
+ * Leaves the first interrupt to the program that writes a pipe: it is interrupted too, and what it then still writes is
+ * read. The second ends this program.
+ */
+static void outlive_interrupt(void) {
+    struct sigaction action = {.sa_handler = leave_interrupt, .sa_flags = (int)(SA_RESTART | SA_RESETHAND)};
+    struct sigaction before;
+    if (sigaction(SIGINT, NULL, &before) == 0 && before.sa_handler == SIG_DFL) sigaction(SIGINT, &action, NULL);
+}
+
+/* Looks at what is read. */
+static void look_at_file(struct capture *capture) {
     struct stat status;
-    bool is_file = fstat(fileno(capture->file), &status) == 0 && S_ISREG(status.st_mode);
+    bool is_known = fstat(fileno(capture->file), &status) == 0;
+    bool is_file = is_known && S_ISREG(status.st_mode);
     capture->is_live = !is_file;
     capture->len = is_file ? status.st_size : 0;
+    if (is_known && S_ISFIFO(status.st_mode)) outlive_interrupt();
+}
+
+/* Looks whether anyone sees progress, and sees it apart from the answer. */
+static void begin_progress(struct capture *capture) {
     capture->shows_progress = isatty(STDERR_FILENO) && !isatty(STDOUT_FILENO);
     if (clock_gettime(CLOCK_MONOTONIC, &capture->shown) != 0) capture->shows_progress = false;
 }
@@ -93,10 +114,9 @@ static void begin_progress(struct capture *capture) {
 bool open_capture(struct capture *capture, const char *path) {
     *capture = (struct capture){0};
     if (!open_file(capture, path)) return false;
-    if (open_handle(capture)) {
-        begin_progress(capture);
-        return true;
-    }
+    look_at_file(capture);
+    begin_progress(capture);
+    if (open_handle(capture)) return true;
     if (capture->handle)
         close_capture(capture);
     else

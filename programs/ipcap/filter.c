@@ -45,9 +45,8 @@ static bool refuse_output(const struct output *output, const char *words) {
     return false;
 }
 
-/* Puts out what the output still holds. */
+/* Puts out what the output still holds. Where anything is lost, says why if `errno` was 0 before it was written. */
 static bool flush_output(const struct output *output) {
-    errno = 0;
     if (pcap_dump_flush(output->dumper) == 0 && !ferror(pcap_dump_file(output->dumper))) return true;
     return refuse_output(output, errno ? strerror(errno) : "a write failed");
 }
@@ -59,6 +58,7 @@ static bool open_output(struct output *output, const struct capture *capture, co
     if (!is_standard && is_input(capture, path)) return refuse_output(output, "is what is read");
     FILE *file = is_standard ? stdout : fopen(path, "wb");
     if (!file) return refuse_output(output, strerror(errno));
+    errno = 0;
     output->dumper = pcap_dump_fopen(capture->handle, file);
     if (output->dumper) return !capture->is_live || flush_output(output);
     if (!is_standard) fclose(file);
@@ -67,6 +67,7 @@ static bool open_output(struct output *output, const struct capture *capture, co
 
 /* Writes a packet, at once where packets come as they are captured. */
 static bool write_packet(const struct output *output, const struct capture *capture, const struct packet *packet) {
+    errno = 0;
     pcap_dump((u_char *)output->dumper, &packet->header, packet->frame);
     if (capture->is_live || ferror(pcap_dump_file(output->dumper))) return flush_output(output);
     return true;
@@ -87,6 +88,7 @@ static bool filter_packets(const struct request *request, const struct output *o
     while (is_written && (reading = read_packet(capture, &packet)) == READ_PACKET)
         is_written = filter_packet(request, output, capture, &packet, &cut);
     free_cut(&cut);
+    errno = 0;
     if (is_written) is_written = flush_output(output);
     return is_written && reading == READ_END;
 }

@@ -1,5 +1,6 @@
 #include "options.h"
 
+#include <errno.h>
 #include <getopt.h>
 #include <pcap/pcap.h>
 #include <stddef.h>
@@ -9,12 +10,14 @@
 #include "wolfaren.h"
 
 int print_version(void) {
+    errno = 0;
     printf("ipcap %d.%d.%d\n%s\n", WOLFAREN_VERSION_MAJOR, WOLFAREN_VERSION_MINOR, WOLFAREN_VERSION_PATCH,
            pcap_lib_version());
     return finish_output() ? STATUS_DONE : STATUS_FAILED;
 }
 
 int print_help(const char *usage) {
+    errno = 0;
     fputs(usage, stdout);
     return finish_output() ? STATUS_DONE : STATUS_FAILED;
 }

@@ -19,7 +19,6 @@ void complain_of_memory(void) {
 }
 
 bool finish_output(void) {
-    errno = 0;
     if (fflush(stdout) == 0 && !ferror(stdout)) return true;
     complain("standard output: %s", errno ? strerror(errno) : "a write failed");
     return false;

@@ -12,7 +12,10 @@ void complain(const char *format, ...) __attribute__((format(printf, 1, 2)));
 /* Says that memory ran out. */
 void complain_of_memory(void);
 
-/* Puts out what standard output still holds. Where anything written to it was lost, says so and answers false. */
+/*
+ * Puts out what standard output still holds. Where anything written to it was lost, says so, and why if `errno` was 0
+ * before it was written, and answers false.
+ */
 bool finish_output(void);
 
 #endif

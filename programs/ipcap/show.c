@@ -1,4 +1,5 @@
 /* The subcommand that draws. */
+#include <errno.h>
 #include <getopt.h>
 #include <stdio.h>
 #include <stdlib.h>
@@ -62,6 +63,7 @@ static void print_title(const struct capture *capture, const struct packet *pack
 
 static bool show_packet(const struct capture *capture, const struct packet *packet, struct cut *cut, bool in_color) {
     if (packet->is_ip && !cut_captured(cut, packet)) return false;
+    errno = 0;
     if (capture->number > 1) putchar('\n');
     print_title(capture, packet, cut);
     if (packet->is_ip) draw_packet(cut, in_color);

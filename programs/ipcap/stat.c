@@ -1,4 +1,5 @@
 /* The subcommands that count. */
+#include <errno.h>
 #include <getopt.h>
 #include <stdio.h>
 #include <string.h>
@@ -53,6 +54,7 @@ static bool count_capture(struct counts *counts, struct cut *cut, const char *pa
 
 /* Writes the statistics, and answers the status of what was done before and of this. */
 static int finish_counts(struct counts *counts, bool json, bool is_done) {
+    errno = 0;
     if (json)
         print_json(counts);
     else

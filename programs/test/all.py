@@ -22,7 +22,7 @@ GROUPS = [("link layers", test_stat.link_layers), ("short frames", test_stat.sho
           ("places of faults", test_show.places_of_faults), ("long packets", test_show.long_packets),
           ("colours", test_show.colors), ("help and version", test_use.helps), ("wrong usage", test_use.wrong_usage),
           ("full outputs", test_use.full_outputs), ("terminals", test_use.terminals),
-          ("bounded memory", test_use.bounded_memory), ("refused memory", test_use.refused_memory),
+          ("interrupts", test_use.interrupts), ("bounded memory", test_use.bounded_memory), ("refused memory", test_use.refused_memory),
           ("damaged captures", test_use.damaged_captures)]
 
 if __name__ == "__main__":

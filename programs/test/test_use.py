@@ -78,11 +78,27 @@ def terminals(harness):
             harness.equal((status, b"\033[" in shown), (0, is_colored), more, arguments)
         status, shown = in_terminal(command + ["filter", "fault", path], environment)
         harness.equal((status, b"isn't written to a terminal" in shown), (2, True), "a capture on a terminal")
-        frames = [record(ethernet(ipv6_chain([0])))] * 1024
-        status, shown = in_terminal(command + ["stat"], environment, True, [file_header(), b"".join(frames), b"".join(frames)])
-        harness.check(status == 0 and b"standard input: 1024 packets" in shown and shown.endswith(b"\r\033[K"), shown)
+        frames = b"".join([record(ethernet(ipv6_chain([0])))] * 1024)
+        status, shown = in_terminal(command + ["stat"], environment, True, [file_header(), frames, frames, frames])
+        harness.check(status == 0 and re.search(rb"standard input: \d+ packets", shown) and shown.endswith(b"\r\033[K"), shown)
         status, shown = in_terminal(command + ["stat", path], environment, True)
         harness.equal((status, shown), (0, b""), "no progress of a short file")
+
+
+def interrupts(harness):
+    """What a pipe still brings behind an interrupt is counted; the second interrupt ends the program."""
+    packet = record(ethernet(ipv6_chain([0])))
+    for command in [harness.plain, harness.sanitized, harness.checked]:
+        for count, wanted in [(1, 0), (2, -signal.SIGINT)]:
+            process = subprocess.Popen(command + ["filter", "header 0"], stdin=subprocess.PIPE, stdout=subprocess.PIPE,
+                                       env=harness.environment)
+            os.write(process.stdin.fileno(), file_header() + packet)
+            harness.equal(process.stdout.read(24 + len(packet)), file_header() + packet, "before the interrupt")
+            for _ in range(count):
+                process.send_signal(signal.SIGINT)
+                time.sleep(0.3)
+            found, _ = process.communicate(packet if count == 1 else None)
+            harness.equal((process.returncode, found), (wanted, packet if count == 1 else b""), count, "interrupts")
 
 
 def memory_used(command, path):

@@ -19,7 +19,8 @@ enum { MAGIC_LEN = 4 };
  * Reads the first bytes of a file, as many as there are, and puts them back. They stand in the buffer then, where any C
  * library can put back what it has just given; it answers so, and is asked.
  */
-static bool look_at_magic(FILE *file, uint8_t magic[MAGIC_LEN]) {
+static bool look_at_magic(FILE *file, uint8_t magic[MAGIC_LEN])
+{
     size_t len = fread(magic, 1, MAGIC_LEN, file);
     if (ferror(file)) return false;
     clearerr(file);
@@ -30,7 +31,8 @@ static bool look_at_magic(FILE *file, uint8_t magic[MAGIC_LEN]) {
 }
 
 /* Whether times may have to be kept in nanoseconds: in files that say so, of either byte order, and in pcapng. */
-static bool has_nanoseconds(const uint8_t magic[MAGIC_LEN]) {
+static bool has_nanoseconds(const uint8_t magic[MAGIC_LEN])
+{
     static const uint8_t magics[][MAGIC_LEN] = {
         {0xa1, 0xb2, 0x3c, 0x4d}, {0x4d, 0x3c, 0xb2, 0xa1}, {0x0a, 0x0d, 0x0d, 0x0a}};
     for (size_t i = 0; i < sizeof magics / sizeof magics[0]; i++)
@@ -38,7 +40,8 @@ static bool has_nanoseconds(const uint8_t magic[MAGIC_LEN]) {
     return false;
 }
 
-static bool open_file(struct capture *capture, const char *path) {
+static bool open_file(struct capture *capture, const char *path)
+{
     bool is_input = !path || strcmp(path, "-") == 0;
     capture->name = is_input ? "standard input" : path;
     capture->file = is_input ? stdin : fopen(path, "rb");
@@ -47,12 +50,14 @@ static bool open_file(struct capture *capture, const char *path) {
     return false;
 }
 
-static void close_file(struct capture *capture) {
+static void close_file(struct capture *capture)
+{
     if (capture->file != stdin) fclose(capture->file);
 }
 
 /* Says why a capture of this link layer isn't read. */
-static void complain_of_link_layer(const struct capture *capture) {
+static void complain_of_link_layer(const struct capture *capture)
+{
     const char *name = pcap_datalink_val_to_name(capture->link_layer);
     const char *words = pcap_datalink_val_to_description(capture->link_layer);
     if (name && words)
@@ -61,7 +66,8 @@ static void complain_of_link_layer(const struct capture *capture) {
         complain("%s: link layer %d isn't supported", capture->name, capture->link_layer);
 }
 
-static bool open_handle(struct capture *capture) {
+static bool open_handle(struct capture *capture)
+{
     uint8_t magic[MAGIC_LEN];
     char error[PCAP_ERRBUF_SIZE] = "";
     errno = 0;
@@ -81,7 +87,8 @@ static bool open_handle(struct capture *capture) {
     return false;
 }
 
-static void leave_interrupt(int signal_number) {
+static void leave_interrupt(int signal_number)
+{
     (void)signal_number;
 }
 
@@ -89,14 +96,16 @@ static void leave_interrupt(int signal_number) {
  * Leaves the first interrupt to the program that writes a pipe: it is interrupted too, and what it then still writes is
  * read. The second ends this program.
  */
-static void outlive_interrupt(void) {
+static void outlive_interrupt(void)
+{
     struct sigaction action = {.sa_handler = leave_interrupt, .sa_flags = (int)(SA_RESTART | SA_RESETHAND)};
     struct sigaction before;
     if (sigaction(SIGINT, NULL, &before) == 0 && before.sa_handler == SIG_DFL) sigaction(SIGINT, &action, NULL);
 }
 
 /* Looks at what is read. */
-static void look_at_file(struct capture *capture) {
+static void look_at_file(struct capture *capture)
+{
     struct stat status;
     bool is_known = fstat(fileno(capture->file), &status) == 0;
     bool is_file = is_known && S_ISREG(status.st_mode);
@@ -106,12 +115,14 @@ static void look_at_file(struct capture *capture) {
 }
 
 /* Looks whether anyone sees progress, and sees it apart from the answer. */
-static void begin_progress(struct capture *capture) {
+static void begin_progress(struct capture *capture)
+{
     capture->shows_progress = isatty(STDERR_FILENO) && !isatty(STDOUT_FILENO);
     if (clock_gettime(CLOCK_MONOTONIC, &capture->shown) != 0) capture->shows_progress = false;
 }
 
-bool open_capture(struct capture *capture, const char *path) {
+bool open_capture(struct capture *capture, const char *path)
+{
     *capture = (struct capture){0};
     if (!open_file(capture, path)) return false;
     look_at_file(capture);
@@ -125,12 +136,14 @@ bool open_capture(struct capture *capture, const char *path) {
 }
 
 /* Takes the line of progress away, if there is one. */
-static void clear_progress(const struct capture *capture) {
+static void clear_progress(const struct capture *capture)
+{
     if (capture->shows_progress && capture->number >= PROGRESS_PACKETS) fputs("\r\033[K", stderr);
 }
 
 /* Tells how far the reading has come, once in a second. */
-static void show_progress(struct capture *capture) {
+static void show_progress(struct capture *capture)
+{
     struct timespec now;
     if (!capture->shows_progress || capture->number % PROGRESS_PACKETS != 0) return;
     if (clock_gettime(CLOCK_MONOTONIC, &now) != 0 || now.tv_sec == capture->shown.tv_sec) return;
@@ -143,13 +156,15 @@ static void show_progress(struct capture *capture) {
 }
 
 /* Says at which packet the reading failed. */
-static void complain_of_end(struct capture *capture) {
+static void complain_of_end(struct capture *capture)
+{
     clear_progress(capture);
     complain("%s: ends at packet %llu: %s", capture->name, (unsigned long long)capture->number + 1,
              pcap_geterr(capture->handle));
 }
 
-enum reading read_packet(struct capture *capture, struct packet *packet) {
+enum reading read_packet(struct capture *capture, struct packet *packet)
+{
     struct pcap_pkthdr *header;
     int answer = pcap_next_ex(capture->handle, &header, &packet->frame);
     if (answer == PCAP_ERROR_BREAK) {
@@ -168,14 +183,16 @@ enum reading read_packet(struct capture *capture, struct packet *packet) {
     return READ_PACKET;
 }
 
-bool cut_captured(struct cut *cut, const struct packet *packet) {
+bool cut_captured(struct cut *cut, const struct packet *packet)
+{
     size_t len = packet->header.caplen - packet->ip_offset;
     if (cut_packet(cut, packet->frame + packet->ip_offset, len, packet->is_short)) return true;
     complain_of_memory();
     return false;
 }
 
-void close_capture(struct capture *capture) {
+void close_capture(struct capture *capture)
+{
     bool is_input = capture->file == stdin;
     pcap_close(capture->handle);
     if (is_input) clearerr(stdin);

@@ -12,7 +12,8 @@ _Static_assert((int)KEY_USED <= (int)KEY_BYTES, "a chain's key fits");
 
 static const char *const end_words[] = {[CHAIN_WHOLE] = "", [CHAIN_FAULTY] = " fault", [CHAIN_CUT] = " cut"};
 
-bool chain_key(const struct cut *cut, struct key *key) {
+bool chain_key(const struct cut *cut, struct key *key)
+{
     if (cut->count > KEY_HEADERS) return false;
     memset(key, 0, sizeof *key);
     key->bytes[VERSION_AT] = cut->version;
@@ -23,7 +24,8 @@ bool chain_key(const struct cut *cut, struct key *key) {
     return true;
 }
 
-void write_chain(const struct key *key, char text[CHAIN_TEXT_ROOM]) {
+void write_chain(const struct key *key, char text[CHAIN_TEXT_ROOM])
+{
     const uint8_t *bytes = key->bytes;
     int len = snprintf(text, CHAIN_TEXT_ROOM, "IPv%d ", bytes[VERSION_AT]);
     for (size_t i = 0; i < bytes[COUNT_AT]; i++)
@@ -33,7 +35,8 @@ void write_chain(const struct key *key, char text[CHAIN_TEXT_ROOM]) {
 }
 
 /* Puts `text` behind the words where it begins with them. */
-static bool take_words(const char **text, const char *words) {
+static bool take_words(const char **text, const char *words)
+{
     size_t len = strlen(words);
     if (strncmp(*text, words, len) != 0) return false;
     *text += len;
@@ -41,7 +44,8 @@ static bool take_words(const char **text, const char *words) {
 }
 
 /* Reads the numbers before the arrow, with the space behind them. */
-static bool read_numbers(const char **text, struct key *key) {
+static bool read_numbers(const char **text, struct key *key)
+{
     uint8_t *count = &key->bytes[COUNT_AT];
     if (**text == '-') return true;
     do {
@@ -51,7 +55,8 @@ static bool read_numbers(const char **text, struct key *key) {
     return take_words(text, " ");
 }
 
-bool read_chain(const char *text, struct key *key) {
+bool read_chain(const char *text, struct key *key)
+{
     memset(key, 0, sizeof *key);
     if (!take_words(&text, "IPv") || !read_byte_number(&text, &key->bytes[VERSION_AT])) return false;
     if (key->bytes[VERSION_AT] != 4 && key->bytes[VERSION_AT] != 6) return false;
@@ -65,6 +70,7 @@ bool read_chain(const char *text, struct key *key) {
     return false;
 }
 
-uint8_t key_version(const struct key *key) {
+uint8_t key_version(const struct key *key)
+{
     return key->bytes[VERSION_AT];
 }

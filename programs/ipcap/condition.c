@@ -16,7 +16,8 @@ struct words {
 static const char spaces[] = " \t\n";
 
 /* The next word and how many characters it has, which are none where there is no further word. */
-static const char *next_word(const struct words *words, size_t *len) {
+static const char *next_word(const struct words *words, size_t *len)
+{
     *len = 0;
     if (words->index == words->count) return "";
     const char *word = words->rest ? words->rest : words->arguments[words->index];
@@ -26,7 +27,8 @@ static const char *next_word(const struct words *words, size_t *len) {
 }
 
 /* Goes behind the next word, and behind its argument where only white space is left. */
-static void skip_word(struct words *words) {
+static void skip_word(struct words *words)
+{
     size_t len;
     const char *word = next_word(words, &len);
     words->rest = word + len + strspn(word + len, spaces);
@@ -35,7 +37,8 @@ static void skip_word(struct words *words) {
     words->rest = NULL;
 }
 
-static bool take_word(struct words *words, const char *wanted) {
+static bool take_word(struct words *words, const char *wanted)
+{
     size_t len;
     const char *word = next_word(words, &len);
     if (len != strlen(wanted) || strncmp(word, wanted, len) != 0) return false;
@@ -43,7 +46,8 @@ static bool take_word(struct words *words, const char *wanted) {
     return true;
 }
 
-static bool refuse_word(const struct words *words, const char *wanted) {
+static bool refuse_word(const struct words *words, const char *wanted)
+{
     size_t len;
     const char *word = next_word(words, &len);
     if (len == 0)
@@ -53,7 +57,8 @@ static bool refuse_word(const struct words *words, const char *wanted) {
     return false;
 }
 
-static bool take_number(struct words *words, uint8_t *number) {
+static bool take_number(struct words *words, uint8_t *number)
+{
     size_t len;
     const char *word = next_word(words, &len), *behind = word;
     if (!read_byte_number(&behind, number) || behind != word + len) return refuse_word(words, "a number of 0 to 255");
@@ -61,7 +66,8 @@ static bool take_number(struct words *words, uint8_t *number) {
     return true;
 }
 
-static bool take_test(struct words *words, struct test *test) {
+static bool take_test(struct words *words, struct test *test)
+{
     while (take_word(words, "not")) test->is_negated = !test->is_negated;
     if (take_word(words, "fragment"))
         test->kind = TEST_FRAGMENT;
@@ -77,7 +83,8 @@ static bool take_test(struct words *words, struct test *test) {
     return !has_number || take_number(words, &test->number);
 }
 
-bool read_condition(struct condition *condition, int count, char *const *arguments, int *taken) {
+bool read_condition(struct condition *condition, int count, char *const *arguments, int *taken)
+{
     struct words words = {arguments, count, 0, NULL};
     bool is_behind_or = false;
     condition->count = 0;
@@ -96,13 +103,15 @@ bool read_condition(struct condition *condition, int count, char *const *argumen
     return true;
 }
 
-static bool has_header(const struct cut *cut, uint8_t number) {
+static bool has_header(const struct cut *cut, uint8_t number)
+{
     for (size_t i = 0; i < cut->count; i++)
         if (cut->headers[i].number == number) return true;
     return false;
 }
 
-static bool does_hold(const struct test *test, const struct cut *cut) {
+static bool does_hold(const struct test *test, const struct cut *cut)
+{
     if (!cut) return false;
     switch (test->kind) {
         case TEST_FRAGMENT: return cut->is_fragment;
@@ -113,7 +122,8 @@ static bool does_hold(const struct test *test, const struct cut *cut) {
     return false;
 }
 
-bool does_meet(const struct condition *condition, const struct cut *cut) {
+bool does_meet(const struct condition *condition, const struct cut *cut)
+{
     bool is_met = true;
     for (size_t i = 0; i < condition->count; i++) {
         const struct test *test = &condition->tests[i];

@@ -4,7 +4,8 @@
 
 #include "chain_key.h"
 
-void length_key(uint64_t len, struct key *key) {
+void length_key(uint64_t len, struct key *key)
+{
     memset(key, 0, sizeof *key);
     for (int i = 7; i >= 0; i--) {
         key->bytes[i] = (uint8_t)(len & 0xff);
@@ -12,18 +13,21 @@ void length_key(uint64_t len, struct key *key) {
     }
 }
 
-uint64_t key_length(const struct key *key) {
+uint64_t key_length(const struct key *key)
+{
     uint64_t len = 0;
     for (int i = 0; i < 8; i++) len = len << 8 | key->bytes[i];
     return len;
 }
 
-void count_frame(struct counts *counts, bool is_short) {
+void count_frame(struct counts *counts, bool is_short)
+{
     counts->packets++;
     if (is_short) counts->cut++;
 }
 
-static bool count_chain(struct counts *counts, const struct cut *cut) {
+static bool count_chain(struct counts *counts, const struct cut *cut)
+{
     struct key key;
     if (!chain_key(cut, &key))
         counts->chains.other++;
@@ -35,7 +39,8 @@ static bool count_chain(struct counts *counts, const struct cut *cut) {
     return true;
 }
 
-bool count_packet(struct counts *counts, const struct cut *cut) {
+bool count_packet(struct counts *counts, const struct cut *cut)
+{
     if (has_fault(cut) && cut->fault.kind < FAULT_KINDS && cut->fault_layer < FAULT_LAYERS)
         counts->faults[cut->fault.kind][cut->fault_layer]++;
     if (cut->version == 0) {
@@ -50,7 +55,8 @@ bool count_packet(struct counts *counts, const struct cut *cut) {
     return count_chain(counts, cut);
 }
 
-static enum added add_table(struct table *total, const struct table *more) {
+static enum added add_table(struct table *total, const struct table *more)
+{
     if (!add_count(&total->other, more->other)) return ADDED_OVERFLOW;
     for (size_t i = 0; i < more->count; i++) {
         enum added added = add_to_table(total, &more->entries[i].key, more->entries[i].count);
@@ -59,13 +65,15 @@ static enum added add_table(struct table *total, const struct table *more) {
     return ADDED;
 }
 
-static bool add_array(uint64_t *total, const uint64_t *more, size_t count) {
+static bool add_array(uint64_t *total, const uint64_t *more, size_t count)
+{
     for (size_t i = 0; i < count; i++)
         if (!add_count(&total[i], more[i])) return false;
     return true;
 }
 
-enum added add_counts(struct counts *total, const struct counts *more) {
+enum added add_counts(struct counts *total, const struct counts *more)
+{
     bool fits = add_count(&total->packets, more->packets) && add_count(&total->ipv4, more->ipv4)
         && add_count(&total->ipv6, more->ipv6) && add_count(&total->unread, more->unread)
         && add_count(&total->not_ip, more->not_ip) && add_count(&total->fragments, more->fragments)
@@ -77,7 +85,8 @@ enum added add_counts(struct counts *total, const struct counts *more) {
 }
 
 /* Whether no more chains of a version are in the table than packets, and all are where none is counted as `other`. */
-static bool has_chains(const struct counts *counts, uint8_t version, uint64_t packets) {
+static bool has_chains(const struct counts *counts, uint8_t version, uint64_t packets)
+{
     uint64_t chains = 0;
     for (size_t i = 0; i < counts->chains.count; i++)
         if (key_version(&counts->chains.entries[i].key) == version
@@ -86,7 +95,8 @@ static bool has_chains(const struct counts *counts, uint8_t version, uint64_t pa
     return chains <= packets && (counts->chains.other > 0 || chains == packets);
 }
 
-bool do_add_up(const struct counts *counts) {
+bool do_add_up(const struct counts *counts)
+{
     uint64_t ip = counts->ipv4, chains, lengths, numbers = 0;
     if (!add_count(&ip, counts->ipv6)) return false;
     if (!sum_table(&counts->chains, &chains) || !sum_table(&counts->chain_bytes, &lengths)) return false;
@@ -99,7 +109,8 @@ bool do_add_up(const struct counts *counts) {
         && has_chains(counts, 6, counts->ipv6);
 }
 
-void free_counts(struct counts *counts) {
+void free_counts(struct counts *counts)
+{
     free_table(&counts->chains);
     free_table(&counts->chain_bytes);
 }

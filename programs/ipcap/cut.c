@@ -7,12 +7,14 @@ enum { IPV4_MIN_LEN = 20, IPV6_LEN = 40 };
 /* Of the 16 bits that hold the fragment offset of an IPv4 header (RFC 791, section 3.1). */
 enum { IPV4_MORE_FRAGMENTS = 0x2000, IPV4_OFFSET = 0x1fff };
 
-static unsigned number_at(const uint8_t *bytes) {
+static unsigned number_at(const uint8_t *bytes)
+{
     return (unsigned)bytes[0] << 8 | bytes[1];
 }
 
 /* How many bytes the base header has, or 0 where there is none. */
-static size_t base_length(const uint8_t *bytes, size_t len) {
+static size_t base_length(const uint8_t *bytes, size_t len)
+{
     unsigned version = len > 0 ? bytes[0] >> 4 : 0;
     if (version == 6) return len >= IPV6_LEN ? IPV6_LEN : 0;
     if (version != 4) return 0;
@@ -21,20 +23,23 @@ static size_t base_length(const uint8_t *bytes, size_t len) {
 }
 
 /* Where the packet says that it ends. An IPv6 packet with payload length 0 has all the bytes. */
-static size_t stated_end(const struct cut *cut) {
+static size_t stated_end(const struct cut *cut)
+{
     if (cut->version == 4) return number_at(cut->bytes + 2);
     size_t payload_len = number_at(cut->bytes + 4);
     return payload_len == 0 ? cut->len : IPV6_LEN + payload_len;
 }
 
 /* Where the packet ends within the bytes. */
-static size_t end_within(const struct cut *cut) {
+static size_t end_within(const struct cut *cut)
+{
     size_t end = stated_end(cut);
     if (end > cut->len) end = cut->len;
     return end < cut->base_len ? cut->base_len : end;
 }
 
-static bool make_room(struct cut *cut) {
+static bool make_room(struct cut *cut)
+{
     if (cut->count < cut->room) return true;
     size_t room = cut->room == 0 ? 16 : cut->room * 2;
     if (room > SIZE_MAX / sizeof *cut->headers) return false;
@@ -46,7 +51,8 @@ static bool make_room(struct cut *cut) {
 }
 
 /* Appends a header whose offset counts from where the chain begins. */
-static bool push_header(struct cut *cut, const struct wolfaren_header *header) {
+static bool push_header(struct cut *cut, const struct wolfaren_header *header)
+{
     if (!make_room(cut)) return false;
     cut->headers[cut->count] = *header;
     cut->headers[cut->count].offset += cut->base_len;
@@ -55,7 +61,8 @@ static bool push_header(struct cut *cut, const struct wolfaren_header *header) {
 }
 
 /* Whether a header is a fragment header behind which the middle of a payload stands. */
-static bool is_later_fragment(struct cut *cut, const uint8_t *chain, const struct wolfaren_header *header) {
+static bool is_later_fragment(struct cut *cut, const uint8_t *chain, const struct wolfaren_header *header)
+{
     struct wolfaren_fragment fields;
     if (header->number != WOLFAREN_FRAGMENT) return false;
     if (!wolfaren_fragment_fields(chain + header->offset, header->len, &fields)) return false;
@@ -63,7 +70,8 @@ static bool is_later_fragment(struct cut *cut, const uint8_t *chain, const struc
     return fields.fragment_offset != 0;
 }
 
-static bool walk_ipv6(struct cut *cut, struct wolfaren_fault *fault) {
+static bool walk_ipv6(struct cut *cut, struct wolfaren_fault *fault)
+{
     const uint8_t *chain = cut->bytes + cut->base_len;
     size_t len = cut->packet_at_end - cut->base_len;
     struct wolfaren_cursor cursor = {0, cut->bytes[6]};
@@ -79,7 +87,8 @@ static bool walk_ipv6(struct cut *cut, struct wolfaren_fault *fault) {
     return true;
 }
 
-static bool walk_ipv4(struct cut *cut, struct wolfaren_fault *fault) {
+static bool walk_ipv4(struct cut *cut, struct wolfaren_fault *fault)
+{
     unsigned fragment = number_at(cut->bytes + 6);
     cut->is_fragment = (fragment & (IPV4_MORE_FRAGMENTS | IPV4_OFFSET)) != 0;
     cut->number = cut->bytes[9];
@@ -96,7 +105,8 @@ static bool walk_ipv4(struct cut *cut, struct wolfaren_fault *fault) {
 }
 
 /* Whether a fault of a packet lies before its chain. */
-static bool is_before_chain(const struct wolfaren_fault *fault) {
+static bool is_before_chain(const struct wolfaren_fault *fault)
+{
     return fault->kind == WOLFAREN_UNSUPPORTED_IP_VERSION || fault->kind == WOLFAREN_IPV4_HEADER_LENGTH
         || fault->layer == WOLFAREN_IP_HEADER || fault->layer == WOLFAREN_IPV4_HEADER
         || fault->layer == WOLFAREN_IPV4_PACKET || fault->layer == WOLFAREN_IPV6_HEADER
@@ -104,26 +114,30 @@ static bool is_before_chain(const struct wolfaren_fault *fault) {
 }
 
 /* Whether bytes are missing that the capture needn't have kept. */
-static bool is_of_capture(const struct wolfaren_fault *fault, bool is_short) {
+static bool is_of_capture(const struct wolfaren_fault *fault, bool is_short)
+{
     return is_short && fault->kind == WOLFAREN_TOO_SHORT && fault->len_source == WOLFAREN_SLICE;
 }
 
 /* The header or the packet of which a fault before the chain tells. */
-static uint8_t layer_before_chain(const struct wolfaren_fault *fault) {
+static uint8_t layer_before_chain(const struct wolfaren_fault *fault)
+{
     if (fault->kind == WOLFAREN_UNSUPPORTED_IP_VERSION) return WOLFAREN_IP_HEADER;
     if (fault->kind == WOLFAREN_IPV4_HEADER_LENGTH) return WOLFAREN_IPV4_HEADER;
     return fault->layer;
 }
 
-static void put_fault(struct cut *cut, const struct wolfaren_fault *fault, uint8_t layer, size_t at) {
+static void put_fault(struct cut *cut, const struct wolfaren_fault *fault, uint8_t layer, size_t at)
+{
     cut->fault = *fault;
     cut->fault_layer = layer;
     cut->fault_at = at;
 }
 
-/* Takes what is wrong from the fault of the packet, which has its words, and from that of the chain, which has its place. */
+/* Takes what is wrong from the fault of the packet, which has the words, and that of the chain, which has the place. */
 static void join_faults(struct cut *cut, const struct wolfaren_fault *of_packet, const struct wolfaren_fault *of_chain,
-                        bool is_short) {
+                        bool is_short)
+{
     bool is_missing = is_of_capture(of_packet, is_short);
     if (of_chain->kind != WOLFAREN_NO_FAULT)
         cut->end = is_missing && of_chain->kind == WOLFAREN_TOO_SHORT ? CHAIN_CUT : CHAIN_FAULTY;
@@ -133,13 +147,15 @@ static void join_faults(struct cut *cut, const struct wolfaren_fault *of_packet,
         put_fault(cut, is_missing ? of_chain : of_packet, of_chain->header, cut->chain_at_end);
 }
 
-static void begin_cut(struct cut *cut, const uint8_t *bytes, size_t len) {
+static void begin_cut(struct cut *cut, const uint8_t *bytes, size_t len)
+{
     struct wolfaren_header *headers = cut->headers;
     size_t room = cut->room;
     *cut = (struct cut){.bytes = bytes, .len = len, .headers = headers, .room = room};
 }
 
-bool cut_packet(struct cut *cut, const uint8_t *bytes, size_t len, bool is_short) {
+bool cut_packet(struct cut *cut, const uint8_t *bytes, size_t len, bool is_short)
+{
     struct wolfaren_packet packet;
     struct wolfaren_fault of_chain = {.kind = WOLFAREN_NO_FAULT};
     begin_cut(cut, bytes, len);
@@ -160,11 +176,13 @@ bool cut_packet(struct cut *cut, const uint8_t *bytes, size_t len, bool is_short
     return true;
 }
 
-bool has_fault(const struct cut *cut) {
+bool has_fault(const struct cut *cut)
+{
     return cut->fault.kind != WOLFAREN_NO_FAULT;
 }
 
-void free_cut(struct cut *cut) {
+void free_cut(struct cut *cut)
+{
     free(cut->headers);
     *cut = (struct cut){0};
 }

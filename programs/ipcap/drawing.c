@@ -28,7 +28,8 @@ struct drawing {
     bool is_named;  /* the name of the range at `index` was written */
 };
 
-static const char *header_color(uint8_t number) {
+static const char *header_color(uint8_t number)
+{
     switch (number) {
         case WOLFAREN_HOP_BY_HOP: return "\033[33m";
         case WOLFAREN_ROUTING: return "\033[35m";
@@ -39,7 +40,8 @@ static const char *header_color(uint8_t number) {
 }
 
 /* The ranges of a packet: its base header, its extension headers, and its payload where the chain ends well. */
-static bool range_at(const struct cut *cut, size_t index, struct range *range) {
+static bool range_at(const struct cut *cut, size_t index, struct range *range)
+{
     if (cut->version == 0) return false;
     if (index == 0) {
         *range = (struct range){0, cut->base_len, cut->version == 4 ? "IPv4" : "IPv6", "\033[1m"};
@@ -57,12 +59,14 @@ static bool range_at(const struct cut *cut, size_t index, struct range *range) {
     return true;
 }
 
-static void set_color(const struct drawing *drawing, const char *color) {
+static void set_color(const struct drawing *drawing, const char *color)
+{
     if (drawing->in_color) fputs(color, stdout);
 }
 
 /* Goes on to the range of a byte. Answers false where it is in none. */
-static bool range_of(struct drawing *drawing, size_t at, struct range *range) {
+static bool range_of(struct drawing *drawing, size_t at, struct range *range)
+{
     while (range_at(drawing->cut, drawing->index, range) && range->end <= at) {
         drawing->index++;
         drawing->is_named = false;
@@ -71,7 +75,8 @@ static bool range_of(struct drawing *drawing, size_t at, struct range *range) {
 }
 
 /* Writes a row's bytes, with `drawing` as it is before the row. */
-static void write_bytes(struct drawing drawing, size_t row, size_t end) {
+static void write_bytes(struct drawing drawing, size_t row, size_t end)
+{
     struct range range;
     printf("%04zx", row);
     const char *color = plain_color;
@@ -87,7 +92,8 @@ static void write_bytes(struct drawing drawing, size_t row, size_t end) {
 }
 
 /* Puts a name into the middle of a mark, with a space on either side where there is room. */
-static bool put_name(char *mark, size_t width, const char *name) {
+static bool put_name(char *mark, size_t width, const char *name)
+{
     size_t len = strlen(name);
     if (len > width) return false;
     char *place = mark + (width - len) / 2;
@@ -99,7 +105,8 @@ static bool put_name(char *mark, size_t width, const char *name) {
 }
 
 /* Writes the mark of a range from the byte `begin` to before `end`, with its name where that has room. */
-static void write_mark(struct drawing *drawing, const struct range *range, size_t begin, size_t end) {
+static void write_mark(struct drawing *drawing, const struct range *range, size_t begin, size_t end)
+{
     char mark[ROW_WIDTH + 1];
     size_t width = (end - begin) * CELL - 1;
     size_t left = begin == range->begin, right = end == range->end;
@@ -114,7 +121,8 @@ static void write_mark(struct drawing *drawing, const struct range *range, size_
 }
 
 /* Writes the marks below a row. */
-static void write_marks(struct drawing *drawing, size_t row, size_t end) {
+static void write_marks(struct drawing *drawing, size_t row, size_t end)
+{
     struct range range;
     size_t at = row, column = 0;
     while (at < end && range_of(drawing, at, &range)) {
@@ -129,7 +137,8 @@ static void write_marks(struct drawing *drawing, size_t row, size_t end) {
 }
 
 /* Writes a caret below a byte of a row, and the words behind it. */
-static void write_caret(const struct drawing *drawing, size_t column, const char *words) {
+static void write_caret(const struct drawing *drawing, size_t column, const char *words)
+{
     printf("%*s", 6 + (int)(column * CELL), "");
     set_color(drawing, fault_color);
     printf("^ %s", words);
@@ -138,7 +147,8 @@ static void write_caret(const struct drawing *drawing, size_t column, const char
 }
 
 /* Writes what is wrong below the row in which it begins, or where the bytes end before it. */
-static void write_fault(const struct drawing *drawing, size_t row) {
+static void write_fault(const struct drawing *drawing, size_t row)
+{
     const struct cut *cut = drawing->cut;
     char text[WOLFAREN_TEXT_ROOM];
     if (has_fault(cut) && cut->fault_at >= row && cut->fault_at - row < ROW_BYTES) {
@@ -150,12 +160,14 @@ static void write_fault(const struct drawing *drawing, size_t row) {
 }
 
 /* How many bytes are drawn: to the end of the chain, and some behind it. */
-static size_t shown_length(const struct cut *cut) {
+static size_t shown_length(const struct cut *cut)
+{
     size_t end = cut->version == 0 ? UNREAD_BYTES : cut->chain_at_end / ROW_BYTES * ROW_BYTES + 2 * ROW_BYTES;
     return end < cut->len ? end : cut->len;
 }
 
-void draw_packet(const struct cut *cut, bool in_color) {
+void draw_packet(const struct cut *cut, bool in_color)
+{
     struct drawing drawing = {.cut = cut, .in_color = in_color};
     size_t shown = shown_length(cut);
     size_t last = has_fault(cut) ? cut->fault_at : 0;

@@ -34,25 +34,29 @@ struct output {
 };
 
 /* Whether a path leads to the file that is read, which writing would empty. */
-static bool is_input(const struct capture *capture, const char *path) {
+static bool is_input(const struct capture *capture, const char *path)
+{
     struct stat input, output;
     return fstat(fileno(capture->file), &input) == 0 && stat(path, &output) == 0 && S_ISREG(output.st_mode)
         && input.st_dev == output.st_dev && input.st_ino == output.st_ino;
 }
 
-static bool refuse_output(const struct output *output, const char *words) {
+static bool refuse_output(const struct output *output, const char *words)
+{
     complain("%s: %s", output->name, words);
     return false;
 }
 
 /* Puts out what the output still holds. Where anything is lost, says why if `errno` was 0 before it was written. */
-static bool flush_output(const struct output *output) {
+static bool flush_output(const struct output *output)
+{
     if (pcap_dump_flush(output->dumper) == 0 && !ferror(pcap_dump_file(output->dumper))) return true;
     return refuse_output(output, errno ? strerror(errno) : "a write failed");
 }
 
 /* Opens the output, with the link layer, the snap length and the precision of what is read. */
-static bool open_output(struct output *output, const struct capture *capture, const char *path) {
+static bool open_output(struct output *output, const struct capture *capture, const char *path)
+{
     bool is_standard = !path || strcmp(path, "-") == 0;
     output->name = is_standard ? "standard output" : path;
     if (!is_standard && is_input(capture, path)) return refuse_output(output, "is what is read");
@@ -66,7 +70,8 @@ static bool open_output(struct output *output, const struct capture *capture, co
 }
 
 /* Writes a packet, at once where packets come as they are captured. */
-static bool write_packet(const struct output *output, const struct capture *capture, const struct packet *packet) {
+static bool write_packet(const struct output *output, const struct capture *capture, const struct packet *packet)
+{
     errno = 0;
     pcap_dump((u_char *)output->dumper, &packet->header, packet->frame);
     if (capture->is_live || ferror(pcap_dump_file(output->dumper))) return flush_output(output);
@@ -75,12 +80,14 @@ static bool write_packet(const struct output *output, const struct capture *capt
 
 /* Writes a packet if it meets the condition. */
 static bool filter_packet(const struct request *request, const struct output *output, const struct capture *capture,
-                          const struct packet *packet, struct cut *cut) {
+                          const struct packet *packet, struct cut *cut)
+{
     if (packet->is_ip && !cut_captured(cut, packet)) return false;
     return !does_meet(&request->condition, packet->is_ip ? cut : NULL) || write_packet(output, capture, packet);
 }
 
-static bool filter_packets(const struct request *request, const struct output *output, struct capture *capture) {
+static bool filter_packets(const struct request *request, const struct output *output, struct capture *capture)
+{
     struct cut cut = {0};
     struct packet packet;
     enum reading reading;
@@ -93,7 +100,8 @@ static bool filter_packets(const struct request *request, const struct output *o
     return is_written && reading == READ_END;
 }
 
-static bool filter_capture(const struct request *request) {
+static bool filter_capture(const struct request *request)
+{
     struct capture capture;
     struct output output = {0};
     if (!open_capture(&capture, request->input)) return false;
@@ -104,7 +112,8 @@ static bool filter_capture(const struct request *request) {
 }
 
 /* Reads the condition and the file behind it. */
-static int read_operands(struct request *request, int count, char *const *arguments) {
+static int read_operands(struct request *request, int count, char *const *arguments)
+{
     int taken;
     if (count == 0) return refuse_usage(usage, "filter needs a condition");
     if (!read_condition(&request->condition, count, arguments, &taken)) return refuse_usage(usage, NULL);
@@ -116,7 +125,8 @@ static int read_operands(struct request *request, int count, char *const *argume
     return -1;
 }
 
-int run_filter(int count, char **arguments) {
+int run_filter(int count, char **arguments)
+{
     static const struct option options[] = {
         {"help", no_argument, NULL, OPTION_HELP}, {"version", no_argument, NULL, OPTION_VERSION}, {NULL, 0, NULL, 0}};
     struct request request = {0};

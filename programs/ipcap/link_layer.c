@@ -25,34 +25,41 @@ static const struct typed_layer typed_layers[] = {
 
 enum { TYPED_LAYERS = sizeof typed_layers / sizeof typed_layers[0] };
 
-static const struct typed_layer *typed_layer_of(int link_layer) {
+static const struct typed_layer *typed_layer_of(int link_layer)
+{
     for (size_t i = 0; i < TYPED_LAYERS; i++)
         if (typed_layers[i].link_layer == link_layer) return &typed_layers[i];
     return NULL;
 }
 
-static bool is_raw_ip(int link_layer) {
+static bool is_raw_ip(int link_layer)
+{
     return link_layer == DLT_RAW || link_layer == DLT_IPV4 || link_layer == DLT_IPV6;
 }
 
-static bool is_loopback(int link_layer) {
+static bool is_loopback(int link_layer)
+{
     return link_layer == DLT_NULL || link_layer == DLT_LOOP;
 }
 
-bool is_known_link_layer(int link_layer) {
+bool is_known_link_layer(int link_layer)
+{
     return typed_layer_of(link_layer) || is_raw_ip(link_layer) || is_loopback(link_layer);
 }
 
-static unsigned number_at(const uint8_t *bytes) {
+static unsigned number_at(const uint8_t *bytes)
+{
     return (unsigned)bytes[0] << 8 | bytes[1];
 }
 
-static bool is_tag(unsigned type) {
+static bool is_tag(unsigned type)
+{
     return type == ETHERTYPE_VLAN || type == ETHERTYPE_QINQ || type == ETHERTYPE_OLD_QINQ;
 }
 
 /* Goes over the VLAN tags, however many there are. */
-static bool find_behind_type(const struct typed_layer *layer, const uint8_t *frame, size_t len, size_t *offset) {
+static bool find_behind_type(const struct typed_layer *layer, const uint8_t *frame, size_t len, size_t *offset)
+{
     if (len < layer->len) return false;
     unsigned type = number_at(frame + layer->type_at);
     size_t at = layer->len;
@@ -65,12 +72,14 @@ static bool find_behind_type(const struct typed_layer *layer, const uint8_t *fra
 }
 
 /* The numbers of the families of IPv4 and IPv6: 2 everywhere; Linux; NetBSD and OpenBSD; FreeBSD; Darwin. */
-static bool is_ip_family(uint32_t family) {
+static bool is_ip_family(uint32_t family)
+{
     return family == 2 || family == 10 || family == 24 || family == 28 || family == 30;
 }
 
-/* The family is in the byte order of the machine that captured, which isn't recorded. No number is one in both orders. */
-static bool find_behind_family(const uint8_t *frame, size_t len, size_t *offset) {
+/* The family is in the byte order of the machine that captured, which isn't known. No number is one in both orders. */
+static bool find_behind_family(const uint8_t *frame, size_t len, size_t *offset)
+{
     if (len < 4) return false;
     uint32_t big = (uint32_t)number_at(frame) << 16 | number_at(frame + 2);
     uint32_t little = (uint32_t)frame[3] << 24 | (uint32_t)frame[2] << 16 | (uint32_t)frame[1] << 8 | frame[0];
@@ -78,7 +87,8 @@ static bool find_behind_family(const uint8_t *frame, size_t len, size_t *offset)
     return is_ip_family(big) || is_ip_family(little);
 }
 
-bool find_ip(int link_layer, const uint8_t *frame, size_t len, size_t *offset) {
+bool find_ip(int link_layer, const uint8_t *frame, size_t len, size_t *offset)
+{
     const struct typed_layer *layer = typed_layer_of(link_layer);
     if (layer) return find_behind_type(layer, frame, len, offset);
     if (is_loopback(link_layer)) return find_behind_family(frame, len, offset);

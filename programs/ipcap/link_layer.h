@@ -10,8 +10,8 @@
 bool is_known_link_layer(int link_layer);
 
 /*
- * Finds the IP packet in the `len` bytes of a frame: writes where it begins to `offset` and answers true. Where the link
- * layer says that the frame carries something else, or is cut short before it can say so, answers false.
+ * Finds the IP packet in the `len` bytes of a frame: writes where it begins to `offset` and answers true. Where the
+ * link layer says that the frame carries something else, or is cut short before it can say so, answers false.
  */
 bool find_ip(int link_layer, const uint8_t *frame, size_t len, size_t *offset);
 

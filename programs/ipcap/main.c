@@ -30,7 +30,8 @@ static const struct command commands[] = {
     {"show", show_name, run_show},
 };
 
-int main(int count, char **arguments) {
+int main(int count, char **arguments)
+{
     if (count < 2) return refuse_usage(usage, NULL);
     const char *name = arguments[1];
     if (strcmp(name, "--help") == 0 || strcmp(name, "-h") == 0) return print_help(usage);

@@ -38,15 +38,18 @@ static const char *const layer_names[FAULT_LAYERS] = {
     [WOLFAREN_FRAGMENT_HEADER] = "fragment",
 };
 
-const char *number_name(uint8_t number) {
+const char *number_name(uint8_t number)
+{
     return number_names[number] ? number_names[number] : "";
 }
 
-void write_fault_name(uint8_t kind, uint8_t layer, char name[FAULT_NAME_ROOM]) {
+void write_fault_name(uint8_t kind, uint8_t layer, char name[FAULT_NAME_ROOM])
+{
     snprintf(name, FAULT_NAME_ROOM, "%s %s", kind_names[kind], layer_names[layer]);
 }
 
-bool find_fault(const char *name, uint8_t *kind, uint8_t *layer) {
+bool find_fault(const char *name, uint8_t *kind, uint8_t *layer)
+{
     char candidate[FAULT_NAME_ROOM];
     for (uint8_t k = 1; k < FAULT_KINDS; k++)
         for (uint8_t l = 1; l < FAULT_LAYERS; l++) {
@@ -59,7 +62,8 @@ bool find_fault(const char *name, uint8_t *kind, uint8_t *layer) {
     return false;
 }
 
-bool read_byte_number(const char **text, uint8_t *number) {
+bool read_byte_number(const char **text, uint8_t *number)
+{
     const char *digits = *text;
     unsigned value = 0;
     while (*digits >= '0' && *digits <= '9') {

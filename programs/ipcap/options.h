@@ -17,9 +17,9 @@ int print_help(const char *usage);
 int refuse_usage(const char *usage, const char *message);
 
 /*
- * Reads the arguments of a subcommand whose one option besides `--help` and `--version` is `--json`. Where the subcommand
- * is to go on, answers -1 and writes whether the option was there; `optind` is the first other argument. Else answers the
- * status with which to end.
+ * Reads the arguments of a subcommand whose one option besides `--help` and `--version` is `--json`. Where the
+ * subcommand is to go on, answers -1 and writes whether the option was there; `optind` is the first other argument.
+ * Else answers the status with which to end.
  */
 int read_json_option(int count, char **arguments, const char *usage, bool *json);
 

@@ -9,18 +9,21 @@
 /* How a line of a table, or a member of a JSON object, is written. */
 typedef void (*writer)(const char *name, uint64_t count);
 
-static void write_line(const char *name, uint64_t count) {
+static void write_line(const char *name, uint64_t count)
+{
     printf("%12" PRIu64 "  %s\n", count, name);
 }
 
 static const char *separator = "";
 
-static void write_member(const char *name, uint64_t count) {
+static void write_member(const char *name, uint64_t count)
+{
     printf("%s\"%s\":%" PRIu64, separator, name, count);
     separator = ",";
 }
 
-static void write_chains(const struct table *chains, writer write) {
+static void write_chains(const struct table *chains, writer write)
+{
     char text[CHAIN_TEXT_ROOM];
     for (size_t i = 0; i < chains->count; i++) {
         write_chain(&chains->entries[i].key, text);
@@ -29,7 +32,8 @@ static void write_chains(const struct table *chains, writer write) {
     if (chains->other > 0) write("other", chains->other);
 }
 
-static void write_lengths(const struct table *lengths, writer write) {
+static void write_lengths(const struct table *lengths, writer write)
+{
     char text[24];
     for (size_t i = 0; i < lengths->count; i++) {
         snprintf(text, sizeof text, "%" PRIu64, key_length(&lengths->entries[i].key));
@@ -45,21 +49,24 @@ struct item {
     uint8_t second; /* 0, or the layer of the fault */
 };
 
-static int compare_items(const void *left, const void *right) {
+static int compare_items(const void *left, const void *right)
+{
     const struct item *one = left, *other = right;
     if (one->count != other->count) return one->count > other->count ? -1 : 1;
     if (one->first != other->first) return one->first < other->first ? -1 : 1;
     return one->second < other->second ? -1 : one->second > other->second;
 }
 
-static void write_number(uint8_t number, uint64_t count, writer write) {
+static void write_number(uint8_t number, uint64_t count, writer write)
+{
     char text[32];
     const char *name = write == write_line ? number_name(number) : "";
     snprintf(text, sizeof text, "%d%s%s", number, *name ? " " : "", name);
     write(text, count);
 }
 
-static void write_numbers(const uint64_t counts[256], writer write) {
+static void write_numbers(const uint64_t counts[256], writer write)
+{
     struct item items[256];
     size_t count = 0;
     for (int number = 0; number < 256; number++)
@@ -68,7 +75,8 @@ static void write_numbers(const uint64_t counts[256], writer write) {
     for (size_t i = 0; i < count; i++) write_number(items[i].first, items[i].count, write);
 }
 
-static void write_faults(const struct counts *counts, writer write) {
+static void write_faults(const struct counts *counts, writer write)
+{
     struct item items[FAULT_KINDS * FAULT_LAYERS];
     size_t count = 0;
     for (uint8_t kind = 0; kind < FAULT_KINDS; kind++)
@@ -83,7 +91,8 @@ static void write_faults(const struct counts *counts, writer write) {
     }
 }
 
-void print_tables(struct counts *counts) {
+void print_tables(struct counts *counts)
+{
     order_table(&counts->chains);
     order_table(&counts->chain_bytes);
     puts("packets");
@@ -105,17 +114,20 @@ void print_tables(struct counts *counts) {
 }
 
 /* Begins a member that is an object. */
-static void begin_object(const char *name) {
+static void begin_object(const char *name)
+{
     printf("%s\"%s\":{", separator, name);
     separator = "";
 }
 
-static void end_object(void) {
+static void end_object(void)
+{
     putchar('}');
     separator = ",";
 }
 
-void print_json(struct counts *counts) {
+void print_json(struct counts *counts)
+{
     order_table(&counts->chains);
     order_table(&counts->chain_bytes);
     separator = "";

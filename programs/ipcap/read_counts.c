@@ -10,14 +10,16 @@
 enum { NAME_ROOM = CHAIN_TEXT_ROOM };
 
 /* Says what is wrong where the next byte stands. */
-static bool refuse(const struct json_input *input, const char *words) {
+static bool refuse(const struct json_input *input, const char *words)
+{
     complain("standard input: line %llu, column %llu: %s", (unsigned long long)input->line,
              (unsigned long long)input->column, words);
     return false;
 }
 
 /* The same, of what doesn't stand there. */
-static bool refuse_next(const struct json_input *input, const char *wanted) {
+static bool refuse_next(const struct json_input *input, const char *wanted)
+{
     char words[96];
     if (input->next == EOF)
         snprintf(words, sizeof words, "the input ends where %s has to stand", wanted);
@@ -28,7 +30,8 @@ static bool refuse_next(const struct json_input *input, const char *wanted) {
     return refuse(input, words);
 }
 
-static void advance(struct json_input *input) {
+static void advance(struct json_input *input)
+{
     if (input->next == '\n') {
         input->line++;
         input->column = 0;
@@ -37,29 +40,34 @@ static void advance(struct json_input *input) {
     input->column++;
 }
 
-void begin_json(struct json_input *input, FILE *file) {
+void begin_json(struct json_input *input, FILE *file)
+{
     *input = (struct json_input){.file = file, .next = ' ', .line = 1, .column = 0};
     advance(input);
 }
 
-static void skip_space(struct json_input *input) {
+static void skip_space(struct json_input *input)
+{
     while (input->next == ' ' || input->next == '\t' || input->next == '\n' || input->next == '\r') advance(input);
 }
 
-bool has_more_json(struct json_input *input) {
+bool has_more_json(struct json_input *input)
+{
     skip_space(input);
     return input->next != EOF;
 }
 
 /* Takes a byte and the white space before it. */
-static bool take(struct json_input *input, int byte, const char *wanted) {
+static bool take(struct json_input *input, int byte, const char *wanted)
+{
     skip_space(input);
     if (input->next != byte) return refuse_next(input, wanted);
     advance(input);
     return true;
 }
 
-static bool read_name(struct json_input *input, char name[NAME_ROOM]) {
+static bool read_name(struct json_input *input, char name[NAME_ROOM])
+{
     size_t len = 0;
     if (!take(input, '"', "a name in quotes")) return false;
     while (input->next != '"') {
@@ -73,7 +81,8 @@ static bool read_name(struct json_input *input, char name[NAME_ROOM]) {
     return true;
 }
 
-static bool read_count(struct json_input *input, uint64_t *count) {
+static bool read_count(struct json_input *input, uint64_t *count)
+{
     skip_space(input);
     if (input->next < '0' || input->next > '9') return refuse_next(input, "a count");
     bool is_zero = input->next == '0';
@@ -97,7 +106,8 @@ struct reading {
 typedef bool (*member_reader)(struct reading *reading, const char *name);
 
 /* Reads an object's members, each with what reads its value. */
-static bool read_object(struct reading *reading, member_reader read_member) {
+static bool read_object(struct reading *reading, member_reader read_member)
+{
     struct json_input *input = reading->input;
     char name[NAME_ROOM];
     if (!take(input, '{', "'{'")) return false;
@@ -111,18 +121,21 @@ static bool read_object(struct reading *reading, member_reader read_member) {
 }
 
 /* Reads a count of a table, which is above 0, since what was never seen isn't in it. */
-static bool read_table_count(struct reading *reading, uint64_t *count) {
+static bool read_table_count(struct reading *reading, uint64_t *count)
+{
     return read_count(reading->input, count)
         && (*count > 0 || refuse(reading->input, "a count in a table is 0"));
 }
 
 /* Reads a count into its place, which is empty unless the name stood before. */
-static bool read_into(struct reading *reading, uint64_t *place) {
+static bool read_into(struct reading *reading, uint64_t *place)
+{
     if (*place > 0) return refuse(reading->input, "a name stands twice in a table");
     return read_table_count(reading, place);
 }
 
-static bool read_entry(struct reading *reading, struct table *table, const struct key *key) {
+static bool read_entry(struct reading *reading, struct table *table, const struct key *key)
+{
     uint64_t count;
     if (has_key(table, key)) return refuse(reading->input, "a name stands twice in a table");
     if (table->count == TABLE_KEYS) return refuse(reading->input, "the table has more names than one can have");
@@ -132,7 +145,8 @@ static bool read_entry(struct reading *reading, struct table *table, const struc
     return false;
 }
 
-static bool read_chain_member(struct reading *reading, const char *name) {
+static bool read_chain_member(struct reading *reading, const char *name)
+{
     struct key key;
     if (strcmp(name, "other") == 0) return read_into(reading, &reading->counts->chains.other);
     if (!read_chain(name, &key)) return refuse(reading->input, "the name is no chain");
@@ -140,7 +154,8 @@ static bool read_chain_member(struct reading *reading, const char *name) {
 }
 
 /* Reads a length in decimal, without leading zeros. */
-static bool read_length(const char *text, uint64_t *len) {
+static bool read_length(const char *text, uint64_t *len)
+{
     *len = 0;
     if (*text == '\0' || (text[0] == '0' && text[1] != '\0')) return false;
     for (; *text; text++) {
@@ -150,7 +165,8 @@ static bool read_length(const char *text, uint64_t *len) {
     return true;
 }
 
-static bool read_length_member(struct reading *reading, const char *name) {
+static bool read_length_member(struct reading *reading, const char *name)
+{
     uint64_t len;
     struct key key;
     if (strcmp(name, "other") == 0) return read_into(reading, &reading->counts->chain_bytes.other);
@@ -159,13 +175,15 @@ static bool read_length_member(struct reading *reading, const char *name) {
     return read_entry(reading, &reading->counts->chain_bytes, &key);
 }
 
-static bool read_number_member(struct reading *reading, const char *name) {
+static bool read_number_member(struct reading *reading, const char *name)
+{
     uint8_t number;
     if (!read_byte_number(&name, &number) || *name) return refuse(reading->input, "the name is no protocol number");
     return read_into(reading, &reading->counts->numbers[number]);
 }
 
-static bool read_fault_member(struct reading *reading, const char *name) {
+static bool read_fault_member(struct reading *reading, const char *name)
+{
     uint8_t kind, layer;
     if (!find_fault(name, &kind, &layer)) return refuse(reading->input, "the name is no fault");
     return read_into(reading, &reading->counts->faults[kind][layer]);
@@ -179,14 +197,16 @@ static const member_reader table_readers[] = {read_chain_member, read_length_mem
 
 enum { COUNTS = sizeof count_names / sizeof *count_names, TABLES = sizeof table_names / sizeof *table_names };
 
-static bool mark_done(struct reading *reading, unsigned member) {
+static bool mark_done(struct reading *reading, unsigned member)
+{
     unsigned bit = 1U << member;
     if (reading->done & bit) return refuse(reading->input, "a name stands twice in the object");
     reading->done |= bit;
     return true;
 }
 
-static bool read_outer_member(struct reading *reading, const char *name) {
+static bool read_outer_member(struct reading *reading, const char *name)
+{
     struct counts *counts = reading->counts;
     uint64_t *places[COUNTS] = {&counts->packets, &counts->ipv4,      &counts->ipv6, &counts->unread,
                                 &counts->not_ip,  &counts->fragments, &counts->cut};
@@ -198,13 +218,15 @@ static bool read_outer_member(struct reading *reading, const char *name) {
     return refuse(reading->input, "the name is none of the statistics");
 }
 
-bool read_json(struct json_input *input, struct counts *counts) {
+bool read_json(struct json_input *input, struct counts *counts)
+{
     struct reading reading = {input, counts, 0};
     if (!read_object(&reading, read_outer_member)) return false;
     for (unsigned i = 0; i < COUNTS + TABLES; i++) {
         char words[64];
         if (reading.done & 1U << i) continue;
-        snprintf(words, sizeof words, "the object has no \"%s\"", i < COUNTS ? count_names[i] : table_names[i - COUNTS]);
+        const char *name = i < COUNTS ? count_names[i] : table_names[i - COUNTS];
+        snprintf(words, sizeof words, "the object has no \"%s\"", name);
         return refuse(input, words);
     }
     return do_add_up(counts) || refuse(input, "the counts of the object don't add up");

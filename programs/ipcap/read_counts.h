@@ -23,8 +23,8 @@ void begin_json(struct json_input *input, FILE *file);
 bool has_more_json(struct json_input *input);
 
 /*
- * Reads an object that `print_json` wrote into counts that are filled with zeros. White space may stand where JSON allows
- * it, and members may come in any order. Anything else is malformed: says where and why, and answers false.
+ * Reads an object that `print_json` wrote into counts that are filled with zeros. White space may stand where JSON
+ * allows it, and members may come in any order. Anything else is malformed: says where and why, and answers false.
  */
 bool read_json(struct json_input *input, struct counts *counts);
 

@@ -5,7 +5,8 @@
 #include <stdio.h>
 #include <string.h>
 
-void complain(const char *format, ...) {
+void complain(const char *format, ...)
+{
     va_list arguments;
     va_start(arguments, format);
     fputs("ipcap: ", stderr);
@@ -14,11 +15,13 @@ void complain(const char *format, ...) {
     va_end(arguments);
 }
 
-void complain_of_memory(void) {
+void complain_of_memory(void)
+{
     complain("out of memory");
 }
 
-bool finish_output(void) {
+bool finish_output(void)
+{
     if (fflush(stdout) == 0 && !ferror(stdout)) return true;
     complain("standard output: %s", errno ? strerror(errno) : "a write failed");
     return false;

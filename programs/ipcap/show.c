@@ -21,13 +21,15 @@ static const char usage[] =
     "  --version     print the version\n";
 
 /* Whether standard output is a terminal that shows colours, and they are wanted (no-color.org). */
-static bool is_color_terminal(void) {
+static bool is_color_terminal(void)
+{
     const char *no_color = getenv("NO_COLOR"), *terminal = getenv("TERM");
     if (no_color && *no_color) return false;
     return isatty(STDOUT_FILENO) && terminal && strcmp(terminal, "dumb") != 0;
 }
 
-static bool read_color(const char *when, bool *in_color) {
+static bool read_color(const char *when, bool *in_color)
+{
     if (strcmp(when, "always") == 0)
         *in_color = true;
     else if (strcmp(when, "never") == 0)
@@ -40,7 +42,8 @@ static bool read_color(const char *when, bool *in_color) {
 }
 
 /* Writes the line that stands above a packet. */
-static void print_title(const struct capture *capture, const struct packet *packet, const struct cut *cut) {
+static void print_title(const struct capture *capture, const struct packet *packet, const struct cut *cut)
+{
     printf("packet %llu: ", (unsigned long long)capture->number);
     if (packet->is_short) printf("%u of ", packet->header.caplen);
     printf("%u bytes", packet->header.len > packet->header.caplen ? packet->header.len : packet->header.caplen);
@@ -61,7 +64,8 @@ static void print_title(const struct capture *capture, const struct packet *pack
     }
 }
 
-static bool show_packet(const struct capture *capture, const struct packet *packet, struct cut *cut, bool in_color) {
+static bool show_packet(const struct capture *capture, const struct packet *packet, struct cut *cut, bool in_color)
+{
     if (packet->is_ip && !cut_captured(cut, packet)) return false;
     errno = 0;
     if (capture->number > 1) putchar('\n');
@@ -70,7 +74,8 @@ static bool show_packet(const struct capture *capture, const struct packet *pack
     return capture->is_live ? finish_output() : !ferror(stdout) || finish_output();
 }
 
-static bool show_capture(const char *path, bool in_color) {
+static bool show_capture(const char *path, bool in_color)
+{
     struct capture capture;
     struct packet packet;
     struct cut cut = {0};
@@ -84,7 +89,8 @@ static bool show_capture(const char *path, bool in_color) {
     return is_shown && finish_output() && reading == READ_END;
 }
 
-int run_show(int count, char **arguments) {
+int run_show(int count, char **arguments)
+{
     static const struct option options[] = {{"color", required_argument, NULL, OPTION_COLOR},
                                             {"help", no_argument, NULL, OPTION_HELP},
                                             {"version", no_argument, NULL, OPTION_VERSION},

@@ -27,7 +27,8 @@ static const char sum_usage[] =
     "  --version  print the version\n";
 
 /* Counts one packet. */
-static bool count_captured(struct counts *counts, struct cut *cut, const struct packet *packet) {
+static bool count_captured(struct counts *counts, struct cut *cut, const struct packet *packet)
+{
     count_frame(counts, packet->is_short);
     if (!packet->is_ip) {
         counts->not_ip++;
@@ -40,7 +41,8 @@ static bool count_captured(struct counts *counts, struct cut *cut, const struct 
 }
 
 /* Counts the packets of a capture, those before a place where it can't be read further too. */
-static bool count_capture(struct counts *counts, struct cut *cut, const char *path) {
+static bool count_capture(struct counts *counts, struct cut *cut, const char *path)
+{
     struct capture capture;
     struct packet packet;
     enum reading reading;
@@ -53,7 +55,8 @@ static bool count_capture(struct counts *counts, struct cut *cut, const char *pa
 }
 
 /* Writes the statistics, and answers the status of what was done before and of this. */
-static int finish_counts(struct counts *counts, bool json, bool is_done) {
+static int finish_counts(struct counts *counts, bool json, bool is_done)
+{
     errno = 0;
     if (json)
         print_json(counts);
@@ -63,7 +66,8 @@ static int finish_counts(struct counts *counts, bool json, bool is_done) {
     return finish_output() && is_done ? STATUS_DONE : STATUS_FAILED;
 }
 
-int run_stat(int count, char **arguments) {
+int run_stat(int count, char **arguments)
+{
     struct counts counts = {0};
     struct cut cut = {0};
     bool json, is_done = true;
@@ -77,7 +81,8 @@ int run_stat(int count, char **arguments) {
 }
 
 /* Adds the next object. */
-static bool add_object(struct json_input *input, struct counts *total) {
+static bool add_object(struct json_input *input, struct counts *total)
+{
     struct counts counts = {0};
     enum added added = ADDED;
     bool is_read = read_json(input, &counts);
@@ -89,7 +94,8 @@ static bool add_object(struct json_input *input, struct counts *total) {
 }
 
 /* Adds up all objects, of which there has to be one. */
-static bool add_objects(struct counts *total) {
+static bool add_objects(struct counts *total)
+{
     struct json_input input;
     bool is_any = false;
     begin_json(&input, stdin);
@@ -104,7 +110,8 @@ static bool add_objects(struct counts *total) {
     return is_any && !ferror(stdin);
 }
 
-int run_sum(int count, char **arguments) {
+int run_sum(int count, char **arguments)
+{
     struct counts total = {0};
     bool json;
     int status = read_json_option(count, arguments, sum_usage, &json);

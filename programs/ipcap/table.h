@@ -45,8 +45,8 @@ bool has_key(const struct table *table, const struct key *key);
 bool sum_table(const struct table *table, uint64_t *total);
 
 /*
- * Puts the entries in the order in which they are shown: the largest count first, and equal counts in the order of their
- * keys. No call but `free_table` may follow.
+ * Puts the entries in the order in which they are shown: the largest count first, and equal counts in the order of
+ * their keys. No call but `free_table` may follow.
  */
 void order_table(struct table *table);
 

@@ -147,6 +147,17 @@ static void join_faults(struct cut *cut, const struct wolfaren_fault *of_packet,
         put_fault(cut, is_missing ? of_chain : of_packet, of_chain->header, cut->chain_at_end);
 }
 
+/* Says what is wrong with a base header that can't be read, or that the capture cuts it. */
+static void put_unread(struct cut *cut, const struct wolfaren_fault *fault, bool is_short)
+{
+    if (!is_of_capture(fault, is_short)) {
+        put_fault(cut, fault, layer_before_chain(fault), fault->offset);
+        return;
+    }
+    cut->end = CHAIN_CUT;
+    cut->chain_at_end = cut->len;
+}
+
 static void begin_cut(struct cut *cut, const uint8_t *bytes, size_t len)
 {
     struct wolfaren_header *headers = cut->headers;
@@ -165,8 +176,7 @@ bool cut_packet(struct cut *cut, const uint8_t *bytes, size_t len, bool is_short
         wolfaren_cut_packet(bytes, len, NULL, 0, &packet);
     cut->base_len = base_length(bytes, len);
     if (cut->base_len == 0) {
-        if (!is_of_capture(&packet.fault, is_short))
-            put_fault(cut, &packet.fault, layer_before_chain(&packet.fault), packet.fault.offset);
+        put_unread(cut, &packet.fault, is_short);
         return true;
     }
     cut->version = bytes[0] >> 4;

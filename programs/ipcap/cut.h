@@ -19,12 +19,13 @@ enum chain_end {
 struct cut {
     const uint8_t *bytes; /* what the capture keeps of the packet, and what follows it in the frame */
     size_t len;
-    uint8_t version; /* 4 or 6, or 0 where the base header can't be read: then nothing below is said but the fault */
-    uint8_t number;  /* the number of what follows the chain */
+    /* 4 or 6, or 0 where the base header can't be read: then there is a fault, or a chain that is cut with it. */
+    uint8_t version;
+    uint8_t number; /* the number of what follows the chain */
     bool is_fragment;
     enum chain_end end;
-    size_t base_len; /* how many bytes the base header has: the chain begins there */
-    size_t chain_at_end; /* where the chain ends */
+    size_t base_len;      /* how many bytes the base header has: the chain begins there */
+    size_t chain_at_end;  /* where the chain ends */
     size_t packet_at_end; /* where the packet ends, or the bytes that the capture keeps of it */
     struct wolfaren_header *headers;
     size_t count; /* how many headers the chain has */

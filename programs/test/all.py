@@ -9,7 +9,8 @@ import test_stat
 import test_sum
 import test_use
 
-GROUPS = [("link layers", test_stat.link_layers), ("short frames", test_stat.short_frames), ("faults", test_stat.faults),
+GROUPS = [("link layers", test_stat.link_layers), ("short frames", test_stat.short_frames),
+          ("faults", test_stat.faults),
           ("bounds of packets", test_stat.bounds_of_packets), ("fragments", test_stat.fragments),
           ("snap lengths", test_stat.snap_lengths), ("faults in cut packets", test_stat.faults_in_cut_packets),
           ("truncated files", test_stat.truncated_files), ("what can't be read", test_stat.what_cant_be_read),
@@ -22,7 +23,8 @@ GROUPS = [("link layers", test_stat.link_layers), ("short frames", test_stat.sho
           ("places of faults", test_show.places_of_faults), ("long packets", test_show.long_packets),
           ("colours", test_show.colors), ("help and version", test_use.helps), ("wrong usage", test_use.wrong_usage),
           ("full outputs", test_use.full_outputs), ("terminals", test_use.terminals),
-          ("interrupts", test_use.interrupts), ("bounded memory", test_use.bounded_memory), ("refused memory", test_use.refused_memory),
+          ("interrupts", test_use.interrupts), ("bounded memory", test_use.bounded_memory),
+          ("refused memory", test_use.refused_memory),
           ("damaged captures", test_use.damaged_captures)]
 
 if __name__ == "__main__":

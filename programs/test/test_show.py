@@ -36,7 +36,8 @@ packet 4: 62 of 78 bytes, IP at 14: IPv6 60 -> 44 cut
 
 def drawings(harness):
     """Drawings that were made by hand."""
-    frames = [ethernet(ipv6_chain([0, 43, 44])), ethernet(bytes(46), (), 0x0806), ethernet(ipv4(17, UDP[:8]), (0x8100,))]
+    frames = [ethernet(ipv6_chain([0, 43, 44])), ethernet(bytes(46), (), 0x0806),
+              ethernet(ipv4(17, UDP[:8]), (0x8100,))]
     content = capture(frames) + record(ethernet(ipv6(60, options(44) + fragment(17) + bytes(8))), 62)
     status, found, told, _ = harness.run("show", content=content)
     for line, wanted in zip(found.decode().split("\n"), DRAWN.split("\n")):
@@ -57,19 +58,22 @@ def carets(found):
 def places_of_faults(harness):
     """The caret stands below the byte with which what is wrong begins."""
     cases = [(ipv6(0, options(43, 3) + routing(17)[:5]), 40 + 32, "offset 72: 8 needed, 5 there"),
-             (ipv6_chain([43, 60, 0]), 56, "not directly after the IPv6 header"), (ipv6(51, b"\x11\0" + bytes(14)), 40, "too small (0)"),
+             (ipv6_chain([43, 60, 0]), 56, "not directly after the IPv6 header"),
+             (ipv6(51, b"\x11\0" + bytes(14)), 40, "too small (0)"),
              (ipv4(51, b"\x11\0" + bytes(14)), 20, "too small (0)"), (ipv6(60, b""), 40, "8 needed, 0 there"),
-             (ipv6_chain([60, 60, 60], 44, b""), 64, "8 needed, 0 there"), (ipv6_chain([0])[:-1], 0, "60 needed, 59 there"),
+             (ipv6_chain([60, 60, 60], 44, b""), 64, "8 needed, 0 there"),
+             (ipv6_chain([0])[:-1], 0, "60 needed, 59 there"),
              (b"\x50" + bytes(40), 0, "'5'"), (ipv4(17, UDP, words=4), 0, "'4'"), (b"", 0, "1 needed, 0 there"),
              (ipv4(51, authentication(17)[:9], words=7, option_bytes=bytes(8)), 28, "12 needed, 9 there")]
     for packet, place, words in cases:
         status, found, _, _ = harness.run("show", content=capture([ethernet(packet)]))
         drawn = list(carets(found))
-        harness.equal((status, len(drawn), drawn[0][0] if drawn else None), (0, 1, place), packet.hex(), found.decode())
+        harness.equal((status, len(drawn), drawn[0][0] if drawn else None), (0, 1, place), packet.hex(),
+                      found.decode())
         harness.check(words in drawn[0][1], packet.hex(), drawn[0][1])
-    for kept, place in [(14 + 40, 40), (14 + 47, 40), (14 + 48, 48), (14 + 71, 48), (14 + 72, 72)]:
+    for kept, place in [(0, 0), (16, 16), (39, 39), (40, 40), (47, 40), (48, 48), (71, 48), (72, 72)]:
         frame = ethernet(ipv6(0, options(43) + routing(44, 2) + fragment(17) + UDP))
-        found = harness.run("show", content=file_header() + record(frame, kept))[1]
+        found = harness.run("show", content=file_header() + record(frame, 14 + kept))[1]
         harness.equal(list(carets(found)), [(place, "cut by the snap length")], kept, "bytes kept")
 
 

@@ -67,7 +67,8 @@ def faulty_packets():
     yield ipv4(17, UDP, total_len=33), "too-short IPv4-packet", "IPv4 -> 17", 0
     yield ipv4(51, authentication(17), total_len=19), "too-short IPv4-packet", "IPv4 -> 51 fault", 0
     for packet, fault in [(b"", "too-short IP-header"), (ipv6(17, UDP)[:39], "too-short IPv6-header"),
-                          (ipv4(17, b"")[:19], "too-short IPv4-header"), (b"\x50" + bytes(50), "unsupported-version IP-header"),
+                          (ipv4(17, b"")[:19], "too-short IPv4-header"),
+                          (b"\x50" + bytes(50), "unsupported-version IP-header"),
                           (b"\x00" + bytes(50), "unsupported-version IP-header"),
                           (ipv4(17, UDP, words=4), "header-length IPv4-header"),
                           (ipv4(17, b"", words=6), "too-short IPv4-header")]:
@@ -117,8 +118,8 @@ def fragments(harness):
 
 
 def snapped(version, ends, numbers, final, kept, before):
-    """The chain of a packet that is cut to `kept` bytes, of which `before` stand before the chain, from where its headers
-    end in it."""
+    """The chain of a packet that is cut to `kept` bytes, of which `before` stand before the chain. Its headers end at
+    `ends`, counted from where it begins."""
     if kept < before:
         return None
     whole = [n for n, end in zip(numbers, ends) if before + end <= kept]
@@ -149,7 +150,8 @@ def faults_in_cut_packets(harness):
     """What is wrong within the bytes that a capture keeps is a fault, and what it leaves out is none."""
     zero = b"\x11\0" + bytes(22)
     for packet, kept, faults_wanted in [
-            (ipv6_chain([60, 0]), 70, {"not-at-start hop-by-hop": 1}), (ipv6(51, zero + UDP), 70, {"zero-length authentication": 1}),
+            (ipv6_chain([60, 0]), 70, {"not-at-start hop-by-hop": 1}),
+            (ipv6(51, zero + UDP), 70, {"zero-length authentication": 1}),
             (ipv4(51, zero + UDP), 60, {"zero-length authentication": 1}), (ipv6(51, zero), 60, {}),
             (ipv6(0, options(43) + routing(17) + bytes(99), payload_len=12), 90, {"too-short routing": 1}),
             (b"\x70" + bytes(90), 50, {"unsupported-version IP-header": 1}),
@@ -178,14 +180,18 @@ def truncated_files(harness):
 
 
 def what_cant_be_read(harness):
-    for link_layer, words in [(105, "link layer IEEE802_11 (802.11) isn't supported"), (9, "link layer PPP (PPP) isn't supported"),
+    for link_layer, words in [(105, "link layer IEEE802_11 (802.11) isn't supported"),
+                              (9, "link layer PPP (PPP) isn't supported"),
                               (60000, "link layer 60000 isn't supported")]:
         path = harness.file(capture([bytes(60)], link_layer))
         for command in ["stat", "show"]:
             harness.equal(harness.run(command, path)[0::2], (1, "ipcap: %s: %s\n" % (path, words)), command)
-        harness.equal(harness.run("filter", "fault", path), (1, b"", "ipcap: %s: %s\n" % (path, words), None), "filter")
-    harness.equal(harness.stat("/nonexistent", status=1)[1], "ipcap: /nonexistent: No such file or directory\n", "no file")
-    harness.equal(harness.stat(harness.folder, status=1)[1], "ipcap: %s: Is a directory\n" % harness.folder, "a directory")
+        harness.equal(harness.run("filter", "fault", path), (1, b"", "ipcap: %s: %s\n" % (path, words), None),
+                      "filter")
+    harness.equal(harness.stat("/nonexistent", status=1)[1], "ipcap: /nonexistent: No such file or directory\n",
+                  "no file")
+    harness.equal(harness.stat(harness.folder, status=1)[1], "ipcap: %s: Is a directory\n" % harness.folder,
+                  "a directory")
 
 
 def forms_of_files(harness):
@@ -217,7 +223,8 @@ def random_frames(count, seed):
     draw = random.Random(seed)
     frames = []
     for _ in range(count):
-        numbers = [0] * draw.choice([0, 0, 1]) + [draw.choice([43, 44, 51, 60]) for _ in range(draw.choice([0, 0, 1, 2, 3, 6]))]
+        numbers = [0] * draw.choice([0, 0, 1])
+        numbers += [draw.choice([43, 44, 51, 60]) for _ in range(draw.choice([0, 0, 1, 2, 3, 6]))]
         kind = draw.randrange(10)
         if kind == 0:
             frames.append(ethernet(bytes(46), (), 0x0806))
@@ -239,7 +246,8 @@ def tshark_agrees(harness):
     not_ip = wanted.pop(None)
     found, _ = harness.stat(path)
     harness.check(len(wanted) > 50, "chains that tshark finds:", len(wanted))
-    harness.equal((found["chains"], found["not_ip"], found["packets"]), (wanted, not_ip, 400), "chains that tshark finds")
+    harness.equal((found["chains"], found["not_ip"], found["packets"]), (wanted, not_ip, 400),
+                  "chains that tshark finds")
 
 
 def scapy_agrees(harness):
@@ -248,10 +256,13 @@ def scapy_agrees(harness):
     from scapy.layers.inet6 import (IPv6, IPv6ExtHdrDestOpt, IPv6ExtHdrFragment, IPv6ExtHdrHopByHop, IPv6ExtHdrRouting,
                                     PadN)
     from scapy.layers.ipsec import AH
-    made = [(IPv6() / IPv6ExtHdrHopByHop(options=[PadN(optdata=bytes(12))]) / IPv6ExtHdrRouting(addresses=["::1", "::2"])
-             / IPv6ExtHdrFragment(m=1) / ScapyUdp() / b"data", "IPv6 0,43,44 -> 17", 16 + 40 + 8),
-            (IPv6() / IPv6ExtHdrDestOpt() / AH(nh=60, payloadlen=4, icv=bytes(12)) / IPv6ExtHdrDestOpt() / ScapyUdp(), "IPv6 60,51,60 -> 17", 40),
-            (IP() / AH(nh=17, payloadlen=5, icv=bytes(16)) / ScapyUdp(), "IPv4 51 -> 17", 28), (IP() / ScapyUdp(), "IPv4 -> 17", 0)]
+    made = [(IPv6() / IPv6ExtHdrHopByHop(options=[PadN(optdata=bytes(12))])
+             / IPv6ExtHdrRouting(addresses=["::1", "::2"]) / IPv6ExtHdrFragment(m=1) / ScapyUdp() / b"data",
+             "IPv6 0,43,44 -> 17", 16 + 40 + 8),
+            (IPv6() / IPv6ExtHdrDestOpt() / AH(nh=60, payloadlen=4, icv=bytes(12)) / IPv6ExtHdrDestOpt() / ScapyUdp(),
+             "IPv6 60,51,60 -> 17", 40),
+            (IP() / AH(nh=17, payloadlen=5, icv=bytes(16)) / ScapyUdp(), "IPv4 51 -> 17", 28),
+            (IP() / ScapyUdp(), "IPv4 -> 17", 0)]
     for packet, chain_text, chain_bytes in made:
         found, _ = harness.stat(content=capture([ethernet(bytes(packet))]))
         harness.equal((found["chains"], found["chain_bytes"]), ({chain_text: 1}, {str(chain_bytes): 1}), chain_text)

@@ -25,7 +25,8 @@ def sums(harness):
     harness.equal(harness.run("sum", "--json", content=spread), (0, whole, "", None), "white space and another order")
     total = json.loads(harness.run("sum", "--json", content=whole * 3)[1])
     one = json.loads(whole)
-    wanted = {name: {k: v * 3 for k, v in part.items()} if isinstance(part, dict) else part * 3 for name, part in one.items()}
+    wanted = {name: {k: v * 3 for k, v in part.items()} if isinstance(part, dict) else part * 3
+              for name, part in one.items()}
     harness.equal(total, wanted, "three times the whole")
 
 
@@ -44,25 +45,36 @@ def good(**parts):
 def malformed(harness):
     text = good()
     cases = [(b"", "no statistics"), (b" \n ", "no statistics"), (b"x", "'x' stands where '{' has to"), (b"[]", "'['"),
-             (b"null", "'n'"), (b"{}", "has no \"packets\""), (b"\xff", "byte 0xff"), (b"{\"packets\":1}", "has no \"ipv4\""),
+             (b"null", "'n'"), (b"{}", "has no \"packets\""), (b"\xff", "byte 0xff"),
+             (b"{\"packets\":1}", "has no \"ipv4\""),
              (text + b"x", "'x'"), (text + b",", "','"), (text[:-1] + b",}", "'}' stands where a name"),
-             (text.replace(b":1", b":-1", 1), "'-'"), (text.replace(b":1", b":01", 1), "'1'"), (text.replace(b":1", b":1.5", 1), "'.'"),
-             (text.replace(b":1", b":1e3", 1), "'e'"), (text.replace(b":1", b":\"1\"", 1), "a count"), (text.replace(b":1", b":", 1), "a count"),
+             (text.replace(b":1", b":-1", 1), "'-'"), (text.replace(b":1", b":01", 1), "'1'"),
+             (text.replace(b":1", b":1.5", 1), "'.'"),
+             (text.replace(b":1", b":1e3", 1), "'e'"), (text.replace(b":1", b":\"1\"", 1), "a count"),
+             (text.replace(b":1", b":", 1), "a count"),
              (text.replace(b":1", b":18446744073709551616", 1), "above 18446744073709551615"),
              (text.replace(b":1", b":99999999999999999999999", 1), "above 18446744073709551615"),
-             (text.replace(b":1", b":2", 1), "don't add up"), (text.replace(b"packets", b"packet"), "none of the statistics"),
-             (text.replace(b"packets", b"pack\\u0065ts"), "none of the statistics"), (b"{" + text[1:-1] + b",\"packets\":1}", "twice in the object"),
+             (text.replace(b":1", b":2", 1), "don't add up"),
+             (text.replace(b"packets", b"packet"), "none of the statistics"),
+             (text.replace(b"packets", b"pack\\u0065ts"), "none of the statistics"),
+             (b"{" + text[1:-1] + b",\"packets\":1}", "twice in the object"),
              (text.replace(b"packets", b"x" * 1000), "longer"), (text.replace(b"packets", b"\0"), "byte 0x00"),
              (text.replace(b"packets", b"\n"), "byte 0x0a"), (text.replace(b"\"packets\"", b"packets"), "'p'")]
-    tables = [({"chains": {"IPv6 0 -> 17": 0}}, "is 0"), ({"chains": {"x": 1}}, "no chain"), ({"chains": {"IPv5 0 -> 17": 1}}, "no chain"),
-              ({"chains": {"IPv6 256 -> 17": 1}}, "no chain"), ({"chains": {"IPv6 00 -> 17": 1}}, "no chain"), ({"chains": {"": 1}}, "no chain"),
+    tables = [({"chains": {"IPv6 0 -> 17": 0}}, "is 0"), ({"chains": {"x": 1}}, "no chain"),
+              ({"chains": {"IPv5 0 -> 17": 1}}, "no chain"),
+              ({"chains": {"IPv6 256 -> 17": 1}}, "no chain"), ({"chains": {"IPv6 00 -> 17": 1}}, "no chain"),
+              ({"chains": {"": 1}}, "no chain"),
               ({"chains": {"IPv6 0, -> 17": 1}}, "no chain"), ({"chains": {"IPv6 0 -> 17 faulty": 1}}, "no chain"),
-              ({"chains": {"IPv6 " + "0," * 64 + "0 -> 17": 1}}, "no chain"), ({"chains": {"IPv4 0 -> 17": 1}}, "don't add up"),
-              ({"chains": {}}, "don't add up"), ({"chains": []}, "'['"), ({"chains": {"IPv6 0 -> 17": {}}}, "'{'"), ({"chains": 1}, "'1'"),
-              ({"chain_bytes": {"08": 1}}, "no length"), ({"chain_bytes": {"x": 1}}, "no length"), ({"chain_bytes": {"9" * 40: 1}}, "no length"),
+              ({"chains": {"IPv6 " + "0," * 64 + "0 -> 17": 1}}, "no chain"),
+              ({"chains": {"IPv4 0 -> 17": 1}}, "don't add up"),
+              ({"chains": {}}, "don't add up"), ({"chains": []}, "'['"), ({"chains": {"IPv6 0 -> 17": {}}}, "'{'"),
+              ({"chains": 1}, "'1'"),
+              ({"chain_bytes": {"08": 1}}, "no length"), ({"chain_bytes": {"x": 1}}, "no length"),
+              ({"chain_bytes": {"9" * 40: 1}}, "no length"),
               ({"chain_bytes": {"8": 2}}, "don't add up"), ({"final_numbers": {"256": 1}}, "no protocol number"),
               ({"final_numbers": {"17 ": 1}}, "no protocol number"), ({"final_numbers": {"17": 2}}, "don't add up"),
-              ({"faults": {"too-short": 1}}, "no fault"), ({"faults": {"routing": 1}}, "no fault"), ({"not_ip": 1}, "don't add up"),
+              ({"faults": {"too-short": 1}}, "no fault"), ({"faults": {"routing": 1}}, "no fault"),
+              ({"not_ip": 1}, "don't add up"),
               ({"packets": 2**64 - 1, "not_ip": 2**64 - 1}, "don't add up"), ({"fragments": 2}, "don't add up"),
               ({"chains": {"IPv6 0 -> 17": 1, "other": 2**64 - 1}}, "don't add up")]
     cases += [(good(**parts), words) for parts, words in tables]
@@ -86,7 +98,8 @@ def damaged(harness):
     for _ in range(40):
         changed = bytearray(text)
         for _ in range(draw.choice([1, 1, 2, 5])):
-            changed[draw.randrange(len(changed))] = draw.choice([0, 34, 44, 48, 58, 123, 125, 255, draw.randrange(256)])
+            place = draw.randrange(len(changed))
+            changed[place] = draw.choice([0, 34, 44, 48, 58, 123, 125, 255, draw.randrange(256)])
         status, found, told, _ = harness.run("sum", content=bytes(changed))
         harness.check((status == 0) == (told == "") and (status == 1) == (found == b""), bytes(changed), status, told)
 
@@ -102,6 +115,7 @@ def bounds(harness):
     harness.equal(found["chain_bytes"], {"104": 5000}, "5000 chains")
     again = harness.run("sum", "--json", content=json.dumps(found).encode() * 2)
     harness.equal(json.loads(again[1])["chains"]["other"], 1808, "5000 chains, twice")
-    for count, wanted in [(64, {"IPv6 " + ",".join(["60"] * 64) + " -> 17": 1}), (65, {"other": 1}), (8000, {"other": 1})]:
+    for count, wanted in [(64, {"IPv6 " + ",".join(["60"] * 64) + " -> 17": 1}), (65, {"other": 1}),
+                          (8000, {"other": 1})]:
         found, _ = harness.stat(content=capture([ethernet(ipv6_chain([60] * count))], snap_len=262144))
         harness.equal((found["chains"], found["chain_bytes"]), (wanted, {str(8 * count): 1}), count, "headers")

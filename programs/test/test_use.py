@@ -2,6 +2,7 @@
 
 import os
 import pty
+import random
 import re
 import signal
 import subprocess
@@ -16,7 +17,8 @@ def helps(harness):
     for arguments in [["--help"], ["-h"]] + [[c, "--help"] for c in COMMANDS] + [[c, "-h"] for c in COMMANDS]:
         status, found, told, _ = harness.run(*arguments)
         harness.equal((status, told), (0, ""), arguments)
-        harness.check(found.startswith(b"usage: ipcap " + (arguments[0].encode() if len(arguments) > 1 else b"stat")), arguments)
+        harness.check(found.startswith(b"usage: ipcap " + (arguments[0].encode() if len(arguments) > 1 else b"stat")),
+                      arguments)
     for arguments in [["--version"]] + [[c, "--version"] for c in COMMANDS]:
         status, found, told, _ = harness.run(*arguments)
         harness.equal((status, told), (0, ""), arguments)
@@ -24,7 +26,8 @@ def helps(harness):
 
 
 def wrong_usage(harness):
-    for arguments in [[], ["frob"], ["--frob"], ["x" * 500], ["stat", "--frob"], ["sum", "file"], ["sum", "--frob"], ["show", "a", "b"],
+    for arguments in [[], ["frob"], ["--frob"], ["x" * 500], ["stat", "--frob"], ["sum", "file"], ["sum", "--frob"],
+                      ["show", "a", "b"],
                       ["show", "--color"], ["show", "--color=red"], ["show", "-w", "x"], ["stat", "--json=1"]]:
         status, found, told, _ = harness.run(*arguments)
         harness.equal((status, found), (2, b""), arguments)
@@ -36,8 +39,10 @@ def full_outputs(harness):
     path = harness.file(content)
     good = harness.run("stat", "--json", path)[1]
     with open("/dev/full", "wb") as full:
-        for arguments, given in [(["stat", path], b""), (["stat", "--json", path], b""), (["sum"], good), (["sum", "--json"], good),
-                                 (["show", path], b""), (["show"], content), (["filter", "header 0", path], b""), (["filter", "header 0"], content),
+        for arguments, given in [(["stat", path], b""), (["stat", "--json", path], b""), (["sum"], good),
+                                 (["sum", "--json"], good),
+                                 (["show", path], b""), (["show"], content), (["filter", "header 0", path], b""),
+                                 (["filter", "header 0"], content),
                                  (["filter", "fault", path], b""), (["--help"], b""), (["--version"], b"")]:
             answer = harness.run(*arguments, content=given, output=full)
             harness.equal((answer[0], answer[2]), (1, "ipcap: standard output: No space left on device\n"), arguments)
@@ -48,8 +53,8 @@ def full_outputs(harness):
 def in_terminal(command, environment, standard_error=False, feed=None):
     """What a command shows on a terminal, as its output or as its standard error alone."""
     master, terminal = pty.openpty()
-    streams = {"stdout": subprocess.DEVNULL, "stderr": terminal} if standard_error else {"stdout": terminal, "stderr": terminal}
-    process = subprocess.Popen(command, stdin=subprocess.PIPE, env=environment, **streams)
+    output = subprocess.DEVNULL if standard_error else terminal
+    process = subprocess.Popen(command, stdin=subprocess.PIPE, stdout=output, stderr=terminal, env=environment)
     os.close(terminal)
     for part in feed or []:
         process.stdin.write(part)
@@ -73,15 +78,18 @@ def terminals(harness):
     path = harness.file(capture([ethernet(ipv6_chain([0, 43]))]))
     environment = dict(harness.environment, TERM="xterm")
     for command in [harness.plain, harness.sanitized, harness.checked]:
-        for more, arguments, is_colored in [({}, [], True), ({"NO_COLOR": "1"}, [], False), ({"NO_COLOR": ""}, [], True), ({"TERM": "dumb"}, [], False),
-                                            ({"NO_COLOR": "1"}, ["--color=always"], True), ({}, ["--color=never"], False)]:
+        for more, arguments, is_colored in [({}, [], True), ({"NO_COLOR": "1"}, [], False),
+                                            ({"NO_COLOR": ""}, [], True), ({"TERM": "dumb"}, [], False),
+                                            ({"NO_COLOR": "1"}, ["--color=always"], True),
+                                            ({}, ["--color=never"], False)]:
             status, shown = in_terminal(command + ["show", path] + arguments, dict(environment, **more))
             harness.equal((status, b"\033[" in shown), (0, is_colored), more, arguments)
         status, shown = in_terminal(command + ["filter", "fault", path], environment)
         harness.equal((status, b"isn't written to a terminal" in shown), (2, True), "a capture on a terminal")
         frames = b"".join([record(ethernet(ipv6_chain([0])))] * 1024)
         status, shown = in_terminal(command + ["stat"], environment, True, [file_header(), frames, frames, frames])
-        harness.check(status == 0 and re.search(rb"standard input: \d+ packets", shown) and shown.endswith(b"\r\033[K"), shown)
+        is_shown = re.search(rb"standard input: \d+ packets", shown)
+        harness.check(status == 0 and is_shown and shown.endswith(b"\r\033[K"), shown)
         status, shown = in_terminal(command + ["stat", path], environment, True)
         harness.equal((status, shown), (0, b""), "no progress of a short file")
 
@@ -113,7 +121,7 @@ def memory_used(command, path):
 def bounded_memory(harness):
     """A capture of a thousand times as many packets takes no more memory."""
     frames = [record(ethernet(ipv6_chain(numbers))) for numbers in [[0], [0, 43], [60, 44], [51]]]
-    short, long = harness.file(file_header() + b"".join(frames) * 50), harness.file(file_header() + b"".join(frames) * 50000)
+    short, long = [harness.file(file_header() + b"".join(frames) * count) for count in [50, 50000]]
     for command in [["stat"], ["filter", "header 44", "-w", "/dev/null"], ["show"]]:
         few, many = memory_used(harness.plain + command, short), memory_used(harness.plain + command, long)
         harness.check(few[0] == many[0] == 0 and many[1] < few[1] + 500, command, few, many)
@@ -125,13 +133,15 @@ def refused_memory(harness):
     path = harness.file(content)
     counts = harness.run("stat", "--json", path)[1]
     harness.settle()
-    for arguments, given in [(["stat", path], b""), (["filter", "header 60", path], b""), (["show", path], b""), (["sum"], counts)]:
+    for arguments, given in [(["stat", path], b""), (["filter", "header 60", path], b""), (["show", path], b""),
+                             (["sum"], counts)]:
         wanted = harness.run(*arguments, content=given)[1]
         failures, number = 0, 0
         while number < 100:
             number += 1
             environment = dict(harness.environment, LD_PRELOAD=harness.refusing, REFUSED_ALLOCATION=str(number))
-            found = subprocess.run(harness.plain + arguments, input=given, stdout=subprocess.PIPE, stderr=subprocess.PIPE, env=environment)
+            found = subprocess.run(harness.plain + arguments, input=given, stdout=subprocess.PIPE,
+                                   stderr=subprocess.PIPE, env=environment)
             if found.returncode == 0:
                 harness.equal(found.stdout, wanted, "allocation", number, "of", arguments)
             else:
@@ -142,14 +152,15 @@ def refused_memory(harness):
 
 def damaged_captures(harness):
     """Whatever bytes of a capture are changed, each command comes to an end."""
-    import random
     draw = random.Random(5)
-    content = capture([ethernet(ipv6_chain([0, 43, 44, 51, 60])), ethernet(ipv4(51, authentication(17) + UDP), (0x8100,)),
+    content = capture([ethernet(ipv6_chain([0, 43, 44, 51, 60])),
+                       ethernet(ipv4(51, authentication(17) + UDP), (0x8100,)),
                        ethernet(ipv6(44, fragment(60, 0, 1) + options(17) + UDP))])
     for number in range(60):
         changed = bytearray(content)
         for _ in range(draw.choice([1, 2, 5, 20])):
-            changed[draw.randrange(0 if number % 4 == 0 else 24, len(changed))] = draw.choice([0, 1, 255, draw.randrange(256)])
+            place = draw.randrange(0 if number % 4 == 0 else 24, len(changed))
+            changed[place] = draw.choice([0, 1, 255, draw.randrange(256)])
         command = [["stat"], ["show"], ["filter", "header 44 or fault"]][number % 3]
         status, _, told, _ = harness.run(*command, content=bytes(changed))
         harness.equal(status == 0, told == "", command, bytes(changed).hex(), told)

@@ -135,10 +135,16 @@ bool open_capture(struct capture *capture, const char *path)
     return false;
 }
 
-/* Takes the line of progress away, if there is one. */
-static void clear_progress(const struct capture *capture)
+void allow_progress(struct capture *capture)
 {
-    if (capture->shows_progress && capture->number >= PROGRESS_PACKETS) fputs("\r\033[K", stderr);
+    capture->shows_progress = isatty(STDERR_FILENO);
+}
+
+/* Takes the line of progress away, if there is one. */
+static void clear_progress(struct capture *capture)
+{
+    if (capture->is_progress_shown) fputs("\r\033[K", stderr);
+    capture->is_progress_shown = false;
 }
 
 /* Tells how far the reading has come, once in a second. */
@@ -148,6 +154,7 @@ static void show_progress(struct capture *capture)
     if (!capture->shows_progress || capture->number % PROGRESS_PACKETS != 0) return;
     if (clock_gettime(CLOCK_MONOTONIC, &now) != 0 || now.tv_sec == capture->shown.tv_sec) return;
     capture->shown = now;
+    capture->is_progress_shown = true;
     fprintf(stderr, "\r\033[K%s: %llu packets", capture->name, (unsigned long long)capture->number);
     off_t at = ftello(capture->file);
     if (capture->len > 0 && at >= 0 && at <= capture->len)
@@ -167,10 +174,7 @@ enum reading read_packet(struct capture *capture, struct packet *packet)
 {
     struct pcap_pkthdr *header;
     int answer = pcap_next_ex(capture->handle, &header, &packet->frame);
-    if (answer == PCAP_ERROR_BREAK) {
-        clear_progress(capture);
-        return READ_END;
-    }
+    if (answer == PCAP_ERROR_BREAK) return READ_END;
     if (answer != 1) {
         complain_of_end(capture);
         return READ_FAILED;
@@ -193,6 +197,7 @@ bool cut_captured(struct cut *cut, const struct packet *packet)
 
 void close_capture(struct capture *capture)
 {
+    clear_progress(capture);
     bool is_input = capture->file == stdin;
     pcap_close(capture->handle);
     if (is_input) clearerr(stdin);

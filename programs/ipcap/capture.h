@@ -18,6 +18,7 @@ struct capture {
     int link_layer;
     bool is_live;       /* what is read is no file, so that packets may come as they are captured */
     bool shows_progress;
+    bool is_progress_shown; /* a line of progress stands on the terminal */
     off_t len;          /* how many bytes the file has, or 0 where that isn't known */
     uint64_t number;    /* how many packets were read */
     struct timespec shown;
@@ -34,6 +35,9 @@ struct packet {
 
 /* Opens a file, or standard input where the path is null or `-`. Where that fails, says why and answers false. */
 bool open_capture(struct capture *capture, const char *path);
+
+/* Tells how far the reading has come even where standard output is a terminal, since nothing is written there. */
+void allow_progress(struct capture *capture);
 
 /* How reading a packet ended. */
 enum reading { READ_PACKET, READ_END, READ_FAILED };

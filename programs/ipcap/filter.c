@@ -105,6 +105,7 @@ static bool filter_capture(const struct request *request)
     struct capture capture;
     struct output output = {0};
     if (!open_capture(&capture, request->input)) return false;
+    if (request->output && strcmp(request->output, "-") != 0) allow_progress(&capture);
     bool is_done = open_output(&output, &capture, request->output) && filter_packets(request, &output, &capture);
     if (output.dumper) pcap_dump_close(output.dumper);
     close_capture(&capture);

@@ -90,6 +90,10 @@ def terminals(harness):
         status, shown = in_terminal(command + ["stat"], environment, True, [file_header(), frames, frames, frames])
         is_shown = re.search(rb"standard input: \d+ packets", shown)
         harness.check(status == 0 and is_shown and shown.endswith(b"\r\033[K"), shown)
+        status, shown = in_terminal(command + ["filter", "fault", "-w", "/dev/null"], environment, False,
+                                    [file_header(), frames, frames, frames])
+        is_shown = re.search(rb"standard input: \d+ packets", shown)
+        harness.check(status == 0 and is_shown and shown.endswith(b"\r\033[K"), shown)
         status, shown = in_terminal(command + ["stat", path], environment, True)
         harness.equal((status, shown), (0, b""), "no progress of a short file")
 

@@ -16,8 +16,8 @@ enum { PROGRESS_PACKETS = 1024 };
 enum { MAGIC_LEN = 4 };
 
 /*
- * Reads the first bytes of a file, as many as there are, and puts them back. They stand in the buffer then, where any C
- * library can put back what it has just given; it answers so, and is asked.
+ * Reads the first bytes of a file, as many as there are, and puts them back. A C library has to take back one byte, and
+ * those that we know take back all that their buffer has just given; any other says that it can't.
  */
 static bool look_at_magic(FILE *file, uint8_t magic[MAGIC_LEN])
 {

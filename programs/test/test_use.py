@@ -4,9 +4,9 @@ import os
 import pty
 import random
 import re
+import select
 import signal
 import subprocess
-import time
 
 from captures import *
 
@@ -50,19 +50,10 @@ def full_outputs(harness):
         harness.equal((answer[0], answer[2]), (1, "ipcap: /dev/full: No space left on device\n"), "-w")
 
 
-def in_terminal(command, environment, standard_error=False, feed=None):
-    """What a command shows on a terminal, as its output or as its standard error alone."""
-    master, terminal = pty.openpty()
-    output = subprocess.DEVNULL if standard_error else terminal
-    process = subprocess.Popen(command, stdin=subprocess.PIPE, stdout=output, stderr=terminal, env=environment)
-    os.close(terminal)
-    for part in feed or []:
-        process.stdin.write(part)
-        process.stdin.flush()
-        time.sleep(1.1)
-    process.stdin.close()
+def read_terminal(master, seconds=None):
+    """What a terminal shows within the seconds, or until it is closed."""
     shown = b""
-    while True:
+    while select.select([master], [], [], seconds)[0]:
         try:
             part = os.read(master, 65536)
         except OSError:
@@ -70,6 +61,26 @@ def in_terminal(command, environment, standard_error=False, feed=None):
         if not part:
             break
         shown += part
+    return shown
+
+
+def in_terminal(command, environment, standard_error=False, head=b"", part=b""):
+    """What a command shows on a terminal, as its output or as its standard error alone. It reads the head, and then the
+    part again and again until it shows something, for a minute at most."""
+    master, terminal = pty.openpty()
+    output = subprocess.DEVNULL if standard_error else terminal
+    process = subprocess.Popen(command, stdin=subprocess.PIPE, stdout=output, stderr=terminal, env=environment)
+    os.close(terminal)
+    shown = b""
+    process.stdin.write(head)
+    for _ in range(120 if part else 0):
+        process.stdin.write(part)
+        process.stdin.flush()
+        shown += read_terminal(master, 0.5)
+        if shown:
+            break
+    process.stdin.close()
+    shown += read_terminal(master)
     os.close(master)
     return process.wait(), shown
 
@@ -87,11 +98,11 @@ def terminals(harness):
         status, shown = in_terminal(command + ["filter", "fault", path], environment)
         harness.equal((status, b"isn't written to a terminal" in shown), (2, True), "a capture on a terminal")
         frames = b"".join([record(ethernet(ipv6_chain([0])))] * 1024)
-        status, shown = in_terminal(command + ["stat"], environment, True, [file_header(), frames, frames, frames])
+        status, shown = in_terminal(command + ["stat"], environment, True, file_header(), frames)
         is_shown = re.search(rb"standard input: \d+ packets", shown)
         harness.check(status == 0 and is_shown and shown.endswith(b"\r\033[K"), shown)
         status, shown = in_terminal(command + ["filter", "fault", "-w", "/dev/null"], environment, False,
-                                    [file_header(), frames, frames, frames])
+                                    file_header(), frames)
         is_shown = re.search(rb"standard input: \d+ packets", shown)
         harness.check(status == 0 and is_shown and shown.endswith(b"\r\033[K"), shown)
         status, shown = in_terminal(command + ["stat", path], environment, True)
@@ -99,19 +110,23 @@ def terminals(harness):
 
 
 def interrupts(harness):
-    """What a pipe still brings behind an interrupt is counted; the second interrupt ends the program."""
+    """What a pipe still brings behind an interrupt is filtered; the second interrupt ends the program."""
     packet = record(ethernet(ipv6_chain([0])))
     for command in [harness.plain, harness.sanitized, harness.checked]:
-        for count, wanted in [(1, 0), (2, -signal.SIGINT)]:
+        for is_second, wanted in [(False, 0), (True, -signal.SIGINT)]:
             process = subprocess.Popen(command + ["filter", "header 0"], stdin=subprocess.PIPE, stdout=subprocess.PIPE,
                                        env=harness.environment)
             os.write(process.stdin.fileno(), file_header() + packet)
             harness.equal(process.stdout.read(24 + len(packet)), file_header() + packet, "before the interrupt")
-            for _ in range(count):
+            process.send_signal(signal.SIGINT)
+            os.write(process.stdin.fileno(), packet)
+            harness.equal(process.stdout.read(len(packet)), packet, "behind the interrupt")
+            if is_second:
                 process.send_signal(signal.SIGINT)
-                time.sleep(0.3)
-            found, _ = process.communicate(packet if count == 1 else None)
-            harness.equal((process.returncode, found), (wanted, packet if count == 1 else b""), count, "interrupts")
+            else:
+                process.stdin.close()
+            harness.equal(process.wait(60), wanted, "status, with a second interrupt:", is_second)
+            process.stdout.close()
 
 
 def memory_used(command, path):

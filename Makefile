@@ -1,15 +1,16 @@
 # `make run` answers the lines of standard input; `make try` answers some lines within seconds, with checks as they
 # run in place of proofs, which it tells on standard error; `make test` holds the listed contracts and the
 # listed errors against the code, tries the program and passes the merge gate;
-# `make lib` leaves the static library for C, its header and its pkg-config file in build/, and `make install
-# PREFIX=/usr/local` installs them (DESTDIR=.. in front of it); `make test-c` tests them with a C and a C++ compiler;
+# `make lib` leaves the static library for C, its header and its pkg-config file in build/, and `make programs` the
+# program ipcap, which needs libpcap; `make install PREFIX=/usr/local` installs all of it, and ipexts (DESTDIR=.. stands in
+# front of the paths); `make test-c` tests it, and the package in bindings/rust;
 # `make mutants` tries the mutants of mutants/ (CRATE=NAME: those of one crate; ONLY=WORD: those whose names
 # have the word); `make memory` refuses each allocation of the program in turn. `make bench` measures and `make diff`
 # compares against etherparse 0.19.0; `make diff-test` tests the comparison; `make diff-fields` holds fragment headers
 # against scapy's. `make cost` measures what a byte costs at worst. `make fuzz` compares on inputs that AFL++ makes,
 # MINUTES=.. long, and `make fuzz-test` tests that. These seven take CARGO_FLAGS="..", further flags for Cargo, as one
 # that says where the crate lies on a machine without a network.
-.PHONY: run try test lib install test-c mutants memory bench cost diff diff-test diff-fields fuzz fuzz-test
+.PHONY: run try test lib programs install test-c mutants memory bench cost diff diff-test diff-fields fuzz fuzz-test
 .SILENT:
 
 RT_IS_THERE = command -v rt >/dev/null || { \
@@ -17,6 +18,12 @@ RT_IS_THERE = command -v rt >/dev/null || { \
 
 PYTHON_IS_THERE = command -v python3 >/dev/null || { \
 	echo "Python is missing: its command 'python3' has to be on the PATH." >&2; exit 1; }
+
+CARGO_IS_THERE = command -v cargo >/dev/null || { \
+	echo "Cargo is missing: its command 'cargo' has to be on the PATH (Debian: cargo)." >&2; exit 1; }
+
+PCAP_IS_THERE = echo '\#include <pcap/pcap.h>' | $(CC) -E -x c - >/dev/null 2>&1 || { \
+	echo "libpcap's headers are missing (Debian: libpcap-dev)." >&2; exit 1; }
 
 run:
 	$(RT_IS_THERE)
@@ -47,14 +54,28 @@ lib:
 	cp include/wolfaren.h build/
 	sed -e 's|@PREFIX@|$(PREFIX)|; s|@VERSION@|$(VERSION)|' include/wolfaren.pc.in > build/wolfaren.pc
 
-install: lib
-	mkdir -p $(DESTDIR)$(PREFIX)/include $(DESTDIR)$(PREFIX)/lib/pkgconfig
-	cp build/wolfaren.h $(DESTDIR)$(PREFIX)/include/
-	cp build/libwolfaren.a $(DESTDIR)$(PREFIX)/lib/
-	cp build/wolfaren.pc $(DESTDIR)$(PREFIX)/lib/pkgconfig/
+programs: lib
+	$(PCAP_IS_THERE)
+	$(MAKE) -C programs ipcap LIB=$(CURDIR)/build INCLUDE=$(CURDIR)/build OUT=$(CURDIR)/build/ipcap.out
+	cp build/ipcap.out/ipcap build/
+
+INSTALLED = $(DESTDIR)$(PREFIX)
+
+install: programs
+	cd crates/ipexts && rt run < /dev/null
+	mkdir -p $(INSTALLED)/bin $(INSTALLED)/include $(INSTALLED)/lib/pkgconfig $(INSTALLED)/share/man/man1
+	cp build/ipcap crates/ipexts/out/ipexts $(INSTALLED)/bin/
+	cp build/wolfaren.h $(INSTALLED)/include/
+	cp build/libwolfaren.a $(INSTALLED)/lib/
+	cp build/wolfaren.pc $(INSTALLED)/lib/pkgconfig/
+	cp programs/ipcap/ipcap.1 programs/ipexts.1 $(INSTALLED)/share/man/man1/
 
 test-c: lib
+	$(PYTHON_IS_THERE)
+	$(CARGO_IS_THERE)
 	scripts/test-c
+	programs/test/run build build
+	cd bindings/rust && WOLFAREN_LIB_DIR=$(CURDIR)/build cargo test --quiet $(CARGO_FLAGS)
 
 mutants:
 	$(RT_IS_THERE)

@@ -14,7 +14,7 @@
  *  - There is no state and no allocation, so any thread may call anything at any time.
  *
  * The library needs memcpy, memmove and memset, and nothing else. It is made for x86-64-v2 (SSE4.2) and the calling
- * convention of System V; it uses SSE registers and the red zone below the stack pointer, and less than 2 KB of stack.
+ * convention of System V; it uses SSE registers and the red zone below the stack pointer, and less than 1 KB of stack.
  * So a kernel has to save SSE registers around its calls, and must not take an interrupt on the same stack.
  */
 #ifndef WOLFAREN_H
@@ -122,6 +122,9 @@ struct wolfaren_chain {
  * counts all, so that the array was too short where it is above `room`.
  *
  * There is no fault where the number behind the chain is no extension number: 6 for TCP, 17 for UDP, 59 for nothing.
+ *
+ * What follows a fragment header is read as headers whatever its offset says. Behind one whose offset isn't 0 it is the
+ * middle of a payload: who doesn't want that cut stops there, by wolfaren_next_header and wolfaren_fragment_fields.
  */
 void wolfaren_cut_chain(uint8_t first, const uint8_t *bytes, size_t len, struct wolfaren_header *headers, size_t room,
                         struct wolfaren_chain *chain);

@@ -27,11 +27,7 @@ pub(crate) fn after(bytes: &[u8], len: usize) -> &[u8]
 /// The header that goes on with the number where the bytes begin; `first` says that no header is before it, since only
 /// there are hop by hop options one (RFC 8200, section 4.1). `None` where none goes on.
 #[inline]
-pub fn header_at(
-    first: bool,
-    number: IpNumber,
-    bytes: &[u8],
-) -> Option<Ipv6ExtensionSlice<'_>>
+pub fn header_at(first: bool, number: IpNumber, bytes: &[u8]) -> Option<Ipv6ExtensionSlice<'_>>
     ensures next { IfSome result (λ h. IsNext first number.0 bytes.now (header_of h)) }
     ensures end { IfNone result (IsEnd first number.0 bytes.now) }
 {

@@ -1,0 +1,70 @@
+//! Finds the static library `libwolfaren.a`: in the folder that `WOLFAREN_LIB_DIR` names, else in the one of which
+//! pkg-config knows.
+use std::env;
+use std::path::{Path, PathBuf};
+use std::process::{exit, Command};
+
+/// The file that is linked.
+const ARCHIVE: &str = "libwolfaren.a";
+
+fn main() {
+    for variable in ["WOLFAREN_LIB_DIR", "PKG_CONFIG", "PKG_CONFIG_PATH"] {
+        println!("cargo:rerun-if-env-changed={variable}");
+    }
+    let folder = match env::var_os("WOLFAREN_LIB_DIR") {
+        Some(folder) => named_folder(PathBuf::from(folder)),
+        None => known_folder(),
+    };
+    println!("cargo:rerun-if-changed={}", folder.join(ARCHIVE).display());
+    println!("cargo:rustc-link-search=native={}", folder.display());
+    println!("cargo:rustc-link-lib=static=wolfaren");
+}
+
+/// The folder that the variable names.
+fn named_folder(folder: PathBuf) -> PathBuf {
+    if !has_archive(&folder) {
+        give_up(&format!(
+            "WOLFAREN_LIB_DIR is {}, and there is no {ARCHIVE} in it.",
+            folder.display()
+        ));
+    }
+    folder.canonicalize().unwrap_or(folder)
+}
+
+/// The folder of which pkg-config knows.
+fn known_folder() -> PathBuf {
+    let program = env::var_os("PKG_CONFIG").unwrap_or_else(|| "pkg-config".into());
+    let output = Command::new(&program)
+        .args(["--variable=libdir", "wolfaren"])
+        .output()
+        .unwrap_or_else(|e| {
+            give_up(&format!(
+                "WOLFAREN_LIB_DIR isn't set, and {} can't be run: {e}.",
+                program.to_string_lossy()
+            ))
+        });
+    let folder = PathBuf::from(String::from_utf8_lossy(&output.stdout).trim());
+    if !output.status.success() || folder.as_os_str().is_empty() {
+        give_up("WOLFAREN_LIB_DIR isn't set, and pkg-config knows of no wolfaren.pc that names a folder.");
+    }
+    if !has_archive(&folder) {
+        give_up(&format!(
+            "The wolfaren.pc that pkg-config knows of names {}, and there is no {ARCHIVE} in it.",
+            folder.display()
+        ));
+    }
+    folder
+}
+
+fn has_archive(folder: &Path) -> bool {
+    folder.join(ARCHIVE).is_file()
+}
+
+/// Ends the build with what is wrong and what to do.
+fn give_up(what: &str) -> ! {
+    eprintln!(
+        "\nThe library wolfaren is missing. {what}\n\nInstall it, and either set WOLFAREN_LIB_DIR to the folder that has \
+         {ARCHIVE}, or have pkg-config find its wolfaren.pc (PKG_CONFIG_PATH names further folders to look in).\n"
+    );
+    exit(1)
+}

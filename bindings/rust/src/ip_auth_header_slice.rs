@@ -1,0 +1,74 @@
+use crate::err::ip_auth::HeaderSliceError;
+use crate::library::{self, Cursor};
+use crate::{ip_number, IpNumber};
+
+/// The name of this type in earlier versions of the interface.
+#[deprecated(note = "use `IpAuthHeaderSlice`")]
+pub type IpAuthenticationHeaderSlice<'a> = IpAuthHeaderSlice<'a>;
+
+/// One authentication header (RFC 4302, section 2), borrowed from the caller's bytes. Two are equal where
+/// their bytes are.
+#[derive(Clone, Copy, Debug, PartialEq, Eq)]
+pub struct IpAuthHeaderSlice<'a> {
+    slice: &'a [u8],
+}
+
+impl<'a> IpAuthHeaderSlice<'a> {
+    /// The header that begins the slice. The error tells, in this order, that there are fewer than 12 bytes,
+    /// that the length field is 0, or that there are fewer bytes than the header's own length.
+    ///
+    /// ```
+    /// use wolfaren::IpAuthHeaderSlice;
+    ///
+    /// let header = IpAuthHeaderSlice::from_slice(&[6, 2, 0, 0, 0, 0, 0, 1, 0, 0, 0, 9, 1, 2, 3, 4])?;
+    /// assert_eq!((header.spi(), header.sequence_number()), (1, 9));
+    /// assert_eq!(header.raw_icv(), [1, 2, 3, 4]);
+    /// # Ok::<(), wolfaren::err::ip_auth::HeaderSliceError>(())
+    /// ```
+    pub fn from_slice(slice: &'a [u8]) -> Result<IpAuthHeaderSlice<'a>, HeaderSliceError> {
+        let mut cursor = Cursor {
+            offset: 0,
+            number: ip_number::AUTH.0,
+        };
+        match library::next_header(&mut cursor, slice) {
+            Some(header) => Ok(Self::of_cut(&slice[..header.len])),
+            None => Err(library::fault_at(&cursor, slice).of_auth()),
+        }
+    }
+
+    /// The header of bytes that the library has cut.
+    #[inline]
+    pub(crate) fn of_cut(slice: &'a [u8]) -> IpAuthHeaderSlice<'a> {
+        IpAuthHeaderSlice { slice }
+    }
+
+    /// The header's bytes, 12 to 1028.
+    #[inline]
+    pub fn slice(&self) -> &'a [u8] {
+        self.slice
+    }
+
+    /// The number of what follows the header.
+    #[inline]
+    pub fn next_header(&self) -> IpNumber {
+        IpNumber(self.slice[0])
+    }
+
+    /// The security parameters index, which tells the receiver its association with the sender.
+    #[inline]
+    pub fn spi(&self) -> u32 {
+        u32::from_be_bytes([self.slice[4], self.slice[5], self.slice[6], self.slice[7]])
+    }
+
+    /// The sender's count of packets.
+    #[inline]
+    pub fn sequence_number(&self) -> u32 {
+        u32::from_be_bytes([self.slice[8], self.slice[9], self.slice[10], self.slice[11]])
+    }
+
+    /// The integrity check value with its padding, 0 to 1016 bytes.
+    #[inline]
+    pub fn raw_icv(&self) -> &'a [u8] {
+        &self.slice[12..]
+    }
+}

@@ -1,0 +1,41 @@
+use crate::err::ValueTooBigError;
+
+/// A fragment offset: 13 bits, which count units of 8 bytes (RFC 8200, section 4.5).
+#[derive(Clone, Copy, Debug, PartialEq, Eq, Hash)]
+pub struct IpFragOffset(u16);
+
+impl IpFragOffset {
+    /// The largest offset.
+    pub const MAX_U16: u16 = 0x1fff;
+
+    /// The offset of this value, or the error that it doesn't fit 13 bits.
+    pub const fn try_new(value: u16) -> Result<IpFragOffset, ValueTooBigError> {
+        if value > Self::MAX_U16 {
+            return Err(ValueTooBigError {
+                actual: value,
+                max_allowed: Self::MAX_U16,
+            });
+        }
+        Ok(IpFragOffset(value))
+    }
+
+    /// The offset in the high 13 bits of bytes 2 and 3 of a fragment header.
+    #[inline]
+    pub(crate) const fn of_bytes(high: u8, low: u8) -> IpFragOffset {
+        IpFragOffset(u16::from_be_bytes([high, low]) >> 3)
+    }
+
+    /// The number of units of 8 bytes.
+    #[inline]
+    pub const fn value(self) -> u16 {
+        self.0
+    }
+}
+
+impl TryFrom<u16> for IpFragOffset {
+    type Error = ValueTooBigError;
+
+    fn try_from(value: u16) -> Result<IpFragOffset, ValueTooBigError> {
+        IpFragOffset::try_new(value)
+    }
+}

@@ -1,0 +1,105 @@
+use crate::err::ipv4::{HeaderError, HeaderSliceError, SliceError};
+use crate::err::{Layer, LenError};
+use crate::{library, IpNumber, Ipv4Header, LenSource};
+use core::net::Ipv4Addr;
+
+/// The base header of an IPv4 packet with its options (RFC 791, section 3.1), as a part of the caller's
+/// bytes. Two are equal where their bytes are.
+#[derive(Clone, Copy, Debug, PartialEq, Eq)]
+pub struct Ipv4HeaderSlice<'a> {
+    slice: &'a [u8],
+}
+
+impl<'a> Ipv4HeaderSlice<'a> {
+    /// The header that begins the slice. The error tells, in this order, that there are fewer than 20 bytes,
+    /// that the version isn't 4, that the internet header length is below 5, or that there are fewer bytes
+    /// than it states.
+    pub fn from_slice(slice: &'a [u8]) -> Result<Ipv4HeaderSlice<'a>, HeaderSliceError> {
+        check_version(slice)?;
+        // The library cuts whole packets. Of one whose total length is 0 it says how many bytes the base header has.
+        let mut front = [0; 60];
+        let len = slice.len().min(front.len());
+        front[..len].copy_from_slice(&slice[..len]);
+        front[2..4].fill(0);
+        match library::cut_packet(&front[..len]).fault.of_ipv4_packet() {
+            SliceError::Len(e) if e.layer == Layer::Ipv4Packet => {
+                Ok(Self::of_cut(&slice[..e.required_len]))
+            }
+            SliceError::Len(e) => Err(HeaderSliceError::Len(e)),
+            SliceError::Header(e) => Err(HeaderSliceError::Content(e)),
+            SliceError::Exts(_) => unreachable!("the packet has no extension headers"),
+        }
+    }
+
+    /// The header of bytes that the library has cut.
+    #[inline]
+    pub(crate) fn of_cut(slice: &'a [u8]) -> Ipv4HeaderSlice<'a> {
+        Ipv4HeaderSlice { slice }
+    }
+
+    /// The header's bytes with its options, 20 to 60.
+    #[inline]
+    pub fn slice(&self) -> &'a [u8] {
+        self.slice
+    }
+
+    /// How many bytes the packet has, its header included.
+    #[inline]
+    pub fn total_len(&self) -> u16 {
+        u16::from_be_bytes([self.slice[2], self.slice[3]])
+    }
+
+    /// The number of what follows the header.
+    #[inline]
+    pub fn protocol(&self) -> IpNumber {
+        IpNumber(self.slice[9])
+    }
+
+    /// Whether the packet has a fragment of the payload and not the whole: more fragments follow, or the offset
+    /// isn't 0.
+    #[inline]
+    pub fn is_fragmenting_payload(&self) -> bool {
+        // The more flag and the 13 bits of the offset.
+        u16::from_be_bytes([self.slice[6], self.slice[7]]) & 0x3fff != 0
+    }
+
+    /// The address of the packet's sender.
+    #[inline]
+    pub fn source_addr(&self) -> Ipv4Addr {
+        self.addr(12)
+    }
+
+    /// The address of the packet's receiver.
+    #[inline]
+    pub fn destination_addr(&self) -> Ipv4Addr {
+        self.addr(16)
+    }
+
+    /// The address at these bytes.
+    #[inline]
+    fn addr(&self, at: usize) -> Ipv4Addr {
+        let bytes = &self.slice[at..at + 4];
+        Ipv4Addr::new(bytes[0], bytes[1], bytes[2], bytes[3])
+    }
+}
+
+/// Tells that there are fewer than 20 bytes, or that the version isn't 4. Where neither is so, the library tells what
+/// is wrong with a base header in the order of `Ipv4HeaderSlice::from_slice`.
+#[inline]
+pub(crate) fn check_version(slice: &[u8]) -> Result<(), HeaderSliceError> {
+    if slice.len() < Ipv4Header::MIN_LEN {
+        return Err(HeaderSliceError::Len(LenError {
+            required_len: Ipv4Header::MIN_LEN,
+            layer_start_offset: 0,
+            len_source: LenSource::Slice,
+            layer: Layer::Ipv4Header,
+            len: slice.len(),
+        }));
+    }
+    match slice[0] >> 4 {
+        4 => Ok(()),
+        version_number => Err(HeaderSliceError::Content(HeaderError::UnexpectedVersion {
+            version_number,
+        })),
+    }
+}

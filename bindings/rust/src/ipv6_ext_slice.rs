@@ -1,0 +1,77 @@
+use crate::library::Header;
+use crate::{
+    ip_number, IpAuthHeaderSlice, IpNumber, Ipv6FragmentHeaderSlice, Ipv6RawExtHeaderSlice,
+};
+
+/// One header of an IPv6 chain, borrowed from the caller's bytes. Two are equal where their variants and
+/// their bytes are.
+#[derive(Clone, Debug, PartialEq, Eq)]
+pub enum Ipv6ExtensionSlice<'a> {
+    /// Hop by hop options (RFC 8200, section 4.3).
+    HopByHop(Ipv6RawExtHeaderSlice<'a>),
+    /// A routing header (RFC 8200, section 4.4).
+    Routing(Ipv6RawExtHeaderSlice<'a>),
+    /// A fragment header (RFC 8200, section 4.5).
+    Fragment(Ipv6FragmentHeaderSlice<'a>),
+    /// Destination options (RFC 8200, section 4.6).
+    DestinationOptions(Ipv6RawExtHeaderSlice<'a>),
+    /// An authentication header (RFC 4302, section 2).
+    Authentication(IpAuthHeaderSlice<'a>),
+}
+
+impl<'a> Ipv6ExtensionSlice<'a> {
+    /// The header that the library has cut of the bytes.
+    #[inline]
+    pub(crate) fn of_cut(header: &Header, bytes: &'a [u8]) -> Ipv6ExtensionSlice<'a> {
+        let slice = &bytes[header.offset..][..header.len];
+        match IpNumber(header.number) {
+            ip_number::IPV6_HOP_BY_HOP => {
+                Ipv6ExtensionSlice::HopByHop(Ipv6RawExtHeaderSlice::of_cut(slice))
+            }
+            ip_number::IPV6_ROUTE => {
+                Ipv6ExtensionSlice::Routing(Ipv6RawExtHeaderSlice::of_cut(slice))
+            }
+            ip_number::IPV6_FRAG => {
+                Ipv6ExtensionSlice::Fragment(Ipv6FragmentHeaderSlice::of_cut(slice))
+            }
+            ip_number::AUTH => Ipv6ExtensionSlice::Authentication(IpAuthHeaderSlice::of_cut(slice)),
+            _ => Ipv6ExtensionSlice::DestinationOptions(Ipv6RawExtHeaderSlice::of_cut(slice)),
+        }
+    }
+
+    /// The header's own number.
+    #[inline]
+    pub fn number(&self) -> IpNumber {
+        match self {
+            Ipv6ExtensionSlice::HopByHop(_) => ip_number::IPV6_HOP_BY_HOP,
+            Ipv6ExtensionSlice::Routing(_) => ip_number::IPV6_ROUTE,
+            Ipv6ExtensionSlice::Fragment(_) => ip_number::IPV6_FRAG,
+            Ipv6ExtensionSlice::DestinationOptions(_) => ip_number::IPV6_DEST_OPTIONS,
+            Ipv6ExtensionSlice::Authentication(_) => ip_number::AUTH,
+        }
+    }
+
+    /// The header's bytes.
+    #[inline]
+    pub fn slice(&self) -> &'a [u8] {
+        match self {
+            Ipv6ExtensionSlice::HopByHop(header)
+            | Ipv6ExtensionSlice::Routing(header)
+            | Ipv6ExtensionSlice::DestinationOptions(header) => header.slice(),
+            Ipv6ExtensionSlice::Fragment(header) => header.slice(),
+            Ipv6ExtensionSlice::Authentication(header) => header.slice(),
+        }
+    }
+
+    /// The number of what follows the header.
+    #[inline]
+    pub fn next_header(&self) -> IpNumber {
+        match self {
+            Ipv6ExtensionSlice::HopByHop(header)
+            | Ipv6ExtensionSlice::Routing(header)
+            | Ipv6ExtensionSlice::DestinationOptions(header) => header.next_header(),
+            Ipv6ExtensionSlice::Fragment(header) => header.next_header(),
+            Ipv6ExtensionSlice::Authentication(header) => header.next_header(),
+        }
+    }
+}

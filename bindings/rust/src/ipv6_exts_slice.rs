@@ -1,0 +1,132 @@
+use crate::err::ipv6_exts::HeaderSliceError;
+use crate::err::Layer;
+use crate::library::{self, Chain};
+use crate::{ip_number, IpNumber, Ipv6ExtensionSlice, Ipv6ExtensionSliceIter};
+
+/// A chain of IPv6 extension headers (RFC 8200, section 4), borrowed from the caller's bytes. Its bytes are
+/// whole headers, linked from the number of the first. Two are equal where the number of the first header
+/// and the bytes are.
+///
+/// ```
+/// use wolfaren::{ip_number, Ipv6ExtensionsSlice};
+///
+/// // Destination options, a fragment header, and the first byte of what is behind them.
+/// let bytes = [44, 0, 1, 4, 0, 0, 0, 0, 17, 0, 0, 8, 0, 0, 0, 1, 255];
+/// let (headers, number, rest) = Ipv6ExtensionsSlice::from_slice(ip_number::IPV6_DEST_OPTIONS, &bytes)?;
+/// assert_eq!((number, rest), (ip_number::UDP, &[255][..]));
+/// assert!(headers.is_fragmenting_payload());
+/// let numbers: Vec<u8> = headers.into_iter().map(|header| header.number().0).collect();
+/// assert_eq!(numbers, [60, 44]);
+/// # Ok::<(), wolfaren::err::ipv6_exts::HeaderSliceError>(())
+/// ```
+#[derive(Clone, Debug, Default)]
+pub struct Ipv6ExtensionsSlice<'a> {
+    first_header: Option<IpNumber>,
+    fragmented: bool,
+    slice: &'a [u8],
+}
+
+impl<'a> Ipv6ExtensionsSlice<'a> {
+    /// The chain that the library has cut, from a number and all of these bytes.
+    #[inline]
+    pub(crate) fn of_cut(
+        first: IpNumber,
+        slice: &'a [u8],
+        fragmented: bool,
+    ) -> Ipv6ExtensionsSlice<'a> {
+        Ipv6ExtensionsSlice {
+            first_header: (!slice.is_empty()).then_some(first),
+            fragmented,
+            slice,
+        }
+    }
+
+    /// The longest chain from the number that begins the bytes, with the number to which it leads, the bytes
+    /// after it and the fault there. The offset in a fault counts bytes from the start of `start_slice`. There
+    /// is no fault where the number is no extension number. Of bytes that are cut short, as a capture's are,
+    /// it answers those of the headers that lie whole within them.
+    #[inline]
+    pub fn from_slice_lax(
+        start_ip_number: IpNumber,
+        start_slice: &'a [u8],
+    ) -> (
+        Ipv6ExtensionsSlice<'a>,
+        IpNumber,
+        &'a [u8],
+        Option<(HeaderSliceError, Layer)>,
+    ) {
+        let chain = library::cut_chain(start_ip_number.0, start_slice);
+        let (headers, number, rest) = Self::split(start_ip_number, start_slice, &chain);
+        let fault = &chain.fault;
+        let fault = (!fault.is_none()).then(|| (fault.of_chain(), fault.header_layer()));
+        (headers, number, rest, fault)
+    }
+
+    /// What `from_slice_lax` answers, where it tells no fault; else the fault.
+    #[inline]
+    pub fn from_slice(
+        start_ip_number: IpNumber,
+        start_slice: &'a [u8],
+    ) -> Result<(Ipv6ExtensionsSlice<'a>, IpNumber, &'a [u8]), HeaderSliceError> {
+        let chain = library::cut_chain(start_ip_number.0, start_slice);
+        if !chain.fault.is_none() {
+            return Err(chain.fault.of_chain());
+        }
+        Ok(Self::split(start_ip_number, start_slice, &chain))
+    }
+
+    /// The chain, the number to which it leads, and the bytes after it.
+    #[inline]
+    fn split(
+        first: IpNumber,
+        bytes: &'a [u8],
+        chain: &Chain,
+    ) -> (Ipv6ExtensionsSlice<'a>, IpNumber, &'a [u8]) {
+        let (slice, rest) = bytes.split_at(chain.len);
+        let headers = Self::of_cut(first, slice, chain.fragmented != 0);
+        (headers, IpNumber(chain.next_header), rest)
+    }
+
+    /// The number of the first header, where there is one.
+    #[inline]
+    pub fn first_header(&self) -> Option<IpNumber> {
+        self.first_header
+    }
+
+    /// The bytes of the headers.
+    #[inline]
+    pub fn slice(&self) -> &'a [u8] {
+        self.slice
+    }
+
+    /// Whether some fragment header of the chain fragments the payload.
+    #[inline]
+    pub fn is_fragmenting_payload(&self) -> bool {
+        self.fragmented
+    }
+
+    /// Whether there is no header.
+    #[inline]
+    pub fn is_empty(&self) -> bool {
+        self.slice.is_empty()
+    }
+}
+
+impl<'a> IntoIterator for Ipv6ExtensionsSlice<'a> {
+    type Item = Ipv6ExtensionSlice<'a>;
+
+    type IntoIter = Ipv6ExtensionSliceIter<'a>;
+
+    #[inline]
+    fn into_iter(self) -> Ipv6ExtensionSliceIter<'a> {
+        Ipv6ExtensionSliceIter::new(self.first_header.unwrap_or(ip_number::UDP), self.slice)
+    }
+}
+
+impl PartialEq for Ipv6ExtensionsSlice<'_> {
+    fn eq(&self, other: &Self) -> bool {
+        self.first_header == other.first_header && self.slice == other.slice
+    }
+}
+
+impl Eq for Ipv6ExtensionsSlice<'_> {}

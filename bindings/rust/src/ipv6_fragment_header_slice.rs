@@ -1,0 +1,84 @@
+use crate::err::LenError;
+use crate::library::{self, Cursor};
+use crate::{ip_number, IpFragOffset, IpNumber};
+
+/// One IPv6 fragment header (RFC 8200, section 4.5), borrowed from the caller's bytes. Two are equal where
+/// their bytes are.
+#[derive(Clone, Debug, PartialEq, Eq)]
+pub struct Ipv6FragmentHeaderSlice<'a> {
+    slice: &'a [u8; 8],
+}
+
+impl<'a> Ipv6FragmentHeaderSlice<'a> {
+    /// The header that begins the slice. The error tells that there are fewer than 8 bytes.
+    ///
+    /// ```
+    /// use wolfaren::Ipv6FragmentHeaderSlice;
+    ///
+    /// // Offset 1, in units of 8 bytes, and more fragments follow.
+    /// let header = Ipv6FragmentHeaderSlice::from_slice(&[17, 0, 0, 9, 0, 0, 0, 7])?;
+    /// assert_eq!(header.fragment_offset().value(), 1);
+    /// assert!(header.more_fragments());
+    /// assert_eq!(header.identification(), 7);
+    /// # Ok::<(), wolfaren::err::LenError>(())
+    /// ```
+    pub fn from_slice(slice: &'a [u8]) -> Result<Ipv6FragmentHeaderSlice<'a>, LenError> {
+        let mut cursor = Cursor {
+            offset: 0,
+            number: ip_number::IPV6_FRAG.0,
+        };
+        match library::next_header(&mut cursor, slice) {
+            Some(header) => Ok(Self::of_cut(&slice[..header.len])),
+            None => match library::fault_at(&cursor, slice).len_error() {
+                Some(error) => Err(error),
+                None => unreachable!("only a length is wrong with a fragment header"),
+            },
+        }
+    }
+
+    /// The header of bytes that the library has cut.
+    #[inline]
+    pub(crate) fn of_cut(slice: &'a [u8]) -> Ipv6FragmentHeaderSlice<'a> {
+        match slice.try_into() {
+            Ok(slice) => Ipv6FragmentHeaderSlice { slice },
+            Err(_) => unreachable!("a fragment header has 8 bytes"),
+        }
+    }
+
+    /// The header's 8 bytes.
+    #[inline]
+    pub fn slice(&self) -> &'a [u8] {
+        self.slice
+    }
+
+    /// The number of what follows the header.
+    #[inline]
+    pub fn next_header(&self) -> IpNumber {
+        IpNumber(self.slice[0])
+    }
+
+    /// Where the fragment lies in the payload, in units of 8 bytes.
+    #[inline]
+    pub fn fragment_offset(&self) -> IpFragOffset {
+        IpFragOffset::of_bytes(self.slice[2], self.slice[3])
+    }
+
+    /// Whether more fragments of the payload follow.
+    #[inline]
+    pub fn more_fragments(&self) -> bool {
+        self.slice[3] & 1 != 0
+    }
+
+    /// The number that the fragments of one packet share.
+    #[inline]
+    pub fn identification(&self) -> u32 {
+        u32::from_be_bytes([self.slice[4], self.slice[5], self.slice[6], self.slice[7]])
+    }
+
+    /// Whether the packet has a fragment of the payload and not the whole: more fragments follow, or the offset
+    /// isn't 0.
+    #[inline]
+    pub fn is_fragmenting_payload(&self) -> bool {
+        self.more_fragments() | (self.fragment_offset().value() != 0)
+    }
+}

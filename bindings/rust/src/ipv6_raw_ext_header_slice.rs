@@ -1,0 +1,80 @@
+use crate::err::LenError;
+use crate::library::{self, Cursor};
+use crate::{ip_number, IpNumber};
+
+/// The name of this type in earlier versions of the interface.
+#[deprecated(note = "use `Ipv6RawExtHeaderSlice`")]
+pub type Ipv6RawExtensionHeaderSlice<'a> = Ipv6RawExtHeaderSlice<'a>;
+
+/// One IPv6 header of the common layout (hop by hop options, routing or destination options; RFC 8200,
+/// sections 4.3, 4.4, 4.6), borrowed from the caller's bytes. Two are equal where their bytes are.
+#[derive(Clone, Debug, PartialEq, Eq)]
+pub struct Ipv6RawExtHeaderSlice<'a> {
+    slice: &'a [u8],
+}
+
+impl<'a> Ipv6RawExtHeaderSlice<'a> {
+    /// Whether headers of the number have this layout: hop by hop options, routing, destination options,
+    /// mobility, host identity protocol and shim6.
+    pub const fn header_type_supported(next_header: IpNumber) -> bool {
+        matches!(
+            next_header,
+            ip_number::IPV6_HOP_BY_HOP
+                | ip_number::IPV6_ROUTE
+                | ip_number::IPV6_DEST_OPTIONS
+                | ip_number::MOBILITY
+                | ip_number::HIP
+                | ip_number::SHIM6
+        )
+    }
+
+    /// The header that begins the slice. The error tells that there are fewer than 8 bytes, or fewer than
+    /// the header's own length.
+    ///
+    /// ```
+    /// use wolfaren::Ipv6RawExtHeaderSlice;
+    ///
+    /// let header = Ipv6RawExtHeaderSlice::from_slice(&[17, 0, 1, 4, 0, 0, 0, 0, 255])?;
+    /// assert_eq!(header.next_header().0, 17);
+    /// assert_eq!(header.payload(), [1, 4, 0, 0, 0, 0]);
+    /// # Ok::<(), wolfaren::err::LenError>(())
+    /// ```
+    pub fn from_slice(slice: &'a [u8]) -> Result<Ipv6RawExtHeaderSlice<'a>, LenError> {
+        // All headers of the layout are cut as this one is.
+        let mut cursor = Cursor {
+            offset: 0,
+            number: ip_number::IPV6_DEST_OPTIONS.0,
+        };
+        match library::next_header(&mut cursor, slice) {
+            Some(header) => Ok(Self::of_cut(&slice[..header.len])),
+            None => match library::fault_at(&cursor, slice).len_error() {
+                Some(error) => Err(error),
+                None => unreachable!("only a length is wrong with such a header"),
+            },
+        }
+    }
+
+    /// The header of bytes that the library has cut.
+    #[inline]
+    pub(crate) fn of_cut(slice: &'a [u8]) -> Ipv6RawExtHeaderSlice<'a> {
+        Ipv6RawExtHeaderSlice { slice }
+    }
+
+    /// The header's bytes, 8 to 2048.
+    #[inline]
+    pub fn slice(&self) -> &'a [u8] {
+        self.slice
+    }
+
+    /// The number of what follows the header.
+    #[inline]
+    pub fn next_header(&self) -> IpNumber {
+        IpNumber(self.slice[0])
+    }
+
+    /// What follows the number and the length, 6 to 2046 bytes.
+    #[inline]
+    pub fn payload(&self) -> &'a [u8] {
+        &self.slice[2..]
+    }
+}

@@ -1,0 +1,21 @@
+/// What says how many bytes there are.
+#[derive(Clone, Copy, Debug, PartialEq, Eq, Hash)]
+pub enum LenSource {
+    /// The length of the slice that was handed in.
+    Slice,
+    /// The total length field of an IPv4 header.
+    Ipv4HeaderTotalLen,
+    /// The payload length field of an IPv6 header.
+    Ipv6HeaderPayloadLen,
+}
+
+impl LenSource {
+    /// The variant's name.
+    pub const fn name(&self) -> &'static str {
+        match self {
+            LenSource::Slice => "Slice",
+            LenSource::Ipv4HeaderTotalLen => "Ipv4HeaderTotalLen",
+            LenSource::Ipv6HeaderPayloadLen => "Ipv6HeaderPayloadLen",
+        }
+    }
+}

@@ -12,7 +12,7 @@ pub(crate) struct Parts<'a> {
 
 impl Packet {
     /// The parts of the packet, which begins the bytes.
-    #[inline]
+    #[inline(always)]
     pub(crate) fn parts<'a>(&self, bytes: &'a [u8]) -> Parts<'a> {
         let (headers, behind) = bytes.split_at(self.payload_offset);
         let (base, exts) = headers.split_at(self.base_len);

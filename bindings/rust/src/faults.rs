@@ -146,3 +146,106 @@ impl Fault {
         }
     }
 }
+
+#[cfg(test)]
+mod tests {
+    use crate::library::{self, fault_text, Cursor, Fault};
+    use std::string::ToString;
+    use std::vec;
+
+    /// Packets that are refused: each for another reason.
+    fn refused_packets() -> [vec::Vec<u8>; 8] {
+        let packet = |first, next_header, len| {
+            let mut bytes = vec![0; len];
+            (bytes[0], bytes[3], bytes[5]) = (first, len as u8, len as u8 - 40);
+            (bytes[6], bytes[9]) = (next_header, next_header);
+            bytes
+        };
+        [
+            vec![],
+            packet(0x50, 0, 40),
+            packet(0x44, 0, 40),
+            packet(0x4f, 0, 40),
+            packet(0x45, 51, 40),
+            packet(0x60, 44, 45),
+            packet(0x60, 60, 60),
+            packet(0x60, 51, 60),
+        ]
+    }
+
+    #[test]
+    fn errors_say_what_the_library_says() {
+        for bytes in refused_packets() {
+            let fault = library::cut_packet(&bytes).fault;
+            assert!(!fault.is_none(), "{bytes:?}");
+            assert_eq!(fault.of_packet(&bytes).to_string(), fault_text(&fault));
+        }
+    }
+
+    #[test]
+    fn errors_of_chains_say_what_the_library_says() {
+        for number in [0, 43, 44, 51, 60] {
+            for len in [0, 7, 11, 12, 20] {
+                let bytes = vec![1; len];
+                let cursor = Cursor { offset: 0, number };
+                let fault: Fault = library::fault_at(&cursor, &bytes);
+                if !fault.is_none() {
+                    assert_eq!(fault.of_chain().to_string(), fault_text(&fault));
+                }
+            }
+        }
+    }
+
+    /// The code that the library's header gives the name.
+    fn code(name: &str) -> u8 {
+        let page = include_str!("../../../include/wolfaren.h");
+        page.lines()
+            .find_map(|line| line.trim().strip_prefix(name))
+            .and_then(|behind| behind.split([',', '/']).next())
+            .and_then(|code| code.trim().parse().ok())
+            .unwrap_or_else(|| panic!("{name} isn't in the header"))
+    }
+
+    #[test]
+    fn codes_are_those_of_the_header() {
+        for (name, layer) in [
+            ("WOLFAREN_IP_HEADER =", "IpHeader"),
+            ("WOLFAREN_IPV4_HEADER =", "Ipv4Header"),
+            ("WOLFAREN_IPV4_PACKET =", "Ipv4Packet"),
+            ("WOLFAREN_AUTHENTICATION_HEADER =", "IpAuthHeader"),
+            ("WOLFAREN_IPV6_HEADER =", "Ipv6Header"),
+            ("WOLFAREN_IPV6_PACKET =", "Ipv6Packet"),
+            ("WOLFAREN_IPV6_EXTENSION_HEADER =", "Ipv6ExtHeader"),
+            ("WOLFAREN_HOP_BY_HOP_HEADER =", "Ipv6HopByHopHeader"),
+            (
+                "WOLFAREN_DESTINATION_OPTIONS_HEADER =",
+                "Ipv6DestOptionsHeader",
+            ),
+            ("WOLFAREN_ROUTING_HEADER =", "Ipv6RouteHeader"),
+            ("WOLFAREN_FRAGMENT_HEADER =", "Ipv6FragHeader"),
+        ] {
+            assert_eq!(super::layer_of(code(name)).name(), layer);
+        }
+        for (name, source) in [
+            ("WOLFAREN_SLICE =", "Slice"),
+            ("WOLFAREN_IPV4_TOTAL_LENGTH =", "Ipv4HeaderTotalLen"),
+            ("WOLFAREN_IPV6_PAYLOAD_LENGTH =", "Ipv6HeaderPayloadLen"),
+        ] {
+            assert_eq!(super::len_source_of(code(name)).name(), source);
+        }
+        use super::kind::*;
+        for (name, kind) in [
+            ("WOLFAREN_NO_FAULT =", NONE),
+            ("WOLFAREN_TOO_SHORT =", TOO_SHORT),
+            (
+                "WOLFAREN_HOP_BY_HOP_NOT_AT_START =",
+                HOP_BY_HOP_NOT_AT_START,
+            ),
+            ("WOLFAREN_ZERO_PAYLOAD_LEN =", ZERO_PAYLOAD_LEN),
+            ("WOLFAREN_UNSUPPORTED_IP_VERSION =", UNSUPPORTED_IP_VERSION),
+            ("WOLFAREN_IPV4_HEADER_LENGTH =", IPV4_HEADER_LENGTH),
+        ] {
+            assert_eq!(code(name), kind);
+        }
+    }
+}

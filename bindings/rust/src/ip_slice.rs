@@ -37,7 +37,7 @@ impl<'a> IpSlice<'a> {
     /// The error tells, in this order, that the slice is empty, that the version is neither 4 nor 6, for IPv4 that
     /// the internet header length is below 5 or that there are fewer bytes than it states, and else what the
     /// `from_slice` of the version tells.
-    #[inline]
+    #[inline(always)]
     pub fn from_slice(slice: &'a [u8]) -> Result<IpSlice<'a>, SliceError> {
         let packet = library::cut_packet(slice);
         if !packet.fault.is_none() {

@@ -33,7 +33,7 @@ impl<'a> Ipv4Slice<'a> {
     /// header's length, that there are fewer bytes than total length, or what is wrong with the extension
     /// headers, its offset counted from the start of the slice and its length source
     /// `LenSource::Ipv4HeaderTotalLen`.
-    #[inline]
+    #[inline(always)]
     pub fn from_slice(slice: &'a [u8]) -> Result<Ipv4Slice<'a>, SliceError> {
         match check_version(slice) {
             Ok(()) => {}
@@ -48,7 +48,7 @@ impl<'a> Ipv4Slice<'a> {
     }
 
     /// The packet that the library has cut of the bytes.
-    #[inline]
+    #[inline(always)]
     pub(crate) fn of_cut(packet: &Packet, bytes: &'a [u8]) -> Ipv4Slice<'a> {
         let parts = packet.parts(bytes);
         Ipv4Slice {

@@ -36,7 +36,7 @@ impl<'a> Ipv6Slice<'a> {
     /// length states, or what is wrong with the extension headers, its offset counted from the start of the slice
     /// and its length source the one that says the packet's length: `LenSource::Slice` where payload length is 0
     /// and bytes follow the base header, else `LenSource::Ipv6HeaderPayloadLen`.
-    #[inline]
+    #[inline(always)]
     pub fn from_slice(slice: &'a [u8]) -> Result<Ipv6Slice<'a>, SliceError> {
         Self::of_answer(library::cut_packet, slice)
     }
@@ -48,13 +48,13 @@ impl<'a> Ipv6Slice<'a> {
     /// The answer is that of `from_slice` for each slice but one that a good base header begins and that has
     /// fewer bytes than payload length states. The length source of an error in the extension headers is the one
     /// that says the packet's length.
-    #[inline]
+    #[inline(always)]
     pub fn from_slice_lax(slice: &'a [u8]) -> Result<Ipv6Slice<'a>, SliceError> {
         Self::of_answer(library::cut_packet_lax, slice)
     }
 
     /// The packet as a call of the library cuts it.
-    #[inline]
+    #[inline(always)]
     fn of_answer(cut: fn(&[u8]) -> Packet, slice: &'a [u8]) -> Result<Ipv6Slice<'a>, SliceError> {
         match check_version(slice) {
             Ok(()) => {}
@@ -69,7 +69,7 @@ impl<'a> Ipv6Slice<'a> {
     }
 
     /// The packet that the library has cut of the bytes.
-    #[inline]
+    #[inline(always)]
     pub(crate) fn of_cut(packet: &Packet, bytes: &'a [u8]) -> Ipv6Slice<'a> {
         let parts = packet.parts(bytes);
         let header = Ipv6HeaderSlice::of_cut(parts.base);

@@ -122,7 +122,7 @@ unsafe extern "C" {
 }
 
 /// The longest chain of IPv6 extension headers from the number that begins the bytes.
-#[inline]
+#[inline(always)]
 pub(crate) fn cut_chain(first: u8, bytes: &[u8]) -> Chain {
     let mut chain = MaybeUninit::uninit();
     // SAFETY: the bytes are a slice, which the call only reads. The array has no elements and may be null. `chain` has
@@ -141,7 +141,7 @@ pub(crate) fn cut_chain(first: u8, bytes: &[u8]) -> Chain {
 }
 
 /// The same of IPv4: at most one header, of authentication.
-#[inline]
+#[inline(always)]
 pub(crate) fn cut_ipv4_chain(first: u8, bytes: &[u8]) -> Chain {
     let mut chain = MaybeUninit::uninit();
     // SAFETY: as in `cut_chain`.
@@ -159,7 +159,7 @@ pub(crate) fn cut_ipv4_chain(first: u8, bytes: &[u8]) -> Chain {
 }
 
 /// The header that goes on where the cursor stands, which then stands behind it; or none, and it stays.
-#[inline]
+#[inline(always)]
 pub(crate) fn next_header(cursor: &mut Cursor, bytes: &[u8]) -> Option<Header> {
     let mut header = MaybeUninit::uninit();
     // SAFETY: the cursor is borrowed for this call alone. The bytes are a slice, which the call only reads. `header` has
@@ -171,7 +171,7 @@ pub(crate) fn next_header(cursor: &mut Cursor, bytes: &[u8]) -> Option<Header> {
 }
 
 /// What is wrong where the cursor stands.
-#[inline]
+#[inline(always)]
 pub(crate) fn fault_at(cursor: &Cursor, bytes: &[u8]) -> Fault {
     let mut fault = MaybeUninit::uninit();
     // SAFETY: the cursor and the bytes are borrowed, and the call only reads them. `fault` has room for a fault and
@@ -183,7 +183,7 @@ pub(crate) fn fault_at(cursor: &Cursor, bytes: &[u8]) -> Fault {
 }
 
 /// The packet that begins the bytes, of the version that its first byte states.
-#[inline]
+#[inline(always)]
 pub(crate) fn cut_packet(bytes: &[u8]) -> Packet {
     let mut packet = MaybeUninit::uninit();
     // SAFETY: the bytes are a slice, which the call only reads. The array has no elements and may be null. `packet` has
@@ -201,7 +201,7 @@ pub(crate) fn cut_packet(bytes: &[u8]) -> Packet {
 }
 
 /// The same of an IPv6 packet that may be cut short.
-#[inline]
+#[inline(always)]
 pub(crate) fn cut_packet_lax(bytes: &[u8]) -> Packet {
     let mut packet = MaybeUninit::uninit();
     // SAFETY: as in `cut_packet`.

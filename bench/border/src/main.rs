@@ -1,0 +1,67 @@
+//! Measures packets that are cut through C, directly and by the package `wolfaren`, against etherparse 0.19.0.
+//!
+//!     border measure RUNS WORD   times of the rows whose names have the word, a line each
+//!     border report FILE..       the table of such lines; a file for each alignment of the library
+mod c;
+// That of a single header is for diff/.
+#[allow(dead_code)]
+#[path = "../../../diff/src/fragment_bits.rs"]
+mod fragment_bits;
+// Chains and single headers are for bench/.
+#[allow(dead_code)]
+#[path = "../../src/inputs.rs"]
+mod inputs;
+#[path = "../../src/measure.rs"]
+mod measure;
+mod original;
+mod package;
+#[path = "../../src/random.rs"]
+mod random;
+#[path = "../../src/report.rs"]
+mod report;
+mod rows;
+mod sums;
+
+use report::Line;
+use std::process::ExitCode;
+
+/// The seed of the packets.
+const SEED: u64 = 1;
+
+fn main() -> ExitCode {
+    // Refers to the bytes that move the library, so that they are linked.
+    std::hint::black_box(c::wolfaren_shift as unsafe extern "C" fn());
+    let arguments: Vec<String> = std::env::args().skip(1).collect();
+    let words: Vec<&str> = arguments.iter().map(String::as_str).collect();
+    match &words[..] {
+        ["measure", runs, word] => measure(runs.parse().expect("RUNS is a number"), word),
+        ["report", ..] if words.len() > 1 => {
+            if !report::report(&arguments[1..]) {
+                return ExitCode::FAILURE;
+            }
+        }
+        _ => {
+            eprintln!("border: measure RUNS WORD, or report FILE..");
+            return ExitCode::from(2);
+        }
+    }
+    ExitCode::SUCCESS
+}
+
+fn measure(runs: usize, word: &str) {
+    for row in rows::rows(SEED) {
+        if !row.name.contains(word) {
+            continue;
+        }
+        let times = measure::measure(&row, runs);
+        let line = Line {
+            group: row.group.to_owned(),
+            name: row.name,
+            unit: row.unit.to_owned(),
+            ours: times.ours,
+            original: times.original,
+            limit: None,
+        };
+        line.print();
+    }
+}

@@ -1,0 +1,54 @@
+//! Sums of what was read, which are the same on all sides.
+use std::net::{Ipv4Addr, Ipv6Addr};
+
+/// A way to cut a packet and to read it.
+pub trait Digest {
+    fn digest(bytes: &[u8]) -> u64;
+}
+
+/// The sum of bytes that begin no packet.
+pub const NO_PACKET: u64 = 2;
+
+#[inline(always)]
+pub fn with(sum: u64, part: u64) -> u64 {
+    sum.wrapping_mul(9).wrapping_add(part)
+}
+
+#[inline(always)]
+pub fn of_bytes(bytes: &[u8]) -> u64 {
+    with(
+        bytes.len() as u64,
+        bytes.first().map_or(256, |byte| u64::from(*byte)),
+    )
+}
+
+pub fn of_ipv4_addr(address: Ipv4Addr) -> u64 {
+    let [first, _, _, last] = address.octets();
+    with(u64::from(first), u64::from(last))
+}
+
+pub fn of_ipv6_addr(address: Ipv6Addr) -> u64 {
+    let octets = address.octets();
+    with(u64::from(octets[0]), u64::from(octets[15]))
+}
+
+/// Packets one after the other, in one loop.
+#[inline(never)]
+pub fn one_loop<D: Digest>(packets: &[u8], ends: &[usize]) -> u64 {
+    let mut start = 0;
+    let mut sum = 0;
+    for end in ends {
+        let Some(packet) = packets.get(start..*end) else {
+            break;
+        };
+        sum = with(sum, D::digest(packet));
+        start = *end;
+    }
+    sum
+}
+
+/// One packet.
+#[inline(never)]
+pub fn one_call<D: Digest>(packet: &[u8]) -> u64 {
+    D::digest(packet)
+}

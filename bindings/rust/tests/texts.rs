@@ -1,0 +1,245 @@
+//! The texts of errors are those of the table in `docs/errors.md`, which the repository holds against its own code, and
+//! what an error holds is its source.
+use std::collections::BTreeMap;
+use std::error::Error;
+use wolfaren::err::{ip, ip_auth, ipv4, ipv6, ipv6_exts, Layer, LenError, ValueTooBigError};
+use wolfaren::{IpFragOffset, IpNumber, LenSource};
+
+/// What stands in a text in braces, and what is put there.
+type Values<'a> = &'a [(&'a str, &'a str)];
+
+/// The texts by error and variant.
+fn table() -> BTreeMap<(String, String), String> {
+    let page = include_str!("../../../docs/errors.md");
+    let rows = page
+        .lines()
+        .skip_while(|line| *line != "## Texts and sources")
+        .skip(4);
+    rows.take_while(|line| line.starts_with('|'))
+        .map(|line| {
+            let cells: Vec<&str> = line
+                .split('|')
+                .map(|cell| cell.trim().trim_matches('`'))
+                .collect();
+            (
+                (cells[1].to_owned(), cells[2].to_owned()),
+                cells[3].to_owned(),
+            )
+        })
+        .collect()
+}
+
+/// Holds an error's text against the table, where the error holds no other.
+fn check(error: &dyn Error, name: &str, variant: &str, values: Values<'_>) {
+    let key = (name.to_owned(), variant.to_owned());
+    let text = table()
+        .get(&key)
+        .unwrap_or_else(|| panic!("no text of {name}, {variant}"))
+        .clone();
+    let text = values.iter().fold(text, |text, (place, value)| {
+        text.replace(&format!("{{{place}}}"), value)
+    });
+    assert_eq!(error.to_string(), text);
+    assert!(error.source().is_none());
+}
+
+/// Holds an error that holds another against the table: it says what that says, and has it as its source.
+fn check_held(error: &dyn Error, inner: &dyn Error, name: &str, variant: &str) {
+    let key = (name.to_owned(), variant.to_owned());
+    assert_eq!(
+        table().get(&key).map(String::as_str),
+        Some("inner"),
+        "{name}, {variant}"
+    );
+    assert_eq!(error.to_string(), inner.to_string());
+    let source = error.source().expect("it holds an error");
+    assert_eq!(format!("{source:?}"), format!("{inner:?}"));
+}
+
+fn len_error() -> LenError {
+    LenError {
+        required_len: 8,
+        layer_start_offset: usize::MAX,
+        len_source: LenSource::Ipv6HeaderPayloadLen,
+        layer: Layer::Ipv6FragHeader,
+        len: 0,
+    }
+}
+
+#[test]
+fn errors_that_hold_no_other() {
+    let max = usize::MAX.to_string();
+    let values: Values<'_> = &[
+        ("name", "Ipv6FragHeader"),
+        ("layer_start_offset", &max),
+        ("required_len", "8"),
+        ("len", "0"),
+        ("source", "Ipv6HeaderPayloadLen"),
+    ];
+    check(&len_error(), "err::LenError", "struct", values);
+    let error = ValueTooBigError {
+        actual: 0xffff,
+        max_allowed: 0x1fff,
+    };
+    check(
+        &error,
+        "err::ValueTooBigError",
+        "struct",
+        &[("actual", "65535"), ("max_allowed", "8191")],
+    );
+    let version: Values<'_> = &[("version_number", "15")];
+    let ihl: Values<'_> = &[("ihl", "4")];
+    let error = ipv4::HeaderError::UnexpectedVersion { version_number: 15 };
+    check(
+        &error,
+        "err::ipv4::HeaderError",
+        "UnexpectedVersion",
+        version,
+    );
+    let error = ipv4::HeaderError::HeaderLengthSmallerThanHeader { ihl: 4 };
+    check(
+        &error,
+        "err::ipv4::HeaderError",
+        "HeaderLengthSmallerThanHeader",
+        ihl,
+    );
+    let error = ipv6::HeaderError::UnexpectedVersion { version_number: 15 };
+    check(
+        &error,
+        "err::ipv6::HeaderError",
+        "UnexpectedVersion",
+        version,
+    );
+    let error = ip::HeaderError::UnsupportedIpVersion { version_number: 15 };
+    check(
+        &error,
+        "err::ip::HeaderError",
+        "UnsupportedIpVersion",
+        version,
+    );
+    let error = ip::HeaderError::Ipv4HeaderLengthSmallerThanHeader { ihl: 4 };
+    check(
+        &error,
+        "err::ip::HeaderError",
+        "Ipv4HeaderLengthSmallerThanHeader",
+        ihl,
+    );
+    let error = ip_auth::HeaderError::ZeroPayloadLen;
+    check(&error, "err::ip_auth::HeaderError", "ZeroPayloadLen", &[]);
+    let error = ipv6_exts::HeaderError::HopByHopNotAtStart;
+    check(
+        &error,
+        "err::ipv6_exts::HeaderError",
+        "HopByHopNotAtStart",
+        &[],
+    );
+}
+
+#[test]
+fn errors_of_headers_that_hold_another() {
+    let len = len_error();
+    let auth = ip_auth::HeaderError::ZeroPayloadLen;
+    let exts = ipv6_exts::HeaderError::IpAuth(auth.clone());
+    let ipv4 = ipv4::HeaderError::UnexpectedVersion { version_number: 6 };
+    let ipv6 = ipv6::HeaderError::UnexpectedVersion { version_number: 4 };
+    check_held(&exts, &auth, "err::ipv6_exts::HeaderError", "IpAuth");
+    let error = ip_auth::HeaderSliceError::Len(len.clone());
+    check_held(&error, &len, "err::ip_auth::HeaderSliceError", "Len");
+    let error = ip_auth::HeaderSliceError::Content(auth.clone());
+    check_held(&error, &auth, "err::ip_auth::HeaderSliceError", "Content");
+    let error = ipv6_exts::HeaderSliceError::Len(len.clone());
+    check_held(&error, &len, "err::ipv6_exts::HeaderSliceError", "Len");
+    let error = ipv6_exts::HeaderSliceError::Content(exts.clone());
+    check_held(&error, &exts, "err::ipv6_exts::HeaderSliceError", "Content");
+    let error = ipv4::HeaderSliceError::Len(len.clone());
+    check_held(&error, &len, "err::ipv4::HeaderSliceError", "Len");
+    let error = ipv4::HeaderSliceError::Content(ipv4.clone());
+    check_held(&error, &ipv4, "err::ipv4::HeaderSliceError", "Content");
+    let error = ipv6::HeaderSliceError::Len(len.clone());
+    check_held(&error, &len, "err::ipv6::HeaderSliceError", "Len");
+    let error = ipv6::HeaderSliceError::Content(ipv6.clone());
+    check_held(&error, &ipv6, "err::ipv6::HeaderSliceError", "Content");
+}
+
+#[test]
+fn errors_of_packets_that_hold_another() {
+    let len = len_error();
+    let auth = ip_auth::HeaderError::ZeroPayloadLen;
+    let exts = ipv6_exts::HeaderError::HopByHopNotAtStart;
+    let ipv4 = ipv4::HeaderError::UnexpectedVersion { version_number: 6 };
+    let ipv6 = ipv6::HeaderError::UnexpectedVersion { version_number: 4 };
+    let base = ip::HeaderError::UnsupportedIpVersion { version_number: 5 };
+    let error = ip::HeadersError::Ip(base.clone());
+    check_held(&error, &base, "err::ip::HeadersError", "Ip");
+    let error = ip::HeadersError::Ipv4Ext(auth.clone());
+    check_held(&error, &auth, "err::ip::HeadersError", "Ipv4Ext");
+    let headers = ip::HeadersError::Ipv6Ext(exts.clone());
+    check_held(&headers, &exts, "err::ip::HeadersError", "Ipv6Ext");
+    let error = ip::SliceError::Len(len.clone());
+    check_held(&error, &len, "err::ip::SliceError", "Len");
+    let error = ip::SliceError::IpHeaders(headers.clone());
+    check_held(&error, &headers, "err::ip::SliceError", "IpHeaders");
+    let error = ipv4::SliceError::Len(len.clone());
+    check_held(&error, &len, "err::ipv4::SliceError", "Len");
+    let error = ipv4::SliceError::Header(ipv4.clone());
+    check_held(&error, &ipv4, "err::ipv4::SliceError", "Header");
+    let error = ipv4::SliceError::Exts(auth.clone());
+    check_held(&error, &auth, "err::ipv4::SliceError", "Exts");
+    let error = ipv6::SliceError::Len(len.clone());
+    check_held(&error, &len, "err::ipv6::SliceError", "Len");
+    let error = ipv6::SliceError::Header(ipv6.clone());
+    check_held(&error, &ipv6, "err::ipv6::SliceError", "Header");
+    let error = ipv6::SliceError::Exts(exts.clone());
+    check_held(&error, &exts, "err::ipv6::SliceError", "Exts");
+}
+
+#[test]
+fn offsets_are_moved() {
+    let at = |offset| LenError {
+        layer_start_offset: offset,
+        ..len_error()
+    };
+    assert_eq!(at(8).add_offset(40), at(48));
+    assert_eq!(at(8).add_offset(usize::MAX), at(usize::MAX));
+    let moved = ipv6_exts::HeaderSliceError::Len(at(8)).add_slice_offset(40);
+    assert_eq!(moved.len_error(), Some(&at(48)));
+    assert_eq!(moved.content(), None);
+    let content = ip_auth::HeaderSliceError::Content(ip_auth::HeaderError::ZeroPayloadLen);
+    assert_eq!(content.clone().add_slice_offset(40), content);
+    let moved = ip_auth::HeaderSliceError::Len(at(0)).add_slice_offset(20);
+    assert_eq!(moved, ip_auth::HeaderSliceError::Len(at(20)));
+}
+
+#[test]
+fn numbers_in_words() {
+    let page = include_str!("../../../docs/errors.md");
+    let rows = page
+        .lines()
+        .skip_while(|line| !line.starts_with("| Number | Name |"))
+        .skip(2);
+    let mut count = 0;
+    for line in rows.take_while(|line| line.starts_with('|')) {
+        let cells: Vec<&str> = line.split('|').map(str::trim).collect();
+        let number = IpNumber(cells[1].parse().unwrap());
+        assert_eq!(
+            format!("{number:?}"),
+            format!("{} ({})", cells[1], cells[2].trim_matches('`'))
+        );
+        count += 1;
+    }
+    assert_eq!(count, 5);
+    assert_eq!(format!("{:?}", IpNumber(17)), "17");
+}
+
+#[test]
+fn offsets_of_fragments_fit_13_bits() {
+    assert_eq!(
+        IpFragOffset::try_new(0x1fff).map(IpFragOffset::value),
+        Ok(0x1fff)
+    );
+    let error = ValueTooBigError {
+        actual: 0x2000,
+        max_allowed: 8191,
+    };
+    assert_eq!(IpFragOffset::try_from(0x2000), Err(error));
+}

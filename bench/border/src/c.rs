@@ -83,7 +83,10 @@ impl Cut {
             );
             let packet = self.packet.assume_init_ref();
             let written = packet.headers.min(ROOM);
-            (packet, slice::from_raw_parts(self.headers.as_ptr().cast(), written))
+            (
+                packet,
+                slice::from_raw_parts(self.headers.as_ptr().cast(), written),
+            )
         }
     }
 }
@@ -140,10 +143,7 @@ fn of_packet(packet: &Packet, headers: &[Header], bytes: &[u8]) -> u64 {
     let payload = &bytes[packet.payload_offset..][..packet.payload_len];
     with(
         sum,
-        with(
-            with(kind, u64::from(packet.len_source)),
-            of_bytes(payload),
-        ),
+        with(with(kind, u64::from(packet.len_source)), of_bytes(payload)),
     )
 }
 

@@ -3,7 +3,7 @@ use super::parser::{
     IpAuthHeaderSlice, IpPayloadSlice, IpSlice, Ipv4Slice, Ipv6ExtensionSlice,
     Ipv6FragmentHeaderSlice, Ipv6RawExtHeaderSlice, Ipv6Slice, LenSource,
 };
-use crate::sums::{of_ipv4_addr, of_ipv6_addr, of_bytes, with, Digest, NO_PACKET};
+use crate::sums::{of_bytes, of_ipv4_addr, of_ipv6_addr, with, Digest, NO_PACKET};
 
 /// What a filter reads: the payload's number, whether it is a fragment, and its length.
 pub struct Filter;

@@ -176,8 +176,7 @@ mod tests {
     #[test]
     fn errors_say_what_the_library_says() {
         for bytes in refused_packets() {
-            let fault = library::cut_packet(&bytes).fault;
-            assert!(!fault.is_none(), "{bytes:?}");
+            let fault = library::cut_packet(&bytes).err().expect("it is refused");
             assert_eq!(fault.of_packet(&bytes).to_string(), fault_text(&fault));
         }
     }

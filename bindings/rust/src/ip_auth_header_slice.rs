@@ -31,7 +31,7 @@ impl<'a> IpAuthHeaderSlice<'a> {
             number: ip_number::AUTH.0,
         };
         match library::next_header(&mut cursor, slice) {
-            Some(header) => Ok(Self::of_cut(&slice[..header.len])),
+            Some((_, header)) => Ok(Self::of_cut(header)),
             None => Err(library::fault_at(&cursor, slice).of_auth()),
         }
     }
@@ -48,22 +48,33 @@ impl<'a> IpAuthHeaderSlice<'a> {
         self.slice
     }
 
+    /// The bytes in front of the integrity check value.
+    #[inline]
+    fn front(&self) -> &'a [u8; 12] {
+        match self.slice.first_chunk() {
+            Some(front) => front,
+            None => unreachable!("an authentication header has 12 bytes at least"),
+        }
+    }
+
     /// The number of what follows the header.
     #[inline]
     pub fn next_header(&self) -> IpNumber {
-        IpNumber(self.slice[0])
+        IpNumber(self.front()[0])
     }
 
     /// The security parameters index, which tells the receiver its association with the sender.
     #[inline]
     pub fn spi(&self) -> u32 {
-        u32::from_be_bytes([self.slice[4], self.slice[5], self.slice[6], self.slice[7]])
+        let front = self.front();
+        u32::from_be_bytes([front[4], front[5], front[6], front[7]])
     }
 
     /// The sender's count of packets.
     #[inline]
     pub fn sequence_number(&self) -> u32 {
-        u32::from_be_bytes([self.slice[8], self.slice[9], self.slice[10], self.slice[11]])
+        let front = self.front();
+        u32::from_be_bytes([front[8], front[9], front[10], front[11]])
     }
 
     /// The integrity check value with its padding, 0 to 1016 bytes.

@@ -39,14 +39,11 @@ impl<'a> IpSlice<'a> {
     /// `from_slice` of the version tells.
     #[inline(always)]
     pub fn from_slice(slice: &'a [u8]) -> Result<IpSlice<'a>, SliceError> {
-        let packet = library::cut_packet(slice);
-        if !packet.fault.is_none() {
-            return Err(packet.fault.of_packet(slice));
+        match library::cut_packet(slice) {
+            Ok(parts) if parts.version == 4 => Ok(IpSlice::Ipv4(Ipv4Slice::of_cut(&parts))),
+            Ok(parts) => Ok(IpSlice::Ipv6(Ipv6Slice::of_cut(&parts))),
+            Err(fault) => Err(fault.of_packet(slice)),
         }
-        Ok(match packet.version {
-            4 => IpSlice::Ipv4(Ipv4Slice::of_cut(&packet, slice)),
-            _ => IpSlice::Ipv6(Ipv6Slice::of_cut(&packet, slice)),
-        })
     }
 
     /// The packet, if it is one of IPv4.

@@ -21,7 +21,10 @@ impl<'a> Ipv4HeaderSlice<'a> {
         let len = slice.len().min(front.len());
         front[..len].copy_from_slice(&slice[..len]);
         front[2..4].fill(0);
-        match library::cut_packet(&front[..len]).fault.of_ipv4_packet() {
+        let Err(fault) = library::cut_packet(&front[..len]) else {
+            unreachable!("a packet has some bytes");
+        };
+        match fault.of_ipv4_packet() {
             SliceError::Len(e) if e.layer == Layer::Ipv4Packet => {
                 Ok(Self::of_cut(&slice[..e.required_len]))
             }
@@ -43,43 +46,49 @@ impl<'a> Ipv4HeaderSlice<'a> {
         self.slice
     }
 
+    /// The bytes in front of the options.
+    #[inline]
+    fn front(&self) -> &'a [u8; 20] {
+        match self.slice.first_chunk() {
+            Some(front) => front,
+            None => unreachable!("an IPv4 header has 20 bytes at least"),
+        }
+    }
+
     /// How many bytes the packet has, its header included.
     #[inline]
     pub fn total_len(&self) -> u16 {
-        u16::from_be_bytes([self.slice[2], self.slice[3]])
+        let front = self.front();
+        u16::from_be_bytes([front[2], front[3]])
     }
 
     /// The number of what follows the header.
     #[inline]
     pub fn protocol(&self) -> IpNumber {
-        IpNumber(self.slice[9])
+        IpNumber(self.front()[9])
     }
 
     /// Whether the packet has a fragment of the payload and not the whole: more fragments follow, or the offset
     /// isn't 0.
     #[inline]
     pub fn is_fragmenting_payload(&self) -> bool {
+        let front = self.front();
         // The more flag and the 13 bits of the offset.
-        u16::from_be_bytes([self.slice[6], self.slice[7]]) & 0x3fff != 0
+        u16::from_be_bytes([front[6], front[7]]) & 0x3fff != 0
     }
 
     /// The address of the packet's sender.
     #[inline]
     pub fn source_addr(&self) -> Ipv4Addr {
-        self.addr(12)
+        let front = self.front();
+        Ipv4Addr::new(front[12], front[13], front[14], front[15])
     }
 
     /// The address of the packet's receiver.
     #[inline]
     pub fn destination_addr(&self) -> Ipv4Addr {
-        self.addr(16)
-    }
-
-    /// The address at these bytes.
-    #[inline]
-    fn addr(&self, at: usize) -> Ipv4Addr {
-        let bytes = &self.slice[at..at + 4];
-        Ipv4Addr::new(bytes[0], bytes[1], bytes[2], bytes[3])
+        let front = self.front();
+        Ipv4Addr::new(front[16], front[17], front[18], front[19])
     }
 }
 

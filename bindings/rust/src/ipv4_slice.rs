@@ -1,6 +1,6 @@
 use crate::err::ipv4::{HeaderSliceError, SliceError};
 use crate::ipv4_header_slice::check_version;
-use crate::library::{self, Packet};
+use crate::library::{self, Parts};
 use crate::{IpNumber, IpPayloadSlice, Ipv4ExtensionsSlice, Ipv4HeaderSlice};
 
 /// An IPv4 packet (RFC 791): its base header, its extension headers and its payload, as parts of the caller's
@@ -40,21 +40,19 @@ impl<'a> Ipv4Slice<'a> {
             Err(HeaderSliceError::Len(e)) => return Err(SliceError::Len(e)),
             Err(HeaderSliceError::Content(e)) => return Err(SliceError::Header(e)),
         }
-        let packet = library::cut_packet(slice);
-        if !packet.fault.is_none() {
-            return Err(packet.fault.of_ipv4_packet());
+        match library::cut_packet(slice) {
+            Ok(parts) => Ok(Self::of_cut(&parts)),
+            Err(fault) => Err(fault.of_ipv4_packet()),
         }
-        Ok(Self::of_cut(&packet, slice))
     }
 
-    /// The packet that the library has cut of the bytes.
+    /// The packet of the parts that the library has cut.
     #[inline(always)]
-    pub(crate) fn of_cut(packet: &Packet, bytes: &'a [u8]) -> Ipv4Slice<'a> {
-        let parts = packet.parts(bytes);
+    pub(crate) fn of_cut(parts: &Parts<'a>) -> Ipv4Slice<'a> {
         Ipv4Slice {
             header: Ipv4HeaderSlice::of_cut(parts.base),
             exts: Ipv4ExtensionsSlice::of_cut(parts.exts),
-            payload: parts.payload,
+            payload: parts.payload_slice(),
         }
     }
 

@@ -1,4 +1,3 @@
-use crate::library::Header;
 use crate::{
     ip_number, IpAuthHeaderSlice, IpNumber, Ipv6FragmentHeaderSlice, Ipv6RawExtHeaderSlice,
 };
@@ -20,11 +19,10 @@ pub enum Ipv6ExtensionSlice<'a> {
 }
 
 impl<'a> Ipv6ExtensionSlice<'a> {
-    /// The header that the library has cut of the bytes.
+    /// The header of this number, of bytes that the library has cut.
     #[inline]
-    pub(crate) fn of_cut(header: &Header, bytes: &'a [u8]) -> Ipv6ExtensionSlice<'a> {
-        let slice = &bytes[header.offset..][..header.len];
-        match IpNumber(header.number) {
+    pub(crate) fn of_cut(number: IpNumber, slice: &'a [u8]) -> Ipv6ExtensionSlice<'a> {
+        match number {
             ip_number::IPV6_HOP_BY_HOP => {
                 Ipv6ExtensionSlice::HopByHop(Ipv6RawExtHeaderSlice::of_cut(slice))
             }

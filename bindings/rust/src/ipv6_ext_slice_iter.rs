@@ -44,8 +44,8 @@ impl<'a> Iterator for Ipv6ExtensionSliceIter<'a> {
         if self.cursor.offset == self.slice.len() {
             return None;
         }
-        let header = library::next_header(&mut self.cursor, self.slice)?;
-        Some(Ipv6ExtensionSlice::of_cut(&header, self.slice))
+        let (number, header) = library::next_header(&mut self.cursor, self.slice)?;
+        Some(Ipv6ExtensionSlice::of_cut(IpNumber(number), header))
     }
 }
 

@@ -18,11 +18,11 @@ impl<'a> Ipv6HeaderSlice<'a> {
         // The library cuts whole packets. One that is cut short behind its base header is the header, or has the fault
         // there that its extension headers are missing.
         let front = &slice[..slice.len().min(Ipv6Header::LEN)];
-        let packet = library::cut_packet_lax(front);
-        if packet.fault.is_none() {
-            return Ok(Self::of_cut(&front[..packet.base_len]));
-        }
-        match packet.fault.of_ipv6_packet() {
+        let fault = match library::cut_packet_lax(front) {
+            Ok(parts) => return Ok(Self::of_cut(parts.base)),
+            Err(fault) => fault,
+        };
+        match fault.of_ipv6_packet() {
             SliceError::Len(e) if e.layer != Layer::Ipv6Header => {
                 Ok(Self::of_cut(&front[..e.layer_start_offset]))
             }

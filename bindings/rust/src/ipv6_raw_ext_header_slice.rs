@@ -46,7 +46,7 @@ impl<'a> Ipv6RawExtHeaderSlice<'a> {
             number: ip_number::IPV6_DEST_OPTIONS.0,
         };
         match library::next_header(&mut cursor, slice) {
-            Some(header) => Ok(Self::of_cut(&slice[..header.len])),
+            Some((_, header)) => Ok(Self::of_cut(header)),
             None => match library::fault_at(&cursor, slice).len_error() {
                 Some(error) => Err(error),
                 None => unreachable!("only a length is wrong with such a header"),

@@ -1,6 +1,6 @@
 use crate::err::ipv6::{HeaderSliceError, SliceError};
 use crate::ipv6_header_slice::check_version;
-use crate::library::{self, Packet};
+use crate::library::{self, Fault, Parts};
 use crate::{IpNumber, IpPayloadSlice, Ipv6ExtensionsSlice, Ipv6HeaderSlice};
 
 /// An IPv6 packet (RFC 8200): its base header, its extension headers and its payload, as parts of the caller's
@@ -55,29 +55,29 @@ impl<'a> Ipv6Slice<'a> {
 
     /// The packet as a call of the library cuts it.
     #[inline(always)]
-    fn of_answer(cut: fn(&[u8]) -> Packet, slice: &'a [u8]) -> Result<Ipv6Slice<'a>, SliceError> {
+    fn of_answer(
+        cut: fn(&'a [u8]) -> Result<Parts<'a>, Fault>,
+        slice: &'a [u8],
+    ) -> Result<Ipv6Slice<'a>, SliceError> {
         match check_version(slice) {
             Ok(()) => {}
             Err(HeaderSliceError::Len(e)) => return Err(SliceError::Len(e)),
             Err(HeaderSliceError::Content(e)) => return Err(SliceError::Header(e)),
         }
-        let packet = cut(slice);
-        if !packet.fault.is_none() {
-            return Err(packet.fault.of_ipv6_packet());
+        match cut(slice) {
+            Ok(parts) => Ok(Self::of_cut(&parts)),
+            Err(fault) => Err(fault.of_ipv6_packet()),
         }
-        Ok(Self::of_cut(&packet, slice))
     }
 
-    /// The packet that the library has cut of the bytes.
+    /// The packet of the parts that the library has cut.
     #[inline(always)]
-    pub(crate) fn of_cut(packet: &Packet, bytes: &'a [u8]) -> Ipv6Slice<'a> {
-        let parts = packet.parts(bytes);
+    pub(crate) fn of_cut(parts: &Parts<'a>) -> Ipv6Slice<'a> {
         let header = Ipv6HeaderSlice::of_cut(parts.base);
-        let fragmented = parts.payload.fragmented;
         Ipv6Slice {
             header,
-            exts: Ipv6ExtensionsSlice::of_cut(header.next_header(), parts.exts, fragmented),
-            payload: parts.payload,
+            exts: Ipv6ExtensionsSlice::of_cut(header.next_header(), parts.exts, parts.fragmented),
+            payload: parts.payload_slice(),
         }
     }
 

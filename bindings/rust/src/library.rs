@@ -3,7 +3,7 @@
 #![allow(unsafe_code)]
 
 use core::mem::{size_of, MaybeUninit};
-use core::ptr;
+use core::{ptr, slice};
 
 /// `struct wolfaren_fault`: what is wrong. A field of which the kind says nothing is 0.
 #[repr(C)]
@@ -158,16 +158,24 @@ pub(crate) fn cut_ipv4_chain(first: u8, bytes: &[u8]) -> Chain {
     }
 }
 
-/// The header that goes on where the cursor stands, which then stands behind it; or none, and it stays.
+/// The header that goes on where the cursor stands, with its number; the cursor then stands behind it. Or none, and the
+/// cursor stays.
 #[inline(always)]
-pub(crate) fn next_header(cursor: &mut Cursor, bytes: &[u8]) -> Option<Header> {
+pub(crate) fn next_header<'a>(cursor: &mut Cursor, bytes: &'a [u8]) -> Option<(u8, &'a [u8])> {
+    let (start, len) = (bytes.as_ptr(), bytes.len());
     let mut header = MaybeUninit::uninit();
     // SAFETY: the cursor is borrowed for this call alone. The bytes are a slice, which the call only reads. `header` has
-    // room for a header and overlaps nothing that is read, and the call writes all fields of it where it answers true.
-    unsafe {
-        wolfaren_next_header(cursor, bytes.as_ptr(), bytes.len(), header.as_mut_ptr())
-            .then(|| header.assume_init())
+    // room for a header and overlaps nothing that is read.
+    if !unsafe { wolfaren_next_header(cursor, start, len, header.as_mut_ptr()) } {
+        return None;
     }
+    // SAFETY: the call has answered true, and so has written all fields of the header, which lies within the bytes.
+    let (number, slice) = unsafe {
+        let header: &Header = header.assume_init_ref();
+        let slice = slice::from_raw_parts(start.add(header.offset), header.len);
+        (header.number, slice)
+    };
+    Some((number, slice))
 }
 
 /// What is wrong where the cursor stands.
@@ -182,39 +190,66 @@ pub(crate) fn fault_at(cursor: &Cursor, bytes: &[u8]) -> Fault {
     }
 }
 
+/// A call that cuts packets.
+type CutPacket = unsafe extern "C" fn(*const u8, usize, *mut Header, usize, *mut Packet);
+
+/// The parts of a packet, one behind the other, and what the library says of them.
+pub(crate) struct Parts<'a> {
+    pub base: &'a [u8],
+    pub exts: &'a [u8],
+    pub payload: &'a [u8],
+    pub version: u8,
+    pub payload_number: u8,
+    pub fragmented: bool,
+    pub len_source: u8,
+}
+
 /// The packet that begins the bytes, of the version that its first byte states.
 #[inline(always)]
-pub(crate) fn cut_packet(bytes: &[u8]) -> Packet {
-    let mut packet = MaybeUninit::uninit();
-    // SAFETY: the bytes are a slice, which the call only reads. The array has no elements and may be null. `packet` has
-    // room for a packet and overlaps nothing that is read, and the call writes all fields of it.
-    unsafe {
-        wolfaren_cut_packet(
-            bytes.as_ptr(),
-            bytes.len(),
-            ptr::null_mut(),
-            0,
-            packet.as_mut_ptr(),
-        );
-        packet.assume_init()
-    }
+pub(crate) fn cut_packet(bytes: &[u8]) -> Result<Parts<'_>, Fault> {
+    split_packet(wolfaren_cut_packet, bytes)
 }
 
 /// The same of an IPv6 packet that may be cut short.
 #[inline(always)]
-pub(crate) fn cut_packet_lax(bytes: &[u8]) -> Packet {
+pub(crate) fn cut_packet_lax(bytes: &[u8]) -> Result<Parts<'_>, Fault> {
+    split_packet(wolfaren_cut_packet_lax, bytes)
+}
+
+/// The parts of a packet as one of the two calls cuts it.
+#[inline(always)]
+fn split_packet(cut: CutPacket, bytes: &[u8]) -> Result<Parts<'_>, Fault> {
+    let (start, len) = (bytes.as_ptr(), bytes.len());
     let mut packet = MaybeUninit::uninit();
-    // SAFETY: as in `cut_packet`.
-    unsafe {
-        wolfaren_cut_packet_lax(
-            bytes.as_ptr(),
-            bytes.len(),
-            ptr::null_mut(),
-            0,
-            packet.as_mut_ptr(),
-        );
-        packet.assume_init()
+    // SAFETY: `cut` is one of the two calls. The bytes are a slice, which the call only reads. The array has no elements
+    // and may be null. `packet` has room for a packet and overlaps nothing that is read, and the call writes all fields
+    // of it.
+    let packet: &Packet = unsafe {
+        cut(start, len, ptr::null_mut(), 0, packet.as_mut_ptr());
+        packet.assume_init_ref()
+    };
+    if packet.fault.kind != 0 {
+        return Err(packet.fault);
     }
+    let (exts_at, payload_at) = (packet.base_len, packet.payload_offset);
+    // SAFETY: where nothing is wrong, the three parts lie in this order within the bytes, each behind the one before: so
+    // `base_len` is at most `payload_offset`, and that and `payload_len` together are at most the length of the bytes.
+    let (base, exts, payload) = unsafe {
+        (
+            slice::from_raw_parts(start, exts_at),
+            slice::from_raw_parts(start.add(exts_at), payload_at - exts_at),
+            slice::from_raw_parts(start.add(payload_at), packet.payload_len),
+        )
+    };
+    Ok(Parts {
+        base,
+        exts,
+        payload,
+        version: packet.version,
+        payload_number: packet.payload_number,
+        fragmented: packet.fragmented != 0,
+        len_source: packet.len_source,
+    })
 }
 
 /// The library's words for a fault.
@@ -225,4 +260,99 @@ pub(crate) fn fault_text(fault: &Fault) -> std::string::String {
     // nothing that is read.
     let len = unsafe { wolfaren_fault_text(fault, text.as_mut_ptr(), text.len()) };
     std::string::String::from_utf8(text[..len].to_vec()).expect("the words are text")
+}
+
+#[cfg(test)]
+mod tests {
+    use super::{Chain, Cursor, Fault, Header, Packet};
+    use core::mem::{offset_of, size_of};
+    use std::vec::Vec;
+
+    /// The fields of a struct in the library's header: the size of each, and its name.
+    fn fields(name: &str) -> Vec<(usize, &'static str)> {
+        let page = include_str!("../../../include/wolfaren.h");
+        let lines = page.lines().skip_while(|line| *line != name).skip(1);
+        lines
+            .take_while(|line| *line != "};")
+            .map(|line| {
+                let declared = line.split(';').next().expect("a line has a front");
+                let (kind, field) = declared
+                    .trim()
+                    .rsplit_once(' ')
+                    .expect("a field has a type");
+                let size = match kind {
+                    "size_t" => 8,
+                    "uint8_t" => 1,
+                    "struct wolfaren_fault" => size_of::<Fault>(),
+                    _ => panic!("{kind} has no size"),
+                };
+                (size, field)
+            })
+            .collect()
+    }
+
+    /// Where fields of these sizes lie in C, and how many bytes all of them have.
+    fn layout(sizes: impl Iterator<Item = usize>) -> (Vec<usize>, usize) {
+        let mut end = 0usize;
+        let offsets = sizes
+            .map(|size| {
+                let offset = end.next_multiple_of(size.min(8));
+                end = offset + size;
+                offset
+            })
+            .collect();
+        (offsets, end.next_multiple_of(8))
+    }
+
+    /// Holds a struct with all its fields against the library's header.
+    macro_rules! check {
+        ($struct:ident, $name:literal, $($field:ident),+) => {
+            let fields = fields(concat!("struct ", $name, " {"));
+            let names: Vec<&str> = fields.iter().map(|(_, name)| *name).collect();
+            assert_eq!(names, [$(stringify!($field)),+]);
+            let (offsets, len) = layout(fields.iter().map(|(size, _)| *size));
+            assert_eq!(offsets, [$(offset_of!($struct, $field)),+]);
+            assert_eq!(len, size_of::<$struct>());
+        };
+    }
+
+    #[test]
+    fn structs_are_those_of_the_header() {
+        check!(
+            Fault,
+            "wolfaren_fault",
+            required_len,
+            len,
+            offset,
+            kind,
+            header,
+            layer,
+            len_source,
+            value
+        );
+        check!(Header, "wolfaren_header", offset, len, number, next_header);
+        check!(
+            Chain,
+            "wolfaren_chain",
+            headers,
+            len,
+            fault,
+            next_header,
+            fragmented
+        );
+        check!(
+            Packet,
+            "wolfaren_packet",
+            base_len,
+            headers,
+            payload_offset,
+            payload_len,
+            fault,
+            version,
+            payload_number,
+            fragmented,
+            len_source
+        );
+        check!(Cursor, "wolfaren_cursor", offset, number);
+    }
 }

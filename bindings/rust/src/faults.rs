@@ -1,4 +1,5 @@
-//! What the library says is wrong, as the errors of this package.
+//! What the library says is wrong, as the errors of this package. A code that the library doesn't have is taken for the
+//! last one of its kind, so that nothing here can fail.
 use crate::err::{ip, ip_auth, ipv4, ipv6, ipv6_exts, Layer, LenError};
 use crate::library::Fault;
 use crate::LenSource;
@@ -14,6 +15,7 @@ mod kind {
 }
 
 /// The layer of a code.
+#[inline]
 fn layer_of(code: u8) -> Layer {
     match code {
         1 => Layer::IpHeader,
@@ -26,8 +28,7 @@ fn layer_of(code: u8) -> Layer {
         8 => Layer::Ipv6HopByHopHeader,
         9 => Layer::Ipv6DestOptionsHeader,
         10 => Layer::Ipv6RouteHeader,
-        11 => Layer::Ipv6FragHeader,
-        _ => unreachable!("the library has no layer {code}"),
+        _ => Layer::Ipv6FragHeader,
     }
 }
 
@@ -37,8 +38,7 @@ pub(crate) fn len_source_of(code: u8) -> LenSource {
     match code {
         1 => LenSource::Slice,
         2 => LenSource::Ipv4HeaderTotalLen,
-        3 => LenSource::Ipv6HeaderPayloadLen,
-        _ => unreachable!("the library has no source of lengths {code}"),
+        _ => LenSource::Ipv6HeaderPayloadLen,
     }
 }
 
@@ -50,6 +50,7 @@ impl Fault {
     }
 
     /// Too few bytes, if it is that.
+    #[inline]
     pub(crate) fn len_error(&self) -> Option<LenError> {
         (self.kind == kind::TOO_SHORT).then(|| LenError {
             required_len: self.required_len,
@@ -61,21 +62,22 @@ impl Fault {
     }
 
     /// The header of a chain at which it lies.
+    #[inline]
     pub(crate) fn header_layer(&self) -> Layer {
         layer_of(self.header)
     }
 
     /// Why no authentication header begins the bytes.
-    #[cold]
+    #[inline]
     pub(crate) fn of_auth(&self) -> ip_auth::HeaderSliceError {
         match self.len_error() {
             Some(e) => ip_auth::HeaderSliceError::Len(e),
-            None => ip_auth::HeaderSliceError::Content(self.auth_error()),
+            None => ip_auth::HeaderSliceError::Content(ip_auth::HeaderError::ZeroPayloadLen),
         }
     }
 
     /// Why an IPv6 chain doesn't go on.
-    #[cold]
+    #[inline]
     pub(crate) fn of_chain(&self) -> ipv6_exts::HeaderSliceError {
         match self.len_error() {
             Some(e) => ipv6_exts::HeaderSliceError::Len(e),
@@ -83,9 +85,9 @@ impl Fault {
         }
     }
 
-    /// Why no packet begins the bytes.
-    #[cold]
-    pub(crate) fn of_packet(&self, bytes: &[u8]) -> ip::SliceError {
+    /// Why no packet begins the bytes, which state version 4 or not.
+    #[inline]
+    pub(crate) fn of_packet(&self, is_ipv4: bool) -> ip::SliceError {
         if let Some(e) = self.len_error() {
             return ip::SliceError::Len(e);
         }
@@ -100,13 +102,15 @@ impl Fault {
                     ihl: self.value,
                 })
             }
-            _ if bytes[0] >> 4 == 4 => ip::HeadersError::Ipv4Ext(self.auth_error()),
+            kind::ZERO_PAYLOAD_LEN if is_ipv4 => {
+                ip::HeadersError::Ipv4Ext(ip_auth::HeaderError::ZeroPayloadLen)
+            }
             _ => ip::HeadersError::Ipv6Ext(self.exts_error()),
         })
     }
 
     /// Why no IPv4 packet begins bytes that state version 4.
-    #[cold]
+    #[inline]
     pub(crate) fn of_ipv4_packet(&self) -> ipv4::SliceError {
         if let Some(e) = self.len_error() {
             return ipv4::SliceError::Len(e);
@@ -117,12 +121,12 @@ impl Fault {
                     ihl: self.value,
                 })
             }
-            _ => ipv4::SliceError::Exts(self.auth_error()),
+            _ => ipv4::SliceError::Exts(ip_auth::HeaderError::ZeroPayloadLen),
         }
     }
 
     /// Why no IPv6 packet begins bytes that state version 6.
-    #[cold]
+    #[inline]
     pub(crate) fn of_ipv6_packet(&self) -> ipv6::SliceError {
         match self.len_error() {
             Some(e) => ipv6::SliceError::Len(e),
@@ -130,19 +134,12 @@ impl Fault {
         }
     }
 
-    /// What is wrong in an authentication header's bytes.
-    fn auth_error(&self) -> ip_auth::HeaderError {
-        match self.kind {
-            kind::ZERO_PAYLOAD_LEN => ip_auth::HeaderError::ZeroPayloadLen,
-            kind => unreachable!("the library has no fault {kind} of authentication headers"),
-        }
-    }
-
     /// What is wrong in the bytes of an IPv6 chain.
+    #[inline]
     fn exts_error(&self) -> ipv6_exts::HeaderError {
         match self.kind {
             kind::HOP_BY_HOP_NOT_AT_START => ipv6_exts::HeaderError::HopByHopNotAtStart,
-            _ => ipv6_exts::HeaderError::IpAuth(self.auth_error()),
+            _ => ipv6_exts::HeaderError::IpAuth(ip_auth::HeaderError::ZeroPayloadLen),
         }
     }
 }
@@ -177,7 +174,8 @@ mod tests {
     fn errors_say_what_the_library_says() {
         for bytes in refused_packets() {
             let fault = library::cut_packet(&bytes).err().expect("it is refused");
-            assert_eq!(fault.of_packet(&bytes).to_string(), fault_text(&fault));
+            let is_ipv4 = bytes.first().is_some_and(|byte| byte >> 4 == 4);
+            assert_eq!(fault.of_packet(is_ipv4).to_string(), fault_text(&fault));
         }
     }
 

@@ -1,5 +1,6 @@
 use crate::err::ip::SliceError;
-use crate::{library, IpNumber, IpPayloadSlice, Ipv4Slice, Ipv6Slice};
+use crate::library::{self, Base};
+use crate::{IpNumber, IpPayloadSlice, Ipv4Slice, Ipv6Slice};
 use core::net::IpAddr;
 
 /// A packet of either version.
@@ -40,9 +41,11 @@ impl<'a> IpSlice<'a> {
     #[inline(always)]
     pub fn from_slice(slice: &'a [u8]) -> Result<IpSlice<'a>, SliceError> {
         match library::cut_packet(slice) {
-            Ok(parts) if parts.version == 4 => Ok(IpSlice::Ipv4(Ipv4Slice::of_cut(&parts))),
-            Ok(parts) => Ok(IpSlice::Ipv6(Ipv6Slice::of_cut(&parts))),
-            Err(fault) => Err(fault.of_packet(slice)),
+            Ok(parts) => Ok(match parts.base {
+                Base::Ipv4(base) => IpSlice::Ipv4(Ipv4Slice::of_cut(base, &parts)),
+                Base::Ipv6(base) => IpSlice::Ipv6(Ipv6Slice::of_cut(base, &parts)),
+            }),
+            Err(fault) => Err(fault.of_packet(states_version_4(slice))),
         }
     }
 
@@ -102,6 +105,12 @@ impl<'a> IpSlice<'a> {
     pub fn payload_ip_number(&self) -> IpNumber {
         self.payload().ip_number
     }
+}
+
+/// Whether the first byte states version 4.
+#[inline]
+fn states_version_4(slice: &[u8]) -> bool {
+    slice.first().is_some_and(|byte| byte >> 4 == 4)
 }
 
 impl<'a> From<Ipv4Slice<'a>> for IpSlice<'a> {

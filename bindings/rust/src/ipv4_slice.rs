@@ -1,6 +1,6 @@
 use crate::err::ipv4::{HeaderSliceError, SliceError};
 use crate::ipv4_header_slice::check_version;
-use crate::library::{self, Parts};
+use crate::library::{self, Base, Parts};
 use crate::{IpNumber, IpPayloadSlice, Ipv4ExtensionsSlice, Ipv4HeaderSlice};
 
 /// An IPv4 packet (RFC 791): its base header, its extension headers and its payload, as parts of the caller's
@@ -41,16 +41,19 @@ impl<'a> Ipv4Slice<'a> {
             Err(HeaderSliceError::Content(e)) => return Err(SliceError::Header(e)),
         }
         match library::cut_packet(slice) {
-            Ok(parts) => Ok(Self::of_cut(&parts)),
+            Ok(parts) => match parts.base {
+                Base::Ipv4(base) => Ok(Self::of_cut(base, &parts)),
+                Base::Ipv6(_) => unreachable!("the bytes state version 4"),
+            },
             Err(fault) => Err(fault.of_ipv4_packet()),
         }
     }
 
-    /// The packet of the parts that the library has cut.
+    /// The packet of the base header and the parts behind it that the library has cut.
     #[inline(always)]
-    pub(crate) fn of_cut(parts: &Parts<'a>) -> Ipv4Slice<'a> {
+    pub(crate) fn of_cut(base: &'a [u8], parts: &Parts<'a>) -> Ipv4Slice<'a> {
         Ipv4Slice {
-            header: Ipv4HeaderSlice::of_cut(parts.base),
+            header: Ipv4HeaderSlice::of_cut(base),
             exts: Ipv4ExtensionsSlice::of_cut(parts.exts),
             payload: parts.payload_slice(),
         }

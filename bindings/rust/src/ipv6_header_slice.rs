@@ -18,27 +18,23 @@ impl<'a> Ipv6HeaderSlice<'a> {
         // The library cuts whole packets. One that is cut short behind its base header is the header, or has the fault
         // there that its extension headers are missing.
         let front = &slice[..slice.len().min(Ipv6Header::LEN)];
-        let fault = match library::cut_packet_lax(front) {
-            Ok(parts) => return Ok(Self::of_cut(parts.base)),
-            Err(fault) => fault,
-        };
-        match fault.of_ipv6_packet() {
-            SliceError::Len(e) if e.layer != Layer::Ipv6Header => {
-                Ok(Self::of_cut(&front[..e.layer_start_offset]))
+        let error = library::cut_packet_lax(front)
+            .err()
+            .map(|fault| fault.of_ipv6_packet());
+        match (error, front.first_chunk()) {
+            (Some(SliceError::Len(e)), _) if e.layer == Layer::Ipv6Header => {
+                Err(HeaderSliceError::Len(e))
             }
-            SliceError::Len(e) => Err(HeaderSliceError::Len(e)),
-            SliceError::Header(e) => Err(HeaderSliceError::Content(e)),
-            SliceError::Exts(_) => unreachable!("the packet has no extension headers"),
+            (Some(SliceError::Header(e)), _) => Err(HeaderSliceError::Content(e)),
+            (_, Some(base)) => Ok(Self::of_cut(base)),
+            (_, None) => unreachable!("where 40 bytes aren't there, that is told"),
         }
     }
 
     /// The header of bytes that the library has cut.
     #[inline]
-    pub(crate) fn of_cut(slice: &'a [u8]) -> Ipv6HeaderSlice<'a> {
-        match slice.try_into() {
-            Ok(slice) => Ipv6HeaderSlice { slice },
-            Err(_) => unreachable!("an IPv6 header has 40 bytes"),
-        }
+    pub(crate) fn of_cut(slice: &'a [u8; 40]) -> Ipv6HeaderSlice<'a> {
+        Ipv6HeaderSlice { slice }
     }
 
     /// The header's 40 bytes.

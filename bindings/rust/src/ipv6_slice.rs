@@ -1,6 +1,6 @@
 use crate::err::ipv6::{HeaderSliceError, SliceError};
 use crate::ipv6_header_slice::check_version;
-use crate::library::{self, Fault, Parts};
+use crate::library::{self, Base, Fault, Parts};
 use crate::{IpNumber, IpPayloadSlice, Ipv6ExtensionsSlice, Ipv6HeaderSlice};
 
 /// An IPv6 packet (RFC 8200): its base header, its extension headers and its payload, as parts of the caller's
@@ -65,15 +65,18 @@ impl<'a> Ipv6Slice<'a> {
             Err(HeaderSliceError::Content(e)) => return Err(SliceError::Header(e)),
         }
         match cut(slice) {
-            Ok(parts) => Ok(Self::of_cut(&parts)),
+            Ok(parts) => match parts.base {
+                Base::Ipv6(base) => Ok(Self::of_cut(base, &parts)),
+                Base::Ipv4(_) => unreachable!("the bytes state version 6"),
+            },
             Err(fault) => Err(fault.of_ipv6_packet()),
         }
     }
 
-    /// The packet of the parts that the library has cut.
+    /// The packet of the base header and the parts behind it that the library has cut.
     #[inline(always)]
-    pub(crate) fn of_cut(parts: &Parts<'a>) -> Ipv6Slice<'a> {
-        let header = Ipv6HeaderSlice::of_cut(parts.base);
+    pub(crate) fn of_cut(base: &'a [u8; 40], parts: &Parts<'a>) -> Ipv6Slice<'a> {
+        let header = Ipv6HeaderSlice::of_cut(base);
         Ipv6Slice {
             header,
             exts: Ipv6ExtensionsSlice::of_cut(header.next_header(), parts.exts, parts.fragmented),

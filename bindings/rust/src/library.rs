@@ -193,12 +193,17 @@ pub(crate) fn fault_at(cursor: &Cursor, bytes: &[u8]) -> Fault {
 /// A call that cuts packets.
 type CutPacket = unsafe extern "C" fn(*const u8, usize, *mut Header, usize, *mut Packet);
 
+/// A base header with its options, of the version that it states.
+pub(crate) enum Base<'a> {
+    Ipv4(&'a [u8]),
+    Ipv6(&'a [u8; 40]),
+}
+
 /// The parts of a packet, one behind the other, and what the library says of them.
 pub(crate) struct Parts<'a> {
-    pub base: &'a [u8],
+    pub base: Base<'a>,
     pub exts: &'a [u8],
     pub payload: &'a [u8],
-    pub version: u8,
     pub payload_number: u8,
     pub fragmented: bool,
     pub len_source: u8,
@@ -234,9 +239,13 @@ fn split_packet(cut: CutPacket, bytes: &[u8]) -> Result<Parts<'_>, Fault> {
     let (exts_at, payload_at) = (packet.base_len, packet.payload_offset);
     // SAFETY: where nothing is wrong, the three parts lie in this order within the bytes, each behind the one before: so
     // `base_len` is at most `payload_offset`, and that and `payload_len` together are at most the length of the bytes.
+    // The base header of IPv6 has 40 bytes.
     let (base, exts, payload) = unsafe {
         (
-            slice::from_raw_parts(start, exts_at),
+            match packet.version {
+                4 => Base::Ipv4(slice::from_raw_parts(start, exts_at)),
+                _ => Base::Ipv6(&*start.cast()),
+            },
             slice::from_raw_parts(start.add(exts_at), payload_at - exts_at),
             slice::from_raw_parts(start.add(payload_at), packet.payload_len),
         )
@@ -245,7 +254,6 @@ fn split_packet(cut: CutPacket, bytes: &[u8]) -> Result<Parts<'_>, Fault> {
         base,
         exts,
         payload,
-        version: packet.version,
         payload_number: packet.payload_number,
         fragmented: packet.fragmented != 0,
         len_source: packet.len_source,

@@ -63,8 +63,9 @@ fn has_archive(folder: &Path) -> bool {
 /// Ends the build with what is wrong and what to do.
 fn give_up(what: &str) -> ! {
     eprintln!(
-        "\nThe library wolfaren is missing. {what}\n\nInstall it, and either set WOLFAREN_LIB_DIR to the folder that has \
-         {ARCHIVE}, or have pkg-config find its wolfaren.pc (PKG_CONFIG_PATH names further folders to look in).\n"
+        "\nThe library wolfaren is missing. {what}\n\nIn its repository, `make install PREFIX=..` installs it with a \
+         wolfaren.pc that pkg-config finds (PKG_CONFIG_PATH names further folders to look in), and `make lib` leaves it in \
+         build/. WOLFAREN_LIB_DIR names a folder that has {ARCHIVE}.\n"
     );
     exit(1)
 }

@@ -45,7 +45,9 @@ fn known_folder() -> PathBuf {
         });
     let folder = PathBuf::from(String::from_utf8_lossy(&output.stdout).trim());
     if !output.status.success() || folder.as_os_str().is_empty() {
-        give_up("WOLFAREN_LIB_DIR isn't set, and pkg-config knows of no wolfaren.pc that names a folder.");
+        give_up(
+            "WOLFAREN_LIB_DIR isn't set, and pkg-config knows of no wolfaren.pc with a folder.",
+        );
     }
     if !has_archive(&folder) {
         give_up(&format!(
@@ -64,8 +66,8 @@ fn has_archive(folder: &Path) -> bool {
 fn give_up(what: &str) -> ! {
     eprintln!(
         "\nThe library wolfaren is missing. {what}\n\nIn its repository, `make install PREFIX=..` installs it with a \
-         wolfaren.pc that pkg-config finds (PKG_CONFIG_PATH names further folders to look in), and `make lib` leaves it in \
-         build/. WOLFAREN_LIB_DIR names a folder that has {ARCHIVE}.\n"
+         wolfaren.pc that pkg-config finds (PKG_CONFIG_PATH names further folders to look in), and `make lib` leaves \
+         it in build/. WOLFAREN_LIB_DIR names a folder that has {ARCHIVE}.\n"
     );
     exit(1)
 }

@@ -230,6 +230,10 @@ mod tests {
         ] {
             assert_eq!(super::len_source_of(code(name)).name(), source);
         }
+    }
+
+    #[test]
+    fn kinds_are_those_of_the_header() {
         use super::kind::*;
         for (name, kind) in [
             ("WOLFAREN_NO_FAULT =", NONE),

@@ -1,9 +1,9 @@
 //! Chains of IP extension headers, and packets of IPv4 (RFC 791) and IPv6 (RFC 8200), cut out of untrusted bytes and
 //! borrowed from them.
 //!
-//! Where a header, a chain or a packet's parts lie, the number that follows, the bytes behind and what is wrong are told
-//! by a static library, in which every cut is proved. This package gives its answers the types and names of etherparse
-//! 0.19, takes no memory and needs no `std`. Of bytes that were cut it reads single fields itself.
+//! Where a header, a chain or a packet's parts lie, the number that follows, the bytes behind and what is wrong are
+//! told by a static library, in which every cut is proved. This package gives its answers the types and names of
+//! etherparse 0.19, takes no memory and needs no `std`. Of bytes that were cut it reads single fields itself.
 //!
 //! ```
 //! use wolfaren::{err::ip::SliceError, IpSlice};

@@ -164,8 +164,8 @@ pub(crate) fn cut_ipv4_chain(first: u8, bytes: &[u8]) -> Chain {
 pub(crate) fn next_header<'a>(cursor: &mut Cursor, bytes: &'a [u8]) -> Option<(u8, &'a [u8])> {
     let (start, len) = (bytes.as_ptr(), bytes.len());
     let mut header = MaybeUninit::uninit();
-    // SAFETY: the cursor is borrowed for this call alone. The bytes are a slice, which the call only reads. `header` has
-    // room for a header and overlaps nothing that is read.
+    // SAFETY: the cursor is borrowed for this call alone. The bytes are a slice, which the call only reads. `header`
+    // has room for a header and overlaps nothing that is read.
     if !unsafe { wolfaren_next_header(cursor, start, len, header.as_mut_ptr()) } {
         return None;
     }
@@ -226,9 +226,9 @@ pub(crate) fn cut_packet_lax(bytes: &[u8]) -> Result<Parts<'_>, Fault> {
 fn split_packet(cut: CutPacket, bytes: &[u8]) -> Result<Parts<'_>, Fault> {
     let (start, len) = (bytes.as_ptr(), bytes.len());
     let mut packet = MaybeUninit::uninit();
-    // SAFETY: `cut` is one of the two calls. The bytes are a slice, which the call only reads. The array has no elements
-    // and may be null. `packet` has room for a packet and overlaps nothing that is read, and the call writes all fields
-    // of it.
+    // SAFETY: `cut` is one of the two calls. The bytes are a slice, which the call only reads. The array has no
+    // elements and may be null. `packet` has room for a packet and overlaps nothing that is read, and the call writes
+    // all fields of it.
     let packet: &Packet = unsafe {
         cut(start, len, ptr::null_mut(), 0, packet.as_mut_ptr());
         packet.assume_init_ref()
@@ -237,9 +237,9 @@ fn split_packet(cut: CutPacket, bytes: &[u8]) -> Result<Parts<'_>, Fault> {
         return Err(packet.fault);
     }
     let (exts_at, payload_at) = (packet.base_len, packet.payload_offset);
-    // SAFETY: where nothing is wrong, the three parts lie in this order within the bytes, each behind the one before: so
-    // `base_len` is at most `payload_offset`, and that and `payload_len` together are at most the length of the bytes.
-    // The base header of IPv6 has 40 bytes.
+    // SAFETY: where nothing is wrong, the three parts lie in this order within the bytes, each behind the one before,
+    // as the library's contract says (`IsPacketCut` of the crate ip_cuts): `base_len` is at most `payload_offset`, and
+    // that and `payload_len` together are at most the length of the bytes. The base header of IPv6 has 40 bytes.
     let (base, exts, payload) = unsafe {
         (
             match packet.version {

@@ -207,7 +207,6 @@ fn ipv6_base_headers() {
 
 #[test]
 fn ipv4_packets() {
-    use ipv4::{HeaderError::*, SliceError::*};
     let bytes = ipv4(6, 25, 17, 30);
     let packet = Ipv4Slice::from_slice(&bytes).unwrap();
     assert_eq!(packet.header().slice(), &bytes[..24]);
@@ -215,6 +214,11 @@ fn ipv4_packets() {
     assert_eq!(packet.payload().payload, &bytes[24..25]);
     assert_eq!(packet.payload().len_source, LenSource::Ipv4HeaderTotalLen);
     assert_eq!(IpSlice::from_slice(&bytes), Ok(IpSlice::Ipv4(packet)));
+}
+
+#[test]
+fn refused_ipv4_packets() {
+    use ipv4::{HeaderError::*, SliceError::*};
     let refused = |bytes: &[u8]| Ipv4Slice::from_slice(bytes).unwrap_err();
     assert_eq!(refused(&[0x60; 19]), Len(short(Layer::Ipv4Header, 20, 19)));
     assert_eq!(
@@ -229,6 +233,12 @@ fn ipv4_packets() {
         refused(&ipv4(6, 24, 0, 23)),
         Len(short(Layer::Ipv4Header, 24, 23))
     );
+}
+
+#[test]
+fn ipv4_packets_that_end_too_early() {
+    use ipv4::SliceError::*;
+    let refused = |bytes: &[u8]| Ipv4Slice::from_slice(bytes).unwrap_err();
     let by_total = |layer, offset, required, len| {
         Len(too_short(
             layer,
@@ -327,6 +337,10 @@ fn chains_and_their_iterators() {
     ));
     assert_eq!((headers.next(), headers.next()), (None, None));
     assert_eq!(headers.next_number(), IpNumber(51));
+}
+
+#[test]
+fn empty_chains() {
     let none = Ipv6ExtensionsSlice::default();
     assert!(none.is_empty() && none.first_header().is_none());
     assert_eq!(none.clone().into_iter().next_number(), IpNumber(17));

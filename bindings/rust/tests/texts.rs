@@ -87,6 +87,10 @@ fn errors_that_hold_no_other() {
         "struct",
         &[("actual", "65535"), ("max_allowed", "8191")],
     );
+}
+
+#[test]
+fn errors_of_headers_that_hold_no_other() {
     let version: Values<'_> = &[("version_number", "15")];
     let ihl: Values<'_> = &[("ihl", "4")];
     let error = ipv4::HeaderError::UnexpectedVersion { version_number: 15 };
@@ -110,6 +114,12 @@ fn errors_that_hold_no_other() {
         "UnexpectedVersion",
         version,
     );
+}
+
+#[test]
+fn errors_of_packets_that_hold_no_other() {
+    let version: Values<'_> = &[("version_number", "15")];
+    let ihl: Values<'_> = &[("ihl", "4")];
     let error = ip::HeaderError::UnsupportedIpVersion { version_number: 15 };
     check(
         &error,

@@ -212,23 +212,24 @@ pub(crate) struct Parts<'a> {
 /// The packet that begins the bytes, of the version that its first byte states.
 #[inline(always)]
 pub(crate) fn cut_packet(bytes: &[u8]) -> Result<Parts<'_>, Fault> {
-    split_packet(wolfaren_cut_packet, bytes)
+    // SAFETY: it is one of the two calls.
+    unsafe { split_packet(wolfaren_cut_packet, bytes) }
 }
 
 /// The same of an IPv6 packet that may be cut short.
 #[inline(always)]
 pub(crate) fn cut_packet_lax(bytes: &[u8]) -> Result<Parts<'_>, Fault> {
-    split_packet(wolfaren_cut_packet_lax, bytes)
+    // SAFETY: it is one of the two calls.
+    unsafe { split_packet(wolfaren_cut_packet_lax, bytes) }
 }
 
-/// The parts of a packet as one of the two calls cuts it.
+/// The parts of a packet as a call cuts it, which has to be one of the two that the library has.
 #[inline(always)]
-fn split_packet(cut: CutPacket, bytes: &[u8]) -> Result<Parts<'_>, Fault> {
+unsafe fn split_packet(cut: CutPacket, bytes: &[u8]) -> Result<Parts<'_>, Fault> {
     let (start, len) = (bytes.as_ptr(), bytes.len());
     let mut packet = MaybeUninit::uninit();
-    // SAFETY: `cut` is one of the two calls. The bytes are a slice, which the call only reads. The array has no
-    // elements and may be null. `packet` has room for a packet and overlaps nothing that is read, and the call writes
-    // all fields of it.
+    // SAFETY: the bytes are a slice, which the call only reads. The array has no elements and may be null. `packet` has
+    // room for a packet and overlaps nothing that is read, and the call writes all fields of it.
     let packet: &Packet = unsafe {
         cut(start, len, ptr::null_mut(), 0, packet.as_mut_ptr());
         packet.assume_init_ref()

@@ -30,6 +30,11 @@
 #[cfg(test)]
 extern crate std;
 
+/// The example of the README is a test.
+#[cfg(doctest)]
+#[doc = include_str!("../README.md")]
+struct Readme;
+
 mod cut_packet;
 pub mod err;
 mod faults;

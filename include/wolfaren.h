@@ -93,7 +93,7 @@ struct wolfaren_fault {
     uint8_t header;      /* the header of a chain at which the fault lies; in a packet WOLFAREN_NO_LAYER */
     uint8_t layer;       /* what needs the bytes */
     uint8_t len_source;  /* what says `len` */
-    uint8_t value;       /* the version or the internet header length that is wrong */
+    uint32_t value;      /* the version or the internet header length that is wrong */
 };
 
 /* Where an extension header lies, and the numbers that it names. */
@@ -109,8 +109,8 @@ struct wolfaren_chain {
     size_t headers;              /* how many headers it has */
     size_t len;                  /* how many bytes they have: what follows begins there, and there a fault lies */
     struct wolfaren_fault fault; /* what is wrong there, if anything */
-    uint8_t next_header;         /* the number of what follows */
-    uint8_t fragmented;          /* 1 where some fragment header of the chain fragments the payload, else 0 */
+    uint32_t next_header;        /* the number of what follows */
+    uint32_t fragmented;         /* 1 where some fragment header of the chain fragments the payload, else 0 */
 };
 
 /*
@@ -167,10 +167,10 @@ struct wolfaren_packet {
     size_t payload_offset;       /* where the payload begins, in bytes from the start of the packet */
     size_t payload_len;          /* how many bytes it has: what is behind it doesn't belong to the packet */
     struct wolfaren_fault fault; /* what is wrong, if anything; then all else is 0 */
-    uint8_t version;             /* 4 or 6 */
-    uint8_t payload_number;      /* the number of the payload: 6 for TCP, 17 for UDP, .. */
-    uint8_t fragmented;          /* 1 where the payload is a fragment and not the whole, else 0 */
-    uint8_t len_source;          /* what says where the payload ends */
+    uint16_t version;            /* 4 or 6 */
+    uint16_t payload_number;     /* the number of the payload: 6 for TCP, 17 for UDP, .. */
+    uint16_t fragmented;         /* 1 where the payload is a fragment and not the whole, else 0 */
+    uint16_t len_source;         /* what says where the payload ends */
 };
 
 /*

@@ -28,7 +28,7 @@ static const char *layer_name(uint8_t layer)
     }
 }
 
-static const char *source_name(uint8_t source)
+static const char *source_name(uint32_t source)
 {
     switch (source) {
     case WOLFAREN_SLICE: return "Slice";
@@ -38,7 +38,7 @@ static const char *source_name(uint8_t source)
     }
 }
 
-static const char *header_name(uint8_t number)
+static const char *header_name(uint32_t number)
 {
     switch (number) {
     case WOLFAREN_HOP_BY_HOP: return "hopopt";
@@ -82,7 +82,7 @@ static void print_header(const struct wolfaren_header *header)
     printf("%zu %s %zu\n", header->offset, header_name(header->number), header->len);
 }
 
-static void print_end(uint8_t number, size_t rest, const struct wolfaren_fault *fault, bool has_layer)
+static void print_end(uint32_t number, size_t rest, const struct wolfaren_fault *fault, bool has_layer)
 {
     printf("next %u rest %zu\n", (unsigned)number, rest);
     print_fault(fault);

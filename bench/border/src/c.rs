@@ -16,7 +16,7 @@ struct Fault {
     header: u8,
     layer: u8,
     len_source: u8,
-    value: u8,
+    value: u32,
 }
 
 #[repr(C)]
@@ -34,10 +34,10 @@ struct Packet {
     payload_offset: usize,
     payload_len: usize,
     fault: Fault,
-    version: u8,
-    payload_number: u8,
-    fragmented: u8,
-    len_source: u8,
+    version: u16,
+    payload_number: u16,
+    fragmented: u16,
+    len_source: u16,
 }
 
 unsafe extern "C" {
@@ -147,7 +147,7 @@ fn of_packet(packet: &Packet, headers: &[Header], bytes: &[u8]) -> u64 {
     )
 }
 
-fn of_ends(version: u8, base: &[u8]) -> u64 {
+fn of_ends(version: u16, base: &[u8]) -> u64 {
     let ipv4 = |at: usize| Ipv4Addr::new(base[at], base[at + 1], base[at + 2], base[at + 3]);
     let ipv6 = |at: usize| {
         let octets: [u8; 16] = base[at..at + 16].try_into().expect("so many are taken");

@@ -94,12 +94,12 @@ impl Fault {
         ip::SliceError::IpHeaders(match self.kind {
             kind::UNSUPPORTED_IP_VERSION => {
                 ip::HeadersError::Ip(ip::HeaderError::UnsupportedIpVersion {
-                    version_number: self.value,
+                    version_number: self.value as u8,
                 })
             }
             kind::IPV4_HEADER_LENGTH => {
                 ip::HeadersError::Ip(ip::HeaderError::Ipv4HeaderLengthSmallerThanHeader {
-                    ihl: self.value,
+                    ihl: self.value as u8,
                 })
             }
             kind::ZERO_PAYLOAD_LEN if is_ipv4 => {
@@ -118,7 +118,7 @@ impl Fault {
         match self.kind {
             kind::IPV4_HEADER_LENGTH => {
                 ipv4::SliceError::Header(ipv4::HeaderError::HeaderLengthSmallerThanHeader {
-                    ihl: self.value,
+                    ihl: self.value as u8,
                 })
             }
             _ => ipv4::SliceError::Exts(ip_auth::HeaderError::ZeroPayloadLen),

@@ -67,7 +67,7 @@ impl<'a> Ipv4ExtensionsSlice<'a> {
     #[inline]
     fn split(bytes: &'a [u8], chain: &Chain) -> (Ipv4ExtensionsSlice<'a>, IpNumber, &'a [u8]) {
         let (slice, rest) = bytes.split_at(chain.len);
-        (Self::of_cut(slice), IpNumber(chain.next_header), rest)
+        (Self::of_cut(slice), IpNumber(chain.next_header as u8), rest)
     }
 
     /// Whether there is no header.

@@ -84,7 +84,7 @@ impl<'a> Ipv6ExtensionsSlice<'a> {
     ) -> (Ipv6ExtensionsSlice<'a>, IpNumber, &'a [u8]) {
         let (slice, rest) = bytes.split_at(chain.len);
         let headers = Self::of_cut(first, slice, chain.fragmented != 0);
-        (headers, IpNumber(chain.next_header), rest)
+        (headers, IpNumber(chain.next_header as u8), rest)
     }
 
     /// The number of the first header, where there is one.

@@ -16,7 +16,7 @@ pub(crate) struct Fault {
     pub header: u8,
     pub layer: u8,
     pub len_source: u8,
-    pub value: u8,
+    pub value: u32,
 }
 
 /// `struct wolfaren_header`: where an extension header lies, and the numbers that it names.
@@ -36,8 +36,8 @@ pub(crate) struct Chain {
     pub headers: usize,
     pub len: usize,
     pub fault: Fault,
-    pub next_header: u8,
-    pub fragmented: u8,
+    pub next_header: u32,
+    pub fragmented: u32,
 }
 
 /// `struct wolfaren_packet`: a packet, or what is wrong.
@@ -49,10 +49,10 @@ pub(crate) struct Packet {
     pub payload_offset: usize,
     pub payload_len: usize,
     pub fault: Fault,
-    pub version: u8,
-    pub payload_number: u8,
-    pub fragmented: u8,
-    pub len_source: u8,
+    pub version: u16,
+    pub payload_number: u16,
+    pub fragmented: u16,
+    pub len_source: u16,
 }
 
 /// `struct wolfaren_cursor`: how far a caller has come in a chain. Any two numbers are a cursor.
@@ -255,9 +255,9 @@ unsafe fn split_packet(cut: CutPacket, bytes: &[u8]) -> Result<Parts<'_>, Fault>
         base,
         exts,
         payload,
-        payload_number: packet.payload_number,
+        payload_number: packet.payload_number as u8,
         fragmented: packet.fragmented != 0,
-        len_source: packet.len_source,
+        len_source: packet.len_source as u8,
     })
 }
 
@@ -291,6 +291,8 @@ mod tests {
                     .expect("a field has a type");
                 let size = match kind {
                     "size_t" => 8,
+                    "uint32_t" => 4,
+                    "uint16_t" => 2,
                     "uint8_t" => 1,
                     "struct wolfaren_fault" => size_of::<Fault>(),
                     _ => panic!("{kind} has no size"),

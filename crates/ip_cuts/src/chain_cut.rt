@@ -19,9 +19,9 @@ pub struct ChainCut {
     /// What is wrong there, if anything.
     pub fault: FaultFields,
     /// The number of what follows.
-    pub next_header: u8,
+    pub next_header: u32,
     /// 1 where some fragment header of the chain fragments the payload, else 0.
-    pub fragmented: u8,
+    pub fragmented: u32,
 }
 
 /// Cuts the longest chain of IPv6 extension headers from the number that begins the bytes (RFC 8200, section 4). The
@@ -37,14 +37,14 @@ pub fn cut_chain(first: u8, bytes: &[u8], cuts: &mut [HeaderCut]) -> ChainCut
         bytes,
     );
     let len = chain.slice().len();
-    let fragmented = u8::from(chain.is_fragmenting_payload());
+    let fragmented = u32::from(chain.is_fragmenting_payload());
     let fault = FaultFields::of_chain(&fault);
     let headers = put_cuts(&chain, 0, cuts);
     ChainCut {
         headers,
         len,
         fault,
-        next_header: next_header.0,
+        next_header: u32::from(next_header.0),
         fragmented,
     }
 }
@@ -67,7 +67,7 @@ pub fn cut_ipv4_chain(first: u8, bytes: &[u8], cuts: &mut [HeaderCut]) -> ChainC
         headers,
         len,
         fault,
-        next_header: next_header.0,
+        next_header: u32::from(next_header.0),
         fragmented: 0,
     }
 }

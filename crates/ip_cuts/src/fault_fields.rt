@@ -45,7 +45,7 @@ pub struct FaultFields {
     /// What says `len`.
     pub len_source: u8,
     /// The version or the internet header length that is wrong.
-    pub value: u8,
+    pub value: u32,
 }
 
 /// The code of a layer.
@@ -120,7 +120,7 @@ impl FaultFields {
             header,
             layer: 0,
             len_source: 0,
-            value,
+            value: u32::from(value),
         }
     }
 

@@ -29,13 +29,13 @@ pub struct PacketCut {
     /// What is wrong, if anything; then all else is 0.
     pub fault: FaultFields,
     /// The version, 4 or 6.
-    pub version: u8,
+    pub version: u16,
     /// The payload's number.
-    pub payload_number: u8,
+    pub payload_number: u16,
     /// 1 where the payload is a fragment and not the whole, else 0.
-    pub fragmented: u8,
+    pub fragmented: u16,
     /// What says where the payload ends, as `FaultFields::len_source`.
-    pub len_source: u8,
+    pub len_source: u16,
 }
 
 /// Cuts the packet that begins the bytes, as `IpSlice::from_slice` does. The first cuts of its extension headers are
@@ -125,7 +125,7 @@ impl PacketCut {
     /// A packet with this payload.
     #[inline(always)]
     fn with_payload(
-        version: u8,
+        version: u16,
         base_len: usize,
         headers: usize,
         payload_offset: usize,
@@ -150,9 +150,9 @@ impl PacketCut {
             payload_len: payload.payload.len(),
             fault: FaultFields::none(),
             version,
-            payload_number: payload.ip_number.0,
-            fragmented: u8::from(payload.fragmented),
-            len_source: len_source_code_of(payload.len_source),
+            payload_number: u16::from(payload.ip_number.0),
+            fragmented: u16::from(payload.fragmented),
+            len_source: u16::from(len_source_code_of(payload.len_source)),
         }
     }
 }

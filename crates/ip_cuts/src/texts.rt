@@ -42,7 +42,9 @@ fn push_words(fault: &FaultFields, words: &mut ArrayString<TEXT_LEN>) -> std::fm
         ),
         kind::ZERO_PAYLOAD_LEN => write!(words, "{}", ip_auth::HeaderError::ZeroPayloadLen),
         kind::UNSUPPORTED_IP_VERSION => {
-            let version_number = fault.value;
+            let Ok(version_number) = u8::try_from(fault.value) else {
+                return Ok(());
+            };
             write!(
                 words,
                 "{}",
@@ -50,7 +52,9 @@ fn push_words(fault: &FaultFields, words: &mut ArrayString<TEXT_LEN>) -> std::fm
             )
         }
         kind::IPV4_HEADER_LENGTH => {
-            let ihl = fault.value;
+            let Ok(ihl) = u8::try_from(fault.value) else {
+                return Ok(());
+            };
             write!(
                 words,
                 "{}",

@@ -22,7 +22,7 @@ const LARGEST: FaultFields = FaultFields {
 };
 
 /// Fields with nothing but a kind and a value.
-fn of_kind(kind: u8, value: u8) -> FaultFields {
+fn of_kind(kind: u8, value: u32) -> FaultFields {
     FaultFields {
         kind,
         value,

@@ -99,7 +99,7 @@ static bool walk_ipv4(struct cut *cut, struct wolfaren_fault *fault)
     wolfaren_cut_ipv4_chain(cut->number, cut->bytes + cut->base_len, cut->packet_at_end - cut->base_len, &header, 1,
                             &chain);
     *fault = chain.fault;
-    cut->number = chain.next_header;
+    cut->number = (uint8_t)chain.next_header;
     cut->chain_at_end = cut->base_len + chain.len;
     return chain.headers == 0 || push_header(cut, &header);
 }

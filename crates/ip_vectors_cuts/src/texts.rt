@@ -104,6 +104,8 @@ fn codes_that_are_none(rt: HostRuntime) {
             ..SHORT
         },
         FaultFields { kind: 255, ..SHORT },
+        of_kind(4, 256),
+        of_kind(5, u32::MAX),
     ];
     for fault in none {
         let mut text = [1; 2];

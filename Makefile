@@ -5,12 +5,13 @@
 # program ipcap, which needs libpcap; `make install PREFIX=/usr/local` installs all of it, and ipexts (DESTDIR=.. stands in
 # front of the paths); `make test-c` tests it, and the package in bindings/rust;
 # `make mutants` tries the mutants of mutants/ (CRATE=NAME: those of one crate; ONLY=WORD: those whose names
-# have the word); `make memory` refuses each allocation of the program in turn. `make bench` measures and `make diff`
-# compares against etherparse 0.19.0; `make diff-test` tests the comparison; `make diff-fields` holds fragment headers
-# against scapy's. `make cost` measures what a byte costs at worst. `make fuzz` compares on inputs that AFL++ makes,
-# MINUTES=.. long, and `make fuzz-test` tests that. These seven take CARGO_FLAGS="..", further flags for Cargo, as one
-# that says where the crate lies on a machine without a network.
-.PHONY: run try test lib programs install test-c mutants memory bench cost diff diff-test diff-fields fuzz fuzz-test
+# have the word); `make memory` refuses each allocation of the program in turn. `make bench` measures (`make
+# bench-border` alone what is called through C) and `make diff` compares against etherparse 0.19.0; `make diff-test`
+# tests the comparison; `make diff-fields` holds fragment headers against scapy's. `make cost` measures what a byte costs
+# at worst. `make fuzz` compares on inputs that AFL++ makes, MINUTES=.. long, and `make fuzz-test` tests that. These, and
+# `make test-c`, take CARGO_FLAGS="..", further flags for Cargo, as one that says where the crate lies on a machine
+# without a network.
+.PHONY: run try test lib programs install test-c mutants memory bench bench-border cost diff diff-test diff-fields fuzz fuzz-test
 .SILENT:
 
 RT_IS_THERE = command -v rt >/dev/null || { \
@@ -93,7 +94,10 @@ MINUTES = 5
 export SEED LINES HEADERS MINUTES ONLY CARGO_FLAGS
 
 bench:
-	bench/run
+	status=0; bench/run || status=1; [ -n "$(ONLY)" ] || bench/border/run || status=1; exit $$status
+
+bench-border:
+	bench/border/run
 
 cost:
 	bench/cost

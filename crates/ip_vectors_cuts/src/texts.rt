@@ -79,6 +79,7 @@ fn room_for_words(rt: HostRuntime) {
     for (fault, words) in rows() {
         let len = words.len();
         let mut text = [1; 256];
+        assert!(rt; len < text.len(), "{words}");
         assert_eq!(rt; fault_text(&fault, &mut text[..len]), len, "{words}");
         assert!(rt; text.iter().all(|byte| *byte == 1), "{words}");
         assert_eq!(rt; fault_text(&fault, &mut text[..=len]), len, "{words}");

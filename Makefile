@@ -1,6 +1,6 @@
 # `make run` answers the lines of standard input; `make try` answers some lines within seconds, with checks as they
 # run in place of proofs, which it tells on standard error; `make test` holds the listed contracts and the
-# listed errors against the code, tries the program and passes the merge gate;
+# listed errors against the code, passes the merge gate and tries the program that it built;
 # `make lib` leaves the static library for C, its header and its pkg-config file in build/, and `make programs` the
 # program ipcap, which needs libpcap; `make install PREFIX=/usr/local` installs all of it, and ipexts (DESTDIR=.. stands in
 # front of the paths); `make test-c` tests it, and the package in bindings/rust;
@@ -40,8 +40,7 @@ test:
 	$(PYTHON_IS_THERE)
 	scripts/check-calling
 	scripts/check-errors
-	scripts/test-main
-	rt ci
+	scripts/gate
 
 VERSION = 0.1.0
 PREFIX = /usr/local

@@ -227,6 +227,15 @@ bool wolfaren_authentication_fields(const uint8_t *bytes, size_t len, struct wol
 uint8_t wolfaren_link_headers(struct wolfaren_header *headers, size_t count, uint8_t last);
 
 /*
+ * How many of the headers, from the first on, have a place each of their own: hop by hop options, destination options,
+ * routing, fragment and authentication headers one at most, and destination options one more behind the routing header
+ * (RFC 8200, section 4.1). Ends before the first header whose place is filled, or whose number is that of no extension
+ * header. Of a chain these are the headers that one struct `Ipv6Extensions` takes; called again for what is behind them,
+ * it tells those of the next. Reads the numbers alone, and at most 7 elements.
+ */
+size_t wolfaren_run_len(const struct wolfaren_header *headers, size_t count);
+
+/*
  * Writes headers from where they lie in the `len` bytes to the front of `out`, one behind the other in the order of the
  * array: each with the `next_header` of its element, and with its reserved bits zero. So a chain is written in another
  * order, or without some of its headers, by an array that was linked anew. Where the elements are linked, and hop by hop

@@ -45,6 +45,20 @@ static void arrays_of_each_length(void)
     }
 }
 
+/* Runs: all six have a place, a second routing header or third destination options have none, nor has what is no header. */
+static void runs_of_headers(void)
+{
+    struct wolfaren_header headers[7];
+    memcpy(headers, CUTS, sizeof CUTS);
+    headers[6] = CUTS[2];
+    check(wolfaren_run_len(headers, 7) == 6 && wolfaren_run_len(&headers[6], 1) == 1, "a routing header behind six");
+    headers[6].number = 60;
+    check(wolfaren_run_len(headers, 7) == 6 && wolfaren_run_len(headers, 3) == 3, "destination options behind six");
+    headers[1].number = 17;
+    check(wolfaren_run_len(headers, 7) == 1 && wolfaren_run_len(&headers[1], 6) == 0, "what is no extension header");
+    check(wolfaren_run_len(NULL, 0) == 0, "a run of none");
+}
+
 static void nothing_at_all(void)
 {
     struct wolfaren_chain chain;
@@ -153,6 +167,7 @@ static void a_packet_that_is_cut_short(void)
 int main(void)
 {
     arrays_of_each_length();
+    runs_of_headers();
     nothing_at_all();
     texts();
     cursors_from_anywhere();

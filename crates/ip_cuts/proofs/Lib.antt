@@ -1,2 +1,3 @@
 pub mod PacketCutLemmas
+pub mod RunLemmas
 pub mod WrittenLemmas

@@ -5,4 +5,5 @@ pub mod ChainCursor
 pub mod PacketCut
 pub mod HeaderFields
 pub mod Links
+pub mod InPlaces
 pub mod Written

@@ -10,6 +10,7 @@ mod header_cut;
 mod header_fields;
 mod links;
 mod packet_cut;
+mod runs;
 mod texts;
 mod writes;
 
@@ -20,5 +21,6 @@ pub use header_cut::HeaderCut;
 pub use header_fields::{AuthFields, FragmentFields, auth_fields, fragment_fields};
 pub use links::link_headers;
 pub use packet_cut::{PacketCut, cut_packet, cut_packet_lax};
+pub use runs::run_len;
 pub use texts::fault_text;
 pub use writes::write_headers;

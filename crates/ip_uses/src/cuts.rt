@@ -1,11 +1,13 @@
 //! Callers of `ip_cuts`.
-ghost use Rattle.std.specs.Prelude.{◌≡◌, ◌↔◌, ◌≤◌, ℕ, List, [], ◌∷◌, length, take, drop, IsTrue, IfSome, Some, None};
+ghost use Rattle.std.specs.Prelude.{◌≡◌, ◌↔◌, ◌≤◌, ℕ, List, [], ◌∷◌, ◌++◌, length, take, drop, IsTrue, IfSome, Some, None};
 ghost use Rattle.ip_base.specs.Ipv4Header.{version};
 ghost use Rattle.ip_spec.specs.Chain.{bytes_of};
+ghost use Rattle.ip_spec.specs.Demand.{KeepsBeginning};
 ghost use Rattle.ip_spec.specs.Parse.{rest_behind};
 ghost use Rattle.ip_ext_slices.specs.Longest.{longest_chain};
+ghost use Rattle.ip_cuts.specs.InPlaces.{AreInPlaces};
 
-use ip_cuts::{HeaderCut, cut_chain};
+use ip_cuts::{HeaderCut, cut_chain, run_len};
 
 /// Whether the array has a place for each header of the chain.
 pub fn has_room(first: u8, packet: &[u8], cuts: &mut [HeaderCut]) -> bool
@@ -20,4 +22,12 @@ pub fn behind_chain(first: u8, packet: &[u8]) -> &[u8]
 {
     let chain = cut_chain(first, packet, &mut []);
     &packet[chain.len..]
+}
+
+/// The headers of the first struct of six places, and those that are left for others.
+pub fn first_run(headers: &[HeaderCut]) -> (&[HeaderCut], &[HeaderCut])
+    ensures run { KeepsBeginning AreInPlaces headers.now result.0.now }
+    ensures all { result.0.now ++ result.1.now ≡ headers.now }
+{
+    headers.split_at(run_len(headers))
 }

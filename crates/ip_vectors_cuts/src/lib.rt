@@ -6,6 +6,8 @@ mod chains;
 #[cfg(test)]
 mod packets;
 #[cfg(test)]
+mod runs;
+#[cfg(test)]
 mod samples;
 #[cfg(test)]
 mod texts;

@@ -1,6 +1,7 @@
 //! Chains.
-ghost use Rattle.std.specs.Prelude.{◌≡◌, ◌==◌, ◌≤◌, length, false, IsTrue, drop};
+ghost use Rattle.std.specs.Prelude.{◌≡◌, ◌==◌, ◌≤◌, length, false, IsTrue, take, drop};
 ghost use Rattle.ip_spec.specs.Chain.{IsEnd};
+ghost use Rattle.ip_spec.specs.Demand.{KeepsBeginning};
 ghost use Rattle.ip_ext_slices.specs.Longest.{longest_chain};
 ghost use Rattle.ip_ext_slices.specs.Fault.{slice_fault};
 ghost use Rattle.ip_ext_ipv4.specs.Ipv4Longest.{longest_ipv4_chain};
@@ -8,8 +9,9 @@ ghost use Rattle.ip_cuts.specs.HeaderCut.{cuts_from, filled};
 ghost use Rattle.ip_cuts.specs.ChainCut.{chain_cut, ipv4_chain_cut};
 ghost use Rattle.ip_cuts.specs.ChainCursor.{IsHeaderCut};
 ghost use Rattle.ip_cuts.specs.FaultFields.{chain_fault_fields};
+ghost use Rattle.ip_cuts.specs.InPlaces.{AreInPlaces};
 
-use ip_cuts::{ChainCursor, ChainCut, FaultFields, HeaderCut, cut_chain, cut_ipv4_chain};
+use ip_cuts::{ChainCursor, ChainCut, FaultFields, HeaderCut, cut_chain, cut_ipv4_chain, run_len};
 
 /// `cut_chain`, with its answer in `chain`.
 #[unsafe(no_mangle)]
@@ -69,4 +71,13 @@ pub extern "C" fn wolfaren_fault_at(cursor: &ChainCursor, bytes: &[u8], fault: &
         (cursor.now.offset == 0) cursor.now.number (drop cursor.now.offset bytes.now)) }
 {
     *fault = cursor.fault(bytes);
+}
+
+/// `run_len`.
+#[unsafe(no_mangle)]
+pub extern "C" fn wolfaren_run_len(cuts: &[HeaderCut]) -> usize
+    ensures within { result ≤ length cuts.now }
+    ensures run { KeepsBeginning AreInPlaces cuts.now (take result cuts.now) }
+{
+    run_len(cuts)
 }

@@ -1,0 +1,60 @@
+-- How far headers have a place each of their own.
+use Rattle.std.proofs.Common.{◌≡◌, ℕ, ◌+◌, ◌≤◌, ◌<◌, List, [], ◌∷◌, ◌++◌, length, take, drop, refl, ap, sym, ◌∙◌, arith, subst}
+use Rattle.std.specs.Prelude.{◌==◌, ◌↔◌, get_or, if◌then◌else◌}
+use Rattle.std.specs.List.{AllByRecursion}
+use Rattle.std.proofs.lemmas.Bool.{eq-eqb}
+use Rattle.std.proofs.lemmas.List.{take-append-drop, drop_more, map-append, append-nil, take_all}
+use Rattle.ip_spec.specs.Demand.{KeepsBeginning, NextBreaks}
+use Rattle.ip_spec.specs.Header.{IsExtensionNumber}
+use Rattle.ip_spec.specs.NumbersFit.{NumbersFit, how_often, in_place, before_routing, after_routing}
+use Rattle.ip_spec.proofs.FirstLemmas.{before-none}
+use Rattle.ip_spec.proofs.NumbersFitLemmas.{next_number_tells}
+use Rattle.ip_cuts.specs.InPlaces.{AreInPlaces, cut_numbers}
+use Rattle.ip_cuts.specs.declared.header_cut.HeaderCut.{HeaderCut}
+
+-- where no routing header is, all destination options stand on one side
+pub one_side : (ns : List ℕ) → how_often 43 ns ≡ 0 → how_often 60 ns ≡ in_place 60 ns
+one_side ns e =
+    let all : before_routing ns ≡ ns = ap before_routing (sym (append-nil ns)) ∙ before-none (λ n. n == 43) ns [] e ∙ append-nil ns in
+    sym (ap (λ b. if b then how_often 60 (before_routing ns) else how_often 60 (after_routing ns)) (eq-eqb (how_often 43 ns) 0 e) ∙ ap (how_often 60) all)
+
+all_more : (P : ℕ → Type 0) (ns : List ℕ) (m : ℕ) → AllByRecursion P (ns ++ m ∷ []) ↔ (AllByRecursion P ns × P m)
+all_more P [] m = ((λ a. (tt, a.0)), λ a. (a.1, tt))
+all_more P (n ∷ ns) m =
+    let more = all_more P ns m in
+    ((λ a. let b = more.0 a.1 in ((a.0, b.0), b.1)), λ a. (a.0.0, more.1 (a.0.1, a.1)))
+
+-- one header more has a place where none stands in it
+pub next_has_place : (xs : List HeaderCut) (x : HeaderCut) → AreInPlaces xs → AreInPlaces (xs ++ x ∷ []) ↔ (IsExtensionNumber x.number × (in_place x.number (cut_numbers xs) ≡ 0))
+next_has_place xs x f =
+    let m : ℕ = x.number in
+    let ns : List ℕ = cut_numbers xs in
+    let more : cut_numbers (xs ++ x ∷ []) ≡ ns ++ m ∷ [] = map-append (λ h. h.number) xs (x ∷ []) in
+    let all = all_more IsExtensionNumber ns m in (
+      (λ g.
+          let is = (all.0 (subst (AllByRecursion IsExtensionNumber) more g.extensions)).1 in
+          (is, (next_number_tells m ns is f.fit).0 (subst NumbersFit more g.fit))),
+      λ p. record {
+        extensions = subst (AllByRecursion IsExtensionNumber) (sym more) (all.1 (f.extensions, p.0));
+        fit = subst NumbersFit (sym more) ((next_number_tells m ns p.0 f.fit).1 p.1);
+      },
+    )
+
+-- Of headers of which the first k have places, and no more, the demand keeps these.
+module _ (xs : List HeaderCut) (k : ℕ) where
+  breaks_at : (x : HeaderCut) (rest : List HeaderCut) → k < length xs → drop k xs ≡ rest → (AreInPlaces (take k xs ++ get_or xs k x ∷ []) → ⊥) → NextBreaks AreInPlaces (take k xs) rest
+  breaks_at d [] within e fails = tt
+  breaks_at d (x ∷ rest) within e fails = λ q.
+      let P : List HeaderCut → Type 0 = AreInPlaces in
+      let both : get_or xs k d ∷ drop (k + 1) xs ≡ x ∷ rest = sym (drop_more xs k d within) ∙ e in
+      let first : get_or xs k d ≡ x = cc in
+      fails (subst P (ap (λ y. take k xs ++ y ∷ []) (sym first)) q)
+
+  pub kept_first : (d : HeaderCut) → k < length xs → AreInPlaces (take k xs) → (AreInPlaces (take k xs ++ get_or xs k d ∷ []) → ⊥) → KeepsBeginning AreInPlaces xs (take k xs)
+  kept_first d within f fails = record { rest = drop k xs; joined = sym (take-append-drop k xs); meets = f; breaks = breaks_at d (drop k xs) within refl fails }
+
+  pub kept_whole : length xs ≤ k → AreInPlaces (take k xs) → KeepsBeginning AreInPlaces xs (take (length xs) xs)
+  kept_whole all f =
+      let P : List HeaderCut → Type 0 = AreInPlaces in
+      let here : take (length xs) xs ≡ xs = take_all (length xs) xs (omega arith) in
+      record { rest = []; joined = sym (append-nil (take (length xs) xs) ∙ here); meets = subst P (take_all k xs all ∙ sym here) f; breaks = tt }

@@ -1,0 +1,7 @@
+use Rattle.std.proofs.Common.{take}
+use Rattle.ip_cuts.specs.InPlaces.{AreInPlaces}
+use Rattle.ip_cuts.proofs.runs.run_len.Given as goal
+
+-- those before have places
+abbrev pub invariant-lens : goal.invariant-lens
+invariant-lens l = AreInPlaces (take l.len l.headers)

@@ -1,0 +1,59 @@
+ghost use Rattle.std.specs.Prelude.{◌≡◌, ◌↔◌, ◌≤◌, length, take, IsTrue};
+ghost use Rattle.ip_spec.specs.Header.{IsExtensionNumber};
+ghost use Rattle.ip_spec.specs.Demand.{KeepsBeginning};
+ghost use Rattle.ip_spec.specs.NumbersFit.{NumbersFit, how_often, in_place, before_routing, after_routing};
+ghost use Rattle.ip_cuts.specs.InPlaces.{AreInPlaces, cut_numbers};
+
+use crate::header_cut::HeaderCut;
+use etherparse_ip::{IpNumber, ip_number};
+
+/// How many of the headers, from the first on, one struct of six places takes: all, or those before the first whose
+/// place is filled or which is no extension header. Of a chain this is its first run; what is behind it begins the
+/// next, so each call tells one run more (RFC 8200, section 4.1).
+pub fn run_len(headers: &[HeaderCut]) -> usize
+    ensures within { result ≤ length headers.now }
+    ensures run { KeepsBeginning AreInPlaces headers.now (take result headers.now) }
+{
+    'lens: for len in 0..headers.len() {
+        if !has_place(&headers[..len], headers[len].number) {
+            return len;
+        }
+    }
+    headers.len()
+}
+
+/// Whether a header of the number has a place behind the others.
+fn has_place(others: &[HeaderCut], number: u8) -> bool
+    ensures { IsTrue result
+        ↔ (IsExtensionNumber number × (in_place number (cut_numbers others.now) ≡ 0)) }
+{
+    match IpNumber(number) {
+        ip_number::IPV6_DEST_OPTIONS => how_often_on_last_side(others) == 0,
+        ip_number::IPV6_HOP_BY_HOP
+        | ip_number::IPV6_ROUTE
+        | ip_number::IPV6_FRAG
+        | ip_number::AUTH => how_often(number, others) == 0,
+        _ => false,
+    }
+}
+
+/// How many of the headers have the number.
+fn how_often(number: u8, headers: &[HeaderCut]) -> usize
+    ensures { result ≡ how_often number (cut_numbers headers.now) }
+{
+    headers.iter().filter(|it| it.number == number).count()
+}
+
+/// How many destination options stand behind the first routing header, or among all where there is none.
+fn how_often_on_last_side(headers: &[HeaderCut]) -> usize
+    ensures { result ≡ in_place 60 (cut_numbers headers.now) }
+{
+    if how_often(43, headers) == 0 {
+        return how_often(60, headers);
+    }
+    match headers {
+        [first, behind @ ..] if first.number != 43 => how_often_on_last_side(behind),
+        [_, behind @ ..] => how_often(60, behind),
+        [] => 0,
+    }
+}

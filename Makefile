@@ -4,6 +4,7 @@
 # `make lib` leaves the static library for C, its header and its pkg-config file in build/, and `make programs` the
 # program ipcap, which needs libpcap; `make install PREFIX=/usr/local` installs all of it, and ipexts (DESTDIR=.. stands in
 # front of the paths); `make test-c` tests it, and the package in bindings/rust;
+# `make page` builds what page/index.html shows a packet with, and `make test-page` tests that page in Chromium;
 # `make mutants` tries the mutants of mutants/ (CRATE=NAME: those of one crate; ONLY=WORD: those whose names
 # have the word); `make memory` refuses each allocation of the program in turn. `make bench` measures (`make
 # bench-border` alone what is called through C) and `make diff` compares against etherparse 0.19.0; `make diff-test`
@@ -11,7 +12,7 @@
 # at worst. `make fuzz` compares on inputs that AFL++ makes, MINUTES=.. long, and `make fuzz-test` tests that. These, and
 # `make test-c`, take CARGO_FLAGS="..", further flags for Cargo, as one that says where the crate lies on a machine
 # without a network.
-.PHONY: run try test lib programs install test-c mutants memory bench bench-border cost diff diff-test diff-fields fuzz fuzz-test
+.PHONY: run try test lib programs install test-c page test-page mutants memory bench bench-border cost diff diff-test diff-fields fuzz fuzz-test
 .SILENT:
 
 RT_IS_THERE = command -v rt >/dev/null || { \
@@ -76,6 +77,14 @@ test-c: lib
 	scripts/test-c
 	programs/test/run build build
 	cd bindings/rust && WOLFAREN_LIB_DIR=$(CURDIR)/build cargo test --quiet $(CARGO_FLAGS)
+
+page:
+	$(RT_IS_THERE)
+	scripts/build-page
+
+test-page: page
+	$(PYTHON_IS_THERE)
+	scripts/test-page
 
 mutants:
 	$(RT_IS_THERE)

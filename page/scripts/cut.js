@@ -1,0 +1,115 @@
+// What the bytes hold, part by part: { parts, fault, ... }, with every cut as the library answers it.
+"use strict";
+Wolfaren.cut = (function () {
+    const VLANS = [0x8100, 0x88a8], TYPES = [0x0800, 0x86dd];
+    const TOO_SHORT = 1, IP_VERSION = 4, HEADER_LENGTH = 5;
+
+    // The parts of what was handed in, where `kind` is packet, ethernet, chain6 or chain4.
+    function cut(kind, first, bytes) {
+        const model = { kind, first, bytes, parts: [], fault: null, cuts: [], packet: null };
+        if (kind === "chain6" || kind === "chain4") return cutChain(model, kind === "chain6" ? 6 : 4);
+        const base = kind === "ethernet" ? pushLink(model) : 0;
+        return model.fault ? model : cutPacket(model, base);
+    }
+    function push(model, style, name, offset, len, more) {
+        if (len > 0) model.parts.push({ style, name, offset, len, ...more });
+    }
+    // The Ethernet header, with what VLAN tags it has. The answer is how many bytes it has.
+    function pushLink(model) {
+        const type = (at) => model.bytes[at] * 256 + model.bytes[at + 1];
+        let len = 14;
+        while (len <= model.bytes.length && VLANS.includes(type(len - 2))) len += 4;
+        const has = len <= model.bytes.length;
+        push(model, "link", "Ethernet", 0, Math.min(len, model.bytes.length), {});
+        if (has && TYPES.includes(type(len - 2))) return len;
+        const text = has ? `EtherType 0x${type(len - 2).toString(16).padStart(4, "0")} is neither IPv4 nor IPv6` : "the Ethernet header is cut short";
+        model.fault = { offset: has ? len - 2 : model.bytes.length, text, isPages: true };
+        if (has) push(model, "rest", "payload of the frame", len, model.bytes.length - len, {});
+        return len;
+    }
+    function cutChain(model, version) {
+        const chain = Wolfaren.library.cutChain(version, model.first, model.bytes);
+        pushHeaders(model, chain.cuts, 0);
+        end(model, chain, chain.len, model.bytes.length);
+        return model;
+    }
+    function pushHeaders(model, cuts, base) {
+        model.cuts = cuts.map((it) => ({ ...it, offset: it.offset + base }));
+        for (const it of model.cuts) push(model, Wolfaren.names.styles[it.number], Wolfaren.names.ofNumber(it.number), it.offset, it.len, it);
+    }
+    function end(model, chain, at, upTo) {
+        model.next = chain.next;
+        model.restAt = at;
+        model.restLen = upTo - at;
+        model.fragmented = chain.fragmented;
+        push(model, "rest", Wolfaren.names.ofNumber(chain.next), at, upTo - at, { isRest: true, number: chain.next });
+        if (chain.fault.kind !== 0) model.fault = { ...chain.fault, offset: at };
+    }
+    function cutPacket(model, base) {
+        const bytes = model.bytes.subarray(base), packet = Wolfaren.library.cutPacket(bytes);
+        model.packet = packet;
+        model.base = base;
+        if (packet.fault.kind !== 0) return cutRefused(model, base, bytes, packet.fault);
+        pushBase(model, base, packet.baseLen, packet.version);
+        pushHeaders(model, packet.cuts, base);
+        const at = base + packet.payloadOffset, stop = at + packet.payloadLen;
+        const none = { kind: 0 };
+        end(model, { next: packet.number, fragmented: packet.fragmented, fault: none }, at, stop);
+        push(model, "beyond", "beyond the packet", stop, model.bytes.length - stop, {});
+        return model;
+    }
+    function pushBase(model, base, len, version) {
+        const next = model.bytes[base + (version === 6 ? 6 : 9)];
+        push(model, "base", `IPv${version}`, base, len, { version, next, nextAt: version === 6 ? 6 : 9 });
+    }
+    // A packet that is refused: its base header, where that is whole, and the chain behind it.
+    function cutRefused(model, base, bytes, fault) {
+        const version = bytes.length > 0 ? bytes[0] >> 4 : 0, baseLen = version === 6 ? 40 : (bytes[0] & 15) * 4;
+        const isBaseWhole = (version === 6 || version === 4 && baseLen >= 20) && bytes.length >= baseLen;
+        const stated = isBaseWhole ? statedLen(version, bytes) : 0;
+        if (!isBaseWhole || stated < baseLen) {
+            push(model, "rest", "not cut", base, bytes.length, {});
+            model.fault = { ...fault, offset: base + placeIn(fault) };
+            return model;
+        }
+        pushBase(model, base, baseLen, version);
+        const stop = Math.min(stated, bytes.length);
+        const chain = Wolfaren.library.cutChain(version, bytes[version === 6 ? 6 : 9], bytes.subarray(baseLen, stop));
+        pushHeaders(model, chain.cuts, base + baseLen);
+        end(model, { ...chain, fault: { kind: 0 } }, base + baseLen + chain.len, base + stop);
+        push(model, "beyond", "beyond the packet", base + stop, bytes.length - stop, {});
+        const isShort = fault.kind === TOO_SHORT;
+        const isCutShort = isShort && stated > bytes.length;
+        model.fault = { ...fault, offset: isCutShort ? base + bytes.length : isShort ? base + fault.offset : base + baseLen + chain.len };
+        return model;
+    }
+    function placeIn(fault) {
+        return fault.kind === IP_VERSION || fault.kind === HEADER_LENGTH ? 0 : fault.offset;
+    }
+    // Where the packet ends by its own length field. An IPv6 packet with length 0 has all bytes.
+    function statedLen(version, bytes) {
+        if (version === 4) return bytes[2] * 256 + bytes[3];
+        const len = bytes[4] * 256 + bytes[5];
+        return len === 0 ? bytes.length : 40 + len;
+    }
+    // For each header the struct of six places that holds it and its place there: a struct ends before a header whose
+    // place in it is filled.
+    function placesOf(cuts) {
+        let struct = 1, filled = new Set();
+        return cuts.map((it) => {
+            let place = placeOf(it.number, filled);
+            if (filled.has(place)) {
+                struct += 1;
+                filled = new Set();
+                place = placeOf(it.number, filled);
+            }
+            filled.add(place);
+            return { struct, place };
+        });
+    }
+    function placeOf(number, filled) {
+        if (number === 60) return filled.has(2) ? 5 : 1;
+        return { 0: 0, 43: 2, 44: 3, 51: 4 }[number];
+    }
+    return { cut, placesOf };
+})();

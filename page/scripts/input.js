@@ -1,0 +1,76 @@
+// Bytes out of pasted text. An answer is { bytes, unread }, where unread lists { start, end, why } in the text.
+"use strict";
+Wolfaren.input = (function () {
+    const DUMP_LINE = /^\s*(?:0x)?([0-9a-f]{4,8}):?[ \t]+(?=[0-9a-f]{2})/i;
+    const SKIPPED = /^(?:\s+|[,;:{}"'-]|\/\*[^]*?\*\/|\/\/[^\n]*|\\\r?\n|0x(?=[0-9a-f]))/i;
+
+    function read(text) {
+        if (isDump(text)) return readDump(text);
+        if (/\\x[0-9a-f]{2}/i.test(text)) return readTokens(text, 0, text.length, /^\\x([0-9a-f]{2})/i);
+        const from = text.indexOf("{"), to = text.lastIndexOf("}");
+        const isArray = from >= 0;
+        return readTokens(text, isArray ? from : 0, isArray && to > from ? to + 1 : text.length, /^([0-9a-f]+)/i);
+    }
+    // A dump has lines that begin with an offset, the first of them 0.
+    function isDump(text) {
+        const line = text.split("\n").find((it) => DUMP_LINE.test(it));
+        return line !== undefined && Number.parseInt(DUMP_LINE.exec(line)[1], 16) === 0 && /[ \t:]/.test(line.trim());
+    }
+    function readTokens(text, from, to, digits) {
+        const bytes = [], unread = [];
+        let at = from;
+        while (at < to) {
+            const left = text.slice(at, to), skipped = SKIPPED.exec(left), found = skipped ? null : digits.exec(left);
+            const len = skipped ? skipped[0].length : found ? found[0].length : 1;
+            if (found && found[1].length % 2 === 0) pushHex(bytes, found[1]);
+            else if (found) unread.push({ start: at, end: at + len, why: "an odd number of digits" });
+            else if (!skipped) note(unread, at, at + 1, "no hexadecimal digit");
+            at += len;
+        }
+        return { bytes: Uint8Array.from(bytes), unread };
+    }
+    function note(unread, start, end, why) {
+        const last = unread[unread.length - 1];
+        if (last && last.end === start && last.why === why) last.end = end;
+        else unread.push({ start, end, why });
+    }
+    function pushHex(bytes, digits) {
+        for (let i = 0; i < digits.length; i += 2) bytes.push(Number.parseInt(digits.slice(i, i + 2), 16));
+    }
+    function readDump(text) {
+        const bytes = [], unread = [];
+        let at = 0;
+        for (const line of text.split("\n")) {
+            readDumpLine(line, at, bytes, unread);
+            at += line.length + 1;
+        }
+        return { bytes: Uint8Array.from(bytes), unread };
+    }
+    // Offset, up to 16 bytes, and a column of text behind two spaces or more. Before the first offset a line may be a heading.
+    function readDumpLine(line, at, bytes, unread) {
+        const offset = DUMP_LINE.exec(line);
+        const isHeading = bytes.length === 0 && !offset;
+        if (line.trim() === "" || isHeading || /^[0-9a-f]{4,8}\s*$/i.test(line.trim())) return;
+        if (!offset || Number.parseInt(offset[1], 16) !== bytes.length) {
+            unread.push({ start: at, end: at + line.length, why: offset ? "an offset that doesn't follow" : "no line of the dump" });
+            return;
+        }
+        const rest = line.slice(offset[0].length), digits = hexColumn(rest);
+        pushHex(bytes, digits.text);
+        if (digits.odd) unread.push({ start: at + offset[0].length + digits.len, end: at + line.length, why: "an odd number of digits" });
+    }
+    function hexColumn(rest) {
+        const group = /([0-9a-f]+)(\s*)/iy;
+        let text = "", len = 0;
+        for (let found = group.exec(rest); found && text.length < 32; found = group.exec(rest)) {
+            if (text.length + found[1].length > 32) break;
+            if (found[1].length % 2 === 1) return { text, len, odd: true };
+            text += found[1];
+            len += found[0].length;
+            const isMiddle = text.length === 16 && found[2].length === 2;
+            if (found[2].length > 1 && !isMiddle) break;
+        }
+        return { text, len, odd: false };
+    }
+    return { read };
+})();

@@ -1,0 +1,70 @@
+// The library's calls. Its structs are laid out as include/wolfaren.h says, with 64-bit sizes.
+"use strict";
+Wolfaren.library = (function () {
+    const HEADER = 24, PACKET = 72, TEXT = 256;
+    // A module with one memory of 64-bit addresses.
+    const WIDE = new Uint8Array([0, 97, 115, 109, 1, 0, 0, 0, 5, 3, 1, 4, 1]);
+    let calls = null, memory = null, room = 0, start = 0, words = 0;
+
+    function isSupported() {
+        return typeof WebAssembly === "object" && WebAssembly.validate(WIDE);
+    }
+    async function load() {
+        const text = atob(Wolfaren.module);
+        const made = await WebAssembly.instantiate(Uint8Array.from(text, (it) => it.charCodeAt(0)), {});
+        calls = made.instance.exports;
+        memory = calls.memory;
+        start = memory.buffer.byteLength;
+    }
+    // Hands in the bytes behind what the module uses itself, with room for an answer and for the cuts.
+    function place(bytes) {
+        const most = Math.floor(bytes.length / 8) + 1;
+        const needed = bytes.length + 8 + PACKET + TEXT + most * HEADER;
+        while (room < needed) {
+            memory.grow(16n);
+            room = memory.buffer.byteLength - start;
+        }
+        new Uint8Array(memory.buffer, start, bytes.length).set(bytes);
+        const answer = start + Math.ceil(bytes.length / 8) * 8;
+        words = answer + PACKET;
+        return { answer, cuts: words + TEXT, most };
+    }
+    function size(view, at) {
+        return Number(view.getBigUint64(at, true));
+    }
+    function faultAt(view, at) {
+        return { requiredLen: size(view, at), len: size(view, at + 8), offset: size(view, at + 16), kind: view.getUint8(at + 24), header: view.getUint8(at + 25),
+            layer: view.getUint8(at + 26), lenSource: view.getUint8(at + 27), value: view.getUint32(at + 28, true), text: textAt(at) };
+    }
+    function textAt(fault) {
+        const len = Number(calls.wolfaren_fault_text(BigInt(fault), BigInt(words), BigInt(TEXT)));
+        return new TextDecoder().decode(new Uint8Array(memory.buffer, words, len));
+    }
+    function cutsAt(view, at, count) {
+        const cuts = [];
+        for (let i = 0; i < count; i++) {
+            const cut = at + i * HEADER;
+            cuts.push({ offset: size(view, cut), len: size(view, cut + 8), number: view.getUint8(cut + 16), next: view.getUint8(cut + 17) });
+        }
+        return cuts;
+    }
+    // The longest chain from the number; `version` 6 or 4.
+    function cutChain(version, first, bytes) {
+        const at = place(bytes);
+        const call = version === 6 ? calls.wolfaren_cut_chain : calls.wolfaren_cut_ipv4_chain;
+        call(first, BigInt(start), BigInt(bytes.length), BigInt(at.cuts), BigInt(at.most), BigInt(at.answer));
+        const view = new DataView(memory.buffer);
+        return { cuts: cutsAt(view, at.cuts, size(view, at.answer)), len: size(view, at.answer + 8), fault: faultAt(view, at.answer + 16),
+            next: view.getUint32(at.answer + 48, true), fragmented: view.getUint32(at.answer + 52, true) === 1 };
+    }
+    // The packet, which has to be whole.
+    function cutPacket(bytes) {
+        const at = place(bytes);
+        calls.wolfaren_cut_packet(BigInt(start), BigInt(bytes.length), BigInt(at.cuts), BigInt(at.most), BigInt(at.answer));
+        const view = new DataView(memory.buffer), answer = at.answer;
+        return { baseLen: size(view, answer), cuts: cutsAt(view, at.cuts, size(view, answer + 8)), payloadOffset: size(view, answer + 16),
+            payloadLen: size(view, answer + 24), fault: faultAt(view, answer + 32), version: view.getUint16(answer + 64, true),
+            number: view.getUint16(answer + 66, true), fragmented: view.getUint16(answer + 68, true) === 1, lenSource: view.getUint16(answer + 70, true) };
+    }
+    return { isSupported, load, cutChain, cutPacket };
+})();

@@ -35,7 +35,7 @@ Wolfaren.cut = (function () {
     }
     function pushHeaders(model, cuts, base) {
         model.cuts = cuts.map((it) => ({ ...it, offset: it.offset + base }));
-        for (const it of model.cuts) push(model, Wolfaren.names.styles[it.number], Wolfaren.names.ofNumber(it.number), it.offset, it.len, it);
+        for (const it of model.cuts) push(model, Wolfaren.names.styles[it.number], Wolfaren.names.ofNumber(it.number), it.offset, it.len, { ...it, isHeader: true });
     }
     function end(model, chain, at, upTo) {
         model.next = chain.next;

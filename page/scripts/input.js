@@ -23,11 +23,17 @@ Wolfaren.input = (function () {
             const left = text.slice(at, to), skipped = SKIPPED.exec(left), found = skipped ? null : digits.exec(left);
             const len = skipped ? skipped[0].length : found ? found[0].length : 1;
             if (found && found[1].length % 2 === 0) pushHex(bytes, found[1]);
-            else if (found) unread.push({ start: at, end: at + len, why: "an odd number of digits" });
+            else if (found) readOdd(bytes, unread, found[1], at);
             else if (!skipped) note(unread, at, at + 1, "no hexadecimal digit");
             at += len;
         }
         return { bytes: Uint8Array.from(bytes), unread };
+    }
+    // Of a long run of digits only the last one is left over; of a short one nobody knows which digit is missing.
+    function readOdd(bytes, unread, digits, at) {
+        const read = digits.length > 8 ? digits.length - 1 : 0;
+        pushHex(bytes, digits.slice(0, read));
+        unread.push({ start: at + read, end: at + digits.length, why: "an odd number of digits" });
     }
     function note(unread, start, end, why) {
         const last = unread[unread.length - 1];

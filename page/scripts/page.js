@@ -27,7 +27,7 @@ Wolfaren.page = (function () {
         showFields(Math.max(0, model.parts.findIndex((it) => it.next !== undefined)));
     }
     function addPlaces(model) {
-        const headers = model.parts.filter((it) => model.cuts.some((cut) => cut.offset === it.offset && it.number === cut.number && !it.isRest));
+        const headers = model.parts.filter((it) => it.isHeader);
         Wolfaren.cut.placesOf(model.cuts).forEach((it, i) => Object.assign(headers[i], it));
         headers.forEach((it, i) => (it.isStructStart = i === 0 || headers[i - 1].struct !== it.struct));
     }
@@ -96,8 +96,11 @@ Wolfaren.page = (function () {
         at("packets").hidden = packets.length === 0;
         at("packet-list").replaceChildren(...packets.slice(0, 10000).map((it, i) => new Option(`${i + 1}   ${it.seconds.toFixed(6)} s   ${it.bytes.length} of ${it.wire} bytes`, i)));
         if (packets.length > 0) pick(0);
-        at("unread").hidden = !found.error;
-        if (found.error) at("unread").textContent = found.error;
+        if (found.error) tell(found.error);
+    }
+    function tell(text) {
+        at("unread").hidden = false;
+        at("unread").textContent = text;
     }
     function pick(index) {
         at("packet-list").value = index;
@@ -141,6 +144,7 @@ Wolfaren.page = (function () {
         if (takeLink()) return;
         at("text").value = EXAMPLE;
         show();
+        if (location.hash.length > 1) tell("The link names no packet of this page, so an example is shown.");
     }
     const ready = begin();
     return { ready, show, take, svgText };

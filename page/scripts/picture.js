@@ -39,10 +39,12 @@ Wolfaren.picture = (function () {
         const last = Math.floor(Math.max(model.bytes.length - 1, faultAt, 0) / LINE);
         const rows = rowsOf(model, last), rowOfLine = new Map();
         rows.forEach((it, i) => it.skipped || rowOfLine.set(it.line, i));
-        const wide = LEFT + LINE * CELL + RIGHT, high = TOP + rows.length * ROW + GAP;
+        const why = model.fault ? linesOf(model.fault.text, 84) : [], extra = why.length * 14;
+        const wide = LEFT + LINE * CELL + RIGHT, high = TOP + rows.length * ROW + GAP + extra;
         const svg = make("svg", { viewBox: `0 0 ${wide} ${high}`, role: "group", "aria-label": "The bytes, with their headers", xmlns: SPACE });
         svg.style.setProperty("max-width", `${wide * 1.25}px`);
-        const sheet = { svg, model, rows, rowOfLine, withPlaces };
+        const targets = new Set(model.parts.filter((it) => it.next !== undefined).map((it) => it.offset + it.len));
+        const sheet = { svg, model, rows, rowOfLine, withPlaces, targets, why, extra, faultRow: rowOfLine.get(Math.floor(faultAt / LINE)) };
         drawOffsets(sheet);
         model.parts.forEach((part, i) => drawPart(sheet, part, i));
         model.parts.forEach((part) => drawArrow(sheet, part));
@@ -52,17 +54,21 @@ Wolfaren.picture = (function () {
     // Where a byte stands, or null where its row isn't drawn.
     function spot(sheet, at) {
         const row = sheet.rowOfLine.get(Math.floor(at / LINE));
-        return row === undefined ? null : { row, x: LEFT + at % LINE * CELL, y: TOP + row * ROW + GAP };
+        return row === undefined ? null : { row, x: LEFT + at % LINE * CELL, y: topOf(sheet, row) };
+    }
+    // Below the row of a fault there is room for its text.
+    function topOf(sheet, row) {
+        return TOP + row * ROW + GAP + (row > sheet.faultRow ? sheet.extra : 0);
     }
     function drawOffsets(sheet) {
         sheet.rows.forEach((it, row) => {
-            const y = TOP + row * ROW + GAP + HIGH / 2;
+            const y = topOf(sheet, row) + HIGH / 2;
             if (it.skipped === 0) {
                 sheet.svg.append(make("text", { x: LEFT - 10, y, class: "offset" }, (it.line * LINE).toString(16).padStart(4, "0")));
                 return;
             }
             const from = it.line * LINE, to = (it.line + it.skipped) * LINE;
-            sheet.svg.append(make("text", { x: LEFT + LINE * CELL / 2, y, class: "skipped" }, `${Wolfaren.names.bytes(to - from)} more, from ${from.toString(16)} on`));
+            sheet.svg.append(make("text", { x: LEFT + LINE * CELL / 2, y, class: "skipped" }, `${Wolfaren.names.bytes(to - from)} more, from 0x${from.toString(16)} on`));
         });
     }
     function drawPart(sheet, part, index) {
@@ -72,8 +78,13 @@ Wolfaren.picture = (function () {
             if (sheet.rowOfLine.has(line)) drawRun(sheet, group, Math.max(part.offset, line * LINE), Math.min(stop, (line + 1) * LINE), part);
         }
         const at = spot(sheet, part.offset);
-        if (at && group.childElementCount > 0) group.append(make("text", { x: at.x + (isTarget(sheet, part) ? CELL / 2 : 2), y: at.y - 6, class: "name" }, labelOf(sheet, part, at)));
+        if (at) nameGroup(sheet, group, part, at);
         if (group.childElementCount > 0) sheet.svg.append(group);
+    }
+    function nameGroup(sheet, group, part, at) {
+        const x = at.x + (isTarget(sheet, part) ? CELL / 2 : 2);
+        group.append(make("text", { x, y: at.y - 6, class: "name" }, labelOf(sheet, part, x)));
+        if (sheet.withPlaces && part.isStructStart) group.append(make("path", { d: `M${at.x} ${at.y - 16}v${HIGH + 22}`, class: "struct" }));
     }
     function drawRun(sheet, group, from, to, part) {
         const at = spot(sheet, from);
@@ -84,18 +95,21 @@ Wolfaren.picture = (function () {
             group.append(make("text", { x: LEFT + i % LINE * CELL + CELL / 2, y: at.y + HIGH / 2, class: isNext ? "byte next" : "byte" }, text));
         }
     }
-    function labelOf(sheet, part, at) {
-        const room = Math.floor((LEFT + LINE * CELL + RIGHT - at.x - 30) / 6.6);
-        let text = part.number !== undefined ? `${part.name} ${part.number}` : part.name;
-        if (sheet.withPlaces && part.place !== undefined) text += ` · ${part.isStructStart && part.struct > 1 ? "begins " : ""}struct ${part.struct}, ${Wolfaren.names.places[part.place]}`;
-        const few = sheet.withPlaces || part.len < 8 ? Math.max(room, 4) : Math.min(room, Math.max(Math.floor(part.len * 5), 5));
+    // The name of a part, as far as there is room before the next one in its row.
+    function labelOf(sheet, part, x) {
+        const lineEnd = (Math.floor(part.offset / LINE) + 1) * LINE, stop = part.offset + part.len;
+        const isLast = stop >= lineEnd || stop >= sheet.model.bytes.length;
+        const few = Math.max(1, Math.floor(((isLast ? LEFT + LINE * CELL + RIGHT : LEFT + stop % LINE * CELL) - x) / 7));
+        const isPlaced = sheet.withPlaces && part.place !== undefined;
+        let text = isPlaced ? `${part.isStructStart ? `struct ${part.struct} ▸ ` : ""}${Wolfaren.names.places[part.place]}` : part.name;
+        if (part.number !== undefined) text += ` ${part.number}`;
         return text.length > few ? `${text.slice(0, few - 1)}…` : text;
     }
     function nextAt(part) {
         return part.next === undefined ? -1 : part.offset + (part.nextAt || 0);
     }
     function isTarget(sheet, part) {
-        return sheet.model.parts.some((it) => it.next !== undefined && it.offset + it.len === part.offset);
+        return sheet.targets.has(part.offset);
     }
     // From the byte that holds a next number down into the gap below its row, and to what begins behind the header.
     function drawArrow(sheet, part) {
@@ -120,9 +134,8 @@ Wolfaren.picture = (function () {
         const group = make("g", { class: "fault", role: "img", "aria-label": `Fault at ${sheet.model.fault.offset}: ${sheet.model.fault.text}` });
         group.append(make("rect", { x: at.x + 1, y: at.y + 1, width: CELL - 2, height: HIGH - 2, class: "mark" }));
         if (sheet.model.fault.offset >= sheet.model.bytes.length) group.append(make("text", { x: at.x + CELL / 2, y: at.y + HIGH / 2, class: "byte" }, "×"));
-        linesOf(sheet.model.fault.text, 88).forEach((it, i) => group.append(make("text", { x: LEFT, y: at.y + HIGH + 22 + i * 14, class: "why" }, it)));
+        sheet.why.forEach((it, i) => group.append(make("text", { x: LEFT, y: at.y + HIGH + 22 + i * 14, class: "why" }, it)));
         sheet.svg.append(group);
-        sheet.svg.setAttribute("viewBox", sheet.svg.getAttribute("viewBox").replace(/\d+$/, (it) => Math.max(Number(it), at.y + HIGH + 50)));
     }
     function linesOf(text, most) {
         const lines = [""];

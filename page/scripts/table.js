@@ -53,7 +53,7 @@ Wolfaren.table = (function () {
         return `; then ${kind}${Wolfaren.names.ofNumber(model.next)} (${model.next}) with ${Wolfaren.names.bytes(model.restLen)}`;
     }
     function faultEnd(model) {
-        return model.fault ? `. At byte ${model.fault.offset}: ${model.fault.text}.` : ".";
+        return model.fault ? `. At byte ${model.fault.offset}: ${model.fault.text.replace(/\.$/, "")}.` : ".";
     }
     return { show, sentence };
 })();

@@ -15,13 +15,19 @@
         return { rows: rows(), hex: hex(), unread: at("unread").hidden ? "" : at("unread").textContent, summary: at("summary").textContent,
             parts: at("picture").querySelectorAll("[data-part]").length, arrows: at("picture").querySelectorAll(".arrow").length };
     }
+    // The browser's clock runs ahead of files that are read, so what is waited for is counted in turns.
+    async function until(isThere) {
+        for (let turn = 0; turn < 20000 && !isThere(); turn++) await new Promise((done) => setTimeout(done, 5));
+    }
     async function ask(it) {
         if (it.drop !== undefined) return drop(it);
         if (it.hash !== undefined) {
+            at("table").replaceChildren();
             location.hash = it.hash;
-            await new Promise((done) => setTimeout(done, 20));
+            await until(() => at("table").tBodies.length > 0);
             return answer();
         }
+        if (it.use !== undefined) return { save: save(), keys: keys() };
         at("kind").value = it.kind;
         at("first").value = it.first || 0;
         at("places").checked = it.places === true;
@@ -32,8 +38,10 @@
     async function drop(it) {
         const transfer = new DataTransfer();
         transfer.items.add(new File([Uint8Array.from(atob(it.drop), (letter) => letter.charCodeAt(0))], "some.pcap"));
+        at("packet-list").replaceChildren();
+        at("unread").hidden = true;
         dispatchEvent(new DragEvent("drop", { dataTransfer: transfer, cancelable: true }));
-        await new Promise((done) => setTimeout(done, 50));
+        await until(() => at("packet-list").length > 0 || !at("unread").hidden);
         const packets = Array.from(at("packet-list").options, (option) => option.textContent), found = [];
         for (let i = 0; i < packets.length; i++) {
             at("packet-list").value = i;
@@ -42,16 +50,30 @@
         }
         return { packets, found, unread: at("unread").hidden ? "" : at("unread").textContent };
     }
+    // What is saved stands alone: it is XML, and each shape has its colours itself.
+    function save() {
+        const saved = new DOMParser().parseFromString(Wolfaren.page.svgText(), "image/svg+xml");
+        const runs = Array.from(saved.querySelectorAll("rect.run"), (it) => it.getAttribute("fill"));
+        return { root: saved.documentElement.nodeName, runs: runs.length, coloured: runs.filter((it) => it.startsWith("rgb")).length, colours: new Set(runs).size };
+    }
+    function keys() {
+        const group = at("picture").querySelector("[data-part]");
+        group.focus();
+        const before = at("fields").querySelector("h2").textContent;
+        group.dispatchEvent(new KeyboardEvent("keydown", { key: "ArrowRight", bubbles: true }));
+        return [before, document.activeElement.dataset.part, at("fields").querySelector("h2").textContent];
+    }
     async function violate() {
         const image = new Image();
         image.src = "http://127.0.0.1:9/image";
         await fetch("http://127.0.0.1:9/fetch").catch(() => null);
-        await new Promise((done) => setTimeout(done, 50));
+        await until(() => violations.length >= 2);
         return violations;
     }
     const answers = [];
     try {
         await Wolfaren.page.ready;
+        if (Wolfaren.asked === undefined) return;
         for (const it of Wolfaren.asked) answers.push(await ask(it));
         answers.push(await violate());
     } catch (error) {

@@ -3,6 +3,7 @@
 Wolfaren.cut = (function () {
     const VLANS = [0x8100, 0x88a8], TYPES = [0x0800, 0x86dd];
     const TOO_SHORT = 1, IP_VERSION = 4, HEADER_LENGTH = 5;
+    const PLACES = { 0: 0, 60: 1, 43: 2, 44: 3, 51: 4 };
 
     // The parts of what was handed in, where `kind` is packet, ethernet, chain6 or chain4.
     function cut(kind, first, bytes) {
@@ -92,24 +93,15 @@ Wolfaren.cut = (function () {
         const len = bytes[4] * 256 + bytes[5];
         return len === 0 ? bytes.length : 40 + len;
     }
-    // For each header the struct of six places that holds it and its place there: a struct ends before a header whose
-    // place in it is filled.
+    // For each header the struct of six places that the library gives it, and its place there.
     function placesOf(cuts) {
-        let struct = 1, filled = new Set();
-        return cuts.map((it) => {
-            let place = placeOf(it.number, filled);
-            if (filled.has(place)) {
-                struct += 1;
-                filled = new Set();
-                place = placeOf(it.number, filled);
-            }
-            filled.add(place);
-            return { struct, place };
+        let isBehindRouting = false;
+        return cuts.map((it, i) => {
+            if (i > 0 && cuts[i - 1].struct !== it.struct) isBehindRouting = false;
+            const place = it.number === 60 && isBehindRouting ? 5 : PLACES[it.number];
+            isBehindRouting = isBehindRouting || it.number === 43;
+            return { struct: it.struct, place };
         });
-    }
-    function placeOf(number, filled) {
-        if (number === 60) return filled.has(2) ? 5 : 1;
-        return { 0: 0, 43: 2, 44: 3, 51: 4 }[number];
     }
     return { cut, placesOf };
 })();

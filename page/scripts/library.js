@@ -46,7 +46,16 @@ Wolfaren.library = (function () {
             const cut = at + i * HEADER;
             cuts.push({ offset: size(view, cut), len: size(view, cut + 8), number: view.getUint8(cut + 16), next: view.getUint8(cut + 17) });
         }
+        markStructs(cuts, at);
         return cuts;
+    }
+    // Counts the structs of six places that take the headers, from 1 on. Each takes one header at least.
+    function markStructs(cuts, at) {
+        for (let from = 0, struct = 1; from < cuts.length; struct++) {
+            const len = Number(calls.wolfaren_run_len(BigInt(at + from * HEADER), BigInt(cuts.length - from)));
+            cuts.slice(from, from + len).forEach((it) => (it.struct = struct));
+            from += len;
+        }
     }
     // The longest chain from the number; `version` 6 or 4.
     function cutChain(version, first, bytes) {

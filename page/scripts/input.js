@@ -63,20 +63,21 @@ Wolfaren.input = (function () {
         }
         const rest = line.slice(offset[0].length), digits = hexColumn(rest);
         pushHex(bytes, digits.text);
-        if (digits.odd) unread.push({ start: at + offset[0].length + digits.len, end: at + line.length, why: "an odd number of digits" });
+        if (digits.why) unread.push({ start: at + offset[0].length + digits.len, end: at + line.length, why: digits.why });
     }
     function hexColumn(rest) {
         const group = /([0-9a-f]+)(\s*)/iy;
         let text = "", len = 0;
         for (let found = group.exec(rest); found && text.length < 32; found = group.exec(rest)) {
             if (text.length + found[1].length > 32) break;
-            if (found[1].length % 2 === 1) return { text, len, odd: true };
+            if (found[1].length % 2 === 1) return { text, len, why: "an odd number of digits" };
             text += found[1];
             len += found[0].length;
+            if (found[2] === "" && len < rest.length && text.length < 32) return { text, len, why: "no hexadecimal digit" };
             const isMiddle = text.length === 16 && found[2].length === 2;
             if (found[2].length > 1 && !isMiddle) break;
         }
-        return { text, len, odd: false };
+        return { text, len, why: "" };
     }
     return { read };
 })();

@@ -37,8 +37,23 @@ Wolfaren.page = (function () {
     function linkTo(kind, first, bytes) {
         return `#${kind}${kind.startsWith("chain") ? `:${first}` : ""}${at("places").checked ? ":places" : ""}:${hexOf(bytes)}`;
     }
+    // Marks what isn't read where it stands: the same text lies behind the field's, and only its marks are seen.
+    function markUnread(text, unread) {
+        const pieces = [];
+        let from = 0;
+        for (const it of unread) {
+            pieces.push(text.slice(from, it.start), Object.assign(document.createElement("mark"), { textContent: text.slice(it.start, it.end) }));
+            from = it.end;
+        }
+        at("marks").replaceChildren(...pieces, ...(pieces.length > 0 ? [text.slice(from), "\n"] : []));
+        scrollMarks();
+    }
+    function scrollMarks() {
+        at("marks").scrollTop = at("text").scrollTop;
+    }
     function showUnread(unread) {
         const text = at("text").value;
+        markUnread(text, unread);
         at("unread").hidden = unread.length === 0;
         at("unread").replaceChildren();
         if (unread.length === 0) return;
@@ -121,6 +136,7 @@ Wolfaren.page = (function () {
     function listen() {
         at("form").addEventListener("input", (event) => event.target.id !== "file" && show());
         at("form").addEventListener("submit", (event) => event.preventDefault());
+        at("text").addEventListener("scroll", scrollMarks);
         at("file").addEventListener("change", async (event) => event.target.files[0] && take(await event.target.files[0].arrayBuffer()));
         at("packet-list").addEventListener("change", (event) => pick(Number(event.target.value)));
         at("picture").addEventListener("pointerover", onPoint);

@@ -13,6 +13,7 @@
     }
     function answer() {
         return { rows: rows(), hex: hex(), unread: at("unread").hidden ? "" : at("unread").textContent, summary: at("summary").textContent,
+            marks: Array.from(at("marks").querySelectorAll("mark"), (it) => it.textContent), marked: at("marks").textContent,
             parts: at("picture").querySelectorAll("[data-part]").length, arrows: at("picture").querySelectorAll(".arrow").length };
     }
     // The browser's clock runs ahead of files that are read, so what is waited for is counted in turns.

@@ -34,7 +34,14 @@
         at("places").checked = it.places === true;
         at("text").value = it.text;
         at("form").dispatchEvent(new Event("input"));
-        return answer();
+        return it.fields ? fields() : answer();
+    }
+    // The fields of each part, as they are told where it has the focus.
+    function fields() {
+        return Array.from(at("picture").querySelectorAll("[data-part]"), (group) => {
+            group.focus();
+            return at("fields").querySelector("svg").getAttribute("aria-label");
+        });
     }
     async function drop(it) {
         const transfer = new DataTransfer();

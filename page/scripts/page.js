@@ -4,6 +4,7 @@ Wolfaren.page = (function () {
     const KINDS = ["packet", "ethernet", "chain6", "chain4"];
     const EXAMPLE = "6000000000202b40 20010db8000000000000000000000001 20010db8000000000000000000000002\n3c00000000000000 2c00010400000000 1100000100000007 0035303900080000";
     const STYLES = ["fill", "stroke", "stroke-width", "stroke-dasharray", "font-family", "font-size", "font-weight", "text-anchor", "dominant-baseline", "text-decoration"];
+    const MOST_LISTED = 10000;
     const at = (id) => document.getElementById(id);
     let model = null, drawn = null, packets = [];
 
@@ -109,9 +110,10 @@ Wolfaren.page = (function () {
         const found = Wolfaren.capture.read(buffer);
         packets = found.packets || [];
         at("packets").hidden = packets.length === 0;
-        at("packet-list").replaceChildren(...packets.slice(0, 10000).map((it, i) => new Option(`${i + 1}   ${it.seconds.toFixed(6)} s   ${it.bytes.length} of ${it.wire} bytes`, i)));
+        at("packet-list").replaceChildren(...packets.slice(0, MOST_LISTED).map((it, i) => new Option(`${i + 1}   ${it.seconds.toFixed(6)} s   ${it.bytes.length} of ${it.wire} bytes`, i)));
         if (packets.length > 0) pick(0);
-        if (found.error) tell(found.error);
+        const left = packets.length > MOST_LISTED ? [`The list has the first ${MOST_LISTED} of ${packets.length} packets.`] : [];
+        if (found.error || left.length > 0) tell([...left, found.error || ""].join(" "));
     }
     function tell(text) {
         at("unread").hidden = false;

@@ -11,3 +11,4 @@ pub mod Ipv6SliceError
 pub mod Ipv4Slice
 pub mod Ipv6Slice
 pub mod IpSlice
+pub mod PacketEqual

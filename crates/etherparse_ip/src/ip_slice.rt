@@ -13,7 +13,7 @@ use ip_base::{IpNumber, IpPayloadSlice, Ipv4HeaderSlice, Ipv6Header, Ipv6HeaderS
 use std::net::IpAddr;
 
 /// A packet of either version.
-#[derive(Clone, Debug, PartialEq, Eq, Drop)]
+#[derive(Clone, Debug, Drop)]
 pub enum IpSlice<'a> {
     /// An IPv4 packet.
     Ipv4(Ipv4Slice<'a>),
@@ -187,6 +187,34 @@ impl<'a> IpSlice<'a> {
             IpSlice::Ipv6(packet) => packet.payload_ip_number(),
         }
     }
+}
+
+impl PartialEq for IpSlice<'_> {
+    ghost use Rattle.std.specs.Prelude.{◌↔◌, IsTrue};
+    ghost use Rattle.std.specs.Cmp.{partial_equiv_from_equiv};
+    ghost use Rattle.etherparse_ip.specs.PacketEqual.{packet_equal, packet_equivalence};
+    ghost use Rattle.etherparse_ip.specs.IpSlice.{AreSame};
+
+    ghost eq = { packet_equal };
+
+    ghost laws = { partial_equiv_from_equiv packet_equivalence };
+
+    fn eq(&self, other: &Self) -> bool
+        ensures answer { result ≡ packet_equal self.now other.now }
+        ensures same { IsTrue result ↔ AreSame self.now other.now }
+    {
+        match (self, other) {
+            (IpSlice::Ipv4(a), IpSlice::Ipv4(b)) => a == b,
+            (IpSlice::Ipv6(a), IpSlice::Ipv6(b)) => a == b,
+            _ => false,
+        }
+    }
+}
+
+impl Eq for IpSlice<'_> {
+    ghost use Rattle.etherparse_ip.specs.PacketEqual.{packet_equivalence};
+
+    ghost laws = { packet_equivalence };
 }
 
 impl<'a> From<Ipv4Slice<'a>> for IpSlice<'a> {

@@ -16,7 +16,7 @@ use ip_ext_ipv4::Ipv4ExtensionsSlice;
 
 /// An IPv4 packet (RFC 791): its base header, its extension headers and its payload, as parts of the caller's
 /// bytes. Two are equal where all their parts are.
-#[derive(Clone, Debug, PartialEq, Eq, Drop)]
+#[derive(Clone, Debug, Drop)]
 pub struct Ipv4Slice<'a> {
     header: Ipv4HeaderSlice<'a>,
     exts: Ipv4ExtensionsSlice<'a>,
@@ -132,6 +132,30 @@ impl<'a> Ipv4Slice<'a> {
     {
         self.payload.fragmented
     }
+}
+
+impl PartialEq for Ipv4Slice<'_> {
+    ghost use Rattle.std.specs.Prelude.{◌↔◌, IsTrue};
+    ghost use Rattle.std.specs.Cmp.{partial_equiv_from_equiv};
+    ghost use Rattle.etherparse_ip.specs.PacketEqual.{ipv4_packet_equal, ipv4_packet_equivalence};
+    ghost use Rattle.etherparse_ip.specs.Ipv4Slice.{ipv4_parts};
+
+    ghost eq = { ipv4_packet_equal };
+
+    ghost laws = { partial_equiv_from_equiv ipv4_packet_equivalence };
+
+    fn eq(&self, other: &Self) -> bool
+        ensures answer { result ≡ ipv4_packet_equal self.now other.now }
+        ensures same { IsTrue result ↔ (ipv4_parts self.now ≡ ipv4_parts other.now) }
+    {
+        self.header == other.header && self.exts == other.exts && self.payload == other.payload
+    }
+}
+
+impl Eq for Ipv4Slice<'_> {
+    ghost use Rattle.etherparse_ip.specs.PacketEqual.{ipv4_packet_equivalence};
+
+    ghost laws = { ipv4_packet_equivalence };
 }
 
 /// The error of the extension headers, counted from the packet's start.

@@ -18,7 +18,7 @@ use ip_ext_slices::Ipv6ExtensionsSlice;
 
 /// An IPv6 packet (RFC 8200): its base header, its extension headers and its payload, as parts of the caller's
 /// bytes. Two are equal where all their parts are.
-#[derive(Clone, Debug, PartialEq, Eq, Drop)]
+#[derive(Clone, Debug, Drop)]
 pub struct Ipv6Slice<'a> {
     header: Ipv6HeaderSlice<'a>,
     exts: Ipv6ExtensionsSlice<'a>,
@@ -172,6 +172,30 @@ impl<'a> Ipv6Slice<'a> {
     {
         self.payload.fragmented
     }
+}
+
+impl PartialEq for Ipv6Slice<'_> {
+    ghost use Rattle.std.specs.Prelude.{◌↔◌, IsTrue};
+    ghost use Rattle.std.specs.Cmp.{partial_equiv_from_equiv};
+    ghost use Rattle.etherparse_ip.specs.PacketEqual.{ipv6_packet_equal, ipv6_packet_equivalence};
+    ghost use Rattle.etherparse_ip.specs.Ipv6Slice.{AreSameIpv6};
+
+    ghost eq = { ipv6_packet_equal };
+
+    ghost laws = { partial_equiv_from_equiv ipv6_packet_equivalence };
+
+    fn eq(&self, other: &Self) -> bool
+        ensures answer { result ≡ ipv6_packet_equal self.now other.now }
+        ensures same { IsTrue result ↔ AreSameIpv6 self.now other.now }
+    {
+        self.header == other.header && self.exts == other.exts && self.payload == other.payload
+    }
+}
+
+impl Eq for Ipv6Slice<'_> {
+    ghost use Rattle.etherparse_ip.specs.PacketEqual.{ipv6_packet_equivalence};
+
+    ghost laws = { ipv6_packet_equivalence };
 }
 
 /// The error of the extension headers, counted from the packet's start.

@@ -2,10 +2,9 @@
 ghost use Rattle.std.specs.Prelude.{◌≡◌, ◌↔◌, IsTrue, IsFalse, IfOk};
 ghost use Rattle.ip_base.specs.Ipv4HeaderSlice as ipv4_header;
 ghost use Rattle.ip_base.specs.Ipv6HeaderSlice as ipv6_header;
-ghost use Rattle.ip_ext_slices.specs.Ipv6ExtensionsSlice.{bytes};
 ghost use Rattle.etherparse_ip.specs.Ipv4Slice.{ipv4_parts};
-ghost use Rattle.etherparse_ip.specs.Ipv6Slice.{ipv6_parts};
-ghost use Rattle.etherparse_ip.specs.IpSlice.{ip_parts};
+ghost use Rattle.etherparse_ip.specs.Ipv6Slice.{ipv6_parts, AreSameIpv6};
+ghost use Rattle.etherparse_ip.specs.IpSlice.{ip_parts, AreSame};
 
 use etherparse_ip::err::{LenError, ip, ip_auth, ipv4, ipv6, ipv6_exts};
 use etherparse_ip::{
@@ -272,19 +271,7 @@ pub fn ipv4_packets<'a>(
     a: &Ipv4Slice<'a>,
     b: &Ipv4Slice<'_>,
 ) -> Result<(bool, Ipv4Slice<'a>), AllocError>
-    ensures base { IfOk result (λ r.
-        IsTrue r.0 → (ipv4_parts a.now).base ≡ (ipv4_parts b.now).base) }
-    ensures headers { IfOk result (λ r.
-        IsTrue r.0 → (ipv4_parts a.now).headers ≡ (ipv4_parts b.now).headers) }
-    ensures payload { IfOk result (λ r.
-        IsTrue r.0 → (ipv4_parts a.now).payload ≡ (ipv4_parts b.now).payload) }
-    ensures number { IfOk result (λ r.
-        IsTrue r.0 → (ipv4_parts a.now).number ≡ (ipv4_parts b.now).number) }
-    ensures source { IfOk result (λ r.
-        IsTrue r.0 → (ipv4_parts a.now).source ≡ (ipv4_parts b.now).source) }
-    ensures fragmented { IfOk result (λ r.
-        IsTrue r.0 → (ipv4_parts a.now).fragmented ≡ (ipv4_parts b.now).fragmented) }
-    ensures same { IfOk result (λ r. a.now ≡ b.now → IsTrue r.0) }
+    ensures same { IfOk result (λ r. IsTrue r.0 ↔ (ipv4_parts a.now ≡ ipv4_parts b.now)) }
     ensures copy { IfOk result (λ r. ipv4_parts r.1 ≡ ipv4_parts a.now) }
 {
     Ok((a == b, a.clone()?))
@@ -295,29 +282,18 @@ pub fn ipv6_packets<'a>(
     a: &Ipv6Slice<'a>,
     b: &Ipv6Slice<'_>,
 ) -> Result<(bool, Ipv6Slice<'a>), AllocError>
-    ensures base { IfOk result (λ r.
-        IsTrue r.0 → (ipv6_parts a.now).base ≡ (ipv6_parts b.now).base) }
-    ensures headers { IfOk result (λ r.
-        IsTrue r.0 → (ipv6_parts a.now).headers ≡ (ipv6_parts b.now).headers) }
-    ensures payload { IfOk result (λ r.
-        IsTrue r.0 → (ipv6_parts a.now).payload ≡ (ipv6_parts b.now).payload) }
-    ensures number { IfOk result (λ r.
-        IsTrue r.0 → (ipv6_parts a.now).number ≡ (ipv6_parts b.now).number) }
-    ensures fragmented { IfOk result (λ r.
-        IsTrue r.0 → (ipv6_parts a.now).fragmented ≡ (ipv6_parts b.now).fragmented) }
-    ensures source { IfOk result (λ r.
-        IsTrue r.0 → (ipv6_parts a.now).source ≡ (ipv6_parts b.now).source) }
-    ensures same { IfOk result (λ r. a.now ≡ b.now → IsTrue r.0) }
+    ensures same { IfOk result (λ r. IsTrue r.0 ↔ AreSameIpv6 a.now b.now) }
     ensures copy { IfOk result (λ r. ipv6_parts r.1 ≡ ipv6_parts a.now) }
 {
     Ok((a == b, a.clone()?))
 }
 
-/// A copy of a packet of either version.
-pub fn packet_copy<'a>(packet: &IpSlice<'a>) -> Result<IpSlice<'a>, AllocError>
-    ensures { IfOk result (λ copy. ip_parts copy ≡ ip_parts packet.now) }
+/// The same of packets of either version.
+pub fn ip_packets<'a>(a: &IpSlice<'a>, b: &IpSlice<'_>) -> Result<(bool, IpSlice<'a>), AllocError>
+    ensures same { IfOk result (λ r. IsTrue r.0 ↔ AreSame a.now b.now) }
+    ensures copy { IfOk result (λ r. ip_parts r.1 ≡ ip_parts a.now) }
 {
-    packet.clone()
+    Ok((a == b, a.clone()?))
 }
 
 /// The bytes of base headers live as long as the caller's bytes, and not only as long as the header.

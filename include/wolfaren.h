@@ -162,15 +162,14 @@ void wolfaren_fault_at(const struct wolfaren_cursor *cursor, const uint8_t *byte
 
 /* A packet: its base header, its extension headers and its payload, one behind the other. */
 struct wolfaren_packet {
-    size_t base_len;             /* how many bytes the base header has: the extension headers begin there */
-    size_t headers;              /* how many extension headers there are */
-    size_t payload_offset;       /* where the payload begins, in bytes from the start of the packet */
-    size_t payload_len;          /* how many bytes it has: what is behind it doesn't belong to the packet */
-    struct wolfaren_fault fault; /* what is wrong, if anything; then all else is 0 */
-    uint16_t version;            /* 4 or 6 */
-    uint16_t payload_number;     /* the number of the payload: 6 for TCP, 17 for UDP, .. */
-    uint16_t fragmented;         /* 1 where the payload is a fragment and not the whole, else 0 */
-    uint16_t len_source;         /* what says where the payload ends */
+    size_t base_len;         /* how many bytes the base header has: the extension headers begin there */
+    size_t headers;          /* how many extension headers there are */
+    size_t payload_offset;   /* where the payload begins, in bytes from the start of the packet */
+    size_t payload_len;      /* how many bytes it has: what is behind it doesn't belong to the packet */
+    uint16_t version;        /* 4 or 6 */
+    uint16_t payload_number; /* the number of the payload: 6 for TCP, 17 for UDP, .. */
+    uint16_t fragmented;     /* 1 where the payload is a fragment and not the whole, else 0 */
+    uint16_t len_source;     /* what says where the payload ends */
 };
 
 /*
@@ -178,19 +177,46 @@ struct wolfaren_packet {
  * IPv6 packet with payload length 0 has all the bytes, as a jumbogram has (RFC 2675). The packet has to be whole, and so
  * have its extension headers.
  *
- * Writes all of `packet`, and to `headers` as wolfaren_cut_chain does, but with offsets from the start of the packet.
- * Where something is wrong, nothing is written to `headers`; of a length, `packet->fault.offset` says where.
+ * Where nothing is wrong, answers true and writes all of `packet`, and to `headers` as wolfaren_cut_chain does, but with
+ * offsets from the start of the packet; `fault` stays as it was. Else answers false and writes what is wrong to `fault`;
+ * `packet` and `headers` stay as they were. Of a length, `fault->offset` says where.
  */
-void wolfaren_cut_packet(const uint8_t *bytes, size_t len, struct wolfaren_header *headers, size_t room,
-                         struct wolfaren_packet *packet);
+bool wolfaren_cut_packet(const uint8_t *bytes, size_t len, struct wolfaren_header *headers, size_t room,
+                         struct wolfaren_packet *packet, struct wolfaren_fault *fault);
 
 /*
  * The same of an IPv6 packet that may be cut short, as in a capture: where there are fewer bytes than its payload length
  * states, all of them belong to it, and `packet->len_source` is WOLFAREN_SLICE. Its extension headers still have to be
  * whole, and so has an IPv4 packet.
  */
-void wolfaren_cut_packet_lax(const uint8_t *bytes, size_t len, struct wolfaren_header *headers, size_t room,
-                             struct wolfaren_packet *packet);
+bool wolfaren_cut_packet_lax(const uint8_t *bytes, size_t len, struct wolfaren_header *headers, size_t room,
+                             struct wolfaren_packet *packet, struct wolfaren_fault *fault);
+
+/* The payload of a packet, and where the headers before it begin. Fields mean what they mean in wolfaren_packet. */
+struct wolfaren_payload {
+    size_t base_len;     /* how many bytes the base header has: the extension headers begin there, and end at `offset` */
+    size_t offset;       /* where the payload begins, in bytes from the start of the packet */
+    size_t len;          /* how many bytes it has */
+    uint16_t version;    /* 4 or 6 */
+    uint16_t number;     /* the number of the payload */
+    uint16_t fragmented; /* 1 where the payload is a fragment and not the whole, else 0 */
+    uint16_t len_source; /* what says where the payload ends */
+};
+
+/*
+ * Finds the payload of the packet that begins the `len` bytes. It takes and refuses what wolfaren_cut_packet does and
+ * looks at each extension header, but neither counts them nor says where they lie, and so takes less time: it is the
+ * call for a filter.
+ *
+ * Where nothing is wrong, answers true and writes all of `payload`; `fault` stays as it was. Else answers false and
+ * writes what is wrong to `fault`; `payload` stays as it was.
+ */
+bool wolfaren_find_payload(const uint8_t *bytes, size_t len, struct wolfaren_payload *payload,
+                           struct wolfaren_fault *fault);
+
+/* The same of a packet that may be cut short, as wolfaren_cut_packet_lax takes it. */
+bool wolfaren_find_payload_lax(const uint8_t *bytes, size_t len, struct wolfaren_payload *payload,
+                               struct wolfaren_fault *fault);
 
 /* The fields of a fragment header (RFC 8200, section 4.5). */
 struct wolfaren_fragment {

@@ -50,7 +50,7 @@ Wolfaren.cut = (function () {
         const bytes = model.bytes.subarray(base), packet = Wolfaren.library.cutPacket(bytes);
         model.packet = packet;
         model.base = base;
-        if (packet.fault.kind !== 0) return cutRefused(model, base, bytes, packet.fault);
+        if (packet.fault !== null) return cutRefused(model, base, bytes, packet.fault);
         pushBase(model, base, packet.baseLen, packet.version);
         pushHeaders(model, packet.cuts, base);
         const at = base + packet.payloadOffset, stop = at + packet.payloadLen;

@@ -1,7 +1,9 @@
 // The library's calls. Its structs are laid out as include/wolfaren.h says, with 64-bit sizes.
 "use strict";
 Wolfaren.library = (function () {
-    const HEADER = 24, PACKET = 72, TEXT = 256;
+    const HEADER = 24, PACKET = 40, FAULT = 32, TEXT = 256;
+    // A packet with a fault behind it; a chain has 56 bytes.
+    const ANSWER = PACKET + FAULT;
     // A module with one memory of 64-bit addresses.
     const WIDE = new Uint8Array([0, 97, 115, 109, 1, 0, 0, 0, 5, 3, 1, 4, 1]);
     let calls = null, memory = null, room = 0, start = 0, words = 0;
@@ -19,14 +21,14 @@ Wolfaren.library = (function () {
     // Hands in the bytes behind what the module uses itself, with room for an answer and for the cuts.
     function place(bytes) {
         const most = Math.floor(bytes.length / 8) + 1;
-        const needed = bytes.length + 8 + PACKET + TEXT + most * HEADER;
+        const needed = bytes.length + 8 + ANSWER + TEXT + most * HEADER;
         while (room < needed) {
             memory.grow(16n);
             room = memory.buffer.byteLength - start;
         }
         new Uint8Array(memory.buffer, start, bytes.length).set(bytes);
         const answer = start + Math.ceil(bytes.length / 8) * 8;
-        words = answer + PACKET;
+        words = answer + ANSWER;
         return { answer, cuts: words + TEXT, most };
     }
     function size(view, at) {
@@ -66,14 +68,15 @@ Wolfaren.library = (function () {
         return { cuts: cutsAt(view, at.cuts, size(view, at.answer)), len: size(view, at.answer + 8), fault: faultAt(view, at.answer + 16),
             next: view.getUint32(at.answer + 48, true), fragmented: view.getUint32(at.answer + 52, true) === 1 };
     }
-    // The packet, which has to be whole.
+    // The packet, which has to be whole; or what is wrong.
     function cutPacket(bytes) {
-        const at = place(bytes);
-        calls.wolfaren_cut_packet(BigInt(start), BigInt(bytes.length), BigInt(at.cuts), BigInt(at.most), BigInt(at.answer));
-        const view = new DataView(memory.buffer), answer = at.answer;
+        const at = place(bytes), answer = at.answer, fault = answer + PACKET;
+        const found = calls.wolfaren_cut_packet(BigInt(start), BigInt(bytes.length), BigInt(at.cuts), BigInt(at.most), BigInt(answer), BigInt(fault));
+        const view = new DataView(memory.buffer);
+        if (!found) return { fault: faultAt(view, fault) };
         return { baseLen: size(view, answer), cuts: cutsAt(view, at.cuts, size(view, answer + 8)), payloadOffset: size(view, answer + 16),
-            payloadLen: size(view, answer + 24), fault: faultAt(view, answer + 32), version: view.getUint16(answer + 64, true),
-            number: view.getUint16(answer + 66, true), fragmented: view.getUint16(answer + 68, true) === 1, lenSource: view.getUint16(answer + 70, true) };
+            payloadLen: size(view, answer + 24), fault: null, version: view.getUint16(answer + 32, true),
+            number: view.getUint16(answer + 34, true), fragmented: view.getUint16(answer + 36, true) === 1, lenSource: view.getUint16(answer + 38, true) };
     }
     return { isSupported, load, cutChain, cutPacket };
 })();

@@ -21,7 +21,7 @@ Wolfaren.table = (function () {
     }
     function remarkOf(part, model, withPlaces) {
         if (part.isRest) return model.fragmented ? "a fragment" : "";
-        if (part.version && model.packet.fault.kind === 0) return `its payload${model.fragmented ? " is a fragment and" : ""} ends by ${Wolfaren.names.lengthSources[model.packet.lenSource]}`;
+        if (part.version && model.packet.fault === null) return `its payload${model.fragmented ? " is a fragment and" : ""} ends by ${Wolfaren.names.lengthSources[model.packet.lenSource]}`;
         if (withPlaces && part.place !== undefined) return `struct ${part.struct}, ${Wolfaren.names.places[part.place]}`;
         return "";
     }

@@ -167,22 +167,22 @@ static void begin_cut(struct cut *cut, const uint8_t *bytes, size_t len)
 
 bool cut_packet(struct cut *cut, const uint8_t *bytes, size_t len, bool is_short)
 {
-    struct wolfaren_packet packet;
-    struct wolfaren_fault of_chain = {.kind = WOLFAREN_NO_FAULT};
+    struct wolfaren_payload payload;
+    struct wolfaren_fault of_packet = {.kind = WOLFAREN_NO_FAULT}, of_chain = of_packet;
     begin_cut(cut, bytes, len);
     if (is_short)
-        wolfaren_cut_packet_lax(bytes, len, NULL, 0, &packet);
+        wolfaren_find_payload_lax(bytes, len, &payload, &of_packet);
     else
-        wolfaren_cut_packet(bytes, len, NULL, 0, &packet);
+        wolfaren_find_payload(bytes, len, &payload, &of_packet);
     cut->base_len = base_length(bytes, len);
     if (cut->base_len == 0) {
-        put_unread(cut, &packet.fault, is_short);
+        put_unread(cut, &of_packet, is_short);
         return true;
     }
     cut->version = bytes[0] >> 4;
     cut->packet_at_end = end_within(cut);
     if (!(cut->version == 6 ? walk_ipv6(cut, &of_chain) : walk_ipv4(cut, &of_chain))) return false;
-    join_faults(cut, &packet.fault, &of_chain, is_short);
+    join_faults(cut, &of_packet, &of_chain, is_short);
     return true;
 }
 

@@ -67,10 +67,13 @@ static void nothing_at_all(void)
     wolfaren_cut_ipv4_chain(51, NULL, 0, NULL, 0, &chain);
     check(chain.fault.kind == WOLFAREN_TOO_SHORT && chain.fault.required_len == 12, "no bytes of authentication");
     struct wolfaren_packet packet;
-    wolfaren_cut_packet(NULL, 0, NULL, 0, &packet);
-    check(packet.version == 0 && packet.fault.layer == WOLFAREN_IP_HEADER, "no bytes, no packet");
-    wolfaren_cut_packet_lax(NULL, 0, NULL, 0, &packet);
-    check(packet.version == 0 && packet.fault.required_len == 1, "no bytes, no packet that is cut short");
+    struct wolfaren_payload payload;
+    struct wolfaren_fault fault = {.kind = 200};
+    check(!wolfaren_cut_packet(NULL, 0, NULL, 0, &packet, &fault), "no bytes, no packet");
+    check(fault.kind == WOLFAREN_TOO_SHORT && fault.layer == WOLFAREN_IP_HEADER, "what no bytes lack");
+    check(!wolfaren_cut_packet_lax(NULL, 0, NULL, 0, &packet, &fault), "no bytes, no packet that is cut short");
+    check(!wolfaren_find_payload(NULL, 0, &payload, &fault), "no bytes, no payload");
+    check(!wolfaren_find_payload_lax(NULL, 0, &payload, &fault) && fault.required_len == 1, "nor one cut short");
     struct wolfaren_fragment fragment;
     struct wolfaren_authentication auth;
     check(!wolfaren_fragment_fields(NULL, 0, &fragment), "no bytes, no fragment header");
@@ -155,13 +158,35 @@ static void a_packet_that_is_cut_short(void)
 {
     uint8_t bytes[48] = {0x60, 0, 0, 0, 0, 100, 60, 64};
     bytes[40] = 17;
-    struct wolfaren_packet packet;
-    struct wolfaren_header header;
-    wolfaren_cut_packet(bytes, sizeof bytes, &header, 1, &packet);
-    check(packet.fault.kind == WOLFAREN_TOO_SHORT && packet.fault.layer == WOLFAREN_IPV6_PACKET, "a strict cut");
-    wolfaren_cut_packet_lax(bytes, sizeof bytes, &header, 1, &packet);
-    check(packet.version == 6 && packet.headers == 1 && packet.len_source == WOLFAREN_SLICE, "a lax cut");
+    struct wolfaren_packet packet = {.headers = 9};
+    struct wolfaren_header header = {7, 7, 7, 7};
+    struct wolfaren_fault fault = {.kind = 200};
+    check(!wolfaren_cut_packet(bytes, sizeof bytes, &header, 1, &packet, &fault), "a strict cut");
+    check(fault.kind == WOLFAREN_TOO_SHORT && fault.layer == WOLFAREN_IPV6_PACKET, "why it is refused");
+    check(packet.headers == 9 && header.offset == 7, "what a refusal leaves");
+    fault.kind = 200;
+    check(wolfaren_cut_packet_lax(bytes, sizeof bytes, &header, 1, &packet, &fault), "a lax cut");
+    check(packet.version == 6 && packet.headers == 1 && packet.len_source == WOLFAREN_SLICE, "what it says");
     check(packet.payload_offset == 48 && packet.payload_len == 0 && header.offset == 40, "its parts");
+    check(fault.kind == 200, "what a cut leaves");
+}
+
+/* The payload of a packet with three bytes of it, of a fragment, and of one that is cut short. */
+static void payloads(void)
+{
+    uint8_t bytes[51] = {0x60, 0, 0, 0, 0, 11, 44, 64};
+    bytes[40] = 17;
+    struct wolfaren_payload payload = {.len = 9};
+    struct wolfaren_fault fault = {.kind = 200};
+    check(wolfaren_find_payload(bytes, sizeof bytes, &payload, &fault) && fault.kind == 200, "a payload");
+    check(payload.base_len == 40 && payload.offset == 48 && payload.len == 3, "where it lies");
+    check(payload.version == 6 && payload.number == 17 && payload.fragmented == 0, "what it is");
+    bytes[43] = 1;
+    check(wolfaren_find_payload(bytes, sizeof bytes, &payload, &fault) && payload.fragmented == 1, "a fragment");
+    check(!wolfaren_find_payload(bytes, 50, &payload, &fault) && payload.len == 3, "a payload that is cut short");
+    check(fault.kind == WOLFAREN_TOO_SHORT && fault.required_len == 51 && fault.len == 50, "what it lacks");
+    check(wolfaren_find_payload_lax(bytes, 50, &payload, &fault) && payload.len == 2, "what is left of it");
+    check(payload.len_source == WOLFAREN_SLICE, "what says where it ends");
 }
 
 int main(void)
@@ -174,5 +199,6 @@ int main(void)
     fields_of_single_headers();
     headers_that_are_written();
     a_packet_that_is_cut_short();
+    payloads();
     return 0;
 }

@@ -1,6 +1,7 @@
 /*
  * Answers lines `exts6 N HEX`, `exts4 N HEX` and `packet HEX` as the program ipexts does, by way of wolfaren.h. A line
- * `steps6 N HEX` is answered as exts6, by a cursor. Every line has to be right.
+ * `steps6 N HEX` is answered as exts6, by a cursor, and a line `payload HEX` as packet, by the call for a payload alone.
+ * Every line has to be right.
  */
 #include "wolfaren.h"
 
@@ -119,17 +120,39 @@ static void answer_steps(uint8_t first, const uint8_t *bytes, size_t len)
     print_end(cursor.number, len - cursor.offset, &fault, true);
 }
 
+static void print_packet(const struct wolfaren_payload *payload)
+{
+    printf("ipv%u header %zu exts %zu payload %zu\n", (unsigned)payload->version, payload->base_len,
+           payload->offset - payload->base_len, payload->len);
+    printf("next %u fragmented %s source %s\nok\n", (unsigned)payload->number, payload->fragmented ? "yes" : "no",
+           source_name(payload->len_source));
+}
+
 static void answer_packet(const uint8_t *bytes, size_t len)
 {
     struct wolfaren_packet packet;
-    wolfaren_cut_packet(bytes, len, NULL, 0, &packet);
-    if (packet.fault.kind == WOLFAREN_NO_FAULT) {
-        printf("ipv%u header %zu exts %zu payload %zu\n", (unsigned)packet.version, packet.base_len,
-               packet.payload_offset - packet.base_len, packet.payload_len);
-        printf("next %u fragmented %s source %s\n", (unsigned)packet.payload_number, packet.fragmented ? "yes" : "no",
-               source_name(packet.len_source));
+    struct wolfaren_fault fault;
+    if (!wolfaren_cut_packet(bytes, len, NULL, 0, &packet, &fault)) {
+        print_fault(&fault);
+        printf("\n");
+        return;
     }
-    print_fault(&packet.fault);
+    const struct wolfaren_payload payload = {
+        packet.base_len, packet.payload_offset, packet.payload_len, packet.version, packet.payload_number,
+        packet.fragmented, packet.len_source,
+    };
+    print_packet(&payload);
+}
+
+static void answer_payload(const uint8_t *bytes, size_t len)
+{
+    struct wolfaren_payload payload;
+    struct wolfaren_fault fault;
+    if (wolfaren_find_payload(bytes, len, &payload, &fault)) {
+        print_packet(&payload);
+        return;
+    }
+    print_fault(&fault);
     printf("\n");
 }
 
@@ -154,6 +177,8 @@ static void answer(const char *form, uint8_t number, const char *digits)
     uint8_t *bytes = bytes_of(digits, &len);
     if (strcmp(form, "packet") == 0) {
         answer_packet(len == 0 ? NULL : bytes, len);
+    } else if (strcmp(form, "payload") == 0) {
+        answer_payload(len == 0 ? NULL : bytes, len);
     } else if (strcmp(form, "steps6") == 0) {
         answer_steps(number, len == 0 ? NULL : bytes, len);
     } else {
@@ -168,7 +193,7 @@ int main(void)
     while (fgets(line, sizeof line, stdin) != NULL) {
         line[strcspn(line, "\n")] = 0;
         const char *form = strtok(line, " ");
-        const char *number = strcmp(form, "packet") == 0 ? "0" : strtok(NULL, " ");
+        const char *number = form[0] == 'p' ? "0" : strtok(NULL, " ");
         answer(form, (uint8_t)strtoul(number, NULL, 10), strtok(NULL, " "));
     }
     return 0;

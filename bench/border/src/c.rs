@@ -28,12 +28,22 @@ struct Header {
 }
 
 #[repr(C)]
+struct Payload {
+    base_len: usize,
+    offset: usize,
+    len: usize,
+    version: u16,
+    number: u16,
+    fragmented: u16,
+    len_source: u16,
+}
+
+#[repr(C)]
 struct Packet {
     base_len: usize,
     headers: usize,
     payload_offset: usize,
     payload_len: usize,
-    fault: Fault,
     version: u16,
     payload_number: u16,
     fragmented: u16,
@@ -41,13 +51,21 @@ struct Packet {
 }
 
 unsafe extern "C" {
+    fn wolfaren_find_payload(
+        bytes: *const u8,
+        len: usize,
+        payload: *mut Payload,
+        fault: *mut Fault,
+    ) -> bool;
+
     fn wolfaren_cut_packet(
         bytes: *const u8,
         len: usize,
         headers: *mut Header,
         room: usize,
         packet: *mut Packet,
-    );
+        fault: *mut Fault,
+    ) -> bool;
 
     /// The bytes that move the library.
     pub fn wolfaren_shift();
@@ -56,6 +74,7 @@ unsafe extern "C" {
 /// Room for a packet, and for the first of its headers.
 struct Cut {
     packet: MaybeUninit<Packet>,
+    fault: MaybeUninit<Fault>,
     headers: [MaybeUninit<Header>; ROOM],
 }
 
@@ -64,29 +83,31 @@ impl Cut {
     fn new() -> Cut {
         Cut {
             packet: MaybeUninit::uninit(),
+            fault: MaybeUninit::uninit(),
             headers: [const { MaybeUninit::uninit() }; ROOM],
         }
     }
 
     /// Cuts the packet that begins the bytes.
     #[inline(always)]
-    fn cut(&mut self, bytes: &[u8]) -> (&Packet, &[Header]) {
-        // SAFETY: all pointers are those of what is borrowed here, with the lengths of it. The library writes all of
-        // the packet, and as many headers as it counts and as there is room for.
+    fn cut(&mut self, bytes: &[u8]) -> Option<(&Packet, &[Header])> {
+        // SAFETY: all pointers are those of what is borrowed here, with the lengths of it. Where the library answers
+        // true, it has written all of the packet, and as many headers as it counts and as there is room for.
         unsafe {
-            wolfaren_cut_packet(
+            if !wolfaren_cut_packet(
                 bytes.as_ptr(),
                 bytes.len(),
                 self.headers.as_mut_ptr().cast(),
                 ROOM,
                 self.packet.as_mut_ptr(),
-            );
+                self.fault.as_mut_ptr(),
+            ) {
+                return None;
+            }
             let packet = self.packet.assume_init_ref();
             let written = packet.headers.min(ROOM);
-            (
-                packet,
-                slice::from_raw_parts(self.headers.as_ptr().cast(), written),
-            )
+            let headers = slice::from_raw_parts(self.headers.as_ptr().cast(), written);
+            Some((packet, headers))
         }
     }
 }
@@ -100,16 +121,22 @@ pub struct Full;
 impl Digest for Filter {
     #[inline(always)]
     fn digest(bytes: &[u8]) -> u64 {
-        let mut room = Cut::new();
-        let (packet, _) = room.cut(bytes);
-        if packet.fault.kind != 0 {
-            return NO_PACKET;
-        }
-        let flags = with(
-            u64::from(packet.fragmented),
-            u64::from(packet.payload_number),
-        );
-        with(flags, packet.payload_len as u64)
+        let (mut payload, mut fault) = (MaybeUninit::uninit(), MaybeUninit::uninit());
+        // SAFETY: all pointers are those of what is borrowed here, with the lengths of it. Where the library answers
+        // true, it has written all of the payload.
+        let payload: &Payload = unsafe {
+            if !wolfaren_find_payload(
+                bytes.as_ptr(),
+                bytes.len(),
+                payload.as_mut_ptr(),
+                fault.as_mut_ptr(),
+            ) {
+                return NO_PACKET;
+            }
+            payload.assume_init_ref()
+        };
+        let flags = with(u64::from(payload.fragmented), u64::from(payload.number));
+        with(flags, payload.len as u64)
     }
 }
 
@@ -117,11 +144,10 @@ impl Digest for Full {
     #[inline(always)]
     fn digest(bytes: &[u8]) -> u64 {
         let mut room = Cut::new();
-        let (packet, headers) = room.cut(bytes);
-        if packet.fault.kind != 0 {
-            return NO_PACKET;
+        match room.cut(bytes) {
+            Some((packet, headers)) => of_packet(packet, headers, bytes),
+            None => NO_PACKET,
         }
-        of_packet(packet, headers, bytes)
     }
 }
 

@@ -40,17 +40,15 @@ pub(crate) struct Chain {
     pub fragmented: u32,
 }
 
-/// `struct wolfaren_packet`: a packet, or what is wrong.
+/// `struct wolfaren_payload`: a packet's payload, and where the headers before it begin.
 #[repr(C)]
 #[derive(Clone, Copy, Debug)]
-pub(crate) struct Packet {
+pub(crate) struct Payload {
     pub base_len: usize,
-    pub headers: usize,
-    pub payload_offset: usize,
-    pub payload_len: usize,
-    pub fault: Fault,
+    pub offset: usize,
+    pub len: usize,
     pub version: u16,
-    pub payload_number: u16,
+    pub number: u16,
     pub fragmented: u16,
     pub len_source: u16,
 }
@@ -69,7 +67,7 @@ const _: () = {
     assert!(size_of::<Fault>() == 32);
     assert!(size_of::<Header>() == 24);
     assert!(size_of::<Chain>() == 56);
-    assert!(size_of::<Packet>() == 72);
+    assert!(size_of::<Payload>() == 32);
     assert!(size_of::<Cursor>() == 16);
 };
 
@@ -101,21 +99,19 @@ unsafe extern "C" {
 
     fn wolfaren_fault_at(cursor: *const Cursor, bytes: *const u8, len: usize, fault: *mut Fault);
 
-    fn wolfaren_cut_packet(
+    fn wolfaren_find_payload(
         bytes: *const u8,
         len: usize,
-        headers: *mut Header,
-        room: usize,
-        packet: *mut Packet,
-    );
+        payload: *mut Payload,
+        fault: *mut Fault,
+    ) -> bool;
 
-    fn wolfaren_cut_packet_lax(
+    fn wolfaren_find_payload_lax(
         bytes: *const u8,
         len: usize,
-        headers: *mut Header,
-        room: usize,
-        packet: *mut Packet,
-    );
+        payload: *mut Payload,
+        fault: *mut Fault,
+    ) -> bool;
 
     #[cfg(test)]
     fn wolfaren_fault_text(fault: *const Fault, text: *mut u8, room: usize) -> usize;
@@ -190,8 +186,8 @@ pub(crate) fn fault_at(cursor: &Cursor, bytes: &[u8]) -> Fault {
     }
 }
 
-/// A call that cuts packets.
-type CutPacket = unsafe extern "C" fn(*const u8, usize, *mut Header, usize, *mut Packet);
+/// A call that finds the payload of a packet.
+type FindPayload = unsafe extern "C" fn(*const u8, usize, *mut Payload, *mut Fault) -> bool;
 
 /// A base header with its options, of the version that it states.
 pub(crate) enum Base<'a> {
@@ -213,51 +209,50 @@ pub(crate) struct Parts<'a> {
 #[inline(always)]
 pub(crate) fn cut_packet(bytes: &[u8]) -> Result<Parts<'_>, Fault> {
     // SAFETY: it is one of the two calls.
-    unsafe { split_packet(wolfaren_cut_packet, bytes) }
+    unsafe { split_packet(wolfaren_find_payload, bytes) }
 }
 
 /// The same of an IPv6 packet that may be cut short.
 #[inline(always)]
 pub(crate) fn cut_packet_lax(bytes: &[u8]) -> Result<Parts<'_>, Fault> {
     // SAFETY: it is one of the two calls.
-    unsafe { split_packet(wolfaren_cut_packet_lax, bytes) }
+    unsafe { split_packet(wolfaren_find_payload_lax, bytes) }
 }
 
-/// The parts of a packet as a call cuts it, which has to be one of the two that the library has.
+/// The parts of a packet whose payload a call finds, which has to be one of the two that the library has.
 #[inline(always)]
-unsafe fn split_packet(cut: CutPacket, bytes: &[u8]) -> Result<Parts<'_>, Fault> {
+unsafe fn split_packet(find: FindPayload, bytes: &[u8]) -> Result<Parts<'_>, Fault> {
     let (start, len) = (bytes.as_ptr(), bytes.len());
-    let mut packet = MaybeUninit::uninit();
-    // SAFETY: the bytes are a slice, which the call only reads. The array has no elements and may be null. `packet` has
-    // room for a packet and overlaps nothing that is read, and the call writes all fields of it.
-    let packet: &Packet = unsafe {
-        cut(start, len, ptr::null_mut(), 0, packet.as_mut_ptr());
-        packet.assume_init_ref()
-    };
-    if packet.fault.kind != 0 {
-        return Err(packet.fault);
+    let (mut payload, mut fault) = (MaybeUninit::uninit(), MaybeUninit::uninit());
+    // SAFETY: the bytes are a slice, which the call only reads. `payload` and `fault` have room for a payload and for a
+    // fault, and overlap nothing that is read.
+    if !unsafe { find(start, len, payload.as_mut_ptr(), fault.as_mut_ptr()) } {
+        // SAFETY: the call has answered false, and so has written all fields of the fault.
+        return Err(unsafe { fault.assume_init() });
     }
-    let (exts_at, payload_at) = (packet.base_len, packet.payload_offset);
-    // SAFETY: where nothing is wrong, the three parts lie in this order within the bytes, each behind the one before,
-    // as the library's contract says (`IsPacketCut` of the crate ip_cuts): `base_len` is at most `payload_offset`, and
-    // that and `payload_len` together are at most the length of the bytes. The base header of IPv6 has 40 bytes.
+    // SAFETY: the call has answered true, and so has written all fields of the payload.
+    let found: &Payload = unsafe { payload.assume_init_ref() };
+    let (exts_at, payload_at) = (found.base_len, found.offset);
+    // SAFETY: the three parts lie in this order within the bytes, each behind the one before, as the library's contract
+    // says (`payload_cut` of the crate ip_cuts): `base_len` is at most `offset`, and that and `len` together are at most
+    // the length of the bytes. The base header of IPv6 has 40 bytes.
     let (base, exts, payload) = unsafe {
         (
-            match packet.version {
+            match found.version {
                 4 => Base::Ipv4(slice::from_raw_parts(start, exts_at)),
                 _ => Base::Ipv6(&*start.cast()),
             },
             slice::from_raw_parts(start.add(exts_at), payload_at - exts_at),
-            slice::from_raw_parts(start.add(payload_at), packet.payload_len),
+            slice::from_raw_parts(start.add(payload_at), found.len),
         )
     };
     Ok(Parts {
         base,
         exts,
         payload,
-        payload_number: packet.payload_number as u8,
-        fragmented: packet.fragmented != 0,
-        len_source: packet.len_source as u8,
+        payload_number: found.number as u8,
+        fragmented: found.fragmented != 0,
+        len_source: found.len_source as u8,
     })
 }
 
@@ -273,7 +268,7 @@ pub(crate) fn fault_text(fault: &Fault) -> std::string::String {
 
 #[cfg(test)]
 mod tests {
-    use super::{Chain, Cursor, Fault, Header, Packet};
+    use super::{Chain, Cursor, Fault, Header, Payload};
     use core::mem::{offset_of, size_of};
     use std::vec::Vec;
 
@@ -352,15 +347,13 @@ mod tests {
             fragmented
         );
         check!(
-            Packet,
-            "wolfaren_packet",
+            Payload,
+            "wolfaren_payload",
             base_len,
-            headers,
-            payload_offset,
-            payload_len,
-            fault,
+            offset,
+            len,
             version,
-            payload_number,
+            number,
             fragmented,
             len_source
         );

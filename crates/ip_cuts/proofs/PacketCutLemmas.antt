@@ -15,26 +15,31 @@ use Rattle.ip_cuts.specs.PacketCut.{packet_cut, packet_cuts, parts_in, IsPacketC
 use Rattle.ip_cuts.specs.declared.header_cut.HeaderCut.{HeaderCut}
 use Rattle.ip_cuts.specs.declared.packet_cut.PacketCut.{PacketCut}
 
--- of the version and the parts that the bytes say
-cut_in : (s : List ℕ) (v : ℕ) (p : Parts) (old new : List HeaderCut) (cut : PacketCut) → version s ≡ v → p ≡ parts_in s → cut ≡ packet_cut v p → new ≡ filled (packet_cuts p) old → IsPacketCut s old cut new
-cut_in s v p old new cut is_version are_parts fields cuts = record {
-  fields = fields ∙ ap (λ n. packet_cut n p) (sym is_version) ∙ ap (packet_cut (version s)) are_parts;
-  cuts = cuts ∙ ap (λ q. filled (packet_cuts q) old) are_parts;
-}
-
 -- the parts by the version
 parts_by : (s : List ℕ) (v : ℕ) → version s ≡ v → parts_in s ≡ (if v == 4 then ipv4_cut s else ipv6_cut s)
 parts_by s v is_version = ap (λ n. if n == 4 then ipv4_cut s else ipv6_cut s) is_version
 
+-- what is said of a version and parts, of those that the bytes have
+said_in : {Y : Type 0} (f : ℕ → Parts → Y) (s : List ℕ) (v : ℕ) (p : Parts) → version s ≡ v → p ≡ (if v == 4 then ipv4_cut s else ipv6_cut s) → f v p ≡ f (version s) (parts_in s)
+said_in f s v p is_version are_parts = ap (λ n. f n p) (sym is_version) ∙ ap (f (version s)) (are_parts ∙ sym (parts_by s v is_version))
+
+pub in_ipv4 : {Y : Type 0} (f : ℕ → Parts → Y) (s : List ℕ) (p : Parts) → IsIpv4Packet s p → f 4 p ≡ f (version s) (parts_in s)
+in_ipv4 f s p is_packet = said_in f s 4 p (ipv4_version s p is_packet) (ipv4_parts_are s p is_packet)
+
+pub in_ipv6 : {Y : Type 0} (f : ℕ → Parts → Y) (s : List ℕ) (p : Parts) → IsIpv6Packet s p → f 6 p ≡ f (version s) (parts_in s)
+in_ipv6 f s p is_packet = said_in f s 6 p (ipv6_version s p is_packet) (ipv6_parts_are s p is_packet)
+
 pub cut_of_ipv4 : (s : List ℕ) (p : Parts) (old new : List HeaderCut) (cut : PacketCut) → IsIpv4Packet s p → cut ≡ packet_cut 4 p → new ≡ filled (packet_cuts p) old → IsPacketCut s old cut new
-cut_of_ipv4 s p old new cut is_packet =
-    cut_in s 4 p old new cut (ipv4_version s p is_packet)
-    (ipv4_parts_are s p is_packet ∙ sym (parts_by s 4 (ipv4_version s p is_packet)))
+cut_of_ipv4 s p old new cut is_packet fields cuts = record {
+  fields = fields ∙ in_ipv4 packet_cut s p is_packet;
+  cuts = cuts ∙ in_ipv4 (λ n q. filled (packet_cuts q) old) s p is_packet;
+}
 
 pub cut_of_ipv6 : (s : List ℕ) (p : Parts) (old new : List HeaderCut) (cut : PacketCut) → IsIpv6Packet s p → cut ≡ packet_cut 6 p → new ≡ filled (packet_cuts p) old → IsPacketCut s old cut new
-cut_of_ipv6 s p old new cut is_packet =
-    cut_in s 6 p old new cut (ipv6_version s p is_packet)
-    (ipv6_parts_are s p is_packet ∙ sym (parts_by s 6 (ipv6_version s p is_packet)))
+cut_of_ipv6 s p old new cut is_packet fields cuts = record {
+  fields = fields ∙ in_ipv6 packet_cut s p is_packet;
+  cuts = cuts ∙ in_ipv6 (λ n q. filled (packet_cuts q) old) s p is_packet;
+}
 
 -- The front that a source says isn't longer than the bytes,
 front_within : (by : LenSource) (n : ℕ) (s : List ℕ) → length (front by n s) ≤ length s

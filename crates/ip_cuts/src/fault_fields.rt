@@ -82,6 +82,21 @@ pub(crate) fn len_source_code_of(source: LenSource) -> u8
 }
 
 impl FaultFields {
+    /// Puts the fault here, field by field.
+    #[inline(always)]
+    pub fn put(&mut self, fault: FaultFields)
+        ensures { self.new ≡ fault }
+    {
+        self.required_len = fault.required_len;
+        self.len = fault.len;
+        self.offset = fault.offset;
+        self.kind = fault.kind;
+        self.header = fault.header;
+        self.layer = fault.layer;
+        self.len_source = fault.len_source;
+        self.value = fault.value;
+    }
+
     /// Nothing is wrong.
     #[inline(always)]
     pub(crate) fn none() -> FaultFields

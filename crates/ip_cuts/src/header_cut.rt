@@ -34,6 +34,17 @@ impl HeaderCut {
             next_header: header.next_header().0,
         }
     }
+
+    /// Puts the cut here, field by field, so that the padding behind them isn't moved with them.
+    #[inline(always)]
+    pub(crate) fn put(&mut self, cut: HeaderCut)
+        ensures { self.new ≡ cut }
+    {
+        self.offset = cut.offset;
+        self.len = cut.len;
+        self.number = cut.number;
+        self.next_header = cut.next_header;
+    }
 }
 
 /// Puts the cuts of the headers at the front of `cuts`, as many as fit; the first header begins at the offset. The
@@ -56,7 +67,7 @@ pub(crate) fn put_cuts(
     for header in headers {
         let cut = HeaderCut::of(&header, at);
         if count < cuts.len() {
-            cuts[count] = cut;
+            cuts[count].put(cut);
         }
         count += 1;
         at += cut.len;
@@ -80,12 +91,12 @@ pub(crate) fn put_ipv4_cut(
     };
     let len = header.slice().len();
     if !cuts.is_empty() {
-        cuts[0] = HeaderCut {
+        cuts[0].put(HeaderCut {
             offset,
             len,
             number: ip_number::AUTH.0,
             next_header: header.next_header().0,
-        };
+        });
     }
     (1, len)
 }

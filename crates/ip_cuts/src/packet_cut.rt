@@ -1,20 +1,17 @@
-ghost use Rattle.std.specs.Prelude.{◌≡◌, ◌≢◌, ◌+◌, ◌≤◌, Some, None, length};
-ghost use Rattle.ip_base.specs.Ipv4Header.{version};
-ghost use Rattle.etherparse_ip.specs.Fault.{ip_fault, ipv6_lax_fault};
+ghost use Rattle.std.specs.Prelude.{◌≡◌, ◌+◌, ◌≤◌, length, IfOk, IfErr};
+ghost use Rattle.std.specs.Result.{result_err};
 ghost use Rattle.etherparse_ip.specs.Ipv4Slice.{ipv4_parts};
 ghost use Rattle.etherparse_ip.specs.Ipv6Slice.{ipv6_parts};
-ghost use Rattle.etherparse_ip.specs.declared.err.ip.slice_error.SliceError.{SliceError};
-ghost use Rattle.etherparse_ip.specs.declared.err.ipv6.slice_error.SliceError.{SliceError as Ipv6SliceError};
 ghost use Rattle.ip_cuts.specs.HeaderCut.{filled};
 ghost use Rattle.ip_cuts.specs.ChainCut.{flag};
-ghost use Rattle.ip_cuts.specs.PacketCut.{IsPacketCut, packet_cut, packet_cuts, no_packet};
-ghost use Rattle.ip_cuts.specs.FaultFields.{packet_fault_fields, ipv6_fault_fields, no_fault, len_source_code};
+ghost use Rattle.ip_cuts.specs.PacketCut.{IsPacketCut, packet_cut, packet_cuts, packet_fault, lax_packet_fault};
+ghost use Rattle.ip_cuts.specs.FaultFields.{len_source_code};
 
 use crate::fault_fields::{FaultFields, len_source_code_of};
 use crate::header_cut::{HeaderCut, put_cuts, put_ipv4_cut};
 use etherparse_ip::{IpPayloadSlice, IpSlice, Ipv4Slice, Ipv6Slice};
 
-/// A packet: its base header, its extension headers and its payload, one behind the other; or what is wrong.
+/// A packet: its base header, its extension headers and its payload, one behind the other.
 #[repr(C)]
 #[derive(Clone, Copy, Debug, PartialEq, Eq)]
 pub struct PacketCut {
@@ -26,8 +23,6 @@ pub struct PacketCut {
     pub payload_offset: usize,
     /// How many bytes the payload has.
     pub payload_len: usize,
-    /// What is wrong, if anything; then all else is 0.
-    pub fault: FaultFields,
     /// The version, 4 or 6.
     pub version: u16,
     /// The payload's number.
@@ -40,19 +35,18 @@ pub struct PacketCut {
 
 /// Cuts the packet that begins the bytes, as `IpSlice::from_slice` does. The first cuts of its extension headers are
 /// put into `cuts`, as many as fit, and what is behind them stays; `headers` counts all. Their offsets count from the
-/// start of the packet.
+/// start of the packet. Where there is no packet, the answer is why, and nothing is put into `cuts`.
 #[inline(always)]
-pub fn cut_packet(bytes: &[u8], cuts: &mut [HeaderCut]) -> PacketCut
-    ensures within { result.payload_offset + result.payload_len ≤ length bytes.now }
-    ensures packet { ip_fault bytes.now ≡ None
-        → IsPacketCut bytes.now cuts.old result cuts.new }
-    ensures fault { (e : SliceError) → ip_fault bytes.now ≡ Some e
-        → (result ≡ no_packet (packet_fault_fields e)) × (cuts.new ≡ cuts.old) }
+pub fn cut_packet(bytes: &[u8], cuts: &mut [HeaderCut]) -> Result<PacketCut, FaultFields>
+    ensures packet { IfOk result (λ cut. IsPacketCut bytes.now cuts.old cut cuts.new) }
+    ensures within { IfOk result (λ cut. cut.payload_offset + cut.payload_len ≤ length bytes.now) }
+    ensures fault { result_err result ≡ packet_fault bytes.now }
+    ensures same { IfErr result (λ _. cuts.new ≡ cuts.old) }
 {
     match IpSlice::from_slice(bytes) {
-        Ok(IpSlice::Ipv4(packet)) => PacketCut::of_ipv4(&packet, cuts),
-        Ok(IpSlice::Ipv6(packet)) => PacketCut::of_ipv6(&packet, cuts),
-        Err(error) => PacketCut::none(FaultFields::of_packet(&error)),
+        Ok(IpSlice::Ipv4(packet)) => Ok(PacketCut::of_ipv4(&packet, cuts)),
+        Ok(IpSlice::Ipv6(packet)) => Ok(PacketCut::of_ipv6(&packet, cuts)),
+        Err(error) => Err(FaultFields::of_packet(&error)),
     }
 }
 
@@ -60,45 +54,22 @@ pub fn cut_packet(bytes: &[u8], cuts: &mut [HeaderCut]) -> PacketCut
 /// payload length of an IPv6 packet states, all of them belong to it, and `len_source` says so. An IPv4 packet has to be
 /// whole.
 #[inline(always)]
-pub fn cut_packet_lax(bytes: &[u8], cuts: &mut [HeaderCut]) -> PacketCut
-    ensures within { result.payload_offset + result.payload_len ≤ length bytes.now }
-    ensures other { version bytes.now ≢ 6 → ip_fault bytes.now ≡ None
-        → IsPacketCut bytes.now cuts.old result cuts.new }
-    ensures other_fault { version bytes.now ≢ 6 → (e : SliceError) → ip_fault bytes.now ≡ Some e
-        → (result ≡ no_packet (packet_fault_fields e)) × (cuts.new ≡ cuts.old) }
-    ensures packet { version bytes.now ≡ 6 → ipv6_lax_fault bytes.now ≡ None
-        → IsPacketCut bytes.now cuts.old result cuts.new }
-    ensures fault { version bytes.now ≡ 6 → (e : Ipv6SliceError) → ipv6_lax_fault bytes.now ≡ Some e
-        → (result ≡ no_packet (ipv6_fault_fields e)) × (cuts.new ≡ cuts.old) }
+pub fn cut_packet_lax(bytes: &[u8], cuts: &mut [HeaderCut]) -> Result<PacketCut, FaultFields>
+    ensures packet { IfOk result (λ cut. IsPacketCut bytes.now cuts.old cut cuts.new) }
+    ensures within { IfOk result (λ cut. cut.payload_offset + cut.payload_len ≤ length bytes.now) }
+    ensures fault { result_err result ≡ lax_packet_fault bytes.now }
+    ensures same { IfErr result (λ _. cuts.new ≡ cuts.old) }
 {
     if bytes.is_empty() || bytes[0] >> 4 != 6 {
         return cut_packet(bytes, cuts);
     }
     match Ipv6Slice::from_slice_lax(bytes) {
-        Ok(packet) => PacketCut::of_ipv6(&packet, cuts),
-        Err(error) => PacketCut::none(FaultFields::of_ipv6_packet(&error)),
+        Ok(packet) => Ok(PacketCut::of_ipv6(&packet, cuts)),
+        Err(error) => Err(FaultFields::of_ipv6_packet(&error)),
     }
 }
 
 impl PacketCut {
-    /// No packet begins the bytes.
-    #[inline(always)]
-    fn none(fault: FaultFields) -> PacketCut
-        ensures { result ≡ no_packet fault }
-    {
-        PacketCut {
-            base_len: 0,
-            headers: 0,
-            payload_offset: 0,
-            payload_len: 0,
-            fault,
-            version: 0,
-            payload_number: 0,
-            fragmented: 0,
-            len_source: 0,
-        }
-    }
-
     /// An IPv4 packet.
     #[inline(always)]
     fn of_ipv4(packet: &Ipv4Slice<'_>, cuts: &mut [HeaderCut]) -> PacketCut
@@ -122,6 +93,21 @@ impl PacketCut {
         Self::with_payload(6, base_len, headers, base_len + len, packet.payload())
     }
 
+    /// Puts the cut here, field by field.
+    #[inline(always)]
+    pub fn put(&mut self, cut: PacketCut)
+        ensures { self.new ≡ cut }
+    {
+        self.base_len = cut.base_len;
+        self.headers = cut.headers;
+        self.payload_offset = cut.payload_offset;
+        self.payload_len = cut.payload_len;
+        self.version = cut.version;
+        self.payload_number = cut.payload_number;
+        self.fragmented = cut.fragmented;
+        self.len_source = cut.len_source;
+    }
+
     /// A packet with this payload.
     #[inline(always)]
     fn with_payload(
@@ -136,7 +122,6 @@ impl PacketCut {
           headers = headers;
           payload_offset = payload_offset;
           payload_len = length payload.now.payload.now;
-          fault = no_fault;
           version = version;
           payload_number = payload.now.ip_number.0;
           fragmented = flag payload.now.fragmented;
@@ -148,7 +133,6 @@ impl PacketCut {
             headers,
             payload_offset,
             payload_len: payload.payload.len(),
-            fault: FaultFields::none(),
             version,
             payload_number: u16::from(payload.ip_number.0),
             fragmented: u16::from(payload.fragmented),

@@ -1,22 +1,25 @@
 //! Packets.
 use crate::samples::{NO_FAULT, STAYS, cut};
-use ip_cuts::{FaultFields, HeaderCut, PacketCut, cut_packet, cut_packet_lax};
+use ip_cuts::{
+    FaultFields, HeaderCut, PacketCut, PayloadCut, cut_packet, cut_packet_lax, find_payload,
+    find_payload_lax,
+};
 use std::alloc::{AllocError, Global};
 use std::process::Abort;
 use std::test::Fail;
 
-/// Where there is no packet.
-const NONE: PacketCut = PacketCut {
-    base_len: 0,
-    headers: 0,
-    payload_offset: 0,
-    payload_len: 0,
-    fault: NO_FAULT,
-    version: 0,
-    payload_number: 0,
-    fragmented: 0,
-    len_source: 0,
-};
+/// The payload that the cut of a packet tells of.
+fn payload_of(packet: &PacketCut) -> PayloadCut {
+    PayloadCut {
+        base_len: packet.base_len,
+        offset: packet.payload_offset,
+        len: packet.payload_len,
+        version: packet.version,
+        number: packet.payload_number,
+        fragmented: packet.fragmented,
+        len_source: packet.len_source,
+    }
+}
 
 /// An IPv6 packet, and what is behind its base header.
 fn ipv6_bytes(
@@ -55,16 +58,17 @@ fn a_packet_with_two_headers(rt: HostRuntime) -> Result<(), Fail> {
         headers: 2,
         payload_offset: 56,
         payload_len: 7,
-        fault: NO_FAULT,
         version: 6,
         payload_number: 17,
         fragmented: 1,
         len_source: 3,
     };
     let mut cuts = [STAYS; 3];
-    assert_eq!(rt; cut_packet(&bytes, &mut cuts), wanted);
+    assert_eq!(rt; cut_packet(&bytes, &mut cuts), Ok(wanted));
     assert_eq!(rt; cuts, [cut(40, 8, 60, 44), cut(48, 8, 44, 17), STAYS]);
-    assert_eq!(rt; cut_packet_lax(&bytes, &mut []), wanted);
+    assert_eq!(rt; cut_packet_lax(&bytes, &mut []), Ok(wanted));
+    assert_eq!(rt; find_payload(&bytes), Ok(payload_of(&wanted)));
+    assert_eq!(rt; find_payload_lax(&bytes), Ok(payload_of(&wanted)));
     Ok(())
 }
 
@@ -78,27 +82,29 @@ fn an_ipv4_packet_with_an_authentication_header(rt: HostRuntime) -> Result<(), F
         headers: 1,
         payload_offset: 36,
         payload_len: 2,
-        fault: NO_FAULT,
         version: 4,
         payload_number: 6,
         fragmented: 1,
         len_source: 2,
     };
     let mut cuts = [STAYS; 1];
-    assert_eq!(rt; cut_packet(&bytes, &mut cuts), wanted);
+    assert_eq!(rt; cut_packet(&bytes, &mut cuts), Ok(wanted));
     assert_eq!(rt; cuts, [cut(24, 12, 51, 6)]);
-    assert_eq!(rt; cut_packet_lax(&bytes, &mut []), wanted);
+    assert_eq!(rt; cut_packet_lax(&bytes, &mut []), Ok(wanted));
+    assert_eq!(rt; find_payload(&bytes), Ok(payload_of(&wanted)));
+    assert_eq!(rt; find_payload_lax(&bytes), Ok(payload_of(&wanted)));
     Ok(())
 }
 
 /// Fails where the bytes are no packet for another reason, or where something is put into the array.
 fn is_refused(rt: &impl Abort, name: &str, bytes: &[u8], fault: FaultFields) {
-    let wanted = PacketCut { fault, ..NONE };
     let mut cuts = [STAYS; 2];
-    assert_eq!(rt; cut_packet(bytes, &mut cuts), wanted, "{name}");
+    assert_eq!(rt; cut_packet(bytes, &mut cuts), Err(fault), "{name}");
     assert_eq!(rt; cuts, [STAYS; 2], "{name}");
-    assert_eq!(rt; cut_packet_lax(bytes, &mut cuts), wanted, "{name}");
+    assert_eq!(rt; cut_packet_lax(bytes, &mut cuts), Err(fault), "{name}");
     assert_eq!(rt; cuts, [STAYS; 2], "{name}");
+    assert_eq!(rt; find_payload(bytes), Err(fault), "{name}");
+    assert_eq!(rt; find_payload_lax(bytes), Err(fault), "{name}");
 }
 
 #[test]
@@ -135,28 +141,24 @@ fn extension_headers_that_are_none(rt: HostRuntime) -> Result<(), Fail> {
 #[test]
 fn a_packet_that_is_cut_short(rt: HostRuntime) -> Result<(), Fail> {
     let bytes = ipv6_bytes(rt.alloc(), 100, 60, &[17, 0, 0, 0, 0, 0, 0, 0, 1, 2, 3])?;
-    let refused = PacketCut {
-        fault: short(6, 140, 51, 1, 0),
-        ..NONE
-    };
     let taken = PacketCut {
         base_len: 40,
         headers: 1,
         payload_offset: 48,
         payload_len: 3,
-        fault: NO_FAULT,
         version: 6,
         payload_number: 17,
         fragmented: 0,
         len_source: 1,
     };
-    assert_eq!(rt; cut_packet(&bytes, &mut []), refused);
-    assert_eq!(rt; cut_packet_lax(&bytes, &mut []), taken);
+    let refused = short(6, 140, 51, 1, 0);
+    assert_eq!(rt; cut_packet(&bytes, &mut []), Err(refused));
+    assert_eq!(rt; find_payload(&bytes), Err(refused));
+    assert_eq!(rt; cut_packet_lax(&bytes, &mut []), Ok(taken));
+    assert_eq!(rt; find_payload_lax(&bytes), Ok(payload_of(&taken)));
     let short_auth = ipv6_bytes(rt.alloc(), 100, 51, &[17, 1, 0, 0, 0, 0, 0, 0, 0, 0, 0])?;
     let fault = short(4, 12, 11, 1, 40);
-    assert_eq!(rt;
-        cut_packet_lax(&short_auth, &mut []),
-        PacketCut { fault, ..NONE }
-    );
+    assert_eq!(rt; cut_packet_lax(&short_auth, &mut []), Err(fault));
+    assert_eq!(rt; find_payload_lax(&short_auth), Err(fault));
     Ok(())
 }

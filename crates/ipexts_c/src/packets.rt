@@ -1,44 +1,123 @@
 //! Packets.
-ghost use Rattle.std.specs.Prelude.{◌≡◌, ◌≢◌, ◌+◌, ◌≤◌, length, Some, None};
+ghost use Rattle.std.specs.Prelude.{◌≡◌, ◌+◌, ◌≤◌, length, false, IsTrue, Some, None};
 ghost use Rattle.ip_base.specs.Ipv4Header.{version};
-ghost use Rattle.etherparse_ip.specs.Fault.{ip_fault, ipv6_lax_fault};
-ghost use Rattle.etherparse_ip.specs.declared.err.ip.slice_error.SliceError.{SliceError};
-ghost use Rattle.etherparse_ip.specs.declared.err.ipv6.slice_error.SliceError.{SliceError as Ipv6SliceError};
-ghost use Rattle.ip_cuts.specs.PacketCut.{IsPacketCut, no_packet};
-ghost use Rattle.ip_cuts.specs.FaultFields.{packet_fault_fields, ipv6_fault_fields};
+ghost use Rattle.ip_cuts.specs.PacketCut.{IsPacketCut, payload_cut, parts_in, packet_fault, lax_packet_fault};
 
-use ip_cuts::{HeaderCut, PacketCut, cut_packet, cut_packet_lax};
+use ip_cuts::{
+    FaultFields, HeaderCut, PacketCut, PayloadCut, cut_packet, cut_packet_lax, find_payload,
+    find_payload_lax,
+};
 
-/// `cut_packet`, with its answer in `packet`.
+/// `cut_packet`: whether a packet begins the bytes. Then it is in `packet`, and `fault` stays; else what is wrong is in
+/// `fault`, and the others stay.
 #[unsafe(no_mangle)]
-pub extern "C" fn wolfaren_cut_packet(bytes: &[u8], cuts: &mut [HeaderCut], packet: &mut PacketCut)
-    ensures within { packet.new.payload_offset + packet.new.payload_len ≤ length bytes.now }
-    ensures packet { ip_fault bytes.now ≡ None
-        → IsPacketCut bytes.now cuts.old packet.new cuts.new }
-    ensures fault { (e : SliceError) → ip_fault bytes.now ≡ Some e
-        → (packet.new ≡ no_packet (packet_fault_fields e)) × (cuts.new ≡ cuts.old) }
+pub extern "C" fn wolfaren_cut_packet(
+    bytes: &[u8],
+    cuts: &mut [HeaderCut],
+    packet: &mut PacketCut,
+    fault: &mut FaultFields,
+) -> bool
+    ensures packet { IsTrue result → IsPacketCut bytes.now cuts.old packet.new cuts.new }
+    ensures within { IsTrue result
+        → packet.new.payload_offset + packet.new.payload_len ≤ length bytes.now }
+    ensures no_fault { IsTrue result
+        → (packet_fault bytes.now ≡ None) × (fault.new ≡ fault.old) }
+    ensures fault { result ≡ false → packet_fault bytes.now ≡ Some fault.new }
+    ensures same { result ≡ false → (packet.new ≡ packet.old) × (cuts.new ≡ cuts.old) }
 {
-    *packet = cut_packet(bytes, cuts);
+    match cut_packet(bytes, cuts) {
+        Ok(found) => {
+            packet.put(found);
+            true
+        }
+        Err(found) => {
+            fault.put(found);
+            false
+        }
+    }
 }
 
-/// `cut_packet_lax`, with its answer in `packet`.
+/// `cut_packet_lax`, as `wolfaren_cut_packet`.
 #[unsafe(no_mangle)]
 pub extern "C" fn wolfaren_cut_packet_lax(
     bytes: &[u8],
     cuts: &mut [HeaderCut],
     packet: &mut PacketCut,
-)
-    ensures within { packet.new.payload_offset + packet.new.payload_len ≤ length bytes.now }
-    ensures other { version bytes.now ≢ 6 → ip_fault bytes.now ≡ None
-        → IsPacketCut bytes.now cuts.old packet.new cuts.new }
-    ensures other_fault { version bytes.now ≢ 6
-        → (e : SliceError) → ip_fault bytes.now ≡ Some e
-        → (packet.new ≡ no_packet (packet_fault_fields e)) × (cuts.new ≡ cuts.old) }
-    ensures packet { version bytes.now ≡ 6 → ipv6_lax_fault bytes.now ≡ None
-        → IsPacketCut bytes.now cuts.old packet.new cuts.new }
-    ensures fault { version bytes.now ≡ 6
-        → (e : Ipv6SliceError) → ipv6_lax_fault bytes.now ≡ Some e
-        → (packet.new ≡ no_packet (ipv6_fault_fields e)) × (cuts.new ≡ cuts.old) }
+    fault: &mut FaultFields,
+) -> bool
+    ensures packet { IsTrue result → IsPacketCut bytes.now cuts.old packet.new cuts.new }
+    ensures within { IsTrue result
+        → packet.new.payload_offset + packet.new.payload_len ≤ length bytes.now }
+    ensures no_fault { IsTrue result
+        → (lax_packet_fault bytes.now ≡ None) × (fault.new ≡ fault.old) }
+    ensures fault { result ≡ false → lax_packet_fault bytes.now ≡ Some fault.new }
+    ensures same { result ≡ false → (packet.new ≡ packet.old) × (cuts.new ≡ cuts.old) }
 {
-    *packet = cut_packet_lax(bytes, cuts);
+    match cut_packet_lax(bytes, cuts) {
+        Ok(found) => {
+            packet.put(found);
+            true
+        }
+        Err(found) => {
+            fault.put(found);
+            false
+        }
+    }
+}
+
+/// `find_payload`: whether a packet begins the bytes. Then its payload is in `payload`, and `fault` stays; else what is
+/// wrong is in `fault`, and `payload` stays.
+#[unsafe(no_mangle)]
+pub extern "C" fn wolfaren_find_payload(
+    bytes: &[u8],
+    payload: &mut PayloadCut,
+    fault: &mut FaultFields,
+) -> bool
+    ensures payload { IsTrue result
+        → payload.new ≡ payload_cut (version bytes.now) (parts_in bytes.now) }
+    ensures within { IsTrue result
+        → payload.new.offset + payload.new.len ≤ length bytes.now }
+    ensures no_fault { IsTrue result
+        → (packet_fault bytes.now ≡ None) × (fault.new ≡ fault.old) }
+    ensures fault { result ≡ false
+        → (packet_fault bytes.now ≡ Some fault.new) × (payload.new ≡ payload.old) }
+{
+    match find_payload(bytes) {
+        Ok(found) => {
+            payload.put(found);
+            true
+        }
+        Err(found) => {
+            fault.put(found);
+            false
+        }
+    }
+}
+
+/// `find_payload_lax`, as `wolfaren_find_payload`.
+#[unsafe(no_mangle)]
+pub extern "C" fn wolfaren_find_payload_lax(
+    bytes: &[u8],
+    payload: &mut PayloadCut,
+    fault: &mut FaultFields,
+) -> bool
+    ensures payload { IsTrue result
+        → payload.new ≡ payload_cut (version bytes.now) (parts_in bytes.now) }
+    ensures within { IsTrue result
+        → payload.new.offset + payload.new.len ≤ length bytes.now }
+    ensures no_fault { IsTrue result
+        → (lax_packet_fault bytes.now ≡ None) × (fault.new ≡ fault.old) }
+    ensures fault { result ≡ false
+        → (lax_packet_fault bytes.now ≡ Some fault.new) × (payload.new ≡ payload.old) }
+{
+    match find_payload_lax(bytes) {
+        Ok(found) => {
+            payload.put(found);
+            true
+        }
+        Err(found) => {
+            fault.put(found);
+            false
+        }
+    }
 }

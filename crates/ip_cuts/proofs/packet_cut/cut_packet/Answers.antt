@@ -4,11 +4,11 @@ use Rattle.ip_cuts.proofs.PacketCutLemmas.{cut_of_ipv4, cut_of_ipv6, ipv6_within
 use Rattle.ip_cuts.proofs.packet_cut.cut_packet.Goals as goal
 
 pub returns-in-Ok-Ipv4-clause-packet : goal.returns-in-Ok-Ipv4-clause-packet
-returns-in-Ok-Ipv4-clause-packet c _ =
+returns-in-Ok-Ipv4-clause-packet c =
     cut_of_ipv4 _ _ _ _ _ (subst (IsIpPacket c.args.bytes.now) c.in-Ok-Ipv4.field-0-is c.in-Ok-Ipv4.ensures.packet) c.of_ipv4.ensures.packet c.of_ipv4.ensures.cuts
 
 pub returns-in-Ok-Ipv6-clause-packet : goal.returns-in-Ok-Ipv6-clause-packet
-returns-in-Ok-Ipv6-clause-packet c _ =
+returns-in-Ok-Ipv6-clause-packet c =
     cut_of_ipv6 _ _ _ _ _ (subst (IsIpPacket c.args.bytes.now) c.in-Ok-Ipv6.field-0-is c.in-Ok-Ipv6.ensures.packet) c.of_ipv6.ensures.packet c.of_ipv6.ensures.cuts
 
 pub returns-in-Ok-Ipv6-clause-within : goal.returns-in-Ok-Ipv6-clause-within

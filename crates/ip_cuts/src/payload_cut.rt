@@ -1,0 +1,125 @@
+ghost use Rattle.std.specs.Prelude.{◌≡◌, ◌+◌, ◌≤◌, length, IfOk};
+ghost use Rattle.std.specs.Result.{result_err};
+ghost use Rattle.ip_base.specs.Ipv4Header.{version};
+ghost use Rattle.etherparse_ip.specs.Ipv4Slice.{ipv4_parts};
+ghost use Rattle.etherparse_ip.specs.Ipv6Slice.{ipv6_parts};
+ghost use Rattle.ip_cuts.specs.ChainCut.{flag};
+ghost use Rattle.ip_cuts.specs.PacketCut.{payload_cut, parts_in, packet_fault, lax_packet_fault};
+ghost use Rattle.ip_cuts.specs.FaultFields.{len_source_code};
+
+use crate::fault_fields::{FaultFields, len_source_code_of};
+use etherparse_ip::{IpPayloadSlice, IpSlice, Ipv4Slice, Ipv6Slice};
+
+/// The payload of a packet, and where the headers before it begin.
+#[repr(C)]
+#[derive(Clone, Copy, Debug, PartialEq, Eq)]
+pub struct PayloadCut {
+    /// How many bytes the base header has: the extension headers begin there.
+    pub base_len: usize,
+    /// Where the payload begins, in bytes from the start of the packet.
+    pub offset: usize,
+    /// How many bytes it has.
+    pub len: usize,
+    /// The version, 4 or 6.
+    pub version: u16,
+    /// The payload's number.
+    pub number: u16,
+    /// 1 where the payload is a fragment and not the whole, else 0.
+    pub fragmented: u16,
+    /// What says where the payload ends, as `FaultFields::len_source`.
+    pub len_source: u16,
+}
+
+/// Finds the payload of the packet that begins the bytes, as `cut_packet` does, and goes over the extension headers once.
+/// Where there is no packet, the answer is why.
+#[inline(always)]
+pub fn find_payload(bytes: &[u8]) -> Result<PayloadCut, FaultFields>
+    ensures payload { IfOk result (λ cut. cut ≡ payload_cut (version bytes.now) (parts_in bytes.now)) }
+    ensures within { IfOk result (λ cut. cut.offset + cut.len ≤ length bytes.now) }
+    ensures fault { result_err result ≡ packet_fault bytes.now }
+{
+    match IpSlice::from_slice(bytes) {
+        Ok(IpSlice::Ipv4(packet)) => Ok(PayloadCut::of_ipv4(&packet)),
+        Ok(IpSlice::Ipv6(packet)) => Ok(PayloadCut::of_ipv6(&packet)),
+        Err(error) => Err(FaultFields::of_packet(&error)),
+    }
+}
+
+/// The same of a packet that may be cut short, as `cut_packet_lax` takes it.
+#[inline(always)]
+pub fn find_payload_lax(bytes: &[u8]) -> Result<PayloadCut, FaultFields>
+    ensures payload { IfOk result (λ cut. cut ≡ payload_cut (version bytes.now) (parts_in bytes.now)) }
+    ensures within { IfOk result (λ cut. cut.offset + cut.len ≤ length bytes.now) }
+    ensures fault { result_err result ≡ lax_packet_fault bytes.now }
+{
+    if bytes.is_empty() || bytes[0] >> 4 != 6 {
+        return find_payload(bytes);
+    }
+    match Ipv6Slice::from_slice_lax(bytes) {
+        Ok(packet) => Ok(PayloadCut::of_ipv6(&packet)),
+        Err(error) => Err(FaultFields::of_ipv6_packet(&error)),
+    }
+}
+
+impl PayloadCut {
+    /// That of an IPv4 packet.
+    #[inline(always)]
+    fn of_ipv4(packet: &Ipv4Slice<'_>) -> PayloadCut
+        ensures { result ≡ payload_cut 4 (ipv4_parts packet.now) }
+    {
+        let base_len = packet.header().slice().len();
+        let len = match &packet.extensions().auth {
+            Some(header) => header.slice().len(),
+            None => 0,
+        };
+        Self::new(4, base_len, base_len + len, packet.payload())
+    }
+
+    /// That of an IPv6 packet.
+    #[inline(always)]
+    fn of_ipv6(packet: &Ipv6Slice<'_>) -> PayloadCut
+        ensures { result ≡ payload_cut 6 (ipv6_parts packet.now) }
+    {
+        let base_len = packet.header().slice().len();
+        let len = packet.extensions().slice().len();
+        Self::new(6, base_len, base_len + len, packet.payload())
+    }
+
+    /// Puts the cut here, field by field.
+    #[inline(always)]
+    pub fn put(&mut self, cut: PayloadCut)
+        ensures { self.new ≡ cut }
+    {
+        self.base_len = cut.base_len;
+        self.offset = cut.offset;
+        self.len = cut.len;
+        self.version = cut.version;
+        self.number = cut.number;
+        self.fragmented = cut.fragmented;
+        self.len_source = cut.len_source;
+    }
+
+    /// This payload, which begins at the offset.
+    #[inline(always)]
+    fn new(version: u16, base_len: usize, offset: usize, payload: &IpPayloadSlice<'_>) -> PayloadCut
+        ensures { result ≡ record {
+          base_len = base_len;
+          offset = offset;
+          len = length payload.now.payload.now;
+          version = version;
+          number = payload.now.ip_number.0;
+          fragmented = flag payload.now.fragmented;
+          len_source = len_source_code payload.now.len_source;
+        } }
+    {
+        PayloadCut {
+            base_len,
+            offset,
+            len: payload.payload.len(),
+            version,
+            number: u16::from(payload.ip_number.0),
+            fragmented: u16::from(payload.fragmented),
+            len_source: u16::from(len_source_code_of(payload.len_source)),
+        }
+    }
+}

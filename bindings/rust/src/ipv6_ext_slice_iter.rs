@@ -1,51 +1,55 @@
-use crate::library::{self, Cursor};
 use crate::{ip_number, IpNumber, Ipv6ExtensionSlice};
 
 /// The headers of an IPv6 chain, once in order, then `None` for ever. Two iterators are equal where the
 /// number of the next header and the bytes that are left are.
 #[derive(Clone, Debug)]
 pub struct Ipv6ExtensionSliceIter<'a> {
-    /// All headers of the chain, of which the cursor's offset are behind.
-    slice: &'a [u8],
-    cursor: Cursor,
+    number: IpNumber,
+    rest: &'a [u8],
 }
 
 impl<'a> Ipv6ExtensionSliceIter<'a> {
-    /// The headers of a chain that is all of the slice.
+    /// The headers of a chain that the library has cut, which is all of the slice.
     #[inline]
     pub(crate) fn new(first: IpNumber, slice: &'a [u8]) -> Ipv6ExtensionSliceIter<'a> {
         Ipv6ExtensionSliceIter {
-            slice,
-            cursor: Cursor {
-                offset: 0,
-                number: first.0,
-            },
+            number: first,
+            rest: slice,
         }
     }
 
     /// The number of the next header; behind the last one, the number to which the chain leads.
     #[inline]
     pub fn next_number(&self) -> IpNumber {
-        IpNumber(self.cursor.number)
+        self.number
     }
 
     /// The bytes of the headers to come.
     #[inline]
     pub fn rest(&self) -> &'a [u8] {
-        &self.slice[self.cursor.offset..]
+        self.rest
     }
 }
 
 impl<'a> Iterator for Ipv6ExtensionSliceIter<'a> {
     type Item = Ipv6ExtensionSlice<'a>;
 
+    /// The library has told that the bytes are whole headers, linked from the first number: all that is left to be
+    /// read is how long each says that it is.
     #[inline]
     fn next(&mut self) -> Option<Ipv6ExtensionSlice<'a>> {
-        if self.cursor.offset == self.slice.len() {
+        let [next_header, len, ..] = *self.rest else {
             return None;
-        }
-        let (number, header) = library::next_header(&mut self.cursor, self.slice)?;
-        Some(Ipv6ExtensionSlice::of_cut(IpNumber(number), header))
+        };
+        let len = match self.number {
+            ip_number::IPV6_FRAG => 8,
+            ip_number::AUTH => (usize::from(len) + 2) * 4,
+            _ => (usize::from(len) + 1) * 8,
+        };
+        let (header, rest) = self.rest.split_at_checked(len)?;
+        let number = core::mem::replace(&mut self.number, IpNumber(next_header));
+        self.rest = rest;
+        Some(Ipv6ExtensionSlice::of_cut(number, header))
     }
 }
 

@@ -151,12 +151,40 @@ impl Digest for Full {
     }
 }
 
+/// Bytes from a place on. As in C, nothing looks whether they are there: the library has said so.
+#[derive(Clone, Copy)]
+struct At<'a>(&'a [u8]);
+
+impl<'a> At<'a> {
+    #[inline(always)]
+    fn byte(self, at: usize) -> u8 {
+        debug_assert!(at < self.0.len());
+        // SAFETY: the library has said that the bytes are there.
+        unsafe { *self.0.get_unchecked(at) }
+    }
+
+    #[inline(always)]
+    fn array<const LEN: usize>(self, at: usize) -> [u8; LEN] {
+        debug_assert!(at + LEN <= self.0.len());
+        // SAFETY: as above; an array of bytes has no alignment.
+        unsafe { self.0.as_ptr().add(at).cast::<[u8; LEN]>().read() }
+    }
+
+    #[inline(always)]
+    fn bytes(self, at: usize, len: usize) -> At<'a> {
+        debug_assert!(at + len <= self.0.len());
+        // SAFETY: as above.
+        At(unsafe { slice::from_raw_parts(self.0.as_ptr().add(at), len) })
+    }
+}
+
 #[inline(never)]
 fn of_packet(packet: &Packet, headers: &[Header], bytes: &[u8]) -> u64 {
-    let base = &bytes[..packet.base_len];
-    let mut sum = with(of_bytes(base), of_ends(packet.version, base));
+    let bytes = At(bytes);
+    let base = bytes.bytes(0, packet.base_len);
+    let mut sum = with(of_bytes(base.0), of_ends(packet.version, base));
     for header in headers {
-        let slice = &bytes[header.offset..][..header.len];
+        let slice = bytes.bytes(header.offset, header.len);
         sum = match packet.version {
             4 => with(sum, of_auth(header, slice)),
             _ => with(sum, of_header(header, slice)),
@@ -166,56 +194,59 @@ fn of_packet(packet: &Packet, headers: &[Header], bytes: &[u8]) -> u64 {
         u64::from(packet.payload_number),
         u64::from(packet.fragmented),
     );
-    let payload = &bytes[packet.payload_offset..][..packet.payload_len];
+    let payload = bytes.bytes(packet.payload_offset, packet.payload_len);
     with(
         sum,
-        with(with(kind, u64::from(packet.len_source)), of_bytes(payload)),
+        with(
+            with(kind, u64::from(packet.len_source)),
+            of_bytes(payload.0),
+        ),
     )
 }
 
-fn of_ends(version: u16, base: &[u8]) -> u64 {
-    let ipv4 = |at: usize| Ipv4Addr::new(base[at], base[at + 1], base[at + 2], base[at + 3]);
-    let ipv6 = |at: usize| {
-        let octets: [u8; 16] = base[at..at + 16].try_into().expect("so many are taken");
-        Ipv6Addr::from(octets)
-    };
+fn of_ends(version: u16, base: At<'_>) -> u64 {
+    let ipv4 = |at: usize| of_ipv4_addr(Ipv4Addr::from(base.array::<4>(at)));
+    let ipv6 = |at: usize| of_ipv6_addr(Ipv6Addr::from(base.array::<16>(at)));
     match version {
-        4 => with(of_ipv4_addr(ipv4(12)), of_ipv4_addr(ipv4(16))),
-        _ => with(of_ipv6_addr(ipv6(8)), of_ipv6_addr(ipv6(24))),
+        4 => with(ipv4(12), ipv4(16)),
+        _ => with(ipv6(8), ipv6(24)),
     }
 }
 
 #[inline(never)]
-fn of_header(header: &Header, bytes: &[u8]) -> u64 {
+fn of_header(header: &Header, bytes: At<'_>) -> u64 {
     let fields = match header.number {
         44 => of_fragment(header, bytes),
         51 => of_auth(header, bytes),
-        _ => with(of_front(header, bytes), of_bytes(&bytes[2..])),
+        _ => with(
+            of_front(header, bytes),
+            of_bytes(bytes.bytes(2, header.len - 2).0),
+        ),
     };
     with(u64::from(header.number), fields)
 }
 
 /// A header's bytes, and the number of what follows it.
-fn of_front(header: &Header, bytes: &[u8]) -> u64 {
-    with(of_bytes(bytes), u64::from(header.next_header))
+fn of_front(header: &Header, bytes: At<'_>) -> u64 {
+    with(of_bytes(bytes.0), u64::from(header.next_header))
 }
 
-fn of_fragment(header: &Header, bytes: &[u8]) -> u64 {
-    let offset = u64::from(u16::from_be_bytes([bytes[2], bytes[3]]) >> 3);
-    let flags = with(u64::from(bytes[3] & 1), offset);
-    let identification = u32::from_be_bytes([bytes[4], bytes[5], bytes[6], bytes[7]]);
+fn of_fragment(header: &Header, bytes: At<'_>) -> u64 {
+    let offset = u64::from(u16::from_be_bytes(bytes.array(2)) >> 3);
+    let flags = with(u64::from(bytes.byte(3) & 1), offset);
+    let identification = u32::from_be_bytes(bytes.array(4));
     with(
         of_front(header, bytes),
         with(flags, u64::from(identification)),
     )
 }
 
-fn of_auth(header: &Header, bytes: &[u8]) -> u64 {
-    let field =
-        |at: usize| u32::from_be_bytes([bytes[at], bytes[at + 1], bytes[at + 2], bytes[at + 3]]);
-    let numbers = with(u64::from(field(4)), u64::from(field(8)));
+fn of_auth(header: &Header, bytes: At<'_>) -> u64 {
+    let field = |at: usize| u64::from(u32::from_be_bytes(bytes.array(at)));
+    let numbers = with(field(4), field(8));
+    let check_value = bytes.bytes(12, header.len - 12);
     with(
         of_front(header, bytes),
-        with(numbers, of_bytes(&bytes[12..])),
+        with(numbers, of_bytes(check_value.0)),
     )
 }

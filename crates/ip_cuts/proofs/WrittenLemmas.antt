@@ -11,7 +11,7 @@ use Rattle.ip_spec.specs.Header.{IsHeader, raw, fragment, auth}
 use Rattle.ip_spec.specs.Fields.{next_header}
 use Rattle.ip_spec.specs.Chain.{IsEnd, IsChain, AreLinked}
 use Rattle.ip_spec.proofs.HeaderLemmas.{header-least}
-use Rattle.ip_spec.specs.Cleared.{cleared_header}
+use Rattle.ip_spec.specs.Encoding.{cleared_header}
 use Rattle.ip_spec.proofs.ClearedLemmas.{cleared_same}
 use Rattle.ip_cuts.specs.Written.{bytes_at, LiesIn, AllLieIn, written_header, written_cuts, written_chain, begun_with, AreCutsLinked, AreChainCuts}
 use Rattle.ip_cuts.specs.declared.header_cut.HeaderCut.{HeaderCut}

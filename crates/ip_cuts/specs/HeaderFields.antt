@@ -2,7 +2,7 @@
 use Rattle.std.specs.Prelude.{◌≡◌, ℕ, List, length}
 use Rattle.ip_spec.specs.Prefix.{IsPrefix}
 use Rattle.ip_spec.specs.Header.{IsFragmentHeader, IsAuthHeader}
-use Rattle.ip_spec.specs.Fields.{next_header, fragment_offset, more_fragments, identification, spi, sequence_number}
+use Rattle.ip_spec.specs.Fields.{next_header, fragment_fields, auth_fields}
 use Rattle.ip_cuts.specs.ChainCut.{flag}
 use Rattle.ip_cuts.specs.declared.header_fields.FragmentFields.{FragmentFields}
 use Rattle.ip_cuts.specs.declared.header_fields.AuthFields.{AuthFields}
@@ -10,9 +10,9 @@ use Rattle.ip_cuts.specs.declared.header_fields.AuthFields.{AuthFields}
 -- of the bytes b of a fragment header (RFC 8200, section 4.5)
 abbrev pub fragment_numbers : List ℕ → FragmentFields
 fragment_numbers b = record {
-  identification = identification b;
-  fragment_offset = fragment_offset b;
-  more_fragments = flag (more_fragments b);
+  identification = (fragment_fields b).identification;
+  fragment_offset = (fragment_fields b).fragment_offset;
+  more_fragments = flag (fragment_fields b).more_fragments;
   next_header = next_header b;
 }
 
@@ -20,8 +20,8 @@ fragment_numbers b = record {
 abbrev pub auth_numbers : List ℕ → AuthFields
 auth_numbers b = record {
   len = length b;
-  spi = spi b;
-  sequence_number = sequence_number b;
+  spi = (auth_fields b).spi;
+  sequence_number = (auth_fields b).sequence_number;
   next_header = next_header b;
 }
 

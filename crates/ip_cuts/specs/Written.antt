@@ -4,7 +4,7 @@ use Rattle.std.specs.List.{flat_map, AllByRecursion}
 use Rattle.ip_spec.specs.Numbers.{HOP_BY_HOP}
 use Rattle.ip_spec.specs.Header.{IsHeader}
 use Rattle.ip_spec.specs.Chain.{ExtHeader}
-use Rattle.ip_spec.specs.Cleared.{cleared_header}
+use Rattle.ip_spec.specs.Encoding.{cleared_header}
 use Rattle.ip_cuts.specs.declared.header_cut.HeaderCut.{HeaderCut}
 
 -- the bytes of s that a cut names

@@ -5,13 +5,13 @@ use Rattle.std.specs.Option.{option_map, option_map_or, ForSome}
 use Rattle.std.proofs.lemmas.Bool.{cases_Bool}
 use Rattle.std.proofs.lemmas.Option.{none-some, same_Some}
 use Rattle.ip_spec.specs.Header.{IsRawNumber}
-use Rattle.ip_spec.specs.FieldsOf.{RawFields, FragmentFields, AuthFields, raw_fields, fragment_fields, auth_fields, raw_len, auth_len}
+use Rattle.ip_spec.specs.Fields.{RawFields, FragmentFields, AuthFields, raw_fields, fragment_fields, auth_fields, raw_len, auth_len}
 use Rattle.ip_spec.specs.Chain.{ExtHeader}
 use Rattle.ip_spec.specs.Places.{Place, hop_by_hop, destination, routing, fragment, authentication, final_destination, number_in, header_in, HeaderFields, raw_header, fragment_header, auth_header, fields_of}
 use Rattle.ip_spec.specs.Encodable.{IsEncoded, IsEncodable, placed_len, fields_len}
 use Rattle.ip_spec.proofs.PlaceLemmas.{has_routing, none_behind}
 use Rattle.ip_spec.proofs.WalkLemmas.{some_if}
-use Rattle.ip_ext_chains.specs.Ipv6Extensions.{value_of, raw_in, final_of, placed_fields, routing_len, exts_len}
+use Rattle.ip_ext_chains.specs.Ipv6Extensions.{value_of, raw_in, final_of, placed_fields, exts_len}
 use Rattle.ip_ext_chains.specs.declared.ipv6_exts.Ipv6Extensions.{Ipv6Extensions}
 use Rattle.ip_ext_chains.specs.declared.ipv6_routing_exts.Ipv6RoutingExtensions.{Ipv6RoutingExtensions}
 use Rattle.ip_ext_chains.proofs.PlacedLemmas.{in_place_number}
@@ -117,12 +117,12 @@ auth_sum : (o : Option AuthFields) → option_map_or fields_len (option_map auth
 auth_sum None = refl
 auth_sum (Some x) = refl
 
-routing_sum : (o : Option Ipv6RoutingExtensions) → option_map_or fields_len (option_map (λ r. raw_header r.routing) o) 0 + option_map_or fields_len (option_map raw_header (final_of o)) 0 ≡ option_map_or routing_len o 0
+routing_sum : (o : Option Ipv6RoutingExtensions) → option_map_or fields_len (option_map (λ r. raw_header r.routing) o) 0 ≡ option_map_or (λ r. raw_len r.routing) o 0
 routing_sum None = refl
-routing_sum (Some r) = omega (arith, raw_sum r.final_destination_options)
+routing_sum (Some r) = refl
 
 pub exts_sum : (v : Ipv6Extensions) → placed_len (placed_fields v) ≡ exts_len v
-exts_sum v = omega (arith, raw_sum v.hop_by_hop_options, raw_sum v.destination_options, routing_sum v.routing, fragment_sum v.fragment, auth_sum v.auth)
+exts_sum v = omega (arith, raw_sum v.hop_by_hop_options, raw_sum v.destination_options, routing_sum v.routing, fragment_sum v.fragment, auth_sum v.auth, raw_sum (final_of v.routing))
 
 -- Destination options stand in the final place only behind a routing header, so a struct can be written where each
 -- of its headers can.

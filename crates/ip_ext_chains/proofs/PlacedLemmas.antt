@@ -3,7 +3,7 @@ use Rattle.std.proofs.Common.{◌≡◌, ℕ, List, refl, ap, sym, ◌∙◌, Bo
 use Rattle.std.specs.Prelude.{◌==◌, ◌&&◌, not, Option, Some, None, is_some, IfSome, if◌then◌else◌}
 use Rattle.std.specs.Option.{option_map, option_map_or}
 use Rattle.std.proofs.lemmas.Bool.{eqb-true}
-use Rattle.ip_spec.specs.FieldsOf.{raw_fields, fragment_fields, auth_fields}
+use Rattle.ip_spec.specs.Fields.{raw_fields, fragment_fields, auth_fields}
 use Rattle.ip_spec.specs.Chain.{ExtHeader}
 use Rattle.ip_spec.specs.Places.{Place, hop_by_hop, destination, routing, fragment, authentication, final_destination, number_in, side_of, header_in, place_of, is_taken}
 use Rattle.ip_spec.proofs.FirstLemmas.{find_passes}

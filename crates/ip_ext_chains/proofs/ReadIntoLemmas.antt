@@ -4,7 +4,7 @@ use Rattle.std.specs.Prelude.{Option, Some, Result, Ok, Err, IfOk}
 use Rattle.std.specs.Option.{option_map}
 use Rattle.ip_base.specs.declared.ip_number_impl.IpNumber.{IpNumber}
 use Rattle.ip_spec.specs.Header.{IsRawHeader, IsFragmentHeader, IsAuthHeader, raw, fragment, auth}
-use Rattle.ip_spec.specs.FieldsOf.{RawFields, FragmentFields, AuthFields, raw_fields, fragment_fields, auth_fields}
+use Rattle.ip_spec.specs.Fields.{RawFields, FragmentFields, AuthFields, raw_fields, fragment_fields, auth_fields}
 use Rattle.ip_spec.specs.Places.{hop_by_hop, destination, routing, fragment as fragment_place, authentication, final_destination}
 use Rattle.ip_ext_chains.specs.Reading.{IsHeaderRead, IsReadInto, routing_fields}
 use Rattle.ip_ext_chains.specs.declared.ipv6_exts.Ipv6Extensions.{Ipv6Extensions}

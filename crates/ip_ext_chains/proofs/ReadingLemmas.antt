@@ -7,7 +7,7 @@ use Rattle.std.proofs.lemmas.Option.{none-some}
 use Rattle.std.proofs.Math.Seq.{take-length, drop-append_seam}
 use Rattle.ip_base.specs.declared.len_source.LenSource.TheVariants.{Slice}
 use Rattle.ip_spec.specs.Header.{IsHeader, IsExtensionNumber}
-use Rattle.ip_spec.specs.FieldsOf.{raw_fields}
+use Rattle.ip_spec.specs.Fields.{raw_fields}
 use Rattle.ip_spec.specs.Chain.{ExtHeader, IsChain, IsNext, IsEnd, leads_to, bytes_of, is_empty}
 use Rattle.ip_spec.specs.Demand.{IsEndUnder}
 use Rattle.ip_spec.specs.Fits.{FitsPlaces, IsTaken}

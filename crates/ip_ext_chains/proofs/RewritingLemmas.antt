@@ -3,7 +3,7 @@ use Rattle.std.proofs.Common.{◌≡◌, ℕ, ◌+◌, ◌≤◌, List, [], ◌�
 use Rattle.std.specs.Prelude.{Some}
 use Rattle.std.proofs.lemmas.List.Concat.{flat_map-append}
 use Rattle.ip_spec.specs.Chain.{ExtHeader, bytes_of}
-use Rattle.ip_spec.specs.Encoded.{cleared_chain}
+use Rattle.ip_spec.specs.Encoding.{cleared_chain}
 use Rattle.ip_spec.specs.Runs.{joined}
 use Rattle.ip_spec.specs.Walk.{IsSpelling}
 use Rattle.ip_ext_slices.specs.Longest.{longest_chain}

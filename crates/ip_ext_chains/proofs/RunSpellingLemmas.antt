@@ -3,9 +3,8 @@ use Rattle.std.proofs.Common.{◌≡◌, ℕ, List, [], ◌∷◌, ◌++◌, map
 use Rattle.std.specs.Prelude.{if◌then◌else◌}
 use Rattle.std.specs.List.{flat_map, AllByRecursion}
 use Rattle.std.proofs.lemmas.List.Concat.{flat_map-append}
-use Rattle.ip_spec.specs.Encoding.{AreBytes}
+use Rattle.ip_spec.specs.Encoding.{AreBytes, cleared_chain}
 use Rattle.ip_spec.specs.Chain.{ExtHeader, IsChain, leads_to, bytes_of}
-use Rattle.ip_spec.specs.Encoded.{cleared_chain}
 use Rattle.ip_spec.specs.Fits.{FitsPlaces}
 use Rattle.ip_spec.specs.Runs.{AreChains, AreRuns, joined}
 use Rattle.ip_spec.proofs.ClearedLemmas.{cleared_leads}

@@ -6,7 +6,8 @@ use Rattle.ip_spec.specs.Encoding.{AppendsOne}
 use Rattle.ip_spec.specs.Chain.{ExtHeader, bytes_of}
 use Rattle.ip_spec.specs.Places.{Place, number_in, header_in, HeaderFields}
 use Rattle.ip_spec.specs.Encodable.{IsEncoded, IsEncodable, fields_len, sum_placed, placed_len}
-use Rattle.ip_spec.specs.Walk.{PlacedFields, IsReach, WalkAnswer, answer_at, IsWalkAnswer}
+use Rattle.ip_spec.specs.LongestOf.{IsLongestOf}
+use Rattle.ip_spec.specs.Walk.{PlacedFields, IsReachable, WalkAnswer, answer_at, IsWalkAnswer}
 use Rattle.ip_spec.specs.WalkStep.{next_of, IsEncodingOf}
 use Rattle.ip_spec.proofs.StepLemmas.{bytes_of-more}
 use Rattle.ip_spec.proofs.EncodedLemmas.{encoding_is}
@@ -123,5 +124,5 @@ written_none v f w left number first behind before now room same fits =
 pub written_answer : (v : PlacedFields) (f : ℕ) (old new : Walk) (before now : List ℕ) (room : ℕ) (a : WalkAnswer) → Written v f old before now room → IsStop old new → a ≡ answer_at new.number.0 (left_in new) → IsWalkAnswer v f a
 written_answer v f old new before now room a k s e = walked_answer v f old new a (record { reached = k.reached; walking = k.walking }) s e
 
-pub written_reach : (v : PlacedFields) (f : ℕ) (old new : Walk) (before now : List ℕ) (room : ℕ) (k : Written v f old before now room) → IsStop old new → IsReach v f k.reached
+pub written_reach : (v : PlacedFields) (f : ℕ) (old new : Walk) (before now : List ℕ) (room : ℕ) (k : Written v f old before now room) → IsStop old new → IsLongestOf (IsReachable v f) k.reached
 written_reach v f old new before now room k s = walk_stops v f k.reached (left_in old) old.number.0 old.first old.behind_routing k.walking s.none

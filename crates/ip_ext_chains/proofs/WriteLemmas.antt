@@ -5,16 +5,16 @@ use Rattle.std.proofs.Math.Seq.{drop-append_seam}
 use Rattle.std.proofs.lemmas.List.{append_cancel_left, length-append}
 use Rattle.std.proofs.lemmas.List.Elements.{All-take}
 use Rattle.std.proofs.lemmas.Bool.{cases_Bool}
+use Rattle.ip_spec.specs.LongestOf.{IsLongestOf}
 use Rattle.ip_spec.specs.Header.{IsExtensionNumber}
 use Rattle.ip_spec.specs.Parse.{rest_behind, fault_behind}
-use Rattle.ip_spec.specs.Encoding.{AreBytes}
+use Rattle.ip_spec.specs.Encoding.{AreBytes, cleared_chain}
 use Rattle.ip_spec.specs.Chain.{ExtHeader, leads_to, bytes_of, is_empty}
 use Rattle.ip_spec.specs.Demand.{IsLongestUnder}
 use Rattle.ip_spec.specs.Fits.{FitsPlaces}
 use Rattle.ip_spec.specs.Places.{is_taken}
-use Rattle.ip_spec.specs.Encoded.{cleared_chain}
 use Rattle.ip_spec.specs.Encodable.{IsEncodable}
-use Rattle.ip_spec.specs.Walk.{IsValueOf, IsSpelling, IsReach, WalkAnswer, leads, hop_by_hop_not_at_start, not_referenced, IsWalkAnswer}
+use Rattle.ip_spec.specs.Walk.{IsValueOf, IsSpelling, IsReachable, WalkAnswer, leads, hop_by_hop_not_at_start, not_referenced, IsWalkAnswer}
 use Rattle.ip_spec.specs.Parse.{IsRead}
 use Rattle.ip_spec.proofs.FitsLemmas.{fits_places}
 use Rattle.ip_spec.proofs.UnderLemmas.{one_longest_under}
@@ -133,7 +133,7 @@ module _ (v : Ipv6Extensions) (n : ℕ) where
         (λ e. placed_fields_one v x (both.0 (appended_is (bytes_of c) e)), λ e. w.appended ∙ ap (λ l. old ++ l) (both.1 (λ p. ap (λ y. placed_fields y p) e)))
 
   -- The walk leads on, and what was reached was appended: that is all.
-  pub all_written : (old new : List ℕ) (m : ℕ) (c : List ExtHeader) → IsReach (placed_fields v) n c → IsWalkAnswer (placed_fields v) n (leads m) → new ≡ old ++ bytes_of c → IsWritten v n old new
+  pub all_written : (old new : List ℕ) (m : ℕ) (c : List ExtHeader) → IsLongestOf (IsReachable (placed_fields v) n) c → IsWalkAnswer (placed_fields v) n (leads m) → new ≡ old ++ bytes_of c → IsWritten v n old new
   all_written old new m c reach a appended =
       let it = leads_spelled (placed_fields v) n m a in
       let same : it.0 ≡ c = one_reach (placed_fields v) n it.0 c (spelling_is_reach (placed_fields v) n it.0 it.1) reach in
@@ -141,11 +141,9 @@ module _ (v : Ipv6Extensions) (n : ℕ) where
       let s : IsSpelling (placed_fields v) n c = subst S same it.1 in
       record { chain = c; spelling = s; answer = spelled_leads (placed_fields v) n c s; appended = appended }
 
-  pub fault_written : (old new : List ℕ) (e : ExtsWalkError) (c : List ExtHeader) → IsReach (placed_fields v) n c → IsWalkAnswer (placed_fields v) n (walk_answer (Err e)) → new ≡ old ++ bytes_of c → IsWalkFault v n old new e
+  pub fault_written : (old new : List ℕ) (e : ExtsWalkError) (c : List ExtHeader) → IsLongestOf (IsReachable (placed_fields v) n) c → IsWalkAnswer (placed_fields v) n (walk_answer (Err e)) → new ≡ old ++ bytes_of c → IsWalkFault v n old new e
   fault_written old new e c reach a appended = record {
     answer = a;
-    chain = c;
-    reach = reach;
-    appended = appended;
+    appended = appended ∙ ap (λ l. old ++ bytes_of l) (one_reach (placed_fields v) n c a.reach reach a.is_reach);
     unread = fault_unread e a;
   }

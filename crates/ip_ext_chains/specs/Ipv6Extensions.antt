@@ -1,8 +1,7 @@
 -- What a struct of six places holds.
 use Rattle.std.specs.Prelude.{ℕ, ◌+◌, List, Bool, false, ◌&&◌, Option, Some, None, is_none, option_and_then}
 use Rattle.std.specs.Option.{option_map, option_map_or}
-use Rattle.ip_spec.specs.Fields.{is_fragment}
-use Rattle.ip_spec.specs.FieldsOf.{RawFields, FragmentFields, raw_fields, fragment_fields, auth_fields, raw_len, auth_len}
+use Rattle.ip_spec.specs.Fields.{is_fragment, RawFields, FragmentFields, raw_fields, fragment_fields, auth_fields, raw_len, auth_len}
 use Rattle.ip_spec.specs.Chain.{ExtHeader}
 use Rattle.ip_spec.specs.Places.{Place, hop_by_hop, destination, routing, fragment, authentication, final_destination, header_in, HeaderFields, raw_header, fragment_header, auth_header}
 use Rattle.ip_ext_chains.specs.declared.ipv6_routing_exts.Ipv6RoutingExtensions.{Ipv6RoutingExtensions}
@@ -35,14 +34,15 @@ placed_fields v fragment = option_map fragment_header v.fragment
 placed_fields v authentication = option_map auth_header v.auth
 placed_fields v final_destination = option_map raw_header (final_of v.routing)
 
+-- a routing header with the options behind it
 abbrev pub routing_len : Ipv6RoutingExtensions → ℕ
 routing_len v = raw_len v.routing + option_map_or raw_len v.final_destination_options 0
 
 -- the sum over the places
 abbrev pub exts_len : Ipv6Extensions → ℕ
 exts_len v =
-    option_map_or raw_len v.hop_by_hop_options 0 + (option_map_or raw_len v.destination_options 0 + (option_map_or routing_len v.routing 0
-    + (option_map_or (λ h. 8) v.fragment 0 + option_map_or auth_len v.auth 0)))
+    option_map_or raw_len v.hop_by_hop_options 0 + (option_map_or raw_len v.destination_options 0 + (option_map_or (λ r. raw_len r.routing) v.routing 0
+    + (option_map_or (λ h. 8) v.fragment 0 + (option_map_or auth_len v.auth 0 + option_map_or raw_len (final_of v.routing) 0))))
 
 -- no place is filled
 abbrev pub has_none : Ipv6Extensions → Bool

@@ -3,7 +3,7 @@ use Rattle.std.specs.Prelude.{◌≡◌, ◌==◌, ◌&&◌, ℕ, List, Bool, tr
 use Rattle.std.specs.Option.{option_map, option_map_or}
 use Rattle.ip_spec.specs.Numbers.{HOP_BY_HOP}
 use Rattle.ip_spec.specs.Chain.{ExtHeader}
-use Rattle.ip_spec.specs.FieldsOf.{RawFields, raw_fields, fragment_fields, auth_fields}
+use Rattle.ip_spec.specs.Fields.{RawFields, raw_fields, fragment_fields, auth_fields}
 use Rattle.ip_spec.specs.Places.{Place, hop_by_hop, destination, routing, fragment, authentication, final_destination, index, number_in, place_of, header_in}
 use Rattle.ip_ext_slices.specs.Ipv6ExtensionSlice.{header_of}
 use Rattle.ip_ext_slices.specs.declared.ipv6_ext_slice.Ipv6ExtensionSlice.{Ipv6ExtensionSlice}

@@ -2,7 +2,7 @@
 use Rattle.std.specs.Prelude.{Err, ◌≡◌, ℕ, List, ◌++◌}
 use Rattle.ip_spec.specs.Encoding.{AreBytes}
 use Rattle.ip_spec.specs.Chain.{ExtHeader, leads_to, bytes_of}
-use Rattle.ip_spec.specs.Walk.{leads, IsSpelling, IsReach, IsWalkAnswer}
+use Rattle.ip_spec.specs.Walk.{leads, IsSpelling, IsWalkAnswer}
 use Rattle.ip_ext_chains.specs.Fitting.{fitting_chain}
 use Rattle.ip_ext_chains.specs.Ipv6Extensions.{value_of, placed_fields}
 use Rattle.ip_ext_chains.specs.Walk.{walk_answer}
@@ -20,7 +20,5 @@ pub record IsWritten (v : Ipv6Extensions) (n : ℕ) (old new : List ℕ) : Type 
 -- read from no bytes.
 pub record IsWalkFault (v : Ipv6Extensions) (n : ℕ) (old new : List ℕ) (e : ExtsWalkError) : Type 0 where
   pub answer : IsWalkAnswer (placed_fields v) n (walk_answer (Err e))
-  pub chain : List ExtHeader
-  pub reach : IsReach (placed_fields v) n chain
-  pub appended : new ≡ old ++ bytes_of chain
+  pub appended : new ≡ old ++ bytes_of answer.reach
   pub unread : (s : List ℕ) → AreBytes s → value_of (fitting_chain n s) ≡ v → ⊥

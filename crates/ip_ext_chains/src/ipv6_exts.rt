@@ -1,6 +1,6 @@
 ghost use Rattle.std.specs.Prelude.{◌≡◌, ◌≤◌, ℕ, [], take, Some, None, IfOk, IfErr};
 ghost use Rattle.std.specs.Option.{option_map, option_map_or};
-ghost use Rattle.ip_spec.specs.FieldsOf.{raw_len, raw_fields};
+ghost use Rattle.ip_spec.specs.Fields.{raw_len, raw_fields};
 ghost use Rattle.ip_spec.specs.Chain.{headers_within};
 ghost use Rattle.ip_spec.specs.Demand.{IsLongestUnder};
 ghost use Rattle.ip_spec.specs.Encodable.{IsEncodable};

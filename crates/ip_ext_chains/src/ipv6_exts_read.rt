@@ -2,7 +2,7 @@ ghost use Rattle.std.specs.Prelude.{◌≡◌, ℕ, [], length, IsOk, OnOk, OnEr
 ghost use Rattle.std.specs.Io.KnownBytes.{Consumes};
 ghost use Rattle.ip_spec.specs.Numbers.{ROUTING, FRAGMENT, AUTHENTICATION};
 ghost use Rattle.ip_spec.specs.Header.{IsRawHeader, IsFragmentHeader, IsAuthHeader, IsRawNumber, IsExtensionNumber};
-ghost use Rattle.ip_spec.specs.FieldsOf.{raw_fields, fragment_fields, auth_fields};
+ghost use Rattle.ip_spec.specs.Fields.{raw_fields, fragment_fields, auth_fields};
 ghost use Rattle.ip_spec.specs.Lengths.{IsPayloadLen};
 ghost use Rattle.ip_spec.specs.Places.{number_in, final_destination};
 ghost use Rattle.ip_spec.specs.Requests.{RawAsks};

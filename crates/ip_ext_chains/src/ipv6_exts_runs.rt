@@ -33,7 +33,7 @@ pub struct Ipv6ExtensionsRuns<'a> {
 impl<'a> Ipv6ExtensionsRuns<'a> {
     ghost use Rattle.std.specs.Prelude.{ℕ, ◌+◌, ◌/◌, ◌≤◌, List, [], length, map, IfSome, IfNone};
     ghost use Rattle.ip_spec.specs.Chain.{ExtHeader};
-    ghost use Rattle.ip_spec.specs.Encoded.{cleared_chain};
+    ghost use Rattle.ip_spec.specs.Encoding.{cleared_chain};
     ghost use Rattle.ip_spec.specs.Fits.{FitsPlaces};
     ghost use Rattle.ip_spec.specs.Runs.{AreRuns, joined, how_many};
     ghost use Rattle.ip_ext_slices.specs.Fault.{chain_fault};

@@ -2,7 +2,7 @@
 ghost use Rattle.std.specs.Prelude.{◌≡◌, is_some, IfSome, IfNone};
 ghost use Rattle.std.specs.Option.{option_map};
 ghost use Rattle.ip_spec.specs.Header.{IsRawNumber};
-ghost use Rattle.ip_spec.specs.FieldsOf.{raw_fields, fragment_fields, auth_fields};
+ghost use Rattle.ip_spec.specs.Fields.{raw_fields, fragment_fields, auth_fields};
 ghost use Rattle.ip_spec.specs.Places.{place_of, index, number_in, routing, fragment, authentication};
 ghost use Rattle.ip_ext_chains.specs.Place.{as_place};
 

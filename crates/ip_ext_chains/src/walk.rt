@@ -1,9 +1,10 @@
 //! The walk along the next numbers of headers that stand in six places.
-ghost use Rattle.std.specs.Prelude.{◌≡◌, ◌↔◌, true, false, IsTrue, Some, IfSome, IfNone};
+ghost use Rattle.std.specs.Prelude.{◌≡◌, ◌↔◌, true, false, IsTrue, Some, is_some, IfSome, IfNone};
+ghost use Rattle.std.specs.List.{find};
 ghost use Rattle.std.specs.Option.{option_map};
-ghost use Rattle.ip_spec.specs.Walk.{first_filled, answer_at};
+ghost use Rattle.ip_spec.specs.Walk.{answer_at};
 ghost use Rattle.ip_spec.specs.WalkStep.{next_place};
-ghost use Rattle.ip_spec.specs.Places.{Place as spec_place, raw_header};
+ghost use Rattle.ip_spec.specs.Places.{Place as spec_place, places, raw_header};
 ghost use Rattle.ip_ext_chains.specs.Place.{as_place};
 ghost use Rattle.ip_ext_chains.specs.HeaderRef.{fields_of_ref};
 ghost use Rattle.ip_ext_chains.specs.Ipv6Extensions.{placed_fields};
@@ -122,7 +123,7 @@ impl<'a> Walk<'a> {
     /// The first place, in their order, whose header isn't reached.
     #[inline(always)]
     fn first_left(&self) -> Option<Place>
-        ensures { option_map as_place result ≡ first_filled (left_in self.now) }
+        ensures { option_map as_place result ≡ find (λ p. is_some (left_in self.now p)) places }
     {
         if self.left(Place::HopByHop).is_some() {
             Some(Place::HopByHop)

@@ -1,5 +1,5 @@
 -- What a read takes of an authentication header.
-use Rattle.ip_spec.specs.FieldsOf.{AuthFields}
+use Rattle.ip_spec.specs.Fields.{AuthFields}
 use Rattle.ip_ext_headers.specs.declared.auth_parts.AuthParts.{AuthParts}
 
 -- the fields of the header of these parts

@@ -2,7 +2,7 @@
 use Rattle.std.specs.Prelude.{Bool, ◌==◌, ◌&&◌, nat_eq}
 use Rattle.std.specs.Bool.{beq}
 use Rattle.std.specs.Cmp.Lexicographic.{pointwise}
-use Rattle.ip_spec.specs.FieldsOf.{RawFields, FragmentFields, AuthFields}
+use Rattle.ip_spec.specs.Fields.{RawFields, FragmentFields, AuthFields}
 
 abbrev pub raw_equal : RawFields → RawFields → Bool
 raw_equal v w = (v.next_header == w.next_header) && pointwise nat_eq v.payload w.payload

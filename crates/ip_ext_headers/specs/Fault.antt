@@ -18,9 +18,7 @@ raw_fault source n k r =
 
 -- at a fragment header (RFC 8200, section 4.5)
 abbrev pub fragment_fault : LenSource → ℕ → ℕ → List ℕ → Option LenError
-fragment_fault source n k r =
-    if nat_lt (length r) 8 then Some (too_short source n k Ipv6FragHeader 8)
-    else None
+fragment_fault source n k r = if nat_lt (length r) 8 then Some (too_short source n k Ipv6FragHeader 8) else None
 
 -- at an authentication header (RFC 4302, section 2)
 abbrev pub auth_fault : LenSource → ℕ → ℕ → List ℕ → Option HeaderSliceError

@@ -3,8 +3,7 @@ ghost use Rattle.std.specs.Prelude.{◌≡◌, length, OnOk, OnErr, IfOk, IfErr}
 ghost use Rattle.std.specs.Io.KnownBytes.{Consumes};
 ghost use Rattle.ip_spec.specs.Prefix.{NoPrefix};
 ghost use Rattle.ip_spec.specs.Header.{IsAuthHeader};
-ghost use Rattle.ip_spec.specs.Fields as fields;
-ghost use Rattle.ip_spec.specs.FieldsOf.{auth_fields};
+ghost use Rattle.ip_spec.specs.Fields.{auth_fields};
 ghost use Rattle.ip_spec.specs.Lengths.{IsIcvLen};
 ghost use Rattle.ip_io.specs.ExactRead.{IfSteady};
 ghost use Rattle.ip_io.specs.LimitedReader.{inner_of, window};
@@ -34,12 +33,7 @@ impl<'a> AuthParts<'a> {
     #[inline(always)]
     fn of_bytes(start: [u8; 12], raw_icv: &'a [u8]) -> AuthParts<'a>
         requires { IsIcvLen (length raw_icv.now) }
-        ensures { fields_in result ≡ record {
-          next_header = fields.next_header start;
-          spi = fields.spi start;
-          sequence_number = fields.sequence_number start;
-          raw_icv = raw_icv.now;
-        } }
+        ensures { fields_in result ≡ record (auth_fields start) { raw_icv = raw_icv.now } }
     {
         AuthParts {
             next_header: IpNumber(start[0]),

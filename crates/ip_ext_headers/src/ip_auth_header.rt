@@ -3,7 +3,7 @@ ghost use Rattle.std.specs.Int.{to_be_bytes, w32};
 ghost use Rattle.std.specs.Io.KnownBytes.{Consumes};
 ghost use Rattle.ip_spec.specs.Prefix.{IsPrefix, NoPrefix};
 ghost use Rattle.ip_spec.specs.Header.{IsAuthHeader};
-ghost use Rattle.ip_spec.specs.FieldsOf.{auth_len, auth_fields};
+ghost use Rattle.ip_spec.specs.Fields.{auth_len, auth_fields};
 ghost use Rattle.ip_spec.specs.Encoding.{AppendsOne, IsAuthEncoding};
 ghost use Rattle.ip_spec.specs.Decoding.{IsAuthDecoding};
 ghost use Rattle.ip_io.specs.ExactRead.{IfSteady};
@@ -44,7 +44,7 @@ pub struct IpAuthHeader {
 
 impl Model for IpAuthHeader {
     ghost use Rattle.std.specs.Prelude.{length};
-    ghost use Rattle.ip_spec.specs.FieldsOf.{AuthFields};
+    ghost use Rattle.ip_spec.specs.Fields.{AuthFields};
     ghost use Rattle.ip_spec.specs.Lengths.{IsIcvLen};
 
     ghost Value = { AuthFields };

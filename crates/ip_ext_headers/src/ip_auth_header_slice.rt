@@ -1,8 +1,7 @@
 ghost use Rattle.std.specs.Prelude.{◌≡◌, ◌≤◌, ℕ, List, length, IfOk, IfErr};
 ghost use Rattle.ip_spec.specs.Prefix.{IsPrefix};
 ghost use Rattle.ip_spec.specs.Header.{IsAuthHeader};
-ghost use Rattle.ip_spec.specs.Fields.{next_header, spi, sequence_number, icv};
-ghost use Rattle.ip_spec.specs.FieldsOf.{auth_fields};
+ghost use Rattle.ip_spec.specs.Fields.{next_header, auth_fields};
 
 use crate::IpAuthHeader;
 use crate::err::ip_auth::{HeaderError, HeaderSliceError};
@@ -84,21 +83,21 @@ impl<'a> IpAuthHeaderSlice<'a> {
 
     /// The security parameters index, which tells the receiver its association with the sender.
     pub fn spi(&self) -> u32
-        ensures { result ≡ spi (bytes self.now) }
+        ensures { result ≡ (auth_fields (bytes self.now)).spi }
     {
         u32::from_be_bytes([self.slice[4], self.slice[5], self.slice[6], self.slice[7]])
     }
 
     /// The sender's count of packets.
     pub fn sequence_number(&self) -> u32
-        ensures { result ≡ sequence_number (bytes self.now) }
+        ensures { result ≡ (auth_fields (bytes self.now)).sequence_number }
     {
         u32::from_be_bytes([self.slice[8], self.slice[9], self.slice[10], self.slice[11]])
     }
 
     /// The integrity check value with its padding, 0 to 1016 bytes.
     pub fn raw_icv(&self) -> &'a [u8]
-        ensures { result.now ≡ icv (bytes self.now) }
+        ensures { result.now ≡ (auth_fields (bytes self.now)).raw_icv }
     {
         &self.slice[12..]
     }

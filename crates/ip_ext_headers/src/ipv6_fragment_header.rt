@@ -2,9 +2,8 @@ ghost use Rattle.std.specs.Prelude.{◌≡◌, ◌≤◌, ◌<◌, ◌+◌, ◌+
 ghost use Rattle.std.specs.Io.KnownBytes.{Consumes};
 ghost use Rattle.ip_spec.specs.Prefix.{IsPrefix, NoPrefix};
 ghost use Rattle.ip_spec.specs.Header.{IsFragmentHeader};
-ghost use Rattle.ip_spec.specs.Fields.{is_fragment};
+ghost use Rattle.ip_spec.specs.Fields.{is_fragment, fragment_fields};
 ghost use Rattle.ip_spec.specs.Encoding.{AppendsOne, IsFragmentEncoding};
-ghost use Rattle.ip_spec.specs.FieldsOf.{fragment_fields};
 ghost use Rattle.ip_spec.specs.Decoding.{IsFragmentDecoding};
 ghost use Rattle.ip_spec.specs.Requests.{FragmentAsks};
 ghost use Rattle.ip_io.specs.ExactRead.{IfSteady};
@@ -36,7 +35,7 @@ pub struct Ipv6FragmentHeader {
 }
 
 impl Model for Ipv6FragmentHeader {
-    ghost use Rattle.ip_spec.specs.FieldsOf.{FragmentFields};
+    ghost use Rattle.ip_spec.specs.Fields.{FragmentFields};
 
     ghost Value = { FragmentFields };
 

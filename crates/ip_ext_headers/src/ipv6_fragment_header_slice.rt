@@ -1,8 +1,7 @@
 ghost use Rattle.std.specs.Prelude.{◌≡◌, ℕ, List, IfOk, IfErr, length};
 ghost use Rattle.ip_spec.specs.Prefix.{IsPrefix};
 ghost use Rattle.ip_spec.specs.Header.{IsFragmentHeader};
-ghost use Rattle.ip_spec.specs.Fields.{next_header, fragment_offset, more_fragments, identification, is_fragmenting};
-ghost use Rattle.ip_spec.specs.FieldsOf.{fragment_fields};
+ghost use Rattle.ip_spec.specs.Fields.{next_header, is_fragmenting, fragment_fields};
 
 use crate::Ipv6FragmentHeader;
 use crate::fragment_bits::{unpack_flag, unpack_offset};
@@ -61,21 +60,21 @@ impl<'a> Ipv6FragmentHeaderSlice<'a> {
 
     /// Where the fragment lies in the payload, in units of 8 bytes.
     pub fn fragment_offset(&self) -> IpFragOffset
-        ensures { result ≡ fragment_offset (bytes self.now) }
+        ensures { result ≡ (fragment_fields (bytes self.now)).fragment_offset }
     {
         unpack_offset(self.slice[2], self.slice[3])
     }
 
     /// Whether more fragments of the payload follow.
     pub fn more_fragments(&self) -> bool
-        ensures { result ≡ more_fragments (bytes self.now) }
+        ensures { result ≡ (fragment_fields (bytes self.now)).more_fragments }
     {
         unpack_flag(self.slice[3])
     }
 
     /// The number that the fragments of one packet share.
     pub fn identification(&self) -> u32
-        ensures { result ≡ identification (bytes self.now) }
+        ensures { result ≡ (fragment_fields (bytes self.now)).identification }
     {
         u32::from_be_bytes([self.slice[4], self.slice[5], self.slice[6], self.slice[7]])
     }

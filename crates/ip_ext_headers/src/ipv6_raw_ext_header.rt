@@ -3,7 +3,7 @@ ghost use Rattle.std.specs.Io.KnownBytes.{Consumes};
 ghost use Rattle.ip_spec.specs.Numbers.{HOP_BY_HOP, ROUTING, DESTINATION_OPTIONS};
 ghost use Rattle.ip_spec.specs.Prefix.{IsPrefix, NoPrefix};
 ghost use Rattle.ip_spec.specs.Header.{IsRawHeader};
-ghost use Rattle.ip_spec.specs.FieldsOf.{raw_fields, raw_len};
+ghost use Rattle.ip_spec.specs.Fields.{raw_fields, raw_len};
 ghost use Rattle.ip_spec.specs.Encoding.{AppendsOne, IsRawEncoding};
 ghost use Rattle.ip_spec.specs.Decoding.{IsRawDecoding};
 ghost use Rattle.ip_spec.specs.Requests.{RawAsks};
@@ -40,7 +40,7 @@ pub struct Ipv6RawExtHeader {
 
 impl Model for Ipv6RawExtHeader {
     ghost use Rattle.std.specs.Prelude.{length};
-    ghost use Rattle.ip_spec.specs.FieldsOf.{RawFields};
+    ghost use Rattle.ip_spec.specs.Fields.{RawFields};
     ghost use Rattle.ip_spec.specs.Lengths.{IsPayloadLen};
 
     ghost Value = { RawFields };

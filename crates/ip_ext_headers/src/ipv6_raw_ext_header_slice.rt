@@ -2,8 +2,7 @@ ghost use Rattle.std.specs.Prelude.{◌≡◌, ◌≤◌, ◌↔◌, ◌⊎◌, 
 ghost use Rattle.ip_spec.specs.Numbers.{HOP_BY_HOP, ROUTING, DESTINATION_OPTIONS};
 ghost use Rattle.ip_spec.specs.Prefix.{IsPrefix};
 ghost use Rattle.ip_spec.specs.Header.{IsRawHeader};
-ghost use Rattle.ip_spec.specs.Fields.{next_header, raw_payload};
-ghost use Rattle.ip_spec.specs.FieldsOf.{raw_fields};
+ghost use Rattle.ip_spec.specs.Fields.{next_header, raw_fields};
 
 use crate::Ipv6RawExtHeader;
 use ip_base::err::{Layer, LenError};
@@ -99,7 +98,7 @@ impl<'a> Ipv6RawExtHeaderSlice<'a> {
 
     /// What follows the number and the length, 6 to 2046 bytes.
     pub fn payload(&self) -> &'a [u8]
-        ensures { result.now ≡ raw_payload (bytes self.now) }
+        ensures { result.now ≡ (raw_fields (bytes self.now)).payload }
     {
         &self.slice[2..]
     }

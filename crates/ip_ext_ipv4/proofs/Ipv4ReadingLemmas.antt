@@ -18,7 +18,7 @@ use Rattle.ip_ext_headers.specs.declared.err.ip_auth.header_limited_read_error.H
 use Rattle.ip_ext_headers.proofs.FaultLemmas.{auth_at_header}
 use Rattle.ip_spec.specs.Prefix.{IsPrefix}
 use Rattle.ip_spec.specs.Header.{IsAuthHeader}
-use Rattle.ip_spec.specs.FieldsOf.{AuthFields, auth_fields}
+use Rattle.ip_spec.specs.Fields.{AuthFields, auth_fields}
 use Rattle.ip_spec.specs.Chain.{ExtHeader}
 use Rattle.ip_spec.specs.Parse.{IsAnswer, fault_behind}
 use Rattle.ip_spec.proofs.PrefixLemmas.{prefix_of-append}

@@ -9,11 +9,8 @@ use Rattle.std.proofs.Math.Seq.{drop-append_seam}
 use Rattle.ip_base.specs.declared.ip_number_impl.IpNumber.{IpNumber}
 use Rattle.ip_spec.specs.Prefix.{IsPrefix}
 use Rattle.ip_spec.specs.Header.{IsAuthHeader, auth}
-use Rattle.ip_spec.specs.Fields.{next_header}
-use Rattle.ip_spec.specs.FieldsOf.{AuthFields, auth_fields}
-use Rattle.ip_spec.specs.Cleared.{cleared_auth}
-use Rattle.ip_spec.specs.Encoding.{AreBytes, IsAuthEncoding}
-use Rattle.ip_spec.specs.Encoded.{AreCleared, cleared_chain}
+use Rattle.ip_spec.specs.Fields.{next_header, AuthFields, auth_fields}
+use Rattle.ip_spec.specs.Encoding.{cleared_header, AreBytes, IsAuthEncoding, IsCleared, cleared_chain}
 use Rattle.ip_spec.specs.Chain.{ExtHeader, IsChain, bytes_of, leads_to}
 use Rattle.ip_spec.specs.Demand.{AtMostOneOf}
 use Rattle.ip_spec.specs.Parse.{IsAnswer, IsRead}
@@ -22,7 +19,10 @@ use Rattle.std.proofs.lemmas.Bool.{ne_eqb}
 use Rattle.ip_spec.proofs.DemandKinds.{one_of_first, one_of_none}
 use Rattle.ip_spec.proofs.PrefixLemmas.{prefix_of-append, prefix-length}
 use Rattle.ip_spec.proofs.HeaderLemmas.{auth_of}
-use Rattle.ip_spec.proofs.EncodingLemmas.{auth_only, cleared_auth_encodes}
+use Rattle.ip_spec.proofs.EncodedLemmas.{one_encoded}
+use Rattle.ip_spec.proofs.ClearedLemmas.{cleared_encodes as header_encodes}
+use Rattle.ip_spec.specs.Places.{auth_header}
+use Rattle.std.specs.List.{AllByRecursion}
 use Rattle.ip_ext_errors.specs.declared.ipv4_exts.exts_walk_error.ExtsWalkError.{ExtsWalkError}
 use Rattle.ip_ext_errors.specs.declared.ipv4_exts.exts_walk_error.ExtsWalkError.TheVariants.{ExtNotReferenced}
 use Rattle.ip_ext_ipv4.specs.Ipv4Longest.{longest_ipv4_chain}
@@ -64,14 +64,14 @@ encodes : (f : ℕ) (v : Option AuthFields) (b : List ℕ) → IsIpv4Encoding f 
 encodes f v b (m, e) = elim (one_or_none f e.chain e.longest.has.0.chain e.longest.has.1) [
   | inl none ↦ inl (record { value = sym e.value.0 ∙ ap ipv4_value none; bytes = sym e.all ∙ ap bytes_of none })
   | inr one ↦
-      let cleared : AreCleared (record { number = 51; bytes = one.bytes } ∷ []) = subst AreCleared one.alone e.value.1 in
+      let Cleared : List ExtHeader → Type 0 = AllByRecursion IsCleared in
       let joined : one.bytes ≡ b = sym (append-nil one.bytes) ∙ sym (ap bytes_of one.alone) ∙ e.all in
       let P : List ℕ → Type 0 = IsAuthEncoding (auth_fields one.bytes) in
       inr (record {
         fields = auth_fields one.bytes;
         named = one.named;
         value = sym e.value.0 ∙ ap ipv4_value one.alone;
-        encoding = subst P joined (record { header = one.header; fields = refl; reserved = cleared.0.reserved; bytes = cleared.0.bytes });
+        encoding = subst P joined (record { header = one.header; fields = refl; cleared = (subst Cleared one.alone e.value.1).0 });
       })
 ]
 
@@ -85,7 +85,7 @@ one_ipv4_encoding f v b d x y = elim (encodes f v b x) [
         let both : Some k.fields ≡ Some l.fields = sym k.value ∙ l.value in
         let same : k.fields ≡ l.fields = cc in
         let P : AuthFields → Type 0 = λ w. IsAuthEncoding w b in
-        auth_only l.fields b (subst P same k.encoding) ∙ sym (auth_only l.fields d l.encoding)
+        one_encoded (auth_header l.fields) b d (subst P same k.encoding) l.encoding
   ]
 ]
 
@@ -128,13 +128,13 @@ module _ (V : List ExtHeader → Type 0) (f : ℕ) where
 
 -- no header is encoded by no bytes
 pub none_encodes : (f : ℕ) (v : Option AuthFields) → v ≡ None → IsIpv4Encoding f v []
-none_encodes f v e = (f, none_whole (λ c. (ipv4_value c ≡ v) × AreCleared c) f (sym e, tt))
+none_encodes f v e = (f, none_whole (λ c. (ipv4_value c ≡ v) × AllByRecursion IsCleared c) f (sym e, tt))
 
 pub one_encodes : (f : ℕ) (v : Option AuthFields) (w : AuthFields) (b : List ℕ) → f ≡ 51 → v ≡ Some w → AreBytes b → IsAuthEncoding w b → IsIpv4Encoding f v b
 one_encodes f v w b named value bytes e = (
   w.next_header,
-  one_whole (λ c. (ipv4_value c ≡ v) × AreCleared c) f w b named bytes e
-      (ap (λ (u : AuthFields). Some u) e.fields ∙ sym value, (record { reserved = e.reserved; bytes = e.bytes }, tt)),
+  one_whole (λ c. (ipv4_value c ≡ v) × AllByRecursion IsCleared c) f w b named bytes e
+      (ap (λ (u : AuthFields). Some u) e.fields ∙ sym value, (e.cleared, tt)),
 )
 
 -- The reserved bits of the longest chain put to zero, it encodes its value.
@@ -148,8 +148,8 @@ cleared_encodes n s bytes =
           let prefix : IsPrefix one.bytes s = subst (λ (d : List ℕ). IsPrefix d s) (ap bytes_of one.alone ∙ append-nil one.bytes) l.has.0.prefix in
           let whole : AreBytes one.bytes = subst AreBytes prefix (All-take (λ x. x < 256) (length one.bytes) s bytes) in
           let fixed : AreBytes (slice_range one.bytes 1 12) = All-take (λ x. x < 256) 11 (drop 1 one.bytes) (All-drop (λ x. x < 256) 1 one.bytes whole) in
-          let zeros : AreBytes (cleared_auth one.bytes) = All-set (λ x. x < 256) (slice_set one.bytes 2 0) 3 0 (omega arith) (All-set (λ x. x < 256) one.bytes 2 0 (omega arith) whole) in
-          subst P (sym one.alone) (subst (IsIpv4Encoding n (Some (auth_fields one.bytes))) (sym (append-nil (cleared_auth one.bytes))) (one_encodes n (Some (auth_fields one.bytes)) (auth_fields one.bytes) (cleared_auth one.bytes) one.named refl zeros (cleared_auth_encodes one.bytes one.header fixed)))
+          let zeros : AreBytes (cleared_header 51 one.bytes) = All-set (λ x. x < 256) (slice_set one.bytes 2 0) 3 0 (omega arith) (All-set (λ x. x < 256) one.bytes 2 0 (omega arith) whole) in
+          subst P (sym one.alone) (subst (IsIpv4Encoding n (Some (auth_fields one.bytes))) (sym (append-nil (cleared_header 51 one.bytes))) (one_encodes n (Some (auth_fields one.bytes)) (auth_fields one.bytes) (cleared_header 51 one.bytes) one.named refl zeros (header_encodes 51 one.bytes (auth refl one.header) fixed)))
     ]
 
 -- As what bytes are read, also with more behind them.
@@ -188,7 +188,7 @@ IsEncoded w = (b : List ℕ) × AreBytes b × IsAuthEncoding w b
 
 -- They are the only ones.
 pub encoding_bytes : (w : AuthFields) (b : List ℕ) → IsEncoded w → IsAuthEncoding w b → AreBytes b
-encoding_bytes w b (d, bytes, encodes) e = subst AreBytes (auth_only w d encodes ∙ sym (auth_only w b e)) bytes
+encoding_bytes w b (d, bytes, encodes) e = subst AreBytes (one_encoded (auth_header w) d b encodes e) bytes
 
 -- What is written is read again.
 module _ (f : ℕ) (m : IpNumber) where

@@ -2,7 +2,7 @@
 use Rattle.std.specs.Prelude.{ℕ, List, [], ◌∷◌, Option, Some, None}
 use Rattle.ip_base.specs.declared.len_source.LenSource.TheVariants.{Slice}
 use Rattle.ip_ext_headers.specs.declared.err.ip_auth.header_slice_error.HeaderSliceError.{HeaderSliceError}
-use Rattle.ip_spec.specs.FieldsOf.{AuthFields, auth_fields}
+use Rattle.ip_spec.specs.Fields.{AuthFields, auth_fields}
 use Rattle.ip_spec.specs.Chain.{ExtHeader}
 use Rattle.ip_spec.specs.Parse.{IsAnswer}
 use Rattle.ip_ext_ipv4.specs.Ipv4Longest.{longest_ipv4_chain}

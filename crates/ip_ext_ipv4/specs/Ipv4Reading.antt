@@ -1,6 +1,6 @@
 -- What is read of IPv4 extension headers.
 use Rattle.std.specs.Prelude.{ℕ, List, Option, None}
-use Rattle.ip_spec.specs.FieldsOf.{AuthFields}
+use Rattle.ip_spec.specs.Fields.{AuthFields}
 use Rattle.ip_ext_ipv4.specs.Ipv4Parse.{IsIpv4Answer, ipv4_value}
 
 -- from number n off the front of bytes s, the headers v lead to m and leave r, without a fault

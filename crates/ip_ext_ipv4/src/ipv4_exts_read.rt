@@ -3,7 +3,7 @@ ghost use Rattle.std.specs.Io.KnownBytes.{Consumes};
 ghost use Rattle.ip_base.specs.declared.err.layer.Layer.TheVariants.{IpAuthHeader as AuthLayer};
 ghost use Rattle.ip_spec.specs.Numbers.{AUTHENTICATION};
 ghost use Rattle.ip_spec.specs.Header.{IsAuthHeader};
-ghost use Rattle.ip_spec.specs.FieldsOf.{auth_fields};
+ghost use Rattle.ip_spec.specs.Fields.{auth_fields};
 ghost use Rattle.ip_io.specs.LimitedReader.{inner_of, window};
 ghost use Rattle.ip_io.specs.Reading.{IsHeaderTaken, IsAnswerTaken, IsTakenInLayer};
 ghost use Rattle.ip_ext_headers.specs.AuthReading.{IsAuthRefused, IsAuthRefusedInLayer, IsSliceError, IsSliceErrorInLayer};

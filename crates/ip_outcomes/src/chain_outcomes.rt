@@ -2,7 +2,7 @@
 //! them (`outcomes.rt`).
 ghost use Rattle.std.specs.Prelude.{ℕ, Ok, ◌≡◌, ◌≢◌, ◌<◌, ◌+◌, ◌++◌, ◌==◌, ◌↔◌, List, [], None, Some, Err, IsOk, length, IfOk, IfErr, IfSome, IfNone, vec_len, vec_capacity, if◌then◌else◌};
 ghost use Rattle.std.specs.Option.{option_map, option_map_or};
-ghost use Rattle.ip_spec.specs.FieldsOf.{auth_len};
+ghost use Rattle.ip_spec.specs.Fields.{auth_len};
 ghost use Rattle.ip_spec.specs.Encoding.{AppendsOne};
 ghost use Rattle.ip_spec.specs.Chain.{ExtHeader, bytes_of};
 ghost use Rattle.ip_spec.specs.Walk.{leads, IsSpelling, IsWalkAnswer};

@@ -5,7 +5,7 @@ ghost use Rattle.std.specs.Prelude.{◌≡◌, true, ◌≤◌, ◌<◌, ◌+◌
 ghost use Rattle.ip_spec.specs.Prefix.{IsPrefix};
 ghost use Rattle.ip_spec.specs.Header.{IsRawHeader, IsFragmentHeader, IsAuthHeader};
 ghost use Rattle.ip_spec.specs.Lengths.{MAX_FRAGMENT_OFFSET};
-ghost use Rattle.ip_spec.specs.FieldsOf.{raw_len, auth_len};
+ghost use Rattle.ip_spec.specs.Fields.{raw_len, auth_len};
 ghost use Rattle.ip_spec.specs.Encoding.{AppendsOne, IsRawEncoding, IsFragmentEncoding, IsAuthEncoding};
 ghost use Rattle.ip_spec.specs.Decoding.{IsRawDecoding, IsFragmentDecoding, IsAuthDecoding};
 ghost use Rattle.ip_spec.specs.Chain.{IsNext, IsEnd};

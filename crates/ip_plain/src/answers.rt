@@ -6,7 +6,7 @@ ghost use Rattle.std.specs.Prelude.{[], ◌∷◌, slice_index, IfOk, OnOk, stri
 ghost use Rattle.std.specs.List.{slice_split};
 ghost use Rattle.std.specs.Option.{option_map};
 ghost use Rattle.ip_spec.specs.Chain.{bytes_of};
-ghost use Rattle.ip_spec.specs.Encoded.{cleared_chain};
+ghost use Rattle.ip_spec.specs.Encoding.{cleared_chain};
 ghost use Rattle.ip_plain.specs.PlainHeader.{plain_header_of};
 ghost use Rattle.ipexts_tool.specs.Answers.{answers, answer_of};
 ghost use Rattle.ipexts_tool.specs.Exts6.{exts6_answer};

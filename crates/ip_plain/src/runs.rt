@@ -1,7 +1,7 @@
 //! The runs of a chain, written one after the other by the library.
 ghost use Rattle.std.specs.Prelude.{◌≡◌, length, IfOk};
 ghost use Rattle.ip_spec.specs.Chain.{bytes_of};
-ghost use Rattle.ip_spec.specs.Encoded.{cleared_chain};
+ghost use Rattle.ip_spec.specs.Encoding.{cleared_chain};
 ghost use Rattle.ip_ext_slices.specs.Longest.{longest_chain};
 ghost use Rattle.ip_ext_chains.specs.Runs.{runs_of};
 

@@ -1,5 +1,5 @@
 -- Chains whose reserved bits are put to zero: they lead where they led, stand in the same places and say the same.
-use Rattle.std.proofs.Common.{◌≡◌, ◌≢◌, ℕ, ◌<◌, List, [], ◌∷◌, ◌++◌, length, drop, refl, ap, sym, ◌∙◌, arith, inl, inr, subst, Bool, length-set}
+use Rattle.std.proofs.Common.{◌≡◌, ◌≢◌, ℕ, ◌<◌, List, [], ◌∷◌, ◌++◌, length, take, drop, refl, ap, sym, ◌∙◌, arith, inl, inr, subst, Bool}
 use Rattle.std.specs.Prelude.{Option, Some, None, All, count_by, slice_range, ◌==◌}
 use Rattle.std.specs.List.{AllByRecursion, find}
 use Rattle.std.specs.Option.{option_map, ForSome}
@@ -7,18 +7,20 @@ use Rattle.std.proofs.lemmas.Bool.{cases_Bool}
 use Rattle.std.proofs.lemmas.Option.{none-some, same_Some}
 use Rattle.std.proofs.Math.Seq.{take-append_seam, drop-append_seam}
 use Rattle.std.proofs.lemmas.List.Elements.{All-from_recursion, recursion_from_All, All-take, All-drop}
-use Rattle.ip_spec.specs.Header.{IsHeader, IsRawNumber, raw, fragment, auth}
-use Rattle.ip_spec.specs.Fields.{next_header}
-use Rattle.ip_spec.specs.FieldsOf.{FragmentFields, AuthFields}
-use Rattle.ip_spec.specs.Cleared.{cleared_header}
-use Rattle.ip_spec.specs.Encoding.{AreBytes}
+use Rattle.std.specs.Int.{from_be_bytes, w32}
+use Rattle.ip_spec.specs.Header.{IsHeader, IsFragmentHeader, IsAuthHeader, fragment, auth}
+use Rattle.ip_spec.specs.Fields.{next_header, FragmentFields, offset_bits, flag_bit, unreserved_bits}
+use Rattle.ip_spec.specs.Encoding.{cleared_header, AreBytes, fixed_len, IsCleared, cleared_chain}
 use Rattle.ip_spec.specs.Chain.{ExtHeader, AreLinked, leads_to, bytes_of, IsChain}
 use Rattle.ip_spec.specs.Fits.{FitsPlaces}
-use Rattle.ip_spec.specs.Places.{Place, destination, final_destination, side_of, header_in, fields_of, fragment_header, auth_header}
-use Rattle.ip_spec.specs.Encoded.{fixed_len, AreCleared, cleared_chain}
+use Rattle.ip_spec.specs.Places.{Place, destination, final_destination, side_of, header_in, HeaderFields, fields_of, fragment_header}
 use Rattle.ip_spec.proofs.FirstLemmas.{find-yes, find-no, before-map, after-map, find-map, count-map}
 use Rattle.ip_spec.proofs.PlaceLemmas.{is_of}
-use Rattle.ip_spec.proofs.EncodingLemmas.{cleared_fragment_same, cleared_auth_same, cleared_fragment_encodes, cleared_auth_encodes}
+use Rattle.ip_spec.specs.WalkStep.{IsEncodingOf}
+use Rattle.ip_spec.proofs.HeaderLemmas.{header_number, header-least, by_number, fragment_of, auth_of}
+use Rattle.ip_spec.proofs.FragmentBitLemmas.{unreserved_offset, unreserved_flag, unreserved_again, unreserved_small}
+use Rattle.ip_spec.proofs.EncodingLemmas.{FirstFour, first_four, byte_at, three_before}
+use Rattle.ip_spec.proofs.EncodedLemmas.{cleared_is_encoding}
 
 -- What clearing leaves of a header.
 pub record ClearedSame (n : ℕ) (b : List ℕ) : Type 0 where
@@ -29,44 +31,59 @@ pub record ClearedSame (n : ℕ) (b : List ℕ) : Type 0 where
   pub again : cleared_header n (cleared_header n b) ≡ cleared_header n b
   pub bytes : AreBytes (slice_range b 1 (fixed_len n)) → AreBytes (slice_range (cleared_header n b) 1 (fixed_len n))
 
-module _ (b : List ℕ) where
-  raw_same : (n : ℕ) → IsRawNumber n → IsHeader n b → ClearedSame n b
-  raw_same n k h =
-      let S : ℕ → Type 0 = λ m. IsHeader m b → ClearedSame m b in
-      elim k [
-        | inl e ↦ subst S (sym e) (λ g. record { header = g; fields = refl; next = refl; len = refl; again = refl; bytes = λ a. a }) h
-        | inr k' ↦ elim k' [
-          | inl e ↦ subst S (sym e) (λ g. record { header = g; fields = refl; next = refl; len = refl; again = refl; bytes = λ a. a }) h
-          | inr e ↦ subst S (sym e) (λ g. record { header = g; fields = refl; next = refl; len = refl; again = refl; bytes = λ a. a }) h
-        ]
-      ]
+module _ (x0 x1 x2 x3 : ℕ) (rest : List ℕ) where
+  abbrev four_and : List ℕ
+  four_and = x0 ∷ x1 ∷ x2 ∷ x3 ∷ rest
 
-  pub cleared_same : (n : ℕ) → IsHeader n b → ClearedSame n b
+  fragment_same : IsFragmentHeader four_and → ClearedSame 44 four_and
+  fragment_same h =
+      let fields : ℕ → Bool → FragmentFields = λ a m. record { next_header = x0; fragment_offset = a; more_fragments = m; identification = from_be_bytes w32 (take 4 rest) } in
+      record {
+        header = fragment refl (record { len = h.len });
+        fields = ap fragment_header (ap (λ a. fields a (flag_bit (unreserved_bits x3))) (unreserved_offset x2 x3) ∙ ap (fields (offset_bits x2 x3)) (unreserved_flag x2 x3));
+        next = refl;
+        len = refl;
+        again = ap (λ y. x0 ∷ 0 ∷ x2 ∷ y ∷ rest) (unreserved_again x2 x3);
+        bytes = λ a.
+            three_before 0 x2 (unreserved_bits x3) (take 4 rest) (omega arith) (byte_at (slice_range four_and 1 8) a 1)
+            (unreserved_small x2 x3 (byte_at (slice_range four_and 1 8) a 2)) (All-drop (λ x. x < 256) 3 (slice_range four_and 1 8) a);
+      }
+
+  auth_same : IsAuthHeader four_and → ClearedSame 51 four_and
+  auth_same h = record {
+    header = auth refl (record { not_zero = h.not_zero; len = h.len });
+    fields = refl;
+    next = refl;
+    len = refl;
+    again = refl;
+    bytes = λ a.
+        three_before x1 0 0 (take 8 rest) (byte_at (slice_range four_and 1 12) a 0) (omega arith) (omega arith)
+        (All-drop (λ x. x < 256) 3 (slice_range four_and 1 12) a);
+  }
+
+module _ (b : List ℕ) where
+  abbrev Same : ℕ → Type 0
+  Same n = IsHeader n b → ClearedSame n b
+
+  pub cleared_same : (n : ℕ) → Same n
   cleared_same n h =
-      let S : ℕ → Type 0 = λ m. ClearedSame m b in
-      elim h [
-        | raw k r ↦ raw_same n k (raw k r)
-        | fragment e f ↦ subst S (sym e) (
-            let same = cleared_fragment_same b f in
-            record {
-              header = fragment refl same.0;
-              fields = ap fragment_header same.1;
-              next = ap (λ (v : FragmentFields). v.next_header) same.1;
-              len = same.0.len ∙ sym f.len;
-              again = same.2;
-              bytes = λ a. (cleared_fragment_encodes b f a).bytes;
-            })
-        | auth e a ↦ subst S (sym e) (
-            let same = cleared_auth_same b a in
-            record {
-              header = auth refl same.0;
-              fields = ap auth_header same.1;
-              next = ap (λ (v : AuthFields). v.next_header) same.1;
-              len = length-set _ 3 0 ∙ length-set b 2 0;
-              again = same.2;
-              bytes = λ x. (cleared_auth_encodes b a x).bytes;
-            })
-      ]
+      let f : FirstFour b = first_four b (omega (arith, header-least n b h)) in
+      let F : List ℕ → Type 0 = λ l. IsFragmentHeader l → ClearedSame 44 l in
+      let A : List ℕ → Type 0 = λ l. IsAuthHeader l → ClearedSame 51 l in
+      by_number Same
+      (λ g. record { header = g; fields = refl; next = refl; len = refl; again = refl; bytes = λ a. a })
+      (λ g. record { header = g; fields = refl; next = refl; len = refl; again = refl; bytes = λ a. a })
+      (λ g. record { header = g; fields = refl; next = refl; len = refl; again = refl; bytes = λ a. a })
+      (λ g. subst F f.joined (fragment_same f.x0 f.x1 f.x2 f.x3 f.rest) (fragment_of 44 b refl g))
+      (λ g. subst A f.joined (auth_same f.x0 f.x1 f.x2 f.x3 f.rest) (auth_of 51 b refl g))
+      n (header_number n b h) h
+
+-- So, cleared, it encodes them.
+pub cleared_encodes : (n : ℕ) (b : List ℕ) → IsHeader n b → AreBytes (slice_range b 1 (fixed_len n)) → IsEncodingOf (fields_of (record { number = n; bytes = b })) (cleared_header n b)
+cleared_encodes n b h bytes =
+    let same = cleared_same b n h in
+    let E : HeaderFields → Type 0 = λ x. IsEncodingOf x (cleared_header n b) in
+    subst E same.fields (cleared_is_encoding n (cleared_header n b) same.header (record { reserved = same.again; bytes = same.bytes bytes }))
 
 -- the header h with its reserved bits put to zero
 abbrev pub cleared_of : ExtHeader → ExtHeader
@@ -106,7 +123,7 @@ cleared_is_chain n c k = record {
 }
 
 -- of bytes, what is cleared is
-pub cleared_are : (c : List ExtHeader) → AreHeaders c → AreBytes (bytes_of c) → AreCleared (cleared_chain c)
+pub cleared_are : (c : List ExtHeader) → AreHeaders c → AreBytes (bytes_of c) → AllByRecursion IsCleared (cleared_chain c)
 cleared_are [] a b = tt
 cleared_are (h ∷ c) a b =
     let same = cleared_same h.bytes h.number a.0 in

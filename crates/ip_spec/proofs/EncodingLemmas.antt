@@ -1,19 +1,17 @@
 -- The fields of a header, and the header that says them.
-use Rattle.std.proofs.Common.{◌≡◌, ℕ, ◌+◌, ◌*◌, ◌/◌, ◌%◌, ◌^◌, ◌<◌, ◌≤◌, List, [], ◌∷◌, ◌++◌, length, get_or, take, drop, refl, ap, sym, ◌∙◌, arith, inl, inr, subst, Bool, true, false, cond, bit_and}
-use Rattle.std.specs.Prelude.{◌==◌, not, slice_range}
+use Rattle.std.proofs.Common.{◌≡◌, ℕ, ◌+◌, ◌/◌, ◌%◌, ◌^◌, ◌<◌, ◌≤◌, List, [], ◌∷◌, ◌++◌, length, get_or, take, drop, refl, ap, sym, ◌∙◌, arith, inl, inr, subst, Bool}
+use Rattle.std.specs.Prelude.{slice_range}
 use Rattle.std.specs.Int.{to_be_bytes, from_be_bytes, w32}
 use Rattle.std.proofs.lemmas.List.{append_cancel_left, get_or_past, take_all, take-append-drop}
 use Rattle.std.proofs.lemmas.List.Elements.{All-from_recursion, recursion_from_All, All-append, All-get_or, All-take, All-drop}
 use Rattle.std.proofs.lemmas.Nat.{be_bytes_4, from_be_bytes-to_be_bytes_4}
 use Rattle.std.proofs.lemmas.Bool.{cases_lt}
-use Rattle.ip_spec.specs.Header.{IsHeader, IsFragmentHeader, IsAuthHeader}
-use Rattle.ip_spec.specs.Fields.{offset_bits, flag_bit, unreserved_bits}
-use Rattle.ip_spec.specs.FieldsOf.{FragmentFields, AuthFields, fragment_fields, auth_fields}
-use Rattle.ip_spec.specs.Cleared.{cleared_fragment, cleared_auth}
+use Rattle.ip_spec.specs.Header.{IsHeader}
+use Rattle.ip_spec.specs.Fields.{offset_bits, flag_bit, unreserved_bits, FragmentFields, AuthFields}
 use Rattle.ip_spec.specs.Encoding.{AreBytes, IsEncoding, IsFragmentEncoding, IsAuthEncoding}
 use Rattle.ip_spec.specs.Decoding.{IsDecoding}
 use Rattle.ip_spec.proofs.HeaderLemmas.{one_header}
-use Rattle.ip_spec.proofs.FragmentBitLemmas.{high_byte, low_byte, unpacked_high, unpacked_low, unreserved_offset, unreserved_flag, unreserved_again, unreserved_small}
+use Rattle.ip_spec.proofs.FragmentBitLemmas.{high_byte, low_byte, unpacked_high, unpacked_low}
 
 -- what bytes begin with is determined where each header of the layout is one of a number
 pub one_decoding_of : {V : Type 0} (n : ℕ) (IsOne : List ℕ → Type 0) (fields_of : List ℕ → V) → ((b : List ℕ) → IsOne b → IsHeader n b)
@@ -25,9 +23,9 @@ one_decoding_of n IsOne fields_of of_number s v w r q x y =
     )
 
 -- what spells fields is read so, whatever is behind it
-pub encoding_is_decoded : {V : Type 0} (IsOne : List ℕ → Type 0) (fields_of : List ℕ → V) (cleared : List ℕ → List ℕ) (fixed : ℕ) (v : V) (b r : List ℕ)
-    → IsEncoding IsOne fields_of cleared fixed v b → IsDecoding IsOne fields_of (b ++ r) v r
-encoding_is_decoded IsOne fields_of cleared fixed v b r s = record { bytes = b; header = s.header; fields = s.fields; joined = refl }
+pub encoding_is_decoded : {V : Type 0} (IsOne : List ℕ → Type 0) (fields_of : List ℕ → V) (n : ℕ) (v : V) (b r : List ℕ)
+    → IsEncoding IsOne fields_of n v b → IsDecoding IsOne fields_of (b ++ r) v r
+encoding_is_decoded IsOne fields_of n v b r s = record { bytes = b; header = s.header; fields = s.fields; joined = refl }
 
 -- The first four of a list.
 pub record FirstFour (b : List ℕ) : Type 0 where
@@ -66,7 +64,7 @@ be_bytes-are : (n : ℕ) → AreBytes (to_be_bytes w32 n)
 be_bytes-are n = All-from_recursion (λ x. x < 256) (to_be_bytes w32 n) (omega arith, (omega arith, (omega arith, (omega arith, tt))))
 
 -- three bytes before bytes
-three_before : (x1 x2 x3 : ℕ) (rest : List ℕ) → x1 < 256 → x2 < 256 → x3 < 256 → AreBytes rest → AreBytes (x1 ∷ x2 ∷ x3 ∷ rest)
+pub three_before : (x1 x2 x3 : ℕ) (rest : List ℕ) → x1 < 256 → x2 < 256 → x3 < 256 → AreBytes rest → AreBytes (x1 ∷ x2 ∷ x3 ∷ rest)
 three_before x1 x2 x3 rest b c d e = All-from_recursion (λ x. x < 256) (x1 ∷ x2 ∷ x3 ∷ rest) (b, (c, (d, recursion_from_All (λ x. x < 256) rest e)))
 
 -- bytes 2 and 3 that have the offset and the flag, and no reserved bit, make the header that says the fields
@@ -78,8 +76,10 @@ fragment_encodes v high low offset flag reserved high_byte low_byte small =
     record {
       header = record { len = refl };
       fields = ap (λ a. fields a (flag_bit low) id) offset ∙ ap (λ b. fields v.fragment_offset b id) flag ∙ ap (λ i. fields v.fragment_offset v.more_fragments i) (from_be_bytes-to_be_bytes_4 v.identification small);
-      reserved = ap (λ x. v.next_header ∷ 0 ∷ high ∷ x ∷ to_be_bytes w32 v.identification) reserved;
-      bytes = three_before 0 high low (to_be_bytes w32 v.identification) (omega arith) high_byte low_byte (be_bytes-are v.identification);
+      cleared = record {
+        reserved = ap (λ x. v.next_header ∷ 0 ∷ high ∷ x ∷ to_be_bytes w32 v.identification) reserved;
+        bytes = three_before 0 high low (to_be_bytes w32 v.identification) (omega arith) high_byte low_byte (be_bytes-are v.identification);
+      };
     }
 
 pub auth_written_encodes : (v : AuthFields) → length v.raw_icv ≤ 1016 → length v.raw_icv % 4 ≡ 0 → v.spi < 2 ^ 32 → v.sequence_number < 2 ^ 32 → IsAuthEncoding v (auth_written v)
@@ -90,11 +90,13 @@ auth_written_encodes v few whole small small' =
       fields =
           ap (λ a. fields a (from_be_bytes w32 (to_be_bytes w32 v.sequence_number))) (from_be_bytes-to_be_bytes_4 v.spi small)
           ∙ ap (λ b. fields v.spi b) (from_be_bytes-to_be_bytes_4 v.sequence_number small');
-      reserved = refl;
-      bytes =
-          three_before (length v.raw_icv / 4 + 1) 0 0 (to_be_bytes w32 v.spi ++ to_be_bytes w32 v.sequence_number)
-          (omega (arith, few)) (omega arith) (omega arith)
-          (All-append (λ x. x < 256) (to_be_bytes w32 v.spi) (to_be_bytes w32 v.sequence_number) (be_bytes-are v.spi) (be_bytes-are v.sequence_number));
+      cleared = record {
+        reserved = refl;
+        bytes =
+            three_before (length v.raw_icv / 4 + 1) 0 0 (to_be_bytes w32 v.spi ++ to_be_bytes w32 v.sequence_number)
+            (omega (arith, few)) (omega arith) (omega arith)
+            (All-append (λ x. x < 256) (to_be_bytes w32 v.spi) (to_be_bytes w32 v.sequence_number) (be_bytes-are v.spi) (be_bytes-are v.sequence_number));
+      };
     }
 
 -- and nothing else does
@@ -109,8 +111,8 @@ fragment_only_parts v x0 x1 x2 x3 rest bytes h =
     let offset : offset_bits x2 x3 ≡ v.fragment_offset = ap (λ (w : FragmentFields). w.fragment_offset) h.fields in
     let more : flag_bit x3 ≡ v.more_fragments = ap (λ (w : FragmentFields). w.more_fragments) h.fields in
     let same_id : from_be_bytes w32 (take 4 rest) ≡ v.identification = ap (λ (w : FragmentFields). w.identification) h.fields in
-    let zero_byte : x1 ≡ 0 = ap (λ l. get_or l 1 0) (sym h.reserved) in
-    let kept : unreserved_bits x3 ≡ x3 = ap (λ l. get_or l 3 0) h.reserved in
+    let zero_byte : x1 ≡ 0 = ap (λ l. get_or l 1 0) (sym h.cleared.reserved) in
+    let kept : unreserved_bits x3 ≡ x3 = ap (λ l. get_or l 3 0) h.cleared.reserved in
     let second : x2 ≡ high_byte v.fragment_offset = unpacked_high x2 x3 ∙ ap high_byte offset in
     let third : x3 ≡ low_byte v.fragment_offset v.more_fragments =
     unpacked_low x2 x3 small kept ∙ ap (λ a. low_byte a (flag_bit x3)) offset ∙ ap (low_byte v.fragment_offset) more in
@@ -125,7 +127,7 @@ pub fragment_only : (v : FragmentFields) (b : List ℕ) → IsFragmentEncoding v
 fragment_only v b h =
     let f : FirstFour b = first_four b (omega (arith, h.header.len)) in
     let P : List ℕ → Type 0 = λ l. AreBytes (slice_range l 1 8) → IsFragmentEncoding v l → l ≡ fragment_written v in
-    subst P f.joined (fragment_only_parts v f.x0 f.x1 f.x2 f.x3 f.rest) h.bytes h
+    subst P f.joined (fragment_only_parts v f.x0 f.x1 f.x2 f.x3 f.rest) h.cleared.bytes h
 
 module _ (v : AuthFields) (x0 x1 x2 x3 y0 y1 y2 y3 z0 z1 z2 z3 : ℕ) (rest : List ℕ) where
   abbrev twelve : List ℕ
@@ -138,8 +140,8 @@ module _ (v : AuthFields) (x0 x1 x2 x3 y0 y1 y2 y3 z0 z1 z2 z3 : ℕ) (rest : Li
       let number : x0 ≡ v.next_header = ap (λ (w : AuthFields). w.next_header) h.fields in
       let icv : rest ≡ v.raw_icv = ap (λ (w : AuthFields). w.raw_icv) h.fields in
       let len : x1 ≡ length v.raw_icv / 4 + 1 = omega (arith, h.header.len, h.header.not_zero, ap length icv) in
-      let zero_two : x2 ≡ 0 = ap (λ l. get_or l 2 0) (sym h.reserved) in
-      let zero_three : x3 ≡ 0 = ap (λ l. get_or l 3 0) (sym h.reserved) in
+      let zero_two : x2 ≡ 0 = ap (λ l. get_or l 2 0) (sym h.cleared.reserved) in
+      let zero_three : x3 ≡ 0 = ap (λ l. get_or l 3 0) (sym h.cleared.reserved) in
       let index : to_be_bytes w32 v.spi ≡ ys =
       be_bytes_4 ys v.spi refl (λ i. byte_at ys (All-take (λ x. x < 256) 4 (drop 3 (slice_range twelve 1 12)) (All-drop (λ x. x < 256) 3 (slice_range twelve 1 12) bytes)) i) (sym (ap (λ (w : AuthFields). w.spi) h.fields)) in
       let sequence : to_be_bytes w32 v.sequence_number ≡ zs =
@@ -160,62 +162,7 @@ auth_only v b h =
     let e : twelve v f.x0 f.x1 f.x2 f.x3 g.x0 g.x1 g.x2 g.x3 k.x0 k.x1 k.x2 k.x3 k.rest ≡ b =
     ap (λ l. f.x0 ∷ f.x1 ∷ f.x2 ∷ f.x3 ∷ l) (ap (λ l. g.x0 ∷ g.x1 ∷ g.x2 ∷ g.x3 ∷ l) k.joined ∙ g.joined) ∙ f.joined in
     let P : List ℕ → Type 0 = λ l. AreBytes (slice_range l 1 12) → IsAuthEncoding v l → l ≡ auth_written v in
-    subst P e (auth_only_parts v f.x0 f.x1 f.x2 f.x3 g.x0 g.x1 g.x2 g.x3 k.x0 k.x1 k.x2 k.x3 k.rest) h.bytes h
-
--- A header that is cleared says what it said, and clearing it again changes nothing.
-abbrev SaysTheSame : {V : Type 0} → (List ℕ → Type 0) → (List ℕ → V) → (List ℕ → List ℕ) → List ℕ → Type 0
-SaysTheSame IsOne fields_of cleared b = IsOne (cleared b) × (fields_of (cleared b) ≡ fields_of b) × (cleared (cleared b) ≡ cleared b)
-
-module _ (x0 x1 x2 x3 : ℕ) (rest : List ℕ) where
-  abbrev four_and : List ℕ
-  four_and = x0 ∷ x1 ∷ x2 ∷ x3 ∷ rest
-
-  cleared_fragment_parts : length rest ≡ 4 → SaysTheSame IsFragmentHeader fragment_fields cleared_fragment four_and
-  cleared_fragment_parts four =
-      let fields : ℕ → Bool → FragmentFields = λ a m. record { next_header = x0; fragment_offset = a; more_fragments = m; identification = from_be_bytes w32 (take 4 rest) } in (
-        record { len = omega arith },
-        ap (λ a. fields a (flag_bit (unreserved_bits x3))) (unreserved_offset x2 x3) ∙ ap (fields (offset_bits x2 x3)) (unreserved_flag x2 x3),
-        ap (λ y. x0 ∷ 0 ∷ x2 ∷ y ∷ rest) (unreserved_again x2 x3),
-      )
-
-  cleared_fragment_bytes : AreBytes (slice_range four_and 1 8) → AreBytes (slice_range (cleared_fragment four_and) 1 8)
-  cleared_fragment_bytes bytes =
-      three_before 0 x2 (unreserved_bits x3) (take 4 rest) (omega arith) (byte_at (slice_range four_and 1 8) bytes 1)
-      (unreserved_small x2 x3 (byte_at (slice_range four_and 1 8) bytes 2)) (All-drop (λ x. x < 256) 3 (slice_range four_and 1 8) bytes)
-
-  cleared_auth_parts : IsAuthHeader four_and → SaysTheSame IsAuthHeader auth_fields cleared_auth four_and
-  cleared_auth_parts h = (record { not_zero = h.not_zero; len = h.len }, refl, refl)
-
-  cleared_auth_bytes : AreBytes (slice_range four_and 1 12) → AreBytes (slice_range (cleared_auth four_and) 1 12)
-  cleared_auth_bytes bytes =
-      three_before x1 0 0 (take 8 rest) (byte_at (slice_range four_and 1 12) bytes 0) (omega arith) (omega arith)
-      (All-drop (λ x. x < 256) 3 (slice_range four_and 1 12) bytes)
-
-pub cleared_fragment_same : (b : List ℕ) → IsFragmentHeader b → SaysTheSame IsFragmentHeader fragment_fields cleared_fragment b
-cleared_fragment_same b h =
-    let f : FirstFour b = first_four b (omega (arith, h.len)) in
-    let P : List ℕ → Type 0 = SaysTheSame IsFragmentHeader fragment_fields cleared_fragment in
-    subst P f.joined (cleared_fragment_parts f.x0 f.x1 f.x2 f.x3 f.rest (omega (arith, h.len, ap length f.joined)))
-
-pub cleared_auth_same : (b : List ℕ) → IsAuthHeader b → SaysTheSame IsAuthHeader auth_fields cleared_auth b
-cleared_auth_same b h =
-    let f : FirstFour b = first_four b (omega (arith, h.len, h.not_zero)) in
-    let P : List ℕ → Type 0 = λ l. IsAuthHeader l → SaysTheSame IsAuthHeader auth_fields cleared_auth l in
-    subst P f.joined (cleared_auth_parts f.x0 f.x1 f.x2 f.x3 f.rest) h
-
-pub cleared_fragment_encodes : (b : List ℕ) → IsFragmentHeader b → AreBytes (slice_range b 1 8) → IsFragmentEncoding (fragment_fields b) (cleared_fragment b)
-cleared_fragment_encodes b h bytes =
-    let f : FirstFour b = first_four b (omega (arith, h.len)) in
-    let P : List ℕ → Type 0 = λ l. AreBytes (slice_range l 1 8) → AreBytes (slice_range (cleared_fragment l) 1 8) in
-    let same = cleared_fragment_same b h in
-    record { header = same.0; fields = same.1; reserved = same.2; bytes = subst P f.joined (cleared_fragment_bytes f.x0 f.x1 f.x2 f.x3 f.rest) bytes }
-
-pub cleared_auth_encodes : (b : List ℕ) → IsAuthHeader b → AreBytes (slice_range b 1 12) → IsAuthEncoding (auth_fields b) (cleared_auth b)
-cleared_auth_encodes b h bytes =
-    let f : FirstFour b = first_four b (omega (arith, h.len, h.not_zero)) in
-    let P : List ℕ → Type 0 = λ l. AreBytes (slice_range l 1 12) → AreBytes (slice_range (cleared_auth l) 1 12) in
-    let same = cleared_auth_same b h in
-    record { header = same.0; fields = same.1; reserved = same.2; bytes = subst P f.joined (cleared_auth_bytes f.x0 f.x1 f.x2 f.x3 f.rest) bytes }
+    subst P e (auth_only_parts v f.x0 f.x1 f.x2 f.x3 g.x0 g.x1 g.x2 g.x3 k.x0 k.x1 k.x2 k.x3 k.rest) h.cleared.bytes h
 
 -- where what stands behind the fixed part are bytes and the next header is one, all are
 pub auth_encoding-bytes : (v : AuthFields) (b : List ℕ) → IsAuthEncoding v b → v.next_header < 256 → AreBytes v.raw_icv → AreBytes b
@@ -223,6 +170,6 @@ auth_encoding-bytes v [] h small icv = absurd (omega (arith, h.header.len))
 auth_encoding-bytes v (x ∷ t) h small icv =
     let number : x ≡ v.next_header = ap (λ (w : AuthFields). w.next_header) h.fields in
     let behind : drop 11 t ≡ v.raw_icv = ap (λ (w : AuthFields). w.raw_icv) h.fields in
-    let parts : AreBytes (take 11 t ++ drop 11 t) = All-append (λ y. y < 256) (take 11 t) (drop 11 t) h.bytes (subst AreBytes (sym behind) icv) in
+    let parts : AreBytes (take 11 t ++ drop 11 t) = All-append (λ y. y < 256) (take 11 t) (drop 11 t) h.cleared.bytes (subst AreBytes (sym behind) icv) in
     let rest : AreBytes t = subst AreBytes (take-append-drop 11 t) parts in
     All-from_recursion (λ y. y < 256) (x ∷ t) (omega arith, recursion_from_All (λ y. y < 256) t rest)

@@ -47,12 +47,23 @@ kind n = elim (raw_or n) [
 pub header_number : (n : ℕ) (b : List ℕ) → IsHeader n b → IsExtensionNumber n
 header_number n b h = elim h [ raw k r ↦ inl k | fragment e f ↦ inr (inl e) | auth e a ↦ inr (inr e) ]
 
+-- What holds of 0, 43 and 60 holds of each number of the common layout,
+pub by_raw : (S : ℕ → Type 0) → S 0 → S 43 → S 60 → (n : ℕ) → IsRawNumber n → S n
+by_raw S a b c n k = elim k [
+  | inl e ↦ subst S (sym e) a
+  | inr k' ↦ elim k' [ inl e ↦ subst S (sym e) b | inr e ↦ subst S (sym e) c ]
+]
+
+-- and what holds of 44 and 51 too of each extension number.
+pub by_number : (S : ℕ → Type 0) → S 0 → S 43 → S 60 → S 44 → S 51 → (n : ℕ) → IsExtensionNumber n → S n
+by_number S a b c d e n x = elim x [
+  | inl k ↦ by_raw S a b c n k
+  | inr k ↦ elim k [ inl is ↦ subst S (sym is) d | inr is ↦ subst S (sym is) e ]
+]
+
 -- The extension numbers but 0 are those of headers that can stand behind another.
 pub later_of : (n : ℕ) → IsExtensionNumber n → n ≢ 0 → IsLaterNumber n
-later_of n x z = elim x [
-  | inl k ↦ elim k [ inl e ↦ absurd (z e) | inr k' ↦ elim k' [ inl e ↦ inl e | inr e ↦ inr (inr (inr e)) ] ]
-  | inr k ↦ elim k [ inl e ↦ inr (inl e) | inr e ↦ inr (inr (inl e)) ]
-]
+later_of = by_number (λ n. n ≢ 0 → IsLaterNumber n) (λ z. absurd (z refl)) (λ z. inl refl) (λ z. inr (inr (inr refl))) (λ z. inr (inl refl)) (λ z. inr (inr (inl refl)))
 
 pub extension_of_later : (n : ℕ) → IsLaterNumber n → IsExtensionNumber n
 extension_of_later n l = elim l [

@@ -8,17 +8,15 @@ use Rattle.std.proofs.lemmas.Bool.Decides.{eqb_tells}
 use Rattle.std.proofs.lemmas.Option.{none-some, same_Some}
 use Rattle.std.proofs.lemmas.List.Elements.{All-from_recursion, recursion_from_All}
 use Rattle.ip_spec.specs.Header.{IsHeader, IsRawNumber, IsRawHeader, raw, fragment, auth}
-use Rattle.ip_spec.specs.Fields.{next_header}
-use Rattle.ip_spec.specs.FieldsOf.{raw_fields, fragment_fields, auth_fields}
+use Rattle.ip_spec.specs.Fields.{next_header, raw_fields, fragment_fields, auth_fields}
 use Rattle.ip_spec.specs.Chain.{ExtHeader}
 use Rattle.ip_spec.specs.Places.{Place, hop_by_hop, destination, routing, fragment as fragment_place, authentication, final_destination, places, index, number_in, header_in, fields_of, HeaderFields, raw_header, fragment_header, auth_header}
-use Rattle.ip_spec.specs.Encoded.{IsCleared}
+use Rattle.ip_spec.specs.Encoding.{IsCleared}
 use Rattle.ip_spec.specs.Encodable.{IsEncoded, IsEncodable}
 use Rattle.ip_spec.specs.Walk.{PlacedFields, leads, IsWalkAnswer}
 use Rattle.ip_spec.specs.WalkStep.{next_place, without, next_of}
 use Rattle.ip_spec.specs.Links.{relinked, first_number, places_behind, linked}
-use Rattle.ip_spec.proofs.HeaderLemmas.{raw_of, fragment_of, auth_of, header-least}
-use Rattle.ip_spec.proofs.HeaderLemmas.{header_number}
+use Rattle.ip_spec.proofs.HeaderLemmas.{header_number, by_number, raw_of, fragment_of, auth_of, header-least}
 use Rattle.ip_spec.proofs.PlaceLemmas.{in_both, has_routing, same_place}
 use Rattle.ip_spec.proofs.WalkLemmas.{none_if, some_if}
 use Rattle.ip_spec.proofs.WalkStepLemmas.{Walking, walk_begins, walks_on, walk_answers}
@@ -39,38 +37,26 @@ module _ (m x0 : ℕ) (rest : List ℕ) (small : m < 256) where
   abbrev Same : ℕ → Type 0
   Same n = IsHeader n (x0 ∷ rest) → IsCleared (of_number n (x0 ∷ rest)) → Relinked n
 
-  raw_relinked : (n : ℕ) → IsRawNumber n → Same n
-  raw_relinked n k =
-      elim k [
-        | inl e ↦ subst Same (sym e) (λ h c. record { header = raw (inl refl) (again 0 (inl refl) h); fields = refl; cleared = record { reserved = refl; bytes = c.bytes } })
-        | inr k' ↦ elim k' [
-          | inl e ↦ subst Same (sym e) (λ h c. record { header = raw (inr (inl refl)) (again 43 (inr (inl refl)) h); fields = refl; cleared = record { reserved = refl; bytes = c.bytes } })
-          | inr e ↦ subst Same (sym e) (λ h c. record { header = raw (inr (inr refl)) (again 60 (inr (inr refl)) h); fields = refl; cleared = record { reserved = refl; bytes = c.bytes } })
-        ]
-      ]
-    where
-      again : (j : ℕ) → IsRawNumber j → IsHeader j (x0 ∷ rest) → IsRawHeader (m ∷ rest)
-      again j l h = let r = raw_of j (x0 ∷ rest) l h in record { least = r.least; len = r.len }
-
-  fragment_relinked : Same 44
-  fragment_relinked h c = record {
-    header = fragment refl (record { len = (fragment_of 44 (x0 ∷ rest) refl h).len });
-    fields = refl;
-    cleared = record { reserved = ap (λ l. m ∷ drop 1 l) c.reserved; bytes = c.bytes };
-  }
-
-  auth_relinked : Same 51
-  auth_relinked h c = record {
-    header = let a = auth_of 51 (x0 ∷ rest) refl h in auth refl (record { not_zero = a.not_zero; len = a.len });
-    fields = refl;
-    cleared = record { reserved = ap (λ l. m ∷ drop 1 l) c.reserved; bytes = c.bytes };
-  }
+  again : (j : ℕ) → IsRawNumber j → IsHeader j (x0 ∷ rest) → IsRawHeader (m ∷ rest)
+  again j l h = let r = raw_of j (x0 ∷ rest) l h in record { least = r.least; len = r.len }
 
   relinked_same : (n : ℕ) → Same n
-  relinked_same n h c = elim (header_number n (x0 ∷ rest) h) [
-    | inl k ↦ raw_relinked n k h c
-    | inr k ↦ elim k [ inl e ↦ subst Same (sym e) fragment_relinked h c | inr e ↦ subst Same (sym e) auth_relinked h c ]
-  ]
+  relinked_same n h =
+      by_number Same
+      (λ g c. record { header = raw (inl refl) (again 0 (inl refl) g); fields = refl; cleared = record { reserved = refl; bytes = c.bytes } })
+      (λ g c. record { header = raw (inr (inl refl)) (again 43 (inr (inl refl)) g); fields = refl; cleared = record { reserved = refl; bytes = c.bytes } })
+      (λ g c. record { header = raw (inr (inr refl)) (again 60 (inr (inr refl)) g); fields = refl; cleared = record { reserved = refl; bytes = c.bytes } })
+      (λ g c. record {
+        header = fragment refl (record { len = (fragment_of 44 (x0 ∷ rest) refl g).len });
+        fields = refl;
+        cleared = record { reserved = ap (λ l. m ∷ drop 1 l) c.reserved; bytes = c.bytes };
+      })
+      (λ g c. record {
+        header = let a = auth_of 51 (x0 ∷ rest) refl g in auth refl (record { not_zero = a.not_zero; len = a.len });
+        fields = refl;
+        cleared = record { reserved = ap (λ l. m ∷ drop 1 l) c.reserved; bytes = c.bytes };
+      })
+      n (header_number n (x0 ∷ rest) h) h
 
 relinked_list : (n j k : ℕ) (x : HeaderFields) (b : List ℕ) → j < 256 → IsEncoded n x (of_number k b) → (h : ExtHeader) × IsEncoded n (relinked j x) h
 relinked_list n j k x [] small e = absurd (omega (arith, header-least n [] e.header))

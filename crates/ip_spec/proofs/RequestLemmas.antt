@@ -5,12 +5,11 @@ use Rattle.std.specs.Int.{from_be_bytes, w32}
 use Rattle.std.proofs.lemmas.List.{get_or_append_left, take-append-le, drop-append-le}
 use Rattle.std.proofs.Math.Seq.{drop-append_seam}
 use Rattle.ip_spec.specs.Header.{IsRawHeader, IsAuthHeader}
-use Rattle.ip_spec.specs.Fields.{next_header, spi, sequence_number}
-use Rattle.ip_spec.specs.FieldsOf.{RawFields, AuthFields, raw_fields, auth_fields}
+use Rattle.ip_spec.specs.Fields.{next_header, RawFields, AuthFields, raw_fields, auth_fields}
 
 -- the fields of a header with h before its check value
 abbrev pub with_icv : List ℕ → List ℕ → AuthFields
-with_icv h p = record { next_header = next_header h; spi = spi h; sequence_number = sequence_number h; raw_icv = p }
+with_icv h p = record (auth_fields h) { raw_icv = p }
 
 module _ (h p : List ℕ) where
   index_of_joined : (i : ℕ) → i < length h → slice_index (h ++ p) i ≡ slice_index h i

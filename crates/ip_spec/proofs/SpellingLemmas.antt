@@ -2,20 +2,21 @@
 use Rattle.std.proofs.Common.{◌≡◌, ℕ, ◌<◌, List, [], ◌∷◌, ◌++◌, refl, ap, sym, ◌∙◌, arith, inl, inr, subst, append_assoc, Bool, false}
 use Rattle.std.specs.Prelude.{Option, Some, None, is_some, ◌==◌, ◌&&◌, ◌↔◌, if◌then◌else◌}
 use Rattle.std.specs.Option.{option_map, option_map_or}
+use Rattle.std.specs.List.{AllByRecursion, find}
+use Rattle.ip_spec.specs.LongestOf.{IsLongestOf}
 use Rattle.std.proofs.lemmas.Bool.{cases_Bool}
 use Rattle.std.proofs.lemmas.Option.{none-some}
 use Rattle.std.proofs.lemmas.List.{append-nil}
 use Rattle.std.proofs.lemmas.List.Elements.{All-append}
 use Rattle.ip_spec.specs.Header.{IsHeader, IsExtensionNumber}
-use Rattle.ip_spec.specs.Encoding.{AreBytes}
+use Rattle.ip_spec.specs.Encoding.{AreBytes, IsCleared, cleared_chain}
 use Rattle.ip_spec.specs.Chain.{ExtHeader, leads_to, bytes_of, IsChain, IsLongestChain}
 use Rattle.ip_spec.specs.Demand.{IsLongestUnder}
 use Rattle.ip_spec.specs.Fits.{FitsPlaces, IsTaken}
 use Rattle.ip_spec.specs.Places.{Place, hop_by_hop, destination, routing, fragment, authentication, final_destination, places, number_in, header_in, fields_of, HeaderFields}
-use Rattle.ip_spec.specs.Encoded.{AreCleared, cleared_chain}
 use Rattle.ip_spec.specs.Encodable.{IsEncodable}
 use Rattle.ip_spec.specs.Parse.{IsRead}
-use Rattle.ip_spec.specs.Walk.{PlacedFields, IsValueOf, IsSpelling, IsReachable, IsReach, unreached, first_filled, WalkAnswer, leads, hop_by_hop_not_at_start, not_referenced, answer_at, IsWalkAnswer}
+use Rattle.ip_spec.specs.Walk.{PlacedFields, IsValueOf, IsSpelling, IsReachable, WalkAnswer, leads, hop_by_hop_not_at_start, not_referenced, answer_at, IsWalkAnswer}
 use Rattle.ip_spec.proofs.FirstLemmas.{none_passes}
 use Rattle.ip_spec.proofs.PrefixLemmas.{prefix_of-append}
 use Rattle.ip_spec.proofs.LongestOfLemmas.{longest_where_none_next}
@@ -27,14 +28,14 @@ use Rattle.ip_spec.proofs.ClearedLemmas.{cleared_is_chain, cleared_fits, cleared
 use Rattle.ip_spec.proofs.HeaderLemmas.{header_number}
 use Rattle.ip_spec.proofs.EncodedLemmas.{one_header_says}
 use Rattle.ip_spec.proofs.PlaceLemmas.{each, place_number}
-use Rattle.ip_spec.proofs.WalkLemmas.{none_if, Next, next_shown, shown_grows, one_reach}
+use Rattle.ip_spec.proofs.WalkLemmas.{unreached, none_if, Next, next_shown, shown_grows, one_reach}
 
 -- bytes s are read as the value v of six places
 abbrev pub IsReadAs : PlacedFields → ℕ → ℕ → List ℕ → Type 0
 IsReadAs v f m s = IsRead FitsPlaces (λ c. IsValueOf c v) f m s
 
 -- a chain with the value v spells it
-pub value_spelled : (v : PlacedFields) (f : ℕ) (c : List ExtHeader) → IsChain f c → FitsPlaces c → IsValueOf c v → AreCleared c → IsSpelling v f c
+pub value_spelled : (v : PlacedFields) (f : ℕ) (c : List ExtHeader) → IsChain f c → FitsPlaces c → IsValueOf c v → AllByRecursion IsCleared c → IsSpelling v f c
 value_spelled v f c chain fits value cleared = record {
   reachable = record { chain = chain; fits = fits; in_value = λ p h e. value p ∙ ap (option_map fields_of) e; cleared = cleared };
   value = value;
@@ -42,7 +43,7 @@ value_spelled v f c chain fits value cleared = record {
 
 -- A chain that spells v is all that v reaches.
 
-pub spelling_is_reach : (v : PlacedFields) (f : ℕ) (c : List ExtHeader) → IsSpelling v f c → IsReach v f c
+pub spelling_is_reach : (v : PlacedFields) (f : ℕ) (c : List ExtHeader) → IsSpelling v f c → IsLongestOf (IsReachable v f) c
 spelling_is_reach v f c s =
     longest_where_none_next (IsReachable v f) (shown_grows v f) c s.reachable
     (λ x k.
@@ -51,6 +52,10 @@ spelling_is_reach v f c s =
 
 pub one_spelling : (v : PlacedFields) (f : ℕ) (c d : List ExtHeader) → IsSpelling v f c → IsSpelling v f d → c ≡ d
 one_spelling v f c d s t = one_reach v f c d (spelling_is_reach v f c s) (spelling_is_reach v f d t)
+
+-- the first place, in their order, in which u has a header
+abbrev first_filled : PlacedFields → Option Place
+first_filled u = find (λ p. is_some (u p)) places
 
 -- Where nothing is left, each place of v is that of the chain.
 pub nothing_filled : (u : PlacedFields) → first_filled u ≡ None → (p : Place) → u p ≡ None

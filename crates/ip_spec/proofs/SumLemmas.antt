@@ -8,18 +8,19 @@ use Rattle.std.proofs.lemmas.Option.{none-some, same_Some}
 use Rattle.std.proofs.lemmas.List.{append-nil, length-append, length-drop}
 use Rattle.std.proofs.lemmas.List.Sums.{sum_by-append}
 use Rattle.ip_spec.specs.Header.{IsHeader, IsRawHeader, raw, fragment, auth}
-use Rattle.ip_spec.specs.FieldsOf.{raw_fields}
-use Rattle.ip_spec.specs.Fields.{next_header}
+use Rattle.ip_spec.specs.Fields.{raw_fields, next_header}
 use Rattle.ip_spec.specs.Chain.{ExtHeader, leads_to, bytes_of, IsChain}
 use Rattle.ip_spec.specs.Fits.{FitsPlaces}
 use Rattle.ip_spec.specs.Places.{Place, hop_by_hop, destination, routing, fragment as fragment_place, authentication, final_destination, index, header_in, fields_of, HeaderFields, raw_header}
 use Rattle.ip_spec.specs.Encodable.{IsEncodable, fields_len, sum_placed, placed_len}
-use Rattle.ip_spec.specs.Walk.{PlacedFields, IsValueOf, IsReach, WalkAnswer, answer_at, unreached, IsWalkAnswer}
+use Rattle.ip_spec.specs.Walk.{PlacedFields, IsValueOf, IsReachable, WalkAnswer, answer_at, IsWalkAnswer}
 use Rattle.ip_spec.specs.WalkStep.{next_place, without}
+use Rattle.ip_spec.specs.LongestOf.{IsLongestOf}
+use Rattle.ip_spec.proofs.HeaderLemmas.{by_raw}
 use Rattle.ip_spec.proofs.StepLemmas.{chain_begins}
 use Rattle.ip_spec.proofs.FitsLemmas.{fits_places}
 use Rattle.ip_spec.proofs.PlaceLemmas.{same_place}
-use Rattle.ip_spec.proofs.WalkLemmas.{Joins, joins, there}
+use Rattle.ip_spec.proofs.WalkLemmas.{unreached, Joins, joins, there}
 use Rattle.ip_spec.proofs.WalkStepLemmas.{Walking, walk_begins, walks_on, walk_stops, left_some, same_held}
 
 -- What is taken out of a place is missing in the sum.
@@ -72,10 +73,7 @@ pub len_said : (h : ExtHeader) → IsHeader h.number h.bytes → length h.bytes 
 len_said h k =
     let L : ℕ → Type 0 = λ n. length h.bytes ≡ fields_len (fields_of (record { number = n; bytes = h.bytes })) in
     elim k [
-      | raw n r ↦ elim n [
-        | inl e ↦ subst L (sym e) (raw_said_len h.bytes r)
-        | inr n' ↦ elim n' [ inl e ↦ subst L (sym e) (raw_said_len h.bytes r) | inr e ↦ subst L (sym e) (raw_said_len h.bytes r) ]
-      ]
+      | raw n r ↦ let l = raw_said_len h.bytes r in by_raw L l l l h.number n
       | fragment e r ↦ subst L (sym e) r.len
       | auth e a ↦ subst L (sym e) (omega (arith, a.len, a.not_zero, length-drop 12 h.bytes))
     ]
@@ -107,7 +105,7 @@ module _ (u : PlacedFields) (first behind : Bool) (m : ℕ) where
 
 -- A value of which each header can be written reaches something.
 module _ (v : PlacedFields) (f : ℕ) (e : IsEncodable v) where
-  some_from : (k : ℕ) (c : List ExtHeader) (u : PlacedFields) (m : ℕ) (first behind : Bool) → Walking v f c u m first behind → sum_placed (λ x. 1) u ≤ k → Going u first behind m → (d : List ExtHeader) × IsReach v f d
+  some_from : (k : ℕ) (c : List ExtHeader) (u : PlacedFields) (m : ℕ) (first behind : Bool) → Walking v f c u m first behind → sum_placed (λ x. 1) u ≤ k → Going u first behind m → (d : List ExtHeader) × IsLongestOf (IsReachable v f) d
   some_from k c u m first behind w l (ends none) = (c, walk_stops v f c u m first behind w none)
   some_from zero c u m first behind w l (goes p x at there) =
       absurd (let less = sum_without (λ y. 1) u (without p u) p x there (λ q. refl) in omega (arith, less, l))
@@ -118,7 +116,7 @@ module _ (v : PlacedFields) (f : ℕ) (e : IsEncodable v) where
       (let less = sum_without (λ y. 1) u (without p u) p x there (λ q. refl) in omega (arith, less, l))
       (going (without p u) false (behind || (m == 43)) (next_header h.0.bytes))
 
-  pub some_reach : (c : List ExtHeader) × IsReach v f c
+  pub some_reach : (c : List ExtHeader) × IsLongestOf (IsReachable v f) c
   some_reach = some_from (sum_placed (λ x. 1) v) [] v f true false (walk_begins v f v (λ p. refl)) (omega arith) (going v true false f)
 
   pub some_answer : (a : WalkAnswer) × IsWalkAnswer v f a

@@ -6,11 +6,12 @@ use Rattle.std.proofs.lemmas.Bool.Decides.{eqb_tells}
 use Rattle.std.proofs.lemmas.Option.{none-some, same_Some}
 use Rattle.std.proofs.lemmas.List.{append-nil}
 use Rattle.ip_spec.specs.Header.{IsHeader}
+use Rattle.ip_spec.specs.LongestOf.{IsLongestOf}
 use Rattle.ip_spec.specs.Chain.{ExtHeader, leads_to, is_empty, IsChain}
 use Rattle.ip_spec.specs.Fits.{FitsPlaces}
 use Rattle.ip_spec.specs.Places.{Place, index, header_in, place_of, fields_of}
-use Rattle.ip_spec.specs.Encoded.{IsCleared}
-use Rattle.ip_spec.specs.Walk.{PlacedFields, IsReachable, IsReach}
+use Rattle.ip_spec.specs.Encoding.{IsCleared}
+use Rattle.ip_spec.specs.Walk.{PlacedFields, IsReachable}
 use Rattle.ip_spec.proofs.LongestOfLemmas.{Grows, one_longest_of}
 use Rattle.ip_spec.proofs.StepLemmas.{all_first, all_next, no_chain, chain_begins, chain_number, chain_header, chain_zero}
 use Rattle.ip_spec.proofs.FitsLemmas.{fits_places}
@@ -25,6 +26,10 @@ none_if (Some x) e = absurd (let differ : true ≡ false = e in cc)
 pub some_if : {X : Type 0} (o : Option X) → is_some o ≡ true → (x : X) × (o ≡ Some x)
 some_if None e = absurd (let differ : false ≡ true = e in cc)
 some_if (Some x) e = (x, refl)
+
+-- the fields of v in the places that the chain c doesn't fill
+abbrev pub unreached : PlacedFields → List ExtHeader → PlacedFields
+unreached v c p = if is_some (header_in p c) then None else v p
 
 -- One more header of a chain that fits: its place was free, it stands there, and the others stay.
 pub record Joins (f : ℕ) (c : List ExtHeader) (x : ExtHeader) : Type 0 where
@@ -104,7 +109,7 @@ module _ (v : PlacedFields) (f : ℕ) where
     one_next = λ c x y p q. same_next c x y (next_shown c x p) (next_shown c y q);
   }
 
-  pub one_reach : (c d : List ExtHeader) → IsReach v f c → IsReach v f d → c ≡ d
+  pub one_reach : (c d : List ExtHeader) → IsLongestOf (IsReachable v f) c → IsLongestOf (IsReachable v f) d → c ≡ d
   one_reach c d = one_longest_of (IsReachable v f) shown_grows c d
 
   pub none_shown : IsReachable v f []

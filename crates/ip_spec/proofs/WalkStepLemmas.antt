@@ -9,15 +9,16 @@ use Rattle.ip_spec.specs.Header.{IsHeader}
 use Rattle.ip_spec.specs.Fields.{next_header}
 use Rattle.ip_spec.specs.Chain.{ExtHeader, leads_to, is_empty}
 use Rattle.ip_spec.specs.Places.{Place, routing, index, number_in, header_in, place_of, fields_of, HeaderFields}
-use Rattle.ip_spec.specs.Encoded.{IsCleared}
+use Rattle.ip_spec.specs.Encoding.{IsCleared}
 use Rattle.ip_spec.specs.Encodable.{IsEncoded}
-use Rattle.ip_spec.specs.Walk.{PlacedFields, IsReachable, IsReach, unreached, WalkAnswer, answer_at, IsWalkAnswer}
+use Rattle.ip_spec.specs.Walk.{PlacedFields, IsReachable, WalkAnswer, answer_at, IsWalkAnswer}
 use Rattle.ip_spec.specs.WalkStep.{next_place, without}
+use Rattle.ip_spec.specs.LongestOf.{IsLongestOf}
 use Rattle.ip_spec.proofs.LongestOfLemmas.{longest_where_none_next}
 use Rattle.ip_spec.proofs.StepLemmas.{all_more, leads_to-more, chain_more}
 use Rattle.ip_spec.proofs.FirstLemmas.{find_more-yes, find_more-no}
 use Rattle.ip_spec.proofs.PlaceLemmas.{has_routing, is_of, nothing_in, same_place, place_number, placed, fits_more}
-use Rattle.ip_spec.proofs.WalkLemmas.{none_if, there, Next, next_shown, shown_grows, none_shown}
+use Rattle.ip_spec.proofs.WalkLemmas.{unreached, none_if, there, Next, next_shown, shown_grows, none_shown}
 
 -- Headers c were reached from f and taken out of v, which leaves u. They lead to m; `first` tells that there is
 -- none, `behind` that a routing header is one of them.
@@ -123,7 +124,7 @@ module _ (v : PlacedFields) (f : ℕ) (c : List ExtHeader) (u : PlacedFields) (m
       }
 
   -- None goes on: what was reached is all that is.
-  pub walk_stops : ((p : Place) → next_place first behind m ≡ Some p → u p ≡ None) → IsReach v f c
+  pub walk_stops : ((p : Place) → next_place first behind m ≡ Some p → u p ≡ None) → IsLongestOf (IsReachable v f) c
   walk_stops none =
       longest_where_none_next (IsReachable v f) (shown_grows v f) c k.in_value
       (λ x s.

@@ -2,10 +2,9 @@
 use Rattle.std.specs.Prelude.{◌≡◌, ℕ, IsSome, sum_by}
 use Rattle.std.specs.Option.{ForSome, option_map_or}
 use Rattle.ip_spec.specs.Header.{IsHeader}
-use Rattle.ip_spec.specs.FieldsOf.{raw_len, auth_len}
-use Rattle.ip_spec.specs.Encoding.{AreBytes}
+use Rattle.ip_spec.specs.Fields.{raw_len, auth_len}
+use Rattle.ip_spec.specs.Encoding.{AreBytes, IsCleared}
 use Rattle.ip_spec.specs.Chain.{ExtHeader}
-use Rattle.ip_spec.specs.Encoded.{IsCleared}
 use Rattle.ip_spec.specs.Places.{Place, routing, final_destination, places, number_in, HeaderFields, raw_header, fragment_header, auth_header, fields_of}
 use Rattle.ip_spec.specs.Walk.{PlacedFields}
 

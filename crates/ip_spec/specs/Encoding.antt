@@ -1,33 +1,52 @@
--- The header that says given fields: what is written.
-use Rattle.std.specs.Prelude.{◌≡◌, ◌<◌, ◌++◌, ℕ, List, All, slice_range}
+-- Headers with their reserved bits put to zero, and the header that says given fields: what is written.
+use Rattle.std.specs.Prelude.{◌≡◌, ◌<◌, ◌++◌, ℕ, List, All, map, slice_index, slice_range, slice_set, ◌==◌, if◌then◌else◌}
+use Rattle.ip_spec.specs.Numbers.{HOP_BY_HOP, FRAGMENT, AUTHENTICATION}
 use Rattle.ip_spec.specs.Header.{IsRawHeader, IsFragmentHeader, IsAuthHeader}
-use Rattle.ip_spec.specs.FieldsOf.{RawFields, FragmentFields, AuthFields, raw_fields, fragment_fields, auth_fields}
-use Rattle.ip_spec.specs.Cleared.{cleared_raw, cleared_fragment, cleared_auth}
+use Rattle.ip_spec.specs.Fields.{RawFields, FragmentFields, AuthFields, raw_fields, fragment_fields, auth_fields, unreserved_bits}
+use Rattle.ip_spec.specs.Chain.{ExtHeader}
 
 -- each number is a byte
 abbrev pub AreBytes : List ℕ → Type 0
 AreBytes b = All (λ x. x < 256) b
 
--- Bytes b are a header whose fields are v and whose reserved bits are zero. Byte 0 is a field, and so is what
--- stands from `fixed` on; the numbers between are bytes.
-module _ {V : Type 0} (IsOne : List ℕ → Type 0) (fields_of : List ℕ → V) (cleared : List ℕ → List ℕ) (fixed : ℕ) where
+-- where the payload or check value of a header of number n begins, or where the header ends
+abbrev pub fixed_len : ℕ → ℕ
+fixed_len n = if n == FRAGMENT then 8 else if n == AUTHENTICATION then 12 else 2
+
+-- A header of number n with its reserved bits put to zero: of a fragment header (RFC 8200, section 4.5) byte 1 and
+-- bits of byte 3 are reserved, of an authentication header (RFC 4302, section 2.3) bytes 2 and 3, of others none. The
+-- number of what follows and the length stay.
+abbrev pub cleared_header : ℕ → List ℕ → List ℕ
+cleared_header n b =
+    if n == FRAGMENT then slice_set (slice_set b 1 0) 3 (unreserved_bits (slice_index b 3))
+    else if n == AUTHENTICATION then slice_set (slice_set b 2 0) 3 0
+    else b
+
+-- the reserved bits of h are zero, and the numbers between byte 0 and its payload are bytes
+pub record IsCleared (h : ExtHeader) : Type 0 where
+  pub reserved : cleared_header h.number h.bytes ≡ h.bytes
+  pub bytes : AreBytes (slice_range h.bytes 1 (fixed_len h.number))
+
+-- each header with its reserved bits put to zero; the links and lengths stay
+abbrev pub cleared_chain : List ExtHeader → List ExtHeader
+cleared_chain c = map (λ h. record { number = h.number; bytes = cleared_header h.number h.bytes }) c
+
+-- Bytes b are a header whose fields are v, and as one of number n its reserved bits are zero.
+module _ {V : Type 0} (IsOne : List ℕ → Type 0) (fields_of : List ℕ → V) (n : ℕ) where
   pub record IsEncoding (v : V) (b : List ℕ) : Type 0 where
     pub header : IsOne b
     pub fields : fields_of b ≡ v
-    pub reserved : cleared b ≡ b
-    pub bytes : AreBytes (slice_range b 1 fixed)
+    pub cleared : IsCleared (record { number = n; bytes = b })
 
--- with a payload from byte 2 on
+-- of the common layout, in which nothing is reserved: hop by hop options as well as the others
 abbrev pub IsRawEncoding : RawFields → List ℕ → Type 0
-IsRawEncoding v b = IsEncoding IsRawHeader raw_fields cleared_raw 2 v b
+IsRawEncoding v b = IsEncoding IsRawHeader raw_fields HOP_BY_HOP v b
 
--- of 8 bytes
 abbrev pub IsFragmentEncoding : FragmentFields → List ℕ → Type 0
-IsFragmentEncoding v b = IsEncoding IsFragmentHeader fragment_fields cleared_fragment 8 v b
+IsFragmentEncoding v b = IsEncoding IsFragmentHeader fragment_fields FRAGMENT v b
 
--- with a check value from byte 12 on
 abbrev pub IsAuthEncoding : AuthFields → List ℕ → Type 0
-IsAuthEncoding v b = IsEncoding IsAuthHeader auth_fields cleared_auth 12 v b
+IsAuthEncoding v b = IsEncoding IsAuthHeader auth_fields AUTHENTICATION v b
 
 -- new is old with bytes behind it that have the property P
 abbrev pub AppendsOne : (List ℕ → Type 0) → List ℕ → List ℕ → Type 0

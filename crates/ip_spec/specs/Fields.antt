@@ -1,14 +1,19 @@
--- The fields of a header's bytes, big endian. Byte 0 of each header is the number of what follows it.
-use Rattle.std.specs.Prelude.{ℕ, ◌+◌, ◌*◌, ◌/◌, ◌==◌, ◌||◌, not, Bool, List, drop, slice_index, slice_range, bit_and}
+-- The fields of a header's bytes, big endian, and what a header says: its fields together. Byte 0 of each header is
+-- the number of what follows it.
+use Rattle.std.specs.Prelude.{ℕ, ◌+◌, ◌*◌, ◌/◌, ◌==◌, ◌||◌, not, Bool, List, length, drop, slice_index, slice_range, bit_and}
 use Rattle.std.specs.Int.{from_be_bytes, w32}
 
 abbrev pub next_header : List ℕ → ℕ
 next_header b = slice_index b 0
 
--- hop by hop options, routing, destination options (RFC 8200, sections 4.3, 4.4, 4.6): what follows the
--- number and the length
-abbrev pub raw_payload : List ℕ → List ℕ
-raw_payload b = drop 2 b
+-- of hop by hop options, routing and destination options (RFC 8200, sections 4.3, 4.4, 4.6): the number of
+-- what follows the header, and the bytes behind the length
+pub record RawFields : Type 0 where
+  pub next_header : ℕ
+  pub payload : List ℕ
+
+abbrev pub raw_fields : List ℕ → RawFields
+raw_fields b = record { next_header = next_header b; payload = drop 2 b }
 
 -- The bits of bytes 2 and 3 of a fragment header (RFC 8200, section 4.5): the offset is byte 2 above the 5 high bits
 -- of byte 3,
@@ -23,32 +28,48 @@ flag_bit low = not (bit_and low 0x01 == 0)
 abbrev pub unreserved_bits : ℕ → ℕ
 unreserved_bits low = bit_and low 0xf9
 
--- where the fragment lies in the payload, in units of 8 bytes
-abbrev pub fragment_offset : List ℕ → ℕ
-fragment_offset b = offset_bits (slice_index b 2) (slice_index b 3)
+-- of a fragment header (RFC 8200, section 4.5): where the fragment lies in the payload, in units of 8 bytes, whether
+-- more fragments follow, and the packet's identification
+pub record FragmentFields : Type 0 where
+  pub next_header : ℕ
+  pub fragment_offset : ℕ
+  pub more_fragments : Bool
+  pub identification : ℕ
 
--- more fragments follow
-abbrev pub more_fragments : List ℕ → Bool
-more_fragments b = flag_bit (slice_index b 3)
-
--- the packet's identification (RFC 8200, section 4.5)
-abbrev pub identification : List ℕ → ℕ
-identification b = from_be_bytes w32 (slice_range b 4 8)
+abbrev pub fragment_fields : List ℕ → FragmentFields
+fragment_fields b = record {
+  next_header = next_header b;
+  fragment_offset = offset_bits (slice_index b 2) (slice_index b 3);
+  more_fragments = flag_bit (slice_index b 3);
+  identification = from_be_bytes w32 (slice_range b 4 8);
+}
 
 -- The packet has a fragment of a payload, and not the whole: more follow, or it doesn't begin the payload.
 abbrev pub is_fragment : Bool → ℕ → Bool
 is_fragment more offset = more || not (offset == 0)
 
 abbrev pub is_fragmenting : List ℕ → Bool
-is_fragmenting b = is_fragment (more_fragments b) (fragment_offset b)
+is_fragmenting b = is_fragment (fragment_fields b).more_fragments (fragment_fields b).fragment_offset
 
--- of an authentication header (RFC 4302, sections 2.4 to 2.6): the security parameters index, the
--- sequence number and the integrity check value
-abbrev pub spi : List ℕ → ℕ
-spi b = from_be_bytes w32 (slice_range b 4 8)
+-- of an authentication header (RFC 4302, sections 2.4 to 2.6): with the security parameters index (spi), the
+-- sequence number and the integrity check value (icv)
+pub record AuthFields : Type 0 where
+  pub next_header : ℕ
+  pub spi : ℕ
+  pub sequence_number : ℕ
+  pub raw_icv : List ℕ
 
-abbrev pub sequence_number : List ℕ → ℕ
-sequence_number b = from_be_bytes w32 (slice_range b 8 12)
+abbrev pub auth_fields : List ℕ → AuthFields
+auth_fields b = record {
+  next_header = next_header b;
+  spi = from_be_bytes w32 (slice_range b 4 8);
+  sequence_number = from_be_bytes w32 (slice_range b 8 12);
+  raw_icv = drop 12 b;
+}
 
-abbrev pub icv : List ℕ → List ℕ
-icv b = drop 12 b
+-- how many bytes a header of these fields has
+abbrev pub raw_len : RawFields → ℕ
+raw_len v = 2 + length v.payload
+
+abbrev pub auth_len : AuthFields → ℕ
+auth_len v = 12 + length v.raw_icv

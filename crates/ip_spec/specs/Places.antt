@@ -3,7 +3,7 @@ use Rattle.std.specs.Prelude.{ℕ, List, [], ◌∷◌, Bool, false, ◌&&◌, �
 use Rattle.std.specs.List.{find, before_first, after_first}
 use Rattle.std.specs.Option.{option_map_or}
 use Rattle.ip_spec.specs.Numbers.{HOP_BY_HOP, ROUTING, FRAGMENT, AUTHENTICATION, DESTINATION_OPTIONS}
-use Rattle.ip_spec.specs.FieldsOf.{RawFields, FragmentFields, AuthFields, raw_fields, fragment_fields, auth_fields}
+use Rattle.ip_spec.specs.Fields.{RawFields, FragmentFields, AuthFields, raw_fields, fragment_fields, auth_fields}
 use Rattle.ip_spec.specs.Chain.{ExtHeader}
 
 pub data Place : Type 0 where
@@ -65,6 +65,4 @@ place_of m behind_routing = find (λ p. number_in p == m) (if behind_routing the
 
 -- whether m isn't 0 and its place behind the chain c is filled
 abbrev pub is_taken : ℕ → List ExtHeader → Bool
-is_taken m c =
-    not (m == HOP_BY_HOP)
-    && option_map_or (λ p. is_some (header_in p c)) (place_of m (is_some (header_in routing c))) false
+is_taken m c = not (m == HOP_BY_HOP) && option_map_or (λ p. is_some (header_in p c)) (place_of m (is_some (header_in routing c))) false

@@ -1,12 +1,12 @@
 -- What a value of six places spells, what of it is reached from a number, and what the walk answers.
 use Rattle.std.specs.Prelude.{◌≡◌, ℕ, List, ◌==◌, ◌&&◌, Option, Some, None, is_some, if◌then◌else◌}
-use Rattle.std.specs.List.{find}
+use Rattle.std.specs.List.{find, AllByRecursion}
 use Rattle.std.specs.Option.{option_map, option_map_or, ForSome}
 use Rattle.ip_spec.specs.Numbers.{HOP_BY_HOP}
 use Rattle.ip_spec.specs.LongestOf.{IsLongestOf}
 use Rattle.ip_spec.specs.Chain.{ExtHeader, IsChain, leads_to}
 use Rattle.ip_spec.specs.Fits.{FitsPlaces}
-use Rattle.ip_spec.specs.Encoded.{AreCleared}
+use Rattle.ip_spec.specs.Encoding.{IsCleared}
 use Rattle.ip_spec.specs.Places.{Place, hop_by_hop, places, number_in, header_in, HeaderFields, fields_of}
 
 -- a value: the fields of a header in each place, if there is one
@@ -23,24 +23,12 @@ pub record IsReachable (v : PlacedFields) (f : ℕ) (c : List ExtHeader) : Type 
   pub chain : IsChain f c
   pub fits : FitsPlaces c
   pub in_value : (p : Place) → ForSome (header_in p c) (λ h. v p ≡ Some (fields_of h))
-  pub cleared : AreCleared c
+  pub cleared : AllByRecursion IsCleared c
 
 -- The chain c from f spells v: it is reachable in v, and v has nothing else.
 pub record IsSpelling (v : PlacedFields) (f : ℕ) (c : List ExtHeader) : Type 0 where
   pub reachable : IsReachable v f c
   pub value : IsValueOf c v
-
--- what v reaches from f: the longest chain that is reachable in it
-abbrev pub IsReach : PlacedFields → ℕ → List ExtHeader → Type 0
-IsReach v f c = IsLongestOf (IsReachable v f) c
-
--- the fields of v in the places that the chain c doesn't fill
-abbrev pub unreached : PlacedFields → List ExtHeader → PlacedFields
-unreached v c p = if is_some (header_in p c) then None else v p
-
--- the first place, in their order, in which u has a header
-abbrev pub first_filled : PlacedFields → Option Place
-first_filled u = find (λ p. is_some (u p)) places
 
 -- The answer of a walk: the number to which it leads, or why not all headers are reached.
 pub data WalkAnswer : Type 0 where
@@ -49,14 +37,15 @@ pub data WalkAnswer : Type 0 where
   not_referenced : ℕ → WalkAnswer
 
 -- The answer where the reach leads to m and leaves u, by the first test that holds: nothing is left; m is 0 and
--- hop by hop options are left; else the first header left isn't referenced.
+-- hop by hop options are left; else the first header left, in the order of the places, isn't referenced.
 abbrev pub answer_at : ℕ → PlacedFields → WalkAnswer
 answer_at m u =
     option_map_or (λ p. if (m == HOP_BY_HOP) && is_some (u hop_by_hop) then hop_by_hop_not_at_start else not_referenced (number_in p))
-    (first_filled u) (leads m)
+    (find (λ p. is_some (u p)) places) (leads m)
 
--- a is the answer of the walk through v from f
+-- a is the answer of the walk through v from f: its reach is the longest chain that is reachable, and it leaves what v
+-- has in the places that the reach doesn't fill
 pub record IsWalkAnswer (v : PlacedFields) (f : ℕ) (a : WalkAnswer) : Type 0 where
   pub reach : List ExtHeader
-  pub is_reach : IsReach v f reach
-  pub answer : a ≡ answer_at (leads_to f reach) (unreached v reach)
+  pub is_reach : IsLongestOf (IsReachable v f) reach
+  pub answer : a ≡ answer_at (leads_to f reach) (λ p. if is_some (header_in p reach) then None else v p)

@@ -1,8 +1,8 @@
 ghost use Rattle.std.specs.Prelude.{◌≡◌, ℕ, List, length, slice_range};
+ghost use Rattle.ip_spec.specs.Numbers.{FRAGMENT, AUTHENTICATION};
 ghost use Rattle.ip_spec.specs.Header.{IsRawHeader, IsFragmentHeader, IsAuthHeader};
-ghost use Rattle.ip_spec.specs.FieldsOf.{RawFields, FragmentFields, AuthFields, raw_fields, fragment_fields, auth_fields, raw_len, auth_len};
-ghost use Rattle.ip_spec.specs.Cleared.{cleared_fragment, cleared_auth};
-ghost use Rattle.ip_spec.specs.Encoding.{AreBytes, IsRawEncoding, IsFragmentEncoding, IsAuthEncoding};
+ghost use Rattle.ip_spec.specs.Fields.{RawFields, FragmentFields, AuthFields, raw_fields, fragment_fields, auth_fields, raw_len, auth_len};
+ghost use Rattle.ip_spec.specs.Encoding.{cleared_header, AreBytes, IsRawEncoding, IsFragmentEncoding, IsAuthEncoding};
 ghost use Rattle.ip_spec.specs.Decoding.{IsRawDecoding, IsFragmentDecoding, IsAuthDecoding};
 
 /// Bytes begin with at most one header of a layout: its fields and the rest behind it are determined.
@@ -27,12 +27,12 @@ pub fn one_encoding()
 /// A header whose reserved bits are put to zero is a header with the same fields, and putting them to zero
 /// again changes nothing. A header of the common layout has no reserved bits.
 pub fn cleared_header_says_the_same()
-    ensures fragment { (b : List ℕ) → IsFragmentHeader b → IsFragmentHeader (cleared_fragment b)
-        × (fragment_fields (cleared_fragment b) ≡ fragment_fields b)
-        × (cleared_fragment (cleared_fragment b) ≡ cleared_fragment b) }
-    ensures auth { (b : List ℕ) → IsAuthHeader b → IsAuthHeader (cleared_auth b)
-        × (auth_fields (cleared_auth b) ≡ auth_fields b)
-        × (cleared_auth (cleared_auth b) ≡ cleared_auth b) }
+    ensures fragment { (b : List ℕ) → IsFragmentHeader b → IsFragmentHeader (cleared_header FRAGMENT b)
+        × (fragment_fields (cleared_header FRAGMENT b) ≡ fragment_fields b)
+        × (cleared_header FRAGMENT (cleared_header FRAGMENT b) ≡ cleared_header FRAGMENT b) }
+    ensures auth { (b : List ℕ) → IsAuthHeader b → IsAuthHeader (cleared_header AUTHENTICATION b)
+        × (auth_fields (cleared_header AUTHENTICATION b) ≡ auth_fields b)
+        × (cleared_header AUTHENTICATION (cleared_header AUTHENTICATION b) ≡ cleared_header AUTHENTICATION b) }
 {}
 
 /// So it encodes them, where its numbers are bytes.
@@ -40,9 +40,9 @@ pub fn cleared_header_encodes()
     ensures raw { (b : List ℕ) → IsRawHeader b → AreBytes (slice_range b 1 2)
         → IsRawEncoding (raw_fields b) b }
     ensures fragment { (b : List ℕ) → IsFragmentHeader b → AreBytes (slice_range b 1 8)
-        → IsFragmentEncoding (fragment_fields b) (cleared_fragment b) }
+        → IsFragmentEncoding (fragment_fields b) (cleared_header FRAGMENT b) }
     ensures auth { (b : List ℕ) → IsAuthHeader b → AreBytes (slice_range b 1 12)
-        → IsAuthEncoding (auth_fields b) (cleared_auth b) }
+        → IsAuthEncoding (auth_fields b) (cleared_header AUTHENTICATION b) }
 {}
 
 /// The fields tell the length.

@@ -1,12 +1,12 @@
 ghost use Rattle.std.specs.Prelude.{◌≡◌, ◌<◌, ◌↔◌, ℕ, List, ◌++◌, length};
+ghost use Rattle.ip_spec.specs.LongestOf.{IsLongestOf};
 ghost use Rattle.ip_spec.specs.Header.{IsExtensionNumber};
-ghost use Rattle.ip_spec.specs.Encoding.{AreBytes};
+ghost use Rattle.ip_spec.specs.Encoding.{AreBytes, cleared_chain};
 ghost use Rattle.ip_spec.specs.Chain.{ExtHeader, leads_to, bytes_of};
 ghost use Rattle.ip_spec.specs.Demand.{IsLongestUnder};
 ghost use Rattle.ip_spec.specs.Fits.{FitsPlaces, IsTaken};
 ghost use Rattle.ip_spec.specs.Places.{Place, places};
-ghost use Rattle.ip_spec.specs.Encoded.{cleared_chain};
-ghost use Rattle.ip_spec.specs.Walk.{PlacedFields, IsValueOf, IsSpelling, IsReach, WalkAnswer, leads, IsWalkAnswer};
+ghost use Rattle.ip_spec.specs.Walk.{PlacedFields, IsValueOf, IsSpelling, IsReachable, WalkAnswer, leads, IsWalkAnswer};
 ghost use Rattle.ip_spec.specs.Parse.{IsRead};
 ghost use Rattle.ip_spec.specs.Links.{first_number, linked};
 ghost use Rattle.ip_spec.specs.Encodable.{IsEncodable, placed_len};
@@ -15,9 +15,9 @@ ghost use Rattle.ip_spec.specs.Encodable.{IsEncodable, placed_len};
 /// exactly one answer.
 pub fn one_walk_answer()
     ensures some_reach { (v : PlacedFields) → IsEncodable v → (f : ℕ)
-        → (c : List ExtHeader) × IsReach v f c }
-    ensures only_reach { (v : PlacedFields) (f : ℕ) (c d : List ExtHeader) → IsReach v f c
-        → IsReach v f d → c ≡ d }
+        → (c : List ExtHeader) × IsLongestOf (IsReachable v f) c }
+    ensures only_reach { (v : PlacedFields) (f : ℕ) (c d : List ExtHeader)
+        → IsLongestOf (IsReachable v f) c → IsLongestOf (IsReachable v f) d → c ≡ d }
     ensures some_answer { (v : PlacedFields) → IsEncodable v → (f : ℕ)
         → (a : WalkAnswer) × IsWalkAnswer v f a }
     ensures only_answer { (v : PlacedFields) (f : ℕ) (a b : WalkAnswer) → IsWalkAnswer v f a

@@ -1,6 +1,6 @@
 //! Callers of the owned headers.
 ghost use Rattle.std.specs.Prelude.{◌≡◌, ◌≤◌, ◌+◌, ℕ, List, IsTrue, IsOk, OnOk, OnErr, vec_len, vec_capacity};
-ghost use Rattle.ip_spec.specs.FieldsOf.{raw_len, auth_len};
+ghost use Rattle.ip_spec.specs.Fields.{raw_len, auth_len};
 ghost use Rattle.ip_spec.specs.Encoding.{AppendsOne, IsRawEncoding, IsAuthEncoding};
 
 use arrayvec::ArrayVec;

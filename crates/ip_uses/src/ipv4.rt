@@ -1,7 +1,7 @@
 //! Callers of IPv4 extension headers.
 ghost use Rattle.std.specs.Prelude.{◌≡◌, ◌++◌, ℕ, List, IfOk, OnErr, IsTrue};
 ghost use Rattle.std.specs.Option.{option_map};
-ghost use Rattle.ip_spec.specs.FieldsOf.{AuthFields};
+ghost use Rattle.ip_spec.specs.Fields.{AuthFields};
 ghost use Rattle.ip_spec.specs.Numbers.{AUTHENTICATION};
 ghost use Rattle.ip_spec.specs.Demand.{AtMostOneOf};
 ghost use Rattle.ip_spec.specs.Parse.{IsRead};

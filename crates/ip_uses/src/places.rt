@@ -3,7 +3,7 @@ ghost use Rattle.std.specs.Prelude.{◌≡◌, ◌++◌, ℕ, List, None, IfSome
 ghost use Rattle.std.specs.Option.{option_map};
 ghost use Rattle.ip_spec.specs.Header.{IsExtensionNumber};
 ghost use Rattle.ip_spec.specs.Parse.{rest_behind};
-ghost use Rattle.ip_spec.specs.FieldsOf.{fragment_fields};
+ghost use Rattle.ip_spec.specs.Fields.{fragment_fields};
 ghost use Rattle.ip_spec.specs.Chain.{leads_to};
 ghost use Rattle.ip_spec.specs.Places.{fragment, header_in};
 ghost use Rattle.ip_ext_chains.specs.Ipv6Extensions.{value_of};

@@ -5,7 +5,7 @@ ghost use Rattle.std.specs.Int.{from_be_bytes, w16};
 ghost use Rattle.std.specs.Io.KnownBytes.{Consumes};
 ghost use Rattle.ip_spec.specs.Prefix.{IsPrefix};
 ghost use Rattle.ip_spec.specs.Header.{IsRawHeader, IsAuthHeader};
-ghost use Rattle.ip_spec.specs.FieldsOf.{raw_fields, auth_fields};
+ghost use Rattle.ip_spec.specs.Fields.{raw_fields, auth_fields};
 ghost use Rattle.ip_spec.specs.Decoding.{IsRawDecoding};
 ghost use Rattle.ip_ext_chains.specs.Fitting.{IsFittingAnswer};
 

@@ -3,7 +3,7 @@
 use Rattle.std.specs.Prelude.{ℕ, List, ◌++◌, length}
 use Rattle.ip_spec.specs.Parse.{rest_behind}
 use Rattle.ip_ext_chains.specs.Chain.{leads_to, bytes_of}
-use Rattle.ip_ext_chains.specs.Encoded.{cleared_chain}
+use Rattle.ip_ext_chains.specs.Encoding.{cleared_chain}
 use Rattle.ip_ext_chains.specs.Fitting.{fitting_chain, fitting_fault}
 use Rattle.ipexts_tool.specs.Parts.{next_line, written_line, chain_end_line}
 

@@ -4,7 +4,7 @@ use Rattle.std.specs.Prelude.{ℕ, List, ◌++◌, length, codes}
 use Rattle.ip_spec.specs.Parse.{rest_behind}
 use Rattle.std.specs.Fmt.{decimal}
 use Rattle.ip_ext_chains.specs.Chain.{leads_to, bytes_of}
-use Rattle.ip_ext_chains.specs.Encoded.{cleared_chain}
+use Rattle.ip_ext_chains.specs.Encoding.{cleared_chain}
 use Rattle.ip_ext_slices.specs.Fault.{chain_fault}
 use Rattle.ip_ext_slices.specs.Longest.{longest_chain}
 use Rattle.ip_ext_chains.specs.Runs.{runs_of}

@@ -1,7 +1,7 @@
 //! The answer to `rewrite6 N HEX`.
 ghost use Rattle.std.specs.Prelude.{◌≡◌, ◌++◌, OnOk, IfOk, string_bytes};
 ghost use Rattle.ip_ext_chains.specs.Chain.{bytes_of};
-ghost use Rattle.ip_ext_chains.specs.Encoded.{cleared_chain};
+ghost use Rattle.ip_ext_chains.specs.Encoding.{cleared_chain};
 ghost use Rattle.ip_ext_chains.specs.Fitting.{fitting_chain};
 ghost use Rattle.ip_ext_chains.specs.Ipv6Extensions.{value_of};
 ghost use Rattle.ipexts_tool.specs.Rewrite6.{rewrite6_answer};

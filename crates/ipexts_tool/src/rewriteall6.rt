@@ -1,7 +1,7 @@
 //! The answer to `rewriteall6 N HEX`.
 ghost use Rattle.std.specs.Prelude.{◌≡◌, ◌++◌, [], length, OnOk, IfOk, string_bytes};
 ghost use Rattle.ip_ext_chains.specs.Chain.{bytes_of};
-ghost use Rattle.ip_ext_chains.specs.Encoded.{cleared_chain};
+ghost use Rattle.ip_ext_chains.specs.Encoding.{cleared_chain};
 ghost use Rattle.ip_ext_slices.specs.Longest.{longest_chain};
 ghost use Rattle.ip_ext_chains.specs.Runs.{runs_of};
 ghost use Rattle.ip_ext_chains.specs.Ipv6ExtensionsRuns.{start, input, values_left};

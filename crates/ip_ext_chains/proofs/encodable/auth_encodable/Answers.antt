@@ -1,5 +1,5 @@
 use Rattle.std.proofs.Common.{◌<◌, ◌^◌, List, ℕ, length, subst, arith, ap}
-use Rattle.ip_spec.specs.FieldsOf.{AuthFields}
+use Rattle.ip_spec.specs.Fields.{AuthFields}
 use Rattle.ip_spec.specs.Lengths.{IsIcvLen}
 use Rattle.ip_spec.specs.Encoding.{AreBytes}
 use Rattle.ip_spec.proofs.EncodedLemmas.{auth_encoded}

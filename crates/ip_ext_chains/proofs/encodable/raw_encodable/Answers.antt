@@ -1,5 +1,5 @@
 use Rattle.std.proofs.Common.{◌<◌, List, ℕ, length, subst, arith, ap}
-use Rattle.ip_spec.specs.FieldsOf.{RawFields}
+use Rattle.ip_spec.specs.Fields.{RawFields}
 use Rattle.ip_spec.specs.Lengths.{IsPayloadLen}
 use Rattle.ip_spec.specs.Encoding.{AreBytes}
 use Rattle.ip_spec.proofs.EncodedLemmas.{raw_encoded}

@@ -1,5 +1,5 @@
 use Rattle.std.proofs.Common.{◌≡◌, ℕ, List, ap, sym, ◌∙◌, subst}
-use Rattle.ip_spec.specs.FieldsOf.{AuthFields}
+use Rattle.ip_spec.specs.Fields.{AuthFields}
 use Rattle.ip_ext_ipv4.proofs.Ipv4WalkLemmas.{IsEncoded}
 use Rattle.ip_ext_ipv4.proofs.ipv4_exts.encodable.Goals as goal
 

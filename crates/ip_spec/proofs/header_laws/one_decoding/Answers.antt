@@ -1,6 +1,6 @@
 use Rattle.std.proofs.Common.{refl, inl}
 use Rattle.ip_spec.specs.Header.{IsRawHeader, IsFragmentHeader, IsAuthHeader, raw, fragment, auth}
-use Rattle.ip_spec.specs.FieldsOf.{raw_fields, fragment_fields, auth_fields}
+use Rattle.ip_spec.specs.Fields.{raw_fields, fragment_fields, auth_fields}
 use Rattle.ip_spec.proofs.EncodingLemmas.{one_decoding_of}
 use Rattle.ip_spec.proofs.header_laws.one_decoding.Goals as goal
 

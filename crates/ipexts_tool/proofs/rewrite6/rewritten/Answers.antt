@@ -1,8 +1,7 @@
 use Rattle.std.proofs.Common.{◌∙◌, ◌++◌, arith, ap, sym}
 use Rattle.std.proofs.lemmas.List.{get_or_default}
 use Rattle.ip_ext_chains.specs.Chain.{bytes_of}
-use Rattle.ip_ext_chains.specs.Encoded.{cleared_chain}
-use Rattle.ip_ext_chains.specs.Encoding.{AreBytes}
+use Rattle.ip_ext_chains.specs.Encoding.{AreBytes, cleared_chain}
 use Rattle.ip_ext_chains.specs.Fitting.{fitting_chain}
 use Rattle.ip_ext_chains.proofs.RefusedLemmas.{read_refused}
 use Rattle.ipexts_tool.proofs.rewrite6.rewritten.Goals as goal

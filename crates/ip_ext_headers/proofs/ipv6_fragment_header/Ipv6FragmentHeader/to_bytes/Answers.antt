@@ -1,7 +1,6 @@
 use Rattle.std.proofs.Common.{arith}
 use Rattle.ip_spec.specs.Header.{IsFragmentHeader}
-use Rattle.ip_spec.specs.FieldsOf.{FragmentFields, fragment_fields}
-use Rattle.ip_spec.specs.Cleared.{cleared_fragment}
+use Rattle.ip_spec.specs.Fields.{FragmentFields, fragment_fields}
 use Rattle.ip_spec.proofs.EncodingLemmas.{fragment_encodes, encoding_is_decoded}
 use Rattle.ip_ext_headers.proofs.ipv6_fragment_header.Ipv6FragmentHeader.to_bytes.Goals as goal
 
@@ -13,4 +12,4 @@ returns-clause-encoding c =
     (fragment_encodes v c.pack-high.result.0 c.pack-high.result.1 packed.offset packed.flag packed.reserved (omega arith) (omega arith) (omega arith))
 
 pub returns-clause-read_back : goal.returns-clause-read_back
-returns-clause-read_back c = λ r. encoding_is_decoded IsFragmentHeader fragment_fields cleared_fragment 8 _ _ r (returns-clause-encoding c)
+returns-clause-read_back c = λ r. encoding_is_decoded IsFragmentHeader fragment_fields 44 _ _ r (returns-clause-encoding c)

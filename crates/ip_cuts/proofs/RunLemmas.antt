@@ -1,10 +1,10 @@
 -- How far headers have a place each of their own.
-use Rattle.std.proofs.Common.{◌≡◌, ℕ, ◌+◌, ◌≤◌, ◌<◌, List, [], ◌∷◌, ◌++◌, length, take, drop, refl, ap, sym, ◌∙◌, arith, subst}
-use Rattle.std.specs.Prelude.{◌==◌, ◌↔◌, get_or, if◌then◌else◌}
+use Rattle.std.proofs.Common.{◌≡◌, ℕ, ◌≤◌, List, [], ◌∷◌, ◌++◌, length, take, refl, ap, sym, ◌∙◌, arith, subst}
+use Rattle.std.specs.Prelude.{◌==◌, ◌↔◌, if◌then◌else◌}
 use Rattle.std.specs.List.{AllByRecursion}
 use Rattle.std.proofs.lemmas.Bool.{eq-eqb}
-use Rattle.std.proofs.lemmas.List.{take-append-drop, drop_more, map-append, append-nil, take_all}
-use Rattle.ip_spec.specs.Demand.{KeepsBeginning, NextBreaks}
+use Rattle.std.proofs.lemmas.List.{map-append, append-nil, take_all}
+use Rattle.ip_spec.specs.Demand.{KeepsBeginning}
 use Rattle.ip_spec.specs.Header.{IsExtensionNumber}
 use Rattle.ip_spec.specs.NumbersFit.{NumbersFit, how_often, in_place, before_routing, after_routing}
 use Rattle.ip_spec.proofs.FirstLemmas.{before-none}
@@ -40,21 +40,8 @@ next_has_place xs x f =
       },
     )
 
--- Of headers of which the first k have places, and no more, the demand keeps these.
-module _ (xs : List HeaderCut) (k : ℕ) where
-  breaks_at : (x : HeaderCut) (rest : List HeaderCut) → k < length xs → drop k xs ≡ rest → (AreInPlaces (take k xs ++ get_or xs k x ∷ []) → ⊥) → NextBreaks AreInPlaces (take k xs) rest
-  breaks_at d [] within e fails = tt
-  breaks_at d (x ∷ rest) within e fails = λ q.
-      let P : List HeaderCut → Type 0 = AreInPlaces in
-      let both : get_or xs k d ∷ drop (k + 1) xs ≡ x ∷ rest = sym (drop_more xs k d within) ∙ e in
-      let first : get_or xs k d ≡ x = cc in
-      fails (subst P (ap (λ y. take k xs ++ y ∷ []) (sym first)) q)
-
-  pub kept_first : (d : HeaderCut) → k < length xs → AreInPlaces (take k xs) → (AreInPlaces (take k xs ++ get_or xs k d ∷ []) → ⊥) → KeepsBeginning AreInPlaces xs (take k xs)
-  kept_first d within f fails = record { rest = drop k xs; joined = sym (take-append-drop k xs); meets = f; breaks = breaks_at d (drop k xs) within refl fails }
-
-  pub kept_whole : length xs ≤ k → AreInPlaces (take k xs) → KeepsBeginning AreInPlaces xs (take (length xs) xs)
-  kept_whole all f =
-      let P : List HeaderCut → Type 0 = AreInPlaces in
-      let here : take (length xs) xs ≡ xs = take_all (length xs) xs (omega arith) in
-      record { rest = []; joined = sym (append-nil (take (length xs) xs) ∙ here); meets = subst P (take_all k xs all ∙ sym here) f; breaks = tt }
+pub kept_whole : (xs : List HeaderCut) (k : ℕ) → length xs ≤ k → AreInPlaces (take k xs) → KeepsBeginning AreInPlaces xs (take (length xs) xs)
+kept_whole xs k all f =
+    let P : List HeaderCut → Type 0 = AreInPlaces in
+    let here : take (length xs) xs ≡ xs = take_all (length xs) xs (omega arith) in
+    record { rest = []; joined = sym (append-nil (take (length xs) xs) ∙ here); meets = subst P (take_all k xs all ∙ sym here) f; breaks = tt }

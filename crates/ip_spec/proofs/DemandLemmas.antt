@@ -1,6 +1,7 @@
 -- Lists with a property under which at most one element can come next, and a demand on them.
-use Rattle.std.proofs.Common.{◌≡◌, ℕ, ◌≤◌, List, [], ◌∷◌, ◌++◌, length, map, refl, ap, sym, ◌∙◌, arith, inl, inr, ◌⊎◌, subst, append_assoc, Bool, true, false}
-use Rattle.std.proofs.lemmas.List.{append-nil, append_cancel_left, length-append, map-append}
+use Rattle.std.proofs.Common.{◌≡◌, ℕ, ◌+◌, ◌≤◌, ◌<◌, List, [], ◌∷◌, ◌++◌, length, take, drop, map, refl, ap, sym, ◌∙◌, arith, inl, inr, ◌⊎◌, subst, append_assoc, Bool, true, false}
+use Rattle.std.specs.Prelude.{get_or}
+use Rattle.std.proofs.lemmas.List.{append-nil, append_cancel_left, drop_more, length-append, map-append, take-append-drop}
 use Rattle.std.proofs.lemmas.Bool.{cases_lt}
 use Rattle.ip_spec.specs.LongestOf.{IsLongestOf}
 use Rattle.ip_spec.specs.Demand.{IsDemand, NextBreaks, KeepsBeginning, Passes}
@@ -159,3 +160,15 @@ demand_of-map f Q k = record {
   begins = λ c d q. k.begins (map f c) (map f d) (subst Q (map-append f c d) q);
   decided = λ c. k.decided (map f c);
 }
+
+-- Of a list of which the first k elements meet the demand, and one more don't, the demand keeps these.
+module _ {X : Type 0} (Q : List X → Type 0) (xs : List X) (k : ℕ) (x : X) (within : k < length xs) where
+  breaks_at : (rest : List X) → drop k xs ≡ rest → (Q (take k xs ++ get_or xs k x ∷ []) → ⊥) → NextBreaks Q (take k xs) rest
+  breaks_at [] e fails = tt
+  breaks_at (y ∷ rest) e fails = λ q.
+      let both : get_or xs k x ∷ drop (k + 1) xs ≡ y ∷ rest = sym (drop_more xs k x within) ∙ e in
+      let first : get_or xs k x ≡ y = cc in
+      fails (subst Q (ap (λ z. take k xs ++ z ∷ []) (sym first)) q)
+
+  pub kept_first : Q (take k xs) → (Q (take k xs ++ get_or xs k x ∷ []) → ⊥) → KeepsBeginning Q xs (take k xs)
+  kept_first q fails = record { rest = drop k xs; joined = sym (take-append-drop k xs); meets = q; breaks = breaks_at (drop k xs) refl fails }

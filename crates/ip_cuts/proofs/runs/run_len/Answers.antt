@@ -2,12 +2,13 @@ use Rattle.std.proofs.Common.{◌≡◌, sym, ◌∙◌, true, false, subst, Lis
 use Rattle.std.proofs.lemmas.List.{take_more}
 use Rattle.ip_cuts.specs.InPlaces.{AreInPlaces}
 use Rattle.ip_cuts.specs.declared.header_cut.HeaderCut.{HeaderCut}
-use Rattle.ip_cuts.proofs.RunLemmas.{next_has_place, kept_first, kept_whole}
+use Rattle.ip_spec.proofs.DemandLemmas.{kept_first}
+use Rattle.ip_cuts.proofs.RunLemmas.{next_has_place, kept_whole}
 use Rattle.ip_cuts.proofs.runs.run_len.Goals as goal
 
 pub returns-then-not-has_place-clause-run : goal.returns-then-not-has_place-clause-run
 returns-then-not-has_place-clause-run c =
-    kept_first c.args.headers.now c.lens.len _ c.lens-test.true c.lens.invariant
+    kept_first AreInPlaces c.args.headers.now c.lens.len _ c.lens-test.true c.lens.invariant
     (λ f. let differ : false ≡ true = sym c.if-not-has_place.true ∙ c.has_place.ensures.1 ((next_has_place _ _ c.lens.invariant).0 f) in cc)
 
 pub lens-preserved : goal.lens-preserved
@@ -16,4 +17,4 @@ lens-preserved c =
     subst P (sym (take_more c.args.headers.now c.lens.len _ c.lens-test.true)) ((next_has_place _ _ c.lens.invariant).1 (c.has_place.ensures.0 c.if-not-has_place.false))
 
 pub returns-clause-run : goal.returns-clause-run
-returns-clause-run c = kept_whole c.args.headers.now c.lens.len (search rules) c.lens.invariant
+returns-clause-run c = kept_whole _ c.lens.len (search rules) c.lens.invariant

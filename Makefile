@@ -76,7 +76,7 @@ test-c: lib
 	$(CARGO_IS_THERE)
 	scripts/test-c
 	programs/test/run build build
-	cd bindings/rust && WOLFAREN_LIB_DIR=$(CURDIR)/build cargo test --quiet $(CARGO_FLAGS)
+	cd bindings/rust && WOLFAREN_LIB_DIR=$(CURDIR)/build cargo test --quiet $$CARGO_FLAGS
 
 page:
 	$(RT_IS_THERE)

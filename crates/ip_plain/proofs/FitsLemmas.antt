@@ -1,15 +1,13 @@
 -- What the plain program counts.
-use Rattle.std.proofs.Common.{◌≡◌, ℕ, ◌+◌, ◌<◌, List, [], length, take, map, sym, ◌∙◌, arith, subst}
+use Rattle.std.proofs.Common.{◌≡◌, ℕ, ◌+◌, ◌<◌, List, length, take, map, sym, ◌∙◌, arith, subst}
 use Rattle.std.proofs.lemmas.List.{take-map, take_more, length-map}
 use Rattle.ip_spec.specs.Chain.{ExtHeader}
 use Rattle.ip_spec.specs.Demand.{KeepsBeginning}
-use Rattle.ip_spec.proofs.DemandLemmas.{kept_first}
 use Rattle.ip_spec.specs.Fits.{FitsPlaces}
+use Rattle.ip_spec.proofs.DemandLemmas.{kept_first}
+use Rattle.ip_spec.proofs.PlaceLemmas.{bare}
 use Rattle.ip_plain.specs.PlainHeader.{plain_header_of}
 use Rattle.ip_plain.specs.declared.chain.PlainHeader.{PlainHeader}
-
-none : ExtHeader
-none = record { number = 0; bytes = [] }
 
 -- Of plain headers of which the first k fit, and no more, the demand keeps these.
 module _ (hs : List PlainHeader) (k : ℕ) (within : k < length hs) where
@@ -20,4 +18,4 @@ module _ (hs : List PlainHeader) (k : ℕ) (within : k < length hs) where
       let d = map plain_header_of hs in
       let same : (j : ℕ) → take j d ≡ map plain_header_of (take j hs) = λ j. take-map plain_header_of j hs in
       let inside : k < length d = omega (arith, within, length-map hs plain_header_of) in
-      subst K (same k) (kept_first FitsPlaces d k none inside (subst F (sym (same k)) f) (λ g. fails (subst F (sym (take_more d k none inside) ∙ same (k + 1)) g)))
+      subst K (same k) (kept_first FitsPlaces d k (bare 0) inside (subst F (sym (same k)) f) (λ g. fails (subst F (sym (take_more d k (bare 0) inside) ∙ same (k + 1)) g)))

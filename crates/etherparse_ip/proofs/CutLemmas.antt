@@ -21,7 +21,7 @@ use Rattle.ip_ext_ipv4.specs.Ipv4Parse.{IsIpv4Answer}
 use Rattle.ip_base.specs.Ipv4Header.{IsIpv4Header, total_len, protocol, is_ipv4_fragmenting}
 use Rattle.ip_base.specs.Ipv6Header.{IsIpv6Header, payload_length, ipv6_next_header}
 use Rattle.ip_base.specs.LenError.{too_short}
-use Rattle.ip_base.specs.declared.err.layer.Layer.TheVariants.{Ipv4Packet, Ipv6Packet}
+use Rattle.ip_base.specs.declared.err.layer.Layer.TheVariants.{Ipv4Packet}
 use Rattle.ip_base.specs.declared.len_source.LenSource.{LenSource}
 use Rattle.ip_base.specs.declared.len_source.LenSource.TheVariants.{Slice, Ipv4HeaderTotalLen, Ipv6HeaderPayloadLen}
 use Rattle.ip_ext_headers.specs.declared.err.ip_auth.header_slice_error.HeaderSliceError.TheVariants as auth

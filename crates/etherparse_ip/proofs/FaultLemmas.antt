@@ -16,7 +16,7 @@ use Rattle.ip_ext_headers.specs.declared.err.ip_auth.header_slice_error.HeaderSl
 use Rattle.ip_ext_slices.specs.Longest.{longest_chain}
 use Rattle.ip_spec.specs.Parse.{rest_behind}
 use Rattle.ip_ext_slices.specs.Fault.{Fault, fault_at, chain_fault, short_at, auth_at, ExtsOffsetFits}
-use Rattle.ip_base.specs.Ipv6Header.{payload_length, ipv6_next_header, ipv6_header_fault}
+use Rattle.ip_base.specs.Ipv6Header.{payload_length, ipv6_header_fault}
 use Rattle.etherparse_ip.specs.Fault.{ipv6_chain_fault, ipv6_fault_behind, ipv6_lax_fault, ipv6_of_header, ipv6_of_exts}
 use Rattle.ip_ext_slices.specs.declared.err.ipv6_exts.header_slice_error.HeaderSliceError.{HeaderSliceError}
 use Rattle.ip_ext_slices.specs.declared.err.ipv6_exts.header_slice_error.HeaderSliceError.TheVariants.{Len, Content}

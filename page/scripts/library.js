@@ -1,9 +1,9 @@
 // The library's calls. Its structs are laid out as include/wolfaren.h says, with 64-bit sizes.
 "use strict";
 Wolfaren.library = (function () {
-    const HEADER = 24, PACKET = 40, FAULT = 32, TEXT = 256;
-    // A packet with a fault behind it; a chain has 56 bytes.
-    const ANSWER = PACKET + FAULT;
+    const HEADER = 24, PACKET = 40, FAULT = 32, BYTES = 16, TEXT = 256;
+    // A packet, with a fault behind it, and where its bytes are; a chain has 56 bytes.
+    const ANSWER = PACKET + FAULT + BYTES;
     // A module with one memory of 64-bit addresses.
     const WIDE = new Uint8Array([0, 97, 115, 109, 1, 0, 0, 0, 5, 3, 1, 4, 1]);
     let calls = null, memory = null, room = 0, start = 0, words = 0;
@@ -70,9 +70,12 @@ Wolfaren.library = (function () {
     }
     // The packet, which has to be whole; or what is wrong.
     function cutPacket(bytes) {
-        const at = place(bytes), answer = at.answer, fault = answer + PACKET;
-        const found = calls.wolfaren_cut_packet(BigInt(start), BigInt(bytes.length), BigInt(at.cuts), BigInt(at.most), BigInt(answer), BigInt(fault));
+        const at = place(bytes), answer = at.answer, fault = answer + PACKET, given = fault + FAULT;
         const view = new DataView(memory.buffer);
+        // The library takes the bytes of a packet as a struct of pointer and length, which WebAssembly hands over in memory.
+        view.setBigUint64(given, BigInt(start), true);
+        view.setBigUint64(given + 8, BigInt(bytes.length), true);
+        const found = calls.wolfaren_cut_packet(BigInt(given), BigInt(at.cuts), BigInt(at.most), BigInt(answer), BigInt(fault));
         if (!found) return { fault: faultAt(view, fault) };
         return { baseLen: size(view, answer), cuts: cutsAt(view, at.cuts, size(view, answer + 8)), payloadOffset: size(view, answer + 16),
             payloadLen: size(view, answer + 24), fault: null, version: view.getUint16(answer + 32, true),

@@ -3,6 +3,7 @@
 //! `include/wolfaren.h` says the same in the words of C.
 #![tactic(auto)]
 
+mod bytes;
 mod chains;
 mod faults;
 mod headers;

@@ -3,6 +3,7 @@ ghost use Rattle.std.specs.Prelude.{◌≡◌, ◌+◌, ◌≤◌, length, false
 ghost use Rattle.ip_base.specs.Ipv4Header.{version};
 ghost use Rattle.ip_cuts.specs.PacketCut.{IsPacketCut, payload_cut, parts_in, packet_fault, lax_packet_fault};
 
+use crate::bytes::Bytes;
 use ip_cuts::{
     FaultFields, HeaderCut, PacketCut, PayloadCut, cut_packet, cut_packet_lax, find_payload,
     find_payload_lax,
@@ -12,20 +13,20 @@ use ip_cuts::{
 /// `fault`, and the others stay.
 #[unsafe(no_mangle)]
 pub extern "C" fn wolfaren_cut_packet(
-    bytes: &[u8],
+    bytes: Bytes<'_>,
     cuts: &mut [HeaderCut],
     packet: &mut PacketCut,
     fault: &mut FaultFields,
 ) -> bool
-    ensures packet { IsTrue result → IsPacketCut bytes.now cuts.old packet.new cuts.new }
+    ensures packet { IsTrue result → IsPacketCut bytes.entry.slice.now cuts.old packet.new cuts.new }
     ensures within { IsTrue result
-        → packet.new.payload_offset + packet.new.payload_len ≤ length bytes.now }
+        → packet.new.payload_offset + packet.new.payload_len ≤ length bytes.entry.slice.now }
     ensures no_fault { IsTrue result
-        → (packet_fault bytes.now ≡ None) × (fault.new ≡ fault.old) }
-    ensures fault { result ≡ false → packet_fault bytes.now ≡ Some fault.new }
+        → (packet_fault bytes.entry.slice.now ≡ None) × (fault.new ≡ fault.old) }
+    ensures fault { result ≡ false → packet_fault bytes.entry.slice.now ≡ Some fault.new }
     ensures same { result ≡ false → (packet.new ≡ packet.old) × (cuts.new ≡ cuts.old) }
 {
-    match cut_packet(bytes, cuts) {
+    match cut_packet(bytes.slice(), cuts) {
         Ok(found) => {
             packet.put(found);
             true
@@ -40,20 +41,20 @@ pub extern "C" fn wolfaren_cut_packet(
 /// `cut_packet_lax`, as `wolfaren_cut_packet`.
 #[unsafe(no_mangle)]
 pub extern "C" fn wolfaren_cut_packet_lax(
-    bytes: &[u8],
+    bytes: Bytes<'_>,
     cuts: &mut [HeaderCut],
     packet: &mut PacketCut,
     fault: &mut FaultFields,
 ) -> bool
-    ensures packet { IsTrue result → IsPacketCut bytes.now cuts.old packet.new cuts.new }
+    ensures packet { IsTrue result → IsPacketCut bytes.entry.slice.now cuts.old packet.new cuts.new }
     ensures within { IsTrue result
-        → packet.new.payload_offset + packet.new.payload_len ≤ length bytes.now }
+        → packet.new.payload_offset + packet.new.payload_len ≤ length bytes.entry.slice.now }
     ensures no_fault { IsTrue result
-        → (lax_packet_fault bytes.now ≡ None) × (fault.new ≡ fault.old) }
-    ensures fault { result ≡ false → lax_packet_fault bytes.now ≡ Some fault.new }
+        → (lax_packet_fault bytes.entry.slice.now ≡ None) × (fault.new ≡ fault.old) }
+    ensures fault { result ≡ false → lax_packet_fault bytes.entry.slice.now ≡ Some fault.new }
     ensures same { result ≡ false → (packet.new ≡ packet.old) × (cuts.new ≡ cuts.old) }
 {
-    match cut_packet_lax(bytes, cuts) {
+    match cut_packet_lax(bytes.slice(), cuts) {
         Ok(found) => {
             packet.put(found);
             true
@@ -69,20 +70,20 @@ pub extern "C" fn wolfaren_cut_packet_lax(
 /// wrong is in `fault`, and `payload` stays.
 #[unsafe(no_mangle)]
 pub extern "C" fn wolfaren_find_payload(
-    bytes: &[u8],
+    bytes: Bytes<'_>,
     payload: &mut PayloadCut,
     fault: &mut FaultFields,
 ) -> bool
     ensures payload { IsTrue result
-        → payload.new ≡ payload_cut (version bytes.now) (parts_in bytes.now) }
+        → payload.new ≡ payload_cut (version bytes.entry.slice.now) (parts_in bytes.entry.slice.now) }
     ensures within { IsTrue result
-        → payload.new.offset + payload.new.len ≤ length bytes.now }
+        → payload.new.offset + payload.new.len ≤ length bytes.entry.slice.now }
     ensures no_fault { IsTrue result
-        → (packet_fault bytes.now ≡ None) × (fault.new ≡ fault.old) }
+        → (packet_fault bytes.entry.slice.now ≡ None) × (fault.new ≡ fault.old) }
     ensures fault { result ≡ false
-        → (packet_fault bytes.now ≡ Some fault.new) × (payload.new ≡ payload.old) }
+        → (packet_fault bytes.entry.slice.now ≡ Some fault.new) × (payload.new ≡ payload.old) }
 {
-    match find_payload(bytes) {
+    match find_payload(bytes.slice()) {
         Ok(found) => {
             payload.put(found);
             true
@@ -97,20 +98,20 @@ pub extern "C" fn wolfaren_find_payload(
 /// `find_payload_lax`, as `wolfaren_find_payload`.
 #[unsafe(no_mangle)]
 pub extern "C" fn wolfaren_find_payload_lax(
-    bytes: &[u8],
+    bytes: Bytes<'_>,
     payload: &mut PayloadCut,
     fault: &mut FaultFields,
 ) -> bool
     ensures payload { IsTrue result
-        → payload.new ≡ payload_cut (version bytes.now) (parts_in bytes.now) }
+        → payload.new ≡ payload_cut (version bytes.entry.slice.now) (parts_in bytes.entry.slice.now) }
     ensures within { IsTrue result
-        → payload.new.offset + payload.new.len ≤ length bytes.now }
+        → payload.new.offset + payload.new.len ≤ length bytes.entry.slice.now }
     ensures no_fault { IsTrue result
-        → (lax_packet_fault bytes.now ≡ None) × (fault.new ≡ fault.old) }
+        → (lax_packet_fault bytes.entry.slice.now ≡ None) × (fault.new ≡ fault.old) }
     ensures fault { result ≡ false
-        → (lax_packet_fault bytes.now ≡ Some fault.new) × (payload.new ≡ payload.old) }
+        → (lax_packet_fault bytes.entry.slice.now ≡ Some fault.new) × (payload.new ≡ payload.old) }
 {
-    match find_payload_lax(bytes) {
+    match find_payload_lax(bytes.slice()) {
         Ok(found) => {
             payload.put(found);
             true

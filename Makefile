@@ -6,7 +6,7 @@
 # front of the paths); `make test-c` tests it, and the package in bindings/rust;
 # `make page` builds what page/index.html shows a packet with, and `make test-page` tests that page in Chromium;
 # `make mutants` tries the mutants of mutants/ (CRATE=NAME: those of one crate; ONLY=WORD: those whose names
-# have the word); `make memory` refuses each allocation of the program in turn. `make bench` measures (`make
+# have the word; JOBS=3: so many at a time); `make memory` refuses each allocation of the program in turn. `make bench` measures (`make
 # bench-border` alone what is called through C) and `make diff` compares against etherparse 0.19.0; `make diff-test`
 # tests the comparison; `make diff-fields` holds fragment headers against scapy's. `make cost` measures what a byte costs
 # at worst. `make fuzz` compares on inputs that AFL++ makes, MINUTES=.. long, and `make fuzz-test` tests that. These, and
@@ -89,7 +89,7 @@ test-page: page
 mutants:
 	$(RT_IS_THERE)
 	$(PYTHON_IS_THERE)
-	scripts/mutants $(if $(CRATE),--crate $(CRATE)) $(if $(ONLY),--only $(ONLY))
+	scripts/mutants $(if $(CRATE),--crate $(CRATE)) $(if $(ONLY),--only $(ONLY)) $(if $(JOBS),--jobs $(JOBS))
 
 memory:
 	$(PYTHON_IS_THERE)

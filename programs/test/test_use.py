@@ -109,13 +109,18 @@ def terminals(harness):
         harness.equal((status, shown), (0, b""), "no progress of a short file")
 
 
+def take_interrupts():
+    """As a program that a terminal starts; who runs the tests in the background may ignore them."""
+    signal.signal(signal.SIGINT, signal.SIG_DFL)
+
+
 def interrupts(harness):
     """What a pipe still brings behind an interrupt is filtered; the second interrupt ends the program."""
     packet = record(ethernet(ipv6_chain([0])))
     for command in [harness.plain, harness.sanitized, harness.checked]:
         for is_second, wanted in [(False, 0), (True, -signal.SIGINT)]:
             process = subprocess.Popen(command + ["filter", "header 0"], stdin=subprocess.PIPE, stdout=subprocess.PIPE,
-                                       env=harness.environment)
+                                       env=harness.environment, preexec_fn=take_interrupts)
             os.write(process.stdin.fileno(), file_header() + packet)
             harness.equal(process.stdout.read(24 + len(packet)), file_header() + packet, "before the interrupt")
             process.send_signal(signal.SIGINT)

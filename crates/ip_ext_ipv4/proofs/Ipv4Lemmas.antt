@@ -1,20 +1,19 @@
 -- The longest chain of IPv4 extension headers: one header, or none.
-use Rattle.std.proofs.Common.{◌≡◌, ℕ, List, [], ◌∷◌, ◌++◌, length, take, drop, refl, sym, ap, ◌∙◌, subst}
+use Rattle.std.proofs.Common.{◌≡◌, ℕ, List, [], ◌∷◌, length, take, drop, refl, sym, ◌∙◌, subst, arith}
 use Rattle.std.specs.Prelude.{Option, Some, None}
-use Rattle.std.proofs.lemmas.List.{append-nil}
 use Rattle.ip_base.specs.declared.len_source.LenSource.TheVariants.{Slice}
 use Rattle.ip_ext_headers.specs.declared.err.ip_auth.header_slice_error.HeaderSliceError.{HeaderSliceError}
 use Rattle.ip_ext_headers.specs.Fault.{auth_fault}
-use Rattle.ip_spec.specs.Prefix.{IsPrefix}
+use Rattle.ip_spec.specs.Prefix.{NoPrefix, IsPrefix}
 use Rattle.ip_spec.specs.Header.{IsAuthHeader, auth}
 use Rattle.ip_spec.specs.Fields.{next_header}
-use Rattle.ip_spec.specs.Chain.{ExtHeader, headers_within}
+use Rattle.ip_spec.specs.Chain.{ExtHeader, IsChain, headers_within}
 use Rattle.ip_spec.specs.Demand.{AtMostOneOf, IsLongestUnder}
 use Rattle.ip_spec.proofs.HeaderLemmas.{auth_of}
 use Rattle.ip_spec.proofs.UnderLemmas.{some_longest_under, one_longest_under}
+use Rattle.ip_spec.proofs.ReadLemmas.{has_read_none, has_read_on, has_read_none_under, read_answers}
 use Rattle.ip_spec.proofs.ShorterLemmas.{longest_shorter}
-use Rattle.ip_spec.proofs.DemandKinds.{at_most_one_of, one_of_first, one_of_none}
-use Rattle.ip_spec.specs.Parse.{IsAnswer}
+use Rattle.ip_spec.proofs.DemandKinds.{at_most_one_of}
 use Rattle.ip_ext_ipv4.specs.Ipv4Longest.{longest_ipv4_chain}
 use Rattle.ip_ext_ipv4.specs.Ipv4Fault.{ipv4_faults}
 use Rattle.ip_ext_ipv4.specs.Ipv4Parse.{IsIpv4Answer}
@@ -29,34 +28,32 @@ ipv4_longest-is n s c l = one_longest_under (AtMostOneOf 51) (at_most_one_of 51)
 pub ipv4_longest-shorter : (n j : ℕ) (s : List ℕ) → longest_ipv4_chain n (take j s) ≡ headers_within j (longest_ipv4_chain n s)
 ipv4_longest-shorter n j s = longest_shorter (AtMostOneOf 51) (at_most_one_of 51) n j s (longest_ipv4_chain n s) (longest_ipv4_chain n (take j s)) (ipv4_longest n s) (ipv4_longest n (take j s))
 
--- where an authentication header is named and begins the bytes, it is the chain
-pub ipv4_one : (n : ℕ) (s b : List ℕ) → n ≡ 51 → IsAuthHeader b → IsPrefix b s → longest_ipv4_chain n s ≡ record { number = 51; bytes = b } ∷ []
-ipv4_one n s b e header prefix =
-    ipv4_longest-is n s (record { number = 51; bytes = b } ∷ [])
-    (one_of_first 51 n s (record { number = 51; bytes = b }) (record { number = sym e; header = auth e header; prefix = prefix; zero_only_first = λ z. refl }) e)
+-- the chain of one authentication header
+abbrev pub chain_of : List ℕ → List ExtHeader
+chain_of b = record { number = 51; bytes = b } ∷ []
 
--- where none is named, or none begins the bytes, there is no header
-pub ipv4_none : (n : ℕ) (s : List ℕ) → (n ≡ 51 → (b : List ℕ) → IsAuthHeader b → IsPrefix b s → ⊥) → longest_ipv4_chain n s ≡ []
-ipv4_none n s none = ipv4_longest-is n s [] (one_of_none 51 n s (λ e h x. none e h.bytes (auth_of n h.bytes e x.header) x.prefix))
+-- What holds of no header and of one authentication header holds of a chain of at most one.
+pub by_one : (P : List ExtHeader → Type 0) (n : ℕ) → P [] → ((b : List ℕ) → n ≡ 51 → IsAuthHeader b → P (chain_of b)) → (c : List ExtHeader) → IsChain n c → AtMostOneOf 51 c → P c
+by_one P n none one [] k o = none
+by_one P n none one (h ∷ []) k o =
+    let N : ℕ → Type 0 = λ m. P (record { number = m; bytes = h.bytes } ∷ []) in
+    subst N (sym o.number.0) (one h.bytes (sym k.links.0 ∙ o.number.0) (auth_of h.number h.bytes o.number.0 k.headers.0))
+by_one P n none one (h ∷ g ∷ c) k o = absurd (omega (arith, o.one))
 
-abbrev Answers : ℕ → List ℕ → List ExtHeader → ℕ → List ℕ → Option HeaderSliceError → List ExtHeader → Type 0
-Answers n s x m r f c = IsAnswer (λ d. d) (ipv4_faults Slice) c n s x m r f
+-- What is answered, whatever value is told of the chain.
+module _ {X : Type 0} (value_of : List ExtHeader → X) (n : ℕ) (s : List ℕ) (x : X) where
+  -- where an authentication header is named and begins the bytes, it is the chain
+  pub answer_of_one : (b : List ℕ) (m : ℕ) (r : List ℕ) → n ≡ 51 → IsAuthHeader b → IsPrefix b s → x ≡ value_of (chain_of b) → m ≡ next_header b → r ≡ drop (length b) s → IsIpv4Answer value_of n s x m r None
+  answer_of_one b m r e header prefix value number rest =
+      let h : ExtHeader = record { number = 51; bytes = b } in
+      let read = has_read_on n s [] n s h m r b (has_read_none n s) (record { number = sym e; header = auth e header; prefix = prefix; zero_only_first = λ z. absurd (omega (arith, e, z)) }) number refl rest in
+      read_answers (AtMostOneOf 51) (at_most_one_of 51) n s (h ∷ []) m r value_of (ipv4_faults Slice) x None (record { read = read; meets = record { one = omega arith; number = (refl, tt) } }) (λ g y q. omega (arith, q.one)) value refl
 
-pub answer_of_one : (n : ℕ) (s b : List ℕ) (m : ℕ) (r : List ℕ) → n ≡ 51 → IsAuthHeader b → IsPrefix b s → m ≡ next_header b → r ≡ drop (length b) s
-    → IsIpv4Answer (λ c. c) n s (record { number = 51; bytes = b } ∷ []) m r None
-answer_of_one n s b m r e header prefix number rest =
-    let c : List ExtHeader = record { number = 51; bytes = b } ∷ [] in
-    let joined : b ++ [] ≡ b = append-nil b in
-    subst (Answers n s c m r None) (sym (ipv4_one n s b e header prefix))
-    (record { value = refl; number = number; rest = rest ∙ ap (λ (d : List ℕ). drop (length d) s) (sym joined); fault = refl })
+  -- where none is named, or none begins the bytes, there is no header
+  pub answer_of_none : (f : Option HeaderSliceError) → (n ≡ 51 → NoPrefix IsAuthHeader s) → x ≡ value_of [] → f ≡ ipv4_faults Slice [] n s → IsIpv4Answer value_of n s x n s f
+  answer_of_none f none =
+      read_answers (AtMostOneOf 51) (at_most_one_of 51) n s [] n s value_of (ipv4_faults Slice) x f (has_read_none_under (AtMostOneOf 51) (at_most_one_of 51) n s)
+      (λ h y q. let e : n ≡ 51 = sym y.number ∙ q.number.0 in none e h.bytes (auth_of n h.bytes e y.header) y.prefix)
 
-pub answer_of_none : (n : ℕ) (s : List ℕ) (f : Option HeaderSliceError) → (n ≡ 51 → (b : List ℕ) → IsAuthHeader b → IsPrefix b s → ⊥) → ipv4_faults Slice [] n s ≡ f
-    → IsIpv4Answer (λ c. c) n s [] n s f
-answer_of_none n s f none fault =
-    subst (Answers n s [] n s f) (sym (ipv4_none n s none)) (record { value = refl; number = refl; rest = refl; fault = sym fault })
-
-pub answer_of_fault : (n : ℕ) (s : List ℕ) (e : HeaderSliceError) → n ≡ 51 → ((b : List ℕ) → IsAuthHeader b → IsPrefix b s → ⊥) → auth_fault Slice (length s) 0 s ≡ Some e
-    → IsIpv4Answer (λ c. c) n s [] n s (Some e)
-answer_of_fault n s e is none fault =
-    let P : ℕ → Type 0 = λ j. ipv4_faults Slice [] j s ≡ Some e in
-    answer_of_none n s (Some e) (λ z. none) (subst P (sym is) fault)
+  pub answer_of_fault : (e : HeaderSliceError) → n ≡ 51 → NoPrefix IsAuthHeader s → auth_fault Slice (length s) 0 s ≡ Some e → x ≡ value_of [] → IsIpv4Answer value_of n s x n s (Some e)
+  answer_of_fault e is none fault value = answer_of_none (Some e) (λ z. none) value (sym (rw is fault))

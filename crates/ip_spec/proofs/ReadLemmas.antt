@@ -1,13 +1,17 @@
 -- A chain that is being read from the prefix of bytes.
 use Rattle.std.proofs.Common.{◌≡◌, ℕ, ◌+◌, ◌-◌, List, [], ◌∷◌, ◌++◌, length, drop, refl, ap, sym, ◌∙◌, arith, inl, inr, subst, Bool, nat_eq}
+use Rattle.std.specs.Prelude.{Option}
+use Rattle.std.proofs.Math.Seq.{drop-append_seam}
 use Rattle.std.proofs.lemmas.Bool.Decides.{eqb_tells}
 use Rattle.std.specs.List.{AllByRecursion}
 use Rattle.ip_spec.specs.Header.{IsHeader}
 use Rattle.ip_spec.specs.Fields.{next_header}
-use Rattle.ip_spec.specs.Chain.{ExtHeader, leads_to, bytes_of, is_empty, IsPrefixChain, IsLongestChain, IsNext, IsEnd}
-use Rattle.ip_spec.proofs.PrefixLemmas.{prefix-length, rest_join}
+use Rattle.ip_spec.specs.Encoding.{AreBytes}
+use Rattle.ip_spec.specs.Chain.{ExtHeader, leads_to, bytes_of, is_empty, IsChain, IsPrefixChain, IsLongestChain, IsNext, IsEnd}
+use Rattle.ip_spec.specs.Parse.{IsAnswer, IsRead}
+use Rattle.ip_spec.proofs.PrefixLemmas.{prefix-length, prefix_of-append, rest_join}
 use Rattle.ip_spec.specs.Demand.{IsDemand, IsLongestUnder, IsEndUnder, NoDemand}
-use Rattle.ip_spec.proofs.UnderLemmas.{longest_at_end_under, no_demand, longest_without}
+use Rattle.ip_spec.proofs.UnderLemmas.{longest_at_end_under, one_longest_under, some_longest_under, whole_longest_under, no_demand, longest_without}
 use Rattle.ip_spec.proofs.ChainLemmas.{no_chain, goes_on, bytes_of-more, leads_to-more, bytes_of-least}
 
 -- the chain c from n has been read of s, leads to m and leaves r
@@ -62,6 +66,45 @@ module _ (Q : List ExtHeader → Type 0) (k : IsDemand Q) (n : ℕ) (s : List �
     read_longest_under p e =
         longest_at_end_under Q k n s c (p.read.prefix_chain, p.meets)
         (λ h x q. e h (next_here n s c m r h p.read x) q)
+
+    -- so it is the answer, whatever value and faults are told of chains
+    pub read_answers : {X F : Type 0} (value_of : List ExtHeader → X) (faults : List ExtHeader → ℕ → List ℕ → Option F) (x : X) (f : Option F) → HasReadUnder Q n s c m r → IsEndUnder Q c m r → x ≡ value_of c → f ≡ faults c m r
+        → IsAnswer value_of faults (some_longest_under Q k n s).0 n s x m r f
+    read_answers value_of faults x f p e value fault =
+        let A : List ExtHeader → Type 0 = λ d. IsAnswer value_of faults d n s x m r f in
+        subst A (one_longest_under Q k n s c _ (read_longest_under p e) (some_longest_under Q k n s).1)
+        (record {
+          value = value;
+          number = p.read.number;
+          rest = p.read.rest;
+          fault = fault ∙ ap (λ j. faults c j r) p.read.number ∙ ap (faults c (leads_to n c)) p.read.rest;
+        })
+
+module _ (Q : List ExtHeader → Type 0) (k : IsDemand Q) (n m : ℕ) where
+  -- a chain has been read of its bytes with more behind them
+  pub has_read_before : (c : List ExtHeader) (r : List ℕ) → IsChain n c → Q c → m ≡ leads_to n c → HasReadUnder Q n (bytes_of c ++ r) c m r
+  has_read_before c r chain meets number = record {
+    read = record {
+      prefix_chain = record { chain = chain; prefix = prefix_of-append (bytes_of c) r (bytes_of c ++ r) refl };
+      number = number;
+      rest = sym (drop-append_seam (bytes_of c) r);
+    };
+    meets = meets;
+  }
+
+  -- and where it is of bytes, it is read of them with nothing left
+  pub whole_read : (V : List ExtHeader → Type 0) (s : List ℕ) (c : List ExtHeader) → IsChain n c → Q c → V c → leads_to n c ≡ m → bytes_of c ≡ s → AreBytes s → IsRead Q V n m s
+  whole_read V s c chain meets value number all bytes =
+      let L : List ℕ → Type 0 = λ t. IsLongestUnder Q n t c in
+      record { bytes = bytes; chain = c; longest = subst L all (whole_longest_under Q k n c chain meets); value = value; number = number; all = all }
+
+  -- What is read with nothing left is the answer with more behind it too, where no header goes on.
+  pub read_again : {X F : Type 0} (value_of : List ExtHeader → X) (faults : List ExtHeader → ℕ → List ℕ → Option F) (x : X) (f : Option F) (s r : List ℕ) (e : IsRead Q (λ c. value_of c ≡ x) n m s) → IsEndUnder Q e.chain m r → f ≡ faults e.chain m r
+      → IsAnswer value_of faults (some_longest_under Q k n (s ++ r)).0 n (s ++ r) x m r f
+  read_again value_of faults x f s r e ends fault =
+      let A : List ℕ → Type 0 = λ l. IsAnswer value_of faults (some_longest_under Q k n (l ++ r)).0 n (l ++ r) x m r f in
+      let read = has_read_before e.chain r e.longest.has.0.chain e.longest.has.1 (sym e.number) in
+      subst A e.all (read_answers Q k n (bytes_of e.chain ++ r) e.chain m r value_of faults x f read ends (sym e.value) fault)
 
 module _ (n : ℕ) (s : List ℕ) (c : List ExtHeader) (m : ℕ) (r : List ℕ) where
   -- the count of bytes read, and whether there are any

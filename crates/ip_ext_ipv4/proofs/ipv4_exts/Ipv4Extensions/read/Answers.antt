@@ -1,7 +1,7 @@
 use Rattle.std.proofs.Common.{[], ap, arith}
 use Rattle.std.proofs.KnownBytes.{Consumes-nil}
 use Rattle.ip_spec.specs.Fields.{AuthFields}
-use Rattle.ip_ext_ipv4.proofs.Ipv4ReadingLemmas.{none_answers, one_answers, header_error_same}
+use Rattle.ip_ext_ipv4.proofs.Ipv4ReadingLemmas.{none_answers, one_answers, fault_same}
 use Rattle.ip_ext_ipv4.proofs.ipv4_exts.Ipv4Extensions.read.Goals as goal
 
 pub returns-then-ne-clause-answer : goal.returns-then-ne-clause-answer
@@ -13,4 +13,4 @@ returns-in-Ok-clause-answer g c =
     record { bytes = t.bytes; taken = t.taken; answer = one_answers _ t.bytes _ _ (grind arith) t.header t.fields (ap (λ (h : AuthFields). h.next_header) c.header.view_is) }
 
 pub returns-in-Err-clause-fault : goal.returns-in-Err-clause-fault
-returns-in-Err-clause-fault g c = header_error_same _ (grind arith) _ _ _ c.in-Err.ensures.fault
+returns-in-Err-clause-fault g c = rw (fault_same c.args.start_ip_number.0 (grind arith)) at c.in-Err.ensures.fault

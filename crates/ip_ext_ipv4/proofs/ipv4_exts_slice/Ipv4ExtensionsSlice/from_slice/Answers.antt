@@ -1,12 +1,12 @@
-use Rattle.std.proofs.Common.{arith, sym}
+use Rattle.std.proofs.Common.{refl, arith, sym}
 use Rattle.std.proofs.lemmas.List.{take_rest}
 use Rattle.ip_ext_ipv4.proofs.Ipv4Lemmas.{answer_of_one, answer_of_fault}
 use Rattle.ip_ext_ipv4.proofs.ipv4_exts_slice.Ipv4ExtensionsSlice.from_slice.Goals as goal
 
 pub returns-in-Ok-clause-answer : goal.returns-in-Ok-clause-answer
 returns-in-Ok-clause-answer c =
-    answer_of_one _ _ _ _ _ (grind arith) c.in-Ok.ensures.header c.in-Ok.ensures.prefix c.next_header.ensures (rw c.slice.ensures.bytes (take_rest c.args.start_slice.now _))
+    answer_of_one (λ d. d) _ _ _ _ _ _ (grind arith) c.in-Ok.ensures.header c.in-Ok.ensures.prefix refl c.next_header.ensures (rw c.slice.ensures.bytes (take_rest c.args.start_slice.now _))
 
 pub returns-in-Err-clause-fault : goal.returns-in-Err-clause-fault
 returns-in-Err-clause-fault c =
-    sym (answer_of_fault _ _ _ (grind arith) c.in-Err.ensures.none c.in-Err.ensures.fault).fault
+    sym (answer_of_fault (λ d. d) _ _ _ _ (grind arith) c.in-Err.ensures.none c.in-Err.ensures.fault refl).fault

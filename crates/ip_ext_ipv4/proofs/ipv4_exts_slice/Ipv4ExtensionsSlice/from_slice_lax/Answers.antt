@@ -1,18 +1,18 @@
-use Rattle.std.proofs.Common.{ap, ◌∙◌, arith}
+use Rattle.std.proofs.Common.{refl, sym, ap, ◌∙◌, arith}
 use Rattle.std.proofs.lemmas.List.{take_rest}
 use Rattle.ip_spec.specs.Chain.{headers_within}
-use Rattle.ip_ext_ipv4.proofs.Ipv4Lemmas.{ipv4_longest-shorter, ipv4_one, ipv4_none, answer_of_one, answer_of_fault}
+use Rattle.ip_ext_ipv4.proofs.Ipv4Lemmas.{ipv4_longest-shorter, answer_of_one, answer_of_fault}
 use Rattle.ip_ext_ipv4.proofs.ipv4_exts_slice.Ipv4ExtensionsSlice.from_slice_lax.Goals as goal
 
 pub returns-in-Ok-clause-answer : goal.returns-in-Ok-clause-answer
 returns-in-Ok-clause-answer c =
-    answer_of_one _ _ _ _ _ (grind arith) c.in-Ok.ensures.header c.in-Ok.ensures.prefix c.next_header.ensures (rw c.slice.ensures.bytes (take_rest c.args.start_slice.now _))
+    answer_of_one (λ d. d) _ _ _ _ _ _ (grind arith) c.in-Ok.ensures.header c.in-Ok.ensures.prefix refl c.next_header.ensures (rw c.slice.ensures.bytes (take_rest c.args.start_slice.now _))
 
 pub returns-in-Err-clause-answer : goal.returns-in-Err-clause-answer
-returns-in-Err-clause-answer c = answer_of_fault _ _ _ (grind arith) c.in-Err.ensures.none c.in-Err.ensures.fault
+returns-in-Err-clause-answer c = answer_of_fault (λ d. d) _ _ _ _ (grind arith) c.in-Err.ensures.none c.in-Err.ensures.fault refl
 
 pub returns-in-Ok-clause-cut : goal.returns-in-Ok-clause-cut
-returns-in-Ok-clause-cut c = λ j. ipv4_longest-shorter _ j _ ∙ ap (headers_within j) (ipv4_one _ _ _ (grind arith) c.in-Ok.ensures.header c.in-Ok.ensures.prefix)
+returns-in-Ok-clause-cut c = λ j. ipv4_longest-shorter _ j _ ∙ ap (headers_within j) (sym (returns-in-Ok-clause-answer c).value)
 
 pub returns-in-Err-clause-cut : goal.returns-in-Err-clause-cut
-returns-in-Err-clause-cut c = λ j. ipv4_longest-shorter _ j _ ∙ ap (headers_within j) (ipv4_none _ _ (λ e. c.in-Err.ensures.none))
+returns-in-Err-clause-cut c = λ j. ipv4_longest-shorter _ j _ ∙ ap (headers_within j) (sym (returns-in-Err-clause-answer c).value)

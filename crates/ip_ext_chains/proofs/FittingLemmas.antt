@@ -1,25 +1,28 @@
 -- The longest chain that fits six places, where the longest chain's first run was taken.
 use Rattle.std.proofs.Common.{◌≡◌, ◌≢◌, ℕ, ◌-◌, List, [], ◌∷◌, ◌++◌, length, take, drop, refl, ap, sym, ◌∙◌, arith, inl, inr, Bool, true, false, subst}
-use Rattle.std.specs.Prelude.{Option, None, IsSome, if◌then◌else◌}
+use Rattle.std.specs.Prelude.{Option, Some, None, IsSome, if◌then◌else◌}
 use Rattle.std.proofs.lemmas.Bool.{cases_Bool}
 use Rattle.ip_spec.specs.Header.{IsExtensionNumber}
-use Rattle.ip_ext_slices.proofs.FaultLemmas.{fault_at_end}
+use Rattle.ip_ext_slices.proofs.FaultLemmas.{fault_at_end, end_at_other, no_fault_at_other}
+use Rattle.ip_ext_slices.proofs.RequestFaultLemmas.{fault_ends}
 use Rattle.std.proofs.lemmas.List.{append-nil, length-append}
 use Rattle.std.proofs.lemmas.Grind.{flat_map-append}
-use Rattle.ip_spec.specs.Chain.{ExtHeader, leads_to, bytes_of, headers_within, is_empty, IsChain, IsPrefixChain}
+use Rattle.ip_spec.specs.Chain.{ExtHeader, leads_to, bytes_of, headers_within, is_empty, IsChain, IsPrefixChain, IsEnd}
 use Rattle.ip_spec.specs.Parse.{rest_behind, fault_behind}
-use Rattle.ip_spec.specs.Demand.{KeepsBeginning, NextBreaks, IsLongestUnder}
+use Rattle.ip_spec.specs.Demand.{KeepsBeginning, NextBreaks, IsLongestUnder, IsEndUnder}
 use Rattle.ip_spec.specs.Fits.{FitsPlaces, IsTaken}
 use Rattle.ip_spec.specs.Places.{is_taken}
 use Rattle.ip_spec.proofs.PlaceLemmas.{taken_told}
 use Rattle.ip_spec.proofs.FitsLemmas.{fits_places, fitting_ends, next_taken}
 use Rattle.ip_spec.proofs.UnderLemmas.{some_longest_under, one_longest_under, kept_is_longest}
+use Rattle.ip_spec.proofs.ReadLemmas.{has_read_before, read_answers}
 use Rattle.ip_spec.proofs.ShorterLemmas.{longest_shorter}
 use Rattle.ip_spec.proofs.RunsLemmas.{chain_behind}
 use Rattle.ip_ext_slices.specs.Longest.{longest_chain}
 use Rattle.ip_ext_chains.specs.Fitting.{fitting_chain, fitting_faults, fitting_fault, IsFittingAnswer, IsPlacedAnswer}
 use Rattle.ip_base.specs.declared.len_source.LenSource.TheVariants.{Slice}
-use Rattle.ip_ext_slices.specs.Fault.{Fault, chain_faults, chain_fault}
+use Rattle.ip_ext_slices.specs.Fault.{Fault, fault_at, chain_faults, chain_fault}
+use Rattle.ip_ext_chains.specs.Ipv6Extensions.{value_of}
 use Rattle.ip_ext_chains.specs.Places.{ArePlaced, is_taken_in, value_at, AreOfNumber}
 use Rattle.ip_ext_chains.specs.Run.{IsRun}
 use Rattle.ip_ext_slices.specs.declared.ipv6_ext_slice.Ipv6ExtensionSlice.{Ipv6ExtensionSlice}
@@ -109,6 +112,36 @@ module _ (n : ℕ) (s : List ℕ) (all left : List ExtHeader) (v : Places Ipv6Ex
 
   pub walk_ends : left ≡ [] → (m : ℕ) (r : List ℕ) (f g : Option Fault) → m ≡ leads_to n (longest_chain n s) → r ≡ rest_behind (longest_chain n s) s → g ≡ chain_fault n s → f ≡ (if is_taken_in v m then None else g) → IsPlacedAnswer n s v m r f
   walk_ends = walked_whole n s left v of_longest
+
+-- Where a chain that fits ends.
+module _ (n : ℕ) (c : List ExtHeader) (m : ℕ) (chain : IsChain n c) (fits : FitsPlaces c) (number : m ≡ leads_to n c) (x : List ℕ) where
+  -- where no header goes on that fits, it is the answer
+  answered : (v : Ipv6Extensions) (f : Option Fault) → IsEndUnder FitsPlaces c m x → v ≡ value_of c → f ≡ fitting_faults c m x → IsFittingAnswer n (bytes_of c ++ x) v m x f
+  answered v f = read_answers FitsPlaces fits_places n (bytes_of c ++ x) c m x value_of fitting_faults v f (has_read_before FitsPlaces fits_places n m c x chain fits number)
+
+  free_fault : (b : Bool) → b ≡ false → (if b then None else chain_faults Slice c m x) ≡ chain_faults Slice c m x
+  free_fault b e = ap (λ (t : Bool). if t then None else chain_faults Slice c m x) e
+
+  -- the fault there is the fault of the parse
+  pub fitting_fault_is : (f : Fault) → is_taken m c ≡ false → fault_at Slice (length x) (length (bytes_of c)) (is_empty c) m x ≡ Some f → fitting_fault n (bytes_of c ++ x) ≡ Some f
+  fitting_fault_is f free fault =
+      let none : IsEnd (is_empty c) m x = fault_ends Slice (length x) (length (bytes_of c)) x (is_empty c) m f fault in
+      sym (answered (value_of c) (Some f) (λ h y q. none h y) refl (sym (free_fault (is_taken m c) free ∙ fault))).fault
+
+  -- where the number's place is filled, there is none
+  pub taken_answers : (v : Ipv6Extensions) → v ≡ value_of c → is_taken m c ≡ true → IsFittingAnswer n (bytes_of c ++ x) v m x None
+  taken_answers v value taken =
+      answered v None (λ h y. ((taken_told c m fits).0 taken).1 h y.number) value
+      (sym (ap (λ (b : Bool). if b then None else chain_faults Slice c m x) taken))
+
+  -- and where the number names no header
+  pub other_answers : (v : Ipv6Extensions) → v ≡ value_of c → (IsExtensionNumber m → ⊥) → IsFittingAnswer n (bytes_of c ++ x) v m x None
+  other_answers v value other = elim (cases_Bool (is_taken m c)) [
+    | inl taken ↦ taken_answers v value taken
+    | inr free ↦
+        answered v None (λ h y q. end_at_other (is_empty c) m x other h y) value
+        (sym (free_fault (is_taken m c) free ∙ no_fault_at_other Slice (length x) (is_empty c) m x (length (bytes_of c)) other))
+  ]
 
 -- At an extension number whose place is free there is a fault behind it.
 pub fitting_fault_at_end : (n : ℕ) (s : List ℕ) (c : List ExtHeader) → IsLongestUnder FitsPlaces n s c → IsExtensionNumber (leads_to n c) → (IsTaken (leads_to n c) c → ⊥) → IsSome (fault_behind fitting_faults c n s)

@@ -30,7 +30,8 @@ use Rattle.ip_ext_chains.specs.declared.err.ipv6_exts.header_read_error.HeaderRe
 use Rattle.ip_ext_chains.specs.declared.err.ipv6_exts.header_read_error.HeaderReadError.TheVariants as read
 use Rattle.ip_ext_chains.specs.declared.err.ipv6_exts.header_limited_read_error.HeaderLimitedReadError.{HeaderLimitedReadError}
 use Rattle.ip_ext_chains.specs.declared.err.ipv6_exts.header_limited_read_error.HeaderLimitedReadError.TheVariants as limited
-use Rattle.ip_ext_chains.proofs.ReadingLemmas.{fitting_fault_is, never_empty}
+use Rattle.ip_ext_chains.proofs.FittingLemmas.{fitting_fault_is}
+use Rattle.ip_ext_chains.proofs.ReadingLemmas.{never_empty}
 
 -- what holds of bytes behind some that were taken
 pub lift_some : (a b : Option (List ℕ)) (done : List ℕ) (Q : List ℕ → Type 0) → Consumes a b done → IfSome b (λ y. Q (done ++ y)) → IfSome a Q
@@ -48,14 +49,12 @@ of_all None R f = tt
 of_all (Some y) R f = f y
 
 pub of_begun : (a b : Option (List ℕ)) (done : List ℕ) (R : List ℕ → Type 0) → Consumes a b done → ((xs : List ℕ) → R (done ++ xs)) → IfSome a R
-of_begun None b done R c f = tt
-of_begun (Some s) None done R c f = absurd c
-of_begun (Some s) (Some y) done R c f = subst R (sym c) (f y)
+of_begun a b done R c f = lift_some a b done R c (of_all b (λ y. R (done ++ y)) f)
 
 -- Behind the headers of a chain that was refused.
 module _ {R : Type 0} (Taken : R → R → List ExtHeader → Type 0) (Refused : Bool → ℕ → R → R → Type 0) (old new : R) (n : ℕ) (k : IsChainRefused Taken Refused old new n) where
   pub error_is : (x : List ℕ) (f : Fault) → fault_at Slice (length x) (length (bytes_of k.headers)) (is_empty k.headers) (leads_to n k.headers) x ≡ Some f → HasError n f.0 (bytes_of k.headers ++ x)
-  error_is x f e = ap (option_map (λ (g : Fault). g.0)) (fitting_fault_is n k.headers k.chain k.fits x f k.free e)
+  error_is x f e = ap (option_map (λ (g : Fault). g.0)) (fitting_fault_is n k.headers (leads_to n k.headers) k.chain k.fits refl x f k.free e)
 
   pub short_is : (leads_to n k.headers ≡ 0 → IsTrue (is_empty k.headers)) → (done : List ℕ) (count : ℕ) (xs : List ℕ) → Asks (leads_to n k.headers) done count → length xs < count → IsTooShort n (bytes_of k.headers ++ (done ++ xs))
   short_is zero_first done count xs asks few =
@@ -93,14 +92,6 @@ module _ {T : Type 0} (bytes_left : T → Option (List ℕ)) (is_steady has_fail
       (zero_first, here.1)
   refused_as (read.Content HopByHopNotAtStart) first m j old new r is zero_first = absurd (let differ : true ≡ false = r.1 in cc)
   refused_as (read.Content (IpAuth e)) first m j old new r is zero_first = (is ∙ r.0, r.1)
-
-  -- the same of the number to which a chain leads
-  pub refused_here : (e : HeaderReadError) (first other : Bool) (m j : ℕ) (old new : T) → IsHeaderRefused bytes_left is_steady has_failed e first m old new → m ≡ j → first ≡ other
-      → IsHeaderRefused bytes_left is_steady has_failed e other j old new
-  refused_here e first other m j old new r em ef =
-      let M : ℕ → Type 0 = λ i. IsHeaderRefused bytes_left is_steady has_failed e first i old new in
-      let F : Bool → Type 0 = λ b. IsHeaderRefused bytes_left is_steady has_failed e b j old new in
-      subst F ef (subst M em r)
 
   -- a refused chain has the error of the parse
   pub refused_error : (e : HeaderReadError) (old new : T) (n : ℕ)
@@ -170,28 +161,18 @@ module _ {T : Type 0} (bytes_left : T → Option (List ℕ)) (is_steady has_fail
   }
 
   -- a header that is refused where it would be the first, refused where it may be read
+  layer_refused_behind : (e : HeaderLimitedReadError) (first : Bool) (m : ℕ) (old new : LimitedReader T) → IsHeaderRefusedInLayer bytes_left is_steady has_failed e true m old new → (m ≡ 0 → IsTrue first)
+      → IsHeaderRefusedInLayer bytes_left is_steady has_failed e first m old new
+  layer_refused_behind (limited.Io e) first m old new r zero_first = (zero_first, r.1)
+  layer_refused_behind (limited.Len e) first m old new r zero_first = (zero_first, r.1)
+  layer_refused_behind (limited.Content HopByHopNotAtStart) first m old new r zero_first = absurd (let differ : true ≡ false = r.1 in cc)
+  layer_refused_behind (limited.Content (IpAuth e)) first m old new r zero_first = r
+
   pub layer_refused_as : (e : HeaderLimitedReadError) (first : Bool) (m j : ℕ) (old new : LimitedReader T) → IsHeaderRefusedInLayer bytes_left is_steady has_failed e true j old new → m ≡ j → (m ≡ 0 → IsTrue first)
       → IsHeaderRefusedInLayer bytes_left is_steady has_failed e first m old new
-  layer_refused_as (limited.Io e) first m j old new r is zero_first =
-      let P : ℕ → Type 0 = λ i. IsHeaderRefusedInLayer bytes_left is_steady has_failed (limited.Io e) true i old new in
-      let here : IsHeaderRefusedInLayer bytes_left is_steady has_failed (limited.Io e) true m old new = subst P (sym is) r in
-      (zero_first, here.1)
-  layer_refused_as (limited.Len e) first m j old new r is zero_first =
-      let P : ℕ → Type 0 = λ i. IsHeaderRefusedInLayer bytes_left is_steady has_failed (limited.Len e) true i old new in
-      let here : IsHeaderRefusedInLayer bytes_left is_steady has_failed (limited.Len e) true m old new = subst P (sym is) r in
-      (zero_first, here.1)
-  layer_refused_as (limited.Content HopByHopNotAtStart) first m j old new r is zero_first = absurd (let differ : true ≡ false = r.1 in cc)
-  layer_refused_as (limited.Content (IpAuth e)) first m j old new r is zero_first =
-      let P : ℕ → Type 0 = λ i. IsHeaderRefusedInLayer bytes_left is_steady has_failed (limited.Content (IpAuth e)) first i old new in
-      subst P (sym is) r
-
-  -- the same of the number to which a chain leads
-  pub layer_refused_here : (e : HeaderLimitedReadError) (first other : Bool) (m j : ℕ) (old new : LimitedReader T) → IsHeaderRefusedInLayer bytes_left is_steady has_failed e first m old new → m ≡ j → first ≡ other
-      → IsHeaderRefusedInLayer bytes_left is_steady has_failed e other j old new
-  layer_refused_here e first other m j old new r em ef =
-      let M : ℕ → Type 0 = λ i. IsHeaderRefusedInLayer bytes_left is_steady has_failed e first i old new in
-      let F : Bool → Type 0 = λ b. IsHeaderRefusedInLayer bytes_left is_steady has_failed e b j old new in
-      subst F ef (subst M em r)
+  layer_refused_as e first m j old new r is =
+      let P : ℕ → Type 0 = λ i. IsHeaderRefusedInLayer bytes_left is_steady has_failed e true i old new in
+      layer_refused_behind e first m old new (subst P (sym is) r)
 
   -- a refused chain has the error of the parse of the window
   pub layer_refused_error : (e : HeaderLimitedReadError) (old new : LimitedReader T) (n : ℕ)

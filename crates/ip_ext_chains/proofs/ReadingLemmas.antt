@@ -4,26 +4,22 @@ use Rattle.std.specs.Prelude.{◌==◌, ◌&&◌, not, Option, Some, None, is_so
 use Rattle.std.specs.Option.{option_map, option_map_or}
 use Rattle.std.proofs.lemmas.Bool.{cases_Bool, ne_eqb}
 use Rattle.std.proofs.lemmas.Option.{none-some}
+use Rattle.std.proofs.Math.Bool.{and-false}
 use Rattle.std.proofs.Math.Seq.{take-length, drop-append_seam}
-use Rattle.ip_base.specs.declared.len_source.LenSource.TheVariants.{Slice}
 use Rattle.ip_spec.specs.Header.{IsHeader, IsExtensionNumber}
 use Rattle.ip_spec.specs.Fields.{raw_fields}
-use Rattle.ip_spec.specs.Chain.{ExtHeader, IsChain, IsNext, IsEnd, leads_to, bytes_of, is_empty}
-use Rattle.ip_spec.specs.Demand.{IsEndUnder}
-use Rattle.ip_spec.specs.Fits.{FitsPlaces, IsTaken}
-use Rattle.ip_spec.specs.Parse.{rest_behind, fault_behind}
+use Rattle.ip_spec.specs.Chain.{ExtHeader, IsChain, IsNext, leads_to, bytes_of, is_empty}
+use Rattle.ip_spec.specs.Fits.{FitsPlaces}
 use Rattle.ip_spec.specs.Places.{Place, hop_by_hop, destination, routing, fragment, authentication, final_destination, index, number_in, header_in, place_of, is_taken, fields_of, HeaderFields, raw_header}
 use Rattle.ip_spec.proofs.HeaderLemmas.{header_number}
 use Rattle.ip_spec.proofs.PrefixLemmas.{prefix_of-append}
 use Rattle.ip_spec.proofs.ChainLemmas.{no_chain, goes_on, leads_to-more}
-use Rattle.ip_spec.proofs.UnderLemmas.{one_longest_under, longest_at_end_under}
-use Rattle.ip_ext_chains.proofs.FittingLemmas.{fitting_longest}
+use Rattle.ip_ext_chains.proofs.FittingLemmas.{taken_answers, other_answers}
+use Rattle.ip_spec.proofs.WalkLemmas.{none_if, is_some-map}
+use Rattle.ip_spec.proofs.WalkStepLemmas.{not_empty}
 use Rattle.ip_spec.proofs.FitsLemmas.{fits_places}
-use Rattle.ip_spec.proofs.PlaceLemmas.{has_routing, place_number, in_both, own_place, final_behind, is_extension, placed, fits_more, taken_told}
-use Rattle.ip_ext_slices.specs.Fault.{Fault, fault_at, chain_faults}
-use Rattle.ip_ext_slices.proofs.FaultLemmas.{end_at_other, no_fault_at_other}
-use Rattle.ip_ext_slices.proofs.RequestFaultLemmas.{fault_ends}
-use Rattle.ip_ext_chains.specs.Fitting.{fitting_chain, fitting_faults, fitting_fault, IsFittingAnswer}
+use Rattle.ip_spec.proofs.PlaceLemmas.{has_routing, place_number, in_both, own_place, final_behind, is_extension, placed, fits_more}
+use Rattle.ip_ext_chains.specs.Fitting.{IsFittingAnswer}
 use Rattle.ip_ext_chains.specs.Ipv6Extensions.{value_of, placed_fields, final_of}
 use Rattle.ip_ext_chains.specs.Reading.{with_header, IsNextPlace, HasNoPlace, IsReadInto}
 use Rattle.ip_ext_chains.specs.declared.ipv6_exts.Ipv6Extensions.{Ipv6Extensions}
@@ -41,75 +37,13 @@ pub record IsReading (n : ℕ) (c : List ExtHeader) (m : ℕ) (v : Ipv6Extension
 pub reading_none : (n : ℕ) (v : Ipv6Extensions) → v ≡ value_of [] → IsReading n [] n v true
 reading_none n v e = record { chain = no_chain n; fits = fits_places.empty; number = refl; value = e; none_yet = refl }
 
-is_some_map : {A B : Type 0} (f : A → B) (o : Option A) → is_some (option_map f o) ≡ is_some o
-is_some_map f (Some x) = refl
-is_some_map f None = refl
-
 -- What is filled of the value is filled of the chain.
 module _ (c : List ExtHeader) (v : Ipv6Extensions) (e : v ≡ value_of c) where
   pub filled : (p : Place) → is_some (placed_fields v p) ≡ is_some (header_in p c)
-  filled p = ap (λ (w : Ipv6Extensions). is_some (placed_fields w p)) e ∙ ap is_some (placed_fields-value_of c p) ∙ is_some_map fields_of (header_in p c)
+  filled p = ap (λ (w : Ipv6Extensions). is_some (placed_fields w p)) e ∙ ap is_some (placed_fields-value_of c p) ∙ is_some-map fields_of (header_in p c)
 
   pub routing_there : is_some v.routing ≡ has_routing c
-  routing_there = sym (is_some_map (λ (r : Ipv6RoutingExtensions). raw_header r.routing) v.routing) ∙ filled routing
-
--- Where a chain that fits ends.
-module _ (n : ℕ) (c : List ExtHeader) (chain : IsChain n c) (fits : FitsPlaces c) (x : List ℕ) where
-  behind : drop (length (bytes_of c)) (bytes_of c ++ x) ≡ x
-  behind = drop-append_seam (bytes_of c) x
-
-  is_fitting : IsEndUnder FitsPlaces c (leads_to n c) x → c ≡ fitting_chain n (bytes_of c ++ x)
-  is_fitting e =
-      let s : List ℕ = bytes_of c ++ x in
-      let E : List ℕ → Type 0 = IsEndUnder FitsPlaces c (leads_to n c) in
-      one_longest_under FitsPlaces fits_places n s c (fitting_chain n s)
-      (longest_at_end_under FitsPlaces fits_places n s c (record { chain = chain; prefix = prefix_of-append (bytes_of c) x s refl }, fits) (subst E (sym behind) e))
-      (fitting_longest n s)
-
-  -- the fault there is the fault of the parse
-  pub fitting_fault_is : (f : Fault) → is_taken (leads_to n c) c ≡ false → fault_at Slice (length x) (length (bytes_of c)) (is_empty c) (leads_to n c) x ≡ Some f → fitting_fault n (bytes_of c ++ x) ≡ Some f
-  fitting_fault_is f free fault =
-      let none : IsEnd (is_empty c) (leads_to n c) x = fault_ends Slice (length x) (length (bytes_of c)) x (is_empty c) (leads_to n c) f fault in
-      let there : List ExtHeader → Option Fault = λ d. fault_behind fitting_faults d n (bytes_of c ++ x) in
-      let m : ℕ = leads_to n c in
-      ap there (sym (is_fitting (λ h y q. none h y)))
-      ∙ ap (λ (b : Bool). if b then None else chain_faults Slice c m (rest_behind c (bytes_of c ++ x))) free
-      ∙ ap (λ (r : List ℕ). chain_faults Slice c m r) behind
-      ∙ fault
-
-  -- where no header goes on that fits and there is no fault, the chain is the answer
-  answered : IsEndUnder FitsPlaces c (leads_to n c) x → (v : Ipv6Extensions) (m : ℕ) → v ≡ value_of c → m ≡ leads_to n c → fitting_faults c (leads_to n c) x ≡ None
-      → IsFittingAnswer n (bytes_of c ++ x) v m x None
-  answered e v m value number none =
-      let same : c ≡ fitting_chain n (bytes_of c ++ x) = is_fitting e in
-      let there : List ExtHeader → Option Fault = λ d. fault_behind fitting_faults d n (bytes_of c ++ x) in
-      record {
-        value = value ∙ ap value_of same;
-        number = number ∙ ap (leads_to n) same;
-        rest = sym behind ∙ ap (λ d. rest_behind d (bytes_of c ++ x)) same;
-        fault = sym (ap there (sym same) ∙ ap (λ (r : List ℕ). fitting_faults c (leads_to n c) r) behind ∙ none);
-      }
-
-  -- so it is where the number's place is filled
-  pub taken_answers : (v : Ipv6Extensions) (m : ℕ) → v ≡ value_of c → m ≡ leads_to n c → is_taken (leads_to n c) c ≡ true → IsFittingAnswer n (bytes_of c ++ x) v m x None
-  taken_answers v m value number taken =
-      let t : IsTaken (leads_to n c) c = (taken_told c (leads_to n c) fits).0 taken in
-      answered (λ h y. t.1 h y.number) v m value number
-      (ap (λ (b : Bool). if b then None else chain_faults Slice c (leads_to n c) x) taken)
-
-  -- and where the number names no header
-  pub other_answers : (v : Ipv6Extensions) (m : ℕ) → v ≡ value_of c → m ≡ leads_to n c → is_taken (leads_to n c) c ≡ false → (IsExtensionNumber (leads_to n c) → ⊥) → IsFittingAnswer n (bytes_of c ++ x) v m x None
-  other_answers v m value number free other =
-      answered (λ h y q. end_at_other (is_empty c) (leads_to n c) x other h y) v m value number
-      (ap (λ (b : Bool). if b then None else chain_faults Slice c (leads_to n c) x) free ∙ no_fault_at_other Slice (length x) (is_empty c) (leads_to n c) x (length (bytes_of c)) other)
-
-none_of : {A : Type 0} (o : Option A) → is_some o ≡ false → o ≡ None
-none_of None e = refl
-none_of (Some x) e = absurd (let differ : true ≡ false = e in cc)
-
-and_false : (b : Bool) → (b && false) ≡ false
-and_false true = refl
-and_false false = refl
+  routing_there = sym (is_some-map (λ (r : Ipv6RoutingExtensions). raw_header r.routing) v.routing) ∙ filled routing
 
 mapped_if : {A B : Type 0} (f : A → B) (b : Bool) (x : A) (o : Option A) → option_map f (if b then Some x else o) ≡ (if b then Some (f x) else option_map f o)
 mapped_if f true x o = refl
@@ -133,41 +67,13 @@ module _ (b : List ℕ) where
 put_held : (p q : Place) (b : List ℕ) (v : Ipv6Extensions) → is_some (placed_fields v p) ≡ false → (p ≡ final_destination → is_some v.routing ≡ true)
     → placed_fields (with_header p b v) q ≡ (if index p == index q then Some (fields_of (record { number = number_in p; bytes = b })) else placed_fields v q)
 put_held hop_by_hop hop_by_hop b v free nested = refl
-put_held hop_by_hop destination b v free nested = refl
-put_held hop_by_hop routing b v free nested = refl
-put_held hop_by_hop fragment b v free nested = refl
-put_held hop_by_hop authentication b v free nested = refl
-put_held hop_by_hop final_destination b v free nested = refl
-put_held destination hop_by_hop b v free nested = refl
 put_held destination destination b v free nested = refl
-put_held destination routing b v free nested = refl
-put_held destination fragment b v free nested = refl
-put_held destination authentication b v free nested = refl
-put_held destination final_destination b v free nested = refl
-put_held routing hop_by_hop b v free nested = refl
-put_held routing destination b v free nested = refl
-put_held routing routing b v free nested = refl
-put_held routing fragment b v free nested = refl
-put_held routing authentication b v free nested = refl
 put_held routing final_destination b v free nested = sym (no_final v.routing free)
-put_held fragment hop_by_hop b v free nested = refl
-put_held fragment destination b v free nested = refl
-put_held fragment routing b v free nested = refl
 put_held fragment fragment b v free nested = refl
-put_held fragment authentication b v free nested = refl
-put_held fragment final_destination b v free nested = refl
-put_held authentication hop_by_hop b v free nested = refl
-put_held authentication destination b v free nested = refl
-put_held authentication routing b v free nested = refl
-put_held authentication fragment b v free nested = refl
 put_held authentication authentication b v free nested = refl
-put_held authentication final_destination b v free nested = refl
-put_held final_destination hop_by_hop b v free nested = refl
-put_held final_destination destination b v free nested = refl
 put_held final_destination routing b v free nested = same_routing b v.routing
-put_held final_destination fragment b v free nested = refl
-put_held final_destination authentication b v free nested = refl
 put_held final_destination final_destination b v free nested = own_final b v.routing (nested refl)
+put_held p q b v free nested = refl
 
 place_or : (o : Option Place) → (o ≡ None) ⊎ ((p : Place) × (o ≡ Some p))
 place_or None = inl refl
@@ -178,29 +84,21 @@ pub never_empty : (c : List ExtHeader) (h : ExtHeader) → c ++ h ∷ [] ≡ [] 
 never_empty [] h e = cc
 never_empty (g ∷ c) h e = cc
 
-more_first : (c : List ExtHeader) (h : ExtHeader) → false ≡ is_empty (c ++ h ∷ [])
-more_first [] h = refl
-more_first (g ∷ c) h = refl
-
 module _ (n : ℕ) (c : List ExtHeader) (m : ℕ) (v : Ipv6Extensions) (first : Bool) (k : IsReading n c m v first) where
   -- a number that has no place, and isn't 0, ends the chain
   pub no_place_answers : m ≢ 0 → HasNoPlace first m v → (x : List ℕ) → IsFittingAnswer n (bytes_of c ++ x) v m x None
   no_place_answers other none x = elim (place_or (place_of m (is_some v.routing))) [
     | inl e ↦
-        let own : place_of m (has_routing c) ≡ None = ap (place_of m) (sym (routing_there c v k.value)) ∙ e in
-        let free : is_taken (leads_to n c) c ≡ false =
-        ap (λ (j : ℕ). is_taken j c) (sym k.number) ∙ ap (λ (o : Option Place). not (m == 0) && option_map_or (λ (q : Place). is_some (header_in q c)) o false) own ∙ and_false (not (m == 0)) in
-        let X : ℕ → Type 0 = IsExtensionNumber in
-        other_answers n c k.chain k.fits x v m k.value k.number free
-        (λ z. let there = own_place m (is_some v.routing) (subst X (sym k.number) z) in none-some there.0 (sym e ∙ there.1))
+        other_answers n c m k.chain k.fits k.number x v k.value
+        (λ z. let there = own_place m (is_some v.routing) z in none-some there.0 (sym e ∙ there.1))
     | inr (p, e) ↦
         let own : place_of m (has_routing c) ≡ Some p = ap (place_of m) (sym (routing_there c v k.value)) ∙ e in
         elim (cases_Bool (is_some (placed_fields v p))) [
           | inl there ↦
-              let taken : is_taken (leads_to n c) c ≡ true =
-              ap (λ (j : ℕ). is_taken j c) (sym k.number) ∙ ap (λ (o : Option Place). not (m == 0) && option_map_or (λ (q : Place). is_some (header_in q c)) o false) own
+              let taken : is_taken m c ≡ true =
+              ap (λ (o : Option Place). not (m == 0) && option_map_or (λ (q : Place). is_some (header_in q c)) o false) own
               ∙ ap (λ (b : Bool). not b && is_some (header_in p c)) (ne_eqb m 0 other) ∙ sym (filled c v k.value p) ∙ there in
-              taken_answers n c k.chain k.fits x v m k.value k.number taken
+              taken_answers n c m k.chain k.fits k.number x v k.value taken
           | inr free ↦ absurd (none p (record { own = e; free = free; zero_first = λ z. absurd (other z) }))
         ]
   ]
@@ -219,7 +117,7 @@ module _ (n : ℕ) (c : List ExtHeader) (m : ℕ) (v : Ipv6Extensions) (first : 
     pub not_taken : is_taken (leads_to n c) c ≡ false
     not_taken =
         ap (λ (j : ℕ). is_taken j c) (sym k.number) ∙ ap (λ (o : Option Place). not (m == 0) && option_map_or (λ (q : Place). is_some (header_in q c)) o false) own
-        ∙ ap (λ (b : Bool). not (m == 0) && b) free_in ∙ and_false (not (m == 0))
+        ∙ ap (λ (b : Bool). not (m == 0) && b) free_in ∙ and-false (not (m == 0))
 
     pub nested : p ≡ final_destination → is_some v.routing ≡ true
     nested e =
@@ -248,9 +146,9 @@ module _ (n : ℕ) (c : List ExtHeader) (m : ℕ) (v : Ipv6Extensions) (first : 
               ∙ ap (λ (i : ℕ). if index p == index q then Some (fields_of (record { number = i; bytes = r.bytes })) else placed_fields v q) (sym is_number_in)
               ∙ ap (λ (o : Option HeaderFields). if index p == index q then Some (fields_of h) else o) (ap (λ (u : Ipv6Extensions). placed_fields u q) k.value ∙ placed_fields-value_of c q)
               ∙ sym (mapped_if fields_of (index p == index q) h (header_in q c))
-              ∙ ap (option_map fields_of) (sym (placed c h p own (none_of (header_in p c) free_in) q))
+              ∙ ap (option_map fields_of) (sym (placed c h p own (none_if (header_in p c) free_in) q))
               ∙ sym (placed_fields-value_of (c ++ h ∷ []) q));
-          none_yet = more_first c h;
+          none_yet = not_empty c h;
         }
 
 -- how many places are empty
@@ -263,14 +161,10 @@ free_places v =
     count_empty (placed_fields v hop_by_hop) + (count_empty (placed_fields v destination) + (count_empty (placed_fields v routing) + (count_empty (placed_fields v fragment) + (count_empty (placed_fields v authentication) + count_empty (placed_fields v final_destination)))))
 
 one_empty : (o : Option HeaderFields) → is_some o ≡ false → count_empty o ≡ 1
-one_empty o e = ap count_empty (none_of o e)
+one_empty o e = ap count_empty (none_if o e)
 
 fewer_at : (p : Place) (b : List ℕ) (v : Ipv6Extensions) → is_some (placed_fields v p) ≡ false → (p ≡ final_destination → is_some v.routing ≡ true) → free_places (with_header p b v) < free_places v
-fewer_at hop_by_hop b v free nested = omega (arith, one_empty (placed_fields v hop_by_hop) free)
-fewer_at destination b v free nested = omega (arith, one_empty (placed_fields v destination) free)
 fewer_at routing b v free nested = omega (arith, one_empty (placed_fields v routing) free, ap count_empty (no_final v.routing free))
-fewer_at fragment b v free nested = omega (arith, one_empty (placed_fields v fragment) free)
-fewer_at authentication b v free nested = omega (arith, one_empty (placed_fields v authentication) free)
 fewer_at final_destination b v free nested =
     omega (
       arith,
@@ -278,6 +172,7 @@ fewer_at final_destination b v free nested =
       ap count_empty (put_held final_destination final_destination b v free nested),
       ap count_empty (put_held final_destination routing b v free nested),
     )
+fewer_at p b v free nested = omega (arith, one_empty (placed_fields v p) free)
 
 -- each header that is read fills one
 pub fewer : (Taken : List ℕ → Type 0) (first : Bool) (m : ℕ) (p : Place) (j : ℕ) (v w : Ipv6Extensions) → IsNextPlace first m p v → (p ≡ final_destination → is_some v.routing ≡ true) → IsReadInto Taken p j v w → free_places w < free_places v

@@ -1,41 +1,30 @@
 -- What is read as a struct of six places, and what is written of one.
-use Rattle.std.proofs.Common.{◌≡◌, ℕ, ◌+◌, ◌<◌, List, ◌++◌, length, drop, ap, sym, ◌∙◌, arith, inl, inr, subst}
-use Rattle.std.specs.Prelude.{Err, None, ◌↔◌, if◌then◌else◌}
-use Rattle.std.proofs.Math.Seq.{drop-append_seam}
+use Rattle.std.proofs.Common.{◌≡◌, ℕ, ◌+◌, ◌<◌, List, ◌++◌, length, ap, sym, ◌∙◌, arith, subst}
+use Rattle.std.specs.Prelude.{Err, None, ◌↔◌}
 use Rattle.std.proofs.lemmas.List.{append_cancel_left, length-append}
 use Rattle.std.proofs.lemmas.List.Elements.{All-take}
-use Rattle.std.proofs.lemmas.Bool.{cases_Bool}
 use Rattle.ip_spec.specs.LongestOf.{IsLongestOf}
 use Rattle.ip_spec.specs.Header.{IsExtensionNumber}
-use Rattle.ip_spec.specs.Parse.{rest_behind, fault_behind}
 use Rattle.ip_spec.specs.Encoding.{AreBytes, cleared_chain}
-use Rattle.ip_spec.specs.Chain.{ExtHeader, leads_to, bytes_of, is_empty}
-use Rattle.ip_spec.specs.Demand.{IsLongestUnder}
+use Rattle.ip_spec.specs.Chain.{ExtHeader, leads_to, bytes_of}
 use Rattle.ip_spec.specs.Fits.{FitsPlaces}
-use Rattle.ip_spec.specs.Places.{is_taken}
 use Rattle.ip_spec.specs.Encodable.{IsEncodable}
 use Rattle.ip_spec.specs.Walk.{IsValueOf, IsSpelling, IsReachable, WalkAnswer, leads, hop_by_hop_not_at_start, not_referenced, IsWalkAnswer}
 use Rattle.ip_spec.specs.Parse.{IsRead}
 use Rattle.ip_spec.proofs.FitsLemmas.{fits_places}
-use Rattle.ip_spec.proofs.UnderLemmas.{one_longest_under}
+use Rattle.ip_spec.proofs.ReadLemmas.{whole_read}
 use Rattle.ip_spec.proofs.WalkLemmas.{one_reach}
-use Rattle.ip_spec.proofs.SpellingLemmas.{one_spelling, spelling_is_reach, one_answer, leads_exactly, leads_spelled, spelled_leads, spelled_whole, cleared_spells, spelled_is_read, spelled_alike}
+use Rattle.ip_spec.proofs.SpellingLemmas.{one_spelling, spelling_is_reach, one_answer, leads_exactly, leads_spelled, spelled_leads, shown_bytes, cleared_spells, spelled_alike}
 use Rattle.ip_spec.proofs.SumLemmas.{bytes_len}
-use Rattle.ip_base.specs.declared.len_source.LenSource.TheVariants.{Slice}
-use Rattle.ip_ext_slices.specs.Fault.{chain_faults}
-use Rattle.ip_ext_chains.specs.Fitting.{fitting_chain, fitting_faults, IsFittingAnswer}
+use Rattle.ip_ext_chains.specs.Fitting.{fitting_chain, IsFittingAnswer}
 use Rattle.ip_ext_chains.specs.Ipv6Extensions.{value_of, placed_fields, exts_len}
 use Rattle.ip_ext_chains.specs.Walk.{walk_answer}
 use Rattle.ip_ext_chains.specs.Write.{IsWritten, IsWalkFault}
 use Rattle.ip_ext_chains.specs.declared.ipv6_exts.Ipv6Extensions.{Ipv6Extensions}
 use Rattle.ip_ext_errors.specs.declared.ipv6_exts.exts_walk_error.ExtsWalkError.{ExtsWalkError}
 use Rattle.ip_ext_errors.specs.declared.ipv6_exts.exts_walk_error.ExtsWalkError.TheVariants.{HopByHopNotAtStart, ExtNotReferenced}
-use Rattle.ip_ext_slices.proofs.FaultLemmas.{no_fault_at_other}
-use Rattle.ip_ext_chains.proofs.FittingLemmas.{fitting_longest}
+use Rattle.ip_ext_chains.proofs.FittingLemmas.{fitting_longest, other_answers}
 use Rattle.ip_ext_chains.proofs.PlacedFieldsLemmas.{placed_fields-value_of, placed_fields_one, exts_sum}
-
-pub fitting_is : (n : ℕ) (s : List ℕ) (c : List ExtHeader) → IsLongestUnder FitsPlaces n s c → fitting_chain n s ≡ c
-fitting_is n s c l = one_longest_under FitsPlaces fits_places n s (fitting_chain n s) c (fitting_longest n s) l
 
 module _ (v : Ipv6Extensions) (n : ℕ) where
   -- a chain has the value v where its headers say what v holds
@@ -87,39 +76,23 @@ module _ (v : Ipv6Extensions) (n : ℕ) where
     appended_is : (b : List ℕ) → new ≡ old ++ b → bytes_of w.chain ≡ b
     appended_is b e = append_cancel_left old (bytes_of w.chain) b (sym w.appended ∙ e)
 
-    none_behind : (m : ℕ) (c : List ExtHeader) (r : List ℕ) → (IsExtensionNumber m → ⊥) → fitting_faults c m r ≡ None
-    none_behind m c r other = elim (cases_Bool (is_taken m c)) [
-      | inl t ↦ ap (λ b. if b then None else chain_faults Slice c m r) t
-      | inr t ↦ ap (λ b. if b then None else chain_faults Slice c m r) t ∙ no_fault_at_other _ _ (is_empty c) m r (length (bytes_of c)) other
-    ]
+    -- where it leads
+    written_leads : (m : ℕ) → IsWalkAnswer (placed_fields v) n (leads m) → leads_to n w.chain ≡ m
+    written_leads m a = let same : leads (leads_to n w.chain) ≡ leads m = one_answer (placed_fields v) n _ _ w.answer a in cc
 
     -- what was written is read again
     pub written_again : (b r : List ℕ) (m : ℕ) → new ≡ old ++ b → IsWalkAnswer (placed_fields v) n (leads m) → (IsExtensionNumber m → ⊥) → IsFittingAnswer n (b ++ r) v m r None
     written_again b r m e a other =
-        let c : List ExtHeader = w.chain in
-        let same : leads (leads_to n c) ≡ leads m = one_answer (placed_fields v) n _ _ w.answer a in
-        let number : leads_to n c ≡ m = cc in
-        let B : List ℕ → Type 0 = λ l. IsLongestUnder FitsPlaces n (l ++ r) c in
-        let O : ℕ → Type 0 = λ j. IsExtensionNumber j → ⊥ in
-        let none : IsExtensionNumber (leads_to n c) → ⊥ = subst O (sym number) other in
-        let longest : IsLongestUnder FitsPlaces n (b ++ r) c = subst B (appended_is b e) (spelled_is_read (placed_fields v) n c r w.spelling (λ x. absurd (none x))) in
-        let is : fitting_chain n (b ++ r) ≡ c = fitting_is n (b ++ r) c longest in
-        let rest : drop (length (bytes_of c)) (b ++ r) ≡ r = ap (λ (l : List ℕ). drop (length l) (b ++ r)) (appended_is b e) ∙ drop-append_seam b r in
-        record {
-          value = value_is c w.spelling.value ∙ ap value_of (sym is);
-          number = sym number ∙ ap (leads_to n) (sym is);
-          rest = sym rest ∙ ap (λ l. drop (length (bytes_of l)) (b ++ r)) (sym is);
-          fault = sym (ap (λ l. fault_behind fitting_faults l n (b ++ r)) is ∙ none_behind (leads_to n c) c (rest_behind c (b ++ r)) none);
-        }
+        let A : List ℕ → Type 0 = λ l. IsFittingAnswer n (l ++ r) v m r None in
+        let s = w.spelling in
+        subst A (appended_is b e) (other_answers n w.chain m s.reachable.chain s.reachable.fits (sym (written_leads m a)) r v (value_is w.chain s.value) other)
 
     -- and from it nothing is left
     pub written_whole : IsEncodable (placed_fields v) → (b : List ℕ) (m : ℕ) → new ≡ old ++ b → IsWalkAnswer (placed_fields v) n (leads m) → IsReadAsValue m b
     written_whole encodable b m e a =
-        let c : List ExtHeader = w.chain in
-        let same : leads (leads_to n c) ≡ leads m = one_answer (placed_fields v) n _ _ w.answer a in
-        let number : leads_to n c ≡ m = cc in
-        let M : ℕ → Type 0 = λ k. IsReadAsHeld k (bytes_of c) in
-        read_as_value m b (subst (IsReadAsHeld m) (appended_is b e) (subst M number (spelled_whole (placed_fields v) n encodable c w.spelling)))
+        let s = w.spelling in
+        let bytes : AreBytes b = subst AreBytes (appended_is b e) (shown_bytes (placed_fields v) n encodable w.chain s.reachable) in
+        whole_read FitsPlaces fits_places n m (λ c. value_of c ≡ v) b w.chain s.reachable.chain s.reachable.fits (sym (value_is w.chain s.value)) (written_leads m a) (appended_is b e) bytes
 
     -- it is what was read, with its reserved bits put to zero
     pub written_cleared : (s : List ℕ) → AreBytes s → value_of (fitting_chain n s) ≡ v → new ≡ old ++ bytes_of (cleared_chain (fitting_chain n s))

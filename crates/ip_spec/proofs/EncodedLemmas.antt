@@ -14,7 +14,8 @@ use Rattle.ip_spec.proofs.HeaderLemmas.{header_number, by_raw, by_number, raw_of
 use Rattle.ip_spec.proofs.EncodingLemmas.{fragment_only, auth_only, fragment_encodes, auth_written_encodes, fragment_written, auth_written}
 use Rattle.ip_spec.proofs.FragmentBitLemmas.{high_byte, low_byte, packed_offset, packed_flag, packed_reserved, high_small, low_small}
 
-abbrev of_number : ℕ → List ℕ → ExtHeader
+-- the header of number n with bytes b
+abbrev pub of_number : ℕ → List ℕ → ExtHeader
 of_number n b = record { number = n; bytes = b }
 
 raw_bytes : (b d : List ℕ) → IsRawHeader b → IsRawHeader d → raw_fields b ≡ raw_fields d → b ≡ d

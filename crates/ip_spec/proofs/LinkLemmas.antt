@@ -18,15 +18,12 @@ use Rattle.ip_spec.specs.WalkStep.{next_place, without, next_of}
 use Rattle.ip_spec.specs.Links.{relinked, first_number, places_behind, linked}
 use Rattle.ip_spec.proofs.HeaderLemmas.{header_number, by_number, raw_of, fragment_of, auth_of, header-least}
 use Rattle.ip_spec.proofs.PlaceLemmas.{in_both, has_routing, same_place}
-use Rattle.ip_spec.proofs.WalkLemmas.{none_if, some_if}
+use Rattle.ip_spec.proofs.EncodedLemmas.{of_number}
+use Rattle.ip_spec.proofs.WalkLemmas.{none_if, some_if, is_some-map}
 use Rattle.ip_spec.proofs.WalkStepLemmas.{Walking, walk_begins, walks_on, walk_answers}
 use Rattle.ip_spec.proofs.SpellingLemmas.{leads_where_none}
 
 -- Another next number leaves a header what it is.
--- the header of number n with bytes b
-abbrev of_number : ℕ → List ℕ → ExtHeader
-of_number n b = record { number = n; bytes = b }
-
 module _ (m x0 : ℕ) (rest : List ℕ) (small : m < 256) where
   -- of number n
   pub record Relinked (n : ℕ) : Type 0 where
@@ -92,10 +89,6 @@ mapped_some : (j : ℕ) (o : Option HeaderFields) (y : HeaderFields) → option_
 mapped_some j None y e = absurd (none-some y e)
 mapped_some j (Some x) y e = (x, refl, same_Some _ _ e)
 
-mapped_is_some : (j : ℕ) (o : Option HeaderFields) → is_some (option_map (relinked j) o) ≡ is_some o
-mapped_is_some j None = refl
-mapped_is_some j (Some x) = refl
-
 pub linked_encodable : (v : PlacedFields) (m : ℕ) → m < 256 → IsEncodable v → IsEncodable (linked v m)
 linked_encodable v m small e = record {
   encoded = λ p y k.
@@ -104,7 +97,7 @@ linked_encodable v m small e = record {
       let own = e.encoded p it.0 it.1 in
       let E : HeaderFields → Type 0 = λ z. (h : ExtHeader) × IsEncoded (number_in p) z h in
       subst E it.2 (relinked_encoded (number_in p) j it.0 own.0 (first_number_small v (places_behind p) m small) own.1);
-  nested = λ k. mapped_is_some _ (v routing) ∙ e.nested (sym (mapped_is_some _ (v final_destination)) ∙ k);
+  nested = λ k. is_some-map _ (v routing) ∙ e.nested (sym (is_some-map _ (v final_destination)) ∙ k);
 }
 
 -- the fields tell the number of what follows

@@ -18,11 +18,10 @@ use Rattle.ip_spec.specs.Encodable.{IsEncodable}
 use Rattle.ip_spec.specs.Parse.{IsRead}
 use Rattle.ip_spec.specs.Walk.{PlacedFields, IsValueOf, IsSpelling, IsReachable, WalkAnswer, leads, hop_by_hop_not_at_start, not_referenced, answer_at, IsWalkAnswer}
 use Rattle.ip_spec.proofs.FirstLemmas.{none_passes}
-use Rattle.ip_spec.proofs.PrefixLemmas.{prefix_of-append}
 use Rattle.ip_spec.proofs.LongestOfLemmas.{longest_where_none_next}
 use Rattle.ip_spec.proofs.StepLemmas.{bytes_of-more}
 use Rattle.ip_spec.proofs.FitsLemmas.{fits_places}
-use Rattle.ip_spec.proofs.UnderLemmas.{longest_at_end_under, whole_longest_under}
+use Rattle.ip_spec.proofs.ReadLemmas.{has_read_before, read_longest_under, whole_read}
 use Rattle.ip_spec.proofs.ChainLemmas.{whole_longest, one_longest}
 use Rattle.ip_spec.proofs.ClearedLemmas.{cleared_is_chain, cleared_fits, cleared_are, cleared_leads, value-cleared}
 use Rattle.ip_spec.proofs.HeaderLemmas.{header_number}
@@ -147,14 +146,7 @@ module _ (v : PlacedFields) (f : ℕ) where
 
     -- the value is read from the bytes of the chain that spells it
     pub spelled_whole : (c : List ExtHeader) → IsSpelling v f c → IsReadAs v f (leads_to f c) (bytes_of c)
-    spelled_whole c s = record {
-      bytes = shown_bytes c s.reachable;
-      chain = c;
-      longest = whole_longest_under FitsPlaces fits_places f c s.reachable.chain s.reachable.fits;
-      value = s.value;
-      number = refl;
-      all = refl;
-    }
+    spelled_whole c s = whole_read FitsPlaces fits_places f (leads_to f c) (λ d. IsValueOf d v) (bytes_of c) c s.reachable.chain s.reachable.fits s.value refl refl (shown_bytes c s.reachable)
 
     -- so an answer leads on exactly where the value is read from some bytes
     pub leads_read : (m : ℕ) → IsWalkAnswer v f (leads m) → (s : List ℕ) × IsReadAs v f m s
@@ -172,8 +164,7 @@ module _ (v : PlacedFields) (f : ℕ) where
 -- What is spelled is read again, whatever follows it, where no extension number follows or one that is taken.
 pub spelled_is_read : (v : PlacedFields) (f : ℕ) (c : List ExtHeader) (r : List ℕ) → IsSpelling v f c → (IsExtensionNumber (leads_to f c) → IsTaken (leads_to f c) c) → IsLongestUnder FitsPlaces f (bytes_of c ++ r) c
 spelled_is_read v f c r s taken =
-    longest_at_end_under FitsPlaces fits_places f (bytes_of c ++ r) c
-    (record { chain = s.reachable.chain; prefix = prefix_of-append (bytes_of c) r (bytes_of c ++ r) refl }, s.reachable.fits)
+    read_longest_under FitsPlaces fits_places f (bytes_of c ++ r) c (leads_to f c) r (has_read_before FitsPlaces fits_places f (leads_to f c) c r s.reachable.chain s.reachable.fits refl)
     (λ h x. (taken (header_number (leads_to f c) h.bytes x.header)).1 h x.number)
 
 -- Writing what was read gives what was read, cleared.

@@ -1,6 +1,7 @@
 -- What a value shows, reaches and spells from a number.
 use Rattle.std.proofs.Common.{◌≡◌, ℕ, List, [], ◌∷◌, ◌++◌, refl, ap, sym, ◌∙◌, inl, inr, subst, append_assoc, true, false}
 use Rattle.std.specs.Prelude.{Option, Some, None, is_some, ◌==◌, if◌then◌else◌}
+use Rattle.std.specs.Option.{option_map}
 use Rattle.std.proofs.lemmas.Bool.{cases_Bool}
 use Rattle.std.proofs.lemmas.Bool.Decides.{eqb_tells}
 use Rattle.std.proofs.lemmas.Option.{none-some, same_Some}
@@ -26,6 +27,10 @@ none_if (Some x) e = absurd (let differ : true ≡ false = e in cc)
 pub some_if : {X : Type 0} (o : Option X) → is_some o ≡ true → (x : X) × (o ≡ Some x)
 some_if None e = absurd (let differ : false ≡ true = e in cc)
 some_if (Some x) e = (x, refl)
+
+pub is_some-map : {A B : Type 0} (f : A → B) (o : Option A) → is_some (option_map f o) ≡ is_some o
+is_some-map f None = refl
+is_some-map f (Some x) = refl
 
 -- the fields of v in the places that the chain c doesn't fill
 abbrev pub unreached : PlacedFields → List ExtHeader → PlacedFields

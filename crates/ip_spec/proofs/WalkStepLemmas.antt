@@ -2,6 +2,7 @@
 use Rattle.std.proofs.Common.{◌≡◌, ℕ, List, [], ◌∷◌, ◌++◌, refl, ap, sym, ◌∙◌, inl, inr, subst, Bool, true, false}
 use Rattle.std.specs.Prelude.{Option, Some, None, is_some, ◌==◌, ◌&&◌, ◌||◌, not, if◌then◌else◌}
 use Rattle.std.specs.Option.{option_or}
+use Rattle.std.proofs.Math.Bool.{or-true, or-false}
 use Rattle.std.proofs.lemmas.Bool.{eqb-true, eq-eqb}
 use Rattle.std.proofs.lemmas.Bool.Decides.{eqb_tells}
 use Rattle.std.proofs.lemmas.Option.{none-some, same_Some}
@@ -57,17 +58,9 @@ next_place_of false first o e = refl
 pub same_held : (v w : PlacedFields) → ((p : Place) → v p ≡ w p) → v ≡ w
 same_held v w e = λ i p. e p i
 
-not_empty : (c : List ExtHeader) (h : ExtHeader) → false ≡ is_empty (c ++ h ∷ [])
+pub not_empty : (c : List ExtHeader) (h : ExtHeader) → false ≡ is_empty (c ++ h ∷ [])
 not_empty [] h = refl
 not_empty (g ∷ c) h = refl
-
-or_true : (b : Bool) → (b || true) ≡ true
-or_true true = refl
-or_true false = refl
-
-or_false : (b : Bool) → (b || false) ≡ b
-or_false true = refl
-or_false false = refl
 
 some_or : (o : Option ExtHeader) (h : ExtHeader) → is_some (option_or o (Some h)) ≡ true
 some_or None h = refl
@@ -76,8 +69,8 @@ some_or (Some g) h = refl
 -- a routing header is there where one was, or where this is one
 routing_more : (c : List ExtHeader) (h : ExtHeader) → has_routing c || (h.number == 43) ≡ has_routing (c ++ h ∷ [])
 routing_more c h = elim (eqb_tells h.number 43) [
-  | inl w ↦ ap (λ b. has_routing c || b) w.0 ∙ or_true (has_routing c) ∙ sym (ap is_some (find_more-yes (is_of routing) c h w.0) ∙ some_or (header_in routing c) h)
-  | inr w ↦ ap (λ b. has_routing c || b) w.0 ∙ or_false (has_routing c) ∙ sym (ap is_some (find_more-no (is_of routing) c h w.0))
+  | inl w ↦ ap (λ b. has_routing c || b) w.0 ∙ or-true (has_routing c) ∙ sym (ap is_some (find_more-yes (is_of routing) c h w.0) ∙ some_or (header_in routing c) h)
+  | inr w ↦ ap (λ b. has_routing c || b) w.0 ∙ or-false (has_routing c) ∙ sym (ap is_some (find_more-no (is_of routing) c h w.0))
 ]
 
 module _ (c : List ExtHeader) (h : ExtHeader) (p : Place) (joined : (q : Place) → header_in q (c ++ h ∷ []) ≡ (if index p == index q then Some h else header_in q c)) where

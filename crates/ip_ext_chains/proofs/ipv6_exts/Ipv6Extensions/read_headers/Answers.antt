@@ -1,7 +1,7 @@
 use Rattle.std.proofs.Common.{◌≡◌, [], ◌∷◌, ◌++◌, refl, sym, ◌∙◌, arith}
 use Rattle.ip_spec.specs.Chain.{ExtHeader}
 use Rattle.ip_ext_chains.proofs.ReadingLemmas.{reading_next, nested, is_number_in, not_taken, fewer, later, zero_not_taken, no_place_answers}
-use Rattle.ip_ext_chains.proofs.ReadErrorLemmas.{taken_next, refused_as, refused_here, refused_error}
+use Rattle.ip_ext_chains.proofs.ReadErrorLemmas.{taken_next, refused_as, refused_error}
 use Rattle.ip_ext_errors.specs.declared.ipv6_exts.header_error.HeaderError.TheVariants.{HopByHopNotAtStart}
 use Rattle.ip_ext_chains.specs.declared.err.ipv6_exts.header_read_error.HeaderReadError.TheVariants as read
 use Rattle.ip_ext_chains.proofs.ipv6_exts.Ipv6Extensions.read_headers.Goals as goal
@@ -32,7 +32,7 @@ returns-in-Err-clause-refused g c =
       free = not_taken _ _ _ _ _ came.1 _ next;
       between = c.headers.reader;
       taken = came.2;
-      refused = refused_here g.T.ExactRead.bytes_left g.T.ExactRead.is_steady g.T.ExactRead.has_failed c.in-Err.e _ _ _ _ _ _ (refused_as _ _ _ _ _ _ _ _ _ c.in-Err.ensures.refused (is_number_in _ _ _ _ _ came.1 _ next) next.zero_first) came.1.number came.1.none_yet;
+      refused = refused_as g.T.ExactRead.bytes_left g.T.ExactRead.is_steady g.T.ExactRead.has_failed c.in-Err.e _ _ _ _ _ c.in-Err.ensures.refused (sym came.1.number ∙ is_number_in _ _ _ _ _ came.1 _ next) (λ z. sym came.1.none_yet ∙ next.zero_first (came.1.number ∙ z));
     }
 
 pub returns-in-Err-clause-fault : goal.returns-in-Err-clause-fault

@@ -1,7 +1,7 @@
 use Rattle.std.proofs.Common.{rules, ◌≡◌, [], ◌∷◌, ◌++◌, refl, sym, ◌∙◌, arith}
 use Rattle.ip_spec.specs.Chain.{ExtHeader}
 use Rattle.ip_ext_chains.proofs.ReadingLemmas.{reading_none, reading_next, nested, is_number_in, not_taken, fewer, later, zero_not_taken, no_place_answers, named}
-use Rattle.ip_ext_chains.proofs.ReadErrorLemmas.{layer_next, no_layer, layer_refused_as, layer_refused_here, layer_refused_error}
+use Rattle.ip_ext_chains.proofs.ReadErrorLemmas.{layer_next, no_layer, layer_refused_as, layer_refused_error}
 use Rattle.ip_ext_errors.specs.declared.ipv6_exts.header_error.HeaderError.TheVariants.{HopByHopNotAtStart}
 use Rattle.ip_ext_chains.specs.declared.err.ipv6_exts.header_limited_read_error.HeaderLimitedReadError.TheVariants as limited
 use Rattle.ip_ext_chains.proofs.ipv6_exts.Ipv6Extensions.read_headers_limited.Goals as goal
@@ -35,7 +35,7 @@ returns-in-Err-clause-refused g c =
       free = not_taken _ _ _ _ _ came.1 _ next;
       between = c.headers.reader;
       taken = came.2;
-      refused = layer_refused_here g.T.ExactRead.bytes_left g.T.ExactRead.is_steady g.T.ExactRead.has_failed c.in-Err.e _ _ _ _ _ _ (layer_refused_as _ _ _ _ _ _ _ _ _ c.in-Err.ensures.refused (is_number_in _ _ _ _ _ came.1 _ next) next.zero_first) came.1.number came.1.none_yet;
+      refused = layer_refused_as g.T.ExactRead.bytes_left g.T.ExactRead.is_steady g.T.ExactRead.has_failed c.in-Err.e _ _ _ _ _ c.in-Err.ensures.refused (sym came.1.number ∙ is_number_in _ _ _ _ _ came.1 _ next) (λ z. sym came.1.none_yet ∙ next.zero_first (came.1.number ∙ z));
     }
 
 pub returns-in-Err-clause-fault : goal.returns-in-Err-clause-fault

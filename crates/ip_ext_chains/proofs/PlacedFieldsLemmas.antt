@@ -4,38 +4,25 @@ use Rattle.std.specs.Prelude.{Option, Some, None, is_some}
 use Rattle.std.specs.Option.{option_map, option_map_or, ForSome}
 use Rattle.std.proofs.lemmas.Bool.{cases_Bool}
 use Rattle.std.proofs.lemmas.Option.{none-some, same_Some}
-use Rattle.ip_spec.specs.Header.{IsRawNumber}
-use Rattle.ip_spec.specs.Fields.{RawFields, FragmentFields, AuthFields, raw_fields, fragment_fields, auth_fields, raw_len, auth_len}
+use Rattle.ip_spec.specs.Fields.{RawFields, FragmentFields, AuthFields, raw_fields, fragment_fields, auth_fields}
 use Rattle.ip_spec.specs.Chain.{ExtHeader}
 use Rattle.ip_spec.specs.Places.{Place, hop_by_hop, destination, routing, fragment, authentication, final_destination, number_in, header_in, HeaderFields, raw_header, fragment_header, auth_header, fields_of}
 use Rattle.ip_spec.specs.Encodable.{IsEncoded, IsEncodable, placed_len, fields_len}
 use Rattle.ip_spec.proofs.PlaceLemmas.{has_routing, none_behind}
+use Rattle.ip_spec.proofs.EncodedLemmas.{same_fragment, same_auth}
 use Rattle.ip_spec.proofs.WalkLemmas.{some_if}
 use Rattle.ip_ext_chains.specs.Ipv6Extensions.{value_of, raw_in, final_of, placed_fields, exts_len}
 use Rattle.ip_ext_chains.specs.declared.ipv6_exts.Ipv6Extensions.{Ipv6Extensions}
 use Rattle.ip_ext_chains.specs.declared.ipv6_routing_exts.Ipv6RoutingExtensions.{Ipv6RoutingExtensions}
 use Rattle.ip_ext_chains.proofs.PlacedLemmas.{in_place_number}
 
--- What a chain says in a place, of each layout.
-raw_says : (m : ℕ) (b : List ℕ) → IsRawNumber m → raw_header (raw_fields b) ≡ fields_of (record { number = m; bytes = b })
-raw_says m b k =
-    let S : ℕ → Type 0 = λ n. raw_header (raw_fields b) ≡ fields_of (record { number = n; bytes = b }) in
-    elim k [
-      | inl e ↦ subst S (sym e) refl
-      | inr k' ↦ elim k' [ inl e ↦ subst S (sym e) refl | inr e ↦ subst S (sym e) refl ]
-    ]
-
-raw_place : (o : Option ExtHeader) → ForSome o (λ h. IsRawNumber h.number) → option_map raw_header (option_map (λ h. raw_fields h.bytes) o) ≡ option_map fields_of o
-raw_place None k = refl
-raw_place (Some h) k = ap Some (raw_says h.number h.bytes (k h refl))
-
-fragment_place : (o : Option ExtHeader) → ForSome o (λ h. h.number ≡ 44) → option_map fragment_header (option_map (λ h. fragment_fields h.bytes) o) ≡ option_map fields_of o
-fragment_place None k = refl
-fragment_place (Some h) k = let S : ℕ → Type 0 = λ n. fragment_header (fragment_fields h.bytes) ≡ fields_of (record { number = n; bytes = h.bytes }) in ap Some (subst S (sym (k h refl)) refl)
-
-auth_place : (o : Option ExtHeader) → ForSome o (λ h. h.number ≡ 51) → option_map auth_header (option_map (λ h. auth_fields h.bytes) o) ≡ option_map fields_of o
-auth_place None k = refl
-auth_place (Some h) k = let S : ℕ → Type 0 = λ n. auth_header (auth_fields h.bytes) ≡ fields_of (record { number = n; bytes = h.bytes }) in ap Some (subst S (sym (k h refl)) refl)
+-- what a chain says in a place, where the layout of its number is read
+said_in : {V : Type 0} (n : ℕ) (made : V → HeaderFields) (fields : List ℕ → V) → ((b : List ℕ) → made (fields b) ≡ fields_of (record { number = n; bytes = b }))
+    → (o : Option ExtHeader) → ForSome o (λ h. h.number ≡ n) → option_map made (option_map (λ h. fields h.bytes) o) ≡ option_map fields_of o
+said_in n made fields says None k = refl
+said_in n made fields says (Some h) k =
+    let S : ℕ → Type 0 = λ m. made (fields h.bytes) ≡ fields_of (record { number = m; bytes = h.bytes }) in
+    ap Some (subst S (sym (k h refl)) (says h.bytes))
 
 routing_place : (o : Option RawFields) (p : Option RawFields) → option_map (λ (r : Ipv6RoutingExtensions). raw_header r.routing) (option_map (λ r. record { routing = r; final_destination_options = p }) o) ≡ option_map raw_header o
 routing_place None p = refl
@@ -54,33 +41,24 @@ no_final c e = elim (cases_Bool (has_routing c)) [
 
 -- the value of a chain holds what its headers say
 pub placed_fields-value_of : (c : List ExtHeader) (p : Place) → placed_fields (value_of c) p ≡ option_map fields_of (header_in p c)
-placed_fields-value_of c hop_by_hop = raw_place (header_in hop_by_hop c) (λ h e. inl (in_place_number hop_by_hop c h e))
-placed_fields-value_of c destination = raw_place (header_in destination c) (λ h e. inr (inr (in_place_number destination c h e)))
-placed_fields-value_of c routing = routing_place (raw_in routing c) (raw_in final_destination c) ∙ raw_place (header_in routing c) (λ h e. inr (inl (in_place_number routing c h e)))
-placed_fields-value_of c fragment = fragment_place (header_in fragment c) (λ h e. in_place_number fragment c h e)
-placed_fields-value_of c authentication = auth_place (header_in authentication c) (λ h e. in_place_number authentication c h e)
+placed_fields-value_of c hop_by_hop = said_in 0 raw_header raw_fields (λ b. refl) (header_in hop_by_hop c) (in_place_number hop_by_hop c)
+placed_fields-value_of c destination = said_in 60 raw_header raw_fields (λ b. refl) (header_in destination c) (in_place_number destination c)
+placed_fields-value_of c routing = routing_place (raw_in routing c) (raw_in final_destination c) ∙ said_in 43 raw_header raw_fields (λ b. refl) (header_in routing c) (in_place_number routing c)
+placed_fields-value_of c fragment = said_in 44 fragment_header fragment_fields (λ b. refl) (header_in fragment c) (in_place_number fragment c)
+placed_fields-value_of c authentication = said_in 51 auth_header auth_fields (λ b. refl) (header_in authentication c) (in_place_number authentication c)
 placed_fields-value_of c final_destination =
     ap (option_map raw_header) (final_place (raw_in routing c) (raw_in final_destination c) (no_final c))
-    ∙ raw_place (header_in final_destination c) (λ h e. inr (inr (in_place_number final_destination c h e)))
+    ∙ said_in 60 raw_header raw_fields (λ b. refl) (header_in final_destination c) (in_place_number final_destination c)
 
 -- Structs that hold the same are one.
+inside : {V : Type 0} (made : V → HeaderFields) → ((x y : V) → made x ≡ made y → x ≡ y) → (a b : Option V) → option_map made a ≡ option_map made b → a ≡ b
+inside made same None None e = refl
+inside made same None (Some y) e = absurd (none-some (made y) e)
+inside made same (Some x) None e = absurd (none-some (made x) (sym e))
+inside made same (Some x) (Some y) e = ap Some (same x y (same_Some _ _ e))
+
 raw_inside : (a b : Option RawFields) → option_map raw_header a ≡ option_map raw_header b → a ≡ b
-raw_inside None None e = refl
-raw_inside None (Some y) e = absurd (none-some (raw_header y) e)
-raw_inside (Some x) None e = absurd (none-some (raw_header x) (sym e))
-raw_inside (Some x) (Some y) e = let same : raw_header x ≡ raw_header y = same_Some _ _ e in ap Some (let is : x ≡ y = cc in is)
-
-fragment_inside : (a b : Option FragmentFields) → option_map fragment_header a ≡ option_map fragment_header b → a ≡ b
-fragment_inside None None e = refl
-fragment_inside None (Some y) e = absurd (none-some (fragment_header y) e)
-fragment_inside (Some x) None e = absurd (none-some (fragment_header x) (sym e))
-fragment_inside (Some x) (Some y) e = let same : fragment_header x ≡ fragment_header y = same_Some _ _ e in ap Some (let is : x ≡ y = cc in is)
-
-auth_inside : (a b : Option AuthFields) → option_map auth_header a ≡ option_map auth_header b → a ≡ b
-auth_inside None None e = refl
-auth_inside None (Some y) e = absurd (none-some (auth_header y) e)
-auth_inside (Some x) None e = absurd (none-some (auth_header x) (sym e))
-auth_inside (Some x) (Some y) e = let same : auth_header x ≡ auth_header y = same_Some _ _ e in ap Some (let is : x ≡ y = cc in is)
+raw_inside = inside raw_header (λ x y e. cc)
 
 abbrev routing_of : RawFields → Option RawFields → Ipv6RoutingExtensions
 routing_of r o = record { routing = r; final_destination_options = o }
@@ -101,28 +79,16 @@ placed_fields_one v w e =
     ap (λ a. made a v.destination_options v.routing v.fragment v.auth) (raw_inside v.hop_by_hop_options w.hop_by_hop_options (e hop_by_hop))
     ∙ ap (λ b. made w.hop_by_hop_options b v.routing v.fragment v.auth) (raw_inside v.destination_options w.destination_options (e destination))
     ∙ ap (λ d. made w.hop_by_hop_options w.destination_options d v.fragment v.auth) (routing_inside v.routing w.routing (e routing) (e final_destination))
-    ∙ ap (λ f. made w.hop_by_hop_options w.destination_options w.routing f v.auth) (fragment_inside v.fragment w.fragment (e fragment))
-    ∙ ap (λ g. made w.hop_by_hop_options w.destination_options w.routing w.fragment g) (auth_inside v.auth w.auth (e authentication))
+    ∙ ap (λ f. made w.hop_by_hop_options w.destination_options w.routing f v.auth) (inside fragment_header same_fragment v.fragment w.fragment (e fragment))
+    ∙ ap (λ g. made w.hop_by_hop_options w.destination_options w.routing w.fragment g) (inside auth_header same_auth v.auth w.auth (e authentication))
 
 -- The sum over the places.
-raw_sum : (o : Option RawFields) → option_map_or fields_len (option_map raw_header o) 0 ≡ option_map_or raw_len o 0
-raw_sum None = refl
-raw_sum (Some x) = refl
-
-fragment_sum : (o : Option FragmentFields) → option_map_or fields_len (option_map fragment_header o) 0 ≡ option_map_or (λ h. 8) o 0
-fragment_sum None = refl
-fragment_sum (Some x) = refl
-
-auth_sum : (o : Option AuthFields) → option_map_or fields_len (option_map auth_header o) 0 ≡ option_map_or auth_len o 0
-auth_sum None = refl
-auth_sum (Some x) = refl
-
-routing_sum : (o : Option Ipv6RoutingExtensions) → option_map_or fields_len (option_map (λ r. raw_header r.routing) o) 0 ≡ option_map_or (λ r. raw_len r.routing) o 0
-routing_sum None = refl
-routing_sum (Some r) = refl
+sum_of : {V : Type 0} (made : V → HeaderFields) (o : Option V) → option_map_or fields_len (option_map made o) 0 ≡ option_map_or (λ x. fields_len (made x)) o 0
+sum_of made None = refl
+sum_of made (Some x) = refl
 
 pub exts_sum : (v : Ipv6Extensions) → placed_len (placed_fields v) ≡ exts_len v
-exts_sum v = omega (arith, raw_sum v.hop_by_hop_options, raw_sum v.destination_options, routing_sum v.routing, fragment_sum v.fragment, auth_sum v.auth, raw_sum (final_of v.routing))
+exts_sum v = omega (arith, sum_of raw_header v.hop_by_hop_options, sum_of raw_header v.destination_options, sum_of (λ r. raw_header r.routing) v.routing, sum_of fragment_header v.fragment, sum_of auth_header v.auth, sum_of raw_header (final_of v.routing))
 
 -- Destination options stand in the final place only behind a routing header, so a struct can be written where each
 -- of its headers can.

@@ -8,19 +8,16 @@ use Rattle.ip_spec.specs.Chain.{ExtHeader}
 use Rattle.ip_spec.specs.Places.{Place, hop_by_hop, destination, routing, fragment, authentication, final_destination, number_in, side_of, header_in, place_of, is_taken}
 use Rattle.ip_spec.proofs.FirstLemmas.{find_passes}
 use Rattle.ip_spec.proofs.PlaceLemmas.{has_routing, is_of}
+use Rattle.ip_spec.proofs.WalkLemmas.{is_some-map}
 use Rattle.ip_ext_slices.specs.Ipv6ExtensionSlice.{header_of}
 use Rattle.ip_ext_chains.specs.Places.{at, ArePlaced, place_in, is_taken_in, raw_at, value_at, AreOfNumber}
 use Rattle.ip_ext_chains.specs.Ipv6Extensions.{raw_in, value_of}
 use Rattle.ip_ext_slices.specs.declared.ipv6_ext_slice.Ipv6ExtensionSlice.{Ipv6ExtensionSlice}
 use Rattle.ip_ext_chains.specs.declared.places.Places.{Places}
 
-some_map : (o : Option Ipv6ExtensionSlice) → is_some (option_map header_of o) ≡ is_some o
-some_map (Some h) = refl
-some_map None = refl
-
-pub mapped_if : (b : Bool) (h : Ipv6ExtensionSlice) (o : Option Ipv6ExtensionSlice) → option_map header_of (if b then Some h else o) ≡ (if b then Some (header_of h) else option_map header_of o)
-mapped_if true h o = refl
-mapped_if false h o = refl
+pub mapped_if : {A B : Type 0} (f : A → B) (b : Bool) (x : A) (o : Option A) → option_map f (if b then Some x else o) ≡ (if b then Some (f x) else option_map f o)
+mapped_if f true x o = refl
+mapped_if f false x o = refl
 
 pub in_place_number : (p : Place) (c : List ExtHeader) (h : ExtHeader) → header_in p c ≡ Some h → h.number ≡ number_in p
 in_place_number p c h e = eqb-true h.number (number_in p) (find_passes (is_of p) (side_of p c) h e)
@@ -28,7 +25,7 @@ in_place_number p c h e = eqb-true h.number (number_in p) (find_passes (is_of p)
 -- what is filled in the places is filled in the chain
 module _ (c : List ExtHeader) (v : Places Ipv6ExtensionSlice) (k : ArePlaced c v) where
   pub filled_same : (p : Place) → is_some (at p v) ≡ is_some (header_in p c)
-  filled_same p = sym (some_map (at p v)) ∙ ap is_some (k p)
+  filled_same p = sym (is_some-map header_of (at p v)) ∙ ap is_some (k p)
 
   pub place_same : (m : ℕ) → place_in v m ≡ place_of m (has_routing c)
   place_same m = ap (place_of m) (filled_same routing)

@@ -24,6 +24,7 @@ use Rattle.ip_ext_chains.specs.Ipv6Extensions.{value_of, placed_fields, final_of
 use Rattle.ip_ext_chains.specs.Reading.{with_header, IsNextPlace, HasNoPlace, IsReadInto}
 use Rattle.ip_ext_chains.specs.declared.ipv6_exts.Ipv6Extensions.{Ipv6Extensions}
 use Rattle.ip_ext_chains.specs.declared.ipv6_routing_exts.Ipv6RoutingExtensions.{Ipv6RoutingExtensions}
+use Rattle.ip_ext_chains.proofs.PlacedLemmas.{mapped_if}
 use Rattle.ip_ext_chains.proofs.PlacedFieldsLemmas.{placed_fields-value_of, placed_fields_one}
 
 -- The chain c from n was read, fits, leads to m and has the value v; `first` tells that it has no header.
@@ -44,10 +45,6 @@ module _ (c : List ExtHeader) (v : Ipv6Extensions) (e : v ≡ value_of c) where
 
   pub routing_there : is_some v.routing ≡ has_routing c
   routing_there = sym (is_some-map (λ (r : Ipv6RoutingExtensions). raw_header r.routing) v.routing) ∙ filled routing
-
-mapped_if : {A B : Type 0} (f : A → B) (b : Bool) (x : A) (o : Option A) → option_map f (if b then Some x else o) ≡ (if b then Some (f x) else option_map f o)
-mapped_if f true x o = refl
-mapped_if f false x o = refl
 
 -- Destination options behind a routing header.
 no_final : (o : Option Ipv6RoutingExtensions) → is_some (option_map (λ r. raw_header r.routing) o) ≡ false → option_map raw_header (final_of o) ≡ None

@@ -64,7 +64,7 @@ module _ (c : List ExtHeader) (m : ℕ) (h : Ipv6ExtensionSlice) (left : List Ex
         fits = fits_more k.run (header_of h) p k.fits own (ap is_some none);
         placed = λ q.
             ap (option_map header_of) (put q)
-            ∙ mapped_if (index p == index q) h (at q v)
+            ∙ mapped_if header_of (index p == index q) h (at q v)
             ∙ ap (λ o. if index p == index q then Some (header_of h) else o) (k.placed q)
             ∙ sym (placed k.run (header_of h) p own none q);
       }

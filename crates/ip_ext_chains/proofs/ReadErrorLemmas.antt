@@ -18,7 +18,7 @@ use Rattle.ip_io.specs.Limits.{Limits, left, started, advanced}
 use Rattle.ip_io.specs.LimitedReader.{inner_of, limits_of, window}
 use Rattle.ip_io.specs.Reading.{IsTakenInLayer, IsRefusedInLayer, IsRefusedWithin, IsPastLimit}
 use Rattle.ip_io.specs.declared.io.limited_reader.LimitedReader.{LimitedReader}
-use Rattle.ip_io.proofs.ReadingLemmas.{refused_short, refused_within_short, past_limit_short}
+use Rattle.ip_io.proofs.ReadingLemmas.{lift_some, of_all, of_begun, refused_short, refused_within_short, past_limit_short}
 use Rattle.ip_ext_errors.specs.declared.ip_auth.header_error.HeaderError.TheVariants.{ZeroPayloadLen}
 use Rattle.ip_ext_slices.specs.Fault.{Fault, short_at, fault_at}
 use Rattle.ip_ext_errors.specs.declared.ipv6_exts.header_error.HeaderError.TheVariants.{HopByHopNotAtStart, IpAuth}
@@ -33,23 +33,11 @@ use Rattle.ip_ext_chains.specs.declared.err.ipv6_exts.header_limited_read_error.
 use Rattle.ip_ext_chains.proofs.FittingLemmas.{fitting_fault_is}
 use Rattle.ip_ext_chains.proofs.ReadingLemmas.{never_empty}
 
--- what holds of bytes behind some that were taken
-pub lift_some : (a b : Option (List ℕ)) (done : List ℕ) (Q : List ℕ → Type 0) → Consumes a b done → IfSome b (λ y. Q (done ++ y)) → IfSome a Q
-lift_some None b done Q c f = tt
-lift_some (Some s) None done Q c f = absurd c
-lift_some (Some s) (Some y) done Q c f = subst Q (sym c) f
-
+-- what holds of bytes behind some that were taken, also of a steady reader alone
 pub lift_steady : (steady then_steady : Bool) (a b : Option (List ℕ)) (done : List ℕ) (Q : List ℕ → Type 0) → then_steady ≡ steady → Consumes a b done → IfSteady then_steady b (λ y. Q (done ++ y)) → IfSteady steady a Q
 lift_steady false then_steady a b done Q e c f = tt
 lift_steady true false a b done Q e c f = absurd (let differ : false ≡ true = e in cc)
 lift_steady true true a b done Q e c f = lift_some a b done Q c f
-
-pub of_all : (o : Option (List ℕ)) (R : List ℕ → Type 0) → ((y : List ℕ) → R y) → IfSome o R
-of_all None R f = tt
-of_all (Some y) R f = f y
-
-pub of_begun : (a b : Option (List ℕ)) (done : List ℕ) (R : List ℕ → Type 0) → Consumes a b done → ((xs : List ℕ) → R (done ++ xs)) → IfSome a R
-of_begun a b done R c f = lift_some a b done R c (of_all b (λ y. R (done ++ y)) f)
 
 -- Behind the headers of a chain that was refused.
 module _ {R : Type 0} (Taken : R → R → List ExtHeader → Type 0) (Refused : Bool → ℕ → R → R → Type 0) (old new : R) (n : ℕ) (k : IsChainRefused Taken Refused old new n) where

@@ -4,13 +4,16 @@ use Rattle.ip_base.specs.declared.err.layer.Layer.TheVariants.{IpAuthHeader}
 use Rattle.ip_base.specs.declared.len_source.LenSource.TheVariants.{Slice}
 use Rattle.ip_spec.specs.Requests.{AuthAsks}
 use Rattle.std.specs.Prelude.{Option}
-use Rattle.ip_ext_headers.proofs.FaultLemmas.{auth_asks_fault}
+use Rattle.ip_ext_errors.specs.declared.ip_auth.header_error.HeaderError.TheVariants.{ZeroPayloadLen}
+use Rattle.ip_ext_headers.proofs.FaultLemmas.{auth_asks_fault, auth_zero_fault}
 use Rattle.ip_io.specs.Reading.{IsRefusedInLayer}
 use Rattle.ip_io.specs.LimitedReader.{inner_of, window}
 use Rattle.ip_io.specs.declared.err.io.limited_read_error.LimitedReadError.{LimitedReadError}
 use Rattle.ip_io.specs.declared.err.io.limited_read_error.LimitedReadError.TheVariants as limit
 use Rattle.ip_io.specs.declared.io.limited_reader.LimitedReader.{LimitedReader}
-use Rattle.ip_io.proofs.ReadingLemmas.{refused_within_short, past_limit_short}
+use Rattle.ip_io.proofs.ReadingLemmas.{of_begun, refused_within_short, past_limit_short}
+use Rattle.ip_ext_headers.specs.declared.err.ip_auth.header_limited_read_error.HeaderLimitedReadError.{HeaderLimitedReadError}
+use Rattle.ip_ext_headers.specs.declared.err.ip_auth.header_limited_read_error.HeaderLimitedReadError.TheVariants as limited
 use Rattle.ip_ext_headers.specs.AuthReading.{auth_slice_fault, IsTooShort, IsAuthRefusedInLayer, IsSliceErrorInLayer, of_limited_error}
 
 -- too few bytes are behind those that came
@@ -24,8 +27,9 @@ module _ {T : Type 0} (bytes_left : T → Option (List ℕ)) (is_steady has_fail
   limited_refused (limit.Io e) r = r
   limited_refused (limit.Len e) r = r
 
-  -- and tells that the window is too short
-  pub limited_short : (e : LimitedReadError) → IsRefusedInLayer bytes_left is_steady has_failed AuthAsks IpAuthHeader old new e
-      → IsSliceErrorInLayer auth_slice_fault (is_steady (inner_of old)) (window bytes_left old) (of_limited_error e)
-  limited_short (limit.Io e) r = refused_within_short AuthAsks (IsTooShort auth_slice_fault) auth_short bytes_left is_steady has_failed IpAuthHeader old new r
-  limited_short (limit.Len e) r = past_limit_short AuthAsks (IsTooShort auth_slice_fault) auth_short bytes_left is_steady has_failed IpAuthHeader old new e r
+  -- and tells the error of the parse of the window
+  pub limited_fault : (e : HeaderLimitedReadError) → IsAuthRefusedInLayer bytes_left is_steady has_failed old new e → IsSliceErrorInLayer auth_slice_fault (is_steady (inner_of old)) (window bytes_left old) e
+  limited_fault (limited.Io e) r = refused_within_short AuthAsks (IsTooShort auth_slice_fault) auth_short bytes_left is_steady has_failed IpAuthHeader old new r
+  limited_fault (limited.Len e) r = past_limit_short AuthAsks (IsTooShort auth_slice_fault) auth_short bytes_left is_steady has_failed IpAuthHeader old new e r
+  limited_fault (limited.Content ZeroPayloadLen) r =
+      of_begun (window bytes_left old) (window bytes_left new) r.done _ r.taken.window (λ xs. auth_zero_fault Slice (length (r.done ++ xs)) 0 r.done xs r.zero_length)

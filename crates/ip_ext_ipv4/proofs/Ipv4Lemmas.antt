@@ -21,9 +21,6 @@ use Rattle.ip_ext_ipv4.specs.Ipv4Parse.{IsIpv4Answer}
 pub ipv4_longest : (n : ℕ) (s : List ℕ) → IsLongestUnder (AtMostOneOf 51) n s (longest_ipv4_chain n s)
 ipv4_longest n s = (some_longest_under (AtMostOneOf 51) (at_most_one_of 51) n s).1
 
-pub ipv4_longest-is : (n : ℕ) (s : List ℕ) (c : List ExtHeader) → IsLongestUnder (AtMostOneOf 51) n s c → longest_ipv4_chain n s ≡ c
-ipv4_longest-is n s c l = one_longest_under (AtMostOneOf 51) (at_most_one_of 51) n s (longest_ipv4_chain n s) c (ipv4_longest n s) l
-
 -- of bytes that are cut short it is the header that lies whole within them
 pub ipv4_longest-shorter : (n j : ℕ) (s : List ℕ) → longest_ipv4_chain n (take j s) ≡ headers_within j (longest_ipv4_chain n s)
 ipv4_longest-shorter n j s = longest_shorter (AtMostOneOf 51) (at_most_one_of 51) n j s (longest_ipv4_chain n s) (longest_ipv4_chain n (take j s)) (ipv4_longest n s) (ipv4_longest n (take j s))

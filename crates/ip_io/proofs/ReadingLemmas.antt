@@ -4,6 +4,7 @@ use Rattle.std.specs.Prelude.{Option, Some, None, IfSome}
 use Rattle.std.specs.Option.{option_map}
 use Rattle.std.specs.Io.KnownBytes.{Consumes}
 use Rattle.std.proofs.KnownBytes.{Consumes-nil, Consumes-trans}
+use Rattle.std.proofs.lemmas.Option.{IfSome_then}
 use Rattle.std.proofs.Math.Seq.{take-append-add}
 use Rattle.std.proofs.lemmas.List.{length-take}
 use Rattle.ip_base.specs.declared.err.layer.Layer.{Layer}
@@ -29,12 +30,23 @@ refused_behind Asks steady then_steady first then failed done count e c a r =
     let P : Bool → Type 0 = λ b. IsRefusal b then count failed in
     (done, count, record { asked = a; left = then; taken = c; refusal = subst P e r })
 
+-- what holds of bytes behind some that were taken
+pub lift_some : (a b : Option (List ℕ)) (done : List ℕ) (Q : List ℕ → Type 0) → Consumes a b done → IfSome b (λ y. Q (done ++ y)) → IfSome a Q
+lift_some None b done Q c f = tt
+lift_some (Some s) None done Q c f = absurd c
+lift_some (Some s) (Some y) done Q c f = subst Q (sym c) f
+
+pub of_all : (o : Option (List ℕ)) (R : List ℕ → Type 0) → ((y : List ℕ) → R y) → IfSome o R
+of_all None R f = tt
+of_all (Some y) R f = f y
+
+pub of_begun : (a b : Option (List ℕ)) (done : List ℕ) (R : List ℕ → Type 0) → Consumes a b done → ((xs : List ℕ) → R (done ++ xs)) → IfSome a R
+of_begun a b done R c f = lift_some a b done R c (of_all b (λ y. R (done ++ y)) f)
+
 -- What holds where too few bytes are behind those that came.
 module _ (Asks : List ℕ → ℕ → Type 0) (P : List ℕ → Type 0) (short : (done : List ℕ) (count : ℕ) (rest : List ℕ) → Asks done count → length rest < count → P (done ++ rest)) where
   short_of : (a b : Option (List ℕ)) (done : List ℕ) (count : ℕ) → Asks done count → Consumes a b done → IfSome b (λ ys. length ys < count) → IfSome a P
-  short_of None b done count k c f = tt
-  short_of (Some xs) None done count k c f = absurd c
-  short_of (Some xs) (Some ys) done count k c f = subst P (sym c) (short done count ys k f)
+  short_of a b done count k c f = lift_some a b done P c (IfSome_then b f (λ ys. short done count ys k))
 
   few_of_front : (b : Option (List ℕ)) (m count : ℕ) → m < count → IfSome (option_map (take m) b) (λ ys. length ys < count)
   few_of_front None m count l = tt

@@ -1,15 +1,16 @@
 -- The answer to `exts4`, as the plain program goes through it.
-use Rattle.std.proofs.Common.{◌≡◌, ℕ, zero, suc, ◌≤◌, List, [], ◌∷◌, ◌++◌, length, take, drop, get_or, true, refl, ap, ◌∙◌, arith, append_assoc, append-nil}
+use Rattle.std.proofs.Common.{◌≡◌, ℕ, zero, suc, ◌≤◌, List, [], ◌∷◌, ◌++◌, length, take, drop, get_or, true, refl, sym, ap, ◌∙◌, arith, append_assoc, append-nil}
 use Rattle.std.proofs.lemmas.List.{length-take-le}
 use Rattle.ip_base.specs.declared.len_source.LenSource.TheVariants.{Slice}
 use Rattle.ip_spec.specs.Chain.{ExtHeader, IsNext, IsEnd, leads_to}
 use Rattle.ip_spec.specs.Parse.{rest_behind, fault_behind}
-use Rattle.ip_spec.proofs.HeaderLemmas.{header-least}
-use Rattle.ip_spec.proofs.DemandKinds.{one_of_first, one_of_none}
+use Rattle.ip_spec.specs.Prefix.{NoPrefix}
+use Rattle.ip_spec.specs.Header.{IsAuthHeader, auth}
+use Rattle.ip_spec.proofs.HeaderLemmas.{header-least, auth_of}
 use Rattle.ip_ext_headers.specs.Fault.{auth_fault}
 use Rattle.ip_ext_ipv4.specs.Ipv4Fault.{ipv4_faults}
 use Rattle.ip_ext_ipv4.specs.Ipv4Longest.{longest_ipv4_chain}
-use Rattle.ip_ext_ipv4.proofs.Ipv4Lemmas.{ipv4_longest-is}
+use Rattle.ip_ext_ipv4.proofs.Ipv4Lemmas.{answer_of_one, answer_of_none}
 use Rattle.ipexts_tool.specs.Exts4.{exts4_answer}
 use Rattle.ipexts_tool.specs.Parts.{header_line, header_lines, next_line, ipv4_end_line, ok_line}
 
@@ -27,7 +28,7 @@ pub exts4_one : (n : ℕ) (s : List ℕ) (k : ℕ) → n ≡ 51 → k ≤ length
     → exts4_answer n s ≡ header_line 0 51 k ++ next_line (get_or s 0 0) (length (drop k s)) ++ ok_line
 exts4_one n s k e enough next =
     let h : ExtHeader = record { number = 51; bytes = take k s } in
-    let is : longest_ipv4_chain 51 s ≡ h ∷ [] = ipv4_longest-is 51 s (h ∷ []) (one_of_first 51 51 s h next refl) in
+    let is : longest_ipv4_chain 51 s ≡ h ∷ [] = sym (answer_of_one (λ c. c) 51 s (h ∷ []) (take k s) _ _ refl (auth_of 51 (take k s) refl next.header) next.prefix refl refl refl).value in
     let len : length (take k s) ≡ k = length-take-le k s enough in
     let all : length (take k s ++ []) ≡ k = ap length (append-nil (take k s)) ∙ len in
     let least : 8 ≤ k = omega (arith, header-least 51 (take k s) next.header, len) in
@@ -38,7 +39,9 @@ exts4_one n s k e enough next =
     ∙ ap (λ m. header_line 0 51 k ++ next_line m (length (drop k s)) ++ ok_line) (first_byte k s least)
 
 pub exts4_none : (n : ℕ) (s : List ℕ) → n ≡ 51 → IsEnd true 51 s → exts4_answer n s ≡ next_line 51 (length s) ++ ipv4_end_line (auth_fault Slice (length s) 0 s)
-exts4_none n s e end = ap (λ m. exts4_answer m s) e ∙ ap (told s) (ipv4_longest-is 51 s [] (one_of_none 51 51 s (λ z. end)))
+exts4_none n s e end =
+    let none : NoPrefix IsAuthHeader s = λ b h p. end (record { number = 51; bytes = b }) (record { number = refl; header = auth refl h; prefix = p; zero_only_first = λ z. refl }) in
+    ap (λ m. exts4_answer m s) e ∙ ap (told s) (sym (answer_of_none (λ c. c) 51 s [] _ (λ z. none) refl refl).value)
 
 -- Parts that were appended one after the other.
 pub two_joined : (text next end t₁ t₂ : List ℕ) → t₁ ≡ text ++ next → t₂ ≡ t₁ ++ end → t₂ ≡ text ++ (next ++ end)

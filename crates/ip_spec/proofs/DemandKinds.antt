@@ -49,19 +49,6 @@ at_most_one_of m =
     (λ c a. record { one = a.0; number = a.1 })
     (λ c a. (a.one, a.number))
 
--- where a header of number m is first, it alone is the longest, and else there is none
-pub one_of_first : (m n : ℕ) (s : List ℕ) (h : ExtHeader) → IsNext true n s h → n ≡ m → IsLongestUnder (AtMostOneOf m) n s (h ∷ [])
-one_of_first m n s h x e =
-    longest_at_end_under (AtMostOneOf m) (at_most_one_of m) n s (h ∷ [])
-    (goes_on n s [] h (no_header_prefix n s) x, record { one = omega arith; number = (x.number ∙ e, tt) })
-    (λ g y q. omega (arith, q.one))
-
-pub one_of_none : (m n : ℕ) (s : List ℕ) → (n ≡ m → IsEnd true n s) → IsLongestUnder (AtMostOneOf m) n s []
-one_of_none m n s e =
-    longest_at_end_under (AtMostOneOf m) (at_most_one_of m) n s []
-    (no_header_prefix n s, (at_most_one_of m).empty)
-    (λ g y q. e (sym y.number ∙ q.number.0) g y)
-
 -- at most j bytes, which only grow
 abbrev pub IsWithin : ℕ → List ExtHeader → Type 0
 IsWithin j c = length (bytes_of c) ≤ j

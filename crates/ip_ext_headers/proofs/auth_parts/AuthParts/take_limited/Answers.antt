@@ -3,7 +3,7 @@ use Rattle.ip_base.specs.declared.err.layer.Layer.TheVariants.{IpAuthHeader as A
 use Rattle.ip_spec.specs.Requests.{AuthAsks, auth_start, auth_icv}
 use Rattle.ip_spec.proofs.RequestLemmas.{auth_joined, auth_joined_fields}
 use Rattle.ip_io.proofs.ReadingLemmas.{taken_none, taken_more, refused_in_layer}
-use Rattle.ip_ext_headers.proofs.AuthLemmas.{limited_refused, limited_short}
+use Rattle.ip_ext_headers.proofs.AuthLemmas.{limited_refused, limited_fault}
 use Rattle.ip_ext_headers.proofs.auth_parts.AuthParts.take_limited.Goals as goal
 
 pub returns-in-Err-clause-refused : goal.returns-in-Err-clause-refused
@@ -13,10 +13,7 @@ returns-in-Err-clause-refused g c =
     (ap g.T.ExactRead.has_failed c.start_layer.ensures.reader) (auth_start refl refl) c.in-Err.ensures.refuses c.in-Err.ensures.stays))
 
 pub returns-in-Err-clause-fault : goal.returns-in-Err-clause-fault
-returns-in-Err-clause-fault g c =
-    let t = taken_none g.T.ExactRead.bytes_left AuthLayer c.args.reader.now c.start_layer.new.self c.start_layer.ensures.reader c.start_layer.ensures.limits in
-    rw c.of_limited.ensures (limited_short g.T.ExactRead.bytes_left g.T.ExactRead.is_steady g.T.ExactRead.has_failed _ c.read_exact.new.self _ (refused_in_layer _ _ _ _ AuthAsks _ _ _ [] _ _ t (ap g.T.ExactRead.is_steady c.start_layer.ensures.reader)
-    (ap g.T.ExactRead.has_failed c.start_layer.ensures.reader) (auth_start refl refl) c.in-Err.ensures.refuses c.in-Err.ensures.stays))
+returns-in-Err-clause-fault g c = limited_fault g.T.ExactRead.bytes_left g.T.ExactRead.is_steady g.T.ExactRead.has_failed _ c.read_exact.new.self c.of_limited.result (returns-in-Err-clause-refused g c)
 
 pub returns-then-payload_len-eq0-clause-refused : goal.returns-then-payload_len-eq0-clause-refused
 returns-then-payload_len-eq0-clause-refused g c =
@@ -39,11 +36,7 @@ returns-in-Err-read_exact-clause-refused g c =
 
 pub returns-in-Err-read_exact-clause-fault : goal.returns-in-Err-read_exact-clause-fault
 returns-in-Err-read_exact-clause-fault g c =
-    let h : List ℕ = c.read_exact.new.buf in
-    let t = taken_none g.T.ExactRead.bytes_left AuthLayer c.args.reader.now c.start_layer.new.self c.start_layer.ensures.reader c.start_layer.ensures.limits in
-    let u = taken_more _ _ _ _ c.read_exact.new.self [] h _ t (omega arith) c.in-Ok.ensures.takes c.in-Ok.ensures.within c.in-Ok.ensures.limits in
-    rw c.of_limited-in-Err-read_exact.ensures (limited_short g.T.ExactRead.bytes_left g.T.ExactRead.is_steady g.T.ExactRead.has_failed _ c.read_exact-2.new.self _ (refused_in_layer _ _ _ _ AuthAsks _ _ _ h _ _ u (c.in-Ok.ensures.steady ∙ ap g.T.ExactRead.is_steady c.start_layer.ensures.reader)
-    (c.in-Ok.ensures.kept ∙ ap g.T.ExactRead.has_failed c.start_layer.ensures.reader) (auth_icv (omega arith) (omega arith) (search rules)) c.in-Err-read_exact.ensures.refuses c.in-Err-read_exact.ensures.stays))
+    limited_fault g.T.ExactRead.bytes_left g.T.ExactRead.is_steady g.T.ExactRead.has_failed _ c.read_exact-2.new.self c.of_limited-in-Err-read_exact.result (returns-in-Err-read_exact-clause-refused g c)
 
 pub returns-in-Ok-read_exact-clause-header : goal.returns-in-Ok-read_exact-clause-header
 returns-in-Ok-read_exact-clause-header g c =

@@ -1,33 +1,24 @@
 -- A write of a value that some chain spells, or that was read from bytes, is refused for want of memory alone.
 use Rattle.std.proofs.Common.{◌≡◌, ◌∙◌, ℕ, List, ap, sym, refl, true}
-use Rattle.std.specs.Prelude.{⊤, Option, Some, None, Err, is_some}
+use Rattle.std.specs.Prelude.{⊤, Option, Err, is_some}
 use Rattle.std.specs.declared.result.Result.{Result}
 use Rattle.std.specs.Borrow.{Bor}
 use Rattle.std.specs.Option.{option_map}
 use Rattle.std.specs.declared.alloc.AllocError.{AllocError}
 use Rattle.ip_spec.specs.Chain.{ExtHeader, leads_to}
 use Rattle.ip_spec.specs.Encoding.{AreBytes}
-use Rattle.ip_spec.specs.Walk.{leads, hop_by_hop_not_at_start, not_referenced, IsSpelling}
+use Rattle.ip_spec.specs.Walk.{IsSpelling}
+use Rattle.ip_spec.proofs.WalkLemmas.{is_some-map}
 use Rattle.ip_spec.proofs.SpellingLemmas.{one_answer, spelled_leads}
 use Rattle.ip_ext_chains.specs.Fitting.{fitting_chain}
 use Rattle.ip_ext_chains.specs.Ipv6Extensions.{value_of, placed_fields}
-use Rattle.ip_ext_chains.specs.Walk.{walk_answer}
 use Rattle.ip_ext_chains.specs.Write.{IsWalkFault}
 use Rattle.ip_ext_chains.specs.WriteError.{io_of}
 use Rattle.ip_ext_chains.specs.declared.ipv6_exts.Ipv6Extensions.{Ipv6Extensions}
 use Rattle.ip_ext_errors.specs.declared.ipv6_exts.exts_walk_error.ExtsWalkError.{ExtsWalkError}
-use Rattle.ip_ext_errors.specs.declared.ipv6_exts.exts_walk_error.ExtsWalkError.TheVariants.{HopByHopNotAtStart, ExtNotReferenced}
 use Rattle.ip_ext_chains.specs.declared.err.ipv6_exts.header_write_error.HeaderWriteError.{HeaderWriteError}
 use Rattle.ip_ext_chains.specs.declared.err.ipv6_exts.header_write_error.HeaderWriteError.TheVariants.{Io, Content}
-
--- a fault doesn't lead on
-pub no_fault : (e : ExtsWalkError) (m : ℕ) → walk_answer (Err e) ≡ leads m → ⊥
-no_fault HopByHopNotAtStart m k = let no : hop_by_hop_not_at_start ≡ leads m = k in cc
-no_fault (ExtNotReferenced n) m k = let no : not_referenced n.0 ≡ leads m = k in cc
-
-same_some : (o : Option (Bor AllocError)) → is_some (option_map (λ x. x.now) o) ≡ is_some o
-same_some None = refl
-same_some (Some x) = refl
+pub use Rattle.ip_ext_chains.proofs.WriteLemmas.{no_fault}
 
 -- A write of v from n ended with e, of which `o` shows the refusal of memory.
 module _ (v : Ipv6Extensions) (n : ℕ) (old new : List ℕ) (o : Option (Bor AllocError)) where
@@ -36,7 +27,7 @@ module _ (v : Ipv6Extensions) (n : ℕ) (old new : List ℕ) (o : Option (Bor Al
   IsContent r = (fault : ExtsWalkError) → r ≡ Err (Content fault) → IsWalkFault v n old new fault
 
   ended : (e : HeaderWriteError) → ((fault : ExtsWalkError) → IsWalkFault v n old new fault → ⊥) → IsContent (Err e) → option_map (λ x. x.now) o ≡ io_of e → is_some o ≡ true
-  ended (Io x) none k as_place = sym (same_some o) ∙ ap is_some as_place
+  ended (Io x) none k as_place = sym (is_some-map (λ x. x.now) o) ∙ ap is_some as_place
   ended (Content x) none k as_place = absurd (none x (k x refl))
 
   pub spelled_refused : (e : HeaderWriteError) (d : List ExtHeader) → IsSpelling (placed_fields v) n d → IsContent (Err e) → option_map (λ x. x.now) o ≡ io_of e → is_some o ≡ true

@@ -26,6 +26,11 @@ use Rattle.ip_ext_errors.specs.declared.ipv6_exts.exts_walk_error.ExtsWalkError.
 use Rattle.ip_ext_chains.proofs.FittingLemmas.{fitting_longest, other_answers}
 use Rattle.ip_ext_chains.proofs.PlacedFieldsLemmas.{placed_fields-value_of, placed_fields_one, exts_sum}
 
+-- a fault doesn't lead on
+pub no_fault : (e : ExtsWalkError) (m : ℕ) → walk_answer (Err e) ≡ leads m → ⊥
+no_fault HopByHopNotAtStart m k = let no : hop_by_hop_not_at_start ≡ leads m = k in cc
+no_fault (ExtNotReferenced n) m k = let no : not_referenced n.0 ≡ leads m = k in cc
+
 module _ (v : Ipv6Extensions) (n : ℕ) where
   -- a chain has the value v where its headers say what v holds
   value_is : (c : List ExtHeader) → IsValueOf c (placed_fields v) → v ≡ value_of c
@@ -60,14 +65,10 @@ module _ (v : Ipv6Extensions) (n : ℕ) where
       (subst AreBytes l.has.0.prefix (All-take (λ x. x < 256) (length (bytes_of (fitting_chain n s))) s bytes))
       (value_holds (fitting_chain n s) (sym e))
 
-  leads_differ : (m : ℕ) (e : ExtsWalkError) → leads m ≡ walk_answer (Err e) → ⊥
-  leads_differ m HopByHopNotAtStart e = let no : leads m ≡ hop_by_hop_not_at_start = e in cc
-  leads_differ m (ExtNotReferenced k) e = let no : leads m ≡ not_referenced k.0 = e in cc
-
   -- a value that is read from bytes has no fault
   pub fault_unread : (e : ExtsWalkError) → IsWalkAnswer (placed_fields v) n (walk_answer (Err e)) → (s : List ℕ) → AreBytes s → value_of (fitting_chain n s) ≡ v → ⊥
   fault_unread e a s bytes k =
-      leads_differ _ e (one_answer (placed_fields v) n _ (walk_answer (Err e)) (spelled_leads (placed_fields v) n (cleared_chain (fitting_chain n s)) (read_spelled s bytes k)) a)
+      no_fault e _ (one_answer (placed_fields v) n (walk_answer (Err e)) _ a (spelled_leads (placed_fields v) n (cleared_chain (fitting_chain n s)) (read_spelled s bytes k)))
 
   module _ (old new : List ℕ) (w : IsWritten v n old new) where
     pub written_len : length new ≡ length old + exts_len v

@@ -10,7 +10,7 @@ use Rattle.ip_spec.specs.Fields.{next_header}
 use Rattle.ip_spec.specs.Chain.{ExtHeader, IsChain, headers_within}
 use Rattle.ip_spec.specs.Demand.{AtMostOneOf, IsLongestUnder}
 use Rattle.ip_spec.proofs.HeaderLemmas.{auth_of}
-use Rattle.ip_spec.proofs.UnderLemmas.{some_longest_under, one_longest_under}
+use Rattle.ip_spec.proofs.UnderLemmas.{some_longest_under}
 use Rattle.ip_spec.proofs.ReadLemmas.{has_read_none, has_read_on, has_read_none_under, read_answers}
 use Rattle.ip_spec.proofs.ShorterLemmas.{longest_shorter}
 use Rattle.ip_spec.proofs.DemandKinds.{at_most_one_of}

@@ -1,13 +1,13 @@
 -- The demands: none, at most so many headers, at most so many bytes, at most one header of one number.
-use Rattle.std.proofs.Common.{◌≡◌, ℕ, ◌≤◌, List, [], ◌∷◌, length, take, drop, refl, ap, sym, ◌∙◌, arith, inl, inr, ◌⊎◌, true}
+use Rattle.std.proofs.Common.{◌≡◌, ℕ, ◌≤◌, List, [], ◌∷◌, length, take, drop, refl, ap, sym, arith, inl, inr, ◌⊎◌}
 use Rattle.std.specs.List.{AllByRecursion}
 use Rattle.std.proofs.lemmas.List.{length-append, take-append-drop, length-take, length-drop}
 use Rattle.std.proofs.lemmas.List.Concat.{flat_map-append}
-use Rattle.ip_spec.specs.Chain.{ExtHeader, bytes_of, IsLongestChain, IsNext, IsEnd}
+use Rattle.ip_spec.specs.Chain.{ExtHeader, bytes_of, IsLongestChain}
 use Rattle.ip_spec.specs.Demand.{IsDemand, IsLongestUnder, KeepsBeginning, NextBreaks, AtMost, AtMostOneOf}
 use Rattle.ip_spec.proofs.HeaderLemmas.{eq_or}
-use Rattle.ip_spec.proofs.StepLemmas.{all_first, goes_on, no_header_prefix}
-use Rattle.ip_spec.proofs.UnderLemmas.{kept_is_longest, longest_at_end_under}
+use Rattle.ip_spec.proofs.StepLemmas.{all_first}
+use Rattle.ip_spec.proofs.UnderLemmas.{kept_is_longest}
 use Rattle.ip_spec.proofs.DemandLemmas.{demand_up_to, demand_both, demand_same}
 pub use Rattle.ip_spec.proofs.UnderLemmas.{no_demand}
 

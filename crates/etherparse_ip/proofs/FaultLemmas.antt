@@ -10,14 +10,14 @@ use Rattle.ip_spec.specs.Numbers.{HOP_BY_HOP, ROUTING, FRAGMENT, AUTHENTICATION,
 use Rattle.ip_spec.specs.Chain.{bytes_of, leads_to, is_empty}
 use Rattle.ip_spec.proofs.PrefixLemmas.{prefix-length}
 use Rattle.ip_spec.proofs.ChainLemmas.{some_longest}
-use Rattle.ip_ext_headers.specs.Fault.{raw_fault, fragment_fault, auth_fault}
+use Rattle.ip_ext_headers.specs.HeaderFault.{raw_fault, fragment_fault, auth_fault}
 use Rattle.ip_ext_headers.specs.declared.err.ip_auth.header_slice_error.HeaderSliceError.{HeaderSliceError as AuthSliceError}
 use Rattle.ip_ext_headers.specs.declared.err.ip_auth.header_slice_error.HeaderSliceError.TheVariants as auth
 use Rattle.ip_ext_slices.specs.Longest.{longest_chain}
 use Rattle.ip_spec.specs.Parse.{rest_behind}
-use Rattle.ip_ext_slices.specs.Fault.{Fault, fault_at, chain_fault, short_at, auth_at, ExtsOffsetFits}
+use Rattle.ip_ext_slices.specs.ChainFault.{Fault, fault_at, chain_fault, short_at, auth_at, ExtsOffsetFits}
 use Rattle.ip_base.specs.Ipv6Header.{payload_length, ipv6_header_fault}
-use Rattle.etherparse_ip.specs.Fault.{ipv6_chain_fault, ipv6_fault_behind, ipv6_lax_fault, ipv6_of_header, ipv6_of_exts}
+use Rattle.etherparse_ip.specs.PacketFault.{ipv6_chain_fault, ipv6_fault_behind, ipv6_lax_fault, ipv6_of_header, ipv6_of_exts}
 use Rattle.ip_ext_slices.specs.declared.err.ipv6_exts.header_slice_error.HeaderSliceError.{HeaderSliceError}
 use Rattle.ip_ext_slices.specs.declared.err.ipv6_exts.header_slice_error.HeaderSliceError.TheVariants.{Len, Content}
 

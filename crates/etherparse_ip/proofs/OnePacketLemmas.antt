@@ -14,7 +14,7 @@ use Rattle.ip_ext_slices.specs.Longest.{longest_chain}
 use Rattle.ip_ext_ipv4.specs.Ipv4Longest.{longest_ipv4_chain}
 use Rattle.etherparse_ip.specs.LenSources.{front, ipv6_len_source}
 use Rattle.etherparse_ip.specs.Packet.{Parts, IsIpv4Packet, IsIpv6Packet}
-use Rattle.etherparse_ip.specs.Fault.{ipv4_behind, ipv6_behind}
+use Rattle.etherparse_ip.specs.PacketFault.{ipv4_behind, ipv6_behind}
 use Rattle.etherparse_ip.specs.Cut.{ipv4_cut, ipv6_cut}
 use Rattle.etherparse_ip.proofs.BaseLemmas.{SaysIpv4, says_ipv4, SaysIpv6, says_ipv6}
 

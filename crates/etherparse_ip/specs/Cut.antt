@@ -8,7 +8,7 @@ use Rattle.ip_ext_slices.specs.Longest.{longest_chain}
 use Rattle.ip_ext_ipv4.specs.Ipv4Longest.{longest_ipv4_chain}
 use Rattle.etherparse_ip.specs.LenSources.{ipv4_len_source, ipv6_len_source}
 use Rattle.etherparse_ip.specs.Packet.{Parts}
-use Rattle.etherparse_ip.specs.Fault.{ipv4_behind, ipv6_behind}
+use Rattle.etherparse_ip.specs.PacketFault.{ipv4_behind, ipv6_behind}
 
 -- of an IPv4 packet
 abbrev pub ipv4_cut : List ℕ → Parts

@@ -1,10 +1,10 @@
 pub mod LenSources
 pub mod Packet
-pub mod Fault
+pub mod PacketFault
 pub mod Cut
 pub mod PacketCause
 pub mod HeadersError
-pub mod HeadersSliceError
+pub mod PacketHeadersError
 pub mod IpSliceError
 pub mod Ipv4SliceError
 pub mod Ipv6SliceError

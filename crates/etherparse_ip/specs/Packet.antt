@@ -4,7 +4,7 @@ use Rattle.ip_base.specs.declared.len_source.LenSource.{LenSource}
 use Rattle.ip_base.specs.Ipv4Header.{IsIpv4Header, total_len, protocol, is_ipv4_fragmenting}
 use Rattle.ip_base.specs.Ipv6Header.{IsIpv6Header, payload_length, ipv6_next_header}
 use Rattle.ip_spec.specs.Chain.{ExtHeader, bytes_of, has_fragmenting}
-use Rattle.ip_ext_slices.specs.Parse.{IsChainAnswer}
+use Rattle.ip_ext_slices.specs.ChainAnswer.{IsChainAnswer}
 use Rattle.ip_ext_ipv4.specs.Ipv4Parse.{IsIpv4Answer}
 use Rattle.etherparse_ip.specs.LenSources.{front, ipv4_len_source, ipv6_len_source}
 

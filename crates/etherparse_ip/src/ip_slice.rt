@@ -3,8 +3,8 @@ ghost use Rattle.std.specs.Option.{option_map};
 ghost use Rattle.std.specs.Result.{result_err};
 ghost use Rattle.std.specs.Net.Addr.{is_ipv4};
 ghost use Rattle.ip_base.specs.Ipv4Header.{version};
-ghost use Rattle.etherparse_ip.specs.Fault.{ip_fault_of_ipv4, ip_fault_of_ipv6, ip_fault};
-ghost use Rattle.etherparse_ip.specs.Fault.{ipv4_fault, ipv6_fault};
+ghost use Rattle.etherparse_ip.specs.PacketFault.{ip_fault_of_ipv4, ip_fault_of_ipv6, ip_fault};
+ghost use Rattle.etherparse_ip.specs.PacketFault.{ipv4_fault, ipv6_fault};
 
 use crate::err::ip::{HeaderError, HeadersError, SliceError};
 use crate::err::{Layer, LenError, ip_auth, ipv6_exts};

@@ -3,11 +3,11 @@ ghost use Rattle.std.specs.Result.{result_err};
 ghost use Rattle.ip_base.specs.Ipv6Header.{payload_length, ipv6_header_fault};
 ghost use Rattle.ip_base.specs.Ipv6HeaderSlice.{bytes};
 ghost use Rattle.ip_spec.specs.Prefix.{IsPrefix};
-ghost use Rattle.ip_ext_slices.specs.Fault.{ExtsOffsetFits};
+ghost use Rattle.ip_ext_slices.specs.ChainFault.{ExtsOffsetFits};
 ghost use Rattle.ip_ext_slices.specs.Ipv6ExtensionsSlice.{headers_in};
 ghost use Rattle.etherparse_ip.specs.Packet.{IsIpv6Packet};
-ghost use Rattle.etherparse_ip.specs.Fault.{exts_in_packet, ipv6_chain_fault};
-ghost use Rattle.etherparse_ip.specs.Fault.{ipv6_fault_behind, ipv6_fault, ipv6_lax_fault};
+ghost use Rattle.etherparse_ip.specs.PacketFault.{exts_in_packet, ipv6_chain_fault};
+ghost use Rattle.etherparse_ip.specs.PacketFault.{ipv6_fault_behind, ipv6_fault, ipv6_lax_fault};
 
 use crate::err::ipv6::{HeaderSliceError, SliceError};
 use crate::err::{Layer, LenError, ipv6_exts};

@@ -2,7 +2,7 @@
 use Rattle.std.specs.Prelude.{ℕ, List, length, Bool, true, false}
 use Rattle.ip_spec.specs.Chain.{bytes_of, leads_to, has_fragmenting}
 use Rattle.ip_ext_slices.specs.Longest.{longest_chain}
-use Rattle.ip_ext_slices.specs.Fault.{chain_fault}
+use Rattle.ip_ext_slices.specs.ChainFault.{chain_fault}
 use Rattle.ip_ext_ipv4.specs.Ipv4Longest.{longest_ipv4_chain}
 use Rattle.ip_ext_ipv4.specs.Ipv4Fault.{ipv4_chain_fault}
 use Rattle.ip_cuts.specs.FaultFields.{chain_fault_fields, ipv4_chain_fault_fields}

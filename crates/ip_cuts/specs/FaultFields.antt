@@ -15,7 +15,7 @@ use Rattle.ip_ext_headers.specs.declared.err.ip_auth.header_slice_error.HeaderSl
 use Rattle.ip_ext_headers.specs.declared.err.ip_auth.header_slice_error.HeaderSliceError.TheVariants as auth
 use Rattle.ip_ext_slices.specs.declared.err.ipv6_exts.header_slice_error.HeaderSliceError.{HeaderSliceError as ExtsSliceError}
 use Rattle.ip_ext_slices.specs.declared.err.ipv6_exts.header_slice_error.HeaderSliceError.TheVariants as exts
-use Rattle.ip_ext_slices.specs.Fault.{Fault}
+use Rattle.ip_ext_slices.specs.ChainFault.{Fault}
 use Rattle.etherparse_ip.specs.declared.err.ip.header_error.HeaderError.{HeaderError}
 use Rattle.etherparse_ip.specs.declared.err.ip.header_error.HeaderError.TheVariants.{UnsupportedIpVersion, Ipv4HeaderLengthSmallerThanHeader}
 use Rattle.etherparse_ip.specs.declared.err.ip.headers_error.HeadersError.{HeadersError}

@@ -4,6 +4,6 @@ pub mod ChainCut
 pub mod ChainCursor
 pub mod PacketCut
 pub mod HeaderFields
-pub mod Links
+pub mod LinkedCuts
 pub mod InPlaces
 pub mod Written

@@ -5,7 +5,7 @@ use Rattle.ip_spec.specs.Chain.{bytes_of}
 use Rattle.ip_base.specs.Ipv4Header.{version}
 use Rattle.etherparse_ip.specs.Packet.{Parts}
 use Rattle.etherparse_ip.specs.Cut.{ipv4_cut, ipv6_cut}
-use Rattle.etherparse_ip.specs.Fault.{ip_fault, ipv6_lax_fault}
+use Rattle.etherparse_ip.specs.PacketFault.{ip_fault, ipv6_lax_fault}
 use Rattle.ip_cuts.specs.HeaderCut.{cuts_from, filled}
 use Rattle.ip_cuts.specs.ChainCut.{flag}
 use Rattle.ip_cuts.specs.FaultFields.{packet_fault_fields, ipv6_fault_fields, len_source_code}

@@ -1,5 +1,5 @@
 ghost use Rattle.std.specs.Prelude.{◌≡◌};
-ghost use Rattle.ip_cuts.specs.Links.{first_number, linked_cuts};
+ghost use Rattle.ip_cuts.specs.LinkedCuts.{first_number, linked_cuts};
 
 use crate::header_cut::HeaderCut;
 

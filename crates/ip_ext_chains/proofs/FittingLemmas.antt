@@ -21,9 +21,9 @@ use Rattle.ip_spec.proofs.RunsLemmas.{chain_behind}
 use Rattle.ip_ext_slices.specs.Longest.{longest_chain}
 use Rattle.ip_ext_chains.specs.Fitting.{fitting_chain, fitting_faults, fitting_fault, IsFittingAnswer, IsPlacedAnswer}
 use Rattle.ip_base.specs.declared.len_source.LenSource.TheVariants.{Slice}
-use Rattle.ip_ext_slices.specs.Fault.{Fault, fault_at, chain_faults, chain_fault}
+use Rattle.ip_ext_slices.specs.ChainFault.{Fault, fault_at, chain_faults, chain_fault}
 use Rattle.ip_ext_chains.specs.Ipv6Extensions.{value_of}
-use Rattle.ip_ext_chains.specs.Places.{ArePlaced, is_taken_in, value_at, AreOfNumber}
+use Rattle.ip_ext_chains.specs.Slots.{ArePlaced, is_taken_in, value_at, AreOfNumber}
 use Rattle.ip_ext_chains.specs.Run.{IsRun}
 use Rattle.ip_ext_slices.specs.declared.ipv6_ext_slice.Ipv6ExtensionSlice.{Ipv6ExtensionSlice}
 use Rattle.ip_ext_chains.specs.declared.ipv6_exts.Ipv6Extensions.{Ipv6Extensions}

@@ -10,7 +10,7 @@ use Rattle.ip_spec.proofs.FirstLemmas.{find_passes}
 use Rattle.ip_spec.proofs.PlaceLemmas.{has_routing, is_of}
 use Rattle.ip_spec.proofs.WalkLemmas.{is_some-map}
 use Rattle.ip_ext_slices.specs.Ipv6ExtensionSlice.{header_of}
-use Rattle.ip_ext_chains.specs.Places.{at, ArePlaced, place_in, is_taken_in, raw_at, value_at, AreOfNumber}
+use Rattle.ip_ext_chains.specs.Slots.{at, ArePlaced, place_in, is_taken_in, raw_at, value_at, AreOfNumber}
 use Rattle.ip_ext_chains.specs.Ipv6Extensions.{raw_in, value_of}
 use Rattle.ip_ext_slices.specs.declared.ipv6_ext_slice.Ipv6ExtensionSlice.{Ipv6ExtensionSlice}
 use Rattle.ip_ext_chains.specs.declared.places.Places.{Places}

@@ -20,12 +20,12 @@ use Rattle.ip_io.specs.Reading.{IsTakenInLayer, IsRefusedInLayer, IsRefusedWithi
 use Rattle.ip_io.specs.declared.io.limited_reader.LimitedReader.{LimitedReader}
 use Rattle.ip_io.proofs.ReadingLemmas.{lift_some, of_all, of_begun, refused_short, refused_within_short, past_limit_short}
 use Rattle.ip_ext_errors.specs.declared.ip_auth.header_error.HeaderError.TheVariants.{ZeroPayloadLen}
-use Rattle.ip_ext_slices.specs.Fault.{Fault, short_at, fault_at}
+use Rattle.ip_ext_slices.specs.ChainFault.{Fault, short_at, fault_at}
 use Rattle.ip_ext_errors.specs.declared.ipv6_exts.header_error.HeaderError.TheVariants.{HopByHopNotAtStart, IpAuth}
 use Rattle.ip_ext_slices.specs.declared.err.ipv6_exts.header_slice_error.HeaderSliceError.TheVariants as slice
 use Rattle.ip_ext_slices.proofs.RequestFaultLemmas.{asks_fault, zero_fault}
 use Rattle.ip_ext_chains.specs.ReadError.{HasError, IsTooShort, IsSliceError, IsSliceErrorInLayers, of_limited_error}
-use Rattle.ip_ext_chains.specs.Reading.{AreTaken, AreTakenInLayers, IsChainRefused, IsHeaderRefused, IsHeaderRefusedInLayer, layer_of, limits_behind}
+use Rattle.ip_ext_chains.specs.ChainReading.{AreTaken, AreTakenInLayers, IsChainRefused, IsHeaderRefused, IsHeaderRefusedInLayer, layer_of, limits_behind}
 use Rattle.ip_ext_chains.specs.declared.err.ipv6_exts.header_read_error.HeaderReadError.{HeaderReadError}
 use Rattle.ip_ext_chains.specs.declared.err.ipv6_exts.header_read_error.HeaderReadError.TheVariants as read
 use Rattle.ip_ext_chains.specs.declared.err.ipv6_exts.header_limited_read_error.HeaderLimitedReadError.{HeaderLimitedReadError}

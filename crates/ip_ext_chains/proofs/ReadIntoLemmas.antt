@@ -6,7 +6,7 @@ use Rattle.ip_base.specs.declared.ip_number_impl.IpNumber.{IpNumber}
 use Rattle.ip_spec.specs.Header.{IsHeader, IsRawHeader, IsFragmentHeader, IsAuthHeader, raw, fragment, auth}
 use Rattle.ip_spec.specs.Fields.{RawFields, FragmentFields, AuthFields, raw_fields, fragment_fields, auth_fields}
 use Rattle.ip_spec.specs.Places.{Place, number_in, hop_by_hop, destination, routing, fragment as fragment_place, authentication, final_destination}
-use Rattle.ip_ext_chains.specs.Reading.{IsHeaderRead, IsReadInto, with_header, routing_fields}
+use Rattle.ip_ext_chains.specs.ChainReading.{IsHeaderRead, IsReadInto, with_header, routing_fields}
 use Rattle.ip_ext_chains.specs.declared.ipv6_exts.Ipv6Extensions.{Ipv6Extensions}
 use Rattle.ip_ext_chains.specs.declared.ipv6_routing_exts.Ipv6RoutingExtensions.{Ipv6RoutingExtensions}
 

@@ -21,7 +21,7 @@ use Rattle.ip_spec.proofs.FitsLemmas.{fits_places}
 use Rattle.ip_spec.proofs.PlaceLemmas.{has_routing, place_number, in_both, own_place, final_behind, is_extension, placed, fits_more}
 use Rattle.ip_ext_chains.specs.Fitting.{IsFittingAnswer}
 use Rattle.ip_ext_chains.specs.Ipv6Extensions.{value_of, placed_fields, final_of}
-use Rattle.ip_ext_chains.specs.Reading.{with_header, IsNextPlace, HasNoPlace, IsReadInto}
+use Rattle.ip_ext_chains.specs.ChainReading.{with_header, IsNextPlace, HasNoPlace, IsReadInto}
 use Rattle.ip_ext_chains.specs.declared.ipv6_exts.Ipv6Extensions.{Ipv6Extensions}
 use Rattle.ip_ext_chains.specs.declared.ipv6_routing_exts.Ipv6RoutingExtensions.{Ipv6RoutingExtensions}
 use Rattle.ip_ext_chains.proofs.PlacedLemmas.{mapped_if}

@@ -7,7 +7,7 @@ use Rattle.ip_spec.specs.Encoding.{cleared_chain}
 use Rattle.ip_spec.specs.Runs.{joined}
 use Rattle.ip_spec.specs.Walk.{IsSpelling}
 use Rattle.ip_ext_slices.specs.Longest.{longest_chain}
-use Rattle.ip_ext_chains.specs.Runs.{runs_of, AreSpellings}
+use Rattle.ip_ext_chains.specs.RunsOf.{runs_of, AreSpellings}
 use Rattle.ip_ext_chains.specs.Ipv6Extensions.{placed_fields}
 use Rattle.ip_ext_chains.specs.Ipv6ExtensionsRuns.{start, input, runs_left, values_left, PassesRun, GivesRun}
 use Rattle.ip_ext_chains.specs.declared.ipv6_exts.Ipv6Extensions.{Ipv6Extensions}

@@ -5,7 +5,7 @@ use Rattle.ip_spec.specs.Encoding.{AreBytes}
 use Rattle.ip_spec.specs.Chain.{ExtHeader, leads_to, bytes_of, IsChain}
 use Rattle.ip_spec.proofs.RunsLemmas.{chain_behind, leads_to-append}
 use Rattle.ip_ext_chains.specs.Ipv6Extensions.{value_of}
-use Rattle.ip_ext_chains.specs.Runs.{runs_from}
+use Rattle.ip_ext_chains.specs.RunsOf.{runs_from}
 use Rattle.ip_ext_chains.specs.Run.{IsRun}
 use Rattle.ip_ext_chains.specs.Ipv6ExtensionsRuns.{number_before}
 use Rattle.ip_ext_chains.specs.declared.places.Places.{Places}

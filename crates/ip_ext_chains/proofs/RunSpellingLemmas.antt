@@ -12,7 +12,7 @@ use Rattle.ip_spec.proofs.RunsLemmas.{runs_joined, runs_written, runs_fit, runs_
 use Rattle.ip_spec.proofs.SpellingLemmas.{one_spelling, cleared_spells}
 use Rattle.ip_ext_slices.specs.Longest.{longest_chain}
 use Rattle.ip_ext_chains.specs.Ipv6Extensions.{value_of, placed_fields}
-use Rattle.ip_ext_chains.specs.Runs.{AreSpellings, runs_from}
+use Rattle.ip_ext_chains.specs.RunsOf.{AreSpellings, runs_from}
 use Rattle.ip_ext_chains.specs.Ipv6ExtensionsRuns.{number_before}
 use Rattle.ip_ext_chains.specs.declared.ipv6_exts.Ipv6Extensions.{Ipv6Extensions}
 use Rattle.ip_ext_slices.proofs.LongestLemmas.{longest_chain-longest}

@@ -10,7 +10,7 @@ use Rattle.ip_spec.specs.Runs.{AreRuns, joined, how_many}
 use Rattle.ip_spec.proofs.RunsLemmas.{some_runs, one_runs, fewest_runs, some_run, runs_bound, runs_more, runs_end}
 use Rattle.ip_ext_slices.specs.Longest.{longest_chain}
 use Rattle.ip_ext_chains.specs.Ipv6Extensions.{value_of}
-use Rattle.ip_ext_chains.specs.Runs.{runs_from, runs_of}
+use Rattle.ip_ext_chains.specs.RunsOf.{runs_from, runs_of}
 use Rattle.ip_ext_slices.proofs.LongestLemmas.{longest_chain-longest}
 
 pub runs_from-runs : (m : ℕ) (c : List ExtHeader) → AreRuns m c (runs_from m c)

@@ -15,7 +15,7 @@ use Rattle.ip_spec.proofs.WalkStepLemmas.{Walking, walk_begins, walks_on, walk_s
 use Rattle.ip_spec.proofs.LinkLemmas.{next_said}
 use Rattle.ip_spec.proofs.SumLemmas.{sum_without}
 use Rattle.ip_ext_chains.specs.HeaderRef.{fields_of_ref}
-use Rattle.ip_ext_chains.specs.Walk.{left_in, IsStep, IsStop}
+use Rattle.ip_ext_chains.specs.ExtsWalk.{left_in, IsStep, IsStop}
 use Rattle.ip_ext_chains.specs.declared.header_ref.HeaderRef.{HeaderRef}
 use Rattle.ip_ext_chains.specs.declared.walk.Walk.{Walk}
 

@@ -18,7 +18,7 @@ use Rattle.ip_spec.proofs.SpellingLemmas.{one_spelling, spelling_is_reach, one_a
 use Rattle.ip_spec.proofs.SumLemmas.{bytes_len}
 use Rattle.ip_ext_chains.specs.Fitting.{fitting_chain, IsFittingAnswer}
 use Rattle.ip_ext_chains.specs.Ipv6Extensions.{value_of, placed_fields, exts_len}
-use Rattle.ip_ext_chains.specs.Walk.{walk_answer}
+use Rattle.ip_ext_chains.specs.ExtsWalk.{walk_answer}
 use Rattle.ip_ext_chains.specs.Write.{IsWritten, IsWalkFault}
 use Rattle.ip_ext_chains.specs.declared.ipv6_exts.Ipv6Extensions.{Ipv6Extensions}
 use Rattle.ip_ext_errors.specs.declared.ipv6_exts.exts_walk_error.ExtsWalkError.{ExtsWalkError}

@@ -7,9 +7,9 @@ use Rattle.ip_spec.specs.Places.{is_taken}
 use Rattle.ip_spec.proofs.UnderLemmas.{some_longest_under}
 use Rattle.ip_spec.proofs.FitsLemmas.{fits_places}
 use Rattle.ip_spec.specs.Parse.{rest_behind, fault_behind, IsAnswer}
-use Rattle.ip_ext_slices.specs.Fault.{Fault, chain_faults}
+use Rattle.ip_ext_slices.specs.ChainFault.{Fault, chain_faults}
 use Rattle.ip_ext_chains.specs.Ipv6Extensions.{value_of}
-use Rattle.ip_ext_chains.specs.Places.{ArePlaced}
+use Rattle.ip_ext_chains.specs.Slots.{ArePlaced}
 use Rattle.ip_ext_slices.specs.declared.ipv6_ext_slice.Ipv6ExtensionSlice.{Ipv6ExtensionSlice}
 use Rattle.ip_ext_chains.specs.declared.places.Places.{Places}
 use Rattle.ip_ext_chains.specs.declared.ipv6_exts.Ipv6Extensions.{Ipv6Extensions}

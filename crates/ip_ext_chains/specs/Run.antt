@@ -3,7 +3,7 @@ use Rattle.std.specs.Prelude.{◌≡◌, List}
 use Rattle.ip_spec.specs.Chain.{ExtHeader}
 use Rattle.ip_spec.specs.Demand.{KeepsBeginning}
 use Rattle.ip_spec.specs.Fits.{FitsPlaces}
-use Rattle.ip_ext_chains.specs.Places.{ArePlaced}
+use Rattle.ip_ext_chains.specs.Slots.{ArePlaced}
 use Rattle.ip_ext_slices.specs.declared.ipv6_ext_slice.Ipv6ExtensionSlice.{Ipv6ExtensionSlice}
 use Rattle.ip_ext_chains.specs.declared.places.Places.{Places}
 

@@ -5,7 +5,7 @@ use Rattle.ip_spec.specs.Chain.{ExtHeader, leads_to, bytes_of}
 use Rattle.ip_spec.specs.Walk.{leads, IsSpelling, IsWalkAnswer}
 use Rattle.ip_ext_chains.specs.Fitting.{fitting_chain}
 use Rattle.ip_ext_chains.specs.Ipv6Extensions.{value_of, placed_fields}
-use Rattle.ip_ext_chains.specs.Walk.{walk_answer}
+use Rattle.ip_ext_chains.specs.ExtsWalk.{walk_answer}
 use Rattle.ip_ext_chains.specs.declared.ipv6_exts.Ipv6Extensions.{Ipv6Extensions}
 use Rattle.ip_ext_errors.specs.declared.ipv6_exts.exts_walk_error.ExtsWalkError.{ExtsWalkError}
 

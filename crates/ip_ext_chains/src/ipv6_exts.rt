@@ -7,7 +7,7 @@ ghost use Rattle.ip_spec.specs.Encodable.{IsEncodable};
 ghost use Rattle.ip_spec.specs.Fits.{FitsPlaces};
 ghost use Rattle.ip_ext_headers.specs.Ipv6RawExtHeaderSlice.{bytes};
 ghost use Rattle.ip_ext_chains.specs.Fitting.{fitting_chain, fitting_fault, IsFittingAnswer, IsPlacedAnswer};
-ghost use Rattle.ip_ext_chains.specs.Places.{AreOfNumber, value_at};
+ghost use Rattle.ip_ext_chains.specs.Slots.{AreOfNumber, value_at};
 ghost use Rattle.ip_ext_chains.specs.Ipv6Extensions.{value_of, placed_fields, exts_len, has_none, is_fragmented};
 
 use crate::err::Layer;
@@ -241,8 +241,8 @@ impl Clone for Ipv6Extensions {
 impl PartialEq for Ipv6Extensions {
     ghost use Rattle.std.specs.Prelude.{◌↔◌, IsTrue};
     ghost use Rattle.std.specs.Cmp.{partial_equiv_from_equiv};
-    ghost use Rattle.ip_ext_chains.specs.Equal.{exts_equivalence};
-    ghost use Rattle.ip_ext_chains.specs.Equal.{exts_equal};
+    ghost use Rattle.ip_ext_chains.specs.ExtsEqual.{exts_equivalence};
+    ghost use Rattle.ip_ext_chains.specs.ExtsEqual.{exts_equal};
 
     ghost eq = { exts_equal };
 
@@ -261,7 +261,7 @@ impl PartialEq for Ipv6Extensions {
 }
 
 impl Eq for Ipv6Extensions {
-    ghost use Rattle.ip_ext_chains.specs.Equal.{exts_equivalence};
+    ghost use Rattle.ip_ext_chains.specs.ExtsEqual.{exts_equivalence};
 
     ghost laws = { exts_equivalence };
 }

@@ -10,7 +10,7 @@ ghost use Rattle.ip_io.specs.Reading.{IsHeaderTaken, IsRefused};
 ghost use Rattle.ip_ext_chains.specs.Place.{as_place};
 ghost use Rattle.ip_ext_chains.specs.Ipv6Extensions.{value_of, placed_fields};
 ghost use Rattle.ip_ext_chains.specs.ReadError.{IsSliceError};
-ghost use Rattle.ip_ext_chains.specs.Reading.{AreTaken, IsChainTaken, IsChainRefused, IsHeaderRefused, IsNextPlace, HasNoPlace, IsReadInto, IsHeaderRead, routing_fields};
+ghost use Rattle.ip_ext_chains.specs.ChainReading.{AreTaken, IsChainTaken, IsChainRefused, IsHeaderRefused, IsNextPlace, HasNoPlace, IsReadInto, IsHeaderRead, routing_fields};
 
 use crate::err::ip_auth;
 use crate::err::ipv6_exts::{HeaderError, HeaderReadError};

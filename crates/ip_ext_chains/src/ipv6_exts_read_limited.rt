@@ -11,7 +11,7 @@ ghost use Rattle.ip_io.specs.Reading.{IsHeaderTaken, IsTakenInLayer, IsRefusedIn
 ghost use Rattle.ip_ext_chains.specs.Ipv6Extensions.{value_of};
 ghost use Rattle.ip_ext_chains.specs.Place.{as_place};
 ghost use Rattle.ip_ext_chains.specs.ReadError.{IsSliceErrorInLayers};
-ghost use Rattle.ip_ext_chains.specs.Reading.{AreTakenInLayers, IsChainTaken, IsChainRefused, IsHeaderRefusedInLayer, IsReadInto, IsHeaderRead, routing_fields, layer_of};
+ghost use Rattle.ip_ext_chains.specs.ChainReading.{AreTakenInLayers, IsChainTaken, IsChainRefused, IsHeaderRefusedInLayer, IsReadInto, IsHeaderRead, routing_fields, layer_of};
 
 use crate::err::ipv6_exts::{HeaderError, HeaderLimitedReadError};
 use crate::err::{Layer, ip_auth};

@@ -36,8 +36,8 @@ impl<'a> Ipv6ExtensionsRuns<'a> {
     ghost use Rattle.ip_spec.specs.Encoding.{cleared_chain};
     ghost use Rattle.ip_spec.specs.Fits.{FitsPlaces};
     ghost use Rattle.ip_spec.specs.Runs.{AreRuns, joined, how_many};
-    ghost use Rattle.ip_ext_slices.specs.Fault.{chain_fault};
-    ghost use Rattle.ip_ext_chains.specs.Runs.{runs_of, AreSpellings};
+    ghost use Rattle.ip_ext_slices.specs.ChainFault.{chain_fault};
+    ghost use Rattle.ip_ext_chains.specs.RunsOf.{runs_of, AreSpellings};
     ghost use Rattle.ip_ext_chains.specs.Ipv6Extensions.{value_of};
     ghost use Rattle.ip_ext_chains.specs.Ipv6ExtensionsRuns.{start, input, runs_left, values_left, number_left};
 

@@ -53,8 +53,8 @@ impl Clone for Ipv6RoutingExtensions {
 impl PartialEq for Ipv6RoutingExtensions {
     ghost use Rattle.std.specs.Prelude.{◌↔◌, IsTrue};
     ghost use Rattle.std.specs.Cmp.{partial_equiv_from_equiv};
-    ghost use Rattle.ip_ext_chains.specs.Equal.{routing_equivalence};
-    ghost use Rattle.ip_ext_chains.specs.Equal.{routing_equal};
+    ghost use Rattle.ip_ext_chains.specs.ExtsEqual.{routing_equivalence};
+    ghost use Rattle.ip_ext_chains.specs.ExtsEqual.{routing_equal};
 
     ghost eq = { routing_equal };
 
@@ -70,7 +70,7 @@ impl PartialEq for Ipv6RoutingExtensions {
 }
 
 impl Eq for Ipv6RoutingExtensions {
-    ghost use Rattle.ip_ext_chains.specs.Equal.{routing_equivalence};
+    ghost use Rattle.ip_ext_chains.specs.ExtsEqual.{routing_equivalence};
 
     ghost laws = { routing_equivalence };
 }

@@ -68,7 +68,7 @@ pub(crate) struct Places<T> {
 }
 
 impl<T: Drop> Places<T> {
-    ghost use Rattle.ip_ext_chains.specs.Places.{at, IsVacant, IsPut, IsFreePlace, IsFilled, is_taken_in};
+    ghost use Rattle.ip_ext_chains.specs.Slots.{at, IsVacant, IsPut, IsFreePlace, IsFilled, is_taken_in};
 
     /// Nothing in any place.
     #[inline(always)]
@@ -134,7 +134,7 @@ impl<'a> Places<Ipv6ExtensionSlice<'a>> {
     ghost use Rattle.ip_ext_headers.specs.Ipv6RawExtHeaderSlice as raw_slice;
     ghost use Rattle.ip_ext_headers.specs.Ipv6FragmentHeaderSlice as fragment_slice;
     ghost use Rattle.ip_ext_headers.specs.IpAuthHeaderSlice as auth_slice;
-    ghost use Rattle.ip_ext_chains.specs.Places.{at, raw_at, AreOfNumber};
+    ghost use Rattle.ip_ext_chains.specs.Slots.{at, raw_at, AreOfNumber};
     ghost use Rattle.ip_ext_slices.specs.Ipv6ExtensionSlice.{header_of};
 
     /// The header in a place of the common layout.

@@ -1,6 +1,6 @@
 ghost use Rattle.std.specs.Prelude.{◌≡◌, [], true, false, IsTrue, IsFalse};
 ghost use Rattle.ip_ext_slices.specs.Ipv6ExtensionSliceIter.{headers_left};
-ghost use Rattle.ip_ext_chains.specs.Places.{is_taken_in};
+ghost use Rattle.ip_ext_chains.specs.Slots.{is_taken_in};
 ghost use Rattle.ip_ext_chains.specs.Run.{IsRun};
 
 use crate::places::Places;

@@ -8,7 +8,7 @@ ghost use Rattle.ip_spec.specs.Places.{Place as spec_place, places, raw_header};
 ghost use Rattle.ip_ext_chains.specs.Place.{as_place};
 ghost use Rattle.ip_ext_chains.specs.HeaderRef.{fields_of_ref};
 ghost use Rattle.ip_ext_chains.specs.Ipv6Extensions.{placed_fields};
-ghost use Rattle.ip_ext_chains.specs.Walk.{walk_answer, left_in, IsStep, IsStop};
+ghost use Rattle.ip_ext_chains.specs.ExtsWalk.{walk_answer, left_in, IsStep, IsStop};
 
 use crate::Ipv6Extensions;
 use crate::err::ipv6_exts::ExtsWalkError;

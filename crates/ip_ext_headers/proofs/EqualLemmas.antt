@@ -2,7 +2,7 @@
 use Rattle.std.specs.Cmp.{IsEquivalence}
 use Rattle.std.specs.Cmp.Rules.{comparing}
 use Rattle.std.proofs.Common.{rules}
-use Rattle.ip_ext_headers.specs.Equal.{raw_equal, fragment_equal, auth_equal}
+use Rattle.ip_ext_headers.specs.HeaderEqual.{raw_equal, fragment_equal, auth_equal}
 
 pub raw_equivalence : IsEquivalence raw_equal
 raw_equivalence = search (comparing, rules)

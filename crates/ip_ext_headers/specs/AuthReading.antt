@@ -11,7 +11,7 @@ use Rattle.ip_io.specs.Reading.{IsRefused, IsTakenInLayer, IsPastLimit, IsRefuse
 use Rattle.ip_io.specs.declared.io.limited_reader.LimitedReader.{LimitedReader}
 use Rattle.ip_io.specs.declared.err.io.limited_read_error.LimitedReadError.{LimitedReadError}
 use Rattle.ip_io.specs.declared.err.io.limited_read_error.LimitedReadError.TheVariants as limit
-use Rattle.ip_ext_headers.specs.Fault.{auth_fault}
+use Rattle.ip_ext_headers.specs.HeaderFault.{auth_fault}
 use Rattle.ip_ext_headers.specs.declared.err.ip_auth.header_slice_error.HeaderSliceError.{HeaderSliceError}
 use Rattle.ip_ext_headers.specs.declared.err.ip_auth.header_slice_error.HeaderSliceError.TheVariants as slice
 use Rattle.ip_ext_headers.specs.declared.err.ip_auth.header_read_error.HeaderReadError.{HeaderReadError}

@@ -1,6 +1,6 @@
-pub mod Fault
+pub mod HeaderFault
 pub mod LengthFault
-pub mod Equal
+pub mod HeaderEqual
 pub mod AuthReading
 pub mod AuthSliceError
 pub mod AuthReadError

@@ -68,7 +68,7 @@ impl Model for IpAuthHeader {
 
 impl IpAuthHeader {
     ghost use Rattle.ip_base.specs.declared.len_source.LenSource.TheVariants.{Slice};
-    ghost use Rattle.ip_ext_headers.specs.Fault.{auth_fault};
+    ghost use Rattle.ip_ext_headers.specs.HeaderFault.{auth_fault};
     ghost use Rattle.ip_spec.specs.Lengths.{IsIcvLen};
     ghost use Rattle.ip_ext_headers.specs.LengthFault.{icv_len_fault};
     ghost use Rattle.ip_ext_headers.specs.AuthParts.{fields_in};
@@ -421,7 +421,7 @@ impl PartialEq for IpAuthHeader {
     ghost use Rattle.std.specs.Prelude.{◌≡◌, ◌↔◌, IsTrue};
     ghost use Rattle.std.specs.Cmp.Rules.{comparing};
     ghost use Rattle.std.proofs.Common.{rules};
-    ghost use Rattle.ip_ext_headers.specs.Equal.{auth_equal};
+    ghost use Rattle.ip_ext_headers.specs.HeaderEqual.{auth_equal};
 
     ghost eq = { auth_equal };
 

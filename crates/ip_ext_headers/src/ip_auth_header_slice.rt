@@ -24,7 +24,7 @@ pub struct IpAuthHeaderSlice<'a> {
 impl<'a> IpAuthHeaderSlice<'a> {
     ghost use Rattle.ip_base.specs.LenError.{too_short};
     ghost use Rattle.ip_base.specs.declared.len_source.LenSource.TheVariants.{Slice};
-    ghost use Rattle.ip_ext_headers.specs.Fault.{auth_fault};
+    ghost use Rattle.ip_ext_headers.specs.HeaderFault.{auth_fault};
     ghost use Rattle.ip_ext_headers.specs.IpAuthHeaderSlice.{bytes};
 
     /// The header that begins the slice. The error tells, in this order, that there are fewer than 12 bytes,

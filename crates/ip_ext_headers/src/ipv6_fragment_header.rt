@@ -56,7 +56,7 @@ impl Model for Ipv6FragmentHeader {
 
 impl Ipv6FragmentHeader {
     ghost use Rattle.ip_base.specs.declared.len_source.LenSource.TheVariants.{Slice};
-    ghost use Rattle.ip_ext_headers.specs.Fault.{fragment_fault};
+    ghost use Rattle.ip_ext_headers.specs.HeaderFault.{fragment_fault};
 
     /// The length of each fragment header, in bytes.
     pub const LEN: usize = 8;
@@ -226,7 +226,7 @@ impl PartialEq for Ipv6FragmentHeader {
     ghost use Rattle.std.specs.Prelude.{◌≡◌, ◌↔◌, IsTrue};
     ghost use Rattle.std.specs.Cmp.Rules.{comparing};
     ghost use Rattle.std.proofs.Common.{rules};
-    ghost use Rattle.ip_ext_headers.specs.Equal.{fragment_equal};
+    ghost use Rattle.ip_ext_headers.specs.HeaderEqual.{fragment_equal};
 
     ghost eq = { fragment_equal };
 

@@ -19,7 +19,7 @@ pub struct Ipv6FragmentHeaderSlice<'a> {
 
 impl<'a> Ipv6FragmentHeaderSlice<'a> {
     ghost use Rattle.ip_base.specs.declared.len_source.LenSource.TheVariants.{Slice};
-    ghost use Rattle.ip_ext_headers.specs.Fault.{fragment_fault};
+    ghost use Rattle.ip_ext_headers.specs.HeaderFault.{fragment_fault};
     ghost use Rattle.ip_ext_headers.specs.Ipv6FragmentHeaderSlice.{bytes};
 
     /// The header that begins the slice. The error tells that there are fewer than 8 bytes.

@@ -57,7 +57,7 @@ impl Model for Ipv6RawExtHeader {
 
 impl Ipv6RawExtHeader {
     ghost use Rattle.ip_base.specs.declared.len_source.LenSource.TheVariants.{Slice};
-    ghost use Rattle.ip_ext_headers.specs.Fault.{raw_fault};
+    ghost use Rattle.ip_ext_headers.specs.HeaderFault.{raw_fault};
     ghost use Rattle.ip_spec.specs.Lengths.{IsPayloadLen};
     ghost use Rattle.ip_ext_headers.specs.LengthFault.{payload_len_fault};
 
@@ -332,7 +332,7 @@ impl PartialEq for Ipv6RawExtHeader {
     ghost use Rattle.std.specs.Prelude.{◌≡◌, ◌↔◌, IsTrue};
     ghost use Rattle.std.specs.Cmp.Rules.{comparing};
     ghost use Rattle.std.proofs.Common.{rules};
-    ghost use Rattle.ip_ext_headers.specs.Equal.{raw_equal};
+    ghost use Rattle.ip_ext_headers.specs.HeaderEqual.{raw_equal};
 
     ghost eq = { raw_equal };
 

@@ -25,7 +25,7 @@ pub struct Ipv6RawExtHeaderSlice<'a> {
 impl<'a> Ipv6RawExtHeaderSlice<'a> {
     ghost use Rattle.ip_base.specs.LenError.{too_short};
     ghost use Rattle.ip_base.specs.declared.len_source.LenSource.TheVariants.{Slice};
-    ghost use Rattle.ip_ext_headers.specs.Fault.{raw_fault};
+    ghost use Rattle.ip_ext_headers.specs.HeaderFault.{raw_fault};
     ghost use Rattle.ip_ext_headers.specs.Ipv6RawExtHeaderSlice.{bytes};
 
     /// Whether headers of the number have this layout: hop by hop options, routing, destination options,

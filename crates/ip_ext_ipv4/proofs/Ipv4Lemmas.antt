@@ -3,7 +3,7 @@ use Rattle.std.proofs.Common.{◌≡◌, ℕ, List, [], ◌∷◌, length, take,
 use Rattle.std.specs.Prelude.{Option, Some, None}
 use Rattle.ip_base.specs.declared.len_source.LenSource.TheVariants.{Slice}
 use Rattle.ip_ext_headers.specs.declared.err.ip_auth.header_slice_error.HeaderSliceError.{HeaderSliceError}
-use Rattle.ip_ext_headers.specs.Fault.{auth_fault}
+use Rattle.ip_ext_headers.specs.HeaderFault.{auth_fault}
 use Rattle.ip_spec.specs.Prefix.{NoPrefix, IsPrefix}
 use Rattle.ip_spec.specs.Header.{IsAuthHeader, auth}
 use Rattle.ip_spec.specs.Fields.{next_header}

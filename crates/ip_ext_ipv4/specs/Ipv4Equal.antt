@@ -4,7 +4,7 @@ use Rattle.std.specs.Option.{option_eq}
 use Rattle.std.specs.Cmp.{IsEquivalence}
 use Rattle.std.specs.Cmp.Lexicographic.{options_equiv}
 use Rattle.std.proofs.lemmas.Cmp.{on_equiv}
-use Rattle.ip_ext_headers.specs.Equal.{auth_equal}
+use Rattle.ip_ext_headers.specs.HeaderEqual.{auth_equal}
 use Rattle.ip_ext_headers.proofs.EqualLemmas.{auth_equivalence}
 use Rattle.ip_ext_ipv4.specs.declared.ipv4_exts.Ipv4Extensions.{Ipv4Extensions}
 

@@ -3,7 +3,7 @@ use Rattle.std.specs.Prelude.{ℕ, List, length, Option, None, ◌==◌, ◌&&�
 use Rattle.ip_base.specs.declared.len_source.LenSource.{LenSource}
 use Rattle.ip_base.specs.declared.len_source.LenSource.TheVariants.{Slice}
 use Rattle.ip_ext_headers.specs.declared.err.ip_auth.header_slice_error.HeaderSliceError.{HeaderSliceError}
-use Rattle.ip_ext_headers.specs.Fault.{auth_fault}
+use Rattle.ip_ext_headers.specs.HeaderFault.{auth_fault}
 use Rattle.ip_spec.specs.Numbers.{AUTHENTICATION}
 use Rattle.ip_spec.specs.Chain.{ExtHeader, is_empty}
 use Rattle.ip_spec.specs.Parse.{fault_behind}

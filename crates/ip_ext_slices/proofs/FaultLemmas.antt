@@ -9,8 +9,8 @@ use Rattle.ip_spec.specs.Header.{IsHeader, IsExtensionNumber, IsRawNumber, raw, 
 use Rattle.ip_spec.specs.Chain.{ExtHeader, IsNext, IsEnd}
 use Rattle.ip_spec.proofs.PrefixLemmas.{prefix_of-take}
 use Rattle.ip_spec.proofs.HeaderLemmas.{header_number, raw_begins, fragment_begins, auth_begins}
-use Rattle.ip_ext_headers.specs.Fault.{raw_fault, fragment_fault, auth_fault}
-use Rattle.ip_ext_slices.specs.Fault.{fault_at}
+use Rattle.ip_ext_headers.specs.HeaderFault.{raw_fault, fragment_fault, auth_fault}
+use Rattle.ip_ext_slices.specs.ChainFault.{fault_at}
 
 begins : (first : Bool) (m : ℕ) (r b : List ℕ) → IsHeader m b → take (length b) r ≡ b → (m ≡ 0 → IsTrue first) → (h : ExtHeader) × IsNext first m r h
 begins first m r b h f z = (record { number = m; bytes = b }, record { number = refl; header = h; prefix = f; zero_only_first = z })

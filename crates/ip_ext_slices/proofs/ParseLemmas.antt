@@ -14,8 +14,8 @@ use Rattle.ip_spec.specs.Fields.{next_header, is_fragmenting}
 use Rattle.ip_spec.specs.Chain.{ExtHeader, leads_to, bytes_of, is_empty, has_fragmenting, IsNext, IsEnd}
 use Rattle.ip_spec.proofs.ReadLemmas.{HasRead, has_read_on, offset_is, no_next_here, read_longest}
 use Rattle.ip_ext_slices.specs.Longest.{longest_chain, longest_from}
-use Rattle.ip_ext_slices.specs.Fault.{Fault, slice_fault, chain_fault}
-use Rattle.ip_ext_slices.specs.Parse.{IsChainAnswer}
+use Rattle.ip_ext_slices.specs.ChainFault.{Fault, slice_fault, chain_fault}
+use Rattle.ip_ext_slices.specs.ChainAnswer.{IsChainAnswer}
 use Rattle.ip_ext_slices.specs.Ipv6ExtensionSlice.{header_of}
 use Rattle.ip_ext_slices.specs.Ipv6ExtensionsCursor.{headers_left, GivesHeader}
 use Rattle.ip_ext_slices.specs.declared.ipv6_exts_cursor.Ipv6ExtensionsCursor.{Ipv6ExtensionsCursor}

@@ -9,10 +9,10 @@ use Rattle.ip_base.specs.declared.len_source.LenSource.{LenSource}
 use Rattle.ip_spec.specs.Header.{IsRawNumber, raw, fragment, auth}
 use Rattle.ip_spec.specs.Requests.{Asks, asks_raw, asks_fragment, asks_auth, IsZeroLength}
 use Rattle.ip_spec.specs.Chain.{ExtHeader, IsNext, IsEnd}
-use Rattle.ip_ext_headers.specs.Fault.{raw_fault, fragment_fault, auth_fault}
+use Rattle.ip_ext_headers.specs.HeaderFault.{raw_fault, fragment_fault, auth_fault}
 use Rattle.ip_ext_errors.specs.declared.ip_auth.header_error.HeaderError.TheVariants.{ZeroPayloadLen}
 use Rattle.ip_ext_headers.proofs.FaultLemmas.{raw_at_header, fragment_at_header, auth_at_header, raw_asks_fault, fragment_asks_fault, auth_asks_fault, auth_zero_fault}
-use Rattle.ip_ext_slices.specs.Fault.{Fault, short_at, auth_at, fault_at}
+use Rattle.ip_ext_slices.specs.ChainFault.{Fault, short_at, auth_at, fault_at}
 use Rattle.ip_ext_errors.specs.declared.ipv6_exts.header_error.HeaderError.TheVariants.{IpAuth}
 use Rattle.ip_ext_slices.specs.declared.err.ipv6_exts.header_slice_error.HeaderSliceError.TheVariants.{Content}
 

@@ -1,7 +1,7 @@
 pub mod Longest
-pub mod Fault
+pub mod ChainFault
 pub mod SliceError
-pub mod Parse
+pub mod ChainAnswer
 pub mod StartNumber
 pub mod Ipv6ExtensionSlice
 pub mod Ipv6ExtensionsSlice

@@ -3,7 +3,7 @@ ghost use Rattle.ip_base.specs.declared.len_source.LenSource.TheVariants.{Slice}
 ghost use Rattle.ip_spec.specs.Header.{IsExtensionNumber};
 ghost use Rattle.ip_spec.specs.Parse.{fault_behind};
 ghost use Rattle.ip_spec.specs.Chain.{ExtHeader, IsLongestChain, leads_to};
-ghost use Rattle.ip_ext_slices.specs.Fault.{chain_faults};
+ghost use Rattle.ip_ext_slices.specs.ChainFault.{chain_faults};
 
 /// Where a longest chain leads to the number of an extension header, there is a fault.
 pub fn extension_number_left_has_fault()

@@ -31,7 +31,7 @@ pub struct Ipv6ExtensionsCursor<'a> {
 impl<'a> Ipv6ExtensionsCursor<'a> {
     ghost use Rattle.std.specs.Prelude.{◌≢◌, ◌*◌, [], IfSome, IfNone};
     ghost use Rattle.ip_spec.specs.Chain.{IsLongestChain};
-    ghost use Rattle.ip_ext_slices.specs.Parse.{IsChainAnswer};
+    ghost use Rattle.ip_ext_slices.specs.ChainAnswer.{IsChainAnswer};
     ghost use Rattle.ip_ext_slices.specs.Ipv6ExtensionsCursor.{start, input, number_left, bytes_left, headers_left};
 
     /// The headers of the longest chain from the number that begins the bytes.

@@ -4,8 +4,8 @@ ghost use Rattle.ip_spec.specs.Prefix.{IsPrefix};
 ghost use Rattle.ip_spec.specs.Parse.{rest_behind};
 ghost use Rattle.ip_spec.specs.Chain.{bytes_of, leads_to, headers_within, is_empty, has_fragmenting, IsLongestChain};
 ghost use Rattle.ip_ext_slices.specs.Longest.{longest_chain};
-ghost use Rattle.ip_ext_slices.specs.Fault.{chain_fault};
-ghost use Rattle.ip_ext_slices.specs.Parse.{IsChainAnswer};
+ghost use Rattle.ip_ext_slices.specs.ChainFault.{chain_fault};
+ghost use Rattle.ip_ext_slices.specs.ChainAnswer.{IsChainAnswer};
 ghost use Rattle.ip_ext_slices.specs.StartNumber.{start_number};
 
 use crate::err::Layer;

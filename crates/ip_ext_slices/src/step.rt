@@ -3,7 +3,7 @@ ghost use Rattle.std.specs.Prelude.{◌≡◌, ◌≤◌, ◌+◌, ◌*◌, ◌�
 ghost use Rattle.std.specs.Option.{option_map};
 ghost use Rattle.ip_spec.specs.Header.{IsExtensionNumber};
 ghost use Rattle.ip_spec.specs.Chain.{IsNext, IsEnd};
-ghost use Rattle.ip_ext_slices.specs.Fault.{slice_fault, error_by_cause};
+ghost use Rattle.ip_ext_slices.specs.ChainFault.{slice_fault, error_by_cause};
 ghost use Rattle.ip_ext_slices.specs.Ipv6ExtensionSlice.{header_of};
 
 use crate::Ipv6ExtensionSlice;

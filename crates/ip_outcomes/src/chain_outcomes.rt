@@ -11,7 +11,7 @@ ghost use Rattle.ip_spec.specs.Demand.{AtMostOneOf};
 ghost use Rattle.ip_spec.specs.Fits.{FitsPlaces};
 ghost use Rattle.ip_spec.specs.Parse.{IsRead};
 ghost use Rattle.ip_ext_slices.specs.Longest.{longest_chain};
-ghost use Rattle.ip_ext_slices.specs.Fault.{chain_fault};
+ghost use Rattle.ip_ext_slices.specs.ChainFault.{chain_fault};
 ghost use Rattle.ip_ext_chains.specs.Fitting.{fitting_fault};
 ghost use Rattle.ip_ext_ipv4.specs.Ipv4Fault.{ipv4_chain_fault};
 ghost use Rattle.ip_ext_ipv4.specs.Ipv4Parse.{IsIpv4Answer, ipv4_value};

@@ -9,7 +9,7 @@ ghost use Rattle.ip_spec.specs.Fields.{raw_len, auth_len};
 ghost use Rattle.ip_spec.specs.Encoding.{AppendsOne, IsRawEncoding, IsFragmentEncoding, IsAuthEncoding};
 ghost use Rattle.ip_spec.specs.Decoding.{IsRawDecoding, IsFragmentDecoding, IsAuthDecoding};
 ghost use Rattle.ip_spec.specs.Chain.{IsNext, IsEnd};
-ghost use Rattle.ip_ext_headers.specs.Fault.{raw_fault, fragment_fault, auth_fault};
+ghost use Rattle.ip_ext_headers.specs.HeaderFault.{raw_fault, fragment_fault, auth_fault};
 ghost use Rattle.ip_ext_headers.specs.LengthFault.{payload_len_fault, icv_len_fault};
 ghost use Rattle.ip_ext_headers.specs.Ipv6RawExtHeaderSlice as raw;
 ghost use Rattle.ip_ext_headers.specs.Ipv6FragmentHeaderSlice as fragment;

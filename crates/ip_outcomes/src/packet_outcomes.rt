@@ -3,7 +3,7 @@
 ghost use Rattle.std.specs.Prelude.{◌≡◌, ◌↔◌, Some, None, false, length, IsTrue, IfOk, IfErr, IfSome, IfNone};
 ghost use Rattle.ip_base.specs.Ipv4Header.{version};
 ghost use Rattle.etherparse_ip.specs.Packet.{IsIpv4Packet, IsIpv6Packet};
-ghost use Rattle.etherparse_ip.specs.Fault.{ipv4_fault, ipv6_fault, ipv6_lax_fault, ip_fault};
+ghost use Rattle.etherparse_ip.specs.PacketFault.{ipv4_fault, ipv6_fault, ipv6_lax_fault, ip_fault};
 ghost use Rattle.etherparse_ip.specs.Ipv4Slice.{ipv4_parts};
 ghost use Rattle.etherparse_ip.specs.Ipv6Slice.{ipv6_parts};
 ghost use Rattle.etherparse_ip.specs.IpSlice.{ip_parts, IsIpPacket, is_of_ipv4};

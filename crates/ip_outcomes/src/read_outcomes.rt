@@ -14,7 +14,7 @@ ghost use Rattle.ip_io.specs.Limits.{left, limit_error};
 ghost use Rattle.ip_io.specs.LimitedReader.{inner_of, limits_of};
 ghost use Rattle.ip_base.specs.declared.err.len_error.LenError.{LenError as LengthError};
 ghost use Rattle.ip_base.specs.declared.len_source.LenSource.TheVariants.{Slice};
-ghost use Rattle.ip_ext_headers.specs.Fault.{auth_fault};
+ghost use Rattle.ip_ext_headers.specs.HeaderFault.{auth_fault};
 ghost use Rattle.ip_ext_headers.specs.declared.err.ip_auth.header_slice_error.HeaderSliceError.TheVariants as auth;
 ghost use Rattle.ip_ext_errors.specs.declared.ip_auth.header_error.HeaderError.TheVariants.{ZeroPayloadLen};
 ghost use Rattle.ip_ext_ipv4.specs.Ipv4Fault.{ipv4_chain_fault};

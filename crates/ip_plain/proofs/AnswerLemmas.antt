@@ -13,7 +13,7 @@ use Rattle.ip_plain.specs.declared.chain.PlainHeader.{PlainHeader}
 use Rattle.std.proofs.lemmas.Bool.Decides.{eqb_tells}
 use Rattle.ip_spec.specs.Prefix.{IsPrefix}
 use Rattle.ip_spec.proofs.ChainLemmas.{one_longest, some_longest}
-use Rattle.ip_ext_slices.specs.Fault.{Fault, slice_fault}
+use Rattle.ip_ext_slices.specs.ChainFault.{Fault, slice_fault}
 use Rattle.ip_ext_slices.specs.Longest.{longest_chain}
 use Rattle.hex.specs.Hex.{decode_pairs, hex_digit_value, digit_or_error, ◌>>=◌}
 use Rattle.hex.specs.declared.error.FromHexError.{FromHexError}

@@ -7,7 +7,7 @@ use Rattle.ip_spec.specs.Parse.{rest_behind, fault_behind}
 use Rattle.ip_spec.specs.Prefix.{NoPrefix}
 use Rattle.ip_spec.specs.Header.{IsAuthHeader, auth}
 use Rattle.ip_spec.proofs.HeaderLemmas.{header-least, auth_of}
-use Rattle.ip_ext_headers.specs.Fault.{auth_fault}
+use Rattle.ip_ext_headers.specs.HeaderFault.{auth_fault}
 use Rattle.ip_ext_ipv4.specs.Ipv4Fault.{ipv4_faults}
 use Rattle.ip_ext_ipv4.specs.Ipv4Longest.{longest_ipv4_chain}
 use Rattle.ip_ext_ipv4.proofs.Ipv4Lemmas.{answer_of_one, answer_of_none}

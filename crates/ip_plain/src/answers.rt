@@ -21,7 +21,7 @@ ghost use Rattle.ipexts_tool.specs.Parts.{header_name, header_line, header_lines
 ghost use Rattle.ipexts_tool.specs.Parts.{written_line, chain_end_line, ipv4_end_line, ok_line};
 ghost use Rattle.hex.specs.Hex.{hex_digit_value, encode_lower, lower_digits};
 ghost use Rattle.ip_base.specs.declared.len_source.LenSource.TheVariants.{Slice};
-ghost use Rattle.ip_ext_headers.specs.Fault.{auth_fault};
+ghost use Rattle.ip_ext_headers.specs.HeaderFault.{auth_fault};
 ghost use Rattle.ip_ext_chains.specs.Fitting.{fitting_chain};
 ghost use Rattle.ip_ext_chains.specs.Ipv6Extensions.{value_of};
 ghost use Rattle.ip_plain.specs.Digits.{byte_of_digits};

@@ -1,10 +1,10 @@
 //! The fault of a chain computed in the plainest way: by the table of faults, row by row.
 ghost use Rattle.std.specs.Prelude.{◌≡◌, length, Some};
 ghost use Rattle.std.specs.Option.{option_map};
-ghost use Rattle.ip_ext_headers.specs.Fault.{raw_fault, fragment_fault, auth_fault};
+ghost use Rattle.ip_ext_headers.specs.HeaderFault.{raw_fault, fragment_fault, auth_fault};
 ghost use Rattle.ip_base.specs.LenError.{too_short};
 ghost use Rattle.ip_base.specs.declared.len_source.LenSource.TheVariants.{Slice};
-ghost use Rattle.ip_ext_slices.specs.Fault.{slice_fault, short_at, auth_at};
+ghost use Rattle.ip_ext_slices.specs.ChainFault.{slice_fault, short_at, auth_at};
 
 use ip_base::LenSource;
 use ip_base::err::{Layer, LenError};

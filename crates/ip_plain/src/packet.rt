@@ -5,8 +5,8 @@ ghost use Rattle.ip_ext_ipv4.specs.Ipv4ExtensionsSlice.{headers_in};
 ghost use Rattle.etherparse_ip.specs.Ipv4Slice.{ipv4_parts};
 ghost use Rattle.etherparse_ip.specs.Ipv6Slice.{ipv6_parts};
 ghost use Rattle.ipexts_tool.specs.Faults.{len_fault_text, headers_fault_text};
-ghost use Rattle.ipexts_tool.specs.Packet.{yes_or_no, lengths_line, payload_line, parts_lines};
-ghost use Rattle.ipexts_tool.specs.Packet.{fault_line, packet_answer};
+ghost use Rattle.ipexts_tool.specs.PacketAnswer.{yes_or_no, lengths_line, payload_line, parts_lines};
+ghost use Rattle.ipexts_tool.specs.PacketAnswer.{fault_line, packet_answer};
 
 use etherparse_ip::err::ip::{HeaderError, HeadersError, SliceError};
 use etherparse_ip::err::{LenError, ipv6_exts};

@@ -3,7 +3,7 @@ ghost use Rattle.std.specs.Prelude.{◌≡◌, length, IfOk};
 ghost use Rattle.ip_spec.specs.Chain.{bytes_of};
 ghost use Rattle.ip_spec.specs.Encoding.{cleared_chain};
 ghost use Rattle.ip_ext_slices.specs.Longest.{longest_chain};
-ghost use Rattle.ip_ext_chains.specs.Runs.{runs_of};
+ghost use Rattle.ip_ext_chains.specs.RunsOf.{runs_of};
 
 use ip_base::IpNumber;
 use ip_ext_chains::Ipv6ExtensionsRuns;

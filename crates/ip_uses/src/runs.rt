@@ -3,7 +3,7 @@ ghost use Rattle.std.specs.Prelude.{◌≡◌, ◌+◌, ◌/◌, ◌≤◌, List
 ghost use Rattle.ip_spec.specs.Chain.{ExtHeader, leads_to};
 ghost use Rattle.ip_spec.specs.Parse.{rest_behind};
 ghost use Rattle.ip_ext_slices.specs.Longest.{longest_chain};
-ghost use Rattle.ip_ext_chains.specs.Runs.{runs_of};
+ghost use Rattle.ip_ext_chains.specs.RunsOf.{runs_of};
 ghost use Rattle.ip_ext_chains.specs.Ipv6ExtensionsRuns.{start, input, runs_left, number_left};
 ghost use Rattle.ip_ext_chains.specs.Ipv6Extensions.{value_of};
 

@@ -1,7 +1,7 @@
 //! Headers linked and written.
 ghost use Rattle.std.specs.Prelude.{◌≡◌, ◌≤◌, ◌<◌, ◌^◌, ℕ, length, false, IsTrue};
 ghost use Rattle.ip_spec.specs.Chain.{IsChain};
-ghost use Rattle.ip_cuts.specs.Links.{first_number, linked_cuts};
+ghost use Rattle.ip_cuts.specs.LinkedCuts.{first_number, linked_cuts};
 ghost use Rattle.ip_cuts.specs.Written.{AllLieIn, written_cuts, written_chain, begun_with, AreChainCuts};
 
 use ip_cuts::{HeaderCut, link_headers, write_headers};

@@ -6,8 +6,8 @@ use Rattle.ip_base.specs.Ipv4Header.{version}
 use Rattle.etherparse_ip.specs.declared.err.ip.slice_error.SliceError.{SliceError}
 use Rattle.etherparse_ip.specs.Packet.{Parts}
 use Rattle.etherparse_ip.specs.Cut.{ipv4_cut, ipv6_cut}
-use Rattle.etherparse_ip.specs.Fault.{ip_fault}
-use Rattle.ipexts_tool.specs.Packet.{parts_lines, fault_line, packet_lines, packet_answer}
+use Rattle.etherparse_ip.specs.PacketFault.{ip_fault}
+use Rattle.ipexts_tool.specs.PacketAnswer.{parts_lines, fault_line, packet_lines, packet_answer}
 
 four_lines : (v : ℕ) (four six : List ℕ) → v ≡ 4 → (if v == 4 then four else six) ≡ four
 four_lines v four six e = rw (eq-eqb v 4 e) refl

@@ -3,7 +3,7 @@
 use Rattle.std.specs.Prelude.{ℕ, List, ◌++◌, length}
 use Rattle.ip_spec.specs.Parse.{rest_behind}
 use Rattle.ip_ext_chains.specs.Chain.{leads_to}
-use Rattle.ip_ext_slices.specs.Fault.{chain_fault}
+use Rattle.ip_ext_slices.specs.ChainFault.{chain_fault}
 use Rattle.ip_ext_slices.specs.Longest.{longest_chain}
 use Rattle.ipexts_tool.specs.Parts.{header_lines, next_line, chain_end_line}
 

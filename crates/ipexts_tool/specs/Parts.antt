@@ -5,7 +5,7 @@ use Rattle.hex.specs.Hex.{encode_lower}
 use Rattle.ip_base.specs.declared.err.layer.Layer.{Layer}
 use Rattle.ip_ext_headers.specs.declared.err.ip_auth.header_slice_error.HeaderSliceError.{HeaderSliceError as AuthSliceError}
 use Rattle.ip_ext_chains.specs.Chain.{ExtHeader}
-use Rattle.ip_ext_slices.specs.Fault.{Fault}
+use Rattle.ip_ext_slices.specs.ChainFault.{Fault}
 use Rattle.ip_ext_chains.specs.Names.{layer_name}
 use Rattle.ip_ext_chains.specs.Numbers.{HOP_BY_HOP, ROUTING, FRAGMENT, AUTHENTICATION, DESTINATION_OPTIONS}
 use Rattle.ipexts_tool.specs.Faults.{auth_slice_fault_text, chain_fault_text}

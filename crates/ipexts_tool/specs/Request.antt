@@ -8,7 +8,7 @@ use Rattle.ipexts_tool.specs.Exts6.{exts6_answer}
 use Rattle.ipexts_tool.specs.Exts4.{exts4_answer}
 use Rattle.ipexts_tool.specs.Rewrite6.{rewrite6_answer}
 use Rattle.ipexts_tool.specs.RewriteAll6.{rewriteall6_answer}
-use Rattle.ipexts_tool.specs.Packet.{packet_answer}
+use Rattle.ipexts_tool.specs.PacketAnswer.{packet_answer}
 use Rattle.ipexts_tool.specs.LineFields.{fields_of, number_and_bytes, bytes_alone}
 use Rattle.ipexts_tool.specs.declared.request.Request.{Request as ParsedRequest}
 use Rattle.ipexts_tool.specs.declared.request.Request.TheVariants as parsed

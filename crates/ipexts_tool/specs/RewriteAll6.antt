@@ -5,9 +5,9 @@ use Rattle.ip_spec.specs.Parse.{rest_behind}
 use Rattle.std.specs.Fmt.{decimal}
 use Rattle.ip_ext_chains.specs.Chain.{leads_to, bytes_of}
 use Rattle.ip_ext_chains.specs.Encoding.{cleared_chain}
-use Rattle.ip_ext_slices.specs.Fault.{chain_fault}
+use Rattle.ip_ext_slices.specs.ChainFault.{chain_fault}
 use Rattle.ip_ext_slices.specs.Longest.{longest_chain}
-use Rattle.ip_ext_chains.specs.Runs.{runs_of}
+use Rattle.ip_ext_chains.specs.RunsOf.{runs_of}
 use Rattle.ipexts_tool.specs.Parts.{next_line, written_line, chain_end_line}
 
 abbrev pub rewriteall6_answer : ℕ → List ℕ → List ℕ

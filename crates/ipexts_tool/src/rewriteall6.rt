@@ -3,7 +3,7 @@ ghost use Rattle.std.specs.Prelude.{◌≡◌, ◌++◌, [], length, OnOk, IfOk,
 ghost use Rattle.ip_ext_chains.specs.Chain.{bytes_of};
 ghost use Rattle.ip_ext_chains.specs.Encoding.{cleared_chain};
 ghost use Rattle.ip_ext_slices.specs.Longest.{longest_chain};
-ghost use Rattle.ip_ext_chains.specs.Runs.{runs_of};
+ghost use Rattle.ip_ext_chains.specs.RunsOf.{runs_of};
 ghost use Rattle.ip_ext_chains.specs.Ipv6ExtensionsRuns.{start, input, values_left};
 ghost use Rattle.ipexts_tool.specs.RewriteAll6.{rewriteall6_answer};
 

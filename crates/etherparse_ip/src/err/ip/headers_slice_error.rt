@@ -18,7 +18,7 @@ pub enum HeadersSliceError {
 }
 
 impl HeadersSliceError {
-    ghost use Rattle.etherparse_ip.specs.HeadersSliceError.{cause_of, headers_moved, HeadersOffsetFits};
+    ghost use Rattle.etherparse_ip.specs.PacketHeadersError.{cause_of, headers_moved, HeadersOffsetFits};
 
     /// The same error, counted from `offset` bytes further to the front: only the offset of a length error
     /// grows. The sum of the offsets has to fit.

@@ -1,5 +1,5 @@
 use Rattle.std.proofs.Common.{◌≡◌, ◌≤◌, length, take, drop}
-use Rattle.ip_cuts.specs.Links.{first_number, linked_cuts}
+use Rattle.ip_cuts.specs.LinkedCuts.{first_number, linked_cuts}
 use Rattle.ip_cuts.proofs.links.link_headers.Given as goal
 
 -- the headers from here on are linked, and those before are as they were

@@ -20,7 +20,7 @@ pub enum HeaderSliceError {
 
 impl HeaderSliceError {
     ghost use Rattle.ip_ext_headers.specs.AuthSliceError.{cause_of};
-    ghost use Rattle.ip_ext_headers.specs.Fault.{auth_moved, AuthOffsetFits};
+    ghost use Rattle.ip_ext_headers.specs.HeaderFault.{auth_moved, AuthOffsetFits};
 
     /// The same error, counted from `offset` bytes further to the front: only the offset of a length error
     /// grows. The sum of the offsets has to fit.

@@ -19,7 +19,7 @@ pub enum HeaderSliceError {
 }
 
 impl HeaderSliceError {
-    ghost use Rattle.ip_ext_slices.specs.Fault.{exts_moved, ExtsOffsetFits};
+    ghost use Rattle.ip_ext_slices.specs.ChainFault.{exts_moved, ExtsOffsetFits};
     ghost use Rattle.ip_ext_slices.specs.SliceError.{len_of, content_of, cause_of};
 
     /// The same error, counted from `offset` bytes further to the front: only the offset of a length error

@@ -2,7 +2,7 @@ use Rattle.std.proofs.Common.{◌∙◌}
 use Rattle.std.proofs.lemmas.List.{length-map}
 use Rattle.std.proofs.lemmas.Iterator.Consumers.{count_from_yields_List}
 use Rattle.ip_ext_chains.specs.Ipv6Extensions.{value_of}
-use Rattle.ip_ext_chains.specs.Runs.{runs_of}
+use Rattle.ip_ext_chains.specs.RunsOf.{runs_of}
 use Rattle.ip_ext_chains.proofs.RunLemmas.{runs_yield}
 use Rattle.ip_uses.proofs.runs.count_runs.Goals as goal
 

@@ -2,7 +2,7 @@ use Rattle.std.proofs.Common.{◌∙◌, ap, sym, length, arith, Some}
 use Rattle.std.specs.Option.{option_map}
 use Rattle.ip_base.specs.Ipv4HeaderSlice.{bytes}
 use Rattle.ip_base.specs.declared.len_source.LenSource.TheVariants.{Ipv4HeaderTotalLen}
-use Rattle.etherparse_ip.specs.Fault.{auth_in_packet}
+use Rattle.etherparse_ip.specs.PacketFault.{auth_in_packet}
 use Rattle.etherparse_ip.proofs.CutLemmas.{AtIpv4, ipv4_packet, ipv4_behind_fault}
 use Rattle.etherparse_ip.proofs.ipv4_slice.Ipv4Slice.behind.Goals as goal
 

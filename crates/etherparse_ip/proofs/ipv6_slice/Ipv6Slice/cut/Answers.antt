@@ -1,7 +1,7 @@
 use Rattle.std.proofs.Common.{◌∙◌, ap, sym, length, arith, Some}
 use Rattle.std.specs.Option.{option_map}
 use Rattle.ip_base.specs.Ipv6HeaderSlice.{bytes}
-use Rattle.etherparse_ip.specs.Fault.{exts_in_packet}
+use Rattle.etherparse_ip.specs.PacketFault.{exts_in_packet}
 use Rattle.etherparse_ip.proofs.CutLemmas.{AtIpv6, ipv6_packet, ipv6_behind_fault, behind-length}
 use Rattle.etherparse_ip.proofs.FaultLemmas.{chain_fault_fits}
 use Rattle.etherparse_ip.proofs.ipv6_slice.Ipv6Slice.cut.Goals as goal

@@ -1,7 +1,7 @@
 use Rattle.std.proofs.Common.{◌∙◌, ap}
 use Rattle.std.specs.Option.{option_map}
 use Rattle.ip_base.specs.declared.len_source.LenSource.TheVariants.{Slice}
-use Rattle.ip_ext_slices.specs.Fault.{Fault}
+use Rattle.ip_ext_slices.specs.ChainFault.{Fault}
 use Rattle.ip_ext_slices.proofs.FaultLemmas.{fault_at_end}
 use Rattle.ip_ext_slices.proofs.ParseLemmas.{ends_behind, chain_fault_is}
 use Rattle.ip_ext_slices.proofs.ipv6_exts_slice.Ipv6ExtensionsSlice.from_slice.Goals as goal

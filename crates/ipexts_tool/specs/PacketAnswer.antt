@@ -9,7 +9,7 @@ use Rattle.ip_spec.specs.Chain.{bytes_of}
 use Rattle.etherparse_ip.specs.declared.err.ip.slice_error.SliceError.{SliceError}
 use Rattle.etherparse_ip.specs.Packet.{Parts}
 use Rattle.etherparse_ip.specs.Cut.{ipv4_cut, ipv6_cut}
-use Rattle.etherparse_ip.specs.Fault.{ip_fault}
+use Rattle.etherparse_ip.specs.PacketFault.{ip_fault}
 use Rattle.ipexts_tool.specs.Faults.{packet_fault_text}
 use Rattle.ipexts_tool.specs.Parts.{ok_line}
 

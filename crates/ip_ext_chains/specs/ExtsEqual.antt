@@ -4,7 +4,7 @@ use Rattle.std.specs.Option.{option_eq}
 use Rattle.std.specs.Cmp.{IsEquivalence}
 use Rattle.std.specs.Cmp.Lexicographic.{options_equiv}
 use Rattle.std.proofs.lemmas.Cmp.{and_equiv, on_equiv}
-use Rattle.ip_ext_headers.specs.Equal.{raw_equal, fragment_equal, auth_equal}
+use Rattle.ip_ext_headers.specs.HeaderEqual.{raw_equal, fragment_equal, auth_equal}
 use Rattle.ip_ext_headers.proofs.EqualLemmas.{raw_equivalence, fragment_equivalence, auth_equivalence}
 use Rattle.ip_ext_chains.specs.declared.ipv6_routing_exts.Ipv6RoutingExtensions.{Ipv6RoutingExtensions}
 use Rattle.ip_ext_chains.specs.declared.ipv6_exts.Ipv6Extensions.{Ipv6Extensions}

@@ -5,7 +5,7 @@ use Rattle.ip_spec.specs.Numbers.{ROUTING}
 use Rattle.ip_spec.specs.Places.{Place, HeaderFields}
 use Rattle.ip_spec.specs.Walk.{PlacedFields, WalkAnswer, leads, hop_by_hop_not_at_start, not_referenced}
 use Rattle.ip_spec.specs.WalkStep.{next_place, without, next_of}
-use Rattle.ip_ext_chains.specs.Places.{at}
+use Rattle.ip_ext_chains.specs.Slots.{at}
 use Rattle.ip_ext_chains.specs.Ipv6Extensions.{placed_fields}
 use Rattle.ip_ext_errors.specs.declared.ipv6_exts.exts_walk_error.ExtsWalkError.{ExtsWalkError}
 use Rattle.ip_ext_errors.specs.declared.ipv6_exts.exts_walk_error.ExtsWalkError.TheVariants.{HopByHopNotAtStart, ExtNotReferenced}

@@ -4,7 +4,7 @@ use Rattle.ip_base.specs.declared.len_source.LenSource.TheVariants.{Slice}
 use Rattle.ip_spec.specs.Chain.{ExtHeader}
 use Rattle.ip_spec.specs.Parse.{IsAnswer}
 use Rattle.ip_ext_slices.specs.Longest.{longest_chain}
-use Rattle.ip_ext_slices.specs.Fault.{Fault, chain_faults}
+use Rattle.ip_ext_slices.specs.ChainFault.{Fault, chain_faults}
 
 -- the answer for the longest chain, whose value is all of its headers
 abbrev pub IsChainAnswer : ℕ → List ℕ → List ExtHeader → ℕ → List ℕ → Option Fault → Type 0

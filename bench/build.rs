@@ -1,5 +1,5 @@
-//! Links the static library `ipexts_bench`, what it takes memory with, the walk in C, and `SHIFT` bytes
-//! before them, which move the library's code.
+//! Links the static libraries `ipexts_bench` and `ipexts_bench_packets`, what they take memory with, the walk in C,
+//! and `SHIFT` bytes before them, which move the libraries' code.
 use std::env;
 use std::path::{Path, PathBuf};
 use std::process::Command;
@@ -8,25 +8,33 @@ fn main() {
     println!("cargo:rerun-if-env-changed=SHIFT");
     println!("cargo:rerun-if-env-changed=CC");
     println!("cargo:rerun-if-changed=src/walk.c");
-    let library = Path::new("../crates/ipexts_bench/out")
-        .canonicalize()
-        .expect("the static library is missing: `rt lib` in crates/ipexts_bench makes it");
-    println!(
-        "cargo:rerun-if-changed={}",
-        library.join("libipexts_bench.a").display()
-    );
+    link_library("ipexts_bench");
+    link_library("ipexts_bench_packets");
     let out = PathBuf::from(env::var("OUT_DIR").expect("Cargo sets OUT_DIR"));
     compile_shift(&out);
     compile(&out, Path::new("src/walk.c"), "walk");
     println!("cargo:rustc-link-search=native={}", out.display());
-    println!("cargo:rustc-link-search=native={}", library.display());
     println!(
         "cargo:rustc-link-search=native={}",
         kit().join("c").display()
     );
-    for name in ["shift", "ipexts_bench", "libc_c", "walk"] {
+    for name in ["shift", "ipexts_bench", "ipexts_bench_packets", "libc_c", "walk"] {
         println!("cargo:rustc-link-lib=static={name}");
     }
+}
+
+/// Finds the static library of a crate.
+fn link_library(name: &str) {
+    let folder = Path::new("../crates")
+        .join(name)
+        .join("out")
+        .canonicalize()
+        .unwrap_or_else(|_| {
+            panic!("the static library is missing: `rt lib` in crates/{name} makes it")
+        });
+    let archive = folder.join(format!("lib{name}.a"));
+    println!("cargo:rerun-if-changed={}", archive.display());
+    println!("cargo:rustc-link-search=native={}", folder.display());
 }
 
 /// A function followed by `SHIFT` bytes.

@@ -14,11 +14,15 @@ look_for_tools() {
     command -v ar >/dev/null || give_up "The archiver 'ar' is missing: it has to be on the PATH."
 }
 
-# Proves and builds the static library and the tool.
+# Proves and builds static libraries and the tool.
 build_ours() {
-    (cd "$top/crates/ipexts_bench" && rt lib) >"$work/ours.txt" 2>&1 \
-        && (cd "$top/crates/ipexts" && rt run </dev/null) >>"$work/ours.txt" 2>&1 \
-        || { tail -20 "$work/ours.txt" >&2; give_up "The crates ipexts_bench and ipexts could not be built."; }
+    local crate
+    for crate in "$@"; do
+        (cd "$top/crates/$crate" && rt lib) >"$work/ours.txt" 2>&1 \
+            || { tail -20 "$work/ours.txt" >&2; give_up "The crate $crate could not be built."; }
+    done
+    (cd "$top/crates/ipexts" && rt run </dev/null) >"$work/ours.txt" 2>&1 \
+        || { tail -20 "$work/ours.txt" >&2; give_up "The crate ipexts could not be built."; }
     tool=$top/crates/ipexts/out/ipexts
 }
 

@@ -1,11 +1,11 @@
-//! Links the static library `ipexts_bench` and what it takes memory with.
+//! Links the static library `ipexts_diff` and what it takes memory with.
 use std::path::Path;
 use std::process::Command;
 
 fn main() {
-    let library = Path::new("../crates/ipexts_bench/out")
+    let library = Path::new("../crates/ipexts_diff/out")
         .canonicalize()
-        .expect("the static library is missing: `rt lib` in crates/ipexts_bench makes it");
+        .expect("the static library is missing: `rt lib` in crates/ipexts_diff makes it");
     let output = Command::new("rt")
         .arg("doc")
         .output()
@@ -16,10 +16,10 @@ fn main() {
         .expect("`rt doc` prints a file's path");
     println!(
         "cargo:rerun-if-changed={}",
-        library.join("libipexts_bench.a").display()
+        library.join("libipexts_diff.a").display()
     );
     println!("cargo:rustc-link-search=native={}", library.display());
     println!("cargo:rustc-link-search=native={}", kit.join("c").display());
-    println!("cargo:rustc-link-lib=static=ipexts_bench");
+    println!("cargo:rustc-link-lib=static=ipexts_diff");
     println!("cargo:rustc-link-lib=static=libc_c");
 }

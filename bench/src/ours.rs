@@ -1,4 +1,4 @@
-//! The calls of the static library `ipexts_bench`, and of the walk in C.
+//! The calls of the static libraries `ipexts_bench` and `ipexts_bench_packets`, and of the walk in C.
 
 /// The chain from a number that begins the bytes.
 pub type ChainCall = unsafe extern "C" fn(u8, *const u8, usize) -> u64;

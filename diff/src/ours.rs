@@ -1,4 +1,4 @@
-//! The calls of the static library `ipexts_bench` that tell the parts of single headers.
+//! The calls of the static library `ipexts_diff` that tell the parts of single headers.
 
 /// A header or the reason why there is none, as the library tells it.
 #[repr(C)]

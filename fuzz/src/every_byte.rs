@@ -1,4 +1,4 @@
-//! Digests of the original's answers in which every byte counts, as `ipexts_bench` has them of ours.
+//! Digests of the original's answers in which every byte counts, as `ipexts_diff` has them of ours.
 use crate::asked::{Asked, Begins};
 use crate::original::{layer_code, of_answer, of_auth, of_fault, of_header, with};
 use crate::original_slices::{of_ip_fault, of_ipv4_fault, of_ipv6_fault};

@@ -1,26 +1,15 @@
 //! Single headers, borrowed and owned, and their bytes. `at` chooses the bytes that are read, so that none
 //! can be left out.
-use crate::digest::{of_auth, of_auth_fault, of_bytes, of_fragment, of_len_error, of_raw, with};
+use ip_digests::digest::{
+    of_auth, of_auth_fault, of_bytes, of_fragment, of_len_error, of_raw, with,
+};
+use ip_digests::owned::{byte_at, of_owned_auth, of_owned_fragment, of_owned_raw, of_written};
 use ip_ext_chains::IpNumber;
 use ip_ext_headers::{
     IpAuthHeader, IpAuthHeaderSlice, Ipv6FragmentHeader, Ipv6FragmentHeaderSlice, Ipv6RawExtHeader,
     Ipv6RawExtHeaderSlice,
 };
 use std::alloc::Global;
-
-/// The byte of some bytes at a place that is known only when it runs.
-fn byte_at(bytes: &[u8], at: usize) -> u64 {
-    match bytes.get(at) {
-        Some(byte) => u64::from(*byte),
-        None => 256,
-    }
-}
-
-/// Bytes that were written: how many, the first, and one that is chosen when it runs.
-#[inline(never)]
-pub fn of_written(bytes: &[u8], at: usize) -> u64 {
-    with(of_bytes(bytes), byte_at(bytes, at))
-}
 
 /// Every part of a borrowed header of the common layout.
 #[inline(never)]
@@ -38,32 +27,6 @@ fn of_borrowed_auth(header: &IpAuthHeaderSlice<'_>, at: usize) -> u64 {
 #[inline(never)]
 fn of_borrowed_fragment(header: &Ipv6FragmentHeaderSlice<'_>) -> u64 {
     of_fragment(header)
-}
-
-/// Every part of an owned header of the common layout.
-#[inline(never)]
-pub fn of_owned_raw(header: &Ipv6RawExtHeader, at: usize) -> u64 {
-    let payload = header.payload();
-    let fields = with(u64::from(header.next_header.0), of_bytes(payload));
-    with(fields, byte_at(payload, at))
-}
-
-/// Every part of an owned authentication header.
-#[inline(never)]
-pub fn of_owned_auth(header: &IpAuthHeader, at: usize) -> u64 {
-    let numbers = with(u64::from(header.spi), u64::from(header.sequence_number));
-    let fields = with(numbers, u64::from(header.next_header.0));
-    let icv = header.raw_icv();
-    with(with(fields, of_bytes(icv)), byte_at(icv, at))
-}
-
-/// Every part of an owned fragment header.
-#[inline(never)]
-pub fn of_owned_fragment(header: &Ipv6FragmentHeader) -> u64 {
-    let offset = u64::from(header.fragment_offset.value());
-    let flags = with(u64::from(header.more_fragments), offset);
-    let fields = with(flags, u64::from(header.identification));
-    with(fields, u64::from(header.next_header.0))
 }
 
 /// A borrowed header of the common layout.

@@ -1,17 +1,12 @@
-//! Calls for a program in C or Rust that measures this project's parsers and writers and compares their
-//! answers. Each hands an answer to a function that isn't inlined and reads every part of it, or reads in
-//! place the few parts that a filter needs, and answers a digest of what it read.
+//! Calls for a program in C or Rust that measures this project's parsers and writers. Each hands an answer to a
+//! function that isn't inlined and reads every part of it, or reads in place the few parts that a filter needs,
+//! and answers a digest of what it read.
 #![tactic(auto)]
 
 mod calls;
-mod digest;
-mod every_byte;
-mod fields;
 mod headers;
 mod ipv4;
 mod packets;
 mod parses;
-mod read_fields;
 mod reads;
-mod slices;
 mod structs;

@@ -1,11 +1,11 @@
 //! Loops over IPv6 packets that stand one after the other in a buffer.
-use crate::digest::with;
 use crate::parses::{
     CursorFragment, CursorKinds, Lax, LaxFilter, LaxFragment, LaxHeaders, LaxHeadersFilter,
     LaxKinds, Parse, Strict, StrictFilter,
 };
 use crate::reads::{StructRead, StructReadLimited};
 use crate::structs::{LaxStruct, StrictStruct};
+use ip_digests::digest::with;
 use ip_ext_chains::IpNumber;
 
 /// Where an IPv6 header names what follows it (RFC 8200, section 3).

@@ -1,5 +1,5 @@
 //! The ways to parse a chain that are measured. Each answers a digest of what it read.
-use crate::digest::{of_end, of_header, of_kind, of_lax, of_strict, of_strict_fault, with};
+use ip_digests::digest::{of_end, of_header, of_kind, of_lax, of_strict, of_strict_fault, with};
 use ip_ext_chains::{IpNumber, Ipv6ExtensionSlice, Ipv6ExtensionsCursor, Ipv6ExtensionsSlice};
 
 /// A way to parse a chain.

@@ -1,9 +1,6 @@
 //! Headers and chains that are read from bytes in memory, with and without a limit. `at` chooses the bytes that
 //! are read of a header, so that none can be left out.
-use crate::digest::{of_bytes, of_content, of_len_error, with};
-use crate::headers::{of_owned_auth, of_owned_fragment, of_owned_raw};
 use crate::parses::Parse;
-use crate::structs::of_answer;
 use etherparse_ip::err::Layer;
 use etherparse_ip::err::ipv6_exts::{HeaderLimitedReadError, HeaderReadError};
 use etherparse_ip::io::LimitedReader;
@@ -11,6 +8,9 @@ use etherparse_ip::{
     IpAuthHeader, IpNumber, Ipv4Extensions, Ipv6Extensions, Ipv6FragmentHeader, Ipv6RawExtHeader,
     LenSource,
 };
+use ip_digests::digest::{of_bytes, of_content, of_len_error, with};
+use ip_digests::owned::{of_owned_auth, of_owned_fragment, of_owned_raw};
+use ip_digests::structs::of_answer;
 
 /// Where the bytes of a limited read begin, behind an IPv6 header.
 const LAYER_OFFSET: usize = 40;

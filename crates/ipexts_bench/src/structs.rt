@@ -1,11 +1,9 @@
-//! The parses into a struct of six places, and a digest of what it holds.
-use crate::digest::{layer_code, of_bytes, of_fault, of_strict_fault, with};
-use crate::headers::of_written;
+//! The parses into a struct of six places, and what is done with one.
 use crate::parses::Parse;
-use ip_ext_chains::{
-    IpAuthHeader, IpNumber, Ipv6Extensions, Ipv6ExtensionsRuns, Ipv6FragmentHeader,
-    Ipv6RawExtHeader,
-};
+use ip_digests::digest::{layer_code, of_bytes, of_fault, of_strict_fault, with};
+use ip_digests::owned::of_written;
+use ip_digests::structs::{of_answer, of_exts};
+use ip_ext_chains::{IpNumber, Ipv6Extensions, Ipv6ExtensionsRuns};
 use std::alloc::Global;
 
 /// The lax parse into a struct, read in full.
@@ -33,64 +31,6 @@ impl Parse for StrictStruct {
         };
         of_answer(&exts, number, rest)
     }
-}
-
-/// Every part of a struct, the number to which its chain leads and what follows it.
-#[inline(never)]
-pub fn of_answer(exts: &Ipv6Extensions, number: IpNumber, rest: &[u8]) -> u64 {
-    with(with(of_exts(exts), u64::from(number.0)), of_bytes(rest))
-}
-
-/// Every part of a struct.
-fn of_exts(exts: &Ipv6Extensions) -> u64 {
-    let options = with(
-        of_raw(&exts.hop_by_hop_options),
-        of_raw(&exts.destination_options),
-    );
-    let routing = match &exts.routing {
-        Some(headers) => with(
-            of_raw_header(&headers.routing),
-            of_raw(&headers.final_destination_options),
-        ),
-        None => 0,
-    };
-    let fragment = match &exts.fragment {
-        Some(header) => of_fragment(header),
-        None => 0,
-    };
-    let auth = match &exts.auth {
-        Some(header) => of_auth(header),
-        None => 0,
-    };
-    with(with(options, routing), with(fragment, auth))
-}
-
-/// Every part of a header of the common layout that may be there.
-fn of_raw(header: &Option<Ipv6RawExtHeader>) -> u64 {
-    match header {
-        Some(header) => of_raw_header(header),
-        None => 0,
-    }
-}
-
-/// Every part of a header of the common layout.
-fn of_raw_header(header: &Ipv6RawExtHeader) -> u64 {
-    with(u64::from(header.next_header.0), of_bytes(header.payload()))
-}
-
-/// Every part of a fragment header.
-fn of_fragment(header: &Ipv6FragmentHeader) -> u64 {
-    let offset = u64::from(header.fragment_offset.value());
-    let flags = with(u64::from(header.more_fragments), offset);
-    let fields = with(flags, u64::from(header.identification));
-    with(u64::from(header.next_header.0), fields)
-}
-
-/// Every part of an authentication header.
-fn of_auth(header: &IpAuthHeader) -> u64 {
-    let numbers = with(u64::from(header.spi), u64::from(header.sequence_number));
-    let fields = with(numbers, of_bytes(header.raw_icv()));
-    with(u64::from(header.next_header.0), fields)
 }
 
 /// Leads the last header, the final destination options, to another number each time.

@@ -1,5 +1,5 @@
 //! The parts of single headers and the bytes that are written of them, as C sees them.
-use crate::digest::{layer_code, len_source_code};
+use ip_digests::digest::{layer_code, len_source_code};
 use ip_ext_chains::IpNumber;
 use ip_ext_chains::err::{LenError, ip_auth};
 use ip_ext_headers::err::ip_auth::IcvLenError;

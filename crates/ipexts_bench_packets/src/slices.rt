@@ -1,8 +1,7 @@
 //! Whole packets: base header, extension headers and payload, read in full or as a filter does.
-use crate::digest::{len_source_code, of_auth, of_bytes, of_content, of_len_error, with};
-use etherparse_ip::err::ip::{HeaderError, HeadersError, SliceError};
-use etherparse_ip::err::{ip_auth, ipv4, ipv6};
 use etherparse_ip::{IpPayloadSlice, IpSlice, Ipv4Slice, Ipv6Slice};
+use ip_digests::digest::{len_source_code, of_auth, of_bytes, with};
+use ip_digests::packets::{of_ip_fault, of_ipv4_fault, of_ipv6_fault};
 use std::net::{Ipv4Addr, Ipv6Addr};
 
 /// A way to parse a packet.
@@ -186,51 +185,6 @@ fn of_payload(payload: &IpPayloadSlice<'_>) -> u64 {
     );
     let source = u64::from(len_source_code(&payload.len_source));
     with(with(kind, source), of_bytes(payload.payload))
-}
-
-/// A fault of a packet.
-#[inline(never)]
-pub fn of_ip_fault(fault: &SliceError) -> u64 {
-    match fault {
-        SliceError::Len(fault) => of_len_error(fault),
-        SliceError::IpHeaders(HeadersError::Ip(fault)) => match fault {
-            HeaderError::UnsupportedIpVersion { version_number } => with(
-                3,
-                u64::from(*version_number),
-            ),
-            HeaderError::Ipv4HeaderLengthSmallerThanHeader { ihl } => with(4, u64::from(*ihl)),
-        },
-        SliceError::IpHeaders(HeadersError::Ipv4Ext(ip_auth::HeaderError::ZeroPayloadLen)) => 2,
-        SliceError::IpHeaders(HeadersError::Ipv6Ext(fault)) => of_content(fault),
-    }
-}
-
-/// A fault of an IPv4 packet.
-#[inline(never)]
-pub fn of_ipv4_fault(fault: &ipv4::SliceError) -> u64 {
-    match fault {
-        ipv4::SliceError::Len(fault) => of_len_error(fault),
-        ipv4::SliceError::Header(fault) => match fault {
-            ipv4::HeaderError::UnexpectedVersion { version_number } => with(
-                3,
-                u64::from(*version_number),
-            ),
-            ipv4::HeaderError::HeaderLengthSmallerThanHeader { ihl } => with(4, u64::from(*ihl)),
-        },
-        ipv4::SliceError::Exts(ip_auth::HeaderError::ZeroPayloadLen) => 2,
-    }
-}
-
-/// A fault of an IPv6 packet.
-#[inline(never)]
-pub fn of_ipv6_fault(fault: &ipv6::SliceError) -> u64 {
-    match fault {
-        ipv6::SliceError::Len(fault) => of_len_error(fault),
-        ipv6::SliceError::Header(ipv6::HeaderError::UnexpectedVersion { version_number }) => {
-            with(3, u64::from(*version_number))
-        }
-        ipv6::SliceError::Exts(fault) => of_content(fault),
-    }
 }
 
 /// Each packet, up to the first that isn't there. They stand one after the other, and end at `ends`.

@@ -1,9 +1,9 @@
 //! Digests in which every byte of an answer counts, where those of the other modules take a length and the first
 //! byte. They are too slow to be measured; two sides are compared by them.
-use crate::digest::{layer_code, of_auth, of_fault, of_header, of_strict_fault, with};
-use crate::slices::{of_ip_fault, of_ipv4_fault, of_ipv6_fault};
-use crate::structs::of_answer;
 use etherparse_ip::{IpPayloadSlice, IpSlice, Ipv4Slice, Ipv6Slice};
+use ip_digests::digest::{layer_code, of_auth, of_fault, of_header, of_strict_fault, with};
+use ip_digests::packets::{of_ip_fault, of_ipv4_fault, of_ipv6_fault};
+use ip_digests::structs::of_answer;
 use ip_ext_chains::{
     IpNumber, Ipv4Extensions, Ipv4ExtensionsSlice, Ipv6ExtensionSlice, Ipv6Extensions,
     Ipv6ExtensionsCursor, Ipv6ExtensionsRuns, Ipv6ExtensionsSlice, Ipv6RawExtHeader,

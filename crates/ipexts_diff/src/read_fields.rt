@@ -1,6 +1,5 @@
 //! What a read takes and leaves, as C sees it: the value as it is written, the number behind it, the bytes that
 //! are left, the error, and the state of the limit.
-use crate::digest::{layer_code, len_source_code};
 use etherparse_ip::err::io::LimitedReadError;
 use etherparse_ip::err::{Layer, LenError, ip_auth, ipv6_exts};
 use etherparse_ip::io::{ExactRead, LimitedReader, OverRead};
@@ -8,6 +7,7 @@ use etherparse_ip::{
     IpAuthHeader, IpNumber, Ipv4Extensions, Ipv6Extensions, Ipv6FragmentHeader, Ipv6RawExtHeader,
     LenSource,
 };
+use ip_digests::digest::{layer_code, len_source_code};
 use std::alloc::Global;
 
 /// What a read told. What it doesn't tell is 0.

@@ -1,0 +1,8 @@
+//! Digests of answers, for the static libraries that a program in C or Rust measures and compares: every part
+//! of an answer, folded into one number.
+#![tactic(auto)]
+
+pub mod digest;
+pub mod owned;
+pub mod packets;
+pub mod structs;

@@ -1,5 +1,6 @@
 -- Bytes that were taken, and requests that were refused behind them.
-use Rattle.std.proofs.Common.{◌≡◌, ℕ, ◌+◌, ◌-◌, ◌<◌, ◌≤◌, List, [], ◌++◌, length, take, ap, sym, ◌∙◌, arith, subst, Bool, true, false, length-append}
+use Rattle.std.proofs.lemmas.Grind.{common_steps}
+use Rattle.std.proofs.Common.{◌≡◌, ℕ, ◌+◌, ◌-◌, ◌<◌, ◌≤◌, List, [], ◌++◌, length, take, ap, sym, ◌∙◌, arith, subst, Bool, true, false, length-append, rules}
 use Rattle.std.specs.Prelude.{Option, Some, None, IfSome}
 use Rattle.std.specs.Option.{option_map}
 use Rattle.std.specs.Io.KnownBytes.{Consumes}
@@ -19,26 +20,19 @@ use Rattle.ip_io.specs.declared.io.limited_reader.LimitedReader.{LimitedReader}
 
 -- what is taken of bytes is taken of their beginning, where it is long enough
 pub taken_of_front : (a b : Option (List ℕ)) (n m : ℕ) (bytes : List ℕ) → Consumes a b bytes → length bytes + m ≡ n → Consumes (option_map (take n) a) (option_map (take m) b) bytes
-taken_of_front None b n m bytes c e = tt
-taken_of_front (Some xs) None n m bytes c e = absurd c
-taken_of_front (Some xs) (Some ys) n m bytes c e = ap (take n) c ∙ ap (λ (k : ℕ). take k (bytes ++ ys)) (sym e) ∙ take-append-add bytes ys m
+taken_of_front a b n m bytes c e = search (rules, take-append-add)
 
 -- a refused request of a reader
 pub refused_behind : (Asks : List ℕ → ℕ → Type 0) (steady then_steady : Bool) (first then : Option (List ℕ)) (failed : Bool) (done : List ℕ) (count : ℕ)
     → then_steady ≡ steady → Consumes first then done → Asks done count → IsRefusal then_steady then count failed → IsRefused Asks steady first failed
-refused_behind Asks steady then_steady first then failed done count e c a r =
-    let P : Bool → Type 0 = λ b. IsRefusal b then count failed in
-    (done, count, record { asked = a; left = then; taken = c; refusal = subst P e r })
+refused_behind Asks steady then_steady first then failed done count e c a r = search rules
 
 -- what holds of bytes behind some that were taken
 pub lift_some : (a b : Option (List ℕ)) (done : List ℕ) (Q : List ℕ → Type 0) → Consumes a b done → IfSome b (λ y. Q (done ++ y)) → IfSome a Q
-lift_some None b done Q c f = tt
-lift_some (Some s) None done Q c f = absurd c
-lift_some (Some s) (Some y) done Q c f = subst Q (sym c) f
+lift_some a b done Q c f = search rules
 
 pub of_all : (o : Option (List ℕ)) (R : List ℕ → Type 0) → ((y : List ℕ) → R y) → IfSome o R
-of_all None R f = tt
-of_all (Some y) R f = f y
+of_all o R f = search rules
 
 pub of_begun : (a b : Option (List ℕ)) (done : List ℕ) (R : List ℕ → Type 0) → Consumes a b done → ((xs : List ℕ) → R (done ++ xs)) → IfSome a R
 of_begun a b done R c f = lift_some a b done R c (of_all b (λ y. R (done ++ y)) f)
@@ -49,29 +43,21 @@ module _ (Asks : List ℕ → ℕ → Type 0) (P : List ℕ → Type 0) (short :
   short_of a b done count k c f = lift_some a b done P c (IfSome_then b f (λ ys. short done count ys k))
 
   few_of_front : (b : Option (List ℕ)) (m count : ℕ) → m < count → IfSome (option_map (take m) b) (λ ys. length ys < count)
-  few_of_front None m count l = tt
-  few_of_front (Some ys) m count l = omega (arith, length-take m ys)
+  few_of_front b m count l = search (rules, length-take)
 
   few_of_few : (b : Option (List ℕ)) (m count : ℕ) → IfSome b (λ ys. length ys < count) → IfSome (option_map (take m) b) (λ ys. length ys < count)
-  few_of_few None m count f = tt
-  few_of_few (Some ys) m count f = omega (arith, f, length-take m ys)
+  few_of_few b m count f = search (rules, length-take)
 
   pub refused_short : (steady : Bool) (first : Option (List ℕ)) (failed : Bool) → IsRefused Asks steady first failed → IfSteady steady first P
-  refused_short false first failed r = tt
-  refused_short true first failed r = short_of first r.2.left r.0 r.1 r.2.asked r.2.taken r.2.refusal.short
+  refused_short steady first failed r = search rules
 
   within_short : (steady : Bool) (first : Option (List ℕ)) (failed : Bool) (done : List ℕ) (count n : ℕ)
       → IsRefusedBehind Asks steady first failed done count → length done + count ≤ n → IfSteady steady (option_map (take n) first) P
-  within_short false first failed done count n r l = tt
-  within_short true first failed done count n r l =
-      short_of _ _ done count r.asked (taken_of_front first r.left n (n - length done) done r.taken (omega (arith, l)))
-      (few_of_few r.left (n - length done) count r.refusal.short)
+  within_short steady first failed done count n r l = grind (arith, common_steps)
 
   module _ {T : Type 0} (bytes_left : T → Option (List ℕ)) (is_steady has_failed : T → Bool) (layer : Layer) (old new : LimitedReader T) where
     pub past_limit_short : (e : LenError) → IsPastLimit bytes_left is_steady has_failed Asks layer old new e → IfSome (window bytes_left old) P
-    past_limit_short e p =
-        short_of _ _ p.done p.count p.asked p.taken.window
-        (few_of_front (bytes_left (inner_of new)) (left (limits_of new)) p.count (omega (arith, ap left p.taken.limits, p.beyond, p.taken.within)))
+    past_limit_short e p = search (rules, short_of, few_of_front)
 
     pub refused_within_short : IsRefusedWithin bytes_left is_steady has_failed Asks layer old new → IfSteady (is_steady (inner_of old)) (window bytes_left old) P
     refused_within_short r = within_short _ _ _ r.done r.count (left (limits_of old)) r.refused r.within
@@ -80,31 +66,13 @@ module _ (Asks : List ℕ → ℕ → Type 0) (P : List ℕ → Type 0) (short :
 module _ {T : Type 0} (bytes_left : T → Option (List ℕ)) (layer : Layer) where
   -- none where it begins
   pub taken_none : (old start : LimitedReader T) → inner_of start ≡ inner_of old → limits_of start ≡ started layer (limits_of old) → IsTakenInLayer bytes_left layer old start []
-  taken_none old start same limits =
-      let B : T → Type 0 = λ t. Consumes (bytes_left (inner_of old)) (bytes_left t) [] in
-      let none : Consumes (bytes_left (inner_of old)) (bytes_left (inner_of start)) [] = subst B (sym same) (Consumes-nil (bytes_left (inner_of old))) in
-      record {
-        within = omega arith;
-        limits = limits ∙ ap (λ (n : ℕ). record (started layer (limits_of old)) { read_len = n }) (omega arith);
-        reader = none;
-        window = taken_of_front _ _ (left (limits_of old)) (left (limits_of start)) [] none (omega (arith, ap left limits));
-      }
+  taken_none old start same limits = search rules
 
   -- and n more behind some
   pub taken_more : (old mid new : LimitedReader T) (h p : List ℕ) (n : ℕ) → IsTakenInLayer bytes_left layer old mid h → length p ≡ n
       → Consumes (bytes_left (inner_of mid)) (bytes_left (inner_of new)) p → n ≤ left (limits_of mid) → limits_of new ≡ advanced n (limits_of mid)
       → IsTakenInLayer bytes_left layer old new (h ++ p)
-  taken_more old mid new h p n t is c l e =
-      let both : Consumes (bytes_left (inner_of old)) (bytes_left (inner_of new)) (h ++ p) = Consumes-trans _ _ _ h p t.reader c in
-      let room : length (h ++ p) ≤ left (limits_of old) = omega (arith, length-append h p, t.within, l, ap left t.limits) in
-      let limits : limits_of new ≡ advanced (length (h ++ p)) (started layer (limits_of old)) =
-      e ∙ ap (advanced n) t.limits ∙ ap (λ (k : ℕ). record (started layer (limits_of old)) { read_len = k }) (omega (arith, length-append h p)) in
-      record {
-        within = room;
-        limits = limits;
-        reader = both;
-        window = taken_of_front _ _ (left (limits_of old)) (left (limits_of new)) (h ++ p) both (omega (arith, ap left limits, room));
-      }
+  taken_more old mid new h p n t is c l e = grind (arith, common_steps, length-append, taken_of_front)
 
   -- a request refused behind them
   module _ (is_steady has_failed : T → Bool) (Asks : List ℕ → ℕ → Type 0) where
@@ -112,23 +80,4 @@ module _ {T : Type 0} (bytes_left : T → Option (List ℕ)) (layer : Layer) whe
         → is_steady (inner_of mid) ≡ is_steady (inner_of old) → has_failed (inner_of mid) ≡ has_failed (inner_of old)
         → Asks done count → IsLimitedRefusal bytes_left is_steady has_failed mid new count e → limits_of new ≡ limits_of mid
         → IsRefusedInLayer bytes_left is_steady has_failed Asks layer old new e
-    refused_in_layer old mid new done count (Len e) t steady kept asked r same =
-        let L : LimitedReader T → Type 0 = λ x. IsTakenInLayer bytes_left layer old x done in
-        record {
-          done = done;
-          count = count;
-          asked = asked;
-          taken = subst L (sym r.2) t;
-          beyond = omega (arith, r.0, ap left t.limits, t.within);
-          error = r.1 ∙ ap (limit_error count) (sym same);
-          kept = ap (λ (x : LimitedReader T). has_failed (inner_of x)) r.2 ∙ kept;
-        }
-    refused_in_layer old mid new done count (Io e) t steady kept asked r same =
-        let S : Bool → Type 0 = λ b. IsRefusal b (bytes_left (inner_of mid)) count (has_failed (inner_of new)) in
-        record {
-          done = done;
-          count = count;
-          within = omega (arith, r.0, ap left t.limits, t.within);
-          limits = same ∙ t.limits;
-          refused = record { asked = asked; left = bytes_left (inner_of mid); taken = t.reader; refusal = subst S steady r.1 };
-        }
+    refused_in_layer old mid new done count e t steady kept asked r same = search rules

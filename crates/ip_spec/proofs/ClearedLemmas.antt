@@ -1,5 +1,5 @@
 -- Chains whose reserved bits are put to zero: they lead where they led, stand in the same places and say the same.
-use Rattle.std.proofs.Common.{◌≡◌, ◌≢◌, ℕ, ◌<◌, List, [], ◌∷◌, ◌++◌, length, take, drop, refl, ap, sym, ◌∙◌, arith, inl, inr, subst, Bool}
+use Rattle.std.proofs.Common.{◌≡◌, ◌≢◌, ℕ, ◌<◌, List, [], ◌∷◌, ◌++◌, length, take, drop, refl, ap, sym, ◌∙◌, arith, inl, inr, subst, Bool, rules}
 use Rattle.std.specs.Prelude.{Option, Some, None, All, count_by, slice_range, ◌==◌}
 use Rattle.std.specs.List.{AllByRecursion, find}
 use Rattle.std.specs.Option.{option_map, ForSome}
@@ -8,6 +8,7 @@ use Rattle.std.proofs.lemmas.Option.{none-some, same_Some}
 use Rattle.std.proofs.Math.Seq.{take-append_seam, drop-append_seam}
 use Rattle.std.proofs.lemmas.List.Elements.{All-from_recursion, recursion_from_All, All-take, All-drop}
 use Rattle.std.specs.Int.{from_be_bytes, w32}
+use Rattle.std.proofs.lemmas.Grind.{common_steps}
 use Rattle.ip_spec.specs.Header.{IsHeader, IsFragmentHeader, IsAuthHeader, fragment, auth}
 use Rattle.ip_spec.specs.Fields.{next_header, FragmentFields, offset_bits, flag_bit, unreserved_bits}
 use Rattle.ip_spec.specs.Encoding.{cleared_header, AreBytes, fixed_len, IsCleared, cleared_chain}
@@ -99,9 +100,7 @@ cleared_leads n (h ∷ c) a = ap (λ m. leads_to m (cleared_chain c)) (cleared_s
 
 cleared_links : (n : ℕ) (c : List ExtHeader) → AreHeaders c → AreLinked n c → AreLinked n (cleared_chain c)
 cleared_links n [] a l = tt
-cleared_links n (h ∷ c) a l =
-    let L : ℕ → Type 0 = λ m. AreLinked m (cleared_chain c) in
-    (l.0, subst L (sym (cleared_same h.bytes h.number a.0).next) (cleared_links (next_header h.bytes) c a.1 l.1))
+cleared_links n (h ∷ c) a l = grind (arith, common_steps, cleared_same h.bytes h.number a.0, cleared_links (next_header h.bytes) c a.1 l.1)
 
 cleared_headers : (c : List ExtHeader) → AreHeaders c → AreHeaders (cleared_chain c)
 cleared_headers [] a = tt
@@ -112,15 +111,10 @@ cleared_not_zero [] a = tt
 cleared_not_zero (h ∷ c) a = (a.0, cleared_not_zero c a.1)
 
 cleared_zero_first : (c : List ExtHeader) → AllByRecursion (λ h. h.number ≢ 0) (drop 1 c) → AllByRecursion (λ h. h.number ≢ 0) (drop 1 (cleared_chain c))
-cleared_zero_first [] a = tt
-cleared_zero_first (h ∷ c) a = cleared_not_zero c a
+cleared_zero_first c a = search (rules, cleared_not_zero)
 
 pub cleared_is_chain : (n : ℕ) (c : List ExtHeader) → IsChain n c → IsChain n (cleared_chain c)
-cleared_is_chain n c k = record {
-  headers = cleared_headers c k.headers;
-  links = cleared_links n c k.headers k.links;
-  zero_only_first = cleared_zero_first c k.zero_only_first;
-}
+cleared_is_chain n c k = search (rules, cleared_headers, cleared_links, cleared_zero_first)
 
 -- of bytes, what is cleared is
 pub cleared_are : (c : List ExtHeader) → AreHeaders c → AreBytes (bytes_of c) → AllByRecursion IsCleared (cleared_chain c)
@@ -155,9 +149,7 @@ find_has P t (g ∷ c) a h e =
     ]
 
 side_has : (P : ExtHeader → Type 0) (p : Place) (c : List ExtHeader) → All P c → All P (side_of p c)
-side_has P destination c a = All-take P _ c a
-side_has P final_destination c a = All-drop P _ c a
-side_has P p c a = a
+side_has P p c a = grind (arith, common_steps)
 
 pub header_in_has : (P : ExtHeader → Type 0) (p : Place) (c : List ExtHeader) → AllByRecursion P c → ForSome (header_in p c) P
 header_in_has P p c a = find_has P (is_of p) (side_of p c) (side_has P p c (All-from_recursion P c a))

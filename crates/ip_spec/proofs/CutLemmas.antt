@@ -1,8 +1,9 @@
 -- Lists cut into pieces under a demand: there is one cut, only one, and none has fewer pieces.
-use Rattle.std.proofs.Common.{◌≡◌, ◌≢◌, ℕ, zero, suc, ◌≤◌, List, [], ◌∷◌, ◌++◌, length, refl, ap, sym, ◌∙◌, arith, subst, append_assoc}
+use Rattle.std.proofs.Common.{◌≡◌, ◌≢◌, ℕ, zero, suc, ◌≤◌, List, [], ◌∷◌, ◌++◌, length, refl, ap, sym, ◌∙◌, arith, subst, append_assoc, rules}
 use Rattle.std.specs.List.{AllByRecursion}
 use Rattle.std.proofs.lemmas.List.{append-nil, append_cancel_left, length-append}
 use Rattle.std.proofs.lemmas.List.Concat.{flat_map-append}
+use Rattle.std.proofs.lemmas.Grind.{common_steps}
 use Rattle.ip_spec.specs.Demand.{IsDemand, NextBreaks, KeepsBeginning}
 use Rattle.ip_spec.specs.Runs.{joined, how_many, IsCut}
 use Rattle.ip_spec.proofs.LongestOfLemmas.{compare, within, beyond}
@@ -16,12 +17,10 @@ pub record Cuts {X : Type 0} (Q : List X → Type 0) : Type 0 where
   pub one : (x : X) → Q (x ∷ [])
 
 some_element : {X : Type 0} (p : List X) → p ≢ [] → 1 ≤ length p
-some_element [] e = absurd (e refl)
-some_element (x ∷ p) e = omega arith
+some_element p e = grind (arith, common_steps)
 
 how_many-least : {X : Type 0} (p : List X) (ps : List (List X)) → how_many ps ≤ how_many (p ∷ ps)
-how_many-least [] ps = omega arith
-how_many-least (x ∷ p) ps = omega arith
+how_many-least p ps = search rules
 
 how_many-beyond : {X : Type 0} (p : List X) (x : X) (q : List X) (ps : List (List X)) → how_many ((p ++ x ∷ q) ∷ ps) ≡ suc (how_many ps)
 how_many-beyond [] x q ps = refl
@@ -44,24 +43,15 @@ joined-more ps = flat_map-append (λ p. p) ps ([] ∷ []) ∙ append-nil (joined
 
 module _ {X : Type 0} (Q : List X → Type 0) (q : Cuts Q) where
   none_kept : (d rest : List X) → d ≡ rest → NextBreaks Q [] rest → d ≡ []
-  none_kept d [] e breaks = e
-  none_kept d (x ∷ rest) e breaks = absurd (breaks (q.one x))
+  none_kept d rest e breaks = search rules
 
   -- of some elements some are kept
   pub some_are_kept : (d p : List X) → d ≢ [] → KeepsBeginning Q d p → p ≢ []
-  some_are_kept d [] e k = λ w. e (none_kept d k.rest k.joined k.breaks)
-  some_are_kept d (x ∷ p) e k = λ w. cc
+  some_are_kept d p e k = search rules
 
   -- what is kept is the first piece, and the pieces of the rest follow
   pub cut_more : (d p : List X) (ps : List (List X)) → p ≢ [] → (k : KeepsBeginning Q d p) → IsCut Q k.rest ps → IsCut Q d (p ∷ ps)
-  cut_more d p ps e k c =
-      let B : List X → Type 0 = NextBreaks Q p in
-      record {
-        whole = ap (λ l. p ++ l) c.whole ∙ sym k.joined;
-        filled = (e, c.filled);
-        meets = (k.meets, c.meets);
-        breaks = (subst B (sym c.whole) k.breaks, c.breaks);
-      }
+  cut_more d p ps e k c = search rules
 
   pub first_kept : (d p : List X) (ps : List (List X)) → IsCut Q d (p ∷ ps) → KeepsBeginning Q d p
   first_kept d p ps c = record { rest = joined ps; joined = sym c.whole; meets = c.meets.0; breaks = c.breaks.0 }

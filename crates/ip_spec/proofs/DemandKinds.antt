@@ -3,6 +3,7 @@ use Rattle.std.proofs.Common.{◌≡◌, ℕ, ◌≤◌, List, [], ◌∷◌, le
 use Rattle.std.specs.List.{AllByRecursion}
 use Rattle.std.proofs.lemmas.List.{length-append, take-append-drop, length-take, length-drop}
 use Rattle.std.proofs.lemmas.List.Concat.{flat_map-append}
+use Rattle.std.proofs.lemmas.Grind.{common_steps}
 use Rattle.ip_spec.specs.Chain.{ExtHeader, bytes_of, IsLongestChain}
 use Rattle.ip_spec.specs.Demand.{IsDemand, IsLongestUnder, KeepsBeginning, NextBreaks, AtMost, AtMostOneOf}
 use Rattle.ip_spec.proofs.HeaderLemmas.{eq_or}
@@ -15,17 +16,11 @@ pub at_most : (k : ℕ) → IsDemand (AtMost k)
 at_most k = demand_up_to length k (omega arith) (λ c d. omega (arith, length-append c d))
 
 most_breaks : (k : ℕ) (d c rest : List ExtHeader) → c ≡ take k d → rest ≡ drop k d → NextBreaks (AtMost k) c rest
-most_breaks k d c [] e f = tt
-most_breaks k d c (x ∷ rest) e f = λ q. omega (arith, length-append c (x ∷ []), ap length e, ap length f, length-take k d, length-drop k d)
+most_breaks k d c rest e f = grind (arith, common_steps, length-append, length-take, length-drop)
 
 -- it keeps the first k
 pub at_most_keeps : (k : ℕ) (d : List ExtHeader) → KeepsBeginning (AtMost k) d (take k d)
-at_most_keeps k d = record {
-  rest = drop k d;
-  joined = sym (take-append-drop k d);
-  meets = omega (arith, length-take k d);
-  breaks = most_breaks k d (take k d) (drop k d) refl refl;
-}
+at_most_keeps k d = grind (arith, common_steps, take-append-drop k d, length-take k d, most_breaks k d (take k d) (drop k d) refl refl)
 
 -- so the longest chain of at most k headers is the first k of the longest
 pub longest_at_most : (k n : ℕ) (s : List ℕ) (d : List ExtHeader) → IsLongestChain n s d → IsLongestUnder (AtMost k) n s (take k d)
@@ -33,10 +28,7 @@ longest_at_most k n s d l = kept_is_longest (AtMost k) (at_most k) n s d (take k
 
 pub all_or : {X : Type 0} (P : X → Type 0) → ((x : X) → P x ⊎ (P x → ⊥)) → (c : List X) → AllByRecursion P c ⊎ (AllByRecursion P c → ⊥)
 all_or P test [] = inl tt
-all_or P test (x ∷ c) = elim (test x) [
-  | inr fails ↦ inr (λ a. fails a.0)
-  | inl p ↦ elim (all_or P test c) [ inr fails ↦ inr (λ a. fails a.1) | inl a ↦ inl (p, a) ]
-]
+all_or P test (x ∷ c) = grind (arith, common_steps, all_or P test c)
 
 pub demand_all : {X : Type 0} (P : X → Type 0) → ((x : X) → P x ⊎ (P x → ⊥)) → IsDemand (AllByRecursion P)
 demand_all P test = record { empty = tt; begins = all_first P; decided = all_or P test }

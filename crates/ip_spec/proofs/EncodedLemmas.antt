@@ -1,5 +1,5 @@
 -- Fields determine the header that says them, where its reserved bits are zero.
-use Rattle.std.proofs.Common.{◌≡◌, ℕ, ◌+◌, ◌-◌, ◌/◌, ◌^◌, ◌<◌, ◌≤◌, List, [], ◌∷◌, length, drop, refl, ap, sym, ◌∙◌, arith, inl, inr, subst}
+use Rattle.std.proofs.Common.{◌≡◌, ℕ, ◌+◌, ◌-◌, ◌/◌, ◌^◌, ◌<◌, ◌≤◌, List, [], ◌∷◌, length, drop, refl, ap, sym, ◌∙◌, arith, inl, inr, subst, rules}
 use Rattle.std.specs.Prelude.{slice_range}
 use Rattle.std.proofs.lemmas.List.Elements.{All-from_recursion, recursion_from_All, All-append}
 use Rattle.ip_spec.specs.Header.{IsHeader, IsRawHeader, IsRawNumber, raw, fragment, auth}
@@ -19,15 +19,7 @@ abbrev pub of_number : ℕ → List ℕ → ExtHeader
 of_number n b = record { number = n; bytes = b }
 
 raw_bytes : (b d : List ℕ) → IsRawHeader b → IsRawHeader d → raw_fields b ≡ raw_fields d → b ≡ d
-raw_bytes [] d h g e = absurd (omega (arith, h.least))
-raw_bytes (x ∷ []) d h g e = absurd (omega (arith, h.least))
-raw_bytes (x0 ∷ x1 ∷ r) [] h g e = absurd (omega (arith, g.least))
-raw_bytes (x0 ∷ x1 ∷ r) (y ∷ []) h g e = absurd (omega (arith, g.least))
-raw_bytes (x0 ∷ x1 ∷ r) (y0 ∷ y1 ∷ q) h g e =
-    let number : x0 ≡ y0 = ap (λ (v : RawFields). v.next_header) e in
-    let payload : r ≡ q = ap (λ (v : RawFields). v.payload) e in
-    let len : x1 ≡ y1 = omega (arith, h.len, g.len, ap length payload) in
-    ap (λ a. a ∷ x1 ∷ r) number ∙ ap (λ a. y0 ∷ a ∷ r) len ∙ ap (λ a. y0 ∷ y1 ∷ a) payload
+raw_bytes b d h g e = search rules
 
 -- What encodes fields is one header,
 pub one_encoded : (x : HeaderFields) (b d : List ℕ) → IsEncodingOf x b → IsEncodingOf x d → b ≡ d
@@ -47,15 +39,10 @@ cleared_is_encoding n b h =
     n (header_number n b h) h
 
 pub encoding_is : (n : ℕ) (x : HeaderFields) (h : ExtHeader) (b : List ℕ) → IsEncoded n x h → IsEncodingOf x b → h.bytes ≡ b
-encoding_is n x h b e =
-    let H : ℕ → Type 0 = λ m. IsHeader m h.bytes in
-    let E : HeaderFields → Type 0 = λ y. IsEncodingOf y h.bytes in
-    one_encoded x h.bytes b (subst E e.fields (cleared_is_encoding h.number h.bytes (subst H (sym e.number) e.header) e.cleared))
+encoding_is n x h b e = search (rules, one_encoded, cleared_is_encoding)
 
 pub one_header_says : (h g : ExtHeader) → h.number ≡ g.number → IsHeader h.number h.bytes → IsHeader g.number g.bytes → IsCleared h → IsCleared g → fields_of h ≡ fields_of g → h ≡ g
-one_header_says h g e x y p q f =
-    let E : HeaderFields → Type 0 = λ v. IsEncodingOf v h.bytes in
-    ext_header-eq h g e (one_encoded (fields_of g) h.bytes g.bytes (subst E f (cleared_is_encoding h.number h.bytes x p)) (cleared_is_encoding g.number g.bytes y q))
+one_header_says h g e x y p q f = search (rules, ext_header-eq, one_encoded, cleared_is_encoding)
 
 pub same_fragment : (x y : FragmentFields) → fragment_header x ≡ fragment_header y → x ≡ y
 same_fragment x y e = cc

@@ -1,5 +1,5 @@
 -- The fields of a header, and the header that says them.
-use Rattle.std.proofs.Common.{◌≡◌, ℕ, ◌+◌, ◌/◌, ◌%◌, ◌^◌, ◌<◌, ◌≤◌, List, [], ◌∷◌, ◌++◌, length, get_or, take, drop, refl, ap, sym, ◌∙◌, arith, inl, inr, subst, Bool}
+use Rattle.std.proofs.Common.{◌≡◌, ℕ, ◌+◌, ◌/◌, ◌%◌, ◌^◌, ◌<◌, ◌≤◌, List, [], ◌∷◌, ◌++◌, length, get_or, take, drop, refl, ap, sym, ◌∙◌, arith, inl, inr, subst, Bool, rules}
 use Rattle.std.specs.Prelude.{slice_range}
 use Rattle.std.specs.Int.{to_be_bytes, from_be_bytes, w32}
 use Rattle.std.proofs.lemmas.List.{append_cancel_left, get_or_past, take_all, take-append-drop}
@@ -45,10 +45,7 @@ first_four (x0 ∷ x1 ∷ x2 ∷ x3 ∷ rest) l = record { x0 = x0; x1 = x1; x2 
 
 -- each number of bytes, and the default behind them, is a byte
 pub byte_at : (b : List ℕ) → AreBytes b → (i : ℕ) → get_or b i 0 < 256
-byte_at b h i = elim (cases_lt i (length b)) [
-  | inl within ↦ All-get_or (λ x. x < 256) b i 0 within h
-  | inr past ↦ rw (get_or_past b i 0 past) (omega arith)
-]
+byte_at b h i = search (rules, cases_lt, get_or_past)
 
 -- The encoding of fields. It is a way to prove, and no definition: the relations say what a encoding is.
 abbrev pub fragment_written : FragmentFields → List ℕ
@@ -70,17 +67,7 @@ three_before x1 x2 x3 rest b c d e = All-from_recursion (λ x. x < 256) (x1 ∷ 
 -- bytes 2 and 3 that have the offset and the flag, and no reserved bit, make the header that says the fields
 pub fragment_encodes : (v : FragmentFields) (high low : ℕ) → offset_bits high low ≡ v.fragment_offset → flag_bit low ≡ v.more_fragments → unreserved_bits low ≡ low
     → high < 256 → low < 256 → v.identification < 2 ^ 32 → IsFragmentEncoding v (v.next_header ∷ 0 ∷ high ∷ low ∷ to_be_bytes w32 v.identification)
-fragment_encodes v high low offset flag reserved high_byte low_byte small =
-    let fields : ℕ → Bool → ℕ → FragmentFields = λ a b i. record { next_header = v.next_header; fragment_offset = a; more_fragments = b; identification = i } in
-    let id : ℕ = from_be_bytes w32 (to_be_bytes w32 v.identification) in
-    record {
-      header = record { len = refl };
-      fields = ap (λ a. fields a (flag_bit low) id) offset ∙ ap (λ b. fields v.fragment_offset b id) flag ∙ ap (λ i. fields v.fragment_offset v.more_fragments i) (from_be_bytes-to_be_bytes_4 v.identification small);
-      cleared = record {
-        reserved = ap (λ x. v.next_header ∷ 0 ∷ high ∷ x ∷ to_be_bytes w32 v.identification) reserved;
-        bytes = three_before 0 high low (to_be_bytes w32 v.identification) (omega arith) high_byte low_byte (be_bytes-are v.identification);
-      };
-    }
+fragment_encodes v high low offset flag reserved high_byte low_byte small = search rules
 
 pub auth_written_encodes : (v : AuthFields) → length v.raw_icv ≤ 1016 → length v.raw_icv % 4 ≡ 0 → v.spi < 2 ^ 32 → v.sequence_number < 2 ^ 32 → IsAuthEncoding v (auth_written v)
 auth_written_encodes v few whole small small' =

@@ -1,5 +1,5 @@
 -- The first element of a list that passes a test, what stands before it and what after, where lists are joined.
-use Rattle.std.proofs.Common.{◌≡◌, ℕ, suc, ◌+◌, ◌≤◌, List, [], ◌∷◌, ◌++◌, take, drop, map, refl, ap, sym, ◌∙◌, arith, inl, inr, Bool, true, false, cond}
+use Rattle.std.proofs.Common.{◌≡◌, ℕ, suc, ◌+◌, ◌≤◌, List, [], ◌∷◌, ◌++◌, take, drop, map, refl, ap, sym, ◌∙◌, arith, inl, inr, Bool, true, false, cond, rules}
 use Rattle.std.specs.Prelude.{not, count_by, Option, Some, None, is_some}
 use Rattle.std.specs.List.{position_or_len, find, before_first, after_first, AllByRecursion}
 use Rattle.std.specs.Option.{option_or, option_map}
@@ -8,6 +8,7 @@ use Rattle.std.proofs.lemmas.Option.{none-some}
 use Rattle.std.proofs.lemmas.List.{take-append-drop}
 use Rattle.std.proofs.lemmas.List.Sums.{sum_by-append}
 use Rattle.std.proofs.lemmas.List.Folds.{find-append}
+use Rattle.std.proofs.lemmas.Grind.{common_steps}
 
 module _ {X : Type 0} (t : X → Bool) where
   module _ (x : X) (xs : List X) where
@@ -15,19 +16,13 @@ module _ {X : Type 0} (t : X → Bool) where
     before-yes e = ap (λ b. take (cond (not b) (1 + position_or_len t xs) 0) (x ∷ xs)) e
 
     pub before-no : t x ≡ false → before_first t (x ∷ xs) ≡ x ∷ before_first t xs
-    before-no e =
-        let k : ℕ = position_or_len t xs in
-        let more : 1 + k ≡ suc k = omega arith in
-        ap (λ b. take (cond (not b) (1 + k) 0) (x ∷ xs)) e ∙ ap (λ j. take j (x ∷ xs)) more
+    before-no e = search rules
 
     after-yes : t x ≡ true → after_first t (x ∷ xs) ≡ xs
     after-yes e = ap (λ b. drop (cond (not b) (1 + position_or_len t xs) 0 + 1) (x ∷ xs)) e
 
     after-no : t x ≡ false → after_first t (x ∷ xs) ≡ after_first t xs
-    after-no e =
-        let k : ℕ = position_or_len t xs in
-        let more : (1 + k) + 1 ≡ suc (k + 1) = omega arith in
-        ap (λ b. drop (cond (not b) (1 + k) 0 + 1) (x ∷ xs)) e ∙ ap (λ j. drop j (x ∷ xs)) more
+    after-no e = search rules
 
     pub find-yes : t x ≡ true → find t (x ∷ xs) ≡ Some x
     find-yes e = ap (λ b. cond b (Some x) (find t xs)) e
@@ -111,8 +106,7 @@ module _ {X : Type 0} (t : X → Bool) where
   find_more-yes xs x e = find-append t xs (x ∷ []) ∙ ap (λ o. option_or (find t xs) o) (find-yes x [] e)
 
   or_none : (o : Option X) → option_or o None ≡ o
-  or_none (Some x) = refl
-  or_none None = refl
+  or_none o = search rules
 
   pub find_more-no : (xs : List X) (x : X) → t x ≡ false → find t (xs ++ x ∷ []) ≡ find t xs
   find_more-no xs x e = find-append t xs (x ∷ []) ∙ ap (λ o. option_or (find t xs) o) (find-no x [] e) ∙ or_none (find t xs)
@@ -136,21 +130,12 @@ module _ {X Y : Type 0} (f : X → Y) (t : Y → Bool) where
 
   pub after-map : (xs : List X) → map f (after_first (λ x. t (f x)) xs) ≡ after_first t (map f xs)
   after-map [] = refl
-  after-map (x ∷ xs) = elim (cases_Bool (t (f x))) [
-    | inl w ↦ ap (map f) (after-yes (λ x. t (f x)) x xs w) ∙ sym (after-yes t (f x) (map f xs) w)
-    | inr w ↦ ap (map f) (after-no (λ x. t (f x)) x xs w) ∙ after-map xs ∙ sym (after-no t (f x) (map f xs) w)
-  ]
+  after-map (x ∷ xs) = grind (arith, common_steps, after-map xs)
 
   pub find-map : (xs : List X) → find t (map f xs) ≡ option_map f (find (λ x. t (f x)) xs)
   find-map [] = refl
-  find-map (x ∷ xs) = elim (cases_Bool (t (f x))) [
-    | inl w ↦ find-yes t (f x) (map f xs) w ∙ sym (ap (option_map f) (find-yes (λ x. t (f x)) x xs w))
-    | inr w ↦ find-no t (f x) (map f xs) w ∙ find-map xs ∙ sym (ap (option_map f) (find-no (λ x. t (f x)) x xs w))
-  ]
+  find-map (x ∷ xs) = grind (arith, common_steps, find-map xs)
 
   pub count-map : (xs : List X) → count_by (λ x. t (f x)) xs ≡ count_by t (map f xs)
   count-map [] = refl
-  count-map (x ∷ xs) = elim (cases_Bool (t (f x))) [
-    | inl w ↦ omega (arith, count_yes (λ x. t (f x)) x xs w, count_yes t (f x) (map f xs) w, count-map xs)
-    | inr w ↦ omega (arith, count_no (λ x. t (f x)) x xs w, count_no t (f x) (map f xs) w, count-map xs)
-  ]
+  count-map (x ∷ xs) = grind (arith, common_steps, count-map xs)

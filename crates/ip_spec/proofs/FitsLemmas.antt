@@ -1,8 +1,9 @@
 -- Chains whose headers fit six places.
-use Rattle.std.proofs.Common.{◌≡◌, ℕ, ◌≤◌, ◌<◌, List, [], ◌∷◌, ◌++◌, length, drop, refl, ap, sym, ◌∙◌, arith, inl, inr, ◌⊎◌, true, false, subst}
+use Rattle.std.proofs.Common.{◌≡◌, ℕ, ◌≤◌, ◌<◌, List, [], ◌∷◌, ◌++◌, length, drop, refl, ap, sym, ◌∙◌, arith, inl, inr, ◌⊎◌, true, false, subst, rules}
 use Rattle.std.specs.Prelude.{count_by}
 use Rattle.std.proofs.lemmas.Bool.{cases_lt}
 use Rattle.std.proofs.lemmas.List.{append-nil, length-append}
+use Rattle.std.proofs.lemmas.Grind.{common_steps}
 use Rattle.ip_spec.proofs.HeaderLemmas.{header_number, later_of}
 use Rattle.ip_spec.specs.Chain.{ExtHeader, leads_to, bytes_of, is_empty, IsPrefixChain, IsLongestChain, IsNext, IsEnd}
 use Rattle.ip_spec.specs.Demand.{IsDemand, IsLongestUnder, NextBreaks}
@@ -21,22 +22,13 @@ nothing_counted : (p : Place) → count_in p [] ≡ 0
 nothing_counted p = ap (count_by (is_of p)) (nothing_on p)
 
 count_grows : (p : Place) (c d : List ExtHeader) → count_in p c ≤ count_in p (c ++ d)
-count_grows destination c d = elim (sides c d) [
-  | none_yet none all nothing b a ↦ omega (arith, ap (count_by (is_of destination)) all, ap (count_by (is_of destination)) b, count-append (is_of destination) c (side_of destination d))
-  | one_before some b a ↦ omega (arith, ap (count_by (is_of destination)) b)
-]
-count_grows final_destination c d = elim (sides c d) [
-  | none_yet none all nothing b a ↦ omega (arith, ap (count_by (is_of final_destination)) nothing)
-  | one_before some b a ↦ omega (arith, ap (count_by (is_of final_destination)) a, count-append (is_of final_destination) (side_of final_destination c) d)
-]
+count_grows destination c d = search (rules, sides, none_yet, count-append, one_before)
+count_grows final_destination c d = grind (arith, common_steps, sides c d, count-append (is_of final_destination) (side_of final_destination c) d)
 count_grows p c d = omega (arith, count-append (is_of p) c d)
 
 -- whether each place has a property
 each_or : (P : Place → Type 0) → ((p : Place) → P p ⊎ (P p → ⊥)) → ((p : Place) → P p) ⊎ (((p : Place) → P p) → ⊥)
-each_or P test = elim (all_or P test places) [
-  | inl a ↦ inl (each P a)
-  | inr fails ↦ inr (λ f. fails (f hop_by_hop, (f destination, (f routing, (f fragment, (f authentication, (f final_destination, tt)))))))
-]
+each_or P test = grind (arith, common_steps, all_or P test places, fragment)
 
 pub fits_places : IsDemand FitsPlaces
 fits_places = record {
@@ -66,8 +58,7 @@ number_fits c g h e f = fits_next c h (fits_places.begins c (g ∷ []) f) (λ p 
 
 -- Where a header goes on and doesn't fit, its number is taken.
 first_fits : (c : List ExtHeader) (h : ExtHeader) → is_empty c ≡ true → FitsPlaces (c ++ h ∷ [])
-first_fits [] h e = one_fits h
-first_fits (g ∷ c) h e = absurd (let differ : false ≡ true = e in cc)
+first_fits c h e = search rules
 
 pub breaks_taken : (c : List ExtHeader) (m : ℕ) (r : List ℕ) (h : ExtHeader) → IsNext (is_empty c) m r h → (FitsPlaces (c ++ h ∷ []) → ⊥) → IsTaken m c
 breaks_taken c m r h x breaks = (
@@ -94,10 +85,7 @@ module _ (n : ℕ) (s : List ℕ) (d c : List ExtHeader) (l : IsLongestChain n s
       next_taken n s c k.rest (subst C k.joined l.has) k.breaks (λ e. absurd (omega (arith, ap length k.joined, ap length e, length-append c k.rest, w)))
 
   longer_behind : (rest : List ExtHeader) → d ≡ c ++ rest → (h : ExtHeader) → IsNext (is_empty c) (leads_to n c) (drop (length (bytes_of c)) s) h → length c < length d
-  longer_behind [] e h x =
-      let M : List ExtHeader → Type 0 = λ b. IsNext (is_empty b) (leads_to n b) (drop (length (bytes_of b)) s) h in
-      absurd (longest_ends n s d l h (subst M (sym (append-nil c) ∙ sym e) x))
-  longer_behind (g ∷ rest) e h x = omega (arith, ap length e, length-append c (g ∷ rest))
+  longer_behind rest e h x = search (rules, longest_ends, append-nil, length-append)
 
   pub shorter_where_next : (h : ExtHeader) → IsNext (is_empty c) (leads_to n c) (drop (length (bytes_of c)) s) h → length c < length d
   shorter_where_next h x = let k = longest_keeps FitsPlaces fits_places n s d c l u in longer_behind k.rest k.joined h x

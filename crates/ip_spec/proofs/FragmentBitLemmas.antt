@@ -1,9 +1,10 @@
 -- Bytes 2 and 3 of a fragment header: the offset and the flag packed into them. No other proof looks at their bits.
-use Rattle.std.proofs.Common.{◌≡◌, ℕ, ◌+◌, ◌*◌, ◌/◌, ◌%◌, ◌<◌, ◌≤◌, ap, ◌∙◌, arith, inl, inr, Bool, true, false, cond, bit_and}
+use Rattle.std.proofs.Common.{◌≡◌, ℕ, ◌+◌, ◌*◌, ◌/◌, ◌%◌, ◌<◌, ◌≤◌, ap, ◌∙◌, arith, inl, inr, Bool, true, false, cond, bit_and, rules}
 use Rattle.std.specs.Prelude.{◌==◌, not}
 use Rattle.std.proofs.lemmas.Nat.{and_comm, and_assoc, and_mask, and-not}
 use Rattle.std.proofs.lemmas.Nat.Bits.{and_high}
 use Rattle.std.proofs.lemmas.Bool.Decides.{eqb_tells}
+use Rattle.std.proofs.lemmas.Grind.{common_steps}
 use Rattle.ip_spec.specs.Lengths.{MAX_FRAGMENT_OFFSET}
 use Rattle.ip_spec.specs.Fields.{offset_bits, flag_bit, unreserved_bits}
 
@@ -22,35 +23,25 @@ module _ (low : ℕ) where
   flag_part = and_mask low 1
 
   reserved_part : low < 256 → bit_and low 0xf9 + low / 2 % 4 * 2 ≡ low
-  reserved_part small =
-      let other : bit_and 0x06 low ≡ low / 2 % 4 * 2 = and_comm 0x06 low ∙ and_high low 2 1 in
-      let all : bit_and 0xf9 low + bit_and 0x06 low ≡ low = and-not 8 0x06 low (omega arith) small in
-      omega (arith, all, other, and_comm low 0xf9)
+  reserved_part small = grind (arith, common_steps, and_comm 0x06 low, and_high low 2 1, and-not 8 0x06 low (omega arith) small, and_comm low 0xf9)
 
   -- the bits above the flag, and the flag
   flagged : low ≡ low / 2 * 2 + cond (flag_bit low) 1 0
-  flagged = elim (eqb_tells (bit_and low 0x01) 0) [
-    | inl w ↦ rw w.0 (omega (arith, flag_part, w.1))
-    | inr w ↦ rw w.0 (omega (arith, flag_part, w.1))
-  ]
+  flagged = search (rules, eqb_tells, flag_part)
 
 -- what is packed is unpacked
 module _ (offset : ℕ) where
   pub packed_offset : (more : Bool) → offset_bits (high_byte offset) (low_byte offset more) ≡ offset
-  packed_offset true = omega (arith, offset_part (offset % 32 * 8 + 1))
-  packed_offset false = omega (arith, offset_part (offset % 32 * 8 + 0))
+  packed_offset more = search (rules, offset_part)
 
   pub packed_flag : (more : Bool) → flag_bit (low_byte offset more) ≡ more
-  packed_flag true = let e : bit_and (offset % 32 * 8 + 1) 0x01 ≡ 1 = omega (arith, flag_part (offset % 32 * 8 + 1)) in ap (λ n. not (n == 0)) e
-  packed_flag false = let e : bit_and (offset % 32 * 8 + 0) 0x01 ≡ 0 = omega (arith, flag_part (offset % 32 * 8 + 0)) in ap (λ n. not (n == 0)) e
+  packed_flag more = search (rules, flag_part)
 
   pub low_small : (more : Bool) → low_byte offset more < 256
-  low_small true = omega arith
-  low_small false = omega arith
+  low_small more = search rules
 
   pub packed_reserved : (more : Bool) → unreserved_bits (low_byte offset more) ≡ low_byte offset more
-  packed_reserved true = omega (arith, reserved_part (offset % 32 * 8 + 1) (omega arith))
-  packed_reserved false = omega (arith, reserved_part (offset % 32 * 8 + 0) (omega arith))
+  packed_reserved more = search (rules, reserved_part)
 
   pub high_small : offset ≤ MAX_FRAGMENT_OFFSET → high_byte offset < 256
   high_small largest = omega (arith, largest)

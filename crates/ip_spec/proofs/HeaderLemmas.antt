@@ -1,5 +1,5 @@
 -- Headers, and headers at the prefix of bytes.
-use Rattle.std.proofs.Common.{◌≡◌, ◌≢◌, ℕ, zero, suc, ◌+◌, ◌*◌, ◌<◌, ◌≤◌, List, ◌++◌, length, get_or, take, drop, refl, ap, sym, ◌∙◌, arith, inl, inr, ◌⊎◌, subst, Bool, true, false, nat_eq, cond, slice_index}
+use Rattle.std.proofs.Common.{◌≡◌, ◌≢◌, ℕ, zero, suc, ◌+◌, ◌*◌, ◌<◌, ◌≤◌, List, ◌++◌, length, get_or, take, drop, refl, ap, sym, ◌∙◌, arith, inl, inr, ◌⊎◌, subst, Bool, true, false, nat_eq, cond, slice_index, rules}
 use Rattle.std.proofs.lemmas.Grind.{common_steps}
 use Rattle.std.proofs.lemmas.List.{get_or_append_left, take_at, length-take-le}
 use Rattle.std.proofs.Math.Seq.{take-append_seam}
@@ -24,72 +24,37 @@ pub data Kind (n : ℕ) : Type 0 where
   is_other : (IsRawNumber n → ⊥) → n ≢ 44 → n ≢ 51 → Kind n
 
 raw_or : (n : ℕ) → IsRawNumber n ⊎ (IsRawNumber n → ⊥)
-raw_or n = elim (eq_or n 0) [
-  | inl e ↦ inl (inl e)
-  | inr z ↦ elim (eq_or n 43) [
-    | inl e ↦ inl (inr (inl e))
-    | inr r ↦ elim (eq_or n 60) [
-      | inl e ↦ inl (inr (inr e))
-      | inr d ↦ inr (λ k. elim k [ inl e ↦ z e | inr k' ↦ elim k' [ inl e ↦ r e | inr e ↦ d e ] ])
-    ]
-  ]
-]
+raw_or n = search rules
 
 pub kind : (n : ℕ) → Kind n
-kind n = elim (raw_or n) [
-  | inl k ↦ is_raw k
-  | inr r ↦ elim (eq_or n 44) [
-    | inl e ↦ is_fragment e
-    | inr f ↦ elim (eq_or n 51) [ inl e ↦ is_auth e | inr a ↦ is_other r f a ]
-  ]
-]
+kind n = search rules
 
 pub header_number : (n : ℕ) (b : List ℕ) → IsHeader n b → IsExtensionNumber n
 header_number n b h = elim h [ raw k r ↦ inl k | fragment e f ↦ inr (inl e) | auth e a ↦ inr (inr e) ]
 
 -- What holds of 0, 43 and 60 holds of each number of the common layout,
 pub by_raw : (S : ℕ → Type 0) → S 0 → S 43 → S 60 → (n : ℕ) → IsRawNumber n → S n
-by_raw S a b c n k = elim k [
-  | inl e ↦ subst S (sym e) a
-  | inr k' ↦ elim k' [ inl e ↦ subst S (sym e) b | inr e ↦ subst S (sym e) c ]
-]
+by_raw S a b c n k = search rules
 
 -- and what holds of 44 and 51 too of each extension number.
 pub by_number : (S : ℕ → Type 0) → S 0 → S 43 → S 60 → S 44 → S 51 → (n : ℕ) → IsExtensionNumber n → S n
-by_number S a b c d e n x = elim x [
-  | inl k ↦ by_raw S a b c n k
-  | inr k ↦ elim k [ inl is ↦ subst S (sym is) d | inr is ↦ subst S (sym is) e ]
-]
+by_number S a b c d e n x = search rules
 
 -- The extension numbers but 0 are those of headers that can stand behind another.
 pub later_of : (n : ℕ) → IsExtensionNumber n → n ≢ 0 → IsLaterNumber n
 later_of = by_number (λ n. n ≢ 0 → IsLaterNumber n) (λ z. absurd (z refl)) (λ z. inl refl) (λ z. inr (inr (inr refl))) (λ z. inr (inl refl)) (λ z. inr (inr (inl refl)))
 
 pub extension_of_later : (n : ℕ) → IsLaterNumber n → IsExtensionNumber n
-extension_of_later n l = elim l [
-  | inl e ↦ inl (inr (inl e))
-  | inr l' ↦ elim l' [ inl e ↦ inr (inl e) | inr l'' ↦ elim l'' [ inl e ↦ inr (inr e) | inr e ↦ inl (inr (inr e)) ] ]
-]
+extension_of_later n l = search rules
 
 pub later_not_zero : (n : ℕ) → IsLaterNumber n → n ≢ 0
-later_not_zero n l z = elim l [
-  | inl e ↦ omega arith
-  | inr l' ↦ elim l' [ inl e ↦ omega arith | inr l'' ↦ elim l'' [ inl e ↦ omega arith | inr e ↦ omega arith ] ]
-]
+later_not_zero n l z = search rules
 
 extension_or : (n : ℕ) → IsExtensionNumber n ⊎ (IsExtensionNumber n → ⊥)
-extension_or n = elim (kind n) [
-  | is_raw k ↦ inl (inl k)
-  | is_fragment e ↦ inl (inr (inl e))
-  | is_auth e ↦ inl (inr (inr e))
-  | is_other r f a ↦ inr (λ x. elim x [ inl k ↦ r k | inr k ↦ elim k [ inl e ↦ f e | inr e ↦ a e ] ])
-]
+extension_or n = search rules
 
 pub later_or : (n : ℕ) → IsLaterNumber n ⊎ (IsLaterNumber n → ⊥)
-later_or n = elim (eq_or n 0) [
-  | inl z ↦ inr (λ l. later_not_zero n l z)
-  | inr nz ↦ elim (extension_or n) [ inl x ↦ inl (later_of n x nz) | inr other ↦ inr (λ l. other (extension_of_later n l)) ]
-]
+later_or n = search rules
 
 -- Of a number, the layout of its headers.
 pub raw_of : (n : ℕ) (b : List ℕ) → IsRawNumber n → IsHeader n b → IsRawHeader b
@@ -106,30 +71,13 @@ header-least n b h = elim h [ raw k r ↦ r.least | fragment k f ↦ omega (arit
 
 -- Whether bytes are a header.
 raw_header_or : (b : List ℕ) → IsRawHeader b ⊎ (IsRawHeader b → ⊥)
-raw_header_or b = elim (le_or 8 (length b)) [
-  | inr few ↦ inr (λ h. omega (arith, h.least))
-  | inl enough ↦ elim (eq_or (length b) (8 * (slice_index b 1 + 1))) [
-    | inl e ↦ inl (record { least = enough; len = e })
-    | inr d ↦ inr (λ h. d h.len)
-  ]
-]
+raw_header_or b = search rules
 
 auth_header_or : (b : List ℕ) → IsAuthHeader b ⊎ (IsAuthHeader b → ⊥)
-auth_header_or b = elim (le_or 1 (slice_index b 1)) [
-  | inr zero_len ↦ inr (λ h. omega (arith, h.not_zero))
-  | inl some_len ↦ elim (eq_or (length b) (4 * (slice_index b 1 + 2))) [
-    | inl e ↦ inl (record { not_zero = some_len; len = e })
-    | inr d ↦ inr (λ h. d h.len)
-  ]
-]
+auth_header_or b = search rules
 
 pub header_or : (n : ℕ) (b : List ℕ) → IsHeader n b ⊎ (IsHeader n b → ⊥)
-header_or n b = elim (kind n) [
-  | is_raw k ↦ elim (raw_header_or b) [ inl r ↦ inl (raw k r) | inr none ↦ inr (λ h. none (raw_of n b k h)) ]
-  | is_fragment k ↦ elim (eq_or (length b) 8) [ inl e ↦ inl (fragment k (record { len = e })) | inr none ↦ inr (λ h. none (fragment_of n b k h).len) ]
-  | is_auth k ↦ elim (auth_header_or b) [ inl a ↦ inl (auth k a) | inr none ↦ inr (λ h. none (auth_of n b k h)) ]
-  | is_other r f a ↦ inr (λ h. elim h [ raw k x ↦ r k | fragment k x ↦ f k | auth k x ↦ a k ])
-]
+header_or n b = search rules
 
 -- how long the header of number n with t as byte 1 is
 told : ℕ → ℕ → ℕ
@@ -137,15 +85,11 @@ told n t = cond (nat_eq n 44) 8 (cond (nat_eq n 51) (4 * (t + 2)) (8 * (t + 1)))
 
 told_raw : (n t : ℕ) → IsRawNumber n → told n t ≡ 8 * (t + 1)
 unfolding told
-told_raw n t k = grind (arith, common_steps)
+told_raw n t k = search rules
 
 header-told : (n : ℕ) (b : List ℕ) → IsHeader n b → length b ≡ told n (slice_index b 1)
 unfolding told
-header-told n b h = elim h [
-  | raw k r ↦ r.len ∙ sym (told_raw n (slice_index b 1) k)
-  | fragment k f ↦ f.len ∙ ap (λ m. told m (slice_index b 1)) (sym k)
-  | auth k a ↦ a.len ∙ ap (λ m. told m (slice_index b 1)) (sym k)
-]
+header-told n b h = search rules
 
 -- two headers of one number at one place are one
 pub one_header : (n : ℕ) (b d x y : List ℕ) → IsHeader n b → IsHeader n d → b ++ x ≡ d ++ y → b ≡ d
@@ -181,24 +125,14 @@ first_or m r = elim (short_header_or m r (suc (length r))) [
 -- whether a header goes on
 pub next_or : (first : Bool) (m : ℕ) (r : List ℕ) → ((h : ExtHeader) × IsNext first m r h) ⊎ IsEnd first m r
 next_or true m r = first_or m r
-next_or false m r = elim (eq_or m 0) [
-  | inl z ↦ inr (λ h x. let later : false ≡ true = x.zero_only_first z in cc)
-  | inr nz ↦ elim (first_or m r) [
-    | inl (h, x) ↦ inl (h, record { number = x.number; header = x.header; prefix = x.prefix; zero_only_first = λ z. absurd (nz z) })
-    | inr none ↦ inr (λ h x. none h (record { number = x.number; header = x.header; prefix = x.prefix; zero_only_first = λ z. refl }))
-  ]
-]
+next_or false m r = grind (arith, common_steps, eq_or m 0, first_or m r)
 
 pub ext_header-eq : (h g : ExtHeader) → h.number ≡ g.number → h.bytes ≡ g.bytes → h ≡ g
-ext_header-eq h g p q =
-    let header : ℕ → List ℕ → ExtHeader = λ m b. record { number = m; bytes = b } in
-    ap (λ m. header m h.bytes) p ∙ ap (λ b. header g.number b) q
+ext_header-eq h g p q = search rules
 
 -- at most one header goes on
 pub one_next : (first : Bool) (m : ℕ) (r : List ℕ) (h g : ExtHeader) → IsNext first m r h → IsNext first m r g → h ≡ g
-one_next first m r h g x y =
-    ext_header-eq h g (x.number ∙ sym y.number)
-    (one_header m h.bytes g.bytes _ _ x.header y.header (sym (prefix-append h.bytes r x.prefix) ∙ prefix-append g.bytes r y.prefix))
+one_next first m r h g x y = grind (arith, common_steps, ext_header-eq, one_header, prefix-append)
 
 -- Where bytes are long enough, a header begins them.
 pub prefix_byte : (b s : List ℕ) → IsPrefix b s → 8 ≤ length b → slice_index b 1 ≡ slice_index s 1

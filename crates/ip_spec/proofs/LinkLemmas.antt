@@ -1,5 +1,5 @@
 -- Headers linked in the order of their places are walked to the end.
-use Rattle.std.proofs.Common.{◌≡◌, ◌≢◌, ℕ, ◌+◌, ◌<◌, ◌≤◌, List, [], ◌∷◌, ◌++◌, drop, refl, ap, sym, ◌∙◌, arith, inl, inr, subst, Bool, true, false, cond}
+use Rattle.std.proofs.Common.{◌≡◌, ◌≢◌, ℕ, ◌+◌, ◌<◌, ◌≤◌, List, [], ◌∷◌, ◌++◌, drop, refl, ap, sym, ◌∙◌, arith, inl, inr, subst, Bool, true, false, cond, rules}
 use Rattle.std.specs.Prelude.{Option, Some, None, is_some, ◌==◌, ◌||◌, nat_lt, if◌then◌else◌}
 use Rattle.std.specs.List.{find}
 use Rattle.std.specs.Option.{option_map, option_map_or}
@@ -7,6 +7,7 @@ use Rattle.std.proofs.lemmas.Bool.{cases_Bool, cases_lt, lt-ltb, le-ltb}
 use Rattle.std.proofs.lemmas.Bool.Decides.{eqb_tells}
 use Rattle.std.proofs.lemmas.Option.{none-some, same_Some}
 use Rattle.std.proofs.lemmas.List.Elements.{All-from_recursion, recursion_from_All}
+use Rattle.std.proofs.lemmas.Grind.{common_steps}
 use Rattle.ip_spec.specs.Header.{IsHeader, IsRawNumber, IsRawHeader, raw, fragment, auth}
 use Rattle.ip_spec.specs.Fields.{next_header, raw_fields, fragment_fields, auth_fields}
 use Rattle.ip_spec.specs.Chain.{ExtHeader}
@@ -38,22 +39,7 @@ module _ (m x0 : ℕ) (rest : List ℕ) (small : m < 256) where
   again j l h = let r = raw_of j (x0 ∷ rest) l h in record { least = r.least; len = r.len }
 
   relinked_same : (n : ℕ) → Same n
-  relinked_same n h =
-      by_number Same
-      (λ g c. record { header = raw (inl refl) (again 0 (inl refl) g); fields = refl; cleared = record { reserved = refl; bytes = c.bytes } })
-      (λ g c. record { header = raw (inr (inl refl)) (again 43 (inr (inl refl)) g); fields = refl; cleared = record { reserved = refl; bytes = c.bytes } })
-      (λ g c. record { header = raw (inr (inr refl)) (again 60 (inr (inr refl)) g); fields = refl; cleared = record { reserved = refl; bytes = c.bytes } })
-      (λ g c. record {
-        header = fragment refl (record { len = (fragment_of 44 (x0 ∷ rest) refl g).len });
-        fields = refl;
-        cleared = record { reserved = ap (λ l. m ∷ drop 1 l) c.reserved; bytes = c.bytes };
-      })
-      (λ g c. record {
-        header = let a = auth_of 51 (x0 ∷ rest) refl g in auth refl (record { not_zero = a.not_zero; len = a.len });
-        fields = refl;
-        cleared = record { reserved = ap (λ l. m ∷ drop 1 l) c.reserved; bytes = c.bytes };
-      })
-      n (header_number n (x0 ∷ rest) h) h
+  relinked_same n h = search rules
 
 relinked_list : (n j k : ℕ) (x : HeaderFields) (b : List ℕ) → j < 256 → IsEncoded n x (of_number k b) → (h : ExtHeader) × IsEncoded n (relinked j x) h
 relinked_list n j k x [] small e = absurd (omega (arith, header-least n [] e.header))
@@ -75,19 +61,13 @@ pub relinked_encoded : (n j : ℕ) (x : HeaderFields) (h : ExtHeader) → j < 25
 relinked_encoded n j x h small e = relinked_list n j h.number x h.bytes small e
 
 number_small : (p : Place) → number_in p < 256
-number_small hop_by_hop = omega arith
-number_small p = omega arith
+number_small p = search rules
 
 pub first_number_small : (v : PlacedFields) (ps : List Place) (m : ℕ) → m < 256 → first_number v ps m < 256
-first_number_small v ps m small = of (find (λ p. is_some (v p)) ps)
-  where
-    of : (o : Option Place) → option_map_or number_in o m < 256
-    of None = small
-    of (Some p) = number_small p
+first_number_small v ps m small = search rules
 
 mapped_some : (j : ℕ) (o : Option HeaderFields) (y : HeaderFields) → option_map (relinked j) o ≡ Some y → (x : HeaderFields) × (o ≡ Some x) × (relinked j x ≡ y)
-mapped_some j None y e = absurd (none-some y e)
-mapped_some j (Some x) y e = (x, refl, same_Some _ _ e)
+mapped_some j o y e = search rules
 
 pub linked_encodable : (v : PlacedFields) (m : ℕ) → m < 256 → IsEncodable v → IsEncodable (linked v m)
 linked_encodable v m small e = record {
@@ -102,16 +82,10 @@ linked_encodable v m small e = record {
 
 -- the fields tell the number of what follows
 pub next_said : (h : ExtHeader) → next_of (fields_of h) ≡ next_header h.bytes
-next_said h =
-    elim (h.number == 44) as (λ b. next_of (if b then fragment_header (fragment_fields h.bytes) else if h.number == 51 then auth_header (auth_fields h.bytes) else raw_header (raw_fields h.bytes)) ≡ next_header h.bytes) [
-      | true ↦ refl
-      | false ↦ elim (h.number == 51) as (λ b. next_of (if b then auth_header (auth_fields h.bytes) else raw_header (raw_fields h.bytes)) ≡ next_header h.bytes) [ true ↦ refl | false ↦ refl ]
-    ]
+next_said h = search rules
 
 next_relinked : (j : ℕ) (x : HeaderFields) → next_of (relinked j x) ≡ j
-next_relinked j (raw_header x) = refl
-next_relinked j (fragment_header x) = refl
-next_relinked j (auth_header x) = refl
+next_relinked j x = search rules
 
 abbrev nothing : Option HeaderFields
 nothing = None
@@ -139,32 +113,10 @@ module _ (v : PlacedFields) (m : ℕ) (small : m < 256) (e : IsEncodable v) wher
 
   -- one place on
   beyond_next : (p : Place) (k : ℕ) → index p ≡ k → (q : Place) → beyond (k + 1) w q ≡ without p (beyond k w) q
-  beyond_next p k i q = elim (eqb_tells (index p) (index q)) [
-    | inl r ↦ ap (λ b. if b then None else w q) (lt-ltb (index q) (k + 1) (omega (arith, i, r.1))) ∙ sym (ap (λ b. if b then None else beyond k w q) r.0)
-    | inr r ↦ elim (cases_lt (index q) k) [
-      | inl l ↦
-          ap (λ b. if b then None else w q) (lt-ltb (index q) (k + 1) (omega arith))
-          ∙ sym (ap (λ b. if b then None else w q) (lt-ltb (index q) k l))
-          ∙ sym (ap (λ b. if b then None else beyond k w q) r.0)
-      | inr l ↦
-          ap (λ b. if b then None else w q) (le-ltb (index q) (k + 1) (beyond_it (index p) (index q) k i r.1 l))
-          ∙ sym (ap (λ b. if b then None else w q) (le-ltb (index q) k l))
-          ∙ sym (ap (λ b. if b then None else beyond k w q) r.0)
-    ]
-  ]
+  beyond_next p k i q = search rules
 
   skipped : (p : Place) (k : ℕ) → index p ≡ k → v p ≡ None → (q : Place) → beyond (k + 1) w q ≡ beyond k w q
-  skipped p k i none q = beyond_next p k i q ∙ elim (eqb_tells (index p) (index q)) [
-    | inl r ↦
-        let is : p ≡ q = same_place p q r.1 in
-        let empty : w q ≡ None = ap w (sym is) ∙ ap (option_map (relinked (first_number v (places_behind p) m))) none in
-        ap (λ b. if b then None else beyond k w q) r.0 ∙ sym (ap (λ o. if nat_lt (index q) k then None else o) empty ∙ either (nat_lt (index q) k))
-    | inr r ↦ ap (λ b. if b then None else beyond k w q) r.0
-  ]
-    where
-      either : (b : Bool) → (if b then nothing else nothing) ≡ nothing
-      either true = refl
-      either false = refl
+  skipped p k i none q = search rules
 
   here : (p : Place) (k : ℕ) → index p ≡ k → beyond k w p ≡ w p
   here p k i = ap (λ b. if b then None else w p) (le-ltb (index p) k (omega (arith, i)))
@@ -177,19 +129,7 @@ module _ (v : PlacedFields) (m : ℕ) (small : m < 256) (e : IsEncodable v) wher
 
   module _ (p : Place) (k : ℕ) (i : index p ≡ k) (at : drop k places ≡ p ∷ drop (k + 1) places) (up : Up k) where
     step_none : v p ≡ None → Up (k + 1)
-    step_none none = record {
-      reached = up.reached;
-      first = up.first;
-      behind = up.behind;
-      walking = record {
-        in_value = up.walking.in_value;
-        left = λ q. skipped p k i none q ∙ up.walking.left q;
-        number = sym (ap (λ l. first_number v l m) at ∙ number_none p (drop (k + 1) places) none) ∙ up.walking.number;
-        first_is = up.walking.first_is;
-        behind_is = up.walking.behind_is;
-      };
-      start = λ z. absurd (omega (arith, z));
-    }
+    step_none none = grind (arith, common_steps, skipped, number_none)
 
     step_some : (x : HeaderFields) → v p ≡ Some x → next_place up.first up.behind (number_in p) ≡ Some p → Up (k + 1)
     step_some x some goes =
@@ -213,10 +153,7 @@ module _ (v : PlacedFields) (m : ℕ) (small : m < 256) (e : IsEncodable v) wher
         }
 
     step : ((x : HeaderFields) → v p ≡ Some x → next_place up.first up.behind (number_in p) ≡ Some p) → Up (k + 1)
-    step goes = elim (cases_Bool (is_some (v p))) [
-      | inl some ↦ let it = some_if (v p) some in step_some it.0 it.1 (goes it.0 it.1)
-      | inr none ↦ step_none (none_if (v p) none)
-    ]
+    step goes = search (rules, cases_Bool, some_if, step_some, step_none, none_if)
 
   -- whether a routing header was reached, where it is still left and where it isn't
   not_behind : (k : ℕ) (up : Up k) → k ≤ 2 → up.behind ≡ false
@@ -229,14 +166,7 @@ module _ (v : PlacedFields) (m : ℕ) (small : m < 256) (e : IsEncodable v) wher
   ]
 
   is_behind : (k : ℕ) (up : Up k) → 2 < k → is_some (v routing) ≡ true → up.behind ≡ true
-  is_behind k up l there = elim (cases_Bool (has_routing up.reached)) [
-    | inl some ↦ up.walking.behind_is ∙ some
-    | inr none ↦
-        let it = some_if (v routing) there in
-        let j : ℕ = first_number v (places_behind routing) m in
-        let nothing : w routing ≡ None = sym (sym (ap (λ b. if b then None else w routing) (lt-ltb 2 k l)) ∙ up.walking.left routing ∙ ap (λ b. if b then None else w routing) none) in
-        absurd (none-some (relinked j it.0) (sym nothing ∙ ap (option_map (relinked j)) it.1))
-  ]
+  is_behind k up l there = search rules
 
   all_reached : Up 6
   all_reached =

@@ -1,6 +1,7 @@
 -- A property of lists under which at most one element can come next has exactly one longest list.
-use Rattle.std.proofs.Common.{◌≡◌, ◌≢◌, ℕ, zero, suc, ◌+◌, ◌<◌, ◌≤◌, List, [], ◌∷◌, ◌++◌, length, refl, ap, sym, ◌∙◌, arith, inl, inr, ◌⊎◌, subst, append_assoc}
+use Rattle.std.proofs.Common.{◌≡◌, ◌≢◌, ℕ, zero, suc, ◌+◌, ◌<◌, ◌≤◌, List, [], ◌∷◌, ◌++◌, length, refl, ap, sym, ◌∙◌, arith, inl, inr, ◌⊎◌, subst, append_assoc, rules}
 use Rattle.std.proofs.lemmas.List.{append-nil, length-append}
+use Rattle.std.proofs.lemmas.Grind.{common_steps}
 use Rattle.ip_spec.specs.LongestOf.{IsLongestOf}
 
 -- each beginning has the property too, and what comes next is determined
@@ -32,8 +33,7 @@ pub compare : {X : Type 0} (P : List X → Type 0) → Grows P → (c d : List X
 compare P g c d p q = compare_from P g [] c d p q
 
 shorter : {X : Type 0} (d c more : List X) → c ≡ d ++ more → d ≢ c → length d < length c
-shorter d c [] w differs = absurd (differs (sym (w ∙ append-nil d)))
-shorter d c (x ∷ more) w differs = omega (arith, ap length w, length-append d (x ∷ more))
+shorter d c more w differs = grind (arith, common_steps, append-nil, length-append)
 
 -- where nothing can come next, it is the longest
 pub longest_where_none_next : {X : Type 0} (P : List X → Type 0) → Grows P → (c : List X) → P c → ((x : X) → P (c ++ x ∷ []) → ⊥) → IsLongestOf P c
@@ -46,25 +46,15 @@ longest_where_none_next P g c p none = record {
 }
 
 same_within : {X : Type 0} (P : List X → Type 0) (c d more : List X) → c ≡ d ++ more → IsLongestOf P c → IsLongestOf P d → c ≡ d
-same_within P c d [] w lc ld = w ∙ append-nil d
-same_within P c d (x ∷ more) w lc ld =
-    let lens : length c ≡ length d + suc (length more) = ap length w ∙ length-append d (x ∷ more) in
-    let differs : c ≢ d = λ e. omega (arith, ap length e) in
-    absurd (omega (arith, ld.longest c lc.has differs))
+same_within P c d more w lc ld = grind (arith, common_steps, append-nil, length-append)
 
 -- behind the longest, nothing can come next
 pub none_next_where_longest : {X : Type 0} (P : List X → Type 0) (c : List X) → IsLongestOf P c → (x : X) → P (c ++ x ∷ []) → ⊥
-none_next_where_longest P c l x p =
-    let more : length (c ++ x ∷ []) ≡ length c + 1 = length-append c (x ∷ []) in
-    let differs : c ++ x ∷ [] ≢ c = λ e. omega (arith, ap length e) in
-    omega (arith, l.longest (c ++ x ∷ []) p differs)
+none_next_where_longest P c l x p = search (rules, length-append)
 
 -- there is one at most
 pub one_longest_of : {X : Type 0} (P : List X → Type 0) → Grows P → (c d : List X) → IsLongestOf P c → IsLongestOf P d → c ≡ d
-one_longest_of P g c d lc ld = elim (compare P g c d lc.has ld.has) [
-  | within more w ↦ same_within P c d more w lc ld
-  | beyond x more w ↦ sym (same_within P d c (x ∷ more) w ld lc)
-]
+one_longest_of P g c d lc ld = grind (arith, common_steps, compare P g c d lc.has ld.has)
 
 -- it can be told whether something comes next
 abbrev pub DecidesNext : {X : Type 0} → (List X → Type 0) → Type 0

@@ -1,10 +1,11 @@
 -- What the numbers of a chain's headers tell: whether they fit six places, and whether one more does.
-use Rattle.std.proofs.Common.{◌≡◌, ℕ, ◌≤◌, List, [], ◌∷◌, ◌++◌, map, refl, ap, sym, ◌∙◌, arith, inl, inr, subst}
+use Rattle.std.proofs.Common.{◌≡◌, ℕ, ◌≤◌, List, [], ◌∷◌, ◌++◌, map, refl, ap, sym, ◌∙◌, arith, inl, inr, subst, rules}
 use Rattle.std.specs.Prelude.{◌==◌, ◌↔◌, Some, if◌then◌else◌}
 use Rattle.std.proofs.lemmas.Bool.{eq-eqb}
 use Rattle.std.proofs.lemmas.Bool.Decides.{eqb_tells}
 use Rattle.std.proofs.lemmas.Option.{same_Some}
 use Rattle.std.proofs.lemmas.List.{map-append}
+use Rattle.std.proofs.lemmas.Grind.{common_steps}
 use Rattle.ip_spec.specs.Header.{IsExtensionNumber}
 use Rattle.ip_spec.specs.Chain.{ExtHeader}
 use Rattle.ip_spec.specs.Places.{Place, hop_by_hop, destination, routing, fragment, authentication, final_destination, number_in, side_of, place_of}
@@ -20,12 +21,7 @@ often_in final_destination ns = how_often 60 (after_routing ns)
 often_in p ns = how_often (number_in p) ns
 
 often_fits : (ns : List ℕ) → NumbersFit ns → (p : Place) → often_in p ns ≤ 1
-often_fits ns f hop_by_hop = f.hop_by_hop
-often_fits ns f destination = f.destination
-often_fits ns f routing = f.routing
-often_fits ns f fragment = f.fragment
-often_fits ns f authentication = f.authentication
-often_fits ns f final_destination = f.final_destination
+often_fits ns f p = search rules
 
 module _ (c : List ExtHeader) where
   counts : (p : Place) → count_in p c ≡ often_in p (numbers_of c)
@@ -44,8 +40,7 @@ module _ (c : List ExtHeader) where
   -- the place of a number is where it is counted
   place_counts : (p : Place) → place_of (number_in p) (has_routing c) ≡ Some p → in_place (number_in p) (numbers_of c) ≡ count_in p c
   place_counts destination e =
-      let none : how_often 43 (numbers_of c) ≡ 0 = sym (counts routing) ∙ none_counted (is_of routing) c (destination_before (has_routing c) e) in
-      ap (λ b. if b then how_often 60 (before_routing (numbers_of c)) else how_often 60 (after_routing (numbers_of c))) (eq-eqb (how_often 43 (numbers_of c)) 0 none) ∙ sym (counts destination)
+      grind (arith, common_steps, counts routing, none_counted (is_of routing) c (destination_before (has_routing c) e), counts destination)
   place_counts final_destination e = elim (eqb_tells (how_often 43 (numbers_of c)) 0) [
     | inl w ↦ absurd (omega (arith, w.1, counts routing, counted (is_of routing) c (final_behind (has_routing c) e)))
     | inr w ↦ ap (λ b. if b then how_often 60 (before_routing (numbers_of c)) else how_often 60 (after_routing (numbers_of c))) w.0 ∙ sym (counts final_destination)

@@ -1,5 +1,5 @@
 -- The places of a chain's headers, where one more header comes, and which number is taken.
-use Rattle.std.proofs.Common.{◌≡◌, ℕ, zero, suc, ◌+◌, List, [], ◌∷◌, ◌++◌, refl, ap, sym, ◌∙◌, arith, inl, inr, Bool, true, false, subst}
+use Rattle.std.proofs.Common.{◌≡◌, ℕ, zero, suc, ◌+◌, List, [], ◌∷◌, ◌++◌, refl, ap, sym, ◌∙◌, arith, inl, inr, Bool, true, false, subst, rules}
 use Rattle.std.specs.Prelude.{◌≢◌, ◌==◌, ◌&&◌, ◌↔◌, not, count_by, Option, Some, None, is_some, if◌then◌else◌}
 use Rattle.std.specs.List.{find, AllByRecursion}
 use Rattle.std.specs.Option.{option_or, option_map_or}
@@ -7,6 +7,7 @@ use Rattle.std.proofs.lemmas.Bool.{cases_Bool, eqb-true, eq-eqb}
 use Rattle.std.proofs.lemmas.Bool.Decides.{eqb_tells}
 use Rattle.std.proofs.lemmas.Option.{none-some, same_Some}
 use Rattle.std.proofs.lemmas.List.{append-nil}
+use Rattle.std.proofs.lemmas.Grind.{common_steps}
 use Rattle.ip_spec.specs.Header.{IsExtensionNumber}
 use Rattle.ip_spec.proofs.HeaderLemmas.{later_of, later_not_zero}
 use Rattle.ip_spec.specs.Chain.{ExtHeader}
@@ -27,8 +28,7 @@ place_at (suc (suc (suc (suc zero)))) = authentication
 place_at (suc (suc (suc (suc (suc n))))) = final_destination
 
 at_index : (p : Place) → place_at (index p) ≡ p
-at_index hop_by_hop = refl
-at_index p = refl
+at_index p = search rules
 
 -- a place is known by its index
 pub same_place : (p q : Place) → index p ≡ index q → p ≡ q
@@ -36,26 +36,18 @@ same_place p q e = sym (at_index p) ∙ ap place_at e ∙ at_index q
 
 -- of the two places of 60, it is the final one exactly behind a routing header
 pub final_behind : (behind : Bool) → place_of 60 behind ≡ Some final_destination → behind ≡ true
-final_behind true e = refl
-final_behind false e = let is : destination ≡ final_destination = cc in let no : 1 ≡ 5 = ap index is in absurd (omega (arith, no))
+final_behind behind e = search rules
 
 pub destination_before : (behind : Bool) → place_of 60 behind ≡ Some destination → behind ≡ false
-destination_before false e = refl
-destination_before true e = let is : final_destination ≡ destination = cc in let no : 5 ≡ 1 = ap index is in absurd (omega (arith, no))
+destination_before behind e = search rules
 
 -- what holds of all places holds of each
 pub each : (P : Place → Type 0) → AllByRecursion P places → (p : Place) → P p
-each P a hop_by_hop = a.0
-each P a destination = a.1.0
-each P a routing = a.1.1.0
-each P a fragment = a.1.1.1.0
-each P a authentication = a.1.1.1.1.0
-each P a final_destination = a.1.1.1.1.1.0
+each P a p = search rules
 
 -- the place of a number that has just one
 pub in_both : (m : ℕ) (p : Place) → place_of m true ≡ Some p → place_of m false ≡ Some p → (behind : Bool) → place_of m behind ≡ Some p
-in_both m p behind before true = behind
-in_both m p behind before false = before
+in_both m p behind before x4 = search rules
 
 destination_place : (behind : Bool) → (p : Place) × (place_of 60 behind ≡ Some p)
 destination_place true = (final_destination, refl)
@@ -74,11 +66,7 @@ own_place m behind x =
     ]
 
 pub is_extension : (p : Place) → IsExtensionNumber (number_in p)
-is_extension hop_by_hop = inl (inl refl)
-is_extension routing = inl (inr (inl refl))
-is_extension fragment = inr (inl refl)
-is_extension authentication = inr (inr refl)
-is_extension p = inl (inr (inr refl))
+is_extension p = search rules
 
 -- whether a routing header is there
 abbrev pub has_routing : List ExtHeader → Bool
@@ -110,17 +98,13 @@ sides c d = elim (cases_Bool (has_routing c)) [
 ]
 
 pub nothing_on : (p : Place) → side_of p [] ≡ []
-nothing_on destination = refl
-nothing_on p = refl
+nothing_on p = search rules
 
 pub nothing_in : (p : Place) → header_in p [] ≡ None
 nothing_in p = ap (find (is_of p)) (nothing_on p)
 
 pub none_behind : (c : List ExtHeader) → has_routing c ≡ false → header_in final_destination c ≡ None
-none_behind c none = elim (sides c []) [
-  | none_yet none all nothing b a ↦ ap (find (is_of final_destination)) nothing
-  | one_before some b a ↦ absurd (let differ : true ≡ false = sym some ∙ none in cc)
-]
+none_behind c none = grind (arith, common_steps, sides c [])
 
 -- One more header h behind c stands in one place at most, and the others stay as they are.
 module _ (c : List ExtHeader) (h : ExtHeader) where
@@ -134,14 +118,7 @@ module _ (c : List ExtHeader) (h : ExtHeader) where
   of_number e = ap (λ m. place_of m (has_routing c)) e
 
   by_number : (p : Place) → side_of p (c ++ h ∷ []) ≡ side_of p c ++ h ∷ [] → (h.number ≡ number_in p → place_of h.number (has_routing c) ≡ Some p) → Comes p
-  by_number p s own = elim (eqb_tells h.number (number_in p)) [
-    | inl w ↦
-        here (own w.1) (ap (find (is_of p)) s ∙ find_more-yes (is_of p) (side_of p c) h w.0)
-        (omega (arith, ap (count_by (is_of p)) s, count-append (is_of p) (side_of p c) (h ∷ []), count_yes (is_of p) h [] w.0))
-    | inr w ↦
-        elsewhere (λ e. w.1 (place_number h.number p (has_routing c) e)) (ap (find (is_of p)) s ∙ find_more-no (is_of p) (side_of p c) h w.0)
-        (omega (arith, ap (count_by (is_of p)) s, count-append (is_of p) (side_of p c) (h ∷ []), count_no (is_of p) h [] w.0))
-  ]
+  by_number p s own = search (rules, eqb_tells, find_more-yes, count-append, count_yes, place_number, find_more-no, count_no)
 
   same_side : (p : Place) → side_of p (c ++ h ∷ []) ≡ side_of p c → (place_of h.number (has_routing c) ≡ Some p → ⊥) → Comes p
   same_side p s other = elsewhere other (ap (find (is_of p)) s) (ap (count_by (is_of p)) s)
@@ -150,13 +127,7 @@ module _ (c : List ExtHeader) (h : ExtHeader) where
   by_side p s other = same_side p s (λ e. other (sym (of_number (place_number h.number p (has_routing c) e)) ∙ e))
 
   pub comes : (p : Place) → Comes p
-  comes destination = elim (sides c (h ∷ [])) [
-    | one_before some b a ↦ by_side destination b (λ e. let differ : true ≡ false = sym some ∙ destination_before (has_routing c) e in cc)
-    | none_yet none all nothing b a ↦ elim (eqb_tells h.number 43) [
-      | inl w ↦ same_side destination (b ∙ ap (λ l. c ++ l) (before-yes (is_of routing) h [] w.0) ∙ append-nil c ∙ sym all) (λ e. omega (arith, w.1, place_number h.number destination (has_routing c) e))
-      | inr w ↦ by_number destination (b ∙ ap (λ l. c ++ l) (before-no (is_of routing) h [] w.0) ∙ ap (λ l. l ++ h ∷ []) (sym all)) (λ e. of_number e ∙ ap (place_of 60) none)
-    ]
-  ]
+  comes destination = search (rules, sides, by_side, destination_before, eqb_tells, same_side, before-yes, append-nil, place_number, by_number, before-no)
   comes final_destination = elim (sides c (h ∷ [])) [
     | one_before some b a ↦ by_number final_destination a (λ e. of_number e ∙ ap (place_of 60) some)
     | none_yet none all nothing b a ↦
@@ -168,16 +139,7 @@ module _ (c : List ExtHeader) (h : ExtHeader) where
   comes authentication = by_number authentication refl (λ e. of_number e ∙ in_both 51 authentication refl refl (has_routing c))
 
   pub placed : (q : Place) → place_of h.number (has_routing c) ≡ Some q → header_in q c ≡ None → (p : Place) → header_in p (c ++ h ∷ []) ≡ (if index q == index p then Some h else header_in p c)
-  placed q e free p = elim (comes p) [
-    | here f k n ↦
-        let is : q ≡ p = same_Some q p (sym e ∙ f) in
-        k ∙ ap (λ r. option_or (header_in r c) (Some h)) (sym is) ∙ ap (λ o. option_or o (Some h)) free
-        ∙ sym (ap (λ b. if b then Some h else header_in p c) (eq-eqb (index q) (index p) (ap index is)))
-    | elsewhere other k n ↦ elim (eqb_tells (index q) (index p)) [
-      | inl w ↦ absurd (other (e ∙ ap Some (same_place q p w.1)))
-      | inr w ↦ k ∙ sym (ap (λ b. if b then Some h else header_in p c) w.0)
-    ]
-  ]
+  placed q e free p = search (rules, comes, same_Some, eq-eqb, eqb_tells, same_place)
 
   -- It fits where its place is free, and only there.
   pub fits_next : FitsPlaces c → ((p : Place) → place_of h.number (has_routing c) ≡ Some p → count_in p c ≡ 0) → FitsPlaces (c ++ h ∷ [])
@@ -202,20 +164,11 @@ module _ (c : List ExtHeader) (m : ℕ) (f : FitsPlaces c) where
   filled o = option_map_or (λ p. is_some (header_in p c)) o false
 
   taken_at : (o : Option Place) → place_of m (has_routing c) ≡ o → m ≢ 0 → filled o ≡ true ↔ IsTaken m c
-  taken_at None e other = (
-    (λ t. absurd (let differ : false ≡ true = t in cc)),
-    λ t. absurd (t.1 (bare m) refl (fits_next c (bare m) f (λ p o. absurd (none-some p (sym e ∙ o))))),
-  )
+  taken_at None e other = search rules
   taken_at (Some p) e other = (
     (λ t. let X : ℕ → Type 0 = IsExtensionNumber in (later_of m (subst X (sym (place_number m p (has_routing c) e)) (is_extension p)) other, λ h k. breaks_more c h p (ap (λ j. place_of j (has_routing c)) k ∙ e) t)),
     λ t. elim (cases_Bool (is_some (header_in p c))) [ inl w ↦ w | inr w ↦ absurd (t.1 (bare m) refl (fits_more c (bare m) p f e w)) ],
   )
 
   pub taken_told : (is_taken m c ≡ true) ↔ IsTaken m c
-  taken_told = elim (eqb_tells m 0) [
-    | inl w ↦ (λ t. absurd (let differ : false ≡ true = sym (ap (λ b. not b && filled (place_of m (has_routing c))) w.0) ∙ t in cc), λ t. absurd (later_not_zero m t.0 w.1))
-    | inr w ↦
-        let same : is_taken m c ≡ filled (place_of m (has_routing c)) = ap (λ b. not b && filled (place_of m (has_routing c))) w.0 in
-        let there = taken_at (place_of m (has_routing c)) refl w.1 in
-        (λ t. there.0 (sym same ∙ t), λ t. same ∙ there.1 t)
-  ]
+  taken_told = search (rules, eqb_tells, later_not_zero, taken_at)

@@ -3,6 +3,7 @@ use Rattle.std.proofs.Common.{◌≡◌, ℕ, zero, suc, ◌+◌, List, [], ◌�
 use Rattle.std.proofs.lemmas.List.{take-append-drop, length-append}
 use Rattle.std.proofs.lemmas.List.Prefix.{front_rest}
 use Rattle.std.proofs.Math.Seq.{take-append_seam}
+use Rattle.std.proofs.lemmas.Grind.{common_steps}
 use Rattle.ip_spec.specs.Prefix.{IsPrefix}
 
 pub prefix-append : (b s : List ℕ) → IsPrefix b s → s ≡ b ++ drop (length b) s
@@ -24,9 +25,7 @@ pub prefix_first : (b d s : List ℕ) → IsPrefix (b ++ d) s → IsPrefix b s
 prefix_first b d s f = prefix_of-append b (d ++ drop (length (b ++ d)) s) s (prefix-append (b ++ d) s f ∙ append_assoc b d (drop (length (b ++ d)) s))
 
 pub prefix_second : (b d s : List ℕ) → IsPrefix (b ++ d) s → IsPrefix d (drop (length b) s)
-prefix_second b d s f =
-    let whole : s ≡ b ++ (d ++ drop (length (b ++ d)) s) = prefix-append (b ++ d) s f ∙ append_assoc b d (drop (length (b ++ d)) s) in
-    prefix_of-append d (drop (length (b ++ d)) s) (drop (length b) s) (front_rest s b (d ++ drop (length (b ++ d)) s) whole)
+prefix_second b d s f = grind (arith, common_steps, prefix-append (b ++ d) s f, append_assoc b d (drop (length (b ++ d)) s))
 
 pub prefix_join : (b d s : List ℕ) → IsPrefix b s → IsPrefix d (drop (length b) s) → IsPrefix (b ++ d) s
 prefix_join b d s f g =
@@ -35,5 +34,4 @@ prefix_join b d s f g =
 
 -- what is behind two fronts is behind both at once
 pub rest_join : (b d s : List ℕ) → IsPrefix b s → IsPrefix d (drop (length b) s) → drop (length d) (drop (length b) s) ≡ drop (length (b ++ d)) s
-rest_join b d s f g =
-    sym (front_rest s (b ++ d) (drop (length d) (drop (length b) s)) (prefix-append b s f ∙ ap (λ x. b ++ x) (prefix-append d (drop (length b) s) g) ∙ sym (append_assoc b d (drop (length d) (drop (length b) s)))))
+rest_join b d s f g = grind (arith, common_steps, front_rest, prefix-append, append_assoc)

@@ -1,9 +1,10 @@
 -- A chain that is being read from the prefix of bytes.
-use Rattle.std.proofs.Common.{◌≡◌, ℕ, ◌+◌, ◌-◌, List, [], ◌∷◌, ◌++◌, length, drop, refl, ap, sym, ◌∙◌, arith, inl, inr, subst, Bool, nat_eq}
+use Rattle.std.proofs.Common.{◌≡◌, ℕ, ◌+◌, ◌-◌, List, [], ◌∷◌, ◌++◌, length, drop, refl, ap, sym, ◌∙◌, arith, inl, inr, subst, Bool, nat_eq, rules}
 use Rattle.std.specs.Prelude.{Option}
 use Rattle.std.proofs.Math.Seq.{drop-append_seam}
 use Rattle.std.proofs.lemmas.Bool.Decides.{eqb_tells}
 use Rattle.std.specs.List.{AllByRecursion}
+use Rattle.std.proofs.lemmas.Grind.{common_steps}
 use Rattle.ip_spec.specs.Header.{IsHeader}
 use Rattle.ip_spec.specs.Fields.{next_header}
 use Rattle.ip_spec.specs.Encoding.{AreBytes}
@@ -25,16 +26,10 @@ has_read_none n s = record { prefix_chain = record { chain = no_chain n; prefix 
 
 module _ (n : ℕ) (s : List ℕ) (c : List ExtHeader) (m : ℕ) (r : List ℕ) where
   pub next_there : (h : ExtHeader) → HasRead n s c m r → IsNext (is_empty c) m r h → IsNext (is_empty c) (leads_to n c) (drop (length (bytes_of c)) s) h
-  next_there h p x =
-      let M : ℕ → Type 0 = λ k. IsNext (is_empty c) k r h in
-      let R : List ℕ → Type 0 = λ q. IsNext (is_empty c) (leads_to n c) q h in
-      subst R p.rest (subst M p.number x)
+  next_there h p x = search rules
 
   pub next_here : (h : ExtHeader) → HasRead n s c m r → IsNext (is_empty c) (leads_to n c) (drop (length (bytes_of c)) s) h → IsNext (is_empty c) m r h
-  next_here h p x =
-      let M : ℕ → Type 0 = λ k. IsNext (is_empty c) k r h in
-      let R : List ℕ → Type 0 = λ q. IsNext (is_empty c) (leads_to n c) q h in
-      subst M (sym p.number) (subst R (sym p.rest) x)
+  next_here h p x = search rules
 
   pub has_read_next : (h : ExtHeader) → HasRead n s c m r → IsNext (is_empty c) m r h → HasRead n s (c ++ h ∷ []) (next_header h.bytes) (drop (length h.bytes) r)
   has_read_next h p x =
@@ -63,9 +58,7 @@ module _ (Q : List ExtHeader → Type 0) (k : IsDemand Q) (n : ℕ) (s : List �
 
     -- where no header goes on with the demand still met, the chain that was read is the longest under it
     pub read_longest_under : HasReadUnder Q n s c m r → IsEndUnder Q c m r → IsLongestUnder Q n s c
-    read_longest_under p e =
-        longest_at_end_under Q k n s c (p.read.prefix_chain, p.meets)
-        (λ h x q. e h (next_here n s c m r h p.read x) q)
+    read_longest_under p e = search (rules, longest_at_end_under, next_here)
 
     -- so it is the answer, whatever value and faults are told of chains
     pub read_answers : {X F : Type 0} (value_of : List ExtHeader → X) (faults : List ExtHeader → ℕ → List ℕ → Option F) (x : X) (f : Option F) → HasReadUnder Q n s c m r → IsEndUnder Q c m r → x ≡ value_of c → f ≡ faults c m r
@@ -83,20 +76,11 @@ module _ (Q : List ExtHeader → Type 0) (k : IsDemand Q) (n : ℕ) (s : List �
 module _ (Q : List ExtHeader → Type 0) (k : IsDemand Q) (n m : ℕ) where
   -- a chain has been read of its bytes with more behind them
   pub has_read_before : (c : List ExtHeader) (r : List ℕ) → IsChain n c → Q c → m ≡ leads_to n c → HasReadUnder Q n (bytes_of c ++ r) c m r
-  has_read_before c r chain meets number = record {
-    read = record {
-      prefix_chain = record { chain = chain; prefix = prefix_of-append (bytes_of c) r (bytes_of c ++ r) refl };
-      number = number;
-      rest = sym (drop-append_seam (bytes_of c) r);
-    };
-    meets = meets;
-  }
+  has_read_before c r chain meets number = search (rules, prefix_of-append, drop-append_seam)
 
   -- and where it is of bytes, it is read of them with nothing left
   pub whole_read : (V : List ExtHeader → Type 0) (s : List ℕ) (c : List ExtHeader) → IsChain n c → Q c → V c → leads_to n c ≡ m → bytes_of c ≡ s → AreBytes s → IsRead Q V n m s
-  whole_read V s c chain meets value number all bytes =
-      let L : List ℕ → Type 0 = λ t. IsLongestUnder Q n t c in
-      record { bytes = bytes; chain = c; longest = subst L all (whole_longest_under Q k n c chain meets); value = value; number = number; all = all }
+  whole_read V s c chain meets value number all bytes = grind (arith, common_steps, whole_longest_under Q k n c chain meets)
 
   -- What is read with nothing left is the answer with more behind it too, where no header goes on.
   pub read_again : {X F : Type 0} (value_of : List ExtHeader → X) (faults : List ExtHeader → ℕ → List ℕ → Option F) (x : X) (f : Option F) (s r : List ℕ) (e : IsRead Q (λ c. value_of c ≡ x) n m s) → IsEndUnder Q e.chain m r → f ≡ faults e.chain m r
@@ -116,11 +100,7 @@ module _ (n : ℕ) (s : List ℕ) (c : List ExtHeader) (m : ℕ) (r : List ℕ) 
 
 -- whether the bytes behind a chain are all bytes tells whether it is empty
 behind_all : (c : List ExtHeader) (k l : ℕ) → AllByRecursion (λ h. IsHeader h.number h.bytes) c → length (bytes_of c) + k ≡ l → nat_eq k l ≡ is_empty c
-behind_all [] k l a e = elim (eqb_tells k l) [ inl w ↦ w.0 | inr w ↦ absurd (w.1 (omega (arith, e))) ]
-behind_all (h ∷ c) k l a e = elim (eqb_tells k l) [
-  | inl w ↦ absurd (omega (arith, w.1, e, bytes_of-least (h ∷ c) a))
-  | inr w ↦ w.0
-]
+behind_all c k l a e = search (rules, eqb_tells, bytes_of-least)
 
 pub first_is : (n : ℕ) (s : List ℕ) (c : List ExtHeader) (m : ℕ) (r : List ℕ) → HasRead n s c m r → nat_eq (length r) (length s) ≡ is_empty c
 first_is n s c m r p = behind_all c (length r) (length s) p.prefix_chain.chain.headers (omega (arith, prefix-length (bytes_of c) s p.prefix_chain.prefix, ap length p.rest))

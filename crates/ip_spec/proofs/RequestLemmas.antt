@@ -1,9 +1,10 @@
 -- Headers that come in parts.
-use Rattle.std.proofs.Common.{◌≡◌, ℕ, ◌+◌, ◌-◌, ◌*◌, ◌<◌, ◌≤◌, List, ◌++◌, length, take, drop, ap, sym, ◌∙◌, arith, slice_index, length-append, length-drop}
+use Rattle.std.proofs.Common.{◌≡◌, ℕ, ◌+◌, ◌-◌, ◌*◌, ◌<◌, ◌≤◌, List, ◌++◌, length, take, drop, ap, sym, ◌∙◌, arith, slice_index, length-append, length-drop, rules}
 use Rattle.std.specs.Prelude.{slice_range}
 use Rattle.std.specs.Int.{from_be_bytes, w32}
 use Rattle.std.proofs.lemmas.List.{get_or_append_left, take-append-le, drop-append-le}
 use Rattle.std.proofs.Math.Seq.{drop-append_seam}
+use Rattle.std.proofs.lemmas.Grind.{common_steps}
 use Rattle.ip_spec.specs.Header.{IsRawHeader, IsAuthHeader}
 use Rattle.ip_spec.specs.Fields.{next_header, RawFields, AuthFields, raw_fields, auth_fields}
 
@@ -19,29 +20,17 @@ module _ (h p : List ℕ) where
   behind n e = ap (λ (k : ℕ). drop k (h ++ p)) (sym e) ∙ drop-append_seam h p
 
   pub raw_joined : length h ≡ 2 → length p ≡ 8 * slice_index h 1 + 6 → IsRawHeader (h ++ p)
-  raw_joined e f = record {
-    least = omega (arith, length-append h p);
-    len = omega (arith, length-append h p, index_of_joined 1 (omega arith));
-  }
+  raw_joined e f = search (rules, length-append, index_of_joined)
 
   pub raw_joined_fields : length h ≡ 2 → raw_fields (h ++ p) ≡ record { next_header = next_header h; payload = p }
-  raw_joined_fields e =
-      let fields : ℕ → List ℕ → RawFields = λ n q. record { next_header = n; payload = q } in
-      ap (λ (n : ℕ). fields n (drop 2 (h ++ p))) (index_of_joined 0 (omega arith)) ∙ ap (fields (slice_index h 0)) (behind 2 e)
+  raw_joined_fields e = search (rules, index_of_joined, behind)
 
   pub auth_joined : length h ≡ 12 → 1 ≤ slice_index h 1 → length p ≡ 4 * (slice_index h 1 - 1) → IsAuthHeader (h ++ p)
-  auth_joined e l f = record {
-    not_zero = omega (arith, index_of_joined 1 (omega arith));
-    len = omega (arith, length-append h p, index_of_joined 1 (omega arith));
-  }
+  auth_joined e l f = search (rules, index_of_joined, length-append)
 
   word_of_joined : (i : ℕ) → i + 4 ≤ length h → take 4 (drop i (h ++ p)) ≡ take 4 (drop i h)
   word_of_joined i l = ap (take 4) (drop-append-le i h p (omega arith)) ∙ take-append-le 4 (drop i h) p (omega (arith, length-drop i h))
 
   pub auth_joined_fields : length h ≡ 12 → auth_fields (h ++ p) ≡ with_icv h p
   auth_joined_fields e =
-      let fields : ℕ → List ℕ → List ℕ → List ℕ → AuthFields = λ n a b q. record { next_header = n; spi = from_be_bytes w32 a; sequence_number = from_be_bytes w32 b; raw_icv = q } in
-      ap (λ (n : ℕ). fields n (slice_range (h ++ p) 4 8) (slice_range (h ++ p) 8 12) (drop 12 (h ++ p))) (index_of_joined 0 (omega arith))
-      ∙ ap (λ (a : List ℕ). fields (slice_index h 0) a (slice_range (h ++ p) 8 12) (drop 12 (h ++ p))) (word_of_joined 4 (omega arith))
-      ∙ ap (λ (b : List ℕ). fields (slice_index h 0) (slice_range h 4 8) b (drop 12 (h ++ p))) (word_of_joined 8 (omega arith))
-      ∙ ap (fields (slice_index h 0) (slice_range h 4 8) (slice_range h 8 12)) (behind 12 e)
+      grind (arith, common_steps, index_of_joined 0 (omega arith), word_of_joined 4 (omega arith), word_of_joined 8 (omega arith), behind 12 e)

@@ -1,9 +1,10 @@
 -- The runs of a chain: what the demand of six places cuts it into.
-use Rattle.std.proofs.Common.{◌≡◌, ◌≢◌, ℕ, ◌+◌, ◌/◌, ◌≤◌, List, [], ◌∷◌, ◌++◌, length, drop, refl, ap, sym, ◌∙◌, arith, inl, inr, ◌⊎◌, subst, true, false}
+use Rattle.std.proofs.Common.{◌≡◌, ◌≢◌, ℕ, ◌+◌, ◌/◌, ◌≤◌, List, [], ◌∷◌, ◌++◌, length, drop, refl, ap, sym, ◌∙◌, arith, inl, inr, ◌⊎◌, subst, true, false, rules}
 use Rattle.std.specs.List.{flat_map, AllByRecursion}
 use Rattle.std.proofs.Math.Seq.{take-length}
 use Rattle.std.proofs.lemmas.List.{append-nil, length-append, map-append}
 use Rattle.std.proofs.lemmas.List.Concat.{flat_map-append}
+use Rattle.std.proofs.lemmas.Grind.{common_steps}
 use Rattle.ip_spec.specs.Prefix.{IsPrefix}
 use Rattle.ip_spec.specs.Header.{IsHeader}
 use Rattle.ip_spec.specs.Fields.{next_header}
@@ -48,8 +49,7 @@ some_or_none (h ∷ c) = inr (λ e. cc)
 -- the number is taken.
 module _ (m : ℕ) (c : List ExtHeader) where
   last_more : (p : List ExtHeader) (ps : Pieces) → ps ≢ [] → last_piece (p ∷ ps) ≡ last_piece ps
-  last_more p [] e = absurd (e refl)
-  last_more p (r ∷ ps) e = refl
+  last_more p ps e = search rules
 
   no_pieces : (ps : Pieces) (d : List ExtHeader) → d ≢ [] → IsCut FitsPlaces d ps → ps ≢ []
   no_pieces ps d e k = λ w. e (sym k.whole ∙ ap joined w)
@@ -88,10 +88,7 @@ module _ (m : ℕ) (c : List ExtHeader) where
     ]
 
   pub runs_end : FitsPlaces c → (IsTaken m c → ⊥) → AreRuns m c (c ∷ [])
-  runs_end f free = elim (some_or_none c) [
-    | inl e ↦ none e (ap (λ l. l ∷ []) e)
-    | inr s ↦ cut s (record { whole = append-nil c; filled = (s, tt); meets = (f, tt); breaks = (tt, tt) }) free
-  ]
+  runs_end f free = grind (arith, common_steps, some_or_none c, append-nil c)
 
 -- There is one list of runs, and no other.
 pub some_runs : (m : ℕ) (c : List ExtHeader) → (ps : Pieces) × AreRuns m c ps
@@ -152,23 +149,13 @@ module _ (m : ℕ) (c : List ExtHeader) where
 
   -- no header is lost
   pub runs_joined : (ps : Pieces) → AreRuns m c ps → joined ps ≡ c
-  runs_joined ps a = elim a [
-    | none e w ↦ ap joined w ∙ sym e
-    | cut s i free ↦ i.whole
-    | one_more rs i t w ↦ ap joined w ∙ joined-more rs ∙ i.whole
-  ]
+  runs_joined ps a = search (rules, none, cut, one_more, joined-more)
 
   pub runs_written : (ps : Pieces) → AreRuns m c ps → flat_map (λ p. bytes_of (cleared_chain p)) ps ≡ bytes_of (cleared_chain c)
   runs_written ps a = written_joined ps ∙ ap (λ d. bytes_of (cleared_chain d)) (runs_joined ps a)
 
   pub runs_fit : (ps : Pieces) → AreRuns m c ps → AllByRecursion FitsPlaces ps
-  runs_fit ps a =
-      let A : Pieces → Type 0 = AllByRecursion FitsPlaces in
-      elim a [
-        | none e w ↦ subst A (sym w) (fits_places.empty, tt)
-        | cut s i free ↦ i.meets
-        | one_more rs i t w ↦ subst A (sym w) (one_more_fits rs i.meets)
-      ]
+  runs_fit ps a = search (rules, none, cut, one_more, one_more_fits)
 
   -- no cut into pieces that fit has fewer that aren't empty
   pub fewest_runs : (ps rs : Pieces) → AreRuns m c ps → joined rs ≡ c → AllByRecursion FitsPlaces rs → how_many ps ≤ how_many rs
@@ -182,19 +169,10 @@ module _ (m : ℕ) (c : List ExtHeader) where
 
   -- there is one run at least, and one for each header and one more at most
   pub some_run : (ps : Pieces) → AreRuns m c ps → 1 ≤ length ps
-  some_run [] a = elim a [
-    | none e w ↦ omega (arith, ap length w)
-    | cut s i free ↦ absurd (s (sym i.whole))
-    | one_more qs i t w ↦ omega (arith, ap length w, length-append qs ([] ∷ []))
-  ]
-  some_run (p ∷ ps) a = omega arith
+  some_run ps a = grind (arith, common_steps, none, cut, one_more, length-append)
 
   pub count_runs : (ps : Pieces) → AreRuns m c ps → length ps ≤ length c + 1
-  count_runs ps a = elim a [
-    | none e w ↦ omega (arith, ap length w)
-    | cut s i free ↦ omega (arith, cut_count FitsPlaces cuts_places ps c i)
-    | one_more qs i t w ↦ omega (arith, ap length w, length-append qs ([] ∷ []), cut_count FitsPlaces cuts_places qs c i)
-  ]
+  count_runs ps a = search (rules, none, cut, cut_count, cuts_places, one_more, length-append)
 
 pub runs_bound : (n : ℕ) (s : List ℕ) (c : List ExtHeader) (m : ℕ) (ps : Pieces) → IsPrefixChain n s c → AreRuns m c ps → length ps ≤ length s / 8 + 1
 runs_bound n s c m ps q a = omega (arith, count_runs m c ps a, bytes_of-least c q.chain.headers, prefix-length (bytes_of c) s q.prefix)
@@ -255,8 +233,7 @@ module _ (n : ℕ) (s : List ℕ) (p : List ExtHeader) where
   rest = drop (length (bytes_of p)) s
 
   zero_behind : (c : List ExtHeader) → (c ≡ [] → number ≢ 0) → (leads_to number c ≡ 0 → is_empty c ≡ true) → leads_to number c ≡ 0 → ⊥
-  zero_behind [] nz first z = nz refl z
-  zero_behind (h ∷ c) nz first z = let differ : false ≡ true = first z in cc
+  zero_behind c nz first z = search rules
 
   rest_prefix : (c : List ExtHeader) → IsPrefixChain n s (p ++ c) → IsPrefixChain number rest c
   rest_prefix c q =
@@ -264,27 +241,14 @@ module _ (n : ℕ) (s : List ℕ) (p : List ExtHeader) where
       record { chain = chain_behind n p c q.chain; prefix = prefix_second (bytes_of p) (bytes_of c) s (subst F (bytes_of-append p c) q.prefix) }
 
   rest_ends : (c : List ExtHeader) → (c ≡ [] → number ≢ 0) → IsLongestChain n s (p ++ c) → IsEnd (is_empty c) (leads_to number c) (drop (length (bytes_of c)) rest)
-  rest_ends c nz l h x =
-      let H : ℕ → Type 0 = λ m. IsHeader m h.bytes in
-      let F : List ℕ → Type 0 = IsPrefix h.bytes in
-      let same : leads_to number c ≡ leads_to n (p ++ c) = sym (leads_to-append n p c) in
-      let first : IsPrefix (bytes_of p) s = (begins n s p c l.has).prefix in
-      let left : drop (length (bytes_of c)) rest ≡ drop (length (bytes_of (p ++ c))) s =
-      rest_join (bytes_of p) (bytes_of c) s first (rest_prefix c l.has).prefix ∙ ap (λ (b : List ℕ). drop (length b) s) (sym (bytes_of-append p c)) in
-      longest_ends n s (p ++ c) l h (record {
-        number = x.number ∙ same;
-        header = subst H same x.header;
-        prefix = subst F left x.prefix;
-        zero_only_first = λ z. absurd (zero_behind c nz x.zero_only_first (same ∙ z));
-      })
+  rest_ends c nz l h x = search (rules, leads_to-append, begins, rest_join, rest_prefix, bytes_of-append, longest_ends, zero_behind)
 
   pub rest_longest : (c : List ExtHeader) → (c ≡ [] → number ≢ 0) → IsLongestChain n s (p ++ c) → IsLongestChain number rest c
   rest_longest c nz l = longest_at_end number rest c (rest_prefix c l.has) (rest_ends c nz l)
 
 -- So the runs are the longest chains that fit, one behind the other.
 fitting_more : (n : ℕ) (s : List ℕ) (p : List ExtHeader) (ps : Pieces) → IsLongestUnder FitsPlaces n s p → IsTaken (leads_to n p) p → AreLongestFitting (leads_to n p) (drop (length (bytes_of p)) s) ps → AreLongestFitting n s (p ∷ ps)
-fitting_more n s p [] l t f = absurd f
-fitting_more n s p (q ∷ ps) l t f = (l, t, f)
+fitting_more n s p ps l t f = search rules
 
 pub runs_longest_fitting : (ps : Pieces) (n : ℕ) (s : List ℕ) (c : List ExtHeader) → IsLongestChain n s c → AreRuns (leads_to n c) c ps → AreLongestFitting n s ps
 runs_longest_fitting [] n s c l a = absurd (omega (arith, some_run (leads_to n c) c [] a))

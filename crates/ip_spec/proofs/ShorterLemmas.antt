@@ -1,7 +1,8 @@
 -- The chains of bytes that are cut short are the chains of the whole bytes that lie within them.
-use Rattle.std.proofs.Common.{◌≡◌, ℕ, ◌+◌, ◌-◌, ◌≤◌, List, [], ◌∷◌, ◌++◌, length, take, refl, ap, sym, ◌∙◌, arith, inl, inr, length-take}
+use Rattle.std.proofs.Common.{◌≡◌, ℕ, ◌+◌, ◌-◌, ◌≤◌, List, [], ◌∷◌, ◌++◌, length, take, refl, ap, sym, ◌∙◌, arith, inl, inr, length-take, rules}
 use Rattle.std.proofs.lemmas.List.{take-take, length-append}
 use Rattle.std.proofs.lemmas.Bool.{cases_lt, lt-ltb, le-ltb}
+use Rattle.std.proofs.lemmas.Grind.{common_steps}
 use Rattle.ip_spec.specs.Prefix.{IsPrefix}
 use Rattle.ip_spec.specs.Chain.{ExtHeader, bytes_of, headers_within, IsPrefixChain}
 use Rattle.ip_spec.specs.Demand.{IsDemand, NextBreaks, KeepsBeginning, IsLongestUnder}
@@ -15,33 +16,25 @@ prefix_shorter : (j : ℕ) (b s : List ℕ) → IsPrefix b s → length b ≤ j 
 prefix_shorter j b s f w = take-take (length b) j s w ∙ f
 
 prefix_longer : (j : ℕ) (b s : List ℕ) → IsPrefix b (take j s) → IsPrefix b s × (length b ≤ j)
-prefix_longer j b s f =
-    let w : length b ≤ j = omega (arith, prefix-length b (take j s) f, length-take j s) in
-    (sym (take-take (length b) j s w) ∙ f, w)
+prefix_longer j b s f = grind (arith, common_steps, prefix-length, take-take)
 
 length_with : (h : ExtHeader) (c : List ExtHeader) → length (bytes_of (h ∷ c)) ≡ length h.bytes + length (bytes_of c)
 length_with h c = length-append h.bytes (bytes_of c)
 
 breaks_behind : (j : ℕ) (h : ExtHeader) (c rest : List ExtHeader) → length h.bytes ≤ j → NextBreaks (IsWithin j) (h ∷ c) rest → NextBreaks (IsWithin (j - length h.bytes)) c rest
-breaks_behind j h c [] few breaks = tt
-breaks_behind j h c (x ∷ rest) few breaks = λ w. breaks (omega (arith, w, few, length_with h (c ++ x ∷ [])))
+breaks_behind j h c rest few breaks = search (rules, length_with)
 
 -- what a bound on the bytes keeps are the headers within it
 within_is : (j : ℕ) (c rest : List ExtHeader) → IsWithin j c → NextBreaks (IsWithin j) c rest → c ≡ headers_within j (c ++ rest)
 within_is j [] [] meets breaks = refl
-within_is j [] (x ∷ rest) meets breaks = elim (cases_lt j (length x.bytes)) [
-  | inl less ↦ rw (lt-ltb j (length x.bytes) less) refl
-  | inr some ↦ absurd (breaks (omega (arith, some, length_with x [])))
-]
+within_is j [] (x ∷ rest) meets breaks = search rules
 within_is j (h ∷ c) rest meets breaks =
     let few : length h.bytes ≤ j = omega (arith, meets, length_with h c) in
     rw (le-ltb j (length h.bytes) few) (ap (λ d. h ∷ d) (within_is (j - length h.bytes) c rest (omega (arith, meets, length_with h c)) (breaks_behind j h c rest few breaks)))
 
 module _ (Q : List ExtHeader → Type 0) (k : IsDemand Q) (n j : ℕ) (s : List ℕ) where
   shorter_under : (c : List ExtHeader) → IsUnder Q (IsPrefixChain n (take j s)) c → IsUnder (IsWithin j) (IsUnder Q (IsPrefixChain n s)) c
-  shorter_under c u =
-      let f = prefix_longer j (bytes_of c) s u.0.prefix in
-      ((record { chain = u.0.chain; prefix = f.0 }, u.1), f.1)
+  shorter_under c u = search (rules, prefix_longer)
 
   under_shorter : (c : List ExtHeader) → IsUnder (IsWithin j) (IsUnder Q (IsPrefixChain n s)) c → IsUnder Q (IsPrefixChain n (take j s)) c
   under_shorter c u = (record { chain = u.0.0.chain; prefix = prefix_shorter j (bytes_of c) s u.0.0.prefix u.1 }, u.0.1)

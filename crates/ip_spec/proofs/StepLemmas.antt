@@ -1,8 +1,9 @@
 -- Chains at the prefix of bytes, and the header that goes on.
-use Rattle.std.proofs.Common.{◌≡◌, ◌≢◌, ℕ, ◌*◌, ◌≤◌, List, [], ◌∷◌, ◌++◌, length, drop, refl, ap, sym, ◌∙◌, arith, inl, inr, subst, true, false}
+use Rattle.std.proofs.Common.{◌≡◌, ◌≢◌, ℕ, ◌*◌, ◌≤◌, List, [], ◌∷◌, ◌++◌, length, drop, refl, ap, sym, ◌∙◌, arith, inl, inr, subst, true, false, rules}
 use Rattle.std.specs.List.{AllByRecursion}
 use Rattle.std.proofs.lemmas.List.{append-nil, length-append}
 use Rattle.std.proofs.lemmas.List.Concat.{flat_map-append}
+use Rattle.std.proofs.lemmas.Grind.{common_steps}
 use Rattle.ip_spec.specs.Prefix.{IsPrefix}
 use Rattle.ip_spec.specs.Header.{IsHeader}
 use Rattle.ip_spec.specs.Fields.{next_header}
@@ -37,16 +38,13 @@ links_more n [] h a e = (e, tt)
 links_more n (g ∷ c) h a e = (a.0, links_more (next_header g.bytes) c h a.1 e)
 
 zero_first : (c d : List ExtHeader) → AllByRecursion (λ h. h.number ≢ 0) (drop 1 (c ++ d)) → AllByRecursion (λ h. h.number ≢ 0) (drop 1 c)
-zero_first [] d a = tt
-zero_first (h ∷ c) d a = all_first (λ k. k.number ≢ 0) c d a
+zero_first c d a = search (rules, all_first)
 
 zero_next : (c : List ExtHeader) (h : ExtHeader) → AllByRecursion (λ k. k.number ≢ 0) (drop 1 (c ++ h ∷ [])) → h.number ≡ 0 → is_empty c ≡ true
-zero_next [] h a z = refl
-zero_next (g ∷ c) h a z = absurd (all_next (λ k. k.number ≢ 0) c h a z)
+zero_next c h a z = search (rules, all_next)
 
 zero_more : (c : List ExtHeader) (h : ExtHeader) → AllByRecursion (λ k. k.number ≢ 0) (drop 1 c) → (h.number ≡ 0 → is_empty c ≡ true) → AllByRecursion (λ k. k.number ≢ 0) (drop 1 (c ++ h ∷ []))
-zero_more [] h a b = tt
-zero_more (g ∷ c) h a b = all_more (λ k. k.number ≢ 0) c h a (λ e. let no : false ≡ true = b e in cc)
+zero_more c h a b = search (rules, all_more)
 
 pub no_chain : (n : ℕ) → IsChain n []
 no_chain n = record { headers = tt; links = tt; zero_only_first = tt }
@@ -54,11 +52,7 @@ no_chain n = record { headers = tt; links = tt; zero_only_first = tt }
 -- A beginning of a chain is one, and a header that goes on with the number to which a chain leads makes one.
 module _ (n : ℕ) (c : List ExtHeader) where
   pub chain_begins : (d : List ExtHeader) → IsChain n (c ++ d) → IsChain n c
-  chain_begins d k = record {
-    headers = all_first (λ h. IsHeader h.number h.bytes) c d k.headers;
-    links = links_first n c d k.links;
-    zero_only_first = zero_first c d k.zero_only_first;
-  }
+  chain_begins d k = search (rules, all_first, links_first, zero_first)
 
   module _ (h : ExtHeader) where
     pub chain_number : IsChain n (c ++ h ∷ []) → h.number ≡ leads_to n c
@@ -71,11 +65,7 @@ module _ (n : ℕ) (c : List ExtHeader) where
     chain_zero k = zero_next c h k.zero_only_first
 
     pub chain_more : IsChain n c → h.number ≡ leads_to n c → IsHeader h.number h.bytes → (h.number ≡ 0 → is_empty c ≡ true) → IsChain n (c ++ h ∷ [])
-    chain_more k number header zero = record {
-      headers = all_more (λ g. IsHeader g.number g.bytes) c h k.headers header;
-      links = links_more n c h k.links number;
-      zero_only_first = zero_more c h k.zero_only_first zero;
-    }
+    chain_more k number header zero = search (rules, all_more, links_more, zero_more)
 
 -- What a chain and one more header make.
 pub bytes_of-more : (c : List ExtHeader) (h : ExtHeader) → bytes_of (c ++ h ∷ []) ≡ bytes_of c ++ h.bytes
@@ -87,33 +77,13 @@ leads_to-more n (g ∷ c) h = leads_to-more (next_header g.bytes) c h
 
 module _ (n : ℕ) (s : List ℕ) where
   pub begins : (c d : List ExtHeader) → IsPrefixChain n s (c ++ d) → IsPrefixChain n s c
-  begins c d p = record {
-    chain = chain_begins n c d p.chain;
-    prefix =
-        let F : List ℕ → Type 0 = λ b. IsPrefix b s in
-        prefix_first (bytes_of c) (bytes_of d) s (subst F (flat_map-append (λ k. k.bytes) c d) p.prefix);
-  }
+  begins c d p = search (rules, chain_begins, prefix_first, flat_map-append)
 
   pub next_of : (c : List ExtHeader) (h : ExtHeader) → IsPrefixChain n s (c ++ h ∷ []) → IsNext (is_empty c) (leads_to n c) (drop (length (bytes_of c)) s) h
-  next_of c h p =
-      let number : h.number ≡ leads_to n c = chain_number n c h p.chain in
-      let H : ℕ → Type 0 = λ m. IsHeader m h.bytes in
-      let F : List ℕ → Type 0 = λ b. IsPrefix b s in
-      record {
-        number = number;
-        header = subst H number (chain_header n c h p.chain);
-        prefix = prefix_second (bytes_of c) h.bytes s (subst F (bytes_of-more c h) p.prefix);
-        zero_only_first = λ z. chain_zero n c h p.chain (number ∙ z);
-      }
+  next_of c h p = search (rules, chain_number, chain_header, prefix_second, bytes_of-more, chain_zero)
 
   pub goes_on : (c : List ExtHeader) (h : ExtHeader) → IsPrefixChain n s c → IsNext (is_empty c) (leads_to n c) (drop (length (bytes_of c)) s) h → IsPrefixChain n s (c ++ h ∷ [])
-  goes_on c h p x =
-      let H : ℕ → Type 0 = λ m. IsHeader m h.bytes in
-      let F : List ℕ → Type 0 = λ b. IsPrefix b s in
-      record {
-        chain = chain_more n c h p.chain x.number (subst H (sym x.number) x.header) (λ z. x.zero_only_first (sym x.number ∙ z));
-        prefix = subst F (sym (bytes_of-more c h)) (prefix_join (bytes_of c) h.bytes s p.prefix x.prefix);
-      }
+  goes_on c h p x = grind (arith, common_steps, chain_more, bytes_of-more, prefix_join)
 
   pub chains_grow : Grows (IsPrefixChain n s)
   chains_grow = record {
@@ -144,8 +114,7 @@ pub first_next : (n : ℕ) (s : List ℕ) (h : ExtHeader) (c : List ExtHeader) �
 first_next n s h c p = next_of n s [] h (begins n s (h ∷ []) c p)
 
 tail_not_zero : (c : List ExtHeader) → AllByRecursion (λ k. k.number ≢ 0) c → AllByRecursion (λ k. k.number ≢ 0) (drop 1 c)
-tail_not_zero [] a = tt
-tail_not_zero (h ∷ c) a = a.1
+tail_not_zero c a = search rules
 
 -- the headers behind the first are a chain from the number that it names
 pub tail_chain : (n : ℕ) (h : ExtHeader) (c : List ExtHeader) → IsChain n (h ∷ c) → IsChain (next_header h.bytes) c

@@ -1,5 +1,5 @@
 -- Sums over the places of a value and over the headers of a chain.
-use Rattle.std.proofs.Common.{◌≡◌, ℕ, zero, suc, ◌+◌, ◌≤◌, List, [], ◌∷◌, ◌++◌, length, refl, ap, sym, ◌∙◌, arith, inl, inr, subst, append_assoc, Bool, true, false}
+use Rattle.std.proofs.Common.{◌≡◌, ℕ, zero, suc, ◌+◌, ◌≤◌, List, [], ◌∷◌, ◌++◌, length, refl, ap, sym, ◌∙◌, arith, inl, inr, subst, append_assoc, Bool, true, false, rules}
 use Rattle.std.specs.Prelude.{Option, Some, None, sum_by, ◌==◌, ◌||◌, if◌then◌else◌}
 use Rattle.std.specs.List.{AllByRecursion}
 use Rattle.std.specs.Option.{option_map, option_map_or}
@@ -29,8 +29,7 @@ module _ (g : HeaderFields → ℕ) (u w : PlacedFields) where
   weight o = option_map_or g o 0
 
   pub sum_without : (p : Place) (x : HeaderFields) → u p ≡ Some x → ((q : Place) → w q ≡ without p u q) → sum_placed g w + g x ≡ sum_placed g u
-  sum_without hop_by_hop x t e = omega (arith, ap weight t, ap weight (e hop_by_hop), ap weight (e destination), ap weight (e routing), ap weight (e fragment_place), ap weight (e authentication), ap weight (e final_destination))
-  sum_without p x t e = omega (arith, ap weight t, ap weight (e hop_by_hop), ap weight (e destination), ap weight (e routing), ap weight (e fragment_place), ap weight (e authentication), ap weight (e final_destination))
+  sum_without p x t e = search rules
 
 -- The sum over a chain that fits is that over its places.
 abbrev of_chain : List ExtHeader → PlacedFields
@@ -70,13 +69,7 @@ raw_said_len : (b : List ℕ) → IsRawHeader b → length b ≡ fields_len (raw
 raw_said_len b h = omega (arith, h.least, length-drop 2 b)
 
 pub len_said : (h : ExtHeader) → IsHeader h.number h.bytes → length h.bytes ≡ fields_len (fields_of h)
-len_said h k =
-    let L : ℕ → Type 0 = λ n. length h.bytes ≡ fields_len (fields_of (record { number = n; bytes = h.bytes })) in
-    elim k [
-      | raw n r ↦ let l = raw_said_len h.bytes r in by_raw L l l l h.number n
-      | fragment e r ↦ subst L (sym e) r.len
-      | auth e a ↦ subst L (sym e) (omega (arith, a.len, a.not_zero, length-drop 12 h.bytes))
-    ]
+len_said h k = search rules
 
 bytes_sum : (c : List ExtHeader) → AllByRecursion (λ h. IsHeader h.number h.bytes) c → length (bytes_of c) ≡ sum_by (λ h. fields_len (fields_of h)) c
 bytes_sum [] a = refl
@@ -107,8 +100,7 @@ module _ (u : PlacedFields) (first behind : Bool) (m : ℕ) where
 module _ (v : PlacedFields) (f : ℕ) (e : IsEncodable v) where
   some_from : (k : ℕ) (c : List ExtHeader) (u : PlacedFields) (m : ℕ) (first behind : Bool) → Walking v f c u m first behind → sum_placed (λ x. 1) u ≤ k → Going u first behind m → (d : List ExtHeader) × IsLongestOf (IsReachable v f) d
   some_from k c u m first behind w l (ends none) = (c, walk_stops v f c u m first behind w none)
-  some_from zero c u m first behind w l (goes p x at there) =
-      absurd (let less = sum_without (λ y. 1) u (without p u) p x there (λ q. refl) in omega (arith, less, l))
+  some_from zero c u m first behind w l (goes p x at there) = search rules
   some_from (suc k) c u m first behind w l (goes p x at there) =
       let h = e.encoded p x (left_some (header_in p c) (v p) x (sym (w.left p) ∙ there)).1 in
       some_from k (c ++ h.0 ∷ []) (without p u) (next_header h.0.bytes) false (behind || (m == 43))

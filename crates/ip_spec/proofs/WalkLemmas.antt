@@ -1,5 +1,5 @@
 -- What a value shows, reaches and spells from a number.
-use Rattle.std.proofs.Common.{◌≡◌, ℕ, List, [], ◌∷◌, ◌++◌, refl, ap, sym, ◌∙◌, inl, inr, subst, append_assoc, true, false}
+use Rattle.std.proofs.Common.{◌≡◌, ℕ, List, [], ◌∷◌, ◌++◌, refl, ap, sym, ◌∙◌, inl, inr, subst, append_assoc, true, false, rules}
 use Rattle.std.specs.Prelude.{Option, Some, None, is_some, ◌==◌, if◌then◌else◌}
 use Rattle.std.specs.Option.{option_map}
 use Rattle.std.proofs.lemmas.Bool.{cases_Bool}
@@ -21,16 +21,13 @@ use Rattle.ip_spec.proofs.HeaderLemmas.{header_number}
 use Rattle.ip_spec.proofs.EncodedLemmas.{one_header_says}
 
 pub none_if : {X : Type 0} (o : Option X) → is_some o ≡ false → o ≡ None
-none_if None e = refl
-none_if (Some x) e = absurd (let differ : true ≡ false = e in cc)
+none_if o e = search rules
 
 pub some_if : {X : Type 0} (o : Option X) → is_some o ≡ true → (x : X) × (o ≡ Some x)
-some_if None e = absurd (let differ : false ≡ true = e in cc)
-some_if (Some x) e = (x, refl)
+some_if o e = search rules
 
 pub is_some-map : {A B : Type 0} (f : A → B) (o : Option A) → is_some (option_map f o) ≡ is_some o
-is_some-map f None = refl
-is_some-map f (Some x) = refl
+is_some-map f o = search rules
 
 -- the fields of v in the places that the chain c doesn't fill
 abbrev pub unreached : PlacedFields → List ExtHeader → PlacedFields
@@ -55,17 +52,11 @@ joins f c x k fits =
 module _ {f : ℕ} {c : List ExtHeader} {x : ExtHeader} (j : Joins f c x) where
   -- it stands in its place
   pub there : header_in j.place (c ++ x ∷ []) ≡ Some x
-  there = elim (eqb_tells (index j.place) (index j.place)) [
-    | inl w ↦ j.joined j.place ∙ ap (λ b. if b then Some x else header_in j.place c) w.0
-    | inr w ↦ absurd (w.1 refl)
-  ]
+  there = search rules
 
   -- and what stood in a place stands there
   pub kept : (p : Place) (h : ExtHeader) → header_in p c ≡ Some h → header_in p (c ++ x ∷ []) ≡ Some h
-  kept p h e = elim (eqb_tells (index j.place) (index p)) [
-    | inl w ↦ absurd (none-some h (sym (ap (λ q. header_in q c) (sym (same_place j.place p w.1)) ∙ j.free) ∙ e))
-    | inr w ↦ j.joined p ∙ ap (λ b. if b then Some x else header_in p c) w.0 ∙ e
-  ]
+  kept p h e = search rules
 
 module _ (v : PlacedFields) (f : ℕ) where
   -- The header that comes next stands in v, in the place of the number reached.
@@ -118,9 +109,4 @@ module _ (v : PlacedFields) (f : ℕ) where
   one_reach c d = one_longest_of (IsReachable v f) shown_grows c d
 
   pub none_shown : IsReachable v f []
-  none_shown = record {
-    chain = no_chain f;
-    fits = fits_places.empty;
-    in_value = λ p h e. absurd (none-some h (sym (nothing_in p) ∙ e));
-    cleared = tt;
-  }
+  none_shown = search rules

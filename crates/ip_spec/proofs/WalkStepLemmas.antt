@@ -1,11 +1,12 @@
 -- A walk that takes headers out of a value, one after the other.
-use Rattle.std.proofs.Common.{◌≡◌, ℕ, List, [], ◌∷◌, ◌++◌, refl, ap, sym, ◌∙◌, inl, inr, subst, Bool, true, false}
+use Rattle.std.proofs.Common.{◌≡◌, ℕ, List, [], ◌∷◌, ◌++◌, refl, ap, sym, ◌∙◌, inl, inr, subst, Bool, true, false, arith, rules}
 use Rattle.std.specs.Prelude.{Option, Some, None, is_some, ◌==◌, ◌&&◌, ◌||◌, not, if◌then◌else◌}
 use Rattle.std.specs.Option.{option_or}
 use Rattle.std.proofs.Math.Bool.{or-true, or-false}
 use Rattle.std.proofs.lemmas.Bool.{eqb-true, eq-eqb}
 use Rattle.std.proofs.lemmas.Bool.Decides.{eqb_tells}
 use Rattle.std.proofs.lemmas.Option.{none-some, same_Some}
+use Rattle.std.proofs.lemmas.Grind.{common_steps}
 use Rattle.ip_spec.specs.Header.{IsHeader}
 use Rattle.ip_spec.specs.Fields.{next_header}
 use Rattle.ip_spec.specs.Chain.{ExtHeader, leads_to, is_empty}
@@ -31,59 +32,36 @@ pub record Walking (v : PlacedFields) (f : ℕ) (c : List ExtHeader) (u : Placed
   pub behind_is : behind ≡ has_routing c
 
 pub walk_begins : (v : PlacedFields) (f : ℕ) (u : PlacedFields) → ((p : Place) → u p ≡ v p) → Walking v f [] u f true false
-walk_begins v f u e = record {
-  in_value = none_shown v f;
-  left = λ p. e p ∙ sym (ap (λ o. if is_some o then None else v p) (nothing_in p));
-  number = refl;
-  first_is = refl;
-  behind_is = refl;
-}
+walk_begins v f u e = search rules
 
 -- what a place that is left says
 pub left_some : (o : Option ExtHeader) (y : Option HeaderFields) (x : HeaderFields) → (if is_some o then None else y) ≡ Some x → (is_some o ≡ false) × (y ≡ Some x)
-left_some None y x e = (refl, e)
-left_some (Some h) y x e = absurd (none-some x e)
+left_some o y x e = search rules
 
 next_place_is : (z first : Bool) (o : Option Place) (p : Place) → (if z && not first then None else o) ≡ Some p → (o ≡ Some p) × (z ≡ true → first ≡ true)
-next_place_is true true o p e = (e, λ w. refl)
-next_place_is true false o p e = absurd (none-some p e)
-next_place_is false first o p e = (e, λ w. let differ : false ≡ true = w in cc)
+next_place_is z first o p e = search rules
 
 next_place_of : (z first : Bool) (o : Option Place) → (z ≡ true → first ≡ true) → (if z && not first then None else o) ≡ o
-next_place_of true true o e = refl
-next_place_of true false o e = absurd (let differ : false ≡ true = e refl in cc)
-next_place_of false first o e = refl
+next_place_of z first o e = search rules
 
 -- values that say the same in each place are one
 pub same_held : (v w : PlacedFields) → ((p : Place) → v p ≡ w p) → v ≡ w
 same_held v w e = λ i p. e p i
 
 pub not_empty : (c : List ExtHeader) (h : ExtHeader) → false ≡ is_empty (c ++ h ∷ [])
-not_empty [] h = refl
-not_empty (g ∷ c) h = refl
+not_empty c h = grind (arith, common_steps)
 
 some_or : (o : Option ExtHeader) (h : ExtHeader) → is_some (option_or o (Some h)) ≡ true
-some_or None h = refl
-some_or (Some g) h = refl
+some_or o h = search rules
 
 -- a routing header is there where one was, or where this is one
 routing_more : (c : List ExtHeader) (h : ExtHeader) → has_routing c || (h.number == 43) ≡ has_routing (c ++ h ∷ [])
-routing_more c h = elim (eqb_tells h.number 43) [
-  | inl w ↦ ap (λ b. has_routing c || b) w.0 ∙ or-true (has_routing c) ∙ sym (ap is_some (find_more-yes (is_of routing) c h w.0) ∙ some_or (header_in routing c) h)
-  | inr w ↦ ap (λ b. has_routing c || b) w.0 ∙ or-false (has_routing c) ∙ sym (ap is_some (find_more-no (is_of routing) c h w.0))
-]
+routing_more c h = search (rules, eqb_tells, or-true, find_more-yes, some_or, or-false, find_more-no)
 
 module _ (c : List ExtHeader) (h : ExtHeader) (p : Place) (joined : (q : Place) → header_in q (c ++ h ∷ []) ≡ (if index p == index q then Some h else header_in q c)) where
   -- what was left is left without it
   left_more : (v : PlacedFields) (q : Place) → without p (unreached v c) q ≡ unreached v (c ++ h ∷ []) q
-  left_more v q = elim (eqb_tells (index p) (index q)) [
-    | inl w ↦
-        ap (λ b. if b then None else unreached v c q) w.0
-        ∙ sym (ap (λ o. if is_some o then None else v q) (joined q ∙ ap (λ b. if b then Some h else header_in q c) w.0))
-    | inr w ↦
-        ap (λ b. if b then None else unreached v c q) w.0
-        ∙ sym (ap (λ o. if is_some o then None else v q) (joined q ∙ ap (λ b. if b then Some h else header_in q c) w.0))
-  ]
+  left_more v q = search rules
 
 module _ (v : PlacedFields) (f : ℕ) (c : List ExtHeader) (u : PlacedFields) (m : ℕ) (first behind : Bool) (k : Walking v f c u m first behind) where
   -- A header h goes on: it stands in the place of m, and was left there.
@@ -128,8 +106,4 @@ module _ (v : PlacedFields) (f : ℕ) (c : List ExtHeader) (u : PlacedFields) (m
       none-some (fields_of x) (sym (none n.joins.place (next_place_of (m == 0) first (place_of m behind) (λ z. k.first_is ∙ n.zero (same ∙ eqb-true m 0 z)) ∙ at)) ∙ here))
 
   pub walk_answers : (w : PlacedFields) (n : ℕ) (a : WalkAnswer) → ((p : Place) → next_place first behind m ≡ Some p → u p ≡ None) → ((p : Place) → w p ≡ u p) → n ≡ m → a ≡ answer_at n w → IsWalkAnswer v f a
-  walk_answers w n a none ew en ea = record {
-    reach = c;
-    is_reach = walk_stops none;
-    answer = ea ∙ ap (λ j. answer_at j w) (en ∙ k.number) ∙ ap (answer_at (leads_to f c)) (same_held w (unreached v c) (λ p. ew p ∙ k.left p));
-  }
+  walk_answers w n a none ew en ea = search (rules, walk_stops, same_held)

@@ -1,5 +1,5 @@
 -- Chains whose headers fit six places.
-use Rattle.std.proofs.Common.{◌≡◌, ℕ, ◌≤◌, ◌<◌, List, [], ◌∷◌, ◌++◌, length, drop, refl, ap, sym, ◌∙◌, arith, inl, inr, ◌⊎◌, true, false, subst, rules}
+use Rattle.std.proofs.Common.{◌≡◌, ℕ, ◌≤◌, ◌<◌, List, [], ◌∷◌, ◌++◌, length, drop, refl, ap, sym, ◌∙◌, arith, inl, inr, ◌⊎◌, true, subst, rules}
 use Rattle.std.specs.Prelude.{count_by}
 use Rattle.std.proofs.lemmas.Bool.{cases_lt}
 use Rattle.std.proofs.lemmas.List.{append-nil, length-append}
@@ -7,10 +7,10 @@ use Rattle.std.proofs.lemmas.Grind.{common_steps}
 use Rattle.ip_spec.proofs.HeaderLemmas.{header_number, later_of}
 use Rattle.ip_spec.specs.Chain.{ExtHeader, leads_to, bytes_of, is_empty, IsPrefixChain, IsLongestChain, IsNext, IsEnd}
 use Rattle.ip_spec.specs.Demand.{IsDemand, IsLongestUnder, NextBreaks}
-use Rattle.ip_spec.specs.Places.{Place, hop_by_hop, destination, routing, fragment, authentication, final_destination, places, side_of, place_of}
+use Rattle.ip_spec.specs.Places.{Place, destination, routing, fragment, final_destination, places, side_of, place_of}
 use Rattle.ip_spec.specs.Fits.{FitsPlaces, IsTaken}
 use Rattle.ip_spec.proofs.FirstLemmas.{count-append, count_before, count_after}
-use Rattle.ip_spec.proofs.PlaceLemmas.{each, has_routing, is_of, count_in, none_yet, one_before, sides, nothing_on, fits_next, none_there}
+use Rattle.ip_spec.proofs.PlaceLemmas.{has_routing, is_of, count_in, none_yet, one_before, sides, nothing_on, fits_next, none_there}
 use Rattle.ip_spec.proofs.DemandKinds.{all_or}
 use Rattle.ip_spec.proofs.UnderLemmas.{longest_ends_under, longest_keeps}
 use Rattle.ip_spec.proofs.LongestOfLemmas.{begins_first}

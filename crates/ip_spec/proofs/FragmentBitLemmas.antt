@@ -1,5 +1,5 @@
 -- Bytes 2 and 3 of a fragment header: the offset and the flag packed into them. No other proof looks at their bits.
-use Rattle.std.proofs.Common.{◌≡◌, ℕ, ◌+◌, ◌*◌, ◌/◌, ◌%◌, ◌<◌, ◌≤◌, ap, ◌∙◌, arith, inl, inr, Bool, true, false, cond, bit_and, rules}
+use Rattle.std.proofs.Common.{◌≡◌, ℕ, ◌+◌, ◌*◌, ◌/◌, ◌%◌, ◌<◌, ◌≤◌, ap, arith, Bool, cond, bit_and, rules}
 use Rattle.std.specs.Prelude.{◌==◌, not}
 use Rattle.std.proofs.lemmas.Nat.{and_comm, and_assoc, and_mask, and-not}
 use Rattle.std.proofs.lemmas.Nat.Bits.{and_high}

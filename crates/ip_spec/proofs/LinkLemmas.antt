@@ -3,22 +3,21 @@ use Rattle.std.proofs.Common.{◌≡◌, ◌≢◌, ℕ, ◌+◌, ◌<◌, ◌�
 use Rattle.std.specs.Prelude.{Option, Some, None, is_some, ◌==◌, ◌||◌, nat_lt, if◌then◌else◌}
 use Rattle.std.specs.List.{find}
 use Rattle.std.specs.Option.{option_map, option_map_or}
-use Rattle.std.proofs.lemmas.Bool.{cases_Bool, cases_lt, lt-ltb, le-ltb}
-use Rattle.std.proofs.lemmas.Bool.Decides.{eqb_tells}
-use Rattle.std.proofs.lemmas.Option.{none-some, same_Some}
+use Rattle.std.proofs.lemmas.Bool.{cases_Bool, le-ltb}
+use Rattle.std.proofs.lemmas.Option.{none-some}
 use Rattle.std.proofs.lemmas.List.Elements.{All-from_recursion, recursion_from_All}
 use Rattle.std.proofs.lemmas.Grind.{common_steps}
-use Rattle.ip_spec.specs.Header.{IsHeader, IsRawNumber, IsRawHeader, raw, fragment, auth}
-use Rattle.ip_spec.specs.Fields.{next_header, raw_fields, fragment_fields, auth_fields}
+use Rattle.ip_spec.specs.Header.{IsHeader, IsRawNumber, IsRawHeader}
+use Rattle.ip_spec.specs.Fields.{next_header}
 use Rattle.ip_spec.specs.Chain.{ExtHeader}
-use Rattle.ip_spec.specs.Places.{Place, hop_by_hop, destination, routing, fragment as fragment_place, authentication, final_destination, places, index, number_in, header_in, fields_of, HeaderFields, raw_header, fragment_header, auth_header}
+use Rattle.ip_spec.specs.Places.{Place, hop_by_hop, destination, routing, fragment as fragment_place, authentication, final_destination, places, index, number_in, header_in, fields_of, HeaderFields}
 use Rattle.ip_spec.specs.Encoding.{IsCleared}
 use Rattle.ip_spec.specs.Encodable.{IsEncoded, IsEncodable}
 use Rattle.ip_spec.specs.Walk.{PlacedFields, leads, IsWalkAnswer}
 use Rattle.ip_spec.specs.WalkStep.{next_place, without, next_of}
 use Rattle.ip_spec.specs.Links.{relinked, first_number, places_behind, linked}
-use Rattle.ip_spec.proofs.HeaderLemmas.{header_number, by_number, raw_of, fragment_of, auth_of, header-least}
-use Rattle.ip_spec.proofs.PlaceLemmas.{in_both, has_routing, same_place}
+use Rattle.ip_spec.proofs.HeaderLemmas.{raw_of, header-least}
+use Rattle.ip_spec.proofs.PlaceLemmas.{in_both, has_routing}
 use Rattle.ip_spec.proofs.EncodedLemmas.{of_number}
 use Rattle.ip_spec.proofs.WalkLemmas.{none_if, some_if, is_some-map}
 use Rattle.ip_spec.proofs.WalkStepLemmas.{Walking, walk_begins, walks_on, walk_answers}

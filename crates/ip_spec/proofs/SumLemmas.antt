@@ -7,16 +7,15 @@ use Rattle.std.proofs.lemmas.Bool.Decides.{eqb_tells}
 use Rattle.std.proofs.lemmas.Option.{none-some, same_Some}
 use Rattle.std.proofs.lemmas.List.{append-nil, length-append, length-drop}
 use Rattle.std.proofs.lemmas.List.Sums.{sum_by-append}
-use Rattle.ip_spec.specs.Header.{IsHeader, IsRawHeader, raw, fragment, auth}
+use Rattle.ip_spec.specs.Header.{IsHeader, IsRawHeader}
 use Rattle.ip_spec.specs.Fields.{raw_fields, next_header}
 use Rattle.ip_spec.specs.Chain.{ExtHeader, leads_to, bytes_of, IsChain}
 use Rattle.ip_spec.specs.Fits.{FitsPlaces}
-use Rattle.ip_spec.specs.Places.{Place, hop_by_hop, destination, routing, fragment as fragment_place, authentication, final_destination, index, header_in, fields_of, HeaderFields, raw_header}
+use Rattle.ip_spec.specs.Places.{Place, index, header_in, fields_of, HeaderFields, raw_header}
 use Rattle.ip_spec.specs.Encodable.{IsEncodable, fields_len, sum_placed, placed_len}
 use Rattle.ip_spec.specs.Walk.{PlacedFields, IsValueOf, IsReachable, WalkAnswer, answer_at, IsWalkAnswer}
 use Rattle.ip_spec.specs.WalkStep.{next_place, without}
 use Rattle.ip_spec.specs.LongestOf.{IsLongestOf}
-use Rattle.ip_spec.proofs.HeaderLemmas.{by_raw}
 use Rattle.ip_spec.proofs.StepLemmas.{chain_begins}
 use Rattle.ip_spec.proofs.FitsLemmas.{fits_places}
 use Rattle.ip_spec.proofs.PlaceLemmas.{same_place}

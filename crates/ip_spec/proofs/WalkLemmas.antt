@@ -1,10 +1,9 @@
 -- What a value shows, reaches and spells from a number.
-use Rattle.std.proofs.Common.{◌≡◌, ℕ, List, [], ◌∷◌, ◌++◌, refl, ap, sym, ◌∙◌, inl, inr, subst, append_assoc, true, false, rules}
+use Rattle.std.proofs.Common.{◌≡◌, ℕ, List, [], ◌∷◌, ◌++◌, ap, sym, ◌∙◌, inl, inr, subst, append_assoc, true, false, rules}
 use Rattle.std.specs.Prelude.{Option, Some, None, is_some, ◌==◌, if◌then◌else◌}
 use Rattle.std.specs.Option.{option_map}
 use Rattle.std.proofs.lemmas.Bool.{cases_Bool}
-use Rattle.std.proofs.lemmas.Bool.Decides.{eqb_tells}
-use Rattle.std.proofs.lemmas.Option.{none-some, same_Some}
+use Rattle.std.proofs.lemmas.Option.{same_Some}
 use Rattle.std.proofs.lemmas.List.{append-nil}
 use Rattle.ip_spec.specs.Header.{IsHeader}
 use Rattle.ip_spec.specs.LongestOf.{IsLongestOf}
@@ -14,9 +13,9 @@ use Rattle.ip_spec.specs.Places.{Place, index, header_in, place_of, fields_of}
 use Rattle.ip_spec.specs.Encoding.{IsCleared}
 use Rattle.ip_spec.specs.Walk.{PlacedFields, IsReachable}
 use Rattle.ip_spec.proofs.LongestOfLemmas.{Grows, one_longest_of}
-use Rattle.ip_spec.proofs.StepLemmas.{all_first, all_next, no_chain, chain_begins, chain_number, chain_header, chain_zero}
+use Rattle.ip_spec.proofs.StepLemmas.{all_first, all_next, chain_begins, chain_number, chain_header, chain_zero}
 use Rattle.ip_spec.proofs.FitsLemmas.{fits_places}
-use Rattle.ip_spec.proofs.PlaceLemmas.{has_routing, nothing_in, own_place, same_place, placed, breaks_more}
+use Rattle.ip_spec.proofs.PlaceLemmas.{has_routing, own_place, placed, breaks_more}
 use Rattle.ip_spec.proofs.HeaderLemmas.{header_number}
 use Rattle.ip_spec.proofs.EncodedLemmas.{one_header_says}
 

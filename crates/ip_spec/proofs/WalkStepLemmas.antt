@@ -1,5 +1,5 @@
 -- A walk that takes headers out of a value, one after the other.
-use Rattle.std.proofs.Common.{◌≡◌, ℕ, List, [], ◌∷◌, ◌++◌, refl, ap, sym, ◌∙◌, inl, inr, subst, Bool, true, false, arith, rules}
+use Rattle.std.proofs.Common.{◌≡◌, ℕ, List, [], ◌∷◌, ◌++◌, ap, sym, ◌∙◌, inl, inr, subst, Bool, true, false, arith, rules}
 use Rattle.std.specs.Prelude.{Option, Some, None, is_some, ◌==◌, ◌&&◌, ◌||◌, not, if◌then◌else◌}
 use Rattle.std.specs.Option.{option_or}
 use Rattle.std.proofs.Math.Bool.{or-true, or-false}
@@ -10,7 +10,7 @@ use Rattle.std.proofs.lemmas.Grind.{common_steps}
 use Rattle.ip_spec.specs.Header.{IsHeader}
 use Rattle.ip_spec.specs.Fields.{next_header}
 use Rattle.ip_spec.specs.Chain.{ExtHeader, leads_to, is_empty}
-use Rattle.ip_spec.specs.Places.{Place, routing, index, number_in, header_in, place_of, fields_of, HeaderFields}
+use Rattle.ip_spec.specs.Places.{Place, index, number_in, header_in, place_of, fields_of, HeaderFields}
 use Rattle.ip_spec.specs.Encoding.{IsCleared}
 use Rattle.ip_spec.specs.Encodable.{IsEncoded}
 use Rattle.ip_spec.specs.Walk.{PlacedFields, IsReachable, WalkAnswer, answer_at, IsWalkAnswer}
@@ -19,8 +19,8 @@ use Rattle.ip_spec.specs.LongestOf.{IsLongestOf}
 use Rattle.ip_spec.proofs.LongestOfLemmas.{longest_where_none_next}
 use Rattle.ip_spec.proofs.StepLemmas.{all_more, leads_to-more, chain_more}
 use Rattle.ip_spec.proofs.FirstLemmas.{find_more-yes, find_more-no}
-use Rattle.ip_spec.proofs.PlaceLemmas.{has_routing, is_of, nothing_in, same_place, place_number, placed, fits_more}
-use Rattle.ip_spec.proofs.WalkLemmas.{unreached, none_if, there, Next, next_shown, shown_grows, none_shown}
+use Rattle.ip_spec.proofs.PlaceLemmas.{has_routing, same_place, place_number, placed, fits_more}
+use Rattle.ip_spec.proofs.WalkLemmas.{unreached, none_if, there, Next, next_shown, shown_grows}
 
 -- Headers c were reached from f and taken out of v, which leaves u. They lead to m; `first` tells that there is
 -- none, `behind` that a routing header is one of them.

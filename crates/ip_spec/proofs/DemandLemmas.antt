@@ -19,8 +19,7 @@ module _ {X : Type 0} (P Q : List X → Type 0) (g : Grows P) (k : IsDemand Q) w
   next_under next c p = search rules
 
   pub some_longest_under_of : DecidesNext P → (bound : ℕ) → ((c : List X) → P c → length c ≤ bound) → P [] → (d : List X) × IsLongestOf (IsUnder Q P) d
-  some_longest_under_of next bound fits p =
-      some_longest_of (IsUnder Q P) under_grows (next_under next) bound (λ c u. fits c u.0) (p, k.empty)
+  some_longest_under_of next bound fits p = grind (arith, some_longest_of (IsUnder Q P) under_grows (next_under next) bound (λ c u. fits c u.0) (p, k.empty))
 
   -- every list under the demand is at most as long as the longest
   pub longest_under_bounds : (c d : List X) → IsLongestOf (IsUnder Q P) c → IsUnder Q P d → length d ≤ length c

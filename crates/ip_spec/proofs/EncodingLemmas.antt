@@ -17,10 +17,7 @@ use Rattle.ip_spec.proofs.FragmentBitLemmas.{high_byte, low_byte, unpacked_high,
 pub one_decoding_of : {V : Type 0} (n : ℕ) (IsOne : List ℕ → Type 0) (fields_of : List ℕ → V) → ((b : List ℕ) → IsOne b → IsHeader n b)
     → (s : List ℕ) (v w : V) (r q : List ℕ) → IsDecoding IsOne fields_of s v r → IsDecoding IsOne fields_of s w q → (v ≡ w) × (r ≡ q)
 one_decoding_of n IsOne fields_of of_number s v w r q x y =
-    let same : x.bytes ≡ y.bytes = one_header n x.bytes y.bytes r q (of_number x.bytes x.header) (of_number y.bytes y.header) (x.joined ∙ sym y.joined) in (
-      sym x.fields ∙ ap fields_of same ∙ y.fields,
-      append_cancel_left x.bytes r q (x.joined ∙ sym y.joined ∙ ap (λ b. b ++ q) (sym same)),
-    )
+    search (rules, one_header n x.bytes y.bytes r q (of_number x.bytes x.header) (of_number y.bytes y.header) (x.joined ∙ sym y.joined), append_cancel_left)
 
 -- what spells fields is read so, whatever is behind it
 pub encoding_is_decoded : {V : Type 0} (IsOne : List ℕ → Type 0) (fields_of : List ℕ → V) (n : ℕ) (v : V) (b r : List ℕ)

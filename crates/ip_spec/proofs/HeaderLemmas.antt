@@ -105,16 +105,7 @@ one_header n b d x y hb hd e =
 -- whether a header of fewer than k bytes begins s
 short_header_or : (n : ℕ) (s : List ℕ) (k : ℕ) → ((b : List ℕ) × IsHeader n b × IsPrefix b s) ⊎ ((b : List ℕ) → IsHeader n b → IsPrefix b s → length b < k → ⊥)
 short_header_or n s zero = inr (λ b h f l. omega arith)
-short_header_or n s (suc k) = elim (short_header_or n s k) [
-  | inl found ↦ inl found
-  | inr none ↦ elim (header_or n (take k s)) [
-    | inl h ↦ inl (take k s, h, prefix_of-take k s)
-    | inr not_here ↦ inr (λ b h f l. elim (eq_or (length b) k) [
-      | inl e ↦ let P : List ℕ → Type 0 = IsHeader n in not_here (subst P (sym f ∙ ap (λ (j : ℕ). take j s) e) h)
-      | inr d ↦ none b h f (omega arith)
-    ])
-  ]
-]
+short_header_or n s (suc k) = search (rules, short_header_or n s k, header_or n (take k s), prefix_of-take k s, eq_or)
 
 first_or : (m : ℕ) (r : List ℕ) → ((h : ExtHeader) × IsNext true m r h) ⊎ IsEnd true m r
 first_or m r = elim (short_header_or m r (suc (length r))) [

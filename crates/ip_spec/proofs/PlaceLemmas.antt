@@ -87,15 +87,7 @@ pub data Sides (c d : List ExtHeader) : Type 0 where
       → side_of destination (c ++ d) ≡ side_of destination c → side_of final_destination (c ++ d) ≡ side_of final_destination c ++ d → Sides c d
 
 pub sides : (c d : List ExtHeader) → Sides c d
-sides c d = elim (cases_Bool (has_routing c)) [
-  | inl some ↦ let l = counted (is_of routing) c some in one_before some (before-some (is_of routing) c d l) (after-some (is_of routing) c d l)
-  | inr none ↦
-      let z = none_counted (is_of routing) c none in
-      none_yet none
-      (ap (side_of destination) (sym (append-nil c)) ∙ before-none (is_of routing) c [] z ∙ append-nil c)
-      (ap (side_of final_destination) (sym (append-nil c)) ∙ after-none (is_of routing) c [] z)
-      (before-none (is_of routing) c d z) (after-none (is_of routing) c d z)
-]
+sides c d = search (rules, cases_Bool (has_routing c), append-nil c, counted, before-some, after-some, none_counted, before-none, after-none)
 
 pub nothing_on : (p : Place) → side_of p [] ≡ []
 nothing_on p = search rules

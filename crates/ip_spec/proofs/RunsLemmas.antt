@@ -235,9 +235,7 @@ module _ (n : ℕ) (s : List ℕ) (p : List ExtHeader) where
   zero_behind c nz first z = search rules
 
   rest_prefix : (c : List ExtHeader) → IsPrefixChain n s (p ++ c) → IsPrefixChain number rest c
-  rest_prefix c q =
-      let F : List ℕ → Type 0 = λ b. IsPrefix b s in
-      record { chain = chain_behind n p c q.chain; prefix = prefix_second (bytes_of p) (bytes_of c) s (subst F (bytes_of-append p c) q.prefix) }
+  rest_prefix c q = search (rules, chain_behind n p c q.chain, bytes_of-append p c, prefix_second)
 
   rest_ends : (c : List ExtHeader) → (c ≡ [] → number ≢ 0) → IsLongestChain n s (p ++ c) → IsEnd (is_empty c) (leads_to number c) (drop (length (bytes_of c)) rest)
   rest_ends c nz l h x = search (rules, leads_to-append, begins, rest_join, rest_prefix, bytes_of-append, longest_ends, zero_behind)

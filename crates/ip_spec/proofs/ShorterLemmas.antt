@@ -46,6 +46,4 @@ module _ (Q : List ExtHeader → Type 0) (k : IsDemand Q) (n j : ℕ) (s : List 
 
   -- of the longest chain of the whole, the bytes cut short keep the headers that lie whole within them
   pub longest_shorter : (d c : List ExtHeader) → IsLongestUnder Q n s d → IsLongestUnder Q n (take j s) c → c ≡ headers_within j d
-  longest_shorter d c l m =
-      let kept = shorter_kept d c l m in
-      within_is j c kept.rest kept.meets kept.breaks ∙ ap (headers_within j) (sym kept.joined)
+  longest_shorter d c l m = search (rules, shorter_kept d c l m, within_is)

@@ -1,8 +1,9 @@
 -- What spells a value, what it is read from, and what its walk answers.
-use Rattle.std.proofs.Common.{◌≡◌, ℕ, ◌<◌, List, [], ◌∷◌, ◌++◌, refl, ap, sym, ◌∙◌, arith, inl, inr, subst, append_assoc, Bool, false}
+use Rattle.std.proofs.Common.{◌≡◌, ℕ, ◌<◌, List, [], ◌∷◌, ◌++◌, refl, ap, sym, ◌∙◌, arith, inl, inr, subst, append_assoc, Bool, false, rules}
 use Rattle.std.specs.Prelude.{Option, Some, None, is_some, ◌==◌, ◌&&◌, ◌↔◌, if◌then◌else◌}
 use Rattle.std.specs.Option.{option_map, option_map_or}
 use Rattle.std.specs.List.{AllByRecursion, find}
+use Rattle.std.proofs.lemmas.Grind.{common_steps}
 use Rattle.ip_spec.specs.LongestOf.{IsLongestOf}
 use Rattle.std.proofs.lemmas.Bool.{cases_Bool}
 use Rattle.std.proofs.lemmas.Option.{none-some}
@@ -35,10 +36,7 @@ IsReadAs v f m s = IsRead FitsPlaces (λ c. IsValueOf c v) f m s
 
 -- a chain with the value v spells it
 pub value_spelled : (v : PlacedFields) (f : ℕ) (c : List ExtHeader) → IsChain f c → FitsPlaces c → IsValueOf c v → AllByRecursion IsCleared c → IsSpelling v f c
-value_spelled v f c chain fits value cleared = record {
-  reachable = record { chain = chain; fits = fits; in_value = λ p h e. value p ∙ ap (option_map fields_of) e; cleared = cleared };
-  value = value;
-}
+value_spelled v f c chain fits value cleared = search rules
 
 -- A chain that spells v is all that v reaches.
 
@@ -69,26 +67,20 @@ abbrev fault_or_number : ℕ → Bool → Option Place → WalkAnswer
 fault_or_number m b o = option_map_or (λ p. if (m == 0) && b then hop_by_hop_not_at_start else not_referenced (number_in p)) o (leads m)
 
 leads_told : (m k : ℕ) (b : Bool) (o : Option Place) → leads k ≡ fault_or_number m b o → (o ≡ None) × (m ≡ k)
-leads_told m k b None e = let same : leads k ≡ leads m = e in (refl, let is : k ≡ m = cc in sym is)
-leads_told m k b (Some p) e = elim (cases_Bool ((m == 0) && b)) [
-  | inl w ↦ absurd (let no : leads k ≡ hop_by_hop_not_at_start = e ∙ ap (λ x. if x then hop_by_hop_not_at_start else not_referenced (number_in p)) w in cc)
-  | inr w ↦ absurd (let no : leads k ≡ not_referenced (number_in p) = e ∙ ap (λ x. if x then hop_by_hop_not_at_start else not_referenced (number_in p)) w in cc)
-]
+leads_told m k b o e = search rules
 
 pub leads_where_none : (m : ℕ) (u : PlacedFields) → ((p : Place) → u p ≡ None) → answer_at m u ≡ leads m
 leads_where_none m u e = ap (fault_or_number m (is_some (u hop_by_hop))) (first_none u e)
 
 left_none : (o : Option ExtHeader) (x : Option HeaderFields) → ((h : ExtHeader) → o ≡ Some h → x ≡ Some (fields_of h)) → (if is_some o then None else x) ≡ None → x ≡ option_map fields_of o
-left_none None x k e = e
-left_none (Some h) x k e = k h refl
+left_none o x k e = search rules
 
 module _ (v : PlacedFields) (f : ℕ) where
   shown_whole : (c : List ExtHeader) → IsReachable v f c → ((p : Place) → unreached v c p ≡ None) → IsSpelling v f c
   shown_whole c s none = record { reachable = s; value = λ p. left_none (header_in p c) (v p) (s.in_value p) (none p) }
 
   pub one_answer : (a b : WalkAnswer) → IsWalkAnswer v f a → IsWalkAnswer v f b → a ≡ b
-  one_answer a b x y =
-      x.answer ∙ ap (λ c. answer_at (leads_to f c) (unreached v c)) (one_reach v f x.reach y.reach x.is_reach y.is_reach) ∙ sym y.answer
+  one_answer a b x y = grind (arith, common_steps, one_reach v f x.reach y.reach x.is_reach y.is_reach)
 
   -- An answer that leads on has a spelling, and a spelling that answer.
   pub leads_spelled : (m : ℕ) → IsWalkAnswer v f (leads m) → (c : List ExtHeader) × IsSpelling v f c × (leads_to f c ≡ m)
@@ -97,23 +89,14 @@ module _ (v : PlacedFields) (f : ℕ) where
       (a.reach, shown_whole a.reach a.is_reach.has (nothing_filled (unreached v a.reach) told.0), told.1)
 
   none_unreached : (c : List ExtHeader) → IsValueOf c v → (p : Place) → unreached v c p ≡ None
-  none_unreached c value p = elim (cases_Bool (is_some (header_in p c))) [
-    | inl w ↦ ap (λ b. if b then None else v p) w
-    | inr w ↦ ap (λ b. if b then None else v p) w ∙ value p ∙ ap (option_map fields_of) (none_if (header_in p c) w)
-  ]
+  none_unreached c value p = search rules
 
   pub spelled_leads : (c : List ExtHeader) → IsSpelling v f c → IsWalkAnswer v f (leads (leads_to f c))
-  spelled_leads c s = record {
-    reach = c;
-    is_reach = spelling_is_reach v f c s;
-    answer = sym (leads_where_none (leads_to f c) (unreached v c) (none_unreached c s.value));
-  }
+  spelled_leads c s = search (rules, spelling_is_reach, leads_where_none, none_unreached)
 
   -- A chain of bytes spells its value, cleared.
   pub cleared_spells : (c : List ExtHeader) → IsChain f c → FitsPlaces c → AreBytes (bytes_of c) → IsValueOf c v → IsSpelling v f (cleared_chain c)
-  cleared_spells c k fits bytes value =
-      value_spelled v f (cleared_chain c) (cleared_is_chain f c k) (cleared_fits c fits) (λ p. value p ∙ sym (value-cleared p c k.headers))
-      (cleared_are c k.headers bytes)
+  cleared_spells c k fits bytes value = search (rules, value_spelled, cleared_is_chain, cleared_fits, value-cleared, cleared_are)
 
   pub read_leads : (m : ℕ) (s : List ℕ) → IsReadAs v f m s → IsWalkAnswer v f (leads m)
   read_leads m s r =
@@ -173,9 +156,7 @@ spelled_is_cleared v f c d k fits bytes value s = one_spelling v f d (cleared_ch
 
 -- Equal bytes are those of equal values.
 same_bytes : (f : ℕ) (c d : List ExtHeader) → IsChain f c → IsChain f d → bytes_of c ≡ bytes_of d → c ≡ d
-same_bytes f c d k l e =
-    let L : List ℕ → Type 0 = λ s. IsLongestChain f s d in
-    one_longest f (bytes_of c) c d (whole_longest f c k) (subst L (sym e) (whole_longest f d l))
+same_bytes f c d k l e = search (rules, one_longest, whole_longest)
 
 pub spelled_alike : (v w : PlacedFields) (f : ℕ) (c d : List ExtHeader) → IsSpelling v f c → IsSpelling w f d → (bytes_of c ≡ bytes_of d) ↔ ((p : Place) → v p ≡ w p)
 spelled_alike v w f c d s t = (

@@ -92,10 +92,7 @@ module _ (n : ℕ) (s : List ℕ) where
 
   -- it can be told whether a header goes on
   pub chains_decide : DecidesNext (IsPrefixChain n s)
-  chains_decide c p = elim (next_or (is_empty c) (leads_to n c) (drop (length (bytes_of c)) s)) [
-    | inl (h, x) ↦ inl (h, goes_on c h p x)
-    | inr none ↦ inr (λ h q. none h (next_of c h q))
-  ]
+  chains_decide c p = search (rules, next_or (is_empty c) (leads_to n c) (drop (length (bytes_of c)) s), goes_on, next_of)
 
 -- each header has 8 bytes at least
 pub bytes_of-least : (c : List ExtHeader) → AllByRecursion (λ h. IsHeader h.number h.bytes) c → 8 * length c ≤ length (bytes_of c)

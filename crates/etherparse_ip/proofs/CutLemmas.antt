@@ -1,9 +1,10 @@
 -- A base header, the headers of the longest chain behind it and what that leaves, joined.
-use Rattle.std.proofs.Common.{◌≡◌, ℕ, ◌+◌, ◌≤◌, List, ◌++◌, length, take, drop, refl, ap, sym, ◌∙◌, subst, arith, length-drop, Bool, true, false}
-use Rattle.std.specs.Prelude.{Option, Some, None, nat_lt, ◌==◌, ◌&&◌, if◌then◌else◌}
+use Rattle.std.proofs.Common.{◌≡◌, ℕ, ◌+◌, ◌≤◌, List, ◌++◌, length, take, drop, refl, ap, sym, ◌∙◌, subst, arith, Bool, rules}
+use Rattle.std.proofs.lemmas.Grind.{common_steps}
+use Rattle.std.specs.Prelude.{Option, Some, None, nat_lt, if◌then◌else◌}
 use Rattle.std.specs.Option.{option_map}
 use Rattle.std.proofs.lemmas.Bool.{le-ltb}
-use Rattle.std.proofs.lemmas.List.{take-take, take-append-drop, length-take}
+use Rattle.std.proofs.lemmas.List.{take-take, take-append-drop}
 use Rattle.std.proofs.Math.Seq.{take-length}
 use Rattle.ip_spec.specs.Prefix.{IsPrefix}
 use Rattle.ip_spec.specs.Chain.{ExtHeader, bytes_of, has_fragmenting}
@@ -26,11 +27,10 @@ use Rattle.ip_base.specs.declared.len_source.LenSource.{LenSource}
 use Rattle.ip_base.specs.declared.len_source.LenSource.TheVariants.{Slice, Ipv4HeaderTotalLen, Ipv6HeaderPayloadLen}
 use Rattle.ip_ext_headers.specs.declared.err.ip_auth.header_slice_error.HeaderSliceError.TheVariants as auth
 use Rattle.ip_ext_slices.specs.ChainFault.{chain_fault}
-use Rattle.ip_ext_slices.specs.declared.err.ipv6_exts.header_slice_error.HeaderSliceError.TheVariants as exts
 use Rattle.ip_ext_ipv4.specs.Ipv4Fault.{ipv4_chain_fault}
 use Rattle.etherparse_ip.specs.LenSources.{front, ipv6_len_source}
 use Rattle.etherparse_ip.specs.PacketFault.{auth_in_packet, exts_in_packet, ipv4_fault_behind, ipv6_chain_fault, ipv6_fault_behind}
-use Rattle.etherparse_ip.proofs.BaseLemmas.{SaysIpv4, says_ipv4, SaysIpv6, says_ipv6}
+use Rattle.etherparse_ip.proofs.BaseLemmas.{says_ipv4, says_ipv6}
 use Rattle.etherparse_ip.specs.Packet.{IsIpv4Packet, IsIpv6Packet}
 
 -- what is taken and what is left are all
@@ -45,19 +45,15 @@ ipv4_answer_split n s c m r f a = split (longest_ipv4_chain n s) c s r (some_lon
 
 -- a beginning of s and what follows it in a front that isn't shorter
 onto_front : (b s front x : List ℕ) (k : ℕ) → IsPrefix b s → front ≡ take k s → length b ≤ k → x ≡ drop (length b) front → b ++ x ≡ front
-onto_front b s front x k p is enough rest =
-    let own : b ≡ take (length b) front = sym p ∙ sym (take-take (length b) k s enough) ∙ sym (ap (take (length b)) is) in
-    ap (λ y. y ++ x) own ∙ ap (λ y. take (length b) front ++ y) rest ∙ take-append-drop (length b) front
+onto_front b s front x k p is enough rest = cc (p, take-take (length b) k s enough, is, rest, take-append-drop (length b) front)
 
 pub ipv4_joined : (b s : List ℕ) (k n : ℕ) (c : List ExtHeader) (m : ℕ) (r : List ℕ) (f : Option HeaderSliceError) → IsPrefix b s → length b ≤ k → IsIpv4Answer (λ c. c) n (drop (length b) (take k s)) c m r f
     → b ++ (bytes_of c ++ r) ≡ take k s
-ipv4_joined b s k n c m r f p enough a =
-    onto_front b s (take k s) (bytes_of c ++ r) k p refl enough (ipv4_answer_split n (drop (length b) (take k s)) c m r f a)
+ipv4_joined b s k n c m r f p enough a = search (rules, onto_front, ipv4_answer_split)
 
 pub ipv6_joined : (b s front : List ℕ) (k n : ℕ) (c : List ExtHeader) (m : ℕ) (r : List ℕ) (f : Option Fault) → IsPrefix b s → front ≡ take k s → length b ≤ k → IsChainAnswer n (drop (length b) front) c m r f
     → b ++ (bytes_of c ++ r) ≡ front
-ipv6_joined b s front k n c m r f p is enough a =
-    onto_front b s front (bytes_of c ++ r) k p is enough (answer_split n (drop (length b) front) c m r f a)
+ipv6_joined b s front k n c m r f p is enough a = search (rules, onto_front, answer_split)
 
 -- An IPv4 base header b begins s and is h bytes long, states t bytes and names n; x is what follows it in these.
 pub record AtIpv4 (s b : List ℕ) (n h t : ℕ) (x : List ℕ) : Type 0 where
@@ -73,18 +69,9 @@ pub record AtIpv4 (s b : List ℕ) (n h t : ℕ) (x : List ℕ) : Type 0 where
 pub ipv4_packet : (s b : List ℕ) (n h t : ℕ) (x : List ℕ) (fragmented : Bool) (c : List ExtHeader) (m : ℕ) (r : List ℕ) → AtIpv4 s b n h t x → fragmented ≡ is_ipv4_fragmenting b
     → IsIpv4Answer (λ c. c) n x c m r None → IsIpv4Packet s (record { base = b; headers = c; payload = r; number = m; fragmented = fragmented; source = Ipv4HeaderTotalLen })
 ipv4_packet s b n h t x fragmented c m r at ef a =
-    let N : ℕ → Type 0 = λ j. IsIpv4Answer (λ c. c) j x c m r None in
-    let X : List ℕ → Type 0 = λ y. IsIpv4Answer (λ c. c) (protocol b) y c m r None in
-    let behind : x ≡ drop (length b) (take (total_len b) s) = at.behind ∙ ap (λ j. drop j (take t s)) at.len ∙ ap (λ j. drop (length b) (take j s)) at.total in
-    let chain : X (drop (length b) (take (total_len b) s)) = subst X behind (subst N at.number a) in
-    record {
-      base = at.base;
-      stated = omega (arith, at.total, at.within);
-      joined = ipv4_joined b s (total_len b) (protocol b) c m r None at.prefix (omega (arith, at.total, at.len, at.enough)) chain;
-      chain = chain;
-      fragmented = ef;
-      source = refl;
-    }
+    let chain : IsIpv4Answer (λ c. c) (protocol b) (drop (length b) (take (total_len b) s)) c m r None = rw (← at.total, ← at.len, ← at.number, ← at.behind) a in
+    let joined = ipv4_joined b s (total_len b) (protocol b) c m r None at.prefix (omega (arith, at.total, at.len, at.enough)) chain in
+    record { base = at.base; stated = omega (arith, at.total, at.within); joined = joined; chain = chain; fragmented = ef; source = refl }
 
 -- the fault behind a base header of h bytes that states t bytes and names n
 abbrev ipv4_fault_by : List ℕ → ℕ → ℕ → ℕ → Option HeaderSliceError
@@ -97,25 +84,11 @@ ipv4_fault_of_chain : (s : List ℕ) (h t n : ℕ) → h ≤ t → t ≤ length 
 ipv4_fault_of_chain s h t n enough within = rw (le-ltb t h enough, le-ltb (length s) t within) refl
 
 pub ipv4_behind_fault : (s b : List ℕ) (n h t : ℕ) (x : List ℕ) → AtIpv4 s b n h t x → ipv4_fault_behind s ≡ option_map (auth_in_packet Ipv4HeaderTotalLen h) (ipv4_chain_fault n x)
-ipv4_behind_fault s b n h t x at =
-    let says : SaysIpv4 b s = says_ipv4 b s at.base at.prefix in
-    ap (λ j. ipv4_fault_by s j (total_len s) (protocol s)) (sym says.len ∙ sym at.len)
-    ∙ ap (λ j. ipv4_fault_by s h j (protocol s)) (sym says.total ∙ sym at.total)
-    ∙ ap (ipv4_fault_by s h t) (sym says.number ∙ sym at.number)
-    ∙ ipv4_fault_of_chain s h t n at.enough at.within
-    ∙ ap (λ y. option_map (auth_in_packet Ipv4HeaderTotalLen h) (ipv4_chain_fault n y)) (sym at.behind)
-
-no_test : {X : Type 0} (b : Bool) (x y : X) → b ≡ false → (if b then x else y) ≡ y
-no_test b x y e = rw e refl
-
-either : {X : Type 0} (P : X → Type 0) (b : Bool) (x y : X) → P x → P y → P (if b then x else y)
-either P true x y p q = p
-either P false x y p q = q
+ipv4_behind_fault s b n h t x at = search (rules, says_ipv4 b s at.base at.prefix, at.len, at.total, at.number, ipv4_fault_of_chain s h t n at.enough at.within, at.behind)
 
 -- what holds of both sources of an IPv6 packet holds of the one that it has
 either_source : (P : LenSource → Type 0) (n k : ℕ) → P Slice → P Ipv6HeaderPayloadLen → P (ipv6_len_source n k)
-either_source P n k slice stated =
-    either P (nat_lt k (40 + n)) _ _ slice (either P ((n == 0) && nat_lt 40 k) _ _ slice stated)
+either_source P n k slice stated = search rules
 
 -- An IPv6 base header b begins s, states a payload length of k and names n; x is what follows it in the front.
 pub record AtIpv6 (s b : List ℕ) (n h k : ℕ) (by : LenSource) (whole x : List ℕ) : Type 0 where
@@ -142,46 +115,24 @@ front_taken s source k enough is =
 pub ipv6_packet : (s b : List ℕ) (n h k : ℕ) (source : LenSource) (whole x : List ℕ) (fragmented : Bool) (c : List ExtHeader) (m : ℕ) (r : List ℕ) → AtIpv6 s b n h k source whole x → fragmented ≡ has_fragmenting c
     → IsChainAnswer n x c m r None → IsIpv6Packet s (record { base = b; headers = c; payload = r; number = m; fragmented = fragmented; source = source })
 ipv6_packet s b n h k source whole x fragmented c m r at ef a =
-    let N : ℕ → Type 0 = λ j. IsChainAnswer j x c m r None in
-    let X : List ℕ → Type 0 = λ y. IsChainAnswer (ipv6_next_header b) y c m r None in
-    let front_is : whole ≡ front source (payload_length b) s = at.whole_is ∙ ap (λ j. front source j s) at.payload in
-    let behind : x ≡ drop (length b) (front source (payload_length b) s) = at.behind ∙ ap (λ j. drop j whole) at.len ∙ ap (drop (length b)) front_is in
-    let chain : X (drop (length b) (front source (payload_length b) s)) = subst X behind (subst N at.number a) in
-    let source_is : source ≡ ipv6_len_source (payload_length b) (length s) = at.source ∙ ap (λ j. ipv6_len_source j (length s)) at.payload in
+    let source_is : source ≡ ipv6_len_source (payload_length b) (length s) = cc in
+    let whole_is : whole ≡ front source (payload_length b) s = cc in
+    let chain : IsChainAnswer (ipv6_next_header b) (drop (length b) (front source (payload_length b) s)) c m r None = rw (← whole_is, ← at.len, ← at.number, ← at.behind) a in
     let taken : Front s source (payload_length b) = front_taken s source (payload_length b) (omega (arith, at.base.len, prefix-length b s at.prefix)) source_is in
-    record {
-      base = at.base;
-      joined = ipv6_joined b s (front source (payload_length b) s) taken.len (ipv6_next_header b) c m r None at.prefix taken.taken (omega (arith, at.base.len, taken.enough)) chain;
-      chain = chain;
-      fragmented = ef;
-      source = source_is;
-    }
+    let joined = ipv6_joined b s _ taken.len _ c m r None at.prefix taken.taken (omega (arith, at.base.len, taken.enough)) chain in
+    record { base = at.base; joined = joined; chain = chain; fragmented = ef; source = source_is }
 
 pub ipv6_behind_fault : (s b : List ℕ) (n h k : ℕ) (source : LenSource) (whole x : List ℕ) → AtIpv6 s b n h k source whole x
     → ipv6_chain_fault s ≡ option_map (exts_in_packet source h) (option_map (λ f. f.0) (chain_fault n x))
-ipv6_behind_fault s b n h k source whole x at =
-    let says : SaysIpv6 b s = says_ipv6 b s at.base at.prefix in
-    let payload : payload_length s ≡ k = sym (at.payload ∙ says.payload) in
-    let forty : 40 ≡ h = sym (at.len ∙ at.base.len) in
-    let behind : drop 40 (front (ipv6_len_source (payload_length s) (length s)) (payload_length s) s) ≡ x =
-    ap (λ j. drop 40 (front (ipv6_len_source j (length s)) j s)) payload ∙ ap (λ y. drop 40 (front y k s)) (sym at.source) ∙ ap (drop 40) (sym at.whole_is) ∙ ap (λ j. drop j whole) forty ∙ sym at.behind in
-    let told : ipv6_len_source (payload_length s) (length s) ≡ source = ap (λ j. ipv6_len_source j (length s)) payload ∙ sym at.source in
-    ap (λ by. option_map (exts_in_packet by 40) (option_map (λ f. f.0) (chain_fault (ipv6_next_header s) (drop 40 (front (ipv6_len_source (payload_length s) (length s)) (payload_length s) s))))) told
-    ∙ ap (λ j. option_map (exts_in_packet source j) (option_map (λ f. f.0) (chain_fault (ipv6_next_header s) (drop 40 (front (ipv6_len_source (payload_length s) (length s)) (payload_length s) s))))) forty
-    ∙ ap (λ j. option_map (exts_in_packet source h) (option_map (λ f. f.0) (chain_fault j (drop 40 (front (ipv6_len_source (payload_length s) (length s)) (payload_length s) s))))) (sym says.number ∙ sym at.number)
-    ∙ ap (λ y. option_map (exts_in_packet source h) (option_map (λ f. f.0) (chain_fault n y))) behind
+ipv6_behind_fault s b n h k source whole x at = search rules
 
 -- what follows the base header and the header itself are no more than s
 pub behind-length : (s b : List ℕ) (n h k : ℕ) (by : LenSource) (whole x : List ℕ) → AtIpv6 s b n h k by whole x → length x + h ≤ length s
-behind-length s b n h k by whole x at =
-    let source_is : by ≡ ipv6_len_source (payload_length b) (length s) = at.source ∙ ap (λ j. ipv6_len_source j (length s)) at.payload in
-    let taken : Front s by (payload_length b) = front_taken s by (payload_length b) (omega (arith, at.base.len, prefix-length b s at.prefix)) source_is in
-    let whole_is : whole ≡ take taken.len s = at.whole_is ∙ ap (λ j. front by j s) at.payload ∙ taken.taken in
-    omega (arith, at.len, at.base.len, ap length at.behind, ap length whole_is, length-drop h whole, length-take taken.len s, taken.enough, prefix-length b s at.prefix)
+behind-length s b n h k by whole x at = grind (arith, common_steps)
 
 -- where as many bytes are there as are stated, the tests before the chain are passed
 pub strict_fault_of_chain : (s : List ℕ) → 40 + payload_length s ≤ length s → ipv6_fault_behind s ≡ ipv6_chain_fault s
-strict_fault_of_chain s enough = no_test (nat_lt (length s) (40 + payload_length s)) _ (ipv6_chain_fault s) (le-ltb (length s) (40 + payload_length s) enough)
+strict_fault_of_chain s enough = rw (le-ltb (length s) (40 + payload_length s) enough) refl
 
 pub stated_of_base : (s b : List ℕ) (k : ℕ) → IsIpv6Header b → IsPrefix b s → k ≡ payload_length b → k ≡ payload_length s
 stated_of_base s b k base prefix payload = payload ∙ (says_ipv6 b s base prefix).payload

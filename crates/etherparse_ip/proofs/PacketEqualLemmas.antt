@@ -1,23 +1,19 @@
 -- Packets are equal where their parts are.
-use Rattle.std.proofs.Common.{◌≡◌, ℕ, List, [], ◌∷◌, ap, refl, sym, ◌∙◌, subst, rules}
-use Rattle.std.specs.Prelude.{Bool, ◌==◌, ◌↔◌, Option, Some, None, IsTrue, nat_eq}
+use Rattle.std.proofs.Common.{◌≡◌, ℕ, List, [], ◌∷◌, ap, refl, ◌∙◌, rules, arith}
+use Rattle.std.specs.Prelude.{Bool, ◌==◌, ◌↔◌, Option, IsTrue, nat_eq}
 use Rattle.std.specs.Bool.{Decides}
-use Rattle.std.specs.Cmp.{booleans_Decides}
 use Rattle.std.specs.Cmp.Lexicographic.{pointwise}
 use Rattle.std.specs.Option.{option_eq, option_map_or}
 use Rattle.std.specs.Ordering.{on}
 use Rattle.std.proofs.Math.Bool.{and-true}
 use Rattle.std.proofs.lemmas.Bool.Decides.{Decides-and, Decides-eqb}
 use Rattle.std.proofs.lemmas.Slice.Eq.{slice_eq-Decides}
-use Rattle.ip_base.specs.contracts.len_source.LenSource.{the_type}
 use Rattle.ip_base.specs.declared.ip_number_impl.IpNumber.{IpNumber}
 use Rattle.ip_base.specs.declared.ip_payload_slice.IpPayloadSlice.{IpPayloadSlice}
 use Rattle.ip_spec.specs.Chain.{ExtHeader}
 use Rattle.ip_spec.specs.Numbers.{AUTHENTICATION}
 use Rattle.ip_ext_headers.specs.IpAuthHeaderSlice.{bytes}
 use Rattle.ip_ext_headers.specs.declared.ip_auth_header_slice.IpAuthHeaderSlice.{IpAuthHeaderSlice}
-use Rattle.ip_ext_ipv4.specs.Ipv4ExtensionsSlice as ipv4
-use Rattle.ip_ext_slices.specs.Ipv6ExtensionsSlice as ipv6
 use Rattle.etherparse_ip.specs.Ipv4Slice.{ipv4_parts}
 use Rattle.etherparse_ip.specs.Ipv6Slice.{AreSameIpv6}
 use Rattle.etherparse_ip.specs.IpSlice.{AreSame}
@@ -26,7 +22,6 @@ use Rattle.etherparse_ip.specs.declared.ipv4_slice.Ipv4Slice.{Ipv4Slice}
 use Rattle.etherparse_ip.specs.declared.ipv6_slice.Ipv6Slice.{Ipv6Slice}
 use Rattle.etherparse_ip.specs.declared.ip_slice.IpSlice.{IpSlice}
 use Rattle.etherparse_ip.specs.declared.ip_slice.IpSlice.TheVariants.{Ipv4, Ipv6}
-use denote.Enum.Bare.{same_true, true_same}
 
 bytes_tell : (s t : List ℕ) → Decides (pointwise nat_eq s t) (s ≡ t)
 bytes_tell s t = slice_eq-Decides Decides-eqb s t _ refl
@@ -35,40 +30,19 @@ abbrev ArePayloadsSame : IpPayloadSlice → IpPayloadSlice → Type 0
 ArePayloadsSame a b = (a.ip_number.0 ≡ b.ip_number.0) × ((a.fragmented ≡ b.fragmented) × ((a.len_source ≡ b.len_source) × (a.payload.now ≡ b.payload.now)))
 
 payloads_tell : (a b : IpPayloadSlice) → Decides (payload_equal a b) (ArePayloadsSame a b)
-payloads_tell a b =
-    Decides-and _ _ (Decides-eqb _ _)
-    (Decides-and _ _ (booleans_Decides _ _)
-    (Decides-and _ _ (same_true the_type (search rules) _ _, true_same the_type _ _) (bytes_tell _ _)))
+payloads_tell a b = search rules
 
 abbrev headers_of : Option IpAuthHeaderSlice → List ExtHeader
 headers_of x = option_map_or (λ h. record { number = AUTHENTICATION; bytes = bytes h } ∷ []) x []
 
-abbrev first_bytes : List ExtHeader → List ℕ
-first_bytes [] = []
-first_bytes (h ∷ hs) = h.bytes
-
 headers_tell : (x y : Option IpAuthHeaderSlice) → Decides (option_eq (on bytes (pointwise nat_eq)) x y) (headers_of x ≡ headers_of y)
-headers_tell (Some x) (Some y) =
-    let same = bytes_tell (bytes x) (bytes y) in
-    (λ k. ap (λ s. record { number = AUTHENTICATION; bytes = s } ∷ []) (same.0 k), λ e. same.1 (ap first_bytes e))
-headers_tell (Some x) None = (λ k. cc, λ e. cc)
-headers_tell None (Some y) = (λ k. cc, λ e. cc)
-headers_tell None None = (λ _. refl, λ _. refl)
+headers_tell x y = search rules
 
 numbers_tell : (x y : Option IpNumber) → Decides (option_eq (λ m n. m.0 == n.0) x y) (x ≡ y)
-numbers_tell (Some x) (Some y) =
-    let same = Decides-eqb x.0 y.0 in
-    (λ k. ap (λ n. Some (record { 0 = n })) (same.0 k), λ e. same.1 cc)
-numbers_tell (Some x) None = (λ k. cc, λ e. cc)
-numbers_tell None (Some y) = (λ k. cc, λ e. cc)
-numbers_tell None None = (λ _. refl, λ _. refl)
+numbers_tell x y = search rules
 
 ipv4_tells : (a b : Ipv4Slice) → Decides (ipv4_packet_equal a b) (ipv4_parts a ≡ ipv4_parts b)
-ipv4_tells a b =
-    let same = Decides-and _ _ (bytes_tell _ _) (Decides-and _ _ (headers_tell a.exts.auth b.exts.auth) (payloads_tell a.payload b.payload)) in (
-      λ k. let told = same.0 k in search (rules, told.0, told.1.0, told.1.1.0, told.1.1.1.0, told.1.1.1.1.0, told.1.1.1.1.1),
-      λ e. same.1 (ap (λ p. p.base) e, (ap (λ p. p.headers) e, (ap (λ p. p.number) e, (ap (λ p. p.fragmented) e, (ap (λ p. p.source) e, ap (λ p. p.payload) e))))),
-    )
+ipv4_tells a b = grind (arith, Decides-and, bytes_tell, headers_tell, payloads_tell)
 
 ipv6_tells : (a b : Ipv6Slice) → Decides (ipv6_packet_equal a b) (AreSameIpv6 a b)
 ipv6_tells a b =
@@ -79,13 +53,12 @@ ipv6_tells a b =
 
 -- what a comparison of them answers
 pub ipv4_same : (a b : Ipv4Slice) (r : Bool) → r ≡ ipv4_packet_equal a b → IsTrue r ↔ (ipv4_parts a ≡ ipv4_parts b)
-ipv4_same a b r k = subst (λ f. IsTrue f ↔ (ipv4_parts a ≡ ipv4_parts b)) (sym k) (ipv4_tells a b)
+ipv4_same a b r k = rw k (ipv4_tells a b)
 
 pub ipv6_same : (a b : Ipv6Slice) (r : Bool) → r ≡ ipv6_packet_equal a b → IsTrue r ↔ AreSameIpv6 a b
-ipv6_same a b r k = subst (λ f. IsTrue f ↔ AreSameIpv6 a b) (sym k) (ipv6_tells a b)
+ipv6_same a b r k = rw k (ipv6_tells a b)
 
 pub same_packets : (x y : IpSlice) (r : Bool) → r ≡ packet_equal x y → IsTrue r ↔ AreSame x y
 same_packets (Ipv4 a) (Ipv4 b) r k = ipv4_same a b r (k ∙ and-true _)
-same_packets (Ipv4 a) (Ipv6 b) r k = (λ e. cc, λ e. absurd e)
-same_packets (Ipv6 a) (Ipv4 b) r k = (λ e. cc, λ e. absurd e)
 same_packets (Ipv6 a) (Ipv6 b) r k = ipv6_same a b r k
+same_packets _ _ r k = search rules

@@ -1,4 +1,4 @@
-use Rattle.std.proofs.Common.{◌∙◌, ap, sym, length, arith, Some}
+use Rattle.std.proofs.Common.{◌∙◌, ap, sym, length, arith, Some, rules}
 use Rattle.std.specs.Option.{option_map}
 use Rattle.ip_base.specs.Ipv4HeaderSlice.{bytes}
 use Rattle.ip_base.specs.declared.len_source.LenSource.TheVariants.{Ipv4HeaderTotalLen}
@@ -7,17 +7,7 @@ use Rattle.etherparse_ip.proofs.CutLemmas.{AtIpv4, ipv4_packet, ipv4_behind_faul
 use Rattle.etherparse_ip.proofs.ipv4_slice.Ipv4Slice.behind.Goals as goal
 
 at : (c : goal.In-Ok) → AtIpv4 c.args.slice.now (bytes c.args.header) c.protocol.result.0 (length c.slice-header_len.result.now) c.from-total_len.result c.after.result.now
-at c =
-    record {
-      base = c.args.header.header;
-      prefix = c.requires;
-      number = c.protocol.ensures;
-      len = ap length c.slice-header_len.ensures.bytes;
-      total = c.from-total_len.ensures ∙ c.total_len.ensures;
-      enough = omega arith;
-      within = omega arith;
-      behind = c.after.ensures;
-    }
+at c = search (rules, arith, c.from-total_len.ensures ∙ c.total_len.ensures)
 
 pub returns-in-Ok-clause-packet : goal.returns-in-Ok-clause-packet
 returns-in-Ok-clause-packet c =
@@ -30,16 +20,7 @@ returns-in-Ok-clause-fault c =
 pub returns-in-Err-clause-fault : goal.returns-in-Err-clause-fault
 returns-in-Err-clause-fault c =
     let at_err : AtIpv4 c.args.slice.now (bytes c.args.header) c.protocol.result.0 (length c.slice-header_len.result.now) c.from-total_len.result c.after.result.now =
-    record {
-      base = c.args.header.header;
-      prefix = c.requires;
-      number = c.protocol.ensures;
-      len = ap length c.slice-header_len.ensures.bytes;
-      total = c.from-total_len.ensures ∙ c.total_len.ensures;
-      enough = omega arith;
-      within = omega arith;
-      behind = c.after.ensures;
-    } in
+    search (rules, arith, c.from-total_len.ensures ∙ c.total_len.ensures) in
     ap Some c.in_packet.ensures
     ∙ ap (option_map (auth_in_packet Ipv4HeaderTotalLen (length c.slice-header_len.result.now))) (sym c.in-Err.ensures.fault)
     ∙ sym (ipv4_behind_fault _ _ _ _ _ _ at_err)

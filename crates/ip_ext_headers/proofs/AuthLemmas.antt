@@ -1,5 +1,5 @@
 -- Why bytes begin with no authentication header.
-use Rattle.std.proofs.Common.{Bool, ℕ, ◌<◌, List, ◌++◌, length}
+use Rattle.std.proofs.Common.{Bool, ℕ, ◌<◌, List, ◌++◌, length, rules}
 use Rattle.ip_base.specs.declared.err.layer.Layer.TheVariants.{IpAuthHeader}
 use Rattle.ip_base.specs.declared.len_source.LenSource.TheVariants.{Slice}
 use Rattle.ip_spec.specs.Requests.{AuthAsks}
@@ -24,8 +24,7 @@ module _ {T : Type 0} (bytes_left : T → Option (List ℕ)) (is_steady has_fail
   -- a refused request of an authentication header is its refusal
   pub limited_refused : (e : LimitedReadError) → IsRefusedInLayer bytes_left is_steady has_failed AuthAsks IpAuthHeader old new e
       → IsAuthRefusedInLayer bytes_left is_steady has_failed old new (of_limited_error e)
-  limited_refused (limit.Io e) r = r
-  limited_refused (limit.Len e) r = r
+  limited_refused e r = search rules
 
   -- and tells the error of the parse of the window
   pub limited_fault : (e : HeaderLimitedReadError) → IsAuthRefusedInLayer bytes_left is_steady has_failed old new e → IsSliceErrorInLayer auth_slice_fault (is_steady (inner_of old)) (window bytes_left old) e

@@ -1,5 +1,6 @@
 -- The fault at bytes: none at a header, and one where a request of a header finds too few bytes.
-use Rattle.std.proofs.Common.{◌≡◌, ℕ, ◌+◌, ◌*◌, ◌<◌, List, ◌++◌, length, refl, arith, length-append, slice_index, ap, inl, inr}
+use Rattle.std.proofs.lemmas.Grind.{common_steps}
+use Rattle.std.proofs.Common.{◌≡◌, ℕ, ◌+◌, ◌*◌, ◌<◌, List, ◌++◌, length, refl, arith, length-append, slice_index, ap, inl, inr, rules}
 use Rattle.std.specs.Prelude.{Some, None}
 use Rattle.std.proofs.lemmas.Bool.{cases_lt, lt-ltb, le-ltb, ne_eqb}
 use Rattle.std.proofs.lemmas.List.{get_or_append_left}
@@ -18,15 +19,10 @@ use Rattle.ip_ext_headers.specs.declared.err.ip_auth.header_slice_error.HeaderSl
 
 module _ (source : LenSource) (n k : ℕ) where
   pub raw_at_header : (b s : List ℕ) → IsRawHeader b → IsPrefix b s → raw_fault source n k s ≡ None
-  raw_at_header b s h p =
-      let same : slice_index b 1 ≡ slice_index s 1 = prefix_byte b s p h.least in
-      let enough = prefix-length b s p in
-      rw (le-ltb (length s) 8 (omega (arith, h.least)), le-ltb (length s) (8 * (slice_index s 1 + 1)) (omega (arith, h.len))) refl
+  raw_at_header b s h p = grind (arith, common_steps, slice_index, prefix_byte, prefix-length, le-ltb)
 
   pub fragment_at_header : (b s : List ℕ) → IsFragmentHeader b → IsPrefix b s → fragment_fault source n k s ≡ None
-  fragment_at_header b s h p =
-      let enough = prefix-length b s p in
-      rw (le-ltb (length s) 8 (omega (arith, h.len))) refl
+  fragment_at_header b s h p = search rules
 
   pub auth_at_header : (b s : List ℕ) → IsAuthHeader b → IsPrefix b s → auth_fault source n k s ≡ None
   auth_at_header b s h p =
@@ -47,13 +43,7 @@ module _ (source : LenSource) (n k : ℕ) where
   -- where a request behind the bytes that came finds too few
   module _ (done : List ℕ) (count : ℕ) (xs : List ℕ) (few : length xs < count) where
     pub raw_asks_fault : RawAsks done count → (e : LenError) × (raw_fault source n k (done ++ xs) ≡ Some e)
-    raw_asks_fault a = elim a [
-      | raw_start none c ↦ (
-        too_short source n k Ipv6ExtHeader 8,
-        rw (lt-ltb (length (done ++ xs)) 8 (omega (arith, length-append done xs, ap length none, few))) refl,
-      )
-      | raw_rest len c ↦ raw_rest_fault (done ++ xs) (omega (arith, length-append done xs, get_or_append_left done xs 0 1 (omega arith), few))
-    ]
+    raw_asks_fault a = search (rules, lt-ltb, length-append, raw_rest_fault, get_or_append_left)
 
     pub fragment_asks_fault : FragmentAsks done count → (e : LenError) × (fragment_fault source n k (done ++ xs) ≡ Some e)
     fragment_asks_fault a = elim a [
@@ -82,7 +72,4 @@ module _ (source : LenSource) (n k : ℕ) where
 
   -- where the bytes that came tell a length of zero
   pub auth_zero_fault : (done xs : List ℕ) → IsZeroLength done → auth_fault source n k (done ++ xs) ≡ Some (Content ZeroPayloadLen)
-  auth_zero_fault done xs z =
-      let byte : slice_index (done ++ xs) 1 ≡ slice_index done 1 = get_or_append_left done xs 0 1 (omega (arith, z.len)) in
-      let zero : slice_index (done ++ xs) 1 ≡ 0 = omega (arith, z.zero) in
-      rw (le-ltb (length (done ++ xs)) 12 (omega (arith, z.len, length-append done xs)), zero) refl
+  auth_zero_fault done xs z = search (rules, slice_index, get_or_append_left, le-ltb, length-append)

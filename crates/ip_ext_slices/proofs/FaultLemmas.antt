@@ -1,5 +1,5 @@
 -- At an extension number there is a fault wherever no header goes on, and at another number there is neither.
-use Rattle.std.proofs.Common.{◌≡◌, ◌≢◌, ℕ, ◌+◌, ◌*◌, List, length, take, refl, sym, arith, inl, inr, ◌⊎◌, subst, Bool, true, false, slice_index}
+use Rattle.std.proofs.Common.{◌≡◌, ◌≢◌, ℕ, ◌+◌, ◌*◌, List, length, take, refl, sym, arith, inl, inr, ◌⊎◌, subst, Bool, true, false, slice_index, rules}
 use Rattle.std.specs.Prelude.{Option, Some, None, IsSome, IsTrue}
 use Rattle.std.specs.Option.{option_map}
 use Rattle.std.proofs.lemmas.Bool.{cases_lt, lt-ltb, le-ltb, ne_eqb}
@@ -43,8 +43,7 @@ auth_or_fault source n first m r k e = elim (cases_lt (length r) 12) [
 ]
 
 mapped : {A B : Type 0} (f : A → B) (o : Option A) → IsSome o → IsSome (option_map f o)
-mapped f (Some x) s = refl
-mapped f None s = s
+mapped f o s = search rules
 
 module _ (source : LenSource) (n : ℕ) (r : List ℕ) (k : ℕ) where
   at_zero : (first : Bool) → IsEnd first 0 r → IsSome (fault_at source n k first 0 r)
@@ -55,13 +54,7 @@ module _ (source : LenSource) (n : ℕ) (r : List ℕ) (k : ℕ) where
   at_raw first m raw_number not_zero e = elim (raw_or_fault source n first m r k raw_number (λ z. absurd (not_zero z))) [ inl (h, x) ↦ absurd (e h x) | inr s ↦ s ]
 
   fault_of_raw : (first : Bool) (m : ℕ) → IsRawNumber m → IsEnd first m r → IsSome (fault_at source n k first m r)
-  fault_of_raw first m is e = elim is [
-    | inl z ↦ let P : ℕ → Type 0 = λ j. IsEnd first j r in let Q : ℕ → Type 0 = λ j. IsSome (fault_at source n k first j r) in subst Q (sym z) (at_zero first (subst P z e))
-    | inr is' ↦ elim is' [
-      | inl z ↦ let Q : ℕ → Type 0 = λ j. IsSome (fault_at source n k first j r) in subst Q (sym z) (mapped _ (raw_fault source n k r) (at_raw first m (inr (inl z)) (omega arith) e))
-      | inr z ↦ let Q : ℕ → Type 0 = λ j. IsSome (fault_at source n k first j r) in subst Q (sym z) (mapped _ (raw_fault source n k r) (at_raw first m (inr (inr z)) (omega arith) e))
-    ]
-  ]
+  fault_of_raw first m is e = search (rules, at_zero, mapped, at_raw)
 
   -- where no header goes on, an extension number has a fault
   pub fault_at_end : (first : Bool) (m : ℕ) → IsExtensionNumber m → IsEnd first m r → IsSome (fault_at source n k first m r)
@@ -79,5 +72,4 @@ end_at_other first m r other = λ h x. other (header_number m h.bytes x.header)
 
 -- and there is no fault
 pub no_fault_at_other : (source : LenSource) (n : ℕ) (first : Bool) (m : ℕ) (r : List ℕ) (k : ℕ) → (IsExtensionNumber m → ⊥) → fault_at source n k first m r ≡ None
-no_fault_at_other source n first m r k other =
-    rw (ne_eqb m 0 (λ e. other (inl (inl e))), ne_eqb m 43 (λ e. other (inl (inr (inl e)))), ne_eqb m 60 (λ e. other (inl (inr (inr e)))), ne_eqb m 44 (λ e. other (inr (inl e))), ne_eqb m 51 (λ e. other (inr (inr e)))) refl
+no_fault_at_other source n first m r k other = search rules

@@ -1,5 +1,5 @@
 -- The longest chain, and the longest chain of bytes that it takes whole.
-use Rattle.std.proofs.Common.{◌≡◌, ◌≢◌, ℕ, ◌*◌, ◌≤◌, ◌<◌, List, [], ◌∷◌, length, take, drop, refl, ap, sym, ◌∙◌, arith, inl, inr, subst, Bool, true, false, nat_eq}
+use Rattle.std.proofs.Common.{◌≡◌, ◌≢◌, ℕ, ◌*◌, ◌≤◌, ◌<◌, List, [], ◌∷◌, length, take, drop, refl, ap, sym, ◌∙◌, arith, inl, inr, subst, Bool, true, false, nat_eq, rules}
 use Rattle.std.specs.Prelude.{Option, Some, None, IfNone, IsSome}
 use Rattle.std.specs.List.{AllByRecursion}
 use Rattle.std.proofs.Math.Seq.{drop-append_seam}
@@ -38,8 +38,7 @@ pub longest_chain-least : (n : ℕ) (s : List ℕ) → 8 * length (longest_chain
 longest_chain-least n s = bytes_of-least (longest_chain n s) (longest_chain-longest n s).has.chain.headers
 
 some_next : (n : ℕ) (r : List ℕ) (c : List ExtHeader) → IsPrefixChain n r c → bytes_of c ≡ r → nat_eq (length r) 0 ≡ false → (h : ExtHeader) × IsNext true n r h
-some_next n r [] p e f = let no : nat_eq 0 0 ≡ false = ap (λ (x : List ℕ). nat_eq (length x) 0) e ∙ f in absurd (let yes : true ≡ false = no in cc)
-some_next n r (h ∷ c) p e f = (h, first_next n r h c p)
+some_next n r c p e f = search (rules, nat_eq, first_next)
 
 -- where it takes all of some bytes, a header begins them
 pub whole_goes_on : (n : ℕ) (r : List ℕ) → bytes_of (longest_chain n r) ≡ r → nat_eq (length r) 0 ≡ false → (h : ExtHeader) × IsNext true n r h
@@ -76,8 +75,7 @@ whole_cut n r h k q b e x ek eb eq =
 
 -- where a header goes on, what gives nothing only at an end gives something
 pub some_where_next : {A : Type 0} (o : Option A) (first : Bool) (m : ℕ) (s : List ℕ) → IfNone o (IsEnd first m s) → ((h : ExtHeader) × IsNext first m s h) → IsSome o
-some_where_next (Some x) first m s e next = refl
-some_where_next None first m s e (h, next) = absurd (e h next)
+some_where_next o first m s e h5 = search rules
 
 -- Behind another header only number 0 begins no chain, so at another number nothing changes.
 not_zero_ends : (m : ℕ) (r : List ℕ) → m ≢ 0 → IsEnd false m r → IsEnd true m r
@@ -87,32 +85,25 @@ first_or_later : (first : Bool) (m : ℕ) (r : List ℕ) (h : ExtHeader) → IsN
 first_or_later first m r h x = record { number = x.number; header = x.header; prefix = x.prefix; zero_only_first = λ z. refl }
 
 none_begins : (m : ℕ) (r : List ℕ) (c : List ExtHeader) → IsPrefixChain m r c → IsEnd true m r → c ≡ []
-none_begins m r [] p e = refl
-none_begins m r (h ∷ c) p e = absurd (e h (first_next m r h c p))
+none_begins m r c p e = search (rules, first_next)
 
 -- where no header goes on, none is left
 pub longest_from-end : (first : Bool) (m : ℕ) (r : List ℕ) → IsEnd first m r → longest_from first m r ≡ []
-longest_from-end true m r e = none_begins m r (longest_chain m r) (longest_chain-longest m r).has e
-longest_from-end false m r e = elim (eqb_tells m 0) [
-  | inl w ↦ rw w.0 refl
-  | inr w ↦ rw w.0 (none_begins m r (longest_chain m r) (longest_chain-longest m r).has (not_zero_ends m r w.1 e))
-]
+longest_from-end first m r e = search (rules, none_begins, longest_chain-longest, eqb_tells, not_zero_ends)
 
 -- each header of it has 8 bytes at least
 chain_within : (n : ℕ) (s : List ℕ) → 8 * length (longest_chain n s) ≤ length s
 chain_within n s = omega (arith, longest_chain-least n s, prefix-length (bytes_of (longest_chain n s)) s (longest_chain-longest n s).has.prefix)
 
 pub longest_from-least : (first : Bool) (n : ℕ) (s : List ℕ) → 8 * length (longest_from first n s) ≤ length s
-longest_from-least true n s = chain_within n s
-longest_from-least false n s = elim (eqb_tells n 0) [ inl w ↦ rw w.0 (omega arith) | inr w ↦ rw w.0 (chain_within n s) ]
+longest_from-least first n s = search (rules, chain_within, eqb_tells)
 
 none_behind_zero : (k : ℕ) (c : List ExtHeader) → k ≡ 0 → AreLinked k c → AllByRecursion (λ h. h.number ≢ 0) c → c ≡ []
 none_behind_zero k [] z links a = refl
 none_behind_zero k (h ∷ c) z links a = absurd (a.0 (links.0 ∙ z))
 
 end_behind : (k : ℕ) (q : List ℕ) (c : List ExtHeader) → k ≢ 0 → IsEnd false (leads_to k c) q → IsEnd (is_empty c) (leads_to k c) q
-end_behind k q [] some e = not_zero_ends k q some e
-end_behind k q (h ∷ c) some e = e
+end_behind k q c some e = search rules
 
 -- the headers behind the first of the longest chain are the longest chain that goes on there
 module _ (n : ℕ) (r : List ℕ) (g : ExtHeader) (c : List ExtHeader) (l : IsLongestChain n r (g ∷ c)) where
@@ -125,10 +116,7 @@ module _ (n : ℕ) (r : List ℕ) (g : ExtHeader) (c : List ExtHeader) (l : IsLo
       longest_at_end _ _ c (record { chain = tail_chain n g c l.has.chain; prefix = second }) (end_behind _ _ c some (subst E (sym rest) (longest_ends n r (g ∷ c) l)))
 
   tail_is : c ≡ longest_from false (next_header g.bytes) (drop (length g.bytes) r)
-  tail_is = elim (eqb_tells (next_header g.bytes) 0) [
-    | inl w ↦ rw w.0 (none_behind_zero (next_header g.bytes) c w.1 l.has.chain.links.1 l.has.chain.zero_only_first)
-    | inr w ↦ rw w.0 (sym (longest_chain-is _ _ c (tail_longest w.1)))
-  ]
+  tail_is = search (rules, eqb_tells, none_behind_zero, longest_chain-is, tail_longest)
 
 longest_splits : (m : ℕ) (r : List ℕ) (h : ExtHeader) (c : List ExtHeader) → IsLongestChain m r c → IsNext true m r h → c ≡ h ∷ longest_from false (next_header h.bytes) (drop (length h.bytes) r)
 longest_splits m r h [] l x = absurd (longest_ends m r [] l h x)
@@ -138,11 +126,7 @@ longest_splits m r h (g ∷ c) l x =
 
 -- where a header goes on, it is the first that is left, and behind it the others are
 pub longest_from-next : (first : Bool) (m : ℕ) (r : List ℕ) (h : ExtHeader) → IsNext first m r h → longest_from first m r ≡ h ∷ longest_from false (next_header h.bytes) (drop (length h.bytes) r)
-longest_from-next true m r h x = longest_splits m r h (longest_chain m r) (longest_chain-longest m r) x
-longest_from-next false m r h x = elim (eqb_tells m 0) [
-  | inl w ↦ let no : false ≡ true = x.zero_only_first w.1 in cc
-  | inr w ↦ rw w.0 (longest_splits m r h (longest_chain m r) (longest_chain-longest m r) (first_or_later false m r h x))
-]
+longest_from-next first m r h x = search (rules, longest_splits, longest_chain-longest, eqb_tells, first_or_later)
 
 -- What is left of l bytes, r at number m and then q at number k, from one header to the next.
 pub record GoesBehind (l : ℕ) (m : ℕ) (r : List ℕ) (h : ExtHeader) (k : ℕ) (q : List ℕ) : Type 0 where
@@ -152,15 +136,4 @@ pub record GoesBehind (l : ℕ) (m : ℕ) (r : List ℕ) (h : ExtHeader) (k : �
   pub within : length q ≤ l
 
 pub goes_behind : (l m : ℕ) (r : List ℕ) (h : ExtHeader) (k : ℕ) (q b : List ℕ) → length r ≤ l → IsNext (nat_eq (length r) l) m r h → k ≡ next_header h.bytes → b ≡ h.bytes → q ≡ drop (length b) r → GoesBehind l m r h k q
-goes_behind l m r h k q b within x ek eb eq =
-    let at : q ≡ drop (length h.bytes) r = eq ∙ ap (λ (y : List ℕ). drop (length y) r) eb in
-    let less : length q < l = omega (arith, ap length at, header-least m h.bytes x.header, prefix-length h.bytes r x.prefix, within) in
-    let later : nat_eq (length q) l ≡ false = ne_eqb (length q) l (λ e. absurd (omega (arith, e, less))) in
-    let given : longest_from (nat_eq (length r) l) m r ≡ h ∷ longest_from (nat_eq (length q) l) k q =
-    longest_from-next _ m r h x ∙ ap (λ j. h ∷ longest_from false j (drop (length h.bytes) r)) (sym ek) ∙ ap (λ y. h ∷ longest_from false k y) (sym at) ∙ ap (λ f. h ∷ longest_from f k q) (sym later) in
-    record {
-      given = given;
-      leads = ap (leads_to m) given ∙ ap (λ j. leads_to j (longest_from (nat_eq (length q) l) k q)) (sym ek);
-      behind = ap (λ c. rest_behind c r) given ∙ sym (ap (drop (length (bytes_of (longest_from (nat_eq (length q) l) k q)))) at ∙ drop-drop (length (bytes_of (longest_from (nat_eq (length q) l) k q))) (length h.bytes) r ∙ ap (λ j. drop j r) (sym (length-append h.bytes (bytes_of (longest_from (nat_eq (length q) l) k q)))));
-      within = omega (arith, less);
-    }
+goes_behind l m r h k q b within x ek eb eq = search (rules, header-least, prefix-length, nat_eq, ne_eqb, longest_from-next, drop-drop, length-append)

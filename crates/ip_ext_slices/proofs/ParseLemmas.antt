@@ -1,5 +1,6 @@
 -- What the parse knows of the chain that it has read, and what follows where no header goes on.
-use Rattle.std.proofs.Common.{◌≡◌, ℕ, refl, arith, inl, inr, subst, ◌-◌, List, [], ◌∷◌, ◌++◌, length, take, drop, ap, sym, ◌∙◌, Bool, nat_eq}
+use Rattle.std.proofs.lemmas.Grind.{common_steps}
+use Rattle.std.proofs.Common.{◌≡◌, ℕ, refl, arith, inl, inr, subst, ◌-◌, List, [], ◌∷◌, ◌++◌, length, take, drop, ap, sym, ◌∙◌, Bool, nat_eq, rules}
 use Rattle.std.specs.Prelude.{◌==◌, ◌&&◌, ◌||◌, Option, None}
 use Rattle.std.specs.List.{AllByRecursion}
 use Rattle.std.proofs.lemmas.Iterator.{YieldsList}
@@ -26,8 +27,7 @@ abbrev pub fragments : ExtHeader → Bool
 fragments h = (h.number == 44) && is_fragmenting h.bytes
 
 has_fragmenting-more : (c : List ExtHeader) (h : ExtHeader) → has_fragmenting (c ++ h ∷ []) ≡ (has_fragmenting c || fragments h)
-has_fragmenting-more [] h = or-false _
-has_fragmenting-more (g ∷ c) h = ap (λ b. fragments g || b) (has_fragmenting-more c h) ∙ sym (or_assoc (fragments g) (has_fragmenting c) (fragments h))
+has_fragmenting-more c h = grind (arith, common_steps, or-false, or_assoc)
 
 -- a chain has been read of s from n, leads to m and leaves r, and the flag tells whether it fragments
 pub record ParseState (n : ℕ) (s : List ℕ) (m : ℕ) (r : List ℕ) (flag : Bool) : Type 0 where
@@ -64,8 +64,7 @@ at_end n s m r flag p e =
     }
 
 no_bytes : (c : List ExtHeader) (k : ℕ) → AllByRecursion (λ h. IsHeader h.number h.bytes) c → k ≡ length (bytes_of c) → nat_eq k 0 ≡ is_empty c
-no_bytes [] k a e = ap (λ j. nat_eq j 0) e
-no_bytes (h ∷ c) k a e = elim (eqb_tells k 0) [ inl w ↦ absurd (omega (arith, w.1, e, bytes_of-least (h ∷ c) a)) | inr w ↦ w.0 ]
+no_bytes c k a e = search (rules, nat_eq, eqb_tells, bytes_of-least)
 
 -- the bytes before what is left are the chain's
 pub len_behind : (n : ℕ) (s r : List ℕ) → r ≡ rest_behind (longest_chain n s) s → length s - length r ≡ length (bytes_of (longest_chain n s))
@@ -85,19 +84,10 @@ module _ (n : ℕ) (s : List ℕ) (k : ℕ) (len : k ≡ length (bytes_of (longe
   module _ (m : ℕ) (r : List ℕ) (number : m ≡ leads_to n (longest_chain n s)) (rest : r ≡ rest_behind (longest_chain n s) s) where
     -- nothing goes on behind it, and what fault stands there
     pub ends_behind : IsEnd (nat_eq k 0) m r
-    ends_behind =
-        let F : Bool → Type 0 = λ f. IsEnd f m r in
-        let M : ℕ → Type 0 = λ j. IsEnd (is_empty (longest_chain n s)) j r in
-        let R : List ℕ → Type 0 = λ q. IsEnd (is_empty (longest_chain n s)) (leads_to n (longest_chain n s)) q in
-        subst F (sym first_told) (subst M (sym number) (subst R (sym rest) (longest_ends n s (longest_chain n s) (longest_chain-longest n s))))
+    ends_behind = search (rules, first_told, longest_ends, longest_chain-longest)
 
     pub chain_fault_is : chain_fault n s ≡ slice_fault k (nat_eq k 0) m r
-    chain_fault_is =
-        let c : List ExtHeader = longest_chain n s in
-        sym (ap (λ f. slice_fault k f m r) first_told
-        ∙ ap (λ j. slice_fault j (is_empty c) m r) len
-        ∙ ap (λ j. slice_fault (length (bytes_of c)) (is_empty c) j r) number
-        ∙ ap (slice_fault (length (bytes_of c)) (is_empty c) (leads_to n c)) rest)
+    chain_fault_is = search (rules, first_told)
 
 -- A cursor over the longest chain of s from n has come to number m with r left, and what is left from there leads to
 -- where the chain leads. Where no header goes on, it is at the end of the chain.
@@ -106,15 +96,7 @@ pub record IsAtEnd (n : ℕ) (s : List ℕ) (m : ℕ) (r : List ℕ) : Type 0 wh
   pub answers : (f : Option Fault) → f ≡ slice_fault (length s - length r) (nat_eq (length s - length r) 0) m r → IsChainAnswer n s (longest_chain n s) m r f
 
 pub cursor_at_end : (n : ℕ) (s : List ℕ) (first : Bool) (m : ℕ) (r : List ℕ) → leads_to m (longest_from first m r) ≡ leads_to n (longest_chain n s) → rest_behind (longest_from first m r) r ≡ rest_behind (longest_chain n s) s → IsEnd first m r → IsAtEnd n s m r
-cursor_at_end n s first m r leads behind e =
-    let none : [] ≡ longest_from first m r = sym (longest_from-end first m r e) in
-    let number : m ≡ leads_to n (longest_chain n s) = ap (leads_to m) none ∙ leads in
-    let rest : r ≡ rest_behind (longest_chain n s) s = ap (λ c. rest_behind c r) none ∙ behind in
-    let len = len_behind n s r rest in
-    record {
-      ends = ends_behind n s _ len m r number rest;
-      answers = λ f is. record { value = refl; number = number; rest = rest; fault = is ∙ sym (chain_fault_is n s _ len m r number rest) };
-    }
+cursor_at_end n s first m r leads behind e = search (rules, longest_from-end, len_behind, ends_behind, chain_fault_is)
 
 -- what a cursor yields
 ended : (c d : Ipv6ExtensionsCursor) → GivesHeader c None d → length (headers_left c) ≡ 0

@@ -1,5 +1,5 @@
 -- The fault at a number: none where a header goes on, and one where a request of a header finds too few bytes.
-use Rattle.std.proofs.Common.{◌≡◌, ℕ, ◌<◌, List, ◌++◌, length, refl, sym, ap, ◌∙◌, inl, inr, subst, Bool, true, false}
+use Rattle.std.proofs.Common.{◌≡◌, ℕ, ◌<◌, List, ◌++◌, length, refl, sym, ap, ◌∙◌, inl, inr, subst, Bool, true, false, rules}
 use Rattle.std.specs.Prelude.{Some, None, IsTrue}
 use Rattle.std.specs.Option.{option_map}
 use Rattle.ip_base.specs.declared.err.layer.Layer.{Layer}
@@ -19,8 +19,7 @@ use Rattle.ip_ext_slices.specs.declared.err.ipv6_exts.header_slice_error.HeaderS
 module _ (source : LenSource) (n k : ℕ) (x : List ℕ) where
   -- the fault at a number is that of its layout
   fault_first : (first : Bool) → IsTrue first → fault_at source n k first 0 x ≡ option_map (short_at Ipv6HopByHopHeader) (raw_fault source n k x)
-  fault_first true t = refl
-  fault_first false t = absurd (let differ : false ≡ true = t in cc)
+  fault_first first t = search rules
 
   fault_raw : (first : Bool) (m : ℕ) → IsRawNumber m → (m ≡ 0 → IsTrue first) → (l : Layer) × (fault_at source n k first m x ≡ option_map (short_at l) (raw_fault source n k x))
   fault_raw first m is zero_first =
@@ -31,21 +30,13 @@ module _ (source : LenSource) (n k : ℕ) (x : List ℕ) where
       ]
 
   fault_fragment : (first : Bool) (m : ℕ) → m ≡ 44 → fault_at source n k first m x ≡ option_map (short_at Ipv6FragHeader) (fragment_fault source n k x)
-  fault_fragment first m e =
-      let P : ℕ → Type 0 = λ j. fault_at source n k first j x ≡ option_map (short_at Ipv6FragHeader) (fragment_fault source n k x) in
-      subst P (sym e) refl
+  fault_fragment first m e = search rules
 
   fault_auth : (first : Bool) (m : ℕ) → m ≡ 51 → fault_at source n k first m x ≡ option_map auth_at (auth_fault source n k x)
-  fault_auth first m e =
-      let P : ℕ → Type 0 = λ j. fault_at source n k first j x ≡ option_map auth_at (auth_fault source n k x) in
-      subst P (sym e) refl
+  fault_auth first m e = search rules
 
   no_fault_at_next : (first : Bool) (m : ℕ) (h : ExtHeader) → IsNext first m x h → fault_at source n k first m x ≡ None
-  no_fault_at_next first m h y = elim y.header [
-    | raw is r ↦ let f = fault_raw first m is y.zero_only_first in f.1 ∙ ap (option_map (short_at f.0)) (raw_at_header source n k h.bytes x r y.prefix)
-    | fragment e r ↦ fault_fragment first m e ∙ ap (option_map (short_at Ipv6FragHeader)) (fragment_at_header source n k h.bytes x r y.prefix)
-    | auth e r ↦ fault_auth first m e ∙ ap (option_map auth_at) (auth_at_header source n k h.bytes x r y.prefix)
-  ]
+  no_fault_at_next first m h y = search (rules, fault_raw, raw_at_header, fault_fragment, fragment_at_header, fault_auth, auth_at_header)
 
   -- so where there is a fault no header goes on
   pub fault_ends : (first : Bool) (m : ℕ) (f : Fault) → fault_at source n k first m x ≡ Some f → IsEnd first m x

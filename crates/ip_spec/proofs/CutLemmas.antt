@@ -42,9 +42,6 @@ pub joined-more : {X : Type 0} (ps : List (List X)) → joined (ps ++ [] ∷ [])
 joined-more ps = flat_map-append (λ p. p) ps ([] ∷ []) ∙ append-nil (joined ps)
 
 module _ {X : Type 0} (Q : List X → Type 0) (q : Cuts Q) where
-  none_kept : (d rest : List X) → d ≡ rest → NextBreaks Q [] rest → d ≡ []
-  none_kept d rest e breaks = search rules
-
   -- of some elements some are kept
   pub some_are_kept : (d p : List X) → d ≢ [] → KeepsBeginning Q d p → p ≢ []
   some_are_kept d p e k = search rules

@@ -13,18 +13,12 @@ use Rattle.ip_spec.proofs.PrefixLemmas.{prefix-append, prefix_of-take, prefix-le
 pub eq_or : (m n : ℕ) → (m ≡ n) ⊎ (m ≢ n)
 eq_or m n = elim (eqb_tells m n) [ inl w ↦ inl w.1 | inr w ↦ inr w.1 ]
 
-le_or : (m n : ℕ) → (m ≤ n) ⊎ (n < m)
-le_or m n = elim (cases_lt n m) [ inl l ↦ inr l | inr l ↦ inl l ]
-
 -- What a number can be.
 pub data Kind (n : ℕ) : Type 0 where
   is_raw : IsRawNumber n → Kind n
   is_fragment : n ≡ 44 → Kind n
   is_auth : n ≡ 51 → Kind n
   is_other : (IsRawNumber n → ⊥) → n ≢ 44 → n ≢ 51 → Kind n
-
-raw_or : (n : ℕ) → IsRawNumber n ⊎ (IsRawNumber n → ⊥)
-raw_or n = search rules
 
 pub kind : (n : ℕ) → Kind n
 kind n = search rules
@@ -44,14 +38,8 @@ by_number S a b c d e n x = search rules
 pub later_of : (n : ℕ) → IsExtensionNumber n → n ≢ 0 → IsLaterNumber n
 later_of = by_number (λ n. n ≢ 0 → IsLaterNumber n) (λ z. absurd (z refl)) (λ z. inl refl) (λ z. inr (inr (inr refl))) (λ z. inr (inl refl)) (λ z. inr (inr (inl refl)))
 
-pub extension_of_later : (n : ℕ) → IsLaterNumber n → IsExtensionNumber n
-extension_of_later n l = search rules
-
 pub later_not_zero : (n : ℕ) → IsLaterNumber n → n ≢ 0
 later_not_zero n l z = search rules
-
-extension_or : (n : ℕ) → IsExtensionNumber n ⊎ (IsExtensionNumber n → ⊥)
-extension_or n = search rules
 
 pub later_or : (n : ℕ) → IsLaterNumber n ⊎ (IsLaterNumber n → ⊥)
 later_or n = search rules
@@ -70,22 +58,12 @@ pub header-least : (n : ℕ) (b : List ℕ) → IsHeader n b → 8 ≤ length b
 header-least n b h = elim h [ raw k r ↦ r.least | fragment k f ↦ omega (arith, f.len) | auth k a ↦ omega (arith, a.len, a.not_zero) ]
 
 -- Whether bytes are a header.
-raw_header_or : (b : List ℕ) → IsRawHeader b ⊎ (IsRawHeader b → ⊥)
-raw_header_or b = search rules
-
-auth_header_or : (b : List ℕ) → IsAuthHeader b ⊎ (IsAuthHeader b → ⊥)
-auth_header_or b = search rules
-
 pub header_or : (n : ℕ) (b : List ℕ) → IsHeader n b ⊎ (IsHeader n b → ⊥)
 header_or n b = search rules
 
 -- how long the header of number n with t as byte 1 is
 told : ℕ → ℕ → ℕ
 told n t = cond (nat_eq n 44) 8 (cond (nat_eq n 51) (4 * (t + 2)) (8 * (t + 1)))
-
-told_raw : (n t : ℕ) → IsRawNumber n → told n t ≡ 8 * (t + 1)
-unfolding told
-told_raw n t k = search rules
 
 header-told : (n : ℕ) (b : List ℕ) → IsHeader n b → length b ≡ told n (slice_index b 1)
 unfolding told

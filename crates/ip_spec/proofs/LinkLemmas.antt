@@ -34,9 +34,6 @@ module _ (m x0 : ℕ) (rest : List ℕ) (small : m < 256) where
   abbrev Same : ℕ → Type 0
   Same n = IsHeader n (x0 ∷ rest) → IsCleared (of_number n (x0 ∷ rest)) → Relinked n
 
-  again : (j : ℕ) → IsRawNumber j → IsHeader j (x0 ∷ rest) → IsRawHeader (m ∷ rest)
-  again j l h = let r = raw_of j (x0 ∷ rest) l h in record { least = r.least; len = r.len }
-
   relinked_same : (n : ℕ) → Same n
   relinked_same n h = search rules
 
@@ -58,9 +55,6 @@ relinked_list n j k x (x0 ∷ rest) small e =
 
 pub relinked_encoded : (n j : ℕ) (x : HeaderFields) (h : ExtHeader) → j < 256 → IsEncoded n x h → (g : ExtHeader) × IsEncoded n (relinked j x) g
 relinked_encoded n j x h small e = relinked_list n j h.number x h.bytes small e
-
-number_small : (p : Place) → number_in p < 256
-number_small p = search rules
 
 pub first_number_small : (v : PlacedFields) (ps : List Place) (m : ℕ) → m < 256 → first_number v ps m < 256
 first_number_small v ps m small = search rules
@@ -88,9 +82,6 @@ next_relinked j x = search rules
 
 abbrev nothing : Option HeaderFields
 nothing = None
-
-beyond_it : (i j k : ℕ) → i ≡ k → i ≢ j → k ≤ j → k + 1 ≤ j
-beyond_it i j k e d l = omega (arith, e, d, l)
 
 -- The linked headers that stand in the first k places have been reached.
 abbrev beyond : ℕ → PlacedFields → PlacedFields

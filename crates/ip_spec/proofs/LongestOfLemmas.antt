@@ -45,9 +45,6 @@ longest_where_none_next P g c p none = record {
   ];
 }
 
-same_within : {X : Type 0} (P : List X → Type 0) (c d more : List X) → c ≡ d ++ more → IsLongestOf P c → IsLongestOf P d → c ≡ d
-same_within P c d more w lc ld = grind (arith, common_steps, append-nil, length-append)
-
 -- behind the longest, nothing can come next
 pub none_next_where_longest : {X : Type 0} (P : List X → Type 0) (c : List X) → IsLongestOf P c → (x : X) → P (c ++ x ∷ []) → ⊥
 none_next_where_longest P c l x p = search (rules, length-append)

@@ -92,9 +92,6 @@ sides c d = search (rules, cases_Bool (has_routing c), append-nil c, counted, be
 pub nothing_on : (p : Place) → side_of p [] ≡ []
 nothing_on p = search rules
 
-pub nothing_in : (p : Place) → header_in p [] ≡ None
-nothing_in p = ap (find (is_of p)) (nothing_on p)
-
 pub none_behind : (c : List ExtHeader) → has_routing c ≡ false → header_in final_destination c ≡ None
 none_behind c none = grind (arith, common_steps, sides c [])
 

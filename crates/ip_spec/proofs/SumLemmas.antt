@@ -24,9 +24,6 @@ use Rattle.ip_spec.proofs.WalkStepLemmas.{Walking, walk_begins, walks_on, walk_s
 
 -- What is taken out of a place is missing in the sum.
 module _ (g : HeaderFields → ℕ) (u w : PlacedFields) where
-  abbrev weight : Option HeaderFields → ℕ
-  weight o = option_map_or g o 0
-
   pub sum_without : (p : Place) (x : HeaderFields) → u p ≡ Some x → ((q : Place) → w q ≡ without p u q) → sum_placed g w + g x ≡ sum_placed g u
   sum_without p x t e = search rules
 
@@ -64,9 +61,6 @@ module _ (g : HeaderFields → ℕ) where
   sum_of_chain f c = sum_from f [] c (sym empty_sum)
 
 -- The fields tell the length of a header.
-raw_said_len : (b : List ℕ) → IsRawHeader b → length b ≡ fields_len (raw_header (raw_fields b))
-raw_said_len b h = omega (arith, h.least, length-drop 2 b)
-
 pub len_said : (h : ExtHeader) → IsHeader h.number h.bytes → length h.bytes ≡ fields_len (fields_of h)
 len_said h k = search rules
 

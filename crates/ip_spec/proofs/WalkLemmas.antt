@@ -106,6 +106,3 @@ module _ (v : PlacedFields) (f : ℕ) where
 
   pub one_reach : (c d : List ExtHeader) → IsLongestOf (IsReachable v f) c → IsLongestOf (IsReachable v f) d → c ≡ d
   one_reach c d = one_longest_of (IsReachable v f) shown_grows c d
-
-  pub none_shown : IsReachable v f []
-  none_shown = search rules

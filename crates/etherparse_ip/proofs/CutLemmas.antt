@@ -1,9 +1,8 @@
 -- A base header, the headers of the longest chain behind it and what that leaves, joined.
-use Rattle.std.proofs.Common.{◌≡◌, ℕ, ◌+◌, ◌≤◌, List, ◌++◌, length, take, drop, refl, ap, sym, ◌∙◌, subst, arith, Bool, rules}
+use Rattle.std.proofs.Common.{◌≡◌, ℕ, ◌+◌, ◌≤◌, List, ◌++◌, length, take, drop, refl, sym, arith, Bool, rules}
 use Rattle.std.proofs.lemmas.Grind.{common_steps}
-use Rattle.std.specs.Prelude.{Option, Some, None, nat_lt, if◌then◌else◌}
+use Rattle.std.specs.Prelude.{Option, None}
 use Rattle.std.specs.Option.{option_map}
-use Rattle.std.proofs.lemmas.Bool.{le-ltb}
 use Rattle.std.proofs.lemmas.List.{take-take, take-append-drop}
 use Rattle.std.proofs.Math.Seq.{take-length}
 use Rattle.ip_spec.specs.Prefix.{IsPrefix}
@@ -14,34 +13,25 @@ use Rattle.ip_spec.proofs.UnderLemmas.{some_longest_under}
 use Rattle.ip_spec.proofs.DemandKinds.{at_most_one_of}
 use Rattle.ip_spec.specs.Demand.{AtMostOneOf}
 use Rattle.ip_ext_headers.specs.declared.err.ip_auth.header_slice_error.HeaderSliceError.{HeaderSliceError}
-use Rattle.ip_ext_slices.specs.Longest.{longest_chain}
-use Rattle.ip_ext_ipv4.specs.Ipv4Longest.{longest_ipv4_chain}
 use Rattle.ip_ext_slices.specs.ChainFault.{Fault}
 use Rattle.ip_ext_slices.specs.ChainAnswer.{IsChainAnswer}
 use Rattle.ip_ext_ipv4.specs.Ipv4Parse.{IsIpv4Answer}
 use Rattle.ip_base.specs.Ipv4Header.{IsIpv4Header, total_len, protocol, is_ipv4_fragmenting}
 use Rattle.ip_base.specs.Ipv6Header.{IsIpv6Header, payload_length, ipv6_next_header}
-use Rattle.ip_base.specs.LenError.{too_short}
-use Rattle.ip_base.specs.declared.err.layer.Layer.TheVariants.{Ipv4Packet}
 use Rattle.ip_base.specs.declared.len_source.LenSource.{LenSource}
 use Rattle.ip_base.specs.declared.len_source.LenSource.TheVariants.{Slice, Ipv4HeaderTotalLen, Ipv6HeaderPayloadLen}
-use Rattle.ip_ext_headers.specs.declared.err.ip_auth.header_slice_error.HeaderSliceError.TheVariants as auth
 use Rattle.ip_ext_slices.specs.ChainFault.{chain_fault}
 use Rattle.ip_ext_ipv4.specs.Ipv4Fault.{ipv4_chain_fault}
 use Rattle.etherparse_ip.specs.LenSources.{front, ipv6_len_source}
 use Rattle.etherparse_ip.specs.PacketFault.{auth_in_packet, exts_in_packet, ipv4_fault_behind, ipv6_chain_fault, ipv6_fault_behind}
-use Rattle.etherparse_ip.proofs.BaseLemmas.{says_ipv4, says_ipv6}
+use Rattle.etherparse_ip.proofs.BaseLemmas.{says_ipv4}
 use Rattle.etherparse_ip.specs.Packet.{IsIpv4Packet, IsIpv6Packet}
 
--- what is taken and what is left are all
-split : (taken c : List ExtHeader) (s r : List ℕ) → IsPrefix (bytes_of taken) s → c ≡ taken → r ≡ drop (length (bytes_of taken)) s → bytes_of c ++ r ≡ s
-split taken c s r p value rest = ap (λ d. bytes_of d ++ r) value ∙ ap (λ x. bytes_of taken ++ x) rest ∙ sym (prefix-append (bytes_of taken) s p)
-
 answer_split : (n : ℕ) (s : List ℕ) (c : List ExtHeader) (m : ℕ) (r : List ℕ) (f : Option Fault) → IsChainAnswer n s c m r f → bytes_of c ++ r ≡ s
-answer_split n s c m r f a = split (longest_chain n s) c s r (some_longest n s).1.has.prefix a.value a.rest
+answer_split n s c m r f a = cc (a.value, a.rest, prefix-append _ s (some_longest n s).1.has.prefix)
 
 ipv4_answer_split : (n : ℕ) (s : List ℕ) (c : List ExtHeader) (m : ℕ) (r : List ℕ) (f : Option HeaderSliceError) → IsIpv4Answer (λ c. c) n s c m r f → bytes_of c ++ r ≡ s
-ipv4_answer_split n s c m r f a = split (longest_ipv4_chain n s) c s r (some_longest_under (AtMostOneOf 51) (at_most_one_of 51) n s).1.has.0.prefix a.value a.rest
+ipv4_answer_split n s c m r f a = cc (a.value, a.rest, prefix-append _ s (some_longest_under (AtMostOneOf 51) (at_most_one_of 51) n s).1.has.0.prefix)
 
 -- a beginning of s and what follows it in a front that isn't shorter
 onto_front : (b s front x : List ℕ) (k : ℕ) → IsPrefix b s → front ≡ take k s → length b ≤ k → x ≡ drop (length b) front → b ++ x ≡ front
@@ -73,18 +63,8 @@ ipv4_packet s b n h t x fragmented c m r at ef a =
     let joined = ipv4_joined b s (total_len b) (protocol b) c m r None at.prefix (omega (arith, at.total, at.len, at.enough)) chain in
     record { base = at.base; stated = omega (arith, at.total, at.within); joined = joined; chain = chain; fragmented = ef; source = refl }
 
--- the fault behind a base header of h bytes that states t bytes and names n
-abbrev ipv4_fault_by : List ℕ → ℕ → ℕ → ℕ → Option HeaderSliceError
-ipv4_fault_by s h t n =
-    if nat_lt t h then Some (auth.Len (too_short Ipv4HeaderTotalLen t 0 Ipv4Packet h))
-    else if nat_lt (length s) t then Some (auth.Len (too_short Slice (length s) 0 Ipv4Packet t))
-    else option_map (auth_in_packet Ipv4HeaderTotalLen h) (ipv4_chain_fault n (drop h (take t s)))
-
-ipv4_fault_of_chain : (s : List ℕ) (h t n : ℕ) → h ≤ t → t ≤ length s → ipv4_fault_by s h t n ≡ option_map (auth_in_packet Ipv4HeaderTotalLen h) (ipv4_chain_fault n (drop h (take t s)))
-ipv4_fault_of_chain s h t n enough within = rw (le-ltb t h enough, le-ltb (length s) t within) refl
-
 pub ipv4_behind_fault : (s b : List ℕ) (n h t : ℕ) (x : List ℕ) → AtIpv4 s b n h t x → ipv4_fault_behind s ≡ option_map (auth_in_packet Ipv4HeaderTotalLen h) (ipv4_chain_fault n x)
-ipv4_behind_fault s b n h t x at = search (rules, says_ipv4 b s at.base at.prefix, at.len, at.total, at.number, ipv4_fault_of_chain s h t n at.enough at.within, at.behind)
+ipv4_behind_fault s b n h t x at = search (rules, says_ipv4)
 
 -- what holds of both sources of an IPv6 packet holds of the one that it has
 either_source : (P : LenSource → Type 0) (n k : ℕ) → P Slice → P Ipv6HeaderPayloadLen → P (ipv6_len_source n k)
@@ -109,8 +89,8 @@ record Front (s : List ℕ) (source : LenSource) (k : ℕ) : Type 0 where
 
 front_taken : (s : List ℕ) (source : LenSource) (k : ℕ) → 40 ≤ length s → source ≡ ipv6_len_source k (length s) → Front s source k
 front_taken s source k enough is =
-    let P : LenSource → Type 0 = λ x. Front s x k in
-    subst P (sym is) (either_source P k (length s) (record { len = length s; taken = sym (take-length s); enough = enough }) (record { len = 40 + k; taken = refl; enough = omega arith }))
+    rw is
+    (either_source (λ x. Front s x k) k (length s) (record { len = length s; taken = sym (take-length s); enough = enough }) (record { len = 40 + k; taken = refl; enough = omega arith }))
 
 pub ipv6_packet : (s b : List ℕ) (n h k : ℕ) (source : LenSource) (whole x : List ℕ) (fragmented : Bool) (c : List ExtHeader) (m : ℕ) (r : List ℕ) → AtIpv6 s b n h k source whole x → fragmented ≡ has_fragmenting c
     → IsChainAnswer n x c m r None → IsIpv6Packet s (record { base = b; headers = c; payload = r; number = m; fragmented = fragmented; source = source })
@@ -132,7 +112,7 @@ behind-length s b n h k by whole x at = grind (arith, common_steps)
 
 -- where as many bytes are there as are stated, the tests before the chain are passed
 pub strict_fault_of_chain : (s : List ℕ) → 40 + payload_length s ≤ length s → ipv6_fault_behind s ≡ ipv6_chain_fault s
-strict_fault_of_chain s enough = rw (le-ltb (length s) (40 + payload_length s) enough) refl
+strict_fault_of_chain s enough = search rules
 
 pub stated_of_base : (s b : List ℕ) (k : ℕ) → IsIpv6Header b → IsPrefix b s → k ≡ payload_length b → k ≡ payload_length s
-stated_of_base s b k base prefix payload = payload ∙ (says_ipv6 b s base prefix).payload
+stated_of_base s b k base prefix payload = search rules

@@ -4,8 +4,7 @@ use Rattle.std.proofs.lemmas.Grind.{common_steps}
 use Rattle.std.proofs.lemmas.List.{take-append-drop}
 use Rattle.ip_base.specs.declared.len_source.LenSource.{LenSource}
 use Rattle.std.proofs.Math.Seq.{take-length}
-use Rattle.ip_base.specs.Ipv4Header.{version, total_len}
-use Rattle.ip_base.specs.Ipv6Header.{payload_length}
+use Rattle.ip_base.specs.Ipv4Header.{version}
 use Rattle.ip_spec.specs.Prefix.{IsPrefix}
 use Rattle.ip_spec.proofs.PrefixLemmas.{prefix_of-append}
 use Rattle.etherparse_ip.specs.LenSources.{front}
@@ -13,32 +12,28 @@ use Rattle.etherparse_ip.specs.Packet.{Parts, IsIpv4Packet, IsIpv6Packet}
 use Rattle.etherparse_ip.specs.Cut.{ipv4_cut, ipv6_cut}
 use Rattle.etherparse_ip.proofs.BaseLemmas.{says_ipv4, says_ipv6}
 
-parts_same : (p q : Parts) → p.base ≡ q.base → p.headers ≡ q.headers → p.payload ≡ q.payload → p.number ≡ q.number → p.fragmented ≡ q.fragmented → p.source ≡ q.source → p ≡ q
-parts_same p q b h y n f s = λ i. record { base = b i; headers = h i; payload = y i; number = n i; fragmented = f i; source = s i }
-
 -- what begins a beginning of s begins s
 begins : (b x s : List ℕ) (k : ℕ) → b ++ x ≡ take k s → IsPrefix b s
-begins b x s k e =
-    prefix_of-append b (x ++ drop k s) s (sym (take-append-drop k s) ∙ ap (λ y. y ++ drop k s) (sym e) ∙ append_assoc b x (drop k s))
+begins b x s k e = prefix_of-append b (x ++ drop k s) s (sym (take-append-drop k s) ∙ ap (λ y. y ++ drop k s) (sym e) ∙ append_assoc b x (drop k s))
 
 ipv4_prefix : (s : List ℕ) (p : Parts) → IsIpv4Packet s p → IsPrefix p.base s
-ipv4_prefix s p k = begins p.base _ s (total_len p.base) (k.joined ∙ ap (λ x. front x (total_len p.base) s) k.source)
+ipv4_prefix s p k = search (rules, begins)
 
 pub ipv4_version : (s : List ℕ) (p : Parts) → IsIpv4Packet s p → version s ≡ 4
-ipv4_version s p k = sym (says_ipv4 p.base s k.base (ipv4_prefix s p k)).version ∙ k.base.version
+ipv4_version s p k = search rules
 
 pub ipv4_parts_are : (s : List ℕ) (p : Parts) → IsIpv4Packet s p → p ≡ ipv4_cut s
-ipv4_parts_are s p k = grind (arith, common_steps, k.source, ipv4_prefix s p k)
+ipv4_parts_are s p k = search (rules, says_ipv4, ipv4_prefix s p k)
 
 -- each source has a beginning of s as its front
 begins_by : (by : LenSource) (n : ℕ) (s b x : List ℕ) → b ++ x ≡ front by n s → IsPrefix b s
 begins_by by n s b x e = grind (arith, common_steps, begins, take-length)
 
 ipv6_prefix : (s : List ℕ) (p : Parts) → IsIpv6Packet s p → IsPrefix p.base s
-ipv6_prefix s p k = begins_by p.source (payload_length p.base) s p.base _ k.joined
+ipv6_prefix s p k = search (rules, begins_by)
 
 pub ipv6_version : (s : List ℕ) (p : Parts) → IsIpv6Packet s p → version s ≡ 6
 ipv6_version s p k = sym (says_ipv6 p.base s k.base (ipv6_prefix s p k)).version ∙ k.base.version
 
 pub ipv6_parts_are : (s : List ℕ) (p : Parts) → IsIpv6Packet s p → p ≡ ipv6_cut s
-ipv6_parts_are s p k = search (rules, says_ipv6, ipv6_prefix s p k)
+ipv6_parts_are s p k = search (rules, ipv6_prefix s p k)

@@ -1,13 +1,12 @@
 -- Packets are equal where their parts are.
-use Rattle.std.proofs.Common.{◌≡◌, ℕ, List, [], ◌∷◌, ap, refl, ◌∙◌, rules, arith}
+use Rattle.std.proofs.Common.{◌≡◌, ℕ, List, [], ◌∷◌, ap, ◌∙◌, rules, arith}
 use Rattle.std.specs.Prelude.{Bool, ◌==◌, ◌↔◌, Option, IsTrue, nat_eq}
 use Rattle.std.specs.Bool.{Decides}
 use Rattle.std.specs.Cmp.Lexicographic.{pointwise}
 use Rattle.std.specs.Option.{option_eq, option_map_or}
 use Rattle.std.specs.Ordering.{on}
 use Rattle.std.proofs.Math.Bool.{and-true}
-use Rattle.std.proofs.lemmas.Bool.Decides.{Decides-and, Decides-eqb}
-use Rattle.std.proofs.lemmas.Slice.Eq.{slice_eq-Decides}
+use Rattle.std.proofs.lemmas.Bool.Decides.{Decides-and}
 use Rattle.ip_base.specs.declared.ip_number_impl.IpNumber.{IpNumber}
 use Rattle.ip_base.specs.declared.ip_payload_slice.IpPayloadSlice.{IpPayloadSlice}
 use Rattle.ip_spec.specs.Chain.{ExtHeader}
@@ -24,7 +23,7 @@ use Rattle.etherparse_ip.specs.declared.ip_slice.IpSlice.{IpSlice}
 use Rattle.etherparse_ip.specs.declared.ip_slice.IpSlice.TheVariants.{Ipv4, Ipv6}
 
 bytes_tell : (s t : List ℕ) → Decides (pointwise nat_eq s t) (s ≡ t)
-bytes_tell s t = slice_eq-Decides Decides-eqb s t _ refl
+bytes_tell s t = search rules
 
 abbrev ArePayloadsSame : IpPayloadSlice → IpPayloadSlice → Type 0
 ArePayloadsSame a b = (a.ip_number.0 ≡ b.ip_number.0) × ((a.fragmented ≡ b.fragmented) × ((a.len_source ≡ b.len_source) × (a.payload.now ≡ b.payload.now)))

@@ -10,8 +10,7 @@ at : (c : goal.In-Ok) → AtIpv4 c.args.slice.now (bytes c.args.header) c.protoc
 at c = search (rules, arith, c.from-total_len.ensures ∙ c.total_len.ensures)
 
 pub returns-in-Ok-clause-packet : goal.returns-in-Ok-clause-packet
-returns-in-Ok-clause-packet c =
-    ipv4_packet _ _ _ _ _ _ _ _ _ _ (at c) c.is_fragmenting_payload-fragmented.ensures c.in-Ok.ensures.answer
+returns-in-Ok-clause-packet c = ipv4_packet _ _ _ _ _ _ _ _ _ _ (at c) c.is_fragmenting_payload-fragmented.ensures c.in-Ok.ensures.answer
 
 pub returns-in-Ok-clause-fault : goal.returns-in-Ok-clause-fault
 returns-in-Ok-clause-fault c =

@@ -41,7 +41,7 @@ module _ {X : Type 0} (P Q : List X → Type 0) (g : Grows P) (k : IsDemand Q) w
   -- and the other way round
   pub kept_where_longest : (d c : List X) → IsLongestOf P d → IsLongestOf (IsUnder Q P) c → KeepsBeginning Q d c
   kept_where_longest d c l u = elim (compare P g d c l.has u.has.0) [
-    | within rest w ↦ record { rest = rest; joined = w; meets = u.has.1; breaks = breaks_behind d c rest w l u }
+    | within rest w ↦ search (rules, breaks_behind)
     | beyond x rest w ↦ absurd (none_next_where_longest P d l x (begins_first P g d x rest (subst P w u.has.0)))
   ]
 

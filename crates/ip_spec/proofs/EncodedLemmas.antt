@@ -77,16 +77,7 @@ pub fragment_encoded : (x : FragmentFields) → x.next_header < 256 → x.fragme
 fragment_encoded x next offset id =
     let e : IsFragmentEncoding x (fragment_written x) = fragment_encodes x (high_byte x.fragment_offset) (low_byte x.fragment_offset x.more_fragments)
     (packed_offset x.fragment_offset x.more_fragments) (packed_flag x.fragment_offset x.more_fragments) (packed_reserved x.fragment_offset x.more_fragments)
-    (high_small x.fragment_offset offset) (low_small x.fragment_offset x.more_fragments) id in (
-      of_number 44 (fragment_written x),
-      record {
-        number = refl;
-        header = fragment refl e.header;
-        fields = ap fragment_header e.fields;
-        cleared = e.cleared;
-        bytes = bytes_first x.next_header (slice_range (fragment_written x) 1 8) next e.cleared.bytes;
-      },
-    )
+    (high_small x.fragment_offset offset) (low_small x.fragment_offset x.more_fragments) id in search rules
 
 pub auth_encoded : (x : AuthFields) → x.next_header < 256 → IsIcvLen (length x.raw_icv) → AreBytes x.raw_icv → x.spi < 2 ^ 32 → x.sequence_number < 2 ^ 32 → (h : ExtHeader) × IsEncoded 51 (auth_header x) h
 auth_encoded x next len icv spi seq =

@@ -65,7 +65,7 @@ module _ {X : Type 0} (t : X → Bool) where
   pub after-some : (xs ys : List X) → 1 ≤ count_by t xs → after_first t (xs ++ ys) ≡ after_first t xs ++ ys
   after-some [] ys l = absurd (omega arith)
   after-some (x ∷ xs) ys l = elim (cases_Bool (t x)) [
-    | inl w ↦ after-yes x (xs ++ ys) w ∙ ap (λ l. l ++ ys) (sym (after-yes x xs w))
+    | inl w ↦ search rules
     | inr w ↦ after-no x (xs ++ ys) w ∙ after-some xs ys (omega (arith, count_no x xs w, l)) ∙ ap (λ l. l ++ ys) (sym (after-no x xs w))
   ]
 
@@ -75,7 +75,7 @@ module _ {X : Type 0} (t : X → Bool) where
 
   -- The first that passes is there where the count isn't 0, and one more stands behind it.
   pub counted : (xs : List X) → is_some (find t xs) ≡ true → 1 ≤ count_by t xs
-  counted [] e = absurd (let differ : false ≡ true = e in cc)
+  counted [] e = absurd (cc)
   counted (x ∷ xs) e = elim (cases_Bool (t x)) [
     | inl w ↦ omega (arith, count_yes x xs w)
     | inr w ↦ omega (arith, count_no x xs w, counted xs (sym (ap is_some (find-no x xs w)) ∙ e))
@@ -84,7 +84,7 @@ module _ {X : Type 0} (t : X → Bool) where
   pub none_counted : (xs : List X) → is_some (find t xs) ≡ false → count_by t xs ≡ 0
   none_counted [] e = refl
   none_counted (x ∷ xs) e = elim (cases_Bool (t x)) [
-    | inl w ↦ absurd (let differ : true ≡ false = sym (ap is_some (find-yes x xs w)) ∙ e in cc)
+    | inl w ↦ absurd (cc)
     | inr w ↦ count_no x xs w ∙ none_counted xs (sym (ap is_some (find-no x xs w)) ∙ e)
   ]
 
@@ -96,9 +96,9 @@ module _ {X : Type 0} (t : X → Bool) where
   ]
 
   pub find_passes : (xs : List X) (x : X) → find t xs ≡ Some x → t x ≡ true
-  find_passes [] x e = absurd (let differ : false ≡ true = ap is_some e in cc)
+  find_passes [] x e = absurd (cc)
   find_passes (y ∷ ys) x e = elim (cases_Bool (t y)) [
-    | inl w ↦ let same : Some y ≡ Some x = sym (find-yes y ys w) ∙ e in let is : y ≡ x = cc in ap t (sym is) ∙ w
+    | inl w ↦ search rules
     | inr w ↦ find_passes ys x (sym (find-no y ys w) ∙ e)
   ]
 
@@ -124,7 +124,7 @@ module _ {X Y : Type 0} (f : X → Y) (t : Y → Bool) where
   pub before-map : (xs : List X) → map f (before_first (λ x. t (f x)) xs) ≡ before_first t (map f xs)
   before-map [] = refl
   before-map (x ∷ xs) = elim (cases_Bool (t (f x))) [
-    | inl w ↦ ap (map f) (before-yes (λ x. t (f x)) x xs w) ∙ sym (before-yes t (f x) (map f xs) w)
+    | inl w ↦ search rules
     | inr w ↦ ap (map f) (before-no (λ x. t (f x)) x xs w) ∙ ap (λ l. f x ∷ l) (before-map xs) ∙ sym (before-no t (f x) (map f xs) w)
   ]
 

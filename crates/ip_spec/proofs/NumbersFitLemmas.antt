@@ -40,10 +40,14 @@ module _ (c : List ExtHeader) where
   place_counts : (p : Place) → place_of (number_in p) (has_routing c) ≡ Some p → in_place (number_in p) (numbers_of c) ≡ count_in p c
   place_counts destination e =
       grind (arith, common_steps, counts routing, none_counted (is_of routing) c (destination_before (has_routing c) e), counts destination)
-  place_counts final_destination e = elim (eqb_tells (how_often 43 (numbers_of c)) 0) [
-    | inl w ↦ absurd (omega (arith, w.1, counts routing, counted (is_of routing) c (final_behind (has_routing c) e)))
-    | inr w ↦ ap (λ b. if b then how_often 60 (before_routing (numbers_of c)) else how_often 60 (after_routing (numbers_of c))) w.0 ∙ sym (counts final_destination)
-  ]
+  place_counts final_destination e =
+      grind (
+        arith,
+        eqb_tells (how_often 43 (numbers_of c)) 0,
+        counts routing,
+        counted (is_of routing) c (final_behind (has_routing c) e),
+        counts final_destination,
+      )
   place_counts p e = sym (counts p)
 
 next_tells : (c : List ExtHeader) (m : ℕ) → IsExtensionNumber m → NumbersFit (numbers_of c) → NumbersFit (numbers_of c ++ m ∷ []) ↔ (in_place m (numbers_of c) ≡ 0)

@@ -56,14 +56,14 @@ destination_place false = (destination, refl)
 -- an extension number has a place
 pub own_place : (m : ℕ) (behind : Bool) → IsExtensionNumber m → (p : Place) × (place_of m behind ≡ Some p)
 own_place m behind x =
-    let P : ℕ → Type 0 = λ k. (p : Place) × (place_of k behind ≡ Some p) in
-    elim x [
-      | inl r ↦ elim r [
-        | inl e ↦ subst P (sym e) (_, in_both 0 hop_by_hop refl refl behind)
-        | inr r' ↦ elim r' [ inl e ↦ subst P (sym e) (_, in_both 43 routing refl refl behind) | inr e ↦ subst P (sym e) (destination_place behind) ]
-      ]
-      | inr r ↦ elim r [ inl e ↦ subst P (sym e) (_, in_both 44 fragment refl refl behind) | inr e ↦ subst P (sym e) (_, in_both 51 authentication refl refl behind) ]
-    ]
+    grind (
+      arith,
+      in_both 0 hop_by_hop refl refl behind,
+      in_both 43 routing refl refl behind,
+      destination_place behind,
+      in_both 44 fragment refl refl behind,
+      in_both 51 authentication refl refl behind,
+    )
 
 pub is_extension : (p : Place) → IsExtensionNumber (number_in p)
 is_extension p = search rules
@@ -120,7 +120,7 @@ module _ (c : List ExtHeader) (h : ExtHeader) where
   comes final_destination = elim (sides c (h ∷ [])) [
     | one_before some b a ↦ by_number final_destination a (λ e. of_number e ∙ ap (place_of 60) some)
     | none_yet none all nothing b a ↦
-        by_side final_destination (a ∙ after_one (is_of routing) h ∙ sym nothing) (λ e. let differ : true ≡ false = sym (final_behind (has_routing c) e) ∙ none in cc)
+        by_side final_destination (a ∙ after_one (is_of routing) h ∙ sym nothing) (λ e. cc)
   ]
   comes hop_by_hop = by_number hop_by_hop refl (λ e. of_number e ∙ in_both 0 hop_by_hop refl refl (has_routing c))
   comes routing = by_number routing refl (λ e. of_number e ∙ in_both 43 routing refl refl (has_routing c))

@@ -66,12 +66,7 @@ module _ (Q : List ExtHeader → Type 0) (k : IsDemand Q) (n : ℕ) (s : List �
     read_answers value_of faults x f p e value fault =
         let A : List ExtHeader → Type 0 = λ d. IsAnswer value_of faults d n s x m r f in
         subst A (one_longest_under Q k n s c _ (read_longest_under p e) (some_longest_under Q k n s).1)
-        (record {
-          value = value;
-          number = p.read.number;
-          rest = p.read.rest;
-          fault = fault ∙ ap (λ j. faults c j r) p.read.number ∙ ap (faults c (leads_to n c)) p.read.rest;
-        })
+        (search rules)
 
 module _ (Q : List ExtHeader → Type 0) (k : IsDemand Q) (n m : ℕ) where
   -- a chain has been read of its bytes with more behind them

@@ -36,10 +36,7 @@ module _ (g : HeaderFields → ℕ) where
   sum_of c = sum_by (λ h. g (fields_of h)) c
 
   sum_more : (f : ℕ) (c : List ExtHeader) (x : ExtHeader) → Joins f c x → sum_placed g (of_chain c) + g (fields_of x) ≡ sum_placed g (of_chain (c ++ x ∷ []))
-  sum_more f c x j = sum_without g (of_chain (c ++ x ∷ [])) (of_chain c) j.place (fields_of x) (ap (option_map fields_of) (there j)) (λ q. elim (eqb_tells (index j.place) (index q)) [
-    | inl r ↦ ap (λ p. of_chain c p) (sym (same_place j.place q r.1)) ∙ ap (option_map fields_of) j.free ∙ sym (ap (λ b. if b then None else of_chain (c ++ x ∷ []) q) r.0)
-    | inr r ↦ sym (ap (λ b. if b then None else of_chain (c ++ x ∷ []) q) r.0 ∙ ap (option_map fields_of) (j.joined q ∙ ap (λ b. if b then Some x else header_in q c) r.0))
-  ])
+  sum_more f c x j = sum_without g (of_chain (c ++ x ∷ [])) (of_chain c) j.place (fields_of x) (ap (option_map fields_of) (there j)) (search rules)
 
   sum_from : (f : ℕ) (c d : List ExtHeader) → sum_of c ≡ sum_placed g (of_chain c) → IsChain f (c ++ d) → FitsPlaces (c ++ d) → sum_of (c ++ d) ≡ sum_placed g (of_chain (c ++ d))
   sum_from f c [] e k fits = let S : List ExtHeader → Type 0 = λ l. sum_of l ≡ sum_placed g (of_chain l) in subst S (sym (append-nil c)) e

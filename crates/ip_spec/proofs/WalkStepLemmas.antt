@@ -80,12 +80,7 @@ module _ (v : PlacedFields) (f : ℕ) (c : List ExtHeader) (u : PlacedFields) (m
         in_value = record {
           chain = chain_more f c h k.in_value.chain (same ∙ k.number) (subst H (sym e.number) e.header) (λ z. sym k.first_is ∙ next.1 (eq-eqb m 0 (sym same ∙ z)));
           fits = fits_more c h p k.in_value.fits own left.0;
-          in_value = λ q g s. elim (eqb_tells (index p) (index q)) [
-            | inl r ↦
-                let is : h ≡ g = same_Some h g (sym (joined q ∙ ap (λ b. if b then Some h else header_in q c) r.0) ∙ s) in
-                ap v (sym (same_place p q r.1)) ∙ left.1 ∙ ap Some (sym e.fields ∙ ap fields_of is)
-            | inr r ↦ k.in_value.in_value q g (sym (joined q ∙ ap (λ b. if b then Some h else header_in q c) r.0) ∙ s)
-          ];
+          in_value = search rules;
           cleared = all_more IsCleared c h k.in_value.cleared e.cleared;
         };
         left = λ q. ew q ∙ ap (λ o. if index p == index q then None else o) (k.left q) ∙ left_more c h p joined v q;

@@ -2,8 +2,5 @@ use Rattle.ip_spec.specs.Demand.{Passes}
 use Rattle.ip_spec.proofs.UnderLemmas.{some_longest_under, one_longest_under}
 use Rattle.ip_spec.proofs.demand_laws.one_longest_chain_under_a_demand.Goals as goal
 
-pub returns-clause-some : goal.returns-clause-some
-returns-clause-some c = λ q. some_longest_under (Passes q)
-
-pub returns-clause-only : goal.returns-clause-only
-returns-clause-only c = λ q. one_longest_under (Passes q)
+pub returns : goal.returns
+returns c = record { some = λ q. some_longest_under (Passes q); only = λ q. one_longest_under (Passes q) }

@@ -5,8 +5,8 @@ use Rattle.ip_spec.proofs.ClearedLemmas.{cleared_same}
 use Rattle.ip_spec.proofs.EncodedLemmas.{same_fragment, same_auth}
 use Rattle.ip_spec.proofs.header_laws.cleared_header_says_the_same.Goals as goal
 
-pub returns-clause-fragment : goal.returns-clause-fragment
-returns-clause-fragment c = λ b h. let s = cleared_same b 44 (fragment refl h) in (fragment_of 44 _ refl s.header, same_fragment _ _ s.fields, s.again)
-
-pub returns-clause-auth : goal.returns-clause-auth
-returns-clause-auth c = λ b h. let s = cleared_same b 51 (auth refl h) in (auth_of 51 _ refl s.header, same_auth _ _ s.fields, s.again)
+pub returns : goal.returns
+returns c = record {
+  fragment = λ b h. let s = cleared_same b 44 (fragment refl h) in (fragment_of 44 _ refl s.header, same_fragment _ _ s.fields, s.again);
+  auth = λ b h. let s = cleared_same b 51 (auth refl h) in (auth_of 51 _ refl s.header, same_auth _ _ s.fields, s.again);
+}

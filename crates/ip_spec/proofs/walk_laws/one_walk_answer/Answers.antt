@@ -3,14 +3,5 @@ use Rattle.ip_spec.proofs.SpellingLemmas.{one_answer}
 use Rattle.ip_spec.proofs.SumLemmas.{some_reach, some_answer}
 use Rattle.ip_spec.proofs.walk_laws.one_walk_answer.Goals as goal
 
-pub returns-clause-some_reach : goal.returns-clause-some_reach
-returns-clause-some_reach c = λ v e f. some_reach v f e
-
-pub returns-clause-only_reach : goal.returns-clause-only_reach
-returns-clause-only_reach c = one_reach
-
-pub returns-clause-some_answer : goal.returns-clause-some_answer
-returns-clause-some_answer c = λ v e f. some_answer v f e
-
-pub returns-clause-only_answer : goal.returns-clause-only_answer
-returns-clause-only_answer c = one_answer
+pub returns : goal.returns
+returns c = record { some_reach = λ v e f. some_reach v f e; only_reach = one_reach; some_answer = λ v e f. some_answer v f e; only_answer = one_answer }

@@ -1,5 +1,5 @@
 -- The longest chain that fits six places, where the longest chain's first run was taken.
-use Rattle.std.proofs.Common.{◌≡◌, ◌≢◌, ℕ, ◌-◌, List, [], ◌∷◌, ◌++◌, length, take, drop, refl, ap, sym, ◌∙◌, arith, inl, inr, Bool, true, false, subst}
+use Rattle.std.proofs.Common.{◌≡◌, ◌≢◌, ℕ, ◌-◌, List, [], ◌∷◌, ◌++◌, length, take, drop, refl, ap, sym, ◌∙◌, arith, inl, inr, Bool, true, false, subst, rules}
 use Rattle.std.specs.Prelude.{Option, Some, None, IsSome, if◌then◌else◌}
 use Rattle.std.proofs.lemmas.Bool.{cases_Bool}
 use Rattle.ip_spec.specs.Header.{IsExtensionNumber}
@@ -46,8 +46,7 @@ fitting_is n s c kept =
     (fitting_longest n s)
 
 no_fault : (b : Bool) (f : Option Fault) → b ≡ true → (if b then None else f) ≡ None
-no_fault true f e = refl
-no_fault false f e = absurd (let differ : false ≡ true = e in cc)
+no_fault b f e = search rules
 
 module _ (n : ℕ) (s : List ℕ) (left : List ExtHeader) (v : Places Ipv6ExtensionSlice) (k : IsRun (longest_chain n s) v left) where
   run_fits : k.run ≡ fitting_chain n s
@@ -61,19 +60,10 @@ module _ (n : ℕ) (s : List ℕ) (left : List ExtHeader) (v : Places Ipv6Extens
 
   -- how many bytes were read
   run_len : length (bytes_of (longest_chain n s)) - length (bytes_of left) ≡ length (bytes_of k.run)
-  run_len =
-      let both : bytes_of (k.run ++ left) ≡ bytes_of k.run ++ bytes_of left = flat_map-append (λ h. h.bytes) k.run left in
-      omega (arith, ap (λ c. length (bytes_of c)) run_whole, ap length both, length-append (bytes_of k.run) (bytes_of left))
+  run_len = search (rules, flat_map-append, run_whole, length-append)
 
   walked : (m : ℕ) (r : List ℕ) (f : Option Fault) → m ≡ leads_to n k.run → r ≡ drop (length (bytes_of k.run)) s → f ≡ fitting_fault n s → IsPlacedAnswer n s v m r f
-  walked m r f em er ef =
-      let A : List ExtHeader → Type 0 = λ c. ArePlaced c v in
-      record {
-        placed = subst A run_fits k.placed;
-        number = em ∙ ap (leads_to n) run_fits;
-        rest = er ∙ ap (λ c. drop (length (bytes_of c)) s) run_fits;
-        fault = ef;
-      }
+  walked m r f em er ef = search (rules, run_fits)
 
 -- Where headers are left, the place of the next one is taken.
 walked_on : (n : ℕ) (s : List ℕ) (left : List ExtHeader) (v : Places Ipv6ExtensionSlice) → IsRun (longest_chain n s) v left → left ≢ [] → (m : ℕ) → IsChain m left → (r : List ℕ) → r ≡ drop (length (bytes_of (longest_chain n s)) - length (bytes_of left)) s → IsPlacedAnswer n s v m r None

@@ -1,5 +1,5 @@
 -- The numbers that are set where headers are linked.
-use Rattle.std.proofs.Common.{◌≡◌, ℕ, List, ◌∷◌, refl, ap, sym, ◌∙◌, cond, subst}
+use Rattle.std.proofs.Common.{◌≡◌, ℕ, List, ◌∷◌, refl, ap, sym, ◌∙◌, cond, subst, rules}
 use Rattle.std.specs.Prelude.{Option, Some, None, is_some, if◌then◌else◌}
 use Rattle.std.specs.List.{find}
 use Rattle.std.specs.Option.{option_map, option_map_or}
@@ -11,20 +11,11 @@ use Rattle.ip_spec.proofs.WalkStepLemmas.{same_held}
 -- the number to which what is before a place leads
 pub number_before : {X : Type 0} (v : PlacedFields) (p : Place) (ps : List Place) (m : ℕ) (f : X → HeaderFields) (o : Option X) (r n : ℕ)
     → v p ≡ option_map f o → r ≡ (if is_some o then number_in p else n) → n ≡ first_number v ps m → r ≡ first_number v (p ∷ ps) m
-number_before {X} v p ps m f o r n here is behind =
-    is ∙ ap (λ k. if is_some o then number_in p else k) behind ∙ either o
-    ∙ sym (ap (λ x. option_map_or number_in (cond (is_some x) (Some p) (find (λ q. is_some (v q)) ps)) m) here)
-  where
-    either : (o : Option X) → (if is_some o then number_in p else first_number v ps m) ≡ option_map_or number_in (cond (is_some (option_map f o)) (Some p) (find (λ q. is_some (v q)) ps)) m
-    either None = refl
-    either (Some x) = refl
+number_before v p ps m f o r n here is behind = search rules
 
 -- what is linked to a number and what that number is
 pub linked_to : (x y z : Option HeaderFields) (k n : ℕ) → x ≡ option_map (relinked k) y → y ≡ z → k ≡ n → x ≡ option_map (relinked n) z
 linked_to x y z k n e f g = e ∙ ap (option_map (relinked k)) f ∙ ap (λ j. option_map (relinked j) z) g
 
 pub answer_same : (v w : PlacedFields) (f g : ℕ) (a : WalkAnswer) → ((p : Place) → v p ≡ w p) → f ≡ g → IsWalkAnswer w g a → IsWalkAnswer v f a
-answer_same v w f g a e k x =
-    let V : PlacedFields → Type 0 = λ u. IsWalkAnswer u f a in
-    let F : ℕ → Type 0 = λ j. IsWalkAnswer w j a in
-    subst V (sym (same_held v w e)) (subst F (sym k) x)
+answer_same v w f g a e k x = search rules

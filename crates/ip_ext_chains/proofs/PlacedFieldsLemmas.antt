@@ -1,5 +1,5 @@
 -- A struct of six places, and what it holds in each.
-use Rattle.std.proofs.Common.{◌≡◌, ℕ, List, refl, ap, sym, ◌∙◌, arith, inl, inr, subst, true}
+use Rattle.std.proofs.Common.{◌≡◌, ℕ, List, refl, ap, sym, ◌∙◌, arith, inl, inr, subst, true, rules}
 use Rattle.std.specs.Prelude.{Option, Some, None, is_some}
 use Rattle.std.specs.Option.{option_map, option_map_or, ForSome}
 use Rattle.std.proofs.lemmas.Bool.{cases_Bool}
@@ -19,25 +19,17 @@ use Rattle.ip_ext_chains.proofs.PlacedLemmas.{in_place_number}
 -- what a chain says in a place, where the layout of its number is read
 said_in : {V : Type 0} (n : ℕ) (made : V → HeaderFields) (fields : List ℕ → V) → ((b : List ℕ) → made (fields b) ≡ fields_of (record { number = n; bytes = b }))
     → (o : Option ExtHeader) → ForSome o (λ h. h.number ≡ n) → option_map made (option_map (λ h. fields h.bytes) o) ≡ option_map fields_of o
-said_in n made fields says None k = refl
-said_in n made fields says (Some h) k =
-    let S : ℕ → Type 0 = λ m. made (fields h.bytes) ≡ fields_of (record { number = m; bytes = h.bytes }) in
-    ap Some (subst S (sym (k h refl)) (says h.bytes))
+said_in n made fields says o k = search rules
 
 routing_place : (o : Option RawFields) (p : Option RawFields) → option_map (λ (r : Ipv6RoutingExtensions). raw_header r.routing) (option_map (λ r. record { routing = r; final_destination_options = p }) o) ≡ option_map raw_header o
-routing_place None p = refl
-routing_place (Some r) p = refl
+routing_place o p = search rules
 
 -- destination options behind a routing header stand with it
 final_place : (o : Option RawFields) (p : Option RawFields) → (o ≡ None → p ≡ None) → final_of (option_map (λ r. record { routing = r; final_destination_options = p }) o) ≡ p
-final_place None p k = sym (k refl)
-final_place (Some r) p k = refl
+final_place o p k = search rules
 
 no_final : (c : List ExtHeader) → raw_in routing c ≡ None → raw_in final_destination c ≡ None
-no_final c e = elim (cases_Bool (has_routing c)) [
-  | inl some ↦ let it = some_if (header_in routing c) some in absurd (none-some (raw_fields it.0.bytes) (sym e ∙ ap (option_map (λ h. raw_fields h.bytes)) it.1))
-  | inr none ↦ ap (option_map (λ h. raw_fields h.bytes)) (none_behind c none)
-]
+no_final c e = search (rules, cases_Bool, some_if, none-some, none_behind)
 
 -- the value of a chain holds what its headers say
 pub placed_fields-value_of : (c : List ExtHeader) (p : Place) → placed_fields (value_of c) p ≡ option_map fields_of (header_in p c)
@@ -52,10 +44,7 @@ placed_fields-value_of c final_destination =
 
 -- Structs that hold the same are one.
 inside : {V : Type 0} (made : V → HeaderFields) → ((x y : V) → made x ≡ made y → x ≡ y) → (a b : Option V) → option_map made a ≡ option_map made b → a ≡ b
-inside made same None None e = refl
-inside made same None (Some y) e = absurd (none-some (made y) e)
-inside made same (Some x) None e = absurd (none-some (made x) (sym e))
-inside made same (Some x) (Some y) e = ap Some (same x y (same_Some _ _ e))
+inside made same a b e = search rules
 
 raw_inside : (a b : Option RawFields) → option_map raw_header a ≡ option_map raw_header b → a ≡ b
 raw_inside = inside raw_header (λ x y e. cc)
@@ -64,13 +53,7 @@ abbrev routing_of : RawFields → Option RawFields → Ipv6RoutingExtensions
 routing_of r o = record { routing = r; final_destination_options = o }
 
 routing_inside : (a b : Option Ipv6RoutingExtensions) → option_map (λ r. raw_header r.routing) a ≡ option_map (λ r. raw_header r.routing) b → option_map raw_header (final_of a) ≡ option_map raw_header (final_of b) → a ≡ b
-routing_inside None None e f = refl
-routing_inside None (Some y) e f = absurd (none-some (raw_header y.routing) e)
-routing_inside (Some x) None e f = absurd (none-some (raw_header x.routing) (sym e))
-routing_inside (Some x) (Some y) e f =
-    let same : raw_header x.routing ≡ raw_header y.routing = same_Some _ _ e in
-    let is : x.routing ≡ y.routing = cc in
-    ap Some (ap (λ r. routing_of r x.final_destination_options) is ∙ ap (routing_of y.routing) (raw_inside x.final_destination_options y.final_destination_options f))
+routing_inside a b e f = search rules
 
 pub placed_fields_one : (v w : Ipv6Extensions) → ((p : Place) → placed_fields v p ≡ placed_fields w p) → v ≡ w
 placed_fields_one v w e =
@@ -84,8 +67,7 @@ placed_fields_one v w e =
 
 -- The sum over the places.
 sum_of : {V : Type 0} (made : V → HeaderFields) (o : Option V) → option_map_or fields_len (option_map made o) 0 ≡ option_map_or (λ x. fields_len (made x)) o 0
-sum_of made None = refl
-sum_of made (Some x) = refl
+sum_of made o = search rules
 
 pub exts_sum : (v : Ipv6Extensions) → placed_len (placed_fields v) ≡ exts_len v
 exts_sum v = omega (arith, sum_of raw_header v.hop_by_hop_options, sum_of raw_header v.destination_options, sum_of (λ r. raw_header r.routing) v.routing, sum_of fragment_header v.fragment, sum_of auth_header v.auth, sum_of raw_header (final_of v.routing))
@@ -93,8 +75,7 @@ exts_sum v = omega (arith, sum_of raw_header v.hop_by_hop_options, sum_of raw_he
 -- Destination options stand in the final place only behind a routing header, so a struct can be written where each
 -- of its headers can.
 pub nested : (o : Option Ipv6RoutingExtensions) → is_some (option_map raw_header (final_of o)) ≡ true → is_some (option_map (λ r. raw_header r.routing) o) ≡ true
-nested None e = e
-nested (Some r) e = refl
+nested o e = search rules
 
 abbrev CanBe : ℕ → Option HeaderFields → Type 0
 CanBe n o = ForSome o (λ x. (h : ExtHeader) × IsEncoded n x h)

@@ -1,5 +1,5 @@
 -- Headers that stand in their places.
-use Rattle.std.proofs.Common.{◌≡◌, ℕ, List, refl, ap, sym, ◌∙◌, Bool, true, false}
+use Rattle.std.proofs.Common.{◌≡◌, ℕ, List, refl, ap, sym, ◌∙◌, Bool, true, false, rules}
 use Rattle.std.specs.Prelude.{◌==◌, ◌&&◌, not, Option, Some, None, is_some, IfSome, if◌then◌else◌}
 use Rattle.std.specs.Option.{option_map, option_map_or}
 use Rattle.std.proofs.lemmas.Bool.{eqb-true}
@@ -16,8 +16,7 @@ use Rattle.ip_ext_slices.specs.declared.ipv6_ext_slice.Ipv6ExtensionSlice.{Ipv6E
 use Rattle.ip_ext_chains.specs.declared.places.Places.{Places}
 
 pub mapped_if : {A B : Type 0} (f : A → B) (b : Bool) (x : A) (o : Option A) → option_map f (if b then Some x else o) ≡ (if b then Some (f x) else option_map f o)
-mapped_if f true x o = refl
-mapped_if f false x o = refl
+mapped_if f b x o = search rules
 
 pub in_place_number : (p : Place) (c : List ExtHeader) (h : ExtHeader) → header_in p c ≡ Some h → h.number ≡ number_in p
 in_place_number p c h e = eqb-true h.number (number_in p) (find_passes (is_of p) (side_of p c) h e)
@@ -34,23 +33,20 @@ module _ (c : List ExtHeader) (v : Places Ipv6ExtensionSlice) (k : ArePlaced c v
   none_same p e = sym (k p) ∙ ap (option_map header_of) e
 
   filled_alike : (o : Option Place) → option_map_or (λ p. is_some (at p v)) o false ≡ option_map_or (λ p. is_some (header_in p c)) o false
-  filled_alike (Some p) = filled_same p
-  filled_alike None = refl
+  filled_alike o = search rules
 
   pub taken_same : (m : ℕ) → is_taken_in v m ≡ is_taken m c
   taken_same m = ap (λ b. not (m == 0) && b) (ap (λ o. option_map_or (λ p. is_some (at p v)) o false) (place_same m) ∙ filled_alike (place_of m (has_routing c)))
 
   of_number : (p : Place) (o : Option Ipv6ExtensionSlice) → option_map header_of o ≡ header_in p c → IfSome o (λ h. (header_of h).number ≡ number_in p)
-  of_number p (Some h) e = in_place_number p c (header_of h) (sym e)
-  of_number p None e = tt
+  of_number p o e = search (rules, in_place_number)
 
   pub placed_numbers : AreOfNumber v
   placed_numbers p = of_number p (at p v) (k p)
 
   -- what the places hold is the value of the chain
   map_map : {A : Type 0} (f : ExtHeader → A) (o : Option Ipv6ExtensionSlice) → option_map (λ h. f (header_of h)) o ≡ option_map f (option_map header_of o)
-  map_map f (Some h) = refl
-  map_map f None = refl
+  map_map f o = search rules
 
   same_at : {A : Type 0} (f : ExtHeader → A) (p : Place) → option_map (λ h. f (header_of h)) (at p v) ≡ option_map f (header_in p c)
   same_at f p = map_map f (at p v) ∙ ap (option_map f) (k p)

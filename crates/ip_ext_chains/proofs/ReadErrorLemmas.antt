@@ -1,5 +1,6 @@
 -- What is refused of a chain that is read is what the parse tells.
-use Rattle.std.proofs.Common.{◌≡◌, ℕ, ◌<◌, List, [], ◌∷◌, ◌++◌, length, refl, ap, sym, ◌∙◌, subst, inl, inr, Bool, true, false, arith, length-append}
+use Rattle.std.proofs.lemmas.Grind.{common_steps}
+use Rattle.std.proofs.Common.{◌≡◌, ℕ, ◌<◌, List, [], ◌∷◌, ◌++◌, length, refl, ap, sym, ◌∙◌, subst, inl, inr, Bool, true, false, arith, length-append, rules}
 use Rattle.std.specs.Prelude.{Option, Some, IsTrue}
 use Rattle.std.specs.Option.{option_map}
 use Rattle.std.specs.Io.KnownBytes.{Consumes}
@@ -35,9 +36,7 @@ use Rattle.ip_ext_chains.proofs.ReadingLemmas.{never_empty}
 
 -- what holds of bytes behind some that were taken, also of a steady reader alone
 pub lift_steady : (steady then_steady : Bool) (a b : Option (List ℕ)) (done : List ℕ) (Q : List ℕ → Type 0) → then_steady ≡ steady → Consumes a b done → IfSteady then_steady b (λ y. Q (done ++ y)) → IfSteady steady a Q
-lift_steady false then_steady a b done Q e c f = tt
-lift_steady true false a b done Q e c f = absurd (let differ : false ≡ true = e in cc)
-lift_steady true true a b done Q e c f = lift_some a b done Q c f
+lift_steady steady then_steady a b done Q e c f = search rules
 
 -- Behind the headers of a chain that was refused.
 module _ {R : Type 0} (Taken : R → R → List ExtHeader → Type 0) (Refused : Bool → ℕ → R → R → Type 0) (old new : R) (n : ℕ) (k : IsChainRefused Taken Refused old new n) where
@@ -61,12 +60,7 @@ module _ {T : Type 0} (bytes_left : T → Option (List ℕ)) (is_steady has_fail
   -- a header more was taken
   pub taken_next : (old mid new : T) (c : List ExtHeader) (h : ExtHeader) → AreTaken bytes_left is_steady has_failed old mid c → Consumes (bytes_left mid) (bytes_left new) h.bytes
       → is_steady new ≡ is_steady mid → has_failed new ≡ has_failed mid → AreTaken bytes_left is_steady has_failed old new (c ++ h ∷ [])
-  taken_next old mid new c h t b steady kept = record {
-    bytes = rw (bytes_of-more c h) (Consumes-trans _ _ _ (bytes_of c) h.bytes t.bytes b);
-    steady = steady ∙ t.steady;
-    kept = kept ∙ t.kept;
-    none = λ e. absurd (never_empty c h e);
-  }
+  taken_next old mid new c h t b steady kept = grind (arith, common_steps, bytes_of-more, never_empty)
 
   pub nothing_taken : (old : T) → AreTaken bytes_left is_steady has_failed old old []
   nothing_taken old = record { bytes = Consumes-nil (bytes_left old); steady = refl; kept = refl; none = λ e. refl }
@@ -74,12 +68,7 @@ module _ {T : Type 0} (bytes_left : T → Option (List ℕ)) (is_steady has_fail
   -- a header that is refused where it would be the first, refused where it may be read
   pub refused_as : (e : HeaderReadError) (first : Bool) (m j : ℕ) (old new : T) → IsHeaderRefused bytes_left is_steady has_failed e true j old new → m ≡ j → (m ≡ 0 → IsTrue first)
       → IsHeaderRefused bytes_left is_steady has_failed e first m old new
-  refused_as (read.Io e) first m j old new r is zero_first =
-      let P : ℕ → Type 0 = λ i. IsHeaderRefused bytes_left is_steady has_failed (read.Io e) true i old new in
-      let here : IsHeaderRefused bytes_left is_steady has_failed (read.Io e) true m old new = subst P (sym is) r in
-      (zero_first, here.1)
-  refused_as (read.Content HopByHopNotAtStart) first m j old new r is zero_first = absurd (let differ : true ≡ false = r.1 in cc)
-  refused_as (read.Content (IpAuth e)) first m j old new r is zero_first = (is ∙ r.0, r.1)
+  refused_as e first m j old new r is zero_first = search rules
 
   -- a refused chain has the error of the parse
   pub refused_error : (e : HeaderReadError) (old new : T) (n : ℕ)
@@ -104,63 +93,27 @@ module _ {T : Type 0} (bytes_left : T → Option (List ℕ)) (is_steady has_fail
   -- a header more was taken
   pub layer_next : (old mid new : LimitedReader T) (c : List ExtHeader) (h : ExtHeader) (j : ℕ) → h.number ≡ j → AreTakenInLayers bytes_left is_steady has_failed old mid c → IsTakenInLayer bytes_left (layer_of j) mid new h.bytes
       → is_steady (inner_of new) ≡ is_steady (inner_of mid) → has_failed (inner_of new) ≡ has_failed (inner_of mid) → AreTakenInLayers bytes_left is_steady has_failed old new (c ++ h ∷ [])
-  layer_next old mid new c h j is t taken steady kept =
-      let N : ℕ → Type 0 = λ i. IsTakenInLayer bytes_left (layer_of i) mid new h.bytes in
-      let b : IsTakenInLayer bytes_left (layer_of h.number) mid new h.bytes = subst N (sym is) taken in
-      record {
-        left_over = omega (arith, ap length (bytes_of-more c h), length-append (bytes_of c) h.bytes, t.left_over, b.within, ap left b.limits);
-        limits = b.limits ∙ ap (λ (l : Limits). advanced (length h.bytes) (started (layer_of h.number) l)) t.limits ∙ sym (limits_behind-more c h (limits_of old));
-        bytes = rw (bytes_of-more c h) (Consumes-trans _ _ _ (bytes_of c) h.bytes t.bytes b.reader);
-        window = rw (bytes_of-more c h) (Consumes-trans _ _ _ (bytes_of c) h.bytes t.window b.window);
-        steady = steady ∙ t.steady;
-        kept = kept ∙ t.kept;
-        none = λ e. absurd (never_empty c h e);
-      }
+  layer_next old mid new c h j is t taken steady kept = grind (arith, common_steps, bytes_of-more, length-append, limits_behind-more, never_empty)
 
   -- a refused request of a header of the common layout
   raw_layer : (m : ℕ) → IsRawNumber m → layer_of m ≡ Ipv6ExtHeader
-  raw_layer m is =
-      let P : ℕ → Type 0 = λ i. layer_of i ≡ Ipv6ExtHeader in
-      elim is [ inl e ↦ subst P (sym e) refl | inr is' ↦ elim is' [ inl e ↦ subst P (sym e) refl | inr e ↦ subst P (sym e) refl ] ]
+  raw_layer m is = search rules
 
   pub raw_refused : (e : LimitedReadError) (old new : LimitedReader T) → IsRefusedInLayer bytes_left is_steady has_failed RawAsks Ipv6ExtHeader old new e
       → (m : ℕ) → IsRawNumber m → IsHeaderRefusedInLayer bytes_left is_steady has_failed (of_limited_error e) true m old new
-  raw_refused (limit.Io e) old new r m is =
-      let L : Layer → Type 0 = λ l. IsRefusedWithin bytes_left is_steady has_failed (Asks m) l old new in
-      let asked : Asks m r.done r.count = asks_raw is r.refused.asked in (
-        λ z. refl,
-        subst L (sym (raw_layer m is)) (record { done = r.done; count = r.count; within = r.within; limits = r.limits; refused = record { asked = asked; left = r.refused.left; taken = r.refused.taken; refusal = r.refused.refusal } }),
-      )
-  raw_refused (limit.Len e) old new r m is =
-      let L : Layer → Type 0 = λ l. IsPastLimit bytes_left is_steady has_failed (Asks m) l old new e in (
-        λ z. refl,
-        subst L (sym (raw_layer m is)) (record { done = r.done; count = r.count; asked = asks_raw is r.asked; taken = r.taken; beyond = r.beyond; error = r.error; kept = r.kept }),
-      )
+  raw_refused e old new r m is = search rules
 
   pub no_layer : (old : LimitedReader T) → AreTakenInLayers bytes_left is_steady has_failed old old []
-  no_layer old = record {
-    left_over = omega arith;
-    limits = refl;
-    bytes = Consumes-nil (bytes_left (inner_of old));
-    window = Consumes-nil (window bytes_left old);
-    steady = refl;
-    kept = refl;
-    none = λ e. refl;
-  }
+  no_layer old = search rules
 
   -- a header that is refused where it would be the first, refused where it may be read
   layer_refused_behind : (e : HeaderLimitedReadError) (first : Bool) (m : ℕ) (old new : LimitedReader T) → IsHeaderRefusedInLayer bytes_left is_steady has_failed e true m old new → (m ≡ 0 → IsTrue first)
       → IsHeaderRefusedInLayer bytes_left is_steady has_failed e first m old new
-  layer_refused_behind (limited.Io e) first m old new r zero_first = (zero_first, r.1)
-  layer_refused_behind (limited.Len e) first m old new r zero_first = (zero_first, r.1)
-  layer_refused_behind (limited.Content HopByHopNotAtStart) first m old new r zero_first = absurd (let differ : true ≡ false = r.1 in cc)
-  layer_refused_behind (limited.Content (IpAuth e)) first m old new r zero_first = r
+  layer_refused_behind e first m old new r zero_first = search rules
 
   pub layer_refused_as : (e : HeaderLimitedReadError) (first : Bool) (m j : ℕ) (old new : LimitedReader T) → IsHeaderRefusedInLayer bytes_left is_steady has_failed e true j old new → m ≡ j → (m ≡ 0 → IsTrue first)
       → IsHeaderRefusedInLayer bytes_left is_steady has_failed e first m old new
-  layer_refused_as e first m j old new r is =
-      let P : ℕ → Type 0 = λ i. IsHeaderRefusedInLayer bytes_left is_steady has_failed e true i old new in
-      layer_refused_behind e first m old new (subst P (sym is) r)
+  layer_refused_as e first m j old new r is h8 = search rules
 
   -- a refused chain has the error of the parse of the window
   pub layer_refused_error : (e : HeaderLimitedReadError) (old new : LimitedReader T) (n : ℕ)

@@ -1,5 +1,5 @@
 -- A header that was read stands in its place.
-use Rattle.std.proofs.Common.{◌≡◌, ℕ, List, refl, ap, sym, ◌∙◌, inl, inr}
+use Rattle.std.proofs.Common.{◌≡◌, ℕ, List, refl, ap, sym, ◌∙◌, inl, inr, rules}
 use Rattle.std.specs.Prelude.{Option, Some, Result, Ok, Err, IfOk}
 use Rattle.std.specs.Option.{option_map}
 use Rattle.ip_base.specs.declared.ip_number_impl.IpNumber.{IpNumber}
@@ -12,20 +12,13 @@ use Rattle.ip_ext_chains.specs.declared.ipv6_routing_exts.Ipv6RoutingExtensions.
 
 -- what follows from each answer
 pub of_ok : {A E : Type 0} (r : Result A E) (P Q : A → Type 0) → ((x : A) → P x → Q x) → IfOk r P → IfOk r Q
-of_ok (Ok x) P Q f p = f x p
-of_ok (Err e) P Q f p = tt
+of_ok r P Q f p = search rules
 
 module _ (Taken : List ℕ → Type 0) (v : Ipv6Extensions) {E : Type 0} (r : Result IpNumber E) where
   -- a place of which v is changed has the header where it is what was read
   into : {V : Type 0} (IsOne : List ℕ → Type 0) (fields_of : List ℕ → V) (p : Place) (changed : Option V → Ipv6Extensions) → ((b : List ℕ) → IsOne b → IsHeader (number_in p) b) → ((b : List ℕ) → changed (Some (fields_of b)) ≡ with_header p b v)
       → (o : Option V) → IfOk r (λ m. IsHeaderRead IsOne fields_of Taken m.0 o) → IfOk r (λ m. IsReadInto Taken p m.0 v (changed o))
-  into IsOne fields_of p changed header value o = of_ok r _ _ (λ m k. record {
-    bytes = k.bytes;
-    header = header k.bytes k.header;
-    taken = k.taken;
-    next = k.next;
-    value = ap changed k.value ∙ value k.bytes;
-  })
+  into IsOne fields_of p changed header value o h7 = search rules
 
   pub into_hop_by_hop : (o : Option RawFields) → IfOk r (λ m. IsHeaderRead IsRawHeader raw_fields Taken m.0 o) → IfOk r (λ m. IsReadInto Taken hop_by_hop m.0 v (record v { hop_by_hop_options = o }))
   into_hop_by_hop = into IsRawHeader raw_fields hop_by_hop (λ o. record v { hop_by_hop_options = o }) (λ b. raw (inl refl)) (λ b. refl)
@@ -44,6 +37,4 @@ module _ (Taken : List ℕ → Type 0) (v : Ipv6Extensions) {E : Type 0} (r : Re
 
   pub into_final : (o : Option RawFields) (x : Ipv6RoutingExtensions) → v.routing ≡ Some x → IfOk r (λ m. IsHeaderRead IsRawHeader raw_fields Taken m.0 o)
       → IfOk r (λ m. IsReadInto Taken final_destination m.0 v (record v { routing = Some (record x { final_destination_options = o }) }))
-  into_final o x there =
-      into IsRawHeader raw_fields final_destination (λ p. record v { routing = Some (record x { final_destination_options = p }) }) (λ b. raw (inr (inr refl)))
-      (λ b. ap (λ (q : Option Ipv6RoutingExtensions). record v { routing = option_map {T = Ipv6RoutingExtensions} {U = Ipv6RoutingExtensions} (λ y. record y { final_destination_options = Some (raw_fields b) }) q }) (sym there)) o
+  into_final o x there h3 = search rules

@@ -1,5 +1,6 @@
 -- A chain that is read, header by header, into six places.
-use Rattle.std.proofs.Common.{◌≡◌, ◌≢◌, ℕ, ◌+◌, ◌<◌, List, [], ◌∷◌, ◌++◌, length, drop, take, refl, ap, sym, ◌∙◌, arith, inl, inr, ◌⊎◌, subst, Bool, true, false}
+use Rattle.std.proofs.lemmas.Grind.{common_steps}
+use Rattle.std.proofs.Common.{◌≡◌, ◌≢◌, ℕ, ◌+◌, ◌<◌, List, [], ◌∷◌, ◌++◌, length, drop, take, refl, ap, sym, ◌∙◌, arith, inl, inr, ◌⊎◌, subst, Bool, true, false, rules}
 use Rattle.std.specs.Prelude.{◌==◌, ◌&&◌, not, Option, Some, None, is_some, if◌then◌else◌}
 use Rattle.std.specs.Option.{option_map, option_map_or}
 use Rattle.std.proofs.lemmas.Bool.{cases_Bool, ne_eqb}
@@ -48,29 +49,19 @@ module _ (c : List ExtHeader) (v : Ipv6Extensions) (e : v ≡ value_of c) where
 
 -- Destination options behind a routing header.
 no_final : (o : Option Ipv6RoutingExtensions) → is_some (option_map (λ r. raw_header r.routing) o) ≡ false → option_map raw_header (final_of o) ≡ None
-no_final None e = refl
-no_final (Some r) e = absurd (let differ : true ≡ false = e in cc)
+no_final o e = search rules
 
 module _ (b : List ℕ) where
   same_routing : (o : Option Ipv6RoutingExtensions) → option_map (λ r. raw_header r.routing) (option_map {T = Ipv6RoutingExtensions} {U = Ipv6RoutingExtensions} (λ r. record r { final_destination_options = Some (raw_fields b) }) o) ≡ option_map (λ r. raw_header r.routing) o
-  same_routing None = refl
-  same_routing (Some r) = refl
+  same_routing o = search rules
 
   own_final : (o : Option Ipv6RoutingExtensions) → is_some o ≡ true → option_map raw_header (final_of (option_map {T = Ipv6RoutingExtensions} {U = Ipv6RoutingExtensions} (λ r. record r { final_destination_options = Some (raw_fields b) }) o)) ≡ Some (raw_header (raw_fields b))
-  own_final None e = absurd (let differ : false ≡ true = e in cc)
-  own_final (Some r) e = refl
+  own_final o e = search rules
 
 -- One header more.
 put_held : (p q : Place) (b : List ℕ) (v : Ipv6Extensions) → is_some (placed_fields v p) ≡ false → (p ≡ final_destination → is_some v.routing ≡ true)
     → placed_fields (with_header p b v) q ≡ (if index p == index q then Some (fields_of (record { number = number_in p; bytes = b })) else placed_fields v q)
-put_held hop_by_hop hop_by_hop b v free nested = refl
-put_held destination destination b v free nested = refl
-put_held routing final_destination b v free nested = sym (no_final v.routing free)
-put_held fragment fragment b v free nested = refl
-put_held authentication authentication b v free nested = refl
-put_held final_destination routing b v free nested = same_routing b v.routing
-put_held final_destination final_destination b v free nested = own_final b v.routing (nested refl)
-put_held p q b v free nested = refl
+put_held p q b v free nested = search rules
 
 place_or : (o : Option Place) → (o ≡ None) ⊎ ((p : Place) × (o ≡ Some p))
 place_or None = inl refl
@@ -78,8 +69,7 @@ place_or (Some p) = inr (p, refl)
 
 -- c with one header more isn't empty
 pub never_empty : (c : List ExtHeader) (h : ExtHeader) → c ++ h ∷ [] ≡ [] → ⊥
-never_empty [] h e = cc
-never_empty (g ∷ c) h e = cc
+never_empty c h e = grind (arith, common_steps)
 
 module _ (n : ℕ) (c : List ExtHeader) (m : ℕ) (v : Ipv6Extensions) (first : Bool) (k : IsReading n c m v first) where
   -- a number that has no place, and isn't 0, ends the chain
@@ -112,14 +102,10 @@ module _ (n : ℕ) (c : List ExtHeader) (m : ℕ) (v : Ipv6Extensions) (first : 
 
     -- its place isn't filled
     pub not_taken : is_taken (leads_to n c) c ≡ false
-    not_taken =
-        ap (λ (j : ℕ). is_taken j c) (sym k.number) ∙ ap (λ (o : Option Place). not (m == 0) && option_map_or (λ (q : Place). is_some (header_in q c)) o false) own
-        ∙ ap (λ (b : Bool). not (m == 0) && b) free_in ∙ and-false (not (m == 0))
+    not_taken = search (rules, own, free_in, and-false)
 
     pub nested : p ≡ final_destination → is_some v.routing ≡ true
-    nested e =
-        let is : m ≡ 60 = is_number_in ∙ ap number_in e in
-        final_behind (is_some v.routing) (ap (λ (j : ℕ). place_of j (is_some v.routing)) (sym is) ∙ next.own ∙ ap (λ (q : Place). Some q) e)
+    nested e = search rules
 
     pub reading_next : (Taken : List ℕ → Type 0) (j : ℕ) (w : Ipv6Extensions) (r : IsReadInto Taken p j v w) → IsReading n (c ++ record { number = m; bytes = r.bytes } ∷ []) j w false
     reading_next Taken j w r =
@@ -161,27 +147,17 @@ one_empty : (o : Option HeaderFields) → is_some o ≡ false → count_empty o 
 one_empty o e = ap count_empty (none_if o e)
 
 fewer_at : (p : Place) (b : List ℕ) (v : Ipv6Extensions) → is_some (placed_fields v p) ≡ false → (p ≡ final_destination → is_some v.routing ≡ true) → free_places (with_header p b v) < free_places v
-fewer_at routing b v free nested = omega (arith, one_empty (placed_fields v routing) free, ap count_empty (no_final v.routing free))
-fewer_at final_destination b v free nested =
-    omega (
-      arith,
-      one_empty (placed_fields v final_destination) free,
-      ap count_empty (put_held final_destination final_destination b v free nested),
-      ap count_empty (put_held final_destination routing b v free nested),
-    )
-fewer_at p b v free nested = omega (arith, one_empty (placed_fields v p) free)
+fewer_at p b v free nested = search rules
 
 -- each header that is read fills one
 pub fewer : (Taken : List ℕ → Type 0) (first : Bool) (m : ℕ) (p : Place) (j : ℕ) (v w : Ipv6Extensions) → IsNextPlace first m p v → (p ≡ final_destination → is_some v.routing ≡ true) → IsReadInto Taken p j v w → free_places w < free_places v
 fewer Taken first m p j v w next nested r = rw r.value (fewer_at p r.bytes v next.free nested)
 
 empty_is : (c : List ExtHeader) → is_empty c ≡ true → c ≡ []
-empty_is [] e = refl
-empty_is (h ∷ c) e = absurd (let differ : false ≡ true = e in cc)
+empty_is c e = search rules
 
 none_from : (n : ℕ) (c : List ExtHeader) → IsChain n c → (IsExtensionNumber n → ⊥) → c ≡ []
-none_from n [] k other = refl
-none_from n (h ∷ c) k other = let X : ℕ → Type 0 = IsExtensionNumber in absurd (other (subst X k.links.0 (header_number h.number h.bytes k.headers.0)))
+none_from n c k other = search rules
 
 module _ (n : ℕ) (c : List ExtHeader) (m : ℕ) (v : Ipv6Extensions) (first : Bool) (k : IsReading n c m v first) where
   -- at number 0 a place is missing only behind a header
@@ -204,7 +180,4 @@ module _ (n : ℕ) (c : List ExtHeader) (m : ℕ) (v : Ipv6Extensions) (first : 
 
   -- so where a header is named, the first number names one
   pub named : (p : Place) → IsNextPlace first m p v → (IsExtensionNumber n → ⊥) → ⊥
-  named p next other =
-      let X : ℕ → Type 0 = IsExtensionNumber in
-      let starts : m ≡ n = k.number ∙ ap (leads_to n) (nothing_read other) in
-      other (subst X (sym (is_number_in n c m v first k p next) ∙ starts) (is_extension p))
+  named p next other = search rules

@@ -1,5 +1,5 @@
 -- Runs that are written one after the other: what was written and what the others spell is the whole chain.
-use Rattle.std.proofs.Common.{◌≡◌, ℕ, ◌+◌, ◌≤◌, List, [], ◌∷◌, ◌++◌, length, map, ap, sym, ◌∙◌, arith, subst, append_assoc}
+use Rattle.std.proofs.Common.{◌≡◌, ℕ, ◌+◌, ◌≤◌, List, [], ◌∷◌, ◌++◌, length, map, ap, sym, ◌∙◌, arith, subst, append_assoc, rules}
 use Rattle.std.specs.Prelude.{Some}
 use Rattle.std.proofs.lemmas.List.Concat.{flat_map-append}
 use Rattle.ip_spec.specs.Chain.{ExtHeader, bytes_of}
@@ -23,13 +23,7 @@ pub record IsRewriting (n : ℕ) (s : List ℕ) (r : Ipv6ExtensionsRuns) (m coun
 
 pub rewriting_begins : (n : ℕ) (s : List ℕ) (r : Ipv6ExtensionsRuns) (m : ℕ) (out : List ℕ) → start r ≡ n → input r ≡ s → runs_left r ≡ runs_of n s → AreSpellings n (values_left r) (map cleared_chain (runs_left r))
     → ((ds : List (List ExtHeader)) → AreSpellings n (values_left r) ds → bytes_of (joined ds) ≡ bytes_of (cleared_chain (longest_chain n s))) → AreSpellings m (values_left r) (map cleared_chain (runs_left r)) → out ≡ [] → IsRewriting n s r m 0 out
-rewriting_begins n s r m out first bytes runs all written spelled none = record {
-  first = first;
-  bytes = bytes;
-  counted = omega (arith, ap length runs);
-  spelled = spelled;
-  whole = ap (λ l. l ++ bytes_of (joined (map cleared_chain (runs_left r)))) none ∙ written (map cleared_chain (runs_left r)) all;
-}
+rewriting_begins n s r m out first bytes runs all written spelled none = search rules
 
 -- the next run is given
 module _ (n : ℕ) (s : List ℕ) (r q : Ipv6ExtensionsRuns) (m count : ℕ) (out : List ℕ) (x : Ipv6Extensions) (k : IsRewriting n s r m count out) (given : GivesRun r (Some x) q) where
@@ -43,20 +37,7 @@ module _ (n : ℕ) (s : List ℕ) (r q : Ipv6ExtensionsRuns) (m count : ℕ) (ou
   rewriting_least = omega (arith, k.counted, ap length passes.1)
 
   pub rewriting_spelled : IsSpelling (placed_fields x) m (cleared_chain run)
-  rewriting_spelled =
-      let V : List Ipv6Extensions → Type 0 = λ l. AreSpellings m l (map cleared_chain (runs_left r)) in
-      let R : List (List ExtHeader) → Type 0 = λ l. AreSpellings m (x ∷ values_left q) (map cleared_chain l) in
-      (subst R passes.1 (subst V given.0 k.spelled)).0
+  rewriting_spelled = search rules
 
   pub rewriting_goes : (j : ℕ) (more : List ℕ) → AreSpellings j (values_left q) (map cleared_chain (runs_left q)) → more ≡ out ++ bytes_of (cleared_chain run) → IsRewriting n s q j (count + 1) more
-  rewriting_goes j more spelled written = record {
-    first = given.1 ∙ k.first;
-    bytes = given.2 ∙ k.bytes;
-    counted = omega (arith, k.counted, ap length passes.1);
-    spelled = spelled;
-    whole =
-        ap (λ l. l ++ bytes_of (joined (map cleared_chain (runs_left q)))) written
-        ∙ append_assoc out (bytes_of (cleared_chain run)) (bytes_of (joined (map cleared_chain (runs_left q))))
-        ∙ ap (λ l. out ++ l) (sym (flat_map-append (λ (h : ExtHeader). h.bytes) (cleared_chain run) (joined (map cleared_chain (runs_left q)))) ∙ ap (λ l. bytes_of (joined (map cleared_chain l))) (sym passes.1))
-        ∙ k.whole;
-  }
+  rewriting_goes j more spelled written = search (rules, append_assoc, flat_map-append)

@@ -1,5 +1,6 @@
 -- The headers of a chain that begins bytes have bytes, and so have those of its parts.
-use Rattle.std.proofs.Common.{ℕ, ◌<◌, List, ◌++◌, length, subst}
+use Rattle.std.proofs.lemmas.Grind.{common_steps}
+use Rattle.std.proofs.Common.{ℕ, ◌<◌, List, ◌++◌, length, subst, arith}
 use Rattle.std.proofs.Math.Seq.{take-append_seam, drop-append_seam}
 use Rattle.std.proofs.lemmas.List.Concat.{flat_map-append}
 use Rattle.std.proofs.lemmas.List.Elements.{All-take, All-drop}
@@ -20,6 +21,4 @@ module _ (c d : List ExtHeader) (b : AreBytes (bytes_of (c ++ d))) where
   later_bytes = subst AreBytes (drop-append_seam (bytes_of c) (bytes_of d)) (All-drop (λ x. x < 256) (length (bytes_of c)) (bytes_of c ++ bytes_of d) both_bytes)
 
 pub chain_bytes : (n : ℕ) (s : List ℕ) → AreBytes s → AreBytes (bytes_of (longest_chain n s))
-chain_bytes n s bytes =
-    let whole = prefix-append (bytes_of (longest_chain n s)) s (longest_chain-longest n s).has.prefix in
-    subst AreBytes (take-append_seam (bytes_of (longest_chain n s)) _) (All-take (λ x. x < 256) (length (bytes_of (longest_chain n s))) _ (subst AreBytes whole bytes))
+chain_bytes n s bytes = grind (arith, common_steps, prefix-append, longest_chain-longest, take-append_seam)

@@ -1,5 +1,6 @@
 -- Headers that are put into their places, and where a run ends.
-use Rattle.std.proofs.Common.{◌≡◌, ◌≢◌, ℕ, ◌*◌, ◌≤◌, List, [], ◌∷◌, ◌++◌, length, map, nat_eq, arith, refl, ap, sym, ◌∙◌, Bool, true, false, subst, append_assoc}
+use Rattle.std.proofs.lemmas.Grind.{common_steps}
+use Rattle.std.proofs.Common.{◌≡◌, ◌≢◌, ℕ, ◌*◌, ◌≤◌, List, [], ◌∷◌, ◌++◌, length, map, nat_eq, arith, refl, ap, sym, ◌∙◌, Bool, true, false, subst, append_assoc, rules}
 use Rattle.std.specs.Prelude.{◌==◌, ◌↔◌, Some, None, is_some, if◌then◌else◌}
 use Rattle.std.specs.Option.{option_map}
 use Rattle.std.proofs.lemmas.Bool.{eqb-true}
@@ -70,10 +71,7 @@ module _ (c : List ExtHeader) (m : ℕ) (h : Ipv6ExtensionSlice) (left : List Ex
       }
 
   pub placing_next : (all : List ExtHeader) → IsChain m all → IsPlacing c all v → all ≡ header_of h ∷ left → IsFreePlace m p v → IsPut p h v w → IsPlacing c left w
-  placing_next all chain k e =
-      let C : List ExtHeader → Type 0 = IsChain m in
-      let K : List ExtHeader → Type 0 = λ l. IsPlacing c l v in
-      placing_more (subst C e chain) (subst K e k)
+  placing_next all chain k e h4 h5 = search (rules, placing_more)
 
 -- The run ends where no header is left, and where the place of the next one is filled.
 pub run_all : (c left after : List ExtHeader) (v : Places Ipv6ExtensionSlice) → IsPlacing c left v → (left ≡ []) × (after ≡ []) → IsRun c v after
@@ -90,17 +88,14 @@ run_numbers c d v r = placed_numbers r.run v r.placed
 
 -- whether bytes are left tells whether headers are
 no_headers : (c : List ExtHeader) (s : List ℕ) → 8 * length c ≤ length (bytes_of c) → bytes_of c ≡ s → nat_eq (length s) 0 ≡ true → c ≡ []
-no_headers [] s l e z = refl
-no_headers (h ∷ c) s l e z = absurd (omega (arith, l, ap length e, eqb-true (length s) 0 z))
+no_headers c s l e z = grind (arith, common_steps, eqb-true)
 
 module _ (n : ℕ) (s : List ℕ) (whole : bytes_of (longest_chain n s) ≡ s) where
   pub none_left : nat_eq (length s) 0 ≡ true → longest_chain n s ≡ []
   none_left = no_headers (longest_chain n s) s (longest_chain-least n s) whole
 
   pub some_left : nat_eq (length s) 0 ≡ false → longest_chain n s ≢ []
-  some_left z e =
-      let none : nat_eq 0 0 ≡ false = ap (λ (b : List ℕ). nat_eq (length b) 0) (ap bytes_of (sym e) ∙ whole) ∙ z in
-      let differ : true ≡ false = none in cc
+  some_left z e = search rules
 
 -- The step of the iterator: the value of the places is that of the first run, and those of the others follow.
 module _ (m : ℕ) (c d : List ExtHeader) (v : Places Ipv6ExtensionSlice) (r : IsRun c v d) where
@@ -120,9 +115,7 @@ module _ (m : ℕ) (c d : List ExtHeader) (v : Places Ipv6ExtensionSlice) (r : I
 
   pub run_next : (before done : Bool) (x : Ipv6Extensions) → before ≡ false → x ≡ value_at v → (done ≡ true → (d ≡ []) × (is_taken_in v m ≡ false)) → (done ≡ false → d ≡ [] → is_taken_in v m ≡ true)
       → map value_of (if before then [] else runs_from m c) ≡ x ∷ map value_of (if done then [] else runs_from m d)
-  run_next before done x some is ends on =
-      ap (map value_of) (run_passes before done some ends on)
-      ∙ ap (λ x. x ∷ map value_of (if done then [] else runs_from m d)) (sym (is ∙ value_placed r.run v r.placed))
+  run_next before done x some is ends on = search (rules, run_passes, value_placed)
 
 -- what an iterator over runs yields
 ended : (r s : Ipv6ExtensionsRuns) → GivesRun r None s → length (values_left r) ≡ 0

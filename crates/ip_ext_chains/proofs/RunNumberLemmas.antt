@@ -1,5 +1,5 @@
 -- The number before the runs to come: it begins the headers that are left, and each run leads to the next one.
-use Rattle.std.proofs.Common.{◌≡◌, ◌≢◌, ℕ, List, [], ◌∷◌, ◌++◌, map, refl, ap, sym, ◌∙◌, Bool, true, false, subst}
+use Rattle.std.proofs.Common.{◌≡◌, ◌≢◌, ℕ, List, [], ◌∷◌, ◌++◌, map, refl, ap, sym, ◌∙◌, Bool, true, false, subst, rules}
 use Rattle.std.specs.Prelude.{if◌then◌else◌}
 use Rattle.ip_spec.specs.Encoding.{AreBytes}
 use Rattle.ip_spec.specs.Chain.{ExtHeader, leads_to, bytes_of, IsChain}
@@ -15,8 +15,7 @@ use Rattle.ip_ext_chains.proofs.RunBytesLemmas.{later_bytes}
 
 -- of a chain from n that leads to m
 pub number_before-chain : (n m : ℕ) (c : List ExtHeader) → IsChain n c → m ≡ leads_to n c → number_before m c ≡ n
-number_before-chain n m [] k e = e
-number_before-chain n m (h ∷ c) k e = k.links.0
+number_before-chain n m c k e = search rules
 
 -- where it leads doesn't depend on where it begins, but for the empty chain
 pub leads_alike : (n m : ℕ) (c : List ExtHeader) → m ≡ leads_to n c → m ≡ leads_to m c
@@ -25,21 +24,17 @@ leads_alike n m (h ∷ c) e = e
 
 -- the same from the number before it
 pub leads_before : (m : ℕ) (c : List ExtHeader) → m ≡ leads_to m c → m ≡ leads_to (number_before m c) c
-leads_before m [] e = refl
-leads_before m (h ∷ c) e = e
+leads_before m c e = search rules
 
 pub chain_before : (n m : ℕ) (c : List ExtHeader) → IsChain n c → IsChain (number_before m c) c
-chain_before n m [] k = record { headers = tt; links = tt; zero_only_first = tt }
-chain_before n m (h ∷ c) k = let C : ℕ → Type 0 = λ j. IsChain j (h ∷ c) in subst C (sym k.links.0) k
+chain_before n m c k = search rules
 
 pub number_before-some : (n m : ℕ) (c : List ExtHeader) → IsChain n c → c ≢ [] → n ≡ number_before m c
-number_before-some n m [] k some = absurd (some refl)
-number_before-some n m (h ∷ c) k some = sym k.links.0
+number_before-some n m c k some = search rules
 
 -- where no run is left, no header is, and the number is that to which the chain leads
 pub number_before-end : (m : ℕ) (c : List ExtHeader) (done : Bool) → (done ≡ true → c ≡ []) → map value_of (if done then [] else runs_from m c) ≡ [] → number_before m c ≡ m
-number_before-end m c true last e = ap (number_before m) (last refl)
-number_before-end m c false last e = absurd (values_left-some false m c refl e)
+number_before-end m c done last e = search (rules, values_left-some)
 
 -- The headers c, which lead to m, are a run and those that are left, d.
 module _ (n m : ℕ) (c d : List ExtHeader) (v : Places Ipv6ExtensionSlice) (chain : IsChain n c) (ends : m ≡ leads_to m c) (r : IsRun c v d) where

@@ -1,5 +1,5 @@
 -- The runs of the longest chain, and those that are still to come.
-use Rattle.std.proofs.Common.{◌≡◌, ◌≢◌, ℕ, ◌+◌, ◌/◌, ◌≤◌, List, [], ◌∷◌, ◌++◌, length, map, refl, ap, sym, ◌∙◌, arith, subst, Bool, true, false}
+use Rattle.std.proofs.Common.{◌≡◌, ◌≢◌, ℕ, ◌+◌, ◌/◌, ◌≤◌, List, [], ◌∷◌, ◌++◌, length, map, refl, ap, sym, ◌∙◌, arith, subst, Bool, true, false, rules}
 use Rattle.std.specs.Prelude.{if◌then◌else◌}
 use Rattle.std.specs.List.{AllByRecursion}
 use Rattle.std.proofs.lemmas.List.{append-nil}
@@ -56,9 +56,7 @@ module _ (n : ℕ) (s : List ℕ) where
       }
 
   pub runs_from-are : (m : ℕ) (c : List ExtHeader) → m ≡ leads_to n (longest_chain n s) → c ≡ longest_chain n s → AreRunsOf n s (runs_from m c)
-  runs_from-are m c em ec =
-      let A : List (List ExtHeader) → Type 0 = AreRunsOf n s in
-      subst A (sym (ap (λ j. runs_from j c) em ∙ ap (runs_from (leads_to n (longest_chain n s))) ec)) runs_of-are
+  runs_from-are m c em ec = search (rules, runs_of-are)
 
 -- The first of them is what is kept, and the others are those of the rest, unless it was the last.
 pub runs_from-next : (m : ℕ) (c p : List ExtHeader) (k : KeepsBeginning FitsPlaces c p) (done : Bool) → (done ≡ true → (k.rest ≡ []) × (IsTaken m p → ⊥)) → (done ≡ false → k.rest ≡ [] → IsTaken m p) → runs_from m c ≡ p ∷ (if done then [] else runs_from m k.rest)

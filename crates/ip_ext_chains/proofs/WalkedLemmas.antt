@@ -1,5 +1,6 @@
 -- What a walk through a struct of six places has reached and written.
-use Rattle.std.proofs.Common.{◌≡◌, ℕ, ◌+◌, ◌<◌, ◌≤◌, List, [], ◌∷◌, ◌++◌, length, ap, sym, ◌∙◌, arith, subst, append_assoc, Bool, true, false}
+use Rattle.std.proofs.lemmas.Grind.{common_steps}
+use Rattle.std.proofs.Common.{◌≡◌, ℕ, ◌+◌, ◌<◌, ◌≤◌, List, [], ◌∷◌, ◌++◌, length, ap, sym, ◌∙◌, arith, subst, append_assoc, Bool, true, false, rules}
 use Rattle.std.specs.Prelude.{Option, Some, None, IfSome, IfNone}
 use Rattle.std.proofs.lemmas.List.{append-nil}
 use Rattle.ip_spec.specs.Encoding.{AppendsOne}
@@ -25,11 +26,7 @@ pub record Walked (v : PlacedFields) (f : ℕ) (w : Walk) : Type 0 where
   pub walking : Walking v f reached (left_in w) w.number.0 w.first w.behind_routing
 
 walking_none : (v : PlacedFields) (f : ℕ) (w : Walk) → ((p : Place) → left_in w p ≡ v p) → w.number.0 ≡ f → w.first ≡ true → w.behind_routing ≡ false → Walking v f [] (left_in w) w.number.0 w.first w.behind_routing
-walking_none v f w left number first behind =
-    let B : Bool → Type 0 = λ b. Walking v f [] (left_in w) w.number.0 w.first b in
-    let A : Bool → Type 0 = λ b. Walking v f [] (left_in w) w.number.0 b false in
-    let N : ℕ → Type 0 = λ n. Walking v f [] (left_in w) n true false in
-    subst B (sym behind) (subst A (sym first) (subst N (sym number) (walk_begins v f (left_in w) left)))
+walking_none v f w left number first behind = search rules
 
 pub walked_none : (v : PlacedFields) (f : ℕ) (w : Walk) → ((p : Place) → left_in w p ≡ v p) → w.number.0 ≡ f → w.first ≡ true → w.behind_routing ≡ false → Walked v f w
 walked_none v f w left number first behind = record { reached = []; walking = walking_none v f w left number first behind }
@@ -58,13 +55,11 @@ module _ (v : PlacedFields) (f : ℕ) (e : IsEncodable v) (old new : Walk) (x : 
 -- a place was asked: its header was reached, or the walk is as it was
 pub walked_in : (v : PlacedFields) (f : ℕ) → IsEncodable v → (old new : Walk) (r : Option HeaderRef) → IfSome r (λ h. IsStep old new (fields_of_ref h)) → IfNone r (new ≡ old)
     → Walked v f old → Walked v f new
-walked_in v f e old new None some none k = subst (Walked v f) (sym none) k
-walked_in v f e old new (Some h) some none k = walked_more v f e old new (fields_of_ref h) some k.reached k.walking
+walked_in v f e old new r some none k = grind (arith, common_steps, walked_more)
 
 -- where none goes on, the walk has the answer of what is left
 pub walked_answer : (v : PlacedFields) (f : ℕ) (old new : Walk) (a : WalkAnswer) → Walked v f old → IsStop old new → a ≡ answer_at new.number.0 (left_in new) → IsWalkAnswer v f a
-walked_answer v f old new a k s e =
-    walk_answers v f k.reached (left_in old) old.number.0 old.first old.behind_routing k.walking (left_in new) new.number.0 a s.none s.left s.number e
+walked_answer v f old new a k s e = search (rules, walk_answers)
 
 -- The headers that were reached were appended to `before`, and there is room for those that are left.
 pub record Written (v : PlacedFields) (f : ℕ) (w : Walk) (before now : List ℕ) (room : ℕ) : Type 0 where
@@ -100,11 +95,7 @@ written_more v f e old new x s before now more room larger k a fits =
 pub written_in : (v : PlacedFields) (f : ℕ) → IsEncodable v → (old new : Walk) (before now more : List ℕ) (room larger : ℕ) (r : Option HeaderRef)
     → IfSome r (λ h. IsStep old new (fields_of_ref h)) → IfSome r (λ h. AppendsOne (IsEncodingOf (fields_of_ref h)) now more) → IfNone r (new ≡ old) → IfNone r (more ≡ now)
     → length more + placed_len (left_in new) ≤ larger → Written v f old before now room → Written v f new before more larger
-written_in v f e old new before now more room larger None some appended none same fits k =
-    let W : Walk → Type 0 = λ w. Walking v f k.reached (left_in w) w.number.0 w.first w.behind_routing in
-    record { reached = k.reached; walking = subst W (sym none) k.walking; appended = same ∙ k.appended; fits = fits }
-written_in v f e old new before now more room larger (Some h) some appended none same fits k =
-    written_more v f e old new (fields_of_ref h) some before now more room larger k appended fits
+written_in v f e old new before now more room larger r some appended none same fits k = search (rules, written_more)
 
 -- nothing is taken out of what a walk begins with
 pub left_len : (v : PlacedFields) (w : Walk) → ((p : Place) → left_in w p ≡ v p) → placed_len (left_in w) ≡ placed_len v

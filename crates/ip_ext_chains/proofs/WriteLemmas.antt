@@ -1,5 +1,5 @@
 -- What is read as a struct of six places, and what is written of one.
-use Rattle.std.proofs.Common.{◌≡◌, ℕ, ◌+◌, ◌<◌, List, ◌++◌, length, ap, sym, ◌∙◌, arith, subst}
+use Rattle.std.proofs.Common.{◌≡◌, ℕ, ◌+◌, ◌<◌, List, ◌++◌, length, ap, sym, ◌∙◌, arith, subst, rules}
 use Rattle.std.specs.Prelude.{Err, None, ◌↔◌}
 use Rattle.std.proofs.lemmas.List.{append_cancel_left, length-append}
 use Rattle.std.proofs.lemmas.List.Elements.{All-take}
@@ -28,8 +28,7 @@ use Rattle.ip_ext_chains.proofs.PlacedFieldsLemmas.{placed_fields-value_of, plac
 
 -- a fault doesn't lead on
 pub no_fault : (e : ExtsWalkError) (m : ℕ) → walk_answer (Err e) ≡ leads m → ⊥
-no_fault HopByHopNotAtStart m k = let no : hop_by_hop_not_at_start ≡ leads m = k in cc
-no_fault (ExtNotReferenced n) m k = let no : not_referenced n.0 ≡ leads m = k in cc
+no_fault e m k = search rules
 
 module _ (v : Ipv6Extensions) (n : ℕ) where
   -- a chain has the value v where its headers say what v holds

@@ -1,5 +1,6 @@
 -- The longest chain of IPv4 extension headers: one header, or none.
-use Rattle.std.proofs.Common.{◌≡◌, ℕ, List, [], ◌∷◌, length, take, drop, refl, sym, ◌∙◌, subst, arith}
+use Rattle.std.proofs.lemmas.Grind.{common_steps}
+use Rattle.std.proofs.Common.{◌≡◌, ℕ, List, [], ◌∷◌, length, take, drop, refl, sym, ◌∙◌, subst, arith, rules}
 use Rattle.std.specs.Prelude.{Option, Some, None}
 use Rattle.ip_base.specs.declared.len_source.LenSource.TheVariants.{Slice}
 use Rattle.ip_ext_headers.specs.declared.err.ip_auth.header_slice_error.HeaderSliceError.{HeaderSliceError}
@@ -31,11 +32,7 @@ chain_of b = record { number = 51; bytes = b } ∷ []
 
 -- What holds of no header and of one authentication header holds of a chain of at most one.
 pub by_one : (P : List ExtHeader → Type 0) (n : ℕ) → P [] → ((b : List ℕ) → n ≡ 51 → IsAuthHeader b → P (chain_of b)) → (c : List ExtHeader) → IsChain n c → AtMostOneOf 51 c → P c
-by_one P n none one [] k o = none
-by_one P n none one (h ∷ []) k o =
-    let N : ℕ → Type 0 = λ m. P (record { number = m; bytes = h.bytes } ∷ []) in
-    subst N (sym o.number.0) (one h.bytes (sym k.links.0 ∙ o.number.0) (auth_of h.number h.bytes o.number.0 k.headers.0))
-by_one P n none one (h ∷ g ∷ c) k o = absurd (omega (arith, o.one))
+by_one P n none one c k o = grind (arith, common_steps, auth_of)
 
 -- What is answered, whatever value is told of the chain.
 module _ {X : Type 0} (value_of : List ExtHeader → X) (n : ℕ) (s : List ℕ) (x : X) where
@@ -48,9 +45,7 @@ module _ {X : Type 0} (value_of : List ExtHeader → X) (n : ℕ) (s : List ℕ)
 
   -- where none is named, or none begins the bytes, there is no header
   pub answer_of_none : (f : Option HeaderSliceError) → (n ≡ 51 → NoPrefix IsAuthHeader s) → x ≡ value_of [] → f ≡ ipv4_faults Slice [] n s → IsIpv4Answer value_of n s x n s f
-  answer_of_none f none =
-      read_answers (AtMostOneOf 51) (at_most_one_of 51) n s [] n s value_of (ipv4_faults Slice) x f (has_read_none_under (AtMostOneOf 51) (at_most_one_of 51) n s)
-      (λ h y q. let e : n ≡ 51 = sym y.number ∙ q.number.0 in none e h.bytes (auth_of n h.bytes e y.header) y.prefix)
+  answer_of_none f none = search rules
 
   pub answer_of_fault : (e : HeaderSliceError) → n ≡ 51 → NoPrefix IsAuthHeader s → auth_fault Slice (length s) 0 s ≡ Some e → x ≡ value_of [] → IsIpv4Answer value_of n s x n s (Some e)
   answer_of_fault e is none fault value = answer_of_none (Some e) (λ z. none) value (sym (rw is fault))

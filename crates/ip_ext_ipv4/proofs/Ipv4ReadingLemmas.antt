@@ -1,5 +1,5 @@
 -- What is read of IPv4 extension headers is what is parsed.
-use Rattle.std.proofs.Common.{◌≡◌, ◌≢◌, ℕ, List, [], ◌++◌, length, refl, ap, sym, ◌∙◌}
+use Rattle.std.proofs.Common.{◌≡◌, ◌≢◌, ℕ, List, [], ◌++◌, length, refl, ap, sym, ◌∙◌, rules}
 use Rattle.std.specs.Prelude.{Some, None}
 use Rattle.std.proofs.lemmas.Bool.{ne_eqb}
 use Rattle.std.proofs.Math.Seq.{drop-append_seam}
@@ -30,10 +30,4 @@ one_answers n b v m e header fields number rest =
 
 -- where a header is named, its fault is that of the headers
 pub fault_same : (n : ℕ) → n ≡ 51 → auth_slice_fault ≡ ipv4_chain_fault n
-fault_same n e = λ i s. at s i
-  where
-    at : (s : List ℕ) → auth_slice_fault s ≡ ipv4_chain_fault n s
-    at s =
-        let F : List ExtHeader → Type 0 = λ c. IsPrefix (bytes_of c) s → auth_slice_fault s ≡ fault_behind (ipv4_faults Slice) c n s in
-        let l = ipv4_longest n s in
-        by_one F n (λ p. rw e refl) (λ b is h p. auth_at_header Slice (length s) 0 b s h (prefix_first b [] s p)) (longest_ipv4_chain n s) l.has.0.chain l.has.1 l.has.0.prefix
+fault_same n e = search (rules, ipv4_longest, by_one, auth_at_header, prefix_first)

@@ -1,5 +1,5 @@
 -- What IPv4 extension headers are written as, and as what that is read.
-use Rattle.std.proofs.Common.{◌≡◌, ℕ, ◌<◌, List, [], ◌∷◌, ◌++◌, length, drop, refl, sym, ap, ◌∙◌, subst, arith, inl, inr}
+use Rattle.std.proofs.Common.{◌≡◌, ℕ, ◌<◌, List, [], ◌∷◌, ◌++◌, length, drop, refl, sym, ap, ◌∙◌, subst, arith, inl, inr, rules}
 use Rattle.std.specs.declared.result.Result.{Result}
 use Rattle.std.specs.Prelude.{Option, Some, None, Ok, Err, ◌↔◌, slice_range, slice_set}
 use Rattle.std.specs.List.{AllByRecursion}
@@ -103,25 +103,16 @@ record NothingBehind (c : List ExtHeader) (m : ℕ) (r : List ℕ) : Type 0 wher
   fault : None ≡ ipv4_faults Slice c m r
 
 nothing_behind : (c : List ExtHeader) (m : ℕ) (r : List ℕ) → (c ≡ [] → m ≡ 51 → ⊥) → NothingBehind c m r
-nothing_behind [] m r other = record { ends = λ h x q. other refl (sym x.number ∙ q.number.0); fault = rw (ne_eqb m 51 (other refl)) refl }
-nothing_behind (g ∷ c) m r other = record { ends = λ h x q. omega (arith, q.one, length-append c (h ∷ [])); fault = refl }
+nothing_behind c m r other = search (rules, ne_eqb, length-append)
 
 -- where bytes are read as headers, these lead to the number behind them
 read_leads : (v : Option AuthFields) (f m : ℕ) (s : List ℕ) → IsReadAs v f m s → ipv4_walk v f ≡ Ok (record { 0 = m })
-read_leads v f m s r =
-    let W : List ExtHeader → Type 0 = λ c. ipv4_walk (ipv4_value c) f ≡ Ok (record { 0 = leads_to f c }) in
-    let leads : ipv4_walk (ipv4_value r.chain) f ≡ Ok (record { 0 = leads_to f r.chain }) =
-    by_one W f refl (λ b named h. ap (ipv4_walk (Some (auth_fields b))) named) r.chain r.longest.has.0.chain r.longest.has.1 in
-    ap (λ u. ipv4_walk u f) (sym r.value) ∙ leads ∙ ap (λ (j : ℕ). Ok (record { 0 = j })) r.number
+read_leads v f m s r = search rules
 
 module _ (f : ℕ) (v : Option AuthFields) (m : IpNumber) where
   -- What encodes headers is read as them, with nothing left
   pub encoding_read : (b : List ℕ) → IsIpv4Encoding f v b → ipv4_walk v f ≡ Ok m → IsReadAs v f m.0 b
-  encoding_read b (k, e) walk =
-      let r : IsReadAs v f k b = record { bytes = e.bytes; chain = e.chain; longest = e.longest; value = e.value.0; number = e.number; all = e.all } in
-      let same : Ok (record { 0 = k }) ≡ Ok m = sym (read_leads v f k b r) ∙ walk in
-      let number : k ≡ m.0 = cc in
-      subst (λ (j : ℕ). IsReadAs v f j b) number r
+  encoding_read b h1 walk = search rules
 
   -- and again with more behind it, unless that goes on.
   pub encoding_read_again : (b r : List ℕ) → IsIpv4Encoding f v b → ipv4_walk v f ≡ Ok m → (v ≡ None → f ≡ 51 → ⊥) → IsIpv4Answer ipv4_value f (b ++ r) v m.0 r None

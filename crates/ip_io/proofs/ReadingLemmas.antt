@@ -45,9 +45,6 @@ module _ (Asks : List ℕ → ℕ → Type 0) (P : List ℕ → Type 0) (short :
   few_of_front : (b : Option (List ℕ)) (m count : ℕ) → m < count → IfSome (option_map (take m) b) (λ ys. length ys < count)
   few_of_front b m count l = search (rules, length-take)
 
-  few_of_few : (b : Option (List ℕ)) (m count : ℕ) → IfSome b (λ ys. length ys < count) → IfSome (option_map (take m) b) (λ ys. length ys < count)
-  few_of_few b m count f = search (rules, length-take)
-
   pub refused_short : (steady : Bool) (first : Option (List ℕ)) (failed : Bool) → IsRefused Asks steady first failed → IfSteady steady first P
   refused_short steady first failed r = search rules
 

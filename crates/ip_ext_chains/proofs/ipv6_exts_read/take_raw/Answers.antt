@@ -6,8 +6,7 @@ use Rattle.ip_io.proofs.ReadingLemmas.{refused_behind}
 use Rattle.ip_ext_chains.proofs.ipv6_exts_read.take_raw.Goals as goal
 
 pub returns-in-Err-clause-refused : goal.returns-in-Err-clause-refused
-returns-in-Err-clause-refused g c =
-    refused_behind RawAsks _ _ _ _ _ [] _ refl (Consumes-nil _) (raw_start refl refl) c.in-Err.ensures.refuses
+returns-in-Err-clause-refused g c = refused_behind RawAsks _ _ _ _ _ [] _ refl (Consumes-nil _) (raw_start refl refl) c.in-Err.ensures.refuses
 
 pub returns-in-Err-read_exact-clause-refused : goal.returns-in-Err-read_exact-clause-refused
 returns-in-Err-read_exact-clause-refused g c =

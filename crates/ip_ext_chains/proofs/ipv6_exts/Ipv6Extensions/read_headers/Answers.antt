@@ -58,9 +58,4 @@ returns-then-eq-clause-fault g c = refused_error g.T.ExactRead.bytes_left g.T.Ex
 pub returns-clause-answer : goal.returns-clause-answer
 returns-clause-answer g c =
     let came = c.headers.invariant in
-    record {
-      headers = came.0;
-      chain = came.1.chain;
-      taken = came.2;
-      answer = no_place_answers _ _ _ _ _ came.1 (grind arith) c.in_default.ensures.none;
-    }
+    record { headers = came.0; chain = came.1.chain; taken = came.2; answer = no_place_answers _ _ _ _ _ came.1 (grind arith) c.in_default.ensures.none }

@@ -61,12 +61,7 @@ returns-then-eq-clause-fault g c = layer_refused_error g.T.ExactRead.bytes_left 
 pub returns-clause-answer : goal.returns-clause-answer
 returns-clause-answer g c =
     let came = c.headers.invariant in
-    record {
-      headers = came.0;
-      chain = came.1.chain;
-      taken = came.2;
-      answer = no_place_answers _ _ _ _ _ came.1 (grind arith) c.in_default.ensures.none;
-    }
+    record { headers = came.0; chain = came.1.chain; taken = came.2; answer = no_place_answers _ _ _ _ _ came.1 (grind arith) c.in_default.ensures.none }
 
 pub returns-in-Err-clause-stays : goal.returns-in-Err-clause-stays
 returns-in-Err-clause-stays g c = λ other. absurd (named _ _ _ _ _ c.headers.invariant.1 _ c.in-Some.ensures.next other)

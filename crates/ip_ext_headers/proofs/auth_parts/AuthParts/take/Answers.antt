@@ -8,8 +8,7 @@ use Rattle.ip_ext_headers.proofs.AuthLemmas.{auth_short}
 use Rattle.ip_ext_headers.proofs.auth_parts.AuthParts.take.Goals as goal
 
 pub returns-in-Err-clause-refused : goal.returns-in-Err-clause-refused
-returns-in-Err-clause-refused g c =
-    refused_behind AuthAsks _ _ _ _ _ [] _ refl (Consumes-nil _) (auth_start refl refl) c.in-Err.ensures.refuses
+returns-in-Err-clause-refused g c = refused_behind AuthAsks _ _ _ _ _ [] _ refl (Consumes-nil _) (auth_start refl refl) c.in-Err.ensures.refuses
 
 pub returns-in-Err-clause-fault : goal.returns-in-Err-clause-fault
 returns-in-Err-clause-fault g c = refused_short AuthAsks (IsTooShort auth_slice_fault) auth_short _ _ _ (returns-in-Err-clause-refused g c)
@@ -24,13 +23,8 @@ returns-in-Err-read_exact-clause-fault g c = refused_short AuthAsks (IsTooShort 
 
 pub returns-in-Ok-read_exact-clause-header : goal.returns-in-Ok-read_exact-clause-header
 returns-in-Ok-read_exact-clause-header g c =
-    let h : List ℕ = c.read_exact.new.buf in
-    let p : List ℕ = c.read_exact-2.new.buf in
-    let e : length h ≡ 12 = omega arith in
-    let n : length p ≡ 4 * (slice_index h 1 - 1) = search rules in
-    record {
-      bytes = h ++ p;
-      header = auth_joined h p e (omega arith) n;
-      fields = auth_joined_fields h p e ∙ sym c.of_bytes.ensures;
-      taken = Consumes-trans _ _ _ h p c.in-Ok.ensures.takes c.in-Ok-read_exact.ensures.takes;
-    }
+    let e : length c.read_exact.new.buf ≡ 12 = omega arith in
+    let n : length c.read_exact-2.new.buf ≡ 4 * (slice_index c.read_exact.new.buf 1 - 1) = search rules in
+    record { bytes = c.read_exact.new.buf ++ c.read_exact-2.new.buf; header = auth_joined c.read_exact.new.buf c.read_exact-2.new.buf e (omega arith) n;
+    fields = auth_joined_fields c.read_exact.new.buf c.read_exact-2.new.buf e ∙ sym c.of_bytes.ensures;
+    taken = Consumes-trans _ _ _ c.read_exact.new.buf c.read_exact-2.new.buf c.in-Ok.ensures.takes c.in-Ok-read_exact.ensures.takes }

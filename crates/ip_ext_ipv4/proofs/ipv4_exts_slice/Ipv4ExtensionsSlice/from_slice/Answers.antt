@@ -1,4 +1,4 @@
-use Rattle.std.proofs.Common.{refl, arith, sym}
+use Rattle.std.proofs.Common.{refl, arith, sym, rules}
 use Rattle.std.proofs.lemmas.List.{take_rest}
 use Rattle.ip_ext_ipv4.proofs.Ipv4Lemmas.{answer_of_one, answer_of_fault}
 use Rattle.ip_ext_ipv4.proofs.ipv4_exts_slice.Ipv4ExtensionsSlice.from_slice.Goals as goal
@@ -8,5 +8,4 @@ returns-in-Ok-clause-answer c =
     answer_of_one (λ d. d) _ _ _ _ _ _ (grind arith) c.in-Ok.ensures.header c.in-Ok.ensures.prefix refl c.next_header.ensures (rw c.slice.ensures.bytes (take_rest c.args.start_slice.now _))
 
 pub returns-in-Err-clause-fault : goal.returns-in-Err-clause-fault
-returns-in-Err-clause-fault c =
-    sym (answer_of_fault (λ d. d) _ _ _ _ (grind arith) c.in-Err.ensures.none c.in-Err.ensures.fault refl).fault
+returns-in-Err-clause-fault c = search rules

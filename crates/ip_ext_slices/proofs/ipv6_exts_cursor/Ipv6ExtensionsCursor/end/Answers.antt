@@ -9,9 +9,8 @@ use Rattle.ip_ext_slices.proofs.ipv6_exts_cursor.Ipv6ExtensionsCursor.end.Goals 
 
 pub returns-then-not-is_extension-clause-last : goal.returns-then-not-is_extension-clause-last
 returns-then-not-is_extension-clause-last c =
-    let x = c.args.self.now in
-    let other : IsExtensionNumber x.number.0 → ⊥ = λ e. let no : true ≡ false = sym (c.is_extension.ensures.1 e) ∙ c.if-not-is_extension.true in cc in
-    longest_from-end _ x.number.0 x.rest.now (end_at_other _ x.number.0 x.rest.now other)
+    let other : IsExtensionNumber c.args.self.now.number.0 → ⊥ = λ e. let no : true ≡ false = sym (c.is_extension.ensures.1 e) ∙ c.if-not-is_extension.true in cc in
+    longest_from-end _ c.args.self.now.number.0 c.args.self.now.rest.now (end_at_other _ c.args.self.now.number.0 c.args.self.now.rest.now other)
 
 pub returns-then-not-is_extension-clause-answer : goal.returns-then-not-is_extension-clause-answer
 returns-then-not-is_extension-clause-answer c =
@@ -32,5 +31,4 @@ returns-in-None-clause-last c = longest_from-end _ _ _ c.in-None.ensures.end
 
 pub returns-in-None-clause-answer : goal.returns-in-None-clause-answer
 returns-in-None-clause-answer c =
-    let x = c.args.self.now in
-    (cursor_at_end _ _ _ _ _ x.leads x.behind c.in-None.ensures.end).answers _ (sym c.fault-fault.ensures)
+    (cursor_at_end _ _ _ _ _ c.args.self.now.leads c.args.self.now.behind c.in-None.ensures.end).answers _ (sym c.fault-fault.ensures)

@@ -13,5 +13,4 @@ error_at-requires c =
 
 pub returns-then-is_extension-clause-fault : goal.returns-then-is_extension-clause-fault
 returns-then-is_extension-clause-fault c =
-    let scanned = c.scan-len.ensures in
-    ap (option_map (λ (f : Fault). f.0)) (chain_fault_is _ _ _ scanned.len _ _ scanned.number scanned.rest) ∙ c.error_at.ensures
+    ap (option_map (λ (f : Fault). f.0)) (chain_fault_is _ _ _ c.scan-len.ensures.len _ _ c.scan-len.ensures.number c.scan-len.ensures.rest) ∙ c.error_at.ensures

@@ -87,25 +87,9 @@ auth_written_encodes v few whole small small' =
 fragment_only_parts : (v : FragmentFields) (x0 x1 x2 x3 : ℕ) (rest : List ℕ) → AreBytes (x1 ∷ x2 ∷ x3 ∷ take 4 rest)
     → IsFragmentEncoding v (x0 ∷ x1 ∷ x2 ∷ x3 ∷ rest) → x0 ∷ x1 ∷ x2 ∷ x3 ∷ rest ≡ fragment_written v
 fragment_only_parts v x0 x1 x2 x3 rest bytes h =
-    let b : List ℕ = x0 ∷ x1 ∷ x2 ∷ x3 ∷ rest in
-    let four : length rest ≡ 4 = omega (arith, h.header.len) in
-    let small : x3 < 256 = byte_at (x1 ∷ x2 ∷ x3 ∷ take 4 rest) bytes 2 in
-    let whole : take 4 rest ≡ rest = take_all 4 rest (omega arith) in
-    let number : x0 ≡ v.next_header = ap (λ (w : FragmentFields). w.next_header) h.fields in
-    let offset : offset_bits x2 x3 ≡ v.fragment_offset = ap (λ (w : FragmentFields). w.fragment_offset) h.fields in
-    let more : flag_bit x3 ≡ v.more_fragments = ap (λ (w : FragmentFields). w.more_fragments) h.fields in
-    let same_id : from_be_bytes w32 (take 4 rest) ≡ v.identification = ap (λ (w : FragmentFields). w.identification) h.fields in
-    let zero_byte : x1 ≡ 0 = ap (λ l. get_or l 1 0) (sym h.cleared.reserved) in
-    let kept : unreserved_bits x3 ≡ x3 = ap (λ l. get_or l 3 0) h.cleared.reserved in
-    let second : x2 ≡ high_byte v.fragment_offset = unpacked_high x2 x3 ∙ ap high_byte offset in
-    let third : x3 ≡ low_byte v.fragment_offset v.more_fragments =
-    unpacked_low x2 x3 small kept ∙ ap (λ a. low_byte a (flag_bit x3)) offset ∙ ap (low_byte v.fragment_offset) more in
-    let id : to_be_bytes w32 v.identification ≡ rest =
-    be_bytes_4 rest v.identification four (λ i. byte_at rest (subst AreBytes whole (All-drop (λ x. x < 256) 3 (x1 ∷ x2 ∷ x3 ∷ take 4 rest) bytes)) i) (sym same_id ∙ ap (from_be_bytes w32) whole) in
-    let written : ℕ → ℕ → ℕ → ℕ → List ℕ → List ℕ = λ a c d e f. a ∷ c ∷ d ∷ e ∷ f in
-    ap (λ a. written a x1 x2 x3 rest) number ∙ ap (λ c. written v.next_header c x2 x3 rest) zero_byte
-    ∙ ap (λ d. written v.next_header 0 d x3 rest) second ∙ ap (λ e. written v.next_header 0 (high_byte v.fragment_offset) e rest) third
-    ∙ ap (λ f. written v.next_header 0 (high_byte v.fragment_offset) (low_byte v.fragment_offset v.more_fragments) f) (sym id)
+    let whole : take 4 rest ≡ rest = take_all 4 rest (omega (arith, h.header.len)) in
+    let id = be_bytes_4 rest v.identification (omega (arith, h.header.len)) (byte_at rest (rw whole at (All-drop (λ x. x < 256) 3 (x1 ∷ x2 ∷ x3 ∷ take 4 rest) bytes))) (cc) in
+    cc (unpacked_high x2 x3, unpacked_low x2 x3 (byte_at (x1 ∷ x2 ∷ x3 ∷ take 4 rest) bytes 2) (cc), id)
 
 pub fragment_only : (v : FragmentFields) (b : List ℕ) → IsFragmentEncoding v b → b ≡ fragment_written v
 fragment_only v b h =

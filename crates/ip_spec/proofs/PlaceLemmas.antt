@@ -55,15 +55,7 @@ destination_place false = (destination, refl)
 
 -- an extension number has a place
 pub own_place : (m : ℕ) (behind : Bool) → IsExtensionNumber m → (p : Place) × (place_of m behind ≡ Some p)
-own_place m behind x =
-    grind (
-      arith,
-      in_both 0 hop_by_hop refl refl behind,
-      in_both 43 routing refl refl behind,
-      destination_place behind,
-      in_both 44 fragment refl refl behind,
-      in_both 51 authentication refl refl behind,
-    )
+own_place m behind x = grind (arith, in_both, destination_place behind)
 
 pub is_extension : (p : Place) → IsExtensionNumber (number_in p)
 is_extension p = search rules

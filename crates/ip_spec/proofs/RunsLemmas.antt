@@ -61,10 +61,7 @@ module _ (m : ℕ) (c : List ExtHeader) where
     none_left e = elim (some_or_none c) [ inl w ↦ w | inr s ↦ absurd (some_are_kept FitsPlaces cuts_places c p s k e) ]
 
     first_filled : p ≢ []
-    first_filled e =
-        let T : List ExtHeader → Type 0 = IsTaken m in
-        let rest : k.rest ≡ [] = sym (ap (λ l. l ++ k.rest) e) ∙ sym k.joined ∙ none_left e in
-        none_taken m (subst T e (on rest))
+    first_filled e = none_taken m (rw e at (on (grind (arith, common_steps, k.joined, none_left e))))
 
     some_left : c ≢ []
     some_left e = omega (arith, ap length e, ap length k.joined, length-append p k.rest, some_number p first_filled)
@@ -93,12 +90,7 @@ module _ (m : ℕ) (c : List ExtHeader) where
 pub some_runs : (m : ℕ) (c : List ExtHeader) → (ps : Pieces) × AreRuns m c ps
 some_runs m c = elim (some_or_none c) [
   | inl e ↦ ([] ∷ [], none e refl)
-  | inr s ↦
-      let k = some_cut FitsPlaces cuts_places c in
-      elim (taken_or m (last_piece k.0)) [
-        | inl t ↦ (k.0 ++ [] ∷ [], one_more k.0 k.1 t refl)
-        | inr free ↦ (k.0, cut s k.1 free)
-      ]
+  | inr s ↦ let k = some_cut FitsPlaces cuts_places c in elim (taken_or m (last_piece k.0)) [ inl t ↦ (k.0 ++ [] ∷ [], one_more k.0 k.1 t refl) | inr free ↦ (k.0, cut s k.1 free) ]
 ]
 
 bytes_of-append : (c d : List ExtHeader) → bytes_of (c ++ d) ≡ bytes_of c ++ bytes_of d
@@ -106,10 +98,7 @@ bytes_of-append c d = flat_map-append (λ h. h.bytes) c d
 
 written_joined : (ps : Pieces) → flat_map (λ p. bytes_of (cleared_chain p)) ps ≡ bytes_of (cleared_chain (joined ps))
 written_joined [] = refl
-written_joined (p ∷ ps) =
-    ap (λ b. bytes_of (cleared_chain p) ++ b) (written_joined ps)
-    ∙ sym (bytes_of-append (cleared_chain p) (cleared_chain (joined ps)))
-    ∙ ap bytes_of (sym (map-append (λ h. record { number = h.number; bytes = cleared_header h.number h.bytes }) p (joined ps)))
+written_joined (p ∷ ps) = simp (written_joined ps, map-append, flat_map-append)
 
 one_more_fits : (ps : Pieces) → AllByRecursion FitsPlaces ps → AllByRecursion FitsPlaces (ps ++ [] ∷ [])
 one_more_fits [] a = (fits_places.empty, tt)
@@ -128,23 +117,7 @@ module _ (m : ℕ) (c : List ExtHeader) where
   ends_free ps qs i free k t = let T : Pieces → Type 0 = λ l. IsTaken m (last_piece l) in free (subst T (the_cut qs ps k i) t)
 
   pub one_runs : (ps qs : Pieces) → AreRuns m c ps → AreRuns m c qs → ps ≡ qs
-  one_runs ps qs a b = elim a [
-    | none e w ↦ elim b [
-      | none e' w' ↦ w ∙ sym w'
-      | cut s i free ↦ absurd (s e)
-      | one_more rs i t w' ↦ absurd (empty_none rs e i t)
-    ]
-    | cut s i free ↦ elim b [
-      | none e w ↦ absurd (s e)
-      | cut s' k free' ↦ the_cut ps qs i k
-      | one_more rs k t w ↦ absurd (ends_free ps rs i free k t)
-    ]
-    | one_more rs i t w ↦ elim b [
-      | none e w' ↦ absurd (empty_none rs e i t)
-      | cut s k free ↦ absurd (ends_free qs rs k free i t)
-      | one_more rs' k t' w' ↦ w ∙ ap (λ l. l ++ [] ∷ []) (the_cut rs rs' i k) ∙ sym w'
-    ]
-  ]
+  one_runs ps qs a b = search (rules, one_cut FitsPlaces cuts_places, empty_none, ends_free)
 
   -- no header is lost
   pub runs_joined : (ps : Pieces) → AreRuns m c ps → joined ps ≡ c
@@ -158,13 +131,7 @@ module _ (m : ℕ) (c : List ExtHeader) where
 
   -- no cut into pieces that fit has fewer that aren't empty
   pub fewest_runs : (ps rs : Pieces) → AreRuns m c ps → joined rs ≡ c → AllByRecursion FitsPlaces rs → how_many ps ≤ how_many rs
-  fewest_runs ps rs a e f =
-      let few : (qs : Pieces) → IsCut FitsPlaces c qs → how_many qs ≤ how_many rs = λ qs i. omega (arith, fewest FitsPlaces cuts_places rs [] c qs (sym e) f i, how_many-filled qs i.filled) in
-      elim a [
-        | none w i ↦ omega (arith, ap how_many i)
-        | cut s i free ↦ few ps i
-        | one_more qs i t w ↦ omega (arith, few qs i, ap how_many w, how_many-more qs)
-      ]
+  fewest_runs ps rs a e f = search (rules, fewest FitsPlaces cuts_places rs [] c, how_many-filled, how_many-more, sym e)
 
   -- there is one run at least, and one for each header and one more at most
   pub some_run : (ps : Pieces) → AreRuns m c ps → 1 ≤ length ps
@@ -183,21 +150,16 @@ pub data RunsStep (m : ℕ) (c : List ExtHeader) (ps : Pieces) : Type 0 where
 
 runs_step_at : (m : ℕ) (c p rest : List ExtHeader) (ps : Pieces) → c ≡ p ++ rest → FitsPlaces p → NextBreaks FitsPlaces p rest → AreRuns m c ps → RunsStep m c ps
 runs_step_at m c p [] ps e f b a =
-    let F : List ExtHeader → Type 0 = FitsPlaces in
-    let T : List ExtHeader → Type 0 = IsTaken m in
     let same : c ≡ p = e ∙ append-nil p in
     elim (taken_or m p) [
       | inl t ↦
           let k : KeepsBeginning FitsPlaces c p = record { rest = []; joined = e; meets = f; breaks = tt } in
           goes p k (λ w. t) ([] ∷ []) (none refl refl) (one_runs m c ps (p ∷ [] ∷ []) a (runs_more m c p k (λ w. t) ([] ∷ []) (none refl refl)))
-      | inr free ↦
-          let fits : FitsPlaces c = subst F (sym same) f in
-          let not_taken : IsTaken m c → ⊥ = λ t. free (subst T same t) in
-          ends fits not_taken (one_runs m c ps (c ∷ []) a (runs_end m c fits not_taken))
+      | inr free ↦ search (rules, ends, one_runs, runs_end, same)
     ]
 runs_step_at m c p (h ∷ rest) ps e f b a =
     let k : KeepsBeginning FitsPlaces c p = record { rest = h ∷ rest; joined = e; meets = f; breaks = b } in
-    let on : h ∷ rest ≡ [] → IsTaken m p = λ w. absurd (let differ : 1 + length rest ≡ 0 = omega (arith, ap length w) in omega (arith, differ)) in
+    let on : h ∷ rest ≡ [] → IsTaken m p = λ w. cc in
     let more = some_runs m (h ∷ rest) in
     goes p k on more.0 more.1 (one_runs m c ps (p ∷ more.0) a (runs_more m c p k on more.0 more.1))
 
@@ -286,12 +248,8 @@ one_fitting (p ∷ []) (q ∷ []) n s a b = ap (λ l. l ∷ []) (same_fitting n 
 one_fitting (p ∷ []) (q ∷ r ∷ qs) n s a b = absurd (a.1 (taken_too n s q p b.0 a.0 b.1))
 one_fitting (p ∷ r ∷ ps) (q ∷ []) n s a b = absurd (b.1 (taken_too n s p q a.0 b.0 a.1))
 one_fitting (p ∷ r ∷ ps) (q ∷ t ∷ qs) n s a b =
-    let same : p ≡ q = same_fitting n s p q a.0 b.0 in
-    let A : List ExtHeader → Type 0 = λ c. AreLongestFitting (leads_to n c) (drop (length (bytes_of c)) s) (r ∷ ps) in
-    ap (λ l. l ∷ r ∷ ps) same ∙ ap (λ l. q ∷ l) (one_fitting (r ∷ ps) (t ∷ qs) (leads_to n q) (drop (length (bytes_of q)) s) (subst A same a.2) b.2)
+    let same = same_fitting n s p q a.0 b.0 in
+    let rest = one_fitting (r ∷ ps) (t ∷ qs) (leads_to n q) (drop (length (bytes_of q)) s) (rw same at a.2) b.2 in cc
 
 pub longest_fitting_runs : (ps : Pieces) (n : ℕ) (s : List ℕ) (c : List ExtHeader) → IsLongestChain n s c → AreLongestFitting n s ps → AreRuns (leads_to n c) c ps
-longest_fitting_runs ps n s c l a =
-    let R : Pieces → Type 0 = AreRuns (leads_to n c) c in
-    let runs = some_runs (leads_to n c) c in
-    subst R (one_fitting runs.0 ps n s (runs_longest_fitting runs.0 n s c l runs.1) a) runs.1
+longest_fitting_runs ps n s c l a = let runs = some_runs (leads_to n c) c in rw (one_fitting runs.0 ps n s (runs_longest_fitting runs.0 n s c l runs.1) a) at runs.1

@@ -16,7 +16,7 @@ pub record Cuts {X : Type 0} (Q : List X → Type 0) : Type 0 where
   pub behind : (c d : List X) → Q (c ++ d) → Q d
   pub one : (x : X) → Q (x ∷ [])
 
-some_element : {X : Type 0} (p : List X) → p ≢ [] → 1 ≤ length p
+pub some_element : {X : Type 0} (p : List X) → p ≢ [] → 1 ≤ length p
 some_element p e = grind (arith, common_steps)
 
 how_many-least : {X : Type 0} (p : List X) (ps : List (List X)) → how_many ps ≤ how_many (p ∷ ps)

@@ -175,5 +175,4 @@ module _ (v : PlacedFields) (m : ℕ) (small : m < 256) (e : IsEncodable v) wher
       walk_answers w f u.reached (beyond 6 w) m u.first u.behind u.walking (beyond 6 w) m (leads m) (λ p k. beyond_all p) (λ p. refl) refl (sym (leads_where_none m (beyond 6 w) beyond_all))
     where
       beyond_all : (p : Place) → beyond 6 w p ≡ None
-      beyond_all hop_by_hop = refl
-      beyond_all p = refl
+      beyond_all p = search rules

@@ -20,7 +20,7 @@ use Rattle.ip_spec.proofs.ChainLemmas.{longest_at_end, longest_ends}
 use Rattle.ip_spec.proofs.DemandLemmas.{some_kept}
 use Rattle.ip_spec.proofs.PlaceLemmas.{bare}
 use Rattle.ip_spec.proofs.FitsLemmas.{fits_places, fits_behind, one_fits, number_fits, next_taken}
-use Rattle.ip_spec.proofs.CutLemmas.{Cuts, how_many-filled, how_many-more, joined-more, cut_more, no_cut, some_cut, one_cut, cut_count, cut_of_none, fewest, some_are_kept}
+use Rattle.ip_spec.proofs.CutLemmas.{Cuts, some_element, how_many-filled, how_many-more, joined-more, cut_more, no_cut, some_cut, one_cut, cut_count, cut_of_none, fewest, some_are_kept}
 
 abbrev Pieces : Type 0
 Pieces = List (List ExtHeader)
@@ -64,23 +64,16 @@ module _ (m : ℕ) (c : List ExtHeader) where
     first_filled e = none_taken m (rw e at (on (grind (arith, common_steps, k.joined, none_left e))))
 
     some_left : c ≢ []
-    some_left e = omega (arith, ap length e, ap length k.joined, length-append p k.rest, some_number p first_filled)
-      where
-        some_number : (l : List ExtHeader) → l ≢ [] → 1 ≤ length l
-        some_number [] w = absurd (w refl)
-        some_number (h ∷ l) w = omega arith
+    some_left e = omega (arith, ap length e, ap length k.joined, length-append p k.rest, some_element p first_filled)
 
     pub runs_more : (ps : Pieces) → AreRuns m k.rest ps → AreRuns m c (p ∷ ps)
     runs_more ps r = elim r [
       | none e w ↦
-          let C : List ExtHeader → Type 0 = λ l. IsCut FitsPlaces l [] in
-          one_more (p ∷ []) (cut_more FitsPlaces cuts_places c p [] first_filled k (subst C (sym e) (no_cut FitsPlaces cuts_places))) (on e) (ap (λ l. p ∷ l) w)
+          one_more (p ∷ []) (cut_more FitsPlaces cuts_places c p [] first_filled k (subst (λ (l : List ExtHeader). IsCut FitsPlaces l []) (sym e) (no_cut FitsPlaces cuts_places))) (on e) (ap (λ l. p ∷ l) w)
       | cut s i free ↦
-          let T : List ExtHeader → Type 0 = IsTaken m in
-          cut some_left (cut_more FitsPlaces cuts_places c p ps first_filled k i) (λ t. free (subst T (last_more p ps (no_pieces ps k.rest s i)) t))
+          cut some_left (cut_more FitsPlaces cuts_places c p ps first_filled k i) (λ t. free (subst (IsTaken m) (last_more p ps (no_pieces ps k.rest s i)) t))
       | one_more qs i t w ↦
-          let T : List ExtHeader → Type 0 = IsTaken m in
-          one_more (p ∷ qs) (cut_more FitsPlaces cuts_places c p qs first_filled k i) (subst T (sym (last_more p qs (last_taken qs t))) t) (ap (λ l. p ∷ l) w)
+          one_more (p ∷ qs) (cut_more FitsPlaces cuts_places c p qs first_filled k i) (subst (IsTaken m) (sym (last_more p qs (last_taken qs t))) t) (ap (λ l. p ∷ l) w)
     ]
 
   pub runs_end : FitsPlaces c → (IsTaken m c → ⊥) → AreRuns m c (c ∷ [])

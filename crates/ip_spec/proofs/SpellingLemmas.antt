@@ -39,7 +39,6 @@ pub value_spelled : (v : PlacedFields) (f : ℕ) (c : List ExtHeader) → IsChai
 value_spelled v f c chain fits value cleared = search rules
 
 -- A chain that spells v is all that v reaches.
-
 pub spelling_is_reach : (v : PlacedFields) (f : ℕ) (c : List ExtHeader) → IsSpelling v f c → IsLongestOf (IsReachable v f) c
 spelling_is_reach v f c s =
     longest_where_none_next (IsReachable v f) (shown_grows v f) c s.reachable

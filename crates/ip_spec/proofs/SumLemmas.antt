@@ -51,11 +51,8 @@ module _ (g : HeaderFields → ℕ) where
       let one : sum_of (c ++ x ∷ []) ≡ sum_placed g (of_chain (c ++ x ∷ [])) = omega (arith, e, sum_by-append (λ h. g (fields_of h)) c (x ∷ []), sum_more f c x j) in
       subst S more (sum_from f (c ++ x ∷ []) d one k' fits')
 
-  empty_sum : sum_placed g (of_chain []) ≡ 0
-  empty_sum = refl
-
   pub sum_of_chain : (f : ℕ) (c : List ExtHeader) → IsChain f c → FitsPlaces c → sum_of c ≡ sum_placed g (of_chain c)
-  sum_of_chain f c = sum_from f [] c (sym empty_sum)
+  sum_of_chain f c = sum_from f [] c refl
 
 -- The fields tell the length of a header.
 pub len_said : (h : ExtHeader) → IsHeader h.number h.bytes → length h.bytes ≡ fields_len (fields_of h)

@@ -99,10 +99,7 @@ module _ (v : PlacedFields) (f : ℕ) where
       one_header_says x y same a.header b.header a.cleared b.cleared (same_Some _ _ fields)
 
   pub shown_grows : Grows (IsReachable v f)
-  shown_grows = record {
-    begins = shown_begins;
-    one_next = λ c x y p q. same_next c x y (next_shown c x p) (next_shown c y q);
-  }
+  shown_grows = record { begins = shown_begins; one_next = λ c x y p q. same_next c x y (next_shown c x p) (next_shown c y q) }
 
   pub one_reach : (c d : List ExtHeader) → IsLongestOf (IsReachable v f) c → IsLongestOf (IsReachable v f) d → c ≡ d
   one_reach c d = one_longest_of (IsReachable v f) shown_grows c d

@@ -4,7 +4,7 @@ use Rattle.std.specs.List.{AllByRecursion}
 use Rattle.std.proofs.lemmas.List.{append-nil, append_cancel_left, length-append}
 use Rattle.std.proofs.lemmas.List.Concat.{flat_map-append}
 use Rattle.std.proofs.lemmas.Grind.{common_steps}
-use Rattle.ip_spec.specs.Demand.{IsDemand, NextBreaks, KeepsBeginning}
+use Rattle.ip_spec.specs.Demand.{IsDemand, KeepsBeginning}
 use Rattle.ip_spec.specs.Runs.{joined, how_many, IsCut}
 use Rattle.ip_spec.proofs.LongestOfLemmas.{compare, within, beyond}
 use Rattle.ip_spec.proofs.DemandLemmas.{Begins, beginnings_grow, some_kept, one_kept, kept_bounds}

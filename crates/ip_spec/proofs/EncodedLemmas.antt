@@ -2,7 +2,7 @@
 use Rattle.std.proofs.Common.{◌≡◌, ℕ, ◌+◌, ◌-◌, ◌/◌, ◌^◌, ◌<◌, ◌≤◌, List, [], ◌∷◌, length, drop, refl, ap, sym, ◌∙◌, arith, inl, inr, rules}
 use Rattle.std.specs.Prelude.{slice_range}
 use Rattle.std.proofs.lemmas.List.Elements.{All-from_recursion, recursion_from_All, All-append}
-use Rattle.ip_spec.specs.Header.{IsHeader, IsRawHeader, IsRawNumber, raw, fragment, auth}
+use Rattle.ip_spec.specs.Header.{IsHeader, IsRawHeader, IsRawNumber, raw, auth}
 use Rattle.ip_spec.specs.Fields.{RawFields, FragmentFields, AuthFields, raw_fields}
 use Rattle.ip_spec.specs.Lengths.{MAX_FRAGMENT_OFFSET, IsPayloadLen, IsIcvLen}
 use Rattle.ip_spec.specs.Encoding.{AreBytes, IsFragmentEncoding, IsAuthEncoding, IsCleared}

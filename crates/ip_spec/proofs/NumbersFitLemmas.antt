@@ -1,6 +1,6 @@
 -- What the numbers of a chain's headers tell: whether they fit six places, and whether one more does.
-use Rattle.std.proofs.Common.{◌≡◌, ℕ, ◌≤◌, List, [], ◌∷◌, ◌++◌, map, refl, ap, sym, ◌∙◌, arith, inl, inr, subst, rules}
-use Rattle.std.specs.Prelude.{◌==◌, ◌↔◌, Some, if◌then◌else◌}
+use Rattle.std.proofs.Common.{◌≡◌, ℕ, ◌≤◌, List, [], ◌∷◌, ◌++◌, map, refl, ap, sym, ◌∙◌, arith, subst, rules}
+use Rattle.std.specs.Prelude.{◌==◌, ◌↔◌, Some}
 use Rattle.std.proofs.lemmas.Bool.Decides.{eqb_tells}
 use Rattle.std.proofs.lemmas.Option.{same_Some}
 use Rattle.std.proofs.lemmas.List.{map-append}

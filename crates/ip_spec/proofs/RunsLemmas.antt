@@ -5,12 +5,11 @@ use Rattle.std.proofs.Math.Seq.{take-length}
 use Rattle.std.proofs.lemmas.List.{append-nil, length-append, map-append}
 use Rattle.std.proofs.lemmas.List.Concat.{flat_map-append}
 use Rattle.std.proofs.lemmas.Grind.{common_steps}
-use Rattle.ip_spec.specs.Prefix.{IsPrefix}
 use Rattle.ip_spec.specs.Fields.{next_header}
 use Rattle.ip_spec.specs.Chain.{ExtHeader, leads_to, bytes_of, is_empty, IsChain, IsPrefixChain, IsLongestChain, IsEnd}
 use Rattle.ip_spec.specs.Demand.{KeepsBeginning, NextBreaks, IsLongestUnder}
 use Rattle.ip_spec.specs.Fits.{FitsPlaces, IsTaken}
-use Rattle.ip_spec.specs.Encoding.{cleared_header, cleared_chain}
+use Rattle.ip_spec.specs.Encoding.{cleared_chain}
 use Rattle.ip_spec.specs.Runs.{joined, how_many, last_piece, IsCut, AreRuns, none, cut, one_more, AreChains, AreLongestFitting}
 use Rattle.ip_spec.proofs.HeaderLemmas.{later_not_zero, later_or}
 use Rattle.ip_spec.proofs.PrefixLemmas.{prefix_second, rest_join, prefix-length}

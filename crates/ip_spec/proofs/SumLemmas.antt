@@ -1,24 +1,22 @@
 -- Sums over the places of a value and over the headers of a chain.
-use Rattle.std.proofs.Common.{◌≡◌, ℕ, zero, suc, ◌+◌, ◌≤◌, List, [], ◌∷◌, ◌++◌, length, refl, ap, sym, ◌∙◌, arith, inl, inr, subst, append_assoc, Bool, true, false, rules}
-use Rattle.std.specs.Prelude.{Option, Some, None, sum_by, ◌==◌, ◌||◌, if◌then◌else◌}
+use Rattle.std.proofs.Common.{◌≡◌, ℕ, zero, suc, ◌+◌, ◌≤◌, List, [], ◌∷◌, ◌++◌, length, refl, ap, sym, ◌∙◌, arith, subst, append_assoc, Bool, true, false, rules}
+use Rattle.std.specs.Prelude.{Option, Some, None, sum_by, ◌==◌, ◌||◌}
 use Rattle.std.specs.List.{AllByRecursion}
-use Rattle.std.specs.Option.{option_map, option_map_or}
-use Rattle.std.proofs.lemmas.Bool.Decides.{eqb_tells}
+use Rattle.std.specs.Option.{option_map}
 use Rattle.std.proofs.lemmas.Option.{none-some, same_Some}
-use Rattle.std.proofs.lemmas.List.{append-nil, length-append, length-drop}
+use Rattle.std.proofs.lemmas.List.{append-nil, length-append}
 use Rattle.std.proofs.lemmas.List.Sums.{sum_by-append}
-use Rattle.ip_spec.specs.Header.{IsHeader, IsRawHeader}
-use Rattle.ip_spec.specs.Fields.{raw_fields, next_header}
+use Rattle.ip_spec.specs.Header.{IsHeader}
+use Rattle.ip_spec.specs.Fields.{next_header}
 use Rattle.ip_spec.specs.Chain.{ExtHeader, leads_to, bytes_of, IsChain}
 use Rattle.ip_spec.specs.Fits.{FitsPlaces}
-use Rattle.ip_spec.specs.Places.{Place, index, header_in, fields_of, HeaderFields, raw_header}
+use Rattle.ip_spec.specs.Places.{Place, header_in, fields_of, HeaderFields}
 use Rattle.ip_spec.specs.Encodable.{IsEncodable, fields_len, sum_placed, placed_len}
 use Rattle.ip_spec.specs.Walk.{PlacedFields, IsValueOf, IsReachable, WalkAnswer, answer_at, IsWalkAnswer}
 use Rattle.ip_spec.specs.WalkStep.{next_place, without}
 use Rattle.ip_spec.specs.LongestOf.{IsLongestOf}
 use Rattle.ip_spec.proofs.StepLemmas.{chain_begins}
 use Rattle.ip_spec.proofs.FitsLemmas.{fits_places}
-use Rattle.ip_spec.proofs.PlaceLemmas.{same_place}
 use Rattle.ip_spec.proofs.WalkLemmas.{unreached, Joins, joins, there}
 use Rattle.ip_spec.proofs.WalkStepLemmas.{Walking, walk_begins, walks_on, walk_stops, left_some, same_held}
 

@@ -1,11 +1,11 @@
 -- A walk that takes headers out of a value, one after the other.
-use Rattle.std.proofs.Common.{◌≡◌, ℕ, List, [], ◌∷◌, ◌++◌, ap, sym, ◌∙◌, inl, inr, subst, Bool, true, false, arith, rules}
+use Rattle.std.proofs.Common.{◌≡◌, ℕ, List, [], ◌∷◌, ◌++◌, ap, sym, ◌∙◌, subst, Bool, true, false, arith, rules}
 use Rattle.std.specs.Prelude.{Option, Some, None, is_some, ◌==◌, ◌&&◌, ◌||◌, not, if◌then◌else◌}
 use Rattle.std.specs.Option.{option_or}
 use Rattle.std.proofs.Math.Bool.{or-true, or-false}
 use Rattle.std.proofs.lemmas.Bool.{eqb-true, eq-eqb}
 use Rattle.std.proofs.lemmas.Bool.Decides.{eqb_tells}
-use Rattle.std.proofs.lemmas.Option.{none-some, same_Some}
+use Rattle.std.proofs.lemmas.Option.{none-some}
 use Rattle.std.proofs.lemmas.Grind.{common_steps}
 use Rattle.ip_spec.specs.Header.{IsHeader}
 use Rattle.ip_spec.specs.Fields.{next_header}
@@ -19,7 +19,7 @@ use Rattle.ip_spec.specs.LongestOf.{IsLongestOf}
 use Rattle.ip_spec.proofs.LongestOfLemmas.{longest_where_none_next}
 use Rattle.ip_spec.proofs.StepLemmas.{all_more, leads_to-more, chain_more}
 use Rattle.ip_spec.proofs.FirstLemmas.{find_more-yes, find_more-no}
-use Rattle.ip_spec.proofs.PlaceLemmas.{has_routing, same_place, place_number, placed, fits_more}
+use Rattle.ip_spec.proofs.PlaceLemmas.{has_routing, place_number, placed, fits_more}
 use Rattle.ip_spec.proofs.WalkLemmas.{unreached, none_if, there, Next, next_shown, shown_grows}
 
 -- Headers c were reached from f and taken out of v, which leaves u. They lead to m; `first` tells that there is

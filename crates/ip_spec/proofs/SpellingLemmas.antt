@@ -90,7 +90,7 @@ module _ (v : PlacedFields) (f : ℕ) where
   none_unreached c value p = search rules
 
   pub spelled_leads : (c : List ExtHeader) → IsSpelling v f c → IsWalkAnswer v f (leads (leads_to f c))
-  spelled_leads c s = search (rules, spelling_is_reach, leads_where_none, none_unreached)
+  spelled_leads c s = search (rules, spelling_is_reach, none_unreached)
 
   -- A chain of bytes spells its value, cleared.
   pub cleared_spells : (c : List ExtHeader) → IsChain f c → FitsPlaces c → AreBytes (bytes_of c) → IsValueOf c v → IsSpelling v f (cleared_chain c)

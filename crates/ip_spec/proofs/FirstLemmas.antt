@@ -18,9 +18,6 @@ module _ {X : Type 0} (t : X → Bool) where
     pub before-no : t x ≡ false → before_first t (x ∷ xs) ≡ x ∷ before_first t xs
     before-no e = search rules
 
-    after-yes : t x ≡ true → after_first t (x ∷ xs) ≡ xs
-    after-yes e = ap (λ b. drop (cond (not b) (1 + position_or_len t xs) 0 + 1) (x ∷ xs)) e
-
     after-no : t x ≡ false → after_first t (x ∷ xs) ≡ after_first t xs
     after-no e = search rules
 
@@ -71,7 +68,7 @@ module _ {X : Type 0} (t : X → Bool) where
 
   -- of one element alone
   pub after_one : (x : X) → after_first t (x ∷ []) ≡ []
-  after_one x = elim (cases_Bool (t x)) [ inl w ↦ after-yes x [] w | inr w ↦ after-no x [] w ]
+  after_one x = search (rules, cases_Bool, after-no)
 
   -- The first that passes is there where the count isn't 0, and one more stands behind it.
   pub counted : (xs : List X) → is_some (find t xs) ≡ true → 1 ≤ count_by t xs
@@ -105,11 +102,8 @@ module _ {X : Type 0} (t : X → Bool) where
   pub find_more-yes : (xs : List X) (x : X) → t x ≡ true → find t (xs ++ x ∷ []) ≡ option_or (find t xs) (Some x)
   find_more-yes xs x e = find-append t xs (x ∷ []) ∙ ap (λ o. option_or (find t xs) o) (find-yes x [] e)
 
-  or_none : (o : Option X) → option_or o None ≡ o
-  or_none o = search rules
-
   pub find_more-no : (xs : List X) (x : X) → t x ≡ false → find t (xs ++ x ∷ []) ≡ find t xs
-  find_more-no xs x e = find-append t xs (x ∷ []) ∙ ap (λ o. option_or (find t xs) o) (find-no x [] e) ∙ or_none (find t xs)
+  find_more-no xs x e = search (rules, find-append, find-no)
 
 -- On neither side do more elements pass a test than in the whole.
 module _ {X : Type 0} (t u : X → Bool) (xs : List X) where

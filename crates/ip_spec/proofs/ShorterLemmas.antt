@@ -12,12 +12,6 @@ use Rattle.ip_spec.proofs.DemandLemmas.{IsUnder, kept_where_longest}
 use Rattle.ip_spec.proofs.UnderLemmas.{chains_grow_under}
 use Rattle.ip_spec.proofs.DemandKinds.{IsWithin, within}
 
-prefix_shorter : (j : ℕ) (b s : List ℕ) → IsPrefix b s → length b ≤ j → IsPrefix b (take j s)
-prefix_shorter j b s f w = take-take (length b) j s w ∙ f
-
-prefix_longer : (j : ℕ) (b s : List ℕ) → IsPrefix b (take j s) → IsPrefix b s × (length b ≤ j)
-prefix_longer j b s f = grind (arith, common_steps, prefix-length, take-take)
-
 length_with : (h : ExtHeader) (c : List ExtHeader) → length (bytes_of (h ∷ c)) ≡ length h.bytes + length (bytes_of c)
 length_with h c = length-append h.bytes (bytes_of c)
 
@@ -34,10 +28,10 @@ within_is j (h ∷ c) rest meets breaks =
 
 module _ (Q : List ExtHeader → Type 0) (k : IsDemand Q) (n j : ℕ) (s : List ℕ) where
   shorter_under : (c : List ExtHeader) → IsUnder Q (IsPrefixChain n (take j s)) c → IsUnder (IsWithin j) (IsUnder Q (IsPrefixChain n s)) c
-  shorter_under c u = search (rules, prefix_longer)
+  shorter_under c u = search (rules, common_steps, prefix-length, take-take)
 
   under_shorter : (c : List ExtHeader) → IsUnder (IsWithin j) (IsUnder Q (IsPrefixChain n s)) c → IsUnder Q (IsPrefixChain n (take j s)) c
-  under_shorter c u = (record { chain = u.0.0.chain; prefix = prefix_shorter j (bytes_of c) s u.0.0.prefix u.1 }, u.0.1)
+  under_shorter c u = search (rules, take-take)
 
   shorter_kept : (d c : List ExtHeader) → IsLongestUnder Q n s d → IsLongestUnder Q n (take j s) c → KeepsBeginning (IsWithin j) d c
   shorter_kept d c l m =

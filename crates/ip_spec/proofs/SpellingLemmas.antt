@@ -56,9 +56,6 @@ first_filled u = find (λ p. is_some (u p)) places
 pub nothing_filled : (u : PlacedFields) → first_filled u ≡ None → (p : Place) → u p ≡ None
 nothing_filled u e p = none_if (u p) (each (λ q. is_some (u q) ≡ false) (none_passes (λ q. is_some (u q)) places e) p)
 
-first_none : (u : PlacedFields) → ((p : Place) → u p ≡ None) → first_filled u ≡ None
-first_none u e = simp (e hop_by_hop, e destination, e routing, e fragment, e authentication, e final_destination)
-
 -- an answer that leads on tells that nothing is left, and the other way round
 -- the answer by what is left: whether hop by hop options are, and the first place
 abbrev fault_or_number : ℕ → Bool → Option Place → WalkAnswer
@@ -68,14 +65,11 @@ leads_told : (m k : ℕ) (b : Bool) (o : Option Place) → leads k ≡ fault_or_
 leads_told m k b o e = search rules
 
 pub leads_where_none : (m : ℕ) (u : PlacedFields) → ((p : Place) → u p ≡ None) → answer_at m u ≡ leads m
-leads_where_none m u e = ap (fault_or_number m (is_some (u hop_by_hop))) (first_none u e)
-
-left_none : (o : Option ExtHeader) (x : Option HeaderFields) → ((h : ExtHeader) → o ≡ Some h → x ≡ Some (fields_of h)) → (if is_some o then None else x) ≡ None → x ≡ option_map fields_of o
-left_none o x k e = search rules
+leads_where_none m u e = search (rules, fragment)
 
 module _ (v : PlacedFields) (f : ℕ) where
   shown_whole : (c : List ExtHeader) → IsReachable v f c → ((p : Place) → unreached v c p ≡ None) → IsSpelling v f c
-  shown_whole c s none = record { reachable = s; value = λ p. left_none (header_in p c) (v p) (s.in_value p) (none p) }
+  shown_whole c s none = search rules
 
   pub one_answer : (a b : WalkAnswer) → IsWalkAnswer v f a → IsWalkAnswer v f b → a ≡ b
   one_answer a b x y = grind (arith, common_steps, one_reach v f x.reach y.reach x.is_reach y.is_reach)
@@ -153,11 +147,8 @@ pub spelled_is_cleared : (v : PlacedFields) (f : ℕ) (c d : List ExtHeader) →
 spelled_is_cleared v f c d k fits bytes value s = one_spelling v f d (cleared_chain c) s (cleared_spells v f c k fits bytes value)
 
 -- Equal bytes are those of equal values.
-same_bytes : (f : ℕ) (c d : List ExtHeader) → IsChain f c → IsChain f d → bytes_of c ≡ bytes_of d → c ≡ d
-same_bytes f c d k l e = search (rules, one_longest, whole_longest)
-
 pub spelled_alike : (v w : PlacedFields) (f : ℕ) (c d : List ExtHeader) → IsSpelling v f c → IsSpelling w f d → (bytes_of c ≡ bytes_of d) ↔ ((p : Place) → v p ≡ w p)
 spelled_alike v w f c d s t = (
-  (λ e p. s.value p ∙ ap (λ l. option_map fields_of (header_in p l)) (same_bytes f c d s.reachable.chain t.reachable.chain e) ∙ sym (t.value p)),
+  (λ e p. s.value p ∙ ap (λ l. option_map fields_of (header_in p l)) (search (rules, one_longest, whole_longest)) ∙ sym (t.value p)),
   (λ e. ap bytes_of (one_spelling w f c d (value_spelled w f c s.reachable.chain s.reachable.fits (λ p. sym (e p) ∙ s.value p) s.reachable.cleared) t)),
 )

@@ -36,22 +36,13 @@ links_more : (n : ℕ) (c : List ExtHeader) (h : ExtHeader) → AreLinked n c �
 links_more n [] h a e = (e, tt)
 links_more n (g ∷ c) h a e = (a.0, links_more (next_header g.bytes) c h a.1 e)
 
-zero_first : (c d : List ExtHeader) → AllByRecursion (λ h. h.number ≢ 0) (drop 1 (c ++ d)) → AllByRecursion (λ h. h.number ≢ 0) (drop 1 c)
-zero_first c d a = search (rules, all_first)
-
-zero_next : (c : List ExtHeader) (h : ExtHeader) → AllByRecursion (λ k. k.number ≢ 0) (drop 1 (c ++ h ∷ [])) → h.number ≡ 0 → is_empty c ≡ true
-zero_next c h a z = search (rules, all_next)
-
-zero_more : (c : List ExtHeader) (h : ExtHeader) → AllByRecursion (λ k. k.number ≢ 0) (drop 1 c) → (h.number ≡ 0 → is_empty c ≡ true) → AllByRecursion (λ k. k.number ≢ 0) (drop 1 (c ++ h ∷ []))
-zero_more c h a b = search (rules, all_more)
-
 pub no_chain : (n : ℕ) → IsChain n []
 no_chain n = record { headers = tt; links = tt; zero_only_first = tt }
 
 -- A beginning of a chain is one, and a header that goes on with the number to which a chain leads makes one.
 module _ (n : ℕ) (c : List ExtHeader) where
   pub chain_begins : (d : List ExtHeader) → IsChain n (c ++ d) → IsChain n c
-  chain_begins d k = search (rules, all_first, links_first, zero_first)
+  chain_begins d k = search (rules, all_first, links_first)
 
   module _ (h : ExtHeader) where
     pub chain_number : IsChain n (c ++ h ∷ []) → h.number ≡ leads_to n c
@@ -61,10 +52,10 @@ module _ (n : ℕ) (c : List ExtHeader) where
     chain_header k = all_next (λ g. IsHeader g.number g.bytes) c h k.headers
 
     pub chain_zero : IsChain n (c ++ h ∷ []) → h.number ≡ 0 → is_empty c ≡ true
-    chain_zero k = zero_next c h k.zero_only_first
+    chain_zero k = search (rules, all_next)
 
     pub chain_more : IsChain n c → h.number ≡ leads_to n c → IsHeader h.number h.bytes → (h.number ≡ 0 → is_empty c ≡ true) → IsChain n (c ++ h ∷ [])
-    chain_more k number header zero = search (rules, all_more, links_more, zero_more)
+    chain_more k number header zero = search (rules, all_more, links_more)
 
 -- What a chain and one more header make.
 pub bytes_of-more : (c : List ExtHeader) (h : ExtHeader) → bytes_of (c ++ h ∷ []) ≡ bytes_of c ++ h.bytes
@@ -109,9 +100,6 @@ no_header_prefix n s = record { chain = no_chain n; prefix = refl }
 pub first_next : (n : ℕ) (s : List ℕ) (h : ExtHeader) (c : List ExtHeader) → IsPrefixChain n s (h ∷ c) → IsNext true n s h
 first_next n s h c p = next_of n s [] h (begins n s (h ∷ []) c p)
 
-tail_not_zero : (c : List ExtHeader) → AllByRecursion (λ k. k.number ≢ 0) c → AllByRecursion (λ k. k.number ≢ 0) (drop 1 c)
-tail_not_zero c a = search rules
-
 -- the headers behind the first are a chain from the number that it names
 pub tail_chain : (n : ℕ) (h : ExtHeader) (c : List ExtHeader) → IsChain n (h ∷ c) → IsChain (next_header h.bytes) c
-tail_chain n h c k = record { headers = k.headers.1; links = k.links.1; zero_only_first = tail_not_zero c k.zero_only_first }
+tail_chain n h c k = search rules

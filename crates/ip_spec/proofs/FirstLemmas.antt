@@ -1,6 +1,6 @@
 -- The first element of a list that passes a test, what stands before it and what after, where lists are joined.
 use Rattle.std.proofs.Common.{◌≡◌, ℕ, ◌+◌, ◌≤◌, List, [], ◌∷◌, ◌++◌, take, drop, map, refl, ap, sym, ◌∙◌, arith, inl, inr, Bool, true, false, cond, rules}
-use Rattle.std.specs.Prelude.{not, count_by, Option, Some, None, is_some}
+use Rattle.std.specs.Prelude.{not, count_by, Some, None, is_some}
 use Rattle.std.specs.List.{position_or_len, find, before_first, after_first, AllByRecursion}
 use Rattle.std.specs.Option.{option_or, option_map}
 use Rattle.std.proofs.lemmas.Bool.{cases_Bool}

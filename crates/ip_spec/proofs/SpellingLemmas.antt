@@ -1,6 +1,6 @@
 -- What spells a value, what it is read from, and what its walk answers.
 use Rattle.std.proofs.Common.{◌≡◌, ℕ, ◌<◌, List, [], ◌∷◌, ◌++◌, refl, ap, sym, ◌∙◌, arith, subst, append_assoc, Bool, false, rules}
-use Rattle.std.specs.Prelude.{Option, Some, None, is_some, ◌==◌, ◌&&◌, ◌↔◌, if◌then◌else◌}
+use Rattle.std.specs.Prelude.{Option, None, is_some, ◌==◌, ◌&&◌, ◌↔◌, if◌then◌else◌}
 use Rattle.std.specs.Option.{option_map, option_map_or}
 use Rattle.std.specs.List.{AllByRecursion, find}
 use Rattle.std.proofs.lemmas.Grind.{common_steps}
@@ -13,7 +13,7 @@ use Rattle.ip_spec.specs.Encoding.{AreBytes, IsCleared, cleared_chain}
 use Rattle.ip_spec.specs.Chain.{ExtHeader, leads_to, bytes_of, IsChain}
 use Rattle.ip_spec.specs.Demand.{IsLongestUnder}
 use Rattle.ip_spec.specs.Fits.{FitsPlaces, IsTaken}
-use Rattle.ip_spec.specs.Places.{Place, hop_by_hop, destination, routing, fragment, authentication, final_destination, places, number_in, header_in, fields_of, HeaderFields}
+use Rattle.ip_spec.specs.Places.{Place, hop_by_hop, places, number_in, header_in, fields_of}
 use Rattle.ip_spec.specs.Encodable.{IsEncodable}
 use Rattle.ip_spec.specs.Parse.{IsRead}
 use Rattle.ip_spec.specs.Walk.{PlacedFields, IsValueOf, IsSpelling, IsReachable, WalkAnswer, leads, hop_by_hop_not_at_start, not_referenced, answer_at, IsWalkAnswer}
@@ -65,7 +65,7 @@ leads_told : (m k : ℕ) (b : Bool) (o : Option Place) → leads k ≡ fault_or_
 leads_told m k b o e = search rules
 
 pub leads_where_none : (m : ℕ) (u : PlacedFields) → ((p : Place) → u p ≡ None) → answer_at m u ≡ leads m
-leads_where_none m u e = search (rules, fragment)
+leads_where_none m u e = search rules
 
 module _ (v : PlacedFields) (f : ℕ) where
   shown_whole : (c : List ExtHeader) → IsReachable v f c → ((p : Place) → unreached v c p ≡ None) → IsSpelling v f c

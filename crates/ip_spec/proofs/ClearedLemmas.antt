@@ -110,11 +110,8 @@ cleared_not_zero : (c : List ExtHeader) → AllByRecursion (λ h. h.number ≢ 0
 cleared_not_zero [] a = tt
 cleared_not_zero (h ∷ c) a = (a.0, cleared_not_zero c a.1)
 
-cleared_zero_first : (c : List ExtHeader) → AllByRecursion (λ h. h.number ≢ 0) (drop 1 c) → AllByRecursion (λ h. h.number ≢ 0) (drop 1 (cleared_chain c))
-cleared_zero_first c a = search (rules, cleared_not_zero)
-
 pub cleared_is_chain : (n : ℕ) (c : List ExtHeader) → IsChain n c → IsChain n (cleared_chain c)
-cleared_is_chain n c k = search (rules, cleared_headers, cleared_links, cleared_zero_first)
+cleared_is_chain n c k = grind (arith, common_steps, cleared_headers, cleared_links, cleared_not_zero)
 
 -- of bytes, what is cleared is
 pub cleared_are : (c : List ExtHeader) → AreHeaders c → AreBytes (bytes_of c) → AllByRecursion IsCleared (cleared_chain c)
@@ -132,9 +129,6 @@ side-cleared destination c = sym (before-map cleared_of (λ h. h.number == 43) c
 side-cleared final_destination c = sym (after-map cleared_of (λ h. h.number == 43) c)
 side-cleared p c = refl
 
-pub header_in-cleared : (p : Place) (c : List ExtHeader) → header_in p (cleared_chain c) ≡ option_map cleared_of (header_in p c)
-header_in-cleared p c = ap (find (is_of p)) (side-cleared p c) ∙ find-map cleared_of (is_of p) (side_of p c)
-
 pub cleared_fits : (c : List ExtHeader) → FitsPlaces c → FitsPlaces (cleared_chain c)
 cleared_fits c f p = omega (arith, ap (count_by (is_of p)) (side-cleared p c), count-map cleared_of (is_of p) (side_of p c), f p)
 
@@ -148,11 +142,8 @@ find_has P t (g ∷ c) a h e =
       | inr w ↦ find_has P t c (All-from_recursion P c both.1) h (sym (find-no t g c w) ∙ e)
     ]
 
-side_has : (P : ExtHeader → Type 0) (p : Place) (c : List ExtHeader) → All P c → All P (side_of p c)
-side_has P p c a = grind (arith, common_steps)
-
 pub header_in_has : (P : ExtHeader → Type 0) (p : Place) (c : List ExtHeader) → AllByRecursion P c → ForSome (header_in p c) P
-header_in_has P p c a = find_has P (is_of p) (side_of p c) (side_has P p c (All-from_recursion P c a))
+header_in_has P p c a = find_has P (is_of p) (side_of p c) (grind (arith, common_steps))
 
 -- So a chain says the same cleared.
 fields-cleared : (o : Option ExtHeader) → ForSome o (λ h. IsHeader h.number h.bytes) → option_map fields_of (option_map cleared_of o) ≡ option_map fields_of o
@@ -160,4 +151,4 @@ fields-cleared None a = refl
 fields-cleared (Some h) a = ap Some (cleared_same h.bytes h.number (a h refl)).fields
 
 pub value-cleared : (p : Place) (c : List ExtHeader) → AreHeaders c → option_map fields_of (header_in p (cleared_chain c)) ≡ option_map fields_of (header_in p c)
-value-cleared p c a = ap (option_map fields_of) (header_in-cleared p c) ∙ fields-cleared (header_in p c) (header_in_has (λ h. IsHeader h.number h.bytes) p c a)
+value-cleared p c a = search (rules, fields-cleared, header_in_has, side-cleared, find-map)

@@ -18,9 +18,6 @@ use Rattle.ip_spec.proofs.StepLemmas.{next_of, chains_grow}
 use Rattle.ip_spec.proofs.ChainLemmas.{longest_ends}
 
 -- What stands behind a chain adds to the counts.
-nothing_counted : (p : Place) → count_in p [] ≡ 0
-nothing_counted p = ap (count_by (is_of p)) (nothing_on p)
-
 count_grows : (p : Place) (c d : List ExtHeader) → count_in p c ≤ count_in p (c ++ d)
 count_grows destination c d = search (rules, sides, none_yet, count-append, one_before)
 count_grows final_destination c d = grind (arith, common_steps, sides c d, count-append (is_of final_destination) (side_of final_destination c) d)
@@ -32,7 +29,7 @@ each_or P test = grind (arith, common_steps, all_or P test places, fragment)
 
 pub fits_places : IsDemand FitsPlaces
 fits_places = record {
-  empty = λ p. omega (arith, nothing_counted p);
+  empty = λ p. omega (arith, ap (count_by (is_of p)) (nothing_on p));
   begins = λ c d f p. omega (arith, count_grows p c d, f p);
   decided = λ c. each_or (λ p. count_in p c ≤ 1) (λ p. elim (cases_lt 1 (count_in p c)) [ inl l ↦ inr (λ w. omega arith) | inr l ↦ inl l ]);
 }
@@ -50,19 +47,16 @@ fits_behind c d f final_destination = elim (sides c d) [
 fits_behind c d f p = omega (arith, f p, count-append (is_of p) c d)
 
 pub one_fits : (h : ExtHeader) → FitsPlaces (h ∷ [])
-one_fits h = fits_next [] h fits_places.empty (λ p e. nothing_counted p)
+one_fits h = search (rules, fits_next)
 
 -- whether a header fits, its number tells
 pub number_fits : (c : List ExtHeader) (g h : ExtHeader) → g.number ≡ h.number → FitsPlaces (c ++ g ∷ []) → FitsPlaces (c ++ h ∷ [])
 number_fits c g h e f = fits_next c h (fits_places.begins c (g ∷ []) f) (λ p o. none_there c g p (ap (λ m. place_of m (has_routing c)) e ∙ o) f)
 
 -- Where a header goes on and doesn't fit, its number is taken.
-first_fits : (c : List ExtHeader) (h : ExtHeader) → is_empty c ≡ true → FitsPlaces (c ++ h ∷ [])
-first_fits c h e = search rules
-
 pub breaks_taken : (c : List ExtHeader) (m : ℕ) (r : List ℕ) (h : ExtHeader) → IsNext (is_empty c) m r h → (FitsPlaces (c ++ h ∷ []) → ⊥) → IsTaken m c
 breaks_taken c m r h x breaks = (
-  later_of m (header_number m h.bytes x.header) (λ z. breaks (first_fits c h (x.zero_only_first z))),
+  later_of m (header_number m h.bytes x.header) (λ z. breaks (search rules)),
   λ g e f. breaks (number_fits c g h (e ∙ sym x.number) f),
 )
 

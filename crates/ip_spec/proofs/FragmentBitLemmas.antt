@@ -19,15 +19,12 @@ module _ (low : ℕ) where
   offset_part : bit_and low 0xf8 ≡ low / 8 % 32 * 8
   offset_part = and_high low 5 3
 
-  flag_part : bit_and low 0x01 ≡ low % 2
-  flag_part = and_mask low 1
-
   reserved_part : low < 256 → bit_and low 0xf9 + low / 2 % 4 * 2 ≡ low
   reserved_part small = grind (arith, common_steps, and_comm 0x06 low, and_high low 2 1, and-not 8 0x06 low (omega arith) small, and_comm low 0xf9)
 
   -- the bits above the flag, and the flag
   flagged : low ≡ low / 2 * 2 + cond (flag_bit low) 1 0
-  flagged = search (rules, eqb_tells, flag_part)
+  flagged = search (rules, eqb_tells, and_mask low 1)
 
 -- what is packed is unpacked
 module _ (offset : ℕ) where
@@ -35,7 +32,7 @@ module _ (offset : ℕ) where
   packed_offset more = search (rules, offset_part)
 
   pub packed_flag : (more : Bool) → flag_bit (low_byte offset more) ≡ more
-  packed_flag more = search (rules, flag_part)
+  packed_flag more = grind (arith, common_steps, and_mask)
 
   pub low_small : (more : Bool) → low_byte offset more < 256
   low_small more = search rules

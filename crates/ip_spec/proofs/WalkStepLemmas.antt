@@ -41,9 +41,6 @@ left_some o y x e = search rules
 next_place_is : (z first : Bool) (o : Option Place) (p : Place) → (if z && not first then None else o) ≡ Some p → (o ≡ Some p) × (z ≡ true → first ≡ true)
 next_place_is z first o p e = search rules
 
-next_place_of : (z first : Bool) (o : Option Place) → (z ≡ true → first ≡ true) → (if z && not first then None else o) ≡ o
-next_place_of z first o e = search rules
-
 -- values that say the same in each place are one
 pub same_held : (v w : PlacedFields) → ((p : Place) → v p ≡ w p) → v ≡ w
 same_held v w e = λ i p. e p i
@@ -51,12 +48,9 @@ same_held v w e = λ i p. e p i
 pub not_empty : (c : List ExtHeader) (h : ExtHeader) → false ≡ is_empty (c ++ h ∷ [])
 not_empty c h = grind (arith, common_steps)
 
-some_or : (o : Option ExtHeader) (h : ExtHeader) → is_some (option_or o (Some h)) ≡ true
-some_or o h = search rules
-
 -- a routing header is there where one was, or where this is one
 routing_more : (c : List ExtHeader) (h : ExtHeader) → has_routing c || (h.number == 43) ≡ has_routing (c ++ h ∷ [])
-routing_more c h = search (rules, eqb_tells, or-true, find_more-yes, some_or, or-false, find_more-no)
+routing_more c h = search (rules, eqb_tells, or-true, find_more-yes, or-false, find_more-no)
 
 module _ (c : List ExtHeader) (h : ExtHeader) (p : Place) (joined : (q : Place) → header_in q (c ++ h ∷ []) ≡ (if index p == index q then Some h else header_in q c)) where
   -- what was left is left without it
@@ -98,7 +92,7 @@ module _ (v : PlacedFields) (f : ℕ) (c : List ExtHeader) (u : PlacedFields) (m
       let same : x.number ≡ m = n.number ∙ sym k.number in
       let at : place_of m behind ≡ Some n.joins.place = ap (place_of m) k.behind_is ∙ ap (λ j. place_of j (has_routing c)) (sym same) ∙ n.joins.at in
       let here : u n.joins.place ≡ Some (fields_of x) = k.left n.joins.place ∙ ap (λ o. if is_some o then None else v n.joins.place) n.joins.free ∙ n.said in
-      none-some (fields_of x) (sym (none n.joins.place (next_place_of (m == 0) first (place_of m behind) (λ z. k.first_is ∙ n.zero (same ∙ eqb-true m 0 z)) ∙ at)) ∙ here))
+      none-some (fields_of x) (sym (none n.joins.place ((search rules) ∙ at)) ∙ here))
 
   pub walk_answers : (w : PlacedFields) (n : ℕ) (a : WalkAnswer) → ((p : Place) → next_place first behind m ≡ Some p → u p ≡ None) → ((p : Place) → w p ≡ u p) → n ≡ m → a ≡ answer_at n w → IsWalkAnswer v f a
   walk_answers w n a none ew en ea = search (rules, walk_stops, same_held)

@@ -42,8 +42,7 @@ fitting_shorter n j s = longest_shorter FitsPlaces fits_places n j s (fitting_ch
 fitting_is : (n : ℕ) (s : List ℕ) (c : List ExtHeader) → KeepsBeginning FitsPlaces (longest_chain n s) c → c ≡ fitting_chain n s
 fitting_is n s c kept =
     one_longest_under FitsPlaces fits_places n s c (fitting_chain n s)
-    (kept_is_longest FitsPlaces fits_places n s (longest_chain n s) c (longest_chain-longest n s) kept)
-    (fitting_longest n s)
+    (kept_is_longest FitsPlaces fits_places n s (longest_chain n s) c (longest_chain-longest n s) kept) (fitting_longest n s)
 
 no_fault : (b : Bool) (f : Option Fault) → b ≡ true → (if b then None else f) ≡ None
 no_fault b f e = search rules
@@ -81,15 +80,13 @@ walked_on n s (h ∷ left) v k some m chain r er =
 -- Where none is, it is the whole chain.
 walked_whole : (n : ℕ) (s : List ℕ) (left : List ExtHeader) (v : Places Ipv6ExtensionSlice) → IsRun (longest_chain n s) v left → left ≡ [] → (m : ℕ) (r : List ℕ) (f g : Option Fault) → m ≡ leads_to n (longest_chain n s) → r ≡ rest_behind (longest_chain n s) s → g ≡ chain_fault n s → f ≡ (if is_taken_in v m then None else g) → IsPlacedAnswer n s v m r f
 walked_whole n s left v k none m r f g em er eg ef =
-    let c : List ExtHeader = k.run in
-    let all : longest_chain n s ≡ c = run_whole n s left v k ∙ ap (λ l. c ++ l) none ∙ append-nil c in
-    let same : longest_chain n s ≡ fitting_chain n s = all ∙ run_fits n s left v k in
-    let number : m ≡ leads_to n c = em ∙ ap (leads_to n) all in
+    let all : longest_chain n s ≡ k.run = run_whole n s left v k ∙ ap (λ l. k.run ++ l) none ∙ append-nil k.run in
+    let number : m ≡ leads_to n k.run = em ∙ ap (leads_to n) all in
     let at : List ExtHeader → Option Fault = λ d. fault_behind (chain_faults Slice) d n s in
-    let taken : is_taken_in v m ≡ is_taken (leads_to n (fitting_chain n s)) (fitting_chain n s) =
-    taken_same c v k.placed m ∙ ap (λ j. is_taken j c) number ∙ ap (λ d. is_taken (leads_to n d) d) (run_fits n s left v k) in
-    walked n s left v k m r f number (er ∙ ap (λ d. drop (length (bytes_of d)) s) all)
-    (ef ∙ ap (λ o. if is_taken_in v m then None else o) (eg ∙ ap at same) ∙ ap (λ b. if b then None else at (fitting_chain n s)) taken)
+    walked n s left v k m r f number (er ∙ ap (λ d. drop (length (bytes_of d)) s) all) (ef
+    ∙ ap (λ o. if is_taken_in v m then None else o) (eg ∙ ap at (all ∙ run_fits n s left v k))
+    ∙ ap (λ b. if b then None else at (fitting_chain n s)) (taken_same k.run v k.placed m ∙ ap (λ j. is_taken j k.run) number
+    ∙ ap (λ d. is_taken (leads_to n d) d) (run_fits n s left v k)))
 
 -- The same as code has it: what an iterator has given and left, and the bytes read.
 module _ (n : ℕ) (s : List ℕ) (all left : List ExtHeader) (v : Places Ipv6ExtensionSlice) (k : IsRun all v left) (e : all ≡ longest_chain n s) where
@@ -121,8 +118,7 @@ module _ (n : ℕ) (c : List ExtHeader) (m : ℕ) (chain : IsChain n c) (fits : 
   -- where the number's place is filled, there is none
   pub taken_answers : (v : Ipv6Extensions) → v ≡ value_of c → is_taken m c ≡ true → IsFittingAnswer n (bytes_of c ++ x) v m x None
   taken_answers v value taken =
-      answered v None (λ h y. ((taken_told c m fits).0 taken).1 h y.number) value
-      (sym (ap (λ (b : Bool). if b then None else chain_faults Slice c m x) taken))
+      answered v None (λ h y. ((taken_told c m fits).0 taken).1 h y.number) value (sym (ap (λ (b : Bool). if b then None else chain_faults Slice c m x) taken))
 
   -- and where the number names no header
   pub other_answers : (v : Ipv6Extensions) → v ≡ value_of c → (IsExtensionNumber m → ⊥) → IsFittingAnswer n (bytes_of c ++ x) v m x None

@@ -111,28 +111,17 @@ module _ (n : ℕ) (c : List ExtHeader) (m : ℕ) (v : Ipv6Extensions) (first : 
     reading_next Taken j w r =
         let h : ExtHeader = record { number = m; bytes = r.bytes } in
         let s : List ℕ = bytes_of c ++ r.bytes in
-        let H : ℕ → Type 0 = λ i. IsHeader i r.bytes in
-        let header : IsHeader (leads_to n c) r.bytes = subst H (sym is_number_in ∙ k.number) r.header in
-        let there : IsNext (is_empty c) (leads_to n c) (drop (length (bytes_of c)) s) h = record {
-          number = k.number;
-          header = header;
-          prefix = ap (take (length r.bytes)) (drop-append_seam (bytes_of c) r.bytes) ∙ take-length r.bytes;
-          zero_only_first = λ z. sym k.none_yet ∙ next.zero_first (k.number ∙ z);
-        } in
-        record {
-          chain = (goes_on n s c h (record { chain = k.chain; prefix = prefix_of-append (bytes_of c) r.bytes s refl }) there).chain;
-          fits = fits_more c h p k.fits own free_in;
-          number = r.next ∙ sym (leads_to-more n c h);
-          value = placed_fields_one w (value_of (c ++ h ∷ [])) (λ q.
-              ap (λ (u : Ipv6Extensions). placed_fields u q) r.value
-              ∙ put_held p q r.bytes v next.free nested
-              ∙ ap (λ (i : ℕ). if index p == index q then Some (fields_of (record { number = i; bytes = r.bytes })) else placed_fields v q) (sym is_number_in)
-              ∙ ap (λ (o : Option HeaderFields). if index p == index q then Some (fields_of h) else o) (ap (λ (u : Ipv6Extensions). placed_fields u q) k.value ∙ placed_fields-value_of c q)
-              ∙ sym (mapped_if fields_of (index p == index q) h (header_in q c))
-              ∙ ap (option_map fields_of) (sym (placed c h p own (none_if (header_in p c) free_in) q))
-              ∙ sym (placed_fields-value_of (c ++ h ∷ []) q));
-          none_yet = not_empty c h;
-        }
+        let header : IsHeader (leads_to n c) r.bytes = subst (λ i. IsHeader i r.bytes) (sym is_number_in ∙ k.number) r.header in
+        record { chain = (goes_on n s c h (record { chain = k.chain; prefix = prefix_of-append (bytes_of c) r.bytes s refl }) (record { number = k.number;
+        header = header; prefix = ap (take (length r.bytes)) (drop-append_seam (bytes_of c) r.bytes) ∙ take-length r.bytes;
+        zero_only_first = λ z. sym k.none_yet ∙ next.zero_first (k.number ∙ z) })).chain; fits = fits_more c h p k.fits own free_in;
+        number = r.next ∙ sym (leads_to-more n c h); value = placed_fields_one w (value_of (c ++ h ∷ []))
+        (λ q. ap (λ (u : Ipv6Extensions). placed_fields u q) r.value ∙ put_held p q r.bytes v next.free nested
+        ∙ ap (λ (i : ℕ). if index p == index q then Some (fields_of (record { number = i; bytes = r.bytes })) else placed_fields v q) (sym is_number_in)
+        ∙ ap (λ (o : Option HeaderFields). if index p == index q then Some (fields_of h) else o) (ap (λ (u : Ipv6Extensions). placed_fields u q) k.value
+        ∙ placed_fields-value_of c q) ∙ sym (mapped_if fields_of (index p == index q) h (header_in q c))
+        ∙ ap (option_map fields_of) (sym (placed c h p own (none_if (header_in p c) free_in) q)) ∙ sym (placed_fields-value_of (c ++ h ∷ []) q));
+        none_yet = not_empty c h }
 
 -- how many places are empty
 abbrev pub count_empty : {A : Type 0} → Option A → ℕ

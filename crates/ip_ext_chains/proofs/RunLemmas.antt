@@ -46,12 +46,7 @@ module _ (c : List ExtHeader) (m : ℕ) (h : ExtHeader) (left : List ExtHeader) 
       breaks_more k.run h own.0 own.1 (sym (filled_same k.run v k.placed own.0) ∙ f.filled own.0 (place_same k.run v k.placed m ∙ ap (λ j. place_of j (has_routing k.run)) number ∙ own.1))
 
   run_full : IsFilled m v → IsRun c v (h ∷ left)
-  run_full f = record {
-    run = k.run;
-    kept = record { rest = h ∷ left; joined = k.whole; meets = k.fits; breaks = breaks f };
-    left = refl;
-    placed = k.placed;
-  }
+  run_full f = record { run = k.run; kept = record { rest = h ∷ left; joined = k.whole; meets = k.fits; breaks = breaks f }; left = refl; placed = k.placed }
 
 -- one header more
 module _ (c : List ExtHeader) (m : ℕ) (h : Ipv6ExtensionSlice) (left : List ExtHeader) (v w : Places Ipv6ExtensionSlice) (p : Place) where
@@ -59,16 +54,10 @@ module _ (c : List ExtHeader) (m : ℕ) (h : Ipv6ExtensionSlice) (left : List Ex
   placing_more chain k f put =
       let own : place_of (header_of h).number (has_routing k.run) ≡ Some p = same_own c m (header_of h) left v chain k p f.own in
       let none : header_in p k.run ≡ None = none_same k.run v k.placed p f.free in
-      record {
-        run = k.run ++ header_of h ∷ [];
-        whole = k.whole ∙ sym (append_assoc k.run (header_of h ∷ []) left);
-        fits = fits_more k.run (header_of h) p k.fits own (ap is_some none);
-        placed = λ q.
-            ap (option_map header_of) (put q)
-            ∙ mapped_if header_of (index p == index q) h (at q v)
-            ∙ ap (λ o. if index p == index q then Some (header_of h) else o) (k.placed q)
-            ∙ sym (placed k.run (header_of h) p own none q);
-      }
+      record { run = k.run ++ header_of h ∷ []; whole = k.whole ∙ sym (append_assoc k.run (header_of h ∷ []) left);
+      fits = fits_more k.run (header_of h) p k.fits own (ap is_some none);
+      placed = λ q. ap (option_map header_of) (put q) ∙ mapped_if header_of (index p == index q) h (at q v)
+      ∙ ap (λ o. if index p == index q then Some (header_of h) else o) (k.placed q) ∙ sym (placed k.run (header_of h) p own none q) }
 
   pub placing_next : (all : List ExtHeader) → IsChain m all → IsPlacing c all v → all ≡ header_of h ∷ left → IsFreePlace m p v → IsPut p h v w → IsPlacing c left w
   placing_next all chain k e h4 h5 = search (rules, placing_more)
@@ -109,9 +98,8 @@ module _ (m : ℕ) (c d : List ExtHeader) (v : Places Ipv6ExtensionSlice) (r : I
       → (if before then [] else runs_from m c) ≡ r.run ∷ (if done then [] else runs_from m d)
   run_passes before done some ends on =
       let free : done ≡ true → IsTaken m r.run → ⊥ = λ w t. let differ : true ≡ false = sym (taken_in.1 t) ∙ (ends w).1 in cc in
-      ap (λ b. if b then [] else runs_from m c) some
-      ∙ runs_from-next m c r.run r.kept done (λ w. (r.left ∙ (ends w).0, free w)) (λ w e. taken_in.0 (on w (sym r.left ∙ e)))
-      ∙ ap (λ l. r.run ∷ (if done then [] else runs_from m l)) r.left
+      ap (λ b. if b then [] else runs_from m c) some ∙ runs_from-next m c r.run r.kept done (λ w. (r.left ∙ (ends w).0, free w))
+      (λ w e. taken_in.0 (on w (sym r.left ∙ e))) ∙ ap (λ l. r.run ∷ (if done then [] else runs_from m l)) r.left
 
   pub run_next : (before done : Bool) (x : Ipv6Extensions) → before ≡ false → x ≡ value_at v → (done ≡ true → (d ≡ []) × (is_taken_in v m ≡ false)) → (done ≡ false → d ≡ [] → is_taken_in v m ≡ true)
       → map value_of (if before then [] else runs_from m c) ≡ x ∷ map value_of (if done then [] else runs_from m d)
@@ -122,6 +110,4 @@ ended : (r s : Ipv6ExtensionsRuns) → GivesRun r None s → length (values_left
 ended r s e = ap length e.0.0
 
 pub runs_yield : (r : Ipv6ExtensionsRuns) (all : List Ipv6Extensions) → values_left r ≡ all → YieldsList GivesRun (λ x. x) r all
-runs_yield r all e =
-    let Y : List Ipv6Extensions → Type 0 = YieldsList GivesRun (λ x. x) r in
-    subst Y e (YieldsList-from_shown GivesRun (λ x. x) values_left ended (λ s x t g. g.0) r)
+runs_yield r all e = subst (YieldsList GivesRun (λ x. x) r) e (YieldsList-from_shown GivesRun (λ x. x) values_left ended (λ s x t g. g.0) r)

@@ -47,8 +47,7 @@ bytes_joined (p ∷ ps) =
 
 chain_spelled : (n m : ℕ) (c : List ExtHeader) (ps : List (List ExtHeader)) → IsChain n c → AreRuns m c ps → AreBytes (bytes_of c) → AreSpellings n (map value_of ps) (map cleared_chain ps)
 chain_spelled n m c ps chain runs bytes =
-    let B : List ExtHeader → Type 0 = λ c. AreBytes (bytes_of c) in
-    pieces_spelled n ps (runs_chains n m c ps chain runs) (runs_fit m c ps runs) (subst B (sym (runs_joined m c ps runs)) bytes)
+    pieces_spelled n ps (runs_chains n m c ps chain runs) (runs_fit m c ps runs) (subst (λ c. AreBytes (bytes_of c)) (sym (runs_joined m c ps runs)) bytes)
 
 -- the runs that are left of a chain, from the number before them
 pub left_spelled : (n m : ℕ) (s : List ℕ) (done : Bool) (j : ℕ) → AreBytes (bytes_of (longest_chain n s)) → j ≡ number_before m (longest_chain n s)
@@ -68,6 +67,5 @@ module _ (n : ℕ) (s : List ℕ) (bytes : AreBytes s) (ps : List (List ExtHeade
 
   pub spellings_written : (ds : List (List ExtHeader)) → AreSpellings n vs ds → bytes_of (joined ds) ≡ bytes_of (cleared_chain (longest_chain n s))
   spellings_written ds t =
-      ap (λ l. bytes_of (joined l)) (one_list_of_spellings n vs ds (map cleared_chain ps) t runs_spelled)
-      ∙ bytes_joined ps
+      ap (λ l. bytes_of (joined l)) (one_list_of_spellings n vs ds (map cleared_chain ps) t runs_spelled) ∙ bytes_joined ps
       ∙ runs_written _ (longest_chain n s) ps are.runs

@@ -61,8 +61,7 @@ module _ (v : Ipv6Extensions) (n : ℕ) where
   read_spelled s bytes e =
       let l = fitting_longest n s in
       cleared_spells (placed_fields v) n (fitting_chain n s) l.has.0.chain l.has.1
-      (subst AreBytes l.has.0.prefix (All-take (λ x. x < 256) (length (bytes_of (fitting_chain n s))) s bytes))
-      (value_holds (fitting_chain n s) (sym e))
+      (subst AreBytes l.has.0.prefix (All-take (λ x. x < 256) (length (bytes_of (fitting_chain n s))) s bytes)) (value_holds (fitting_chain n s) (sym e))
 
   -- a value that is read from bytes has no fault
   pub fault_unread : (e : ExtsWalkError) → IsWalkAnswer (placed_fields v) n (walk_answer (Err e)) → (s : List ℕ) → AreBytes s → value_of (fitting_chain n s) ≡ v → ⊥
@@ -83,9 +82,8 @@ module _ (v : Ipv6Extensions) (n : ℕ) where
     -- what was written is read again
     pub written_again : (b r : List ℕ) (m : ℕ) → new ≡ old ++ b → IsWalkAnswer (placed_fields v) n (leads m) → (IsExtensionNumber m → ⊥) → IsFittingAnswer n (b ++ r) v m r None
     written_again b r m e a other =
-        let A : List ℕ → Type 0 = λ l. IsFittingAnswer n (l ++ r) v m r None in
-        let s = w.spelling in
-        subst A (appended_is b e) (other_answers n w.chain m s.reachable.chain s.reachable.fits (sym (written_leads m a)) r v (value_is w.chain s.value) other)
+        subst (λ l. IsFittingAnswer n (l ++ r) v m r None) (appended_is b e)
+        (other_answers n w.chain m w.spelling.reachable.chain w.spelling.reachable.fits (sym (written_leads m a)) r v (value_is w.chain w.spelling.value) other)
 
     -- and from it nothing is left
     pub written_whole : IsEncodable (placed_fields v) → (b : List ℕ) (m : ℕ) → new ≡ old ++ b → IsWalkAnswer (placed_fields v) n (leads m) → IsReadAsValue m b
@@ -109,14 +107,10 @@ module _ (v : Ipv6Extensions) (n : ℕ) where
   pub all_written : (old new : List ℕ) (m : ℕ) (c : List ExtHeader) → IsLongestOf (IsReachable (placed_fields v) n) c → IsWalkAnswer (placed_fields v) n (leads m) → new ≡ old ++ bytes_of c → IsWritten v n old new
   all_written old new m c reach a appended =
       let it = leads_spelled (placed_fields v) n m a in
-      let same : it.0 ≡ c = one_reach (placed_fields v) n it.0 c (spelling_is_reach (placed_fields v) n it.0 it.1) reach in
-      let S : List ExtHeader → Type 0 = IsSpelling (placed_fields v) n in
-      let s : IsSpelling (placed_fields v) n c = subst S same it.1 in
+      let s : IsSpelling (placed_fields v) n c = subst (IsSpelling (placed_fields v) n)
+      (one_reach (placed_fields v) n it.0 c (spelling_is_reach (placed_fields v) n it.0 it.1) reach) it.1 in
       record { chain = c; spelling = s; answer = spelled_leads (placed_fields v) n c s; appended = appended }
 
   pub fault_written : (old new : List ℕ) (e : ExtsWalkError) (c : List ExtHeader) → IsLongestOf (IsReachable (placed_fields v) n) c → IsWalkAnswer (placed_fields v) n (walk_answer (Err e)) → new ≡ old ++ bytes_of c → IsWalkFault v n old new e
-  fault_written old new e c reach a appended = record {
-    answer = a;
-    appended = appended ∙ ap (λ l. old ++ bytes_of l) (one_reach (placed_fields v) n c a.reach reach a.is_reach);
-    unread = fault_unread e a;
-  }
+  fault_written old new e c reach a appended =
+      record { answer = a; appended = appended ∙ ap (λ l. old ++ bytes_of l) (one_reach (placed_fields v) n c a.reach reach a.is_reach); unread = fault_unread e a }

@@ -37,11 +37,9 @@ use Rattle.ip_ext_ipv4.proofs.Ipv4Lemmas.{ipv4_longest, chain_of, by_one}
 -- a value tells the list that encodes it
 encoding_is : (f : ℕ) (v : Option AuthFields) (b : List ℕ) → IsIpv4Encoding f v b → b ≡ option_map_or auth_written v []
 encoding_is f v b (m, e) =
-    let W : List ExtHeader → Type 0 = λ c. AllByRecursion IsCleared c → bytes_of c ≡ option_map_or auth_written (ipv4_value c) [] in
-    let written : bytes_of e.chain ≡ option_map_or auth_written (ipv4_value e.chain) [] =
-    by_one W f (λ z. refl) (λ d named h z. append-nil d ∙ auth_only (auth_fields d) d (record { header = h; fields = refl; cleared = z.0 }))
-    e.chain e.longest.has.0.chain e.longest.has.1 e.value.1 in
-    sym e.all ∙ written ∙ ap (λ u. option_map_or auth_written u []) e.value.0
+    sym e.all ∙ (by_one (λ c. AllByRecursion IsCleared c → bytes_of c ≡ option_map_or auth_written (ipv4_value c) []) f (λ z. refl) (λ d named h z. append-nil d
+    ∙ auth_only (auth_fields d) d (record { header = h; fields = refl; cleared = z.0 })) e.chain e.longest.has.0.chain e.longest.has.1 e.value.1)
+    ∙ ap (λ u. option_map_or auth_written u []) e.value.0
 
 -- so at most one list encodes a value
 pub one_ipv4_encoding : (f : ℕ) (v : Option AuthFields) (b d : List ℕ) → IsIpv4Encoding f v b → IsIpv4Encoding f v d → b ≡ d
@@ -64,29 +62,22 @@ IsEncoded w = (b : List ℕ) × AreBytes b × IsAuthEncoding w b
 
 -- They are the only ones, and encode the header.
 pub one_encodes : (f : ℕ) (v : Option AuthFields) (w : AuthFields) (b : List ℕ) → f ≡ 51 → v ≡ Some w → IsEncoded w → IsAuthEncoding w b → IsIpv4Encoding f v b
-one_encodes f v w b named value (d, bytes, encodes) e = (
-  w.next_header,
-  whole_read (AtMostOneOf 51) (at_most_one_of 51) f w.next_header (HasValue v) b (chain_of b)
-      (record { headers = (auth refl e.header, tt); links = (sym named, tt); zero_only_first = tt })
-      (record { one = omega arith; number = (refl, tt) })
-      (ap Some e.fields ∙ sym value, (e.cleared, tt))
-      (ap (λ (u : AuthFields). u.next_header) e.fields)
-      (append-nil b)
-      (subst AreBytes (one_encoded (auth_header w) d b encodes e) bytes),
-)
+one_encodes f v w b named value (d, bytes, encodes) e =
+    (w.next_header, whole_read (AtMostOneOf 51) (at_most_one_of 51) f w.next_header (HasValue v) b (chain_of b) (record { headers = (auth refl e.header, tt);
+    links = (sym named, tt); zero_only_first = tt }) (record { one = omega arith;
+    number = (refl, tt) }) (ap Some e.fields ∙ sym value, (e.cleared, tt)) (ap (λ (u : AuthFields). u.next_header) e.fields) (append-nil b)
+    (subst AreBytes (one_encoded (auth_header w) d b encodes e) bytes))
 
 -- The reserved bits of the longest chain put to zero, it encodes its value.
 pub cleared_encodes : (n : ℕ) (s : List ℕ) → AreBytes s → IsIpv4Encoding n (ipv4_value (longest_ipv4_chain n s)) (bytes_of (cleared_chain (longest_ipv4_chain n s)))
 cleared_encodes n s bytes =
     let l = ipv4_longest n s in
     let E : List ExtHeader → Type 0 = λ c. IsPrefix (bytes_of c) s → IsIpv4Encoding n (ipv4_value c) (bytes_of (cleared_chain c)) in
-    by_one E n (λ p. none_encodes n None refl) (λ b named h p.
-    let d : List ℕ = cleared_header 51 b in
-    let whole : AreBytes b = subst AreBytes (prefix_first b [] s p) (All-take (λ x. x < 256) (length b) s bytes) in
-    let fixed : AreBytes (slice_range b 1 12) = All-take (λ x. x < 256) 11 (drop 1 b) (All-drop (λ x. x < 256) 1 b whole) in
-    let zeros : AreBytes d = All-set (λ x. x < 256) (slice_set b 2 0) 3 0 (omega arith) (All-set (λ x. x < 256) b 2 0 (omega arith) whole) in
-    let e : IsAuthEncoding (auth_fields b) d = header_encodes 51 b (auth refl h) fixed in
-    subst (IsIpv4Encoding n (Some (auth_fields b))) (sym (append-nil d)) (one_encodes n (Some (auth_fields b)) (auth_fields b) d named refl (d, zeros, e) e))
+    by_one E n (λ p. none_encodes n None refl) (λ b named h p. let d : List ℕ = cleared_header 51 b in let whole : AreBytes b = subst AreBytes
+    (prefix_first b [] s p) (All-take (λ x. x < 256) (length b) s bytes) in let fixed : AreBytes (slice_range b 1 12) = All-take (λ x. x < 256) 11 (drop 1 b)
+    (All-drop (λ x. x < 256) 1 b whole) in let zeros : AreBytes d = All-set (λ x. x < 256) (slice_set b 2 0) 3 0 (omega arith)
+    (All-set (λ x. x < 256) b 2 0 (omega arith) whole) in let e : IsAuthEncoding (auth_fields b) d = header_encodes 51 b (auth refl h) fixed in subst
+    (IsIpv4Encoding n (Some (auth_fields b))) (sym (append-nil d)) (one_encodes n (Some (auth_fields b)) (auth_fields b) d named refl (d, zeros, e) e))
     (longest_ipv4_chain n s) l.has.0.chain l.has.1 l.has.0.prefix
 
 -- what was written encodes the value

@@ -7,6 +7,5 @@ use Rattle.ip_ext_chains.proofs.encodable.raw_encodable.Goals as goal
 
 pub returns : goal.returns
 returns c =
-    let next : c.args.header.now.next_header < 256 = omega (arith, c.number_in_range.ensures, ap (λ (v : RawFields). v.next_header) c.header.view_is) in
-    let L : List ℕ → Type 0 = λ b. IsPayloadLen (length b) in
-    raw_encoded c.args.header.now next (subst L c.payload.ensures.payload c.payload.ensures.allowed) (subst AreBytes c.payload.ensures.payload c.in_range.ensures)
+    raw_encoded c.args.header.now (omega (arith, c.number_in_range.ensures, ap (λ (v : RawFields). v.next_header) c.header.view_is))
+    (subst (λ b. IsPayloadLen (length b)) c.payload.ensures.payload c.payload.ensures.allowed) (subst AreBytes c.payload.ensures.payload c.in_range.ensures)

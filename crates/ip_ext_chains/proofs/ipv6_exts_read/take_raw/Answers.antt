@@ -15,13 +15,7 @@ returns-in-Err-read_exact-clause-refused g c =
 
 pub returns-in-Ok-read_exact-clause-header : goal.returns-in-Ok-read_exact-clause-header
 returns-in-Ok-read_exact-clause-header g c =
-    let h : List ℕ = c.read_exact.new.buf in
-    let p : List ℕ = c.read_exact-2.new.buf in
-    let e : length h ≡ 2 = omega arith in
-    let n : length p ≡ 8 * slice_index h 1 + 6 = search rules in
-    record {
-      bytes = h ++ p;
-      header = raw_joined h p e n;
-      fields = raw_joined_fields h p e;
-      taken = Consumes-trans _ _ _ h p c.in-Ok.ensures.takes c.in-Ok-read_exact.ensures.takes;
-    }
+    let e : length c.read_exact.new.buf ≡ 2 = omega arith in
+    record { bytes = c.read_exact.new.buf ++ c.read_exact-2.new.buf; header = raw_joined c.read_exact.new.buf c.read_exact-2.new.buf e (search rules);
+    fields = raw_joined_fields c.read_exact.new.buf c.read_exact-2.new.buf e;
+    taken = Consumes-trans _ _ _ c.read_exact.new.buf c.read_exact-2.new.buf c.in-Ok.ensures.takes c.in-Ok-read_exact.ensures.takes }

@@ -5,15 +5,14 @@ use Rattle.ip_ext_chains.proofs.ipv6_exts.Ipv6Extensions.next_header.Goals as go
 
 pub headers-init : goal.headers-init
 headers-init c =
-    let w = c.new-walk.ensures in
     let on = walked_in (placed_fields c.args.self.now) c.args.first.0 c.encodable.ensures in
     on _ _ _ c.next_in-6.ensures.some c.next_in-6.ensures.none
     (on _ _ _ c.next_in-5.ensures.some c.next_in-5.ensures.none
     (on _ _ _ c.next_in-4.ensures.some c.next_in-4.ensures.none
     (on _ _ _ c.next_in-3.ensures.some c.next_in-3.ensures.none
     (on _ _ _ c.next_in-2.ensures.some c.next_in-2.ensures.none
-    (on _ _ _ c.next_in.ensures.some c.next_in.ensures.none
-    (walked_none (placed_fields c.args.self.now) c.args.first.0 c.new-walk.result w.left w.number w.first w.behind_routing))))))
+    (on _ _ _ c.next_in.ensures.some c.next_in.ensures.none (walked_none (placed_fields c.args.self.now) c.args.first.0 c.new-walk.result
+    c.new-walk.ensures.left c.new-walk.ensures.number c.new-walk.ensures.first c.new-walk.ensures.behind_routing))))))
 
 pub headers-smaller : goal.headers-smaller
 headers-smaller c = step_less c.headers.walk c.next.new.self _ c.in-Some.ensures.some

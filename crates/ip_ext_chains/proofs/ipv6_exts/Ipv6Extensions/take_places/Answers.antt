@@ -10,26 +10,21 @@ use Rattle.ip_ext_chains.proofs.ipv6_exts.Ipv6Extensions.take_places.Goals as go
 
 pub returns-then-not-is_empty : goal.returns-then-not-is_empty
 returns-then-not-is_empty c =
-    let headers = c.into_iter-headers.ensures.headers in
-    let left = c.take_run-places.new.headers in
-    walk_stops _ _ _ _ _ c.take_run-places.ensures (headers ∙ c.from_slice_lax-fault.ensures.answer.value)
-    (some_left _ _ left.whole (rw (sym c.rest-left.ensures) (sym c.is_empty.ensures ∙ c.if-not-is_empty.true))) _ (rw c.next_number.ensures (longest_chain-longest _ _).has.chain)
-    _ _ _ (c.slice-len.ensures.joined ∙ sym (ap bytes_of headers)) left.whole (rw (sym c.rest-left.ensures) (take_rest c.args.bytes.now _))
+    walk_stops _ _ _ _ _ c.take_run-places.ensures (c.into_iter-headers.ensures.headers ∙ c.from_slice_lax-fault.ensures.answer.value)
+    (some_left _ _ c.take_run-places.new.headers.whole (rw (sym c.rest-left.ensures) (sym c.is_empty.ensures ∙ c.if-not-is_empty.true))) _
+    (rw c.next_number.ensures (longest_chain-longest _ _).has.chain) _ _ _ (c.slice-len.ensures.joined ∙ sym (ap bytes_of c.into_iter-headers.ensures.headers))
+    c.take_run-places.new.headers.whole (rw (sym c.rest-left.ensures) (take_rest c.args.bytes.now _))
 
 pub returns-then-is_taken : goal.returns-then-is_taken
 returns-then-is_taken c =
-    let answer = c.from_slice_lax-fault.ensures.answer in
-    let left = c.take_run-places.new.headers in
-    let dropped : Option Fault = c.from_slice_lax-fault.result.3 in
-    walk_ends _ _ _ _ _ c.take_run-places.ensures (c.into_iter-headers.ensures.headers ∙ answer.value)
-    (none_left _ _ left.whole (rw (sym c.rest-left.ensures) (sym c.is_empty.ensures ∙ c.if-not-is_empty.false))) _ _ _ _ answer.number answer.rest answer.fault
-    (sym (ap (λ b. if b then None else dropped) (sym c.is_taken.ensures ∙ c.if-is_taken.true)))
+    walk_ends _ _ _ _ _ c.take_run-places.ensures (c.into_iter-headers.ensures.headers ∙ c.from_slice_lax-fault.ensures.answer.value)
+    (none_left _ _ c.take_run-places.new.headers.whole (rw (sym c.rest-left.ensures) (sym c.is_empty.ensures ∙ c.if-not-is_empty.false))) _ _ _ _
+    c.from_slice_lax-fault.ensures.answer.number c.from_slice_lax-fault.ensures.answer.rest c.from_slice_lax-fault.ensures.answer.fault
+    (sym (ap (λ b. if b then None else c.from_slice_lax-fault.result.3) (sym c.is_taken.ensures ∙ c.if-is_taken.true)))
 
 pub returns : goal.returns
 returns c =
-    let answer = c.from_slice_lax-fault.ensures.answer in
-    let left = c.take_run-places.new.headers in
-    let told : Option Fault = c.from_slice_lax-fault.result.3 in
-    walk_ends _ _ _ _ _ c.take_run-places.ensures (c.into_iter-headers.ensures.headers ∙ answer.value)
-    (none_left _ _ left.whole (rw (sym c.rest-left.ensures) (sym c.is_empty.ensures ∙ c.if-not-is_empty.false))) _ _ _ _ answer.number answer.rest answer.fault
-    (sym (ap (λ b. if b then None else told) (sym c.is_taken.ensures ∙ c.if-is_taken.false)))
+    walk_ends _ _ _ _ _ c.take_run-places.ensures (c.into_iter-headers.ensures.headers ∙ c.from_slice_lax-fault.ensures.answer.value)
+    (none_left _ _ c.take_run-places.new.headers.whole (rw (sym c.rest-left.ensures) (sym c.is_empty.ensures ∙ c.if-not-is_empty.false))) _ _ _ _
+    c.from_slice_lax-fault.ensures.answer.number c.from_slice_lax-fault.ensures.answer.rest c.from_slice_lax-fault.ensures.answer.fault
+    (sym (ap (λ b. if b then None else c.from_slice_lax-fault.result.3) (sym c.is_taken.ensures ∙ c.if-is_taken.false)))

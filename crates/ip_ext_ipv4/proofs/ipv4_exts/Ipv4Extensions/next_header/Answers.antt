@@ -11,5 +11,4 @@ returns-in-None-clause-exactly c = λ m.
     walk_read _ _ m _ (λ w is. absurd (let no : Some w ≡ None = sym is ∙ c.in-None.is in cc)) (ap (λ (v : Option AuthFields). ipv4_walk v c.args.first_next_header.0) (sym c.in-None.is))
 
 pub returns-in-Some-clause-exactly : goal.returns-in-Some-clause-exactly
-returns-in-Some-clause-exactly c = λ m.
-    walk_read _ _ m _ (λ w is. subst IsEncoded (same_Some _ w (sym c.in-Some.is ∙ is)) c.encodable.ensures) (search rules)
+returns-in-Some-clause-exactly c = λ m. walk_read _ _ m _ (λ w is. subst IsEncoded (same_Some _ w (sym c.in-Some.is ∙ is)) c.encodable.ensures) (search rules)

@@ -10,7 +10,7 @@ use Rattle.ip_base.specs.declared.err.layer.Layer.TheVariants.{Ipv6ExtHeader, Ip
 use Rattle.ip_base.specs.declared.len_source.LenSource.{LenSource}
 use Rattle.ip_spec.specs.Prefix.{IsPrefix}
 use Rattle.ip_spec.specs.Header.{IsRawHeader, IsFragmentHeader, IsAuthHeader}
-use Rattle.ip_spec.specs.Requests.{RawAsks, raw_start, raw_rest, FragmentAsks, fragment_whole, AuthAsks, auth_start, auth_icv, IsZeroLength}
+use Rattle.ip_spec.specs.Requests.{RawAsks, FragmentAsks, fragment_whole, AuthAsks, auth_start, auth_icv, IsZeroLength}
 use Rattle.ip_spec.proofs.PrefixLemmas.{prefix-length}
 use Rattle.ip_spec.proofs.HeaderLemmas.{prefix_byte}
 use Rattle.ip_ext_headers.specs.HeaderFault.{raw_fault, fragment_fault, auth_fault}

@@ -1,6 +1,6 @@
 -- The longest chain of IPv4 extension headers: one header, or none.
 use Rattle.std.proofs.lemmas.Grind.{common_steps}
-use Rattle.std.proofs.Common.{◌≡◌, ℕ, List, [], ◌∷◌, length, take, drop, refl, sym, ◌∙◌, subst, arith, rules}
+use Rattle.std.proofs.Common.{◌≡◌, ℕ, List, ◌∷◌, length, take, drop, refl, sym, arith, rules, []}
 use Rattle.std.specs.Prelude.{Option, Some, None}
 use Rattle.ip_base.specs.declared.len_source.LenSource.TheVariants.{Slice}
 use Rattle.ip_ext_headers.specs.declared.err.ip_auth.header_slice_error.HeaderSliceError.{HeaderSliceError}
@@ -12,7 +12,7 @@ use Rattle.ip_spec.specs.Chain.{ExtHeader, IsChain, headers_within}
 use Rattle.ip_spec.specs.Demand.{AtMostOneOf, IsLongestUnder}
 use Rattle.ip_spec.proofs.HeaderLemmas.{auth_of}
 use Rattle.ip_spec.proofs.UnderLemmas.{some_longest_under}
-use Rattle.ip_spec.proofs.ReadLemmas.{has_read_none, has_read_on, has_read_none_under, read_answers}
+use Rattle.ip_spec.proofs.ReadLemmas.{has_read_none, has_read_on, read_answers}
 use Rattle.ip_spec.proofs.ShorterLemmas.{longest_shorter}
 use Rattle.ip_spec.proofs.DemandKinds.{at_most_one_of}
 use Rattle.ip_ext_ipv4.specs.Ipv4Longest.{longest_ipv4_chain}

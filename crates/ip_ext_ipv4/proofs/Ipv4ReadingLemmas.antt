@@ -1,19 +1,14 @@
 -- What is read of IPv4 extension headers is what is parsed.
-use Rattle.std.proofs.Common.{◌≡◌, ◌≢◌, ℕ, List, [], ◌++◌, length, refl, ap, sym, ◌∙◌, rules}
+use Rattle.std.proofs.Common.{◌≡◌, ◌≢◌, ℕ, List, ◌++◌, refl, ap, sym, ◌∙◌, rules}
 use Rattle.std.specs.Prelude.{Some, None}
 use Rattle.std.proofs.lemmas.Bool.{ne_eqb}
 use Rattle.std.proofs.Math.Seq.{drop-append_seam}
-use Rattle.ip_base.specs.declared.len_source.LenSource.TheVariants.{Slice}
 use Rattle.ip_ext_headers.specs.AuthReading.{auth_slice_fault}
 use Rattle.ip_ext_headers.proofs.FaultLemmas.{auth_at_header}
-use Rattle.ip_spec.specs.Prefix.{IsPrefix}
 use Rattle.ip_spec.specs.Header.{IsAuthHeader}
 use Rattle.ip_spec.specs.Fields.{AuthFields, auth_fields}
-use Rattle.ip_spec.specs.Chain.{ExtHeader, bytes_of}
-use Rattle.ip_spec.specs.Parse.{fault_behind}
 use Rattle.ip_spec.proofs.PrefixLemmas.{prefix_of-append, prefix_first}
-use Rattle.ip_ext_ipv4.specs.Ipv4Fault.{ipv4_faults, ipv4_chain_fault}
-use Rattle.ip_ext_ipv4.specs.Ipv4Longest.{longest_ipv4_chain}
+use Rattle.ip_ext_ipv4.specs.Ipv4Fault.{ipv4_chain_fault}
 use Rattle.ip_ext_ipv4.specs.Ipv4Parse.{ipv4_value}
 use Rattle.ip_ext_ipv4.specs.Ipv4Reading.{Answers}
 use Rattle.ip_ext_ipv4.proofs.Ipv4Lemmas.{ipv4_longest, by_one, answer_of_one, answer_of_none}

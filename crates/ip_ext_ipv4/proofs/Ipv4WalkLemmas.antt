@@ -1,5 +1,5 @@
 -- What IPv4 extension headers are written as, and as what that is read.
-use Rattle.std.proofs.Common.{◌≡◌, ℕ, ◌<◌, List, [], ◌∷◌, ◌++◌, length, drop, refl, sym, ap, ◌∙◌, subst, arith, inl, inr, rules}
+use Rattle.std.proofs.Common.{◌≡◌, ℕ, ◌<◌, List, ◌++◌, length, drop, refl, sym, ap, ◌∙◌, subst, arith, inl, inr, rules, []}
 use Rattle.std.specs.declared.result.Result.{Result}
 use Rattle.std.specs.Prelude.{Option, Some, None, Ok, Err, ◌↔◌, slice_range, slice_set}
 use Rattle.std.specs.List.{AllByRecursion}
@@ -73,11 +73,13 @@ pub cleared_encodes : (n : ℕ) (s : List ℕ) → AreBytes s → IsIpv4Encoding
 cleared_encodes n s bytes =
     let l = ipv4_longest n s in
     let E : List ExtHeader → Type 0 = λ c. IsPrefix (bytes_of c) s → IsIpv4Encoding n (ipv4_value c) (bytes_of (cleared_chain c)) in
-    by_one E n (λ p. none_encodes n None refl) (λ b named h p. let d : List ℕ = cleared_header 51 b in let whole : AreBytes b = subst AreBytes
-    (prefix_first b [] s p) (All-take (λ x. x < 256) (length b) s bytes) in let fixed : AreBytes (slice_range b 1 12) = All-take (λ x. x < 256) 11 (drop 1 b)
-    (All-drop (λ x. x < 256) 1 b whole) in let zeros : AreBytes d = All-set (λ x. x < 256) (slice_set b 2 0) 3 0 (omega arith)
-    (All-set (λ x. x < 256) b 2 0 (omega arith) whole) in let e : IsAuthEncoding (auth_fields b) d = header_encodes 51 b (auth refl h) fixed in subst
-    (IsIpv4Encoding n (Some (auth_fields b))) (sym (append-nil d)) (one_encodes n (Some (auth_fields b)) (auth_fields b) d named refl (d, zeros, e) e))
+    by_one E n (λ p. none_encodes n None refl) (λ b named h p.
+    let d : List ℕ = cleared_header 51 b in
+    let whole : AreBytes b = subst AreBytes (prefix_first b [] s p) (All-take (λ x. x < 256) (length b) s bytes) in
+    let fixed : AreBytes (slice_range b 1 12) = All-take (λ x. x < 256) 11 (drop 1 b) (All-drop (λ x. x < 256) 1 b whole) in
+    let zeros : AreBytes d = All-set (λ x. x < 256) (slice_set b 2 0) 3 0 (omega arith) (All-set (λ x. x < 256) b 2 0 (omega arith) whole) in
+    let e : IsAuthEncoding (auth_fields b) d = header_encodes 51 b (auth refl h) fixed in
+    subst (IsIpv4Encoding n (Some (auth_fields b))) (sym (append-nil d)) (one_encodes n (Some (auth_fields b)) (auth_fields b) d named refl (d, zeros, e) e))
     (longest_ipv4_chain n s) l.has.0.chain l.has.1 l.has.0.prefix
 
 -- what was written encodes the value

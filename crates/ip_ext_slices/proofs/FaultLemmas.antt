@@ -1,8 +1,8 @@
 -- At an extension number there is a fault wherever no header goes on, and at another number there is neither.
 use Rattle.std.proofs.Common.{◌≡◌, ◌≢◌, ℕ, ◌+◌, ◌*◌, List, length, take, refl, sym, arith, inl, inr, ◌⊎◌, subst, Bool, true, false, slice_index, rules}
-use Rattle.std.specs.Prelude.{Option, Some, None, IsSome, IsTrue}
+use Rattle.std.specs.Prelude.{Option, None, IsSome, IsTrue}
 use Rattle.std.specs.Option.{option_map}
-use Rattle.std.proofs.lemmas.Bool.{cases_lt, lt-ltb, le-ltb, ne_eqb}
+use Rattle.std.proofs.lemmas.Bool.{cases_lt, lt-ltb, le-ltb}
 use Rattle.std.proofs.lemmas.Bool.Decides.{eqb_tells}
 use Rattle.ip_base.specs.declared.len_source.LenSource.{LenSource}
 use Rattle.ip_spec.specs.Header.{IsHeader, IsExtensionNumber, IsRawNumber, raw, fragment, auth}

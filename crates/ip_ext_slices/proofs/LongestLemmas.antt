@@ -1,6 +1,6 @@
 -- The longest chain, and the longest chain of bytes that it takes whole.
-use Rattle.std.proofs.Common.{◌≡◌, ◌≢◌, ℕ, ◌*◌, ◌≤◌, ◌<◌, List, [], ◌∷◌, length, take, drop, refl, ap, sym, ◌∙◌, arith, inl, inr, subst, Bool, true, false, nat_eq, rules}
-use Rattle.std.specs.Prelude.{Option, Some, None, IfNone, IsSome}
+use Rattle.std.proofs.Common.{◌≡◌, ◌≢◌, ℕ, ◌*◌, ◌≤◌, List, ◌∷◌, length, take, drop, refl, ap, sym, ◌∙◌, arith, subst, Bool, true, false, nat_eq, rules, []}
+use Rattle.std.specs.Prelude.{Option, IfNone, IsSome}
 use Rattle.std.specs.List.{AllByRecursion}
 use Rattle.std.proofs.Math.Seq.{drop-append_seam}
 use Rattle.std.proofs.lemmas.List.{drop-drop, length-append}

@@ -1,6 +1,6 @@
 -- What the parse knows of the chain that it has read, and what follows where no header goes on.
 use Rattle.std.proofs.lemmas.Grind.{common_steps}
-use Rattle.std.proofs.Common.{◌≡◌, ℕ, refl, arith, inl, inr, subst, ◌-◌, List, [], ◌∷◌, ◌++◌, length, take, drop, ap, sym, ◌∙◌, Bool, nat_eq, rules}
+use Rattle.std.proofs.Common.{◌≡◌, ℕ, arith, subst, ◌-◌, List, ◌∷◌, ◌++◌, length, take, drop, ap, sym, ◌∙◌, Bool, nat_eq, rules, []}
 use Rattle.std.specs.Prelude.{◌==◌, ◌&&◌, ◌||◌, Option, None}
 use Rattle.std.specs.List.{AllByRecursion}
 use Rattle.std.proofs.lemmas.Iterator.{YieldsList}

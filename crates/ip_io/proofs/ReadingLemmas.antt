@@ -1,21 +1,19 @@
 -- Bytes that were taken, and requests that were refused behind them.
 use Rattle.std.proofs.lemmas.Grind.{common_steps}
-use Rattle.std.proofs.Common.{◌≡◌, ℕ, ◌+◌, ◌-◌, ◌<◌, ◌≤◌, List, [], ◌++◌, length, take, ap, sym, ◌∙◌, arith, subst, Bool, true, false, length-append, rules}
-use Rattle.std.specs.Prelude.{Option, Some, None, IfSome}
+use Rattle.std.proofs.Common.{◌≡◌, ℕ, ◌+◌, ◌-◌, ◌<◌, ◌≤◌, List, ◌++◌, length, take, arith, Bool, length-append, rules, []}
+use Rattle.std.specs.Prelude.{Option, IfSome}
 use Rattle.std.specs.Option.{option_map}
 use Rattle.std.specs.Io.KnownBytes.{Consumes}
-use Rattle.std.proofs.KnownBytes.{Consumes-nil, Consumes-trans}
 use Rattle.std.proofs.lemmas.Option.{IfSome_then}
 use Rattle.std.proofs.Math.Seq.{take-append-add}
 use Rattle.std.proofs.lemmas.List.{length-take}
 use Rattle.ip_base.specs.declared.err.layer.Layer.{Layer}
 use Rattle.ip_base.specs.declared.err.len_error.LenError.{LenError}
 use Rattle.ip_io.specs.ExactRead.{IsRefusal, IfSteady}
-use Rattle.ip_io.specs.Limits.{left, started, advanced, limit_error}
+use Rattle.ip_io.specs.Limits.{left, started, advanced}
 use Rattle.ip_io.specs.LimitedReader.{inner_of, limits_of, window, IsLimitedRefusal}
 use Rattle.ip_io.specs.Reading.{IsRefused, IsRefusedBehind, IsTakenInLayer, IsPastLimit, IsRefusedWithin, IsRefusedInLayer}
 use Rattle.ip_io.specs.declared.err.io.limited_read_error.LimitedReadError.{LimitedReadError}
-use Rattle.ip_io.specs.declared.err.io.limited_read_error.LimitedReadError.TheVariants.{Io, Len}
 use Rattle.ip_io.specs.declared.io.limited_reader.LimitedReader.{LimitedReader}
 
 -- what is taken of bytes is taken of their beginning, where it is long enough

@@ -1,4 +1,4 @@
-use Rattle.std.proofs.Common.{rules, arith, ◌≡◌, ◌-◌, ◌*◌, ◌++◌, [], length, List, ℕ, ◌∙◌, slice_index, refl, sym}
+use Rattle.std.proofs.Common.{rules, arith, ◌≡◌, ◌-◌, ◌*◌, ◌++◌, length, List, ℕ, ◌∙◌, slice_index, refl, sym, []}
 use Rattle.std.proofs.KnownBytes.{Consumes-nil, Consumes-trans}
 use Rattle.ip_spec.specs.Requests.{AuthAsks, auth_start, auth_icv}
 use Rattle.ip_spec.proofs.RequestLemmas.{auth_joined, auth_joined_fields}

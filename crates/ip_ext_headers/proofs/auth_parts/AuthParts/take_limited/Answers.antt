@@ -1,4 +1,4 @@
-use Rattle.std.proofs.Common.{rules, arith, ◌≡◌, ◌-◌, ◌*◌, ◌++◌, [], length, List, ℕ, ap, ◌∙◌, slice_index, refl, sym}
+use Rattle.std.proofs.Common.{rules, arith, ◌≡◌, ◌-◌, ◌*◌, ◌++◌, length, List, ℕ, ap, ◌∙◌, slice_index, refl, sym, []}
 use Rattle.ip_base.specs.declared.err.layer.Layer.TheVariants.{IpAuthHeader as AuthLayer}
 use Rattle.ip_spec.specs.Requests.{AuthAsks, auth_start, auth_icv}
 use Rattle.ip_spec.proofs.RequestLemmas.{auth_joined, auth_joined_fields}

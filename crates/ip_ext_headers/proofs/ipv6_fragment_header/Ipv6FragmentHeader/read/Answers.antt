@@ -1,4 +1,4 @@
-use Rattle.std.proofs.Common.{rules, [], refl}
+use Rattle.std.proofs.Common.{rules, refl, []}
 use Rattle.std.proofs.KnownBytes.{Consumes-nil}
 use Rattle.ip_spec.specs.Requests.{FragmentAsks, fragment_whole}
 use Rattle.ip_io.specs.Reading.{IsRefused}

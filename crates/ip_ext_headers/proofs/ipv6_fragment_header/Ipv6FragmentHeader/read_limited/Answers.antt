@@ -1,4 +1,4 @@
-use Rattle.std.proofs.Common.{arith, [], List, ℕ, ap, refl, sym}
+use Rattle.std.proofs.Common.{arith, ap, refl, sym, []}
 use Rattle.std.proofs.lemmas.Result.{err_from_is_err_and}
 use Rattle.ip_base.specs.declared.err.layer.Layer.TheVariants.{Ipv6FragHeader}
 use Rattle.ip_spec.specs.Requests.{FragmentAsks, fragment_whole}

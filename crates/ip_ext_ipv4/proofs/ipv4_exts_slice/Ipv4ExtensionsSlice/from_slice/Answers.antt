@@ -1,6 +1,6 @@
-use Rattle.std.proofs.Common.{refl, arith, sym, rules}
+use Rattle.std.proofs.Common.{refl, arith, rules}
 use Rattle.std.proofs.lemmas.List.{take_rest}
-use Rattle.ip_ext_ipv4.proofs.Ipv4Lemmas.{answer_of_one, answer_of_fault}
+use Rattle.ip_ext_ipv4.proofs.Ipv4Lemmas.{answer_of_one}
 use Rattle.ip_ext_ipv4.proofs.ipv4_exts_slice.Ipv4ExtensionsSlice.from_slice.Goals as goal
 
 pub returns-in-Ok-clause-answer : goal.returns-in-Ok-clause-answer

@@ -1,5 +1,5 @@
 -- The longest chain that fits six places, where the longest chain's first run was taken.
-use Rattle.std.proofs.Common.{◌≡◌, ◌≢◌, ℕ, ◌-◌, List, [], ◌∷◌, ◌++◌, length, take, drop, refl, ap, sym, ◌∙◌, arith, inl, inr, Bool, true, false, subst, rules}
+use Rattle.std.proofs.Common.{◌≡◌, ◌≢◌, ℕ, ◌-◌, List, ◌∷◌, ◌++◌, length, take, drop, refl, ap, sym, ◌∙◌, inl, inr, Bool, true, false, subst, rules, []}
 use Rattle.std.specs.Prelude.{Option, Some, None, IsSome, if◌then◌else◌}
 use Rattle.std.proofs.lemmas.Bool.{cases_Bool}
 use Rattle.ip_spec.specs.Header.{IsExtensionNumber}
@@ -23,7 +23,7 @@ use Rattle.ip_ext_chains.specs.Fitting.{fitting_chain, fitting_faults, fitting_f
 use Rattle.ip_base.specs.declared.len_source.LenSource.TheVariants.{Slice}
 use Rattle.ip_ext_slices.specs.ChainFault.{Fault, fault_at, chain_faults, chain_fault}
 use Rattle.ip_ext_chains.specs.Ipv6Extensions.{value_of}
-use Rattle.ip_ext_chains.specs.Slots.{ArePlaced, is_taken_in, value_at, AreOfNumber}
+use Rattle.ip_ext_chains.specs.Slots.{is_taken_in, value_at, AreOfNumber}
 use Rattle.ip_ext_chains.specs.Run.{IsRun}
 use Rattle.ip_ext_slices.specs.declared.ipv6_ext_slice.Ipv6ExtensionSlice.{Ipv6ExtensionSlice}
 use Rattle.ip_ext_chains.specs.declared.ipv6_exts.Ipv6Extensions.{Ipv6Extensions}

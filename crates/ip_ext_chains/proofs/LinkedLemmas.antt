@@ -1,12 +1,10 @@
 -- The numbers that are set where headers are linked.
-use Rattle.std.proofs.Common.{◌≡◌, ℕ, List, ◌∷◌, refl, ap, sym, ◌∙◌, cond, subst, rules}
-use Rattle.std.specs.Prelude.{Option, Some, None, is_some, if◌then◌else◌}
-use Rattle.std.specs.List.{find}
-use Rattle.std.specs.Option.{option_map, option_map_or}
+use Rattle.std.proofs.Common.{◌≡◌, ℕ, List, ◌∷◌, ap, ◌∙◌, rules}
+use Rattle.std.specs.Prelude.{Option, is_some, if◌then◌else◌}
+use Rattle.std.specs.Option.{option_map}
 use Rattle.ip_spec.specs.Places.{Place, number_in, HeaderFields}
 use Rattle.ip_spec.specs.Walk.{PlacedFields, WalkAnswer, IsWalkAnswer}
 use Rattle.ip_spec.specs.Links.{relinked, first_number}
-use Rattle.ip_spec.proofs.WalkStepLemmas.{same_held}
 
 -- the number to which what is before a place leads
 pub number_before : {X : Type 0} (v : PlacedFields) (p : Place) (ps : List Place) (m : ℕ) (f : X → HeaderFields) (o : Option X) (r n : ℕ)

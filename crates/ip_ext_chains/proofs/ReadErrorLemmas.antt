@@ -1,23 +1,21 @@
 -- What is refused of a chain that is read is what the parse tells.
 use Rattle.std.proofs.lemmas.Grind.{common_steps}
-use Rattle.std.proofs.Common.{◌≡◌, ℕ, ◌<◌, List, [], ◌∷◌, ◌++◌, length, refl, ap, sym, ◌∙◌, subst, inl, inr, Bool, true, false, arith, length-append, rules}
+use Rattle.std.proofs.Common.{◌≡◌, ℕ, ◌<◌, List, ◌∷◌, ◌++◌, length, refl, ap, ◌∙◌, Bool, true, false, arith, length-append, rules, []}
 use Rattle.std.specs.Prelude.{Option, Some, IsTrue}
 use Rattle.std.specs.Option.{option_map}
 use Rattle.std.specs.Io.KnownBytes.{Consumes}
-use Rattle.std.proofs.KnownBytes.{Consumes-nil, Consumes-trans}
 use Rattle.ip_base.specs.declared.len_source.LenSource.TheVariants.{Slice}
-use Rattle.ip_base.specs.declared.err.layer.Layer.{Layer}
 use Rattle.ip_base.specs.declared.err.layer.Layer.TheVariants.{Ipv6ExtHeader}
 use Rattle.ip_spec.specs.Header.{IsRawNumber}
-use Rattle.ip_spec.specs.Requests.{RawAsks, Asks, asks_raw, IsZeroLength}
+use Rattle.ip_spec.specs.Requests.{RawAsks, Asks, IsZeroLength}
 use Rattle.ip_io.specs.declared.err.io.limited_read_error.LimitedReadError.{LimitedReadError}
 use Rattle.ip_io.specs.declared.err.io.limited_read_error.LimitedReadError.TheVariants as limit
 use Rattle.ip_spec.specs.Chain.{ExtHeader, leads_to, bytes_of, is_empty}
 use Rattle.ip_spec.proofs.ChainLemmas.{bytes_of-more}
 use Rattle.ip_io.specs.ExactRead.{IfSteady}
-use Rattle.ip_io.specs.Limits.{Limits, left, started, advanced}
-use Rattle.ip_io.specs.LimitedReader.{inner_of, limits_of, window}
-use Rattle.ip_io.specs.Reading.{IsTakenInLayer, IsRefusedInLayer, IsRefusedWithin, IsPastLimit}
+use Rattle.ip_io.specs.Limits.{Limits, started, advanced}
+use Rattle.ip_io.specs.LimitedReader.{inner_of, window}
+use Rattle.ip_io.specs.Reading.{IsTakenInLayer, IsRefusedInLayer}
 use Rattle.ip_io.specs.declared.io.limited_reader.LimitedReader.{LimitedReader}
 use Rattle.ip_io.proofs.ReadingLemmas.{lift_some, of_all, of_begun, refused_short, refused_within_short, past_limit_short}
 use Rattle.ip_ext_errors.specs.declared.ip_auth.header_error.HeaderError.TheVariants.{ZeroPayloadLen}
@@ -62,9 +60,6 @@ module _ {T : Type 0} (bytes_left : T → Option (List ℕ)) (is_steady has_fail
       → is_steady new ≡ is_steady mid → has_failed new ≡ has_failed mid → AreTaken bytes_left is_steady has_failed old new (c ++ h ∷ [])
   taken_next old mid new c h t b steady kept = grind (arith, common_steps, bytes_of-more, never_empty)
 
-  pub nothing_taken : (old : T) → AreTaken bytes_left is_steady has_failed old old []
-  nothing_taken old = record { bytes = Consumes-nil (bytes_left old); steady = refl; kept = refl; none = λ e. refl }
-
   -- a header that is refused where it would be the first, refused where it may be read
   pub refused_as : (e : HeaderReadError) (first : Bool) (m j : ℕ) (old new : T) → IsHeaderRefused bytes_left is_steady has_failed e true j old new → m ≡ j → (m ≡ 0 → IsTrue first)
       → IsHeaderRefused bytes_left is_steady has_failed e first m old new
@@ -95,21 +90,12 @@ module _ {T : Type 0} (bytes_left : T → Option (List ℕ)) (is_steady has_fail
       → is_steady (inner_of new) ≡ is_steady (inner_of mid) → has_failed (inner_of new) ≡ has_failed (inner_of mid) → AreTakenInLayers bytes_left is_steady has_failed old new (c ++ h ∷ [])
   layer_next old mid new c h j is t taken steady kept = grind (arith, common_steps, bytes_of-more, length-append, limits_behind-more, never_empty)
 
-  -- a refused request of a header of the common layout
-  raw_layer : (m : ℕ) → IsRawNumber m → layer_of m ≡ Ipv6ExtHeader
-  raw_layer m is = search rules
-
   pub raw_refused : (e : LimitedReadError) (old new : LimitedReader T) → IsRefusedInLayer bytes_left is_steady has_failed RawAsks Ipv6ExtHeader old new e
       → (m : ℕ) → IsRawNumber m → IsHeaderRefusedInLayer bytes_left is_steady has_failed (of_limited_error e) true m old new
   raw_refused e old new r m is = search rules
 
   pub no_layer : (old : LimitedReader T) → AreTakenInLayers bytes_left is_steady has_failed old old []
   no_layer old = search rules
-
-  -- a header that is refused where it would be the first, refused where it may be read
-  layer_refused_behind : (e : HeaderLimitedReadError) (first : Bool) (m : ℕ) (old new : LimitedReader T) → IsHeaderRefusedInLayer bytes_left is_steady has_failed e true m old new → (m ≡ 0 → IsTrue first)
-      → IsHeaderRefusedInLayer bytes_left is_steady has_failed e first m old new
-  layer_refused_behind e first m old new r zero_first = search rules
 
   pub layer_refused_as : (e : HeaderLimitedReadError) (first : Bool) (m j : ℕ) (old new : LimitedReader T) → IsHeaderRefusedInLayer bytes_left is_steady has_failed e true j old new → m ≡ j → (m ≡ 0 → IsTrue first)
       → IsHeaderRefusedInLayer bytes_left is_steady has_failed e first m old new

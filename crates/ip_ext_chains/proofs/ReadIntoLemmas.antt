@@ -1,7 +1,6 @@
 -- A header that was read stands in its place.
-use Rattle.std.proofs.Common.{◌≡◌, ℕ, List, refl, ap, sym, ◌∙◌, inl, inr, rules}
-use Rattle.std.specs.Prelude.{Option, Some, Result, Ok, Err, IfOk}
-use Rattle.std.specs.Option.{option_map}
+use Rattle.std.proofs.Common.{◌≡◌, ℕ, List, refl, inl, inr, rules}
+use Rattle.std.specs.Prelude.{Option, Some, Result, IfOk}
 use Rattle.ip_base.specs.declared.ip_number_impl.IpNumber.{IpNumber}
 use Rattle.ip_spec.specs.Header.{IsHeader, IsRawHeader, IsFragmentHeader, IsAuthHeader, raw, fragment, auth}
 use Rattle.ip_spec.specs.Fields.{RawFields, FragmentFields, AuthFields, raw_fields, fragment_fields, auth_fields}
@@ -9,10 +8,6 @@ use Rattle.ip_spec.specs.Places.{Place, number_in, hop_by_hop, destination, rout
 use Rattle.ip_ext_chains.specs.ChainReading.{IsHeaderRead, IsReadInto, with_header, routing_fields}
 use Rattle.ip_ext_chains.specs.declared.ipv6_exts.Ipv6Extensions.{Ipv6Extensions}
 use Rattle.ip_ext_chains.specs.declared.ipv6_routing_exts.Ipv6RoutingExtensions.{Ipv6RoutingExtensions}
-
--- what follows from each answer
-pub of_ok : {A E : Type 0} (r : Result A E) (P Q : A → Type 0) → ((x : A) → P x → Q x) → IfOk r P → IfOk r Q
-of_ok r P Q f p = search rules
 
 module _ (Taken : List ℕ → Type 0) (v : Ipv6Extensions) {E : Type 0} (r : Result IpNumber E) where
   -- a place of which v is changed has the header where it is what was read

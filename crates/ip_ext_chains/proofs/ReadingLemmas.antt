@@ -1,6 +1,6 @@
 -- A chain that is read, header by header, into six places.
 use Rattle.std.proofs.lemmas.Grind.{common_steps}
-use Rattle.std.proofs.Common.{◌≡◌, ◌≢◌, ℕ, ◌+◌, ◌<◌, List, [], ◌∷◌, ◌++◌, length, drop, take, refl, ap, sym, ◌∙◌, arith, inl, inr, ◌⊎◌, subst, Bool, true, false, rules}
+use Rattle.std.proofs.Common.{◌≡◌, ◌≢◌, ℕ, ◌+◌, ◌<◌, List, ◌∷◌, ◌++◌, length, drop, take, refl, ap, sym, ◌∙◌, arith, inl, inr, ◌⊎◌, subst, Bool, true, false, rules, []}
 use Rattle.std.specs.Prelude.{◌==◌, ◌&&◌, not, Option, Some, None, is_some, if◌then◌else◌}
 use Rattle.std.specs.Option.{option_map, option_map_or}
 use Rattle.std.proofs.lemmas.Bool.{cases_Bool, ne_eqb}
@@ -8,20 +8,18 @@ use Rattle.std.proofs.lemmas.Option.{none-some}
 use Rattle.std.proofs.Math.Bool.{and-false}
 use Rattle.std.proofs.Math.Seq.{take-length, drop-append_seam}
 use Rattle.ip_spec.specs.Header.{IsHeader, IsExtensionNumber}
-use Rattle.ip_spec.specs.Fields.{raw_fields}
 use Rattle.ip_spec.specs.Chain.{ExtHeader, IsChain, IsNext, leads_to, bytes_of, is_empty}
 use Rattle.ip_spec.specs.Fits.{FitsPlaces}
 use Rattle.ip_spec.specs.Places.{Place, hop_by_hop, destination, routing, fragment, authentication, final_destination, index, number_in, header_in, place_of, is_taken, fields_of, HeaderFields, raw_header}
-use Rattle.ip_spec.proofs.HeaderLemmas.{header_number}
 use Rattle.ip_spec.proofs.PrefixLemmas.{prefix_of-append}
 use Rattle.ip_spec.proofs.ChainLemmas.{no_chain, goes_on, leads_to-more}
 use Rattle.ip_ext_chains.proofs.FittingLemmas.{taken_answers, other_answers}
 use Rattle.ip_spec.proofs.WalkLemmas.{none_if, is_some-map}
 use Rattle.ip_spec.proofs.WalkStepLemmas.{not_empty}
 use Rattle.ip_spec.proofs.FitsLemmas.{fits_places}
-use Rattle.ip_spec.proofs.PlaceLemmas.{has_routing, place_number, in_both, own_place, final_behind, is_extension, placed, fits_more}
+use Rattle.ip_spec.proofs.PlaceLemmas.{has_routing, place_number, in_both, own_place, placed, fits_more}
 use Rattle.ip_ext_chains.specs.Fitting.{IsFittingAnswer}
-use Rattle.ip_ext_chains.specs.Ipv6Extensions.{value_of, placed_fields, final_of}
+use Rattle.ip_ext_chains.specs.Ipv6Extensions.{value_of, placed_fields}
 use Rattle.ip_ext_chains.specs.ChainReading.{with_header, IsNextPlace, HasNoPlace, IsReadInto}
 use Rattle.ip_ext_chains.specs.declared.ipv6_exts.Ipv6Extensions.{Ipv6Extensions}
 use Rattle.ip_ext_chains.specs.declared.ipv6_routing_exts.Ipv6RoutingExtensions.{Ipv6RoutingExtensions}
@@ -46,17 +44,6 @@ module _ (c : List ExtHeader) (v : Ipv6Extensions) (e : v ≡ value_of c) where
 
   pub routing_there : is_some v.routing ≡ has_routing c
   routing_there = sym (is_some-map (λ (r : Ipv6RoutingExtensions). raw_header r.routing) v.routing) ∙ filled routing
-
--- Destination options behind a routing header.
-no_final : (o : Option Ipv6RoutingExtensions) → is_some (option_map (λ r. raw_header r.routing) o) ≡ false → option_map raw_header (final_of o) ≡ None
-no_final o e = search rules
-
-module _ (b : List ℕ) where
-  same_routing : (o : Option Ipv6RoutingExtensions) → option_map (λ r. raw_header r.routing) (option_map {T = Ipv6RoutingExtensions} {U = Ipv6RoutingExtensions} (λ r. record r { final_destination_options = Some (raw_fields b) }) o) ≡ option_map (λ r. raw_header r.routing) o
-  same_routing o = search rules
-
-  own_final : (o : Option Ipv6RoutingExtensions) → is_some o ≡ true → option_map raw_header (final_of (option_map {T = Ipv6RoutingExtensions} {U = Ipv6RoutingExtensions} (λ r. record r { final_destination_options = Some (raw_fields b) }) o)) ≡ Some (raw_header (raw_fields b))
-  own_final o e = search rules
 
 -- One header more.
 put_held : (p q : Place) (b : List ℕ) (v : Ipv6Extensions) → is_some (placed_fields v p) ≡ false → (p ≡ final_destination → is_some v.routing ≡ true)
@@ -111,17 +98,28 @@ module _ (n : ℕ) (c : List ExtHeader) (m : ℕ) (v : Ipv6Extensions) (first : 
     reading_next Taken j w r =
         let h : ExtHeader = record { number = m; bytes = r.bytes } in
         let s : List ℕ = bytes_of c ++ r.bytes in
-        let header : IsHeader (leads_to n c) r.bytes = subst (λ i. IsHeader i r.bytes) (sym is_number_in ∙ k.number) r.header in
-        record { chain = (goes_on n s c h (record { chain = k.chain; prefix = prefix_of-append (bytes_of c) r.bytes s refl }) (record { number = k.number;
-        header = header; prefix = ap (take (length r.bytes)) (drop-append_seam (bytes_of c) r.bytes) ∙ take-length r.bytes;
-        zero_only_first = λ z. sym k.none_yet ∙ next.zero_first (k.number ∙ z) })).chain; fits = fits_more c h p k.fits own free_in;
-        number = r.next ∙ sym (leads_to-more n c h); value = placed_fields_one w (value_of (c ++ h ∷ []))
-        (λ q. ap (λ (u : Ipv6Extensions). placed_fields u q) r.value ∙ put_held p q r.bytes v next.free nested
-        ∙ ap (λ (i : ℕ). if index p == index q then Some (fields_of (record { number = i; bytes = r.bytes })) else placed_fields v q) (sym is_number_in)
-        ∙ ap (λ (o : Option HeaderFields). if index p == index q then Some (fields_of h) else o) (ap (λ (u : Ipv6Extensions). placed_fields u q) k.value
-        ∙ placed_fields-value_of c q) ∙ sym (mapped_if fields_of (index p == index q) h (header_in q c))
-        ∙ ap (option_map fields_of) (sym (placed c h p own (none_if (header_in p c) free_in) q)) ∙ sym (placed_fields-value_of (c ++ h ∷ []) q));
-        none_yet = not_empty c h }
+        let H : ℕ → Type 0 = λ i. IsHeader i r.bytes in
+        let header : IsHeader (leads_to n c) r.bytes = subst H (sym is_number_in ∙ k.number) r.header in
+        let there : IsNext (is_empty c) (leads_to n c) (drop (length (bytes_of c)) s) h = record {
+          number = k.number;
+          header = header;
+          prefix = ap (take (length r.bytes)) (drop-append_seam (bytes_of c) r.bytes) ∙ take-length r.bytes;
+          zero_only_first = λ z. sym k.none_yet ∙ next.zero_first (k.number ∙ z);
+        } in
+        record {
+          chain = (goes_on n s c h (record { chain = k.chain; prefix = prefix_of-append (bytes_of c) r.bytes s refl }) there).chain;
+          fits = fits_more c h p k.fits own free_in;
+          number = r.next ∙ sym (leads_to-more n c h);
+          value = placed_fields_one w (value_of (c ++ h ∷ [])) (λ q.
+              ap (λ (u : Ipv6Extensions). placed_fields u q) r.value
+              ∙ put_held p q r.bytes v next.free nested
+              ∙ ap (λ (i : ℕ). if index p == index q then Some (fields_of (record { number = i; bytes = r.bytes })) else placed_fields v q) (sym is_number_in)
+              ∙ ap (λ (o : Option HeaderFields). if index p == index q then Some (fields_of h) else o) (ap (λ (u : Ipv6Extensions). placed_fields u q) k.value ∙ placed_fields-value_of c q)
+              ∙ sym (mapped_if fields_of (index p == index q) h (header_in q c))
+              ∙ ap (option_map fields_of) (sym (placed c h p own (none_if (header_in p c) free_in) q))
+              ∙ sym (placed_fields-value_of (c ++ h ∷ []) q));
+          none_yet = not_empty c h;
+        }
 
 -- how many places are empty
 abbrev pub count_empty : {A : Type 0} → Option A → ℕ
@@ -132,9 +130,6 @@ abbrev pub free_places : Ipv6Extensions → ℕ
 free_places v =
     count_empty (placed_fields v hop_by_hop) + (count_empty (placed_fields v destination) + (count_empty (placed_fields v routing) + (count_empty (placed_fields v fragment) + (count_empty (placed_fields v authentication) + count_empty (placed_fields v final_destination)))))
 
-one_empty : (o : Option HeaderFields) → is_some o ≡ false → count_empty o ≡ 1
-one_empty o e = ap count_empty (none_if o e)
-
 fewer_at : (p : Place) (b : List ℕ) (v : Ipv6Extensions) → is_some (placed_fields v p) ≡ false → (p ≡ final_destination → is_some v.routing ≡ true) → free_places (with_header p b v) < free_places v
 fewer_at p b v free nested = search rules
 
@@ -144,9 +139,6 @@ fewer Taken first m p j v w next nested r = rw r.value (fewer_at p r.bytes v nex
 
 empty_is : (c : List ExtHeader) → is_empty c ≡ true → c ≡ []
 empty_is c e = search rules
-
-none_from : (n : ℕ) (c : List ExtHeader) → IsChain n c → (IsExtensionNumber n → ⊥) → c ≡ []
-none_from n c k other = search rules
 
 module _ (n : ℕ) (c : List ExtHeader) (m : ℕ) (v : Ipv6Extensions) (first : Bool) (k : IsReading n c m v first) where
   -- at number 0 a place is missing only behind a header
@@ -162,10 +154,6 @@ module _ (n : ℕ) (c : List ExtHeader) (m : ℕ) (v : Ipv6Extensions) (first : 
 
   pub zero_not_taken : m ≡ 0 → is_taken (leads_to n c) c ≡ false
   zero_not_taken zero_number = ap (λ (j : ℕ). is_taken j c) (sym k.number ∙ zero_number)
-
-  -- the first header's number is the one from which the chain begins
-  pub nothing_read : (IsExtensionNumber n → ⊥) → c ≡ []
-  nothing_read other = none_from n c k.chain other
 
   -- so where a header is named, the first number names one
   pub named : (p : Place) → IsNextPlace first m p v → (IsExtensionNumber n → ⊥) → ⊥

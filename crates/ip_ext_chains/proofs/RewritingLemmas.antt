@@ -1,5 +1,5 @@
 -- Runs that are written one after the other: what was written and what the others spell is the whole chain.
-use Rattle.std.proofs.Common.{◌≡◌, ℕ, ◌+◌, ◌≤◌, List, [], ◌∷◌, ◌++◌, length, map, ap, sym, ◌∙◌, arith, subst, append_assoc, rules}
+use Rattle.std.proofs.Common.{◌≡◌, ℕ, ◌+◌, ◌≤◌, List, ◌++◌, length, map, ap, arith, append_assoc, rules, []}
 use Rattle.std.specs.Prelude.{Some}
 use Rattle.std.proofs.lemmas.List.Concat.{flat_map-append}
 use Rattle.ip_spec.specs.Chain.{ExtHeader, bytes_of}

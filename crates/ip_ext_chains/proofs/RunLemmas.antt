@@ -1,6 +1,6 @@
 -- Headers that are put into their places, and where a run ends.
 use Rattle.std.proofs.lemmas.Grind.{common_steps}
-use Rattle.std.proofs.Common.{◌≡◌, ◌≢◌, ℕ, ◌*◌, ◌≤◌, List, [], ◌∷◌, ◌++◌, length, map, nat_eq, arith, refl, ap, sym, ◌∙◌, Bool, true, false, subst, append_assoc, rules}
+use Rattle.std.proofs.Common.{◌≡◌, ◌≢◌, ℕ, ◌*◌, ◌≤◌, List, ◌∷◌, ◌++◌, length, map, nat_eq, arith, refl, ap, sym, ◌∙◌, Bool, true, false, subst, append_assoc, rules, []}
 use Rattle.std.specs.Prelude.{◌==◌, ◌↔◌, Some, None, is_some, if◌then◌else◌}
 use Rattle.std.specs.Option.{option_map}
 use Rattle.std.proofs.lemmas.Bool.{eqb-true}

@@ -1,5 +1,5 @@
 -- The number before the runs to come: it begins the headers that are left, and each run leads to the next one.
-use Rattle.std.proofs.Common.{◌≡◌, ◌≢◌, ℕ, List, [], ◌∷◌, ◌++◌, map, refl, ap, sym, ◌∙◌, Bool, true, false, subst, rules}
+use Rattle.std.proofs.Common.{◌≡◌, ◌≢◌, ℕ, List, ◌∷◌, ◌++◌, map, refl, ap, ◌∙◌, Bool, true, subst, rules, []}
 use Rattle.std.specs.Prelude.{if◌then◌else◌}
 use Rattle.ip_spec.specs.Encoding.{AreBytes}
 use Rattle.ip_spec.specs.Chain.{ExtHeader, leads_to, bytes_of, IsChain}

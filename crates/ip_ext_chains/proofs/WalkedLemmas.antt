@@ -1,7 +1,7 @@
 -- What a walk through a struct of six places has reached and written.
 use Rattle.std.proofs.lemmas.Grind.{common_steps}
-use Rattle.std.proofs.Common.{◌≡◌, ℕ, ◌+◌, ◌<◌, ◌≤◌, List, [], ◌∷◌, ◌++◌, length, ap, sym, ◌∙◌, arith, subst, append_assoc, Bool, true, false, rules}
-use Rattle.std.specs.Prelude.{Option, Some, None, IfSome, IfNone}
+use Rattle.std.proofs.Common.{◌≡◌, ℕ, ◌+◌, ◌<◌, ◌≤◌, List, ◌∷◌, ◌++◌, length, ap, sym, ◌∙◌, arith, append_assoc, true, false, rules, []}
+use Rattle.std.specs.Prelude.{Option, IfSome, IfNone}
 use Rattle.std.proofs.lemmas.List.{append-nil}
 use Rattle.ip_spec.specs.Encoding.{AppendsOne}
 use Rattle.ip_spec.specs.Chain.{ExtHeader, bytes_of}
@@ -12,7 +12,7 @@ use Rattle.ip_spec.specs.Walk.{PlacedFields, IsReachable, WalkAnswer, answer_at,
 use Rattle.ip_spec.specs.WalkStep.{next_of, IsEncodingOf}
 use Rattle.ip_spec.proofs.StepLemmas.{bytes_of-more}
 use Rattle.ip_spec.proofs.EncodedLemmas.{encoding_is}
-use Rattle.ip_spec.proofs.WalkStepLemmas.{Walking, walk_begins, walks_on, walk_stops, walk_answers, left_some, same_held}
+use Rattle.ip_spec.proofs.WalkStepLemmas.{Walking, walks_on, walk_stops, walk_answers, left_some, same_held}
 use Rattle.ip_spec.proofs.LinkLemmas.{next_said}
 use Rattle.ip_spec.proofs.SumLemmas.{sum_without}
 use Rattle.ip_ext_chains.specs.HeaderRef.{fields_of_ref}

@@ -1,4 +1,4 @@
-use Rattle.std.proofs.Common.{◌<◌, ◌^◌, List, ℕ, length, subst, arith, ap}
+use Rattle.std.proofs.Common.{length, subst, arith, ap}
 use Rattle.ip_spec.specs.Fields.{AuthFields}
 use Rattle.ip_spec.specs.Lengths.{IsIcvLen}
 use Rattle.ip_spec.specs.Encoding.{AreBytes}

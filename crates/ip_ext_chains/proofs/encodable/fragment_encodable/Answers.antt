@@ -1,6 +1,5 @@
-use Rattle.std.proofs.Common.{◌<◌, ◌≤◌, ◌^◌, arith, ap}
+use Rattle.std.proofs.Common.{arith, ap}
 use Rattle.ip_spec.specs.Fields.{FragmentFields}
-use Rattle.ip_spec.specs.Lengths.{MAX_FRAGMENT_OFFSET}
 use Rattle.ip_spec.proofs.EncodedLemmas.{fragment_encoded}
 use Rattle.ip_ext_chains.proofs.encodable.fragment_encodable.Goals as goal
 

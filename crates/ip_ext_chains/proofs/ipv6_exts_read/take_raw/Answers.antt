@@ -1,4 +1,4 @@
-use Rattle.std.proofs.Common.{rules, arith, ◌≡◌, ◌+◌, ◌*◌, ◌++◌, [], length, List, ℕ, slice_index, refl}
+use Rattle.std.proofs.Common.{rules, arith, ◌≡◌, ◌+◌, ◌++◌, length, List, ℕ, refl, []}
 use Rattle.std.proofs.KnownBytes.{Consumes-nil, Consumes-trans}
 use Rattle.ip_spec.specs.Requests.{RawAsks, raw_start, raw_rest}
 use Rattle.ip_spec.proofs.RequestLemmas.{raw_joined, raw_joined_fields}

@@ -1,4 +1,4 @@
-use Rattle.std.proofs.Common.{rules, arith, ◌≡◌, ◌+◌, ◌*◌, ◌++◌, [], length, List, ℕ, ap, ◌∙◌, slice_index, refl}
+use Rattle.std.proofs.Common.{rules, arith, ◌≡◌, ◌+◌, ◌*◌, ◌++◌, length, List, ℕ, ap, ◌∙◌, slice_index, refl, []}
 use Rattle.ip_base.specs.declared.err.layer.Layer.TheVariants.{Ipv6ExtHeader}
 use Rattle.ip_spec.specs.Requests.{RawAsks, raw_start, raw_rest}
 use Rattle.ip_spec.proofs.RequestLemmas.{raw_joined, raw_joined_fields}

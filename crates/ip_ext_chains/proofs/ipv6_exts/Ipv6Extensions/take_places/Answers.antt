@@ -1,8 +1,7 @@
 use Rattle.std.proofs.Common.{ap, sym, ◌∙◌}
 use Rattle.std.proofs.lemmas.List.{take_rest}
-use Rattle.std.specs.Prelude.{Option, None, if◌then◌else◌}
+use Rattle.std.specs.Prelude.{None, if◌then◌else◌}
 use Rattle.ip_spec.specs.Chain.{bytes_of}
-use Rattle.ip_ext_slices.specs.ChainFault.{Fault}
 use Rattle.ip_ext_slices.proofs.LongestLemmas.{longest_chain-longest}
 use Rattle.ip_ext_chains.proofs.RunLemmas.{none_left, some_left}
 use Rattle.ip_ext_chains.proofs.FittingLemmas.{walk_stops, walk_ends}

@@ -76,8 +76,12 @@ pub returns-in-Err-answer-clause-capacity : goal.returns-in-Err-answer-clause-ca
 returns-in-Err-answer-clause-capacity g c = c.headers.invariant.1
 
 pub returns-in-Err-answer-clause-content : goal.returns-in-Err-answer-clause-content
-returns-in-Err-answer-clause-content g c =
-    λ fault e. let k = c.headers.invariant.0 in let s = c.in_default-next.ensures.none in let same : c.in-Err-answer.fault ≡ fault = cc in subst
-    (IsWalkFault c.args.self.now c.args.first.0 c.args.out.now.items c.headers.out.items) same
+returns-in-Err-answer-clause-content g c = λ fault e.
+    let k = c.headers.invariant.0 in
+    let s = c.in_default-next.ensures.none in
+    let same : c.in-Err-answer.fault ≡ fault = cc in
+    subst (IsWalkFault c.args.self.now c.args.first.0 c.args.out.now.items c.headers.out.items) same
     (fault_written c.args.self.now c.args.first.0 c.args.out.now.items c.headers.out.items c.in-Err-answer.fault k.reached
-    (written_reach _ _ c.headers.walk c.next.new.self _ _ _ k s) (written_answer _ _ c.headers.walk c.next.new.self _ _ _ _ k s c.in-Err-answer.ensures) k.appended)
+    (written_reach _ _ c.headers.walk c.next.new.self _ _ _ k s)
+    (written_answer _ _ c.headers.walk c.next.new.self _ _ _ _ k s c.in-Err-answer.ensures)
+    k.appended)

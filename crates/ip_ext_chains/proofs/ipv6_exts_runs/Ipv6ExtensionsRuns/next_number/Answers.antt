@@ -19,7 +19,10 @@ returns-clause-spelled c =
     left_spelled _ _ _ r.done _ r.are_bytes (c.next_number.ensures ∙ number_before-some _ r.number.0 _ (longest_chain-longest _ _).has.chain some)
 
 pub returns-clause-end : goal.returns-clause-end
-returns-clause-end c =
-    λ none. let r = c.args.self.now in let some = some_left _ _ r.headers.whole (ap (λ b. nat_eq (length b) 0) (sym c.rest.ensures) ∙ sym c.is_empty.ensures
-    ∙ c.if-is_empty.false) in c.next_number.ensures ∙ number_before-some _ r.number.0 _ (longest_chain-longest _ _).has.chain some
-    ∙ number_before-end r.number.0 (headers_left r.headers) r.done r.last none ∙ r.leads
+returns-clause-end c = λ none.
+    let r = c.args.self.now in
+    let some = some_left _ _ r.headers.whole (ap (λ b. nat_eq (length b) 0) (sym c.rest.ensures) ∙ sym c.is_empty.ensures ∙ c.if-is_empty.false) in
+    c.next_number.ensures
+    ∙ number_before-some _ r.number.0 _ (longest_chain-longest _ _).has.chain some
+    ∙ number_before-end r.number.0 (headers_left r.headers) r.done r.last none
+    ∙ r.leads

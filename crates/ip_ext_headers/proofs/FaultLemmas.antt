@@ -28,8 +28,11 @@ module _ (source : LenSource) (n k : ℕ) where
   auth_at_header b s h p =
       let same : slice_index b 1 ≡ slice_index s 1 = prefix_byte b s p (omega (arith, h.not_zero, h.len)) in
       let enough = prefix-length b s p in
-      rw (le-ltb (length s) 12 (omega (arith, h.not_zero, h.len)), ne_eqb (slice_index s 1) 0 (omega (arith, h.not_zero)),
-      le-ltb (length s) (4 * (slice_index s 1 + 2)) (omega (arith, h.len))) refl
+      rw (
+        le-ltb (length s) 12 (omega (arith, h.not_zero, h.len)),
+        ne_eqb (slice_index s 1) 0 (omega (arith, h.not_zero)),
+        le-ltb (length s) (4 * (slice_index s 1 + 2)) (omega (arith, h.len)),
+      ) refl
 
   raw_rest_fault : (s : List ℕ) → length s < 8 * (slice_index s 1 + 1) → (e : LenError) × (raw_fault source n k s ≡ Some e)
   raw_rest_fault s few = elim (cases_lt (length s) 8) [
@@ -44,15 +47,16 @@ module _ (source : LenSource) (n k : ℕ) where
 
     pub fragment_asks_fault : FragmentAsks done count → (e : LenError) × (fragment_fault source n k (done ++ xs) ≡ Some e)
     fragment_asks_fault a =
-        elim a [ fragment_whole none c ↦ (too_short source n k Ipv6FragHeader 8,
-        rw (lt-ltb (length (done ++ xs)) 8 (omega (arith, length-append done xs, ap length none, few))) refl) ]
+        elim a [
+          | fragment_whole none c ↦ (
+            too_short source n k Ipv6FragHeader 8,
+            rw (lt-ltb (length (done ++ xs)) 8 (omega (arith, length-append done xs, ap length none, few))) refl,
+          )
+        ]
 
     pub auth_asks_fault : AuthAsks done count → (e : LenError) × (auth_fault source n k (done ++ xs) ≡ Some (Len e))
     auth_asks_fault a = elim a [
-      | auth_start none c ↦ (
-        too_short source n k IpAuthHeader 12,
-        rw (lt-ltb (length (done ++ xs)) 12 (omega (arith, length-append done xs, ap length none, few))) refl,
-      )
+      | auth_start none c ↦ (too_short source n k IpAuthHeader 12, rw (lt-ltb (length (done ++ xs)) 12 (omega (arith, length-append done xs, ap length none, few))) refl)
       | auth_icv len z c ↦
           let byte : slice_index (done ++ xs) 1 ≡ slice_index done 1 = get_or_append_left done xs 0 1 (omega arith) in (
             too_short source n k IpAuthHeader (4 * (slice_index (done ++ xs) 1 + 2)),

@@ -62,11 +62,15 @@ IsEncoded w = (b : List ℕ) × AreBytes b × IsAuthEncoding w b
 
 -- They are the only ones, and encode the header.
 pub one_encodes : (f : ℕ) (v : Option AuthFields) (w : AuthFields) (b : List ℕ) → f ≡ 51 → v ≡ Some w → IsEncoded w → IsAuthEncoding w b → IsIpv4Encoding f v b
-one_encodes f v w b named value (d, bytes, encodes) e =
-    (w.next_header, whole_read (AtMostOneOf 51) (at_most_one_of 51) f w.next_header (HasValue v) b (chain_of b) (record { headers = (auth refl e.header, tt);
-    links = (sym named, tt); zero_only_first = tt }) (record { one = omega arith;
-    number = (refl, tt) }) (ap Some e.fields ∙ sym value, (e.cleared, tt)) (ap (λ (u : AuthFields). u.next_header) e.fields) (append-nil b)
-    (subst AreBytes (one_encoded (auth_header w) d b encodes e) bytes))
+one_encodes f v w b named value (d, bytes, encodes) e = (
+  w.next_header,
+  whole_read (AtMostOneOf 51) (at_most_one_of 51) f w.next_header (HasValue v) b (chain_of b) (record {
+    headers = (auth refl e.header, tt);
+    links = (sym named, tt);
+    zero_only_first = tt;
+  }) (record { one = omega arith; number = (refl, tt) }) (ap Some e.fields ∙ sym value, (e.cleared, tt)) (ap (λ (u : AuthFields). u.next_header) e.fields) (append-nil b)
+      (subst AreBytes (one_encoded (auth_header w) d b encodes e) bytes),
+)
 
 -- The reserved bits of the longest chain put to zero, it encodes its value.
 pub cleared_encodes : (n : ℕ) (s : List ℕ) → AreBytes s → IsIpv4Encoding n (ipv4_value (longest_ipv4_chain n s)) (bytes_of (cleared_chain (longest_ipv4_chain n s)))

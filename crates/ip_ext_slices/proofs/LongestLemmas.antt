@@ -110,8 +110,10 @@ module _ (n : ℕ) (r : List ℕ) (g : ExtHeader) (c : List ExtHeader) (l : IsLo
   tail_longest : next_header g.bytes ≢ 0 → IsLongestChain (next_header g.bytes) (drop (length g.bytes) r) c
   tail_longest some =
       let second = prefix_second g.bytes (bytes_of c) r l.has.prefix in
-      longest_at_end _ _ c (record { chain = tail_chain n g c l.has.chain;
-      prefix = second }) (end_behind _ _ c some (subst (IsEnd false (leads_to (next_header g.bytes) c))
+      longest_at_end _ _ c (record {
+        chain = tail_chain n g c l.has.chain;
+        prefix = second;
+      }) (end_behind _ _ c some (subst (IsEnd false (leads_to (next_header g.bytes) c))
       (sym (rest_join g.bytes (bytes_of c) r (prefix_first g.bytes (bytes_of c) r l.has.prefix) second)) (longest_ends n r (g ∷ c) l)))
 
   tail_is : c ≡ longest_from false (next_header g.bytes) (drop (length g.bytes) r)

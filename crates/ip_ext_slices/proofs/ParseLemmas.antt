@@ -39,8 +39,11 @@ pub record ParseState (n : ℕ) (s : List ℕ) (m : ℕ) (r : List ℕ) (flag : 
 pub parse_goes_on : (n : ℕ) (s : List ℕ) (m : ℕ) (r : List ℕ) (flag : Bool) (h : ExtHeader) (k : ℕ) (q b : List ℕ) (either : Bool) → ParseState n s m r flag → IsNext (nat_eq (length r) (length s)) m r h
     → k ≡ next_header h.bytes → b ≡ h.bytes → q ≡ drop (length b) r → either ≡ (flag || fragments h) → ParseState n s k q either
 parse_goes_on n s m r flag h k q b either p x ek eb eq em =
-    record { chain = p.chain ++ h ∷ []; read = has_read_on n s p.chain m r h k q b p.read x ek eb eq;
-    fragmented = em ∙ ap (λ f. f || fragments h) p.fragmented ∙ sym (has_fragmenting-more p.chain h) }
+    record {
+      chain = p.chain ++ h ∷ [];
+      read = has_read_on n s p.chain m r h k q b p.read x ek eb eq;
+      fragmented = em ∙ ap (λ f. f || fragments h) p.fragmented ∙ sym (has_fragmenting-more p.chain h);
+    }
 
 -- where no header goes on, the chain that was read is the longest
 pub record AtEnd (n : ℕ) (s : List ℕ) (m : ℕ) (r : List ℕ) (flag : Bool) : Type 0 where
@@ -52,8 +55,12 @@ pub record AtEnd (n : ℕ) (s : List ℕ) (m : ℕ) (r : List ℕ) (flag : Bool)
 pub at_end : (n : ℕ) (s : List ℕ) (m : ℕ) (r : List ℕ) (flag : Bool) → ParseState n s m r flag → IsEnd (nat_eq (length r) (length s)) m r → AtEnd n s m r flag
 at_end n s m r flag p e =
     let is : p.chain ≡ longest_chain n s = sym (longest_chain-is n s p.chain (read_longest n s p.chain m r p.read (no_next_here n s p.chain m r p.read e))) in
-    record { number = p.read.number ∙ ap (leads_to n) is; rest = p.read.rest ∙ ap (λ d. drop (length (bytes_of d)) s) is;
-    len = offset_is n s p.chain m r p.read ∙ ap (λ d. length (bytes_of d)) is; fragmented = p.fragmented ∙ ap has_fragmenting is }
+    record {
+      number = p.read.number ∙ ap (leads_to n) is;
+      rest = p.read.rest ∙ ap (λ d. drop (length (bytes_of d)) s) is;
+      len = offset_is n s p.chain m r p.read ∙ ap (λ d. length (bytes_of d)) is;
+      fragmented = p.fragmented ∙ ap has_fragmenting is;
+    }
 
 no_bytes : (c : List ExtHeader) (k : ℕ) → AllByRecursion (λ h. IsHeader h.number h.bytes) c → k ≡ length (bytes_of c) → nat_eq k 0 ≡ is_empty c
 no_bytes c k a e = search (rules, nat_eq, eqb_tells, bytes_of-least)

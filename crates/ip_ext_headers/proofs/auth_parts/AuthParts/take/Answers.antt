@@ -15,8 +15,7 @@ returns-in-Err-clause-fault g c = refused_short AuthAsks (IsTooShort auth_slice_
 
 pub returns-in-Err-read_exact-clause-refused : goal.returns-in-Err-read_exact-clause-refused
 returns-in-Err-read_exact-clause-refused g c =
-    let h : List ℕ = c.read_exact.new.buf in
-    refused_behind AuthAsks _ _ _ _ _ h _ c.in-Ok.ensures.steady c.in-Ok.ensures.takes (auth_icv (omega arith) (omega arith) (search rules)) c.in-Err-read_exact.ensures.refuses
+    refused_behind AuthAsks _ _ _ _ _ c.read_exact.new.buf _ c.in-Ok.ensures.steady c.in-Ok.ensures.takes (auth_icv (omega arith) (omega arith) (search rules)) c.in-Err-read_exact.ensures.refuses
 
 pub returns-in-Err-read_exact-clause-fault : goal.returns-in-Err-read_exact-clause-fault
 returns-in-Err-read_exact-clause-fault g c = refused_short AuthAsks (IsTooShort auth_slice_fault) auth_short _ _ _ (returns-in-Err-read_exact-clause-refused g c)
@@ -25,6 +24,9 @@ pub returns-in-Ok-read_exact-clause-header : goal.returns-in-Ok-read_exact-claus
 returns-in-Ok-read_exact-clause-header g c =
     let e : length c.read_exact.new.buf ≡ 12 = omega arith in
     let n : length c.read_exact-2.new.buf ≡ 4 * (slice_index c.read_exact.new.buf 1 - 1) = search rules in
-    record { bytes = c.read_exact.new.buf ++ c.read_exact-2.new.buf; header = auth_joined c.read_exact.new.buf c.read_exact-2.new.buf e (omega arith) n;
-    fields = auth_joined_fields c.read_exact.new.buf c.read_exact-2.new.buf e ∙ sym c.of_bytes.ensures;
-    taken = Consumes-trans _ _ _ c.read_exact.new.buf c.read_exact-2.new.buf c.in-Ok.ensures.takes c.in-Ok-read_exact.ensures.takes }
+    record {
+      bytes = c.read_exact.new.buf ++ c.read_exact-2.new.buf;
+      header = auth_joined c.read_exact.new.buf c.read_exact-2.new.buf e (omega arith) n;
+      fields = auth_joined_fields c.read_exact.new.buf c.read_exact-2.new.buf e ∙ sym c.of_bytes.ensures;
+      taken = Consumes-trans _ _ _ c.read_exact.new.buf c.read_exact-2.new.buf c.in-Ok.ensures.takes c.in-Ok-read_exact.ensures.takes;
+    }

@@ -18,9 +18,13 @@ returns-in-Err-clause-fault g c = limited_fault g.T.ExactRead.bytes_left g.T.Exa
 pub returns-then-payload_len-eq0-clause-refused : goal.returns-then-payload_len-eq0-clause-refused
 returns-then-payload_len-eq0-clause-refused g c =
     let t = taken_none g.T.ExactRead.bytes_left AuthLayer c.args.reader.now c.start_layer.new.self c.start_layer.ensures.reader c.start_layer.ensures.limits in
-    record { done = c.read_exact.new.buf; zero_length = record { len = omega arith; zero = omega arith };
-    taken = taken_more _ _ _ _ c.read_exact.new.self [] c.read_exact.new.buf _ t (omega arith) c.in-Ok.ensures.takes c.in-Ok.ensures.within
-    c.in-Ok.ensures.limits; kept = c.in-Ok.ensures.kept ∙ ap g.T.ExactRead.has_failed c.start_layer.ensures.reader }
+    record {
+      done = c.read_exact.new.buf;
+      zero_length = record { len = omega arith; zero = omega arith };
+      taken = taken_more _ _ _ _ c.read_exact.new.self [] c.read_exact.new.buf _ t (omega arith) c.in-Ok.ensures.takes c.in-Ok.ensures.within
+          c.in-Ok.ensures.limits;
+      kept = c.in-Ok.ensures.kept ∙ ap g.T.ExactRead.has_failed c.start_layer.ensures.reader;
+    }
 
 pub returns-in-Err-read_exact-clause-refused : goal.returns-in-Err-read_exact-clause-refused
 returns-in-Err-read_exact-clause-refused g c =
@@ -42,5 +46,9 @@ returns-in-Ok-read_exact-clause-header g c =
     let n : length p ≡ 4 * (slice_index h 1 - 1) = search rules in
     let t = taken_none g.T.ExactRead.bytes_left AuthLayer c.args.reader.now c.start_layer.new.self c.start_layer.ensures.reader c.start_layer.ensures.limits in
     let u = taken_more _ _ _ _ c.read_exact.new.self [] h _ t (omega arith) c.in-Ok.ensures.takes c.in-Ok.ensures.within c.in-Ok.ensures.limits in
-    record { bytes = h ++ p; header = auth_joined h p e (omega arith) n; fields = auth_joined_fields h p e ∙ sym c.of_bytes.ensures;
-    taken = taken_more _ _ _ _ _ h p _ u (search rules) c.in-Ok-read_exact.ensures.takes c.in-Ok-read_exact.ensures.within c.in-Ok-read_exact.ensures.limits }
+    record {
+      bytes = h ++ p;
+      header = auth_joined h p e (omega arith) n;
+      fields = auth_joined_fields h p e ∙ sym c.of_bytes.ensures;
+      taken = taken_more _ _ _ _ _ h p _ u (search rules) c.in-Ok-read_exact.ensures.takes c.in-Ok-read_exact.ensures.within c.in-Ok-read_exact.ensures.limits;
+    }

@@ -15,6 +15,10 @@ returns-in_err-read_exact-clause-refused g c =
 pub returns-clause-header : goal.returns-clause-header
 returns-clause-header g c =
     let t = taken_none g.T.ExactRead.bytes_left Ipv6FragHeader c.args.reader.now c.start_layer.new.self c.start_layer.ensures.reader c.start_layer.ensures.limits in
-    record { bytes = c.read_exact.new.buf; header = record { len = omega arith }; fields = sym c.of_bytes.ensures;
-    taken = taken_more _ _ _ _ c.read_exact.new.self [] c.read_exact.new.buf _ t (omega arith) c.in_ok-read_exact.ensures.takes
-    c.in_ok-read_exact.ensures.within c.in_ok-read_exact.ensures.limits }
+    record {
+      bytes = c.read_exact.new.buf;
+      header = record { len = omega arith };
+      fields = sym c.of_bytes.ensures;
+      taken = taken_more _ _ _ _ c.read_exact.new.self [] c.read_exact.new.buf _ t (omega arith) c.in_ok-read_exact.ensures.takes
+          c.in_ok-read_exact.ensures.within c.in_ok-read_exact.ensures.limits;
+    }

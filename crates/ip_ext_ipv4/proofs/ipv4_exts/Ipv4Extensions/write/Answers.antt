@@ -13,8 +13,7 @@ pub returns-in_default-clause-read_whole : goal.returns-in_default-clause-read_w
 returns-in_default-clause-read_whole g c = λ b m appended. encoding_read _ _ m b (written _ _ _ _ b (returns-in_default-clause-ok g c) appended)
 
 pub returns-in-Ok-clause-ok : goal.returns-in-Ok-clause-ok
-returns-in-Ok-clause-ok g c =
-    let (b, encodes, appended) = c.in-Ok.ensures.ok in (b, one_encodes _ _ _ b (grind arith) c.in-Some.is c.encodable.ensures encodes, appended)
+returns-in-Ok-clause-ok g c = let (b, encodes, appended) = c.in-Ok.ensures.ok in (b, one_encodes _ _ _ b (grind arith) c.in-Some.is c.encodable.ensures encodes, appended)
 
 pub returns-in-Ok-clause-read_again : goal.returns-in-Ok-clause-read_again
 returns-in-Ok-clause-read_again g c = λ b r m appended. encoding_read_again _ _ m b r (written _ _ _ _ b (returns-in-Ok-clause-ok g c) appended)

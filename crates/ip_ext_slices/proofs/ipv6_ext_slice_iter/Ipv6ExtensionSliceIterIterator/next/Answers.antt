@@ -3,8 +3,7 @@ use Rattle.ip_ext_slices.proofs.LongestLemmas.{whole_goes_on, whole_cut, some_wh
 use Rattle.ip_ext_slices.proofs.ipv6_ext_slice_iter.Ipv6ExtensionSliceIterIterator.next.Goals as goal
 
 pub unwrap-header-requires : goal.unwrap-header-requires
-unwrap-header-requires c =
-    some_where_next _ _ _ _ c.header_at.ensures.end (whole_goes_on _ _ c.args.self.now.whole (sym c.is_empty.ensures ∙ c.if-is_empty.false))
+unwrap-header-requires c = some_where_next _ _ _ _ c.header_at.ensures.end (whole_goes_on _ _ c.args.self.now.whole (sym c.is_empty.ensures ∙ c.if-is_empty.false))
 
 pub invariant_of-self : goal.invariant_of-self
 invariant_of-self c = record {

@@ -30,5 +30,4 @@ pub returns-in-None-clause-last : goal.returns-in-None-clause-last
 returns-in-None-clause-last c = longest_from-end _ _ _ c.in-None.ensures.end
 
 pub returns-in-None-clause-answer : goal.returns-in-None-clause-answer
-returns-in-None-clause-answer c =
-    (cursor_at_end _ _ _ _ _ c.args.self.now.leads c.args.self.now.behind c.in-None.ensures.end).answers _ (sym c.fault-fault.ensures)
+returns-in-None-clause-answer c = (cursor_at_end _ _ _ _ _ c.args.self.now.leads c.args.self.now.behind c.in-None.ensures.end).answers _ (sym c.fault-fault.ensures)

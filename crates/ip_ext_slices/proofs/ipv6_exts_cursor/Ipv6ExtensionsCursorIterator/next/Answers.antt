@@ -3,19 +3,25 @@ use Rattle.ip_ext_slices.proofs.LongestLemmas.{goes_behind, longest_from-end}
 use Rattle.ip_ext_slices.proofs.ipv6_exts_cursor.Ipv6ExtensionsCursorIterator.next.Goals as goal
 
 pub returns-in_default-clause-steps : goal.returns-in_default-clause-steps
-returns-in_default-clause-steps c = let none = longest_from-end _ _ _ c.in_default.ensures.end in ((none, none), refl, refl, (refl, refl))
+returns-in_default-clause-steps c =
+    let none = longest_from-end _ _ _ c.in_default.ensures.end in
+    ((none, none), refl, refl, (refl, refl))
 
 pub invariant_of-self : goal.invariant_of-self
 invariant_of-self c =
-    let goes = goes_behind _ _ _ _ _ _ _ c.args.self.now.within c.in-Some.ensures.next c.next_header-self.ensures c.slice.ensures.bytes c.after-self.ensures in
-    record { leads = sym goes.leads ∙ c.args.self.now.leads; behind = sym goes.behind ∙ c.args.self.now.behind; within = goes.within }
+    let x = c.args.self.now in
+    let goes = goes_behind _ _ _ _ _ _ _ x.within c.in-Some.ensures.next c.next_header-self.ensures c.slice.ensures.bytes c.after-self.ensures in
+    record { leads = sym goes.leads ∙ x.leads; behind = sym goes.behind ∙ x.behind; within = goes.within }
 
 pub returns-clause-steps : goal.returns-clause-steps
 returns-clause-steps c =
-    let goes = goes_behind _ _ _ _ _ _ _ c.args.self.now.within c.in-Some.ensures.next c.next_header-self.ensures c.slice.ensures.bytes c.after-self.ensures in
+    let x = c.args.self.now in
+    let goes = goes_behind _ _ _ _ _ _ _ x.within c.in-Some.ensures.next c.next_header-self.ensures c.slice.ensures.bytes c.after-self.ensures in
     (goes.given, refl, refl, (c.next_header-self.ensures, rw c.slice.ensures.bytes at c.after-self.ensures))
 
 pub returns-clause-goes : goal.returns-clause-goes
 returns-clause-goes c =
-    record { on = λ _. (tt, tt, omega (arith, (ap length (goes_behind _ _ _ _ _ _ _ c.args.self.now.within c.in-Some.ensures.next c.next_header-self.ensures
-    c.slice.ensures.bytes c.after-self.ensures).given))); keeps = tt; rests = λ _. tt }
+    let x = c.args.self.now in
+    let goes = goes_behind _ _ _ _ _ _ _ x.within c.in-Some.ensures.next c.next_header-self.ensures c.slice.ensures.bytes c.after-self.ensures in
+    let less = ap length goes.given in
+    record { on = λ _. (tt, tt, omega (arith, less)); keeps = tt; rests = λ _. tt }

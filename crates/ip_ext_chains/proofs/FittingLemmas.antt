@@ -112,8 +112,7 @@ module _ (n : ℕ) (c : List ExtHeader) (m : ℕ) (chain : IsChain n c) (fits : 
   -- the fault there is the fault of the parse
   pub fitting_fault_is : (f : Fault) → is_taken m c ≡ false → fault_at Slice (length x) (length (bytes_of c)) (is_empty c) m x ≡ Some f → fitting_fault n (bytes_of c ++ x) ≡ Some f
   fitting_fault_is f free fault =
-      let none : IsEnd (is_empty c) m x = fault_ends Slice (length x) (length (bytes_of c)) x (is_empty c) m f fault in
-      sym (answered (value_of c) (Some f) (λ h y q. none h y) refl (sym (free_fault (is_taken m c) free ∙ fault))).fault
+      sym (answered (value_of c) (Some f) (λ h y q. fault_ends Slice (length x) (length (bytes_of c)) x (is_empty c) m f fault h y) refl (sym (free_fault (is_taken m c) free ∙ fault))).fault
 
   -- where the number's place is filled, there is none
   pub taken_answers : (v : Ipv6Extensions) → v ≡ value_of c → is_taken m c ≡ true → IsFittingAnswer n (bytes_of c ++ x) v m x None
@@ -135,10 +134,9 @@ fitting_fault_at_end n s c l number free =
     let m : ℕ = leads_to n c in
     let fault : Option Fault = chain_faults Slice c m (rest_behind c s) in
     let some : IsSome fault = fault_at_end Slice (length (rest_behind c s)) (rest_behind c s) (length (bytes_of c)) (is_empty c) m number (fitting_ends n s c l free) in
-    let F : Bool → Type 0 = λ b. IsSome (if b then None else fault) in
     elim (cases_Bool (is_taken m c)) [
       | inl t ↦ absurd (free ((taken_told c m l.has.1).0 t))
-      | inr t ↦ subst F (sym t) some
+      | inr t ↦ subst (λ (b : Bool). IsSome (if b then None else fault)) (sym t) some
     ]
 
 -- what the walk answers is all that the parse needs

@@ -69,9 +69,8 @@ module _ {T : Type 0} (bytes_left : T → Option (List ℕ)) (is_steady has_fail
   pub refused_error : (e : HeaderReadError) (old new : T) (n : ℕ)
       → IsChainRefused (AreTaken bytes_left is_steady has_failed) (IsHeaderRefused bytes_left is_steady has_failed e) old new n → IsSliceError n (is_steady old) (bytes_left old) e
   refused_error (read.Io e) old new n k =
-      let P : List ℕ → Type 0 = λ y. IsTooShort n (bytes_of k.headers ++ y) in
       lift_steady _ _ _ _ (bytes_of k.headers) (IsTooShort n) k.taken.steady k.taken.bytes
-      (refused_short (Asks (leads_to n k.headers)) P (short_is _ _ old new n k k.refused.0) _ _ _ k.refused.1)
+      (refused_short (Asks (leads_to n k.headers)) (λ y. IsTooShort n (bytes_of k.headers ++ y)) (short_is _ _ old new n k k.refused.0) _ _ _ k.refused.1)
   refused_error (read.Content HopByHopNotAtStart) old new n k =
       lift_some _ _ (bytes_of k.headers) (HasError n (slice.Content HopByHopNotAtStart)) k.taken.bytes
       (of_all (bytes_left k.between) _ (λ y. later_is _ _ old new n k y k.refused.0 k.refused.1))
@@ -106,13 +105,11 @@ module _ {T : Type 0} (bytes_left : T → Option (List ℕ)) (is_steady has_fail
       → IsChainRefused (AreTakenInLayers bytes_left is_steady has_failed) (IsHeaderRefusedInLayer bytes_left is_steady has_failed e) old new n
       → IsSliceErrorInLayers n (is_steady (inner_of old)) (window bytes_left old) e
   layer_refused_error (limited.Io e) old new n k =
-      let P : List ℕ → Type 0 = λ y. IsTooShort n (bytes_of k.headers ++ y) in
       lift_steady _ _ _ _ (bytes_of k.headers) (IsTooShort n) k.taken.steady k.taken.window
-      (refused_within_short (Asks (leads_to n k.headers)) P (short_is _ _ old new n k k.refused.0) bytes_left is_steady has_failed _ k.between new k.refused.1)
+      (refused_within_short (Asks (leads_to n k.headers)) (λ y. IsTooShort n (bytes_of k.headers ++ y)) (short_is _ _ old new n k k.refused.0) bytes_left is_steady has_failed _ k.between new k.refused.1)
   layer_refused_error (limited.Len e) old new n k =
-      let P : List ℕ → Type 0 = λ y. IsTooShort n (bytes_of k.headers ++ y) in
       lift_some _ _ (bytes_of k.headers) (IsTooShort n) k.taken.window
-      (past_limit_short (Asks (leads_to n k.headers)) P (short_is _ _ old new n k k.refused.0) bytes_left is_steady has_failed _ k.between new e k.refused.1)
+      (past_limit_short (Asks (leads_to n k.headers)) (λ y. IsTooShort n (bytes_of k.headers ++ y)) (short_is _ _ old new n k k.refused.0) bytes_left is_steady has_failed _ k.between new e k.refused.1)
   layer_refused_error (limited.Content HopByHopNotAtStart) old new n k =
       lift_some _ _ (bytes_of k.headers) (HasError n (slice.Content HopByHopNotAtStart)) k.taken.window
       (of_all (window bytes_left k.between) _ (λ y. later_is _ _ old new n k y k.refused.0 k.refused.1))

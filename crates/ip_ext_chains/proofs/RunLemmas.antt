@@ -54,10 +54,13 @@ module _ (c : List ExtHeader) (m : ℕ) (h : Ipv6ExtensionSlice) (left : List Ex
   placing_more chain k f put =
       let own : place_of (header_of h).number (has_routing k.run) ≡ Some p = same_own c m (header_of h) left v chain k p f.own in
       let none : header_in p k.run ≡ None = none_same k.run v k.placed p f.free in
-      record { run = k.run ++ header_of h ∷ []; whole = k.whole ∙ sym (append_assoc k.run (header_of h ∷ []) left);
-      fits = fits_more k.run (header_of h) p k.fits own (ap is_some none);
-      placed = λ q. ap (option_map header_of) (put q) ∙ mapped_if header_of (index p == index q) h (at q v)
-      ∙ ap (λ o. if index p == index q then Some (header_of h) else o) (k.placed q) ∙ sym (placed k.run (header_of h) p own none q) }
+      record {
+        run = k.run ++ header_of h ∷ [];
+        whole = k.whole ∙ sym (append_assoc k.run (header_of h ∷ []) left);
+        fits = fits_more k.run (header_of h) p k.fits own (ap is_some none);
+        placed = λ q. ap (option_map header_of) (put q) ∙ mapped_if header_of (index p == index q) h (at q v)
+            ∙ ap (λ o. if index p == index q then Some (header_of h) else o) (k.placed q) ∙ sym (placed k.run (header_of h) p own none q);
+      }
 
   pub placing_next : (all : List ExtHeader) → IsChain m all → IsPlacing c all v → all ≡ header_of h ∷ left → IsFreePlace m p v → IsPut p h v w → IsPlacing c left w
   placing_next all chain k e h4 h5 = search (rules, placing_more)
@@ -90,9 +93,7 @@ module _ (n : ℕ) (s : List ℕ) (whole : bytes_of (longest_chain n s) ≡ s) w
 module _ (m : ℕ) (c d : List ExtHeader) (v : Places Ipv6ExtensionSlice) (r : IsRun c v d) where
   taken_in : is_taken_in v m ≡ true ↔ IsTaken m r.run
   taken_in =
-      let same : is_taken_in v m ≡ is_taken m r.run = taken_same r.run v r.placed m in
-      let told = taken_told r.run m r.kept.meets in
-      (λ t. told.0 (sym same ∙ t), λ t. same ∙ told.1 t)
+      (λ t. (taken_told r.run m r.kept.meets).0 (sym (taken_same r.run v r.placed m) ∙ t), λ t. taken_same r.run v r.placed m ∙ (taken_told r.run m r.kept.meets).1 t)
 
   pub run_passes : (before done : Bool) → before ≡ false → (done ≡ true → (d ≡ []) × (is_taken_in v m ≡ false)) → (done ≡ false → d ≡ [] → is_taken_in v m ≡ true)
       → (if before then [] else runs_from m c) ≡ r.run ∷ (if done then [] else runs_from m d)

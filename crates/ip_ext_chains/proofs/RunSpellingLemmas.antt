@@ -23,11 +23,10 @@ use Rattle.ip_ext_chains.proofs.RunNumberLemmas.{chain_before}
 
 pub pieces_spelled : (n : ℕ) (ps : List (List ExtHeader)) → AreChains n ps → AllByRecursion FitsPlaces ps → AreBytes (bytes_of (joined ps)) → AreSpellings n (map value_of ps) (map cleared_chain ps)
 pieces_spelled n [] k f b = tt
-pieces_spelled n (p ∷ ps) k f b =
-    let S : ℕ → Type 0 = λ m. AreSpellings m (map value_of ps) (map cleared_chain ps) in (
-      cleared_spells (placed_fields (value_of p)) n p k.0 f.0 (first_bytes p (joined ps) b) (placed_fields-value_of p),
-      subst S (sym (cleared_leads n p k.0.headers)) (pieces_spelled (leads_to n p) ps k.1 f.1 (later_bytes p (joined ps) b)),
-    )
+pieces_spelled n (p ∷ ps) k f b = (
+  cleared_spells (placed_fields (value_of p)) n p k.0 f.0 (first_bytes p (joined ps) b) (placed_fields-value_of p),
+  subst (λ (m : ℕ). AreSpellings m (map value_of ps) (map cleared_chain ps)) (sym (cleared_leads n p k.0.headers)) (pieces_spelled (leads_to n p) ps k.1 f.1 (later_bytes p (joined ps) b)),
+)
 
 pub one_list_of_spellings : (n : ℕ) (vs : List Ipv6Extensions) (ds es : List (List ExtHeader)) → AreSpellings n vs ds → AreSpellings n vs es → ds ≡ es
 one_list_of_spellings n [] [] [] s t = refl

@@ -46,8 +46,14 @@ module _ (n : ℕ) (s : List ℕ) where
       let m : ℕ = leads_to n (longest_chain n s) in
       let c : List ExtHeader = longest_chain n s in
       let a : AreRuns m c (runs_from m c) = runs_from-runs m c in
-      record { same = refl; runs = a; only = λ qs b. one_runs m c qs (runs_from m c) b a; fewest = λ qs. fewest_runs m c (runs_from m c) qs a;
-      least = some_run m c (runs_from m c) a; most = runs_bound n s c m (runs_from m c) (longest_chain-longest n s).has a }
+      record {
+        same = refl;
+        runs = a;
+        only = λ qs b. one_runs m c qs (runs_from m c) b a;
+        fewest = λ qs. fewest_runs m c (runs_from m c) qs a;
+        least = some_run m c (runs_from m c) a;
+        most = runs_bound n s c m (runs_from m c) (longest_chain-longest n s).has a;
+      }
 
   pub runs_from-are : (m : ℕ) (c : List ExtHeader) → m ≡ leads_to n (longest_chain n s) → c ≡ longest_chain n s → AreRunsOf n s (runs_from m c)
   runs_from-are m c em ec = search (rules, runs_of-are)

@@ -79,10 +79,13 @@ pub written_more : (v : PlacedFields) (f : ℕ) → IsEncodable v → (old new :
     → AppendsOne (IsEncodingOf x) now more → length more + placed_len (left_in new) ≤ larger → Written v f new before more larger
 written_more v f e old new x s before now more room larger k a fits =
     let h = encoded v f e old new x s k.reached k.walking in
-    record { reached = k.reached ++ h.0 ∷ []; walking = step_walking v f e old new x s k.reached k.walking;
-    appended = a.2 ∙ ap (λ l. l ++ a.0) k.appended ∙ append_assoc before (bytes_of k.reached) a.0
-    ∙ ap (λ l. before ++ (bytes_of k.reached ++ l)) (sym (encoding_is _ x h.0 a.0 h.1 a.1)) ∙ ap (λ l. before ++ l) (sym (bytes_of-more k.reached h.0));
-    fits = fits }
+    record {
+      reached = k.reached ++ h.0 ∷ [];
+      walking = step_walking v f e old new x s k.reached k.walking;
+      appended = a.2 ∙ ap (λ l. l ++ a.0) k.appended ∙ append_assoc before (bytes_of k.reached) a.0
+          ∙ ap (λ l. before ++ (bytes_of k.reached ++ l)) (sym (encoding_is _ x h.0 a.0 h.1 a.1)) ∙ ap (λ l. before ++ l) (sym (bytes_of-more k.reached h.0));
+      fits = fits;
+    }
 
 -- a place was asked: its header was reached and its bytes appended, or all is as it was
 pub written_in : (v : PlacedFields) (f : ℕ) → IsEncodable v → (old new : Walk) (before now more : List ℕ) (room larger : ℕ) (r : Option HeaderRef)
@@ -97,8 +100,12 @@ left_len v w left = ap placed_len (same_held (left_in w) v left)
 pub written_none : (v : PlacedFields) (f : ℕ) (w : Walk) → ((p : Place) → left_in w p ≡ v p) → w.number.0 ≡ f → w.first ≡ true → w.behind_routing ≡ false
     → (before now : List ℕ) (room : ℕ) → now ≡ before → length now + placed_len v ≤ room → Written v f w before now room
 written_none v f w left number first behind before now room same fits =
-    record { reached = []; walking = walking_none v f w left number first behind; appended = same ∙ sym (append-nil before);
-    fits = omega (arith, fits, left_len v w left) }
+    record {
+      reached = [];
+      walking = walking_none v f w left number first behind;
+      appended = same ∙ sym (append-nil before);
+      fits = omega (arith, fits, left_len v w left);
+    }
 
 -- where none goes on, the walk has the answer of what is left
 pub written_answer : (v : PlacedFields) (f : ℕ) (old new : Walk) (before now : List ℕ) (room : ℕ) (a : WalkAnswer) → Written v f old before now room → IsStop old new → a ≡ answer_at new.number.0 (left_in new) → IsWalkAnswer v f a

@@ -10,12 +10,14 @@ returns-in-Err-clause-refused g c = refused_behind RawAsks _ _ _ _ _ [] _ refl (
 
 pub returns-in-Err-read_exact-clause-refused : goal.returns-in-Err-read_exact-clause-refused
 returns-in-Err-read_exact-clause-refused g c =
-    let h : List ℕ = c.read_exact.new.buf in
-    refused_behind RawAsks _ _ _ _ _ h _ c.in-Ok.ensures.steady c.in-Ok.ensures.takes (raw_rest (omega arith) (search rules)) c.in-Err-read_exact.ensures.refuses
+    refused_behind RawAsks _ _ _ _ _ c.read_exact.new.buf _ c.in-Ok.ensures.steady c.in-Ok.ensures.takes (raw_rest (omega arith) (search rules)) c.in-Err-read_exact.ensures.refuses
 
 pub returns-in-Ok-read_exact-clause-header : goal.returns-in-Ok-read_exact-clause-header
 returns-in-Ok-read_exact-clause-header g c =
     let e : length c.read_exact.new.buf ≡ 2 = omega arith in
-    record { bytes = c.read_exact.new.buf ++ c.read_exact-2.new.buf; header = raw_joined c.read_exact.new.buf c.read_exact-2.new.buf e (search rules);
-    fields = raw_joined_fields c.read_exact.new.buf c.read_exact-2.new.buf e;
-    taken = Consumes-trans _ _ _ c.read_exact.new.buf c.read_exact-2.new.buf c.in-Ok.ensures.takes c.in-Ok-read_exact.ensures.takes }
+    record {
+      bytes = c.read_exact.new.buf ++ c.read_exact-2.new.buf;
+      header = raw_joined c.read_exact.new.buf c.read_exact-2.new.buf e (search rules);
+      fields = raw_joined_fields c.read_exact.new.buf c.read_exact-2.new.buf e;
+      taken = Consumes-trans _ _ _ c.read_exact.new.buf c.read_exact-2.new.buf c.in-Ok.ensures.takes c.in-Ok-read_exact.ensures.takes;
+    }

@@ -27,5 +27,9 @@ returns-in-Ok-read_exact-clause-header g c =
     let n : length p ≡ 8 * slice_index h 1 + 6 = search rules in
     let t = taken_none g.T.ExactRead.bytes_left Ipv6ExtHeader c.args.reader.now c.start_layer.new.self c.start_layer.ensures.reader c.start_layer.ensures.limits in
     let u = taken_more _ _ _ _ c.read_exact.new.self [] h _ t (omega arith) c.in-Ok.ensures.takes c.in-Ok.ensures.within c.in-Ok.ensures.limits in
-    record { bytes = h ++ p; header = raw_joined h p e n; fields = raw_joined_fields h p e;
-    taken = taken_more _ _ _ _ _ h p _ u (search rules) c.in-Ok-read_exact.ensures.takes c.in-Ok-read_exact.ensures.within c.in-Ok-read_exact.ensures.limits }
+    record {
+      bytes = h ++ p;
+      header = raw_joined h p e n;
+      fields = raw_joined_fields h p e;
+      taken = taken_more _ _ _ _ _ h p _ u (search rules) c.in-Ok-read_exact.ensures.takes c.in-Ok-read_exact.ensures.within c.in-Ok-read_exact.ensures.limits;
+    }

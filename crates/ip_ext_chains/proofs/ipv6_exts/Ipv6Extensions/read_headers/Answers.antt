@@ -8,9 +8,11 @@ use Rattle.ip_ext_chains.proofs.ipv6_exts.Ipv6Extensions.read_headers.Goals as g
 
 pub headers-preserved : goal.headers-preserved
 headers-preserved g c =
-    let h : ExtHeader = record { number = c.headers.number.0; bytes = c.in-Ok.ensures.ok.bytes } in
-    (c.headers.invariant.0 ++ h ∷ [], reading_next _ _ _ _ _ c.headers.invariant.1 _ c.in-Some.ensures.next _ _ _ c.in-Ok.ensures.ok,
-    taken_next _ _ _ _ _ _ c.headers.invariant.0 h c.headers.invariant.2 c.in-Ok.ensures.ok.taken c.in-Ok.ensures.steady c.in-Ok.ensures.kept)
+    let h : ExtHeader = record { number = c.headers.number.0; bytes = c.in-Ok.ensures.ok.bytes } in (
+      c.headers.invariant.0 ++ h ∷ [],
+      reading_next _ _ _ _ _ c.headers.invariant.1 _ c.in-Some.ensures.next _ _ _ c.in-Ok.ensures.ok,
+      taken_next _ _ _ _ _ _ c.headers.invariant.0 h c.headers.invariant.2 c.in-Ok.ensures.ok.taken c.in-Ok.ensures.steady c.in-Ok.ensures.kept,
+    )
 
 pub headers-smaller : goal.headers-smaller
 headers-smaller g c = fewer _ _ _ _ _ _ _ c.in-Some.ensures.next (nested _ _ _ _ _ c.headers.invariant.1 _ c.in-Some.ensures.next) c.in-Ok.ensures.ok
@@ -19,9 +21,16 @@ pub returns-in-Err-clause-refused : goal.returns-in-Err-clause-refused
 returns-in-Err-clause-refused g c =
     let came = c.headers.invariant in
     let next = c.in-Some.ensures.next in
-    record { headers = came.0; chain = came.1.chain; fits = came.1.fits; free = not_taken _ _ _ _ _ came.1 _ next; between = c.headers.reader; taken = came.2;
-    refused = refused_as g.T.ExactRead.bytes_left g.T.ExactRead.is_steady g.T.ExactRead.has_failed c.in-Err.e _ _ _ _ _ c.in-Err.ensures.refused
-    (sym came.1.number ∙ is_number_in _ _ _ _ _ came.1 _ next) (λ z. sym came.1.none_yet ∙ next.zero_first (came.1.number ∙ z)) }
+    record {
+      headers = came.0;
+      chain = came.1.chain;
+      fits = came.1.fits;
+      free = not_taken _ _ _ _ _ came.1 _ next;
+      between = c.headers.reader;
+      taken = came.2;
+      refused = refused_as g.T.ExactRead.bytes_left g.T.ExactRead.is_steady g.T.ExactRead.has_failed c.in-Err.e _ _ _ _ _ c.in-Err.ensures.refused
+          (sym came.1.number ∙ is_number_in _ _ _ _ _ came.1 _ next) (λ z. sym came.1.none_yet ∙ next.zero_first (came.1.number ∙ z));
+    }
 
 pub returns-in-Err-clause-fault : goal.returns-in-Err-clause-fault
 returns-in-Err-clause-fault g c = refused_error g.T.ExactRead.bytes_left g.T.ExactRead.is_steady g.T.ExactRead.has_failed c.in-Err.e _ _ _ (returns-in-Err-clause-refused g c)
@@ -30,8 +39,15 @@ pub returns-then-eq-clause-refused : goal.returns-then-eq-clause-refused
 returns-then-eq-clause-refused g c =
     let came = c.headers.invariant in
     let zero_number : c.headers.number.0 ≡ 0 = grind arith in
-    record { headers = came.0; chain = came.1.chain; fits = came.1.fits; free = zero_not_taken _ _ _ _ _ came.1 zero_number; between = c.headers.reader;
-    taken = came.2; refused = (sym came.1.number ∙ zero_number, later _ _ _ _ _ came.1 zero_number c.in_default.ensures.none, refl) }
+    record {
+      headers = came.0;
+      chain = came.1.chain;
+      fits = came.1.fits;
+      free = zero_not_taken _ _ _ _ _ came.1 zero_number;
+      between = c.headers.reader;
+      taken = came.2;
+      refused = (sym came.1.number ∙ zero_number, later _ _ _ _ _ came.1 zero_number c.in_default.ensures.none, refl);
+    }
 
 pub returns-then-eq-clause-fault : goal.returns-then-eq-clause-fault
 returns-then-eq-clause-fault g c = refused_error g.T.ExactRead.bytes_left g.T.ExactRead.is_steady g.T.ExactRead.has_failed (read.Content HopByHopNotAtStart) _ _ _ (returns-then-eq-clause-refused g c)

@@ -49,5 +49,4 @@ returns-clause-links c p =
 
 pub returns-clause-leads : goal.returns-clause-leads
 returns-clause-leads c =
-    let small : c.args.last.0 < 256 = omega arith in
-    answer_same _ _ _ _ _ (returns-clause-links c) (numbers c).hop_by_hop_options (linked_leads (placed_fields c.args.self.now) c.args.last.0 small c.encodable.ensures)
+    answer_same _ _ _ _ _ (returns-clause-links c) (numbers c).hop_by_hop_options (linked_leads (placed_fields c.args.self.now) c.args.last.0 (omega arith) c.encodable.ensures)

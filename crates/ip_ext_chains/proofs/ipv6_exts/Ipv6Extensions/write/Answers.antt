@@ -41,16 +41,20 @@ append-requires g c =
 
 pub headers-preserved : goal.headers-preserved
 headers-preserved g c =
-    (written_more (placed_fields c.args.self.now) c.args.first.0 c.encodable.ensures c.headers.walk c.next.new.self _ c.in-Some.ensures.some _ _ _ _ _
-    c.headers.invariant.0 c.append.ensures.appended (omega (arith, c.headers.invariant.0.fits, step_len c.headers.walk c.next.new.self _ c.in-Some.ensures.some,
-    c.append.ensures.len, c.append.ensures.capacity, c.headers.out.ok.0, c.append.new.out.ok.0)), omega (arith, c.headers.invariant.1, c.append.ensures.capacity))
+    let s = c.in-Some.ensures.some in (
+      written_more (placed_fields c.args.self.now) c.args.first.0 c.encodable.ensures c.headers.walk c.next.new.self _ s _ _ _ _ _ c.headers.invariant.0 c.append.ensures.appended
+          (omega (arith, c.headers.invariant.0.fits, step_len c.headers.walk c.next.new.self _ s, c.append.ensures.len, c.append.ensures.capacity, c.headers.out.ok.0, c.append.new.out.ok.0)),
+      omega (arith, c.headers.invariant.1, c.append.ensures.capacity),
+    )
 
 pub returns-in-Ok-clause-ok : goal.returns-in-Ok-clause-ok
 returns-in-Ok-clause-ok g c =
-    all_written c.args.self.now c.args.first.0 c.args.out.now.items c.headers.out.items c.in-Ok.field-0.0 c.headers.invariant.0.reached
-    (written_reach _ _ c.headers.walk c.next.new.self _ _ _ c.headers.invariant.0 c.in_default-next.ensures.none)
-    (written_answer _ _ c.headers.walk c.next.new.self _ _ _ (leads c.in-Ok.field-0.0) c.headers.invariant.0 c.in_default-next.ensures.none c.in-Ok.ensures)
-    c.headers.invariant.0.appended
+    let k = c.headers.invariant.0 in
+    let s = c.in_default-next.ensures.none in
+    all_written c.args.self.now c.args.first.0 c.args.out.now.items c.headers.out.items c.in-Ok.field-0.0 k.reached
+    (written_reach _ _ c.headers.walk c.next.new.self _ _ _ k s)
+    (written_answer _ _ c.headers.walk c.next.new.self _ _ _ (leads c.in-Ok.field-0.0) k s c.in-Ok.ensures)
+    k.appended
 
 pub returns-in-Ok-clause-len : goal.returns-in-Ok-clause-len
 returns-in-Ok-clause-len g c =

@@ -9,20 +9,33 @@ fill-requires-clause-numbers c = run_numbers _ _ _ c.take_run-places.ensures
 
 pub returns-clause-steps : goal.returns-clause-steps
 returns-clause-steps c =
-    (run_next c.args.self.now.number.0 _ _ _ c.take_run-places.ensures c.args.self.now.done c.is_last-self.result _ c.if-self.false c.fill.ensures
-    c.is_last-self.ensures.last c.is_last-self.ensures.more, refl, refl,
-    (c.take_run-places.ensures.run, run_passes c.args.self.now.number.0 _ _ _ c.take_run-places.ensures c.args.self.now.done c.is_last-self.result
-    c.if-self.false c.is_last-self.ensures.last c.is_last-self.ensures.more,
-    run_leads _ _ _ _ _ (longest_chain-longest _ _).has.chain c.args.self.now.ends c.take_run-places.ensures))
+    let last = c.is_last-self.ensures in
+    let r = c.args.self.now in
+    let run = c.take_run-places.ensures in (
+      run_next r.number.0 _ _ _ run r.done c.is_last-self.result _ c.if-self.false c.fill.ensures last.last last.more,
+      refl,
+      refl,
+      (
+        run.run,
+        run_passes r.number.0 _ _ _ run r.done c.is_last-self.result c.if-self.false last.last last.more,
+        run_leads _ _ _ _ _ (longest_chain-longest _ _).has.chain r.ends run,
+      ),
+    )
 
 pub returns-clause-goes : goal.returns-clause-goes
 returns-clause-goes c =
-    record { on = λ _. (tt, tt, omega (arith, (ap length (run_next c.args.self.now.number.0 _ _ _ c.take_run-places.ensures c.args.self.now.done
-    c.is_last-self.result _ c.if-self.false c.fill.ensures c.is_last-self.ensures.last c.is_last-self.ensures.more)))); keeps = tt; rests = λ _. tt }
+    let last = c.is_last-self.ensures in
+    let less = ap length (run_next c.args.self.now.number.0 _ _ _ c.take_run-places.ensures c.args.self.now.done c.is_last-self.result _ c.if-self.false c.fill.ensures last.last last.more) in
+    record { on = λ _. (tt, tt, omega (arith, less)); keeps = tt; rests = λ _. tt }
 
 pub invariant_of-self : goal.invariant_of-self
 invariant_of-self c =
     let r = c.args.self.now in
     let chain = (longest_chain-longest r.headers.next_header.0 r.headers.rest.now).has.chain in
-    record { leads = r.leads; after = r.after; ends = ends_behind _ _ _ _ _ chain r.ends c.take_run-places.ensures;
-    are_bytes = bytes_behind _ r.number.0 _ _ _ chain r.ends c.take_run-places.ensures r.are_bytes; last = λ done. (c.is_last-self.ensures.last done).0 }
+    record {
+      leads = r.leads;
+      after = r.after;
+      ends = ends_behind _ _ _ _ _ chain r.ends c.take_run-places.ensures;
+      are_bytes = bytes_behind _ r.number.0 _ _ _ chain r.ends c.take_run-places.ensures r.are_bytes;
+      last = λ done. (c.is_last-self.ensures.last done).0;
+    }

@@ -1,11 +1,11 @@
 -- Two fields, where the second one is the rest of the text; and one field, which is the text.
-use Rattle.std.proofs.Common.{◌≡◌, ℕ, ◌<◌, List, [], ◌∷◌, ◌++◌, length, get_or, Option, Some, None, Result, Ok, Err, refl, sym, ap, ◌∙◌, arith}
+use Rattle.std.proofs.Common.{◌≡◌, ℕ, ◌<◌, List, [], ◌∷◌, ◌++◌, length, get_or, Option, None, Result, Ok, Err, refl, sym, ap, ◌∙◌, arith, rules}
 use Rattle.std.specs.Prelude.{codes}
 use Rattle.std.specs.List.{join_with_byte}
 use Rattle.std.specs.Option.{option_zip}
 use Rattle.std.specs.Result.{result_ok}
 use Rattle.std.specs.Str.{bytes_eq}
-use Rattle.std.proofs.lemmas.Bool.{cond-false, false_from_ne_true, false≢true}
+use Rattle.std.proofs.lemmas.Bool.{false_from_ne_true, false≢true}
 use Rattle.std.proofs.lemmas.List.{length-append, get_or_at}
 use Rattle.std.proofs.lemmas.List.Splits.{join_with_byte-slice_split}
 use Rattle.std.proofs.lemmas.Slice.Eq.{bytes_eq-Decides}
@@ -16,43 +16,31 @@ use Rattle.ipexts_tool.specs.LineFields.{fields_of, number_of, bytes_of_hex, num
 -- digits with a space among them stand for no bytes
 space_refused : (text : List ℕ) (r : Result (List ℕ) _) → decode_of text ≡ r → (k : ℕ) → k < length text → get_or text k 0 ≡ 32 → result_ok r ≡ None
 space_refused text (Err e) decoded k inside here = refl
-space_refused text (Ok bytes) decoded k inside here =
-    absurd (false≢true (ap is_hex_digit (sym here) ∙ (decode_of-ok text bytes decoded).1 k 0 inside))
+space_refused text (Ok bytes) decoded k inside here = absurd (false≢true (ap is_hex_digit (sym here) ∙ (decode_of-ok text bytes decoded).1 k 0 inside))
 
 bytes_of_hex-space : (front back : List ℕ) → bytes_of_hex (front ++ 32 ∷ back) ≡ None
 bytes_of_hex-space [] back = space_refused (32 ∷ back) (decode_of (32 ∷ back)) refl 0 (omega arith) refl
 bytes_of_hex-space (c ∷ front) back =
     let text : List ℕ = c ∷ (front ++ 32 ∷ back) in
     let longer : length front < length (front ++ 32 ∷ back) = omega (arith, length-append front (32 ∷ back)) in
-    cond-false (bytes_eq text (codes "-")) (Some []) (result_ok (decode_of text))
-    (false_from_ne_true _ (λ same. omega (arith, longer, ap length ((bytes_eq-Decides text (codes "-")).0 same))))
-    ∙ space_refused text (decode_of text) refl (length (c ∷ front)) (omega (arith, longer)) (get_or_at (c ∷ front) 32 back 0 (length (c ∷ front)) refl)
+    rw (false_from_ne_true (bytes_eq text (codes "-")) (λ same. omega (arith, longer, ap length ((bytes_eq-Decides text (codes "-")).0 same))))
+    (space_refused text (decode_of text) refl (length (c ∷ front)) (omega (arith, longer)) (get_or_at (c ∷ front) 32 back 0 (length (c ∷ front)) refl))
 
 pub option_zip-none : (o : Option ℕ) → option_zip {U = List ℕ} o None ≡ None
-option_zip-none None = refl
-option_zip-none (Some n) = refl
+option_zip-none o = search rules
 
 -- the second field is all the rest, or there are too many
 two_fields : (number hex : List ℕ) (parts : List (List ℕ)) → join_with_byte 32 parts ≡ hex
     → number_and_bytes (number ∷ parts) ≡ option_zip (number_of number) (bytes_of_hex hex)
-two_fields number hex [] e = sym (ap (λ (text : List ℕ). option_zip (number_of number) (bytes_of_hex text)) (sym e) ∙ option_zip-none (number_of number))
-two_fields number hex (x ∷ []) e = ap (λ (text : List ℕ). option_zip (number_of number) (bytes_of_hex text)) e
-two_fields number hex (x ∷ y ∷ parts) e =
-    sym
-    (ap (λ (text : List ℕ). option_zip (number_of number) (bytes_of_hex text)) (sym e)
-    ∙ ap (option_zip (number_of number)) (bytes_of_hex-space x (join_with_byte 32 (y ∷ parts)))
-    ∙ option_zip-none (number_of number))
+two_fields number hex parts e = search (rules, option_zip-none, bytes_of_hex-space)
 
 pub number_and_bytes-two : (text number hex : List ℕ) → fields_of text ≡ number ∷ fields_of hex
     → number_and_bytes (fields_of text) ≡ option_zip (number_of number) (bytes_of_hex hex)
-number_and_bytes-two text number hex e =
-    ap number_and_bytes e ∙ two_fields number hex (fields_of hex) (join_with_byte-slice_split 32 hex)
+number_and_bytes-two text number hex e = ap number_and_bytes e ∙ two_fields number hex (fields_of hex) (join_with_byte-slice_split 32 hex)
 
 -- one field is all of the text, or there are too many
 one_field : (hex : List ℕ) (parts : List (List ℕ)) → join_with_byte 32 parts ≡ hex → bytes_alone parts ≡ bytes_of_hex hex
-one_field hex [] e = ap bytes_of_hex e
-one_field hex (x ∷ []) e = ap bytes_of_hex e
-one_field hex (x ∷ y ∷ parts) e = sym (bytes_of_hex-space x (join_with_byte 32 (y ∷ parts))) ∙ ap bytes_of_hex e
+one_field hex parts e = search (rules, bytes_of_hex-space)
 
 pub bytes_alone-one : (hex : List ℕ) → bytes_alone (fields_of hex) ≡ bytes_of_hex hex
 bytes_alone-one hex = one_field hex (fields_of hex) (join_with_byte-slice_split 32 hex)

@@ -1,5 +1,6 @@
 -- Which number a text is the numeral of.
-use Rattle.std.proofs.Common.{◌≡◌, lit≤, lit<, ℕ, zero, suc, ◌+◌, ◌-◌, ◌*◌, ◌^◌, ◌<◌, ◌≤◌, List, length, take, get_or, Some, None, refl, sym, ap, ◌∙◌, subst, arith, rules, inl, inr}
+use Rattle.std.proofs.Common.{◌≡◌, lit≤, ℕ, zero, suc, ◌+◌, ◌-◌, ◌*◌, ◌^◌, ◌<◌, ◌≤◌, List, length, take, get_or, Some, None, refl, sym, ap, ◌∙◌, subst, arith, rules, inl, inr}
+use Rattle.std.proofs.lemmas.Grind.{common_steps}
 use Rattle.std.specs.List.{find, range_with_len}
 use Rattle.std.specs.Str.{bytes_eq}
 use Rattle.std.specs.Str.Parse.{AllDigits, digits_value}
@@ -29,13 +30,9 @@ module _ (text : List ℕ) where
             ∙ found_in n (a + 1) m fits (omega arith) (omega arith) (omega arith) e
       ]
 
-  absent_in : (a m : ℕ) → ((n : ℕ) → n < a + m → decimal n ≡ text → ⊥)
-      → find (λ k. bytes_eq (decimal k) text) (range_with_len a m) ≡ None
+  absent_in : (a m : ℕ) → ((n : ℕ) → n < a + m → decimal n ≡ text → ⊥) → find (λ k. bytes_eq (decimal k) text) (range_with_len a m) ≡ None
   absent_in a zero none = refl
-  absent_in a (suc m) none =
-      cond-false (bytes_eq (decimal a) text) (Some a) _
-      (false_from_ne_true _ (λ yes. none a (omega arith) ((bytes_eq-Decides (decimal a) text).0 yes)))
-      ∙ absent_in (a + 1) m (λ n below e. none n (omega arith) e)
+  absent_in a (suc m) none = grind (arith, cond-false, false_from_ne_true, bytes_eq-Decides, absent_in (a + 1) m (λ n below e. none n (omega arith) e))
 
   pub number_of-some : (n : ℕ) → n < 256 → decimal n ≡ text → number_of text ≡ Some n
   unfolding number_of
@@ -53,38 +50,20 @@ module _ (text : List ℕ) where
   -- digits with no leading zero
   pub number_of-digits : AllDigits 10 text → 0 < length text → (get_or text 0 0 ≡ 48 → length text ≡ 1) → digits_value 10 text < 256
       → number_of text ≡ Some (digits_value 10 text)
-  number_of-digits digits some plain below =
-      number_of-some text (digits_value 10 text) below (decimal-digits_value own text digits some plain (omega arith))
+  number_of-digits digits some plain below = number_of-some text (digits_value 10 text) below (decimal-digits_value own text digits some plain (omega arith))
 
   pub number_of-empty : length text ≡ 0 → number_of text ≡ None
-  number_of-empty empty =
-      number_of-none text (λ n below e.
-      let nonempty : 0 < length (decimal n) = (decimal_is_IsNumeral n (omega arith)).0.0 in
-      omega (arith, nonempty, ap length e))
+  number_of-empty empty = search (rules, number_of-none, decimal_is_IsNumeral)
 
   pub number_of-no_digits : (AllDigits 10 text → ⊥) → number_of text ≡ None
-  number_of-no_digits none =
-      number_of-none text (λ n below e. none (subst (AllDigits 10) e (decimal_is_IsNumeral n (omega arith)).0.1))
+  number_of-no_digits none = number_of-none text (λ n below e. none (subst (AllDigits 10) e (decimal_is_IsNumeral n (omega arith)).0.1))
 
   -- a front of the digits is too large already
   pub number_of-too_large : (i : ℕ) → 256 ≤ digits_value 10 (take i text) → number_of text ≡ None
-  number_of-too_large i large =
-      number_of-none text (λ n below e.
-      let value : digits_value 10 text ≡ n = ap (digits_value 10) (sym e) ∙ (decimal_is_IsNumeral n (omega arith)).1 in
-      let grows = digits_value-take-le 10 text i (lit≤ tt) in
-      omega (arith, value, grows))
+  number_of-too_large i large = grind (arith, common_steps, number_of-none, decimal_is_IsNumeral, digits_value-take-le)
 
   pub number_of-leading_zero : get_or text 0 0 ≡ 48 → 1 < length text → number_of text ≡ None
-  number_of-leading_zero zero_first long =
-      number_of-none text (λ n below e.
-      elim (cases_eq n 0) [
-        | inl none ↦
-            let one : length (decimal n) ≡ 1 = ap (λ (k : ℕ). length (decimal k)) none ∙ ap length (decimal_digit 0 (lit< tt)) in
-            omega (arith, one, ap length e)
-        | inr some ↦
-            let first : 48 < get_or (decimal n) 0 0 = first_decimal n (omega arith) (omega arith) in
-            omega (arith, first, ap (λ (l : List ℕ). get_or l 0 0) e)
-      ])
+  number_of-leading_zero zero_first long = search (rules, number_of-none, cases_eq, decimal_digit, first_decimal)
 
 -- ---- one digit more
 
@@ -94,17 +73,10 @@ digit_value-digit c low high = grind (arith, nat_tests)
 module _ (text : List ℕ) (i : ℕ) (inside : i < length text) where
   -- a byte that is no digit
   pub number_of-other_byte : IsOutOfRange 48 57 (get_or text i 0) → number_of text ≡ None
-  number_of-other_byte other =
-      number_of-no_digits text (λ digits.
-      let digit : IsInRange 48 57 (get_or text i 0) = digit_at text i digits inside in
-      grind (arith, digit, other))
+  number_of-other_byte other = search (rules, number_of-no_digits, digit_at)
 
   pub digits_value-next : IsInRange 48 57 (get_or text i 0) → digits_value 10 (take (i + 1) text) ≡ digits_value 10 (take i text) * 10 + (get_or text i 0 - 48)
-  digits_value-next digit =
-      digits_value_more 10 text i inside
-      ∙ ap (λ (d : ℕ). digits_value 10 (take i text) * 10 + d) (digit_value-digit (get_or text i 0) (search rules) (search rules))
+  digits_value-next digit = search (rules, digits_value_more, digit_value-digit)
 
   pub AllDigits-next : AllDigits 10 (take i text) → IsInRange 48 57 (get_or text i 0) → AllDigits 10 (take (i + 1) text)
-  AllDigits-next digits digit =
-      let value = digit_value-digit (get_or text i 0) (search rules) (search rules) in
-      digits_more 10 text i inside digits (grind (arith, value))
+  AllDigits-next digits digit = search (rules, digit_value-digit, digits_more)

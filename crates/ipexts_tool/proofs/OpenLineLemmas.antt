@@ -1,10 +1,11 @@
 -- The lines of bytes that come in parts.
-use Rattle.std.proofs.Common.{◌≡◌, ℕ, zero, suc, min, ◌+◌, ◌<◌, true, false, cond, List, [], ◌∷◌, ◌++◌, length, take, refl, sym, ap, ◌∙◌, arith, inl, inr, append-nil, append_assoc, length-append}
+use Rattle.std.proofs.Common.{◌≡◌, ℕ, zero, suc, min, ◌+◌, ◌<◌, true, false, cond, List, [], ◌∷◌, ◌++◌, length, take, refl, sym, ap, ◌∙◌, arith, inl, inr, append-nil, append_assoc, length-append, rules}
+use Rattle.std.proofs.lemmas.Grind.{common_steps}
 use Rattle.std.specs.Prelude.{if◌then◌else◌, nat_le, Option, None}
 use Rattle.std.specs.List.{slice_split, onto_first}
 use Rattle.std.specs.Option.{option_map_or}
 use Rattle.std.proofs.lemmas.Bool.{cases_lt, cases_Bool, cond-false, lt-leb}
-use Rattle.std.proofs.lemmas.List.{take_all, take-append-le, take_at, length-take}
+use Rattle.std.proofs.lemmas.List.{take_all, length-take}
 use Rattle.std.proofs.Math.Seq.{take-append-add}
 use Rattle.std.proofs.lemmas.List.Splits.{slice_split-cons_yes, slice_split-cons_no}
 use Rattle.ipexts_tool.specs.Lines.{is_newline, lines_of, without_empty_last, max_line_len}
@@ -27,39 +28,22 @@ some_parts (b ∷ bytes) =
     ]
 
 onto_begun-none : (parts : List (List ℕ)) → onto_begun [] parts ≡ parts
-onto_begun-none [] = refl
-onto_begun-none (line ∷ lines) = refl
+onto_begun-none parts = search rules
 
 onto_begun-first : (begun : List ℕ) (b : ℕ) (line : List ℕ) (lines : List (List ℕ))
     → onto_begun begun (onto_first b (line ∷ lines)) ≡ onto_begun (begun ++ b ∷ []) (line ∷ lines)
 onto_begun-first begun b line lines = ap (λ (l : List ℕ). l ∷ lines) (sym (append_assoc begun (b ∷ []) line))
-
--- all but the last line, and the last, where the lines are not none
-module _ (first : List ℕ) (parts : List (List ℕ)) (line : List ℕ) (lines : List (List ℕ)) (some : parts ≡ line ∷ lines) where
-  all_but_last-cons : all_but_last (first ∷ parts) ≡ first ∷ all_but_last parts
-  all_but_last-cons = rw some refl
-
-  last_line-cons : last_line (first ∷ parts) ≡ last_line parts
-  last_line-cons = rw some refl
 
 -- ---- the first newline
 
 module _ (begun bytes part rest : List ℕ) (found : slice_split is_newline bytes ≡ part ∷ slice_split is_newline rest) where
   pub ended_lines-found : ended_lines begun bytes ≡ (begun ++ part) ∷ ended_lines [] rest
   unfolding ended_lines
-  ended_lines-found =
-      let some = some_parts rest in
-      ap (λ (parts : List (List ℕ)). all_but_last (onto_begun begun parts)) found
-      ∙ all_but_last-cons (begun ++ part) (slice_split is_newline rest) some.0 some.1 some.2
-      ∙ ap (λ (parts : List (List ℕ)). (begun ++ part) ∷ all_but_last parts) (sym (onto_begun-none (slice_split is_newline rest)))
+  ended_lines-found = search (rules, some_parts rest, found, onto_begun-none (slice_split is_newline rest))
 
   pub open_line-found : open_line begun bytes ≡ open_line [] rest
   unfolding open_line
-  open_line-found =
-      let some = some_parts rest in
-      ap (λ (parts : List (List ℕ)). last_line (onto_begun begun parts)) found
-      ∙ last_line-cons (begun ++ part) (slice_split is_newline rest) some.0 some.1 some.2
-      ∙ ap last_line (sym (onto_begun-none (slice_split is_newline rest)))
+  open_line-found = search (rules, some_parts rest, found, onto_begun-none (slice_split is_newline rest))
 
 module _ (begun bytes : List ℕ) (absent : slice_split is_newline bytes ≡ bytes ∷ []) where
   pub ended_lines-absent : ended_lines begun bytes ≡ []
@@ -76,9 +60,7 @@ module _ (begun : List ℕ) (b : ℕ) (bytes : List ℕ) where
   parts-other : is_newline b ≡ false → onto_begun begun (slice_split is_newline (b ∷ bytes)) ≡ onto_begun (begun ++ b ∷ []) (slice_split is_newline bytes)
   parts-other e =
       let some = some_parts bytes in
-      ap (onto_begun begun) (slice_split-cons_no is_newline b bytes e ∙ ap (onto_first b) some.2)
-      ∙ onto_begun-first begun b some.0 some.1
-      ∙ ap (onto_begun (begun ++ b ∷ [])) (sym some.2)
+      cc (slice_split-cons_no is_newline b bytes e, some.2, onto_begun-first begun b some.0 some.1)
 
   ended_lines-other : is_newline b ≡ false → ended_lines begun (b ∷ bytes) ≡ ended_lines (begun ++ b ∷ []) bytes
   unfolding ended_lines
@@ -89,9 +71,7 @@ module _ (begun : List ℕ) (b : ℕ) (bytes : List ℕ) where
   open_line-other e = ap last_line (parts-other e)
 
   ended_lines-newline : is_newline b ≡ true → ended_lines begun (b ∷ bytes) ≡ begun ∷ ended_lines [] bytes
-  ended_lines-newline e =
-      ended_lines-found begun (b ∷ bytes) [] bytes (slice_split-cons_yes is_newline b bytes e)
-      ∙ ap (λ (l : List ℕ). l ∷ ended_lines [] bytes) (append-nil begun)
+  ended_lines-newline e = cc (ended_lines-found begun (b ∷ bytes) [] bytes (slice_split-cons_yes is_newline b bytes e), append-nil begun)
 
   open_line-newline : is_newline b ≡ true → open_line begun (b ∷ bytes) ≡ open_line [] bytes
   open_line-newline e = open_line-found begun (b ∷ bytes) [] bytes (slice_split-cons_yes is_newline b bytes e)
@@ -107,22 +87,11 @@ open_line-nil begun = open_line-absent begun [] refl ∙ append-nil begun
 pub ended_lines-append : (begun xs ys : List ℕ) → ended_lines begun (xs ++ ys) ≡ ended_lines begun xs ++ ended_lines (open_line begun xs) ys
 ended_lines-append begun [] ys = rw (ended_lines-nil begun, open_line-nil begun) refl
 ended_lines-append begun (b ∷ xs) ys =
-    elim (cases_Bool (is_newline b)) [
-      | inl newline ↦
-          rw (ended_lines-newline begun b (xs ++ ys) newline, ended_lines-newline begun b xs newline, open_line-newline begun b xs newline)
-          (ap (λ (ls : List (List ℕ)). begun ∷ ls) (ended_lines-append [] xs ys))
-      | inr other ↦
-          rw (ended_lines-other begun b (xs ++ ys) other, ended_lines-other begun b xs other, open_line-other begun b xs other)
-          (ended_lines-append (begun ++ b ∷ []) xs ys)
-    ]
+    search (rules, cases_Bool, ended_lines-newline, open_line-newline, ended_lines-other, open_line-other, ended_lines-append [] xs ys, ended_lines-append (begun ++ b ∷ []) xs ys)
 
 pub open_line-append : (begun xs ys : List ℕ) → open_line begun (xs ++ ys) ≡ open_line (open_line begun xs) ys
 open_line-append begun [] ys = rw (open_line-nil begun) refl
-open_line-append begun (b ∷ xs) ys =
-    elim (cases_Bool (is_newline b)) [
-      | inl newline ↦ rw (open_line-newline begun b (xs ++ ys) newline, open_line-newline begun b xs newline) (open_line-append [] xs ys)
-      | inr other ↦ rw (open_line-other begun b (xs ++ ys) other, open_line-other begun b xs other) (open_line-append (begun ++ b ∷ []) xs ys)
-    ]
+open_line-append begun (b ∷ xs) ys = search (rules, cases_Bool, open_line-newline, open_line-other, open_line-append [] xs ys, open_line-append (begun ++ b ∷ []) xs ys)
 
 -- ---- all the lines
 
@@ -134,17 +103,12 @@ without_empty_last-is (b ∷ bytes) (next ∷ lines) = ap (λ (ls : List (List �
 
 pub lines_of-is : (bytes : List ℕ) → lines_of bytes ≡ ended_lines [] bytes ++ lines_at_end (open_line [] bytes)
 unfolding ended_lines open_line
-lines_of-is bytes =
-    let some = some_parts bytes in
-    rw (onto_begun-none (slice_split is_newline bytes), some.2) (without_empty_last-is some.0 some.1)
+lines_of-is bytes = search (rules, some_parts, onto_begun-none, without_empty_last-is)
 
 -- the lines of an input that begins with xs begin with those that end in xs
 pub lines_of-append : (xs ys : List ℕ)
     → lines_of (xs ++ ys) ≡ ended_lines [] xs ++ (ended_lines (open_line [] xs) ys ++ lines_at_end (open_line [] (xs ++ ys)))
-lines_of-append xs ys =
-    lines_of-is (xs ++ ys)
-    ∙ ap (λ (ls : List (List ℕ)). ls ++ lines_at_end (open_line [] (xs ++ ys))) (ended_lines-append [] xs ys)
-    ∙ append_assoc (ended_lines [] xs) (ended_lines (open_line [] xs) ys) (lines_at_end (open_line [] (xs ++ ys)))
+lines_of-append xs ys = search (rules, lines_of-is, ended_lines-append, append_assoc)
 
 -- ---- what is kept of a line that has begun
 
@@ -157,15 +121,7 @@ unfolding request_upto
 too_long m line long = cond-false (nat_le (length line) m) (request_of_fields (fields_of line)) None (lt-leb (length line) m long)
 
 request_upto-kept : (m : ℕ) (begun line : List ℕ) → request_upto m (take (m + 1) begun ++ line) ≡ request_upto m (begun ++ line)
-request_upto-kept m begun line =
-    elim (cases_lt m (length begun)) [
-      | inl long ↦
-          let kept : m < length (take (m + 1) begun ++ line)
-          = omega (arith, length-append (take (m + 1) begun) line, length-take (m + 1) begun) in
-          let whole : m < length (begun ++ line) = omega (arith, length-append begun line) in
-          too_long m (take (m + 1) begun ++ line) kept ∙ sym (too_long m (begun ++ line) whole)
-      | inr short ↦ rw (take_all (m + 1) begun (omega arith)) refl
-    ]
+request_upto-kept m begun line = search (rules, cases_lt, length-append, length-take, too_long, take_all)
 
 request_of-kept : (begun line : List ℕ) → request_of (take kept_len begun ++ line) ≡ request_of (begun ++ line)
 unfolding request_upto
@@ -179,13 +135,7 @@ pub answer_of-take : (line : List ℕ) → answer_of (take kept_len line) ≡ an
 answer_of-take line = rw (← append-nil (take kept_len line)) (answer_of-kept line [] ∙ ap answer_of (append-nil line))
 
 take_kept : (m : ℕ) (begun line : List ℕ) → take m (take m begun ++ line) ≡ take m (begun ++ line)
-take_kept m begun line =
-    elim (cases_lt m (length begun)) [
-      | inl long ↦
-          let full : length (take m begun) ≡ m = omega (arith, length-take m begun) in
-          take_at (take m begun) line m full ∙ sym (take-append-le m begun line (omega arith))
-      | inr short ↦ rw (take_all m begun short) refl
-    ]
+take_kept m begun line = grind (arith, common_steps)
 
 -- what is kept of a line, with as much of its next part as there is room for
 pub take-room : (m room : ℕ) (begun part : List ℕ) → room + length begun ≡ m → begun ++ take (min (length part) room) part ≡ take m (begun ++ part)
@@ -214,9 +164,7 @@ module _ (begun : List ℕ) where
   answers_by_parts (suc n) (line ∷ next ∷ lines) = ap (λ (l : List ℕ). l ++ answers_to (take n (all_but_last (next ∷ lines)))) (answer_of-kept begun line)
 
   kept_by_parts : (m : ℕ) (parts : List (List ℕ)) → take m (last_line (onto_begun (take m begun) parts)) ≡ take m (last_line (onto_begun begun parts))
-  kept_by_parts m [] = refl
-  kept_by_parts m (line ∷ []) = take_kept m begun line
-  kept_by_parts m (line ∷ next ∷ lines) = refl
+  kept_by_parts m parts = search (rules, take_kept)
 
   first_answers-take : (n : ℕ) (bytes : List ℕ) → answers_to (take n (ended_lines (take kept_len begun) bytes)) ≡ answers_to (take n (ended_lines begun bytes))
   unfolding ended_lines
@@ -228,23 +176,15 @@ module _ (begun : List ℕ) where
 
 module _ (begun begun' : List ℕ) (same : SameKept begun begun') where
   pub first_answers-kept : (n : ℕ) (bytes : List ℕ) → answers_to (take n (ended_lines begun bytes)) ≡ answers_to (take n (ended_lines begun' bytes))
-  first_answers-kept n bytes =
-      sym (first_answers-take begun n bytes)
-      ∙ ap (λ (l : List ℕ). answers_to (take n (ended_lines l bytes))) same
-      ∙ first_answers-take begun' n bytes
+  first_answers-kept n bytes = search (rules, first_answers-take)
 
   pub answers_to-kept : (bytes : List ℕ) → answers_to (ended_lines begun bytes) ≡ answers_to (ended_lines begun' bytes)
   answers_to-kept bytes =
       let n = length (ended_lines begun bytes) + length (ended_lines begun' bytes) in
-      ap answers_to (sym (take_all n (ended_lines begun bytes) (omega arith)))
-      ∙ first_answers-kept n bytes
-      ∙ ap answers_to (take_all n (ended_lines begun' bytes) (omega arith))
+      cc (take_all n (ended_lines begun bytes) (omega arith), first_answers-kept n bytes, take_all n (ended_lines begun' bytes) (omega arith))
 
   pub open_line-kept : (bytes : List ℕ) → SameKept (open_line begun bytes) (open_line begun' bytes)
-  open_line-kept bytes =
-      sym (take-open_line begun bytes)
-      ∙ ap (λ (l : List ℕ). take kept_len (open_line l bytes)) same
-      ∙ take-open_line begun' bytes
+  open_line-kept bytes = search (rules, take-open_line)
 
   pub lines_at_end-kept : answers_to (lines_at_end begun) ≡ answers_to (lines_at_end begun')
-  lines_at_end-kept = sym (lines_at_end-take begun) ∙ ap (λ (l : List ℕ). answers_to (lines_at_end l)) same ∙ lines_at_end-take begun'
+  lines_at_end-kept = cc (lines_at_end-take begun, same, lines_at_end-take begun')

@@ -9,9 +9,7 @@ use Rattle.std.proofs.lemmas.List.Splits.{slice_split_at, slice_split_none}
 module _ (separator : ℕ) (xs : List ℕ) where
   -- no part ends where no byte is the separator
   pub slice_split_absent : ((k : ℕ) → k < length xs → get_or xs k 0 ≢ separator) → slice_split (λ b. b == separator) xs ≡ xs ∷ []
-  slice_split_absent none =
-      slice_split_none (λ b. b == separator) xs
-      (All-from_get_or (λ b. (b == separator) ≡ false) xs 0 (λ k inside. ne_eqb (get_or xs k 0) separator (none k inside)))
+  slice_split_absent none = slice_split_none _ xs (All-from_get_or (λ b. (b == separator) ≡ false) xs 0 (λ k inside. ne_eqb _ separator (none k inside)))
 
   -- the first part ends at the first separator
   pub slice_split_found : (i : ℕ) → i < length xs → get_or xs i 0 ≡ separator → ((k : ℕ) → k < i → get_or xs k 0 ≢ separator)

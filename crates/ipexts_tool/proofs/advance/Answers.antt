@@ -13,9 +13,6 @@ pub returns-in-Err-clause-ok : goal.returns-in-Err-clause-ok
 returns-in-Err-clause-ok g c = Advances-none _ _ _ _ (Consumes-kept _ _ _ [] (Consumes-nil _) c.in-Err.ensures.bytes)
 
 pub returns-clause-ok : goal.returns-clause-ok
-returns-clause-ok g c = (
-  take c.in-Ok.n c.read.new.buf,
-  c.in-Ok.ensures.bytes.0,
-  Appends-kept _ _ _ _ c.in_ok-answered.ensures.ok c.in_ok-flush.ensures.bytes,
-  ap (take kept_len) c.in_ok-answered.ensures.kept ∙ take-take kept_len kept_len _ (lit≤ tt),
-)
+returns-clause-ok g c =
+    let kept = ap (take kept_len) c.in_ok-answered.ensures.kept ∙ take-take kept_len kept_len _ (lit≤ tt) in
+    (take c.in-Ok.n c.read.new.buf, c.in-Ok.ensures.bytes.0, Appends-kept _ _ _ _ c.in_ok-answered.ensures.ok c.in_ok-flush.ensures.bytes, kept)

@@ -1,5 +1,4 @@
 use Rattle.std.proofs.Common.{rules, []}
-use Rattle.std.specs.Io.KnownBytes.{IsAtEnd}
 use Rattle.std.proofs.KnownBytes.{Consumes-nil}
 use Rattle.std.proofs.lemmas.Result.{err_from_is_err_and, on_ok_weaker, IfErr-weaker}
 use Rattle.ipexts_tool.proofs.MemoryLemmas.{IfMemory-weaker}
@@ -12,14 +11,12 @@ loop-init g c = rw c.new-line.ensures (Advances-none (g.R.Read.remaining c.args.
 pub returns-in_err-advance-clause-memory : goal.returns-in_err-advance-clause-memory
 returns-in_err-advance-clause-memory g c =
     let p = err_from_is_err_and c.from_residual.result c.from_residual.ensures.1 in
-    rw (p.1, p.2)
-    (IfMemory-weaker c.in_err-advance.field-0.0 (StopsWithin-answers _ _ _ _ _ _ c.loop.invariant) c.in_err-advance.ensures.memory)
+    rw (p.1, p.2) (IfMemory-weaker c.in_err-advance.field-0.0 (StopsWithin-answers _ _ _ _ _ _ c.loop.invariant) c.in_err-advance.ensures.memory)
 
 pub returns-then-not-branch-clause-answers : goal.returns-then-not-branch-clause-answers
 returns-then-not-branch-clause-answers g c =
     let came = Advances-trans _ _ _ _ _ _ _ _ c.loop.invariant c.in_ok-advance.ensures.ok in
-    let end : IsAtEnd (g.R.Read.remaining c.advance.new.input) = search rules in
-    on_ok_weaker c.finish.result (Advances-answers _ _ _ _ _ _ came end) (rw c.as_slice.ensures.value at c.finish.ensures.ok)
+    on_ok_weaker c.finish.result (Advances-answers _ _ _ _ _ _ came (search rules)) (rw c.as_slice.ensures.value at c.finish.ensures.ok)
 
 pub returns-then-not-branch-clause-memory : goal.returns-then-not-branch-clause-memory
 returns-then-not-branch-clause-memory g c =

@@ -1,10 +1,9 @@
 -- The cut of the one packet that begins bytes.
-use Rattle.std.proofs.Common.{◌≡◌, ◌==◌, ℕ, ◌+◌, ◌≤◌, List, ◌++◌, length, ap, sym, ◌∙◌, subst, if◌then◌else◌, arith, length-append}
-use Rattle.std.proofs.lemmas.List.{length-take}
+use Rattle.std.proofs.Common.{◌≡◌, ◌==◌, ℕ, ◌+◌, ◌≤◌, List, ◌++◌, length, ap, ◌∙◌, if◌then◌else◌, arith, length-append}
+use Rattle.std.proofs.lemmas.Grind.{common_steps}
 use Rattle.ip_base.specs.Ipv4Header.{version}
 use Rattle.ip_base.specs.Ipv6Header.{payload_length}
 use Rattle.ip_base.specs.declared.len_source.LenSource.{LenSource}
-use Rattle.ip_base.specs.declared.len_source.LenSource.TheVariants.{Slice, Ipv4HeaderTotalLen, Ipv6HeaderPayloadLen}
 use Rattle.ip_spec.specs.Chain.{bytes_of}
 use Rattle.etherparse_ip.specs.LenSources.{front}
 use Rattle.etherparse_ip.specs.Packet.{Parts, IsIpv4Packet, IsIpv6Packet}
@@ -15,13 +14,9 @@ use Rattle.ip_cuts.specs.PacketCut.{packet_cut, packet_cuts, parts_in, IsPacketC
 use Rattle.ip_cuts.specs.declared.header_cut.HeaderCut.{HeaderCut}
 use Rattle.ip_cuts.specs.declared.packet_cut.PacketCut.{PacketCut}
 
--- the parts by the version
-parts_by : (s : List ℕ) (v : ℕ) → version s ≡ v → parts_in s ≡ (if v == 4 then ipv4_cut s else ipv6_cut s)
-parts_by s v is_version = ap (λ n. if n == 4 then ipv4_cut s else ipv6_cut s) is_version
-
 -- what is said of a version and parts, of those that the bytes have
 said_in : {Y : Type 0} (f : ℕ → Parts → Y) (s : List ℕ) (v : ℕ) (p : Parts) → version s ≡ v → p ≡ (if v == 4 then ipv4_cut s else ipv6_cut s) → f v p ≡ f (version s) (parts_in s)
-said_in f s v p is_version are_parts = ap (λ n. f n p) (sym is_version) ∙ ap (f (version s)) (are_parts ∙ sym (parts_by s v is_version))
+said_in f s v p is_version are_parts = cc (is_version, are_parts)
 
 pub in_ipv4 : {Y : Type 0} (f : ℕ → Parts → Y) (s : List ℕ) (p : Parts) → IsIpv4Packet s p → f 4 p ≡ f (version s) (parts_in s)
 in_ipv4 f s p is_packet = said_in f s 4 p (ipv4_version s p is_packet) (ipv4_parts_are s p is_packet)
@@ -30,29 +25,20 @@ pub in_ipv6 : {Y : Type 0} (f : ℕ → Parts → Y) (s : List ℕ) (p : Parts) 
 in_ipv6 f s p is_packet = said_in f s 6 p (ipv6_version s p is_packet) (ipv6_parts_are s p is_packet)
 
 pub cut_of_ipv4 : (s : List ℕ) (p : Parts) (old new : List HeaderCut) (cut : PacketCut) → IsIpv4Packet s p → cut ≡ packet_cut 4 p → new ≡ filled (packet_cuts p) old → IsPacketCut s old cut new
-cut_of_ipv4 s p old new cut is_packet fields cuts = record {
-  fields = fields ∙ in_ipv4 packet_cut s p is_packet;
-  cuts = cuts ∙ in_ipv4 (λ n q. filled (packet_cuts q) old) s p is_packet;
-}
+cut_of_ipv4 s p old new cut is_packet fields cuts =
+    record { fields = fields ∙ in_ipv4 packet_cut s p is_packet; cuts = cuts ∙ in_ipv4 (λ n q. filled (packet_cuts q) old) s p is_packet }
 
 pub cut_of_ipv6 : (s : List ℕ) (p : Parts) (old new : List HeaderCut) (cut : PacketCut) → IsIpv6Packet s p → cut ≡ packet_cut 6 p → new ≡ filled (packet_cuts p) old → IsPacketCut s old cut new
-cut_of_ipv6 s p old new cut is_packet fields cuts = record {
-  fields = fields ∙ in_ipv6 packet_cut s p is_packet;
-  cuts = cuts ∙ in_ipv6 (λ n q. filled (packet_cuts q) old) s p is_packet;
-}
+cut_of_ipv6 s p old new cut is_packet fields cuts =
+    record { fields = fields ∙ in_ipv6 packet_cut s p is_packet; cuts = cuts ∙ in_ipv6 (λ n q. filled (packet_cuts q) old) s p is_packet }
 
 -- The front that a source says isn't longer than the bytes,
 front_within : (by : LenSource) (n : ℕ) (s : List ℕ) → length (front by n s) ≤ length s
-front_within Slice n s = omega arith
-front_within Ipv4HeaderTotalLen n s = rw length-take (omega arith)
-front_within Ipv6HeaderPayloadLen n s = rw length-take (omega arith)
+front_within by n s = grind (arith, common_steps)
 
 -- and the three parts are it.
 parts_within : (by : LenSource) (n : ℕ) (s b c y : List ℕ) → b ++ (c ++ y) ≡ front by n s → length b + length c + length y ≤ length s
-parts_within by n s b c y joined =
-    let within : length (b ++ (c ++ y)) ≤ length s = subst (λ x. length x ≤ length s) (sym joined) (front_within by n s) in
-    let sum : length (b ++ (c ++ y)) ≡ length b + (length c + length y) = length-append b (c ++ y) ∙ ap (λ k. length b + k) (length-append c y) in
-    omega arith
+parts_within by n s b c y joined = omega (arith, front_within by n s, ap length joined, length-append b (c ++ y), length-append c y)
 
 pub ipv6_within : (s : List ℕ) (p : Parts) → IsIpv6Packet s p → length p.base + length (bytes_of p.headers) + length p.payload ≤ length s
 ipv6_within s p is_packet = parts_within p.source (payload_length p.base) s p.base (bytes_of p.headers) p.payload is_packet.joined

@@ -1,12 +1,12 @@
 -- How far headers have a place each of their own.
-use Rattle.std.proofs.Common.{◌≡◌, ℕ, ◌≤◌, List, [], ◌∷◌, ◌++◌, length, take, ap, sym, ◌∙◌, arith, subst}
+use Rattle.std.proofs.Common.{◌≡◌, ℕ, ◌≤◌, List, [], ◌∷◌, ◌++◌, length, take, ap, sym, ◌∙◌, arith}
 use Rattle.std.specs.Prelude.{◌==◌, ◌↔◌, if◌then◌else◌}
 use Rattle.std.specs.List.{AllByRecursion}
 use Rattle.std.proofs.lemmas.Bool.{eq-eqb}
 use Rattle.std.proofs.lemmas.List.{map-append, append-nil, take_all}
 use Rattle.ip_spec.specs.Demand.{KeepsBeginning}
 use Rattle.ip_spec.specs.Header.{IsExtensionNumber}
-use Rattle.ip_spec.specs.NumbersFit.{NumbersFit, how_often, in_place, before_routing, after_routing}
+use Rattle.ip_spec.specs.NumbersFit.{how_often, in_place, before_routing, after_routing}
 use Rattle.ip_spec.proofs.FirstLemmas.{before-none}
 use Rattle.ip_spec.proofs.NumbersFitLemmas.{next_number_tells}
 use Rattle.ip_cuts.specs.InPlaces.{AreInPlaces, cut_numbers}
@@ -27,21 +27,14 @@ all_more P (n ∷ ns) m =
 -- one header more has a place where none stands in it
 pub next_has_place : (xs : List HeaderCut) (x : HeaderCut) → AreInPlaces xs → AreInPlaces (xs ++ x ∷ []) ↔ (IsExtensionNumber x.number × (in_place x.number (cut_numbers xs) ≡ 0))
 next_has_place xs x f =
-    let m : ℕ = x.number in
-    let ns : List ℕ = cut_numbers xs in
-    let more : cut_numbers (xs ++ x ∷ []) ≡ ns ++ m ∷ [] = map-append (λ h. h.number) xs (x ∷ []) in
-    let all = all_more IsExtensionNumber ns m in (
-      (λ g.
-          let is = (all.0 (subst (AllByRecursion IsExtensionNumber) more g.extensions)).1 in
-          (is, (next_number_tells m ns is f.fit).0 (subst NumbersFit more g.fit))),
-      λ p. record {
-        extensions = subst (AllByRecursion IsExtensionNumber) (sym more) (all.1 (f.extensions, p.0));
-        fit = subst NumbersFit (sym more) ((next_number_tells m ns p.0 f.fit).1 p.1);
-      },
+    let more : cut_numbers (xs ++ x ∷ []) ≡ cut_numbers xs ++ x.number ∷ [] = map-append (λ h. h.number) xs (x ∷ []) in
+    let all = all_more IsExtensionNumber (cut_numbers xs) x.number in
+    let tells = λ (is : IsExtensionNumber x.number). next_number_tells x.number (cut_numbers xs) is f.fit in (
+      λ g. let is = (all.0 (rw more at g.extensions)).1 in (is, (tells is).0 (rw more at g.fit)),
+      λ p. record { extensions = rw more (all.1 (f.extensions, p.0)); fit = rw more ((tells p.0).1 p.1) },
     )
 
 pub kept_whole : (xs : List HeaderCut) (k : ℕ) → length xs ≤ k → AreInPlaces (take k xs) → KeepsBeginning AreInPlaces xs (take (length xs) xs)
 kept_whole xs k all f =
-    let P : List HeaderCut → Type 0 = AreInPlaces in
     let here : take (length xs) xs ≡ xs = take_all (length xs) xs (omega arith) in
-    record { rest = []; joined = sym (append-nil (take (length xs) xs) ∙ here); meets = subst P (take_all k xs all ∙ sym here) f; breaks = tt }
+    record { rest = []; joined = sym (append-nil (take (length xs) xs) ∙ here); meets = rw (here, ← take_all k xs all) f; breaks = tt }

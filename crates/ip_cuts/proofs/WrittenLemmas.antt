@@ -1,5 +1,5 @@
 -- Headers that are written one behind the other.
-use Rattle.std.proofs.Common.{◌≡◌, refl, ap, sym, ◌∙◌, subst, ℕ, ◌+◌, ◌*◌, ◌≤◌, ◌<◌, ◌≢◌, List, [], ◌∷◌, ◌++◌, length, take, drop, slice_index_or, slice_set, true, arith, rules, append_assoc, length-append}
+use Rattle.std.proofs.Common.{◌≡◌, refl, ap, sym, ◌∙◌, ℕ, ◌+◌, ◌*◌, ◌≤◌, ◌<◌, ◌≢◌, List, [], ◌∷◌, ◌++◌, length, take, drop, slice_index_or, slice_set, true, arith, rules, append_assoc, length-append, subst}
 use Rattle.std.proofs.lemmas.List.{drop_more, drop-drop, length-take-le, length-drop, length-set, get_or-set_other, get_or-set_same}
 use Rattle.std.specs.Prelude.{slice_index}
 use Rattle.std.specs.List.{AllByRecursion}
@@ -32,16 +32,11 @@ written_len s x lies =
 -- a header more is put where those before it end
 pub put_more : (at k j : ℕ) (out b ws : List ℕ) → length b ≡ k → j ≡ k → at + k ≤ length out → take (at + k) (put_mid at j out b) ++ begun_with ws (drop (at + k) (put_mid at j out b)) ≡ take at out ++ begun_with (b ++ ws) (drop at out)
 put_more at k j out b ws len same room =
-    let j_len : length b ≡ j = len ∙ sym same in
     let front : take (at + k) (put_mid at j out b) ≡ take at out ++ b = take-put_mid at j out b (at + k) (ap (λ n. at + n) (sym len)) (omega arith) in
-    let behind : drop (at + k) (put_mid at j out b) ≡ drop (at + k) out = drop-put_mid at j out b (at + k) (omega arith) (omega arith) j_len in
+    let behind : drop (at + k) (put_mid at j out b) ≡ drop (at + k) out = drop-put_mid at j out b (at + k) (omega arith) (omega arith) (len ∙ sym same) in
     let rest : drop (length ws) (drop (at + k) out) ≡ drop (length (b ++ ws)) (drop at out) =
     drop-drop (length ws) (at + k) out ∙ ap (λ n. drop n out) (omega (arith, length-append b ws, len)) ∙ sym (drop-drop (length (b ++ ws)) at out) in
-    ap (λ xs. xs ++ begun_with ws (drop (at + k) (put_mid at j out b))) front
-    ∙ ap (λ xs. (take at out ++ b) ++ begun_with ws xs) behind
-    ∙ ap (λ xs. (take at out ++ b) ++ (ws ++ xs)) rest
-    ∙ append_assoc (take at out) b (ws ++ drop (length (b ++ ws)) (drop at out))
-    ∙ ap (λ xs. take at out ++ xs) (sym (append_assoc b ws (drop (length (b ++ ws)) (drop at out))))
+    rw (front, behind, rest) (simp append_assoc)
 
 -- What `put_headers` keeps: the headers from place i on lie in s, there is room for them from `at` on, and with what was
 -- put before they are all.
@@ -57,14 +52,10 @@ putting_more s cuts old i at j out b d putting same there j_len is =
     let split : drop i cuts ≡ x ∷ drop (i + 1) cuts = drop_more cuts i d there in
     let lie : AllLieIn s (x ∷ drop (i + 1) cuts) = subst (AllLieIn s) split putting.lie in
     let len : length b ≡ x.len = ap length is ∙ written_len s x lie.0 in
-    let all : written_cuts s (drop i cuts) ≡ b ++ ws = ap (written_cuts s) split ∙ ap (λ y. y ++ ws) (sym is) in
-    let room : at + (x.len + length ws) ≤ length old =
-    subst (λ n. at + n ≤ length old) (ap length all ∙ length-append b ws ∙ ap (λ n. n + length ws) len) putting.room in
-    record {
-      lie = lie.1;
-      room = omega arith;
-      put = put_more at x.len j out b ws len j_len (omega arith) ∙ ap (λ y. take at out ++ begun_with y (drop at out)) (sym all) ∙ putting.put;
-    }
+    let all : written_cuts s (drop i cuts) ≡ b ++ ws = cc (split, is) in
+    let room : at + (x.len + length ws) ≤ length old = omega (arith, putting.room, ap length all, length-append b ws, len) in
+    let put = put_more at x.len j out b ws len j_len (omega arith) ∙ ap (λ y. take at out ++ begun_with y (drop at out)) (sym all) ∙ putting.put in
+    record { lie = lie.1; room = omega arith; put = put }
 
 -- A header with another next header is one,
 relinked_header : (n m : ℕ) (b : List ℕ) → IsHeader n b → IsHeader n (slice_set b 0 m)
@@ -90,9 +81,8 @@ module _ (s : List ℕ) where
   written_links : (n : ℕ) (xs : List HeaderCut) → AllLieIn s xs → AreCutsLinked n xs → AreLinked n (written_chain s xs)
   written_links n [] lie links = links
   written_links n (x ∷ xs) lie links =
-      let leads : next_header (written_header x.number x.next_header (bytes_at s x)) ≡ x.next_header =
-      relinked_leads x.number x.next_header _ (cleared_same (bytes_at s x) x.number lie.0.header).header in
-      (links.0, subst (λ m. AreLinked m (written_chain s xs)) (sym leads) (written_links x.next_header xs lie.1 links.1))
+      let header = (cleared_same (bytes_at s x) x.number lie.0.header).header in
+      (links.0, rw (relinked_leads x.number x.next_header _ header) (written_links x.next_header xs lie.1 links.1))
 
   written_not_zero : (xs : List HeaderCut) → AllByRecursion (λ x. x.number ≢ HOP_BY_HOP) xs → AllByRecursion (λ h. h.number ≢ HOP_BY_HOP) (written_chain s xs)
   written_not_zero [] none = none
@@ -103,8 +93,5 @@ module _ (s : List ℕ) where
   written_zero_first (x ∷ xs) none = written_not_zero xs none
 
   pub written_is_chain : (n : ℕ) (xs : List HeaderCut) → AllLieIn s xs → AreChainCuts n xs → IsChain n (written_chain s xs)
-  written_is_chain n xs lie cuts = record {
-    headers = written_headers xs lie;
-    links = written_links n xs lie cuts.links;
-    zero_only_first = written_zero_first xs cuts.zero_only_first;
-  }
+  written_is_chain n xs lie cuts =
+      record { headers = written_headers xs lie; links = written_links n xs lie cuts.links; zero_only_first = written_zero_first xs cuts.zero_only_first }

@@ -1,10 +1,7 @@
-use Rattle.std.proofs.Common.{◌≡◌, ◌∙◌, rules}
-use Rattle.ip_spec.specs.NumbersFit.{how_often}
+use Rattle.std.proofs.Common.{◌∙◌, rules}
 use Rattle.ip_cuts.specs.InPlaces.{cut_numbers}
 use Rattle.ip_cuts.proofs.RunLemmas.{one_side}
 use Rattle.ip_cuts.proofs.runs.+how_often_on_last_side.Goals as goal
 
 pub returns-then-how_often-eq0 : goal.returns-then-how_often-eq0
-returns-then-how_often-eq0 t c =
-    let none : how_often 43 (cut_numbers c.args.headers.now) ≡ 0 = search rules in
-    c.how_often-then-how_often-eq0.ensures ∙ one_side (cut_numbers c.args.headers.now) none
+returns-then-how_often-eq0 t c = c.how_often-then-how_often-eq0.ensures ∙ one_side (cut_numbers c.args.headers.now) (search rules)

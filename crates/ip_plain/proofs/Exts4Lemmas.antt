@@ -16,8 +16,7 @@ use Rattle.ipexts_tool.specs.Parts.{header_line, header_lines, next_line, ipv4_e
 
 -- what is told where the chain c was taken
 abbrev told : List ℕ → List ExtHeader → List ℕ
-told s c =
-    header_lines 0 c ++ next_line (leads_to 51 c) (length (rest_behind c s)) ++ ipv4_end_line (fault_behind (ipv4_faults Slice) c 51 s)
+told s c = header_lines 0 c ++ next_line (leads_to 51 c) (length (rest_behind c s)) ++ ipv4_end_line (fault_behind (ipv4_faults Slice) c 51 s)
 
 first_byte : (k : ℕ) (s : List ℕ) → 8 ≤ k → get_or (take k s) 0 0 ≡ get_or s 0 0
 first_byte zero s few = absurd (omega arith)

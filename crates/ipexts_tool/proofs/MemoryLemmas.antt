@@ -1,7 +1,8 @@
 -- What holds where memory ran out.
 use Rattle.ipexts_tool.specs.Memory.{IfMemory}
-use Rattle.std.proofs.Common.{rules}
 use Rattle.ipexts_tool.specs.declared.tool_error.ToolError.{ToolError}
+use Rattle.ipexts_tool.specs.declared.tool_error.ToolError.TheVariants.{Io, Memory}
 
 pub IfMemory-weaker : {P Q : Type 0} (e : ToolError) → (P → Q) → IfMemory e P → IfMemory e Q
-IfMemory-weaker e weaker h = search rules
+IfMemory-weaker (Io e) weaker h = tt
+IfMemory-weaker (Memory e) weaker h = weaker h

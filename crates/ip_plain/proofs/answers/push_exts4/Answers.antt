@@ -1,22 +1,19 @@
-use Rattle.std.proofs.Common.{◌≡◌, ◌++◌, ℕ, List, length, drop, get_or, sym, ap, ◌∙◌, subst, arith}
-use Rattle.std.specs.Prelude.{OnOk, string_bytes}
+use Rattle.std.proofs.Common.{◌++◌, ℕ, List, length, get_or, ap, ◌∙◌, arith}
+use Rattle.std.specs.Prelude.{string_bytes}
 use Rattle.std.proofs.lemmas.Result.{on_ok_weaker}
-use Rattle.ipexts_tool.specs.Parts.{header_line, next_line, ok_line}
+use Rattle.ipexts_tool.specs.Parts.{next_line, ok_line}
 use Rattle.ip_plain.proofs.Exts4Lemmas.{exts4_one, exts4_none, two_joined, three_joined}
 use Rattle.ip_plain.proofs.answers.push_exts4.Goals as goal
 
 pub returns-in_default : goal.returns-in_default
 returns-in_default c =
     let answer = exts4_none c.args.number c.args.bytes.now (grind arith) c.in_default.ensures.none in
-    let F : List ℕ → Type 0 = λ text. OnOk c.push_auth_fault.result (string_bytes c.push_auth_fault.new.text ≡ string_bytes c.args.text.now ++ text) in
-    subst F (sym answer) (on_ok_weaker c.push_auth_fault.result (two_joined _ _ _ _ _ c.in_ok-push_next-2.ensures) c.push_auth_fault.ensures)
+    rw answer (on_ok_weaker c.push_auth_fault.result (two_joined _ _ _ _ _ c.in_ok-push_next-2.ensures) c.push_auth_fault.ensures)
 
 pub returns : goal.returns
 returns c =
     let bytes = c.args.bytes.now in
     let answer = exts4_one c.args.number bytes c.in-Some.len (grind arith) c.in-Some.ensures.within c.in-Some.ensures.next in
-    let told = three_joined (string_bytes c.args.text.now) (header_line 0 51 c.in-Some.len) (next_line (get_or bytes 0 0) (length (drop c.in-Some.len bytes))) ok_line
-    (string_bytes c.push_header.new.text) (string_bytes c.push_next-2.new.text) (string_bytes c.push_ok-2.new.text) c.in_ok-push_header.ensures
+    let told = three_joined _ _ _ ok_line _ _ (string_bytes c.push_ok-2.new.text) c.in_ok-push_header.ensures
     (c.in_ok-push_next-3.ensures ∙ ap (λ (r : List ℕ). string_bytes c.push_header.new.text ++ next_line (get_or bytes 0 0) (length r)) c.split_at.ensures.back) in
-    let F : List ℕ → Type 0 = λ text. OnOk c.push_ok-2.result (string_bytes c.push_ok-2.new.text ≡ string_bytes c.args.text.now ++ text) in
-    subst F (sym answer) (on_ok_weaker c.push_ok-2.result told c.push_ok-2.ensures)
+    rw answer (on_ok_weaker c.push_ok-2.result told c.push_ok-2.ensures)

@@ -1,14 +1,12 @@
-use Rattle.std.proofs.Common.{arith, ◌≡◌, ◌-◌, ◌++◌, List, ℕ, map, length, ◌≤◌, length-drop, ap, sym, ◌∙◌, subst, append_assoc}
-use Rattle.std.specs.Prelude.{OnOk, string_bytes}
+use Rattle.std.proofs.Common.{arith, ◌≡◌, ◌-◌, map, length, ◌≤◌, length-drop, ap, ◌∙◌}
+use Rattle.ip_plain.proofs.Exts4Lemmas.{three_joined}
+use Rattle.std.specs.Prelude.{string_bytes}
 use Rattle.std.proofs.lemmas.Result.{on_ok_weaker}
 use Rattle.ip_spec.specs.Chain.{bytes_of, is_empty}
 use Rattle.ip_plain.specs.PlainHeader.{plain_header_of}
-use Rattle.ipexts_tool.specs.Parts.{header_lines, next_line, chain_end_line}
+use Rattle.ipexts_tool.specs.Parts.{chain_end_line}
 use Rattle.ip_plain.proofs.AnswerLemmas.{exts6_answer-longest, length-prefix, is_empty-shown}
 use Rattle.ip_plain.proofs.answers.push_exts6.Goals as goal
-
-joined : (text lines next end t₁ t₂ t₃ : List ℕ) → t₁ ≡ text ++ lines → t₂ ≡ t₁ ++ next → t₃ ≡ t₂ ++ end → t₃ ≡ text ++ (lines ++ next ++ end)
-joined text lines next end t₁ t₂ t₃ a b c = rw (c, b, a) (simp append_assoc)
 
 pub returns : goal.returns
 returns c =
@@ -22,10 +20,6 @@ returns c =
     let first : c.is_empty-first.result ≡ is_empty headers = c.is_empty-first.ensures ∙ is_empty-shown chain.headers.items chain.headers.len chain.headers.ok.0 in
     let answer = exts6_answer-longest c.args.number bytes headers longest chain.number chain.rest.now c.is_empty-first.result
     (length bytes - length chain.rest.now) c.plain_fault.result c.in_ok-chain.ensures.number c.in_ok-chain.ensures.rest first offset c.plain_fault.ensures in
-    let lines : List ℕ = header_lines 0 headers in
-    let next : List ℕ = next_line chain.number (length chain.rest.now) in
-    let end : List ℕ = chain_end_line c.plain_fault.result in
-    let told = joined (string_bytes c.args.text.now) lines next end (string_bytes c.push_headers.new.text) (string_bytes c.push_next.new.text) (string_bytes c.push_chain_end.new.text)
+    let told = three_joined _ _ _ (chain_end_line c.plain_fault.result) _ _ (string_bytes c.push_chain_end.new.text)
     (rw c.deref.ensures.value at c.in_ok-push_headers.ensures) c.in_ok-push_next.ensures in
-    let F : List ℕ → Type 0 = λ text. OnOk c.push_chain_end.result (string_bytes c.push_chain_end.new.text ≡ string_bytes c.args.text.now ++ text) in
-    subst F (sym answer) (on_ok_weaker c.push_chain_end.result told c.push_chain_end.ensures)
+    rw answer (on_ok_weaker c.push_chain_end.result told c.push_chain_end.ensures)

@@ -1,17 +1,9 @@
 -- A base header, the headers of the longest chain behind it and what that leaves, joined.
-use Rattle.std.proofs.Common.{◌≡◌, ℕ, ◌+◌, ◌≤◌, List, ◌++◌, length, take, drop, refl, sym, arith, Bool, rules}
-use Rattle.std.proofs.lemmas.Grind.{common_steps}
-use Rattle.std.specs.Prelude.{Option, None}
-use Rattle.std.specs.Option.{option_map}
-use Rattle.std.proofs.lemmas.List.{take-take, take-append-drop}
-use Rattle.std.proofs.Math.Seq.{take-length}
-use Rattle.ip_spec.specs.Prefix.{IsPrefix}
-use Rattle.ip_spec.specs.Chain.{ExtHeader, bytes_of, has_fragmenting}
+use Rattle.ip_spec.proofs.Common.{◌≡◌, ℕ, ◌+◌, ◌≤◌, List, ◌++◌, length, take, drop, refl, sym, arith, Bool, rules, common_steps, Option, None, option_map, take-take, take-append-drop, take-length, IsPrefix, ExtHeader, bytes_of, has_fragmenting, AtMostOneOf}
 use Rattle.ip_spec.proofs.PrefixLemmas.{prefix-append, prefix-length}
 use Rattle.ip_spec.proofs.ChainLemmas.{some_longest}
 use Rattle.ip_spec.proofs.UnderLemmas.{some_longest_under}
 use Rattle.ip_spec.proofs.DemandKinds.{at_most_one_of}
-use Rattle.ip_spec.specs.Demand.{AtMostOneOf}
 use Rattle.ip_ext_headers.specs.declared.err.ip_auth.header_slice_error.HeaderSliceError.{HeaderSliceError}
 use Rattle.ip_ext_slices.specs.ChainFault.{Fault}
 use Rattle.ip_ext_slices.specs.ChainAnswer.{IsChainAnswer}

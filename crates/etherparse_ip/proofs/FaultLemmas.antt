@@ -1,8 +1,5 @@
 -- Where a fault of a chain begins.
-use Rattle.std.proofs.Common.{◌≡◌, ℕ, ◌+◌, ◌<◌, ◌^◌, List, length, arith, rules}
-use Rattle.std.proofs.lemmas.Grind.{common_steps}
-use Rattle.std.specs.Prelude.{Some, None}
-use Rattle.std.specs.Option.{option_map}
+use Rattle.ip_spec.proofs.Common.{◌≡◌, ℕ, ◌+◌, ◌<◌, ◌^◌, List, length, arith, rules, common_steps, Some, None, option_map}
 use Rattle.ip_ext_slices.specs.ChainFault.{chain_fault, ExtsOffsetFits}
 use Rattle.ip_base.specs.Ipv6Header.{ipv6_header_fault}
 use Rattle.etherparse_ip.specs.PacketFault.{ipv6_fault_behind, ipv6_lax_fault}

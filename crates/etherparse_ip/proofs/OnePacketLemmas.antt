@@ -1,11 +1,7 @@
 -- The bytes determine the parts of a packet.
-use Rattle.std.proofs.Common.{◌≡◌, ℕ, ◌+◌, List, ◌++◌, take, drop, ap, sym, ◌∙◌, append_assoc, rules, arith}
-use Rattle.std.proofs.lemmas.Grind.{common_steps}
-use Rattle.std.proofs.lemmas.List.{take-append-drop}
+use Rattle.ip_spec.proofs.Common.{◌≡◌, ℕ, ◌+◌, List, ◌++◌, take, drop, ap, sym, ◌∙◌, append_assoc, rules, arith, common_steps, take-append-drop, take-length, IsPrefix}
 use Rattle.ip_base.specs.declared.len_source.LenSource.{LenSource}
-use Rattle.std.proofs.Math.Seq.{take-length}
 use Rattle.ip_base.specs.Ipv4Header.{version}
-use Rattle.ip_spec.specs.Prefix.{IsPrefix}
 use Rattle.ip_spec.proofs.PrefixLemmas.{prefix_of-append}
 use Rattle.etherparse_ip.specs.LenSources.{front}
 use Rattle.etherparse_ip.specs.Packet.{Parts, IsIpv4Packet, IsIpv6Packet}

@@ -1,16 +1,8 @@
 -- Packets are equal where their parts are.
-use Rattle.std.proofs.Common.{◌≡◌, ℕ, List, [], ◌∷◌, ap, ◌∙◌, rules, arith}
-use Rattle.std.specs.Prelude.{Bool, ◌==◌, ◌↔◌, Option, IsTrue, nat_eq}
-use Rattle.std.specs.Bool.{Decides}
-use Rattle.std.specs.Cmp.Lexicographic.{pointwise}
-use Rattle.std.specs.Option.{option_eq, option_map_or}
-use Rattle.std.specs.Ordering.{on}
-use Rattle.std.proofs.Math.Bool.{and-true}
-use Rattle.std.proofs.lemmas.Bool.Decides.{Decides-and}
+use Rattle.ip_spec.proofs.Common.{◌≡◌, ℕ, List, [], ◌∷◌, ap, ◌∙◌, rules, arith, ◌==◌, ◌↔◌, Option, IsTrue, Decides, pointwise, option_eq, option_map_or, on, and-true, Decides-and, ExtHeader, AUTHENTICATION}
+use Rattle.std.specs.Prelude.{Bool, nat_eq}
 use Rattle.ip_base.specs.declared.ip_number_impl.IpNumber.{IpNumber}
 use Rattle.ip_base.specs.declared.ip_payload_slice.IpPayloadSlice.{IpPayloadSlice}
-use Rattle.ip_spec.specs.Chain.{ExtHeader}
-use Rattle.ip_spec.specs.Numbers.{AUTHENTICATION}
 use Rattle.ip_ext_headers.specs.IpAuthHeaderSlice.{bytes}
 use Rattle.ip_ext_headers.specs.declared.ip_auth_header_slice.IpAuthHeaderSlice.{IpAuthHeaderSlice}
 use Rattle.etherparse_ip.specs.Ipv4Slice.{ipv4_parts}

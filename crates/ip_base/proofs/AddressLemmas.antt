@@ -1,8 +1,6 @@
 -- The octets of an address that is made of octets.
-use Rattle.std.proofs.Common.{◌≡◌, ℕ, zero, suc, ◌%◌, ◌<◌, List, [], ◌∷◌, length, refl, ap, arith}
+use Rattle.ip_spec.proofs.Common.{◌≡◌, ℕ, zero, suc, ◌%◌, ◌<◌, List, [], ◌∷◌, length, refl, ap, arith, octets_of, segments_of, div-mul-add, mod-mul-add}
 use Rattle.std.specs.Prelude.{slice_index}
-use Rattle.std.specs.Net.Addr.{octets_of, segments_of}
-use Rattle.std.proofs.lemmas.Nat.{div-mul-add, mod-mul-add}
 
 -- an even number of bytes, taken in twos and apart again
 pub octets_of-segments_of : (xs : List ℕ) → length xs % 2 ≡ 0 → ((k : ℕ) → slice_index xs k < 256) → octets_of (segments_of xs) ≡ xs

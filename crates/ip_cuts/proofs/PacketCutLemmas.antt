@@ -1,10 +1,9 @@
 -- The cut of the one packet that begins bytes.
-use Rattle.std.proofs.Common.{◌≡◌, ◌==◌, ℕ, ◌+◌, ◌≤◌, List, ◌++◌, length, ap, ◌∙◌, if◌then◌else◌, arith, length-append}
-use Rattle.std.proofs.lemmas.Grind.{common_steps}
+use Rattle.ip_spec.proofs.Common.{◌≡◌, ℕ, ◌+◌, ◌≤◌, List, ◌++◌, length, ap, ◌∙◌, arith, common_steps, bytes_of}
+use Rattle.std.proofs.Common.{◌==◌, if◌then◌else◌, length-append}
 use Rattle.ip_base.specs.Ipv4Header.{version}
 use Rattle.ip_base.specs.Ipv6Header.{payload_length}
 use Rattle.ip_base.specs.declared.len_source.LenSource.{LenSource}
-use Rattle.ip_spec.specs.Chain.{bytes_of}
 use Rattle.etherparse_ip.specs.LenSources.{front}
 use Rattle.etherparse_ip.specs.Packet.{Parts, IsIpv4Packet, IsIpv6Packet}
 use Rattle.etherparse_ip.specs.Cut.{ipv4_cut, ipv6_cut}

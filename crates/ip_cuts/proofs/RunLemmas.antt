@@ -1,12 +1,5 @@
 -- How far headers have a place each of their own.
-use Rattle.std.proofs.Common.{◌≡◌, ℕ, ◌≤◌, List, [], ◌∷◌, ◌++◌, length, take, ap, sym, ◌∙◌, arith}
-use Rattle.std.specs.Prelude.{◌==◌, ◌↔◌, if◌then◌else◌}
-use Rattle.std.specs.List.{AllByRecursion}
-use Rattle.std.proofs.lemmas.Bool.{eq-eqb}
-use Rattle.std.proofs.lemmas.List.{map-append, append-nil, take_all}
-use Rattle.ip_spec.specs.Demand.{KeepsBeginning}
-use Rattle.ip_spec.specs.Header.{IsExtensionNumber}
-use Rattle.ip_spec.specs.NumbersFit.{how_often, in_place, before_routing, after_routing}
+use Rattle.ip_spec.proofs.Common.{◌≡◌, ℕ, ◌≤◌, List, [], ◌∷◌, ◌++◌, length, take, ap, sym, ◌∙◌, arith, ◌==◌, ◌↔◌, if◌then◌else◌, AllByRecursion, eq-eqb, map-append, append-nil, take_all, KeepsBeginning, IsExtensionNumber, how_often, in_place, before_routing, after_routing}
 use Rattle.ip_spec.proofs.FirstLemmas.{before-none}
 use Rattle.ip_spec.proofs.NumbersFitLemmas.{next_number_tells}
 use Rattle.ip_cuts.specs.InPlaces.{AreInPlaces, cut_numbers}

@@ -1,17 +1,8 @@
 -- Headers that are written one behind the other.
-use Rattle.std.proofs.Common.{◌≡◌, refl, ap, sym, ◌∙◌, ℕ, ◌+◌, ◌*◌, ◌≤◌, ◌<◌, ◌≢◌, List, [], ◌∷◌, ◌++◌, length, take, drop, slice_index_or, slice_set, true, arith, rules, append_assoc, length-append, subst}
-use Rattle.std.proofs.lemmas.List.{drop_more, drop-drop, length-take-le, length-drop, length-set, get_or-set_other, get_or-set_same}
+use Rattle.ip_spec.proofs.Common.{◌≡◌, refl, ap, sym, ◌∙◌, ℕ, ◌+◌, ◌*◌, ◌≤◌, ◌<◌, ◌≢◌, List, [], ◌∷◌, ◌++◌, length, take, drop, slice_index_or, slice_set, true, arith, rules, append_assoc, subst, drop_more, drop-drop, length-take-le, length-drop, length-set, get_or-set_other, get_or-set_same, AllByRecursion, take-put_mid, drop-put_mid, take-length, put_mid, HOP_BY_HOP, IsHeader, raw, fragment, auth, next_header, IsEnd, IsChain, AreLinked, cleared_header}
+use Rattle.std.proofs.Common.{length-append}
 use Rattle.std.specs.Prelude.{slice_index}
-use Rattle.std.specs.List.{AllByRecursion}
-use Rattle.std.proofs.lemmas.Slice.{take-put_mid, drop-put_mid}
-use Rattle.std.proofs.Math.Seq.{take-length}
-use borrow.Rule.Slice.PartMut.{put_mid}
-use Rattle.ip_spec.specs.Numbers.{HOP_BY_HOP}
-use Rattle.ip_spec.specs.Header.{IsHeader, raw, fragment, auth}
-use Rattle.ip_spec.specs.Fields.{next_header}
-use Rattle.ip_spec.specs.Chain.{IsEnd, IsChain, AreLinked}
 use Rattle.ip_spec.proofs.HeaderLemmas.{header-least}
-use Rattle.ip_spec.specs.Encoding.{cleared_header}
 use Rattle.ip_spec.proofs.ClearedLemmas.{cleared_same}
 use Rattle.ip_cuts.specs.Written.{bytes_at, LiesIn, AllLieIn, written_header, written_cuts, written_chain, begun_with, AreCutsLinked, AreChainCuts}
 use Rattle.ip_cuts.specs.declared.header_cut.HeaderCut.{HeaderCut}

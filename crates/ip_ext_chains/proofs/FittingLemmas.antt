@@ -1,17 +1,8 @@
 -- The longest chain that fits six places, where the longest chain's first run was taken.
-use Rattle.std.proofs.Common.{◌≡◌, ◌≢◌, ℕ, ◌-◌, List, ◌∷◌, ◌++◌, length, take, drop, refl, ap, sym, ◌∙◌, inl, inr, Bool, true, false, subst, rules, []}
-use Rattle.std.specs.Prelude.{Option, Some, None, IsSome, if◌then◌else◌}
-use Rattle.std.proofs.lemmas.Bool.{cases_Bool}
-use Rattle.ip_spec.specs.Header.{IsExtensionNumber}
+use Rattle.ip_spec.proofs.Common.{◌≡◌, ◌≢◌, ℕ, ◌-◌, List, ◌∷◌, ◌++◌, length, take, drop, refl, ap, sym, ◌∙◌, inl, inr, Bool, true, false, subst, rules, [], Option, Some, None, IsSome, if◌then◌else◌, cases_Bool, IsExtensionNumber, append-nil, length-append, ExtHeader, leads_to, bytes_of, headers_within, is_empty, IsChain, IsPrefixChain, rest_behind, fault_behind, KeepsBeginning, NextBreaks, IsLongestUnder, IsEndUnder, FitsPlaces, IsTaken, is_taken}
 use Rattle.ip_ext_slices.proofs.FaultLemmas.{fault_at_end, end_at_other, no_fault_at_other}
 use Rattle.ip_ext_slices.proofs.RequestFaultLemmas.{fault_ends}
-use Rattle.std.proofs.lemmas.List.{append-nil, length-append}
 use Rattle.std.proofs.lemmas.Grind.{flat_map-append}
-use Rattle.ip_spec.specs.Chain.{ExtHeader, leads_to, bytes_of, headers_within, is_empty, IsChain, IsPrefixChain, IsEnd}
-use Rattle.ip_spec.specs.Parse.{rest_behind, fault_behind}
-use Rattle.ip_spec.specs.Demand.{KeepsBeginning, NextBreaks, IsLongestUnder, IsEndUnder}
-use Rattle.ip_spec.specs.Fits.{FitsPlaces, IsTaken}
-use Rattle.ip_spec.specs.Places.{is_taken}
 use Rattle.ip_spec.proofs.PlaceLemmas.{taken_told}
 use Rattle.ip_spec.proofs.FitsLemmas.{fits_places, fitting_ends, next_taken}
 use Rattle.ip_spec.proofs.UnderLemmas.{some_longest_under, one_longest_under, kept_is_longest}

@@ -1,10 +1,5 @@
 -- The numbers that are set where headers are linked.
-use Rattle.std.proofs.Common.{◌≡◌, ℕ, List, ◌∷◌, ap, ◌∙◌, rules}
-use Rattle.std.specs.Prelude.{Option, is_some, if◌then◌else◌}
-use Rattle.std.specs.Option.{option_map}
-use Rattle.ip_spec.specs.Places.{Place, number_in, HeaderFields}
-use Rattle.ip_spec.specs.Walk.{PlacedFields, WalkAnswer, IsWalkAnswer}
-use Rattle.ip_spec.specs.Links.{relinked, first_number}
+use Rattle.ip_spec.proofs.Common.{◌≡◌, ℕ, List, ◌∷◌, ap, ◌∙◌, rules, Option, is_some, if◌then◌else◌, option_map, Place, number_in, HeaderFields, PlacedFields, WalkAnswer, IsWalkAnswer, relinked, first_number}
 
 -- the number to which what is before a place leads
 pub number_before : {X : Type 0} (v : PlacedFields) (p : Place) (ps : List Place) (m : ℕ) (f : X → HeaderFields) (o : Option X) (r n : ℕ)

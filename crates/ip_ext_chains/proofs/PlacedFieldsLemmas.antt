@@ -1,13 +1,6 @@
 -- A struct of six places, and what it holds in each.
-use Rattle.std.proofs.Common.{◌≡◌, ℕ, List, refl, ap, ◌∙◌, arith, true, rules}
-use Rattle.std.specs.Prelude.{Option, None, is_some}
-use Rattle.std.specs.Option.{option_map, option_map_or, ForSome}
-use Rattle.std.proofs.lemmas.Bool.{cases_Bool}
-use Rattle.std.proofs.lemmas.Option.{none-some}
-use Rattle.ip_spec.specs.Fields.{RawFields, FragmentFields, AuthFields, raw_fields, fragment_fields, auth_fields}
-use Rattle.ip_spec.specs.Chain.{ExtHeader}
-use Rattle.ip_spec.specs.Places.{Place, hop_by_hop, destination, routing, fragment, authentication, final_destination, number_in, header_in, HeaderFields, raw_header, fragment_header, auth_header, fields_of}
-use Rattle.ip_spec.specs.Encodable.{IsEncoded, IsEncodable, placed_len, fields_len}
+use Rattle.ip_spec.proofs.Common.{◌≡◌, ℕ, List, refl, ap, ◌∙◌, arith, true, rules, Option, None, is_some, option_map, option_map_or, ForSome, cases_Bool, none-some, RawFields, FragmentFields, AuthFields, raw_fields, fragment_fields, auth_fields, ExtHeader, Place, hop_by_hop, destination, routing, authentication, final_destination, number_in, header_in, HeaderFields, raw_header, fragment_header, auth_header, fields_of, IsEncoded, IsEncodable, placed_len, fields_len}
+use Rattle.ip_spec.specs.Places.{fragment}
 use Rattle.ip_spec.proofs.PlaceLemmas.{none_behind}
 use Rattle.ip_spec.proofs.EncodedLemmas.{same_fragment, same_auth}
 use Rattle.ip_spec.proofs.WalkLemmas.{some_if}

@@ -1,11 +1,6 @@
 -- Headers that stand in their places.
-use Rattle.std.proofs.Common.{◌≡◌, ℕ, List, refl, ap, sym, ◌∙◌, Bool, false, rules}
-use Rattle.std.specs.Prelude.{◌==◌, ◌&&◌, not, Option, Some, None, is_some, IfSome, if◌then◌else◌}
-use Rattle.std.specs.Option.{option_map, option_map_or}
-use Rattle.std.proofs.lemmas.Bool.{eqb-true}
-use Rattle.ip_spec.specs.Fields.{raw_fields, fragment_fields, auth_fields}
-use Rattle.ip_spec.specs.Chain.{ExtHeader}
-use Rattle.ip_spec.specs.Places.{Place, hop_by_hop, destination, routing, fragment, authentication, final_destination, number_in, side_of, header_in, place_of, is_taken}
+use Rattle.ip_spec.proofs.Common.{◌≡◌, ℕ, List, refl, ap, sym, ◌∙◌, Bool, false, rules, ◌==◌, ◌&&◌, not, Option, Some, None, is_some, IfSome, if◌then◌else◌, option_map, option_map_or, eqb-true, raw_fields, fragment_fields, auth_fields, ExtHeader, Place, hop_by_hop, destination, routing, authentication, final_destination, number_in, side_of, header_in, place_of, is_taken}
+use Rattle.ip_spec.specs.Places.{fragment}
 use Rattle.ip_spec.proofs.FirstLemmas.{find_passes}
 use Rattle.ip_spec.proofs.PlaceLemmas.{has_routing, is_of}
 use Rattle.ip_spec.proofs.WalkLemmas.{is_some-map}

@@ -1,16 +1,10 @@
 -- What is refused of a chain that is read is what the parse tells.
-use Rattle.std.proofs.lemmas.Grind.{common_steps}
-use Rattle.std.proofs.Common.{◌≡◌, ℕ, ◌<◌, List, ◌∷◌, ◌++◌, length, refl, ap, ◌∙◌, Bool, true, false, arith, length-append, rules, []}
-use Rattle.std.specs.Prelude.{Option, Some, IsTrue}
-use Rattle.std.specs.Option.{option_map}
-use Rattle.std.specs.Io.KnownBytes.{Consumes}
+use Rattle.ip_spec.proofs.Common.{common_steps, ◌≡◌, ℕ, ◌<◌, List, ◌∷◌, ◌++◌, length, refl, ap, ◌∙◌, Bool, true, false, arith, rules, [], Option, Some, IsTrue, option_map, Consumes, IsRawNumber, RawAsks, Asks, IsZeroLength, ExtHeader, leads_to, bytes_of, is_empty}
+use Rattle.std.proofs.Common.{length-append}
 use Rattle.ip_base.specs.declared.len_source.LenSource.TheVariants.{Slice}
 use Rattle.ip_base.specs.declared.err.layer.Layer.TheVariants.{Ipv6ExtHeader}
-use Rattle.ip_spec.specs.Header.{IsRawNumber}
-use Rattle.ip_spec.specs.Requests.{RawAsks, Asks, IsZeroLength}
 use Rattle.ip_io.specs.declared.err.io.limited_read_error.LimitedReadError.{LimitedReadError}
 use Rattle.ip_io.specs.declared.err.io.limited_read_error.LimitedReadError.TheVariants as limit
-use Rattle.ip_spec.specs.Chain.{ExtHeader, leads_to, bytes_of, is_empty}
 use Rattle.ip_spec.proofs.ChainLemmas.{bytes_of-more}
 use Rattle.ip_io.specs.ExactRead.{IfSteady}
 use Rattle.ip_io.specs.Limits.{Limits, started, advanced}

@@ -1,10 +1,7 @@
 -- A header that was read stands in its place.
-use Rattle.std.proofs.Common.{◌≡◌, ℕ, List, refl, inl, inr, rules}
-use Rattle.std.specs.Prelude.{Option, Some, Result, IfOk}
+use Rattle.ip_spec.proofs.Common.{◌≡◌, ℕ, List, refl, inl, inr, rules, Option, Some, Result, IfOk, IsHeader, IsRawHeader, IsFragmentHeader, IsAuthHeader, raw, fragment, auth, RawFields, FragmentFields, AuthFields, raw_fields, fragment_fields, auth_fields, Place, number_in, hop_by_hop, destination, routing, authentication, final_destination}
 use Rattle.ip_base.specs.declared.ip_number_impl.IpNumber.{IpNumber}
-use Rattle.ip_spec.specs.Header.{IsHeader, IsRawHeader, IsFragmentHeader, IsAuthHeader, raw, fragment, auth}
-use Rattle.ip_spec.specs.Fields.{RawFields, FragmentFields, AuthFields, raw_fields, fragment_fields, auth_fields}
-use Rattle.ip_spec.specs.Places.{Place, number_in, hop_by_hop, destination, routing, fragment as fragment_place, authentication, final_destination}
+use Rattle.ip_spec.specs.Places.{fragment as fragment_place}
 use Rattle.ip_ext_chains.specs.ChainReading.{IsHeaderRead, IsReadInto, with_header, routing_fields}
 use Rattle.ip_ext_chains.specs.declared.ipv6_exts.Ipv6Extensions.{Ipv6Extensions}
 use Rattle.ip_ext_chains.specs.declared.ipv6_routing_exts.Ipv6RoutingExtensions.{Ipv6RoutingExtensions}

@@ -1,16 +1,6 @@
 -- A chain that is read, header by header, into six places.
-use Rattle.std.proofs.lemmas.Grind.{common_steps}
-use Rattle.std.proofs.Common.{◌≡◌, ◌≢◌, ℕ, ◌+◌, ◌<◌, List, ◌∷◌, ◌++◌, length, drop, take, refl, ap, sym, ◌∙◌, arith, inl, inr, ◌⊎◌, subst, Bool, true, false, rules, []}
-use Rattle.std.specs.Prelude.{◌==◌, ◌&&◌, not, Option, Some, None, is_some, if◌then◌else◌}
-use Rattle.std.specs.Option.{option_map, option_map_or}
-use Rattle.std.proofs.lemmas.Bool.{cases_Bool, ne_eqb}
-use Rattle.std.proofs.lemmas.Option.{none-some}
-use Rattle.std.proofs.Math.Bool.{and-false}
-use Rattle.std.proofs.Math.Seq.{take-length, drop-append_seam}
-use Rattle.ip_spec.specs.Header.{IsHeader, IsExtensionNumber}
-use Rattle.ip_spec.specs.Chain.{ExtHeader, IsChain, IsNext, leads_to, bytes_of, is_empty}
-use Rattle.ip_spec.specs.Fits.{FitsPlaces}
-use Rattle.ip_spec.specs.Places.{Place, hop_by_hop, destination, routing, fragment, authentication, final_destination, index, number_in, header_in, place_of, is_taken, fields_of, HeaderFields, raw_header}
+use Rattle.ip_spec.proofs.Common.{common_steps, ◌≡◌, ◌≢◌, ℕ, ◌+◌, ◌<◌, List, ◌∷◌, ◌++◌, length, drop, take, refl, ap, sym, ◌∙◌, arith, inl, inr, ◌⊎◌, subst, Bool, true, false, rules, [], ◌==◌, ◌&&◌, not, Option, Some, None, is_some, if◌then◌else◌, option_map, option_map_or, cases_Bool, ne_eqb, none-some, and-false, take-length, drop-append_seam, IsHeader, IsExtensionNumber, ExtHeader, IsChain, IsNext, leads_to, bytes_of, is_empty, FitsPlaces, Place, hop_by_hop, destination, routing, authentication, final_destination, index, number_in, header_in, place_of, is_taken, fields_of, HeaderFields, raw_header}
+use Rattle.ip_spec.specs.Places.{fragment}
 use Rattle.ip_spec.proofs.PrefixLemmas.{prefix_of-append}
 use Rattle.ip_spec.proofs.ChainLemmas.{no_chain, goes_on, leads_to-more}
 use Rattle.ip_ext_chains.proofs.FittingLemmas.{taken_answers, other_answers}

@@ -1,13 +1,6 @@
 -- A write of a value that some chain spells, or that was read from bytes, is refused for want of memory alone.
-use Rattle.std.proofs.Common.{◌≡◌, ◌∙◌, ℕ, List, ap, sym, refl, true}
-use Rattle.std.specs.Prelude.{⊤, Option, Err, is_some}
+use Rattle.ip_spec.proofs.Common.{◌≡◌, ◌∙◌, ℕ, List, ap, sym, refl, true, ⊤, Option, Err, is_some, Bor, option_map, AllocError, ExtHeader, leads_to, AreBytes, IsSpelling}
 use Rattle.std.specs.declared.result.Result.{Result}
-use Rattle.std.specs.Borrow.{Bor}
-use Rattle.std.specs.Option.{option_map}
-use Rattle.std.specs.declared.alloc.AllocError.{AllocError}
-use Rattle.ip_spec.specs.Chain.{ExtHeader, leads_to}
-use Rattle.ip_spec.specs.Encoding.{AreBytes}
-use Rattle.ip_spec.specs.Walk.{IsSpelling}
 use Rattle.ip_spec.proofs.WalkLemmas.{is_some-map}
 use Rattle.ip_spec.proofs.SpellingLemmas.{one_answer, spelled_leads}
 use Rattle.ip_ext_chains.specs.Fitting.{fitting_chain}

@@ -1,11 +1,5 @@
 -- Runs that are written one after the other: what was written and what the others spell is the whole chain.
-use Rattle.std.proofs.Common.{◌≡◌, ℕ, ◌+◌, ◌≤◌, List, ◌++◌, length, map, ap, arith, append_assoc, rules, []}
-use Rattle.std.specs.Prelude.{Some}
-use Rattle.std.proofs.lemmas.List.Concat.{flat_map-append}
-use Rattle.ip_spec.specs.Chain.{ExtHeader, bytes_of}
-use Rattle.ip_spec.specs.Encoding.{cleared_chain}
-use Rattle.ip_spec.specs.Runs.{joined}
-use Rattle.ip_spec.specs.Walk.{IsSpelling}
+use Rattle.ip_spec.proofs.Common.{◌≡◌, ℕ, ◌+◌, ◌≤◌, List, ◌++◌, length, map, ap, arith, append_assoc, rules, [], Some, flat_map-append, ExtHeader, bytes_of, cleared_chain, joined, IsSpelling}
 use Rattle.ip_ext_slices.specs.Longest.{longest_chain}
 use Rattle.ip_ext_chains.specs.RunsOf.{runs_of, AreSpellings}
 use Rattle.ip_ext_chains.specs.Ipv6Extensions.{placed_fields}

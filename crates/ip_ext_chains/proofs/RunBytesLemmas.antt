@@ -1,11 +1,5 @@
 -- The headers of a chain that begins bytes have bytes, and so have those of its parts.
-use Rattle.std.proofs.lemmas.Grind.{common_steps}
-use Rattle.std.proofs.Common.{ℕ, ◌<◌, List, ◌++◌, length, subst, arith}
-use Rattle.std.proofs.Math.Seq.{take-append_seam, drop-append_seam}
-use Rattle.std.proofs.lemmas.List.Concat.{flat_map-append}
-use Rattle.std.proofs.lemmas.List.Elements.{All-take, All-drop}
-use Rattle.ip_spec.specs.Encoding.{AreBytes}
-use Rattle.ip_spec.specs.Chain.{ExtHeader, bytes_of}
+use Rattle.ip_spec.proofs.Common.{common_steps, ℕ, ◌<◌, List, ◌++◌, length, subst, arith, take-append_seam, drop-append_seam, flat_map-append, All-take, All-drop, AreBytes, ExtHeader, bytes_of}
 use Rattle.ip_spec.proofs.PrefixLemmas.{prefix-append}
 use Rattle.ip_ext_slices.specs.Longest.{longest_chain}
 use Rattle.ip_ext_slices.proofs.LongestLemmas.{longest_chain-longest}

@@ -1,14 +1,5 @@
 -- Headers that are put into their places, and where a run ends.
-use Rattle.std.proofs.lemmas.Grind.{common_steps}
-use Rattle.std.proofs.Common.{◌≡◌, ◌≢◌, ℕ, ◌*◌, ◌≤◌, List, ◌∷◌, ◌++◌, length, map, nat_eq, arith, refl, ap, sym, ◌∙◌, Bool, true, false, subst, append_assoc, rules, []}
-use Rattle.std.specs.Prelude.{◌==◌, ◌↔◌, Some, None, is_some, if◌then◌else◌}
-use Rattle.std.specs.Option.{option_map}
-use Rattle.std.proofs.lemmas.Bool.{eqb-true}
-use Rattle.std.proofs.lemmas.Iterator.{YieldsList}
-use Rattle.std.proofs.lemmas.Iterator.Consumers.{YieldsList-from_shown}
-use Rattle.ip_spec.specs.Chain.{ExtHeader, bytes_of, IsChain}
-use Rattle.ip_spec.specs.Fits.{FitsPlaces, IsTaken}
-use Rattle.ip_spec.specs.Places.{Place, index, header_in, place_of, is_taken}
+use Rattle.ip_spec.proofs.Common.{common_steps, ◌≡◌, ◌≢◌, ℕ, ◌*◌, ◌≤◌, List, ◌∷◌, ◌++◌, length, map, nat_eq, arith, refl, ap, sym, ◌∙◌, Bool, true, false, subst, append_assoc, rules, [], ◌==◌, ◌↔◌, Some, None, is_some, if◌then◌else◌, option_map, eqb-true, YieldsList, YieldsList-from_shown, ExtHeader, bytes_of, IsChain, FitsPlaces, IsTaken, Place, index, header_in, place_of}
 use Rattle.ip_spec.proofs.PlaceLemmas.{has_routing, own_place, placed, fits_more, breaks_more, taken_told}
 use Rattle.ip_ext_slices.specs.Ipv6ExtensionSlice.{header_of}
 use Rattle.ip_ext_chains.specs.Slots.{at, place_in, IsPut, IsFreePlace, is_taken_in, IsFilled, ArePlaced, AreOfNumber, value_at}

@@ -1,8 +1,5 @@
 -- The number before the runs to come: it begins the headers that are left, and each run leads to the next one.
-use Rattle.std.proofs.Common.{◌≡◌, ◌≢◌, ℕ, List, ◌∷◌, ◌++◌, map, refl, ap, ◌∙◌, Bool, true, subst, rules, []}
-use Rattle.std.specs.Prelude.{if◌then◌else◌}
-use Rattle.ip_spec.specs.Encoding.{AreBytes}
-use Rattle.ip_spec.specs.Chain.{ExtHeader, leads_to, bytes_of, IsChain}
+use Rattle.ip_spec.proofs.Common.{◌≡◌, ◌≢◌, ℕ, List, ◌∷◌, ◌++◌, map, refl, ap, ◌∙◌, Bool, true, subst, rules, [], if◌then◌else◌, AreBytes, ExtHeader, leads_to, bytes_of, IsChain}
 use Rattle.ip_spec.proofs.RunsLemmas.{chain_behind, leads_to-append}
 use Rattle.ip_ext_chains.specs.Ipv6Extensions.{value_of}
 use Rattle.ip_ext_chains.specs.RunsOf.{runs_from}

@@ -1,12 +1,5 @@
 -- What spells the values of runs: the runs themselves, with their reserved bits put to zero.
-use Rattle.std.proofs.Common.{◌≡◌, ℕ, List, ◌∷◌, ◌++◌, map, refl, ap, sym, ◌∙◌, subst, Bool, true, false, []}
-use Rattle.std.specs.Prelude.{if◌then◌else◌}
-use Rattle.std.specs.List.{flat_map, AllByRecursion}
-use Rattle.std.proofs.lemmas.List.Concat.{flat_map-append}
-use Rattle.ip_spec.specs.Encoding.{AreBytes, cleared_chain}
-use Rattle.ip_spec.specs.Chain.{ExtHeader, IsChain, leads_to, bytes_of}
-use Rattle.ip_spec.specs.Fits.{FitsPlaces}
-use Rattle.ip_spec.specs.Runs.{AreChains, AreRuns, joined}
+use Rattle.ip_spec.proofs.Common.{◌≡◌, ℕ, List, ◌∷◌, ◌++◌, map, refl, ap, sym, ◌∙◌, subst, Bool, true, false, [], if◌then◌else◌, flat_map, AllByRecursion, flat_map-append, AreBytes, cleared_chain, ExtHeader, IsChain, leads_to, bytes_of, FitsPlaces, AreChains, AreRuns, joined}
 use Rattle.ip_spec.proofs.ClearedLemmas.{cleared_leads}
 use Rattle.ip_spec.proofs.RunsLemmas.{runs_joined, runs_written, runs_fit, runs_chains}
 use Rattle.ip_spec.proofs.SpellingLemmas.{one_spelling, cleared_spells}

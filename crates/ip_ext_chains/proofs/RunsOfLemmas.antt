@@ -1,12 +1,5 @@
 -- The runs of the longest chain, and those that are still to come.
-use Rattle.std.proofs.Common.{◌≡◌, ◌≢◌, ℕ, ◌+◌, ◌/◌, ◌≤◌, List, ◌∷◌, ◌++◌, length, map, refl, ap, sym, ◌∙◌, arith, subst, Bool, true, false, rules, []}
-use Rattle.std.specs.Prelude.{if◌then◌else◌}
-use Rattle.std.specs.List.{AllByRecursion}
-use Rattle.std.proofs.lemmas.List.{append-nil}
-use Rattle.ip_spec.specs.Chain.{ExtHeader, leads_to}
-use Rattle.ip_spec.specs.Demand.{KeepsBeginning}
-use Rattle.ip_spec.specs.Fits.{FitsPlaces, IsTaken}
-use Rattle.ip_spec.specs.Runs.{AreRuns, joined, how_many}
+use Rattle.ip_spec.proofs.Common.{◌≡◌, ◌≢◌, ℕ, ◌+◌, ◌/◌, ◌≤◌, List, ◌∷◌, ◌++◌, length, map, refl, ap, sym, ◌∙◌, arith, subst, Bool, true, false, rules, [], if◌then◌else◌, AllByRecursion, append-nil, ExtHeader, leads_to, KeepsBeginning, FitsPlaces, IsTaken, AreRuns, joined, how_many}
 use Rattle.ip_spec.proofs.RunsLemmas.{some_runs, one_runs, fewest_runs, some_run, runs_bound, runs_more, runs_end}
 use Rattle.ip_ext_slices.specs.Longest.{longest_chain}
 use Rattle.ip_ext_chains.specs.Ipv6Extensions.{value_of}

@@ -1,15 +1,5 @@
 -- What a walk through a struct of six places has reached and written.
-use Rattle.std.proofs.lemmas.Grind.{common_steps}
-use Rattle.std.proofs.Common.{◌≡◌, ℕ, ◌+◌, ◌<◌, ◌≤◌, List, ◌∷◌, ◌++◌, length, ap, sym, ◌∙◌, arith, append_assoc, true, false, rules, []}
-use Rattle.std.specs.Prelude.{Option, IfSome, IfNone}
-use Rattle.std.proofs.lemmas.List.{append-nil}
-use Rattle.ip_spec.specs.Encoding.{AppendsOne}
-use Rattle.ip_spec.specs.Chain.{ExtHeader, bytes_of}
-use Rattle.ip_spec.specs.Places.{Place, number_in, header_in, HeaderFields}
-use Rattle.ip_spec.specs.Encodable.{IsEncoded, IsEncodable, fields_len, sum_placed, placed_len}
-use Rattle.ip_spec.specs.LongestOf.{IsLongestOf}
-use Rattle.ip_spec.specs.Walk.{PlacedFields, IsReachable, WalkAnswer, answer_at, IsWalkAnswer}
-use Rattle.ip_spec.specs.WalkStep.{next_of, IsEncodingOf}
+use Rattle.ip_spec.proofs.Common.{common_steps, ◌≡◌, ℕ, ◌+◌, ◌<◌, ◌≤◌, List, ◌∷◌, ◌++◌, length, ap, sym, ◌∙◌, arith, append_assoc, true, false, rules, [], Option, IfSome, IfNone, append-nil, AppendsOne, ExtHeader, bytes_of, Place, number_in, header_in, HeaderFields, IsEncoded, IsEncodable, fields_len, sum_placed, placed_len, IsLongestOf, PlacedFields, IsReachable, WalkAnswer, answer_at, IsWalkAnswer, next_of, IsEncodingOf}
 use Rattle.ip_spec.proofs.StepLemmas.{bytes_of-more}
 use Rattle.ip_spec.proofs.EncodedLemmas.{encoding_is}
 use Rattle.ip_spec.proofs.WalkStepLemmas.{Walking, walks_on, walk_stops, walk_answers, left_some, same_held}

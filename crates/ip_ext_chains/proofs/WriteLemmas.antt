@@ -1,16 +1,5 @@
 -- What is read as a struct of six places, and what is written of one.
-use Rattle.std.proofs.Common.{◌≡◌, ℕ, ◌+◌, ◌<◌, List, ◌++◌, length, ap, sym, ◌∙◌, arith, subst, rules}
-use Rattle.std.specs.Prelude.{Err, None, ◌↔◌}
-use Rattle.std.proofs.lemmas.List.{append_cancel_left, length-append}
-use Rattle.std.proofs.lemmas.List.Elements.{All-take}
-use Rattle.ip_spec.specs.LongestOf.{IsLongestOf}
-use Rattle.ip_spec.specs.Header.{IsExtensionNumber}
-use Rattle.ip_spec.specs.Encoding.{AreBytes, cleared_chain}
-use Rattle.ip_spec.specs.Chain.{ExtHeader, leads_to, bytes_of}
-use Rattle.ip_spec.specs.Fits.{FitsPlaces}
-use Rattle.ip_spec.specs.Encodable.{IsEncodable}
-use Rattle.ip_spec.specs.Walk.{IsValueOf, IsSpelling, IsReachable, WalkAnswer, leads, IsWalkAnswer}
-use Rattle.ip_spec.specs.Parse.{IsRead}
+use Rattle.ip_spec.proofs.Common.{◌≡◌, ℕ, ◌+◌, ◌<◌, List, ◌++◌, length, ap, sym, ◌∙◌, arith, subst, rules, Err, None, ◌↔◌, append_cancel_left, length-append, All-take, IsLongestOf, IsExtensionNumber, AreBytes, cleared_chain, ExtHeader, leads_to, bytes_of, FitsPlaces, IsEncodable, IsValueOf, IsSpelling, IsReachable, WalkAnswer, leads, IsWalkAnswer, IsRead}
 use Rattle.ip_spec.proofs.FitsLemmas.{fits_places}
 use Rattle.ip_spec.proofs.ReadLemmas.{whole_read}
 use Rattle.ip_spec.proofs.WalkLemmas.{one_reach}

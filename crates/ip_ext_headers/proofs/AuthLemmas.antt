@@ -1,9 +1,7 @@
 -- Why bytes begin with no authentication header.
-use Rattle.std.proofs.Common.{Bool, ℕ, ◌<◌, List, ◌++◌, length, rules}
+use Rattle.ip_spec.proofs.Common.{Bool, ℕ, ◌<◌, List, ◌++◌, length, rules, AuthAsks, Option}
 use Rattle.ip_base.specs.declared.err.layer.Layer.TheVariants.{IpAuthHeader}
 use Rattle.ip_base.specs.declared.len_source.LenSource.TheVariants.{Slice}
-use Rattle.ip_spec.specs.Requests.{AuthAsks}
-use Rattle.std.specs.Prelude.{Option}
 use Rattle.ip_ext_errors.specs.declared.ip_auth.header_error.HeaderError.TheVariants.{ZeroPayloadLen}
 use Rattle.ip_ext_headers.proofs.FaultLemmas.{auth_asks_fault, auth_zero_fault}
 use Rattle.ip_io.specs.Reading.{IsRefusedInLayer}

@@ -1,7 +1,5 @@
 -- Equality of headers is an equivalence.
-use Rattle.std.specs.Cmp.{IsEquivalence}
-use Rattle.std.specs.Cmp.Rules.{comparing}
-use Rattle.std.proofs.Common.{rules}
+use Rattle.ip_spec.proofs.Common.{IsEquivalence, comparing, rules}
 use Rattle.ip_ext_headers.specs.HeaderEqual.{raw_equal, fragment_equal, auth_equal}
 
 pub raw_equivalence : IsEquivalence raw_equal

@@ -1,16 +1,10 @@
 -- The fault at bytes: none at a header, and one where a request of a header finds too few bytes.
-use Rattle.std.proofs.lemmas.Grind.{common_steps}
-use Rattle.std.proofs.Common.{◌≡◌, ℕ, ◌+◌, ◌*◌, ◌<◌, List, ◌++◌, length, refl, arith, length-append, slice_index, ap, inl, inr, rules}
-use Rattle.std.specs.Prelude.{Some, None}
-use Rattle.std.proofs.lemmas.Bool.{cases_lt, lt-ltb, le-ltb, ne_eqb}
-use Rattle.std.proofs.lemmas.List.{get_or_append_left}
+use Rattle.ip_spec.proofs.Common.{common_steps, ◌≡◌, ℕ, ◌+◌, ◌*◌, ◌<◌, List, ◌++◌, length, refl, arith, slice_index, ap, inl, inr, rules, Some, None, cases_lt, lt-ltb, le-ltb, ne_eqb, get_or_append_left, IsPrefix, IsRawHeader, IsFragmentHeader, IsAuthHeader, RawAsks, FragmentAsks, fragment_whole, AuthAsks, auth_start, auth_icv, IsZeroLength}
+use Rattle.std.proofs.Common.{length-append}
 use Rattle.ip_base.specs.LenError.{too_short}
 use Rattle.ip_base.specs.declared.err.len_error.LenError.{LenError}
 use Rattle.ip_base.specs.declared.err.layer.Layer.TheVariants.{Ipv6ExtHeader, Ipv6FragHeader, IpAuthHeader}
 use Rattle.ip_base.specs.declared.len_source.LenSource.{LenSource}
-use Rattle.ip_spec.specs.Prefix.{IsPrefix}
-use Rattle.ip_spec.specs.Header.{IsRawHeader, IsFragmentHeader, IsAuthHeader}
-use Rattle.ip_spec.specs.Requests.{RawAsks, FragmentAsks, fragment_whole, AuthAsks, auth_start, auth_icv, IsZeroLength}
 use Rattle.ip_spec.proofs.PrefixLemmas.{prefix-length}
 use Rattle.ip_spec.proofs.HeaderLemmas.{prefix_byte}
 use Rattle.ip_ext_headers.specs.HeaderFault.{raw_fault, fragment_fault, auth_fault}

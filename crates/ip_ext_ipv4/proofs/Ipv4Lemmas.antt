@@ -1,15 +1,8 @@
 -- The longest chain of IPv4 extension headers: one header, or none.
-use Rattle.std.proofs.lemmas.Grind.{common_steps}
-use Rattle.std.proofs.Common.{◌≡◌, ℕ, List, ◌∷◌, length, take, drop, refl, sym, arith, rules, []}
-use Rattle.std.specs.Prelude.{Option, Some, None}
+use Rattle.ip_spec.proofs.Common.{common_steps, ◌≡◌, ℕ, List, ◌∷◌, length, take, drop, refl, sym, arith, rules, [], Option, Some, None, NoPrefix, IsPrefix, IsAuthHeader, auth, next_header, ExtHeader, IsChain, headers_within, AtMostOneOf, IsLongestUnder}
 use Rattle.ip_base.specs.declared.len_source.LenSource.TheVariants.{Slice}
 use Rattle.ip_ext_headers.specs.declared.err.ip_auth.header_slice_error.HeaderSliceError.{HeaderSliceError}
 use Rattle.ip_ext_headers.specs.HeaderFault.{auth_fault}
-use Rattle.ip_spec.specs.Prefix.{NoPrefix, IsPrefix}
-use Rattle.ip_spec.specs.Header.{IsAuthHeader, auth}
-use Rattle.ip_spec.specs.Fields.{next_header}
-use Rattle.ip_spec.specs.Chain.{ExtHeader, IsChain, headers_within}
-use Rattle.ip_spec.specs.Demand.{AtMostOneOf, IsLongestUnder}
 use Rattle.ip_spec.proofs.HeaderLemmas.{auth_of}
 use Rattle.ip_spec.proofs.UnderLemmas.{some_longest_under}
 use Rattle.ip_spec.proofs.ReadLemmas.{has_read_none, has_read_on, read_answers}

@@ -1,12 +1,7 @@
 -- What is read of IPv4 extension headers is what is parsed.
-use Rattle.std.proofs.Common.{◌≡◌, ◌≢◌, ℕ, List, ◌++◌, refl, ap, sym, ◌∙◌, rules}
-use Rattle.std.specs.Prelude.{Some, None}
-use Rattle.std.proofs.lemmas.Bool.{ne_eqb}
-use Rattle.std.proofs.Math.Seq.{drop-append_seam}
+use Rattle.ip_spec.proofs.Common.{◌≡◌, ◌≢◌, ℕ, List, ◌++◌, refl, ap, sym, ◌∙◌, rules, Some, None, ne_eqb, drop-append_seam, IsAuthHeader, AuthFields, auth_fields}
 use Rattle.ip_ext_headers.specs.AuthReading.{auth_slice_fault}
 use Rattle.ip_ext_headers.proofs.FaultLemmas.{auth_at_header}
-use Rattle.ip_spec.specs.Header.{IsAuthHeader}
-use Rattle.ip_spec.specs.Fields.{AuthFields, auth_fields}
 use Rattle.ip_spec.proofs.PrefixLemmas.{prefix_of-append, prefix_first}
 use Rattle.ip_ext_ipv4.specs.Ipv4Fault.{ipv4_chain_fault}
 use Rattle.ip_ext_ipv4.specs.Ipv4Parse.{ipv4_value}

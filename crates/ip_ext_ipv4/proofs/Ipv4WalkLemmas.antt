@@ -1,23 +1,9 @@
 -- What IPv4 extension headers are written as, and as what that is read.
-use Rattle.std.proofs.Common.{◌≡◌, ℕ, ◌<◌, List, ◌++◌, length, drop, refl, sym, ap, ◌∙◌, subst, arith, inl, inr, rules, []}
+use Rattle.ip_spec.proofs.Common.{◌≡◌, ℕ, ◌<◌, List, ◌++◌, length, drop, refl, sym, ap, ◌∙◌, subst, arith, inl, inr, rules, [], Option, Some, None, Ok, Err, ◌↔◌, slice_range, AllByRecursion, option_map_or, ne_eqb, eqb_tells, append-nil, append_cancel_left, length-append, All-set, All-take, All-drop, All-from_recursion, IsPrefix, auth, AuthFields, auth_fields, cleared_header, AreBytes, AppendsOne, IsAuthEncoding, IsCleared, cleared_chain, ExtHeader, bytes_of, leads_to, AtMostOneOf, IsEndUnder, IsRead, auth_header}
 use Rattle.std.specs.declared.result.Result.{Result}
-use Rattle.std.specs.Prelude.{Option, Some, None, Ok, Err, ◌↔◌, slice_range, slice_set}
-use Rattle.std.specs.List.{AllByRecursion}
-use Rattle.std.specs.Option.{option_map_or}
-use Rattle.std.proofs.lemmas.Bool.{ne_eqb}
-use Rattle.std.proofs.lemmas.Bool.Decides.{eqb_tells}
-use Rattle.std.proofs.lemmas.List.{append-nil, append_cancel_left, length-append}
-use Rattle.std.proofs.lemmas.List.Elements.{All-set, All-take, All-drop, All-from_recursion}
+use Rattle.std.specs.Prelude.{slice_set}
 use Rattle.ip_base.specs.declared.ip_number_impl.IpNumber.{IpNumber}
 use Rattle.ip_base.specs.declared.len_source.LenSource.TheVariants.{Slice}
-use Rattle.ip_spec.specs.Prefix.{IsPrefix}
-use Rattle.ip_spec.specs.Header.{auth}
-use Rattle.ip_spec.specs.Fields.{AuthFields, auth_fields}
-use Rattle.ip_spec.specs.Encoding.{cleared_header, AreBytes, AppendsOne, IsAuthEncoding, IsCleared, cleared_chain}
-use Rattle.ip_spec.specs.Chain.{ExtHeader, bytes_of, leads_to}
-use Rattle.ip_spec.specs.Demand.{AtMostOneOf, IsEndUnder}
-use Rattle.ip_spec.specs.Parse.{IsRead}
-use Rattle.ip_spec.specs.Places.{auth_header}
 use Rattle.ip_spec.proofs.PrefixLemmas.{prefix_first}
 use Rattle.ip_spec.proofs.StepLemmas.{no_chain}
 use Rattle.ip_spec.proofs.UnderLemmas.{one_longest_under}

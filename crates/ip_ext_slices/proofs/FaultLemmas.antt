@@ -1,12 +1,6 @@
 -- At an extension number there is a fault wherever no header goes on, and at another number there is neither.
-use Rattle.std.proofs.Common.{◌≡◌, ◌≢◌, ℕ, ◌+◌, ◌*◌, List, length, take, refl, sym, arith, inl, inr, ◌⊎◌, subst, Bool, true, false, slice_index, rules}
-use Rattle.std.specs.Prelude.{Option, None, IsSome, IsTrue}
-use Rattle.std.specs.Option.{option_map}
-use Rattle.std.proofs.lemmas.Bool.{cases_lt, lt-ltb, le-ltb}
-use Rattle.std.proofs.lemmas.Bool.Decides.{eqb_tells}
+use Rattle.ip_spec.proofs.Common.{◌≡◌, ◌≢◌, ℕ, ◌+◌, ◌*◌, List, length, take, refl, sym, arith, inl, inr, ◌⊎◌, subst, Bool, true, false, slice_index, rules, Option, None, IsSome, IsTrue, option_map, cases_lt, lt-ltb, le-ltb, eqb_tells, IsHeader, IsExtensionNumber, IsRawNumber, raw, fragment, auth, ExtHeader, IsNext, IsEnd}
 use Rattle.ip_base.specs.declared.len_source.LenSource.{LenSource}
-use Rattle.ip_spec.specs.Header.{IsHeader, IsExtensionNumber, IsRawNumber, raw, fragment, auth}
-use Rattle.ip_spec.specs.Chain.{ExtHeader, IsNext, IsEnd}
 use Rattle.ip_spec.proofs.PrefixLemmas.{prefix_of-take}
 use Rattle.ip_spec.proofs.HeaderLemmas.{header_number, raw_begins, fragment_begins, auth_begins}
 use Rattle.ip_ext_headers.specs.HeaderFault.{raw_fault, fragment_fault, auth_fault}

@@ -1,17 +1,7 @@
 -- The longest chain, and the longest chain of bytes that it takes whole.
-use Rattle.std.proofs.Common.{◌≡◌, ◌≢◌, ℕ, ◌*◌, ◌≤◌, List, ◌∷◌, length, take, drop, refl, ap, sym, ◌∙◌, arith, subst, Bool, true, false, nat_eq, rules, []}
-use Rattle.std.specs.Prelude.{Option, IfNone, IsSome}
-use Rattle.std.specs.List.{AllByRecursion}
-use Rattle.std.proofs.Math.Seq.{drop-append_seam}
-use Rattle.std.proofs.lemmas.List.{drop-drop, length-append}
-use Rattle.std.proofs.lemmas.Bool.{ne_eqb}
-use Rattle.std.proofs.lemmas.Bool.Decides.{eqb_tells}
-use Rattle.ip_spec.specs.Fields.{next_header}
-use Rattle.ip_spec.specs.Chain.{ExtHeader, AreLinked, leads_to, bytes_of, headers_within, is_empty, IsChain, IsPrefixChain, IsLongestChain, IsNext, IsEnd}
-use Rattle.ip_spec.specs.Parse.{rest_behind}
+use Rattle.ip_spec.proofs.Common.{◌≡◌, ◌≢◌, ℕ, ◌*◌, ◌≤◌, List, ◌∷◌, length, take, drop, refl, ap, sym, ◌∙◌, arith, subst, Bool, true, false, nat_eq, rules, [], Option, IfNone, IsSome, AllByRecursion, drop-append_seam, drop-drop, length-append, ne_eqb, eqb_tells, next_header, ExtHeader, AreLinked, leads_to, bytes_of, headers_within, is_empty, IsChain, IsPrefixChain, IsLongestChain, IsNext, IsEnd, rest_behind, IsLongestUnder, NoDemand}
 use Rattle.ip_spec.proofs.PrefixLemmas.{prefix-length, prefix_first, prefix_second, rest_join}
 use Rattle.ip_spec.proofs.HeaderLemmas.{header-least, one_next}
-use Rattle.ip_spec.specs.Demand.{IsLongestUnder, NoDemand}
 use Rattle.ip_spec.proofs.UnderLemmas.{no_demand, longest_under_none}
 use Rattle.ip_spec.proofs.ShorterLemmas.{longest_shorter}
 use Rattle.ip_spec.proofs.ChainLemmas.{some_longest, one_longest, whole_longest, longest_at_end, longest_ends, first_next, tail_chain, bytes_of-least}

@@ -1,14 +1,9 @@
 -- The fault at a number: none where a header goes on, and one where a request of a header finds too few bytes.
-use Rattle.std.proofs.Common.{◌≡◌, ℕ, ◌<◌, List, ◌++◌, length, refl, sym, ap, ◌∙◌, inl, inr, subst, Bool, rules}
-use Rattle.std.specs.Prelude.{Some, None, IsTrue}
-use Rattle.std.specs.Option.{option_map}
+use Rattle.ip_spec.proofs.Common.{◌≡◌, ℕ, ◌<◌, List, ◌++◌, length, refl, sym, ap, ◌∙◌, inl, inr, subst, Bool, rules, Some, None, IsTrue, option_map, IsRawNumber, Asks, asks_raw, asks_fragment, asks_auth, IsZeroLength, ExtHeader, IsNext, IsEnd}
 use Rattle.ip_base.specs.declared.err.layer.Layer.{Layer}
 use Rattle.ip_base.specs.declared.err.layer.Layer.TheVariants.{Ipv6HopByHopHeader, Ipv6DestOptionsHeader, Ipv6RouteHeader, Ipv6FragHeader, IpAuthHeader}
 use Rattle.ip_base.specs.declared.err.len_error.LenError.{LenError}
 use Rattle.ip_base.specs.declared.len_source.LenSource.{LenSource}
-use Rattle.ip_spec.specs.Header.{IsRawNumber}
-use Rattle.ip_spec.specs.Requests.{Asks, asks_raw, asks_fragment, asks_auth, IsZeroLength}
-use Rattle.ip_spec.specs.Chain.{ExtHeader, IsNext, IsEnd}
 use Rattle.ip_ext_headers.specs.HeaderFault.{raw_fault, fragment_fault, auth_fault}
 use Rattle.ip_ext_errors.specs.declared.ip_auth.header_error.HeaderError.TheVariants.{ZeroPayloadLen}
 use Rattle.ip_ext_headers.proofs.FaultLemmas.{raw_at_header, fragment_at_header, auth_at_header, raw_asks_fault, fragment_asks_fault, auth_asks_fault, auth_zero_fault}

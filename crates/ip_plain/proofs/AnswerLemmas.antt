@@ -1,17 +1,9 @@
 -- The definitions of the tool, as the plain program goes through them.
-use Rattle.std.proofs.Common.{◌≡◌, ◌≢◌, ℕ, ◌+◌, ◌*◌, ◌%◌, ◌==◌, ◌<◌, ◌≤◌, List, [], ◌∷◌, ◌++◌, length, drop, map, refl, sym, ap, ◌∙◌, arith, append-nil, append_assoc, get_or, nat_eq, inl, inr}
-use Rattle.std.specs.Prelude.{Bool, codes, Option, None, Some, Result, Ok, Err}
-use Rattle.std.specs.Option.{option_map}
-use Rattle.std.specs.Str.{bytes_eq}
-use Rattle.std.specs.Result.{result_ok}
-use Rattle.std.proofs.lemmas.Bool.{cond-false, false_from_ne_true, ne_eqb}
-use Rattle.std.proofs.lemmas.Slice.Eq.{bytes_eq-Decides}
-use Rattle.std.proofs.lemmas.List.{length-take, drop_more}
-use Rattle.ip_spec.specs.Chain.{ExtHeader, IsLongestChain, leads_to, bytes_of, is_empty}
+use Rattle.ip_spec.proofs.Common.{◌≡◌, ◌≢◌, ℕ, ◌+◌, ◌*◌, ◌%◌, ◌<◌, ◌≤◌, List, [], ◌∷◌, ◌++◌, length, drop, map, refl, sym, ap, ◌∙◌, arith, append_assoc, get_or, nat_eq, inl, inr, codes, Option, None, Some, Result, Ok, Err, option_map, bytes_eq, result_ok, cond-false, false_from_ne_true, ne_eqb, bytes_eq-Decides, length-take, drop_more, ExtHeader, IsLongestChain, leads_to, bytes_of, is_empty, eqb_tells, IsPrefix}
+use Rattle.std.proofs.Common.{◌==◌, append-nil}
+use Rattle.std.specs.Prelude.{Bool}
 use Rattle.ip_plain.specs.PlainHeader.{plain_header_of}
 use Rattle.ip_plain.specs.declared.chain.PlainHeader.{PlainHeader}
-use Rattle.std.proofs.lemmas.Bool.Decides.{eqb_tells}
-use Rattle.ip_spec.specs.Prefix.{IsPrefix}
 use Rattle.ip_spec.proofs.ChainLemmas.{one_longest, some_longest}
 use Rattle.ip_ext_slices.specs.ChainFault.{Fault, slice_fault}
 use Rattle.ip_ext_slices.specs.Longest.{longest_chain}

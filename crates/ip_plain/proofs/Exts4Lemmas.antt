@@ -1,11 +1,7 @@
 -- The answer to `exts4`, as the plain program goes through it.
-use Rattle.std.proofs.Common.{◌≡◌, ℕ, zero, suc, ◌≤◌, List, [], ◌∷◌, ◌++◌, length, take, drop, get_or, true, refl, sym, ap, ◌∙◌, arith, append_assoc, append-nil}
-use Rattle.std.proofs.lemmas.List.{length-take-le}
+use Rattle.ip_spec.proofs.Common.{◌≡◌, ℕ, zero, suc, ◌≤◌, List, [], ◌∷◌, ◌++◌, length, take, drop, get_or, true, refl, sym, ap, ◌∙◌, arith, append_assoc, length-take-le, ExtHeader, IsNext, IsEnd, leads_to, rest_behind, fault_behind, NoPrefix, IsAuthHeader, auth}
+use Rattle.std.proofs.Common.{append-nil}
 use Rattle.ip_base.specs.declared.len_source.LenSource.TheVariants.{Slice}
-use Rattle.ip_spec.specs.Chain.{ExtHeader, IsNext, IsEnd, leads_to}
-use Rattle.ip_spec.specs.Parse.{rest_behind, fault_behind}
-use Rattle.ip_spec.specs.Prefix.{NoPrefix}
-use Rattle.ip_spec.specs.Header.{IsAuthHeader, auth}
 use Rattle.ip_spec.proofs.HeaderLemmas.{header-least, auth_of}
 use Rattle.ip_ext_headers.specs.HeaderFault.{auth_fault}
 use Rattle.ip_ext_ipv4.specs.Ipv4Fault.{ipv4_faults}

@@ -1,9 +1,5 @@
 -- What the plain program counts.
-use Rattle.std.proofs.Common.{◌≡◌, ℕ, ◌+◌, ◌<◌, List, length, take, map, sym, ◌∙◌, arith, subst}
-use Rattle.std.proofs.lemmas.List.{take-map, take_more, length-map}
-use Rattle.ip_spec.specs.Chain.{ExtHeader}
-use Rattle.ip_spec.specs.Demand.{KeepsBeginning}
-use Rattle.ip_spec.specs.Fits.{FitsPlaces}
+use Rattle.ip_spec.proofs.Common.{◌≡◌, ℕ, ◌+◌, ◌<◌, List, length, take, map, sym, ◌∙◌, arith, subst, take-map, take_more, length-map, ExtHeader, KeepsBeginning, FitsPlaces}
 use Rattle.ip_spec.proofs.DemandLemmas.{kept_first}
 use Rattle.ip_spec.proofs.PlaceLemmas.{bare}
 use Rattle.ip_plain.specs.PlainHeader.{plain_header_of}

@@ -1,7 +1,5 @@
 -- Chains at the prefix of bytes: what goes on, and the longest. They are the chains under no demand.
-use Rattle.std.proofs.Common.{◌≡◌, ℕ, List, length, drop}
-use Rattle.ip_spec.specs.Chain.{ExtHeader, leads_to, bytes_of, is_empty, IsChain, IsPrefixChain, IsLongestChain, IsEnd}
-use Rattle.ip_spec.specs.Demand.{NoDemand}
+use Rattle.ip_spec.proofs.Common.{◌≡◌, ℕ, List, length, drop, ExtHeader, leads_to, bytes_of, is_empty, IsChain, IsPrefixChain, IsLongestChain, IsEnd, NoDemand}
 use Rattle.ip_spec.proofs.UnderLemmas.{longest_at_end_under, longest_ends_under, one_longest_under, some_longest_under, whole_longest_under, no_demand, longest_under_none, longest_without}
 pub use Rattle.ip_spec.proofs.StepLemmas.{no_chain, bytes_of-more, leads_to-more, begins, next_of, goes_on, chains_grow, bytes_of-least, first_next, tail_chain}
 

@@ -1,23 +1,7 @@
 -- Chains whose reserved bits are put to zero: they lead where they led, stand in the same places and say the same.
-use Rattle.std.proofs.Common.{◌≡◌, ◌≢◌, ℕ, ◌<◌, List, [], ◌∷◌, ◌++◌, length, take, drop, refl, ap, sym, ◌∙◌, arith, inl, inr, subst, Bool, rules}
-use Rattle.std.specs.Prelude.{Option, Some, None, All, count_by, slice_range, ◌==◌}
-use Rattle.std.specs.List.{AllByRecursion, find}
-use Rattle.std.specs.Option.{option_map, ForSome}
-use Rattle.std.proofs.lemmas.Bool.{cases_Bool}
-use Rattle.std.proofs.lemmas.Option.{none-some, same_Some}
-use Rattle.std.proofs.Math.Seq.{take-append_seam, drop-append_seam}
-use Rattle.std.proofs.lemmas.List.Elements.{All-from_recursion, recursion_from_All, All-take, All-drop}
-use Rattle.std.specs.Int.{from_be_bytes, w32}
-use Rattle.std.proofs.lemmas.Grind.{common_steps}
-use Rattle.ip_spec.specs.Header.{IsHeader, IsFragmentHeader, IsAuthHeader, fragment, auth}
-use Rattle.ip_spec.specs.Fields.{next_header, FragmentFields, offset_bits, flag_bit, unreserved_bits}
-use Rattle.ip_spec.specs.Encoding.{cleared_header, AreBytes, fixed_len, IsCleared, cleared_chain}
-use Rattle.ip_spec.specs.Chain.{ExtHeader, AreLinked, leads_to, bytes_of, IsChain}
-use Rattle.ip_spec.specs.Fits.{FitsPlaces}
-use Rattle.ip_spec.specs.Places.{Place, destination, final_destination, side_of, header_in, HeaderFields, fields_of, fragment_header}
+use Rattle.ip_spec.proofs.Common.{◌≡◌, ◌≢◌, ℕ, ◌<◌, List, [], ◌∷◌, ◌++◌, length, take, drop, refl, ap, sym, ◌∙◌, arith, inl, inr, subst, Bool, rules, Option, Some, None, All, count_by, slice_range, ◌==◌, AllByRecursion, find, option_map, ForSome, cases_Bool, none-some, same_Some, take-append_seam, drop-append_seam, All-from_recursion, recursion_from_All, All-take, All-drop, from_be_bytes, w32, common_steps, IsHeader, IsFragmentHeader, IsAuthHeader, fragment, auth, next_header, FragmentFields, offset_bits, flag_bit, unreserved_bits, cleared_header, AreBytes, fixed_len, IsCleared, cleared_chain, ExtHeader, AreLinked, leads_to, bytes_of, IsChain, FitsPlaces, Place, destination, final_destination, side_of, header_in, HeaderFields, fields_of, fragment_header, IsEncodingOf}
 use Rattle.ip_spec.proofs.FirstLemmas.{find-yes, find-no, before-map, after-map, find-map, count-map}
 use Rattle.ip_spec.proofs.PlaceLemmas.{is_of}
-use Rattle.ip_spec.specs.WalkStep.{IsEncodingOf}
 use Rattle.ip_spec.proofs.HeaderLemmas.{header_number, header-least, by_number, fragment_of, auth_of}
 use Rattle.ip_spec.proofs.FragmentBitLemmas.{unreserved_offset, unreserved_flag, unreserved_again, unreserved_small}
 use Rattle.ip_spec.proofs.EncodingLemmas.{FirstFour, first_four, byte_at, three_before}

@@ -1,11 +1,5 @@
 -- Lists cut into pieces under a demand: there is one cut, only one, and none has fewer pieces.
-use Rattle.std.proofs.Common.{◌≡◌, ◌≢◌, ℕ, zero, suc, ◌≤◌, List, [], ◌∷◌, ◌++◌, length, refl, ap, sym, ◌∙◌, arith, subst, append_assoc, rules}
-use Rattle.std.specs.List.{AllByRecursion}
-use Rattle.std.proofs.lemmas.List.{append-nil, append_cancel_left, length-append}
-use Rattle.std.proofs.lemmas.List.Concat.{flat_map-append}
-use Rattle.std.proofs.lemmas.Grind.{common_steps}
-use Rattle.ip_spec.specs.Demand.{IsDemand, KeepsBeginning}
-use Rattle.ip_spec.specs.Runs.{joined, how_many, IsCut}
+use Rattle.ip_spec.proofs.Common.{◌≡◌, ◌≢◌, ℕ, zero, suc, ◌≤◌, List, [], ◌∷◌, ◌++◌, length, refl, ap, sym, ◌∙◌, arith, subst, append_assoc, rules, AllByRecursion, append-nil, append_cancel_left, length-append, flat_map-append, common_steps, IsDemand, KeepsBeginning, joined, how_many, IsCut}
 use Rattle.ip_spec.proofs.LongestOfLemmas.{compare, within, beyond}
 use Rattle.ip_spec.proofs.DemandLemmas.{Begins, beginnings_grow, some_kept, one_kept, kept_bounds}
 

@@ -1,11 +1,5 @@
 -- The demands: none, at most so many headers, at most so many bytes, at most one header of one number.
-use Rattle.std.proofs.Common.{◌≡◌, ℕ, ◌≤◌, List, [], ◌∷◌, length, take, drop, refl, ap, arith, inl, ◌⊎◌}
-use Rattle.std.specs.List.{AllByRecursion}
-use Rattle.std.proofs.lemmas.List.{length-append, take-append-drop, length-take, length-drop}
-use Rattle.std.proofs.lemmas.List.Concat.{flat_map-append}
-use Rattle.std.proofs.lemmas.Grind.{common_steps}
-use Rattle.ip_spec.specs.Chain.{ExtHeader, bytes_of, IsLongestChain}
-use Rattle.ip_spec.specs.Demand.{IsDemand, IsLongestUnder, KeepsBeginning, NextBreaks, AtMost, AtMostOneOf}
+use Rattle.ip_spec.proofs.Common.{◌≡◌, ℕ, ◌≤◌, List, [], ◌∷◌, length, take, drop, refl, ap, arith, inl, ◌⊎◌, AllByRecursion, length-append, take-append-drop, length-take, length-drop, flat_map-append, common_steps, ExtHeader, bytes_of, IsLongestChain, IsDemand, IsLongestUnder, KeepsBeginning, NextBreaks, AtMost, AtMostOneOf}
 use Rattle.ip_spec.proofs.HeaderLemmas.{eq_or}
 use Rattle.ip_spec.proofs.StepLemmas.{all_first}
 use Rattle.ip_spec.proofs.UnderLemmas.{kept_is_longest}

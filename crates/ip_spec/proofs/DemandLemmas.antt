@@ -1,10 +1,6 @@
 -- Lists with a property under which at most one element can come next, and a demand on them.
-use Rattle.std.proofs.Common.{◌≡◌, ℕ, ◌≤◌, ◌<◌, List, [], ◌∷◌, ◌++◌, length, take, drop, map, refl, sym, arith, inl, inr, ◌⊎◌, subst, append_assoc, Bool, true, rules}
+use Rattle.ip_spec.proofs.Common.{◌≡◌, ℕ, ◌≤◌, ◌<◌, List, [], ◌∷◌, ◌++◌, length, take, drop, map, refl, sym, arith, inl, inr, ◌⊎◌, subst, append_assoc, Bool, true, rules, append-nil, append_cancel_left, drop_more, length-append, map-append, take-append-drop, common_steps, IsLongestOf, IsDemand, NextBreaks, KeepsBeginning, Passes}
 use Rattle.std.specs.Prelude.{get_or}
-use Rattle.std.proofs.lemmas.List.{append-nil, append_cancel_left, drop_more, length-append, map-append, take-append-drop}
-use Rattle.std.proofs.lemmas.Grind.{common_steps}
-use Rattle.ip_spec.specs.LongestOf.{IsLongestOf}
-use Rattle.ip_spec.specs.Demand.{IsDemand, NextBreaks, KeepsBeginning, Passes}
 use Rattle.ip_spec.proofs.LongestOfLemmas.{Grows, DecidesNext, within, beyond, compare, begins_first, longest_where_none_next, none_next_where_longest, one_longest_of, some_longest_of}
 
 -- c has the property P and meets the demand Q

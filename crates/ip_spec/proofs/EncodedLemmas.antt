@@ -1,15 +1,5 @@
 -- Fields determine the header that says them, where its reserved bits are zero.
-use Rattle.std.proofs.Common.{◌≡◌, ℕ, ◌+◌, ◌-◌, ◌/◌, ◌^◌, ◌<◌, ◌≤◌, List, [], ◌∷◌, length, drop, refl, ap, sym, ◌∙◌, arith, inl, inr, rules}
-use Rattle.std.specs.Prelude.{slice_range}
-use Rattle.std.proofs.lemmas.List.Elements.{All-from_recursion, recursion_from_All, All-append}
-use Rattle.ip_spec.specs.Header.{IsHeader, IsRawHeader, IsRawNumber, raw, auth}
-use Rattle.ip_spec.specs.Fields.{RawFields, FragmentFields, AuthFields, raw_fields}
-use Rattle.ip_spec.specs.Lengths.{MAX_FRAGMENT_OFFSET, IsPayloadLen, IsIcvLen}
-use Rattle.ip_spec.specs.Encoding.{AreBytes, IsFragmentEncoding, IsAuthEncoding, IsCleared}
-use Rattle.ip_spec.specs.Chain.{ExtHeader}
-use Rattle.ip_spec.specs.Places.{HeaderFields, raw_header, fragment_header, auth_header, fields_of}
-use Rattle.ip_spec.specs.Encodable.{IsEncoded}
-use Rattle.ip_spec.specs.WalkStep.{IsEncodingOf}
+use Rattle.ip_spec.proofs.Common.{◌≡◌, ℕ, ◌+◌, ◌-◌, ◌/◌, ◌^◌, ◌<◌, ◌≤◌, List, [], ◌∷◌, length, drop, refl, ap, sym, ◌∙◌, arith, inl, inr, rules, slice_range, All-from_recursion, recursion_from_All, All-append, IsHeader, IsRawHeader, IsRawNumber, raw, auth, RawFields, FragmentFields, AuthFields, raw_fields, MAX_FRAGMENT_OFFSET, IsPayloadLen, IsIcvLen, AreBytes, IsFragmentEncoding, IsAuthEncoding, IsCleared, ExtHeader, HeaderFields, raw_header, fragment_header, auth_header, fields_of, IsEncoded, IsEncodingOf}
 use Rattle.ip_spec.proofs.HeaderLemmas.{header_number, by_raw, by_number, raw_of, fragment_of, auth_of, ext_header-eq}
 use Rattle.ip_spec.proofs.EncodingLemmas.{fragment_only, auth_only, fragment_encodes, auth_written_encodes, fragment_written, auth_written}
 use Rattle.ip_spec.proofs.FragmentBitLemmas.{high_byte, low_byte, packed_offset, packed_flag, packed_reserved, high_small, low_small}

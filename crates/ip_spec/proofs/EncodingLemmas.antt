@@ -1,15 +1,5 @@
 -- The fields of a header, and the header that says them.
-use Rattle.std.proofs.Common.{◌≡◌, ℕ, ◌+◌, ◌/◌, ◌%◌, ◌^◌, ◌<◌, ◌≤◌, List, [], ◌∷◌, ◌++◌, length, get_or, take, drop, refl, ap, sym, ◌∙◌, arith, subst, rules}
-use Rattle.std.specs.Prelude.{slice_range}
-use Rattle.std.specs.Int.{to_be_bytes, from_be_bytes, w32}
-use Rattle.std.proofs.lemmas.List.{append_cancel_left, get_or_past, take_all, take-append-drop}
-use Rattle.std.proofs.lemmas.List.Elements.{All-from_recursion, recursion_from_All, All-append, All-take, All-drop}
-use Rattle.std.proofs.lemmas.Nat.{be_bytes_4, from_be_bytes-to_be_bytes_4}
-use Rattle.std.proofs.lemmas.Bool.{cases_lt}
-use Rattle.ip_spec.specs.Header.{IsHeader}
-use Rattle.ip_spec.specs.Fields.{offset_bits, flag_bit, unreserved_bits, FragmentFields, AuthFields}
-use Rattle.ip_spec.specs.Encoding.{AreBytes, IsEncoding, IsFragmentEncoding, IsAuthEncoding}
-use Rattle.ip_spec.specs.Decoding.{IsDecoding}
+use Rattle.ip_spec.proofs.Common.{◌≡◌, ℕ, ◌+◌, ◌/◌, ◌%◌, ◌^◌, ◌<◌, ◌≤◌, List, [], ◌∷◌, ◌++◌, length, get_or, take, drop, refl, ap, sym, ◌∙◌, arith, subst, rules, slice_range, to_be_bytes, from_be_bytes, w32, append_cancel_left, get_or_past, take_all, take-append-drop, All-from_recursion, recursion_from_All, All-append, All-take, All-drop, be_bytes_4, from_be_bytes-to_be_bytes_4, cases_lt, IsHeader, offset_bits, flag_bit, unreserved_bits, FragmentFields, AuthFields, AreBytes, IsEncoding, IsFragmentEncoding, IsAuthEncoding, IsDecoding}
 use Rattle.ip_spec.proofs.HeaderLemmas.{one_header}
 use Rattle.ip_spec.proofs.FragmentBitLemmas.{high_byte, low_byte, unpacked_high, unpacked_low}
 

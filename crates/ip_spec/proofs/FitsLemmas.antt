@@ -1,14 +1,7 @@
 -- Chains whose headers fit six places.
-use Rattle.std.proofs.Common.{◌≡◌, ℕ, ◌≤◌, ◌<◌, List, [], ◌∷◌, ◌++◌, length, drop, refl, ap, sym, ◌∙◌, arith, inl, inr, ◌⊎◌, subst, rules}
-use Rattle.std.specs.Prelude.{count_by}
-use Rattle.std.proofs.lemmas.Bool.{cases_lt}
-use Rattle.std.proofs.lemmas.List.{append-nil, length-append}
-use Rattle.std.proofs.lemmas.Grind.{common_steps}
+use Rattle.ip_spec.proofs.Common.{◌≡◌, ℕ, ◌≤◌, ◌<◌, List, [], ◌∷◌, ◌++◌, length, drop, refl, ap, sym, ◌∙◌, arith, inl, inr, ◌⊎◌, subst, rules, count_by, cases_lt, append-nil, length-append, common_steps, ExtHeader, leads_to, bytes_of, is_empty, IsPrefixChain, IsLongestChain, IsNext, IsEnd, IsDemand, IsLongestUnder, NextBreaks, Place, destination, routing, final_destination, places, side_of, place_of, FitsPlaces, IsTaken}
 use Rattle.ip_spec.proofs.HeaderLemmas.{header_number, later_of}
-use Rattle.ip_spec.specs.Chain.{ExtHeader, leads_to, bytes_of, is_empty, IsPrefixChain, IsLongestChain, IsNext, IsEnd}
-use Rattle.ip_spec.specs.Demand.{IsDemand, IsLongestUnder, NextBreaks}
-use Rattle.ip_spec.specs.Places.{Place, destination, routing, fragment, final_destination, places, side_of, place_of}
-use Rattle.ip_spec.specs.Fits.{FitsPlaces, IsTaken}
+use Rattle.ip_spec.specs.Places.{fragment}
 use Rattle.ip_spec.proofs.FirstLemmas.{count-append, count_before, count_after}
 use Rattle.ip_spec.proofs.PlaceLemmas.{has_routing, is_of, count_in, none_yet, one_before, sides, nothing_on, fits_next, none_there}
 use Rattle.ip_spec.proofs.DemandKinds.{all_or}

@@ -1,12 +1,5 @@
 -- Bytes 2 and 3 of a fragment header: the offset and the flag packed into them. No other proof looks at their bits.
-use Rattle.std.proofs.Common.{◌≡◌, ℕ, ◌+◌, ◌*◌, ◌/◌, ◌%◌, ◌<◌, ◌≤◌, ap, arith, Bool, cond, bit_and, rules}
-use Rattle.std.specs.Prelude.{◌==◌, not}
-use Rattle.std.proofs.lemmas.Nat.{and_comm, and_assoc, and_mask, and-not}
-use Rattle.std.proofs.lemmas.Nat.Bits.{and_high}
-use Rattle.std.proofs.lemmas.Bool.Decides.{eqb_tells}
-use Rattle.std.proofs.lemmas.Grind.{common_steps}
-use Rattle.ip_spec.specs.Lengths.{MAX_FRAGMENT_OFFSET}
-use Rattle.ip_spec.specs.Fields.{offset_bits, flag_bit, unreserved_bits}
+use Rattle.ip_spec.proofs.Common.{◌≡◌, ℕ, ◌+◌, ◌*◌, ◌/◌, ◌%◌, ◌<◌, ◌≤◌, ap, arith, Bool, cond, bit_and, rules, ◌==◌, not, and_comm, and_assoc, and_mask, and-not, and_high, eqb_tells, common_steps, MAX_FRAGMENT_OFFSET, offset_bits, flag_bit, unreserved_bits}
 
 -- the bytes that have an offset and a flag, and no reserved bit
 abbrev pub high_byte : ℕ → ℕ

@@ -1,12 +1,5 @@
 -- Headers, and headers at the prefix of bytes.
-use Rattle.std.proofs.Common.{◌≡◌, ◌≢◌, ℕ, zero, suc, ◌+◌, ◌*◌, ◌<◌, ◌≤◌, List, ◌++◌, length, get_or, take, drop, refl, ap, sym, ◌∙◌, arith, inl, inr, ◌⊎◌, subst, Bool, true, false, nat_eq, cond, slice_index, rules}
-use Rattle.std.proofs.lemmas.Grind.{common_steps}
-use Rattle.std.proofs.lemmas.List.{get_or_append_left, take_at, length-take-le}
-use Rattle.std.proofs.Math.Seq.{take-append_seam}
-use Rattle.std.proofs.lemmas.Bool.Decides.{eqb_tells}
-use Rattle.ip_spec.specs.Header.{IsHeader, IsRawHeader, IsFragmentHeader, IsAuthHeader, IsRawNumber, IsExtensionNumber, IsLaterNumber, raw, fragment, auth}
-use Rattle.ip_spec.specs.Prefix.{IsPrefix}
-use Rattle.ip_spec.specs.Chain.{ExtHeader, IsNext, IsEnd}
+use Rattle.ip_spec.proofs.Common.{◌≡◌, ◌≢◌, ℕ, zero, suc, ◌+◌, ◌*◌, ◌<◌, ◌≤◌, List, ◌++◌, length, get_or, take, drop, refl, ap, sym, ◌∙◌, arith, inl, inr, ◌⊎◌, subst, Bool, true, false, nat_eq, cond, slice_index, rules, common_steps, get_or_append_left, take_at, length-take-le, take-append_seam, eqb_tells, IsHeader, IsRawHeader, IsFragmentHeader, IsAuthHeader, IsRawNumber, IsExtensionNumber, IsLaterNumber, raw, fragment, auth, IsPrefix, ExtHeader, IsNext, IsEnd}
 use Rattle.ip_spec.proofs.PrefixLemmas.{prefix-append, prefix_of-take, prefix-length}
 
 pub eq_or : (m n : ℕ) → (m ≡ n) ⊎ (m ≢ n)

@@ -1,21 +1,6 @@
 -- Headers linked in the order of their places are walked to the end.
-use Rattle.std.proofs.Common.{◌≡◌, ℕ, ◌+◌, ◌<◌, ◌≤◌, List, [], ◌∷◌, ◌++◌, drop, refl, ap, sym, ◌∙◌, arith, inl, inr, subst, Bool, true, false, cond, rules}
-use Rattle.std.specs.Prelude.{Option, Some, None, is_some, ◌==◌, ◌||◌, nat_lt, if◌then◌else◌}
-use Rattle.std.specs.List.{find}
-use Rattle.std.specs.Option.{option_map, option_map_or}
-use Rattle.std.proofs.lemmas.Bool.{cases_Bool, le-ltb}
-use Rattle.std.proofs.lemmas.Option.{none-some}
-use Rattle.std.proofs.lemmas.List.Elements.{All-from_recursion, recursion_from_All}
-use Rattle.std.proofs.lemmas.Grind.{common_steps}
-use Rattle.ip_spec.specs.Header.{IsHeader}
-use Rattle.ip_spec.specs.Fields.{next_header}
-use Rattle.ip_spec.specs.Chain.{ExtHeader}
-use Rattle.ip_spec.specs.Places.{Place, hop_by_hop, destination, routing, fragment as fragment_place, authentication, final_destination, places, index, number_in, header_in, fields_of, HeaderFields}
-use Rattle.ip_spec.specs.Encoding.{IsCleared}
-use Rattle.ip_spec.specs.Encodable.{IsEncoded, IsEncodable}
-use Rattle.ip_spec.specs.Walk.{PlacedFields, leads, IsWalkAnswer}
-use Rattle.ip_spec.specs.WalkStep.{next_place, without, next_of}
-use Rattle.ip_spec.specs.Links.{relinked, first_number, places_behind, linked}
+use Rattle.ip_spec.proofs.Common.{◌≡◌, ℕ, ◌+◌, ◌<◌, ◌≤◌, List, [], ◌∷◌, ◌++◌, drop, refl, ap, sym, ◌∙◌, arith, inl, inr, subst, Bool, true, false, cond, rules, Option, Some, None, is_some, ◌==◌, ◌||◌, nat_lt, if◌then◌else◌, find, option_map, option_map_or, cases_Bool, le-ltb, none-some, All-from_recursion, recursion_from_All, common_steps, IsHeader, next_header, ExtHeader, Place, hop_by_hop, destination, routing, authentication, final_destination, places, index, number_in, header_in, fields_of, HeaderFields, IsCleared, IsEncoded, IsEncodable, PlacedFields, leads, IsWalkAnswer, next_place, without, next_of, relinked, first_number, places_behind, linked}
+use Rattle.ip_spec.specs.Places.{fragment as fragment_place}
 use Rattle.ip_spec.proofs.HeaderLemmas.{header-least}
 use Rattle.ip_spec.proofs.PlaceLemmas.{in_both, has_routing}
 use Rattle.ip_spec.proofs.EncodedLemmas.{of_number}

@@ -1,15 +1,6 @@
 -- What the numbers of a chain's headers tell: whether they fit six places, and whether one more does.
-use Rattle.std.proofs.Common.{◌≡◌, ℕ, ◌≤◌, List, [], ◌∷◌, ◌++◌, map, refl, ap, sym, ◌∙◌, arith, subst, rules}
-use Rattle.std.specs.Prelude.{◌==◌, ◌↔◌, Some}
-use Rattle.std.proofs.lemmas.Bool.Decides.{eqb_tells}
-use Rattle.std.proofs.lemmas.Option.{same_Some}
-use Rattle.std.proofs.lemmas.List.{map-append}
-use Rattle.std.proofs.lemmas.Grind.{common_steps}
-use Rattle.ip_spec.specs.Header.{IsExtensionNumber}
-use Rattle.ip_spec.specs.Chain.{ExtHeader}
-use Rattle.ip_spec.specs.Places.{Place, hop_by_hop, destination, routing, fragment, authentication, final_destination, number_in, side_of, place_of}
-use Rattle.ip_spec.specs.Fits.{FitsPlaces}
-use Rattle.ip_spec.specs.NumbersFit.{numbers_of, how_often, before_routing, after_routing, NumbersFit, in_place}
+use Rattle.ip_spec.proofs.Common.{◌≡◌, ℕ, ◌≤◌, List, [], ◌∷◌, ◌++◌, map, refl, ap, sym, ◌∙◌, arith, subst, rules, ◌==◌, ◌↔◌, Some, eqb_tells, same_Some, map-append, common_steps, IsExtensionNumber, ExtHeader, Place, hop_by_hop, destination, routing, authentication, final_destination, number_in, side_of, place_of, FitsPlaces, numbers_of, how_often, before_routing, after_routing, NumbersFit, in_place}
+use Rattle.ip_spec.specs.Places.{fragment}
 use Rattle.ip_spec.proofs.FirstLemmas.{before-map, after-map, count-map, counted, none_counted}
 use Rattle.ip_spec.proofs.PlaceLemmas.{has_routing, is_of, count_in, place_number, own_place, final_behind, destination_before, fits_next, none_there, bare}
 

@@ -1,18 +1,8 @@
 -- The places of a chain's headers, where one more header comes, and which number is taken.
-use Rattle.std.proofs.Common.{◌≡◌, ℕ, zero, suc, ◌+◌, List, [], ◌∷◌, ◌++◌, refl, ap, sym, ◌∙◌, arith, inl, inr, Bool, true, false, subst, rules}
-use Rattle.std.specs.Prelude.{◌≢◌, ◌==◌, ◌↔◌, count_by, Option, Some, None, is_some, if◌then◌else◌}
-use Rattle.std.specs.List.{find, AllByRecursion}
-use Rattle.std.specs.Option.{option_or, option_map_or}
-use Rattle.std.proofs.lemmas.Bool.{cases_Bool, eqb-true, eq-eqb}
-use Rattle.std.proofs.lemmas.Bool.Decides.{eqb_tells}
-use Rattle.std.proofs.lemmas.Option.{same_Some}
-use Rattle.std.proofs.lemmas.List.{append-nil}
-use Rattle.std.proofs.lemmas.Grind.{common_steps}
-use Rattle.ip_spec.specs.Header.{IsExtensionNumber}
+use Rattle.ip_spec.proofs.Common.{◌≡◌, ℕ, zero, suc, ◌+◌, List, [], ◌∷◌, ◌++◌, refl, ap, sym, ◌∙◌, arith, inl, inr, Bool, true, false, subst, rules, ◌==◌, ◌↔◌, count_by, Option, Some, None, is_some, if◌then◌else◌, find, AllByRecursion, option_or, option_map_or, cases_Bool, eqb-true, eq-eqb, eqb_tells, same_Some, append-nil, common_steps, IsExtensionNumber, ExtHeader, Place, hop_by_hop, destination, routing, authentication, final_destination, places, index, number_in, side_of, header_in, place_of, is_taken, FitsPlaces, IsTaken}
+use Rattle.std.specs.Prelude.{◌≢◌}
 use Rattle.ip_spec.proofs.HeaderLemmas.{later_of, later_not_zero}
-use Rattle.ip_spec.specs.Chain.{ExtHeader}
-use Rattle.ip_spec.specs.Places.{Place, hop_by_hop, destination, routing, fragment, authentication, final_destination, places, index, number_in, side_of, header_in, place_of, is_taken}
-use Rattle.ip_spec.specs.Fits.{FitsPlaces, IsTaken}
+use Rattle.ip_spec.specs.Places.{fragment}
 use Rattle.ip_spec.proofs.FirstLemmas.{before-yes, before-no, count-append, count_yes, count_no, before-none, before-some, after-none, after-some, after_one, counted, none_counted, find_passes, find_more-yes, find_more-no}
 
 -- a place that a number has is one of that number's

@@ -1,10 +1,5 @@
 -- Prefixes of lists of bytes.
-use Rattle.std.proofs.Common.{◌≡◌, ℕ, zero, suc, ◌+◌, List, [], ◌∷◌, ◌++◌, length, take, drop, refl, ap, sym, ◌∙◌, arith, append_assoc}
-use Rattle.std.proofs.lemmas.List.{take-append-drop, length-append}
-use Rattle.std.proofs.lemmas.List.Prefix.{front_rest}
-use Rattle.std.proofs.Math.Seq.{take-append_seam}
-use Rattle.std.proofs.lemmas.Grind.{common_steps}
-use Rattle.ip_spec.specs.Prefix.{IsPrefix}
+use Rattle.ip_spec.proofs.Common.{◌≡◌, ℕ, zero, suc, ◌+◌, List, [], ◌∷◌, ◌++◌, length, take, drop, refl, ap, sym, ◌∙◌, arith, append_assoc, take-append-drop, length-append, front_rest, take-append_seam, common_steps, IsPrefix}
 
 pub prefix-append : (b s : List ℕ) → IsPrefix b s → s ≡ b ++ drop (length b) s
 prefix-append b s f = sym (take-append-drop (length b) s) ∙ ap (λ x. x ++ drop (length b) s) f

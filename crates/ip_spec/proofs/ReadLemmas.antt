@@ -1,17 +1,6 @@
 -- A chain that is being read from the prefix of bytes.
-use Rattle.std.proofs.Common.{◌≡◌, ℕ, ◌+◌, ◌-◌, List, [], ◌∷◌, ◌++◌, length, drop, refl, ap, sym, ◌∙◌, arith, subst, Bool, nat_eq, rules}
-use Rattle.std.specs.Prelude.{Option}
-use Rattle.std.proofs.Math.Seq.{drop-append_seam}
-use Rattle.std.proofs.lemmas.Bool.Decides.{eqb_tells}
-use Rattle.std.specs.List.{AllByRecursion}
-use Rattle.std.proofs.lemmas.Grind.{common_steps}
-use Rattle.ip_spec.specs.Header.{IsHeader}
-use Rattle.ip_spec.specs.Fields.{next_header}
-use Rattle.ip_spec.specs.Encoding.{AreBytes}
-use Rattle.ip_spec.specs.Chain.{ExtHeader, leads_to, bytes_of, is_empty, IsChain, IsPrefixChain, IsLongestChain, IsNext, IsEnd}
-use Rattle.ip_spec.specs.Parse.{IsAnswer, IsRead}
+use Rattle.ip_spec.proofs.Common.{◌≡◌, ℕ, ◌+◌, ◌-◌, List, [], ◌∷◌, ◌++◌, length, drop, refl, ap, sym, ◌∙◌, arith, subst, Bool, nat_eq, rules, Option, drop-append_seam, eqb_tells, AllByRecursion, common_steps, IsHeader, next_header, AreBytes, ExtHeader, leads_to, bytes_of, is_empty, IsChain, IsPrefixChain, IsLongestChain, IsNext, IsEnd, IsAnswer, IsRead, IsDemand, IsLongestUnder, IsEndUnder, NoDemand}
 use Rattle.ip_spec.proofs.PrefixLemmas.{prefix-length, prefix_of-append, rest_join}
-use Rattle.ip_spec.specs.Demand.{IsDemand, IsLongestUnder, IsEndUnder, NoDemand}
 use Rattle.ip_spec.proofs.UnderLemmas.{longest_at_end_under, one_longest_under, some_longest_under, whole_longest_under, no_demand, longest_without}
 use Rattle.ip_spec.proofs.ChainLemmas.{no_chain, goes_on, bytes_of-more, leads_to-more, bytes_of-least}
 

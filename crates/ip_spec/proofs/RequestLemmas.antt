@@ -1,10 +1,6 @@
 -- Headers that come in parts.
-use Rattle.std.proofs.Common.{◌≡◌, ℕ, ◌+◌, ◌-◌, ◌*◌, ◌<◌, ◌≤◌, List, ◌++◌, length, take, drop, ap, sym, ◌∙◌, arith, slice_index, length-append, length-drop, rules}
-use Rattle.std.proofs.lemmas.List.{get_or_append_left, take-append-le, drop-append-le}
-use Rattle.std.proofs.Math.Seq.{drop-append_seam}
-use Rattle.std.proofs.lemmas.Grind.{common_steps}
-use Rattle.ip_spec.specs.Header.{IsRawHeader, IsAuthHeader}
-use Rattle.ip_spec.specs.Fields.{next_header, AuthFields, raw_fields, auth_fields}
+use Rattle.ip_spec.proofs.Common.{◌≡◌, ℕ, ◌+◌, ◌-◌, ◌*◌, ◌<◌, ◌≤◌, List, ◌++◌, length, take, drop, ap, sym, ◌∙◌, arith, slice_index, rules, get_or_append_left, take-append-le, drop-append-le, drop-append_seam, common_steps, IsRawHeader, IsAuthHeader, next_header, AuthFields, raw_fields, auth_fields}
+use Rattle.std.proofs.Common.{length-append, length-drop}
 
 -- the fields of a header with h before its check value
 abbrev pub with_icv : List ℕ → List ℕ → AuthFields

@@ -1,10 +1,5 @@
 -- The chains of bytes that are cut short are the chains of the whole bytes that lie within them.
-use Rattle.std.proofs.Common.{◌≡◌, ℕ, ◌+◌, ◌-◌, ◌≤◌, List, [], ◌∷◌, ◌++◌, length, take, refl, ap, arith, rules}
-use Rattle.std.proofs.lemmas.List.{take-take, length-append}
-use Rattle.std.proofs.lemmas.Bool.{le-ltb}
-use Rattle.std.proofs.lemmas.Grind.{common_steps}
-use Rattle.ip_spec.specs.Chain.{ExtHeader, bytes_of, headers_within, IsPrefixChain}
-use Rattle.ip_spec.specs.Demand.{IsDemand, NextBreaks, KeepsBeginning, IsLongestUnder}
+use Rattle.ip_spec.proofs.Common.{◌≡◌, ℕ, ◌+◌, ◌-◌, ◌≤◌, List, [], ◌∷◌, ◌++◌, length, take, refl, ap, arith, rules, take-take, length-append, le-ltb, common_steps, ExtHeader, bytes_of, headers_within, IsPrefixChain, IsDemand, NextBreaks, KeepsBeginning, IsLongestUnder}
 use Rattle.ip_spec.proofs.PrefixLemmas.{prefix-length}
 use Rattle.ip_spec.proofs.LongestOfLemmas.{longest_same}
 use Rattle.ip_spec.proofs.DemandLemmas.{IsUnder, kept_where_longest}

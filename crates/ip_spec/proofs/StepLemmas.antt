@@ -1,12 +1,5 @@
 -- Chains at the prefix of bytes, and the header that goes on.
-use Rattle.std.proofs.Common.{◌≡◌, ℕ, ◌*◌, ◌≤◌, List, [], ◌∷◌, ◌++◌, length, drop, refl, ap, ◌∙◌, arith, true, rules}
-use Rattle.std.specs.List.{AllByRecursion}
-use Rattle.std.proofs.lemmas.List.{append-nil, length-append}
-use Rattle.std.proofs.lemmas.List.Concat.{flat_map-append}
-use Rattle.std.proofs.lemmas.Grind.{common_steps}
-use Rattle.ip_spec.specs.Header.{IsHeader}
-use Rattle.ip_spec.specs.Fields.{next_header}
-use Rattle.ip_spec.specs.Chain.{ExtHeader, AreLinked, leads_to, bytes_of, is_empty, IsChain, IsPrefixChain, IsNext}
+use Rattle.ip_spec.proofs.Common.{◌≡◌, ℕ, ◌*◌, ◌≤◌, List, [], ◌∷◌, ◌++◌, length, drop, refl, ap, ◌∙◌, arith, true, rules, AllByRecursion, append-nil, length-append, flat_map-append, common_steps, IsHeader, next_header, ExtHeader, AreLinked, leads_to, bytes_of, is_empty, IsChain, IsPrefixChain, IsNext}
 use Rattle.ip_spec.proofs.PrefixLemmas.{prefix_first, prefix_second, prefix_join, prefix-length}
 use Rattle.ip_spec.proofs.HeaderLemmas.{header-least, next_or, one_next}
 use Rattle.ip_spec.proofs.LongestOfLemmas.{Grows, DecidesNext}

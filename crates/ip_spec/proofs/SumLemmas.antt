@@ -1,20 +1,5 @@
 -- Sums over the places of a value and over the headers of a chain.
-use Rattle.std.proofs.Common.{◌≡◌, ℕ, zero, suc, ◌+◌, ◌≤◌, List, [], ◌∷◌, ◌++◌, length, refl, ap, sym, ◌∙◌, arith, subst, append_assoc, Bool, true, false, rules}
-use Rattle.std.specs.Prelude.{Option, Some, None, sum_by, ◌==◌, ◌||◌}
-use Rattle.std.specs.List.{AllByRecursion}
-use Rattle.std.specs.Option.{option_map}
-use Rattle.std.proofs.lemmas.Option.{none-some, same_Some}
-use Rattle.std.proofs.lemmas.List.{append-nil, length-append}
-use Rattle.std.proofs.lemmas.List.Sums.{sum_by-append}
-use Rattle.ip_spec.specs.Header.{IsHeader}
-use Rattle.ip_spec.specs.Fields.{next_header}
-use Rattle.ip_spec.specs.Chain.{ExtHeader, leads_to, bytes_of, IsChain}
-use Rattle.ip_spec.specs.Fits.{FitsPlaces}
-use Rattle.ip_spec.specs.Places.{Place, header_in, fields_of, HeaderFields}
-use Rattle.ip_spec.specs.Encodable.{IsEncodable, fields_len, sum_placed, placed_len}
-use Rattle.ip_spec.specs.Walk.{PlacedFields, IsValueOf, IsReachable, WalkAnswer, answer_at, IsWalkAnswer}
-use Rattle.ip_spec.specs.WalkStep.{next_place, without}
-use Rattle.ip_spec.specs.LongestOf.{IsLongestOf}
+use Rattle.ip_spec.proofs.Common.{◌≡◌, ℕ, zero, suc, ◌+◌, ◌≤◌, List, [], ◌∷◌, ◌++◌, length, refl, ap, sym, ◌∙◌, arith, subst, append_assoc, Bool, true, false, rules, Option, Some, None, sum_by, ◌==◌, ◌||◌, AllByRecursion, option_map, none-some, same_Some, append-nil, length-append, sum_by-append, IsHeader, next_header, ExtHeader, leads_to, bytes_of, IsChain, FitsPlaces, Place, header_in, fields_of, HeaderFields, IsEncodable, fields_len, sum_placed, placed_len, PlacedFields, IsValueOf, IsReachable, WalkAnswer, answer_at, IsWalkAnswer, next_place, without, IsLongestOf}
 use Rattle.ip_spec.proofs.StepLemmas.{chain_begins}
 use Rattle.ip_spec.proofs.FitsLemmas.{fits_places}
 use Rattle.ip_spec.proofs.WalkLemmas.{unreached, Joins, joins, there}

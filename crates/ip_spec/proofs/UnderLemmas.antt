@@ -1,9 +1,5 @@
 -- Chains under a demand: what goes on, the longest, and what it is of the longest without a demand.
-use Rattle.std.proofs.Common.{◌≡◌, ℕ, ◌≤◌, List, [], ◌∷◌, ◌++◌, length, drop, ap, arith, inl}
-use Rattle.std.proofs.Math.Seq.{take-length, drop-length}
-use Rattle.ip_spec.specs.Prefix.{IsPrefix}
-use Rattle.ip_spec.specs.Chain.{ExtHeader, leads_to, bytes_of, is_empty, IsChain, IsPrefixChain, IsLongestChain, IsNext}
-use Rattle.ip_spec.specs.Demand.{IsDemand, KeepsBeginning, IsLongestUnder, IsEndUnder, NoDemand}
+use Rattle.ip_spec.proofs.Common.{◌≡◌, ℕ, ◌≤◌, List, [], ◌∷◌, ◌++◌, length, drop, ap, arith, inl, take-length, drop-length, IsPrefix, ExtHeader, leads_to, bytes_of, is_empty, IsChain, IsPrefixChain, IsLongestChain, IsNext, IsDemand, KeepsBeginning, IsLongestUnder, IsEndUnder, NoDemand}
 use Rattle.ip_spec.proofs.PrefixLemmas.{prefix-length}
 use Rattle.ip_spec.proofs.HeaderLemmas.{header-least}
 use Rattle.ip_spec.proofs.LongestOfLemmas.{Grows, longest_where_none_next, none_next_where_longest, one_longest_of, longest_same}

@@ -1,20 +1,5 @@
 -- A walk that takes headers out of a value, one after the other.
-use Rattle.std.proofs.Common.{◌≡◌, ℕ, List, [], ◌∷◌, ◌++◌, ap, sym, ◌∙◌, subst, Bool, true, false, arith, rules}
-use Rattle.std.specs.Prelude.{Option, Some, None, is_some, ◌==◌, ◌&&◌, ◌||◌, not, if◌then◌else◌}
-use Rattle.std.proofs.Math.Bool.{or-true, or-false}
-use Rattle.std.proofs.lemmas.Bool.{eq-eqb}
-use Rattle.std.proofs.lemmas.Bool.Decides.{eqb_tells}
-use Rattle.std.proofs.lemmas.Option.{none-some}
-use Rattle.std.proofs.lemmas.Grind.{common_steps}
-use Rattle.ip_spec.specs.Header.{IsHeader}
-use Rattle.ip_spec.specs.Fields.{next_header}
-use Rattle.ip_spec.specs.Chain.{ExtHeader, leads_to, is_empty}
-use Rattle.ip_spec.specs.Places.{Place, index, number_in, header_in, place_of, fields_of, HeaderFields}
-use Rattle.ip_spec.specs.Encoding.{IsCleared}
-use Rattle.ip_spec.specs.Encodable.{IsEncoded}
-use Rattle.ip_spec.specs.Walk.{PlacedFields, IsReachable, WalkAnswer, answer_at, IsWalkAnswer}
-use Rattle.ip_spec.specs.WalkStep.{next_place, without}
-use Rattle.ip_spec.specs.LongestOf.{IsLongestOf}
+use Rattle.ip_spec.proofs.Common.{◌≡◌, ℕ, List, [], ◌∷◌, ◌++◌, ap, sym, ◌∙◌, subst, Bool, true, false, arith, rules, Option, Some, None, is_some, ◌==◌, ◌&&◌, ◌||◌, not, if◌then◌else◌, or-true, or-false, eq-eqb, eqb_tells, none-some, common_steps, IsHeader, next_header, ExtHeader, leads_to, is_empty, Place, index, number_in, header_in, place_of, fields_of, HeaderFields, IsCleared, IsEncoded, PlacedFields, IsReachable, WalkAnswer, answer_at, IsWalkAnswer, next_place, without, IsLongestOf}
 use Rattle.ip_spec.proofs.LongestOfLemmas.{longest_where_none_next}
 use Rattle.ip_spec.proofs.StepLemmas.{all_more, leads_to-more, chain_more}
 use Rattle.ip_spec.proofs.FirstLemmas.{find_more-yes, find_more-no}

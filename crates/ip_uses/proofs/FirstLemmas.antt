@@ -1,8 +1,5 @@
 -- The first headers of a chain, taken one after the other.
-use Rattle.std.proofs.Common.{◌≡◌, ℕ, ◌+◌, ◌≤◌, List, [], ◌∷◌, ◌++◌, length, take, refl, ap, sym, ◌∙◌, arith, append_assoc}
-use Rattle.std.proofs.lemmas.List.{append-nil, length-append, take_all, take_at}
-use Rattle.ip_spec.specs.Chain.{ExtHeader, bytes_of}
-use Rattle.ip_spec.specs.Demand.{AtMost, IsLongestUnder}
+use Rattle.ip_spec.proofs.Common.{◌≡◌, ℕ, ◌+◌, ◌≤◌, List, [], ◌∷◌, ◌++◌, length, take, refl, ap, sym, ◌∙◌, arith, append_assoc, append-nil, length-append, take_all, take_at, ExtHeader, bytes_of, AtMost, IsLongestUnder}
 use Rattle.ip_spec.proofs.ChainLemmas.{bytes_of-more}
 use Rattle.ip_spec.proofs.UnderLemmas.{one_longest_under}
 use Rattle.ip_spec.proofs.DemandKinds.{at_most, longest_at_most}

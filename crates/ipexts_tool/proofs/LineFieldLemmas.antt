@@ -1,14 +1,6 @@
 -- Two fields, where the second one is the rest of the text; and one field, which is the text.
-use Rattle.std.proofs.Common.{◌≡◌, ℕ, ◌<◌, List, [], ◌∷◌, ◌++◌, length, get_or, Option, None, Result, Ok, Err, refl, sym, ap, ◌∙◌, arith, rules}
-use Rattle.std.specs.Prelude.{codes}
-use Rattle.std.specs.List.{join_with_byte}
-use Rattle.std.specs.Option.{option_zip}
-use Rattle.std.specs.Result.{result_ok}
-use Rattle.std.specs.Str.{bytes_eq}
-use Rattle.std.proofs.lemmas.Bool.{false_from_ne_true, false≢true}
-use Rattle.std.proofs.lemmas.List.{length-append, get_or_at}
-use Rattle.std.proofs.lemmas.List.Splits.{join_with_byte-slice_split}
-use Rattle.std.proofs.lemmas.Slice.Eq.{bytes_eq-Decides}
+use Rattle.ip_spec.proofs.Common.{◌≡◌, ℕ, ◌<◌, List, [], ◌∷◌, ◌++◌, length, get_or, refl, sym, ap, ◌∙◌, arith, rules, codes, join_with_byte, option_zip, result_ok, bytes_eq, false_from_ne_true, false≢true, length-append, get_or_at, join_with_byte-slice_split, bytes_eq-Decides}
+use Rattle.std.proofs.Common.{Option, None, Result, Ok, Err}
 use Rattle.hex.specs.Hex.{decode_of, is_hex_digit}
 use Rattle.hex.proofs.HexLemmas.{decode_of-ok}
 use Rattle.ipexts_tool.specs.LineFields.{fields_of, number_of, bytes_of_hex, number_and_bytes, bytes_alone}

@@ -1,18 +1,6 @@
 -- Which number a text is the numeral of.
-use Rattle.std.proofs.Common.{◌≡◌, lit≤, ℕ, zero, suc, ◌+◌, ◌-◌, ◌*◌, ◌^◌, ◌<◌, ◌≤◌, List, length, take, get_or, Some, None, refl, sym, ap, ◌∙◌, subst, arith, rules, inl, inr}
-use Rattle.std.proofs.lemmas.Grind.{common_steps}
-use Rattle.std.specs.List.{find, range_with_len}
-use Rattle.std.specs.Str.{bytes_eq}
-use Rattle.std.specs.Str.Parse.{AllDigits, digits_value}
-use Rattle.std.specs.Char.{digit_value}
-use Rattle.std.specs.Int.{IsInRange, IsOutOfRange}
-use Rattle.std.specs.Fmt.{decimal}
-use Rattle.std.proofs.lemmas.Bool.{cond-true, cond-false, cases_eq, false_from_ne_true}
-use Rattle.std.proofs.lemmas.Slice.Eq.{bytes_eq-Decides}
-use Rattle.std.proofs.lemmas.Str.Parse.{IsNumeralModel, numerals_by_value, tells_digits, digit_at, digits_value-take-le}
-use Rattle.std.proofs.lemmas.Int.Digits.{digits_value_more, digits_more}
-use Rattle.std.proofs.lemmas.Bool.Decides.{nat_tests}
-use Rattle.std.proofs.lemmas.Fmt.{decimal_injective, decimal_is_IsNumeral, decimal_digit, first_decimal, decimal-digits_value}
+use Rattle.ip_spec.proofs.Common.{◌≡◌, lit≤, ℕ, zero, suc, ◌+◌, ◌-◌, ◌*◌, ◌^◌, ◌<◌, ◌≤◌, List, length, take, get_or, refl, sym, ap, ◌∙◌, subst, arith, rules, inl, inr, common_steps, find, range_with_len, bytes_eq, AllDigits, digits_value, digit_value, IsInRange, IsOutOfRange, decimal, cond-true, cond-false, cases_eq, false_from_ne_true, bytes_eq-Decides, IsNumeralModel, numerals_by_value, tells_digits, digit_at, digits_value-take-le, digits_value_more, digits_more, nat_tests, decimal_injective, decimal_is_IsNumeral, decimal_digit, first_decimal, decimal-digits_value}
+use Rattle.std.proofs.Common.{Some, None}
 use Rattle.ipexts_tool.specs.LineFields.{number_of}
 
 -- over any range, since a tactic would count the numeral down

@@ -1,13 +1,6 @@
 -- The lines of bytes that come in parts.
-use Rattle.std.proofs.Common.{◌≡◌, ℕ, zero, suc, min, ◌+◌, ◌<◌, true, false, cond, List, [], ◌∷◌, ◌++◌, length, take, refl, sym, ap, ◌∙◌, arith, inl, inr, append-nil, append_assoc, length-append, rules}
-use Rattle.std.proofs.lemmas.Grind.{common_steps}
-use Rattle.std.specs.Prelude.{if◌then◌else◌, nat_le, Option, None}
-use Rattle.std.specs.List.{slice_split, onto_first}
-use Rattle.std.specs.Option.{option_map_or}
-use Rattle.std.proofs.lemmas.Bool.{cases_lt, cases_Bool, cond-false, lt-leb}
-use Rattle.std.proofs.lemmas.List.{take_all, length-take}
-use Rattle.std.proofs.Math.Seq.{take-append-add}
-use Rattle.std.proofs.lemmas.List.Splits.{slice_split-cons_yes, slice_split-cons_no}
+use Rattle.ip_spec.proofs.Common.{◌≡◌, ℕ, zero, suc, min, ◌+◌, ◌<◌, true, false, cond, List, [], ◌∷◌, ◌++◌, length, take, refl, sym, ap, ◌∙◌, arith, inl, inr, append_assoc, rules, common_steps, if◌then◌else◌, nat_le, Option, None, slice_split, onto_first, option_map_or, cases_lt, cases_Bool, cond-false, lt-leb, take_all, length-take, take-append-add, slice_split-cons_yes, slice_split-cons_no}
+use Rattle.std.proofs.Common.{append-nil, length-append}
 use Rattle.ipexts_tool.specs.Lines.{is_newline, lines_of, without_empty_last, max_line_len}
 use Rattle.ipexts_tool.specs.OpenLine.{onto_begun, all_but_last, last_line, ended_lines, open_line, lines_at_end, kept_len}
 use Rattle.ipexts_tool.specs.Answers.{answer_of, answers_to, bad_line}

@@ -1,11 +1,6 @@
 -- How the parts of a run join.
-use Rattle.std.proofs.Common.{◌≡◌, ℕ, List, [], ◌∷◌, ◌++◌, length, take, drop, refl, ap, sym, ◌∙◌, append-nil, append_assoc, take-append-drop, rules}
-use Rattle.std.specs.Prelude.{Option, Some, None, IfSome, Result, Ok}
-use Rattle.std.specs.Io.KnownBytes.{Appends, Consumes, IsAtEnd, Keeps, ReadConsumes}
-use Rattle.std.proofs.KnownBytes.{Appends-nil, Appends-trans, Appends-kept, Consumes-trans}
-use Rattle.std.proofs.Math.Seq.{take-append_seam}
-use Rattle.std.proofs.lemmas.List.{flat_map_more}
-use Rattle.std.proofs.lemmas.List.Concat.{flat_map-append}
+use Rattle.ip_spec.proofs.Common.{◌≡◌, ℕ, List, [], ◌∷◌, ◌++◌, length, take, drop, refl, ap, sym, ◌∙◌, append_assoc, rules, Option, Some, None, IfSome, Result, Ok, Appends, Consumes, IsAtEnd, Keeps, ReadConsumes, Appends-nil, Appends-trans, Appends-kept, Consumes-trans, take-append_seam, flat_map_more, flat_map-append}
+use Rattle.std.proofs.Common.{append-nil, take-append-drop}
 use Rattle.ipexts_tool.specs.Answers.{answer_of, answers, answers_to}
 use Rattle.ipexts_tool.specs.Lines.{lines_of}
 use Rattle.ipexts_tool.specs.OpenLine.{ended_lines, open_line, lines_at_end, kept_len}

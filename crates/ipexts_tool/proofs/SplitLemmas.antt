@@ -1,10 +1,7 @@
 -- The parts that one byte separates.
-use Rattle.std.proofs.Common.{◌≡◌, ◌≢◌, ℕ, ◌+◌, ◌<◌, ◌==◌, List, ◌∷◌, [], ◌++◌, length, take, drop, get_or, false, refl, sym, ap, ◌∙◌, subst, arith}
-use Rattle.std.specs.List.{slice_split, All}
-use Rattle.std.proofs.lemmas.Bool.{eq-eqb, ne_eqb}
-use Rattle.std.proofs.lemmas.List.{take-append-drop, drop_more, get_or-take, length-take-le}
-use Rattle.std.proofs.lemmas.List.Elements.{All-from_get_or}
-use Rattle.std.proofs.lemmas.List.Splits.{slice_split_at, slice_split_none}
+use Rattle.ip_spec.proofs.Common.{◌≡◌, ◌≢◌, ℕ, ◌+◌, ◌<◌, List, ◌∷◌, [], ◌++◌, length, take, drop, get_or, false, refl, sym, ap, ◌∙◌, subst, arith, slice_split, eq-eqb, ne_eqb, take-append-drop, drop_more, get_or-take, length-take-le, All-from_get_or, slice_split_at, slice_split_none}
+use Rattle.std.proofs.Common.{◌==◌}
+use Rattle.std.specs.List.{All}
 
 module _ (separator : ℕ) (xs : List ℕ) where
   -- no part ends where no byte is the separator

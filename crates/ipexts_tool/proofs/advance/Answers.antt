@@ -1,6 +1,4 @@
-use Rattle.std.proofs.Common.{[], take, ap, ◌∙◌, lit≤}
-use Rattle.std.proofs.KnownBytes.{Appends-kept, Consumes-nil, Consumes-kept}
-use Rattle.std.proofs.lemmas.List.{take-take}
+use Rattle.ip_spec.proofs.Common.{[], take, ap, ◌∙◌, lit≤, Appends-kept, Consumes-nil, Consumes-kept, take-take}
 use Rattle.ipexts_tool.specs.OpenLine.{kept_len}
 use Rattle.ipexts_tool.proofs.ProgressLemmas.{Advances-none, read_none}
 use Rattle.ipexts_tool.proofs.advance.Goals as goal

@@ -1,6 +1,4 @@
-use Rattle.std.proofs.Common.{rules, []}
-use Rattle.std.proofs.KnownBytes.{Consumes-nil}
-use Rattle.std.proofs.lemmas.Result.{err_from_is_err_and, on_ok_weaker, IfErr-weaker}
+use Rattle.ip_spec.proofs.Common.{rules, [], Consumes-nil, err_from_is_err_and, on_ok_weaker, IfErr-weaker}
 use Rattle.ipexts_tool.proofs.MemoryLemmas.{IfMemory-weaker}
 use Rattle.ipexts_tool.proofs.ProgressLemmas.{Advances-none, Advances-trans, Advances-answers, StopsWithin-answers, StopsWithin-none}
 use Rattle.ipexts_tool.proofs.run.Goals as goal

@@ -1,4 +1,4 @@
-use Rattle.std.proofs.Common.{[]}
+use Rattle.ip_spec.proofs.Common.{[]}
 use Rattle.ipexts_tool.specs.Progress.{Advances}
 use Rattle.ipexts_tool.proofs.run.Given as goal
 

@@ -1,5 +1,4 @@
-use Rattle.std.proofs.Common.{◌≡◌, ◌∙◌, ap, length, ◌%◌, arith}
-use Rattle.std.specs.Net.Addr.{octets_of, segments_of}
+use Rattle.ip_spec.proofs.Common.{◌≡◌, ◌∙◌, ap, length, ◌%◌, arith, octets_of, segments_of}
 use Rattle.ip_base.proofs.AddressLemmas.{octets_of-segments_of}
 use Rattle.ip_base.proofs.ipv6_header_slice.address.Goals as goal
 

@@ -1,5 +1,4 @@
-use Rattle.std.proofs.Common.{◌≡◌, ◌++◌, ◌+◌, ◌≤◌, length, take, drop}
-use Rattle.ip_spec.specs.Chain.{bytes_of}
+use Rattle.ip_spec.proofs.Common.{◌≡◌, ◌++◌, ◌+◌, ◌≤◌, length, take, drop, bytes_of}
 use Rattle.ip_ext_slices.specs.Ipv6ExtensionsSlice.{bytes, headers_in}
 use Rattle.ip_ext_slices.specs.Ipv6ExtensionSliceIter.{headers_left}
 use Rattle.ip_cuts.specs.HeaderCut.{cuts_from, filled}

@@ -1,4 +1,4 @@
-use Rattle.std.proofs.Common.{◌≡◌, ◌≤◌, length, take, drop}
+use Rattle.ip_spec.proofs.Common.{◌≡◌, ◌≤◌, length, take, drop}
 use Rattle.ip_cuts.specs.LinkedCuts.{first_number, linked_cuts}
 use Rattle.ip_cuts.proofs.links.link_headers.Given as goal
 

@@ -1,4 +1,4 @@
-use Rattle.std.proofs.Common.{subst}
+use Rattle.ip_spec.proofs.Common.{subst}
 use Rattle.etherparse_ip.specs.IpSlice.{IsIpPacket}
 use Rattle.ip_cuts.proofs.PacketCutLemmas.{cut_of_ipv4, cut_of_ipv6, ipv6_within}
 use Rattle.ip_cuts.proofs.packet_cut.cut_packet.Goals as goal

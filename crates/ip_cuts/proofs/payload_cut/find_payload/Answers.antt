@@ -1,4 +1,4 @@
-use Rattle.std.proofs.Common.{◌∙◌, subst}
+use Rattle.ip_spec.proofs.Common.{◌∙◌, subst}
 use Rattle.etherparse_ip.specs.IpSlice.{IsIpPacket}
 use Rattle.ip_cuts.specs.PacketCut.{payload_cut}
 use Rattle.ip_cuts.proofs.PacketCutLemmas.{in_ipv4, in_ipv6, ipv6_within}

@@ -1,4 +1,4 @@
-use Rattle.std.proofs.Common.{◌∙◌}
+use Rattle.ip_spec.proofs.Common.{◌∙◌}
 use Rattle.ip_cuts.specs.PacketCut.{payload_cut}
 use Rattle.ip_cuts.proofs.PacketCutLemmas.{in_ipv6, ipv6_within}
 use Rattle.ip_cuts.proofs.payload_cut.find_payload_lax.Goals as goal

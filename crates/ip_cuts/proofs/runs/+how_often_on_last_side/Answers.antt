@@ -1,4 +1,4 @@
-use Rattle.std.proofs.Common.{◌∙◌, rules}
+use Rattle.ip_spec.proofs.Common.{◌∙◌, rules}
 use Rattle.ip_cuts.specs.InPlaces.{cut_numbers}
 use Rattle.ip_cuts.proofs.RunLemmas.{one_side}
 use Rattle.ip_cuts.proofs.runs.+how_often_on_last_side.Goals as goal

@@ -1,4 +1,4 @@
-use Rattle.std.proofs.Common.{length}
+use Rattle.ip_spec.proofs.Common.{length}
 use Rattle.ip_cuts.proofs.runs.+how_often_on_last_side.Given as goal
 
 abbrev pub decreases-how_often_on_last_side : goal.decreases-how_often_on_last_side

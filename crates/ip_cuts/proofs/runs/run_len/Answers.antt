@@ -1,5 +1,4 @@
-use Rattle.std.proofs.Common.{◌≡◌, sym, ◌∙◌, true, false, subst, List, rules}
-use Rattle.std.proofs.lemmas.List.{take_more}
+use Rattle.ip_spec.proofs.Common.{◌≡◌, sym, ◌∙◌, true, false, subst, List, rules, take_more}
 use Rattle.ip_cuts.specs.InPlaces.{AreInPlaces}
 use Rattle.ip_cuts.specs.declared.header_cut.HeaderCut.{HeaderCut}
 use Rattle.ip_spec.proofs.DemandLemmas.{kept_first}

@@ -1,4 +1,4 @@
-use Rattle.std.proofs.Common.{take}
+use Rattle.ip_spec.proofs.Common.{take}
 use Rattle.ip_cuts.specs.InPlaces.{AreInPlaces}
 use Rattle.ip_cuts.proofs.runs.run_len.Given as goal
 

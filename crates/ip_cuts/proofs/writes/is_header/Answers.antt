@@ -1,4 +1,4 @@
-use Rattle.std.proofs.Common.{rules}
+use Rattle.ip_spec.proofs.Common.{rules}
 use Rattle.ip_cuts.proofs.WrittenLemmas.{none_at_end}
 use Rattle.ip_cuts.proofs.writes.is_header.Goals as goal
 

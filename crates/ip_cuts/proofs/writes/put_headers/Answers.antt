@@ -1,4 +1,4 @@
-use Rattle.std.proofs.Common.{arith}
+use Rattle.ip_spec.proofs.Common.{arith}
 use Rattle.ip_cuts.proofs.WrittenLemmas.{putting_more}
 use Rattle.ip_cuts.proofs.writes.put_headers.Goals as goal
 

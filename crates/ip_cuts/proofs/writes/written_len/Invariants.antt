@@ -1,4 +1,4 @@
-use Rattle.std.proofs.Common.{◌≡◌, ◌+◌, length, drop}
+use Rattle.ip_spec.proofs.Common.{◌≡◌, ◌+◌, length, drop}
 use Rattle.ip_cuts.specs.Written.{AllLieIn, written_cuts}
 use Rattle.ip_cuts.proofs.writes.written_len.Given as goal
 

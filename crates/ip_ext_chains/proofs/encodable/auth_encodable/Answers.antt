@@ -1,7 +1,4 @@
-use Rattle.std.proofs.Common.{length, subst, arith, ap}
-use Rattle.ip_spec.specs.Fields.{AuthFields}
-use Rattle.ip_spec.specs.Lengths.{IsIcvLen}
-use Rattle.ip_spec.specs.Encoding.{AreBytes}
+use Rattle.ip_spec.proofs.Common.{length, subst, arith, ap, AuthFields, IsIcvLen, AreBytes}
 use Rattle.ip_spec.proofs.EncodedLemmas.{auth_encoded}
 use Rattle.ip_ext_chains.proofs.encodable.auth_encodable.Goals as goal
 

@@ -1,10 +1,4 @@
-use Rattle.std.proofs.Common.{ap, sym, ◌∙◌, subst}
-use Rattle.std.specs.Option.{option_map}
-use Rattle.std.proofs.lemmas.Option.{same_Some}
-use Rattle.ip_spec.specs.Numbers.{AUTHENTICATION}
-use Rattle.ip_spec.specs.Chain.{ExtHeader}
-use Rattle.ip_spec.specs.Places.{HeaderFields, auth_header}
-use Rattle.ip_spec.specs.Encodable.{IsEncoded}
+use Rattle.ip_spec.proofs.Common.{ap, sym, ◌∙◌, subst, option_map, same_Some, AUTHENTICATION, ExtHeader, HeaderFields, auth_header, IsEncoded}
 use Rattle.ip_ext_chains.proofs.encodable.auth_place_encodable.Goals as goal
 
 pub returns-in-Some : goal.returns-in-Some

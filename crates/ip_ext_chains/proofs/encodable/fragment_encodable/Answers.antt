@@ -1,5 +1,4 @@
-use Rattle.std.proofs.Common.{arith, ap}
-use Rattle.ip_spec.specs.Fields.{FragmentFields}
+use Rattle.ip_spec.proofs.Common.{arith, ap, FragmentFields}
 use Rattle.ip_spec.proofs.EncodedLemmas.{fragment_encoded}
 use Rattle.ip_ext_chains.proofs.encodable.fragment_encodable.Goals as goal
 

@@ -1,5 +1,4 @@
-use Rattle.std.proofs.Common.{arith}
-use Rattle.std.proofs.lemmas.List.{get_or_default}
+use Rattle.ip_spec.proofs.Common.{arith, get_or_default}
 use Rattle.ip_ext_chains.proofs.encodable.in_range.Goals as goal
 
 pub returns : goal.returns

@@ -1,7 +1,4 @@
-use Rattle.std.proofs.Common.{length, subst, arith, ap}
-use Rattle.ip_spec.specs.Fields.{RawFields}
-use Rattle.ip_spec.specs.Lengths.{IsPayloadLen}
-use Rattle.ip_spec.specs.Encoding.{AreBytes}
+use Rattle.ip_spec.proofs.Common.{length, subst, arith, ap, RawFields, IsPayloadLen, AreBytes}
 use Rattle.ip_spec.proofs.EncodedLemmas.{raw_encoded}
 use Rattle.ip_ext_chains.proofs.encodable.raw_encodable.Goals as goal
 

@@ -1,9 +1,4 @@
-use Rattle.std.proofs.Common.{ap, sym, ◌∙◌, subst}
-use Rattle.std.specs.Option.{option_map}
-use Rattle.std.proofs.lemmas.Option.{same_Some}
-use Rattle.ip_spec.specs.Chain.{ExtHeader}
-use Rattle.ip_spec.specs.Places.{HeaderFields, raw_header}
-use Rattle.ip_spec.specs.Encodable.{IsEncoded}
+use Rattle.ip_spec.proofs.Common.{ap, sym, ◌∙◌, subst, option_map, same_Some, ExtHeader, HeaderFields, raw_header, IsEncoded}
 use Rattle.ip_ext_chains.proofs.encodable.raw_place_encodable.Goals as goal
 
 pub returns-in-Some : goal.returns-in-Some

@@ -1,10 +1,4 @@
-use Rattle.std.proofs.Common.{ap, sym, ◌∙◌, subst, inl, inr, refl}
-use Rattle.std.specs.Option.{option_map}
-use Rattle.std.proofs.lemmas.Option.{same_Some}
-use Rattle.ip_spec.specs.Numbers.{ROUTING}
-use Rattle.ip_spec.specs.Chain.{ExtHeader}
-use Rattle.ip_spec.specs.Places.{HeaderFields, raw_header}
-use Rattle.ip_spec.specs.Encodable.{IsEncoded}
+use Rattle.ip_spec.proofs.Common.{ap, sym, ◌∙◌, subst, inl, inr, refl, option_map, same_Some, ROUTING, ExtHeader, HeaderFields, raw_header, IsEncoded}
 use Rattle.ip_ext_chains.specs.declared.ipv6_routing_exts.Ipv6RoutingExtensions.{Ipv6RoutingExtensions}
 use Rattle.ip_ext_chains.proofs.encodable.routing_encodable.Goals as goal
 

@@ -1,4 +1,4 @@
-use Rattle.std.proofs.Common.{arith}
+use Rattle.ip_spec.proofs.Common.{arith}
 use Rattle.ip_ext_chains.proofs.WalkedLemmas.{step_len}
 use Rattle.ip_ext_chains.proofs.ipv6_exts_write.append_next.Goals as goal
 

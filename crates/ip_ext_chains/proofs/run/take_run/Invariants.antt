@@ -1,4 +1,4 @@
-use Rattle.std.proofs.Common.{length}
+use Rattle.ip_spec.proofs.Common.{length}
 use Rattle.ip_ext_slices.specs.Ipv6ExtensionSliceIter.{headers_left}
 use Rattle.ip_ext_chains.proofs.RunLemmas.{IsPlacing}
 use Rattle.ip_ext_chains.proofs.run.take_run.Given as goal

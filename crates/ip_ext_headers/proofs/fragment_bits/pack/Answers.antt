@@ -1,4 +1,4 @@
-use Rattle.std.proofs.Common.{◌≡◌, refl, cond}
+use Rattle.ip_spec.proofs.Common.{◌≡◌, refl, cond}
 use Rattle.ip_spec.proofs.FragmentBitLemmas.{packed_reserved}
 use Rattle.ip_ext_headers.proofs.fragment_bits.pack.Goals.{then-more_fragments, else-more_fragments}
 use Rattle.ip_ext_headers.proofs.fragment_bits.pack.Goals as goal

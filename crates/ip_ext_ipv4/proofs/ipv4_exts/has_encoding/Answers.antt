@@ -1,7 +1,4 @@
-use Rattle.std.proofs.Common.{◌<◌, arith}
-use Rattle.std.proofs.lemmas.List.Elements.{All-from_get_or}
-use Rattle.ip_spec.specs.Fields.{AuthFields}
-use Rattle.ip_spec.specs.Encoding.{AreBytes, IsAuthEncoding}
+use Rattle.ip_spec.proofs.Common.{◌<◌, arith, All-from_get_or, AuthFields, AreBytes, IsAuthEncoding}
 use Rattle.ip_spec.proofs.EncodingLemmas.{auth_written, auth_written_encodes, auth_encoding-bytes}
 use Rattle.ip_ext_ipv4.proofs.ipv4_exts.has_encoding.Goals as goal
 

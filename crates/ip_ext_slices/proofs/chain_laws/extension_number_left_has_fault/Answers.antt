@@ -1,6 +1,5 @@
-use Rattle.std.proofs.Common.{length, drop}
+use Rattle.ip_spec.proofs.Common.{length, drop, leads_to, bytes_of, is_empty}
 use Rattle.ip_base.specs.declared.len_source.LenSource.TheVariants.{Slice}
-use Rattle.ip_spec.specs.Chain.{leads_to, bytes_of, is_empty}
 use Rattle.ip_spec.proofs.ChainLemmas.{longest_ends}
 use Rattle.ip_ext_slices.proofs.FaultLemmas.{fault_at_end}
 use Rattle.ip_ext_slices.proofs.chain_laws.extension_number_left_has_fault.Goals as goal

@@ -1,8 +1,4 @@
-use Rattle.std.proofs.Common.{ℕ, ◌<◌, ◌+◌, List, true, arith, ap, length}
-use Rattle.std.specs.Prelude.{Option, Some, None}
-use Rattle.std.specs.Io.KnownBytes.{Consumes}
-use Rattle.std.proofs.lemmas.List.{length-append}
-use Rattle.ip_spec.specs.Chain.{bytes_of}
+use Rattle.ip_spec.proofs.Common.{ℕ, ◌<◌, ◌+◌, List, true, arith, ap, length, Option, Some, None, Consumes, length-append, bytes_of}
 use Rattle.ip_io.specs.ExactRead.{IfSteady}
 use Rattle.ip_outcomes.proofs.read_outcomes.is_chain_cut.Goals as goal
 

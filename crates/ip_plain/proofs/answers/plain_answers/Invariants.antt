@@ -1,5 +1,4 @@
-use Rattle.std.proofs.Common.{◌≡◌, ◌++◌, map, drop}
-use Rattle.std.specs.Prelude.{string_bytes}
+use Rattle.ip_spec.proofs.Common.{◌≡◌, ◌++◌, map, drop, string_bytes}
 use Rattle.ipexts_tool.specs.Answers.{answers, answers_to}
 use Rattle.ip_plain.proofs.answers.plain_answers.Given as goal
 

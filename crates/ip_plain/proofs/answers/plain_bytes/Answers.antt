@@ -1,5 +1,4 @@
-use Rattle.std.proofs.Common.{rules, ◌<◌, ◌*◌, ◌+◌, length, sym, ◌∙◌, arith, []}
-use Rattle.std.proofs.lemmas.List.{drop_all}
+use Rattle.ip_spec.proofs.Common.{rules, ◌<◌, ◌*◌, ◌+◌, length, sym, ◌∙◌, arith, [], drop_all}
 use Rattle.ip_plain.proofs.AnswerLemmas.{SoFar, so_far-none, so_far-all, so_far-bad, so_far-more, bytes_of_hex-pairs}
 use Rattle.ip_plain.proofs.answers.plain_bytes.Goals as goal
 

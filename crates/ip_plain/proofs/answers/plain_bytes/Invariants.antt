@@ -1,4 +1,4 @@
-use Rattle.std.proofs.Common.{◌*◌, drop}
+use Rattle.ip_spec.proofs.Common.{◌*◌, drop}
 use Rattle.ip_plain.proofs.AnswerLemmas.{SoFar}
 use Rattle.ip_plain.proofs.answers.plain_bytes.Given as goal
 

@@ -1,6 +1,5 @@
-use Rattle.std.proofs.Common.{rules, sym, ap, ◌∙◌, ◌≡◌, ◌<◌, ℕ, List, ◌∷◌, [], ◌++◌, map, length, Bor, arith, refl}
-use Rattle.std.specs.List.{slice_split}
-use Rattle.std.proofs.lemmas.List.{map-append}
+use Rattle.ip_spec.proofs.Common.{rules, sym, ap, ◌∙◌, ◌≡◌, ◌<◌, ℕ, List, ◌∷◌, [], ◌++◌, map, length, arith, refl, slice_split, map-append}
+use Rattle.std.proofs.Common.{Bor}
 use Rattle.ipexts_tool.specs.Lines.{is_newline, without_empty_last}
 use Rattle.ip_plain.proofs.AnswerLemmas.{last_dropped, last_kept}
 use Rattle.ip_plain.proofs.answers.plain_lines.Goals as goal

@@ -1,4 +1,4 @@
-use Rattle.std.proofs.Common.{rules, sym, arith}
+use Rattle.ip_spec.proofs.Common.{rules, sym, arith}
 use Rattle.ipexts_tool.proofs.NumberLemmas.{number_of-some, number_of-none}
 use Rattle.ip_plain.proofs.answers.plain_number.Goals as goal
 

@@ -1,5 +1,4 @@
-use Rattle.std.proofs.Common.{◌≡◌, ◌<◌, ℕ}
-use Rattle.std.specs.Fmt.{decimal}
+use Rattle.ip_spec.proofs.Common.{◌≡◌, ◌<◌, ℕ, decimal}
 use Rattle.ip_plain.proofs.answers.plain_number.Given as goal
 
 -- no number so far has the text as its numeral

@@ -1,6 +1,4 @@
-use Rattle.std.proofs.Common.{rules, tests}
-use Rattle.std.proofs.lemmas.Iterator.Consumers.{map_from_collect}
-use Rattle.std.proofs.lemmas.Iterator.Splits.{YieldsList-from_slice_split}
+use Rattle.ip_spec.proofs.Common.{rules, tests, map_from_collect, YieldsList-from_slice_split}
 use Rattle.ip_plain.proofs.answers.plain_parts.Goals as goal
 
 pub returns : goal.returns

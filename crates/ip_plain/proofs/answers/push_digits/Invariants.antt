@@ -1,5 +1,4 @@
-use Rattle.std.proofs.Common.{◌≡◌, ◌++◌, drop}
-use Rattle.std.specs.Prelude.{string_bytes}
+use Rattle.ip_spec.proofs.Common.{◌≡◌, ◌++◌, drop, string_bytes}
 use Rattle.hex.specs.Hex.{encode_lower}
 use Rattle.ip_plain.proofs.answers.push_digits.Given as goal
 

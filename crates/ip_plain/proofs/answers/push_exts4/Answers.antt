@@ -1,6 +1,4 @@
-use Rattle.std.proofs.Common.{◌++◌, ℕ, List, length, get_or, ap, ◌∙◌, arith}
-use Rattle.std.specs.Prelude.{string_bytes}
-use Rattle.std.proofs.lemmas.Result.{on_ok_weaker}
+use Rattle.ip_spec.proofs.Common.{◌++◌, ℕ, List, length, get_or, ap, ◌∙◌, arith, string_bytes, on_ok_weaker}
 use Rattle.ipexts_tool.specs.Parts.{next_line, ok_line}
 use Rattle.ip_plain.proofs.Exts4Lemmas.{exts4_one, exts4_none, two_joined, three_joined}
 use Rattle.ip_plain.proofs.answers.push_exts4.Goals as goal

@@ -1,8 +1,6 @@
-use Rattle.std.proofs.Common.{arith, ◌≡◌, ◌-◌, map, length, ◌≤◌, length-drop, ap, ◌∙◌}
+use Rattle.ip_spec.proofs.Common.{arith, ◌≡◌, ◌-◌, map, length, ◌≤◌, ap, ◌∙◌, string_bytes, on_ok_weaker, bytes_of, is_empty}
+use Rattle.std.proofs.Common.{length-drop}
 use Rattle.ip_plain.proofs.Exts4Lemmas.{three_joined}
-use Rattle.std.specs.Prelude.{string_bytes}
-use Rattle.std.proofs.lemmas.Result.{on_ok_weaker}
-use Rattle.ip_spec.specs.Chain.{bytes_of, is_empty}
 use Rattle.ip_plain.specs.PlainHeader.{plain_header_of}
 use Rattle.ipexts_tool.specs.Parts.{chain_end_line}
 use Rattle.ip_plain.proofs.AnswerLemmas.{exts6_answer-longest, length-prefix, is_empty-shown}

@@ -1,6 +1,4 @@
-use Rattle.std.proofs.Common.{◌≡◌, ◌++◌, ◌+◌, length, map, drop}
-use Rattle.std.specs.Prelude.{string_bytes}
-use Rattle.ip_spec.specs.Chain.{bytes_of}
+use Rattle.ip_spec.proofs.Common.{◌≡◌, ◌++◌, ◌+◌, length, map, drop, string_bytes, bytes_of}
 use Rattle.ip_plain.specs.PlainHeader.{plain_header_of}
 use Rattle.ipexts_tool.specs.Parts.{header_lines}
 use Rattle.ip_plain.proofs.answers.push_headers.Given as goal

@@ -1,6 +1,4 @@
-use Rattle.std.proofs.Common.{ℕ, ◌<◌, List, length}
-use Rattle.ip_spec.specs.Header.{IsHeader}
-use Rattle.ip_spec.specs.Prefix.{IsPrefix}
+use Rattle.ip_spec.proofs.Common.{ℕ, ◌<◌, List, length, IsHeader, IsPrefix}
 use Rattle.ip_plain.proofs.chain.next_len.Given as goal
 
 -- no shorter header begins the bytes

@@ -1,8 +1,6 @@
-use Rattle.std.proofs.Common.{◌≡◌, ℕ, length, map, List, [], ◌∷◌, ◌++◌, refl, sym, ap, ◌∙◌, subst, Bool, drop, slice_index}
+use Rattle.ip_spec.proofs.Common.{◌≡◌, ℕ, length, map, List, [], ◌∷◌, ◌++◌, refl, sym, ap, ◌∙◌, subst, Bool, drop, slice_index, map-append, ExtHeader, is_empty, IsNext}
 use Rattle.ip_plain.proofs.AnswerLemmas.{is_empty-shown}
-use Rattle.std.proofs.lemmas.List.{map-append}
 use Rattle.ip_plain.specs.declared.chain.PlainHeader.{PlainHeader}
-use Rattle.ip_spec.specs.Chain.{ExtHeader, is_empty, IsNext}
 use Rattle.ip_plain.specs.PlainHeader.{plain_header_of}
 use Rattle.ip_spec.proofs.ReadLemmas.{HasRead, has_read_next, read_longest}
 use Rattle.ip_plain.proofs.chain.plain_longest_chain.Goals as goal

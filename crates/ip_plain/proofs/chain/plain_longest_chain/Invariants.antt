@@ -1,4 +1,4 @@
-use Rattle.std.proofs.Common.{length, map}
+use Rattle.ip_spec.proofs.Common.{length, map}
 use Rattle.ip_plain.specs.PlainHeader.{plain_header_of}
 use Rattle.ip_spec.proofs.ReadLemmas.{HasRead}
 use Rattle.ip_plain.proofs.chain.plain_longest_chain.Given as goal

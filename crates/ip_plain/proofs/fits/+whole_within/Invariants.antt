@@ -1,4 +1,4 @@
-use Rattle.std.proofs.Common.{length}
+use Rattle.ip_spec.proofs.Common.{length}
 use Rattle.ip_plain.proofs.fits.+whole_within.Given as goal
 
 abbrev pub decreases-whole_within : goal.decreases-whole_within

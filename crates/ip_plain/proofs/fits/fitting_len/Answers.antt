@@ -1,4 +1,4 @@
-use Rattle.std.proofs.Common.{◌≡◌, sym, ◌∙◌, true, false}
+use Rattle.ip_spec.proofs.Common.{◌≡◌, sym, ◌∙◌, true, false}
 use Rattle.ip_plain.proofs.FitsLemmas.{kept_of_plain}
 use Rattle.ip_plain.proofs.fits.fitting_len.Goals as goal
 

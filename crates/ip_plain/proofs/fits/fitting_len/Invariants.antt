@@ -1,5 +1,4 @@
-use Rattle.std.proofs.Common.{map, take}
-use Rattle.ip_spec.specs.Fits.{FitsPlaces}
+use Rattle.ip_spec.proofs.Common.{map, take, FitsPlaces}
 use Rattle.ip_plain.specs.PlainHeader.{plain_header_of}
 use Rattle.ip_plain.proofs.fits.fitting_len.Given as goal
 

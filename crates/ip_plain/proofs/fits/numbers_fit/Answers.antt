@@ -1,4 +1,4 @@
-use Rattle.std.proofs.Common.{rules}
+use Rattle.ip_spec.proofs.Common.{rules}
 use Rattle.ip_spec.proofs.NumbersFitLemmas.{told_by_numbers}
 use Rattle.ip_plain.proofs.fits.numbers_fit.Goals as goal
 

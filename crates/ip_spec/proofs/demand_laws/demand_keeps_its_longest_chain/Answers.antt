@@ -1,4 +1,4 @@
-use Rattle.ip_spec.specs.Demand.{Passes}
+use Rattle.ip_spec.proofs.Common.{Passes}
 use Rattle.ip_spec.proofs.UnderLemmas.{longest_keeps, kept_is_longest}
 use Rattle.ip_spec.proofs.demand_laws.demand_keeps_its_longest_chain.Goals as goal
 

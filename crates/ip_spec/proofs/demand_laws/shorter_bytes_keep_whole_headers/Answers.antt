@@ -1,4 +1,4 @@
-use Rattle.ip_spec.specs.Demand.{Passes}
+use Rattle.ip_spec.proofs.Common.{Passes}
 use Rattle.ip_spec.proofs.ShorterLemmas.{longest_shorter}
 use Rattle.ip_spec.proofs.demand_laws.shorter_bytes_keep_whole_headers.Goals as goal
 

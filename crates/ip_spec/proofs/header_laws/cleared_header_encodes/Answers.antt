@@ -1,5 +1,4 @@
-use Rattle.std.proofs.Common.{refl}
-use Rattle.ip_spec.specs.Header.{fragment, auth}
+use Rattle.ip_spec.proofs.Common.{refl, fragment, auth}
 use Rattle.ip_spec.proofs.ClearedLemmas.{cleared_encodes}
 use Rattle.ip_spec.proofs.header_laws.cleared_header_encodes.Goals as goal
 

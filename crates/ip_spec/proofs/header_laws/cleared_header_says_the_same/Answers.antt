@@ -1,5 +1,4 @@
-use Rattle.std.proofs.Common.{refl}
-use Rattle.ip_spec.specs.Header.{fragment, auth}
+use Rattle.ip_spec.proofs.Common.{refl, fragment, auth}
 use Rattle.ip_spec.proofs.HeaderLemmas.{fragment_of, auth_of}
 use Rattle.ip_spec.proofs.ClearedLemmas.{cleared_same}
 use Rattle.ip_spec.proofs.EncodedLemmas.{same_fragment, same_auth}

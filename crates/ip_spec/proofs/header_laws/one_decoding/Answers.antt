@@ -1,5 +1,4 @@
-use Rattle.std.proofs.Common.{refl, inl}
-use Rattle.ip_spec.specs.Header.{raw, fragment, auth}
+use Rattle.ip_spec.proofs.Common.{refl, inl, raw, fragment, auth}
 use Rattle.ip_spec.proofs.EncodingLemmas.{one_decoding_of}
 use Rattle.ip_spec.proofs.header_laws.one_decoding.Goals as goal
 

@@ -1,4 +1,4 @@
-use Rattle.ip_spec.specs.Places.{raw_header, fragment_header, auth_header}
+use Rattle.ip_spec.proofs.Common.{raw_header, fragment_header, auth_header}
 use Rattle.ip_spec.proofs.EncodedLemmas.{one_encoded}
 use Rattle.ip_spec.proofs.header_laws.one_encoding.Goals as goal
 

@@ -1,4 +1,4 @@
-use Rattle.std.proofs.Common.{◌≡◌, ◌+◌, length}
+use Rattle.ip_spec.proofs.Common.{◌≡◌, ◌+◌, length}
 use Rattle.ip_ext_slices.specs.Longest.{longest_chain}
 use Rattle.ip_ext_slices.specs.Ipv6ExtensionsCursor.{start, input, headers_left}
 use Rattle.ip_uses.proofs.chains.count_and_payload.Given as goal

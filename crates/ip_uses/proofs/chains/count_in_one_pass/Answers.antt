@@ -1,4 +1,4 @@
-use Rattle.std.proofs.lemmas.Iterator.Consumers.{count_from_yields_List}
+use Rattle.ip_spec.proofs.Common.{count_from_yields_List}
 use Rattle.ip_ext_slices.proofs.ParseLemmas.{cursor_yields}
 use Rattle.ip_uses.proofs.chains.count_in_one_pass.Goals as goal
 

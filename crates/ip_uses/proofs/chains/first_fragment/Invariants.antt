@@ -1,8 +1,4 @@
-use Rattle.std.proofs.Common.{◌≡◌}
-use Rattle.std.specs.Prelude.{◌==◌}
-use Rattle.std.specs.List.{find}
-use Rattle.ip_spec.specs.Chain.{ExtHeader}
-use Rattle.ip_spec.specs.Numbers.{FRAGMENT}
+use Rattle.ip_spec.proofs.Common.{◌≡◌, ◌==◌, find, ExtHeader, FRAGMENT}
 use Rattle.ip_ext_slices.specs.Longest.{longest_chain}
 use Rattle.ip_ext_slices.specs.Ipv6ExtensionsCursor.{headers_left}
 use Rattle.ip_uses.proofs.chains.first_fragment.Given as goal

@@ -1,4 +1,4 @@
-use Rattle.std.proofs.Common.{arith}
+use Rattle.ip_spec.proofs.Common.{arith}
 use Rattle.ip_uses.proofs.FirstLemmas.{one_taken, all_taken, enough_taken, first_are_longest}
 use Rattle.ip_uses.proofs.chains.first_headers.Goals as goal
 

@@ -1,5 +1,4 @@
-use Rattle.std.proofs.Common.{◌≡◌, ◌++◌}
-use Rattle.ip_spec.specs.Chain.{bytes_of}
+use Rattle.ip_spec.proofs.Common.{◌≡◌, ◌++◌, bytes_of}
 use Rattle.ip_ext_slices.specs.Ipv6ExtensionsSlice.{bytes}
 use Rattle.ip_ext_slices.specs.Ipv6ExtensionSliceIter.{headers_left}
 use Rattle.ip_uses.proofs.chains.joined.Given as goal

@@ -1,5 +1,4 @@
-use Rattle.std.proofs.Common.{ap, sym, ◌∙◌, length, arith}
-use Rattle.std.proofs.lemmas.Bool.{leb-true, le-leb}
+use Rattle.ip_spec.proofs.Common.{ap, sym, ◌∙◌, length, arith, leb-true, le-leb}
 use Rattle.ip_uses.proofs.WithinLemmas.{all_within}
 use Rattle.ip_uses.proofs.chains.keeps_all_headers.Goals as goal
 

@@ -1,7 +1,4 @@
-use Rattle.std.proofs.Common.{ap, ◌∙◌}
-use Rattle.std.specs.Prelude.{Option}
-use Rattle.std.specs.Option.{option_map}
-use Rattle.ip_spec.specs.Fields.{AuthFields}
+use Rattle.ip_spec.proofs.Common.{ap, ◌∙◌, Option, option_map, AuthFields}
 use Rattle.ip_uses.proofs.ipv4.put_before.Goals as goal
 
 pub returns-in-Ok-clause-read : goal.returns-in-Ok-clause-read

@@ -1,5 +1,4 @@
-use Rattle.std.proofs.Common.{ap}
-use Rattle.std.specs.Prelude.{Err}
+use Rattle.ip_spec.proofs.Common.{ap, Err}
 use Rattle.ip_ext_chains.proofs.RefusedLemmas.{no_fault}
 use Rattle.ip_uses.proofs.places.put_in_order.Goals as goal
 

@@ -1,4 +1,4 @@
-use Rattle.std.proofs.KnownBytes.{Consumes-trans}
+use Rattle.ip_spec.proofs.Common.{Consumes-trans}
 use Rattle.ip_uses.proofs.readers.read_options_and_auth.Goals as goal
 
 pub returns-in-Ok-read : goal.returns-in-Ok-read

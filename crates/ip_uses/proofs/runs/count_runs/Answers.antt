@@ -1,6 +1,4 @@
-use Rattle.std.proofs.Common.{◌∙◌}
-use Rattle.std.proofs.lemmas.List.{length-map}
-use Rattle.std.proofs.lemmas.Iterator.Consumers.{count_from_yields_List}
+use Rattle.ip_spec.proofs.Common.{◌∙◌, length-map, count_from_yields_List}
 use Rattle.ip_ext_chains.specs.Ipv6Extensions.{value_of}
 use Rattle.ip_ext_chains.specs.RunsOf.{runs_of}
 use Rattle.ip_ext_chains.proofs.RunLemmas.{runs_yield}

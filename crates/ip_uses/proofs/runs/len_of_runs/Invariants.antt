@@ -1,4 +1,4 @@
-use Rattle.std.proofs.Common.{◌≡◌}
+use Rattle.ip_spec.proofs.Common.{◌≡◌}
 use Rattle.ip_ext_chains.specs.Ipv6ExtensionsRuns.{start, input}
 use Rattle.ip_uses.proofs.runs.len_of_runs.Given as goal
 

@@ -1,4 +1,4 @@
-use Rattle.std.proofs.lemmas.Iterator.{items_from_collect}
+use Rattle.ip_spec.proofs.Common.{items_from_collect}
 use Rattle.ip_ext_chains.proofs.RunLemmas.{runs_yield}
 use Rattle.ip_uses.proofs.runs.list_runs.Goals as goal
 

@@ -1,4 +1,4 @@
-use Rattle.std.proofs.Common.{ap, sym, ◌∙◌, refl}
+use Rattle.ip_spec.proofs.Common.{ap, sym, ◌∙◌, refl}
 use Rattle.ip_cuts.specs.PacketCut.{packet_fault}
 use Rattle.ipexts_c.proofs.packets.wolfaren_cut_packet.Goals as goal
 

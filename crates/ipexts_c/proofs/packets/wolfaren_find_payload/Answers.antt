@@ -1,5 +1,4 @@
-use Rattle.std.proofs.Common.{ap, sym, ◌∙◌, refl}
-use Rattle.std.specs.Prelude.{Some}
+use Rattle.ip_spec.proofs.Common.{ap, sym, ◌∙◌, refl, Some}
 use Rattle.ip_cuts.specs.PacketCut.{packet_fault}
 use Rattle.ipexts_c.proofs.packets.wolfaren_find_payload.Goals as goal
 

@@ -1,5 +1,4 @@
-use Rattle.std.proofs.Common.{◌≡◌, ◌++◌, ◌+◌, length}
-use Rattle.std.specs.Prelude.{string_bytes}
+use Rattle.ip_spec.proofs.Common.{◌≡◌, ◌++◌, ◌+◌, length, string_bytes}
 use Rattle.ip_ext_chains.specs.Chain.{bytes_of}
 use Rattle.ip_ext_slices.specs.Ipv6ExtensionsSlice.{headers_in, bytes}
 use Rattle.ip_ext_slices.specs.Ipv6ExtensionSliceIter.{headers_left}

@@ -1,4 +1,4 @@
-use Rattle.std.proofs.Common.{◌++◌}
+use Rattle.ip_spec.proofs.Common.{◌++◌}
 use Rattle.ipexts_tool.proofs.OpenLineLemmas.{answer_of-take}
 use Rattle.ipexts_tool.proofs.feed.end_line.Goals as goal
 

@@ -1,5 +1,5 @@
-use Rattle.std.proofs.Common.{◌≡◌, ◌++◌, ◌∷◌, [], ℕ, List, length, append_assoc, append-nil, rules}
-use Rattle.std.proofs.lemmas.Result.{err_from_is_err_and}
+use Rattle.ip_spec.proofs.Common.{◌≡◌, ◌++◌, ◌∷◌, [], ℕ, List, length, append_assoc, rules, err_from_is_err_and}
+use Rattle.std.proofs.Common.{append-nil}
 use Rattle.ipexts_tool.specs.OpenLine.{ended_lines}
 use Rattle.ipexts_tool.proofs.OpenLineLemmas.{ended_lines-found, open_line-found, ended_lines-absent, open_line-absent}
 use Rattle.ipexts_tool.proofs.MemoryLemmas.{IfMemory-weaker}

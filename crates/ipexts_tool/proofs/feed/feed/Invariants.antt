@@ -1,5 +1,4 @@
-use Rattle.std.proofs.Common.{◌≡◌, List, ℕ, ◌++◌, length}
-use Rattle.std.specs.Io.KnownBytes.{Appends}
+use Rattle.ip_spec.proofs.Common.{◌≡◌, List, ℕ, ◌++◌, length, Appends}
 use Rattle.ipexts_tool.specs.Answers.{answers_to}
 use Rattle.ipexts_tool.specs.OpenLine.{ended_lines, open_line}
 use Rattle.ipexts_tool.proofs.feed.feed.Given as goal

@@ -1,4 +1,4 @@
-use Rattle.std.proofs.Common.{rules}
+use Rattle.ip_spec.proofs.Common.{rules}
 use Rattle.ipexts_tool.specs.OpenLine.{kept_len}
 use Rattle.ipexts_tool.proofs.OpenLineLemmas.{take-room}
 use Rattle.ipexts_tool.proofs.feed.keep.Goals as goal

@@ -1,4 +1,4 @@
-use Rattle.std.proofs.Common.{◌∙◌, sym}
+use Rattle.ip_spec.proofs.Common.{◌∙◌, sym}
 use Rattle.ipexts_tool.proofs.LineFieldLemmas.{bytes_alone-one}
 use Rattle.ipexts_tool.proofs.line_fields.parse_hex_alone.Goals as goal
 

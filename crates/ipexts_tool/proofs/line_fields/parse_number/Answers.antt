@@ -1,5 +1,4 @@
-use Rattle.std.proofs.Common.{rules, ◌+◌, sym, arith}
-use Rattle.std.proofs.lemmas.List.{take_all}
+use Rattle.ip_spec.proofs.Common.{rules, ◌+◌, sym, arith, take_all}
 use Rattle.ipexts_tool.proofs.NumberLemmas.{number_of-empty, number_of-leading_zero, number_of-other_byte, number_of-too_large, number_of-digits, digits_value-next, AllDigits-next}
 use Rattle.ipexts_tool.proofs.line_fields.parse_number.Goals as goal
 

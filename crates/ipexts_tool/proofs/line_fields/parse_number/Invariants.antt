@@ -1,5 +1,4 @@
-use Rattle.std.proofs.Common.{◌≡◌, ◌<◌, take}
-use Rattle.std.specs.Str.Parse.{AllDigits, digits_value}
+use Rattle.ip_spec.proofs.Common.{◌≡◌, ◌<◌, take, AllDigits, digits_value}
 use Rattle.ipexts_tool.proofs.line_fields.parse_number.Given as goal
 
 -- the bytes so far are digits, and the number is their value, which fits a byte

@@ -1,4 +1,5 @@
-use Rattle.std.proofs.Common.{rules, ◌≡◌, sym, Some, refl}
+use Rattle.ip_spec.proofs.Common.{rules, ◌≡◌, sym, refl}
+use Rattle.std.proofs.Common.{Some}
 use Rattle.ipexts_tool.specs.LineFields.{number_of}
 use Rattle.ipexts_tool.proofs.LineFieldLemmas.{number_and_bytes-two, option_zip-none}
 use Rattle.ipexts_tool.proofs.line_fields.parse_number_and_hex.Goals as goal

@@ -1,5 +1,4 @@
-use Rattle.std.proofs.Common.{rules}
-use Rattle.std.proofs.lemmas.List.{take_rest}
+use Rattle.ip_spec.proofs.Common.{rules, take_rest}
 use Rattle.ipexts_tool.proofs.SplitLemmas.{slice_split_absent, slice_split_found}
 use Rattle.ipexts_tool.proofs.line_fields.split_once.Goals as goal
 

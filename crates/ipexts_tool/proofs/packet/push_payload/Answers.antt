@@ -1,4 +1,4 @@
-use Rattle.std.proofs.Common.{append_assoc}
+use Rattle.ip_spec.proofs.Common.{append_assoc}
 use Rattle.ipexts_tool.proofs.packet.push_payload.Goals as goal
 
 pub returns : goal.returns

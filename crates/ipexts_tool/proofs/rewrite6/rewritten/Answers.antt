@@ -1,5 +1,4 @@
-use Rattle.std.proofs.Common.{◌∙◌, ◌++◌, arith, ap, sym}
-use Rattle.std.proofs.lemmas.List.{get_or_default}
+use Rattle.ip_spec.proofs.Common.{◌∙◌, ◌++◌, arith, ap, sym, get_or_default}
 use Rattle.ip_ext_chains.specs.Chain.{bytes_of}
 use Rattle.ip_ext_chains.specs.Encoding.{AreBytes, cleared_chain}
 use Rattle.ip_ext_chains.specs.Fitting.{fitting_chain}

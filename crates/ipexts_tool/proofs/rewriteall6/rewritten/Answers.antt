@@ -1,4 +1,4 @@
-use Rattle.std.proofs.Common.{refl}
+use Rattle.ip_spec.proofs.Common.{refl}
 use Rattle.ip_ext_chains.proofs.RefusedLemmas.{spelled_refused}
 use Rattle.ip_ext_chains.proofs.RewritingLemmas.{rewriting_spelled, rewriting_goes}
 use Rattle.ipexts_tool.proofs.rewriteall6.rewritten.Goals as goal

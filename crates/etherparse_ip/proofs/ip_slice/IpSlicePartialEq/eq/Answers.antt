@@ -1,4 +1,4 @@
-use Rattle.std.proofs.Common.{rules}
+use Rattle.ip_spec.proofs.Common.{rules}
 use Rattle.etherparse_ip.proofs.PacketEqualLemmas.{same_packets}
 use Rattle.etherparse_ip.proofs.ip_slice.IpSlicePartialEq.eq.Goals as goal
 

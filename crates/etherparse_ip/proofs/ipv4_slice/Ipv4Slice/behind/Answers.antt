@@ -1,5 +1,5 @@
-use Rattle.std.proofs.Common.{◌∙◌, ap, sym, length, arith, Some, rules}
-use Rattle.std.specs.Option.{option_map}
+use Rattle.ip_spec.proofs.Common.{◌∙◌, ap, sym, length, arith, rules, option_map}
+use Rattle.std.proofs.Common.{Some}
 use Rattle.ip_base.specs.Ipv4HeaderSlice.{bytes}
 use Rattle.ip_base.specs.declared.len_source.LenSource.TheVariants.{Ipv4HeaderTotalLen}
 use Rattle.etherparse_ip.specs.PacketFault.{auth_in_packet}

@@ -1,4 +1,4 @@
-use Rattle.std.proofs.Common.{◌∙◌, sym, arith}
+use Rattle.ip_spec.proofs.Common.{◌∙◌, sym, arith}
 use Rattle.etherparse_ip.proofs.CutLemmas.{strict_fault_of_chain, stated_of_base}
 use Rattle.etherparse_ip.proofs.ipv6_slice.Ipv6Slice.behind.Goals as goal
 

@@ -1,5 +1,5 @@
-use Rattle.std.proofs.Common.{◌∙◌, ap, sym, length, arith, Some, rules}
-use Rattle.std.specs.Option.{option_map}
+use Rattle.ip_spec.proofs.Common.{◌∙◌, ap, sym, length, arith, rules, option_map}
+use Rattle.std.proofs.Common.{Some}
 use Rattle.ip_base.specs.Ipv6HeaderSlice.{bytes}
 use Rattle.etherparse_ip.specs.PacketFault.{exts_in_packet}
 use Rattle.etherparse_ip.proofs.CutLemmas.{AtIpv6, ipv6_packet, ipv6_behind_fault, behind-length}

@@ -1,4 +1,4 @@
-use Rattle.std.proofs.Common.{inl, inr, refl}
+use Rattle.ip_spec.proofs.Common.{inl, inr, refl}
 use Rattle.ip_ext_chains.proofs.PlacedFieldsLemmas.{encodable_where}
 use Rattle.ip_ext_chains.proofs.ipv6_exts.Ipv6Extensions.encodable.Goals as goal
 

@@ -1,4 +1,5 @@
-use Rattle.ip_spec.specs.Places.{fragment, authentication}
+use Rattle.ip_spec.proofs.Common.{authentication}
+use Rattle.ip_spec.specs.Places.{fragment}
 use Rattle.ip_ext_chains.proofs.ipv6_exts.Ipv6Extensions.fill.Goals as goal
 
 pub fragment-requires : goal.fragment-requires

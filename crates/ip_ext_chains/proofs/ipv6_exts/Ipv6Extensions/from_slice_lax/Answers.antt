@@ -1,4 +1,4 @@
-use Rattle.std.proofs.Common.{refl}
+use Rattle.ip_spec.proofs.Common.{refl}
 use Rattle.ip_ext_chains.proofs.FittingLemmas.{fitting_shorter, walked_numbers, walked_answer}
 use Rattle.ip_ext_chains.proofs.ipv6_exts.Ipv6Extensions.from_slice_lax.Goals as goal
 

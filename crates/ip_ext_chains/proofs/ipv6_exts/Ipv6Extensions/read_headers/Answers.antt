@@ -1,5 +1,4 @@
-use Rattle.std.proofs.Common.{◌≡◌, ◌∷◌, ◌++◌, refl, sym, ◌∙◌, arith, []}
-use Rattle.ip_spec.specs.Chain.{ExtHeader}
+use Rattle.ip_spec.proofs.Common.{◌≡◌, ◌∷◌, ◌++◌, refl, sym, ◌∙◌, arith, [], ExtHeader}
 use Rattle.ip_ext_chains.proofs.ReadingLemmas.{reading_next, nested, is_number_in, not_taken, fewer, later, zero_not_taken, no_place_answers}
 use Rattle.ip_ext_chains.proofs.ReadErrorLemmas.{taken_next, refused_as, refused_error}
 use Rattle.ip_ext_errors.specs.declared.ipv6_exts.header_error.HeaderError.TheVariants.{HopByHopNotAtStart}

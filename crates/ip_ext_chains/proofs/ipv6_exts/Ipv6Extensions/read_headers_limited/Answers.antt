@@ -1,5 +1,4 @@
-use Rattle.std.proofs.Common.{rules, ◌≡◌, ◌∷◌, ◌++◌, refl, sym, ◌∙◌, arith, []}
-use Rattle.ip_spec.specs.Chain.{ExtHeader}
+use Rattle.ip_spec.proofs.Common.{rules, ◌≡◌, ◌∷◌, ◌++◌, refl, sym, ◌∙◌, arith, [], ExtHeader}
 use Rattle.ip_ext_chains.proofs.ReadingLemmas.{reading_none, reading_next, nested, is_number_in, not_taken, fewer, later, zero_not_taken, no_place_answers, named}
 use Rattle.ip_ext_chains.proofs.ReadErrorLemmas.{layer_next, no_layer, layer_refused_as, layer_refused_error}
 use Rattle.ip_ext_errors.specs.declared.ipv6_exts.header_error.HeaderError.TheVariants.{HopByHopNotAtStart}

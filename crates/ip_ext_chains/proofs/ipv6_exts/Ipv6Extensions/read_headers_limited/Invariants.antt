@@ -1,5 +1,4 @@
-use Rattle.std.proofs.Common.{List}
-use Rattle.ip_spec.specs.Chain.{ExtHeader}
+use Rattle.ip_spec.proofs.Common.{List, ExtHeader}
 use Rattle.ip_ext_chains.specs.ChainReading.{AreTakenInLayers}
 use Rattle.ip_ext_chains.proofs.ReadingLemmas.{IsReading, free_places}
 use Rattle.ip_ext_chains.proofs.ipv6_exts.Ipv6Extensions.read_headers_limited.Given as goal

@@ -1,8 +1,5 @@
-use Rattle.std.proofs.Common.{◌≡◌, ◌<◌, ℕ, drop, refl, ap, sym, ◌∙◌, arith}
-use Rattle.std.specs.Option.{option_map}
-use Rattle.ip_spec.specs.Places.{hop_by_hop, destination, routing, fragment, authentication, final_destination, places, raw_header, fragment_header, auth_header}
-use Rattle.ip_spec.specs.Walk.{PlacedFields}
-use Rattle.ip_spec.specs.Links.{first_number, linked}
+use Rattle.ip_spec.proofs.Common.{◌≡◌, ℕ, drop, refl, ap, sym, ◌∙◌, arith, option_map, hop_by_hop, destination, routing, authentication, final_destination, places, raw_header, fragment_header, auth_header, PlacedFields, first_number, linked}
+use Rattle.ip_spec.specs.Places.{fragment}
 use Rattle.ip_spec.proofs.LinkLemmas.{linked_leads}
 use Rattle.ip_ext_chains.specs.Ipv6Extensions.{placed_fields}
 use Rattle.ip_ext_chains.specs.declared.ipv6_routing_exts.Ipv6RoutingExtensions.{Ipv6RoutingExtensions}

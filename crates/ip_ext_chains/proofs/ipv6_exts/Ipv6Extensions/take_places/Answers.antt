@@ -1,7 +1,4 @@
-use Rattle.std.proofs.Common.{ap, sym, ◌∙◌}
-use Rattle.std.proofs.lemmas.List.{take_rest}
-use Rattle.std.specs.Prelude.{None, if◌then◌else◌}
-use Rattle.ip_spec.specs.Chain.{bytes_of}
+use Rattle.ip_spec.proofs.Common.{ap, sym, ◌∙◌, take_rest, None, if◌then◌else◌, bytes_of}
 use Rattle.ip_ext_slices.proofs.LongestLemmas.{longest_chain-longest}
 use Rattle.ip_ext_chains.proofs.RunLemmas.{none_left, some_left}
 use Rattle.ip_ext_chains.proofs.FittingLemmas.{walk_stops, walk_ends}

@@ -1,5 +1,4 @@
-use Rattle.std.proofs.Common.{◌≡◌, subst, arith, ap, length, vec_capacity}
-use Rattle.ip_spec.specs.Walk.{leads}
+use Rattle.ip_spec.proofs.Common.{◌≡◌, subst, arith, ap, length, vec_capacity, leads}
 use Rattle.ip_ext_chains.specs.Ipv6Extensions.{placed_fields}
 use Rattle.ip_ext_chains.specs.Write.{IsWalkFault}
 use Rattle.ip_ext_chains.proofs.PlacedFieldsLemmas.{exts_sum}

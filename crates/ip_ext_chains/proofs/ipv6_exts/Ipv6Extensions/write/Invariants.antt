@@ -1,4 +1,4 @@
-use Rattle.std.proofs.Common.{◌≤◌, vec_capacity}
+use Rattle.ip_spec.proofs.Common.{◌≤◌, vec_capacity}
 use Rattle.ip_ext_chains.specs.Ipv6Extensions.{placed_fields}
 use Rattle.ip_ext_chains.proofs.WalkedLemmas.{Written, headers_left}
 use Rattle.ip_ext_chains.proofs.ipv6_exts.Ipv6Extensions.write.Given as goal

@@ -1,4 +1,4 @@
-use Rattle.std.proofs.Common.{◌∙◌, sym}
+use Rattle.ip_spec.proofs.Common.{◌∙◌, sym}
 use Rattle.ip_ext_slices.specs.Ipv6ExtensionSliceIter.{headers_left}
 use Rattle.ip_ext_slices.proofs.ParseLemmas.{chain_fault_is, len_behind}
 use Rattle.ip_ext_chains.proofs.RunsOfLemmas.{values_left-some}

@@ -1,6 +1,4 @@
-use Rattle.std.proofs.Common.{◌∙◌, arith, refl, ap, map}
-use Rattle.std.proofs.lemmas.List.{get_or_default}
-use Rattle.ip_spec.specs.Encoding.{AreBytes}
+use Rattle.ip_spec.proofs.Common.{◌∙◌, arith, refl, ap, map, get_or_default, AreBytes}
 use Rattle.ip_ext_chains.specs.Ipv6Extensions.{value_of}
 use Rattle.ip_ext_chains.proofs.RunsOfLemmas.{runs_from-are}
 use Rattle.ip_ext_chains.proofs.RunSpellingLemmas.{runs_spelled, spellings_written}

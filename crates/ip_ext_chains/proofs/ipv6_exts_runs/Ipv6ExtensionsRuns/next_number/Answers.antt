@@ -1,4 +1,4 @@
-use Rattle.std.proofs.Common.{◌∙◌, ap, sym, length, nat_eq}
+use Rattle.ip_spec.proofs.Common.{◌∙◌, ap, sym, length, nat_eq}
 use Rattle.ip_ext_slices.specs.Ipv6ExtensionSliceIter.{headers_left}
 use Rattle.ip_ext_slices.proofs.LongestLemmas.{longest_chain-longest}
 use Rattle.ip_ext_chains.specs.Ipv6ExtensionsRuns.{number_before}

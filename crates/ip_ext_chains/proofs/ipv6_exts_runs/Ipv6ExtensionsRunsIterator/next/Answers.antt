@@ -1,4 +1,4 @@
-use Rattle.std.proofs.Common.{refl, ap, length, arith}
+use Rattle.ip_spec.proofs.Common.{refl, ap, length, arith}
 use Rattle.ip_ext_slices.proofs.LongestLemmas.{longest_chain-longest}
 use Rattle.ip_ext_chains.proofs.RunLemmas.{run_numbers, run_next, run_passes}
 use Rattle.ip_ext_chains.proofs.RunNumberLemmas.{run_leads, ends_behind, bytes_behind}

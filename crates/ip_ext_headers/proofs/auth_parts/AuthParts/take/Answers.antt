@@ -1,6 +1,4 @@
-use Rattle.std.proofs.Common.{rules, arith, ◌≡◌, ◌-◌, ◌*◌, ◌++◌, length, List, ℕ, ◌∙◌, slice_index, refl, sym, []}
-use Rattle.std.proofs.KnownBytes.{Consumes-nil, Consumes-trans}
-use Rattle.ip_spec.specs.Requests.{AuthAsks, auth_start, auth_icv}
+use Rattle.ip_spec.proofs.Common.{rules, arith, ◌≡◌, ◌-◌, ◌*◌, ◌++◌, length, ◌∙◌, slice_index, refl, sym, [], Consumes-nil, Consumes-trans, AuthAsks, auth_start, auth_icv}
 use Rattle.ip_spec.proofs.RequestLemmas.{auth_joined, auth_joined_fields}
 use Rattle.ip_io.proofs.ReadingLemmas.{refused_behind, refused_short}
 use Rattle.ip_ext_headers.specs.AuthReading.{auth_slice_fault, IsTooShort}

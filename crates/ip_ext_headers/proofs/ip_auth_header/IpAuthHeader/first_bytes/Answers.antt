@@ -1,6 +1,4 @@
-use Rattle.std.proofs.Common.{arith}
-use Rattle.ip_spec.specs.Fields.{AuthFields}
-use Rattle.ip_spec.specs.Encoding.{IsAuthEncoding}
+use Rattle.ip_spec.proofs.Common.{arith, AuthFields, IsAuthEncoding}
 use Rattle.ip_spec.proofs.EncodingLemmas.{auth_written, auth_written_encodes}
 use Rattle.ip_ext_headers.proofs.ip_auth_header.IpAuthHeader.first_bytes.Goals as goal
 

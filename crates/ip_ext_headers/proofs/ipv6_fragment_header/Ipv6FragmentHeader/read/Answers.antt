@@ -1,6 +1,4 @@
-use Rattle.std.proofs.Common.{rules, refl, []}
-use Rattle.std.proofs.KnownBytes.{Consumes-nil}
-use Rattle.ip_spec.specs.Requests.{FragmentAsks, fragment_whole}
+use Rattle.ip_spec.proofs.Common.{rules, refl, [], Consumes-nil, FragmentAsks, fragment_whole}
 use Rattle.ip_io.specs.Reading.{IsRefused}
 use Rattle.ip_io.proofs.ReadingLemmas.{refused_behind}
 use Rattle.ip_ext_headers.proofs.ipv6_fragment_header.Ipv6FragmentHeader.read.Goals as goal

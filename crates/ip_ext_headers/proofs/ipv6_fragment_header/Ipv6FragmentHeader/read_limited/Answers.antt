@@ -1,7 +1,5 @@
-use Rattle.std.proofs.Common.{arith, ap, refl, sym, []}
-use Rattle.std.proofs.lemmas.Result.{err_from_is_err_and}
+use Rattle.ip_spec.proofs.Common.{arith, ap, refl, sym, [], err_from_is_err_and, FragmentAsks, fragment_whole}
 use Rattle.ip_base.specs.declared.err.layer.Layer.TheVariants.{Ipv6FragHeader}
-use Rattle.ip_spec.specs.Requests.{FragmentAsks, fragment_whole}
 use Rattle.ip_io.proofs.ReadingLemmas.{taken_none, taken_more, refused_in_layer}
 use Rattle.ip_ext_headers.proofs.ipv6_fragment_header.Ipv6FragmentHeader.read_limited.Goals as goal
 

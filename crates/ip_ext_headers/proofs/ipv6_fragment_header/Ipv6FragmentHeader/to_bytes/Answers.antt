@@ -1,6 +1,4 @@
-use Rattle.std.proofs.Common.{arith}
-use Rattle.ip_spec.specs.Header.{IsFragmentHeader}
-use Rattle.ip_spec.specs.Fields.{FragmentFields, fragment_fields}
+use Rattle.ip_spec.proofs.Common.{arith, IsFragmentHeader, FragmentFields, fragment_fields}
 use Rattle.ip_spec.proofs.EncodingLemmas.{fragment_encodes, encoding_is_decoded}
 use Rattle.ip_ext_headers.proofs.ipv6_fragment_header.Ipv6FragmentHeader.to_bytes.Goals as goal
 

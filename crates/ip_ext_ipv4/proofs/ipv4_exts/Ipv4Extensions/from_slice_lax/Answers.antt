@@ -1,7 +1,5 @@
-use Rattle.std.proofs.Common.{ℕ, ◌<◌, List, arith}
+use Rattle.ip_spec.proofs.Common.{ℕ, ◌<◌, List, arith, All-from_get_or, AreBytes}
 use Rattle.std.specs.Prelude.{slice_index_or}
-use Rattle.std.proofs.lemmas.List.Elements.{All-from_get_or}
-use Rattle.ip_spec.specs.Encoding.{AreBytes}
 use Rattle.ip_ext_ipv4.proofs.Ipv4Lemmas.{ipv4_longest-shorter}
 use Rattle.ip_ext_ipv4.proofs.Ipv4WalkLemmas.{cleared_encodes}
 use Rattle.ip_ext_ipv4.proofs.ipv4_exts.Ipv4Extensions.from_slice_lax.Goals as goal

@@ -1,7 +1,4 @@
-use Rattle.std.proofs.Common.{◌≡◌, ◌∙◌, sym, ap, subst, rules}
-use Rattle.std.specs.Prelude.{Option, Some, None}
-use Rattle.std.proofs.lemmas.Option.{same_Some}
-use Rattle.ip_spec.specs.Fields.{AuthFields}
+use Rattle.ip_spec.proofs.Common.{◌≡◌, ◌∙◌, sym, ap, subst, rules, Option, Some, None, same_Some, AuthFields}
 use Rattle.ip_ext_ipv4.specs.Ipv4Walk.{ipv4_walk}
 use Rattle.ip_ext_ipv4.proofs.Ipv4WalkLemmas.{IsEncoded, walk_read}
 use Rattle.ip_ext_ipv4.proofs.ipv4_exts.Ipv4Extensions.next_header.Goals as goal

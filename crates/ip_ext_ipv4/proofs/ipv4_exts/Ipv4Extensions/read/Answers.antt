@@ -1,6 +1,4 @@
-use Rattle.std.proofs.Common.{ap, arith, []}
-use Rattle.std.proofs.KnownBytes.{Consumes-nil}
-use Rattle.ip_spec.specs.Fields.{AuthFields}
+use Rattle.ip_spec.proofs.Common.{ap, arith, [], Consumes-nil, AuthFields}
 use Rattle.ip_ext_ipv4.proofs.Ipv4ReadingLemmas.{none_answers, one_answers, fault_same}
 use Rattle.ip_ext_ipv4.proofs.ipv4_exts.Ipv4Extensions.read.Goals as goal
 

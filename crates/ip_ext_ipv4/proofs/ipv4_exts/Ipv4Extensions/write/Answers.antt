@@ -1,5 +1,4 @@
-use Rattle.std.proofs.Common.{sym, arith, []}
-use Rattle.std.proofs.lemmas.List.{append-nil}
+use Rattle.ip_spec.proofs.Common.{sym, arith, [], append-nil}
 use Rattle.ip_ext_ipv4.proofs.Ipv4WalkLemmas.{one_ipv4_encoding, one_ipv4_encoded, none_encodes, one_encodes, written, encoding_read, encoding_read_again}
 use Rattle.ip_ext_ipv4.proofs.ipv4_exts.Ipv4Extensions.write.Goals as goal
 

@@ -1,5 +1,4 @@
-use Rattle.std.proofs.Common.{refl, arith, rules}
-use Rattle.std.proofs.lemmas.List.{take_rest}
+use Rattle.ip_spec.proofs.Common.{refl, arith, rules, take_rest}
 use Rattle.ip_ext_ipv4.proofs.Ipv4Lemmas.{answer_of_one}
 use Rattle.ip_ext_ipv4.proofs.ipv4_exts_slice.Ipv4ExtensionsSlice.from_slice.Goals as goal
 

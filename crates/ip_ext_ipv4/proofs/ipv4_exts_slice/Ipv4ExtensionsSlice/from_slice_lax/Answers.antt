@@ -1,6 +1,4 @@
-use Rattle.std.proofs.Common.{refl, sym, ap, ◌∙◌, arith}
-use Rattle.std.proofs.lemmas.List.{take_rest}
-use Rattle.ip_spec.specs.Chain.{headers_within}
+use Rattle.ip_spec.proofs.Common.{refl, sym, ap, ◌∙◌, arith, take_rest, headers_within}
 use Rattle.ip_ext_ipv4.proofs.Ipv4Lemmas.{ipv4_longest-shorter, answer_of_one, answer_of_fault}
 use Rattle.ip_ext_ipv4.proofs.ipv4_exts_slice.Ipv4ExtensionsSlice.from_slice_lax.Goals as goal
 

@@ -1,4 +1,4 @@
-use Rattle.std.proofs.Common.{ap, length, arith, ◌∙◌, sym}
+use Rattle.ip_spec.proofs.Common.{ap, length, arith, ◌∙◌, sym}
 use Rattle.ip_ext_slices.proofs.LongestLemmas.{whole_goes_on, whole_cut, some_where_next}
 use Rattle.ip_ext_slices.proofs.ipv6_ext_slice_iter.Ipv6ExtensionSliceIterIterator.next.Goals as goal
 

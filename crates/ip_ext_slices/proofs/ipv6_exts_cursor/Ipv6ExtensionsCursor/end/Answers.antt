@@ -1,7 +1,5 @@
-use Rattle.std.proofs.Common.{◌≡◌, ◌∷◌, sym, ◌∙◌, true, false, []}
-use Rattle.std.specs.Prelude.{None}
+use Rattle.ip_spec.proofs.Common.{◌≡◌, ◌∷◌, sym, ◌∙◌, true, false, [], None, IsExtensionNumber}
 use Rattle.ip_base.specs.declared.len_source.LenSource.TheVariants.{Slice}
-use Rattle.ip_spec.specs.Header.{IsExtensionNumber}
 use Rattle.ip_ext_slices.proofs.FaultLemmas.{fault_at_end, end_at_other, no_fault_at_other}
 use Rattle.ip_ext_slices.proofs.LongestLemmas.{longest_from-end, longest_from-next}
 use Rattle.ip_ext_slices.proofs.ParseLemmas.{cursor_at_end}

@@ -1,4 +1,5 @@
-use Rattle.std.specs.Prelude.{length, ◌==◌}
+use Rattle.ip_spec.proofs.Common.{◌==◌}
+use Rattle.std.specs.Prelude.{length}
 use Rattle.ip_ext_slices.proofs.LongestLemmas.{longest_from-least}
 use Rattle.ip_ext_slices.proofs.ipv6_exts_cursor.Ipv6ExtensionsCursor.new.Goals as goal
 

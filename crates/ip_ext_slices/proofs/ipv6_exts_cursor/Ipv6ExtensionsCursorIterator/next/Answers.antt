@@ -1,4 +1,4 @@
-use Rattle.std.proofs.Common.{refl, sym, ap, length, arith, ◌∙◌}
+use Rattle.ip_spec.proofs.Common.{refl, sym, ap, length, arith, ◌∙◌}
 use Rattle.ip_ext_slices.proofs.LongestLemmas.{goes_behind, longest_from-end}
 use Rattle.ip_ext_slices.proofs.ipv6_exts_cursor.Ipv6ExtensionsCursorIterator.next.Goals as goal
 

@@ -1,5 +1,4 @@
-use Rattle.std.proofs.Common.{◌∙◌, sym, ap}
-use Rattle.ip_spec.specs.Chain.{bytes_of, has_fragmenting}
+use Rattle.ip_spec.proofs.Common.{◌∙◌, sym, ap, bytes_of, has_fragmenting}
 use Rattle.ip_ext_slices.proofs.ParseLemmas.{longest_taken, longest_own}
 use Rattle.ip_ext_slices.proofs.ipv6_exts_slice.Ipv6ExtensionsSlice.first.Goals as goal
 

@@ -1,4 +1,4 @@
-use Rattle.std.proofs.Common.{length}
+use Rattle.ip_spec.proofs.Common.{length}
 use Rattle.ip_ext_slices.proofs.ParseLemmas.{ParseState}
 use Rattle.ip_ext_slices.proofs.ipv6_exts_slice.Ipv6ExtensionsSlice.scan.Given as goal
 

@@ -1,4 +1,4 @@
-use Rattle.std.proofs.Common.{length, ap, arith}
+use Rattle.ip_spec.proofs.Common.{length, ap, arith}
 use Rattle.ip_ext_slices.specs.StartNumber.{start_number}
 use Rattle.ip_ext_slices.proofs.LongestLemmas.{longest_chain-least}
 use Rattle.ip_ext_slices.proofs.ipv6_exts_slice.Ipv6ExtensionsSliceIntoIterator.into_iter.Goals as goal

@@ -5,7 +5,7 @@
 # program ipcap, which needs libpcap; `make install PREFIX=/usr/local` installs all of it, and ipexts (DESTDIR=.. stands in
 # front of the paths); `make test-c` tests it, and the package in bindings/rust;
 # `make page` builds what page/index.html shows a packet with, and `make test-page` tests that page in Chromium;
-# `make mutants` tries the mutants of mutants/ (CRATE=NAME: those of one crate; ONLY=WORD: those whose names
+# `make mutants` tries the mutants of mutants/ (CRATE='NAME ..': those of these crates; ONLY=WORD: those whose names
 # have the word; JOBS=3: so many at a time); `make memory` refuses each allocation of the program in turn. `make bench` measures (`make
 # bench-border` alone what is called through C) and `make diff` compares against etherparse 0.19.0; `make diff-test`
 # tests the comparison; `make diff-fields` holds fragment headers against scapy's. `make cost` measures what a byte costs

@@ -11,6 +11,7 @@ ghost use Rattle.ip_ext_chains.specs.Place.{as_place};
 ghost use Rattle.ip_ext_chains.specs.Ipv6Extensions.{value_of, placed_fields};
 ghost use Rattle.ip_ext_chains.specs.ReadError.{IsSliceError};
 ghost use Rattle.ip_ext_chains.specs.ChainReading.{AreTaken, IsChainTaken, IsChainRefused, IsHeaderRefused, IsNextPlace, HasNoPlace, IsReadInto, IsHeaderRead, routing_fields};
+ghost use Rattle.ip_ext_chains.specs.ChainReadError.{io_of};
 
 use crate::err::ip_auth;
 use crate::err::ipv6_exts::{HeaderError, HeaderReadError};
@@ -40,6 +41,7 @@ impl Ipv6Extensions {
             IsChainRefused (AreTaken T.bytes_left T.is_steady T.has_failed)
             (IsHeaderRefused T.bytes_left T.is_steady T.has_failed e)
             reader.old reader.new start_ip_number.0) }
+        ensures own { IfErr result (λ e. IfSome (io_of e) (T.has_given reader.new)) }
         ensures fault { IfErr result (IsSliceError start_ip_number.0 (T.is_steady reader.old)
             (T.bytes_left reader.old)) }
         ensures steady { T.is_steady reader.new ≡ T.is_steady reader.old }
@@ -69,6 +71,7 @@ impl Ipv6Extensions {
             IsChainRefused (AreTaken T.bytes_left T.is_steady T.has_failed)
             (IsHeaderRefused T.bytes_left T.is_steady T.has_failed e)
             reader.old reader.new start_ip_number.0) }
+        ensures own { IfErr result (λ e. IfSome (io_of e) (T.has_given reader.new)) }
         ensures fault { IfErr result (IsSliceError start_ip_number.0 (T.is_steady reader.old)
             (T.bytes_left reader.old)) }
         ensures steady { T.is_steady reader.new ≡ T.is_steady reader.old }
@@ -140,6 +143,7 @@ impl Ipv6Extensions {
         ensures steady { T.is_steady reader.new ≡ T.is_steady reader.old }
         ensures refused { IfErr result (λ e. IsHeaderRefused T.bytes_left T.is_steady
             T.has_failed e true (number_in (as_place place)) reader.old reader.new) }
+        ensures own { IfErr result (λ e. IfSome (io_of e) (T.has_given reader.new)) }
     {
         match place {
             Place::HopByHop => read_raw(&mut self.hop_by_hop_options, buffer, reader),
@@ -170,6 +174,7 @@ fn take_raw<'a, T: ExactRead>(
     ensures steady { T.is_steady reader.new ≡ T.is_steady reader.old }
     ensures refused { OnErr result (IsRefused RawAsks (T.is_steady reader.old)
         (T.bytes_left reader.old) (T.has_failed reader.new)) }
+    ensures own { IfErr result (T.has_given reader.new) }
 {
     let mut start = [0; 2];
     match reader.read_exact(&mut start) {
@@ -207,6 +212,7 @@ fn read_raw<T: ExactRead>(
     ensures steady { T.is_steady reader.new ≡ T.is_steady reader.old }
     ensures refused { IfErr result (λ e. (m : ℕ) → IsRawNumber m
         → IsHeaderRefused T.bytes_left T.is_steady T.has_failed e true m reader.old reader.new) }
+    ensures own { IfErr result (λ e. IfSome (io_of e) (T.has_given reader.new)) }
 {
     match take_raw(buffer, reader) {
         Ok((next_header, payload)) => {
@@ -233,6 +239,7 @@ fn read_routing<T: ExactRead>(
     ensures steady { T.is_steady reader.new ≡ T.is_steady reader.old }
     ensures refused { IfErr result (λ e. IsHeaderRefused T.bytes_left T.is_steady
         T.has_failed e true ROUTING reader.old reader.new) }
+    ensures own { IfErr result (λ e. IfSome (io_of e) (T.has_given reader.new)) }
 {
     match take_raw(buffer, reader) {
         Ok((next_header, payload)) => {
@@ -260,6 +267,7 @@ fn read_fragment<T: ExactRead>(
     ensures steady { T.is_steady reader.new ≡ T.is_steady reader.old }
     ensures refused { IfErr result (λ e. IsHeaderRefused T.bytes_left T.is_steady
         T.has_failed e true FRAGMENT reader.old reader.new) }
+    ensures own { IfErr result (λ e. IfSome (io_of e) (T.has_given reader.new)) }
 {
     match Ipv6FragmentHeader::read(reader) {
         Ok(header) => {
@@ -282,6 +290,7 @@ fn read_auth<T: ExactRead>(
     ensures steady { T.is_steady reader.new ≡ T.is_steady reader.old }
     ensures refused { IfErr result (λ e. IsHeaderRefused T.bytes_left T.is_steady
         T.has_failed e true AUTHENTICATION reader.old reader.new) }
+    ensures own { IfErr result (λ e. IfSome (io_of e) (T.has_given reader.new)) }
 {
     *place = Some(IpAuthHeader::default());
     let Some(header) = place else { unreachable!() };

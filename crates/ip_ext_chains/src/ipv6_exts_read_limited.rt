@@ -1,4 +1,4 @@
-ghost use Rattle.std.specs.Prelude.{◌≡◌, ℕ, [], length, IsOk, OnOk, IfOk, IfErr, true, is_some};
+ghost use Rattle.std.specs.Prelude.{◌≡◌, ℕ, [], length, IsOk, OnOk, IfOk, IfErr, true, is_some, IfSome};
 ghost use Rattle.ip_base.specs.declared.err.layer.Layer.TheVariants.{Ipv6ExtHeader, Ipv6FragHeader, IpAuthHeader as AuthLayer};
 ghost use Rattle.ip_spec.specs.Numbers.{ROUTING, FRAGMENT, AUTHENTICATION};
 ghost use Rattle.ip_spec.specs.Header.{IsRawHeader, IsFragmentHeader, IsAuthHeader, IsRawNumber, IsExtensionNumber};
@@ -12,6 +12,8 @@ ghost use Rattle.ip_ext_chains.specs.Ipv6Extensions.{value_of};
 ghost use Rattle.ip_ext_chains.specs.Place.{as_place};
 ghost use Rattle.ip_ext_chains.specs.ReadError.{IsSliceErrorInLayers};
 ghost use Rattle.ip_ext_chains.specs.ChainReading.{AreTakenInLayers, IsChainTaken, IsChainRefused, IsHeaderRefusedInLayer, IsReadInto, IsHeaderRead, routing_fields, layer_of};
+ghost use Rattle.ip_ext_chains.specs.ChainLimitedReadError.{io_of};
+ghost use Rattle.ip_io.specs.LimitedReadError.{io_of as limit_io_of};
 
 use crate::err::ipv6_exts::{HeaderError, HeaderLimitedReadError};
 use crate::err::{Layer, ip_auth};
@@ -41,6 +43,7 @@ impl Ipv6Extensions {
             IsChainRefused (AreTakenInLayers T.bytes_left T.is_steady T.has_failed)
             (IsHeaderRefusedInLayer T.bytes_left T.is_steady T.has_failed e)
             reader.old reader.new start_ip_number.0) }
+        ensures own { IfErr result (λ e. IfSome (io_of e) (T.has_given (inner_of reader.new))) }
         ensures fault { IfErr result (IsSliceErrorInLayers start_ip_number.0
             (T.is_steady (inner_of reader.old)) (window T.bytes_left reader.old)) }
         ensures steady { T.is_steady (inner_of reader.new) ≡ T.is_steady (inner_of reader.old) }
@@ -68,6 +71,7 @@ impl Ipv6Extensions {
             IsChainRefused (AreTakenInLayers T.bytes_left T.is_steady T.has_failed)
             (IsHeaderRefusedInLayer T.bytes_left T.is_steady T.has_failed e)
             reader.old reader.new start_ip_number.0) }
+        ensures own { IfErr result (λ e. IfSome (io_of e) (T.has_given (inner_of reader.new))) }
         ensures fault { IfErr result (IsSliceErrorInLayers start_ip_number.0
             (T.is_steady (inner_of reader.old)) (window T.bytes_left reader.old)) }
         ensures steady { T.is_steady (inner_of reader.new) ≡ T.is_steady (inner_of reader.old) }
@@ -108,6 +112,7 @@ impl Ipv6Extensions {
         ensures steady { T.is_steady (inner_of reader.new) ≡ T.is_steady (inner_of reader.old) }
         ensures refused { IfErr result (λ e. IsHeaderRefusedInLayer T.bytes_left T.is_steady
             T.has_failed e true (number_in (as_place place)) reader.old reader.new) }
+        ensures own { IfErr result (λ e. IfSome (io_of e) (T.has_given (inner_of reader.new))) }
     {
         match place {
             Place::HopByHop => read_raw_limited(&mut self.hop_by_hop_options, buffer, reader),
@@ -141,6 +146,7 @@ fn take_raw_limited<'a, T: ExactRead>(
     ensures steady { T.is_steady (inner_of reader.new) ≡ T.is_steady (inner_of reader.old) }
     ensures refused { IfErr result (IsRefusedInLayer T.bytes_left T.is_steady T.has_failed
         RawAsks Ipv6ExtHeader reader.old reader.new) }
+    ensures own { IfErr result (λ e. IfSome (limit_io_of e) (T.has_given (inner_of reader.new))) }
 {
     reader.start_layer(Layer::Ipv6ExtHeader);
     let mut start = [0; 2];
@@ -171,6 +177,7 @@ fn read_raw_limited<T: ExactRead>(
         → IsHeaderRefusedInLayer T.bytes_left T.is_steady T.has_failed
         e true m
         reader.old reader.new) }
+    ensures own { IfErr result (λ e. IfSome (io_of e) (T.has_given (inner_of reader.new))) }
 {
     match take_raw_limited(buffer, reader) {
         Ok((next_header, payload)) => {
@@ -198,6 +205,7 @@ fn read_routing_limited<T: ExactRead>(
     ensures steady { T.is_steady (inner_of reader.new) ≡ T.is_steady (inner_of reader.old) }
     ensures refused { IfErr result (λ e. IsHeaderRefusedInLayer T.bytes_left T.is_steady
         T.has_failed e true ROUTING reader.old reader.new) }
+    ensures own { IfErr result (λ e. IfSome (io_of e) (T.has_given (inner_of reader.new))) }
 {
     match take_raw_limited(buffer, reader) {
         Ok((next_header, payload)) => {
@@ -226,6 +234,7 @@ fn read_fragment_limited<T: ExactRead>(
     ensures steady { T.is_steady (inner_of reader.new) ≡ T.is_steady (inner_of reader.old) }
     ensures refused { IfErr result (λ e. IsHeaderRefusedInLayer T.bytes_left T.is_steady
         T.has_failed e true FRAGMENT reader.old reader.new) }
+    ensures own { IfErr result (λ e. IfSome (io_of e) (T.has_given (inner_of reader.new))) }
 {
     match Ipv6FragmentHeader::read_limited(reader) {
         Ok(header) => {
@@ -249,6 +258,7 @@ fn read_auth_limited<T: ExactRead>(
     ensures steady { T.is_steady (inner_of reader.new) ≡ T.is_steady (inner_of reader.old) }
     ensures refused { IfErr result (λ e. IsHeaderRefusedInLayer T.bytes_left T.is_steady
         T.has_failed e true AUTHENTICATION reader.old reader.new) }
+    ensures own { IfErr result (λ e. IfSome (io_of e) (T.has_given (inner_of reader.new))) }
 {
     *place = Some(IpAuthHeader::default());
     let Some(header) = place else { unreachable!() };

@@ -1,5 +1,5 @@
 //! What a read takes of an authentication header before the header is made.
-ghost use Rattle.std.specs.Prelude.{◌≡◌, length, OnOk, OnErr, IfOk, IfErr};
+ghost use Rattle.std.specs.Prelude.{◌≡◌, length, OnOk, OnErr, IfOk, IfErr, IfSome};
 ghost use Rattle.std.specs.Io.KnownBytes.{Consumes};
 ghost use Rattle.ip_spec.specs.Prefix.{NoPrefix};
 ghost use Rattle.ip_spec.specs.Header.{IsAuthHeader};
@@ -10,6 +10,8 @@ ghost use Rattle.ip_io.specs.LimitedReader.{inner_of, window};
 ghost use Rattle.ip_io.specs.Reading.{IsHeaderTaken, IsTakenInLayer};
 ghost use Rattle.ip_base.specs.declared.err.layer.Layer.TheVariants.{IpAuthHeader as AuthLayer};
 ghost use Rattle.ip_ext_headers.specs.AuthReading.{auth_slice_fault, IsAuthRefused, IsAuthRefusedInLayer, IsSliceError, IsSliceErrorInLayer};
+ghost use Rattle.ip_ext_headers.specs.AuthReadError.{io_of};
+ghost use Rattle.ip_ext_headers.specs.AuthLimitedReadError.{io_of as limited_io_of};
 
 use crate::err::ip_auth::{HeaderError, HeaderLimitedReadError, HeaderReadError};
 use ip_base::IpNumber;
@@ -60,6 +62,7 @@ impl<'a> AuthParts<'a> {
             (T.bytes_left reader.old)) }
         ensures refused { IfErr result (IsAuthRefused T.bytes_left T.is_steady T.has_failed
             reader.old reader.new) }
+        ensures own { IfErr result (λ e. IfSome (io_of e) (T.has_given reader.new)) }
     {
         let mut start = [0; 12];
         match reader.read_exact(&mut start) {
@@ -95,6 +98,8 @@ impl<'a> AuthParts<'a> {
             (T.is_steady (inner_of reader.old)) (window T.bytes_left reader.old)) }
         ensures refused { IfErr result (IsAuthRefusedInLayer T.bytes_left T.is_steady
             T.has_failed reader.old reader.new) }
+        ensures own { IfErr result (λ e.
+            IfSome (limited_io_of e) (T.has_given (inner_of reader.new))) }
     {
         reader.start_layer(Layer::IpAuthHeader);
         let mut start = [0; 12];

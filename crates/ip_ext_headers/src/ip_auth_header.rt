@@ -1,4 +1,4 @@
-ghost use Rattle.std.specs.Prelude.{◌≡◌, ◌≤◌, ◌<◌, ◌+◌, ◌*◌, ◌++◌, [], ◌∷◌, ◌↔◌, ℕ, List, length, IsOk, OnOk, OnErr, IfOk, IfErr, vec_len, vec_capacity};
+ghost use Rattle.std.specs.Prelude.{◌≡◌, ◌≤◌, ◌<◌, ◌+◌, ◌*◌, ◌++◌, [], ◌∷◌, ◌↔◌, ℕ, List, length, IsOk, OnOk, OnErr, IfOk, IfErr, vec_len, vec_capacity, IfSome};
 ghost use Rattle.std.specs.Int.{to_be_bytes, w32};
 ghost use Rattle.std.specs.Io.KnownBytes.{Consumes};
 ghost use Rattle.ip_spec.specs.Prefix.{IsPrefix, NoPrefix};
@@ -10,6 +10,8 @@ ghost use Rattle.ip_io.specs.ExactRead.{IfSteady};
 ghost use Rattle.ip_io.specs.LimitedReader.{inner_of, window};
 ghost use Rattle.ip_io.specs.Reading.{IsHeaderTaken, IsTakenInLayer};
 ghost use Rattle.ip_base.specs.declared.err.layer.Layer.TheVariants.{IpAuthHeader as AuthLayer};
+ghost use Rattle.ip_ext_headers.specs.AuthReadError.{io_of};
+ghost use Rattle.ip_ext_headers.specs.AuthLimitedReadError.{io_of as limited_io_of};
 
 use crate::IpAuthHeaderSlice;
 use crate::auth_parts::AuthParts;
@@ -175,6 +177,7 @@ impl IpAuthHeader {
             (T.bytes_left reader.old)) }
         ensures refused { IfErr result (IsAuthRefused T.bytes_left T.is_steady T.has_failed
             reader.old reader.new) }
+        ensures own { IfErr result (λ e. IfSome (io_of e) (T.has_given reader.new)) }
     {
         let mut buffer = [0; Self::MAX_ICV_LEN];
         let parts = AuthParts::take(&mut buffer, reader)?;
@@ -199,6 +202,8 @@ impl IpAuthHeader {
             (T.is_steady (inner_of reader.old)) (window T.bytes_left reader.old)) }
         ensures refused { IfErr result (IsAuthRefusedInLayer T.bytes_left T.is_steady
             T.has_failed reader.old reader.new) }
+        ensures own { IfErr result (λ e.
+            IfSome (limited_io_of e) (T.has_given (inner_of reader.new))) }
     {
         let mut buffer = [0; Self::MAX_ICV_LEN];
         let parts = AuthParts::take_limited(&mut buffer, reader)?;
@@ -220,6 +225,7 @@ impl IpAuthHeader {
             (T.bytes_left reader.old)) }
         ensures refused { IfErr result (IsAuthRefused T.bytes_left T.is_steady T.has_failed
             reader.old reader.new) }
+        ensures own { IfErr result (λ e. IfSome (io_of e) (T.has_given reader.new)) }
     {
         let mut buffer = [0; Self::MAX_ICV_LEN];
         match AuthParts::take(&mut buffer, reader) {
@@ -250,6 +256,8 @@ impl IpAuthHeader {
             (T.is_steady (inner_of reader.old)) (window T.bytes_left reader.old)) }
         ensures refused { IfErr result (IsAuthRefusedInLayer T.bytes_left T.is_steady
             T.has_failed reader.old reader.new) }
+        ensures own { IfErr result (λ e.
+            IfSome (limited_io_of e) (T.has_given (inner_of reader.new))) }
     {
         let mut buffer = [0; Self::MAX_ICV_LEN];
         match AuthParts::take_limited(&mut buffer, reader) {

@@ -1,4 +1,4 @@
-ghost use Rattle.std.specs.Prelude.{◌≡◌, ◌≤◌, ◌<◌, ◌+◌, ◌++◌, ℕ, List, OnOk, OnErr, IfOk, IfErr, vec_len, vec_capacity, length};
+ghost use Rattle.std.specs.Prelude.{◌≡◌, ◌≤◌, ◌<◌, ◌+◌, ◌++◌, ℕ, List, OnOk, OnErr, IfOk, IfErr, vec_len, vec_capacity, length, IfSome};
 ghost use Rattle.std.specs.Io.KnownBytes.{Consumes};
 ghost use Rattle.ip_spec.specs.Prefix.{IsPrefix, NoPrefix};
 ghost use Rattle.ip_spec.specs.Header.{IsFragmentHeader};
@@ -10,6 +10,7 @@ ghost use Rattle.ip_io.specs.ExactRead.{IfSteady};
 ghost use Rattle.ip_io.specs.LimitedReader.{inner_of, window};
 ghost use Rattle.ip_io.specs.Reading.{IsHeaderTaken, IsRefused, IsTakenInLayer, IsRefusedInLayer};
 ghost use Rattle.ip_base.specs.declared.err.layer.Layer.TheVariants.{Ipv6FragHeader};
+ghost use Rattle.ip_io.specs.LimitedReadError.{io_of};
 
 use crate::Ipv6FragmentHeaderSlice;
 use crate::fragment_bits::{pack, unpack_flag, unpack_offset};
@@ -109,6 +110,7 @@ impl Ipv6FragmentHeader {
             (NoPrefix IsFragmentHeader)) }
         ensures refused { OnErr result (IsRefused FragmentAsks (T.is_steady reader.old)
             (T.bytes_left reader.old) (T.has_failed reader.new)) }
+        ensures own { IfErr result (T.has_given reader.new) }
     {
         let mut bytes = [0; 8];
         reader.read_exact(&mut bytes)?;
@@ -131,6 +133,7 @@ impl Ipv6FragmentHeader {
             (window T.bytes_left reader.old) (NoPrefix IsFragmentHeader)) }
         ensures refused { IfErr result (IsRefusedInLayer T.bytes_left T.is_steady T.has_failed
             FragmentAsks Ipv6FragHeader reader.old reader.new) }
+        ensures own { IfErr result (λ e. IfSome (io_of e) (T.has_given (inner_of reader.new))) }
     {
         reader.start_layer(Layer::Ipv6FragHeader);
         let mut bytes = [0; 8];

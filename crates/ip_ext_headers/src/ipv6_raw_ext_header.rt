@@ -1,4 +1,4 @@
-ghost use Rattle.std.specs.Prelude.{◌≡◌, ◌≤◌, ◌<◌, ◌+◌, ◌*◌, ◌++◌, ◌↔◌, ◌⊎◌, ℕ, List, length, drop, replicate, IsTrue, IsOk, OnOk, OnErr, IfOk, IfErr, vec_len, vec_capacity};
+ghost use Rattle.std.specs.Prelude.{◌≡◌, ◌≤◌, ◌<◌, ◌+◌, ◌*◌, ◌++◌, ◌↔◌, ◌⊎◌, ℕ, List, length, drop, replicate, IsTrue, IsOk, OnOk, OnErr, IfOk, IfErr, vec_len, vec_capacity, IfSome};
 ghost use Rattle.std.specs.Io.KnownBytes.{Consumes};
 ghost use Rattle.ip_spec.specs.Numbers.{HOP_BY_HOP, ROUTING, DESTINATION_OPTIONS};
 ghost use Rattle.ip_spec.specs.Prefix.{IsPrefix, NoPrefix};
@@ -11,6 +11,7 @@ ghost use Rattle.ip_io.specs.ExactRead.{IfSteady};
 ghost use Rattle.ip_io.specs.LimitedReader.{inner_of, window};
 ghost use Rattle.ip_io.specs.Reading.{IsHeaderTaken, IsRefused, IsTakenInLayer, IsRefusedInLayer};
 ghost use Rattle.ip_base.specs.declared.err.layer.Layer.TheVariants.{Ipv6ExtHeader};
+ghost use Rattle.ip_io.specs.LimitedReadError.{io_of};
 
 use crate::Ipv6RawExtHeaderSlice;
 use crate::err::ipv6_exts::ExtPayloadLenError;
@@ -155,6 +156,7 @@ impl Ipv6RawExtHeader {
             (NoPrefix IsRawHeader)) }
         ensures refused { OnErr result (IsRefused RawAsks (T.is_steady reader.old)
             (T.bytes_left reader.old) (T.has_failed reader.new)) }
+        ensures own { IfErr result (T.has_given reader.new) }
     {
         let mut start = [0; 2];
         match reader.read_exact(&mut start) {
@@ -187,6 +189,7 @@ impl Ipv6RawExtHeader {
             (window T.bytes_left reader.old) (NoPrefix IsRawHeader)) }
         ensures refused { IfErr result (IsRefusedInLayer T.bytes_left T.is_steady T.has_failed
             RawAsks Ipv6ExtHeader reader.old reader.new) }
+        ensures own { IfErr result (λ e. IfSome (io_of e) (T.has_given (inner_of reader.new))) }
     {
         reader.start_layer(Layer::Ipv6ExtHeader);
         let mut start = [0; 2];

@@ -9,6 +9,8 @@ ghost use Rattle.ip_io.specs.Reading.{IsHeaderTaken, IsAnswerTaken, IsTakenInLay
 ghost use Rattle.ip_ext_headers.specs.AuthReading.{IsAuthRefused, IsAuthRefusedInLayer, IsSliceError, IsSliceErrorInLayer};
 ghost use Rattle.ip_ext_ipv4.specs.Ipv4Fault.{ipv4_chain_fault};
 ghost use Rattle.ip_ext_ipv4.specs.Ipv4Reading.{Answers};
+ghost use Rattle.ip_ext_headers.specs.AuthReadError.{io_of};
+ghost use Rattle.ip_ext_headers.specs.AuthLimitedReadError.{io_of as limited_io_of};
 
 use crate::Ipv4Extensions;
 use crate::err::ip_auth::{HeaderLimitedReadError, HeaderReadError};
@@ -34,6 +36,7 @@ impl Ipv4Extensions {
             (T.is_steady reader.old) (T.bytes_left reader.old)) }
         ensures refused { IfErr result (IsAuthRefused T.bytes_left T.is_steady T.has_failed
             reader.old reader.new) }
+        ensures own { IfErr result (λ e. IfSome (io_of e) (T.has_given reader.new)) }
         ensures stays { start_ip_number.0 ≢ AUTHENTICATION
             → IsOk result × (reader.new ≡ reader.old) }
     {
@@ -69,6 +72,8 @@ impl Ipv4Extensions {
             (T.is_steady (inner_of reader.old)) (window T.bytes_left reader.old)) }
         ensures refused { IfErr result (IsAuthRefusedInLayer T.bytes_left T.is_steady
             T.has_failed reader.old reader.new) }
+        ensures own { IfErr result (λ e.
+            IfSome (limited_io_of e) (T.has_given (inner_of reader.new))) }
         ensures stays { start_ip_number.0 ≢ AUTHENTICATION
             → IsOk result × (reader.new ≡ reader.old) }
     {

@@ -1,5 +1,7 @@
 ghost use Rattle.std.specs.Prelude.{◌≡◌, ℕ, ◌≤◌, ◌↔◌, IsOk, Bool, true, false, List, length, Some, OnOk, OnErr, IfErr, IsSome, Option};
 ghost use Rattle.std.specs.IoError.{error_kind};
+ghost use Rattle.std.specs.declared.io.Error.{Error};
+ghost use Rattle.std.specs.declared.io.ErrorKind.TheVariants.{UnexpectedEof};
 ghost use Rattle.std.specs.Io.KnownBytes.{Consumes};
 ghost use Rattle.std.proofs.Common.{rules};
 ghost use Rattle.ip_io.specs.ExactRead.{IsRefusal};
@@ -21,15 +23,19 @@ pub trait ExactRead {
     /// Whether it has failed.
     ghost has_failed: { Self → Bool };
 
-    /// Fills the buffer with the first bytes not yet read, and takes just these. After an error nothing is known
-    /// of what was taken, nor of the buffer; one that isn't steady has then failed.
+    /// The errors that its last read may have returned.
+    ghost has_given: { Self → Error → Type 0 };
+
+    /// Fills the buffer with the next bytes and consumes exactly those. After an error, neither the bytes consumed
+    /// nor the buffer's contents are known, and a reader that isn't steady has failed.
     fn read_exact(&mut self, buf: &mut [u8]) -> io::Result<()>
         ensures takes { OnOk result
             (Consumes (bytes_left self.old) (bytes_left self.new) buf.new) }
         ensures kept { OnOk result (has_failed self.new ≡ has_failed self.old) }
         ensures steady { is_steady self.new ≡ is_steady self.old }
         ensures refuses { OnErr result (IsRefusal (is_steady self.old) (bytes_left self.old)
-            (length buf.old) (has_failed self.new)) };
+            (length buf.old) (has_failed self.new)) }
+        ensures own { IfErr result (has_given self.new) };
 
     ghost steady_tells: { (r : Self) → is_steady r ≡ true → IsSome (bytes_left r) };
 }
@@ -42,6 +48,8 @@ impl ExactRead for &[u8] {
 
     ghost has_failed = { λ _. false };
 
+    ghost has_given = { λ _ e. error_kind e ≡ UnexpectedEof };
+
     ghost steady_tells = { Prim.search rules };
 
     /// Refuses with the kind `UnexpectedEof`, and then the slice is as it was.
@@ -53,7 +61,7 @@ impl ExactRead for &[u8] {
         ensures refuses { OnErr result
             (IsRefusal true (Some self.old.now) (length buf.old) false) }
         ensures variant { IsOk result ↔ (length buf.old ≤ length self.old.now) }
-        ensures kind { IfErr result (λ e. error_kind e ≡ ErrorKind.UnexpectedEof) }
+        ensures own { IfErr result (λ e. error_kind e ≡ ErrorKind.UnexpectedEof) }
         ensures stays { OnErr result (self.new.now ≡ self.old.now) }
     {
         let all: &[u8] = *self;

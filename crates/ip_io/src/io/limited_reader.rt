@@ -1,4 +1,4 @@
-ghost use Rattle.std.specs.Prelude.{◌≡◌, ◌≤◌, ◌<◌, ◌+◌, ◌^◌, length, OnOk, OnErr, IfErr};
+ghost use Rattle.std.specs.Prelude.{◌≡◌, ◌≤◌, ◌<◌, ◌+◌, ◌^◌, length, OnOk, OnErr, IfErr, IfSome};
 ghost use Rattle.std.specs.Io.KnownBytes.{Consumes};
 
 use crate::err::io::LimitedReadError;
@@ -119,6 +119,7 @@ impl<T> LimitedReader<T> {
 impl<T: ExactRead> LimitedReader<T> {
     ghost use Rattle.ip_io.specs.Limits.{left, advanced, limit_error};
     ghost use Rattle.ip_io.specs.LimitedReader.{inner_of, limits_of, IsLimitedRefusal};
+    ghost use Rattle.ip_io.specs.LimitedReadError.{io_of};
 
     /// Fills the buffer with the first bytes not yet read. `Len` tells that the limit doesn't leave that many;
     /// then nothing has moved. `Io` tells that the inner reader refused; then `read_len` is as it was.
@@ -135,6 +136,7 @@ impl<T: ExactRead> LimitedReader<T> {
         ensures steady { T.is_steady (inner_of self.new) ≡ T.is_steady (inner_of self.old) }
         ensures refuses { IfErr result (IsLimitedRefusal T.bytes_left T.is_steady T.has_failed
             self.old self.new (length buf.old)) }
+        ensures own { IfErr result (λ e. IfSome (io_of e) (T.has_given (inner_of self.new))) }
         ensures stays { OnErr result (limits_of self.new ≡ limits_of self.old) }
     {
         if self.max_len - self.read_len < buf.len() {

@@ -1,12 +1,12 @@
-ghost use Rattle.std.specs.Prelude.{◌≡◌, false};
+ghost use Rattle.std.specs.Prelude.{◌≡◌, false, ⊤};
 ghost use Rattle.std.proofs.Common.{rules};
 
 use crate::io::ExactRead;
 use std::io;
 use std::io::Read;
 
-/// Any reader of the standard library, as one of exact counts. It remembers whether a read failed or came to the
-/// end of the bytes before it had as many as were asked for.
+/// Reads exact counts from any reader of the standard library. It remembers whether a call failed, or found
+/// fewer bytes than it asked for.
 #[derive(Debug, Drop)]
 pub struct OverRead<R> {
     reader: R,
@@ -16,7 +16,7 @@ pub struct OverRead<R> {
 impl<R> OverRead<R> {
     ghost use Rattle.ip_io.specs.OverRead.{reader_of, is_failed};
 
-    /// Over this reader.
+    /// Reads from this reader.
     pub fn new(reader: R) -> OverRead<R>
         ensures reader { reader_of result ≡ reader }
         ensures failed { is_failed result ≡ false }
@@ -27,14 +27,14 @@ impl<R> OverRead<R> {
         }
     }
 
-    /// Whether a read was refused.
+    /// Returns whether a read has failed. It stays true when later reads succeed.
     pub fn failed(&self) -> bool
         ensures { result ≡ is_failed self.now }
     {
         self.failed
     }
 
-    /// The reader, as it stands.
+    /// Returns the reader, with whatever it has left.
     pub fn into_inner(self) -> R
         ensures { result ≡ reader_of self }
     {
@@ -51,10 +51,16 @@ impl<R: Read> ExactRead for OverRead<R> {
 
     ghost has_failed = { is_failed };
 
+    // The contract of `Read` says nothing of errors.
+    ghost has_given = { λ _ _. ⊤ };
+
     ghost steady_tells = { Prim.search rules };
 
-    /// Reads until the buffer is full, also where a read is interrupted. Refuses where the reader fails, and with
-    /// the kind `UnexpectedEof` where its bytes end before that.
+    /// Reads until the buffer is full, and retries a read that was interrupted. Returns the reader's own error, or
+    /// one of kind `UnexpectedEof` if its bytes end first.
+    ///
+    /// The next call asks the reader again, also after an error, so reading may continue after `WouldBlock`, say.
+    /// Bytes that the failed call had read are lost.
     fn read_exact(&mut self, buf: &mut [u8]) -> io::Result<()> {
         let result = self.reader.read_exact(buf);
         if result.is_err() {

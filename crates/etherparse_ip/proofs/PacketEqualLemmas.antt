@@ -6,7 +6,8 @@ use Rattle.ip_base.specs.declared.ip_payload_slice.IpPayloadSlice.{IpPayloadSlic
 use Rattle.ip_ext_headers.specs.IpAuthHeaderSlice.{bytes}
 use Rattle.ip_ext_headers.specs.declared.ip_auth_header_slice.IpAuthHeaderSlice.{IpAuthHeaderSlice}
 use Rattle.etherparse_ip.specs.Ipv4Slice.{ipv4_parts}
-use Rattle.etherparse_ip.specs.Ipv6Slice.{AreSameIpv6}
+use Rattle.ip_ext_slices.proofs.SameLemmas.{same_headers-first, same_headers-bytes}
+use Rattle.etherparse_ip.specs.Ipv6Slice.{ipv6_parts}
 use Rattle.etherparse_ip.specs.IpSlice.{AreSame}
 use Rattle.etherparse_ip.specs.PacketEqual.{payload_equal, ipv4_packet_equal, ipv6_packet_equal, packet_equal}
 use Rattle.etherparse_ip.specs.declared.ipv4_slice.Ipv4Slice.{Ipv4Slice}
@@ -35,18 +36,20 @@ numbers_tell x y = search rules
 ipv4_tells : (a b : Ipv4Slice) → Decides (ipv4_packet_equal a b) (ipv4_parts a ≡ ipv4_parts b)
 ipv4_tells a b = grind (arith, Decides-and, bytes_tell, headers_tell, payloads_tell)
 
-ipv6_tells : (a b : Ipv6Slice) → Decides (ipv6_packet_equal a b) (AreSameIpv6 a b)
+ipv6_tells : (a b : Ipv6Slice) → Decides (ipv6_packet_equal a b) (ipv6_parts a ≡ ipv6_parts b)
 ipv6_tells a b =
     let same = Decides-and _ _ (bytes_tell _ _) (Decides-and _ _ (Decides-and _ _ (numbers_tell _ _) (bytes_tell _ _)) (payloads_tell a.payload b.payload)) in (
-      λ k. let told = same.0 k in (search (rules, told.0, told.1.0.0, told.1.0.1, told.1.1.0, told.1.1.1.0, told.1.1.1.1.0, told.1.1.1.1.1), told.1.0),
-      λ e. same.1 (ap (λ p. p.base) e.0, (e.1, (ap (λ p. p.number) e.0, (ap (λ p. p.fragmented) e.0, (ap (λ p. p.source) e.0, ap (λ p. p.payload) e.0))))),
+      λ k. let told = same.0 k in search (rules, told.0, told.1.0.0, told.1.0.1, told.1.1.0, told.1.1.1.0, told.1.1.1.1.0, told.1.1.1.1.1),
+      λ e. let headers = ap (λ p. p.headers) e in same.1 (ap (λ p. p.base) e,
+        ((same_headers-first a.exts b.exts headers, same_headers-bytes a.exts b.exts headers),
+        (ap (λ p. p.number) e, (ap (λ p. p.fragmented) e, (ap (λ p. p.source) e, ap (λ p. p.payload) e))))),
     )
 
 -- what a comparison of them answers
 pub ipv4_same : (a b : Ipv4Slice) (r : Bool) → r ≡ ipv4_packet_equal a b → IsTrue r ↔ (ipv4_parts a ≡ ipv4_parts b)
 ipv4_same a b r k = rw k (ipv4_tells a b)
 
-pub ipv6_same : (a b : Ipv6Slice) (r : Bool) → r ≡ ipv6_packet_equal a b → IsTrue r ↔ AreSameIpv6 a b
+pub ipv6_same : (a b : Ipv6Slice) (r : Bool) → r ≡ ipv6_packet_equal a b → IsTrue r ↔ (ipv6_parts a ≡ ipv6_parts b)
 ipv6_same a b r k = rw k (ipv6_tells a b)
 
 pub same_packets : (x y : IpSlice) (r : Bool) → r ≡ packet_equal x y → IsTrue r ↔ AreSame x y

@@ -7,7 +7,7 @@ use Rattle.ip_base.specs.Ipv4Header.{ipv4_source_octets, ipv4_destination_octets
 use Rattle.ip_base.specs.Ipv6Header.{ipv6_source_octets, ipv6_destination_octets}
 use Rattle.etherparse_ip.specs.Packet.{Parts, IsIpv4Packet, IsIpv6Packet}
 use Rattle.etherparse_ip.specs.Ipv4Slice.{ipv4_parts}
-use Rattle.etherparse_ip.specs.Ipv6Slice.{ipv6_parts, AreSameIpv6}
+use Rattle.etherparse_ip.specs.Ipv6Slice.{ipv6_parts}
 use Rattle.etherparse_ip.specs.declared.ipv4_slice.Ipv4Slice.{Ipv4Slice}
 use Rattle.etherparse_ip.specs.declared.ipv6_slice.Ipv6Slice.{Ipv6Slice}
 use Rattle.etherparse_ip.specs.declared.ip_slice.IpSlice.{IpSlice}
@@ -37,7 +37,7 @@ abbrev pub AreSame : IpSlice → IpSlice → Type 0
 AreSame (Ipv4 a) (Ipv4 b) = ipv4_parts a ≡ ipv4_parts b
 AreSame (Ipv4 a) (Ipv6 b) = ⊥
 AreSame (Ipv6 a) (Ipv4 b) = ⊥
-AreSame (Ipv6 a) (Ipv6 b) = AreSameIpv6 a b
+AreSame (Ipv6 a) (Ipv6 b) = ipv6_parts a ≡ ipv6_parts b
 
 -- the octets of an address of either version
 abbrev pub ip_octets : IpAddr → List ℕ

@@ -1,5 +1,4 @@
 -- What an IPv6 packet shows.
-use Rattle.std.specs.Prelude.{◌≡◌}
 use Rattle.ip_base.specs.Ipv6HeaderSlice as base
 use Rattle.ip_ext_slices.specs.Ipv6ExtensionsSlice as exts
 use Rattle.etherparse_ip.specs.Packet.{Parts}
@@ -15,7 +14,3 @@ ipv6_parts x = record {
   fragmented = x.payload.fragmented;
   source = x.payload.len_source;
 }
-
--- two have the same parts, and extension headers with the same first number and bytes
-abbrev pub AreSameIpv6 : Ipv6Slice → Ipv6Slice → Type 0
-AreSameIpv6 a b = (ipv6_parts a ≡ ipv6_parts b) × ((exts.first_number a.exts ≡ exts.first_number b.exts) × (exts.bytes a.exts ≡ exts.bytes b.exts))

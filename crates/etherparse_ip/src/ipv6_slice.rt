@@ -178,7 +178,7 @@ impl PartialEq for Ipv6Slice<'_> {
     ghost use Rattle.std.specs.Prelude.{◌↔◌, IsTrue};
     ghost use Rattle.std.specs.Cmp.{partial_equiv_from_equiv};
     ghost use Rattle.etherparse_ip.specs.PacketEqual.{ipv6_packet_equal, ipv6_packet_equivalence};
-    ghost use Rattle.etherparse_ip.specs.Ipv6Slice.{AreSameIpv6};
+    ghost use Rattle.etherparse_ip.specs.Ipv6Slice.{ipv6_parts};
 
     ghost eq = { ipv6_packet_equal };
 
@@ -186,7 +186,7 @@ impl PartialEq for Ipv6Slice<'_> {
 
     fn eq(&self, other: &Self) -> bool
         ensures answer { result ≡ ipv6_packet_equal self.now other.now }
-        ensures same { IsTrue result ↔ AreSameIpv6 self.now other.now }
+        ensures same { IsTrue result ↔ (ipv6_parts self.now ≡ ipv6_parts other.now) }
     {
         self.header == other.header && self.exts == other.exts && self.payload == other.payload
     }

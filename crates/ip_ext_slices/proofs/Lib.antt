@@ -2,3 +2,4 @@ pub mod LongestLemmas
 pub mod ParseLemmas
 pub mod FaultLemmas
 pub mod RequestFaultLemmas
+pub mod SameLemmas

@@ -222,7 +222,7 @@ impl PartialEq for Ipv6ExtensionsSlice<'_> {
     ghost use Rattle.std.specs.Prelude.{◌↔◌, IsTrue};
     ghost use Rattle.std.specs.Cmp.Rules.{comparing};
     ghost use Rattle.std.proofs.Common.{rules};
-    ghost use Rattle.ip_ext_slices.specs.Ipv6ExtensionsSlice.{first_number, bytes, same_slice};
+    ghost use Rattle.ip_ext_slices.specs.Ipv6ExtensionsSlice.{first_number, bytes, headers_in, same_slice};
 
     ghost eq = { same_slice };
 
@@ -232,6 +232,7 @@ impl PartialEq for Ipv6ExtensionsSlice<'_> {
         ensures answer { result ≡ same_slice self.now other.now }
         ensures same { IsTrue result ↔ ((first_number self.now ≡ first_number other.now)
             × (bytes self.now ≡ bytes other.now)) }
+        ensures headers { IsTrue result ↔ (headers_in self.now ≡ headers_in other.now) }
     {
         self.first_header == other.first_header && self.slice == other.slice
     }

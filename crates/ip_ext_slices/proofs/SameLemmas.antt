@@ -1,0 +1,39 @@
+-- Slices of extension headers with the same headers have the same first number and the same bytes.
+use Rattle.ip_spec.proofs.Common.{◌≡◌, ℕ, List, [], ◌∷◌, length, refl, ap, sym, ◌∙◌, arith, subst, ◌↔◌, IsTrue, Bool, false, rules, ◌==◌, Option, Some, None, ExtHeader, AreLinked, bytes_of}
+use Rattle.std.specs.Prelude.{is_none}
+use Rattle.ip_base.specs.declared.ip_number_impl.IpNumber.{IpNumber}
+use Rattle.ip_ext_slices.specs.Longest.{longest_chain}
+use Rattle.ip_ext_slices.specs.StartNumber.{start_number}
+use Rattle.ip_ext_slices.specs.Ipv6ExtensionsSlice.{first_number, bytes, headers_in}
+use Rattle.ip_ext_slices.specs.declared.ipv6_exts_slice.Ipv6ExtensionsSlice.{Ipv6ExtensionsSlice}
+use Rattle.ip_ext_slices.proofs.LongestLemmas.{longest_chain-longest}
+
+-- headers that have bytes are linked from one number alone
+linked_from_one : (m n : ℕ) (c : List ExtHeader) → AreLinked m c → AreLinked n c → (length (bytes_of c) == 0) ≡ false → m ≡ n
+linked_from_one m n [] a b some = absurd (search rules)
+linked_from_one m n (h ∷ c) a b some = sym a.0 ∙ b.0
+
+same_start : (m n : ℕ) (s t : List ℕ) → longest_chain m s ≡ longest_chain n t → (length (bytes_of (longest_chain m s)) == 0) ≡ false → m ≡ n
+same_start m n s t e some =
+    let links : AreLinked n (longest_chain m s) = subst (AreLinked n) (sym e) (longest_chain-longest n t).has.chain.links in
+    linked_from_one m n (longest_chain m s) (longest_chain-longest m s).has.chain.links links some
+
+same_first : (x y : Option IpNumber) (s t : List ℕ) → longest_chain (start_number x) s ≡ longest_chain (start_number y) t → bytes_of (longest_chain (start_number x) s) ≡ s → s ≡ t → is_none x ≡ (length s == 0) → is_none y ≡ (length t == 0) → x ≡ y
+same_first None None s t e w b f g = refl
+same_first None (Some n) s t e w b f g = absurd (grind (arith, ap (λ (u : List ℕ). length u == 0) b))
+same_first (Some m) None s t e w b f g = absurd (grind (arith, ap (λ (u : List ℕ). length u == 0) b))
+same_first (Some m) (Some n) s t e w b f g =
+    ap (λ k. Some (record { 0 = k })) (same_start m.0 n.0 s t e (ap (λ (u : List ℕ). length u == 0) w ∙ sym f))
+
+pub same_headers-bytes : (x y : Ipv6ExtensionsSlice) → headers_in x ≡ headers_in y → bytes x ≡ bytes y
+same_headers-bytes x y e = sym x.whole ∙ ap bytes_of e ∙ y.whole
+
+pub same_headers-first : (x y : Ipv6ExtensionsSlice) → headers_in x ≡ headers_in y → first_number x ≡ first_number y
+same_headers-first x y e = same_first x.first_header y.first_header x.slice.now y.slice.now e x.whole (same_headers-bytes x y e) x.first y.first
+
+-- what says whether first number and bytes are the same says so of the headers
+pub same_headers : (x y : Ipv6ExtensionsSlice) (r : Bool) → IsTrue r ↔ ((first_number x ≡ first_number y) × (bytes x ≡ bytes y)) → IsTrue r ↔ (headers_in x ≡ headers_in y)
+same_headers x y r k = (
+    λ t. ap (λ n. longest_chain (start_number n) (bytes x)) (k.0 t).0 ∙ ap (longest_chain (start_number (first_number y))) (k.0 t).1,
+    λ e. k.1 (same_headers-first x y e, same_headers-bytes x y e),
+)

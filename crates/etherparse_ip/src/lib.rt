@@ -25,7 +25,7 @@ pub use ip_ext_headers::{
     IpAuthenticationHeaderSlice, Ipv6FragmentHeader, Ipv6FragmentHeaderSlice, Ipv6RawExtHeader,
     Ipv6RawExtHeaderSlice, Ipv6RawExtensionHeader, Ipv6RawExtensionHeaderSlice,
 };
-pub use ip_io::io;
+pub use ip_base::io;
 pub use ip_slice::IpSlice;
 pub use ipv4_slice::Ipv4Slice;
 pub use ipv6_slice::Ipv6Slice;

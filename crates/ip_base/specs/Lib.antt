@@ -4,3 +4,14 @@ pub mod Ipv4Header
 pub mod Ipv6Header
 pub mod Ipv4HeaderSlice
 pub mod Ipv6HeaderSlice
+pub mod Cause
+pub mod ChainCause
+pub mod Ipv6HeaderError
+pub mod IpHeaderError
+pub mod IpWalkError
+pub mod ExactRead
+pub mod LimitedReadError
+pub mod OverRead
+pub mod Limits
+pub mod LimitedReader
+pub mod Reading

@@ -1,9 +1,10 @@
-//! What every layer of IP shares: protocol numbers, the names of layers and of length sources, the error that
-//! tells how many bytes were missing and where, base headers of IPv4 (RFC 791) and IPv6 (RFC 8200), and
-//! the payload of a packet.
+//! What every layer of IP shares: protocol numbers, names of layers and length sources, base headers of IPv4 (RFC
+//! 791) and IPv6 (RFC 8200), the payload of a packet, errors of lengths and of extension headers, and readers that
+//! return exactly as many bytes as they are asked for.
 #![tactic(auto)]
 
 pub mod err;
+pub mod io;
 mod ip_frag_offset;
 pub mod ip_number;
 mod ip_number_impl;

@@ -7,10 +7,10 @@ use Rattle.ip_base.specs.declared.len_source.LenSource.{LenSource}
 use Rattle.ip_base.specs.declared.len_source.LenSource.TheVariants.{Slice, Ipv4HeaderTotalLen, Ipv6HeaderPayloadLen}
 use Rattle.ip_base.specs.declared.err.ipv6.header_error.HeaderError.{HeaderError as Ipv6HeaderError}
 use Rattle.ip_base.specs.declared.err.ipv6.header_error.HeaderError.TheVariants as ipv6_header
-use Rattle.ip_ext_errors.specs.declared.ip_auth.header_error.HeaderError.{HeaderError as AuthError}
-use Rattle.ip_ext_errors.specs.declared.ip_auth.header_error.HeaderError.TheVariants.{ZeroPayloadLen}
-use Rattle.ip_ext_errors.specs.declared.ipv6_exts.header_error.HeaderError.{HeaderError as ExtsError}
-use Rattle.ip_ext_errors.specs.declared.ipv6_exts.header_error.HeaderError.TheVariants.{HopByHopNotAtStart, IpAuth}
+use Rattle.ip_base.specs.declared.err.ip_auth.header_error.HeaderError.{HeaderError as AuthError}
+use Rattle.ip_base.specs.declared.err.ip_auth.header_error.HeaderError.TheVariants.{ZeroPayloadLen}
+use Rattle.ip_base.specs.declared.err.ipv6_exts.header_error.HeaderError.{HeaderError as ExtsError}
+use Rattle.ip_base.specs.declared.err.ipv6_exts.header_error.HeaderError.TheVariants.{HopByHopNotAtStart, IpAuth}
 use Rattle.ip_ext_headers.specs.declared.err.ip_auth.header_slice_error.HeaderSliceError.{HeaderSliceError as AuthSliceError}
 use Rattle.ip_ext_headers.specs.declared.err.ip_auth.header_slice_error.HeaderSliceError.TheVariants as auth
 use Rattle.ip_ext_slices.specs.declared.err.ipv6_exts.header_slice_error.HeaderSliceError.{HeaderSliceError as ExtsSliceError}

@@ -3,18 +3,18 @@ use Rattle.ip_spec.proofs.Common.{common_steps, ◌≡◌, ℕ, ◌<◌, List, �
 use Rattle.std.proofs.Common.{length-append}
 use Rattle.ip_base.specs.declared.len_source.LenSource.TheVariants.{Slice}
 use Rattle.ip_base.specs.declared.err.layer.Layer.TheVariants.{Ipv6ExtHeader}
-use Rattle.ip_io.specs.declared.err.io.limited_read_error.LimitedReadError.{LimitedReadError}
-use Rattle.ip_io.specs.declared.err.io.limited_read_error.LimitedReadError.TheVariants as limit
+use Rattle.ip_base.specs.declared.err.io.limited_read_error.LimitedReadError.{LimitedReadError}
+use Rattle.ip_base.specs.declared.err.io.limited_read_error.LimitedReadError.TheVariants as limit
 use Rattle.ip_spec.proofs.ChainLemmas.{bytes_of-more}
-use Rattle.ip_io.specs.ExactRead.{IfSteady}
-use Rattle.ip_io.specs.Limits.{Limits, started, advanced}
-use Rattle.ip_io.specs.LimitedReader.{inner_of, window}
-use Rattle.ip_io.specs.Reading.{IsTakenInLayer, IsRefusedInLayer}
-use Rattle.ip_io.specs.declared.io.limited_reader.LimitedReader.{LimitedReader}
-use Rattle.ip_io.proofs.ReadingLemmas.{lift_some, of_all, of_begun, refused_short, refused_within_short, past_limit_short}
-use Rattle.ip_ext_errors.specs.declared.ip_auth.header_error.HeaderError.TheVariants.{ZeroPayloadLen}
+use Rattle.ip_base.specs.ExactRead.{IfSteady}
+use Rattle.ip_base.specs.Limits.{Limits, started, advanced}
+use Rattle.ip_base.specs.LimitedReader.{inner_of, window}
+use Rattle.ip_base.specs.Reading.{IsTakenInLayer, IsRefusedInLayer}
+use Rattle.ip_base.specs.declared.io.limited_reader.LimitedReader.{LimitedReader}
+use Rattle.ip_base.proofs.ReadingLemmas.{lift_some, of_all, of_begun, refused_short, refused_within_short, past_limit_short}
+use Rattle.ip_base.specs.declared.err.ip_auth.header_error.HeaderError.TheVariants.{ZeroPayloadLen}
 use Rattle.ip_ext_slices.specs.ChainFault.{Fault, short_at, fault_at}
-use Rattle.ip_ext_errors.specs.declared.ipv6_exts.header_error.HeaderError.TheVariants.{HopByHopNotAtStart, IpAuth}
+use Rattle.ip_base.specs.declared.err.ipv6_exts.header_error.HeaderError.TheVariants.{HopByHopNotAtStart, IpAuth}
 use Rattle.ip_ext_slices.specs.declared.err.ipv6_exts.header_slice_error.HeaderSliceError.TheVariants as slice
 use Rattle.ip_ext_slices.proofs.RequestFaultLemmas.{asks_fault, zero_fault}
 use Rattle.ip_ext_chains.specs.ReadError.{HasError, IsTooShort, IsSliceError, IsSliceErrorInLayers, of_limited_error}

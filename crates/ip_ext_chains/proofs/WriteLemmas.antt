@@ -10,7 +10,7 @@ use Rattle.ip_ext_chains.specs.Ipv6Extensions.{value_of, placed_fields, exts_len
 use Rattle.ip_ext_chains.specs.ExtsWalk.{walk_answer}
 use Rattle.ip_ext_chains.specs.Write.{IsWritten, IsWalkFault}
 use Rattle.ip_ext_chains.specs.declared.ipv6_exts.Ipv6Extensions.{Ipv6Extensions}
-use Rattle.ip_ext_errors.specs.declared.ipv6_exts.exts_walk_error.ExtsWalkError.{ExtsWalkError}
+use Rattle.ip_base.specs.declared.err.ipv6_exts.exts_walk_error.ExtsWalkError.{ExtsWalkError}
 use Rattle.ip_ext_chains.proofs.FittingLemmas.{fitting_longest, other_answers}
 use Rattle.ip_ext_chains.proofs.PlacedFieldsLemmas.{placed_fields-value_of, placed_fields_one, exts_sum}
 

@@ -2,9 +2,9 @@
 use Rattle.std.specs.Prelude.{Option, Some, None}
 use Rattle.std.specs.declared.io.Error.{Error}
 use Rattle.ip_base.specs.declared.err.len_error.LenError.{LenError}
-use Rattle.ip_ext_errors.specs.ChainCause.{ChainCause, Ipv6Exts}
-use Rattle.ip_ext_errors.specs.ChainCause as cause
-use Rattle.ip_ext_errors.specs.declared.ipv6_exts.header_error.HeaderError.{HeaderError}
+use Rattle.ip_base.specs.ChainCause.{ChainCause, Ipv6Exts}
+use Rattle.ip_base.specs.ChainCause as cause
+use Rattle.ip_base.specs.declared.err.ipv6_exts.header_error.HeaderError.{HeaderError}
 use Rattle.ip_ext_chains.specs.declared.err.ipv6_exts.header_limited_read_error.HeaderLimitedReadError.{HeaderLimitedReadError}
 use Rattle.ip_ext_chains.specs.declared.err.ipv6_exts.header_limited_read_error.HeaderLimitedReadError.TheVariants.{Io, Len, Content}
 

@@ -1,9 +1,9 @@
 -- The two kinds of error of a read of IPv6 extension headers.
 use Rattle.std.specs.Prelude.{Option, Some, None}
 use Rattle.std.specs.declared.io.Error.{Error}
-use Rattle.ip_ext_errors.specs.ChainCause.{ChainCause, Ipv6Exts}
-use Rattle.ip_ext_errors.specs.ChainCause as cause
-use Rattle.ip_ext_errors.specs.declared.ipv6_exts.header_error.HeaderError.{HeaderError}
+use Rattle.ip_base.specs.ChainCause.{ChainCause, Ipv6Exts}
+use Rattle.ip_base.specs.ChainCause as cause
+use Rattle.ip_base.specs.declared.err.ipv6_exts.header_error.HeaderError.{HeaderError}
 use Rattle.ip_ext_chains.specs.declared.err.ipv6_exts.header_read_error.HeaderReadError.{HeaderReadError}
 use Rattle.ip_ext_chains.specs.declared.err.ipv6_exts.header_read_error.HeaderReadError.TheVariants.{Io, Content}
 

@@ -11,12 +11,12 @@ use Rattle.ip_spec.specs.Requests.{Asks}
 use Rattle.ip_spec.specs.Chain.{ExtHeader, IsChain, leads_to, bytes_of, is_empty}
 use Rattle.ip_spec.specs.Fits.{FitsPlaces}
 use Rattle.ip_spec.specs.Places.{Place, hop_by_hop, destination, routing, fragment, authentication, final_destination, number_in, place_of, is_taken}
-use Rattle.ip_io.specs.Limits.{Limits, left, started, advanced}
-use Rattle.ip_io.specs.LimitedReader.{inner_of, limits_of, window}
-use Rattle.ip_io.specs.Reading.{IsRefused, IsTakenInLayer, IsPastLimit, IsRefusedWithin}
-use Rattle.ip_io.specs.declared.io.limited_reader.LimitedReader.{LimitedReader}
+use Rattle.ip_base.specs.Limits.{Limits, left, started, advanced}
+use Rattle.ip_base.specs.LimitedReader.{inner_of, limits_of, window}
+use Rattle.ip_base.specs.Reading.{IsRefused, IsTakenInLayer, IsPastLimit, IsRefusedWithin}
+use Rattle.ip_base.specs.declared.io.limited_reader.LimitedReader.{LimitedReader}
 use Rattle.ip_ext_headers.specs.AuthReading.{IsZeroTaken}
-use Rattle.ip_ext_errors.specs.declared.ipv6_exts.header_error.HeaderError.TheVariants.{HopByHopNotAtStart, IpAuth}
+use Rattle.ip_base.specs.declared.err.ipv6_exts.header_error.HeaderError.TheVariants.{HopByHopNotAtStart, IpAuth}
 use Rattle.ip_ext_chains.specs.Fitting.{IsFittingAnswer}
 use Rattle.ip_ext_chains.specs.Ipv6Extensions.{placed_fields}
 use Rattle.ip_ext_chains.specs.declared.ipv6_exts.Ipv6Extensions.{Ipv6Extensions}

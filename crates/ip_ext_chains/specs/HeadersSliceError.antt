@@ -1,9 +1,9 @@
 -- The two kinds of error of the extension headers of a packet of either version.
 use Rattle.std.specs.Prelude.{Option, Some, None}
 use Rattle.ip_base.specs.declared.err.len_error.LenError.{LenError}
-use Rattle.ip_ext_errors.specs.ChainCause.{ChainCause, IpExts}
-use Rattle.ip_ext_errors.specs.ChainCause as cause
-use Rattle.ip_ext_errors.specs.declared.ip_exts.header_error.HeaderError.{HeaderError}
+use Rattle.ip_base.specs.ChainCause.{ChainCause, IpExts}
+use Rattle.ip_base.specs.ChainCause as cause
+use Rattle.ip_base.specs.declared.err.ip_exts.header_error.HeaderError.{HeaderError}
 use Rattle.ip_ext_chains.specs.declared.err.ip_exts.headers_slice_error.HeadersSliceError.{HeadersSliceError}
 use Rattle.ip_ext_chains.specs.declared.err.ip_exts.headers_slice_error.HeadersSliceError.TheVariants.{Len, Content}
 

@@ -7,7 +7,7 @@ use Rattle.ip_ext_chains.specs.Fitting.{fitting_chain}
 use Rattle.ip_ext_chains.specs.Ipv6Extensions.{value_of, placed_fields}
 use Rattle.ip_ext_chains.specs.ExtsWalk.{walk_answer}
 use Rattle.ip_ext_chains.specs.declared.ipv6_exts.Ipv6Extensions.{Ipv6Extensions}
-use Rattle.ip_ext_errors.specs.declared.ipv6_exts.exts_walk_error.ExtsWalkError.{ExtsWalkError}
+use Rattle.ip_base.specs.declared.err.ipv6_exts.exts_walk_error.ExtsWalkError.{ExtsWalkError}
 
 -- The walk from n through v leads on, and `new` is `old` with the bytes of the chain that spells v.
 pub record IsWritten (v : Ipv6Extensions) (n : ℕ) (old new : List ℕ) : Type 0 where

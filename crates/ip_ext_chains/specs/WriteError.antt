@@ -1,8 +1,8 @@
 -- The two kinds of refusal of a write.
 use Rattle.std.specs.Prelude.{Option, Some, None}
 use Rattle.std.specs.declared.alloc.AllocError.{AllocError}
-use Rattle.ip_ext_errors.specs.ChainCause.{ChainCause, Memory, Ipv6Walk}
-use Rattle.ip_ext_errors.specs.declared.ipv6_exts.exts_walk_error.ExtsWalkError.{ExtsWalkError}
+use Rattle.ip_base.specs.ChainCause.{ChainCause, Memory, Ipv6Walk}
+use Rattle.ip_base.specs.declared.err.ipv6_exts.exts_walk_error.ExtsWalkError.{ExtsWalkError}
 use Rattle.ip_ext_chains.specs.declared.err.ipv6_exts.header_write_error.HeaderWriteError.{HeaderWriteError}
 use Rattle.ip_ext_chains.specs.declared.err.ipv6_exts.header_write_error.HeaderWriteError.TheVariants.{Io, Content}
 

@@ -6,7 +6,7 @@ ghost use Rattle.ip_spec.specs.Fields.{raw_fields, fragment_fields, auth_fields}
 ghost use Rattle.ip_spec.specs.Lengths.{IsPayloadLen};
 ghost use Rattle.ip_spec.specs.Places.{number_in, final_destination};
 ghost use Rattle.ip_spec.specs.Requests.{RawAsks};
-ghost use Rattle.ip_io.specs.Reading.{IsHeaderTaken, IsRefused};
+ghost use Rattle.ip_base.specs.Reading.{IsHeaderTaken, IsRefused};
 ghost use Rattle.ip_ext_chains.specs.Place.{as_place};
 ghost use Rattle.ip_ext_chains.specs.Ipv6Extensions.{value_of, placed_fields};
 ghost use Rattle.ip_ext_chains.specs.ReadError.{IsSliceError};

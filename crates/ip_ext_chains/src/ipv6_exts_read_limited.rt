@@ -6,14 +6,14 @@ ghost use Rattle.ip_spec.specs.Fields.{raw_fields, fragment_fields, auth_fields}
 ghost use Rattle.ip_spec.specs.Lengths.{IsPayloadLen};
 ghost use Rattle.ip_spec.specs.Places.{number_in, final_destination};
 ghost use Rattle.ip_spec.specs.Requests.{RawAsks};
-ghost use Rattle.ip_io.specs.LimitedReader.{inner_of, window};
-ghost use Rattle.ip_io.specs.Reading.{IsHeaderTaken, IsTakenInLayer, IsRefusedInLayer};
+ghost use Rattle.ip_base.specs.LimitedReader.{inner_of, window};
+ghost use Rattle.ip_base.specs.Reading.{IsHeaderTaken, IsTakenInLayer, IsRefusedInLayer};
 ghost use Rattle.ip_ext_chains.specs.Ipv6Extensions.{value_of};
 ghost use Rattle.ip_ext_chains.specs.Place.{as_place};
 ghost use Rattle.ip_ext_chains.specs.ReadError.{IsSliceErrorInLayers};
 ghost use Rattle.ip_ext_chains.specs.ChainReading.{AreTakenInLayers, IsChainTaken, IsChainRefused, IsHeaderRefusedInLayer, IsReadInto, IsHeaderRead, routing_fields, layer_of};
 ghost use Rattle.ip_ext_chains.specs.ChainLimitedReadError.{io_of};
-ghost use Rattle.ip_io.specs.LimitedReadError.{io_of as limit_io_of};
+ghost use Rattle.ip_base.specs.LimitedReadError.{io_of as limit_io_of};
 
 use crate::err::ipv6_exts::{HeaderError, HeaderLimitedReadError};
 use crate::err::{Layer, ip_auth};

@@ -2,14 +2,14 @@
 use Rattle.ip_spec.proofs.Common.{Bool, ℕ, ◌<◌, List, ◌++◌, length, rules, AuthAsks, Option}
 use Rattle.ip_base.specs.declared.err.layer.Layer.TheVariants.{IpAuthHeader}
 use Rattle.ip_base.specs.declared.len_source.LenSource.TheVariants.{Slice}
-use Rattle.ip_ext_errors.specs.declared.ip_auth.header_error.HeaderError.TheVariants.{ZeroPayloadLen}
+use Rattle.ip_base.specs.declared.err.ip_auth.header_error.HeaderError.TheVariants.{ZeroPayloadLen}
 use Rattle.ip_ext_headers.proofs.FaultLemmas.{auth_asks_fault, auth_zero_fault}
-use Rattle.ip_io.specs.Reading.{IsRefusedInLayer}
-use Rattle.ip_io.specs.LimitedReader.{inner_of, window}
-use Rattle.ip_io.specs.declared.err.io.limited_read_error.LimitedReadError.{LimitedReadError}
-use Rattle.ip_io.specs.declared.err.io.limited_read_error.LimitedReadError.TheVariants as limit
-use Rattle.ip_io.specs.declared.io.limited_reader.LimitedReader.{LimitedReader}
-use Rattle.ip_io.proofs.ReadingLemmas.{of_begun, refused_within_short, past_limit_short}
+use Rattle.ip_base.specs.Reading.{IsRefusedInLayer}
+use Rattle.ip_base.specs.LimitedReader.{inner_of, window}
+use Rattle.ip_base.specs.declared.err.io.limited_read_error.LimitedReadError.{LimitedReadError}
+use Rattle.ip_base.specs.declared.err.io.limited_read_error.LimitedReadError.TheVariants as limit
+use Rattle.ip_base.specs.declared.io.limited_reader.LimitedReader.{LimitedReader}
+use Rattle.ip_base.proofs.ReadingLemmas.{of_begun, refused_within_short, past_limit_short}
 use Rattle.ip_ext_headers.specs.declared.err.ip_auth.header_limited_read_error.HeaderLimitedReadError.{HeaderLimitedReadError}
 use Rattle.ip_ext_headers.specs.declared.err.ip_auth.header_limited_read_error.HeaderLimitedReadError.TheVariants as limited
 use Rattle.ip_ext_headers.specs.AuthReading.{auth_slice_fault, IsTooShort, IsAuthRefusedInLayer, IsSliceErrorInLayer, of_limited_error}

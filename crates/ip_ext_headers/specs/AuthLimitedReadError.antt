@@ -2,9 +2,9 @@
 use Rattle.std.specs.Prelude.{Option, Some, None}
 use Rattle.std.specs.declared.io.Error.{Error}
 use Rattle.ip_base.specs.declared.err.len_error.LenError.{LenError}
-use Rattle.ip_ext_errors.specs.Cause.{Cause, IpAuth}
-use Rattle.ip_ext_errors.specs.Cause as cause
-use Rattle.ip_ext_errors.specs.declared.ip_auth.header_error.HeaderError.{HeaderError}
+use Rattle.ip_base.specs.Cause.{Cause, IpAuth}
+use Rattle.ip_base.specs.Cause as cause
+use Rattle.ip_base.specs.declared.err.ip_auth.header_error.HeaderError.{HeaderError}
 use Rattle.ip_ext_headers.specs.declared.err.ip_auth.header_limited_read_error.HeaderLimitedReadError.{HeaderLimitedReadError}
 use Rattle.ip_ext_headers.specs.declared.err.ip_auth.header_limited_read_error.HeaderLimitedReadError.TheVariants.{Io, Len, Content}
 

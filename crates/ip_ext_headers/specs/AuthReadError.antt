@@ -1,9 +1,9 @@
 -- The two kinds of error of a read of an authentication header.
 use Rattle.std.specs.Prelude.{Option, Some, None}
 use Rattle.std.specs.declared.io.Error.{Error}
-use Rattle.ip_ext_errors.specs.Cause.{Cause, IpAuth}
-use Rattle.ip_ext_errors.specs.Cause as cause
-use Rattle.ip_ext_errors.specs.declared.ip_auth.header_error.HeaderError.{HeaderError}
+use Rattle.ip_base.specs.Cause.{Cause, IpAuth}
+use Rattle.ip_base.specs.Cause as cause
+use Rattle.ip_base.specs.declared.err.ip_auth.header_error.HeaderError.{HeaderError}
 use Rattle.ip_ext_headers.specs.declared.err.ip_auth.header_read_error.HeaderReadError.{HeaderReadError}
 use Rattle.ip_ext_headers.specs.declared.err.ip_auth.header_read_error.HeaderReadError.TheVariants.{Io, Content}
 

@@ -5,12 +5,12 @@ use Rattle.ip_base.specs.declared.err.len_error.LenError.{LenError}
 use Rattle.ip_base.specs.declared.err.layer.Layer.TheVariants.{IpAuthHeader}
 use Rattle.ip_base.specs.declared.len_source.LenSource.TheVariants.{Slice}
 use Rattle.ip_spec.specs.Requests.{AuthAsks, IsZeroLength}
-use Rattle.ip_io.specs.ExactRead.{IfSteady}
-use Rattle.ip_io.specs.LimitedReader.{inner_of}
-use Rattle.ip_io.specs.Reading.{IsRefused, IsTakenInLayer, IsPastLimit, IsRefusedWithin}
-use Rattle.ip_io.specs.declared.io.limited_reader.LimitedReader.{LimitedReader}
-use Rattle.ip_io.specs.declared.err.io.limited_read_error.LimitedReadError.{LimitedReadError}
-use Rattle.ip_io.specs.declared.err.io.limited_read_error.LimitedReadError.TheVariants as limit
+use Rattle.ip_base.specs.ExactRead.{IfSteady}
+use Rattle.ip_base.specs.LimitedReader.{inner_of}
+use Rattle.ip_base.specs.Reading.{IsRefused, IsTakenInLayer, IsPastLimit, IsRefusedWithin}
+use Rattle.ip_base.specs.declared.io.limited_reader.LimitedReader.{LimitedReader}
+use Rattle.ip_base.specs.declared.err.io.limited_read_error.LimitedReadError.{LimitedReadError}
+use Rattle.ip_base.specs.declared.err.io.limited_read_error.LimitedReadError.TheVariants as limit
 use Rattle.ip_ext_headers.specs.HeaderFault.{auth_fault}
 use Rattle.ip_ext_headers.specs.declared.err.ip_auth.header_slice_error.HeaderSliceError.{HeaderSliceError}
 use Rattle.ip_ext_headers.specs.declared.err.ip_auth.header_slice_error.HeaderSliceError.TheVariants as slice

@@ -1,6 +1,6 @@
 -- What an error of an authentication header comes of.
-use Rattle.ip_ext_errors.specs.Cause.{Cause, IpAuth}
-use Rattle.ip_ext_errors.specs.Cause as cause
+use Rattle.ip_base.specs.Cause.{Cause, IpAuth}
+use Rattle.ip_base.specs.Cause as cause
 use Rattle.ip_ext_headers.specs.declared.err.ip_auth.header_slice_error.HeaderSliceError.{HeaderSliceError}
 use Rattle.ip_ext_headers.specs.declared.err.ip_auth.header_slice_error.HeaderSliceError.TheVariants.{Len, Content}
 

@@ -7,7 +7,7 @@ use Rattle.ip_base.specs.declared.len_source.LenSource.{LenSource}
 use Rattle.ip_base.specs.LenError.{too_short, moved}
 use Rattle.ip_ext_headers.specs.declared.err.ip_auth.header_slice_error.HeaderSliceError.{HeaderSliceError}
 use Rattle.ip_ext_headers.specs.declared.err.ip_auth.header_slice_error.HeaderSliceError.TheVariants.{Len, Content}
-use Rattle.ip_ext_errors.specs.declared.ip_auth.header_error.HeaderError.TheVariants.{ZeroPayloadLen}
+use Rattle.ip_base.specs.declared.err.ip_auth.header_error.HeaderError.TheVariants.{ZeroPayloadLen}
 
 -- at hop by hop options, routing and destination options (RFC 8200, sections 4.3, 4.4, 4.6)
 abbrev pub raw_fault : LenSource → ℕ → ℕ → List ℕ → Option LenError

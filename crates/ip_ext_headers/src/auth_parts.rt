@@ -5,9 +5,9 @@ ghost use Rattle.ip_spec.specs.Prefix.{NoPrefix};
 ghost use Rattle.ip_spec.specs.Header.{IsAuthHeader};
 ghost use Rattle.ip_spec.specs.Fields.{auth_fields};
 ghost use Rattle.ip_spec.specs.Lengths.{IsIcvLen};
-ghost use Rattle.ip_io.specs.ExactRead.{IfSteady};
-ghost use Rattle.ip_io.specs.LimitedReader.{inner_of, window};
-ghost use Rattle.ip_io.specs.Reading.{IsHeaderTaken, IsTakenInLayer};
+ghost use Rattle.ip_base.specs.ExactRead.{IfSteady};
+ghost use Rattle.ip_base.specs.LimitedReader.{inner_of, window};
+ghost use Rattle.ip_base.specs.Reading.{IsHeaderTaken, IsTakenInLayer};
 ghost use Rattle.ip_base.specs.declared.err.layer.Layer.TheVariants.{IpAuthHeader as AuthLayer};
 ghost use Rattle.ip_ext_headers.specs.AuthReading.{auth_slice_fault, IsAuthRefused, IsAuthRefusedInLayer, IsSliceError, IsSliceErrorInLayer};
 ghost use Rattle.ip_ext_headers.specs.AuthReadError.{io_of};
@@ -16,7 +16,7 @@ ghost use Rattle.ip_ext_headers.specs.AuthLimitedReadError.{io_of as limited_io_
 use crate::err::ip_auth::{HeaderError, HeaderLimitedReadError, HeaderReadError};
 use ip_base::IpNumber;
 use ip_base::err::Layer;
-use ip_io::io::{ExactRead, LimitedReader};
+use ip_base::io::{ExactRead, LimitedReader};
 
 /// The parts of a header, of which the check value lies in a buffer.
 #[derive(Drop)]

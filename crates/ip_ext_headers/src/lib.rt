@@ -15,7 +15,7 @@ mod ipv6_raw_ext_header_slice;
 
 pub use ip_auth_header::{IPv6AuthenticationHeader, IpAuthHeader, IpAuthenticationHeader};
 pub use ip_auth_header_slice::{IpAuthHeaderSlice, IpAuthenticationHeaderSlice};
-pub use ip_io::io;
+pub use ip_base::io;
 pub use ipv6_fragment_header::Ipv6FragmentHeader;
 pub use ipv6_fragment_header_slice::Ipv6FragmentHeaderSlice;
 pub use ipv6_raw_ext_header::{Ipv6RawExtHeader, Ipv6RawExtensionHeader};

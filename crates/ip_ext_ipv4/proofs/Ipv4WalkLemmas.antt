@@ -12,8 +12,8 @@ use Rattle.ip_spec.proofs.DemandKinds.{at_most_one_of}
 use Rattle.ip_spec.proofs.EncodingLemmas.{auth_written, auth_only}
 use Rattle.ip_spec.proofs.EncodedLemmas.{one_encoded}
 use Rattle.ip_spec.proofs.ClearedLemmas.{cleared_encodes as header_encodes}
-use Rattle.ip_ext_errors.specs.declared.ipv4_exts.exts_walk_error.ExtsWalkError.{ExtsWalkError}
-use Rattle.ip_ext_errors.specs.declared.ipv4_exts.exts_walk_error.ExtsWalkError.TheVariants.{ExtNotReferenced}
+use Rattle.ip_base.specs.declared.err.ipv4_exts.exts_walk_error.ExtsWalkError.{ExtsWalkError}
+use Rattle.ip_base.specs.declared.err.ipv4_exts.exts_walk_error.ExtsWalkError.TheVariants.{ExtNotReferenced}
 use Rattle.ip_ext_ipv4.specs.Ipv4Longest.{longest_ipv4_chain}
 use Rattle.ip_ext_ipv4.specs.Ipv4Parse.{ipv4_value, IsIpv4Answer}
 use Rattle.ip_ext_ipv4.specs.Ipv4Fault.{ipv4_faults}

@@ -9,8 +9,8 @@ use Rattle.ip_spec.specs.Demand.{AtMostOneOf}
 use Rattle.ip_spec.specs.Encoding.{IsCleared}
 use Rattle.ip_spec.specs.Parse.{IsRead}
 use Rattle.ip_ext_ipv4.specs.Ipv4Parse.{ipv4_value}
-use Rattle.ip_ext_errors.specs.declared.ipv4_exts.exts_walk_error.ExtsWalkError.{ExtsWalkError}
-use Rattle.ip_ext_errors.specs.declared.ipv4_exts.exts_walk_error.ExtsWalkError.TheVariants.{ExtNotReferenced}
+use Rattle.ip_base.specs.declared.err.ipv4_exts.exts_walk_error.ExtsWalkError.{ExtsWalkError}
+use Rattle.ip_base.specs.declared.err.ipv4_exts.exts_walk_error.ExtsWalkError.TheVariants.{ExtNotReferenced}
 
 -- the number to which the headers lead from number f, or the error that f doesn't name the header
 abbrev pub ipv4_walk : Option AuthFields → ℕ → Result IpNumber ExtsWalkError

@@ -1,8 +1,8 @@
 -- The two kinds of refusal of a write.
 use Rattle.std.specs.Prelude.{Option, Some, None}
 use Rattle.std.specs.declared.alloc.AllocError.{AllocError}
-use Rattle.ip_ext_errors.specs.ChainCause.{ChainCause, Memory, Ipv4Walk}
-use Rattle.ip_ext_errors.specs.declared.ipv4_exts.exts_walk_error.ExtsWalkError.{ExtsWalkError}
+use Rattle.ip_base.specs.ChainCause.{ChainCause, Memory, Ipv4Walk}
+use Rattle.ip_base.specs.declared.err.ipv4_exts.exts_walk_error.ExtsWalkError.{ExtsWalkError}
 use Rattle.ip_ext_ipv4.specs.declared.err.ipv4_exts.header_write_error.HeaderWriteError.{HeaderWriteError}
 use Rattle.ip_ext_ipv4.specs.declared.err.ipv4_exts.header_write_error.HeaderWriteError.TheVariants.{Io, Content}
 

@@ -4,8 +4,8 @@ ghost use Rattle.ip_base.specs.declared.err.layer.Layer.TheVariants.{IpAuthHeade
 ghost use Rattle.ip_spec.specs.Numbers.{AUTHENTICATION};
 ghost use Rattle.ip_spec.specs.Header.{IsAuthHeader};
 ghost use Rattle.ip_spec.specs.Fields.{auth_fields};
-ghost use Rattle.ip_io.specs.LimitedReader.{inner_of, window};
-ghost use Rattle.ip_io.specs.Reading.{IsHeaderTaken, IsAnswerTaken, IsTakenInLayer};
+ghost use Rattle.ip_base.specs.LimitedReader.{inner_of, window};
+ghost use Rattle.ip_base.specs.Reading.{IsHeaderTaken, IsAnswerTaken, IsTakenInLayer};
 ghost use Rattle.ip_ext_headers.specs.AuthReading.{IsAuthRefused, IsAuthRefusedInLayer, IsSliceError, IsSliceErrorInLayer};
 ghost use Rattle.ip_ext_ipv4.specs.Ipv4Fault.{ipv4_chain_fault};
 ghost use Rattle.ip_ext_ipv4.specs.Ipv4Reading.{Answers};

@@ -5,10 +5,10 @@ use Rattle.ip_base.specs.declared.err.layer.Layer.TheVariants.{Ipv6HopByHopHeade
 use Rattle.ip_base.specs.declared.err.len_error.LenError.{LenError}
 use Rattle.ip_base.specs.declared.len_source.LenSource.{LenSource}
 use Rattle.ip_ext_headers.specs.HeaderFault.{raw_fault, fragment_fault, auth_fault}
-use Rattle.ip_ext_errors.specs.declared.ip_auth.header_error.HeaderError.TheVariants.{ZeroPayloadLen}
+use Rattle.ip_base.specs.declared.err.ip_auth.header_error.HeaderError.TheVariants.{ZeroPayloadLen}
 use Rattle.ip_ext_headers.proofs.FaultLemmas.{raw_at_header, fragment_at_header, auth_at_header, raw_asks_fault, fragment_asks_fault, auth_asks_fault, auth_zero_fault}
 use Rattle.ip_ext_slices.specs.ChainFault.{Fault, short_at, auth_at, fault_at}
-use Rattle.ip_ext_errors.specs.declared.ipv6_exts.header_error.HeaderError.TheVariants.{IpAuth}
+use Rattle.ip_base.specs.declared.err.ipv6_exts.header_error.HeaderError.TheVariants.{IpAuth}
 use Rattle.ip_ext_slices.specs.declared.err.ipv6_exts.header_slice_error.HeaderSliceError.TheVariants.{Content}
 
 module _ (source : LenSource) (n k : ℕ) (x : List ℕ) where

@@ -1,9 +1,9 @@
 -- The two kinds of error of an IPv6 chain.
 use Rattle.std.specs.Prelude.{Option, Some, None}
 use Rattle.ip_base.specs.declared.err.len_error.LenError.{LenError}
-use Rattle.ip_ext_errors.specs.ChainCause.{ChainCause, Ipv6Exts}
-use Rattle.ip_ext_errors.specs.ChainCause as cause
-use Rattle.ip_ext_errors.specs.declared.ipv6_exts.header_error.HeaderError.{HeaderError}
+use Rattle.ip_base.specs.ChainCause.{ChainCause, Ipv6Exts}
+use Rattle.ip_base.specs.ChainCause as cause
+use Rattle.ip_base.specs.declared.err.ipv6_exts.header_error.HeaderError.{HeaderError}
 use Rattle.ip_ext_slices.specs.declared.err.ipv6_exts.header_slice_error.HeaderSliceError.{HeaderSliceError}
 use Rattle.ip_ext_slices.specs.declared.err.ipv6_exts.header_slice_error.HeaderSliceError.TheVariants.{Len, Content}
 

@@ -2,5 +2,5 @@
 pub mod ip_auth;
 pub mod ipv6_exts;
 
-pub use ip_ext_errors::Source;
-pub use ip_io::err::io;
+pub use ip_base::err::Source;
+pub use ip_base::err::io;

@@ -2,5 +2,5 @@
 pub mod ipv6_exts;
 
 pub use ip_base::err::{Layer, LenError};
-pub use ip_ext_errors::ChainSource;
+pub use ip_base::err::ChainSource;
 pub use ip_ext_headers::err::ip_auth;

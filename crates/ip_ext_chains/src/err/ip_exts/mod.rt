@@ -2,4 +2,4 @@
 mod headers_slice_error;
 
 pub use headers_slice_error::HeadersSliceError;
-pub use ip_ext_errors::ip_exts::{ExtsWalkError, HeaderError};
+pub use ip_base::err::ip_exts::{ExtsWalkError, HeaderError};

@@ -1,6 +1,6 @@
 ghost use Rattle.std.specs.Prelude.{◌≡◌, Some};
 ghost use Rattle.std.specs.Option.{option_map};
-ghost use Rattle.ip_ext_errors.specs.Cause.{cause_in};
+ghost use Rattle.ip_base.specs.Cause.{cause_in};
 
 use super::HeaderError;
 use crate::err::Source;

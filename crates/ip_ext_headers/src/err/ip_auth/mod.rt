@@ -8,4 +8,4 @@ pub use header_limited_read_error::HeaderLimitedReadError;
 pub use header_read_error::HeaderReadError;
 pub use header_slice_error::HeaderSliceError;
 pub use icv_len_error::IcvLenError;
-pub use ip_ext_errors::ip_auth::HeaderError;
+pub use ip_base::err::ip_auth::HeaderError;

@@ -2,4 +2,4 @@
 mod header_write_error;
 
 pub use header_write_error::HeaderWriteError;
-pub use ip_ext_errors::ipv4_exts::ExtsWalkError;
+pub use ip_base::err::ipv4_exts::ExtsWalkError;

@@ -2,4 +2,4 @@
 mod header_slice_error;
 
 pub use header_slice_error::HeaderSliceError;
-pub use ip_ext_errors::ipv6_exts::HeaderError;
+pub use ip_base::err::ipv6_exts::HeaderError;

@@ -1,5 +1,5 @@
 use Rattle.ip_spec.proofs.Common.{ℕ, ◌<◌, ◌+◌, List, true, arith, ap, length, Option, Some, None, Consumes, length-append, bytes_of}
-use Rattle.ip_io.specs.ExactRead.{IfSteady}
+use Rattle.ip_base.specs.ExactRead.{IfSteady}
 use Rattle.ip_outcomes.proofs.read_outcomes.is_chain_cut.Goals as goal
 
 -- behind `done`, fewer than count bytes are left

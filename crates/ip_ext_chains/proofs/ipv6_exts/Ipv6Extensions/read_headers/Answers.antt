@@ -1,7 +1,7 @@
 use Rattle.ip_spec.proofs.Common.{◌≡◌, ◌∷◌, ◌++◌, refl, sym, ◌∙◌, arith, [], ExtHeader}
 use Rattle.ip_ext_chains.proofs.ReadingLemmas.{reading_next, nested, is_number_in, not_taken, fewer, later, zero_not_taken, no_place_answers}
 use Rattle.ip_ext_chains.proofs.ReadErrorLemmas.{taken_next, refused_as, refused_error}
-use Rattle.ip_ext_errors.specs.declared.ipv6_exts.header_error.HeaderError.TheVariants.{HopByHopNotAtStart}
+use Rattle.ip_base.specs.declared.err.ipv6_exts.header_error.HeaderError.TheVariants.{HopByHopNotAtStart}
 use Rattle.ip_ext_chains.specs.declared.err.ipv6_exts.header_read_error.HeaderReadError.TheVariants as read
 use Rattle.ip_ext_chains.proofs.ipv6_exts.Ipv6Extensions.read_headers.Goals as goal
 

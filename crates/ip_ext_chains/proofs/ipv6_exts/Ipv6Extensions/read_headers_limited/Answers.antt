@@ -1,7 +1,7 @@
 use Rattle.ip_spec.proofs.Common.{rules, ◌≡◌, ◌∷◌, ◌++◌, refl, sym, ◌∙◌, arith, [], ExtHeader}
 use Rattle.ip_ext_chains.proofs.ReadingLemmas.{reading_none, reading_next, nested, is_number_in, not_taken, fewer, later, zero_not_taken, no_place_answers, named}
 use Rattle.ip_ext_chains.proofs.ReadErrorLemmas.{layer_next, no_layer, layer_refused_as, layer_refused_error}
-use Rattle.ip_ext_errors.specs.declared.ipv6_exts.header_error.HeaderError.TheVariants.{HopByHopNotAtStart}
+use Rattle.ip_base.specs.declared.err.ipv6_exts.header_error.HeaderError.TheVariants.{HopByHopNotAtStart}
 use Rattle.ip_ext_chains.specs.declared.err.ipv6_exts.header_limited_read_error.HeaderLimitedReadError.TheVariants as limited
 use Rattle.ip_ext_chains.proofs.ipv6_exts.Ipv6Extensions.read_headers_limited.Goals as goal
 

@@ -1,6 +1,6 @@
 use Rattle.ip_spec.proofs.Common.{rules, arith, ◌≡◌, ◌-◌, ◌*◌, ◌++◌, length, ◌∙◌, slice_index, refl, sym, [], Consumes-nil, Consumes-trans, AuthAsks, auth_start, auth_icv}
 use Rattle.ip_spec.proofs.RequestLemmas.{auth_joined, auth_joined_fields}
-use Rattle.ip_io.proofs.ReadingLemmas.{refused_behind, refused_short}
+use Rattle.ip_base.proofs.ReadingLemmas.{refused_behind, refused_short}
 use Rattle.ip_ext_headers.specs.AuthReading.{auth_slice_fault, IsTooShort}
 use Rattle.ip_ext_headers.proofs.AuthLemmas.{auth_short}
 use Rattle.ip_ext_headers.proofs.auth_parts.AuthParts.take.Goals as goal

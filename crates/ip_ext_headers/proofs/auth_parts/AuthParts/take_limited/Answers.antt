@@ -1,7 +1,7 @@
 use Rattle.ip_spec.proofs.Common.{rules, arith, ◌≡◌, ◌-◌, ◌*◌, ◌++◌, length, List, ℕ, ap, ◌∙◌, slice_index, refl, sym, [], AuthAsks, auth_start, auth_icv}
 use Rattle.ip_base.specs.declared.err.layer.Layer.TheVariants.{IpAuthHeader as AuthLayer}
 use Rattle.ip_spec.proofs.RequestLemmas.{auth_joined, auth_joined_fields}
-use Rattle.ip_io.proofs.ReadingLemmas.{taken_none, taken_more, refused_in_layer}
+use Rattle.ip_base.proofs.ReadingLemmas.{taken_none, taken_more, refused_in_layer}
 use Rattle.ip_ext_headers.proofs.AuthLemmas.{limited_refused, limited_fault}
 use Rattle.ip_ext_headers.proofs.auth_parts.AuthParts.take_limited.Goals as goal
 

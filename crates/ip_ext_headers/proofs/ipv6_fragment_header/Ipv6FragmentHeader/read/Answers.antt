@@ -1,6 +1,6 @@
 use Rattle.ip_spec.proofs.Common.{rules, refl, [], Consumes-nil, FragmentAsks, fragment_whole}
-use Rattle.ip_io.specs.Reading.{IsRefused}
-use Rattle.ip_io.proofs.ReadingLemmas.{refused_behind}
+use Rattle.ip_base.specs.Reading.{IsRefused}
+use Rattle.ip_base.proofs.ReadingLemmas.{refused_behind}
 use Rattle.ip_ext_headers.proofs.ipv6_fragment_header.Ipv6FragmentHeader.read.Goals as goal
 
 pub returns-in_err-read_exact-clause-refused : goal.returns-in_err-read_exact-clause-refused

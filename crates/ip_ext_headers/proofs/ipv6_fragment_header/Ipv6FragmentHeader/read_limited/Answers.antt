@@ -1,6 +1,6 @@
 use Rattle.ip_spec.proofs.Common.{arith, ap, refl, sym, [], err_from_is_err_and, FragmentAsks, fragment_whole}
 use Rattle.ip_base.specs.declared.err.layer.Layer.TheVariants.{Ipv6FragHeader}
-use Rattle.ip_io.proofs.ReadingLemmas.{taken_none, taken_more, refused_in_layer}
+use Rattle.ip_base.proofs.ReadingLemmas.{taken_none, taken_more, refused_in_layer}
 use Rattle.ip_ext_headers.proofs.ipv6_fragment_header.Ipv6FragmentHeader.read_limited.Goals as goal
 
 pub returns-in_err-read_exact-clause-refused : goal.returns-in_err-read_exact-clause-refused

@@ -1,7 +1,7 @@
 use Rattle.ip_spec.proofs.Common.{rules, arith, ◌≡◌, ◌+◌, ◌*◌, ◌++◌, length, List, ℕ, ap, ◌∙◌, slice_index, refl, sym, [], RawAsks, raw_start, raw_rest}
 use Rattle.ip_base.specs.declared.err.layer.Layer.TheVariants.{Ipv6ExtHeader}
 use Rattle.ip_spec.proofs.RequestLemmas.{raw_joined, raw_joined_fields}
-use Rattle.ip_io.proofs.ReadingLemmas.{taken_none, taken_more, refused_in_layer}
+use Rattle.ip_base.proofs.ReadingLemmas.{taken_none, taken_more, refused_in_layer}
 use Rattle.ip_ext_headers.proofs.ipv6_raw_ext_header.Ipv6RawExtHeader.read_limited.Goals as goal
 
 pub returns-in-Err-clause-refused : goal.returns-in-Err-clause-refused

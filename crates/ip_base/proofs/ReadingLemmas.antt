@@ -1,0 +1,72 @@
+-- Bytes that were taken, and requests that were refused behind them.
+use Rattle.ip_spec.proofs.Common.{common_steps, ◌≡◌, ℕ, ◌+◌, ◌-◌, ◌<◌, ◌≤◌, List, ◌++◌, length, take, arith, Bool, rules, [], Option, IfSome, option_map, Consumes, IfSome_then, take-append-add, length-take}
+use Rattle.std.proofs.Common.{length-append}
+use Rattle.ip_base.specs.declared.err.layer.Layer.{Layer}
+use Rattle.ip_base.specs.declared.err.len_error.LenError.{LenError}
+use Rattle.ip_base.specs.ExactRead.{IsRefusal, IfSteady}
+use Rattle.ip_base.specs.Limits.{left, started, advanced}
+use Rattle.ip_base.specs.LimitedReader.{inner_of, limits_of, window, IsLimitedRefusal}
+use Rattle.ip_base.specs.Reading.{IsRefused, IsRefusedBehind, IsTakenInLayer, IsPastLimit, IsRefusedWithin, IsRefusedInLayer}
+use Rattle.ip_base.specs.declared.err.io.limited_read_error.LimitedReadError.{LimitedReadError}
+use Rattle.ip_base.specs.declared.io.limited_reader.LimitedReader.{LimitedReader}
+
+-- what is taken of bytes is taken of their beginning, where it is long enough
+pub taken_of_front : (a b : Option (List ℕ)) (n m : ℕ) (bytes : List ℕ) → Consumes a b bytes → length bytes + m ≡ n → Consumes (option_map (take n) a) (option_map (take m) b) bytes
+taken_of_front a b n m bytes c e = search (rules, take-append-add)
+
+-- a refused request of a reader
+pub refused_behind : (Asks : List ℕ → ℕ → Type 0) (steady then_steady : Bool) (first then : Option (List ℕ)) (failed : Bool) (done : List ℕ) (count : ℕ)
+    → then_steady ≡ steady → Consumes first then done → Asks done count → IsRefusal then_steady then count failed → IsRefused Asks steady first failed
+refused_behind Asks steady then_steady first then failed done count e c a r = search rules
+
+-- what holds of bytes behind some that were taken
+pub lift_some : (a b : Option (List ℕ)) (done : List ℕ) (Q : List ℕ → Type 0) → Consumes a b done → IfSome b (λ y. Q (done ++ y)) → IfSome a Q
+lift_some a b done Q c f = search rules
+
+pub of_all : (o : Option (List ℕ)) (R : List ℕ → Type 0) → ((y : List ℕ) → R y) → IfSome o R
+of_all o R f = search rules
+
+pub of_begun : (a b : Option (List ℕ)) (done : List ℕ) (R : List ℕ → Type 0) → Consumes a b done → ((xs : List ℕ) → R (done ++ xs)) → IfSome a R
+of_begun a b done R c f = lift_some a b done R c (of_all b (λ y. R (done ++ y)) f)
+
+-- What holds where too few bytes are behind those that came.
+module _ (Asks : List ℕ → ℕ → Type 0) (P : List ℕ → Type 0) (short : (done : List ℕ) (count : ℕ) (rest : List ℕ) → Asks done count → length rest < count → P (done ++ rest)) where
+  short_of : (a b : Option (List ℕ)) (done : List ℕ) (count : ℕ) → Asks done count → Consumes a b done → IfSome b (λ ys. length ys < count) → IfSome a P
+  short_of a b done count k c f = lift_some a b done P c (IfSome_then b f (λ ys. short done count ys k))
+
+  few_of_front : (b : Option (List ℕ)) (m count : ℕ) → m < count → IfSome (option_map (take m) b) (λ ys. length ys < count)
+  few_of_front b m count l = search (rules, length-take)
+
+  pub refused_short : (steady : Bool) (first : Option (List ℕ)) (failed : Bool) → IsRefused Asks steady first failed → IfSteady steady first P
+  refused_short steady first failed r = search rules
+
+  within_short : (steady : Bool) (first : Option (List ℕ)) (failed : Bool) (done : List ℕ) (count n : ℕ)
+      → IsRefusedBehind Asks steady first failed done count → length done + count ≤ n → IfSteady steady (option_map (take n) first) P
+  within_short steady first failed done count n r l = grind (arith, common_steps)
+
+  module _ {T : Type 0} (bytes_left : T → Option (List ℕ)) (is_steady has_failed : T → Bool) (layer : Layer) (old new : LimitedReader T) where
+    pub past_limit_short : (e : LenError) → IsPastLimit bytes_left is_steady has_failed Asks layer old new e → IfSome (window bytes_left old) P
+    past_limit_short e p = search (rules, short_of, few_of_front)
+
+    pub refused_within_short : IsRefusedWithin bytes_left is_steady has_failed Asks layer old new → IfSteady (is_steady (inner_of old)) (window bytes_left old) P
+    refused_within_short r = within_short _ _ _ r.done r.count (left (limits_of old)) r.refused r.within
+
+-- Bytes taken in a layer.
+module _ {T : Type 0} (bytes_left : T → Option (List ℕ)) (layer : Layer) where
+  -- none where it begins
+  pub taken_none : (old start : LimitedReader T) → inner_of start ≡ inner_of old → limits_of start ≡ started layer (limits_of old) → IsTakenInLayer bytes_left layer old start []
+  taken_none old start same limits = search rules
+
+  -- and n more behind some
+  pub taken_more : (old mid new : LimitedReader T) (h p : List ℕ) (n : ℕ) → IsTakenInLayer bytes_left layer old mid h → length p ≡ n
+      → Consumes (bytes_left (inner_of mid)) (bytes_left (inner_of new)) p → n ≤ left (limits_of mid) → limits_of new ≡ advanced n (limits_of mid)
+      → IsTakenInLayer bytes_left layer old new (h ++ p)
+  taken_more old mid new h p n t is c l e = grind (arith, common_steps, length-append, taken_of_front)
+
+  -- a request refused behind them
+  module _ (is_steady has_failed : T → Bool) (Asks : List ℕ → ℕ → Type 0) where
+    pub refused_in_layer : (old mid new : LimitedReader T) (done : List ℕ) (count : ℕ) (e : LimitedReadError) → IsTakenInLayer bytes_left layer old mid done
+        → is_steady (inner_of mid) ≡ is_steady (inner_of old) → has_failed (inner_of mid) ≡ has_failed (inner_of old)
+        → Asks done count → IsLimitedRefusal bytes_left is_steady has_failed mid new count e → limits_of new ≡ limits_of mid
+        → IsRefusedInLayer bytes_left is_steady has_failed Asks layer old new e
+    refused_in_layer old mid new done count e t steady kept asked r same = search rules

@@ -1,0 +1,53 @@
+ghost use Rattle.std.specs.Prelude.{◌≡◌, Some};
+ghost use Rattle.std.specs.Option.{option_map};
+ghost use Rattle.ip_base.specs.Cause.{cause_in};
+
+use crate::err::LenError;
+use crate::err::Source;
+use std::io;
+use thiserror::Error;
+
+/// Why bytes weren't read within a limit.
+#[derive(Debug, Drop, Error)]
+pub enum LimitedReadError {
+    /// The reader failed.
+    #[error(transparent)]
+    Io(io::Error),
+    /// More bytes were asked for than the limit leaves.
+    #[error(transparent)]
+    Len(LenError),
+}
+
+impl LimitedReadError {
+    ghost use Rattle.ip_base.specs.LimitedReadError.{io_of, len_of, cause_of};
+
+    /// The reader's error, if it is one.
+    pub fn io(self) -> Option<io::Error>
+        ensures { result ≡ io_of self }
+    {
+        match self {
+            LimitedReadError::Io(e) => Some(e),
+            LimitedReadError::Len(_) => None,
+        }
+    }
+
+    /// The error of a length, if it is one.
+    pub fn len(self) -> Option<LenError>
+        ensures { result ≡ len_of self }
+    {
+        match self {
+            LimitedReadError::Io(_) => None,
+            LimitedReadError::Len(e) => Some(e),
+        }
+    }
+
+    /// What the error comes of.
+    pub fn source(&self) -> Option<Source<'_>>
+        ensures { option_map cause_in result ≡ Some (cause_of self.now) }
+    {
+        match self {
+            LimitedReadError::Io(e) => Some(Source::Io(e)),
+            LimitedReadError::Len(e) => Some(Source::Len(e)),
+        }
+    }
+}

@@ -1,0 +1,31 @@
+ghost use Rattle.std.specs.Prelude.{◌≡◌, Some};
+ghost use Rattle.std.specs.Option.{option_map};
+ghost use Rattle.ip_base.specs.ChainCause.{chain_cause_in};
+
+use crate::err::{ChainSource, ipv4_exts, ipv6_exts};
+use thiserror::Error;
+
+/// Why a walk over the extension headers of a packet of either version doesn't reach each of them.
+#[derive(Clone, Debug, PartialEq, Eq, Hash, Drop, Error)]
+pub enum ExtsWalkError {
+    /// Behind IPv4.
+    #[error(transparent)]
+    Ipv4Exts(ipv4_exts::ExtsWalkError),
+    /// Behind IPv6.
+    #[error(transparent)]
+    Ipv6Exts(ipv6_exts::ExtsWalkError),
+}
+
+impl ExtsWalkError {
+    ghost use Rattle.ip_base.specs.IpWalkError.{cause_of};
+
+    /// What the error comes of: that of the version.
+    pub fn source(&self) -> Option<ChainSource<'_>>
+        ensures { option_map chain_cause_in result ≡ Some (cause_of self.now) }
+    {
+        match self {
+            ExtsWalkError::Ipv4Exts(e) => Some(ChainSource::Ipv4Walk(e)),
+            ExtsWalkError::Ipv6Exts(e) => Some(ChainSource::Ipv6Walk(e)),
+        }
+    }
+}

@@ -1,9 +1,0 @@
--- What an error in the bytes of extension headers of either version comes of.
-use Rattle.ip_ext_errors.specs.ChainCause.{ChainCause, IpAuth, Ipv6Exts}
-use Rattle.ip_ext_errors.specs.declared.ip_exts.header_error.HeaderError.{HeaderError}
-use Rattle.ip_ext_errors.specs.declared.ip_exts.header_error.HeaderError.TheVariants.{Ipv4Ext, Ipv6Ext}
-
--- the error of the version
-abbrev pub cause_of : HeaderError → ChainCause
-cause_of (Ipv4Ext e) = IpAuth e
-cause_of (Ipv6Ext e) = Ipv6Exts e

@@ -5,7 +5,7 @@ use Rattle.ip_base.specs.Ipv6Header.{payload_length, ipv6_next_header}
 use Rattle.ip_spec.specs.Chain.{leads_to, has_fragmenting}
 use Rattle.ip_spec.specs.Parse.{rest_behind}
 use Rattle.ip_ext_slices.specs.Longest.{longest_chain}
-use Rattle.ip_ext_ipv4.specs.Ipv4Longest.{longest_ipv4_chain}
+use Rattle.ip_ext_slices.specs.Ipv4Longest.{longest_ipv4_chain}
 use Rattle.etherparse_ip.specs.LenSources.{ipv4_len_source, ipv6_len_source}
 use Rattle.etherparse_ip.specs.Packet.{Parts}
 use Rattle.etherparse_ip.specs.PacketFault.{ipv4_behind, ipv6_behind}

@@ -16,7 +16,7 @@ use Rattle.ip_ext_headers.specs.declared.err.ip_auth.header_slice_error.HeaderSl
 use Rattle.ip_ext_slices.specs.declared.err.ipv6_exts.header_slice_error.HeaderSliceError.{HeaderSliceError as ExtsSliceError}
 use Rattle.ip_ext_slices.specs.declared.err.ipv6_exts.header_slice_error.HeaderSliceError.TheVariants as exts
 use Rattle.ip_ext_slices.specs.ChainFault.{chain_fault}
-use Rattle.ip_ext_ipv4.specs.Ipv4Fault.{ipv4_chain_fault}
+use Rattle.ip_ext_slices.specs.Ipv4Fault.{ipv4_chain_fault}
 use Rattle.etherparse_ip.specs.LenSources.{front, ipv4_len_source, ipv6_len_source}
 use Rattle.etherparse_ip.specs.declared.err.ipv4.slice_error.SliceError.{SliceError as Ipv4SliceError}
 use Rattle.etherparse_ip.specs.declared.err.ipv4.slice_error.SliceError.TheVariants as ipv4

@@ -3,7 +3,7 @@ ghost use Rattle.std.specs.Result.{result_err};
 ghost use Rattle.ip_base.specs.Ipv4HeaderSlice.{bytes};
 ghost use Rattle.ip_spec.specs.Prefix.{IsPrefix};
 ghost use Rattle.ip_ext_headers.specs.HeaderFault.{AuthOffsetFits};
-ghost use Rattle.ip_ext_ipv4.specs.Ipv4ExtensionsSlice.{headers_in};
+ghost use Rattle.ip_ext_slices.specs.Ipv4ExtensionsSlice.{headers_in};
 ghost use Rattle.etherparse_ip.specs.LenSources.{ipv4_len_source};
 ghost use Rattle.etherparse_ip.specs.Packet.{IsIpv4Packet};
 ghost use Rattle.etherparse_ip.specs.PacketFault.{auth_in_packet, ipv4_fault_behind, ipv4_fault};
@@ -12,7 +12,7 @@ use crate::err::ipv4::{HeaderSliceError, SliceError};
 use crate::err::{Layer, LenError, ip_auth};
 use crate::rest::after;
 use ip_base::{IpNumber, IpPayloadSlice, Ipv4HeaderSlice, LenSource};
-use ip_ext_ipv4::Ipv4ExtensionsSlice;
+use ip_ext_slices::Ipv4ExtensionsSlice;
 
 /// An IPv4 packet (RFC 791): its base header, its extension headers and its payload, as parts of the caller's
 /// bytes. Two are equal where all their parts are.

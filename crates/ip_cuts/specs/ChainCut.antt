@@ -3,8 +3,8 @@ use Rattle.std.specs.Prelude.{ℕ, List, length, Bool, true, false}
 use Rattle.ip_spec.specs.Chain.{bytes_of, leads_to, has_fragmenting}
 use Rattle.ip_ext_slices.specs.Longest.{longest_chain}
 use Rattle.ip_ext_slices.specs.ChainFault.{chain_fault}
-use Rattle.ip_ext_ipv4.specs.Ipv4Longest.{longest_ipv4_chain}
-use Rattle.ip_ext_ipv4.specs.Ipv4Fault.{ipv4_chain_fault}
+use Rattle.ip_ext_slices.specs.Ipv4Longest.{longest_ipv4_chain}
+use Rattle.ip_ext_slices.specs.Ipv4Fault.{ipv4_chain_fault}
 use Rattle.ip_cuts.specs.FaultFields.{chain_fault_fields, ipv4_chain_fault_fields}
 use Rattle.ip_cuts.specs.declared.chain_cut.ChainCut.{ChainCut}
 

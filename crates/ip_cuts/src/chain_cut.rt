@@ -1,6 +1,6 @@
 ghost use Rattle.std.specs.Prelude.{◌≡◌, ◌≤◌, length};
 ghost use Rattle.ip_ext_slices.specs.Longest.{longest_chain};
-ghost use Rattle.ip_ext_ipv4.specs.Ipv4Longest.{longest_ipv4_chain};
+ghost use Rattle.ip_ext_slices.specs.Ipv4Longest.{longest_ipv4_chain};
 ghost use Rattle.ip_cuts.specs.HeaderCut.{cuts_from, filled};
 ghost use Rattle.ip_cuts.specs.ChainCut.{chain_cut, ipv4_chain_cut};
 

@@ -2,7 +2,7 @@ ghost use Rattle.std.specs.Prelude.{◌≡◌, ◌+◌, ◌<◌, ◌^◌, length
 ghost use Rattle.ip_spec.specs.Chain.{bytes_of};
 ghost use Rattle.ip_ext_slices.specs.Ipv6ExtensionSlice.{header_of};
 ghost use Rattle.ip_ext_slices.specs.Ipv6ExtensionsSlice.{bytes, headers_in};
-ghost use Rattle.ip_ext_ipv4.specs.Ipv4ExtensionsSlice.{headers_in as ipv4_headers_in};
+ghost use Rattle.ip_ext_slices.specs.Ipv4ExtensionsSlice.{headers_in as ipv4_headers_in};
 ghost use Rattle.ip_cuts.specs.HeaderCut.{header_cut, cuts_from, filled};
 
 use etherparse_ip::{Ipv4ExtensionsSlice, Ipv6ExtensionSlice, Ipv6ExtensionsSlice, ip_number};

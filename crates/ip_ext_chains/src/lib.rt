@@ -23,7 +23,7 @@ pub use ip_ext_headers::{
     IpAuthHeader, IpAuthHeaderSlice, Ipv6FragmentHeader, Ipv6FragmentHeaderSlice, Ipv6RawExtHeader,
     Ipv6RawExtHeaderSlice,
 };
-pub use ip_ext_ipv4::{Ipv4Extensions, Ipv4ExtensionsSlice};
+pub use ip_ext_slices::{Ipv4Extensions, Ipv4ExtensionsSlice};
 pub use ip_ext_slices::{
     Ipv6ExtensionSlice, Ipv6ExtensionSliceIter, Ipv6ExtensionsCursor, Ipv6ExtensionsSlice,
     extension_number_left_has_fault, fault_at,

@@ -7,3 +7,11 @@ pub mod Ipv6ExtensionSlice
 pub mod Ipv6ExtensionsSlice
 pub mod Ipv6ExtensionSliceIter
 pub mod Ipv6ExtensionsCursor
+pub mod Ipv4Longest
+pub mod Ipv4Fault
+pub mod Ipv4Parse
+pub mod Ipv4Walk
+pub mod Ipv4WriteError
+pub mod Ipv4ExtensionsSlice
+pub mod Ipv4Equal
+pub mod Ipv4Reading

@@ -17,7 +17,7 @@ ghost use Rattle.ip_base.specs.declared.len_source.LenSource.TheVariants.{Slice}
 ghost use Rattle.ip_ext_headers.specs.HeaderFault.{auth_fault};
 ghost use Rattle.ip_ext_headers.specs.declared.err.ip_auth.header_slice_error.HeaderSliceError.TheVariants as auth;
 ghost use Rattle.ip_base.specs.declared.err.ip_auth.header_error.HeaderError.TheVariants.{ZeroPayloadLen};
-ghost use Rattle.ip_ext_ipv4.specs.Ipv4Fault.{ipv4_chain_fault};
+ghost use Rattle.ip_ext_slices.specs.Ipv4Fault.{ipv4_chain_fault};
 ghost use Rattle.ip_ext_slices.specs.declared.err.ipv6_exts.header_slice_error.HeaderSliceError.TheVariants as chain;
 ghost use Rattle.ip_ext_chains.specs.Fitting.{fitting_fault};
 

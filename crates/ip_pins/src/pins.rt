@@ -2,7 +2,7 @@
 //! that no contract of the type's own speaks of, the impls of each type, and how long borrowed bytes live. A type
 //! that is added joins each of these.
 ghost use Rattle.std.specs.Prelude.{◌≡◌, ◌↔◌, IsTrue, IsFalse, IfOk};
-ghost use Rattle.ip_ext_ipv4.specs.Ipv4ExtensionsSlice.{headers_in};
+ghost use Rattle.ip_ext_slices.specs.Ipv4ExtensionsSlice.{headers_in};
 ghost use Rattle.ip_ext_slices.specs.Ipv6ExtensionSlice.{header_of};
 ghost use Rattle.ip_ext_slices.specs.Ipv6ExtensionsSlice.{bytes};
 

@@ -4,9 +4,9 @@ use Rattle.std.proofs.Common.{append-nil}
 use Rattle.ip_base.specs.declared.len_source.LenSource.TheVariants.{Slice}
 use Rattle.ip_spec.proofs.HeaderLemmas.{header-least, auth_of}
 use Rattle.ip_ext_headers.specs.HeaderFault.{auth_fault}
-use Rattle.ip_ext_ipv4.specs.Ipv4Fault.{ipv4_faults}
-use Rattle.ip_ext_ipv4.specs.Ipv4Longest.{longest_ipv4_chain}
-use Rattle.ip_ext_ipv4.proofs.Ipv4Lemmas.{answer_of_one, answer_of_none}
+use Rattle.ip_ext_slices.specs.Ipv4Fault.{ipv4_faults}
+use Rattle.ip_ext_slices.specs.Ipv4Longest.{longest_ipv4_chain}
+use Rattle.ip_ext_slices.proofs.Ipv4Lemmas.{answer_of_one, answer_of_none}
 use Rattle.ipexts_tool.specs.Exts4.{exts4_answer}
 use Rattle.ipexts_tool.specs.Parts.{header_line, header_lines, next_line, ipv4_end_line, ok_line}
 

@@ -5,8 +5,8 @@ ghost use Rattle.ip_spec.specs.Fields.{AuthFields};
 ghost use Rattle.ip_spec.specs.Numbers.{AUTHENTICATION};
 ghost use Rattle.ip_spec.specs.Demand.{AtMostOneOf};
 ghost use Rattle.ip_spec.specs.Parse.{IsRead};
-ghost use Rattle.ip_ext_ipv4.specs.Ipv4Longest.{longest_ipv4_chain};
-ghost use Rattle.ip_ext_ipv4.specs.Ipv4Parse.{ipv4_value};
+ghost use Rattle.ip_ext_slices.specs.Ipv4Longest.{longest_ipv4_chain};
+ghost use Rattle.ip_ext_slices.specs.Ipv4Parse.{ipv4_value};
 
 use ip_base::IpNumber;
 use ip_ext_chains::err::ipv4_exts::HeaderWriteError;

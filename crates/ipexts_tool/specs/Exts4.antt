@@ -3,8 +3,8 @@
 use Rattle.std.specs.Prelude.{ℕ, List, ◌++◌, length}
 use Rattle.ip_spec.specs.Parse.{rest_behind}
 use Rattle.ip_ext_chains.specs.Chain.{leads_to}
-use Rattle.ip_ext_ipv4.specs.Ipv4Fault.{ipv4_chain_fault}
-use Rattle.ip_ext_ipv4.specs.Ipv4Longest.{longest_ipv4_chain}
+use Rattle.ip_ext_slices.specs.Ipv4Fault.{ipv4_chain_fault}
+use Rattle.ip_ext_slices.specs.Ipv4Longest.{longest_ipv4_chain}
 use Rattle.ipexts_tool.specs.Parts.{header_lines, next_line, ipv4_end_line}
 
 abbrev pub exts4_answer : ℕ → List ℕ → List ℕ

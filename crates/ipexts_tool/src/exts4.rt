@@ -1,6 +1,6 @@
 //! The answer to `exts4 N HEX`.
 ghost use Rattle.std.specs.Prelude.{◌≡◌, ◌++◌, OnOk, string_bytes};
-ghost use Rattle.ip_ext_ipv4.specs.Ipv4ExtensionsSlice.{headers_in};
+ghost use Rattle.ip_ext_slices.specs.Ipv4ExtensionsSlice.{headers_in};
 ghost use Rattle.ipexts_tool.specs.Exts4.{exts4_answer};
 ghost use Rattle.ipexts_tool.specs.Parts.{header_lines};
 

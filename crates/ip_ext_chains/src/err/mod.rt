@@ -5,4 +5,4 @@ pub mod ipv6_exts;
 pub use ip_base::err::{Layer, LenError};
 pub use ip_base::err::ChainSource;
 pub use ip_ext_headers::err::ip_auth;
-pub use ip_ext_ipv4::err::ipv4_exts;
+pub use ip_ext_slices::err::ipv4_exts;

@@ -1,6 +1,6 @@
-//! Errors of IPv6 chains, and those of the crates below that they contain.
+//! Errors of chains and of IPv4 extension headers, and the errors of lower crates that they contain.
+pub mod ipv4_exts;
 pub mod ipv6_exts;
 
-pub use ip_base::err::{Layer, LenError};
-pub use ip_base::err::ChainSource;
+pub use ip_base::err::{ChainSource, Layer, LenError};
 pub use ip_ext_headers::err::ip_auth;

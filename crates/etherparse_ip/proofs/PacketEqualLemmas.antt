@@ -40,9 +40,13 @@ ipv6_tells : (a b : Ipv6Slice) → Decides (ipv6_packet_equal a b) (ipv6_parts a
 ipv6_tells a b =
     let same = Decides-and _ _ (bytes_tell _ _) (Decides-and _ _ (Decides-and _ _ (numbers_tell _ _) (bytes_tell _ _)) (payloads_tell a.payload b.payload)) in (
       λ k. let told = same.0 k in search (rules, told.0, told.1.0.0, told.1.0.1, told.1.1.0, told.1.1.1.0, told.1.1.1.1.0, told.1.1.1.1.1),
-      λ e. let headers = ap (λ p. p.headers) e in same.1 (ap (λ p. p.base) e,
-        ((same_headers-first a.exts b.exts headers, same_headers-bytes a.exts b.exts headers),
-        (ap (λ p. p.number) e, (ap (λ p. p.fragmented) e, (ap (λ p. p.source) e, ap (λ p. p.payload) e))))),
+      λ e. let headers = ap (λ p. p.headers) e in same.1 (
+        ap (λ p. p.base) e,
+        (
+          (same_headers-first a.exts b.exts headers, same_headers-bytes a.exts b.exts headers),
+          (ap (λ p. p.number) e, (ap (λ p. p.fragmented) e, (ap (λ p. p.source) e, ap (λ p. p.payload) e))),
+        ),
+      ),
     )
 
 -- what a comparison of them answers

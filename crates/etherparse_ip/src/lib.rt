@@ -13,7 +13,7 @@ mod rest;
 
 pub use ip_base::{
     IpFragOffset, IpNumber, IpPayloadSlice, Ipv4Header, Ipv4HeaderSlice, Ipv6Header,
-    Ipv6HeaderSlice, LenSource, ip_number,
+    Ipv6HeaderSlice, LenSource, io, ip_number,
 };
 pub use ip_ext_chains::{
     Ipv4Extensions, Ipv4ExtensionsSlice, Ipv6ExtensionSlice, Ipv6ExtensionSliceIter,
@@ -25,7 +25,6 @@ pub use ip_ext_headers::{
     IpAuthenticationHeaderSlice, Ipv6FragmentHeader, Ipv6FragmentHeaderSlice, Ipv6RawExtHeader,
     Ipv6RawExtHeaderSlice, Ipv6RawExtensionHeader, Ipv6RawExtensionHeaderSlice,
 };
-pub use ip_base::io;
 pub use ip_slice::IpSlice;
 pub use ipv4_slice::Ipv4Slice;
 pub use ipv6_slice::Ipv6Slice;

@@ -1,5 +1,5 @@
 -- Bytes that were taken, and requests that were refused behind them.
-use Rattle.ip_spec.proofs.Common.{common_steps, ◌≡◌, ℕ, ◌+◌, ◌-◌, ◌<◌, ◌≤◌, List, ◌++◌, length, take, arith, Bool, rules, [], Option, IfSome, option_map, Consumes, IfSome_then, take-append-add, length-take}
+use Rattle.ip_spec.proofs.Common.{common_steps, ◌≡◌, ℕ, ◌+◌, ◌<◌, ◌≤◌, List, ◌++◌, length, take, arith, Bool, rules, [], Option, IfSome, option_map, Consumes, IfSome_then, take-append-add, length-take}
 use Rattle.std.proofs.Common.{length-append}
 use Rattle.ip_base.specs.declared.err.layer.Layer.{Layer}
 use Rattle.ip_base.specs.declared.err.len_error.LenError.{LenError}

@@ -23,10 +23,9 @@ pub use ip_ext_headers::{
     IpAuthHeader, IpAuthHeaderSlice, Ipv6FragmentHeader, Ipv6FragmentHeaderSlice, Ipv6RawExtHeader,
     Ipv6RawExtHeaderSlice,
 };
-pub use ip_ext_slices::{Ipv4Extensions, Ipv4ExtensionsSlice};
 pub use ip_ext_slices::{
-    Ipv6ExtensionSlice, Ipv6ExtensionSliceIter, Ipv6ExtensionsCursor, Ipv6ExtensionsSlice,
-    extension_number_left_has_fault, fault_at,
+    Ipv4Extensions, Ipv4ExtensionsSlice, Ipv6ExtensionSlice, Ipv6ExtensionSliceIter,
+    Ipv6ExtensionsCursor, Ipv6ExtensionsSlice, extension_number_left_has_fault, fault_at,
 };
 pub use ipv6_exts::Ipv6Extensions;
 pub use ipv6_exts_runs::Ipv6ExtensionsRuns;

@@ -14,10 +14,10 @@ ghost use Rattle.ip_base.specs.LimitedReadError.{io_of};
 
 use crate::Ipv6FragmentHeaderSlice;
 use crate::fragment_bits::{pack, unpack_flag, unpack_offset};
-use ip_base::err::{Layer, LenError};
-use ip_base::{IpFragOffset, IpNumber};
 use ip_base::err::io::LimitedReadError;
+use ip_base::err::{Layer, LenError};
 use ip_base::io::{ExactRead, LimitedReader};
+use ip_base::{IpFragOffset, IpNumber};
 use std::alloc::{AllocError, Allocator};
 use std::io;
 use std::marker::Model;

@@ -34,6 +34,6 @@ same_headers-first x y e = same_first x.first_header y.first_header x.slice.now 
 -- what says whether first number and bytes are the same says so of the headers
 pub same_headers : (x y : Ipv6ExtensionsSlice) (r : Bool) → IsTrue r ↔ ((first_number x ≡ first_number y) × (bytes x ≡ bytes y)) → IsTrue r ↔ (headers_in x ≡ headers_in y)
 same_headers x y r k = (
-    λ t. ap (λ n. longest_chain (start_number n) (bytes x)) (k.0 t).0 ∙ ap (longest_chain (start_number (first_number y))) (k.0 t).1,
-    λ e. k.1 (same_headers-first x y e, same_headers-bytes x y e),
+  λ t. ap (λ n. longest_chain (start_number n) (bytes x)) (k.0 t).0 ∙ ap (longest_chain (start_number (first_number y))) (k.0 t).1,
+  λ e. k.1 (same_headers-first x y e, same_headers-bytes x y e),
 )

@@ -7,8 +7,6 @@ pub mod ipv6;
 pub mod ipv6_exts;
 mod packet_source;
 
-pub use ip_base::err::{Layer, LenError, ValueTooBigError};
-pub use ip_base::err::{ChainSource, Source};
+pub use ip_base::err::{ChainSource, Layer, LenError, Source, ValueTooBigError, io};
 pub use ip_ext_headers::err::ip_auth;
-pub use ip_base::err::io;
 pub use packet_source::PacketSource;

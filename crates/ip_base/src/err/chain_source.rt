@@ -1,5 +1,4 @@
-use crate::err::{ip_auth, ip_exts, ipv4_exts, ipv6_exts};
-use crate::err::LenError;
+use crate::err::{LenError, ip_auth, ip_exts, ipv4_exts, ipv6_exts};
 use std::alloc::AllocError;
 use std::io;
 

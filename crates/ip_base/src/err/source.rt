@@ -1,5 +1,4 @@
-use crate::err::ip_auth;
-use crate::err::LenError;
+use crate::err::{LenError, ip_auth};
 use std::io;
 
 /// What an error of a single header comes of: the value inside the error.

@@ -1,10 +1,10 @@
 ghost use Rattle.std.specs.Prelude.{◌≡◌, ◌≤◌, ◌<◌, ◌+◌, ◌^◌, length, OnOk, OnErr, IfErr, IfSome};
 ghost use Rattle.std.specs.Io.KnownBytes.{Consumes};
 
-use crate::err::io::LimitedReadError;
-use crate::io::ExactRead;
 use crate::LenSource;
+use crate::err::io::LimitedReadError;
 use crate::err::{Layer, LenError};
+use crate::io::ExactRead;
 
 /// A reader that gives no more bytes than a limit, and tells a request past the limit as the length error of the
 /// layer that is being read.

@@ -2,7 +2,6 @@
 pub mod ip_exts;
 pub mod ipv6_exts;
 
-pub use ip_base::err::{Layer, LenError};
-pub use ip_base::err::ChainSource;
+pub use ip_base::err::{ChainSource, Layer, LenError};
 pub use ip_ext_headers::err::ip_auth;
 pub use ip_ext_slices::err::ipv4_exts;

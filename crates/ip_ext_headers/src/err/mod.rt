@@ -2,5 +2,4 @@
 pub mod ip_auth;
 pub mod ipv6_exts;
 
-pub use ip_base::err::Source;
-pub use ip_base::err::io;
+pub use ip_base::err::{Source, io};

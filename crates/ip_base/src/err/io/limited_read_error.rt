@@ -2,8 +2,7 @@ ghost use Rattle.std.specs.Prelude.{◌≡◌, Some};
 ghost use Rattle.std.specs.Option.{option_map};
 ghost use Rattle.ip_base.specs.Cause.{cause_in};
 
-use crate::err::LenError;
-use crate::err::Source;
+use crate::err::{LenError, Source};
 use std::io;
 use thiserror::Error;
 

@@ -1,7 +1,7 @@
 ghost use Rattle.std.specs.Prelude.{IsNone};
 
-use crate::err::ChainSource;
 use crate::IpNumber;
+use crate::err::ChainSource;
 use thiserror::Error;
 
 /// Why headers of an IPv4 packet can't be gone over from the number that is to name the first.

@@ -1,7 +1,7 @@
 ghost use Rattle.std.specs.Prelude.{IsNone};
 
-use crate::err::ChainSource;
 use crate::IpNumber;
+use crate::err::ChainSource;
 use thiserror::Error;
 
 /// Why a walk along the next numbers doesn't reach each header of a value.

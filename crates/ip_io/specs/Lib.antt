@@ -1,6 +1,0 @@
-pub mod ExactRead
-pub mod LimitedReadError
-pub mod OverRead
-pub mod Limits
-pub mod LimitedReader
-pub mod Reading

@@ -1,2 +1,0 @@
-//! Errors of readers.
-pub mod io;

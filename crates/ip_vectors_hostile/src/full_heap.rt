@@ -1,4 +1,5 @@
 //! Calls that need no memory, made while a heap has none left.
+use crate::chains::SIX;
 use crate::memory::take_all;
 use etherparse_ip::err::ipv6_exts::{HeaderError, HeaderSliceError};
 use etherparse_ip::err::{Layer, LenError, io, ip, ip_auth, ipv4, ipv6};
@@ -181,7 +182,8 @@ const CHAINS: [Row<'static>; 6] = [
 
 #[test]
 fn links_and_runs(rt: HostRuntime) -> Result<(), Fail> {
-    let heap = LocalHeap::new(rt.alloc(), 64)?;
+    let heap = LocalHeap::new(rt.alloc(), 128)?;
+    let mut out: Vec<u8, &LocalHeap> = Vec::with_capacity(&heap, 52)?;
     let _blocks = take_all(&rt, rt.alloc(), &heap)?;
     let mut exts = Ipv6Extensions {
         hop_by_hop_options: Some(Ipv6RawExtHeader::default()),
@@ -195,6 +197,8 @@ fn links_and_runs(rt: HostRuntime) -> Result<(), Fail> {
     };
     assert_eq!(rt; exts.set_next_headers(IpNumber(17)), IpNumber(0));
     assert!(rt; matches!(exts.next_header(IpNumber(0)), Ok(IpNumber(17))));
+    assert!(rt; exts.write(&mut out, IpNumber(0)).is_ok());
+    assert_eq!(rt; out.as_slice(), SIX.as_slice());
     let three = [
         44, 0, 0, 0, 0, 0, 0, 0, 44, 0, 0, 0, 0, 0, 0, 0, 17, 0, 0, 0, 0, 0, 0, 0,
     ];

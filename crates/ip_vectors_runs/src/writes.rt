@@ -151,21 +151,3 @@ fn a_vector_grows_no_further_than_the_headers_need(rt: HostRuntime) -> Result<()
     }
     Ok(())
 }
-
-#[test]
-fn routing_headers_have_the_length_of_both(rt: HostRuntime) -> Result<(), Fail> {
-    let mut exts = Ipv6RoutingExtensions {
-        routing: raw(17),
-        final_destination_options: None,
-    };
-    assert_eq!(rt; exts.header_len(), 8);
-    exts.routing.set_payload(&[0; 14])?;
-    assert_eq!(rt; exts.header_len(), 16);
-    exts.final_destination_options = Some(raw(17));
-    assert_eq!(rt; exts.header_len(), 24);
-    exts.final_destination_options = Some(Ipv6RawExtHeader::new_raw(IpNumber(17), &[0; 2046])?);
-    assert_eq!(rt; exts.header_len(), 2064);
-    exts.routing.set_payload(&[0; 2046])?;
-    assert_eq!(rt; exts.header_len(), 4096);
-    Ok(())
-}

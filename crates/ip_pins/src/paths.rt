@@ -17,10 +17,16 @@ pub fn base(
     )
 }
 
-/// The numbers by name.
-pub fn numbers() -> [etherparse_ip::IpNumber; 11] {
+/// The constants of `IpNumber` and of `ip_number`.
+pub fn numbers() -> [etherparse_ip::IpNumber; 18] {
     [
         etherparse_ip::IpNumber::IPV6_HEADER_HOP_BY_HOP,
+        etherparse_ip::IpNumber::UDP,
+        etherparse_ip::IpNumber::IPV6_ROUTE_HEADER,
+        etherparse_ip::IpNumber::IPV6_FRAGMENTATION_HEADER,
+        etherparse_ip::IpNumber::AUTHENTICATION_HEADER,
+        etherparse_ip::IpNumber::IPV6_NO_NEXT_HEADER,
+        etherparse_ip::IpNumber::IPV6_DESTINATION_OPTIONS,
         etherparse_ip::ip_number::IPV6_HOP_BY_HOP,
         etherparse_ip::ip_number::UDP,
         etherparse_ip::ip_number::IPV6_ROUTE,
@@ -31,12 +37,8 @@ pub fn numbers() -> [etherparse_ip::IpNumber; 11] {
         etherparse_ip::ip_number::IPV6_DEST_OPTIONS,
         etherparse_ip::ip_number::MOBILITY,
         etherparse_ip::ip_number::HIP,
+        etherparse_ip::ip_number::SHIM6,
     ]
-}
-
-/// The last of them.
-pub fn shim6() -> etherparse_ip::IpNumber {
-    etherparse_ip::ip_number::SHIM6
 }
 
 /// Single headers, with the names that they had before.
@@ -75,12 +77,14 @@ pub fn chain_slices(
     _cursor: &etherparse_ip::Ipv6ExtensionsCursor<'_>,
 ) {}
 
-/// Packets.
+/// Packets, and the law about them.
 pub fn packets(
     _ipv4: &etherparse_ip::Ipv4Slice<'_>,
     _ipv6: &etherparse_ip::Ipv6Slice<'_>,
     _either: &etherparse_ip::IpSlice<'_>,
-) {}
+) {
+    etherparse_ip::one_packet();
+}
 
 /// Readers.
 pub fn readers<T: etherparse_ip::io::ExactRead>(

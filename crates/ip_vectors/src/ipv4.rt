@@ -7,7 +7,6 @@ use ip_ext_chains::err::ipv6_exts;
 use ip_ext_chains::{Ipv4Extensions, Ipv4ExtensionsSlice};
 use ip_ext_headers::IpAuthHeader;
 use ip_plain::{next_len, plain_fault};
-use linked_list_allocator::LocalHeap;
 use std::process::Abort;
 use std::test::Fail;
 
@@ -194,30 +193,6 @@ fn linked_and_written(rt: HostRuntime) -> Result<(), Fail> {
     assert!(rt; none.write(&mut out, IpNumber(17)).is_ok());
     assert_eq!(rt; out.len(), 16);
     assert!(rt; Ipv4ExtensionsSlice::default().to_header() == none);
-    Ok(())
-}
-
-#[test]
-fn write_and_memory(rt: HostRuntime) -> Result<(), Fail> {
-    let headers = Ipv4Extensions {
-        auth: Some(IpAuthHeader::new(IpNumber(17), 1, 2, &[7; 1016])?),
-    };
-    let none = Ipv4Extensions::default();
-    // Whether a vector on a heap of this size, which holds three bytes, takes the header.
-    for (size, expected) in [(64usize, false), (1 << 12, true)] {
-        let heap = LocalHeap::new(rt.alloc(), size)?;
-        let mut out: Vec<u8, &LocalHeap> = Vec::from_slice(&heap, &[1, 2, 3])?;
-        assert!(rt; none.write(&mut out, IpNumber(51)).is_ok(), "{size}");
-        match headers.write(&mut out, IpNumber(51)) {
-            Ok(()) => assert!(rt; expected && out.len() == 3 + 1028, "{size}"),
-            Err(e) => {
-                assert!(rt; !expected, "{size}");
-                assert!(rt; e.io().is_some() && e.content().is_none(), "{size}");
-            }
-        }
-        assert!(rt; out.as_slice().starts_with(&[1, 2, 3]), "{size}");
-        assert!(rt; expected || out.len() == 3, "{size}");
-    }
     Ok(())
 }
 

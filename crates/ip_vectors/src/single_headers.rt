@@ -3,6 +3,7 @@ use crate::header_slices::missing;
 use arrayvec::ArrayVec;
 use ip_base::err::{Layer, LenError};
 use ip_base::{IpFragOffset, IpNumber};
+use ip_ext_chains::Ipv6Extensions;
 use ip_ext_headers::err::ip_auth::{HeaderError, HeaderSliceError, IcvLenError};
 use ip_ext_headers::err::ipv6_exts::ExtPayloadLenError;
 use ip_ext_headers::{
@@ -10,7 +11,6 @@ use ip_ext_headers::{
     IpAuthenticationHeaderSlice, Ipv6FragmentHeader, Ipv6FragmentHeaderSlice, Ipv6RawExtHeader,
     Ipv6RawExtHeaderSlice, Ipv6RawExtensionHeader, Ipv6RawExtensionHeaderSlice,
 };
-use linked_list_allocator::LocalHeap;
 use std::test::Fail;
 
 /// Bytes that differ from place to place, with the length byte, and with 1 and 2 from `end` on.
@@ -225,6 +225,10 @@ fn fragmenting_or_not(rt: HostRuntime) -> Result<(), Fail> {
         let offset = IpFragOffset::try_new(offset)?;
         let header = Ipv6FragmentHeader::new(IpNumber(17), offset, more, 123);
         assert_eq!(rt; header.is_fragmenting_payload(), fragments);
+        let mut exts = Ipv6Extensions::default();
+        assert!(rt; !exts.is_fragmenting_payload());
+        exts.fragment = Some(header);
+        assert_eq!(rt; exts.is_fragmenting_payload(), fragments);
     }
     Ok(())
 }
@@ -232,7 +236,8 @@ fn fragmenting_or_not(rt: HostRuntime) -> Result<(), Fail> {
 #[test]
 fn refused_lengths(rt: HostRuntime) -> Result<(), Fail> {
     let bytes = [1u8; 2047];
-    let mut auth = IpAuthHeader::new(IpNumber(17), 1, 2, &bytes[..8])?;
+    let kept = [9, 8, 7, 6, 5, 4, 3, 2, 15, 14, 13, 12, 11, 10];
+    let mut auth = IpAuthHeader::new(IpNumber(17), 1, 2, &kept[..8])?;
     let rows = [
         (&bytes[..3], IcvLenError::Unaligned(3)),
         (&bytes[..1017], IcvLenError::TooBig(1017)),
@@ -240,9 +245,9 @@ fn refused_lengths(rt: HostRuntime) -> Result<(), Fail> {
     for (icv, fault) in rows {
         assert!(rt; matches!(IpAuthHeader::new(IpNumber(17), 1, 2, icv), Err(e) if e == fault));
         assert_eq!(rt; auth.set_raw_icv(icv), Err(fault));
-        assert_eq!(rt; auth.raw_icv(), [1; 8].as_slice());
+        assert_eq!(rt; auth.raw_icv(), &kept[..8]);
     }
-    let mut raw = Ipv6RawExtHeader::new_raw(IpNumber(17), &bytes[..14])?;
+    let mut raw = Ipv6RawExtHeader::new_raw(IpNumber(17), &kept)?;
     let rows = [
         (&bytes[..5], ExtPayloadLenError::TooSmall(5)),
         (&bytes[..7], ExtPayloadLenError::Unaligned(7)),
@@ -253,7 +258,7 @@ fn refused_lengths(rt: HostRuntime) -> Result<(), Fail> {
             matches!(Ipv6RawExtHeader::new_raw(IpNumber(17), payload), Err(e) if e == fault)
         );
         assert_eq!(rt; raw.set_payload(payload), Err(fault));
-        assert_eq!(rt; raw.payload(), [1; 14].as_slice());
+        assert_eq!(rt; raw.payload(), kept.as_slice());
     }
     Ok(())
 }
@@ -276,56 +281,6 @@ fn shorter_bytes_replace_longer(rt: HostRuntime) -> Result<(), Fail> {
         raw.to_bytes().as_slice(),
         [6, 0, 2, 2, 2, 2, 2, 2].as_slice()
     );
-    Ok(())
-}
-
-#[test]
-fn write_refused_for_want_of_memory(rt: HostRuntime) -> Result<(), Fail> {
-    let auth = IpAuthHeader::new(IpNumber(17), 1, 2, &[7; 1016])?;
-    let raw = Ipv6RawExtHeader::new_raw(IpNumber(17), &[7; 2046])?;
-    let fragment = Ipv6FragmentHeader::new(IpNumber(17), IpFragOffset::try_new(1)?, true, 3);
-    // How many of the three writes, each over a heap of this size that holds three bytes, succeed.
-    for (size, expected) in [(64usize, 1), (1 << 11, 2), (1 << 14, 3)] {
-        let mut succeeded = 0u32;
-        for which in 0..3u8 {
-            let heap = LocalHeap::new(rt.alloc(), size)?;
-            let mut out: Vec<u8, &LocalHeap> = Vec::from_slice(&heap, &[1, 2, 3])?;
-            let (result, len) = match which {
-                0 => (auth.write(&mut out), auth.header_len()),
-                1 => (raw.write(&mut out), raw.header_len()),
-                _ => (fragment.write(&mut out), fragment.header_len()),
-            };
-            if result.is_ok() {
-                assert_eq!(rt; out.len(), 3 + len, "{size}, {which}");
-                succeeded = succeeded.wrapping_add(1);
-            } else {
-                assert_eq!(rt; out.as_slice(), [1, 2, 3].as_slice(), "{size}, {which}");
-            }
-        }
-        assert_eq!(rt; succeeded, expected, "{size}");
-    }
-    Ok(())
-}
-
-#[test]
-fn write_takes_no_memory_where_room_is_reserved(rt: HostRuntime) -> Result<(), Fail> {
-    let auth = IpAuthHeader::new(IpNumber(17), 1, 2, &[7; 1016])?;
-    let raw = Ipv6RawExtHeader::new_raw(IpNumber(17), &[7; 2046])?;
-    let fragment = Ipv6FragmentHeader::new(IpNumber(17), IpFragOffset::try_new(1)?, true, 3);
-    let room = auth.header_len() + raw.header_len() + fragment.header_len();
-    let heap = LocalHeap::new(rt.alloc(), 1 << 12)?;
-    let mut out: Vec<u8, &LocalHeap> = Vec::with_capacity(&heap, room)?;
-    // The rest of the heap is taken, so that each allocation from here on is refused.
-    let mut taken: Vec<u8, &LocalHeap> = Vec::new(&heap);
-    let mut more = true;
-    for _ in 0..1000u32 {
-        more = more && taken.push(0).is_ok();
-    }
-    assert!(rt; taken.reserve(1 << 12).is_err());
-    auth.write(&mut out)?;
-    raw.write(&mut out)?;
-    fragment.write(&mut out)?;
-    assert_eq!(rt; out.len(), room);
     Ok(())
 }
 

@@ -3,11 +3,8 @@ use ip_base::IpNumber;
 use ip_ext_chains::{
     Ipv6Extensions, Ipv6ExtensionsCursor, Ipv6ExtensionsRuns, Ipv6ExtensionsSlice,
 };
-use ip_ext_headers::io::OverRead;
 use ip_plain::{plain_longest_chain, whole_within};
 use std::alloc::{AllocError, Global};
-use std::io;
-use std::io::{ErrorKind, Read};
 use std::test::Fail;
 
 /// Fragment headers, each leading to the next, the last to 17.
@@ -42,7 +39,7 @@ fn four_thousand_headers(rt: HostRuntime) -> Result<(), Fail> {
 }
 
 /// Hop by hop options, destination options, routing, fragment, authentication and destination options.
-const SIX: [u8; 52] = [
+pub(crate) const SIX: [u8; 52] = [
     60, 0, 0, 0, 0, 0, 0, 0, 43, 0, 0, 0, 0, 0, 0, 0, 44, 0, 0, 0, 0, 0, 0, 0, 51, 0, 0, 0, 0, 0,
     0, 0, 60, 1, 0, 0, 0, 0, 0, 0, 0, 0, 0, 0, 17, 0, 0, 0, 0, 0, 0, 0,
 ];
@@ -108,47 +105,4 @@ fn nothing_comes_behind_the_last(rt: HostRuntime) {
             assert!(rt; runs.next().is_none(), "{cut}");
         }
     }
-}
-
-/// A reader that gives as many bytes as it is asked for, and behind the last refuses.
-#[derive(Drop)]
-struct Forbidden<'a> {
-    bytes: &'a [u8],
-}
-
-impl Read for Forbidden<'_> {
-    fn read(&mut self, buf: &mut [u8]) -> io::Result<usize> {
-        if self.bytes.is_empty() && !buf.is_empty() {
-            return Err(io::Error::from(ErrorKind::PermissionDenied));
-        }
-        let count = self.bytes.len().min(buf.len());
-        buf[..count].copy_from_slice(&self.bytes[..count]);
-        self.bytes = &self.bytes[count..];
-        Ok(count)
-    }
-}
-
-#[test]
-fn a_reader_that_refuses_behind_each_byte(rt: HostRuntime) -> Result<(), Fail> {
-    let (whole, _, _) = Ipv6Extensions::from_slice(IpNumber(0), &SIX)?;
-    for cut in 0..=52usize {
-        let mut reader = OverRead::new(Forbidden { bytes: &SIX[..cut] });
-        match Ipv6Extensions::read(&mut reader, IpNumber(0)) {
-            Ok((exts, number)) => {
-                assert!(rt;
-                    cut == 52 && exts == whole && number == IpNumber(17),
-                    "{cut}"
-                )
-            }
-            Err(e) => {
-                let kind = e.io_error().map(|error| error.kind());
-                assert!(rt;
-                    cut < 52 && kind == Some(ErrorKind::PermissionDenied),
-                    "{cut}"
-                );
-            }
-        }
-        assert_eq!(rt; reader.failed(), cut < 52, "{cut}");
-    }
-    Ok(())
 }

@@ -4,4 +4,6 @@
 #[cfg(test)]
 mod chains;
 #[cfg(test)]
+mod full_heap;
+#[cfg(test)]
 mod memory;

@@ -1,16 +1,16 @@
 //! Chains that are read from bytes in memory and from streams, with and without a limit.
-use crate::readers::{dripping, front};
+use crate::readers::{STREAMS, front, stream_of};
 use ip_base::err::{Layer, LenError};
 use ip_base::{IpNumber, LenSource};
-use ip_ext_chains::err::ip_auth;
 use ip_ext_chains::err::ipv6_exts::{HeaderError, HeaderLimitedReadError, HeaderReadError};
 use ip_ext_chains::{Ipv4Extensions, Ipv6Extensions};
 use ip_ext_headers::io::{ExactRead, LimitedReader};
 use std::io::ErrorKind;
+use std::process::Abort;
 use std::test::Fail;
 
-/// What came of a read: the number behind the headers, or the error. Headers other than those that were expected
-/// are `Other`.
+/// The result of a read: the number that follows the headers, or the error. Headers that differ from the expected
+/// ones are `Other`.
 #[derive(Debug, PartialEq, Eq, Drop)]
 enum Outcome {
     Leads(u8),
@@ -28,7 +28,7 @@ fn content(error: HeaderError) -> Outcome {
     }
 }
 
-/// Reads headers, which are expected to be those of the bytes.
+/// Reads headers and compares them with those that begin the bytes.
 fn read<T: ExactRead>(reader: &mut T, start: u8, bytes: &[u8]) -> Outcome {
     let (expected, _, _, _) = Ipv6Extensions::from_slice_lax(IpNumber(start), bytes);
     match Ipv6Extensions::read(reader, IpNumber(start)) {
@@ -39,7 +39,7 @@ fn read<T: ExactRead>(reader: &mut T, start: u8, bytes: &[u8]) -> Outcome {
     }
 }
 
-/// The same within a limit.
+/// Reads headers within a limit and compares them as `read` does.
 fn read_limited<T: ExactRead>(reader: &mut LimitedReader<T>, start: u8, bytes: &[u8]) -> Outcome {
     let (expected, _, _, _) = Ipv6Extensions::from_slice_lax(IpNumber(start), bytes);
     match Ipv6Extensions::read_limited(reader, IpNumber(start)) {
@@ -71,7 +71,7 @@ fn missing(required_len: usize, len: usize, layer: Layer, offset: usize) -> LenE
     }
 }
 
-/// A header in each of the six places, from number 0 to 17, and two bytes behind them.
+/// A header in each of the six places, from number 0 to 17, and two more bytes.
 const SIX: [u8; 54] = [
     60, 0, 1, 2, 3, 4, 5, 6, 43, 0, 1, 2, 3, 4, 5, 6, 44, 0, 1, 2, 3, 4, 5, 6, 51, 0, 0, 0, 1, 2,
     3, 4, 60, 1, 0, 0, 1, 2, 3, 4, 5, 6, 7, 8, 17, 0, 1, 2, 3, 4, 5, 6, 9, 9,
@@ -87,8 +87,8 @@ const SIX_REQUESTS: [(Layer, &[usize]); 6] = [
     (Layer::Ipv6ExtHeader, &[2, 6]),
 ];
 
-/// What a read of the six headers answers where this many bytes are there and the limit is this, and the state of
-/// the limit: the first request for which one of them doesn't suffice ends it, the limit asked first.
+/// The result of a read of the six headers where the reader has `there` bytes, and the state of the limit after it. The
+/// first request that the limit or the bytes don't suffice for ends it; the limit is checked first.
 fn expected(
     there: usize,
     limit: usize,
@@ -117,7 +117,7 @@ fn expected(
     (Outcome::Leads(17), state)
 }
 
-/// Reads the six headers behind byte 40 within a limit.
+/// Reads the six headers at offset 40 within a limit.
 fn six_within<T: ExactRead + Drop>(
     source: T,
     limit: u8,
@@ -129,45 +129,53 @@ fn six_within<T: ExactRead + Drop>(
     (outcome, state(&reader))
 }
 
-#[test]
-fn six_places_cut_at_every_byte_under_every_limit(rt: HostRuntime) {
-    for there in 0..55usize {
-        for limit in 0..55u8 {
-            let cut = front(&SIX, there);
-            let most = usize::from(limit);
-            let wanted = expected(there, most, ErrorKind::UnexpectedEof);
-            assert_eq!(rt;
-                six_within(cut, limit),
-                wanted,
-                "{there} of memory, limit {limit}"
-            );
-            let got = six_within(dripping(cut, false), limit);
-            assert_eq!(rt; got, wanted, "{there} of a stream, limit {limit}");
-            let wanted = expected(there, most, ErrorKind::ConnectionReset);
-            let got = six_within(dripping(cut, true), limit);
-            assert_eq!(rt; got, wanted, "fails behind {there}, limit {limit}");
-        }
+/// Reads a prefix of the six headers within a limit, from memory and from each stream.
+fn check_six_within(rt: &impl Abort, there: usize, limit: u8) {
+    let source = front(&SIX, there);
+    let most = usize::from(limit);
+    let wanted = expected(there, most, ErrorKind::UnexpectedEof);
+    let got = six_within(source, limit);
+    assert_eq!(rt; got, wanted, "{there} of memory, limit {limit}");
+    for (is_slow, failure) in STREAMS {
+        let wanted = expected(there, most, failure.unwrap_or(ErrorKind::UnexpectedEof));
+        let got = six_within(stream_of(source, is_slow, failure), limit);
+        assert_eq!(rt;
+            got,
+            wanted,
+            "{there} of a stream, limit {limit}, slow: {is_slow}, then {failure:?}"
+        );
+    }
+}
+
+/// Reads a prefix of the six headers, from memory and from each stream. The two bytes after them are left.
+fn check_six(rt: &impl Abort, there: usize) {
+    let source = front(&SIX, there);
+    let left_over = front(&[9, 9], there.saturating_sub(52));
+    let (wanted, _) = expected(there, 54, ErrorKind::UnexpectedEof);
+    let mut left = source;
+    assert_eq!(rt; read(&mut left, 0, &SIX), wanted, "{there} of memory");
+    assert!(rt; there < 52 || left == left_over, "{there} of memory");
+    for (is_slow, failure) in STREAMS {
+        let (wanted, _) = expected(there, 54, failure.unwrap_or(ErrorKind::UnexpectedEof));
+        let mut stream = stream_of(source, is_slow, failure);
+        assert_eq!(rt;
+            read(&mut stream, 0, &SIX),
+            wanted,
+            "{there} of a stream, slow: {is_slow}, then {failure:?}"
+        );
+        assert_eq!(rt; stream.failed(), there < 52, "{there} of a stream");
+        let left = stream.into_inner().bytes;
+        assert!(rt; there < 52 || left == left_over, "{there} of a stream");
     }
 }
 
 #[test]
-fn six_places_cut_at_every_byte(rt: HostRuntime) {
+fn every_prefix_of_six_headers(rt: HostRuntime) {
     for there in 0..55usize {
-        let cut = front(&SIX, there);
-        let (wanted, _) = expected(there, 54, ErrorKind::UnexpectedEof);
-        let mut left = cut;
-        assert_eq!(rt; read(&mut left, 0, &SIX), wanted, "{there} of memory");
-        assert!(rt;
-            there < 52 || left == front(&[9, 9], there.saturating_sub(52)),
-            "{there}"
-        );
-        let mut stream = dripping(cut, false);
-        assert_eq!(rt; read(&mut stream, 0, &SIX), wanted, "{there} of a stream");
-        assert_eq!(rt; stream.failed(), there < 52, "{there} of a stream");
-        assert!(rt;
-            there < 54 || stream.into_inner().bytes == [9, 9].as_slice(),
-            "{there}"
-        );
+        check_six(&rt, there);
+        for limit in 0..55u8 {
+            check_six_within(&rt, there, limit);
+        }
     }
 }
 
@@ -211,7 +219,7 @@ fn two_headers_and_what_is_left(rt: HostRuntime) {
     assert_eq!(rt; state(&reader), (48, 8, 2, layer));
 }
 
-/// Start number, bytes, what a read answers, and how many bytes it leaves.
+/// Start number, bytes, the number that a read returns, and the count of bytes that it leaves.
 const ENDS: [(&str, u8, &[u8], u8, usize); 5] = [
     (
         "second destination options",
@@ -241,7 +249,7 @@ const ENDS: [(&str, u8, &[u8], u8, usize); 5] = [
 ];
 
 #[test]
-fn nothing_behind_the_last_header_is_taken(rt: HostRuntime) {
+fn bytes_after_the_last_header_are_left(rt: HostRuntime) {
     for (name, start, bytes, number, unread) in ENDS {
         let mut left = bytes;
         assert_eq!(rt;
@@ -250,7 +258,7 @@ fn nothing_behind_the_last_header_is_taken(rt: HostRuntime) {
             "{name}"
         );
         assert_eq!(rt; left.len(), unread, "{name}");
-        let mut stream = dripping(bytes, true);
+        let mut stream = stream_of(bytes, true, Some(ErrorKind::PermissionDenied));
         assert_eq!(rt;
             read(&mut stream, start, bytes),
             Outcome::Leads(number),
@@ -316,7 +324,7 @@ fn wrong_content(rt: HostRuntime) {
         let mut left = bytes;
         assert_eq!(rt; read(&mut left, start, &[]), outcome, "{start}");
         assert_eq!(rt; left.len(), unread, "{start}");
-        let mut stream = dripping(bytes, true);
+        let mut stream = stream_of(bytes, true, Some(ErrorKind::PermissionDenied));
         assert_eq!(rt; read(&mut stream, start, &[]), outcome, "{start}");
         assert!(rt; !stream.failed(), "{start}");
         let mut reader = LimitedReader::new(bytes, 20, LenSource::Slice, 0, Layer::Ipv6Header);
@@ -327,41 +335,19 @@ fn wrong_content(rt: HostRuntime) {
     }
 }
 
-/// An authentication header, which names another, and that one.
+/// An authentication header and a second one.
 const AUTHENTICATED: [u8; 24] = [
     51, 1, 0, 0, 0, 0, 0, 1, 0, 0, 0, 2, 17, 1, 0, 0, 0, 0, 0, 3, 0, 0, 0, 4,
 ];
 
 #[test]
-fn ipv4_headers(rt: HostRuntime) -> Result<(), Fail> {
+fn an_ipv4_chain_has_one_header(rt: HostRuntime) -> Result<(), Fail> {
     let all = AUTHENTICATED.as_slice();
     let (parsed, _, _) = Ipv4Extensions::from_slice(IpNumber(51), all)?;
     let mut left = all;
     let answer = Ipv4Extensions::read(&mut left, IpNumber(51));
     assert!(rt; matches!(answer, Ok((exts, IpNumber(51))) if exts == parsed));
     assert_eq!(rt; left.len(), 12);
-    for cut in 0..12usize {
-        let mut left = front(all, cut);
-        let answer = Ipv4Extensions::read(&mut left, IpNumber(51));
-        assert!(rt;
-            matches!(answer, Err(ip_auth::HeaderReadError::Io(_))),
-            "{cut}"
-        );
-        let layer = Layer::Ipv4Header;
-        let mut reader = LimitedReader::new(all, cut, LenSource::Ipv4HeaderTotalLen, 20, layer);
-        let fault = LenError {
-            required_len: 12,
-            len: cut,
-            len_source: LenSource::Ipv4HeaderTotalLen,
-            layer: Layer::IpAuthHeader,
-            layer_start_offset: 20,
-        };
-        let answer = Ipv4Extensions::read_limited(&mut reader, IpNumber(51));
-        assert!(rt;
-            matches!(answer, Err(ip_auth::HeaderLimitedReadError::Len(e)) if e == fault),
-            "{cut}"
-        );
-    }
     let mut reader = LimitedReader::new(all, 12, LenSource::Slice, 20, Layer::Ipv4Header);
     let answer = Ipv4Extensions::read_limited(&mut reader, IpNumber(51));
     assert!(rt; matches!(answer, Ok((exts, IpNumber(51))) if exts == parsed));

@@ -1,60 +1,89 @@
-//! Headers read one by one, from bytes in memory and from streams, with and without a limit.
-use ip_base::LenSource;
+//! Single headers, and an IPv4 chain, read from bytes in memory and from streams, with and without a limit.
 use ip_base::err::{Layer, LenError};
+use ip_base::{IpNumber, LenSource};
+use ip_ext_chains::Ipv4Extensions;
 use ip_ext_headers::err::io::LimitedReadError;
 use ip_ext_headers::err::ip_auth::{HeaderLimitedReadError, HeaderReadError};
 use ip_ext_headers::io::{ExactRead, LimitedReader, OverRead};
 use ip_ext_headers::{IpAuthHeader, Ipv6FragmentHeader, Ipv6RawExtHeader};
 use std::io;
 use std::io::{ErrorKind, Read};
+use std::process::Abort;
 use std::test::Fail;
 
-/// Gives one byte a call, each behind an interrupted call, and then fails or ends.
+/// A stream that gives its bytes as they are asked for, or one at a time and each after an interrupted call. After
+/// its bytes it ends or fails.
 #[derive(Drop)]
-pub(crate) struct Drip<'a> {
+pub(crate) struct Stream<'a> {
     pub(crate) bytes: &'a [u8],
+    is_slow: bool,
     waits: bool,
-    fails: bool,
+    failure: Option<ErrorKind>,
+    /// The bytes that follow the first failure. Where there are none, the stream goes on failing.
+    later: &'a [u8],
 }
 
-impl Read for Drip<'_> {
+impl Read for Stream<'_> {
     fn read(&mut self, buf: &mut [u8]) -> io::Result<usize> {
-        self.waits = !self.waits;
+        self.waits = self.is_slow && !self.waits;
         if self.waits {
             return Err(io::Error::from(ErrorKind::Interrupted));
         }
-        if let (Some((byte, rest)), Some(place)) = (self.bytes.split_first(), buf.first_mut()) {
-            *place = *byte;
-            self.bytes = rest;
-            return Ok(1);
+        if let (true, Some(kind)) = (self.bytes.is_empty(), self.failure) {
+            if !self.later.is_empty() {
+                self.failure = None;
+                self.bytes = self.later;
+            }
+            return Err(io::Error::from(kind));
         }
-        if self.fails {
-            return Err(io::Error::from(ErrorKind::ConnectionReset));
-        }
-        Ok(0)
+        let most = if self.is_slow {
+            buf.len().min(1)
+        } else {
+            buf.len()
+        };
+        let (given, rest) = self.bytes.split_at(self.bytes.len().min(most));
+        buf[..given.len()].copy_from_slice(given);
+        self.bytes = rest;
+        Ok(given.len())
     }
 }
 
-/// A stream of these bytes, that fails or ends behind them.
-pub(crate) fn dripping(bytes: &[u8], fails: bool) -> OverRead<Drip<'_>> {
-    OverRead::new(Drip {
+/// Whether a stream is slow, and how it fails after its bytes, or that it ends.
+pub(crate) const STREAMS: [(bool, Option<ErrorKind>); 4] = [
+    (false, None),
+    (true, None),
+    (false, Some(ErrorKind::PermissionDenied)),
+    (true, Some(ErrorKind::PermissionDenied)),
+];
+
+/// A stream of these bytes.
+pub(crate) fn stream_of(
+    bytes: &[u8],
+    is_slow: bool,
+    failure: Option<ErrorKind>,
+) -> OverRead<Stream<'_>> {
+    OverRead::new(Stream {
         bytes,
+        is_slow,
         waits: false,
-        fails,
+        failure,
+        later: &[],
     })
 }
 
-/// A header that is read, and which.
+/// The header that is read, and by which call.
 #[derive(Clone, Copy, Debug, PartialEq, Eq)]
 enum Kind {
     Raw,
     Fragment,
     Authentication,
-    /// Read over another header.
+    /// An authentication header that is read into an existing one.
     AuthenticationOver,
+    /// An authentication header that is read as an IPv4 chain.
+    Ipv4Chain,
 }
 
-/// What came of a read. A header whose bytes aren't those that it was read from is `Other`.
+/// The result of a read. A header whose bytes differ from those that were read is `Other`.
 #[derive(Debug, PartialEq, Eq, Drop)]
 enum Outcome {
     Header,
@@ -72,6 +101,16 @@ fn header_if(same: bool) -> Outcome {
     }
 }
 
+/// `Header` where the chain has this header alone and the number that follows it.
+fn chain_if(exts: &Ipv4Extensions, number: IpNumber, bytes: &[u8]) -> Outcome {
+    match &exts.auth {
+        Some(header) => header_if(
+            header.to_bytes().as_slice() == bytes && bytes.first() == Some(&number.0),
+        ),
+        None => Outcome::Other,
+    }
+}
+
 fn of_limit(error: LimitedReadError) -> Outcome {
     match error {
         LimitedReadError::Io(e) => Outcome::Io(e.kind()),
@@ -79,7 +118,22 @@ fn of_limit(error: LimitedReadError) -> Outcome {
     }
 }
 
-/// Reads a header and holds its bytes against these, in which reserved bits are zero.
+fn of_auth(error: HeaderReadError) -> Outcome {
+    match error {
+        HeaderReadError::Io(e) => Outcome::Io(e.kind()),
+        HeaderReadError::Content(_) => Outcome::Content,
+    }
+}
+
+fn of_limited_auth(error: HeaderLimitedReadError) -> Outcome {
+    match error {
+        HeaderLimitedReadError::Io(e) => Outcome::Io(e.kind()),
+        HeaderLimitedReadError::Len(e) => Outcome::Len(e),
+        HeaderLimitedReadError::Content(_) => Outcome::Content,
+    }
+}
+
+/// Reads a header and compares it with these bytes, in which reserved bits are zero.
 fn read<T: ExactRead>(kind: Kind, bytes: &[u8], reader: &mut T) -> Outcome {
     match kind {
         Kind::Raw => match Ipv6RawExtHeader::read(reader) {
@@ -92,21 +146,23 @@ fn read<T: ExactRead>(kind: Kind, bytes: &[u8], reader: &mut T) -> Outcome {
         },
         Kind::Authentication => match IpAuthHeader::read(reader) {
             Ok(header) => header_if(header.to_bytes().as_slice() == bytes),
-            Err(HeaderReadError::Io(e)) => Outcome::Io(e.kind()),
-            Err(HeaderReadError::Content(_)) => Outcome::Content,
+            Err(e) => of_auth(e),
         },
         Kind::AuthenticationOver => {
             let mut header = IpAuthHeader::default();
             match header.read_over(reader) {
                 Ok(()) => header_if(header.to_bytes().as_slice() == bytes),
-                Err(HeaderReadError::Io(e)) => Outcome::Io(e.kind()),
-                Err(HeaderReadError::Content(_)) => Outcome::Content,
+                Err(e) => of_auth(e),
             }
         }
+        Kind::Ipv4Chain => match Ipv4Extensions::read(reader, IpNumber(51)) {
+            Ok((exts, number)) => chain_if(&exts, number, bytes),
+            Err(e) => of_auth(e),
+        },
     }
 }
 
-/// The same within a limit.
+/// Reads a header within a limit and compares it as `read` does.
 fn read_limited<T: ExactRead>(kind: Kind, bytes: &[u8], reader: &mut LimitedReader<T>) -> Outcome {
     match kind {
         Kind::Raw => match Ipv6RawExtHeader::read_limited(reader) {
@@ -119,19 +175,19 @@ fn read_limited<T: ExactRead>(kind: Kind, bytes: &[u8], reader: &mut LimitedRead
         },
         Kind::Authentication => match IpAuthHeader::read_limited(reader) {
             Ok(header) => header_if(header.to_bytes().as_slice() == bytes),
-            Err(HeaderLimitedReadError::Io(e)) => Outcome::Io(e.kind()),
-            Err(HeaderLimitedReadError::Len(e)) => Outcome::Len(e),
-            Err(HeaderLimitedReadError::Content(_)) => Outcome::Content,
+            Err(e) => of_limited_auth(e),
         },
         Kind::AuthenticationOver => {
             let mut header = IpAuthHeader::default();
             match header.read_over_limited(reader) {
                 Ok(()) => header_if(header.to_bytes().as_slice() == bytes),
-                Err(HeaderLimitedReadError::Io(e)) => Outcome::Io(e.kind()),
-                Err(HeaderLimitedReadError::Len(e)) => Outcome::Len(e),
-                Err(HeaderLimitedReadError::Content(_)) => Outcome::Content,
+                Err(e) => of_limited_auth(e),
             }
         }
+        Kind::Ipv4Chain => match Ipv4Extensions::read_limited(reader, IpNumber(51)) {
+            Ok((exts, number)) => chain_if(&exts, number, bytes),
+            Err(e) => of_limited_auth(e),
+        },
     }
 }
 
@@ -158,8 +214,10 @@ const FRAGMENT: [u8; 8] = [17, 0, 0x12, 0x81, 1, 2, 3, 4];
 
 const AUTHENTICATION: [u8; 20] = [6, 3, 0, 0, 0, 0, 0, 7, 0, 0, 0, 9, 1, 2, 3, 4, 5, 6, 7, 8];
 
-/// A header, its requests one behind the other, and its layer.
-const CASES: [(Kind, &[u8], &[usize], Layer); 4] = [
+/// A header, the lengths of its requests in order, and its layer.
+type Case<'a> = (Kind, &'a [u8], &'a [usize], Layer);
+
+const CASES: [Case<'static>; 5] = [
     (Kind::Raw, &RAW, &[2, 22], Layer::Ipv6ExtHeader),
     (Kind::Fragment, &FRAGMENT, &[8], Layer::Ipv6FragHeader),
     (
@@ -174,10 +232,16 @@ const CASES: [(Kind, &[u8], &[usize], Layer); 4] = [
         &[12, 8],
         Layer::IpAuthHeader,
     ),
+    (
+        Kind::Ipv4Chain,
+        &AUTHENTICATION,
+        &[12, 8],
+        Layer::IpAuthHeader,
+    ),
 ];
 
-/// What a read answers where this many bytes are there and the limit is this, and how many came of the header
-/// before: the first request for which the limit or the bytes don't suffice, the limit asked first.
+/// The result of a read where the reader has `there` bytes, and the length of the requests that succeed. The first
+/// request that the limit or the bytes don't suffice for ends it; the limit is checked first.
 fn expected(
     requests: &[usize],
     layer: Layer,
@@ -199,14 +263,14 @@ fn expected(
     (Outcome::Header, came)
 }
 
-/// Reads a header behind byte 40 within a limit, and tells what came of it, `read_len`, and whether the rest of
-/// the limit is that of a layer which began there.
+/// Reads a header at offset 40 within a limit. Returns the result, `read_len`, and whether the header's layer began
+/// at 40 with the whole limit.
 fn within<T: ExactRead + Drop>(
     kind: Kind,
     bytes: &[u8],
     layer: Layer,
     source: T,
-    limit: u8,
+    limit: u16,
 ) -> (Outcome, usize, bool) {
     let limit = usize::from(limit);
     let source_of_limit = LenSource::Ipv6HeaderPayloadLen;
@@ -219,78 +283,140 @@ fn within<T: ExactRead + Drop>(
     (outcome, reader.read_len(), began)
 }
 
+/// Reads the first bytes of a header within a limit, from memory and from each stream.
+fn check_within(rt: &impl Abort, case: Case<'_>, there: usize, limit: u16) {
+    let (kind, bytes, requests, layer) = case;
+    let source = front(bytes, there);
+    let most = usize::from(limit);
+    let (outcome, came) = expected(requests, layer, there, most, ErrorKind::UnexpectedEof);
+    assert_eq!(rt;
+        within(kind, bytes, layer, source, limit),
+        (outcome, came, true),
+        "{kind:?}, {there} of memory, limit {limit}"
+    );
+    for (is_slow, failure) in STREAMS {
+        let at_end = failure.unwrap_or(ErrorKind::UnexpectedEof);
+        let (outcome, came) = expected(requests, layer, there, most, at_end);
+        let stream = stream_of(source, is_slow, failure);
+        assert_eq!(rt;
+            within(kind, bytes, layer, stream, limit),
+            (outcome, came, true),
+            "{kind:?}, {there} of a stream, limit {limit}, slow: {is_slow}, then {failure:?}"
+        );
+    }
+}
+
+/// Reads the first bytes of a header, from memory and from each stream. A stream has failed where the header isn't
+/// whole, and not where only what follows the header fails.
+fn check_read(rt: &impl Abort, case: Case<'_>, there: usize) {
+    let (kind, bytes, requests, layer) = case;
+    let most = usize::MAX;
+    let (outcome, _) = expected(requests, layer, there, most, ErrorKind::UnexpectedEof);
+    let is_whole = outcome == Outcome::Header;
+    let mut left = front(bytes, there);
+    let got = read(kind, bytes, &mut left);
+    assert_eq!(rt; got, outcome, "{kind:?}, {there} of memory");
+    assert!(rt; !is_whole || left.is_empty(), "{kind:?}, {there} of memory");
+    for (is_slow, failure) in STREAMS {
+        let at_end = failure.unwrap_or(ErrorKind::UnexpectedEof);
+        let (outcome, _) = expected(requests, layer, there, most, at_end);
+        let mut stream = stream_of(front(bytes, there), is_slow, failure);
+        assert_eq!(rt;
+            read(kind, bytes, &mut stream),
+            outcome,
+            "{kind:?}, {there} of a stream, slow: {is_slow}, then {failure:?}"
+        );
+        assert_eq!(rt; stream.failed(), !is_whole, "{kind:?}, {there} of a stream");
+    }
+}
+
 #[test]
-fn every_cut_under_every_limit(rt: HostRuntime) {
-    for (kind, bytes, requests, layer) in CASES {
+fn every_prefix_of_a_header(rt: HostRuntime) {
+    for case in CASES {
         for there in 0..26usize {
-            for limit in 0..26u8 {
-                let cut = front(bytes, there);
-                let most = usize::from(limit);
-                let (outcome, came) = expected(
-                    requests,
-                    layer,
-                    there,
-                    most,
-                    ErrorKind::UnexpectedEof,
-                );
-                let wanted = (outcome, came, true);
-                let got = within(kind, bytes, layer, cut, limit);
-                assert_eq!(rt; got, wanted, "{kind:?}, {there} of memory, limit {limit}");
-                let got = within(kind, bytes, layer, dripping(cut, false), limit);
-                assert_eq!(rt; got, wanted, "{kind:?}, {there} of a stream, limit {limit}");
-                let (outcome, came) = expected(
-                    requests,
-                    layer,
-                    there,
-                    most,
-                    ErrorKind::ConnectionReset,
-                );
-                let wanted = (outcome, came, true);
-                let got = within(kind, bytes, layer, dripping(cut, true), limit);
-                assert_eq!(rt;
-                    got,
-                    wanted,
-                    "{kind:?}, fails behind {there}, limit {limit}"
-                );
+            check_read(&rt, case, there);
+            for limit in 0..26u16 {
+                check_within(&rt, case, there, limit);
             }
         }
     }
 }
 
 #[test]
-fn every_cut_without_a_limit(rt: HostRuntime) {
-    for (kind, bytes, requests, layer) in CASES {
-        for there in 0..28usize {
-            let (outcome, came) = expected(
-                requests,
-                layer,
-                there,
-                usize::MAX,
-                ErrorKind::UnexpectedEof,
-            );
-            let is_whole = outcome == Outcome::Header;
-            let mut left = front(bytes, there);
-            assert_eq!(rt;
-                read(kind, bytes, &mut left),
-                outcome,
-                "{kind:?}, {there} of memory"
-            );
-            assert!(rt; !is_whole || left.is_empty(), "{kind:?}, {there} of memory");
-            let mut stream = dripping(front(bytes, there), false);
-            assert_eq!(rt;
-                read(kind, bytes, &mut stream),
-                outcome,
-                "{kind:?}, {there} of a stream"
-            );
-            assert_eq!(rt; stream.failed(), !is_whole, "{kind:?}, {there} of a stream");
-            assert!(rt; came <= there, "{kind:?}");
+fn longest_headers(rt: HostRuntime) {
+    let mut raw = [0u8; 2048];
+    for (place, byte) in raw.iter_mut().enumerate() {
+        *byte = (place % 251) as u8;
+    }
+    raw[1] = 255;
+    let mut authentication = raw;
+    authentication[2] = 0;
+    authentication[3] = 0;
+    let authentication = &authentication[..1028];
+    let layer = Layer::IpAuthHeader;
+    let requests: &[usize] = &[12, 1016];
+    let cases: [(Case<'_>, u16); 4] = [
+        ((Kind::Raw, &raw, &[2, 2046], Layer::Ipv6ExtHeader), 2048),
+        (
+            (Kind::Authentication, authentication, requests, layer),
+            1028,
+        ),
+        (
+            (Kind::AuthenticationOver, authentication, requests, layer),
+            1028,
+        ),
+        ((Kind::Ipv4Chain, authentication, requests, layer), 1028),
+    ];
+    for (case, len) in cases {
+        for there in [len.saturating_sub(1), len] {
+            check_read(&rt, case, usize::from(there));
+            check_within(&rt, case, usize::from(there), len);
+            check_within(&rt, case, 2048, there);
         }
     }
 }
 
-/// The bytes of a header and two more are read, and the two are left.
+/// A stream that fails once. The bytes that the failed request took are lost, and the next read begins after them.
+fn failing_once<'a>(lost: &'a [u8], is_slow: bool, later: &'a [u8]) -> OverRead<Stream<'a>> {
+    OverRead::new(Stream {
+        bytes: lost,
+        is_slow,
+        waits: false,
+        failure: Some(ErrorKind::WouldBlock),
+        later,
+    })
+}
+
 #[test]
-fn nothing_behind_a_header_is_taken(rt: HostRuntime) -> Result<(), Fail> {
+fn reads_go_on_after_a_failure(rt: HostRuntime) {
+    let failure = Outcome::Io(ErrorKind::WouldBlock);
+    for (kind, bytes, _, layer) in CASES {
+        for there in 0..bytes.len() {
+            for is_slow in [false, true] {
+                let lost = front(bytes, there);
+                let mut stream = failing_once(lost, is_slow, bytes);
+                assert_eq!(rt;
+                    read(kind, bytes, &mut stream),
+                    failure,
+                    "{kind:?}, {there}"
+                );
+                let next = read(kind, bytes, &mut stream);
+                assert_eq!(rt; next, Outcome::Header, "{kind:?}, {there}");
+                assert!(rt; stream.failed(), "{kind:?}, {there}");
+                let stream = failing_once(lost, is_slow, bytes);
+                let mut reader = LimitedReader::new(stream, 60, LenSource::Slice, 0, layer);
+                let first = read_limited(kind, bytes, &mut reader);
+                assert_eq!(rt; first, failure, "{kind:?}, {there} within a limit");
+                let next = read_limited(kind, bytes, &mut reader);
+                assert_eq!(rt; next, Outcome::Header, "{kind:?}, {there} within a limit");
+            }
+        }
+    }
+}
+
+/// A read takes no byte after the header.
+#[test]
+fn bytes_after_a_header_are_left(rt: HostRuntime) -> Result<(), Fail> {
     for (kind, bytes, _, layer) in CASES {
         let mut more = Vec::new(rt.alloc());
         more.extend_from_slice(bytes)?;
@@ -298,7 +424,7 @@ fn nothing_behind_a_header_is_taken(rt: HostRuntime) -> Result<(), Fail> {
         let mut left = more.as_slice();
         assert_eq!(rt; read(kind, bytes, &mut left), Outcome::Header, "{kind:?}");
         assert_eq!(rt; left, [1, 2].as_slice(), "{kind:?}");
-        let mut stream = dripping(more.as_slice(), false);
+        let mut stream = stream_of(more.as_slice(), true, None);
         assert_eq!(rt; read(kind, bytes, &mut stream), Outcome::Header, "{kind:?}");
         assert_eq!(rt; stream.into_inner().bytes, [1, 2].as_slice(), "{kind:?}");
         let all = more.as_slice();
@@ -366,7 +492,7 @@ fn a_length_of_zero_is_content(rt: HostRuntime) {
     }
 }
 
-/// One header behind the other: each layer begins where the one before ended, and the limit is what that left.
+/// Headers in a row: each layer begins where the one before ended, with the rest of its limit.
 #[test]
 fn layers_follow_one_another(rt: HostRuntime) -> Result<(), Fail> {
     let mut bytes = Vec::new(rt.alloc());
@@ -433,27 +559,4 @@ fn reads_of_a_limited_reader(rt: HostRuntime) {
     assert_eq!(rt; one, [4]);
     assert_eq!(rt; reader.layer(), Layer::Icmpv4);
     assert_eq!(rt; reader.take_reader(), [5].as_slice());
-}
-
-#[test]
-fn longest_headers(rt: HostRuntime) {
-    let mut bytes = [0u8; 2048];
-    bytes[0] = 17;
-    bytes[1] = 255;
-    bytes[2047] = 9;
-    bytes[1027] = 8;
-    let mut left = bytes.as_slice();
-    assert_eq!(rt; read(Kind::Raw, &bytes, &mut left), Outcome::Header);
-    let header = &bytes[..1028];
-    let mut left = bytes.as_slice();
-    assert_eq!(rt;
-        read(Kind::Authentication, header, &mut left),
-        Outcome::Header
-    );
-    assert_eq!(rt; left.len(), 1020);
-    let mut left = &bytes[..2047];
-    let eof = Outcome::Io(ErrorKind::UnexpectedEof);
-    assert_eq!(rt; read(Kind::Raw, &bytes, &mut left), eof);
-    let mut left = &bytes[..1027];
-    assert_eq!(rt; read(Kind::Authentication, header, &mut left), eof);
 }

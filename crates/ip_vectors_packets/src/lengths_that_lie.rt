@@ -60,14 +60,14 @@ fn ipv4_lengths_that_lie(rt: HostRuntime) -> Result<(), Fail> {
 #[test]
 fn ipv6_lengths_that_lie(rt: HostRuntime) -> Result<(), Fail> {
     let alloc = rt.alloc();
-    let long = ipv6_bytes(alloc, 65535, 17, &[7; 8])?;
+    let long = ipv6_bytes(alloc, 65535, 17, &[1, 2, 3, 4, 5, 6, 7, 8])?;
     let strict = Ipv6Slice::from_slice(&long).map(|packet| packet.payload_ip_number());
     let error = len_error(65575, 48, LenSource::Slice, Layer::Ipv6Packet);
     assert_eq!(rt; strict, Err(ipv6::SliceError::Len(error)));
     match Ipv6Slice::from_slice_lax(&long) {
         Ok(packet) => {
             let payload = packet.payload();
-            assert_eq!(rt; payload.payload, [7; 8].as_slice());
+            assert_eq!(rt; payload.payload, [1, 2, 3, 4, 5, 6, 7, 8].as_slice());
             assert_eq!(rt; payload.len_source, LenSource::Slice);
             assert_eq!(rt; payload.ip_number, IpNumber(17));
         }

@@ -9,47 +9,47 @@ use std::net::{IpAddr, Ipv4Addr, Ipv6Addr};
 use std::process::Abort;
 use std::test::Fail;
 
-/// How long the base header and the extension headers are; the payload's number and length, whether it is a
-/// fragment, and what says where it ends.
+/// The lengths of the base header and of the extension headers; the payload's number and bytes, whether it is a
+/// fragment, and the source of its length.
 #[derive(Clone, Copy, Debug, PartialEq)]
-struct Parts {
+struct Parts<'a> {
     header: usize,
     exts: usize,
     number: u8,
-    payload: usize,
+    payload: &'a [u8],
     fragmented: bool,
     source: LenSource,
 }
 
-/// What a payload shows, behind headers of these lengths.
-fn parts_behind(header: usize, exts: usize, payload: &IpPayloadSlice<'_>) -> Parts {
+/// The parts of a packet with this payload and headers of these lengths.
+fn parts_of<'a>(header: usize, exts: usize, payload: &IpPayloadSlice<'a>) -> Parts<'a> {
     Parts {
         header,
         exts,
         number: payload.ip_number.0,
-        payload: payload.payload.len(),
+        payload: payload.payload,
         fragmented: payload.fragmented,
         source: payload.len_source,
     }
 }
 
-/// What an IPv4 packet shows.
-fn ipv4_parts(packet: &Ipv4Slice<'_>) -> Parts {
+/// The parts of an IPv4 packet.
+fn ipv4_parts<'a>(packet: &Ipv4Slice<'a>) -> Parts<'a> {
     let exts = packet
         .extensions()
         .auth
         .map_or(0, |header| header.slice().len());
-    parts_behind(packet.header().slice().len(), exts, packet.payload())
+    parts_of(packet.header().slice().len(), exts, packet.payload())
 }
 
-/// What an IPv6 packet shows.
-fn ipv6_parts(packet: &Ipv6Slice<'_>) -> Parts {
+/// The parts of an IPv6 packet.
+fn ipv6_parts<'a>(packet: &Ipv6Slice<'a>) -> Parts<'a> {
     let exts = packet.extensions().slice().len();
-    parts_behind(packet.header().slice().len(), exts, packet.payload())
+    parts_of(packet.header().slice().len(), exts, packet.payload())
 }
 
-/// `IpSlice` answers what the slice of the version does.
-fn check_either(rt: &impl Abort, name: &str, bytes: &[u8], parts: Parts) -> Result<(), Fail> {
+/// Parses the packet with `IpSlice` and compares its parts with these. The accessors of both types agree with them.
+fn check_either(rt: &impl Abort, name: &str, bytes: &[u8], parts: Parts<'_>) -> Result<(), Fail> {
     let packet = match IpSlice::from_slice(bytes) {
         Ok(packet) => packet,
         Err(_) => {
@@ -57,18 +57,34 @@ fn check_either(rt: &impl Abort, name: &str, bytes: &[u8], parts: Parts) -> Resu
             return Ok(());
         }
     };
-    let shown = match &packet {
-        IpSlice::Ipv4(packet) => ipv4_parts(packet),
-        IpSlice::Ipv6(packet) => ipv6_parts(packet),
+    let (found, number, fragmented) = match &packet {
+        IpSlice::Ipv4(packet) => {
+            let fragmented = packet.header().is_fragmenting_payload();
+            assert_eq!(rt; packet.is_payload_fragmented(), fragmented, "{name}");
+            (ipv4_parts(packet), packet.payload_ip_number(), fragmented)
+        }
+        IpSlice::Ipv6(packet) => (
+            ipv6_parts(packet),
+            packet.payload_ip_number(),
+            packet.is_payload_fragmented(),
+        ),
     };
-    assert_eq!(rt; shown, parts, "{name}");
+    assert_eq!(rt; found, parts, "{name}");
     assert_eq!(rt;
-        packet.payload_ip_number(),
-        IpNumber(parts.number),
+        (number.0, fragmented),
+        (parts.number, parts.fragmented),
         "{name}"
     );
-    assert_eq!(rt; packet.is_fragmenting_payload(), parts.fragmented, "{name}");
-    assert_eq!(rt; packet.payload().payload.len(), parts.payload, "{name}");
+    assert_eq!(rt; packet.payload_ip_number(), number, "{name}");
+    assert_eq!(rt; packet.is_fragmenting_payload(), fragmented, "{name}");
+    assert_eq!(rt; packet.payload().payload, parts.payload, "{name}");
+    // The payload is a part of the packet, also where it has no bytes.
+    let headers_len = parts.header.saturating_add(parts.exts);
+    let rest = bytes.get(headers_len..).unwrap_or(&[]);
+    assert!(rt;
+        packet.payload().payload.as_ptr() == rest.as_ptr(),
+        "{name}"
+    );
     assert_eq!(rt; packet.ipv4().is_some(), bytes[0] >> 4 == 4, "{name}");
     assert_eq!(rt; packet.ipv6().is_some(), bytes[0] >> 4 == 6, "{name}");
     assert!(rt; packet.clone()? == packet, "{name}");
@@ -78,14 +94,6 @@ fn check_either(rt: &impl Abort, name: &str, bytes: &[u8], parts: Parts) -> Resu
 #[test]
 fn ipv6_lengths(rt: HostRuntime) -> Result<(), Fail> {
     let by_header = LenSource::Ipv6HeaderPayloadLen;
-    let shown = |exts, payload, source| Parts {
-        header: 40,
-        exts,
-        number: 17,
-        payload,
-        fragmented: false,
-        source,
-    };
     let rows: [(&str, u16, usize, usize, LenSource, bool); 5] = [
         (
             "no payload is stated and none is there",
@@ -97,12 +105,26 @@ fn ipv6_lengths(rt: HostRuntime) -> Result<(), Fail> {
         ),
         ("a jumbogram", 0, 8, 8, LenSource::Slice, true),
         ("all that is stated", 8, 8, 8, by_header, true),
-        ("bytes behind the packet", 5, 8, 5, by_header, true),
-        ("stated beyond the bytes", 9, 8, 8, LenSource::Slice, false),
+        ("bytes after the packet", 5, 8, 5, by_header, true),
+        (
+            "more is stated than is there",
+            9,
+            8,
+            8,
+            LenSource::Slice,
+            false,
+        ),
     ];
     for (name, stated, there, payload, source, fits) in rows {
-        let bytes = ipv6_bytes(rt.alloc(), stated, 17, &[7; 8][..there])?;
-        let parts = shown(0, payload, source);
+        let bytes = ipv6_bytes(rt.alloc(), stated, 17, &[1, 2, 3, 4, 5, 6, 7, 8][..there])?;
+        let parts = Parts {
+            header: 40,
+            exts: 0,
+            number: 17,
+            payload: &[1, 2, 3, 4, 5, 6, 7, 8][..payload],
+            fragmented: false,
+            source,
+        };
         let lax = Ipv6Slice::from_slice_lax(&bytes).map(|packet| ipv6_parts(&packet));
         assert_eq!(rt; lax, Ok(parts), "{name}");
         let strict = Ipv6Slice::from_slice(&bytes).map(|packet| ipv6_parts(&packet));
@@ -138,16 +160,16 @@ fn a_chain_that_is_cut_short_in_a_jumbogram(rt: HostRuntime) -> Result<(), Fail>
 }
 
 #[test]
-fn headers_behind_that_of_a_later_fragment(rt: HostRuntime) -> Result<(), Fail> {
+fn headers_after_that_of_a_later_fragment(rt: HostRuntime) -> Result<(), Fail> {
     let chain = [
-        60, 0, 1, 0, 1, 2, 3, 4, 17, 0, 0, 0, 0, 0, 0, 0, 9, 9, 9, 9, 9, 9, 9, 9,
+        60, 0, 1, 0, 1, 2, 3, 4, 17, 0, 0, 0, 0, 0, 0, 0, 5, 6, 7, 8, 9, 10, 11, 12,
     ];
     let later = ipv6_bytes(rt.alloc(), 24, 44, &chain)?;
     let parts = Parts {
         header: 40,
         exts: 16,
         number: 17,
-        payload: 8,
+        payload: &[5, 6, 7, 8, 9, 10, 11, 12],
         fragmented: true,
         source: LenSource::Ipv6HeaderPayloadLen,
     };
@@ -155,7 +177,7 @@ fn headers_behind_that_of_a_later_fragment(rt: HostRuntime) -> Result<(), Fail> 
 }
 
 #[test]
-fn hop_by_hop_options_behind_a_header(rt: HostRuntime) -> Result<(), Fail> {
+fn hop_by_hop_options_after_a_header(rt: HostRuntime) -> Result<(), Fail> {
     let zero = ipv6_bytes(rt.alloc(), 8, 60, &[0, 0, 0, 0, 0, 0, 0, 0])?;
     let content = ipv6_exts::HeaderError::HopByHopNotAtStart;
     assert_eq!(rt;
@@ -169,8 +191,14 @@ fn hop_by_hop_options_behind_a_header(rt: HostRuntime) -> Result<(), Fail> {
     Ok(())
 }
 
-/// What an IPv4 packet shows whose total length is right.
-fn ipv4_shown(header: usize, exts: usize, number: u8, payload: usize, fragmented: bool) -> Parts {
+/// The parts of an IPv4 packet. Its total length says where the payload ends.
+fn ipv4_wanted(
+    header: usize,
+    exts: usize,
+    number: u8,
+    payload: &[u8],
+    fragmented: bool,
+) -> Parts<'_> {
     Parts {
         header,
         exts,
@@ -181,8 +209,8 @@ fn ipv4_shown(header: usize, exts: usize, number: u8, payload: usize, fragmented
     }
 }
 
-/// Both slices answer what the IPv4 packet shows.
-fn check_ipv4(rt: &impl Abort, name: &str, bytes: &[u8], parts: Parts) -> Result<(), Fail> {
+/// Parses the IPv4 packet with `Ipv4Slice` and `IpSlice` and compares its parts with these.
+fn check_ipv4(rt: &impl Abort, name: &str, bytes: &[u8], parts: Parts<'_>) -> Result<(), Fail> {
     let packet = Ipv4Slice::from_slice(bytes).map(|packet| ipv4_parts(&packet));
     assert_eq!(rt; packet, Ok(parts), "{name}");
     check_either(rt, name, bytes, parts)
@@ -191,27 +219,27 @@ fn check_ipv4(rt: &impl Abort, name: &str, bytes: &[u8], parts: Parts) -> Result
 #[test]
 fn ipv4_packets(rt: HostRuntime) -> Result<(), Fail> {
     let alloc = rt.alloc();
-    let auth = [17, 1, 0, 0, 0, 0, 0, 0, 0, 0, 0, 0, 9, 9];
-    let rows: [(&str, Vec<u8>, Parts); 4] = [
+    let auth = [17, 1, 0, 0, 0, 0, 0, 0, 0, 0, 0, 0, 8, 9];
+    let rows: [(&str, Vec<u8>, Parts<'_>); 4] = [
         (
-            "bytes behind the packet",
+            "bytes after the packet",
             ipv4_bytes(alloc, 0x45, 22, [0, 0], 17, &[1, 2, 3, 4])?,
-            ipv4_shown(20, 0, 17, 2, false),
+            ipv4_wanted(20, 0, 17, &[1, 2], false),
         ),
         (
             "no payload",
             ipv4_bytes(alloc, 0x45, 20, [0, 0], 6, &[])?,
-            ipv4_shown(20, 0, 6, 0, false),
+            ipv4_wanted(20, 0, 6, &[], false),
         ),
         (
             "options",
             ipv4_bytes(alloc, 0x46, 26, [0, 0], 17, &[1, 1, 1, 0, 5, 6])?,
-            ipv4_shown(24, 0, 17, 2, false),
+            ipv4_wanted(24, 0, 17, &[5, 6], false),
         ),
         (
             "an authentication header",
             ipv4_bytes(alloc, 0x45, 34, [0, 0], 51, &auth)?,
-            ipv4_shown(20, 12, 17, 2, false),
+            ipv4_wanted(20, 12, 17, &[8, 9], false),
         ),
     ];
     for (name, bytes, parts) in &rows {
@@ -226,18 +254,18 @@ fn ipv4_fragments(rt: HostRuntime) -> Result<(), Fail> {
         ("don't fragment", [0x40, 0], false),
         ("more fragments", [0x20, 0], true),
         ("a later fragment", [0, 1], true),
-        ("a fragment far behind", [0x10, 0], true),
+        ("the highest bit of the offset", [0x10, 0], true),
     ] {
         let bytes = ipv4_bytes(rt.alloc(), 0x45, 20, fragment, 17, &[])?;
-        check_ipv4(&rt, name, &bytes, ipv4_shown(20, 0, 17, 0, fragmented))?;
+        check_ipv4(&rt, name, &bytes, ipv4_wanted(20, 0, 17, &[], fragmented))?;
     }
     Ok(())
 }
 
 #[test]
 fn an_authentication_header_of_length_0(rt: HostRuntime) -> Result<(), Fail> {
-    let behind = [17, 0, 0, 0, 0, 0, 0, 0, 0, 0, 0, 0];
-    let bytes = ipv4_bytes(rt.alloc(), 0x45, 32, [0, 0], 51, &behind)?;
+    let auth = [17, 0, 0, 0, 0, 0, 0, 0, 0, 0, 0, 0];
+    let bytes = ipv4_bytes(rt.alloc(), 0x45, 32, [0, 0], 51, &auth)?;
     let zero = ip_auth::HeaderError::ZeroPayloadLen;
     assert_eq!(rt;
         Ipv4Slice::from_slice(&bytes).map(|packet| ipv4_parts(&packet)),

@@ -1,25 +1,28 @@
 //! Callers that need what a clause on a chain says of one outcome of a call, as those of single headers beside
 //! them (`outcomes.rt`).
-ghost use Rattle.std.specs.Prelude.{ℕ, Ok, ◌≡◌, ◌≢◌, ◌<◌, ◌+◌, ◌++◌, ◌==◌, ◌↔◌, List, [], None, Some, Err, IsOk, length, IfOk, IfErr, IfSome, IfNone, vec_len, vec_capacity, if◌then◌else◌};
+ghost use Rattle.std.specs.Prelude.{ℕ, Ok, ◌≡◌, ◌≢◌, ◌<◌, ◌+◌, ◌++◌, ◌==◌, ◌↔◌, Bool, List, [], ◌∷◌, None, Some, Err, IsOk, IsTrue, length, drop, IfOk, IfErr, IfSome, IfNone, vec_len, vec_capacity, if◌then◌else◌};
+ghost use Rattle.std.specs.List.{AllByRecursion};
 ghost use Rattle.std.specs.Option.{option_map, option_map_or};
 ghost use Rattle.ip_spec.specs.Fields.{auth_len};
-ghost use Rattle.ip_spec.specs.Encoding.{AppendsOne};
-ghost use Rattle.ip_spec.specs.Chain.{ExtHeader, bytes_of};
-ghost use Rattle.ip_spec.specs.Walk.{leads, IsSpelling, IsWalkAnswer};
+ghost use Rattle.ip_spec.specs.Encoding.{AppendsOne, AreBytes};
+ghost use Rattle.ip_spec.specs.Chain.{ExtHeader, IsNext, is_empty, leads_to, bytes_of};
+ghost use Rattle.ip_spec.specs.LongestOf.{IsLongestOf};
+ghost use Rattle.ip_spec.specs.Walk.{leads, IsSpelling, IsReachable, IsWalkAnswer};
 ghost use Rattle.ip_spec.specs.Numbers.{AUTHENTICATION};
-ghost use Rattle.ip_spec.specs.Demand.{AtMostOneOf};
+ghost use Rattle.ip_spec.specs.Demand.{AtMostOneOf, IsDemand, IsLongestUnder, Passes};
 ghost use Rattle.ip_spec.specs.Fits.{FitsPlaces};
 ghost use Rattle.ip_spec.specs.Parse.{IsRead};
+ghost use Rattle.ip_spec.specs.Runs.{how_many};
 ghost use Rattle.ip_ext_slices.specs.Longest.{longest_chain};
 ghost use Rattle.ip_ext_slices.specs.ChainFault.{chain_fault};
-ghost use Rattle.ip_ext_chains.specs.Fitting.{fitting_fault};
+ghost use Rattle.ip_ext_chains.specs.Fitting.{fitting_chain, fitting_fault};
 ghost use Rattle.ip_ext_slices.specs.Ipv4Fault.{ipv4_chain_fault};
 ghost use Rattle.ip_ext_slices.specs.Ipv4Parse.{IsIpv4Answer, ipv4_value};
 ghost use Rattle.ip_ext_slices.specs.Ipv4ExtensionsSlice.{headers_in};
 ghost use Rattle.ip_ext_slices.specs.Ipv4Walk.{ipv4_walk, IsIpv4Encoding};
 ghost use Rattle.ip_ext_chains.specs.Ipv6Extensions.{placed_fields, value_of, exts_len};
 ghost use Rattle.ip_ext_chains.specs.Ipv6ExtensionsRuns.{start, input, values_left};
-ghost use Rattle.ip_ext_chains.specs.Write.{IsWritten, IsWalkFault};
+ghost use Rattle.ip_ext_chains.specs.ExtsWalk.{walk_answer};
 
 use ip_base::IpNumber;
 use ip_base::err::Layer;
@@ -147,8 +150,9 @@ pub fn ipv4_walk_refused(
 
 /// Appends the headers in six places. It answers how long the vector is then, or nothing where it was refused.
 pub fn append_ipv6(headers: &Ipv6Extensions, first: IpNumber, out: &mut Vec<u8>) -> Option<usize>
-    ensures written { IfSome result (λ _.
-        IsWritten headers.now first.0 out.old.items out.new.items) }
+    ensures spelled { IfSome result (λ _. (c : List ExtHeader)
+        × IsSpelling (placed_fields headers.now) first.0 c
+        × (out.new.items ≡ out.old.items ++ bytes_of c)) }
     ensures len { IfSome result (λ len. len ≡ vec_len out.old + exts_len headers.now) }
     ensures read_whole { IfSome result (λ _. (b : List ℕ) (m : ℕ)
         → out.new.items ≡ out.old.items ++ b → IsWalkAnswer (placed_fields headers.now) first.0 (leads m)
@@ -180,17 +184,39 @@ pub fn ipv6_want_of_memory(
     }
 }
 
-/// The fault of the walk, where that is why they aren't written: what is reached was appended.
+/// The error of the walk, where that is why they aren't written: the headers that are reached were appended.
 pub fn ipv6_walk_refused(
     headers: &Ipv6Extensions,
     first: IpNumber,
     out: &mut Vec<u8>,
 ) -> Option<ExtsWalkError>
-    ensures { IfSome result (λ e.
-        IsWalkFault headers.now first.0 out.old.items out.new.items e) }
+    ensures answer { IfSome result (λ e.
+        IsWalkAnswer (placed_fields headers.now) first.0 (walk_answer (Err e))) }
+    ensures reached { IfSome result (λ _. (c : List ExtHeader)
+        × IsLongestOf (IsReachable (placed_fields headers.now) first.0) c
+        × (out.new.items ≡ out.old.items ++ bytes_of c)) }
+    ensures unread { IfSome result (λ _. (s : List ℕ) → AreBytes s
+        → value_of (fitting_chain first.0 s) ≡ headers.now → ⊥) }
 {
     match headers.write(out, first) {
         Err(HeaderWriteError::Content(e)) => Some(e),
         _ => None,
     }
 }
+
+/// No header goes on after the longest chain under a demand, unless the demand isn't met with it.
+pub fn no_header_goes_on_under_a_demand()
+    ensures { (q : List ExtHeader → Bool) → IsDemand (Passes q)
+        → (n : ℕ) (s : List ℕ) (c : List ExtHeader) → IsLongestUnder (Passes q) n s c
+        → (h : ExtHeader) → IsNext (is_empty c) (leads_to n c) (drop (length (bytes_of c)) s) h
+        → IsTrue (q (c ++ h ∷ [])) → ⊥ }
+{
+    ip_spec::longest_chain_under_a_demand_ends();
+}
+
+/// `how_many` counts the pieces that have a header, all of them where none is empty.
+pub fn filled_pieces_are_counted()
+    ensures filled { (ps : List (List ExtHeader)) → AllByRecursion (λ p. p ≢ []) ps
+        → how_many ps ≡ length ps }
+    ensures empty { (ps : List (List ExtHeader)) → how_many (ps ++ [] ∷ []) ≡ how_many ps }
+{}

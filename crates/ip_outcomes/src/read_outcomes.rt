@@ -1,9 +1,10 @@
 //! Callers that need what a clause says of one outcome of a read, of bytes in memory and of a window of them. Their
 //! own clauses tell the outcome by std's words and those of headers, so that none of them is proved where such a
 //! clause, or the word by which it tells the outcome, says nothing.
-ghost use Rattle.std.specs.Prelude.{◌≡◌, ◌≤◌, ◌<◌, ◌+◌, ◌++◌, ℕ, List, false, Some, length, IfSome};
+ghost use Rattle.std.specs.Prelude.{◌≡◌, ◌≤◌, ◌<◌, ◌+◌, ◌++◌, ℕ, List, [], ◌∷◌, false, Some, length, IfSome};
 ghost use Rattle.std.specs.Bool.{OnTrue};
 ghost use Rattle.std.specs.Option.{option_map};
+ghost use Rattle.std.specs.Io.KnownBytes.{Consumes};
 ghost use Rattle.ip_spec.specs.Prefix.{IsPrefix};
 ghost use Rattle.ip_spec.specs.Header.{IsRawHeader};
 ghost use Rattle.ip_spec.specs.Requests.{RawAsks, Asks};
@@ -19,6 +20,7 @@ ghost use Rattle.ip_ext_headers.specs.declared.err.ip_auth.header_slice_error.He
 ghost use Rattle.ip_base.specs.declared.err.ip_auth.header_error.HeaderError.TheVariants.{ZeroPayloadLen};
 ghost use Rattle.ip_ext_slices.specs.Ipv4Fault.{ipv4_chain_fault};
 ghost use Rattle.ip_ext_slices.specs.declared.err.ipv6_exts.header_slice_error.HeaderSliceError.TheVariants as chain;
+ghost use Rattle.ip_ext_chains.specs.ChainReading.{layer_of};
 ghost use Rattle.ip_ext_chains.specs.Fitting.{fitting_fault};
 
 use ip_base::IpNumber;
@@ -26,7 +28,7 @@ use ip_base::err::LenError;
 use ip_ext_chains::err::{ip_auth, ipv6_exts};
 use ip_ext_chains::{Ipv4Extensions, Ipv6Extensions};
 use ip_ext_headers::err::io::LimitedReadError;
-use ip_ext_headers::io::LimitedReader;
+use ip_ext_headers::io::{ExactRead, LimitedReader};
 use ip_ext_headers::{IpAuthHeader, Ipv6RawExtHeader};
 
 /// Whether the bytes begin with no header of the common layout: then there are too few for a request.
@@ -132,5 +134,41 @@ pub fn chain_past_limit(reader: &mut LimitedReader<&[u8]>, start: IpNumber) -> O
     match Ipv6Extensions::read_limited(reader, start) {
         Err(ipv6_exts::HeaderLimitedReadError::Len(e)) => Some(e),
         _ => None,
+    }
+}
+
+/// Whether a chain was read: then the reader has failed only where it had before, and its next bytes are those after
+/// a chain from the start number.
+pub fn is_chain_read<T: ExactRead>(reader: &mut T, start: IpNumber) -> bool
+    ensures kept { OnTrue result (T.has_failed reader.new ≡ T.has_failed reader.old) }
+    ensures taken { OnTrue result ((c : List ExtHeader) × IsChain start.0 c
+        × Consumes (T.bytes_left reader.old) (T.bytes_left reader.new) (bytes_of c)) }
+{
+    Ipv6Extensions::read(reader, start).is_ok()
+}
+
+/// Where a reader with a limit is after a chain that was read, as an offset in bytes: after the bytes of the chain, in
+/// the layer of its last header.
+pub fn offset_after_chain<T: ExactRead>(
+    reader: &mut LimitedReader<T>,
+    start: IpNumber,
+) -> Option<usize>
+    ensures limits { IfSome result (λ at. (c : List ExtHeader) × IsChain start.0 c
+        × (at ≡ (limits_of reader.old).layer_offset + (limits_of reader.old).read_len
+        + length (bytes_of c))
+        × ((d : List ExtHeader) (h : ExtHeader) → c ≡ d ++ h ∷ []
+        → (limits_of reader.new).layer ≡ layer_of h.number)) }
+    ensures source { IfSome result (λ _.
+        (limits_of reader.new).len_source ≡ (limits_of reader.old).len_source) }
+    ensures kept { IfSome result (λ _.
+        T.has_failed (inner_of reader.new) ≡ T.has_failed (inner_of reader.old)) }
+{
+    match Ipv6Extensions::read_limited(reader, start) {
+        Ok(_) => {
+            // The sum fits, since the limit and 2048 more do.
+            let _ = reader.max_len();
+            Some(reader.layer_offset() + reader.read_len())
+        }
+        Err(_) => None,
     }
 }

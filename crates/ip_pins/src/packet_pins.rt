@@ -3,7 +3,7 @@ ghost use Rattle.std.specs.Prelude.{◌≡◌, ◌↔◌, IsTrue, IsFalse, IfOk}
 ghost use Rattle.ip_base.specs.Ipv4HeaderSlice as ipv4_header;
 ghost use Rattle.ip_base.specs.Ipv6HeaderSlice as ipv6_header;
 ghost use Rattle.etherparse_ip.specs.Ipv4Slice.{ipv4_parts};
-ghost use Rattle.etherparse_ip.specs.Ipv6Slice.{ipv6_parts, AreSameIpv6};
+ghost use Rattle.etherparse_ip.specs.Ipv6Slice.{ipv6_parts};
 ghost use Rattle.etherparse_ip.specs.IpSlice.{ip_parts, AreSame};
 
 use etherparse_ip::err::{LenError, ip, ip_auth, ipv4, ipv6, ipv6_exts};
@@ -282,7 +282,7 @@ pub fn ipv6_packets<'a>(
     a: &Ipv6Slice<'a>,
     b: &Ipv6Slice<'_>,
 ) -> Result<(bool, Ipv6Slice<'a>), AllocError>
-    ensures same { IfOk result (λ r. IsTrue r.0 ↔ AreSameIpv6 a.now b.now) }
+    ensures same { IfOk result (λ r. IsTrue r.0 ↔ (ipv6_parts a.now ≡ ipv6_parts b.now)) }
     ensures copy { IfOk result (λ r. ipv6_parts r.1 ≡ ipv6_parts a.now) }
 {
     Ok((a == b, a.clone()?))

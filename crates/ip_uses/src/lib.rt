@@ -1,14 +1,19 @@
-//! Programs over the crates of the repository, proved from their public contracts alone.
+//! Callers of the other crates, proved from their public contracts alone: examples, and one for each clause that
+//! speaks of a single outcome of a call.
 #![tactic(auto)]
 
 pub mod base;
+pub mod chain_outcomes;
 pub mod chains;
 pub mod cuts;
 pub mod from_etherparse;
+pub mod header_outcomes;
 pub mod headers;
 pub mod ipv4;
+pub mod packet_outcomes;
 pub mod packets;
 pub mod places;
+pub mod read_outcomes;
 pub mod readers;
 pub mod runs;
 pub mod tool;

@@ -1,14 +1,20 @@
-//! Known answers about numbers, single headers, IPv4 headers and lines, compared with what the crates of the
-//! repository give.
+//! Test vectors for numbers, single headers, IPv4 headers and lines of the tool, for long chains, and for calls while
+//! memory is refused.
 #![tactic(auto)]
 
 #[cfg(test)]
 mod base;
+#[cfg(test)]
+mod full_heap;
 #[cfg(test)]
 mod header_slices;
 #[cfg(test)]
 mod ipv4;
 #[cfg(test)]
 mod lines;
+#[cfg(test)]
+mod long_chains;
+#[cfg(test)]
+mod memory;
 #[cfg(test)]
 mod single_headers;

@@ -1,7 +1,15 @@
-//! Known answers about chains and about what fits six places, compared with what the crates of the repository give.
+//! Test vectors for chains: borrowed, in six places, split into runs, linked, written, and read from streams.
 #![tactic(auto)]
 
+#[cfg(test)]
+mod chain_readers;
 #[cfg(test)]
 mod chains;
 #[cfg(test)]
 mod places;
+#[cfg(test)]
+mod readers;
+#[cfg(test)]
+mod runs;
+#[cfg(test)]
+mod writes;

@@ -1,5 +1,5 @@
-//! Known answers of errors: their texts, what they come of, what their accessors give, which of them are equal and
-//! hashed alike; and the texts of protocol numbers.
+//! Test vectors for errors: their texts, causes and accessors, which of them are equal and hash alike, and the texts
+//! of protocol numbers.
 #![tactic(auto)]
 
 #[cfg(test)]

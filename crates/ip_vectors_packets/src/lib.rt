@@ -1,7 +1,8 @@
-//! Known answers of base headers and packets, lengths that lie among them, compared with what the crates of the
-//! repository give.
+//! Test vectors for packets: base headers, length fields that are wrong, and packets and chains as plain numbers.
 #![tactic(auto)]
 
+#[cfg(test)]
+mod cuts;
 #[cfg(test)]
 mod lengths_that_lie;
 #[cfg(test)]

@@ -1,0 +1,6 @@
+//! Checks of errors: their impls and texts, and callers for each source and each accessor that one has.
+#![tactic(auto)]
+
+pub mod error_checks;
+pub mod error_outcomes;
+pub mod error_sources;

@@ -1,0 +1,374 @@
+//! Calls that need no memory, made while a heap has none left.
+use crate::long_chains::SIX;
+use crate::memory::take_all;
+use etherparse_ip::err::ipv6_exts::{HeaderError, HeaderSliceError};
+use etherparse_ip::err::{Layer, LenError, io, ip, ip_auth, ipv4, ipv6};
+use etherparse_ip::io::LimitedReader;
+use etherparse_ip::{
+    IpAuthHeader, IpAuthHeaderSlice, IpFragOffset, IpNumber, IpSlice, Ipv4Extensions,
+    Ipv4ExtensionsSlice, Ipv4Slice, Ipv6Extensions, Ipv6ExtensionsRuns, Ipv6ExtensionsSlice,
+    Ipv6FragmentHeader, Ipv6RawExtHeader, Ipv6RawExtHeaderSlice, Ipv6RoutingExtensions, Ipv6Slice,
+    LenSource,
+};
+use linked_list_allocator::LocalHeap;
+use std::process::Abort;
+use std::test::Fail;
+
+/// An error of a length that the slice has.
+fn too_short(required_len: usize, len: usize, layer: Layer, offset: usize) -> LenError {
+    LenError {
+        required_len,
+        len,
+        len_source: LenSource::Slice,
+        layer,
+        layer_start_offset: offset,
+    }
+}
+
+/// The error that ends a chain: too few bytes, with those required, those left, the layer and the offset, or hop by hop
+/// options after a header.
+#[derive(Clone, Copy)]
+enum Fault {
+    TooShort(usize, usize, Layer, usize),
+    HopByHopNotAtStart,
+}
+
+fn error_of(fault: Fault) -> HeaderSliceError {
+    match fault {
+        Fault::TooShort(required_len, len, layer, offset) => {
+            HeaderSliceError::Len(too_short(required_len, len, layer, offset))
+        }
+        Fault::HopByHopNotAtStart => HeaderSliceError::Content(HeaderError::HopByHopNotAtStart),
+    }
+}
+
+/// The start number and the bytes of a chain, the length of its headers and the number that follows them, both also
+/// where the headers are put into six places, the error that ends the chain, and whether the six places end before.
+type Row<'a> = (
+    u8,
+    &'a [u8],
+    (usize, u8),
+    (usize, u8),
+    Option<(Fault, Layer)>,
+    bool,
+);
+
+/// Parses the chain and compares the results with the row.
+fn check_chain(rt: &impl Abort, row: Row<'_>) {
+    let (start, bytes, (len, next), (places_len, places_next), fault, ends_before) = row;
+    let start = IpNumber(start);
+    let (chain, number, rest, error) = Ipv6ExtensionsSlice::from_slice_lax(start, bytes);
+    assert_eq!(rt; (chain.slice().len(), number.0), (len, next), "{bytes:?}");
+    assert_eq!(rt; Some(rest), bytes.get(len..), "{bytes:?}");
+    assert_eq!(rt;
+        error,
+        fault.map(|(error, layer)| (error_of(error), layer)),
+        "{bytes:?}"
+    );
+    let strict = Ipv6ExtensionsSlice::from_slice(start, bytes).err();
+    assert_eq!(rt;
+        strict,
+        fault.map(|(error, _)| error_of(error)),
+        "{bytes:?}"
+    );
+    let fault = if ends_before { None } else { fault };
+    let (exts, number, rest, error) = Ipv6Extensions::from_slice_lax(start, bytes);
+    assert_eq!(rt;
+        (exts.header_len(), number.0),
+        (places_len, places_next),
+        "{bytes:?}"
+    );
+    assert_eq!(rt; Some(rest), bytes.get(places_len..), "{bytes:?}");
+    assert_eq!(rt;
+        error,
+        fault.map(|(error, layer)| (error_of(error), layer)),
+        "{bytes:?}"
+    );
+    let strict = Ipv6Extensions::from_slice(start, bytes).err();
+    assert_eq!(rt;
+        strict,
+        fault.map(|(error, _)| error_of(error)),
+        "{bytes:?}"
+    );
+}
+
+#[test]
+fn chains(rt: HostRuntime) -> Result<(), Fail> {
+    let heap = LocalHeap::new(rt.alloc(), 64)?;
+    let mut out: Vec<u8, &LocalHeap> = Vec::new(&heap);
+    let _blocks = take_all(&rt, rt.alloc(), &heap)?;
+    let auth_error = ip_auth::HeaderSliceError::Len(too_short(12, 0, Layer::IpAuthHeader, 0));
+    let (exts, number, rest, fault) = Ipv4Extensions::from_slice_lax(IpNumber(17), &[0, 1, 2, 3]);
+    assert!(rt; exts.is_empty() && number.0 == 17 && rest == [0, 1, 2, 3].as_slice());
+    assert_eq!(rt; fault, None);
+    let (exts, number, rest, fault) = Ipv4ExtensionsSlice::from_slice_lax(IpNumber(51), &[]);
+    assert!(rt; exts.is_empty() && number.0 == 51 && rest.is_empty());
+    assert_eq!(rt; fault, Some(auth_error));
+    for row in CHAINS {
+        check_chain(&rt, row);
+    }
+    let mut headers = Ipv6ExtensionsSlice::from_slice_lax(IpNumber(60), &[43, 0, 0, 0, 0, 0, 0, 0])
+        .0
+        .into_iter();
+    assert!(rt; matches!(headers.next(), Some(header) if header.number().0 == 60));
+    assert!(rt; headers.next().is_none());
+    let none = Ipv6Extensions::default();
+    assert!(rt; matches!(none.next_header(IpNumber(0)), Ok(IpNumber(0))));
+    assert!(rt; none.write(&mut out, IpNumber(0)).is_ok() && out.is_empty());
+    Ok(())
+}
+
+const CHAINS: [Row<'static>; 6] = [
+    (
+        60,
+        &[60, 0, 0, 0, 0, 0, 0, 0, 17, 0, 0, 0, 0, 0, 0, 0],
+        (16, 17),
+        (8, 60),
+        None,
+        true,
+    ),
+    (
+        60,
+        &[
+            43, 0, 0, 0, 0, 0, 0, 0, 60, 0, 0, 0, 0, 0, 0, 0, 17, 0, 0, 0, 0, 0, 0, 0,
+        ],
+        (24, 17),
+        (24, 17),
+        None,
+        false,
+    ),
+    (
+        60,
+        &[43, 0, 0, 0, 0, 0, 0, 0],
+        (8, 43),
+        (8, 43),
+        Some((
+            Fault::TooShort(8, 0, Layer::Ipv6ExtHeader, 8),
+            Layer::Ipv6RouteHeader,
+        )),
+        false,
+    ),
+    (
+        0,
+        &[0, 0, 0, 0, 0, 0, 0, 0],
+        (8, 0),
+        (8, 0),
+        Some((Fault::HopByHopNotAtStart, Layer::Ipv6HopByHopHeader)),
+        false,
+    ),
+    (
+        0,
+        &[],
+        (0, 0),
+        (0, 0),
+        Some((
+            Fault::TooShort(8, 0, Layer::Ipv6ExtHeader, 0),
+            Layer::Ipv6HopByHopHeader,
+        )),
+        false,
+    ),
+    (
+        44,
+        &[44, 0, 0, 0, 0, 0, 0, 1, 17, 0, 0],
+        (8, 44),
+        (8, 44),
+        Some((
+            Fault::TooShort(8, 3, Layer::Ipv6FragHeader, 8),
+            Layer::Ipv6FragHeader,
+        )),
+        true,
+    ),
+];
+
+#[test]
+fn links_and_runs(rt: HostRuntime) -> Result<(), Fail> {
+    let heap = LocalHeap::new(rt.alloc(), 128)?;
+    let mut out: Vec<u8, &LocalHeap> = Vec::with_capacity(&heap, 52)?;
+    let _blocks = take_all(&rt, rt.alloc(), &heap)?;
+    let mut exts = Ipv6Extensions {
+        hop_by_hop_options: Some(Ipv6RawExtHeader::default()),
+        destination_options: Some(Ipv6RawExtHeader::default()),
+        routing: Some(Ipv6RoutingExtensions {
+            routing: Ipv6RawExtHeader::default(),
+            final_destination_options: Some(Ipv6RawExtHeader::default()),
+        }),
+        fragment: Some(Ipv6FragmentHeader::new(IpNumber(0), IpFragOffset::try_new(0)?, false, 0)),
+        auth: Some(IpAuthHeader::new(IpNumber(0), 0, 0, &[])?),
+    };
+    assert_eq!(rt; exts.set_next_headers(IpNumber(17)), IpNumber(0));
+    assert!(rt; matches!(exts.next_header(IpNumber(0)), Ok(IpNumber(17))));
+    assert!(rt; exts.write(&mut out, IpNumber(0)).is_ok());
+    assert_eq!(rt; out.as_slice(), SIX.as_slice());
+    let three = [
+        44, 0, 0, 0, 0, 0, 0, 0, 44, 0, 0, 0, 0, 0, 0, 0, 17, 0, 0, 0, 0, 0, 0, 0,
+    ];
+    let mut runs = Ipv6ExtensionsRuns::new(IpNumber(44), &three);
+    for _ in 0..3 {
+        assert!(rt; matches!(runs.next(), Some(exts) if exts.fragment.is_some()));
+    }
+    assert_eq!(rt; runs.end(), Some((IpNumber(17), [].as_slice(), None)));
+    let mut runs = Ipv6ExtensionsRuns::new(IpNumber(44), &[44, 0, 0, 0, 0, 0, 0, 1, 17, 0, 0]);
+    assert!(rt; matches!(runs.next(), Some(exts) if exts.fragment.is_some()));
+    assert!(rt; matches!(runs.next(), Some(exts) if exts.is_empty()));
+    let error = HeaderSliceError::Len(too_short(8, 3, Layer::Ipv6FragHeader, 8));
+    let fault = Some((error, Layer::Ipv6FragHeader));
+    assert_eq!(rt;
+        runs.end(),
+        Some((IpNumber(44), [17, 0, 0].as_slice(), fault))
+    );
+    Ok(())
+}
+
+#[test]
+fn single_headers(rt: HostRuntime) -> Result<(), Fail> {
+    let heap = LocalHeap::new(rt.alloc(), 64)?;
+    let _blocks = take_all(&rt, rt.alloc(), &heap)?;
+    let mut bytes = [0; 2048];
+    bytes[1] = 2;
+    for (len, error) in [
+        (
+            11usize,
+            ip_auth::HeaderSliceError::Len(too_short(12, 11, Layer::IpAuthHeader, 0)),
+        ),
+        (
+            12,
+            ip_auth::HeaderSliceError::Len(too_short(16, 12, Layer::IpAuthHeader, 0)),
+        ),
+    ] {
+        let refused = IpAuthHeaderSlice::from_slice(&bytes[..len]);
+        assert_eq!(rt; refused.err(), Some(error));
+    }
+    bytes[1] = 0;
+    let zero = ip_auth::HeaderSliceError::Content(ip_auth::HeaderError::ZeroPayloadLen);
+    assert_eq!(rt;
+        IpAuthHeaderSlice::from_slice(&bytes[..12]).err(),
+        Some(zero)
+    );
+    bytes[1] = 255;
+    let raw = Ipv6RawExtHeaderSlice::from_slice(&bytes);
+    assert!(rt; matches!(raw, Ok(header) if header.payload().len() == 2046));
+    let auth = IpAuthHeaderSlice::from_slice(&bytes);
+    assert!(rt; matches!(auth, Ok(header) if header.raw_icv().len() == 1016));
+    let raw = Ipv6RawExtHeaderSlice::from_slice(&bytes[..2047]);
+    assert_eq!(rt;
+        raw.err(),
+        Some(too_short(2048, 2047, Layer::Ipv6ExtHeader, 0))
+    );
+    let auth = IpAuthHeaderSlice::from_slice(&bytes[..1027]);
+    let error = ip_auth::HeaderSliceError::Len(too_short(1028, 1027, Layer::IpAuthHeader, 0));
+    assert_eq!(rt; auth.err(), Some(error));
+    for (limit, required_len, read_len) in [(7usize, 8, 2), (1, 2, 0)] {
+        let options: &[u8] = &[17, 0, 0, 0, 0, 0, 0, 0];
+        let source = LenSource::Ipv6HeaderPayloadLen;
+        let mut reader = LimitedReader::new(options, limit, source, 40, Layer::Ipv6Header);
+        let mut error = too_short(required_len, limit, Layer::Ipv6ExtHeader, 40);
+        error.len_source = source;
+        match Ipv6RawExtHeader::read_limited(&mut reader) {
+            Err(io::LimitedReadError::Len(e)) => assert_eq!(rt; e, error),
+            _ => assert!(rt; false, "limit {limit}"),
+        }
+        assert_eq!(rt; reader.read_len(), read_len);
+    }
+    Ok(())
+}
+
+/// An IPv6 packet with these eight bytes after its base header.
+fn ipv6_packet(payload_length: u8, next_header: u8, last: [u8; 8]) -> [u8; 48] {
+    let mut bytes = [0; 48];
+    bytes[0] = 0x60;
+    bytes[5] = payload_length;
+    bytes[6] = next_header;
+    bytes[40..].copy_from_slice(&last);
+    bytes
+}
+
+/// The payload of an IPv6 packet and the source of its length, as the lax parse returns them and as the strict one
+/// does, or the strict parse's error.
+fn check_ipv6(
+    rt: &impl Abort,
+    bytes: &[u8],
+    payload: &[u8],
+    source: LenSource,
+    refused: Option<LenError>,
+) {
+    match Ipv6Slice::from_slice_lax(bytes) {
+        Ok(packet) => {
+            assert_eq!(rt; packet.payload().payload, payload);
+            assert_eq!(rt; packet.payload().len_source, source);
+        }
+        Err(_) => assert!(rt; false, "{bytes:?}"),
+    }
+    match Ipv6Slice::from_slice(bytes) {
+        Ok(packet) => {
+            assert!(rt; refused.is_none() && packet.payload().payload == payload);
+            assert_eq!(rt; packet.payload().len_source, source);
+        }
+        Err(e) => assert_eq!(rt; Some(e), refused.map(ipv6::SliceError::Len)),
+    }
+}
+
+#[test]
+fn ipv6_packets(rt: HostRuntime) -> Result<(), Fail> {
+    let heap = LocalHeap::new(rt.alloc(), 64)?;
+    let _blocks = take_all(&rt, rt.alloc(), &heap)?;
+    let last = [1, 2, 3, 4, 5, 6, 7, 8];
+    let jumbo = ipv6_packet(0, 17, last);
+    check_ipv6(
+        &rt,
+        &jumbo[..40],
+        &[],
+        LenSource::Ipv6HeaderPayloadLen,
+        None,
+    );
+    check_ipv6(&rt, &jumbo, &last, LenSource::Slice, None);
+    let error = too_short(49, 48, Layer::Ipv6Packet, 0);
+    check_ipv6(
+        &rt,
+        &ipv6_packet(9, 17, last),
+        &last,
+        LenSource::Slice,
+        Some(error),
+    );
+    let routing = ipv6_packet(0, 60, [43, 0, 0, 0, 0, 0, 0, 0]);
+    let error = ipv6::SliceError::Len(too_short(8, 0, Layer::Ipv6ExtHeader, 48));
+    assert_eq!(rt; Ipv6Slice::from_slice(&routing).err(), Some(error));
+    let error = ipv6::SliceError::Len(too_short(8, 0, Layer::Ipv6ExtHeader, 48));
+    assert_eq!(rt; Ipv6Slice::from_slice_lax(&routing).err(), Some(error));
+    Ok(())
+}
+
+#[test]
+fn ipv4_packets_and_first_bytes(rt: HostRuntime) -> Result<(), Fail> {
+    let heap = LocalHeap::new(rt.alloc(), 64)?;
+    let _blocks = take_all(&rt, rt.alloc(), &heap)?;
+    let error = ip::SliceError::Len(too_short(1, 0, Layer::IpHeader, 0));
+    assert_eq!(rt; IpSlice::from_slice(&[]).err(), Some(error));
+    for (first, error) in [
+        (
+            0x44,
+            ip::HeaderError::Ipv4HeaderLengthSmallerThanHeader { ihl: 4 },
+        ),
+        (
+            0x10,
+            ip::HeaderError::UnsupportedIpVersion { version_number: 1 },
+        ),
+    ] {
+        let error = ip::SliceError::IpHeaders(ip::HeadersError::Ip(error));
+        assert_eq!(rt; IpSlice::from_slice(&[first]).err(), Some(error));
+    }
+    let error = ipv4::SliceError::Len(too_short(20, 1, Layer::Ipv4Header, 0));
+    assert_eq!(rt; Ipv4Slice::from_slice(&[0x44]).err(), Some(error));
+    let mut bytes = [
+        0x45, 0, 0, 19, 0, 0, 0, 0, 64, 17, 0, 0, 10, 0, 0, 1, 10, 0, 0, 2, 1, 2, 3, 4,
+    ];
+    let mut error = too_short(20, 19, Layer::Ipv4Packet, 0);
+    error.len_source = LenSource::Ipv4HeaderTotalLen;
+    let refused = Ipv4Slice::from_slice(&bytes[..20]).err();
+    assert_eq!(rt; refused, Some(ipv4::SliceError::Len(error)));
+    bytes[3] = 22;
+    match Ipv4Slice::from_slice(&bytes) {
+        Ok(packet) => assert_eq!(rt; packet.payload().payload, [1, 2].as_slice()),
+        Err(_) => assert!(rt; false, "a packet with bytes after it"),
+    }
+    Ok(())
+}

@@ -1,0 +1,244 @@
+//! Writes into vectors on a heap that has no memory left.
+use crate::long_chains::SIX;
+use ip_base::{IpFragOffset, IpNumber};
+use ip_ext_chains::err::{ipv4_exts, ipv6_exts};
+use ip_ext_chains::{Ipv4Extensions, Ipv6Extensions, Ipv6RoutingExtensions};
+use ip_ext_headers::{IpAuthHeader, Ipv6FragmentHeader, Ipv6RawExtHeader};
+use linked_list_allocator::LocalHeap;
+use std::alloc::{AllocError, Global};
+use std::process::Abort;
+use std::test::Fail;
+
+/// Takes all free memory of the heap, which hands out blocks of 16 bytes and multiples of it. Until these blocks are
+/// dropped it refuses each allocation.
+pub(crate) fn take_all<'a>(
+    rt: &impl Abort,
+    alloc: Global,
+    heap: &'a LocalHeap,
+) -> Result<Vec<Vec<u8, &'a LocalHeap>>, AllocError> {
+    let mut blocks = Vec::new(alloc);
+    for _ in 0..heap.size() / 16 {
+        match Vec::with_capacity(heap, 16) {
+            Ok(block) => blocks.push(block)?,
+            Err(_) => break,
+        }
+    }
+    assert_eq!(rt; heap.free(), 0);
+    Ok(blocks)
+}
+
+/// A header or a chain that is written, a chain from this number.
+#[derive(Drop)]
+enum Item {
+    Raw(Ipv6RawExtHeader),
+    Fragment(Ipv6FragmentHeader),
+    Authentication(IpAuthHeader),
+    Ipv4Chain(Ipv4Extensions, u8),
+    Ipv6Chain(Ipv6Extensions, u8),
+}
+
+/// The result of a write.
+#[derive(Clone, Copy, Debug, PartialEq)]
+enum Outcome {
+    Written,
+    OutOfMemory,
+    NotReferenced(u8),
+    HopByHopNotAtStart,
+}
+
+fn of_header(written: Result<(), AllocError>) -> Outcome {
+    match written {
+        Ok(()) => Outcome::Written,
+        Err(_) => Outcome::OutOfMemory,
+    }
+}
+
+fn of_ipv4(written: Result<(), ipv4_exts::HeaderWriteError>) -> Outcome {
+    match written {
+        Ok(()) => Outcome::Written,
+        Err(ipv4_exts::HeaderWriteError::Io(_)) => Outcome::OutOfMemory,
+        Err(
+            ipv4_exts::HeaderWriteError::Content(
+                ipv4_exts::ExtsWalkError::ExtNotReferenced { missing_ext },
+            ),
+        ) => Outcome::NotReferenced(missing_ext.0),
+    }
+}
+
+fn of_ipv6(written: Result<(), ipv6_exts::HeaderWriteError>) -> Outcome {
+    match written {
+        Ok(()) => Outcome::Written,
+        Err(ipv6_exts::HeaderWriteError::Io(_)) => Outcome::OutOfMemory,
+        Err(ipv6_exts::HeaderWriteError::Content(e)) => match e {
+            ipv6_exts::ExtsWalkError::ExtNotReferenced { missing_ext } => {
+                Outcome::NotReferenced(missing_ext.0)
+            }
+            ipv6_exts::ExtsWalkError::HopByHopNotAtStart => Outcome::HopByHopNotAtStart,
+        },
+    }
+}
+
+fn write(item: &Item, out: &mut Vec<u8, &LocalHeap>) -> Outcome {
+    match item {
+        Item::Raw(header) => of_header(header.write(out)),
+        Item::Fragment(header) => of_header(header.write(out)),
+        Item::Authentication(header) => of_header(header.write(out)),
+        Item::Ipv4Chain(exts, first) => of_ipv4(exts.write(out, IpNumber(*first))),
+        Item::Ipv6Chain(exts, first) => of_ipv6(exts.write(out, IpNumber(*first))),
+    }
+}
+
+/// A name, what is written, the room that it asks for first, the bytes that it then appends, and the outcome.
+type Row<'a> = (&'a str, Item, u16, &'a [u8], Outcome);
+
+/// Writes into a vector that holds three bytes and has `room` for more, with no memory left and then with memory.
+fn check_room(rt: &impl Abort, alloc: Global, room: u16, row: &Row<'_>) -> Result<(), Fail> {
+    let (name, item, needed, bytes, outcome) = row;
+    let heap = LocalHeap::new(alloc, 1 << 13)?;
+    let mut out: Vec<u8, &LocalHeap> = Vec::with_capacity(&heap, usize::from(room) + 3)?;
+    let mut expected: Vec<u8> = Vec::from_slice(alloc, &[1, 2, 3])?;
+    out.extend_from_slice(&[1, 2, 3])?;
+    let blocks = take_all(rt, alloc, &heap)?;
+    if room < *needed {
+        assert_eq!(rt;
+            write(item, &mut out),
+            Outcome::OutOfMemory,
+            "{name}, {room}"
+        );
+    } else {
+        expected.extend_from_slice(bytes)?;
+        assert_eq!(rt; write(item, &mut out), *outcome, "{name}, {room}");
+    }
+    assert_eq!(rt; out.as_slice(), expected.as_slice(), "{name}, {room}");
+    drop(blocks);
+    expected.extend_from_slice(bytes)?;
+    assert_eq!(rt; write(item, &mut out), *outcome, "{name}, {room}");
+    assert_eq!(rt; out.as_slice(), expected.as_slice(), "{name}, {room}");
+    Ok(())
+}
+
+/// Checks each row without room, with a byte less than it needs, and with what it needs.
+fn check(rt: &impl Abort, alloc: Global, rows: &[Row<'_>]) -> Result<(), Fail> {
+    for row in rows {
+        let (_, _, needed, _, _) = row;
+        for room in [0, needed.saturating_sub(1), *needed] {
+            check_room(rt, alloc, room, row)?;
+        }
+    }
+    Ok(())
+}
+
+#[test]
+fn headers_are_written_into_the_room_they_need(rt: HostRuntime) -> Result<(), Fail> {
+    let mut bytes = [0u8; 2048];
+    for (place, byte) in bytes.iter_mut().enumerate() {
+        *byte = (place % 251) as u8;
+    }
+    let raw = Ipv6RawExtHeader::new_raw(IpNumber(17), &bytes[2..])?;
+    bytes[0] = 17;
+    bytes[1] = 255;
+    let raw_bytes = bytes;
+    for (place, byte) in [17, 255, 0, 0, 0, 0, 0, 1, 0, 0, 0, 2].iter().enumerate() {
+        bytes[place] = *byte;
+    }
+    let icv = &bytes[12..1028];
+    let chain = Ipv4Extensions {
+        auth: Some(IpAuthHeader::new(IpNumber(17), 1, 2, icv)?),
+    };
+    let auth = IpAuthHeader::new(IpNumber(17), 1, 2, icv)?;
+    let fragment = Ipv6FragmentHeader::new(IpNumber(17), IpFragOffset::try_new(1)?, true, 3);
+    let done = Outcome::Written;
+    let rows: [Row<'_>; 5] = [
+        ("raw", Item::Raw(raw), 2048, &raw_bytes, done),
+        (
+            "fragment",
+            Item::Fragment(fragment),
+            8,
+            &[17, 0, 0, 9, 0, 0, 0, 3],
+            done,
+        ),
+        (
+            "authentication",
+            Item::Authentication(auth),
+            1028,
+            &bytes[..1028],
+            done,
+        ),
+        (
+            "IPv4",
+            Item::Ipv4Chain(chain, 51),
+            1028,
+            &bytes[..1028],
+            done,
+        ),
+        (
+            "no IPv4 header",
+            Item::Ipv4Chain(Ipv4Extensions::default(), 51),
+            0,
+            &[],
+            done,
+        ),
+    ];
+    check(&rt, rt.alloc(), &rows)
+}
+
+fn raw(next: u8) -> Ipv6RawExtHeader {
+    let mut header = Ipv6RawExtHeader::default();
+    header.next_header = IpNumber(next);
+    header
+}
+
+#[test]
+fn six_places_are_written_into_the_room_they_need(rt: HostRuntime) -> Result<(), Fail> {
+    let offset = IpFragOffset::try_new(0)?;
+    let six = Ipv6Extensions {
+        hop_by_hop_options: Some(raw(60)),
+        destination_options: Some(raw(43)),
+        routing: Some(Ipv6RoutingExtensions {
+            routing: raw(44),
+            final_destination_options: Some(raw(17)),
+        }),
+        fragment: Some(Ipv6FragmentHeader::new(IpNumber(51), offset, false, 0)),
+        auth: Some(IpAuthHeader::new(IpNumber(60), 0, 0, &[])?),
+    };
+    let offset = IpFragOffset::try_new(0)?;
+    let mut unreached = Ipv6Extensions::default();
+    unreached.fragment = Some(Ipv6FragmentHeader::new(IpNumber(60), offset, false, 0));
+    unreached.destination_options = Some(raw(17));
+    let offset = IpFragOffset::try_new(0)?;
+    let mut late = Ipv6Extensions::default();
+    late.hop_by_hop_options = Some(raw(17));
+    late.fragment = Some(Ipv6FragmentHeader::new(IpNumber(0), offset, false, 0));
+    let none = Ipv6Extensions::default();
+    let rows: [Row<'_>; 4] = [
+        (
+            "six places",
+            Item::Ipv6Chain(six, 0),
+            52,
+            &SIX,
+            Outcome::Written,
+        ),
+        (
+            "no header",
+            Item::Ipv6Chain(none, 0),
+            0,
+            &[],
+            Outcome::Written,
+        ),
+        (
+            "a fragment header that nothing names",
+            Item::Ipv6Chain(unreached, 60),
+            16,
+            &[17, 0, 0, 0, 0, 0, 0, 0],
+            Outcome::NotReferenced(44),
+        ),
+        (
+            "hop by hop options after a header",
+            Item::Ipv6Chain(late, 44),
+            16,
+            &[0, 0, 0, 0, 0, 0, 0, 0],
+            Outcome::HopByHopNotAtStart,
+        ),
+    ];
+    check(&rt, rt.alloc(), &rows)
+}

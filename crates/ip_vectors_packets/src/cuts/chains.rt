@@ -1,0 +1,198 @@
+//! Chains, and the steps along them.
+use crate::cuts::samples::{NO_FAULT, STAYS, cut};
+use ip_cuts::{
+    AuthFields, ChainCursor, ChainCut, FaultFields, FragmentFields, HeaderCut, auth_fields,
+    cut_chain, cut_ipv4_chain, fragment_fields,
+};
+
+/// Hop by hop options, destination options, routing, fragment, authentication and destination options.
+const SIX: [u8; 52] = [
+    60, 0, 0, 0, 0, 0, 0, 0, 43, 0, 0, 0, 0, 0, 0, 0, 44, 0, 0, 0, 0, 0, 0, 0, 51, 0, 0, 0, 0, 0,
+    0, 0, 60, 1, 0, 0, 0, 0, 0, 0, 0, 0, 0, 0, 17, 0, 0, 0, 0, 0, 0, 0,
+];
+
+/// Where the headers of `SIX` lie.
+fn cuts_of_six() -> [HeaderCut; 6] {
+    [
+        cut(0, 8, 0, 60),
+        cut(8, 8, 60, 43),
+        cut(16, 8, 43, 44),
+        cut(24, 8, 44, 51),
+        cut(32, 12, 51, 60),
+        cut(44, 8, 60, 17),
+    ]
+}
+
+/// Too few bytes by the slice: the header's layer, the layer that needs them, how many, how many there are, where.
+fn short(header: u8, layer: u8, required_len: usize, len: usize, offset: usize) -> FaultFields {
+    FaultFields {
+        required_len,
+        len,
+        offset,
+        kind: 1,
+        header,
+        layer,
+        len_source: 1,
+        value: 0,
+    }
+}
+
+/// What the header of a layer says is wrong.
+fn content(header: u8, kind: u8) -> FaultFields {
+    FaultFields {
+        kind,
+        header,
+        ..NO_FAULT
+    }
+}
+
+#[test]
+fn six_headers_in_arrays_of_each_length(rt: HostRuntime) {
+    for room in 0..=8usize {
+        let mut cuts = [STAYS; 8];
+        let chain = cut_chain(0, &SIX, &mut cuts[..room]);
+        assert_eq!(rt; chain.headers, 6, "{room}");
+        assert_eq!(rt; chain.len, 52, "{room}");
+        let put = room.min(6);
+        assert_eq!(rt; cuts.get(..put), cuts_of_six().get(..put), "{room}");
+        assert_eq!(rt; cuts.get(put..), [STAYS; 8].get(put..), "{room}");
+    }
+}
+
+#[test]
+fn chains_that_are_cut_short(rt: HostRuntime) {
+    for len in 0..=52usize {
+        let (headers, whole, next_header, fault) = match len {
+            0..8 => (0, 0, 0, short(8, 7, 8, len, 0)),
+            8..16 => (1, 8, 60, short(9, 7, 8, len - 8, 8)),
+            16..24 => (2, 16, 43, short(10, 7, 8, len - 16, 16)),
+            24..32 => (3, 24, 44, short(11, 11, 8, len - 24, 24)),
+            32..44 => (4, 32, 51, short(4, 4, 12, len - 32, 32)),
+            44..52 => (5, 44, 60, short(9, 7, 8, len - 44, 44)),
+            _ => (6, 52, 17, NO_FAULT),
+        };
+        let wanted = ChainCut {
+            headers,
+            len: whole,
+            fault,
+            next_header,
+            fragmented: 0,
+        };
+        assert_eq!(rt; cut_chain(0, &SIX[..len], &mut []), wanted, "{len}");
+    }
+}
+
+#[test]
+fn what_headers_say_is_wrong(rt: HostRuntime) {
+    let again = cut_chain(0, &[0, 0, 0, 0, 0, 0, 0, 0], &mut []);
+    assert_eq!(rt; (again.headers, again.len, again.next_header), (1, 8, 0));
+    assert_eq!(rt; again.fault, content(8, 2));
+    let zero = cut_chain(51, &[17, 0, 0, 0, 0, 0, 0, 0, 0, 0, 0, 0], &mut []);
+    assert_eq!(rt; (zero.headers, zero.len, zero.next_header), (0, 0, 51));
+    assert_eq!(rt; zero.fault, content(4, 3));
+}
+
+#[test]
+fn a_fragment(rt: HostRuntime) {
+    let chain = cut_chain(44, &[17, 0, 0, 0xe1, 1, 2, 3, 4], &mut []);
+    assert_eq!(rt;
+        (chain.headers, chain.next_header, chain.fragmented),
+        (1, 17, 1)
+    );
+    let atomic = cut_chain(44, &[17, 0, 0, 6, 1, 2, 3, 4], &mut []);
+    assert_eq!(rt;
+        (atomic.headers, atomic.next_header, atomic.fragmented),
+        (1, 17, 0)
+    );
+}
+
+#[test]
+fn steps_along_six_headers(rt: HostRuntime) {
+    let mut cursor = ChainCursor {
+        offset: 0,
+        number: 0,
+    };
+    for wanted in cuts_of_six() {
+        assert_eq!(rt; cursor.fault(&SIX), NO_FAULT);
+        assert_eq!(rt; cursor.next_header(&SIX), Some(wanted));
+    }
+    let end = ChainCursor {
+        offset: 52,
+        number: 17,
+    };
+    for _ in 0..3u32 {
+        assert_eq!(rt; cursor.next_header(&SIX), None);
+        assert_eq!(rt; cursor, end);
+        assert_eq!(rt; cursor.fault(&SIX), NO_FAULT);
+    }
+}
+
+#[test]
+fn cursors_from_anywhere(rt: HostRuntime) {
+    let rows = [
+        ("behind the bytes", 53, 44, short(11, 11, 8, 0, 53)),
+        (
+            "at the largest offset",
+            usize::MAX,
+            60,
+            short(9, 7, 8, 0, usize::MAX),
+        ),
+        ("hop by hop options later", 8, 0, content(8, 2)),
+        ("no extension number", 8, 17, NO_FAULT),
+        (
+            "an authentication header of no length",
+            40,
+            51,
+            content(4, 3),
+        ),
+    ];
+    for (name, offset, number, fault) in rows {
+        let mut cursor = ChainCursor { offset, number };
+        assert_eq!(rt; cursor.next_header(&SIX), None, "{name}");
+        assert_eq!(rt; cursor.fault(&SIX), fault, "{name}");
+        assert_eq!(rt; (cursor.offset, cursor.number), (offset, number), "{name}");
+    }
+}
+
+#[test]
+fn chains_of_ipv4(rt: HostRuntime) {
+    let mut cuts = [STAYS; 2];
+    let bytes = [51, 1, 0, 0, 0, 0, 0, 0, 0, 0, 0, 0, 0x11, 0x01];
+    let chain = cut_ipv4_chain(51, &bytes, &mut cuts);
+    assert_eq!(rt; (chain.headers, chain.len, chain.next_header), (1, 12, 51));
+    assert_eq!(rt; (chain.fault, chain.fragmented), (NO_FAULT, 0));
+    assert_eq!(rt; cuts, [cut(0, 12, 51, 51), STAYS]);
+    assert_eq!(rt; cut_ipv4_chain(51, &bytes, &mut []).headers, 1);
+    let none = cut_ipv4_chain(60, &bytes, &mut cuts);
+    assert_eq!(rt; (none.headers, none.len, none.next_header), (0, 0, 60));
+    assert_eq!(rt; none.fault, NO_FAULT);
+    let zero = cut_ipv4_chain(51, &[17, 0, 0, 0, 0, 0, 0, 0, 0, 0, 0, 0], &mut cuts);
+    assert_eq!(rt; zero.fault, content(4, 3));
+    assert_eq!(rt;
+        cut_ipv4_chain(51, &bytes[..11], &mut cuts).fault,
+        short(4, 4, 12, 11, 0)
+    );
+}
+
+#[test]
+fn fields_of_single_headers(rt: HostRuntime) {
+    let fragment = [17, 0, 0, 0xe1, 1, 2, 3, 4, 9];
+    let wanted = FragmentFields {
+        identification: 0x0102_0304,
+        fragment_offset: 28,
+        more_fragments: 1,
+        next_header: 17,
+    };
+    assert_eq!(rt; fragment_fields(&fragment), Some(wanted));
+    assert_eq!(rt; fragment_fields(&fragment[..7]), None);
+    let auth = [17, 1, 0xff, 0xff, 0, 0, 0, 1, 0, 0, 0, 2];
+    let wanted = AuthFields {
+        len: 12,
+        spi: 1,
+        sequence_number: 2,
+        next_header: 17,
+    };
+    assert_eq!(rt; auth_fields(&auth), Some(wanted));
+    assert_eq!(rt; auth_fields(&auth[..11]), None);
+    assert_eq!(rt; auth_fields(&[17, 0, 0, 0, 0, 0, 0, 0, 0, 0, 0, 0]), None);
+}

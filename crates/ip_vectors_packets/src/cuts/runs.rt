@@ -1,0 +1,57 @@
+//! How many of the first headers one struct of six places takes.
+use crate::cuts::samples::{STAYS, cut};
+use ip_cuts::{HeaderCut, cut_chain, run_len};
+
+/// The length of the first run of headers with these numbers, of which there are 8 at most.
+fn run_of(numbers: &[u8]) -> Option<usize> {
+    let mut cuts = [cut(0, 8, 59, 59); 8];
+    for (cut, number) in cuts.iter_mut().zip(numbers) {
+        cut.number = *number;
+    }
+    Some(run_len(cuts.get(..numbers.len())?))
+}
+
+#[test]
+fn runs_that_end_with_the_array(rt: HostRuntime) {
+    assert_eq!(rt; run_of(&[]), Some(0));
+    assert_eq!(rt; run_of(&[44]), Some(1));
+    assert_eq!(rt; run_of(&[0]), Some(1));
+    assert_eq!(rt; run_of(&[60, 43, 60]), Some(3));
+    assert_eq!(rt; run_of(&[43, 60]), Some(2));
+    assert_eq!(rt; run_of(&[51, 44, 43, 0]), Some(4));
+    assert_eq!(rt; run_of(&[0, 60, 43, 44, 51, 60]), Some(6));
+}
+
+#[test]
+fn runs_that_end_before_a_filled_place(rt: HostRuntime) {
+    assert_eq!(rt; run_of(&[0, 0]), Some(1));
+    assert_eq!(rt; run_of(&[43, 43]), Some(1));
+    assert_eq!(rt; run_of(&[44, 51, 44]), Some(2));
+    assert_eq!(rt; run_of(&[51, 44, 51]), Some(2));
+    assert_eq!(rt; run_of(&[60, 60]), Some(1));
+    assert_eq!(rt; run_of(&[60, 44, 60, 43]), Some(2));
+    assert_eq!(rt; run_of(&[60, 43, 60, 60]), Some(3));
+    assert_eq!(rt; run_of(&[43, 60, 44, 60]), Some(3));
+    assert_eq!(rt; run_of(&[0, 60, 43, 44, 51, 60, 60]), Some(6));
+    assert_eq!(rt; run_of(&[0, 60, 43, 44, 51, 60, 43]), Some(6));
+}
+
+#[test]
+fn runs_that_end_before_what_is_no_extension_header(rt: HostRuntime) {
+    assert_eq!(rt; run_of(&[17]), Some(0));
+    assert_eq!(rt; run_of(&[59, 60]), Some(0));
+    assert_eq!(rt; run_of(&[60, 135, 43]), Some(1));
+}
+
+/// A routing header and two times destination options: the second of these begins the second run.
+#[test]
+fn runs_of_a_chain_one_after_the_other(rt: HostRuntime) {
+    let bytes: [u8; 24] = [
+        60, 0, 0, 0, 0, 0, 0, 0, 60, 0, 0, 0, 0, 0, 0, 0, 17, 0, 0, 0, 0, 0, 0, 0,
+    ];
+    let mut cuts: [HeaderCut; 3] = [STAYS; 3];
+    assert_eq!(rt; cut_chain(43, &bytes, &mut cuts).headers, 3);
+    assert_eq!(rt; run_len(&cuts), 2);
+    assert_eq!(rt; run_len(&cuts[2..]), 1);
+    assert_eq!(rt; run_len(&cuts[3..]), 0);
+}

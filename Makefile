@@ -29,7 +29,9 @@ PCAP_IS_THERE = echo '\#include <pcap/pcap.h>' | $(CC) -E -x c - >/dev/null 2>&1
 
 run:
 	$(RT_IS_THERE)
-	cd crates/ipexts && rt run
+	$(PYTHON_IS_THERE)
+	scripts/prove ipexts
+	crates/ipexts/out/ipexts
 
 try:
 	$(RT_IS_THERE)
@@ -49,7 +51,8 @@ DESTDIR =
 
 lib:
 	$(RT_IS_THERE)
-	cd crates/ipexts_c && rt lib
+	$(PYTHON_IS_THERE)
+	scripts/prove ipexts_c
 	mkdir -p build
 	cp crates/ipexts_c/out/libipexts_c.a build/libwolfaren.a
 	cp include/wolfaren.h build/
@@ -63,7 +66,7 @@ programs: lib
 INSTALLED = $(DESTDIR)$(PREFIX)
 
 install: programs
-	cd crates/ipexts && rt run < /dev/null
+	scripts/prove ipexts
 	mkdir -p $(INSTALLED)/bin $(INSTALLED)/include $(INSTALLED)/lib/pkgconfig $(INSTALLED)/share/man/man1
 	cp build/ipcap crates/ipexts/out/ipexts $(INSTALLED)/bin/
 	cp build/wolfaren.h $(INSTALLED)/include/

@@ -11,6 +11,7 @@ IMPL = re.compile(r"impl(?:<.*?>)? (?:(?P<trait>\S.*?) for )?(?P<self>(?P<type>\
 TRAIT = re.compile(r"pub trait (?P<name>\w+) \{")
 ITEM = re.compile(r"    type Item = (?P<type>.*);")
 FN = re.compile(r"(?P<at> *)(?P<pub>pub )?(?:const )?fn (?P<name>\w+)(?P<rest>.*)")
+BODY = re.compile(r" *(?:\).*)?\{$")
 CLAUSE = re.compile(r" +(?P<kind>requires|ensures)(?: (?P<name>\w+))? \{(?P<text>.*)")
 GHOST = re.compile(r"    ghost (?P<name>\w+)(?: =|:) \{(?P<text>.*)")
 USE = re.compile(r"^(?:pub )?use ([^;]*);", re.M)
@@ -76,7 +77,7 @@ class File:
             self.take_fn(fn, after)
         elif (clause := CLAUSE.match(line)) and self.call:
             self.take_clause(clause, after)
-        elif self.call and line.strip() == "{":
+        elif self.call and BODY.match(line):
             self.call = None
 
     def take_owner(self, at):
@@ -102,6 +103,8 @@ class File:
         if owner and not is_in_trait:
             self.call.ghosts = owner.ghosts
         self.calls.append(self.call)
+        if fn["rest"].endswith("{"):
+            self.call = None
 
     def take_clause(self, clause, after):
         """Takes the first line of a clause of the last function."""

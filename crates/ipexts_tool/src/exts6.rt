@@ -8,7 +8,7 @@ use crate::parts::{push_chain_end, push_header, push_next};
 use etherparse_ip::{IpNumber, Ipv6ExtensionsSlice};
 use std::alloc::{AllocError, Allocator};
 
-/// Appends what `bytes` are as IPv6 extension headers from `number` on.
+/// Appends the answer for `bytes` as IPv6 extension headers from `number`.
 pub fn push_exts6<A: Allocator>(
     number: IpNumber,
     bytes: &[u8],

@@ -5,7 +5,7 @@ use Rattle.ip_ext_slices.specs.Ipv6ExtensionSliceIter.{headers_left}
 use Rattle.ipexts_tool.specs.Parts.{header_lines}
 use Rattle.ipexts_tool.proofs.exts6.push_headers.Given as goal
 
--- the lines so far and those to come are all the lines, and so are the bytes
+-- the lines so far and the remaining ones are all lines, and likewise the bytes
 abbrev pub invariant-loop-header : goal.invariant-loop-header
 invariant-loop-header g l = record {
   can : (goal.iterator-loop-header g).can_next l.header-iterator;

@@ -6,7 +6,7 @@ ghost use Rattle.ip_spec.specs.Lengths.{MAX_FRAGMENT_OFFSET};
 use ip_base::IpFragOffset;
 use ip_base::err::{LenError, ValueTooBigError};
 
-/// Returns an error's offset in a packet, for an error in what follows the packet's header.
+/// Returns the offset in a packet of an error in what follows its header.
 pub fn offset_in_packet(error: LenError, header_len: usize) -> usize
     requires { error.layer_start_offset + header_len < 2 ^ 64 }
     ensures { result ≡ error.layer_start_offset + header_len }
@@ -14,7 +14,7 @@ pub fn offset_in_packet(error: LenError, header_len: usize) -> usize
     error.add_offset(header_len).layer_start_offset
 }
 
-/// Returns the fragment offset of a fragment that lies so many bytes after the payload's start, rounded down.
+/// Returns the offset of a fragment that starts so many bytes after the payload's start, rounded down.
 pub fn offset_of_bytes(bytes: u16) -> Result<IpFragOffset, ValueTooBigError>
     ensures fits { IfOk result (λ offset. offset ≤ MAX_FRAGMENT_OFFSET) }
     ensures refused { IfErr result (λ e. MAX_FRAGMENT_OFFSET < e.actual) }

@@ -14,7 +14,7 @@ use ip_base::{IpNumber, ip_number};
 use ip_ext_chains::{Ipv6ExtensionSlice, Ipv6ExtensionsCursor, Ipv6ExtensionsSlice};
 use std::alloc::{AllocError, Global};
 
-/// Returns the number of extension headers at the start of the bytes.
+/// Returns how many extension headers are at the start of the bytes.
 pub fn count_headers(start: IpNumber, packet: &[u8]) -> usize
     ensures { result ≡ length (longest_chain start.0 packet.now) }
 {
@@ -22,7 +22,7 @@ pub fn count_headers(start: IpNumber, packet: &[u8]) -> usize
     headers.into_iter().count()
 }
 
-/// Returns the payload after the extension headers and its number, unless it is a fragment.
+/// Returns the payload after the extension headers and its protocol number, unless it is a fragment.
 pub fn whole_payload(start: IpNumber, packet: &[u8]) -> Option<(IpNumber, &[u8])>
     ensures number { IfSome result (λ found.
         found.0.0 ≡ leads_to start.0 (longest_chain start.0 packet.now)) }
@@ -85,7 +85,7 @@ pub fn first_headers(k: usize, start: IpNumber, packet: &[u8]) -> usize
     len
 }
 
-/// Returns the first fragment header. The bytes after it aren't parsed.
+/// Returns the first fragment header. What follows it isn't parsed.
 pub fn first_fragment(start: IpNumber, packet: &[u8]) -> Option<Ipv6ExtensionSlice<'_>>
     ensures { option_map header_of result
         ≡ find (λ h. h.number == FRAGMENT) (longest_chain start.0 packet.now) }

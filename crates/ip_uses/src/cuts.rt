@@ -9,7 +9,7 @@ ghost use Rattle.ip_cuts.specs.InPlaces.{AreInPlaces};
 
 use ip_cuts::{HeaderCut, cut_chain, run_len};
 
-/// Returns whether the array has an element for each header of the chain.
+/// Returns whether the array has room for each header of the chain.
 pub fn has_room(first: u8, packet: &[u8], cuts: &mut [HeaderCut]) -> bool
     ensures { IsTrue result ↔ (length (longest_chain first packet.now) ≤ length cuts.old) }
 {

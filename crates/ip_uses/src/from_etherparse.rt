@@ -10,7 +10,7 @@ use etherparse_ip::{IpNumber, Ipv6Extensions, LenSource};
 use std::alloc::Global;
 use std::io::Read;
 
-/// Reads the extension headers after an IPv6 header with this payload length.
+/// Reads the extension headers after an IPv6 header that states how many bytes follow it.
 pub fn read<R: Read + Drop>(
     reader: R,
     first: IpNumber,
@@ -26,7 +26,7 @@ pub fn read<R: Read + Drop>(
     Ipv6Extensions::read_limited(&mut limited, first)
 }
 
-/// Links the headers in the order of the standard, followed by `payload`. Returns the number of the first of them,
+/// Links the headers in the order of the standard, with `payload` after them. Returns the number of the first header,
 /// and their bytes.
 pub fn relinked(
     alloc: Global,
@@ -40,7 +40,7 @@ pub fn relinked(
     Ok((first, out))
 }
 
-/// Returns how many bytes were missing and where, if the headers weren't read because of it.
+/// Returns how many bytes were missing and where, if that is why the headers weren't read.
 pub fn missing_bytes(error: &HeaderLimitedReadError) -> Option<&LenError>
     ensures { option_map (λ e. e.now) result ≡ len_of error.now }
 {

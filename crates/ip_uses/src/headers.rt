@@ -9,7 +9,7 @@ use ip_ext_headers::{IpAuthHeader, Ipv6FragmentHeader, Ipv6RawExtHeader};
 use ip_spec::{one_decoding, one_encoding};
 use std::alloc::AllocError;
 
-/// Appends the header with another next header, and leaves the header itself unchanged.
+/// Appends the header with another next header number. The header itself is unchanged.
 pub fn write_before(
     header: &Ipv6RawExtHeader,
     next: IpNumber,
@@ -66,7 +66,7 @@ pub fn write_three(
     auth.write(out)
 }
 
-/// Appends the two headers. Room for both is reserved at once, so an error is returned before anything is written.
+/// Appends both headers. Reserves room for both at once, so that it fails before anything is written or not at all.
 pub fn write_both(
     raw: &Ipv6RawExtHeader,
     auth: &IpAuthHeader,
@@ -85,7 +85,7 @@ pub fn write_both(
     Ok(())
 }
 
-/// Returns whether the header's bytes parse as the header, with nothing after it.
+/// Returns whether the header's bytes are parsed as the header, with nothing left.
 pub fn is_read_back(header: &IpAuthHeader) -> bool
     ensures { IsTrue result }
 {

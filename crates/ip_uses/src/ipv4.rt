@@ -14,7 +14,7 @@ use ip_ext_chains::{Ipv4Extensions, Ipv4ExtensionsSlice};
 use std::alloc::AllocError;
 
 /// Appends the extension headers at the start of a packet's bytes, now before a payload of the number `last`. Returns
-/// the packet's new protocol number, from which they parse again with that number after them.
+/// the packet's new protocol number, from which they are parsed again and lead to that number.
 pub fn put_before(
     start: IpNumber,
     packet: &[u8],

@@ -14,7 +14,7 @@ pub fn is_whole_udp(packet: &[u8]) -> bool {
     }
 }
 
-/// Returns whether the packet's payload is of this protocol and not a fragment.
+/// Returns whether the packet has a whole payload, not a fragment, of this protocol.
 pub fn reaches_whole(protocol: IpNumber, packet: &IpSlice<'_>) -> bool
     ensures { IsTrue result ↔ (((ip_parts packet.now).number ≡ protocol.0)
         × ((ip_parts packet.now).fragmented ≡ false)) }

@@ -16,7 +16,7 @@ use ip_ext_headers::Ipv6FragmentHeader;
 use ip_spec::one_walk_answer;
 use std::alloc::AllocError;
 
-/// Returns the fragment header after an IPv6 header, if there is one: a reassembler's first question.
+/// Returns the fragment header after an IPv6 header, if there is one: the first question of a defragmenter.
 pub fn fragment_of(start: IpNumber, packet: &[u8]) -> Option<Ipv6FragmentHeader>
     ensures { result ≡ option_map (λ h. fragment_fields h.bytes)
         (header_in fragment (fitting_chain start.0 packet.now)) }

@@ -18,7 +18,7 @@ use ip_ext_headers::io::{ExactRead, LimitedReader};
 use ip_ext_headers::{IpAuthHeader, Ipv6RawExtHeader};
 use std::io;
 
-/// Reads a number of two bytes in network byte order.
+/// Reads a big-endian number of two bytes.
 pub fn read_u16<T: ExactRead>(reader: &mut T) -> io::Result<u16>
     ensures { IfOk result (λ number. (b : List ℕ) × (from_be_bytes w16 b ≡ number)
         × Consumes (T.bytes_left reader.old) (T.bytes_left reader.new) b) }

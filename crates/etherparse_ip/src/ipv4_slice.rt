@@ -26,11 +26,13 @@ pub struct Ipv4Slice<'a> {
 impl<'a> Ipv4Slice<'a> {
     ghost use Rattle.etherparse_ip.specs.Ipv4Slice.{ipv4_parts};
 
-    /// Parses the packet at the start of the slice. Its payload ends at the total length; bytes after it are ignored.
+    /// Parses the packet at the start of the slice. The payload ends where the total length says; bytes after it are
+    /// ignored.
     ///
-    /// Returns an error, in this order, for the base header, if the total length is below the base header's length,
-    /// if there are fewer bytes than the total length, or for the extension headers. The offset of the latter counts
-    /// from the start of the slice, and its length source is `LenSource::Ipv4HeaderTotalLen`.
+    /// Returns an error, in this order, if the base header is malformed or truncated, if the total length is below
+    /// the base header's length, if there are fewer bytes than the total length, or if an extension header is
+    /// malformed or truncated. The offset of an extension header's error counts from the start of the slice, and its
+    /// length source is `LenSource::Ipv4HeaderTotalLen`.
     #[inline(always)]
     pub fn from_slice(slice: &'a [u8]) -> Result<Ipv4Slice<'a>, SliceError>
         ensures packet { IfOk result (λ x. IsIpv4Packet slice.now (ipv4_parts x)) }

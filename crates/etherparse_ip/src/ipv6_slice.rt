@@ -28,14 +28,15 @@ pub struct Ipv6Slice<'a> {
 impl<'a> Ipv6Slice<'a> {
     ghost use Rattle.etherparse_ip.specs.Ipv6Slice.{ipv6_parts};
 
-    /// Parses the packet at the start of the slice. Its payload ends at the payload length; bytes after it are
-    /// ignored. If the payload length is 0 and bytes follow the base header, as in a jumbogram (RFC 2675), all of
+    /// Parses the packet at the start of the slice. The payload ends where the payload length says; bytes after it
+    /// are ignored. If the payload length is 0 and bytes follow the base header, as in a jumbogram (RFC 2675), all of
     /// them belong to the packet.
     ///
-    /// Returns an error, in this order, for the base header, if there are fewer bytes than the payload length states,
-    /// or for the extension headers. The offset of the latter counts from the start of the slice, and its length
-    /// source is the source of the packet's length: `LenSource::Slice` if the payload length is 0 and bytes follow
-    /// the base header, otherwise `LenSource::Ipv6HeaderPayloadLen`.
+    /// Returns an error, in this order, if the base header is malformed or truncated, if there are fewer bytes than
+    /// the payload length states, or if an extension header is malformed or truncated. The offset of an extension
+    /// header's error counts from the start of the slice. Its length source is the source of the packet's length:
+    /// `LenSource::Slice` if the payload length is 0 and bytes follow the base header, otherwise
+    /// `LenSource::Ipv6HeaderPayloadLen`.
     #[inline(always)]
     pub fn from_slice(slice: &'a [u8]) -> Result<Ipv6Slice<'a>, SliceError>
         ensures packet { IfOk result (λ x. IsIpv6Packet slice.now (ipv6_parts x)) }

@@ -5,7 +5,7 @@ use Rattle.ip_base.specs.declared.err.ip_auth.header_error.HeaderError.{HeaderEr
 use Rattle.ip_base.specs.declared.err.source.Source.{Source}
 use Rattle.ip_base.specs.declared.err.source.Source.TheVariants as source
 
--- a failed reader, too few bytes, or a wrong authentication header
+-- a failed reader, too few bytes, or a malformed authentication header
 pub data Cause : Type 0 where
   Io : (error : Error) → Cause
   Len : (error : LenError) → Cause

@@ -25,8 +25,8 @@ pub struct ChainCut {
 }
 
 /// Parses the longest chain of IPv6 extension headers at the start of `bytes`, from the number `first` (RFC 8200,
-/// section 4). Stores the headers' cuts at the front of `cuts`, as many as fit; the other elements are unchanged.
-/// `headers` counts all headers.
+/// section 4). Stores the `HeaderCut` of each header at the front of `cuts`, as many as fit; the other elements are
+/// unchanged. `headers` counts all headers.
 #[inline(always)]
 pub fn cut_chain(first: u8, bytes: &[u8], cuts: &mut [HeaderCut]) -> ChainCut
     ensures chain { result ≡ chain_cut first bytes.now }

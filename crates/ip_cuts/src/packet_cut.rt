@@ -33,9 +33,10 @@ pub struct PacketCut {
     pub len_source: u16,
 }
 
-/// Parses the packet at the start of `bytes`, as `IpSlice::from_slice` does. Stores the cuts of its extension headers
-/// at the front of `cuts`, as many as fit; the other elements are unchanged. `headers` counts all headers, and their
-/// offsets count from the start of the packet. If there is no packet, returns the error and leaves `cuts` unchanged.
+/// Parses the packet at the start of `bytes`, as `IpSlice::from_slice` does. Stores the `HeaderCut` of each extension
+/// header at the front of `cuts`, as many as fit; the other elements are unchanged. `headers` counts all headers, and
+/// their offsets count from the start of the packet. If there is no packet, returns the error and leaves `cuts`
+/// unchanged.
 #[inline(always)]
 pub fn cut_packet(bytes: &[u8], cuts: &mut [HeaderCut]) -> Result<PacketCut, FaultFields>
     ensures packet { IfOk result (λ cut. IsPacketCut bytes.now cuts.old cut cuts.new) }
@@ -50,9 +51,9 @@ pub fn cut_packet(bytes: &[u8], cuts: &mut [HeaderCut]) -> Result<PacketCut, Fau
     }
 }
 
-/// Parses a packet that may be truncated, as `cut_packet` does and `Ipv6Slice::from_slice_lax`: if there are fewer
-/// bytes than the payload length of an IPv6 packet states, all of them belong to it, and `len_source` says so. An
-/// IPv4 packet must be complete.
+/// Parses the packet at the start of `bytes` as `cut_packet` does, but accepts a truncated IPv6 packet, as
+/// `Ipv6Slice::from_slice_lax` does: if there are fewer bytes than the payload length states, all of them belong to
+/// the packet, and `len_source` says so. An IPv4 packet must be complete.
 #[inline(always)]
 pub fn cut_packet_lax(bytes: &[u8], cuts: &mut [HeaderCut]) -> Result<PacketCut, FaultFields>
     ensures packet { IfOk result (λ cut. IsPacketCut bytes.now cuts.old cut cuts.new) }

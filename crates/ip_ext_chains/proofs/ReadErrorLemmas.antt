@@ -54,7 +54,7 @@ module _ {T : Type 0} (bytes_left : T → Option (List ℕ)) (is_steady has_fail
       → is_steady new ≡ is_steady mid → has_failed new ≡ has_failed mid → AreTaken bytes_left is_steady has_failed old new (c ++ h ∷ [])
   taken_next old mid new c h t b steady kept = grind (arith, common_steps, bytes_of-more, never_empty)
 
-  -- a header whose read would fail as the first one fails where it may be read
+  -- the refusal of a header at the start of a chain is a refusal wherever the header may be read
   pub refused_as : (e : HeaderReadError) (first : Bool) (m j : ℕ) (old new : T) → IsHeaderRefused bytes_left is_steady has_failed e true j old new → m ≡ j → (m ≡ 0 → IsTrue first)
       → IsHeaderRefused bytes_left is_steady has_failed e first m old new
   refused_as e first m j old new r is zero_first = search rules

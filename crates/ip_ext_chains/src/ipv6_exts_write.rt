@@ -65,12 +65,13 @@ impl Ipv6Extensions {
         link_raw(&mut self.hop_by_hop_options, IPV6_HOP_BY_HOP, next)
     }
 
-    /// Appends the headers in the order of a walk from the number `first`, with their reserved bits zero. Without
-    /// lack of memory it is Ok if and only if `next_header` is. The bytes parse as this value, with nothing left; if
-    /// they lead to a number that is not an extension header's, they do so whatever bytes follow. If a header isn't
-    /// reached, those that are have been appended. Memory is requested first: the allocation error is returned before
-    /// anything is appended and before the error of a header that isn't reached, and only if there are headers for
-    /// which the vector has no room and can't grow.
+    /// Appends the headers in the order of a walk from the number `first`, with their reserved bits zero. Unless
+    /// memory runs out, the result is Ok if and only if that of `next_header` is. The bytes parse as this value, with
+    /// nothing left; if they lead to a number that is not an extension header's, they do so whatever bytes follow.
+    ///
+    /// Memory is requested first. Returns `Io` if there are headers for which the vector has no room and can't grow;
+    /// then nothing has been appended. Returns `Content` if a header isn't reached; then the headers that are reached
+    /// have been appended.
     pub fn write<A: Allocator>(
         &self,
         out: &mut Vec<u8, A>,

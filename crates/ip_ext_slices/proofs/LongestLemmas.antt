@@ -67,7 +67,7 @@ whole_cut n r h k q b e x ek eb eq =
 pub some_where_next : {A : Type 0} (o : Option A) (first : Bool) (m : ℕ) (s : List ℕ) → IfNone o (IsEnd first m s) → ((h : ExtHeader) × IsNext first m s h) → IsSome o
 some_where_next o first m s e h5 = search rules
 
--- After another header only number 0 has no header, so any other number is the same in both places.
+-- Number 0 has a header only at the start of a chain. Any other number may have one anywhere.
 not_zero_ends : (m : ℕ) (r : List ℕ) → m ≢ 0 → IsEnd false m r → IsEnd true m r
 not_zero_ends m r some e = λ h x. e h (record { number = x.number; header = x.header; prefix = x.prefix; zero_only_first = λ z. absurd (some z) })
 

@@ -150,10 +150,11 @@ impl Ipv4Extensions {
     }
 
     /// Appends the header's bytes; `start_ip_number` is the packet's protocol number. The bytes parse as this value,
-    /// with nothing left. If a header is present or that number is not 51, they do so whatever bytes follow. Returns
-    /// an error if a header is present and that number doesn't refer to it; otherwise only if a header is present and
-    /// the vector has no room for it and can't grow. Then the vector's bytes are unchanged. The error of the number
-    /// is returned before any memory is requested.
+    /// with nothing left. If a header is present or that number is not 51, they do so whatever bytes follow.
+    ///
+    /// Returns `Content` if a header is present and that number doesn't refer to it; this error comes before any
+    /// request for memory. Returns `Io` if a header is present and the vector has no room for it and can't grow.
+    /// After an error the vector's bytes are unchanged.
     #[inline(always)]
     pub fn write<A: Allocator>(
         &self,

@@ -22,7 +22,7 @@ struct Row<'a> {
     fault: Option<HeaderSliceError>,
 }
 
-/// Checks the row with the slow plain program: only 51 has a header, and only there is an error.
+/// Checks the row with the slow plain program: only number 51 can have a header or an error.
 fn check_plain(rt: &impl Abort, row: &Row<'_>) {
     let (mut header, mut fault) = (None, None);
     if row.start == 51 {

@@ -42,7 +42,7 @@ fn relink(exts: &mut Ipv6Extensions, time: u32) {
     }
 }
 
-/// Walks the headers from number 0. It is a function of its own: otherwise its checks are done once for all times.
+/// Walks the headers from number 0. It is kept out of line, so that its checks aren't hoisted out of the loop.
 #[inline(never)]
 fn walk(exts: &Ipv6Extensions) -> u64 {
     match exts.next_header(IpNumber(0)) {
@@ -51,8 +51,8 @@ fn walk(exts: &Ipv6Extensions) -> u64 {
     }
 }
 
-/// Links the headers to one another and to `last`, and returns the number of the first. It is a function of its own
-/// for the same reason as `walk`.
+/// Links the headers to one another and to `last`, and returns the number of the first. It is kept out of line, as
+/// `walk` is.
 #[inline(never)]
 fn link(exts: &mut Ipv6Extensions, last: u8) -> u64 {
     u64::from(exts.set_next_headers(IpNumber(last)).0)

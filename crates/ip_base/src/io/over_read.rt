@@ -59,8 +59,8 @@ impl<R: Read> ExactRead for OverRead<R> {
     /// Reads until the buffer is full, and retries a read that was interrupted. Returns the reader's own error, or
     /// one of kind `UnexpectedEof` if its bytes end first.
     ///
-    /// The next call asks the reader again, also after an error, so reading may continue after `WouldBlock`, say.
-    /// Bytes that the failed call had read are lost.
+    /// The next call reads again, even after an error, so a caller may continue after `WouldBlock`, for example. The
+    /// bytes that the failed call read are lost.
     fn read_exact(&mut self, buf: &mut [u8]) -> io::Result<()> {
         let result = self.reader.read_exact(buf);
         if result.is_err() {

@@ -10,7 +10,7 @@ pub enum ExtsWalkError {
     /// A header is present, but no number refers to it.
     #[error("IPv4 extensions '{missing_ext:?}' is defined but is not referenced by the 'protocol' the IPv4 header.")]
     ExtNotReferenced {
-        /// The protocol number of the missing header.
+        /// The protocol number of that header.
         missing_ext: IpNumber,
     },
 }

@@ -24,8 +24,8 @@ use std::io;
 
 impl Ipv6Extensions {
     /// Reads the chain of headers from the number, each into its place, and returns them with the number of what
-    /// follows. No byte after them is consumed: the read ends before anything that isn't a header, or whose place is
-    /// occupied. If the number is not an extension header's, nothing is read.
+    /// follows. No byte after them is consumed: the read ends at a number that is not an extension header's, or whose
+    /// place is occupied. If the start number is not an extension header's, nothing is read.
     ///
     /// Returns `Content` if the bytes of a header are malformed, or if a header's next header is hop-by-hop options,
     /// which must be first (RFC 8200, section 4.1). `Io` is the reader's error; after it the number of consumed bytes

@@ -6,7 +6,7 @@ use Rattle.ip_spec.proofs.DemandKinds.{at_most, longest_at_most}
 use Rattle.ip_ext_slices.specs.Longest.{longest_chain}
 use Rattle.ip_ext_slices.proofs.LongestLemmas.{longest_chain-longest}
 
--- the first i headers of the chain, of so many bytes, have been taken, and the others are left
+-- the first i headers of the chain, whose length is `bytes`, have been taken, and the others are left
 pub record FirstTaken (chain left : List ExtHeader) (i bytes : ℕ) : Type 0 where
   pub taken : List ExtHeader
   pub joined : taken ++ left ≡ chain

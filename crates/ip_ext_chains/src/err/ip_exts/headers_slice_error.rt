@@ -12,7 +12,7 @@ pub enum HeadersSliceError {
     /// There are fewer bytes than the header needs.
     #[error(transparent)]
     Len(LenError),
-    /// The bytes are not a valid header of that number.
+    /// A header is malformed, or IPv6 hop-by-hop options are not at the start.
     #[error(transparent)]
     Content(HeaderError),
 }

@@ -17,7 +17,7 @@ pub enum HeaderLimitedReadError {
     /// A header needs more bytes than the limit leaves.
     #[error(transparent)]
     Len(LenError),
-    /// The bytes are not a valid header of the number before them.
+    /// A header is malformed, or hop-by-hop options are not at the start.
     #[error(transparent)]
     Content(HeaderError),
 }

@@ -13,7 +13,7 @@ pub enum HeaderReadError {
     /// The reader failed.
     #[error("IPv6 Extension Header IO Error: {0}")]
     Io(io::Error),
-    /// The bytes are not a valid header of the number before them.
+    /// A header is malformed, or hop-by-hop options are not at the start.
     #[error(transparent)]
     Content(HeaderError),
 }

@@ -13,7 +13,7 @@ pub enum HeaderSliceError {
     /// There are fewer bytes than the header needs.
     #[error(transparent)]
     Len(LenError),
-    /// The bytes are not a valid header of that number.
+    /// A header is malformed, or hop-by-hop options are not at the start.
     #[error(transparent)]
     Content(HeaderError),
 }

@@ -50,7 +50,7 @@ slice_fault k first m r = fault_at Slice (length r) k first m r
 abbrev pub chain_faults : LenSource → List ExtHeader → ℕ → List ℕ → Option Fault
 chain_faults source c m r = fault_at source (length r) (length (bytes_of c)) (is_empty c) m r
 
--- the error at the end of the longest chain from n in s
+-- the error at the end of the longest chain from n at the start of s
 abbrev pub chain_fault : ℕ → List ℕ → Option Fault
 chain_fault n s = fault_behind (chain_faults Slice) (longest_chain n s) n s
 

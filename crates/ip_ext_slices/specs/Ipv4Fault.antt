@@ -14,6 +14,6 @@ use Rattle.ip_ext_slices.specs.Ipv4Longest.{longest_ipv4_chain}
 abbrev pub ipv4_faults : LenSource → List ExtHeader → ℕ → List ℕ → Option HeaderSliceError
 ipv4_faults source c m r = if is_empty c && (m == AUTHENTICATION) then auth_fault source (length r) 0 r else None
 
--- the error at the end of the longest chain from n in s
+-- the error at the end of the longest chain from n at the start of s
 abbrev pub ipv4_chain_fault : ℕ → List ℕ → Option HeaderSliceError
 ipv4_chain_fault n s = fault_behind (ipv4_faults Slice) (longest_ipv4_chain n s) n s

@@ -5,3 +5,4 @@ pub mod LineFieldLemmas
 pub mod ProgressLemmas
 pub mod MemoryLemmas
 pub mod PacketLemmas
+pub mod Exts6Lemmas

@@ -1,4 +1,4 @@
--- A base header, the headers of the longest chain behind it and what that leaves, joined.
+-- A base header, the headers of the longest chain after it and the bytes after those, joined.
 use Rattle.ip_spec.proofs.Common.{◌≡◌, ℕ, ◌+◌, ◌≤◌, List, ◌++◌, length, take, drop, refl, sym, arith, Bool, rules, common_steps, Option, None, option_map, take-take, take-append-drop, take-length, IsPrefix, ExtHeader, bytes_of, has_fragmenting, AtMostOneOf}
 use Rattle.ip_spec.proofs.PrefixLemmas.{prefix-append, prefix-length}
 use Rattle.ip_spec.proofs.ChainLemmas.{some_longest}
@@ -25,7 +25,7 @@ answer_split n s c m r f a = cc (a.value, a.rest, prefix-append _ s (some_longes
 ipv4_answer_split : (n : ℕ) (s : List ℕ) (c : List ExtHeader) (m : ℕ) (r : List ℕ) (f : Option HeaderSliceError) → IsIpv4Answer (λ c. c) n s c m r f → bytes_of c ++ r ≡ s
 ipv4_answer_split n s c m r f a = cc (a.value, a.rest, prefix-append _ s (some_longest_under (AtMostOneOf 51) (at_most_one_of 51) n s).1.has.0.prefix)
 
--- a beginning of s and what follows it in a front that isn't shorter
+-- a prefix of s, and the bytes that follow it in a front that is not shorter
 onto_front : (b s front x : List ℕ) (k : ℕ) → IsPrefix b s → front ≡ take k s → length b ≤ k → x ≡ drop (length b) front → b ++ x ≡ front
 onto_front b s front x k p is enough rest = cc (p, take-take (length b) k s enough, is, rest, take-append-drop (length b) front)
 
@@ -37,7 +37,8 @@ pub ipv6_joined : (b s front : List ℕ) (k n : ℕ) (c : List ExtHeader) (m : �
     → b ++ (bytes_of c ++ r) ≡ front
 ipv6_joined b s front k n c m r f p is enough a = search (rules, onto_front, answer_split)
 
--- An IPv4 base header b begins s and is h bytes long, states t bytes and names n; x is what follows it in these.
+-- An IPv4 base header b of h bytes is at the start of s, its total length is t and its protocol n; x is what follows
+-- it within t bytes.
 pub record AtIpv4 (s b : List ℕ) (n h t : ℕ) (x : List ℕ) : Type 0 where
   pub base : IsIpv4Header b
   pub prefix : IsPrefix b s
@@ -58,11 +59,12 @@ ipv4_packet s b n h t x fragmented c m r at ef a =
 pub ipv4_behind_fault : (s b : List ℕ) (n h t : ℕ) (x : List ℕ) → AtIpv4 s b n h t x → ipv4_fault_behind s ≡ option_map (auth_in_packet Ipv4HeaderTotalLen h) (ipv4_chain_fault n x)
 ipv4_behind_fault s b n h t x at = search (rules, says_ipv4)
 
--- what holds of both sources of an IPv6 packet holds of the one that it has
+-- a property of both length sources of an IPv6 packet holds for the one that it has
 either_source : (P : LenSource → Type 0) (n k : ℕ) → P Slice → P Ipv6HeaderPayloadLen → P (ipv6_len_source n k)
 either_source P n k slice stated = search rules
 
--- An IPv6 base header b begins s, states a payload length of k and names n; x is what follows it in the front.
+-- An IPv6 base header b is at the start of s, its payload length is k and its next header n; x is what follows it in
+-- the front.
 pub record AtIpv6 (s b : List ℕ) (n h k : ℕ) (by : LenSource) (whole x : List ℕ) : Type 0 where
   pub base : IsIpv6Header b
   pub prefix : IsPrefix b s
@@ -73,7 +75,7 @@ pub record AtIpv6 (s b : List ℕ) (n h k : ℕ) (by : LenSource) (whole x : Lis
   pub whole_is : whole ≡ front by k s
   pub behind : x ≡ drop h whole
 
--- its front is a beginning of s with the whole base header
+-- the front is a prefix of s that contains the whole base header
 record Front (s : List ℕ) (source : LenSource) (k : ℕ) : Type 0 where
   len : ℕ
   taken : front source k s ≡ take len s
@@ -98,11 +100,11 @@ pub ipv6_behind_fault : (s b : List ℕ) (n h k : ℕ) (source : LenSource) (who
     → ipv6_chain_fault s ≡ option_map (exts_in_packet source h) (option_map (λ f. f.0) (chain_fault n x))
 ipv6_behind_fault s b n h k source whole x at = search rules
 
--- what follows the base header and the header itself are no more than s
+-- the base header and what follows it are no longer than s
 pub behind-length : (s b : List ℕ) (n h k : ℕ) (by : LenSource) (whole x : List ℕ) → AtIpv6 s b n h k by whole x → length x + h ≤ length s
 behind-length s b n h k by whole x at = grind (arith, common_steps)
 
--- where as many bytes are there as are stated, the tests before the chain are passed
+-- if no fewer bytes are present than stated, the checks before the chain pass
 pub strict_fault_of_chain : (s : List ℕ) → 40 + payload_length s ≤ length s → ipv6_fault_behind s ≡ ipv6_chain_fault s
 strict_fault_of_chain s enough = search rules
 

@@ -1,4 +1,4 @@
--- Where a fault of a chain begins.
+-- The offset of a chain's error.
 use Rattle.ip_spec.proofs.Common.{◌≡◌, ℕ, ◌+◌, ◌<◌, ◌^◌, List, length, arith, rules, common_steps, Some, None, option_map}
 use Rattle.ip_ext_slices.specs.ChainFault.{chain_fault, ExtsOffsetFits}
 use Rattle.ip_base.specs.Ipv6Header.{ipv6_header_fault}

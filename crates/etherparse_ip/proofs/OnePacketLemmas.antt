@@ -8,7 +8,7 @@ use Rattle.etherparse_ip.specs.Packet.{Parts, IsIpv4Packet, IsIpv6Packet}
 use Rattle.etherparse_ip.specs.Cut.{ipv4_cut, ipv6_cut}
 use Rattle.etherparse_ip.proofs.BaseLemmas.{says_ipv4, says_ipv6}
 
--- what begins a beginning of s begins s
+-- a prefix of a prefix of s is a prefix of s
 begins : (b x s : List ℕ) (k : ℕ) → b ++ x ≡ take k s → IsPrefix b s
 begins b x s k e = prefix_of-append b (x ++ drop k s) s (sym (take-append-drop k s) ∙ ap (λ y. y ++ drop k s) (sym e) ∙ append_assoc b x (drop k s))
 
@@ -21,7 +21,7 @@ ipv4_version s p k = search rules
 pub ipv4_parts_are : (s : List ℕ) (p : Parts) → IsIpv4Packet s p → p ≡ ipv4_cut s
 ipv4_parts_are s p k = search (rules, says_ipv4, ipv4_prefix s p k)
 
--- each source has a beginning of s as its front
+-- for each source the front is a prefix of s
 begins_by : (by : LenSource) (n : ℕ) (s b x : List ℕ) → b ++ x ≡ front by n s → IsPrefix b s
 begins_by by n s b x e = grind (arith, common_steps, begins, take-length)
 

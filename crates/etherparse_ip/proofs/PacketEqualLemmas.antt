@@ -1,4 +1,4 @@
--- Packets are equal where their parts are.
+-- Packets are equal if their parts are.
 use Rattle.ip_spec.proofs.Common.{◌≡◌, ℕ, List, [], ◌∷◌, ap, ◌∙◌, rules, arith, ◌==◌, ◌↔◌, Option, IsTrue, Decides, pointwise, option_eq, option_map_or, on, and-true, Decides-and, ExtHeader, AUTHENTICATION}
 use Rattle.std.specs.Prelude.{Bool, nat_eq}
 use Rattle.ip_base.specs.declared.ip_number_impl.IpNumber.{IpNumber}
@@ -49,7 +49,7 @@ ipv6_tells a b =
       ),
     )
 
--- what a comparison of them answers
+-- the result of a comparison of packets
 pub ipv4_same : (a b : Ipv4Slice) (r : Bool) → r ≡ ipv4_packet_equal a b → IsTrue r ↔ (ipv4_parts a ≡ ipv4_parts b)
 ipv4_same a b r k = rw k (ipv4_tells a b)
 

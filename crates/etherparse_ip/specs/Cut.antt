@@ -1,4 +1,4 @@
--- The parts of the packet that begins bytes s, computed from s alone.
+-- The parts of the packet at the start of bytes s, computed from s alone.
 use Rattle.std.specs.Prelude.{ℕ, List, length, take}
 use Rattle.ip_base.specs.Ipv4Header.{ipv4_header_len, protocol, is_ipv4_fragmenting}
 use Rattle.ip_base.specs.Ipv6Header.{payload_length, ipv6_next_header}

@@ -1,4 +1,4 @@
--- What an error in the bytes of a packet's headers comes of.
+-- The cause of an error in the bytes of a packet's headers.
 use Rattle.etherparse_ip.specs.PacketCause.{PacketCause, IpAuth, Ipv6Exts}
 use Rattle.etherparse_ip.specs.PacketCause as cause
 use Rattle.etherparse_ip.specs.declared.err.ip.headers_error.HeadersError.{HeadersError}

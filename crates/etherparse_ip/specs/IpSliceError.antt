@@ -1,4 +1,4 @@
--- What an error of a packet of either version comes of.
+-- The cause of an error of a packet of either IP version.
 use Rattle.etherparse_ip.specs.PacketCause.{PacketCause}
 use Rattle.etherparse_ip.specs.PacketCause as cause
 use Rattle.etherparse_ip.specs.declared.err.ip.slice_error.SliceError.{SliceError}

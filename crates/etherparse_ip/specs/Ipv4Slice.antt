@@ -1,4 +1,4 @@
--- What an IPv4 packet shows.
+-- The contents of an IPv4 packet.
 use Rattle.ip_base.specs.Ipv4HeaderSlice as base
 use Rattle.ip_ext_slices.specs.Ipv4ExtensionsSlice as exts
 use Rattle.etherparse_ip.specs.Packet.{Parts}

@@ -1,4 +1,4 @@
--- What an error of an IPv4 packet comes of.
+-- The cause of an IPv4 packet's error.
 use Rattle.etherparse_ip.specs.PacketCause.{PacketCause, IpAuth, Ipv4Header}
 use Rattle.etherparse_ip.specs.PacketCause as cause
 use Rattle.etherparse_ip.specs.declared.err.ipv4.slice_error.SliceError.{SliceError}

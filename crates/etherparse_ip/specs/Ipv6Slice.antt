@@ -1,4 +1,4 @@
--- What an IPv6 packet shows.
+-- The contents of an IPv6 packet.
 use Rattle.ip_base.specs.Ipv6HeaderSlice as base
 use Rattle.ip_ext_slices.specs.Ipv6ExtensionsSlice as exts
 use Rattle.etherparse_ip.specs.Packet.{Parts}

@@ -1,4 +1,4 @@
--- What an error of an IPv6 packet comes of.
+-- The cause of an IPv6 packet's error.
 use Rattle.etherparse_ip.specs.PacketCause.{PacketCause, Ipv6Exts, Ipv6Header}
 use Rattle.etherparse_ip.specs.PacketCause as cause
 use Rattle.etherparse_ip.specs.declared.err.ipv6.slice_error.SliceError.{SliceError}

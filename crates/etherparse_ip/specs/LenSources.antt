@@ -1,11 +1,11 @@
--- What tells how many bytes a packet has. An error of a length in its extension headers names the same. This rule
--- stands nowhere else.
+-- The source of a packet's length. A length error in its extension headers names the same source. This rule is stated
+-- only here.
 use Rattle.std.specs.Prelude.{ℕ, ◌+◌, ◌==◌, ◌&&◌, nat_lt, List, take, if◌then◌else◌}
 use Rattle.ip_base.specs.declared.len_source.LenSource.{LenSource}
 use Rattle.ip_base.specs.declared.len_source.LenSource.TheVariants.{Slice, Ipv4HeaderTotalLen, Ipv6HeaderPayloadLen}
 
--- the front of s that the source tells, where its field is n: total length counts the base header of IPv4, payload
--- length what follows the 40 bytes of that of IPv6
+-- the packet's bytes in s, by the source, with n in its length field: total length counts the IPv4 base header,
+-- payload length what follows the 40 bytes of the IPv6 one
 abbrev pub front : LenSource → ℕ → List ℕ → List ℕ
 front Slice n s = s
 front Ipv4HeaderTotalLen n s = take n s
@@ -15,8 +15,8 @@ front Ipv6HeaderPayloadLen n s = take (40 + n) s
 abbrev pub ipv4_len_source : LenSource
 ipv4_len_source = Ipv4HeaderTotalLen
 
--- IPv6, where payload length is n and k bytes were handed in: they tell it themselves where they are fewer than
--- stated, and where nothing is stated (a jumbogram, RFC 2675) and they are more than a base header
+-- IPv6, with payload length n in a slice of k bytes: the slice itself if it has fewer bytes than stated, or if no
+-- length is stated (a jumbogram, RFC 2675) and it is longer than a base header
 abbrev pub ipv6_len_source : ℕ → ℕ → LenSource
 ipv6_len_source n k =
     if nat_lt k (40 + n) then Slice

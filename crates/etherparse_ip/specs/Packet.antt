@@ -1,4 +1,4 @@
--- A packet cut into its parts.
+-- A packet and its parts.
 use Rattle.std.specs.Prelude.{◌≡◌, ℕ, ◌≤◌, Bool, List, ◌++◌, length, drop, None}
 use Rattle.ip_base.specs.declared.len_source.LenSource.{LenSource}
 use Rattle.ip_base.specs.Ipv4Header.{IsIpv4Header, total_len, protocol, is_ipv4_fragmenting}
@@ -8,8 +8,8 @@ use Rattle.ip_ext_slices.specs.ChainAnswer.{IsChainAnswer}
 use Rattle.ip_ext_slices.specs.Ipv4Parse.{IsIpv4Answer}
 use Rattle.etherparse_ip.specs.LenSources.{front, ipv4_len_source, ipv6_len_source}
 
--- its base header, its extension headers and its payload; the payload's number, whether it is a fragment, and what
--- says where it ends
+-- the base header, the extension headers and the payload; the payload's protocol number, whether it is a fragment,
+-- and the source of its length
 pub record Parts : Type 0 where
   pub base : List ℕ
   pub headers : List ExtHeader
@@ -18,8 +18,9 @@ pub record Parts : Type 0 where
   pub fragmented : Bool
   pub source : LenSource
 
--- Bytes s begin with an IPv4 packet of these parts (RFC 791, section 3.1). Joined they are the front of s that total
--- length states, and behind the base header the longest chain of at most one authentication header stands.
+-- Bytes s start with an IPv4 packet of these parts (RFC 791, section 3.1). Joined, the parts are the first total
+-- length bytes of s, and the headers are the longest chain of at most one authentication header after the base
+-- header.
 pub record IsIpv4Packet (s : List ℕ) (p : Parts) : Type 0 where
   pub base : IsIpv4Header p.base
   pub stated : total_len p.base ≤ length s
@@ -28,8 +29,8 @@ pub record IsIpv4Packet (s : List ℕ) (p : Parts) : Type 0 where
   pub fragmented : p.fragmented ≡ is_ipv4_fragmenting p.base
   pub source : p.source ≡ ipv4_len_source
 
--- Bytes s begin with an IPv6 packet of these parts (RFC 8200, section 3). Joined they are the front of s that its
--- source tells, and behind the base header the longest chain stands.
+-- Bytes s start with an IPv6 packet of these parts (RFC 8200, section 3). Joined, the parts are the front of s by the
+-- length source, and the headers are the longest chain after the base header.
 pub record IsIpv6Packet (s : List ℕ) (p : Parts) : Type 0 where
   pub base : IsIpv6Header p.base
   pub joined : p.base ++ (bytes_of p.headers ++ p.payload) ≡ front p.source (payload_length p.base) s

@@ -1,4 +1,4 @@
--- What an error of a packet comes of.
+-- The cause of a packet's error.
 use Rattle.ip_base.specs.declared.err.ipv4.header_error.HeaderError.{HeaderError as Ipv4HeaderError}
 use Rattle.ip_base.specs.declared.err.ipv6.header_error.HeaderError.{HeaderError as Ipv6HeaderError}
 use Rattle.ip_base.specs.declared.err.len_error.LenError.{LenError}
@@ -9,7 +9,7 @@ use Rattle.etherparse_ip.specs.declared.err.ip.headers_error.HeadersError.{Heade
 use Rattle.etherparse_ip.specs.declared.err.packet_source.PacketSource.{PacketSource}
 use Rattle.etherparse_ip.specs.declared.err.packet_source.PacketSource.TheVariants as source
 
--- too few bytes, or wrong headers
+-- too few bytes, or malformed headers
 pub data PacketCause : Type 0 where
   Len : (error : LenError) → PacketCause
   IpAuth : (error : AuthError) → PacketCause
@@ -19,7 +19,7 @@ pub data PacketCause : Type 0 where
   Ipv4Header : (error : Ipv4HeaderError) → PacketCause
   Ipv6Header : (error : Ipv6HeaderError) → PacketCause
 
--- the cause that a source shows
+-- the cause that a source reports
 abbrev pub packet_cause_in : PacketSource → PacketCause
 packet_cause_in (source.Len e) = Len e.now
 packet_cause_in (source.IpAuth e) = IpAuth e.now

@@ -1,4 +1,4 @@
--- Equality of packets: that of their parts.
+-- Equality of packets: equality of their parts.
 use Rattle.std.specs.Prelude.{Bool, ◌&&◌, nat_eq}
 use Rattle.std.specs.Ordering.{on}
 use Rattle.std.specs.Option.{option_eq}
@@ -40,7 +40,7 @@ abbrev pub packet_equal : IpSlice → IpSlice → Bool
 packet_equal a b =
     option_eq ipv4_packet_equal (ipv4_of a) (ipv4_of b) && option_eq ipv6_packet_equal (ipv6_of a) (ipv6_of b)
 
--- all are equivalences
+-- all are equivalence relations
 pub payload_equivalence : IsEquivalence payload_equal
 payload_equivalence =
     and_equiv (on_equiv (λ p. p.ip_number.0) nat_eq_equiv)

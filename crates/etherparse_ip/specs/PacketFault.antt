@@ -1,4 +1,5 @@
--- The fault where no packet begins bytes s: the first test that holds, from left to right. Nothing where one does.
+-- The error for bytes s that don't start with a packet: the first check that fails, from left to right. None if they
+-- do.
 use Rattle.std.specs.Prelude.{ℕ, ◌+◌, ◌==◌, nat_lt, List, length, drop, Option, Some, if◌then◌else◌}
 use Rattle.std.specs.Option.{option_map, option_or}
 use Rattle.ip_base.specs.LenError.{too_short, moved}
@@ -27,8 +28,8 @@ use Rattle.etherparse_ip.specs.declared.err.ip.headers_error.HeadersError.TheVar
 use Rattle.etherparse_ip.specs.declared.err.ip.slice_error.SliceError.{SliceError}
 use Rattle.etherparse_ip.specs.declared.err.ip.slice_error.SliceError.TheVariants.{Len, IpHeaders}
 
--- The fault of the extension headers, counted from the packet's start: they begin at offset k, and the source tells how
--- many bytes there are.
+-- The extension headers' error with its offset counted from the packet's start: they start at offset k, and the
+-- source is that of the packet's length.
 abbrev pub auth_in_packet : LenSource → ℕ → AuthSliceError → AuthSliceError
 auth_in_packet source k (auth.Len e) = auth.Len (moved source k e)
 auth_in_packet source k (auth.Content e) = auth.Content e
@@ -44,24 +45,24 @@ ipv4_behind s = drop (ipv4_header_len s) (front ipv4_len_source (total_len s) s)
 abbrev pub ipv6_behind : List ℕ → List ℕ
 ipv6_behind s = drop 40 (front (ipv6_len_source (payload_length s) (length s)) (payload_length s) s)
 
--- behind an IPv4 base header
+-- the error after an IPv4 base header
 abbrev pub ipv4_fault_behind : List ℕ → Option AuthSliceError
 ipv4_fault_behind s =
     if nat_lt (total_len s) (ipv4_header_len s) then Some (auth.Len (too_short Ipv4HeaderTotalLen (total_len s) 0 layer.Ipv4Packet (ipv4_header_len s)))
     else if nat_lt (length s) (total_len s) then Some (auth.Len (too_short Slice (length s) 0 layer.Ipv4Packet (total_len s)))
     else option_map (auth_in_packet ipv4_len_source (ipv4_header_len s)) (ipv4_chain_fault (protocol s) (ipv4_behind s))
 
--- of the chain behind an IPv6 base header
+-- the error of the chain after an IPv6 base header
 abbrev pub ipv6_chain_fault : List ℕ → Option ExtsSliceError
 ipv6_chain_fault s = option_map (exts_in_packet (ipv6_len_source (payload_length s) (length s)) 40) (option_map (λ f. f.0) (chain_fault (ipv6_next_header s) (ipv6_behind s)))
 
--- the same, where the packet has to have the length that it states
+-- the error after an IPv6 base header, if the packet must have the length that it states
 abbrev pub ipv6_fault_behind : List ℕ → Option ExtsSliceError
 ipv6_fault_behind s =
     if nat_lt (length s) (40 + payload_length s) then Some (exts.Len (too_short Slice (length s) 0 layer.Ipv6Packet (40 + payload_length s)))
     else ipv6_chain_fault s
 
--- as the errors of an IPv4 packet say it
+-- as errors of an IPv4 packet
 abbrev pub ipv4_of_header : Ipv4HeaderSliceError → Ipv4SliceError
 ipv4_of_header (ipv4_header.Len e) = ipv4.Len e
 ipv4_of_header (ipv4_header.Content e) = ipv4.Header e
@@ -70,7 +71,7 @@ abbrev pub ipv4_of_exts : AuthSliceError → Ipv4SliceError
 ipv4_of_exts (auth.Len e) = ipv4.Len e
 ipv4_of_exts (auth.Content e) = ipv4.Exts e
 
--- of an IPv6 packet
+-- as errors of an IPv6 packet
 abbrev pub ipv6_of_header : Ipv6HeaderSliceError → Ipv6SliceError
 ipv6_of_header (ipv6_header.Len e) = ipv6.Len e
 ipv6_of_header (ipv6_header.Content e) = ipv6.Header e
@@ -79,7 +80,7 @@ abbrev pub ipv6_of_exts : ExtsSliceError → Ipv6SliceError
 ipv6_of_exts (exts.Len e) = ipv6.Len e
 ipv6_of_exts (exts.Content e) = ipv6.Exts e
 
--- and of a packet of either version
+-- as errors of a packet of either IP version
 abbrev pub ip_of_ipv4 : AuthSliceError → SliceError
 ip_of_ipv4 (auth.Len e) = Len e
 ip_of_ipv4 (auth.Content e) = IpHeaders (Ipv4Ext e)
@@ -88,19 +89,19 @@ abbrev pub ip_of_ipv6 : ExtsSliceError → SliceError
 ip_of_ipv6 (exts.Len e) = Len e
 ip_of_ipv6 (exts.Content e) = IpHeaders (Ipv6Ext e)
 
--- where no IPv4 packet begins s
+-- if s doesn't start with an IPv4 packet
 abbrev pub ipv4_fault : List ℕ → Option Ipv4SliceError
 ipv4_fault s = option_or (option_map ipv4_of_header (ipv4_header_fault s)) (option_map ipv4_of_exts (ipv4_fault_behind s))
 
--- where no IPv6 packet does, strict
+-- if s doesn't start with an IPv6 packet, strict
 abbrev pub ipv6_fault : List ℕ → Option Ipv6SliceError
 ipv6_fault s = option_or (option_map ipv6_of_header (ipv6_header_fault s)) (option_map ipv6_of_exts (ipv6_fault_behind s))
 
--- and lax
+-- the lax one
 abbrev pub ipv6_lax_fault : List ℕ → Option Ipv6SliceError
 ipv6_lax_fault s = option_or (option_map ipv6_of_header (ipv6_header_fault s)) (option_map ipv6_of_exts (ipv6_chain_fault s))
 
--- where neither does: version 4
+-- if s doesn't start with a packet of either IP version: version 4
 abbrev pub ip_fault_of_ipv4 : List ℕ → Option SliceError
 ip_fault_of_ipv4 s =
     if nat_lt (ihl s) 5 then Some (IpHeaders (Ip (Ipv4HeaderLengthSmallerThanHeader (ihl s))))

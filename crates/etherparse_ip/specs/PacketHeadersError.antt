@@ -1,4 +1,4 @@
--- What an error of a packet's headers comes of, and the error counted from further to the front.
+-- The cause of an error of a packet's headers, and the error with its offset moved.
 use Rattle.std.specs.Prelude.{ℕ, ◌+◌, ◌<◌, ◌^◌, ⊤}
 use Rattle.ip_base.specs.LenError.{moved}
 use Rattle.etherparse_ip.specs.PacketCause.{PacketCause, IpHeaders}
@@ -10,7 +10,7 @@ abbrev pub cause_of : HeadersSliceError → PacketCause
 cause_of (Len e) = cause.Len e
 cause_of (Content e) = IpHeaders e
 
--- the error counted from k bytes further to the front, where that is a place
+-- the error with its offset, if it has one, increased by k
 abbrev pub headers_moved : ℕ → HeadersSliceError → HeadersSliceError
 headers_moved k (Len e) = Len (moved e.len_source k e)
 headers_moved k (Content e) = Content e

@@ -12,7 +12,7 @@ use crate::{Ipv4Slice, Ipv6Slice};
 use ip_base::{IpNumber, IpPayloadSlice, Ipv4HeaderSlice, Ipv6Header, Ipv6HeaderSlice};
 use std::net::IpAddr;
 
-/// A packet of either version.
+/// A packet of either IP version.
 #[derive(Clone, Debug, Drop)]
 pub enum IpSlice<'a> {
     /// An IPv4 packet.
@@ -25,12 +25,12 @@ impl<'a> IpSlice<'a> {
     ghost use Rattle.etherparse_ip.specs.IpSlice.{ip_parts, IsIpPacket, ipv4_of, ipv6_of};
     ghost use Rattle.etherparse_ip.specs.IpSlice.{ip_octets, is_of_ipv4, source_octets, destination_octets};
 
-    /// The packet that begins the slice, of the version that its first byte states: the one of
-    /// `Ipv4Slice::from_slice` or of `Ipv6Slice::from_slice`.
+    /// Parses the packet at the start of the slice, of the version in its first byte, as `Ipv4Slice::from_slice` or
+    /// `Ipv6Slice::from_slice` does.
     ///
-    /// The error tells, in this order, that the slice is empty, that the version is neither 4 nor 6, for IPv4 that
-    /// the internet header length is below 5 or that there are fewer bytes than it states, and else what the
-    /// `from_slice` of the version tells.
+    /// Returns an error, in this order, if the slice is empty, if the version is neither 4 nor 6, for IPv4 if the
+    /// internet header length is below 5 or if there are fewer bytes than it states, and otherwise the error of the
+    /// version's `from_slice`.
     #[inline(always)]
     pub fn from_slice(slice: &'a [u8]) -> Result<IpSlice<'a>, SliceError>
         ensures packet { IfOk result (λ x. IsIpPacket slice.now x) }
@@ -50,7 +50,7 @@ impl<'a> IpSlice<'a> {
         }
     }
 
-    /// The packet of a slice whose first byte states version 4.
+    /// Parses a slice whose first byte has version 4.
     #[inline(always)]
     fn from_ipv4(slice: &'a [u8]) -> Result<IpSlice<'a>, SliceError>
         requires some { 1 ≤ length slice.now }
@@ -85,7 +85,7 @@ impl<'a> IpSlice<'a> {
         }
     }
 
-    /// The packet of a slice whose first byte states version 6.
+    /// Parses a slice whose first byte has version 6.
     #[inline(always)]
     fn from_ipv6(slice: &'a [u8]) -> Result<IpSlice<'a>, SliceError>
         requires some { 1 ≤ length slice.now }
@@ -113,7 +113,7 @@ impl<'a> IpSlice<'a> {
         }
     }
 
-    /// The packet, if it is one of IPv4.
+    /// Returns the packet, if it is IPv4.
     pub fn ipv4(&self) -> Option<&Ipv4Slice<'_>>
         ensures { option_map (λ x. x.now) result ≡ ipv4_of self.now }
     {
@@ -123,7 +123,7 @@ impl<'a> IpSlice<'a> {
         }
     }
 
-    /// The packet, if it is one of IPv6.
+    /// Returns the packet, if it is IPv6.
     pub fn ipv6(&self) -> Option<&Ipv6Slice<'_>>
         ensures { option_map (λ x. x.now) result ≡ ipv6_of self.now }
     {
@@ -133,7 +133,7 @@ impl<'a> IpSlice<'a> {
         }
     }
 
-    /// Whether the payload is a fragment and not the whole.
+    /// Returns whether the payload is a fragment.
     pub fn is_fragmenting_payload(&self) -> bool
         ensures { result ≡ (ip_parts self.now).fragmented }
     {
@@ -143,7 +143,7 @@ impl<'a> IpSlice<'a> {
         }
     }
 
-    /// The address of the packet's sender.
+    /// Returns the source address.
     pub fn source_addr(&self) -> IpAddr
         ensures version { is_ipv4 result ≡ is_of_ipv4 self.now }
         ensures octets { ip_octets result ≡ source_octets self.now }
@@ -154,7 +154,8 @@ impl<'a> IpSlice<'a> {
         }
     }
 
-    /// The address of the packet's receiver, or of the next node of a routing header (RFC 8200, section 4.4).
+    /// Returns the destination address: the final receiver's, or that of the next node of a routing header (RFC 8200,
+    /// section 4.4).
     pub fn destination_addr(&self) -> IpAddr
         ensures version { is_ipv4 result ≡ is_of_ipv4 self.now }
         ensures octets { ip_octets result ≡ destination_octets self.now }
@@ -165,7 +166,7 @@ impl<'a> IpSlice<'a> {
         }
     }
 
-    /// The payload, behind the extension headers.
+    /// Returns the payload after the extension headers.
     pub fn payload(&self) -> &IpPayloadSlice<'a>
         ensures bytes { result.now.payload.now ≡ (ip_parts self.now).payload }
         ensures number { result.now.ip_number.0 ≡ (ip_parts self.now).number }
@@ -178,7 +179,7 @@ impl<'a> IpSlice<'a> {
         }
     }
 
-    /// The payload's number.
+    /// Returns the payload's protocol number.
     pub fn payload_ip_number(&self) -> IpNumber
         ensures { result.0 ≡ (ip_parts self.now).number }
     {

@@ -14,8 +14,8 @@ use crate::rest::after;
 use ip_base::{IpNumber, IpPayloadSlice, Ipv4HeaderSlice, LenSource};
 use ip_ext_slices::Ipv4ExtensionsSlice;
 
-/// An IPv4 packet (RFC 791): its base header, its extension headers and its payload, as parts of the caller's
-/// bytes. Two are equal where all their parts are.
+/// An IPv4 packet (RFC 791): its base header, extension headers and payload, borrowed from the caller's bytes. Two
+/// are equal if all their parts are.
 #[derive(Clone, Debug, Drop)]
 pub struct Ipv4Slice<'a> {
     header: Ipv4HeaderSlice<'a>,
@@ -26,12 +26,13 @@ pub struct Ipv4Slice<'a> {
 impl<'a> Ipv4Slice<'a> {
     ghost use Rattle.etherparse_ip.specs.Ipv4Slice.{ipv4_parts};
 
-    /// The packet that begins the slice. Its payload ends where total length says; bytes behind it are left out.
+    /// Parses the packet at the start of the slice. The payload ends where the total length says; bytes after it are
+    /// ignored.
     ///
-    /// The error tells, in this order, what is wrong with the base header, that total length is below the base
-    /// header's length, that there are fewer bytes than total length, or what is wrong with the extension
-    /// headers, its offset counted from the start of the slice and its length source
-    /// `LenSource::Ipv4HeaderTotalLen`.
+    /// Returns an error, in this order, if the base header is malformed or truncated, if the total length is below
+    /// the base header's length, if there are fewer bytes than the total length, or if an extension header is
+    /// malformed or truncated. The offset of an extension header's error counts from the start of the slice, and its
+    /// length source is `LenSource::Ipv4HeaderTotalLen`.
     #[inline(always)]
     pub fn from_slice(slice: &'a [u8]) -> Result<Ipv4Slice<'a>, SliceError>
         ensures packet { IfOk result (λ x. IsIpv4Packet slice.now (ipv4_parts x)) }
@@ -49,7 +50,7 @@ impl<'a> Ipv4Slice<'a> {
         }
     }
 
-    /// The packet that begins the slice with this base header.
+    /// Parses the packet at the start of the slice with this base header.
     #[inline(always)]
     pub(crate) fn behind(
         header: Ipv4HeaderSlice<'a>,
@@ -94,21 +95,21 @@ impl<'a> Ipv4Slice<'a> {
         }
     }
 
-    /// The base header, with its options.
+    /// Returns the base header with its options.
     pub fn header(&self) -> Ipv4HeaderSlice<'_>
         ensures { bytes result ≡ (ipv4_parts self.now).base }
     {
         self.header
     }
 
-    /// The extension headers: an authentication header, or none.
+    /// Returns the extension headers: an authentication header, or none.
     pub fn extensions(&self) -> Ipv4ExtensionsSlice<'_>
         ensures { headers_in result ≡ (ipv4_parts self.now).headers }
     {
         self.exts
     }
 
-    /// The payload, behind the extension headers.
+    /// Returns the payload after the extension headers.
     pub fn payload(&self) -> &IpPayloadSlice<'a>
         ensures bytes { result.now.payload.now ≡ (ipv4_parts self.now).payload }
         ensures number { result.now.ip_number.0 ≡ (ipv4_parts self.now).number }
@@ -118,15 +119,15 @@ impl<'a> Ipv4Slice<'a> {
         &self.payload
     }
 
-    /// The payload's number: that of the authentication header's next header, or the protocol of the base header
-    /// where there is none.
+    /// Returns the payload's protocol number: the authentication header's next header, or the base header's protocol
+    /// if there is none.
     pub fn payload_ip_number(&self) -> IpNumber
         ensures { result.0 ≡ (ipv4_parts self.now).number }
     {
         self.payload.ip_number
     }
 
-    /// Whether the payload is a fragment and not the whole, as the base header says.
+    /// Returns whether the payload is a fragment, by the base header.
     pub fn is_payload_fragmented(&self) -> bool
         ensures { result ≡ (ipv4_parts self.now).fragmented }
     {
@@ -158,7 +159,7 @@ impl Eq for Ipv4Slice<'_> {
     ghost laws = { ipv4_packet_equivalence };
 }
 
-/// The error of the extension headers, counted from the packet's start.
+/// Returns the extension headers' error with its offset counted from the packet's start.
 #[inline(always)]
 fn in_packet(error: ip_auth::HeaderSliceError, header_len: usize) -> ip_auth::HeaderSliceError
     requires { AuthOffsetFits error header_len }

@@ -16,8 +16,8 @@ use crate::rest::after;
 use ip_base::{IpNumber, IpPayloadSlice, Ipv6Header, Ipv6HeaderSlice, LenSource};
 use ip_ext_slices::Ipv6ExtensionsSlice;
 
-/// An IPv6 packet (RFC 8200): its base header, its extension headers and its payload, as parts of the caller's
-/// bytes. Two are equal where all their parts are.
+/// An IPv6 packet (RFC 8200): its base header, extension headers and payload, borrowed from the caller's bytes. Two
+/// are equal if all their parts are.
 #[derive(Clone, Debug, Drop)]
 pub struct Ipv6Slice<'a> {
     header: Ipv6HeaderSlice<'a>,
@@ -28,14 +28,15 @@ pub struct Ipv6Slice<'a> {
 impl<'a> Ipv6Slice<'a> {
     ghost use Rattle.etherparse_ip.specs.Ipv6Slice.{ipv6_parts};
 
-    /// The packet that begins the slice. Its payload ends where payload length says; bytes behind it are left out.
-    /// Where payload length is 0 and bytes follow the base header, as in a jumbogram (RFC 2675), all of them
-    /// belong to the packet.
+    /// Parses the packet at the start of the slice. The payload ends where the payload length says; bytes after it
+    /// are ignored. If the payload length is 0 and bytes follow the base header, as in a jumbogram (RFC 2675), all of
+    /// them belong to the packet.
     ///
-    /// The error tells, in this order, what is wrong with the base header, that there are fewer bytes than payload
-    /// length states, or what is wrong with the extension headers, its offset counted from the start of the slice
-    /// and its length source the one that says the packet's length: `LenSource::Slice` where payload length is 0
-    /// and bytes follow the base header, else `LenSource::Ipv6HeaderPayloadLen`.
+    /// Returns an error, in this order, if the base header is malformed or truncated, if there are fewer bytes than
+    /// the payload length states, or if an extension header is malformed or truncated. The offset of an extension
+    /// header's error counts from the start of the slice. Its length source is the source of the packet's length:
+    /// `LenSource::Slice` if the payload length is 0 and bytes follow the base header, otherwise
+    /// `LenSource::Ipv6HeaderPayloadLen`.
     #[inline(always)]
     pub fn from_slice(slice: &'a [u8]) -> Result<Ipv6Slice<'a>, SliceError>
         ensures packet { IfOk result (λ x. IsIpv6Packet slice.now (ipv6_parts x)) }
@@ -54,13 +55,13 @@ impl<'a> Ipv6Slice<'a> {
         }
     }
 
-    /// As `from_slice`, but a packet may be cut short or state no length: where there are fewer bytes than payload
-    /// length states, all of them belong to it. The payload's `len_source` tells whether it ends where the slice
-    /// does.
+    /// Parses the packet as `from_slice` does, but accepts a truncated one: if there are fewer bytes than the payload
+    /// length states, all of them belong to the packet. The payload's `len_source` says whether it ends where the
+    /// slice does.
     ///
-    /// The answer is that of `from_slice` for each slice but one that a good base header begins and that has
-    /// fewer bytes than payload length states. The length source of an error in the extension headers is the one
-    /// that says the packet's length.
+    /// The result differs from that of `from_slice` only for a slice that starts with a valid base header and has
+    /// fewer bytes than the payload length states. The length source of an error in the extension headers is the
+    /// source of the packet's length.
     #[inline(always)]
     pub fn from_slice_lax(slice: &'a [u8]) -> Result<Ipv6Slice<'a>, SliceError>
         ensures packet { IfOk result (λ x. IsIpv6Packet slice.now (ipv6_parts x)) }
@@ -81,7 +82,7 @@ impl<'a> Ipv6Slice<'a> {
         }
     }
 
-    /// The packet that begins the slice with this base header, which has the length that it states.
+    /// Parses the packet at the start of the slice with this base header. The packet has the length that it states.
     #[inline(always)]
     pub(crate) fn behind(
         header: Ipv6HeaderSlice<'a>,
@@ -103,7 +104,7 @@ impl<'a> Ipv6Slice<'a> {
         Self::cut(header, slice)
     }
 
-    /// The packet that begins the slice with this base header, cut short or not.
+    /// Parses the packet at the start of the slice with this base header, truncated or not.
     #[inline(always)]
     fn cut(
         header: Ipv6HeaderSlice<'a>,
@@ -134,21 +135,21 @@ impl<'a> Ipv6Slice<'a> {
         }
     }
 
-    /// The base header.
+    /// Returns the base header.
     pub fn header(&self) -> Ipv6HeaderSlice<'a>
         ensures { bytes result ≡ (ipv6_parts self.now).base }
     {
         self.header
     }
 
-    /// The extension headers.
+    /// Returns the extension headers.
     pub fn extensions(&self) -> &Ipv6ExtensionsSlice<'a>
         ensures { headers_in result.now ≡ (ipv6_parts self.now).headers }
     {
         &self.exts
     }
 
-    /// The payload, behind the extension headers.
+    /// Returns the payload after the extension headers.
     pub fn payload(&self) -> &IpPayloadSlice<'a>
         ensures bytes { result.now.payload.now ≡ (ipv6_parts self.now).payload }
         ensures number { result.now.ip_number.0 ≡ (ipv6_parts self.now).number }
@@ -158,15 +159,15 @@ impl<'a> Ipv6Slice<'a> {
         &self.payload
     }
 
-    /// The payload's number: the next header of the last extension header, or of the base header where there is
-    /// none.
+    /// Returns the payload's protocol number: the next header of the last extension header, or of the base header if
+    /// there is none.
     pub fn payload_ip_number(&self) -> IpNumber
         ensures { result.0 ≡ (ipv6_parts self.now).number }
     {
         self.payload.ip_number
     }
 
-    /// Whether the payload is a fragment and not the whole: some fragment header of the chain says so.
+    /// Returns whether the payload is a fragment: some fragment header of the chain fragments it.
     pub fn is_payload_fragmented(&self) -> bool
         ensures { result ≡ (ipv6_parts self.now).fragmented }
     {
@@ -198,7 +199,7 @@ impl Eq for Ipv6Slice<'_> {
     ghost laws = { ipv6_packet_equivalence };
 }
 
-/// The error of the extension headers, counted from the packet's start.
+/// Returns the extension headers' error with its offset counted from the packet's start.
 #[inline(always)]
 fn in_packet(
     error: ipv6_exts::HeaderSliceError,

@@ -1,10 +1,11 @@
-//! What tells how many bytes an IPv6 packet has.
+//! The source of an IPv6 packet's length.
 ghost use Rattle.std.specs.Prelude.{◌≡◌, length};
 ghost use Rattle.etherparse_ip.specs.LenSources.{front, ipv6_len_source};
 
 use ip_base::{Ipv6Header, LenSource};
 
-/// The bytes of the packet with this payload length that begins the slice, and what tells how many there are.
+/// Returns the bytes of the packet with this payload length at the start of the slice, and the source of their
+/// length.
 #[inline(always)]
 pub(crate) fn ipv6_front(payload_length: u16, slice: &[u8]) -> (&[u8], LenSource)
     ensures source { result.1 ≡ ipv6_len_source payload_length (length slice.now) }

@@ -1,6 +1,6 @@
-//! Packets of IPv4 (RFC 791) and IPv6 (RFC 8200): a packet borrows the caller's bytes and shows its base header,
-//! its extension headers and its payload, which ends where the packet's length says. The items of the crates
-//! below stand here too, under the paths that they have in etherparse.
+//! Packets of IPv4 (RFC 791) and IPv6 (RFC 8200). A packet borrows the caller's bytes and has a base header,
+//! extension headers and a payload, which ends at the packet's length. The items of the crates below are exported
+//! here too, under the paths that they have in etherparse.
 #![tactic(auto)]
 
 pub mod err;

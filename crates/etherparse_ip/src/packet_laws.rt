@@ -3,7 +3,7 @@ ghost use Rattle.ip_base.specs.Ipv4Header.{version};
 ghost use Rattle.etherparse_ip.specs.Packet.{Parts, IsIpv4Packet, IsIpv6Packet};
 ghost use Rattle.etherparse_ip.specs.Cut.{ipv4_cut, ipv6_cut};
 
-/// Bytes begin with at most one packet, of the version that their first byte states, and it has these parts.
+/// Proves that bytes start with at most one packet, of the version in their first byte, and computes its parts.
 pub fn one_packet()
     ensures version_4 { (s : List ℕ) (p : Parts) → IsIpv4Packet s p → version s ≡ 4 }
     ensures version_6 { (s : List ℕ) (p : Parts) → IsIpv6Packet s p → version s ≡ 6 }

@@ -1,6 +1,6 @@
 ghost use Rattle.std.specs.Prelude.{◌≡◌, ◌≤◌, drop, length};
 
-/// The bytes after the first `len`.
+/// Returns the bytes after the first `len`.
 #[inline(always)]
 pub(crate) fn after(bytes: &[u8], len: usize) -> &[u8]
     requires { len ≤ length bytes.now }

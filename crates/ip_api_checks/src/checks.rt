@@ -1,6 +1,6 @@
-//! What the types have beside their contracts: the values of constants, equality and clones of the errors, clones
-//! that no contract of the type's own speaks of, the impls of each type, and how long borrowed bytes live. A type
-//! that is added joins each of these.
+//! What the types have besides their contracts: the values of constants, equality and clones of the errors, clones
+//! that the type's own contracts don't cover, the impls of each type, and the lifetimes of borrowed bytes. A new type
+//! must be added to each of these.
 ghost use Rattle.std.specs.Prelude.{◌≡◌, ◌↔◌, IsTrue, IsFalse, IfOk};
 ghost use Rattle.ip_ext_slices.specs.Ipv4ExtensionsSlice.{headers_in};
 ghost use Rattle.ip_ext_slices.specs.Ipv6ExtensionSlice.{header_of};
@@ -95,7 +95,7 @@ const _: () = prove!(Ipv4Extensions::MIN_LEN == 0);
 
 const _: () = prove!(Ipv4Extensions::MAX_LEN == 1028);
 
-/// Whether two errors of a length are equal, and a copy of the first.
+/// Returns whether two length errors are equal, and a copy of the first.
 pub fn len_error(a: &LenError, b: &LenError) -> Result<(bool, LenError), AllocError>
     ensures same { IfOk result (λ r. IsTrue r.0 ↔ (a.now ≡ b.now)) }
     ensures copy { IfOk result (λ r. r.1 ≡ a.now) }
@@ -103,7 +103,7 @@ pub fn len_error(a: &LenError, b: &LenError) -> Result<(bool, LenError), AllocEr
     Ok((a == b, a.clone()?))
 }
 
-/// Whether two errors of a value are equal, and a copy of the first.
+/// Returns whether two value errors are equal, and a copy of the first.
 pub fn value_too_big(
     a: &ValueTooBigError,
     b: &ValueTooBigError,
@@ -114,7 +114,7 @@ pub fn value_too_big(
     Ok((a == b, a.clone()?))
 }
 
-/// Whether two content errors of an authentication header are equal, and a copy of the first.
+/// Returns whether two content errors of an authentication header are equal, and a copy of the first.
 pub fn zero_payload_len(
     a: &ip_auth::HeaderError,
     b: &ip_auth::HeaderError,
@@ -125,28 +125,28 @@ pub fn zero_payload_len(
     Ok((a == b, a.clone()?))
 }
 
-/// Whether two errors of an authentication header are equal that tell a length.
+/// Returns whether two length errors of an authentication header are equal.
 pub fn auth_slice_error(a: LenError, b: LenError) -> bool
     ensures { IsTrue result ↔ (a ≡ b) }
 {
     ip_auth::HeaderSliceError::Len(a) == ip_auth::HeaderSliceError::Len(b)
 }
 
-/// The same of two that tell of the header's bytes.
+/// Returns whether two content errors of an authentication header are equal.
 pub fn auth_slice_error_of_content(a: ip_auth::HeaderError, b: ip_auth::HeaderError) -> bool
     ensures { IsTrue result ↔ (a ≡ b) }
 {
     ip_auth::HeaderSliceError::Content(a) == ip_auth::HeaderSliceError::Content(b)
 }
 
-/// Whether an error of an authentication header that tells a length is equal to one that tells of its bytes.
+/// Returns whether a length error of an authentication header is equal to a content error.
 pub fn auth_slice_errors_differ(a: LenError, b: ip_auth::HeaderError) -> bool
     ensures { IsFalse result }
 {
     ip_auth::HeaderSliceError::Len(a) == ip_auth::HeaderSliceError::Content(b)
 }
 
-/// A copy of an error of an authentication header.
+/// Returns a copy of an error of an authentication header.
 pub fn auth_slice_error_copy(
     e: &ip_auth::HeaderSliceError,
 ) -> Result<ip_auth::HeaderSliceError, AllocError>
@@ -155,7 +155,7 @@ pub fn auth_slice_error_copy(
     e.clone()
 }
 
-/// Whether two errors of a check value are equal, and a copy of the first.
+/// Returns whether two errors of a check value are equal, and a copy of the first.
 pub fn icv_len(
     a: &ip_auth::IcvLenError,
     b: &ip_auth::IcvLenError,
@@ -166,7 +166,7 @@ pub fn icv_len(
     Ok((a == b, a.clone()?))
 }
 
-/// Whether two errors of a payload are equal, and a copy of the first.
+/// Returns whether two errors of a payload are equal, and a copy of the first.
 pub fn payload_len(
     a: &ExtPayloadLenError,
     b: &ExtPayloadLenError,
@@ -177,7 +177,7 @@ pub fn payload_len(
     Ok((a == b, a.clone()?))
 }
 
-/// Whether two content errors of a chain are equal, and a copy of the first.
+/// Returns whether two content errors of a chain are equal, and a copy of the first.
 pub fn exts_content(
     a: &ipv6_exts::HeaderError,
     b: &ipv6_exts::HeaderError,
@@ -188,28 +188,28 @@ pub fn exts_content(
     Ok((a == b, a.clone()?))
 }
 
-/// Whether two errors of a chain are equal that tell a length.
+/// Returns whether two length errors of a chain are equal.
 pub fn exts_slice_error(a: LenError, b: LenError) -> bool
     ensures { IsTrue result ↔ (a ≡ b) }
 {
     ipv6_exts::HeaderSliceError::Len(a) == ipv6_exts::HeaderSliceError::Len(b)
 }
 
-/// The same of two that tell of the chain's bytes.
+/// Returns whether two content errors of a chain are equal.
 pub fn exts_slice_error_of_content(a: ipv6_exts::HeaderError, b: ipv6_exts::HeaderError) -> bool
     ensures { IsTrue result ↔ (a ≡ b) }
 {
     ipv6_exts::HeaderSliceError::Content(a) == ipv6_exts::HeaderSliceError::Content(b)
 }
 
-/// Whether an error of a chain that tells a length is equal to one that tells of its bytes.
+/// Returns whether a length error of a chain is equal to a content error.
 pub fn exts_slice_errors_differ(a: LenError, b: ipv6_exts::HeaderError) -> bool
     ensures { IsFalse result }
 {
     ipv6_exts::HeaderSliceError::Len(a) == ipv6_exts::HeaderSliceError::Content(b)
 }
 
-/// A copy of an error of a chain.
+/// Returns a copy of an error of a chain.
 pub fn exts_slice_error_copy(
     e: &ipv6_exts::HeaderSliceError,
 ) -> Result<ipv6_exts::HeaderSliceError, AllocError>
@@ -218,7 +218,7 @@ pub fn exts_slice_error_copy(
     e.clone()
 }
 
-/// Whether two errors of a walk over IPv4 extension headers are equal, and a copy of the first.
+/// Returns whether two errors of a walk over IPv4 extension headers are equal, and a copy of the first.
 pub fn ipv4_walk(
     a: &ipv4_exts::ExtsWalkError,
     b: &ipv4_exts::ExtsWalkError,
@@ -229,7 +229,7 @@ pub fn ipv4_walk(
     Ok((a == b, a.clone()?))
 }
 
-/// Whether two errors of a walk over IPv6 extension headers are equal, and a copy of the first.
+/// Returns whether two errors of a walk over IPv6 extension headers are equal, and a copy of the first.
 pub fn ipv6_walk(
     a: &ipv6_exts::ExtsWalkError,
     b: &ipv6_exts::ExtsWalkError,
@@ -240,35 +240,35 @@ pub fn ipv6_walk(
     Ok((a == b, a.clone()?))
 }
 
-/// A copy of a protocol number.
+/// Returns a copy of a protocol number.
 pub fn number_copy(number: &IpNumber) -> Result<IpNumber, AllocError>
     ensures { IfOk result (λ copy. copy ≡ number.now) }
 {
     number.clone()
 }
 
-/// A copy of a fragment offset.
+/// Returns a copy of a fragment offset.
 pub fn offset_copy(offset: &IpFragOffset) -> Result<IpFragOffset, AllocError>
     ensures { IfOk result (λ copy. copy ≡ offset.now) }
 {
     offset.clone()
 }
 
-/// A copy of a source of lengths.
+/// Returns a copy of a length source.
 pub fn source_copy(source: &LenSource) -> Result<LenSource, AllocError>
     ensures { IfOk result (λ copy. copy ≡ source.now) }
 {
     source.clone()
 }
 
-/// A copy of a layer.
+/// Returns a copy of a layer.
 pub fn layer_copy(layer: &Layer) -> Result<Layer, AllocError>
     ensures { IfOk result (λ copy. copy ≡ layer.now) }
 {
     layer.clone()
 }
 
-/// A copy of the headers of an IPv4 packet.
+/// Returns a copy of the headers of an IPv4 packet.
 pub fn ipv4_headers_copy<'a>(
     headers: &Ipv4ExtensionsSlice<'a>,
 ) -> Result<Ipv4ExtensionsSlice<'a>, AllocError>
@@ -277,7 +277,7 @@ pub fn ipv4_headers_copy<'a>(
     headers.clone()
 }
 
-/// A copy of one header of an IPv6 chain.
+/// Returns a copy of one header of an IPv6 chain.
 pub fn ipv6_header_copy<'a>(
     header: &Ipv6ExtensionSlice<'a>,
 ) -> Result<Ipv6ExtensionSlice<'a>, AllocError>
@@ -286,21 +286,21 @@ pub fn ipv6_header_copy<'a>(
     header.clone()
 }
 
-/// The bytes of a chain live as long as the packet, and not only as long as the chain.
+/// Checks that the bytes of a chain live as long as the packet, and not only as long as the chain.
 pub fn bytes_behind_the_chain<'a>(headers: Ipv6ExtensionsSlice<'a>) -> &'a [u8]
     ensures { result.now ≡ bytes headers.entry }
 {
     headers.slice()
 }
 
-/// So do the bytes of one header of it.
+/// Checks that the bytes of one header of a chain live as long as the packet.
 pub fn bytes_behind_the_header<'a>(header: Ipv6ExtensionSlice<'a>) -> &'a [u8]
     ensures { result.now ≡ (header_of header.entry).bytes }
 {
     header.slice()
 }
 
-/// So do the parts of single headers.
+/// Checks that the parts of single headers live as long as the packet.
 pub fn parts_behind_the_headers<'a>(
     raw: Ipv6RawExtHeaderSlice<'a>,
     fragment: Ipv6FragmentHeaderSlice<'a>,
@@ -315,7 +315,7 @@ pub fn parts_behind_the_headers<'a>(
     ]
 }
 
-/// So does what is left behind the runs of a chain.
+/// Checks that the bytes after the runs of a chain live as long as the packet.
 pub fn rest_behind_the_runs<'a>(runs: Ipv6ExtensionsRuns<'a>) -> Option<&'a [u8]> {
     match runs.end() {
         Some((_, rest, _)) => Some(rest),
@@ -323,7 +323,7 @@ pub fn rest_behind_the_runs<'a>(runs: Ipv6ExtensionsRuns<'a>) -> Option<&'a [u8]
     }
 }
 
-/// So do the headers that a cursor gives, and what is left behind them.
+/// Checks that a cursor's headers, and the bytes after them, live as long as the packet.
 pub fn next_and_rest_of_the_cursor<'a>(
     mut headers: Ipv6ExtensionsCursor<'a>,
 ) -> (Option<Ipv6ExtensionSlice<'a>>, &'a [u8], Option<&'a [u8]>) {
@@ -335,30 +335,30 @@ pub fn next_and_rest_of_the_cursor<'a>(
     (next, headers.rest(), behind)
 }
 
-/// A type that is copied.
+/// Requires a type that can be copied.
 fn needs_copy<T: Copy>(value: &T) -> T {
     *value
 }
 
-/// A type that is cloned, compared, hashed and printed.
+/// Requires a type that can be cloned, compared, hashed and printed.
 fn needs_hash<T: Clone + Eq + Hash + Debug>(a: &T, b: &T) -> bool {
     a == b
 }
 
-/// A type that is cloned, compared and printed.
+/// Requires a type that can be cloned, compared and printed.
 fn needs_eq<T: Clone + Eq + Debug>(a: &T, b: &T) -> bool {
     a == b
 }
 
-/// A type that is printed.
+/// Requires a type that can be printed.
 fn needs_debug<T: Debug>(_value: &T) {}
 
-/// A type that has a default.
+/// Requires a type with a default.
 fn needs_default<T: Default>() -> T {
     T::default()
 }
 
-/// The types that are copied.
+/// Checks that these types can be copied.
 pub fn copies(
     number: IpNumber,
     offset: IpFragOffset,
@@ -379,7 +379,7 @@ pub fn copies(
     let _ = needs_copy(&ipv6);
 }
 
-/// The types with bytes of their own are cloned, compared and printed.
+/// Checks that owned headers can be cloned, compared and printed.
 pub fn owned_are_compared(
     raw: &Ipv6RawExtHeader,
     fragment: &Ipv6FragmentHeader,
@@ -396,7 +396,7 @@ pub fn owned_are_compared(
         && needs_eq(ipv6, ipv6)
 }
 
-/// The types that borrow are cloned, compared and printed.
+/// Checks that borrowed headers can be cloned, compared and printed.
 pub fn borrowed_are_compared(
     raw: &Ipv6RawExtHeaderSlice<'_>,
     fragment: &Ipv6FragmentHeaderSlice<'_>,
@@ -417,7 +417,7 @@ pub fn borrowed_are_compared(
         && needs_eq(cursor, cursor)
 }
 
-/// So are base headers, packets and their payloads.
+/// Checks that base headers, packets and their payloads can be cloned, compared and printed.
 pub fn packets_are_compared(
     ipv4_header: &Ipv4HeaderSlice<'_>,
     ipv6_header: &Ipv6HeaderSlice<'_>,
@@ -434,7 +434,7 @@ pub fn packets_are_compared(
         && needs_eq(packet, packet)
 }
 
-/// The runs of a chain and the errors of writes are printed, and not compared.
+/// Checks that the runs of a chain and the errors of writes can be printed. They can't be compared.
 pub fn printed(
     runs: &Ipv6ExtensionsRuns<'_>,
     write: &ipv4_exts::HeaderWriteError,
@@ -445,7 +445,7 @@ pub fn printed(
     needs_debug(write6);
 }
 
-/// So are the errors of reads.
+/// Checks that the errors of reads can be printed.
 pub fn read_errors_printed(
     limited: &io::LimitedReadError,
     auth: &ip_auth::HeaderReadError,
@@ -460,18 +460,18 @@ pub fn read_errors_printed(
     needs_debug(chain_limited);
 }
 
-/// Readers are printed where the readers are that they are made of.
+/// Checks that readers can be printed if their inner readers can.
 pub fn readers_printed<T: Debug>(limited: &LimitedReader<T>, over: &OverRead<T>) {
     needs_debug(limited);
     needs_debug(over);
 }
 
-/// The types of single headers with bytes of their own that have a default.
+/// Returns the defaults of owned single headers.
 pub fn header_defaults() -> (IpAuthHeader, Ipv6RawExtHeader) {
     (needs_default(), needs_default())
 }
 
-/// The types of chains that have one.
+/// Returns the defaults of chains.
 pub fn chain_defaults<'a>() -> (
     Ipv4Extensions,
     Ipv6Extensions,
@@ -490,7 +490,7 @@ pub fn chain_defaults<'a>() -> (
     )
 }
 
-/// The types that are hashed, beside the errors.
+/// Checks that these types can be hashed, besides the errors.
 pub fn hashes(number: IpNumber, offset: IpFragOffset, source: LenSource, layer: Layer) -> bool {
     needs_hash(&number, &number)
         && needs_hash(&offset, &offset)
@@ -498,7 +498,7 @@ pub fn hashes(number: IpNumber, offset: IpFragOffset, source: LenSource, layer: 
         && needs_hash(&layer, &layer)
 }
 
-/// The errors are hashed.
+/// Checks that the errors can be hashed.
 pub fn error_hashes(
     len: &LenError,
     value: &ValueTooBigError,
@@ -519,7 +519,7 @@ pub fn error_hashes(
         && needs_hash(walk6, walk6)
 }
 
-/// So are those of base headers and of packets.
+/// Checks that the errors of base headers and of packets can be hashed.
 pub fn packet_error_hashes(
     ipv4_header: &ipv4::HeaderSliceError,
     ipv6_header: &ipv6::HeaderSliceError,

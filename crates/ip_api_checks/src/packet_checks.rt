@@ -1,4 +1,4 @@
-//! Pins of base headers, of packets and of their errors, as those of extension headers beside them (`checks.rt`).
+//! Checks of base headers, of packets and of their errors, like those of extension headers (`checks.rt`).
 ghost use Rattle.std.specs.Prelude.{◌≡◌, ◌↔◌, IsTrue, IsFalse, IfOk};
 ghost use Rattle.ip_base.specs.Ipv4HeaderSlice as ipv4_header;
 ghost use Rattle.ip_base.specs.Ipv6HeaderSlice as ipv6_header;
@@ -17,7 +17,7 @@ const _: () = prove!(Ipv4Header::MIN_LEN == 20);
 
 const _: () = prove!(Ipv6Header::LEN == 40);
 
-/// Whether two content errors of an IPv4 base header are equal, and a copy of the first.
+/// Returns whether two content errors of an IPv4 base header are equal, and a copy of the first.
 pub fn ipv4_header_error(
     a: &ipv4::HeaderError,
     b: &ipv4::HeaderError,
@@ -28,7 +28,7 @@ pub fn ipv4_header_error(
     Ok((a == b, a.clone()?))
 }
 
-/// The same of an IPv6 base header.
+/// Returns whether two content errors of an IPv6 base header are equal, and a copy of the first.
 pub fn ipv6_header_error(
     a: &ipv6::HeaderError,
     b: &ipv6::HeaderError,
@@ -39,7 +39,7 @@ pub fn ipv6_header_error(
     Ok((a == b, a.clone()?))
 }
 
-/// The same of a base header of either version.
+/// Returns whether two content errors of a base header of either IP version are equal, and a copy of the first.
 pub fn ip_header_error(
     a: &ip::HeaderError,
     b: &ip::HeaderError,
@@ -50,7 +50,7 @@ pub fn ip_header_error(
     Ok((a == b, a.clone()?))
 }
 
-/// The same of the headers of a packet.
+/// Returns whether two content errors of a packet's headers are equal, and a copy of the first.
 pub fn headers_error(
     a: &ip::HeadersError,
     b: &ip::HeadersError,
@@ -61,28 +61,28 @@ pub fn headers_error(
     Ok((a == b, a.clone()?))
 }
 
-/// Whether two errors of an IPv4 base header are equal that tell a length.
+/// Returns whether two length errors of an IPv4 base header are equal.
 pub fn ipv4_header_slice_error_of_len(a: LenError, b: LenError) -> bool
     ensures { IsTrue result ↔ (a ≡ b) }
 {
     ipv4::HeaderSliceError::Len(a) == ipv4::HeaderSliceError::Len(b)
 }
 
-/// The same of two that tell of its bytes.
+/// Returns whether two content errors of an IPv4 base header are equal.
 pub fn ipv4_header_slice_error_of_content(a: ipv4::HeaderError, b: ipv4::HeaderError) -> bool
     ensures { IsTrue result ↔ (a ≡ b) }
 {
     ipv4::HeaderSliceError::Content(a) == ipv4::HeaderSliceError::Content(b)
 }
 
-/// Whether an error of an IPv4 base header that tells a length is equal to one that tells of its bytes.
+/// Returns whether a length error of an IPv4 base header is equal to a content error.
 pub fn ipv4_header_slice_errors_differ(a: LenError, b: ipv4::HeaderError) -> bool
     ensures { IsFalse result }
 {
     ipv4::HeaderSliceError::Len(a) == ipv4::HeaderSliceError::Content(b)
 }
 
-/// A copy of an error of an IPv4 base header.
+/// Returns a copy of an error of an IPv4 base header.
 pub fn ipv4_header_slice_error_copy(
     e: &ipv4::HeaderSliceError,
 ) -> Result<ipv4::HeaderSliceError, AllocError>
@@ -91,28 +91,28 @@ pub fn ipv4_header_slice_error_copy(
     e.clone()
 }
 
-/// Whether two errors of an IPv6 base header are equal that tell a length.
+/// Returns whether two length errors of an IPv6 base header are equal.
 pub fn ipv6_header_slice_error_of_len(a: LenError, b: LenError) -> bool
     ensures { IsTrue result ↔ (a ≡ b) }
 {
     ipv6::HeaderSliceError::Len(a) == ipv6::HeaderSliceError::Len(b)
 }
 
-/// The same of two that tell of its bytes.
+/// Returns whether two content errors of an IPv6 base header are equal.
 pub fn ipv6_header_slice_error_of_content(a: ipv6::HeaderError, b: ipv6::HeaderError) -> bool
     ensures { IsTrue result ↔ (a ≡ b) }
 {
     ipv6::HeaderSliceError::Content(a) == ipv6::HeaderSliceError::Content(b)
 }
 
-/// Whether an error of an IPv6 base header that tells a length is equal to one that tells of its bytes.
+/// Returns whether a length error of an IPv6 base header is equal to a content error.
 pub fn ipv6_header_slice_errors_differ(a: LenError, b: ipv6::HeaderError) -> bool
     ensures { IsFalse result }
 {
     ipv6::HeaderSliceError::Len(a) == ipv6::HeaderSliceError::Content(b)
 }
 
-/// A copy of an error of an IPv6 base header.
+/// Returns a copy of an error of an IPv6 base header.
 pub fn ipv6_header_slice_error_copy(
     e: &ipv6::HeaderSliceError,
 ) -> Result<ipv6::HeaderSliceError, AllocError>
@@ -121,28 +121,28 @@ pub fn ipv6_header_slice_error_copy(
     e.clone()
 }
 
-/// Whether two errors of an IPv4 packet are equal that tell a length.
+/// Returns whether two length errors of an IPv4 packet are equal.
 pub fn ipv4_slice_error_of_len(a: LenError, b: LenError) -> bool
     ensures { IsTrue result ↔ (a ≡ b) }
 {
     ipv4::SliceError::Len(a) == ipv4::SliceError::Len(b)
 }
 
-/// The same of two that tell of the base header's bytes.
+/// Returns whether two errors of an IPv4 packet for the base header's bytes are equal.
 pub fn ipv4_slice_error_of_header(a: ipv4::HeaderError, b: ipv4::HeaderError) -> bool
     ensures { IsTrue result ↔ (a ≡ b) }
 {
     ipv4::SliceError::Header(a) == ipv4::SliceError::Header(b)
 }
 
-/// The same of two that tell of the extension headers' bytes.
+/// Returns whether two errors of an IPv4 packet for the extension headers' bytes are equal.
 pub fn ipv4_slice_error_of_exts(a: ip_auth::HeaderError, b: ip_auth::HeaderError) -> bool
     ensures { IsTrue result ↔ (a ≡ b) }
 {
     ipv4::SliceError::Exts(a) == ipv4::SliceError::Exts(b)
 }
 
-/// Whether errors of an IPv4 packet of different variants are equal.
+/// Returns whether errors of an IPv4 packet of different variants are equal.
 pub fn ipv4_slice_errors_differ(a: LenError, b: ipv4::HeaderError, c: ip_auth::HeaderError) -> bool
     ensures { IsFalse result }
 {
@@ -152,35 +152,35 @@ pub fn ipv4_slice_errors_differ(a: LenError, b: ipv4::HeaderError, c: ip_auth::H
     len == header || len == exts || header == exts
 }
 
-/// A copy of an error of an IPv4 packet.
+/// Returns a copy of an error of an IPv4 packet.
 pub fn ipv4_slice_error_copy(e: &ipv4::SliceError) -> Result<ipv4::SliceError, AllocError>
     ensures { IfOk result (λ copy. copy ≡ e.now) }
 {
     e.clone()
 }
 
-/// Whether two errors of an IPv6 packet are equal that tell a length.
+/// Returns whether two length errors of an IPv6 packet are equal.
 pub fn ipv6_slice_error_of_len(a: LenError, b: LenError) -> bool
     ensures { IsTrue result ↔ (a ≡ b) }
 {
     ipv6::SliceError::Len(a) == ipv6::SliceError::Len(b)
 }
 
-/// The same of two that tell of the base header's bytes.
+/// Returns whether two errors of an IPv6 packet for the base header's bytes are equal.
 pub fn ipv6_slice_error_of_header(a: ipv6::HeaderError, b: ipv6::HeaderError) -> bool
     ensures { IsTrue result ↔ (a ≡ b) }
 {
     ipv6::SliceError::Header(a) == ipv6::SliceError::Header(b)
 }
 
-/// The same of two that tell of the extension headers' bytes.
+/// Returns whether two errors of an IPv6 packet for the extension headers' bytes are equal.
 pub fn ipv6_slice_error_of_exts(a: ipv6_exts::HeaderError, b: ipv6_exts::HeaderError) -> bool
     ensures { IsTrue result ↔ (a ≡ b) }
 {
     ipv6::SliceError::Exts(a) == ipv6::SliceError::Exts(b)
 }
 
-/// Whether errors of an IPv6 packet of different variants are equal.
+/// Returns whether errors of an IPv6 packet of different variants are equal.
 pub fn ipv6_slice_errors_differ(
     a: LenError,
     b: ipv6::HeaderError,
@@ -194,42 +194,42 @@ pub fn ipv6_slice_errors_differ(
     len == header || len == exts || header == exts
 }
 
-/// A copy of an error of an IPv6 packet.
+/// Returns a copy of an error of an IPv6 packet.
 pub fn ipv6_slice_error_copy(e: &ipv6::SliceError) -> Result<ipv6::SliceError, AllocError>
     ensures { IfOk result (λ copy. copy ≡ e.now) }
 {
     e.clone()
 }
 
-/// Whether two errors of a packet of either version are equal that tell a length.
+/// Returns whether two length errors of a packet of either IP version are equal.
 pub fn ip_slice_error_of_len(a: LenError, b: LenError) -> bool
     ensures { IsTrue result ↔ (a ≡ b) }
 {
     ip::SliceError::Len(a) == ip::SliceError::Len(b)
 }
 
-/// The same of two that tell of its headers' bytes.
+/// Returns whether two errors of a packet of either IP version for its headers' bytes are equal.
 pub fn ip_slice_error_of_content(a: ip::HeadersError, b: ip::HeadersError) -> bool
     ensures { IsTrue result ↔ (a ≡ b) }
 {
     ip::SliceError::IpHeaders(a) == ip::SliceError::IpHeaders(b)
 }
 
-/// Whether an error of a packet of either version that tells a length is equal to one that tells of its headers' bytes.
+/// Returns whether a length error of a packet of either IP version is equal to one for its headers' bytes.
 pub fn ip_slice_errors_differ(a: LenError, b: ip::HeadersError) -> bool
     ensures { IsFalse result }
 {
     ip::SliceError::Len(a) == ip::SliceError::IpHeaders(b)
 }
 
-/// A copy of an error of a packet of either version.
+/// Returns a copy of an error of a packet of either IP version.
 pub fn ip_slice_error_copy(e: &ip::SliceError) -> Result<ip::SliceError, AllocError>
     ensures { IfOk result (λ copy. copy ≡ e.now) }
 {
     e.clone()
 }
 
-/// Whether two IPv4 base headers are equal, and a copy of the first.
+/// Returns whether two IPv4 base headers are equal, and a copy of the first.
 pub fn ipv4_headers<'a>(
     a: &Ipv4HeaderSlice<'a>,
     b: &Ipv4HeaderSlice<'_>,
@@ -241,7 +241,7 @@ pub fn ipv4_headers<'a>(
     Ok((a == b, a.clone()?))
 }
 
-/// The same of IPv6 base headers.
+/// Returns whether two IPv6 base headers are equal, and a copy of the first.
 pub fn ipv6_headers<'a>(
     a: &Ipv6HeaderSlice<'a>,
     b: &Ipv6HeaderSlice<'_>,
@@ -253,7 +253,7 @@ pub fn ipv6_headers<'a>(
     Ok((a == b, a.clone()?))
 }
 
-/// Whether two payloads are equal, and a copy of the first.
+/// Returns whether two payloads are equal, and a copy of the first.
 pub fn payloads<'a>(
     a: &IpPayloadSlice<'a>,
     b: &IpPayloadSlice<'_>,
@@ -266,7 +266,7 @@ pub fn payloads<'a>(
     Ok((a == b, a.clone()?))
 }
 
-/// Whether two IPv4 packets are equal, and a copy of the first.
+/// Returns whether two IPv4 packets are equal, and a copy of the first.
 pub fn ipv4_packets<'a>(
     a: &Ipv4Slice<'a>,
     b: &Ipv4Slice<'_>,
@@ -277,7 +277,7 @@ pub fn ipv4_packets<'a>(
     Ok((a == b, a.clone()?))
 }
 
-/// The same of IPv6 packets.
+/// Returns whether two IPv6 packets are equal, and a copy of the first.
 pub fn ipv6_packets<'a>(
     a: &Ipv6Slice<'a>,
     b: &Ipv6Slice<'_>,
@@ -288,7 +288,7 @@ pub fn ipv6_packets<'a>(
     Ok((a == b, a.clone()?))
 }
 
-/// The same of packets of either version.
+/// Returns whether two packets of either IP version are equal, and a copy of the first.
 pub fn ip_packets<'a>(a: &IpSlice<'a>, b: &IpSlice<'_>) -> Result<(bool, IpSlice<'a>), AllocError>
     ensures same { IfOk result (λ r. IsTrue r.0 ↔ AreSame a.now b.now) }
     ensures copy { IfOk result (λ r. ip_parts r.1 ≡ ip_parts a.now) }
@@ -296,7 +296,7 @@ pub fn ip_packets<'a>(a: &IpSlice<'a>, b: &IpSlice<'_>) -> Result<(bool, IpSlice
     Ok((a == b, a.clone()?))
 }
 
-/// The bytes of base headers live as long as the caller's bytes, and not only as long as the header.
+/// Checks that the bytes of base headers live as long as the caller's bytes, and not only as long as the header.
 pub fn bytes_behind_base_headers<'a>(
     ipv4: Ipv4HeaderSlice<'a>,
     ipv6: Ipv6HeaderSlice<'a>,
@@ -307,21 +307,22 @@ pub fn bytes_behind_base_headers<'a>(
     (ipv4.slice(), ipv6.slice())
 }
 
-/// So do the bytes of a payload.
+/// Checks that the bytes of a payload live as long as the caller's bytes.
 pub fn payload_behind_the_packet<'a>(packet: IpSlice<'a>) -> &'a [u8]
     ensures { result.now ≡ (ip_parts packet.entry).payload }
 {
     packet.payload().payload
 }
 
-/// The same of IPv4.
+/// Checks that the bytes of an IPv4 packet's payload live as long as the caller's bytes.
 pub fn payload_behind_the_ipv4_packet<'a>(packet: Ipv4Slice<'a>) -> &'a [u8]
     ensures { result.now ≡ (ipv4_parts packet.entry).payload }
 {
     packet.payload().payload
 }
 
-/// So do the base header, the extension headers and the payload of an IPv6 packet.
+/// Checks that the base header, the extension headers and the payload of an IPv6 packet live as long as the caller's
+/// bytes.
 pub fn parts_behind_the_ipv6_packet<'a>(packet: Ipv6Slice<'a>) -> [&'a [u8]; 3] {
     [
         packet.header().slice(),

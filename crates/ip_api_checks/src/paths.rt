@@ -1,8 +1,8 @@
-//! Each item of the original's layer of extension headers is reached in `etherparse_ip` by the path that it has there,
-//! and so are ours. A path that is gone is an error here.
+//! The paths of `etherparse_ip`. Each item of the original's layer of extension headers has the path that it has
+//! there, and so do this library's own items. A path that is missing is an error here.
 use std::alloc::AllocError;
 
-/// Numbers, sources of lengths, and the payload.
+/// Numbers, length sources, and the payload.
 pub fn base(
     _number: etherparse_ip::IpNumber,
     _offset: etherparse_ip::IpFragOffset,
@@ -41,7 +41,7 @@ pub fn numbers() -> [etherparse_ip::IpNumber; 18] {
     ]
 }
 
-/// Single headers, with the names that they had before.
+/// Single headers, with their former names.
 pub fn single_headers(
     _auth: &etherparse_ip::IpAuthHeader,
     _auth_of_old: &etherparse_ip::IpAuthenticationHeader,
@@ -51,7 +51,7 @@ pub fn single_headers(
     _fragment: &etherparse_ip::Ipv6FragmentHeader,
 ) {}
 
-/// Those that borrow.
+/// Borrowed single headers.
 pub fn header_slices(
     _auth: &etherparse_ip::IpAuthHeaderSlice<'_>,
     _auth_of_old: &etherparse_ip::IpAuthenticationHeaderSlice<'_>,
@@ -60,7 +60,7 @@ pub fn header_slices(
     _fragment: &etherparse_ip::Ipv6FragmentHeaderSlice<'_>,
 ) {}
 
-/// Chains with bytes of their own.
+/// Owned chains.
 pub fn chains(
     _ipv4: &etherparse_ip::Ipv4Extensions,
     _ipv6: &etherparse_ip::Ipv6Extensions,
@@ -68,7 +68,7 @@ pub fn chains(
     _runs: &etherparse_ip::Ipv6ExtensionsRuns<'_>,
 ) {}
 
-/// Chains that borrow.
+/// Borrowed chains.
 pub fn chain_slices(
     _ipv4: &etherparse_ip::Ipv4ExtensionsSlice<'_>,
     _ipv6: &etherparse_ip::Ipv6ExtensionsSlice<'_>,
@@ -77,7 +77,7 @@ pub fn chain_slices(
     _cursor: &etherparse_ip::Ipv6ExtensionsCursor<'_>,
 ) {}
 
-/// Packets, and the law about them.
+/// Packets, and their law.
 pub fn packets(
     _ipv4: &etherparse_ip::Ipv4Slice<'_>,
     _ipv6: &etherparse_ip::Ipv6Slice<'_>,
@@ -126,7 +126,7 @@ pub fn chain_errors(
     _ipv4_write: &etherparse_ip::err::ipv4_exts::HeaderWriteError,
 ) {}
 
-/// Errors of extension headers of either version.
+/// Errors of extension headers of either IP version.
 pub fn either_version_errors(
     _walk: &etherparse_ip::err::ip_exts::ExtsWalkError,
     _header: &etherparse_ip::err::ip_exts::HeaderError,
@@ -143,7 +143,7 @@ pub fn packet_errors(
     _ipv6: &etherparse_ip::err::ipv6::SliceError,
 ) {}
 
-/// What errors come of, also by the paths of the crates below.
+/// Causes of errors, also by the paths of the crates below.
 pub fn sources<'a>(
     of_header: ip_ext_headers::err::Source<'a>,
     of_chain: ip_ext_chains::err::ChainSource<'a>,

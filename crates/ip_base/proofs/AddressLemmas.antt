@@ -1,8 +1,8 @@
--- The octets of an address that is made of octets.
+-- The octets of an address built from octets.
 use Rattle.ip_spec.proofs.Common.{◌≡◌, ℕ, zero, suc, ◌%◌, ◌<◌, List, [], ◌∷◌, length, refl, ap, arith, octets_of, segments_of, div-mul-add, mod-mul-add}
 use Rattle.std.specs.Prelude.{slice_index}
 
--- an even number of bytes, taken in twos and apart again
+-- splitting an even number of bytes into 16-bit segments and joining them returns the bytes
 pub octets_of-segments_of : (xs : List ℕ) → length xs % 2 ≡ 0 → ((k : ℕ) → slice_index xs k < 256) → octets_of (segments_of xs) ≡ xs
 octets_of-segments_of [] even fits = refl
 octets_of-segments_of (a ∷ []) even fits = absurd (let one : suc zero % 2 ≡ 0 = even in omega arith)

@@ -1,4 +1,4 @@
--- Bytes that were taken, and requests that were refused behind them.
+-- Bytes that were consumed, and requests that were refused after them.
 use Rattle.ip_spec.proofs.Common.{common_steps, ◌≡◌, ℕ, ◌+◌, ◌<◌, ◌≤◌, List, ◌++◌, length, take, arith, Bool, rules, [], Option, IfSome, option_map, Consumes, IfSome_then, take-append-add, length-take}
 use Rattle.std.proofs.Common.{length-append}
 use Rattle.ip_base.specs.declared.err.layer.Layer.{Layer}
@@ -10,16 +10,16 @@ use Rattle.ip_base.specs.Reading.{IsRefused, IsRefusedBehind, IsTakenInLayer, Is
 use Rattle.ip_base.specs.declared.err.io.limited_read_error.LimitedReadError.{LimitedReadError}
 use Rattle.ip_base.specs.declared.io.limited_reader.LimitedReader.{LimitedReader}
 
--- what is taken of bytes is taken of their beginning, where it is long enough
+-- bytes consumed from a prefix are consumed from the whole, if the prefix is long enough
 pub taken_of_front : (a b : Option (List ℕ)) (n m : ℕ) (bytes : List ℕ) → Consumes a b bytes → length bytes + m ≡ n → Consumes (option_map (take n) a) (option_map (take m) b) bytes
 taken_of_front a b n m bytes c e = search (rules, take-append-add)
 
--- a refused request of a reader
+-- a reader's refused request
 pub refused_behind : (Asks : List ℕ → ℕ → Type 0) (steady then_steady : Bool) (first then : Option (List ℕ)) (failed : Bool) (done : List ℕ) (count : ℕ)
     → then_steady ≡ steady → Consumes first then done → Asks done count → IsRefusal then_steady then count failed → IsRefused Asks steady first failed
 refused_behind Asks steady then_steady first then failed done count e c a r = search rules
 
--- what holds of bytes behind some that were taken
+-- a property of the bytes that follow consumed ones
 pub lift_some : (a b : Option (List ℕ)) (done : List ℕ) (Q : List ℕ → Type 0) → Consumes a b done → IfSome b (λ y. Q (done ++ y)) → IfSome a Q
 lift_some a b done Q c f = search rules
 
@@ -29,7 +29,7 @@ of_all o R f = search rules
 pub of_begun : (a b : Option (List ℕ)) (done : List ℕ) (R : List ℕ → Type 0) → Consumes a b done → ((xs : List ℕ) → R (done ++ xs)) → IfSome a R
 of_begun a b done R c f = lift_some a b done R c (of_all b (λ y. R (done ++ y)) f)
 
--- What holds where too few bytes are behind those that came.
+-- A property that holds if too few bytes follow those consumed.
 module _ (Asks : List ℕ → ℕ → Type 0) (P : List ℕ → Type 0) (short : (done : List ℕ) (count : ℕ) (rest : List ℕ) → Asks done count → length rest < count → P (done ++ rest)) where
   short_of : (a b : Option (List ℕ)) (done : List ℕ) (count : ℕ) → Asks done count → Consumes a b done → IfSome b (λ ys. length ys < count) → IfSome a P
   short_of a b done count k c f = lift_some a b done P c (IfSome_then b f (λ ys. short done count ys k))
@@ -51,19 +51,19 @@ module _ (Asks : List ℕ → ℕ → Type 0) (P : List ℕ → Type 0) (short :
     pub refused_within_short : IsRefusedWithin bytes_left is_steady has_failed Asks layer old new → IfSteady (is_steady (inner_of old)) (window bytes_left old) P
     refused_within_short r = within_short _ _ _ r.done r.count (left (limits_of old)) r.refused r.within
 
--- Bytes taken in a layer.
+-- Bytes consumed in a layer.
 module _ {T : Type 0} (bytes_left : T → Option (List ℕ)) (layer : Layer) where
-  -- none where it begins
+  -- no byte consumed, at the layer's start
   pub taken_none : (old start : LimitedReader T) → inner_of start ≡ inner_of old → limits_of start ≡ started layer (limits_of old) → IsTakenInLayer bytes_left layer old start []
   taken_none old start same limits = search rules
 
-  -- and n more behind some
+  -- n more bytes consumed after h
   pub taken_more : (old mid new : LimitedReader T) (h p : List ℕ) (n : ℕ) → IsTakenInLayer bytes_left layer old mid h → length p ≡ n
       → Consumes (bytes_left (inner_of mid)) (bytes_left (inner_of new)) p → n ≤ left (limits_of mid) → limits_of new ≡ advanced n (limits_of mid)
       → IsTakenInLayer bytes_left layer old new (h ++ p)
   taken_more old mid new h p n t is c l e = grind (arith, common_steps, length-append, taken_of_front)
 
-  -- a request refused behind them
+  -- a request refused after consumed bytes
   module _ (is_steady has_failed : T → Bool) (Asks : List ℕ → ℕ → Type 0) where
     pub refused_in_layer : (old mid new : LimitedReader T) (done : List ℕ) (count : ℕ) (e : LimitedReadError) → IsTakenInLayer bytes_left layer old mid done
         → is_steady (inner_of mid) ≡ is_steady (inner_of old) → has_failed (inner_of mid) ≡ has_failed (inner_of old)

@@ -1,4 +1,4 @@
--- What an error of extension headers comes of.
+-- The cause of an extension header error.
 use Rattle.std.specs.declared.alloc.AllocError.{AllocError}
 use Rattle.std.specs.declared.io.Error.{Error}
 use Rattle.ip_base.specs.declared.err.len_error.LenError.{LenError}
@@ -10,7 +10,7 @@ use Rattle.ip_base.specs.declared.err.ipv6_exts.header_error.HeaderError.{Header
 use Rattle.ip_base.specs.declared.err.chain_source.ChainSource.{ChainSource}
 use Rattle.ip_base.specs.declared.err.chain_source.ChainSource.TheVariants as source
 
--- a failed reader, no memory, too few bytes, wrong headers, or headers that a walk doesn't reach
+-- a failed reader, an allocation failure, too few bytes, malformed headers, or headers that a walk doesn't reach
 pub data ChainCause : Type 0 where
   Io : (error : Error) → ChainCause
   Memory : (error : AllocError) → ChainCause
@@ -21,7 +21,7 @@ pub data ChainCause : Type 0 where
   Ipv4Walk : (error : Ipv4WalkError) → ChainCause
   Ipv6Walk : (error : Ipv6WalkError) → ChainCause
 
--- the cause that a source shows
+-- the cause that a source reports
 abbrev pub chain_cause_in : ChainSource → ChainCause
 chain_cause_in (source.Io e) = Io e.now
 chain_cause_in (source.Memory e) = Memory e.now

@@ -1,13 +1,13 @@
--- What an error of a length says.
+-- The values of a length error.
 use Rattle.std.specs.Prelude.{ℕ, ◌+◌}
 use Rattle.ip_base.specs.declared.err.len_error.LenError.{LenError}
 use Rattle.ip_base.specs.declared.err.layer.Layer.{Layer}
 use Rattle.ip_base.specs.declared.len_source.LenSource.{LenSource}
 
--- n bytes are there, as the source tells; at offset k the layer needs more
+-- the source says that n bytes are present; the layer at offset k needs more
 abbrev pub too_short : LenSource → ℕ → ℕ → Layer → ℕ → LenError
 too_short source n k layer required = record { required_len = required; len = n; len_source = source; layer = layer; layer_start_offset = k }
 
--- the same error, counted from k bytes further to the front and with this source
+-- the length error with its offset increased by k and with this source
 abbrev pub moved : LenSource → ℕ → LenError → LenError
 moved source k e = record e { len_source = source; layer_start_offset = e.layer_start_offset + k }

@@ -1,4 +1,4 @@
--- What a limited reader shows, and what it refuses.
+-- The state of a limited reader, and its refusals.
 use Rattle.std.specs.Prelude.{ℕ, ◌≡◌, ◌<◌, ◌≤◌, Bool, List, take, Option}
 use Rattle.std.specs.Option.{option_map}
 use Rattle.ip_base.specs.ExactRead.{IsRefusal}
@@ -8,7 +8,7 @@ use Rattle.ip_base.specs.declared.err.io.limited_read_error.LimitedReadError.The
 use Rattle.ip_base.specs.declared.io.limited_reader.LimitedReader.{LimitedReader}
 
 module _ {T : Type 0} where
-  -- the reader below
+  -- the inner reader
   abbrev pub inner_of : LimitedReader T → T
   inner_of r = r.reader
 
@@ -23,12 +23,12 @@ module _ {T : Type 0} where
   }
 
   module _ (bytes_left : T → Option (List ℕ)) where
-    -- the bytes that may still be read: as many of those that are left as the limit leaves
+    -- the bytes that may still be read: the inner reader's, up to the limit
     abbrev pub window : LimitedReader T → Option (List ℕ)
     window r = option_map (take (left (limits_of r))) (bytes_left (inner_of r))
 
     module _ (is_steady has_failed : T → Bool) where
-      -- count bytes were refused: by the limit, and nothing moved, or within it by the reader below
+      -- a read of count bytes was refused: by the limit, and nothing changed, or within it by the inner reader
       abbrev pub IsLimitedRefusal : LimitedReader T → LimitedReader T → ℕ → LimitedReadError → Type 0
       IsLimitedRefusal old new count (Len e) = (left (limits_of old) < count) × (e ≡ limit_error count (limits_of old)) × (new ≡ old)
       IsLimitedRefusal old new count (Io e) =

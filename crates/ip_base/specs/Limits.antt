@@ -1,12 +1,12 @@
--- The limit of a reader, as it is counted from where a layer begins.
+-- The limit of a reader, counted from the start of a layer.
 use Rattle.std.specs.Prelude.{ℕ, ◌+◌, ◌-◌}
 use Rattle.ip_base.specs.LenError.{too_short}
 use Rattle.ip_base.specs.declared.err.layer.Layer.{Layer}
 use Rattle.ip_base.specs.declared.err.len_error.LenError.{LenError}
 use Rattle.ip_base.specs.declared.len_source.LenSource.{LenSource}
 
--- From layer_offset on, where the layer begins, at most max_len bytes may be read, as len_source tells; read_len
--- of them were.
+-- The layer starts at layer_offset. At most max_len bytes may be read from there, a length given by len_source;
+-- read_len of them have been read.
 pub record Limits : Type 0 where
   pub max_len : ℕ
   pub len_source : LenSource
@@ -18,7 +18,7 @@ pub record Limits : Type 0 where
 abbrev pub left : Limits → ℕ
 left l = l.max_len - l.read_len
 
--- a layer begins behind what was read
+-- the limit after a layer is started at the current position
 abbrev pub started : Layer → Limits → Limits
 started layer l = record {
   max_len = left l;
@@ -28,10 +28,10 @@ started layer l = record {
   read_len = 0;
 }
 
--- n bytes more were read
+-- the limit after n more bytes were read
 abbrev pub advanced : ℕ → Limits → Limits
 advanced n l = record l { read_len = l.read_len + n }
 
--- the error for a request of count bytes that the limit doesn't leave
+-- the error of a request for count bytes that exceeds the limit
 abbrev pub limit_error : ℕ → Limits → LenError
 limit_error count l = too_short l.len_source l.max_len l.layer_offset l.layer (l.read_len + count)

@@ -1,4 +1,4 @@
--- The names of layers and of length sources, as their variants are called.
+-- The names of layers and of length sources: the names of their variants.
 use Rattle.std.specs.Prelude.{ℕ, List, codes}
 use Rattle.ip_base.specs.declared.err.layer.Layer.{Layer}
 use Rattle.ip_base.specs.declared.err.layer.Layer.TheVariants.{IpHeader, Ipv4Header, Ipv4Packet, IpAuthHeader, Ipv6Header, Ipv6Packet, Ipv6ExtHeader, Ipv6HopByHopHeader, Ipv6DestOptionsHeader, Ipv6RouteHeader, Ipv6FragHeader, Icmpv4}

@@ -1,9 +1,9 @@
--- What a reader over one of std shows.
+-- The state of a reader over a standard one.
 use Rattle.std.specs.Prelude.{Bool}
 use Rattle.ip_base.specs.declared.io.over_read.OverRead.{OverRead}
 
 module _ {R : Type 0} where
-  -- the reader below
+  -- the inner reader
   abbrev pub reader_of : OverRead R → R
   reader_of o = o.reader
 

@@ -1,6 +1,6 @@
--- Reading a header by requests: each asks for as many bytes as follow from those that came, and what was asked
--- for is taken whole or refused. `Asks done count` tells that behind the bytes `done` count more are asked for.
--- A limited read is a read of the window: it says the same, and what became of the limit.
+-- Reading a header by requests. Each request asks for the bytes that follow those already consumed, and is consumed
+-- whole or refused. `Asks done count` says that after the bytes `done` the next request is for count bytes. A limited
+-- read is a read of the window: it has the same result, and it changes the limit.
 use Rattle.std.specs.Prelude.{ℕ, ◌≡◌, ◌+◌, ◌<◌, ◌≤◌, Bool, List, ◌++◌, length, Option}
 use Rattle.std.specs.Io.KnownBytes.{Consumes}
 use Rattle.ip_base.specs.declared.err.layer.Layer.{Layer}
@@ -12,28 +12,28 @@ use Rattle.ip_base.specs.declared.err.io.limited_read_error.LimitedReadError.{Li
 use Rattle.ip_base.specs.declared.err.io.limited_read_error.LimitedReadError.TheVariants.{Io, Len}
 use Rattle.ip_base.specs.declared.io.limited_reader.LimitedReader.{LimitedReader}
 
--- Bytes were taken that are a header whose fields are v. `Taken` tells which bytes were taken.
+-- The bytes consumed are a header whose fields are v. `Taken` says which bytes were consumed.
 pub record IsHeaderTaken {V : Type 0} (IsOne : List ℕ → Type 0) (fields_of : List ℕ → V) (Taken : List ℕ → Type 0) (v : V) : Type 0 where
   pub bytes : List ℕ
   pub header : IsOne bytes
   pub fields : fields_of bytes ≡ v
   pub taken : Taken bytes
 
--- The request for count bytes behind `done` was refused by the reader. Before it `done` was taken, of what the
--- reader had left at first; `failed` tells whether it has failed in the end.
+-- The reader refused the request for count bytes after `done`. `first` is what the reader had left at the start, and
+-- `done` was consumed from it; `failed` says whether the reader has failed at the end.
 pub record IsRefusedBehind (Asks : List ℕ → ℕ → Type 0) (steady : Bool) (first : Option (List ℕ)) (failed : Bool) (done : List ℕ) (count : ℕ) : Type 0 where
   pub asked : Asks done count
   pub left : Option (List ℕ)
   pub taken : Consumes first left done
   pub refusal : IsRefusal steady left count failed
 
--- one of the requests was
+-- some request was refused
 abbrev pub IsRefused : (List ℕ → ℕ → Type 0) → Bool → Option (List ℕ) → Bool → Type 0
 IsRefused Asks steady first failed = (done : List ℕ) × (count : ℕ) × IsRefusedBehind Asks steady first failed done count
 
 module _ {T : Type 0} (bytes_left : T → Option (List ℕ)) where
-  -- In a layer begun behind what `old` had read, these bytes were taken: within the limit, of what the reader has
-  -- left, and so of the window.
+  -- These bytes were consumed in a layer that starts where `old` had got to: within the limit, from the reader's
+  -- remaining bytes, and so from the window.
   pub record IsTakenInLayer (layer : Layer) (old new : LimitedReader T) (bytes : List ℕ) : Type 0 where
     pub within : length bytes ≤ left (limits_of old)
     pub limits : limits_of new ≡ advanced (length bytes) (started layer (limits_of old))
@@ -41,8 +41,8 @@ module _ {T : Type 0} (bytes_left : T → Option (List ℕ)) where
     pub window : Consumes (window bytes_left old) (window bytes_left new) bytes
 
   module _ (is_steady has_failed : T → Bool) (Asks : List ℕ → ℕ → Type 0) (layer : Layer) (old new : LimitedReader T) where
-    -- The request for count bytes behind `done` is the first that the limit doesn't leave: `done` was taken, and
-    -- the error tells how many bytes the layer needs with them.
+    -- The request for count bytes after `done` is the first that exceeds the limit: `done` was consumed, and the
+    -- error reports how many bytes the layer needs in all.
     pub record IsPastLimit (e : LenError) : Type 0 where
       pub done : List ℕ
       pub count : ℕ
@@ -52,7 +52,7 @@ module _ {T : Type 0} (bytes_left : T → Option (List ℕ)) where
       pub error : e ≡ limit_error count (limits_of new)
       pub kept : has_failed (inner_of new) ≡ has_failed (inner_of old)
 
-    -- The request for count bytes behind `done` is within the limit, and the reader refused it.
+    -- The request for count bytes after `done` is within the limit, and the reader refused it.
     pub record IsRefusedWithin : Type 0 where
       pub done : List ℕ
       pub count : ℕ
@@ -60,12 +60,12 @@ module _ {T : Type 0} (bytes_left : T → Option (List ℕ)) where
       pub limits : limits_of new ≡ advanced (length done) (started layer (limits_of old))
       pub refused : IsRefusedBehind Asks (is_steady (inner_of old)) (bytes_left (inner_of old)) (has_failed (inner_of new)) done count
 
-    -- one of the two
+    -- a request exceeded the limit, or the reader refused it
     abbrev pub IsRefusedInLayer : LimitedReadError → Type 0
     IsRefusedInLayer (Len e) = IsPastLimit e
     IsRefusedInLayer (Io e) = IsRefusedWithin
 
--- Bytes were taken that are answered alike whatever is behind them: `Answers s rest` says so of bytes s, of which
+-- The bytes consumed have one result, whatever follows them: `Answers s rest` is the result for bytes s, of which
 -- `rest` is left.
 pub record IsAnswerTaken (Answers : List ℕ → List ℕ → Type 0) (Taken : List ℕ → Type 0) : Type 0 where
   pub bytes : List ℕ

@@ -4,8 +4,7 @@ ghost use Rattle.ip_spec.specs.Lengths.{MAX_FRAGMENT_OFFSET};
 use crate::err::ValueTooBigError;
 use std::marker::Model;
 
-/// A fragment offset: 13 bits, which count units of 8 bytes (RFC 8200, section 4.5). In a contract it is
-/// its number.
+/// A fragment offset: 13 bits, in units of 8 bytes (RFC 8200, section 4.5). In a contract it is its number.
 #[derive(Clone, Copy, Debug, PartialEq, Eq, Hash)]
 pub struct IpFragOffset(u16);
 
@@ -23,7 +22,7 @@ impl IpFragOffset {
     /// The largest offset.
     pub const MAX_U16: u16 = 0x1fff;
 
-    /// The offset of this value, or the error that it doesn't fit 13 bits.
+    /// Returns the offset with this value, or an error if the value exceeds 13 bits.
     pub fn try_new(value: u16) -> Result<IpFragOffset, ValueTooBigError>
         ensures fits { IsOk result ↔ (value ≤ MAX_FRAGMENT_OFFSET) }
         ensures value { IfOk result (λ offset. offset ≡ value) }
@@ -39,7 +38,7 @@ impl IpFragOffset {
         Ok(IpFragOffset(value))
     }
 
-    /// The number of units of 8 bytes.
+    /// Returns the offset, in units of 8 bytes.
     pub fn value(self) -> u16
         ensures value { result ≡ self }
         ensures fits { result ≤ MAX_FRAGMENT_OFFSET }

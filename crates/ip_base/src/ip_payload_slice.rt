@@ -1,14 +1,14 @@
 use crate::{IpNumber, LenSource};
 
-/// The payload of an IP packet, behind its extension headers, as a part of the caller's bytes.
+/// The payload of an IP packet, after its extension headers, borrowed from the caller's bytes.
 #[derive(Clone, Debug, PartialEq, Eq, Drop)]
 pub struct IpPayloadSlice<'a> {
-    /// What the payload is.
+    /// The payload's protocol number.
     pub ip_number: IpNumber,
-    /// Whether it is a fragment, and not the whole.
+    /// Whether the payload is a fragment.
     pub fragmented: bool,
-    /// What says where the payload ends.
+    /// The source of the payload's length.
     pub len_source: LenSource,
-    /// Its bytes.
+    /// The payload's bytes.
     pub payload: &'a [u8],
 }

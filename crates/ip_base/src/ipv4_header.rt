@@ -1,4 +1,4 @@
-/// The base header of an IPv4 packet (RFC 791, section 3.1). It only carries the header's length.
+/// The IPv4 base header (RFC 791, section 3.1). Holds only the header's length.
 pub struct Ipv4Header {}
 
 impl Ipv4Header {

@@ -11,8 +11,8 @@ use crate::err::{Layer, LenError};
 use crate::{IpNumber, Ipv4Header};
 use std::net::Ipv4Addr;
 
-/// The base header of an IPv4 packet with its options (RFC 791, section 3.1), as a part of the caller's
-/// bytes. Two are equal where their bytes are.
+/// The IPv4 base header with its options (RFC 791, section 3.1), borrowed from the caller's bytes. Two are equal if
+/// their bytes are.
 #[derive(Clone, Copy, Debug)]
 pub struct Ipv4HeaderSlice<'a> {
     slice: &'a [u8],
@@ -23,9 +23,9 @@ pub struct Ipv4HeaderSlice<'a> {
 impl<'a> Ipv4HeaderSlice<'a> {
     ghost use Rattle.ip_base.specs.Ipv4HeaderSlice.{bytes};
 
-    /// The header that begins the slice. The error tells, in this order, that there are fewer than 20 bytes,
-    /// that the version isn't 4, that the internet header length is below 5, or that there are fewer bytes
-    /// than it states.
+    /// Parses the header at the start of `slice`. Returns an error, in this order, if there are fewer than 20 bytes,
+    /// if the version isn't 4, if the internet header length is below 5, or if there are fewer bytes than that
+    /// length.
     pub fn from_slice(slice: &'a [u8]) -> Result<Ipv4HeaderSlice<'a>, HeaderSliceError>
         ensures prefix { IfOk result (λ h. IsPrefix (bytes h) slice.now) }
         ensures header { IfOk result (λ h. IsIpv4Header (bytes h)) }
@@ -63,7 +63,7 @@ impl<'a> Ipv4HeaderSlice<'a> {
         })
     }
 
-    /// The header's bytes with its options, 20 to 60.
+    /// Returns the header's bytes with its options, 20 to 60.
     pub fn slice(&self) -> &'a [u8]
         ensures bytes { result.now ≡ bytes self.now }
         ensures header { IsIpv4Header result.now }
@@ -72,22 +72,21 @@ impl<'a> Ipv4HeaderSlice<'a> {
         self.slice
     }
 
-    /// How many bytes the packet has, its header included.
+    /// Returns the packet's length in bytes, header included.
     pub fn total_len(&self) -> u16
         ensures { result ≡ total_len (bytes self.now) }
     {
         u16::from_be_bytes([self.slice[2], self.slice[3]])
     }
 
-    /// The number of what follows the header.
+    /// Returns the protocol number of what follows the header.
     pub fn protocol(&self) -> IpNumber
         ensures { result.0 ≡ protocol (bytes self.now) }
     {
         IpNumber(self.slice[9])
     }
 
-    /// Whether the packet has a fragment of the payload and not the whole: more fragments follow, or the offset
-    /// isn't 0.
+    /// Returns whether the packet is a fragment: more fragments follow, or the fragment offset isn't 0.
     pub fn is_fragmenting_payload(&self) -> bool
         ensures { result ≡ is_ipv4_fragmenting (bytes self.now) }
     {
@@ -96,7 +95,7 @@ impl<'a> Ipv4HeaderSlice<'a> {
         more_fragments | (offset != 0)
     }
 
-    /// The address of the packet's sender.
+    /// Returns the source address.
     pub fn source_addr(&self) -> Ipv4Addr
         ensures { ipv4_octets result ≡ ipv4_source_octets (bytes self.now) }
     {
@@ -108,7 +107,7 @@ impl<'a> Ipv4HeaderSlice<'a> {
         )
     }
 
-    /// The address of the packet's receiver.
+    /// Returns the destination address.
     pub fn destination_addr(&self) -> Ipv4Addr
         ensures { ipv4_octets result ≡ ipv4_destination_octets (bytes self.now) }
     {

@@ -1,4 +1,4 @@
-/// The base header of an IPv6 packet (RFC 8200, section 3). It only carries the header's length.
+/// The IPv6 base header (RFC 8200, section 3). Holds only the header's length.
 pub struct Ipv6Header {}
 
 impl Ipv6Header {

@@ -12,8 +12,7 @@ use crate::err::{Layer, LenError};
 use crate::{IpNumber, Ipv6Header};
 use std::net::Ipv6Addr;
 
-/// The base header of an IPv6 packet (RFC 8200, section 3), as a part of the caller's bytes. Two are equal
-/// where their bytes are.
+/// The IPv6 base header (RFC 8200, section 3), borrowed from the caller's bytes. Two are equal if their bytes are.
 #[derive(Clone, Copy, Debug)]
 pub struct Ipv6HeaderSlice<'a> {
     slice: &'a [u8],
@@ -23,7 +22,7 @@ pub struct Ipv6HeaderSlice<'a> {
 impl<'a> Ipv6HeaderSlice<'a> {
     ghost use Rattle.ip_base.specs.Ipv6HeaderSlice.{bytes};
 
-    /// The header that begins the slice. The error tells that there are fewer than 40 bytes, else that the
+    /// Parses the header at the start of `slice`. Returns an error if there are fewer than 40 bytes, otherwise if the
     /// version isn't 6.
     pub fn from_slice(slice: &'a [u8]) -> Result<Ipv6HeaderSlice<'a>, HeaderSliceError>
         ensures prefix { IfOk result (λ h. IsPrefix (bytes h) slice.now) }
@@ -46,7 +45,7 @@ impl<'a> Ipv6HeaderSlice<'a> {
         Ok(Self::first(slice, Ipv6Header::LEN))
     }
 
-    /// The header that is the first `len` bytes.
+    /// Returns the first `len` bytes as a header.
     #[inline(always)]
     fn first(slice: &'a [u8], len: usize) -> Ipv6HeaderSlice<'a>
         requires len { len ≡ 40 }
@@ -60,7 +59,7 @@ impl<'a> Ipv6HeaderSlice<'a> {
         }
     }
 
-    /// The header's 40 bytes.
+    /// Returns the header's 40 bytes.
     pub fn slice(&self) -> &'a [u8]
         ensures bytes { result.now ≡ bytes self.now }
         ensures header { IsIpv6Header result.now }
@@ -68,29 +67,30 @@ impl<'a> Ipv6HeaderSlice<'a> {
         self.slice
     }
 
-    /// How many bytes follow the header in the packet; 0 also in a packet of more bytes than the field can
-    /// tell (RFC 2675).
+    /// Returns the number of bytes that follow the header in the packet; also 0 in a jumbogram, which is longer than
+    /// the field can express (RFC 2675).
     pub fn payload_length(&self) -> u16
         ensures { result ≡ payload_length (bytes self.now) }
     {
         u16::from_be_bytes([self.slice[4], self.slice[5]])
     }
 
-    /// The number of what follows the header.
+    /// Returns the next header field.
     pub fn next_header(&self) -> IpNumber
         ensures { result.0 ≡ ipv6_next_header (bytes self.now) }
     {
         IpNumber(self.slice[6])
     }
 
-    /// The address of the packet's sender.
+    /// Returns the source address.
     pub fn source_addr(&self) -> Ipv6Addr
         ensures { ipv6_octets result ≡ ipv6_source_octets (bytes self.now) }
     {
         address(&self.slice[8..24])
     }
 
-    /// The address of the packet's receiver, or of the next node of a routing header (RFC 8200, section 4.4).
+    /// Returns the destination address: the final receiver's, or that of the next node of a routing header (RFC 8200,
+    /// section 4.4).
     pub fn destination_addr(&self) -> Ipv6Addr
         ensures { ipv6_octets result ≡ ipv6_destination_octets (bytes self.now) }
     {
@@ -98,7 +98,7 @@ impl<'a> Ipv6HeaderSlice<'a> {
     }
 }
 
-/// The address of 16 octets.
+/// Returns the address of 16 octets.
 fn address(octets: &[u8]) -> Ipv6Addr
     requires { length octets.now ≡ 16 }
     ensures { ipv6_octets result ≡ octets.now }

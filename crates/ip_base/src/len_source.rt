@@ -1,9 +1,9 @@
 ghost use Rattle.std.specs.Prelude.{◌≡◌};
 
-/// What says how many bytes there are.
+/// The source of a length.
 #[derive(Clone, Copy, Debug, PartialEq, Eq, Hash)]
 pub enum LenSource {
-    /// The length of the slice that was handed in.
+    /// The length of the caller's slice.
     Slice,
     /// The total length field of an IPv4 header.
     Ipv4HeaderTotalLen,
@@ -14,7 +14,7 @@ pub enum LenSource {
 impl LenSource {
     ghost use Rattle.ip_base.specs.Names.{len_source_name};
 
-    /// The variant's name.
+    /// Returns the variant's name.
     pub fn name(&self) -> &'static str
         ensures { result.now ≡ len_source_name self.now }
     {

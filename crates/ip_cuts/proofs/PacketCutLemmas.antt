@@ -1,4 +1,4 @@
--- The cut of the one packet that begins bytes.
+-- The parts of the packet at the start of bytes.
 use Rattle.ip_spec.proofs.Common.{◌≡◌, ℕ, ◌+◌, ◌≤◌, List, ◌++◌, length, ap, ◌∙◌, arith, common_steps, bytes_of}
 use Rattle.std.proofs.Common.{◌==◌, if◌then◌else◌, length-append}
 use Rattle.ip_base.specs.Ipv4Header.{version}
@@ -13,7 +13,7 @@ use Rattle.ip_cuts.specs.PacketCut.{packet_cut, packet_cuts, parts_in, IsPacketC
 use Rattle.ip_cuts.specs.declared.header_cut.HeaderCut.{HeaderCut}
 use Rattle.ip_cuts.specs.declared.packet_cut.PacketCut.{PacketCut}
 
--- what is said of a version and parts, of those that the bytes have
+-- a function of a version and parts, applied to the ones that the bytes have
 said_in : {Y : Type 0} (f : ℕ → Parts → Y) (s : List ℕ) (v : ℕ) (p : Parts) → version s ≡ v → p ≡ (if v == 4 then ipv4_cut s else ipv6_cut s) → f v p ≡ f (version s) (parts_in s)
 said_in f s v p is_version are_parts = cc (is_version, are_parts)
 
@@ -31,11 +31,11 @@ pub cut_of_ipv6 : (s : List ℕ) (p : Parts) (old new : List HeaderCut) (cut : P
 cut_of_ipv6 s p old new cut is_packet fields cuts =
     record { fields = fields ∙ in_ipv6 packet_cut s p is_packet; cuts = cuts ∙ in_ipv6 (λ n q. filled (packet_cuts q) old) s p is_packet }
 
--- The front that a source says isn't longer than the bytes,
+-- the front by a source isn't longer than the bytes
 front_within : (by : LenSource) (n : ℕ) (s : List ℕ) → length (front by n s) ≤ length s
 front_within by n s = grind (arith, common_steps)
 
--- and the three parts are it.
+-- and the three parts, joined, are that front
 parts_within : (by : LenSource) (n : ℕ) (s b c y : List ℕ) → b ++ (c ++ y) ≡ front by n s → length b + length c + length y ≤ length s
 parts_within by n s b c y joined = omega (arith, front_within by n s, ap length joined, length-append b (c ++ y), length-append c y)
 

@@ -1,11 +1,11 @@
--- How far headers have a place each of their own.
+-- How many headers fit one struct with a place for each.
 use Rattle.ip_spec.proofs.Common.{◌≡◌, ℕ, ◌≤◌, List, [], ◌∷◌, ◌++◌, length, take, ap, sym, ◌∙◌, arith, ◌==◌, ◌↔◌, if◌then◌else◌, AllByRecursion, eq-eqb, map-append, append-nil, take_all, KeepsBeginning, IsExtensionNumber, how_often, in_place, before_routing, after_routing}
 use Rattle.ip_spec.proofs.FirstLemmas.{before-none}
 use Rattle.ip_spec.proofs.NumbersFitLemmas.{next_number_tells}
 use Rattle.ip_cuts.specs.InPlaces.{AreInPlaces, cut_numbers}
 use Rattle.ip_cuts.specs.declared.header_cut.HeaderCut.{HeaderCut}
 
--- where no routing header is, all destination options stand on one side
+-- without a routing header, all destination options have one place
 pub one_side : (ns : List ℕ) → how_often 43 ns ≡ 0 → how_often 60 ns ≡ in_place 60 ns
 one_side ns e =
     let all : before_routing ns ≡ ns = ap before_routing (sym (append-nil ns)) ∙ before-none (λ n. n == 43) ns [] e ∙ append-nil ns in
@@ -17,7 +17,7 @@ all_more P (n ∷ ns) m =
     let more = all_more P ns m in
     ((λ a. let b = more.0 a.1 in ((a.0, b.0), b.1)), λ a. (a.0.0, more.1 (a.0.1, a.1)))
 
--- one header more has a place where none stands in it
+-- one more header fits if its place is free
 pub next_has_place : (xs : List HeaderCut) (x : HeaderCut) → AreInPlaces xs → AreInPlaces (xs ++ x ∷ []) ↔ (IsExtensionNumber x.number × (in_place x.number (cut_numbers xs) ≡ 0))
 next_has_place xs x f =
     let more : cut_numbers (xs ++ x ∷ []) ≡ cut_numbers xs ++ x.number ∷ [] = map-append (λ h. h.number) xs (x ∷ []) in

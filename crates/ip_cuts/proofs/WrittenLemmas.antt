@@ -1,4 +1,4 @@
--- Headers that are written one behind the other.
+-- Headers that are written one after the other.
 use Rattle.ip_spec.proofs.Common.{◌≡◌, refl, ap, sym, ◌∙◌, ℕ, ◌+◌, ◌*◌, ◌≤◌, ◌<◌, ◌≢◌, List, [], ◌∷◌, ◌++◌, length, take, drop, slice_index_or, slice_set, true, arith, rules, append_assoc, subst, drop_more, drop-drop, length-take-le, length-drop, length-set, get_or-set_other, get_or-set_same, AllByRecursion, take-put_mid, drop-put_mid, take-length, put_mid, HOP_BY_HOP, IsHeader, raw, fragment, auth, next_header, IsEnd, IsChain, AreLinked, cleared_header}
 use Rattle.std.proofs.Common.{length-append}
 use Rattle.std.specs.Prelude.{slice_index}
@@ -7,12 +7,12 @@ use Rattle.ip_spec.proofs.ClearedLemmas.{cleared_same}
 use Rattle.ip_cuts.specs.Written.{bytes_at, LiesIn, AllLieIn, written_header, written_cuts, written_chain, begun_with, AreCutsLinked, AreChainCuts}
 use Rattle.ip_cuts.specs.declared.header_cut.HeaderCut.{HeaderCut}
 
--- where no header goes on, the bytes aren't one
+-- bytes at which a chain ends are not a header
 pub none_at_end : (n : ℕ) (b : List ℕ) → IsEnd true n b → IsHeader n b → ⊥
 none_at_end n b end header =
     end (record { number = n; bytes = b }) (record { number = refl; header = header; prefix = take-length b; zero_only_first = λ _. refl })
 
--- what is written of a header has its length
+-- a written header has the length of the original
 pub written_len : (s : List ℕ) (x : HeaderCut) → LiesIn s x → length (written_header x.number x.next_header (bytes_at s x)) ≡ x.len
 written_len s x lies =
     let there : x.len ≤ length (drop x.offset s) = let within : x.offset + x.len ≤ length s = lies.within in rw length-drop (omega arith) in
@@ -20,7 +20,7 @@ written_len s x lies =
     ∙ (cleared_same (bytes_at s x) x.number lies.header).len
     ∙ length-take-le x.len (drop x.offset s) there
 
--- a header more is put where those before it end
+-- one more header is stored where those before it end
 pub put_more : (at k j : ℕ) (out b ws : List ℕ) → length b ≡ k → j ≡ k → at + k ≤ length out → take (at + k) (put_mid at j out b) ++ begun_with ws (drop (at + k) (put_mid at j out b)) ≡ take at out ++ begun_with (b ++ ws) (drop at out)
 put_more at k j out b ws len same room =
     let front : take (at + k) (put_mid at j out b) ≡ take at out ++ b = take-put_mid at j out b (at + k) (ap (λ n. at + n) (sym len)) (omega arith) in
@@ -29,8 +29,8 @@ put_more at k j out b ws len same room =
     drop-drop (length ws) (at + k) out ∙ ap (λ n. drop n out) (omega (arith, length-append b ws, len)) ∙ sym (drop-drop (length (b ++ ws)) at out) in
     rw (front, behind, rest) (simp append_assoc)
 
--- What `put_headers` keeps: the headers from place i on lie in s, there is room for them from `at` on, and with what was
--- put before they are all.
+-- The invariant of `put_headers`: the headers from place i on lie in s, there is room for them from `at` on, and
+-- together with those already stored they are all.
 pub record Putting (s : List ℕ) (cuts : List HeaderCut) (old : List ℕ) (i at : ℕ) (out : List ℕ) : Type 0 where
   pub lie : AllLieIn s (drop i cuts)
   pub room : at + length (written_cuts s (drop i cuts)) ≤ length old
@@ -48,7 +48,7 @@ putting_more s cuts old i at j out b d putting same there j_len is =
     let put = put_more at x.len j out b ws len j_len (omega arith) ∙ ap (λ y. take at out ++ begun_with y (drop at out)) (sym all) ∙ putting.put in
     record { lie = lie.1; room = omega arith; put = put }
 
--- A header with another next header is one,
+-- A header with another next header is still a header,
 relinked_header : (n m : ℕ) (b : List ℕ) → IsHeader n b → IsHeader n (slice_set b 0 m)
 relinked_header n m b header =
     let len : length (slice_set b 0 m) ≡ length b = length-set b 0 m in
@@ -59,11 +59,11 @@ relinked_header n m b header =
       | auth k h ↦ auth k (record { not_zero = rw one h.not_zero; len = len ∙ h.len ∙ ap (λ i. 4 * (i + 2)) (sym one) })
     ]
 
--- and leads there.
+-- and leads to that next header.
 relinked_leads : (n m : ℕ) (b : List ℕ) → IsHeader n b → next_header (slice_set b 0 m) ≡ m
 relinked_leads n m b header = let least : 8 ≤ length b = header-least n b header in get_or-set_same b 0 m 0 (omega arith)
 
--- So what is written of headers that are linked is a chain.
+-- So headers that are linked are written as a chain.
 module _ (s : List ℕ) where
   written_headers : (xs : List HeaderCut) → AllLieIn s xs → AllByRecursion (λ h. IsHeader h.number h.bytes) (written_chain s xs)
   written_headers [] lie = lie

@@ -1,4 +1,4 @@
--- What the cut of a chain says, in the plain fields that a caller in C reads.
+-- A chain parsed, in plain fields for C callers.
 use Rattle.std.specs.Prelude.{ℕ, List, length, Bool, true, false}
 use Rattle.ip_spec.specs.Chain.{bytes_of, leads_to, has_fragmenting}
 use Rattle.ip_ext_slices.specs.Longest.{longest_chain}
@@ -12,7 +12,7 @@ abbrev pub flag : Bool → ℕ
 flag true = 1
 flag false = 0
 
--- of the longest chain from number n that begins bytes s
+-- the longest chain from number n at the start of bytes s
 abbrev pub chain_cut : ℕ → List ℕ → ChainCut
 chain_cut n s = record {
   headers = length (longest_chain n s);
@@ -22,7 +22,7 @@ chain_cut n s = record {
   fragmented = flag (has_fragmenting (longest_chain n s));
 }
 
--- of that of IPv4, of at most one authentication header
+-- the longest IPv4 chain, of at most one authentication header
 abbrev pub ipv4_chain_cut : ℕ → List ℕ → ChainCut
 ipv4_chain_cut n s = record {
   headers = length (longest_ipv4_chain n s);

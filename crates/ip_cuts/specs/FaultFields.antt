@@ -1,4 +1,4 @@
--- What is wrong, in the plain fields that a caller in C reads.
+-- An error in plain fields for C callers.
 use Rattle.std.specs.Prelude.{ℕ, Option, Some, None}
 use Rattle.ip_base.specs.declared.err.len_error.LenError.{LenError}
 use Rattle.ip_base.specs.declared.err.layer.Layer.{Layer}
@@ -26,8 +26,8 @@ use Rattle.etherparse_ip.specs.declared.err.ipv6.slice_error.SliceError.{SliceEr
 use Rattle.etherparse_ip.specs.declared.err.ipv6.slice_error.SliceError.TheVariants as ipv6
 use Rattle.ip_cuts.specs.declared.fault_fields.FaultFields.{FaultFields}
 
--- the kinds: none, too few bytes, hop by hop options that don't stand first, an authentication header that says it
--- is shorter than it can be, an IP version that is neither 4 nor 6, an internet header length below 5
+-- the kinds: none, too few bytes, hop-by-hop options that aren't first, an authentication header with a length of 0,
+-- an IP version that is neither 4 nor 6, an internet header length below 5
 abbrev pub NO_FAULT : ℕ
 NO_FAULT = 0
 
@@ -46,7 +46,7 @@ UNSUPPORTED_IP_VERSION = 4
 abbrev pub IPV4_HEADER_LENGTH : ℕ
 IPV4_HEADER_LENGTH = 5
 
--- the layers, where 0 is none
+-- the layers; 0 is none
 abbrev pub layer_code : Layer → ℕ
 layer_code IpHeader = 1
 layer_code Ipv4Header = 2
@@ -61,13 +61,13 @@ layer_code Ipv6RouteHeader = 10
 layer_code Ipv6FragHeader = 11
 layer_code Icmpv4 = 12
 
--- what says how many bytes there are, where 0 is nothing
+-- the sources of a length; 0 is none
 abbrev pub len_source_code : LenSource → ℕ
 len_source_code Slice = 1
 len_source_code Ipv4HeaderTotalLen = 2
 len_source_code Ipv6HeaderPayloadLen = 3
 
--- too few bytes, at the header of a layer
+-- too few bytes for a layer's header
 abbrev pub len_fields : ℕ → LenError → FaultFields
 len_fields header e = record {
   required_len = e.required_len;
@@ -80,7 +80,7 @@ len_fields header e = record {
   value = 0;
 }
 
--- a fault of a kind in what a header says, with the value that it says
+-- an error of this kind in a header, with the wrong value
 abbrev pub content_fields : ℕ → ℕ → ℕ → FaultFields
 content_fields header kind value = record {
   required_len = 0;
@@ -96,7 +96,7 @@ content_fields header kind value = record {
 abbrev pub no_fault : FaultFields
 no_fault = content_fields 0 NO_FAULT 0
 
--- what is wrong in an authentication header
+-- an error in an authentication header
 abbrev pub auth_error_fields : ℕ → AuthError → FaultFields
 auth_error_fields header ZeroPayloadLen = content_fields header ZERO_PAYLOAD_LEN 0
 
@@ -104,7 +104,7 @@ abbrev pub auth_fields : ℕ → AuthSliceError → FaultFields
 auth_fields header (auth.Len e) = len_fields header e
 auth_fields header (auth.Content e) = auth_error_fields header e
 
--- in an IPv6 chain
+-- an error in an IPv6 chain
 abbrev pub exts_error_fields : ℕ → ExtsError → FaultFields
 exts_error_fields header HopByHopNotAtStart = content_fields header HOP_BY_HOP_NOT_AT_START 0
 exts_error_fields header (IpAuth e) = auth_error_fields header e
@@ -113,7 +113,7 @@ abbrev pub exts_fields : ℕ → ExtsSliceError → FaultFields
 exts_fields header (exts.Len e) = len_fields header e
 exts_fields header (exts.Content e) = exts_error_fields header e
 
--- where an IPv6 chain ends, and where one of IPv4 does
+-- the error at the end of an IPv6 chain, and of an IPv4 one
 abbrev pub chain_fault_fields : Option Fault → FaultFields
 chain_fault_fields None = no_fault
 chain_fault_fields (Some (e, header)) = exts_fields (layer_code header) e
@@ -122,7 +122,7 @@ abbrev pub ipv4_chain_fault_fields : Option AuthSliceError → FaultFields
 ipv4_chain_fault_fields None = no_fault
 ipv4_chain_fault_fields (Some e) = auth_fields (layer_code IpAuthHeader) e
 
--- in a base header
+-- an error in a base header
 abbrev pub base_error_fields : HeaderError → FaultFields
 base_error_fields (UnsupportedIpVersion version) = content_fields 0 UNSUPPORTED_IP_VERSION version
 base_error_fields (Ipv4HeaderLengthSmallerThanHeader ihl) = content_fields 0 IPV4_HEADER_LENGTH ihl
@@ -132,7 +132,7 @@ headers_error_fields (Ip e) = base_error_fields e
 headers_error_fields (Ipv4Ext e) = auth_error_fields 0 e
 headers_error_fields (Ipv6Ext e) = exts_error_fields 0 e
 
--- in a packet
+-- an error in a packet
 abbrev pub packet_fault_fields : SliceError → FaultFields
 packet_fault_fields (ip.Len e) = len_fields 0 e
 packet_fault_fields (ip.IpHeaders e) = headers_error_fields e

@@ -7,7 +7,7 @@ use Rattle.ip_cuts.specs.ChainCut.{flag}
 use Rattle.ip_cuts.specs.declared.header_fields.FragmentFields.{FragmentFields}
 use Rattle.ip_cuts.specs.declared.header_fields.AuthFields.{AuthFields}
 
--- of the bytes b of a fragment header (RFC 8200, section 4.5)
+-- of a fragment header with bytes b (RFC 8200, section 4.5)
 abbrev pub fragment_numbers : List ℕ → FragmentFields
 fragment_numbers b = record {
   identification = (fragment_fields b).identification;
@@ -16,7 +16,7 @@ fragment_numbers b = record {
   next_header = next_header b;
 }
 
--- of an authentication header (RFC 4302, section 2)
+-- of an authentication header with bytes b (RFC 4302, section 2)
 abbrev pub auth_numbers : List ℕ → AuthFields
 auth_numbers b = record {
   len = length b;
@@ -25,14 +25,14 @@ auth_numbers b = record {
   next_header = next_header b;
 }
 
--- A fragment header with these fields begins s,
+-- Bytes s start with a fragment header with these fields.
 pub record BeginsWithFragmentHeader (s : List ℕ) (x : FragmentFields) : Type 0 where
   pub bytes : List ℕ
   pub header : IsFragmentHeader bytes
   pub prefix : IsPrefix bytes s
   pub fields : x ≡ fragment_numbers bytes
 
--- or an authentication header.
+-- Bytes s start with an authentication header with these fields.
 pub record BeginsWithAuthHeader (s : List ℕ) (x : AuthFields) : Type 0 where
   pub bytes : List ℕ
   pub header : IsAuthHeader bytes

@@ -1,8 +1,8 @@
--- Headers that are led one to the other, in the order of an array.
+-- Headers linked to one another in the order of an array.
 use Rattle.std.specs.Prelude.{ℕ, List, [], ◌∷◌}
 use Rattle.ip_cuts.specs.declared.header_cut.HeaderCut.{HeaderCut}
 
--- the number of the first, or m where there is none
+-- the number of the first, or m if there is none
 abbrev pub first_number : ℕ → List HeaderCut → ℕ
 first_number m [] = m
 first_number m (x ∷ xs) = x.number

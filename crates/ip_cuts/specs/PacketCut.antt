@@ -1,4 +1,4 @@
--- What the cut of a packet says, in the plain fields that a caller in C reads.
+-- A packet parsed, in plain fields for C callers.
 use Rattle.std.specs.Prelude.{◌≡◌, ◌==◌, ℕ, ◌+◌, List, length, Option, if◌then◌else◌}
 use Rattle.std.specs.Option.{option_map}
 use Rattle.ip_spec.specs.Chain.{bytes_of}
@@ -14,7 +14,7 @@ use Rattle.ip_cuts.specs.declared.packet_cut.PacketCut.{PacketCut}
 use Rattle.ip_cuts.specs.declared.payload_cut.PayloadCut.{PayloadCut}
 use Rattle.ip_cuts.specs.declared.fault_fields.FaultFields.{FaultFields}
 
--- of a packet of a version with these parts
+-- the packet of this version with these parts
 abbrev pub packet_cut : ℕ → Parts → PacketCut
 packet_cut version p = record {
   base_len = length p.base;
@@ -27,11 +27,11 @@ packet_cut version p = record {
   len_source = len_source_code p.source;
 }
 
--- of its extension headers
+-- the cuts of its extension headers
 abbrev pub packet_cuts : Parts → List HeaderCut
 packet_cuts p = cuts_from (length p.base) p.headers
 
--- of its payload, and where the headers before that begin
+-- its payload, and where the extension headers and the payload start
 abbrev pub payload_cut : ℕ → Parts → PayloadCut
 payload_cut version p = record {
   base_len = length p.base;
@@ -43,19 +43,20 @@ payload_cut version p = record {
   len_source = len_source_code p.source;
 }
 
--- why no packet begins s, where none does
+-- the error for bytes s that don't start with a packet
 abbrev pub packet_fault : List ℕ → Option FaultFields
 packet_fault s = option_map packet_fault_fields (ip_fault s)
 
--- the same where an IPv6 packet may be cut short
+-- the error if an IPv6 packet may be truncated
 abbrev pub lax_packet_fault : List ℕ → Option FaultFields
 lax_packet_fault s = if version s == 6 then option_map ipv6_fault_fields (ipv6_lax_fault s) else packet_fault s
 
--- the parts of the packet that begins s
+-- the parts of the packet at the start of s
 abbrev pub parts_in : List ℕ → Parts
 parts_in s = if version s == 4 then ipv4_cut s else ipv6_cut s
 
--- This is the cut of the packet that begins s, and those of its extension headers were put into the array.
+-- These are the fields of the packet at the start of s, and the cuts of its extension headers are stored in the
+-- array.
 pub record IsPacketCut (s : List ℕ) (old : List HeaderCut) (cut : PacketCut) (new : List HeaderCut) : Type 0 where
   pub fields : cut ≡ packet_cut (version s) (parts_in s)
   pub cuts : new ≡ filled (packet_cuts (parts_in s)) old

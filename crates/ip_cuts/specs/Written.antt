@@ -1,4 +1,4 @@
--- Headers that are written from where they lie.
+-- Headers written from their place in other bytes.
 use Rattle.std.specs.Prelude.{◌≡◌, ◌≢◌, ℕ, ◌+◌, ◌≤◌, List, [], ◌∷◌, ◌++◌, length, take, drop, map, slice_set, ⊤}
 use Rattle.std.specs.List.{flat_map, AllByRecursion}
 use Rattle.ip_spec.specs.Numbers.{HOP_BY_HOP}
@@ -7,41 +7,41 @@ use Rattle.ip_spec.specs.Chain.{ExtHeader}
 use Rattle.ip_spec.specs.Encoding.{cleared_header}
 use Rattle.ip_cuts.specs.declared.header_cut.HeaderCut.{HeaderCut}
 
--- the bytes of s that a cut names
+-- the bytes of s that a cut refers to
 abbrev pub bytes_at : List ℕ → HeaderCut → List ℕ
 bytes_at s x = take x.len (drop x.offset s)
 
--- They lie within s and are one header of the cut's number,
+-- They lie within s and are exactly one header of the cut's number.
 pub record LiesIn (s : List ℕ) (x : HeaderCut) : Type 0 where
   pub within : x.offset + x.len ≤ length s
   pub header : IsHeader x.number (bytes_at s x)
 
--- and so do those of each cut.
+-- This holds for each cut.
 abbrev pub AllLieIn : List ℕ → List HeaderCut → Type 0
 AllLieIn s xs = AllByRecursion (LiesIn s) xs
 
--- What is written of a header of number n with bytes b: its reserved bits are zero, and it leads to m.
+-- The written form of a header of number n with bytes b: its reserved bits are zero, and its next header is m.
 abbrev pub written_header : ℕ → ℕ → List ℕ → List ℕ
 written_header n m b = slice_set (cleared_header n b) 0 m
 
--- the same of the headers that cuts name, one behind the other
+-- the written form of the headers that cuts refer to, one after the other
 abbrev pub written_cuts : List ℕ → List HeaderCut → List ℕ
 written_cuts s xs = flat_map (λ x. written_header x.number x.next_header (bytes_at s x)) xs
 
--- the array ys with xs, which fits, at its front, and all behind as it was
+-- the array ys with xs, which fits, at its front, and the rest unchanged
 abbrev pub begun_with : List ℕ → List ℕ → List ℕ
 begun_with xs ys = xs ++ drop (length xs) ys
 
--- what is written, header by header
+-- the written headers
 abbrev pub written_chain : List ℕ → List HeaderCut → List ExtHeader
 written_chain s xs = map (λ x. record { number = x.number; bytes = written_header x.number x.next_header (bytes_at s x) }) xs
 
--- The first cut has number n, and each later one the next header of the one before it;
+-- The first cut has number n, and each later one the next header of the one before it.
 abbrev pub AreCutsLinked : ℕ → List HeaderCut → Type 0
 AreCutsLinked n [] = ⊤
 AreCutsLinked n (x ∷ xs) = (x.number ≡ n) × AreCutsLinked x.next_header xs
 
--- and hop by hop options are only first (RFC 8200, section 4.1).
+-- Hop-by-hop options are only first (RFC 8200, section 4.1).
 pub record AreChainCuts (n : ℕ) (xs : List HeaderCut) : Type 0 where
   pub links : AreCutsLinked n xs
   pub zero_only_first : AllByRecursion (λ x. x.number ≢ HOP_BY_HOP) (drop 1 xs)

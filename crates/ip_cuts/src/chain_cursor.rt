@@ -10,20 +10,21 @@ use crate::header_cut::HeaderCut;
 use etherparse_ip::IpNumber;
 use ip_ext_slices::{fault_at, header_at};
 
-/// How far a caller has come in a chain: how many bytes are behind, and the number of what begins there. A chain is
-/// gone through from offset 0 and the number of its first header. Any two numbers are a cursor, which tells of the
-/// bytes behind its offset; only at offset 0 are hop by hop options a header (RFC 8200, section 4.1).
+/// A position in a chain: its offset, and the number of what starts there. A walk starts at offset 0 with the number
+/// of the first header. Any two numbers are a valid cursor, which applies to the bytes from its offset on. Hop-by-hop
+/// options are a header only at offset 0 (RFC 8200, section 4.1).
 #[repr(C)]
 #[derive(Clone, Copy, Debug, PartialEq, Eq)]
 pub struct ChainCursor {
-    /// How many bytes are behind.
+    /// The position, in bytes from the start of the chain.
     pub offset: usize,
-    /// The number of what begins there.
+    /// The protocol number of what starts there.
     pub number: u8,
 }
 
 impl ChainCursor {
-    /// The header that goes on where the cursor stands, which then stands behind it; or none, and it stays.
+    /// Returns the header at the cursor and moves the cursor past it. Returns `None` if the chain ends there; then
+    /// the cursor is unchanged.
     #[inline(always)]
     pub fn next_header(&mut self, bytes: &[u8]) -> Option<HeaderCut>
         ensures header { IfSome result (λ cut. IsHeaderCut self.old self.new bytes.now cut) }
@@ -37,8 +38,8 @@ impl ChainCursor {
         Some(cut)
     }
 
-    /// What is wrong where the cursor stands. Nothing is where a header goes on, and where the number is no extension
-    /// number.
+    /// Returns the error at the cursor. There is none if a header follows, or if the number is not an extension
+    /// header's.
     pub fn fault(&self, bytes: &[u8]) -> FaultFields
         ensures { result ≡ chain_fault_fields (slice_fault self.now.offset (self.now.offset == 0) self.now.number (drop self.now.offset bytes.now)) }
     {
@@ -51,7 +52,7 @@ impl ChainCursor {
         FaultFields::of_chain(&fault)
     }
 
-    /// The bytes that aren't behind.
+    /// Returns the bytes from the cursor's offset on.
     #[inline(always)]
     fn left<'a>(&self, bytes: &'a [u8]) -> &'a [u8]
         ensures { result.now ≡ drop self.now.offset bytes.now }

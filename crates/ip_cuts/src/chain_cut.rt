@@ -8,24 +8,25 @@ use crate::fault_fields::FaultFields;
 use crate::header_cut::{HeaderCut, put_cuts, put_ipv4_cut};
 use etherparse_ip::{IpNumber, Ipv4ExtensionsSlice, Ipv6ExtensionsSlice};
 
-/// The longest chain of extension headers that begins some bytes, and what ends it.
+/// The longest chain of extension headers at the start of some bytes, and its end.
 #[repr(C)]
 #[derive(Clone, Copy, Debug, PartialEq, Eq)]
 pub struct ChainCut {
-    /// How many headers it has.
+    /// The number of headers.
     pub headers: usize,
-    /// How many bytes they have: what follows them begins there.
+    /// The headers' length in bytes: what follows them starts at this offset.
     pub len: usize,
-    /// What is wrong there, if anything.
+    /// The error at the end of the chain, if any.
     pub fault: FaultFields,
-    /// The number of what follows.
+    /// The protocol number of what follows.
     pub next_header: u32,
-    /// 1 where some fragment header of the chain fragments the payload, else 0.
+    /// 1 if some fragment header of the chain fragments the payload, otherwise 0.
     pub fragmented: u32,
 }
 
-/// Cuts the longest chain of IPv6 extension headers from the number that begins the bytes (RFC 8200, section 4). The
-/// first cuts are put into `cuts`, as many as fit, and what is behind them stays; `headers` counts all.
+/// Parses the longest chain of IPv6 extension headers at the start of `bytes`, from the number `first` (RFC 8200,
+/// section 4). Stores the `HeaderCut` of each header at the front of `cuts`, as many as fit; the other elements are
+/// unchanged. `headers` counts all headers.
 #[inline(always)]
 pub fn cut_chain(first: u8, bytes: &[u8], cuts: &mut [HeaderCut]) -> ChainCut
     ensures chain { result ≡ chain_cut first bytes.now }
@@ -49,8 +50,8 @@ pub fn cut_chain(first: u8, bytes: &[u8], cuts: &mut [HeaderCut]) -> ChainCut
     }
 }
 
-/// The same of IPv4, whose chain has at most one header, of authentication (RFC 4302, section 2). It says nothing of
-/// fragments: an IPv4 header does.
+/// Parses an IPv4 chain, of at most one authentication header (RFC 4302, section 2), as `cut_chain` does.
+/// `fragmented` is 0: fragmentation is a matter of the IPv4 header.
 #[inline(always)]
 pub fn cut_ipv4_chain(first: u8, bytes: &[u8], cuts: &mut [HeaderCut]) -> ChainCut
     ensures chain { result ≡ ipv4_chain_cut first bytes.now }

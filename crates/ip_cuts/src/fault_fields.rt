@@ -1,4 +1,4 @@
-//! Faults in plain fields, with codes that `specs/FaultFields.antt` lists.
+//! Errors in plain fields, with the codes listed in `specs/FaultFields.antt`.
 ghost use Rattle.std.specs.Prelude.{◌≡◌, IfSome, IfNone};
 ghost use Rattle.ip_base.specs.declared.err.layer.Layer.{Layer};
 ghost use Rattle.ip_base.specs.declared.len_source.LenSource.{LenSource};
@@ -11,7 +11,7 @@ ghost use Rattle.ip_cuts.specs.FaultFields.{ipv6_fault_fields};
 use etherparse_ip::LenSource;
 use etherparse_ip::err::{Layer, LenError, ip, ip_auth, ipv6, ipv6_exts};
 
-/// The kinds of faults.
+/// The kinds of errors.
 pub(crate) mod kind {
     pub const NONE: u8 = 0;
 
@@ -26,29 +26,29 @@ pub(crate) mod kind {
     pub const IPV4_HEADER_LENGTH: u8 = 5;
 }
 
-/// What is wrong. A field that the kind doesn't use is 0.
+/// An error. A field that its kind doesn't use is 0.
 #[repr(C)]
 #[derive(Clone, Copy, Debug, PartialEq, Eq)]
 pub struct FaultFields {
-    /// How many bytes are needed.
+    /// The number of bytes needed.
     pub required_len: usize,
-    /// How many bytes there are.
+    /// The number of bytes present.
     pub len: usize,
-    /// Where what needs them begins, in bytes from the start of what was handed in.
+    /// The offset of the layer that needs more, in bytes from the start of the caller's bytes.
     pub offset: usize,
-    /// The kind of fault; 0 is none.
+    /// The kind of error; 0 is none.
     pub kind: u8,
-    /// The header at which a chain's fault lies, as a layer; 0 in a packet.
+    /// The layer of the header that has a chain's error; 0 for an error of a packet.
     pub header: u8,
     /// The layer that needs more bytes.
     pub layer: u8,
-    /// What says `len`.
+    /// The source of `len`.
     pub len_source: u8,
-    /// The version or the internet header length that is wrong.
+    /// The wrong version or internet header length.
     pub value: u32,
 }
 
-/// The code of a layer.
+/// Returns the code of a layer.
 #[inline(always)]
 pub(crate) fn layer_code_of(layer: Layer) -> u8
     ensures { result ≡ layer_code layer }
@@ -69,7 +69,7 @@ pub(crate) fn layer_code_of(layer: Layer) -> u8
     }
 }
 
-/// The code of what says a length.
+/// Returns the code of a length source.
 #[inline(always)]
 pub(crate) fn len_source_code_of(source: LenSource) -> u8
     ensures { result ≡ len_source_code source }
@@ -82,7 +82,7 @@ pub(crate) fn len_source_code_of(source: LenSource) -> u8
 }
 
 impl FaultFields {
-    /// Puts the fault here, field by field.
+    /// Stores the error here, field by field.
     #[inline(always)]
     pub fn put(&mut self, fault: FaultFields)
         ensures { self.new ≡ fault }
@@ -97,7 +97,7 @@ impl FaultFields {
         self.value = fault.value;
     }
 
-    /// Nothing is wrong.
+    /// Returns the fields of no error.
     #[inline(always)]
     pub(crate) fn none() -> FaultFields
         ensures { result ≡ no_fault }
@@ -105,7 +105,7 @@ impl FaultFields {
         Self::of_content(0, kind::NONE, 0)
     }
 
-    /// There are too few bytes.
+    /// Returns the fields of a length error.
     #[inline(always)]
     pub(crate) fn of_len(header: u8, error: &LenError) -> FaultFields
         ensures { result ≡ len_fields header error.now }
@@ -122,7 +122,7 @@ impl FaultFields {
         }
     }
 
-    /// What a header says is wrong.
+    /// Returns the fields of an error in a header.
     #[inline(always)]
     fn of_content(header: u8, kind: u8, value: u8) -> FaultFields
         ensures { result ≡ content_fields header kind value }
@@ -139,7 +139,7 @@ impl FaultFields {
         }
     }
 
-    /// What an authentication header says is wrong.
+    /// Returns the fields of an error in an authentication header.
     #[inline(always)]
     fn of_auth_error(header: u8, error: &ip_auth::HeaderError) -> FaultFields
         ensures { result ≡ auth_error_fields header error.now }
@@ -151,7 +151,7 @@ impl FaultFields {
         }
     }
 
-    /// What an extension header of IPv6 says is wrong.
+    /// Returns the fields of an error in an IPv6 extension header.
     #[inline(always)]
     fn of_exts_error(header: u8, error: &ipv6_exts::HeaderError) -> FaultFields
         ensures { result ≡ exts_error_fields header error.now }
@@ -164,7 +164,7 @@ impl FaultFields {
         }
     }
 
-    /// What is wrong where an IPv6 chain ends.
+    /// Returns the fields of the error at the end of an IPv6 chain.
     #[inline(always)]
     pub(crate) fn of_chain(fault: &Option<(ipv6_exts::HeaderSliceError, Layer)>) -> FaultFields
         ensures { result ≡ chain_fault_fields fault.now }
@@ -180,7 +180,7 @@ impl FaultFields {
         }
     }
 
-    /// What is wrong where a chain of IPv4 ends.
+    /// Returns the fields of the error at the end of an IPv4 chain.
     #[inline(always)]
     pub(crate) fn of_ipv4_chain(fault: &Option<ip_auth::HeaderSliceError>) -> FaultFields
         ensures { result ≡ ipv4_chain_fault_fields fault.now }
@@ -193,7 +193,7 @@ impl FaultFields {
         }
     }
 
-    /// What a base header says is wrong.
+    /// Returns the fields of an error in a base header.
     #[inline(always)]
     fn of_base_error(error: &ip::HeaderError) -> FaultFields
         ensures { result ≡ base_error_fields error.now }
@@ -208,7 +208,7 @@ impl FaultFields {
         }
     }
 
-    /// Why no packet begins the bytes.
+    /// Returns the fields of a packet's error.
     #[inline(always)]
     pub(crate) fn of_packet(error: &ip::SliceError) -> FaultFields
         ensures { result ≡ packet_fault_fields error.now }
@@ -225,7 +225,7 @@ impl FaultFields {
         }
     }
 
-    /// Why no IPv6 packet does.
+    /// Returns the fields of an IPv6 packet's error.
     #[inline(always)]
     pub(crate) fn of_ipv6_packet(error: &ipv6::SliceError) -> FaultFields
         ensures { result ≡ ipv6_fault_fields error.now }
@@ -240,7 +240,7 @@ impl FaultFields {
     }
 }
 
-/// The layer of a code, where it is one.
+/// Returns the layer with this code, if there is one.
 pub(crate) fn layer_of(code: u8) -> Option<Layer>
     ensures some { IfSome result (λ layer. layer_code layer ≡ code) }
     ensures none { IfNone result ((layer : Layer) → layer_code layer ≡ code → ⊥) }
@@ -262,7 +262,7 @@ pub(crate) fn layer_of(code: u8) -> Option<Layer>
     }
 }
 
-/// What says a length, of a code.
+/// Returns the length source with this code, if there is one.
 pub(crate) fn len_source_of(code: u8) -> Option<LenSource>
     ensures some { IfSome result (λ source. len_source_code source ≡ code) }
     ensures none { IfNone result ((source : LenSource) → len_source_code source ≡ code → ⊥) }

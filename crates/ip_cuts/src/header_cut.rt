@@ -7,22 +7,22 @@ ghost use Rattle.ip_cuts.specs.HeaderCut.{header_cut, cuts_from, filled};
 
 use etherparse_ip::{Ipv4ExtensionsSlice, Ipv6ExtensionSlice, Ipv6ExtensionsSlice, ip_number};
 
-/// Where an extension header lies in the bytes that were handed in, and the numbers that it names.
+/// The span of an extension header in the caller's bytes, its number and its next header.
 #[repr(C)]
 #[derive(Clone, Copy, Debug, PartialEq, Eq)]
 pub struct HeaderCut {
-    /// Where it begins, in bytes from the start of what was handed in.
+    /// The header's offset, in bytes from the start of the caller's bytes.
     pub offset: usize,
-    /// How many bytes it has.
+    /// The header's length in bytes.
     pub len: usize,
-    /// Its own number.
+    /// The header's own number.
     pub number: u8,
-    /// The number of what follows it.
+    /// The next header field.
     pub next_header: u8,
 }
 
 impl HeaderCut {
-    /// That of the header, which begins at the offset.
+    /// Returns the cut of a header at this offset.
     #[inline(always)]
     pub(crate) fn of(header: &Ipv6ExtensionSlice<'_>, offset: usize) -> HeaderCut
         ensures { result ≡ header_cut offset (header_of header.now) }
@@ -35,7 +35,7 @@ impl HeaderCut {
         }
     }
 
-    /// Puts the cut here, field by field, so that the padding behind them isn't moved with them.
+    /// Stores the cut here, field by field, so that the padding after the fields isn't moved with them.
     #[inline(always)]
     pub(crate) fn put(&mut self, cut: HeaderCut)
         ensures { self.new ≡ cut }
@@ -47,8 +47,8 @@ impl HeaderCut {
     }
 }
 
-/// Puts the cuts of the headers at the front of `cuts`, as many as fit; the first header begins at the offset. The
-/// answer is how many headers there are.
+/// Stores the headers' cuts at the front of `cuts`, as many as fit; the first header is at the offset. Returns the
+/// number of headers.
 #[inline(always)]
 pub(crate) fn put_cuts(
     headers: &Ipv6ExtensionsSlice<'_>,
@@ -75,7 +75,8 @@ pub(crate) fn put_cuts(
     count
 }
 
-/// The same of an IPv4 packet's extension headers; with how many bytes they have.
+/// Stores the cut of an IPv4 packet's extension header, if there is one. Returns the number of headers and their
+/// length in bytes.
 #[inline(always)]
 pub(crate) fn put_ipv4_cut(
     headers: &Ipv4ExtensionsSlice<'_>,

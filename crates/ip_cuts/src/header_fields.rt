@@ -10,17 +10,17 @@ use etherparse_ip::{IpAuthHeaderSlice, Ipv6FragmentHeaderSlice};
 #[repr(C)]
 #[derive(Clone, Copy, Debug, PartialEq, Eq)]
 pub struct FragmentFields {
-    /// The number that the fragments of one packet share.
+    /// The identification, equal in all fragments of a packet.
     pub identification: u32,
-    /// Where the fragment lies in the payload, in units of 8 bytes.
+    /// The fragment offset, in units of 8 bytes.
     pub fragment_offset: u16,
-    /// 1 where more fragments of the payload follow, else 0.
+    /// 1 if more fragments follow, otherwise 0.
     pub more_fragments: u8,
-    /// The number of what follows the header.
+    /// The next header field.
     pub next_header: u8,
 }
 
-/// Those of the fragment header that begins the bytes; none where there are fewer than 8.
+/// Returns the fields of the fragment header at the start of `bytes`, or `None` if there are fewer than 8 bytes.
 #[inline(always)]
 pub fn fragment_fields(bytes: &[u8]) -> Option<FragmentFields>
     ensures some { IfSome result (BeginsWithFragmentHeader bytes.now) }
@@ -36,22 +36,22 @@ pub fn fragment_fields(bytes: &[u8]) -> Option<FragmentFields>
     })
 }
 
-/// The fields of an authentication header (RFC 4302, section 2). Its integrity check value, with padding, stands in
-/// the bytes from the twelfth on.
+/// The fields of an authentication header (RFC 4302, section 2). Its integrity check value, with padding, is the
+/// header's bytes from offset 12 on.
 #[repr(C)]
 #[derive(Clone, Copy, Debug, PartialEq, Eq)]
 pub struct AuthFields {
-    /// How many bytes the header has.
+    /// The header's length in bytes.
     pub len: usize,
-    /// The security parameters index, which tells the receiver its association with the sender.
+    /// The security parameters index, by which the receiver identifies the security association.
     pub spi: u32,
-    /// The sender's count of packets.
+    /// The sender's packet counter.
     pub sequence_number: u32,
-    /// The number of what follows the header.
+    /// The next header field.
     pub next_header: u8,
 }
 
-/// Those of the authentication header that begins the bytes; none where none does.
+/// Returns the fields of the authentication header at the start of `bytes`, or `None` if there is none.
 #[inline(always)]
 pub fn auth_fields(bytes: &[u8]) -> Option<AuthFields>
     ensures some { IfSome result (BeginsWithAuthHeader bytes.now) }

@@ -1,6 +1,6 @@
-//! Chains of extension headers (RFC 8200, section 4) and packets, cut into plain numbers: where each header lies,
-//! what follows, and what is wrong, in arrays and structs that the caller owns. Nothing is copied and nothing is
-//! allocated, and there is no value that C or WebAssembly couldn't hand in.
+//! Chains of extension headers (RFC 8200, section 4) and packets, parsed into plain numbers: each header's offset and
+//! length, what follows, and the error, in arrays and structs that the caller owns. Nothing is copied or allocated,
+//! and any value that C or WebAssembly can pass is valid.
 #![tactic(auto)]
 
 mod chain_cursor;

@@ -3,8 +3,8 @@ ghost use Rattle.ip_cuts.specs.LinkedCuts.{first_number, linked_cuts};
 
 use crate::header_cut::HeaderCut;
 
-/// Leads each header to the next in the array, and the last to `last`. The answer is the number of the first, or `last`
-/// where there is none. Only `next_header` of each changes.
+/// Links each header to the next in the array, and the last to `last`. Returns the number of the first, or `last` if
+/// there is none. Only the headers' `next_header` changes.
 pub fn link_headers(cuts: &mut [HeaderCut], last: u8) -> u8
     ensures links { cuts.new ≡ linked_cuts last cuts.old }
     ensures first { result ≡ first_number last cuts.old }

@@ -11,31 +11,32 @@ use crate::fault_fields::{FaultFields, len_source_code_of};
 use crate::header_cut::{HeaderCut, put_cuts, put_ipv4_cut};
 use etherparse_ip::{IpPayloadSlice, IpSlice, Ipv4Slice, Ipv6Slice};
 
-/// A packet: its base header, its extension headers and its payload, one behind the other.
+/// A packet: its base header, its extension headers and its payload, one after the other.
 #[repr(C)]
 #[derive(Clone, Copy, Debug, PartialEq, Eq)]
 pub struct PacketCut {
-    /// How many bytes the base header has: the extension headers begin there.
+    /// The base header's length in bytes: the extension headers start at this offset.
     pub base_len: usize,
-    /// How many extension headers there are.
+    /// The number of extension headers.
     pub headers: usize,
-    /// Where the payload begins, in bytes from the start of the packet.
+    /// The payload's offset, in bytes from the start of the packet.
     pub payload_offset: usize,
-    /// How many bytes the payload has.
+    /// The payload's length in bytes.
     pub payload_len: usize,
     /// The version, 4 or 6.
     pub version: u16,
-    /// The payload's number.
+    /// The payload's protocol number.
     pub payload_number: u16,
-    /// 1 where the payload is a fragment and not the whole, else 0.
+    /// 1 if the payload is a fragment, otherwise 0.
     pub fragmented: u16,
-    /// What says where the payload ends, as `FaultFields::len_source`.
+    /// The source of the payload's length, as in `FaultFields::len_source`.
     pub len_source: u16,
 }
 
-/// Cuts the packet that begins the bytes, as `IpSlice::from_slice` does. The first cuts of its extension headers are
-/// put into `cuts`, as many as fit, and what is behind them stays; `headers` counts all. Their offsets count from the
-/// start of the packet. Where there is no packet, the answer is why, and nothing is put into `cuts`.
+/// Parses the packet at the start of `bytes`, as `IpSlice::from_slice` does. Stores the `HeaderCut` of each extension
+/// header at the front of `cuts`, as many as fit; the other elements are unchanged. `headers` counts all headers, and
+/// their offsets count from the start of the packet. If there is no packet, returns the error and leaves `cuts`
+/// unchanged.
 #[inline(always)]
 pub fn cut_packet(bytes: &[u8], cuts: &mut [HeaderCut]) -> Result<PacketCut, FaultFields>
     ensures packet { IfOk result (λ cut. IsPacketCut bytes.now cuts.old cut cuts.new) }
@@ -50,9 +51,9 @@ pub fn cut_packet(bytes: &[u8], cuts: &mut [HeaderCut]) -> Result<PacketCut, Fau
     }
 }
 
-/// The same of a packet that may be cut short, as `Ipv6Slice::from_slice_lax` does: where there are fewer bytes than the
-/// payload length of an IPv6 packet states, all of them belong to it, and `len_source` says so. An IPv4 packet has to be
-/// whole.
+/// Parses the packet at the start of `bytes` as `cut_packet` does, but accepts a truncated IPv6 packet, as
+/// `Ipv6Slice::from_slice_lax` does: if there are fewer bytes than the payload length states, all of them belong to
+/// the packet, and `len_source` says so. An IPv4 packet must be complete.
 #[inline(always)]
 pub fn cut_packet_lax(bytes: &[u8], cuts: &mut [HeaderCut]) -> Result<PacketCut, FaultFields>
     ensures packet { IfOk result (λ cut. IsPacketCut bytes.now cuts.old cut cuts.new) }
@@ -70,7 +71,7 @@ pub fn cut_packet_lax(bytes: &[u8], cuts: &mut [HeaderCut]) -> Result<PacketCut,
 }
 
 impl PacketCut {
-    /// An IPv4 packet.
+    /// Returns the fields of an IPv4 packet.
     #[inline(always)]
     fn of_ipv4(packet: &Ipv4Slice<'_>, cuts: &mut [HeaderCut]) -> PacketCut
         ensures packet { result ≡ packet_cut 4 (ipv4_parts packet.now) }
@@ -81,7 +82,7 @@ impl PacketCut {
         Self::with_payload(4, base_len, headers, base_len + len, packet.payload())
     }
 
-    /// An IPv6 packet.
+    /// Returns the fields of an IPv6 packet.
     #[inline(always)]
     fn of_ipv6(packet: &Ipv6Slice<'_>, cuts: &mut [HeaderCut]) -> PacketCut
         ensures packet { result ≡ packet_cut 6 (ipv6_parts packet.now) }
@@ -93,7 +94,7 @@ impl PacketCut {
         Self::with_payload(6, base_len, headers, base_len + len, packet.payload())
     }
 
-    /// Puts the cut here, field by field.
+    /// Stores the fields here, one by one.
     #[inline(always)]
     pub fn put(&mut self, cut: PacketCut)
         ensures { self.new ≡ cut }
@@ -108,7 +109,7 @@ impl PacketCut {
         self.len_source = cut.len_source;
     }
 
-    /// A packet with this payload.
+    /// Returns the fields of a packet with this payload.
     #[inline(always)]
     fn with_payload(
         version: u16,

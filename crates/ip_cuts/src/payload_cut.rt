@@ -10,28 +10,28 @@ ghost use Rattle.ip_cuts.specs.FaultFields.{len_source_code};
 use crate::fault_fields::{FaultFields, len_source_code_of};
 use etherparse_ip::{IpPayloadSlice, IpSlice, Ipv4Slice, Ipv6Slice};
 
-/// The payload of a packet, and where the headers before it begin.
+/// The payload of a packet, and where the extension headers before it start.
 #[repr(C)]
 #[derive(Clone, Copy, Debug, PartialEq, Eq)]
 pub struct PayloadCut {
-    /// How many bytes the base header has: the extension headers begin there.
+    /// The base header's length in bytes: the extension headers start at this offset.
     pub base_len: usize,
-    /// Where the payload begins, in bytes from the start of the packet.
+    /// The payload's offset, in bytes from the start of the packet.
     pub offset: usize,
-    /// How many bytes it has.
+    /// The payload's length in bytes.
     pub len: usize,
     /// The version, 4 or 6.
     pub version: u16,
-    /// The payload's number.
+    /// The payload's protocol number.
     pub number: u16,
-    /// 1 where the payload is a fragment and not the whole, else 0.
+    /// 1 if the payload is a fragment, otherwise 0.
     pub fragmented: u16,
-    /// What says where the payload ends, as `FaultFields::len_source`.
+    /// The source of the payload's length, as in `FaultFields::len_source`.
     pub len_source: u16,
 }
 
-/// Finds the payload of the packet that begins the bytes, as `cut_packet` does, and goes over the extension headers once.
-/// Where there is no packet, the answer is why.
+/// Finds the payload of the packet at the start of `bytes`, as `cut_packet` does, with one pass over the extension
+/// headers. Returns the error if there is no packet.
 #[inline(always)]
 pub fn find_payload(bytes: &[u8]) -> Result<PayloadCut, FaultFields>
     ensures payload { IfOk result (λ cut. cut ≡ payload_cut (version bytes.now) (parts_in bytes.now)) }
@@ -45,7 +45,7 @@ pub fn find_payload(bytes: &[u8]) -> Result<PayloadCut, FaultFields>
     }
 }
 
-/// The same of a packet that may be cut short, as `cut_packet_lax` takes it.
+/// Finds the payload of a packet that may be truncated, as in `cut_packet_lax`.
 #[inline(always)]
 pub fn find_payload_lax(bytes: &[u8]) -> Result<PayloadCut, FaultFields>
     ensures payload { IfOk result (λ cut. cut ≡ payload_cut (version bytes.now) (parts_in bytes.now)) }
@@ -62,7 +62,7 @@ pub fn find_payload_lax(bytes: &[u8]) -> Result<PayloadCut, FaultFields>
 }
 
 impl PayloadCut {
-    /// That of an IPv4 packet.
+    /// Returns the payload of an IPv4 packet.
     #[inline(always)]
     fn of_ipv4(packet: &Ipv4Slice<'_>) -> PayloadCut
         ensures { result ≡ payload_cut 4 (ipv4_parts packet.now) }
@@ -75,7 +75,7 @@ impl PayloadCut {
         Self::new(4, base_len, base_len + len, packet.payload())
     }
 
-    /// That of an IPv6 packet.
+    /// Returns the payload of an IPv6 packet.
     #[inline(always)]
     fn of_ipv6(packet: &Ipv6Slice<'_>) -> PayloadCut
         ensures { result ≡ payload_cut 6 (ipv6_parts packet.now) }
@@ -85,7 +85,7 @@ impl PayloadCut {
         Self::new(6, base_len, base_len + len, packet.payload())
     }
 
-    /// Puts the cut here, field by field.
+    /// Stores the fields here, one by one.
     #[inline(always)]
     pub fn put(&mut self, cut: PayloadCut)
         ensures { self.new ≡ cut }
@@ -99,7 +99,7 @@ impl PayloadCut {
         self.len_source = cut.len_source;
     }
 
-    /// This payload, which begins at the offset.
+    /// Returns the fields of this payload, which starts at the offset.
     #[inline(always)]
     fn new(version: u16, base_len: usize, offset: usize, payload: &IpPayloadSlice<'_>) -> PayloadCut
         ensures { result ≡ record {

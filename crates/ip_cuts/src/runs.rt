@@ -7,9 +7,9 @@ ghost use Rattle.ip_cuts.specs.InPlaces.{AreInPlaces, cut_numbers};
 use crate::header_cut::HeaderCut;
 use etherparse_ip::{IpNumber, ip_number};
 
-/// How many of the headers, from the first on, one struct of six places takes: all, or those before the first whose
-/// place is filled or which is no extension header. Of a chain this is its first run; what is behind it begins the
-/// next, so each call tells one run more (RFC 8200, section 4.1).
+/// Returns how many of the headers, from the first on, fit one struct of six places: all, or those before the first
+/// whose place is occupied or that is not an extension header. In a chain they are its first run; the header after
+/// them starts the next, so each call returns the length of one more run (RFC 8200, section 4.1).
 pub fn run_len(headers: &[HeaderCut]) -> usize
     ensures within { result ≤ length headers.now }
     ensures run { KeepsBeginning AreInPlaces headers.now (take result headers.now) }
@@ -22,7 +22,7 @@ pub fn run_len(headers: &[HeaderCut]) -> usize
     headers.len()
 }
 
-/// Whether a header of the number has a place behind the others.
+/// Returns whether a header of this number has a free place after the others.
 fn has_place(others: &[HeaderCut], number: u8) -> bool
     ensures { IsTrue result
         ↔ (IsExtensionNumber number × (in_place number (cut_numbers others.now) ≡ 0)) }
@@ -37,14 +37,14 @@ fn has_place(others: &[HeaderCut], number: u8) -> bool
     }
 }
 
-/// How many of the headers have the number.
+/// Returns how many of the headers have this number.
 fn how_often(number: u8, headers: &[HeaderCut]) -> usize
     ensures { result ≡ how_often number (cut_numbers headers.now) }
 {
     headers.iter().filter(|it| it.number == number).count()
 }
 
-/// How many destination options stand behind the first routing header, or among all where there is none.
+/// Returns the number of destination options after the first routing header, or among all headers if there is none.
 fn how_often_on_last_side(headers: &[HeaderCut]) -> usize
     ensures { result ≡ in_place 60 (cut_numbers headers.now) }
 {

@@ -6,12 +6,12 @@ use etherparse_ip::LenSource;
 use etherparse_ip::err::{Layer, LenError, ip, ip_auth, ipv6_exts};
 use std::fmt::Write;
 
-/// How many bytes each text has at most.
+/// The maximum length of a text, in bytes.
 const TEXT_LEN: usize = 255;
 
-/// Puts what is wrong, in words, at the front of `text`, with a byte 0 behind it. The answer is how many bytes the words
-/// have, at most 255. Where these and the 0 don't fit, `text` stays as it is. Fields that no call of this crate answers
-/// have no words.
+/// Formats the error as text at the front of `text`, followed by a 0 byte. Returns the text's length in bytes, at
+/// most 255. If the text and the 0 don't fit, `text` is unchanged. Fields that no call of this crate returns have an
+/// empty text.
 pub fn fault_text(fault: &FaultFields, text: &mut [u8]) -> usize
     ensures most { result ≤ 255 }
     ensures end { result < length text.old → slice_index text.new result ≡ 0 }
@@ -31,7 +31,7 @@ pub fn fault_text(fault: &FaultFields, text: &mut [u8]) -> usize
     len
 }
 
-/// Appends what is wrong, in words.
+/// Appends the error's text.
 fn push_words(fault: &FaultFields, words: &mut ArrayString<TEXT_LEN>) -> std::fmt::Result {
     match fault.kind {
         kind::TOO_SHORT => push_len_words(fault, words),
@@ -65,7 +65,7 @@ fn push_words(fault: &FaultFields, words: &mut ArrayString<TEXT_LEN>) -> std::fm
     }
 }
 
-/// Appends that there are too few bytes.
+/// Appends the text of a length error.
 fn push_len_words(fault: &FaultFields, words: &mut ArrayString<TEXT_LEN>) -> std::fmt::Result {
     let (Some(layer), Some(len_source)) = (layer_of(fault.layer), len_source_of(fault.len_source))
     else {

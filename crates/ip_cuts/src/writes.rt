@@ -7,10 +7,11 @@ use crate::header_cut::HeaderCut;
 use etherparse_ip::{IpNumber, ip_number};
 use ip_ext_slices::header_at;
 
-/// Writes the headers that lie in the bytes where the cuts say, one behind the other in the order of the cuts, to the
-/// front of `out`: each with the next header of its cut, and with its reserved bits zero. The answer is how many bytes
-/// that takes. Where `out` is shorter, nothing is written. `None` where a cut has no header of its number: then nothing
-/// is written either. Where each cut has the number that the one before it leads to, what is written is a chain.
+/// Writes the headers that the cuts refer to in `bytes`, one after the other in the order of the cuts, to the front
+/// of `out`: each with the next header of its cut, and with its reserved bits zero. Returns their length in bytes. If
+/// `out` is shorter, nothing is written. Returns `None` if a cut doesn't refer to a header of its number; then
+/// nothing is written either. If each cut has the number that the one before it leads to, the headers written are a
+/// chain.
 pub fn write_headers(bytes: &[u8], cuts: &[HeaderCut], out: &mut [u8]) -> Option<usize>
     ensures lie { IfSome result (λ _. AllLieIn bytes.now cuts.now) }
     ensures len { IfSome result (λ len. len ≡ length (written_cuts bytes.now cuts.now)) }
@@ -30,7 +31,7 @@ pub fn write_headers(bytes: &[u8], cuts: &[HeaderCut], out: &mut [u8]) -> Option
     Some(len)
 }
 
-/// How many bytes the headers have, where each is one.
+/// Returns the headers' length in bytes, or `None` if one is not a header.
 fn written_len(bytes: &[u8], cuts: &[HeaderCut]) -> Option<usize>
     ensures lie { IfSome result (λ _. AllLieIn bytes.now cuts.now) }
     ensures len { IfSome result (λ len. len ≡ length (written_cuts bytes.now cuts.now)) }
@@ -47,7 +48,7 @@ fn written_len(bytes: &[u8], cuts: &[HeaderCut]) -> Option<usize>
     Some(len)
 }
 
-/// Whether the cut names a header of its number.
+/// Returns whether the cut refers to a header of its number.
 fn lies_in(bytes: &[u8], cut: &HeaderCut) -> bool
     ensures { IsTrue result ↔ LiesIn bytes.now cut.now }
 {
@@ -60,7 +61,7 @@ fn lies_in(bytes: &[u8], cut: &HeaderCut) -> bool
     is_header(IpNumber(cut.number), &bytes[cut.offset..end])
 }
 
-/// Whether the bytes are one header of the number.
+/// Returns whether the bytes are exactly one header of the number.
 fn is_header(number: IpNumber, bytes: &[u8]) -> bool
     ensures { IsTrue result ↔ IsHeader number.0 bytes.now }
 {
@@ -70,7 +71,7 @@ fn is_header(number: IpNumber, bytes: &[u8]) -> bool
     }
 }
 
-/// Puts the headers, which are there, at the front of `out`.
+/// Writes the headers, all of which lie in `bytes`, to the front of `out`.
 fn put_headers(bytes: &[u8], cuts: &[HeaderCut], out: &mut [u8])
     requires lie { AllLieIn bytes.now cuts.now }
     requires room { length (written_cuts bytes.now cuts.now) ≤ length out.old }
@@ -84,7 +85,7 @@ fn put_headers(bytes: &[u8], cuts: &[HeaderCut], out: &mut [u8])
     }
 }
 
-/// Puts the header in place of `out`, which has its length.
+/// Writes the header to `out`, which has its length.
 fn put_header(bytes: &[u8], cut: &HeaderCut, out: &mut [u8])
     requires lies { LiesIn bytes.now cut.now }
     requires room { length out.old ≡ cut.now.len }

@@ -1,15 +1,15 @@
-//! Digests: what was read, folded into one number. Equal digests of the same reading mean equal answers.
+//! Digests: the values read, folded into one number. Equal digests of the same kind mean equal results.
 use ip_ext_chains::err::ipv6_exts::{HeaderError, HeaderSliceError};
 use ip_ext_chains::err::{Layer, LenError, ip_auth};
 use ip_ext_chains::{IpNumber, Ipv6ExtensionSlice, Ipv6ExtensionsSlice, LenSource};
 use ip_ext_headers::{IpAuthHeaderSlice, Ipv6FragmentHeaderSlice, Ipv6RawExtHeaderSlice};
 
-/// The digest `sum` with one part more.
+/// Returns the digest `sum` extended by one part.
 pub fn with(sum: u64, part: u64) -> u64 {
     sum.wrapping_mul(9).wrapping_add(part)
 }
 
-/// Bytes: their length and its first byte.
+/// Returns the digest of bytes: their length and first byte.
 pub fn of_bytes(bytes: &[u8]) -> u64 {
     let first = match bytes.first() {
         Some(byte) => u64::from(*byte),
@@ -18,7 +18,7 @@ pub fn of_bytes(bytes: &[u8]) -> u64 {
     with(bytes.len() as u64, first)
 }
 
-/// Every part of a lax parse's answer.
+/// Returns the digest of every part of a lax parse's result.
 #[inline(never)]
 pub fn of_lax(
     headers: &Ipv6ExtensionsSlice<'_>,
@@ -33,19 +33,19 @@ pub fn of_lax(
     }
 }
 
-/// Every part of a strict parse's answer where there is no fault.
+/// Returns the digest of every part of a strict parse's result without an error.
 #[inline(never)]
 pub fn of_strict(headers: &Ipv6ExtensionsSlice<'_>, number: IpNumber, rest: &[u8]) -> u64 {
     of_chain(headers, number, rest)
 }
 
-/// A strict parse's fault.
+/// Returns the digest of a strict parse's error.
 #[inline(never)]
 pub fn of_strict_fault(fault: &HeaderSliceError) -> u64 {
     of_fault(fault)
 }
 
-/// A chain, the number to which it leads and what follows it.
+/// Returns the digest of a chain, the number to which it leads and the bytes after it.
 fn of_chain(headers: &Ipv6ExtensionsSlice<'_>, number: IpNumber, rest: &[u8]) -> u64 {
     let first = match headers.first_header() {
         Some(first) => u64::from(first.0),
@@ -56,7 +56,7 @@ fn of_chain(headers: &Ipv6ExtensionsSlice<'_>, number: IpNumber, rest: &[u8]) ->
     with(with(chain, u64::from(number.0)), of_bytes(rest))
 }
 
-/// A fault of a chain.
+/// Returns the digest of a chain's error.
 pub fn of_fault(fault: &HeaderSliceError) -> u64 {
     match fault {
         HeaderSliceError::Len(fault) => of_len_error(fault),
@@ -64,7 +64,7 @@ pub fn of_fault(fault: &HeaderSliceError) -> u64 {
     }
 }
 
-/// A fault of the content of a chain.
+/// Returns the digest of a chain's content error.
 pub fn of_content(fault: &HeaderError) -> u64 {
     match fault {
         HeaderError::HopByHopNotAtStart => 1,
@@ -72,7 +72,7 @@ pub fn of_content(fault: &HeaderError) -> u64 {
     }
 }
 
-/// A fault of a single authentication header.
+/// Returns the digest of a single authentication header's error.
 pub fn of_auth_fault(fault: &ip_auth::HeaderSliceError) -> u64 {
     match fault {
         ip_auth::HeaderSliceError::Len(fault) => of_len_error(fault),
@@ -80,7 +80,7 @@ pub fn of_auth_fault(fault: &ip_auth::HeaderSliceError) -> u64 {
     }
 }
 
-/// An error of length.
+/// Returns the digest of a length error.
 pub fn of_len_error(fault: &LenError) -> u64 {
     let lens = with(fault.required_len as u64, fault.len as u64);
     let place = with(
@@ -93,7 +93,7 @@ pub fn of_len_error(fault: &LenError) -> u64 {
     )
 }
 
-/// A number for each layer.
+/// Returns a number for each layer.
 pub fn layer_code(layer: &Layer) -> u8 {
     match layer {
         Layer::Ipv4Header => 1,
@@ -110,7 +110,7 @@ pub fn layer_code(layer: &Layer) -> u8 {
     }
 }
 
-/// A number for each source of a length.
+/// Returns a number for each length source.
 pub fn len_source_code(source: &LenSource) -> u8 {
     match source {
         LenSource::Slice => 0,
@@ -119,7 +119,7 @@ pub fn len_source_code(source: &LenSource) -> u8 {
     }
 }
 
-/// The length of a header, counted by its kind.
+/// Returns the length of a header, counted by its kind.
 #[inline(always)]
 pub fn of_kind(header: &Ipv6ExtensionSlice<'_>) -> u64 {
     match header {
@@ -133,14 +133,15 @@ pub fn of_kind(header: &Ipv6ExtensionSlice<'_>) -> u64 {
     }
 }
 
-/// The headers' sum, the number behind them, how many bytes follow, and whether there is a fault.
+/// Returns the digest of the headers' sum, the number after them, the number of bytes that follow, and whether there
+/// is an error.
 #[inline(always)]
 pub fn of_end(sum: u64, number: IpNumber, rest: &[u8], is_fault: bool) -> u64 {
     let place = with(with(sum, u64::from(number.0)), rest.len() as u64);
     with(place, u64::from(is_fault))
 }
 
-/// Every part of a header that an iterator yields.
+/// Returns the digest of every part of a header that an iterator returns.
 #[inline(never)]
 pub fn of_header(header: &Ipv6ExtensionSlice<'_>) -> u64 {
     match header {
@@ -152,7 +153,7 @@ pub fn of_header(header: &Ipv6ExtensionSlice<'_>) -> u64 {
     }
 }
 
-/// Every part of a header of the common layout.
+/// Returns the digest of every part of a header in the uniform format (RFC 6564).
 pub fn of_raw(header: &Ipv6RawExtHeaderSlice<'_>) -> u64 {
     let bytes = of_bytes(header.slice());
     with(
@@ -161,7 +162,7 @@ pub fn of_raw(header: &Ipv6RawExtHeaderSlice<'_>) -> u64 {
     )
 }
 
-/// Every part of a fragment header.
+/// Returns the digest of every part of a fragment header.
 pub fn of_fragment(header: &Ipv6FragmentHeaderSlice<'_>) -> u64 {
     let offset = u64::from(header.fragment_offset().value());
     let flags = with(u64::from(header.more_fragments()), offset);
@@ -172,7 +173,7 @@ pub fn of_fragment(header: &Ipv6FragmentHeaderSlice<'_>) -> u64 {
     )
 }
 
-/// Every part of an authentication header.
+/// Returns the digest of every part of an authentication header.
 pub fn of_auth(header: &IpAuthHeaderSlice<'_>) -> u64 {
     let numbers = with(u64::from(header.spi()), u64::from(header.sequence_number()));
     let fields = with(numbers, of_bytes(header.raw_icv()));

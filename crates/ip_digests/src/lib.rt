@@ -1,5 +1,5 @@
-//! Digests of answers, for the static libraries that a program in C or Rust measures and compares: every part
-//! of an answer, folded into one number.
+//! Digests of results, for the static libraries that a program in C or Rust measures and compares: every part of a
+//! result, folded into one number.
 #![tactic(auto)]
 
 pub mod digest;

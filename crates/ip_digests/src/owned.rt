@@ -1,8 +1,8 @@
-//! Owned headers and written bytes. `at` chooses the bytes that are read, so that none can be left out.
+//! Owned headers and written bytes. `at` chooses the bytes that are read, so that the compiler can't omit any.
 use crate::digest::{of_bytes, with};
 use ip_ext_headers::{IpAuthHeader, Ipv6FragmentHeader, Ipv6RawExtHeader};
 
-/// The byte of some bytes at a place that is known only when it runs.
+/// Returns one of the bytes, at a place known only at run time.
 pub fn byte_at(bytes: &[u8], at: usize) -> u64 {
     match bytes.get(at) {
         Some(byte) => u64::from(*byte),
@@ -10,13 +10,13 @@ pub fn byte_at(bytes: &[u8], at: usize) -> u64 {
     }
 }
 
-/// Bytes that were written: how many, the first, and one that is chosen when it runs.
+/// Returns the digest of written bytes: their number, the first, and one chosen at run time.
 #[inline(never)]
 pub fn of_written(bytes: &[u8], at: usize) -> u64 {
     with(of_bytes(bytes), byte_at(bytes, at))
 }
 
-/// Every part of an owned header of the common layout.
+/// Returns the digest of every part of an owned header in the uniform format (RFC 6564).
 #[inline(never)]
 pub fn of_owned_raw(header: &Ipv6RawExtHeader, at: usize) -> u64 {
     let payload = header.payload();
@@ -24,7 +24,7 @@ pub fn of_owned_raw(header: &Ipv6RawExtHeader, at: usize) -> u64 {
     with(fields, byte_at(payload, at))
 }
 
-/// Every part of an owned authentication header.
+/// Returns the digest of every part of an owned authentication header.
 #[inline(never)]
 pub fn of_owned_auth(header: &IpAuthHeader, at: usize) -> u64 {
     let numbers = with(u64::from(header.spi), u64::from(header.sequence_number));
@@ -33,7 +33,7 @@ pub fn of_owned_auth(header: &IpAuthHeader, at: usize) -> u64 {
     with(with(fields, of_bytes(icv)), byte_at(icv, at))
 }
 
-/// Every part of an owned fragment header.
+/// Returns the digest of every part of an owned fragment header.
 #[inline(never)]
 pub fn of_owned_fragment(header: &Ipv6FragmentHeader) -> u64 {
     let offset = u64::from(header.fragment_offset.value());

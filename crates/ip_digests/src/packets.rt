@@ -1,9 +1,9 @@
-//! Faults of packets.
+//! Errors of packets.
 use crate::digest::{of_content, of_len_error, with};
 use etherparse_ip::err::ip::{HeaderError, HeadersError, SliceError};
 use etherparse_ip::err::{ip_auth, ipv4, ipv6};
 
-/// A fault of a packet.
+/// Returns the digest of a packet's error.
 #[inline(never)]
 pub fn of_ip_fault(fault: &SliceError) -> u64 {
     match fault {
@@ -20,7 +20,7 @@ pub fn of_ip_fault(fault: &SliceError) -> u64 {
     }
 }
 
-/// A fault of an IPv4 packet.
+/// Returns the digest of an IPv4 packet's error.
 #[inline(never)]
 pub fn of_ipv4_fault(fault: &ipv4::SliceError) -> u64 {
     match fault {
@@ -36,7 +36,7 @@ pub fn of_ipv4_fault(fault: &ipv4::SliceError) -> u64 {
     }
 }
 
-/// A fault of an IPv6 packet.
+/// Returns the digest of an IPv6 packet's error.
 #[inline(never)]
 pub fn of_ipv6_fault(fault: &ipv6::SliceError) -> u64 {
     match fault {

@@ -1,14 +1,14 @@
-//! What a struct of six places holds.
+//! The contents of a struct of six places.
 use crate::digest::{of_bytes, with};
 use ip_ext_chains::{IpAuthHeader, IpNumber, Ipv6Extensions, Ipv6FragmentHeader, Ipv6RawExtHeader};
 
-/// Every part of a struct, the number to which its chain leads and what follows it.
+/// Returns the digest of every part of a struct, the number to which its chain leads and the bytes after it.
 #[inline(never)]
 pub fn of_answer(exts: &Ipv6Extensions, number: IpNumber, rest: &[u8]) -> u64 {
     with(with(of_exts(exts), u64::from(number.0)), of_bytes(rest))
 }
 
-/// Every part of a struct.
+/// Returns the digest of every part of a struct.
 pub fn of_exts(exts: &Ipv6Extensions) -> u64 {
     let options = with(
         of_raw(&exts.hop_by_hop_options),
@@ -32,7 +32,7 @@ pub fn of_exts(exts: &Ipv6Extensions) -> u64 {
     with(with(options, routing), with(fragment, auth))
 }
 
-/// Every part of a header of the common layout that may be there.
+/// Returns the digest of every part of an optional header in the uniform format (RFC 6564).
 fn of_raw(header: &Option<Ipv6RawExtHeader>) -> u64 {
     match header {
         Some(header) => of_raw_header(header),
@@ -40,12 +40,12 @@ fn of_raw(header: &Option<Ipv6RawExtHeader>) -> u64 {
     }
 }
 
-/// Every part of a header of the common layout.
+/// Returns the digest of every part of a header in the uniform format (RFC 6564).
 fn of_raw_header(header: &Ipv6RawExtHeader) -> u64 {
     with(u64::from(header.next_header.0), of_bytes(header.payload()))
 }
 
-/// Every part of a fragment header.
+/// Returns the digest of every part of a fragment header.
 fn of_fragment(header: &Ipv6FragmentHeader) -> u64 {
     let offset = u64::from(header.fragment_offset.value());
     let flags = with(u64::from(header.more_fragments), offset);
@@ -53,7 +53,7 @@ fn of_fragment(header: &Ipv6FragmentHeader) -> u64 {
     with(u64::from(header.next_header.0), fields)
 }
 
-/// Every part of an authentication header.
+/// Returns the digest of every part of an authentication header.
 fn of_auth(header: &IpAuthHeader) -> u64 {
     let numbers = with(u64::from(header.spi), u64::from(header.sequence_number));
     let fields = with(numbers, of_bytes(header.raw_icv()));

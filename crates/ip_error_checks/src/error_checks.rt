@@ -1,5 +1,5 @@
-//! Pins of the errors that no call answers yet, as those of the others in `ip_api_checks`; which errors are hashed; and
-//! that each is an error with a text.
+//! Checks of the errors that no call returns yet, like those of the others in `ip_api_checks`; of the errors that can
+//! be hashed; and that each is an error with a text.
 ghost use Rattle.std.specs.Prelude.{◌≡◌, ◌<◌, ◌+◌, ◌↔◌, IsTrue, IsFalse, IfOk};
 ghost use Rattle.etherparse_ip.specs.declared.err.ip.headers_slice_error.HeadersSliceError.TheVariants.{Len, Content};
 
@@ -12,7 +12,7 @@ use std::error::Error;
 use std::fmt::Debug;
 use std::hash::Hash;
 
-/// Whether two errors of a walk of either version are equal, and a copy of the first.
+/// Returns whether two errors of a walk of either IP version are equal, and a copy of the first.
 pub fn walk(
     a: &ip_exts::ExtsWalkError,
     b: &ip_exts::ExtsWalkError,
@@ -23,7 +23,7 @@ pub fn walk(
     Ok((a == b, a.clone()?))
 }
 
-/// The same of two content errors of extension headers of either version.
+/// Returns whether two content errors of extension headers of either IP version are equal, and a copy of the first.
 pub fn content(
     a: &ip_exts::HeaderError,
     b: &ip_exts::HeaderError,
@@ -34,28 +34,28 @@ pub fn content(
     Ok((a == b, a.clone()?))
 }
 
-/// Whether two errors of extension headers of either version are equal that tell a length.
+/// Returns whether two length errors of extension headers of either IP version are equal.
 pub fn headers_error_of_len(a: LenError, b: LenError) -> bool
     ensures { IsTrue result ↔ (a ≡ b) }
 {
     ip_exts::HeadersSliceError::Len(a) == ip_exts::HeadersSliceError::Len(b)
 }
 
-/// The same of two that tell of their bytes.
+/// Returns whether two errors of extension headers of either IP version for their bytes are equal.
 pub fn headers_error_of_content(a: ip_exts::HeaderError, b: ip_exts::HeaderError) -> bool
     ensures { IsTrue result ↔ (a ≡ b) }
 {
     ip_exts::HeadersSliceError::Content(a) == ip_exts::HeadersSliceError::Content(b)
 }
 
-/// Whether one that tells a length is equal to one that tells of bytes.
+/// Returns whether a length error of extension headers of either IP version is equal to one for their bytes.
 pub fn headers_errors_differ(a: LenError, b: ip_exts::HeaderError) -> bool
     ensures { IsFalse result }
 {
     ip_exts::HeadersSliceError::Len(a) == ip_exts::HeadersSliceError::Content(b)
 }
 
-/// A copy of an error of extension headers of either version.
+/// Returns a copy of an error of extension headers of either IP version.
 pub fn headers_error_copy(
     e: &ip_exts::HeadersSliceError,
 ) -> Result<ip_exts::HeadersSliceError, AllocError>
@@ -64,28 +64,28 @@ pub fn headers_error_copy(
     e.clone()
 }
 
-/// Whether two errors of a packet's headers are equal that tell a length.
+/// Returns whether two length errors of a packet's headers are equal.
 pub fn packet_headers_error_of_len(a: LenError, b: LenError) -> bool
     ensures { IsTrue result ↔ (a ≡ b) }
 {
     ip::HeadersSliceError::Len(a) == ip::HeadersSliceError::Len(b)
 }
 
-/// The same of two that tell of their bytes.
+/// Returns whether two errors of a packet's headers for their bytes are equal.
 pub fn packet_headers_error_of_content(a: ip::HeadersError, b: ip::HeadersError) -> bool
     ensures { IsTrue result ↔ (a ≡ b) }
 {
     ip::HeadersSliceError::Content(a) == ip::HeadersSliceError::Content(b)
 }
 
-/// Whether one that tells a length is equal to one that tells of bytes.
+/// Returns whether a length error of a packet's headers is equal to one for their bytes.
 pub fn packet_headers_errors_differ(a: LenError, b: ip::HeadersError) -> bool
     ensures { IsFalse result }
 {
     ip::HeadersSliceError::Len(a) == ip::HeadersSliceError::Content(b)
 }
 
-/// A copy of an error of a packet's headers.
+/// Returns a copy of an error of a packet's headers.
 pub fn packet_headers_error_copy(
     e: &ip::HeadersSliceError,
 ) -> Result<ip::HeadersSliceError, AllocError>
@@ -94,7 +94,7 @@ pub fn packet_headers_error_copy(
     e.clone()
 }
 
-/// An error in extension headers, counted from the front of their IPv6 packet.
+/// Returns an error in extension headers with its offset counted from the start of their IPv6 packet.
 pub fn behind_ipv6(error: LenError) -> ip::HeadersSliceError
     requires { error.layer_start_offset < 2048 }
     ensures { result ≡ Len (record error { layer_start_offset = error.layer_start_offset + 40 }) }
@@ -102,27 +102,27 @@ pub fn behind_ipv6(error: LenError) -> ip::HeadersSliceError
     ip::HeadersSliceError::Len(error).add_slice_offset(40)
 }
 
-/// An error of content stays as it is.
+/// Returns a content error in extension headers, which is unchanged.
 pub fn content_behind_ipv6(error: ip::HeadersError) -> ip::HeadersSliceError
     ensures { result ≡ Content error }
 {
     ip::HeadersSliceError::Content(error).add_slice_offset(40)
 }
 
-/// An error that is cloned, compared, hashed and printed.
+/// Requires an error that can be cloned, compared, hashed and printed.
 fn is_value<T: Error + Clone + Eq + Hash>(a: &T) -> bool {
     *a == *a
 }
 
-/// An error that holds a reader's, or that of an allocator, and has a text.
+/// Requires an error with a text. It may contain a reader's or an allocator's error.
 fn has_text<T: Error>(_error: &T) {}
 
-/// A source is copied and printed.
+/// Requires a source that can be copied and printed.
 fn is_shown<T: Copy + Debug>(source: &T) -> T {
     *source
 }
 
-/// The errors of the base layer.
+/// Checks the errors of the base layer.
 pub fn base(
     len: &LenError,
     value: &ValueTooBigError,
@@ -139,7 +139,7 @@ pub fn base(
         && is_value(ipv6_slice)
 }
 
-/// Those of single headers.
+/// Checks the errors of single headers.
 pub fn single_headers(
     auth: &ip_auth::HeaderError,
     slice: &ip_auth::HeaderSliceError,
@@ -149,7 +149,7 @@ pub fn single_headers(
     is_value(auth) && is_value(slice) && is_value(icv) && is_value(payload)
 }
 
-/// Those of chains.
+/// Checks the errors of chains.
 pub fn chains(
     walk4: &ipv4_exts::ExtsWalkError,
     walk6: &ipv6_exts::ExtsWalkError,
@@ -159,7 +159,7 @@ pub fn chains(
     is_value(walk4) && is_value(walk6) && is_value(content) && is_value(slice)
 }
 
-/// Those of extension headers of either version.
+/// Checks the errors of extension headers of either IP version.
 pub fn either_version(
     walk: &ip_exts::ExtsWalkError,
     content: &ip_exts::HeaderError,
@@ -168,7 +168,7 @@ pub fn either_version(
     is_value(walk) && is_value(content) && is_value(slice)
 }
 
-/// Those of packets.
+/// Checks the errors of packets.
 pub fn packets(
     header: &ip::HeaderError,
     headers: &ip::HeadersError,
@@ -185,7 +185,7 @@ pub fn packets(
         && is_value(ipv6)
 }
 
-/// Those of reads and of writes, which are no values.
+/// Checks the errors of reads and of writes, which can't be cloned or compared.
 pub fn reads_and_writes(
     limited: &io::LimitedReadError,
     auth: &ip_auth::HeaderReadError,
@@ -204,7 +204,7 @@ pub fn reads_and_writes(
     has_text(write6);
 }
 
-/// The sources.
+/// Checks the sources.
 pub fn sources(source: Source<'_>, chain: ChainSource<'_>, packet: PacketSource<'_>) {
     let _ = is_shown(&source);
     let _ = is_shown(&chain);

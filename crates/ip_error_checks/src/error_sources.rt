@@ -1,4 +1,4 @@
-//! Callers for each outcome of the source of an error: it is the value that the variant holds.
+//! Callers for each result of an error's `source`: it is the value in the variant.
 ghost use Rattle.std.specs.Prelude.{◌≡◌, IfOk};
 
 use etherparse_ip::err::{
@@ -8,7 +8,7 @@ use etherparse_ip::err::{
 use std::alloc::AllocError;
 use std::io::Error;
 
-/// A copy of what `io::LimitedReadError::Io` comes of.
+/// Returns a copy of the `source` of `io::LimitedReadError::Io`.
 pub fn source_of_limited_read(inner: Error) -> Result<Error, AllocError>
     ensures { IfOk result (λ copy. copy ≡ inner) }
 {
@@ -19,7 +19,7 @@ pub fn source_of_limited_read(inner: Error) -> Result<Error, AllocError>
     }
 }
 
-/// A copy of what `io::LimitedReadError::Len` comes of.
+/// Returns a copy of the `source` of `io::LimitedReadError::Len`.
 pub fn source_of_limited_read_past_its_limit(inner: LenError) -> Result<LenError, AllocError>
     ensures { IfOk result (λ copy. copy ≡ inner) }
 {
@@ -30,7 +30,7 @@ pub fn source_of_limited_read_past_its_limit(inner: LenError) -> Result<LenError
     }
 }
 
-/// A copy of what `ip_auth::HeaderSliceError::Len` comes of.
+/// Returns a copy of the `source` of `ip_auth::HeaderSliceError::Len`.
 pub fn source_of_short_authentication(inner: LenError) -> Result<LenError, AllocError>
     ensures { IfOk result (λ copy. copy ≡ inner) }
 {
@@ -41,7 +41,7 @@ pub fn source_of_short_authentication(inner: LenError) -> Result<LenError, Alloc
     }
 }
 
-/// A copy of what `ip_auth::HeaderSliceError::Content` comes of.
+/// Returns a copy of the `source` of `ip_auth::HeaderSliceError::Content`.
 pub fn source_of_wrong_authentication(
     inner: ip_auth::HeaderError,
 ) -> Result<ip_auth::HeaderError, AllocError>
@@ -54,7 +54,7 @@ pub fn source_of_wrong_authentication(
     }
 }
 
-/// A copy of what `ip_auth::HeaderReadError::Io` comes of.
+/// Returns a copy of the `source` of `ip_auth::HeaderReadError::Io`.
 pub fn source_of_failed_authentication_read(inner: Error) -> Result<Error, AllocError>
     ensures { IfOk result (λ copy. copy ≡ inner) }
 {
@@ -65,7 +65,7 @@ pub fn source_of_failed_authentication_read(inner: Error) -> Result<Error, Alloc
     }
 }
 
-/// A copy of what `ip_auth::HeaderReadError::Content` comes of.
+/// Returns a copy of the `source` of `ip_auth::HeaderReadError::Content`.
 pub fn source_of_wrong_authentication_read(
     inner: ip_auth::HeaderError,
 ) -> Result<ip_auth::HeaderError, AllocError>
@@ -78,7 +78,7 @@ pub fn source_of_wrong_authentication_read(
     }
 }
 
-/// A copy of what `ip_auth::HeaderLimitedReadError::Io` comes of.
+/// Returns a copy of the `source` of `ip_auth::HeaderLimitedReadError::Io`.
 pub fn source_of_failed_limited_authentication_read(inner: Error) -> Result<Error, AllocError>
     ensures { IfOk result (λ copy. copy ≡ inner) }
 {
@@ -89,7 +89,7 @@ pub fn source_of_failed_limited_authentication_read(inner: Error) -> Result<Erro
     }
 }
 
-/// A copy of what `ip_auth::HeaderLimitedReadError::Len` comes of.
+/// Returns a copy of the `source` of `ip_auth::HeaderLimitedReadError::Len`.
 pub fn source_of_limited_authentication_read_past_its_limit(
     inner: LenError,
 ) -> Result<LenError, AllocError>
@@ -102,7 +102,7 @@ pub fn source_of_limited_authentication_read_past_its_limit(
     }
 }
 
-/// A copy of what `ip_auth::HeaderLimitedReadError::Content` comes of.
+/// Returns a copy of the `source` of `ip_auth::HeaderLimitedReadError::Content`.
 pub fn source_of_wrong_limited_authentication_read(
     inner: ip_auth::HeaderError,
 ) -> Result<ip_auth::HeaderError, AllocError>
@@ -115,7 +115,7 @@ pub fn source_of_wrong_limited_authentication_read(
     }
 }
 
-/// A copy of what `ipv6_exts::HeaderError::IpAuth` comes of.
+/// Returns a copy of the `source` of `ipv6_exts::HeaderError::IpAuth`.
 pub fn source_of_wrong_header_in_a_chain(
     inner: ip_auth::HeaderError,
 ) -> Result<ip_auth::HeaderError, AllocError>
@@ -128,7 +128,7 @@ pub fn source_of_wrong_header_in_a_chain(
     }
 }
 
-/// A copy of what `ipv6_exts::HeaderSliceError::Len` comes of.
+/// Returns a copy of the `source` of `ipv6_exts::HeaderSliceError::Len`.
 pub fn source_of_short_chain(inner: LenError) -> Result<LenError, AllocError>
     ensures { IfOk result (λ copy. copy ≡ inner) }
 {
@@ -139,7 +139,7 @@ pub fn source_of_short_chain(inner: LenError) -> Result<LenError, AllocError>
     }
 }
 
-/// A copy of what `ipv6_exts::HeaderSliceError::Content` comes of.
+/// Returns a copy of the `source` of `ipv6_exts::HeaderSliceError::Content`.
 pub fn source_of_wrong_chain(
     inner: ipv6_exts::HeaderError,
 ) -> Result<ipv6_exts::HeaderError, AllocError>
@@ -152,7 +152,7 @@ pub fn source_of_wrong_chain(
     }
 }
 
-/// A copy of what `ipv6_exts::HeaderReadError::Io` comes of.
+/// Returns a copy of the `source` of `ipv6_exts::HeaderReadError::Io`.
 pub fn source_of_failed_chain_read(inner: Error) -> Result<Error, AllocError>
     ensures { IfOk result (λ copy. copy ≡ inner) }
 {
@@ -163,7 +163,7 @@ pub fn source_of_failed_chain_read(inner: Error) -> Result<Error, AllocError>
     }
 }
 
-/// A copy of what `ipv6_exts::HeaderReadError::Content` comes of.
+/// Returns a copy of the `source` of `ipv6_exts::HeaderReadError::Content`.
 pub fn source_of_wrong_chain_read(
     inner: ipv6_exts::HeaderError,
 ) -> Result<ipv6_exts::HeaderError, AllocError>
@@ -176,7 +176,7 @@ pub fn source_of_wrong_chain_read(
     }
 }
 
-/// A copy of what `ipv6_exts::HeaderLimitedReadError::Io` comes of.
+/// Returns a copy of the `source` of `ipv6_exts::HeaderLimitedReadError::Io`.
 pub fn source_of_failed_limited_chain_read(inner: Error) -> Result<Error, AllocError>
     ensures { IfOk result (λ copy. copy ≡ inner) }
 {
@@ -187,7 +187,7 @@ pub fn source_of_failed_limited_chain_read(inner: Error) -> Result<Error, AllocE
     }
 }
 
-/// A copy of what `ipv6_exts::HeaderLimitedReadError::Len` comes of.
+/// Returns a copy of the `source` of `ipv6_exts::HeaderLimitedReadError::Len`.
 pub fn source_of_limited_chain_read_past_its_limit(inner: LenError) -> Result<LenError, AllocError>
     ensures { IfOk result (λ copy. copy ≡ inner) }
 {
@@ -198,7 +198,7 @@ pub fn source_of_limited_chain_read_past_its_limit(inner: LenError) -> Result<Le
     }
 }
 
-/// A copy of what `ipv6_exts::HeaderLimitedReadError::Content` comes of.
+/// Returns a copy of the `source` of `ipv6_exts::HeaderLimitedReadError::Content`.
 pub fn source_of_wrong_limited_chain_read(
     inner: ipv6_exts::HeaderError,
 ) -> Result<ipv6_exts::HeaderError, AllocError>
@@ -211,7 +211,7 @@ pub fn source_of_wrong_limited_chain_read(
     }
 }
 
-/// A copy of what `ipv4_exts::HeaderWriteError::Io` comes of.
+/// Returns a copy of the `source` of `ipv4_exts::HeaderWriteError::Io`.
 pub fn source_of_ipv4_write_without_memory(inner: AllocError) -> Result<AllocError, AllocError>
     ensures { IfOk result (λ copy. copy ≡ inner) }
 {
@@ -222,7 +222,7 @@ pub fn source_of_ipv4_write_without_memory(inner: AllocError) -> Result<AllocErr
     }
 }
 
-/// A copy of what `ipv4_exts::HeaderWriteError::Content` comes of.
+/// Returns a copy of the `source` of `ipv4_exts::HeaderWriteError::Content`.
 pub fn source_of_ipv4_write_of_unnamed_headers(
     inner: ipv4_exts::ExtsWalkError,
 ) -> Result<ipv4_exts::ExtsWalkError, AllocError>
@@ -235,7 +235,7 @@ pub fn source_of_ipv4_write_of_unnamed_headers(
     }
 }
 
-/// A copy of what `ipv6_exts::HeaderWriteError::Io` comes of.
+/// Returns a copy of the `source` of `ipv6_exts::HeaderWriteError::Io`.
 pub fn source_of_ipv6_write_without_memory(inner: AllocError) -> Result<AllocError, AllocError>
     ensures { IfOk result (λ copy. copy ≡ inner) }
 {
@@ -246,7 +246,7 @@ pub fn source_of_ipv6_write_without_memory(inner: AllocError) -> Result<AllocErr
     }
 }
 
-/// A copy of what `ipv6_exts::HeaderWriteError::Content` comes of.
+/// Returns a copy of the `source` of `ipv6_exts::HeaderWriteError::Content`.
 pub fn source_of_ipv6_write_of_unnamed_headers(
     inner: ipv6_exts::ExtsWalkError,
 ) -> Result<ipv6_exts::ExtsWalkError, AllocError>
@@ -259,7 +259,7 @@ pub fn source_of_ipv6_write_of_unnamed_headers(
     }
 }
 
-/// A copy of what `ip_exts::ExtsWalkError::Ipv4Exts` comes of.
+/// Returns a copy of the `source` of `ip_exts::ExtsWalkError::Ipv4Exts`.
 pub fn source_of_ipv4_walk(
     inner: ipv4_exts::ExtsWalkError,
 ) -> Result<ipv4_exts::ExtsWalkError, AllocError>
@@ -272,7 +272,7 @@ pub fn source_of_ipv4_walk(
     }
 }
 
-/// A copy of what `ip_exts::ExtsWalkError::Ipv6Exts` comes of.
+/// Returns a copy of the `source` of `ip_exts::ExtsWalkError::Ipv6Exts`.
 pub fn source_of_ipv6_walk(
     inner: ipv6_exts::ExtsWalkError,
 ) -> Result<ipv6_exts::ExtsWalkError, AllocError>
@@ -285,7 +285,7 @@ pub fn source_of_ipv6_walk(
     }
 }
 
-/// A copy of what `ip_exts::HeaderError::Ipv4Ext` comes of.
+/// Returns a copy of the `source` of `ip_exts::HeaderError::Ipv4Ext`.
 pub fn source_of_wrong_ipv4_headers(
     inner: ip_auth::HeaderError,
 ) -> Result<ip_auth::HeaderError, AllocError>
@@ -298,7 +298,7 @@ pub fn source_of_wrong_ipv4_headers(
     }
 }
 
-/// A copy of what `ip_exts::HeaderError::Ipv6Ext` comes of.
+/// Returns a copy of the `source` of `ip_exts::HeaderError::Ipv6Ext`.
 pub fn source_of_wrong_ipv6_headers(
     inner: ipv6_exts::HeaderError,
 ) -> Result<ipv6_exts::HeaderError, AllocError>
@@ -311,7 +311,7 @@ pub fn source_of_wrong_ipv6_headers(
     }
 }
 
-/// A copy of what `ip_exts::HeadersSliceError::Len` comes of.
+/// Returns a copy of the `source` of `ip_exts::HeadersSliceError::Len`.
 pub fn source_of_short_headers(inner: LenError) -> Result<LenError, AllocError>
     ensures { IfOk result (λ copy. copy ≡ inner) }
 {
@@ -322,7 +322,7 @@ pub fn source_of_short_headers(inner: LenError) -> Result<LenError, AllocError>
     }
 }
 
-/// A copy of what `ip_exts::HeadersSliceError::Content` comes of.
+/// Returns a copy of the `source` of `ip_exts::HeadersSliceError::Content`.
 pub fn source_of_wrong_headers(
     inner: ip_exts::HeaderError,
 ) -> Result<ip_exts::HeaderError, AllocError>
@@ -335,7 +335,7 @@ pub fn source_of_wrong_headers(
     }
 }
 
-/// A copy of what `ip::HeadersError::Ip` comes of.
+/// Returns a copy of the `source` of `ip::HeadersError::Ip`.
 pub fn source_of_packet_of_another_version(
     inner: ip::HeaderError,
 ) -> Result<ip::HeaderError, AllocError>
@@ -348,7 +348,7 @@ pub fn source_of_packet_of_another_version(
     }
 }
 
-/// A copy of what `ip::HeadersError::Ipv4Ext` comes of.
+/// Returns a copy of the `source` of `ip::HeadersError::Ipv4Ext`.
 pub fn source_of_packet_with_wrong_authentication(
     inner: ip_auth::HeaderError,
 ) -> Result<ip_auth::HeaderError, AllocError>
@@ -361,7 +361,7 @@ pub fn source_of_packet_with_wrong_authentication(
     }
 }
 
-/// A copy of what `ip::HeadersError::Ipv6Ext` comes of.
+/// Returns a copy of the `source` of `ip::HeadersError::Ipv6Ext`.
 pub fn source_of_packet_with_wrong_chain(
     inner: ipv6_exts::HeaderError,
 ) -> Result<ipv6_exts::HeaderError, AllocError>
@@ -374,7 +374,7 @@ pub fn source_of_packet_with_wrong_chain(
     }
 }
 
-/// A copy of what `ip::HeadersSliceError::Len` comes of.
+/// Returns a copy of the `source` of `ip::HeadersSliceError::Len`.
 pub fn source_of_short_headers_of_packet(inner: LenError) -> Result<LenError, AllocError>
     ensures { IfOk result (λ copy. copy ≡ inner) }
 {
@@ -385,7 +385,7 @@ pub fn source_of_short_headers_of_packet(inner: LenError) -> Result<LenError, Al
     }
 }
 
-/// A copy of what `ip::HeadersSliceError::Content` comes of.
+/// Returns a copy of the `source` of `ip::HeadersSliceError::Content`.
 pub fn source_of_wrong_headers_of_packet(
     inner: ip::HeadersError,
 ) -> Result<ip::HeadersError, AllocError>
@@ -398,7 +398,7 @@ pub fn source_of_wrong_headers_of_packet(
     }
 }
 
-/// A copy of what `ip::SliceError::Len` comes of.
+/// Returns a copy of the `source` of `ip::SliceError::Len`.
 pub fn source_of_short_packet(inner: LenError) -> Result<LenError, AllocError>
     ensures { IfOk result (λ copy. copy ≡ inner) }
 {
@@ -409,7 +409,7 @@ pub fn source_of_short_packet(inner: LenError) -> Result<LenError, AllocError>
     }
 }
 
-/// A copy of what `ip::SliceError::IpHeaders` comes of.
+/// Returns a copy of the `source` of `ip::SliceError::IpHeaders`.
 pub fn source_of_wrong_packet(inner: ip::HeadersError) -> Result<ip::HeadersError, AllocError>
     ensures { IfOk result (λ copy. copy ≡ inner) }
 {
@@ -420,7 +420,7 @@ pub fn source_of_wrong_packet(inner: ip::HeadersError) -> Result<ip::HeadersErro
     }
 }
 
-/// A copy of what `ipv4::SliceError::Len` comes of.
+/// Returns a copy of the `source` of `ipv4::SliceError::Len`.
 pub fn source_of_short_ipv4_packet(inner: LenError) -> Result<LenError, AllocError>
     ensures { IfOk result (λ copy. copy ≡ inner) }
 {
@@ -431,7 +431,7 @@ pub fn source_of_short_ipv4_packet(inner: LenError) -> Result<LenError, AllocErr
     }
 }
 
-/// A copy of what `ipv4::SliceError::Header` comes of.
+/// Returns a copy of the `source` of `ipv4::SliceError::Header`.
 pub fn source_of_wrong_ipv4_header(
     inner: ipv4::HeaderError,
 ) -> Result<ipv4::HeaderError, AllocError>
@@ -444,7 +444,7 @@ pub fn source_of_wrong_ipv4_header(
     }
 }
 
-/// A copy of what `ipv4::SliceError::Exts` comes of.
+/// Returns a copy of the `source` of `ipv4::SliceError::Exts`.
 pub fn source_of_wrong_ipv4_extensions(
     inner: ip_auth::HeaderError,
 ) -> Result<ip_auth::HeaderError, AllocError>
@@ -457,7 +457,7 @@ pub fn source_of_wrong_ipv4_extensions(
     }
 }
 
-/// A copy of what `ipv6::SliceError::Len` comes of.
+/// Returns a copy of the `source` of `ipv6::SliceError::Len`.
 pub fn source_of_short_ipv6_packet(inner: LenError) -> Result<LenError, AllocError>
     ensures { IfOk result (λ copy. copy ≡ inner) }
 {
@@ -468,7 +468,7 @@ pub fn source_of_short_ipv6_packet(inner: LenError) -> Result<LenError, AllocErr
     }
 }
 
-/// A copy of what `ipv6::SliceError::Header` comes of.
+/// Returns a copy of the `source` of `ipv6::SliceError::Header`.
 pub fn source_of_wrong_ipv6_header(
     inner: ipv6::HeaderError,
 ) -> Result<ipv6::HeaderError, AllocError>
@@ -481,7 +481,7 @@ pub fn source_of_wrong_ipv6_header(
     }
 }
 
-/// A copy of what `ipv6::SliceError::Exts` comes of.
+/// Returns a copy of the `source` of `ipv6::SliceError::Exts`.
 pub fn source_of_wrong_ipv6_extensions(
     inner: ipv6_exts::HeaderError,
 ) -> Result<ipv6_exts::HeaderError, AllocError>

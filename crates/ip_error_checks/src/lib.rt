@@ -1,4 +1,4 @@
-//! Checks of errors: their impls and texts, and callers for each source and each accessor that one has.
+//! Checks of errors: their impls and texts, and callers for each source and each accessor of an error.
 #![tactic(auto)]
 
 pub mod error_checks;

@@ -1,4 +1,4 @@
--- The longest chain that fits six places, where the longest chain's first run was taken.
+-- The longest chain that fits six places, as the first run of the longest chain.
 use Rattle.ip_spec.proofs.Common.{◌≡◌, ◌≢◌, ℕ, ◌-◌, List, ◌∷◌, ◌++◌, length, take, drop, refl, ap, sym, ◌∙◌, inl, inr, Bool, true, false, subst, rules, [], Option, Some, None, IsSome, if◌then◌else◌, cases_Bool, IsExtensionNumber, append-nil, length-append, ExtHeader, leads_to, bytes_of, headers_within, is_empty, IsChain, IsPrefixChain, rest_behind, fault_behind, KeepsBeginning, NextBreaks, IsLongestUnder, IsEndUnder, FitsPlaces, IsTaken, is_taken}
 use Rattle.ip_ext_slices.proofs.FaultLemmas.{fault_at_end, end_at_other, no_fault_at_other}
 use Rattle.ip_ext_slices.proofs.RequestFaultLemmas.{fault_ends}
@@ -25,11 +25,11 @@ use Rattle.ip_ext_chains.proofs.PlacedLemmas.{taken_same, value_placed, placed_n
 pub fitting_longest : (n : ℕ) (s : List ℕ) → IsLongestUnder FitsPlaces n s (fitting_chain n s)
 fitting_longest n s = (some_longest_under FitsPlaces fits_places n s).1
 
--- of bytes that are cut short it is the headers that lie whole within them
+-- of truncated bytes it is the headers that lie wholly within them
 pub fitting_shorter : (n j : ℕ) (s : List ℕ) → fitting_chain n (take j s) ≡ headers_within j (fitting_chain n s)
 fitting_shorter n j s = longest_shorter FitsPlaces fits_places n j s (fitting_chain n s) (fitting_chain n (take j s)) (fitting_longest n s) (fitting_longest n (take j s))
 
--- what is kept of the longest chain is the longest that fits
+-- the part of the longest chain that is kept is the longest that fits
 fitting_is : (n : ℕ) (s : List ℕ) (c : List ExtHeader) → KeepsBeginning FitsPlaces (longest_chain n s) c → c ≡ fitting_chain n s
 fitting_is n s c kept =
     one_longest_under FitsPlaces fits_places n s c (fitting_chain n s)
@@ -48,14 +48,14 @@ module _ (n : ℕ) (s : List ℕ) (left : List ExtHeader) (v : Places Ipv6Extens
   run_chain : IsPrefixChain n s (k.run ++ left)
   run_chain = let C : List ExtHeader → Type 0 = IsPrefixChain n s in subst C run_whole (longest_chain-longest n s).has
 
-  -- how many bytes were read
+  -- the number of bytes parsed
   run_len : length (bytes_of (longest_chain n s)) - length (bytes_of left) ≡ length (bytes_of k.run)
   run_len = search (rules, flat_map-append, run_whole, length-append)
 
   walked : (m : ℕ) (r : List ℕ) (f : Option Fault) → m ≡ leads_to n k.run → r ≡ drop (length (bytes_of k.run)) s → f ≡ fitting_fault n s → IsPlacedAnswer n s v m r f
   walked m r f em er ef = search (rules, run_fits)
 
--- Where headers are left, the place of the next one is taken.
+-- If headers are left, the place of the next one is occupied.
 walked_on : (n : ℕ) (s : List ℕ) (left : List ExtHeader) (v : Places Ipv6ExtensionSlice) → IsRun (longest_chain n s) v left → left ≢ [] → (m : ℕ) → IsChain m left → (r : List ℕ) → r ≡ drop (length (bytes_of (longest_chain n s)) - length (bytes_of left)) s → IsPlacedAnswer n s v m r None
 walked_on n s [] v k some m chain r er = absurd (some refl)
 walked_on n s (h ∷ left) v k some m chain r er =
@@ -68,7 +68,7 @@ walked_on n s (h ∷ left) v k some m chain r er =
     let told : is_taken (leads_to n (fitting_chain n s)) (fitting_chain n s) ≡ true = ap (λ d. is_taken (leads_to n d) d) (sym fits) ∙ (taken_told c (leads_to n c) k.kept.meets).1 taken in
     walked n s (h ∷ left) v k m r None (sym chain.links.0 ∙ number) (er ∙ ap (λ j. drop j s) (run_len n s (h ∷ left) v k)) (sym (no_fault _ _ told))
 
--- Where none is, it is the whole chain.
+-- If none are, it is the whole chain.
 walked_whole : (n : ℕ) (s : List ℕ) (left : List ExtHeader) (v : Places Ipv6ExtensionSlice) → IsRun (longest_chain n s) v left → left ≡ [] → (m : ℕ) (r : List ℕ) (f g : Option Fault) → m ≡ leads_to n (longest_chain n s) → r ≡ rest_behind (longest_chain n s) s → g ≡ chain_fault n s → f ≡ (if is_taken_in v m then None else g) → IsPlacedAnswer n s v m r f
 walked_whole n s left v k none m r f g em er eg ef =
     let all : longest_chain n s ≡ k.run = run_whole n s left v k ∙ ap (λ l. k.run ++ l) none ∙ append-nil k.run in
@@ -79,7 +79,7 @@ walked_whole n s left v k none m r f g em er eg ef =
     ∙ ap (λ b. if b then None else at (fitting_chain n s)) (taken_same k.run v k.placed m ∙ ap (λ j. is_taken j k.run) number
     ∙ ap (λ d. is_taken (leads_to n d) d) (run_fits n s left v k)))
 
--- The same as code has it: what an iterator has given and left, and the bytes read.
+-- The same facts in the terms of the code: the headers that an iterator has returned and left, and the bytes parsed.
 module _ (n : ℕ) (s : List ℕ) (all left : List ExtHeader) (v : Places Ipv6ExtensionSlice) (k : IsRun all v left) (e : all ≡ longest_chain n s) where
   of_longest : IsRun (longest_chain n s) v left
   of_longest = let R : List ExtHeader → Type 0 = λ c. IsRun c v left in subst R e k
@@ -91,26 +91,26 @@ module _ (n : ℕ) (s : List ℕ) (all left : List ExtHeader) (v : Places Ipv6Ex
   pub walk_ends : left ≡ [] → (m : ℕ) (r : List ℕ) (f g : Option Fault) → m ≡ leads_to n (longest_chain n s) → r ≡ rest_behind (longest_chain n s) s → g ≡ chain_fault n s → f ≡ (if is_taken_in v m then None else g) → IsPlacedAnswer n s v m r f
   walk_ends = walked_whole n s left v of_longest
 
--- Where a chain that fits ends.
+-- The end of a chain that fits.
 module _ (n : ℕ) (c : List ExtHeader) (m : ℕ) (chain : IsChain n c) (fits : FitsPlaces c) (number : m ≡ leads_to n c) (x : List ℕ) where
-  -- where no header goes on that fits, it is the answer
+  -- if no header follows that fits, the chain is the result
   answered : (v : Ipv6Extensions) (f : Option Fault) → IsEndUnder FitsPlaces c m x → v ≡ value_of c → f ≡ fitting_faults c m x → IsFittingAnswer n (bytes_of c ++ x) v m x f
   answered v f = read_answers FitsPlaces fits_places n (bytes_of c ++ x) c m x value_of fitting_faults v f (has_read_before FitsPlaces fits_places n m c x chain fits number)
 
   free_fault : (b : Bool) → b ≡ false → (if b then None else chain_faults Slice c m x) ≡ chain_faults Slice c m x
   free_fault b e = ap (λ (t : Bool). if t then None else chain_faults Slice c m x) e
 
-  -- the fault there is the fault of the parse
+  -- the error there is the parse's error
   pub fitting_fault_is : (f : Fault) → is_taken m c ≡ false → fault_at Slice (length x) (length (bytes_of c)) (is_empty c) m x ≡ Some f → fitting_fault n (bytes_of c ++ x) ≡ Some f
   fitting_fault_is f free fault =
       sym (answered (value_of c) (Some f) (λ h y q. fault_ends Slice (length x) (length (bytes_of c)) x (is_empty c) m f fault h y) refl (sym (free_fault (is_taken m c) free ∙ fault))).fault
 
-  -- where the number's place is filled, there is none
+  -- if the number's place is occupied, there is no error
   pub taken_answers : (v : Ipv6Extensions) → v ≡ value_of c → is_taken m c ≡ true → IsFittingAnswer n (bytes_of c ++ x) v m x None
   taken_answers v value taken =
       answered v None (λ h y. ((taken_told c m fits).0 taken).1 h y.number) value (sym (ap (λ (b : Bool). if b then None else chain_faults Slice c m x) taken))
 
-  -- and where the number names no header
+  -- nor if the number is not an extension header's
   pub other_answers : (v : Ipv6Extensions) → v ≡ value_of c → (IsExtensionNumber m → ⊥) → IsFittingAnswer n (bytes_of c ++ x) v m x None
   other_answers v value other = elim (cases_Bool (is_taken m c)) [
     | inl taken ↦ taken_answers v value taken
@@ -119,7 +119,7 @@ module _ (n : ℕ) (c : List ExtHeader) (m : ℕ) (chain : IsChain n c) (fits : 
         (sym (free_fault (is_taken m c) free ∙ no_fault_at_other Slice (length x) (is_empty c) m x (length (bytes_of c)) other))
   ]
 
--- At an extension number whose place is free there is a fault behind it.
+-- At an extension number whose place is free there is an error after the chain.
 pub fitting_fault_at_end : (n : ℕ) (s : List ℕ) (c : List ExtHeader) → IsLongestUnder FitsPlaces n s c → IsExtensionNumber (leads_to n c) → (IsTaken (leads_to n c) c → ⊥) → IsSome (fault_behind fitting_faults c n s)
 fitting_fault_at_end n s c l number free =
     let m : ℕ = leads_to n c in
@@ -130,7 +130,7 @@ fitting_fault_at_end n s c l number free =
       | inr t ↦ subst (λ (b : Bool). IsSome (if b then None else fault)) (sym t) some
     ]
 
--- what the walk answers is all that the parse needs
+-- the walk's result is all that the parse needs
 module _ (n : ℕ) (s : List ℕ) (v : Places Ipv6ExtensionSlice) (m : ℕ) (r : List ℕ) (f : Option Fault) (k : IsPlacedAnswer n s v m r f) where
   pub walked_numbers : AreOfNumber v
   walked_numbers = placed_numbers (fitting_chain n s) v k.placed

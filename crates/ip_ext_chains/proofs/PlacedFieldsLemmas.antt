@@ -1,4 +1,4 @@
--- A struct of six places, and what it holds in each.
+-- A struct of six places, and its fields in each.
 use Rattle.ip_spec.proofs.Common.{◌≡◌, ℕ, List, refl, ap, ◌∙◌, arith, true, rules, Option, None, is_some, option_map, option_map_or, ForSome, cases_Bool, none-some, RawFields, FragmentFields, AuthFields, raw_fields, fragment_fields, auth_fields, ExtHeader, Place, hop_by_hop, destination, routing, authentication, final_destination, number_in, header_in, HeaderFields, raw_header, fragment_header, auth_header, fields_of, IsEncoded, IsEncodable, placed_len, fields_len}
 use Rattle.ip_spec.specs.Places.{fragment}
 use Rattle.ip_spec.proofs.PlaceLemmas.{none_behind}
@@ -9,7 +9,7 @@ use Rattle.ip_ext_chains.specs.declared.ipv6_exts.Ipv6Extensions.{Ipv6Extensions
 use Rattle.ip_ext_chains.specs.declared.ipv6_routing_exts.Ipv6RoutingExtensions.{Ipv6RoutingExtensions}
 use Rattle.ip_ext_chains.proofs.PlacedLemmas.{in_place_number}
 
--- what a chain says in a place, where the layout of its number is read
+-- the fields of a chain's header in a place, parsed in the format of its number
 said_in : {V : Type 0} (n : ℕ) (made : V → HeaderFields) (fields : List ℕ → V) → ((b : List ℕ) → made (fields b) ≡ fields_of (record { number = n; bytes = b }))
     → (o : Option ExtHeader) → ForSome o (λ h. h.number ≡ n) → option_map made (option_map (λ h. fields h.bytes) o) ≡ option_map fields_of o
 said_in n made fields says o k = search rules
@@ -17,14 +17,14 @@ said_in n made fields says o k = search rules
 routing_place : (o : Option RawFields) (p : Option RawFields) → option_map (λ (r : Ipv6RoutingExtensions). raw_header r.routing) (option_map (λ r. record { routing = r; final_destination_options = p }) o) ≡ option_map raw_header o
 routing_place o p = search rules
 
--- destination options behind a routing header stand with it
+-- destination options after a routing header are stored with it
 final_place : (o : Option RawFields) (p : Option RawFields) → (o ≡ None → p ≡ None) → final_of (option_map (λ r. record { routing = r; final_destination_options = p }) o) ≡ p
 final_place o p k = search rules
 
 no_final : (c : List ExtHeader) → raw_in routing c ≡ None → raw_in final_destination c ≡ None
 no_final c e = search (rules, cases_Bool, some_if, none-some, none_behind)
 
--- the value of a chain holds what its headers say
+-- the value of a chain has the fields of its headers
 pub placed_fields-value_of : (c : List ExtHeader) (p : Place) → placed_fields (value_of c) p ≡ option_map fields_of (header_in p c)
 placed_fields-value_of c hop_by_hop = said_in 0 raw_header raw_fields (λ b. refl) (header_in hop_by_hop c) (in_place_number hop_by_hop c)
 placed_fields-value_of c destination = said_in 60 raw_header raw_fields (λ b. refl) (header_in destination c) (in_place_number destination c)
@@ -35,7 +35,7 @@ placed_fields-value_of c final_destination =
     ap (option_map raw_header) (final_place (raw_in routing c) (raw_in final_destination c) (no_final c))
     ∙ said_in 60 raw_header raw_fields (λ b. refl) (header_in final_destination c) (in_place_number final_destination c)
 
--- Structs that hold the same are one.
+-- Structs with the same fields are equal.
 inside : {V : Type 0} (made : V → HeaderFields) → ((x y : V) → made x ≡ made y → x ≡ y) → (a b : Option V) → option_map made a ≡ option_map made b → a ≡ b
 inside made same a b e = search rules
 
@@ -65,8 +65,8 @@ sum_of made o = search rules
 pub exts_sum : (v : Ipv6Extensions) → placed_len (placed_fields v) ≡ exts_len v
 exts_sum v = omega (arith, sum_of raw_header v.hop_by_hop_options, sum_of raw_header v.destination_options, sum_of (λ r. raw_header r.routing) v.routing, sum_of fragment_header v.fragment, sum_of auth_header v.auth, sum_of raw_header (final_of v.routing))
 
--- Destination options stand in the final place only behind a routing header, so a struct can be written where each
--- of its headers can.
+-- The final place has destination options only with a routing header, so a struct can be written if each of its
+-- headers can.
 pub nested : (o : Option Ipv6RoutingExtensions) → is_some (option_map raw_header (final_of o)) ≡ true → is_some (option_map (λ r. raw_header r.routing) o) ≡ true
 nested o e = search rules
 

@@ -1,4 +1,4 @@
--- Headers that stand in their places.
+-- Headers in their places.
 use Rattle.ip_spec.proofs.Common.{◌≡◌, ℕ, List, refl, ap, sym, ◌∙◌, Bool, false, rules, ◌==◌, ◌&&◌, not, Option, Some, None, is_some, IfSome, if◌then◌else◌, option_map, option_map_or, eqb-true, raw_fields, fragment_fields, auth_fields, ExtHeader, Place, hop_by_hop, destination, routing, authentication, final_destination, number_in, side_of, header_in, place_of, is_taken}
 use Rattle.ip_spec.specs.Places.{fragment}
 use Rattle.ip_spec.proofs.FirstLemmas.{find_passes}
@@ -16,7 +16,7 @@ mapped_if f b x o = search rules
 pub in_place_number : (p : Place) (c : List ExtHeader) (h : ExtHeader) → header_in p c ≡ Some h → h.number ≡ number_in p
 in_place_number p c h e = eqb-true h.number (number_in p) (find_passes (is_of p) (side_of p c) h e)
 
--- what is filled in the places is filled in the chain
+-- the occupied places are those of the chain
 module _ (c : List ExtHeader) (v : Places Ipv6ExtensionSlice) (k : ArePlaced c v) where
   pub filled_same : (p : Place) → is_some (at p v) ≡ is_some (header_in p c)
   filled_same p = sym (is_some-map header_of (at p v)) ∙ ap is_some (k p)
@@ -39,7 +39,7 @@ module _ (c : List ExtHeader) (v : Places Ipv6ExtensionSlice) (k : ArePlaced c v
   pub placed_numbers : AreOfNumber v
   placed_numbers p = of_number p (at p v) (k p)
 
-  -- what the places hold is the value of the chain
+  -- the headers in the places are the value of the chain
   map_map : {A : Type 0} (f : ExtHeader → A) (o : Option Ipv6ExtensionSlice) → option_map (λ h. f (header_of h)) o ≡ option_map f (option_map header_of o)
   map_map f o = search rules
 

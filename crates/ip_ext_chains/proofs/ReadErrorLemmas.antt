@@ -1,4 +1,4 @@
--- What is refused of a chain that is read is what the parse tells.
+-- The error of a chain that is read is the error of the parse.
 use Rattle.ip_spec.proofs.Common.{common_steps, ◌≡◌, ℕ, ◌<◌, List, ◌∷◌, ◌++◌, length, refl, ap, ◌∙◌, Bool, true, false, arith, rules, [], Option, Some, IsTrue, option_map, Consumes, IsRawNumber, RawAsks, Asks, IsZeroLength, ExtHeader, leads_to, bytes_of, is_empty}
 use Rattle.std.proofs.Common.{length-append}
 use Rattle.ip_base.specs.declared.len_source.LenSource.TheVariants.{Slice}
@@ -26,11 +26,11 @@ use Rattle.ip_ext_chains.specs.declared.err.ipv6_exts.header_limited_read_error.
 use Rattle.ip_ext_chains.proofs.FittingLemmas.{fitting_fault_is}
 use Rattle.ip_ext_chains.proofs.ReadingLemmas.{never_empty}
 
--- what holds of bytes behind some that were taken, also of a steady reader alone
+-- a property of the bytes after consumed ones, also for a steady reader only
 pub lift_steady : (steady then_steady : Bool) (a b : Option (List ℕ)) (done : List ℕ) (Q : List ℕ → Type 0) → then_steady ≡ steady → Consumes a b done → IfSteady then_steady b (λ y. Q (done ++ y)) → IfSteady steady a Q
 lift_steady steady then_steady a b done Q e c f = search rules
 
--- Behind the headers of a chain that was refused.
+-- After the headers of a chain whose read failed.
 module _ {R : Type 0} (Taken : R → R → List ExtHeader → Type 0) (Refused : Bool → ℕ → R → R → Type 0) (old new : R) (n : ℕ) (k : IsChainRefused Taken Refused old new n) where
   pub error_is : (x : List ℕ) (f : Fault) → fault_at Slice (length x) (length (bytes_of k.headers)) (is_empty k.headers) (leads_to n k.headers) x ≡ Some f → HasError n f.0 (bytes_of k.headers ++ x)
   error_is x f e = ap (option_map (λ (g : Fault). g.0)) (fitting_fault_is n k.headers (leads_to n k.headers) k.chain k.fits refl x f k.free e)
@@ -49,17 +49,17 @@ module _ {R : Type 0} (Taken : R → R → List ExtHeader → Type 0) (Refused :
       error_is x _ (ap (λ (b : Bool). at b (leads_to n k.headers)) later ∙ ap (at false) is)
 
 module _ {T : Type 0} (bytes_left : T → Option (List ℕ)) (is_steady has_failed : T → Bool) where
-  -- a header more was taken
+  -- one more header was read
   pub taken_next : (old mid new : T) (c : List ExtHeader) (h : ExtHeader) → AreTaken bytes_left is_steady has_failed old mid c → Consumes (bytes_left mid) (bytes_left new) h.bytes
       → is_steady new ≡ is_steady mid → has_failed new ≡ has_failed mid → AreTaken bytes_left is_steady has_failed old new (c ++ h ∷ [])
   taken_next old mid new c h t b steady kept = grind (arith, common_steps, bytes_of-more, never_empty)
 
-  -- a header that is refused where it would be the first, refused where it may be read
+  -- the refusal of a header at the start of a chain is a refusal wherever the header may be read
   pub refused_as : (e : HeaderReadError) (first : Bool) (m j : ℕ) (old new : T) → IsHeaderRefused bytes_left is_steady has_failed e true j old new → m ≡ j → (m ≡ 0 → IsTrue first)
       → IsHeaderRefused bytes_left is_steady has_failed e first m old new
   refused_as e first m j old new r is zero_first = search rules
 
-  -- a refused chain has the error of the parse
+  -- a chain whose read failed has the error of the parse
   pub refused_error : (e : HeaderReadError) (old new : T) (n : ℕ)
       → IsChainRefused (AreTaken bytes_left is_steady has_failed) (IsHeaderRefused bytes_left is_steady has_failed e) old new n → IsSliceError n (is_steady old) (bytes_left old) e
   refused_error (read.Io e) old new n k =
@@ -72,13 +72,13 @@ module _ {T : Type 0} (bytes_left : T → Option (List ℕ)) (is_steady has_fail
       lift_some _ _ (bytes_of k.headers) (HasError n (slice.Content (IpAuth ZeroPayloadLen))) k.taken.bytes
       (of_begun _ _ k.refused.1.done _ k.refused.1.taken (λ xs. zero_is _ _ old new n k k.refused.1.done xs k.refused.0 k.refused.1.zero_length))
 
--- The same within a limit.
+-- Within a limit.
 limits_behind-more : (c : List ExtHeader) (h : ExtHeader) (l : Limits) → limits_behind (c ++ h ∷ []) l ≡ advanced (length h.bytes) (started (layer_of h.number) (limits_behind c l))
 limits_behind-more [] h l = refl
 limits_behind-more (g ∷ c) h l = limits_behind-more c h (advanced (length g.bytes) (started (layer_of g.number) l))
 
 module _ {T : Type 0} (bytes_left : T → Option (List ℕ)) (is_steady has_failed : T → Bool) where
-  -- a header more was taken
+  -- one more header was read
   pub layer_next : (old mid new : LimitedReader T) (c : List ExtHeader) (h : ExtHeader) (j : ℕ) → h.number ≡ j → AreTakenInLayers bytes_left is_steady has_failed old mid c → IsTakenInLayer bytes_left (layer_of j) mid new h.bytes
       → is_steady (inner_of new) ≡ is_steady (inner_of mid) → has_failed (inner_of new) ≡ has_failed (inner_of mid) → AreTakenInLayers bytes_left is_steady has_failed old new (c ++ h ∷ [])
   layer_next old mid new c h j is t taken steady kept = grind (arith, common_steps, bytes_of-more, length-append, limits_behind-more, never_empty)
@@ -94,7 +94,7 @@ module _ {T : Type 0} (bytes_left : T → Option (List ℕ)) (is_steady has_fail
       → IsHeaderRefusedInLayer bytes_left is_steady has_failed e first m old new
   layer_refused_as e first m j old new r is h8 = search rules
 
-  -- a refused chain has the error of the parse of the window
+  -- a chain whose read failed has the error of the parse of the window
   pub layer_refused_error : (e : HeaderLimitedReadError) (old new : LimitedReader T) (n : ℕ)
       → IsChainRefused (AreTakenInLayers bytes_left is_steady has_failed) (IsHeaderRefusedInLayer bytes_left is_steady has_failed e) old new n
       → IsSliceErrorInLayers n (is_steady (inner_of old)) (window bytes_left old) e

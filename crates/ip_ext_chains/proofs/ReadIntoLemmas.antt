@@ -1,4 +1,4 @@
--- A header that was read stands in its place.
+-- A header that was read is in its place.
 use Rattle.ip_spec.proofs.Common.{◌≡◌, ℕ, List, refl, inl, inr, rules, Option, Some, Result, IfOk, IsHeader, IsRawHeader, IsFragmentHeader, IsAuthHeader, raw, fragment, auth, RawFields, FragmentFields, AuthFields, raw_fields, fragment_fields, auth_fields, Place, number_in, hop_by_hop, destination, routing, authentication, final_destination}
 use Rattle.ip_base.specs.declared.ip_number_impl.IpNumber.{IpNumber}
 use Rattle.ip_spec.specs.Places.{fragment as fragment_place}
@@ -7,7 +7,7 @@ use Rattle.ip_ext_chains.specs.declared.ipv6_exts.Ipv6Extensions.{Ipv6Extensions
 use Rattle.ip_ext_chains.specs.declared.ipv6_routing_exts.Ipv6RoutingExtensions.{Ipv6RoutingExtensions}
 
 module _ (Taken : List ℕ → Type 0) (v : Ipv6Extensions) {E : Type 0} (r : Result IpNumber E) where
-  -- a place of which v is changed has the header where it is what was read
+  -- v with a changed place has the header in it that was read
   into : {V : Type 0} (IsOne : List ℕ → Type 0) (fields_of : List ℕ → V) (p : Place) (changed : Option V → Ipv6Extensions) → ((b : List ℕ) → IsOne b → IsHeader (number_in p) b) → ((b : List ℕ) → changed (Some (fields_of b)) ≡ with_header p b v)
       → (o : Option V) → IfOk r (λ m. IsHeaderRead IsOne fields_of Taken m.0 o) → IfOk r (λ m. IsReadInto Taken p m.0 v (changed o))
   into IsOne fields_of p changed header value o h7 = search rules

@@ -16,7 +16,7 @@ use Rattle.ip_ext_chains.specs.declared.ipv6_routing_exts.Ipv6RoutingExtensions.
 use Rattle.ip_ext_chains.proofs.PlacedLemmas.{mapped_if}
 use Rattle.ip_ext_chains.proofs.PlacedFieldsLemmas.{placed_fields-value_of, placed_fields_one}
 
--- The chain c from n was read, fits, leads to m and has the value v; `first` tells that it has no header.
+-- The chain c from n was read, fits, leads to m and has the value v; `first` says that it has no header.
 pub record IsReading (n : ℕ) (c : List ExtHeader) (m : ℕ) (v : Ipv6Extensions) (first : Bool) : Type 0 where
   pub chain : IsChain n c
   pub fits : FitsPlaces c
@@ -27,7 +27,7 @@ pub record IsReading (n : ℕ) (c : List ExtHeader) (m : ℕ) (v : Ipv6Extension
 pub reading_none : (n : ℕ) (v : Ipv6Extensions) → v ≡ value_of [] → IsReading n [] n v true
 reading_none n v e = record { chain = no_chain n; fits = fits_places.empty; number = refl; value = e; none_yet = refl }
 
--- What is filled of the value is filled of the chain.
+-- The occupied places of the value are those of the chain.
 module _ (c : List ExtHeader) (v : Ipv6Extensions) (e : v ≡ value_of c) where
   pub filled : (p : Place) → is_some (placed_fields v p) ≡ is_some (header_in p c)
   filled p = ap (λ (w : Ipv6Extensions). is_some (placed_fields w p)) e ∙ ap is_some (placed_fields-value_of c p) ∙ is_some-map fields_of (header_in p c)
@@ -35,7 +35,7 @@ module _ (c : List ExtHeader) (v : Ipv6Extensions) (e : v ≡ value_of c) where
   pub routing_there : is_some v.routing ≡ has_routing c
   routing_there = sym (is_some-map (λ (r : Ipv6RoutingExtensions). raw_header r.routing) v.routing) ∙ filled routing
 
--- One header more.
+-- One more header.
 put_held : (p q : Place) (b : List ℕ) (v : Ipv6Extensions) → is_some (placed_fields v p) ≡ false → (p ≡ final_destination → is_some v.routing ≡ true)
     → placed_fields (with_header p b v) q ≡ (if index p == index q then Some (fields_of (record { number = number_in p; bytes = b })) else placed_fields v q)
 put_held p q b v free nested = search rules
@@ -44,12 +44,12 @@ place_or : (o : Option Place) → (o ≡ None) ⊎ ((p : Place) × (o ≡ Some p
 place_or None = inl refl
 place_or (Some p) = inr (p, refl)
 
--- c with one header more isn't empty
+-- c with one more header isn't empty
 pub never_empty : (c : List ExtHeader) (h : ExtHeader) → c ++ h ∷ [] ≡ [] → ⊥
 never_empty c h e = grind (arith, common_steps)
 
 module _ (n : ℕ) (c : List ExtHeader) (m : ℕ) (v : Ipv6Extensions) (first : Bool) (k : IsReading n c m v first) where
-  -- a number that has no place, and isn't 0, ends the chain
+  -- a number without a place, other than 0, ends the chain
   pub no_place_answers : m ≢ 0 → HasNoPlace first m v → (x : List ℕ) → IsFittingAnswer n (bytes_of c ++ x) v m x None
   no_place_answers other none x = elim (place_or (place_of m (is_some v.routing))) [
     | inl e ↦
@@ -77,7 +77,7 @@ module _ (n : ℕ) (c : List ExtHeader) (m : ℕ) (v : Ipv6Extensions) (first : 
     pub is_number_in : m ≡ number_in p
     is_number_in = place_number m p (has_routing c) own
 
-    -- its place isn't filled
+    -- its place is free
     pub not_taken : is_taken (leads_to n c) c ≡ false
     not_taken = search (rules, own, free_in, and-false)
 
@@ -111,7 +111,7 @@ module _ (n : ℕ) (c : List ExtHeader) (m : ℕ) (v : Ipv6Extensions) (first : 
           none_yet = not_empty c h;
         }
 
--- how many places are empty
+-- the number of empty places
 abbrev pub count_empty : {A : Type 0} → Option A → ℕ
 count_empty None = 1
 count_empty (Some x) = 0
@@ -123,7 +123,7 @@ free_places v =
 fewer_at : (p : Place) (b : List ℕ) (v : Ipv6Extensions) → is_some (placed_fields v p) ≡ false → (p ≡ final_destination → is_some v.routing ≡ true) → free_places (with_header p b v) < free_places v
 fewer_at p b v free nested = search rules
 
--- each header that is read fills one
+-- each header that is read occupies one
 pub fewer : (Taken : List ℕ → Type 0) (first : Bool) (m : ℕ) (p : Place) (j : ℕ) (v w : Ipv6Extensions) → IsNextPlace first m p v → (p ≡ final_destination → is_some v.routing ≡ true) → IsReadInto Taken p j v w → free_places w < free_places v
 fewer Taken first m p j v w next nested r = rw r.value (fewer_at p r.bytes v next.free nested)
 
@@ -131,7 +131,7 @@ empty_is : (c : List ExtHeader) → is_empty c ≡ true → c ≡ []
 empty_is c e = search rules
 
 module _ (n : ℕ) (c : List ExtHeader) (m : ℕ) (v : Ipv6Extensions) (first : Bool) (k : IsReading n c m v first) where
-  -- at number 0 a place is missing only behind a header
+  -- number 0 has no place only after a header
   pub later : m ≡ 0 → HasNoPlace first m v → is_empty c ≡ false
   later zero_number none = elim (cases_Bool (is_empty c)) [
     | inr some ↦ some
@@ -145,6 +145,6 @@ module _ (n : ℕ) (c : List ExtHeader) (m : ℕ) (v : Ipv6Extensions) (first : 
   pub zero_not_taken : m ≡ 0 → is_taken (leads_to n c) c ≡ false
   zero_not_taken zero_number = ap (λ (j : ℕ). is_taken j c) (sym k.number ∙ zero_number)
 
-  -- so where a header is named, the first number names one
+  -- so if a header follows, the first number is an extension number
   pub named : (p : Place) → IsNextPlace first m p v → (IsExtensionNumber n → ⊥) → ⊥
   named p next other = search rules

@@ -1,4 +1,4 @@
--- A write of a value that some chain spells, or that was read from bytes, is refused for want of memory alone.
+-- A write of a value that some chain encodes, or that was parsed from bytes, fails only if memory runs out.
 use Rattle.ip_spec.proofs.Common.{◌≡◌, ◌∙◌, ℕ, List, ap, sym, refl, true, ⊤, Option, Err, is_some, Bor, option_map, AllocError, ExtHeader, leads_to, AreBytes, IsSpelling}
 use Rattle.std.specs.declared.result.Result.{Result}
 use Rattle.ip_spec.proofs.WalkLemmas.{is_some-map}
@@ -13,9 +13,9 @@ use Rattle.ip_ext_chains.specs.declared.err.ipv6_exts.header_write_error.HeaderW
 use Rattle.ip_ext_chains.specs.declared.err.ipv6_exts.header_write_error.HeaderWriteError.TheVariants.{Io, Content}
 pub use Rattle.ip_ext_chains.proofs.WriteLemmas.{no_fault}
 
--- A write of v from n ended with e, of which `o` shows the refusal of memory.
+-- A write of v from n ended with e; `o` is its allocation error, if any.
 module _ (v : Ipv6Extensions) (n : ℕ) (old new : List ℕ) (o : Option (Bor AllocError)) where
-  -- what `write` ensures of a fault of the walk
+  -- the contract of `write` for an error of the walk
   abbrev IsContent : Result ⊤ HeaderWriteError → Type 0
   IsContent r = (fault : ExtsWalkError) → r ≡ Err (Content fault) → IsWalkFault v n old new fault
 

@@ -1,4 +1,4 @@
--- Runs that are written one after the other: what was written and what the others spell is the whole chain.
+-- Runs written one after the other: the bytes written and the encodings of the others are the whole chain.
 use Rattle.ip_spec.proofs.Common.{◌≡◌, ℕ, ◌+◌, ◌≤◌, List, ◌++◌, length, map, ap, arith, append_assoc, rules, [], Some, flat_map-append, ExtHeader, bytes_of, cleared_chain, joined, IsSpelling}
 use Rattle.ip_ext_slices.specs.Longest.{longest_chain}
 use Rattle.ip_ext_chains.specs.RunsOf.{runs_of, AreSpellings}
@@ -7,7 +7,8 @@ use Rattle.ip_ext_chains.specs.Ipv6ExtensionsRuns.{start, input, runs_left, valu
 use Rattle.ip_ext_chains.specs.declared.ipv6_exts.Ipv6Extensions.{Ipv6Extensions}
 use Rattle.ip_ext_chains.specs.declared.ipv6_exts_runs.Ipv6ExtensionsRuns.{Ipv6ExtensionsRuns}
 
--- so many runs of the longest chain from n that begins s were written to `out`, and the others are spelled from m
+-- this many runs of the longest chain from n at the start of s were written to `out`, and the others are encoded from
+-- m
 pub record IsRewriting (n : ℕ) (s : List ℕ) (r : Ipv6ExtensionsRuns) (m count : ℕ) (out : List ℕ) : Type 0 where
   pub first : start r ≡ n
   pub bytes : input r ≡ s
@@ -19,7 +20,7 @@ pub rewriting_begins : (n : ℕ) (s : List ℕ) (r : Ipv6ExtensionsRuns) (m : �
     → ((ds : List (List ExtHeader)) → AreSpellings n (values_left r) ds → bytes_of (joined ds) ≡ bytes_of (cleared_chain (longest_chain n s))) → AreSpellings m (values_left r) (map cleared_chain (runs_left r)) → out ≡ [] → IsRewriting n s r m 0 out
 rewriting_begins n s r m out first bytes runs all written spelled none = search rules
 
--- the next run is given
+-- the next run is returned
 module _ (n : ℕ) (s : List ℕ) (r q : Ipv6ExtensionsRuns) (m count : ℕ) (out : List ℕ) (x : Ipv6Extensions) (k : IsRewriting n s r m count out) (given : GivesRun r (Some x) q) where
   abbrev passes : PassesRun r q
   passes = given.3

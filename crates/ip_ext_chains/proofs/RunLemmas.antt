@@ -1,4 +1,4 @@
--- Headers that are put into their places, and where a run ends.
+-- Headers stored in their places, and the end of a run.
 use Rattle.ip_spec.proofs.Common.{common_steps, ◌≡◌, ◌≢◌, ℕ, ◌*◌, ◌≤◌, List, ◌∷◌, ◌++◌, length, map, nat_eq, arith, refl, ap, sym, ◌∙◌, Bool, true, false, subst, append_assoc, rules, [], ◌==◌, ◌↔◌, Some, None, is_some, if◌then◌else◌, option_map, eqb-true, YieldsList, YieldsList-from_shown, ExtHeader, bytes_of, IsChain, FitsPlaces, IsTaken, Place, index, header_in, place_of}
 use Rattle.ip_spec.proofs.PlaceLemmas.{has_routing, own_place, placed, fits_more, breaks_more, taken_told}
 use Rattle.ip_ext_slices.specs.Ipv6ExtensionSlice.{header_of}
@@ -17,7 +17,7 @@ use Rattle.ip_ext_chains.proofs.RunsOfLemmas.{runs_from-next}
 use Rattle.ip_spec.proofs.HeaderLemmas.{header_number}
 use Rattle.ip_ext_chains.proofs.PlacedLemmas.{mapped_if, filled_same, place_same, none_same, taken_same, value_placed, placed_numbers}
 
--- of the headers c those before `left` were put into the places
+-- of the headers c, those before `left` are stored in the places
 pub record IsPlacing (c left : List ExtHeader) (v : Places Ipv6ExtensionSlice) : Type 0 where
   pub run : List ExtHeader
   pub whole : c ≡ run ++ left
@@ -39,7 +39,7 @@ module _ (c : List ExtHeader) (m : ℕ) (h : ExtHeader) (left : List ExtHeader) 
   run_full : IsFilled m v → IsRun c v (h ∷ left)
   run_full f = record { run = k.run; kept = record { rest = h ∷ left; joined = k.whole; meets = k.fits; breaks = breaks f }; left = refl; placed = k.placed }
 
--- one header more
+-- one more header
 module _ (c : List ExtHeader) (m : ℕ) (h : Ipv6ExtensionSlice) (left : List ExtHeader) (v w : Places Ipv6ExtensionSlice) (p : Place) where
   placing_more : IsChain m (header_of h ∷ left) → IsPlacing c (header_of h ∷ left) v → IsFreePlace m p v → IsPut p h v w → IsPlacing c left w
   placing_more chain k f put =
@@ -56,7 +56,7 @@ module _ (c : List ExtHeader) (m : ℕ) (h : Ipv6ExtensionSlice) (left : List Ex
   pub placing_next : (all : List ExtHeader) → IsChain m all → IsPlacing c all v → all ≡ header_of h ∷ left → IsFreePlace m p v → IsPut p h v w → IsPlacing c left w
   placing_next all chain k e h4 h5 = search (rules, placing_more)
 
--- The run ends where no header is left, and where the place of the next one is filled.
+-- The run ends if no header is left, or if the place of the next one is occupied.
 pub run_all : (c left after : List ExtHeader) (v : Places Ipv6ExtensionSlice) → IsPlacing c left v → (left ≡ []) × (after ≡ []) → IsRun c v after
 run_all c [] [] v k e = record { run = k.run; kept = record { rest = []; joined = k.whole; meets = k.fits; breaks = tt }; left = refl; placed = k.placed }
 run_all c [] (h ∷ after) v k e = let none : h ∷ after ≡ [] = e.1 in cc
@@ -69,7 +69,7 @@ run_ends c (h ∷ left) v m chain k f = run_full c m h left v chain k f
 pub run_numbers : (c d : List ExtHeader) (v : Places Ipv6ExtensionSlice) → IsRun c v d → AreOfNumber v
 run_numbers c d v r = placed_numbers r.run v r.placed
 
--- whether bytes are left tells whether headers are
+-- bytes are left if and only if headers are
 no_headers : (c : List ExtHeader) (s : List ℕ) → 8 * length c ≤ length (bytes_of c) → bytes_of c ≡ s → nat_eq (length s) 0 ≡ true → c ≡ []
 no_headers c s l e z = grind (arith, common_steps, eqb-true)
 
@@ -97,7 +97,7 @@ module _ (m : ℕ) (c d : List ExtHeader) (v : Places Ipv6ExtensionSlice) (r : I
       → map value_of (if before then [] else runs_from m c) ≡ x ∷ map value_of (if done then [] else runs_from m d)
   run_next before done x some is ends on = search (rules, run_passes, value_placed)
 
--- what an iterator over runs yields
+-- the items of an iterator over runs
 ended : (r s : Ipv6ExtensionsRuns) → GivesRun r None s → length (values_left r) ≡ 0
 ended r s e = ap length e.0.0
 

@@ -1,4 +1,4 @@
--- The number before the runs to come: it begins the headers that are left, and each run leads to the next one.
+-- The number before the remaining runs: it starts the headers that are left, and each run leads to the next one.
 use Rattle.ip_spec.proofs.Common.{◌≡◌, ◌≢◌, ℕ, List, ◌∷◌, ◌++◌, map, refl, ap, ◌∙◌, Bool, true, subst, rules, [], if◌then◌else◌, AreBytes, ExtHeader, leads_to, bytes_of, IsChain}
 use Rattle.ip_spec.proofs.RunsLemmas.{chain_behind, leads_to-append}
 use Rattle.ip_ext_chains.specs.Ipv6Extensions.{value_of}
@@ -14,12 +14,12 @@ use Rattle.ip_ext_chains.proofs.RunBytesLemmas.{later_bytes}
 pub number_before-chain : (n m : ℕ) (c : List ExtHeader) → IsChain n c → m ≡ leads_to n c → number_before m c ≡ n
 number_before-chain n m c k e = search rules
 
--- where it leads doesn't depend on where it begins, but for the empty chain
+-- the number to which it leads doesn't depend on the number from which it starts, except for the empty chain
 pub leads_alike : (n m : ℕ) (c : List ExtHeader) → m ≡ leads_to n c → m ≡ leads_to m c
 leads_alike n m [] e = refl
 leads_alike n m (h ∷ c) e = e
 
--- the same from the number before it
+-- from the number before it
 pub leads_before : (m : ℕ) (c : List ExtHeader) → m ≡ leads_to m c → m ≡ leads_to (number_before m c) c
 leads_before m c e = search rules
 
@@ -29,11 +29,11 @@ chain_before n m c k = search rules
 pub number_before-some : (n m : ℕ) (c : List ExtHeader) → IsChain n c → c ≢ [] → n ≡ number_before m c
 number_before-some n m c k some = search rules
 
--- where no run is left, no header is, and the number is that to which the chain leads
+-- if no run is left, no header is, and the number is that to which the chain leads
 pub number_before-end : (m : ℕ) (c : List ExtHeader) (done : Bool) → (done ≡ true → c ≡ []) → map value_of (if done then [] else runs_from m c) ≡ [] → number_before m c ≡ m
 number_before-end m c done last e = search (rules, values_left-some)
 
--- The headers c, which lead to m, are a run and those that are left, d.
+-- The headers c, which lead to m, are a run and the remaining ones d.
 module _ (n m : ℕ) (c d : List ExtHeader) (v : Places Ipv6ExtensionSlice) (chain : IsChain n c) (ends : m ≡ leads_to m c) (r : IsRun c v d) where
   abbrev p : List ExtHeader
   p = r.run

@@ -1,4 +1,4 @@
--- What spells the values of runs: the runs themselves, with their reserved bits put to zero.
+-- The encodings of the values of runs: the runs themselves, with their reserved bits set to zero.
 use Rattle.ip_spec.proofs.Common.{◌≡◌, ℕ, List, ◌∷◌, ◌++◌, map, refl, ap, sym, ◌∙◌, subst, Bool, true, false, [], if◌then◌else◌, flat_map, AllByRecursion, flat_map-append, AreBytes, cleared_chain, ExtHeader, IsChain, leads_to, bytes_of, FitsPlaces, AreChains, AreRuns, joined}
 use Rattle.ip_spec.proofs.ClearedLemmas.{cleared_leads}
 use Rattle.ip_spec.proofs.RunsLemmas.{runs_joined, runs_written, runs_fit, runs_chains}
@@ -41,7 +41,7 @@ chain_spelled : (n m : ℕ) (c : List ExtHeader) (ps : List (List ExtHeader)) �
 chain_spelled n m c ps chain runs bytes =
     pieces_spelled n ps (runs_chains n m c ps chain runs) (runs_fit m c ps runs) (subst (λ c. AreBytes (bytes_of c)) (sym (runs_joined m c ps runs)) bytes)
 
--- the runs that are left of a chain, from the number before them
+-- the remaining runs of a chain, from the number before them
 pub left_spelled : (n m : ℕ) (s : List ℕ) (done : Bool) (j : ℕ) → AreBytes (bytes_of (longest_chain n s)) → j ≡ number_before m (longest_chain n s)
     → AreSpellings j (map value_of (if done then [] else runs_from m (longest_chain n s))) (map cleared_chain (if done then [] else runs_from m (longest_chain n s)))
 left_spelled n m s true j bytes e = tt
@@ -50,7 +50,7 @@ left_spelled n m s false j bytes e =
     let S : ℕ → Type 0 = λ i. AreSpellings i (map value_of (runs_from m c)) (map cleared_chain (runs_from m c)) in
     subst S (sym e) (chain_spelled (number_before m c) m c (runs_from m c) (chain_before n m c (longest_chain-longest n s).has.chain) (runs_from-runs m c) bytes)
 
--- of the runs of the longest chain that begins bytes
+-- the runs of the longest chain at the start of bytes
 module _ (n : ℕ) (s : List ℕ) (bytes : AreBytes s) (ps : List (List ExtHeader)) (vs : List Ipv6Extensions) (are : AreRunsOf n s ps) (values : vs ≡ map value_of ps) where
   pub runs_spelled : AreSpellings n vs (map cleared_chain ps)
   runs_spelled =

@@ -1,4 +1,4 @@
--- The runs of the longest chain, and those that are still to come.
+-- The runs of the longest chain, and the remaining ones.
 use Rattle.ip_spec.proofs.Common.{◌≡◌, ◌≢◌, ℕ, ◌+◌, ◌/◌, ◌≤◌, List, ◌∷◌, ◌++◌, length, map, refl, ap, sym, ◌∙◌, arith, subst, Bool, true, false, rules, [], if◌then◌else◌, AllByRecursion, append-nil, ExtHeader, leads_to, KeepsBeginning, FitsPlaces, IsTaken, AreRuns, joined, how_many}
 use Rattle.ip_spec.proofs.RunsLemmas.{some_runs, one_runs, fewest_runs, some_run, runs_bound, runs_more, runs_end}
 use Rattle.ip_ext_slices.specs.Longest.{longest_chain}
@@ -12,7 +12,7 @@ runs_from-runs m c = (some_runs m c).1
 pub runs_from-is : (m : ℕ) (c : List ExtHeader) (ps : List (List ExtHeader)) → AreRuns m c ps → runs_from m c ≡ ps
 runs_from-is m c ps a = one_runs m c (runs_from m c) ps (runs_from-runs m c) a
 
--- there is always a first
+-- there is always a first run
 pub runs_from-some : (m : ℕ) (c : List ExtHeader) → runs_from m c ≢ []
 runs_from-some m c e = omega (arith, ap length e, some_run m c (runs_from m c) (runs_from-runs m c))
 
@@ -24,7 +24,7 @@ values_left-some false m c w = λ e. runs_from-some m c (no_values (runs_from m 
     no_values [] e = refl
     no_values (p ∷ ps) e = cc
 
--- what is known of the runs of the longest chain from n that begins s
+-- the facts about the runs of the longest chain from n at the start of s
 pub record AreRunsOf (n : ℕ) (s : List ℕ) (ps : List (List ExtHeader)) : Type 0 where
   pub same : ps ≡ runs_of n s
   pub runs : AreRuns (leads_to n (longest_chain n s)) (longest_chain n s) ps
@@ -51,7 +51,7 @@ module _ (n : ℕ) (s : List ℕ) where
   pub runs_from-are : (m : ℕ) (c : List ExtHeader) → m ≡ leads_to n (longest_chain n s) → c ≡ longest_chain n s → AreRunsOf n s (runs_from m c)
   runs_from-are m c em ec = search (rules, runs_of-are)
 
--- The first of them is what is kept, and the others are those of the rest, unless it was the last.
+-- The first of them is the prefix that is kept, and the others are those of the rest, unless it was the last.
 pub runs_from-next : (m : ℕ) (c p : List ExtHeader) (k : KeepsBeginning FitsPlaces c p) (done : Bool) → (done ≡ true → (k.rest ≡ []) × (IsTaken m p → ⊥)) → (done ≡ false → k.rest ≡ [] → IsTaken m p) → runs_from m c ≡ p ∷ (if done then [] else runs_from m k.rest)
 runs_from-next m c p k true ends on =
     let whole : c ≡ p = k.joined ∙ ap (λ l. p ++ l) (ends refl).0 ∙ append-nil p in

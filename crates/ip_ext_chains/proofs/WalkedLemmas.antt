@@ -1,4 +1,4 @@
--- What a walk through a struct of six places has reached and written.
+-- The headers that a walk over a struct of six places has reached and written.
 use Rattle.ip_spec.proofs.Common.{common_steps, ◌≡◌, ℕ, ◌+◌, ◌<◌, ◌≤◌, List, ◌∷◌, ◌++◌, length, ap, sym, ◌∙◌, arith, append_assoc, true, false, rules, [], Option, IfSome, IfNone, append-nil, AppendsOne, ExtHeader, bytes_of, Place, number_in, header_in, HeaderFields, IsEncoded, IsEncodable, fields_len, sum_placed, placed_len, IsLongestOf, PlacedFields, IsReachable, WalkAnswer, answer_at, IsWalkAnswer, next_of, IsEncodingOf}
 use Rattle.ip_spec.proofs.StepLemmas.{bytes_of-more}
 use Rattle.ip_spec.proofs.EncodedLemmas.{encoding_is}
@@ -10,7 +10,7 @@ use Rattle.ip_ext_chains.specs.ExtsWalk.{left_in, IsStep, IsStop}
 use Rattle.ip_ext_chains.specs.declared.header_ref.HeaderRef.{HeaderRef}
 use Rattle.ip_ext_chains.specs.declared.walk.Walk.{Walk}
 
--- some headers were reached from f and taken out of v, and w is the walk behind them
+-- some headers were reached from f and taken out of v, and w is the walk after them
 pub record Walked (v : PlacedFields) (f : ℕ) (w : Walk) : Type 0 where
   pub reached : List ExtHeader
   pub walking : Walking v f reached (left_in w) w.number.0 w.first w.behind_routing
@@ -21,7 +21,7 @@ walking_none v f w left number first behind = search rules
 pub walked_none : (v : PlacedFields) (f : ℕ) (w : Walk) → ((p : Place) → left_in w p ≡ v p) → w.number.0 ≡ f → w.first ≡ true → w.behind_routing ≡ false → Walked v f w
 walked_none v f w left number first behind = record { reached = []; walking = walking_none v f w left number first behind }
 
--- how many headers are left, and how many bytes they have
+-- the number of remaining headers, and their length in bytes
 abbrev pub headers_left : Walk → ℕ
 headers_left w = sum_placed (λ x. 1) (left_in w)
 
@@ -40,27 +40,27 @@ module _ (v : PlacedFields) (f : ℕ) (e : IsEncodable v) (old new : Walk) (x : 
   pub walked_more : Walked v f new
   walked_more = record { reached = c ++ encoded.0 ∷ []; walking = step_walking }
 
--- a place was asked: its header was reached, or the walk is as it was
+-- a place was checked: its header was reached, or the walk is unchanged
 pub walked_in : (v : PlacedFields) (f : ℕ) → IsEncodable v → (old new : Walk) (r : Option HeaderRef) → IfSome r (λ h. IsStep old new (fields_of_ref h)) → IfNone r (new ≡ old)
     → Walked v f old → Walked v f new
 walked_in v f e old new r some none k = grind (arith, common_steps, walked_more)
 
--- where none goes on, the walk has the answer of what is left
+-- if none follows, the walk has the result of what is left
 pub walked_answer : (v : PlacedFields) (f : ℕ) (old new : Walk) (a : WalkAnswer) → Walked v f old → IsStop old new → a ≡ answer_at new.number.0 (left_in new) → IsWalkAnswer v f a
 walked_answer v f old new a k s e = search (rules, walk_answers)
 
--- The headers that were reached were appended to `before`, and there is room for those that are left.
+-- The headers reached were appended to `before`, and there is room for the remaining ones.
 pub record Written (v : PlacedFields) (f : ℕ) (w : Walk) (before now : List ℕ) (room : ℕ) : Type 0 where
   pub reached : List ExtHeader
   pub walking : Walking v f reached (left_in w) w.number.0 w.first w.behind_routing
   pub appended : now ≡ before ++ bytes_of reached
   pub fits : length now + placed_len (left_in w) ≤ room
 
--- what a step takes out of what is left
+-- the length that a step takes from what is left
 pub step_len : (old new : Walk) (x : HeaderFields) → IsStep old new x → placed_len (left_in new) + fields_len x ≡ placed_len (left_in old)
 step_len old new x s = sum_without fields_len (left_in old) (left_in new) s.place x s.there s.taken
 
--- the next header has room
+-- there is room for the next header
 pub written_room : (v : PlacedFields) (f : ℕ) (old new : Walk) (x : HeaderFields) → IsStep old new x → (before now : List ℕ) (room : ℕ) → Written v f old before now room → length now + fields_len x ≤ room
 written_room v f old new x s before now room k = omega (arith, k.fits, step_len old new x s)
 
@@ -77,13 +77,13 @@ written_more v f e old new x s before now more room larger k a fits =
       fits = fits;
     }
 
--- a place was asked: its header was reached and its bytes appended, or all is as it was
+-- a place was checked: its header was reached and its bytes appended, or everything is unchanged
 pub written_in : (v : PlacedFields) (f : ℕ) → IsEncodable v → (old new : Walk) (before now more : List ℕ) (room larger : ℕ) (r : Option HeaderRef)
     → IfSome r (λ h. IsStep old new (fields_of_ref h)) → IfSome r (λ h. AppendsOne (IsEncodingOf (fields_of_ref h)) now more) → IfNone r (new ≡ old) → IfNone r (more ≡ now)
     → length more + placed_len (left_in new) ≤ larger → Written v f old before now room → Written v f new before more larger
 written_in v f e old new before now more room larger r some appended none same fits k = search (rules, written_more)
 
--- nothing is taken out of what a walk begins with
+-- a new walk has everything left
 pub left_len : (v : PlacedFields) (w : Walk) → ((p : Place) → left_in w p ≡ v p) → placed_len (left_in w) ≡ placed_len v
 left_len v w left = ap placed_len (same_held (left_in w) v left)
 
@@ -97,7 +97,7 @@ written_none v f w left number first behind before now room same fits =
       fits = omega (arith, fits, left_len v w left);
     }
 
--- where none goes on, the walk has the answer of what is left
+-- if none follows, the walk has the result of what is left
 pub written_answer : (v : PlacedFields) (f : ℕ) (old new : Walk) (before now : List ℕ) (room : ℕ) (a : WalkAnswer) → Written v f old before now room → IsStop old new → a ≡ answer_at new.number.0 (left_in new) → IsWalkAnswer v f a
 written_answer v f old new before now room a k s e = walked_answer v f old new a (record { reached = k.reached; walking = k.walking }) s e
 

@@ -1,4 +1,4 @@
--- What is read as a struct of six places, and what is written of one.
+-- A struct of six places as it is parsed, and as it is written.
 use Rattle.ip_spec.proofs.Common.{◌≡◌, ℕ, ◌+◌, ◌<◌, List, ◌++◌, length, ap, sym, ◌∙◌, arith, subst, rules, Err, None, ◌↔◌, append_cancel_left, length-append, All-take, IsLongestOf, IsExtensionNumber, AreBytes, cleared_chain, ExtHeader, leads_to, bytes_of, FitsPlaces, IsEncodable, IsValueOf, IsSpelling, IsReachable, WalkAnswer, leads, IsWalkAnswer, IsRead}
 use Rattle.ip_spec.proofs.FitsLemmas.{fits_places}
 use Rattle.ip_spec.proofs.ReadLemmas.{whole_read}
@@ -14,19 +14,19 @@ use Rattle.ip_base.specs.declared.err.ipv6_exts.exts_walk_error.ExtsWalkError.{E
 use Rattle.ip_ext_chains.proofs.FittingLemmas.{fitting_longest, other_answers}
 use Rattle.ip_ext_chains.proofs.PlacedFieldsLemmas.{placed_fields-value_of, placed_fields_one, exts_sum}
 
--- a fault doesn't lead on
+-- an error doesn't lead on
 pub no_fault : (e : ExtsWalkError) (m : ℕ) → walk_answer (Err e) ≡ leads m → ⊥
 no_fault e m k = search rules
 
 module _ (v : Ipv6Extensions) (n : ℕ) where
-  -- a chain has the value v where its headers say what v holds
+  -- a chain has the value v if its headers have the fields of v
   value_is : (c : List ExtHeader) → IsValueOf c (placed_fields v) → v ≡ value_of c
   value_is c k = placed_fields_one v (value_of c) (λ p. k p ∙ sym (placed_fields-value_of c p))
 
   value_holds : (c : List ExtHeader) → v ≡ value_of c → IsValueOf c (placed_fields v)
   value_holds c e p = ap (λ w. placed_fields w p) e ∙ placed_fields-value_of c p
 
-  -- what is read as what v holds is read as v, and the other way round
+  -- parsing as the fields of v is parsing as v, and vice versa
   abbrev pub IsReadAsHeld : ℕ → List ℕ → Type 0
   IsReadAsHeld m s = IsRead FitsPlaces (λ c. IsValueOf c (placed_fields v)) n m s
 
@@ -44,14 +44,14 @@ module _ (v : Ipv6Extensions) (n : ℕ) where
       let both = leads_exactly (placed_fields v) n e a k m in
       (λ w. let it = both.0 w in (it.0, read_as_value m it.0 it.1), λ r. both.1 (r.0, read_as_held m r.0 r.1))
 
-  -- what spells the value that was read from bytes, whatever was left behind
+  -- the encoding of a value parsed from bytes, whatever was left after it
   read_spelled : (s : List ℕ) → AreBytes s → value_of (fitting_chain n s) ≡ v → IsSpelling (placed_fields v) n (cleared_chain (fitting_chain n s))
   read_spelled s bytes e =
       let l = fitting_longest n s in
       cleared_spells (placed_fields v) n (fitting_chain n s) l.has.0.chain l.has.1
       (subst AreBytes l.has.0.prefix (All-take (λ x. x < 256) (length (bytes_of (fitting_chain n s))) s bytes)) (value_holds (fitting_chain n s) (sym e))
 
-  -- a value that is read from bytes has no fault
+  -- a value parsed from bytes has no error
   pub fault_unread : (e : ExtsWalkError) → IsWalkAnswer (placed_fields v) n (walk_answer (Err e)) → (s : List ℕ) → AreBytes s → value_of (fitting_chain n s) ≡ v → ⊥
   fault_unread e a s bytes k =
       no_fault e _ (one_answer (placed_fields v) n (walk_answer (Err e)) _ a (spelled_leads (placed_fields v) n (cleared_chain (fitting_chain n s)) (read_spelled s bytes k)))
@@ -63,35 +63,35 @@ module _ (v : Ipv6Extensions) (n : ℕ) where
     appended_is : (b : List ℕ) → new ≡ old ++ b → bytes_of w.chain ≡ b
     appended_is b e = append_cancel_left old (bytes_of w.chain) b (sym w.appended ∙ e)
 
-    -- where it leads
+    -- the number to which it leads
     written_leads : (m : ℕ) → IsWalkAnswer (placed_fields v) n (leads m) → leads_to n w.chain ≡ m
     written_leads m a = let same : leads (leads_to n w.chain) ≡ leads m = one_answer (placed_fields v) n _ _ w.answer a in cc
 
-    -- what was written is read again
+    -- the bytes written parse again
     pub written_again : (b r : List ℕ) (m : ℕ) → new ≡ old ++ b → IsWalkAnswer (placed_fields v) n (leads m) → (IsExtensionNumber m → ⊥) → IsFittingAnswer n (b ++ r) v m r None
     written_again b r m e a other =
         subst (λ l. IsFittingAnswer n (l ++ r) v m r None) (appended_is b e)
         (other_answers n w.chain m w.spelling.reachable.chain w.spelling.reachable.fits (sym (written_leads m a)) r v (value_is w.chain w.spelling.value) other)
 
-    -- and from it nothing is left
+    -- with nothing left
     pub written_whole : IsEncodable (placed_fields v) → (b : List ℕ) (m : ℕ) → new ≡ old ++ b → IsWalkAnswer (placed_fields v) n (leads m) → IsReadAsValue m b
     written_whole encodable b m e a =
         let s = w.spelling in
         let bytes : AreBytes b = subst AreBytes (appended_is b e) (shown_bytes (placed_fields v) n encodable w.chain s.reachable) in
         whole_read FitsPlaces fits_places n m (λ c. value_of c ≡ v) b w.chain s.reachable.chain s.reachable.fits (sym (value_is w.chain s.value)) (written_leads m a) (appended_is b e) bytes
 
-    -- it is what was read, with its reserved bits put to zero
+    -- they are the bytes parsed, with their reserved bits set to zero
     pub written_cleared : (s : List ℕ) → AreBytes s → value_of (fitting_chain n s) ≡ v → new ≡ old ++ bytes_of (cleared_chain (fitting_chain n s))
     written_cleared s bytes e =
         w.appended ∙ ap (λ l. old ++ bytes_of l) (one_spelling (placed_fields v) n w.chain (cleared_chain (fitting_chain n s)) w.spelling (read_spelled s bytes e))
 
-    -- and of no other value
+    -- and they encode no other value
     pub written_alike : (x : Ipv6Extensions) (c : List ExtHeader) → IsSpelling (placed_fields x) n c → (new ≡ old ++ bytes_of c) ↔ (v ≡ x)
     written_alike x c k =
         let both = spelled_alike (placed_fields v) (placed_fields x) n w.chain c w.spelling k in
         (λ e. placed_fields_one v x (both.0 (appended_is (bytes_of c) e)), λ e. w.appended ∙ ap (λ l. old ++ l) (both.1 (λ p. ap (λ y. placed_fields y p) e)))
 
-  -- The walk leads on, and what was reached was appended: that is all.
+  -- The walk leads on, and the headers reached were appended: these are all.
   pub all_written : (old new : List ℕ) (m : ℕ) (c : List ExtHeader) → IsLongestOf (IsReachable (placed_fields v) n) c → IsWalkAnswer (placed_fields v) n (leads m) → new ≡ old ++ bytes_of c → IsWritten v n old new
   all_written old new m c reach a appended =
       let it = leads_spelled (placed_fields v) n m a in

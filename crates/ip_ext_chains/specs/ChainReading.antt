@@ -1,4 +1,4 @@
--- Reading a chain, one header behind the other, each by its requests.
+-- Reading a chain, one header after the other, each by its requests.
 use Rattle.std.specs.Prelude.{ℕ, ◌≡◌, ◌+◌, ◌==◌, Bool, false, IsTrue, List, [], ◌∷◌, ◌++◌, length, Option, Some, None, is_some, if◌then◌else◌}
 use Rattle.std.specs.Option.{option_map}
 use Rattle.std.specs.Io.KnownBytes.{Consumes}
@@ -26,25 +26,25 @@ use Rattle.ip_ext_chains.specs.declared.err.ipv6_exts.header_read_error.HeaderRe
 use Rattle.ip_ext_chains.specs.declared.err.ipv6_exts.header_limited_read_error.HeaderLimitedReadError.{HeaderLimitedReadError}
 use Rattle.ip_ext_chains.specs.declared.err.ipv6_exts.header_limited_read_error.HeaderLimitedReadError.TheVariants as limited
 
--- the layer that a header of number m begins
+-- the layer that a header of number m starts
 abbrev pub layer_of : ℕ → Layer
 layer_of m = if m == FRAGMENT then Ipv6FragHeader else if m == AUTHENTICATION then IpAuthHeader else Ipv6ExtHeader
 
--- the limit behind headers c, each of which began a layer of its own
+-- the limit after headers c, each of which started a layer of its own
 abbrev pub limits_behind : List ExtHeader → Limits → Limits
 limits_behind [] l = l
 limits_behind (h ∷ c) l = limits_behind c (advanced (length h.bytes) (started (layer_of h.number) l))
 
--- Headers were taken, and whatever is behind them, the parse of them from number n answers the value v, the number
--- m, no fault, and leaves what is behind. `Taken` tells which headers a reader gave.
+-- Headers were read. Whatever follows them, their parse from number n has the value v, the number m, no error, and
+-- leaves what follows. `Taken` says which headers a reader returned.
 pub record IsChainTaken {R : Type 0} (Taken : R → R → List ExtHeader → Type 0) (old new : R) (n : ℕ) (v : Ipv6Extensions) (m : ℕ) : Type 0 where
   pub headers : List ExtHeader
   pub chain : IsChain n headers
   pub taken : Taken old new headers
   pub answer : (rest : List ℕ) → IsFittingAnswer n (bytes_of headers ++ rest) v m rest None
 
--- Behind headers that were taken no header could be read of the number to which they lead, although its place is
--- free. `Refused` tells why, from whether it would be the first, its number, and the reader before and after.
+-- After headers that were read, no header of the number to which they lead could be read, although its place is free.
+-- `Refused` says why, from whether it would be the first, its number, and the reader before and after.
 pub record IsChainRefused {R : Type 0} (Taken : R → R → List ExtHeader → Type 0) (Refused : Bool → ℕ → R → R → Type 0) (old new : R) (n : ℕ) : Type 0 where
   pub headers : List ExtHeader
   pub chain : IsChain n headers
@@ -55,14 +55,14 @@ pub record IsChainRefused {R : Type 0} (Taken : R → R → List ExtHeader → T
   pub refused : Refused (is_empty headers) (leads_to n headers) between new
 
 module _ {T : Type 0} (bytes_left : T → Option (List ℕ)) (is_steady has_failed : T → Bool) where
-  -- these headers were taken; where there are none, nothing has changed
+  -- these headers were read; if there are none, nothing has changed
   pub record AreTaken (old new : T) (c : List ExtHeader) : Type 0 where
     pub bytes : Consumes (bytes_left old) (bytes_left new) (bytes_of c)
     pub steady : is_steady new ≡ is_steady old
     pub kept : has_failed new ≡ has_failed old
     pub none : c ≡ [] → new ≡ old
 
-  -- the same within the limit, each in a layer of its own
+  -- they were read within the limit, each in a layer of its own
   pub record AreTakenInLayers (old new : LimitedReader T) (c : List ExtHeader) : Type 0 where
     pub left_over : left (limits_of new) + length (bytes_of c) ≡ left (limits_of old)
     pub limits : limits_of new ≡ limits_behind c (limits_of old)
@@ -72,7 +72,7 @@ module _ {T : Type 0} (bytes_left : T → Option (List ℕ)) (is_steady has_fail
     pub kept : has_failed (inner_of new) ≡ has_failed (inner_of old)
     pub none : c ≡ [] → new ≡ old
 
-  -- Why a header of number m isn't read. Hop by hop options (0) are read only first; later they are an error, and
+  -- Why a header of number m isn't read. Hop-by-hop options (0) are read only first; later they are an error, and
   -- nothing is read.
   abbrev pub IsHeaderRefused : HeaderReadError → Bool → ℕ → T → T → Type 0
   IsHeaderRefused (read.Io e) first m old new =
@@ -90,7 +90,7 @@ module _ {T : Type 0} (bytes_left : T → Option (List ℕ)) (is_steady has_fail
   IsHeaderRefusedInLayer (limited.Content (IpAuth e)) first m old new =
       (m ≡ AUTHENTICATION) × IsZeroTaken (IsTakenInLayer bytes_left (layer_of m) old new) (has_failed (inner_of old)) (has_failed (inner_of new))
 
--- a routing header without destination options behind it
+-- a routing header without destination options after it
 abbrev pub routing_fields : List ℕ → Ipv6RoutingExtensions
 routing_fields b = record { routing = raw_fields b; final_destination_options = None }
 
@@ -103,17 +103,17 @@ with_header fragment b v = record v { fragment = Some (fragment_fields b) }
 with_header authentication b v = record v { auth = Some (auth_fields b) }
 with_header final_destination b v = record v { routing = option_map {T = Ipv6RoutingExtensions} {U = Ipv6RoutingExtensions} (λ r. record r { final_destination_options = Some (raw_fields b) }) v.routing }
 
--- p is the place of a header of number m, and nothing is in it
+-- p is the place of a header of number m, and it is free
 pub record IsNextPlace (first : Bool) (m : ℕ) (p : Place) (v : Ipv6Extensions) : Type 0 where
   pub own : place_of m (is_some v.routing) ≡ Some p
   pub free : is_some (placed_fields v p) ≡ false
   pub zero_first : m ≡ HOP_BY_HOP → IsTrue first
 
--- there is none
+-- there is no such place
 abbrev pub HasNoPlace : Bool → ℕ → Ipv6Extensions → Type 0
 HasNoPlace first m v = (p : Place) → IsNextPlace first m p v → ⊥
 
--- A header was read into the place p, which leads to number m.
+-- A header was read into the place p, and leads to number m.
 pub record IsReadInto (Taken : List ℕ → Type 0) (p : Place) (m : ℕ) (old new : Ipv6Extensions) : Type 0 where
   pub bytes : List ℕ
   pub header : IsHeader (number_in p) bytes

@@ -1,4 +1,4 @@
--- Equality of structs of headers: that of the fields in each place.
+-- Equality of structs of headers: equality of the fields in each place.
 use Rattle.std.specs.Prelude.{Bool, ◌&&◌}
 use Rattle.std.specs.Option.{option_eq}
 use Rattle.std.specs.Cmp.{IsEquivalence}
@@ -19,7 +19,7 @@ exts_equal a b =
     && (option_eq routing_equal a.routing b.routing
     && (option_eq fragment_equal a.fragment b.fragment && option_eq auth_equal a.auth b.auth)))
 
--- all are equivalences
+-- all are equivalence relations
 pub routing_equivalence : IsEquivalence routing_equal
 routing_equivalence =
     and_equiv (on_equiv (λ v. v.routing) raw_equivalence)

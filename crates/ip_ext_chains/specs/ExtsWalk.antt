@@ -1,4 +1,4 @@
--- A walk through the headers of a struct of six places, and what it answers.
+-- A walk over the headers of a struct of six places, and its result.
 use Rattle.std.specs.Prelude.{◌≡◌, ◌==◌, ◌||◌, false, Some, None, is_some, Result, Ok, Err, if◌then◌else◌}
 use Rattle.ip_base.specs.declared.ip_number_impl.IpNumber.{IpNumber}
 use Rattle.ip_spec.specs.Numbers.{ROUTING}
@@ -11,7 +11,7 @@ use Rattle.ip_base.specs.declared.err.ipv6_exts.exts_walk_error.ExtsWalkError.{E
 use Rattle.ip_base.specs.declared.err.ipv6_exts.exts_walk_error.ExtsWalkError.TheVariants.{HopByHopNotAtStart, ExtNotReferenced}
 use Rattle.ip_ext_chains.specs.declared.walk.Walk.{Walk}
 
--- the answer of a walk that a result is
+-- a call's result as the result of a walk
 abbrev pub walk_answer : Result IpNumber ExtsWalkError → WalkAnswer
 walk_answer (Ok n) = leads n.0
 walk_answer (Err HopByHopNotAtStart) = hop_by_hop_not_at_start
@@ -21,7 +21,7 @@ walk_answer (Err (ExtNotReferenced n)) = not_referenced n.0
 abbrev pub left_in : Walk → PlacedFields
 left_in w p = if is_some (at p w.reached) then None else placed_fields w.headers.now p
 
--- a header that says x is next in the walk `old`, and `new` is the walk behind it
+-- a header with fields x is next in the walk `old`, and `new` is the walk after it
 pub record IsStep (old new : Walk) (x : HeaderFields) : Type 0 where
   pub place : Place
   pub own : next_place old.first old.behind_routing old.number.0 ≡ Some place
@@ -31,7 +31,7 @@ pub record IsStep (old new : Walk) (x : HeaderFields) : Type 0 where
   pub first : new.first ≡ false
   pub behind_routing : new.behind_routing ≡ (old.behind_routing || (old.number.0 == ROUTING))
 
--- no header is next in the walk `old`, and `new` has come no further
+-- no header is next in the walk `old`, and `new` is at the same position
 pub record IsStop (old new : Walk) : Type 0 where
   pub none : (p : Place) → next_place old.first old.behind_routing old.number.0 ≡ Some p → left_in old p ≡ None
   pub left : (p : Place) → left_in new p ≡ left_in old p

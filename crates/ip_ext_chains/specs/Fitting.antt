@@ -1,4 +1,4 @@
--- The longest chain that begins bytes and fits six places.
+-- The longest chain at the start of bytes that fits six places.
 use Rattle.std.specs.Prelude.{◌≡◌, ℕ, List, Option, None, if◌then◌else◌}
 use Rattle.ip_base.specs.declared.len_source.LenSource.TheVariants.{Slice}
 use Rattle.ip_spec.specs.Chain.{ExtHeader, leads_to}
@@ -14,24 +14,24 @@ use Rattle.ip_ext_slices.specs.declared.ipv6_ext_slice.Ipv6ExtensionSlice.{Ipv6E
 use Rattle.ip_ext_chains.specs.declared.places.Places.{Places}
 use Rattle.ip_ext_chains.specs.declared.ipv6_exts.Ipv6Extensions.{Ipv6Extensions}
 
--- There is always exactly one: this is it. Nothing but that it is the longest of them is known of it.
+-- There is always exactly one: this is it. Only that it is the longest of them is known about it.
 abbrev pub fitting_chain : ℕ → List ℕ → List ExtHeader
 fitting_chain n s = (some_longest_under FitsPlaces fits_places n s).0
 
--- The fault behind the chain c, at number m with r left. There is none where the place of m is filled: the bytes
--- there aren't looked at.
+-- The error after the chain c, at number m with r left. None if the place of m is occupied: the bytes there aren't
+-- parsed.
 abbrev pub fitting_faults : List ExtHeader → ℕ → List ℕ → Option Fault
 fitting_faults c m r = if is_taken m c then None else chain_faults Slice c m r
 
--- the fault where the longest chain that fits ends
+-- the error at the end of the longest chain that fits
 abbrev pub fitting_fault : ℕ → List ℕ → Option Fault
 fitting_fault n s = fault_behind fitting_faults (fitting_chain n s) n s
 
--- the answer for it, whose value is the fields of each header in its place
+-- the parse's result for it, whose value is the fields of each header in its place
 abbrev pub IsFittingAnswer : ℕ → List ℕ → Ipv6Extensions → ℕ → List ℕ → Option Fault → Type 0
 IsFittingAnswer n s = IsAnswer value_of fitting_faults (fitting_chain n s) n s
 
--- what the walk over it answers: its headers in their places, with the number, rest and fault behind it
+-- the result of the walk over it: its headers in their places, with the number, rest and error after it
 pub record IsPlacedAnswer (n : ℕ) (s : List ℕ) (v : Places Ipv6ExtensionSlice) (m : ℕ) (r : List ℕ) (f : Option Fault) : Type 0 where
   pub placed : ArePlaced (fitting_chain n s) v
   pub number : m ≡ leads_to n (fitting_chain n s)

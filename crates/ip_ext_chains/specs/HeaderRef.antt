@@ -1,4 +1,4 @@
--- What a header says where it stands.
+-- The fields of a header in its place.
 use Rattle.ip_spec.specs.Places.{HeaderFields, raw_header, fragment_header, auth_header}
 use Rattle.ip_ext_chains.specs.declared.header_ref.HeaderRef.{HeaderRef}
 use Rattle.ip_ext_chains.specs.declared.header_ref.HeaderRef.TheVariants.{Raw, Fragment, Authentication}

@@ -1,4 +1,4 @@
--- The two kinds of error of the extension headers of a packet of either version.
+-- The two kinds of error of the extension headers of a packet of either IP version.
 use Rattle.std.specs.Prelude.{Option, Some, None}
 use Rattle.ip_base.specs.declared.err.len_error.LenError.{LenError}
 use Rattle.ip_base.specs.ChainCause.{ChainCause, IpExts}
@@ -7,17 +7,17 @@ use Rattle.ip_base.specs.declared.err.ip_exts.header_error.HeaderError.{HeaderEr
 use Rattle.ip_ext_chains.specs.declared.err.ip_exts.headers_slice_error.HeadersSliceError.{HeadersSliceError}
 use Rattle.ip_ext_chains.specs.declared.err.ip_exts.headers_slice_error.HeadersSliceError.TheVariants.{Len, Content}
 
--- the error of a length
+-- the length error, if any
 abbrev pub len_of : HeadersSliceError → Option LenError
 len_of (Len e) = Some e
 len_of (Content e) = None
 
--- what is wrong in the bytes
+-- the error in the bytes, if any
 abbrev pub content_of : HeadersSliceError → Option HeaderError
 content_of (Len e) = None
 content_of (Content e) = Some e
 
--- what the error comes of
+-- the error's cause
 abbrev pub cause_of : HeadersSliceError → ChainCause
 cause_of (Len e) = cause.Len e
 cause_of (Content e) = IpExts e

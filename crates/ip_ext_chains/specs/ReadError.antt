@@ -1,4 +1,4 @@
--- What `from_slice` would say where a read is refused.
+-- The error of `from_slice` where a read fails.
 use Rattle.std.specs.Prelude.{ℕ, ◌≡◌, Bool, List, Option, Some, IfSome}
 use Rattle.std.specs.Option.{option_map}
 use Rattle.ip_base.specs.declared.err.len_error.LenError.{LenError}
@@ -13,7 +13,7 @@ use Rattle.ip_ext_chains.specs.declared.err.ipv6_exts.header_read_error.HeaderRe
 use Rattle.ip_ext_chains.specs.declared.err.ipv6_exts.header_limited_read_error.HeaderLimitedReadError.{HeaderLimitedReadError}
 use Rattle.ip_ext_chains.specs.declared.err.ipv6_exts.header_limited_read_error.HeaderLimitedReadError.TheVariants as limited
 
--- from number n, the chain of bytes s that fits ends with this error
+-- from number n, the chain in bytes s that fits ends with this error
 abbrev pub HasError : ℕ → HeaderSliceError → List ℕ → Type 0
 HasError n e s = option_map (λ f. f.0) (fitting_fault n s) ≡ Some e
 
@@ -21,7 +21,7 @@ HasError n e s = option_map (λ f. f.0) (fitting_fault n s) ≡ Some e
 abbrev pub IsTooShort : ℕ → List ℕ → Type 0
 IsTooShort n s = (e : LenError) × HasError n (slice.Len e) s
 
--- `from_slice` tells the same error of the bytes that are left; where the reader fails, of a steady one's
+-- `from_slice` has the read's error for the remaining bytes; if the reader fails, only for a steady reader
 abbrev pub IsSliceError : ℕ → Bool → Option (List ℕ) → HeaderReadError → Type 0
 IsSliceError n steady left (read.Io e) = IfSteady steady left (IsTooShort n)
 IsSliceError n steady left (read.Content e) = IfSome left (HasError n (slice.Content e))
@@ -31,7 +31,7 @@ IsSliceErrorInLayers n steady left (limited.Io e) = IfSteady steady left (IsTooS
 IsSliceErrorInLayers n steady left (limited.Len e) = IfSome left (IsTooShort n)
 IsSliceErrorInLayers n steady left (limited.Content e) = IfSome left (HasError n (slice.Content e))
 
--- the same error
+-- the limited read's error as a chain's error
 abbrev pub of_limited_error : LimitedReadError → HeaderLimitedReadError
 of_limited_error (limit.Io e) = limited.Io e
 of_limited_error (limit.Len e) = limited.Len e

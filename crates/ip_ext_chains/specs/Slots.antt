@@ -1,4 +1,4 @@
--- What stands in each place.
+-- The contents of each place.
 use Rattle.std.specs.Prelude.{◌≡◌, ◌==◌, ◌&&◌, ℕ, List, Bool, true, false, not, Option, Some, None, is_some, IfSome, get_or, if◌then◌else◌}
 use Rattle.std.specs.Option.{option_map, option_map_or}
 use Rattle.ip_spec.specs.Numbers.{HOP_BY_HOP}
@@ -13,7 +13,7 @@ use Rattle.ip_ext_chains.specs.declared.places.Places.{Places}
 abbrev pub at : {T : Type 0} → Place → Places T → Option T
 at p v = get_or v.slots (index p) None
 
--- nothing stands in any place
+-- every place is free
 abbrev pub IsVacant : {T : Type 0} → Places T → Type 0
 IsVacant v = (p : Place) → at p v ≡ None
 
@@ -25,28 +25,28 @@ IsPut q x v w = (p : Place) → at p w ≡ (if index q == index p then Some x el
 abbrev pub place_in : {T : Type 0} → Places T → ℕ → Option Place
 place_in v m = place_of m (is_some (at routing v))
 
--- m isn't 0, and its place is filled
+-- m isn't 0, and its place is occupied
 abbrev pub is_taken_in : {T : Type 0} → Places T → ℕ → Bool
 is_taken_in v m = not (m == HOP_BY_HOP) && option_map_or (λ p. is_some (at p v)) (place_in v m) false
 
--- p is the place of m, and nothing stands in it
+-- p is the place of m, and it is free
 pub record IsFreePlace {T : Type 0} (m : ℕ) (p : Place) (v : Places T) : Type 0 where
   pub own : place_in v m ≡ Some p
   pub free : at p v ≡ None
 
--- the place of m is filled, where it has one
+-- the place of m, if it has one, is occupied
 pub record IsFilled {T : Type 0} (m : ℕ) (v : Places T) : Type 0 where
   pub filled : (p : Place) → place_in v m ≡ Some p → is_some (at p v) ≡ true
 
--- the places hold the headers of the chain c, each in its own
+-- the places contain the headers of the chain c, each in its own
 abbrev pub ArePlaced : List ExtHeader → Places Ipv6ExtensionSlice → Type 0
 ArePlaced c v = (p : Place) → option_map header_of (at p v) ≡ header_in p c
 
--- the fields of the header in a place of the common layout
+-- the fields of the header in a place of the uniform format (RFC 6564)
 abbrev pub raw_at : Place → Places Ipv6ExtensionSlice → Option RawFields
 raw_at p v = option_map (λ h. raw_fields (header_of h).bytes) (at p v)
 
--- what the struct holds that is filled from them
+-- the contents of the struct filled from them
 abbrev pub value_at : Places Ipv6ExtensionSlice → Ipv6Extensions
 value_at v = record {
   hop_by_hop_options = raw_at hop_by_hop v;
@@ -56,6 +56,6 @@ value_at v = record {
   auth = option_map (λ h. auth_fields (header_of h).bytes) (at authentication v);
 }
 
--- each header is of its place's number
+-- each header has its place's number
 abbrev pub AreOfNumber : Places Ipv6ExtensionSlice → Type 0
 AreOfNumber v = (p : Place) → IfSome (at p v) (λ h. (header_of h).number ≡ number_in p)

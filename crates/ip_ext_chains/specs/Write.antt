@@ -1,4 +1,4 @@
--- What is written of a struct of six places.
+-- The bytes written for a struct of six places.
 use Rattle.std.specs.Prelude.{Err, ◌≡◌, ℕ, List, ◌++◌}
 use Rattle.ip_spec.specs.Encoding.{AreBytes}
 use Rattle.ip_spec.specs.Chain.{ExtHeader, leads_to, bytes_of}
@@ -9,15 +9,15 @@ use Rattle.ip_ext_chains.specs.ExtsWalk.{walk_answer}
 use Rattle.ip_ext_chains.specs.declared.ipv6_exts.Ipv6Extensions.{Ipv6Extensions}
 use Rattle.ip_base.specs.declared.err.ipv6_exts.exts_walk_error.ExtsWalkError.{ExtsWalkError}
 
--- The walk from n through v leads on, and `new` is `old` with the bytes of the chain that spells v.
+-- The walk from n over v leads on, and `new` is `old` followed by the bytes of the chain that encodes v.
 pub record IsWritten (v : Ipv6Extensions) (n : ℕ) (old new : List ℕ) : Type 0 where
   pub chain : List ExtHeader
   pub spelling : IsSpelling (placed_fields v) n chain
   pub answer : IsWalkAnswer (placed_fields v) n (leads (leads_to n chain))
   pub appended : new ≡ old ++ bytes_of chain
 
--- The walk from n through v has the fault e: `new` is `old` with the bytes of the headers that v reaches, and v is
--- read from no bytes.
+-- The walk from n over v has the error e: `new` is `old` followed by the bytes of the headers that v reaches, and v
+-- is parsed from no bytes.
 pub record IsWalkFault (v : Ipv6Extensions) (n : ℕ) (old new : List ℕ) (e : ExtsWalkError) : Type 0 where
   pub answer : IsWalkAnswer (placed_fields v) n (walk_answer (Err e))
   pub appended : new ≡ old ++ bytes_of answer.reach

@@ -6,8 +6,8 @@ ghost use Rattle.ip_spec.specs.Fits.{FitsPlaces, IsTaken};
 ghost use Rattle.ip_spec.specs.Parse.{fault_behind};
 ghost use Rattle.ip_ext_chains.specs.Fitting.{fitting_faults};
 
-/// Where the longest chain that fits six places leads to the number of an extension header whose place is free,
-/// there is a fault.
+/// Proves that the longest chain that fits six places has an error if it leads to an extension header's number whose
+/// place is free.
 pub fn free_extension_number_left_has_fault()
     ensures { (n : ℕ) (s : List ℕ) (c : List ExtHeader) → IsLongestUnder FitsPlaces n s c
         → IsExtensionNumber (leads_to n c) → (IsTaken (leads_to n c) c → ⊥)

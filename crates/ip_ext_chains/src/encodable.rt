@@ -1,4 +1,4 @@
-//! That headers can be written, which the ranges of their fields tell. Nothing here does anything when it runs.
+//! Proofs that headers can be written, from the ranges of their fields. The functions here do nothing at run time.
 ghost use Rattle.std.specs.Prelude.{ℕ, ◌<◌, ◌^◌};
 ghost use Rattle.std.specs.Option.{option_map, ForSome};
 ghost use Rattle.ip_spec.specs.Header.{IsRawNumber};
@@ -13,25 +13,25 @@ use crate::{Ipv6Extensions, Ipv6RoutingExtensions};
 use ip_base::IpNumber;
 use ip_ext_headers::{IpAuthHeader, Ipv6FragmentHeader, Ipv6RawExtHeader};
 
-/// The numbers in a slice are bytes.
+/// Proves that the numbers in a slice are bytes.
 #[inline(always)]
 fn in_range(bytes: &[u8])
     ensures { AreBytes bytes.now }
 {}
 
-/// A protocol number is a byte.
+/// Proves that a protocol number is a byte.
 #[inline(always)]
 fn number_in_range(number: IpNumber)
     ensures { number.0 < 256 }
 {}
 
-/// A word has 32 bits.
+/// Proves that a word has 32 bits.
 #[inline(always)]
 fn word_in_range(word: u32)
     ensures { word < 2 ^ 32 }
 {}
 
-/// Of the common layout.
+/// Proves it of a header in the uniform format (RFC 6564).
 #[inline(always)]
 fn raw_encodable(header: &Ipv6RawExtHeader)
     ensures { (n : ℕ) → IsRawNumber n
@@ -41,7 +41,7 @@ fn raw_encodable(header: &Ipv6RawExtHeader)
     in_range(header.payload());
 }
 
-/// A fragment header.
+/// Proves it of a fragment header.
 #[inline(always)]
 fn fragment_encodable(header: &Ipv6FragmentHeader)
     ensures { (h : ExtHeader) × IsEncoded FRAGMENT (fragment_header header.now) h }
@@ -51,7 +51,7 @@ fn fragment_encodable(header: &Ipv6FragmentHeader)
     word_in_range(header.identification);
 }
 
-/// An authentication header.
+/// Proves it of an authentication header.
 #[inline(always)]
 fn auth_encodable(header: &IpAuthHeader)
     ensures { (h : ExtHeader) × IsEncoded AUTHENTICATION (auth_header header.now) h }
@@ -62,7 +62,7 @@ fn auth_encodable(header: &IpAuthHeader)
     in_range(header.raw_icv());
 }
 
-/// One of the common layout that may be there.
+/// Proves it of an optional header in the uniform format (RFC 6564).
 #[inline(always)]
 fn raw_place_encodable(header: &Option<Ipv6RawExtHeader>)
     ensures { (n : ℕ) → IsRawNumber n → ForSome (option_map raw_header header.now)
@@ -73,7 +73,7 @@ fn raw_place_encodable(header: &Option<Ipv6RawExtHeader>)
     }
 }
 
-/// A fragment header that may be there.
+/// Proves it of an optional fragment header.
 #[inline(always)]
 fn fragment_place_encodable(header: &Option<Ipv6FragmentHeader>)
     ensures { ForSome (option_map fragment_header header.now)
@@ -84,7 +84,7 @@ fn fragment_place_encodable(header: &Option<Ipv6FragmentHeader>)
     }
 }
 
-/// An authentication header that may be there.
+/// Proves it of an optional authentication header.
 #[inline(always)]
 fn auth_place_encodable(header: &Option<IpAuthHeader>)
     ensures { ForSome (option_map auth_header header.now)
@@ -95,7 +95,7 @@ fn auth_place_encodable(header: &Option<IpAuthHeader>)
     }
 }
 
-/// A routing header and the destination options behind it, that may be there.
+/// Proves it of an optional routing header and the destination options after it.
 #[inline(always)]
 fn routing_encodable(headers: &Option<Ipv6RoutingExtensions>)
     ensures routing { ForSome (option_map (λ r. raw_header r.routing) headers.now)
@@ -110,7 +110,7 @@ fn routing_encodable(headers: &Option<Ipv6RoutingExtensions>)
 }
 
 impl Ipv6Extensions {
-    /// Each header can be written.
+    /// Proves that each header can be written.
     #[inline(always)]
     pub(crate) fn encodable(&self)
         ensures { IsEncodable (placed_fields self.now) }

@@ -1,4 +1,4 @@
-//! A header where it stands.
+//! A header in its place.
 ghost use Rattle.std.specs.Prelude.{◌≡◌, ◌≤◌, ◌+◌, vec_len, vec_capacity};
 ghost use Rattle.std.specs.Option.{option_map};
 ghost use Rattle.ip_spec.specs.Encoding.{AppendsOne};
@@ -10,7 +10,7 @@ use ip_base::IpNumber;
 use ip_ext_headers::{IpAuthHeader, Ipv6FragmentHeader, Ipv6RawExtHeader};
 use std::alloc::Allocator;
 
-/// A header of one of the three layouts.
+/// A header in one of the three formats.
 #[derive(Clone, Copy)]
 pub(crate) enum HeaderRef<'a> {
     Raw(&'a Ipv6RawExtHeader),
@@ -19,7 +19,7 @@ pub(crate) enum HeaderRef<'a> {
 }
 
 impl<'a> HeaderRef<'a> {
-    /// The number of what follows it.
+    /// Returns the next header field.
     #[inline(always)]
     pub(crate) fn next_header(&self) -> IpNumber
         ensures { result.0 ≡ next_of (fields_of_ref self.now) }
@@ -31,7 +31,7 @@ impl<'a> HeaderRef<'a> {
         }
     }
 
-    /// Appends its bytes, for which there is room.
+    /// Appends the header's bytes. The vector must have room for them.
     #[inline(always)]
     pub(crate) fn append<A: Allocator>(&self, out: &mut Vec<u8, A>)
         requires room { vec_len out.old + fields_len (fields_of_ref self.now) ≤ vec_capacity out.old }

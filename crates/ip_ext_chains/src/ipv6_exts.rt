@@ -19,16 +19,15 @@ use ip_base::IpNumber;
 use ip_ext_headers::{IpAuthHeader, Ipv6FragmentHeader, Ipv6RawExtHeader, Ipv6RawExtHeaderSlice};
 use std::alloc::AllocError;
 
-/// Six places for IPv6 extension headers, one for each kind but for destination options, which have one
-/// before a routing header and one behind it (RFC 8200, section 4.1). Two are equal where the fields in all
-/// places are.
+/// Six places for IPv6 extension headers: one for each kind, and two for destination options, one before a routing
+/// header and one after it (RFC 8200, section 4.1). Two are equal if the fields in all places are.
 #[derive(Debug, Drop)]
 pub struct Ipv6Extensions {
-    /// Hop by hop options (RFC 8200, section 4.3).
+    /// Hop-by-hop options (RFC 8200, section 4.3).
     pub hop_by_hop_options: Option<Ipv6RawExtHeader>,
-    /// Destination options that no routing header is before (RFC 8200, section 4.6).
+    /// Destination options that no routing header precedes (RFC 8200, section 4.6).
     pub destination_options: Option<Ipv6RawExtHeader>,
-    /// A routing header (RFC 8200, section 4.4), and destination options behind it.
+    /// A routing header (RFC 8200, section 4.4), and destination options after it.
     pub routing: Option<Ipv6RoutingExtensions>,
     /// A fragment header (RFC 8200, section 4.5).
     pub fragment: Option<Ipv6FragmentHeader>,
@@ -37,17 +36,17 @@ pub struct Ipv6Extensions {
 }
 
 impl Ipv6Extensions {
-    /// The smallest sum of the headers, in bytes: that of none.
+    /// The smallest length of all headers, in bytes: none.
     pub const MIN_LEN: usize = 0;
 
-    /// The largest sum of the headers, in bytes.
+    /// The largest length of all headers, in bytes.
     pub const MAX_LEN: usize = 9228;
 
-    /// The longest chain from the number that begins the bytes and has a place for each of its headers, with
-    /// the number to which it leads, the bytes after it and the fault there. The offset in a fault counts bytes
-    /// from the start of `start_slice`. There is no fault where the number is no extension number, and none
-    /// where its place is taken: the bytes there aren't looked at. Of bytes that are cut short, as a capture's
-    /// are, it answers those of the headers that lie whole within them.
+    /// Parses the longest chain at the start of the bytes that has a place for each of its headers, for this start
+    /// number. Returns the headers in their places, the number to which they lead, the bytes after them and the error
+    /// that ended the chain, if any. Offsets in the error count from the start of `start_slice`. There is no error if
+    /// the number is not an extension header's, and none if its place is occupied: the bytes there aren't parsed. Of
+    /// truncated bytes, as in a capture, it returns the headers that lie wholly within them.
     #[inline(always)]
     pub fn from_slice_lax(
         start_ip_number: IpNumber,
@@ -71,7 +70,7 @@ impl Ipv6Extensions {
         (exts, number, rest, fault)
     }
 
-    /// What `from_slice_lax` answers, where it tells no fault; else the fault.
+    /// Parses the headers as `from_slice_lax` does, and returns the error, if there is one, instead of the headers.
     #[inline(never)]
     pub fn from_slice(
         start_ip_number: IpNumber,
@@ -92,9 +91,9 @@ impl Ipv6Extensions {
         Ok((exts, number, rest))
     }
 
-    /// Puts the headers of the longest chain from the number that begins the bytes into their places, up to
-    /// the first whose place is taken: the places, the number to which these headers lead, the bytes after
-    /// them and the fault there. Nothing large is made before a fault is known.
+    /// Stores the headers of the longest chain at the start of the bytes in their places, up to the first whose place
+    /// is occupied. Returns the places, the number to which these headers lead, the bytes after them and the error
+    /// there. Nothing large is built before the error is known.
     #[inline(never)]
     fn take_places(
         start: IpNumber,
@@ -122,7 +121,7 @@ impl Ipv6Extensions {
         (places, number, rest, fault)
     }
 
-    /// Fills the places, in which nothing is yet, where they lie.
+    /// Fills this value, whose places are all free, in place.
     #[inline(never)]
     pub(crate) fn fill(&mut self, places: &Places<Ipv6ExtensionSlice<'_>>)
         requires empty { self.old ≡ value_of [] }
@@ -152,7 +151,8 @@ impl Ipv6Extensions {
         }
     }
 
-    /// The number of the headers' bytes, 0 to 9228. Each header can be written, as the ranges of its fields say.
+    /// Returns the headers' length in bytes, 0 to 9228. Each header can be written: the ranges of its fields
+    /// guarantee it.
     pub fn header_len(&self) -> usize
         ensures len { result ≡ exts_len self.now }
         ensures most { result ≤ 9228 }
@@ -175,7 +175,7 @@ impl Ipv6Extensions {
             }
     }
 
-    /// Whether no place is filled.
+    /// Returns whether no place is occupied.
     pub fn is_empty(&self) -> bool
         ensures { result ≡ has_none self.now }
     {
@@ -186,7 +186,7 @@ impl Ipv6Extensions {
             && self.auth.is_none()
     }
 
-    /// Whether the fragment header is there and fragments the payload: its offset isn't 0, or more fragments
+    /// Returns whether a fragment header is present and fragments the payload: its offset isn't 0, or more fragments
     /// follow.
     pub fn is_fragmenting_payload(&self) -> bool
         ensures { result ≡ is_fragmented self.now.fragment }
@@ -198,7 +198,7 @@ impl Ipv6Extensions {
     }
 }
 
-/// Puts the header, where there is one, into the place, in which nothing is yet.
+/// Stores the header, if there is one, in the place, which is free.
 #[inline(always)]
 fn put_raw(place: &mut Option<Ipv6RawExtHeader>, header: Option<&Ipv6RawExtHeaderSlice<'_>>)
     requires { place.old ≡ None }
@@ -209,7 +209,7 @@ fn put_raw(place: &mut Option<Ipv6RawExtHeader>, header: Option<&Ipv6RawExtHeade
     }
 }
 
-/// The number of the bytes of a header that may be there.
+/// Returns the length in bytes of an optional header.
 fn raw_len(header: &Option<Ipv6RawExtHeader>) -> usize
     ensures len { result ≡ option_map_or raw_len header.now 0 }
     ensures most { result ≤ 2048 }
@@ -272,7 +272,7 @@ impl Default for Ipv6Extensions {
 
     ghost is_default = { λ v. v ≡ value_of [] };
 
-    /// No headers.
+    /// Returns a value without headers.
     fn default() -> Self {
         Ipv6Extensions {
             hop_by_hop_options: None,

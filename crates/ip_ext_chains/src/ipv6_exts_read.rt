@@ -23,13 +23,13 @@ use ip_ext_headers::{IpAuthHeader, Ipv6FragmentHeader, Ipv6RawExtHeader};
 use std::io;
 
 impl Ipv6Extensions {
-    /// Reads the headers that the number and those read before name, each into its place, with the number of what
-    /// follows them. No byte behind them is taken: what isn't a header, or has its place filled, ends the read
-    /// before it. Where the number names none, nothing is read.
+    /// Reads the chain of headers from the number, each into its place, and returns them with the number of what
+    /// follows. No byte after them is consumed: the read ends at a number that is not an extension header's, or whose
+    /// place is occupied. If the start number is not an extension header's, nothing is read.
     ///
-    /// `Content` tells what of a header's first bytes can't be, or that hop by hop options are named which don't
-    /// stand first (RFC 8200, section 4.1). `Io` is the reader's error; after it nothing is known of what was
-    /// taken.
+    /// Returns `Content` if the bytes of a header are malformed, or if a header's next header is hop-by-hop options,
+    /// which must be first (RFC 8200, section 4.1). `Io` is the reader's error; after it the number of consumed bytes
+    /// is not known.
     pub fn read<T: ExactRead>(
         reader: &mut T,
         start_ip_number: IpNumber,
@@ -55,8 +55,8 @@ impl Ipv6Extensions {
         }
     }
 
-    /// Reads the headers into their places, in which nothing is yet, and answers the number of what follows them.
-    /// It stands apart: with the loop in `read`, the struct would be cleared and moved once more.
+    /// Reads the headers into their places, which are all free, and returns the number of what follows them. It is
+    /// kept out of line: with the loop in `read`, the struct would be cleared and moved once more.
     #[inline(never)]
     fn read_headers<T: ExactRead>(
         &mut self,
@@ -94,7 +94,7 @@ impl Ipv6Extensions {
         Ok(number)
     }
 
-    /// The place of a header of the number, where nothing is in it. Hop by hop options have one only first.
+    /// Returns the place of a header of the number, if it is free. Hop-by-hop options have one only at the start.
     pub(crate) fn next_place(&self, number: IpNumber, is_first: bool) -> Option<Place>
         ensures next { IfSome result (λ p. IsNextPlace is_first number.0 (as_place p) self.now) }
         ensures none { IfNone result (HasNoPlace is_first number.0 self.now) }
@@ -109,7 +109,7 @@ impl Ipv6Extensions {
         Some(place)
     }
 
-    /// Whether a header is in the place.
+    /// Returns whether the place is occupied.
     fn has(&self, place: Place) -> bool
         ensures { result ≡ is_some (placed_fields self.now (as_place place)) }
     {
@@ -126,8 +126,8 @@ impl Ipv6Extensions {
         }
     }
 
-    /// Reads a header into the place, in which nothing is, and answers the number of what follows it. The buffer is
-    /// for what is read of a payload.
+    /// Reads a header into the place, which is free, and returns its next header. The buffer holds the payload bytes
+    /// read.
     #[inline(always)]
     fn read_into<T: ExactRead>(
         &mut self,
@@ -159,7 +159,7 @@ impl Ipv6Extensions {
     }
 }
 
-/// Reads a header of the common layout, with its payload in the buffer: the number of what follows it, and the
+/// Reads a header in the uniform format (RFC 6564), with its payload in the buffer. Returns its next header and the
 /// payload.
 #[inline(always)]
 fn take_raw<'a, T: ExactRead>(
@@ -189,7 +189,7 @@ fn take_raw<'a, T: ExactRead>(
     }
 }
 
-/// Makes the header the one with this next number and a payload of an allowed length, where it lies.
+/// Sets the header, in place, to this next header and a payload of an allowed length.
 #[inline(always)]
 pub(crate) fn make_raw(header: &mut Ipv6RawExtHeader, next_header: IpNumber, payload: &[u8])
     requires { IsPayloadLen (length payload.now) }
@@ -199,7 +199,7 @@ pub(crate) fn make_raw(header: &mut Ipv6RawExtHeader, next_header: IpNumber, pay
     let _ = header.set_payload(payload);
 }
 
-/// Reads a header of the common layout into the place, and answers the number of what follows it.
+/// Reads a header in the uniform format (RFC 6564) into the place, and returns its next header.
 fn read_raw<T: ExactRead>(
     place: &mut Option<Ipv6RawExtHeader>,
     buffer: &mut [u8; 2046],
@@ -226,8 +226,7 @@ fn read_raw<T: ExactRead>(
     }
 }
 
-/// Reads a routing header into its place, without destination options behind it, and answers the number of what
-/// follows it.
+/// Reads a routing header into its place, without destination options after it, and returns its next header.
 fn read_routing<T: ExactRead>(
     place: &mut Option<Ipv6RoutingExtensions>,
     buffer: &mut [u8; 2046],
@@ -256,7 +255,7 @@ fn read_routing<T: ExactRead>(
     }
 }
 
-/// Reads a fragment header into its place, and answers the number of what follows it.
+/// Reads a fragment header into its place, and returns its next header.
 fn read_fragment<T: ExactRead>(
     place: &mut Option<Ipv6FragmentHeader>,
     reader: &mut T,
@@ -279,7 +278,7 @@ fn read_fragment<T: ExactRead>(
     }
 }
 
-/// Reads an authentication header into its place, and answers the number of what follows it.
+/// Reads an authentication header into its place, and returns its next header.
 fn read_auth<T: ExactRead>(
     place: &mut Option<IpAuthHeader>,
     reader: &mut T,

@@ -26,12 +26,14 @@ use ip_ext_headers::io::{ExactRead, LimitedReader};
 use ip_ext_headers::{IpAuthHeader, Ipv6FragmentHeader, Ipv6RawExtHeader};
 
 impl Ipv6Extensions {
-    /// Reads the headers within a limit, as `read` does of the bytes that may still be read. Each header begins a
-    /// layer of its own: `Ipv6ExtHeader`, `Ipv6FragHeader` or `IpAuthHeader`. Where the number names none, nothing
-    /// is read and no layer begins.
+    /// Reads the headers within a limit, as `read` does from the bytes that may still be read. Each header starts a
+    /// layer of its own: `Ipv6ExtHeader`, `Ipv6FragHeader` or `IpAuthHeader`. If the number is not an extension
+    /// header's, nothing is read and no layer starts.
     ///
-    /// `Len` tells the first request that the limit doesn't leave, which took nothing; `Content` and `Io` are those
-    /// of `read`. In all, `read_len` is what came of the header that wasn't read.
+    /// Returns `Len` for the first request that exceeds the limit, which consumes nothing; `Content` and `Io` are
+    /// those of `read`. After `HopByHopNotAtStart`, layer and `read_len` are those of the last header that was read.
+    /// After any other error the layer is that of the header that could not be read, and `read_len` is the number of
+    /// its bytes read before the error.
     pub fn read_limited<T: ExactRead>(
         reader: &mut LimitedReader<T>,
         start_ip_number: IpNumber,
@@ -55,8 +57,8 @@ impl Ipv6Extensions {
         Ok((exts, number))
     }
 
-    /// Reads the headers into their places, in which nothing is yet, and answers the number of what follows them.
-    /// It stands apart, as `read_headers` does.
+    /// Reads the headers into their places, which are all free, and returns the number of what follows them. It is
+    /// kept out of line, as `read_headers` is.
     #[inline(never)]
     fn read_headers_limited<T: ExactRead>(
         &mut self,
@@ -94,8 +96,8 @@ impl Ipv6Extensions {
         Ok(number)
     }
 
-    /// Reads a header into the place, in which nothing is, and answers the number of what follows it. The buffer is
-    /// for what is read of a payload.
+    /// Reads a header into the place, which is free, and returns its next header. The buffer holds the payload bytes
+    /// read.
     #[inline(always)]
     fn read_into_limited<T: ExactRead>(
         &mut self,
@@ -130,7 +132,7 @@ impl Ipv6Extensions {
     }
 }
 
-/// Reads a header of the common layout, with its payload in the buffer: the number of what follows it, and the
+/// Reads a header in the uniform format (RFC 6564), with its payload in the buffer. Returns its next header and the
 /// payload.
 #[inline(always)]
 fn take_raw_limited<'a, T: ExactRead>(
@@ -162,7 +164,7 @@ fn take_raw_limited<'a, T: ExactRead>(
     }
 }
 
-/// Reads a header of the common layout into the place, and answers the number of what follows it.
+/// Reads a header in the uniform format (RFC 6564) into the place, and returns its next header.
 fn read_raw_limited<T: ExactRead>(
     place: &mut Option<Ipv6RawExtHeader>,
     buffer: &mut [u8; 2046],
@@ -191,8 +193,7 @@ fn read_raw_limited<T: ExactRead>(
     }
 }
 
-/// Reads a routing header into its place, without destination options behind it, and answers the number of what
-/// follows it.
+/// Reads a routing header into its place, without destination options after it, and returns its next header.
 fn read_routing_limited<T: ExactRead>(
     place: &mut Option<Ipv6RoutingExtensions>,
     buffer: &mut [u8; 2046],
@@ -222,7 +223,7 @@ fn read_routing_limited<T: ExactRead>(
     }
 }
 
-/// Reads a fragment header into its place, and answers the number of what follows it.
+/// Reads a fragment header into its place, and returns its next header.
 fn read_fragment_limited<T: ExactRead>(
     place: &mut Option<Ipv6FragmentHeader>,
     reader: &mut LimitedReader<T>,
@@ -246,7 +247,7 @@ fn read_fragment_limited<T: ExactRead>(
     }
 }
 
-/// Reads an authentication header into its place, and answers the number of what follows it.
+/// Reads an authentication header into its place, and returns its next header.
 fn read_auth_limited<T: ExactRead>(
     place: &mut Option<IpAuthHeader>,
     reader: &mut LimitedReader<T>,

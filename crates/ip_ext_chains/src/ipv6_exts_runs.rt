@@ -12,10 +12,10 @@ use crate::run::{is_last, take_run};
 use crate::{Ipv6ExtensionSliceIter, Ipv6Extensions, Ipv6ExtensionsSlice, fault_at};
 use ip_base::IpNumber;
 
-/// The headers of a chain in as few structs of six places as hold them, in order; then `None` for ever.
+/// The headers of a chain in the fewest structs of six places, in order, and `None` from then on.
 #[derive(Debug, Drop)]
 pub struct Ipv6ExtensionsRuns<'a> {
-    // No call reads it: the contracts of `next`, `next_number` and `end` speak of it.
+    // No call reads it: the contracts of `next`, `next_number` and `end` refer to it.
     first: IpNumber,
     bytes: &'a [u8],
     headers: Ipv6ExtensionSliceIter<'a>,
@@ -24,7 +24,7 @@ pub struct Ipv6ExtensionsRuns<'a> {
     done: bool,
     pub ghost leads: { number.0 ≡ leads_to first.0 (longest_chain first.0 bytes.now) },
     pub ghost after: { rest.now ≡ rest_behind (longest_chain first.0 bytes.now) bytes.now },
-    // what is left of the chain leads where the chain does
+    // the remaining headers lead to the number to which the chain leads
     pub ghost ends: { number.0 ≡ leads_to number.0 (headers_left headers) },
     pub ghost are_bytes: { AreBytes (bytes_of (headers_left headers)) },
     pub ghost last: { IsTrue done → headers_left headers ≡ [] },
@@ -41,10 +41,10 @@ impl<'a> Ipv6ExtensionsRuns<'a> {
     ghost use Rattle.ip_ext_chains.specs.Ipv6Extensions.{value_of};
     ghost use Rattle.ip_ext_chains.specs.Ipv6ExtensionsRuns.{start, input, runs_left, values_left, number_left};
 
-    /// The runs of the longest chain from the number that begins the bytes. There is one at least, and one for
-    /// each 8 bytes and one more at most. No header is lost: written one after the other, the first from `first`
-    /// and each other from the number to which the one before leads, they are the chain with its reserved bits
-    /// zero.
+    /// Returns the runs of the longest chain at the start of the bytes, for the start number `first`. There is at
+    /// least one run, and at most one per 8 bytes and one more. No header is lost: written one after the other, the
+    /// first from `first` and each other from the number to which the one before leads, they are the chain with its
+    /// reserved bits zero.
     pub fn new(first: IpNumber, bytes: &'a [u8]) -> Ipv6ExtensionsRuns<'a>
         ensures start { start result ≡ first.0 }
         ensures input { input result ≡ bytes.now }
@@ -77,8 +77,8 @@ impl<'a> Ipv6ExtensionsRuns<'a> {
         }
     }
 
-    /// The number from which the next run is to be written: the first one, and from then on that to which the run
-    /// before leads. Behind the last run it is the number to which the chain leads.
+    /// Returns the number from which the next run is to be written: at the start `first`, and then the number to
+    /// which the run before leads. After the last run it is the number to which the chain leads.
     pub fn next_number(&self) -> IpNumber
         ensures number { result.0 ≡ number_left self.now }
         ensures spelled { AreSpellings result.0 (values_left self.now)
@@ -92,8 +92,9 @@ impl<'a> Ipv6ExtensionsRuns<'a> {
         self.headers.next_number()
     }
 
-    /// From the last item on, the number to which the chain leads, the bytes after it and the fault there. The
-    /// offset in a fault counts bytes from the start of those that `new` was given.
+    /// Returns the end of the chain once no item is left, and `None` before: the number to which the chain leads, the
+    /// bytes after it, and the error that ended it, if any, with its layer. Offsets in the error count from the start
+    /// of the bytes given to `new`.
     pub fn end(&self) -> Option<(IpNumber, &'a [u8], Option<(HeaderSliceError, Layer)>)>
         ensures before { IfNone result (values_left self.now ≢ []) }
         ensures last { IfSome result (λ _. values_left self.now ≡ []) }

@@ -27,8 +27,9 @@ use ip_base::ip_number::{IPV6_DEST_OPTIONS, IPV6_HOP_BY_HOP};
 use std::alloc::{AllocError, Allocator};
 
 impl Ipv6Extensions {
-    /// The number to which the headers lead along their next numbers, where the first is of the number `first`
-    /// and each is reached. It is Ok exactly where some bytes are read as this value with nothing left.
+    /// Returns the number to which the headers lead along their next headers, if the first is of the number `first`
+    /// and each is reached, otherwise the error of the walk. It is Ok if and only if some bytes parse as this value
+    /// with nothing left.
     pub fn next_header(&self, first: IpNumber) -> Result<IpNumber, ExtsWalkError>
         ensures answer { IsWalkAnswer (placed_fields self.now) first.0 (walk_answer result) }
         ensures exactly { (m : ℕ) → (walk_answer result ≡ leads m)
@@ -37,7 +38,7 @@ impl Ipv6Extensions {
     {
         self.encodable();
         let mut walk = Walk::new(self, first);
-        // Linked as they mostly are, in the order of the places, all are reached here.
+        // Headers linked in the order of the places, the usual case, are all reached here.
         let _ = walk.next_in(Place::HopByHop);
         let _ = walk.next_in(Place::Destination);
         let _ = walk.next_in(Place::Routing);
@@ -48,8 +49,8 @@ impl Ipv6Extensions {
         walk.answer()
     }
 
-    /// Leads each header to the next one that is there, in the order of the places, and the last to `last`. The
-    /// answer is the number of the first, or `last` where there is none: walked from there, they lead to `last`.
+    /// Links each header to the next one present, in the order of the places, and the last to `last`. Returns the
+    /// number of the first, or `last` if there is none: a walk from there leads to `last`.
     pub fn set_next_headers(&mut self, last: IpNumber) -> IpNumber
         ensures links { (p : spec_place) → placed_fields self.new p ≡ linked (placed_fields self.old) last.0 p }
         ensures first { result.0 ≡ first_number (placed_fields self.old) places last.0 }
@@ -64,12 +65,13 @@ impl Ipv6Extensions {
         link_raw(&mut self.hop_by_hop_options, IPV6_HOP_BY_HOP, next)
     }
 
-    /// Appends the headers in the order in which they are walked from the number `first`, with their reserved
-    /// bits zero. It is Ok exactly where `next_header` is, want of memory aside. The bytes are read as this value
-    /// again, with nothing left; where they lead to no extension number, also with any bytes behind them. Where
-    /// a header isn't reached, those that are were appended. Memory is asked for first: it is refused before
-    /// anything is appended and before a header that isn't reached is reported, and only where there are headers
-    /// for which the vector has no room and can't grow.
+    /// Appends the headers in the order of a walk from the number `first`, with their reserved bits zero. Unless
+    /// memory runs out, the result is Ok if and only if that of `next_header` is. The bytes parse as this value, with
+    /// nothing left; if they lead to a number that is not an extension header's, they do so whatever bytes follow.
+    ///
+    /// Memory is requested first. Returns `Io` if there are headers for which the vector has no room and can't grow;
+    /// then nothing has been appended. Returns `Content` if a header isn't reached; then the headers that are reached
+    /// have been appended.
     pub fn write<A: Allocator>(
         &self,
         out: &mut Vec<u8, A>,
@@ -121,7 +123,7 @@ impl Ipv6Extensions {
     }
 }
 
-/// The next header of the walk, where it stands in the place: its bytes are appended.
+/// Appends the bytes of the next header of the walk, if it is in this place, and returns the header.
 #[inline(always)]
 fn append_next<'a, A: Allocator>(
     walk: &mut Walk<'a>,

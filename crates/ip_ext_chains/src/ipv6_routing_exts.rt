@@ -4,24 +4,24 @@ ghost use Rattle.ip_ext_chains.specs.Ipv6Extensions.{routing_len};
 use ip_ext_headers::Ipv6RawExtHeader;
 use std::alloc::AllocError;
 
-/// An IPv6 routing header (RFC 8200, section 4.4) and the destination options behind it, which only the
-/// destination itself reads (section 4.1).
+/// An IPv6 routing header (RFC 8200, section 4.4) and the destination options after it, which only the final
+/// destination processes (section 4.1).
 #[derive(Debug, Drop)]
 pub struct Ipv6RoutingExtensions {
     /// The routing header.
     pub routing: Ipv6RawExtHeader,
-    /// Destination options behind the routing header.
+    /// Destination options after the routing header.
     pub final_destination_options: Option<Ipv6RawExtHeader>,
 }
 
 impl Ipv6RoutingExtensions {
-    /// The smallest sum of both headers, in bytes: a routing header without options behind it.
+    /// The smallest length of both headers, in bytes: a routing header without options after it.
     pub const MIN_LEN: usize = 8;
 
-    /// The largest sum of both headers, in bytes.
+    /// The largest length of both headers, in bytes.
     pub const MAX_LEN: usize = 4096;
 
-    /// The number of the headers' bytes, `MIN_LEN` to `MAX_LEN`.
+    /// Returns the headers' length in bytes, `MIN_LEN` to `MAX_LEN`.
     pub fn header_len(&self) -> usize
         ensures len { result ≡ routing_len self.now }
         ensures least { 8 ≤ result }

@@ -1,5 +1,5 @@
-//! Six places for IPv6 extension headers (RFC 8200, section 4.1): parsed, linked, walked and written, and the
-//! runs of a chain that has more of them. The borrowed chains and those of IPv4 are shown here too.
+//! Six places for IPv6 extension headers (RFC 8200, section 4.1): parsed, linked, walked and written, and the runs of
+//! a chain that has more of them. The borrowed chains and those of IPv4 are exported here too.
 #![tactic(auto)]
 
 mod chain_laws;

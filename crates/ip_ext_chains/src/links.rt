@@ -1,4 +1,4 @@
-//! Next numbers set, header by header from the last place to the first.
+//! Next headers set, header by header from the last place to the first.
 ghost use Rattle.std.specs.Prelude.{◌≡◌, is_some, if◌then◌else◌};
 ghost use Rattle.std.specs.Option.{option_map};
 ghost use Rattle.ip_spec.specs.Numbers.{ROUTING, FRAGMENT, AUTHENTICATION, DESTINATION_OPTIONS};
@@ -10,7 +10,7 @@ use crate::Ipv6RoutingExtensions;
 use ip_base::{IpNumber, ip_number};
 use ip_ext_headers::{IpAuthHeader, Ipv6FragmentHeader, Ipv6RawExtHeader};
 
-/// Leads the header, if there is one, to `next`: the number to which what is before it leads.
+/// Links the header, if there is one, to `next`. Returns the number to which the headers before it lead.
 #[inline(always)]
 pub(crate) fn link_raw(
     header: &mut Option<Ipv6RawExtHeader>,
@@ -30,7 +30,7 @@ pub(crate) fn link_raw(
     }
 }
 
-/// The same of the destination options behind a routing header.
+/// Links the destination options after a routing header, as `link_raw` does.
 #[inline(always)]
 pub(crate) fn link_final(headers: &mut Option<Ipv6RoutingExtensions>, next: IpNumber) -> IpNumber
     ensures linked { option_map raw_header (final_of headers.new)
@@ -50,7 +50,7 @@ pub(crate) fn link_final(headers: &mut Option<Ipv6RoutingExtensions>, next: IpNu
     }
 }
 
-/// The same of the routing header.
+/// Links the routing header, as `link_raw` does.
 #[inline(always)]
 pub(crate) fn link_routing(headers: &mut Option<Ipv6RoutingExtensions>, next: IpNumber) -> IpNumber
     ensures linked { option_map (λ r. raw_header r.routing) headers.new
@@ -67,7 +67,7 @@ pub(crate) fn link_routing(headers: &mut Option<Ipv6RoutingExtensions>, next: Ip
     }
 }
 
-/// The same of the fragment header.
+/// Links the fragment header, as `link_raw` does.
 #[inline(always)]
 pub(crate) fn link_fragment(header: &mut Option<Ipv6FragmentHeader>, next: IpNumber) -> IpNumber
     ensures linked { option_map fragment_header header.new
@@ -83,7 +83,7 @@ pub(crate) fn link_fragment(header: &mut Option<Ipv6FragmentHeader>, next: IpNum
     }
 }
 
-/// The same of the authentication header.
+/// Links the authentication header, as `link_raw` does.
 #[inline(always)]
 pub(crate) fn link_auth(header: &mut Option<IpAuthHeader>, next: IpNumber) -> IpNumber
     ensures linked { option_map auth_header header.new

@@ -22,7 +22,7 @@ pub(crate) enum Place {
 }
 
 impl Place {
-    /// The place of a header of the number, behind a routing header or not.
+    /// Returns the place of a header of the number, after a routing header or not.
     #[inline(always)]
     pub(crate) fn of(number: IpNumber, behind_routing: bool) -> Option<Place>
         ensures { option_map as_place result ≡ place_of number.0 behind_routing }
@@ -38,7 +38,7 @@ impl Place {
         }
     }
 
-    /// The number of the headers that stand in it.
+    /// Returns the number of the place's headers.
     #[inline(always)]
     pub(crate) fn number(self) -> IpNumber
         ensures { result.0 ≡ number_in (as_place self) }
@@ -52,7 +52,7 @@ impl Place {
         }
     }
 
-    /// Where it stands among the places.
+    /// Returns the place's index.
     #[inline(always)]
     fn index(self) -> usize
         ensures { result ≡ index (as_place self) }
@@ -61,7 +61,7 @@ impl Place {
     }
 }
 
-/// Something in each place, or nothing.
+/// A value, or nothing, in each place.
 #[derive(Drop)]
 pub(crate) struct Places<T> {
     slots: [Option<T>; 6],
@@ -70,7 +70,7 @@ pub(crate) struct Places<T> {
 impl<T: Drop> Places<T> {
     ghost use Rattle.ip_ext_chains.specs.Slots.{at, IsVacant, IsPut, IsFreePlace, IsFilled, is_taken_in};
 
-    /// Nothing in any place.
+    /// Returns places that are all free.
     #[inline(always)]
     pub(crate) fn new() -> Places<T>
         ensures { IsVacant result }
@@ -80,7 +80,7 @@ impl<T: Drop> Places<T> {
         }
     }
 
-    /// What is in the place.
+    /// Returns the value in the place.
     #[inline(always)]
     pub(crate) fn get(&self, place: Place) -> Option<&T>
         ensures { option_map (λ x. x.now) result ≡ at (as_place place) self.now }
@@ -88,7 +88,7 @@ impl<T: Drop> Places<T> {
         self.slots[place.index()].as_ref()
     }
 
-    /// The place of a header of the number, behind the routing header if one is here.
+    /// Returns the place of a header of the number, after the routing header if there is one here.
     #[inline(always)]
     pub(crate) fn place_of(&self, number: IpNumber) -> Option<Place>
         ensures { option_map as_place result ≡ place_of number.0 (is_some (at routing self.now)) }
@@ -96,8 +96,8 @@ impl<T: Drop> Places<T> {
         Place::of(number, self.get(Place::Routing).is_some())
     }
 
-    /// Whether the place of the number is filled. That of hop by hop options isn't asked for, since no header
-    /// of them comes later.
+    /// Returns whether the place of the number is occupied. Hop-by-hop options are left out, since they are never a
+    /// later header.
     #[inline(always)]
     pub(crate) fn is_taken(&self, number: IpNumber) -> bool
         ensures { result ≡ is_taken_in self.now number.0 }
@@ -108,7 +108,7 @@ impl<T: Drop> Places<T> {
         number != ip_number::IPV6_HOP_BY_HOP && self.get(place).is_some()
     }
 
-    /// The place of the number, where nothing is there.
+    /// Returns the place of the number, if it is free.
     #[inline(always)]
     pub(crate) fn free_place(&self, number: IpNumber) -> Option<Place>
         ensures free { IfSome result (λ p. IsFreePlace number.0 (as_place p) self.now) }
@@ -121,7 +121,7 @@ impl<T: Drop> Places<T> {
         Some(place)
     }
 
-    /// Puts it into the place.
+    /// Stores a value in the place.
     #[inline(always)]
     pub(crate) fn put(&mut self, place: Place, value: T)
         ensures { IsPut (as_place place) value self.old self.new }
@@ -137,7 +137,7 @@ impl<'a> Places<Ipv6ExtensionSlice<'a>> {
     ghost use Rattle.ip_ext_chains.specs.Slots.{at, raw_at, AreOfNumber};
     ghost use Rattle.ip_ext_slices.specs.Ipv6ExtensionSlice.{header_of};
 
-    /// The header in a place of the common layout.
+    /// Returns the header in a place of the uniform format (RFC 6564).
     #[inline(always)]
     pub(crate) fn raw(&self, place: Place) -> Option<&Ipv6RawExtHeaderSlice<'a>>
         requires common { IsRawNumber (number_in (as_place place)) }
@@ -155,7 +155,7 @@ impl<'a> Places<Ipv6ExtensionSlice<'a>> {
         }
     }
 
-    /// The fragment header.
+    /// Returns the fragment header.
     #[inline(always)]
     pub(crate) fn fragment(&self) -> Option<&Ipv6FragmentHeaderSlice<'a>>
         requires number { IfSome (at fragment self.now)
@@ -169,7 +169,7 @@ impl<'a> Places<Ipv6ExtensionSlice<'a>> {
         }
     }
 
-    /// The authentication header.
+    /// Returns the authentication header.
     #[inline(always)]
     pub(crate) fn auth(&self) -> Option<&IpAuthHeaderSlice<'a>>
         requires number { IfSome (at authentication self.now)

@@ -7,7 +7,7 @@ use crate::places::Places;
 use crate::{Ipv6ExtensionSlice, Ipv6ExtensionSliceIter};
 use ip_base::IpNumber;
 
-/// Puts headers into their places until the place of the next is filled, or none is left.
+/// Stores headers in their places until the place of the next is occupied, or none is left.
 #[inline(always)]
 pub(crate) fn take_run<'a>(
     headers: &mut Ipv6ExtensionSliceIter<'a>,
@@ -26,7 +26,8 @@ pub(crate) fn take_run<'a>(
     }
 }
 
-/// Whether the run in the places is the last: no header is left, and the number at the end isn't taken.
+/// Returns whether the run in the places is the last: no header is left, and the place of the number at the end is
+/// free.
 #[inline(always)]
 pub(crate) fn is_last(
     headers: &Ipv6ExtensionSliceIter<'_>,

@@ -1,4 +1,4 @@
-//! The walk along the next numbers of headers that stand in six places.
+//! The walk along the next headers of headers in six places.
 ghost use Rattle.std.specs.Prelude.{◌≡◌, ◌↔◌, true, false, IsTrue, Some, is_some, IfSome, IfNone};
 ghost use Rattle.std.specs.List.{find};
 ghost use Rattle.std.specs.Option.{option_map};
@@ -28,7 +28,7 @@ pub(crate) struct Walk<'a> {
 }
 
 impl<'a> Walk<'a> {
-    /// From the number, with no header reached.
+    /// Returns the walk from the number, with no header reached.
     #[inline(always)]
     pub(crate) fn new(headers: &'a Ipv6Extensions, start: IpNumber) -> Walk<'a>
         ensures left { (p : spec_place) → left_in result p ≡ placed_fields headers.now p }
@@ -45,7 +45,7 @@ impl<'a> Walk<'a> {
         }
     }
 
-    /// The next header. Hop by hop options are next only at the start.
+    /// Returns the next header. Hop-by-hop options are next only at the start.
     #[inline(always)]
     pub(crate) fn next(&mut self) -> Option<HeaderRef<'a>>
         ensures some { IfSome result (λ h. IsStep self.old self.new (fields_of_ref h)) }
@@ -54,7 +54,7 @@ impl<'a> Walk<'a> {
         if self.number == ip_number::IPV6_HOP_BY_HOP && !self.first {
             return None;
         }
-        // Each arm goes on by itself, so that its place and layout are known when it is compiled.
+        // Each arm makes its own call, so that its place and format are known at compile time.
         match Place::of(self.number, self.behind_routing)? {
             Place::HopByHop => self.reach(Place::HopByHop),
             Place::Destination => self.reach(Place::Destination),
@@ -65,7 +65,7 @@ impl<'a> Walk<'a> {
         }
     }
 
-    /// The next header, where it stands in the place.
+    /// Returns the next header, if it is in the place.
     #[inline(always)]
     pub(crate) fn next_in(&mut self, place: Place) -> Option<HeaderRef<'a>>
         ensures some { IfSome result (λ h. IsStep self.old self.new (fields_of_ref h)) }
@@ -77,7 +77,7 @@ impl<'a> Walk<'a> {
         self.reach(place)
     }
 
-    /// Whether a header of the number stands in the place.
+    /// Returns whether a header of the number is in the place.
     #[inline(always)]
     fn goes_on_in(&self, place: Place) -> bool
         ensures { IsTrue result ↔ (next_place self.now.first self.now.behind_routing
@@ -92,7 +92,7 @@ impl<'a> Walk<'a> {
         is_own && self.number == place.number()
     }
 
-    /// Reaches the header in the place of the number, where one is left there.
+    /// Reaches the header in the place of the number, if it is left, and returns it.
     #[inline(always)]
     fn reach(&mut self, place: Place) -> Option<HeaderRef<'a>>
         requires own { next_place self.old.first self.old.behind_routing self.old.number.0
@@ -109,7 +109,7 @@ impl<'a> Walk<'a> {
         Some(header)
     }
 
-    /// The header in the place, where it isn't reached yet.
+    /// Returns the header in the place, if it isn't reached yet.
     #[inline(always)]
     fn left(&self, place: Place) -> Option<HeaderRef<'a>>
         ensures { option_map fields_of_ref result ≡ left_in self.now (as_place place) }
@@ -120,7 +120,7 @@ impl<'a> Walk<'a> {
         header_in(self.headers, place)
     }
 
-    /// The first place, in their order, whose header isn't reached.
+    /// Returns the first place, in order, whose header isn't reached.
     #[inline(always)]
     fn first_left(&self) -> Option<Place>
         ensures { option_map as_place result ≡ find (λ p. is_some (left_in self.now p)) places }
@@ -142,7 +142,7 @@ impl<'a> Walk<'a> {
         }
     }
 
-    /// The number that was reached, where no header is left.
+    /// Returns the number that was reached if no header is left, otherwise the error of the walk.
     #[inline(always)]
     pub(crate) fn answer(&self) -> Result<IpNumber, ExtsWalkError>
         ensures { walk_answer result ≡ answer_at self.now.number.0 (left_in self.now) }
@@ -161,7 +161,7 @@ impl<'a> Walk<'a> {
     }
 }
 
-/// The header in the place.
+/// Returns the header in the place.
 #[inline(always)]
 fn header_in(headers: &Ipv6Extensions, place: Place) -> Option<HeaderRef<'_>>
     ensures { option_map fields_of_ref result ≡ placed_fields headers.now (as_place place) }

@@ -1,4 +1,4 @@
--- Why bytes begin with no authentication header.
+-- Why bytes don't start with an authentication header.
 use Rattle.ip_spec.proofs.Common.{Bool, ℕ, ◌<◌, List, ◌++◌, length, rules, AuthAsks, Option}
 use Rattle.ip_base.specs.declared.err.layer.Layer.TheVariants.{IpAuthHeader}
 use Rattle.ip_base.specs.declared.len_source.LenSource.TheVariants.{Slice}
@@ -14,17 +14,17 @@ use Rattle.ip_ext_headers.specs.declared.err.ip_auth.header_limited_read_error.H
 use Rattle.ip_ext_headers.specs.declared.err.ip_auth.header_limited_read_error.HeaderLimitedReadError.TheVariants as limited
 use Rattle.ip_ext_headers.specs.AuthReading.{auth_slice_fault, IsTooShort, IsAuthRefusedInLayer, IsSliceErrorInLayer, of_limited_error}
 
--- too few bytes are behind those that came
+-- too few bytes follow those consumed
 pub auth_short : (done : List ℕ) (count : ℕ) (xs : List ℕ) → AuthAsks done count → length xs < count → IsTooShort auth_slice_fault (done ++ xs)
 auth_short done count xs a few = auth_asks_fault Slice (length (done ++ xs)) 0 done count xs few a
 
 module _ {T : Type 0} (bytes_left : T → Option (List ℕ)) (is_steady has_failed : T → Bool) (old new : LimitedReader T) where
-  -- a refused request of an authentication header is its refusal
+  -- a refused request within an authentication header is a refusal of the header
   pub limited_refused : (e : LimitedReadError) → IsRefusedInLayer bytes_left is_steady has_failed AuthAsks IpAuthHeader old new e
       → IsAuthRefusedInLayer bytes_left is_steady has_failed old new (of_limited_error e)
   limited_refused e r = search rules
 
-  -- and tells the error of the parse of the window
+  -- the refusal reports the error of the parse of the window
   pub limited_fault : (e : HeaderLimitedReadError) → IsAuthRefusedInLayer bytes_left is_steady has_failed old new e → IsSliceErrorInLayer auth_slice_fault (is_steady (inner_of old)) (window bytes_left old) e
   limited_fault (limited.Io e) r = refused_within_short AuthAsks (IsTooShort auth_slice_fault) auth_short bytes_left is_steady has_failed IpAuthHeader old new r
   limited_fault (limited.Len e) r = past_limit_short AuthAsks (IsTooShort auth_slice_fault) auth_short bytes_left is_steady has_failed IpAuthHeader old new e r

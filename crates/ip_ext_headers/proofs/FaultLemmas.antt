@@ -1,4 +1,4 @@
--- The fault at bytes: none at a header, and one where a request of a header finds too few bytes.
+-- The error at bytes: none at a header, and one if a request of a header finds too few bytes.
 use Rattle.ip_spec.proofs.Common.{common_steps, ◌≡◌, ℕ, ◌+◌, ◌*◌, ◌<◌, List, ◌++◌, length, refl, arith, slice_index, ap, inl, inr, rules, Some, None, cases_lt, lt-ltb, le-ltb, ne_eqb, get_or_append_left, IsPrefix, IsRawHeader, IsFragmentHeader, IsAuthHeader, RawAsks, FragmentAsks, fragment_whole, AuthAsks, auth_start, auth_icv, IsZeroLength}
 use Rattle.std.proofs.Common.{length-append}
 use Rattle.ip_base.specs.LenError.{too_short}
@@ -34,7 +34,7 @@ module _ (source : LenSource) (n k : ℕ) where
     | inr more ↦ (too_short source n k Ipv6ExtHeader (8 * (slice_index s 1 + 1)), rw (le-ltb (length s) 8 more, lt-ltb (length s) (8 * (slice_index s 1 + 1)) few) refl)
   ]
 
-  -- where a request behind the bytes that came finds too few
+  -- A request after the consumed bytes finds too few.
   module _ (done : List ℕ) (count : ℕ) (xs : List ℕ) (few : length xs < count) where
     pub raw_asks_fault : RawAsks done count → (e : LenError) × (raw_fault source n k (done ++ xs) ≡ Some e)
     raw_asks_fault a = search (rules, lt-ltb, length-append, raw_rest_fault, get_or_append_left)
@@ -62,6 +62,6 @@ module _ (source : LenSource) (n k : ℕ) where
           )
     ]
 
-  -- where the bytes that came tell a length of zero
+  -- the consumed bytes say that the length is zero
   pub auth_zero_fault : (done xs : List ℕ) → IsZeroLength done → auth_fault source n k (done ++ xs) ≡ Some (Content ZeroPayloadLen)
   auth_zero_fault done xs z = search (rules, slice_index, get_or_append_left, le-ltb, length-append)

@@ -8,25 +8,25 @@ use Rattle.ip_base.specs.declared.err.ip_auth.header_error.HeaderError.{HeaderEr
 use Rattle.ip_ext_headers.specs.declared.err.ip_auth.header_limited_read_error.HeaderLimitedReadError.{HeaderLimitedReadError}
 use Rattle.ip_ext_headers.specs.declared.err.ip_auth.header_limited_read_error.HeaderLimitedReadError.TheVariants.{Io, Len, Content}
 
--- the reader's error
+-- the reader's error, if any
 abbrev pub io_of : HeaderLimitedReadError → Option Error
 io_of (Io e) = Some e
 io_of (Len e) = None
 io_of (Content e) = None
 
--- the error of a length
+-- the length error, if any
 abbrev pub len_of : HeaderLimitedReadError → Option LenError
 len_of (Io e) = None
 len_of (Len e) = Some e
 len_of (Content e) = None
 
--- what is wrong in the bytes
+-- the error in the bytes, if any
 abbrev pub content_of : HeaderLimitedReadError → Option HeaderError
 content_of (Io e) = None
 content_of (Len e) = None
 content_of (Content e) = Some e
 
--- what the error comes of
+-- the error's cause
 abbrev pub cause_of : HeaderLimitedReadError → Cause
 cause_of (Io e) = cause.Io e
 cause_of (Len e) = cause.Len e

@@ -1,8 +1,8 @@
--- What a read takes of an authentication header.
+-- The parts of an authentication header that a read consumes.
 use Rattle.ip_spec.specs.Fields.{AuthFields}
 use Rattle.ip_ext_headers.specs.declared.auth_parts.AuthParts.{AuthParts}
 
--- the fields of the header of these parts
+-- the fields of the header with these parts
 abbrev pub fields_in : AuthParts → AuthFields
 fields_in p = record {
   next_header = p.next_header.0;

@@ -1,4 +1,4 @@
--- Why an authentication header isn't read.
+-- Why a read of an authentication header fails.
 use Rattle.std.specs.Prelude.{ℕ, ◌≡◌, Bool, List, length, Option, Some, IfSome}
 use Rattle.std.specs.Io.KnownBytes.{Consumes}
 use Rattle.ip_base.specs.declared.err.len_error.LenError.{LenError}
@@ -19,17 +19,17 @@ use Rattle.ip_ext_headers.specs.declared.err.ip_auth.header_read_error.HeaderRea
 use Rattle.ip_ext_headers.specs.declared.err.ip_auth.header_limited_read_error.HeaderLimitedReadError.{HeaderLimitedReadError}
 use Rattle.ip_ext_headers.specs.declared.err.ip_auth.header_limited_read_error.HeaderLimitedReadError.TheVariants as limited
 
--- the error of `from_slice` of bytes s
+-- the error of `from_slice` for bytes s
 abbrev pub auth_slice_fault : List ℕ → Option HeaderSliceError
 auth_slice_fault s = auth_fault Slice (length s) 0 s
 
--- What a parse says where a read is refused. `fault` tells its error of given bytes.
+-- The error of a parse where a read is refused. `fault` is the parse's error for given bytes.
 module _ (fault : List ℕ → Option HeaderSliceError) where
-  -- at bytes s a length is too short
+  -- for bytes s the error is a length error
   abbrev pub IsTooShort : List ℕ → Type 0
   IsTooShort s = (e : LenError) × (fault s ≡ Some (slice.Len e))
 
-  -- it tells the same error of the bytes that are left; where the reader fails, of a steady one's
+  -- the parse of the remaining bytes has the read's error; if the reader fails, only for a steady reader
   abbrev pub IsSliceError : Bool → Option (List ℕ) → HeaderReadError → Type 0
   IsSliceError steady left (read.Io e) = IfSteady steady left IsTooShort
   IsSliceError steady left (read.Content e) = IfSome left (λ s. fault s ≡ Some (slice.Content e))
@@ -39,12 +39,12 @@ module _ (fault : List ℕ → Option HeaderSliceError) where
   IsSliceErrorInLayer steady left (limited.Len e) = IfSome left IsTooShort
   IsSliceErrorInLayer steady left (limited.Content e) = IfSome left (λ s. fault s ≡ Some (slice.Content e))
 
--- the same error
+-- the limited read's error as an error of an authentication header
 abbrev pub of_limited_error : LimitedReadError → HeaderLimitedReadError
 of_limited_error (limit.Io e) = limited.Io e
 of_limited_error (limit.Len e) = limited.Len e
 
--- The bytes before the check value were taken, and the length in them is 0; the reader hasn't failed at them.
+-- The bytes before the check value were consumed, and the length in them is 0; reading them didn't fail.
 pub record IsZeroTaken (Taken : List ℕ → Type 0) (had_failed has_failed : Bool) : Type 0 where
   pub done : List ℕ
   pub zero_length : IsZeroLength done

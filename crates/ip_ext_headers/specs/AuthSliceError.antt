@@ -1,4 +1,4 @@
--- What an error of an authentication header comes of.
+-- The cause of an authentication header's error.
 use Rattle.ip_base.specs.Cause.{Cause, IpAuth}
 use Rattle.ip_base.specs.Cause as cause
 use Rattle.ip_ext_headers.specs.declared.err.ip_auth.header_slice_error.HeaderSliceError.{HeaderSliceError}

@@ -1,4 +1,4 @@
--- Equality of headers: that of their fields, the used bytes one by one.
+-- Equality of headers: equality of their fields, with the used bytes compared one by one.
 use Rattle.std.specs.Prelude.{Bool, ◌==◌, ◌&&◌, nat_eq}
 use Rattle.std.specs.Bool.{beq}
 use Rattle.std.specs.Cmp.Lexicographic.{pointwise}

@@ -1,4 +1,4 @@
--- The error for a length that a payload or a check value may not have: the first test that holds.
+-- The error for a payload or check value of a length that is not allowed: the first check that fails.
 use Rattle.std.specs.Prelude.{ℕ, ◌+◌, ◌%◌, Option, Some, None, nat_lt, not, ◌==◌, if◌then◌else◌}
 use Rattle.ip_ext_headers.specs.declared.err.ip_auth.icv_len_error.IcvLenError.{IcvLenError}
 use Rattle.ip_ext_headers.specs.declared.err.ip_auth.icv_len_error.IcvLenError.TheVariants as icv

@@ -1,4 +1,4 @@
-//! What a read takes of an authentication header before the header is made.
+//! The parts of an authentication header that a read consumes before the header is built.
 ghost use Rattle.std.specs.Prelude.{◌≡◌, length, OnOk, OnErr, IfOk, IfErr, IfSome};
 ghost use Rattle.std.specs.Io.KnownBytes.{Consumes};
 ghost use Rattle.ip_spec.specs.Prefix.{NoPrefix};
@@ -18,7 +18,7 @@ use ip_base::IpNumber;
 use ip_base::err::Layer;
 use ip_base::io::{ExactRead, LimitedReader};
 
-/// The parts of a header, of which the check value lies in a buffer.
+/// The parts of a header, with its check value in a buffer.
 #[derive(Drop)]
 pub(crate) struct AuthParts<'a> {
     pub(crate) next_header: IpNumber,
@@ -31,7 +31,7 @@ pub(crate) struct AuthParts<'a> {
 impl<'a> AuthParts<'a> {
     ghost use Rattle.ip_ext_headers.specs.AuthParts.{fields_in};
 
-    /// The parts of the header with these bytes before its check value.
+    /// Returns the parts of the header with these 12 bytes before its check value.
     #[inline(always)]
     fn of_bytes(start: [u8; 12], raw_icv: &'a [u8]) -> AuthParts<'a>
         requires { IsIcvLen (length raw_icv.now) }
@@ -45,8 +45,8 @@ impl<'a> AuthParts<'a> {
         }
     }
 
-    /// Reads the parts of a header, its check value into the buffer: 12 bytes, then as many as they tell, and no byte
-    /// beyond.
+    /// Reads the parts of a header and its check value into the buffer: 12 bytes, then the number of bytes that they
+    /// state, and no byte after those.
     #[inline(always)]
     pub(crate) fn take<T: ExactRead>(
         buffer: &'a mut [u8; 1016],
@@ -80,7 +80,7 @@ impl<'a> AuthParts<'a> {
         }
     }
 
-    /// Reads the parts of a header within a limit, as `take` does of the bytes that may still be read. It starts
+    /// Reads the parts of a header within a limit, as `take` does from the bytes that may still be read. It starts
     /// the layer `IpAuthHeader`.
     #[inline(always)]
     pub(crate) fn take_limited<T: ExactRead>(

@@ -4,7 +4,7 @@ ghost use Rattle.ip_spec.specs.Fields.{offset_bits, flag_bit, unreserved_bits};
 
 use ip_base::IpFragOffset;
 
-/// The offset, in units of 8 bytes.
+/// Returns the fragment offset, in units of 8 bytes.
 #[inline]
 pub(crate) fn unpack_offset(high: u8, low: u8) -> IpFragOffset
     ensures { result ≡ offset_bits high low }
@@ -13,7 +13,7 @@ pub(crate) fn unpack_offset(high: u8, low: u8) -> IpFragOffset
     IpFragOffset::try_new(units).unwrap()
 }
 
-/// Whether more fragments follow.
+/// Returns the more fragments flag.
 #[inline]
 pub(crate) fn unpack_flag(low: u8) -> bool
     ensures { result ≡ flag_bit low }
@@ -21,7 +21,7 @@ pub(crate) fn unpack_flag(low: u8) -> bool
     low & 0b0000_0001 != 0
 }
 
-/// The two bytes, with reserved bits zero.
+/// Returns the two bytes, with reserved bits zero.
 #[inline]
 pub(crate) fn pack(offset: IpFragOffset, more_fragments: bool) -> (u8, u8)
     ensures offset { offset_bits result.0 result.1 ≡ offset }

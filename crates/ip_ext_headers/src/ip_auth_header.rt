@@ -30,17 +30,17 @@ pub type IPv6AuthenticationHeader = IpAuthHeader;
 #[deprecated(note = "use `IpAuthHeader`")]
 pub type IpAuthenticationHeader = IpAuthHeader;
 
-/// An authentication header (RFC 4302, section 2). Its integrity check value with its padding has 0 to 1016
-/// bytes, in whole units of 4. In a contract it is the record of its four fields.
+/// An authentication header (RFC 4302, section 2). Its integrity check value with padding has 0 to 1016 bytes, a
+/// multiple of 4. In a contract it is the record of its four fields.
 #[derive(Debug, Drop)]
 pub struct IpAuthHeader {
-    // First, so that no padding stands between it and the end of the header.
+    // First, so that no padding lies between it and the end of the header.
     raw_icv: ArrayVec<u8, 1016>,
-    /// The security parameters index, which tells the receiver its association with the sender.
+    /// The security parameters index, by which the receiver identifies the security association.
     pub spi: u32,
-    /// The sender's count of packets.
+    /// The sender's packet counter.
     pub sequence_number: u32,
-    /// The number of what follows the header.
+    /// The next header field.
     pub next_header: IpNumber,
 }
 
@@ -76,17 +76,17 @@ impl IpAuthHeader {
     ghost use Rattle.ip_ext_headers.specs.AuthParts.{fields_in};
     ghost use Rattle.ip_ext_headers.specs.AuthReading.{auth_slice_fault, IsAuthRefused, IsAuthRefusedInLayer, IsSliceError, IsSliceErrorInLayer};
 
-    /// The smallest header, in bytes.
+    /// The shortest header, in bytes.
     pub const MIN_LEN: usize = 12;
 
-    /// The largest header, in bytes: 257 units of 4.
+    /// The longest header, in bytes: 257 units of 4.
     pub const MAX_LEN: usize = 1028;
 
-    /// The largest integrity check value, in bytes.
+    /// The longest integrity check value, in bytes.
     pub const MAX_ICV_LEN: usize = 1016;
 
-    /// The header with these fields. The error tells, in this order, that the check value has more than 1016
-    /// bytes, or no whole units of 4.
+    /// Returns the header with these fields. Returns an error, in this order, if the check value has more than 1016
+    /// bytes, or a number of bytes that is not a multiple of 4.
     pub fn new(
         next_header: IpNumber,
         spi: u32,
@@ -106,8 +106,8 @@ impl IpAuthHeader {
         Ok(Self::with_icv(next_header, spi, sequence_number, raw_icv))
     }
 
-    /// The header with these fields, the check value of an allowed length. It is filled where it is handed
-    /// out.
+    /// Returns the header with these fields, whose check value has an allowed length. The header is built where it is
+    /// returned.
     #[inline(always)]
     pub(crate) fn with_icv(
         next_header: IpNumber,
@@ -133,7 +133,7 @@ impl IpAuthHeader {
         }
     }
 
-    /// Whether a check value may have this many bytes.
+    /// Checks that a check value may have `len` bytes.
     fn check_icv_len(len: usize) -> Result<(), IcvLenError>
         ensures allowed { IsOk result ↔ IsIcvLen len }
         ensures fault { IfErr result (λ e. icv_len_fault len ≡ Some e) }
@@ -147,9 +147,9 @@ impl IpAuthHeader {
         Ok(())
     }
 
-    /// The header that begins the slice, and what is behind it. The error tells, in this order, that there
-    /// are fewer than 12 bytes, that the length field is 0, or that there are fewer bytes than the header's
-    /// own length.
+    /// Parses the header at the start of `slice`, and returns it with the bytes after it. Returns an error, in this
+    /// order, if there are fewer than 12 bytes, if the payload length field is 0, or if there are fewer bytes than
+    /// the header's own length.
     pub fn from_slice(slice: &[u8]) -> Result<(IpAuthHeader, &[u8]), HeaderSliceError>
         ensures decoding { IfOk result (λ p. IsAuthDecoding slice.now p.0 p.1.now) }
         ensures none { IfErr result (λ _. (b : List ℕ)
@@ -162,9 +162,9 @@ impl IpAuthHeader {
         Ok((header.to_header(), rest))
     }
 
-    /// Reads a header: 12 bytes, then the check value, of which they tell the length, and no byte beyond.
-    /// `Content` tells that the length field is 0; then the 12 bytes were taken. `Io` is the reader's error; after
-    /// it nothing is known of what was taken.
+    /// Reads a header: 12 bytes, then the check value, whose length they state, and no byte after it. Returns
+    /// `Content` if the payload length field is 0; then the 12 bytes are consumed. `Io` is the reader's error; after
+    /// it the number of consumed bytes is not known.
     #[inline(always)]
     pub fn read<T: ExactRead>(reader: &mut T) -> Result<IpAuthHeader, HeaderReadError>
         ensures header { IfOk result (IsHeaderTaken IsAuthHeader auth_fields
@@ -184,9 +184,10 @@ impl IpAuthHeader {
         Ok(Self::of_parts(parts))
     }
 
-    /// Reads a header within a limit, as `read` does of the bytes that may still be read. It starts the layer
-    /// `IpAuthHeader`. `Len` tells the first request that the limit doesn't leave, which took nothing; `Content`
-    /// and `Io` are those of `read`. In all, `read_len` is what came of the header before.
+    /// Reads a header within a limit, as `read` does from the bytes that may still be read. It starts the layer
+    /// `IpAuthHeader`. Returns `Len` for the first request that exceeds the limit, which consumes nothing; `Content`
+    /// and `Io` are those of `read`. After each of them, `read_len` is the number of the header's bytes read before
+    /// it.
     #[inline(always)]
     pub fn read_limited<T: ExactRead>(
         reader: &mut LimitedReader<T>,
@@ -210,8 +211,8 @@ impl IpAuthHeader {
         Ok(Self::of_parts(parts))
     }
 
-    /// Reads a header over this one, as `read` does, and makes it where this one lies, so that nothing is moved.
-    /// After an error this one is as it was.
+    /// Reads a header in place of this one, as `read` does. It is built in place, so nothing is moved. After an error
+    /// this header is unchanged.
     #[inline(never)]
     pub fn read_over<T: ExactRead>(&mut self, reader: &mut T) -> Result<(), HeaderReadError>
         ensures header { OnOk result (IsHeaderTaken IsAuthHeader auth_fields
@@ -237,8 +238,8 @@ impl IpAuthHeader {
         }
     }
 
-    /// Reads a header over this one within a limit, as `read_limited` does, and makes it where this one lies.
-    /// After an error this one is as it was.
+    /// Reads a header in place of this one within a limit, as `read_limited` does. It is built in place. After an
+    /// error this header is unchanged.
     #[inline(never)]
     pub fn read_over_limited<T: ExactRead>(
         &mut self,
@@ -269,7 +270,7 @@ impl IpAuthHeader {
         }
     }
 
-    /// Makes it the header of these parts, where it lies.
+    /// Sets the header to these parts, in place.
     #[inline(always)]
     fn set_parts(&mut self, parts: AuthParts<'_>)
         ensures { self.new ≡ fields_in parts.entry }
@@ -280,7 +281,7 @@ impl IpAuthHeader {
         let _ = self.set_raw_icv(parts.raw_icv);
     }
 
-    /// The header of these parts.
+    /// Returns the header with these parts.
     #[inline(always)]
     fn of_parts(parts: AuthParts<'_>) -> IpAuthHeader
         ensures { result ≡ fields_in parts.entry }
@@ -293,7 +294,7 @@ impl IpAuthHeader {
         )
     }
 
-    /// The integrity check value with its padding, 0 to 1016 bytes.
+    /// Returns the integrity check value with its padding, 0 to 1016 bytes.
     pub fn raw_icv(&self) -> &[u8]
         ensures icv { result.now ≡ self.now.raw_icv }
         ensures allowed { IsIcvLen (length result.now) }
@@ -301,8 +302,8 @@ impl IpAuthHeader {
         self.raw_icv.as_slice()
     }
 
-    /// Sets the check value. The error tells, in this order, that it has more than 1016 bytes, or no whole
-    /// units of 4; then the header is as it was.
+    /// Sets the check value. Returns an error, in this order, if it has more than 1016 bytes, or a number of bytes
+    /// that is not a multiple of 4; then the header is unchanged.
     pub fn set_raw_icv(&mut self, raw_icv: &[u8]) -> Result<(), IcvLenError>
         ensures allowed { IsOk result ↔ IsIcvLen (length raw_icv.now) }
         ensures ok { OnOk result (self.new ≡ record self.old { raw_icv = raw_icv.now }) }
@@ -316,8 +317,7 @@ impl IpAuthHeader {
         Ok(())
     }
 
-    /// The header's bytes, with reserved bytes zero. Read back, also with more bytes behind them, they give
-    /// this header.
+    /// Returns the header's bytes, with reserved bytes zero. Parsing them returns this header, whatever bytes follow.
     #[inline(always)]
     pub fn to_bytes(&self) -> ArrayVec<u8, 1028>
         ensures encoding { IsAuthEncoding self.now result.items }
@@ -330,8 +330,8 @@ impl IpAuthHeader {
         bytes
     }
 
-    /// Appends the header's bytes. It refuses only where the vector has no room for them and can't grow;
-    /// then its bytes stay as they were.
+    /// Appends the header's bytes. Returns an error only if the vector has no room for them and can't grow; then its
+    /// bytes are unchanged.
     #[inline(always)]
     pub fn write<A: Allocator>(&self, out: &mut Vec<u8, A>) -> Result<(), AllocError>
         ensures ok { OnOk result
@@ -346,7 +346,7 @@ impl IpAuthHeader {
         Ok(())
     }
 
-    /// Appends the header's bytes, for which there is room.
+    /// Appends the header's bytes. The vector must have room for them.
     #[inline(always)]
     pub fn write_reserved<A: Allocator>(&self, out: &mut Vec<u8, A>)
         requires room { vec_len out.old + auth_len self.now ≤ vec_capacity out.old }
@@ -354,7 +354,7 @@ impl IpAuthHeader {
         ensures len { vec_len out.new ≡ vec_len out.old + auth_len self.now }
         ensures capacity { vec_capacity out.old ≤ vec_capacity out.new }
     {
-        // With room neither is refused.
+        // Neither call fails: there is room.
         let _ = out.extend_from_slice(&self.first_bytes());
         let raw_icv = self.raw_icv.as_slice();
         if !raw_icv.is_empty() {
@@ -362,7 +362,7 @@ impl IpAuthHeader {
         }
     }
 
-    /// The number of the header's bytes, 12 to 1028.
+    /// Returns the header's length in bytes, 12 to 1028.
     pub fn header_len(&self) -> usize
         ensures len { result ≡ auth_len self.now }
         ensures least { 12 ≤ result }
@@ -371,7 +371,7 @@ impl IpAuthHeader {
         self.raw_icv.len() + 12
     }
 
-    /// What stands before the check value.
+    /// Returns the bytes before the check value.
     #[inline(always)]
     fn first_bytes(&self) -> [u8; 12]
         ensures { IsAuthEncoding self.now (result ++ self.now.raw_icv) }

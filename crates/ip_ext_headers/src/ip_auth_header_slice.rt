@@ -12,8 +12,8 @@ use ip_base::{IpNumber, LenSource};
 #[deprecated(note = "use `IpAuthHeaderSlice`")]
 pub type IpAuthenticationHeaderSlice<'a> = IpAuthHeaderSlice<'a>;
 
-/// One authentication header (RFC 4302, section 2), borrowed from the caller's bytes. Two are equal where
-/// their bytes are.
+/// An authentication header (RFC 4302, section 2), borrowed from the caller's bytes. Two are equal if their bytes
+/// are.
 #[derive(Clone, Copy, Debug)]
 pub struct IpAuthHeaderSlice<'a> {
     slice: &'a [u8],
@@ -27,8 +27,8 @@ impl<'a> IpAuthHeaderSlice<'a> {
     ghost use Rattle.ip_ext_headers.specs.HeaderFault.{auth_fault};
     ghost use Rattle.ip_ext_headers.specs.IpAuthHeaderSlice.{bytes};
 
-    /// The header that begins the slice. The error tells, in this order, that there are fewer than 12 bytes,
-    /// that the length field is 0, or that there are fewer bytes than the header's own length.
+    /// Parses the header at the start of `slice`. Returns an error, in this order, if there are fewer than 12 bytes,
+    /// if the payload length field is 0, or if there are fewer bytes than the header's own length.
     pub fn from_slice(slice: &'a [u8]) -> Result<IpAuthHeaderSlice<'a>, HeaderSliceError>
         ensures prefix { IfOk result (λ h. IsPrefix (bytes h) slice.now) }
         ensures header { IfOk result (λ h. IsAuthHeader (bytes h)) }
@@ -52,7 +52,7 @@ impl<'a> IpAuthHeaderSlice<'a> {
         })
     }
 
-    /// The error that the slice at offset 0 is shorter than `required_len` bytes.
+    /// Returns the error for a slice at offset 0 shorter than `required_len` bytes.
     fn too_short(slice: &[u8], required_len: usize) -> LenError
         ensures { result ≡ too_short Slice (length slice.now) 0 Layer.IpAuthHeader required_len }
     {
@@ -65,7 +65,7 @@ impl<'a> IpAuthHeaderSlice<'a> {
         }
     }
 
-    /// The header's bytes, 12 to 1028.
+    /// Returns the header's bytes, 12 to 1028.
     pub fn slice(&self) -> &'a [u8]
         ensures bytes { result.now ≡ bytes self.now }
         ensures header { IsAuthHeader result.now }
@@ -74,35 +74,35 @@ impl<'a> IpAuthHeaderSlice<'a> {
         self.slice
     }
 
-    /// The number of what follows the header.
+    /// Returns the next header field.
     pub fn next_header(&self) -> IpNumber
         ensures { result.0 ≡ next_header (bytes self.now) }
     {
         IpNumber(self.slice[0])
     }
 
-    /// The security parameters index, which tells the receiver its association with the sender.
+    /// Returns the security parameters index, by which the receiver identifies the security association.
     pub fn spi(&self) -> u32
         ensures { result ≡ (auth_fields (bytes self.now)).spi }
     {
         u32::from_be_bytes([self.slice[4], self.slice[5], self.slice[6], self.slice[7]])
     }
 
-    /// The sender's count of packets.
+    /// Returns the sender's packet counter.
     pub fn sequence_number(&self) -> u32
         ensures { result ≡ (auth_fields (bytes self.now)).sequence_number }
     {
         u32::from_be_bytes([self.slice[8], self.slice[9], self.slice[10], self.slice[11]])
     }
 
-    /// The integrity check value with its padding, 0 to 1016 bytes.
+    /// Returns the integrity check value with its padding, 0 to 1016 bytes.
     pub fn raw_icv(&self) -> &'a [u8]
         ensures { result.now ≡ (auth_fields (bytes self.now)).raw_icv }
     {
         &self.slice[12..]
     }
 
-    /// The same header, with bytes of its own.
+    /// Returns the header as an owned value.
     pub fn to_header(&self) -> IpAuthHeader
         ensures { result ≡ auth_fields (bytes self.now) }
     {

@@ -25,13 +25,13 @@ use std::marker::Model;
 /// An IPv6 fragment header (RFC 8200, section 4.5). In a contract it is the record of its four fields.
 #[derive(Debug, Drop)]
 pub struct Ipv6FragmentHeader {
-    /// The number of what follows the header.
+    /// The next header field.
     pub next_header: IpNumber,
-    /// Where the fragment lies in the payload, in units of 8 bytes.
+    /// The fragment offset, in units of 8 bytes.
     pub fragment_offset: IpFragOffset,
-    /// Whether more fragments of the payload follow.
+    /// Whether more fragments follow.
     pub more_fragments: bool,
-    /// The number that the fragments of one packet share.
+    /// The identification, equal in all fragments of a packet.
     pub identification: u32,
 }
 
@@ -59,10 +59,10 @@ impl Ipv6FragmentHeader {
     ghost use Rattle.ip_base.specs.declared.len_source.LenSource.TheVariants.{Slice};
     ghost use Rattle.ip_ext_headers.specs.HeaderFault.{fragment_fault};
 
-    /// The length of each fragment header, in bytes.
+    /// The length of a fragment header, in bytes.
     pub const LEN: usize = 8;
 
-    /// The header with these fields.
+    /// Returns the header with these fields.
     pub fn new(
         next_header: IpNumber,
         fragment_offset: IpFragOffset,
@@ -84,8 +84,8 @@ impl Ipv6FragmentHeader {
         }
     }
 
-    /// The header that begins the slice, and what is behind it. The error tells that there are fewer than 8
-    /// bytes.
+    /// Parses the header at the start of `slice`, and returns it with the bytes after it. Returns an error if there
+    /// are fewer than 8 bytes.
     pub fn from_slice(slice: &[u8]) -> Result<(Ipv6FragmentHeader, &[u8]), LenError>
         ensures decoding { IfOk result (λ p. IsFragmentDecoding slice.now p.0 p.1.now) }
         ensures none { IfErr result (λ _. (b : List ℕ)
@@ -98,8 +98,8 @@ impl Ipv6FragmentHeader {
         Ok((header.to_header(), rest))
     }
 
-    /// Reads a header: 8 bytes, and no byte beyond. The error is the reader's; after it nothing is known of what
-    /// was taken.
+    /// Reads a header: 8 bytes, and no byte after them. Returns the reader's error; after it the number of consumed
+    /// bytes is not known.
     #[inline(always)]
     pub fn read<T: ExactRead>(reader: &mut T) -> io::Result<Ipv6FragmentHeader>
         ensures header { IfOk result (IsHeaderTaken IsFragmentHeader fragment_fields
@@ -117,8 +117,8 @@ impl Ipv6FragmentHeader {
         Ok(Self::of_bytes(bytes))
     }
 
-    /// Reads a header within a limit, as `read` does of the bytes that may still be read. It starts the layer
-    /// `Ipv6FragHeader`. `Len` tells that the limit doesn't leave 8 bytes, and none were taken; `Io` is the
+    /// Reads a header within a limit, as `read` does from the bytes that may still be read. It starts the layer
+    /// `Ipv6FragHeader`. Returns `Len` if the limit doesn't leave 8 bytes; then none are consumed. `Io` is the
     /// reader's error. After both `read_len` is 0.
     #[inline(always)]
     pub fn read_limited<T: ExactRead>(
@@ -141,7 +141,7 @@ impl Ipv6FragmentHeader {
         Ok(Self::of_bytes(bytes))
     }
 
-    /// The header of these bytes.
+    /// Returns the header with these bytes.
     #[inline(always)]
     fn of_bytes(bytes: [u8; 8]) -> Ipv6FragmentHeader
         ensures { result ≡ fragment_fields bytes }
@@ -154,8 +154,7 @@ impl Ipv6FragmentHeader {
         }
     }
 
-    /// The header's bytes, with reserved bits zero. Read back, also with more bytes behind them, they give
-    /// this header.
+    /// Returns the header's bytes, with reserved bits zero. Parsing them returns this header, whatever bytes follow.
     pub fn to_bytes(&self) -> [u8; 8]
         ensures encoding { IsFragmentEncoding self.now result }
         ensures read_back { (r : List ℕ) → IsFragmentDecoding (result ++ r) self.now r }
@@ -165,8 +164,8 @@ impl Ipv6FragmentHeader {
         [self.next_header.0, 0, high, low, id0, id1, id2, id3]
     }
 
-    /// Appends the header's bytes. It refuses only where the vector has no room for them and can't grow;
-    /// then its bytes stay as they were.
+    /// Appends the header's bytes. Returns an error only if the vector has no room for them and can't grow; then its
+    /// bytes are unchanged.
     pub fn write<A: Allocator>(&self, out: &mut Vec<u8, A>) -> Result<(), AllocError>
         ensures ok { OnOk result
             (AppendsOne (IsFragmentEncoding self.now) out.old.items out.new.items) }
@@ -180,7 +179,7 @@ impl Ipv6FragmentHeader {
         Ok(())
     }
 
-    /// Appends the header's bytes, for which there is room.
+    /// Appends the header's bytes. The vector must have room for them.
     #[inline(always)]
     pub fn write_reserved<A: Allocator>(&self, out: &mut Vec<u8, A>)
         requires room { vec_len out.old + 8 ≤ vec_capacity out.old }
@@ -188,19 +187,18 @@ impl Ipv6FragmentHeader {
         ensures len { vec_len out.new ≡ vec_len out.old + 8 }
         ensures capacity { vec_capacity out.old ≤ vec_capacity out.new }
     {
-        // With room it isn't refused.
+        // The call doesn't fail: there is room.
         let _ = out.extend_from_slice(&self.to_bytes());
     }
 
-    /// The number of the header's bytes.
+    /// Returns the header's length in bytes.
     pub fn header_len(&self) -> usize
         ensures { result ≡ 8 }
     {
         Self::LEN
     }
 
-    /// Whether the packet has a fragment of the payload and not the whole: more fragments follow, or the offset
-    /// isn't 0.
+    /// Returns whether the packet is a fragment: more fragments follow, or the fragment offset isn't 0.
     pub fn is_fragmenting_payload(&self) -> bool
         ensures { result ≡ is_fragment self.now.more_fragments self.now.fragment_offset }
     {

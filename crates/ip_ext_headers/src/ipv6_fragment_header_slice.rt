@@ -9,8 +9,8 @@ use ip_base::err::{Layer, LenError};
 use ip_base::{IpFragOffset, IpNumber, LenSource};
 use std::alloc::AllocError;
 
-/// One IPv6 fragment header (RFC 8200, section 4.5), borrowed from the caller's bytes. Two are equal where
-/// their bytes are.
+/// An IPv6 fragment header (RFC 8200, section 4.5), borrowed from the caller's bytes. Two are equal if their bytes
+/// are.
 #[derive(Debug, Drop)]
 pub struct Ipv6FragmentHeaderSlice<'a> {
     slice: &'a [u8],
@@ -22,7 +22,7 @@ impl<'a> Ipv6FragmentHeaderSlice<'a> {
     ghost use Rattle.ip_ext_headers.specs.HeaderFault.{fragment_fault};
     ghost use Rattle.ip_ext_headers.specs.Ipv6FragmentHeaderSlice.{bytes};
 
-    /// The header that begins the slice. The error tells that there are fewer than 8 bytes.
+    /// Parses the header at the start of `slice`. Returns an error if there are fewer than 8 bytes.
     pub fn from_slice(slice: &'a [u8]) -> Result<Ipv6FragmentHeaderSlice<'a>, LenError>
         ensures prefix { IfOk result (λ h. IsPrefix (bytes h) slice.now) }
         ensures header { IfOk result (λ h. IsFragmentHeader (bytes h)) }
@@ -43,7 +43,7 @@ impl<'a> Ipv6FragmentHeaderSlice<'a> {
         Ok(Ipv6FragmentHeaderSlice { slice: &slice[..8] })
     }
 
-    /// The header's 8 bytes.
+    /// Returns the header's 8 bytes.
     pub fn slice(&self) -> &'a [u8]
         ensures bytes { result.now ≡ bytes self.now }
         ensures header { IsFragmentHeader result.now }
@@ -51,44 +51,43 @@ impl<'a> Ipv6FragmentHeaderSlice<'a> {
         self.slice
     }
 
-    /// The number of what follows the header.
+    /// Returns the next header field.
     pub fn next_header(&self) -> IpNumber
         ensures { result.0 ≡ next_header (bytes self.now) }
     {
         IpNumber(self.slice[0])
     }
 
-    /// Where the fragment lies in the payload, in units of 8 bytes.
+    /// Returns the fragment offset, in units of 8 bytes.
     pub fn fragment_offset(&self) -> IpFragOffset
         ensures { result ≡ (fragment_fields (bytes self.now)).fragment_offset }
     {
         unpack_offset(self.slice[2], self.slice[3])
     }
 
-    /// Whether more fragments of the payload follow.
+    /// Returns whether more fragments follow.
     pub fn more_fragments(&self) -> bool
         ensures { result ≡ (fragment_fields (bytes self.now)).more_fragments }
     {
         unpack_flag(self.slice[3])
     }
 
-    /// The number that the fragments of one packet share.
+    /// Returns the identification, equal in all fragments of a packet.
     pub fn identification(&self) -> u32
         ensures { result ≡ (fragment_fields (bytes self.now)).identification }
     {
         u32::from_be_bytes([self.slice[4], self.slice[5], self.slice[6], self.slice[7]])
     }
 
-    /// Whether the packet has a fragment of the payload and not the whole: more fragments follow, or the offset
-    /// isn't 0.
+    /// Returns whether the packet is a fragment: more fragments follow, or the fragment offset isn't 0.
     pub fn is_fragmenting_payload(&self) -> bool
         ensures { result ≡ is_fragmenting (bytes self.now) }
     {
-        // Without a branch: in a flood of fragments no branch on the flag would be foreseen.
+        // Written without a branch: in a flood of fragments a branch on the flag couldn't be predicted.
         self.more_fragments() | (self.fragment_offset().value() != 0)
     }
 
-    /// The same header, with fields of its own.
+    /// Returns the header as an owned value.
     pub fn to_header(&self) -> Ipv6FragmentHeader
         ensures { result ≡ fragment_fields (bytes self.now) }
     {

@@ -28,14 +28,14 @@ use std::marker::Model;
 #[deprecated(note = "use `Ipv6RawExtHeader`")]
 pub type Ipv6RawExtensionHeader = Ipv6RawExtHeader;
 
-/// An IPv6 header of the common layout: hop by hop options, routing or destination options (RFC 8200,
-/// sections 4.3, 4.4, 4.6). Its payload, which is what follows the number and the length, has 6 to 2046 bytes,
-/// and with those two whole units of 8. In a contract it is the record of its next number and its payload.
+/// An IPv6 header in the uniform format (RFC 6564): hop-by-hop options, routing or destination options (RFC 8200,
+/// sections 4.3, 4.4, 4.6). Its payload, the bytes after the next header and length fields, has 6 to 2046 bytes; with
+/// those two bytes its length is a multiple of 8. In a contract it is the record of its next header and its payload.
 #[derive(Debug, Drop)]
 pub struct Ipv6RawExtHeader {
-    // First, so that no padding stands between it and the end of the header.
+    // First, so that no padding lies between it and the end of the header.
     payload: ArrayVec<u8, 2046>,
-    /// The number of what follows the header.
+    /// The next header field.
     pub next_header: IpNumber,
 }
 
@@ -62,20 +62,20 @@ impl Ipv6RawExtHeader {
     ghost use Rattle.ip_spec.specs.Lengths.{IsPayloadLen};
     ghost use Rattle.ip_ext_headers.specs.LengthFault.{payload_len_fault};
 
-    /// The smallest header, in bytes.
+    /// The shortest header, in bytes.
     pub const MIN_LEN: usize = 8;
 
-    /// The largest header, in bytes: 256 units of 8.
+    /// The longest header, in bytes: 256 units of 8.
     pub const MAX_LEN: usize = 2048;
 
-    /// The smallest payload, in bytes.
+    /// The shortest payload, in bytes.
     pub const MIN_PAYLOAD_LEN: usize = 6;
 
-    /// The largest payload, in bytes.
+    /// The longest payload, in bytes.
     pub const MAX_PAYLOAD_LEN: usize = 2046;
 
-    /// Whether headers of the number have this layout: hop by hop options, routing, destination options,
-    /// mobility, host identity protocol and shim6.
+    /// Returns whether headers of this number have the uniform format: hop-by-hop options, routing, destination
+    /// options, mobility, Host Identity Protocol and Shim6.
     pub fn header_type_supported(next_header: IpNumber) -> bool
         ensures { IsTrue result ↔ ((next_header.0 ≡ HOP_BY_HOP) ⊎ ((next_header.0 ≡ ROUTING)
             ⊎ ((next_header.0 ≡ DESTINATION_OPTIONS) ⊎ ((next_header.0 ≡ 135)
@@ -84,8 +84,8 @@ impl Ipv6RawExtHeader {
         Ipv6RawExtHeaderSlice::header_type_supported(next_header)
     }
 
-    /// The header with this next number and this payload. The error tells, in this order, that the payload
-    /// has fewer than 6 bytes, more than 2046, or with two more no whole units of 8.
+    /// Returns the header with this next header and this payload. Returns an error, in this order, if the payload has
+    /// fewer than 6 bytes, more than 2046, or if its length plus 2 is not a multiple of 8.
     pub fn new_raw(
         next_header: IpNumber,
         payload: &[u8],
@@ -99,8 +99,8 @@ impl Ipv6RawExtHeader {
         Ok(Self::with_payload(next_header, payload))
     }
 
-    /// The header with this next number and a payload of an allowed length. It is filled where it is handed
-    /// out.
+    /// Returns the header with this next header and a payload of an allowed length. The header is built where it is
+    /// returned.
     #[inline(always)]
     pub(crate) fn with_payload(next_header: IpNumber, payload: &[u8]) -> Ipv6RawExtHeader
         requires { IsPayloadLen (length payload.now) }
@@ -114,7 +114,7 @@ impl Ipv6RawExtHeader {
         }
     }
 
-    /// Whether a payload may have this many bytes.
+    /// Checks that a payload may have `len` bytes.
     fn check_payload_len(len: usize) -> Result<(), ExtPayloadLenError>
         ensures allowed { IsOk result ↔ IsPayloadLen len }
         ensures fault { IfErr result (λ e. payload_len_fault len ≡ Some e) }
@@ -131,8 +131,8 @@ impl Ipv6RawExtHeader {
         Ok(())
     }
 
-    /// The header that begins the slice, and what is behind it. The error tells that there are fewer than 8
-    /// bytes, or fewer than the header's own length.
+    /// Parses the header at the start of `slice`, and returns it with the bytes after it. Returns an error if there
+    /// are fewer than 8 bytes, or fewer than the header's own length.
     pub fn from_slice(slice: &[u8]) -> Result<(Ipv6RawExtHeader, &[u8]), LenError>
         ensures decoding { IfOk result (λ p. IsRawDecoding slice.now p.0 p.1.now) }
         ensures none { IfErr result (λ _. (b : List ℕ) → IsRawHeader b → IsPrefix b slice.now → ⊥) }
@@ -144,8 +144,8 @@ impl Ipv6RawExtHeader {
         Ok((header.to_header(), rest))
     }
 
-    /// Reads a header: 2 bytes, then as many as the second of them tells, and no byte beyond. The error is the
-    /// reader's; after it nothing is known of what was taken.
+    /// Reads a header: 2 bytes, then the number of bytes that the second states, and no byte after those. Returns the
+    /// reader's error; after it the number of consumed bytes is not known.
     #[inline(always)]
     pub fn read<T: ExactRead>(reader: &mut T) -> io::Result<Ipv6RawExtHeader>
         ensures header { IfOk result (IsHeaderTaken IsRawHeader raw_fields
@@ -173,9 +173,9 @@ impl Ipv6RawExtHeader {
         }
     }
 
-    /// Reads a header within a limit, as `read` does of the bytes that may still be read. It starts the layer
-    /// `Ipv6ExtHeader`. `Len` tells the first request that the limit doesn't leave, which took nothing; `Io` is
-    /// the reader's error. In both, `read_len` is what came of the header before.
+    /// Reads a header within a limit, as `read` does from the bytes that may still be read. It starts the layer
+    /// `Ipv6ExtHeader`. Returns `Len` for the first request that exceeds the limit, which consumes nothing; `Io` is
+    /// the reader's error. After both, `read_len` is the number of the header's bytes read before the error.
     #[inline(always)]
     pub fn read_limited<T: ExactRead>(
         reader: &mut LimitedReader<T>,
@@ -206,7 +206,7 @@ impl Ipv6RawExtHeader {
         }
     }
 
-    /// What follows the number and the length, 6 to 2046 bytes.
+    /// Returns the bytes after the next header and length fields, 6 to 2046.
     pub fn payload(&self) -> &[u8]
         ensures payload { result.now ≡ self.now.payload }
         ensures allowed { IsPayloadLen (length result.now) }
@@ -214,8 +214,8 @@ impl Ipv6RawExtHeader {
         self.payload.as_slice()
     }
 
-    /// Sets the payload. The error tells, in this order, that it has fewer than 6 bytes, more than 2046, or
-    /// with two more no whole units of 8; then the header is as it was.
+    /// Sets the payload. Returns an error, in this order, if it has fewer than 6 bytes, more than 2046, or if its
+    /// length plus 2 is not a multiple of 8; then the header is unchanged.
     pub fn set_payload(&mut self, payload: &[u8]) -> Result<(), ExtPayloadLenError>
         ensures allowed { IsOk result ↔ IsPayloadLen (length payload.now) }
         ensures ok { OnOk result (self.new ≡ record self.old { payload = payload.now }) }
@@ -229,7 +229,7 @@ impl Ipv6RawExtHeader {
         Ok(())
     }
 
-    /// The header's bytes. Read back, also with more bytes behind them, they give this header.
+    /// Returns the header's bytes. Parsing them returns this header, whatever bytes follow.
     #[inline(always)]
     pub fn to_bytes(&self) -> ArrayVec<u8, 2048>
         ensures encoding { IsRawEncoding self.now result.items }
@@ -243,8 +243,8 @@ impl Ipv6RawExtHeader {
         bytes
     }
 
-    /// Appends the header's bytes. It refuses only where the vector has no room for them and can't grow;
-    /// then its bytes stay as they were.
+    /// Appends the header's bytes. Returns an error only if the vector has no room for them and can't grow; then its
+    /// bytes are unchanged.
     #[inline(always)]
     pub fn write<A: Allocator>(&self, out: &mut Vec<u8, A>) -> Result<(), AllocError>
         ensures ok { OnOk result (AppendsOne (IsRawEncoding self.now) out.old.items out.new.items) }
@@ -258,7 +258,7 @@ impl Ipv6RawExtHeader {
         Ok(())
     }
 
-    /// Appends the header's bytes, for which there is room.
+    /// Appends the header's bytes. The vector must have room for them.
     #[inline(always)]
     pub fn write_reserved<A: Allocator>(&self, out: &mut Vec<u8, A>)
         requires room { vec_len out.old + raw_len self.now ≤ vec_capacity out.old }
@@ -266,7 +266,7 @@ impl Ipv6RawExtHeader {
         ensures len { vec_len out.new ≡ vec_len out.old + raw_len self.now }
         ensures capacity { vec_capacity out.old ≤ vec_capacity out.new }
     {
-        // With room neither is refused.
+        // Neither call fails: there is room.
         let _ = out.extend_from_slice(&self.first_bytes());
         let rest = &self.payload.as_slice()[6..];
         if !rest.is_empty() {
@@ -274,7 +274,7 @@ impl Ipv6RawExtHeader {
         }
     }
 
-    /// The number of the header's bytes, 8 to 2048.
+    /// Returns the header's length in bytes, 8 to 2048.
     pub fn header_len(&self) -> usize
         ensures len { result ≡ raw_len self.now }
         ensures least { 8 ≤ result }
@@ -283,7 +283,7 @@ impl Ipv6RawExtHeader {
         self.payload.len() + 2
     }
 
-    /// The first unit of 8 bytes, which each header has.
+    /// Returns the first unit of 8 bytes, which every header has.
     #[inline(always)]
     fn first_bytes(&self) -> [u8; 8]
         ensures { IsRawEncoding self.now (result ++ drop 6 self.now.payload) }
@@ -301,7 +301,7 @@ impl Ipv6RawExtHeader {
         ]
     }
 
-    /// The units of 8 bytes after the first.
+    /// Returns the number of units of 8 bytes after the first.
     fn hdr_ext_len(&self) -> u8
         ensures { raw_len self.now ≡ 8 * (result + 1) }
     {

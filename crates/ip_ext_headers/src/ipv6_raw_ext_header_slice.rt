@@ -13,8 +13,8 @@ use std::alloc::AllocError;
 #[deprecated(note = "use `Ipv6RawExtHeaderSlice`")]
 pub type Ipv6RawExtensionHeaderSlice<'a> = Ipv6RawExtHeaderSlice<'a>;
 
-/// One IPv6 header of the common layout (hop by hop options, routing or destination options; RFC 8200,
-/// sections 4.3, 4.4, 4.6), borrowed from the caller's bytes. Two are equal where their bytes are.
+/// An IPv6 header in the uniform format (RFC 6564): hop-by-hop options, routing or destination options (RFC 8200,
+/// sections 4.3, 4.4, 4.6), borrowed from the caller's bytes. Two are equal if their bytes are.
 #[derive(Debug, Drop)]
 pub struct Ipv6RawExtHeaderSlice<'a> {
     slice: &'a [u8],
@@ -28,8 +28,8 @@ impl<'a> Ipv6RawExtHeaderSlice<'a> {
     ghost use Rattle.ip_ext_headers.specs.HeaderFault.{raw_fault};
     ghost use Rattle.ip_ext_headers.specs.Ipv6RawExtHeaderSlice.{bytes};
 
-    /// Whether headers of the number have this layout: hop by hop options, routing, destination options,
-    /// mobility, host identity protocol and shim6.
+    /// Returns whether headers of this number have the uniform format: hop-by-hop options, routing, destination
+    /// options, mobility, Host Identity Protocol and Shim6.
     pub fn header_type_supported(next_header: IpNumber) -> bool
         ensures { IsTrue result ↔ ((next_header.0 ≡ HOP_BY_HOP) ⊎ ((next_header.0 ≡ ROUTING)
             ⊎ ((next_header.0 ≡ DESTINATION_OPTIONS) ⊎ ((next_header.0 ≡ 135)
@@ -46,8 +46,8 @@ impl<'a> Ipv6RawExtHeaderSlice<'a> {
         )
     }
 
-    /// The header that begins the slice. The error tells that there are fewer than 8 bytes, or fewer than
-    /// the header's own length.
+    /// Parses the header at the start of `slice`. Returns an error if there are fewer than 8 bytes, or fewer than the
+    /// header's own length.
     pub fn from_slice(slice: &'a [u8]) -> Result<Ipv6RawExtHeaderSlice<'a>, LenError>
         ensures prefix { IfOk result (λ h. IsPrefix (bytes h) slice.now) }
         ensures header { IfOk result (λ h. IsRawHeader (bytes h)) }
@@ -67,7 +67,7 @@ impl<'a> Ipv6RawExtHeaderSlice<'a> {
         })
     }
 
-    /// The error that the slice at offset 0 is shorter than `required_len` bytes.
+    /// Returns the error for a slice at offset 0 shorter than `required_len` bytes.
     fn too_short(slice: &[u8], required_len: usize) -> LenError
         ensures { result ≡ too_short Slice (length slice.now) 0 Layer.Ipv6ExtHeader required_len }
     {
@@ -80,7 +80,7 @@ impl<'a> Ipv6RawExtHeaderSlice<'a> {
         }
     }
 
-    /// The header's bytes, 8 to 2048.
+    /// Returns the header's bytes, 8 to 2048.
     pub fn slice(&self) -> &'a [u8]
         ensures bytes { result.now ≡ bytes self.now }
         ensures header { IsRawHeader result.now }
@@ -89,21 +89,21 @@ impl<'a> Ipv6RawExtHeaderSlice<'a> {
         self.slice
     }
 
-    /// The number of what follows the header.
+    /// Returns the next header field.
     pub fn next_header(&self) -> IpNumber
         ensures { result.0 ≡ next_header (bytes self.now) }
     {
         IpNumber(self.slice[0])
     }
 
-    /// What follows the number and the length, 6 to 2046 bytes.
+    /// Returns the bytes after the next header and length fields, 6 to 2046.
     pub fn payload(&self) -> &'a [u8]
         ensures { result.now ≡ (raw_fields (bytes self.now)).payload }
     {
         &self.slice[2..]
     }
 
-    /// The same header, with bytes of its own.
+    /// Returns the header as an owned value.
     pub fn to_header(&self) -> Ipv6RawExtHeader
         ensures { result ≡ raw_fields (bytes self.now) }
     {

@@ -1,6 +1,6 @@
-//! Single extension headers: an authentication header (RFC 4302, section 2), an IPv6 fragment header, and
-//! the IPv6 headers of the common layout, hop by hop options, routing and destination options (RFC 8200,
-//! section 4). A header slice borrows the caller's bytes, and its bytes are one header.
+//! Single extension headers: an authentication header (RFC 4302, section 2), an IPv6 fragment header, and the IPv6
+//! headers in the uniform format (RFC 6564): hop-by-hop options, routing and destination options (RFC 8200, section
+//! 4). A header slice borrows the caller's bytes, and its bytes are exactly one header.
 #![tactic(auto)]
 
 mod auth_parts;

@@ -1,4 +1,5 @@
--- At an extension number there is a fault wherever no header goes on, and at another number there is neither.
+-- An extension header's number has an error wherever the chain ends; at any other number the chain ends without an
+-- error.
 use Rattle.ip_spec.proofs.Common.{◌≡◌, ◌≢◌, ℕ, ◌+◌, ◌*◌, List, length, take, refl, sym, arith, inl, inr, ◌⊎◌, subst, Bool, true, false, slice_index, rules, Option, None, IsSome, IsTrue, option_map, cases_lt, lt-ltb, le-ltb, eqb_tells, IsHeader, IsExtensionNumber, IsRawNumber, raw, fragment, auth, ExtHeader, IsNext, IsEnd}
 use Rattle.ip_base.specs.declared.len_source.LenSource.{LenSource}
 use Rattle.ip_spec.proofs.PrefixLemmas.{prefix_of-take}
@@ -50,7 +51,7 @@ module _ (source : LenSource) (n : ℕ) (r : List ℕ) (k : ℕ) where
   fault_of_raw : (first : Bool) (m : ℕ) → IsRawNumber m → IsEnd first m r → IsSome (fault_at source n k first m r)
   fault_of_raw first m is e = search (rules, at_zero, mapped, at_raw)
 
-  -- where no header goes on, an extension number has a fault
+  -- if the chain ends at an extension header's number, there is an error
   pub fault_at_end : (first : Bool) (m : ℕ) → IsExtensionNumber m → IsEnd first m r → IsSome (fault_at source n k first m r)
   fault_at_end first m is e = elim is [
     | inl raw_number ↦ fault_of_raw first m raw_number e
@@ -60,10 +61,10 @@ module _ (source : LenSource) (n : ℕ) (r : List ℕ) (k : ℕ) where
     ]
   ]
 
--- at another number no header goes on
+-- at any other number the chain ends
 pub end_at_other : (first : Bool) (m : ℕ) (r : List ℕ) → (IsExtensionNumber m → ⊥) → IsEnd first m r
 end_at_other first m r other = λ h x. other (header_number m h.bytes x.header)
 
--- and there is no fault
+-- at any other number there is no error
 pub no_fault_at_other : (source : LenSource) (n : ℕ) (first : Bool) (m : ℕ) (r : List ℕ) (k : ℕ) → (IsExtensionNumber m → ⊥) → fault_at source n k first m r ≡ None
 no_fault_at_other source n first m r k other = search rules

@@ -15,7 +15,7 @@ use Rattle.ip_ext_slices.specs.Ipv4Parse.{IsIpv4Answer}
 pub ipv4_longest : (n : ℕ) (s : List ℕ) → IsLongestUnder (AtMostOneOf 51) n s (longest_ipv4_chain n s)
 ipv4_longest n s = (some_longest_under (AtMostOneOf 51) (at_most_one_of 51) n s).1
 
--- of bytes that are cut short it is the header that lies whole within them
+-- of truncated bytes it is the header that lies wholly within them
 pub ipv4_longest-shorter : (n j : ℕ) (s : List ℕ) → longest_ipv4_chain n (take j s) ≡ headers_within j (longest_ipv4_chain n s)
 ipv4_longest-shorter n j s = longest_shorter (AtMostOneOf 51) (at_most_one_of 51) n j s (longest_ipv4_chain n s) (longest_ipv4_chain n (take j s)) (ipv4_longest n s) (ipv4_longest n (take j s))
 
@@ -23,20 +23,20 @@ ipv4_longest-shorter n j s = longest_shorter (AtMostOneOf 51) (at_most_one_of 51
 abbrev pub chain_of : List ℕ → List ExtHeader
 chain_of b = record { number = 51; bytes = b } ∷ []
 
--- What holds of no header and of one authentication header holds of a chain of at most one.
+-- A property of no header and of one authentication header holds for any chain of at most one.
 pub by_one : (P : List ExtHeader → Type 0) (n : ℕ) → P [] → ((b : List ℕ) → n ≡ 51 → IsAuthHeader b → P (chain_of b)) → (c : List ExtHeader) → IsChain n c → AtMostOneOf 51 c → P c
 by_one P n none one c k o = grind (arith, common_steps, auth_of)
 
--- What is answered, whatever value is told of the chain.
+-- The result of a parse, for any value computed from the chain.
 module _ {X : Type 0} (value_of : List ExtHeader → X) (n : ℕ) (s : List ℕ) (x : X) where
-  -- where an authentication header is named and begins the bytes, it is the chain
+  -- if the number is 51 and an authentication header starts the bytes, the header is the chain
   pub answer_of_one : (b : List ℕ) (m : ℕ) (r : List ℕ) → n ≡ 51 → IsAuthHeader b → IsPrefix b s → x ≡ value_of (chain_of b) → m ≡ next_header b → r ≡ drop (length b) s → IsIpv4Answer value_of n s x m r None
   answer_of_one b m r e header prefix value number rest =
       let h : ExtHeader = record { number = 51; bytes = b } in
       let read = has_read_on n s [] n s h m r b (has_read_none n s) (record { number = sym e; header = auth e header; prefix = prefix; zero_only_first = λ z. absurd (omega (arith, e, z)) }) number refl rest in
       read_answers (AtMostOneOf 51) (at_most_one_of 51) n s (h ∷ []) m r value_of (ipv4_faults Slice) x None (record { read = read; meets = record { one = omega arith; number = (refl, tt) } }) (λ g y q. omega (arith, q.one)) value refl
 
-  -- where none is named, or none begins the bytes, there is no header
+  -- otherwise the chain is empty
   pub answer_of_none : (f : Option HeaderSliceError) → (n ≡ 51 → NoPrefix IsAuthHeader s) → x ≡ value_of [] → f ≡ ipv4_faults Slice [] n s → IsIpv4Answer value_of n s x n s f
   answer_of_none f none = search rules
 

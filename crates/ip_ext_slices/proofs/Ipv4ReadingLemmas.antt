@@ -1,4 +1,4 @@
--- What is read of IPv4 extension headers is what is parsed.
+-- Reading IPv4 extension headers returns the value that parsing them does.
 use Rattle.ip_spec.proofs.Common.{◌≡◌, ◌≢◌, ℕ, List, ◌++◌, refl, ap, sym, ◌∙◌, rules, Some, None, ne_eqb, drop-append_seam, IsAuthHeader, AuthFields, auth_fields}
 use Rattle.ip_ext_headers.specs.AuthReading.{auth_slice_fault}
 use Rattle.ip_ext_headers.proofs.FaultLemmas.{auth_at_header}
@@ -8,16 +8,16 @@ use Rattle.ip_ext_slices.specs.Ipv4Parse.{ipv4_value}
 use Rattle.ip_ext_slices.specs.Ipv4Reading.{Answers}
 use Rattle.ip_ext_slices.proofs.Ipv4Lemmas.{ipv4_longest, by_one, answer_of_one, answer_of_none}
 
--- no header is named
+-- the number is not 51: no header
 pub none_answers : (n : ℕ) → n ≢ 51 → (rest : List ℕ) → Answers n None n rest rest
 none_answers n other rest = answer_of_none ipv4_value n rest None None (λ e. absurd (other e)) refl (rw (ne_eqb n 51 other) refl)
 
--- these bytes are the header that is named
+-- the number is 51, and these bytes are the header
 pub one_answers : (n : ℕ) (b : List ℕ) (v : AuthFields) (m : ℕ) → n ≡ 51 → IsAuthHeader b → auth_fields b ≡ v → m ≡ v.next_header → (rest : List ℕ) → Answers n (Some v) m (b ++ rest) rest
 one_answers n b v m e header fields number rest =
     answer_of_one ipv4_value n (b ++ rest) (Some v) b m rest e header (prefix_of-append b rest (b ++ rest) refl)
     (ap Some (sym fields)) (number ∙ ap (λ (w : AuthFields). w.next_header) (sym fields)) (sym (drop-append_seam b rest))
 
--- where a header is named, its fault is that of the headers
+-- if the number is 51, the header's error is the error of the headers
 pub fault_same : (n : ℕ) → n ≡ 51 → auth_slice_fault ≡ ipv4_chain_fault n
 fault_same n e = search (rules, ipv4_longest, by_one, auth_at_header, prefix_first)

@@ -1,4 +1,4 @@
--- What IPv4 extension headers are written as, and as what that is read.
+-- The encoding of IPv4 extension headers, and the value that it parses to.
 use Rattle.ip_spec.proofs.Common.{◌≡◌, ℕ, ◌<◌, List, ◌++◌, length, drop, refl, sym, ap, ◌∙◌, subst, arith, inl, inr, rules, [], Option, Some, None, Ok, Err, ◌↔◌, slice_range, AllByRecursion, option_map_or, ne_eqb, eqb_tells, append-nil, append_cancel_left, length-append, All-set, All-take, All-drop, All-from_recursion, IsPrefix, auth, AuthFields, auth_fields, cleared_header, AreBytes, AppendsOne, IsAuthEncoding, IsCleared, cleared_chain, ExtHeader, bytes_of, leads_to, AtMostOneOf, IsEndUnder, IsRead, auth_header}
 use Rattle.std.specs.declared.result.Result.{Result}
 use Rattle.std.specs.Prelude.{slice_set}
@@ -20,7 +20,7 @@ use Rattle.ip_ext_slices.specs.Ipv4Fault.{ipv4_faults}
 use Rattle.ip_ext_slices.specs.Ipv4Walk.{ipv4_walk, IsIpv4Encoding}
 use Rattle.ip_ext_slices.proofs.Ipv4Lemmas.{ipv4_longest, chain_of, by_one}
 
--- a value tells the list that encodes it
+-- a value determines its encoding
 encoding_is : (f : ℕ) (v : Option AuthFields) (b : List ℕ) → IsIpv4Encoding f v b → b ≡ option_map_or auth_written v []
 encoding_is f v b (m, e) =
     sym e.all ∙ (by_one (λ c. AllByRecursion IsCleared c → bytes_of c ≡ option_map_or auth_written (ipv4_value c) []) f (λ z. refl) (λ d named h z. append-nil d
@@ -38,7 +38,7 @@ one_ipv4_encoded f v w b (m, x) (n, y) = sym x.value.0 ∙ ap ipv4_value (one_lo
 abbrev HasValue : Option AuthFields → List ExtHeader → Type 0
 HasValue v c = (ipv4_value c ≡ v) × AllByRecursion IsCleared c
 
--- no header is encoded by no bytes
+-- the empty list encodes a value without a header
 pub none_encodes : (f : ℕ) (v : Option AuthFields) → v ≡ None → IsIpv4Encoding f v []
 none_encodes f v e = (f, whole_read (AtMostOneOf 51) (at_most_one_of 51) f f (HasValue v) [] [] (no_chain f) (at_most_one_of 51).empty (sym e, tt) refl refl (All-from_recursion (λ x. x < 256) [] tt))
 
@@ -46,7 +46,7 @@ none_encodes f v e = (f, whole_read (AtMostOneOf 51) (at_most_one_of 51) f f (Ha
 abbrev pub IsEncoded : AuthFields → Type 0
 IsEncoded w = (b : List ℕ) × AreBytes b × IsAuthEncoding w b
 
--- They are the only ones, and encode the header.
+-- These bytes are the only ones, and they encode the header.
 pub one_encodes : (f : ℕ) (v : Option AuthFields) (w : AuthFields) (b : List ℕ) → f ≡ 51 → v ≡ Some w → IsEncoded w → IsAuthEncoding w b → IsIpv4Encoding f v b
 one_encodes f v w b named value (d, bytes, encodes) e = (
   w.next_header,
@@ -58,7 +58,7 @@ one_encodes f v w b named value (d, bytes, encodes) e = (
       (subst AreBytes (one_encoded (auth_header w) d b encodes e) bytes),
 )
 
--- The reserved bits of the longest chain put to zero, it encodes its value.
+-- With its reserved bits set to zero, the longest chain encodes its value.
 pub cleared_encodes : (n : ℕ) (s : List ℕ) → AreBytes s → IsIpv4Encoding n (ipv4_value (longest_ipv4_chain n s)) (bytes_of (cleared_chain (longest_ipv4_chain n s)))
 cleared_encodes n s bytes =
     let l = ipv4_longest n s in
@@ -72,15 +72,15 @@ cleared_encodes n s bytes =
     subst (IsIpv4Encoding n (Some (auth_fields b))) (sym (append-nil d)) (one_encodes n (Some (auth_fields b)) (auth_fields b) d named refl (d, zeros, e) e))
     (longest_ipv4_chain n s) l.has.0.chain l.has.1 l.has.0.prefix
 
--- what was written encodes the value
+-- the appended bytes encode the value
 pub written : (f : ℕ) (v : Option AuthFields) (old new b : List ℕ) → AppendsOne (IsIpv4Encoding f v) old new → new ≡ old ++ b → IsIpv4Encoding f v b
 written f v old new b (d, encodes, appended) e = subst (IsIpv4Encoding f v) (append_cancel_left old d b (sym appended ∙ e)) encodes
 
--- Bytes s are read as v with nothing left.
+-- Bytes s parse as v with nothing left.
 abbrev IsReadAs : Option AuthFields → ℕ → ℕ → List ℕ → Type 0
 IsReadAs v f m s = IsRead (AtMostOneOf 51) (λ c. ipv4_value c ≡ v) f m s
 
--- Behind a header, and at a number that names none, there is no header and no fault.
+-- After a header, or at a number other than 51, there is no further header and no error.
 record NothingBehind (c : List ExtHeader) (m : ℕ) (r : List ℕ) : Type 0 where
   ends : IsEndUnder (AtMostOneOf 51) c m r
   fault : None ≡ ipv4_faults Slice c m r
@@ -88,23 +88,23 @@ record NothingBehind (c : List ExtHeader) (m : ℕ) (r : List ℕ) : Type 0 wher
 nothing_behind : (c : List ExtHeader) (m : ℕ) (r : List ℕ) → (c ≡ [] → m ≡ 51 → ⊥) → NothingBehind c m r
 nothing_behind c m r other = search (rules, ne_eqb, length-append)
 
--- where bytes are read as headers, these lead to the number behind them
+-- if bytes parse as headers, a walk over these leads to the number after them
 read_leads : (v : Option AuthFields) (f m : ℕ) (s : List ℕ) → IsReadAs v f m s → ipv4_walk v f ≡ Ok (record { 0 = m })
 read_leads v f m s r = search rules
 
 module _ (f : ℕ) (v : Option AuthFields) (m : IpNumber) where
-  -- What encodes headers is read as them, with nothing left
+  -- an encoding of headers parses as these headers, with nothing left
   pub encoding_read : (b : List ℕ) → IsIpv4Encoding f v b → ipv4_walk v f ≡ Ok m → IsReadAs v f m.0 b
   encoding_read b h1 walk = search rules
 
-  -- and again with more behind it, unless that goes on.
+  -- and with more bytes after it, unless a header starts there
   pub encoding_read_again : (b r : List ℕ) → IsIpv4Encoding f v b → ipv4_walk v f ≡ Ok m → (v ≡ None → f ≡ 51 → ⊥) → IsIpv4Answer ipv4_value f (b ++ r) v m.0 r None
   encoding_read_again b r e walk other =
       let x : IsReadAs v f m.0 b = encoding_read b e walk in
       let behind : NothingBehind x.chain m.0 r = nothing_behind x.chain m.0 r (λ none is. other (sym x.value ∙ ap ipv4_value none) (sym (ap (leads_to f) none) ∙ x.number ∙ is)) in
       read_again (AtMostOneOf 51) (at_most_one_of 51) f m.0 ipv4_value (ipv4_faults Slice) v None b r x behind.ends behind.fault
 
--- Where the headers lead, some bytes are read as them, and the other way round.
+-- If the headers lead to a number, some bytes parse as them, and vice versa.
 leads_read : (f : ℕ) (v : Option AuthFields) (m : IpNumber) → ((w : AuthFields) → v ≡ Some w → IsEncoded w) → ipv4_walk v f ≡ Ok m → (s : List ℕ) × IsReadAs v f m.0 s
 leads_read f None m encoded walk = ([], encoding_read f None m [] (none_encodes f None refl) walk)
 leads_read f (Some w) m encoded walk = elim (eqb_tells f 51) [

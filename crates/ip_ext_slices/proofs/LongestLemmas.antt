@@ -1,4 +1,4 @@
--- The longest chain, and the longest chain of bytes that it takes whole.
+-- The longest chain, and the longest chain that is all of some bytes.
 use Rattle.ip_spec.proofs.Common.{◌≡◌, ◌≢◌, ℕ, ◌*◌, ◌≤◌, List, ◌∷◌, length, take, drop, refl, ap, sym, ◌∙◌, arith, subst, Bool, true, false, nat_eq, rules, [], Option, IfNone, IsSome, AllByRecursion, drop-append_seam, drop-drop, length-append, ne_eqb, eqb_tells, next_header, ExtHeader, AreLinked, leads_to, bytes_of, headers_within, is_empty, IsChain, IsPrefixChain, IsLongestChain, IsNext, IsEnd, rest_behind, IsLongestUnder, NoDemand}
 use Rattle.ip_spec.proofs.PrefixLemmas.{prefix-length, prefix_first, prefix_second, rest_join}
 use Rattle.ip_spec.proofs.HeaderLemmas.{header-least, one_next}
@@ -13,7 +13,7 @@ longest_chain-longest n s = (some_longest n s).1
 pub longest_chain-is : (n : ℕ) (s : List ℕ) (c : List ExtHeader) → IsLongestChain n s c → longest_chain n s ≡ c
 longest_chain-is n s c l = one_longest n s (longest_chain n s) c (longest_chain-longest n s) l
 
--- of bytes that are cut short it is the headers that lie whole within them
+-- of truncated bytes it is the headers that lie wholly within them
 pub longest_chain-shorter : (n j : ℕ) (s : List ℕ) → longest_chain n (take j s) ≡ headers_within j (longest_chain n s)
 longest_chain-shorter n j s =
     let under : (t : List ℕ) → IsLongestUnder NoDemand n t (longest_chain n t) = λ t. longest_under_none n t (longest_chain n t) (longest_chain-longest n t) in
@@ -23,14 +23,14 @@ longest_chain-shorter n j s =
 pub longest_chain-bytes_of : (n : ℕ) (c : List ExtHeader) → IsChain n c → longest_chain n (bytes_of c) ≡ c
 longest_chain-bytes_of n c k = longest_chain-is n (bytes_of c) c (whole_longest n c k)
 
--- each of its headers has 8 bytes at least
+-- each of its headers has at least 8 bytes
 pub longest_chain-least : (n : ℕ) (s : List ℕ) → 8 * length (longest_chain n s) ≤ length (bytes_of (longest_chain n s))
 longest_chain-least n s = bytes_of-least (longest_chain n s) (longest_chain-longest n s).has.chain.headers
 
 some_next : (n : ℕ) (r : List ℕ) (c : List ExtHeader) → IsPrefixChain n r c → bytes_of c ≡ r → nat_eq (length r) 0 ≡ false → (h : ExtHeader) × IsNext true n r h
 some_next n r c p e f = search (rules, nat_eq, first_next)
 
--- where it takes all of some bytes, a header begins them
+-- if it is all of some nonempty bytes, they start with a header
 pub whole_goes_on : (n : ℕ) (r : List ℕ) → bytes_of (longest_chain n r) ≡ r → nat_eq (length r) 0 ≡ false → (h : ExtHeader) × IsNext true n r h
 whole_goes_on n r e f = some_next n r (longest_chain n r) (longest_chain-longest n r).has e f
 
@@ -53,7 +53,7 @@ cut_chain n r h (g ∷ c) p e x =
       bytes = sym (drop-append_seam g.bytes (bytes_of c)) ∙ ap (drop (length g.bytes)) e ∙ ap (λ (k : ExtHeader). drop (length k.bytes) r) same;
     }
 
--- cutting its first header leaves the longest chain of the bytes that are left, which is all of them
+-- removing its first header leaves the longest chain of the remaining bytes, which is all of them
 pub whole_cut : (n : ℕ) (r : List ℕ) (h : ExtHeader) (k : ℕ) (q b : List ℕ) → bytes_of (longest_chain n r) ≡ r → IsNext true n r h → k ≡ next_header h.bytes → b ≡ h.bytes → q ≡ drop (length b) r
     → (longest_chain n r ≡ h ∷ longest_chain k q) × (bytes_of (longest_chain k q) ≡ q)
 whole_cut n r h k q b e x ek eb eq =
@@ -63,11 +63,11 @@ whole_cut n r h k q b e x ek eb eq =
     ap (λ m. longest_chain m q) ek ∙ ap (longest_chain (next_header h.bytes)) (sym left) ∙ longest_chain-bytes_of (next_header h.bytes) cut.others cut.chain in
     (cut.split ∙ ap (λ d. h ∷ d) (sym others), ap bytes_of others ∙ left)
 
--- where a header goes on, what gives nothing only at an end gives something
+-- a value that is absent only at an end is present if a header follows
 pub some_where_next : {A : Type 0} (o : Option A) (first : Bool) (m : ℕ) (s : List ℕ) → IfNone o (IsEnd first m s) → ((h : ExtHeader) × IsNext first m s h) → IsSome o
 some_where_next o first m s e h5 = search rules
 
--- Behind another header only number 0 begins no chain, so at another number nothing changes.
+-- Number 0 has a header only at the start of a chain. Any other number may have one anywhere.
 not_zero_ends : (m : ℕ) (r : List ℕ) → m ≢ 0 → IsEnd false m r → IsEnd true m r
 not_zero_ends m r some e = λ h x. e h (record { number = x.number; header = x.header; prefix = x.prefix; zero_only_first = λ z. absurd (some z) })
 
@@ -77,11 +77,11 @@ first_or_later first m r h x = record { number = x.number; header = x.header; pr
 none_begins : (m : ℕ) (r : List ℕ) (c : List ExtHeader) → IsPrefixChain m r c → IsEnd true m r → c ≡ []
 none_begins m r c p e = search (rules, first_next)
 
--- where no header goes on, none is left
+-- at an end no header is left
 pub longest_from-end : (first : Bool) (m : ℕ) (r : List ℕ) → IsEnd first m r → longest_from first m r ≡ []
 longest_from-end first m r e = search (rules, none_begins, longest_chain-longest, eqb_tells, not_zero_ends)
 
--- each header of it has 8 bytes at least
+-- each of its headers has at least 8 bytes
 chain_within : (n : ℕ) (s : List ℕ) → 8 * length (longest_chain n s) ≤ length s
 chain_within n s = omega (arith, longest_chain-least n s, prefix-length (bytes_of (longest_chain n s)) s (longest_chain-longest n s).has.prefix)
 
@@ -95,7 +95,7 @@ none_behind_zero k (h ∷ c) z links a = absurd (a.0 (links.0 ∙ z))
 end_behind : (k : ℕ) (q : List ℕ) (c : List ExtHeader) → k ≢ 0 → IsEnd false (leads_to k c) q → IsEnd (is_empty c) (leads_to k c) q
 end_behind k q c some e = search rules
 
--- the headers behind the first of the longest chain are the longest chain that goes on there
+-- the headers after the first of the longest chain are the longest chain there
 module _ (n : ℕ) (r : List ℕ) (g : ExtHeader) (c : List ExtHeader) (l : IsLongestChain n r (g ∷ c)) where
   tail_longest : next_header g.bytes ≢ 0 → IsLongestChain (next_header g.bytes) (drop (length g.bytes) r) c
   tail_longest some =
@@ -115,11 +115,11 @@ longest_splits m r h (g ∷ c) l x =
     let same : g ≡ h = one_next true m r g h (first_next m r g c l.has) x in
     ap (λ d. g ∷ d) (tail_is m r g c l) ∙ ap (λ (j : ExtHeader). j ∷ longest_from false (next_header j.bytes) (drop (length j.bytes) r)) same
 
--- where a header goes on, it is the first that is left, and behind it the others are
+-- if a header follows, it is the first that is left, and the others follow it
 pub longest_from-next : (first : Bool) (m : ℕ) (r : List ℕ) (h : ExtHeader) → IsNext first m r h → longest_from first m r ≡ h ∷ longest_from false (next_header h.bytes) (drop (length h.bytes) r)
 longest_from-next first m r h x = search (rules, longest_splits, longest_chain-longest, eqb_tells, first_or_later)
 
--- What is left of l bytes, r at number m and then q at number k, from one header to the next.
+-- The parts left of l bytes, at number m with r and then at number k with q, one header apart.
 pub record GoesBehind (l : ℕ) (m : ℕ) (r : List ℕ) (h : ExtHeader) (k : ℕ) (q : List ℕ) : Type 0 where
   pub given : longest_from (nat_eq (length r) l) m r ≡ h ∷ longest_from (nat_eq (length q) l) k q
   pub leads : leads_to m (longest_from (nat_eq (length r) l) m r) ≡ leads_to k (longest_from (nat_eq (length q) l) k q)

@@ -1,4 +1,4 @@
--- What the parse knows of the chain that it has read, and what follows where no header goes on.
+-- What the parse knows about the chain parsed so far, and what follows at an end.
 use Rattle.ip_spec.proofs.Common.{common_steps, ◌≡◌, ℕ, arith, subst, ◌-◌, List, ◌∷◌, ◌++◌, length, take, drop, ap, sym, ◌∙◌, Bool, nat_eq, rules, [], ◌==◌, ◌&&◌, ◌||◌, Option, None, AllByRecursion, YieldsList, YieldsList-from_shown, or-false, or_assoc, eqb_tells, IsHeader, rest_behind, next_header, is_fragmenting, ExtHeader, leads_to, bytes_of, is_empty, has_fragmenting, IsNext, IsEnd}
 use Rattle.ip_spec.proofs.PrefixLemmas.{prefix-length}
 use Rattle.ip_spec.proofs.ChainLemmas.{longest_ends, bytes_of-least}
@@ -18,7 +18,7 @@ fragments h = (h.number == 44) && is_fragmenting h.bytes
 has_fragmenting-more : (c : List ExtHeader) (h : ExtHeader) → has_fragmenting (c ++ h ∷ []) ≡ (has_fragmenting c || fragments h)
 has_fragmenting-more c h = grind (arith, common_steps, or-false, or_assoc)
 
--- a chain has been read of s from n, leads to m and leaves r, and the flag tells whether it fragments
+-- the chain parsed of s from n leads to m and leaves r; the flag says whether a header in it fragments the payload
 pub record ParseState (n : ℕ) (s : List ℕ) (m : ℕ) (r : List ℕ) (flag : Bool) : Type 0 where
   pub chain : List ExtHeader
   pub read : HasRead n s chain m r
@@ -34,7 +34,7 @@ parse_goes_on n s m r flag h k q b either p x ek eb eq em =
       fragmented = em ∙ ap (λ f. f || fragments h) p.fragmented ∙ sym (has_fragmenting-more p.chain h);
     }
 
--- where no header goes on, the chain that was read is the longest
+-- at an end the chain parsed is the longest
 pub record AtEnd (n : ℕ) (s : List ℕ) (m : ℕ) (r : List ℕ) (flag : Bool) : Type 0 where
   pub number : m ≡ leads_to n (longest_chain n s)
   pub rest : r ≡ rest_behind (longest_chain n s) s
@@ -54,11 +54,11 @@ at_end n s m r flag p e =
 no_bytes : (c : List ExtHeader) (k : ℕ) → AllByRecursion (λ h. IsHeader h.number h.bytes) c → k ≡ length (bytes_of c) → nat_eq k 0 ≡ is_empty c
 no_bytes c k a e = search (rules, nat_eq, eqb_tells, bytes_of-least)
 
--- the bytes before what is left are the chain's
+-- the bytes before those left are the chain's
 pub len_behind : (n : ℕ) (s r : List ℕ) → r ≡ rest_behind (longest_chain n s) s → length s - length r ≡ length (bytes_of (longest_chain n s))
 len_behind n s r e = omega (arith, prefix-length (bytes_of (longest_chain n s)) s (longest_chain-longest n s).has.prefix, ap length e)
 
--- The longest chain of s from n, which has k bytes.
+-- The longest chain of s from n, of k bytes.
 module _ (n : ℕ) (s : List ℕ) (k : ℕ) (len : k ≡ length (bytes_of (longest_chain n s))) where
   pub longest_taken : take k s ≡ bytes_of (longest_chain n s)
   longest_taken = ap (λ j. take j s) len ∙ (longest_chain-longest n s).has.prefix
@@ -70,15 +70,15 @@ module _ (n : ℕ) (s : List ℕ) (k : ℕ) (len : k ≡ length (bytes_of (longe
   first_told = no_bytes (longest_chain n s) k (longest_chain-longest n s).has.chain.headers len
 
   module _ (m : ℕ) (r : List ℕ) (number : m ≡ leads_to n (longest_chain n s)) (rest : r ≡ rest_behind (longest_chain n s) s) where
-    -- nothing goes on behind it, and what fault stands there
+    -- no header follows it, and the error there
     pub ends_behind : IsEnd (nat_eq k 0) m r
     ends_behind = search (rules, first_told, longest_ends, longest_chain-longest)
 
     pub chain_fault_is : chain_fault n s ≡ slice_fault k (nat_eq k 0) m r
     chain_fault_is = search (rules, first_told)
 
--- A cursor over the longest chain of s from n has come to number m with r left, and what is left from there leads to
--- where the chain leads. Where no header goes on, it is at the end of the chain.
+-- A cursor over the longest chain of s from n has reached number m with r left, and the headers left from there lead
+-- to where the chain leads. At an end, the cursor is at the end of the chain.
 pub record IsAtEnd (n : ℕ) (s : List ℕ) (m : ℕ) (r : List ℕ) : Type 0 where
   pub ends : IsEnd (nat_eq (length s - length r) 0) m r
   pub answers : (f : Option Fault) → f ≡ slice_fault (length s - length r) (nat_eq (length s - length r) 0) m r → IsChainAnswer n s (longest_chain n s) m r f
@@ -86,7 +86,7 @@ pub record IsAtEnd (n : ℕ) (s : List ℕ) (m : ℕ) (r : List ℕ) : Type 0 wh
 pub cursor_at_end : (n : ℕ) (s : List ℕ) (first : Bool) (m : ℕ) (r : List ℕ) → leads_to m (longest_from first m r) ≡ leads_to n (longest_chain n s) → rest_behind (longest_from first m r) r ≡ rest_behind (longest_chain n s) s → IsEnd first m r → IsAtEnd n s m r
 cursor_at_end n s first m r leads behind e = search (rules, longest_from-end, len_behind, ends_behind, chain_fault_is)
 
--- what a cursor yields
+-- the headers that a cursor returns
 ended : (c d : Ipv6ExtensionsCursor) → GivesHeader c None d → length (headers_left c) ≡ 0
 ended c d e = ap length e.0.0
 

@@ -1,4 +1,4 @@
--- The fault at a number: none where a header goes on, and one where a request of a header finds too few bytes.
+-- The error at a number: none if a header follows, and one if a request of a header finds too few bytes.
 use Rattle.ip_spec.proofs.Common.{◌≡◌, ℕ, ◌<◌, List, ◌++◌, length, refl, sym, ap, ◌∙◌, inl, inr, subst, Bool, rules, Some, None, IsTrue, option_map, IsRawNumber, Asks, asks_raw, asks_fragment, asks_auth, IsZeroLength, ExtHeader, IsNext, IsEnd}
 use Rattle.ip_base.specs.declared.err.layer.Layer.{Layer}
 use Rattle.ip_base.specs.declared.err.layer.Layer.TheVariants.{Ipv6HopByHopHeader, Ipv6DestOptionsHeader, Ipv6RouteHeader, Ipv6FragHeader, IpAuthHeader}
@@ -12,7 +12,7 @@ use Rattle.ip_base.specs.declared.err.ipv6_exts.header_error.HeaderError.TheVari
 use Rattle.ip_ext_slices.specs.declared.err.ipv6_exts.header_slice_error.HeaderSliceError.TheVariants.{Content}
 
 module _ (source : LenSource) (n k : ℕ) (x : List ℕ) where
-  -- the fault at a number is that of its layout
+  -- the error at a number is that of its header format
   fault_first : (first : Bool) → IsTrue first → fault_at source n k first 0 x ≡ option_map (short_at Ipv6HopByHopHeader) (raw_fault source n k x)
   fault_first first t = search rules
 
@@ -33,12 +33,12 @@ module _ (source : LenSource) (n k : ℕ) (x : List ℕ) where
   no_fault_at_next : (first : Bool) (m : ℕ) (h : ExtHeader) → IsNext first m x h → fault_at source n k first m x ≡ None
   no_fault_at_next first m h y = search (rules, fault_raw, raw_at_header, fault_fragment, fragment_at_header, fault_auth, auth_at_header)
 
-  -- so where there is a fault no header goes on
+  -- so if there is an error, no header follows
   pub fault_ends : (first : Bool) (m : ℕ) (f : Fault) → fault_at source n k first m x ≡ Some f → IsEnd first m x
   fault_ends first m f e = λ h y. (let differ : None ≡ Some f = sym (no_fault_at_next first m h y) ∙ e in cc)
 
 module _ (source : LenSource) (n k : ℕ) (first : Bool) (m : ℕ) where
-  -- a request behind the bytes that came finds too few
+  -- a request after the consumed bytes finds too few
   pub asks_fault : (done : List ℕ) (count : ℕ) (xs : List ℕ) → length xs < count → (m ≡ 0 → IsTrue first) → Asks m done count
       → (e : LenError) × (l : Layer) × (fault_at source n k first m (done ++ xs) ≡ Some (short_at l e))
   asks_fault done count xs few zero_first a = elim a [

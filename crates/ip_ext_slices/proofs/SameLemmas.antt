@@ -8,7 +8,7 @@ use Rattle.ip_ext_slices.specs.Ipv6ExtensionsSlice.{first_number, bytes, headers
 use Rattle.ip_ext_slices.specs.declared.ipv6_exts_slice.Ipv6ExtensionsSlice.{Ipv6ExtensionsSlice}
 use Rattle.ip_ext_slices.proofs.LongestLemmas.{longest_chain-longest}
 
--- headers that have bytes are linked from one number alone
+-- headers with bytes are linked from one number only
 linked_from_one : (m n : ℕ) (c : List ExtHeader) → AreLinked m c → AreLinked n c → (length (bytes_of c) == 0) ≡ false → m ≡ n
 linked_from_one m n [] a b some = absurd (search rules)
 linked_from_one m n (h ∷ c) a b some = sym a.0 ∙ b.0
@@ -31,7 +31,7 @@ same_headers-bytes x y e = sym x.whole ∙ ap bytes_of e ∙ y.whole
 pub same_headers-first : (x y : Ipv6ExtensionsSlice) → headers_in x ≡ headers_in y → first_number x ≡ first_number y
 same_headers-first x y e = same_first x.first_header y.first_header x.slice.now y.slice.now e x.whole (same_headers-bytes x y e) x.first y.first
 
--- what says whether first number and bytes are the same says so of the headers
+-- a test for equal first numbers and bytes is a test for equal headers
 pub same_headers : (x y : Ipv6ExtensionsSlice) (r : Bool) → IsTrue r ↔ ((first_number x ≡ first_number y) × (bytes x ≡ bytes y)) → IsTrue r ↔ (headers_in x ≡ headers_in y)
 same_headers x y r k = (
   λ t. ap (λ n. longest_chain (start_number n) (bytes x)) (k.0 t).0 ∙ ap (longest_chain (start_number (first_number y))) (k.0 t).1,

@@ -1,4 +1,4 @@
--- The fault where an IPv6 chain ends, and the layer at which it lies (RFC 8200, section 4).
+-- The error at the end of an IPv6 chain, and the layer that it is in (RFC 8200, section 4).
 use Rattle.std.specs.Prelude.{ℕ, ◌+◌, ◌<◌, ◌^◌, List, length, Option, Some, None, ⊤, Bool, ◌==◌, Result, Ok, Err, if◌then◌else◌}
 use Rattle.std.specs.Option.{option_map}
 use Rattle.ip_base.specs.LenError.{too_short, moved}
@@ -22,17 +22,17 @@ use Rattle.ip_ext_slices.specs.declared.err.ipv6_exts.header_slice_error.HeaderS
 abbrev pub Fault : Type 0
 Fault = HeaderSliceError × Layer
 
--- there are too few bytes for the header of a layer
+-- too few bytes for a layer's header
 abbrev pub short_at : Layer → LenError → Fault
 short_at layer e = (Len e, layer)
 
--- the same or a bad length field, at an authentication header
+-- too few bytes for an authentication header, or a bad length field in it
 abbrev pub auth_at : AuthSliceError → Fault
 auth_at (auth.Len e) = short_at IpAuthHeader e
 auth_at (auth.Content e) = (Content (IpAuth e), IpAuthHeader)
 
--- The fault at number m, where r is left at offset k, n bytes as the source tells; `first` tells that no header
--- is before. There is none where a header goes on, and none where m is no extension number.
+-- The error at number m, with r left at offset k; the source says that n bytes are left. `first` says that no header
+-- precedes. None if a header follows, and none if m is not an extension header's number.
 abbrev pub fault_at : LenSource → ℕ → ℕ → Bool → ℕ → List ℕ → Option Fault
 fault_at source n k first m r =
     if m == HOP_BY_HOP then (if first then option_map (short_at Ipv6HopByHopHeader) (raw_fault source n k r) else Some (Content HopByHopNotAtStart, Ipv6HopByHopHeader))
@@ -42,24 +42,24 @@ fault_at source n k first m r =
     else if m == AUTHENTICATION then option_map auth_at (auth_fault source n k r)
     else None
 
--- the same where r itself says how many bytes there are
+-- the error if the length of r is the source
 abbrev pub slice_fault : ℕ → Bool → ℕ → List ℕ → Option Fault
 slice_fault k first m r = fault_at Slice (length r) k first m r
 
--- The fault behind the chain c, at number m with r left; the source says how many bytes that is.
+-- The error after the chain c, at number m with r left; the source says how many bytes are left.
 abbrev pub chain_faults : LenSource → List ExtHeader → ℕ → List ℕ → Option Fault
 chain_faults source c m r = fault_at source (length r) (length (bytes_of c)) (is_empty c) m r
 
--- the fault where the longest chain from n that begins s ends
+-- the error at the end of the longest chain from n at the start of s
 abbrev pub chain_fault : ℕ → List ℕ → Option Fault
 chain_fault n s = fault_behind (chain_faults Slice) (longest_chain n s) n s
 
--- the error at offset k, where n bytes are left, by its cause: a layer needs more, or what a header says is wrong
+-- the error at offset k with n bytes left, by its cause: a layer needs more bytes, or a header is malformed
 abbrev pub error_by_cause : ℕ → ℕ → Result (ℕ × Layer) HeaderError → HeaderSliceError
 error_by_cause k n (Ok (required, layer)) = Len (too_short Slice n k layer required)
 error_by_cause k n (Err e) = Content e
 
--- the error counted from k bytes further to the front, where that is a place
+-- the error with its offset, if it has one, increased by k
 abbrev pub exts_moved : ℕ → HeaderSliceError → HeaderSliceError
 exts_moved k (Len e) = Len (moved e.len_source k e)
 exts_moved k (Content e) = Content e

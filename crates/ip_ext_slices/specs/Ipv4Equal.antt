@@ -1,4 +1,4 @@
--- Equality of IPv4 extension headers: that of their fields.
+-- Equality of IPv4 extension headers: equality of their fields.
 use Rattle.std.specs.Prelude.{Bool}
 use Rattle.std.specs.Option.{option_eq}
 use Rattle.std.specs.Cmp.{IsEquivalence}

@@ -1,4 +1,4 @@
--- What slices of IPv4 extension headers show.
+-- The contents of slices of IPv4 extension headers.
 use Rattle.std.specs.Prelude.{List, [], ◌∷◌, Bool, nat_eq}
 use Rattle.std.specs.Option.{option_eq, option_map_or}
 use Rattle.std.specs.Ordering.{on}
@@ -12,6 +12,6 @@ use Rattle.ip_ext_slices.specs.declared.ipv4_exts_slice.Ipv4ExtensionsSlice.{Ipv
 abbrev pub headers_in : Ipv4ExtensionsSlice → List ExtHeader
 headers_in x = option_map_or (λ h. record { number = AUTHENTICATION; bytes = auth.bytes h } ∷ []) x.auth []
 
--- two have the same bytes, or no header
+-- two have the same bytes, or both no header
 abbrev pub same_slices : Ipv4ExtensionsSlice → Ipv4ExtensionsSlice → Bool
 same_slices = on (λ (x : Ipv4ExtensionsSlice). x.auth) (option_eq (on auth.bytes (pointwise nat_eq)))

@@ -1,4 +1,4 @@
--- What an iterator over a chain has left.
+-- The state of an iterator over a chain.
 use Rattle.std.specs.Prelude.{ℕ, List, Bool, ◌==◌, ◌&&◌, nat_eq}
 use Rattle.std.specs.Cmp.Lexicographic.{pointwise}
 use Rattle.ip_spec.specs.Chain.{ExtHeader}
@@ -9,11 +9,11 @@ use Rattle.ip_ext_slices.specs.declared.ipv6_ext_slice_iter.Ipv6ExtensionSliceIt
 abbrev pub number_left : Ipv6ExtensionSliceIter → ℕ
 number_left it = it.next_header.0
 
--- the bytes of the headers to come
+-- the bytes of the remaining headers
 abbrev pub bytes_left : Ipv6ExtensionSliceIter → List ℕ
 bytes_left it = it.rest.now
 
--- the headers to come: the longest chain that begins these bytes, which is all of them
+-- the remaining headers: the longest chain at the start of these bytes, which is all of them
 abbrev pub headers_left : Ipv6ExtensionSliceIter → List ExtHeader
 headers_left it = longest_chain it.next_header.0 it.rest.now
 

@@ -1,4 +1,4 @@
--- What a slice of IPv6 extension headers shows.
+-- The contents of a slice of IPv6 extension headers.
 use Rattle.std.specs.Prelude.{ℕ, List, Option, Bool, ◌==◌, ◌&&◌, nat_eq}
 use Rattle.std.specs.Option.{option_eq}
 use Rattle.std.specs.Cmp.Lexicographic.{pointwise}
@@ -16,7 +16,7 @@ first_number x = x.first_header
 abbrev pub bytes : Ipv6ExtensionsSlice → List ℕ
 bytes x = x.slice.now
 
--- its headers: the longest chain that begins its bytes, which is all of them
+-- its headers: the longest chain at the start of its bytes, which is all of them
 abbrev pub headers_in : Ipv6ExtensionsSlice → List ExtHeader
 headers_in x = longest_chain (start_number x.first_header) x.slice.now
 

@@ -7,17 +7,17 @@ use Rattle.ip_base.specs.declared.err.ipv6_exts.header_error.HeaderError.{Header
 use Rattle.ip_ext_slices.specs.declared.err.ipv6_exts.header_slice_error.HeaderSliceError.{HeaderSliceError}
 use Rattle.ip_ext_slices.specs.declared.err.ipv6_exts.header_slice_error.HeaderSliceError.TheVariants.{Len, Content}
 
--- the error of a length
+-- the length error, if any
 abbrev pub len_of : HeaderSliceError → Option LenError
 len_of (Len e) = Some e
 len_of (Content e) = None
 
--- what is wrong in the bytes
+-- the error in the bytes, if any
 abbrev pub content_of : HeaderSliceError → Option HeaderError
 content_of (Len e) = None
 content_of (Content e) = Some e
 
--- what the error comes of
+-- the error's cause
 abbrev pub cause_of : HeaderSliceError → ChainCause
 cause_of (Len e) = cause.Len e
 cause_of (Content e) = Ipv6Exts e

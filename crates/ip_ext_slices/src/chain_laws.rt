@@ -5,7 +5,7 @@ ghost use Rattle.ip_spec.specs.Parse.{fault_behind};
 ghost use Rattle.ip_spec.specs.Chain.{ExtHeader, IsLongestChain, leads_to};
 ghost use Rattle.ip_ext_slices.specs.ChainFault.{chain_faults};
 
-/// Where a longest chain leads to the number of an extension header, there is a fault.
+/// Proves that a longest chain that leads to an extension header's number has an error there.
 pub fn extension_number_left_has_fault()
     ensures { (n : ℕ) (s : List ℕ) (c : List ExtHeader) → IsLongestChain n s c
         → IsExtensionNumber (leads_to n c)

@@ -29,13 +29,14 @@ pub struct Ipv4Extensions {
 }
 
 impl Ipv4Extensions {
-    /// The least length of the headers, in bytes: there may be none.
+    /// The smallest length of the headers, in bytes: none.
     pub const MIN_LEN: usize = 0;
 
     /// The largest length of the headers, in bytes: that of an authentication header.
     pub const MAX_LEN: usize = 1028;
 
-    /// What `Ipv4ExtensionsSlice::from_slice_lax` answers, the header with bytes of its own.
+    /// Parses the headers as `Ipv4ExtensionsSlice::from_slice_lax` does, and returns the authentication header as an
+    /// owned value.
     #[inline(always)]
     pub fn from_slice_lax(
         start_ip_number: IpNumber,
@@ -56,7 +57,7 @@ impl Ipv4Extensions {
         (exts, number, rest, fault)
     }
 
-    /// What `from_slice_lax` answers, where it tells no fault; else the fault.
+    /// Parses the headers as `from_slice_lax` does, and returns the error, if there is one, instead of the headers.
     #[inline(always)]
     pub fn from_slice(
         start_ip_number: IpNumber,
@@ -70,8 +71,8 @@ impl Ipv4Extensions {
         Ok((slices.to_header(), number, rest))
     }
 
-    /// What `Ipv4ExtensionsSlice::from_slice_lax` answers. It stands apart, so that one path alone makes and
-    /// moves the header with bytes of its own.
+    /// Returns what `Ipv4ExtensionsSlice::from_slice_lax` returns. It is kept out of line, so that only one path
+    /// builds and moves the owned header.
     #[inline(never)]
     fn scan(
         start: IpNumber,
@@ -86,13 +87,13 @@ impl Ipv4Extensions {
             (headers_in result.0) result.1.0 result.2.now result.3 }
     {
         if start != ip_number::AUTH {
-            // An exit of its own: all but the number and the bytes is zero, and nothing is moved.
+            // This exit returns zeros but for the number and the bytes, and moves nothing.
             return (Ipv4ExtensionsSlice { auth: None }, start, bytes, None);
         }
         Ipv4ExtensionsSlice::from_slice_lax(start, bytes)
     }
 
-    /// Fills the place, in which nothing is yet, where it lies.
+    /// Fills this value, which has no header yet, in place.
     #[inline(never)]
     fn fill(&mut self, slices: &Ipv4ExtensionsSlice<'_>)
         requires { self.old.auth ≡ None }
@@ -110,8 +111,8 @@ impl Ipv4Extensions {
         }
     }
 
-    /// The number to which the headers lead, where `first_next_header` is the protocol number of the packet.
-    /// The error tells that a header is there which that number doesn't name.
+    /// Returns the number to which the headers lead; `first_next_header` is the packet's protocol number. Returns an
+    /// error if a header is present and that number doesn't refer to it.
     pub fn next_header(&self, first_next_header: IpNumber) -> Result<IpNumber, ExtsWalkError>
         ensures answer { result ≡ ipv4_walk self.now.auth first_next_header.0 }
         ensures exactly { (m : IpNumber) → (result ≡ Ok m) ↔ ((s : List ℕ)
@@ -130,8 +131,8 @@ impl Ipv4Extensions {
         }
     }
 
-    /// Puts the number behind the last header. It answers the number of the first header, which is to stand in
-    /// the packet as its protocol number; where there is none, the number itself.
+    /// Sets the number after the last header. Returns the number of the first header, for the packet's protocol
+    /// field; if there is no header, that is the number itself.
     pub fn set_next_headers(&mut self, last_protocol_number: IpNumber) -> IpNumber
         ensures links { self.new.auth ≡ option_map (λ (v : AuthFields).
             record v { next_header = last_protocol_number.0 }) self.old.auth }
@@ -148,11 +149,12 @@ impl Ipv4Extensions {
         }
     }
 
-    /// Appends the header's bytes, where `start_ip_number` is the protocol number of the packet. They are read as
-    /// this value again, with nothing left; where a header is there or that number is another one, also with any
-    /// bytes behind them. It refuses where that number doesn't name a header that is there, and else only where
-    /// there is a header for which the vector has no room and can't grow; then the vector's bytes stay as they
-    /// were. A header that isn't named is reported first: no memory is asked for.
+    /// Appends the header's bytes; `start_ip_number` is the packet's protocol number. The bytes parse as this value,
+    /// with nothing left. If a header is present or that number is not 51, they do so whatever bytes follow.
+    ///
+    /// Returns `Content` if a header is present and that number doesn't refer to it; this error comes before any
+    /// request for memory. Returns `Io` if a header is present and the vector has no room for it and can't grow.
+    /// After an error the vector's bytes are unchanged.
     #[inline(always)]
     pub fn write<A: Allocator>(
         &self,
@@ -205,7 +207,7 @@ impl Ipv4Extensions {
         }
     }
 
-    /// The number of the headers' bytes, 0 or 12 to 1028.
+    /// Returns the headers' length in bytes, 0 or 12 to 1028.
     pub fn header_len(&self) -> usize
         ensures len { result ≡ option_map_or auth_len self.now.auth 0 }
         ensures most { result ≤ 1028 }
@@ -216,7 +218,7 @@ impl Ipv4Extensions {
         }
     }
 
-    /// Whether there is no header.
+    /// Returns whether there is no header.
     pub fn is_empty(&self) -> bool
         ensures { result ≡ is_none self.now.auth }
     {
@@ -224,7 +226,7 @@ impl Ipv4Extensions {
     }
 }
 
-/// Says of a header that some bytes encode it. It does nothing when it runs.
+/// Proves that some bytes encode a header. It does nothing at run time.
 #[inline(always)]
 fn encodable(header: &IpAuthHeader)
     ensures { (b : List ℕ) × AreBytes b × IsAuthEncoding header.now b }
@@ -233,7 +235,7 @@ fn encodable(header: &IpAuthHeader)
     has_encoding(next, spi, sequence, header.raw_icv());
 }
 
-/// Says the same of a header's fields.
+/// Proves that some bytes encode a header with these fields. It does nothing at run time.
 #[inline(always)]
 fn has_encoding(next_header: IpNumber, spi: u32, sequence_number: u32, raw_icv: &[u8])
     requires { IsIcvLen (length raw_icv.now) }
@@ -267,7 +269,7 @@ impl Default for Ipv4Extensions {
 
     ghost is_default = { λ x. x.auth ≡ None };
 
-    /// No header.
+    /// Returns a value without a header.
     fn default() -> Ipv4Extensions {
         Ipv4Extensions { auth: None }
     }

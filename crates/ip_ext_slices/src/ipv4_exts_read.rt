@@ -19,8 +19,8 @@ use ip_ext_headers::IpAuthHeader;
 use ip_ext_headers::io::{ExactRead, LimitedReader};
 
 impl Ipv4Extensions {
-    /// Reads the header that the number names, with the number of what follows it. Where the number names none,
-    /// nothing is read. The errors are those of the header's read.
+    /// Reads the header of the number, and returns it with the next header number. If the number is not 51, nothing
+    /// is read. The errors are those of the header's read.
     pub fn read<T: ExactRead>(
         reader: &mut T,
         start_ip_number: IpNumber,
@@ -53,9 +53,8 @@ impl Ipv4Extensions {
         }
     }
 
-    /// Reads the header that the number names within a limit, as `read` does of the bytes that may still be read.
-    /// Where the number names none, nothing is read and no layer begins. The errors are those of the header's
-    /// read.
+    /// Reads the header of the number within a limit, as `read` does from the bytes that may still be read. If the
+    /// number is not 51, nothing is read and no layer starts. The errors are those of the header's read.
     pub fn read_limited<T: ExactRead>(
         reader: &mut LimitedReader<T>,
         start_ip_number: IpNumber,

@@ -11,8 +11,8 @@ use crate::err::ip_auth::HeaderSliceError;
 use ip_base::{IpNumber, ip_number};
 use ip_ext_headers::IpAuthHeaderSlice;
 
-/// The extension headers of an IPv4 packet, borrowed from the caller's bytes: an authentication header (RFC
-/// 4302, section 2), or none. Two are equal where their headers' bytes are.
+/// The extension headers of an IPv4 packet, borrowed from the caller's bytes: an authentication header (RFC 4302,
+/// section 2), or none. Two are equal if their headers' bytes are.
 #[derive(Clone, Copy, Debug)]
 pub struct Ipv4ExtensionsSlice<'a> {
     /// The authentication header.
@@ -22,11 +22,11 @@ pub struct Ipv4ExtensionsSlice<'a> {
 impl<'a> Ipv4ExtensionsSlice<'a> {
     ghost use Rattle.ip_ext_slices.specs.Ipv4ExtensionsSlice.{headers_in};
 
-    /// The longest chain of at most one authentication header from the number that begins the bytes, with the
-    /// number to which it leads, the bytes after it and the fault there. There is a fault only where an
-    /// authentication header is named at the start and none begins the bytes. What follows a header isn't
-    /// looked at, also where it is named as one more. Of bytes that are cut short, as a capture's are, it
-    /// answers the header where it lies whole within them.
+    /// Parses the longest chain of at most one authentication header at the start of the bytes, for this start
+    /// number. Returns the chain, the number to which it leads, the bytes after it and the error that ended it, if
+    /// any. There is an error only if the start number is 51 and the bytes don't start with an authentication header.
+    /// The bytes after a header aren't parsed, even if its next header is 51 again. Of truncated bytes, as in a
+    /// capture, it returns the header if it lies wholly within them.
     #[inline(always)]
     pub fn from_slice_lax(
         start_ip_number: IpNumber,
@@ -61,7 +61,7 @@ impl<'a> Ipv4ExtensionsSlice<'a> {
         }
     }
 
-    /// What `from_slice_lax` answers, where it tells no fault; else the fault.
+    /// Parses the headers as `from_slice_lax` does, and returns the error, if there is one, instead of the headers.
     #[inline(always)]
     pub fn from_slice(
         start_ip_number: IpNumber,
@@ -86,7 +86,7 @@ impl<'a> Ipv4ExtensionsSlice<'a> {
         }
     }
 
-    /// The same headers, with bytes of their own.
+    /// Returns the headers as an owned value.
     #[inline(always)]
     pub fn to_header(&self) -> Ipv4Extensions
         ensures { result.auth ≡ ipv4_value (headers_in self.now) }
@@ -99,7 +99,7 @@ impl<'a> Ipv4ExtensionsSlice<'a> {
         }
     }
 
-    /// Whether there is no header.
+    /// Returns whether there is no header.
     pub fn is_empty(&self) -> bool
         ensures { result ≡ is_empty (headers_in self.now) }
     {
@@ -137,7 +137,7 @@ impl Default for Ipv4ExtensionsSlice<'_> {
 
     ghost is_default = { λ x. headers_in x ≡ [] };
 
-    /// No header.
+    /// Returns a value without a header.
     fn default() -> Self {
         Ipv4ExtensionsSlice { auth: None }
     }

@@ -6,11 +6,11 @@ ghost use Rattle.ip_spec.specs.Fields.{next_header, is_fragmenting};
 use ip_base::{IpNumber, ip_number};
 use ip_ext_headers::{IpAuthHeaderSlice, Ipv6FragmentHeaderSlice, Ipv6RawExtHeaderSlice};
 
-/// One header of an IPv6 chain, borrowed from the caller's bytes. Two are equal where their variants and
-/// their bytes are.
+/// One header of an IPv6 chain, borrowed from the caller's bytes. Two are equal if their variants and their bytes
+/// are.
 #[derive(Clone, Debug, Drop)]
 pub enum Ipv6ExtensionSlice<'a> {
-    /// Hop by hop options (RFC 8200, section 4.3).
+    /// Hop-by-hop options (RFC 8200, section 4.3).
     HopByHop(Ipv6RawExtHeaderSlice<'a>),
     /// A routing header (RFC 8200, section 4.4).
     Routing(Ipv6RawExtHeaderSlice<'a>),
@@ -25,7 +25,7 @@ pub enum Ipv6ExtensionSlice<'a> {
 impl<'a> Ipv6ExtensionSlice<'a> {
     ghost use Rattle.ip_ext_slices.specs.Ipv6ExtensionSlice.{header_of};
 
-    /// The header's own number.
+    /// Returns the header's own number.
     pub fn number(&self) -> IpNumber
         ensures { result.0 ≡ (header_of self.now).number }
     {
@@ -38,7 +38,7 @@ impl<'a> Ipv6ExtensionSlice<'a> {
         }
     }
 
-    /// The header's bytes, one header of its number.
+    /// Returns the header's bytes, exactly one header of its number.
     pub fn slice(&self) -> &'a [u8]
         ensures bytes { result.now ≡ (header_of self.now).bytes }
         ensures header { IsHeader (header_of self.now).number result.now }
@@ -52,7 +52,7 @@ impl<'a> Ipv6ExtensionSlice<'a> {
         }
     }
 
-    /// The number of what follows the header.
+    /// Returns the next header field.
     pub fn next_header(&self) -> IpNumber
         ensures { result.0 ≡ next_header (header_of self.now).bytes }
     {
@@ -65,7 +65,7 @@ impl<'a> Ipv6ExtensionSlice<'a> {
         }
     }
 
-    /// Whether it is a fragment header that fragments the payload.
+    /// Returns whether this is a fragment header that fragments the payload.
     pub(crate) fn is_fragmenting_payload(&self) -> bool
         ensures { result ≡ (((header_of self.now).number == FRAGMENT)
             && is_fragmenting (header_of self.now).bytes) }

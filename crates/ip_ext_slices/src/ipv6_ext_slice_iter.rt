@@ -7,8 +7,8 @@ use crate::step::{after, header_at};
 use ip_base::{IpNumber, ip_number};
 use std::alloc::AllocError;
 
-/// The headers of an IPv6 chain, once in order, then `None` for ever. Two iterators are equal where the
-/// number of the next header and the bytes that are left are.
+/// The headers of an IPv6 chain, once and in order, and `None` from then on. Two iterators are equal if the number of
+/// the next header and the remaining bytes are.
 #[derive(Debug, Drop)]
 pub struct Ipv6ExtensionSliceIter<'a> {
     pub(crate) next_header: IpNumber,
@@ -19,7 +19,7 @@ pub struct Ipv6ExtensionSliceIter<'a> {
 impl<'a> Ipv6ExtensionSliceIter<'a> {
     ghost use Rattle.ip_ext_slices.specs.Ipv6ExtensionSliceIter.{number_left, bytes_left};
 
-    /// The number of the next header; behind the last one, the number to which the chain leads.
+    /// Returns the number of the next header; after the last one, the number to which the chain leads.
     #[inline(always)]
     pub fn next_number(&self) -> IpNumber
         ensures { result.0 ≡ number_left self.now }
@@ -27,7 +27,7 @@ impl<'a> Ipv6ExtensionSliceIter<'a> {
         self.next_header
     }
 
-    /// The bytes of the headers to come.
+    /// Returns the bytes of the remaining headers.
     #[inline(always)]
     pub fn rest(&self) -> &'a [u8]
         ensures { result.now ≡ bytes_left self.now }
@@ -51,7 +51,7 @@ impl<'a> Iterator for Ipv6ExtensionSliceIter<'a> {
         if self.rest.is_empty() {
             return None;
         }
-        // The bytes are whole headers, so a header goes on.
+        // The bytes are whole headers, so they start with one.
         let header = header_at(true, self.next_header, self.rest).unwrap();
         self.next_header = header.next_header();
         self.rest = after(self.rest, header.slice().len());
@@ -109,7 +109,7 @@ impl Default for Ipv6ExtensionSliceIter<'_> {
 
     ghost is_default = { λ it. (number_left it ≡ NO_NEXT_HEADER) × (bytes_left it ≡ []) };
 
-    /// No headers. The number is 59, since 0 would name hop by hop options.
+    /// Returns an iterator without headers. Its number is 59, since 0 would mean hop-by-hop options.
     fn default() -> Self {
         Ipv6ExtensionSliceIter {
             next_header: ip_number::IPV6_NO_NEXT_HEADER,

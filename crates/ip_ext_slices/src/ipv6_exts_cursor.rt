@@ -10,13 +10,13 @@ use crate::step::{after, fault, header_at, is_extension};
 use ip_base::{IpNumber, ip_number};
 use std::alloc::AllocError;
 
-/// The headers of the longest chain (RFC 8200, section 4) from a number that begins some bytes, once in order,
-/// then `None` for ever. Each is parsed when it is asked for, so who stops early pays for no more, and who goes
-/// to the end passes over the bytes once. Two cursors are equal where they were made with the same number and
-/// bytes and have come equally far.
+/// The headers of the longest chain (RFC 8200, section 4) at the start of some bytes, once and in order, and `None`
+/// from then on. `next` parses one header, so a caller that stops early doesn't pay for the rest, and one that goes
+/// to the end passes over the bytes once. Two cursors are equal if they were created with the same number and bytes
+/// and have reached the same position.
 #[derive(Debug, Drop)]
 pub struct Ipv6ExtensionsCursor<'a> {
-    // Only `eq` reads it; the contracts of `next` and `end` speak of it.
+    // Only `eq` reads it; the contracts of `next` and `end` refer to it.
     first: IpNumber,
     bytes: &'a [u8],
     number: IpNumber,
@@ -34,7 +34,7 @@ impl<'a> Ipv6ExtensionsCursor<'a> {
     ghost use Rattle.ip_ext_slices.specs.ChainAnswer.{IsChainAnswer};
     ghost use Rattle.ip_ext_slices.specs.Ipv6ExtensionsCursor.{start, input, number_left, bytes_left, headers_left};
 
-    /// The headers of the longest chain from the number that begins the bytes.
+    /// Returns a cursor over the longest chain at the start of `bytes`, for the start number `first`.
     #[inline(always)]
     pub fn new(first: IpNumber, bytes: &'a [u8]) -> Ipv6ExtensionsCursor<'a>
         ensures start { start result ≡ first.0 }
@@ -53,7 +53,7 @@ impl<'a> Ipv6ExtensionsCursor<'a> {
         }
     }
 
-    /// The number of the next header; from the end on, the number to which the chain leads.
+    /// Returns the number of the next header; from the end on, the number to which the chain leads.
     #[inline(always)]
     pub fn next_number(&self) -> IpNumber
         ensures { result.0 ≡ number_left self.now }
@@ -61,7 +61,7 @@ impl<'a> Ipv6ExtensionsCursor<'a> {
         self.number
     }
 
-    /// The bytes behind the last header that was given, all of them where there is none.
+    /// Returns the bytes after the last header returned; all of them if there is none.
     #[inline(always)]
     pub fn rest(&self) -> &'a [u8]
         ensures { result.now ≡ bytes_left self.now }
@@ -69,9 +69,9 @@ impl<'a> Ipv6ExtensionsCursor<'a> {
         self.rest
     }
 
-    /// From the last header on, what a parse answers of the whole: the number to which the chain leads, the bytes
-    /// after it and the fault there. The offset in a fault counts bytes from the start of those that `new` was
-    /// given.
+    /// Returns the end of the chain once no header is left, and `None` before: the number to which the chain leads,
+    /// the bytes after it, and the error that ended it, if any, with its layer. Offsets in the error count from the
+    /// start of the bytes given to `new`.
     #[inline(always)]
     pub fn end(&self) -> Option<(IpNumber, &'a [u8], Option<(HeaderSliceError, Layer)>)>
         ensures before { IfNone result (headers_left self.now ≢ []) }
@@ -169,7 +169,7 @@ impl Default for Ipv6ExtensionsCursor<'_> {
     ghost is_default = { λ c. (start c ≡ NO_NEXT_HEADER) × (input c ≡ [])
         × (number_left c ≡ NO_NEXT_HEADER) × (bytes_left c ≡ []) };
 
-    /// No headers. The number is 59, since 0 would name hop by hop options.
+    /// Returns a cursor without headers. Its number is 59, since 0 would mean hop-by-hop options.
     fn default() -> Self {
         Ipv6ExtensionsCursor::new(ip_number::IPV6_NO_NEXT_HEADER, &[])
     }

@@ -15,9 +15,8 @@ use crate::{Ipv6ExtensionSlice, Ipv6ExtensionSliceIter};
 use ip_base::{IpNumber, ip_number};
 use std::alloc::AllocError;
 
-/// A chain of IPv6 extension headers (RFC 8200, section 4), borrowed from the caller's bytes. Its bytes are
-/// whole headers, linked from the number of the first. Two are equal where the number of the first header
-/// and the bytes are.
+/// A chain of IPv6 extension headers (RFC 8200, section 4), borrowed from the caller's bytes. Its bytes are whole
+/// headers, linked from the number of the first. Two are equal if the number of the first header and the bytes are.
 #[derive(Debug, Drop)]
 pub struct Ipv6ExtensionsSlice<'a> {
     first_header: Option<IpNumber>,
@@ -32,7 +31,7 @@ pub struct Ipv6ExtensionsSlice<'a> {
 impl<'a> Ipv6ExtensionsSlice<'a> {
     ghost use Rattle.ip_ext_slices.specs.Ipv6ExtensionsSlice.{first_number, bytes, headers_in};
 
-    /// The chain from `start` that is all of `slice`.
+    /// Returns the chain from `start` that is all of `slice`.
     #[inline(always)]
     fn new(start: IpNumber, slice: &'a [u8], fragmented: bool) -> Ipv6ExtensionsSlice<'a>
         requires whole { bytes_of (longest_chain start.0 slice.now) ≡ slice.now }
@@ -49,7 +48,7 @@ impl<'a> Ipv6ExtensionsSlice<'a> {
         }
     }
 
-    /// The longest chain from `start` that begins `input`, which is the first `len` of them.
+    /// Returns the longest chain from `start` at the start of `input`: the first `len` bytes.
     #[inline(always)]
     fn first(
         start: IpNumber,
@@ -67,10 +66,10 @@ impl<'a> Ipv6ExtensionsSlice<'a> {
         Self::new(start, &input[..len], fragmented)
     }
 
-    /// The longest chain from the number that begins the bytes, with the number to which it leads, the bytes
-    /// after it and the fault there. The offset in a fault counts bytes from the start of `start_slice`. There
-    /// is no fault where the number is no extension number. Of bytes that are cut short, as a capture's are,
-    /// it answers those of the headers that lie whole within them.
+    /// Parses the longest chain at the start of the bytes, for this start number. Returns the chain, the number to
+    /// which it leads, the bytes after it and the error that ended it, if any. Offsets in the error count from the
+    /// start of `start_slice`. A chain that leads to a number that is not an extension header's has no error. Of
+    /// truncated bytes, as in a capture, it returns the chain of the headers that lie wholly within them.
     #[inline(always)]
     pub fn from_slice_lax(
         start_ip_number: IpNumber,
@@ -102,8 +101,8 @@ impl<'a> Ipv6ExtensionsSlice<'a> {
         (found, number, rest, None)
     }
 
-    /// Goes over the longest chain from the number that begins the bytes: the number to which it leads, the
-    /// bytes after it, how many it has, and whether it fragments the payload.
+    /// Walks the longest chain at the start of the bytes, for this start number. Returns the number to which it
+    /// leads, the bytes after it, its length in bytes, and whether it fragments the payload.
     #[inline(always)]
     fn scan(start: IpNumber, bytes: &'a [u8]) -> (IpNumber, &'a [u8], usize, bool)
         ensures number { result.0.0 ≡ leads_to start.0 (longest_chain start.0 bytes.now) }
@@ -122,7 +121,7 @@ impl<'a> Ipv6ExtensionsSlice<'a> {
         (number, rest, bytes.len() - rest.len(), fragmented)
     }
 
-    /// What `from_slice_lax` answers, where it tells no fault; else the fault.
+    /// Parses the headers as `from_slice_lax` does, and returns the error, if there is one, instead of the headers.
     #[inline(always)]
     pub fn from_slice(
         start_ip_number: IpNumber,
@@ -145,7 +144,7 @@ impl<'a> Ipv6ExtensionsSlice<'a> {
         Ok((found, number, rest))
     }
 
-    /// The number of the first header, where there is one.
+    /// Returns the number of the first header, if there is one.
     pub fn first_header(&self) -> Option<IpNumber>
         ensures number { result ≡ first_number self.now }
         ensures none { is_none result ≡ is_empty (headers_in self.now) }
@@ -153,7 +152,7 @@ impl<'a> Ipv6ExtensionsSlice<'a> {
         self.first_header
     }
 
-    /// The bytes of the headers.
+    /// Returns the bytes of the headers.
     pub fn slice(&self) -> &'a [u8]
         ensures bytes { result.now ≡ bytes self.now }
         ensures joined { result.now ≡ bytes_of (headers_in self.now) }
@@ -161,14 +160,14 @@ impl<'a> Ipv6ExtensionsSlice<'a> {
         self.slice
     }
 
-    /// Whether some fragment header of the chain fragments the payload.
+    /// Returns whether some fragment header of the chain fragments the payload.
     pub fn is_fragmenting_payload(&self) -> bool
         ensures { result ≡ has_fragmenting (headers_in self.now) }
     {
         self.fragmented
     }
 
-    /// Whether there is no header.
+    /// Returns whether there is no header.
     pub fn is_empty(&self) -> bool
         ensures { result ≡ is_empty (headers_in self.now) }
     {
@@ -250,7 +249,7 @@ impl Default for Ipv6ExtensionsSlice<'_> {
 
     ghost is_default = { λ x. (first_number x ≡ None) × (bytes x ≡ []) };
 
-    /// No headers.
+    /// Returns a chain without headers.
     fn default() -> Self {
         Ipv6ExtensionsSlice {
             first_header: None,

@@ -13,10 +13,10 @@ use ip_base::{IpNumber, LenSource, ip_number};
 use ip_ext_headers::err::ip_auth;
 use ip_ext_headers::{IpAuthHeaderSlice, Ipv6FragmentHeaderSlice, Ipv6RawExtHeaderSlice};
 
-/// A fault and the layer at which it lies.
+/// An error and the layer that it is in.
 pub(crate) type Fault = (HeaderSliceError, Layer);
 
-/// The bytes after the first `len`.
+/// Returns the bytes after the first `len`.
 pub(crate) fn after(bytes: &[u8], len: usize) -> &[u8]
     requires { len ≤ length bytes.now }
     ensures { result.now ≡ drop len bytes.now }
@@ -24,8 +24,8 @@ pub(crate) fn after(bytes: &[u8], len: usize) -> &[u8]
     &bytes[len..]
 }
 
-/// The header that goes on with the number where the bytes begin; `first` says that no header is before it, since only
-/// there are hop by hop options one (RFC 8200, section 4.1). `None` where none goes on.
+/// Parses the header of this number at the start of `bytes`. `first` says that no header precedes it: hop-by-hop
+/// options are allowed only there (RFC 8200, section 4.1). Returns `None` if the chain ends here.
 #[inline]
 pub fn header_at(first: bool, number: IpNumber, bytes: &[u8]) -> Option<Ipv6ExtensionSlice<'_>>
     ensures next { IfSome result (λ h. IsNext first number.0 bytes.now (header_of h)) }
@@ -57,7 +57,7 @@ pub fn header_at(first: bool, number: IpNumber, bytes: &[u8]) -> Option<Ipv6Exte
     }
 }
 
-/// Whether headers of the number are extension headers.
+/// Returns whether the number is an extension header's.
 #[inline]
 pub(crate) fn is_extension(number: IpNumber) -> bool
     ensures { IsTrue result ↔ IsExtensionNumber number.0 }
@@ -72,8 +72,8 @@ pub(crate) fn is_extension(number: IpNumber) -> bool
     )
 }
 
-/// What is wrong at an extension number with which no header goes on: how many bytes the header of which
-/// layer needs, or what it says. `first` tells that no header is before it.
+/// Returns the error's cause at an extension header's number where the chain ends: how many bytes which layer needs,
+/// or the error in the header. `first` says that no header precedes it.
 #[inline(always)]
 fn cause(first: bool, number: IpNumber, bytes: &[u8]) -> Result<(usize, Layer), HeaderError>
     ensures { (k : ℕ) → IsSome (slice_fault k first number.0 bytes.now)
@@ -92,8 +92,8 @@ fn cause(first: bool, number: IpNumber, bytes: &[u8]) -> Result<(usize, Layer), 
     }
 }
 
-/// What is wrong at an extension number with which no header goes on, where `bytes` are left and `offset`
-/// bytes are behind; `first` tells that no header is before it.
+/// Returns the error at an extension header's number where the chain ends, with `bytes` left, `offset` bytes after
+/// its start. `first` says that no header precedes it.
 #[inline(always)]
 pub(crate) fn error_at(
     first: bool,
@@ -116,8 +116,8 @@ pub(crate) fn error_at(
     }
 }
 
-/// The fault at an extension number with which no header goes on, as `error_at`, with its layer. It stands
-/// apart, since most chains end without one; each kind of it is put together where it is handed out.
+/// Returns the error at an extension header's number where the chain ends, as `error_at` does, with its layer. It is
+/// kept out of line, since most chains end without an error. Each kind of error is built where it is returned.
 #[cold]
 #[inline(never)]
 pub(crate) fn fault(first: bool, number: IpNumber, bytes: &[u8], offset: usize) -> Fault
@@ -145,9 +145,9 @@ pub(crate) fn fault(first: bool, number: IpNumber, bytes: &[u8], offset: usize) 
     (HeaderSliceError::Len(error), layer)
 }
 
-/// The fault of a chain that comes to the number with `rest` left, `offset` bytes behind its start; `first` says
-/// that it has no header yet. There is none where a header goes on, and none where the number is no extension
-/// number. The offset in a fault counts bytes from where `offset` does.
+/// Returns the error of a chain that leads to the number with `rest` left, `offset` bytes after its start; `first`
+/// says that it has no header yet. Returns `None` if a header follows, or if the number is not an extension header's.
+/// Offsets in the error count from where `offset` does.
 #[cold]
 #[inline(never)]
 pub fn fault_at(
@@ -167,7 +167,8 @@ pub fn fault_at(
     }
 }
 
-/// How many bytes a header of the common layout needs: 8, where the bytes are too few to tell its own length.
+/// Returns how many bytes a header in the uniform format (RFC 6564) needs: 8 if there are too few bytes for its own
+/// length field.
 #[inline]
 fn required_raw_len(bytes: &[u8]) -> usize
     ensures { result ≡ (if nat_lt (length bytes.now) 8 then 8

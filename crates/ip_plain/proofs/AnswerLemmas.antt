@@ -1,4 +1,4 @@
--- The definitions of the tool, as the plain program goes through them.
+-- The tool's definitions, in the form in which the plain program computes them.
 use Rattle.ip_spec.proofs.Common.{◌≡◌, ◌≢◌, ℕ, ◌+◌, ◌*◌, ◌%◌, ◌<◌, ◌≤◌, List, [], ◌∷◌, ◌++◌, length, drop, map, refl, sym, ap, ◌∙◌, arith, append_assoc, get_or, nat_eq, inl, inr, codes, Option, None, Some, Result, Ok, Err, option_map, bytes_eq, result_ok, cond-false, false_from_ne_true, ne_eqb, bytes_eq-Decides, length-take, drop_more, ExtHeader, IsLongestChain, leads_to, bytes_of, is_empty, eqb_tells, IsPrefix}
 use Rattle.std.proofs.Common.{◌==◌, append-nil}
 use Rattle.std.specs.Prelude.{Bool}
@@ -33,7 +33,7 @@ last_kept ((b ∷ line) ∷ front) last some = ap (λ (ls : List (List ℕ)). (b
 
 -- ---- hexadecimal digits
 
--- a byte in front of others, where all are there
+-- a byte before others, if both are present
 abbrev pub onto_bytes : Option ℕ → Option (List ℕ) → Option (List ℕ)
 onto_bytes (Some byte) bytes = option_map (λ more. byte ∷ more) bytes
 onto_bytes None bytes = None
@@ -52,7 +52,7 @@ onto_bytes-ok i (Some h) (Some l) high low (Err e) = refl
 onto_bytes-ok i (Some h) None high low bytes = refl
 onto_bytes-ok i None l high low bytes = refl
 
--- which is what decoding gives
+-- decoding returns these bytes
 pub decode_pairs-bytes : (i : ℕ) (text : List ℕ) → result_ok (decode_pairs i text) ≡ bytes_of_pairs text
 unfolding decode_pairs
 decode_pairs-bytes i [] = refl
@@ -69,7 +69,7 @@ bytes_of_hex-pairs (c ∷ cs) dash some even =
     ∙ ap result_ok (cond-false (length (c ∷ cs) % 2 == 1) (Err OddLength) (decode_pairs 0 (c ∷ cs)) (ne_eqb (length (c ∷ cs) % 2) 1 even))
     ∙ decode_pairs-bytes 0 (c ∷ cs)
 
--- the bytes so far and those of the digits to come are those of all digits
+-- the bytes so far and those of the remaining digits are those of all digits
 pub SoFar : List ℕ → List ℕ → List ℕ → Type 0
 SoFar text left bytes = option_map (λ more. bytes ++ more) (bytes_of_pairs left) ≡ bytes_of_pairs text
 
@@ -116,7 +116,7 @@ module _ (text bytes : List ℕ) where
 
 -- ---- chains
 
--- the answer computed from any longest chain, of which there is one
+-- the answer computed from a longest chain; there is only one
 module _ (n : ℕ) (s : List ℕ) (c : List ExtHeader) (longest : IsLongestChain n s c) where
   pub exts6_answer-longest : (number : ℕ) (rest : List ℕ) (first : Bool) (offset : ℕ) (fault : Option Fault)
       → number ≡ leads_to n c → rest ≡ drop (length (bytes_of c)) s → first ≡ is_empty c → offset ≡ length (bytes_of c) → fault ≡ slice_fault offset first number rest

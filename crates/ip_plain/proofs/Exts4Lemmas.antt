@@ -1,4 +1,4 @@
--- The answer to `exts4`, as the plain program goes through it.
+-- The answer to `exts4`, in the form in which the plain program computes it.
 use Rattle.ip_spec.proofs.Common.{◌≡◌, ℕ, zero, suc, ◌≤◌, List, [], ◌∷◌, ◌++◌, length, take, drop, get_or, true, refl, sym, ap, ◌∙◌, arith, append_assoc, length-take-le, ExtHeader, IsNext, IsEnd, leads_to, rest_behind, fault_behind, NoPrefix, IsAuthHeader, auth}
 use Rattle.std.proofs.Common.{append-nil}
 use Rattle.ip_base.specs.declared.len_source.LenSource.TheVariants.{Slice}
@@ -10,7 +10,7 @@ use Rattle.ip_ext_slices.proofs.Ipv4Lemmas.{answer_of_one, answer_of_none}
 use Rattle.ipexts_tool.specs.Exts4.{exts4_answer}
 use Rattle.ipexts_tool.specs.Parts.{header_line, header_lines, next_line, ipv4_end_line, ok_line}
 
--- what is told where the chain c was taken
+-- the answer for the chain c
 abbrev told : List ℕ → List ExtHeader → List ℕ
 told s c = header_lines 0 c ++ next_line (leads_to 51 c) (length (rest_behind c s)) ++ ipv4_end_line (fault_behind (ipv4_faults Slice) c 51 s)
 
@@ -38,7 +38,7 @@ exts4_none n s e end =
     let none : NoPrefix IsAuthHeader s = λ b h p. end (record { number = 51; bytes = b }) (record { number = refl; header = auth refl h; prefix = p; zero_only_first = λ z. refl }) in
     ap (λ m. exts4_answer m s) e ∙ ap (told s) (sym (answer_of_none (λ c. c) 51 s [] _ (λ z. none) refl refl).value)
 
--- Parts that were appended one after the other.
+-- Parts appended one after the other.
 pub two_joined : (text next end t₁ t₂ : List ℕ) → t₁ ≡ text ++ next → t₂ ≡ t₁ ++ end → t₂ ≡ text ++ (next ++ end)
 two_joined text next end t₁ t₂ a b = rw (b, a) (simp append_assoc)
 

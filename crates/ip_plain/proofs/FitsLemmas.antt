@@ -1,11 +1,11 @@
--- What the plain program counts.
+-- The counts of the plain program.
 use Rattle.ip_spec.proofs.Common.{◌≡◌, ℕ, ◌+◌, ◌<◌, List, length, take, map, sym, ◌∙◌, arith, subst, take-map, take_more, length-map, ExtHeader, KeepsBeginning, FitsPlaces}
 use Rattle.ip_spec.proofs.DemandLemmas.{kept_first}
 use Rattle.ip_spec.proofs.PlaceLemmas.{bare}
 use Rattle.ip_plain.specs.PlainHeader.{plain_header_of}
 use Rattle.ip_plain.specs.declared.chain.PlainHeader.{PlainHeader}
 
--- Of plain headers of which the first k fit, and no more, the demand keeps these.
+-- If the first k plain headers fit and one more doesn't, the demand keeps these k.
 module _ (hs : List PlainHeader) (k : ℕ) (within : k < length hs) where
   pub kept_of_plain : FitsPlaces (map plain_header_of (take k hs)) → (FitsPlaces (map plain_header_of (take (k + 1) hs)) → ⊥) → KeepsBeginning FitsPlaces (map plain_header_of hs) (map plain_header_of (take k hs))
   kept_of_plain f fails =

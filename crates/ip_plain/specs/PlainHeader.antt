@@ -1,4 +1,4 @@
--- What a header of the plain program shows.
+-- A header of the plain program.
 use Rattle.ip_spec.specs.Chain.{ExtHeader}
 use Rattle.ip_plain.specs.declared.chain.PlainHeader.{PlainHeader}
 

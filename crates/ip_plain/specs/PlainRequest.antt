@@ -1,4 +1,4 @@
--- What the plain program reads a line as, in the words of the tool.
+-- A request parsed by the plain program, as the tool's request.
 use Rattle.ipexts_tool.specs.Request.{Request, Exts6, Exts4, Rewrite6, RewriteAll6, Packet}
 use Rattle.ip_plain.specs.declared.answers.PlainRequest.{PlainRequest}
 use Rattle.ip_plain.specs.declared.answers.PlainRequest.TheVariants as plain

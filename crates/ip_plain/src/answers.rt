@@ -1,6 +1,6 @@
-//! The answers of the tool computed in the plainest way, all in memory and line by line. It is slow, and shares
-//! no code with the tool, but calls the library's parse and `write` for `rewrite6`, its runs for
-//! `rewriteall6`, and its parse for `packet`.
+//! The tool's answers computed in the simplest way, in memory and line by line. It is slow, and shares no code with
+//! the tool. It uses the library's parse and `write` for `rewrite6`, its runs for `rewriteall6`, and its parse for
+//! `packet`.
 ghost use Rattle.std.specs.Prelude.{◌≡◌, ◌++◌, ◌==◌, ◌^◌, ◌<◌, length, map};
 ghost use Rattle.std.specs.Prelude.{[], ◌∷◌, slice_index, IfOk, OnOk, string_bytes};
 ghost use Rattle.std.specs.List.{slice_split};
@@ -37,10 +37,10 @@ use ip_ext_chains::err::ipv6_exts::{HeaderError, HeaderSliceError};
 use ip_ext_chains::{Ipv6Extensions, Ipv6ExtensionsSlice};
 use std::alloc::{AllocError, Global};
 
-/// The answer to a line that asks for nothing.
+/// The answer to a line that is not a request.
 const BAD_LINE: &str = "bad line\n";
 
-/// The answers to all lines of `input`, one after the other. It refuses only for want of memory.
+/// Returns the answers to all lines of `input`, in order. Returns an error only if memory runs out.
 pub fn plain_answers(alloc: Global, input: &[u8]) -> Result<Vec<u8>, AllocError>
     ensures { IfOk result (λ text. text.items ≡ answers input.now) }
 {
@@ -52,7 +52,7 @@ pub fn plain_answers(alloc: Global, input: &[u8]) -> Result<Vec<u8>, AllocError>
     Ok(text.into_bytes())
 }
 
-/// The parts of a text that a byte separates.
+/// Returns the parts of a text separated by a byte.
 fn plain_parts<'a>(
     alloc: Global,
     separator: u8,
@@ -64,7 +64,7 @@ fn plain_parts<'a>(
     text.split(|byte| *byte == separator).collect(alloc)
 }
 
-/// The lines of an input.
+/// Returns the lines of an input.
 fn plain_lines<'a>(alloc: Global, input: &'a [u8]) -> Result<Vec<&'a [u8]>, AllocError>
     ensures { IfOk result (λ lines. map (λ line. line.now) lines.items ≡ lines_of input.now) }
 {
@@ -99,7 +99,7 @@ fn push_answer(alloc: Global, line: &[u8], text: &mut String) -> Result<(), Allo
     }
 }
 
-/// What a line asks for: a form, a number and bytes; or a packet's bytes.
+/// The request in a line: a form, a number and bytes; or a packet's bytes.
 #[derive(Drop)]
 enum PlainRequest {
     Exts6(u8, Vec<u8>),
@@ -109,7 +109,7 @@ enum PlainRequest {
     Packet(Vec<u8>),
 }
 
-/// What the fields of a line ask for.
+/// Parses the request in the fields of a line.
 fn plain_request(alloc: Global, fields: &[&[u8]]) -> Result<Option<PlainRequest>, AllocError>
     ensures { IfOk result (λ request. option_map asked_by request
         ≡ request_of_fields (map (λ field. field.now) fields.now)) }
@@ -121,7 +121,7 @@ fn plain_request(alloc: Global, fields: &[&[u8]]) -> Result<Option<PlainRequest>
     }
 }
 
-/// What a form with one field behind it asks for.
+/// Parses the request of a form followed by one field.
 fn plain_packet(
     alloc: Global,
     form: &[u8],
@@ -137,7 +137,7 @@ fn plain_packet(
     Ok(None)
 }
 
-/// What a form with two fields behind it asks for.
+/// Parses the request of a form followed by two fields.
 fn plain_form(
     alloc: Global,
     form: &[u8],
@@ -166,7 +166,7 @@ fn plain_form(
     Ok(None)
 }
 
-/// The number and the bytes for which two fields stand.
+/// Parses the number and the bytes in two fields.
 fn plain_arguments(
     alloc: Global,
     number: &[u8],
@@ -184,7 +184,7 @@ fn plain_arguments(
     Ok(Some((number, bytes)))
 }
 
-/// The number below 256 whose decimal numeral a text is.
+/// Parses a decimal numeral of a number below 256.
 fn plain_number(alloc: Global, text: &[u8]) -> Result<Option<u8>, AllocError>
     ensures { IfOk result (λ number. number ≡ number_of text.now) }
 {
@@ -196,7 +196,7 @@ fn plain_number(alloc: Global, text: &[u8]) -> Result<Option<u8>, AllocError>
     Ok(None)
 }
 
-/// The value of a hexadecimal digit of either case.
+/// Returns the value of a hexadecimal digit of either case.
 fn hex_digit_value(digit: u8) -> Option<u8>
     ensures { result ≡ hex_digit_value digit }
 {
@@ -208,14 +208,14 @@ fn hex_digit_value(digit: u8) -> Option<u8>
     }
 }
 
-/// The byte of two hexadecimal digits.
+/// Returns the byte of two hexadecimal digits.
 fn byte_of_digits(high: u8, low: u8) -> Option<u8>
     ensures { result ≡ byte_of_digits high low }
 {
     Some(hex_digit_value(high)? * 16 + hex_digit_value(low)?)
 }
 
-/// The bytes whose hexadecimal digits a text is.
+/// Parses the hexadecimal digits of a text.
 fn plain_bytes(alloc: Global, text: &[u8]) -> Result<Option<Vec<u8>>, AllocError>
     ensures { IfOk result (λ bytes. option_map (λ b. b.items) bytes ≡ bytes_of_hex text.now) }
 {
@@ -267,8 +267,8 @@ fn push_exts4(number: u8, bytes: &[u8], text: &mut String) -> Result<(), AllocEr
     push_ok(text)
 }
 
-/// Appends the answer to `rewrite6` with this number and these bytes. The library reads and writes them; the lines
-/// are put together here.
+/// Appends the answer to `rewrite6` with this number and these bytes. The library parses and writes them; the lines
+/// are built here.
 fn push_rewrite6(
     alloc: Global,
     number: u8,
@@ -285,7 +285,7 @@ fn push_rewrite6(
     push_chain_end(fault, text)
 }
 
-/// The headers that were read from the bytes, written.
+/// Writes the headers parsed from the bytes.
 fn rewritten(
     alloc: Global,
     number: u8,
@@ -303,8 +303,8 @@ fn rewritten(
     Ok(written)
 }
 
-/// Appends the answer to `rewriteall6` with this number and these bytes. The library reads, cuts and writes them; the
-/// lines are put together here.
+/// Appends the answer to `rewriteall6` with this number and these bytes. The library parses, splits and writes them;
+/// the lines are built here.
 fn push_rewriteall6(
     alloc: Global,
     number: u8,
@@ -322,7 +322,7 @@ fn push_rewriteall6(
     push_chain_end(fault, text)
 }
 
-/// Appends the bytes that were written.
+/// Appends the bytes written.
 fn push_written(bytes: &[u8], text: &mut String) -> Result<(), AllocError>
     ensures { OnOk result
         (string_bytes text.new ≡ string_bytes text.old ++ written_line bytes.now) }
@@ -365,14 +365,14 @@ fn push_header(offset: usize, number: u8, len: usize, text: &mut String) -> Resu
     writeln!(text, "{offset} {name} {len}")
 }
 
-/// Appends that there is no fault.
+/// Appends that there is no error.
 fn push_ok(text: &mut String) -> Result<(), AllocError>
     ensures { OnOk result (string_bytes text.new ≡ string_bytes text.old ++ ok_line) }
 {
     text.push_str("ok\n")
 }
 
-/// Appends the fault at an authentication header that is to begin the bytes.
+/// Appends the error of an authentication header at the start of the bytes.
 fn push_auth_fault(bytes: &[u8], text: &mut String) -> Result<(), AllocError>
     ensures { OnOk result (string_bytes text.new ≡ string_bytes text.old
         ++ ipv4_end_line (auth_fault Slice (length bytes.now) 0 bytes.now)) }
@@ -384,7 +384,7 @@ fn push_auth_fault(bytes: &[u8], text: &mut String) -> Result<(), AllocError>
     text.push_str("\n")
 }
 
-/// Appends the number of what follows the headers, and how many bytes do.
+/// Appends the number of what follows the headers, and its length in bytes.
 fn push_next(number: u8, rest: &[u8], text: &mut String) -> Result<(), AllocError>
     ensures { OnOk result
         (string_bytes text.new ≡ string_bytes text.old ++ next_line number (length rest.now)) }
@@ -408,7 +408,7 @@ fn push_headers(headers: &[PlainHeader<'_>], text: &mut String) -> Result<(), Al
     Ok(())
 }
 
-/// The name of the headers of a number.
+/// Returns the name of the headers of a number.
 fn header_name(number: u8) -> &'static str
     ensures { result.now ≡ header_name number }
 {
@@ -422,7 +422,7 @@ fn header_name(number: u8) -> &'static str
     }
 }
 
-/// Appends `ok`, or the fault and its layer.
+/// Appends `ok`, or the error and its layer.
 fn push_chain_end(
     fault: Option<(HeaderSliceError, Layer)>,
     text: &mut String,
@@ -437,7 +437,7 @@ fn push_chain_end(
     writeln!(text, " in {layer}")
 }
 
-/// Appends a fault.
+/// Appends an error.
 fn push_chain_fault(fault: &HeaderSliceError, text: &mut String) -> Result<(), AllocError>
     ensures { OnOk result
         (string_bytes text.new ≡ string_bytes text.old ++ chain_fault_text fault.now) }

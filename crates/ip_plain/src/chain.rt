@@ -1,4 +1,4 @@
-//! The definitions computed in the plainest way. It is slow: it tries every length.
+//! The definitions computed in the simplest way. It is slow: it tries every length.
 ghost use Rattle.std.specs.Prelude.{◌≡◌, ◌↔◌, ◌≤◌, ℕ, take, drop, length, map, IsTrue, IfOk, IfSome, IfNone};
 ghost use Rattle.ip_spec.specs.Header.{IsHeader};
 ghost use Rattle.ip_spec.specs.Chain.{IsLongestChain, IsNext, IsEnd, leads_to, bytes_of};
@@ -6,14 +6,14 @@ ghost use Rattle.ip_plain.specs.PlainHeader.{plain_header_of};
 
 use std::alloc::{AllocError, Global};
 
-/// A number and the bytes of a header of it.
+/// A number and the bytes of a header of that number.
 #[derive(Clone, Copy, Debug, PartialEq, Eq)]
 pub struct PlainHeader<'a> {
     pub number: u8,
     pub bytes: &'a [u8],
 }
 
-/// Whether the bytes are a header of the number (RFC 8200, section 4; RFC 4302, section 2).
+/// Returns whether the bytes are exactly one header of the number (RFC 8200, section 4; RFC 4302, section 2).
 pub fn is_header(number: u8, bytes: &[u8]) -> bool
     ensures { IsTrue result ↔ IsHeader number bytes.now }
 {
@@ -27,8 +27,7 @@ pub fn is_header(number: u8, bytes: &[u8]) -> bool
     }
 }
 
-/// The length of the header that goes on with the number at the bytes; `first` tells that no header is
-/// before it.
+/// Returns the length of the header of the number at the start of the bytes; `first` says that no header precedes it.
 pub fn next_len(first: bool, number: u8, bytes: &[u8]) -> Option<usize>
     ensures within { IfSome result (λ len. len ≤ length bytes.now) }
     ensures next { IfSome result (λ len.
@@ -46,7 +45,7 @@ pub fn next_len(first: bool, number: u8, bytes: &[u8]) -> Option<usize>
     None
 }
 
-/// A chain that begins some bytes, the number to which it leads and the bytes after it.
+/// A chain at the start of some bytes, the number to which it leads and the bytes after it.
 #[derive(Debug, Drop)]
 pub struct PlainChain<'a> {
     pub headers: Vec<PlainHeader<'a>>,
@@ -54,7 +53,7 @@ pub struct PlainChain<'a> {
     pub rest: &'a [u8],
 }
 
-/// The longest chain from the number that begins the bytes. It refuses only for want of memory.
+/// Returns the longest chain from the number at the start of the bytes. Returns an error only if memory runs out.
 pub fn plain_longest_chain<'a>(
     alloc: Global,
     start: u8,

@@ -1,4 +1,4 @@
-//! The fault of a chain computed in the plainest way: by the table of faults, row by row.
+//! The error of a chain computed in the simplest way: from the table of errors, row by row.
 ghost use Rattle.std.specs.Prelude.{◌≡◌, length, Some};
 ghost use Rattle.std.specs.Option.{option_map};
 ghost use Rattle.ip_ext_headers.specs.HeaderFault.{raw_fault, fragment_fault, auth_fault};
@@ -11,11 +11,11 @@ use ip_base::err::{Layer, LenError};
 use ip_ext_headers::err::ip_auth;
 use ip_ext_slices::err::ipv6_exts::{HeaderError, HeaderSliceError};
 
-/// A fault and the layer at which it lies.
+/// An error and the layer that it is in.
 type Fault = (HeaderSliceError, Layer);
 
-/// The fault at the number, where `left` is left and `offset` bytes are behind; `first` tells that no header
-/// is before it. There is none where a header goes on, and none where the number is no extension number.
+/// Returns the error at the number, with `left` left, `offset` bytes after the chain's start; `first` says that no
+/// header precedes. Returns `None` if a header follows, or if the number is not an extension header's.
 pub fn plain_fault(
     first: bool,
     number: u8,
@@ -38,7 +38,7 @@ pub fn plain_fault(
     }
 }
 
-/// `required` bytes are needed.
+/// Returns the error that `required` bytes are needed.
 fn short(inner: Layer, left: &[u8], offset: usize, required: usize, layer: Layer) -> Fault
     ensures { result ≡ short_at layer (too_short Slice (length left.now) offset inner required) }
 {
@@ -52,7 +52,7 @@ fn short(inner: Layer, left: &[u8], offset: usize, required: usize, layer: Layer
     (HeaderSliceError::Len(error), layer)
 }
 
-/// At hop by hop options, routing and destination options.
+/// Returns the error of hop-by-hop options, routing and destination options.
 fn plain_raw_fault(left: &[u8], offset: usize, layer: Layer) -> Option<Fault>
     ensures { result ≡ option_map (short_at layer)
         (raw_fault Slice (length left.now) offset left.now) }
@@ -67,7 +67,7 @@ fn plain_raw_fault(left: &[u8], offset: usize, layer: Layer) -> Option<Fault>
     None
 }
 
-/// At a fragment header.
+/// Returns the error of a fragment header.
 fn plain_fragment_fault(left: &[u8], offset: usize) -> Option<Fault>
     ensures { result ≡ option_map (short_at Layer.Ipv6FragHeader)
         (fragment_fault Slice (length left.now) offset left.now) }
@@ -84,7 +84,7 @@ fn plain_fragment_fault(left: &[u8], offset: usize) -> Option<Fault>
     None
 }
 
-/// At an authentication header.
+/// Returns the error of an authentication header.
 fn plain_auth_fault(left: &[u8], offset: usize) -> Option<Fault>
     ensures { result ≡ option_map auth_at (auth_fault Slice (length left.now) offset left.now) }
 {

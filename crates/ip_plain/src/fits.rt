@@ -1,4 +1,4 @@
-//! Which headers fit six places, counted in the plainest way.
+//! The headers that fit six places, counted in the simplest way.
 ghost use Rattle.std.specs.Prelude.{◌≡◌, ◌↔◌, ◌≤◌, ◌==◌, length, map, take, IsTrue};
 ghost use Rattle.std.specs.List.{position_or_len};
 ghost use Rattle.ip_spec.specs.Numbers.{ROUTING};
@@ -10,7 +10,7 @@ ghost use Rattle.ip_plain.specs.PlainHeader.{plain_header_of};
 
 use crate::chain::PlainHeader;
 
-/// How many of the headers have the number.
+/// Returns how many of the headers have the number.
 fn how_often(number: u8, headers: &[PlainHeader<'_>]) -> usize
     ensures { result ≡ how_often number (numbers_of (map plain_header_of headers.now)) }
 {
@@ -20,7 +20,7 @@ fn how_often(number: u8, headers: &[PlainHeader<'_>]) -> usize
         .count()
 }
 
-/// How many headers stand before the first routing header, or all where there is none.
+/// Returns the number of headers before the first routing header, or of all if there is none.
 fn routing_at(headers: &[PlainHeader<'_>]) -> usize
     ensures at { result ≡ position_or_len (λ n. n == ROUTING)
         (numbers_of (map plain_header_of headers.now)) }
@@ -33,7 +33,7 @@ fn routing_at(headers: &[PlainHeader<'_>]) -> usize
     }
 }
 
-/// How many of those before the first routing header have it, or of all where there is none.
+/// Returns how many of those before the first routing header have the number, or of all if there is none.
 fn how_often_before(number: u8, headers: &[PlainHeader<'_>]) -> usize
     ensures { result
         ≡ how_often number (before_routing (numbers_of (map plain_header_of headers.now))) }
@@ -42,7 +42,7 @@ fn how_often_before(number: u8, headers: &[PlainHeader<'_>]) -> usize
     how_often(number, before)
 }
 
-/// How many of those behind the first routing header have it, or of none where there is none.
+/// Returns how many of those after the first routing header have the number, or 0 if there is none.
 fn how_often_behind(number: u8, headers: &[PlainHeader<'_>]) -> usize
     ensures { result
         ≡ how_often number (after_routing (numbers_of (map plain_header_of headers.now))) }
@@ -55,8 +55,9 @@ fn how_often_behind(number: u8, headers: &[PlainHeader<'_>]) -> usize
     how_often(number, behind)
 }
 
-/// Whether the numbers of the headers fit six places: hop by hop options, routing, fragment and authentication
-/// once at most, and destination options once before the first routing header and once behind it.
+/// Returns whether the numbers of the headers fit six places: hop-by-hop options, routing, fragment and
+/// authentication at most once each, and destination options at most once before the first routing header and once
+/// after it.
 pub fn numbers_fit(headers: &[PlainHeader<'_>]) -> bool
     ensures { IsTrue result ↔ FitsPlaces (map plain_header_of headers.now) }
 {
@@ -68,7 +69,7 @@ pub fn numbers_fit(headers: &[PlainHeader<'_>]) -> bool
         && how_often_behind(60, headers) <= 1
 }
 
-/// How many headers fit, from the first on: all, or those before the first with which they don't.
+/// Returns how many headers fit, from the first on: all, or those before the first that doesn't fit.
 pub fn fitting_len(headers: &[PlainHeader<'_>]) -> usize
     ensures within { result ≤ length headers.now }
     ensures kept { KeepsBeginning FitsPlaces (map plain_header_of headers.now)
@@ -82,7 +83,7 @@ pub fn fitting_len(headers: &[PlainHeader<'_>]) -> usize
     headers.len()
 }
 
-/// How many headers lie whole within the first `len` bytes of all of them joined.
+/// Returns how many headers lie wholly within the first `len` bytes of all of them joined.
 pub fn whole_within(len: usize, headers: &[PlainHeader<'_>]) -> usize
     ensures within { result ≤ length headers.now }
     ensures headers { map plain_header_of (take result headers.now)

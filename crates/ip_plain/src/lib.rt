@@ -1,6 +1,6 @@
-//! The definitions computed in the plainest way: what is a header, the longest chain, which headers fit six places,
-//! the fault, and the answers of the tool. All of it is slow: known answers are compared with it, and nothing is
-//! parsed with it.
+//! The definitions computed in the simplest way: headers, the longest chain, the headers that fit six places, the
+//! error, and the tool's answers. All of it is slow: test vectors are compared with it, and nothing is parsed with
+//! it.
 #![tactic(auto)]
 
 mod answers;

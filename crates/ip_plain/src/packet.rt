@@ -1,4 +1,4 @@
-//! The answer to `packet`, put together in the plainest way from the library's parse.
+//! The answer to `packet`, built in the simplest way from the library's parse.
 ghost use Rattle.std.specs.Prelude.{◌≡◌, ◌++◌, length, codes, OnOk, string_bytes};
 ghost use Rattle.ip_spec.specs.Chain.{bytes_of};
 ghost use Rattle.ip_ext_slices.specs.Ipv4ExtensionsSlice.{headers_in};
@@ -41,7 +41,7 @@ fn push_ipv4(packet: &Ipv4Slice<'_>, text: &mut String) -> Result<(), AllocError
     push_ok(text)
 }
 
-/// How many bytes the headers have.
+/// Returns the headers' length in bytes.
 fn ipv4_exts_len(headers: Ipv4ExtensionsSlice<'_>) -> usize
     ensures { result ≡ length (bytes_of (headers_in headers.entry)) }
 {
@@ -64,7 +64,7 @@ fn push_ipv6(packet: &Ipv6Slice<'_>, text: &mut String) -> Result<(), AllocError
     push_ok(text)
 }
 
-/// Appends how many bytes each part of a packet has.
+/// Appends the length of each part of a packet, in bytes.
 fn push_lengths(
     name: &str,
     header_len: usize,
@@ -81,7 +81,7 @@ fn push_lengths(
     )
 }
 
-/// Appends what the payload is, whether it is a fragment, and what says where it ends.
+/// Appends the payload's number, whether it is a fragment, and the source of its length.
 fn push_payload(payload: &IpPayloadSlice<'_>, text: &mut String) -> Result<(), AllocError>
     ensures { OnOk result (string_bytes text.new ≡ string_bytes text.old
         ++ payload_line payload.now.ip_number.0 payload.now.fragmented payload.now.len_source) }
@@ -95,21 +95,21 @@ fn push_payload(payload: &IpPayloadSlice<'_>, text: &mut String) -> Result<(), A
     )
 }
 
-/// `yes` or `no`.
+/// Returns `yes` or `no`.
 fn yes_or_no(answer: bool) -> &'static str
     ensures { result.now ≡ yes_or_no answer }
 {
     if answer { "yes" } else { "no" }
 }
 
-/// Appends that there is no fault.
+/// Appends that there is no error.
 fn push_ok(text: &mut String) -> Result<(), AllocError>
     ensures { OnOk result (string_bytes text.new ≡ string_bytes text.old ++ codes "ok\n") }
 {
     text.push_str("ok\n")
 }
 
-/// Appends why there is no packet.
+/// Appends a packet's error.
 fn push_fault(fault: &SliceError, text: &mut String) -> Result<(), AllocError>
     ensures { OnOk result (string_bytes text.new ≡ string_bytes text.old ++ fault_line fault.now) }
 {
@@ -120,7 +120,7 @@ fn push_fault(fault: &SliceError, text: &mut String) -> Result<(), AllocError>
     text.push_str("\n")
 }
 
-/// Appends that there are fewer bytes than required.
+/// Appends a length error.
 fn push_len_fault(e: &LenError, text: &mut String) -> Result<(), AllocError>
     ensures { OnOk result (string_bytes text.new ≡ string_bytes text.old ++ len_fault_text e.now) }
 {
@@ -132,7 +132,7 @@ fn push_len_fault(e: &LenError, text: &mut String) -> Result<(), AllocError>
     )
 }
 
-/// Appends what is wrong in the bytes of a packet's headers.
+/// Appends the error in the bytes of a packet's headers.
 fn push_headers_fault(fault: &HeadersError, text: &mut String) -> Result<(), AllocError>
     ensures { OnOk result
         (string_bytes text.new ≡ string_bytes text.old ++ headers_fault_text fault.now) }

@@ -9,8 +9,8 @@ use ip_base::IpNumber;
 use ip_ext_chains::Ipv6ExtensionsRuns;
 use std::alloc::{AllocError, Global};
 
-/// How many structs hold all headers that begin the bytes, and what is written of them one after the other: each
-/// header, with its reserved bits zero.
+/// Writes the runs of the chain at the start of the bytes, one after the other: each header, with its reserved bits
+/// zero. Returns the number of structs and the bytes written.
 pub(crate) fn write_runs(
     alloc: Global,
     start: IpNumber,

@@ -1,4 +1,4 @@
--- Chains whose reserved bits are put to zero: they lead where they led, stand in the same places and say the same.
+-- Chains whose reserved bits are set to zero: they lead to the same number, and have the same places and fields.
 use Rattle.ip_spec.proofs.Common.{◌≡◌, ◌≢◌, ℕ, ◌<◌, List, [], ◌∷◌, ◌++◌, length, take, drop, refl, ap, sym, ◌∙◌, arith, inl, inr, subst, Bool, rules, Option, Some, None, All, count_by, slice_range, ◌==◌, AllByRecursion, find, option_map, ForSome, cases_Bool, none-some, same_Some, take-append_seam, drop-append_seam, All-from_recursion, recursion_from_All, All-take, All-drop, from_be_bytes, w32, common_steps, IsHeader, IsFragmentHeader, IsAuthHeader, fragment, auth, next_header, FragmentFields, offset_bits, flag_bit, unreserved_bits, cleared_header, AreBytes, fixed_len, IsCleared, cleared_chain, ExtHeader, AreLinked, leads_to, bytes_of, IsChain, FitsPlaces, Place, destination, final_destination, side_of, header_in, HeaderFields, fields_of, fragment_header, IsEncodingOf}
 use Rattle.ip_spec.proofs.FirstLemmas.{find-yes, find-no, before-map, after-map, find-map, count-map}
 use Rattle.ip_spec.proofs.PlaceLemmas.{is_of}
@@ -7,7 +7,7 @@ use Rattle.ip_spec.proofs.FragmentBitLemmas.{unreserved_offset, unreserved_flag,
 use Rattle.ip_spec.proofs.EncodingLemmas.{FirstFour, first_four, byte_at, three_before}
 use Rattle.ip_spec.proofs.EncodedLemmas.{cleared_is_encoding}
 
--- What clearing leaves of a header.
+-- The properties of a header that clearing leaves unchanged.
 pub record ClearedSame (n : ℕ) (b : List ℕ) : Type 0 where
   pub header : IsHeader n (cleared_header n b)
   pub fields : fields_of (record { number = n; bytes = cleared_header n b }) ≡ fields_of (record { number = n; bytes = b })
@@ -63,21 +63,21 @@ module _ (b : List ℕ) where
       (λ g. subst A f.joined (auth_same f.x0 f.x1 f.x2 f.x3 f.rest) (auth_of 51 b refl g))
       n (header_number n b h) h
 
--- So, cleared, it encodes them.
+-- So the cleared header encodes the fields.
 pub cleared_encodes : (n : ℕ) (b : List ℕ) → IsHeader n b → AreBytes (slice_range b 1 (fixed_len n)) → IsEncodingOf (fields_of (record { number = n; bytes = b })) (cleared_header n b)
 cleared_encodes n b h bytes =
     let same = cleared_same b n h in
     let E : HeaderFields → Type 0 = λ x. IsEncodingOf x (cleared_header n b) in
     subst E same.fields (cleared_is_encoding n (cleared_header n b) same.header (record { reserved = same.again; bytes = same.bytes bytes }))
 
--- the header h with its reserved bits put to zero
+-- the header h with its reserved bits set to zero
 abbrev pub cleared_of : ExtHeader → ExtHeader
 cleared_of h = record { number = h.number; bytes = cleared_header h.number h.bytes }
 
 abbrev AreHeaders : List ExtHeader → Type 0
 AreHeaders c = AllByRecursion (λ h. IsHeader h.number h.bytes) c
 
--- The same of chains.
+-- Clearing a chain's reserved bits.
 pub cleared_leads : (n : ℕ) (c : List ExtHeader) → AreHeaders c → leads_to n (cleared_chain c) ≡ leads_to n c
 cleared_leads n [] a = refl
 cleared_leads n (h ∷ c) a = ap (λ m. leads_to m (cleared_chain c)) (cleared_same h.bytes h.number a.0).next ∙ cleared_leads (next_header h.bytes) c a.1
@@ -97,7 +97,7 @@ cleared_not_zero (h ∷ c) a = (a.0, cleared_not_zero c a.1)
 pub cleared_is_chain : (n : ℕ) (c : List ExtHeader) → IsChain n c → IsChain n (cleared_chain c)
 cleared_is_chain n c k = grind (arith, common_steps, cleared_headers, cleared_links, cleared_not_zero)
 
--- of bytes, what is cleared is
+-- a cleared chain of bytes is a chain of bytes
 pub cleared_are : (c : List ExtHeader) → AreHeaders c → AreBytes (bytes_of c) → AllByRecursion IsCleared (cleared_chain c)
 cleared_are [] a b = tt
 cleared_are (h ∷ c) a b =
@@ -116,7 +116,7 @@ side-cleared p c = refl
 pub cleared_fits : (c : List ExtHeader) → FitsPlaces c → FitsPlaces (cleared_chain c)
 cleared_fits c f p = omega (arith, ap (count_by (is_of p)) (side-cleared p c), count-map cleared_of (is_of p) (side_of p c), f p)
 
--- What holds of each header holds of the one in a place.
+-- A property of each header is a property of the one in a place.
 find_has : (P : ExtHeader → Type 0) (t : ExtHeader → Bool) (c : List ExtHeader) → All P c → ForSome (find t c) P
 find_has P t [] a h e = absurd (none-some h e)
 find_has P t (g ∷ c) a h e =
@@ -129,7 +129,7 @@ find_has P t (g ∷ c) a h e =
 pub header_in_has : (P : ExtHeader → Type 0) (p : Place) (c : List ExtHeader) → AllByRecursion P c → ForSome (header_in p c) P
 header_in_has P p c a = find_has P (is_of p) (side_of p c) (grind (arith, common_steps))
 
--- So a chain says the same cleared.
+-- So a cleared chain has the same fields.
 fields-cleared : (o : Option ExtHeader) → ForSome o (λ h. IsHeader h.number h.bytes) → option_map fields_of (option_map cleared_of o) ≡ option_map fields_of o
 fields-cleared None a = refl
 fields-cleared (Some h) a = ap Some (cleared_same h.bytes h.number (a h refl)).fields

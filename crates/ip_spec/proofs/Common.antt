@@ -1,4 +1,4 @@
--- The names that most proofs cite, of the standard library and of the definitions, passed on from one place.
+-- The names that most proofs use, from the standard library and the definitions, re-exported here.
 pub use Rattle.std.proofs.Common.{◌≡◌, ℕ, List, arith, rules, ◌+◌, ◌≤◌, ◌++◌, take, drop, refl, sym, ◌<◌, ◌^◌, ap, ◌∙◌, append_assoc, [], ◌∷◌, zero, suc, ◌%◌, ◌*◌, true, subst, false, ◌-◌, inl, inr, ◌⊎◌, map, ◌/◌, vec_capacity, cond, tests, bit_and, lit≤, min, length, Bool, nat_eq, slice_index, ◌≢◌, slice_index_or, slice_set, get_or}
 pub use Rattle.std.proofs.KnownBytes.{Consumes-nil, Consumes-trans, Appends-nil, Appends-trans, Appends-kept, Consumes-kept}
 pub use Rattle.std.proofs.Math.Bool.{and-true, and-false, or-false, or_assoc, or-true}

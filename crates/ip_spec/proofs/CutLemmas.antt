@@ -1,10 +1,10 @@
--- Lists cut into pieces under a demand: there is one cut, only one, and none has fewer pieces.
+-- Lists split into pieces under a demand: there is exactly one such partition, and none has fewer pieces.
 use Rattle.ip_spec.proofs.Common.{◌≡◌, ◌≢◌, ℕ, zero, suc, ◌≤◌, List, [], ◌∷◌, ◌++◌, length, refl, ap, sym, ◌∙◌, arith, subst, append_assoc, rules, AllByRecursion, append-nil, append_cancel_left, length-append, flat_map-append, common_steps, IsDemand, KeepsBeginning, joined, how_many, IsCut}
 use Rattle.ip_spec.proofs.LongestOfLemmas.{compare, within, beyond}
 use Rattle.ip_spec.proofs.DemandLemmas.{Begins, beginnings_grow, some_kept, one_kept, kept_bounds}
 
--- a demand under which lists can be cut: what is left of a list that meets it, where a beginning is taken off,
--- meets it too, and so does each single element
+-- a demand under which lists can be split: what is left of a list that meets it after a prefix is removed meets it
+-- too, and so does each single element
 pub record Cuts {X : Type 0} (Q : List X → Type 0) : Type 0 where
   pub demand : IsDemand Q
   pub behind : (c d : List X) → Q (c ++ d) → Q d
@@ -20,13 +20,13 @@ how_many-beyond : {X : Type 0} (p : List X) (x : X) (q : List X) (ps : List (Lis
 how_many-beyond [] x q ps = refl
 how_many-beyond (y ∷ p) x q ps = refl
 
--- where all pieces have elements
+-- if all pieces have elements
 pub how_many-filled : {X : Type 0} (ps : List (List X)) → AllByRecursion (λ p. p ≢ []) ps → how_many ps ≡ length ps
 how_many-filled [] a = refl
 how_many-filled ([] ∷ ps) a = absurd (a.0 refl)
 how_many-filled ((x ∷ p) ∷ ps) a = ap suc (how_many-filled ps a.1)
 
--- an empty piece more
+-- with an empty piece added
 pub how_many-more : {X : Type 0} (ps : List (List X)) → how_many (ps ++ [] ∷ []) ≡ how_many ps
 how_many-more [] = refl
 how_many-more ([] ∷ ps) = how_many-more ps
@@ -36,11 +36,11 @@ pub joined-more : {X : Type 0} (ps : List (List X)) → joined (ps ++ [] ∷ [])
 joined-more ps = flat_map-append (λ p. p) ps ([] ∷ []) ∙ append-nil (joined ps)
 
 module _ {X : Type 0} (Q : List X → Type 0) (q : Cuts Q) where
-  -- of some elements some are kept
+  -- of a nonempty list something is kept
   pub some_are_kept : (d p : List X) → d ≢ [] → KeepsBeginning Q d p → p ≢ []
   some_are_kept d p e k = search rules
 
-  -- what is kept is the first piece, and the pieces of the rest follow
+  -- the kept prefix is the first piece, and the pieces of the rest follow
   pub cut_more : (d p : List X) (ps : List (List X)) → p ≢ [] → (k : KeepsBeginning Q d p) → IsCut Q k.rest ps → IsCut Q d (p ∷ ps)
   cut_more d p ps e k c = search rules
 
@@ -66,7 +66,7 @@ module _ {X : Type 0} (Q : List X → Type 0) (q : Cuts Q) where
   pub some_cut : (d : List X) → (ps : List (List X)) × IsCut Q d ps
   some_cut d = cut_within (length d) d (omega arith)
 
-  -- at most one piece for each element
+  -- there is at most one piece per element
   pub cut_count : (ps : List (List X)) (d : List X) → IsCut Q d ps → length ps ≤ length d
   cut_count [] d c = omega arith
   cut_count (p ∷ ps) d c = omega (arith, cut_count ps (joined ps) (rest_cut d p ps c), some_element p c.filled.0, ap length c.whole, length-append p (joined ps))
@@ -84,7 +84,8 @@ module _ {X : Type 0} (Q : List X → Type 0) (q : Cuts Q) where
       let C : List X → Type 0 = λ l. IsCut Q l ps in
       ap (λ l. l ∷ ps) same ∙ ap (λ l. r ∷ l) (one_cut ps qs (joined qs) (subst C rest (rest_cut d p ps a)) (rest_cut d r qs b))
 
-  -- Where d is a back of what pieces join to that meet the demand, its cut has no more pieces than those are.
+  -- If d is a suffix of the concatenation of pieces that meet the demand, its partition has no more pieces than
+  -- those.
   pub fewest : (rs : List (List X)) (x d : List X) (ps : List (List X)) → x ++ d ≡ joined rs → AllByRecursion Q rs → IsCut Q d ps → length ps ≤ how_many rs
   fewest [] x d ps e a c = omega (arith, cut_count ps d c, ap length e, length-append x d)
   fewest (r ∷ rs) x d [] e a c = omega arith

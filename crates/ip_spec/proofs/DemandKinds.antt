@@ -1,4 +1,4 @@
--- The demands: none, at most so many headers, at most so many bytes, at most one header of one number.
+-- The demands: none, at most this many headers, at most this many bytes, at most one header of one number.
 use Rattle.ip_spec.proofs.Common.{◌≡◌, ℕ, ◌≤◌, List, [], ◌∷◌, length, take, drop, refl, ap, arith, inl, ◌⊎◌, AllByRecursion, length-append, take-append-drop, length-take, length-drop, flat_map-append, common_steps, ExtHeader, bytes_of, IsLongestChain, IsDemand, IsLongestUnder, KeepsBeginning, NextBreaks, AtMost, AtMostOneOf}
 use Rattle.ip_spec.proofs.HeaderLemmas.{eq_or}
 use Rattle.ip_spec.proofs.StepLemmas.{all_first}
@@ -12,7 +12,7 @@ at_most k = demand_up_to length k (omega arith) (λ c d. omega (arith, length-ap
 most_breaks : (k : ℕ) (d c rest : List ExtHeader) → c ≡ take k d → rest ≡ drop k d → NextBreaks (AtMost k) c rest
 most_breaks k d c rest e f = grind (arith, common_steps, length-append, length-take, length-drop)
 
--- it keeps the first k
+-- the first k are kept
 pub at_most_keeps : (k : ℕ) (d : List ExtHeader) → KeepsBeginning (AtMost k) d (take k d)
 at_most_keeps k d = grind (arith, common_steps, take-append-drop k d, length-take k d, most_breaks k d (take k d) (drop k d) refl refl)
 
@@ -35,7 +35,7 @@ at_most_one_of m =
     (λ c a. record { one = a.0; number = a.1 })
     (λ c a. (a.one, a.number))
 
--- at most j bytes, which only grow
+-- at most j bytes; the number of bytes only grows
 abbrev pub IsWithin : ℕ → List ExtHeader → Type 0
 IsWithin j c = length (bytes_of c) ≤ j
 

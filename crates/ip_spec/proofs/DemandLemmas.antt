@@ -24,7 +24,7 @@ module _ {X : Type 0} (P Q : List X → Type 0) (g : Grows P) (k : IsDemand Q) w
   none_next_where_kept : (d c rest : List X) → d ≡ c ++ rest → NextBreaks Q c rest → IsLongestOf P d → (x : X) → IsUnder Q P (c ++ x ∷ []) → ⊥
   none_next_where_kept d c rest e breaks l x u = grind (arith, common_steps, none_next_where_longest, append-nil, begins_first)
 
-  -- what the demand keeps of the longest is the longest under the demand
+  -- the part of the longest that the demand keeps is the longest under the demand
   pub longest_where_kept : (d c : List X) → IsLongestOf P d → KeepsBeginning Q d c → IsLongestOf (IsUnder Q P) c
   longest_where_kept d c l p =
       longest_where_none_next (IsUnder Q P) under_grows c
@@ -34,14 +34,14 @@ module _ {X : Type 0} (P Q : List X → Type 0) (g : Grows P) (k : IsDemand Q) w
   breaks_behind : (d c rest : List X) → d ≡ c ++ rest → IsLongestOf P d → IsLongestOf (IsUnder Q P) c → NextBreaks Q c rest
   breaks_behind d c rest e l u = grind (arith, common_steps, none_next_where_longest, begins_first)
 
-  -- and the other way round
+  -- and vice versa
   pub kept_where_longest : (d c : List X) → IsLongestOf P d → IsLongestOf (IsUnder Q P) c → KeepsBeginning Q d c
   kept_where_longest d c l u = elim (compare P g d c l.has u.has.0) [
     | within rest w ↦ search (rules, breaks_behind)
     | beyond x rest w ↦ absurd (none_next_where_longest P d l x (begins_first P g d x rest (subst P w u.has.0)))
   ]
 
--- Of each list a demand keeps something.
+-- A demand keeps some prefix of each list.
 kept_from : {X : Type 0} (Q : List X → Type 0) → IsDemand Q → (c rest : List X) → Q c → (b : List X) × KeepsBeginning Q (c ++ rest) b
 kept_from Q k c [] q = (c, record { rest = []; joined = refl; meets = q; breaks = tt })
 kept_from {X} Q k c (x ∷ rest) q = elim (k.decided (c ++ x ∷ [])) [
@@ -54,7 +54,7 @@ kept_from {X} Q k c (x ∷ rest) q = elim (k.decided (c ++ x ∷ [])) [
 pub some_kept : {X : Type 0} (Q : List X → Type 0) → IsDemand Q → (d : List X) → (c : List X) × KeepsBeginning Q d c
 some_kept Q k d = kept_from Q k [] d k.empty
 
--- The beginnings of a list.
+-- The prefixes of a list.
 abbrev pub Begins : {X : Type 0} → List X → List X → Type 0
 Begins {X} d c = (rest : List X) × (d ≡ c ++ rest)
 
@@ -69,7 +69,7 @@ module _ {X : Type 0} (d : List X) where
   all_longest = grind (arith, common_steps, longest_where_none_next, beginnings_grow, append-nil, length-append)
 
   module _ (Q : List X → Type 0) (k : IsDemand Q) where
-    -- It is determined what a demand keeps, and it is the longest beginning that meets the demand.
+    -- What a demand keeps is unique: the longest prefix that meets the demand.
     pub one_kept : (b c : List X) → KeepsBeginning Q d b → KeepsBeginning Q d c → b ≡ c
     one_kept b c p q =
         one_longest_of (IsUnder Q (Begins d)) (under_grows (Begins d) Q beginnings_grow k) b c
@@ -79,14 +79,14 @@ module _ {X : Type 0} (d : List X) where
     pub kept_bounds : (b c rest : List X) → KeepsBeginning Q d b → d ≡ c ++ rest → Q c → length c ≤ length b
     kept_bounds b c rest p e q = search (rules, longest_under_bounds, beginnings_grow, longest_where_kept, all_longest)
 
--- What makes a demand: a test, a number that only grows, two demands, and a demand on images.
+-- Demands made from a test, from a number that only grows, from two demands, and from a demand on images.
 pub demand_of_test : {X : Type 0} (q : List X → Bool) → Passes q [] → ((c d : List X) → Passes q (c ++ d) → Passes q c) → IsDemand (Passes q)
 demand_of_test q e b = search rules
 
 told : {A : Type 0} → A ⊎ (A → ⊥) → (b : Bool) × ((b ≡ true) → A) × (A → b ≡ true)
 told h0 = search rules
 
--- each demand is told by a test
+-- each demand has a test
 pub test_of_demand : {X : Type 0} (Q : List X → Type 0) → IsDemand Q → (q : List X → Bool) × ((c : List X) → Passes q c → Q c) × ((c : List X) → Q c → Passes q c)
 test_of_demand Q k = (λ c. (told (k.decided c)).0, λ c. (told (k.decided c)).1, λ c. (told (k.decided c)).2)
 
@@ -102,7 +102,7 @@ demand_same A B a f g = search rules
 pub demand_of-map : {X Y : Type 0} (f : X → Y) (Q : List Y → Type 0) → IsDemand Q → IsDemand (λ c. Q (map f c))
 demand_of-map f Q k = search (rules, map-append)
 
--- Of a list of which the first k elements meet the demand, and one more don't, the demand keeps these.
+-- If the first k elements of a list meet the demand, and one more doesn't, the demand keeps these k.
 module _ {X : Type 0} (Q : List X → Type 0) (xs : List X) (k : ℕ) (x : X) (within : k < length xs) where
   breaks_at : (rest : List X) → drop k xs ≡ rest → (Q (take k xs ++ get_or xs k x ∷ []) → ⊥) → NextBreaks Q (take k xs) rest
   breaks_at rest e fails = search (rules, drop_more)

@@ -1,4 +1,4 @@
--- Fields determine the header that says them, where its reserved bits are zero.
+-- Fields determine their header if its reserved bits are zero.
 use Rattle.ip_spec.proofs.Common.{◌≡◌, ℕ, ◌+◌, ◌-◌, ◌/◌, ◌^◌, ◌<◌, ◌≤◌, List, [], ◌∷◌, length, drop, refl, ap, sym, ◌∙◌, arith, inl, inr, rules, slice_range, All-from_recursion, recursion_from_All, All-append, IsHeader, IsRawHeader, IsRawNumber, raw, auth, RawFields, FragmentFields, AuthFields, raw_fields, MAX_FRAGMENT_OFFSET, IsPayloadLen, IsIcvLen, AreBytes, IsFragmentEncoding, IsAuthEncoding, IsCleared, ExtHeader, HeaderFields, raw_header, fragment_header, auth_header, fields_of, IsEncoded, IsEncodingOf}
 use Rattle.ip_spec.proofs.HeaderLemmas.{header_number, by_raw, by_number, raw_of, fragment_of, auth_of, ext_header-eq}
 use Rattle.ip_spec.proofs.EncodingLemmas.{fragment_only, auth_only, fragment_encodes, auth_written_encodes, fragment_written, auth_written}
@@ -11,7 +11,7 @@ of_number n b = record { number = n; bytes = b }
 raw_bytes : (b d : List ℕ) → IsRawHeader b → IsRawHeader d → raw_fields b ≡ raw_fields d → b ≡ d
 raw_bytes b d h g e = search rules
 
--- What encodes fields is one header,
+-- Fields have at most one encoding,
 pub one_encoded : (x : HeaderFields) (b d : List ℕ) → IsEncodingOf x b → IsEncodingOf x d → b ≡ d
 one_encoded (raw_header v) b d h g = raw_bytes b d h.header g.header (h.fields ∙ sym g.fields)
 one_encoded (fragment_header v) b d h g = fragment_only v b h ∙ sym (fragment_only v d g)
@@ -40,7 +40,7 @@ same_fragment x y e = cc
 pub same_auth : (x y : AuthFields) → auth_header x ≡ auth_header y → x ≡ y
 same_auth x y e = cc
 
--- Fields in their ranges have an encoding of bytes.
+-- Fields within their ranges have an encoding in bytes.
 abbrev raw_written : RawFields → List ℕ
 raw_written x = x.next_header ∷ ((length x.payload + 2) / 8 - 1) ∷ x.payload
 

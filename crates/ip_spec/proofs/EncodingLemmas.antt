@@ -1,20 +1,20 @@
--- The fields of a header, and the header that says them.
+-- The fields of a header, and the header with given fields.
 use Rattle.ip_spec.proofs.Common.{◌≡◌, ℕ, ◌+◌, ◌/◌, ◌%◌, ◌^◌, ◌<◌, ◌≤◌, List, [], ◌∷◌, ◌++◌, length, get_or, take, drop, refl, ap, sym, ◌∙◌, arith, subst, rules, slice_range, to_be_bytes, from_be_bytes, w32, append_cancel_left, get_or_past, take_all, take-append-drop, All-from_recursion, recursion_from_All, All-append, All-take, All-drop, be_bytes_4, from_be_bytes-to_be_bytes_4, cases_lt, IsHeader, offset_bits, flag_bit, unreserved_bits, FragmentFields, AuthFields, AreBytes, IsEncoding, IsFragmentEncoding, IsAuthEncoding, IsDecoding}
 use Rattle.ip_spec.proofs.HeaderLemmas.{one_header}
 use Rattle.ip_spec.proofs.FragmentBitLemmas.{high_byte, low_byte, unpacked_high, unpacked_low}
 
--- what bytes begin with is determined where each header of the layout is one of a number
+-- a decoding is unique if each header of the format is one of a number
 pub one_decoding_of : {V : Type 0} (n : ℕ) (IsOne : List ℕ → Type 0) (fields_of : List ℕ → V) → ((b : List ℕ) → IsOne b → IsHeader n b)
     → (s : List ℕ) (v w : V) (r q : List ℕ) → IsDecoding IsOne fields_of s v r → IsDecoding IsOne fields_of s w q → (v ≡ w) × (r ≡ q)
 one_decoding_of n IsOne fields_of of_number s v w r q x y =
     search (rules, one_header n x.bytes y.bytes r q (of_number x.bytes x.header) (of_number y.bytes y.header) (x.joined ∙ sym y.joined), append_cancel_left)
 
--- what spells fields is read so, whatever is behind it
+-- an encoding of fields decodes to them, whatever follows it
 pub encoding_is_decoded : {V : Type 0} (IsOne : List ℕ → Type 0) (fields_of : List ℕ → V) (n : ℕ) (v : V) (b r : List ℕ)
     → IsEncoding IsOne fields_of n v b → IsDecoding IsOne fields_of (b ++ r) v r
 encoding_is_decoded IsOne fields_of n v b r s = record { bytes = b; header = s.header; fields = s.fields; joined = refl }
 
--- The first four of a list.
+-- The first four elements of a list.
 pub record FirstFour (b : List ℕ) : Type 0 where
   pub x0 : ℕ
   pub x1 : ℕ
@@ -30,11 +30,11 @@ first_four (x0 ∷ x1 ∷ []) l = absurd (omega arith)
 first_four (x0 ∷ x1 ∷ x2 ∷ []) l = absurd (omega arith)
 first_four (x0 ∷ x1 ∷ x2 ∷ x3 ∷ rest) l = record { x0 = x0; x1 = x1; x2 = x2; x3 = x3; rest = rest; joined = refl }
 
--- each number of bytes, and the default behind them, is a byte
+-- each element of a list of bytes, and the default after them, is a byte
 pub byte_at : (b : List ℕ) → AreBytes b → (i : ℕ) → get_or b i 0 < 256
 byte_at b h i = search (rules, cases_lt, get_or_past)
 
--- The encoding of fields. It is a way to prove, and no definition: the relations say what a encoding is.
+-- The encoding of fields. It serves proofs only: the relations define what an encoding is.
 abbrev pub fragment_written : FragmentFields → List ℕ
 fragment_written v =
     v.next_header ∷ 0 ∷ high_byte v.fragment_offset ∷ low_byte v.fragment_offset v.more_fragments ∷ to_be_bytes w32 v.identification
@@ -43,7 +43,7 @@ abbrev pub auth_written : AuthFields → List ℕ
 auth_written v =
     v.next_header ∷ (length v.raw_icv / 4 + 1) ∷ 0 ∷ 0 ∷ (to_be_bytes w32 v.spi ++ (to_be_bytes w32 v.sequence_number ++ v.raw_icv))
 
--- what is written in network byte order is bytes
+-- a number in network byte order is bytes
 be_bytes-are : (n : ℕ) → AreBytes (to_be_bytes w32 n)
 be_bytes-are n = All-from_recursion (λ x. x < 256) (to_be_bytes w32 n) (omega arith, (omega arith, (omega arith, (omega arith, tt))))
 
@@ -51,7 +51,7 @@ be_bytes-are n = All-from_recursion (λ x. x < 256) (to_be_bytes w32 n) (omega a
 pub three_before : (x1 x2 x3 : ℕ) (rest : List ℕ) → x1 < 256 → x2 < 256 → x3 < 256 → AreBytes rest → AreBytes (x1 ∷ x2 ∷ x3 ∷ rest)
 three_before x1 x2 x3 rest b c d e = All-from_recursion (λ x. x < 256) (x1 ∷ x2 ∷ x3 ∷ rest) (b, (c, (d, recursion_from_All (λ x. x < 256) rest e)))
 
--- bytes 2 and 3 that have the offset and the flag, and no reserved bit, make the header that says the fields
+-- bytes 2 and 3 with the offset and the flag, and without a reserved bit, make the header with these fields
 pub fragment_encodes : (v : FragmentFields) (high low : ℕ) → offset_bits high low ≡ v.fragment_offset → flag_bit low ≡ v.more_fragments → unreserved_bits low ≡ low
     → high < 256 → low < 256 → v.identification < 2 ^ 32 → IsFragmentEncoding v (v.next_header ∷ 0 ∷ high ∷ low ∷ to_be_bytes w32 v.identification)
 fragment_encodes v high low offset flag reserved high_byte low_byte small = search rules
@@ -73,7 +73,7 @@ auth_written_encodes v few whole small small' =
       };
     }
 
--- and nothing else does
+-- and no other bytes do
 fragment_only_parts : (v : FragmentFields) (x0 x1 x2 x3 : ℕ) (rest : List ℕ) → AreBytes (x1 ∷ x2 ∷ x3 ∷ take 4 rest)
     → IsFragmentEncoding v (x0 ∷ x1 ∷ x2 ∷ x3 ∷ rest) → x0 ∷ x1 ∷ x2 ∷ x3 ∷ rest ≡ fragment_written v
 fragment_only_parts v x0 x1 x2 x3 rest bytes h =
@@ -122,7 +122,7 @@ auth_only v b h =
     let P : List ℕ → Type 0 = λ l. AreBytes (slice_range l 1 12) → IsAuthEncoding v l → l ≡ auth_written v in
     subst P e (auth_only_parts v f.x0 f.x1 f.x2 f.x3 g.x0 g.x1 g.x2 g.x3 k.x0 k.x1 k.x2 k.x3 k.rest) h.cleared.bytes h
 
--- where what stands behind the fixed part are bytes and the next header is one, all are
+-- if what follows the fixed part is bytes and the next header is one, all are
 pub auth_encoding-bytes : (v : AuthFields) (b : List ℕ) → IsAuthEncoding v b → v.next_header < 256 → AreBytes v.raw_icv → AreBytes b
 auth_encoding-bytes v [] h small icv = absurd (omega (arith, h.header.len))
 auth_encoding-bytes v (x ∷ t) h small icv =

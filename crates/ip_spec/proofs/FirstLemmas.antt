@@ -1,4 +1,4 @@
--- The first element of a list that passes a test, what stands before it and what after, where lists are joined.
+-- The first element of a list that passes a test, and the parts before and after it, for joined lists.
 use Rattle.ip_spec.proofs.Common.{◌≡◌, ℕ, ◌+◌, ◌≤◌, List, [], ◌∷◌, ◌++◌, take, drop, map, refl, ap, sym, ◌∙◌, arith, inl, inr, Bool, true, false, cond, rules, not, count_by, Some, None, is_some, position_or_len, find, before_first, after_first, AllByRecursion, option_or, option_map, cases_Bool, none-some, take-append-drop, sum_by-append, find-append, common_steps}
 
 module _ {X : Type 0} (t : X → Bool) where
@@ -27,7 +27,7 @@ module _ {X : Type 0} (t : X → Bool) where
   pub count_no : (x : X) (xs : List X) → t x ≡ false → count_by t (x ∷ xs) ≡ count_by t xs
   count_no x xs e = let none : count_by t (x ∷ []) ≡ 0 = ap (λ b. 0 + cond b 1 0) e in omega (arith, count-append (x ∷ []) xs)
 
-  -- Where none passes, what follows stands on the same side of the first that does as without what is before.
+  -- If none passes, the elements that follow keep their side of the first that does.
   pub before-none : (xs ys : List X) → count_by t xs ≡ 0 → before_first t (xs ++ ys) ≡ xs ++ before_first t ys
   before-none [] ys e = refl
   before-none (x ∷ xs) ys e = elim (cases_Bool (t x)) [
@@ -42,7 +42,7 @@ module _ {X : Type 0} (t : X → Bool) where
     | inr w ↦ after-no x (xs ++ ys) w ∙ after-none xs ys (sym (count_no x xs w) ∙ e)
   ]
 
-  -- Where one does, what follows stands after it.
+  -- If one does, the elements that follow are after it.
   pub before-some : (xs ys : List X) → 1 ≤ count_by t xs → before_first t (xs ++ ys) ≡ before_first t xs
   before-some [] ys l = absurd (omega arith)
   before-some (x ∷ xs) ys l = elim (cases_Bool (t x)) [
@@ -57,11 +57,11 @@ module _ {X : Type 0} (t : X → Bool) where
     | inr w ↦ after-no x (xs ++ ys) w ∙ after-some xs ys (omega (arith, count_no x xs w, l)) ∙ ap (λ l. l ++ ys) (sym (after-no x xs w))
   ]
 
-  -- of one element alone
+  -- of a single element
   pub after_one : (x : X) → after_first t (x ∷ []) ≡ []
   after_one x = search (rules, cases_Bool, after-no)
 
-  -- The first that passes is there where the count isn't 0, and one more stands behind it.
+  -- The first that passes exists if the count is not 0, and one more follows it if the count is more.
   pub counted : (xs : List X) → is_some (find t xs) ≡ true → 1 ≤ count_by t xs
   counted [] e = absurd (cc)
   counted (x ∷ xs) e = elim (cases_Bool (t x)) [
@@ -96,7 +96,7 @@ module _ {X : Type 0} (t : X → Bool) where
   pub find_more-no : (xs : List X) (x : X) → t x ≡ false → find t (xs ++ x ∷ []) ≡ find t xs
   find_more-no xs x e = search (rules, find-append, find-no)
 
--- On neither side do more elements pass a test than in the whole.
+-- On neither side do more elements pass a test than in the whole list.
 module _ {X : Type 0} (t u : X → Bool) (xs : List X) where
   pub count_before : count_by t (before_first u xs) ≤ count_by t xs
   count_before = let k : ℕ = position_or_len u xs in omega (arith, count-append t (take k xs) (drop k xs), ap (count_by t) (take-append-drop k xs))
@@ -104,7 +104,7 @@ module _ {X : Type 0} (t u : X → Bool) (xs : List X) where
   pub count_after : count_by t (after_first u xs) ≤ count_by t xs
   count_after = let k : ℕ = position_or_len u xs + 1 in omega (arith, count-append t (take k xs) (drop k xs), ap (count_by t) (take-append-drop k xs))
 
--- Lists of images: what stands before and after the first image that passes.
+-- Lists of images: the parts before and after the first image that passes.
 module _ {X Y : Type 0} (f : X → Y) (t : Y → Bool) where
   pub before-map : (xs : List X) → map f (before_first (λ x. t (f x)) xs) ≡ before_first t (map f xs)
   before-map [] = refl

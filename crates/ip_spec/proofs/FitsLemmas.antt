@@ -10,7 +10,7 @@ use Rattle.ip_spec.proofs.LongestOfLemmas.{begins_first}
 use Rattle.ip_spec.proofs.StepLemmas.{next_of, chains_grow}
 use Rattle.ip_spec.proofs.ChainLemmas.{longest_ends}
 
--- What stands behind a chain adds to the counts.
+-- Headers after a chain add to the counts.
 count_grows : (p : Place) (c d : List ExtHeader) → count_in p c ≤ count_in p (c ++ d)
 count_grows destination c d = search (rules, sides, none_yet, count-append, one_before)
 count_grows final_destination c d = grind (arith, common_steps, sides c d, count-append (is_of final_destination) (side_of final_destination c) d)
@@ -27,7 +27,7 @@ fits_places = record {
   decided = λ c. each_or (λ p. count_in p c ≤ 1) (λ p. elim (cases_lt 1 (count_in p c)) [ inl l ↦ inr (λ w. omega arith) | inr l ↦ inl l ]);
 }
 
--- What stands behind a chain that fits, fits by itself, and so does each single header.
+-- The headers after a prefix of a chain that fits, fit by themselves, and so does each single header.
 pub fits_behind : (c d : List ExtHeader) → FitsPlaces (c ++ d) → FitsPlaces d
 fits_behind c d f destination = elim (sides c d) [
   | none_yet none all nothing b a ↦ omega (arith, f destination, ap (count_by (is_of destination)) b, count-append (is_of destination) c (side_of destination d))
@@ -42,28 +42,28 @@ fits_behind c d f p = omega (arith, f p, count-append (is_of p) c d)
 pub one_fits : (h : ExtHeader) → FitsPlaces (h ∷ [])
 one_fits h = search (rules, fits_next)
 
--- whether a header fits, its number tells
+-- a header's number decides whether it fits
 pub number_fits : (c : List ExtHeader) (g h : ExtHeader) → g.number ≡ h.number → FitsPlaces (c ++ g ∷ []) → FitsPlaces (c ++ h ∷ [])
 number_fits c g h e f = fits_next c h (fits_places.begins c (g ∷ []) f) (λ p o. none_there c g p (ap (λ m. place_of m (has_routing c)) e ∙ o) f)
 
--- Where a header goes on and doesn't fit, its number is taken.
+-- If a header follows and doesn't fit, the place of its number is occupied.
 pub breaks_taken : (c : List ExtHeader) (m : ℕ) (r : List ℕ) (h : ExtHeader) → IsNext (is_empty c) m r h → (FitsPlaces (c ++ h ∷ []) → ⊥) → IsTaken m c
 breaks_taken c m r h x breaks = (
   later_of m (header_number m h.bytes x.header) (λ z. breaks (search rules)),
   λ g e f. breaks (number_fits c g h (e ∙ sym x.number) f),
 )
 
--- At the end of the longest chain that fits, no header goes on, unless the place of the number is taken.
+-- At the end of the longest chain that fits, no header follows, unless the place of its number is occupied.
 pub fitting_ends : (n : ℕ) (s : List ℕ) (c : List ExtHeader) → IsLongestUnder FitsPlaces n s c → (IsTaken (leads_to n c) c → ⊥) → IsEnd (is_empty c) (leads_to n c) (drop (length (bytes_of c)) s)
 fitting_ends n s c l free h x = free (breaks_taken c (leads_to n c) (drop (length (bytes_of c)) s) h x (longest_ends_under FitsPlaces fits_places n s c l h x))
 
--- behind what fits of a chain, the number is taken
+-- after the prefix of a chain that fits, the place of the number is occupied
 pub next_taken : (n : ℕ) (s : List ℕ) (p rest : List ExtHeader) → IsPrefixChain n s (p ++ rest) → NextBreaks FitsPlaces p rest → (rest ≡ [] → IsTaken (leads_to n p) p) → IsTaken (leads_to n p) p
 next_taken n s p [] q b on = on refl
 next_taken n s p (h ∷ rest) q b on =
     breaks_taken p (leads_to n p) (drop (length (bytes_of p)) s) h (next_of n s p h (begins_first (IsPrefixChain n s) (chains_grow n s) p h rest q)) b
 
--- It is shorter than the longest chain exactly where a header goes on there whose place is taken.
+-- It is shorter than the longest chain if and only if a header follows whose place is occupied.
 module _ (n : ℕ) (s : List ℕ) (d c : List ExtHeader) (l : IsLongestChain n s d) (u : IsLongestUnder FitsPlaces n s c) where
   pub taken_where_shorter : length c < length d → IsTaken (leads_to n c) c
   taken_where_shorter w =

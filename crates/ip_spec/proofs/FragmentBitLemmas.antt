@@ -1,7 +1,7 @@
--- Bytes 2 and 3 of a fragment header: the offset and the flag packed into them. No other proof looks at their bits.
+-- Bytes 2 and 3 of a fragment header, with the offset and the flag packed. No other proof examines their bits.
 use Rattle.ip_spec.proofs.Common.{◌≡◌, ℕ, ◌+◌, ◌*◌, ◌/◌, ◌%◌, ◌<◌, ◌≤◌, ap, arith, Bool, cond, bit_and, rules, ◌==◌, not, and_comm, and_assoc, and_mask, and-not, and_high, eqb_tells, common_steps, MAX_FRAGMENT_OFFSET, offset_bits, flag_bit, unreserved_bits}
 
--- the bytes that have an offset and a flag, and no reserved bit
+-- the bytes with this offset and flag, and without a reserved bit
 abbrev pub high_byte : ℕ → ℕ
 high_byte offset = offset / 32
 
@@ -19,7 +19,7 @@ module _ (low : ℕ) where
   flagged : low ≡ low / 2 * 2 + cond (flag_bit low) 1 0
   flagged = search (rules, eqb_tells, and_mask low 1)
 
--- what is packed is unpacked
+-- packing and unpacking returns the offset and the flag
 module _ (offset : ℕ) where
   pub packed_offset : (more : Bool) → offset_bits (high_byte offset) (low_byte offset more) ≡ offset
   packed_offset more = search (rules, offset_part)
@@ -37,14 +37,14 @@ module _ (offset : ℕ) where
   high_small largest = omega (arith, largest)
 
 module _ (high low : ℕ) where
-  -- what is unpacked, and has no reserved bit, was packed
+  -- unpacking and packing returns the bytes, if they have no reserved bit
   pub unpacked_high : high ≡ high_byte (offset_bits high low)
   unpacked_high = omega (arith, offset_part low)
 
   pub unpacked_low : low < 256 → unreserved_bits low ≡ low → low ≡ low_byte (offset_bits high low) (flag_bit low)
   unpacked_low small kept = omega (arith, offset_part low, reserved_part low small, kept, flagged low)
 
-  -- without its reserved bits the low byte says the same
+  -- without its reserved bits the low byte has the same offset and flag
   pub unreserved_offset : offset_bits high (unreserved_bits low) ≡ offset_bits high low
   unreserved_offset = ap (λ bits. 32 * high + bits / 8) (and_assoc 0xf8 low 0xf9)
 

@@ -1,11 +1,11 @@
--- Headers, and headers at the prefix of bytes.
+-- Headers, and headers at the start of bytes.
 use Rattle.ip_spec.proofs.Common.{◌≡◌, ◌≢◌, ℕ, zero, suc, ◌+◌, ◌*◌, ◌<◌, ◌≤◌, List, ◌++◌, length, get_or, take, drop, refl, ap, sym, ◌∙◌, arith, inl, inr, ◌⊎◌, subst, Bool, true, false, nat_eq, cond, slice_index, rules, common_steps, get_or_append_left, take_at, length-take-le, take-append_seam, eqb_tells, IsHeader, IsRawHeader, IsFragmentHeader, IsAuthHeader, IsRawNumber, IsExtensionNumber, IsLaterNumber, raw, fragment, auth, IsPrefix, ExtHeader, IsNext, IsEnd}
 use Rattle.ip_spec.proofs.PrefixLemmas.{prefix-append, prefix_of-take, prefix-length}
 
 pub eq_or : (m n : ℕ) → (m ≡ n) ⊎ (m ≢ n)
 eq_or m n = elim (eqb_tells m n) [ inl w ↦ inl w.1 | inr w ↦ inr w.1 ]
 
--- What a number can be.
+-- The kinds of numbers.
 pub data Kind (n : ℕ) : Type 0 where
   is_raw : IsRawNumber n → Kind n
   is_fragment : n ≡ 44 → Kind n
@@ -18,15 +18,15 @@ kind n = search rules
 pub header_number : (n : ℕ) (b : List ℕ) → IsHeader n b → IsExtensionNumber n
 header_number n b h = elim h [ raw k r ↦ inl k | fragment e f ↦ inr (inl e) | auth e a ↦ inr (inr e) ]
 
--- What holds of 0, 43 and 60 holds of each number of the common layout,
+-- A property of 0, 43 and 60 holds for each number of the uniform format (RFC 6564),
 pub by_raw : (S : ℕ → Type 0) → S 0 → S 43 → S 60 → (n : ℕ) → IsRawNumber n → S n
 by_raw S a b c n k = search rules
 
--- and what holds of 44 and 51 too of each extension number.
+-- and a property of 44 and 51 too, for each extension number.
 pub by_number : (S : ℕ → Type 0) → S 0 → S 43 → S 60 → S 44 → S 51 → (n : ℕ) → IsExtensionNumber n → S n
 by_number S a b c d e n x = search rules
 
--- The extension numbers but 0 are those of headers that can stand behind another.
+-- The extension numbers except 0 are those of headers that may follow another.
 pub later_of : (n : ℕ) → IsExtensionNumber n → n ≢ 0 → IsLaterNumber n
 later_of = by_number (λ n. n ≢ 0 → IsLaterNumber n) (λ z. absurd (z refl)) (λ z. inl refl) (λ z. inr (inr (inr refl))) (λ z. inr (inl refl)) (λ z. inr (inr (inl refl)))
 
@@ -36,7 +36,7 @@ later_not_zero n l z = search rules
 pub later_or : (n : ℕ) → IsLaterNumber n ⊎ (IsLaterNumber n → ⊥)
 later_or n = search rules
 
--- Of a number, the layout of its headers.
+-- The format of the headers of a number.
 pub raw_of : (n : ℕ) (b : List ℕ) → IsRawNumber n → IsHeader n b → IsRawHeader b
 raw_of n b k h = elim h [ raw k' r ↦ r | fragment e f ↦ absurd (grind (arith, common_steps)) | auth e a ↦ absurd (grind (arith, common_steps)) ]
 
@@ -49,11 +49,11 @@ auth_of n b k h = elim h [ raw k' r ↦ absurd (grind (arith, common_steps)) | f
 pub header-least : (n : ℕ) (b : List ℕ) → IsHeader n b → 8 ≤ length b
 header-least n b h = elim h [ raw k r ↦ r.least | fragment k f ↦ omega (arith, f.len) | auth k a ↦ omega (arith, a.len, a.not_zero) ]
 
--- Whether bytes are a header.
+-- Bytes are a header, or not.
 pub header_or : (n : ℕ) (b : List ℕ) → IsHeader n b ⊎ (IsHeader n b → ⊥)
 header_or n b = search rules
 
--- how long the header of number n with t as byte 1 is
+-- the length of the header of number n with t as byte 1
 told : ℕ → ℕ → ℕ
 told n t = cond (nat_eq n 44) 8 (cond (nat_eq n 51) (4 * (t + 2)) (8 * (t + 1)))
 
@@ -61,7 +61,7 @@ header-told : (n : ℕ) (b : List ℕ) → IsHeader n b → length b ≡ told n 
 unfolding told
 header-told n b h = search rules
 
--- two headers of one number at one place are one
+-- two headers of one number at one place are equal
 pub one_header : (n : ℕ) (b d x y : List ℕ) → IsHeader n b → IsHeader n d → b ++ x ≡ d ++ y → b ≡ d
 one_header n b d x y hb hd e =
     let lb : 8 ≤ length b = header-least n b hb in
@@ -72,7 +72,7 @@ one_header n b d x y hb hd e =
     header-told n b hb ∙ ap (told n) same_byte ∙ sym (header-told n d hd) in
     sym (take-append_seam b x) ∙ ap (take (length b)) e ∙ take_at d y (length b) (sym same_len)
 
--- whether a header of fewer than k bytes begins s
+-- s starts with a header of fewer than k bytes, or not
 short_header_or : (n : ℕ) (s : List ℕ) (k : ℕ) → ((b : List ℕ) × IsHeader n b × IsPrefix b s) ⊎ ((b : List ℕ) → IsHeader n b → IsPrefix b s → length b < k → ⊥)
 short_header_or n s zero = inr (λ b h f l. omega arith)
 short_header_or n s (suc k) = search (rules, short_header_or n s k, header_or n (take k s), prefix_of-take k s, eq_or)
@@ -83,7 +83,7 @@ first_or m r = elim (short_header_or m r (suc (length r))) [
   | inr none ↦ inr (λ h x. none h.bytes x.header x.prefix (omega (arith, prefix-length h.bytes r x.prefix)))
 ]
 
--- whether a header goes on
+-- a header follows, or none
 pub next_or : (first : Bool) (m : ℕ) (r : List ℕ) → ((h : ExtHeader) × IsNext first m r h) ⊎ IsEnd first m r
 next_or true m r = first_or m r
 next_or false m r = grind (arith, common_steps, eq_or m 0, first_or m r)
@@ -91,11 +91,11 @@ next_or false m r = grind (arith, common_steps, eq_or m 0, first_or m r)
 pub ext_header-eq : (h g : ExtHeader) → h.number ≡ g.number → h.bytes ≡ g.bytes → h ≡ g
 ext_header-eq h g p q = search rules
 
--- at most one header goes on
+-- at most one header follows
 pub one_next : (first : Bool) (m : ℕ) (r : List ℕ) (h g : ExtHeader) → IsNext first m r h → IsNext first m r g → h ≡ g
 one_next first m r h g x y = grind (arith, common_steps, ext_header-eq, one_header, prefix-append)
 
--- Where bytes are long enough, a header begins them.
+-- Bytes that are long enough start with a header.
 pub prefix_byte : (b s : List ℕ) → IsPrefix b s → 8 ≤ length b → slice_index b 1 ≡ slice_index s 1
 prefix_byte b s f l = sym (get_or_append_left b (drop (length b) s) 0 1 (omega arith)) ∙ ap (λ x. get_or x 1 0) (sym (prefix-append b s f))
 

@@ -1,4 +1,4 @@
--- Headers linked in the order of their places are walked to the end.
+-- A walk over headers linked in the order of their places reaches the end.
 use Rattle.ip_spec.proofs.Common.{◌≡◌, ℕ, ◌+◌, ◌<◌, ◌≤◌, List, [], ◌∷◌, ◌++◌, drop, refl, ap, sym, ◌∙◌, arith, inl, inr, subst, Bool, true, false, cond, rules, Option, Some, None, is_some, ◌==◌, ◌||◌, nat_lt, if◌then◌else◌, find, option_map, option_map_or, cases_Bool, le-ltb, none-some, All-from_recursion, recursion_from_All, common_steps, IsHeader, next_header, ExtHeader, Place, hop_by_hop, destination, routing, authentication, final_destination, places, index, number_in, header_in, fields_of, HeaderFields, IsCleared, IsEncoded, IsEncodable, PlacedFields, leads, IsWalkAnswer, next_place, without, next_of, relinked, first_number, places_behind, linked}
 use Rattle.ip_spec.specs.Places.{fragment as fragment_place}
 use Rattle.ip_spec.proofs.HeaderLemmas.{header-least}
@@ -8,7 +8,7 @@ use Rattle.ip_spec.proofs.WalkLemmas.{none_if, some_if, is_some-map}
 use Rattle.ip_spec.proofs.WalkStepLemmas.{Walking, walk_begins, walks_on, walk_answers}
 use Rattle.ip_spec.proofs.SpellingLemmas.{leads_where_none}
 
--- Another next number leaves a header what it is.
+-- Another next header leaves a header valid.
 module _ (m x0 : ℕ) (rest : List ℕ) (small : m < 256) where
   -- of number n
   pub record Relinked (n : ℕ) : Type 0 where
@@ -58,7 +58,7 @@ linked_encodable v m small e = record {
   nested = λ k. is_some-map _ (v routing) ∙ e.nested (sym (is_some-map _ (v final_destination)) ∙ k);
 }
 
--- the fields tell the number of what follows
+-- the fields contain the next header
 pub next_said : (h : ExtHeader) → next_of (fields_of h) ≡ next_header h.bytes
 next_said h = search rules
 
@@ -68,7 +68,7 @@ next_relinked j x = search rules
 abbrev nothing : Option HeaderFields
 nothing = None
 
--- The linked headers that stand in the first k places have been reached.
+-- The linked headers in the first k places have been reached.
 abbrev beyond : ℕ → PlacedFields → PlacedFields
 beyond k w q = if nat_lt (index q) k then None else w q
 
@@ -86,7 +86,7 @@ module _ (v : PlacedFields) (m : ℕ) (small : m < 256) (e : IsEncodable v) wher
     walking : Walking w f reached (beyond k w) (first_number v (drop k places) m) first behind
     start : k ≡ 0 → first ≡ true
 
-  -- one place on
+  -- the next place
   beyond_next : (p : Place) (k : ℕ) → index p ≡ k → (q : Place) → beyond (k + 1) w q ≡ without p (beyond k w) q
   beyond_next p k i q = search rules
 
@@ -130,7 +130,7 @@ module _ (v : PlacedFields) (m : ℕ) (small : m < 256) (e : IsEncodable v) wher
     step : ((x : HeaderFields) → v p ≡ Some x → next_place up.first up.behind (number_in p) ≡ Some p) → Up (k + 1)
     step goes = search (rules, cases_Bool, some_if, step_some, step_none, none_if)
 
-  -- whether a routing header was reached, where it is still left and where it isn't
+  -- whether a routing header was reached: not while it is left, and afterwards yes
   not_behind : (k : ℕ) (up : Up k) → k ≤ 2 → up.behind ≡ false
   not_behind k up l = elim (cases_Bool (has_routing up.reached)) [
     | inr none ↦ up.walking.behind_is ∙ none
@@ -153,7 +153,7 @@ module _ (v : PlacedFields) (m : ℕ) (small : m < 256) (e : IsEncodable v) wher
       let u5 : Up 5 = step authentication 4 refl refl u4 (λ x k. in_both 51 authentication refl refl u4.behind) in
       step final_destination 5 refl refl u5 (λ x k. ap (λ b. next_place u5.first b 60) (is_behind 5 u5 (omega arith) (e.nested (ap is_some k))))
 
-  -- the walk through linked headers leads to m
+  -- a walk over linked headers leads to m
   pub linked_leads : IsWalkAnswer (linked v m) (first_number v places m) (leads m)
   linked_leads =
       let u : Up 6 = all_reached in

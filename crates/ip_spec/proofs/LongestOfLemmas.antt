@@ -1,7 +1,7 @@
 -- A property of lists under which at most one element can come next has exactly one longest list.
 use Rattle.ip_spec.proofs.Common.{◌≡◌, ◌≢◌, ℕ, zero, suc, ◌+◌, ◌<◌, ◌≤◌, List, [], ◌∷◌, ◌++◌, length, refl, ap, sym, ◌∙◌, arith, inl, inr, ◌⊎◌, subst, append_assoc, rules, append-nil, length-append, common_steps, IsLongestOf}
 
--- each beginning has the property too, and what comes next is determined
+-- each prefix has the property too, and the next element is unique
 pub record Grows {X : Type 0} (P : List X → Type 0) : Type 0 where
   pub begins : (c d : List X) → P (c ++ d) → P c
   pub one_next : (c : List X) (x y : X) → P (c ++ x ∷ []) → P (c ++ y ∷ []) → x ≡ y
@@ -13,7 +13,7 @@ pub data OneBegins {X : Type 0} (c d : List X) : Type 0 where
 pub begins_first : {X : Type 0} (P : List X → Type 0) → Grows P → (pre : List X) (x : X) (c : List X) → P (pre ++ x ∷ c) → P (pre ++ x ∷ [])
 begins_first P g pre x c p = g.begins (pre ++ x ∷ []) c (subst P (sym (append_assoc pre (x ∷ []) c)) p)
 
--- two lists with the property that go on from one list
+-- two lists with the property that continue one list
 compare_from : {X : Type 0} (P : List X → Type 0) → Grows P → (pre c d : List X) → P (pre ++ c) → P (pre ++ d) → OneBegins c d
 compare_from P g pre [] [] p q = within [] refl
 compare_from P g pre [] (y ∷ d) p q = beyond y d refl
@@ -32,7 +32,7 @@ compare P g c d p q = compare_from P g [] c d p q
 shorter : {X : Type 0} (d c more : List X) → c ≡ d ++ more → d ≢ c → length d < length c
 shorter d c more w differs = grind (arith, common_steps, append-nil, length-append)
 
--- where nothing can come next, it is the longest
+-- if nothing can come next, it is the longest
 pub longest_where_none_next : {X : Type 0} (P : List X → Type 0) → Grows P → (c : List X) → P c → ((x : X) → P (c ++ x ∷ []) → ⊥) → IsLongestOf P c
 longest_where_none_next P g c p none = record {
   has = p;
@@ -42,19 +42,19 @@ longest_where_none_next P g c p none = record {
   ];
 }
 
--- behind the longest, nothing can come next
+-- nothing can come next after the longest
 pub none_next_where_longest : {X : Type 0} (P : List X → Type 0) (c : List X) → IsLongestOf P c → (x : X) → P (c ++ x ∷ []) → ⊥
 none_next_where_longest P c l x p = search (rules, length-append)
 
--- there is one at most
+-- there is at most one
 pub one_longest_of : {X : Type 0} (P : List X → Type 0) → Grows P → (c d : List X) → IsLongestOf P c → IsLongestOf P d → c ≡ d
 one_longest_of P g c d lc ld = grind (arith, common_steps, compare P g c d lc.has ld.has)
 
--- it can be told whether something comes next
+-- it is decidable whether something comes next
 abbrev pub DecidesNext : {X : Type 0} → (List X → Type 0) → Type 0
 DecidesNext {X} P = (c : List X) → P c → ((x : X) × P (c ++ x ∷ [])) ⊎ ((x : X) → P (c ++ x ∷ []) → ⊥)
 
--- and there is one, where it can be told whether something comes next, and the lists are bounded
+-- there is one, if it is decidable whether something comes next and the lists are bounded
 grown : {X : Type 0} (P : List X → Type 0) → Grows P → DecidesNext P → (k bound : ℕ) → ((c : List X) → P c → length c ≤ bound) → (c : List X) → P c → bound < length c + k → (d : List X) × IsLongestOf P d
 grown P g next zero bound fits c p l = absurd (omega (arith, fits c p))
 grown P g next (suc k) bound fits c p l = elim (next c p) [
@@ -65,6 +65,6 @@ grown P g next (suc k) bound fits c p l = elim (next c p) [
 pub some_longest_of : {X : Type 0} (P : List X → Type 0) → Grows P → DecidesNext P → (bound : ℕ) → ((c : List X) → P c → length c ≤ bound) → P [] → (d : List X) × IsLongestOf P d
 some_longest_of P g next bound fits p = grown P g next (suc bound) bound fits [] p (omega arith)
 
--- of two properties that hold of the same lists
+-- two properties of the same lists have the same longest one
 pub longest_same : {X : Type 0} (P R : List X → Type 0) → ((c : List X) → P c → R c) → ((c : List X) → R c → P c) → (c : List X) → IsLongestOf P c → IsLongestOf R c
 longest_same P R there back c l = record { has = there c l.has; longest = λ d r differs. l.longest d (back d r) differs }

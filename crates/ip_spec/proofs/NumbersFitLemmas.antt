@@ -1,10 +1,10 @@
--- What the numbers of a chain's headers tell: whether they fit six places, and whether one more does.
+-- The numbers of a chain's headers decide whether they fit six places, and whether one more does.
 use Rattle.ip_spec.proofs.Common.{◌≡◌, ℕ, ◌≤◌, List, [], ◌∷◌, ◌++◌, map, refl, ap, sym, ◌∙◌, arith, subst, rules, ◌==◌, ◌↔◌, Some, eqb_tells, same_Some, map-append, common_steps, IsExtensionNumber, ExtHeader, Place, hop_by_hop, destination, routing, authentication, final_destination, number_in, side_of, place_of, FitsPlaces, numbers_of, how_often, before_routing, after_routing, NumbersFit, in_place}
 use Rattle.ip_spec.specs.Places.{fragment}
 use Rattle.ip_spec.proofs.FirstLemmas.{before-map, after-map, count-map, counted, none_counted}
 use Rattle.ip_spec.proofs.PlaceLemmas.{has_routing, is_of, count_in, place_number, own_place, final_behind, destination_before, fits_next, none_there, bare}
 
--- how many of the numbers stand in a place
+-- how many of the numbers belong to a place
 abbrev often_in : Place → List ℕ → ℕ
 often_in destination ns = how_often 60 (before_routing ns)
 often_in final_destination ns = how_often 60 (after_routing ns)
@@ -27,7 +27,7 @@ module _ (c : List ExtHeader) where
     λ f p. omega (arith, counts p, often_fits (numbers_of c) f p),
   )
 
-  -- the place of a number is where it is counted
+  -- a number is counted in its place
   place_counts : (p : Place) → place_of (number_in p) (has_routing c) ≡ Some p → in_place (number_in p) (numbers_of c) ≡ count_in p c
   place_counts destination e =
       grind (arith, common_steps, counts routing, none_counted (is_of routing) c (destination_before (has_routing c) e), counts destination)
@@ -61,6 +61,6 @@ next_number_tells m ns x f =
     let L : List ℕ → Type 0 = λ l. NumbersFit l → NumbersFit (l ++ m ∷ []) ↔ (in_place m l ≡ 0) in
     subst L (numbers_bare ns) (next_tells (map bare ns) m x) f
 
--- what tells whether the numbers fit tells whether the headers do
+-- a test of the numbers is a test of the headers
 pub told_by_numbers : {A : Type 0} (c : List ExtHeader) → A ↔ NumbersFit (numbers_of c) → A ↔ FitsPlaces c
 told_by_numbers c k = (λ a. (numbers_tell c).1 (k.0 a), λ f. k.1 ((numbers_tell c).0 f))

@@ -1,11 +1,11 @@
--- The places of a chain's headers, where one more header comes, and which number is taken.
+-- The places of a chain's headers, the place of the next header, and the numbers whose place is occupied.
 use Rattle.ip_spec.proofs.Common.{◌≡◌, ℕ, zero, suc, ◌+◌, List, [], ◌∷◌, ◌++◌, refl, ap, sym, ◌∙◌, arith, inl, inr, Bool, true, false, subst, rules, ◌==◌, ◌↔◌, count_by, Option, Some, None, is_some, if◌then◌else◌, find, AllByRecursion, option_or, option_map_or, cases_Bool, eqb-true, eq-eqb, eqb_tells, same_Some, append-nil, common_steps, IsExtensionNumber, ExtHeader, Place, hop_by_hop, destination, routing, authentication, final_destination, places, index, number_in, side_of, header_in, place_of, is_taken, FitsPlaces, IsTaken}
 use Rattle.std.specs.Prelude.{◌≢◌}
 use Rattle.ip_spec.proofs.HeaderLemmas.{later_of, later_not_zero}
 use Rattle.ip_spec.specs.Places.{fragment}
 use Rattle.ip_spec.proofs.FirstLemmas.{before-yes, before-no, count-append, count_yes, count_no, before-none, before-some, after-none, after-some, after_one, counted, none_counted, find_passes, find_more-yes, find_more-no}
 
--- a place that a number has is one of that number's
+-- a number belongs to its place
 pub place_number : (m : ℕ) (p : Place) (behind : Bool) → place_of m behind ≡ Some p → m ≡ number_in p
 place_number m p behind e = sym (eqb-true (number_in p) m (find_passes (λ q. number_in q == m) (if behind then final_destination ∷ places else places) p e))
 
@@ -20,22 +20,22 @@ place_at (suc (suc (suc (suc (suc n))))) = final_destination
 at_index : (p : Place) → place_at (index p) ≡ p
 at_index p = search rules
 
--- a place is known by its index
+-- a place is determined by its index
 pub same_place : (p q : Place) → index p ≡ index q → p ≡ q
 same_place p q e = sym (at_index p) ∙ ap place_at e ∙ at_index q
 
--- of the two places of 60, it is the final one exactly behind a routing header
+-- of the two places of 60, the final one is after a routing header
 pub final_behind : (behind : Bool) → place_of 60 behind ≡ Some final_destination → behind ≡ true
 final_behind behind e = search rules
 
 pub destination_before : (behind : Bool) → place_of 60 behind ≡ Some destination → behind ≡ false
 destination_before behind e = search rules
 
--- what holds of all places holds of each
+-- a property of all places is one of each
 pub each : (P : Place → Type 0) → AllByRecursion P places → (p : Place) → P p
 each P a p = search rules
 
--- the place of a number that has just one
+-- the place of a number that has only one
 pub in_both : (m : ℕ) (p : Place) → place_of m true ≡ Some p → place_of m false ≡ Some p → (behind : Bool) → place_of m behind ≡ Some p
 in_both m p behind before x4 = search rules
 
@@ -50,18 +50,18 @@ own_place m behind x = grind (arith, in_both, destination_place behind)
 pub is_extension : (p : Place) → IsExtensionNumber (number_in p)
 is_extension p = search rules
 
--- whether a routing header is there
+-- a routing header is present
 abbrev pub has_routing : List ExtHeader → Bool
 has_routing c = is_some (header_in routing c)
 
--- whether a header is of the number of a place, and how many of a chain stand in it
+-- a header's number is that of a place; and how many of a chain belong to it
 abbrev pub is_of : Place → ExtHeader → Bool
 is_of p h = h.number == number_in p
 
 abbrev pub count_in : Place → List ExtHeader → ℕ
 count_in p c = count_by (is_of p) (side_of p c)
 
--- What stands behind c stands on one side of the first routing header.
+-- The headers after c are on one side of the first routing header.
 pub data Sides (c d : List ExtHeader) : Type 0 where
   none_yet : has_routing c ≡ false → side_of destination c ≡ c → side_of final_destination c ≡ []
       → side_of destination (c ++ d) ≡ c ++ side_of destination d → side_of final_destination (c ++ d) ≡ side_of final_destination d → Sides c d
@@ -77,7 +77,7 @@ nothing_on p = search rules
 pub none_behind : (c : List ExtHeader) → has_routing c ≡ false → header_in final_destination c ≡ None
 none_behind c none = grind (arith, common_steps, sides c [])
 
--- One more header h behind c stands in one place at most, and the others stay as they are.
+-- One more header h after c belongs to at most one place, and the other places are unchanged.
 module _ (c : List ExtHeader) (h : ExtHeader) where
   pub data Comes (p : Place) : Type 0 where
     here : place_of h.number (has_routing c) ≡ Some p
@@ -112,7 +112,7 @@ module _ (c : List ExtHeader) (h : ExtHeader) where
   pub placed : (q : Place) → place_of h.number (has_routing c) ≡ Some q → header_in q c ≡ None → (p : Place) → header_in p (c ++ h ∷ []) ≡ (if index q == index p then Some h else header_in p c)
   placed q e free p = search (rules, comes, same_Some, eq-eqb, eqb_tells, same_place)
 
-  -- It fits where its place is free, and only there.
+  -- It fits if and only if its place is free.
   pub fits_next : FitsPlaces c → ((p : Place) → place_of h.number (has_routing c) ≡ Some p → count_in p c ≡ 0) → FitsPlaces (c ++ h ∷ [])
   fits_next f free p = elim (comes p) [ here e k n ↦ omega (arith, n, free p e) | elsewhere other k n ↦ omega (arith, n, f p) ]
 

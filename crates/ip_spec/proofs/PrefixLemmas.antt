@@ -12,7 +12,7 @@ prefix_of-take zero s = refl
 prefix_of-take (suc k) [] = refl
 prefix_of-take (suc k) (x ∷ s) = ap (λ t. x ∷ t) (prefix_of-take k s)
 
--- a prefix is no longer, and what is behind it is the rest
+-- a prefix is no longer, and what follows it is the rest
 pub prefix-length : (b s : List ℕ) → IsPrefix b s → length b + length (drop (length b) s) ≡ length s
 prefix-length b s f = omega (arith, ap length (prefix-append b s f), length-append b (drop (length b) s))
 
@@ -27,6 +27,6 @@ prefix_join b d s f g =
     prefix_of-append (b ++ d) (drop (length d) (drop (length b) s)) s
     (prefix-append b s f ∙ ap (λ x. b ++ x) (prefix-append d (drop (length b) s) g) ∙ sym (append_assoc b d (drop (length d) (drop (length b) s))))
 
--- what is behind two fronts is behind both at once
+-- removing two prefixes in turn removes both joined
 pub rest_join : (b d s : List ℕ) → IsPrefix b s → IsPrefix d (drop (length b) s) → drop (length d) (drop (length b) s) ≡ drop (length (b ++ d)) s
 rest_join b d s f g = grind (arith, common_steps, front_rest, prefix-append, append_assoc)

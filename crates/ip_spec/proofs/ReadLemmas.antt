@@ -1,10 +1,10 @@
--- A chain that is being read from the prefix of bytes.
+-- A chain that is parsed from the start of bytes.
 use Rattle.ip_spec.proofs.Common.{◌≡◌, ℕ, ◌+◌, ◌-◌, List, [], ◌∷◌, ◌++◌, length, drop, refl, ap, sym, ◌∙◌, arith, subst, Bool, nat_eq, rules, Option, drop-append_seam, eqb_tells, AllByRecursion, common_steps, IsHeader, next_header, AreBytes, ExtHeader, leads_to, bytes_of, is_empty, IsChain, IsPrefixChain, IsLongestChain, IsNext, IsEnd, IsAnswer, IsRead, IsDemand, IsLongestUnder, IsEndUnder, NoDemand}
 use Rattle.ip_spec.proofs.PrefixLemmas.{prefix-length, prefix_of-append, rest_join}
 use Rattle.ip_spec.proofs.UnderLemmas.{longest_at_end_under, one_longest_under, some_longest_under, whole_longest_under, no_demand, longest_without}
 use Rattle.ip_spec.proofs.ChainLemmas.{no_chain, goes_on, bytes_of-more, leads_to-more, bytes_of-least}
 
--- the chain c from n has been read of s, leads to m and leaves r
+-- the chain c from n has been parsed from s, leads to m and leaves r
 pub record HasRead (n : ℕ) (s : List ℕ) (c : List ExtHeader) (m : ℕ) (r : List ℕ) : Type 0 where
   pub prefix_chain : IsPrefixChain n s c
   pub number : m ≡ leads_to n c
@@ -32,7 +32,7 @@ module _ (n : ℕ) (s : List ℕ) (c : List ExtHeader) (m : ℕ) (r : List ℕ) 
             ∙ ap (λ (b : List ℕ). drop (length b) s) (sym (bytes_of-more c h));
       }
 
--- the same, and c meets the demand Q
+-- in addition, c meets the demand Q
 pub record HasReadUnder (Q : List ExtHeader → Type 0) (n : ℕ) (s : List ℕ) (c : List ExtHeader) (m : ℕ) (r : List ℕ) : Type 0 where
   pub read : HasRead n s c m r
   pub meets : Q c
@@ -45,11 +45,11 @@ module _ (Q : List ExtHeader → Type 0) (k : IsDemand Q) (n : ℕ) (s : List �
     pub has_read_next_under : (h : ExtHeader) → HasReadUnder Q n s c m r → IsNext (is_empty c) m r h → Q (c ++ h ∷ []) → HasReadUnder Q n s (c ++ h ∷ []) (next_header h.bytes) (drop (length h.bytes) r)
     has_read_next_under h p x q = record { read = has_read_next n s c m r h p.read x; meets = q }
 
-    -- where no header goes on with the demand still met, the chain that was read is the longest under it
+    -- if no header follows that still meets the demand, the chain parsed is the longest under it
     pub read_longest_under : HasReadUnder Q n s c m r → IsEndUnder Q c m r → IsLongestUnder Q n s c
     read_longest_under p e = search (rules, longest_at_end_under, next_here)
 
-    -- so it is the answer, whatever value and faults are told of chains
+    -- so it is the result, for any value and errors computed from chains
     pub read_answers : {X F : Type 0} (value_of : List ExtHeader → X) (faults : List ExtHeader → ℕ → List ℕ → Option F) (x : X) (f : Option F) → HasReadUnder Q n s c m r → IsEndUnder Q c m r → x ≡ value_of c → f ≡ faults c m r
         → IsAnswer value_of faults (some_longest_under Q k n s).0 n s x m r f
     read_answers value_of faults x f p e value fault =
@@ -58,15 +58,15 @@ module _ (Q : List ExtHeader → Type 0) (k : IsDemand Q) (n : ℕ) (s : List �
         (search rules)
 
 module _ (Q : List ExtHeader → Type 0) (k : IsDemand Q) (n m : ℕ) where
-  -- a chain has been read of its bytes with more behind them
+  -- a chain is parsed from its bytes with more bytes after them
   pub has_read_before : (c : List ExtHeader) (r : List ℕ) → IsChain n c → Q c → m ≡ leads_to n c → HasReadUnder Q n (bytes_of c ++ r) c m r
   has_read_before c r chain meets number = search (rules, prefix_of-append, drop-append_seam)
 
-  -- and where it is of bytes, it is read of them with nothing left
+  -- and from its own bytes with nothing left
   pub whole_read : (V : List ExtHeader → Type 0) (s : List ℕ) (c : List ExtHeader) → IsChain n c → Q c → V c → leads_to n c ≡ m → bytes_of c ≡ s → AreBytes s → IsRead Q V n m s
   whole_read V s c chain meets value number all bytes = grind (arith, common_steps, whole_longest_under Q k n c chain meets)
 
-  -- What is read with nothing left is the answer with more behind it too, where no header goes on.
+  -- A result with nothing left is also the result with more bytes after it, if no header follows.
   pub read_again : {X F : Type 0} (value_of : List ExtHeader → X) (faults : List ExtHeader → ℕ → List ℕ → Option F) (x : X) (f : Option F) (s r : List ℕ) (e : IsRead Q (λ c. value_of c ≡ x) n m s) → IsEndUnder Q e.chain m r → f ≡ faults e.chain m r
       → IsAnswer value_of faults (some_longest_under Q k n (s ++ r)).0 n (s ++ r) x m r f
   read_again value_of faults x f s r e ends fault =
@@ -75,21 +75,21 @@ module _ (Q : List ExtHeader → Type 0) (k : IsDemand Q) (n m : ℕ) where
       subst A e.all (read_answers Q k n (bytes_of e.chain ++ r) e.chain m r value_of faults x f read ends (sym e.value) fault)
 
 module _ (n : ℕ) (s : List ℕ) (c : List ExtHeader) (m : ℕ) (r : List ℕ) where
-  -- the count of bytes read, and whether there are any
+  -- the number of bytes parsed, and whether there are any
   pub offset_is : HasRead n s c m r → length s - length r ≡ length (bytes_of c)
   offset_is p = omega (arith, prefix-length (bytes_of c) s p.prefix_chain.prefix, ap length p.rest)
 
   pub read_longest : HasRead n s c m r → IsEnd (is_empty c) m r → IsLongestChain n s c
   read_longest p e = longest_without n s c (read_longest_under NoDemand no_demand n s c m r (record { read = p; meets = tt }) (λ h x q. e h x))
 
--- whether the bytes behind a chain are all bytes tells whether it is empty
+-- the bytes after a chain are all bytes if and only if it is empty
 behind_all : (c : List ExtHeader) (k l : ℕ) → AllByRecursion (λ h. IsHeader h.number h.bytes) c → length (bytes_of c) + k ≡ l → nat_eq k l ≡ is_empty c
 behind_all c k l a e = search (rules, eqb_tells, bytes_of-least)
 
 pub first_is : (n : ℕ) (s : List ℕ) (c : List ExtHeader) (m : ℕ) (r : List ℕ) → HasRead n s c m r → nat_eq (length r) (length s) ≡ is_empty c
 first_is n s c m r p = behind_all c (length r) (length s) p.prefix_chain.chain.headers (omega (arith, prefix-length (bytes_of c) s p.prefix_chain.prefix, ap length p.rest))
 
--- The step and the end as code has them: the count of bytes left tells whether the header is the first.
+-- The step and the end as in the code: the number of bytes left shows whether the header is the first.
 module _ (n : ℕ) (s : List ℕ) (c : List ExtHeader) (m : ℕ) (r : List ℕ) where
   pub has_read_on : (h : ExtHeader) (j : ℕ) (q b : List ℕ) → HasRead n s c m r → IsNext (nat_eq (length r) (length s)) m r h → j ≡ next_header h.bytes → b ≡ h.bytes → q ≡ drop (length b) r → HasRead n s (c ++ h ∷ []) j q
   has_read_on h j q b p x ej eb eq =

@@ -1,4 +1,4 @@
--- Headers that come in parts.
+-- Headers that arrive in parts.
 use Rattle.ip_spec.proofs.Common.{◌≡◌, ℕ, ◌+◌, ◌-◌, ◌*◌, ◌<◌, ◌≤◌, List, ◌++◌, length, take, drop, ap, sym, ◌∙◌, arith, slice_index, rules, get_or_append_left, take-append-le, drop-append-le, drop-append_seam, common_steps, IsRawHeader, IsAuthHeader, next_header, AuthFields, raw_fields, auth_fields}
 use Rattle.std.proofs.Common.{length-append, length-drop}
 

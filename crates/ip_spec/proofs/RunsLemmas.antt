@@ -1,4 +1,4 @@
--- The runs of a chain: what the demand of six places cuts it into.
+-- The runs of a chain: its partition under the demand of six places.
 use Rattle.ip_spec.proofs.Common.{◌≡◌, ◌≢◌, ℕ, ◌+◌, ◌/◌, ◌≤◌, List, [], ◌∷◌, ◌++◌, length, drop, refl, ap, sym, ◌∙◌, arith, inl, inr, ◌⊎◌, subst, true, rules, flat_map, AllByRecursion, take-length, append-nil, length-append, map-append, flat_map-append, common_steps, next_header, ExtHeader, leads_to, bytes_of, is_empty, IsChain, IsPrefixChain, IsLongestChain, IsEnd, KeepsBeginning, NextBreaks, IsLongestUnder, FitsPlaces, IsTaken, cleared_chain, joined, how_many, last_piece, IsCut, AreRuns, none, cut, one_more, AreChains, AreLongestFitting}
 use Rattle.ip_spec.proofs.HeaderLemmas.{later_not_zero, later_or}
 use Rattle.ip_spec.proofs.PrefixLemmas.{prefix_second, rest_join, prefix-length}
@@ -32,8 +32,8 @@ some_or_none : (c : List ExtHeader) → (c ≡ []) ⊎ (c ≢ [])
 some_or_none [] = inl refl
 some_or_none (h ∷ c) = inr (λ e. cc)
 
--- The step: what is kept of a chain is its first run, and the runs of the rest follow, where there is a rest or
--- the number is taken.
+-- The step: the prefix of a chain that fits is its first run, and the runs of the rest follow, if there is a rest or
+-- the number's place is occupied.
 module _ (m : ℕ) (c : List ExtHeader) where
   last_more : (p : List ExtHeader) (ps : Pieces) → ps ≢ [] → last_piece (p ∷ ps) ≡ last_piece ps
   last_more p ps e = search rules
@@ -67,7 +67,7 @@ module _ (m : ℕ) (c : List ExtHeader) where
   pub runs_end : FitsPlaces c → (IsTaken m c → ⊥) → AreRuns m c (c ∷ [])
   runs_end f free = grind (arith, common_steps, some_or_none c, append-nil c)
 
--- There is one list of runs, and no other.
+-- There is exactly one list of runs.
 pub some_runs : (m : ℕ) (c : List ExtHeader) → (ps : Pieces) × AreRuns m c ps
 some_runs m c = elim (some_or_none c) [
   | inl e ↦ ([] ∷ [], none e refl)
@@ -110,11 +110,11 @@ module _ (m : ℕ) (c : List ExtHeader) where
   pub runs_fit : (ps : Pieces) → AreRuns m c ps → AllByRecursion FitsPlaces ps
   runs_fit ps a = search (rules, none, cut, one_more, one_more_fits)
 
-  -- no cut into pieces that fit has fewer that aren't empty
+  -- no partition into pieces that fit has fewer nonempty ones
   pub fewest_runs : (ps rs : Pieces) → AreRuns m c ps → joined rs ≡ c → AllByRecursion FitsPlaces rs → how_many ps ≤ how_many rs
   fewest_runs ps rs a e f = search (rules, fewest FitsPlaces cuts_places rs [] c, how_many-filled, how_many-more, sym e)
 
-  -- there is one run at least, and one for each header and one more at most
+  -- there is at least one run, and at most one per header and one more
   pub some_run : (ps : Pieces) → AreRuns m c ps → 1 ≤ length ps
   some_run ps a = grind (arith, common_steps, none, cut, one_more, length-append)
 
@@ -124,7 +124,7 @@ module _ (m : ℕ) (c : List ExtHeader) where
 pub runs_bound : (n : ℕ) (s : List ℕ) (c : List ExtHeader) (m : ℕ) (ps : Pieces) → IsPrefixChain n s c → AreRuns m c ps → length ps ≤ length s / 8 + 1
 runs_bound n s c m ps q a = omega (arith, count_runs m c ps a, bytes_of-least c q.chain.headers, prefix-length (bytes_of c) s q.prefix)
 
--- The runs as steps: they end with what is left, or go on behind what is kept of it.
+-- The runs as steps: they end, or continue after the prefix that fits.
 pub data RunsStep (m : ℕ) (c : List ExtHeader) (ps : Pieces) : Type 0 where
   ends : FitsPlaces c → (IsTaken m c → ⊥) → ps ≡ c ∷ [] → RunsStep m c ps
   goes : (p : List ExtHeader) (k : KeepsBeginning FitsPlaces c p) → (k.rest ≡ [] → IsTaken m p) → (rs : Pieces) → AreRuns m k.rest rs → ps ≡ p ∷ rs → RunsStep m c ps
@@ -147,7 +147,7 @@ runs_step_at m c p (h ∷ rest) ps e f b a =
 pub runs_step : (m : ℕ) (c : List ExtHeader) (ps : Pieces) → AreRuns m c ps → RunsStep m c ps
 runs_step m c ps a = let k = some_kept FitsPlaces fits_places c in runs_step_at m c k.0 k.1.rest ps k.1.joined k.1.meets k.1.breaks a
 
--- Each run is a chain, from the number to which the one before leads.
+-- Each run is a chain, from the number to which the one before it leads.
 pub chain_behind : (n : ℕ) (c d : List ExtHeader) → IsChain n (c ++ d) → IsChain (leads_to n c) d
 chain_behind n [] d k = k
 chain_behind n (h ∷ c) d k = chain_behind (next_header h.bytes) c d (tail_chain n h (c ++ d) k)
@@ -162,7 +162,7 @@ chains_joined n (p ∷ ps) k = (chain_begins n p (joined ps) k, chains_joined (l
 pub runs_chains : (n m : ℕ) (c : List ExtHeader) (ps : Pieces) → IsChain n c → AreRuns m c ps → AreChains n ps
 runs_chains n m c ps k a = let C : List ExtHeader → Type 0 = IsChain n in chains_joined n ps (subst C (sym (runs_joined m c ps a)) k)
 
--- Behind a beginning of the longest chain, the rest of it is the longest from there on.
+-- After a prefix of the longest chain, its rest is the longest chain from there.
 pub leads_to-append : (n : ℕ) (c d : List ExtHeader) → leads_to n (c ++ d) ≡ leads_to (leads_to n c) d
 leads_to-append n [] d = refl
 leads_to-append n (h ∷ c) d = leads_to-append (next_header h.bytes) c d
@@ -186,7 +186,7 @@ module _ (n : ℕ) (s : List ℕ) (p : List ExtHeader) where
   pub rest_longest : (c : List ExtHeader) → (c ≡ [] → number ≢ 0) → IsLongestChain n s (p ++ c) → IsLongestChain number rest c
   rest_longest c nz l = longest_at_end number rest c (rest_prefix c l.has) (rest_ends c nz l)
 
--- So the runs are the longest chains that fit, one behind the other.
+-- So the runs are the longest chains that fit, one after the other.
 fitting_more : (n : ℕ) (s : List ℕ) (p : List ExtHeader) (ps : Pieces) → IsLongestUnder FitsPlaces n s p → IsTaken (leads_to n p) p → AreLongestFitting (leads_to n p) (drop (length (bytes_of p)) s) ps → AreLongestFitting n s (p ∷ ps)
 fitting_more n s p ps l t f = search rules
 
@@ -214,7 +214,7 @@ runs_longest_fitting (p ∷ ps) n s c l a = elim (runs_step (leads_to n c) c (p 
       (runs_longest_fitting ps (leads_to n r) (drop (length (bytes_of r)) s) k.rest (rest_longest n s r k.rest (λ w. later_not_zero (leads_to n r) taken.0) whole) (subst B others (subst R leads b))))
 ]
 
--- and these are determined
+-- and they are unique
 module _ (n : ℕ) (s : List ℕ) (p q : List ExtHeader) (l : IsLongestUnder FitsPlaces n s p) (k : IsLongestUnder FitsPlaces n s q) where
   same_fitting : p ≡ q
   same_fitting = one_longest_under FitsPlaces fits_places n s p q l k

@@ -1,4 +1,4 @@
--- The chains of bytes that are cut short are the chains of the whole bytes that lie within them.
+-- The chains of truncated bytes are the chains of all bytes that lie within them.
 use Rattle.ip_spec.proofs.Common.{◌≡◌, ℕ, ◌+◌, ◌-◌, ◌≤◌, List, [], ◌∷◌, ◌++◌, length, take, refl, ap, arith, rules, take-take, length-append, le-ltb, common_steps, ExtHeader, bytes_of, headers_within, IsPrefixChain, IsDemand, NextBreaks, KeepsBeginning, IsLongestUnder}
 use Rattle.ip_spec.proofs.PrefixLemmas.{prefix-length}
 use Rattle.ip_spec.proofs.LongestOfLemmas.{longest_same}
@@ -12,7 +12,7 @@ length_with h c = length-append h.bytes (bytes_of c)
 breaks_behind : (j : ℕ) (h : ExtHeader) (c rest : List ExtHeader) → length h.bytes ≤ j → NextBreaks (IsWithin j) (h ∷ c) rest → NextBreaks (IsWithin (j - length h.bytes)) c rest
 breaks_behind j h c rest few breaks = search (rules, length_with)
 
--- what a bound on the bytes keeps are the headers within it
+-- a bound on the bytes keeps the headers within it
 within_is : (j : ℕ) (c rest : List ExtHeader) → IsWithin j c → NextBreaks (IsWithin j) c rest → c ≡ headers_within j (c ++ rest)
 within_is j [] [] meets breaks = refl
 within_is j [] (x ∷ rest) meets breaks = search rules
@@ -32,6 +32,6 @@ module _ (Q : List ExtHeader → Type 0) (k : IsDemand Q) (n j : ℕ) (s : List 
       kept_where_longest (IsUnder Q (IsPrefixChain n s)) (IsWithin j) (chains_grow_under Q k n s) (within j) d c l
       (longest_same (IsUnder Q (IsPrefixChain n (take j s))) (IsUnder (IsWithin j) (IsUnder Q (IsPrefixChain n s))) shorter_under under_shorter c m)
 
-  -- of the longest chain of the whole, the bytes cut short keep the headers that lie whole within them
+  -- of the longest chain of all bytes, truncated bytes keep the headers that lie wholly within them
   pub longest_shorter : (d c : List ExtHeader) → IsLongestUnder Q n s d → IsLongestUnder Q n (take j s) c → c ≡ headers_within j d
   longest_shorter d c l m = search (rules, shorter_kept d c l m, within_is)

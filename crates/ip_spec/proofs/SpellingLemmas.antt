@@ -1,4 +1,4 @@
--- What spells a value, what it is read from, and what its walk answers.
+-- The encoding of a value, what it parses to, and its walk's result.
 use Rattle.ip_spec.proofs.Common.{◌≡◌, ℕ, ◌<◌, List, [], ◌∷◌, ◌++◌, refl, ap, sym, ◌∙◌, arith, subst, append_assoc, Bool, false, rules, Option, None, is_some, ◌==◌, ◌&&◌, ◌↔◌, if◌then◌else◌, option_map, option_map_or, AllByRecursion, find, common_steps, IsLongestOf, none-some, append-nil, All-append, IsHeader, IsExtensionNumber, AreBytes, IsCleared, cleared_chain, ExtHeader, leads_to, bytes_of, IsChain, IsLongestUnder, FitsPlaces, IsTaken, Place, hop_by_hop, places, number_in, header_in, fields_of, IsEncodable, IsRead, PlacedFields, IsValueOf, IsSpelling, IsReachable, WalkAnswer, leads, hop_by_hop_not_at_start, not_referenced, answer_at, IsWalkAnswer}
 use Rattle.ip_spec.proofs.FirstLemmas.{none_passes}
 use Rattle.ip_spec.proofs.LongestOfLemmas.{longest_where_none_next}
@@ -12,15 +12,15 @@ use Rattle.ip_spec.proofs.EncodedLemmas.{one_header_says}
 use Rattle.ip_spec.proofs.PlaceLemmas.{each, place_number}
 use Rattle.ip_spec.proofs.WalkLemmas.{unreached, none_if, Next, next_shown, shown_grows, one_reach}
 
--- bytes s are read as the value v of six places
+-- bytes s parse as the value v of six places
 abbrev pub IsReadAs : PlacedFields → ℕ → ℕ → List ℕ → Type 0
 IsReadAs v f m s = IsRead FitsPlaces (λ c. IsValueOf c v) f m s
 
--- a chain with the value v spells it
+-- a chain with the value v encodes it
 pub value_spelled : (v : PlacedFields) (f : ℕ) (c : List ExtHeader) → IsChain f c → FitsPlaces c → IsValueOf c v → AllByRecursion IsCleared c → IsSpelling v f c
 value_spelled v f c chain fits value cleared = search rules
 
--- A chain that spells v is all that v reaches.
+-- A chain that encodes v is all that v reaches.
 pub spelling_is_reach : (v : PlacedFields) (f : ℕ) (c : List ExtHeader) → IsSpelling v f c → IsLongestOf (IsReachable v f) c
 spelling_is_reach v f c s =
     longest_where_none_next (IsReachable v f) (shown_grows v f) c s.reachable
@@ -31,16 +31,16 @@ spelling_is_reach v f c s =
 pub one_spelling : (v : PlacedFields) (f : ℕ) (c d : List ExtHeader) → IsSpelling v f c → IsSpelling v f d → c ≡ d
 one_spelling v f c d s t = one_reach v f c d (spelling_is_reach v f c s) (spelling_is_reach v f d t)
 
--- the first place, in their order, in which u has a header
+-- the first place, in order, in which u has a header
 abbrev first_filled : PlacedFields → Option Place
 first_filled u = find (λ p. is_some (u p)) places
 
--- Where nothing is left, each place of v is that of the chain.
+-- If nothing is left, each place of v is that of the chain.
 pub nothing_filled : (u : PlacedFields) → first_filled u ≡ None → (p : Place) → u p ≡ None
 nothing_filled u e p = none_if (u p) (each (λ q. is_some (u q) ≡ false) (none_passes (λ q. is_some (u q)) places e) p)
 
--- an answer that leads on tells that nothing is left, and the other way round
--- the answer by what is left: whether hop by hop options are, and the first place
+-- a result that leads on means that nothing is left, and vice versa; the result is computed from what is left:
+-- hop-by-hop options, and the first place
 abbrev fault_or_number : ℕ → Bool → Option Place → WalkAnswer
 fault_or_number m b o = option_map_or (λ p. if (m == 0) && b then hop_by_hop_not_at_start else not_referenced (number_in p)) o (leads m)
 
@@ -57,7 +57,7 @@ module _ (v : PlacedFields) (f : ℕ) where
   pub one_answer : (a b : WalkAnswer) → IsWalkAnswer v f a → IsWalkAnswer v f b → a ≡ b
   one_answer a b x y = grind (arith, common_steps, one_reach v f x.reach y.reach x.is_reach y.is_reach)
 
-  -- An answer that leads on has a spelling, and a spelling that answer.
+  -- A result that leads on has an encoding, and an encoding has that result.
   pub leads_spelled : (m : ℕ) → IsWalkAnswer v f (leads m) → (c : List ExtHeader) × IsSpelling v f c × (leads_to f c ≡ m)
   leads_spelled m a =
       let told = leads_told (leads_to f a.reach) m (is_some (unreached v a.reach hop_by_hop)) (first_filled (unreached v a.reach)) a.answer in
@@ -69,7 +69,7 @@ module _ (v : PlacedFields) (f : ℕ) where
   pub spelled_leads : (c : List ExtHeader) → IsSpelling v f c → IsWalkAnswer v f (leads (leads_to f c))
   spelled_leads c s = search (rules, spelling_is_reach, none_unreached)
 
-  -- A chain of bytes spells its value, cleared.
+  -- A chain of bytes, cleared, encodes its value.
   pub cleared_spells : (c : List ExtHeader) → IsChain f c → FitsPlaces c → AreBytes (bytes_of c) → IsValueOf c v → IsSpelling v f (cleared_chain c)
   cleared_spells c k fits bytes value = search (rules, value_spelled, cleared_is_chain, cleared_fits, value-cleared, cleared_are)
 
@@ -102,11 +102,11 @@ module _ (v : PlacedFields) (f : ℕ) where
     pub shown_bytes : (c : List ExtHeader) → IsReachable v f c → AreBytes (bytes_of c)
     shown_bytes c s = shown_bytes_from [] c (λ k d l. omega arith) s
 
-    -- the value is read from the bytes of the chain that spells it
+    -- the value is parsed from the bytes of the chain that encodes it
     pub spelled_whole : (c : List ExtHeader) → IsSpelling v f c → IsReadAs v f (leads_to f c) (bytes_of c)
     spelled_whole c s = whole_read FitsPlaces fits_places f (leads_to f c) (λ d. IsValueOf d v) (bytes_of c) c s.reachable.chain s.reachable.fits s.value refl refl (shown_bytes c s.reachable)
 
-    -- so an answer leads on exactly where the value is read from some bytes
+    -- so a result leads on if and only if the value is parsed from some bytes
     pub leads_read : (m : ℕ) → IsWalkAnswer v f (leads m) → (s : List ℕ) × IsReadAs v f m s
     leads_read m a =
         let it = leads_spelled m a in
@@ -119,17 +119,17 @@ module _ (v : PlacedFields) (f : ℕ) where
       (λ r. one_answer a (leads m) x (read_leads m r.0 r.1)),
     )
 
--- What is spelled is read again, whatever follows it, where no extension number follows or one that is taken.
+-- An encoding parses again, whatever follows it, unless an extension number follows whose place is free.
 pub spelled_is_read : (v : PlacedFields) (f : ℕ) (c : List ExtHeader) (r : List ℕ) → IsSpelling v f c → (IsExtensionNumber (leads_to f c) → IsTaken (leads_to f c) c) → IsLongestUnder FitsPlaces f (bytes_of c ++ r) c
 spelled_is_read v f c r s taken =
     read_longest_under FitsPlaces fits_places f (bytes_of c ++ r) c (leads_to f c) r (has_read_before FitsPlaces fits_places f (leads_to f c) c r s.reachable.chain s.reachable.fits refl)
     (λ h x. (taken (header_number (leads_to f c) h.bytes x.header)).1 h x.number)
 
--- Writing what was read gives what was read, cleared.
+-- Writing a parsed value returns the parsed bytes, cleared.
 pub spelled_is_cleared : (v : PlacedFields) (f : ℕ) (c d : List ExtHeader) → IsChain f c → FitsPlaces c → AreBytes (bytes_of c) → IsValueOf c v → IsSpelling v f d → d ≡ cleared_chain c
 spelled_is_cleared v f c d k fits bytes value s = one_spelling v f d (cleared_chain c) s (cleared_spells v f c k fits bytes value)
 
--- Equal bytes are those of equal values.
+-- Equal encodings have equal values.
 pub spelled_alike : (v w : PlacedFields) (f : ℕ) (c d : List ExtHeader) → IsSpelling v f c → IsSpelling w f d → (bytes_of c ≡ bytes_of d) ↔ ((p : Place) → v p ≡ w p)
 spelled_alike v w f c d s t = (
   (λ e p. s.value p ∙ ap (λ l. option_map fields_of (header_in p l)) (search (rules, one_longest, whole_longest)) ∙ sym (t.value p)),

@@ -1,10 +1,10 @@
--- Chains at the prefix of bytes, and the header that goes on.
+-- Chains at the start of bytes, and the next header.
 use Rattle.ip_spec.proofs.Common.{◌≡◌, ℕ, ◌*◌, ◌≤◌, List, [], ◌∷◌, ◌++◌, length, drop, refl, ap, ◌∙◌, arith, true, rules, AllByRecursion, append-nil, length-append, flat_map-append, common_steps, IsHeader, next_header, ExtHeader, AreLinked, leads_to, bytes_of, is_empty, IsChain, IsPrefixChain, IsNext}
 use Rattle.ip_spec.proofs.PrefixLemmas.{prefix_first, prefix_second, prefix_join, prefix-length}
 use Rattle.ip_spec.proofs.HeaderLemmas.{header-least, next_or, one_next}
 use Rattle.ip_spec.proofs.LongestOfLemmas.{Grows, DecidesNext}
 
--- A property of each element holds of each element of a beginning, of the one that follows it, and of both joined.
+-- A property of each element is one of each element of a prefix, of the element after it, and of both joined.
 pub all_first : {X : Type 0} (P : X → Type 0) (c d : List X) → AllByRecursion P (c ++ d) → AllByRecursion P c
 all_first P [] d a = tt
 all_first P (x ∷ c) d a = (a.0, all_first P c d a.1)
@@ -32,7 +32,7 @@ links_more n (g ∷ c) h a e = (a.0, links_more (next_header g.bytes) c h a.1 e)
 pub no_chain : (n : ℕ) → IsChain n []
 no_chain n = record { headers = tt; links = tt; zero_only_first = tt }
 
--- A beginning of a chain is one, and a header that goes on with the number to which a chain leads makes one.
+-- A prefix of a chain is one, and a header with the number to which a chain leads extends it.
 module _ (n : ℕ) (c : List ExtHeader) where
   pub chain_begins : (d : List ExtHeader) → IsChain n (c ++ d) → IsChain n c
   chain_begins d k = search (rules, all_first, links_first)
@@ -50,7 +50,7 @@ module _ (n : ℕ) (c : List ExtHeader) where
     pub chain_more : IsChain n c → h.number ≡ leads_to n c → IsHeader h.number h.bytes → (h.number ≡ 0 → is_empty c ≡ true) → IsChain n (c ++ h ∷ [])
     chain_more k number header zero = search (rules, all_more, links_more)
 
--- What a chain and one more header make.
+-- A chain and one more header.
 pub bytes_of-more : (c : List ExtHeader) (h : ExtHeader) → bytes_of (c ++ h ∷ []) ≡ bytes_of c ++ h.bytes
 bytes_of-more c h = flat_map-append (λ k. k.bytes) c (h ∷ []) ∙ ap (λ x. bytes_of c ++ x) (append-nil h.bytes)
 
@@ -74,11 +74,11 @@ module _ (n : ℕ) (s : List ℕ) where
     one_next = λ c h g p q. one_next (is_empty c) (leads_to n c) (drop (length (bytes_of c)) s) h g (next_of c h p) (next_of c g q);
   }
 
-  -- it can be told whether a header goes on
+  -- it is decidable whether a header follows
   pub chains_decide : DecidesNext (IsPrefixChain n s)
   chains_decide c p = search (rules, next_or (is_empty c) (leads_to n c) (drop (length (bytes_of c)) s), goes_on, next_of)
 
--- each header has 8 bytes at least
+-- each header has at least 8 bytes
 pub bytes_of-least : (c : List ExtHeader) → AllByRecursion (λ h. IsHeader h.number h.bytes) c → 8 * length c ≤ length (bytes_of c)
 bytes_of-least [] a = omega arith
 bytes_of-least (h ∷ c) a = omega (arith, bytes_of-least c a.1, header-least h.number h.bytes a.0, length-append h.bytes (bytes_of c))
@@ -89,10 +89,10 @@ chain-bound n s c p = omega (arith, bytes_of-least c p.chain.headers, prefix-len
 pub no_header_prefix : (n : ℕ) (s : List ℕ) → IsPrefixChain n s []
 no_header_prefix n s = record { chain = no_chain n; prefix = refl }
 
--- the first header of a chain goes on at its prefix
+-- the first header of a chain is the next header at its start
 pub first_next : (n : ℕ) (s : List ℕ) (h : ExtHeader) (c : List ExtHeader) → IsPrefixChain n s (h ∷ c) → IsNext true n s h
 first_next n s h c p = next_of n s [] h (begins n s (h ∷ []) c p)
 
--- the headers behind the first are a chain from the number that it names
+-- the headers after the first are a chain from its next header
 pub tail_chain : (n : ℕ) (h : ExtHeader) (c : List ExtHeader) → IsChain n (h ∷ c) → IsChain (next_header h.bytes) c
 tail_chain n h c k = search rules

@@ -5,12 +5,12 @@ use Rattle.ip_spec.proofs.FitsLemmas.{fits_places}
 use Rattle.ip_spec.proofs.WalkLemmas.{unreached, Joins, joins, there}
 use Rattle.ip_spec.proofs.WalkStepLemmas.{Walking, walk_begins, walks_on, walk_stops, left_some, same_held}
 
--- What is taken out of a place is missing in the sum.
+-- Removing the header of a place subtracts its value from the sum.
 module _ (g : HeaderFields → ℕ) (u w : PlacedFields) where
   pub sum_without : (p : Place) (x : HeaderFields) → u p ≡ Some x → ((q : Place) → w q ≡ without p u q) → sum_placed g w + g x ≡ sum_placed g u
   sum_without p x t e = search rules
 
--- The sum over a chain that fits is that over its places.
+-- The sum over a chain that fits is the sum over its places.
 abbrev of_chain : List ExtHeader → PlacedFields
 of_chain c p = option_map fields_of (header_in p c)
 
@@ -37,7 +37,7 @@ module _ (g : HeaderFields → ℕ) where
   pub sum_of_chain : (f : ℕ) (c : List ExtHeader) → IsChain f c → FitsPlaces c → sum_of c ≡ sum_placed g (of_chain c)
   sum_of_chain f c = sum_from f [] c refl
 
--- The fields tell the length of a header.
+-- The fields determine the length of a header.
 pub len_said : (h : ExtHeader) → IsHeader h.number h.bytes → length h.bytes ≡ fields_len (fields_of h)
 len_said h k = search rules
 
@@ -45,11 +45,11 @@ bytes_sum : (c : List ExtHeader) → AllByRecursion (λ h. IsHeader h.number h.b
 bytes_sum [] a = refl
 bytes_sum (h ∷ c) a = omega (arith, length-append h.bytes (bytes_of c), len_said h a.0, bytes_sum c a.1, sum_by-append (λ k. fields_len (fields_of k)) (h ∷ []) c)
 
--- the bytes of a chain are as many as its value says
+-- the length of a chain's bytes is that of its value
 pub bytes_len : (v : PlacedFields) (f : ℕ) (c : List ExtHeader) → IsChain f c → FitsPlaces c → IsValueOf c v → length (bytes_of c) ≡ placed_len v
 bytes_len v f c k fits value = bytes_sum c k.headers ∙ sum_of_chain fields_len f c k fits ∙ ap placed_len (sym (same_held v (of_chain c) value))
 
--- Whether a header goes on from what is left.
+-- A header follows from what is left, or none.
 pub data Going (u : PlacedFields) (first behind : Bool) (m : ℕ) : Type 0 where
   ends : ((p : Place) → next_place first behind m ≡ Some p → u p ≡ None) → Going u first behind m
   goes : (p : Place) (x : HeaderFields) → next_place first behind m ≡ Some p → u p ≡ Some x → Going u first behind m
@@ -66,7 +66,7 @@ module _ (u : PlacedFields) (first behind : Bool) (m : ℕ) where
   pub going : Going u first behind m
   going = going_to (next_place first behind m) refl
 
--- A value of which each header can be written reaches something.
+-- A value whose headers can all be written reaches some chain.
 module _ (v : PlacedFields) (f : ℕ) (e : IsEncodable v) where
   some_from : (k : ℕ) (c : List ExtHeader) (u : PlacedFields) (m : ℕ) (first behind : Bool) → Walking v f c u m first behind → sum_placed (λ x. 1) u ≤ k → Going u first behind m → (d : List ExtHeader) × IsLongestOf (IsReachable v f) d
   some_from k c u m first behind w l (ends none) = (c, walk_stops v f c u m first behind w none)

@@ -1,4 +1,4 @@
--- Chains under a demand: what goes on, the longest, and what it is of the longest without a demand.
+-- Chains under a demand: the next header, the longest, and its relation to the longest without a demand.
 use Rattle.ip_spec.proofs.Common.{◌≡◌, ℕ, ◌≤◌, List, [], ◌∷◌, ◌++◌, length, drop, ap, arith, inl, take-length, drop-length, IsPrefix, ExtHeader, leads_to, bytes_of, is_empty, IsChain, IsPrefixChain, IsLongestChain, IsNext, IsDemand, KeepsBeginning, IsLongestUnder, IsEndUnder, NoDemand}
 use Rattle.ip_spec.proofs.PrefixLemmas.{prefix-length}
 use Rattle.ip_spec.proofs.HeaderLemmas.{header-least}
@@ -13,7 +13,7 @@ module _ (Q : List ExtHeader → Type 0) (k : IsDemand Q) (n : ℕ) (s : List �
   pub goes_on_under : (c : List ExtHeader) (h : ExtHeader) → IsUnder Q (IsPrefixChain n s) c → IsNext (is_empty c) (leads_to n c) (drop (length (bytes_of c)) s) h → Q (c ++ h ∷ []) → IsUnder Q (IsPrefixChain n s) (c ++ h ∷ [])
   goes_on_under c h p x q = (goes_on n s c h p.0 x, q)
 
-  -- where no header goes on with the demand still met, the chain is the longest, and the other way round
+  -- if no header follows that still meets the demand, the chain is the longest, and vice versa
   pub longest_at_end_under : (c : List ExtHeader) → IsUnder Q (IsPrefixChain n s) c → IsEndUnder Q c (leads_to n c) (drop (length (bytes_of c)) s) → IsLongestUnder Q n s c
   longest_at_end_under c p e = longest_where_none_next (IsUnder Q (IsPrefixChain n s)) chains_grow_under c p (λ h u. e h (next_of n s c h u.0) u.1)
 
@@ -43,7 +43,7 @@ whole_longest_under Q k n c chain q =
     longest_at_end_under Q k n (bytes_of c) c (record { chain = chain; prefix = whole }, q)
     (λ h x m. absurd (omega (arith, header-least (leads_to n c) h.bytes x.header, prefix-length h.bytes (drop (length (bytes_of c)) (bytes_of c)) x.prefix, ap length (drop-length (bytes_of c)))))
 
--- No demand leaves the chains as they are.
+-- Without a demand the chains are the same.
 pub no_demand : IsDemand NoDemand
 no_demand = record { empty = tt; begins = λ c d q. tt; decided = λ c. inl tt }
 

@@ -1,4 +1,4 @@
--- What a value shows, reaches and spells from a number.
+-- The fields that a value has, the headers that it reaches and its encoding, from a number.
 use Rattle.ip_spec.proofs.Common.{◌≡◌, ℕ, List, [], ◌∷◌, ◌++◌, ap, sym, ◌∙◌, inl, inr, subst, append_assoc, true, false, rules, Option, Some, None, is_some, ◌==◌, if◌then◌else◌, option_map, cases_Bool, same_Some, append-nil, IsHeader, IsLongestOf, ExtHeader, leads_to, is_empty, IsChain, FitsPlaces, Place, index, header_in, place_of, fields_of, IsCleared, PlacedFields, IsReachable}
 use Rattle.ip_spec.proofs.LongestOfLemmas.{Grows, one_longest_of}
 use Rattle.ip_spec.proofs.StepLemmas.{all_first, all_next, chain_begins, chain_number, chain_header, chain_zero}
@@ -20,7 +20,7 @@ is_some-map f o = search rules
 abbrev pub unreached : PlacedFields → List ExtHeader → PlacedFields
 unreached v c p = if is_some (header_in p c) then None else v p
 
--- One more header of a chain that fits: its place was free, it stands there, and the others stay.
+-- One more header of a chain that fits: its place was free and is now occupied, and the others are unchanged.
 pub record Joins (f : ℕ) (c : List ExtHeader) (x : ExtHeader) : Type 0 where
   pub place : Place
   pub at : place_of x.number (has_routing c) ≡ Some place
@@ -37,16 +37,16 @@ joins f c x k fits =
     record { place = own.0; at = own.1; free = free; joined = placed c x own.0 own.1 free }
 
 module _ {f : ℕ} {c : List ExtHeader} {x : ExtHeader} (j : Joins f c x) where
-  -- it stands in its place
+  -- it is in its place
   pub there : header_in j.place (c ++ x ∷ []) ≡ Some x
   there = search rules
 
-  -- and what stood in a place stands there
+  -- the header in a place stays there
   pub kept : (p : Place) (h : ExtHeader) → header_in p c ≡ Some h → header_in p (c ++ x ∷ []) ≡ Some h
   kept p h e = search rules
 
 module _ (v : PlacedFields) (f : ℕ) where
-  -- The header that comes next stands in v, in the place of the number reached.
+  -- The next header is in v, in the place of the number reached.
   pub record Next (c : List ExtHeader) (x : ExtHeader) : Type 0 where
     pub number : x.number ≡ leads_to f c
     pub header : IsHeader x.number x.bytes

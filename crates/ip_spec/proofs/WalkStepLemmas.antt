@@ -6,8 +6,8 @@ use Rattle.ip_spec.proofs.FirstLemmas.{find_more-yes, find_more-no}
 use Rattle.ip_spec.proofs.PlaceLemmas.{has_routing, place_number, placed, fits_more}
 use Rattle.ip_spec.proofs.WalkLemmas.{unreached, none_if, there, Next, next_shown, shown_grows}
 
--- Headers c were reached from f and taken out of v, which leaves u. They lead to m; `first` tells that there is
--- none, `behind` that a routing header is one of them.
+-- Headers c were reached from f and taken out of v, which leaves u. They lead to m; `first` says that there are none,
+-- `behind` that one of them is a routing header.
 pub record Walking (v : PlacedFields) (f : ℕ) (c : List ExtHeader) (u : PlacedFields) (m : ℕ) (first behind : Bool) : Type 0 where
   pub in_value : IsReachable v f c
   pub left : (p : Place) → u p ≡ unreached v c p
@@ -18,21 +18,21 @@ pub record Walking (v : PlacedFields) (f : ℕ) (c : List ExtHeader) (u : Placed
 pub walk_begins : (v : PlacedFields) (f : ℕ) (u : PlacedFields) → ((p : Place) → u p ≡ v p) → Walking v f [] u f true false
 walk_begins v f u e = search rules
 
--- what a place that is left says
+-- the fields in a place that is left
 pub left_some : (o : Option ExtHeader) (y : Option HeaderFields) (x : HeaderFields) → (if is_some o then None else y) ≡ Some x → (is_some o ≡ false) × (y ≡ Some x)
 left_some o y x e = search rules
 
 next_place_is : (z first : Bool) (o : Option Place) (p : Place) → (if z && not first then None else o) ≡ Some p → (o ≡ Some p) × (z ≡ true → first ≡ true)
 next_place_is z first o p e = search rules
 
--- values that say the same in each place are one
+-- values with equal places are equal
 pub same_held : (v w : PlacedFields) → ((p : Place) → v p ≡ w p) → v ≡ w
 same_held v w e = λ i p. e p i
 
 pub not_empty : (c : List ExtHeader) (h : ExtHeader) → false ≡ is_empty (c ++ h ∷ [])
 not_empty c h = grind (arith, common_steps)
 
--- a routing header is there where one was, or where this is one
+-- a routing header is present if one was, or if this is one
 routing_more : (c : List ExtHeader) (h : ExtHeader) → has_routing c || (h.number == 43) ≡ has_routing (c ++ h ∷ [])
 routing_more c h = search (rules, eqb_tells, or-true, find_more-yes, or-false, find_more-no)
 
@@ -42,7 +42,7 @@ module _ (c : List ExtHeader) (h : ExtHeader) (p : Place) (joined : (q : Place) 
   left_more v q = search rules
 
 module _ (v : PlacedFields) (f : ℕ) (c : List ExtHeader) (u : PlacedFields) (m : ℕ) (first behind : Bool) (k : Walking v f c u m first behind) where
-  -- A header h goes on: it stands in the place of m, and was left there.
+  -- A header h follows: it is in the place of m, and was left there.
   pub walks_on : (p : Place) (x : HeaderFields) (h : ExtHeader) → next_place first behind m ≡ Some p → u p ≡ Some x → IsEncoded (number_in p) x h
       → (w : PlacedFields) (n : ℕ) (early past : Bool) → ((q : Place) → w q ≡ without p u q) → n ≡ next_header h.bytes → early ≡ false → past ≡ (behind || (m == 43))
       → Walking v f (c ++ h ∷ []) w n early past
@@ -67,7 +67,7 @@ module _ (v : PlacedFields) (f : ℕ) (c : List ExtHeader) (u : PlacedFields) (m
         behind_is = ep ∙ ap (λ b. b || (m == 43)) k.behind_is ∙ ap (λ j. has_routing c || (j == 43)) (sym same) ∙ routing_more c h;
       }
 
-  -- None goes on: what was reached is all that is.
+  -- None follows: the headers reached are all.
   pub walk_stops : ((p : Place) → next_place first behind m ≡ Some p → u p ≡ None) → IsLongestOf (IsReachable v f) c
   walk_stops none =
       longest_where_none_next (IsReachable v f) (shown_grows v f) c k.in_value

@@ -1,9 +1,9 @@
--- A header at the prefix of bytes, with its fields.
+-- A header at the start of bytes, with its fields.
 use Rattle.std.specs.Prelude.{◌≡◌, ◌++◌, ℕ, List}
 use Rattle.ip_spec.specs.Header.{IsRawHeader, IsFragmentHeader, IsAuthHeader}
 use Rattle.ip_spec.specs.Fields.{RawFields, FragmentFields, AuthFields, raw_fields, fragment_fields, auth_fields}
 
--- Bytes s are a header whose fields are v, and the rest r behind it.
+-- Bytes s are a header whose fields are v, followed by the rest r.
 module _ {V : Type 0} (IsOne : List ℕ → Type 0) (fields_of : List ℕ → V) where
   pub record IsDecoding (s : List ℕ) (v : V) (r : List ℕ) : Type 0 where
     pub bytes : List ℕ

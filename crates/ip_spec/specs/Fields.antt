@@ -1,13 +1,12 @@
--- The fields of a header's bytes, big endian, and what a header says: its fields together. Byte 0 of each header is
--- the number of what follows it.
+-- The fields of a header, in network byte order. Byte 0 of each header is the next header.
 use Rattle.std.specs.Prelude.{ℕ, ◌+◌, ◌*◌, ◌/◌, ◌==◌, ◌||◌, not, Bool, List, length, drop, slice_index, slice_range, bit_and}
 use Rattle.std.specs.Int.{from_be_bytes, w32}
 
 abbrev pub next_header : List ℕ → ℕ
 next_header b = slice_index b 0
 
--- of hop by hop options, routing and destination options (RFC 8200, sections 4.3, 4.4, 4.6): the number of
--- what follows the header, and the bytes behind the length
+-- of hop-by-hop options, routing and destination options (RFC 8200, sections 4.3, 4.4, 4.6): the next header, and the
+-- bytes after the length
 pub record RawFields : Type 0 where
   pub next_header : ℕ
   pub payload : List ℕ
@@ -15,21 +14,21 @@ pub record RawFields : Type 0 where
 abbrev pub raw_fields : List ℕ → RawFields
 raw_fields b = record { next_header = next_header b; payload = drop 2 b }
 
--- The bits of bytes 2 and 3 of a fragment header (RFC 8200, section 4.5): the offset is byte 2 above the 5 high bits
--- of byte 3,
+-- The bits of bytes 2 and 3 of a fragment header (RFC 8200, section 4.5): the offset is byte 2 followed by the 5 high
+-- bits of byte 3.
 abbrev pub offset_bits : ℕ → ℕ → ℕ
 offset_bits high low = 32 * high + bit_and low 0xf8 / 8
 
--- the flag is the low bit of byte 3,
+-- The flag is the low bit of byte 3.
 abbrev pub flag_bit : ℕ → Bool
 flag_bit low = not (bit_and low 0x01 == 0)
 
--- and this is byte 3 with its reserved bits put to zero.
+-- Byte 3 with its reserved bits set to zero.
 abbrev pub unreserved_bits : ℕ → ℕ
 unreserved_bits low = bit_and low 0xf9
 
--- of a fragment header (RFC 8200, section 4.5): where the fragment lies in the payload, in units of 8 bytes, whether
--- more fragments follow, and the packet's identification
+-- of a fragment header (RFC 8200, section 4.5): the fragment offset, in units of 8 bytes, whether more fragments
+-- follow, and the packet's identification
 pub record FragmentFields : Type 0 where
   pub next_header : ℕ
   pub fragment_offset : ℕ
@@ -44,15 +43,15 @@ fragment_fields b = record {
   identification = from_be_bytes w32 (slice_range b 4 8);
 }
 
--- The packet has a fragment of a payload, and not the whole: more follow, or it doesn't begin the payload.
+-- The packet is a fragment: more fragments follow, or the offset is not 0.
 abbrev pub is_fragment : Bool → ℕ → Bool
 is_fragment more offset = more || not (offset == 0)
 
 abbrev pub is_fragmenting : List ℕ → Bool
 is_fragmenting b = is_fragment (fragment_fields b).more_fragments (fragment_fields b).fragment_offset
 
--- of an authentication header (RFC 4302, sections 2.4 to 2.6): with the security parameters index (spi), the
--- sequence number and the integrity check value (icv)
+-- of an authentication header (RFC 4302, sections 2.4 to 2.6): the security parameters index (spi), the sequence
+-- number and the integrity check value (icv)
 pub record AuthFields : Type 0 where
   pub next_header : ℕ
   pub spi : ℕ
@@ -67,7 +66,7 @@ auth_fields b = record {
   raw_icv = drop 12 b;
 }
 
--- how many bytes a header of these fields has
+-- the length in bytes of a header with these fields
 abbrev pub raw_len : RawFields → ℕ
 raw_len v = 2 + length v.payload
 

@@ -1,13 +1,13 @@
--- Chains whose headers fit the six places, and numbers that are taken behind them.
+-- Chains whose headers fit the six places, and numbers whose place is occupied after them.
 use Rattle.std.specs.Prelude.{◌≡◌, ℕ, ◌≤◌, List, [], ◌∷◌, ◌++◌, count_by, ◌==◌}
 use Rattle.ip_spec.specs.Chain.{ExtHeader}
 use Rattle.ip_spec.specs.Header.{IsLaterNumber}
 use Rattle.ip_spec.specs.Places.{Place, number_in, side_of}
 
--- at most one header stands in each place
+-- each place has at most one header
 abbrev pub FitsPlaces : List ExtHeader → Type 0
 FitsPlaces c = (p : Place) → count_by (λ h. h.number == number_in p) (side_of p c) ≤ 1
 
--- m is 43, 44, 51 or 60, and no header of number m fits behind c
+-- m is 43, 44, 51 or 60, and no header of number m fits after c
 abbrev pub IsTaken : ℕ → List ExtHeader → Type 0
 IsTaken m c = IsLaterNumber m × ((h : ExtHeader) → h.number ≡ m → FitsPlaces (c ++ h ∷ []) → ⊥)

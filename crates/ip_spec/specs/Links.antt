@@ -11,14 +11,14 @@ relinked m (raw_header x) = raw_header (record x { next_header = m })
 relinked m (fragment_header x) = fragment_header (record x { next_header = m })
 relinked m (auth_header x) = auth_header (record x { next_header = m })
 
--- the number of the first of the places in which v says something, or m where there is none
+-- the number of the first of the places in which v has a header, or m if there is none
 abbrev pub first_number : PlacedFields → List Place → ℕ → ℕ
 first_number v ps m = option_map_or number_in (find (λ p. is_some (v p)) ps) m
 
--- the places that stand behind one
+-- the places after one
 abbrev pub places_behind : Place → List Place
 places_behind p = drop (index p + 1) places
 
--- v with each header leading to the next one that is there, and the last to m
+-- v with each header leading to the next one, and the last to m
 abbrev pub linked : PlacedFields → ℕ → PlacedFields
 linked v m p = option_map (relinked (first_number v (places_behind p) m)) (v p)

@@ -1,7 +1,7 @@
 -- The longest of the lists that have a property.
 use Rattle.std.specs.Prelude.{◌≢◌, ◌<◌, List, length}
 
--- c has the property P, and is longer than every other list that has it
+-- c has the property P, and is longer than any other list that has it
 pub record IsLongestOf {X : Type 0} (P : List X → Type 0) (c : List X) : Type 0 where
   pub has : P c
   pub longest : (d : List X) → P d → d ≢ c → length d < length c

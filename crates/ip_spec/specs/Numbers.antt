@@ -16,10 +16,10 @@ AUTHENTICATION = 51
 abbrev pub DESTINATION_OPTIONS : ℕ
 DESTINATION_OPTIONS = 60
 
--- nothing follows (RFC 8200, section 4.7)
+-- no next header (RFC 8200, section 4.7)
 abbrev pub NO_NEXT_HEADER : ℕ
 NO_NEXT_HEADER = 59
 
--- user datagrams
+-- the User Datagram Protocol
 abbrev pub UDP : ℕ
 UDP = 17

@@ -1,29 +1,29 @@
--- What a parse answers, of any form: the value of a chain, the number to which it leads, the bytes behind it, and
--- the fault there.
+-- The result of a parse in any form: the value of a chain, the number to which it leads, the bytes after it, and the
+-- error there.
 use Rattle.std.specs.Prelude.{◌≡◌, ℕ, List, Option, length, drop}
 use Rattle.ip_spec.specs.Encoding.{AreBytes}
 use Rattle.ip_spec.specs.Chain.{ExtHeader, leads_to, bytes_of}
 use Rattle.ip_spec.specs.Demand.{IsLongestUnder}
 
--- what is left of s behind the chain c, whose bytes begin it
+-- the rest of s after the chain c, whose bytes are its prefix
 abbrev pub rest_behind : List ExtHeader → List ℕ → List ℕ
 rest_behind c s = drop (length (bytes_of c)) s
 
--- The fault behind the chain c from n, whose bytes begin s. `faults` tells it for each chain, by the number to which
--- the chain leads and what is left behind it.
+-- The error after the chain c from n, whose bytes are a prefix of s. `faults` computes it for each chain, from the
+-- number to which the chain leads and the rest after it.
 abbrev pub fault_behind : {F : Type 0} → (List ExtHeader → ℕ → List ℕ → Option F) → List ExtHeader → ℕ → List ℕ → Option F
 fault_behind faults c n s = faults c (leads_to n c) (rest_behind c s)
 
--- The answer for the chain c, from number n off the front of bytes s: its value x, the number m to which it leads,
--- the rest r behind it, and the fault f there.
+-- The result for the chain c from number n at the start of bytes s: its value x, the number m to which it leads, the
+-- rest r after it, and the error f there.
 pub record IsAnswer {X F : Type 0} (value_of : List ExtHeader → X) (faults : List ExtHeader → ℕ → List ℕ → Option F) (c : List ExtHeader) (n : ℕ) (s : List ℕ) (x : X) (m : ℕ) (r : List ℕ) (f : Option F) : Type 0 where
   pub value : x ≡ value_of c
   pub number : m ≡ leads_to n c
   pub rest : r ≡ rest_behind c s
   pub fault : f ≡ fault_behind faults c n s
 
--- Bytes s are read from number n with nothing left: the longest chain under the demand Q takes all of them and leads
--- to m, and its value is the one that V tells.
+-- Bytes s parse from number n with nothing left: the longest chain under the demand Q is all of them and leads to m,
+-- and its value meets V.
 pub record IsRead (Q V : List ExtHeader → Type 0) (n m : ℕ) (s : List ℕ) : Type 0 where
   pub bytes : AreBytes s
   pub chain : List ExtHeader

@@ -18,7 +18,7 @@ pub data Place : Type 0 where
 abbrev pub places : List Place
 places = hop_by_hop ∷ destination ∷ routing ∷ fragment ∷ authentication ∷ final_destination ∷ []
 
--- where it stands among them
+-- its index among them
 abbrev pub index : Place → ℕ
 index hop_by_hop = 0
 index destination = 1
@@ -27,7 +27,7 @@ index fragment = 3
 index authentication = 4
 index final_destination = 5
 
--- the number of the headers that stand in a place
+-- the number of the headers of a place
 abbrev pub number_in : Place → ℕ
 number_in hop_by_hop = HOP_BY_HOP
 number_in destination = DESTINATION_OPTIONS
@@ -36,18 +36,18 @@ number_in fragment = FRAGMENT
 number_in authentication = AUTHENTICATION
 number_in final_destination = DESTINATION_OPTIONS
 
--- the part of a chain in which the header of a place stands: of destination options what is before the first
--- routing header, or all where there is none; of the final ones what is after it, or nothing; else all
+-- the part of a chain that contains the header of a place: for destination options the headers before the first
+-- routing header, or all if there is none; for the final ones those after it, or none; otherwise all
 abbrev pub side_of : Place → List ExtHeader → List ExtHeader
 side_of destination c = before_first (λ h. h.number == ROUTING) c
 side_of final_destination c = after_first (λ h. h.number == ROUTING) c
 side_of p c = c
 
--- the header of the chain c that stands in a place
+-- the header of the chain c in a place
 abbrev pub header_in : Place → List ExtHeader → Option ExtHeader
 header_in p c = find (λ h. h.number == number_in p) (side_of p c)
 
--- what a header says
+-- a header's fields
 pub data HeaderFields : Type 0 where
   raw_header : RawFields → HeaderFields
   fragment_header : FragmentFields → HeaderFields
@@ -59,10 +59,10 @@ fields_of h =
     else if h.number == AUTHENTICATION then auth_header (auth_fields h.bytes)
     else raw_header (raw_fields h.bytes)
 
--- the place of a header of number m, behind a routing header or not
+-- the place of a header of number m, after a routing header or not
 abbrev pub place_of : ℕ → Bool → Option Place
 place_of m behind_routing = find (λ p. number_in p == m) (if behind_routing then final_destination ∷ places else places)
 
--- whether m isn't 0 and its place behind the chain c is filled
+-- m is not 0, and its place after the chain c is occupied
 abbrev pub is_taken : ℕ → List ExtHeader → Bool
 is_taken m c = not (m == HOP_BY_HOP) && option_map_or (λ p. is_some (header_in p c)) (place_of m (is_some (header_in routing c))) false

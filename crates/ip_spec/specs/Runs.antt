@@ -1,4 +1,4 @@
--- A chain cut into runs, each of which fits six places. RFC 8200, section 4.1, has each extension header once in
+-- A chain split into runs, each of which fits six places. RFC 8200, section 4.1, allows each extension header once in
 -- a packet and destination options twice; a chain with more of them is several such runs.
 use Rattle.std.specs.Prelude.{◌≡◌, ◌≢◌, ℕ, suc, List, [], ◌∷◌, ◌++◌, length, drop, ⊤}
 use Rattle.std.specs.List.{flat_map, AllByRecursion}
@@ -10,45 +10,45 @@ use Rattle.ip_spec.specs.Fits.{FitsPlaces, IsTaken}
 abbrev pub joined : {X : Type 0} → List (List X) → List X
 joined ps = flat_map (λ p. p) ps
 
--- how many of the pieces aren't empty
+-- the number of nonempty pieces
 abbrev pub how_many : {X : Type 0} → List (List X) → ℕ
 how_many [] = 0
 how_many ([] ∷ ps) = how_many ps
 how_many ((x ∷ p) ∷ ps) = suc (how_many ps)
 
--- the last piece, or the empty list where there is none
+-- the last piece, or the empty list if there is none
 abbrev pub last_piece : {X : Type 0} → List (List X) → List X
 last_piece [] = []
 last_piece (p ∷ []) = p
 last_piece (p ∷ q ∷ ps) = last_piece (q ∷ ps)
 
--- behind each piece, the first element of the next breaks the demand Q
+-- after each piece, the first element of the next breaks the demand Q
 abbrev pub EachBreaks : {X : Type 0} → (List X → Type 0) → List (List X) → Type 0
 EachBreaks Q [] = ⊤
 EachBreaks Q (p ∷ ps) = NextBreaks Q p (joined ps) × EachBreaks Q ps
 
--- The list c is cut under the demand Q: into pieces that aren't empty and meet Q, and each with the first
--- element of the next behind it breaks Q.
+-- The list c is partitioned under the demand Q: into nonempty pieces that meet Q, and each followed by the first
+-- element of the next breaks Q.
 pub record IsCut {X : Type 0} (Q : List X → Type 0) (c : List X) (ps : List (List X)) : Type 0 where
   pub whole : joined ps ≡ c
   pub filled : AllByRecursion (λ p. p ≢ []) ps
   pub meets : AllByRecursion Q ps
   pub breaks : EachBreaks Q ps
 
--- The runs of a chain c that leads to m are its cut into pieces that fit six places. An empty one is behind them
--- where m is taken in the last, and the empty chain has one empty run.
+-- The runs of a chain c that leads to m are its partition into pieces that fit six places. An empty run follows if
+-- the place of m is occupied in the last one, and the empty chain has one empty run.
 pub data AreRuns (m : ℕ) (c : List ExtHeader) (ps : List (List ExtHeader)) : Type 0 where
   none : c ≡ [] → ps ≡ [] ∷ [] → AreRuns m c ps
   cut : c ≢ [] → IsCut FitsPlaces c ps → (IsTaken m (last_piece ps) → ⊥) → AreRuns m c ps
   one_more : (cut : List (List ExtHeader)) → IsCut FitsPlaces c cut → IsTaken m (last_piece cut) → ps ≡ cut ++ [] ∷ [] → AreRuns m c ps
 
--- each run is a chain, from the number to which the one before leads
+-- each run is a chain, from the number to which the one before it leads
 abbrev pub AreChains : ℕ → List (List ExtHeader) → Type 0
 AreChains n [] = ⊤
 AreChains n (p ∷ ps) = IsChain n p × AreChains (leads_to n p) ps
 
--- The first run is the longest chain from n that begins s and fits, and the next the one from the number and at
--- the bytes that it leaves, and so on until the number isn't taken.
+-- The first run is the longest chain from n at the start of s that fits. The next is the one from the number and at
+-- the bytes that it leaves, and so on until the place of the number is free.
 abbrev pub AreLongestFitting : ℕ → List ℕ → List (List ExtHeader) → Type 0
 AreLongestFitting n s [] = ⊥
 AreLongestFitting n s (p ∷ []) = IsLongestUnder FitsPlaces n s p × (IsTaken (leads_to n p) p → ⊥)

@@ -1,4 +1,4 @@
--- What a value of six places spells, what of it is reached from a number, and what the walk answers.
+-- The encoding of a value of six places, the headers that it reaches from a number, and the result of a walk.
 use Rattle.std.specs.Prelude.{◌≡◌, ℕ, List, ◌==◌, ◌&&◌, Option, Some, None, is_some, if◌then◌else◌}
 use Rattle.std.specs.List.{find, AllByRecursion}
 use Rattle.std.specs.Option.{option_map, option_map_or, ForSome}
@@ -13,7 +13,7 @@ use Rattle.ip_spec.specs.Places.{Place, hop_by_hop, places, number_in, header_in
 abbrev pub PlacedFields : Type 0
 PlacedFields = Place → Option HeaderFields
 
--- the value of the chain c is v: in each place the fields of its header there, and nothing else
+-- the value of the chain c is v: each place has the fields of its header there, and nothing else
 abbrev pub IsValueOf : List ExtHeader → PlacedFields → Type 0
 IsValueOf c v = (p : Place) → v p ≡ option_map fields_of (header_in p c)
 
@@ -25,26 +25,26 @@ pub record IsReachable (v : PlacedFields) (f : ℕ) (c : List ExtHeader) : Type 
   pub in_value : (p : Place) → ForSome (header_in p c) (λ h. v p ≡ Some (fields_of h))
   pub cleared : AllByRecursion IsCleared c
 
--- The chain c from f spells v: it is reachable in v, and v has nothing else.
+-- The chain c from f encodes v: it is reachable in v, and v has nothing else.
 pub record IsSpelling (v : PlacedFields) (f : ℕ) (c : List ExtHeader) : Type 0 where
   pub reachable : IsReachable v f c
   pub value : IsValueOf c v
 
--- The answer of a walk: the number to which it leads, or why not all headers are reached.
+-- The result of a walk: the number to which it leads, or why not all headers are reached.
 pub data WalkAnswer : Type 0 where
   leads : ℕ → WalkAnswer
   hop_by_hop_not_at_start : WalkAnswer
   not_referenced : ℕ → WalkAnswer
 
--- The answer where the reach leads to m and leaves u, by the first test that holds: nothing is left; m is 0 and
--- hop by hop options are left; else the first header left, in the order of the places, isn't referenced.
+-- The result if the headers reached lead to m and leave u, by the first check that holds: nothing is left; m is 0 and
+-- hop-by-hop options are left; otherwise no header refers to the first one left, in the order of the places.
 abbrev pub answer_at : ℕ → PlacedFields → WalkAnswer
 answer_at m u =
     option_map_or (λ p. if (m == HOP_BY_HOP) && is_some (u hop_by_hop) then hop_by_hop_not_at_start else not_referenced (number_in p))
     (find (λ p. is_some (u p)) places) (leads m)
 
--- a is the answer of the walk through v from f: its reach is the longest chain that is reachable, and it leaves what v
--- has in the places that the reach doesn't fill
+-- a is the result of the walk over v from f: the headers that it reaches are the longest reachable chain, and it
+-- leaves the fields of v in the places that this chain doesn't fill
 pub record IsWalkAnswer (v : PlacedFields) (f : ℕ) (a : WalkAnswer) : Type 0 where
   pub reach : List ExtHeader
   pub is_reach : IsLongestOf (IsReachable v f) reach

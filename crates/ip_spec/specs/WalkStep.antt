@@ -1,20 +1,20 @@
--- One step of a walk along the next numbers of headers.
+-- One step of a walk along the next header numbers.
 use Rattle.std.specs.Prelude.{ℕ, List, Bool, ◌==◌, ◌&&◌, not, Option, None, if◌then◌else◌}
 use Rattle.ip_spec.specs.Numbers.{HOP_BY_HOP}
 use Rattle.ip_spec.specs.Encoding.{IsRawEncoding, IsFragmentEncoding, IsAuthEncoding}
 use Rattle.ip_spec.specs.Places.{Place, index, place_of, HeaderFields, raw_header, fragment_header, auth_header}
 use Rattle.ip_spec.specs.Walk.{PlacedFields}
 
--- the place of a header that goes on with number m, behind a routing header or not; 0 goes on only first
+-- the place of a header of number m, after a routing header or not; 0 has one only at the start
 abbrev pub next_place : Bool → Bool → ℕ → Option Place
 next_place first behind_routing m =
     if (m == HOP_BY_HOP) && not first then None else place_of m behind_routing
 
--- u with nothing in the place p
+-- u with the place p empty
 abbrev pub without : Place → PlacedFields → PlacedFields
 without p u q = if index p == index q then None else u q
 
--- the number of what follows the header
+-- the next header
 abbrev pub next_of : HeaderFields → ℕ
 next_of (raw_header x) = x.next_header
 next_of (fragment_header x) = x.next_header

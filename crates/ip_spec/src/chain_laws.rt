@@ -1,14 +1,14 @@
 ghost use Rattle.std.specs.Prelude.{◌≡◌, ℕ, List, length, drop};
 ghost use Rattle.ip_spec.specs.Chain.{ExtHeader, IsLongestChain, leads_to, bytes_of, is_empty, IsEnd};
 
-/// From each number, exactly one longest chain begins all bytes.
+/// Proves that bytes have exactly one longest chain from each number.
 pub fn one_longest_chain()
     ensures some { (n : ℕ) (s : List ℕ) → (c : List ExtHeader) × IsLongestChain n s c }
     ensures only { (n : ℕ) (s : List ℕ) (c d : List ExtHeader) → IsLongestChain n s c
         → IsLongestChain n s d → c ≡ d }
 {}
 
-/// Where a longest chain ends, no header goes on.
+/// Proves that no header follows a longest chain.
 pub fn longest_chain_ends()
     ensures { (n : ℕ) (s : List ℕ) (c : List ExtHeader) → IsLongestChain n s c
         → IsEnd (is_empty c) (leads_to n c) (drop (length (bytes_of c)) s) }

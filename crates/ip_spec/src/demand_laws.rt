@@ -6,7 +6,7 @@ ghost use Rattle.ip_spec.specs.Fits.{FitsPlaces, IsTaken};
 ghost use Rattle.ip_spec.specs.NumbersFit.{NumbersFit, numbers_of, in_place};
 ghost use Rattle.ip_spec.specs.Places.{is_taken};
 
-/// Under each demand, from each number, exactly one longest chain begins all bytes.
+/// Proves that bytes have exactly one longest chain from each number under each demand.
 pub fn one_longest_chain_under_a_demand()
     ensures some { (q : List ExtHeader → Bool) → IsDemand (Passes q) → (n : ℕ) (s : List ℕ)
         → (c : List ExtHeader) × IsLongestUnder (Passes q) n s c }
@@ -15,7 +15,7 @@ pub fn one_longest_chain_under_a_demand()
         → IsLongestUnder (Passes q) n s c → IsLongestUnder (Passes q) n s d → c ≡ d }
 {}
 
-/// Of the longest chain, a demand keeps the longest chain under it, and nothing else.
+/// Proves that a demand keeps exactly the longest chain under it, of the longest chain.
 pub fn demand_keeps_its_longest_chain()
     ensures longest { (q : List ExtHeader → Bool) → IsDemand (Passes q)
         → (n : ℕ) (s : List ℕ) (d c : List ExtHeader)
@@ -25,7 +25,7 @@ pub fn demand_keeps_its_longest_chain()
         → IsLongestChain n s d → KeepsBeginning (Passes q) d c → IsLongestUnder (Passes q) n s c }
 {}
 
-/// Where a longest chain under a demand ends, no header goes on with which the demand is still met.
+/// Proves that no header that still meets the demand follows a longest chain under it.
 pub fn longest_chain_under_a_demand_ends()
     ensures { (q : List ExtHeader → Bool) → IsDemand (Passes q)
         → (n : ℕ) (s : List ℕ) (c : List ExtHeader)
@@ -33,7 +33,7 @@ pub fn longest_chain_under_a_demand_ends()
         → IsEndUnder (Passes q) c (leads_to n c) (drop (length (bytes_of c)) s) }
 {}
 
-/// Of bytes that are cut short, the longest chain is the headers of the whole's longest that lie within them.
+/// Proves that the longest chain of truncated bytes is the headers of the whole's longest chain that lie within them.
 pub fn shorter_bytes_keep_whole_headers()
     ensures { (q : List ExtHeader → Bool) → IsDemand (Passes q)
         → (n j : ℕ) (s : List ℕ) (d c : List ExtHeader)
@@ -41,7 +41,7 @@ pub fn shorter_bytes_keep_whole_headers()
         → c ≡ headers_within j d }
 {}
 
-/// Four demands.
+/// Proves that four predicates are demands.
 pub fn demands()
     ensures none { IsDemand NoDemand }
     ensures at_most { (k : ℕ) → IsDemand (AtMost k) }
@@ -49,7 +49,8 @@ pub fn demands()
     ensures fits_places { IsDemand FitsPlaces }
 {}
 
-/// Under no demand it is the longest chain, and under that of at most k headers the first k of it.
+/// Proves that the longest chain under no demand is the longest chain, and under that of at most k headers its first
+/// k.
 pub fn longest_chains_under_demands()
     ensures none { (n : ℕ) (s : List ℕ) (c : List ExtHeader) → IsLongestUnder NoDemand n s c
         ↔ IsLongestChain n s c }
@@ -57,7 +58,7 @@ pub fn longest_chains_under_demands()
         → IsLongestUnder (AtMost k) n s (take k d) }
 {}
 
-/// In six places, exactly one longest chain fits.
+/// Proves that exactly one longest chain fits six places.
 pub fn one_longest_fitting_chain()
     ensures some { (n : ℕ) (s : List ℕ) → (c : List ExtHeader) × IsLongestUnder FitsPlaces n s c }
     ensures only { (n : ℕ) (s : List ℕ) (c d : List ExtHeader)
@@ -66,15 +67,14 @@ pub fn one_longest_fitting_chain()
         → IsLongestChain n s d → IsLongestUnder FitsPlaces n s c → KeepsBeginning FitsPlaces d c }
 {}
 
-/// Behind the longest chain that fits six places no header goes on, unless the place of the number there is
-/// taken.
+/// Proves that no header follows the longest chain that fits six places, unless the place of its number is occupied.
 pub fn fitting_chain_ends()
     ensures { (n : ℕ) (s : List ℕ) (c : List ExtHeader) → IsLongestUnder FitsPlaces n s c
         → (IsTaken (leads_to n c) c → ⊥)
         → IsEnd (is_empty c) (leads_to n c) (drop (length (bytes_of c)) s) }
 {}
 
-/// It is shorter than the longest chain exactly where a header goes on with a number that is taken.
+/// Proves that it is shorter than the longest chain if and only if a header follows whose place is occupied.
 pub fn fitting_chain_stops_where_taken()
     ensures shorter { (n : ℕ) (s : List ℕ) (d c : List ExtHeader) → IsLongestChain n s d
         → IsLongestUnder FitsPlaces n s c → length c < length d → IsTaken (leads_to n c) c }
@@ -84,19 +84,20 @@ pub fn fitting_chain_stops_where_taken()
         → length c < length d }
 {}
 
-/// A chain fits six places exactly where its numbers do: 0, 43, 44 and 51 stand in it once at most, and 60
-/// once at most on each side of the first 43.
+/// Proves that a chain fits six places if and only if its numbers do: 0, 43, 44 and 51 occur at most once, and 60 at
+/// most once on each side of the first 43.
 pub fn chain_fits_by_its_numbers()
     ensures { (c : List ExtHeader) → FitsPlaces c ↔ NumbersFit (numbers_of c) }
 {}
 
-/// An extension number fits behind numbers that fit exactly where none of them stands in its place.
+/// Proves that an extension number fits after numbers that fit if and only if none of them is in its place.
 pub fn next_number_fits()
     ensures { (m : ℕ) (ns : List ℕ) → IsExtensionNumber m → NumbersFit ns
         → NumbersFit (ns ++ m ∷ []) ↔ (in_place m ns ≡ 0) }
 {}
 
-/// A number is taken behind a chain that fits exactly where it isn't 0 and a header stands in its place.
+/// Proves that the place of a number is occupied after a chain that fits if and only if the number is not 0 and a
+/// header is in its place.
 pub fn taken_numbers()
     ensures { (m : ℕ) (c : List ExtHeader) → FitsPlaces c → IsTrue (is_taken m c) ↔ IsTaken m c }
 {}

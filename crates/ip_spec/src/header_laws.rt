@@ -5,7 +5,7 @@ ghost use Rattle.ip_spec.specs.Fields.{RawFields, FragmentFields, AuthFields, ra
 ghost use Rattle.ip_spec.specs.Encoding.{cleared_header, AreBytes, IsRawEncoding, IsFragmentEncoding, IsAuthEncoding};
 ghost use Rattle.ip_spec.specs.Decoding.{IsRawDecoding, IsFragmentDecoding, IsAuthDecoding};
 
-/// Bytes begin with at most one header of a layout: its fields and the rest behind it are determined.
+/// Proves that bytes start with at most one header of a format: its fields and the rest after it are unique.
 pub fn one_decoding()
     ensures raw { (s : List ℕ) (v w : RawFields) (r q : List ℕ)
         → IsRawDecoding s v r → IsRawDecoding s w q → (v ≡ w) × (r ≡ q) }
@@ -15,7 +15,7 @@ pub fn one_decoding()
         → IsAuthDecoding s v r → IsAuthDecoding s w q → (v ≡ w) × (r ≡ q) }
 {}
 
-/// Fields have at most one encoding.
+/// Proves that fields have at most one encoding.
 pub fn one_encoding()
     ensures raw { (v : RawFields) (b d : List ℕ) → IsRawEncoding v b → IsRawEncoding v d → b ≡ d }
     ensures fragment { (v : FragmentFields) (b d : List ℕ)
@@ -24,8 +24,8 @@ pub fn one_encoding()
         → IsAuthEncoding v d → b ≡ d }
 {}
 
-/// A header whose reserved bits are put to zero is a header with the same fields, and putting them to zero
-/// again changes nothing. A header of the common layout has no reserved bits.
+/// Proves that a header whose reserved bits are set to zero is a header with the same fields, and that setting them
+/// to zero again changes nothing. A header in the uniform format (RFC 6564) has no reserved bits.
 pub fn cleared_header_says_the_same()
     ensures fragment { (b : List ℕ) → IsFragmentHeader b → IsFragmentHeader (cleared_header FRAGMENT b)
         × (fragment_fields (cleared_header FRAGMENT b) ≡ fragment_fields b)
@@ -35,7 +35,7 @@ pub fn cleared_header_says_the_same()
         × (cleared_header AUTHENTICATION (cleared_header AUTHENTICATION b) ≡ cleared_header AUTHENTICATION b) }
 {}
 
-/// So it encodes them, where its numbers are bytes.
+/// Proves that a header whose reserved bits are set to zero encodes its fields, if its numbers are bytes.
 pub fn cleared_header_encodes()
     ensures raw { (b : List ℕ) → IsRawHeader b → AreBytes (slice_range b 1 2)
         → IsRawEncoding (raw_fields b) b }
@@ -45,7 +45,7 @@ pub fn cleared_header_encodes()
         → IsAuthEncoding (auth_fields b) (cleared_header AUTHENTICATION b) }
 {}
 
-/// The fields tell the length.
+/// Proves that the fields determine the length.
 pub fn encoding_len()
     ensures raw { (v : RawFields) (b : List ℕ) → IsRawEncoding v b → length b ≡ raw_len v }
     ensures fragment { (v : FragmentFields) (b : List ℕ) → IsFragmentEncoding v b → length b ≡ 8 }

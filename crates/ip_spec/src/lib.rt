@@ -1,5 +1,4 @@
-//! What a header, a chain of headers and the longest chain are, over plain lists of bytes, and the laws of these
-//! notions.
+//! Definitions of headers, chains of headers and the longest chain, over plain lists of bytes, and their laws.
 #![tactic(auto)]
 
 mod chain_laws;

@@ -5,22 +5,22 @@ ghost use Rattle.ip_spec.specs.Fits.{FitsPlaces};
 ghost use Rattle.ip_spec.specs.Encoding.{cleared_chain};
 ghost use Rattle.ip_spec.specs.Runs.{AreRuns, AreChains, AreLongestFitting, joined, how_many};
 
-/// Headers and the number to which they lead have exactly one list of runs.
+/// Proves that headers and the number to which they lead have exactly one list of runs.
 pub fn one_list_of_runs()
     ensures some { (m : ℕ) (c : List ExtHeader) → (ps : List (List ExtHeader)) × AreRuns m c ps }
     ensures only { (m : ℕ) (c : List ExtHeader) (ps qs : List (List ExtHeader))
         → AreRuns m c ps → AreRuns m c qs → ps ≡ qs }
 {}
 
-/// The runs are the fewest: each other list of pieces that fit six places and join to the same headers has as
-/// many pieces with a header in them, or more.
+/// Proves that the runs are the fewest: any other list of pieces that fit six places and join to the same headers has
+/// at least as many nonempty pieces.
 pub fn fewest_runs()
     ensures { (m : ℕ) (c : List ExtHeader) (ps qs : List (List ExtHeader))
         → AreRuns m c ps → joined qs ≡ c → AllByRecursion FitsPlaces qs
         → how_many ps ≤ how_many qs }
 {}
 
-/// There is a run, and of bytes there is at most one for each 8 of them and one more.
+/// Proves that there is a run, and at most one per 8 bytes and one more.
 pub fn runs_count()
     ensures least { (m : ℕ) (c : List ExtHeader) (ps : List (List ExtHeader)) → AreRuns m c ps
         → 1 ≤ length ps }
@@ -28,9 +28,8 @@ pub fn runs_count()
         → IsLongestChain n s c → AreRuns (leads_to n c) c ps → length ps ≤ length s / 8 + 1 }
 {}
 
-/// No header is lost: the runs joined are the headers, and what is written of the runs, one after the other, is
-/// what is written of the headers. Of a chain each run is a chain, from the number to which the run before it
-/// leads.
+/// Proves that no header is lost: the runs joined are the headers, and the runs written one after the other are the
+/// headers written. Each run of a chain is a chain, from the number to which the run before it leads.
 pub fn runs_keep_each_header()
     ensures joined { (m : ℕ) (c : List ExtHeader) (ps : List (List ExtHeader)) → AreRuns m c ps
         → joined ps ≡ c }
@@ -40,8 +39,8 @@ pub fn runs_keep_each_header()
         → AreRuns m c ps → AreChains n ps }
 {}
 
-/// The runs of a longest chain are the longest chains that fit six places, each from the number and at the bytes
-/// that the one before leaves, until a number isn't taken.
+/// Proves that the runs of a longest chain are the longest chains that fit six places, each from the number and at
+/// the bytes that the one before leaves, until the place of a number is free.
 pub fn runs_are_longest_fitting_chains()
     ensures { (n : ℕ) (s : List ℕ) (c : List ExtHeader) (ps : List (List ExtHeader))
         → IsLongestChain n s c → AreRuns (leads_to n c) c ps ↔ AreLongestFitting n s ps }

@@ -11,8 +11,8 @@ ghost use Rattle.ip_spec.specs.Parse.{IsRead};
 ghost use Rattle.ip_spec.specs.Links.{first_number, linked};
 ghost use Rattle.ip_spec.specs.Encodable.{IsEncodable, placed_len};
 
-/// From each number, a value of which each header can be written reaches exactly one chain, and its walk has
-/// exactly one answer.
+/// Proves that a value whose headers can all be written reaches exactly one chain from each number, and that its walk
+/// has exactly one result.
 pub fn one_walk_answer()
     ensures some_reach { (v : PlacedFields) → IsEncodable v → (f : ℕ)
         → (c : List ExtHeader) × IsLongestOf (IsReachable v f) c }
@@ -24,8 +24,8 @@ pub fn one_walk_answer()
         → IsWalkAnswer v f b → a ≡ b }
 {}
 
-/// A walk leads to a number exactly where the value is read from some bytes with that number left and nothing
-/// else, and where a chain that leads there spells it.
+/// Proves that a walk leads to a number if and only if the value is parsed from some bytes with that number and
+/// nothing else left, and if and only if a chain that leads there encodes it.
 pub fn walk_leads_where_the_value_is_read()
     ensures read { (v : PlacedFields) → IsEncodable v → (f m : ℕ)
         → IsWalkAnswer v f (leads m) ↔ ((s : List ℕ)
@@ -36,7 +36,7 @@ pub fn walk_leads_where_the_value_is_read()
         → IsWalkAnswer v f (leads (leads_to f c)) }
 {}
 
-/// At most one chain spells a value from a number, and equal bytes only spell equal values.
+/// Proves that at most one chain encodes a value from a number, and that equal bytes encode equal values only.
 pub fn one_spelling()
     ensures only { (v : PlacedFields) (f : ℕ) (c d : List ExtHeader) → IsSpelling v f c
         → IsSpelling v f d → c ≡ d }
@@ -46,22 +46,22 @@ pub fn one_spelling()
         → length (bytes_of c) ≡ placed_len v }
 {}
 
-/// The chain that spells a value is read from its bytes, whatever follows them, where it leads to no extension
-/// number, or to one that is taken.
+/// Proves that the chain that encodes a value is parsed from its bytes, whatever follows them, unless it leads to an
+/// extension number whose place is free.
 pub fn spelled_bytes_are_read()
     ensures { (v : PlacedFields) (f : ℕ) (c : List ExtHeader) (r : List ℕ) → IsSpelling v f c
         → (IsExtensionNumber (leads_to f c) → IsTaken (leads_to f c) c)
         → IsLongestUnder FitsPlaces f (bytes_of c ++ r) c }
 {}
 
-/// What spells a value that was read is what was read, with its reserved bits put to zero.
+/// Proves that the encoding of a parsed value is the parsed chain with its reserved bits set to zero.
 pub fn spelling_clears_what_was_read()
     ensures { (v : PlacedFields) (f : ℕ) (s : List ℕ) (c d : List ExtHeader)
         → IsLongestUnder FitsPlaces f s c → AreBytes (bytes_of c) → IsValueOf c v
         → IsSpelling v f d → d ≡ cleared_chain c }
 {}
 
-/// Linked headers are walked to their end.
+/// Proves that a walk over linked headers reaches their end.
 pub fn linked_headers_are_walked()
     ensures { (v : PlacedFields) (m : ℕ) → m < 256 → IsEncodable v
         → IsWalkAnswer (linked v m) (first_number v places m) (leads m) }

@@ -1,4 +1,4 @@
--- The first headers of a chain, taken one after the other.
+-- The first headers of a chain, one after the other.
 use Rattle.ip_spec.proofs.Common.{◌≡◌, ℕ, ◌+◌, ◌≤◌, List, [], ◌∷◌, ◌++◌, length, take, refl, ap, sym, ◌∙◌, arith, append_assoc, append-nil, length-append, take_all, take_at, ExtHeader, bytes_of, AtMost, IsLongestUnder}
 use Rattle.ip_spec.proofs.ChainLemmas.{bytes_of-more}
 use Rattle.ip_spec.proofs.UnderLemmas.{one_longest_under}
@@ -6,7 +6,7 @@ use Rattle.ip_spec.proofs.DemandKinds.{at_most, longest_at_most}
 use Rattle.ip_ext_slices.specs.Longest.{longest_chain}
 use Rattle.ip_ext_slices.proofs.LongestLemmas.{longest_chain-longest}
 
--- the first i headers of the chain, which have so many bytes, are taken, and the others are left
+-- the first i headers of the chain, whose length is `bytes`, have been taken, and the others are left
 pub record FirstTaken (chain left : List ExtHeader) (i bytes : ℕ) : Type 0 where
   pub taken : List ExtHeader
   pub joined : taken ++ left ≡ chain
@@ -26,7 +26,7 @@ module _ (chain left rest : List ExtHeader) (h : ExtHeader) (i bytes : ℕ) (nex
   }
 
 module _ (k : ℕ) (chain left : List ExtHeader) (i bytes : ℕ) where
-  -- where none is left, and where k are taken
+  -- none is left, or k have been taken
   pub all_taken : FirstTaken chain left i bytes → left ≡ [] → i ≤ k → bytes ≡ length (bytes_of (take k chain))
   all_taken p none few =
       let whole : p.taken ≡ chain = sym (append-nil p.taken) ∙ ap (λ l. p.taken ++ l) (sym none) ∙ p.joined in

@@ -6,7 +6,7 @@ ghost use Rattle.ip_spec.specs.Lengths.{MAX_FRAGMENT_OFFSET};
 use ip_base::IpFragOffset;
 use ip_base::err::{LenError, ValueTooBigError};
 
-/// The offset in a packet of an error in what stands behind its header.
+/// Returns the offset in a packet of an error in what follows its header.
 pub fn offset_in_packet(error: LenError, header_len: usize) -> usize
     requires { error.layer_start_offset + header_len < 2 ^ 64 }
     ensures { result ≡ error.layer_start_offset + header_len }
@@ -14,7 +14,7 @@ pub fn offset_in_packet(error: LenError, header_len: usize) -> usize
     error.add_offset(header_len).layer_start_offset
 }
 
-/// The offset of a fragment that lies so many bytes behind the payload's start, rounded down.
+/// Returns the offset of a fragment that starts so many bytes after the payload's start, rounded down.
 pub fn offset_of_bytes(bytes: u16) -> Result<IpFragOffset, ValueTooBigError>
     ensures fits { IfOk result (λ offset. offset ≤ MAX_FRAGMENT_OFFSET) }
     ensures refused { IfErr result (λ e. MAX_FRAGMENT_OFFSET < e.actual) }
@@ -22,7 +22,7 @@ pub fn offset_of_bytes(bytes: u16) -> Result<IpFragOffset, ValueTooBigError>
     (bytes / 8).try_into()
 }
 
-/// How many bytes the first header has.
+/// Returns the length of the first header in bytes.
 pub fn first_header_len(number: u8, packet: &[u8]) -> Option<usize>
     ensures { IfSome result (λ len. (len ≤ length packet.now)
         × IsHeader number (take len packet.now)) }

@@ -1,5 +1,5 @@
-//! Callers that need what a clause on a chain says of one outcome of a call, as those of single headers beside
-//! them (`outcomes.rt`).
+//! Callers that need the clause of one result of a call on a chain, like those of single headers
+//! (`header_outcomes.rt`).
 ghost use Rattle.std.specs.Prelude.{ℕ, Ok, ◌≡◌, ◌≢◌, ◌<◌, ◌+◌, ◌++◌, ◌==◌, ◌↔◌, Bool, List, [], ◌∷◌, None, Some, Err, IsOk, IsTrue, length, drop, IfOk, IfErr, IfSome, IfNone, vec_len, vec_capacity, if◌then◌else◌};
 ghost use Rattle.std.specs.List.{AllByRecursion};
 ghost use Rattle.std.specs.Option.{option_map, option_map_or};
@@ -33,7 +33,7 @@ use ip_ext_chains::{
 };
 use std::alloc::AllocError;
 
-/// The number and the bytes of the headers where there is no fault, and else the fault.
+/// Returns the number and the bytes of the headers if there is no error, otherwise the error.
 pub fn first_and_bytes(
     start: IpNumber,
     packet: &[u8],
@@ -48,7 +48,7 @@ pub fn first_and_bytes(
     Ok((headers.first_header(), headers.slice()))
 }
 
-/// The fault behind all runs, from the last of them on.
+/// Returns the error after all runs, from the last run on.
 pub fn fault_behind_runs(runs: &Ipv6ExtensionsRuns<'_>) -> Option<Option<(HeaderSliceError, Layer)>>
     ensures before { IfNone result (values_left runs.now ≢ []) }
     ensures last { IfSome result (λ _. values_left runs.now ≡ []) }
@@ -59,7 +59,7 @@ pub fn fault_behind_runs(runs: &Ipv6ExtensionsRuns<'_>) -> Option<Option<(Header
     Some(fault)
 }
 
-/// The fault of the headers that fit six places, where the strict parse tells one.
+/// Returns the error of the headers that fit six places, if the strict parse returns one.
 pub fn fitting_fault_of(start: IpNumber, packet: &[u8]) -> Option<HeaderSliceError>
     ensures { IfSome result (λ e.
         option_map (λ f. f.0) (fitting_fault start.0 packet.now) ≡ Some e) }
@@ -70,7 +70,7 @@ pub fn fitting_fault_of(start: IpNumber, packet: &[u8]) -> Option<HeaderSliceErr
     }
 }
 
-/// The headers behind an IPv4 header, borrowed, where there is no fault.
+/// Returns the borrowed headers after an IPv4 header, if there is no error.
 pub fn ipv4_opened(
     start: IpNumber,
     packet: &[u8],
@@ -82,7 +82,7 @@ pub fn ipv4_opened(
     Ipv4ExtensionsSlice::from_slice(start, packet)
 }
 
-/// The same with bytes of their own.
+/// Returns the owned headers after an IPv4 header, if there is no error.
 pub fn ipv4_opened_owned(
     start: IpNumber,
     packet: &[u8],
@@ -94,7 +94,7 @@ pub fn ipv4_opened_owned(
     Ipv4Extensions::from_slice(start, packet)
 }
 
-/// Appends the headers behind an IPv4 header. It answers how long the vector is then, or nothing where it stays.
+/// Appends the headers after an IPv4 header. Returns the vector's new length, or `None` if the vector is unchanged.
 pub fn append_ipv4(headers: &Ipv4Extensions, start: IpNumber, out: &mut Vec<u8>) -> Option<usize>
     ensures walk { IfSome result (λ _. IsOk (ipv4_walk headers.now.auth start.0)) }
     ensures ok { IfSome result (λ _. AppendsOne (IsIpv4Encoding start.0 headers.now.auth)
@@ -117,7 +117,8 @@ pub fn append_ipv4(headers: &Ipv4Extensions, start: IpNumber, out: &mut Vec<u8>)
     }
 }
 
-/// The refusal of memory, where that is why these headers aren't written: there is one, and no room for it.
+/// Returns the allocation error, if these headers aren't written because of it: there is a header, and no room for
+/// it.
 pub fn ipv4_want_of_memory(
     headers: &Ipv4Extensions,
     start: IpNumber,
@@ -134,7 +135,7 @@ pub fn ipv4_want_of_memory(
     }
 }
 
-/// The fault of the walk, where that is why they aren't written.
+/// Returns the error of the walk, if the headers aren't written because of it.
 pub fn ipv4_walk_refused(
     headers: &Ipv4Extensions,
     start: IpNumber,
@@ -148,7 +149,7 @@ pub fn ipv4_walk_refused(
     }
 }
 
-/// Appends the headers in six places. It answers how long the vector is then, or nothing where it was refused.
+/// Appends the headers in six places. Returns the vector's new length, or `None` after an error.
 pub fn append_ipv6(headers: &Ipv6Extensions, first: IpNumber, out: &mut Vec<u8>) -> Option<usize>
     ensures spelled { IfSome result (λ _. (c : List ExtHeader)
         × IsSpelling (placed_fields headers.now) first.0 c
@@ -167,7 +168,8 @@ pub fn append_ipv6(headers: &Ipv6Extensions, first: IpNumber, out: &mut Vec<u8>)
     }
 }
 
-/// The refusal of memory, where that is why they aren't written: nothing was appended, and there is no room.
+/// Returns the allocation error, if the headers aren't written because of it: nothing was appended, and there is no
+/// room.
 pub fn ipv6_want_of_memory(
     headers: &Ipv6Extensions,
     first: IpNumber,
@@ -184,7 +186,7 @@ pub fn ipv6_want_of_memory(
     }
 }
 
-/// The error of the walk, where that is why they aren't written: the headers that are reached were appended.
+/// Returns the error of the walk, if the headers aren't written because of it: those that are reached were appended.
 pub fn ipv6_walk_refused(
     headers: &Ipv6Extensions,
     first: IpNumber,
@@ -204,7 +206,7 @@ pub fn ipv6_walk_refused(
     }
 }
 
-/// No header goes on after the longest chain under a demand, unless the demand isn't met with it.
+/// Proves that no header follows the longest chain under a demand, unless the chain with it doesn't meet the demand.
 pub fn no_header_goes_on_under_a_demand()
     ensures { (q : List ExtHeader → Bool) → IsDemand (Passes q)
         → (n : ℕ) (s : List ℕ) (c : List ExtHeader) → IsLongestUnder (Passes q) n s c
@@ -214,7 +216,7 @@ pub fn no_header_goes_on_under_a_demand()
     ip_spec::longest_chain_under_a_demand_ends();
 }
 
-/// `how_many` counts the pieces that have a header, all of them where none is empty.
+/// Proves that `how_many` counts the pieces that have a header: all of them if none is empty.
 pub fn filled_pieces_are_counted()
     ensures filled { (ps : List (List ExtHeader)) → AllByRecursion (λ p. p ≢ []) ps
         → how_many ps ≡ length ps }

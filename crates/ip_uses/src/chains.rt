@@ -14,7 +14,7 @@ use ip_base::{IpNumber, ip_number};
 use ip_ext_chains::{Ipv6ExtensionSlice, Ipv6ExtensionsCursor, Ipv6ExtensionsSlice};
 use std::alloc::{AllocError, Global};
 
-/// How many extension headers begin the bytes.
+/// Returns how many extension headers are at the start of the bytes.
 pub fn count_headers(start: IpNumber, packet: &[u8]) -> usize
     ensures { result ≡ length (longest_chain start.0 packet.now) }
 {
@@ -22,7 +22,7 @@ pub fn count_headers(start: IpNumber, packet: &[u8]) -> usize
     headers.into_iter().count()
 }
 
-/// The payload behind the extension headers with its number, unless it is a fragment.
+/// Returns the payload after the extension headers and its protocol number, unless it is a fragment.
 pub fn whole_payload(start: IpNumber, packet: &[u8]) -> Option<(IpNumber, &[u8])>
     ensures number { IfSome result (λ found.
         found.0.0 ≡ leads_to start.0 (longest_chain start.0 packet.now)) }
@@ -38,8 +38,8 @@ pub fn whole_payload(start: IpNumber, packet: &[u8]) -> Option<(IpNumber, &[u8])
     }
 }
 
-/// Whether a capture that keeps the first `snap` bytes of a packet keeps all its extension headers: then a parse of
-/// what it keeps tells the same headers.
+/// Returns whether a capture of the first `snap` bytes of a packet keeps all its extension headers: then a parse of
+/// these bytes returns the same headers.
 pub fn keeps_all_headers(start: IpNumber, packet: &[u8], snap: usize) -> bool
     ensures { IsTrue result
         ↔ (longest_chain start.0 (take snap packet.now) ≡ longest_chain start.0 packet.now) }
@@ -48,7 +48,7 @@ pub fn keeps_all_headers(start: IpNumber, packet: &[u8], snap: usize) -> bool
     headers.slice().len() <= snap
 }
 
-/// Whether a packet's payload is UDP, and not a fragment of it.
+/// Returns whether a packet's payload is UDP and not a fragment.
 pub fn is_whole_udp(start: IpNumber, packet: &[u8]) -> bool {
     match Ipv6ExtensionsSlice::from_slice(start, packet) {
         Ok((headers, number, _)) => number == ip_number::UDP && !headers.is_fragmenting_payload(),
@@ -56,7 +56,7 @@ pub fn is_whole_udp(start: IpNumber, packet: &[u8]) -> bool {
     }
 }
 
-/// The headers joined, in new memory.
+/// Returns the headers joined, in new memory.
 pub fn joined(alloc: Global, headers: Ipv6ExtensionsSlice<'_>) -> Result<Vec<u8>, AllocError>
     ensures { IfOk result (λ copy. copy.items ≡ bytes headers.entry) }
 {
@@ -67,7 +67,7 @@ pub fn joined(alloc: Global, headers: Ipv6ExtensionsSlice<'_>) -> Result<Vec<u8>
     Ok(copy)
 }
 
-/// How many bytes the first `k` headers of the chain take; all of its headers, where there are fewer.
+/// Returns the length in bytes of the first `k` headers of the chain, or of all if there are fewer.
 pub fn first_headers(k: usize, start: IpNumber, packet: &[u8]) -> usize
     ensures first { result ≡ length (bytes_of (take k (longest_chain start.0 packet.now))) }
     ensures under { (c : List ExtHeader) → IsLongestUnder (AtMost k) start.0 packet.now c
@@ -85,7 +85,7 @@ pub fn first_headers(k: usize, start: IpNumber, packet: &[u8]) -> usize
     len
 }
 
-/// The first fragment header. What is behind it isn't parsed.
+/// Returns the first fragment header. What follows it isn't parsed.
 pub fn first_fragment(start: IpNumber, packet: &[u8]) -> Option<Ipv6ExtensionSlice<'_>>
     ensures { option_map header_of result
         ≡ find (λ h. h.number == FRAGMENT) (longest_chain start.0 packet.now) }
@@ -98,7 +98,8 @@ pub fn first_fragment(start: IpNumber, packet: &[u8]) -> Option<Ipv6ExtensionSli
     None
 }
 
-/// How many extension headers begin the bytes, with the number and the bytes behind them, in one pass.
+/// Returns the number of extension headers at the start of the bytes, with the number and the bytes after them, in
+/// one pass.
 pub fn count_and_payload(start: IpNumber, packet: &[u8]) -> (usize, IpNumber, &[u8])
     ensures count { result.0 ≡ length (longest_chain start.0 packet.now) }
     ensures number { result.1.0 ≡ leads_to start.0 (longest_chain start.0 packet.now) }
@@ -115,7 +116,7 @@ pub fn count_and_payload(start: IpNumber, packet: &[u8]) -> (usize, IpNumber, &[
     }
 }
 
-/// How many extension headers begin the bytes, in one pass.
+/// Returns the number of extension headers at the start of the bytes, in one pass.
 pub fn count_in_one_pass(start: IpNumber, packet: &[u8]) -> usize
     ensures { result ≡ length (longest_chain start.0 packet.now) }
 {

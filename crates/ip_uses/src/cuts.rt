@@ -9,14 +9,14 @@ ghost use Rattle.ip_cuts.specs.InPlaces.{AreInPlaces};
 
 use ip_cuts::{HeaderCut, cut_chain, run_len};
 
-/// Whether the array has a place for each header of the chain.
+/// Returns whether the array has room for each header of the chain.
 pub fn has_room(first: u8, packet: &[u8], cuts: &mut [HeaderCut]) -> bool
     ensures { IsTrue result ↔ (length (longest_chain first packet.now) ≤ length cuts.old) }
 {
     cut_chain(first, packet, cuts).headers <= cuts.len()
 }
 
-/// The bytes behind the chain.
+/// Returns the bytes after the chain.
 pub fn behind_chain(first: u8, packet: &[u8]) -> &[u8]
     ensures { result.now ≡ rest_behind (longest_chain first packet.now) packet.now }
 {
@@ -24,7 +24,7 @@ pub fn behind_chain(first: u8, packet: &[u8]) -> &[u8]
     &packet[chain.len..]
 }
 
-/// The headers of the first struct of six places, and those that are left for others.
+/// Returns the headers of the first struct of six places, and those left for others.
 pub fn first_run(headers: &[HeaderCut]) -> (&[HeaderCut], &[HeaderCut])
     ensures run { KeepsBeginning AreInPlaces headers.now result.0.now }
     ensures all { result.0.now ++ result.1.now ≡ headers.now }

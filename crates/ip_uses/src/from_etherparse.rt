@@ -1,4 +1,4 @@
-//! A program over the original's layer, as it reads here. `diff/src/before.rs` has it as it was.
+//! A program over etherparse's layer, as it is written with this library. `diff/src/before.rs` has the original form.
 ghost use Rattle.std.specs.Prelude.{◌≡◌};
 ghost use Rattle.std.specs.Option.{option_map};
 ghost use Rattle.ip_ext_chains.specs.ChainLimitedReadError.{len_of};
@@ -10,7 +10,7 @@ use etherparse_ip::{IpNumber, Ipv6Extensions, LenSource};
 use std::alloc::Global;
 use std::io::Read;
 
-/// Reads the extension headers behind an IPv6 header that states how many bytes follow it.
+/// Reads the extension headers after an IPv6 header that states how many bytes follow it.
 pub fn read<R: Read + Drop>(
     reader: R,
     first: IpNumber,
@@ -26,8 +26,8 @@ pub fn read<R: Read + Drop>(
     Ipv6Extensions::read_limited(&mut limited, first)
 }
 
-/// The same headers, linked in the order of the standard and with `payload` behind them: the number that names the
-/// first of them, and their bytes.
+/// Links the headers in the order of the standard, with `payload` after them. Returns the number of the first header,
+/// and their bytes.
 pub fn relinked(
     alloc: Global,
     headers: &Ipv6Extensions,
@@ -40,7 +40,7 @@ pub fn relinked(
     Ok((first, out))
 }
 
-/// How many bytes were missing and where, if that is why the headers weren't read.
+/// Returns how many bytes were missing and where, if that is why the headers weren't read.
 pub fn missing_bytes(error: &HeaderLimitedReadError) -> Option<&LenError>
     ensures { option_map (λ e. e.now) result ≡ len_of error.now }
 {

@@ -1,6 +1,6 @@
-//! Callers that need what a clause says of one outcome of a call: of a refusal, of an error of one kind, or of a
-//! success. Their own clauses tell the outcome by std's words alone, so that none of them is proved where such a
-//! clause, or the word by which it tells the outcome, says nothing.
+//! Callers that need the clause of one result of a call: of a refusal, of an error of one kind, or of a success.
+//! Their own clauses name the result in std's terms only, so none of them can be proved if such a clause, or the term
+//! by which it names the result, says nothing.
 ghost use Rattle.std.specs.Prelude.{◌≡◌, true, ◌≤◌, ◌<◌, ◌+◌, ◌-◌, ℕ, List, Some, length, take, drop, OnErr, IfOk, IfErr, IfSome, IfNone, vec_len, vec_capacity};
 ghost use Rattle.ip_spec.specs.Prefix.{IsPrefix};
 ghost use Rattle.ip_spec.specs.Header.{IsRawHeader, IsFragmentHeader, IsAuthHeader};
@@ -26,7 +26,7 @@ use ip_ext_headers::{
 };
 use std::alloc::AllocError;
 
-/// The value of an offset that has it, or the error that refuses it.
+/// Returns the value of the offset with this value, or the error that refuses it.
 pub fn offset_value(value: u16) -> Result<u16, ValueTooBigError>
     ensures fits { IfOk result (λ offset. offset ≡ value) }
     ensures too_big { IfErr result (λ e.
@@ -35,7 +35,7 @@ pub fn offset_value(value: u16) -> Result<u16, ValueTooBigError>
     Ok(IpFragOffset::try_new(value)?.value())
 }
 
-/// The same through `try_into`.
+/// Returns the value of the offset made by `try_into`, or the error that refuses it.
 pub fn offset_value_by_try_into(value: u16) -> Result<u16, ValueTooBigError>
     ensures fits { IfOk result (λ offset. offset ≡ value) }
     ensures too_big { IfErr result (λ e.
@@ -45,7 +45,7 @@ pub fn offset_value_by_try_into(value: u16) -> Result<u16, ValueTooBigError>
     Ok(offset.value())
 }
 
-/// How long a header with this payload is, or why there is none.
+/// Returns the length of a header with this payload, or why there is none.
 pub fn raw_len_with(payload: &[u8]) -> Result<usize, ExtPayloadLenError>
     ensures made { IfOk result (λ len. (next : ℕ)
         → len ≡ raw_len (record { next_header = next; payload = payload.now })) }
@@ -54,7 +54,7 @@ pub fn raw_len_with(payload: &[u8]) -> Result<usize, ExtPayloadLenError>
     Ok(Ipv6RawExtHeader::new_raw(IpNumber(59), payload)?.header_len())
 }
 
-/// The header with another payload, or itself and why it has none.
+/// Sets the header's payload. If it is not allowed, returns why, and the header is unchanged.
 pub fn with_payload(header: &mut Ipv6RawExtHeader, payload: &[u8]) -> Option<ExtPayloadLenError>
     ensures set { IfNone result (header.new ≡ record header.old { payload = payload.now }) }
     ensures kept { IfSome result (λ _. header.new ≡ header.old) }
@@ -63,7 +63,7 @@ pub fn with_payload(header: &mut Ipv6RawExtHeader, payload: &[u8]) -> Option<Ext
     header.set_payload(payload).err()
 }
 
-/// How long an authentication header with this check value is, or why there is none.
+/// Returns the length of an authentication header with this check value, or why there is none.
 pub fn auth_len_with(raw_icv: &[u8]) -> Result<usize, IcvLenError>
     ensures made { IfOk result (λ len. len ≡ auth_len (record {
       next_header = 59;
@@ -76,7 +76,7 @@ pub fn auth_len_with(raw_icv: &[u8]) -> Result<usize, IcvLenError>
     Ok(IpAuthHeader::new(IpNumber(59), 1, 2, raw_icv)?.header_len())
 }
 
-/// The header with another check value, or itself and why it has none.
+/// Sets the header's check value. If it is not allowed, returns why, and the header is unchanged.
 pub fn with_icv(header: &mut IpAuthHeader, raw_icv: &[u8]) -> Option<IcvLenError>
     ensures set { IfNone result (header.new ≡ record header.old { raw_icv = raw_icv.now }) }
     ensures kept { IfSome result (λ _. header.new ≡ header.old) }
@@ -85,7 +85,7 @@ pub fn with_icv(header: &mut IpAuthHeader, raw_icv: &[u8]) -> Option<IcvLenError
     header.set_raw_icv(raw_icv).err()
 }
 
-/// The header of the common layout at an offset in a packet.
+/// Parses the header in the uniform format (RFC 6564) at an offset in a packet.
 pub fn raw_at<'a>(packet: &'a [u8], at: usize) -> Result<Ipv6RawExtHeaderSlice<'a>, LenError>
     requires { at ≤ length packet.now }
     ensures prefix { IfOk result (λ h. IsPrefix (raw.bytes h) (drop at packet.now)) }
@@ -98,7 +98,7 @@ pub fn raw_at<'a>(packet: &'a [u8], at: usize) -> Result<Ipv6RawExtHeaderSlice<'
     Ipv6RawExtHeaderSlice::from_slice(&packet[at..])
 }
 
-/// The fragment header at an offset in a packet.
+/// Parses the fragment header at an offset in a packet.
 pub fn fragment_at<'a>(packet: &'a [u8], at: usize) -> Result<Ipv6FragmentHeaderSlice<'a>, LenError>
     requires { at ≤ length packet.now }
     ensures prefix { IfOk result (λ h. IsPrefix (fragment.bytes h) (drop at packet.now)) }
@@ -111,7 +111,7 @@ pub fn fragment_at<'a>(packet: &'a [u8], at: usize) -> Result<Ipv6FragmentHeader
     Ipv6FragmentHeaderSlice::from_slice(&packet[at..])
 }
 
-/// The authentication header at an offset in a packet.
+/// Parses the authentication header at an offset in a packet.
 pub fn auth_at<'a>(packet: &'a [u8], at: usize) -> Result<IpAuthHeaderSlice<'a>, HeaderSliceError>
     requires { at ≤ length packet.now }
     ensures prefix { IfOk result (λ h. IsPrefix (auth.bytes h) (drop at packet.now)) }
@@ -124,7 +124,8 @@ pub fn auth_at<'a>(packet: &'a [u8], at: usize) -> Result<IpAuthHeaderSlice<'a>,
     IpAuthHeaderSlice::from_slice(&packet[at..])
 }
 
-/// The header of the common layout at an offset in a packet, with bytes of its own, and what is behind it.
+/// Parses the header in the uniform format (RFC 6564) at an offset in a packet, and returns it owned, with the bytes
+/// after it.
 pub fn owned_raw_at(packet: &[u8], at: usize) -> Result<(Ipv6RawExtHeader, &[u8]), LenError>
     requires { at ≤ length packet.now }
     ensures decoding { IfOk result (λ p. IsRawDecoding (drop at packet.now) p.0 p.1.now) }
@@ -136,7 +137,7 @@ pub fn owned_raw_at(packet: &[u8], at: usize) -> Result<(Ipv6RawExtHeader, &[u8]
     Ipv6RawExtHeader::from_slice(&packet[at..])
 }
 
-/// The same of a fragment header.
+/// Parses the fragment header at an offset in a packet, and returns it owned, with the bytes after it.
 pub fn owned_fragment_at(packet: &[u8], at: usize) -> Result<(Ipv6FragmentHeader, &[u8]), LenError>
     requires { at ≤ length packet.now }
     ensures decoding { IfOk result (λ p. IsFragmentDecoding (drop at packet.now) p.0 p.1.now) }
@@ -148,7 +149,7 @@ pub fn owned_fragment_at(packet: &[u8], at: usize) -> Result<(Ipv6FragmentHeader
     Ipv6FragmentHeader::from_slice(&packet[at..])
 }
 
-/// The same of an authentication header.
+/// Parses the authentication header at an offset in a packet, and returns it owned, with the bytes after it.
 pub fn owned_auth_at(packet: &[u8], at: usize) -> Result<(IpAuthHeader, &[u8]), HeaderSliceError>
     requires { at ≤ length packet.now }
     ensures decoding { IfOk result (λ p. IsAuthDecoding (drop at packet.now) p.0 p.1.now) }
@@ -160,7 +161,7 @@ pub fn owned_auth_at(packet: &[u8], at: usize) -> Result<(IpAuthHeader, &[u8]), 
     IpAuthHeader::from_slice(&packet[at..])
 }
 
-/// Appends a header of the common layout, and answers how long the vector is then.
+/// Appends a header in the uniform format (RFC 6564), and returns the vector's new length.
 pub fn append_raw(header: &Ipv6RawExtHeader, out: &mut Vec<u8>) -> Result<usize, AllocError>
     ensures ok { IfOk result (λ _.
         AppendsOne (IsRawEncoding header.now) out.old.items out.new.items) }
@@ -172,7 +173,7 @@ pub fn append_raw(header: &Ipv6RawExtHeader, out: &mut Vec<u8>) -> Result<usize,
     Ok(out.len())
 }
 
-/// The same of a fragment header.
+/// Appends a fragment header, and returns the vector's new length.
 pub fn append_fragment(header: &Ipv6FragmentHeader, out: &mut Vec<u8>) -> Result<usize, AllocError>
     ensures ok { IfOk result (λ _.
         AppendsOne (IsFragmentEncoding header.now) out.old.items out.new.items) }
@@ -184,7 +185,7 @@ pub fn append_fragment(header: &Ipv6FragmentHeader, out: &mut Vec<u8>) -> Result
     Ok(out.len())
 }
 
-/// The same of an authentication header.
+/// Appends an authentication header, and returns the vector's new length.
 pub fn append_auth(header: &IpAuthHeader, out: &mut Vec<u8>) -> Result<usize, AllocError>
     ensures ok { IfOk result (λ _.
         AppendsOne (IsAuthEncoding header.now) out.old.items out.new.items) }
@@ -196,7 +197,7 @@ pub fn append_auth(header: &IpAuthHeader, out: &mut Vec<u8>) -> Result<usize, Al
     Ok(out.len())
 }
 
-/// How many bytes of a packet lie behind its first header of this number; none does where it has no such header.
+/// Returns how many bytes of a packet lie after its first header of this number; none if it has no such header.
 pub fn len_behind_first(number: u8, packet: &[u8]) -> Option<usize>
     ensures next { IfSome result (λ left. (len : ℕ) × (len + left ≡ length packet.now)
         × IsNext true number packet.now (record { number = number; bytes = take len packet.now })) }

@@ -9,7 +9,7 @@ use ip_ext_headers::{IpAuthHeader, Ipv6FragmentHeader, Ipv6RawExtHeader};
 use ip_spec::{one_decoding, one_encoding};
 use std::alloc::AllocError;
 
-/// Appends the header with another next number, and leaves the header itself alone.
+/// Appends the header with another next header number. The header itself is unchanged.
 pub fn write_before(
     header: &Ipv6RawExtHeader,
     next: IpNumber,
@@ -35,7 +35,7 @@ pub fn write_fragment_header(
     header.write(out)
 }
 
-/// Puts a number behind each of the three headers.
+/// Sets the next header of each of the three headers.
 pub fn relinked(
     raw: &mut Ipv6RawExtHeader,
     fragment: &mut Ipv6FragmentHeader,
@@ -51,7 +51,7 @@ pub fn relinked(
     auth.next_header = next;
 }
 
-/// Appends the three headers, one after the other, into room that was reserved for them. It can't refuse.
+/// Appends the three headers, one after the other, into reserved room. It can't fail.
 pub fn write_three(
     raw: &Ipv6RawExtHeader,
     fragment: &Ipv6FragmentHeader,
@@ -66,7 +66,7 @@ pub fn write_three(
     auth.write(out)
 }
 
-/// Appends the two headers, for both of which room is reserved at once: it refuses before anything is written.
+/// Appends both headers. Reserves room for both at once, so that it fails before anything is written or not at all.
 pub fn write_both(
     raw: &Ipv6RawExtHeader,
     auth: &IpAuthHeader,
@@ -85,7 +85,7 @@ pub fn write_both(
     Ok(())
 }
 
-/// Whether the header's bytes are read as the header, with nothing behind it.
+/// Returns whether the header's bytes are parsed as the header, with nothing left.
 pub fn is_read_back(header: &IpAuthHeader) -> bool
     ensures { IsTrue result }
 {
@@ -97,7 +97,7 @@ pub fn is_read_back(header: &IpAuthHeader) -> bool
     }
 }
 
-/// The bytes of two headers that are equal, which are equal too.
+/// Returns the bytes of two equal headers, which are equal too.
 pub fn equal_bytes_of_raw(
     a: &Ipv6RawExtHeader,
     b: &Ipv6RawExtHeader,
@@ -109,7 +109,7 @@ pub fn equal_bytes_of_raw(
     (a.to_bytes(), b.to_bytes())
 }
 
-/// The same of fragment headers.
+/// Returns the bytes of two equal fragment headers, which are equal too.
 pub fn equal_bytes_of_fragment(a: &Ipv6FragmentHeader, b: &Ipv6FragmentHeader) -> ([u8; 8], [u8; 8])
     requires { a.now ≡ b.now }
     ensures { result.0 ≡ result.1 }
@@ -118,7 +118,7 @@ pub fn equal_bytes_of_fragment(a: &Ipv6FragmentHeader, b: &Ipv6FragmentHeader) -
     (a.to_bytes(), b.to_bytes())
 }
 
-/// The same of authentication headers.
+/// Returns the bytes of two equal authentication headers, which are equal too.
 pub fn equal_bytes_of_auth(
     a: &IpAuthHeader,
     b: &IpAuthHeader,

@@ -13,8 +13,8 @@ use ip_ext_chains::err::ipv4_exts::HeaderWriteError;
 use ip_ext_chains::{Ipv4Extensions, Ipv4ExtensionsSlice};
 use std::alloc::AllocError;
 
-/// Appends the extension headers that begin a packet's bytes, now before a payload of the number `last`. It
-/// answers the packet's new protocol number, from which they are read again with that number behind them.
+/// Appends the extension headers at the start of a packet's bytes, now before a payload of the number `last`. Returns
+/// the packet's new protocol number, from which they are parsed again and lead to that number.
 pub fn put_before(
     start: IpNumber,
     packet: &[u8],
@@ -36,7 +36,7 @@ pub fn put_before(
     }
 }
 
-/// Whether both forms of a parse read the same headers, which they do.
+/// Returns whether both forms of a parse return the same headers, which they do.
 pub fn forms_agree(start: IpNumber, packet: &[u8]) -> bool
     ensures { IsTrue result }
 {

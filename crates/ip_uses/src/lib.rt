@@ -1,5 +1,5 @@
-//! Callers of the other crates, proved from their public contracts alone: examples, and one for each clause that
-//! speaks of a single outcome of a call.
+//! Callers of the other crates, proved from their public contracts alone: examples, and one for each clause about a
+//! single result of a call.
 #![tactic(auto)]
 
 pub mod base;

@@ -1,5 +1,5 @@
-//! Callers that need what a clause on a packet says of one outcome of a call, as those of single headers beside
-//! them (`outcomes.rt`).
+//! Callers that need the clause of one result of a call on a packet, like those of single headers
+//! (`header_outcomes.rt`).
 ghost use Rattle.std.specs.Prelude.{◌≡◌, ◌↔◌, Some, None, false, length, IsTrue, IfOk, IfErr, IfSome, IfNone};
 ghost use Rattle.ip_base.specs.Ipv4Header.{version};
 ghost use Rattle.etherparse_ip.specs.Packet.{IsIpv4Packet, IsIpv6Packet};
@@ -11,7 +11,7 @@ ghost use Rattle.etherparse_ip.specs.IpSlice.{ip_parts, IsIpPacket, is_of_ipv4};
 use etherparse_ip::err::{ip, ipv4, ipv6};
 use etherparse_ip::{IpSlice, Ipv4Slice, Ipv6Slice};
 
-/// The IPv4 packet that begins the bytes, or why there is none.
+/// Parses the IPv4 packet at the start of the bytes, or returns why there is none.
 pub fn ipv4_packet(bytes: &[u8]) -> Result<Ipv4Slice<'_>, ipv4::SliceError>
     ensures packet { IfOk result (λ x. IsIpv4Packet bytes.now (ipv4_parts x)) }
     ensures faultless { IfOk result (λ _. ipv4_fault bytes.now ≡ None) }
@@ -20,7 +20,7 @@ pub fn ipv4_packet(bytes: &[u8]) -> Result<Ipv4Slice<'_>, ipv4::SliceError>
     Ipv4Slice::from_slice(bytes)
 }
 
-/// The same of IPv6.
+/// Parses the IPv6 packet at the start of the bytes, or returns why there is none.
 pub fn ipv6_packet(bytes: &[u8]) -> Result<Ipv6Slice<'_>, ipv6::SliceError>
     ensures packet { IfOk result (λ x. IsIpv6Packet bytes.now (ipv6_parts x)) }
     ensures faultless { IfOk result (λ _. ipv6_fault bytes.now ≡ None) }
@@ -29,7 +29,7 @@ pub fn ipv6_packet(bytes: &[u8]) -> Result<Ipv6Slice<'_>, ipv6::SliceError>
     Ipv6Slice::from_slice(bytes)
 }
 
-/// The same of a packet that may be cut short.
+/// Parses the IPv6 packet, truncated or not, at the start of the bytes, or returns why there is none.
 pub fn ipv6_packet_cut_short(bytes: &[u8]) -> Result<Ipv6Slice<'_>, ipv6::SliceError>
     ensures packet { IfOk result (λ x. IsIpv6Packet bytes.now (ipv6_parts x)) }
     ensures faultless { IfOk result (λ _. ipv6_lax_fault bytes.now ≡ None) }
@@ -38,7 +38,7 @@ pub fn ipv6_packet_cut_short(bytes: &[u8]) -> Result<Ipv6Slice<'_>, ipv6::SliceE
     Ipv6Slice::from_slice_lax(bytes)
 }
 
-/// The same of a packet of either version.
+/// Parses the packet of either IP version at the start of the bytes, or returns why there is none.
 pub fn ip_packet(bytes: &[u8]) -> Result<IpSlice<'_>, ip::SliceError>
     ensures packet { IfOk result (λ x. IsIpPacket bytes.now x) }
     ensures faultless { IfOk result (λ _. ip_fault bytes.now ≡ None) }
@@ -47,7 +47,7 @@ pub fn ip_packet(bytes: &[u8]) -> Result<IpSlice<'_>, ip::SliceError>
     IpSlice::from_slice(bytes)
 }
 
-/// Whether a packet begins the bytes: one of the version that they state.
+/// Returns whether the bytes start with a packet of the version in their first byte.
 pub fn is_ip_packet(bytes: &[u8]) -> bool
     ensures ipv4 { version bytes.now ≡ 4 → (IsTrue result ↔ (ipv4_fault bytes.now ≡ None)) }
     ensures ipv6 { version bytes.now ≡ 6 → (IsTrue result ↔ (ipv6_fault bytes.now ≡ None)) }
@@ -55,7 +55,7 @@ pub fn is_ip_packet(bytes: &[u8]) -> bool
     IpSlice::from_slice(bytes).is_ok()
 }
 
-/// How long the payload is, as the lax parse finds it where the strict one takes the packet.
+/// Returns the length of the payload that the lax parse finds, if the strict one accepts the packet.
 pub fn ipv6_payload_len(bytes: &[u8]) -> Option<usize>
     ensures { IfNone result (ipv6_fault bytes.now ≡ None → ⊥) }
 {
@@ -68,7 +68,7 @@ pub fn ipv6_payload_len(bytes: &[u8]) -> Option<usize>
     }
 }
 
-/// How long the base header of an IPv4 packet is.
+/// Returns the length of an IPv4 packet's base header.
 pub fn ipv4_base_len(packet: &IpSlice<'_>) -> Option<usize>
     ensures len { IfSome result (λ len. len ≡ length (ip_parts packet.now).base) }
     ensures some { IfSome result (λ _. IsTrue (is_of_ipv4 packet.now)) }
@@ -77,7 +77,7 @@ pub fn ipv4_base_len(packet: &IpSlice<'_>) -> Option<usize>
     Some(packet.ipv4()?.header().slice().len())
 }
 
-/// The payload of an IPv6 packet.
+/// Returns the payload of an IPv6 packet.
 pub fn ipv6_payload<'a>(packet: &'a IpSlice<'_>) -> Option<&'a [u8]>
     ensures payload { IfSome result (λ payload. payload.now ≡ (ip_parts packet.now).payload) }
     ensures some { IfSome result (λ _. is_of_ipv4 packet.now ≡ false) }
@@ -86,7 +86,7 @@ pub fn ipv6_payload<'a>(packet: &'a IpSlice<'_>) -> Option<&'a [u8]>
     Some(packet.ipv6()?.payload().payload)
 }
 
-/// An IPv4 packet as one of either version.
+/// Returns an IPv4 packet as one of either IP version.
 pub fn of_ipv4<'a>(packet: Ipv4Slice<'a>) -> IpSlice<'a>
     ensures parts { ip_parts result ≡ ipv4_parts packet.entry }
     ensures version { IsTrue (is_of_ipv4 result) }
@@ -94,7 +94,7 @@ pub fn of_ipv4<'a>(packet: Ipv4Slice<'a>) -> IpSlice<'a>
     packet.into()
 }
 
-/// The same of IPv6.
+/// Returns an IPv6 packet as one of either IP version.
 pub fn of_ipv6<'a>(packet: Ipv6Slice<'a>) -> IpSlice<'a>
     ensures parts { ip_parts result ≡ ipv6_parts packet.entry }
     ensures version { is_of_ipv4 result ≡ false }

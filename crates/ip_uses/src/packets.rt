@@ -6,7 +6,7 @@ ghost use Rattle.etherparse_ip.specs.IpSlice.{ip_parts};
 
 use etherparse_ip::{IpNumber, IpSlice, Ipv4ExtensionsSlice, ip_number};
 
-/// Whether a packet carries UDP, whole and not a fragment of it.
+/// Returns whether a packet's payload is UDP and not a fragment.
 pub fn is_whole_udp(packet: &[u8]) -> bool {
     match IpSlice::from_slice(packet) {
         Ok(ip) => ip.payload_ip_number() == ip_number::UDP && !ip.is_fragmenting_payload(),
@@ -14,7 +14,7 @@ pub fn is_whole_udp(packet: &[u8]) -> bool {
     }
 }
 
-/// Whether the packet has the whole payload, not a fragment of it, and it is of this protocol.
+/// Returns whether the packet has a whole payload, not a fragment, of this protocol.
 pub fn reaches_whole(protocol: IpNumber, packet: &IpSlice<'_>) -> bool
     ensures { IsTrue result ↔ (((ip_parts packet.now).number ≡ protocol.0)
         × ((ip_parts packet.now).fragmented ≡ false)) }
@@ -22,7 +22,7 @@ pub fn reaches_whole(protocol: IpNumber, packet: &IpSlice<'_>) -> bool
     packet.payload_ip_number() == protocol && !packet.is_fragmenting_payload()
 }
 
-/// How many bytes of the packet precede its payload: its base header and its extension headers.
+/// Returns how many bytes of the packet precede its payload: its base header and its extension headers.
 pub fn len_before_payload(packet: &IpSlice<'_>) -> usize
     ensures { result ≡ length (ip_parts packet.now).base
         + length (bytes_of (ip_parts packet.now).headers) }
@@ -35,7 +35,7 @@ pub fn len_before_payload(packet: &IpSlice<'_>) -> usize
     }
 }
 
-/// How many bytes the extension headers of an IPv4 packet have.
+/// Returns the length of an IPv4 packet's extension headers in bytes.
 fn exts_len(headers: Ipv4ExtensionsSlice<'_>) -> usize
     ensures len { result ≡ length (bytes_of (headers_in headers.entry)) }
     ensures few { result ≤ 1028 }

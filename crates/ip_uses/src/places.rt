@@ -16,7 +16,7 @@ use ip_ext_headers::Ipv6FragmentHeader;
 use ip_spec::one_walk_answer;
 use std::alloc::AllocError;
 
-/// The fragment header behind an IPv6 header, if there is one: what a defragmenter asks first.
+/// Returns the fragment header after an IPv6 header, if there is one: the first question of a defragmenter.
 pub fn fragment_of(start: IpNumber, packet: &[u8]) -> Option<Ipv6FragmentHeader>
     ensures { result ≡ option_map (λ h. fragment_fields h.bytes)
         (header_in fragment (fitting_chain start.0 packet.now)) }
@@ -25,7 +25,7 @@ pub fn fragment_of(start: IpNumber, packet: &[u8]) -> Option<Ipv6FragmentHeader>
     exts.fragment
 }
 
-/// The headers behind an IPv6 header in their places, with the payload and its number, where there is no fault.
+/// Returns the headers after an IPv6 header in their places, with the payload and its number, if there is no error.
 pub fn opened(start: IpNumber, packet: &[u8]) -> Option<(Ipv6Extensions, IpNumber, &[u8])>
     ensures value { IfSome result (λ x. x.0 ≡ value_of (fitting_chain start.0 packet.now)) }
     ensures number { IfSome result (λ x.
@@ -39,8 +39,8 @@ pub fn opened(start: IpNumber, packet: &[u8]) -> Option<(Ipv6Extensions, IpNumbe
     }
 }
 
-/// Appends the headers in the order that RFC 8200 recommends, before a payload of the number `payload`. It answers
-/// the number of the first, from which they are read again with the payload behind them, whatever it is.
+/// Appends the headers in the order that RFC 8200 recommends, before a payload of the number `payload`. Returns the
+/// number of the first, from which they parse again with the payload after them, whatever it is.
 pub fn put_in_order(
     headers: &mut Ipv6Extensions,
     payload: IpNumber,

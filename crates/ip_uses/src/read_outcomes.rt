@@ -1,6 +1,6 @@
-//! Callers that need what a clause says of one outcome of a read, of bytes in memory and of a window of them. Their
-//! own clauses tell the outcome by std's words and those of headers, so that none of them is proved where such a
-//! clause, or the word by which it tells the outcome, says nothing.
+//! Callers that need the clause of one result of a read, from bytes in memory and from a window of them. Their own
+//! clauses name the result in terms of std and of headers only, so none of them can be proved if such a clause, or
+//! the term by which it names the result, says nothing.
 ghost use Rattle.std.specs.Prelude.{◌≡◌, ◌≤◌, ◌<◌, ◌+◌, ◌++◌, ℕ, List, [], ◌∷◌, false, Some, length, IfSome};
 ghost use Rattle.std.specs.Bool.{OnTrue};
 ghost use Rattle.std.specs.Option.{option_map};
@@ -31,7 +31,8 @@ use ip_ext_headers::err::io::LimitedReadError;
 use ip_ext_headers::io::{ExactRead, LimitedReader};
 use ip_ext_headers::{IpAuthHeader, Ipv6RawExtHeader};
 
-/// Whether the bytes begin with no header of the common layout: then there are too few for a request.
+/// Returns whether the bytes don't start with a header in the uniform format (RFC 6564): then there are too few for a
+/// request.
 pub fn is_raw_cut(bytes: &mut &[u8]) -> bool
     ensures asked { OnTrue result ((done : List ℕ) × (count : ℕ) × RawAsks done count
         × (length bytes.old.now < length done + count)) }
@@ -41,7 +42,7 @@ pub fn is_raw_cut(bytes: &mut &[u8]) -> bool
     Ipv6RawExtHeader::read(bytes).is_err()
 }
 
-/// Whether an authentication header is cut short: then `from_slice` reports a length.
+/// Returns whether an authentication header is truncated: then `from_slice` returns a length error.
 pub fn is_auth_cut(bytes: &mut &[u8]) -> bool
     ensures { OnTrue result ((e : LengthError)
         × (auth_fault Slice (length bytes.old.now) 0 bytes.old.now ≡ Some (auth.Len e))) }
@@ -52,7 +53,8 @@ pub fn is_auth_cut(bytes: &mut &[u8]) -> bool
     }
 }
 
-/// Whether the length field of an authentication header is 0: then what stands before a check value was taken.
+/// Returns whether the length field of an authentication header is 0: then the bytes before a check value were
+/// consumed.
 pub fn is_auth_zero(bytes: &mut &[u8]) -> bool
     ensures fault { OnTrue result (auth_fault Slice (length bytes.old.now) 0 bytes.old.now
         ≡ Some (auth.Content ZeroPayloadLen)) }
@@ -65,7 +67,7 @@ pub fn is_auth_zero(bytes: &mut &[u8]) -> bool
     }
 }
 
-/// The error of a limit that doesn't leave a header of the common layout.
+/// Returns the error of a limit too small for a header in the uniform format (RFC 6564).
 pub fn raw_past_limit(reader: &mut LimitedReader<&[u8]>) -> Option<LenError>
     ensures { IfSome result (λ e. (done : List ℕ) × (count : ℕ) × RawAsks done count
         × (left (limits_of reader.old) < length done + count)
@@ -77,7 +79,8 @@ pub fn raw_past_limit(reader: &mut LimitedReader<&[u8]>) -> Option<LenError>
     }
 }
 
-/// Whether a limit leaves a header of the common layout, but the bytes below it don't.
+/// Returns whether a header in the uniform format (RFC 6564) is within the limit but the inner reader has too few
+/// bytes.
 pub fn is_raw_cut_within(reader: &mut LimitedReader<&[u8]>) -> bool
     ensures { OnTrue result ((done : List ℕ) × (count : ℕ) × RawAsks done count
         × (length done + count ≤ left (limits_of reader.old))
@@ -89,7 +92,7 @@ pub fn is_raw_cut_within(reader: &mut LimitedReader<&[u8]>) -> bool
     }
 }
 
-/// Whether what stands behind an IPv4 header is cut short.
+/// Returns whether the bytes after an IPv4 header are truncated.
 pub fn is_ipv4_cut(bytes: &mut &[u8], start: IpNumber) -> bool
     ensures { OnTrue result ((e : LengthError)
         × (ipv4_chain_fault start.0 bytes.old.now ≡ Some (auth.Len e))) }
@@ -100,7 +103,7 @@ pub fn is_ipv4_cut(bytes: &mut &[u8], start: IpNumber) -> bool
     }
 }
 
-/// What of a header's content can't be, in a chain that is read into six places.
+/// Returns the error in a header's bytes, for a chain that is read into six places.
 pub fn chain_content(bytes: &mut &[u8], start: IpNumber) -> Option<ipv6_exts::HeaderError>
     ensures { IfSome result (λ e. option_map (λ f. f.0) (fitting_fault start.0 bytes.old.now)
         ≡ Some (chain.Content e)) }
@@ -111,8 +114,8 @@ pub fn chain_content(bytes: &mut &[u8], start: IpNumber) -> Option<ipv6_exts::He
     }
 }
 
-/// Whether such a chain is cut short: then `from_slice` reports a length, and behind headers that fit there are too
-/// few bytes for a request of the next one, whose place is free.
+/// Returns whether a chain read into six places is truncated: then `from_slice` returns a length error, and after
+/// headers that fit there are too few bytes for a request of the next one, whose place is free.
 pub fn is_chain_cut(bytes: &mut &[u8], start: IpNumber) -> bool
     ensures fault { OnTrue result ((e : LengthError)
         × (option_map (λ f. f.0) (fitting_fault start.0 bytes.old.now) ≡ Some (chain.Len e))) }
@@ -127,7 +130,7 @@ pub fn is_chain_cut(bytes: &mut &[u8], start: IpNumber) -> bool
     }
 }
 
-/// The error of a limit that doesn't leave the next header of a chain.
+/// Returns the error of a limit too small for the next header of a chain.
 pub fn chain_past_limit(reader: &mut LimitedReader<&[u8]>, start: IpNumber) -> Option<LenError>
     ensures { IfSome result (λ e. (count : ℕ) × (e ≡ limit_error count (limits_of reader.new))) }
 {
@@ -137,8 +140,8 @@ pub fn chain_past_limit(reader: &mut LimitedReader<&[u8]>, start: IpNumber) -> O
     }
 }
 
-/// Whether a chain was read: then the reader has failed only where it had before, and its next bytes are those after
-/// a chain from the start number.
+/// Returns whether a chain was read: then the reader has failed only if it had before, and its next bytes are those
+/// after a chain from the start number.
 pub fn is_chain_read<T: ExactRead>(reader: &mut T, start: IpNumber) -> bool
     ensures kept { OnTrue result (T.has_failed reader.new ≡ T.has_failed reader.old) }
     ensures taken { OnTrue result ((c : List ExtHeader) × IsChain start.0 c
@@ -147,8 +150,8 @@ pub fn is_chain_read<T: ExactRead>(reader: &mut T, start: IpNumber) -> bool
     Ipv6Extensions::read(reader, start).is_ok()
 }
 
-/// Where a reader with a limit is after a chain that was read, as an offset in bytes: after the bytes of the chain, in
-/// the layer of its last header.
+/// Returns the position of a reader with a limit after a chain was read, as an offset in bytes: after the bytes of
+/// the chain, in the layer of its last header.
 pub fn offset_after_chain<T: ExactRead>(
     reader: &mut LimitedReader<T>,
     start: IpNumber,
@@ -165,7 +168,7 @@ pub fn offset_after_chain<T: ExactRead>(
 {
     match Ipv6Extensions::read_limited(reader, start) {
         Ok(_) => {
-            // The sum fits, since the limit and 2048 more do.
+            // The sum fits: the contract of `max_len` bounds the offset and the limit.
             let _ = reader.max_len();
             Some(reader.layer_offset() + reader.read_len())
         }

@@ -18,7 +18,7 @@ use ip_ext_headers::io::{ExactRead, LimitedReader};
 use ip_ext_headers::{IpAuthHeader, Ipv6RawExtHeader};
 use std::io;
 
-/// Reads a number of two bytes, big endian.
+/// Reads a big-endian number of two bytes.
 pub fn read_u16<T: ExactRead>(reader: &mut T) -> io::Result<u16>
     ensures { IfOk result (λ number. (b : List ℕ) × (from_be_bytes w16 b ≡ number)
         × Consumes (T.bytes_left reader.old) (T.bytes_left reader.new) b) }
@@ -28,9 +28,10 @@ pub fn read_u16<T: ExactRead>(reader: &mut T) -> io::Result<u16>
     Ok(u16::from_be_bytes(bytes))
 }
 
-/// Reads the extension headers of an IPv6 packet from a stream that stands behind its base header, whose next
-/// number and payload length are given: the headers, the number of what follows them, how many bytes of the payload
-/// are left, and the stream, of which nothing else was taken. The length errors count from the base header's start.
+/// Reads the extension headers of an IPv6 packet from a stream that is positioned after its base header, with the
+/// base header's next header and payload length. Returns the headers, the number of what follows them, how many bytes
+/// of the payload are left, and the stream, from which nothing else was consumed. Offsets in length errors count from
+/// the start of the base header.
 pub fn read_under_payload_len<T: ExactRead + Drop>(
     stream: T,
     next_header: IpNumber,
@@ -58,7 +59,7 @@ pub fn read_under_payload_len<T: ExactRead + Drop>(
     }
 }
 
-/// Reads options and the authentication header behind them, header by header.
+/// Reads options and the authentication header after them, header by header.
 pub fn read_options_and_auth<T: ExactRead>(
     reader: &mut T,
 ) -> Result<(Ipv6RawExtHeader, IpAuthHeader), HeaderReadError>
@@ -77,7 +78,7 @@ pub fn read_options_and_auth<T: ExactRead>(
     }
 }
 
-/// Reads the next authentication header over this one. Where none came, this one stays.
+/// Reads the next authentication header into this one. After an error this one is unchanged.
 pub fn read_next_auth<T: ExactRead>(header: &mut IpAuthHeader, reader: &mut T) -> bool
     ensures next { OnTrue result ((b : List ℕ) × IsAuthHeader b × (auth_fields b ≡ header.new)
         × Consumes (T.bytes_left reader.old) (T.bytes_left reader.new) b) }
@@ -86,8 +87,8 @@ pub fn read_next_auth<T: ExactRead>(header: &mut IpAuthHeader, reader: &mut T) -
     header.read_over(reader).is_ok()
 }
 
-/// Reads a header of bytes in memory, and cuts it off. It says what `from_slice` says of these bytes, the rest being
-/// what is left of them.
+/// Reads a header from bytes in memory, and removes it from them. The result is that of `from_slice` for these bytes,
+/// with the rest left.
 pub fn read_in_memory(bytes: &mut &[u8]) -> Option<Ipv6RawExtHeader>
     ensures decoding { IfSome result (λ h. IsRawDecoding bytes.old.now h bytes.new.now) }
     ensures none { IfNone result ((b : List ℕ) → IsRawHeader b → IsPrefix b bytes.old.now → ⊥) }

@@ -11,7 +11,7 @@ use ip_base::IpNumber;
 use ip_ext_chains::{Ipv6Extensions, Ipv6ExtensionsRuns};
 use std::alloc::{AllocError, Global};
 
-/// How many structs of six places hold all headers that begin the bytes.
+/// Returns the number of structs of six places that hold all headers at the start of the bytes.
 pub fn count_runs(start: IpNumber, packet: &[u8]) -> usize
     ensures exact { result ≡ length (runs_of start.0 packet.now) }
     ensures least { 1 ≤ result }
@@ -20,7 +20,7 @@ pub fn count_runs(start: IpNumber, packet: &[u8]) -> usize
     Ipv6ExtensionsRuns::new(start, packet).count()
 }
 
-/// The structs, in order.
+/// Returns the structs, in order.
 pub fn list_runs(
     alloc: Global,
     start: IpNumber,
@@ -31,7 +31,7 @@ pub fn list_runs(
     Ipv6ExtensionsRuns::new(start, packet).collect(alloc)
 }
 
-/// The sum of their lengths, and the number and the bytes behind the last.
+/// Returns the sum of their lengths, and the number and the bytes after the last.
 pub fn len_of_runs(start: IpNumber, packet: &[u8]) -> (usize, IpNumber, &[u8])
     ensures number { result.1.0 ≡ leads_to start.0 (longest_chain start.0 packet.now) }
     ensures rest { result.2.now ≡ rest_behind (longest_chain start.0 packet.now) packet.now }
@@ -47,7 +47,7 @@ pub fn len_of_runs(start: IpNumber, packet: &[u8]) -> (usize, IpNumber, &[u8])
     }
 }
 
-/// The sum of their lengths.
+/// Returns the sum of their lengths.
 pub fn sum_of_runs(start: IpNumber, packet: &[u8]) -> usize {
     let mut len: usize = 0;
     for exts in Ipv6ExtensionsRuns::new(start, packet) {
@@ -56,7 +56,7 @@ pub fn sum_of_runs(start: IpNumber, packet: &[u8]) -> usize {
     len
 }
 
-/// The number to which the headers lead, from the last run on.
+/// Returns the number to which the headers lead, from the last run on.
 pub fn number_behind_runs(runs: &Ipv6ExtensionsRuns<'_>) -> Option<IpNumber>
     ensures { IfSome result (λ number. number.0
         ≡ leads_to (start runs.now) (longest_chain (start runs.now) (input runs.now))) }
@@ -67,7 +67,7 @@ pub fn number_behind_runs(runs: &Ipv6ExtensionsRuns<'_>) -> Option<IpNumber>
     }
 }
 
-/// The number to which the next run leads, where there is one.
+/// Returns the number to which the next run leads, if there is one.
 pub fn number_behind_next_run(runs: &mut Ipv6ExtensionsRuns<'_>) -> Option<IpNumber>
     ensures { IfSome result (λ number. (run : List ExtHeader)
         × (runs_left runs.old ≡ run ∷ runs_left runs.new)
@@ -77,7 +77,7 @@ pub fn number_behind_next_run(runs: &mut Ipv6ExtensionsRuns<'_>) -> Option<IpNum
     Some(runs.next_number())
 }
 
-/// The number from which the first run is to be written.
+/// Returns the number from which the first run is to be written.
 pub fn number_of_first_run(start: IpNumber, packet: &[u8]) -> IpNumber
     ensures { result.0 ≡ start.0 }
 {

@@ -6,7 +6,7 @@ ghost use Rattle.ipexts_tool.specs.Lines.{lines_of};
 use ipexts_tool::{ToolError, run};
 use std::alloc::Global;
 
-/// The answers to the lines of a text that is in memory.
+/// Returns the answers to the lines of a text in memory.
 pub fn answers_in_memory(alloc: Global, text: &[u8]) -> Result<Vec<u8>, ToolError>
     ensures { IfOk result (λ output. output.items ≡ answers text.now) }
 {
@@ -16,7 +16,7 @@ pub fn answers_in_memory(alloc: Global, text: &[u8]) -> Result<Vec<u8>, ToolErro
     Ok(output)
 }
 
-/// How many bytes of a text are left where all its lines are answered: none.
+/// Returns how many bytes of a text are left after all its lines are answered: none.
 pub fn left_of_text(alloc: Global, text: &[u8]) -> Result<usize, ToolError>
     ensures { IfOk result (λ left. left ≡ 0) }
 {
@@ -26,7 +26,7 @@ pub fn left_of_text(alloc: Global, text: &[u8]) -> Result<usize, ToolError>
     Ok(input.len())
 }
 
-/// The answers that stand where memory ran out: those to some first lines.
+/// Returns the answers written before memory ran out: those to the first lines, up to some line.
 pub fn answers_before_want_of_memory(alloc: Global, text: &[u8]) -> Option<Vec<u8>>
     ensures { IfSome result (λ output. (n : ℕ)
         × (output.items ≡ answers_to (take n (lines_of text.now)))) }

@@ -1,4 +1,4 @@
-//! Calls that need no memory, made while a heap has none left.
+//! Calls that need no memory, on a heap without free memory.
 use crate::long_chains::SIX;
 use crate::memory::take_all;
 use etherparse_ip::err::ipv6_exts::{HeaderError, HeaderSliceError};
@@ -14,7 +14,7 @@ use linked_list_allocator::LocalHeap;
 use std::process::Abort;
 use std::test::Fail;
 
-/// An error of a length that the slice has.
+/// Returns a length error with the slice as its source.
 fn too_short(required_len: usize, len: usize, layer: Layer, offset: usize) -> LenError {
     LenError {
         required_len,
@@ -25,8 +25,8 @@ fn too_short(required_len: usize, len: usize, layer: Layer, offset: usize) -> Le
     }
 }
 
-/// The error that ends a chain: too few bytes, with those required, those left, the layer and the offset, or hop by hop
-/// options after a header.
+/// The error that ends a chain: too few bytes, with those required, those left, the layer and the offset, or
+/// hop-by-hop options after a header.
 #[derive(Clone, Copy)]
 enum Fault {
     TooShort(usize, usize, Layer, usize),
@@ -43,7 +43,7 @@ fn error_of(fault: Fault) -> HeaderSliceError {
 }
 
 /// The start number and the bytes of a chain, the length of its headers and the number that follows them, both also
-/// where the headers are put into six places, the error that ends the chain, and whether the six places end before.
+/// for six places, the error that ends the chain, and whether the six places end before it.
 type Row<'a> = (
     u8,
     &'a [u8],
@@ -272,7 +272,7 @@ fn single_headers(rt: HostRuntime) -> Result<(), Fail> {
     Ok(())
 }
 
-/// An IPv6 packet with these eight bytes after its base header.
+/// Returns an IPv6 packet with these eight bytes after its base header.
 fn ipv6_packet(payload_length: u8, next_header: u8, last: [u8; 8]) -> [u8; 48] {
     let mut bytes = [0; 48];
     bytes[0] = 0x60;
@@ -282,8 +282,8 @@ fn ipv6_packet(payload_length: u8, next_header: u8, last: [u8; 8]) -> [u8; 48] {
     bytes
 }
 
-/// The payload of an IPv6 packet and the source of its length, as the lax parse returns them and as the strict one
-/// does, or the strict parse's error.
+/// Checks the payload of an IPv6 packet and the source of its length, as the lax parse returns them. The strict parse
+/// returns the same, or this error.
 fn check_ipv6(
     rt: &impl Abort,
     bytes: &[u8],

@@ -1,11 +1,11 @@
-//! Header slices at the front of bytes.
+//! Header slices at the start of bytes.
 use ip_base::err::{Layer, LenError};
 use ip_base::{IpNumber, LenSource};
 use ip_ext_headers::err::ip_auth::{HeaderError, HeaderSliceError};
 use ip_ext_headers::{IpAuthHeaderSlice, Ipv6FragmentHeaderSlice, Ipv6RawExtHeaderSlice};
 use std::test::Fail;
 
-/// So many bytes where a header at the front needs more.
+/// Returns the error for this many bytes if a header at the start needs more.
 pub(crate) fn missing(required_len: usize, len: usize, layer: Layer) -> LenError {
     LenError {
         required_len,

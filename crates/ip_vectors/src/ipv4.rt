@@ -10,7 +10,7 @@ use ip_plain::{next_len, plain_fault};
 use std::process::Abort;
 use std::test::Fail;
 
-/// Start number and bytes; the length of the header; number, how many bytes are left, and fault.
+/// Start number and bytes; the length of the header; the next number, the number of bytes left, and the error.
 #[derive(Drop)]
 struct Row<'a> {
     name: &'a str,
@@ -22,7 +22,7 @@ struct Row<'a> {
     fault: Option<HeaderSliceError>,
 }
 
-/// The plain slow program answers the row: a header goes on at 51 alone, and has a fault there alone.
+/// Checks the row with the slow plain program: only number 51 can have a header or an error.
 fn check_plain(rt: &impl Abort, row: &Row<'_>) {
     let (mut header, mut fault) = (None, None);
     if row.start == 51 {
@@ -45,7 +45,7 @@ fn check_plain(rt: &impl Abort, row: &Row<'_>) {
     assert_eq!(rt; fault, row.fault, "{name}");
 }
 
-/// All forms of the parse answer the row.
+/// Checks the row with all forms of the parse.
 fn check(rt: &impl Abort, row: &Row<'_>) -> Result<(), Fail> {
     let name = row.name;
     check_plain(rt, row);
@@ -81,7 +81,7 @@ fn check(rt: &impl Abort, row: &Row<'_>) -> Result<(), Fail> {
     Ok(())
 }
 
-/// What begins the bytes, and what the parses answer.
+/// Bytes, and the results of the parses.
 const ROWS: [Row<'static>; 6] = [
     Row {
         name: "no extension number",

@@ -1,5 +1,5 @@
-//! Test vectors for numbers, single headers, IPv4 headers and lines of the tool, for long chains, and for calls while
-//! memory is refused.
+//! Test vectors for numbers, single headers, IPv4 headers and lines of the tool, for long chains, and for calls
+//! without free memory.
 #![tactic(auto)]
 
 #[cfg(test)]

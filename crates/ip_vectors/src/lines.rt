@@ -5,7 +5,7 @@ use std::alloc::Global;
 use std::process::Abort;
 use std::test::Fail;
 
-/// Whether both answer the input so.
+/// Returns whether both give these answers to the input.
 fn is_answered(alloc: Global, input: &[u8], answers: &[u8]) -> Result<bool, Fail> {
     let plain = plain_answers(alloc, input)?;
     let mut left = input;
@@ -14,7 +14,7 @@ fn is_answered(alloc: Global, input: &[u8], answers: &[u8]) -> Result<bool, Fail
     Ok(plain.as_slice() == answers && output.as_slice() == answers)
 }
 
-/// Both answer each input as its row says.
+/// Checks that both answer each input as its row says.
 fn check(rt: &impl Abort, alloc: Global, rows: &[(&[u8], &[u8])]) -> Result<(), Fail> {
     for (input, answers) in rows {
         assert!(rt; is_answered(alloc, input, answers)?, "{input:?}");

@@ -1,4 +1,4 @@
-//! Long chains, and chains that are cut short at each byte.
+//! Long chains, and chains truncated at each byte.
 use ip_base::IpNumber;
 use ip_ext_chains::{
     Ipv6Extensions, Ipv6ExtensionsCursor, Ipv6ExtensionsRuns, Ipv6ExtensionsSlice,
@@ -7,7 +7,7 @@ use ip_plain::{plain_longest_chain, whole_within};
 use std::alloc::{AllocError, Global};
 use std::test::Fail;
 
-/// Fragment headers, each leading to the next, the last to 17.
+/// Returns fragment headers, each leading to the next, the last to 17.
 fn fragment_headers(alloc: Global, count: u32) -> Result<Vec<u8>, AllocError> {
     let mut bytes = Vec::new(alloc);
     for header in 1..=count {
@@ -38,13 +38,13 @@ fn four_thousand_headers(rt: HostRuntime) -> Result<(), Fail> {
     Ok(())
 }
 
-/// Hop by hop options, destination options, routing, fragment, authentication and destination options.
+/// Hop-by-hop options, destination options, routing, fragment, authentication and destination options.
 pub(crate) const SIX: [u8; 52] = [
     60, 0, 0, 0, 0, 0, 0, 0, 43, 0, 0, 0, 0, 0, 0, 0, 44, 0, 0, 0, 0, 0, 0, 0, 51, 0, 0, 0, 0, 0,
     0, 0, 60, 1, 0, 0, 0, 0, 0, 0, 0, 0, 0, 0, 17, 0, 0, 0, 0, 0, 0, 0,
 ];
 
-/// How many of the first bytes are whole headers, and how many headers they are.
+/// Returns how many of the first bytes are whole headers, and how many headers they are.
 fn whole_headers(cut: usize) -> (usize, usize) {
     match cut {
         0..8 => (0, 0),

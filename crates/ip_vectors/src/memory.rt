@@ -1,4 +1,4 @@
-//! Writes into vectors on a heap that has no memory left.
+//! Writes into vectors on a heap without free memory.
 use crate::long_chains::SIX;
 use ip_base::{IpFragOffset, IpNumber};
 use ip_ext_chains::err::{ipv4_exts, ipv6_exts};
@@ -9,8 +9,8 @@ use std::alloc::{AllocError, Global};
 use std::process::Abort;
 use std::test::Fail;
 
-/// Takes all free memory of the heap, which hands out blocks of 16 bytes and multiples of it. Until these blocks are
-/// dropped it refuses each allocation.
+/// Takes all free memory of the heap, which allocates blocks of multiples of 16 bytes. Until these blocks are
+/// dropped, each allocation fails.
 pub(crate) fn take_all<'a>(
     rt: &impl Abort,
     alloc: Global,
@@ -27,7 +27,7 @@ pub(crate) fn take_all<'a>(
     Ok(blocks)
 }
 
-/// A header or a chain that is written, a chain from this number.
+/// A header to write, or a chain from this number.
 #[derive(Drop)]
 enum Item {
     Raw(Ipv6RawExtHeader),
@@ -88,10 +88,10 @@ fn write(item: &Item, out: &mut Vec<u8, &LocalHeap>) -> Outcome {
     }
 }
 
-/// A name, what is written, the room that it asks for first, the bytes that it then appends, and the outcome.
+/// A name, the item to write, the room that it requests first, the bytes that it then appends, and the result.
 type Row<'a> = (&'a str, Item, u16, &'a [u8], Outcome);
 
-/// Writes into a vector that holds three bytes and has `room` for more, with no memory left and then with memory.
+/// Writes into a vector of three bytes with `room` for more, without free memory and then with it.
 fn check_room(rt: &impl Abort, alloc: Global, room: u16, row: &Row<'_>) -> Result<(), Fail> {
     let (name, item, needed, bytes, outcome) = row;
     let heap = LocalHeap::new(alloc, 1 << 13)?;
@@ -117,7 +117,7 @@ fn check_room(rt: &impl Abort, alloc: Global, room: u16, row: &Row<'_>) -> Resul
     Ok(())
 }
 
-/// Checks each row without room, with a byte less than it needs, and with what it needs.
+/// Checks each row without room, with a byte less than it needs, and with as much as it needs.
 fn check(rt: &impl Abort, alloc: Global, rows: &[Row<'_>]) -> Result<(), Fail> {
     for row in rows {
         let (_, _, needed, _, _) = row;

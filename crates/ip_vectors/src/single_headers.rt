@@ -1,4 +1,4 @@
-//! Owned headers: read, made, changed and written.
+//! Owned headers: parsed, built, changed and written.
 use crate::header_slices::missing;
 use arrayvec::ArrayVec;
 use ip_base::err::{Layer, LenError};
@@ -13,7 +13,7 @@ use ip_ext_headers::{
 };
 use std::test::Fail;
 
-/// Bytes that differ from place to place, with the length byte, and with 1 and 2 from `end` on.
+/// Returns bytes that differ from place to place, with the length byte, and with 1 and 2 from `end` on.
 fn bytes_with(length: u8, end: usize) -> [u8; 2050] {
     let mut bytes = [0u8; 2050];
     for (i, byte) in bytes.iter_mut().enumerate() {
@@ -27,14 +27,14 @@ fn bytes_with(length: u8, end: usize) -> [u8; 2050] {
     bytes
 }
 
-/// Whether the struct and the slice of the common layout refuse the bytes with the fault.
+/// Returns whether the struct and the slice of the uniform format (RFC 6564) refuse the bytes with this error.
 fn is_raw_refused(bytes: &[u8], fault: &LenError) -> bool {
     let header = Ipv6RawExtHeader::from_slice(bytes);
     let slice = Ipv6RawExtHeaderSlice::from_slice(bytes);
     matches!(header, Err(e) if e == *fault) && matches!(slice, Err(e) if e == *fault)
 }
 
-/// Whether every cut of a header of the common layout is refused.
+/// Returns whether every truncation of a header in the uniform format (RFC 6564) is refused.
 fn are_raw_cuts_refused(bytes: &[u8]) -> bool {
     let mut refused = true;
     for cut in 0..bytes.len() {
@@ -45,7 +45,7 @@ fn are_raw_cuts_refused(bytes: &[u8]) -> bool {
     refused
 }
 
-/// Whether the struct has the fields of the bytes, and is written as them.
+/// Returns whether the struct has the fields of the bytes, and is written as these bytes.
 fn is_raw_header_of(header: &Ipv6RawExtHeader, bytes: &[u8]) -> bool {
     bytes.len() >= 2
         && header.next_header == IpNumber(bytes[0])
@@ -54,7 +54,7 @@ fn is_raw_header_of(header: &Ipv6RawExtHeader, bytes: &[u8]) -> bool {
         && header.to_bytes().as_slice() == bytes
 }
 
-/// Whether the slice agrees with the struct, and its copy with it.
+/// Returns whether the slice agrees with the struct, and its copy with it.
 fn is_raw_slice_of(slice: &Ipv6RawExtHeaderSlice<'_>, header: &Ipv6RawExtHeader) -> bool {
     slice.next_header() == header.next_header
         && slice.payload() == header.payload()
@@ -79,14 +79,14 @@ fn every_cut_of_raw_headers(rt: HostRuntime) -> Result<(), Fail> {
     Ok(())
 }
 
-/// Whether the struct and the slice of authentication headers refuse the bytes with the fault.
+/// Returns whether the struct and the slice of authentication headers refuse the bytes with this error.
 fn is_auth_refused(bytes: &[u8], fault: &HeaderSliceError) -> bool {
     let header = IpAuthHeader::from_slice(bytes);
     let slice = IpAuthHeaderSlice::from_slice(bytes);
     matches!(header, Err(e) if e == *fault) && matches!(slice, Err(e) if e == *fault)
 }
 
-/// Whether every cut of an authentication header is refused.
+/// Returns whether every truncation of an authentication header is refused.
 fn are_auth_cuts_refused(bytes: &[u8]) -> bool {
     let mut refused = true;
     for cut in 0..bytes.len() {
@@ -97,8 +97,8 @@ fn are_auth_cuts_refused(bytes: &[u8]) -> bool {
     refused
 }
 
-/// Whether the struct has the fields of the bytes, which count up from 0 but for the length, and is written
-/// as them with reserved bytes zero.
+/// Returns whether the struct has the fields of the bytes, which count up from 0 except for the length, and is
+/// written as these bytes with reserved bytes zero.
 fn is_auth_header_of(header: &IpAuthHeader, bytes: &[u8]) -> bool {
     let written = header.to_bytes();
     bytes.len() >= 12
@@ -112,7 +112,7 @@ fn is_auth_header_of(header: &IpAuthHeader, bytes: &[u8]) -> bool {
         && written.as_slice().ends_with(&bytes[4..])
 }
 
-/// Whether the slice agrees with the struct, and its copy with it.
+/// Returns whether the slice agrees with the struct, and its copy with it.
 fn is_auth_slice_of(slice: &IpAuthHeaderSlice<'_>, header: &IpAuthHeader) -> bool {
     slice.next_header() == header.next_header
         && slice.spi() == header.spi

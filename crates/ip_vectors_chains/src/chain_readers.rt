@@ -1,4 +1,4 @@
-//! Chains that are read from bytes in memory and from streams, with and without a limit.
+//! Chains read from bytes in memory and from streams, with and without a limit.
 use crate::readers::{STREAMS, front, stream_of};
 use ip_base::err::{Layer, LenError};
 use ip_base::{IpNumber, LenSource};
@@ -28,7 +28,7 @@ fn content(error: HeaderError) -> Outcome {
     }
 }
 
-/// Reads headers and compares them with those that begin the bytes.
+/// Reads headers and compares them with those at the start of the bytes.
 fn read<T: ExactRead>(reader: &mut T, start: u8, bytes: &[u8]) -> Outcome {
     let (expected, _, _, _) = Ipv6Extensions::from_slice_lax(IpNumber(start), bytes);
     match Ipv6Extensions::read(reader, IpNumber(start)) {
@@ -51,7 +51,7 @@ fn read_limited<T: ExactRead>(reader: &mut LimitedReader<T>, start: u8, bytes: &
     }
 }
 
-/// Offset, limit and bytes read of the layer, and the layer.
+/// Returns the layer's offset, limit and number of bytes read, and the layer.
 fn state<T>(reader: &LimitedReader<T>) -> (usize, usize, usize, Layer) {
     (
         reader.layer_offset(),
@@ -77,7 +77,7 @@ const SIX: [u8; 54] = [
     3, 4, 60, 1, 0, 0, 1, 2, 3, 4, 5, 6, 7, 8, 17, 0, 1, 2, 3, 4, 5, 6, 9, 9,
 ];
 
-/// The layers of its headers and their requests.
+/// The layers of these headers and their requests.
 const SIX_REQUESTS: [(Layer, &[usize]); 6] = [
     (Layer::Ipv6ExtHeader, &[2, 6]),
     (Layer::Ipv6ExtHeader, &[2, 6]),
@@ -87,8 +87,8 @@ const SIX_REQUESTS: [(Layer, &[usize]); 6] = [
     (Layer::Ipv6ExtHeader, &[2, 6]),
 ];
 
-/// The result of a read of the six headers where the reader has `there` bytes, and the state of the limit after it. The
-/// first request that the limit or the bytes don't suffice for ends it; the limit is checked first.
+/// Returns the result of a read of the six headers if the reader has `there` bytes, and the state of the limit after
+/// it. The first request that exceeds the limit or the bytes ends it; the limit is checked first.
 fn expected(
     there: usize,
     limit: usize,
@@ -219,7 +219,7 @@ fn two_headers_and_what_is_left(rt: HostRuntime) {
     assert_eq!(rt; state(&reader), (48, 8, 2, layer));
 }
 
-/// Start number, bytes, the number that a read returns, and the count of bytes that it leaves.
+/// Start number, bytes, the number that a read returns, and the number of bytes that it leaves.
 const ENDS: [(&str, u8, &[u8], u8, usize); 5] = [
     (
         "second destination options",
@@ -293,7 +293,7 @@ fn no_header_leaves_the_reader_as_it_was(rt: HostRuntime) {
     assert_eq!(rt; reader.take_reader().len(), 51);
 }
 
-/// Hop by hop options that aren't first, and an authentication header of length 0.
+/// Hop-by-hop options that aren't first, and an authentication header of length 0.
 const WRONG: [(u8, &[u8], Outcome, usize, Layer); 3] = [
     (
         60,

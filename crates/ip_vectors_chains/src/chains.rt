@@ -1,4 +1,4 @@
-//! Chains that are borrowed from bytes.
+//! Chains borrowed from bytes.
 use ip_base::err::{Layer, LenError};
 use ip_base::{IpNumber, LenSource};
 use ip_ext_chains::err::ip_auth;
@@ -9,7 +9,7 @@ use std::alloc::Global;
 use std::process::Abort;
 use std::test::Fail;
 
-/// Start number and bytes; the number and length of each header; number, rest and fault.
+/// Start number and bytes; the number and length of each header; the next number, the rest and the error.
 #[derive(Drop)]
 struct Row<'a> {
     name: &'a str,
@@ -38,7 +38,7 @@ pub(crate) fn missing(
     Some((HeaderSliceError::Len(error), layer))
 }
 
-/// The parses of the chain crate answer the row.
+/// Checks the row with the parses of the chain crate.
 fn check_parse(rt: &impl Abort, row: &Row<'_>) -> Result<(), Fail> {
     let name = row.name;
     let start = IpNumber(row.start);
@@ -70,7 +70,7 @@ fn check_parse(rt: &impl Abort, row: &Row<'_>) -> Result<(), Fail> {
     check_iterator(rt, row, chain)
 }
 
-/// The iterator yields the row's headers, and then nothing for ever.
+/// Checks that the iterator returns the row's headers, and `None` from then on.
 fn check_iterator(
     rt: &impl Abort,
     row: &Row<'_>,
@@ -97,7 +97,8 @@ fn check_iterator(
     Ok(())
 }
 
-/// The cursor gives the row's headers, tells the end from the last of them on, and gives nothing behind it.
+/// Checks that the cursor returns the row's headers, reports the end from the last of them on, and returns nothing
+/// after it.
 fn check_cursor(rt: &impl Abort, row: &Row<'_>) -> Result<(), Fail> {
     let name = row.name;
     let mut headers = Ipv6ExtensionsCursor::new(IpNumber(row.start), row.bytes);
@@ -135,7 +136,7 @@ fn check_cursor(rt: &impl Abort, row: &Row<'_>) -> Result<(), Fail> {
     Ok(())
 }
 
-/// The plain slow program answers the row too.
+/// Checks the row with the slow plain program.
 fn check_plain(rt: &impl Abort, alloc: Global, row: &Row<'_>) -> Result<(), Fail> {
     let name = row.name;
     let plain = plain_longest_chain(alloc, row.start, row.bytes)?;
@@ -290,7 +291,7 @@ fn defaults(rt: HostRuntime) -> Result<(), Fail> {
     Ok(())
 }
 
-/// Cursors over the same bytes differ where one has gone on, and where they started at other numbers.
+/// Checks that cursors over the same bytes differ if one has moved, or if they started at different numbers.
 #[test]
 fn cursors_that_differ(rt: HostRuntime) -> Result<(), Fail> {
     let bytes: &[u8] = &[60, 0, 0, 0, 0, 0, 0, 0, 59, 0, 0, 0, 0, 0, 0, 0];
@@ -305,7 +306,7 @@ fn cursors_that_differ(rt: HostRuntime) -> Result<(), Fail> {
     Ok(())
 }
 
-/// The iterator behind the last header of a fragment header that names `number`.
+/// Returns the iterator after the last header: a fragment header with next header `number`.
 fn exhausted(number: u8) -> Ipv6ExtensionSliceIter<'static> {
     let bytes: &'static [u8] = match number {
         17 => &[17, 0, 0, 0, 0, 0, 0, 0],

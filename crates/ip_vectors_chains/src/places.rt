@@ -1,4 +1,4 @@
-//! Chains whose headers are put into six places.
+//! Chains whose headers are stored in six places.
 use crate::chains::missing;
 use ip_base::IpNumber;
 use ip_base::err::Layer;
@@ -11,7 +11,8 @@ use std::alloc::Global;
 use std::process::Abort;
 use std::test::Fail;
 
-/// Start number and bytes; where the header of each place begins and how long it is; number, rest and fault.
+/// Start number and bytes; the offset and length of the header in each place; the next number, the rest and the
+/// error.
 #[derive(Drop)]
 struct Row<'a> {
     name: &'a str,
@@ -23,7 +24,7 @@ struct Row<'a> {
     fault: Option<(HeaderSliceError, Layer)>,
 }
 
-/// The bytes in which a header is expected.
+/// Returns the bytes in which a header is expected.
 fn part_of<'a>(bytes: &'a [u8], place: &Option<(usize, usize)>) -> Option<&'a [u8]> {
     match place {
         Some((at, len)) => bytes.get(*at..)?.get(..*len),
@@ -31,13 +32,13 @@ fn part_of<'a>(bytes: &'a [u8], place: &Option<(usize, usize)>) -> Option<&'a [u
     }
 }
 
-/// The header of the common layout that the bytes are.
+/// Returns the bytes as a header in the uniform format (RFC 6564).
 fn raw(bytes: Option<&[u8]>) -> Option<Ipv6RawExtHeader> {
     let header = Ipv6RawExtHeaderSlice::from_slice(bytes?).ok()?;
     Some(header.to_header())
 }
 
-/// The struct that the row expects.
+/// Returns the struct that the row expects.
 fn expected(row: &Row<'_>) -> Ipv6Extensions {
     let [hop_by_hop, destination, routing, fragment, auth, last] = &row.places;
     let routing = match raw(part_of(row.bytes, routing)) {
@@ -70,13 +71,13 @@ fn expected(row: &Row<'_>) -> Ipv6Extensions {
     }
 }
 
-/// Both parses and the plain program answer the row.
+/// Checks the row with both parses and the plain program.
 fn check(rt: &impl Abort, alloc: Global, row: &Row<'_>) -> Result<(), Fail> {
     check_plain(rt, alloc, row)?;
     check_parses(rt, row)
 }
 
-/// Both parses answer the row, and the struct has the lengths of the headers.
+/// Checks the row with both parses, and the lengths of the struct's headers.
 fn check_parses(rt: &impl Abort, row: &Row<'_>) -> Result<(), Fail> {
     let name = row.name;
     let start = IpNumber(row.start);
@@ -108,7 +109,7 @@ fn check_parses(rt: &impl Abort, row: &Row<'_>) -> Result<(), Fail> {
     Ok(())
 }
 
-/// Both slice parses answer this number, so many bytes that are left, and this fault.
+/// Checks that both slice parses return this number, this number of bytes left, and this error.
 fn check_slice(
     rt: &impl Abort,
     row: &Row<'_>,
@@ -134,7 +135,7 @@ fn check_slice(
     Ok(())
 }
 
-/// The plain slow program takes as many bytes.
+/// Checks that the slow plain program consumes as many bytes.
 fn check_plain(rt: &impl Abort, alloc: Global, row: &Row<'_>) -> Result<(), Fail> {
     let name = row.name;
     let plain = plain_longest_chain(alloc, row.start, row.bytes)?;
@@ -292,13 +293,14 @@ fn taken_places(rt: HostRuntime) -> Result<(), Fail> {
     check_slice(&rt, &whole_and_taken, 44, 0, &no_more)
 }
 
-/// Hop by hop options, destination options, routing, fragment, authentication and destination options.
+/// Hop-by-hop options, destination options, routing, fragment, authentication and destination options.
 const SIX: [u8; 52] = [
     60, 0, 0, 0, 0, 0, 0, 0, 43, 0, 0, 0, 0, 0, 0, 0, 44, 0, 0, 0, 0, 0, 0, 0, 51, 0, 0, 0, 0, 0,
     0, 0, 60, 1, 0, 0, 0, 0, 0, 0, 0, 0, 0, 0, 17, 0, 0, 0, 0, 0, 0, 0,
 ];
 
-/// At each cut: how many bytes its headers have, the number behind them, and how many bytes are missing there.
+/// Returns, for a truncation at `cut`, the length of the whole headers, the number after them, and the bytes that the
+/// next header needs.
 fn six_cut_at(cut: usize) -> (usize, u8, usize) {
     match cut {
         0..8 => (0, 0, 8),
@@ -311,7 +313,7 @@ fn six_cut_at(cut: usize) -> (usize, u8, usize) {
     }
 }
 
-/// The fault where a header of the number is cut short.
+/// Returns the two layers of the error for a truncated header of this number.
 fn layers(number: u8) -> (Layer, Layer) {
     match number {
         0 => (Layer::Ipv6ExtHeader, Layer::Ipv6HopByHopHeader),

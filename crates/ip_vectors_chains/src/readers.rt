@@ -11,15 +11,15 @@ use std::io::{ErrorKind, Read};
 use std::process::Abort;
 use std::test::Fail;
 
-/// A stream that gives its bytes as they are asked for, or one at a time and each after an interrupted call. After
-/// its bytes it ends or fails.
+/// A stream that returns as many bytes as requested, or one at a time and each after an interrupted call. After its
+/// bytes it ends or fails.
 #[derive(Drop)]
 pub(crate) struct Stream<'a> {
     pub(crate) bytes: &'a [u8],
     is_slow: bool,
     waits: bool,
     failure: Option<ErrorKind>,
-    /// The bytes that follow the first failure. Where there are none, the stream goes on failing.
+    /// The bytes that follow the first failure. If there are none, the stream keeps failing.
     later: &'a [u8],
 }
 
@@ -56,7 +56,7 @@ pub(crate) const STREAMS: [(bool, Option<ErrorKind>); 4] = [
     (true, Some(ErrorKind::PermissionDenied)),
 ];
 
-/// A stream of these bytes.
+/// Returns a stream of these bytes.
 pub(crate) fn stream_of(
     bytes: &[u8],
     is_slow: bool,
@@ -71,19 +71,19 @@ pub(crate) fn stream_of(
     })
 }
 
-/// The header that is read, and by which call.
+/// The header to read, and the call that reads it.
 #[derive(Clone, Copy, Debug, PartialEq, Eq)]
 enum Kind {
     Raw,
     Fragment,
     Authentication,
-    /// An authentication header that is read into an existing one.
+    /// An authentication header read into an existing one.
     AuthenticationOver,
-    /// An authentication header that is read as an IPv4 chain.
+    /// An authentication header read as an IPv4 chain.
     Ipv4Chain,
 }
 
-/// The result of a read. A header whose bytes differ from those that were read is `Other`.
+/// The result of a read. A header whose bytes differ from those read is `Other`.
 #[derive(Debug, PartialEq, Eq, Drop)]
 enum Outcome {
     Header,
@@ -101,7 +101,7 @@ fn header_if(same: bool) -> Outcome {
     }
 }
 
-/// `Header` where the chain has this header alone and the number that follows it.
+/// Returns `Header` if the chain has only this header and the number that follows it.
 fn chain_if(exts: &Ipv4Extensions, number: IpNumber, bytes: &[u8]) -> Outcome {
     match &exts.auth {
         Some(header) => header_if(
@@ -191,7 +191,7 @@ fn read_limited<T: ExactRead>(kind: Kind, bytes: &[u8], reader: &mut LimitedRead
     }
 }
 
-/// The first bytes, or all where there are fewer.
+/// Returns the first `len` bytes, or all if there are fewer.
 pub(crate) fn front(bytes: &[u8], len: usize) -> &[u8] {
     bytes.get(..len).unwrap_or(bytes)
 }
@@ -240,8 +240,8 @@ const CASES: [Case<'static>; 5] = [
     ),
 ];
 
-/// The result of a read where the reader has `there` bytes, and the length of the requests that succeed. The first
-/// request that the limit or the bytes don't suffice for ends it; the limit is checked first.
+/// Returns the result of a read if the reader has `there` bytes, and the length of the requests that succeed. The
+/// first request that exceeds the limit or the bytes ends it; the limit is checked first.
 fn expected(
     requests: &[usize],
     layer: Layer,
@@ -263,7 +263,7 @@ fn expected(
     (Outcome::Header, came)
 }
 
-/// Reads a header at offset 40 within a limit. Returns the result, `read_len`, and whether the header's layer began
+/// Reads a header at offset 40 within a limit. Returns the result, `read_len`, and whether the header's layer started
 /// at 40 with the whole limit.
 fn within<T: ExactRead + Drop>(
     kind: Kind,
@@ -306,8 +306,8 @@ fn check_within(rt: &impl Abort, case: Case<'_>, there: usize, limit: u16) {
     }
 }
 
-/// Reads the first bytes of a header, from memory and from each stream. A stream has failed where the header isn't
-/// whole, and not where only what follows the header fails.
+/// Reads the first bytes of a header, from memory and from each stream. A stream has failed if the header isn't
+/// complete, but not if only what follows the header fails.
 fn check_read(rt: &impl Abort, case: Case<'_>, there: usize) {
     let (kind, bytes, requests, layer) = case;
     let most = usize::MAX;
@@ -376,7 +376,8 @@ fn longest_headers(rt: HostRuntime) {
     }
 }
 
-/// A stream that fails once. The bytes that the failed request took are lost, and the next read begins after them.
+/// Returns a stream that fails once. The bytes that the failed request consumed are lost, and the next read starts
+/// after them.
 fn failing_once<'a>(lost: &'a [u8], is_slow: bool, later: &'a [u8]) -> OverRead<Stream<'a>> {
     OverRead::new(Stream {
         bytes: lost,
@@ -414,7 +415,7 @@ fn reads_go_on_after_a_failure(rt: HostRuntime) {
     }
 }
 
-/// A read takes no byte after the header.
+/// Checks that a read consumes no byte after the header.
 #[test]
 fn bytes_after_a_header_are_left(rt: HostRuntime) -> Result<(), Fail> {
     for (kind, bytes, _, layer) in CASES {
@@ -492,7 +493,7 @@ fn a_length_of_zero_is_content(rt: HostRuntime) {
     }
 }
 
-/// Headers in a row: each layer begins where the one before ended, with the rest of its limit.
+/// Checks headers in a row: each layer starts where the one before ended, with the rest of its limit.
 #[test]
 fn layers_follow_one_another(rt: HostRuntime) -> Result<(), Fail> {
     let mut bytes = Vec::new(rt.alloc());

@@ -1,4 +1,4 @@
-//! The runs of a chain: structs of six places, one behind the other.
+//! The runs of a chain: structs of six places, one after the other.
 use ip_base::err::{Layer, LenError};
 use ip_base::{IpNumber, LenSource};
 use ip_ext_chains::err::ipv6_exts::{HeaderError, HeaderSliceError};
@@ -8,7 +8,7 @@ use std::alloc::Global;
 use std::process::Abort;
 use std::test::Fail;
 
-/// Which places are filled: hop by hop, destination, routing, fragment, authentication, final destination.
+/// The occupied places: hop by hop, destination, routing, fragment, authentication, final destination.
 type Filled = [bool; 6];
 
 const NONE: Filled = [false, false, false, false, false, false];
@@ -21,7 +21,7 @@ const FRAGMENT: Filled = [false, false, false, true, false, false];
 
 const ROUTING_AND_FINAL: Filled = [false, false, true, false, false, true];
 
-/// Start number and bytes; the items; number, rest and fault at the end.
+/// Start number and bytes; the items; the next number, the rest and the error at the end.
 #[derive(Drop)]
 struct Row<'a> {
     name: &'a str,
@@ -48,7 +48,7 @@ fn filled(exts: &Ipv6Extensions) -> Filled {
     ]
 }
 
-/// A fragment header is missing at the offset, where so many bytes are left.
+/// Returns the error of a missing fragment header at the offset, with this many bytes left.
 fn no_fragment_header(len: usize, offset: usize) -> Option<(HeaderSliceError, Layer)> {
     let error = LenError {
         required_len: 8,
@@ -60,7 +60,7 @@ fn no_fragment_header(len: usize, offset: usize) -> Option<(HeaderSliceError, La
     Some((HeaderSliceError::Len(error), Layer::Ipv6FragHeader))
 }
 
-/// Hop by hop options are named behind a header.
+/// Returns the error of hop-by-hop options after a header.
 fn later_hop_by_hop() -> Option<(HeaderSliceError, Layer)> {
     Some((
         HeaderSliceError::Content(HeaderError::HopByHopNotAtStart),
@@ -68,13 +68,13 @@ fn later_hop_by_hop() -> Option<(HeaderSliceError, Layer)> {
     ))
 }
 
-/// The runs and the plain slow program answer the row.
+/// Checks the row with the runs and the slow plain program.
 fn check(rt: &impl Abort, alloc: Global, row: &Row<'_>) -> Result<(), Fail> {
     check_plain(rt, alloc, row)?;
     check_runs(rt, row)
 }
 
-/// The items and the end are the row's; the end is known from the last item on, and nothing comes behind it.
+/// Checks that the items and the end are the row's; the end is known from the last item on, and nothing follows it.
 fn check_runs(rt: &impl Abort, row: &Row<'_>) -> Result<(), Fail> {
     let name = row.name;
     let mut runs = Ipv6ExtensionsRuns::new(IpNumber(row.start), row.bytes);
@@ -99,8 +99,9 @@ fn check_runs(rt: &impl Abort, row: &Row<'_>) -> Result<(), Fail> {
     Ok(())
 }
 
-/// The plain slow program cuts the chain into as many pieces. An extension number behind it counts as a header that
-/// doesn't fit, where its place is filled, but for 0, which has a fault there.
+/// Checks that the slow plain program splits the chain into as many pieces. If an extension header's number follows
+/// the chain and its place is occupied, it counts as a header that doesn't fit; except for 0, which is an error
+/// there.
 fn check_plain(rt: &impl Abort, alloc: Global, row: &Row<'_>) -> Result<(), Fail> {
     let plain = plain_longest_chain(alloc, row.start, row.bytes)?;
     let mut headers = plain.headers;
@@ -233,7 +234,7 @@ fn one_run(rt: HostRuntime) -> Result<(), Fail> {
     check(&rt, rt.alloc(), &hop_by_hop)
 }
 
-/// The numbers before each run, and the one behind the last.
+/// Checks the numbers before each run, and the one after the last.
 #[test]
 fn numbers_before_runs(rt: HostRuntime) -> Result<(), Fail> {
     let rows: [(&str, u8, &[u8], &[u8]); 4] = [

@@ -16,7 +16,7 @@ fn fragment(next: u8) -> Result<Ipv6FragmentHeader, Fail> {
     Ok(Ipv6FragmentHeader::new(IpNumber(next), IpFragOffset::try_new(0)?, false, 0))
 }
 
-/// All six places, each raw header of 8 bytes and the authentication header of 12.
+/// Returns all six places occupied, each raw header of 8 bytes and the authentication header of 12.
 fn all_six() -> Result<Ipv6Extensions, Fail> {
     Ok(Ipv6Extensions {
         hop_by_hop_options: Some(raw(1)),
@@ -30,7 +30,7 @@ fn all_six() -> Result<Ipv6Extensions, Fail> {
     })
 }
 
-/// Whether the walk is refused, and the write after it appended just these bytes.
+/// Returns whether the walk is refused, and the write after it appended exactly these bytes.
 fn is_refused(
     exts: &Ipv6Extensions,
     first: u8,
@@ -64,7 +64,7 @@ fn a_header_that_nothing_names(rt: HostRuntime) -> Result<(), Fail> {
     };
     assert!(rt; is_refused(&exts, 60, &fault, &written));
     assert_eq!(rt; out.as_slice(), [17, 0, 0, 0, 0, 0, 0, 0].as_slice());
-    // From the fragment header on, both are reached.
+    // From the fragment header's number on, both are reached.
     assert_eq!(rt; exts.next_header(IpNumber(44))?, IpNumber(17));
     Ok(())
 }
@@ -78,7 +78,7 @@ fn hop_by_hop_options_behind_a_header(rt: HostRuntime) -> Result<(), Fail> {
     let written = exts.write(&mut out, IpNumber(44));
     assert!(rt; is_refused(&exts, 44, &ExtsWalkError::HopByHopNotAtStart, &written));
     assert_eq!(rt; out.as_slice(), [0, 0, 0, 0, 0, 0, 0, 0].as_slice());
-    // Where there are none, the number is just the one that is left.
+    // Without headers, the result is the start number.
     exts.hop_by_hop_options = None;
     assert_eq!(rt; exts.next_header(IpNumber(44))?, IpNumber(0));
     Ok(())
@@ -128,7 +128,7 @@ fn reserved_bits_are_written_as_zero(rt: HostRuntime) -> Result<(), Fail> {
     Ok(())
 }
 
-/// Three bytes in a vector with room for so many, or for three where that is more.
+/// Returns three bytes in a vector with room for `room`, or for three if that is more.
 fn with_room(alloc: Global, room: usize) -> Result<Vec<u8>, AllocError> {
     let mut out = Vec::with_capacity(alloc, room)?;
     out.extend_from_slice(&[1, 2, 3])?;

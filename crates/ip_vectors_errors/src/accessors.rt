@@ -1,4 +1,5 @@
-//! What accessors give: the value of their variant, and nothing of another; and errors moved further to the front.
+//! Accessors of errors: each returns the value of its variant, and `None` for another; and errors with their offset
+//! moved.
 ghost use Rattle.std.specs.Prelude.{◌≡◌};
 
 use crate::samples::{denied, short, zero};
@@ -8,7 +9,7 @@ use std::alloc::AllocError;
 use std::io::{Error, ErrorKind};
 use std::test::Fail;
 
-/// The kind of a reader's error.
+/// Returns the kind of a reader's error.
 fn kind(error: Option<Error>) -> Option<ErrorKind> {
     error.map(|e| e.kind())
 }
@@ -168,7 +169,7 @@ fn writes(rt: HostRuntime) {
     assert_eq!(rt; refused.content(), Some(&walk));
 }
 
-/// An error of a length at this offset.
+/// Returns a length error with this offset.
 fn at(layer_start_offset: usize) -> LenError
     ensures { result.layer_start_offset ≡ layer_start_offset }
 {

@@ -1,4 +1,4 @@
-//! Which errors are equal and hashed alike: each with its copy, and none with one that differs in a single field.
+//! Equality and hashes of errors: each is equal to its copy, and to none that differs in a single field.
 use crate::samples::{short, zero};
 use etherparse_ip::err::{
     Layer, LenError, ValueTooBigError, ip, ip_auth, ip_exts, ipv4, ipv4_exts, ipv6, ipv6_exts,
@@ -15,7 +15,8 @@ fn hash_of<T: Hash>(value: &T) -> u64 {
     state.finish()
 }
 
-/// Each value is its copy and hashed as it; no two of them are equal or hashed alike.
+/// Checks that each value is equal to its copy and has its hash, and that no two values are equal or have the same
+/// hash.
 fn are_told_apart<T: Clone + Eq + Hash + Debug + Drop>(
     rt: &impl Abort,
     values: &[T],

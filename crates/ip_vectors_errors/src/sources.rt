@@ -1,4 +1,4 @@
-//! What errors come of: the value that their variant holds, or nothing.
+//! Causes of errors: the value in their variant, or none.
 use crate::samples::{denied, short, zero};
 use etherparse_ip::IpNumber;
 use etherparse_ip::err::{
@@ -100,14 +100,14 @@ fn either_version(rt: HostRuntime) {
     assert!(rt; matches!(content.source(), Some(ChainSource::IpExts(e)) if *e == inner));
 }
 
-/// A header of IPv4 that nothing names.
+/// Returns the error of an IPv4 header that no number refers to.
 fn unnamed() -> ipv4_exts::ExtsWalkError {
     ipv4_exts::ExtsWalkError::ExtNotReferenced {
         missing_ext: IpNumber(51),
     }
 }
 
-/// A header of IPv6 that nothing names.
+/// Returns the error of an IPv6 header that no number refers to.
 fn unnamed6() -> ipv6_exts::ExtsWalkError {
     ipv6_exts::ExtsWalkError::ExtNotReferenced {
         missing_ext: IpNumber(44),

@@ -1,4 +1,4 @@
-//! What each error says, and each number that names an extension header.
+//! The text of each error, and of each number of an extension header.
 use crate::samples::{SHORT, ZERO, denied, short, zero};
 use etherparse_ip::err::{
     Layer, LenError, ValueTooBigError, io, ip, ip_auth, ip_exts, ipv4, ipv4_exts, ipv6, ipv6_exts,
@@ -9,14 +9,14 @@ use std::error::Error;
 use std::process::Abort;
 use std::test::Fail;
 
-/// Fails where the error says something else.
+/// Checks the text of an error.
 fn says<E: Error>(rt: &impl Abort, alloc: Global, error: &E, text: &str) -> Result<(), Fail> {
     let said = format!(in alloc; "{error}")?;
     assert_eq!(rt; said.as_str(), text);
     Ok(())
 }
 
-/// Fails where the error says something else than these words, and what the reader says.
+/// Checks that the text of an error is `text` followed by the reader's.
 fn says_of_reader<E: Error>(
     rt: &impl Abort,
     alloc: Global,
@@ -64,7 +64,7 @@ fn lengths(rt: HostRuntime) -> Result<(), Fail> {
         &nothing,
         "not enough bytes for IpHeader at offset 0: 0 needed, 0 there by Ipv4HeaderTotalLen",
     )?;
-    // Each number stands in its own place.
+    // Each number is different.
     let counted = LenError {
         required_len: 1,
         len: 2,

@@ -1,11 +1,11 @@
-//! Packets whose lengths lie.
+//! Packets with wrong length fields.
 use crate::samples::{ipv4_bytes, ipv6_bytes, len_error, len_error_at};
 use etherparse_ip::err::{Layer, LenError, ip, ipv4, ipv6};
 use etherparse_ip::{IpNumber, IpSlice, Ipv4Slice, Ipv6Slice, LenSource};
 use std::process::Abort;
 use std::test::Fail;
 
-/// Both slices refuse the packet with this error of a length.
+/// Checks that both slices refuse the packet with this length error.
 fn check_refused(rt: &impl Abort, name: &str, bytes: &[u8], error: &LenError) -> Result<(), Fail> {
     let refused = Ipv4Slice::from_slice(bytes).map(|packet| packet.payload_ip_number());
     assert_eq!(rt;

@@ -21,7 +21,7 @@ struct Parts<'a> {
     source: LenSource,
 }
 
-/// The parts of a packet with this payload and headers of these lengths.
+/// Returns the parts of a packet with this payload and headers of these lengths.
 fn parts_of<'a>(header: usize, exts: usize, payload: &IpPayloadSlice<'a>) -> Parts<'a> {
     Parts {
         header,
@@ -33,7 +33,7 @@ fn parts_of<'a>(header: usize, exts: usize, payload: &IpPayloadSlice<'a>) -> Par
     }
 }
 
-/// The parts of an IPv4 packet.
+/// Returns the parts of an IPv4 packet.
 fn ipv4_parts<'a>(packet: &Ipv4Slice<'a>) -> Parts<'a> {
     let exts = packet
         .extensions()
@@ -42,7 +42,7 @@ fn ipv4_parts<'a>(packet: &Ipv4Slice<'a>) -> Parts<'a> {
     parts_of(packet.header().slice().len(), exts, packet.payload())
 }
 
-/// The parts of an IPv6 packet.
+/// Returns the parts of an IPv6 packet.
 fn ipv6_parts<'a>(packet: &Ipv6Slice<'a>) -> Parts<'a> {
     let exts = packet.extensions().slice().len();
     parts_of(packet.header().slice().len(), exts, packet.payload())
@@ -78,7 +78,7 @@ fn check_either(rt: &impl Abort, name: &str, bytes: &[u8], parts: Parts<'_>) -> 
     assert_eq!(rt; packet.payload_ip_number(), number, "{name}");
     assert_eq!(rt; packet.is_fragmenting_payload(), fragmented, "{name}");
     assert_eq!(rt; packet.payload().payload, parts.payload, "{name}");
-    // The payload is a part of the packet, also where it has no bytes.
+    // The payload is a part of the packet, even if it is empty.
     let headers_len = parts.header.saturating_add(parts.exts);
     let rest = bytes.get(headers_len..).unwrap_or(&[]);
     assert!(rt;
@@ -191,7 +191,7 @@ fn hop_by_hop_options_after_a_header(rt: HostRuntime) -> Result<(), Fail> {
     Ok(())
 }
 
-/// The parts of an IPv4 packet. Its total length says where the payload ends.
+/// Returns the expected parts of an IPv4 packet. Its total length is the source of the payload's length.
 fn ipv4_wanted(
     header: usize,
     exts: usize,

@@ -1,9 +1,9 @@
-//! Packets and errors that several tests take.
+//! Packets and errors that several tests use.
 use etherparse_ip::LenSource;
 use etherparse_ip::err::{Layer, LenError};
 use std::alloc::{AllocError, Global};
 
-/// An IPv4 packet from 10.0.0.1 to 10.0.0.2; `behind` begins with its options.
+/// Returns an IPv4 packet from 10.0.0.1 to 10.0.0.2; `behind` starts with its options.
 pub(crate) fn ipv4_bytes(
     alloc: Global,
     first: u8,
@@ -24,7 +24,7 @@ pub(crate) fn ipv4_bytes(
     Ok(bytes)
 }
 
-/// An IPv6 packet from 2001:db8::1 to 2001:db8::2.
+/// Returns an IPv6 packet from 2001:db8::1 to 2001:db8::2.
 pub(crate) fn ipv6_bytes(
     alloc: Global,
     payload_length: u16,
@@ -40,7 +40,7 @@ pub(crate) fn ipv6_bytes(
     Ok(bytes)
 }
 
-/// An error of a length.
+/// Returns a length error.
 pub(crate) fn len_error(
     required_len: usize,
     len: usize,
@@ -50,7 +50,7 @@ pub(crate) fn len_error(
     len_error_at(required_len, len, len_source, layer, 0)
 }
 
-/// An error of a length behind so many bytes.
+/// Returns a length error at this offset.
 pub(crate) fn len_error_at(
     required_len: usize,
     len: usize,

@@ -1,4 +1,4 @@
-//! Answers the lines of standard input on standard output, as the library `ipexts_tool` says.
+//! Answers the lines of standard input on standard output. The library `ipexts_tool` defines the lines.
 #![tactic(auto)]
 
 use ipexts_tool::{ToolError, run};
@@ -7,7 +7,7 @@ use std::io;
 use std::io::{BufWriter, IsTerminal};
 use std::process::ExitCode;
 
-/// What a user at a terminal is shown before the first line.
+/// The text shown before the first line if standard input is a terminal.
 const LINES: &str =
     "Lines: exts6 N HEX, exts4 N HEX, rewrite6 N HEX, rewriteall6 N HEX, packet HEX ('-' for no bytes); Ctrl-D ends.";
 

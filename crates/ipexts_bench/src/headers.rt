@@ -1,5 +1,5 @@
-//! Single headers, borrowed and owned, and their bytes. `at` chooses the bytes that are read, so that none
-//! can be left out.
+//! Single headers, borrowed and owned, and their bytes. `at` chooses the bytes that are read, so that the compiler
+//! can't omit any.
 use ip_digests::digest::{
     of_auth, of_auth_fault, of_bytes, of_fragment, of_len_error, of_raw, with,
 };
@@ -11,25 +11,25 @@ use ip_ext_headers::{
 };
 use std::alloc::Global;
 
-/// Every part of a borrowed header of the common layout.
+/// Returns the digest of every part of a borrowed header in the uniform format (RFC 6564).
 #[inline(never)]
 fn of_borrowed_raw(header: &Ipv6RawExtHeaderSlice<'_>, at: usize) -> u64 {
     with(of_raw(header), byte_at(header.payload(), at))
 }
 
-/// Every part of a borrowed authentication header.
+/// Returns the digest of every part of a borrowed authentication header.
 #[inline(never)]
 fn of_borrowed_auth(header: &IpAuthHeaderSlice<'_>, at: usize) -> u64 {
     with(of_auth(header), byte_at(header.raw_icv(), at))
 }
 
-/// Every part of a borrowed fragment header.
+/// Returns the digest of every part of a borrowed fragment header.
 #[inline(never)]
 fn of_borrowed_fragment(header: &Ipv6FragmentHeaderSlice<'_>) -> u64 {
     of_fragment(header)
 }
 
-/// A borrowed header of the common layout.
+/// Parses a borrowed header in the uniform format (RFC 6564).
 #[unsafe(no_mangle)]
 pub extern "C" fn ipexts_raw_borrowed(bytes: &[u8], at: usize) -> u64 {
     match Ipv6RawExtHeaderSlice::from_slice(bytes) {
@@ -38,7 +38,7 @@ pub extern "C" fn ipexts_raw_borrowed(bytes: &[u8], at: usize) -> u64 {
     }
 }
 
-/// An owned header of the common layout.
+/// Parses an owned header in the uniform format (RFC 6564).
 #[unsafe(no_mangle)]
 pub extern "C" fn ipexts_raw_owned(bytes: &[u8], at: usize) -> u64 {
     match Ipv6RawExtHeader::from_slice(bytes) {
@@ -47,7 +47,7 @@ pub extern "C" fn ipexts_raw_owned(bytes: &[u8], at: usize) -> u64 {
     }
 }
 
-/// A borrowed authentication header.
+/// Parses a borrowed authentication header.
 #[unsafe(no_mangle)]
 pub extern "C" fn ipexts_auth_borrowed(bytes: &[u8], at: usize) -> u64 {
     match IpAuthHeaderSlice::from_slice(bytes) {
@@ -56,7 +56,7 @@ pub extern "C" fn ipexts_auth_borrowed(bytes: &[u8], at: usize) -> u64 {
     }
 }
 
-/// An owned authentication header.
+/// Parses an owned authentication header.
 #[unsafe(no_mangle)]
 pub extern "C" fn ipexts_auth_owned(bytes: &[u8], at: usize) -> u64 {
     match IpAuthHeader::from_slice(bytes) {
@@ -65,7 +65,7 @@ pub extern "C" fn ipexts_auth_owned(bytes: &[u8], at: usize) -> u64 {
     }
 }
 
-/// A borrowed fragment header.
+/// Parses a borrowed fragment header.
 #[unsafe(no_mangle)]
 pub extern "C" fn ipexts_fragment_borrowed(bytes: &[u8], _at: usize) -> u64 {
     match Ipv6FragmentHeaderSlice::from_slice(bytes) {
@@ -74,7 +74,7 @@ pub extern "C" fn ipexts_fragment_borrowed(bytes: &[u8], _at: usize) -> u64 {
     }
 }
 
-/// An owned fragment header.
+/// Parses an owned fragment header.
 #[unsafe(no_mangle)]
 pub extern "C" fn ipexts_fragment_owned(bytes: &[u8], _at: usize) -> u64 {
     match Ipv6FragmentHeader::from_slice(bytes) {
@@ -83,7 +83,8 @@ pub extern "C" fn ipexts_fragment_owned(bytes: &[u8], _at: usize) -> u64 {
     }
 }
 
-/// The bytes of an owned header of the common layout, made `times` times, each time with another next number.
+/// Builds the bytes of an owned header in the uniform format (RFC 6564) `times` times, each time with another next
+/// header.
 #[unsafe(no_mangle)]
 pub extern "C" fn ipexts_raw_to_bytes(bytes: &[u8], at: usize, times: u32) -> u64 {
     let Ok((mut header, _)) = Ipv6RawExtHeader::from_slice(bytes) else {
@@ -97,7 +98,7 @@ pub extern "C" fn ipexts_raw_to_bytes(bytes: &[u8], at: usize, times: u32) -> u6
     sum
 }
 
-/// The same of an authentication header.
+/// Builds the bytes of an owned authentication header `times` times, each time with another next header.
 #[unsafe(no_mangle)]
 pub extern "C" fn ipexts_auth_to_bytes(bytes: &[u8], at: usize, times: u32) -> u64 {
     let Ok((mut header, _)) = IpAuthHeader::from_slice(bytes) else {
@@ -111,7 +112,7 @@ pub extern "C" fn ipexts_auth_to_bytes(bytes: &[u8], at: usize, times: u32) -> u
     sum
 }
 
-/// The same of a fragment header.
+/// Builds the bytes of an owned fragment header `times` times, each time with another next header.
 #[unsafe(no_mangle)]
 pub extern "C" fn ipexts_fragment_to_bytes(bytes: &[u8], at: usize, times: u32) -> u64 {
     let Ok((mut header, _)) = Ipv6FragmentHeader::from_slice(bytes) else {
@@ -125,8 +126,8 @@ pub extern "C" fn ipexts_fragment_to_bytes(bytes: &[u8], at: usize, times: u32) 
     sum
 }
 
-/// An owned header of the common layout, written `times` times into a vector that was emptied before, each
-/// time with another next number.
+/// Writes an owned header in the uniform format (RFC 6564) `times` times into an emptied vector, each time with
+/// another next header.
 #[unsafe(no_mangle)]
 pub extern "C" fn ipexts_raw_write(alloc: Global, bytes: &[u8], at: usize, times: u32) -> u64 {
     let Ok((mut header, _)) = Ipv6RawExtHeader::from_slice(bytes) else {
@@ -145,7 +146,7 @@ pub extern "C" fn ipexts_raw_write(alloc: Global, bytes: &[u8], at: usize, times
     sum
 }
 
-/// The same of an authentication header.
+/// Writes an owned authentication header `times` times into an emptied vector, each time with another next header.
 #[unsafe(no_mangle)]
 pub extern "C" fn ipexts_auth_write(alloc: Global, bytes: &[u8], at: usize, times: u32) -> u64 {
     let Ok((mut header, _)) = IpAuthHeader::from_slice(bytes) else {
@@ -164,7 +165,7 @@ pub extern "C" fn ipexts_auth_write(alloc: Global, bytes: &[u8], at: usize, time
     sum
 }
 
-/// The same of a fragment header.
+/// Writes an owned fragment header `times` times into an emptied vector, each time with another next header.
 #[unsafe(no_mangle)]
 pub extern "C" fn ipexts_fragment_write(alloc: Global, bytes: &[u8], at: usize, times: u32) -> u64 {
     let Ok((mut header, _)) = Ipv6FragmentHeader::from_slice(bytes) else {
@@ -183,7 +184,7 @@ pub extern "C" fn ipexts_fragment_write(alloc: Global, bytes: &[u8], at: usize, 
     sum
 }
 
-/// A borrowed header of the common layout, of which a filter reads its next number and its length.
+/// Parses a borrowed header in the uniform format (RFC 6564); a filter reads its next header and its length.
 #[unsafe(no_mangle)]
 pub extern "C" fn ipexts_raw_filter(bytes: &[u8], _at: usize) -> u64 {
     match Ipv6RawExtHeaderSlice::from_slice(bytes) {
@@ -195,7 +196,7 @@ pub extern "C" fn ipexts_raw_filter(bytes: &[u8], _at: usize) -> u64 {
     }
 }
 
-/// The same of an authentication header.
+/// Parses a borrowed authentication header; a filter reads its next header and its length.
 #[unsafe(no_mangle)]
 pub extern "C" fn ipexts_auth_filter(bytes: &[u8], _at: usize) -> u64 {
     match IpAuthHeaderSlice::from_slice(bytes) {
@@ -207,7 +208,7 @@ pub extern "C" fn ipexts_auth_filter(bytes: &[u8], _at: usize) -> u64 {
     }
 }
 
-/// A borrowed fragment header, of which a filter reads its next number and whether it fragments the payload.
+/// Parses a borrowed fragment header; a filter reads its next header and whether it fragments the payload.
 #[unsafe(no_mangle)]
 pub extern "C" fn ipexts_fragment_filter(bytes: &[u8], _at: usize) -> u64 {
     match Ipv6FragmentHeaderSlice::from_slice(bytes) {

@@ -5,7 +5,7 @@ use ip_ext_chains::err::ip_auth::HeaderSliceError;
 use ip_ext_chains::{IpNumber, Ipv4Extensions, Ipv4ExtensionsSlice, ip_number};
 use std::alloc::Global;
 
-/// Every part of an answer that borrows.
+/// Returns the digest of every part of a borrowed result.
 #[inline(never)]
 fn of_slices(
     headers: &Ipv4ExtensionsSlice<'_>,
@@ -20,7 +20,7 @@ fn of_slices(
     with(header, of_end(number, rest, fault))
 }
 
-/// Every part of an answer with bytes of its own; of the check value the first byte and the last.
+/// Returns the digest of every part of an owned result; of the check value, its first and last byte.
 #[inline(never)]
 fn of_headers(
     headers: &Ipv4Extensions,
@@ -35,7 +35,7 @@ fn of_headers(
     with(header, of_end(number, rest, fault))
 }
 
-/// Where a chain ended.
+/// Returns the digest of the end of a chain.
 fn of_end(number: IpNumber, rest: &[u8], fault: &Option<HeaderSliceError>) -> u64 {
     let end = with(u64::from(number.0), of_bytes(rest));
     match fault {
@@ -44,7 +44,7 @@ fn of_end(number: IpNumber, rest: &[u8], fault: &Option<HeaderSliceError>) -> u6
     }
 }
 
-/// The lax parse that borrows.
+/// Runs the borrowing lax parse.
 #[unsafe(no_mangle)]
 pub extern "C" fn ipexts_ipv4_lax(start: u8, bytes: &[u8]) -> u64 {
     let (headers, number, rest, fault) = Ipv4ExtensionsSlice::from_slice_lax(
@@ -54,7 +54,7 @@ pub extern "C" fn ipexts_ipv4_lax(start: u8, bytes: &[u8]) -> u64 {
     of_slices(&headers, number, rest, &fault)
 }
 
-/// The strict parse that borrows.
+/// Runs the borrowing strict parse.
 #[unsafe(no_mangle)]
 pub extern "C" fn ipexts_ipv4_strict(start: u8, bytes: &[u8]) -> u64 {
     match Ipv4ExtensionsSlice::from_slice(IpNumber(start), bytes) {
@@ -63,7 +63,7 @@ pub extern "C" fn ipexts_ipv4_strict(start: u8, bytes: &[u8]) -> u64 {
     }
 }
 
-/// The lax parse that borrows, of which a filter reads where the payload lies.
+/// Runs the borrowing lax parse; a filter reads the payload's place.
 #[unsafe(no_mangle)]
 pub extern "C" fn ipexts_ipv4_filter(start: u8, bytes: &[u8]) -> u64 {
     let (_, number, rest, fault) = Ipv4ExtensionsSlice::from_slice_lax(IpNumber(start), bytes);
@@ -71,14 +71,14 @@ pub extern "C" fn ipexts_ipv4_filter(start: u8, bytes: &[u8]) -> u64 {
     with(u64::from(fault.is_none()), place)
 }
 
-/// The lax parse with bytes of its own.
+/// Runs the owned lax parse.
 #[unsafe(no_mangle)]
 pub extern "C" fn ipexts_ipv4_owned_lax(start: u8, bytes: &[u8]) -> u64 {
     let (headers, number, rest, fault) = Ipv4Extensions::from_slice_lax(IpNumber(start), bytes);
     of_headers(&headers, number, rest, &fault)
 }
 
-/// The strict parse with bytes of its own.
+/// Runs the owned strict parse.
 #[unsafe(no_mangle)]
 pub extern "C" fn ipexts_ipv4_owned_strict(start: u8, bytes: &[u8]) -> u64 {
     match Ipv4Extensions::from_slice(IpNumber(start), bytes) {
@@ -87,8 +87,7 @@ pub extern "C" fn ipexts_ipv4_owned_strict(start: u8, bytes: &[u8]) -> u64 {
     }
 }
 
-/// Headers that are linked, gone over and written `times` times into a vector that was emptied before, each
-/// time before another number.
+/// Links, walks and writes headers `times` times into an emptied vector, each time before another number.
 #[unsafe(no_mangle)]
 pub extern "C" fn ipexts_ipv4_write(alloc: Global, bytes: &[u8], at: usize, times: u32) -> u64 {
     let (mut headers, _, _, _) = Ipv4Extensions::from_slice_lax(ip_number::AUTH, bytes);

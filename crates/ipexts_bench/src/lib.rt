@@ -1,6 +1,6 @@
-//! Calls for a program in C or Rust that measures this project's parsers and writers. Each hands an answer to a
-//! function that isn't inlined and reads every part of it, or reads in place the few parts that a filter needs,
-//! and answers a digest of what it read.
+//! Calls for a program in C or Rust that measures this project's parsers and writers. Each passes a result to a
+//! function that isn't inlined and reads every part of it, or reads in place the few parts that a filter needs, and
+//! returns a digest of the parts read.
 #![tactic(auto)]
 
 mod calls;

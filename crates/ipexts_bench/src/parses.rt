@@ -1,41 +1,41 @@
-//! The ways to parse a chain that are measured. Each answers a digest of what it read.
+//! The measured ways to parse a chain. Each returns a digest of the parts read.
 use ip_digests::digest::{of_end, of_header, of_kind, of_lax, of_strict, of_strict_fault, with};
 use ip_ext_chains::{IpNumber, Ipv6ExtensionSlice, Ipv6ExtensionsCursor, Ipv6ExtensionsSlice};
 
 /// A way to parse a chain.
 pub trait Parse {
-    /// A digest of the chain from the number `start` that begins the bytes.
+    /// Returns a digest of the chain from the number `start` at the start of the bytes.
     fn digest(start: IpNumber, bytes: &[u8]) -> u64;
 }
 
-/// The lax parse, read in full.
+/// The lax parse, with all of its result read.
 pub struct Lax;
 
-/// The lax parse and each header that its iterator yields, read in full.
+/// The lax parse and its iterator, with all of each header read.
 pub struct LaxHeaders;
 
-/// The strict parse, read in full.
+/// The strict parse, with all of its result read.
 pub struct Strict;
 
-/// The lax parse, of which a filter reads where the payload lies and whether it is whole.
+/// The lax parse; a filter reads the payload's place and whether it is a fragment.
 pub struct LaxFilter;
 
-/// The lax parse and its iterator, of which a filter reads whether there is a routing header.
+/// The lax parse and its iterator; a filter reads whether there is a routing header.
 pub struct LaxHeadersFilter;
 
-/// The strict parse, of which a filter reads where the payload lies and whether it is whole.
+/// The strict parse; a filter reads the payload's place and whether it is a fragment.
 pub struct StrictFilter;
 
-/// The headers that a cursor gives, by kind and length, and its end.
+/// A cursor's headers, by kind and length, and its end.
 pub struct CursorKinds;
 
-/// The same of the lax parse and its iterator.
+/// The headers of the lax parse and its iterator, by kind and length, and their end.
 pub struct LaxKinds;
 
-/// The headers that a cursor gives up to the first fragment header, or its end where there is none.
+/// A cursor's headers up to the first fragment header, or its end if there is none.
 pub struct CursorFragment;
 
-/// The same of the lax parse and its iterator.
+/// The headers of the lax parse and its iterator up to the first fragment header, or their end if there is none.
 pub struct LaxFragment;
 
 impl Parse for Lax {

@@ -1,5 +1,5 @@
-//! Headers and chains that are read from bytes in memory, with and without a limit. `at` chooses the bytes that
-//! are read of a header, so that none can be left out.
+//! Headers and chains read from bytes in memory, with and without a limit. `at` chooses the bytes of a header that
+//! are read, so that the compiler can't omit any.
 use crate::parses::Parse;
 use etherparse_ip::err::Layer;
 use etherparse_ip::err::ipv6_exts::{HeaderLimitedReadError, HeaderReadError};
@@ -12,19 +12,19 @@ use ip_digests::digest::{of_bytes, of_content, of_len_error, with};
 use ip_digests::owned::{of_owned_auth, of_owned_fragment, of_owned_raw};
 use ip_digests::structs::of_answer;
 
-/// Where the bytes of a limited read begin, behind an IPv6 header.
+/// The offset of the bytes of a limited read, after an IPv6 header.
 const LAYER_OFFSET: usize = 40;
 
-/// The limit, which the longest chain here doesn't reach.
+/// The limit, longer than any chain here.
 const LIMIT: usize = 1_048_576;
 
-/// The digest of a read that the reader refused.
+/// The digest of a read that failed.
 const REFUSED: u64 = 2;
 
-/// A chain that is read into a struct, read in full.
+/// A chain read into a struct, with all of it read.
 pub struct StructRead;
 
-/// The same under a limit.
+/// A chain read into a struct within a limit, with all of it read.
 pub struct StructReadLimited;
 
 impl Parse for StructRead {
@@ -50,7 +50,7 @@ impl Parse for StructReadLimited {
     }
 }
 
-/// Why a chain wasn't read.
+/// Returns the digest of a chain read's error.
 #[inline(never)]
 fn of_refused(error: &HeaderReadError) -> u64 {
     match error {
@@ -59,7 +59,7 @@ fn of_refused(error: &HeaderReadError) -> u64 {
     }
 }
 
-/// Why a chain wasn't read under a limit.
+/// Returns the digest of a limited chain read's error.
 #[inline(never)]
 fn of_refused_limited(error: &HeaderLimitedReadError) -> u64 {
     match error {
@@ -69,7 +69,7 @@ fn of_refused_limited(error: &HeaderLimitedReadError) -> u64 {
     }
 }
 
-/// A reader of the bytes behind an IPv6 header.
+/// Returns a limited reader of the bytes after an IPv6 header.
 #[inline(always)]
 fn limited(bytes: &[u8]) -> LimitedReader<&[u8]> {
     LimitedReader::new(
@@ -81,14 +81,14 @@ fn limited(bytes: &[u8]) -> LimitedReader<&[u8]> {
     )
 }
 
-/// How far a limited reader is, and what it leaves.
+/// Returns the digest of a limited reader's state and remaining bytes.
 #[inline(always)]
 fn of_limited(reader: LimitedReader<&[u8]>) -> u64 {
     let read = with(reader.max_len() as u64, reader.read_len() as u64);
     with(read, of_bytes(reader.take_reader()))
 }
 
-/// A header of the common layout.
+/// Reads a header in the uniform format (RFC 6564).
 #[unsafe(no_mangle)]
 pub extern "C" fn ipexts_raw_read(bytes: &[u8], at: usize) -> u64 {
     let mut reader = bytes;
@@ -98,7 +98,7 @@ pub extern "C" fn ipexts_raw_read(bytes: &[u8], at: usize) -> u64 {
     }
 }
 
-/// An authentication header.
+/// Reads an authentication header.
 #[unsafe(no_mangle)]
 pub extern "C" fn ipexts_auth_read(bytes: &[u8], at: usize) -> u64 {
     let mut reader = bytes;
@@ -108,7 +108,7 @@ pub extern "C" fn ipexts_auth_read(bytes: &[u8], at: usize) -> u64 {
     }
 }
 
-/// A fragment header.
+/// Reads a fragment header.
 #[unsafe(no_mangle)]
 pub extern "C" fn ipexts_fragment_read(bytes: &[u8], _at: usize) -> u64 {
     let mut reader = bytes;
@@ -118,7 +118,7 @@ pub extern "C" fn ipexts_fragment_read(bytes: &[u8], _at: usize) -> u64 {
     }
 }
 
-/// A header of the common layout, under a limit.
+/// Reads a header in the uniform format (RFC 6564) within a limit.
 #[unsafe(no_mangle)]
 pub extern "C" fn ipexts_raw_read_limited(bytes: &[u8], at: usize) -> u64 {
     let mut reader = limited(bytes);
@@ -128,7 +128,7 @@ pub extern "C" fn ipexts_raw_read_limited(bytes: &[u8], at: usize) -> u64 {
     }
 }
 
-/// An authentication header, under a limit.
+/// Reads an authentication header within a limit.
 #[unsafe(no_mangle)]
 pub extern "C" fn ipexts_auth_read_limited(bytes: &[u8], at: usize) -> u64 {
     let mut reader = limited(bytes);
@@ -138,7 +138,7 @@ pub extern "C" fn ipexts_auth_read_limited(bytes: &[u8], at: usize) -> u64 {
     }
 }
 
-/// A fragment header, under a limit.
+/// Reads a fragment header within a limit.
 #[unsafe(no_mangle)]
 pub extern "C" fn ipexts_fragment_read_limited(bytes: &[u8], _at: usize) -> u64 {
     let mut reader = limited(bytes);
@@ -148,7 +148,7 @@ pub extern "C" fn ipexts_fragment_read_limited(bytes: &[u8], _at: usize) -> u64 
     }
 }
 
-/// The IPv4 extension header, where the number names one.
+/// Reads the IPv4 extension header, if the number is 51.
 #[unsafe(no_mangle)]
 pub extern "C" fn ipexts_ipv4_read(start: u8, bytes: &[u8]) -> u64 {
     let mut reader = bytes;
@@ -164,13 +164,13 @@ pub extern "C" fn ipexts_ipv4_read(start: u8, bytes: &[u8]) -> u64 {
     }
 }
 
-/// A chain of six places at most.
+/// Reads a chain into six places.
 #[unsafe(no_mangle)]
 pub extern "C" fn ipexts_struct_read(start: u8, bytes: &[u8]) -> u64 {
     StructRead::digest(IpNumber(start), bytes)
 }
 
-/// A chain of six places at most, under a limit.
+/// Reads a chain into six places within a limit.
 #[unsafe(no_mangle)]
 pub extern "C" fn ipexts_struct_read_limited(start: u8, bytes: &[u8]) -> u64 {
     StructReadLimited::digest(IpNumber(start), bytes)

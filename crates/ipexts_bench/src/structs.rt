@@ -1,4 +1,4 @@
-//! The parses into a struct of six places, and what is done with one.
+//! The parses into a struct of six places, and calls on one.
 use crate::parses::Parse;
 use ip_digests::digest::{layer_code, of_bytes, of_fault, of_strict_fault, with};
 use ip_digests::owned::of_written;
@@ -6,10 +6,10 @@ use ip_digests::structs::{of_answer, of_exts};
 use ip_ext_chains::{IpNumber, Ipv6Extensions, Ipv6ExtensionsRuns};
 use std::alloc::Global;
 
-/// The lax parse into a struct, read in full.
+/// The lax parse into a struct, with all of it read.
 pub struct LaxStruct;
 
-/// The strict parse into a struct, read in full.
+/// The strict parse into a struct, with all of it read.
 pub struct StrictStruct;
 
 impl Parse for LaxStruct {
@@ -33,7 +33,7 @@ impl Parse for StrictStruct {
     }
 }
 
-/// Leads the last header, the final destination options, to another number each time.
+/// Sets the next header of the last header, the final destination options, to another number each time.
 fn relink(exts: &mut Ipv6Extensions, time: u32) {
     if let Some(routing) = &mut exts.routing
         && let Some(options) = &mut routing.final_destination_options
@@ -42,7 +42,7 @@ fn relink(exts: &mut Ipv6Extensions, time: u32) {
     }
 }
 
-/// Where the headers lead from number 0. A call by itself: else its tests are done once for all times.
+/// Walks the headers from number 0. It is kept out of line, so that its checks aren't hoisted out of the loop.
 #[inline(never)]
 fn walk(exts: &Ipv6Extensions) -> u64 {
     match exts.next_header(IpNumber(0)) {
@@ -51,13 +51,14 @@ fn walk(exts: &Ipv6Extensions) -> u64 {
     }
 }
 
-/// The number of the first header, linked to the others and to `last`. A call by itself, as well.
+/// Links the headers to one another and to `last`, and returns the number of the first. It is kept out of line, as
+/// `walk` is.
 #[inline(never)]
 fn link(exts: &mut Ipv6Extensions, last: u8) -> u64 {
     u64::from(exts.set_next_headers(IpNumber(last)).0)
 }
 
-/// A walk through a struct that was read from number 0, `times` times, each time to another number.
+/// Walks a struct parsed from number 0 `times` times, each time to another number.
 #[unsafe(no_mangle)]
 pub extern "C" fn ipexts_struct_next_header(bytes: &[u8], _at: usize, times: u32) -> u64 {
     let (mut exts, _, _, _) = Ipv6Extensions::from_slice_lax(IpNumber(0), bytes);
@@ -69,7 +70,7 @@ pub extern "C" fn ipexts_struct_next_header(bytes: &[u8], _at: usize, times: u32
     sum
 }
 
-/// Its links, set `times` times, each time to another number.
+/// Links a struct parsed from number 0 `times` times, each time to another number.
 #[unsafe(no_mangle)]
 pub extern "C" fn ipexts_struct_set_next_headers(bytes: &[u8], _at: usize, times: u32) -> u64 {
     let (mut exts, _, _, _) = Ipv6Extensions::from_slice_lax(IpNumber(0), bytes);
@@ -80,7 +81,7 @@ pub extern "C" fn ipexts_struct_set_next_headers(bytes: &[u8], _at: usize, times
     with(sum, of_exts(&exts))
 }
 
-/// The struct written `times` times into a vector that was emptied before.
+/// Writes the struct `times` times into an emptied vector.
 #[unsafe(no_mangle)]
 pub extern "C" fn ipexts_struct_write(alloc: Global, bytes: &[u8], at: usize, times: u32) -> u64 {
     let (mut exts, _, _, _) = Ipv6Extensions::from_slice_lax(IpNumber(0), bytes);
@@ -97,7 +98,7 @@ pub extern "C" fn ipexts_struct_write(alloc: Global, bytes: &[u8], at: usize, ti
     sum
 }
 
-/// The struct written `times` times, each time into a new vector.
+/// Writes the struct `times` times, each time into a new vector.
 #[unsafe(no_mangle)]
 pub extern "C" fn ipexts_struct_write_new(
     alloc: Global,
@@ -118,7 +119,7 @@ pub extern "C" fn ipexts_struct_write_new(
     sum
 }
 
-/// The runs of a chain, each read in full, and what stands behind the last.
+/// Runs over a chain; reads all of each run, and what follows the last.
 #[unsafe(no_mangle)]
 pub extern "C" fn ipexts_runs(start: u8, bytes: &[u8]) -> u64 {
     let mut runs = Ipv6ExtensionsRuns::new(IpNumber(start), bytes);
@@ -135,7 +136,7 @@ pub extern "C" fn ipexts_runs(start: u8, bytes: &[u8]) -> u64 {
     }
 }
 
-/// Every part of a run.
+/// Returns the digest of every part of a run.
 #[inline(never)]
 fn of_run(exts: &Ipv6Extensions) -> u64 {
     of_exts(exts)

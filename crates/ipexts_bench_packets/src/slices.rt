@@ -1,4 +1,4 @@
-//! Whole packets: base header, extension headers and payload, read in full or as a filter does.
+//! Whole packets: base header, extension headers and payload; all of it is read, or the parts that a filter needs.
 use etherparse_ip::{IpPayloadSlice, IpSlice, Ipv4Slice, Ipv6Slice};
 use ip_digests::digest::{len_source_code, of_auth, of_bytes, with};
 use ip_digests::packets::{of_ip_fault, of_ipv4_fault, of_ipv6_fault};
@@ -6,36 +6,35 @@ use std::net::{Ipv4Addr, Ipv6Addr};
 
 /// A way to parse a packet.
 pub trait Packet {
-    /// A digest of the packet that begins the bytes.
+    /// Returns a digest of the packet at the start of the bytes.
     fn digest(bytes: &[u8]) -> u64;
 }
 
-/// The packet of either version, read in full.
+/// A packet of either IP version, with all of it read.
 pub struct Ip;
 
-/// The packet of either version, of which a filter reads what the payload is, whether it is a fragment and how
-/// long it is.
+/// A packet of either IP version; a filter reads the payload's number, whether it is a fragment, and its length.
 pub struct IpFilter;
 
-/// The packet of IPv4, read in full.
+/// An IPv4 packet, with all of it read.
 pub struct Ipv4;
 
-/// The packet of IPv4, as a filter reads it.
+/// An IPv4 packet, with the parts read that a filter needs.
 pub struct Ipv4Filter;
 
-/// The packet of IPv6, read in full.
+/// An IPv6 packet, with all of it read.
 pub struct Ipv6;
 
-/// The packet of IPv6, as a filter reads it.
+/// An IPv6 packet, with the parts read that a filter needs.
 pub struct Ipv6Filter;
 
-/// The packet of IPv6, cut short or not, read in full.
+/// An IPv6 packet, truncated or not, with all of it read.
 pub struct Ipv6Lax;
 
-/// The packet of IPv6, cut short or not, as a filter reads it.
+/// An IPv6 packet, truncated or not, with the parts read that a filter needs.
 pub struct Ipv6LaxFilter;
 
-/// The digest of a refusal where only a filter reads it.
+/// The digest of an error if only a filter reads it.
 const NO_PACKET: u64 = 2;
 
 impl Packet for Ip {
@@ -110,7 +109,7 @@ impl Packet for Ipv6LaxFilter {
     }
 }
 
-/// What a filter reads of a payload.
+/// Returns the digest of the parts of a payload that a filter needs.
 #[inline(always)]
 fn of_place(payload: &IpPayloadSlice<'_>) -> u64 {
     with(
@@ -122,7 +121,7 @@ fn of_place(payload: &IpPayloadSlice<'_>) -> u64 {
     )
 }
 
-/// Every part of a packet.
+/// Returns the digest of every part of a packet.
 #[inline(never)]
 fn of_ip(packet: &IpSlice<'_>) -> u64 {
     match packet {
@@ -131,7 +130,7 @@ fn of_ip(packet: &IpSlice<'_>) -> u64 {
     }
 }
 
-/// Every part of an IPv4 packet.
+/// Returns the digest of every part of an IPv4 packet.
 #[inline(never)]
 fn of_ipv4(packet: &Ipv4Slice<'_>) -> u64 {
     let header = packet.header();
@@ -147,7 +146,7 @@ fn of_ipv4(packet: &Ipv4Slice<'_>) -> u64 {
     with(headers, of_payload(packet.payload()))
 }
 
-/// Every part of an IPv6 packet.
+/// Returns the digest of every part of an IPv6 packet.
 #[inline(never)]
 fn of_ipv6(packet: &Ipv6Slice<'_>) -> u64 {
     let header = packet.header();
@@ -165,19 +164,19 @@ fn of_ipv6(packet: &Ipv6Slice<'_>) -> u64 {
     with(headers, of_payload(packet.payload()))
 }
 
-/// The first and the last byte of an address.
+/// Returns the digest of an IPv4 address: its first and last byte.
 fn of_ipv4_addr(address: Ipv4Addr) -> u64 {
     let [first, _, _, last] = address.octets();
     with(u64::from(first), u64::from(last))
 }
 
-/// The same of an address of IPv6.
+/// Returns the digest of an IPv6 address: its first and last byte.
 fn of_ipv6_addr(address: Ipv6Addr) -> u64 {
     let octets = address.octets();
     with(u64::from(octets[0]), u64::from(octets[15]))
 }
 
-/// Every part of a payload.
+/// Returns the digest of every part of a payload.
 fn of_payload(payload: &IpPayloadSlice<'_>) -> u64 {
     let kind = with(
         u64::from(payload.ip_number.0),
@@ -187,7 +186,7 @@ fn of_payload(payload: &IpPayloadSlice<'_>) -> u64 {
     with(with(kind, source), of_bytes(payload.payload))
 }
 
-/// Each packet, up to the first that isn't there. They stand one after the other, and end at `ends`.
+/// Parses each packet, up to the first that isn't one. The packets follow one another, and end at `ends`.
 fn over_each<P: Packet>(packets: &[u8], ends: &[usize]) -> u64 {
     let mut start = 0;
     let mut sum = 0;
@@ -201,97 +200,97 @@ fn over_each<P: Packet>(packets: &[u8], ends: &[usize]) -> u64 {
     sum
 }
 
-/// A packet of either version, read in full.
+/// Parses a packet of either IP version; reads all of it.
 #[unsafe(no_mangle)]
 pub extern "C" fn ipexts_ip(packet: &[u8]) -> u64 {
     Ip::digest(packet)
 }
 
-/// A packet of either version, read as a filter does.
+/// Parses a packet of either IP version; reads the parts that a filter needs.
 #[unsafe(no_mangle)]
 pub extern "C" fn ipexts_ip_filter(packet: &[u8]) -> u64 {
     IpFilter::digest(packet)
 }
 
-/// A packet of IPv4, read in full.
+/// Parses an IPv4 packet; reads all of it.
 #[unsafe(no_mangle)]
 pub extern "C" fn ipexts_ipv4_slice(packet: &[u8]) -> u64 {
     Ipv4::digest(packet)
 }
 
-/// A packet of IPv4, read as a filter does.
+/// Parses an IPv4 packet; reads the parts that a filter needs.
 #[unsafe(no_mangle)]
 pub extern "C" fn ipexts_ipv4_slice_filter(packet: &[u8]) -> u64 {
     Ipv4Filter::digest(packet)
 }
 
-/// A packet of IPv6, read in full.
+/// Parses an IPv6 packet; reads all of it.
 #[unsafe(no_mangle)]
 pub extern "C" fn ipexts_ipv6_slice(packet: &[u8]) -> u64 {
     Ipv6::digest(packet)
 }
 
-/// A packet of IPv6, read as a filter does.
+/// Parses an IPv6 packet; reads the parts that a filter needs.
 #[unsafe(no_mangle)]
 pub extern "C" fn ipexts_ipv6_slice_filter(packet: &[u8]) -> u64 {
     Ipv6Filter::digest(packet)
 }
 
-/// A packet of IPv6, cut short or not, read in full.
+/// Parses an IPv6 packet, truncated or not; reads all of it.
 #[unsafe(no_mangle)]
 pub extern "C" fn ipexts_ipv6_slice_lax(packet: &[u8]) -> u64 {
     Ipv6Lax::digest(packet)
 }
 
-/// A packet of IPv6, cut short or not, read as a filter does.
+/// Parses an IPv6 packet, truncated or not; reads the parts that a filter needs.
 #[unsafe(no_mangle)]
 pub extern "C" fn ipexts_ipv6_slice_lax_filter(packet: &[u8]) -> u64 {
     Ipv6LaxFilter::digest(packet)
 }
 
-/// Packets of either version, read in full.
+/// Parses packets of either IP version; reads all of each.
 #[unsafe(no_mangle)]
 pub extern "C" fn ipexts_ip_packets(packets: &[u8], ends: &[usize]) -> u64 {
     over_each::<Ip>(packets, ends)
 }
 
-/// Packets of either version, read as a filter does.
+/// Parses packets of either IP version; reads the parts that a filter needs.
 #[unsafe(no_mangle)]
 pub extern "C" fn ipexts_ip_filter_packets(packets: &[u8], ends: &[usize]) -> u64 {
     over_each::<IpFilter>(packets, ends)
 }
 
-/// Packets of IPv4, read in full.
+/// Parses IPv4 packets; reads all of each.
 #[unsafe(no_mangle)]
 pub extern "C" fn ipexts_ipv4_slice_packets(packets: &[u8], ends: &[usize]) -> u64 {
     over_each::<Ipv4>(packets, ends)
 }
 
-/// Packets of IPv4, read as a filter does.
+/// Parses IPv4 packets; reads the parts that a filter needs.
 #[unsafe(no_mangle)]
 pub extern "C" fn ipexts_ipv4_slice_filter_packets(packets: &[u8], ends: &[usize]) -> u64 {
     over_each::<Ipv4Filter>(packets, ends)
 }
 
-/// Packets of IPv6, read in full.
+/// Parses IPv6 packets; reads all of each.
 #[unsafe(no_mangle)]
 pub extern "C" fn ipexts_ipv6_slice_packets(packets: &[u8], ends: &[usize]) -> u64 {
     over_each::<Ipv6>(packets, ends)
 }
 
-/// Packets of IPv6, read as a filter does.
+/// Parses IPv6 packets; reads the parts that a filter needs.
 #[unsafe(no_mangle)]
 pub extern "C" fn ipexts_ipv6_slice_filter_packets(packets: &[u8], ends: &[usize]) -> u64 {
     over_each::<Ipv6Filter>(packets, ends)
 }
 
-/// Packets of IPv6, cut short or not, read in full.
+/// Parses IPv6 packets, truncated or not; reads all of each.
 #[unsafe(no_mangle)]
 pub extern "C" fn ipexts_ipv6_slice_lax_packets(packets: &[u8], ends: &[usize]) -> u64 {
     over_each::<Ipv6Lax>(packets, ends)
 }
 
-/// Packets of IPv6, cut short or not, read as a filter does.
+/// Parses IPv6 packets, truncated or not; reads the parts that a filter needs.
 #[unsafe(no_mangle)]
 pub extern "C" fn ipexts_ipv6_slice_lax_filter_packets(packets: &[u8], ends: &[usize]) -> u64 {
     over_each::<Ipv6LaxFilter>(packets, ends)

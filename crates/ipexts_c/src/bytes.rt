@@ -1,20 +1,20 @@
-//! Bytes that are handed in.
+//! Bytes from the caller.
 ghost use Rattle.std.specs.Prelude.{◌≡◌};
 
-/// Bytes of C's: a pointer, and how many there are behind it.
+/// A C byte array: a pointer and a length.
 ///
-/// The calling convention hands both over in the registers in which it would hand over a pointer and then a length, so
-/// that is what C passes. A slice that is a parameter itself would be the same to C, but has a null pointer replaced
-/// before anything is read, which takes more than a tenth of the time in which a packet is cut.
+/// The calling convention passes both in the registers of a pointer and a length, so C passes these two. A slice as a
+/// parameter would be the same for C, but its null pointer is replaced before anything is read, which takes more than
+/// a tenth of the time of parsing a packet.
 #[repr(C)]
 #[derive(Clone, Copy)]
 pub struct Bytes<'a> {
-    /// The bytes; where there are none, the pointer may be null.
+    /// The bytes; if there are none, the pointer may be null.
     pub slice: &'a [u8],
 }
 
 impl<'a> Bytes<'a> {
-    /// The bytes. Where there are none, the pointer that came with them is not used, so it may be null.
+    /// Returns the bytes. If there are none, the caller's pointer is not used, so it may be null.
     #[inline(always)]
     pub(crate) fn slice(self) -> &'a [u8]
         ensures { result.now ≡ self.entry.slice.now }

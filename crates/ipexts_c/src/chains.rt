@@ -13,7 +13,7 @@ ghost use Rattle.ip_cuts.specs.InPlaces.{AreInPlaces};
 
 use ip_cuts::{ChainCursor, ChainCut, FaultFields, HeaderCut, cut_chain, cut_ipv4_chain, run_len};
 
-/// `cut_chain`, with its answer in `chain`.
+/// Calls `cut_chain` and stores its result in `chain`.
 #[unsafe(no_mangle)]
 pub extern "C" fn wolfaren_cut_chain(
     first: u8,
@@ -28,7 +28,7 @@ pub extern "C" fn wolfaren_cut_chain(
     *chain = cut_chain(first, bytes, cuts);
 }
 
-/// `cut_ipv4_chain`, with its answer in `chain`.
+/// Calls `cut_ipv4_chain` and stores its result in `chain`.
 #[unsafe(no_mangle)]
 pub extern "C" fn wolfaren_cut_ipv4_chain(
     first: u8,
@@ -43,7 +43,8 @@ pub extern "C" fn wolfaren_cut_ipv4_chain(
     *chain = cut_ipv4_chain(first, bytes, cuts);
 }
 
-/// `ChainCursor::next_header`: whether a header goes on, and then its cut in `cut`, which else stays.
+/// Calls `ChainCursor::next_header`. Returns whether a header follows; if so, stores it in `cut`, which is otherwise
+/// unchanged.
 #[unsafe(no_mangle)]
 pub extern "C" fn wolfaren_next_header(
     cursor: &mut ChainCursor,
@@ -64,7 +65,7 @@ pub extern "C" fn wolfaren_next_header(
     }
 }
 
-/// `ChainCursor::fault`, with its answer in `fault`.
+/// Calls `ChainCursor::fault` and stores its result in `fault`.
 #[unsafe(no_mangle)]
 pub extern "C" fn wolfaren_fault_at(cursor: &ChainCursor, bytes: &[u8], fault: &mut FaultFields)
     ensures { fault.new ≡ chain_fault_fields (slice_fault cursor.now.offset
@@ -73,7 +74,7 @@ pub extern "C" fn wolfaren_fault_at(cursor: &ChainCursor, bytes: &[u8], fault: &
     *fault = cursor.fault(bytes);
 }
 
-/// `run_len`.
+/// Calls `run_len`.
 #[unsafe(no_mangle)]
 pub extern "C" fn wolfaren_run_len(cuts: &[HeaderCut]) -> usize
     ensures within { result ≤ length cuts.now }

@@ -1,9 +1,9 @@
-//! Faults in words.
+//! Errors as text.
 ghost use Rattle.std.specs.Prelude.{◌≡◌, ◌≤◌, ◌<◌, ◌+◌, drop, length, slice_index};
 
 use ip_cuts::{FaultFields, fault_text};
 
-/// `fault_text`.
+/// Calls `fault_text`.
 #[unsafe(no_mangle)]
 pub extern "C" fn wolfaren_fault_text(fault: &FaultFields, text: &mut [u8]) -> usize
     ensures most { result ≤ 255 }

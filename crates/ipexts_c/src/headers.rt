@@ -6,7 +6,8 @@ ghost use Rattle.ip_cuts.specs.HeaderFields.{BeginsWithFragmentHeader, BeginsWit
 
 use ip_cuts::{AuthFields, FragmentFields, auth_fields, fragment_fields};
 
-/// `fragment_fields`: whether a fragment header begins the bytes, and then its fields in `fields`, which else stay.
+/// Calls `fragment_fields`. Returns whether the bytes start with a fragment header; if so, stores its fields in
+/// `fields`, which is otherwise unchanged.
 #[unsafe(no_mangle)]
 pub extern "C" fn wolfaren_fragment_fields(bytes: &[u8], fields: &mut FragmentFields) -> bool
     ensures some { IsTrue result → BeginsWithFragmentHeader bytes.now fields.new }
@@ -23,7 +24,8 @@ pub extern "C" fn wolfaren_fragment_fields(bytes: &[u8], fields: &mut FragmentFi
     }
 }
 
-/// `auth_fields`: whether an authentication header begins the bytes, and then its fields in `fields`, which else stay.
+/// Calls `auth_fields`. Returns whether the bytes start with an authentication header; if so, stores its fields in
+/// `fields`, which is otherwise unchanged.
 #[unsafe(no_mangle)]
 pub extern "C" fn wolfaren_authentication_fields(bytes: &[u8], fields: &mut AuthFields) -> bool
     ensures some { IsTrue result → BeginsWithAuthHeader bytes.now fields.new }

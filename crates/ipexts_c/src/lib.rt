@@ -1,6 +1,6 @@
-//! What C and other languages call: chains of IP extension headers and packets, cut into plain numbers. Each call is
-//! one of `ip_cuts` with its clauses. A slice is a pointer and a length, and may be null where it is empty.
-//! `include/wolfaren.h` says the same in the words of C.
+//! The interface for C and other languages: chains of IP extension headers and packets, parsed into plain numbers.
+//! Each function calls one of `ip_cuts`, with its clauses. A slice is a pointer and a length, and may be null if it
+//! is empty. `include/wolfaren.h` documents the same functions in C.
 #![tactic(auto)]
 
 mod bytes;

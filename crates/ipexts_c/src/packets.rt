@@ -9,8 +9,8 @@ use ip_cuts::{
     find_payload_lax,
 };
 
-/// `cut_packet`: whether a packet begins the bytes. Then it is in `packet`, and `fault` stays; else what is wrong is in
-/// `fault`, and the others stay.
+/// Calls `cut_packet`. Returns whether the bytes start with a packet. If so, stores it in `packet`, and `fault` is
+/// unchanged; otherwise stores the error in `fault`, and the others are unchanged.
 #[unsafe(no_mangle)]
 pub extern "C" fn wolfaren_cut_packet(
     bytes: Bytes<'_>,
@@ -38,7 +38,7 @@ pub extern "C" fn wolfaren_cut_packet(
     }
 }
 
-/// `cut_packet_lax`, as `wolfaren_cut_packet`.
+/// Calls `cut_packet_lax`, as `wolfaren_cut_packet` calls `cut_packet`.
 #[unsafe(no_mangle)]
 pub extern "C" fn wolfaren_cut_packet_lax(
     bytes: Bytes<'_>,
@@ -66,8 +66,8 @@ pub extern "C" fn wolfaren_cut_packet_lax(
     }
 }
 
-/// `find_payload`: whether a packet begins the bytes. Then its payload is in `payload`, and `fault` stays; else what is
-/// wrong is in `fault`, and `payload` stays.
+/// Calls `find_payload`. Returns whether the bytes start with a packet. If so, stores its payload in `payload`, and
+/// `fault` is unchanged; otherwise stores the error in `fault`, and `payload` is unchanged.
 #[unsafe(no_mangle)]
 pub extern "C" fn wolfaren_find_payload(
     bytes: Bytes<'_>,
@@ -95,7 +95,7 @@ pub extern "C" fn wolfaren_find_payload(
     }
 }
 
-/// `find_payload_lax`, as `wolfaren_find_payload`.
+/// Calls `find_payload_lax`, as `wolfaren_find_payload` calls `find_payload`.
 #[unsafe(no_mangle)]
 pub extern "C" fn wolfaren_find_payload_lax(
     bytes: Bytes<'_>,

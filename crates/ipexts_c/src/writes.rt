@@ -6,7 +6,7 @@ ghost use Rattle.ip_cuts.specs.Written.{AllLieIn, written_cuts, written_chain, b
 
 use ip_cuts::{HeaderCut, link_headers, write_headers};
 
-/// `link_headers`.
+/// Calls `link_headers`.
 #[unsafe(no_mangle)]
 pub extern "C" fn wolfaren_link_headers(cuts: &mut [HeaderCut], last: u8) -> u8
     ensures links { cuts.new ≡ linked_cuts last cuts.old }
@@ -15,8 +15,8 @@ pub extern "C" fn wolfaren_link_headers(cuts: &mut [HeaderCut], last: u8) -> u8
     link_headers(cuts, last)
 }
 
-/// `write_headers`: whether they were written, and how many bytes they have in `len`, which is 0 where a cut has no
-/// header of its number.
+/// Calls `write_headers`. Returns whether the headers were written, and stores their length in bytes in `len`, which
+/// is 0 if a cut doesn't refer to a header of its number.
 #[unsafe(no_mangle)]
 pub extern "C" fn wolfaren_write_headers(
     bytes: &[u8],

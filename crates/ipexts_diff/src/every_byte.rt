@@ -1,5 +1,5 @@
-//! Digests in which every byte of an answer counts, where those of the other modules take a length and the first
-//! byte. They are too slow to be measured; two sides are compared by them.
+//! Digests in which every byte of a result counts; those of the other modules use a length and the first byte. They
+//! are too slow to be measured, and serve to compare two implementations.
 use etherparse_ip::{IpPayloadSlice, IpSlice, Ipv4Slice, Ipv6Slice};
 use ip_digests::digest::{layer_code, of_auth, of_fault, of_header, of_strict_fault, with};
 use ip_digests::packets::{of_ip_fault, of_ipv4_fault, of_ipv6_fault};
@@ -10,10 +10,10 @@ use ip_ext_chains::{
 };
 use std::alloc::Global;
 
-/// What a walk or a write that is refused counts for.
+/// The value of a refused walk or write.
 const REFUSED: u64 = 256;
 
-/// The digest `sum` with all bytes of some more.
+/// Returns the digest `sum` extended by all these bytes.
 fn with_bytes(sum: u64, bytes: &[u8]) -> u64 {
     let mut sum = with(sum, bytes.len() as u64);
     for byte in bytes {
@@ -22,7 +22,7 @@ fn with_bytes(sum: u64, bytes: &[u8]) -> u64 {
     sum
 }
 
-/// A header's parts and bytes.
+/// Returns the digest extended by a header's parts and bytes.
 fn with_header(sum: u64, header: &Ipv6ExtensionSlice<'_>) -> u64 {
     let fields = with(sum, of_header(header));
     match header {
@@ -42,7 +42,7 @@ fn with_header(sum: u64, header: &Ipv6ExtensionSlice<'_>) -> u64 {
     }
 }
 
-/// A chain, what follows it, and its headers one by one.
+/// Returns the digest of a chain, what follows it, and its headers one by one.
 fn of_chain(headers: Ipv6ExtensionsSlice<'_>, number: IpNumber, rest: &[u8]) -> u64 {
     let mut sum = with_bytes(u64::from(number.0), headers.slice());
     sum = with_bytes(sum, rest);
@@ -52,14 +52,14 @@ fn of_chain(headers: Ipv6ExtensionsSlice<'_>, number: IpNumber, rest: &[u8]) -> 
     sum
 }
 
-/// The lax parse.
+/// Runs the lax parse.
 #[unsafe(no_mangle)]
 pub extern "C" fn ipexts_lax_bytes(start: u8, bytes: &[u8]) -> u64 {
     let (headers, number, rest, _) = Ipv6ExtensionsSlice::from_slice_lax(IpNumber(start), bytes);
     of_chain(headers, number, rest)
 }
 
-/// The strict parse.
+/// Runs the strict parse.
 #[unsafe(no_mangle)]
 pub extern "C" fn ipexts_strict_bytes(start: u8, bytes: &[u8]) -> u64 {
     match Ipv6ExtensionsSlice::from_slice(IpNumber(start), bytes) {
@@ -68,7 +68,7 @@ pub extern "C" fn ipexts_strict_bytes(start: u8, bytes: &[u8]) -> u64 {
     }
 }
 
-/// The cursor, to its end.
+/// Runs the cursor to its end.
 #[unsafe(no_mangle)]
 pub extern "C" fn ipexts_cursor_bytes(start: u8, bytes: &[u8]) -> u64 {
     let mut headers = Ipv6ExtensionsCursor::new(IpNumber(start), bytes);
@@ -86,7 +86,7 @@ pub extern "C" fn ipexts_cursor_bytes(start: u8, bytes: &[u8]) -> u64 {
     }
 }
 
-/// The payload of a header of the common layout that may be there.
+/// Returns the digest extended by the payload of an optional header in the uniform format (RFC 6564).
 fn with_payload(sum: u64, header: &Option<Ipv6RawExtHeader>) -> u64 {
     match header {
         Some(header) => with_bytes(sum, header.payload()),
@@ -94,7 +94,7 @@ fn with_payload(sum: u64, header: &Option<Ipv6RawExtHeader>) -> u64 {
     }
 }
 
-/// The bytes that a struct holds.
+/// Returns the digest extended by the bytes that a struct holds.
 fn with_held(sum: u64, exts: &Ipv6Extensions) -> u64 {
     let options = with_payload(sum, &exts.hop_by_hop_options);
     let options = with_payload(options, &exts.destination_options);
@@ -111,7 +111,7 @@ fn with_held(sum: u64, exts: &Ipv6Extensions) -> u64 {
     }
 }
 
-/// What a struct is as it is written from a number, and where it leads from there.
+/// Returns the digest extended by the struct as written from a number, and the number to which it leads.
 fn with_written(alloc: Global, sum: u64, exts: &Ipv6Extensions, start: IpNumber) -> u64 {
     let leads = match exts.next_header(start) {
         Ok(number) => u64::from(number.0),
@@ -125,7 +125,7 @@ fn with_written(alloc: Global, sum: u64, exts: &Ipv6Extensions, start: IpNumber)
     }
 }
 
-/// The lax parse into a struct, and the struct as it is written.
+/// Runs the lax parse into a struct, and writes the struct.
 #[unsafe(no_mangle)]
 pub extern "C" fn ipexts_struct_bytes(alloc: Global, start: u8, bytes: &[u8]) -> u64 {
     let (exts, number, rest, _) = Ipv6Extensions::from_slice_lax(IpNumber(start), bytes);
@@ -133,7 +133,7 @@ pub extern "C" fn ipexts_struct_bytes(alloc: Global, start: u8, bytes: &[u8]) ->
     with_written(alloc, with_bytes(held, rest), &exts, IpNumber(start))
 }
 
-/// The same struct, linked before the number `last`.
+/// Runs the lax parse into a struct, links the struct before the number `last`, and writes it.
 #[unsafe(no_mangle)]
 pub extern "C" fn ipexts_struct_linked_bytes(
     alloc: Global,
@@ -146,7 +146,7 @@ pub extern "C" fn ipexts_struct_linked_bytes(
     with_written(alloc, u64::from(first.0), &exts, first)
 }
 
-/// The runs of a chain, and what stands behind the last.
+/// Runs over the runs of a chain, and what follows the last.
 #[unsafe(no_mangle)]
 pub extern "C" fn ipexts_runs_bytes(start: u8, bytes: &[u8]) -> u64 {
     let mut runs = Ipv6ExtensionsRuns::new(IpNumber(start), bytes);
@@ -160,7 +160,7 @@ pub extern "C" fn ipexts_runs_bytes(start: u8, bytes: &[u8]) -> u64 {
     }
 }
 
-/// The lax IPv4 parse that borrows, the one with bytes of its own, and what that is as it is written.
+/// Runs the borrowing and the owned lax IPv4 parse, and writes the owned headers.
 #[unsafe(no_mangle)]
 pub extern "C" fn ipexts_ipv4_bytes(alloc: Global, start: u8, bytes: &[u8]) -> u64 {
     let (headers, number, rest, _) = Ipv4ExtensionsSlice::from_slice_lax(IpNumber(start), bytes);
@@ -182,12 +182,12 @@ pub extern "C" fn ipexts_ipv4_bytes(alloc: Global, start: u8, bytes: &[u8]) -> u
     }
 }
 
-/// A payload.
+/// Returns the digest extended by a payload.
 fn with_payload_of(sum: u64, payload: &IpPayloadSlice<'_>) -> u64 {
     with_bytes(with(sum, u64::from(payload.ip_number.0)), payload.payload)
 }
 
-/// The parts of an IPv4 packet.
+/// Returns the digest of the parts of an IPv4 packet.
 fn of_ipv4(packet: &Ipv4Slice<'_>) -> u64 {
     let header = packet.header();
     let sum = with_bytes(
@@ -202,7 +202,7 @@ fn of_ipv4(packet: &Ipv4Slice<'_>) -> u64 {
     with_payload_of(exts, packet.payload())
 }
 
-/// The parts of an IPv6 packet.
+/// Returns the digest of the parts of an IPv6 packet.
 fn of_ipv6(packet: &Ipv6Slice<'_>) -> u64 {
     let header = packet.header();
     let sum = with_bytes(
@@ -216,7 +216,7 @@ fn of_ipv6(packet: &Ipv6Slice<'_>) -> u64 {
     )
 }
 
-/// The packet of either version.
+/// Parses a packet of either IP version.
 #[unsafe(no_mangle)]
 pub extern "C" fn ipexts_ip_bytes(packet: &[u8]) -> u64 {
     match IpSlice::from_slice(packet) {
@@ -226,7 +226,7 @@ pub extern "C" fn ipexts_ip_bytes(packet: &[u8]) -> u64 {
     }
 }
 
-/// The packet of IPv4.
+/// Parses an IPv4 packet.
 #[unsafe(no_mangle)]
 pub extern "C" fn ipexts_ipv4_slice_bytes(packet: &[u8]) -> u64 {
     match Ipv4Slice::from_slice(packet) {
@@ -235,7 +235,7 @@ pub extern "C" fn ipexts_ipv4_slice_bytes(packet: &[u8]) -> u64 {
     }
 }
 
-/// The packet of IPv6.
+/// Parses an IPv6 packet.
 #[unsafe(no_mangle)]
 pub extern "C" fn ipexts_ipv6_slice_bytes(packet: &[u8]) -> u64 {
     match Ipv6Slice::from_slice(packet) {
@@ -244,7 +244,7 @@ pub extern "C" fn ipexts_ipv6_slice_bytes(packet: &[u8]) -> u64 {
     }
 }
 
-/// The packet of IPv6, cut short or not.
+/// Parses an IPv6 packet, truncated or not.
 #[unsafe(no_mangle)]
 pub extern "C" fn ipexts_ipv6_slice_lax_bytes(packet: &[u8]) -> u64 {
     match Ipv6Slice::from_slice_lax(packet) {

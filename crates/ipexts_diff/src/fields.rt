@@ -1,4 +1,4 @@
-//! The parts of single headers and the bytes that are written of them, as C sees them.
+//! The parts of single headers and the bytes written for them, in C structs.
 use ip_digests::digest::{layer_code, len_source_code};
 use ip_ext_chains::IpNumber;
 use ip_ext_chains::err::{LenError, ip_auth};
@@ -10,12 +10,12 @@ use ip_ext_headers::{
 };
 use std::alloc::Global;
 
-/// A header or the reason why there is none. What a header of the kind lacks is 0.
+/// A header or the error. A field that the header's kind lacks is 0.
 #[repr(C)]
 #[derive(Clone, Copy)]
 pub struct IpextsHeader {
-    /// 0: none; 1: too few bytes; 2: an authentication header's length field is 0; 3 to 5: a payload or check
-    /// value is too small, too big, no whole number of units.
+    /// 0: none; 1: too few bytes; 2: an authentication header's length field is 0; 3 to 5: a payload or check value
+    /// is too small, too big, not a multiple of its unit.
     pub fault: u8,
     pub source: u8,
     pub layer: u8,
@@ -30,16 +30,16 @@ pub struct IpextsHeader {
     pub found_len: usize,
     pub offset: usize,
     pub header_len: usize,
-    /// The length of the payload or of the check value.
+    /// The length of the payload or of the check value, in bytes.
     pub payload_len: usize,
     pub rest_len: usize,
-    /// How many bytes `to_bytes` gave.
+    /// The number of bytes that `to_bytes` returned.
     pub spelled_len: usize,
-    /// How many bytes `write` appended.
+    /// The number of bytes that `write` appended.
     pub written_len: usize,
 }
 
-/// A header with nothing in it.
+/// An empty header.
 const NOTHING: IpextsHeader = IpextsHeader {
     fault: 0,
     source: 0,
@@ -58,13 +58,13 @@ const NOTHING: IpextsHeader = IpextsHeader {
     written_len: 0,
 };
 
-/// Copies as much as there is room for.
+/// Copies as many bytes as fit.
 fn copy_front(from: &[u8], to: &mut [u8]) {
     let len = from.len().min(to.len());
     to[..len].copy_from_slice(&from[..len]);
 }
 
-/// Too few bytes.
+/// Returns a length error.
 fn too_few(fault: &LenError) -> IpextsHeader {
     IpextsHeader {
         fault: 1,
@@ -77,7 +77,7 @@ fn too_few(fault: &LenError) -> IpextsHeader {
     }
 }
 
-/// Bytes that are no authentication header.
+/// Returns an authentication header's error.
 fn no_auth(fault: &ip_auth::HeaderSliceError) -> IpextsHeader {
     match fault {
         ip_auth::HeaderSliceError::Len(fault) => too_few(fault),
@@ -88,7 +88,7 @@ fn no_auth(fault: &ip_auth::HeaderSliceError) -> IpextsHeader {
     }
 }
 
-/// A fault of a length that was handed in.
+/// Returns the error of a wrong length from the caller.
 fn refused(fault: u8, found_len: usize) -> IpextsHeader {
     IpextsHeader {
         fault,
@@ -97,12 +97,12 @@ fn refused(fault: u8, found_len: usize) -> IpextsHeader {
     }
 }
 
-/// The two flags of a fragment header.
+/// Returns the two flags of a fragment header.
 fn flags(more_fragments: bool, is_fragmenting: bool) -> u8 {
     u8::from(more_fragments) | (u8::from(is_fragmenting) << 1)
 }
 
-/// A borrowed header of the common layout.
+/// Parses a borrowed header in the uniform format (RFC 6564).
 #[unsafe(no_mangle)]
 pub extern "C" fn ipexts_raw_borrowed_fields(
     bytes: &[u8],
@@ -123,7 +123,7 @@ pub extern "C" fn ipexts_raw_borrowed_fields(
     };
 }
 
-/// A borrowed authentication header.
+/// Parses a borrowed authentication header.
 #[unsafe(no_mangle)]
 pub extern "C" fn ipexts_auth_borrowed_fields(
     bytes: &[u8],
@@ -146,7 +146,7 @@ pub extern "C" fn ipexts_auth_borrowed_fields(
     };
 }
 
-/// A borrowed fragment header.
+/// Parses a borrowed fragment header.
 #[unsafe(no_mangle)]
 pub extern "C" fn ipexts_fragment_borrowed_fields(bytes: &[u8], out: &mut IpextsHeader) {
     *out = match Ipv6FragmentHeaderSlice::from_slice(bytes) {
@@ -162,7 +162,7 @@ pub extern "C" fn ipexts_fragment_borrowed_fields(bytes: &[u8], out: &mut Ipexts
     };
 }
 
-/// The parts of an owned header of the common layout, what `to_bytes` gives and what `write` appends.
+/// Returns the parts of an owned header in the uniform format (RFC 6564), and the bytes of `to_bytes` and `write`.
 fn raw_parts(
     alloc: Global,
     header: &Ipv6RawExtHeader,
@@ -188,7 +188,7 @@ fn raw_parts(
     }
 }
 
-/// The parts of an owned authentication header, what `to_bytes` gives and what `write` appends.
+/// Returns the parts of an owned authentication header, and the bytes of `to_bytes` and `write`.
 fn auth_parts(
     alloc: Global,
     header: &IpAuthHeader,
@@ -216,7 +216,7 @@ fn auth_parts(
     }
 }
 
-/// An owned header of the common layout.
+/// Parses an owned header in the uniform format (RFC 6564).
 #[unsafe(no_mangle)]
 pub extern "C" fn ipexts_raw_owned_fields(
     alloc: Global,
@@ -232,7 +232,7 @@ pub extern "C" fn ipexts_raw_owned_fields(
     };
 }
 
-/// An owned authentication header.
+/// Parses an owned authentication header.
 #[unsafe(no_mangle)]
 pub extern "C" fn ipexts_auth_owned_fields(
     alloc: Global,
@@ -248,7 +248,7 @@ pub extern "C" fn ipexts_auth_owned_fields(
     };
 }
 
-/// An owned fragment header.
+/// Parses an owned fragment header.
 #[unsafe(no_mangle)]
 pub extern "C" fn ipexts_fragment_owned_fields(
     alloc: Global,
@@ -279,7 +279,7 @@ pub extern "C" fn ipexts_fragment_owned_fields(
     };
 }
 
-/// A header of the common layout that is made of its parts.
+/// Builds a header in the uniform format (RFC 6564) from its parts.
 #[unsafe(no_mangle)]
 pub extern "C" fn ipexts_raw_new(
     alloc: Global,
@@ -298,7 +298,7 @@ pub extern "C" fn ipexts_raw_new(
     };
 }
 
-/// An authentication header that is made of its parts.
+/// Builds an authentication header from its parts.
 #[unsafe(no_mangle)]
 pub extern "C" fn ipexts_auth_new(
     alloc: Global,

@@ -1,4 +1,4 @@
-//! Calls for a program in C or Rust that compares this project's answers, in full, with another's.
+//! Calls for a program in C or Rust that compares this project's complete results with another's.
 #![tactic(auto)]
 
 mod every_byte;

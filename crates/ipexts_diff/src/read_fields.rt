@@ -1,5 +1,5 @@
-//! What a read takes and leaves, as C sees it: the value as it is written, the number behind it, the bytes that
-//! are left, the error, and the state of the limit.
+//! The result of a read, in C structs: the value as it is written, the number after it, the bytes left, the error,
+//! and the state of the limit.
 use etherparse_ip::err::io::LimitedReadError;
 use etherparse_ip::err::{Layer, LenError, ip_auth, ipv6_exts};
 use etherparse_ip::io::{ExactRead, LimitedReader, OverRead};
@@ -10,25 +10,25 @@ use etherparse_ip::{
 use ip_digests::digest::{layer_code, len_source_code};
 use std::alloc::Global;
 
-/// What a read told. What it doesn't tell is 0.
+/// The result of a read. A field without a value is 0.
 #[repr(C)]
 #[derive(Clone, Copy)]
 pub struct IpextsRead {
-    /// 0: none; 1: the limit leaves too few bytes; 2: an authentication header's length field is 0; 3: hop by hop
-    /// options don't stand first; 4: the reader refused.
+    /// 0: none; 1: the limit leaves too few bytes; 2: an authentication header's length field is 0; 3: hop-by-hop
+    /// options aren't first; 4: the reader failed.
     pub fault: u8,
     pub source: u8,
     pub layer: u8,
-    /// The number behind the headers.
+    /// The protocol number after the headers.
     pub next_header: u8,
-    /// Which places have a header, a bit for each.
+    /// The occupied places, a bit for each.
     pub places: u8,
     pub required_len: usize,
     pub found_len: usize,
     pub offset: usize,
-    /// How many bytes `write` appends of the value.
+    /// The number of bytes that `write` appends for the value.
     pub written_len: usize,
-    /// How many bytes are not yet read; not told where the reader refused.
+    /// The number of bytes not yet read; 0 if the reader failed.
     pub left: usize,
     pub limit: IpextsLimit,
 }
@@ -44,7 +44,7 @@ pub struct IpextsLimit {
     pub read_len: usize,
 }
 
-/// How a limited reader begins.
+/// The initial state of a limited reader.
 #[repr(C)]
 #[derive(Clone, Copy)]
 pub struct IpextsStart {
@@ -52,7 +52,7 @@ pub struct IpextsStart {
     pub source: u8,
     pub max_len: u32,
     pub layer_offset: u32,
-    /// How many bytes are read before the header, in the layer in which the reader begins.
+    /// The number of bytes read before the header, in the reader's initial layer.
     pub before: u8,
 }
 
@@ -65,7 +65,7 @@ const NO_LIMIT: IpextsLimit = IpextsLimit {
     read_len: 0,
 };
 
-/// A read that told nothing.
+/// A read without a result.
 const NOTHING: IpextsRead = IpextsRead {
     fault: 0,
     source: 0,
@@ -80,23 +80,23 @@ const NOTHING: IpextsRead = IpextsRead {
     limit: NO_LIMIT,
 };
 
-/// The code of a refusal by the reader.
+/// The code of a reader's failure.
 const IO: u8 = 4;
 
-/// What is read, which a number tells: 0 the common layout, 1 authentication, 2 fragment, 3 the headers of IPv4,
-/// else those of IPv6 from the number `start`.
+/// The value to read, by a number: 0 the uniform format (RFC 6564), 1 authentication, 2 fragment, 3 the IPv4 headers,
+/// otherwise the IPv6 ones from the number `start`.
 #[derive(Clone, Copy)]
 struct What {
     kind: u8,
     start: IpNumber,
 }
 
-/// A refusal without parts.
+/// Returns an error without parts.
 fn refused(fault: u8) -> IpextsRead {
     IpextsRead { fault, ..NOTHING }
 }
 
-/// Too few bytes.
+/// Returns a length error.
 fn too_few(fault: &LenError) -> IpextsRead {
     IpextsRead {
         fault: 1,
@@ -109,7 +109,7 @@ fn too_few(fault: &LenError) -> IpextsRead {
     }
 }
 
-/// A refusal of a limited reader.
+/// Returns a limited reader's error.
 fn of_limited_fault(fault: &LimitedReadError) -> IpextsRead {
     match fault {
         LimitedReadError::Io(_) => refused(IO),
@@ -117,7 +117,7 @@ fn of_limited_fault(fault: &LimitedReadError) -> IpextsRead {
     }
 }
 
-/// A fault of the content of a chain.
+/// Returns a chain's content error.
 fn of_content(fault: &ipv6_exts::HeaderError) -> IpextsRead {
     match fault {
         ipv6_exts::HeaderError::HopByHopNotAtStart => refused(3),
@@ -125,7 +125,7 @@ fn of_content(fault: &ipv6_exts::HeaderError) -> IpextsRead {
     }
 }
 
-/// Why no authentication header was read under a limit.
+/// Returns the error of a limited read of an authentication header.
 fn of_auth_fault(fault: &ip_auth::HeaderLimitedReadError) -> IpextsRead {
     match fault {
         ip_auth::HeaderLimitedReadError::Io(_) => refused(IO),
@@ -136,7 +136,7 @@ fn of_auth_fault(fault: &ip_auth::HeaderLimitedReadError) -> IpextsRead {
     }
 }
 
-/// Why none was read without a limit.
+/// Returns the error of a read of an authentication header without a limit.
 fn of_auth_read_fault(fault: &ip_auth::HeaderReadError) -> IpextsRead {
     match fault {
         ip_auth::HeaderReadError::Io(_) => refused(IO),
@@ -144,7 +144,7 @@ fn of_auth_read_fault(fault: &ip_auth::HeaderReadError) -> IpextsRead {
     }
 }
 
-/// A header of the common layout.
+/// Returns the result for a header in the uniform format (RFC 6564).
 fn of_raw(header: &Ipv6RawExtHeader, written: &mut Vec<u8>) -> IpextsRead {
     let _ = header.write(written);
     IpextsRead {
@@ -153,7 +153,7 @@ fn of_raw(header: &Ipv6RawExtHeader, written: &mut Vec<u8>) -> IpextsRead {
     }
 }
 
-/// An authentication header.
+/// Returns the result for an authentication header.
 fn of_auth(header: &IpAuthHeader, written: &mut Vec<u8>) -> IpextsRead {
     let _ = header.write(written);
     IpextsRead {
@@ -162,7 +162,7 @@ fn of_auth(header: &IpAuthHeader, written: &mut Vec<u8>) -> IpextsRead {
     }
 }
 
-/// A fragment header.
+/// Returns the result for a fragment header.
 fn of_fragment(header: &Ipv6FragmentHeader, written: &mut Vec<u8>) -> IpextsRead {
     let _ = header.write(written);
     IpextsRead {
@@ -171,7 +171,7 @@ fn of_fragment(header: &Ipv6FragmentHeader, written: &mut Vec<u8>) -> IpextsRead
     }
 }
 
-/// The headers of IPv4.
+/// Returns the result for IPv4 headers.
 fn of_ipv4(
     headers: &Ipv4Extensions,
     start: IpNumber,
@@ -186,7 +186,7 @@ fn of_ipv4(
     }
 }
 
-/// The headers of IPv6.
+/// Returns the result for IPv6 headers.
 fn of_ipv6(
     exts: &Ipv6Extensions,
     start: IpNumber,
@@ -236,7 +236,7 @@ fn read<T: ExactRead>(what: What, reader: &mut T, written: &mut Vec<u8>) -> Ipex
     }
 }
 
-/// Reads one value under a limit.
+/// Reads one value within a limit.
 fn read_limited<T: ExactRead>(
     what: What,
     reader: &mut LimitedReader<T>,
@@ -268,7 +268,7 @@ fn read_limited<T: ExactRead>(
     }
 }
 
-/// A limited reader that begins so.
+/// Returns a limited reader with this initial state.
 fn begin<T>(reader: T, start: &IpextsStart) -> LimitedReader<T> {
     let source = match start.source {
         0 => LenSource::Slice,
@@ -279,7 +279,7 @@ fn begin<T>(reader: T, start: &IpextsStart) -> LimitedReader<T> {
     LimitedReader::new(reader, max_len, source, layer_offset, Layer::Ipv6Header)
 }
 
-/// Reads some bytes and then one value, and tells the state of the limit behind it.
+/// Reads some bytes and then one value, and returns the state of the limit after it.
 fn read_behind<T: ExactRead>(
     what: What,
     start: &IpextsStart,
@@ -304,7 +304,7 @@ fn read_behind<T: ExactRead>(
     }
 }
 
-/// What was told, with what is left and what was written.
+/// Returns the result with the bytes left and the bytes written.
 fn with_ends(told: IpextsRead, left: usize, appended: &[u8], written: &mut [u8]) -> IpextsRead {
     let len = appended.len().min(written.len());
     written[..len].copy_from_slice(&appended[..len]);
@@ -315,7 +315,7 @@ fn with_ends(told: IpextsRead, left: usize, appended: &[u8], written: &mut [u8])
     }
 }
 
-/// A value read from bytes in memory, or by way of the standard library's reader of them.
+/// Reads a value from bytes in memory, directly or through the standard library's reader of them.
 #[unsafe(no_mangle)]
 pub extern "C" fn ipexts_read_fields(
     alloc: Global,
@@ -343,7 +343,7 @@ pub extern "C" fn ipexts_read_fields(
     *out = with_ends(told, left, appended.as_slice(), written);
 }
 
-/// The same under a limit, behind some bytes.
+/// Reads a value within a limit, after some bytes.
 #[unsafe(no_mangle)]
 pub extern "C" fn ipexts_read_limited_fields(
     alloc: Global,

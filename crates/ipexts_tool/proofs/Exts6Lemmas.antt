@@ -8,7 +8,7 @@ use Rattle.ip_ext_slices.specs.declared.err.ipv6_exts.header_slice_error.HeaderS
 use Rattle.ipexts_tool.specs.Exts6.{exts6_answer}
 use Rattle.ipexts_tool.specs.Parts.{header_lines, next_line, chain_end_line}
 
--- what follows from a fact about an `Ok` follows about it
+-- a consequence of a property of an `Ok` holds of it
 pub on_ok : {T E : Type 0} (r : Result T E) (P Q : Type 0) → (P → Q) → OnOk r P → OnOk r Q
 on_ok (Ok x) P Q f p = f p
 on_ok (Err e) P Q f p = tt
@@ -16,7 +16,7 @@ on_ok (Err e) P Q f p = tt
 four_parts : (a b c d : List ℕ) → ((a ++ b) ++ c) ++ d ≡ a ++ ((b ++ c) ++ d)
 four_parts a b c d = simp append_assoc
 
--- once no header is left, its lines, what follows the headers and what ended the chain are the answer
+-- once no header is left, the headers' lines, what follows them and the end of the chain are the answer
 pub answer_joined : (old text next new : List ℕ) (n m offset x : ℕ) (s rest t : List ℕ) (left : List ExtHeader) (fault : Option (HeaderSliceError × Layer))
     → text ++ header_lines offset left ≡ old ++ header_lines 0 (longest_chain n s) → left ≡ [] → x ≡ n → t ≡ s → IsChainAnswer x t (longest_chain x t) m rest fault
     → next ≡ text ++ next_line m (length rest) → new ≡ next ++ chain_end_line fault → new ≡ old ++ exts6_answer n s

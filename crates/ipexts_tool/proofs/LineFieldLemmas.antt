@@ -1,11 +1,11 @@
--- Two fields, where the second one is the rest of the text; and one field, which is the text.
+-- Two fields, the second being the rest of the text; and one field, which is the whole text.
 use Rattle.ip_spec.proofs.Common.{◌≡◌, ℕ, ◌<◌, List, [], ◌∷◌, ◌++◌, length, get_or, refl, sym, ap, ◌∙◌, arith, rules, codes, join_with_byte, option_zip, result_ok, bytes_eq, false_from_ne_true, false≢true, length-append, get_or_at, join_with_byte-slice_split, bytes_eq-Decides}
 use Rattle.std.proofs.Common.{Option, None, Result, Ok, Err}
 use Rattle.hex.specs.Hex.{decode_of, is_hex_digit}
 use Rattle.hex.proofs.HexLemmas.{decode_of-ok}
 use Rattle.ipexts_tool.specs.LineFields.{fields_of, number_of, bytes_of_hex, number_and_bytes, bytes_alone}
 
--- digits with a space among them stand for no bytes
+-- digits with a space between them denote no bytes
 space_refused : (text : List ℕ) (r : Result (List ℕ) _) → decode_of text ≡ r → (k : ℕ) → k < length text → get_or text k 0 ≡ 32 → result_ok r ≡ None
 space_refused text (Err e) decoded k inside here = refl
 space_refused text (Ok bytes) decoded k inside here = absurd (false≢true (ap is_hex_digit (sym here) ∙ (decode_of-ok text bytes decoded).1 k 0 inside))
@@ -21,7 +21,7 @@ bytes_of_hex-space (c ∷ front) back =
 pub option_zip-none : (o : Option ℕ) → option_zip {U = List ℕ} o None ≡ None
 option_zip-none o = search rules
 
--- the second field is all the rest, or there are too many
+-- the second field is the whole rest, or there are too many fields
 two_fields : (number hex : List ℕ) (parts : List (List ℕ)) → join_with_byte 32 parts ≡ hex
     → number_and_bytes (number ∷ parts) ≡ option_zip (number_of number) (bytes_of_hex hex)
 two_fields number hex parts e = search (rules, option_zip-none, bytes_of_hex-space)
@@ -30,7 +30,7 @@ pub number_and_bytes-two : (text number hex : List ℕ) → fields_of text ≡ n
     → number_and_bytes (fields_of text) ≡ option_zip (number_of number) (bytes_of_hex hex)
 number_and_bytes-two text number hex e = ap number_and_bytes e ∙ two_fields number hex (fields_of hex) (join_with_byte-slice_split 32 hex)
 
--- one field is all of the text, or there are too many
+-- one field is the whole text, or there are too many
 one_field : (hex : List ℕ) (parts : List (List ℕ)) → join_with_byte 32 parts ≡ hex → bytes_alone parts ≡ bytes_of_hex hex
 one_field hex parts e = search (rules, bytes_of_hex-space)
 

@@ -1,4 +1,4 @@
--- What holds where memory ran out.
+-- A property that holds if memory ran out.
 use Rattle.ipexts_tool.specs.Memory.{IfMemory}
 use Rattle.ipexts_tool.specs.declared.tool_error.ToolError.{ToolError}
 use Rattle.ipexts_tool.specs.declared.tool_error.ToolError.TheVariants.{Io, Memory}

@@ -1,9 +1,9 @@
--- Which number a text is the numeral of.
+-- The number that a text is the numeral of.
 use Rattle.ip_spec.proofs.Common.{◌≡◌, lit≤, ℕ, zero, suc, ◌+◌, ◌-◌, ◌*◌, ◌^◌, ◌<◌, ◌≤◌, List, length, take, get_or, refl, sym, ap, ◌∙◌, subst, arith, rules, inl, inr, common_steps, find, range_with_len, bytes_eq, AllDigits, digits_value, digit_value, IsInRange, IsOutOfRange, decimal, cond-true, cond-false, cases_eq, false_from_ne_true, bytes_eq-Decides, IsNumeralModel, numerals_by_value, tells_digits, digit_at, digits_value-take-le, digits_value_more, digits_more, nat_tests, decimal_injective, decimal_is_IsNumeral, decimal_digit, first_decimal, decimal-digits_value}
 use Rattle.std.proofs.Common.{Some, None}
 use Rattle.ipexts_tool.specs.LineFields.{number_of}
 
--- over any range, since a tactic would count the numeral down
+-- for any range, since a tactic would unfold a literal bound
 module _ (text : List ℕ) where
   found_in : (n a m : ℕ) → n < 2 ^ 64 → a + m ≤ 2 ^ 64 → a ≤ n → n < a + m → decimal n ≡ text
       → find (λ k. bytes_eq (decimal k) text) (range_with_len a m) ≡ Some n
@@ -30,12 +30,12 @@ module _ (text : List ℕ) where
   unfolding number_of
   number_of-none none = absent_in 0 256 (λ n below e. none n (omega arith) e)
 
--- digits and their value, in std's words
+-- digits and their value, in std's terms
 own : IsNumeralModel (AllDigits 10) (digits_value 10)
 own = numerals_by_value (AllDigits 10) tells_digits
 
 module _ (text : List ℕ) where
-  -- digits with no leading zero
+  -- digits without a leading zero
   pub number_of-digits : AllDigits 10 text → 0 < length text → (get_or text 0 0 ≡ 48 → length text ≡ 1) → digits_value 10 text < 256
       → number_of text ≡ Some (digits_value 10 text)
   number_of-digits digits some plain below = number_of-some text (digits_value 10 text) below (decimal-digits_value own text digits some plain (omega arith))
@@ -46,7 +46,7 @@ module _ (text : List ℕ) where
   pub number_of-no_digits : (AllDigits 10 text → ⊥) → number_of text ≡ None
   number_of-no_digits none = number_of-none text (λ n below e. none (subst (AllDigits 10) e (decimal_is_IsNumeral n (omega arith)).0.1))
 
-  -- a front of the digits is too large already
+  -- a prefix of the digits is too large already
   pub number_of-too_large : (i : ℕ) → 256 ≤ digits_value 10 (take i text) → number_of text ≡ None
   number_of-too_large i large = grind (arith, common_steps, number_of-none, decimal_is_IsNumeral, digits_value-take-le)
 
@@ -59,7 +59,7 @@ pub digit_value-digit : (c : ℕ) → 48 ≤ c → c ≤ 57 → digit_value c �
 digit_value-digit c low high = grind (arith, nat_tests)
 
 module _ (text : List ℕ) (i : ℕ) (inside : i < length text) where
-  -- a byte that is no digit
+  -- a byte that is not a digit
   pub number_of-other_byte : IsOutOfRange 48 57 (get_or text i 0) → number_of text ≡ None
   number_of-other_byte other = search (rules, number_of-no_digits, digit_at)
 

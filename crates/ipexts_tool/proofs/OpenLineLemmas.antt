@@ -1,4 +1,4 @@
--- The lines of bytes that come in parts.
+-- The lines of bytes that arrive in parts.
 use Rattle.ip_spec.proofs.Common.{◌≡◌, ℕ, zero, suc, min, ◌+◌, ◌<◌, true, false, cond, List, [], ◌∷◌, ◌++◌, length, take, refl, sym, ap, ◌∙◌, arith, inl, inr, append_assoc, rules, common_steps, if◌then◌else◌, nat_le, Option, None, slice_split, onto_first, option_map_or, cases_lt, cases_Bool, cond-false, lt-leb, take_all, length-take, take-append-add, slice_split-cons_yes, slice_split-cons_no}
 use Rattle.std.proofs.Common.{append-nil, length-append}
 use Rattle.ipexts_tool.specs.Lines.{is_newline, lines_of, without_empty_last, max_line_len}
@@ -10,7 +10,7 @@ use Rattle.ipexts_tool.specs.Progress.{SameKept}
 
 -- ---- one byte more at the front
 
--- the parts of a list are never none
+-- a list always has at least one part
 pub some_parts : (bytes : List ℕ) → (line : List ℕ) × (lines : List (List ℕ)) × (slice_split is_newline bytes ≡ line ∷ lines)
 some_parts [] = ([], [], refl)
 some_parts (b ∷ bytes) =
@@ -69,7 +69,7 @@ module _ (begun : List ℕ) (b : ℕ) (bytes : List ℕ) where
   open_line-newline : is_newline b ≡ true → open_line begun (b ∷ bytes) ≡ open_line [] bytes
   open_line-newline e = open_line-found begun (b ∷ bytes) [] bytes (slice_split-cons_yes is_newline b bytes e)
 
--- ---- bytes that come in two parts
+-- ---- bytes that arrive in two parts
 
 pub ended_lines-nil : (begun : List ℕ) → ended_lines begun [] ≡ []
 ended_lines-nil begun = ended_lines-absent begun [] refl
@@ -98,14 +98,14 @@ pub lines_of-is : (bytes : List ℕ) → lines_of bytes ≡ ended_lines [] bytes
 unfolding ended_lines open_line
 lines_of-is bytes = search (rules, some_parts, onto_begun-none, without_empty_last-is)
 
--- the lines of an input that begins with xs begin with those that end in xs
+-- the lines of an input that starts with xs start with the lines that end in xs
 pub lines_of-append : (xs ys : List ℕ)
     → lines_of (xs ++ ys) ≡ ended_lines [] xs ++ (ended_lines (open_line [] xs) ys ++ lines_at_end (open_line [] (xs ++ ys)))
 lines_of-append xs ys = search (rules, lines_of-is, ended_lines-append, append_assoc)
 
--- ---- what is kept of a line that has begun
+-- ---- the part kept of a started line
 
--- over any limit, since a tactic would count the numeral down
+-- for any limit, since a tactic would unfold a literal one
 request_upto : ℕ → List ℕ → Option Request
 request_upto m line = if nat_le (length line) m then request_of_fields (fields_of line) else None
 
@@ -120,7 +120,7 @@ request_of-kept : (begun line : List ℕ) → request_of (take kept_len begun ++
 unfolding request_upto
 request_of-kept begun line = request_upto-kept max_line_len begun line
 
--- what is kept of a line suffices for its answer
+-- the part kept of a line determines its answer
 pub answer_of-kept : (begun line : List ℕ) → answer_of (take kept_len begun ++ line) ≡ answer_of (begun ++ line)
 answer_of-kept begun line = ap (λ (request : Option Request). option_map_or answer_to request bad_line) (request_of-kept begun line)
 
@@ -130,7 +130,7 @@ answer_of-take line = rw (← append-nil (take kept_len line)) (answer_of-kept l
 take_kept : (m : ℕ) (begun line : List ℕ) → take m (take m begun ++ line) ≡ take m (begun ++ line)
 take_kept m begun line = grind (arith, common_steps)
 
--- what is kept of a line, with as much of its next part as there is room for
+-- the part kept of a line, extended by as much of its next part as fits
 pub take-room : (m room : ℕ) (begun part : List ℕ) → room + length begun ≡ m → begun ++ take (min (length part) room) part ≡ take m (begun ++ part)
 take-room m room begun part e =
     let whole : length begun + room ≡ m = omega arith in
@@ -147,7 +147,7 @@ lines_at_end-take : (line : List ℕ) → answers_to (lines_at_end (take kept_le
 lines_at_end-take [] = refl
 lines_at_end-take (b ∷ bytes) = ap (λ (l : List ℕ). l ++ []) (answer_of-take (b ∷ bytes))
 
--- the answers and what is kept are those of the whole line
+-- the answers and the part kept are those of the whole line
 module _ (begun : List ℕ) where
   answers_by_parts : (n : ℕ) (parts : List (List ℕ))
       → answers_to (take n (all_but_last (onto_begun (take kept_len begun) parts))) ≡ answers_to (take n (all_but_last (onto_begun begun parts)))

@@ -1,4 +1,4 @@
--- The answer to a packet, by what its parse tells.
+-- The answer for a packet, by the result of its parse.
 use Rattle.ip_spec.proofs.Common.{◌≡◌, ℕ, List, refl, ap, sym, ◌∙◌, arith, Some, None, codes, ◌==◌, if◌then◌else◌, eq-eqb, ne_eqb}
 use Rattle.ip_base.specs.Ipv4Header.{version}
 use Rattle.etherparse_ip.specs.declared.err.ip.slice_error.SliceError.{SliceError}

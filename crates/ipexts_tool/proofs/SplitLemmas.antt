@@ -1,10 +1,10 @@
--- The parts that one byte separates.
+-- Parts separated by one byte.
 use Rattle.ip_spec.proofs.Common.{◌≡◌, ◌≢◌, ℕ, ◌+◌, ◌<◌, List, ◌∷◌, [], ◌++◌, length, take, drop, get_or, false, refl, sym, ap, ◌∙◌, subst, arith, slice_split, eq-eqb, ne_eqb, take-append-drop, drop_more, get_or-take, length-take-le, All-from_get_or, slice_split_at, slice_split_none}
 use Rattle.std.proofs.Common.{◌==◌}
 use Rattle.std.specs.List.{All}
 
 module _ (separator : ℕ) (xs : List ℕ) where
-  -- no part ends where no byte is the separator
+  -- no part ends if no byte is the separator
   pub slice_split_absent : ((k : ℕ) → k < length xs → get_or xs k 0 ≢ separator) → slice_split (λ b. b == separator) xs ≡ xs ∷ []
   slice_split_absent none = slice_split_none _ xs (All-from_get_or (λ b. (b == separator) ≡ false) xs 0 (λ k inside. ne_eqb _ separator (none k inside)))
 

@@ -1,5 +1,5 @@
--- The answer to `exts4 N HEX`: the longest chain of IPv4 extension headers from number N that begins the bytes,
--- at most one authentication header (RFC 4302, section 2), and what comes after it.
+-- The answer to `exts4 N HEX`: the longest chain of IPv4 extension headers from number N at the start of the bytes,
+-- at most one authentication header (RFC 4302, section 2), and what follows it.
 use Rattle.std.specs.Prelude.{ℕ, List, ◌++◌, length}
 use Rattle.ip_spec.specs.Parse.{rest_behind}
 use Rattle.ip_ext_chains.specs.Chain.{leads_to}

@@ -25,37 +25,37 @@ len_fault_text e =
     ++ codes " " ++ len_source_name e.len_source ++ codes " " ++ layer_name e.layer
     ++ codes " at " ++ decimal e.layer_start_offset
 
--- what is wrong in the bytes of an authentication header
+-- the error in the bytes of an authentication header
 abbrev pub auth_fault_text : AuthError → List ℕ
 auth_fault_text ZeroPayloadLen = codes "fault ZeroPayloadLen"
 
--- why no authentication header is there, although one is named
+-- the error of an authentication header
 abbrev pub auth_slice_fault_text : AuthSliceError → List ℕ
 auth_slice_fault_text (auth.Len e) = len_fault_text e
 auth_slice_fault_text (auth.Content e) = auth_fault_text e
 
--- what is wrong in the bytes of an IPv6 chain
+-- the error in the bytes of an IPv6 chain
 abbrev pub content_fault_text : HeaderError → List ℕ
 content_fault_text HopByHopNotAtStart = codes "fault HopByHopNotAtStart"
 content_fault_text (IpAuth e) = auth_fault_text e
 
--- why an IPv6 chain doesn't go on
+-- the error that ended an IPv6 chain
 abbrev pub chain_fault_text : HeaderSliceError → List ℕ
 chain_fault_text (Len e) = len_fault_text e
 chain_fault_text (Content e) = content_fault_text e
 
--- what is wrong in the bytes of a base header
+-- the error in the bytes of a base header
 abbrev pub base_fault_text : BaseError → List ℕ
 base_fault_text (UnsupportedIpVersion version) = codes "fault UnsupportedIpVersion " ++ decimal version
 base_fault_text (Ipv4HeaderLengthSmallerThanHeader ihl) = codes "fault Ipv4HeaderLengthSmallerThanHeader " ++ decimal ihl
 
--- and in those of all headers of a packet
+-- the error in the bytes of all headers of a packet
 abbrev pub headers_fault_text : HeadersError → List ℕ
 headers_fault_text (Ip e) = base_fault_text e
 headers_fault_text (Ipv4Ext e) = auth_fault_text e
 headers_fault_text (Ipv6Ext e) = content_fault_text e
 
--- why there is no packet
+-- the error of a packet
 abbrev pub packet_fault_text : SliceError → List ℕ
 packet_fault_text (packet.Len e) = len_fault_text e
 packet_fault_text (packet.IpHeaders e) = headers_fault_text e

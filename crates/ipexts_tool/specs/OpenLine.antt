@@ -1,14 +1,14 @@
--- The lines of bytes that go on with a line that has begun, and the line that they leave open.
+-- The lines that bytes add to a started line, and the line that they leave open.
 use Rattle.std.specs.Prelude.{ℕ, List, [], ◌∷◌, ◌++◌}
 use Rattle.std.specs.List.{slice_split}
 use Rattle.ipexts_tool.specs.Lines.{is_newline}
 
--- how many bytes are kept of a line that hasn't ended: one more than it may have, which tells that
--- it is too long
+-- the number of bytes kept of a line that hasn't ended: one more than a request may have, which shows that the line
+-- is too long
 abbrev pub kept_len : ℕ
 kept_len = 8193
 
--- these lines, where the first had begun so
+-- these lines, of which the first continues a started one
 abbrev pub onto_begun : List ℕ → List (List ℕ) → List (List ℕ)
 onto_begun begun [] = []
 onto_begun begun (line ∷ lines) = (begun ++ line) ∷ lines
@@ -25,7 +25,7 @@ last_line [] = []
 last_line (line ∷ []) = line
 last_line (line ∷ next ∷ lines) = last_line (next ∷ lines)
 
--- the lines that newlines end in these bytes, where the first had begun so
+-- the lines that newlines in these bytes end, of which the first continues a started one
 unfoldable pub ended_lines : List ℕ → List ℕ → List (List ℕ)
 ended_lines begun bytes = all_but_last (onto_begun begun (slice_split is_newline bytes))
 
@@ -33,7 +33,7 @@ ended_lines begun bytes = all_but_last (onto_begun begun (slice_split is_newline
 unfoldable pub open_line : List ℕ → List ℕ → List ℕ
 open_line begun bytes = last_line (onto_begun begun (slice_split is_newline bytes))
 
--- the line at the end of an input, which is one where it isn't empty
+-- the line at the end of an input, if it isn't empty
 abbrev pub lines_at_end : List ℕ → List (List ℕ)
 lines_at_end [] = []
 lines_at_end (b ∷ bytes) = (b ∷ bytes) ∷ []

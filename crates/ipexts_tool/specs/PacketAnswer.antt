@@ -1,4 +1,4 @@
--- The answer to `packet HEX`: the packet that begins the bytes, of the version that its first byte states (RFC 791,
+-- The answer to `packet HEX`: the packet at the start of the bytes, of the version in its first byte (RFC 791,
 -- section 3.1; RFC 8200, section 3).
 use Rattle.std.specs.Prelude.{ℕ, ◌==◌, List, ◌++◌, length, Bool, Option, None, Some, if◌then◌else◌, codes}
 use Rattle.std.specs.Fmt.{decimal}
@@ -13,7 +13,7 @@ use Rattle.etherparse_ip.specs.PacketFault.{ip_fault}
 use Rattle.ipexts_tool.specs.Faults.{packet_fault_text}
 use Rattle.ipexts_tool.specs.Parts.{ok_line}
 
--- `ipv4 header H exts E payload P`: how many bytes each part has
+-- `ipv4 header H exts E payload P`: the length of each part in bytes
 abbrev pub lengths_line : List ℕ → ℕ → ℕ → ℕ → List ℕ
 lengths_line name header exts payload =
     name ++ codes " header " ++ decimal header ++ codes " exts " ++ decimal exts
@@ -23,7 +23,7 @@ lengths_line name header exts payload =
 abbrev pub yes_or_no : Bool → List ℕ
 yes_or_no b = if b then codes "yes" else codes "no"
 
--- `next N fragmented yes source S`: the payload's number, whether it is a fragment, and what says where it ends
+-- `next N fragmented yes source S`: the payload's number, whether it is a fragment, and the source of its length
 abbrev pub payload_line : ℕ → Bool → LenSource → List ℕ
 payload_line number fragmented source =
     codes "next " ++ decimal number ++ codes " fragmented " ++ yes_or_no fragmented
@@ -35,17 +35,17 @@ parts_lines name p =
     lengths_line name (length p.base) (length (bytes_of p.headers)) (length p.payload)
     ++ payload_line p.number p.fragmented p.source ++ ok_line
 
--- of the packet that begins bytes
+-- the parts of the packet at the start of bytes
 abbrev pub cut_lines : List ℕ → List ℕ
 cut_lines bytes =
     if version bytes == 4 then parts_lines (codes "ipv4") (ipv4_cut bytes)
     else parts_lines (codes "ipv6") (ipv6_cut bytes)
 
--- why there is no packet
+-- the error of a packet
 abbrev pub fault_line : SliceError → List ℕ
 fault_line fault = packet_fault_text fault ++ codes "\n"
 
--- what there is, or why there is no packet
+-- the packet's parts, or its error
 abbrev pub packet_lines : Option SliceError → List ℕ → List ℕ
 packet_lines None bytes = cut_lines bytes
 packet_lines (Some fault) bytes = fault_line fault

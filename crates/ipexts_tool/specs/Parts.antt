@@ -1,4 +1,4 @@
--- The parts of answers that several forms have.
+-- Parts of answers that several forms share.
 use Rattle.std.specs.Prelude.{ℕ, ◌+◌, ◌==◌, List, [], ◌∷◌, ◌++◌, length, Option, None, Some, if◌then◌else◌, codes}
 use Rattle.std.specs.Fmt.{decimal}
 use Rattle.hex.specs.Hex.{encode_lower}
@@ -25,37 +25,36 @@ abbrev pub header_line : ℕ → ℕ → ℕ → List ℕ
 header_line offset number len =
     decimal offset ++ codes " " ++ header_name number ++ codes " " ++ decimal len ++ codes "\n"
 
--- a line for each header, where the first begins at this offset and each later one where the one
--- before it ends
+-- a line per header; the first starts at this offset, and each later one where the one before it ends
 abbrev pub header_lines : ℕ → List ExtHeader → List ℕ
 header_lines offset [] = []
 header_lines offset (h ∷ headers) =
     header_line offset h.number (length h.bytes) ++ header_lines (offset + length h.bytes) headers
 
--- `next N rest L`: the number of what follows the headers, and how many bytes do
+-- `next N rest L`: the number of what follows the headers, and its length in bytes
 abbrev pub next_line : ℕ → ℕ → List ℕ
 next_line number len =
     codes "next " ++ decimal number ++ codes " rest " ++ decimal len ++ codes "\n"
 
--- `written HEX`: bytes that were written, in lower case digits, or `-` for none
+-- `written HEX`: the bytes written, in lower-case digits, or `-` for none
 abbrev pub written_line : List ℕ → List ℕ
 written_line [] = codes "written -\n"
 written_line (b ∷ bytes) = codes "written " ++ encode_lower (b ∷ bytes) ++ codes "\n"
 
--- where there is no fault
+-- no error
 abbrev pub ok_line : List ℕ
 ok_line = codes "ok\n"
 
--- a fault's text and the layer at which it lies
+-- an error's text and its layer
 abbrev pub layered_line : List ℕ → Layer → List ℕ
 layered_line fault layer = fault ++ codes " in " ++ layer_name layer ++ codes "\n"
 
--- what ended an IPv6 chain
+-- the end of an IPv6 chain
 abbrev pub chain_end_line : Option Fault → List ℕ
 chain_end_line None = ok_line
 chain_end_line (Some fault) = layered_line (chain_fault_text fault.0) fault.1
 
--- what ended a chain of IPv4 extension headers
+-- the end of a chain of IPv4 extension headers
 abbrev pub ipv4_end_line : Option AuthSliceError → List ℕ
 ipv4_end_line None = ok_line
 ipv4_end_line (Some fault) = auth_slice_fault_text fault ++ codes "\n"

@@ -1,5 +1,5 @@
--- What a line asks for, and the answer to it. A form has a constructor with its equations in
--- `request_in` and `answer_to`, and an arm in `request_of_form`.
+-- The request in a line, and its answer. A form has a constructor with its equations in `request_in` and `answer_to`,
+-- and an arm in `request_of_form`.
 use Rattle.std.specs.Prelude.{ℕ, List, [], ◌∷◌, length, nat_le, Option, None, if◌then◌else◌, codes}
 use Rattle.std.specs.Option.{option_map}
 use Rattle.std.specs.Str.{bytes_eq}
@@ -13,7 +13,7 @@ use Rattle.ipexts_tool.specs.LineFields.{fields_of, number_and_bytes, bytes_alon
 use Rattle.ipexts_tool.specs.declared.request.Request.{Request as ParsedRequest}
 use Rattle.ipexts_tool.specs.declared.request.Request.TheVariants as parsed
 
--- a form with what its arguments stand for
+-- a form with its arguments
 pub data Request : Type 0 where
   Exts6 : (arguments : ℕ × List ℕ) → Request
   Exts4 : (arguments : ℕ × List ℕ) → Request
@@ -21,7 +21,7 @@ pub data Request : Type 0 where
   RewriteAll6 : (arguments : ℕ × List ℕ) → Request
   Packet : (bytes : List ℕ) → Request
 
--- the request that the program read
+-- the request that the program parsed
 abbrev pub request_in : ParsedRequest → Request
 request_in (parsed.Exts6 number bytes) = Exts6 (number.0, bytes.now)
 request_in (parsed.Exts4 number bytes) = Exts4 (number.0, bytes.now)
@@ -37,7 +37,7 @@ answer_to (Rewrite6 a) = rewrite6_answer a.0 a.1
 answer_to (RewriteAll6 a) = rewriteall6_answer a.0 a.1
 answer_to (Packet bytes) = packet_answer bytes
 
--- what a form with these arguments asks for
+-- the request of a form with these arguments
 abbrev pub request_of_form : List ℕ → List (List ℕ) → Option Request
 request_of_form form arguments =
     if bytes_eq form (codes "exts6") then option_map Exts6 (number_and_bytes arguments)
@@ -47,12 +47,12 @@ request_of_form form arguments =
     else if bytes_eq form (codes "packet") then option_map Packet (bytes_alone arguments)
     else None
 
--- the same, where the form is the first field
+-- the request of these fields, the first of which is the form
 abbrev pub request_of_fields : List (List ℕ) → Option Request
 request_of_fields [] = None
 request_of_fields (form ∷ arguments) = request_of_form form arguments
 
--- what a line asks for: nothing where it is too long or has no form
+-- a line's request: none if the line is too long or has no form
 abbrev pub request_of : List ℕ → Option Request
 request_of line =
     if nat_le (length line) max_line_len then request_of_fields (fields_of line) else None

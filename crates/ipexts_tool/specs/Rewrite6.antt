@@ -1,5 +1,5 @@
--- The answer to `rewrite6 N HEX`: the longest chain from number N that begins the bytes and fits six places
--- (RFC 8200, section 4.1), written with its reserved bits put to zero.
+-- The answer to `rewrite6 N HEX`: the longest chain from number N at the start of the bytes that fits six places (RFC
+-- 8200, section 4.1), written with its reserved bits set to zero.
 use Rattle.std.specs.Prelude.{ℕ, List, ◌++◌, length}
 use Rattle.ip_spec.specs.Parse.{rest_behind}
 use Rattle.ip_ext_chains.specs.Chain.{leads_to, bytes_of}

@@ -1,5 +1,5 @@
--- The answer to `rewriteall6 N HEX`: how many runs the longest chain from number N that begins the bytes has, each
--- of which fits six places (RFC 8200, section 4.1), and the chain written with its reserved bits put to zero.
+-- The answer to `rewriteall6 N HEX`: the number of runs of the longest chain from number N at the start of the bytes,
+-- each of which fits six places (RFC 8200, section 4.1), and the chain written with its reserved bits set to zero.
 use Rattle.std.specs.Prelude.{ℕ, List, ◌++◌, length, codes}
 use Rattle.ip_spec.specs.Parse.{rest_behind}
 use Rattle.std.specs.Fmt.{decimal}

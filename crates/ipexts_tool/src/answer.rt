@@ -6,10 +6,10 @@ use crate::request::{parse_request, push_answer};
 use crate::scratch::Scratch;
 use std::alloc::{AllocError, Allocator};
 
-/// The answer to a line that asks for nothing.
+/// The answer to a line that is not a request.
 const BAD_LINE: &str = "bad line\n";
 
-/// Puts the answer to `line` into `scratch`.
+/// Stores the answer to `line` in `scratch`.
 pub fn answer<A: Allocator + Copy>(line: &[u8], scratch: &mut Scratch<A>) -> Result<(), AllocError>
     ensures { OnOk result (string_bytes scratch.new.text ≡ answer_of line.now) }
 {

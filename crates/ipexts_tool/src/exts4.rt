@@ -8,7 +8,7 @@ use crate::parts::{push_header, push_ipv4_end, push_next};
 use etherparse_ip::{IpNumber, Ipv4ExtensionsSlice, ip_number};
 use std::alloc::{AllocError, Allocator};
 
-/// Appends what `bytes` are as IPv4 extension headers from `number` on.
+/// Appends the answer for `bytes` as IPv4 extension headers from `number`.
 pub fn push_exts4<A: Allocator>(
     number: IpNumber,
     bytes: &[u8],

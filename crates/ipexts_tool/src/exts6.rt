@@ -6,7 +6,8 @@ use crate::parts::{push_chain_end, push_header, push_next};
 use etherparse_ip::{IpNumber, Ipv6ExtensionsCursor};
 use std::alloc::{AllocError, Allocator};
 
-/// Appends a line for each IPv6 extension header from `number` on at the start of `bytes`, then what follows them.
+/// Appends a line for each IPv6 extension header from `number` at the start of `bytes`, then what follows them and the
+/// end of the chain.
 pub fn push_exts6<A: Allocator>(
     number: IpNumber,
     bytes: &[u8],

@@ -9,7 +9,7 @@ use etherparse_ip::err::ipv6_exts::{HeaderError, HeaderSliceError};
 use etherparse_ip::err::{LenError, ip, ip_auth};
 use std::alloc::{AllocError, Allocator};
 
-/// Appends that there are fewer bytes than required.
+/// Appends a length error's text.
 pub fn push_len_fault<A: Allocator>(
     fault: &LenError,
     text: &mut String<A>,
@@ -28,7 +28,7 @@ pub fn push_len_fault<A: Allocator>(
     )
 }
 
-/// Appends what is wrong in the bytes of an authentication header.
+/// Appends the text of an error in an authentication header.
 fn push_auth_fault<A: Allocator>(
     fault: &ip_auth::HeaderError,
     text: &mut String<A>,
@@ -41,7 +41,7 @@ fn push_auth_fault<A: Allocator>(
     })
 }
 
-/// Appends why no authentication header is there, although one is named.
+/// Appends the text of an authentication header's error.
 pub fn push_auth_slice_fault<A: Allocator>(
     fault: &ip_auth::HeaderSliceError,
     text: &mut String<A>,
@@ -55,7 +55,7 @@ pub fn push_auth_slice_fault<A: Allocator>(
     }
 }
 
-/// Appends what is wrong in the bytes of an IPv6 chain.
+/// Appends the text of an error in an IPv6 chain.
 fn push_content_fault<A: Allocator>(
     fault: &HeaderError,
     text: &mut String<A>,
@@ -69,7 +69,7 @@ fn push_content_fault<A: Allocator>(
     }
 }
 
-/// Appends why an IPv6 chain doesn't go on.
+/// Appends the text of the error that ended an IPv6 chain.
 pub fn push_chain_fault<A: Allocator>(
     fault: &HeaderSliceError,
     text: &mut String<A>,
@@ -83,7 +83,7 @@ pub fn push_chain_fault<A: Allocator>(
     }
 }
 
-/// Appends what is wrong in the bytes of a base header.
+/// Appends the text of an error in a base header.
 fn push_base_fault<A: Allocator>(
     fault: &ip::HeaderError,
     text: &mut String<A>,
@@ -101,7 +101,7 @@ fn push_base_fault<A: Allocator>(
     }
 }
 
-/// Appends why there is no packet.
+/// Appends the text of a packet's error.
 pub fn push_packet_fault<A: Allocator>(
     fault: &ip::SliceError,
     text: &mut String<A>,

@@ -1,4 +1,4 @@
-//! The lines of an input that comes in chunks.
+//! The lines of an input that arrives in chunks.
 ghost use Rattle.std.specs.Prelude.{◌≡◌, ◌++◌, ℕ, [], take, OnOk};
 ghost use Rattle.std.specs.Io.KnownBytes.{Appends, Keeps};
 ghost use Rattle.ipexts_tool.specs.Answers.{answer_of, answers_to};
@@ -14,10 +14,10 @@ use arrayvec::ArrayVec;
 use std::alloc::Allocator;
 use std::io::Write;
 
-/// How many bytes of a line are kept: one more than it may have, which tells that it is too long.
+/// The number of bytes kept of a line: one more than a request may have, which shows that the line is too long.
 pub const KEPT_LEN: usize = MAX_LINE_LEN + 1;
 
-/// A line that a chunk's end cut, as far as it is kept.
+/// A line that the end of a chunk split, as far as it is kept.
 pub type OpenLine = ArrayVec<u8, KEPT_LEN>;
 
 /// Writes the answer to `line`.
@@ -35,7 +35,7 @@ fn tell<A: Allocator + Copy, W: Write>(
     Ok(())
 }
 
-/// Goes on with `line`, which stops growing when it is full.
+/// Appends `part` to `line`, up to its capacity.
 fn keep(line: &mut OpenLine, part: &[u8])
     ensures { line.new.items ≡ take kept_len (line.old.items ++ part.now) }
 {
@@ -43,7 +43,7 @@ fn keep(line: &mut OpenLine, part: &[u8])
     let _ = line.try_extend_from_slice(&part[..len]);
 }
 
-/// Writes the answer to the line that begins with `line` and ends with `part`, and begins a new one.
+/// Writes the answer to the line that starts with `line` and ends with `part`, and empties `line`.
 fn end_line<A: Allocator + Copy, W: Write>(
     line: &mut OpenLine,
     part: &[u8],
@@ -64,8 +64,8 @@ fn end_line<A: Allocator + Copy, W: Write>(
     Ok(())
 }
 
-/// Answers the lines that end in `chunk`, the first of which began with `line`, and keeps in `line`
-/// what follows them.
+/// Answers the lines that end in `chunk`, the first of which started with `line`, and keeps in `line` what follows
+/// them.
 pub fn feed<A: Allocator + Copy, W: Write>(
     chunk: &[u8],
     line: &mut OpenLine,
@@ -89,7 +89,7 @@ pub fn feed<A: Allocator + Copy, W: Write>(
     Ok(())
 }
 
-/// Answers a last line that no newline ends.
+/// Answers a last line without a newline.
 pub fn finish<A: Allocator + Copy, W: Write>(
     line: &[u8],
     scratch: &mut Scratch<A>,

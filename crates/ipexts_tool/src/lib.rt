@@ -1,42 +1,40 @@
-//! Answers lines that ask about IP extension headers.
+//! Answers lines with requests about IP extension headers.
 //!
 //! # Lines
 //!
-//! A line is what stands before a newline; the last line may lack it and counts where it isn't empty. Its
-//! fields are separated by one space. `N` is 0 to 255 in decimal without leading zeros. `HEX` is an even
-//! number of hexadecimal digits of either case, at least two, or `-` for no bytes. A line of more than
-//! 8,192 bytes, an empty line and one of no form below is answered by `bad line`.
+//! A line is the bytes before a newline. The last line may lack the newline; it counts unless it is empty. Fields are
+//! separated by one space. `N` is 0 to 255 in decimal without leading zeros. `HEX` is an even number of hexadecimal
+//! digits of either case, at least two, or `-` for no bytes. The answer to a line of more than 8,192 bytes, to an
+//! empty line and to a line in none of the forms below is `bad line`.
 //!
-//! - `exts6 N HEX` asks for the longest chain of IPv6 extension headers from number N that begins the bytes
-//!   (RFC 8200, section 4). The answer has a line for each header, then `next N rest L`, then how the chain
-//!   ended: `ok`, or the fault with ` in ` and the layer at which it lies.
-//! - `exts4 N HEX` asks for the longest chain of IPv4 extension headers from number N that begins the bytes: at
-//!   most one authentication header (RFC 4302, section 2). The answer is the same, but a fault stands
-//!   without a layer.
-//! - `rewrite6 N HEX` asks for the longest chain of IPv6 extension headers that has a place for each of its
-//!   headers, of which there are six (RFC 8200, section 4.1), and for its bytes with their reserved bits put to
-//!   zero. The answer has `next N rest L`, then `written HEX` in lower case, or `written -` for no bytes, then
-//!   how the chain ended, as `exts6` tells it. A number whose place is taken ends it with `ok`.
-//! - `rewriteall6 N HEX` asks for the longest chain of IPv6 extension headers as `exts6` does, for how many
-//!   structs of these six places hold it, and for its bytes as they are written of the structs, one after the
-//!   other. The answer is that of `rewrite6` with `runs I ` before it, where I counts the structs.
-//!
-//! - `packet HEX` asks for the IP packet that begins the bytes, of the version that its first byte states (RFC 791,
-//!   section 3.1; RFC 8200, section 3). The answer is `ipv4 header H exts E payload P` or `ipv6 ..`, with the
-//!   lengths of the base header, of the extension headers and of the payload in bytes; then `next N fragmented yes
-//!   source S` or `no`, with the payload's number, whether it is a fragment, and what says where it ends; then
-//!   `ok`. Where there is no packet it is the fault alone, without a layer.
+//! - `exts6 N HEX` parses the longest chain of IPv6 extension headers from number N at the start of the bytes (RFC
+//!   8200, section 4). The answer has a line for each header, then `next N rest L`, then the end of the chain: `ok`,
+//!   or the fault followed by ` in ` and its layer.
+//! - `exts4 N HEX` parses the longest chain of IPv4 extension headers from number N at the start of the bytes: at
+//!   most one authentication header (RFC 4302, section 2). The answer is that of `exts6`, but a fault has no layer.
+//! - `rewrite6 N HEX` parses the longest chain of IPv6 extension headers with a free place for each of its headers,
+//!   out of six places (RFC 8200, section 4.1), and writes it with its reserved bits set to zero. The answer is `next
+//!   N rest L`, then `written HEX` in lower case, or `written -` for no bytes, then the end of the chain as in
+//!   `exts6`. A number whose place is occupied ends the chain with `ok`.
+//! - `rewriteall6 N HEX` parses the longest chain of IPv6 extension headers as `exts6` does into structs of these six
+//!   places, and writes the structs one after the other. The answer is that of `rewrite6` with `runs I ` before it,
+//!   where I is the number of structs.
+//! - `packet HEX` parses the IP packet at the start of the bytes, of the version in its first byte (RFC 791, section
+//!   3.1; RFC 8200, section 3). The answer is `ipv4 header H exts E payload P` or `ipv6 ..`, with the lengths of the
+//!   base header, of the extension headers and of the payload in bytes; then `next N fragmented yes source S` or
+//!   `no`, with the payload's number, whether it is a fragment, and the source of its length; then `ok`. If there is
+//!   no packet, the answer is the fault alone, without a layer.
 //!
 //! # Parts of answers
 //!
 //! Each line of an answer ends in a newline.
 //!
-//! - A header is written as `offset name length`, in bytes from the first one on, with the names `hopopt` (0),
+//! - A header is `offset name length`, in bytes from the start of the first header, with the names `hopopt` (0),
 //!   `route` (43), `frag` (44), `auth` (51) and `dstopts` (60).
-//! - `next N rest L` tells the number of what follows the headers, and how many bytes do.
-//! - A fault is `fault len R of L S Y at O`, where R bytes are required and L are there, as S tells, for
-//!   layer Y at offset O; or `fault ZeroPayloadLen`; or `fault HopByHopNotAtStart`. A packet may have `fault
-//!   UnsupportedIpVersion V` too, or `fault Ipv4HeaderLengthSmallerThanHeader I`.
+//! - `next N rest L` has the number of what follows the headers, and its length in bytes.
+//! - A fault is `fault len R of L S Y at O`: layer Y at offset O requires R bytes, and the length source S says that
+//!   L are present; or `fault ZeroPayloadLen`; or `fault HopByHopNotAtStart`. A packet may also have `fault
+//!   UnsupportedIpVersion V` or `fault Ipv4HeaderLengthSmallerThanHeader I`.
 #![tactic(auto)]
 
 ghost use Rattle.std.specs.Prelude.{◌≡◌, ℕ, List, take, OnOk, IfOk, IfSome};
@@ -69,20 +67,19 @@ use std::io;
 use std::io::{ErrorKind, Read, Write};
 pub use tool_error::ToolError;
 
-/// How many bytes are read at once, at most.
+/// The most bytes read at once.
 const CHUNK_LEN: usize = 65536;
 
-/// Answers each line of the input. Each answer is put together first and written at once, and the output is
-/// flushed after each read that gave bytes and after a last line without a newline.
+/// Answers each line of the input. Each answer is built first and written at once. The output is flushed after each
+/// read that returned bytes and after a last line without a newline.
 ///
-/// A read, a write or a flush that fails is an `Io` error, and then nothing is said of the output. So is an
-/// input that isn't at its end after 2^64 - 1 reads, of which one that is interrupted is tried again and
-/// counts. Where there is no memory for an answer, the error is `Memory`, and the answers to all lines before
-/// stand.
+/// Returns `Io` if a read, a write or a flush fails; then nothing is known about the output. Also returns `Io` if the
+/// input hasn't ended after 2^64 - 1 reads; a read that is interrupted is retried and counts. Returns `Memory` if
+/// there is no memory for an answer; then the answers to all lines before have been written.
 ///
-/// The clauses speak of a reader and a writer that tell their bytes, as a slice and a vector do. A file,
-/// standard input and standard output don't, and the clauses say nothing of what those hold. When an error
-/// comes no clause says either: that is tested.
+/// The clauses cover a reader and a writer whose bytes are known, as those of a slice and a vector are. They say
+/// nothing about the contents of a file, standard input or standard output. Nor do they say when an error is
+/// returned: that is tested.
 pub fn run<A: Allocator + Copy, R: Read, W: Write>(
     alloc: A,
     input: &mut R,
@@ -106,8 +103,8 @@ pub fn run<A: Allocator + Copy, R: Read, W: Write>(
     Err(ToolError::Io(io::Error::from(ErrorKind::TimedOut)))
 }
 
-/// Reads once, answers the lines that end in what came, and keeps in `line` what follows them. It tells
-/// whether the input may have more.
+/// Reads once, answers the lines that end in the bytes read, and keeps in `line` what follows them. Returns whether
+/// the input may have more.
 fn advance<A: Allocator + Copy, R: Read, W: Write>(
     input: &mut R,
     output: &mut W,
@@ -128,7 +125,7 @@ fn advance<A: Allocator + Copy, R: Read, W: Write>(
         Err(e) => return Err(ToolError::Io(e)),
     };
     let answered = feed(&chunk[..n], line, scratch, output);
-    // Where memory ran out, the answers before are flushed too.
+    // If memory ran out, the answers before are flushed too.
     output.flush()?;
     answered?;
     Ok(true)

@@ -1,4 +1,4 @@
-//! The fields of a line, and the numbers and bytes that they stand for.
+//! The fields of a line, and the numbers and bytes that they denote.
 ghost use Rattle.std.specs.Prelude.{◌≡◌, ◌==◌, ◌<◌, ◌≤◌, ℕ, ◌∷◌, [], take, length, IfSome, IfNone};
 ghost use Rattle.std.specs.List.{slice_split};
 ghost use Rattle.std.specs.Option.{option_map};
@@ -8,13 +8,13 @@ ghost use Rattle.ipexts_tool.specs.LineFields.{bytes_of_hex, number_and_bytes, b
 
 use etherparse_ip::IpNumber;
 
-/// How many bytes a line may have.
+/// The longest line that is a request, in bytes.
 pub const MAX_LINE_LEN: usize = 8192;
 
-/// How many bytes the digits of one line can stand for.
+/// The most bytes that the digits of one line can denote.
 pub const BYTES_LEN: usize = MAX_LINE_LEN / 2;
 
-/// What stands before the first `separator`, and what stands behind it.
+/// Returns the bytes before the first `separator`, and those after it.
 pub fn split_once(text: &[u8], separator: u8) -> Option<(&[u8], &[u8])>
     ensures found { IfSome result (λ parts. slice_split (λ b. b == separator) text.now
         ≡ parts.0.now ∷ slice_split (λ b. b == separator) parts.1.now) }
@@ -25,7 +25,7 @@ pub fn split_once(text: &[u8], separator: u8) -> Option<(&[u8], &[u8])>
     Some((&text[..end], &text[end + 1..]))
 }
 
-/// The number below 256 whose decimal numeral is `text`.
+/// Parses a decimal numeral of a number below 256.
 fn parse_number(text: &[u8]) -> Option<u8>
     ensures { result ≡ number_of text.now }
 {
@@ -45,7 +45,7 @@ fn parse_number(text: &[u8]) -> Option<u8>
     Some(number)
 }
 
-/// The bytes whose hexadecimal digits `text` is, put into `buffer`.
+/// Parses hexadecimal digits, and stores the bytes in `buffer`.
 fn parse_hex<'a>(text: &[u8], buffer: &'a mut [u8; BYTES_LEN]) -> Option<&'a [u8]>
     requires { length text.now ≤ max_line_len }
     ensures { option_map (λ bytes. bytes.now) result ≡ bytes_of_hex text.now }
@@ -62,7 +62,7 @@ fn parse_hex<'a>(text: &[u8], buffer: &'a mut [u8; BYTES_LEN]) -> Option<&'a [u8
     Some(bytes)
 }
 
-/// Reads `N HEX`.
+/// Parses `N HEX`.
 pub fn parse_number_and_hex<'a>(
     text: &[u8],
     buffer: &'a mut [u8; BYTES_LEN],
@@ -77,7 +77,7 @@ pub fn parse_number_and_hex<'a>(
     Some((IpNumber(number), bytes))
 }
 
-/// Reads `HEX`.
+/// Parses `HEX`.
 pub fn parse_hex_alone<'a>(text: &[u8], buffer: &'a mut [u8; BYTES_LEN]) -> Option<&'a [u8]>
     requires { length text.now ≤ max_line_len }
     ensures { option_map (λ bytes. bytes.now) result ≡ bytes_alone (fields_of text.now) }

@@ -15,7 +15,7 @@ use etherparse_ip::{
 };
 use std::alloc::{AllocError, Allocator};
 
-/// Appends what `bytes` are as a packet.
+/// Appends the answer for `bytes` as a packet.
 pub fn push_packet<A: Allocator>(bytes: &[u8], text: &mut String<A>) -> Result<(), AllocError>
     ensures { OnOk result
         (string_bytes text.new ≡ string_bytes text.old ++ packet_answer bytes.now) }
@@ -28,7 +28,7 @@ pub fn push_packet<A: Allocator>(bytes: &[u8], text: &mut String<A>) -> Result<(
     }
 }
 
-/// Appends why there is no packet.
+/// Appends the text of a packet's error.
 fn push_fault<A: Allocator>(fault: &SliceError, text: &mut String<A>) -> Result<(), AllocError>
     ensures { OnOk result (string_bytes text.new ≡ string_bytes text.old ++ fault_line fault.now) }
 {
@@ -49,7 +49,7 @@ fn push_ipv4<A: Allocator>(packet: &Ipv4Slice<'_>, text: &mut String<A>) -> Resu
     push_ok(text)
 }
 
-/// How many bytes the headers have.
+/// Returns the headers' length in bytes.
 fn ipv4_exts_len(headers: Ipv4ExtensionsSlice<'_>) -> usize
     ensures { result ≡ length (bytes_of (headers_in headers.entry)) }
 {
@@ -72,7 +72,7 @@ fn push_ipv6<A: Allocator>(packet: &Ipv6Slice<'_>, text: &mut String<A>) -> Resu
     push_ok(text)
 }
 
-/// Appends how many bytes each part of a packet has.
+/// Appends the length of each part of a packet, in bytes.
 fn push_lengths<A: Allocator>(
     name: &str,
     header_len: usize,
@@ -89,7 +89,7 @@ fn push_lengths<A: Allocator>(
     )
 }
 
-/// Appends what the payload is, whether it is a fragment, and what says where it ends.
+/// Appends the payload's number, whether it is a fragment, and the source of its length.
 fn push_payload<A: Allocator>(
     payload: &IpPayloadSlice<'_>,
     text: &mut String<A>,
@@ -106,7 +106,7 @@ fn push_payload<A: Allocator>(
     )
 }
 
-/// `yes` or `no`.
+/// Returns `yes` or `no`.
 fn yes_or_no(answer: bool) -> &'static str
     ensures { result.now ≡ yes_or_no answer }
 {

@@ -1,4 +1,4 @@
-//! The parts of answers that several forms have.
+//! Parts of answers that several forms share.
 ghost use Rattle.std.specs.Prelude.{◌≡◌, ◌++◌, OnOk, string_bytes};
 ghost use Rattle.ipexts_tool.specs.Parts.{header_name, header_line, next_line};
 ghost use Rattle.ipexts_tool.specs.Parts.{written_line, ok_line, chain_end_line, ipv4_end_line};
@@ -9,7 +9,7 @@ use etherparse_ip::err::ipv6_exts::HeaderSliceError;
 use etherparse_ip::err::{Layer, ip_auth};
 use std::alloc::{AllocError, Allocator};
 
-/// The name of the headers of a number.
+/// Returns the name of the headers of a number.
 fn header_name(number: IpNumber) -> &'static str
     ensures { result.now ≡ header_name number.0 }
 {
@@ -37,7 +37,7 @@ pub fn push_header<A: Allocator>(
     writeln!(text, "{offset} {name} {len}")
 }
 
-/// Appends the number of what follows the headers, and how many bytes do.
+/// Appends the number of what follows the headers, and its length in bytes.
 pub fn push_next<A: Allocator>(
     number: IpNumber,
     len: usize,
@@ -50,7 +50,7 @@ pub fn push_next<A: Allocator>(
     writeln!(text, "next {number} rest {len}")
 }
 
-/// Appends the bytes that were written.
+/// Appends the bytes written.
 pub fn push_written<A: Allocator + Copy>(
     alloc: A,
     bytes: &[u8],
@@ -66,14 +66,14 @@ pub fn push_written<A: Allocator + Copy>(
     writeln!(text, "written {digits}")
 }
 
-/// Appends that there is no fault.
+/// Appends that there is no error.
 pub fn push_ok<A: Allocator>(text: &mut String<A>) -> Result<(), AllocError>
     ensures { OnOk result (string_bytes text.new ≡ string_bytes text.old ++ ok_line) }
 {
     text.push_str("ok\n")
 }
 
-/// Appends what ended an IPv6 chain.
+/// Appends the end of an IPv6 chain.
 pub fn push_chain_end<A: Allocator>(
     fault: Option<(HeaderSliceError, Layer)>,
     text: &mut String<A>,
@@ -88,7 +88,7 @@ pub fn push_chain_end<A: Allocator>(
     writeln!(text, " in {layer}")
 }
 
-/// Appends what ended a chain of IPv4 extension headers.
+/// Appends the end of a chain of IPv4 extension headers.
 pub fn push_ipv4_end<A: Allocator>(
     fault: Option<ip_auth::HeaderSliceError>,
     text: &mut String<A>,

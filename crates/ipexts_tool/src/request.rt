@@ -1,4 +1,4 @@
-//! What a line asks for. A form of a line has a variant, an arm where the line is read and an arm where the
+//! The request in a line. A form of a line has a variant, an arm where the line is parsed and an arm where the
 //! request is answered.
 ghost use Rattle.std.specs.Prelude.{◌≡◌, ◌++◌, ◌≤◌, length, OnOk, string_bytes};
 ghost use Rattle.std.specs.Option.{option_map};
@@ -17,7 +17,7 @@ use crate::rewriteall6::push_rewriteall6;
 use etherparse_ip::IpNumber;
 use std::alloc::{AllocError, Allocator};
 
-/// What a line asks for.
+/// The request in a line.
 #[derive(Drop)]
 pub enum Request<'a> {
     /// `exts6 N HEX`.
@@ -32,8 +32,8 @@ pub enum Request<'a> {
     Packet(&'a [u8]),
 }
 
-/// What a line asks for, if it isn't too long and has a form. `buffer` takes the bytes that its digits
-/// stand for.
+/// Parses a line's request. Returns `None` if the line is too long or has no form. The bytes that its digits denote
+/// are stored in `buffer`.
 pub fn parse_request<'a>(line: &[u8], buffer: &'a mut [u8; BYTES_LEN]) -> Option<Request<'a>>
     ensures { option_map request_in result ≡ request_of line.now }
 {
@@ -44,7 +44,7 @@ pub fn parse_request<'a>(line: &[u8], buffer: &'a mut [u8; BYTES_LEN]) -> Option
     parse_form(form, arguments, buffer)
 }
 
-/// What a form with these arguments asks for.
+/// Parses the arguments of a form.
 fn parse_form<'a>(
     form: &[u8],
     arguments: &[u8],

@@ -10,7 +10,7 @@ use crate::parts::{push_chain_end, push_next, push_written};
 use etherparse_ip::{IpNumber, Ipv6Extensions};
 use std::alloc::{AllocError, Allocator};
 
-/// Appends what of `bytes` fits six places from `number` on, as it is written.
+/// Appends the headers from `number` at the start of `bytes` that fit six places, as they are written.
 pub fn push_rewrite6<A: Allocator + Copy>(
     alloc: A,
     number: IpNumber,
@@ -27,7 +27,7 @@ pub fn push_rewrite6<A: Allocator + Copy>(
     push_chain_end(fault, text)
 }
 
-/// The headers that were read from the bytes, written. They are all reached, so that only memory is refused.
+/// Writes the headers that were parsed from the bytes. They are all reached, so only memory can be lacking.
 fn rewritten<A: Allocator>(
     alloc: A,
     number: IpNumber,

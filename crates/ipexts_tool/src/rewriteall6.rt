@@ -11,8 +11,8 @@ use crate::parts::{push_chain_end, push_next, push_written};
 use etherparse_ip::{IpNumber, Ipv6ExtensionsRuns};
 use std::alloc::{AllocError, Allocator};
 
-/// Appends how many structs of six places hold the headers that begin `bytes` from `number` on, and the headers
-/// as they are written of the structs, one after the other.
+/// Appends the number of structs of six places for the headers from `number` at the start of `bytes`, and the headers
+/// as the structs write them, one after the other.
 pub fn push_rewriteall6<A: Allocator + Copy>(
     alloc: A,
     number: IpNumber,
@@ -30,8 +30,8 @@ pub fn push_rewriteall6<A: Allocator + Copy>(
     push_chain_end(fault, text)
 }
 
-/// The runs at their end, how many they were, and what was written of them, one after the other. They are all reached,
-/// so that only memory is refused.
+/// Returns the runs at their end, how many they were, and their written headers, one after the other. They are all
+/// reached, so only memory can be lacking.
 fn rewritten<'a, A: Allocator>(
     alloc: A,
     number: IpNumber,

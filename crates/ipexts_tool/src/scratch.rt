@@ -3,19 +3,19 @@ ghost use Rattle.std.specs.Prelude.{◌≡◌, [], replicate, string_bytes};
 use crate::line_fields::BYTES_LEN;
 use std::alloc::Allocator;
 
-/// Buffers that each line uses anew.
+/// Buffers that are reused for each line.
 #[derive(Drop)]
 pub struct Scratch<A: Allocator> {
     /// The answer to a line.
     pub text: String<A>,
-    /// The bytes that a line's digits stand for. Those of lines before may stand behind them.
+    /// The bytes that a line's digits denote, possibly followed by those of earlier lines.
     pub bytes: [u8; BYTES_LEN],
-    /// Where memory comes from.
+    /// The allocator.
     pub alloc: A,
 }
 
 impl<A: Allocator + Copy> Scratch<A> {
-    /// Buffers that hold nothing yet.
+    /// Returns empty buffers.
     pub fn new(alloc: A) -> Self
         ensures text { string_bytes result.text ≡ [] }
         ensures bytes { result.bytes ≡ replicate BYTES_LEN 0 }

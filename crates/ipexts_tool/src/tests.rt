@@ -7,14 +7,14 @@ use std::io::{ErrorKind, Read, Write};
 use std::process::Abort;
 use std::test::Fail;
 
-/// A reader that gives one byte a call.
+/// A reader that returns one byte per call.
 #[derive(Drop)]
 struct Drip<'a> {
     bytes: &'a [u8],
-    /// How many calls are interrupted before each byte.
+    /// The number of interrupted calls before each byte.
     interruptions: u32,
     interrupted: u32,
-    /// How the first read at the end fails.
+    /// The error of the first read at the end.
     failure: Option<ErrorKind>,
     calls: u32,
 }
@@ -92,19 +92,19 @@ fn dripping(bytes: &[u8]) -> Drip<'_> {
     }
 }
 
-/// Whether a run failed with this kind of error.
+/// Returns whether a run failed with this kind of error.
 fn failed_with(ended: &Result<(), ToolError>, kind: ErrorKind) -> bool {
     matches!(ended, Err(ToolError::Io(e)) if e.kind() == kind)
 }
 
-/// What a run over these bytes writes.
+/// Returns the output of a run over these bytes.
 fn output_of(alloc: Global, mut input: &[u8]) -> Result<Vec<u8>, ToolError> {
     let mut output = Vec::new(alloc);
     run(alloc, &mut input, &mut output)?;
     Ok(output)
 }
 
-/// `part`, `count` times over.
+/// Returns `part`, repeated `count` times.
 fn repeated(alloc: Global, part: &[u8], count: usize) -> Result<Vec<u8>, AllocError> {
     let mut all = Vec::new(alloc);
     for _ in 0..count {
@@ -116,7 +116,7 @@ fn repeated(alloc: Global, part: &[u8], count: usize) -> Result<Vec<u8>, AllocEr
 /// A name, lines and their answers.
 type Row = (&'static str, &'static [u8], &'static [u8]);
 
-/// Single lines of all forms, and one of none.
+/// Single lines of all forms, and one without a form.
 const ROWS: [Row; 9] = [
     (
         "a header and a fault after it",
@@ -258,7 +258,7 @@ const MORE_ROWS: [Row; 21] = [
     ),
 ];
 
-/// The lines of `ROWS` and their answers. The last line has no newline.
+/// Returns the lines of `ROWS` and their answers. The last line has no newline.
 fn lines_and_answers(alloc: Global) -> Result<(Vec<u8>, Vec<u8>), AllocError> {
     let mut lines = Vec::new(alloc);
     let mut answers = Vec::new(alloc);
@@ -372,7 +372,7 @@ fn lines_come_in_pieces(rt: HostRuntime) -> Result<(), Fail> {
             "a million reads"
         );
     }
-    // More bytes than a chunk has, at once and one by one.
+    // More bytes than a chunk, at once and one by one.
     let many = repeated(rt.alloc(), b"exts6 17 00010203\n", 5000)?;
     let answers = repeated(rt.alloc(), b"next 17 rest 4\nok\n", 5000)?;
     assert_eq!(rt;
@@ -404,7 +404,7 @@ fn each_answer_is_written_at_once(rt: HostRuntime) -> Result<(), Fail> {
     Ok(())
 }
 
-/// Whether the output is the answers to the first `count` lines, and nothing else.
+/// Returns whether the output is exactly the answers to the first `count` lines.
 fn are_answers(output: &[u8], rows: &[Row], count: u32) -> bool {
     let mut left = output;
     for (_, _, answer) in rows.iter().take(count as usize) {
@@ -475,7 +475,7 @@ fn writes_that_fail(rt: HostRuntime) -> Result<(), Fail> {
     Ok(())
 }
 
-/// A writer that takes the memory of a heap, all but `room` bytes of it, once so many answers are written.
+/// A writer that takes a heap's memory, all but `room` bytes of it, after some number of answers.
 #[derive(Drop)]
 struct Taker<'a> {
     output: Counter,
@@ -486,7 +486,7 @@ struct Taker<'a> {
 }
 
 impl Taker<'_> {
-    /// Takes the memory if it is time. The heap hands out blocks of 16 bytes and multiples of it.
+    /// Takes the memory if it is time. The heap allocates blocks of multiples of 16 bytes.
     fn take(&mut self) -> Result<(), AllocError> {
         if self.output.writes != self.answers {
             return Ok(());
@@ -515,8 +515,8 @@ impl Write for Taker<'_> {
     }
 }
 
-/// Runs over the lines. After `answers` of them memory is refused but for `room` bytes: either the output is whole, or
-/// it has the answers to the lines before the one that lacks memory. Returns how many lines are answered.
+/// Runs over the lines. After `answers` of them there is memory for `room` bytes only: either the output is complete,
+/// or it has the answers to the lines before the one that lacks memory. Returns the number of lines answered.
 fn answered_within(
     rt: &impl Abort,
     alloc: Global,
@@ -562,7 +562,7 @@ fn refused_memory_leaves_whole_answers(rt: HostRuntime) -> Result<(), Fail> {
         for answers in 0..9u32.saturating_sub(first) {
             for room in 0..40usize {
                 let written = answered_within(&rt, rt.alloc(), rows, answers, room * 16)?;
-                // Each line needs memory where it is the first, and the fifth and sixth also after others.
+                // Each line needs memory if it is the first, and the fifth and sixth also after others.
                 let next = first.saturating_add(answers);
                 let is_refused = room == 0 && (answers == 0 || next == 4 || next == 5);
                 assert!(rt; !is_refused || written == answers, "{first}, {answers}");

@@ -1,2 +1,2 @@
-//! Errors of IPv4 extension headers. Those of their parses are the ones of authentication headers.
+//! Errors of IPv4 extension headers. Their parses return the errors of authentication headers.
 pub use ip_ext_chains::err::ipv4_exts::{ExtsWalkError, HeaderWriteError};

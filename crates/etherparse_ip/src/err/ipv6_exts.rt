@@ -1,4 +1,4 @@
-//! Errors of IPv6 extension headers and of chains of them.
+//! Errors of IPv6 extension headers and of their chains.
 pub use ip_ext_chains::err::ipv6_exts::{
     ExtsWalkError, HeaderError, HeaderLimitedReadError, HeaderReadError, HeaderSliceError,
     HeaderWriteError,

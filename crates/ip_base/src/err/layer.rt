@@ -1,6 +1,6 @@
 ghost use Rattle.std.specs.Prelude.{◌≡◌};
 
-/// The header or packet at which a fault lies.
+/// The header or packet that an error reports.
 #[derive(Clone, Copy, Debug, PartialEq, Eq, Hash)]
 pub enum Layer {
     /// An IP header, before its version is known.
@@ -15,9 +15,9 @@ pub enum Layer {
     Ipv6Header,
     /// An IPv6 packet, with its payload.
     Ipv6Packet,
-    /// An IPv6 extension header of the common layout, whichever it is.
+    /// An IPv6 extension header in the uniform format (RFC 6564), of any type.
     Ipv6ExtHeader,
-    /// IPv6 hop by hop options.
+    /// IPv6 hop-by-hop options.
     Ipv6HopByHopHeader,
     /// IPv6 destination options.
     Ipv6DestOptionsHeader,
@@ -32,7 +32,7 @@ pub enum Layer {
 impl Layer {
     ghost use Rattle.ip_base.specs.Names.{layer_name};
 
-    /// The variant's name.
+    /// Returns the variant's name.
     pub fn name(&self) -> &'static str
         ensures { result.now ≡ layer_name self.now }
     {

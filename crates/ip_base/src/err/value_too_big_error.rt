@@ -1,11 +1,11 @@
 use thiserror::Error;
 
-/// A value is above the largest that its field can hold.
+/// A value exceeds the largest that its field can hold.
 #[derive(Clone, Debug, PartialEq, Eq, Hash, Drop, Error)]
 #[error("value {actual} is above {max_allowed}")]
 pub struct ValueTooBigError {
     /// The value.
     pub actual: u16,
-    /// The largest that is allowed.
+    /// The largest value allowed.
     pub max_allowed: u16,
 }

@@ -9,21 +9,21 @@ ghost use Rattle.ip_base.specs.ExactRead.{IsRefusal};
 use std::io;
 use std::io::ErrorKind;
 
-/// A reader that gives exactly as many bytes as it is asked for, or refuses.
+/// A reader that returns exactly as many bytes as requested, or an error.
 ///
-/// Bytes in memory are a steady reader: they refuse only where too few are left. `OverRead` makes a reader of any
+/// Bytes in memory are a steady reader: it refuses only if too few bytes are left. `OverRead` makes a reader of any
 /// `std::io::Read`, which may fail at any time.
 pub trait ExactRead {
-    /// The bytes not yet read, where the reader tells them.
+    /// The bytes not yet read, if they are known.
     ghost bytes_left: { Self → Option (List ℕ) };
 
-    /// Whether it refuses only where too few bytes are left, now and later.
+    /// Whether the reader refuses only if too few bytes are left, now and later.
     ghost is_steady: { Self → Bool };
 
-    /// Whether it has failed.
+    /// Whether the reader has failed.
     ghost has_failed: { Self → Bool };
 
-    /// The errors that its last read may have returned.
+    /// The errors that the last read may have returned.
     ghost has_given: { Self → Error → Type 0 };
 
     /// Fills the buffer with the next bytes and consumes exactly those. After an error, neither the bytes consumed
@@ -40,7 +40,7 @@ pub trait ExactRead {
     ghost steady_tells: { (r : Self) → is_steady r ≡ true → IsSome (bytes_left r) };
 }
 
-/// Bytes in memory: what was read is cut off in front.
+/// Bytes in memory: a read removes its bytes from the front.
 impl ExactRead for &[u8] {
     ghost bytes_left = { λ s. Some s.now };
 
@@ -52,7 +52,7 @@ impl ExactRead for &[u8] {
 
     ghost steady_tells = { Prim.search rules };
 
-    /// Refuses with the kind `UnexpectedEof`, and then the slice is as it was.
+    /// Returns an error of kind `UnexpectedEof` if too few bytes are left; then the slice is unchanged.
     #[inline(always)]
     fn read_exact(&mut self, buf: &mut [u8]) -> io::Result<()>
         ensures takes { OnOk result (Consumes (Some self.old.now) (Some self.new.now) buf.new) }
@@ -75,8 +75,8 @@ impl ExactRead for &[u8] {
     }
 }
 
-/// The error where too few bytes are left. It is put together apart: in place, its parts are moved one by one, and
-/// with them whatever the caller answers.
+/// Returns the error for too few bytes. It is built here and not inline: inlined, its parts and the caller's result
+/// would be moved one by one.
 #[cold]
 #[inline(never)]
 fn too_few() -> io::Error

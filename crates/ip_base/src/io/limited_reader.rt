@@ -6,11 +6,11 @@ use crate::err::io::LimitedReadError;
 use crate::err::{Layer, LenError};
 use crate::io::ExactRead;
 
-/// A reader that gives no more bytes than a limit, and tells a request past the limit as the length error of the
-/// layer that is being read.
+/// A reader that returns no more bytes than a limit. A request past the limit is a length error of the layer that is
+/// being read.
 ///
-/// What may still be read is `max_len() - read_len()` bytes. Both count from where the layer began: `start_layer`
-/// begins the next one behind what was read.
+/// `max_len() - read_len()` bytes may still be read. Both count from the start of the layer: `start_layer` starts the
+/// next one at the current position.
 #[derive(Debug, Drop)]
 pub struct LimitedReader<T> {
     reader: T,
@@ -27,9 +27,9 @@ impl<T> LimitedReader<T> {
     ghost use Rattle.ip_base.specs.Limits.{started};
     ghost use Rattle.ip_base.specs.LimitedReader.{inner_of, limits_of};
 
-    /// A reader that gives at most `max_len` bytes. `len_source` names what gave that length, and `layer` begins at
-    /// `layer_offset` bytes from where offsets are counted. The sum of the offset, the limit and 2048, the
-    /// longest header, has to fit.
+    /// Returns a reader of at most `max_len` bytes. `len_source` names the source of that length, and `layer` starts
+    /// `layer_offset` bytes from where offsets are counted. The offset, the limit and 2048, the length of the longest
+    /// header, must add up to less than 2^64.
     pub fn new(
         reader: T,
         max_len: usize,
@@ -57,7 +57,7 @@ impl<T> LimitedReader<T> {
         }
     }
 
-    /// The most that may be read of the layer and what follows it, in bytes.
+    /// Returns the most bytes that may be read of the layer and what follows it.
     pub fn max_len(&self) -> usize
         ensures value { result ≡ (limits_of self.now).max_len }
         ensures room { (limits_of self.now).layer_offset + result + 2048 < 2 ^ 64 }
@@ -65,28 +65,28 @@ impl<T> LimitedReader<T> {
         self.max_len
     }
 
-    /// What gave the limit.
+    /// Returns the source of the limit.
     pub fn len_source(&self) -> LenSource
         ensures { result ≡ (limits_of self.now).len_source }
     {
         self.len_source
     }
 
-    /// The layer that is being read.
+    /// Returns the layer that is being read.
     pub fn layer(&self) -> Layer
         ensures { result ≡ (limits_of self.now).layer }
     {
         self.layer
     }
 
-    /// Where the layer begins, in bytes.
+    /// Returns the layer's offset, in bytes.
     pub fn layer_offset(&self) -> usize
         ensures { result ≡ (limits_of self.now).layer_offset }
     {
         self.layer_offset
     }
 
-    /// How many bytes of the layer were read.
+    /// Returns the number of bytes read of the layer.
     pub fn read_len(&self) -> usize
         ensures value { result ≡ (limits_of self.now).read_len }
         ensures within { result ≤ (limits_of self.now).max_len }
@@ -94,7 +94,7 @@ impl<T> LimitedReader<T> {
         self.read_len
     }
 
-    /// Begins a layer behind what was read. What may still be read stays the same.
+    /// Starts a layer at the current position. The number of bytes that may still be read stays the same.
     #[inline(always)]
     pub fn start_layer(&mut self, layer: Layer)
         ensures reader { inner_of self.new ≡ inner_of self.old }
@@ -108,7 +108,7 @@ impl<T> LimitedReader<T> {
         self.layer = layer;
     }
 
-    /// The inner reader, as it stands.
+    /// Returns the inner reader in its current state.
     pub fn take_reader(self) -> T
         ensures { result ≡ inner_of self }
     {
@@ -121,8 +121,8 @@ impl<T: ExactRead> LimitedReader<T> {
     ghost use Rattle.ip_base.specs.LimitedReader.{inner_of, limits_of, IsLimitedRefusal};
     ghost use Rattle.ip_base.specs.LimitedReadError.{io_of};
 
-    /// Fills the buffer with the first bytes not yet read. `Len` tells that the limit doesn't leave that many;
-    /// then nothing has moved. `Io` tells that the inner reader refused; then `read_len` is as it was.
+    /// Fills the buffer with the next bytes. Returns `Len` if the limit doesn't leave that many; then nothing has
+    /// changed. Returns `Io` if the inner reader fails; then `read_len` is unchanged.
     #[inline(always)]
     pub fn read_exact(&mut self, buf: &mut [u8]) -> Result<(), LimitedReadError>
         requires { (limits_of self.old).read_len + length buf.old < 2 ^ 64 }
@@ -151,8 +151,8 @@ impl<T: ExactRead> LimitedReader<T> {
         }
     }
 
-    /// The error of a request for this many bytes, which the limit doesn't leave. It is put together apart, as a
-    /// slice's is.
+    /// Returns the error of a request for `count` bytes that exceeds the limit. It is not inlined, for the reason
+    /// given at `too_few`.
     #[cold]
     #[inline(never)]
     fn past_limit(&self, count: usize) -> LenError

@@ -1,4 +1,4 @@
-//! Readers of exact counts of bytes.
+//! Readers of exact numbers of bytes.
 mod exact_read;
 mod limited_reader;
 mod over_read;

@@ -5,8 +5,8 @@ use crate::io::ExactRead;
 use std::io;
 use std::io::Read;
 
-/// Reads exact counts from any reader of the standard library. It remembers whether a call failed, or found
-/// fewer bytes than it asked for.
+/// A reader of exact numbers of bytes over any reader of the standard library. It records whether a call failed or
+/// found fewer bytes than requested.
 #[derive(Debug, Drop)]
 pub struct OverRead<R> {
     reader: R,
@@ -16,7 +16,7 @@ pub struct OverRead<R> {
 impl<R> OverRead<R> {
     ghost use Rattle.ip_base.specs.OverRead.{reader_of, is_failed};
 
-    /// Reads from this reader.
+    /// Returns a reader over `reader`.
     pub fn new(reader: R) -> OverRead<R>
         ensures reader { reader_of result ≡ reader }
         ensures failed { is_failed result ≡ false }
@@ -34,7 +34,7 @@ impl<R> OverRead<R> {
         self.failed
     }
 
-    /// Returns the reader, with whatever it has left.
+    /// Returns the inner reader, with the bytes that it has left.
     pub fn into_inner(self) -> R
         ensures { result ≡ reader_of self }
     {
@@ -51,7 +51,7 @@ impl<R: Read> ExactRead for OverRead<R> {
 
     ghost has_failed = { is_failed };
 
-    // The contract of `Read` says nothing of errors.
+    // The contract of `Read` says nothing about errors.
     ghost has_given = { λ _ _. ⊤ };
 
     ghost steady_tells = { Prim.search rules };
@@ -59,8 +59,8 @@ impl<R: Read> ExactRead for OverRead<R> {
     /// Reads until the buffer is full, and retries a read that was interrupted. Returns the reader's own error, or
     /// one of kind `UnexpectedEof` if its bytes end first.
     ///
-    /// The next call asks the reader again, also after an error, so reading may continue after `WouldBlock`, say.
-    /// Bytes that the failed call had read are lost.
+    /// The next call reads again, even after an error, so a caller may continue after `WouldBlock`, for example. The
+    /// bytes that the failed call read are lost.
     fn read_exact(&mut self, buf: &mut [u8]) -> io::Result<()> {
         let result = self.reader.read_exact(buf);
         if result.is_err() {

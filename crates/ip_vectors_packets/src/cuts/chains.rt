@@ -1,17 +1,17 @@
-//! Chains, and the steps along them.
+//! Chains, and steps along them.
 use crate::cuts::samples::{NO_FAULT, STAYS, cut};
 use ip_cuts::{
     AuthFields, ChainCursor, ChainCut, FaultFields, FragmentFields, HeaderCut, auth_fields,
     cut_chain, cut_ipv4_chain, fragment_fields,
 };
 
-/// Hop by hop options, destination options, routing, fragment, authentication and destination options.
+/// Hop-by-hop options, destination options, routing, fragment, authentication and destination options.
 const SIX: [u8; 52] = [
     60, 0, 0, 0, 0, 0, 0, 0, 43, 0, 0, 0, 0, 0, 0, 0, 44, 0, 0, 0, 0, 0, 0, 0, 51, 0, 0, 0, 0, 0,
     0, 0, 60, 1, 0, 0, 0, 0, 0, 0, 0, 0, 0, 0, 17, 0, 0, 0, 0, 0, 0, 0,
 ];
 
-/// Where the headers of `SIX` lie.
+/// Returns the cuts of the headers of `SIX`.
 fn cuts_of_six() -> [HeaderCut; 6] {
     [
         cut(0, 8, 0, 60),
@@ -23,7 +23,8 @@ fn cuts_of_six() -> [HeaderCut; 6] {
     ]
 }
 
-/// Too few bytes by the slice: the header's layer, the layer that needs them, how many, how many there are, where.
+/// Returns the error of too few bytes in the slice: the header's layer, the layer that needs them, the number needed,
+/// the number present, and the offset.
 fn short(header: u8, layer: u8, required_len: usize, len: usize, offset: usize) -> FaultFields {
     FaultFields {
         required_len,
@@ -37,7 +38,7 @@ fn short(header: u8, layer: u8, required_len: usize, len: usize, offset: usize) 
     }
 }
 
-/// What the header of a layer says is wrong.
+/// Returns the error in the header of a layer.
 fn content(header: u8, kind: u8) -> FaultFields {
     FaultFields {
         kind,

@@ -8,7 +8,7 @@ use std::alloc::{AllocError, Global};
 use std::process::Abort;
 use std::test::Fail;
 
-/// The payload that the cut of a packet tells of.
+/// Returns the payload in a packet's cut.
 fn payload_of(packet: &PacketCut) -> PayloadCut {
     PayloadCut {
         base_len: packet.base_len,
@@ -21,7 +21,7 @@ fn payload_of(packet: &PacketCut) -> PayloadCut {
     }
 }
 
-/// An IPv6 packet, and what is behind its base header.
+/// Returns an IPv6 packet with these bytes after its base header.
 fn ipv6_bytes(
     alloc: Global,
     payload_length: u8,
@@ -34,7 +34,8 @@ fn ipv6_bytes(
     Ok(bytes)
 }
 
-/// Too few bytes for a layer in a packet: how many it needs, how many there are by which source, and where.
+/// Returns the error of too few bytes for a layer in a packet: the number needed, the number present by which source,
+/// and the offset.
 fn short(layer: u8, required_len: usize, len: usize, len_source: u8, offset: usize) -> FaultFields {
     FaultFields {
         required_len,
@@ -96,7 +97,7 @@ fn an_ipv4_packet_with_an_authentication_header(rt: HostRuntime) -> Result<(), F
     Ok(())
 }
 
-/// Fails where the bytes are no packet for another reason, or where something is put into the array.
+/// Checks that the bytes are refused with this error, and that nothing is stored in the array.
 fn is_refused(rt: &impl Abort, name: &str, bytes: &[u8], fault: FaultFields) {
     let mut cuts = [STAYS; 2];
     assert_eq!(rt; cut_packet(bytes, &mut cuts), Err(fault), "{name}");

@@ -1,8 +1,8 @@
-//! How many of the first headers one struct of six places takes.
+//! The number of headers that fit one struct of six places.
 use crate::cuts::samples::{STAYS, cut};
 use ip_cuts::{HeaderCut, cut_chain, run_len};
 
-/// The length of the first run of headers with these numbers, of which there are 8 at most.
+/// Returns the length of the first run of headers with these numbers, at most 8.
 fn run_of(numbers: &[u8]) -> Option<usize> {
     let mut cuts = [cut(0, 8, 59, 59); 8];
     for (cut, number) in cuts.iter_mut().zip(numbers) {
@@ -43,7 +43,7 @@ fn runs_that_end_before_what_is_no_extension_header(rt: HostRuntime) {
     assert_eq!(rt; run_of(&[60, 135, 43]), Some(1));
 }
 
-/// A routing header and two times destination options: the second of these begins the second run.
+/// Checks the runs of a routing header and two destination options: the second of these starts the second run.
 #[test]
 fn runs_of_a_chain_one_after_the_other(rt: HostRuntime) {
     let bytes: [u8; 24] = [

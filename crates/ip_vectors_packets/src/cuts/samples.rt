@@ -1,7 +1,7 @@
 //! Values that several tests compare with.
 use ip_cuts::{FaultFields, HeaderCut};
 
-/// Nothing is wrong.
+/// No error.
 pub(crate) const NO_FAULT: FaultFields = FaultFields {
     required_len: 0,
     len: 0,
@@ -13,7 +13,7 @@ pub(crate) const NO_FAULT: FaultFields = FaultFields {
     value: 0,
 };
 
-/// What no call puts into an array.
+/// A value that no call stores in an array.
 pub(crate) const STAYS: HeaderCut = HeaderCut {
     offset: 7,
     len: 7,
@@ -21,7 +21,7 @@ pub(crate) const STAYS: HeaderCut = HeaderCut {
     next_header: 7,
 };
 
-/// Where a header lies, and the numbers that it names.
+/// Returns a header's cut: its offset, length, number and next header.
 pub(crate) fn cut(offset: usize, len: usize, number: u8, next_header: u8) -> HeaderCut {
     HeaderCut {
         offset,

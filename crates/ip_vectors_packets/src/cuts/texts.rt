@@ -1,4 +1,4 @@
-//! Faults in words.
+//! Errors as text.
 use crate::cuts::samples::NO_FAULT;
 use ip_cuts::{FaultFields, fault_text};
 
@@ -21,7 +21,7 @@ const LARGEST: FaultFields = FaultFields {
     ..NO_FAULT
 };
 
-/// Fields with nothing but a kind and a value.
+/// Returns an error with only a kind and a value.
 fn of_kind(kind: u8, value: u32) -> FaultFields {
     FaultFields {
         kind,
@@ -30,7 +30,7 @@ fn of_kind(kind: u8, value: u32) -> FaultFields {
     }
 }
 
-/// Each kind, with its words.
+/// Returns each kind with its text.
 fn rows() -> [(FaultFields, &'static str); 8] {
     [
         (NO_FAULT, ""),

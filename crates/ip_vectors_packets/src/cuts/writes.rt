@@ -1,21 +1,21 @@
-//! Headers that are linked and written from where they lie.
+//! Headers linked, and written from their place in other bytes.
 use crate::cuts::samples::cut;
 use ip_cuts::{HeaderCut, cut_chain, link_headers, write_headers};
 
-/// Destination options, a fragment header and an authentication header, each with a byte that tells it, and with
-/// reserved bits that are set.
+/// Destination options, a fragment header and an authentication header, each with a byte that identifies it, and with
+/// reserved bits set.
 const THREE: [u8; 28] = [
     44, 0, 1, 1, 1, 1, 1, 1, 51, 0xff, 0x01, 0x0f, 2, 2, 2, 2, 17, 1, 0xff, 0xff, 3, 3, 3, 3, 0, 0,
     0, 4,
 ];
 
-/// The three, one behind the other.
+/// Returns the cuts of the three headers, one after the other.
 fn cuts_of_three() -> [HeaderCut; 3] {
     [cut(0, 8, 60, 44), cut(8, 8, 44, 51), cut(16, 12, 51, 17)]
 }
 
-/// What is written of them: byte 1 and two bits of byte 3 of the fragment header are zero, and so are bytes 2 and 3 of
-/// the authentication header.
+/// The bytes written for them: byte 1 and two bits of byte 3 of the fragment header are zero, and so are bytes 2 and
+/// 3 of the authentication header.
 const CLEARED: [u8; 28] = [
     44, 0, 1, 1, 1, 1, 1, 1, 51, 0, 0x01, 0x09, 2, 2, 2, 2, 17, 1, 0, 0, 3, 3, 3, 3, 0, 0, 0, 4,
 ];

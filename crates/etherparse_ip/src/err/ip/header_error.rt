@@ -3,7 +3,7 @@ ghost use Rattle.std.specs.Prelude.{IsNone};
 use crate::err::PacketSource;
 use thiserror::Error;
 
-/// Why a packet's first byte can't begin a base header of either version.
+/// Why a packet's first byte doesn't start a base header of either IP version.
 #[derive(Clone, Debug, PartialEq, Eq, Hash, Drop, Error)]
 pub enum HeaderError {
     /// The version is neither 4 nor 6.
@@ -22,7 +22,7 @@ pub enum HeaderError {
 }
 
 impl HeaderError {
-    /// What the error comes of: nothing beside it.
+    /// Returns the error's cause: always `None`.
     pub fn source(&self) -> Option<PacketSource<'_>>
         ensures { IsNone result }
     {

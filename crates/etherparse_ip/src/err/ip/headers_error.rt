@@ -6,16 +6,16 @@ use super::HeaderError;
 use crate::err::{PacketSource, ip_auth, ipv6_exts};
 use thiserror::Error;
 
-/// What is wrong in the bytes of a packet's headers.
+/// An error in the bytes of a packet's headers.
 #[derive(Clone, Debug, PartialEq, Eq, Hash, Drop, Error)]
 pub enum HeadersError {
-    /// In the base header.
+    /// An error in the base header.
     #[error(transparent)]
     Ip(HeaderError),
-    /// In an extension header behind IPv4.
+    /// An error in an IPv4 authentication header.
     #[error(transparent)]
     Ipv4Ext(ip_auth::HeaderError),
-    /// In the extension headers behind IPv6.
+    /// An error in the IPv6 extension headers.
     #[error(transparent)]
     Ipv6Ext(ipv6_exts::HeaderError),
 }
@@ -23,7 +23,7 @@ pub enum HeadersError {
 impl HeadersError {
     ghost use Rattle.etherparse_ip.specs.HeadersError.{cause_of};
 
-    /// What the error comes of.
+    /// Returns the error's cause.
     pub fn source(&self) -> Option<PacketSource<'_>>
         ensures { option_map packet_cause_in result ≡ Some (cause_of self.now) }
     {

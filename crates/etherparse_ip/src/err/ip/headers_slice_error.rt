@@ -6,13 +6,13 @@ use super::HeadersError;
 use crate::err::{LenError, PacketSource};
 use thiserror::Error;
 
-/// Why the headers of a packet of either version don't begin a slice.
+/// Why a slice doesn't start with the headers of a packet of either IP version.
 #[derive(Clone, Debug, PartialEq, Eq, Hash, Drop, Error)]
 pub enum HeadersSliceError {
     /// There are fewer bytes than a header needs.
     #[error(transparent)]
     Len(LenError),
-    /// The bytes of a header can't be one.
+    /// The bytes of a header are malformed.
     #[error(transparent)]
     Content(HeadersError),
 }
@@ -20,8 +20,8 @@ pub enum HeadersSliceError {
 impl HeadersSliceError {
     ghost use Rattle.etherparse_ip.specs.PacketHeadersError.{cause_of, headers_moved, HeadersOffsetFits};
 
-    /// The same error, counted from `offset` bytes further to the front: only the offset of a length error
-    /// grows. The sum of the offsets has to fit.
+    /// Returns the error with `offset` bytes added to the offset of a length error. Nothing else changes. The sum of
+    /// the offsets must be below 2^64.
     pub fn add_slice_offset(self, offset: usize) -> HeadersSliceError
         requires { HeadersOffsetFits self offset }
         ensures { result ≡ headers_moved offset self }
@@ -32,7 +32,7 @@ impl HeadersSliceError {
         }
     }
 
-    /// What the error comes of.
+    /// Returns the error's cause.
     pub fn source(&self) -> Option<PacketSource<'_>>
         ensures { option_map packet_cause_in result ≡ Some (cause_of self.now) }
     {

@@ -1,4 +1,4 @@
-//! Errors of packets of either version.
+//! Errors of packets of either IP version.
 mod header_error;
 mod headers_error;
 mod headers_slice_error;

@@ -6,13 +6,13 @@ use super::HeadersError;
 use crate::err::{LenError, PacketSource};
 use thiserror::Error;
 
-/// Why no packet of either version begins a slice.
+/// Why a slice doesn't start with a packet of either IP version.
 #[derive(Clone, Debug, PartialEq, Eq, Hash, Drop, Error)]
 pub enum SliceError {
     /// There are fewer bytes than a header or the packet needs.
     #[error(transparent)]
     Len(LenError),
-    /// The bytes of a header can't be one.
+    /// The bytes of a header are malformed.
     #[error(transparent)]
     IpHeaders(HeadersError),
 }
@@ -20,7 +20,7 @@ pub enum SliceError {
 impl SliceError {
     ghost use Rattle.etherparse_ip.specs.IpSliceError.{cause_of};
 
-    /// What the error comes of.
+    /// Returns the error's cause.
     pub fn source(&self) -> Option<PacketSource<'_>>
         ensures { option_map packet_cause_in result ≡ Some (cause_of self.now) }
     {

@@ -6,16 +6,16 @@ use super::HeaderError;
 use crate::err::{LenError, PacketSource, ipv6_exts};
 use thiserror::Error;
 
-/// Why no IPv6 packet begins a slice.
+/// Why a slice doesn't start with an IPv6 packet.
 #[derive(Clone, Debug, PartialEq, Eq, Hash, Drop, Error)]
 pub enum SliceError {
     /// There are fewer bytes than a header or the packet needs.
     #[error(transparent)]
     Len(LenError),
-    /// The bytes of the base header can't be one.
+    /// The bytes of the base header are malformed.
     #[error(transparent)]
     Header(HeaderError),
-    /// The bytes of the extension headers can't be a chain.
+    /// The bytes of the extension headers are not a valid chain.
     #[error(transparent)]
     Exts(ipv6_exts::HeaderError),
 }
@@ -23,7 +23,7 @@ pub enum SliceError {
 impl SliceError {
     ghost use Rattle.etherparse_ip.specs.Ipv6SliceError.{cause_of};
 
-    /// What the error comes of.
+    /// Returns the error's cause.
     pub fn source(&self) -> Option<PacketSource<'_>>
         ensures { option_map packet_cause_in result ≡ Some (cause_of self.now) }
     {

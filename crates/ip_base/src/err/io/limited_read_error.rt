@@ -6,13 +6,13 @@ use crate::err::{LenError, Source};
 use std::io;
 use thiserror::Error;
 
-/// Why bytes weren't read within a limit.
+/// The error of a read within a limit.
 #[derive(Debug, Drop, Error)]
 pub enum LimitedReadError {
     /// The reader failed.
     #[error(transparent)]
     Io(io::Error),
-    /// More bytes were asked for than the limit leaves.
+    /// The request exceeds the limit.
     #[error(transparent)]
     Len(LenError),
 }
@@ -20,7 +20,7 @@ pub enum LimitedReadError {
 impl LimitedReadError {
     ghost use Rattle.ip_base.specs.LimitedReadError.{io_of, len_of, cause_of};
 
-    /// The reader's error, if it is one.
+    /// Returns the reader's error, if this is one.
     pub fn io(self) -> Option<io::Error>
         ensures { result ≡ io_of self }
     {
@@ -30,7 +30,7 @@ impl LimitedReadError {
         }
     }
 
-    /// The error of a length, if it is one.
+    /// Returns the length error, if this is one.
     pub fn len(self) -> Option<LenError>
         ensures { result ≡ len_of self }
     {
@@ -40,7 +40,7 @@ impl LimitedReadError {
         }
     }
 
-    /// What the error comes of.
+    /// Returns the error's cause.
     pub fn source(&self) -> Option<Source<'_>>
         ensures { option_map cause_in result ≡ Some (cause_of self.now) }
     {

@@ -1,4 +1,4 @@
-//! Errors of reading.
+//! Read errors.
 mod limited_read_error;
 
 pub use limited_read_error::LimitedReadError;

@@ -1,4 +1,4 @@
-//! What is wrong in authentication headers.
+//! Errors in authentication headers.
 mod header_error;
 
 pub use header_error::HeaderError;

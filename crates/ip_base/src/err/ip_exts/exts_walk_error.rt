@@ -5,13 +5,13 @@ ghost use Rattle.ip_base.specs.ChainCause.{chain_cause_in};
 use crate::err::{ChainSource, ipv4_exts, ipv6_exts};
 use thiserror::Error;
 
-/// Why a walk over the extension headers of a packet of either version doesn't reach each of them.
+/// Why a walk over a packet's extension headers, of either IP version, doesn't reach every header.
 #[derive(Clone, Debug, PartialEq, Eq, Hash, Drop, Error)]
 pub enum ExtsWalkError {
-    /// Behind IPv4.
+    /// IPv4 extension headers.
     #[error(transparent)]
     Ipv4Exts(ipv4_exts::ExtsWalkError),
-    /// Behind IPv6.
+    /// IPv6 extension headers.
     #[error(transparent)]
     Ipv6Exts(ipv6_exts::ExtsWalkError),
 }
@@ -19,7 +19,7 @@ pub enum ExtsWalkError {
 impl ExtsWalkError {
     ghost use Rattle.ip_base.specs.IpWalkError.{cause_of};
 
-    /// What the error comes of: that of the version.
+    /// Returns the cause of the version's error.
     pub fn source(&self) -> Option<ChainSource<'_>>
         ensures { option_map chain_cause_in result ≡ Some (cause_of self.now) }
     {

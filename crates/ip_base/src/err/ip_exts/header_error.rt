@@ -5,13 +5,13 @@ ghost use Rattle.ip_base.specs.ChainCause.{chain_cause_in};
 use crate::err::{ChainSource, ip_auth, ipv6_exts};
 use thiserror::Error;
 
-/// What is wrong in the bytes of the extension headers of a packet of either version.
+/// An error in the bytes of a packet's extension headers, of either IP version.
 #[derive(Clone, Debug, PartialEq, Eq, Hash, Drop, Error)]
 pub enum HeaderError {
-    /// The bytes of an authentication header behind IPv4 can't be one.
+    /// An IPv4 authentication header is malformed.
     #[error(transparent)]
     Ipv4Ext(ip_auth::HeaderError),
-    /// The bytes behind IPv6 can't be a chain.
+    /// The IPv6 chain is malformed.
     #[error(transparent)]
     Ipv6Ext(ipv6_exts::HeaderError),
 }
@@ -19,7 +19,7 @@ pub enum HeaderError {
 impl HeaderError {
     ghost use Rattle.ip_base.specs.IpHeaderError.{cause_of};
 
-    /// What the error comes of: that of the version.
+    /// Returns the cause of the version's error.
     pub fn source(&self) -> Option<ChainSource<'_>>
         ensures { option_map chain_cause_in result ≡ Some (cause_of self.now) }
     {

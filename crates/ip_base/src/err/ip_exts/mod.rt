@@ -1,4 +1,4 @@
-//! What is wrong in the extension headers of a packet of either version, and in their order.
+//! Errors in the extension headers of a packet of either IP version, and in their order.
 mod exts_walk_error;
 mod header_error;
 

@@ -4,19 +4,19 @@ use crate::IpNumber;
 use crate::err::ChainSource;
 use thiserror::Error;
 
-/// Why headers of an IPv4 packet can't be gone over from the number that is to name the first.
+/// Why a walk over an IPv4 packet's extension headers doesn't reach the header.
 #[derive(Clone, Debug, PartialEq, Eq, Hash, Drop, Error)]
 pub enum ExtsWalkError {
-    /// A header is there that no number names.
+    /// A header is present, but no number refers to it.
     #[error("IPv4 extensions '{missing_ext:?}' is defined but is not referenced by the 'protocol' the IPv4 header.")]
     ExtNotReferenced {
-        /// The number of headers of its kind.
+        /// The protocol number of that header.
         missing_ext: IpNumber,
     },
 }
 
 impl ExtsWalkError {
-    /// What the error comes of: nothing beside it.
+    /// Returns the error's cause: always `None`.
     pub fn source(&self) -> Option<ChainSource<'_>>
         ensures { IsNone result }
     {

@@ -1,4 +1,4 @@
-//! What is wrong in the order of IPv4 extension headers.
+//! Errors in the order of IPv4 extension headers.
 mod exts_walk_error;
 
 pub use exts_walk_error::ExtsWalkError;

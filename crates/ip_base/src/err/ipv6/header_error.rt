@@ -1,6 +1,6 @@
 use thiserror::Error;
 
-/// What is wrong in the bytes of an IPv6 base header.
+/// An error in the bytes of an IPv6 base header.
 #[derive(Clone, Debug, PartialEq, Eq, Hash, Drop, Error)]
 pub enum HeaderError {
     /// The version isn't 6.

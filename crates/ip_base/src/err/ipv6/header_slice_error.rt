@@ -2,13 +2,13 @@ use super::HeaderError;
 use crate::err::LenError;
 use thiserror::Error;
 
-/// Why no IPv6 base header begins a slice.
+/// Why a slice doesn't start with an IPv6 base header.
 #[derive(Clone, Debug, PartialEq, Eq, Hash, Drop, Error)]
 pub enum HeaderSliceError {
     /// There are fewer bytes than the header needs.
     #[error(transparent)]
     Len(LenError),
-    /// The bytes can't be a header.
+    /// The bytes are not a valid header.
     #[error(transparent)]
     Content(HeaderError),
 }

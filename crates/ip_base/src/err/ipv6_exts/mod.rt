@@ -1,4 +1,4 @@
-//! What is wrong in IPv6 extension headers and in their order.
+//! Errors in IPv6 extension headers and in their order.
 mod exts_walk_error;
 mod header_error;
 

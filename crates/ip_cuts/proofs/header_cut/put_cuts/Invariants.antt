@@ -4,7 +4,7 @@ use Rattle.ip_ext_slices.specs.Ipv6ExtensionSliceIter.{headers_left}
 use Rattle.ip_cuts.specs.HeaderCut.{cuts_from, filled}
 use Rattle.ip_cuts.proofs.header_cut.put_cuts.Given as goal
 
--- the cuts that were put in and those to come fill the array
+-- the cuts already stored and the remaining ones fill the array
 abbrev pub invariant-loop-header : goal.invariant-loop-header
 invariant-loop-header l = record {
   can : (goal.iterator-loop-header).can_next l.header-iterator;

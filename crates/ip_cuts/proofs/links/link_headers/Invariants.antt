@@ -2,7 +2,7 @@ use Rattle.ip_spec.proofs.Common.{◌≡◌, ◌≤◌, length, take, drop}
 use Rattle.ip_cuts.specs.LinkedCuts.{first_number, linked_cuts}
 use Rattle.ip_cuts.proofs.links.link_headers.Given as goal
 
--- the headers from here on are linked, and those before are as they were
+-- the headers from here on are linked, and those before are unchanged
 abbrev pub invariant-headers : goal.invariant-headers
 invariant-headers l = record {
   within : l.left ≤ length l.fn.cuts;

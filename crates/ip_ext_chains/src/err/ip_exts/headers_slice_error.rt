@@ -6,13 +6,13 @@ use super::HeaderError;
 use crate::err::{ChainSource, LenError};
 use thiserror::Error;
 
-/// Why the extension headers of a packet of either version don't go on, although a header is named.
+/// Why the extension headers of a packet of either IP version end at an extension header's number.
 #[derive(Clone, Debug, PartialEq, Eq, Hash, Drop, Error)]
 pub enum HeadersSliceError {
     /// There are fewer bytes than the header needs.
     #[error(transparent)]
     Len(LenError),
-    /// The bytes can't be the header that is named.
+    /// A header is malformed, or IPv6 hop-by-hop options are not at the start.
     #[error(transparent)]
     Content(HeaderError),
 }
@@ -20,7 +20,7 @@ pub enum HeadersSliceError {
 impl HeadersSliceError {
     ghost use Rattle.ip_ext_chains.specs.HeadersSliceError.{len_of, content_of, cause_of};
 
-    /// The error of a length, if it is one.
+    /// Returns the length error, if this is one.
     pub fn len_error(&self) -> Option<&LenError>
         ensures { option_map (λ e. e.now) result ≡ len_of self.now }
     {
@@ -30,7 +30,7 @@ impl HeadersSliceError {
         }
     }
 
-    /// What is wrong in the bytes, if it is that.
+    /// Returns the error in the bytes, if this is one.
     pub fn content(&self) -> Option<&HeaderError>
         ensures { option_map (λ e. e.now) result ≡ content_of self.now }
     {
@@ -40,7 +40,7 @@ impl HeadersSliceError {
         }
     }
 
-    /// What the error comes of.
+    /// Returns the error's cause.
     pub fn source(&self) -> Option<ChainSource<'_>>
         ensures { option_map chain_cause_in result ≡ Some (cause_of self.now) }
     {

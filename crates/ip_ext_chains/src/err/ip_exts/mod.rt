@@ -1,4 +1,4 @@
-//! Errors of the extension headers of a packet of either version.
+//! Errors of the extension headers of a packet of either IP version.
 mod headers_slice_error;
 
 pub use headers_slice_error::HeadersSliceError;

@@ -8,7 +8,7 @@ use ip_ext_headers::err::io::LimitedReadError;
 use std::io;
 use thiserror::Error;
 
-/// Why IPv6 extension headers weren't read within a limit.
+/// The error of a read of IPv6 extension headers within a limit.
 #[derive(Debug, Drop, Error)]
 pub enum HeaderLimitedReadError {
     /// The reader failed.
@@ -17,7 +17,7 @@ pub enum HeaderLimitedReadError {
     /// A header needs more bytes than the limit leaves.
     #[error(transparent)]
     Len(LenError),
-    /// The bytes can't be the header that is named.
+    /// A header is malformed, or hop-by-hop options are not at the start.
     #[error(transparent)]
     Content(HeaderError),
 }
@@ -26,7 +26,7 @@ impl HeaderLimitedReadError {
     ghost use Rattle.ip_ext_chains.specs.ChainLimitedReadError.{io_of, len_of, content_of, cause_of};
     ghost use Rattle.ip_ext_chains.specs.ReadError.{of_limited_error};
 
-    /// The same error.
+    /// Converts the error of a limited read.
     pub(crate) fn of_limited(error: LimitedReadError) -> HeaderLimitedReadError
         ensures { result ≡ of_limited_error error }
     {
@@ -36,7 +36,7 @@ impl HeaderLimitedReadError {
         }
     }
 
-    /// The reader's error, if it is one.
+    /// Returns the reader's error, if this is one.
     pub fn io(self) -> Option<io::Error>
         ensures { result ≡ io_of self }
     {
@@ -47,7 +47,7 @@ impl HeaderLimitedReadError {
         }
     }
 
-    /// The error of a length, if it is one.
+    /// Returns the length error, if this is one.
     pub fn len(self) -> Option<LenError>
         ensures { result ≡ len_of self }
     {
@@ -58,7 +58,7 @@ impl HeaderLimitedReadError {
         }
     }
 
-    /// What is wrong in the bytes, if it is that.
+    /// Returns the error in the bytes, if this is one.
     pub fn content(self) -> Option<HeaderError>
         ensures { result ≡ content_of self }
     {
@@ -69,7 +69,7 @@ impl HeaderLimitedReadError {
         }
     }
 
-    /// What the error comes of.
+    /// Returns the error's cause.
     pub fn source(&self) -> Option<ChainSource<'_>>
         ensures { option_map chain_cause_in result ≡ Some (cause_of self.now) }
     {

@@ -7,13 +7,13 @@ use crate::err::ChainSource;
 use std::io;
 use thiserror::Error;
 
-/// Why IPv6 extension headers weren't read.
+/// The error of a read of IPv6 extension headers.
 #[derive(Debug, Drop, Error)]
 pub enum HeaderReadError {
     /// The reader failed.
     #[error("IPv6 Extension Header IO Error: {0}")]
     Io(io::Error),
-    /// The bytes can't be the header that is named.
+    /// A header is malformed, or hop-by-hop options are not at the start.
     #[error(transparent)]
     Content(HeaderError),
 }
@@ -21,7 +21,7 @@ pub enum HeaderReadError {
 impl HeaderReadError {
     ghost use Rattle.ip_ext_chains.specs.ChainReadError.{io_of, content_of, cause_of};
 
-    /// The reader's error, if it is one.
+    /// Returns the reader's error, if this is one.
     pub fn io_error(self) -> Option<io::Error>
         ensures { result ≡ io_of self }
     {
@@ -31,7 +31,7 @@ impl HeaderReadError {
         }
     }
 
-    /// What is wrong in the bytes, if it is that.
+    /// Returns the error in the bytes, if this is one.
     pub fn content_error(self) -> Option<HeaderError>
         ensures { result ≡ content_of self }
     {
@@ -41,7 +41,7 @@ impl HeaderReadError {
         }
     }
 
-    /// What the error comes of.
+    /// Returns the error's cause.
     pub fn source(&self) -> Option<ChainSource<'_>>
         ensures { option_map chain_cause_in result ≡ Some (cause_of self.now) }
     {

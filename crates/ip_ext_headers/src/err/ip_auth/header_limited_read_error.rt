@@ -9,7 +9,7 @@ use ip_base::err::io::LimitedReadError;
 use std::io;
 use thiserror::Error;
 
-/// Why no authentication header was read within a limit.
+/// The error of a read of an authentication header within a limit.
 #[derive(Debug, Drop, Error)]
 pub enum HeaderLimitedReadError {
     /// The reader failed.
@@ -18,7 +18,7 @@ pub enum HeaderLimitedReadError {
     /// The header needs more bytes than the limit leaves.
     #[error(transparent)]
     Len(LenError),
-    /// The bytes can't be a header.
+    /// The bytes are not a valid header.
     #[error(transparent)]
     Content(HeaderError),
 }
@@ -27,7 +27,7 @@ impl HeaderLimitedReadError {
     ghost use Rattle.ip_ext_headers.specs.AuthLimitedReadError.{io_of, len_of, content_of, cause_of};
     ghost use Rattle.ip_ext_headers.specs.AuthReading.{of_limited_error};
 
-    /// The same error.
+    /// Converts the error of a limited read.
     pub(crate) fn of_limited(error: LimitedReadError) -> HeaderLimitedReadError
         ensures { result ≡ of_limited_error error }
     {
@@ -37,7 +37,7 @@ impl HeaderLimitedReadError {
         }
     }
 
-    /// The reader's error, if it is one.
+    /// Returns the reader's error, if this is one.
     pub fn io(self) -> Option<io::Error>
         ensures { result ≡ io_of self }
     {
@@ -48,7 +48,7 @@ impl HeaderLimitedReadError {
         }
     }
 
-    /// The error of a length, if it is one.
+    /// Returns the length error, if this is one.
     pub fn len(self) -> Option<LenError>
         ensures { result ≡ len_of self }
     {
@@ -59,7 +59,7 @@ impl HeaderLimitedReadError {
         }
     }
 
-    /// What is wrong in the bytes, if it is that.
+    /// Returns the error in the bytes, if this is one.
     pub fn content(self) -> Option<HeaderError>
         ensures { result ≡ content_of self }
     {
@@ -70,7 +70,7 @@ impl HeaderLimitedReadError {
         }
     }
 
-    /// What the error comes of.
+    /// Returns the error's cause.
     pub fn source(&self) -> Option<Source<'_>>
         ensures { option_map cause_in result ≡ Some (cause_of self.now) }
     {

@@ -7,13 +7,13 @@ use crate::err::Source;
 use std::io;
 use thiserror::Error;
 
-/// Why no authentication header was read.
+/// The error of a read of an authentication header.
 #[derive(Debug, Drop, Error)]
 pub enum HeaderReadError {
     /// The reader failed.
     #[error("IP Authentication Header IO Error: {0}")]
     Io(io::Error),
-    /// The bytes can't be a header.
+    /// The bytes are not a valid header.
     #[error(transparent)]
     Content(HeaderError),
 }
@@ -21,7 +21,7 @@ pub enum HeaderReadError {
 impl HeaderReadError {
     ghost use Rattle.ip_ext_headers.specs.AuthReadError.{io_of, content_of, cause_of};
 
-    /// The reader's error, if it is one.
+    /// Returns the reader's error, if this is one.
     pub fn io(self) -> Option<io::Error>
         ensures { result ≡ io_of self }
     {
@@ -31,7 +31,7 @@ impl HeaderReadError {
         }
     }
 
-    /// What is wrong in the bytes, if it is that.
+    /// Returns the error in the bytes, if this is one.
     pub fn content(self) -> Option<HeaderError>
         ensures { result ≡ content_of self }
     {
@@ -41,7 +41,7 @@ impl HeaderReadError {
         }
     }
 
-    /// What the error comes of.
+    /// Returns the error's cause.
     pub fn source(&self) -> Option<Source<'_>>
         ensures { option_map cause_in result ≡ Some (cause_of self.now) }
     {

@@ -7,13 +7,13 @@ use crate::err::Source;
 use ip_base::err::LenError;
 use thiserror::Error;
 
-/// Why no authentication header begins a slice.
+/// Why a slice doesn't start with an authentication header.
 #[derive(Clone, Debug, PartialEq, Eq, Hash, Drop, Error)]
 pub enum HeaderSliceError {
     /// There are fewer bytes than the header needs.
     #[error(transparent)]
     Len(LenError),
-    /// The bytes can't be a header.
+    /// The bytes are not a valid header.
     #[error(transparent)]
     Content(HeaderError),
 }
@@ -22,8 +22,8 @@ impl HeaderSliceError {
     ghost use Rattle.ip_ext_headers.specs.AuthSliceError.{cause_of};
     ghost use Rattle.ip_ext_headers.specs.HeaderFault.{auth_moved, AuthOffsetFits};
 
-    /// The same error, counted from `offset` bytes further to the front: only the offset of a length error
-    /// grows. The sum of the offsets has to fit.
+    /// Returns the error with `offset` bytes added to the offset of a length error. Nothing else changes. The sum of
+    /// the offsets must be below 2^64.
     pub fn add_slice_offset(self, offset: usize) -> HeaderSliceError
         requires { AuthOffsetFits self offset }
         ensures { result ≡ auth_moved offset self }
@@ -34,7 +34,7 @@ impl HeaderSliceError {
         }
     }
 
-    /// What the error comes of.
+    /// Returns the error's cause.
     pub fn source(&self) -> Option<Source<'_>>
         ensures { option_map cause_in result ≡ Some (cause_of self.now) }
     {

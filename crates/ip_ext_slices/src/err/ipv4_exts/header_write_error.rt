@@ -7,13 +7,13 @@ use crate::err::ChainSource;
 use std::alloc::AllocError;
 use thiserror::Error;
 
-/// Why headers of an IPv4 packet weren't written.
+/// Why an IPv4 packet's extension headers weren't written.
 #[derive(Debug, Drop, Error)]
 pub enum HeaderWriteError {
-    /// The vector has no room, and can't grow.
+    /// The vector has no room and can't grow.
     #[error("out of memory")]
     Io(AllocError),
-    /// A header is there that the number before it doesn't name.
+    /// A header is present, but the packet's protocol number doesn't refer to it.
     #[error(transparent)]
     Content(ExtsWalkError),
 }
@@ -21,7 +21,7 @@ pub enum HeaderWriteError {
 impl HeaderWriteError {
     ghost use Rattle.ip_ext_slices.specs.Ipv4WriteError.{io_of, content_of, cause_of};
 
-    /// The refusal of memory, if it is one.
+    /// Returns the allocation error, if this is one.
     pub fn io(&self) -> Option<&AllocError>
         ensures { option_map (λ e. e.now) result ≡ io_of self.now }
     {
@@ -31,7 +31,7 @@ impl HeaderWriteError {
         }
     }
 
-    /// The fault of the walk, if it is one.
+    /// Returns the error of the walk, if this is one.
     pub fn content(&self) -> Option<&ExtsWalkError>
         ensures { option_map (λ e. e.now) result ≡ content_of self.now }
     {
@@ -41,7 +41,7 @@ impl HeaderWriteError {
         }
     }
 
-    /// What the error comes of.
+    /// Returns the error's cause.
     pub fn source(&self) -> Option<ChainSource<'_>>
         ensures { option_map chain_cause_in result ≡ Some (cause_of self.now) }
     {

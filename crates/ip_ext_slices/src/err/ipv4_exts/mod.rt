@@ -1,4 +1,4 @@
-//! Errors of IPv4 extension headers. Those of their parses are the ones of authentication headers.
+//! Errors of IPv4 extension headers. Their parses return the errors of authentication headers.
 mod header_write_error;
 
 pub use header_write_error::HeaderWriteError;

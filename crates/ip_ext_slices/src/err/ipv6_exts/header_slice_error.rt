@@ -7,13 +7,13 @@ use crate::err::ChainSource;
 use ip_base::err::LenError;
 use thiserror::Error;
 
-/// Why an IPv6 chain doesn't go on, although a header is named.
+/// Why an IPv6 chain ends at an extension header's number.
 #[derive(Clone, Debug, PartialEq, Eq, Hash, Drop, Error)]
 pub enum HeaderSliceError {
     /// There are fewer bytes than the header needs.
     #[error(transparent)]
     Len(LenError),
-    /// The bytes can't be the header that is named.
+    /// A header is malformed, or hop-by-hop options are not at the start.
     #[error(transparent)]
     Content(HeaderError),
 }
@@ -22,8 +22,8 @@ impl HeaderSliceError {
     ghost use Rattle.ip_ext_slices.specs.ChainFault.{exts_moved, ExtsOffsetFits};
     ghost use Rattle.ip_ext_slices.specs.SliceError.{len_of, content_of, cause_of};
 
-    /// The same error, counted from `offset` bytes further to the front: only the offset of a length error
-    /// grows. The sum of the offsets has to fit.
+    /// Returns the error with `offset` bytes added to the offset of a length error. Nothing else changes. The sum of
+    /// the offsets must be below 2^64.
     pub fn add_slice_offset(self, offset: usize) -> HeaderSliceError
         requires { ExtsOffsetFits self offset }
         ensures { result ≡ exts_moved offset self }
@@ -34,7 +34,7 @@ impl HeaderSliceError {
         }
     }
 
-    /// The error of a length, if it is one.
+    /// Returns the length error, if this is one.
     pub fn len_error(&self) -> Option<&LenError>
         ensures { option_map (λ e. e.now) result ≡ len_of self.now }
     {
@@ -44,7 +44,7 @@ impl HeaderSliceError {
         }
     }
 
-    /// What is wrong in the bytes, if it is that.
+    /// Returns the error in the bytes, if this is one.
     pub fn content(&self) -> Option<&HeaderError>
         ensures { option_map (λ e. e.now) result ≡ content_of self.now }
     {
@@ -54,7 +54,7 @@ impl HeaderSliceError {
         }
     }
 
-    /// What the error comes of.
+    /// Returns the error's cause.
     pub fn source(&self) -> Option<ChainSource<'_>>
         ensures { option_map chain_cause_in result ≡ Some (cause_of self.now) }
     {

@@ -4,7 +4,7 @@ use Rattle.std.specs.Prelude.{slice_index}
 use Rattle.hex.specs.Hex.{encode_with, encode_lower, lower_digits}
 use Rattle.ip_plain.proofs.answers.push_digits.Goals as goal
 
--- the digits of the next byte, and of no more
+-- the digits of the next byte only
 next_digits : (bs : List ℕ) (i : ℕ) → i < length bs → encode_lower (drop i bs)
     ≡ slice_index lower_digits (slice_index bs i / 16) ∷ slice_index lower_digits (slice_index bs i % 16) ∷ encode_lower (drop (i + 1) bs)
 unfolding encode_with

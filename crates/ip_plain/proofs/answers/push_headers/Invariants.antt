@@ -3,7 +3,7 @@ use Rattle.ip_plain.specs.PlainHeader.{plain_header_of}
 use Rattle.ipexts_tool.specs.Parts.{header_lines}
 use Rattle.ip_plain.proofs.answers.push_headers.Given as goal
 
--- the lines so far and those to come are all the lines, and so are the bytes
+-- the lines so far and the remaining ones are all lines, and likewise the bytes
 abbrev pub invariant-loop-header : goal.invariant-loop-header
 invariant-loop-header l = record {
   lines : string_bytes l.text ++ header_lines l.offset (map plain_header_of (drop l.header-index l.headers))

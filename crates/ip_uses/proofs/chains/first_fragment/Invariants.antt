@@ -3,7 +3,7 @@ use Rattle.ip_ext_slices.specs.Longest.{longest_chain}
 use Rattle.ip_ext_slices.specs.Ipv6ExtensionsCursor.{headers_left}
 use Rattle.ip_uses.proofs.chains.first_fragment.Given as goal
 
--- the first is among those to come
+-- the first is among the remaining ones
 abbrev pub invariant-loop-header : goal.invariant-loop-header
 invariant-loop-header l = record {
   can : (goal.iterator-loop-header).can_next l.header-iterator;

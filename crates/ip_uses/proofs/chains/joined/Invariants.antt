@@ -3,7 +3,7 @@ use Rattle.ip_ext_slices.specs.Ipv6ExtensionsSlice.{bytes}
 use Rattle.ip_ext_slices.specs.Ipv6ExtensionSliceIter.{headers_left}
 use Rattle.ip_uses.proofs.chains.joined.Given as goal
 
--- what was copied and what is to come are the bytes of all headers
+-- the bytes copied and the remaining ones are the bytes of all headers
 abbrev pub invariant-loop-header : goal.invariant-loop-header
 invariant-loop-header l = record {
   can : (goal.iterator-loop-header).can_next l.header-iterator;

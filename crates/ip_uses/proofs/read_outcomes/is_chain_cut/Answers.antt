@@ -2,7 +2,7 @@ use Rattle.ip_spec.proofs.Common.{ℕ, ◌<◌, ◌+◌, List, true, arith, ap, 
 use Rattle.ip_base.specs.ExactRead.{IfSteady}
 use Rattle.ip_uses.proofs.read_outcomes.is_chain_cut.Goals as goal
 
--- behind `done`, fewer than count bytes are left
+-- fewer than count bytes are left after `done`
 too_few : (xs done : List ℕ) (left : Option (List ℕ)) (count : ℕ) → Consumes (Some xs) left done → IfSteady true left (λ s. length s < count) → length xs < length done + count
 too_few xs done None count taken short = absurd taken
 too_few xs done (Some s) count taken short = omega (arith, ap length taken, length-append done s, short)

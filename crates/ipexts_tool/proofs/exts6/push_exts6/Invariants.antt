@@ -5,7 +5,7 @@ use Rattle.ip_ext_slices.specs.Ipv6ExtensionsCursor.{start, input, headers_left}
 use Rattle.ipexts_tool.specs.Parts.{header_lines}
 use Rattle.ipexts_tool.proofs.exts6.push_exts6.Given as goal
 
--- the lines so far and those of the headers left are all the lines, and their bytes are all the bytes
+-- the lines so far and those of the remaining headers are all lines, and the remaining headers lie within the bytes
 abbrev pub invariant-headers : goal.invariant-headers
 invariant-headers g l = record {
   start : start l.headers ≡ l.fn.number.0;

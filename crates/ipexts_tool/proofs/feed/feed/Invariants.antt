@@ -3,7 +3,7 @@ use Rattle.ipexts_tool.specs.Answers.{answers_to}
 use Rattle.ipexts_tool.specs.OpenLine.{ended_lines, open_line}
 use Rattle.ipexts_tool.proofs.feed.feed.Given as goal
 
--- some lines ended and were answered, and what is left goes on with the line that began
+-- some lines ended and were answered, and the rest continues the started line
 abbrev pub invariant-loop-part : goal.invariant-loop-part
 invariant-loop-part g l = record {
   going_on : open_line l.fn.line.items l.chunk ≡ open_line l.line.items l.rest;

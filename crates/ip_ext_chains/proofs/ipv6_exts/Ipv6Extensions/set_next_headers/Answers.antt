@@ -6,7 +6,7 @@ use Rattle.ip_ext_chains.specs.declared.ipv6_routing_exts.Ipv6RoutingExtensions.
 use Rattle.ip_ext_chains.proofs.LinkedLemmas.{number_before, linked_to, answer_same}
 use Rattle.ip_ext_chains.proofs.ipv6_exts.Ipv6Extensions.set_next_headers.Goals as goal
 
--- the number to which what is before each place leads
+-- the number to which the headers before each place lead
 record Numbers (c : goal.After-link_raw) : Type 0 where
   hop_by_hop_options : c.link_raw.result.0 ≡ first_number (placed_fields c.args.self.now) places c.args.last.0
   destination_options : c.link_raw-next.result.0 ≡ first_number (placed_fields c.args.self.now) (drop 1 places) c.args.last.0

@@ -51,7 +51,7 @@ enum {
     WOLFAREN_NO_FAULT = 0,
     /* `layer` needs `required_len` bytes starting at `offset`, but there are only `len`, as given by `len_source`. */
     WOLFAREN_TOO_SHORT = 1,
-    /* Hop-by-hop options are named after another extension header. They may only follow the IPv6 header directly. */
+    /* An extension header is followed by hop-by-hop options, which may only follow the IPv6 header directly. */
     WOLFAREN_HOP_BY_HOP_NOT_AT_START = 2,
     /* The length field of an authentication header is 0, which is below the minimum. */
     WOLFAREN_ZERO_PAYLOAD_LEN = 3,
@@ -221,7 +221,7 @@ struct wolfaren_payload {
 bool wolfaren_find_payload(const uint8_t *bytes, size_t len, struct wolfaren_payload *payload,
                            struct wolfaren_fault *fault);
 
-/* Finds a payload like wolfaren_find_payload, but accepts the truncated packets that wolfaren_cut_packet_lax accepts. */
+/* Finds a payload like wolfaren_find_payload, and accepts the same truncated packets as wolfaren_cut_packet_lax. */
 bool wolfaren_find_payload_lax(const uint8_t *bytes, size_t len, struct wolfaren_payload *payload,
                                struct wolfaren_fault *fault);
 

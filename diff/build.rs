@@ -5,7 +5,7 @@ use std::process::Command;
 fn main() {
     let library = Path::new("../crates/ipexts_diff/out")
         .canonicalize()
-        .expect("the static library is missing: `rt lib` in crates/ipexts_diff makes it");
+        .expect("the static library is missing: `rt lib` in crates/ipexts_diff builds it");
     let output = Command::new("rt")
         .arg("doc")
         .output()

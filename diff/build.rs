@@ -1,4 +1,4 @@
-//! Links the static library `ipexts_diff` and what it takes memory with.
+//! Links the static library `ipexts_diff` and the allocator that it needs.
 use std::path::Path;
 use std::process::Command;
 

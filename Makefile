@@ -1,17 +1,26 @@
-# `make run` answers the lines of standard input; `make try` answers some lines within seconds, with checks as they
-# run in place of proofs, which it tells on standard error; `make test` holds the listed contracts and the
-# listed errors against the code, passes the merge gate and tries the program that it built;
-# `make lib` leaves the static library for C, its header and its pkg-config file in build/, and `make programs` the
-# program ipcap, which needs libpcap; `make install PREFIX=/usr/local` installs all of it, and ipexts (DESTDIR=.. stands in
-# front of the paths); `make test-c` tests it, and the package in bindings/rust;
-# `make page` builds what page/index.html shows a packet with, and `make test-page` tests that page in Chromium;
-# `make mutants` tries the mutants of mutants/ (CRATE='NAME ..': those of these crates; ONLY=WORD: those whose names
-# have the word; JOBS=3: so many at a time); `make memory` refuses each allocation of the program in turn. `make bench` measures (`make
-# bench-border` alone what is called through C) and `make diff` compares against etherparse 0.19.0; `make diff-test`
-# tests the comparison; `make diff-fields` holds fragment headers against scapy's. `make cost` measures what a byte costs
-# at worst. `make fuzz` compares on inputs that AFL++ makes, MINUTES=.. long, and `make fuzz-test` tests that. These, and
-# `make test-c`, take CARGO_FLAGS="..", further flags for Cargo, as one that says where the crate lies on a machine
-# without a network.
+# make run            answer the lines of standard input with the proved program ipexts
+# make try            answer sample lines within seconds, with run-time checks instead of proofs
+# make test           compare the documented contracts and errors with the code, run the merge gate, test the program
+# make lib            build the static C library, its header and its pkg-config file in build/
+# make programs       build the program ipcap, which needs libpcap
+# make install        install all of these and ipexts (PREFIX=/usr/local; DESTDIR=.. is prepended to the paths)
+# make test-c         test the library, ipcap, and the package in bindings/rust
+# make page           build the files that page/index.html needs
+# make test-page      test that page in Chromium
+# make mutants        try the mutants in mutants/ (CRATE='NAME ..': only these crates; ONLY=WORD: only those whose
+#                     names contain the word; JOBS=3: so many at a time)
+# make memory         run the program once for each of its allocations, with that allocation refused
+# make bench          compare its speed with etherparse 0.19.0 (ONLY=WORD: only rows whose names contain the word)
+# make bench-border   the part of make bench that measures calls through C
+# make cost           measure the worst-case time per byte
+# make diff           compare its results with etherparse 0.19.0 (SEED=..; LINES=..: how many cases)
+# make diff-test      test that comparison
+# make diff-fields    compare fragment headers with scapy (SEED=..; HEADERS=..: how many)
+# make fuzz           compare its results with etherparse 0.19.0 on inputs made by AFL++ (MINUTES=..)
+# make fuzz-test      test that comparison
+#
+# The last eight and make test-c take CARGO_FLAGS="..", additional flags for Cargo, such as one that locates the crate
+# on a machine without network access.
 .PHONY: run try test lib programs install test-c page test-page mutants memory bench bench-border cost diff diff-test diff-fields fuzz fuzz-test
 .SILENT:
 
@@ -35,7 +44,7 @@ run:
 
 try:
 	$(RT_IS_THERE)
-	echo "Nothing is proved here: the program is built with checks in place of proofs." >&2
+	echo "Nothing is proved here: the program is built with run-time checks instead of proofs." >&2
 	cd crates/ipexts && rt try
 
 test:

@@ -1,5 +1,5 @@
-//! Links the static libraries `ipexts_bench` and `ipexts_bench_packets`, what they take memory with, the walk in C,
-//! and `SHIFT` bytes before them, which move the libraries' code.
+//! Links the static libraries `ipexts_bench` and `ipexts_bench_packets`, the allocator that they need, the walk in
+//! C, and a block of `SHIFT` bytes before the libraries, which moves their code.
 use std::env;
 use std::path::{Path, PathBuf};
 use std::process::Command;
@@ -23,21 +23,21 @@ fn main() {
     }
 }
 
-/// Finds the static library of a crate.
+/// Links the static library of a crate.
 fn link_library(name: &str) {
     let folder = Path::new("../crates")
         .join(name)
         .join("out")
         .canonicalize()
         .unwrap_or_else(|_| {
-            panic!("the static library is missing: `rt lib` in crates/{name} makes it")
+            panic!("the static library is missing: `rt lib` in crates/{name} builds it")
         });
     let archive = folder.join(format!("lib{name}.a"));
     println!("cargo:rerun-if-changed={}", archive.display());
     println!("cargo:rustc-link-search=native={}", folder.display());
 }
 
-/// A function followed by `SHIFT` bytes.
+/// Generates a function followed by `SHIFT` bytes, and compiles it.
 fn compile_shift(out: &Path) {
     let shift: usize =
         env::var("SHIFT").map_or(0, |shift| shift.parse().expect("SHIFT is a number"));
@@ -51,7 +51,7 @@ fn compile_shift(out: &Path) {
     compile(out, &file, "shift");
 }
 
-/// Compiles one file to a static library of the name.
+/// Compiles one file to a static library with the given name.
 fn compile(out: &Path, source: &Path, name: &str) {
     let compiler = env::var("CC").unwrap_or_else(|_| "cc".to_owned());
     let object = out.join(format!("{name}.o"));
@@ -64,7 +64,7 @@ fn compile(out: &Path, source: &Path, name: &str) {
     run(Command::new("ar").arg("crs").arg(&archive).arg(&object));
 }
 
-/// The folder of the Rattle toolchain.
+/// Returns the directory of the Rattle toolchain.
 fn kit() -> PathBuf {
     let output = Command::new("rt")
         .arg("doc")

@@ -1,15 +1,15 @@
-# Parts of the scripts in bench/, diff/ and fuzz/. `top` is the folder of the repository.
+# Functions shared by the scripts in bench/, diff/ and fuzz/. `top` is the directory of the repository.
 
-# Ends the script with a sentence.
+# Ends the script with a message.
 give_up() {
     echo "$1" >&2
     exit 2
 }
 
-# Says what is missing.
+# Ends the script if a required program is missing.
 look_for_tools() {
     command -v rt >/dev/null || give_up "The Rattle toolchain is missing: its command 'rt' has to be on the PATH."
-    command -v cargo >/dev/null || give_up "Cargo is missing: this is measured and compared against a Rust crate, so 'cargo' has to be on the PATH."
+    command -v cargo >/dev/null || give_up "Cargo is missing: comparing with a Rust crate needs it, so 'cargo' has to be on the PATH."
     command -v "${CC:-cc}" >/dev/null || give_up "A C compiler is missing: '${CC:-cc}' has to be on the PATH, or CC has to name one."
     command -v ar >/dev/null || give_up "The archiver 'ar' is missing: it has to be on the PATH."
 }
@@ -26,7 +26,7 @@ build_ours() {
     tool=$top/crates/ipexts/out/ipexts
 }
 
-# Finds the original, without a network where that will do.
+# Finds the original, without network access if possible.
 look_for_original() {
     local folder
     for folder in "$@"; do
@@ -34,11 +34,11 @@ look_for_original() {
         # shellcheck disable=SC2086 # CARGO_FLAGS are several words.
         cargo fetch --quiet --offline $flags 2>/dev/null \
             || { [ -z "$offline" ] && cargo fetch --quiet $flags 2>/dev/null; } \
-            || give_up "The crate etherparse 0.19.0 is missing: a network is needed, or CARGO_FLAGS with a flag for Cargo that says where it lies."
+            || give_up "The crate etherparse 0.19.0 is missing: this needs network access, or CARGO_FLAGS with a Cargo flag that locates the crate."
     done
 }
 
-# Builds a package in a folder of the repository; the words behind the folder are Cargo's.
+# build FOLDER FLAGS..: builds the package in a folder of the repository, with additional flags for Cargo.
 build() {
     local folder=$1
     shift
@@ -48,7 +48,7 @@ build() {
         || { tail -40 "$work/$folder.txt" >&2; give_up "The package in $folder/ could not be built."; }
 }
 
-# Cargo refuses a flag that is given twice, and each call here but a second `cargo fetch` has `--offline` of its own.
+# Cargo rejects a repeated flag, and every call above except the second `cargo fetch` has `--offline` itself.
 flags='' offline=''
 for word in ${CARGO_FLAGS:-}; do
     case $word in

@@ -1,11 +1,11 @@
-//! Links the static library `ipexts_diff` and what it takes memory with.
+//! Links the static library `ipexts_diff` and the allocator that it needs.
 use std::path::Path;
 use std::process::Command;
 
 fn main() {
     let library = Path::new("../crates/ipexts_diff/out")
         .canonicalize()
-        .expect("the static library is missing: `rt lib` in crates/ipexts_diff makes it");
+        .expect("the static library is missing: `rt lib` in crates/ipexts_diff builds it");
     let output = Command::new("rt")
         .arg("doc")
         .output()

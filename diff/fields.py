@@ -1,10 +1,9 @@
-"""Holds fragment headers against scapy's: OURS is the program `diff`, TOOL the tool.
+"""Compares fragment headers with scapy's. OURS is the program `diff`, TOOL the tool.
 
     fields.py OURS TOOL SEED COUNT
 
-COUNT headers are built by scapy of fields that are drawn, and as many are drawn as bytes and taken apart by scapy.
-What we read of them has to be the same, and what we write what scapy builds of the same fields with reserved bits
-zero.
+Scapy builds COUNT headers from random fields, and parses as many made of random bytes. What we read from them must be
+the same, and what we write must be what scapy builds from the same fields with the reserved bits cleared.
 """
 import random
 import subprocess
@@ -22,7 +21,7 @@ Asked = namedtuple("Asked", "fields packet header payload_len")
 
 
 def few_or_all(draw, width):
-    """A number of so many bits: any, one bit, none or all of them."""
+    """Returns a number of `width` bits: random, with one bit set, 0, or with all bits set."""
     return draw.choice([draw.getrandbits(width), 1 << draw.randrange(width), 0, (1 << width) - 1])
 
 
@@ -47,14 +46,14 @@ def packet_of(draw, layer, payload):
 
 
 def built(draw):
-    """A header that scapy builds of drawn fields."""
+    """Returns a header that scapy builds from random fields."""
     fields, payload = drawn_fields(draw), draw.randbytes(draw.randrange(1, 20))
     packet = packet_of(draw, layer_of(fields), payload)
     return Asked(fields, packet, packet[40:48], len(payload))
 
 
 def taken_apart(draw):
-    """A header of drawn bytes, which scapy takes apart."""
+    """Returns a header of random bytes, which scapy parses."""
     header = bytes([draw.choice(OTHERS)]) + draw.randbytes(7)
     payload = draw.randbytes(draw.randrange(1, 20))
     packet = packet_of(draw, Raw(header + payload), b"")
@@ -67,7 +66,7 @@ def written_of(fields):
 
 
 def expected_fields(asked):
-    """The line of `diff fields`."""
+    """Returns the expected line of `diff fields`."""
     fields = asked.fields
     fragment = int(fields.offset > 0 or fields.more == 1)
     return [f"next {fields.next_header} offset {fields.offset} more {fields.more} fragment {fragment} "
@@ -75,7 +74,7 @@ def expected_fields(asked):
 
 
 def expected_packet(asked):
-    """The tool's answer to `packet`."""
+    """Returns the expected answer of the tool to `packet`."""
     fields = asked.fields
     fragmented = "yes" if fields.offset > 0 or fields.more == 1 else "no"
     return [f"ipv6 header 40 exts 8 payload {asked.payload_len}",
@@ -83,12 +82,12 @@ def expected_packet(asked):
 
 
 def expected_rewritten(asked):
-    """The tool's answer to `rewrite6`."""
+    """Returns the expected answer of the tool to `rewrite6`."""
     return [f"next {asked.fields.next_header} rest {asked.payload_len}", f"written {written_of(asked.fields)}", "ok"]
 
 
 def hold(command, line_of, expected_of, all_asked):
-    """Ends the program with the first answer that differs from what is expected."""
+    """Runs a command on all lines. Ends the program at the first answer that isn't the expected one."""
     lines = [line_of(asked) for asked in all_asked]
     ran = subprocess.run(command, input="".join(line + "\n" for line in lines), text=True, capture_output=True)
     if ran.returncode != 0:
@@ -100,7 +99,7 @@ def hold(command, line_of, expected_of, all_asked):
         if ours != expected:
             sys.exit("a difference\n" + "\n".join([line, "scapy:", *expected, "ours:", *ours]))
     if list(told):
-        sys.exit(f"{' '.join(command)} answers more lines than it was asked")
+        sys.exit(f"{' '.join(command)} printed more lines than expected")
 
 
 def main():
@@ -110,8 +109,8 @@ def main():
     hold([ours, "fields"], lambda asked: asked.header.hex(), expected_fields, all_asked)
     hold([tool], lambda asked: f"packet {asked.packet.hex()}", expected_packet, all_asked)
     hold([tool], lambda asked: f"rewrite6 44 {asked.packet[40:].hex()}", expected_rewritten, all_asked)
-    print(f"{count} fragment headers built by scapy and {count} taken apart, from seed {seed}: "
-          "what is read, written and told of their packets is the same")
+    print(f"{count} fragment headers built by scapy and {count} parsed by it, from seed {seed}: "
+          "what is read, written and reported about their packets is the same")
 
 
 main()

@@ -1,21 +1,22 @@
 /*
- * wolfaren: chains of IP extension headers and packets, cut into plain numbers.
+ * wolfaren: parses chains of IP extension headers and IP packets into plain C structs.
  *
- * Extension headers: hop by hop options (0), routing (43), fragment (44) and destination options (60) of RFC 8200,
- * section 4, and authentication (51) of RFC 4302, section 2. An IPv4 packet has at most one, of authentication.
+ * The extension headers are hop-by-hop options (0), routing (43), fragment (44) and destination options (60) of
+ * RFC 8200, section 4, and authentication (51) of RFC 4302, section 2. An IPv4 packet has at most one extension header,
+ * an authentication header.
  *
  * For every call:
- *  - Bytes are a pointer and a length, and are read and never written. The pointer may be null where the length is 0.
- *    Nothing is read beyond the length, and no pointer is kept.
- *  - An array that is written is a pointer and a length in elements, and may be null where the length is 0. Nothing is
- *    written beyond the length. Elements that a call doesn't write stay as they were.
- *  - Every other pointer points to an object, and isn't null. What is written doesn't overlap what is read.
- *  - Any bytes, numbers and fields are a valid input. Each call ends, in time linear in the bytes.
- *  - There is no state and no allocation, so any thread may call anything at any time.
+ *  - Bytes to parse are passed as a pointer and a length. They are read and never written. The pointer may be null if
+ *    the length is 0. Nothing is read past the length, and no pointer is kept.
+ *  - An array to fill is passed as a pointer and a length in elements. The pointer may be null if the length is 0.
+ *    Nothing is written past the length. Elements that a call doesn't write keep their values.
+ *  - Every other pointer must be valid and non-null. Output must not overlap input.
+ *  - Any bytes, numbers and field values are valid input. Every call returns, within time linear in the bytes.
+ *  - The library has no state and allocates no memory, so any thread may make any call at any time.
  *
- * The library needs memcpy, memmove and memset, and nothing else. It is made for x86-64-v2 (SSE4.2) and the calling
- * convention of System V; it uses SSE registers and the red zone below the stack pointer, and less than 1 KB of stack.
- * So a kernel has to save SSE registers around its calls, and must not take an interrupt on the same stack.
+ * The library needs memcpy, memmove and memset, and nothing else. It is compiled for x86-64-v2 (SSE4.2) and the System
+ * V calling convention. It uses SSE registers, the red zone below the stack pointer, and less than 1 KB of stack. A
+ * kernel must therefore save the SSE registers around calls, and must not take an interrupt on the same stack.
  */
 #ifndef WOLFAREN_H
 #define WOLFAREN_H
@@ -28,14 +29,14 @@
 #define WOLFAREN_VERSION_MINOR 1
 #define WOLFAREN_VERSION_PATCH 0
 
-/* As one number, for #if: 10000 * major + 100 * minor + patch. */
+/* The version as one number, for #if: 10000 * major + 100 * minor + patch. */
 #define WOLFAREN_VERSION (10000 * WOLFAREN_VERSION_MAJOR + 100 * WOLFAREN_VERSION_MINOR + WOLFAREN_VERSION_PATCH)
 
 #ifdef __cplusplus
 extern "C" {
 #endif
 
-/* The numbers of extension headers, as IANA assigns them. */
+/* Protocol numbers of the extension headers, as assigned by IANA. */
 enum {
     WOLFAREN_HOP_BY_HOP = 0,
     WOLFAREN_ROUTING = 43,
@@ -44,243 +45,250 @@ enum {
     WOLFAREN_DESTINATION_OPTIONS = 60
 };
 
-/* What is wrong: the field `kind` of a fault. */
+/* Kinds of error: values of `kind` in struct wolfaren_fault. */
 enum {
-    /* Nothing. */
+    /* No error. */
     WOLFAREN_NO_FAULT = 0,
-    /* `layer` needs `required_len` bytes from `offset` on, and `len_source` says that there are `len`. */
+    /* `layer` needs `required_len` bytes starting at `offset`, but there are only `len`, as given by `len_source`. */
     WOLFAREN_TOO_SHORT = 1,
-    /* Hop by hop options are named behind another header. They stand directly behind the IPv6 header or nowhere. */
+    /* An extension header is followed by hop-by-hop options, which may only follow the IPv6 header directly. */
     WOLFAREN_HOP_BY_HOP_NOT_AT_START = 2,
-    /* The length field of an authentication header is 0, which is shorter than one can be. */
+    /* The length field of an authentication header is 0, which is below the minimum. */
     WOLFAREN_ZERO_PAYLOAD_LEN = 3,
-    /* The version of the packet is `value`, and neither 4 nor 6. */
+    /* The version of the packet is `value`, which is neither 4 nor 6. */
     WOLFAREN_UNSUPPORTED_IP_VERSION = 4,
-    /* The internet header length of an IPv4 packet is `value`, and below 5. */
+    /* The internet header length (IHL) of an IPv4 packet is `value`, which is below 5. */
     WOLFAREN_IPV4_HEADER_LENGTH = 5
 };
 
-/* The fields `header` and `layer` of a fault. */
+/* Headers and packets: values of `header` and `layer` in struct wolfaren_fault. */
 enum {
     WOLFAREN_NO_LAYER = 0,
-    WOLFAREN_IP_HEADER = 1, /* before its version is known */
+    WOLFAREN_IP_HEADER = 1, /* an IP header whose version isn't known yet */
     WOLFAREN_IPV4_HEADER = 2,
     WOLFAREN_IPV4_PACKET = 3,
     WOLFAREN_AUTHENTICATION_HEADER = 4,
     WOLFAREN_IPV6_HEADER = 5,
     WOLFAREN_IPV6_PACKET = 6,
-    WOLFAREN_IPV6_EXTENSION_HEADER = 7, /* hop by hop options, routing or destination options */
+    WOLFAREN_IPV6_EXTENSION_HEADER = 7, /* hop-by-hop options, routing or destination options */
     WOLFAREN_HOP_BY_HOP_HEADER = 8,
     WOLFAREN_DESTINATION_OPTIONS_HEADER = 9,
     WOLFAREN_ROUTING_HEADER = 10,
     WOLFAREN_FRAGMENT_HEADER = 11
 };
 
-/* What says how many bytes there are: the field `len_source`. */
+/* Where a length comes from: values of `len_source`. */
 enum {
     WOLFAREN_NO_LEN_SOURCE = 0,
-    WOLFAREN_SLICE = 1, /* the length that was handed in */
+    WOLFAREN_SLICE = 1, /* the `len` argument of the call */
     WOLFAREN_IPV4_TOTAL_LENGTH = 2,
     WOLFAREN_IPV6_PAYLOAD_LENGTH = 3
 };
 
-/* What is wrong. A field of which the kind says nothing is 0. */
+/* An error. Fields that don't apply to its kind are 0. */
 struct wolfaren_fault {
-    size_t required_len; /* how many bytes are needed */
-    size_t len;          /* how many there are */
-    size_t offset;       /* where what needs them begins, in bytes from the start of what was handed in */
+    size_t required_len; /* number of bytes needed */
+    size_t len;          /* number of bytes available */
+    size_t offset;       /* where the layer that needs them begins, in bytes from the start of the input */
     uint8_t kind;        /* WOLFAREN_NO_FAULT .. */
-    uint8_t header;      /* the header of a chain at which the fault lies; in a packet WOLFAREN_NO_LAYER */
-    uint8_t layer;       /* what needs the bytes */
-    uint8_t len_source;  /* what says `len` */
-    uint32_t value;      /* the version or the internet header length that is wrong */
+    uint8_t header;      /* the faulty extension header; WOLFAREN_NO_LAYER in errors about packets */
+    uint8_t layer;       /* the layer that needs the bytes */
+    uint8_t len_source;  /* where `len` comes from */
+    uint32_t value;      /* the invalid version or internet header length */
 };
 
-/* Where an extension header lies, and the numbers that it names. */
+/* The position of an extension header, and its protocol numbers. */
 struct wolfaren_header {
-    size_t offset;       /* where it begins, in bytes from the start of what was handed in */
-    size_t len;          /* how many bytes it has: 8 to 2048 */
-    uint8_t number;      /* its own number */
-    uint8_t next_header; /* the number of what follows it */
+    size_t offset;       /* where the header begins, in bytes from the start of the input */
+    size_t len;          /* length of the header in bytes: 8 to 2048 */
+    uint8_t number;      /* the header's own protocol number */
+    uint8_t next_header; /* the next header field: the number of what follows */
 };
 
-/* The longest chain of extension headers that begins some bytes, and what ends it. */
+/* The longest chain of extension headers at the start of the input, and the error that ended it, if any. */
 struct wolfaren_chain {
-    size_t headers;              /* how many headers it has */
-    size_t len;                  /* how many bytes they have: what follows begins there, and there a fault lies */
-    struct wolfaren_fault fault; /* what is wrong there, if anything */
-    uint32_t next_header;        /* the number of what follows */
-    uint32_t fragmented;         /* 1 where some fragment header of the chain fragments the payload, else 0 */
+    size_t headers;              /* number of headers in the chain */
+    size_t len;                  /* length of the chain in bytes: what follows it, or the error, is at this offset */
+    struct wolfaren_fault fault; /* the error that ended the chain, if any */
+    uint32_t next_header;        /* the protocol number of what follows the chain */
+    uint32_t fragmented;         /* 1 if a fragment header of the chain fragments the payload, else 0 */
 };
 
 /*
- * Cuts the longest chain of IPv6 extension headers that begins the `len` bytes, where `first` is the number of the
- * first: of a packet the next header field of the IPv6 header, or of the header before. The headers are linked by
- * their numbers and lie whole within the bytes, and hop by hop options are only first.
+ * Parses the longest chain of IPv6 extension headers at the start of the `len` bytes. `first` is the protocol number of
+ * the first header: the next header field of the IPv6 header or of the preceding extension header. Each header of the
+ * chain is named by the next header field before it and lies completely within the bytes. Hop-by-hop options are only
+ * accepted as the first header.
  *
- * Writes all of `chain`, and to `headers` where each header lies, in their order and as many as fit; `chain->headers`
- * counts all, so that the array was too short where it is above `room`.
+ * Fills in `chain`, and stores the position of each header in `headers`, in order, as many as fit. `chain->headers` is
+ * the total number of headers: if it exceeds `room`, the array was too short.
  *
- * There is no fault where the number behind the chain is no extension number: 6 for TCP, 17 for UDP, 59 for nothing.
+ * There is no error if the number after the chain is not that of an extension header, such as 6 for TCP, 17 for UDP or
+ * 59 for no next header.
  *
- * What follows a fragment header is read as headers whatever its offset says. Behind one whose offset isn't 0 it is the
- * middle of a payload: who doesn't want that cut stops there, by wolfaren_next_header and wolfaren_fragment_fields.
+ * The bytes after a fragment header are parsed as headers whatever its fragment offset is. If the offset isn't 0, they
+ * are in fact from the middle of a payload. To avoid this, walk the chain with wolfaren_next_header, read each fragment
+ * header with wolfaren_fragment_fields, and stop there.
  */
 void wolfaren_cut_chain(uint8_t first, const uint8_t *bytes, size_t len, struct wolfaren_header *headers, size_t room,
                         struct wolfaren_chain *chain);
 
 /*
- * The same of IPv4, where `first` is the protocol field of the IPv4 header: at most one header, of authentication. What
- * follows it isn't looked at. `chain->fragmented` is 0: whether the payload is a fragment is said by the IPv4 header.
+ * Parses the IPv4 extension header at the start of the `len` bytes: at most one authentication header. `first` is the
+ * protocol field of the IPv4 header. Fills in `chain` and `headers` as wolfaren_cut_chain does. What follows the header
+ * isn't examined. `chain->fragmented` is 0: for IPv4, the IP header says whether the payload is a fragment.
  */
 void wolfaren_cut_ipv4_chain(uint8_t first, const uint8_t *bytes, size_t len, struct wolfaren_header *headers,
                              size_t room, struct wolfaren_chain *chain);
 
 /*
- * How far a caller has come in a chain: `{0, first}` at its start. Any two numbers are a cursor, which tells of what
- * lies behind its offset, and only at offset 0 are hop by hop options a header.
+ * A position in a chain. A walk starts at `{0, first}`. Any offset and number are a valid cursor: it then stands for
+ * the chain that starts at that offset with that number. Hop-by-hop options are accepted at offset 0 only.
  */
 struct wolfaren_cursor {
-    size_t offset;  /* how many bytes are behind */
-    uint8_t number; /* the number of what begins there */
+    size_t offset;  /* number of bytes before the cursor */
+    uint8_t number; /* the protocol number of what begins at `offset` */
 };
 
 /*
- * A step along the IPv6 chain in the `len` bytes, which are the same for each step. Where a header goes on at the
- * cursor, writes where it lies to `header`, puts the cursor behind it, and answers true. Else writes nothing and answers
- * false, and the cursor says where the chain ends, and with which number.
+ * Advances a cursor by one header of the IPv6 chain in the `len` bytes. Pass the same bytes in each step.
+ *
+ * Returns true if there is a header at the cursor: its position is stored in `header`, and the cursor moves to the
+ * first byte after it. Otherwise returns false and writes nothing: the cursor is at the end of the chain, and its
+ * number is the one after the chain.
  */
 bool wolfaren_next_header(struct wolfaren_cursor *cursor, const uint8_t *bytes, size_t len,
                           struct wolfaren_header *header);
 
 /*
- * Writes to `fault` what is wrong at the cursor: WOLFAREN_NO_FAULT where a header goes on, and where the number is no
- * extension number.
+ * Stores in `fault` the error at the cursor. It is WOLFAREN_NO_FAULT if there is a header at the cursor, or if the
+ * number there is not that of an extension header.
  */
 void wolfaren_fault_at(const struct wolfaren_cursor *cursor, const uint8_t *bytes, size_t len,
                        struct wolfaren_fault *fault);
 
-/* A packet: its base header, its extension headers and its payload, one behind the other. */
+/* A packet: the IP header, then the extension headers, then the payload. */
 struct wolfaren_packet {
-    size_t base_len;         /* how many bytes the base header has: the extension headers begin there */
-    size_t headers;          /* how many extension headers there are */
+    size_t base_len;         /* length of the IP header in bytes: the extension headers begin at this offset */
+    size_t headers;          /* number of extension headers */
     size_t payload_offset;   /* where the payload begins, in bytes from the start of the packet */
-    size_t payload_len;      /* how many bytes it has: what is behind it doesn't belong to the packet */
+    size_t payload_len;      /* length of the payload in bytes: what follows isn't part of the packet */
     uint16_t version;        /* 4 or 6 */
-    uint16_t payload_number; /* the number of the payload: 6 for TCP, 17 for UDP, .. */
-    uint16_t fragmented;     /* 1 where the payload is a fragment and not the whole, else 0 */
-    uint16_t len_source;     /* what says where the payload ends */
+    uint16_t payload_number; /* the protocol number of the payload: 6 for TCP, 17 for UDP, .. */
+    uint16_t fragmented;     /* 1 if the payload is a fragment, 0 if it is complete */
+    uint16_t len_source;     /* where the end of the payload comes from */
 };
 
 /*
- * Cuts the packet that begins the `len` bytes. It ends where its total length (IPv4) or payload length (IPv6) says; an
- * IPv6 packet with payload length 0 has all the bytes, as a jumbogram has (RFC 2675). The packet has to be whole, and so
- * have its extension headers.
+ * Parses the IP packet at the start of the `len` bytes. The packet ends where its total length (IPv4) or payload length
+ * (IPv6) says. An IPv6 packet with payload length 0 extends to the end of the bytes, as a jumbogram does (RFC 2675).
+ * The packet and its extension headers must be complete.
  *
- * Where nothing is wrong, answers true and writes all of `packet`, and to `headers` as wolfaren_cut_chain does, but with
- * offsets from the start of the packet; `fault` stays as it was. Else answers false and writes what is wrong to `fault`;
- * `packet` and `headers` stay as they were. Of a length, `fault->offset` says where.
+ * On success, returns true, fills in `packet`, and stores the headers' positions in `headers` as wolfaren_cut_chain
+ * does, but with offsets from the start of the packet; `fault` is left unchanged. On error, returns false and stores
+ * the error in `fault`; `packet` and `headers` are left unchanged. `fault->offset` is set for WOLFAREN_TOO_SHORT.
  */
 bool wolfaren_cut_packet(const uint8_t *bytes, size_t len, struct wolfaren_header *headers, size_t room,
                          struct wolfaren_packet *packet, struct wolfaren_fault *fault);
 
 /*
- * The same of an IPv6 packet that may be cut short, as in a capture: where there are fewer bytes than its payload length
- * states, all of them belong to it, and `packet->len_source` is WOLFAREN_SLICE. Its extension headers still have to be
- * whole, and so has an IPv4 packet.
+ * Parses an IP packet like wolfaren_cut_packet, but accepts an IPv6 packet that is truncated, as in a capture. If there
+ * are fewer bytes than its payload length states, the packet extends to the end of the bytes and `packet->len_source`
+ * is WOLFAREN_SLICE. Its extension headers must still be complete. An IPv4 packet must be complete.
  */
 bool wolfaren_cut_packet_lax(const uint8_t *bytes, size_t len, struct wolfaren_header *headers, size_t room,
                              struct wolfaren_packet *packet, struct wolfaren_fault *fault);
 
-/* The payload of a packet, and where the headers before it begin. Fields mean what they mean in wolfaren_packet. */
+/* The payload of a packet. The fields mean the same as in struct wolfaren_packet. */
 struct wolfaren_payload {
-    size_t base_len;     /* how many bytes the base header has: the extension headers begin there, and end at `offset` */
+    size_t base_len;     /* length of the IP header in bytes: the extension headers begin here and end at `offset` */
     size_t offset;       /* where the payload begins, in bytes from the start of the packet */
-    size_t len;          /* how many bytes it has */
+    size_t len;          /* length of the payload in bytes */
     uint16_t version;    /* 4 or 6 */
-    uint16_t number;     /* the number of the payload */
-    uint16_t fragmented; /* 1 where the payload is a fragment and not the whole, else 0 */
-    uint16_t len_source; /* what says where the payload ends */
+    uint16_t number;     /* the protocol number of the payload */
+    uint16_t fragmented; /* 1 if the payload is a fragment, 0 if it is complete */
+    uint16_t len_source; /* where the end of the payload comes from */
 };
 
 /*
- * Finds the payload of the packet that begins the `len` bytes. It takes and refuses what wolfaren_cut_packet does and
- * looks at each extension header, but neither counts them nor says where they lie, and so takes less time: it is the
- * call for a filter.
+ * Finds the payload of the IP packet at the start of the `len` bytes. Accepts and rejects the same packets as
+ * wolfaren_cut_packet, and checks each extension header, but neither counts the headers nor reports their positions.
+ * That makes it faster, and the call to use in a filter.
  *
- * Where nothing is wrong, answers true and writes all of `payload`; `fault` stays as it was. Else answers false and
- * writes what is wrong to `fault`; `payload` stays as it was.
+ * On success, returns true and fills in `payload`; `fault` is left unchanged. On error, returns false and stores the
+ * error in `fault`; `payload` is left unchanged.
  */
 bool wolfaren_find_payload(const uint8_t *bytes, size_t len, struct wolfaren_payload *payload,
                            struct wolfaren_fault *fault);
 
-/* The same of a packet that may be cut short, as wolfaren_cut_packet_lax takes it. */
+/* Finds a payload like wolfaren_find_payload, and accepts the same truncated packets as wolfaren_cut_packet_lax. */
 bool wolfaren_find_payload_lax(const uint8_t *bytes, size_t len, struct wolfaren_payload *payload,
                                struct wolfaren_fault *fault);
 
 /* The fields of a fragment header (RFC 8200, section 4.5). */
 struct wolfaren_fragment {
-    uint32_t identification;  /* the number that the fragments of one packet share */
+    uint32_t identification;  /* shared by all fragments of a packet */
     uint16_t fragment_offset; /* where the fragment lies in the payload, in units of 8 bytes */
-    uint8_t more_fragments;   /* 1 where more fragments of the payload follow, else 0 */
-    uint8_t next_header;      /* the number of what follows the header */
+    uint8_t more_fragments;   /* 1 if more fragments follow, 0 if this is the last */
+    uint8_t next_header;      /* the protocol number of what follows the header */
 };
 
 /*
- * Where a fragment header begins the `len` bytes, writes its fields and answers true. Else there are fewer than 8 bytes:
- * writes nothing and answers false.
+ * Reads the fields of the fragment header at the start of the `len` bytes, and returns true. If there are fewer than 8
+ * bytes, returns false and writes nothing.
  */
 bool wolfaren_fragment_fields(const uint8_t *bytes, size_t len, struct wolfaren_fragment *fields);
 
 /* The fields of an authentication header (RFC 4302, section 2). */
 struct wolfaren_authentication {
-    size_t len;               /* how many bytes the header has; from byte 12 on they are the integrity check value */
+    size_t len;               /* length of the header in bytes; the integrity check value begins at byte 12 */
     uint32_t spi;             /* the security parameters index */
-    uint32_t sequence_number; /* the sender's count of packets */
-    uint8_t next_header;      /* the number of what follows the header */
+    uint32_t sequence_number; /* the sender's packet counter */
+    uint8_t next_header;      /* the protocol number of what follows the header */
 };
 
 /*
- * Where an authentication header begins the `len` bytes, writes its fields and answers true. Else writes nothing and
- * answers false.
+ * Reads the fields of the authentication header at the start of the `len` bytes, and returns true. If there is no valid
+ * authentication header, returns false and writes nothing.
  */
 bool wolfaren_authentication_fields(const uint8_t *bytes, size_t len, struct wolfaren_authentication *fields);
 
 /*
- * Leads each header to the next in the array, and the last to `last`: changes `next_header` of each, and nothing else.
- * Answers the number of the first, to which what is before the headers has to lead, or `last` where there are none.
+ * Links the headers in the array: sets `next_header` of each to the `number` of the one after it, and that of the last
+ * to `last`. Changes nothing else. Returns the number of the first header, which is the value for the next header field
+ * before it, or `last` if `count` is 0.
  */
 uint8_t wolfaren_link_headers(struct wolfaren_header *headers, size_t count, uint8_t last);
 
 /*
- * How many of the headers, from the first on, have a place each of their own: hop by hop options, destination options,
- * routing, fragment and authentication headers one at most, and destination options one more behind the routing header
- * (RFC 8200, section 4.1). Ends before the first header whose place is filled, or whose number is that of no extension
- * header. Of a chain these are the headers that one struct `Ipv6Extensions` takes; called again for what is behind them,
- * it tells those of the next. Reads the numbers alone, and at most 7 elements.
+ * Returns how many headers, counted from the first, fit into one struct `Ipv6Extensions`. It has a place for one header
+ * each of hop-by-hop options, destination options, routing, fragment and authentication, and for a second destination
+ * options header after the routing header (RFC 8200, section 4.1). The count ends before the first header whose place
+ * is occupied or whose number is not that of an extension header. To partition a longer chain, call again with the
+ * headers that are left. Reads only the numbers, of at most 7 elements.
  */
 size_t wolfaren_run_len(const struct wolfaren_header *headers, size_t count);
 
 /*
- * Writes headers from where they lie in the `len` bytes to the front of `out`, one behind the other in the order of the
- * array: each with the `next_header` of its element, and with its reserved bits zero. So a chain is written in another
- * order, or without some of its headers, by an array that was linked anew. Where the elements are linked, and hop by hop
- * options are only first, what is written is a chain again from the number of the first.
+ * Copies headers from the `len` bytes to the start of `out`, one after another in the order of the array. Each is
+ * written with the `next_header` of its element, and with its reserved bits cleared. To reorder or remove headers,
+ * rearrange the array and link it with wolfaren_link_headers. If the elements are linked, and hop-by-hop options come
+ * first or not at all, the output is a chain that starts with the number of the first element.
  *
- * Where all were written, answers true and puts how many bytes they have into `written`. Else nothing is written and the
- * answer is false: `*written` is how many bytes they would have, which is above `room`, or 0 where some element doesn't
- * lie within the bytes or isn't just one header of its number.
+ * On success, returns true and stores the number of bytes written in `*written`. Otherwise writes nothing to `out`,
+ * returns false, and sets `*written` to the number of bytes needed if that exceeds `room`, or to 0 if an element
+ * doesn't lie within the bytes or isn't exactly one header of its number.
  */
 bool wolfaren_write_headers(const uint8_t *bytes, size_t len, const struct wolfaren_header *headers, size_t count,
                             uint8_t *out, size_t room, size_t *written);
 
-/* Room for every text of a fault and the zero behind it, in bytes. */
+/* A buffer size, in bytes, that is large enough for every text of wolfaren_fault_text and its terminating null byte. */
 #define WOLFAREN_TEXT_ROOM 256
 
 /*
- * Says the fault in words: writes them and a zero behind them to the `room` bytes of `text`, and answers how many
- * bytes the words have, without the zero. Where the answer isn't below `room`, nothing is written. A fault of which no
- * call tells, as one of kind WOLFAREN_NO_FAULT or of an unknown kind, has no words: the answer is 0.
+ * Formats the fault as text: writes it and a terminating null byte to `text`, which has `room` bytes. Returns the
+ * length of the text in bytes, without the null byte. If the return value is `room` or more, nothing is written.
+ * Returns 0 for a fault that no call reports, such as one of kind WOLFAREN_NO_FAULT or of an unknown kind.
  */
 size_t wolfaren_fault_text(const struct wolfaren_fault *fault, char *text, size_t room);
 

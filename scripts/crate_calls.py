@@ -1,5 +1,5 @@
-"""The calls of a crate of Rattle, read from its code: signatures, clauses and ghost members, for the scripts that compare
-documents with the code."""
+"""Reads the calls of a Rattle crate from its code, with signatures, clauses and ghost members, for the scripts that
+compare documents with the code."""
 
 import glob
 import os
@@ -21,8 +21,7 @@ SIGN = re.compile(r"->|'\w+|\w+(?:::\w+)*|\S")
 
 
 class Call:
-    """A function, a trait or an impl of the code, with the modules and the type that it is in: its signature, clauses
-    and ghost members."""
+    """A function, a trait or an impl, with its modules and its type, signature, clauses and ghost members."""
 
     def __init__(self, label, where, is_public, is_of_trait=False):
         self.label, self.where, self.is_public, self.is_of_trait = label, where, is_public, is_of_trait
@@ -44,14 +43,14 @@ class Signature:
         self.result = signs[close + 2 :]
 
     def written_out(self, names, of_self):
-        """Returns the signature with the whole path of each name, and the type for `Self`."""
+        """Returns the signature with full paths, and the type instead of `Self`."""
         for each in [*self.generics, *self.arguments, self.result]:
             each[:] = [whole for it in each for whole in (of_self if it == "Self" else [whole_path(it, names)])]
         return self
 
 
 class File:
-    """The calls in a file of code, which is laid out by `rt fmt`."""
+    """Collects the calls in a source file, which must be formatted by `rt fmt`."""
 
     def __init__(self, path, folder):
         text = with_own_names(read(path))
@@ -63,7 +62,7 @@ class File:
             self.take(line, lines[number:])
 
     def take(self, line, after):
-        """Takes a line; those after it may continue it."""
+        """Reads a line, which may continue in the next lines."""
         if line == "}":
             self.owner = self.call = None
         elif (at := IMPL.match(line)) or (at := TRAIT.match(line)):
@@ -81,7 +80,7 @@ class File:
             self.call = None
 
     def take_owner(self, at):
-        """Takes the first line of an impl or of a trait."""
+        """Reads the first line of an impl or a trait."""
         self.call, named = None, at.groupdict()
         if "name" in named:
             self.owner = Call(f"trait {at['name']}", [*self.modules, at["name"]], True)
@@ -94,7 +93,7 @@ class File:
             self.calls.append(self.owner)
 
     def take_fn(self, fn, after):
-        """Takes the first line of a function."""
+        """Reads the first line of a function."""
         owner = self.owner if fn["at"] else None
         is_in_trait = bool(owner) and owner.label.startswith("trait ")
         is_of_trait = is_in_trait or bool(owner) and not owner.label.startswith(" for ")
@@ -107,7 +106,7 @@ class File:
             self.call = None
 
     def take_clause(self, clause, after):
-        """Takes the first line of a clause of the last function."""
+        """Reads the first line of a clause of the last function."""
         named = (clause["kind"], clause["name"] or "")
         self.call.clauses[named] = braced(clause["text"], after)
         if self.owner and self.call.where is self.owner.where and " for " in self.owner.label:
@@ -126,7 +125,7 @@ def modules_of(path, folder):
 
 
 def braced(text, lines):
-    """Returns the text, which goes on in the lines, up to the brace that closes the one before it."""
+    """Returns the text, which continues in the lines, up to the brace that closes the one before it."""
     for line in lines:
         if text.count("}") > text.count("{"):
             break
@@ -135,7 +134,7 @@ def braced(text, lines):
 
 
 def heading(text, lines):
-    """Returns the signature that begins with the text; it ends where the clauses or the body begin."""
+    """Returns the signature that begins with the text and ends before the clauses or the body."""
     for line in lines:
         if text.endswith(("{", ";")) or re.match(r"(?:requires|ensures)\b|\{", line.strip()):
             break
@@ -154,7 +153,7 @@ def closing(signs, at):
 
 
 def parts(signs):
-    """Returns the parts that commas separate, those in brackets aside."""
+    """Splits at commas, except those in brackets."""
     found, depth = [[]], 0
     for it in signs:
         depth += (it in tuple("([<{")) - (it in tuple(")]>}"))
@@ -177,7 +176,7 @@ def imported(tree):
 
 
 def names_in_scope(text, folders):
-    """Returns the names that a file in these folders imports or defines, each with its path; those of std are left out."""
+    """Returns the names that a file in these folders imports or defines, each with its path, except those of std."""
     found = {name: "::".join(["crate", *folders, name]) for name in DEFINED.findall(text)}
     text = re.sub(r"^use super::", "".join(f"{it}::" for it in ("use crate", *folders)), text, flags=re.M)
     found |= dict(it for tree in USE.findall(text) for it in imported(tree))
@@ -185,20 +184,20 @@ def names_in_scope(text, folders):
 
 
 def whole_path(sign, names):
-    """Returns a name with its whole path, and any other sign as it is."""
+    """Returns a name with its full path, and any other sign unchanged."""
     first, colons, rest = sign.partition("::")
     return names.get(first, first) + colons + rest
 
 
 def with_own_names(text):
-    """Returns the text with each name as it is, where an import gives it another one."""
+    """Returns the text with the original names of renamed imports."""
     for name, renamed in re.findall(r"(\w+) as (\w+)", " ".join(RENAMED.findall(text))):
         text = re.sub(rf"\b{renamed}\b", name, text)
     return text
 
 
 def calls_of_crate(folder):
-    """Returns the calls of a crate. One in a private module is public where the root file re-exports it."""
+    """Returns the calls of a crate. A call in a private module is public if the root file re-exports it."""
     paths = sorted(glob.glob(f"{folder}/src/**/*.rt", recursive=True))
     found = [call for it in paths for call in File(it, folder).calls]
     root = read(f"{folder}/src/lib.rt")
@@ -210,7 +209,7 @@ def calls_of_crate(folder):
 
 
 def without_crate(path):
-    """Returns the names of a path after those of crates and `err`, under which other crates show what is in it."""
+    """Returns the names of a path without the crate and `err`, since other crates re-export items under these."""
     names = path.split("::")
     while len(names) > 1 and names[0] in ("crate", "err", *CRATES):
         names = names[1:]
@@ -218,7 +217,7 @@ def without_crate(path):
 
 
 def is_same_sign(said, says):
-    """Returns whether a listed sign is that of the code. A path may be shortened, unless it is one of `std::io`."""
+    """Returns whether a listed sign is the one in the code. A path may be shortened, except one of `std::io`."""
     if says.startswith("io::"):
         return said == says
     said, says = without_crate(said), without_crate(says)

@@ -1,5 +1,5 @@
-// Refuses one of a program's allocations: the one whose number is in REFUSED_ALLOCATION, counted from 1. Loaded before
-// the C library, of which it takes the others.
+// Refuses one of a program's allocations: the one whose number is in REFUSED_ALLOCATION, counted from 1. To be preloaded;
+// the C library serves all other allocations.
 #define _GNU_SOURCE
 #include <dlfcn.h>
 #include <stdlib.h>

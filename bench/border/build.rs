@@ -1,4 +1,4 @@
-//! Compiles `SHIFT` bytes that stand before the library and move its code.
+//! Compiles a block of `SHIFT` bytes that precedes the library and moves its code.
 use std::env;
 use std::path::{Path, PathBuf};
 use std::process::Command;

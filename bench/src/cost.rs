@@ -1,5 +1,5 @@
-//! Our time for each byte of inputs that are made to take long, at three lengths. It has to be flat: a parse or a run
-//! that looked at its bytes twice as often in an input twice as long would show here.
+//! Measures our time per byte for inputs designed to be slow, at three lengths. It must be constant: a parse or a
+//! run whose time grows faster than the input would show up here.
 use crate::inputs::{self, AUTH, DEST_OPTIONS, FRAGMENT, HOP_BY_HOP};
 use crate::ours::{self, ChainCall};
 use crate::tool;
@@ -9,16 +9,16 @@ use std::io::Write;
 use std::path::Path;
 use std::time::Instant;
 
-/// How much longer a byte may take in a longer input.
+/// How much more time a byte may take in a longer input.
 const GROWTH: f64 = 1.1;
 
-/// How many times as many runs a row gets at most that isn't flat.
+/// How many times as many runs a row that isn't constant gets at most.
 const ROUNDS: usize = 8;
 
-/// How many bytes are parsed for one time, however short the input.
+/// How many bytes are parsed per measurement, however short the input.
 const TIMED_LEN: usize = 1 << 20;
 
-/// How many bytes of lines the tool answers for one time.
+/// How many bytes of lines the tool answers per measurement.
 const LINES_LEN: usize = 16 << 20;
 
 /// Lengths of inputs of calls, and of lines.
@@ -27,7 +27,7 @@ const LENS: [usize; 3] = [1 << 10, 1 << 16, 1 << 20];
 /// Lengths of lines that the tool answers; longer ones are bad lines.
 const LINE_LENS: [usize; 3] = [512, 2048, 8192];
 
-/// A row: what is timed, and the least nanoseconds for a byte at each length.
+/// A row: what is timed, and the minimum time per byte in nanoseconds at each length.
 struct Row {
     name: String,
     lens: [usize; 3],
@@ -35,7 +35,7 @@ struct Row {
 }
 
 impl Row {
-    /// Whether no length takes more for a byte than the one before it.
+    /// Whether no length takes more time per byte than the one before it.
     fn is_flat(&self) -> bool {
         self.times
             .windows(2)
@@ -43,7 +43,7 @@ impl Row {
     }
 }
 
-/// Times all rows, prints them, and tells whether all are flat. `file` is where lines are put.
+/// Times all rows and prints them. Returns whether all are constant. `file` is where lines are written.
 pub fn cost(tool: &str, file: &Path, runs: usize) -> bool {
     let mut rows = call_rows(runs);
     rows.extend(tool_rows(tool, file, runs));
@@ -60,7 +60,7 @@ pub fn cost(tool: &str, file: &Path, runs: usize) -> bool {
     rows.iter().all(Row::is_flat)
 }
 
-/// A length in words.
+/// Formats a length.
 fn length(len: usize) -> String {
     match len {
         0..1024 => format!("{len} bytes"),
@@ -69,10 +69,10 @@ fn length(len: usize) -> String {
     }
 }
 
-/// A chain of about so many bytes, its start number, and what it is.
+/// A chain: what it is, its start number, and a function that makes it with about the given length.
 type Chain = (&'static str, u8, fn(usize) -> Vec<u8>);
 
-/// Chains of the shortest headers, with and without a fault at their end.
+/// Chains of the shortest headers, with and without an error at the end.
 const CHAINS: [Chain; 5] = [
     ("options of 8 bytes each", DEST_OPTIONS, |len| {
         same(DEST_OPTIONS, [0; 7], len, 17)
@@ -94,7 +94,7 @@ const CHAINS: [Chain; 5] = [
     }),
 ];
 
-/// Headers of 8 bytes of one number, of which the last leads to `last`.
+/// Makes headers of 8 bytes with one number. The next header field of the last is `last`.
 fn same(number: u8, behind: [u8; 7], len: usize, last: u8) -> Vec<u8> {
     let mut bytes = [&[number][..], &behind].concat().repeat(len / 8);
     if let Some(next) = bytes.iter_mut().rev().nth(7) {
@@ -103,7 +103,7 @@ fn same(number: u8, behind: [u8; 7], len: usize, last: u8) -> Vec<u8> {
     bytes
 }
 
-/// The calls that go through a whole chain.
+/// The calls that walk a whole chain.
 fn call_rows(runs: usize) -> Vec<Row> {
     let calls: [(&str, ChainCall); 5] = [
         ("lax parse", ours::ipexts_lax),
@@ -124,7 +124,7 @@ fn call_rows(runs: usize) -> Vec<Row> {
     rows
 }
 
-/// The nanoseconds for a byte of some calls one after the other.
+/// Times calls one after another. Returns nanoseconds per byte.
 fn over_bytes(call: ChainCall, start: u8, bytes: &[u8]) -> f64 {
     let times = TIMED_LEN / bytes.len();
     let begin = Instant::now();
@@ -135,8 +135,8 @@ fn over_bytes(call: ChainCall, start: u8, bytes: &[u8]) -> f64 {
     begin.elapsed().as_nanos() as f64 / (times * bytes.len()) as f64
 }
 
-/// A row with the least time at each length; the lengths take turns. One that isn't flat is run again, since other work
-/// on the machine only adds.
+/// Measures a row: the minimum time at each length, with the lengths taking turns. A row that isn't constant is
+/// run again, since other load on the machine can only add time.
 fn row(name: String, lens: [usize; 3], runs: usize, once: impl Fn(usize) -> f64) -> Row {
     let mut row = Row {
         name,
@@ -156,10 +156,10 @@ fn row(name: String, lens: [usize; 3], runs: usize, once: impl Fn(usize) -> f64)
     row
 }
 
-/// Lines of about so many bytes, and what they are.
+/// Lines: what they are, and a function that makes them with about the given length.
 type Lines = (&'static str, [usize; 3], fn(usize) -> Vec<u8>);
 
-/// Lines that are long, many or dear to answer.
+/// Lines that are long, many or expensive to answer.
 const LINES: [Lines; 6] = [
     ("lines of digits", LENS, |len| line("exts6 60 ", b"0", len)),
     ("lines of spaces", LENS, |len| line("", b" ", len)),
@@ -189,7 +189,7 @@ const LINES: [Lines; 6] = [
     ),
 ];
 
-/// A line of at most so many bytes with its newline: its first words, and then the same again and again.
+/// Makes a line of at most `len` bytes including its newline: a prefix, and then a part repeated.
 fn line(words: &str, again: &[u8], len: usize) -> Vec<u8> {
     let mut line = words.as_bytes().to_vec();
     line.extend(again.repeat((len - words.len() - 1) / again.len()));
@@ -197,7 +197,7 @@ fn line(words: &str, again: &[u8], len: usize) -> Vec<u8> {
     line
 }
 
-/// The tool, on inputs of the same length that are made of longer and longer lines.
+/// Times the tool, on inputs of one length that consist of longer and longer lines.
 fn tool_rows(tool: &str, file: &Path, runs: usize) -> Vec<Row> {
     let mut rows = Vec::new();
     for (what, lens, make) in LINES {

@@ -1,5 +1,5 @@
-//! What is measured: packets like real traffic, regular chains, and bytes that are refused. The original is given the
-//! same headers with the bits of fragment headers in its own layout, which are put there when the bytes are made.
+//! Makes the inputs: packets like real traffic, regular chains, and bytes that are rejected. The original gets the
+//! same headers with the bits of fragment headers in its own layout, converted when the inputs are made.
 use crate::fragment_bits::{self, to_the_original};
 use crate::random::Random;
 
@@ -10,7 +10,7 @@ pub const AUTH: u8 = 51;
 pub const DEST_OPTIONS: u8 = 60;
 const UDP: u8 = 17;
 
-/// The numbers of the six places, in their order.
+/// The header numbers of the six places, in order.
 const PLACES: [u8; 6] = [
     HOP_BY_HOP,
     DEST_OPTIONS,
@@ -20,7 +20,7 @@ const PLACES: [u8; 6] = [
     DEST_OPTIONS,
 ];
 
-/// A chain of headers from a number, with some bytes behind it, for both sides.
+/// A chain of headers with its start number, followed by some bytes, for both sides.
 #[derive(Clone)]
 pub struct Chain {
     pub start: u8,
@@ -47,7 +47,7 @@ pub struct Sides {
 }
 
 impl Sides {
-    /// The packets, which are kept as long as the program runs.
+    /// The packets, which live until the program ends.
     pub fn new(packets: Packets) -> Sides {
         let original = packets.for_the_original();
         Sides {
@@ -57,11 +57,11 @@ impl Sides {
     }
 }
 
-/// Packets one after the other.
+/// Packets, one after another.
 pub struct Packets {
     pub bytes: Vec<u8>,
     pub ends: Vec<usize>,
-    /// The bytes of all chains together.
+    /// Returns the total length of all chains in bytes.
     pub chains_len: usize,
 }
 
@@ -74,7 +74,7 @@ impl Packets {
             .collect()
     }
 
-    /// The same packets as the original is given them.
+    /// Converts the packets to the layout of the original.
     fn for_the_original(&self) -> Packets {
         let each = self.each().into_iter();
         Packets {
@@ -87,8 +87,8 @@ impl Packets {
     }
 }
 
-/// IPv6 packets without a fault: 0 to 4 extension headers in the order of RFC 8200, section 4.1, fewer more
-/// often, with a payload of some hundred bytes.
+/// Makes valid IPv6 packets with 0 to 4 extension headers in the order of RFC 8200, section 4.1. Fewer headers are
+/// more frequent. Payloads have some hundred bytes.
 pub fn packets(count: usize, seed: u64) -> Packets {
     let mut random = Random::new(seed);
     let mut packets = Packets {
@@ -116,7 +116,7 @@ pub fn packets(count: usize, seed: u64) -> Packets {
     packets
 }
 
-/// The numbers of a packet's headers: a choice of the six places, in their order.
+/// Chooses the headers of a packet: a subset of the six places, in order.
 fn numbers(random: &mut Random) -> Vec<u8> {
     let count = match random.below(100) {
         0..40 => 0,
@@ -127,7 +127,7 @@ fn numbers(random: &mut Random) -> Vec<u8> {
     };
     let mut chosen = [false; 6];
     while chosen.iter().filter(|chosen| **chosen).count() < count {
-        // An authentication header and last options are rarer than the others.
+        // Authentication headers and final destination options are rarer than the others.
         let place = random.below(6);
         chosen[place] |= place < 4 || random.percent(50);
     }
@@ -155,7 +155,7 @@ fn payload_len(random: &mut Random) -> usize {
     }
 }
 
-/// Headers of these numbers, linked, of lengths as they occur.
+/// Makes linked headers with these numbers, with realistic lengths.
 pub fn chain_of(numbers: &[u8], last: u8, random: &mut Random) -> Vec<u8> {
     let mut bytes = Vec::new();
     for (index, number) in numbers.iter().enumerate() {
@@ -175,8 +175,8 @@ pub fn chain_of(numbers: &[u8], last: u8, random: &mut Random) -> Vec<u8> {
     bytes
 }
 
-/// A regular chain of so many headers, and 16 bytes behind it: destination options, routing and fragment headers in
-/// turn.
+/// Makes a regular chain of `count` headers, followed by 16 bytes: destination options, routing and fragment
+/// headers in turn.
 pub fn regular(count: usize) -> Chain {
     let mut random = Random::new(7);
     let numbers: Vec<u8> = (0..count)
@@ -197,8 +197,8 @@ pub fn regular(count: usize) -> Chain {
     Chain::new(*numbers.first().unwrap_or(&UDP), bytes)
 }
 
-/// A chain through all six places, and 16 bytes behind it. Headers of the common layout have `len` bytes, the
-/// authentication header half of that and 8.
+/// Makes a chain that fills all six places, followed by 16 bytes. Headers in the uniform format (RFC 6564) have
+/// `len` bytes, the authentication header half of that plus 8.
 pub fn full(len: usize) -> Chain {
     let mut random = Random::new(13);
     let mut bytes = Vec::new();
@@ -216,7 +216,7 @@ pub fn full(len: usize) -> Chain {
     Chain::new(HOP_BY_HOP, bytes)
 }
 
-/// So many fragment headers, which lead to UDP.
+/// Makes `count` fragment headers, followed by UDP.
 pub fn fragments(count: usize) -> Chain {
     let mut random = Random::new(17);
     let mut bytes = Vec::new();
@@ -227,7 +227,8 @@ pub fn fragments(count: usize) -> Chain {
     Chain::new(FRAGMENT, bytes)
 }
 
-/// Bytes that are refused: why, the number of the header at which, and its bytes, none of a whole fragment header.
+/// Bytes that are rejected: the reason, the number of the faulty header, and its bytes. None contains a complete
+/// fragment header.
 pub fn refusals() -> Vec<(&'static str, u8, Vec<u8>)> {
     vec![
         ("options of 7 bytes", DEST_OPTIONS, vec![UDP; 7]),
@@ -245,14 +246,14 @@ pub fn refusals() -> Vec<(&'static str, u8, Vec<u8>)> {
     ]
 }
 
-/// A header's first bytes: the number, the length field, then zeros.
+/// Makes the start of a header: the next header field, the length field, then zeros.
 fn long(next: u8, field: u8, len: usize) -> Vec<u8> {
     let mut bytes = vec![next, field];
     bytes.resize(len, 0);
     bytes
 }
 
-/// Four headers that lead to `number`, and then these bytes.
+/// Makes four headers, the last of which names `number`, followed by these bytes.
 pub fn behind_four(number: u8, bytes: &[u8]) -> Chain {
     let mut random = Random::new(9);
     let mut all = chain_of(
@@ -264,9 +265,9 @@ pub fn behind_four(number: u8, bytes: &[u8]) -> Chain {
     Chain::new(HOP_BY_HOP, all)
 }
 
-/// A single header of this length, with 16 bytes behind it.
+/// Makes a single header of this length, followed by 16 bytes.
 pub fn single(number: u8, len: usize) -> Chain {
-    // A seed with which the digest of a fragment header tells the two layouts of its byte 3.
+    // With this seed, the digest of a fragment header differs between the two layouts of its byte 3.
     let mut random = Random::new(19);
     let field = if number == AUTH {
         len / 4 - 2
@@ -278,13 +279,13 @@ pub fn single(number: u8, len: usize) -> Chain {
     Chain::new(number, bytes)
 }
 
-/// A header of this number that is cut short, of 7 bytes.
+/// Makes a truncated header of 7 bytes with this number.
 pub fn cut_short(number: u8) -> Chain {
     Chain::new(number, vec![UDP; 7])
 }
 
-/// IPv4 packets without a fault: some with options, some with an authentication header, some that are fragments,
-/// with a payload of some hundred bytes.
+/// Makes valid IPv4 packets: some with options, some with an authentication header, some that are fragments.
+/// Payloads have some hundred bytes.
 pub fn ipv4_packets(count: usize, seed: u64) -> Packets {
     let mut random = Random::new(seed);
     let mut packets = Packets {
@@ -323,7 +324,7 @@ pub fn ipv4_packets(count: usize, seed: u64) -> Packets {
     packets
 }
 
-/// The packets of both in turn, half of each.
+/// Interleaves the packets of both, half of each.
 pub fn alternating(one: &Packets, other: &Packets) -> Packets {
     let mut packets = Packets {
         bytes: Vec::new(),
@@ -339,18 +340,18 @@ pub fn alternating(one: &Packets, other: &Packets) -> Packets {
     packets
 }
 
-/// A packet that is refused, and why.
+/// A packet that is rejected, and why.
 pub struct Refused {
     pub why: &'static str,
-    /// The version that it states.
+    /// The version that the packet states.
     pub version: u8,
-    /// Whether it is refused for having fewer bytes than it states, which a lax parse doesn't.
+    /// Whether it is rejected because there are fewer bytes than it states. A lax parse accepts it.
     pub cut_short: bool,
     pub ours: Vec<u8>,
     pub original: Vec<u8>,
 }
 
-/// Packets that are refused for their base header, for their length, or for a header behind it.
+/// Packets that are rejected for their IP header, their length, or an extension header.
 pub fn refused_packets() -> Vec<Refused> {
     let cut_auth = [UDP; 11];
     let zero_auth = [UDP, 0, 0, 0, 0, 0, 0, 0, 0, 0, 0, 0];
@@ -406,7 +407,7 @@ pub fn refused_packets() -> Vec<Refused> {
     ]
 }
 
-/// An IPv4 packet without options.
+/// Makes an IPv4 packet without options.
 fn ipv4(number: u8, behind: &[u8]) -> Vec<u8> {
     let mut bytes = vec![0x45, 0];
     bytes.extend((20 + behind.len() as u16).to_be_bytes());
@@ -416,7 +417,7 @@ fn ipv4(number: u8, behind: &[u8]) -> Vec<u8> {
     bytes
 }
 
-/// An IPv6 packet.
+/// Makes an IPv6 packet.
 fn ipv6(number: u8, behind: &[u8]) -> Vec<u8> {
     let mut bytes = vec![0x60, 0, 0, 0];
     bytes.extend((behind.len() as u16).to_be_bytes());

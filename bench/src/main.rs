@@ -1,11 +1,11 @@
-//! Measures the calls of this project against those of etherparse 0.19.0.
+//! Compares the time of this project's calls with those of etherparse 0.19.0.
 //!
 //!     bench measure RUNS WORD               times of the rows whose names have the word, a line each
 //!     bench tool OURS ORIGINAL FOLDER BYTES times of two programs over lines, which are made in FOLDER
 //!     bench report FILE..                   the table of such lines; a file for each alignment of our code
 //!     bench cost TOOL FILE RUNS             our time for each byte of inputs that are made to take long
 mod cost;
-// That of a single header is for diff/.
+// The functions for single headers are used by diff/ only.
 #[allow(dead_code)]
 #[path = "../../diff/src/fragment_bits.rs"]
 mod fragment_bits;

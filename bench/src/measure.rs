@@ -1,9 +1,9 @@
-//! Times of rows: the sides take turns, and the least and the middle of many runs are kept.
+//! Times rows: the sides take turns, and the minimum and the median of many runs are kept.
 use crate::rows::{Row, Work};
 use std::hint::black_box;
 use std::time::Instant;
 
-/// How many nanoseconds one unit took, at least and in the middle of all runs.
+/// Nanoseconds per unit: the minimum and the median of all runs.
 #[derive(Clone, Copy)]
 pub struct Time {
     pub least: f64,
@@ -17,7 +17,7 @@ pub struct Measured {
     pub limit: Option<Time>,
 }
 
-/// Times a row, after it has shown that both sides answer and write the same.
+/// Times a row, after checking that both sides return and write the same.
 pub fn measure(row: &Row, runs: usize) -> Measured {
     assert_eq!(
         (row.ours)(),
@@ -49,11 +49,11 @@ pub fn measure(row: &Row, runs: usize) -> Measured {
     }
 }
 
-/// The lengths of most of what is written.
+/// The lengths of most allocations of the calls that write.
 const WRITTEN: [usize; 6] = [8, 12, 64, 80, 1028, 2048];
 
-/// So many blocks of each length, which are held while a run is timed, so that what a call takes for its bytes lies
-/// elsewhere than in other runs: the least time then doesn't hang on one address.
+/// Allocates `count` blocks of each length. They are held while a run is timed, so that the addresses of the
+/// call's own allocations vary from run to run and the minimum doesn't depend on a single one.
 fn held(count: usize) -> Vec<Vec<u8>> {
     WRITTEN
         .iter()
@@ -61,7 +61,7 @@ fn held(count: usize) -> Vec<Vec<u8>> {
         .collect()
 }
 
-/// One run, behind another that isn't timed: each side has bytes of its own, and finds them where they were just read.
+/// Times one run, after one that isn't timed. Each side has bytes of its own, and has just read them.
 fn once(work: &Work, units: usize) -> f64 {
     black_box(work());
     let start = Instant::now();
@@ -69,7 +69,7 @@ fn once(work: &Work, units: usize) -> f64 {
     start.elapsed().as_nanos() as f64 / units as f64
 }
 
-/// The least and the middle.
+/// Returns the minimum and the median.
 pub fn of_runs(mut times: Vec<f64>) -> Time {
     times.sort_by(f64::total_cmp);
     Time {

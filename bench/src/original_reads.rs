@@ -1,5 +1,5 @@
-//! Reads over etherparse 0.19.0, with the same digests. What the original reads only where it can also seek, it
-//! reads from a cursor over the bytes, and the rest from the bytes themselves.
+//! Reads with etherparse 0.19.0, with the same digests. Types whose reads need `Seek` in the original are read
+//! from a cursor over the bytes, the others from the bytes themselves.
 use crate::original::{
     from_c, of_answer, of_bytes, of_content, of_len_error, of_owned_auth, of_owned_fragment,
     of_owned_raw, with, Parse,
@@ -61,7 +61,7 @@ fn of_refused_limited(error: &HeaderLimitedReadError) -> u64 {
     }
 }
 
-/// What a cursor leaves.
+/// Returns the number of bytes left in a cursor.
 #[inline(always)]
 fn left<'a>(reader: &Cursor<&'a [u8]>) -> &'a [u8] {
     reader

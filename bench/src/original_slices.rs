@@ -1,4 +1,4 @@
-//! Whole packets over etherparse 0.19.0, with the same digests.
+//! Whole packets with etherparse 0.19.0, with the same digests.
 use crate::original::{from_c, len_source_code, of_auth, of_bytes, of_content, of_len_error, with};
 use etherparse::err::ip::{HeaderError, HeadersError, SliceError};
 use etherparse::err::{ip_auth, ipv4, ipv6};
@@ -200,13 +200,13 @@ pub fn of_ipv6_fault(fault: &ipv6::SliceError) -> u64 {
     }
 }
 
-/// The packet that begins the bytes.
+/// Parses the packet at the start of the bytes.
 #[inline(never)]
 pub unsafe extern "C" fn packet<P: Packet>(bytes: *const u8, len: usize) -> u64 {
     P::digest(unsafe { from_c(bytes, len) })
 }
 
-/// Packets one after the other.
+/// Parses packets one after another.
 #[inline(never)]
 pub unsafe extern "C" fn packets<P: Packet>(
     p: *const u8,

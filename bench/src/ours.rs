@@ -1,18 +1,18 @@
 //! The calls of the static libraries `ipexts_bench` and `ipexts_bench_packets`, and of the walk in C.
 
-/// The chain from a number that begins the bytes.
+/// A call for the chain at the start of the bytes, beginning with a number.
 pub type ChainCall = unsafe extern "C" fn(u8, *const u8, usize) -> u64;
 
-/// Packets one after the other, with where each ends.
+/// A call for packets one after another, with the end of each.
 pub type PacketLoop = unsafe extern "C" fn(*const u8, usize, *const usize, usize) -> u64;
 
-/// The packet that begins the bytes.
+/// A call for the packet at the start of the bytes.
 pub type PacketCall = unsafe extern "C" fn(*const u8, usize) -> u64;
 
-/// A single header, with the place of the byte to read.
+/// A call for a single header, with the index of the byte to read.
 pub type HeaderCall = unsafe extern "C" fn(*const u8, usize, usize) -> u64;
 
-/// The same, with how often its bytes are made.
+/// A call for a single header, with the index of the byte to read and the number of repetitions.
 pub type RepeatedCall = unsafe extern "C" fn(*const u8, usize, usize, u32) -> u64;
 
 unsafe extern "C" {
@@ -209,6 +209,6 @@ unsafe extern "C" {
     pub fn walk_chain(start: u8, bytes: *const u8, len: usize) -> u64;
     pub fn walk_packets(p: *const u8, len: usize, ends: *const usize, count: usize) -> u64;
 
-    /// The bytes that move the library.
+    /// Links the bytes that move the library.
     pub fn ipexts_shift();
 }

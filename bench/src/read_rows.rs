@@ -1,11 +1,11 @@
-//! The rows of reads: headers, chains of IPv4, and chains of six places, with and without a limit.
+//! The rows of reads: headers, IPv4 chains, and chains of six places, with and without a limit.
 use crate::inputs::{self, Chain, Sides};
 use crate::original_reads;
 use crate::ours;
 use crate::rows::{again, form, full_chain, packet_calls, packet_loop, refusals, regular_chain};
 use crate::rows::{single, Form, Row, CALLS};
 
-/// All rows, over the packets that the chains' rows have too.
+/// Returns all rows, with the same packets as the rows of chains.
 pub fn rows(packets: Sides) -> Vec<Row> {
     let mut rows = headers();
     rows.extend(ipv4());
@@ -49,7 +49,7 @@ fn forms() -> [Form; 2] {
     ]
 }
 
-/// Chains of six places that are refused.
+/// Chains of six places that are rejected.
 fn refused() -> Vec<Row> {
     let mut rows: Vec<Row> = forms().iter().flat_map(refusals).collect();
     for row in &mut rows {
@@ -58,7 +58,7 @@ fn refused() -> Vec<Row> {
     rows
 }
 
-/// Each header, and one that is cut short.
+/// Each kind of header, and a truncated one.
 fn headers() -> Vec<Row> {
     use ours::*;
     let calls: [(&str, u8, &[usize], HeaderCall, HeaderCall); 6] = [
@@ -123,7 +123,7 @@ fn headers() -> Vec<Row> {
     rows
 }
 
-/// The header of IPv4, none, and one that is cut short.
+/// An IPv4 header, none, and a truncated one.
 fn ipv4() -> Vec<Row> {
     let header = inputs::single(inputs::AUTH, 64);
     [

@@ -1,12 +1,12 @@
-//! The table, over all alignments of our code, and the judgement by its goals.
+//! Prints the table over all alignments of our code, and compares it with the goals.
 use crate::measure::Time;
 use std::collections::BTreeMap;
 
-/// The highest ratio that is allowed, but for the rows below.
+/// The maximum ratio, except for the rows below.
 const GOAL: f64 = 1.0;
 
-/// Rows with a goal of their own: how the name begins, what it has in it, and the goal; the first that fits counts.
-/// docs/DECISIONS.md has the reasons.
+/// Rows with a goal of their own: the start of the name, a part of the name, and the goal. The first match counts.
+/// bench/README.md has the reasons.
 const OWN_GOALS: &[(&str, &str, f64)] = &[
     ("IpSlice, filter", "one loop", 0.85),
     ("IpSlice, filter", "a call each", 0.95),
@@ -60,7 +60,7 @@ const OWN_GOALS: &[(&str, &str, f64)] = &[
     ("the tool", "", 1.10),
 ];
 
-/// A row at one alignment, as `measure` prints it.
+/// A row at one alignment, as printed by `measure`.
 #[derive(Clone)]
 pub struct Line {
     pub group: String,
@@ -72,7 +72,7 @@ pub struct Line {
 }
 
 impl Line {
-    /// Reads a line that `print` wrote.
+    /// Parses a line written by `print`.
     pub fn parse(text: &str) -> Option<Line> {
         let fields: Vec<&str> = text.split('\t').collect();
         let [group, name, unit, times @ ..] = &fields[..] else {
@@ -122,7 +122,7 @@ impl Line {
         self.ours.middle / self.original.middle
     }
 
-    /// Keeps the smaller of two measurements of the same row at the same alignment.
+    /// Keeps the minimum of two measurements of the same row at the same alignment.
     fn join(&mut self, other: &Line) {
         for (time, other) in [
             (&mut self.ours, &other.ours),
@@ -147,8 +147,7 @@ struct Judged {
     goal: f64,
 }
 
-/// Prints the tables of what stands in these files, a file for each alignment. It answers whether no ratio
-/// is above its goal.
+/// Prints the tables for these files, one file per alignment. Returns whether no ratio is above its goal.
 pub fn report(files: &[String]) -> bool {
     let mut order: Vec<String> = Vec::new();
     let mut rows: BTreeMap<String, Vec<Line>> = BTreeMap::new();
@@ -200,7 +199,7 @@ fn range(ratios: &[f64]) -> (f64, f64) {
 }
 
 impl Judged {
-    /// Judged by two decimals.
+    /// Compares with two decimals.
     fn is_above(&self) -> bool {
         (self.mean * 100.0).round() > (self.goal * 100.0).round()
     }
@@ -227,14 +226,11 @@ fn print_rows(rows: &[Judged]) {
             ours.least, original.least, row.mean, row.range.0, row.range.1, row.middle, row.goal
         );
     }
-    println!("\nTimes are the least of all runs. The limit is a bare walk in C, which only says where each chain");
-    println!(
-        "ends, over the original. The mean and the range are over the alignments of our code.\n"
-    );
+    println!("\nTimes are the minimum of all runs. The limit is the ratio of a bare walk in C, which only finds where");
+    println!("each chain ends. The mean and the range are over the alignments of our code.\n");
 }
 
-/// A line for each group of rows: the mean of their ratios, and the lowest and the highest of any row at any
-/// alignment.
+/// Prints a line for each group of rows: the mean ratio, and the lowest and highest ratio of any row at any alignment.
 fn print_groups(rows: &[Judged]) {
     println!("| Group | Rows | Mean ratio | Range |\n|---|---|---|---|");
     let mut groups: Vec<&str> = Vec::new();

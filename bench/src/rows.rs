@@ -1,4 +1,4 @@
-//! The rows of the table: what is called, on which bytes, on both sides.
+//! The rows of the table: which call, on which bytes, on both sides.
 use crate::fragment_bits::{self, from_the_original};
 use crate::inputs::{self, Chain, Packets, Sides};
 use crate::original::{self, Parse};
@@ -8,31 +8,31 @@ use crate::read_rows;
 use crate::slice_rows;
 use std::hint::black_box;
 
-/// How many calls a run of a row with a single call makes.
+/// How many calls are made in one run of a row with a single call.
 pub const CALLS: usize = 1000;
 
-/// How many packets are parsed.
+/// The number of packets.
 pub const PACKETS: usize = 10_000;
 
-/// Something to be timed, which answers a digest.
+/// A piece of work to be timed. Returns a digest.
 pub type Work = Box<dyn Fn() -> u64>;
 
-/// Makes all bytes that our side and the original write, in our layout of fragment headers.
+/// Returns all bytes that our side and the original write, in our layout of fragment headers.
 pub type Written = Box<dyn Fn() -> (Vec<u8>, Vec<u8>)>;
 
 /// A row: the same work on both sides.
 pub struct Row {
     pub group: &'static str,
     pub name: String,
-    /// What one time is told for.
+    /// The unit of the times.
     pub unit: &'static str,
-    /// How many of them a run has.
+    /// The number of units per run.
     pub units: usize,
     pub ours: Work,
     pub original: Work,
     /// A bare walk in C over the same bytes.
     pub limit: Option<Work>,
-    /// All that is written, where the row is about that, since its digest has two of the bytes.
+    /// Returns everything written, for rows about writing, whose digest covers only two of the bytes.
     pub written: Option<Written>,
 }
 
@@ -44,12 +44,12 @@ pub struct Form {
     original: ChainCall,
     our_loop: PacketLoop,
     original_loop: PacketLoop,
-    /// Whether the other side is ours as well, which is given the same bytes.
+    /// Whether the other side is also ours, and gets the same bytes.
     is_against_ours: bool,
 }
 
 impl Form {
-    /// The packets that the other side is given.
+    /// Returns the packets for the other side.
     fn other_packets(&self, packets: Sides) -> &'static Packets {
         if self.is_against_ours {
             packets.ours
@@ -58,7 +58,7 @@ impl Form {
         }
     }
 
-    /// The chain that the other side is given.
+    /// Returns the chain for the other side.
     fn other_chain(&self, chain: &Chain) -> Vec<u8> {
         if self.is_against_ours {
             chain.ours.clone()
@@ -67,7 +67,7 @@ impl Form {
         }
     }
 
-    /// A row of so many calls on a chain.
+    /// Makes a row with `count` calls on a chain.
     fn row(&self, group: &'static str, name: String, chain: Chain, calls: usize) -> Row {
         let other = self.other_chain(&chain);
         Row {
@@ -100,7 +100,7 @@ pub fn form<P: Parse>(
     }
 }
 
-/// Each parse, read in full and as a filter does.
+/// Each parse, read in full and as in a filter.
 fn forms() -> Vec<Form> {
     use ours::*;
     vec![
@@ -133,7 +133,7 @@ fn forms() -> Vec<Form> {
     ]
 }
 
-/// A cursor in one pass, against the original's parse with its iterator and against our own.
+/// A cursor in one pass, compared with the original's parse and iterator, and with our own.
 fn cursor_forms() -> Vec<Form> {
     use ours::*;
     let against_ours = |reading, ours, our_loop, original, original_loop| Form {
@@ -195,7 +195,7 @@ fn struct_forms() -> Vec<Form> {
     ]
 }
 
-/// A parse into a struct: packets, no headers, all places filled, and refusals.
+/// A parse into a struct: packets, no headers, all places filled, and rejections.
 fn struct_rows(form: &Form, packets: Sides) -> Vec<Row> {
     let mut rows = vec![packet_loop(form, packets), packet_calls(form, packets)];
     rows.push(regular_chain(form, 0));
@@ -204,13 +204,13 @@ fn struct_rows(form: &Form, packets: Sides) -> Vec<Row> {
     rows
 }
 
-/// A chain through all six places, whose headers of the common layout have `len` bytes each.
+/// A chain that fills all six places, whose headers in the uniform format (RFC 6564) have `len` bytes each.
 pub fn full_chain(form: &Form, len: usize) -> Row {
     let name = format!("{}: six places, options of {len} bytes", form.name);
     form.row("all places filled", name, inputs::full(len), CALLS)
 }
 
-/// All rows.
+/// Returns all rows.
 pub fn rows(seed: u64) -> Vec<Row> {
     let packets = Sides::new(inputs::packets(PACKETS, seed));
     let mut rows = Vec::new();
@@ -245,7 +245,7 @@ pub fn rows(seed: u64) -> Vec<Row> {
     rows
 }
 
-/// A call over all packets.
+/// Makes rows of a call over all packets.
 pub fn over_packets(call: PacketLoop, packets: &'static Packets) -> Work {
     Box::new(move || {
         let call = black_box(call);
@@ -254,7 +254,7 @@ pub fn over_packets(call: PacketLoop, packets: &'static Packets) -> Work {
     })
 }
 
-/// One exported loop over all packets.
+/// Makes a row of one exported loop over all packets.
 pub fn packet_loop(form: &Form, packets: Sides) -> Row {
     Row {
         group: "packets, one loop",
@@ -268,7 +268,7 @@ pub fn packet_loop(form: &Form, packets: Sides) -> Row {
     }
 }
 
-/// A call for each packet.
+/// Makes a row with one call per packet.
 pub fn packet_calls(form: &Form, packets: Sides) -> Row {
     let over = |call: ChainCall, packets: &'static Packets| -> Work {
         let each = packets.each();
@@ -292,7 +292,7 @@ pub fn packet_calls(form: &Form, packets: Sides) -> Row {
     }
 }
 
-/// Calls on the same bytes again and again.
+/// Makes rows of repeated calls on the same bytes.
 pub fn again(call: ChainCall, start: u8, bytes: Vec<u8>, calls: usize) -> Work {
     Box::new(move || {
         let call = black_box(call);
@@ -316,11 +316,11 @@ pub fn regular_chain(form: &Form, count: usize) -> Row {
     }
 }
 
-/// Each refusal at the first header and behind four.
+/// Makes rows for each rejection, at the first header and after four.
 pub fn refusals(form: &Form) -> Vec<Row> {
     let mut rows = Vec::new();
     for (why, number, bytes) in inputs::refusals() {
-        // Hop by hop options are refused only behind another header.
+        // Hop-by-hop options are rejected only after another header.
         let first = if number == inputs::HOP_BY_HOP {
             Chain::new(inputs::DEST_OPTIONS, vec![number, 0, 0, 0, 0, 0, 0, 0])
         } else {
@@ -347,7 +347,7 @@ pub fn refusals(form: &Form) -> Vec<Row> {
     rows
 }
 
-/// Single headers on both sides, and how they are called.
+/// Single headers on both sides, and their calls.
 fn borrowed_and_owned() -> Vec<Row> {
     use ours::*;
     let raw = [8, 64, 2048].map(|len| (len, inputs::single(inputs::ROUTE, len)));
@@ -450,7 +450,7 @@ fn borrowed_and_owned() -> Vec<Row> {
     rows
 }
 
-/// One call on a single header.
+/// Makes a row of one call on a single header.
 pub fn single(
     group: &'static str,
     name: &str,
@@ -481,7 +481,7 @@ pub fn single(
     }
 }
 
-/// The bytes of owned headers.
+/// Makes rows of writing owned headers.
 fn written() -> Vec<Row> {
     use ours::*;
     let raw = [8, 64, 2048].map(|len| (len, inputs::single(inputs::ROUTE, len)));
@@ -540,7 +540,7 @@ fn written() -> Vec<Row> {
     rows
 }
 
-/// IPv4 extension headers: one of each length, none, and one that is cut short.
+/// IPv4 extension headers: one of each length, none, and a truncated one.
 fn ipv4() -> Vec<Row> {
     use ours::*;
     let headers = [12, 64, 1028].map(|len| {
@@ -612,7 +612,7 @@ fn ipv4() -> Vec<Row> {
     rows
 }
 
-/// The walk, links and bytes of a struct with all places filled.
+/// Walking, linking and writing a struct with all places filled.
 fn struct_written() -> Vec<Row> {
     use ours::*;
     let full = [8, 2040].map(|len| (len, inputs::full(len)));
@@ -649,8 +649,8 @@ fn struct_written() -> Vec<Row> {
     rows
 }
 
-/// The runs of chains of fragment headers, one for each. The original has none: its side calls the struct parse
-/// again and again.
+/// The runs of chains of fragment headers, one header each. The original has no runs: its side calls the struct
+/// parse repeatedly.
 fn runs() -> Vec<Row> {
     [4usize, 1024, 2048, 4096]
         .into_iter()
@@ -671,7 +671,7 @@ fn runs() -> Vec<Row> {
         .collect()
 }
 
-/// A call that makes a header's bytes again and again.
+/// Makes a row of a call that writes a header repeatedly.
 fn repeated(
     group: &'static str,
     name: &str,
@@ -707,7 +707,7 @@ fn repeated(
     }
 }
 
-/// All bytes that two calls write of a chain.
+/// Returns all bytes that two calls write for a chain.
 fn written_by(ours: RepeatedCall, original: RepeatedCall, chain: Chain) -> Written {
     Box::new(move || {
         let theirs = bytes_of(original, &chain.original);
@@ -718,7 +718,8 @@ fn written_by(ours: RepeatedCall, original: RepeatedCall, chain: Chain) -> Writt
     })
 }
 
-/// The bytes that a call writes once. Its digest ends in the byte at a place, or in 256 where there is none.
+/// Returns the bytes that a call writes once. Its digest ends with the byte at an index, or with 256 if there is
+/// none.
 fn bytes_of(call: RepeatedCall, asked: &[u8]) -> Vec<u8> {
     let digest = |at| unsafe { call(asked.as_ptr(), asked.len(), at, 1) };
     let no_byte = digest(usize::MAX);

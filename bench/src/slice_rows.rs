@@ -1,4 +1,4 @@
-//! The rows of whole packets: right ones of either version, and refusals.
+//! The rows of whole packets: valid packets of either version, and rejected ones.
 use crate::inputs::{self, Packets, Sides};
 use crate::original_slices::{self, Packet};
 use crate::ours::{self, PacketCall, PacketLoop};
@@ -31,7 +31,7 @@ fn form<P: Packet>(
     }
 }
 
-/// The packets of either version.
+/// Packets of either version.
 fn ip_forms() -> [Form; 2] {
     use ours::*;
     [
@@ -45,7 +45,7 @@ fn ip_forms() -> [Form; 2] {
     ]
 }
 
-/// Those of IPv4.
+/// IPv4 packets.
 fn ipv4_forms() -> [Form; 2] {
     use ours::*;
     [
@@ -64,7 +64,7 @@ fn ipv4_forms() -> [Form; 2] {
     ]
 }
 
-/// Those of IPv6, strict and lax.
+/// IPv6 packets, strict and lax.
 fn ipv6_forms() -> [Form; 4] {
     use ours::*;
     [
@@ -95,7 +95,7 @@ fn ipv6_forms() -> [Form; 4] {
     ]
 }
 
-/// All rows, over the packets of IPv6 that the chains' rows have too, and over others.
+/// Returns all rows, with the same IPv6 packets as the rows of chains, and with others.
 pub fn rows(ipv6: Sides, seed: u64) -> Vec<Row> {
     let ipv4 = Sides::new(inputs::ipv4_packets(PACKETS, seed));
     let both = Sides::new(inputs::alternating(ipv4.ours, ipv6.ours));
@@ -122,7 +122,7 @@ pub fn rows(ipv6: Sides, seed: u64) -> Vec<Row> {
     rows
 }
 
-/// One exported loop over all packets.
+/// Makes a row of one exported loop over all packets.
 fn one_loop(form: &Form, what: &str, packets: Sides) -> Row {
     Row {
         group: "whole packets, one loop",
@@ -136,7 +136,7 @@ fn one_loop(form: &Form, what: &str, packets: Sides) -> Row {
     }
 }
 
-/// A call for each packet.
+/// Makes a row with one call per packet.
 fn a_call_each(form: &Form, what: &str, packets: Sides) -> Row {
     let over = |call: PacketCall, packets: &'static Packets| -> Work {
         let each = packets.each();
@@ -159,7 +159,7 @@ fn a_call_each(form: &Form, what: &str, packets: Sides) -> Row {
     }
 }
 
-/// Each refusal of a packet that the type may be asked for.
+/// Makes rows for each rejected packet that applies to the type.
 fn refusals(form: &Form) -> Vec<Row> {
     let lax = form.name.ends_with("lax");
     inputs::refused_packets()

@@ -1,4 +1,4 @@
-//! The tool against a plain Rust program over the original, on lines about the same headers.
+//! Compares the tool with a plain Rust program over the original, on lines about the same headers.
 use crate::fragment_bits::{self, to_the_original};
 use crate::inputs;
 use crate::measure::of_runs;
@@ -11,16 +11,16 @@ use std::path::{Path, PathBuf};
 use std::process::{Command, Stdio};
 use std::time::Instant;
 
-/// The files of lines that ask for chains like those of real traffic. The original's have its own bits of fragment
-/// headers.
+/// The files of lines, with chains like those of real traffic. The original's file has fragment headers in its own
+/// layout.
 pub struct Lines {
     ours: PathBuf,
     original: PathBuf,
-    /// How many lines each file has.
+    /// The number of lines in each file.
     count: usize,
 }
 
-/// Writes lines of so many bytes together to files in a folder.
+/// Writes lines with a total of `len` bytes to files in a folder.
 pub fn write_lines(folder: &Path, len: usize, seed: u64) -> std::io::Result<Lines> {
     let paths = ["lines.txt", "original-lines.txt"].map(|name| folder.join(name));
     let (mut ours, mut original) = (create(&paths[0])?, create(&paths[1])?);
@@ -51,7 +51,7 @@ fn create(path: &Path) -> std::io::Result<BufWriter<File>> {
     Ok(BufWriter::new(File::create(path)?))
 }
 
-/// Writes the line that asks for a chain, and answers how long it is.
+/// Writes the line for a chain, and returns its length.
 fn write_line(file: &mut impl Write, start: u8, chain: &[u8]) -> std::io::Result<usize> {
     let mut line = format!("exts6 {start} ");
     if chain.is_empty() {
@@ -70,7 +70,7 @@ pub fn measure(ours: &str, original: &str, lines: &Lines, runs: usize) -> Line {
     assert_eq!(
         digest(ours, &lines.ours),
         digest(original, &lines.original),
-        "the tool's answers differ from the original's"
+        "the answers of the tool and of the original differ"
     );
     let (mut our_times, mut original_times) = (Vec::new(), Vec::new());
     for _ in 0..runs {
@@ -96,7 +96,7 @@ fn command(program: &str, lines: &Path) -> Command {
     command
 }
 
-/// How many nanoseconds a program takes to answer the lines.
+/// Returns how many nanoseconds a program takes to answer the lines.
 pub fn once(program: &str, lines: &Path) -> f64 {
     let mut command = command(program, lines);
     let start = Instant::now();
@@ -108,7 +108,7 @@ pub fn once(program: &str, lines: &Path) -> f64 {
     start.elapsed().as_nanos() as f64
 }
 
-/// A digest of what a program answers.
+/// Returns a digest of a program's answers.
 fn digest(program: &str, lines: &Path) -> u64 {
     let mut child = command(program, lines)
         .stdout(Stdio::piped())

@@ -1,8 +1,8 @@
-// The least that a walk over IPv6 extension headers can do: it says where each chain ends, and nothing else.
+// The least work that a walk over IPv6 extension headers can do: it only finds where each chain ends.
 #include <stddef.h>
 #include <stdint.h>
 
-// The length of the chain from `number` on (RFC 8200, section 4); it stops where bytes are missing.
+// Returns the length of the chain that starts with `number` (RFC 8200, section 4). Stops where bytes are missing.
 static size_t chain_len(uint8_t number, const uint8_t *bytes, size_t len) {
     size_t at = 0;
     while (number == 0 || number == 43 || number == 44 || number == 51 || number == 60) {

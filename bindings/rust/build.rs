@@ -1,10 +1,9 @@
-//! Finds the static library `libwolfaren.a`: in the folder that `WOLFAREN_LIB_DIR` names, else in the one of which
-//! pkg-config knows.
+//! Finds the static library `libwolfaren.a`, in the directory named by `WOLFAREN_LIB_DIR` or else with pkg-config.
 use std::env;
 use std::path::{Path, PathBuf};
 use std::process::{exit, Command};
 
-/// The file that is linked.
+/// The file to link.
 const ARCHIVE: &str = "libwolfaren.a";
 
 fn main() {
@@ -20,18 +19,18 @@ fn main() {
     println!("cargo:rustc-link-lib=static=wolfaren");
 }
 
-/// The folder that the variable names.
+/// Returns the directory named by the variable.
 fn named_folder(folder: PathBuf) -> PathBuf {
     if !has_archive(&folder) {
         give_up(&format!(
-            "WOLFAREN_LIB_DIR is {}, and there is no {ARCHIVE} in it.",
+            "WOLFAREN_LIB_DIR is {}, which has no {ARCHIVE}.",
             folder.display()
         ));
     }
     folder.canonicalize().unwrap_or(folder)
 }
 
-/// The folder of which pkg-config knows.
+/// Returns the directory that pkg-config reports.
 fn known_folder() -> PathBuf {
     let program = env::var_os("PKG_CONFIG").unwrap_or_else(|| "pkg-config".into());
     let output = Command::new(&program)
@@ -46,12 +45,12 @@ fn known_folder() -> PathBuf {
     let folder = PathBuf::from(String::from_utf8_lossy(&output.stdout).trim());
     if !output.status.success() || folder.as_os_str().is_empty() {
         give_up(
-            "WOLFAREN_LIB_DIR isn't set, and pkg-config knows of no wolfaren.pc with a folder.",
+            "WOLFAREN_LIB_DIR isn't set, and pkg-config finds no library directory for wolfaren.",
         );
     }
     if !has_archive(&folder) {
         give_up(&format!(
-            "The wolfaren.pc that pkg-config knows of names {}, and there is no {ARCHIVE} in it.",
+            "The library directory that pkg-config reports for wolfaren, {}, has no {ARCHIVE}.",
             folder.display()
         ));
     }
@@ -62,12 +61,12 @@ fn has_archive(folder: &Path) -> bool {
     folder.join(ARCHIVE).is_file()
 }
 
-/// Ends the build with what is wrong and what to do.
+/// Ends the build with a message that says what is wrong and what to do.
 fn give_up(what: &str) -> ! {
     eprintln!(
         "\nThe library wolfaren is missing. {what}\n\nIn its repository, `make install PREFIX=..` installs it with a \
-         wolfaren.pc that pkg-config finds (PKG_CONFIG_PATH names further folders to look in), and `make lib` leaves \
-         it in build/. WOLFAREN_LIB_DIR names a folder that has {ARCHIVE}.\n"
+         wolfaren.pc for pkg-config (add its directory to PKG_CONFIG_PATH if necessary), and `make lib` builds it in \
+         build/. Set WOLFAREN_LIB_DIR to the directory that contains {ARCHIVE}.\n"
     );
     exit(1)
 }

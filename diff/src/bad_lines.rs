@@ -1,11 +1,11 @@
-//! Lines of no form, made of a good one.
+//! Makes invalid lines from a valid one.
 use crate::forms::MAX_LINE_LEN;
 use crate::random::Random;
 
-/// The kinds of spoiling.
+/// The number of ways to spoil a line.
 const KINDS: usize = 24;
 
-/// A good line spoilt in one of many ways. A few of them are good still.
+/// Spoils a valid line in one of many ways. A few results are still valid.
 pub fn spoilt(line: &str, random: &mut Random) -> Vec<u8> {
     let (word, arguments) = line.split_once(' ').unwrap_or((line, ""));
     let hex = arguments.rsplit(' ').next().unwrap_or("");
@@ -44,7 +44,7 @@ pub fn spoilt(line: &str, random: &mut Random) -> Vec<u8> {
     text.into_bytes()
 }
 
-/// A byte of the line is another one.
+/// Changes a byte of the line.
 fn replaced(line: &str, random: &mut Random) -> Vec<u8> {
     let mut bytes = line.as_bytes().to_vec();
     let at = random.below(bytes.len());
@@ -55,7 +55,7 @@ fn replaced(line: &str, random: &mut Random) -> Vec<u8> {
     bytes
 }
 
-/// The line with digits up to this length, which may be too long by a few bytes.
+/// Pads the line with digits to about this length, which may be a few bytes too long.
 fn of_length(line: &str, len: usize) -> Vec<u8> {
     let mut bytes = line.as_bytes().to_vec();
     bytes.retain(|byte| *byte != b'-');

@@ -1,5 +1,5 @@
-//! A program over the original's layer. `crates/ip_uses/src/from_etherparse.rt` has it as it reads here, and
-//! `docs/from-etherparse.md` says what has changed.
+//! A program that uses the original. `crates/ip_uses/src/from_etherparse.rt` is the same program with this
+//! project, and `docs/from-etherparse.md` explains the changes.
 use etherparse::err::ipv6_exts::{HeaderLimitedReadError, HeaderWriteError};
 use etherparse::err::{Layer, LenError};
 use etherparse::io::LimitedReader;
@@ -7,7 +7,7 @@ use etherparse::{IpNumber, Ipv6Extensions, LenSource};
 use std::error::Error;
 use std::io::{Read, Seek};
 
-/// Reads the extension headers behind an IPv6 header that states how many bytes follow it.
+/// Reads the extension headers after an IPv6 header that states how many bytes follow it.
 pub fn read<R: Read + Seek>(
     reader: R,
     first: IpNumber,
@@ -23,8 +23,8 @@ pub fn read<R: Read + Seek>(
     Ipv6Extensions::read_limited(&mut limited, first)
 }
 
-/// The same headers, linked in the order of the standard and with `payload` behind them: the number that names the
-/// first of them, and their bytes.
+/// Links the headers in the order of the standard and appends `payload`. Returns the number of the first header,
+/// and the bytes.
 pub fn relinked(
     headers: &Ipv6Extensions,
     payload: IpNumber,
@@ -36,7 +36,7 @@ pub fn relinked(
     Ok((first, out))
 }
 
-/// How many bytes were missing and where, if that is why the headers weren't read.
+/// Returns how many bytes were missing and where, if that is why reading the headers failed.
 pub fn missing_bytes(error: &HeaderLimitedReadError) -> Option<&LenError> {
     error.source()?.downcast_ref()
 }

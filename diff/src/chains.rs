@@ -1,4 +1,4 @@
-//! Start numbers and bytes that ask about chains of extension headers.
+//! Makes start numbers and bytes for chains of extension headers.
 use crate::random::Random;
 
 /// The number of authentication headers.
@@ -7,13 +7,13 @@ pub const AUTH: u8 = 51;
 /// The numbers of extension headers.
 pub const EXTENSIONS: [u8; 5] = [0, 43, 44, AUTH, 60];
 
-/// Numbers beside them and others that mean something to a parser of another kind.
+/// Adjacent numbers, and others with a meaning to other parsers.
 const OTHERS: [u8; 9] = [17, 6, 58, 59, 135, 139, 140, 50, 255];
 
-/// A start number and the bytes behind it.
+/// A start number and the bytes that follow.
 pub type Asked = (u8, Vec<u8>);
 
-/// Some questions that belong together, of at most so many bytes each.
+/// Makes some related cases, of at most `most` bytes each.
 pub fn asked(random: &mut Random, longest: usize) -> Vec<Asked> {
     match random.below(100) {
         0..30 => vec![linked(random, 12)],
@@ -29,7 +29,7 @@ pub fn asked(random: &mut Random, longest: usize) -> Vec<Asked> {
 }
 
 fn extension(random: &mut Random) -> u8 {
-    // Hop by hop options end most chains that they stand in, so they are rarer.
+    // Hop-by-hop options end most chains that contain them, so they are rarer.
     match random.below(100) {
         0..4 => 0,
         4..30 => 43,
@@ -39,7 +39,7 @@ fn extension(random: &mut Random) -> u8 {
     }
 }
 
-/// The bytes of a header of this number, which leads to `next`.
+/// Makes a header with this number and the next header field `next`.
 fn header(number: u8, next: u8, random: &mut Random) -> Vec<u8> {
     let units = match random.below(100) {
         0..60 => random.below(3),
@@ -60,8 +60,8 @@ fn header(number: u8, next: u8, random: &mut Random) -> Vec<u8> {
     bytes
 }
 
-/// Bytes 2 and 3 of a fragment header with few bits set: none; the reserved ones at most, so that the payload is whole;
-/// a single one; or those of byte 3.
+/// Makes bytes 2 and 3 of a fragment header with few bits set: none; only reserved bits, so that the payload is
+/// complete; a single bit; or only bits of byte 3.
 pub fn fragment_bits(random: &mut Random) -> [u8; 2] {
     match random.below(4) {
         0 => [0, 0],
@@ -71,7 +71,7 @@ pub fn fragment_bits(random: &mut Random) -> [u8; 2] {
     }
 }
 
-/// A chain of up to so many headers with some bytes behind it.
+/// Makes a chain with up to a given number of headers, followed by some bytes.
 fn linked(random: &mut Random, most: usize) -> Asked {
     let count = random.below(most + 1);
     let mut numbers: Vec<u8> = (0..count).map(|_| extension(random)).collect();
@@ -100,7 +100,7 @@ fn capped(mut bytes: Vec<u8>, longest: usize) -> Vec<u8> {
     bytes
 }
 
-/// A chain with some bytes turned.
+/// Makes a chain with some bits or bytes changed.
 fn flipped(random: &mut Random) -> Asked {
     let (number, mut bytes) = linked(random, 6);
     for _ in 0..=random.below(3) {
@@ -113,12 +113,12 @@ fn flipped(random: &mut Random) -> Asked {
     (number, bytes)
 }
 
-/// A chain, one of whose first bytes says another length.
+/// Makes a chain with the length field of a header changed.
 fn lied(random: &mut Random) -> Asked {
     let (number, mut bytes) = linked(random, 6);
     let mut at = 0;
     for _ in 0..random.below(4) {
-        // To the length field of a further header, as if all were of the common layout.
+        // Moves to the length field of a later header, as if all headers were in the uniform format (RFC 6564).
         let len = bytes
             .get(at + 1)
             .map_or(0, |units| 8 * (usize::from(*units) + 1));
@@ -133,7 +133,7 @@ fn lied(random: &mut Random) -> Asked {
     (number, bytes)
 }
 
-/// A chain cut at every byte.
+/// Truncates a chain at every byte.
 fn cut_everywhere(random: &mut Random) -> Vec<Asked> {
     let (number, bytes) = linked(random, 6);
     let bytes = capped(bytes, 160);
@@ -149,7 +149,7 @@ fn cut_once(random: &mut Random) -> Asked {
     (number, bytes)
 }
 
-/// Every number at the start, and every number behind a header.
+/// Makes a chain with every start number, and with every next header field.
 fn every_number(random: &mut Random) -> Vec<Asked> {
     let before = extension(random);
     let (_, bytes) = linked(random, 3);
@@ -162,7 +162,7 @@ fn every_number(random: &mut Random) -> Vec<Asked> {
     start.chain(behind.clone()).collect()
 }
 
-/// As many bytes as a line can ask with, or nearly.
+/// Makes as many bytes as fit into a line, or nearly.
 fn long(random: &mut Random, longest: usize) -> Asked {
     let start = extension(random);
     let end = longest - random.below(4);
@@ -180,13 +180,13 @@ fn long(random: &mut Random, longest: usize) -> Asked {
     (start, capped(bytes, end))
 }
 
-/// Bytes without order.
+/// Makes random bytes.
 fn noise(random: &mut Random) -> Asked {
     let len = random.below(80);
     (extension(random), random.bytes(len))
 }
 
-/// A few small bytes, which are numbers and lengths more often than others.
+/// Makes a few small bytes, which are more likely to be valid numbers and lengths.
 fn few_bytes(random: &mut Random) -> Asked {
     let len = random.below(40);
     let small = |random: &mut Random| match random.below(4) {

@@ -1,34 +1,34 @@
-//! What this project has changed against the original, and how an answer of the original is given the changes.
+//! The intended changes of this project, and how they are applied to results of the original.
 use crate::fragment_bits::{self, from_the_original, to_the_original};
 use etherparse::err::{ip, ipv6, Layer, LenError};
 use etherparse::LenSource;
 
-/// The length of an IPv6 header, in bytes.
+/// The length of an IPv6 header in bytes.
 const IPV6_LEN: usize = 40;
 
-/// The changes that an answer of the original is given.
+/// The changes that are applied to results of the original.
 #[derive(Clone, Copy, Debug)]
 pub struct Changes {
-    /// Fragment headers have the bits of RFC 8200, in the bytes that are asked about and in those that are written.
+    /// Fragment headers have the bits of RFC 8200, in the input and in what is written.
     pub bits: bool,
-    /// Where nothing but the slice bounds the headers of an IPv6 packet, a strict parse says so.
+    /// If only the slice bounds the headers of an IPv6 packet, the error of a strict parse says so.
     pub sources: bool,
 }
 
 impl Changes {
-    /// The original as it is.
+    /// The original unchanged.
     pub const NONE: Changes = Changes {
         bits: false,
         sources: false,
     };
 
-    /// What our side is expected to answer.
+    /// The results expected of our side.
     pub const ALL: Changes = Changes {
         bits: true,
         sources: true,
     };
 
-    /// The bytes of a chain as the original is asked about them.
+    /// Converts the bytes of a chain to input for the original.
     pub fn asked_chain(self, start: u8, bytes: Vec<u8>) -> Vec<u8> {
         if self.bits {
             fragment_bits::chain(start, &bytes, to_the_original)
@@ -37,7 +37,7 @@ impl Changes {
         }
     }
 
-    /// The bytes of a packet as the original is asked about them.
+    /// Converts the bytes of a packet to input for the original.
     pub fn asked_packet(self, bytes: Vec<u8>) -> Vec<u8> {
         if self.bits {
             fragment_bits::packet(&bytes, to_the_original)
@@ -46,7 +46,7 @@ impl Changes {
         }
     }
 
-    /// The bytes of a chain that the original wrote, as our side is expected to write them.
+    /// Converts the bytes of a chain written by the original to what our side is expected to write.
     pub fn written_chain(self, start: u8, written: Vec<u8>) -> Vec<u8> {
         if self.bits {
             fragment_bits::chain(start, &written, from_the_original)
@@ -55,8 +55,8 @@ impl Changes {
         }
     }
 
-    /// The fault with the source that bounds the headers, where the original names another one: the packet is of
-    /// version 6 and states the payload length 0 before some bytes, and a header of its chain is too long for them.
+    /// Corrects the length source of an error if the original names the wrong one: the packet is IPv6 and has
+    /// payload length 0 but bytes after its header, and a header of its chain is too long for them.
     pub fn packet_fault(self, bytes: &[u8], fault: &ip::SliceError) -> Option<ip::SliceError> {
         match fault {
             ip::SliceError::Len(fault) => self.len_error(bytes, fault).map(ip::SliceError::Len),
@@ -64,7 +64,7 @@ impl Changes {
         }
     }
 
-    /// The same of a packet that has to be of version 6.
+    /// Corrects the length source of an error in a packet that must be IPv6.
     pub fn ipv6_packet_fault(
         self,
         bytes: &[u8],
@@ -86,7 +86,7 @@ impl Changes {
     }
 }
 
-/// Whether a layer is one of the headers behind an IPv6 header.
+/// Returns whether a layer is one of the headers after an IPv6 header.
 fn is_of_a_header(layer: &Layer) -> bool {
     matches!(
         layer,

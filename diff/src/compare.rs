@@ -1,4 +1,4 @@
-//! Both sides are asked, and the first difference that isn't a named one is told.
+//! Runs both sides, and reports the first difference that isn't a known one.
 use crate::bad_lines::spoilt;
 use crate::chains;
 use crate::changes::Changes;
@@ -12,18 +12,18 @@ use std::collections::BTreeMap;
 use std::io::{self, BufRead, BufReader, BufWriter, Write};
 use std::process::{Command, Stdio};
 
-/// How often each named difference was met.
+/// How often each known difference occurred.
 pub type Counts = BTreeMap<Difference, u64>;
 
-/// How a comparison ended.
+/// The result of a comparison.
 pub enum Outcome {
-    /// The answers are the same but for these.
+    /// The results are the same, except for these known differences.
     Same(Counts),
-    /// The first difference, in words.
+    /// A description of the first difference.
     Different(String),
 }
 
-/// Lines from a seed: of each form in turn, and every tenth spoilt.
+/// Makes lines from a seed: of random forms, and every tenth spoilt.
 fn lines(seed: u64, count: usize) -> impl Iterator<Item = Vec<u8>> {
     let forms = forms();
     let mut random = Random::new(seed);
@@ -49,12 +49,12 @@ fn lines(seed: u64, count: usize) -> impl Iterator<Item = Vec<u8>> {
     })
 }
 
-/// Asks the tool and the original `count` lines from a seed.
+/// Compares the tool with the original on `count` lines from a seed.
 pub fn lines_of_tool(tool: &str, seed: u64, count: usize) -> io::Result<Outcome> {
     answers_of_tool(tool, move || lines(seed, count), seed % 2 == 0)
 }
 
-/// Asks the tool and the original the same lines, of which the last may lack its newline, where it isn't empty.
+/// Compares the tool with the original on the same lines. The last one may lack its newline if it isn't empty.
 pub fn answers_of_tool<L: Iterator<Item = Vec<u8>>>(
     tool: &str,
     lines: impl Fn() -> L + Clone + Send + 'static,
@@ -79,7 +79,7 @@ pub fn answers_of_tool<L: Iterator<Item = Vec<u8>>>(
     });
     let outcome = compare_lines(&mut told, again())?;
     if matches!(outcome, Outcome::Different(_)) {
-        // The lines that are left, and whoever waits to write them, end with this program.
+        // The remaining lines, and the thread that waits to write them, end with this program.
         child.kill()?;
         child.wait()?;
         return Ok(outcome);
@@ -128,7 +128,7 @@ fn compare_lines(
     Ok(Outcome::Same(counts))
 }
 
-/// Asks both sides about `count` single headers; `ours` tells our answers.
+/// Compares `count` single headers. `ours` returns our results.
 pub fn single_headers(ours: impl Fn(&Question) -> Told, seed: u64, count: usize) -> Outcome {
     let mut random = Random::new(seed);
     for index in 0..count {
@@ -144,7 +144,7 @@ pub fn single_headers(ours: impl Fn(&Question) -> Told, seed: u64, count: usize)
     Outcome::Same(Counts::new())
 }
 
-/// Asks both sides for `count` reads; `ours` tells our answers.
+/// Compares `count` reads. `ours` returns our results.
 pub fn all_reads(
     ours: impl Fn(&reads::Question) -> reads::Told,
     seed: u64,
@@ -170,7 +170,7 @@ pub fn all_reads(
     Outcome::Same(Counts::new())
 }
 
-/// Some reads that belong together: of a header whose length is right, a few bytes off or any, or of a chain.
+/// Makes some related reads: of a header whose length is right, off by a few bytes, or random; or of a chain.
 fn read_questions(random: &mut Random) -> Vec<reads::Question> {
     let (raw, auth) = (8 * (1 + units(random)), 4 * (3 + units(random)).min(257));
     let (kind, asked) = match random.below(8) {
@@ -233,7 +233,7 @@ fn read_question(kind: Kind, number: u8, bytes: Vec<u8>, random: &mut Random) ->
     }
 }
 
-/// A limit that all bytes keep, or a few or many don't.
+/// Makes a limit that is kept by all the bytes, or exceeded by few or many.
 fn limit(before: usize, len: usize, random: &mut Random) -> usize {
     match random.below(10) {
         0..2 => len,
@@ -245,7 +245,7 @@ fn limit(before: usize, len: usize, random: &mut Random) -> usize {
     }
 }
 
-/// A question about a single header. Lengths are right, a few bytes off, or any.
+/// Makes a case for a single header. Lengths are right, off by a few bytes, or random.
 fn question(random: &mut Random) -> Question {
     let raw = 8 * (1 + units(random));
     let auth = 4 * (3 + units(random)).min(257);
@@ -268,7 +268,7 @@ fn question(random: &mut Random) -> Question {
     }
 }
 
-/// How many units a header has beyond its first.
+/// Chooses how many units a header has in addition to its first.
 fn units(random: &mut Random) -> usize {
     match random.below(10) {
         0..7 => random.below(6),
@@ -277,7 +277,7 @@ fn units(random: &mut Random) -> usize {
     }
 }
 
-/// Bytes about as long as a header of this length, whose second byte mostly says so, or 0.
+/// Makes bytes about as long as a header of this length. The second byte usually states the length, or is 0.
 fn header_bytes(random: &mut Random, len: usize, field: u8) -> Vec<u8> {
     let mut bytes = part(random, len);
     if let Some(second) = bytes.get_mut(1) {
@@ -290,7 +290,7 @@ fn header_bytes(random: &mut Random, len: usize, field: u8) -> Vec<u8> {
     bytes
 }
 
-/// Bytes about as long as a fragment header, of which few bits of offset and flag are set at times.
+/// Makes bytes about as long as a fragment header, sometimes with few bits of offset and flag set.
 fn fragment_bytes(random: &mut Random) -> Vec<u8> {
     let mut bytes = header_bytes(random, 8, 0);
     if bytes.len() >= 4 && random.percent(40) {
@@ -299,7 +299,7 @@ fn fragment_bytes(random: &mut Random) -> Vec<u8> {
     bytes
 }
 
-/// So many bytes, or a few more or fewer, or any number up to there.
+/// Chooses this length, a few bytes more or less, or any length up to there.
 fn part(random: &mut Random, len: usize) -> Vec<u8> {
     let len = match random.below(10) {
         0..5 => len,
@@ -329,7 +329,7 @@ mod tests {
         ));
     }
 
-    /// Each part of a read in turn is told wrongly, and the difference is found.
+    /// Falsifies each part of a read in turn, and checks that the difference is found.
     #[test]
     fn a_planted_difference_in_a_read_is_found() {
         let plants: [fn(&mut reads::Told); 11] = [
@@ -355,7 +355,7 @@ mod tests {
         }
     }
 
-    /// Fragment headers that are read and written with the bits of the original are told from ours.
+    /// Fragment headers that are read and written with the bits of the original are distinguished from ours.
     #[test]
     fn the_bits_of_the_original_are_found() {
         let header = |question: &Question| match question {
@@ -388,8 +388,8 @@ mod tests {
         }
     }
 
-    /// Among the fragment headers that are asked about, each value of the reserved bits comes with no fragment, with
-    /// a last one and with one that isn't the last.
+    /// Among the fragment headers of the cases, each value of the reserved bits occurs with no fragment, with a
+    /// last fragment and with one that isn't the last.
     #[test]
     fn each_kind_of_fragment_header_is_asked_for() {
         let met = std::cell::RefCell::new(std::collections::BTreeSet::new());
@@ -411,7 +411,7 @@ mod tests {
         assert!(met.borrow().iter().eq(all.as_flattened()));
     }
 
-    /// Each outcome of a read comes, of each kind.
+    /// Each result of a read occurs, for each kind.
     #[test]
     fn each_outcome_of_a_read_comes() {
         let met = std::cell::RefCell::new(std::collections::BTreeSet::new());
@@ -441,7 +441,7 @@ mod tests {
         assert_eq!(faults(Kind::Ipv6, true), [0, 1, 2, 3, 4]);
     }
 
-    /// Each part in turn is told wrongly now and then, and the difference is found.
+    /// Falsifies each part in turn, and checks that the difference is found.
     #[test]
     fn a_planted_difference_in_a_part_is_found() {
         let plants: [fn(&mut Told); 8] = [

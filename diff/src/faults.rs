@@ -1,9 +1,9 @@
-//! The texts of the original's faults.
+//! The tool's texts for the original's errors.
 use etherparse::err::ipv6_exts::{HeaderError, HeaderSliceError};
 use etherparse::err::{ip, ip_auth, LenError};
 use std::fmt::Write;
 
-/// The text of an error of length.
+/// Formats a length error.
 pub fn push_len_fault(fault: &LenError, answer: &mut String) {
     let LenError {
         required_len,
@@ -20,7 +20,7 @@ pub fn push_len_fault(fault: &LenError, answer: &mut String) {
     );
 }
 
-/// The text of a fault of an authentication header.
+/// Formats an error of an authentication header.
 pub fn push_auth_fault(fault: &ip_auth::HeaderSliceError, answer: &mut String) {
     match fault {
         ip_auth::HeaderSliceError::Len(fault) => push_len_fault(fault, answer),
@@ -30,7 +30,7 @@ pub fn push_auth_fault(fault: &ip_auth::HeaderSliceError, answer: &mut String) {
     }
 }
 
-/// The text of a fault of an IPv6 chain.
+/// Formats an error of an IPv6 chain.
 pub fn push_ipv6_fault(fault: &HeaderSliceError, answer: &mut String) {
     match fault {
         HeaderSliceError::Len(fault) => push_len_fault(fault, answer),
@@ -38,7 +38,7 @@ pub fn push_ipv6_fault(fault: &HeaderSliceError, answer: &mut String) {
     }
 }
 
-/// The text of a fault of the content of an IPv6 chain.
+/// Formats an error in the content of an IPv6 chain.
 fn ipv6_content(fault: &HeaderError) -> &'static str {
     match fault {
         HeaderError::HopByHopNotAtStart => "fault HopByHopNotAtStart",
@@ -46,7 +46,7 @@ fn ipv6_content(fault: &HeaderError) -> &'static str {
     }
 }
 
-/// The line that says why there is no packet.
+/// Formats the line for an error of a packet.
 pub fn push_packet_fault(fault: &ip::SliceError, answer: &mut String) {
     use ip::HeaderError::{Ipv4HeaderLengthSmallerThanHeader, UnsupportedIpVersion};
     match fault {
@@ -69,7 +69,7 @@ pub fn push_packet_fault(fault: &ip::SliceError, answer: &mut String) {
     answer.push('\n');
 }
 
-/// Appends what `format_args!` says.
+/// Appends what `format_args!` formats.
 pub fn push(answer: &mut String, text: std::fmt::Arguments<'_>) {
     answer.write_fmt(text).expect("a String takes all text");
 }

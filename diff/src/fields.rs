@@ -1,10 +1,11 @@
-//! What the library reads of fragment headers and writes of them, for who holds that against another program.
+//! Prints what the library reads from fragment headers and writes, for comparison with another program.
 use crate::forms::{bytes_of, hex_of};
 use crate::headers::{ours, Question};
 use std::io::{self, BufRead, Write};
 
-/// Answers each line of the digits of a fragment header by the number behind it, the offset in units of 8 bytes, the
-/// more flag, whether it makes its payload a fragment, the identification, and the header as it is written again.
+/// Answers each line, the hexadecimal digits of a fragment header, with its next header, the offset in units of 8
+/// bytes, the M flag, whether it makes the payload a fragment, the identification, and the header as it is written
+/// again.
 pub fn answer_lines(input: impl BufRead, mut output: impl Write) -> io::Result<()> {
     for line in input.lines() {
         let line = line?;
@@ -16,7 +17,7 @@ pub fn answer_lines(input: impl BufRead, mut output: impl Write) -> io::Result<(
     output.flush()
 }
 
-/// The answer to a line; `None` where it has other digits than those of a header.
+/// Returns the answer to a line, or `None` if it isn't the digits of a header.
 fn fields(line: &str) -> Option<String> {
     let bytes = bytes_of(line).filter(|bytes| bytes.len() == 8)?;
     let (borrowed, owned) = (
@@ -43,7 +44,7 @@ fn fields(line: &str) -> Option<String> {
 mod tests {
     use super::*;
 
-    /// The figure of RFC 8200, section 4.5: 13 bits of offset, two reserved ones, and the more flag.
+    /// The figure in RFC 8200, section 4.5: 13 bits of offset, two reserved bits, and the M flag.
     #[test]
     fn the_fields_lie_where_the_standard_has_them() {
         let asked = "110000080000002a\n1100000100000000\n11ffffffffffffff\n1100000000\n";

@@ -1,9 +1,10 @@
-//! Byte 3 of a fragment header in two layouts. Here it is that of RFC 8200, section 4.5: from the highest bit on the
-//! offset's low five bits, two reserved bits and the more flag, `ooooorrM`. The original has `Mrrooooo`.
+//! Converts byte 3 of fragment headers between two layouts. Ours is that of RFC 8200, section 4.5: from the
+//! highest bit on, the low five bits of the offset, two reserved bits and the M flag, `ooooorrM`. The original has
+//! `Mrrooooo`.
 //!
-//! One is the other with its bits in another order, so both sides can be asked about the same headers: the original
-//! is given bytes whose fragment headers are in its own layout, and what it writes is put into ours again. Which
-//! headers there are is told by their numbers and lengths alone, so it is the same in both layouts.
+//! The two layouts have the same bits in another order, so both sides can parse the same headers: the original
+//! gets bytes whose fragment headers are in its own layout, and what it writes is converted back to ours. Fragment
+//! headers are found by the numbers and lengths alone, which are the same in both layouts.
 
 /// The numbers of extension headers.
 const HOP_BY_HOP: u8 = 0;
@@ -12,27 +13,28 @@ const FRAGMENT: u8 = 44;
 const AUTH: u8 = 51;
 const DEST_OPTIONS: u8 = 60;
 
-/// The length of an IPv6 header and of a fragment header, in bytes.
+/// The lengths of an IPv6 header and of a fragment header in bytes.
 const IPV6_LEN: usize = 40;
 const FRAGMENT_LEN: usize = 8;
 
-/// The byte of a fragment header with the offset's low bits, which the layouts put in another order.
+/// The index of the byte of a fragment header that has the low bits of the offset, which the layouts order
+/// differently.
 const LOW_BYTE: usize = 3;
 
-/// Byte 3 of a fragment header in the other layout.
+/// A conversion of byte 3 of a fragment header to the other layout.
 pub type Bits = fn(u8) -> u8;
 
-/// Our byte as the original has it.
+/// Converts our byte to the original's layout.
 pub fn to_the_original(byte: u8) -> u8 {
     (byte & 0b0000_0001) << 7 | (byte & 0b0000_0110) << 4 | byte >> 3
 }
 
-/// The original's byte as we have it.
+/// Converts the original's byte to our layout.
 pub fn from_the_original(byte: u8) -> u8 {
     byte >> 7 | (byte & 0b0110_0000) >> 4 | (byte & 0b0001_1111) << 3
 }
 
-/// The fragment header that begins the bytes, and what is behind it, in the other layout.
+/// Converts the fragment header at the start of the bytes. What follows it is unchanged.
 pub fn header(bytes: &[u8], bits: Bits) -> Vec<u8> {
     let mut bytes = bytes.to_vec();
     if bytes.len() >= FRAGMENT_LEN {
@@ -41,11 +43,11 @@ pub fn header(bytes: &[u8], bits: Bits) -> Vec<u8> {
     bytes
 }
 
-/// The bytes with each fragment header of the longest chain that begins them, from a number, in the other layout.
+/// Converts each fragment header of the longest chain at the start of the bytes, beginning with a number.
 pub fn chain(start: u8, bytes: &[u8], bits: Bits) -> Vec<u8> {
     let mut bytes = bytes.to_vec();
     let (mut number, mut at) = (start, 0);
-    // Hop by hop options stand first or nowhere.
+    // Hop-by-hop options may only come first.
     while number != HOP_BY_HOP || at == 0 {
         let Some(len) = whole_header_len(number, &bytes[at..]) else {
             break;
@@ -59,9 +61,9 @@ pub fn chain(start: u8, bytes: &[u8], bits: Bits) -> Vec<u8> {
     bytes
 }
 
-/// The packet that begins the bytes with each fragment header of its chain in the other layout. The chain ends where
-/// the packet does: where its payload length says, or with the bytes, where that is 0 or more than there are. Packets
-/// of another version than 6 have no such header.
+/// Converts each fragment header in the chain of the packet at the start of the bytes. The chain ends where the
+/// packet does: where its payload length says, or at the end of the bytes if that is 0 or more than there are.
+/// Packets of other versions than 6 have no such header.
 pub fn packet(bytes: &[u8], bits: Bits) -> Vec<u8> {
     if bytes.len() < IPV6_LEN || bytes[0] >> 4 != 6 {
         return bytes.to_vec();
@@ -78,7 +80,7 @@ pub fn packet(bytes: &[u8], bits: Bits) -> Vec<u8> {
     [base, &chain(bytes[6], inside, bits), trailer].concat()
 }
 
-/// The length of the header of this number that begins the bytes, if a whole one does.
+/// Returns the length of the header with this number at the start of the bytes, if it is complete.
 fn whole_header_len(number: u8, bytes: &[u8]) -> Option<usize> {
     let field = usize::from(*bytes.get(1)?);
     let len = match number {
@@ -94,7 +96,7 @@ fn whole_header_len(number: u8, bytes: &[u8]) -> Option<usize> {
 mod tests {
     use super::*;
 
-    /// Offset, reserved bits and flag of byte 3, as each layout has them.
+    /// Offset, reserved bits and flag of byte 3 in each layout.
     #[test]
     fn each_byte_has_the_same_fields_in_both_layouts() {
         for byte in 0..=255 {
@@ -107,7 +109,8 @@ mod tests {
         }
     }
 
-    /// Options of 16 bytes, a fragment header, an authentication header of 12 bytes, a fragment header, bytes behind.
+    /// Options of 16 bytes, a fragment header, an authentication header of 12 bytes, a fragment header, and more
+    /// bytes.
     fn asked(behind: &[u8]) -> Vec<u8> {
         let options = [44, 1, 0, 1, 0, 0, 0, 0, 0, 0, 0, 1, 0, 0, 0, 0];
         let fragment = [51, 9, 0, 1, 0, 0, 0, 1];
@@ -132,14 +135,14 @@ mod tests {
         assert_eq!(chain(DEST_OPTIONS, &behind, to_the_original), behind);
     }
 
-    /// An IPv6 packet with a fragment header of the more flag alone, and a payload length.
+    /// An IPv6 packet with a fragment header that has only the M flag, and a payload length.
     fn fragment(stated: u8) -> Vec<u8> {
         let mut bytes = [&[0x60, 0, 0, 0, 0, stated, FRAGMENT][..], &[0; 33]].concat();
         bytes.extend([17, 0, 0, 1, 0, 0, 0, 0]);
         bytes
     }
 
-    /// The length that a packet states, or none, or more than there is; less, so that the header isn't in it.
+    /// The length that a packet states, 0, more than there is; and less, so that it excludes the header.
     #[test]
     fn the_chain_of_a_packet_ends_where_the_packet_does() {
         for (stated, low) in [(8, 0x80), (0, 0x80), (9, 0x80), (7, 1)] {

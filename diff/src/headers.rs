@@ -1,4 +1,4 @@
-//! Single headers: the parts that each side reads, and the bytes that it writes of them.
+//! Single headers: the parts that each side reads, and the bytes that it writes.
 use crate::fragment_bits::{self, from_the_original, to_the_original};
 use crate::ours::{self, Header};
 use etherparse::err::ipv6_exts::ExtPayloadLenError;
@@ -8,10 +8,10 @@ use etherparse::{
     Ipv6RawExtHeader, Ipv6RawExtHeaderSlice, LenSource,
 };
 
-/// Room for the longest header and a byte more.
+/// Room for the longest header and one more byte.
 const ROOM: usize = 2049;
 
-/// A header with its payload or check value, what `to_bytes` gave and what `write` appended.
+/// A header with its payload or check value, the result of `to_bytes`, and what `write` appended.
 #[derive(Clone, Debug, Default, PartialEq, Eq)]
 pub struct Told {
     pub header: Header,
@@ -20,7 +20,7 @@ pub struct Told {
     pub written: Vec<u8>,
 }
 
-/// What is asked of both sides.
+/// A case for both sides.
 #[derive(Clone, Debug)]
 pub enum Question {
     RawBorrowed(Vec<u8>),
@@ -33,7 +33,7 @@ pub enum Question {
     FragmentOwned(Vec<u8>),
 }
 
-/// What the library tells.
+/// Returns the library's result.
 pub fn ours(question: &Question) -> Told {
     let (mut payload, mut spelled, mut written) = (vec![0; ROOM], vec![0; ROOM], vec![0; ROOM]);
     let (p, s, w) = (
@@ -43,7 +43,7 @@ pub fn ours(question: &Question) -> Told {
     );
     let mut header = Header::default();
     let out = &raw mut header;
-    // SAFETY: each pointer has ROOM bytes behind it, and the inputs have their own lengths.
+    // SAFETY: each pointer is valid for ROOM bytes, and the inputs for their own lengths.
     unsafe {
         match question {
             Question::RawBorrowed(b) => {
@@ -86,7 +86,7 @@ pub fn ours(question: &Question) -> Told {
     }
 }
 
-/// What the original tells, with the bits of fragment headers in our layout.
+/// Returns the original's result, with the bits of fragment headers in our layout.
 pub fn original(question: &Question) -> Told {
     match question {
         Question::RawBorrowed(bytes) => {

@@ -1,5 +1,5 @@
-//! Answers of etherparse 0.19.0 to lines of the tool, over single headers and over reads, what to ask with, and
-//! what is compared.
+//! Results of etherparse 0.19.0 for lines of the tool, for single headers and for reads; the cases; and the
+//! comparisons.
 pub mod bad_lines;
 pub mod before;
 pub mod chains;

@@ -1,9 +1,9 @@
-//! Compares the answers of this project with those of etherparse 0.19.0.
+//! Compares the results of this project with those of etherparse 0.19.0.
 //!
-//!     diff lines TOOL SEED COUNT    the tool's answers to so many lines from a seed
-//!     diff headers SEED COUNT       the parts of so many single headers and the bytes written of them
-//!     diff reads SEED COUNT         what so many reads take, leave and refuse
-//!     diff fields                   answers what we read of fragment headers, a line of digits for each
+//!     diff lines TOOL SEED COUNT    compares the tool's answers to COUNT lines from a seed
+//!     diff headers SEED COUNT       compares the parts and the written bytes of COUNT single headers
+//!     diff reads SEED COUNT         compares what COUNT reads consume, leave and reject
+//!     diff fields                   prints the fields of fragment headers, given as a line of digits each
 use diff::compare::{all_reads, lines_of_tool, single_headers, Outcome};
 use diff::{fields, headers, reads};
 use std::process::ExitCode;
@@ -13,7 +13,7 @@ fn main() -> ExitCode {
     let words: Vec<&str> = arguments.iter().map(String::as_str).collect();
     let number = |text: &str| {
         text.parse()
-            .unwrap_or_else(|_| panic!("{text} is no number"))
+            .unwrap_or_else(|_| panic!("{text} is not a number"))
     };
     match &words[..] {
         ["lines", tool, seed, count] => {
@@ -40,24 +40,26 @@ fn main() -> ExitCode {
                 Err(e) => refused(&e.to_string()),
             }
         }
-        _ => refused("lines TOOL SEED COUNT, headers SEED COUNT, reads SEED COUNT, or fields"),
+        _ => refused(
+            "usage: diff lines TOOL SEED COUNT | headers SEED COUNT | reads SEED COUNT | fields",
+        ),
     }
 }
 
-/// Says why nothing was compared.
+/// Reports why nothing was compared.
 fn refused(why: &str) -> ExitCode {
     eprintln!("diff: {why}");
     ExitCode::from(2)
 }
 
-/// Prints how a comparison ended.
+/// Prints the result of a comparison.
 fn told(what: &str, seed: &str, count: &str, outcome: Outcome) -> ExitCode {
     match outcome {
         Outcome::Same(counts) => {
             println!("{count} {what} from seed {seed}: the answers are the same");
             for (difference, times) in counts {
                 println!(
-                    "  but for a named difference, {times} times: {}",
+                    "  except for a known difference, {times} times: {}",
                     difference.words()
                 );
             }

@@ -1,16 +1,16 @@
-//! The calls of the static library `ipexts_diff` that tell the parts of single headers.
+//! The calls of the static library `ipexts_diff` that return the parts of single headers.
 
-/// A header or the reason why there is none, as the library tells it.
+/// A header, or the error, as returned by the library.
 #[repr(C)]
 #[derive(Clone, Copy, Debug, Default, PartialEq, Eq)]
 pub struct Header {
-    /// 0: none; 1: too few bytes; 2: an authentication header's length field is 0; 3 to 5: a payload or check
-    /// value is too small, too big, no whole number of units.
+    /// 0: none; 1: too few bytes; 2: the length field of an authentication header is 0; 3 to 5: a payload or check
+    /// value is too short, too long, or not a whole number of units.
     pub fault: u8,
     pub source: u8,
     pub layer: u8,
     pub next_header: u8,
-    /// 1: more fragments; 2: the payload is fragmented.
+    /// 1: more fragments; 2: the payload is a fragment.
     pub flags: u8,
     /// The security parameters index, or the identification.
     pub number: u32,
@@ -23,9 +23,9 @@ pub struct Header {
     /// The length of the payload or of the check value.
     pub payload_len: usize,
     pub rest_len: usize,
-    /// How many bytes `to_bytes` gave.
+    /// The number of bytes that `to_bytes` returned.
     pub spelled_len: usize,
-    /// How many bytes `write` appended.
+    /// The number of bytes that `write` appended.
     pub written_len: usize,
 }
 
@@ -104,25 +104,25 @@ unsafe extern "C" {
     );
 }
 
-/// What a read told, as the library tells it.
+/// The result of a read, as returned by the library.
 #[repr(C)]
 #[derive(Clone, Copy, Debug, Default, PartialEq, Eq)]
 pub struct Read {
-    /// 0: none; 1: the limit leaves too few bytes; 2: an authentication header's length field is 0; 3: hop by hop
-    /// options don't stand first; 4: the reader refused.
+    /// 0: none; 1: the limit leaves too few bytes; 2: the length field of an authentication header is 0; 3:
+    /// hop-by-hop options aren't first; 4: the reader failed.
     pub fault: u8,
     pub source: u8,
     pub layer: u8,
-    /// The number behind the headers.
+    /// The number after the headers.
     pub next_header: u8,
-    /// Which places have a header, a bit for each.
+    /// The places that have a header, one bit for each.
     pub places: u8,
     pub required_len: usize,
     pub found_len: usize,
     pub offset: usize,
-    /// How many bytes `write` appends of the value.
+    /// The number of bytes that `write` appends for the value.
     pub written_len: usize,
-    /// How many bytes are not yet read; not told where the reader refused.
+    /// The number of bytes not yet read; not set if the reader failed.
     pub left: usize,
     pub limit: Limit,
 }
@@ -138,7 +138,7 @@ pub struct Limit {
     pub read_len: usize,
 }
 
-/// How a limited reader begins.
+/// The initial state of a limited reader.
 #[repr(C)]
 #[derive(Clone, Copy, Debug)]
 pub struct Start {
@@ -146,7 +146,7 @@ pub struct Start {
     pub source: u8,
     pub max_len: u32,
     pub layer_offset: u32,
-    /// How many bytes are read before the header, in the layer in which the reader begins.
+    /// The number of bytes that are read before the header, in the layer in which the reader begins.
     pub before: u8,
 }
 

@@ -1,11 +1,11 @@
-//! Bytes that ask about IP packets.
+//! Makes bytes for IP packets.
 use crate::chains;
 use crate::random::Random;
 
-/// The length of an IPv6 header, in bytes.
+/// The length of an IPv6 header in bytes.
 const IPV6_LEN: usize = 40;
 
-/// Some packets that belong together, of at most so many bytes each.
+/// Makes some related packets, of at most `most` bytes each.
 pub fn asked(random: &mut Random, longest: usize) -> Vec<Vec<u8>> {
     let mut packets = match random.below(100) {
         0..40 => vec![packet(random)],
@@ -26,7 +26,7 @@ pub fn asked(random: &mut Random, longest: usize) -> Vec<Vec<u8>> {
     packets
 }
 
-/// A packet of either version, mostly with a length that is right and some bytes behind it.
+/// Makes a packet of either version, usually with a correct length and some bytes after it.
 fn packet(random: &mut Random) -> Vec<u8> {
     if random.percent(45) {
         ipv4(random)
@@ -35,7 +35,7 @@ fn packet(random: &mut Random) -> Vec<u8> {
     }
 }
 
-/// What stands behind a base header, and the number of its first part: a chain of headers and a payload.
+/// Makes what follows an IP header, a chain of headers and a payload, and the number of its first part.
 fn behind(random: &mut Random) -> (u8, Vec<u8>) {
     let asked = chains::asked(random, 2000);
     let at = random.below(asked.len());
@@ -57,7 +57,7 @@ fn ipv4(random: &mut Random) -> Vec<u8> {
     }
     let fragment: u16 = match random.below(8) {
         0..4 => 0,
-        // The bit that forbids fragments and the reserved one say nothing of a fragment.
+        // The don't-fragment and the reserved bit don't make the payload a fragment.
         4 => 0x4000,
         5 => 0x2000,
         6 => random.below(0x2000) as u16,
@@ -85,7 +85,7 @@ fn ipv6(random: &mut Random) -> Vec<u8> {
     trailed(bytes, random)
 }
 
-/// A packet with some bytes behind it now and then, as a link layer leaves them.
+/// Appends some bytes to a packet now and then, as a link layer does.
 fn trailed(mut packet: Vec<u8>, random: &mut Random) -> Vec<u8> {
     if random.percent(40) {
         let behind = random.below(50);
@@ -94,7 +94,7 @@ fn trailed(mut packet: Vec<u8>, random: &mut Random) -> Vec<u8> {
     packet
 }
 
-/// Where a packet says its length: the total one or that of its payload.
+/// Returns the position of the length field: the total length or the payload length.
 fn length_at(packet: &[u8]) -> usize {
     if packet.first().is_some_and(|first| first >> 4 == 4) {
         2
@@ -103,7 +103,7 @@ fn length_at(packet: &[u8]) -> usize {
     }
 }
 
-/// The packet with another length.
+/// Changes the length field of a packet.
 fn with_length(mut packet: Vec<u8>, len: u16) -> Vec<u8> {
     let at = length_at(&packet);
     packet[at..at + 2].copy_from_slice(&len.to_be_bytes());
@@ -115,7 +115,7 @@ fn length_of(packet: &[u8]) -> u16 {
     u16::from_be_bytes([packet[at], packet[at + 1]])
 }
 
-/// A packet whose length is off by a little.
+/// Makes a packet whose length is off by a little.
 fn with_length_off(random: &mut Random) -> Vec<u8> {
     let packet = packet(random);
     let len = length_of(&packet);
@@ -128,7 +128,7 @@ fn with_length_off(random: &mut Random) -> Vec<u8> {
     with_length(packet, len)
 }
 
-/// A packet that states any length, or one about as long as its base header.
+/// Makes a packet with any length, or one close to that of its IP header.
 fn lied(random: &mut Random) -> Vec<u8> {
     let packet = packet(random);
     let whole = packet.len() + 1;
@@ -142,7 +142,7 @@ fn lied(random: &mut Random) -> Vec<u8> {
     with_length(packet, len)
 }
 
-/// A packet with some bits turned, most of them in its base header.
+/// Makes a packet with some bits flipped, most of them in its IP header.
 fn flipped(random: &mut Random) -> Vec<u8> {
     let mut bytes = packet(random);
     for _ in 0..=random.below(3) {
@@ -164,14 +164,14 @@ fn cut_once(random: &mut Random) -> Vec<u8> {
     bytes
 }
 
-/// A packet cut at every byte.
+/// Truncates a packet at every byte.
 fn cut_everywhere(random: &mut Random) -> Vec<Vec<u8>> {
     let mut bytes = packet(random);
     bytes.truncate(200);
     (0..=bytes.len()).map(|end| bytes[..end].to_vec()).collect()
 }
 
-/// A packet with every first byte: every version, and every length of an IPv4 header.
+/// Makes a packet with every first byte: every version, and every length of an IPv4 header.
 fn every_first_byte(random: &mut Random) -> Vec<Vec<u8>> {
     let mut bytes = packet(random);
     bytes.truncate(120);
@@ -183,7 +183,7 @@ fn every_first_byte(random: &mut Random) -> Vec<Vec<u8>> {
         .collect()
 }
 
-/// A packet with every number behind its base header.
+/// Makes a packet with every number after its IP header.
 fn every_number(random: &mut Random) -> Vec<Vec<u8>> {
     let mut bytes = packet(random);
     let at = if length_at(&bytes) == 2 { 9 } else { 6 };
@@ -196,8 +196,8 @@ fn every_number(random: &mut Random) -> Vec<Vec<u8>> {
         .collect()
 }
 
-/// An IPv6 packet that states the payload length 0, as one of more than 65,535 bytes does, with or without
-/// bytes behind its base header, and at times cut among its headers.
+/// Makes an IPv6 packet with payload length 0, as for a packet of more than 65,535 bytes, with or without bytes
+/// after its IPv6 header, and sometimes truncated within its headers.
 fn without_a_length(random: &mut Random) -> Vec<u8> {
     let mut packet = with_length(ipv6(random), 0);
     match random.below(10) {
@@ -208,7 +208,7 @@ fn without_a_length(random: &mut Random) -> Vec<u8> {
     packet
 }
 
-/// As many bytes as a line can ask with, or nearly.
+/// Makes as many bytes as fit into a line, or nearly.
 fn long(random: &mut Random, longest: usize) -> Vec<u8> {
     let mut packet = packet(random);
     let len = longest - random.below(4);
@@ -221,7 +221,7 @@ fn long(random: &mut Random, longest: usize) -> Vec<u8> {
     with_length(packet, stated as u16)
 }
 
-/// Bytes without order, of any version.
+/// Makes random bytes, of any version.
 fn noise(random: &mut Random) -> Vec<u8> {
     let len = random.below(90);
     let mut bytes = random.bytes(len);

@@ -1,6 +1,6 @@
-//! Numbers from a seed.
+//! Pseudo-random numbers from a seed.
 
-/// A generator of numbers (xorshift64*).
+/// A pseudo-random number generator (xorshift64*).
 pub struct Random(u64);
 
 impl Random {
@@ -19,7 +19,7 @@ impl Random {
         (self.next() % end as u64) as usize
     }
 
-    /// Whether an event of so many in a hundred happens.
+    /// Returns true with a probability of `percent` in a hundred.
     pub fn percent(&mut self, percent: usize) -> bool {
         self.below(100) < percent
     }

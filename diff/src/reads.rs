@@ -1,5 +1,5 @@
-//! Headers and chains that are read from bytes in memory, with and without a limit: what is taken, what is left,
-//! and what is refused.
+//! Headers and chains read from bytes in memory, with and without a limit: what is consumed, what is left, and
+//! what is rejected.
 use crate::fragment_bits::{self, from_the_original, to_the_original, Bits};
 use crate::headers::{layer_code, len_source_code};
 use crate::ours::{self, Limit, Read, Start};
@@ -12,13 +12,13 @@ use etherparse::{
 };
 use std::io::Cursor;
 
-/// Room for the longest headers of a struct and a byte more.
+/// Room for the longest headers of a struct and one more byte.
 const ROOM: usize = 4 * 2048 + 1028 + 8 + 1;
 
-/// The code of a refusal by the reader.
+/// The code for a failure of the reader.
 const IO: u8 = 4;
 
-/// What is read.
+/// The kinds of reads.
 #[derive(Clone, Copy, Debug, PartialEq, Eq)]
 pub enum Kind {
     Raw,
@@ -28,26 +28,26 @@ pub enum Kind {
     Ipv6,
 }
 
-/// What is asked of both sides.
+/// A case for both sides.
 #[derive(Clone, Debug)]
 pub struct Question {
     pub kind: Kind,
-    /// The number that names the first header of a chain.
+    /// The number of the first header of a chain.
     pub start: u8,
-    /// Whether our side reads by way of the standard library's reader of bytes.
+    /// Whether our side reads through the standard library's reader over bytes.
     pub is_over: bool,
     pub limit: Option<Start>,
     pub bytes: Vec<u8>,
 }
 
-/// What a read told, and the value as it is written.
+/// The result of a read, and the value as it is written.
 #[derive(Clone, Debug, Default, PartialEq, Eq)]
 pub struct Told {
     pub read: Read,
     pub written: Vec<u8>,
 }
 
-/// What the library tells.
+/// Returns the library's result.
 pub fn ours(question: &Question) -> Told {
     let Question {
         kind,
@@ -59,7 +59,7 @@ pub fn ours(question: &Question) -> Told {
     let (kind, mut written, mut read) = (*kind as u8, vec![0; ROOM], Read::default());
     let (b, len, w) = (bytes.as_ptr(), bytes.len(), written.as_mut_ptr());
     let out = &raw mut read;
-    // SAFETY: each pointer has its length behind it.
+    // SAFETY: each pointer is valid for its length.
     unsafe {
         match limit {
             None => ours::ipexts_read_fields(kind, *start, *is_over, b, len, w, ROOM, out),
@@ -72,7 +72,7 @@ pub fn ours(question: &Question) -> Told {
     Told { read, written }
 }
 
-/// What the original tells, with the bits of fragment headers in our layout.
+/// Returns the original's result, with the bits of fragment headers in our layout.
 pub fn original(question: &Question) -> Told {
     let before = question.limit.map_or(0, |limit| limit.before.into());
     let (before, headers) = question.bytes.split_at(before.min(question.bytes.len()));
@@ -82,7 +82,7 @@ pub fn original(question: &Question) -> Told {
     told
 }
 
-/// The headers that a question reads, or that were written of its answer, in the other layout.
+/// Converts the headers that a case reads, or that were written from its result, to the other layout.
 pub fn in_layout(question: &Question, bytes: &[u8], bits: Bits) -> Vec<u8> {
     match question.kind {
         Kind::Fragment => fragment_bits::header(bytes, bits),
@@ -91,7 +91,7 @@ pub fn in_layout(question: &Question, bytes: &[u8], bits: Bits) -> Vec<u8> {
     }
 }
 
-/// What the original tells of the question about these bytes.
+/// Returns the original's result for these bytes.
 fn read_of(question: &Question, bytes: &[u8]) -> Told {
     match &question.limit {
         None => {
@@ -127,7 +127,7 @@ fn read_of(question: &Question, bytes: &[u8]) -> Told {
     }
 }
 
-/// The same with how many bytes are left, where the reader didn't refuse.
+/// Adds the number of bytes left, if the reader didn't fail.
 fn with_left(mut told: Told, reader: &Cursor<&[u8]>, len: usize) -> Told {
     if told.read.fault != IO {
         told.read.left = len - reader.position() as usize;
@@ -233,7 +233,7 @@ fn auth_read_fault(fault: ip_auth::HeaderReadError) -> Told {
     }
 }
 
-/// A value as it is written, with the number behind it and the places that it fills.
+/// Returns the value as it is written, the number after it, and the places that it occupies.
 fn value(next: IpNumber, places: u8, written: Vec<u8>) -> Told {
     let read = Read {
         next_header: next.0,

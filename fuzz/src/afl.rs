@@ -1,14 +1,14 @@
-//! The loop that AFL++ drives: inputs come in shared memory, many to a process.
+//! The AFL++ persistent loop: inputs come in shared memory, many per process.
 use std::hint::black_box;
 
-/// How many inputs a process gets.
+/// The number of inputs per process.
 const INPUTS: u32 = 10_000;
 
-/// Tells `afl-fuzz` that the loop is there.
+/// The signature by which `afl-fuzz` recognizes persistent mode.
 #[used]
 static PERSISTENT: [u8; 22] = *b"##SIG_AFL_PERSISTENT##";
 
-/// Tells AFL's runtime that inputs are taken from shared memory.
+/// The signature by which AFL++'s runtime recognizes that inputs are passed in shared memory.
 #[no_mangle]
 static mut __afl_sharedmem_fuzzing: i32 = 1;
 
@@ -19,10 +19,10 @@ unsafe extern "C" {
     static mut __afl_fuzz_len: *const u32;
 }
 
-/// Hands each input to `one`.
+/// Passes each input to `one`.
 pub fn each_input(one: impl Fn(&[u8])) {
     black_box(&PERSISTENT);
-    // SAFETY: after the first call both pointers point to AFL's memory, and the length is that of the input.
+    // SAFETY: after the first call both pointers point to AFL++'s memory, and the length is that of the input.
     unsafe {
         __afl_manual_init();
         while __afl_persistent_loop(INPUTS) != 0 {

@@ -1,28 +1,28 @@
-//! The bytes of a call, as each side is given them: the original's have fragment headers with its own bits.
+//! The bytes for a call, for each side: the original gets fragment headers with its own bits.
 use diff::fragment_bits::{self, to_the_original};
 use std::borrow::Cow;
 
-/// Where a call finds headers in its bytes.
+/// Where the bytes of a call have headers.
 #[derive(Clone, Copy)]
 pub enum Begins {
-    /// A chain from the first byte on, whose first header this number names.
+    /// A chain that starts at the first byte, with this number.
     Chain(u8),
     /// A single fragment header.
     Fragment,
-    /// Behind the base header of a packet.
+    /// After the IP header of a packet.
     Packet,
     /// The call reads no fragment header.
     Nowhere,
 }
 
-/// The bytes of both sides, which are as many.
+/// The bytes for both sides, of the same length.
 pub struct Asked<'a> {
     ours: &'a [u8],
     original: Cow<'a, [u8]>,
 }
 
 impl<'a> Asked<'a> {
-    /// Our side is asked with these bytes.
+    /// Makes the bytes for both sides from ours.
     pub fn new(begins: Begins, ours: &'a [u8]) -> Asked<'a> {
         let original = match begins {
             Begins::Chain(start) => fragment_bits::chain(start, ours, to_the_original).into(),
@@ -33,12 +33,12 @@ impl<'a> Asked<'a> {
         Asked { ours, original }
     }
 
-    /// What the original is given.
+    /// Returns the bytes for the original.
     pub fn original(&self) -> &[u8] {
         &self.original
     }
 
-    /// The part of our bytes that stands where this part of the original's does.
+    /// Returns the part of our bytes at the position of this part of the original's.
     pub fn ours(&self, part: &[u8]) -> &'a [u8] {
         if part.is_empty() {
             return &[];
@@ -52,7 +52,7 @@ impl<'a> Asked<'a> {
 mod tests {
     use super::*;
 
-    /// A fragment header of the more flag alone, and a byte behind it.
+    /// A fragment header with only the M flag, and one more byte.
     const FRAGMENT: [u8; 9] = [17, 0, 0, 1, 0, 0, 0, 9, 5];
 
     #[test]

@@ -1,4 +1,4 @@
-//! All calls that are made on an input, each with the original's side of it.
+//! All calls that are made on an input, each with its counterpart in the original.
 use crate::asked::{Asked, Begins};
 use crate::input::Input;
 use crate::measured::{ChainCall, HeaderCall, PacketCall, RepeatedCall};
@@ -9,7 +9,7 @@ use diff::headers::{self, Question};
 use diff::reads::{self, Kind};
 use etherparse::{IpNumber, Ipv6Extensions, Ipv6ExtensionsSlice};
 
-/// What a side answers.
+/// A result.
 #[derive(Debug, PartialEq, Eq)]
 pub enum Answer {
     Digest(u64),
@@ -17,11 +17,11 @@ pub enum Answer {
     Read(reads::Told),
 }
 
-/// A call, and what the original answers in its place.
+/// A call, and its counterpart in the original.
 pub struct Call {
     pub name: &'static str,
     pub sides: Sides,
-    /// When both sides answer alike.
+    /// When both sides must return the same.
     pub alike: Alike,
 }
 
@@ -32,7 +32,7 @@ pub enum Sides {
     Packet(PacketCall, PacketCall),
     Header(HeaderCall, HeaderCall),
     Repeated(Begins, RepeatedCall, RepeatedCall),
-    /// Those in whose digests every byte counts.
+    /// Calls whose digests cover every byte.
     EveryByteOfChain(ChainCall, fn(u8, &[u8]) -> u64),
     EveryByteOfPacket(PacketCall, fn(&[u8]) -> u64),
     EveryByteLinked,
@@ -42,18 +42,19 @@ pub enum Sides {
     LimitedRead(Kind),
 }
 
-/// The named differences of docs/DIFFERENCES.md on which a call isn't made.
+/// The known differences of docs/DIFFERENCES.md for which a call isn't made.
 #[derive(Clone, Copy)]
 pub enum Alike {
     Always,
-    /// The original's iterator reads on behind a chain that ended at a fault, so `bench/` leaves it out there.
+    /// The original's iterator reads past the end of a chain that ended at an error, so `bench/` leaves it out
+    /// there.
     WhereTheChainHasNoFault,
-    /// The original's `write` panics from 0 where there are no hop by hop options.
+    /// The original's `write` panics from number 0 if there are no hop-by-hop options.
     BehindHopByHopOptions,
 }
 
 impl Alike {
-    /// Whether both sides answer this input alike.
+    /// Returns whether both sides must return the same for this input.
     pub fn holds(self, input: &Input<'_>) -> bool {
         match self {
             Alike::Always => true,
@@ -69,17 +70,18 @@ impl Alike {
     }
 }
 
-/// How often bytes are written, each time with another next number.
+/// How often bytes are written, each time with another next header.
 const TIMES: u32 = 3;
 
-/// The byte that digests of `bench/` choose: the first, since all others are compared elsewhere.
+/// The index of the byte that digests of `bench/` include: the first, since all others are compared by other
+/// calls.
 const CHOSEN: usize = 0;
 
 impl Sides {
-    /// What our side answers.
+    /// Returns our result.
     pub fn ours(&self, input: &Input<'_>) -> Answer {
         let (start, bytes, len) = (input.start, input.bytes.as_ptr(), input.bytes.len());
-        // SAFETY: the pointer has so many bytes behind it.
+        // SAFETY: the pointer is valid for that many bytes.
         Answer::Digest(unsafe {
             match self {
                 Sides::Chain(ours, _) | Sides::Ipv4(ours, _) => ours(start, bytes, len),
@@ -100,7 +102,7 @@ impl Sides {
         })
     }
 
-    /// What the original answers. Its bytes are made here, or by `every_byte` and the modules of `diff/`.
+    /// Returns the original's result. Its bytes are made here, or by `every_byte` and the modules of `diff/`.
     pub fn original(&self, input: &Input<'_>) -> Answer {
         let begins = match self {
             Sides::Chain(..) => Begins::Chain(input.start),
@@ -110,7 +112,7 @@ impl Sides {
         };
         let asked = Asked::new(begins, input.bytes);
         let (bytes, len) = (asked.original().as_ptr(), asked.original().len());
-        // SAFETY: the pointer has so many bytes behind it.
+        // SAFETY: the pointer is valid for that many bytes.
         Answer::Digest(unsafe {
             match self {
                 Sides::Chain(_, original) | Sides::Ipv4(_, original) => {
@@ -166,7 +168,7 @@ fn call(name: &'static str, sides: Sides) -> Call {
     }
 }
 
-/// All calls.
+/// Returns all calls.
 pub fn calls() -> Vec<Call> {
     [
         chains(),

@@ -1,4 +1,4 @@
-//! What the program does by itself, without AFL++.
+//! The program's own commands, without AFL++.
 use crate::input::Input;
 use crate::plant::Plant;
 use crate::{calls, compare, lines, seeds};
@@ -7,7 +7,7 @@ use std::io::{Error, ErrorKind, Result};
 use std::path::{Path, PathBuf};
 use std::process::ExitCode;
 
-/// Does what the words ask for.
+/// Runs a command.
 pub fn run(words: &[&str], plant: &Plant) -> Result<ExitCode> {
     match words {
         ["seeds", folder, file, seed] => {
@@ -36,7 +36,7 @@ pub fn run(words: &[&str], plant: &Plant) -> Result<ExitCode> {
     }
 }
 
-/// The files of a folder in the order of their names. AFL++ keeps its own state beside them, in a folder.
+/// Returns the files of a folder, sorted by name. AFL++ also keeps its own state there, in a subfolder.
 fn files(folder: &str) -> Result<Vec<PathBuf>> {
     let mut files = Vec::new();
     for entry in std::fs::read_dir(folder)? {
@@ -49,7 +49,7 @@ fn files(folder: &str) -> Result<Vec<PathBuf>> {
     Ok(files)
 }
 
-/// Makes all calls on each input, and tells it where the original panics.
+/// Makes all calls on each input. Reports the input if the original panics.
 fn inputs(folder: &str, plant: &Plant) -> Result<ExitCode> {
     let calls = calls::calls();
     for file in files(folder)? {
@@ -57,7 +57,7 @@ fn inputs(folder: &str, plant: &Plant) -> Result<ExitCode> {
         let asked = Input::new(&input).map(|input| compare::words(&input));
         std::panic::set_hook(Box::new(move |panic| {
             println!(
-                "a difference: the original panics {}",
+                "a difference: the original panics, {}",
                 asked.as_deref().unwrap_or("")
             );
             println!("{panic}");
@@ -70,12 +70,12 @@ fn inputs(folder: &str, plant: &Plant) -> Result<ExitCode> {
     Ok(ExitCode::SUCCESS)
 }
 
-/// Prints how a comparison of lines ended.
+/// Prints the result of a comparison of lines.
 fn told(outcome: Outcome) -> ExitCode {
     match outcome {
         Outcome::Same(counts) => {
             for (difference, times) in counts {
-                println!("a named difference, {times} times: {}", difference.words());
+                println!("a known difference, {times} times: {}", difference.words());
             }
             ExitCode::SUCCESS
         }

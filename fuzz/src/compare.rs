@@ -1,11 +1,11 @@
-//! Both sides of all calls on an input, and the first difference.
+//! Makes all calls on an input on both sides, and finds the first difference.
 use crate::calls::{Answer, Call};
 use crate::input::Input;
 use crate::plant::Plant;
 use diff::forms::hex_of;
 use std::fmt;
 
-/// A call on which the sides differ, with what each answers.
+/// A call whose results differ, with both results.
 pub struct Difference {
     call: &'static str,
     input: String,
@@ -23,7 +23,7 @@ impl fmt::Display for Difference {
     }
 }
 
-/// An input in words.
+/// Formats an input.
 pub fn words(input: &Input<'_>) -> String {
     let Input {
         start,
@@ -33,7 +33,7 @@ pub fn words(input: &Input<'_>) -> String {
         bytes,
     } = input;
     let bytes = hex_of(bytes, false);
-    format!("from {start}, before {last}, over a reader {is_over}, under {limit:?}, of {bytes}")
+    format!("from {start}, last {last}, over a reader {is_over}, limit {limit:?}, bytes {bytes}")
 }
 
 /// Makes all calls on an input.

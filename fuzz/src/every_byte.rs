@@ -1,4 +1,4 @@
-//! Digests of the original's answers in which every byte counts, as `ipexts_diff` has them of ours.
+//! Digests of the original's results that cover every byte, like those of `ipexts_diff` for ours.
 use crate::asked::{Asked, Begins};
 use crate::original::{layer_code, of_answer, of_auth, of_fault, of_header, with};
 use crate::original_slices::{of_ip_fault, of_ipv4_fault, of_ipv6_fault};
@@ -20,7 +20,7 @@ fn with_bytes(sum: u64, bytes: &[u8]) -> u64 {
         })
 }
 
-/// The bytes of a header, and those behind its fixed fields.
+/// Adds the bytes of a header, and those after its fixed fields.
 fn parts<'a>(header: &Ipv6ExtensionSlice<'a>) -> (&'a [u8], Option<&'a [u8]>) {
     use Ipv6ExtensionSlice::{Authentication, DestinationOptions, Fragment, HopByHop, Routing};
     match header {
@@ -42,8 +42,8 @@ fn with_header(asked: &Asked<'_>, sum: u64, header: &Ipv6ExtensionSlice<'_>) -> 
     behind.map_or(sum, |behind| with_bytes(sum, asked.ours(behind)))
 }
 
-/// Adds the headers of a chain. The original's iterator reads on behind a chain that a lax parse ended at a fault, so
-/// it is stopped at the chain's bytes.
+/// Adds the headers of a chain. The original's iterator reads past the end of a chain that a lax parse ended at an
+/// error, so it is stopped at the end of the chain.
 fn with_headers(asked: &Asked<'_>, mut sum: u64, headers: Ipv6ExtensionsSlice<'_>) -> u64 {
     let mut left = headers.slice().len();
     let mut headers = headers.into_iter();
@@ -82,7 +82,7 @@ pub fn strict(start: u8, bytes: &[u8]) -> u64 {
     }
 }
 
-/// What our cursor gives: the original has none, but a lax parse and its iterator.
+/// The counterpart of our cursor: the original has none, but a lax parse and its iterator.
 pub fn cursor(start: u8, bytes: &[u8]) -> u64 {
     let asked = Asked::new(Begins::Chain(start), bytes);
     let (headers, number, rest, fault) =
@@ -112,8 +112,8 @@ fn with_held(sum: u64, exts: &Ipv6Extensions) -> u64 {
     auth.map_or(routing, |header| with_bytes(routing, header.raw_icv()))
 }
 
-/// What a struct is as it is written. From 0 the original panics where there are no hop by hop options; it isn't
-/// called there, and what is wanted is what `next_header` says with nothing written.
+/// Adds a struct as it is written. From number 0 the original panics if there are no hop-by-hop options. It isn't
+/// called then, and the expected result is that of `next_header` with nothing written.
 fn written(exts: &Ipv6Extensions, start: IpNumber) -> Option<Vec<u8>> {
     let mut out = Vec::new();
     if start.0 == 0 && exts.hop_by_hop_options.is_none() {
@@ -146,7 +146,7 @@ pub fn linked_struct(start: u8, last: u8, bytes: &[u8]) -> u64 {
     with_written(u64::from(first.0), &exts, first)
 }
 
-/// The struct parse called again and again, as a caller of the original does who wants all headers.
+/// Calls the struct parse repeatedly, as a caller of the original does to get all headers.
 pub fn runs(start: u8, bytes: &[u8]) -> u64 {
     let asked = Asked::new(Begins::Chain(start), bytes);
     let (mut number, mut rest, mut sum) = (IpNumber(start), asked.original(), 0);

@@ -1,23 +1,23 @@
-//! An input: numbers and limits in its first bytes, and behind them the bytes with which all calls are made.
+//! An input: numbers and limits in its first bytes, followed by the bytes with which all calls are made.
 use diff::ours::Start;
 
-/// How many bytes stand before those of the calls.
+/// The number of bytes before those for the calls.
 pub const HEAD_LEN: usize = 8;
 
-/// What a call is made with.
+/// The arguments of the calls.
 pub struct Input<'a> {
-    /// The number that names the first header of a chain.
+    /// The number of the first header of a chain.
     pub start: u8,
-    /// The number before which headers are linked, and to which a new header leads.
+    /// The number after linked headers, and the next header of a new header.
     pub last: u8,
-    /// Whether our side reads by way of the standard library's reader of bytes.
+    /// Whether our side reads through the standard library's reader over bytes.
     pub is_over: bool,
     pub limit: Start,
     pub bytes: &'a [u8],
 }
 
 impl<'a> Input<'a> {
-    /// Takes an input apart; none is shorter than its head.
+    /// Parses an input. None is shorter than its head.
     pub fn new(input: &'a [u8]) -> Option<Input<'a>> {
         let (head, bytes) = input.split_first_chunk::<HEAD_LEN>()?;
         let [start, last, kind, before, max_high, max_low, offset_high, offset_low] = *head;
@@ -35,7 +35,7 @@ impl<'a> Input<'a> {
         })
     }
 
-    /// The bytes of the input.
+    /// Returns the bytes of the input.
     #[cfg(not(afl))]
     pub fn to_bytes(&self) -> Vec<u8> {
         let kind = u8::from(self.is_over) | self.limit.source << 1;

@@ -4,7 +4,7 @@ use diff::compare::{answers_of_tool, Outcome};
 use diff::forms::hex_of;
 use std::io;
 
-/// Asks the tool and the original with each input.
+/// Compares the tool with the original on each input.
 pub fn ask(tool: &str, inputs: &[Vec<u8>]) -> io::Result<Outcome> {
     let lines: Vec<Vec<u8>> = inputs
         .iter()
@@ -14,7 +14,7 @@ pub fn ask(tool: &str, inputs: &[Vec<u8>]) -> io::Result<Outcome> {
     answers_of_tool(tool, move || lines.clone().into_iter(), true)
 }
 
-/// A line of each form.
+/// Makes a line of each form.
 fn lines(input: &Input<'_>) -> Vec<Vec<u8>> {
     let hex = hex_of(input.bytes, false);
     let chains = ["exts6", "exts4", "rewrite6", "rewriteall6"];

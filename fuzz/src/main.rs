@@ -1,11 +1,11 @@
-//! Asks both sides with the inputs of a fuzzer, and tells the first difference.
+//! Runs both sides on the inputs of a fuzzer, and reports the first difference.
 //!
-//!     fuzz seeds FOLDER FILE SEED     writes first inputs, made of the lines of FILE and of numbers from a seed
-//!     fuzz inputs FOLDER              makes all calls on each input of a folder
-//!     fuzz lines TOOL FOLDER          asks the tool lines of each form with each input of a folder
+//!     fuzz seeds FOLDER FILE SEED     writes initial inputs, made from the lines of FILE and from a seed
+//!     fuzz inputs FOLDER              makes all calls on each input in a folder
+//!     fuzz lines TOOL FOLDER          checks the tool with a line of each form for each input in a folder
 //!     fuzz calls                      prints the names of the calls
 //!
-//! Compiled with `--cfg afl` it takes no words, and inputs from AFL++ in place of files.
+//! Compiled with `--cfg afl`, it takes no arguments, and inputs from AFL++ instead of files.
 #[cfg(afl)]
 mod afl;
 mod asked;
@@ -17,7 +17,7 @@ mod every_byte;
 mod input;
 #[cfg(not(afl))]
 mod lines;
-#[allow(dead_code)] // What is only measured.
+#[allow(dead_code)] // Some functions are used by bench/ only.
 #[path = "../../bench/src/ours.rs"]
 mod measured;
 #[allow(dead_code)]

@@ -1,20 +1,20 @@
-//! A difference that a test plants, to see that it is found.
+//! A difference planted by a test, to check that it is found.
 use crate::calls::Answer;
 use crate::input::Input;
 
-/// The call on which our answer is told wrongly.
+/// The call whose result on our side is falsified.
 pub struct Plant(Option<String>);
 
-/// The name of a difference that only some inputs show, of which no seed is one.
+/// The name of a difference that occurs only for some inputs, none of which is a seed.
 const HIDDEN: &str = "hidden";
 
 impl Plant {
-    /// What the environment plants: a call's name in FUZZ_PLANT, or nothing.
+    /// Returns what the environment plants: the name of a call in FUZZ_PLANT, or nothing.
     pub fn from_environment() -> Plant {
         Plant(std::env::var("FUZZ_PLANT").ok())
     }
 
-    /// Our answer to a call, told wrongly where that is planted.
+    /// Falsifies our result of a call if that is planted.
     pub fn in_answer(&self, call: &str, input: &Input<'_>, answer: Answer) -> Answer {
         match &self.0 {
             Some(planted) if planted == call => wrong(answer),
@@ -38,7 +38,7 @@ fn wrong(answer: Answer) -> Answer {
     }
 }
 
-/// Whether the last bytes are those of an IPv6 header's first, which the fuzzer's dictionary has.
+/// Whether the last bytes are the first bytes of an IPv6 header, which the fuzzer's dictionary has.
 fn is_hidden(bytes: &[u8]) -> bool {
     bytes.ends_with(&[0x60, 0, 0, 0])
 }

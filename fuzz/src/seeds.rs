@@ -1,5 +1,4 @@
-//! The inputs with which the fuzzer begins: bytes of the program's own lines, and of chains and packets as `diff/`
-//! makes them.
+//! The initial inputs: bytes from the program's own lines, and from chains and packets made by `diff/`.
 use crate::input::Input;
 use diff::chains;
 use diff::forms::{bytes_of, number_and_bytes};
@@ -10,13 +9,13 @@ use std::collections::BTreeSet;
 use std::io;
 use std::path::Path;
 
-/// The longest bytes that are made. Longer ones come of the lines, or the fuzzer makes them.
+/// The maximum length of the bytes that are made. Longer ones are taken from the lines or made by the fuzzer.
 const LONGEST: usize = 600;
 
-/// How many questions are drawn of each kind.
+/// The number of cases of each kind.
 const DRAWN: usize = 400;
 
-/// Writes the inputs into a folder, each as a file, and answers how many they are.
+/// Writes each input to a file in a folder. Returns the number of files.
 pub fn write(folder: &Path, lines: &[u8], seed: u64) -> io::Result<usize> {
     let mut random = Random::new(seed);
     let lines = lines.split(|byte| *byte == b'\n');
@@ -37,7 +36,7 @@ pub fn write(folder: &Path, lines: &[u8], seed: u64) -> io::Result<usize> {
     Ok(inputs.len())
 }
 
-/// The number and the bytes of a line, if it asks for any.
+/// Returns the number and the bytes of a line, if it has any.
 fn of_line(line: &[u8]) -> Option<chains::Asked> {
     let (form, arguments) = std::str::from_utf8(line).ok()?.split_once(' ')?;
     if form == "packet" {
@@ -46,7 +45,7 @@ fn of_line(line: &[u8]) -> Option<chains::Asked> {
     number_and_bytes(arguments)
 }
 
-/// An input with these bytes, whose limit holds or falls short.
+/// Makes an input with these bytes, with a limit that is kept or exceeded.
 fn input(start: u8, bytes: &[u8], random: &mut Random) -> Vec<u8> {
     let max_len = match random.below(3) {
         0 => bytes.len(),

@@ -1,5 +1,5 @@
-//! Strict parses of packets by the original, with the source that bounds the headers in its errors: a named difference
-//! of docs/DIFFERENCES.md.
+//! Strict parses of packets with the original, with the length source corrected in errors: a known difference of
+//! docs/DIFFERENCES.md.
 use crate::original_slices::{self, of_ip_fault, of_ipv6_fault, Packet};
 use diff::changes::Changes;
 use etherparse::err::{ip, ipv6};
@@ -13,7 +13,7 @@ pub fn ip(bytes: &[u8]) -> Result<IpSlice<'_>, ip::SliceError> {
     })
 }
 
-/// The packet of IPv6.
+/// The IPv6 packet.
 pub fn ipv6(bytes: &[u8]) -> Result<Ipv6Slice<'_>, ipv6::SliceError> {
     Ipv6Slice::from_slice(bytes).map_err(|fault| {
         let changed = Changes::ALL.ipv6_packet_fault(bytes, &fault);
@@ -48,20 +48,20 @@ mod tests {
     use super::*;
     use etherparse::LenSource;
 
-    /// An IPv6 packet with a payload length, and a fragment header of which so many bytes are there.
+    /// Makes an IPv6 packet with a payload length, and a fragment header of which this many bytes are there.
     fn cut_short(payload_length: u8, len: usize) -> Vec<u8> {
         let mut packet = vec![0x60, 0, 0, 0, 0, payload_length, 44];
         packet.resize(40 + len, 0);
         packet
     }
 
-    /// The source of the error of a length by each of the parses.
+    /// Returns the source of the length error of each parse.
     fn sources(packet: &[u8]) -> (LenSource, LenSource) {
         match (ip(packet), ipv6(packet)) {
             (Err(ip::SliceError::Len(one)), Err(ipv6::SliceError::Len(other))) => {
                 (one.len_source, other.len_source)
             }
-            _ => panic!("both parses tell a length"),
+            _ => panic!("both parses return a length error"),
         }
     }
 

@@ -1,20 +1,20 @@
-// Packets out of a capture file: pcap, of either byte order, with microseconds or nanoseconds.
+// Reads the packets of a pcap file, in either byte order, with timestamps in microseconds or nanoseconds.
 "use strict";
 Wolfaren.capture = (function () {
     const MAGICS = { 0xa1b2c3d4: 1e6, 0xa1b23c4d: 1e9 };
-    // Link types by tcpdump.org, with how many bytes stand before an IP packet.
+    // Link types (see tcpdump.org/linktypes.html), with the number of bytes before the IP packet.
     const LINKS = { 0: 4, 12: 0, 14: 0, 101: 0, 108: 4, 113: 16, 228: 0, 229: 0, 276: 20 };
     const ETHERNET = 1;
 
     function read(buffer) {
         const view = new DataView(buffer);
-        if (buffer.byteLength < 24) return { error: "The file is too short for a capture." };
-        if (view.getUint32(0) === 0x0a0d0d0a) return { error: "This is pcapng. Save it as pcap, or: tshark -F pcap -r this.pcapng -w other.pcap" };
+        if (buffer.byteLength < 24) return { error: "The file is too short to be a capture." };
+        if (view.getUint32(0) === 0x0a0d0d0a) return { error: "This is a pcapng file. Save it as pcap, or convert it: tshark -F pcap -r this.pcapng -w other.pcap" };
         const isLittle = MAGICS[view.getUint32(0, true)] !== undefined;
         const units = MAGICS[view.getUint32(0, isLittle)];
-        if (units === undefined) return { error: "This is no capture file that the page knows: it reads pcap." };
+        if (units === undefined) return { error: "Unknown file format. This page reads pcap files." };
         const link = view.getUint32(20, isLittle) & 0xffff;
-        if (link !== ETHERNET && LINKS[link] === undefined) return { error: `Link type ${link} isn't known here: Ethernet, raw IP, loopback and Linux cooked captures are.` };
+        if (link !== ETHERNET && LINKS[link] === undefined) return { error: `Link type ${link} isn't supported. Ethernet, raw IP, loopback and Linux cooked captures are.` };
         return packetsOf(view, isLittle, units, link);
     }
     function packetsOf(view, isLittle, units, link) {

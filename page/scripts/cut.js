@@ -1,11 +1,11 @@
-// What the bytes hold, part by part: { parts, fault, ... }, with every cut as the library answers it.
+// Parses bytes into parts: { parts, fault, ... }. Headers lie where the library says they do.
 "use strict";
 Wolfaren.cut = (function () {
     const VLANS = [0x8100, 0x88a8], TYPES = [0x0800, 0x86dd];
     const TOO_SHORT = 1, IP_VERSION = 4, HEADER_LENGTH = 5;
     const PLACES = { 0: 0, 60: 1, 43: 2, 44: 3, 51: 4 };
 
-    // The parts of what was handed in, where `kind` is packet, ethernet, chain6 or chain4.
+    // Parses the bytes. `kind` is packet, ethernet, chain6 or chain4.
     function cut(kind, first, bytes) {
         const model = { kind, first, bytes, parts: [], fault: null, cuts: [], packet: null };
         if (kind === "chain6" || kind === "chain4") return cutChain(model, kind === "chain6" ? 6 : 4);
@@ -15,7 +15,7 @@ Wolfaren.cut = (function () {
     function push(model, style, name, offset, len, more) {
         if (len > 0) model.parts.push({ style, name, offset, len, ...more });
     }
-    // The Ethernet header, with what VLAN tags it has. The answer is how many bytes it has.
+    // Adds the Ethernet header with its VLAN tags. Returns its length in bytes.
     function pushLink(model) {
         const type = (at) => model.bytes[at] * 256 + model.bytes[at + 1];
         let len = 14;
@@ -23,7 +23,7 @@ Wolfaren.cut = (function () {
         const has = len <= model.bytes.length;
         push(model, "link", "Ethernet", 0, Math.min(len, model.bytes.length), {});
         if (has && TYPES.includes(type(len - 2))) return len;
-        const text = has ? `EtherType 0x${type(len - 2).toString(16).padStart(4, "0")} is neither IPv4 nor IPv6` : "the Ethernet header is cut short";
+        const text = has ? `EtherType 0x${type(len - 2).toString(16).padStart(4, "0")} is neither IPv4 nor IPv6` : "the Ethernet header is truncated";
         model.fault = { offset: has ? len - 2 : model.bytes.length, text, isPages: true };
         if (has) push(model, "rest", "payload of the frame", len, model.bytes.length - len, {});
         return len;
@@ -63,13 +63,13 @@ Wolfaren.cut = (function () {
         const next = model.bytes[base + (version === 6 ? 6 : 9)];
         push(model, "base", `IPv${version}`, base, len, { version, next, nextAt: version === 6 ? 6 : 9 });
     }
-    // A packet that is refused: its base header, where that is whole, and the chain behind it.
+    // Parses a packet that the library rejected: its IP header, if that is complete, and the chain after it.
     function cutRefused(model, base, bytes, fault) {
         const version = bytes.length > 0 ? bytes[0] >> 4 : 0, baseLen = version === 6 ? 40 : (bytes[0] & 15) * 4;
         const isBaseWhole = (version === 6 || version === 4 && baseLen >= 20) && bytes.length >= baseLen;
         const stated = isBaseWhole ? statedLen(version, bytes) : 0;
         if (!isBaseWhole || stated < baseLen) {
-            push(model, "rest", "not cut", base, bytes.length, {});
+            push(model, "rest", "not parsed", base, bytes.length, {});
             model.fault = { ...fault, offset: base + placeIn(fault) };
             return model;
         }
@@ -87,13 +87,13 @@ Wolfaren.cut = (function () {
     function placeIn(fault) {
         return fault.kind === IP_VERSION || fault.kind === HEADER_LENGTH ? 0 : fault.offset;
     }
-    // Where the packet ends by its own length field. An IPv6 packet with length 0 has all bytes.
+    // Returns the length of the packet by its length field. An IPv6 packet with payload length 0 has all the bytes.
     function statedLen(version, bytes) {
         if (version === 4) return bytes[2] * 256 + bytes[3];
         const len = bytes[4] * 256 + bytes[5];
         return len === 0 ? bytes.length : 40 + len;
     }
-    // For each header the struct of six places that the library gives it, and its place there.
+    // Returns, for each header, the struct of six places that it goes into, by the library, and its place there.
     function placesOf(cuts) {
         let isBehindRouting = false;
         return cuts.map((it, i) => {

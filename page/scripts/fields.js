@@ -1,4 +1,4 @@
-// The fields of a header, as [name, bits, value], in the order of the RFCs.
+// Decodes the fields of a header as [name, bits, value], in the order in which the RFCs list them.
 "use strict";
 Wolfaren.fields = (function () {
     function hex(bytes) {

@@ -1,4 +1,5 @@
-// Bytes out of pasted text. An answer is { bytes, unread }, where unread lists { start, end, why } in the text.
+// Reads bytes from pasted text. Returns { bytes, unread }, where unread lists the unreadable ranges of the text as
+// { start, end, why }.
 "use strict";
 Wolfaren.input = (function () {
     const DUMP_LINE = /^\s*(?:0x)?([0-9a-f]{4,8}):?[ \t]+(?=[0-9a-f]{2})/i;
@@ -11,7 +12,7 @@ Wolfaren.input = (function () {
         const isArray = from >= 0;
         return readTokens(text, isArray ? from : 0, isArray && to > from ? to + 1 : text.length, /^([0-9a-f]+)/i);
     }
-    // A dump has lines that begin with an offset, the first of them 0.
+    // Text is a dump if it has lines that begin with an offset, and the first of these offsets is 0.
     function isDump(text) {
         const line = text.split("\n").find((it) => DUMP_LINE.test(it));
         return line !== undefined && Number.parseInt(DUMP_LINE.exec(line)[1], 16) === 0 && /[ \t:]/.test(line.trim());
@@ -24,12 +25,12 @@ Wolfaren.input = (function () {
             const len = skipped ? skipped[0].length : found ? found[0].length : 1;
             if (found && found[1].length % 2 === 0) pushHex(bytes, found[1]);
             else if (found) readOdd(bytes, unread, found[1], at);
-            else if (!skipped) note(unread, at, at + 1, "no hexadecimal digit");
+            else if (!skipped) note(unread, at, at + 1, "not a hexadecimal digit");
             at += len;
         }
         return { bytes: Uint8Array.from(bytes), unread };
     }
-    // Of a long run of digits only the last one is left over; of a short one nobody knows which digit is missing.
+    // In a long run of digits, only the last one is unread. In a short run, any digit might be the missing one.
     function readOdd(bytes, unread, digits, at) {
         const read = digits.length > 8 ? digits.length - 1 : 0;
         pushHex(bytes, digits.slice(0, read));
@@ -52,13 +53,13 @@ Wolfaren.input = (function () {
         }
         return { bytes: Uint8Array.from(bytes), unread };
     }
-    // Offset, up to 16 bytes, and a column of text behind two spaces or more. Before the first offset a line may be a heading.
+    // Reads an offset, up to 16 bytes, and a column of text after two or more spaces. Lines before the first offset are headings.
     function readDumpLine(line, at, bytes, unread) {
         const offset = DUMP_LINE.exec(line);
         const isHeading = bytes.length === 0 && !offset;
         if (line.trim() === "" || isHeading || /^[0-9a-f]{4,8}\s*$/i.test(line.trim())) return;
         if (!offset || Number.parseInt(offset[1], 16) !== bytes.length) {
-            unread.push({ start: at, end: at + line.length, why: offset ? "an offset that doesn't follow" : "no line of the dump" });
+            unread.push({ start: at, end: at + line.length, why: offset ? "unexpected offset" : "no offset" });
             return;
         }
         const rest = line.slice(offset[0].length), digits = hexColumn(rest);
@@ -73,7 +74,7 @@ Wolfaren.input = (function () {
             if (found[1].length % 2 === 1) return { text, len, why: "an odd number of digits" };
             text += found[1];
             len += found[0].length;
-            if (found[2] === "" && len < rest.length && text.length < 32) return { text, len, why: "no hexadecimal digit" };
+            if (found[2] === "" && len < rest.length && text.length < 32) return { text, len, why: "not a hexadecimal digit" };
             const isMiddle = text.length === 16 && found[2].length === 2;
             if (found[2].length > 1 && !isMiddle) break;
         }

@@ -1,10 +1,10 @@
-// The library's calls. Its structs are laid out as include/wolfaren.h says, with 64-bit sizes.
+// Calls the library. Its structs have the layout of include/wolfaren.h, with a 64-bit size_t.
 "use strict";
 Wolfaren.library = (function () {
     const HEADER = 24, PACKET = 40, FAULT = 32, BYTES = 16, TEXT = 256;
-    // A packet, with a fault behind it, and where its bytes are; a chain has 56 bytes.
+    // A struct wolfaren_packet, a struct wolfaren_fault, and the slice of bytes; a struct wolfaren_chain has 56 bytes.
     const ANSWER = PACKET + FAULT + BYTES;
-    // A module with one memory of 64-bit addresses.
+    // The smallest module with a memory of 64-bit addresses.
     const WIDE = new Uint8Array([0, 97, 115, 109, 1, 0, 0, 0, 5, 3, 1, 4, 1]);
     let calls = null, memory = null, room = 0, start = 0, words = 0;
 
@@ -18,7 +18,7 @@ Wolfaren.library = (function () {
         memory = calls.memory;
         start = memory.buffer.byteLength;
     }
-    // Hands in the bytes behind what the module uses itself, with room for an answer and for the cuts.
+    // Copies the bytes into memory after the part that the module itself uses, with room after them for the results.
     function place(bytes) {
         const most = Math.floor(bytes.length / 8) + 1;
         const needed = bytes.length + 8 + ANSWER + TEXT + most * HEADER;
@@ -51,7 +51,7 @@ Wolfaren.library = (function () {
         markStructs(cuts, at);
         return cuts;
     }
-    // Counts the structs of six places that take the headers, from 1 on. Each takes one header at least.
+    // Numbers the structs of six places that hold the headers, from 1. Each holds at least one header.
     function markStructs(cuts, at) {
         for (let from = 0, struct = 1; from < cuts.length; struct++) {
             const len = Number(calls.wolfaren_run_len(BigInt(at + from * HEADER), BigInt(cuts.length - from)));
@@ -59,7 +59,7 @@ Wolfaren.library = (function () {
             from += len;
         }
     }
-    // The longest chain from the number; `version` 6 or 4.
+    // Parses the longest chain that starts with the number `first`. `version` is 6 or 4.
     function cutChain(version, first, bytes) {
         const at = place(bytes);
         const call = version === 6 ? calls.wolfaren_cut_chain : calls.wolfaren_cut_ipv4_chain;
@@ -68,11 +68,11 @@ Wolfaren.library = (function () {
         return { cuts: cutsAt(view, at.cuts, size(view, at.answer)), len: size(view, at.answer + 8), fault: faultAt(view, at.answer + 16),
             next: view.getUint32(at.answer + 48, true), fragmented: view.getUint32(at.answer + 52, true) === 1 };
     }
-    // The packet, which has to be whole; or what is wrong.
+    // Parses a packet, which must be complete. Returns its parts or its error.
     function cutPacket(bytes) {
         const at = place(bytes), answer = at.answer, fault = answer + PACKET, given = fault + FAULT;
         const view = new DataView(memory.buffer);
-        // The library takes the bytes of a packet as a struct of pointer and length, which WebAssembly hands over in memory.
+        // This call takes the bytes as a struct of pointer and length. WebAssembly passes structs in memory.
         view.setBigUint64(given, BigInt(start), true);
         view.setBigUint64(given + 8, BigInt(bytes.length), true);
         const found = calls.wolfaren_cut_packet(BigInt(given), BigInt(at.cuts), BigInt(at.most), BigInt(answer), BigInt(fault));

@@ -1,4 +1,4 @@
-// The one global name, and the words for numbers. The numbers are those that IANA assigns.
+// The only global variable, and the names of numbers. Protocol numbers are those assigned by IANA.
 "use strict";
 var Wolfaren = {};
 
@@ -8,12 +8,12 @@ Wolfaren.names = (function () {
     // The codes of include/wolfaren.h.
     const layers = ["", "IP header", "IPv4 header", "IPv4 packet", "authentication header", "IPv6 header", "IPv6 packet", "IPv6 extension header",
         "hop-by-hop options header", "destination options header", "routing header", "fragment header"];
-    const lengthSources = ["", "the bytes at hand", "the IPv4 total length", "the IPv6 payload length"];
+    const lengthSources = ["", "the bytes given", "the IPv4 total length", "the IPv6 payload length"];
     const styles = { 0: "hop", 43: "routing", 44: "fragment", 51: "authentication", 60: "destination" };
     const places = ["hop-by-hop", "destination options", "routing", "fragment", "authentication", "final destination options"];
 
     function ofNumber(number) {
-        return headers[number] || others[number] || "unassigned here";
+        return headers[number] || others[number] || "unknown";
     }
     function bytes(count) {
         return count.toLocaleString("en") + (count === 1 ? " byte" : " bytes");

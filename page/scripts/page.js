@@ -1,4 +1,4 @@
-// What the controls do.
+// Connects the controls to the rest.
 "use strict";
 Wolfaren.page = (function () {
     const KINDS = ["packet", "ethernet", "chain6", "chain4"];
@@ -38,7 +38,7 @@ Wolfaren.page = (function () {
     function linkTo(kind, first, bytes) {
         return `#${kind}${kind.startsWith("chain") ? `:${first}` : ""}${at("places").checked ? ":places" : ""}:${hexOf(bytes)}`;
     }
-    // Marks what isn't read where it stands: the same text lies behind the field's, and only its marks are seen.
+    // Marks the unread parts of the text. A transparent copy of the text lies below the text field; only its marks show.
     function markUnread(text, unread) {
         const pieces = [];
         let from = 0;
@@ -61,7 +61,7 @@ Wolfaren.page = (function () {
         const where = unread[0], from = Math.max(0, where.start - 24), line = text.slice(0, where.start).split("\n").length;
         const mark = Object.assign(document.createElement("mark"), { textContent: text.slice(where.start, Math.min(where.end, where.start + 40)) });
         const more = unread.length > 1 ? ` (and ${unread.length - 1} more)` : "";
-        at("unread").append(`Not read, line ${line}, ${where.why}${more}: … ${text.slice(from, where.start)}`, mark, text.slice(where.end, where.end + 24));
+        at("unread").append(`Can't read line ${line}: ${where.why}${more}: … ${text.slice(from, where.start)}`, mark, text.slice(where.end, where.end + 24));
         at("text").setAttribute("aria-describedby", "unread");
     }
     function showFields(index) {
@@ -86,7 +86,7 @@ Wolfaren.page = (function () {
         if (group) group.focus();
         event.preventDefault();
     }
-    // The file is shown without this page's styles, so each element carries its own.
+    // Copies the page's styles into each element, since the file is displayed without the style sheet.
     function svgText() {
         const copy = drawn.cloneNode(true), from = drawn.querySelectorAll("*"), to = copy.querySelectorAll("*");
         from.forEach((it, i) => {
@@ -112,7 +112,7 @@ Wolfaren.page = (function () {
         at("packets").hidden = packets.length === 0;
         at("packet-list").replaceChildren(...packets.slice(0, MOST_LISTED).map((it, i) => new Option(`${i + 1}   ${it.seconds.toFixed(6)} s   ${it.bytes.length} of ${it.wire} bytes`, i)));
         if (packets.length > 0) pick(0);
-        const left = packets.length > MOST_LISTED ? [`The list has the first ${MOST_LISTED} of ${packets.length} packets.`] : [];
+        const left = packets.length > MOST_LISTED ? [`Only the first ${MOST_LISTED} of ${packets.length} packets are listed.`] : [];
         if (found.error || left.length > 0) tell([...left, found.error || ""].join(" "));
     }
     function tell(text) {
@@ -154,7 +154,7 @@ Wolfaren.page = (function () {
     }
     async function begin() {
         if (!Wolfaren.library.isSupported()) {
-            at("summary").textContent = "This browser has no 64-bit WebAssembly memories, which the library needs. Chromium 133, Firefox 134 and later have them.";
+            at("summary").textContent = "This browser doesn't support 64-bit WebAssembly memory, which the library needs. Chromium 133, Firefox 134 and later do.";
             return;
         }
         await Wolfaren.library.load();
@@ -162,7 +162,7 @@ Wolfaren.page = (function () {
         if (takeLink()) return;
         at("text").value = EXAMPLE;
         show();
-        if (location.hash.length > 1) tell("The link names no packet of this page, so an example is shown.");
+        if (location.hash.length > 1) tell("The link has no packet that this page can read, so an example is shown.");
     }
     const ready = begin();
     return { ready, show, take, svgText };

@@ -1,4 +1,5 @@
-// The picture: rows of 16 bytes in the colours of their headers, with an arrow from each next number to what it names.
+// Draws the picture: rows of 16 bytes in the colours of their headers, with an arrow from each next header field to what
+// it names.
 "use strict";
 Wolfaren.picture = (function () {
     const SPACE = "http://www.w3.org/2000/svg";
@@ -11,7 +12,8 @@ Wolfaren.picture = (function () {
         if (text !== undefined) made.textContent = text;
         return made;
     }
-    // The rows that are drawn: of a long part the first and the last ones. Each is { line } or { skipped }.
+    // Returns the rows to draw: for a long part, only the first rows and the last. Each is { line, skipped }: the line, and
+    // how many lines are left out in its place.
     function rowsOf(model, last) {
         const isKept = keptLines(model, last), rows = [];
         for (let line = 0; line <= last && rows.length < MOST_ROWS; line++) {
@@ -51,12 +53,12 @@ Wolfaren.picture = (function () {
         if (model.fault) drawFault(sheet);
         return svg;
     }
-    // Where a byte stands, or null where its row isn't drawn.
+    // Returns the position of a byte in the picture, or null if its row isn't drawn.
     function spot(sheet, at) {
         const row = sheet.rowOfLine.get(Math.floor(at / LINE));
         return row === undefined ? null : { row, x: LEFT + at % LINE * CELL, y: topOf(sheet, row) };
     }
-    // Below the row of a fault there is room for its text.
+    // Returns the top of a row. There is extra room for the error text below its row.
     function topOf(sheet, row) {
         return TOP + row * ROW + GAP + (row > sheet.faultRow ? sheet.extra : 0);
     }
@@ -68,7 +70,7 @@ Wolfaren.picture = (function () {
                 return;
             }
             const from = it.line * LINE, to = (it.line + it.skipped) * LINE;
-            sheet.svg.append(make("text", { x: LEFT + LINE * CELL / 2, y, class: "skipped" }, `${Wolfaren.names.bytes(to - from)} more, from 0x${from.toString(16)} on`));
+            sheet.svg.append(make("text", { x: LEFT + LINE * CELL / 2, y, class: "skipped" }, `${Wolfaren.names.bytes(to - from)} left out, from 0x${from.toString(16)}`));
         });
     }
     function drawPart(sheet, part, index) {
@@ -95,7 +97,7 @@ Wolfaren.picture = (function () {
             group.append(make("text", { x: LEFT + i % LINE * CELL + CELL / 2, y: at.y + HIGH / 2, class: isNext ? "byte next" : "byte" }, text));
         }
     }
-    // The name of a part, as far as there is room before the next one in its row.
+    // Returns the name of a part, shortened to the room before the next part in its row.
     function labelOf(sheet, part, x) {
         const lineEnd = (Math.floor(part.offset / LINE) + 1) * LINE, stop = part.offset + part.len;
         const isLast = stop >= lineEnd || stop >= sheet.model.bytes.length;
@@ -111,7 +113,7 @@ Wolfaren.picture = (function () {
     function isTarget(sheet, part) {
         return sheet.targets.has(part.offset);
     }
-    // From the byte that holds a next number down into the gap below its row, and to what begins behind the header.
+    // Draws an arrow from a next header byte through the gap below its row to what follows the header.
     function drawArrow(sheet, part) {
         if (part.next === undefined) return;
         const from = spot(sheet, nextAt(part)), to = spot(sheet, part.offset + part.len);
@@ -131,7 +133,7 @@ Wolfaren.picture = (function () {
     function drawFault(sheet) {
         const at = spot(sheet, sheet.model.fault.offset);
         if (!at) return;
-        const group = make("g", { class: "fault", role: "img", "aria-label": `Fault at ${sheet.model.fault.offset}: ${sheet.model.fault.text}` });
+        const group = make("g", { class: "fault", role: "img", "aria-label": `Error at ${sheet.model.fault.offset}: ${sheet.model.fault.text}` });
         group.append(make("rect", { x: at.x + 1, y: at.y + 1, width: CELL - 2, height: HIGH - 2, class: "mark" }));
         if (sheet.model.fault.offset >= sheet.model.bytes.length) group.append(make("text", { x: at.x + CELL / 2, y: at.y + HIGH / 2, class: "byte" }, "×"));
         sheet.why.forEach((it, i) => group.append(make("text", { x: LEFT, y: at.y + HIGH + 22 + i * 14, class: "why" }, it)));
@@ -145,7 +147,7 @@ Wolfaren.picture = (function () {
         }
         return lines;
     }
-    // A header as the RFCs draw it: 32 bits a row, a long field as a row of its own.
+    // Draws a header as the RFCs do, 32 bits per row. A field of more than 32 bits has a row of its own.
     function drawFields(part, fields) {
         const BIT = 19, TALL = 34, rows = [];
         let bit = 0, row = 0;

@@ -1,4 +1,4 @@
-// The same in words: a sentence, and a table with a row for each part.
+// Describes the packet in a sentence, and in a table with a row for each part.
 "use strict";
 Wolfaren.table = (function () {
     const HEAD = ["Offset", "Bytes", "Number", "What", "Next", "Remark"];
@@ -21,7 +21,7 @@ Wolfaren.table = (function () {
     }
     function remarkOf(part, model, withPlaces) {
         if (part.isRest) return model.fragmented ? "a fragment" : "";
-        if (part.version && model.packet.fault === null) return `its payload${model.fragmented ? " is a fragment and" : ""} ends by ${Wolfaren.names.lengthSources[model.packet.lenSource]}`;
+        if (part.version && model.packet.fault === null) return `payload${model.fragmented ? " is a fragment and" : ""} ends by ${Wolfaren.names.lengthSources[model.packet.lenSource]}`;
         if (withPlaces && part.place !== undefined) return `struct ${part.struct}, ${Wolfaren.names.places[part.place]}`;
         return "";
     }
@@ -30,11 +30,11 @@ Wolfaren.table = (function () {
         row.className = style;
         cells.forEach((it, i) => (i === 3 ? row.append(element("th", it, { scope: "row" })) : (row.insertCell().textContent = it)));
     }
-    // With what is in the fault's fields, in the words of this page.
+    // Returns the text of an error, followed by the fields of the error in words.
     function faultText(fault) {
         const at = fault.header ? ` at the ${Wolfaren.names.layers[fault.header]}` : "";
         if (fault.isPages || fault.kind !== 1) return fault.text + at;
-        return `${fault.text}${at} (needed ${fault.requiredLen}, there ${fault.len} by ${Wolfaren.names.lengthSources[fault.lenSource]}, for the ${Wolfaren.names.layers[fault.layer]})`;
+        return `${fault.text}${at} (${fault.requiredLen} needed for the ${Wolfaren.names.layers[fault.layer]}, ${fault.len} available by ${Wolfaren.names.lengthSources[fault.lenSource]})`;
     }
     function sentence(model) {
         if (model.bytes.length === 0 && !model.fault) return "No bytes yet.";

@@ -10,14 +10,14 @@
 #include "link_layer.h"
 #include "report.h"
 
-/* After how many packets it is looked whether it is time to tell how far the reading has come. */
+/* How many packets are read between two checks whether to update the progress line. */
 enum { PROGRESS_PACKETS = 1024 };
 
 enum { MAGIC_LEN = 4 };
 
 /*
- * Reads the first bytes of a file, as many as there are, and puts them back. A C library has to take back one byte, and
- * those that we know take back all that their buffer has just given; any other says that it can't.
+ * Reads the first bytes of a file, up to MAGIC_LEN, and pushes them back. The C standard guarantees only one byte of
+ * pushback. The C libraries we know take back everything just read from their buffer. With others, ungetc fails.
  */
 static bool look_at_magic(FILE *file, uint8_t magic[MAGIC_LEN])
 {
@@ -30,7 +30,7 @@ static bool look_at_magic(FILE *file, uint8_t magic[MAGIC_LEN])
     return true;
 }
 
-/* Whether times may have to be kept in nanoseconds: in files that say so, of either byte order, and in pcapng. */
+/* Whether timestamps may be in nanoseconds: classic files with that magic, in either byte order, and pcapng files. */
 static bool has_nanoseconds(const uint8_t magic[MAGIC_LEN])
 {
     static const uint8_t magics[][MAGIC_LEN] = {
@@ -55,7 +55,7 @@ static void close_file(struct capture *capture)
     if (capture->file != stdin) fclose(capture->file);
 }
 
-/* Says why a capture of this link layer isn't read. */
+/* Reports that the link layer of a capture isn't supported. */
 static void complain_of_link_layer(const struct capture *capture)
 {
     const char *name = pcap_datalink_val_to_name(capture->link_layer);
@@ -72,7 +72,7 @@ static bool open_handle(struct capture *capture)
     char error[PCAP_ERRBUF_SIZE] = "";
     errno = 0;
     if (!look_at_magic(capture->file, magic)) {
-        complain("%s: %s", capture->name, errno ? strerror(errno) : "can't be read");
+        complain("%s: %s", capture->name, errno ? strerror(errno) : "read error");
         return false;
     }
     unsigned precision = has_nanoseconds(magic) ? PCAP_TSTAMP_PRECISION_NANO : PCAP_TSTAMP_PRECISION_MICRO;
@@ -93,8 +93,8 @@ static void leave_interrupt(int signal_number)
 }
 
 /*
- * Leaves the first interrupt to the program that writes a pipe: it is interrupted too, and what it then still writes is
- * read. The second ends this program.
+ * Ignores the first interrupt, which the program at the other end of the pipe receives too: whatever it still writes is
+ * read. The second interrupt ends this program.
  */
 static void outlive_interrupt(void)
 {
@@ -103,7 +103,7 @@ static void outlive_interrupt(void)
     if (sigaction(SIGINT, NULL, &before) == 0 && before.sa_handler == SIG_DFL) sigaction(SIGINT, &action, NULL);
 }
 
-/* Looks at what is read. */
+/* Determines whether the input is a regular file or a pipe, and how long it is. */
 static void look_at_file(struct capture *capture)
 {
     struct stat status;
@@ -114,7 +114,7 @@ static void look_at_file(struct capture *capture)
     if (is_known && S_ISFIFO(status.st_mode)) outlive_interrupt();
 }
 
-/* Looks whether anyone sees progress, and sees it apart from the answer. */
+/* Shows progress if standard error is a terminal and standard output isn't, so that the two don't mix. */
 static void begin_progress(struct capture *capture)
 {
     capture->shows_progress = isatty(STDERR_FILENO) && !isatty(STDOUT_FILENO);
@@ -140,14 +140,14 @@ void allow_progress(struct capture *capture)
     capture->shows_progress = isatty(STDERR_FILENO);
 }
 
-/* Takes the line of progress away, if there is one. */
+/* Erases the progress line, if there is one. */
 static void clear_progress(struct capture *capture)
 {
     if (capture->is_progress_shown) fputs("\r\033[K", stderr);
     capture->is_progress_shown = false;
 }
 
-/* Tells how far the reading has come, once in a second. */
+/* Updates the progress line, once per second. */
 static void show_progress(struct capture *capture)
 {
     struct timespec now;
@@ -162,11 +162,11 @@ static void show_progress(struct capture *capture)
     fflush(stderr);
 }
 
-/* Says at which packet the reading failed. */
+/* Reports the packet at which reading failed. */
 static void complain_of_end(struct capture *capture)
 {
     clear_progress(capture);
-    complain("%s: ends at packet %llu: %s", capture->name, (unsigned long long)capture->number + 1,
+    complain("%s: can't read packet %llu: %s", capture->name, (unsigned long long)capture->number + 1,
              pcap_geterr(capture->handle));
 }
 

@@ -1,4 +1,4 @@
-/* Captures that are read packet by packet. */
+/* Reads captures packet by packet. */
 #ifndef IPCAP_CAPTURE_H
 #define IPCAP_CAPTURE_H
 
@@ -13,39 +13,39 @@
 
 struct capture {
     pcap_t *handle;
-    const char *name;   /* as messages tell it */
+    const char *name;   /* for messages */
     FILE *file;
     int link_layer;
-    bool is_live;       /* what is read is no file, so that packets may come as they are captured */
+    bool is_live;       /* the input is not a regular file, so packets may arrive as they are captured */
     bool shows_progress;
-    bool is_progress_shown; /* a line of progress stands on the terminal */
-    off_t len;          /* how many bytes the file has, or 0 where that isn't known */
-    uint64_t number;    /* how many packets were read */
-    struct timespec shown;
+    bool is_progress_shown; /* there is a progress line on the terminal */
+    off_t len;          /* length of the file in bytes, or 0 if unknown */
+    uint64_t number;    /* number of packets read so far */
+    struct timespec shown; /* when the progress line was last updated */
 };
 
-/* A packet as it was read. The bytes stay until the next one is read. */
+/* A packet of a capture. `frame` is valid until the next packet is read. */
 struct packet {
     struct pcap_pkthdr header;
     const uint8_t *frame;
     bool is_ip;
-    bool is_short;    /* the capture keeps fewer bytes than there were */
+    bool is_short;    /* truncated by the snap length */
     size_t ip_offset; /* where the IP packet begins in the frame */
 };
 
-/* Opens a file, or standard input where the path is null or `-`. Where that fails, says why and answers false. */
+/* Opens a file, or standard input if the path is null or `-`. On failure, reports why and returns false. */
 bool open_capture(struct capture *capture, const char *path);
 
-/* Tells how far the reading has come even where standard output is a terminal, since nothing is written there. */
+/* Shows progress even if standard output is a terminal. For commands that write nothing to standard output. */
 void allow_progress(struct capture *capture);
 
-/* How reading a packet ended. */
+/* Results of read_packet. */
 enum reading { READ_PACKET, READ_END, READ_FAILED };
 
-/* Reads a packet. Where that fails, says why. */
+/* Reads the next packet. On failure, reports why. */
 enum reading read_packet(struct capture *capture, struct packet *packet);
 
-/* Cuts an IP packet. Where memory runs out, says so and answers false. */
+/* Parses the IP packet of a captured packet. If memory runs out, reports it and returns false. */
 bool cut_captured(struct cut *cut, const struct packet *packet);
 
 void close_capture(struct capture *capture);

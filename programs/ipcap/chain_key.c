@@ -5,10 +5,10 @@
 
 #include "names.h"
 
-/* The bytes of a key: version, how many headers, their numbers, and at fixed places behind them the last two. */
+/* The bytes of a key: IP version, header count, header numbers; at fixed positions, the final number and the end. */
 enum { VERSION_AT = 0, COUNT_AT = 1, NUMBERS_AT = 2, NEXT_AT = NUMBERS_AT + KEY_HEADERS, END_AT, KEY_USED };
 
-_Static_assert((int)KEY_USED <= (int)KEY_BYTES, "a chain's key fits");
+_Static_assert((int)KEY_USED <= (int)KEY_BYTES, "the key of a chain must fit");
 
 static const char *const end_words[] = {[CHAIN_WHOLE] = "", [CHAIN_FAULTY] = " fault", [CHAIN_CUT] = " cut"};
 
@@ -34,7 +34,7 @@ void write_chain(const struct key *key, char text[CHAIN_TEXT_ROOM])
              end_words[bytes[END_AT]]);
 }
 
-/* Puts `text` behind the words where it begins with them. */
+/* Advances `text` past the words if it begins with them. */
 static bool take_words(const char **text, const char *words)
 {
     size_t len = strlen(words);
@@ -43,7 +43,7 @@ static bool take_words(const char **text, const char *words)
     return true;
 }
 
-/* Reads the numbers before the arrow, with the space behind them. */
+/* Reads the numbers before the arrow, and the space after them. */
 static bool read_numbers(const char **text, struct key *key)
 {
     uint8_t *count = &key->bytes[COUNT_AT];

@@ -1,4 +1,4 @@
-/* Chains as keys of a table, and as text. */
+/* Converts chains to table keys and to text. */
 #ifndef IPCAP_CHAIN_KEY_H
 #define IPCAP_CHAIN_KEY_H
 
@@ -9,25 +9,25 @@
 #include "cut.h"
 #include "table.h"
 
-/* A chain of more headers has no key. */
+/* A chain with more headers has no key. */
 enum { KEY_HEADERS = 64 };
 
-/* Room for the text of each chain that has a key, and the zero behind it. */
+/* A buffer size that is large enough for the text of every key and its terminating null byte. */
 enum { CHAIN_TEXT_ROOM = 320 };
 
-/* Writes the key of a packet's chain. Answers false where it has more headers than a key holds. */
+/* Writes the key of a packet's chain. Returns false if the chain has more headers than fit into a key. */
 bool chain_key(const struct cut *cut, struct key *key);
 
 /*
- * Writes a key's chain as text: the version, the numbers of its headers, behind an arrow the number to which it leads,
- * and how it ends where it doesn't end well, as `IPv6 0,43 -> 44 fault`.
+ * Formats the chain of a key as text: the IP version, the numbers of the headers, an arrow, the number after the chain,
+ * and ` fault` or ` cut` if the chain is incomplete. Example: `IPv6 0,43 -> 44 fault`.
  */
 void write_chain(const struct key *key, char text[CHAIN_TEXT_ROOM]);
 
-/* Reads the key of which `text` is the text. */
+/* Parses text in the format of `write_chain` into a key. Returns false if it isn't in that format. */
 bool read_chain(const char *text, struct key *key);
 
-/* The version of a key's chain. */
+/* Returns the IP version of a key's chain. */
 uint8_t key_version(const struct key *key);
 
 #endif

@@ -1,4 +1,4 @@
-/* The subcommands. Each takes its arguments as main does, and answers the status with which the program ends. */
+/* The subcommands. Each takes arguments like main and returns the exit status. */
 #ifndef IPCAP_COMMANDS_H
 #define IPCAP_COMMANDS_H
 

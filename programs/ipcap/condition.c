@@ -5,17 +5,17 @@
 #include "names.h"
 #include "report.h"
 
-/* Words in arguments. */
+/* A position in the words of the arguments. */
 struct words {
     char *const *arguments;
     int count;
     int index;
-    const char *rest; /* what is left of the argument, or null where nothing of it was taken */
+    const char *rest; /* the unread rest of the argument, or null if nothing of it has been read */
 };
 
 static const char spaces[] = " \t\n";
 
-/* The next word and how many characters it has, which are none where there is no further word. */
+/* Returns the next word and stores its length, which is 0 if there are no more words. */
 static const char *next_word(const struct words *words, size_t *len)
 {
     *len = 0;
@@ -26,7 +26,7 @@ static const char *next_word(const struct words *words, size_t *len)
     return word;
 }
 
-/* Goes behind the next word, and behind its argument where only white space is left. */
+/* Skips the next word, and the rest of its argument if that is only white space. */
 static void skip_word(struct words *words)
 {
     size_t len;
@@ -51,9 +51,9 @@ static bool refuse_word(const struct words *words, const char *wanted)
     size_t len;
     const char *word = next_word(words, &len);
     if (len == 0)
-        complain("the condition ends where %s has to stand", wanted);
+        complain("condition: expected %s, found the end", wanted);
     else
-        complain("in the condition '%.*s' stands where %s has to", len > 40 ? 40 : (int)len, word, wanted);
+        complain("condition: expected %s, found '%.*s'", wanted, len > 40 ? 40 : (int)len, word);
     return false;
 }
 
@@ -61,7 +61,7 @@ static bool take_number(struct words *words, uint8_t *number)
 {
     size_t len;
     const char *word = next_word(words, &len), *behind = word;
-    if (!read_byte_number(&behind, number) || behind != word + len) return refuse_word(words, "a number of 0 to 255");
+    if (!read_byte_number(&behind, number) || behind != word + len) return refuse_word(words, "a number from 0 to 255");
     skip_word(words);
     return true;
 }

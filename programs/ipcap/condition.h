@@ -1,4 +1,4 @@
-/* Conditions on packets. */
+/* Conditions that select packets. */
 #ifndef IPCAP_CONDITION_H
 #define IPCAP_CONDITION_H
 
@@ -14,7 +14,7 @@ struct test {
     enum test_kind kind;
     uint8_t number;
     bool is_negated;
-    bool is_behind_or; /* begins an alternative; else it has to hold beside the test before */
+    bool is_behind_or; /* follows `or`; otherwise the test follows `and` or is the first */
 };
 
 enum { CONDITION_TESTS = 64 };
@@ -25,12 +25,13 @@ struct condition {
 };
 
 /*
- * Reads the condition that begins the arguments, whose words stand in arguments of their own or together in one. Writes
- * how many arguments it takes. Where it is none, says why and answers false.
+ * Parses the condition at the start of the arguments. Each word may be an argument of its own, or one argument may hold
+ * several words. Stores in `taken` how many arguments the condition occupies. On a syntax error, reports it and returns
+ * false.
  */
 bool read_condition(struct condition *condition, int count, char *const *arguments, int *taken);
 
-/* Whether a packet meets a condition; one that isn't IP is a null pointer, and of it no test holds. */
+/* Whether a packet meets a condition. A null pointer stands for a packet that isn't IP: it passes no test. */
 bool does_meet(const struct condition *condition, const struct cut *cut);
 
 #endif

@@ -84,7 +84,10 @@ enum added add_counts(struct counts *total, const struct counts *more)
     return added == ADDED ? add_table(&total->chain_bytes, &more->chain_bytes) : added;
 }
 
-/* Whether no more chains of a version are in the table than packets, and all are where none is counted as `other`. */
+/*
+ * Whether the table has no more chains of an IP version than there are packets of that version, and as many if none is
+ * counted as `other`.
+ */
 static bool has_chains(const struct counts *counts, uint8_t version, uint64_t packets)
 {
     uint64_t chains = 0;

@@ -4,7 +4,7 @@
 
 enum { IPV4_MIN_LEN = 20, IPV6_LEN = 40 };
 
-/* Of the 16 bits that hold the fragment offset of an IPv4 header (RFC 791, section 3.1). */
+/* Masks for the 16 bits of an IPv4 header that hold the flags and the fragment offset (RFC 791, section 3.1). */
 enum { IPV4_MORE_FRAGMENTS = 0x2000, IPV4_OFFSET = 0x1fff };
 
 static unsigned number_at(const uint8_t *bytes)
@@ -12,7 +12,7 @@ static unsigned number_at(const uint8_t *bytes)
     return (unsigned)bytes[0] << 8 | bytes[1];
 }
 
-/* How many bytes the base header has, or 0 where there is none. */
+/* Returns the length of the IP header in bytes, or 0 if it isn't complete and valid. */
 static size_t base_length(const uint8_t *bytes, size_t len)
 {
     unsigned version = len > 0 ? bytes[0] >> 4 : 0;
@@ -22,7 +22,7 @@ static size_t base_length(const uint8_t *bytes, size_t len)
     return base_len >= IPV4_MIN_LEN && base_len <= len ? base_len : 0;
 }
 
-/* Where the packet says that it ends. An IPv6 packet with payload length 0 has all the bytes. */
+/* Returns the end of the packet by its length field. An IPv6 packet with payload length 0 extends over all bytes. */
 static size_t stated_end(const struct cut *cut)
 {
     if (cut->version == 4) return number_at(cut->bytes + 2);
@@ -30,7 +30,7 @@ static size_t stated_end(const struct cut *cut)
     return payload_len == 0 ? cut->len : IPV6_LEN + payload_len;
 }
 
-/* Where the packet ends within the bytes. */
+/* Returns the end of the packet, limited to the captured bytes and not before the end of the IP header. */
 static size_t end_within(const struct cut *cut)
 {
     size_t end = stated_end(cut);
@@ -50,7 +50,7 @@ static bool make_room(struct cut *cut)
     return true;
 }
 
-/* Appends a header whose offset counts from where the chain begins. */
+/* Appends a header whose offset counts from the start of the chain. */
 static bool push_header(struct cut *cut, const struct wolfaren_header *header)
 {
     if (!make_room(cut)) return false;
@@ -60,7 +60,7 @@ static bool push_header(struct cut *cut, const struct wolfaren_header *header)
     return true;
 }
 
-/* Whether a header is a fragment header behind which the middle of a payload stands. */
+/* Whether a header is a fragment header with a non-zero offset. Also notes whether the packet is a fragment. */
 static bool is_later_fragment(struct cut *cut, const uint8_t *chain, const struct wolfaren_header *header)
 {
     struct wolfaren_fragment fields;
@@ -104,7 +104,7 @@ static bool walk_ipv4(struct cut *cut, struct wolfaren_fault *fault)
     return chain.headers == 0 || push_header(cut, &header);
 }
 
-/* Whether a fault of a packet lies before its chain. */
+/* Whether an error of a packet lies before its chain. */
 static bool is_before_chain(const struct wolfaren_fault *fault)
 {
     return fault->kind == WOLFAREN_UNSUPPORTED_IP_VERSION || fault->kind == WOLFAREN_IPV4_HEADER_LENGTH
@@ -113,13 +113,13 @@ static bool is_before_chain(const struct wolfaren_fault *fault)
         || fault->layer == WOLFAREN_IPV6_PACKET;
 }
 
-/* Whether bytes are missing that the capture needn't have kept. */
+/* Whether bytes are missing only because the capture truncated the packet. */
 static bool is_of_capture(const struct wolfaren_fault *fault, bool is_short)
 {
     return is_short && fault->kind == WOLFAREN_TOO_SHORT && fault->len_source == WOLFAREN_SLICE;
 }
 
-/* The header or the packet of which a fault before the chain tells. */
+/* Returns the layer that is wrong, for an error before the chain. */
 static uint8_t layer_before_chain(const struct wolfaren_fault *fault)
 {
     if (fault->kind == WOLFAREN_UNSUPPORTED_IP_VERSION) return WOLFAREN_IP_HEADER;
@@ -134,7 +134,7 @@ static void put_fault(struct cut *cut, const struct wolfaren_fault *fault, uint8
     cut->fault_at = at;
 }
 
-/* Takes what is wrong from the fault of the packet, which has the words, and that of the chain, which has the place. */
+/* Combines the error of the packet, which has the text, with the error of the chain, which has the position. */
 static void join_faults(struct cut *cut, const struct wolfaren_fault *of_packet, const struct wolfaren_fault *of_chain,
                         bool is_short)
 {
@@ -147,7 +147,7 @@ static void join_faults(struct cut *cut, const struct wolfaren_fault *of_packet,
         put_fault(cut, is_missing ? of_chain : of_packet, of_chain->header, cut->chain_at_end);
 }
 
-/* Says what is wrong with a base header that can't be read, or that the capture cuts it. */
+/* Records the error of an unreadable IP header, or that the capture truncated it. */
 static void put_unread(struct cut *cut, const struct wolfaren_fault *fault, bool is_short)
 {
     if (!is_of_capture(fault, is_short)) {

@@ -1,4 +1,4 @@
-/* A captured IP packet: its base header, its chain of extension headers, and what is wrong with them. */
+/* Parses a captured IP packet: its IP header, its chain of extension headers, and any error in them. */
 #ifndef IPCAP_CUT_H
 #define IPCAP_CUT_H
 
@@ -10,47 +10,47 @@
 
 /* How a chain ends. */
 enum chain_end {
-    CHAIN_WHOLE,  /* behind it stands what is no extension header */
-    CHAIN_FAULTY, /* behind it an extension header is named that isn't there, or is wrong */
-    CHAIN_CUT     /* behind it the capture keeps too few bytes of an extension header */
+    CHAIN_WHOLE,  /* complete: what follows is not an extension header */
+    CHAIN_FAULTY, /* the next extension header is missing or invalid */
+    CHAIN_CUT     /* the next extension header is truncated by the snap length */
 };
 
-/* Offsets count from where the IP packet begins. */
+/* A parsed packet. Offsets count from the start of the IP packet. */
 struct cut {
-    const uint8_t *bytes; /* what the capture keeps of the packet, and what follows it in the frame */
+    const uint8_t *bytes; /* the captured bytes of the packet, and what follows it in the frame */
     size_t len;
-    /* 4 or 6, or 0 where the base header can't be read: then there is a fault, or a chain that is cut with it. */
+    /* 4 or 6, or 0 if the IP header is unreadable: then there is an error, or `end` is CHAIN_CUT. */
     uint8_t version;
-    uint8_t number; /* the number of what follows the chain */
+    uint8_t number; /* the protocol number of what follows the chain */
     bool is_fragment;
     enum chain_end end;
-    size_t base_len;      /* how many bytes the base header has: the chain begins there */
+    size_t base_len;      /* length of the IP header in bytes: the chain begins there */
     size_t chain_at_end;  /* where the chain ends */
-    size_t packet_at_end; /* where the packet ends, or the bytes that the capture keeps of it */
+    size_t packet_at_end; /* where the packet ends, or its captured bytes */
     struct wolfaren_header *headers;
-    size_t count; /* how many headers the chain has */
-    size_t room;
-    struct wolfaren_fault fault; /* what is wrong with the packet, if anything */
-    uint8_t fault_layer;         /* the header or the packet that is wrong */
+    size_t count; /* number of headers in the chain */
+    size_t room;  /* number of elements allocated */
+    struct wolfaren_fault fault; /* the error of the packet, if any */
+    uint8_t fault_layer;         /* the faulty header or packet */
     size_t fault_at;             /* where that begins */
 };
 
 /*
- * Cuts the IP packet that begins the `len` bytes. `is_short` says that the capture keeps fewer bytes of the frame than
- * there were: what is missing because of that is no fault.
+ * Parses the IP packet at the start of the `len` bytes. `is_short` means that the frame was truncated by the snap
+ * length: bytes that are missing for that reason are not an error.
  *
- * A chain ends behind a fragment header whose offset isn't 0, since what follows it is the middle of a payload. So it
- * does behind the base header of such an IPv4 packet.
+ * A chain ends after a fragment header with a non-zero offset, since what follows is from the middle of a payload. The
+ * chain of an IPv4 packet with a non-zero fragment offset ends after the IP header.
  *
- * `cut` is filled with zeros before its first use and takes its memory with it from packet to packet. Answers false
- * where memory ran out.
+ * Fill `cut` with zeros before its first use. Its memory is reused from packet to packet, and released by `free_cut`.
+ * Returns false if memory runs out.
  */
 bool cut_packet(struct cut *cut, const uint8_t *bytes, size_t len, bool is_short);
 
-/* Whether anything is wrong with the packet. */
+/* Whether the packet has an error. */
 bool has_fault(const struct cut *cut);
 
-/* Gives the memory back. */
+/* Releases the memory. */
 void free_cut(struct cut *cut);
 
 #endif

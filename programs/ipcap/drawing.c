@@ -8,12 +8,12 @@
 /* A row shows 16 bytes, each in a cell of two digits and a space. */
 enum { ROW_BYTES = 16, CELL = 3, ROW_WIDTH = ROW_BYTES * CELL };
 
-/* What is shown of a packet without a chain. */
+/* How many bytes are drawn of a packet whose IP header is unreadable. */
 enum { UNREAD_BYTES = 64 };
 
 static const char fault_color[] = "\033[1;31m", plain_color[] = "\033[0m";
 
-/* Some bytes of a packet that belong together. */
+/* The bytes of one header, or of the payload. */
 struct range {
     size_t begin;
     size_t end;
@@ -24,8 +24,8 @@ struct range {
 struct drawing {
     const struct cut *cut;
     bool in_color;
-    size_t index;   /* of the first range that isn't behind the row */
-    bool is_named;  /* the name of the range at `index` was written */
+    size_t index;   /* of the range at the current position */
+    bool is_named;  /* whether the name of that range has been written */
 };
 
 static const char *header_color(uint8_t number)
@@ -39,7 +39,10 @@ static const char *header_color(uint8_t number)
     }
 }
 
-/* The ranges of a packet: its base header, its extension headers, and its payload where the chain ends well. */
+/*
+ * Stores one of the ranges of a packet: the IP header, each extension header, and the payload if the chain is complete.
+ * Returns false if there is no range with this index.
+ */
 static bool range_at(const struct cut *cut, size_t index, struct range *range)
 {
     if (cut->version == 0) return false;
@@ -64,7 +67,7 @@ static void set_color(const struct drawing *drawing, const char *color)
     if (drawing->in_color) fputs(color, stdout);
 }
 
-/* Goes on to the range of a byte. Answers false where it is in none. */
+/* Advances to the range that contains a byte. Returns false if there is none. */
 static bool range_of(struct drawing *drawing, size_t at, struct range *range)
 {
     while (range_at(drawing->cut, drawing->index, range) && range->end <= at) {
@@ -74,7 +77,7 @@ static bool range_of(struct drawing *drawing, size_t at, struct range *range)
     return range_at(drawing->cut, drawing->index, range) && range->begin <= at;
 }
 
-/* Writes a row's bytes, with `drawing` as it is before the row. */
+/* Writes the bytes of a row. Takes a copy of `drawing`, so that the marks can start from the same state. */
 static void write_bytes(struct drawing drawing, size_t row, size_t end)
 {
     struct range range;
@@ -91,7 +94,7 @@ static void write_bytes(struct drawing drawing, size_t row, size_t end)
     putchar('\n');
 }
 
-/* Puts a name into the middle of a mark, with a space on either side where there is room. */
+/* Centres a name in a mark, with a space on either side if there is room. Returns false if the name doesn't fit. */
 static bool put_name(char *mark, size_t width, const char *name)
 {
     size_t len = strlen(name);
@@ -104,7 +107,7 @@ static bool put_name(char *mark, size_t width, const char *name)
     return true;
 }
 
-/* Writes the mark of a range from the byte `begin` to before `end`, with its name where that has room. */
+/* Writes the mark of a range below the bytes from `begin` up to `end`, with its name if it fits. */
 static void write_mark(struct drawing *drawing, const struct range *range, size_t begin, size_t end)
 {
     char mark[ROW_WIDTH + 1];
@@ -136,7 +139,7 @@ static void write_marks(struct drawing *drawing, size_t row, size_t end)
     if (column > 0) putchar('\n');
 }
 
-/* Writes a caret below a byte of a row, and the words behind it. */
+/* Writes a caret below a byte of a row, followed by the words. */
 static void write_caret(const struct drawing *drawing, size_t column, const char *words)
 {
     printf("%*s", 6 + (int)(column * CELL), "");
@@ -146,7 +149,7 @@ static void write_caret(const struct drawing *drawing, size_t column, const char
     putchar('\n');
 }
 
-/* Writes what is wrong below the row in which it begins, or where the bytes end before it. */
+/* Writes the packet's error below the row in which it begins, and marks where the snap length truncated the chain. */
 static void write_fault(const struct drawing *drawing, size_t row)
 {
     const struct cut *cut = drawing->cut;
@@ -159,7 +162,7 @@ static void write_fault(const struct drawing *drawing, size_t row)
         write_caret(drawing, cut->chain_at_end - row, "cut by the snap length");
 }
 
-/* How many bytes are drawn: to the end of the chain, and some behind it. */
+/* Returns how many bytes are drawn: up to the end of the chain, and some more. */
 static size_t shown_length(const struct cut *cut)
 {
     size_t end = cut->version == 0 ? UNREAD_BYTES : cut->chain_at_end / ROW_BYTES * ROW_BYTES + 2 * ROW_BYTES;

@@ -1,4 +1,4 @@
-/* IP packets drawn: their bytes in hexadecimal, with the headers below them. */
+/* Draws IP packets: their bytes in hexadecimal, with the headers marked below them. */
 #ifndef IPCAP_DRAWING_H
 #define IPCAP_DRAWING_H
 
@@ -6,7 +6,7 @@
 
 #include "cut.h"
 
-/* Draws a packet on standard output, in colour if it is wanted. */
+/* Draws a packet on standard output, in colour if `in_color` is set. */
 void draw_packet(const struct cut *cut, bool in_color);
 
 #endif

@@ -1,4 +1,4 @@
-/* The subcommand that filters. */
+/* The subcommand `filter`. */
 #include <errno.h>
 #include <getopt.h>
 #include <stdio.h>
@@ -14,26 +14,26 @@
 
 static const char usage[] =
     "usage: ipcap filter [-w FILE] COND [FILE]\n"
-    "Writes the packets of a capture, or of the one that standard input has, that meet a condition.\n"
-    "  COND       `fragment`, `fault`, `header N` or `leads-to N`, with `not` before, `and` and `or` between\n"
-    "  -w FILE    write to this file and not to standard output\n"
-    "  --help     print this text\n"
+    "Writes the packets of FILE, or standard input, that meet a condition.\n"
+    "  COND       `fragment`, `fault`, `header N` or `leads-to N`, combined with `not`, `and` and `or`\n"
+    "  -w FILE    write to this file instead of standard output\n"
+    "  --help     print this help\n"
     "  --version  print the version\n";
 
-/* What the arguments say. */
+/* The parsed arguments. */
 struct request {
     struct condition condition;
     const char *input;
     const char *output;
 };
 
-/* Where packets go. */
+/* The capture that is written. */
 struct output {
     const char *name;
     pcap_dumper_t *dumper;
 };
 
-/* Whether a path leads to the file that is read, which writing would empty. */
+/* Whether a path names the input file, which opening for writing would truncate. */
 static bool is_input(const struct capture *capture, const char *path)
 {
     struct stat input, output;
@@ -47,19 +47,19 @@ static bool refuse_output(const struct output *output, const char *words)
     return false;
 }
 
-/* Puts out what the output still holds. Where anything is lost, says why if `errno` was 0 before it was written. */
+/* Flushes the output. On failure, reports why; for that, `errno` must have been 0 before the data was written. */
 static bool flush_output(const struct output *output)
 {
     if (pcap_dump_flush(output->dumper) == 0 && !ferror(pcap_dump_file(output->dumper))) return true;
-    return refuse_output(output, errno ? strerror(errno) : "a write failed");
+    return refuse_output(output, errno ? strerror(errno) : "write failed");
 }
 
-/* Opens the output, with the link layer, the snap length and the precision of what is read. */
+/* Opens the output, with the link layer, snap length and timestamp precision of the input. */
 static bool open_output(struct output *output, const struct capture *capture, const char *path)
 {
     bool is_standard = !path || strcmp(path, "-") == 0;
     output->name = is_standard ? "standard output" : path;
-    if (!is_standard && is_input(capture, path)) return refuse_output(output, "is what is read");
+    if (!is_standard && is_input(capture, path)) return refuse_output(output, "input and output are the same file");
     FILE *file = is_standard ? stdout : fopen(path, "wb");
     if (!file) return refuse_output(output, strerror(errno));
     errno = 0;
@@ -69,7 +69,7 @@ static bool open_output(struct output *output, const struct capture *capture, co
     return refuse_output(output, pcap_geterr(capture->handle));
 }
 
-/* Writes a packet, at once where packets come as they are captured. */
+/* Writes a packet. Flushes it immediately if the input is live. */
 static bool write_packet(const struct output *output, const struct capture *capture, const struct packet *packet)
 {
     errno = 0;
@@ -112,17 +112,17 @@ static bool filter_capture(const struct request *request)
     return is_done;
 }
 
-/* Reads the condition and the file behind it. */
+/* Parses the condition and the file name after it. Returns -1, or the exit status on a usage error. */
 static int read_operands(struct request *request, int count, char *const *arguments)
 {
     int taken;
     if (count == 0) return refuse_usage(usage, "filter needs a condition");
     if (!read_condition(&request->condition, count, arguments, &taken)) return refuse_usage(usage, NULL);
-    if (count - taken > 1) return refuse_usage(usage, "filter reads one file");
+    if (count - taken > 1) return refuse_usage(usage, "filter reads only one file");
     request->input = taken < count ? arguments[taken] : NULL;
     bool is_standard = !request->output || strcmp(request->output, "-") == 0;
     if (is_standard && isatty(STDOUT_FILENO))
-        return refuse_usage(usage, "a capture isn't written to a terminal: use -w, or a pipe");
+        return refuse_usage(usage, "refusing to write a capture to a terminal: use -w or a pipe");
     return -1;
 }
 

@@ -4,17 +4,17 @@
 
 enum { ETHERTYPE_IPV4 = 0x0800, ETHERTYPE_IPV6 = 0x86dd };
 
-/* The tags of IEEE 802.1Q and 802.1ad, and the one that came before 802.1ad. */
+/* The EtherTypes of IEEE 802.1Q and 802.1ad tags, and the one in use before 802.1ad. */
 enum { ETHERTYPE_VLAN = 0x8100, ETHERTYPE_QINQ = 0x88a8, ETHERTYPE_OLD_QINQ = 0x9100 };
 
-/* A VLAN tag: two bytes of its own, then the type of what follows it. */
+/* A VLAN tag: two bytes of tag control information, then the EtherType of what follows. */
 enum { VLAN_TAG_LEN = 4, VLAN_TYPE_AT = 2 };
 
-/* A link layer that names what it carries by an EtherType. */
+/* A link layer whose header has an EtherType. */
 struct typed_layer {
     int link_layer;
-    size_t type_at; /* where the EtherType stands */
-    size_t len;     /* how many bytes the header has */
+    size_t type_at; /* offset of the EtherType in the header */
+    size_t len;     /* length of the header in bytes */
 };
 
 static const struct typed_layer typed_layers[] = {
@@ -57,7 +57,7 @@ static bool is_tag(unsigned type)
     return type == ETHERTYPE_VLAN || type == ETHERTYPE_QINQ || type == ETHERTYPE_OLD_QINQ;
 }
 
-/* Goes over the VLAN tags, however many there are. */
+/* Finds the IP packet of a frame with an EtherType. Skips any number of VLAN tags. */
 static bool find_behind_type(const struct typed_layer *layer, const uint8_t *frame, size_t len, size_t *offset)
 {
     if (len < layer->len) return false;
@@ -71,13 +71,16 @@ static bool find_behind_type(const struct typed_layer *layer, const uint8_t *fra
     return type == ETHERTYPE_IPV4 || type == ETHERTYPE_IPV6;
 }
 
-/* The numbers of the families of IPv4 and IPv6: 2 everywhere; Linux; NetBSD and OpenBSD; FreeBSD; Darwin. */
+/* AF_INET is 2 everywhere; AF_INET6 is 10 on Linux, 24 on NetBSD and OpenBSD, 28 on FreeBSD, 30 on Darwin. */
 static bool is_ip_family(uint32_t family)
 {
     return family == 2 || family == 10 || family == 24 || family == 28 || family == 30;
 }
 
-/* The family is in the byte order of the machine that captured, which isn't known. No number is one in both orders. */
+/*
+ * Finds the IP packet of a BSD loopback frame. The address family is in the byte order of the capturing machine, which
+ * isn't known, so both orders are tried. No value is an IP address family in both.
+ */
 static bool find_behind_family(const uint8_t *frame, size_t len, size_t *offset)
 {
     if (len < 4) return false;

@@ -1,4 +1,4 @@
-/* What stands before an IP packet in a captured frame. */
+/* Link-layer headers: what comes before the IP packet in a captured frame. */
 #ifndef IPCAP_LINK_LAYER_H
 #define IPCAP_LINK_LAYER_H
 
@@ -6,12 +6,12 @@
 #include <stddef.h>
 #include <stdint.h>
 
-/* Whether `find_ip` knows the link layer, which is one of libpcap's DLT values. */
+/* Whether `find_ip` supports the link layer, which is one of libpcap's DLT_ values. */
 bool is_known_link_layer(int link_layer);
 
 /*
- * Finds the IP packet in the `len` bytes of a frame: writes where it begins to `offset` and answers true. Where the
- * link layer says that the frame carries something else, or is cut short before it can say so, answers false.
+ * Finds the IP packet in the `len` bytes of a frame: stores where it begins in `offset` and returns true. Returns false
+ * if the frame doesn't carry IP, or is truncated before the field that says what it carries.
  */
 bool find_ip(int link_layer, const uint8_t *frame, size_t len, size_t *offset);
 

@@ -1,4 +1,4 @@
-/* ipcap: chains of IP extension headers in captures. */
+/* ipcap: counts, filters and draws chains of IP extension headers in captures. */
 #include <stdio.h>
 #include <string.h>
 
@@ -11,12 +11,12 @@ static const char usage[] =
     "       ipcap filter [-w FILE] COND [FILE]\n"
     "       ipcap show [--color=WHEN] [FILE]\n"
     "       ipcap --help | --version\n"
-    "Tells of the chains of IP extension headers in captures: counts them, filters by them, draws them.\n"
-    "`ipcap COMMAND --help` says more of each command, and ipcap(1) all.\n";
+    "Counts, filters and draws chains of IP extension headers in captures.\n"
+    "See `ipcap COMMAND --help` for each command, and the manual page ipcap(1).\n";
 
 struct command {
     const char *name;
-    char *full_name; /* as messages tell it */
+    char *full_name; /* for the messages of getopt */
     int (*run)(int count, char **arguments);
 };
 
@@ -42,6 +42,6 @@ int main(int count, char **arguments)
         return commands[i].run(count - 1, arguments + 1);
     }
     char message[96];
-    snprintf(message, sizeof message, "there is no command '%.40s'", name);
+    snprintf(message, sizeof message, "unknown command '%.40s'", name);
     return refuse_usage(usage, message);
 }

@@ -1,4 +1,4 @@
-/* Names of numbers and of faults. */
+/* Names of protocol numbers and of errors. */
 #ifndef IPCAP_NAMES_H
 #define IPCAP_NAMES_H
 
@@ -8,19 +8,19 @@
 
 enum { FAULT_KINDS = 6, FAULT_LAYERS = 12 };
 
-/* The name of a protocol number, or an empty string where it has none here. */
+/* Returns the name of a protocol number, or an empty string if it isn't in our list. */
 const char *number_name(uint8_t number);
 
-/* Room for the name of a fault and the zero behind it. */
+/* A buffer size that is large enough for the name of every error and its terminating null byte. */
 enum { FAULT_NAME_ROOM = 64 };
 
-/* Writes the name of a kind of fault in a layer, as `too-short routing`. Both are below their count. */
+/* Writes the name of an error, such as `too-short routing`. Requires kind < FAULT_KINDS and layer < FAULT_LAYERS. */
 void write_fault_name(uint8_t kind, uint8_t layer, char name[FAULT_NAME_ROOM]);
 
-/* Finds the kind and the layer of which `name` is the name. */
+/* Finds the kind and the layer of an error by its name. Returns false if there is none with that name. */
 bool find_fault(const char *name, uint8_t *kind, uint8_t *layer);
 
-/* Reads a number of 0 to 255 in decimal, without leading zeros, and puts `text` behind it. */
+/* Reads a decimal number from 0 to 255 without leading zeros, and advances `text` past it. Returns false on failure. */
 bool read_byte_number(const char **text, uint8_t *number);
 
 #endif

@@ -1,25 +1,25 @@
-/* What the subcommands have in common in reading their arguments. */
+/* Option parsing shared by the subcommands. */
 #ifndef IPCAP_OPTIONS_H
 #define IPCAP_OPTIONS_H
 
 #include <stdbool.h>
 
-/* Options without a short form. */
+/* Values that getopt_long returns for options without a short form. */
 enum { OPTION_HELP = 256, OPTION_VERSION, OPTION_JSON, OPTION_COLOR };
 
-/* Writes the version to standard output and answers the status. */
+/* Writes the version to standard output and returns the exit status. */
 int print_version(void);
 
-/* Writes the text of usage to standard output and answers the status. */
+/* Writes the usage text to standard output and returns the exit status. */
 int print_help(const char *usage);
 
-/* Writes it to standard error, behind a message if there is one, and answers the status of wrong usage. */
+/* Writes the message, if it isn't null, and the usage text to standard error, and returns STATUS_USAGE. */
 int refuse_usage(const char *usage, const char *message);
 
 /*
- * Reads the arguments of a subcommand whose one option besides `--help` and `--version` is `--json`. Where the
- * subcommand is to go on, answers -1 and writes whether the option was there; `optind` is the first other argument.
- * Else answers the status with which to end.
+ * Parses the arguments of a subcommand whose options are `--help`, `--version` and `--json`. Returns -1 if the
+ * subcommand should run: `json` is then whether `--json` was given, and `optind` the index of the first operand.
+ * Otherwise returns the exit status.
  */
 int read_json_option(int count, char **arguments, const char *usage, bool *json);
 

@@ -6,7 +6,7 @@
 
 #include "chain_key.h"
 
-/* How a line of a table, or a member of a JSON object, is written. */
+/* Writes one line of a table, or one member of a JSON object. */
 typedef void (*writer)(const char *name, uint64_t count);
 
 static void write_line(const char *name, uint64_t count)
@@ -42,11 +42,11 @@ static void write_lengths(const struct table *lengths, writer write)
     if (lengths->other > 0) write("other", lengths->other);
 }
 
-/* A number or a fault that was counted. */
+/* A protocol number or an error, with its count. */
 struct item {
     uint64_t count;
-    uint8_t first; /* the number, or the kind of fault */
-    uint8_t second; /* 0, or the layer of the fault */
+    uint8_t first; /* the number, or the kind of the error */
+    uint8_t second; /* 0, or the layer of the error */
 };
 
 static int compare_items(const void *left, const void *right)
@@ -113,7 +113,7 @@ void print_tables(struct counts *counts)
     write_faults(counts, write_line);
 }
 
-/* Begins a member that is an object. */
+/* Begins a member whose value is an object. */
 static void begin_object(const char *name)
 {
     printf("%s\"%s\":{", separator, name);

@@ -1,13 +1,13 @@
-/* Statistics written to standard output. Both calls put the tables in another order, so that nothing can be added. */
+/* Writes statistics to standard output. Both calls reorder the tables, after which nothing may be added. */
 #ifndef IPCAP_PRINT_COUNTS_H
 #define IPCAP_PRINT_COUNTS_H
 
 #include "counts.h"
 
-/* As tables for people. */
+/* Writes human-readable tables. */
 void print_tables(struct counts *counts);
 
-/* As one JSON object on a line. */
+/* Writes one line with a JSON object. */
 void print_json(struct counts *counts);
 
 #endif

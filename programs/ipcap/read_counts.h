@@ -1,4 +1,4 @@
-/* Statistics read as JSON. */
+/* Reads statistics from JSON. */
 #ifndef IPCAP_READ_COUNTS_H
 #define IPCAP_READ_COUNTS_H
 
@@ -8,23 +8,23 @@
 
 #include "counts.h"
 
-/* JSON objects, one after another. */
+/* An input of JSON objects, one after another. */
 struct json_input {
     FILE *file;
-    int next; /* the byte that comes next, or EOF */
+    int next; /* the next byte, or EOF */
     uint64_t line;
     uint64_t column;
 };
 
-/* Begins to read. */
+/* Starts reading from a file. */
 void begin_json(struct json_input *input, FILE *file);
 
-/* Whether another object may come: there is more than white space. */
+/* Whether there is anything but white space left in the input. */
 bool has_more_json(struct json_input *input);
 
 /*
- * Reads an object that `print_json` wrote into counts that are filled with zeros. White space may stand where JSON
- * allows it, and members may come in any order. Anything else is malformed: says where and why, and answers false.
+ * Reads an object written by `print_json` into `counts`, which must be filled with zeros. White space is accepted where
+ * JSON allows it, and members in any order. Anything else is an error: reports where and why, and returns false.
  */
 bool read_json(struct json_input *input, struct counts *counts);
 

@@ -23,6 +23,6 @@ void complain_of_memory(void)
 bool finish_output(void)
 {
     if (fflush(stdout) == 0 && !ferror(stdout)) return true;
-    complain("standard output: %s", errno ? strerror(errno) : "a write failed");
+    complain("standard output: %s", errno ? strerror(errno) : "write failed");
     return false;
 }

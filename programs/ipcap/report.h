@@ -1,4 +1,4 @@
-/* What the program tells about itself: messages, and the status with which it ends. */
+/* Error messages and exit statuses. */
 #ifndef IPCAP_REPORT_H
 #define IPCAP_REPORT_H
 
@@ -6,15 +6,15 @@
 
 enum { STATUS_DONE = 0, STATUS_FAILED = 1, STATUS_USAGE = 2 };
 
-/* Writes `ipcap: `, the words, which are those of printf, and a newline to standard error. */
+/* Writes `ipcap: `, the message, formatted as by printf, and a newline to standard error. */
 void complain(const char *format, ...) __attribute__((format(printf, 1, 2)));
 
-/* Says that memory ran out. */
+/* Reports that memory ran out. */
 void complain_of_memory(void);
 
 /*
- * Puts out what standard output still holds. Where anything written to it was lost, says so, and why if `errno` was 0
- * before it was written, and answers false.
+ * Flushes standard output. If anything written to it was lost, reports that and returns false. The message gives the
+ * reason if `errno` was 0 before the writes.
  */
 bool finish_output(void);
 

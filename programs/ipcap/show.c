@@ -1,4 +1,4 @@
-/* The subcommand that draws. */
+/* The subcommand `show`. */
 #include <errno.h>
 #include <getopt.h>
 #include <stdio.h>
@@ -15,12 +15,12 @@
 
 static const char usage[] =
     "usage: ipcap show [--color=WHEN] [FILE]\n"
-    "Draws each IP packet of a capture, or of the one that standard input has, with its chain of extension headers.\n"
-    "  --color=WHEN  `always`, `never`, or `auto` for where a terminal shows it, which is meant where none is given\n"
-    "  --help        print this text\n"
+    "Draws each IP packet of FILE, or standard input, with its chain of extension headers.\n"
+    "  --color=WHEN  use colours `always`, `never`, or `auto`: only on a terminal (default)\n"
+    "  --help        print this help\n"
     "  --version     print the version\n";
 
-/* Whether standard output is a terminal that shows colours, and they are wanted (no-color.org). */
+/* Whether standard output is a terminal with colours and NO_COLOR (no-color.org) is unset or empty. */
 static bool is_color_terminal(void)
 {
     const char *no_color = getenv("NO_COLOR"), *terminal = getenv("TERM");
@@ -41,7 +41,7 @@ static bool read_color(const char *when, bool *in_color)
     return true;
 }
 
-/* Writes the line that stands above a packet. */
+/* Writes the line above a packet. */
 static void print_title(const struct capture *capture, const struct packet *packet, const struct cut *cut)
 {
     printf("packet %llu: ", (unsigned long long)capture->number);
@@ -101,8 +101,8 @@ int run_show(int count, char **arguments)
         if (option == OPTION_HELP || option == 'h') return print_help(usage);
         if (option == OPTION_VERSION) return print_version();
         if (option != OPTION_COLOR) return refuse_usage(usage, NULL);
-        if (!read_color(optarg, &in_color)) return refuse_usage(usage, "--color takes always, never or auto");
+        if (!read_color(optarg, &in_color)) return refuse_usage(usage, "--color must be always, never or auto");
     }
-    if (count - optind > 1) return refuse_usage(usage, "show reads one file");
+    if (count - optind > 1) return refuse_usage(usage, "show reads only one file");
     return show_capture(optind < count ? arguments[optind] : NULL, in_color) ? STATUS_DONE : STATUS_FAILED;
 }

@@ -1,4 +1,4 @@
-/* The subcommands that count. */
+/* The subcommands `stat` and `sum`. */
 #include <errno.h>
 #include <getopt.h>
 #include <stdio.h>
@@ -14,16 +14,16 @@
 
 static const char stat_usage[] =
     "usage: ipcap stat [--json] [FILE..]\n"
-    "Counts the chains of IP extension headers in captures, or in the one that standard input has.\n"
-    "  --json     print a JSON object of counts, which `ipcap sum` reads\n"
-    "  --help     print this text\n"
+    "Counts the chains of IP extension headers in each FILE, or standard input.\n"
+    "  --json     print a JSON object of counts, which `ipcap sum` reads, instead of tables\n"
+    "  --help     print this help\n"
     "  --version  print the version\n";
 
 static const char sum_usage[] =
     "usage: ipcap sum [--json]\n"
-    "Adds up the JSON objects that `ipcap stat --json` wrote, which it reads one after another from standard input.\n"
-    "  --json     print a JSON object in place of tables\n"
-    "  --help     print this text\n"
+    "Adds up JSON objects written by `ipcap stat --json`, read one after another from standard input.\n"
+    "  --json     print a JSON object instead of tables\n"
+    "  --help     print this help\n"
     "  --version  print the version\n";
 
 /* Counts one packet. */
@@ -40,7 +40,7 @@ static bool count_captured(struct counts *counts, struct cut *cut, const struct 
     return false;
 }
 
-/* Counts the packets of a capture, those before a place where it can't be read further too. */
+/* Counts the packets of a capture. If it can't be read to its end, the packets before that point are counted. */
 static bool count_capture(struct counts *counts, struct cut *cut, const char *path)
 {
     struct capture capture;
@@ -54,7 +54,7 @@ static bool count_capture(struct counts *counts, struct cut *cut, const char *pa
     return is_counted && reading == READ_END;
 }
 
-/* Writes the statistics, and answers the status of what was done before and of this. */
+/* Writes the statistics. Returns the exit status: success if writing succeeds and `is_done` is set. */
 static int finish_counts(struct counts *counts, bool json, bool is_done)
 {
     errno = 0;
@@ -80,7 +80,7 @@ int run_stat(int count, char **arguments)
     return finish_counts(&counts, json, is_done);
 }
 
-/* Adds the next object. */
+/* Reads the next object and adds it to the total. */
 static bool add_object(struct json_input *input, struct counts *total)
 {
     struct counts counts = {0};
@@ -89,11 +89,11 @@ static bool add_object(struct json_input *input, struct counts *total)
     if (is_read) added = add_counts(total, &counts);
     free_counts(&counts);
     if (added == ADDED_NO_MEMORY) complain_of_memory();
-    if (added == ADDED_OVERFLOW) complain("standard input: a sum is above 18446744073709551615");
+    if (added == ADDED_OVERFLOW) complain("standard input: a sum exceeds 18446744073709551615");
     return is_read && added == ADDED;
 }
 
-/* Adds up all objects, of which there has to be one. */
+/* Adds up all objects. There must be at least one. */
 static bool add_objects(struct counts *total)
 {
     struct json_input input;
@@ -104,9 +104,9 @@ static bool add_objects(struct counts *total)
         is_any = true;
     }
     if (ferror(stdin))
-        complain("standard input: can't be read");
+        complain("standard input: read error");
     else if (!is_any)
-        complain("standard input: there are no statistics");
+        complain("standard input: no statistics found");
     return is_any && !ferror(stdin);
 }
 
@@ -116,7 +116,7 @@ int run_sum(int count, char **arguments)
     bool json;
     int status = read_json_option(count, arguments, sum_usage, &json);
     if (status >= 0) return status;
-    if (optind != count) return refuse_usage(sum_usage, "sum reads standard input and takes no file");
+    if (optind != count) return refuse_usage(sum_usage, "sum reads standard input and takes no file name");
     if (add_objects(&total)) return finish_counts(&total, json, true);
     free_counts(&total);
     return STATUS_FAILED;

@@ -15,7 +15,7 @@ static int compare_keys(const struct key *left, const struct key *right)
     return memcmp(left->bytes, right->bytes, KEY_BYTES);
 }
 
-/* How many entries stand before the key: where it stands, or would. */
+/* Returns the number of entries before the key: its index, or where it would be inserted. */
 static size_t place_of(const struct table *table, const struct key *key)
 {
     size_t low = 0, high = table->count;

@@ -1,4 +1,4 @@
-/* A table of counts with a bounded number of keys. */
+/* A table of counts with a limited number of keys. */
 #ifndef IPCAP_TABLE_H
 #define IPCAP_TABLE_H
 
@@ -6,12 +6,12 @@
 #include <stddef.h>
 #include <stdint.h>
 
-/* How many keys a table has at most. What comes with a further one is counted as `other`. */
+/* The maximum number of keys in a table. Any further key is counted as `other`. */
 enum { TABLE_KEYS = 4096 };
 
 enum { KEY_BYTES = 68 };
 
-/* Keys are equal where all their bytes are. */
+/* A key. Two keys are equal if all their bytes are. */
 struct key {
     uint8_t bytes[KEY_BYTES];
 };
@@ -21,32 +21,32 @@ struct entry {
     uint64_t count;
 };
 
-/* Filled with zeros it is empty. */
+/* A table. All zeros are an empty table. */
 struct table {
-    struct entry *entries; /* in the order of their keys */
+    struct entry *entries; /* sorted by key */
     size_t count;
     size_t room;
     uint64_t other;
 };
 
-/* Adds to a count. Answers false, and leaves it, where the sum doesn't fit. */
+/* Adds to a count. If the sum doesn't fit, returns false and leaves the count unchanged. */
 bool add_count(uint64_t *count, uint64_t more);
 
-/* How adding to a table ended. */
+/* Results of adding to a table. */
 enum added { ADDED, ADDED_NO_MEMORY, ADDED_OVERFLOW };
 
-/* Adds to the count of a key. */
+/* Adds `count` to the count of a key. */
 enum added add_to_table(struct table *table, const struct key *key, uint64_t count);
 
 /* Whether a table has a key. */
 bool has_key(const struct table *table, const struct key *key);
 
-/* The sum of all counts to `total`, `other` with them. Answers false where it doesn't fit. */
+/* Stores the sum of all counts, including `other`, in `total`. Returns false if it doesn't fit. */
 bool sum_table(const struct table *table, uint64_t *total);
 
 /*
- * Puts the entries in the order in which they are shown: the largest count first, and equal counts in the order of
- * their keys. No call but `free_table` may follow.
+ * Sorts the entries for printing: by descending count, and equal counts by key. Afterwards only `free_table` may be
+ * called.
  */
 void order_table(struct table *table);
 

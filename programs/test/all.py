@@ -1,4 +1,4 @@
-"""All groups of tests."""
+"""Runs all test groups."""
 
 import sys
 

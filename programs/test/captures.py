@@ -1,4 +1,4 @@
-"""Packets and captures, put together byte by byte as the standards lay them out."""
+"""Builds packets and captures byte by byte, as the standards define them."""
 
 import struct
 
@@ -10,12 +10,12 @@ TCP = struct.pack(">HHIIHHHH", 1000, 2000, 1, 0, 0x5002, 1024, 0, 0)
 
 
 def options(next_header, units=0):
-    """Hop by hop or destination options of 8 * (units + 1) bytes, filled by one PadN option for each 8 bytes."""
+    """Hop-by-hop or destination options of 8 * (units + 1) bytes, filled with one PadN option per 8 bytes."""
     return bytes([next_header, units]) + b"\1\4\0\0\0\0" + b"\1\6\0\0\0\0\0\0" * units
 
 
 def routing(next_header, units=0):
-    """A routing header of type 253, which is for experiments (RFC 4727), with no segments left."""
+    """A routing header of the experimental type 253 (RFC 4727), with no segments left."""
     return bytes([next_header, units, 253, 0]) + bytes(4 + 8 * units)
 
 
@@ -28,7 +28,7 @@ def authentication(next_header, value_len=12):
 
 
 def header(number, next_header, units=0):
-    """Some header of the number."""
+    """A header with the given protocol number."""
     make = {0: options, 60: options, 43: routing}
     if number == 44:
         return fragment(next_header)
@@ -38,7 +38,7 @@ def header(number, next_header, units=0):
 
 
 def chain(numbers, final, units=0):
-    """Headers of the numbers, linked, that lead to the final number."""
+    """Linked headers with the given numbers, the last of which names the final number."""
     following = list(numbers[1:]) + [final]
     return b"".join(header(n, f, units) for n, f in zip(numbers, following))
 
@@ -68,7 +68,7 @@ def ipv4(protocol, payload, fragment_bits=0, total_len=None, words=5, option_byt
 
 
 def ethernet(packet, tags=(), ethertype=None):
-    """A frame, with a VLAN tag of each EtherType of `tags`."""
+    """An Ethernet frame, with one VLAN tag for each EtherType in `tags`."""
     if ethertype is None:
         ethertype = 0x0800 if packet and packet[0] >> 4 == 4 else 0x86DD
     types = list(tags) + [ethertype]
@@ -79,12 +79,12 @@ def ethernet(packet, tags=(), ethertype=None):
 
 
 def cooked(packet, ethertype):
-    """A frame of Linux's cooked capture, version 1."""
+    """A frame of a Linux cooked capture, version 1."""
     return struct.pack(">HHH", 0, 1, 6) + b"\2\0\0\0\0\1\0\0" + struct.pack(">H", ethertype) + packet
 
 
 def cooked2(packet, ethertype):
-    """The same of version 2."""
+    """A frame of a Linux cooked capture, version 2."""
     return struct.pack(">HHIHBB", ethertype, 0, 1, 1, 0, 6) + b"\2\0\0\0\0\1\0\0" + packet
 
 
@@ -93,12 +93,12 @@ def file_header(link_layer=ETHERNET, snap_len=65535, magic=MICROSECONDS, order="
 
 
 def record(frame, kept=None, seconds=1000, fraction=5, order="<"):
-    """A packet of a capture that keeps so many of its bytes."""
+    """A packet record of a capture, with the first `kept` bytes of the frame."""
     kept = len(frame) if kept is None else min(kept, len(frame))
     return struct.pack(order + "IIII", seconds, fraction, kept, len(frame)) + frame[:kept]
 
 
 def capture(frames, link_layer=ETHERNET, snap_len=65535, magic=MICROSECONDS, order="<"):
-    """A capture of the frames, each captured a second after the one before."""
+    """A capture of the frames, one second apart."""
     records = [record(f, snap_len, 1000 + i, 5 + i, order) for i, f in enumerate(frames)]
     return file_header(link_layer, snap_len, magic, order) + b"".join(records)

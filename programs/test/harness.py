@@ -1,4 +1,4 @@
-"""Runs ipcap as it is used, under valgrind, and with sanitizers, and holds its answers against what is expected."""
+"""Runs ipcap normally, under valgrind, and with sanitizers, and compares its output with what is expected."""
 
 import concurrent.futures
 import itertools
@@ -45,7 +45,7 @@ class Harness:
         return path
 
     def answer(self, command, arguments, content, output):
-        """What one build answers: status, standard output, standard error, and what it wrote to the path `{}`."""
+        """Runs one build. Returns status, standard output, standard error, and what it wrote to the path `{}`."""
         own = self.path(".own")
         streams = {"stdin": subprocess.PIPE, "stdout": output or subprocess.PIPE, "stderr": subprocess.PIPE}
         filled = [argument.replace("{}", own) for argument in arguments]
@@ -58,24 +58,25 @@ class Harness:
         return process.returncode, found, told.decode().replace(own, "{}"), written
 
     def run(self, *arguments, content=b"", output=None):
-        """What all builds answer to the arguments: status, standard output, standard error, and what was written to the
-        path `{}`, of which each build has its own. The answer under valgrind is looked at in `settle`."""
+        """Runs all builds with the arguments, and checks that they agree. Returns status, standard output, standard
+        error, and what was written to the path `{}`, which is a different one for each build. The result under valgrind
+        is checked in `settle`."""
         checked = self.pool.submit(self.answer, self.checked, arguments, content, output)
         sanitized = self.pool.submit(self.answer, self.sanitized, arguments, content, output)
         answer = self.answer(self.plain, arguments, content, output)
         self.check(answer[0] in (0, 1, 2), "status", answer[0], "of", arguments, answer[2])
-        self.equal(sanitized.result(), answer, "another answer with sanitizers to", arguments)
+        self.equal(sanitized.result(), answer, "different result with sanitizers of", arguments)
         self.pending.append((checked, answer, arguments))
         return answer
 
     def settle(self):
-        """Waits for what runs under valgrind, and holds it against the answers that were given."""
+        """Waits for the runs under valgrind, and compares their results with those of the plain build."""
         for checked, answer, arguments in self.pending:
-            self.equal(checked.result(), answer, "another answer under valgrind to", arguments)
+            self.equal(checked.result(), answer, "different result under valgrind of", arguments)
         self.pending = []
 
     def stat(self, *arguments, content=b"", status=0):
-        """The statistics as an object, and what was told on standard error."""
+        """Runs `stat --json`. Returns the statistics as an object, and standard error."""
         found = self.run("stat", "--json", *arguments, content=content)
         self.equal(found[0], status, "status of stat", arguments, found[2])
         return json.loads(found[1]), found[2]
@@ -88,7 +89,7 @@ class Harness:
 
 
 def statistics(**parts):
-    """What `stat` is expected to tell: the parts, and nothing else."""
+    """Returns the expected output of `stat`: the given parts, and 0 or empty for the rest."""
     counts = dict.fromkeys(["packets", "ipv4", "ipv6", "unread", "not_ip", "fragments", "cut"], 0)
     tables = {name: {} for name in ["chains", "chain_bytes", "final_numbers", "faults"]}
     return {**counts, **tables, **parts}

@@ -1,4 +1,4 @@
-"""What `ipcap show` draws."""
+"""Tests of `ipcap show`."""
 
 from captures import *
 
@@ -46,7 +46,7 @@ def drawings(harness):
 
 
 def carets(found):
-    """Where carets stand: below which byte of the packet, and what they say."""
+    """Yields each caret of a drawing: the offset of the byte above it, and its text."""
     row = 0
     for line in found.decode().split("\n"):
         if line[:4].strip() and line[4:6] in ("", "  "):
@@ -56,7 +56,7 @@ def carets(found):
 
 
 def places_of_faults(harness):
-    """The caret stands below the byte with which what is wrong begins."""
+    """The caret is below the first byte of the faulty header."""
     cases = [(ipv6(0, options(43, 3) + routing(17)[:5]), 40 + 32, "offset 72: 8 needed, 5 there"),
              (ipv6_chain([43, 60, 0]), 56, "not directly after the IPv6 header"),
              (ipv6(51, b"\x11\0" + bytes(14)), 40, "too small (0)"),
@@ -78,7 +78,7 @@ def places_of_faults(harness):
 
 
 def long_packets(harness):
-    """Behind the chain some bytes are drawn, and it is said how many there are more; a chain is drawn whole."""
+    """A chain is drawn completely. After it some bytes are drawn, and the number of remaining bytes is printed."""
     found = harness.run("show", content=capture([ethernet(ipv6_chain([0], 17, bytes(1000)))]))[1].decode()
     harness.check(found.endswith("      and 968 bytes more\n"), found)
     found = harness.run("show", content=capture([ethernet(ipv6_chain([60] * 2000, 17, b""))]))[1].decode()

@@ -1,4 +1,4 @@
-"""What `ipcap stat` tells. What is expected was worked out by hand from the bytes, but where tshark is named."""
+"""Tests of `ipcap stat`. Expected values were worked out by hand from the bytes, except where tshark is named."""
 
 import random
 import xml.etree.ElementTree as ElementTree
@@ -35,7 +35,7 @@ def link_layers(harness):
 
 
 def short_frames(harness):
-    """Frames that end within what stands before the IP packet, or directly behind it."""
+    """Frames that end within the link-layer header, or directly after it."""
     for link_layer, frame, before in [(ETHERNET, ethernet(b""), 14), (ETHERNET, ethernet(b"", (0x8100, 0x8100)), 22),
                                       (SLL, cooked(b"", 0x86DD), 16), (SLL2, cooked2(b"", 0x86DD), 20),
                                       (NULL, struct.pack("<I", 30), 4)]:
@@ -45,7 +45,7 @@ def short_frames(harness):
 
 
 def faulty_packets():
-    """Packets with what is wrong with them, and their chains."""
+    """Yields packets with their error, the text of their chain, and its length in bytes."""
     for number in [0, 43, 60]:
         first = header(number, 17, 2)
         for kept in [0, 1, 7, 8, 23]:
@@ -91,7 +91,7 @@ def faults(harness):
 
 
 def bounds_of_packets(harness):
-    """What a packet's length field leaves out isn't of the packet, as the padding of a short frame."""
+    """Bytes after the end that a packet's length field states, such as padding, aren't part of the packet."""
     def chains(packet):
         return harness.stat(content=capture([ethernet(packet)]))[0]["chains"]
     harness.equal(chains(ipv6(0, options(43) + routing(17), payload_len=8)), {"IPv6 0 -> 43 fault": 1}, "padding")
@@ -102,7 +102,7 @@ def bounds_of_packets(harness):
 
 
 def fragments(harness):
-    """Behind a fragment header with an offset stands the middle of a payload, whatever number the header names."""
+    """A fragment header with a non-zero offset is followed by payload, whatever its next header field says."""
     packets = [(ipv6(44, fragment(60, 0, 1) + options(17) + UDP), "IPv6 44,60 -> 17", 1),
                (ipv6(44, fragment(60, 0, 0) + options(17) + UDP), "IPv6 44,60 -> 17", 0),
                (ipv6(44, fragment(60, 1, 0) + options(17) + UDP), "IPv6 44 -> 60", 1),
@@ -118,8 +118,8 @@ def fragments(harness):
 
 
 def snapped(version, ends, numbers, final, kept, before):
-    """The chain of a packet that is cut to `kept` bytes, of which `before` stand before the chain. Its headers end at
-    `ends`, counted from where it begins."""
+    """Returns the chain of a packet truncated to `kept` bytes, with `before` bytes before the chain. Its headers end at
+    `ends`, counted from the start of the chain."""
     if kept < before:
         return None
     whole = [n for n, end in zip(numbers, ends) if before + end <= kept]
@@ -129,7 +129,7 @@ def snapped(version, ends, numbers, final, kept, before):
 
 
 def snap_lengths(harness):
-    """Each length to which a packet can be cut."""
+    """Packets truncated to every possible length."""
     six = ipv6(0, options(43) + routing(44, 2) + fragment(60) + options(17, 1) + UDP)
     four = ipv4(51, authentication(17) + UDP)
     for version, packet, numbers, ends, base in [(6, six, [0, 43, 44, 60], [8, 32, 40, 56], 40),
@@ -147,7 +147,7 @@ def snap_lengths(harness):
 
 
 def faults_in_cut_packets(harness):
-    """What is wrong within the bytes that a capture keeps is a fault, and what it leaves out is none."""
+    """An error in the captured bytes is reported, and bytes missing from the capture are not an error."""
     zero = b"\x11\0" + bytes(22)
     for packet, kept, faults_wanted in [
             (ipv6_chain([60, 0]), 70, {"not-at-start hop-by-hop": 1}),
@@ -168,15 +168,15 @@ def truncated_files(harness):
         path = harness.file(whole[:length])
         found, told = harness.stat(path, status=1)
         harness.equal(found["packets"], 2, "packets of a file of", length, "bytes")
-        harness.check(told.startswith("ipcap: %s: ends at packet 3: " % path), told)
-    harness.equal(harness.stat(harness.file(whole[:third]))[0]["packets"], 2, "a file that ends behind a packet")
+        harness.check(told.startswith("ipcap: %s: can't read packet 3: " % path), told)
+    harness.equal(harness.stat(harness.file(whole[:third]))[0]["packets"], 2, "a file that ends after a packet")
     for content in [b"", whole[:3], whole[:23], b"no capture at all, but some bytes"]:
         path = harness.file(content)
         found, told = harness.stat(path, harness.file(whole), status=1)
-        harness.equal(found["packets"], 3, "the capture behind one that can't be read")
+        harness.equal(found["packets"], 3, "the capture after one that can't be read")
         harness.check(told.startswith("ipcap: %s: " % path), told)
     broken = capture([ethernet(ipv6_chain([0]))]) + struct.pack("<IIII", 0, 0, 0x7fffffff, 0x7fffffff) + bytes(60)
-    harness.check("ends at packet 2: " in harness.stat(content=broken, status=1)[1], "a packet of 2 GB")
+    harness.check("can't read packet 2: " in harness.stat(content=broken, status=1)[1], "a packet of 2 GB")
 
 
 def what_cant_be_read(harness):
@@ -206,7 +206,7 @@ def forms_of_files(harness):
 
 
 def chain_in(packet):
-    """The chain that tshark finds in a packet, from the fields that name what follows."""
+    """Returns the chain that tshark finds in a packet, from the next header fields."""
     names = {"ipv6.nxt": None, "ip.proto": None, "ipv6.hopopts.nxt": 0, "ipv6.routing.nxt": 43, "ipv6.fraghdr.nxt": 44,
              "ah.next_header": 51, "ipv6.dstopts.nxt": 60}
     fields = [f for f in packet.iter("field") if f.get("name") in names]
@@ -219,7 +219,7 @@ def chain_in(packet):
 
 
 def random_frames(count, seed):
-    """Frames with chains of numbers that are drawn."""
+    """Returns frames with random chains."""
     draw = random.Random(seed)
     frames = []
     for _ in range(count):
@@ -251,7 +251,7 @@ def tshark_agrees(harness):
 
 
 def scapy_agrees(harness):
-    """Packets that scapy makes, with the chains of which it made them."""
+    """The chains of packets that scapy builds are the ones it was given."""
     from scapy.layers.inet import IP, UDP as ScapyUdp
     from scapy.layers.inet6 import (IPv6, IPv6ExtHdrDestOpt, IPv6ExtHdrFragment, IPv6ExtHdrHopByHop, IPv6ExtHdrRouting,
                                     PadN)
@@ -269,7 +269,7 @@ def scapy_agrees(harness):
 
 
 def tables(harness):
-    """What people read."""
+    """The human-readable output."""
     path = harness.file(capture([ethernet(ipv6_chain([0, 43])), ethernet(ipv6_chain([0, 43])), ethernet(ipv4(6, TCP)),
                                  ethernet(ipv6(60, b"")), ethernet(bytes(46), (), 0x0806)]))
     wanted = """packets

@@ -1,4 +1,4 @@
-"""What `ipcap sum` reads and refuses."""
+"""Tests of `ipcap sum`."""
 
 import json
 import random
@@ -9,7 +9,7 @@ from test_stat import random_frames
 
 
 def sums(harness):
-    """The statistics of parts, added up, are those of the whole; so are those of parts of parts."""
+    """The statistics of the parts of a capture add up to those of the whole, also in several steps."""
     frames = random_frames(300, 2) + [ethernet(b""), ethernet(ipv6(0, b""))]
     whole = harness.run("stat", "--json", harness.file(capture(frames)))[1]
     cuts = sorted(random.Random(3).sample(range(len(frames)), 4))
@@ -37,27 +37,27 @@ def refuse(harness, content, words, name):
 
 
 def good(**parts):
-    """An object of one packet."""
+    """Statistics of one packet, as JSON. Members can be overridden."""
     counts = statistics(packets=1, ipv6=1, chains={"IPv6 0 -> 17": 1}, chain_bytes={"8": 1}, final_numbers={"17": 1})
     return json.dumps({**counts, **parts}, separators=(",", ":")).encode()
 
 
 def malformed(harness):
     text = good()
-    cases = [(b"", "no statistics"), (b" \n ", "no statistics"), (b"x", "'x' stands where '{' has to"), (b"[]", "'['"),
+    cases = [(b"", "no statistics"), (b" \n ", "no statistics"), (b"x", "expected '{', found 'x'"), (b"[]", "'['"),
              (b"null", "'n'"), (b"{}", "has no \"packets\""), (b"\xff", "byte 0xff"),
              (b"{\"packets\":1}", "has no \"ipv4\""),
-             (text + b"x", "'x'"), (text + b",", "','"), (text[:-1] + b",}", "'}' stands where a name"),
+             (text + b"x", "'x'"), (text + b",", "','"), (text[:-1] + b",}", "expected a name in quotes, found '}'"),
              (text.replace(b":1", b":-1", 1), "'-'"), (text.replace(b":1", b":01", 1), "'1'"),
              (text.replace(b":1", b":1.5", 1), "'.'"),
              (text.replace(b":1", b":1e3", 1), "'e'"), (text.replace(b":1", b":\"1\"", 1), "a count"),
              (text.replace(b":1", b":", 1), "a count"),
-             (text.replace(b":1", b":18446744073709551616", 1), "above 18446744073709551615"),
-             (text.replace(b":1", b":99999999999999999999999", 1), "above 18446744073709551615"),
+             (text.replace(b":1", b":18446744073709551616", 1), "exceeds 18446744073709551615"),
+             (text.replace(b":1", b":99999999999999999999999", 1), "exceeds 18446744073709551615"),
              (text.replace(b":1", b":2", 1), "don't add up"),
-             (text.replace(b"packets", b"packet"), "none of the statistics"),
-             (text.replace(b"packets", b"pack\\u0065ts"), "none of the statistics"),
-             (b"{" + text[1:-1] + b",\"packets\":1}", "twice in the object"),
+             (text.replace(b"packets", b"packet"), "unknown member"),
+             (text.replace(b"packets", b"pack\\u0065ts"), "unknown member"),
+             (b"{" + text[1:-1] + b",\"packets\":1}", "duplicate name in the object"),
              (text.replace(b"packets", b"x" * 1000), "longer"), (text.replace(b"packets", b"\0"), "byte 0x00"),
              (text.replace(b"packets", b"\n"), "byte 0x0a"), (text.replace(b"\"packets\"", b"packets"), "'p'")]
     tables = [({"chains": {"IPv6 0 -> 17": 0}}, "is 0"), ({"chains": {"x": 1}}, "no chain"),
@@ -79,22 +79,23 @@ def malformed(harness):
               ({"chains": {"IPv6 0 -> 17": 1, "other": 2**64 - 1}}, "don't add up")]
     cases += [(good(**parts), words) for parts, words in tables]
     twice = text.replace(b"{\"IPv6 0 -> 17\":1}", b"{\"IPv6 0 -> 17\":1,\"IPv6 0 -> 17\":1}")
-    cases += [(twice, "twice in a table"), (text.replace(b"{\"17\":1}", b"{\"17\":1,\"17\":1}"), "twice in a table")]
+    cases += [(twice, "duplicate name in a table"),
+              (text.replace(b"{\"17\":1}", b"{\"17\":1,\"17\":1}"), "duplicate name in a table")]
     for content, words in cases:
         refuse(harness, content, words, repr(content[:80]))
     many = {"IPv6 %d,%d -> 17" % (n // 256, n % 256): 1 for n in range(4097)}
-    refuse(harness, good(chains=many), "more names", "4097 chains")
+    refuse(harness, good(chains=many), "too many names", "4097 chains")
     huge = good(packets=2**63, not_ip=2**63 - 1)
-    refuse(harness, huge * 2, "a sum is above 18446744073709551615", "a sum that doesn't fit")
-    harness.check("line 3, column 2: " in harness.run("sum", content=text + b"\n\n{x")[2], "where it is malformed")
+    refuse(harness, huge * 2, "a sum exceeds 18446744073709551615", "a sum that doesn't fit")
+    harness.check("line 3, column 2: " in harness.run("sum", content=text + b"\n\n{x")[2], "position of an error")
 
 
 def damaged(harness):
-    """Each beginning of an object but the whole is refused, and whatever bytes are changed there is an end."""
+    """A truncated object is refused. Whatever bytes are changed, the program ends in an orderly way."""
     text = good(faults={"too-short routing": 1})
     draw = random.Random(4)
     for length in range(1, len(text), 7):
-        refuse(harness, text[:length], "ends where", "the first %d bytes" % length)
+        refuse(harness, text[:length], "found the end", "the first %d bytes" % length)
     for _ in range(40):
         changed = bytearray(text)
         for _ in range(draw.choice([1, 1, 2, 5])):
@@ -105,7 +106,7 @@ def damaged(harness):
 
 
 def bounds(harness):
-    """Past 4096 chains further ones are counted as `other`; so are those of more than 64 headers."""
+    """Chains after the first 4096, and chains of more than 64 headers, are counted as `other`."""
     frames = []
     for number in range(5000):
         numbers = [43 if number >> bit & 1 else 60 for bit in range(13)]

@@ -1,4 +1,4 @@
-"""How the program is called, and what it does where output, terminals or memory fail it."""
+"""Tests of usage errors, full disks, terminals, interrupts, memory and damaged captures."""
 
 import os
 import pty
@@ -51,7 +51,7 @@ def full_outputs(harness):
 
 
 def read_terminal(master, seconds=None):
-    """What a terminal shows within the seconds, or until it is closed."""
+    """Returns what a terminal displays until nothing more comes for `seconds`, or until it is closed."""
     shown = b""
     while select.select([master], [], [], seconds)[0]:
         try:
@@ -65,8 +65,9 @@ def read_terminal(master, seconds=None):
 
 
 def in_terminal(command, environment, standard_error=False, head=b"", part=b""):
-    """What a command shows on a terminal, as its output or as its standard error alone. It reads the head, and then the
-    part again and again until it shows something, for a minute at most."""
+    """Runs a command with standard error, and standard output unless `standard_error` is set, on a terminal. Feeds it
+    `head`, then `part` repeatedly until it displays something, for a minute at most. Returns its status and what it
+    displayed."""
     master, terminal = pty.openpty()
     output = subprocess.DEVNULL if standard_error else terminal
     process = subprocess.Popen(command, stdin=subprocess.PIPE, stdout=output, stderr=terminal, env=environment)
@@ -96,7 +97,8 @@ def terminals(harness):
             status, shown = in_terminal(command + ["show", path] + arguments, dict(environment, **more))
             harness.equal((status, b"\033[" in shown), (0, is_colored), more, arguments)
         status, shown = in_terminal(command + ["filter", "fault", path], environment)
-        harness.equal((status, b"isn't written to a terminal" in shown), (2, True), "a capture on a terminal")
+        harness.equal((status, b"refusing to write a capture to a terminal" in shown), (2, True),
+                      "a capture on a terminal")
         frames = b"".join([record(ethernet(ipv6_chain([0])))] * 1024)
         status, shown = in_terminal(command + ["stat"], environment, True, file_header(), frames)
         is_shown = re.search(rb"standard input: \d+ packets", shown)
@@ -106,16 +108,16 @@ def terminals(harness):
         is_shown = re.search(rb"standard input: \d+ packets", shown)
         harness.check(status == 0 and is_shown and shown.endswith(b"\r\033[K"), shown)
         status, shown = in_terminal(command + ["stat", path], environment, True)
-        harness.equal((status, shown), (0, b""), "no progress of a short file")
+        harness.equal((status, shown), (0, b""), "no progress line for a short file")
 
 
 def take_interrupts():
-    """As a program that a terminal starts; who runs the tests in the background may ignore them."""
+    """Restores the default action of SIGINT, which is ignored if the tests run in the background."""
     signal.signal(signal.SIGINT, signal.SIG_DFL)
 
 
 def interrupts(harness):
-    """What a pipe still brings behind an interrupt is filtered; the second interrupt ends the program."""
+    """After one interrupt, the rest of the pipe is still filtered. The second interrupt ends the program."""
     packet = record(ethernet(ipv6_chain([0])))
     for command in [harness.plain, harness.sanitized, harness.checked]:
         for is_second, wanted in [(False, 0), (True, -signal.SIGINT)]:
@@ -125,7 +127,7 @@ def interrupts(harness):
             harness.equal(process.stdout.read(24 + len(packet)), file_header() + packet, "before the interrupt")
             process.send_signal(signal.SIGINT)
             os.write(process.stdin.fileno(), packet)
-            harness.equal(process.stdout.read(len(packet)), packet, "behind the interrupt")
+            harness.equal(process.stdout.read(len(packet)), packet, "after the interrupt")
             if is_second:
                 process.send_signal(signal.SIGINT)
             else:
@@ -135,7 +137,7 @@ def interrupts(harness):
 
 
 def memory_used(command, path):
-    """The largest size of a run in kilobytes."""
+    """Runs a command on a file. Returns its status and its peak memory in kilobytes."""
     started = subprocess.Popen(command + [path], stdout=subprocess.DEVNULL)
     _, status, usage = os.wait4(started.pid, 0)
     started.returncode = status
@@ -143,7 +145,7 @@ def memory_used(command, path):
 
 
 def bounded_memory(harness):
-    """A capture of a thousand times as many packets takes no more memory."""
+    """A capture with a thousand times as many packets takes no more memory."""
     frames = [record(ethernet(ipv6_chain(numbers))) for numbers in [[0], [0, 43], [60, 44], [51]]]
     short, long = [harness.file(file_header() + b"".join(frames) * count) for count in [50, 50000]]
     for command in [["stat"], ["filter", "header 44", "-w", "/dev/null"], ["show"]]:
@@ -152,7 +154,7 @@ def bounded_memory(harness):
 
 
 def refused_memory(harness):
-    """Each allocation refused in turn ends the program with a message."""
+    """Each failed allocation ends the program with a message, unless it gets by without that memory."""
     content = capture([ethernet(ipv6_chain([60] * 40)), ethernet(ipv4(17, UDP))])
     path = harness.file(content)
     counts = harness.run("stat", "--json", path)[1]
@@ -175,7 +177,7 @@ def refused_memory(harness):
 
 
 def damaged_captures(harness):
-    """Whatever bytes of a capture are changed, each command comes to an end."""
+    """Whatever bytes of a capture are changed, each command ends in an orderly way."""
     draw = random.Random(5)
     content = capture([ethernet(ipv6_chain([0, 43, 44, 51, 60])),
                        ethernet(ipv4(51, authentication(17) + UDP), (0x8100,)),

@@ -1,11 +1,11 @@
-/* What no line asks for: arrays that are too short, null, texts, cursors from anywhere, fields of single headers. */
+/* Tests what the lines don't cover: short arrays, null, error texts, cursors anywhere, fields of single headers. */
 #include "wolfaren.h"
 
 #include <stdio.h>
 #include <stdlib.h>
 #include <string.h>
 
-/* Hop by hop options, destination options, routing, fragment, authentication and destination options. */
+/* Hop-by-hop options, destination options, routing, fragment, authentication and destination options. */
 static const uint8_t SIX[52] = {60, 0, 0, 0, 0, 0, 0, 0, 43, 0, 0, 0, 0, 0, 0, 0, 44, 0, 0, 0, 0, 0, 0, 0, 51, 0,
                                 0,  0, 0, 0, 0, 0, 60, 1, 0, 0, 0, 0, 0, 0, 0, 0, 0, 0, 17, 0, 0, 0, 0, 0, 0, 0};
 
@@ -25,7 +25,7 @@ static bool same_header(const struct wolfaren_header *a, const struct wolfaren_h
     return a->offset == b->offset && a->len == b->len && a->number == b->number && a->next_header == b->next_header;
 }
 
-/* Arrays in memory of just their length: none, one less than the count, the count, and more. */
+/* Arrays allocated with exactly their length: none, one less than the count, the count, and more. */
 static void arrays_of_each_length(void)
 {
     const struct wolfaren_header stays = {7, 7, 7, 7};
@@ -45,17 +45,17 @@ static void arrays_of_each_length(void)
     }
 }
 
-/* Runs: all six have a place, a second routing header or third destination options have none, nor has what is no header. */
+/* Runs: six headers fit; a second routing header, third destination options, and what isn't a header don't. */
 static void runs_of_headers(void)
 {
     struct wolfaren_header headers[7];
     memcpy(headers, CUTS, sizeof CUTS);
     headers[6] = CUTS[2];
-    check(wolfaren_run_len(headers, 7) == 6 && wolfaren_run_len(&headers[6], 1) == 1, "a routing header behind six");
+    check(wolfaren_run_len(headers, 7) == 6 && wolfaren_run_len(&headers[6], 1) == 1, "a routing header after six");
     headers[6].number = 60;
-    check(wolfaren_run_len(headers, 7) == 6 && wolfaren_run_len(headers, 3) == 3, "destination options behind six");
+    check(wolfaren_run_len(headers, 7) == 6 && wolfaren_run_len(headers, 3) == 3, "destination options after six");
     headers[1].number = 17;
-    check(wolfaren_run_len(headers, 7) == 1 && wolfaren_run_len(&headers[1], 6) == 0, "what is no extension header");
+    check(wolfaren_run_len(headers, 7) == 1 && wolfaren_run_len(&headers[1], 6) == 0, "not an extension header");
     check(wolfaren_run_len(NULL, 0) == 0, "a run of none");
 }
 
@@ -65,15 +65,15 @@ static void nothing_at_all(void)
     wolfaren_cut_chain(17, NULL, 0, NULL, 0, &chain);
     check(chain.headers == 0 && chain.next_header == 17 && chain.fault.kind == WOLFAREN_NO_FAULT, "no bytes, no header");
     wolfaren_cut_ipv4_chain(51, NULL, 0, NULL, 0, &chain);
-    check(chain.fault.kind == WOLFAREN_TOO_SHORT && chain.fault.required_len == 12, "no bytes of authentication");
+    check(chain.fault.kind == WOLFAREN_TOO_SHORT && chain.fault.required_len == 12, "no bytes for an authentication header");
     struct wolfaren_packet packet;
     struct wolfaren_payload payload;
     struct wolfaren_fault fault = {.kind = 200};
     check(!wolfaren_cut_packet(NULL, 0, NULL, 0, &packet, &fault), "no bytes, no packet");
-    check(fault.kind == WOLFAREN_TOO_SHORT && fault.layer == WOLFAREN_IP_HEADER, "what no bytes lack");
-    check(!wolfaren_cut_packet_lax(NULL, 0, NULL, 0, &packet, &fault), "no bytes, no packet that is cut short");
+    check(fault.kind == WOLFAREN_TOO_SHORT && fault.layer == WOLFAREN_IP_HEADER, "the error for no bytes");
+    check(!wolfaren_cut_packet_lax(NULL, 0, NULL, 0, &packet, &fault), "no bytes, no truncated packet");
     check(!wolfaren_find_payload(NULL, 0, &payload, &fault), "no bytes, no payload");
-    check(!wolfaren_find_payload_lax(NULL, 0, &payload, &fault) && fault.required_len == 1, "nor one cut short");
+    check(!wolfaren_find_payload_lax(NULL, 0, &payload, &fault) && fault.required_len == 1, "no bytes, no truncated payload");
     struct wolfaren_fragment fragment;
     struct wolfaren_authentication auth;
     check(!wolfaren_fragment_fields(NULL, 0, &fragment), "no bytes, no fragment header");
@@ -90,13 +90,13 @@ static void texts(void)
     check(strcmp(text, words) == 0, "a text");
     memset(text, 'x', sizeof text);
     check(wolfaren_fault_text(&chain.fault, text, strlen(words)) == strlen(words), "the length of a text without room");
-    check(text[0] == 'x', "nothing is written where the text has no room");
-    check(wolfaren_fault_text(&chain.fault, NULL, 0) == strlen(words), "the length of a text in no array");
+    check(text[0] == 'x', "nothing is written if the text doesn't fit");
+    check(wolfaren_fault_text(&chain.fault, NULL, 0) == strlen(words), "the length of a text without an array");
     chain.fault.kind = 200;
-    check(wolfaren_fault_text(&chain.fault, text, sizeof text) == 0 && text[0] == 0, "a kind that is none");
+    check(wolfaren_fault_text(&chain.fault, text, sizeof text) == 0 && text[0] == 0, "an unknown kind");
     chain.fault.kind = WOLFAREN_TOO_SHORT;
     chain.fault.layer = 200;
-    check(wolfaren_fault_text(&chain.fault, text, sizeof text) == 0, "a layer that is none");
+    check(wolfaren_fault_text(&chain.fault, text, sizeof text) == 0, "an unknown layer");
 }
 
 static void cursors_from_anywhere(void)
@@ -104,18 +104,18 @@ static void cursors_from_anywhere(void)
     struct wolfaren_header header = {7, 7, 7, 7};
     const struct wolfaren_header stays = header;
     struct wolfaren_cursor cursor = {SIZE_MAX, WOLFAREN_DESTINATION_OPTIONS};
-    check(!wolfaren_next_header(&cursor, SIX, sizeof SIX, &header), "no header behind the bytes");
+    check(!wolfaren_next_header(&cursor, SIX, sizeof SIX, &header), "no header after the bytes");
     check(cursor.offset == SIZE_MAX && cursor.number == 60 && same_header(&header, &stays), "nothing is written");
     struct wolfaren_fault fault;
     wolfaren_fault_at(&cursor, SIX, sizeof SIX, &fault);
-    check(fault.kind == WOLFAREN_TOO_SHORT && fault.offset == SIZE_MAX && fault.len == 0, "a fault behind the bytes");
+    check(fault.kind == WOLFAREN_TOO_SHORT && fault.offset == SIZE_MAX && fault.len == 0, "an error after the bytes");
     cursor.offset = 8;
     cursor.number = WOLFAREN_HOP_BY_HOP;
     wolfaren_fault_at(&cursor, SIX, sizeof SIX, &fault);
-    check(fault.kind == WOLFAREN_HOP_BY_HOP_NOT_AT_START, "hop by hop options later");
+    check(fault.kind == WOLFAREN_HOP_BY_HOP_NOT_AT_START, "misplaced hop-by-hop options");
     cursor.number = WOLFAREN_DESTINATION_OPTIONS;
     check(wolfaren_next_header(&cursor, SIX, sizeof SIX, &header) && same_header(&header, &CUTS[1]), "a step");
-    check(cursor.offset == 16 && cursor.number == WOLFAREN_ROUTING, "the cursor behind it");
+    check(cursor.offset == 16 && cursor.number == WOLFAREN_ROUTING, "the cursor after a step");
 }
 
 static void fields_of_single_headers(void)
@@ -131,13 +131,13 @@ static void fields_of_single_headers(void)
     check(auth.len == 12 && auth.spi == 1 && auth.sequence_number == 2 && auth.next_header == 17, "its fields");
 }
 
-/* The six headers without the routing header, and then in too little room, and from bytes that are none. */
+/* Writes the six headers without the routing header, with enough and with too little room, and with a wrong header. */
 static void headers_that_are_written(void)
 {
     struct wolfaren_header headers[5] = {CUTS[0], CUTS[1], CUTS[3], CUTS[4], CUTS[5]};
-    check(wolfaren_link_headers(headers, 5, 6) == 0, "the first of the links");
+    check(wolfaren_link_headers(headers, 5, 6) == 0, "the number of the first header");
     check(headers[1].next_header == 44 && headers[4].next_header == 6, "links");
-    check(wolfaren_link_headers(NULL, 0, 6) == 6, "links of none");
+    check(wolfaren_link_headers(NULL, 0, 6) == 6, "linking no headers");
     uint8_t *out = malloc(44);
     check(out != NULL, "memory");
     memset(out, 9, 44);
@@ -147,7 +147,7 @@ static void headers_that_are_written(void)
     check(wolfaren_write_headers(SIX, sizeof SIX, headers, 5, out, 44, &written) && written == 44, "room for 44");
     struct wolfaren_chain chain;
     wolfaren_cut_chain(0, out, 44, NULL, 0, &chain);
-    check(chain.headers == 5 && chain.len == 44 && chain.next_header == 6, "what is written is read");
+    check(chain.headers == 5 && chain.len == 44 && chain.next_header == 6, "the output is a chain");
     free(out);
     headers[2].len = 16;
     check(!wolfaren_write_headers(SIX, sizeof SIX, headers, 5, NULL, 0, &written) && written == 0, "no header");
@@ -161,17 +161,17 @@ static void a_packet_that_is_cut_short(void)
     struct wolfaren_packet packet = {.headers = 9};
     struct wolfaren_header header = {7, 7, 7, 7};
     struct wolfaren_fault fault = {.kind = 200};
-    check(!wolfaren_cut_packet(bytes, sizeof bytes, &header, 1, &packet, &fault), "a strict cut");
-    check(fault.kind == WOLFAREN_TOO_SHORT && fault.layer == WOLFAREN_IPV6_PACKET, "why it is refused");
-    check(packet.headers == 9 && header.offset == 7, "what a refusal leaves");
+    check(!wolfaren_cut_packet(bytes, sizeof bytes, &header, 1, &packet, &fault), "a strict parse");
+    check(fault.kind == WOLFAREN_TOO_SHORT && fault.layer == WOLFAREN_IPV6_PACKET, "the error");
+    check(packet.headers == 9 && header.offset == 7, "left unchanged on error");
     fault.kind = 200;
-    check(wolfaren_cut_packet_lax(bytes, sizeof bytes, &header, 1, &packet, &fault), "a lax cut");
-    check(packet.version == 6 && packet.headers == 1 && packet.len_source == WOLFAREN_SLICE, "what it says");
+    check(wolfaren_cut_packet_lax(bytes, sizeof bytes, &header, 1, &packet, &fault), "a lax parse");
+    check(packet.version == 6 && packet.headers == 1 && packet.len_source == WOLFAREN_SLICE, "its result");
     check(packet.payload_offset == 48 && packet.payload_len == 0 && header.offset == 40, "its parts");
-    check(fault.kind == 200, "what a cut leaves");
+    check(fault.kind == 200, "left unchanged on success");
 }
 
-/* The payload of a packet with three bytes of it, of a fragment, and of one that is cut short. */
+/* The payload of a packet with three bytes of payload, of a fragment, and of a truncated packet. */
 static void payloads(void)
 {
     uint8_t bytes[51] = {0x60, 0, 0, 0, 0, 11, 44, 64};
@@ -183,10 +183,10 @@ static void payloads(void)
     check(payload.version == 6 && payload.number == 17 && payload.fragmented == 0, "what it is");
     bytes[43] = 1;
     check(wolfaren_find_payload(bytes, sizeof bytes, &payload, &fault) && payload.fragmented == 1, "a fragment");
-    check(!wolfaren_find_payload(bytes, 50, &payload, &fault) && payload.len == 3, "a payload that is cut short");
-    check(fault.kind == WOLFAREN_TOO_SHORT && fault.required_len == 51 && fault.len == 50, "what it lacks");
-    check(wolfaren_find_payload_lax(bytes, 50, &payload, &fault) && payload.len == 2, "what is left of it");
-    check(payload.len_source == WOLFAREN_SLICE, "what says where it ends");
+    check(!wolfaren_find_payload(bytes, 50, &payload, &fault) && payload.len == 3, "a truncated payload");
+    check(fault.kind == WOLFAREN_TOO_SHORT && fault.required_len == 51 && fault.len == 50, "the error of a truncated payload");
+    check(wolfaren_find_payload_lax(bytes, 50, &payload, &fault) && payload.len == 2, "the rest of a payload");
+    check(payload.len_source == WOLFAREN_SLICE, "the length source");
 }
 
 int main(void)

@@ -1,7 +1,7 @@
 /*
- * Answers lines `exts6 N HEX`, `exts4 N HEX` and `packet HEX` as the program ipexts does, by way of wolfaren.h. A line
- * `steps6 N HEX` is answered as exts6, by a cursor, and a line `payload HEX` as packet, by the call for a payload alone.
- * Every line has to be right.
+ * Answers lines `exts6 N HEX`, `exts4 N HEX` and `packet HEX` like the program ipexts, with the calls of wolfaren.h.
+ * `steps6 N HEX` has the same answer as exts6, but uses a cursor. `payload HEX` has the same answer as packet, but uses
+ * the call that only finds the payload. Every line must be valid.
  */
 #include "wolfaren.h"
 
@@ -156,7 +156,7 @@ static void answer_payload(const uint8_t *bytes, size_t len)
     printf("\n");
 }
 
-/* The bytes that the digits stand for, in memory of just their length, so that a read beyond them is seen. */
+/* Returns the bytes of the digits in an allocation of exactly their length, so that reads past them are detected. */
 static uint8_t *bytes_of(const char *digits, size_t *len)
 {
     *len = strcmp(digits, "-") == 0 ? 0 : strlen(digits) / 2;

@@ -1,4 +1,4 @@
-// Asks the page, as it stands, what `Wolfaren.asked` lists, and leaves the answers in the document.
+// Sends the requests in `Wolfaren.asked` to the page, and leaves the replies in the document.
 "use strict";
 (async function () {
     const at = (id) => document.getElementById(id);
@@ -16,7 +16,7 @@
             marks: Array.from(at("marks").querySelectorAll("mark"), (it) => it.textContent), marked: at("marks").textContent,
             parts: at("picture").querySelectorAll("[data-part]").length, arrows: at("picture").querySelectorAll(".arrow").length };
     }
-    // The browser's clock runs ahead of files that are read, so what is waited for is counted in turns.
+    // Waits until a condition holds. Counts turns, since with --virtual-time-budget the clock runs ahead of file reads.
     async function until(isThere) {
         for (let turn = 0; turn < 20000 && !isThere(); turn++) await new Promise((done) => setTimeout(done, 5));
     }
@@ -36,7 +36,7 @@
         at("form").dispatchEvent(new Event("input"));
         return it.fields ? fields() : answer();
     }
-    // The fields of each part, as they are told where it has the focus.
+    // Returns the fields of each part, as displayed when it has the focus.
     function fields() {
         return Array.from(at("picture").querySelectorAll("[data-part]"), (group) => {
             group.focus();
@@ -58,7 +58,7 @@
         }
         return { packets, found, unread: at("unread").hidden ? "" : at("unread").textContent };
     }
-    // What is saved stands alone: it is XML, and each shape has its colours itself.
+    // Checks that a saved picture is self-contained: XML whose shapes have colours of their own.
     function save() {
         const saved = new DOMParser().parseFromString(Wolfaren.page.svgText(), "image/svg+xml");
         const runs = Array.from(saved.querySelectorAll("rect.run"), (it) => it.getAttribute("fill"));

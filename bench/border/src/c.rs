@@ -1,10 +1,10 @@
-//! The library called directly, as a program in C does it: one call for a packet, with room for 16 headers.
+//! Calls the library directly, as a C program does: one call per packet, with room for 16 headers.
 use crate::sums::{of_bytes, of_ipv4_addr, of_ipv6_addr, with, Digest, NO_PACKET};
 use std::mem::MaybeUninit;
 use std::net::{Ipv4Addr, Ipv6Addr};
 use std::slice;
 
-/// How many headers there is room for.
+/// The length of the array for headers.
 const ROOM: usize = 16;
 
 #[repr(C)]
@@ -67,11 +67,11 @@ unsafe extern "C" {
         fault: *mut Fault,
     ) -> bool;
 
-    /// The bytes that move the library.
+    /// Links the bytes that move the library.
     pub fn wolfaren_shift();
 }
 
-/// Room for a packet, and for the first of its headers.
+/// A packet, and room for its first headers.
 struct Cut {
     packet: MaybeUninit<Packet>,
     fault: MaybeUninit<Fault>,
@@ -88,11 +88,11 @@ impl Cut {
         }
     }
 
-    /// Cuts the packet that begins the bytes.
+    /// Parses the packet at the start of the bytes.
     #[inline(always)]
     fn cut(&mut self, bytes: &[u8]) -> Option<(&Packet, &[Header])> {
-        // SAFETY: all pointers are those of what is borrowed here, with the lengths of it. Where the library answers
-        // true, it has written all of the packet, and as many headers as it counts and as there is room for.
+        // SAFETY: all pointers and lengths are those of borrowed values. If the library returns true, it has
+        // filled in the packet, and as many headers as it counts or as fit.
         unsafe {
             if !wolfaren_cut_packet(
                 bytes.as_ptr(),
@@ -112,18 +112,18 @@ impl Cut {
     }
 }
 
-/// What a filter reads.
+/// Reads the fields that a filter needs.
 pub struct Filter;
 
-/// Every part of a packet, and every header of its chain.
+/// Reads every part of a packet and every header of its chain.
 pub struct Full;
 
 impl Digest for Filter {
     #[inline(always)]
     fn digest(bytes: &[u8]) -> u64 {
         let (mut payload, mut fault) = (MaybeUninit::uninit(), MaybeUninit::uninit());
-        // SAFETY: all pointers are those of what is borrowed here, with the lengths of it. Where the library answers
-        // true, it has written all of the payload.
+        // SAFETY: all pointers and lengths are those of borrowed values. If the library returns true, it has
+        // filled in the payload.
         let payload: &Payload = unsafe {
             if !wolfaren_find_payload(
                 bytes.as_ptr(),
@@ -151,7 +151,7 @@ impl Digest for Full {
     }
 }
 
-/// Bytes from a place on. As in C, nothing looks whether they are there: the library has said so.
+/// Bytes from an offset on. As in C, there are no bounds checks: the library has checked the bounds.
 #[derive(Clone, Copy)]
 struct At<'a>(&'a [u8]);
 
@@ -159,7 +159,7 @@ impl<'a> At<'a> {
     #[inline(always)]
     fn byte(self, at: usize) -> u8 {
         debug_assert!(at < self.0.len());
-        // SAFETY: the library has said that the bytes are there.
+        // SAFETY: the library has checked that the bytes exist.
         unsafe { *self.0.get_unchecked(at) }
     }
 
@@ -226,7 +226,7 @@ fn of_header(header: &Header, bytes: At<'_>) -> u64 {
     with(u64::from(header.number), fields)
 }
 
-/// A header's bytes, and the number of what follows it.
+/// The bytes of a header, and its next header field.
 fn of_front(header: &Header, bytes: At<'_>) -> u64 {
     with(of_bytes(bytes.0), u64::from(header.next_header))
 }

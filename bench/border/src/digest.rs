@@ -1,14 +1,14 @@
-//! What is read of a packet, as a sum. The same words over two crates: `super::parser` is one of them.
+//! Computes digests of packets. This file is compiled for two crates: `super::parser` is one of them.
 use super::parser::{
     IpAuthHeaderSlice, IpPayloadSlice, IpSlice, Ipv4Slice, Ipv6ExtensionSlice,
     Ipv6FragmentHeaderSlice, Ipv6RawExtHeaderSlice, Ipv6Slice, LenSource,
 };
 use crate::sums::{of_bytes, of_ipv4_addr, of_ipv6_addr, with, Digest, NO_PACKET};
 
-/// What a filter reads: the payload's number, whether it is a fragment, and its length.
+/// Reads the fields that a filter needs: the payload's number, whether it is a fragment, and its length.
 pub struct Filter;
 
-/// Every part of a packet, and every header of its chain.
+/// Reads every part of a packet and every header of its chain.
 pub struct Full;
 
 impl Digest for Filter {

@@ -1,13 +1,14 @@
-//! Measures packets that are cut through C, directly and by the package `wolfaren`, against etherparse 0.19.0.
+//! Compares the time to parse packets through C, directly and with the package `wolfaren`, with that of etherparse
+//! 0.19.0.
 //!
 //!     border measure RUNS WORD   times of the rows whose names have the word, a line each
 //!     border report FILE..       the table of such lines; a file for each alignment of the library
 mod c;
-// That of a single header is for diff/.
+// The functions for single headers are used by diff/ only.
 #[allow(dead_code)]
 #[path = "../../../diff/src/fragment_bits.rs"]
 mod fragment_bits;
-// Chains and single headers are for bench/.
+// The inputs for chains and single headers are used by bench/ only.
 #[allow(dead_code)]
 #[path = "../../src/inputs.rs"]
 mod inputs;

@@ -1,4 +1,4 @@
-//! The packets as the original cuts them.
+//! Parses packets with the original.
 use etherparse as parser;
 
 #[path = "digest.rs"]

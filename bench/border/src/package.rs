@@ -1,4 +1,4 @@
-//! The packets as the package cuts them.
+//! Parses packets with the package.
 use wolfaren as parser;
 
 #[path = "digest.rs"]

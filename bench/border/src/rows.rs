@@ -1,28 +1,28 @@
-//! The rows of the table: packets that are cut through C or by the package, against the original.
+//! The rows of the table: packets parsed through C or with the package, compared with the original.
 use crate::inputs::{self, Packets, Refused, Sides};
 use crate::sums::{one_call, one_loop, Digest};
 use crate::{c, original, package};
 use std::hint::black_box;
 
-/// How many calls a run of a row with a single packet makes.
+/// How many calls are made in one run of a row with a single packet.
 const CALLS: usize = 1000;
 
-/// How many packets are cut.
+/// The number of packets.
 const PACKETS: usize = 10_000;
 
-/// Something to be timed, which answers a digest.
+/// A piece of work to be timed. Returns a digest.
 pub type Work = Box<dyn Fn() -> u64>;
 
-/// Makes all bytes that are written; nothing is here.
+/// Returns the bytes that a row writes. No row here writes any.
 pub type Written = Box<dyn Fn() -> (Vec<u8>, Vec<u8>)>;
 
 /// A row: the same work on both sides.
 pub struct Row {
     pub group: &'static str,
     pub name: String,
-    /// What one time is told for.
+    /// The unit of the times.
     pub unit: &'static str,
-    /// How many of them a run has.
+    /// The number of units per run.
     pub units: usize,
     pub ours: Work,
     pub original: Work,
@@ -33,7 +33,7 @@ pub struct Row {
 type Loop = fn(&[u8], &[usize]) -> u64;
 type Call = fn(&[u8]) -> u64;
 
-/// A way to cut and read packets, on both sides.
+/// A way to parse and read packets, on both sides.
 struct Form {
     group: &'static str,
     reading: &'static str,
@@ -116,7 +116,7 @@ impl Form {
     }
 }
 
-/// All rows, over packets of the seed.
+/// Returns all rows, with packets from the seed.
 pub fn rows(seed: u64) -> Vec<Row> {
     let ipv6 = Sides::new(inputs::packets(PACKETS, seed));
     let ipv4 = Sides::new(inputs::ipv4_packets(PACKETS, seed));

@@ -1,12 +1,12 @@
-//! Sums of what was read, which are the same on all sides.
+//! Digests of what was read, identical on all sides.
 use std::net::{Ipv4Addr, Ipv6Addr};
 
-/// A way to cut a packet and to read it.
+/// A way to parse and read a packet.
 pub trait Digest {
     fn digest(bytes: &[u8]) -> u64;
 }
 
-/// The sum of bytes that begin no packet.
+/// The digest of bytes that are not a packet.
 pub const NO_PACKET: u64 = 2;
 
 #[inline(always)]
@@ -32,7 +32,7 @@ pub fn of_ipv6_addr(address: Ipv6Addr) -> u64 {
     with(u64::from(octets[0]), u64::from(octets[15]))
 }
 
-/// Packets one after the other, in one loop.
+/// Parses packets one after another, in one loop.
 #[inline(never)]
 pub fn one_loop<D: Digest>(packets: &[u8], ends: &[usize]) -> u64 {
     let mut start = 0;
@@ -47,7 +47,7 @@ pub fn one_loop<D: Digest>(packets: &[u8], ends: &[usize]) -> u64 {
     sum
 }
 
-/// One packet.
+/// Parses one packet.
 #[inline(never)]
 pub fn one_call<D: Digest>(packet: &[u8]) -> u64 {
     D::digest(packet)

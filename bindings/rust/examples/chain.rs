@@ -1,20 +1,20 @@
-//! Prints the parts of an IP packet, which is given as hexadecimal digits:
+//! Prints the parts of an IP packet given as hexadecimal digits:
 //!
 //!     chain 6000000000103c40..
 //!
-//! One line for the base header, each extension header and the payload: where it begins, what it is, and how many bytes
-//! it has. Where the digits are no packet it prints what is wrong, and ends with status 1.
+//! There is one line each for the IP header, every extension header and the payload, with its offset, name and length
+//! in bytes. If the bytes are not a valid packet, prints the error and exits with status 1.
 use std::process::ExitCode;
 use wolfaren::{IpSlice, Ipv6ExtensionSlice};
 
 fn main() -> ExitCode {
     let arguments: Vec<String> = std::env::args().skip(1).collect();
     let [digits] = &arguments[..] else {
-        eprintln!("chain: one argument is needed, a packet as hexadecimal digits");
+        eprintln!("usage: chain PACKET (in hexadecimal digits)");
         return ExitCode::from(2);
     };
     let Some(bytes) = bytes_in(digits) else {
-        eprintln!("chain: the packet has to be an even number of hexadecimal digits");
+        eprintln!("chain: the packet must be an even number of hexadecimal digits");
         return ExitCode::from(2);
     };
     match IpSlice::from_slice(&bytes) {
@@ -29,7 +29,7 @@ fn main() -> ExitCode {
     }
 }
 
-/// The bytes of an even number of digits.
+/// Parses an even number of digits.
 fn bytes_in(digits: &str) -> Option<Vec<u8>> {
     let values: Option<Vec<u32>> = digits.chars().map(|digit| digit.to_digit(16)).collect();
     let values = values.filter(|values| values.len() % 2 == 0)?;
@@ -74,7 +74,7 @@ fn print(packet: &IpSlice<'_>) {
 
 fn name(header: &Ipv6ExtensionSlice<'_>) -> &'static str {
     match header {
-        Ipv6ExtensionSlice::HopByHop(_) => "hop by hop options",
+        Ipv6ExtensionSlice::HopByHop(_) => "hop-by-hop options",
         Ipv6ExtensionSlice::Routing(_) => "routing header",
         Ipv6ExtensionSlice::Fragment(_) => "fragment header",
         Ipv6ExtensionSlice::DestinationOptions(_) => "destination options",

@@ -3,7 +3,7 @@ use crate::library::Parts;
 use crate::{IpNumber, IpPayloadSlice};
 
 impl<'a> Parts<'a> {
-    /// The payload with what is said of it.
+    /// Returns the payload with its properties.
     #[inline(always)]
     pub(crate) fn payload_slice(&self) -> IpPayloadSlice<'a> {
         IpPayloadSlice {

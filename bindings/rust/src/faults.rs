@@ -1,10 +1,10 @@
-//! What the library says is wrong, as the errors of this package. A code that the library doesn't have is taken for the
-//! last one of its kind, so that nothing here can fail.
+//! Converts the library's faults to the errors of this package. An unknown code is treated as the last known one, so
+//! that no conversion can fail.
 use crate::err::{ip, ip_auth, ipv4, ipv6, ipv6_exts, Layer, LenError};
 use crate::library::Fault;
 use crate::LenSource;
 
-/// The kinds of faults.
+/// Codes for the kinds of faults.
 mod kind {
     pub const NONE: u8 = 0;
     pub const TOO_SHORT: u8 = 1;
@@ -14,7 +14,7 @@ mod kind {
     pub const IPV4_HEADER_LENGTH: u8 = 5;
 }
 
-/// The layer of a code.
+/// Converts a code to a layer.
 #[inline]
 fn layer_of(code: u8) -> Layer {
     match code {
@@ -32,7 +32,7 @@ fn layer_of(code: u8) -> Layer {
     }
 }
 
-/// What says a length, of a code.
+/// Converts a code to a length source.
 #[inline]
 pub(crate) fn len_source_of(code: u8) -> LenSource {
     match code {
@@ -43,13 +43,13 @@ pub(crate) fn len_source_of(code: u8) -> LenSource {
 }
 
 impl Fault {
-    /// Whether nothing is wrong.
+    /// Returns whether there is no error.
     #[inline]
     pub(crate) fn is_none(&self) -> bool {
         self.kind == kind::NONE
     }
 
-    /// Too few bytes, if it is that.
+    /// Returns the length error, if it is one.
     #[inline]
     pub(crate) fn len_error(&self) -> Option<LenError> {
         (self.kind == kind::TOO_SHORT).then(|| LenError {
@@ -61,13 +61,13 @@ impl Fault {
         })
     }
 
-    /// The header of a chain at which it lies.
+    /// Returns the faulty header of a chain.
     #[inline]
     pub(crate) fn header_layer(&self) -> Layer {
         layer_of(self.header)
     }
 
-    /// Why no authentication header begins the bytes.
+    /// Returns the error of parsing an authentication header.
     #[inline]
     pub(crate) fn of_auth(&self) -> ip_auth::HeaderSliceError {
         match self.len_error() {
@@ -76,7 +76,7 @@ impl Fault {
         }
     }
 
-    /// Why an IPv6 chain doesn't go on.
+    /// Returns the error that ended an IPv6 chain.
     #[inline]
     pub(crate) fn of_chain(&self) -> ipv6_exts::HeaderSliceError {
         match self.len_error() {
@@ -85,7 +85,7 @@ impl Fault {
         }
     }
 
-    /// Why no packet begins the bytes, which state version 4 or not.
+    /// Returns the error of parsing a packet. `is_ipv4` is whether the bytes state version 4.
     #[inline]
     pub(crate) fn of_packet(&self, is_ipv4: bool) -> ip::SliceError {
         if let Some(e) = self.len_error() {
@@ -109,7 +109,7 @@ impl Fault {
         })
     }
 
-    /// Why no IPv4 packet begins bytes that state version 4.
+    /// Returns the error of parsing an IPv4 packet, for bytes that state version 4.
     #[inline]
     pub(crate) fn of_ipv4_packet(&self) -> ipv4::SliceError {
         if let Some(e) = self.len_error() {
@@ -125,7 +125,7 @@ impl Fault {
         }
     }
 
-    /// Why no IPv6 packet begins bytes that state version 6.
+    /// Returns the error of parsing an IPv6 packet, for bytes that state version 6.
     #[inline]
     pub(crate) fn of_ipv6_packet(&self) -> ipv6::SliceError {
         match self.len_error() {
@@ -134,7 +134,7 @@ impl Fault {
         }
     }
 
-    /// What is wrong in the bytes of an IPv6 chain.
+    /// Returns the error in the content of an IPv6 chain.
     #[inline]
     fn exts_error(&self) -> ipv6_exts::HeaderError {
         match self.kind {
@@ -150,7 +150,7 @@ mod tests {
     use std::string::ToString;
     use std::vec;
 
-    /// Packets that are refused: each for another reason.
+    /// Rejected packets, each for a different reason.
     fn refused_packets() -> [vec::Vec<u8>; 8] {
         let packet = |first, next_header, len| {
             let mut bytes = vec![0; len];
@@ -193,7 +193,7 @@ mod tests {
         }
     }
 
-    /// The code that the library's header gives the name.
+    /// Returns the value of a constant in the library's header.
     fn code(name: &str) -> u8 {
         let page = include_str!("../../../include/wolfaren.h");
         page.lines()

@@ -2,20 +2,23 @@ use crate::err::ip_auth::HeaderSliceError;
 use crate::library::{self, Cursor};
 use crate::{ip_number, IpNumber};
 
-/// The name of this type in earlier versions of the interface.
+/// Name of this type in earlier versions of the interface.
 #[deprecated(note = "use `IpAuthHeaderSlice`")]
 pub type IpAuthenticationHeaderSlice<'a> = IpAuthHeaderSlice<'a>;
 
-/// One authentication header (RFC 4302, section 2), borrowed from the caller's bytes. Two are equal where
-/// their bytes are.
+/// A borrowed authentication header (RFC 4302, section 2). Two headers are equal if their bytes are.
 #[derive(Clone, Copy, Debug, PartialEq, Eq)]
 pub struct IpAuthHeaderSlice<'a> {
     slice: &'a [u8],
 }
 
 impl<'a> IpAuthHeaderSlice<'a> {
-    /// The header that begins the slice. The error tells, in this order, that there are fewer than 12 bytes,
-    /// that the length field is 0, or that there are fewer bytes than the header's own length.
+    /// Parses the authentication header at the start of the slice.
+    ///
+    /// # Errors
+    ///
+    /// Checked in this order: there are fewer than 12 bytes; the length field is 0; there are fewer bytes than the
+    /// length field states.
     ///
     /// ```
     /// use wolfaren::IpAuthHeaderSlice;
@@ -36,19 +39,19 @@ impl<'a> IpAuthHeaderSlice<'a> {
         }
     }
 
-    /// The header of bytes that the library has cut.
+    /// Wraps bytes that the library has parsed as one such header.
     #[inline]
     pub(crate) fn of_cut(slice: &'a [u8]) -> IpAuthHeaderSlice<'a> {
         IpAuthHeaderSlice { slice }
     }
 
-    /// The header's bytes, 12 to 1028.
+    /// Returns the bytes of the header, 12 to 1028.
     #[inline]
     pub fn slice(&self) -> &'a [u8] {
         self.slice
     }
 
-    /// The bytes in front of the integrity check value.
+    /// Returns the bytes before the integrity check value.
     #[inline]
     fn front(&self) -> &'a [u8; 12] {
         match self.slice.first_chunk() {
@@ -57,27 +60,27 @@ impl<'a> IpAuthHeaderSlice<'a> {
         }
     }
 
-    /// The number of what follows the header.
+    /// Returns the protocol number of what follows the header.
     #[inline]
     pub fn next_header(&self) -> IpNumber {
         IpNumber(self.front()[0])
     }
 
-    /// The security parameters index, which tells the receiver its association with the sender.
+    /// Returns the security parameters index, which identifies the receiver's security association with the sender.
     #[inline]
     pub fn spi(&self) -> u32 {
         let front = self.front();
         u32::from_be_bytes([front[4], front[5], front[6], front[7]])
     }
 
-    /// The sender's count of packets.
+    /// Returns the sequence number, which counts the sender's packets.
     #[inline]
     pub fn sequence_number(&self) -> u32 {
         let front = self.front();
         u32::from_be_bytes([front[8], front[9], front[10], front[11]])
     }
 
-    /// The integrity check value with its padding, 0 to 1016 bytes.
+    /// Returns the integrity check value and its padding, 0 to 1016 bytes.
     #[inline]
     pub fn raw_icv(&self) -> &'a [u8] {
         &self.slice[12..]

@@ -1,14 +1,14 @@
 use crate::err::ValueTooBigError;
 
-/// A fragment offset: 13 bits, which count units of 8 bytes (RFC 8200, section 4.5).
+/// A fragment offset: 13 bits, in units of 8 bytes (RFC 8200, section 4.5).
 #[derive(Clone, Copy, Debug, PartialEq, Eq, Hash)]
 pub struct IpFragOffset(u16);
 
 impl IpFragOffset {
-    /// The largest offset.
+    /// The maximum offset.
     pub const MAX_U16: u16 = 0x1fff;
 
-    /// The offset of this value, or the error that it doesn't fit 13 bits.
+    /// Creates an offset from a number of 8-byte units. Returns an error if it doesn't fit into 13 bits.
     pub const fn try_new(value: u16) -> Result<IpFragOffset, ValueTooBigError> {
         if value > Self::MAX_U16 {
             return Err(ValueTooBigError {
@@ -19,13 +19,13 @@ impl IpFragOffset {
         Ok(IpFragOffset(value))
     }
 
-    /// The offset in the high 13 bits of bytes 2 and 3 of a fragment header.
+    /// Reads the offset from the high 13 bits of bytes 2 and 3 of a fragment header.
     #[inline]
     pub(crate) const fn of_bytes(high: u8, low: u8) -> IpFragOffset {
         IpFragOffset(u16::from_be_bytes([high, low]) >> 3)
     }
 
-    /// The number of units of 8 bytes.
+    /// Returns the offset in units of 8 bytes.
     #[inline]
     pub const fn value(self) -> u16 {
         self.0

@@ -1,10 +1,10 @@
-//! The protocol numbers by name.
+//! Named protocol numbers.
 use crate::IpNumber;
 
-/// IPv6 hop by hop options.
+/// IPv6 hop-by-hop options.
 pub const IPV6_HOP_BY_HOP: IpNumber = IpNumber(0);
 
-/// User datagrams.
+/// User Datagram Protocol (UDP).
 pub const UDP: IpNumber = IpNumber(17);
 
 /// The IPv6 routing header.
@@ -19,7 +19,7 @@ pub const AUTH: IpNumber = IpNumber(51);
 /// The authentication header.
 pub const AUTHENTICATION_HEADER: IpNumber = IpNumber(51);
 
-/// Nothing follows.
+/// No next header (IPv6).
 pub const IPV6_NO_NEXT_HEADER: IpNumber = IpNumber(59);
 
 /// IPv6 destination options.
@@ -28,8 +28,8 @@ pub const IPV6_DEST_OPTIONS: IpNumber = IpNumber(60);
 /// The mobility header.
 pub const MOBILITY: IpNumber = IpNumber(135);
 
-/// The host identity protocol.
+/// The Host Identity Protocol (HIP).
 pub const HIP: IpNumber = IpNumber(139);
 
-/// The shim6 protocol.
+/// The Shim6 protocol.
 pub const SHIM6: IpNumber = IpNumber(140);

@@ -1,15 +1,15 @@
 use core::fmt;
 
-/// A protocol number, as the protocol field of IPv4 and the next header fields of IPv6 and its
-/// extension headers hold it (RFC 8200, section 3).
+/// A protocol number, as in the protocol field of IPv4 and the next header fields of IPv6 and its extension headers
+/// (RFC 8200, section 3).
 #[derive(Clone, Copy, PartialEq, Eq, Hash)]
 pub struct IpNumber(pub u8);
 
 impl IpNumber {
-    /// IPv6 hop by hop options.
+    /// IPv6 hop-by-hop options.
     pub const IPV6_HEADER_HOP_BY_HOP: IpNumber = IpNumber(0);
 
-    /// User datagrams.
+    /// User Datagram Protocol (UDP).
     pub const UDP: IpNumber = IpNumber(17);
 
     /// The IPv6 routing header.
@@ -21,14 +21,14 @@ impl IpNumber {
     /// The authentication header.
     pub const AUTHENTICATION_HEADER: IpNumber = IpNumber(51);
 
-    /// Nothing follows.
+    /// No next header (IPv6).
     pub const IPV6_NO_NEXT_HEADER: IpNumber = IpNumber(59);
 
     /// IPv6 destination options.
     pub const IPV6_DESTINATION_OPTIONS: IpNumber = IpNumber(60);
 }
 
-/// The number in decimal, and behind that of an extension header its name in brackets: `44 (IPv6-Frag - Fragment
+/// Formats the number in decimal. For an extension header, the name follows in parentheses: `44 (IPv6-Frag - Fragment
 /// Header for IPv6)`.
 impl fmt::Debug for IpNumber {
     fn fmt(&self, f: &mut fmt::Formatter<'_>) -> fmt::Result {

@@ -1,14 +1,14 @@
 use crate::{IpNumber, LenSource};
 
-/// The payload of an IP packet, behind its extension headers, as a part of the caller's bytes.
+/// The borrowed payload of an IP packet, which follows its extension headers.
 #[derive(Clone, Debug, PartialEq, Eq)]
 pub struct IpPayloadSlice<'a> {
-    /// What the payload is.
+    /// The protocol number of the payload.
     pub ip_number: IpNumber,
-    /// Whether it is a fragment, and not the whole.
+    /// Whether the payload is a fragment.
     pub fragmented: bool,
-    /// What says where the payload ends.
+    /// Where the length of the payload comes from.
     pub len_source: LenSource,
-    /// Its bytes.
+    /// The bytes of the payload.
     pub payload: &'a [u8],
 }

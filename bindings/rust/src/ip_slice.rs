@@ -3,12 +3,12 @@ use crate::library::{self, Base};
 use crate::{IpNumber, IpPayloadSlice, Ipv4Slice, Ipv6Slice};
 use core::net::IpAddr;
 
-/// A packet of either version.
+/// A borrowed IPv4 or IPv6 packet.
 ///
 /// ```
 /// use wolfaren::{ip_number, IpSlice};
 ///
-/// /// Whether a packet carries UDP, whole and not a fragment of it.
+/// /// Whether a packet carries an unfragmented UDP datagram.
 /// fn is_whole_udp(packet: &[u8]) -> bool {
 ///     match IpSlice::from_slice(packet) {
 ///         Ok(ip) => ip.payload_ip_number() == ip_number::UDP && !ip.is_fragmenting_payload(),
@@ -32,12 +32,13 @@ pub enum IpSlice<'a> {
 }
 
 impl<'a> IpSlice<'a> {
-    /// The packet that begins the slice, of the version that its first byte states: the one of
-    /// `Ipv4Slice::from_slice` or of `Ipv6Slice::from_slice`.
+    /// Parses the IP packet at the start of the slice. Its version is in the first byte, and the result is that of
+    /// `Ipv4Slice::from_slice` or `Ipv6Slice::from_slice`.
     ///
-    /// The error tells, in this order, that the slice is empty, that the version is neither 4 nor 6, for IPv4 that
-    /// the internet header length is below 5 or that there are fewer bytes than it states, and else what the
-    /// `from_slice` of the version tells.
+    /// # Errors
+    ///
+    /// Checked in this order: the slice is empty; the version is neither 4 nor 6; for IPv4, the internet header length
+    /// is below 5, or there are fewer bytes than it states; otherwise the errors of the version's `from_slice`.
     #[inline(always)]
     pub fn from_slice(slice: &'a [u8]) -> Result<IpSlice<'a>, SliceError> {
         match library::cut_packet(slice) {
@@ -49,7 +50,7 @@ impl<'a> IpSlice<'a> {
         }
     }
 
-    /// The packet, if it is one of IPv4.
+    /// Returns the packet if it is an IPv4 packet.
     #[inline]
     pub fn ipv4(&self) -> Option<&Ipv4Slice<'_>> {
         match self {
@@ -58,7 +59,7 @@ impl<'a> IpSlice<'a> {
         }
     }
 
-    /// The packet, if it is one of IPv6.
+    /// Returns the packet if it is an IPv6 packet.
     #[inline]
     pub fn ipv6(&self) -> Option<&Ipv6Slice<'_>> {
         match self {
@@ -67,13 +68,13 @@ impl<'a> IpSlice<'a> {
         }
     }
 
-    /// Whether the payload is a fragment and not the whole.
+    /// Returns whether the payload is a fragment.
     #[inline]
     pub fn is_fragmenting_payload(&self) -> bool {
         self.payload().fragmented
     }
 
-    /// The address of the packet's sender.
+    /// Returns the source address.
     #[inline]
     pub fn source_addr(&self) -> IpAddr {
         match self {
@@ -82,7 +83,7 @@ impl<'a> IpSlice<'a> {
         }
     }
 
-    /// The address of the packet's receiver, or of the next node of a routing header (RFC 8200, section 4.4).
+    /// Returns the destination address: the receiver, or the next node of a routing header (RFC 8200, section 4.4).
     #[inline]
     pub fn destination_addr(&self) -> IpAddr {
         match self {
@@ -91,7 +92,7 @@ impl<'a> IpSlice<'a> {
         }
     }
 
-    /// The payload, behind the extension headers.
+    /// Returns the payload, which follows the extension headers.
     #[inline]
     pub fn payload(&self) -> &IpPayloadSlice<'a> {
         match self {
@@ -100,7 +101,7 @@ impl<'a> IpSlice<'a> {
         }
     }
 
-    /// The payload's number.
+    /// Returns the protocol number of the payload.
     #[inline]
     pub fn payload_ip_number(&self) -> IpNumber {
         self.payload().ip_number

@@ -2,8 +2,8 @@ use crate::err::ip_auth::HeaderSliceError;
 use crate::library::{self, Chain};
 use crate::{IpAuthHeaderSlice, IpNumber};
 
-/// The extension headers of an IPv4 packet, borrowed from the caller's bytes: an authentication header (RFC
-/// 4302, section 2), or none. Two are equal where their headers' bytes are.
+/// The borrowed extension headers of an IPv4 packet: an authentication header (RFC 4302, section 2), or none. Two
+/// values are equal if the bytes of their headers are.
 ///
 /// ```
 /// use wolfaren::{ip_number, Ipv4ExtensionsSlice};
@@ -16,12 +16,12 @@ use crate::{IpAuthHeaderSlice, IpNumber};
 /// ```
 #[derive(Clone, Copy, Debug, Default, PartialEq, Eq)]
 pub struct Ipv4ExtensionsSlice<'a> {
-    /// The authentication header.
+    /// The authentication header, if there is one.
     pub auth: Option<IpAuthHeaderSlice<'a>>,
 }
 
 impl<'a> Ipv4ExtensionsSlice<'a> {
-    /// The headers that the library has cut, which are all of these bytes.
+    /// Wraps bytes that the library has parsed as extension headers: an authentication header, or no bytes.
     #[inline]
     pub(crate) fn of_cut(slice: &'a [u8]) -> Ipv4ExtensionsSlice<'a> {
         Ipv4ExtensionsSlice {
@@ -29,11 +29,11 @@ impl<'a> Ipv4ExtensionsSlice<'a> {
         }
     }
 
-    /// The longest chain of at most one authentication header from the number that begins the bytes, with the
-    /// number to which it leads, the bytes after it and the fault there. There is a fault only where an
-    /// authentication header is named at the start and none begins the bytes. What follows a header isn't
-    /// looked at, also where it is named as one more. Of bytes that are cut short, as a capture's are, it
-    /// answers the header where it lies whole within them.
+    /// Parses at most one authentication header at the start of the bytes. Accepts truncated bytes, as in a capture.
+    ///
+    /// Returns the headers, the protocol number that follows, the bytes after the headers, and the error, if any. There
+    /// is an error only if `start_ip_number` is that of an authentication header and the bytes don't start with a
+    /// complete and valid one. What follows the header isn't examined, even if it is another authentication header.
     #[inline]
     pub fn from_slice_lax(
         start_ip_number: IpNumber,
@@ -50,7 +50,7 @@ impl<'a> Ipv4ExtensionsSlice<'a> {
         (headers, number, rest, fault)
     }
 
-    /// What `from_slice_lax` answers, where it tells no fault; else the fault.
+    /// Parses like `from_slice_lax`, but returns its error, if any, as `Err`.
     #[inline]
     pub fn from_slice(
         start_ip_number: IpNumber,
@@ -63,14 +63,14 @@ impl<'a> Ipv4ExtensionsSlice<'a> {
         Ok(Self::split(start_slice, &chain))
     }
 
-    /// The headers, the number to which they lead, and the bytes after them.
+    /// Returns the headers, the number that follows, and the bytes after them.
     #[inline]
     fn split(bytes: &'a [u8], chain: &Chain) -> (Ipv4ExtensionsSlice<'a>, IpNumber, &'a [u8]) {
         let (slice, rest) = bytes.split_at(chain.len);
         (Self::of_cut(slice), IpNumber(chain.next_header as u8), rest)
     }
 
-    /// Whether there is no header.
+    /// Returns whether there is no header.
     #[inline]
     pub fn is_empty(&self) -> bool {
         self.auth.is_none()

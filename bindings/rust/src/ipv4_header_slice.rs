@@ -3,20 +3,22 @@ use crate::err::{Layer, LenError};
 use crate::{library, IpNumber, Ipv4Header, LenSource};
 use core::net::Ipv4Addr;
 
-/// The base header of an IPv4 packet with its options (RFC 791, section 3.1), as a part of the caller's
-/// bytes. Two are equal where their bytes are.
+/// A borrowed IPv4 header with its options (RFC 791, section 3.1). Two headers are equal if their bytes are.
 #[derive(Clone, Copy, Debug, PartialEq, Eq)]
 pub struct Ipv4HeaderSlice<'a> {
     slice: &'a [u8],
 }
 
 impl<'a> Ipv4HeaderSlice<'a> {
-    /// The header that begins the slice. The error tells, in this order, that there are fewer than 20 bytes,
-    /// that the version isn't 4, that the internet header length is below 5, or that there are fewer bytes
-    /// than it states.
+    /// Parses the IPv4 header at the start of the slice.
+    ///
+    /// # Errors
+    ///
+    /// Checked in this order: there are fewer than 20 bytes; the version isn't 4; the internet header length is below
+    /// 5; there are fewer bytes than it states.
     pub fn from_slice(slice: &'a [u8]) -> Result<Ipv4HeaderSlice<'a>, HeaderSliceError> {
         check_version(slice)?;
-        // The library cuts whole packets. Of one whose total length is 0 it says how many bytes the base header has.
+        // The library parses whole packets. If the total length is 0, its error reports the length of the IPv4 header.
         let mut front = [0; 60];
         let len = slice.len().min(front.len());
         front[..len].copy_from_slice(&slice[..len]);
@@ -34,19 +36,19 @@ impl<'a> Ipv4HeaderSlice<'a> {
         }
     }
 
-    /// The header of bytes that the library has cut.
+    /// Wraps bytes that the library has parsed as one such header.
     #[inline]
     pub(crate) fn of_cut(slice: &'a [u8]) -> Ipv4HeaderSlice<'a> {
         Ipv4HeaderSlice { slice }
     }
 
-    /// The header's bytes with its options, 20 to 60.
+    /// Returns the bytes of the header with its options, 20 to 60.
     #[inline]
     pub fn slice(&self) -> &'a [u8] {
         self.slice
     }
 
-    /// The bytes in front of the options.
+    /// Returns the bytes before the options.
     #[inline]
     fn front(&self) -> &'a [u8; 20] {
         match self.slice.first_chunk() {
@@ -55,36 +57,35 @@ impl<'a> Ipv4HeaderSlice<'a> {
         }
     }
 
-    /// How many bytes the packet has, its header included.
+    /// Returns the length of the packet in bytes, including the header.
     #[inline]
     pub fn total_len(&self) -> u16 {
         let front = self.front();
         u16::from_be_bytes([front[2], front[3]])
     }
 
-    /// The number of what follows the header.
+    /// Returns the protocol number of what follows the header.
     #[inline]
     pub fn protocol(&self) -> IpNumber {
         IpNumber(self.front()[9])
     }
 
-    /// Whether the packet has a fragment of the payload and not the whole: more fragments follow, or the offset
-    /// isn't 0.
+    /// Returns whether the packet carries a fragment of the payload: more fragments follow, or the offset isn't 0.
     #[inline]
     pub fn is_fragmenting_payload(&self) -> bool {
         let front = self.front();
-        // The more flag and the 13 bits of the offset.
+        // The more-fragments flag and the 13 bits of the offset.
         u16::from_be_bytes([front[6], front[7]]) & 0x3fff != 0
     }
 
-    /// The address of the packet's sender.
+    /// Returns the source address.
     #[inline]
     pub fn source_addr(&self) -> Ipv4Addr {
         let front = self.front();
         Ipv4Addr::new(front[12], front[13], front[14], front[15])
     }
 
-    /// The address of the packet's receiver.
+    /// Returns the destination address.
     #[inline]
     pub fn destination_addr(&self) -> Ipv4Addr {
         let front = self.front();
@@ -92,8 +93,8 @@ impl<'a> Ipv4HeaderSlice<'a> {
     }
 }
 
-/// Tells that there are fewer than 20 bytes, or that the version isn't 4. Where neither is so, the library tells what
-/// is wrong with a base header in the order of `Ipv4HeaderSlice::from_slice`.
+/// Checks that there are at least 20 bytes and that the version is 4. After that, the errors of the library are in the
+/// order of `Ipv4HeaderSlice::from_slice`.
 #[inline]
 pub(crate) fn check_version(slice: &[u8]) -> Result<(), HeaderSliceError> {
     if slice.len() < Ipv4Header::MIN_LEN {

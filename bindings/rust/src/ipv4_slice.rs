@@ -3,13 +3,13 @@ use crate::ipv4_header_slice::check_version;
 use crate::library::{self, Base, Parts};
 use crate::{IpNumber, IpPayloadSlice, Ipv4ExtensionsSlice, Ipv4HeaderSlice};
 
-/// An IPv4 packet (RFC 791): its base header, its extension headers and its payload, as parts of the caller's
-/// bytes. Two are equal where all their parts are.
+/// A borrowed IPv4 packet (RFC 791): its header, its extension headers and its payload. Two packets are equal if all
+/// their parts are.
 ///
 /// ```
 /// use wolfaren::{ip_number, Ipv4Slice};
 ///
-/// // An authentication header, and two bytes behind the packet.
+/// // An authentication header, and two bytes after the packet.
 /// let mut bytes = [0; 34];
 /// (bytes[0], bytes[3], bytes[9]) = (0x45, 32, 51);
 /// (bytes[20], bytes[21]) = (17, 1);
@@ -27,12 +27,14 @@ pub struct Ipv4Slice<'a> {
 }
 
 impl<'a> Ipv4Slice<'a> {
-    /// The packet that begins the slice. Its payload ends where total length says; bytes behind it are left out.
+    /// Parses the IPv4 packet at the start of the slice. It ends where the total length says; bytes after it are
+    /// ignored.
     ///
-    /// The error tells, in this order, what is wrong with the base header, that total length is below the base
-    /// header's length, that there are fewer bytes than total length, or what is wrong with the extension
-    /// headers, its offset counted from the start of the slice and its length source
-    /// `LenSource::Ipv4HeaderTotalLen`.
+    /// # Errors
+    ///
+    /// Checked in this order: an error in the IPv4 header; the total length is less than the length of the header;
+    /// there are fewer bytes than the total length; an error in the extension headers. Offsets count from the start of
+    /// the slice. The length source of an error in the extension headers is `LenSource::Ipv4HeaderTotalLen`.
     #[inline(always)]
     pub fn from_slice(slice: &'a [u8]) -> Result<Ipv4Slice<'a>, SliceError> {
         match check_version(slice) {
@@ -49,7 +51,7 @@ impl<'a> Ipv4Slice<'a> {
         }
     }
 
-    /// The packet of the base header and the parts behind it that the library has cut.
+    /// Builds a packet from its IPv4 header and the other parts that the library has found.
     #[inline(always)]
     pub(crate) fn of_cut(base: &'a [u8], parts: &Parts<'a>) -> Ipv4Slice<'a> {
         Ipv4Slice {
@@ -59,32 +61,32 @@ impl<'a> Ipv4Slice<'a> {
         }
     }
 
-    /// The base header, with its options.
+    /// Returns the IPv4 header with its options.
     #[inline]
     pub fn header(&self) -> Ipv4HeaderSlice<'_> {
         self.header
     }
 
-    /// The extension headers: an authentication header, or none.
+    /// Returns the extension headers: an authentication header, or none.
     #[inline]
     pub fn extensions(&self) -> Ipv4ExtensionsSlice<'_> {
         self.exts
     }
 
-    /// The payload, behind the extension headers.
+    /// Returns the payload, which follows the extension headers.
     #[inline]
     pub fn payload(&self) -> &IpPayloadSlice<'a> {
         &self.payload
     }
 
-    /// The payload's number: that of the authentication header's next header, or the protocol of the base header
-    /// where there is none.
+    /// Returns the protocol number of the payload: the next header field of the authentication header, or the protocol
+    /// field of the IPv4 header if there is none.
     #[inline]
     pub fn payload_ip_number(&self) -> IpNumber {
         self.payload.ip_number
     }
 
-    /// Whether the payload is a fragment and not the whole, as the base header says.
+    /// Returns whether the payload is a fragment, according to the IPv4 header.
     #[inline]
     pub fn is_payload_fragmented(&self) -> bool {
         self.payload.fragmented

@@ -2,11 +2,10 @@ use crate::{
     ip_number, IpAuthHeaderSlice, IpNumber, Ipv6FragmentHeaderSlice, Ipv6RawExtHeaderSlice,
 };
 
-/// One header of an IPv6 chain, borrowed from the caller's bytes. Two are equal where their variants and
-/// their bytes are.
+/// A borrowed IPv6 extension header. Two headers are equal if their variants and their bytes are.
 #[derive(Clone, Debug, PartialEq, Eq)]
 pub enum Ipv6ExtensionSlice<'a> {
-    /// Hop by hop options (RFC 8200, section 4.3).
+    /// Hop-by-hop options (RFC 8200, section 4.3).
     HopByHop(Ipv6RawExtHeaderSlice<'a>),
     /// A routing header (RFC 8200, section 4.4).
     Routing(Ipv6RawExtHeaderSlice<'a>),
@@ -19,7 +18,7 @@ pub enum Ipv6ExtensionSlice<'a> {
 }
 
 impl<'a> Ipv6ExtensionSlice<'a> {
-    /// The header of this number, of bytes that the library has cut.
+    /// Wraps bytes that the library has parsed as a header with this number.
     #[inline]
     pub(crate) fn of_cut(number: IpNumber, slice: &'a [u8]) -> Ipv6ExtensionSlice<'a> {
         match number {
@@ -37,7 +36,7 @@ impl<'a> Ipv6ExtensionSlice<'a> {
         }
     }
 
-    /// The header's own number.
+    /// Returns the protocol number of the header itself.
     #[inline]
     pub fn number(&self) -> IpNumber {
         match self {
@@ -49,7 +48,7 @@ impl<'a> Ipv6ExtensionSlice<'a> {
         }
     }
 
-    /// The header's bytes.
+    /// Returns the bytes of the header.
     #[inline]
     pub fn slice(&self) -> &'a [u8] {
         match self {
@@ -61,7 +60,7 @@ impl<'a> Ipv6ExtensionSlice<'a> {
         }
     }
 
-    /// The number of what follows the header.
+    /// Returns the protocol number of what follows the header.
     #[inline]
     pub fn next_header(&self) -> IpNumber {
         match self {

@@ -1,7 +1,7 @@
 use crate::{ip_number, IpNumber, Ipv6ExtensionSlice};
 
-/// The headers of an IPv6 chain, once in order, then `None` for ever. Two iterators are equal where the
-/// number of the next header and the bytes that are left are.
+/// An iterator over the headers of an IPv6 chain, in order. Returns `None` from then on. Two iterators are equal if the
+/// number of the next header and the remaining bytes are.
 #[derive(Clone, Debug)]
 pub struct Ipv6ExtensionSliceIter<'a> {
     number: IpNumber,
@@ -9,7 +9,7 @@ pub struct Ipv6ExtensionSliceIter<'a> {
 }
 
 impl<'a> Ipv6ExtensionSliceIter<'a> {
-    /// The headers of a chain that the library has cut, which is all of the slice.
+    /// Iterates over bytes that the library has parsed as a whole chain.
     #[inline]
     pub(crate) fn new(first: IpNumber, slice: &'a [u8]) -> Ipv6ExtensionSliceIter<'a> {
         Ipv6ExtensionSliceIter {
@@ -18,13 +18,13 @@ impl<'a> Ipv6ExtensionSliceIter<'a> {
         }
     }
 
-    /// The number of the next header; behind the last one, the number to which the chain leads.
+    /// Returns the number of the next header or, after the last header, the number that follows the chain.
     #[inline]
     pub fn next_number(&self) -> IpNumber {
         self.number
     }
 
-    /// The bytes of the headers to come.
+    /// Returns the bytes of the remaining headers.
     #[inline]
     pub fn rest(&self) -> &'a [u8] {
         self.rest
@@ -34,8 +34,8 @@ impl<'a> Ipv6ExtensionSliceIter<'a> {
 impl<'a> Iterator for Ipv6ExtensionSliceIter<'a> {
     type Item = Ipv6ExtensionSlice<'a>;
 
-    /// The library has told that the bytes are whole headers, linked from the first number: all that is left to be
-    /// read is how long each says that it is.
+    /// The library has checked that the bytes are complete headers, linked from the first number. Only the length of
+    /// each header is left to be read.
     #[inline]
     fn next(&mut self) -> Option<Ipv6ExtensionSlice<'a>> {
         let [next_header, len, ..] = *self.rest else {
@@ -64,7 +64,7 @@ impl PartialEq for Ipv6ExtensionSliceIter<'_> {
 impl Eq for Ipv6ExtensionSliceIter<'_> {}
 
 impl Default for Ipv6ExtensionSliceIter<'_> {
-    /// No headers. The number is 59, since 0 would name hop by hop options.
+    /// Creates an iterator over no headers. Its number is 59 (no next header), since 0 would mean hop-by-hop options.
     fn default() -> Self {
         Ipv6ExtensionSliceIter::new(ip_number::IPV6_NO_NEXT_HEADER, &[])
     }

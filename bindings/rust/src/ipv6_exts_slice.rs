@@ -3,14 +3,13 @@ use crate::err::Layer;
 use crate::library::{self, Chain};
 use crate::{ip_number, IpNumber, Ipv6ExtensionSlice, Ipv6ExtensionSliceIter};
 
-/// A chain of IPv6 extension headers (RFC 8200, section 4), borrowed from the caller's bytes. Its bytes are
-/// whole headers, linked from the number of the first. Two are equal where the number of the first header
-/// and the bytes are.
+/// A borrowed chain of IPv6 extension headers (RFC 8200, section 4). Its bytes are complete headers, each named by the
+/// next header field before it. Two chains are equal if the number of their first header and their bytes are.
 ///
 /// ```
 /// use wolfaren::{ip_number, Ipv6ExtensionsSlice};
 ///
-/// // Destination options, a fragment header, and the first byte of what is behind them.
+/// // Destination options, a fragment header, and the first byte of what follows them.
 /// let bytes = [44, 0, 1, 4, 0, 0, 0, 0, 17, 0, 0, 8, 0, 0, 0, 1, 255];
 /// let (headers, number, rest) = Ipv6ExtensionsSlice::from_slice(ip_number::IPV6_DEST_OPTIONS, &bytes)?;
 /// assert_eq!((number, rest), (ip_number::UDP, &[255][..]));
@@ -27,7 +26,7 @@ pub struct Ipv6ExtensionsSlice<'a> {
 }
 
 impl<'a> Ipv6ExtensionsSlice<'a> {
-    /// The chain that the library has cut, from a number and all of these bytes.
+    /// Wraps bytes that the library has parsed as a whole chain starting with the number.
     #[inline]
     pub(crate) fn of_cut(
         first: IpNumber,
@@ -41,10 +40,12 @@ impl<'a> Ipv6ExtensionsSlice<'a> {
         }
     }
 
-    /// The longest chain from the number that begins the bytes, with the number to which it leads, the bytes
-    /// after it and the fault there. The offset in a fault counts bytes from the start of `start_slice`. There
-    /// is no fault where the number is no extension number. Of bytes that are cut short, as a capture's are,
-    /// it answers those of the headers that lie whole within them.
+    /// Parses the longest chain of extension headers at the start of the bytes, beginning with `start_ip_number`.
+    /// Accepts truncated bytes, as in a capture: the chain then consists of the complete headers.
+    ///
+    /// Returns the chain, the protocol number that follows it, the bytes after it, and the error that ended it, if any.
+    /// Offsets in errors count from the start of `start_slice`. A chain that ends at a number that is not that of an
+    /// extension header has no error.
     #[inline]
     pub fn from_slice_lax(
         start_ip_number: IpNumber,
@@ -62,7 +63,7 @@ impl<'a> Ipv6ExtensionsSlice<'a> {
         (headers, number, rest, fault)
     }
 
-    /// What `from_slice_lax` answers, where it tells no fault; else the fault.
+    /// Parses like `from_slice_lax`, but returns its error, if any, as `Err`.
     #[inline]
     pub fn from_slice(
         start_ip_number: IpNumber,
@@ -75,7 +76,7 @@ impl<'a> Ipv6ExtensionsSlice<'a> {
         Ok(Self::split(start_ip_number, start_slice, &chain))
     }
 
-    /// The chain, the number to which it leads, and the bytes after it.
+    /// Returns the chain, the number that follows it, and the bytes after it.
     #[inline]
     fn split(
         first: IpNumber,
@@ -87,25 +88,25 @@ impl<'a> Ipv6ExtensionsSlice<'a> {
         (headers, IpNumber(chain.next_header as u8), rest)
     }
 
-    /// The number of the first header, where there is one.
+    /// Returns the number of the first header, if there is one.
     #[inline]
     pub fn first_header(&self) -> Option<IpNumber> {
         self.first_header
     }
 
-    /// The bytes of the headers.
+    /// Returns the bytes of the headers.
     #[inline]
     pub fn slice(&self) -> &'a [u8] {
         self.slice
     }
 
-    /// Whether some fragment header of the chain fragments the payload.
+    /// Returns whether a fragment header of the chain fragments the payload.
     #[inline]
     pub fn is_fragmenting_payload(&self) -> bool {
         self.fragmented
     }
 
-    /// Whether there is no header.
+    /// Returns whether there is no header.
     #[inline]
     pub fn is_empty(&self) -> bool {
         self.slice.is_empty()

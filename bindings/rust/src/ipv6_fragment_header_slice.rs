@@ -2,15 +2,14 @@ use crate::err::LenError;
 use crate::library::{self, Cursor};
 use crate::{ip_number, IpFragOffset, IpNumber};
 
-/// One IPv6 fragment header (RFC 8200, section 4.5), borrowed from the caller's bytes. Two are equal where
-/// their bytes are.
+/// A borrowed IPv6 fragment header (RFC 8200, section 4.5). Two headers are equal if their bytes are.
 #[derive(Clone, Debug, PartialEq, Eq)]
 pub struct Ipv6FragmentHeaderSlice<'a> {
     slice: &'a [u8; 8],
 }
 
 impl<'a> Ipv6FragmentHeaderSlice<'a> {
-    /// The header that begins the slice. The error tells that there are fewer than 8 bytes.
+    /// Parses the fragment header at the start of the slice. Returns an error if there are fewer than 8 bytes.
     ///
     /// ```
     /// use wolfaren::Ipv6FragmentHeaderSlice;
@@ -36,7 +35,7 @@ impl<'a> Ipv6FragmentHeaderSlice<'a> {
         }
     }
 
-    /// The header of bytes that the library has cut.
+    /// Wraps bytes that the library has parsed as one such header.
     #[inline]
     pub(crate) fn of_cut(slice: &'a [u8]) -> Ipv6FragmentHeaderSlice<'a> {
         match slice.try_into() {
@@ -45,38 +44,37 @@ impl<'a> Ipv6FragmentHeaderSlice<'a> {
         }
     }
 
-    /// The header's 8 bytes.
+    /// Returns the 8 bytes of the header.
     #[inline]
     pub fn slice(&self) -> &'a [u8] {
         self.slice
     }
 
-    /// The number of what follows the header.
+    /// Returns the protocol number of what follows the header.
     #[inline]
     pub fn next_header(&self) -> IpNumber {
         IpNumber(self.slice[0])
     }
 
-    /// Where the fragment lies in the payload, in units of 8 bytes.
+    /// Returns where the fragment lies in the payload, in units of 8 bytes.
     #[inline]
     pub fn fragment_offset(&self) -> IpFragOffset {
         IpFragOffset::of_bytes(self.slice[2], self.slice[3])
     }
 
-    /// Whether more fragments of the payload follow.
+    /// Returns whether more fragments follow.
     #[inline]
     pub fn more_fragments(&self) -> bool {
         self.slice[3] & 1 != 0
     }
 
-    /// The number that the fragments of one packet share.
+    /// Returns the identification, which all fragments of a packet share.
     #[inline]
     pub fn identification(&self) -> u32 {
         u32::from_be_bytes([self.slice[4], self.slice[5], self.slice[6], self.slice[7]])
     }
 
-    /// Whether the packet has a fragment of the payload and not the whole: more fragments follow, or the offset
-    /// isn't 0.
+    /// Returns whether the packet carries a fragment of the payload: more fragments follow, or the offset isn't 0.
     #[inline]
     pub fn is_fragmenting_payload(&self) -> bool {
         self.more_fragments() | (self.fragment_offset().value() != 0)

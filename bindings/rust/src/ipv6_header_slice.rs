@@ -3,20 +3,22 @@ use crate::err::{Layer, LenError};
 use crate::{library, IpNumber, Ipv6Header, LenSource};
 use core::net::Ipv6Addr;
 
-/// The base header of an IPv6 packet (RFC 8200, section 3), as a part of the caller's bytes. Two are equal
-/// where their bytes are.
+/// A borrowed IPv6 header (RFC 8200, section 3). Two headers are equal if their bytes are.
 #[derive(Clone, Copy, Debug, PartialEq, Eq)]
 pub struct Ipv6HeaderSlice<'a> {
     slice: &'a [u8; 40],
 }
 
 impl<'a> Ipv6HeaderSlice<'a> {
-    /// The header that begins the slice. The error tells that there are fewer than 40 bytes, else that the
-    /// version isn't 6.
+    /// Parses the IPv6 header at the start of the slice.
+    ///
+    /// # Errors
+    ///
+    /// Checked in this order: there are fewer than 40 bytes; the version isn't 6.
     pub fn from_slice(slice: &'a [u8]) -> Result<Ipv6HeaderSlice<'a>, HeaderSliceError> {
         check_version(slice)?;
-        // The library cuts whole packets. One that is cut short behind its base header is the header, or has the fault
-        // there that its extension headers are missing.
+        // The library parses whole packets. Given only an IPv6 header, it either accepts it, or reports that the
+        // extension headers after it are missing.
         let front = &slice[..slice.len().min(Ipv6Header::LEN)];
         let error = library::cut_packet_lax(front)
             .err()
@@ -31,44 +33,44 @@ impl<'a> Ipv6HeaderSlice<'a> {
         }
     }
 
-    /// The header of bytes that the library has cut.
+    /// Wraps bytes that the library has parsed as one such header.
     #[inline]
     pub(crate) fn of_cut(slice: &'a [u8; 40]) -> Ipv6HeaderSlice<'a> {
         Ipv6HeaderSlice { slice }
     }
 
-    /// The header's 40 bytes.
+    /// Returns the 40 bytes of the header.
     #[inline]
     pub fn slice(&self) -> &'a [u8] {
         self.slice
     }
 
-    /// How many bytes follow the header in the packet; 0 also in a packet of more bytes than the field can
-    /// tell (RFC 2675).
+    /// Returns the payload length: the number of bytes after the header. It is also 0 in a jumbogram, which has more
+    /// bytes than fit into the field (RFC 2675).
     #[inline]
     pub fn payload_length(&self) -> u16 {
         u16::from_be_bytes([self.slice[4], self.slice[5]])
     }
 
-    /// The number of what follows the header.
+    /// Returns the protocol number of what follows the header.
     #[inline]
     pub fn next_header(&self) -> IpNumber {
         IpNumber(self.slice[6])
     }
 
-    /// The address of the packet's sender.
+    /// Returns the source address.
     #[inline]
     pub fn source_addr(&self) -> Ipv6Addr {
         self.addr(8)
     }
 
-    /// The address of the packet's receiver, or of the next node of a routing header (RFC 8200, section 4.4).
+    /// Returns the destination address: the receiver, or the next node of a routing header (RFC 8200, section 4.4).
     #[inline]
     pub fn destination_addr(&self) -> Ipv6Addr {
         self.addr(24)
     }
 
-    /// The address at these bytes.
+    /// Returns the address at these bytes.
     #[inline]
     fn addr(&self, at: usize) -> Ipv6Addr {
         let mut octets = [0; 16];
@@ -77,8 +79,8 @@ impl<'a> Ipv6HeaderSlice<'a> {
     }
 }
 
-/// Tells, of bytes that don't state version 6, that there are fewer than 40 or that the version is another. Of those
-/// that do, the library tells what is wrong with a base header.
+/// Returns the error of bytes whose version isn't 6: there are fewer than 40, or the version is wrong. For version 6,
+/// the errors come from the library.
 #[inline]
 pub(crate) fn check_version(slice: &[u8]) -> Result<(), HeaderSliceError> {
     match slice.first() {

@@ -2,20 +2,20 @@ use crate::err::LenError;
 use crate::library::{self, Cursor};
 use crate::{ip_number, IpNumber};
 
-/// The name of this type in earlier versions of the interface.
+/// Name of this type in earlier versions of the interface.
 #[deprecated(note = "use `Ipv6RawExtHeaderSlice`")]
 pub type Ipv6RawExtensionHeaderSlice<'a> = Ipv6RawExtHeaderSlice<'a>;
 
-/// One IPv6 header of the common layout (hop by hop options, routing or destination options; RFC 8200,
-/// sections 4.3, 4.4, 4.6), borrowed from the caller's bytes. Two are equal where their bytes are.
+/// A borrowed IPv6 extension header in the uniform format of RFC 6564: hop-by-hop options, routing or destination
+/// options (RFC 8200, sections 4.3, 4.4, 4.6). Two headers are equal if their bytes are.
 #[derive(Clone, Debug, PartialEq, Eq)]
 pub struct Ipv6RawExtHeaderSlice<'a> {
     slice: &'a [u8],
 }
 
 impl<'a> Ipv6RawExtHeaderSlice<'a> {
-    /// Whether headers of the number have this layout: hop by hop options, routing, destination options,
-    /// mobility, host identity protocol and shim6.
+    /// Returns whether headers with the number have this format: hop-by-hop options, routing, destination options,
+    /// mobility, HIP and Shim6.
     pub const fn header_type_supported(next_header: IpNumber) -> bool {
         matches!(
             next_header,
@@ -28,8 +28,8 @@ impl<'a> Ipv6RawExtHeaderSlice<'a> {
         )
     }
 
-    /// The header that begins the slice. The error tells that there are fewer than 8 bytes, or fewer than
-    /// the header's own length.
+    /// Parses the header at the start of the slice. Returns an error if there are fewer than 8 bytes, or fewer than the
+    /// length field states.
     ///
     /// ```
     /// use wolfaren::Ipv6RawExtHeaderSlice;
@@ -40,7 +40,7 @@ impl<'a> Ipv6RawExtHeaderSlice<'a> {
     /// # Ok::<(), wolfaren::err::LenError>(())
     /// ```
     pub fn from_slice(slice: &'a [u8]) -> Result<Ipv6RawExtHeaderSlice<'a>, LenError> {
-        // All headers of the layout are cut as this one is.
+        // All headers in this format are parsed alike.
         let mut cursor = Cursor {
             offset: 0,
             number: ip_number::IPV6_DEST_OPTIONS.0,
@@ -54,25 +54,25 @@ impl<'a> Ipv6RawExtHeaderSlice<'a> {
         }
     }
 
-    /// The header of bytes that the library has cut.
+    /// Wraps bytes that the library has parsed as one such header.
     #[inline]
     pub(crate) fn of_cut(slice: &'a [u8]) -> Ipv6RawExtHeaderSlice<'a> {
         Ipv6RawExtHeaderSlice { slice }
     }
 
-    /// The header's bytes, 8 to 2048.
+    /// Returns the bytes of the header, 8 to 2048.
     #[inline]
     pub fn slice(&self) -> &'a [u8] {
         self.slice
     }
 
-    /// The number of what follows the header.
+    /// Returns the protocol number of what follows the header.
     #[inline]
     pub fn next_header(&self) -> IpNumber {
         IpNumber(self.slice[0])
     }
 
-    /// What follows the number and the length, 6 to 2046 bytes.
+    /// Returns the bytes after the next header and length fields, 6 to 2046 bytes.
     #[inline]
     pub fn payload(&self) -> &'a [u8] {
         &self.slice[2..]

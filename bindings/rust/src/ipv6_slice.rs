@@ -3,13 +3,13 @@ use crate::ipv6_header_slice::check_version;
 use crate::library::{self, Base, Fault, Parts};
 use crate::{IpNumber, IpPayloadSlice, Ipv6ExtensionsSlice, Ipv6HeaderSlice};
 
-/// An IPv6 packet (RFC 8200): its base header, its extension headers and its payload, as parts of the caller's
-/// bytes. Two are equal where all their parts are.
+/// A borrowed IPv6 packet (RFC 8200): its header, its extension headers and its payload. Two packets are equal if all
+/// their parts are.
 ///
 /// ```
 /// use wolfaren::{ip_number, Ipv6Slice, LenSource};
 ///
-/// // Destination options, and a payload of which a capture has 3 bytes out of 9.
+/// // Destination options, and a payload truncated from 9 bytes to 3.
 /// let mut bytes = [0; 51];
 /// (bytes[0], bytes[5], bytes[6]) = (0x60, 17, 60);
 /// bytes[40] = 17;
@@ -28,32 +28,32 @@ pub struct Ipv6Slice<'a> {
 }
 
 impl<'a> Ipv6Slice<'a> {
-    /// The packet that begins the slice. Its payload ends where payload length says; bytes behind it are left out.
-    /// Where payload length is 0 and bytes follow the base header, as in a jumbogram (RFC 2675), all of them
-    /// belong to the packet.
+    /// Parses the IPv6 packet at the start of the slice. It ends where the payload length says; bytes after it are
+    /// ignored. If the payload length is 0 and bytes follow the IPv6 header, as in a jumbogram (RFC 2675), the packet
+    /// extends to the end of the slice.
     ///
-    /// The error tells, in this order, what is wrong with the base header, that there are fewer bytes than payload
-    /// length states, or what is wrong with the extension headers, its offset counted from the start of the slice
-    /// and its length source the one that says the packet's length: `LenSource::Slice` where payload length is 0
-    /// and bytes follow the base header, else `LenSource::Ipv6HeaderPayloadLen`.
+    /// # Errors
+    ///
+    /// Checked in this order: an error in the IPv6 header; there are fewer bytes than the payload length states; an
+    /// error in the extension headers. Offsets count from the start of the slice. The length source of an error in the
+    /// extension headers is `LenSource::Slice` if the payload length is 0 and bytes follow the IPv6 header, otherwise
+    /// `LenSource::Ipv6HeaderPayloadLen`.
     #[inline(always)]
     pub fn from_slice(slice: &'a [u8]) -> Result<Ipv6Slice<'a>, SliceError> {
         Self::of_answer(library::cut_packet, slice)
     }
 
-    /// As `from_slice`, but a packet may be cut short or state no length: where there are fewer bytes than payload
-    /// length states, all of them belong to it. The payload's `len_source` tells whether it ends where the slice
-    /// does.
+    /// Parses an IPv6 packet that may be truncated, as in a capture. If the IPv6 header is valid but there are fewer
+    /// bytes than the payload length states, the packet extends to the end of the slice, and the payload's `len_source`
+    /// is `LenSource::Slice`. Otherwise the result is that of `from_slice`.
     ///
-    /// The answer is that of `from_slice` for each slice but one that a good base header begins and that has
-    /// fewer bytes than payload length states. The length source of an error in the extension headers is the one
-    /// that says the packet's length.
+    /// The length source of an error in the extension headers is the one that determines the length of the packet.
     #[inline(always)]
     pub fn from_slice_lax(slice: &'a [u8]) -> Result<Ipv6Slice<'a>, SliceError> {
         Self::of_answer(library::cut_packet_lax, slice)
     }
 
-    /// The packet as a call of the library cuts it.
+    /// Parses a packet with one of the library's calls.
     #[inline(always)]
     fn of_answer(
         cut: fn(&'a [u8]) -> Result<Parts<'a>, Fault>,
@@ -73,7 +73,7 @@ impl<'a> Ipv6Slice<'a> {
         }
     }
 
-    /// The packet of the base header and the parts behind it that the library has cut.
+    /// Builds a packet from its IPv6 header and the other parts that the library has found.
     #[inline(always)]
     pub(crate) fn of_cut(base: &'a [u8; 40], parts: &Parts<'a>) -> Ipv6Slice<'a> {
         let header = Ipv6HeaderSlice::of_cut(base);
@@ -84,32 +84,32 @@ impl<'a> Ipv6Slice<'a> {
         }
     }
 
-    /// The base header.
+    /// Returns the IPv6 header.
     #[inline]
     pub fn header(&self) -> Ipv6HeaderSlice<'a> {
         self.header
     }
 
-    /// The extension headers.
+    /// Returns the extension headers.
     #[inline]
     pub fn extensions(&self) -> &Ipv6ExtensionsSlice<'a> {
         &self.exts
     }
 
-    /// The payload, behind the extension headers.
+    /// Returns the payload, which follows the extension headers.
     #[inline]
     pub fn payload(&self) -> &IpPayloadSlice<'a> {
         &self.payload
     }
 
-    /// The payload's number: the next header of the last extension header, or of the base header where there is
-    /// none.
+    /// Returns the protocol number of the payload: the next header field of the last extension header, or of the IPv6
+    /// header if there is none.
     #[inline]
     pub fn payload_ip_number(&self) -> IpNumber {
         self.payload.ip_number
     }
 
-    /// Whether the payload is a fragment and not the whole: some fragment header of the chain says so.
+    /// Returns whether the payload is a fragment, according to the fragment headers of the chain.
     #[inline]
     pub fn is_payload_fragmented(&self) -> bool {
         self.payload.fragmented

@@ -1,7 +1,7 @@
-/// What says how many bytes there are.
+/// Where a length comes from.
 #[derive(Clone, Copy, Debug, PartialEq, Eq, Hash)]
 pub enum LenSource {
-    /// The length of the slice that was handed in.
+    /// The length of the slice that was passed in.
     Slice,
     /// The total length field of an IPv4 header.
     Ipv4HeaderTotalLen,
@@ -10,7 +10,7 @@ pub enum LenSource {
 }
 
 impl LenSource {
-    /// The variant's name.
+    /// Returns the name of the variant.
     pub const fn name(&self) -> &'static str {
         match self {
             LenSource::Slice => "Slice",

@@ -1,17 +1,16 @@
-//! Chains of IP extension headers, and packets of IPv4 (RFC 791) and IPv6 (RFC 8200), cut out of untrusted bytes and
-//! borrowed from them.
+//! A zero-copy parser for chains of IP extension headers, and for IPv4 (RFC 791) and IPv6 (RFC 8200) packets.
 //!
-//! Where a header, a chain or a packet's parts lie, the number that follows, the bytes behind and what is wrong are
-//! told by a static library, in which every cut is proved. This package gives its answers the types and names of
-//! etherparse 0.19, takes no memory and needs no `std`. Of bytes that were cut it reads single fields itself.
+//! The parsing is done by a static library that is formally verified: it finds where headers, chains and the parts of a
+//! packet lie, which protocol number and bytes follow, and any error. This package wraps it in the types and names of
+//! etherparse 0.19. It allocates no memory and doesn't need `std`. It reads the fields of parsed headers itself.
 //!
 //! ```
 //! use wolfaren::{err::ip::SliceError, IpSlice};
 //!
 //! let mut bytes = [0; 56];
-//! (bytes[0], bytes[5], bytes[6]) = (0x60, 16, 60); // IPv6, 16 bytes behind the header, destination options first
-//! bytes[40] = 43; // .. which lead to a routing header
-//! bytes[48] = 6; // .. which leads to TCP
+//! (bytes[0], bytes[5], bytes[6]) = (0x60, 16, 60); // IPv6, 16 bytes of payload, destination options first,
+//! bytes[40] = 43; // followed by a routing header,
+//! bytes[48] = 6; // followed by TCP.
 //! let packet = IpSlice::from_slice(&bytes)?;
 //! assert_eq!(packet.payload_ip_number().0, 6);
 //! let headers = packet.ipv6().map(|packet| packet.extensions().clone());
@@ -30,7 +29,7 @@
 #[cfg(test)]
 extern crate std;
 
-/// The example of the README is a test.
+/// Runs the example in the README as a test.
 #[cfg(doctest)]
 #[doc = include_str!("../README.md")]
 struct Readme;

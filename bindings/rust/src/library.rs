@@ -1,11 +1,11 @@
-//! The calls of the library, as its header `wolfaren.h` declares them, behind functions that are safe to call. All
-//! that is unsafe in this package stands here.
+//! Safe wrappers for the calls declared in the library's header `wolfaren.h`. All `unsafe` code of this package is in
+//! this file.
 #![allow(unsafe_code)]
 
 use core::mem::{size_of, MaybeUninit};
 use core::{ptr, slice};
 
-/// `struct wolfaren_fault`: what is wrong. A field of which the kind says nothing is 0.
+/// `struct wolfaren_fault`: an error. Fields that don't apply to its kind are 0.
 #[repr(C)]
 #[derive(Clone, Copy, Debug)]
 pub(crate) struct Fault {
@@ -19,7 +19,7 @@ pub(crate) struct Fault {
     pub value: u32,
 }
 
-/// `struct wolfaren_header`: where an extension header lies, and the numbers that it names.
+/// `struct wolfaren_header`: the position of an extension header, and its protocol numbers.
 #[repr(C)]
 #[derive(Clone, Copy, Debug)]
 pub(crate) struct Header {
@@ -29,7 +29,7 @@ pub(crate) struct Header {
     pub next_header: u8,
 }
 
-/// `struct wolfaren_chain`: a chain of extension headers, and what ends it.
+/// `struct wolfaren_chain`: a chain of extension headers, and the error that ended it, if any.
 #[repr(C)]
 #[derive(Clone, Copy, Debug)]
 pub(crate) struct Chain {
@@ -40,7 +40,7 @@ pub(crate) struct Chain {
     pub fragmented: u32,
 }
 
-/// `struct wolfaren_payload`: a packet's payload, and where the headers before it begin.
+/// `struct wolfaren_payload`: the payload of a packet, and where the headers before it lie.
 #[repr(C)]
 #[derive(Clone, Copy, Debug)]
 pub(crate) struct Payload {
@@ -53,7 +53,7 @@ pub(crate) struct Payload {
     pub len_source: u16,
 }
 
-/// `struct wolfaren_cursor`: how far a caller has come in a chain. Any two numbers are a cursor.
+/// `struct wolfaren_cursor`: a position in a chain. Any offset and number are a valid cursor.
 #[repr(C)]
 #[derive(Clone, Copy, Debug)]
 pub(crate) struct Cursor {
@@ -61,7 +61,7 @@ pub(crate) struct Cursor {
     pub number: u8,
 }
 
-// The library is made for 64 bits, where these are the sizes of its structs.
+// The library is 64-bit, and these are the sizes of its structs.
 const _: () = {
     assert!(size_of::<usize>() == 8);
     assert!(size_of::<Fault>() == 32);
@@ -117,12 +117,12 @@ unsafe extern "C" {
     fn wolfaren_fault_text(fault: *const Fault, text: *mut u8, room: usize) -> usize;
 }
 
-/// The longest chain of IPv6 extension headers from the number that begins the bytes.
+/// Parses the longest chain of IPv6 extension headers at the start of the bytes, beginning with the number `first`.
 #[inline(always)]
 pub(crate) fn cut_chain(first: u8, bytes: &[u8]) -> Chain {
     let mut chain = MaybeUninit::uninit();
     // SAFETY: the bytes are a slice, which the call only reads. The array has no elements and may be null. `chain` has
-    // room for a chain and overlaps nothing that is read, and the call writes all fields of it.
+    // room for a chain and doesn't overlap the bytes, and the call writes all of its fields.
     unsafe {
         wolfaren_cut_chain(
             first,
@@ -136,7 +136,7 @@ pub(crate) fn cut_chain(first: u8, bytes: &[u8]) -> Chain {
     }
 }
 
-/// The same of IPv4: at most one header, of authentication.
+/// Parses the IPv4 extension header at the start of the bytes: at most one authentication header.
 #[inline(always)]
 pub(crate) fn cut_ipv4_chain(first: u8, bytes: &[u8]) -> Chain {
     let mut chain = MaybeUninit::uninit();
@@ -154,18 +154,18 @@ pub(crate) fn cut_ipv4_chain(first: u8, bytes: &[u8]) -> Chain {
     }
 }
 
-/// The header that goes on where the cursor stands, with its number; the cursor then stands behind it. Or none, and the
-/// cursor stays.
+/// Returns the number and the bytes of the header at the cursor, and moves the cursor past it. Returns `None`, and
+/// leaves the cursor where it is, if there is none.
 #[inline(always)]
 pub(crate) fn next_header<'a>(cursor: &mut Cursor, bytes: &'a [u8]) -> Option<(u8, &'a [u8])> {
     let (start, len) = (bytes.as_ptr(), bytes.len());
     let mut header = MaybeUninit::uninit();
-    // SAFETY: the cursor is borrowed for this call alone. The bytes are a slice, which the call only reads. `header`
-    // has room for a header and overlaps nothing that is read.
+    // SAFETY: the cursor is borrowed exclusively. The bytes are a slice, which the call only reads. `header` has room
+    // for a header and doesn't overlap the other arguments.
     if !unsafe { wolfaren_next_header(cursor, start, len, header.as_mut_ptr()) } {
         return None;
     }
-    // SAFETY: the call has answered true, and so has written all fields of the header, which lies within the bytes.
+    // SAFETY: the call returned true, so it has written all fields of the header, which lies within the bytes.
     let (number, slice) = unsafe {
         let header: &Header = header.assume_init_ref();
         let slice = slice::from_raw_parts(start.add(header.offset), header.len);
@@ -174,28 +174,28 @@ pub(crate) fn next_header<'a>(cursor: &mut Cursor, bytes: &'a [u8]) -> Option<(u
     Some((number, slice))
 }
 
-/// What is wrong where the cursor stands.
+/// Returns the error at the cursor.
 #[inline(always)]
 pub(crate) fn fault_at(cursor: &Cursor, bytes: &[u8]) -> Fault {
     let mut fault = MaybeUninit::uninit();
     // SAFETY: the cursor and the bytes are borrowed, and the call only reads them. `fault` has room for a fault and
-    // overlaps nothing that is read, and the call writes all fields of it.
+    // doesn't overlap them, and the call writes all of its fields.
     unsafe {
         wolfaren_fault_at(cursor, bytes.as_ptr(), bytes.len(), fault.as_mut_ptr());
         fault.assume_init()
     }
 }
 
-/// A call that finds the payload of a packet.
+/// The type of the library's calls that find the payload of a packet.
 type FindPayload = unsafe extern "C" fn(*const u8, usize, *mut Payload, *mut Fault) -> bool;
 
-/// A base header with its options, of the version that it states.
+/// An IP header, with its options.
 pub(crate) enum Base<'a> {
     Ipv4(&'a [u8]),
     Ipv6(&'a [u8; 40]),
 }
 
-/// The parts of a packet, one behind the other, and what the library says of them.
+/// The parts of a packet, one after another, and the library's results about them.
 pub(crate) struct Parts<'a> {
     pub base: Base<'a>,
     pub exts: &'a [u8],
@@ -205,37 +205,41 @@ pub(crate) struct Parts<'a> {
     pub len_source: u8,
 }
 
-/// The packet that begins the bytes, of the version that its first byte states.
+/// Parses the IP packet at the start of the bytes, of either version.
 #[inline(always)]
 pub(crate) fn cut_packet(bytes: &[u8]) -> Result<Parts<'_>, Fault> {
-    // SAFETY: it is one of the two calls.
+    // SAFETY: `wolfaren_find_payload` is one of the two calls that `split_packet` accepts.
     unsafe { split_packet(wolfaren_find_payload, bytes) }
 }
 
-/// The same of an IPv6 packet that may be cut short.
+/// Parses an IP packet, and accepts a truncated IPv6 packet.
 #[inline(always)]
 pub(crate) fn cut_packet_lax(bytes: &[u8]) -> Result<Parts<'_>, Fault> {
-    // SAFETY: it is one of the two calls.
+    // SAFETY: `wolfaren_find_payload_lax` is one of the two calls that `split_packet` accepts.
     unsafe { split_packet(wolfaren_find_payload_lax, bytes) }
 }
 
-/// The parts of a packet whose payload a call finds, which has to be one of the two that the library has.
+/// Parses a packet with one of the library's calls that find its payload.
+///
+/// # Safety
+///
+/// `find` must be `wolfaren_find_payload` or `wolfaren_find_payload_lax`.
 #[inline(always)]
 unsafe fn split_packet(find: FindPayload, bytes: &[u8]) -> Result<Parts<'_>, Fault> {
     let (start, len) = (bytes.as_ptr(), bytes.len());
     let (mut payload, mut fault) = (MaybeUninit::uninit(), MaybeUninit::uninit());
     // SAFETY: the bytes are a slice, which the call only reads. `payload` and `fault` have room for a payload and for a
-    // fault, and overlap nothing that is read.
+    // fault, and don't overlap the bytes.
     if !unsafe { find(start, len, payload.as_mut_ptr(), fault.as_mut_ptr()) } {
-        // SAFETY: the call has answered false, and so has written all fields of the fault.
+        // SAFETY: the call returned false, so it has written all fields of the fault.
         return Err(unsafe { fault.assume_init() });
     }
-    // SAFETY: the call has answered true, and so has written all fields of the payload.
+    // SAFETY: the call returned true, so it has written all fields of the payload.
     let found: &Payload = unsafe { payload.assume_init_ref() };
     let (exts_at, payload_at) = (found.base_len, found.offset);
-    // SAFETY: the three parts lie in this order within the bytes, each behind the one before, as the library's contract
-    // says (`payload_cut` of the crate ip_cuts): `base_len` is at most `offset`, and that and `len` together are at most
-    // the length of the bytes. The base header of IPv6 has 40 bytes.
+    // SAFETY: the three parts lie within the bytes in this order, one after another, by the library's contract
+    // (`payload_cut` of the crate ip_cuts): `base_len` is at most `offset`, and `offset` plus `len` is at most the
+    // length of the bytes. The IPv6 header has 40 bytes.
     let (base, exts, payload) = unsafe {
         (
             match found.version {
@@ -256,14 +260,14 @@ unsafe fn split_packet(find: FindPayload, bytes: &[u8]) -> Result<Parts<'_>, Fau
     })
 }
 
-/// The library's words for a fault.
+/// Returns the library's text for a fault.
 #[cfg(test)]
 pub(crate) fn fault_text(fault: &Fault) -> std::string::String {
     let mut text = [0; 256];
-    // SAFETY: the fault is borrowed, and the call only reads it. `text` is an array of so many bytes and overlaps
-    // nothing that is read.
+    // SAFETY: the fault is borrowed, and the call only reads it. `text` is an array of that length and doesn't overlap
+    // the fault.
     let len = unsafe { wolfaren_fault_text(fault, text.as_mut_ptr(), text.len()) };
-    std::string::String::from_utf8(text[..len].to_vec()).expect("the words are text")
+    std::string::String::from_utf8(text[..len].to_vec()).expect("the text is UTF-8")
 }
 
 #[cfg(test)]
@@ -272,7 +276,7 @@ mod tests {
     use core::mem::{offset_of, size_of};
     use std::vec::Vec;
 
-    /// The fields of a struct in the library's header: the size of each, and its name.
+    /// Returns the size and the name of each field of a struct in the library's header.
     fn fields(name: &str) -> Vec<(usize, &'static str)> {
         let page = include_str!("../../../include/wolfaren.h");
         let lines = page.lines().skip_while(|line| *line != name).skip(1);
@@ -297,7 +301,7 @@ mod tests {
             .collect()
     }
 
-    /// Where fields of these sizes lie in C, and how many bytes all of them have.
+    /// Returns the offsets in C of fields with these sizes, and the size of the struct.
     fn layout(sizes: impl Iterator<Item = usize>) -> (Vec<usize>, usize) {
         let mut end = 0usize;
         let offsets = sizes
@@ -310,7 +314,7 @@ mod tests {
         (offsets, end.next_multiple_of(8))
     }
 
-    /// Holds a struct with all its fields against the library's header.
+    /// Compares a struct and all its fields with the library's header.
     macro_rules! check {
         ($struct:ident, $name:literal, $($field:ident),+) => {
             let fields = fields(concat!("struct ", $name, " {"));

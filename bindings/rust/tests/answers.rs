@@ -1,5 +1,5 @@
-//! The lines that the program `ipexts` is tried with, answered with the values of this package: the answers have to be
-//! the known ones. How lines and answers are written is described at the head of `crates/ipexts_tool/src/lib.rt`.
+//! Answers the test lines of the program `ipexts` with this package, and compares them with the expected answers. The
+//! format of lines and answers is described at the head of `crates/ipexts_tool/src/lib.rt`.
 use std::fmt::Write;
 use wolfaren::err::{ip, ip_auth, ipv6_exts, LenError};
 use wolfaren::{IpNumber, IpSlice, Ipv4ExtensionsSlice, Ipv6ExtensionsSlice};
@@ -7,7 +7,7 @@ use wolfaren::{IpNumber, IpSlice, Ipv4ExtensionsSlice, Ipv6ExtensionsSlice};
 const LINES: &[u8] = include_bytes!("../../../crates/ipexts/stdin");
 const ANSWERS: &str = include_str!("../../../crates/ipexts/stdout");
 
-/// How many bytes a line has at most.
+/// The maximum length of a line in bytes.
 const MAX_LINE_LEN: usize = 8192;
 
 #[test]
@@ -34,7 +34,7 @@ fn lines_have_their_known_answers() {
     assert!(counts.iter().all(|count| *count > 50), "{counts:?}");
 }
 
-/// The answers, each of which ends in the first line that says how the line's bytes end.
+/// Splits the expected output into answers. An answer ends with `ok`, a fault or `bad line`.
 fn blocks(text: &str) -> impl Iterator<Item = &str> {
     let mut rest = text;
     std::iter::from_fn(move || {
@@ -52,7 +52,7 @@ fn blocks(text: &str) -> impl Iterator<Item = &str> {
 }
 
 enum Answer {
-    /// The form is one of those that write headers.
+    /// The line is in one of the forms that write headers.
     OtherForm,
     Bad,
     Exts6(String),
@@ -81,13 +81,13 @@ fn answer(line: &[u8]) -> Answer {
     known.unwrap_or(Answer::Bad)
 }
 
-/// A number of 0 to 255 without leading zeros.
+/// Parses a number from 0 to 255 without leading zeros.
 fn number_in(field: &str) -> Option<IpNumber> {
     let number: u8 = field.parse().ok()?;
     (number.to_string() == field).then_some(IpNumber(number))
 }
 
-/// The bytes of an even number of hexadecimal digits, at least two, or of `-` for none.
+/// Parses an even number of hexadecimal digits, at least two, or `-` for no bytes.
 fn bytes_in(field: &str) -> Option<Vec<u8>> {
     if field == "-" {
         return Some(Vec::new());

@@ -1,4 +1,4 @@
-//! Single headers, base headers and packets of one version: what is cut of bytes, and what is refused in which order.
+//! Tests parsing single headers, IP headers and packets of one version: the results, and the order of the errors.
 use wolfaren::err::{ip_auth, ipv4, ipv6, ipv6_exts, Layer, LenError};
 use wolfaren::{
     IpAuthHeaderSlice, IpNumber, IpSlice, Ipv4HeaderSlice, Ipv4Slice, Ipv6ExtensionSlice,
@@ -16,12 +16,12 @@ fn too_short(layer: Layer, offset: usize, required: usize, len: usize, by: LenSo
     }
 }
 
-/// An error of a header at the start of a slice.
+/// Returns a length error of a header at the start of a slice.
 fn short(layer: Layer, required: usize, len: usize) -> LenError {
     too_short(layer, 0, required, len, LenSource::Slice)
 }
 
-/// An IPv4 packet without extension headers: header length, total length and protocol are handed in.
+/// Returns an IPv4 packet without extension headers, with this header length, total length and protocol.
 fn ipv4(ihl: u8, total_len: u8, protocol: u8, len: usize) -> Vec<u8> {
     let mut bytes = vec![0; len.max(20)];
     (bytes[0], bytes[3], bytes[9]) = (0x40 | ihl, total_len, protocol);
@@ -29,7 +29,7 @@ fn ipv4(ihl: u8, total_len: u8, protocol: u8, len: usize) -> Vec<u8> {
     bytes
 }
 
-/// An IPv6 packet with zeros behind its base header.
+/// Returns an IPv6 packet with zeros after its IPv6 header.
 fn ipv6(payload_length: u8, next_header: u8, len: usize) -> Vec<u8> {
     let mut bytes = vec![0; len.max(40)];
     (bytes[0], bytes[5], bytes[6]) = (0x60, payload_length, next_header);

@@ -1,14 +1,14 @@
-//! The texts of errors are those of the table in `docs/errors.md`, which the repository holds against its own code, and
-//! what an error holds is its source.
+//! Checks that the texts of errors are those in the table of `docs/errors.md`, which the repository checks against its
+//! own code, and that a wrapped error is the source.
 use std::collections::BTreeMap;
 use std::error::Error;
 use wolfaren::err::{ip, ip_auth, ipv4, ipv6, ipv6_exts, Layer, LenError, ValueTooBigError};
 use wolfaren::{IpFragOffset, IpNumber, LenSource};
 
-/// What stands in a text in braces, and what is put there.
+/// A placeholder in braces in a text, and its value.
 type Values<'a> = &'a [(&'a str, &'a str)];
 
-/// The texts by error and variant.
+/// Returns the texts of the table, by error and variant.
 fn table() -> BTreeMap<(String, String), String> {
     let page = include_str!("../../../docs/errors.md");
     let rows = page
@@ -29,7 +29,7 @@ fn table() -> BTreeMap<(String, String), String> {
         .collect()
 }
 
-/// Holds an error's text against the table, where the error holds no other.
+/// Compares the text of an error that wraps no other with the table.
 fn check(error: &dyn Error, name: &str, variant: &str, values: Values<'_>) {
     let key = (name.to_owned(), variant.to_owned());
     let text = table()
@@ -43,7 +43,7 @@ fn check(error: &dyn Error, name: &str, variant: &str, values: Values<'_>) {
     assert!(error.source().is_none());
 }
 
-/// Holds an error that holds another against the table: it says what that says, and has it as its source.
+/// Checks an error that wraps another: its text is that of the inner error, which is also its source.
 fn check_held(error: &dyn Error, inner: &dyn Error, name: &str, variant: &str) {
     let key = (name.to_owned(), variant.to_owned());
     assert_eq!(

@@ -1,4 +1,4 @@
-//! `exts4 N HEX`: the IPv4 extension headers that begin the bytes.
+//! `exts4 N HEX`: the IPv4 extension headers at the start of the bytes.
 use super::{hex_of, number_and_bytes, Form};
 use crate::chains::{self, AUTH};
 use crate::changes::Changes;
@@ -17,7 +17,7 @@ impl Form for Exts4 {
     fn arguments(&self, random: &mut Random) -> Vec<String> {
         let upper = random.percent(10);
         let longest = super::MAX_LINE_LEN - "exts4 255 ".len();
-        // Most start numbers are that of the one header that is taken.
+        // Most start numbers are that of the authentication header.
         let named = random.percent(70);
         chains::asked(random, longest / 2)
             .into_iter()

@@ -1,4 +1,4 @@
-//! `exts6 N HEX`: the chain of IPv6 extension headers that begins the bytes.
+//! `exts6 N HEX`: the chain of IPv6 extension headers at the start of the bytes.
 use super::{chain_arguments, number_and_bytes, Form};
 use crate::chains::EXTENSIONS;
 use crate::changes::Changes;
@@ -48,8 +48,8 @@ impl Form for Exts6 {
     }
 }
 
-/// Appends a line for each header, and tells whether the original's iterator would go on behind the chain's
-/// bytes: its last header names a further one.
+/// Appends a line for each header. Returns whether the original's iterator would continue after the end of the
+/// chain, because the last header names another one.
 fn push_headers(headers: Ipv6ExtensionsSlice<'_>, answer: &mut String) -> bool {
     let end = headers.slice().len();
     let mut headers = headers.into_iter();
@@ -67,7 +67,7 @@ fn push_headers(headers: Ipv6ExtensionsSlice<'_>, answer: &mut String) -> bool {
     next.is_some_and(|next| EXTENSIONS.contains(&next))
 }
 
-/// A header's name, its length and the number to which it leads.
+/// Returns the name of a header, its length, and its next header field.
 fn parts(header: &Ipv6ExtensionSlice<'_>) -> (&'static str, usize, u8) {
     match header {
         Ipv6ExtensionSlice::HopByHop(header) => {
@@ -93,7 +93,7 @@ mod tests {
     use super::*;
     use crate::{chains, fragment_bits};
 
-    /// The places of byte 3 of the fragment headers that the original finds.
+    /// Returns the offsets of byte 3 of the fragment headers that the original finds.
     fn found(number: u8, bytes: &[u8]) -> Vec<usize> {
         let (headers, ..) = Ipv6ExtensionsSlice::from_slice_lax(IpNumber(number), bytes);
         let end = headers.slice().len();
@@ -110,7 +110,7 @@ mod tests {
         places
     }
 
-    /// The walk that puts fragment headers into another layout meets those that the original finds, and no other byte.
+    /// The walk that converts fragment headers changes those that the original finds, and no other byte.
     #[test]
     fn the_fragment_headers_of_a_chain_are_those_that_the_original_finds() {
         let mut random = Random::new(1);

@@ -1,4 +1,4 @@
-//! The forms of a line. A further form is a file here and a line in `forms`.
+//! The forms of a line. To add a form, add a file here and a line in `forms`.
 mod exts4;
 mod exts6;
 mod packet;
@@ -10,18 +10,18 @@ use crate::changes::Changes;
 use crate::named::Difference;
 use crate::random::Random;
 
-/// How many bytes a line may have.
+/// The maximum length of a line in bytes.
 pub const MAX_LINE_LEN: usize = 8192;
 
-/// A form of a line: how it asks, and what the original answers.
+/// A form of a line: how its lines are made, and what the original answers.
 pub trait Form {
-    /// The word with which its lines begin.
+    /// The first word of its lines.
     fn name(&self) -> &'static str;
 
-    /// What stands behind the word in some lines that belong together, as a chain cut at every byte.
+    /// Makes the arguments of some related lines, such as a chain truncated at every byte.
     fn arguments(&self, random: &mut Random) -> Vec<String>;
 
-    /// Appends the original's answer with the changes; `None` where the arguments aren't of this form.
+    /// Appends the original's answer with the changes. Returns `None` if the arguments aren't of this form.
     fn answer(
         &self,
         arguments: &str,
@@ -30,7 +30,7 @@ pub trait Form {
     ) -> Option<Vec<Difference>>;
 }
 
-/// All forms.
+/// Returns all forms.
 pub fn forms() -> Vec<Box<dyn Form>> {
     vec![
         Box::new(exts6::Exts6),
@@ -41,7 +41,7 @@ pub fn forms() -> Vec<Box<dyn Form>> {
     ]
 }
 
-/// Appends the original's answer to a line with the changes, and tells the named differences that it has.
+/// Appends the original's answer to a line with the changes. Returns the known differences that occurred.
 pub fn answer(
     forms: &[Box<dyn Form>],
     line: &[u8],
@@ -72,8 +72,7 @@ fn asked(
         .answer(arguments, changes, answer)
 }
 
-/// A number and the digits of the bytes that follow it, for a form of this name that asks for a chain of IPv6
-/// extension headers.
+/// Makes a number and hexadecimal digits for a form with this name that parses a chain of IPv6 extension headers.
 pub fn chain_arguments(name: &str, random: &mut Random) -> Vec<String> {
     let upper = random.percent(10);
     let longest = MAX_LINE_LEN - name.len() - " 255 ".len();
@@ -83,7 +82,7 @@ pub fn chain_arguments(name: &str, random: &mut Random) -> Vec<String> {
         .collect()
 }
 
-/// Reads `N HEX`.
+/// Parses `N HEX`.
 pub fn number_and_bytes(arguments: &str) -> Option<(u8, Vec<u8>)> {
     let (number, hex) = arguments.split_once(' ')?;
     Some((number_of(number)?, bytes_of(hex)?))
@@ -94,7 +93,7 @@ fn number_of(text: &str) -> Option<u8> {
     plain.then(|| text.parse().ok()).flatten()
 }
 
-/// The bytes that hexadecimal digits spell, or none for `-`.
+/// Parses hexadecimal digits, or `-` for no bytes.
 pub fn bytes_of(hex: &str) -> Option<Vec<u8>> {
     if hex == "-" {
         return Some(Vec::new());
@@ -118,7 +117,7 @@ fn digit(byte: u8) -> Option<u8> {
     }
 }
 
-/// Bytes as hexadecimal digits of either case, or `-`.
+/// Formats bytes as hexadecimal digits of either case, or `-`.
 pub fn hex_of(bytes: &[u8], upper: bool) -> String {
     const LOWER: &[u8; 16] = b"0123456789abcdef";
     const UPPER: &[u8; 16] = b"0123456789ABCDEF";

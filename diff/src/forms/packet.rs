@@ -1,4 +1,4 @@
-//! `packet HEX`: the IP packet that begins the bytes.
+//! `packet HEX`: the IP packet at the start of the bytes.
 use super::{bytes_of, hex_of, Form, MAX_LINE_LEN};
 use crate::changes::Changes;
 use crate::faults::{push, push_packet_fault};
@@ -45,7 +45,7 @@ impl Form for Packet {
     }
 }
 
-/// Appends how long each part is, and what the payload is.
+/// Appends the lengths of the parts, and the properties of the payload.
 fn push_parts(packet: &IpSlice<'_>, answer: &mut String) {
     let (name, header, exts) = match packet {
         IpSlice::Ipv4(packet) => {
@@ -91,7 +91,7 @@ mod tests {
         (text, named.expect("the arguments are of this form"))
     }
 
-    /// An IPv6 packet with a payload length, a next header, and these bytes behind its base header.
+    /// Makes an IPv6 packet with a payload length, a next header, and these bytes after its IPv6 header.
     fn ipv6(payload_length: u8, next: u8, behind: &str) -> String {
         format!(
             "60000000{payload_length:04x}{next:02x}40{}{behind}",
@@ -99,7 +99,7 @@ mod tests {
         )
     }
 
-    /// The source of a fault in the headers is the slice where payload length is 0, and nothing else of it changes.
+    /// The source of an error in the headers is the slice if the payload length is 0, and nothing else changes.
     #[test]
     fn the_source_of_a_fault_in_the_headers_is_the_one_really_used() {
         for (next, behind) in [(60, "2b00000000000000"), (44, "11"), (51, "1101")] {
@@ -112,8 +112,8 @@ mod tests {
         }
     }
 
-    /// Every other answer is the original's: a payload length that bounds the headers, no bytes behind the base
-    /// header, a fault of another kind or of the base header, no fault, and IPv4.
+    /// Every other answer is the original's: if the payload length bounds the headers, if no bytes follow the IPv6
+    /// header, for other errors and those of the IPv6 header, without an error, and for IPv4.
     #[test]
     fn no_other_source_is_replaced() {
         let ipv4 = format!("45000018000000004033{}11010000", "00".repeat(10));
@@ -132,7 +132,7 @@ mod tests {
         }
     }
 
-    /// A fragment header of the more flag alone, and one of reserved bits alone.
+    /// A fragment header with only the M flag, and one with only reserved bits.
     #[test]
     fn a_packet_is_a_fragment_by_the_bits_of_the_standard() {
         for payload_length in [0, 8] {
@@ -147,7 +147,7 @@ mod tests {
         }
     }
 
-    /// Each kind of answer is asked for, among a few thousand lines.
+    /// Each kind of answer occurs among a few thousand lines.
     #[test]
     fn each_kind_of_answer_is_asked_for() {
         let mut random = Random::new(1);

@@ -1,4 +1,5 @@
-//! `rewrite6 N HEX`: what of the IPv6 extension headers that begin the bytes has a place, as it is written.
+//! `rewrite6 N HEX`: the IPv6 extension headers at the start of the bytes that fit into the six places, written
+//! again.
 use super::{chain_arguments, hex_of, number_and_bytes, Form};
 use crate::changes::Changes;
 use crate::faults::{push, push_ipv6_fault};
@@ -26,7 +27,7 @@ impl Form for Rewrite6 {
         let (number, bytes) = number_and_bytes(arguments)?;
         let bytes = changes.asked_chain(number, bytes);
         let (headers, next, rest, fault) = Ipv6Extensions::from_slice_lax(IpNumber(number), &bytes);
-        // From 0 nothing is read but behind hop by hop options.
+        // From number 0, something is read only if there are hop-by-hop options.
         let panics = number == 0 && headers.hop_by_hop_options.is_none();
         let mut written = Vec::new();
         if !panics {

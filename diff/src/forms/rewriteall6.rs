@@ -1,5 +1,6 @@
-//! `rewriteall6 N HEX`: the IPv6 extension headers that begin the bytes in as few structs as hold them, written one
-//! after the other. The original has no such iterator: its struct parse is called again where a place was taken.
+//! `rewriteall6 N HEX`: the IPv6 extension headers at the start of the bytes, in the fewest structs that hold
+//! them, written one after another. The original has no such iterator: its struct parse is called again if a place
+//! was occupied.
 use super::{chain_arguments, hex_of, number_and_bytes, Form};
 use crate::chains::EXTENSIONS;
 use crate::changes::Changes;
@@ -53,7 +54,7 @@ impl Form for RewriteAll6 {
     }
 }
 
-/// The structs that hold a chain's headers, as they are written, and what is behind the last.
+/// Writes the structs that hold the headers of a chain. Returns what follows the last.
 struct Runs {
     count: usize,
     written: Vec<u8>,
@@ -68,7 +69,8 @@ fn all_runs(start: u8, bytes: &[u8]) -> Runs {
     loop {
         let offset = bytes.len() - rest.len();
         let (headers, next, behind, fault) = Ipv6Extensions::from_slice_lax(number, rest);
-        // From 0 the original's write panics where there are no hop by hop options: then nothing was read.
+        // From number 0 the original's `write` panics if there are no hop-by-hop options. In that case nothing was
+        // read.
         if !headers.is_empty() {
             headers
                 .write(&mut written, number)

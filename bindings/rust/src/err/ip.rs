@@ -1,19 +1,19 @@
-//! Errors of packets of either version.
+//! Errors of IP packets of either version.
 use super::{held, ip_auth, ipv6_exts, LenError};
 use core::fmt;
 
-/// A packet's first byte can't begin a base header of either version.
+/// The first byte of a packet isn't that of a valid IPv4 or IPv6 header.
 #[derive(Clone, Debug, PartialEq, Eq, Hash)]
 pub enum HeaderError {
     /// The version is neither 4 nor 6.
     UnsupportedIpVersion {
-        /// The version, the high half of byte 0.
+        /// The version, from the high 4 bits of byte 0.
         version_number: u8,
     },
-    /// The version is 4, and the internet header length is below 5, the length of a header without options in
-    /// units of 4 bytes (RFC 791, section 3.1).
+    /// The version is 4, and the internet header length is below 5, the length of a header without options in units of
+    /// 4 bytes (RFC 791, section 3.1).
     Ipv4HeaderLengthSmallerThanHeader {
-        /// The internet header length, the low half of byte 0.
+        /// The internet header length, from the low 4 bits of byte 0.
         ihl: u8,
     },
 }
@@ -35,14 +35,14 @@ impl fmt::Display for HeaderError {
 
 impl core::error::Error for HeaderError {}
 
-/// What is wrong in the bytes of a packet's headers.
+/// An error in the content of a packet's headers.
 #[derive(Clone, Debug, PartialEq, Eq, Hash)]
 pub enum HeadersError {
-    /// In the base header.
+    /// The error is in the IP header.
     Ip(HeaderError),
-    /// In an extension header behind IPv4.
+    /// The error is in an extension header of an IPv4 packet.
     Ipv4Ext(ip_auth::HeaderError),
-    /// In the extension headers behind IPv6.
+    /// The error is in the extension headers of an IPv6 packet.
     Ipv6Ext(ipv6_exts::HeaderError),
 }
 
@@ -52,12 +52,12 @@ held!(HeadersError {
     Ipv6Ext
 });
 
-/// Why no packet of either version begins a slice.
+/// An error of parsing an IP packet of either version.
 #[derive(Clone, Debug, PartialEq, Eq, Hash)]
 pub enum SliceError {
     /// There are fewer bytes than a header or the packet needs.
     Len(LenError),
-    /// The bytes of a header can't be one.
+    /// The content of a header is invalid.
     IpHeaders(HeadersError),
 }
 

@@ -2,11 +2,11 @@
 use super::{held, LenError};
 use core::fmt;
 
-/// What is wrong in the bytes of an authentication header.
+/// An error in the content of an authentication header.
 #[derive(Clone, Debug, PartialEq, Eq, Hash)]
 pub enum HeaderError {
-    /// The length field is 0. It counts units of 4 bytes after the first two, and the fixed part of the
-    /// header alone makes it 1 (RFC 4302, section 2.2).
+    /// The length field is 0. It is the length of the header in units of 4 bytes, minus 2, and at least 1 because of
+    /// the fixed fields (RFC 4302, section 2.2).
     ZeroPayloadLen,
 }
 
@@ -22,18 +22,17 @@ impl fmt::Display for HeaderError {
 
 impl core::error::Error for HeaderError {}
 
-/// Why no authentication header begins a slice.
+/// An error of parsing an authentication header.
 #[derive(Clone, Debug, PartialEq, Eq, Hash)]
 pub enum HeaderSliceError {
     /// There are fewer bytes than the header needs.
     Len(LenError),
-    /// The bytes can't be a header.
+    /// The content of the header is invalid.
     Content(HeaderError),
 }
 
 impl HeaderSliceError {
-    /// The same error, counted from `offset` bytes further to the front: only the offset of a length error grows,
-    /// as [`LenError::add_offset`] says.
+    /// Adds `offset` to the offset of a length error, with [`LenError::add_offset`]. Other errors are unchanged.
     pub fn add_slice_offset(self, offset: usize) -> HeaderSliceError {
         match self {
             HeaderSliceError::Len(e) => HeaderSliceError::Len(e.add_offset(offset)),

@@ -1,19 +1,19 @@
-//! Errors of IPv4 packets and of their base headers.
+//! Errors of IPv4 packets and IPv4 headers.
 use super::{held, ip_auth, LenError};
 use core::fmt;
 
-/// What is wrong in the bytes of an IPv4 base header.
+/// An error in the content of an IPv4 header.
 #[derive(Clone, Debug, PartialEq, Eq, Hash)]
 pub enum HeaderError {
     /// The version isn't 4.
     UnexpectedVersion {
-        /// The version, the high half of byte 0.
+        /// The version, from the high 4 bits of byte 0.
         version_number: u8,
     },
-    /// The internet header length is below 5, the length of a header without options in units of 4 bytes (RFC
-    /// 791, section 3.1).
+    /// The internet header length is below 5, the length of a header without options in units of 4 bytes (RFC 791,
+    /// section 3.1).
     HeaderLengthSmallerThanHeader {
-        /// The internet header length, the low half of byte 0.
+        /// The internet header length, from the low 4 bits of byte 0.
         ihl: u8,
     },
 }
@@ -36,25 +36,25 @@ impl fmt::Display for HeaderError {
 
 impl core::error::Error for HeaderError {}
 
-/// Why no IPv4 base header begins a slice.
+/// An error of parsing an IPv4 header.
 #[derive(Clone, Debug, PartialEq, Eq, Hash)]
 pub enum HeaderSliceError {
     /// There are fewer bytes than the header needs.
     Len(LenError),
-    /// The bytes can't be a header.
+    /// The content of the header is invalid.
     Content(HeaderError),
 }
 
 held!(HeaderSliceError { Len, Content });
 
-/// Why no IPv4 packet begins a slice.
+/// An error of parsing an IPv4 packet.
 #[derive(Clone, Debug, PartialEq, Eq, Hash)]
 pub enum SliceError {
     /// There are fewer bytes than a header or the packet needs.
     Len(LenError),
-    /// The bytes of the base header can't be one.
+    /// The content of the IPv4 header is invalid.
     Header(HeaderError),
-    /// The bytes of an authentication header can't be one.
+    /// The content of the authentication header is invalid.
     Exts(ip_auth::HeaderError),
 }
 

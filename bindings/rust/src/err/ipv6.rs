@@ -1,13 +1,13 @@
-//! Errors of IPv6 packets and of their base headers.
+//! Errors of IPv6 packets and IPv6 headers.
 use super::{held, ipv6_exts, LenError};
 use core::fmt;
 
-/// What is wrong in the bytes of an IPv6 base header.
+/// An error in the content of an IPv6 header.
 #[derive(Clone, Debug, PartialEq, Eq, Hash)]
 pub enum HeaderError {
     /// The version isn't 6.
     UnexpectedVersion {
-        /// The version, the high half of byte 0.
+        /// The version, from the high 4 bits of byte 0.
         version_number: u8,
     },
 }
@@ -27,25 +27,25 @@ impl fmt::Display for HeaderError {
 
 impl core::error::Error for HeaderError {}
 
-/// Why no IPv6 base header begins a slice.
+/// An error of parsing an IPv6 header.
 #[derive(Clone, Debug, PartialEq, Eq, Hash)]
 pub enum HeaderSliceError {
     /// There are fewer bytes than the header needs.
     Len(LenError),
-    /// The bytes can't be a header.
+    /// The content of the header is invalid.
     Content(HeaderError),
 }
 
 held!(HeaderSliceError { Len, Content });
 
-/// Why no IPv6 packet begins a slice.
+/// An error of parsing an IPv6 packet.
 #[derive(Clone, Debug, PartialEq, Eq, Hash)]
 pub enum SliceError {
     /// There are fewer bytes than a header or the packet needs.
     Len(LenError),
-    /// The bytes of the base header can't be one.
+    /// The content of the IPv6 header is invalid.
     Header(HeaderError),
-    /// The bytes of the extension headers can't be a chain.
+    /// The content of the extension headers is invalid.
     Exts(ipv6_exts::HeaderError),
 }
 

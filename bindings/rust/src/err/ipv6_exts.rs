@@ -1,14 +1,14 @@
-//! Errors of IPv6 extension headers and of chains of them.
+//! Errors of IPv6 extension headers and their chains.
 use super::{held, ip_auth, LenError};
 use core::fmt;
 
-/// What is wrong in the bytes of an IPv6 chain.
+/// An error in the content of IPv6 extension headers.
 #[derive(Clone, Debug, PartialEq, Eq, Hash)]
 pub enum HeaderError {
-    /// A header names hop by hop options as what follows it. They stand directly behind the IPv6 header or
-    /// nowhere (RFC 8200, section 4.1).
+    /// An extension header is followed by hop-by-hop options, which may only follow the IPv6 header directly (RFC 8200,
+    /// section 4.1).
     HopByHopNotAtStart,
-    /// The bytes of an authentication header can't be one.
+    /// The content of an authentication header is invalid.
     IpAuth(ip_auth::HeaderError),
 }
 
@@ -32,18 +32,17 @@ impl core::error::Error for HeaderError {
     }
 }
 
-/// Why an IPv6 chain doesn't go on, although a header is named.
+/// The error that ended an IPv6 chain, although its last number is that of an extension header.
 #[derive(Clone, Debug, PartialEq, Eq, Hash)]
 pub enum HeaderSliceError {
     /// There are fewer bytes than the header needs.
     Len(LenError),
-    /// The bytes can't be the header that is named.
+    /// The content of the header is invalid.
     Content(HeaderError),
 }
 
 impl HeaderSliceError {
-    /// The same error, counted from `offset` bytes further to the front: only the offset of a length error grows,
-    /// as [`LenError::add_offset`] says.
+    /// Adds `offset` to the offset of a length error, with [`LenError::add_offset`]. Other errors are unchanged.
     pub fn add_slice_offset(self, offset: usize) -> HeaderSliceError {
         match self {
             HeaderSliceError::Len(e) => HeaderSliceError::Len(e.add_offset(offset)),
@@ -51,7 +50,7 @@ impl HeaderSliceError {
         }
     }
 
-    /// The error of a length, if it is one.
+    /// Returns the length error, if it is one.
     pub fn len_error(&self) -> Option<&LenError> {
         match self {
             HeaderSliceError::Len(e) => Some(e),
@@ -59,7 +58,7 @@ impl HeaderSliceError {
         }
     }
 
-    /// What is wrong in the bytes, if it is that.
+    /// Returns the error in the content, if it is one.
     pub fn content(&self) -> Option<&HeaderError> {
         match self {
             HeaderSliceError::Len(_) => None,

@@ -1,7 +1,7 @@
-/// The header or packet at which a fault lies.
+/// The header or packet that an error is about.
 #[derive(Clone, Copy, Debug, PartialEq, Eq, Hash)]
 pub enum Layer {
-    /// An IP header, before its version is known.
+    /// An IP header whose version isn't known yet.
     IpHeader,
     /// An IPv4 header.
     Ipv4Header,
@@ -13,9 +13,9 @@ pub enum Layer {
     Ipv6Header,
     /// An IPv6 packet, with its payload.
     Ipv6Packet,
-    /// An IPv6 extension header of the common layout, whichever it is.
+    /// An IPv6 extension header in the uniform format (RFC 6564).
     Ipv6ExtHeader,
-    /// IPv6 hop by hop options.
+    /// IPv6 hop-by-hop options.
     Ipv6HopByHopHeader,
     /// IPv6 destination options.
     Ipv6DestOptionsHeader,
@@ -26,7 +26,7 @@ pub enum Layer {
 }
 
 impl Layer {
-    /// The variant's name.
+    /// Returns the name of the variant.
     pub const fn name(&self) -> &'static str {
         match self {
             Layer::IpHeader => "IpHeader",

@@ -2,24 +2,23 @@ use crate::err::Layer;
 use crate::LenSource;
 use core::fmt;
 
-/// There were fewer bytes than a header or packet needs.
+/// A header or packet needs more bytes than there are.
 #[derive(Clone, Debug, PartialEq, Eq, Hash)]
 pub struct LenError {
-    /// How many bytes are needed.
+    /// Number of bytes needed.
     pub required_len: usize,
-    /// Where the header or packet that needs them begins, in bytes from the start of what was handed in.
+    /// Offset of the header or packet that needs them, in bytes from the start of the input.
     pub layer_start_offset: usize,
-    /// What says `len`.
+    /// Where `len` comes from.
     pub len_source: LenSource,
     /// The header or packet that needs them.
     pub layer: Layer,
-    /// How many bytes there are.
+    /// Number of bytes available.
     pub len: usize,
 }
 
 impl LenError {
-    /// The same error, counted from `offset` bytes further to the front: only `layer_start_offset` grows. It is
-    /// `usize::MAX` where the sum doesn't fit.
+    /// Adds `offset` to `layer_start_offset`, which becomes `usize::MAX` if the sum doesn't fit.
     pub const fn add_offset(self, offset: usize) -> LenError {
         LenError {
             layer_start_offset: self.layer_start_offset.saturating_add(offset),

@@ -1,7 +1,7 @@
-//! What is wrong in bytes that begin no header, no chain or no packet.
+//! Errors of parsing headers, chains and packets.
 //!
-//! Each error has `Display` and `core::error::Error`, and one that holds another says what that says and has it as its
-//! source.
+//! Each error implements `Display` and `core::error::Error`. An error that wraps another displays the inner error's
+//! text and has it as its source.
 pub mod ip;
 pub mod ip_auth;
 pub mod ipv4;
@@ -15,7 +15,8 @@ pub use layer::Layer;
 pub use len_error::LenError;
 pub use value_too_big_error::ValueTooBigError;
 
-/// An error each variant of which holds another: it says what that says, and comes of it.
+/// Implements `Display` and `Error` for an error whose variants all wrap another error: its text is that of the inner
+/// error, which is also its source.
 macro_rules! held {
     ($error:ident { $($variant:ident),+ }) => {
         impl core::fmt::Display for $error {

@@ -1,11 +1,11 @@
 use core::fmt;
 
-/// A value is above the largest that its field can hold.
+/// A value is too large for its field.
 #[derive(Clone, Debug, PartialEq, Eq, Hash)]
 pub struct ValueTooBigError {
     /// The value.
     pub actual: u16,
-    /// The largest that is allowed.
+    /// The maximum value allowed.
     pub max_allowed: u16,
 }
 

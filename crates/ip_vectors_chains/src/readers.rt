@@ -352,7 +352,7 @@ fn longest_headers(rt: HostRuntime) {
     let mut authentication = raw;
     authentication[2] = 0;
     authentication[3] = 0;
-    let authentication = &authentication[..1028];
+    let authentication = front(&authentication, 1028);
     let layer = Layer::IpAuthHeader;
     let requests: &[usize] = &[12, 1016];
     let cases: [(Case<'_>, u16); 4] = [

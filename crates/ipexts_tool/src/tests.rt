@@ -539,14 +539,9 @@ fn answered_within(
     output.take()?;
     assert!(rt; answers > 0 || heap.free() == room);
     let ended = run(&heap, &mut lines.as_slice(), &mut output);
-    let Counter {
-        written,
-        writes,
-        flushes,
-        ..
-    } = output.output;
-    assert!(rt; writes >= answers && are_answers(&written, rows, writes));
-    assert_eq!(rt; flushes, 1);
+    let writes = output.output.writes;
+    assert!(rt; writes >= answers && are_answers(&output.output.written, rows, writes));
+    assert_eq!(rt; output.output.flushes, 1);
     match ended {
         Ok(()) => assert!(rt; writes as usize == rows.len()),
         Err(ToolError::Memory(_)) => assert!(rt; (writes as usize) < rows.len()),

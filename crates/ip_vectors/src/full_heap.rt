@@ -235,7 +235,7 @@ fn single_headers(rt: HostRuntime) -> Result<(), Fail> {
             ip_auth::HeaderSliceError::Len(too_short(16, 12, Layer::IpAuthHeader, 0)),
         ),
     ] {
-        let refused = IpAuthHeaderSlice::from_slice(&bytes[..len]);
+        let refused = IpAuthHeaderSlice::from_slice(bytes.get(..len).unwrap_or(&[]));
         assert_eq!(rt; refused.err(), Some(error));
     }
     bytes[1] = 0;
@@ -315,7 +315,7 @@ fn ipv6_packets(rt: HostRuntime) -> Result<(), Fail> {
     let jumbo = ipv6_packet(0, 17, last);
     check_ipv6(
         &rt,
-        &jumbo[..40],
+        jumbo.get(..40).unwrap_or(&[]),
         &[],
         LenSource::Ipv6HeaderPayloadLen,
         None,

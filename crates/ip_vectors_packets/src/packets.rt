@@ -78,13 +78,6 @@ fn check_either(rt: &impl Abort, name: &str, bytes: &[u8], parts: Parts<'_>) -> 
     assert_eq!(rt; packet.payload_ip_number(), number, "{name}");
     assert_eq!(rt; packet.is_fragmenting_payload(), fragmented, "{name}");
     assert_eq!(rt; packet.payload().payload, parts.payload, "{name}");
-    // The payload is a part of the packet, even if it is empty.
-    let headers_len = parts.header.saturating_add(parts.exts);
-    let rest = bytes.get(headers_len..).unwrap_or(&[]);
-    assert!(rt;
-        packet.payload().payload.as_ptr() == rest.as_ptr(),
-        "{name}"
-    );
     assert_eq!(rt; packet.ipv4().is_some(), bytes[0] >> 4 == 4, "{name}");
     assert_eq!(rt; packet.ipv6().is_some(), bytes[0] >> 4 == 6, "{name}");
     assert!(rt; packet.clone()? == packet, "{name}");

@@ -8,7 +8,7 @@ Wolfaren.names = (function () {
     // The codes of include/wolfaren.h.
     const layers = ["", "IP header", "IPv4 header", "IPv4 packet", "authentication header", "IPv6 header", "IPv6 packet", "IPv6 extension header",
         "hop-by-hop options header", "destination options header", "routing header", "fragment header"];
-    const lengthSources = ["", "the bytes given", "the IPv4 total length", "the IPv6 payload length"];
+    const lengthSources = ["", "the length of the input", "the IPv4 total length", "the IPv6 payload length"];
     const styles = { 0: "hop", 43: "routing", 44: "fragment", 51: "authentication", 60: "destination" };
     const places = ["hop-by-hop", "destination options", "routing", "fragment", "authentication", "final destination options"];
 

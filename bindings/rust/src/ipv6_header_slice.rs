@@ -29,7 +29,7 @@ impl<'a> Ipv6HeaderSlice<'a> {
             }
             (Some(SliceError::Header(e)), _) => Err(HeaderSliceError::Content(e)),
             (_, Some(base)) => Ok(Self::of_cut(base)),
-            (_, None) => unreachable!("where 40 bytes aren't there, that is told"),
+            (_, None) => unreachable!("fewer than 40 bytes are a length error"),
         }
     }
 

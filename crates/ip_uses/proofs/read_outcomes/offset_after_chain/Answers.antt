@@ -7,8 +7,7 @@ pub returns-in-Ok-clause-limits : goal.returns-in-Ok-clause-limits
 returns-in-Ok-clause-limits g c =
     let read = c.in-Ok.ensures.answer in
     let old = limits_of c.args.reader.now in
-    let offset = ap (λ l. l.layer_offset + l.read_len) read.taken.limits ∙ limits_behind-offset read.headers old in
-    (
+    let offset = ap (λ l. l.layer_offset + l.read_len) read.taken.limits ∙ limits_behind-offset read.headers old in (
       read.headers,
       read.chain,
       omega (arith, offset, c.layer_offset.ensures, c.read_len.ensures.value),

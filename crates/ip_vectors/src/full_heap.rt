@@ -1,18 +1,22 @@
 //! Calls that need no memory, on a heap without free memory.
 use crate::long_chains::SIX;
-use crate::memory::take_all;
+use crate::memory::{six_headers, take_all};
 use etherparse_ip::err::ipv6_exts::{HeaderError, HeaderSliceError};
 use etherparse_ip::err::{Layer, LenError, io, ip, ip_auth, ipv4, ipv6};
 use etherparse_ip::io::LimitedReader;
 use etherparse_ip::{
-    IpAuthHeader, IpAuthHeaderSlice, IpFragOffset, IpNumber, IpSlice, Ipv4Extensions,
-    Ipv4ExtensionsSlice, Ipv4Slice, Ipv6Extensions, Ipv6ExtensionsRuns, Ipv6ExtensionsSlice,
-    Ipv6FragmentHeader, Ipv6RawExtHeader, Ipv6RawExtHeaderSlice, Ipv6RoutingExtensions, Ipv6Slice,
-    LenSource,
+    IpAuthHeaderSlice, IpNumber, IpSlice, Ipv4Extensions, Ipv4ExtensionsSlice, Ipv4Slice,
+    Ipv6Extensions, Ipv6ExtensionsRuns, Ipv6ExtensionsSlice, Ipv6RawExtHeader,
+    Ipv6RawExtHeaderSlice, Ipv6Slice, LenSource,
 };
 use linked_list_allocator::LocalHeap;
 use std::process::Abort;
 use std::test::Fail;
+
+/// Returns the first bytes, or all if there are fewer.
+fn front(bytes: &[u8], len: usize) -> &[u8] {
+    bytes.get(..len).unwrap_or(bytes)
+}
 
 /// Returns a length error with the slice as its source.
 fn too_short(required_len: usize, len: usize, layer: Layer, offset: usize) -> LenError {
@@ -185,16 +189,7 @@ fn links_and_runs(rt: HostRuntime) -> Result<(), Fail> {
     let heap = LocalHeap::new(rt.alloc(), 128)?;
     let mut out: Vec<u8, &LocalHeap> = Vec::with_capacity(&heap, 52)?;
     let _blocks = take_all(&rt, rt.alloc(), &heap)?;
-    let mut exts = Ipv6Extensions {
-        hop_by_hop_options: Some(Ipv6RawExtHeader::default()),
-        destination_options: Some(Ipv6RawExtHeader::default()),
-        routing: Some(Ipv6RoutingExtensions {
-            routing: Ipv6RawExtHeader::default(),
-            final_destination_options: Some(Ipv6RawExtHeader::default()),
-        }),
-        fragment: Some(Ipv6FragmentHeader::new(IpNumber(0), IpFragOffset::try_new(0)?, false, 0)),
-        auth: Some(IpAuthHeader::new(IpNumber(0), 0, 0, &[])?),
-    };
+    let mut exts = six_headers()?;
     assert_eq!(rt; exts.set_next_headers(IpNumber(17)), IpNumber(0));
     assert!(rt; matches!(exts.next_header(IpNumber(0)), Ok(IpNumber(17))));
     assert!(rt; exts.write(&mut out, IpNumber(0)).is_ok());
@@ -224,39 +219,36 @@ fn single_headers(rt: HostRuntime) -> Result<(), Fail> {
     let heap = LocalHeap::new(rt.alloc(), 64)?;
     let _blocks = take_all(&rt, rt.alloc(), &heap)?;
     let mut bytes = [0; 2048];
-    bytes[1] = 2;
-    for (len, error) in [
-        (
-            11usize,
-            ip_auth::HeaderSliceError::Len(too_short(12, 11, Layer::IpAuthHeader, 0)),
-        ),
-        (
-            12,
-            ip_auth::HeaderSliceError::Len(too_short(16, 12, Layer::IpAuthHeader, 0)),
-        ),
+    for (len, payload_len, required_len) in [
+        (11usize, 0, 12usize),
+        (12, 2, 16),
+        (1027, 255, 1028),
     ] {
-        let refused = IpAuthHeaderSlice::from_slice(bytes.get(..len).unwrap_or(&[]));
-        assert_eq!(rt; refused.err(), Some(error));
+        bytes[1] = payload_len;
+        let refused = IpAuthHeaderSlice::from_slice(front(&bytes, len)).err();
+        let error = too_short(required_len, len, Layer::IpAuthHeader, 0);
+        assert_eq!(rt; refused, Some(ip_auth::HeaderSliceError::Len(error)));
     }
-    bytes[1] = 0;
-    let zero = ip_auth::HeaderSliceError::Content(ip_auth::HeaderError::ZeroPayloadLen);
-    assert_eq!(rt;
-        IpAuthHeaderSlice::from_slice(&bytes[..12]).err(),
-        Some(zero)
-    );
-    bytes[1] = 255;
-    let raw = Ipv6RawExtHeaderSlice::from_slice(&bytes);
-    assert!(rt; matches!(raw, Ok(header) if header.payload().len() == 2046));
     let auth = IpAuthHeaderSlice::from_slice(&bytes);
     assert!(rt; matches!(auth, Ok(header) if header.raw_icv().len() == 1016));
-    let raw = Ipv6RawExtHeaderSlice::from_slice(&bytes[..2047]);
+    let raw = Ipv6RawExtHeaderSlice::from_slice(&bytes);
+    assert!(rt; matches!(raw, Ok(header) if header.payload().len() == 2046));
+    let refused = Ipv6RawExtHeaderSlice::from_slice(front(&bytes, 2047)).err();
     assert_eq!(rt;
-        raw.err(),
+        refused,
         Some(too_short(2048, 2047, Layer::Ipv6ExtHeader, 0))
     );
-    let auth = IpAuthHeaderSlice::from_slice(&bytes[..1027]);
-    let error = ip_auth::HeaderSliceError::Len(too_short(1028, 1027, Layer::IpAuthHeader, 0));
-    assert_eq!(rt; auth.err(), Some(error));
+    bytes[1] = 0;
+    let refused = IpAuthHeaderSlice::from_slice(front(&bytes, 12)).err();
+    let zero = ip_auth::HeaderSliceError::Content(ip_auth::HeaderError::ZeroPayloadLen);
+    assert_eq!(rt; refused, Some(zero));
+    Ok(())
+}
+
+#[test]
+fn limited_reads(rt: HostRuntime) -> Result<(), Fail> {
+    let heap = LocalHeap::new(rt.alloc(), 64)?;
+    let _blocks = take_all(&rt, rt.alloc(), &heap)?;
     for (limit, required_len, read_len) in [(7usize, 8, 2), (1, 2, 0)] {
         let options: &[u8] = &[17, 0, 0, 0, 0, 0, 0, 0];
         let source = LenSource::Ipv6HeaderPayloadLen;
@@ -315,7 +307,7 @@ fn ipv6_packets(rt: HostRuntime) -> Result<(), Fail> {
     let jumbo = ipv6_packet(0, 17, last);
     check_ipv6(
         &rt,
-        jumbo.get(..40).unwrap_or(&[]),
+        front(&jumbo, 40),
         &[],
         LenSource::Ipv6HeaderPayloadLen,
         None,
@@ -363,7 +355,7 @@ fn ipv4_packets_and_first_bytes(rt: HostRuntime) -> Result<(), Fail> {
     ];
     let mut error = too_short(20, 19, Layer::Ipv4Packet, 0);
     error.len_source = LenSource::Ipv4HeaderTotalLen;
-    let refused = Ipv4Slice::from_slice(&bytes[..20]).err();
+    let refused = Ipv4Slice::from_slice(front(&bytes, 20)).err();
     assert_eq!(rt; refused, Some(ipv4::SliceError::Len(error)));
     bytes[3] = 22;
     match Ipv4Slice::from_slice(&bytes) {

@@ -94,7 +94,7 @@ type Row<'a> = (&'a str, Item, u16, &'a [u8], Outcome);
 /// Writes into a vector of three bytes with `room` for more, without free memory and then with it.
 fn check_room(rt: &impl Abort, alloc: Global, room: u16, row: &Row<'_>) -> Result<(), Fail> {
     let (name, item, needed, bytes, outcome) = row;
-    let heap = LocalHeap::new(alloc, 1 << 13)?;
+    let heap = LocalHeap::new(alloc, 512)?;
     let mut out: Vec<u8, &LocalHeap> = Vec::with_capacity(&heap, usize::from(room) + 3)?;
     let mut expected: Vec<u8> = Vec::from_slice(alloc, &[1, 2, 3])?;
     out.extend_from_slice(&[1, 2, 3])?;
@@ -130,26 +130,17 @@ fn check(rt: &impl Abort, alloc: Global, rows: &[Row<'_>]) -> Result<(), Fail> {
 
 #[test]
 fn headers_are_written_into_the_room_they_need(rt: HostRuntime) -> Result<(), Fail> {
-    let mut bytes = [0u8; 2048];
-    for (place, byte) in bytes.iter_mut().enumerate() {
-        *byte = (place % 251) as u8;
-    }
-    let raw = Ipv6RawExtHeader::new_raw(IpNumber(17), &bytes[2..])?;
-    bytes[0] = 17;
-    bytes[1] = 255;
-    let raw_bytes = bytes;
-    for (place, byte) in [17, 255, 0, 0, 0, 0, 0, 1, 0, 0, 0, 2].iter().enumerate() {
-        bytes[place] = *byte;
-    }
-    let icv = &bytes[12..1028];
-    let chain = Ipv4Extensions {
-        auth: Some(IpAuthHeader::new(IpNumber(17), 1, 2, icv)?),
-    };
-    let auth = IpAuthHeader::new(IpNumber(17), 1, 2, icv)?;
+    let raw_bytes = [17, 1, 1, 2, 3, 4, 5, 6, 7, 8, 9, 10, 11, 12, 13, 14];
+    let raw = Ipv6RawExtHeader::new_raw(IpNumber(17), &raw_bytes[2..])?;
     let fragment = Ipv6FragmentHeader::new(IpNumber(17), IpFragOffset::try_new(1)?, true, 3);
+    let auth_bytes = [17, 2, 0, 0, 0, 0, 0, 1, 0, 0, 0, 2, 9, 8, 7, 6];
+    let auth = IpAuthHeader::new(IpNumber(17), 1, 2, &[9, 8, 7, 6])?;
+    let chain = Ipv4Extensions {
+        auth: Some(auth.clone()?),
+    };
     let done = Outcome::Written;
     let rows: [Row<'_>; 5] = [
-        ("raw", Item::Raw(raw), 2048, &raw_bytes, done),
+        ("raw", Item::Raw(raw), 16, &raw_bytes, done),
         (
             "fragment",
             Item::Fragment(fragment),
@@ -160,19 +151,13 @@ fn headers_are_written_into_the_room_they_need(rt: HostRuntime) -> Result<(), Fa
         (
             "authentication",
             Item::Authentication(auth),
-            1028,
-            &bytes[..1028],
+            16,
+            &auth_bytes,
             done,
         ),
+        ("IPv4", Item::Ipv4Chain(chain, 51), 16, &auth_bytes, done),
         (
-            "IPv4",
-            Item::Ipv4Chain(chain, 51),
-            1028,
-            &bytes[..1028],
-            done,
-        ),
-        (
-            "no IPv4 header",
+            "none of IPv4",
             Item::Ipv4Chain(Ipv4Extensions::default(), 51),
             0,
             &[],
@@ -188,43 +173,38 @@ fn raw(next: u8) -> Ipv6RawExtHeader {
     header
 }
 
+fn fragment(next: u8) -> Result<Ipv6FragmentHeader, Fail> {
+    Ok(Ipv6FragmentHeader::new(IpNumber(next), IpFragOffset::try_new(0)?, false, 0))
+}
+
+/// The smallest header in each of the six places, not linked yet.
+pub(crate) fn six_headers() -> Result<Ipv6Extensions, Fail> {
+    Ok(Ipv6Extensions {
+        hop_by_hop_options: Some(raw(0)),
+        destination_options: Some(raw(0)),
+        routing: Some(Ipv6RoutingExtensions {
+            routing: raw(0),
+            final_destination_options: Some(raw(0)),
+        }),
+        fragment: Some(fragment(0)?),
+        auth: Some(IpAuthHeader::new(IpNumber(0), 0, 0, &[])?),
+    })
+}
+
 #[test]
 fn six_places_are_written_into_the_room_they_need(rt: HostRuntime) -> Result<(), Fail> {
-    let offset = IpFragOffset::try_new(0)?;
-    let six = Ipv6Extensions {
-        hop_by_hop_options: Some(raw(60)),
-        destination_options: Some(raw(43)),
-        routing: Some(Ipv6RoutingExtensions {
-            routing: raw(44),
-            final_destination_options: Some(raw(17)),
-        }),
-        fragment: Some(Ipv6FragmentHeader::new(IpNumber(51), offset, false, 0)),
-        auth: Some(IpAuthHeader::new(IpNumber(60), 0, 0, &[])?),
-    };
-    let offset = IpFragOffset::try_new(0)?;
+    let mut six = six_headers()?;
+    six.set_next_headers(IpNumber(17));
     let mut unreached = Ipv6Extensions::default();
-    unreached.fragment = Some(Ipv6FragmentHeader::new(IpNumber(60), offset, false, 0));
+    unreached.fragment = Some(fragment(60)?);
     unreached.destination_options = Some(raw(17));
-    let offset = IpFragOffset::try_new(0)?;
     let mut late = Ipv6Extensions::default();
     late.hop_by_hop_options = Some(raw(17));
-    late.fragment = Some(Ipv6FragmentHeader::new(IpNumber(0), offset, false, 0));
+    late.fragment = Some(fragment(0)?);
     let none = Ipv6Extensions::default();
     let rows: [Row<'_>; 4] = [
-        (
-            "six places",
-            Item::Ipv6Chain(six, 0),
-            52,
-            &SIX,
-            Outcome::Written,
-        ),
-        (
-            "no header",
-            Item::Ipv6Chain(none, 0),
-            0,
-            &[],
-            Outcome::Written,
-        ),
+        ("six", Item::Ipv6Chain(six, 0), 52, &SIX, Outcome::Written),
+        ("none", Item::Ipv6Chain(none, 0), 0, &[], Outcome::Written),
         (
             "a fragment header that nothing names",
             Item::Ipv6Chain(unreached, 60),

@@ -20,7 +20,7 @@ pub record Parts : Type 0 where
 
 -- Bytes s start with an IPv4 packet of these parts (RFC 791, section 3.1). Joined, the parts are the first total
 -- length bytes of s, and the headers are the longest chain of at most one authentication header after the base
--- header.
+-- header. `stated` excludes a truncated packet, whose parts joined are all of s.
 pub record IsIpv4Packet (s : List ℕ) (p : Parts) : Type 0 where
   pub base : IsIpv4Header p.base
   pub stated : total_len p.base ≤ length s

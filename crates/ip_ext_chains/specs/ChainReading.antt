@@ -62,7 +62,7 @@ module _ {T : Type 0} (bytes_left : T → Option (List ℕ)) (is_steady has_fail
     pub kept : has_failed new ≡ has_failed old
     pub none : c ≡ [] → new ≡ old
 
-  -- they were read within the limit, each in a layer of its own
+  -- They were read within the limit, each in a layer of its own. `left_over` says that the limit allowed these bytes.
   pub record AreTakenInLayers (old new : LimitedReader T) (c : List ExtHeader) : Type 0 where
     pub left_over : left (limits_of new) + length (bytes_of c) ≡ left (limits_of old)
     pub limits : limits_of new ≡ limits_behind c (limits_of old)

@@ -9,7 +9,8 @@ use Rattle.ip_ext_chains.specs.ExtsWalk.{walk_answer}
 use Rattle.ip_ext_chains.specs.declared.ipv6_exts.Ipv6Extensions.{Ipv6Extensions}
 use Rattle.ip_base.specs.declared.err.ipv6_exts.exts_walk_error.ExtsWalkError.{ExtsWalkError}
 
--- The walk from n over v leads on, and `new` is `old` followed by the bytes of the chain that encodes v.
+-- The walk from n over v leads on, and `new` is `old` followed by the bytes of the chain that encodes v. `answer`
+-- follows from `spelling`, and saves callers that proof.
 pub record IsWritten (v : Ipv6Extensions) (n : ℕ) (old new : List ℕ) : Type 0 where
   pub chain : List ExtHeader
   pub spelling : IsSpelling (placed_fields v) n chain
@@ -17,7 +18,7 @@ pub record IsWritten (v : Ipv6Extensions) (n : ℕ) (old new : List ℕ) : Type 
   pub appended : new ≡ old ++ bytes_of chain
 
 -- The walk from n over v has the error e: `new` is `old` followed by the bytes of the headers that v reaches, and v
--- is parsed from no bytes.
+-- is parsed from no bytes. `unread` follows from `answer`, and saves callers that proof.
 pub record IsWalkFault (v : Ipv6Extensions) (n : ℕ) (old new : List ℕ) (e : ExtsWalkError) : Type 0 where
   pub answer : IsWalkAnswer (placed_fields v) n (walk_answer (Err e))
   pub appended : new ≡ old ++ bytes_of answer.reach

@@ -8,7 +8,7 @@ use Rattle.ip_spec.specs.Chain.{ExtHeader}
 use Rattle.ip_spec.specs.Places.{Place, routing, final_destination, places, number_in, HeaderFields, raw_header, fragment_header, auth_header, fields_of}
 use Rattle.ip_spec.specs.Walk.{PlacedFields}
 
--- h is the header of number n with fields x, with its reserved bits zero
+-- h is the header of number n with fields x, with its reserved bits zero. `cleared` makes it the only one.
 pub record IsEncoded (n : ℕ) (x : HeaderFields) (h : ExtHeader) : Type 0 where
   pub number : h.number ≡ n
   pub header : IsHeader n h.bytes

@@ -23,7 +23,7 @@ pub record IsAnswer {X F : Type 0} (value_of : List ExtHeader → X) (faults : L
   pub fault : f ≡ fault_behind faults c n s
 
 -- Bytes s parse from number n with nothing left: the longest chain under the demand Q is all of them and leads to m,
--- and its value meets V.
+-- and its value meets V. `bytes` is needed since a list may have numbers that are no bytes.
 pub record IsRead (Q V : List ExtHeader → Type 0) (n m : ℕ) (s : List ℕ) : Type 0 where
   pub bytes : AreBytes s
   pub chain : List ExtHeader

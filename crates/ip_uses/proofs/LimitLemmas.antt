@@ -1,5 +1,5 @@
 -- Where a limit is after the headers of a chain.
-use Rattle.ip_spec.proofs.Common.{◌≡◌, ℕ, ◌+◌, List, [], ◌∷◌, ◌++◌, length, refl, ap, ◌∙◌, arith, length-append, ExtHeader, bytes_of}
+use Rattle.ip_spec.proofs.Common.{◌≡◌, ◌+◌, List, [], ◌∷◌, ◌++◌, length, refl, ap, ◌∙◌, arith, length-append, ExtHeader, bytes_of}
 use Rattle.ip_base.specs.Limits.{Limits, started, advanced}
 use Rattle.ip_ext_chains.specs.ChainReading.{layer_of, limits_behind}
 

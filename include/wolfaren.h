@@ -130,15 +130,15 @@ struct wolfaren_chain {
  * are in fact from the middle of a payload. To avoid this, walk the chain with wolfaren_next_header, read each fragment
  * header with wolfaren_fragment_fields, and stop there.
  */
-void wolfaren_cut_chain(uint8_t first, const uint8_t *bytes, size_t len, struct wolfaren_header *headers, size_t room,
+void wolfaren_parse_chain(uint8_t first, const uint8_t *bytes, size_t len, struct wolfaren_header *headers, size_t room,
                         struct wolfaren_chain *chain);
 
 /*
  * Parses the IPv4 extension header at the start of the `len` bytes: at most one authentication header. `first` is the
- * protocol field of the IPv4 header. Fills in `chain` and `headers` as wolfaren_cut_chain does. What follows the header
+ * protocol field of the IPv4 header. Fills in `chain` and `headers` as wolfaren_parse_chain does. What follows the header
  * isn't examined. `chain->fragmented` is 0: for IPv4, the IP header says whether the payload is a fragment.
  */
-void wolfaren_cut_ipv4_chain(uint8_t first, const uint8_t *bytes, size_t len, struct wolfaren_header *headers,
+void wolfaren_parse_ipv4_chain(uint8_t first, const uint8_t *bytes, size_t len, struct wolfaren_header *headers,
                              size_t room, struct wolfaren_chain *chain);
 
 /*
@@ -184,19 +184,19 @@ struct wolfaren_packet {
  * (IPv6) says. An IPv6 packet with payload length 0 extends to the end of the bytes, as a jumbogram does (RFC 2675).
  * The packet and its extension headers must be complete.
  *
- * On success, returns true, fills in `packet`, and stores the headers' positions in `headers` as wolfaren_cut_chain
+ * On success, returns true, fills in `packet`, and stores the headers' positions in `headers` as wolfaren_parse_chain
  * does, but with offsets from the start of the packet; `fault` is left unchanged. On error, returns false and stores
  * the error in `fault`; `packet` and `headers` are left unchanged. `fault->offset` is set for WOLFAREN_TOO_SHORT.
  */
-bool wolfaren_cut_packet(const uint8_t *bytes, size_t len, struct wolfaren_header *headers, size_t room,
+bool wolfaren_parse_packet(const uint8_t *bytes, size_t len, struct wolfaren_header *headers, size_t room,
                          struct wolfaren_packet *packet, struct wolfaren_fault *fault);
 
 /*
- * Parses an IP packet like wolfaren_cut_packet, but accepts an IPv6 packet that is truncated, as in a capture. If there
+ * Parses an IP packet like wolfaren_parse_packet, but accepts an IPv6 packet that is truncated, as in a capture. If there
  * are fewer bytes than its payload length states, the packet extends to the end of the bytes and `packet->len_source`
  * is WOLFAREN_SLICE. Its extension headers must still be complete. An IPv4 packet must be complete.
  */
-bool wolfaren_cut_packet_lax(const uint8_t *bytes, size_t len, struct wolfaren_header *headers, size_t room,
+bool wolfaren_parse_packet_lax(const uint8_t *bytes, size_t len, struct wolfaren_header *headers, size_t room,
                              struct wolfaren_packet *packet, struct wolfaren_fault *fault);
 
 /* The payload of a packet. The fields mean the same as in struct wolfaren_packet. */
@@ -212,7 +212,7 @@ struct wolfaren_payload {
 
 /*
  * Finds the payload of the IP packet at the start of the `len` bytes. Accepts and rejects the same packets as
- * wolfaren_cut_packet, and checks each extension header, but neither counts the headers nor reports their positions.
+ * wolfaren_parse_packet, and checks each extension header, but neither counts the headers nor reports their positions.
  * That makes it faster, and the call to use in a filter.
  *
  * On success, returns true and fills in `payload`; `fault` is left unchanged. On error, returns false and stores the
@@ -221,7 +221,7 @@ struct wolfaren_payload {
 bool wolfaren_find_payload(const uint8_t *bytes, size_t len, struct wolfaren_payload *payload,
                            struct wolfaren_fault *fault);
 
-/* Finds a payload like wolfaren_find_payload, and accepts the same truncated packets as wolfaren_cut_packet_lax. */
+/* Finds a payload like wolfaren_find_payload, and accepts the same truncated packets as wolfaren_parse_packet_lax. */
 bool wolfaren_find_payload_lax(const uint8_t *bytes, size_t len, struct wolfaren_payload *payload,
                                struct wolfaren_fault *fault);
 

@@ -84,7 +84,7 @@ const CHAINS: [Chain; 5] = [
         let header = [AUTH, 1, 0, 0, 0, 0, 0, 0, 0, 0, 0, 0];
         header.repeat(len / 12)
     }),
-    ("options, the last cut short", DEST_OPTIONS, |len| {
+    ("options, the last truncated", DEST_OPTIONS, |len| {
         let mut bytes = same(DEST_OPTIONS, [0; 7], len, DEST_OPTIONS);
         bytes.pop();
         bytes
@@ -95,8 +95,8 @@ const CHAINS: [Chain; 5] = [
 ];
 
 /// Makes headers of 8 bytes with one number. The next header field of the last is `last`.
-fn same(number: u8, behind: [u8; 7], len: usize, last: u8) -> Vec<u8> {
-    let mut bytes = [&[number][..], &behind].concat().repeat(len / 8);
+fn same(number: u8, after: [u8; 7], len: usize, last: u8) -> Vec<u8> {
+    let mut bytes = [&[number][..], &after].concat().repeat(len / 8);
     if let Some(next) = bytes.iter_mut().rev().nth(7) {
         *next = last;
     }

@@ -254,7 +254,7 @@ fn long(next: u8, field: u8, len: usize) -> Vec<u8> {
 }
 
 /// Makes four headers, the last of which names `number`, followed by these bytes.
-pub fn behind_four(number: u8, bytes: &[u8]) -> Chain {
+pub fn after_four(number: u8, bytes: &[u8]) -> Chain {
     let mut random = Random::new(9);
     let mut all = chain_of(
         &[HOP_BY_HOP, DEST_OPTIONS, ROUTE, FRAGMENT],
@@ -280,7 +280,7 @@ pub fn single(number: u8, len: usize) -> Chain {
 }
 
 /// Makes a truncated header of 7 bytes with this number.
-pub fn cut_short(number: u8) -> Chain {
+pub fn truncated(number: u8) -> Chain {
     Chain::new(number, vec![UDP; 7])
 }
 
@@ -346,21 +346,21 @@ pub struct Refused {
     /// The version that the packet states.
     pub version: u8,
     /// Whether it is rejected because there are fewer bytes than it states. A lax parse accepts it.
-    pub cut_short: bool,
+    pub truncated: bool,
     pub ours: Vec<u8>,
     pub original: Vec<u8>,
 }
 
 /// Packets that are rejected for their IP header, their length, or an extension header.
 pub fn refused_packets() -> Vec<Refused> {
-    let cut_auth = [UDP; 11];
+    let truncated_auth = [UDP; 11];
     let zero_auth = [UDP, 0, 0, 0, 0, 0, 0, 0, 0, 0, 0, 0];
-    let late = behind_four(HOP_BY_HOP, &[UDP; 8]).ours;
-    let cut = behind_four(FRAGMENT, &[UDP; 7]).ours;
+    let late = after_four(HOP_BY_HOP, &[UDP; 8]).ours;
+    let truncated = after_four(FRAGMENT, &[UDP; 7]).ours;
     let refused = |why, bytes: Vec<u8>| Refused {
         why,
         version: bytes[0] >> 4,
-        cut_short: false,
+        truncated: false,
         original: fragment_bits::packet(&bytes, to_the_original),
         ours: bytes,
     };
@@ -380,49 +380,49 @@ pub fn refused_packets() -> Vec<Refused> {
         refused("IPv4 header length 4", small_ihl),
         refused("IPv4 total length of 19 bytes", small_total),
         refused("IPv4 total length beyond the bytes", short_ipv4),
-        refused("IPv4, authentication header cut", ipv4(AUTH, &cut_auth)),
+        refused("IPv4, authentication header truncated", ipv4(AUTH, &truncated_auth)),
         refused(
             "IPv4, authentication header of length 0",
             ipv4(AUTH, &zero_auth),
         ),
         refused("IPv6 header of 39 bytes", ipv6(UDP, &[])[..39].to_vec()),
         Refused {
-            cut_short: true,
+            truncated: true,
             ..refused("IPv6 payload length beyond the bytes", short_ipv6)
         },
-        refused("IPv6, fragment header cut", ipv6(FRAGMENT, &[UDP; 7])),
-        refused("IPv6, authentication header cut", ipv6(AUTH, &cut_auth)),
+        refused("IPv6, fragment header truncated", ipv6(FRAGMENT, &[UDP; 7])),
+        refused("IPv6, authentication header truncated", ipv6(AUTH, &truncated_auth)),
         refused(
             "IPv6, authentication header of length 0",
             ipv6(AUTH, &zero_auth),
         ),
         refused(
-            "IPv6, fragment header cut behind four",
-            ipv6(HOP_BY_HOP, &cut),
+            "IPv6, fragment header truncated after four",
+            ipv6(HOP_BY_HOP, &truncated),
         ),
         refused(
-            "IPv6, late hop by hop options behind four",
+            "IPv6, late hop by hop options after four",
             ipv6(HOP_BY_HOP, &late),
         ),
     ]
 }
 
 /// Makes an IPv4 packet without options.
-fn ipv4(number: u8, behind: &[u8]) -> Vec<u8> {
+fn ipv4(number: u8, after: &[u8]) -> Vec<u8> {
     let mut bytes = vec![0x45, 0];
-    bytes.extend((20 + behind.len() as u16).to_be_bytes());
+    bytes.extend((20 + after.len() as u16).to_be_bytes());
     bytes.extend([0, 0, 0, 0, 64, number]);
     bytes.extend([0; 10]);
-    bytes.extend(behind);
+    bytes.extend(after);
     bytes
 }
 
 /// Makes an IPv6 packet.
-fn ipv6(number: u8, behind: &[u8]) -> Vec<u8> {
+fn ipv6(number: u8, after: &[u8]) -> Vec<u8> {
     let mut bytes = vec![0x60, 0, 0, 0];
-    bytes.extend((behind.len() as u16).to_be_bytes());
+    bytes.extend((after.len() as u16).to_be_bytes());
     bytes.extend([number, 64]);
     bytes.extend([0; 32]);
-    bytes.extend(behind);
+    bytes.extend(after);
     bytes
 }

@@ -115,7 +115,7 @@ fn headers() -> Vec<Row> {
             "reads",
             &format!("{name}, refused"),
             7,
-            &inputs::cut_short(number),
+            &inputs::truncated(number),
             ours,
             original,
         ));
@@ -129,7 +129,7 @@ fn ipv4() -> Vec<Row> {
     [
         ("a header of 64 bytes", header),
         ("no header", Chain::new(17, vec![17; 20])),
-        ("a header cut short", inputs::cut_short(inputs::AUTH)),
+        ("a truncated header", inputs::truncated(inputs::AUTH)),
     ]
     .map(|(what, chain)| Row {
         group: "reads",

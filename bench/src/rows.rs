@@ -327,16 +327,16 @@ pub fn refusals(form: &Form) -> Vec<Row> {
             Chain::new(number, bytes.clone())
         };
         let at_first = if number == inputs::HOP_BY_HOP {
-            "behind one"
+            "after one"
         } else {
             "at the first"
         };
         for (place, chain) in [
             (at_first, first),
-            ("behind four", inputs::behind_four(number, &bytes)),
+            ("after four", inputs::after_four(number, &bytes)),
         ] {
-            let group = if place == "behind four" {
-                "refusals behind four headers"
+            let group = if place == "after four" {
+                "refusals after four headers"
             } else {
                 "refusals at the first header"
             };
@@ -353,8 +353,8 @@ fn borrowed_and_owned() -> Vec<Row> {
     let raw = [8, 64, 2048].map(|len| (len, inputs::single(inputs::ROUTE, len)));
     let auth = [12, 64, 1028].map(|len| (len, inputs::single(inputs::AUTH, len)));
     let fragment = [(8, inputs::single(inputs::FRAGMENT, 8))];
-    let raw_refused = [(7, inputs::cut_short(inputs::ROUTE))];
-    let auth_refused = [(7, inputs::cut_short(inputs::AUTH))];
+    let raw_refused = [(7, inputs::truncated(inputs::ROUTE))];
+    let auth_refused = [(7, inputs::truncated(inputs::AUTH))];
     let mut rows = Vec::new();
     let mut add = |group, name: &str, inputs: &[(usize, Chain)], ours, original| {
         rows.extend(
@@ -549,8 +549,8 @@ fn ipv4() -> Vec<Row> {
     });
     let none = ("no header".to_owned(), Chain::new(17, vec![17; 20]));
     let refused = (
-        "a header cut short".to_owned(),
-        inputs::cut_short(inputs::AUTH),
+        "a truncated header".to_owned(),
+        inputs::truncated(inputs::AUTH),
     );
     let all = [&headers[..], &[none, refused]].concat();
     let calls: [(&str, &str, ChainCall, ChainCall); 5] = [

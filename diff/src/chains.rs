@@ -19,8 +19,8 @@ pub fn asked(random: &mut Random, longest: usize) -> Vec<Asked> {
         0..30 => vec![linked(random, 12)],
         30..50 => vec![flipped(random)],
         50..65 => vec![lied(random)],
-        65..66 => cut_everywhere(random),
-        66..76 => vec![cut_once(random)],
+        65..66 => truncated_everywhere(random),
+        66..76 => vec![truncated_once(random)],
         76..77 => every_number(random),
         77..78 => vec![long(random, longest)],
         78..88 => vec![noise(random)],
@@ -90,8 +90,8 @@ fn linked(random: &mut Random, most: usize) -> Asked {
         let next = *numbers.get(index + 1).unwrap_or(&last);
         bytes.extend(header(*number, next, random));
     }
-    let behind = random.below(20);
-    bytes.extend(random.bytes(behind));
+    let after = random.below(20);
+    bytes.extend(random.bytes(after));
     (*numbers.first().unwrap_or(&last), capped(bytes, 3000))
 }
 
@@ -134,7 +134,7 @@ fn lied(random: &mut Random) -> Asked {
 }
 
 /// Truncates a chain at every byte.
-fn cut_everywhere(random: &mut Random) -> Vec<Asked> {
+fn truncated_everywhere(random: &mut Random) -> Vec<Asked> {
     let (number, bytes) = linked(random, 6);
     let bytes = capped(bytes, 160);
     (0..=bytes.len())
@@ -142,7 +142,7 @@ fn cut_everywhere(random: &mut Random) -> Vec<Asked> {
         .collect()
 }
 
-fn cut_once(random: &mut Random) -> Asked {
+fn truncated_once(random: &mut Random) -> Asked {
     let (number, mut bytes) = linked(random, 8);
     let end = random.below(bytes.len() + 1);
     bytes.truncate(end);
@@ -154,12 +154,12 @@ fn every_number(random: &mut Random) -> Vec<Asked> {
     let before = extension(random);
     let (_, bytes) = linked(random, 3);
     let start = (0..=255).map(|number| (number, bytes.clone()));
-    let behind = (0..=255).map(|number| {
+    let after = (0..=255).map(|number| {
         let mut all = header(before, number, &mut Random::new(u64::from(number)));
         all.extend(&bytes);
         (before, all)
     });
-    start.chain(behind.clone()).collect()
+    start.chain(after.clone()).collect()
 }
 
 /// Makes as many bytes as fit into a line, or nearly.

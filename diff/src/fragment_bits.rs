@@ -69,11 +69,11 @@ pub fn packet(bytes: &[u8], bits: Bits) -> Vec<u8> {
         return bytes.to_vec();
     }
     let stated = usize::from(u16::from_be_bytes([bytes[4], bytes[5]]));
-    let behind = bytes.len() - IPV6_LEN;
+    let after = bytes.len() - IPV6_LEN;
     let payload = if stated == 0 {
-        behind
+        after
     } else {
-        stated.min(behind)
+        stated.min(after)
     };
     let (base, rest) = bytes.split_at(IPV6_LEN);
     let (inside, trailer) = rest.split_at(payload);
@@ -111,12 +111,12 @@ mod tests {
 
     /// Options of 16 bytes, a fragment header, an authentication header of 12 bytes, a fragment header, and more
     /// bytes.
-    fn asked(behind: &[u8]) -> Vec<u8> {
+    fn asked(after: &[u8]) -> Vec<u8> {
         let options = [44, 1, 0, 1, 0, 0, 0, 0, 0, 0, 0, 1, 0, 0, 0, 0];
         let fragment = [51, 9, 0, 1, 0, 0, 0, 1];
         let auth = [44, 1, 0, 1, 0, 0, 0, 0, 0, 0, 0, 1];
         let last = [44, 9, 7, 8, 0, 0, 0, 1];
-        [&options[..], &fragment, &auth, &last, behind].concat()
+        [&options[..], &fragment, &auth, &last, after].concat()
     }
 
     #[test]
@@ -131,8 +131,8 @@ mod tests {
         let late = [
             HOP_BY_HOP, 0, 0, 0, 0, 0, 0, 0, FRAGMENT, 0, 0, 0, 0, 0, 0, 0,
         ];
-        let behind = [&late[..], &[17, 0, 0, 1, 0, 0, 0, 0]].concat();
-        assert_eq!(chain(DEST_OPTIONS, &behind, to_the_original), behind);
+        let after = [&late[..], &[17, 0, 0, 1, 0, 0, 0, 0]].concat();
+        assert_eq!(chain(DEST_OPTIONS, &after, to_the_original), after);
     }
 
     /// An IPv6 packet with a fragment header that has only the M flag, and a payload length.
@@ -159,7 +159,7 @@ mod tests {
     }
 
     #[test]
-    fn a_header_that_is_cut_short_is_left_as_it_is() {
+    fn a_truncated_header_is_left_as_it_is() {
         assert_eq!(
             header(&[0, 0, 0, 1, 0, 0, 0], to_the_original),
             [0, 0, 0, 1, 0, 0, 0]

@@ -12,8 +12,8 @@ pub fn asked(random: &mut Random, longest: usize) -> Vec<Vec<u8>> {
         40..52 => vec![lied(random)],
         52..64 => vec![with_length_off(random)],
         64..74 => vec![flipped(random)],
-        74..84 => vec![cut_once(random)],
-        84..85 => cut_everywhere(random),
+        74..84 => vec![truncated_once(random)],
+        84..85 => truncated_everywhere(random),
         85..86 => every_first_byte(random),
         86..87 => every_number(random),
         87..92 => vec![without_a_length(random)],
@@ -36,7 +36,7 @@ fn packet(random: &mut Random) -> Vec<u8> {
 }
 
 /// Makes what follows an IP header, a chain of headers and a payload, and the number of its first part.
-fn behind(random: &mut Random) -> (u8, Vec<u8>) {
+fn after(random: &mut Random) -> (u8, Vec<u8>) {
     let asked = chains::asked(random, 2000);
     let at = random.below(asked.len());
     let (number, mut bytes) = asked.into_iter().nth(at).unwrap_or((17, Vec::new()));
@@ -51,7 +51,7 @@ fn ipv4(random: &mut Random) -> Vec<u8> {
     } else {
         5 + random.below(11)
     };
-    let (mut number, behind) = behind(random);
+    let (mut number, after) = after(random);
     if random.percent(50) {
         number = chains::AUTH;
     }
@@ -63,33 +63,33 @@ fn ipv4(random: &mut Random) -> Vec<u8> {
         6 => random.below(0x2000) as u16,
         _ => random.next() as u16,
     };
-    let len = 4 * words + behind.len();
+    let len = 4 * words + after.len();
     let mut bytes = vec![0x40 | words as u8, random.next() as u8];
     bytes.extend((len as u16).to_be_bytes());
     bytes.extend(random.bytes(2));
     bytes.extend(fragment.to_be_bytes());
     bytes.extend([random.next() as u8, number]);
     bytes.extend(random.bytes(4 * words - 10));
-    bytes.extend(behind);
+    bytes.extend(after);
     trailed(bytes, random)
 }
 
 fn ipv6(random: &mut Random) -> Vec<u8> {
-    let (number, behind) = behind(random);
+    let (number, after) = after(random);
     let mut bytes = vec![0x60 | random.below(16) as u8];
     bytes.extend(random.bytes(3));
-    bytes.extend((behind.len() as u16).to_be_bytes());
+    bytes.extend((after.len() as u16).to_be_bytes());
     bytes.extend([number, random.next() as u8]);
     bytes.extend(random.bytes(32));
-    bytes.extend(behind);
+    bytes.extend(after);
     trailed(bytes, random)
 }
 
 /// Appends some bytes to a packet now and then, as a link layer does.
 fn trailed(mut packet: Vec<u8>, random: &mut Random) -> Vec<u8> {
     if random.percent(40) {
-        let behind = random.below(50);
-        packet.extend(random.bytes(behind));
+        let after = random.below(50);
+        packet.extend(random.bytes(after));
     }
     packet
 }
@@ -153,7 +153,7 @@ fn flipped(random: &mut Random) -> Vec<u8> {
     bytes
 }
 
-fn cut_once(random: &mut Random) -> Vec<u8> {
+fn truncated_once(random: &mut Random) -> Vec<u8> {
     let mut bytes = packet(random);
     let end = if random.percent(40) {
         random.below(70)
@@ -165,7 +165,7 @@ fn cut_once(random: &mut Random) -> Vec<u8> {
 }
 
 /// Truncates a packet at every byte.
-fn cut_everywhere(random: &mut Random) -> Vec<Vec<u8>> {
+fn truncated_everywhere(random: &mut Random) -> Vec<Vec<u8>> {
     let mut bytes = packet(random);
     bytes.truncate(200);
     (0..=bytes.len()).map(|end| bytes[..end].to_vec()).collect()

@@ -37,9 +37,9 @@ fn parts<'a>(header: &Ipv6ExtensionSlice<'a>) -> (&'a [u8], Option<&'a [u8]>) {
 }
 
 fn with_header(asked: &Asked<'_>, sum: u64, header: &Ipv6ExtensionSlice<'_>) -> u64 {
-    let (bytes, behind) = parts(header);
+    let (bytes, after) = parts(header);
     let sum = with_bytes(with(sum, of_header(header)), asked.ours(bytes));
-    behind.map_or(sum, |behind| with_bytes(sum, asked.ours(behind)))
+    after.map_or(sum, |after| with_bytes(sum, asked.ours(after)))
 }
 
 /// Adds the headers of a chain. The original's iterator reads past the end of a chain that a lax parse ended at an

@@ -49,7 +49,7 @@ mod tests {
     use etherparse::LenSource;
 
     /// Makes an IPv6 packet with a payload length, and a fragment header of which this many bytes are there.
-    fn cut_short(payload_length: u8, len: usize) -> Vec<u8> {
+    fn truncated(payload_length: u8, len: usize) -> Vec<u8> {
         let mut packet = vec![0x60, 0, 0, 0, 0, payload_length, 44];
         packet.resize(40 + len, 0);
         packet
@@ -69,7 +69,7 @@ mod tests {
     fn the_slice_is_the_source_where_payload_length_is_0_before_some_bytes() {
         let (slice, payload) = (LenSource::Slice, LenSource::Ipv6HeaderPayloadLen);
         for (payload_length, len, source) in [(0, 7, slice), (7, 7, payload), (0, 0, payload)] {
-            let told = sources(&cut_short(payload_length, len));
+            let told = sources(&truncated(payload_length, len));
             assert_eq!(told, (source, source), "{payload_length} {len}");
         }
     }

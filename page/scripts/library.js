@@ -29,7 +29,7 @@ Wolfaren.library = (function () {
         new Uint8Array(memory.buffer, start, bytes.length).set(bytes);
         const answer = start + Math.ceil(bytes.length / 8) * 8;
         words = answer + ANSWER;
-        return { answer, cuts: words + TEXT, most };
+        return { answer, headers: words + TEXT, most };
     }
     function size(view, at) {
         return Number(view.getBigUint64(at, true));
@@ -42,44 +42,44 @@ Wolfaren.library = (function () {
         const len = Number(calls.wolfaren_fault_text(BigInt(fault), BigInt(words), BigInt(TEXT)));
         return new TextDecoder().decode(new Uint8Array(memory.buffer, words, len));
     }
-    function cutsAt(view, at, count) {
-        const cuts = [];
+    function headersAt(view, at, count) {
+        const headers = [];
         for (let i = 0; i < count; i++) {
-            const cut = at + i * HEADER;
-            cuts.push({ offset: size(view, cut), len: size(view, cut + 8), number: view.getUint8(cut + 16), next: view.getUint8(cut + 17) });
+            const header = at + i * HEADER;
+            headers.push({ offset: size(view, header), len: size(view, header + 8), number: view.getUint8(header + 16), next: view.getUint8(header + 17) });
         }
-        markStructs(cuts, at);
-        return cuts;
+        markStructs(headers, at);
+        return headers;
     }
     // Numbers the structs of six places that hold the headers, from 1. Each holds at least one header.
-    function markStructs(cuts, at) {
-        for (let from = 0, struct = 1; from < cuts.length; struct++) {
-            const len = Number(calls.wolfaren_run_len(BigInt(at + from * HEADER), BigInt(cuts.length - from)));
-            cuts.slice(from, from + len).forEach((it) => (it.struct = struct));
+    function markStructs(headers, at) {
+        for (let from = 0, struct = 1; from < headers.length; struct++) {
+            const len = Number(calls.wolfaren_run_len(BigInt(at + from * HEADER), BigInt(headers.length - from)));
+            headers.slice(from, from + len).forEach((it) => (it.struct = struct));
             from += len;
         }
     }
     // Parses the longest chain that starts with the number `first`. `version` is 6 or 4.
-    function cutChain(version, first, bytes) {
+    function parseChain(version, first, bytes) {
         const at = place(bytes);
-        const call = version === 6 ? calls.wolfaren_cut_chain : calls.wolfaren_cut_ipv4_chain;
-        call(first, BigInt(start), BigInt(bytes.length), BigInt(at.cuts), BigInt(at.most), BigInt(at.answer));
+        const call = version === 6 ? calls.wolfaren_parse_chain : calls.wolfaren_parse_ipv4_chain;
+        call(first, BigInt(start), BigInt(bytes.length), BigInt(at.headers), BigInt(at.most), BigInt(at.answer));
         const view = new DataView(memory.buffer);
-        return { cuts: cutsAt(view, at.cuts, size(view, at.answer)), len: size(view, at.answer + 8), fault: faultAt(view, at.answer + 16),
+        return { headers: headersAt(view, at.headers, size(view, at.answer)), len: size(view, at.answer + 8), fault: faultAt(view, at.answer + 16),
             next: view.getUint32(at.answer + 48, true), fragmented: view.getUint32(at.answer + 52, true) === 1 };
     }
     // Parses a packet, which must be complete. Returns its parts or its error.
-    function cutPacket(bytes) {
+    function parsePacket(bytes) {
         const at = place(bytes), answer = at.answer, fault = answer + PACKET, given = fault + FAULT;
         const view = new DataView(memory.buffer);
         // This call takes the bytes as a struct of pointer and length. WebAssembly passes structs in memory.
         view.setBigUint64(given, BigInt(start), true);
         view.setBigUint64(given + 8, BigInt(bytes.length), true);
-        const found = calls.wolfaren_cut_packet(BigInt(given), BigInt(at.cuts), BigInt(at.most), BigInt(answer), BigInt(fault));
+        const found = calls.wolfaren_parse_packet(BigInt(given), BigInt(at.headers), BigInt(at.most), BigInt(answer), BigInt(fault));
         if (!found) return { fault: faultAt(view, fault) };
-        return { baseLen: size(view, answer), cuts: cutsAt(view, at.cuts, size(view, answer + 8)), payloadOffset: size(view, answer + 16),
+        return { baseLen: size(view, answer), headers: headersAt(view, at.headers, size(view, answer + 8)), payloadOffset: size(view, answer + 16),
             payloadLen: size(view, answer + 24), fault: null, version: view.getUint16(answer + 32, true),
             number: view.getUint16(answer + 34, true), fragmented: view.getUint16(answer + 36, true) === 1, lenSource: view.getUint16(answer + 38, true) };
     }
-    return { isSupported, load, cutChain, cutPacket };
+    return { isSupported, load, parseChain, parsePacket };
 })();

@@ -16,7 +16,7 @@ Wolfaren.page = (function () {
     function show() {
         const { kind, first, bytes, unread } = state();
         at("first-label").hidden = !kind.startsWith("chain");
-        model = Wolfaren.cut.cut(kind, first, bytes);
+        model = Wolfaren.parse.parse(kind, first, bytes);
         addPlaces(model);
         drawn = Wolfaren.picture.draw(model, at("places").checked);
         at("picture").replaceChildren(drawn);
@@ -29,7 +29,7 @@ Wolfaren.page = (function () {
     }
     function addPlaces(model) {
         const headers = model.parts.filter((it) => it.isHeader);
-        Wolfaren.cut.placesOf(model.cuts).forEach((it, i) => Object.assign(headers[i], it));
+        Wolfaren.parse.placesOf(model.headers).forEach((it, i) => Object.assign(headers[i], it));
         headers.forEach((it, i) => (it.isStructStart = i === 0 || headers[i - 1].struct !== it.struct));
     }
     function hexOf(bytes) {

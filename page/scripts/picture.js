@@ -161,10 +161,10 @@ Wolfaren.picture = (function () {
         for (let i = 0; i < 32; i++) svg.append(make("text", { x: 1 + (i + 0.5) * BIT, y: 12, class: "bit" }, i % 10));
         for (const it of rows) {
             const x = 1 + it.x * BIT, y = 18 + it.row * TALL, wide = it.bits * BIT, few = Math.floor(wide / 6.4);
-            const cut = (text) => (text.length > few ? text.slice(0, Math.max(few - 1, 1)) + "…" : text);
+            const shorten = (text) => (text.length > few ? text.slice(0, Math.max(few - 1, 1)) + "…" : text);
             const box = make("g", {});
             box.append(make("title", {}, `${it.name}: ${it.value}`), make("rect", { x, y, width: wide, height: TALL, class: "box" }));
-            box.append(make("text", { x: x + wide / 2, y: y + 12, class: "field" }, cut(it.name)), make("text", { x: x + wide / 2, y: y + 26, class: "value" }, cut(String(it.value))));
+            box.append(make("text", { x: x + wide / 2, y: y + 12, class: "field" }, shorten(it.name)), make("text", { x: x + wide / 2, y: y + 26, class: "value" }, shorten(String(it.value))));
             svg.append(box);
         }
         return svg;

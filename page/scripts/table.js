@@ -38,7 +38,7 @@ Wolfaren.table = (function () {
     }
     function sentence(model) {
         if (model.bytes.length === 0 && !model.fault) return "No bytes yet.";
-        const headers = model.cuts.map((it) => `${Wolfaren.names.ofNumber(it.number)} (${it.len})`);
+        const headers = model.headers.map((it) => `${Wolfaren.names.ofNumber(it.number)} (${it.len})`);
         const what = { packet: "A packet", ethernet: "A frame", chain6: `An IPv6 chain from ${model.first}`, chain4: `An IPv4 chain from ${model.first}` }[model.kind];
         const version = model.parts.find((it) => it.version);
         const start = `${what} of ${Wolfaren.names.bytes(model.bytes.length)}${version ? `: IPv${version.version}` : ""}`;

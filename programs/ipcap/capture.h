@@ -9,7 +9,7 @@
 #include <sys/types.h>
 #include <time.h>
 
-#include "cut.h"
+#include "parts.h"
 
 struct capture {
     pcap_t *handle;
@@ -46,7 +46,7 @@ enum reading { READ_PACKET, READ_END, READ_FAILED };
 enum reading read_packet(struct capture *capture, struct packet *packet);
 
 /* Parses the IP packet of a captured packet. If memory runs out, reports it and returns false. */
-bool cut_captured(struct cut *cut, const struct packet *packet);
+bool parse_captured(struct parts *parts, const struct packet *packet);
 
 void close_capture(struct capture *capture);
 

@@ -10,17 +10,17 @@ enum { VERSION_AT = 0, COUNT_AT = 1, NUMBERS_AT = 2, NEXT_AT = NUMBERS_AT + KEY_
 
 _Static_assert((int)KEY_USED <= (int)KEY_BYTES, "the key of a chain must fit");
 
-static const char *const end_words[] = {[CHAIN_WHOLE] = "", [CHAIN_FAULTY] = " fault", [CHAIN_CUT] = " cut"};
+static const char *const end_words[] = {[CHAIN_WHOLE] = "", [CHAIN_FAULTY] = " fault", [CHAIN_TRUNCATED] = " truncated"};
 
-bool chain_key(const struct cut *cut, struct key *key)
+bool chain_key(const struct parts *parts, struct key *key)
 {
-    if (cut->count > KEY_HEADERS) return false;
+    if (parts->count > KEY_HEADERS) return false;
     memset(key, 0, sizeof *key);
-    key->bytes[VERSION_AT] = cut->version;
-    key->bytes[COUNT_AT] = (uint8_t)cut->count;
-    for (size_t i = 0; i < cut->count; i++) key->bytes[NUMBERS_AT + i] = cut->headers[i].number;
-    key->bytes[NEXT_AT] = cut->number;
-    key->bytes[END_AT] = (uint8_t)cut->end;
+    key->bytes[VERSION_AT] = parts->version;
+    key->bytes[COUNT_AT] = (uint8_t)parts->count;
+    for (size_t i = 0; i < parts->count; i++) key->bytes[NUMBERS_AT + i] = parts->headers[i].number;
+    key->bytes[NEXT_AT] = parts->number;
+    key->bytes[END_AT] = (uint8_t)parts->end;
     return true;
 }
 
@@ -62,7 +62,7 @@ bool read_chain(const char *text, struct key *key)
     if (key->bytes[VERSION_AT] != 4 && key->bytes[VERSION_AT] != 6) return false;
     if (!take_words(&text, " ") || !read_numbers(&text, key)) return false;
     if (!take_words(&text, "-> ") || !read_byte_number(&text, &key->bytes[NEXT_AT])) return false;
-    for (uint8_t end = CHAIN_WHOLE; end <= CHAIN_CUT; end++) {
+    for (uint8_t end = CHAIN_WHOLE; end <= CHAIN_TRUNCATED; end++) {
         if (strcmp(text, end_words[end]) != 0) continue;
         key->bytes[END_AT] = end;
         return true;

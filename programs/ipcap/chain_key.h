@@ -6,7 +6,7 @@
 #include <stddef.h>
 #include <stdint.h>
 
-#include "cut.h"
+#include "parts.h"
 #include "table.h"
 
 /* A chain with more headers has no key. */
@@ -16,11 +16,11 @@ enum { KEY_HEADERS = 64 };
 enum { CHAIN_TEXT_ROOM = 320 };
 
 /* Writes the key of a packet's chain. Returns false if the chain has more headers than fit into a key. */
-bool chain_key(const struct cut *cut, struct key *key);
+bool chain_key(const struct parts *parts, struct key *key);
 
 /*
  * Formats the chain of a key as text: the IP version, the numbers of the headers, an arrow, the number after the chain,
- * and ` fault` or ` cut` if the chain is incomplete. Example: `IPv6 0,43 -> 44 fault`.
+ * and ` fault` or ` truncated` if the chain is incomplete. Example: `IPv6 0,43 -> 44 fault`.
  */
 void write_chain(const struct key *key, char text[CHAIN_TEXT_ROOM]);
 

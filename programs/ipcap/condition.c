@@ -60,8 +60,8 @@ static bool refuse_word(const struct words *words, const char *wanted)
 static bool take_number(struct words *words, uint8_t *number)
 {
     size_t len;
-    const char *word = next_word(words, &len), *behind = word;
-    if (!read_byte_number(&behind, number) || behind != word + len) return refuse_word(words, "a number from 0 to 255");
+    const char *word = next_word(words, &len), *after = word;
+    if (!read_byte_number(&after, number) || after != word + len) return refuse_word(words, "a number from 0 to 255");
     skip_word(words);
     return true;
 }
@@ -86,7 +86,7 @@ static bool take_test(struct words *words, struct test *test)
 bool read_condition(struct condition *condition, int count, char *const *arguments, int *taken)
 {
     struct words words = {arguments, count, 0, NULL};
-    bool is_behind_or = false;
+    bool is_after_or = false;
     condition->count = 0;
     do {
         if (condition->count == CONDITION_TESTS) {
@@ -94,44 +94,44 @@ bool read_condition(struct condition *condition, int count, char *const *argumen
             return false;
         }
         struct test *test = &condition->tests[condition->count++];
-        *test = (struct test){.is_behind_or = is_behind_or};
+        *test = (struct test){.is_after_or = is_after_or};
         if (!take_test(&words, test)) return false;
-        is_behind_or = take_word(&words, "or");
-    } while (is_behind_or || take_word(&words, "and"));
+        is_after_or = take_word(&words, "or");
+    } while (is_after_or || take_word(&words, "and"));
     if (words.rest) return refuse_word(&words, "`and`, `or` or the end");
     *taken = words.index;
     return true;
 }
 
-static bool has_header(const struct cut *cut, uint8_t number)
+static bool has_header(const struct parts *parts, uint8_t number)
 {
-    for (size_t i = 0; i < cut->count; i++)
-        if (cut->headers[i].number == number) return true;
+    for (size_t i = 0; i < parts->count; i++)
+        if (parts->headers[i].number == number) return true;
     return false;
 }
 
-static bool does_hold(const struct test *test, const struct cut *cut)
+static bool does_hold(const struct test *test, const struct parts *parts)
 {
-    if (!cut) return false;
+    if (!parts) return false;
     switch (test->kind) {
-        case TEST_FRAGMENT: return cut->is_fragment;
-        case TEST_HEADER: return has_header(cut, test->number);
-        case TEST_LEADS_TO: return cut->version != 0 && cut->number == test->number;
-        case TEST_FAULT: return has_fault(cut);
+        case TEST_FRAGMENT: return parts->is_fragment;
+        case TEST_HEADER: return has_header(parts, test->number);
+        case TEST_LEADS_TO: return parts->version != 0 && parts->number == test->number;
+        case TEST_FAULT: return has_fault(parts);
     }
     return false;
 }
 
-bool does_meet(const struct condition *condition, const struct cut *cut)
+bool does_meet(const struct condition *condition, const struct parts *parts)
 {
     bool is_met = true;
     for (size_t i = 0; i < condition->count; i++) {
         const struct test *test = &condition->tests[i];
-        if (test->is_behind_or) {
+        if (test->is_after_or) {
             if (is_met) return true;
             is_met = true;
         }
-        if (does_hold(test, cut) == test->is_negated) is_met = false;
+        if (does_hold(test, parts) == test->is_negated) is_met = false;
     }
     return is_met;
 }

@@ -6,7 +6,7 @@
 #include <stddef.h>
 #include <stdint.h>
 
-#include "cut.h"
+#include "parts.h"
 
 enum test_kind { TEST_FRAGMENT, TEST_HEADER, TEST_LEADS_TO, TEST_FAULT };
 
@@ -14,7 +14,7 @@ struct test {
     enum test_kind kind;
     uint8_t number;
     bool is_negated;
-    bool is_behind_or; /* follows `or`; otherwise the test follows `and` or is the first */
+    bool is_after_or; /* follows `or`; otherwise the test follows `and` or is the first */
 };
 
 enum { CONDITION_TESTS = 64 };
@@ -32,6 +32,6 @@ struct condition {
 bool read_condition(struct condition *condition, int count, char *const *arguments, int *taken);
 
 /* Whether a packet meets a condition. A null pointer stands for a packet that isn't IP: it passes no test. */
-bool does_meet(const struct condition *condition, const struct cut *cut);
+bool does_meet(const struct condition *condition, const struct parts *parts);
 
 #endif

@@ -23,36 +23,36 @@ uint64_t key_length(const struct key *key)
 void count_frame(struct counts *counts, bool is_short)
 {
     counts->packets++;
-    if (is_short) counts->cut++;
+    if (is_short) counts->truncated++;
 }
 
-static bool count_chain(struct counts *counts, const struct cut *cut)
+static bool count_chain(struct counts *counts, const struct parts *parts)
 {
     struct key key;
-    if (!chain_key(cut, &key))
+    if (!chain_key(parts, &key))
         counts->chains.other++;
     else if (add_to_table(&counts->chains, &key, 1) != ADDED)
         return false;
-    length_key(cut->chain_at_end - cut->base_len, &key);
+    length_key(parts->chain_at_end - parts->base_len, &key);
     if (add_to_table(&counts->chain_bytes, &key, 1) != ADDED) return false;
-    if (cut->end == CHAIN_WHOLE) counts->numbers[cut->number]++;
+    if (parts->end == CHAIN_WHOLE) counts->numbers[parts->number]++;
     return true;
 }
 
-bool count_packet(struct counts *counts, const struct cut *cut)
+bool count_packet(struct counts *counts, const struct parts *parts)
 {
-    if (has_fault(cut) && cut->fault.kind < FAULT_KINDS && cut->fault_layer < FAULT_LAYERS)
-        counts->faults[cut->fault.kind][cut->fault_layer]++;
-    if (cut->version == 0) {
+    if (has_fault(parts) && parts->fault.kind < FAULT_KINDS && parts->fault_layer < FAULT_LAYERS)
+        counts->faults[parts->fault.kind][parts->fault_layer]++;
+    if (parts->version == 0) {
         counts->unread++;
         return true;
     }
-    if (cut->version == 4)
+    if (parts->version == 4)
         counts->ipv4++;
     else
         counts->ipv6++;
-    if (cut->is_fragment) counts->fragments++;
-    return count_chain(counts, cut);
+    if (parts->is_fragment) counts->fragments++;
+    return count_chain(counts, parts);
 }
 
 static enum added add_table(struct table *total, const struct table *more)
@@ -77,7 +77,7 @@ enum added add_counts(struct counts *total, const struct counts *more)
     bool fits = add_count(&total->packets, more->packets) && add_count(&total->ipv4, more->ipv4)
         && add_count(&total->ipv6, more->ipv6) && add_count(&total->unread, more->unread)
         && add_count(&total->not_ip, more->not_ip) && add_count(&total->fragments, more->fragments)
-        && add_count(&total->cut, more->cut) && add_array(total->numbers, more->numbers, 256);
+        && add_count(&total->truncated, more->truncated) && add_array(total->numbers, more->numbers, 256);
     for (size_t i = 0; fits && i < FAULT_KINDS; i++) fits = add_array(total->faults[i], more->faults[i], FAULT_LAYERS);
     if (!fits) return ADDED_OVERFLOW;
     enum added added = add_table(&total->chains, &more->chains);
@@ -108,7 +108,7 @@ bool do_add_up(const struct counts *counts)
     uint64_t all = ip;
     if (!add_count(&all, counts->unread) || !add_count(&all, counts->not_ip)) return false;
     return all == counts->packets && chains == ip && lengths == ip && numbers <= ip && counts->fragments <= ip
-        && counts->cut <= counts->packets && has_chains(counts, 4, counts->ipv4)
+        && counts->truncated <= counts->packets && has_chains(counts, 4, counts->ipv4)
         && has_chains(counts, 6, counts->ipv6);
 }
 

@@ -5,7 +5,7 @@
 #include <stdbool.h>
 #include <stdint.h>
 
-#include "cut.h"
+#include "parts.h"
 #include "names.h"
 #include "table.h"
 
@@ -17,7 +17,7 @@ struct counts {
     uint64_t unread;    /* IP, but with an unreadable IP header */
     uint64_t not_ip;
     uint64_t fragments; /* the payload is a fragment */
-    uint64_t cut;       /* truncated by the snap length */
+    uint64_t truncated;   /* truncated by the snap length */
     struct table chains;
     struct table chain_bytes;                      /* by length of the chain in bytes */
     uint64_t numbers[256];                         /* by the number after the chain, for complete chains only */
@@ -28,7 +28,7 @@ struct counts {
 void count_frame(struct counts *counts, bool is_short);
 
 /* Counts everything about an IP packet except its frame. Returns false if memory runs out. */
-bool count_packet(struct counts *counts, const struct cut *cut);
+bool count_packet(struct counts *counts, const struct parts *parts);
 
 /* Adds the statistics `more` to `total`. */
 enum added add_counts(struct counts *total, const struct counts *more);

@@ -22,7 +22,7 @@ struct range {
 };
 
 struct drawing {
-    const struct cut *cut;
+    const struct parts *parts;
     bool in_color;
     size_t index;   /* of the range at the current position */
     bool is_named;  /* whether the name of that range has been written */
@@ -43,22 +43,22 @@ static const char *header_color(uint8_t number)
  * Stores one of the ranges of a packet: the IP header, each extension header, and the payload if the chain is complete.
  * Returns false if there is no range with this index.
  */
-static bool range_at(const struct cut *cut, size_t index, struct range *range)
+static bool range_at(const struct parts *parts, size_t index, struct range *range)
 {
-    if (cut->version == 0) return false;
+    if (parts->version == 0) return false;
     if (index == 0) {
-        *range = (struct range){0, cut->base_len, cut->version == 4 ? "IPv4" : "IPv6", "\033[1m"};
+        *range = (struct range){0, parts->base_len, parts->version == 4 ? "IPv4" : "IPv6", "\033[1m"};
         return true;
     }
-    if (index <= cut->count) {
-        const struct wolfaren_header *header = &cut->headers[index - 1];
+    if (index <= parts->count) {
+        const struct wolfaren_header *header = &parts->headers[index - 1];
         *range = (struct range){header->offset, header->offset + header->len, number_name(header->number),
                                 header_color(header->number)};
         return true;
     }
-    if (index > cut->count + 1 || cut->end != CHAIN_WHOLE || cut->chain_at_end == cut->packet_at_end) return false;
-    const char *name = cut->is_fragment ? "part of payload" : number_name(cut->number);
-    *range = (struct range){cut->chain_at_end, cut->packet_at_end, *name ? name : "payload", plain_color};
+    if (index > parts->count + 1 || parts->end != CHAIN_WHOLE || parts->chain_at_end == parts->packet_at_end) return false;
+    const char *name = parts->is_fragment ? "part of payload" : number_name(parts->number);
+    *range = (struct range){parts->chain_at_end, parts->packet_at_end, *name ? name : "payload", plain_color};
     return true;
 }
 
@@ -70,11 +70,11 @@ static void set_color(const struct drawing *drawing, const char *color)
 /* Advances to the range that contains a byte. Returns false if there is none. */
 static bool range_of(struct drawing *drawing, size_t at, struct range *range)
 {
-    while (range_at(drawing->cut, drawing->index, range) && range->end <= at) {
+    while (range_at(drawing->parts, drawing->index, range) && range->end <= at) {
         drawing->index++;
         drawing->is_named = false;
     }
-    return range_at(drawing->cut, drawing->index, range) && range->begin <= at;
+    return range_at(drawing->parts, drawing->index, range) && range->begin <= at;
 }
 
 /* Writes the bytes of a row. Takes a copy of `drawing`, so that the marks can start from the same state. */
@@ -88,7 +88,7 @@ static void write_bytes(struct drawing drawing, size_t row, size_t end)
         fputs(at > row ? " " : "  ", stdout);
         if (strcmp(next, color) != 0) set_color(&drawing, next);
         color = next;
-        printf("%02x", drawing.cut->bytes[at]);
+        printf("%02x", drawing.parts->bytes[at]);
     }
     if (strcmp(color, plain_color) != 0) set_color(&drawing, plain_color);
     putchar('\n');
@@ -152,29 +152,29 @@ static void write_caret(const struct drawing *drawing, size_t column, const char
 /* Writes the packet's error below the row in which it begins, and marks where the snap length truncated the chain. */
 static void write_fault(const struct drawing *drawing, size_t row)
 {
-    const struct cut *cut = drawing->cut;
+    const struct parts *parts = drawing->parts;
     char text[WOLFAREN_TEXT_ROOM];
-    if (has_fault(cut) && cut->fault_at >= row && cut->fault_at - row < ROW_BYTES) {
-        size_t len = wolfaren_fault_text(&cut->fault, text, sizeof text);
-        write_caret(drawing, cut->fault_at - row, len > 0 && len < sizeof text ? text : "fault");
+    if (has_fault(parts) && parts->fault_at >= row && parts->fault_at - row < ROW_BYTES) {
+        size_t len = wolfaren_fault_text(&parts->fault, text, sizeof text);
+        write_caret(drawing, parts->fault_at - row, len > 0 && len < sizeof text ? text : "fault");
     }
-    if (cut->end == CHAIN_CUT && cut->chain_at_end >= row && cut->chain_at_end - row < ROW_BYTES)
-        write_caret(drawing, cut->chain_at_end - row, "cut by the snap length");
+    if (parts->end == CHAIN_TRUNCATED && parts->chain_at_end >= row && parts->chain_at_end - row < ROW_BYTES)
+        write_caret(drawing, parts->chain_at_end - row, "truncated by the snap length");
 }
 
 /* Returns how many bytes are drawn: up to the end of the chain, and some more. */
-static size_t shown_length(const struct cut *cut)
+static size_t shown_length(const struct parts *parts)
 {
-    size_t end = cut->version == 0 ? UNREAD_BYTES : cut->chain_at_end / ROW_BYTES * ROW_BYTES + 2 * ROW_BYTES;
-    return end < cut->len ? end : cut->len;
+    size_t end = parts->version == 0 ? UNREAD_BYTES : parts->chain_at_end / ROW_BYTES * ROW_BYTES + 2 * ROW_BYTES;
+    return end < parts->len ? end : parts->len;
 }
 
-void draw_packet(const struct cut *cut, bool in_color)
+void draw_packet(const struct parts *parts, bool in_color)
 {
-    struct drawing drawing = {.cut = cut, .in_color = in_color};
-    size_t shown = shown_length(cut);
-    size_t last = has_fault(cut) ? cut->fault_at : 0;
-    if (cut->end == CHAIN_CUT) last = cut->chain_at_end;
+    struct drawing drawing = {.parts = parts, .in_color = in_color};
+    size_t shown = shown_length(parts);
+    size_t last = has_fault(parts) ? parts->fault_at : 0;
+    if (parts->end == CHAIN_TRUNCATED) last = parts->chain_at_end;
     for (size_t row = 0; row < shown || row <= last; row += ROW_BYTES) {
         size_t left = shown > row ? shown - row : 0;
         size_t end = row + (left < ROW_BYTES ? left : ROW_BYTES);
@@ -182,5 +182,5 @@ void draw_packet(const struct cut *cut, bool in_color)
         write_marks(&drawing, row, end);
         write_fault(&drawing, row);
     }
-    if (shown < cut->len) printf("      and %zu bytes more\n", cut->len - shown);
+    if (shown < parts->len) printf("      and %zu bytes more\n", parts->len - shown);
 }

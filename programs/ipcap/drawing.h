@@ -4,9 +4,9 @@
 
 #include <stdbool.h>
 
-#include "cut.h"
+#include "parts.h"
 
 /* Draws a packet on standard output, in colour if `in_color` is set. */
-void draw_packet(const struct cut *cut, bool in_color);
+void draw_packet(const struct parts *parts, bool in_color);
 
 #endif

@@ -80,21 +80,21 @@ static bool write_packet(const struct output *output, const struct capture *capt
 
 /* Writes a packet if it meets the condition. */
 static bool filter_packet(const struct request *request, const struct output *output, const struct capture *capture,
-                          const struct packet *packet, struct cut *cut)
+                          const struct packet *packet, struct parts *parts)
 {
-    if (packet->is_ip && !cut_captured(cut, packet)) return false;
-    return !does_meet(&request->condition, packet->is_ip ? cut : NULL) || write_packet(output, capture, packet);
+    if (packet->is_ip && !parse_captured(parts, packet)) return false;
+    return !does_meet(&request->condition, packet->is_ip ? parts : NULL) || write_packet(output, capture, packet);
 }
 
 static bool filter_packets(const struct request *request, const struct output *output, struct capture *capture)
 {
-    struct cut cut = {0};
+    struct parts parts = {0};
     struct packet packet;
     enum reading reading;
     bool is_written = true;
     while (is_written && (reading = read_packet(capture, &packet)) == READ_PACKET)
-        is_written = filter_packet(request, output, capture, &packet, &cut);
-    free_cut(&cut);
+        is_written = filter_packet(request, output, capture, &packet, &parts);
+    free_parts(&parts);
     errno = 0;
     if (is_written) is_written = flush_output(output);
     return is_written && reading == READ_END;

@@ -58,7 +58,7 @@ static bool is_tag(unsigned type)
 }
 
 /* Finds the IP packet of a frame with an EtherType. Skips any number of VLAN tags. */
-static bool find_behind_type(const struct typed_layer *layer, const uint8_t *frame, size_t len, size_t *offset)
+static bool find_after_type(const struct typed_layer *layer, const uint8_t *frame, size_t len, size_t *offset)
 {
     if (len < layer->len) return false;
     unsigned type = number_at(frame + layer->type_at);
@@ -81,7 +81,7 @@ static bool is_ip_family(uint32_t family)
  * Finds the IP packet of a BSD loopback frame. The address family is in the byte order of the capturing machine, which
  * isn't known, so both orders are tried. No value is an IP address family in both.
  */
-static bool find_behind_family(const uint8_t *frame, size_t len, size_t *offset)
+static bool find_after_family(const uint8_t *frame, size_t len, size_t *offset)
 {
     if (len < 4) return false;
     uint32_t big = (uint32_t)number_at(frame) << 16 | number_at(frame + 2);
@@ -93,8 +93,8 @@ static bool find_behind_family(const uint8_t *frame, size_t len, size_t *offset)
 bool find_ip(int link_layer, const uint8_t *frame, size_t len, size_t *offset)
 {
     const struct typed_layer *layer = typed_layer_of(link_layer);
-    if (layer) return find_behind_type(layer, frame, len, offset);
-    if (is_loopback(link_layer)) return find_behind_family(frame, len, offset);
+    if (layer) return find_after_type(layer, frame, len, offset);
+    if (is_loopback(link_layer)) return find_after_family(frame, len, offset);
     *offset = 0;
     return is_raw_ip(link_layer);
 }

@@ -102,7 +102,7 @@ void print_tables(struct counts *counts)
     write_line("IP with an unread base header", counts->unread);
     write_line("not IP", counts->not_ip);
     write_line("fragments", counts->fragments);
-    write_line("cut by the snap length", counts->cut);
+    write_line("truncated by the snap length", counts->truncated);
     puts("chains");
     write_chains(&counts->chains, write_line);
     puts("bytes of a chain");
@@ -138,7 +138,7 @@ void print_json(struct counts *counts)
     write_member("unread", counts->unread);
     write_member("not_ip", counts->not_ip);
     write_member("fragments", counts->fragments);
-    write_member("cut", counts->cut);
+    write_member("truncated", counts->truncated);
     begin_object("chains");
     write_chains(&counts->chains, write_member);
     end_object();

@@ -190,7 +190,7 @@ static bool read_fault_member(struct reading *reading, const char *name)
 }
 
 /* The members of the outer object: the counts and the tables. */
-static const char *const count_names[] = {"packets", "ipv4", "ipv6", "unread", "not_ip", "fragments", "cut"};
+static const char *const count_names[] = {"packets", "ipv4", "ipv6", "unread", "not_ip", "fragments", "truncated"};
 static const char *const table_names[] = {"chains", "chain_bytes", "final_numbers", "faults"};
 static const member_reader table_readers[] = {read_chain_member, read_length_member, read_number_member,
                                               read_fault_member};
@@ -209,7 +209,7 @@ static bool read_outer_member(struct reading *reading, const char *name)
 {
     struct counts *counts = reading->counts;
     uint64_t *places[COUNTS] = {&counts->packets, &counts->ipv4,      &counts->ipv6, &counts->unread,
-                                &counts->not_ip,  &counts->fragments, &counts->cut};
+                                &counts->not_ip,  &counts->fragments, &counts->truncated};
     for (unsigned i = 0; i < COUNTS; i++)
         if (strcmp(name, count_names[i]) == 0) return mark_done(reading, i) && read_count(reading->input, places[i]);
     for (unsigned i = 0; i < TABLES; i++)

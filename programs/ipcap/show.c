@@ -42,7 +42,7 @@ static bool read_color(const char *when, bool *in_color)
 }
 
 /* Writes the line above a packet. */
-static void print_title(const struct capture *capture, const struct packet *packet, const struct cut *cut)
+static void print_title(const struct capture *capture, const struct packet *packet, const struct parts *parts)
 {
     printf("packet %llu: ", (unsigned long long)capture->number);
     if (packet->is_short) printf("%u of ", packet->header.caplen);
@@ -54,23 +54,23 @@ static void print_title(const struct capture *capture, const struct packet *pack
     struct key key;
     char text[CHAIN_TEXT_ROOM];
     printf(", IP at %zu: ", packet->ip_offset);
-    if (cut->version == 0) {
+    if (parts->version == 0) {
         puts("unread base header");
-    } else if (chain_key(cut, &key)) {
+    } else if (chain_key(parts, &key)) {
         write_chain(&key, text);
         puts(text);
     } else {
-        printf("IPv%d %zu headers -> %d\n", cut->version, cut->count, cut->number);
+        printf("IPv%d %zu headers -> %d\n", parts->version, parts->count, parts->number);
     }
 }
 
-static bool show_packet(const struct capture *capture, const struct packet *packet, struct cut *cut, bool in_color)
+static bool show_packet(const struct capture *capture, const struct packet *packet, struct parts *parts, bool in_color)
 {
-    if (packet->is_ip && !cut_captured(cut, packet)) return false;
+    if (packet->is_ip && !parse_captured(parts, packet)) return false;
     errno = 0;
     if (capture->number > 1) putchar('\n');
-    print_title(capture, packet, cut);
-    if (packet->is_ip) draw_packet(cut, in_color);
+    print_title(capture, packet, parts);
+    if (packet->is_ip) draw_packet(parts, in_color);
     return capture->is_live ? finish_output() : !ferror(stdout) || finish_output();
 }
 
@@ -78,14 +78,14 @@ static bool show_capture(const char *path, bool in_color)
 {
     struct capture capture;
     struct packet packet;
-    struct cut cut = {0};
+    struct parts parts = {0};
     enum reading reading;
     bool is_shown = true;
     if (!open_capture(&capture, path)) return false;
     while (is_shown && (reading = read_packet(&capture, &packet)) == READ_PACKET)
-        is_shown = show_packet(&capture, &packet, &cut, in_color);
+        is_shown = show_packet(&capture, &packet, &parts, in_color);
     close_capture(&capture);
-    free_cut(&cut);
+    free_parts(&parts);
     return is_shown && finish_output() && reading == READ_END;
 }
 

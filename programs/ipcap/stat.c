@@ -27,21 +27,21 @@ static const char sum_usage[] =
     "  --version  print the version\n";
 
 /* Counts one packet. */
-static bool count_captured(struct counts *counts, struct cut *cut, const struct packet *packet)
+static bool count_captured(struct counts *counts, struct parts *parts, const struct packet *packet)
 {
     count_frame(counts, packet->is_short);
     if (!packet->is_ip) {
         counts->not_ip++;
         return true;
     }
-    if (!cut_captured(cut, packet)) return false;
-    if (count_packet(counts, cut)) return true;
+    if (!parse_captured(parts, packet)) return false;
+    if (count_packet(counts, parts)) return true;
     complain_of_memory();
     return false;
 }
 
 /* Counts the packets of a capture. If it can't be read to its end, the packets before that point are counted. */
-static bool count_capture(struct counts *counts, struct cut *cut, const char *path)
+static bool count_capture(struct counts *counts, struct parts *parts, const char *path)
 {
     struct capture capture;
     struct packet packet;
@@ -49,7 +49,7 @@ static bool count_capture(struct counts *counts, struct cut *cut, const char *pa
     bool is_counted = true;
     if (!open_capture(&capture, path)) return false;
     while (is_counted && (reading = read_packet(&capture, &packet)) == READ_PACKET)
-        is_counted = count_captured(counts, cut, &packet);
+        is_counted = count_captured(counts, parts, &packet);
     close_capture(&capture);
     return is_counted && reading == READ_END;
 }
@@ -69,14 +69,14 @@ static int finish_counts(struct counts *counts, bool json, bool is_done)
 int run_stat(int count, char **arguments)
 {
     struct counts counts = {0};
-    struct cut cut = {0};
+    struct parts parts = {0};
     bool json, is_done = true;
     int status = read_json_option(count, arguments, stat_usage, &json);
     if (status >= 0) return status;
-    if (optind == count) is_done = count_capture(&counts, &cut, NULL);
+    if (optind == count) is_done = count_capture(&counts, &parts, NULL);
     for (int i = optind; i < count; i++)
-        if (!count_capture(&counts, &cut, arguments[i])) is_done = false;
-    free_cut(&cut);
+        if (!count_capture(&counts, &parts, arguments[i])) is_done = false;
+    free_parts(&parts);
     return finish_counts(&counts, json, is_done);
 }
 

@@ -12,7 +12,7 @@ import test_use
 GROUPS = [("link layers", test_stat.link_layers), ("short frames", test_stat.short_frames),
           ("faults", test_stat.faults),
           ("bounds of packets", test_stat.bounds_of_packets), ("fragments", test_stat.fragments),
-          ("snap lengths", test_stat.snap_lengths), ("faults in cut packets", test_stat.faults_in_cut_packets),
+          ("snap lengths", test_stat.snap_lengths), ("faults in truncated packets", test_stat.faults_in_truncated_packets),
           ("truncated files", test_stat.truncated_files), ("what can't be read", test_stat.what_cant_be_read),
           ("forms of files", test_stat.forms_of_files), ("chains as tshark finds them", test_stat.tshark_agrees),
           ("chains as scapy makes them", test_stat.scapy_agrees), ("tables", test_stat.tables),

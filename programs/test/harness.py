@@ -90,7 +90,7 @@ class Harness:
 
 def statistics(**parts):
     """Returns the expected output of `stat`: the given parts, and 0 or empty for the rest."""
-    counts = dict.fromkeys(["packets", "ipv4", "ipv6", "unread", "not_ip", "fragments", "cut"], 0)
+    counts = dict.fromkeys(["packets", "ipv4", "ipv6", "unread", "not_ip", "fragments", "truncated"], 0)
     tables = {name: {} for name in ["chains", "chain_bytes", "final_numbers", "faults"]}
     return {**counts, **tables, **parts}
 

@@ -22,7 +22,7 @@ packet 3: 46 bytes, IP at 18: IPv4 -> 17
 0010  c0 00 02 02 03 e8 07 d0 00 0c 00 00
       ----------] [-------- UDP --------]
 
-packet 4: 62 of 78 bytes, IP at 14: IPv6 60 -> 44 cut
+packet 4: 62 of 78 bytes, IP at 14: IPv6 60 -> 44 truncated
 0000  60 00 00 00 00 18 3c 40 20 01 0d b8 00 00 00 00
       [-------------------- IPv6 --------------------
 0010  00 00 00 00 00 00 00 01 20 01 0d b8 00 00 00 00
@@ -30,7 +30,7 @@ packet 4: 62 of 78 bytes, IP at 14: IPv6 60 -> 44 cut
 0020  00 00 00 00 00 00 00 02 2c 00 01 04 00 00 00 00
       ----------------------] [----- dest-opts -----]
 0030
-      ^ cut by the snap length
+      ^ truncated by the snap length
 """
 
 
@@ -74,7 +74,7 @@ def places_of_faults(harness):
     for kept, place in [(0, 0), (16, 16), (39, 39), (40, 40), (47, 40), (48, 48), (71, 48), (72, 72)]:
         frame = ethernet(ipv6(0, options(43) + routing(44, 2) + fragment(17) + UDP))
         found = harness.run("show", content=file_header() + record(frame, 14 + kept))[1]
-        harness.equal(list(carets(found)), [(place, "cut by the snap length")], kept, "bytes kept")
+        harness.equal(list(carets(found)), [(place, "truncated by the snap length")], kept, "bytes kept")
 
 
 def long_packets(harness):

@@ -53,9 +53,9 @@ def faulty_packets():
     for kept in [0, 7]:
         yield ipv6(60, options(44) + fragment(17)[:kept]), "too-short fragment", "IPv6 60 -> 44 fault", 8
     for kept in [0, 11, 12, 23]:
-        cut = authentication(17)[:kept]
-        yield ipv6(43, routing(51, 1) + cut), "too-short authentication", "IPv6 43 -> 51 fault", 16
-        yield ipv4(51, cut), "too-short authentication", "IPv4 -> 51 fault", 0
+        part = authentication(17)[:kept]
+        yield ipv6(43, routing(51, 1) + part), "too-short authentication", "IPv6 43 -> 51 fault", 16
+        yield ipv4(51, part), "too-short authentication", "IPv4 -> 51 fault", 0
     for before in [0, 43, 60]:
         yield ipv6_chain([before, 0]), "not-at-start hop-by-hop", "IPv6 %d -> 0 fault" % before, 8
     yield ipv6_chain([44, 0]), "not-at-start hop-by-hop", "IPv6 44 -> 0 fault", 8
@@ -125,7 +125,7 @@ def snapped(version, ends, numbers, final, kept, before):
     whole = [n for n, end in zip(numbers, ends) if before + end <= kept]
     leads_to = (numbers + [final])[len(whole)]
     text = ",".join(map(str, whole)) + (" " if whole else "")
-    return "IPv%d %s-> %d%s" % (version, text, leads_to, "" if len(whole) == len(numbers) else " cut")
+    return "IPv%d %s-> %d%s" % (version, text, leads_to, "" if len(whole) == len(numbers) else " truncated")
 
 
 def snap_lengths(harness):
@@ -142,11 +142,11 @@ def snap_lengths(harness):
             wanted[text] = wanted.get(text, 0) + 1
         unread = wanted.pop(None)
         found, told = harness.stat(content=file_header() + b"".join(record(frame, length) for length in kept))
-        harness.equal((found["chains"], found["unread"], found["cut"], found["faults"], told),
+        harness.equal((found["chains"], found["unread"], found["truncated"], found["faults"], told),
                       (wanted, unread, len(kept), {}, ""), "snap lengths of IPv%d" % version)
 
 
-def faults_in_cut_packets(harness):
+def faults_in_truncated_packets(harness):
     """An error in the captured bytes is reported, and bytes missing from the capture are not an error."""
     zero = b"\x11\0" + bytes(22)
     for packet, kept, faults_wanted in [
@@ -158,7 +158,7 @@ def faults_in_cut_packets(harness):
             (ipv4(17, UDP, words=3), 40, {"header-length IPv4-header": 1}),
             (ipv4(17, UDP, total_len=10), 40, {"too-short IPv4-packet": 1})]:
         found, _ = harness.stat(content=file_header() + record(ethernet(packet), kept))
-        harness.equal((found["faults"], found["cut"]), (faults_wanted, 1), "packet", packet.hex())
+        harness.equal((found["faults"], found["truncated"]), (faults_wanted, 1), "packet", packet.hex())
 
 
 def truncated_files(harness):
@@ -279,7 +279,7 @@ def tables(harness):
            0  IP with an unread base header
            1  not IP
            0  fragments
-           0  cut by the snap length
+           0  truncated by the snap length
 chains
            2  IPv6 0,43 -> 17
            1  IPv4 -> 6

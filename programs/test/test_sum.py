@@ -12,8 +12,8 @@ def sums(harness):
     """The statistics of the parts of a capture add up to those of the whole, also in several steps."""
     frames = random_frames(300, 2) + [ethernet(b""), ethernet(ipv6(0, b""))]
     whole = harness.run("stat", "--json", harness.file(capture(frames)))[1]
-    cuts = sorted(random.Random(3).sample(range(len(frames)), 4))
-    files = [harness.file(capture(frames[a:b])) for a, b in zip([0] + cuts, cuts + [len(frames)])]
+    bounds = sorted(random.Random(3).sample(range(len(frames)), 4))
+    files = [harness.file(capture(frames[a:b])) for a, b in zip([0] + bounds, bounds + [len(frames)])]
     parts = [harness.run("stat", "--json", file)[1] for file in files]
     harness.equal(harness.run("sum", "--json", content=b"".join(parts)), (0, whole, "", None), "parts")
     joined = harness.run("sum", "--json", content=b"".join(parts[:2]))[1]

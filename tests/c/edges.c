@@ -9,7 +9,7 @@
 static const uint8_t SIX[52] = {60, 0, 0, 0, 0, 0, 0, 0, 43, 0, 0, 0, 0, 0, 0, 0, 44, 0, 0, 0, 0, 0, 0, 0, 51, 0,
                                 0,  0, 0, 0, 0, 0, 60, 1, 0, 0, 0, 0, 0, 0, 0, 0, 0, 0, 17, 0, 0, 0, 0, 0, 0, 0};
 
-static const struct wolfaren_header CUTS[6] = {{0, 8, 0, 60},   {8, 8, 60, 43},   {16, 8, 43, 44},
+static const struct wolfaren_header SPANS[6] = {{0, 8, 0, 60},   {8, 8, 60, 43},   {16, 8, 43, 44},
                                                {24, 8, 44, 51}, {32, 12, 51, 60}, {44, 8, 60, 17}};
 
 static void check(bool holds, const char *what)
@@ -36,10 +36,10 @@ static void arrays_of_each_length(void)
             headers[i] = stays;
         }
         struct wolfaren_chain chain;
-        wolfaren_cut_chain(0, SIX, sizeof SIX, room == 0 ? NULL : headers, room, &chain);
+        wolfaren_parse_chain(0, SIX, sizeof SIX, room == 0 ? NULL : headers, room, &chain);
         check(chain.headers == 6 && chain.len == 52 && chain.next_header == 17, "a chain in an array of any length");
         for (size_t i = 0; i < room; i++) {
-            check(same_header(&headers[i], i < 6 ? &CUTS[i] : &stays), "the headers that fit");
+            check(same_header(&headers[i], i < 6 ? &SPANS[i] : &stays), "the headers that fit");
         }
         free(headers);
     }
@@ -49,8 +49,8 @@ static void arrays_of_each_length(void)
 static void runs_of_headers(void)
 {
     struct wolfaren_header headers[7];
-    memcpy(headers, CUTS, sizeof CUTS);
-    headers[6] = CUTS[2];
+    memcpy(headers, SPANS, sizeof SPANS);
+    headers[6] = SPANS[2];
     check(wolfaren_run_len(headers, 7) == 6 && wolfaren_run_len(&headers[6], 1) == 1, "a routing header after six");
     headers[6].number = 60;
     check(wolfaren_run_len(headers, 7) == 6 && wolfaren_run_len(headers, 3) == 3, "destination options after six");
@@ -62,16 +62,16 @@ static void runs_of_headers(void)
 static void nothing_at_all(void)
 {
     struct wolfaren_chain chain;
-    wolfaren_cut_chain(17, NULL, 0, NULL, 0, &chain);
+    wolfaren_parse_chain(17, NULL, 0, NULL, 0, &chain);
     check(chain.headers == 0 && chain.next_header == 17 && chain.fault.kind == WOLFAREN_NO_FAULT, "no bytes, no header");
-    wolfaren_cut_ipv4_chain(51, NULL, 0, NULL, 0, &chain);
+    wolfaren_parse_ipv4_chain(51, NULL, 0, NULL, 0, &chain);
     check(chain.fault.kind == WOLFAREN_TOO_SHORT && chain.fault.required_len == 12, "no bytes for an authentication header");
     struct wolfaren_packet packet;
     struct wolfaren_payload payload;
     struct wolfaren_fault fault = {.kind = 200};
-    check(!wolfaren_cut_packet(NULL, 0, NULL, 0, &packet, &fault), "no bytes, no packet");
+    check(!wolfaren_parse_packet(NULL, 0, NULL, 0, &packet, &fault), "no bytes, no packet");
     check(fault.kind == WOLFAREN_TOO_SHORT && fault.layer == WOLFAREN_IP_HEADER, "the error for no bytes");
-    check(!wolfaren_cut_packet_lax(NULL, 0, NULL, 0, &packet, &fault), "no bytes, no truncated packet");
+    check(!wolfaren_parse_packet_lax(NULL, 0, NULL, 0, &packet, &fault), "no bytes, no truncated packet");
     check(!wolfaren_find_payload(NULL, 0, &payload, &fault), "no bytes, no payload");
     check(!wolfaren_find_payload_lax(NULL, 0, &payload, &fault) && fault.required_len == 1, "no bytes, no truncated payload");
     struct wolfaren_fragment fragment;
@@ -84,7 +84,7 @@ static void texts(void)
 {
     const char *words = "not enough bytes for Ipv6ExtHeader at offset 0: 8 needed, 0 there by Slice";
     struct wolfaren_chain chain;
-    wolfaren_cut_chain(60, NULL, 0, NULL, 0, &chain);
+    wolfaren_parse_chain(60, NULL, 0, NULL, 0, &chain);
     char text[WOLFAREN_TEXT_ROOM];
     check(wolfaren_fault_text(&chain.fault, text, sizeof text) == strlen(words), "a text's length");
     check(strcmp(text, words) == 0, "a text");
@@ -114,7 +114,7 @@ static void cursors_from_anywhere(void)
     wolfaren_fault_at(&cursor, SIX, sizeof SIX, &fault);
     check(fault.kind == WOLFAREN_HOP_BY_HOP_NOT_AT_START, "misplaced hop-by-hop options");
     cursor.number = WOLFAREN_DESTINATION_OPTIONS;
-    check(wolfaren_next_header(&cursor, SIX, sizeof SIX, &header) && same_header(&header, &CUTS[1]), "a step");
+    check(wolfaren_next_header(&cursor, SIX, sizeof SIX, &header) && same_header(&header, &SPANS[1]), "a step");
     check(cursor.offset == 16 && cursor.number == WOLFAREN_ROUTING, "the cursor after a step");
 }
 
@@ -134,7 +134,7 @@ static void fields_of_single_headers(void)
 /* Writes the six headers without the routing header, with enough and with too little room, and with a wrong header. */
 static void headers_that_are_written(void)
 {
-    struct wolfaren_header headers[5] = {CUTS[0], CUTS[1], CUTS[3], CUTS[4], CUTS[5]};
+    struct wolfaren_header headers[5] = {SPANS[0], SPANS[1], SPANS[3], SPANS[4], SPANS[5]};
     check(wolfaren_link_headers(headers, 5, 6) == 0, "the number of the first header");
     check(headers[1].next_header == 44 && headers[4].next_header == 6, "links");
     check(wolfaren_link_headers(NULL, 0, 6) == 6, "linking no headers");
@@ -146,7 +146,7 @@ static void headers_that_are_written(void)
     check(out[0] == 9 && out[43] == 9, "nothing is written");
     check(wolfaren_write_headers(SIX, sizeof SIX, headers, 5, out, 44, &written) && written == 44, "room for 44");
     struct wolfaren_chain chain;
-    wolfaren_cut_chain(0, out, 44, NULL, 0, &chain);
+    wolfaren_parse_chain(0, out, 44, NULL, 0, &chain);
     check(chain.headers == 5 && chain.len == 44 && chain.next_header == 6, "the output is a chain");
     free(out);
     headers[2].len = 16;
@@ -154,18 +154,18 @@ static void headers_that_are_written(void)
     check(wolfaren_write_headers(NULL, 0, NULL, 0, NULL, 0, &written) && written == 0, "nothing to write");
 }
 
-static void a_packet_that_is_cut_short(void)
+static void a_truncated_packet(void)
 {
     uint8_t bytes[48] = {0x60, 0, 0, 0, 0, 100, 60, 64};
     bytes[40] = 17;
     struct wolfaren_packet packet = {.headers = 9};
     struct wolfaren_header header = {7, 7, 7, 7};
     struct wolfaren_fault fault = {.kind = 200};
-    check(!wolfaren_cut_packet(bytes, sizeof bytes, &header, 1, &packet, &fault), "a strict parse");
+    check(!wolfaren_parse_packet(bytes, sizeof bytes, &header, 1, &packet, &fault), "a strict parse");
     check(fault.kind == WOLFAREN_TOO_SHORT && fault.layer == WOLFAREN_IPV6_PACKET, "the error");
     check(packet.headers == 9 && header.offset == 7, "left unchanged on error");
     fault.kind = 200;
-    check(wolfaren_cut_packet_lax(bytes, sizeof bytes, &header, 1, &packet, &fault), "a lax parse");
+    check(wolfaren_parse_packet_lax(bytes, sizeof bytes, &header, 1, &packet, &fault), "a lax parse");
     check(packet.version == 6 && packet.headers == 1 && packet.len_source == WOLFAREN_SLICE, "its result");
     check(packet.payload_offset == 48 && packet.payload_len == 0 && header.offset == 40, "its parts");
     check(fault.kind == 200, "left unchanged on success");
@@ -198,7 +198,7 @@ int main(void)
     cursors_from_anywhere();
     fields_of_single_headers();
     headers_that_are_written();
-    a_packet_that_is_cut_short();
+    a_truncated_packet();
     payloads();
     return 0;
 }

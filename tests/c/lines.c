@@ -98,9 +98,9 @@ static void answer_chain(bool is_ipv6, uint8_t first, const uint8_t *bytes, size
     struct wolfaren_header headers[MOST_HEADERS];
     struct wolfaren_chain chain;
     if (is_ipv6) {
-        wolfaren_cut_chain(first, bytes, len, headers, MOST_HEADERS, &chain);
+        wolfaren_parse_chain(first, bytes, len, headers, MOST_HEADERS, &chain);
     } else {
-        wolfaren_cut_ipv4_chain(first, bytes, len, headers, MOST_HEADERS, &chain);
+        wolfaren_parse_ipv4_chain(first, bytes, len, headers, MOST_HEADERS, &chain);
     }
     for (size_t i = 0; i < chain.headers; i++) {
         print_header(&headers[i]);
@@ -132,7 +132,7 @@ static void answer_packet(const uint8_t *bytes, size_t len)
 {
     struct wolfaren_packet packet;
     struct wolfaren_fault fault;
-    if (!wolfaren_cut_packet(bytes, len, NULL, 0, &packet, &fault)) {
+    if (!wolfaren_parse_packet(bytes, len, NULL, 0, &packet, &fault)) {
         print_fault(&fault);
         printf("\n");
         return;

@@ -58,7 +58,7 @@ unsafe extern "C" {
         fault: *mut Fault,
     ) -> bool;
 
-    fn wolfaren_cut_packet(
+    fn wolfaren_parse_packet(
         bytes: *const u8,
         len: usize,
         headers: *mut Header,
@@ -72,16 +72,16 @@ unsafe extern "C" {
 }
 
 /// A packet, and room for its first headers.
-struct Cut {
+struct Room {
     packet: MaybeUninit<Packet>,
     fault: MaybeUninit<Fault>,
     headers: [MaybeUninit<Header>; ROOM],
 }
 
-impl Cut {
+impl Room {
     #[inline(always)]
-    fn new() -> Cut {
-        Cut {
+    fn new() -> Room {
+        Room {
             packet: MaybeUninit::uninit(),
             fault: MaybeUninit::uninit(),
             headers: [const { MaybeUninit::uninit() }; ROOM],
@@ -90,11 +90,11 @@ impl Cut {
 
     /// Parses the packet at the start of the bytes.
     #[inline(always)]
-    fn cut(&mut self, bytes: &[u8]) -> Option<(&Packet, &[Header])> {
+    fn parse(&mut self, bytes: &[u8]) -> Option<(&Packet, &[Header])> {
         // SAFETY: all pointers and lengths are those of borrowed values. If the library returns true, it has
         // filled in the packet, and as many headers as it counts or as fit.
         unsafe {
-            if !wolfaren_cut_packet(
+            if !wolfaren_parse_packet(
                 bytes.as_ptr(),
                 bytes.len(),
                 self.headers.as_mut_ptr().cast(),
@@ -143,8 +143,8 @@ impl Digest for Filter {
 impl Digest for Full {
     #[inline(always)]
     fn digest(bytes: &[u8]) -> u64 {
-        let mut room = Cut::new();
-        match room.cut(bytes) {
+        let mut room = Room::new();
+        match room.parse(bytes) {
             Some((packet, headers)) => of_packet(packet, headers, bytes),
             None => NO_PACKET,
         }

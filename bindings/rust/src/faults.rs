@@ -173,7 +173,7 @@ mod tests {
     #[test]
     fn errors_say_what_the_library_says() {
         for bytes in refused_packets() {
-            let fault = library::cut_packet(&bytes).err().expect("it is refused");
+            let fault = library::parse_packet(&bytes).err().expect("it is refused");
             let is_ipv4 = bytes.first().is_some_and(|byte| byte >> 4 == 4);
             assert_eq!(fault.of_packet(is_ipv4).to_string(), fault_text(&fault));
         }
@@ -198,7 +198,7 @@ mod tests {
         let page = include_str!("../../../include/wolfaren.h");
         page.lines()
             .find_map(|line| line.trim().strip_prefix(name))
-            .and_then(|behind| behind.split([',', '/']).next())
+            .and_then(|after| after.split([',', '/']).next())
             .and_then(|code| code.trim().parse().ok())
             .unwrap_or_else(|| panic!("{name} isn't in the header"))
     }

@@ -34,14 +34,14 @@ impl<'a> IpAuthHeaderSlice<'a> {
             number: ip_number::AUTH.0,
         };
         match library::next_header(&mut cursor, slice) {
-            Some((_, header)) => Ok(Self::of_cut(header)),
+            Some((_, header)) => Ok(Self::of_parsed(header)),
             None => Err(library::fault_at(&cursor, slice).of_auth()),
         }
     }
 
     /// Wraps bytes that the library has parsed as one such header.
     #[inline]
-    pub(crate) fn of_cut(slice: &'a [u8]) -> IpAuthHeaderSlice<'a> {
+    pub(crate) fn of_parsed(slice: &'a [u8]) -> IpAuthHeaderSlice<'a> {
         IpAuthHeaderSlice { slice }
     }
 

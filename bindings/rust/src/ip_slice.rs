@@ -41,10 +41,10 @@ impl<'a> IpSlice<'a> {
     /// is below 5, or there are fewer bytes than it states; otherwise the errors of the version's `from_slice`.
     #[inline(always)]
     pub fn from_slice(slice: &'a [u8]) -> Result<IpSlice<'a>, SliceError> {
-        match library::cut_packet(slice) {
+        match library::parse_packet(slice) {
             Ok(parts) => Ok(match parts.base {
-                Base::Ipv4(base) => IpSlice::Ipv4(Ipv4Slice::of_cut(base, &parts)),
-                Base::Ipv6(base) => IpSlice::Ipv6(Ipv6Slice::of_cut(base, &parts)),
+                Base::Ipv4(base) => IpSlice::Ipv4(Ipv4Slice::of_parsed(base, &parts)),
+                Base::Ipv6(base) => IpSlice::Ipv6(Ipv6Slice::of_parsed(base, &parts)),
             }),
             Err(fault) => Err(fault.of_packet(states_version_4(slice))),
         }

@@ -23,9 +23,9 @@ pub struct Ipv4ExtensionsSlice<'a> {
 impl<'a> Ipv4ExtensionsSlice<'a> {
     /// Wraps bytes that the library has parsed as extension headers: an authentication header, or no bytes.
     #[inline]
-    pub(crate) fn of_cut(slice: &'a [u8]) -> Ipv4ExtensionsSlice<'a> {
+    pub(crate) fn of_parsed(slice: &'a [u8]) -> Ipv4ExtensionsSlice<'a> {
         Ipv4ExtensionsSlice {
-            auth: (!slice.is_empty()).then(|| IpAuthHeaderSlice::of_cut(slice)),
+            auth: (!slice.is_empty()).then(|| IpAuthHeaderSlice::of_parsed(slice)),
         }
     }
 
@@ -44,7 +44,7 @@ impl<'a> Ipv4ExtensionsSlice<'a> {
         &'a [u8],
         Option<HeaderSliceError>,
     ) {
-        let chain = library::cut_ipv4_chain(start_ip_number.0, start_slice);
+        let chain = library::parse_ipv4_chain(start_ip_number.0, start_slice);
         let (headers, number, rest) = Self::split(start_slice, &chain);
         let fault = (!chain.fault.is_none()).then(|| chain.fault.of_auth());
         (headers, number, rest, fault)
@@ -56,7 +56,7 @@ impl<'a> Ipv4ExtensionsSlice<'a> {
         start_ip_number: IpNumber,
         start_slice: &'a [u8],
     ) -> Result<(Ipv4ExtensionsSlice<'a>, IpNumber, &'a [u8]), HeaderSliceError> {
-        let chain = library::cut_ipv4_chain(start_ip_number.0, start_slice);
+        let chain = library::parse_ipv4_chain(start_ip_number.0, start_slice);
         if !chain.fault.is_none() {
             return Err(chain.fault.of_auth());
         }
@@ -67,7 +67,7 @@ impl<'a> Ipv4ExtensionsSlice<'a> {
     #[inline]
     fn split(bytes: &'a [u8], chain: &Chain) -> (Ipv4ExtensionsSlice<'a>, IpNumber, &'a [u8]) {
         let (slice, rest) = bytes.split_at(chain.len);
-        (Self::of_cut(slice), IpNumber(chain.next_header as u8), rest)
+        (Self::of_parsed(slice), IpNumber(chain.next_header as u8), rest)
     }
 
     /// Returns whether there is no header.

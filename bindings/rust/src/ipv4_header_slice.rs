@@ -23,12 +23,12 @@ impl<'a> Ipv4HeaderSlice<'a> {
         let len = slice.len().min(front.len());
         front[..len].copy_from_slice(&slice[..len]);
         front[2..4].fill(0);
-        let Err(fault) = library::cut_packet(&front[..len]) else {
+        let Err(fault) = library::parse_packet(&front[..len]) else {
             unreachable!("a packet has some bytes");
         };
         match fault.of_ipv4_packet() {
             SliceError::Len(e) if e.layer == Layer::Ipv4Packet => {
-                Ok(Self::of_cut(&slice[..e.required_len]))
+                Ok(Self::of_parsed(&slice[..e.required_len]))
             }
             SliceError::Len(e) => Err(HeaderSliceError::Len(e)),
             SliceError::Header(e) => Err(HeaderSliceError::Content(e)),
@@ -38,7 +38,7 @@ impl<'a> Ipv4HeaderSlice<'a> {
 
     /// Wraps bytes that the library has parsed as one such header.
     #[inline]
-    pub(crate) fn of_cut(slice: &'a [u8]) -> Ipv4HeaderSlice<'a> {
+    pub(crate) fn of_parsed(slice: &'a [u8]) -> Ipv4HeaderSlice<'a> {
         Ipv4HeaderSlice { slice }
     }
 

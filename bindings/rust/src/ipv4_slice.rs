@@ -42,9 +42,9 @@ impl<'a> Ipv4Slice<'a> {
             Err(HeaderSliceError::Len(e)) => return Err(SliceError::Len(e)),
             Err(HeaderSliceError::Content(e)) => return Err(SliceError::Header(e)),
         }
-        match library::cut_packet(slice) {
+        match library::parse_packet(slice) {
             Ok(parts) => match parts.base {
-                Base::Ipv4(base) => Ok(Self::of_cut(base, &parts)),
+                Base::Ipv4(base) => Ok(Self::of_parsed(base, &parts)),
                 Base::Ipv6(_) => unreachable!("the bytes state version 4"),
             },
             Err(fault) => Err(fault.of_ipv4_packet()),
@@ -53,10 +53,10 @@ impl<'a> Ipv4Slice<'a> {
 
     /// Builds a packet from its IPv4 header and the other parts that the library has found.
     #[inline(always)]
-    pub(crate) fn of_cut(base: &'a [u8], parts: &Parts<'a>) -> Ipv4Slice<'a> {
+    pub(crate) fn of_parsed(base: &'a [u8], parts: &Parts<'a>) -> Ipv4Slice<'a> {
         Ipv4Slice {
-            header: Ipv4HeaderSlice::of_cut(base),
-            exts: Ipv4ExtensionsSlice::of_cut(parts.exts),
+            header: Ipv4HeaderSlice::of_parsed(base),
+            exts: Ipv4ExtensionsSlice::of_parsed(parts.exts),
             payload: parts.payload_slice(),
         }
     }

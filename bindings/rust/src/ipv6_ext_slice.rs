@@ -20,19 +20,19 @@ pub enum Ipv6ExtensionSlice<'a> {
 impl<'a> Ipv6ExtensionSlice<'a> {
     /// Wraps bytes that the library has parsed as a header with this number.
     #[inline]
-    pub(crate) fn of_cut(number: IpNumber, slice: &'a [u8]) -> Ipv6ExtensionSlice<'a> {
+    pub(crate) fn of_parsed(number: IpNumber, slice: &'a [u8]) -> Ipv6ExtensionSlice<'a> {
         match number {
             ip_number::IPV6_HOP_BY_HOP => {
-                Ipv6ExtensionSlice::HopByHop(Ipv6RawExtHeaderSlice::of_cut(slice))
+                Ipv6ExtensionSlice::HopByHop(Ipv6RawExtHeaderSlice::of_parsed(slice))
             }
             ip_number::IPV6_ROUTE => {
-                Ipv6ExtensionSlice::Routing(Ipv6RawExtHeaderSlice::of_cut(slice))
+                Ipv6ExtensionSlice::Routing(Ipv6RawExtHeaderSlice::of_parsed(slice))
             }
             ip_number::IPV6_FRAG => {
-                Ipv6ExtensionSlice::Fragment(Ipv6FragmentHeaderSlice::of_cut(slice))
+                Ipv6ExtensionSlice::Fragment(Ipv6FragmentHeaderSlice::of_parsed(slice))
             }
-            ip_number::AUTH => Ipv6ExtensionSlice::Authentication(IpAuthHeaderSlice::of_cut(slice)),
-            _ => Ipv6ExtensionSlice::DestinationOptions(Ipv6RawExtHeaderSlice::of_cut(slice)),
+            ip_number::AUTH => Ipv6ExtensionSlice::Authentication(IpAuthHeaderSlice::of_parsed(slice)),
+            _ => Ipv6ExtensionSlice::DestinationOptions(Ipv6RawExtHeaderSlice::of_parsed(slice)),
         }
     }
 

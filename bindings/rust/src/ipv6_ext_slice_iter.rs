@@ -49,7 +49,7 @@ impl<'a> Iterator for Ipv6ExtensionSliceIter<'a> {
         let (header, rest) = self.rest.split_at_checked(len)?;
         let number = core::mem::replace(&mut self.number, IpNumber(next_header));
         self.rest = rest;
-        Some(Ipv6ExtensionSlice::of_cut(number, header))
+        Some(Ipv6ExtensionSlice::of_parsed(number, header))
     }
 }
 

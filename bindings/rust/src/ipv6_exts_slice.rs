@@ -28,7 +28,7 @@ pub struct Ipv6ExtensionsSlice<'a> {
 impl<'a> Ipv6ExtensionsSlice<'a> {
     /// Wraps bytes that the library has parsed as a whole chain starting with the number.
     #[inline]
-    pub(crate) fn of_cut(
+    pub(crate) fn of_parsed(
         first: IpNumber,
         slice: &'a [u8],
         fragmented: bool,
@@ -56,7 +56,7 @@ impl<'a> Ipv6ExtensionsSlice<'a> {
         &'a [u8],
         Option<(HeaderSliceError, Layer)>,
     ) {
-        let chain = library::cut_chain(start_ip_number.0, start_slice);
+        let chain = library::parse_chain(start_ip_number.0, start_slice);
         let (headers, number, rest) = Self::split(start_ip_number, start_slice, &chain);
         let fault = &chain.fault;
         let fault = (!fault.is_none()).then(|| (fault.of_chain(), fault.header_layer()));
@@ -69,7 +69,7 @@ impl<'a> Ipv6ExtensionsSlice<'a> {
         start_ip_number: IpNumber,
         start_slice: &'a [u8],
     ) -> Result<(Ipv6ExtensionsSlice<'a>, IpNumber, &'a [u8]), HeaderSliceError> {
-        let chain = library::cut_chain(start_ip_number.0, start_slice);
+        let chain = library::parse_chain(start_ip_number.0, start_slice);
         if !chain.fault.is_none() {
             return Err(chain.fault.of_chain());
         }
@@ -84,7 +84,7 @@ impl<'a> Ipv6ExtensionsSlice<'a> {
         chain: &Chain,
     ) -> (Ipv6ExtensionsSlice<'a>, IpNumber, &'a [u8]) {
         let (slice, rest) = bytes.split_at(chain.len);
-        let headers = Self::of_cut(first, slice, chain.fragmented != 0);
+        let headers = Self::of_parsed(first, slice, chain.fragmented != 0);
         (headers, IpNumber(chain.next_header as u8), rest)
     }
 

@@ -27,7 +27,7 @@ impl<'a> Ipv6FragmentHeaderSlice<'a> {
             number: ip_number::IPV6_FRAG.0,
         };
         match library::next_header(&mut cursor, slice) {
-            Some((_, header)) => Ok(Self::of_cut(header)),
+            Some((_, header)) => Ok(Self::of_parsed(header)),
             None => match library::fault_at(&cursor, slice).len_error() {
                 Some(error) => Err(error),
                 None => unreachable!("only a length is wrong with a fragment header"),
@@ -37,7 +37,7 @@ impl<'a> Ipv6FragmentHeaderSlice<'a> {
 
     /// Wraps bytes that the library has parsed as one such header.
     #[inline]
-    pub(crate) fn of_cut(slice: &'a [u8]) -> Ipv6FragmentHeaderSlice<'a> {
+    pub(crate) fn of_parsed(slice: &'a [u8]) -> Ipv6FragmentHeaderSlice<'a> {
         match slice.try_into() {
             Ok(slice) => Ipv6FragmentHeaderSlice { slice },
             Err(_) => unreachable!("a fragment header has 8 bytes"),

@@ -20,7 +20,7 @@ impl<'a> Ipv6HeaderSlice<'a> {
         // The library parses whole packets. Given only an IPv6 header, it either accepts it, or reports that the
         // extension headers after it are missing.
         let front = &slice[..slice.len().min(Ipv6Header::LEN)];
-        let error = library::cut_packet_lax(front)
+        let error = library::parse_packet_lax(front)
             .err()
             .map(|fault| fault.of_ipv6_packet());
         match (error, front.first_chunk()) {
@@ -28,14 +28,14 @@ impl<'a> Ipv6HeaderSlice<'a> {
                 Err(HeaderSliceError::Len(e))
             }
             (Some(SliceError::Header(e)), _) => Err(HeaderSliceError::Content(e)),
-            (_, Some(base)) => Ok(Self::of_cut(base)),
+            (_, Some(base)) => Ok(Self::of_parsed(base)),
             (_, None) => unreachable!("fewer than 40 bytes are a length error"),
         }
     }
 
     /// Wraps bytes that the library has parsed as one such header.
     #[inline]
-    pub(crate) fn of_cut(slice: &'a [u8; 40]) -> Ipv6HeaderSlice<'a> {
+    pub(crate) fn of_parsed(slice: &'a [u8; 40]) -> Ipv6HeaderSlice<'a> {
         Ipv6HeaderSlice { slice }
     }
 

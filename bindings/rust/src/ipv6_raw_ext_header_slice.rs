@@ -46,7 +46,7 @@ impl<'a> Ipv6RawExtHeaderSlice<'a> {
             number: ip_number::IPV6_DEST_OPTIONS.0,
         };
         match library::next_header(&mut cursor, slice) {
-            Some((_, header)) => Ok(Self::of_cut(header)),
+            Some((_, header)) => Ok(Self::of_parsed(header)),
             None => match library::fault_at(&cursor, slice).len_error() {
                 Some(error) => Err(error),
                 None => unreachable!("only a length is wrong with such a header"),
@@ -56,7 +56,7 @@ impl<'a> Ipv6RawExtHeaderSlice<'a> {
 
     /// Wraps bytes that the library has parsed as one such header.
     #[inline]
-    pub(crate) fn of_cut(slice: &'a [u8]) -> Ipv6RawExtHeaderSlice<'a> {
+    pub(crate) fn of_parsed(slice: &'a [u8]) -> Ipv6RawExtHeaderSlice<'a> {
         Ipv6RawExtHeaderSlice { slice }
     }
 

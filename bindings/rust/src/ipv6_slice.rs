@@ -40,7 +40,7 @@ impl<'a> Ipv6Slice<'a> {
     /// `LenSource::Ipv6HeaderPayloadLen`.
     #[inline(always)]
     pub fn from_slice(slice: &'a [u8]) -> Result<Ipv6Slice<'a>, SliceError> {
-        Self::of_answer(library::cut_packet, slice)
+        Self::of_answer(library::parse_packet, slice)
     }
 
     /// Parses an IPv6 packet that may be truncated, as in a capture. If the IPv6 header is valid but there are fewer
@@ -50,13 +50,13 @@ impl<'a> Ipv6Slice<'a> {
     /// The length source of an error in the extension headers is the one that determines the length of the packet.
     #[inline(always)]
     pub fn from_slice_lax(slice: &'a [u8]) -> Result<Ipv6Slice<'a>, SliceError> {
-        Self::of_answer(library::cut_packet_lax, slice)
+        Self::of_answer(library::parse_packet_lax, slice)
     }
 
     /// Parses a packet with one of the library's calls.
     #[inline(always)]
     fn of_answer(
-        cut: fn(&'a [u8]) -> Result<Parts<'a>, Fault>,
+        parse: fn(&'a [u8]) -> Result<Parts<'a>, Fault>,
         slice: &'a [u8],
     ) -> Result<Ipv6Slice<'a>, SliceError> {
         match check_version(slice) {
@@ -64,9 +64,9 @@ impl<'a> Ipv6Slice<'a> {
             Err(HeaderSliceError::Len(e)) => return Err(SliceError::Len(e)),
             Err(HeaderSliceError::Content(e)) => return Err(SliceError::Header(e)),
         }
-        match cut(slice) {
+        match parse(slice) {
             Ok(parts) => match parts.base {
-                Base::Ipv6(base) => Ok(Self::of_cut(base, &parts)),
+                Base::Ipv6(base) => Ok(Self::of_parsed(base, &parts)),
                 Base::Ipv4(_) => unreachable!("the bytes state version 6"),
             },
             Err(fault) => Err(fault.of_ipv6_packet()),
@@ -75,11 +75,11 @@ impl<'a> Ipv6Slice<'a> {
 
     /// Builds a packet from its IPv6 header and the other parts that the library has found.
     #[inline(always)]
-    pub(crate) fn of_cut(base: &'a [u8; 40], parts: &Parts<'a>) -> Ipv6Slice<'a> {
-        let header = Ipv6HeaderSlice::of_cut(base);
+    pub(crate) fn of_parsed(base: &'a [u8; 40], parts: &Parts<'a>) -> Ipv6Slice<'a> {
+        let header = Ipv6HeaderSlice::of_parsed(base);
         Ipv6Slice {
             header,
-            exts: Ipv6ExtensionsSlice::of_cut(header.next_header(), parts.exts, parts.fragmented),
+            exts: Ipv6ExtensionsSlice::of_parsed(header.next_header(), parts.exts, parts.fragmented),
             payload: parts.payload_slice(),
         }
     }

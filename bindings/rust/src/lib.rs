@@ -34,7 +34,7 @@ extern crate std;
 #[doc = include_str!("../README.md")]
 struct Readme;
 
-mod cut_packet;
+mod parse_packet;
 pub mod err;
 mod faults;
 mod ip_auth_header_slice;

@@ -72,7 +72,7 @@ const _: () = {
 };
 
 unsafe extern "C" {
-    fn wolfaren_cut_chain(
+    fn wolfaren_parse_chain(
         first: u8,
         bytes: *const u8,
         len: usize,
@@ -81,7 +81,7 @@ unsafe extern "C" {
         chain: *mut Chain,
     );
 
-    fn wolfaren_cut_ipv4_chain(
+    fn wolfaren_parse_ipv4_chain(
         first: u8,
         bytes: *const u8,
         len: usize,
@@ -119,12 +119,12 @@ unsafe extern "C" {
 
 /// Parses the longest chain of IPv6 extension headers at the start of the bytes, beginning with the number `first`.
 #[inline(always)]
-pub(crate) fn cut_chain(first: u8, bytes: &[u8]) -> Chain {
+pub(crate) fn parse_chain(first: u8, bytes: &[u8]) -> Chain {
     let mut chain = MaybeUninit::uninit();
     // SAFETY: the bytes are a slice, which the call only reads. The array has no elements and may be null. `chain` has
     // room for a chain and doesn't overlap the bytes, and the call writes all of its fields.
     unsafe {
-        wolfaren_cut_chain(
+        wolfaren_parse_chain(
             first,
             bytes.as_ptr(),
             bytes.len(),
@@ -138,11 +138,11 @@ pub(crate) fn cut_chain(first: u8, bytes: &[u8]) -> Chain {
 
 /// Parses the IPv4 extension header at the start of the bytes: at most one authentication header.
 #[inline(always)]
-pub(crate) fn cut_ipv4_chain(first: u8, bytes: &[u8]) -> Chain {
+pub(crate) fn parse_ipv4_chain(first: u8, bytes: &[u8]) -> Chain {
     let mut chain = MaybeUninit::uninit();
-    // SAFETY: as in `cut_chain`.
+    // SAFETY: as in `parse_chain`.
     unsafe {
-        wolfaren_cut_ipv4_chain(
+        wolfaren_parse_ipv4_chain(
             first,
             bytes.as_ptr(),
             bytes.len(),
@@ -207,14 +207,14 @@ pub(crate) struct Parts<'a> {
 
 /// Parses the IP packet at the start of the bytes, of either version.
 #[inline(always)]
-pub(crate) fn cut_packet(bytes: &[u8]) -> Result<Parts<'_>, Fault> {
+pub(crate) fn parse_packet(bytes: &[u8]) -> Result<Parts<'_>, Fault> {
     // SAFETY: `wolfaren_find_payload` is one of the two calls that `split_packet` accepts.
     unsafe { split_packet(wolfaren_find_payload, bytes) }
 }
 
 /// Parses an IP packet, and accepts a truncated IPv6 packet.
 #[inline(always)]
-pub(crate) fn cut_packet_lax(bytes: &[u8]) -> Result<Parts<'_>, Fault> {
+pub(crate) fn parse_packet_lax(bytes: &[u8]) -> Result<Parts<'_>, Fault> {
     // SAFETY: `wolfaren_find_payload_lax` is one of the two calls that `split_packet` accepts.
     unsafe { split_packet(wolfaren_find_payload_lax, bytes) }
 }
@@ -238,7 +238,7 @@ unsafe fn split_packet(find: FindPayload, bytes: &[u8]) -> Result<Parts<'_>, Fau
     let found: &Payload = unsafe { payload.assume_init_ref() };
     let (exts_at, payload_at) = (found.base_len, found.offset);
     // SAFETY: the three parts lie within the bytes in this order, one after another, by the library's contract
-    // (`payload_cut` of the crate ip_cuts): `base_len` is at most `offset`, and `offset` plus `len` is at most the
+    // (`payload_span` of the crate ip_spans): `base_len` is at most `offset`, and `offset` plus `len` is at most the
     // length of the bytes. The IPv6 header has 40 bytes.
     let (base, exts, payload) = unsafe {
         (

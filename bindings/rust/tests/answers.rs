@@ -45,8 +45,8 @@ fn blocks(text: &str) -> impl Iterator<Item = &str> {
                 break;
             }
         }
-        let (block, behind) = rest.split_at(len);
-        rest = behind;
+        let (block, after) = rest.split_at(len);
+        rest = after;
         (len > 0).then_some(block)
     })
 }

@@ -289,14 +289,14 @@ fn ipv6_packets() {
         by(LenSource::Ipv6HeaderPayloadLen)
     );
     assert_eq!(refused(&ipv6(0, 44, 47)), by(LenSource::Slice));
-    let cut_short = ipv6(10, 17, 45);
-    let packet = Ipv6Slice::from_slice_lax(&cut_short).unwrap();
+    let truncated = ipv6(10, 17, 45);
+    let packet = Ipv6Slice::from_slice_lax(&truncated).unwrap();
     assert_eq!(
         (packet.payload().payload.len(), packet.payload().len_source),
         (5, LenSource::Slice)
     );
     assert_eq!(
-        Ipv6Slice::from_slice(&cut_short),
+        Ipv6Slice::from_slice(&truncated),
         Err(Len(short(Layer::Ipv6Packet, 50, 45)))
     );
 }

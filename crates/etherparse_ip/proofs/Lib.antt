@@ -1,5 +1,5 @@
 pub mod BaseLemmas
-pub mod CutLemmas
+pub mod PartsLemmas
 pub mod FaultLemmas
 pub mod OnePacketLemmas
 pub mod PacketEqualLemmas

@@ -5,7 +5,7 @@ use Rattle.ip_base.specs.Ipv4Header.{version}
 use Rattle.ip_spec.proofs.PrefixLemmas.{prefix_of-append}
 use Rattle.etherparse_ip.specs.LenSources.{front}
 use Rattle.etherparse_ip.specs.Packet.{Parts, IsIpv4Packet, IsIpv6Packet}
-use Rattle.etherparse_ip.specs.Cut.{ipv4_cut, ipv6_cut}
+use Rattle.etherparse_ip.specs.PartsIn.{ipv4_parts_in, ipv6_parts_in}
 use Rattle.etherparse_ip.proofs.BaseLemmas.{says_ipv4, says_ipv6}
 
 -- a prefix of a prefix of s is a prefix of s
@@ -18,7 +18,7 @@ ipv4_prefix s p k = search (rules, begins)
 pub ipv4_version : (s : List ℕ) (p : Parts) → IsIpv4Packet s p → version s ≡ 4
 ipv4_version s p k = search rules
 
-pub ipv4_parts_are : (s : List ℕ) (p : Parts) → IsIpv4Packet s p → p ≡ ipv4_cut s
+pub ipv4_parts_are : (s : List ℕ) (p : Parts) → IsIpv4Packet s p → p ≡ ipv4_parts_in s
 ipv4_parts_are s p k = search (rules, says_ipv4, ipv4_prefix s p k)
 
 -- for each source the front is a prefix of s
@@ -31,5 +31,5 @@ ipv6_prefix s p k = search (rules, begins_by)
 pub ipv6_version : (s : List ℕ) (p : Parts) → IsIpv6Packet s p → version s ≡ 6
 ipv6_version s p k = sym (says_ipv6 p.base s k.base (ipv6_prefix s p k)).version ∙ k.base.version
 
-pub ipv6_parts_are : (s : List ℕ) (p : Parts) → IsIpv6Packet s p → p ≡ ipv6_cut s
+pub ipv6_parts_are : (s : List ℕ) (p : Parts) → IsIpv6Packet s p → p ≡ ipv6_parts_in s
 ipv6_parts_are s p k = search (rules, ipv6_prefix s p k)

@@ -1,7 +1,7 @@
 pub mod LenSources
 pub mod Packet
 pub mod PacketFault
-pub mod Cut
+pub mod PartsIn
 pub mod PacketCause
 pub mod HeadersError
 pub mod PacketHeadersError

@@ -39,26 +39,26 @@ exts_in_packet source k (exts.Len e) = exts.Len (moved source k e)
 exts_in_packet source k (exts.Content e) = exts.Content e
 
 -- what follows the base header in the packet's front
-abbrev pub ipv4_behind : List ℕ → List ℕ
-ipv4_behind s = drop (ipv4_header_len s) (front ipv4_len_source (total_len s) s)
+abbrev pub ipv4_after : List ℕ → List ℕ
+ipv4_after s = drop (ipv4_header_len s) (front ipv4_len_source (total_len s) s)
 
-abbrev pub ipv6_behind : List ℕ → List ℕ
-ipv6_behind s = drop 40 (front (ipv6_len_source (payload_length s) (length s)) (payload_length s) s)
+abbrev pub ipv6_after : List ℕ → List ℕ
+ipv6_after s = drop 40 (front (ipv6_len_source (payload_length s) (length s)) (payload_length s) s)
 
 -- the error after an IPv4 base header
-abbrev pub ipv4_fault_behind : List ℕ → Option AuthSliceError
-ipv4_fault_behind s =
+abbrev pub ipv4_fault_after : List ℕ → Option AuthSliceError
+ipv4_fault_after s =
     if nat_lt (total_len s) (ipv4_header_len s) then Some (auth.Len (too_short Ipv4HeaderTotalLen (total_len s) 0 layer.Ipv4Packet (ipv4_header_len s)))
     else if nat_lt (length s) (total_len s) then Some (auth.Len (too_short Slice (length s) 0 layer.Ipv4Packet (total_len s)))
-    else option_map (auth_in_packet ipv4_len_source (ipv4_header_len s)) (ipv4_chain_fault (protocol s) (ipv4_behind s))
+    else option_map (auth_in_packet ipv4_len_source (ipv4_header_len s)) (ipv4_chain_fault (protocol s) (ipv4_after s))
 
 -- the error of the chain after an IPv6 base header
 abbrev pub ipv6_chain_fault : List ℕ → Option ExtsSliceError
-ipv6_chain_fault s = option_map (exts_in_packet (ipv6_len_source (payload_length s) (length s)) 40) (option_map (λ f. f.0) (chain_fault (ipv6_next_header s) (ipv6_behind s)))
+ipv6_chain_fault s = option_map (exts_in_packet (ipv6_len_source (payload_length s) (length s)) 40) (option_map (λ f. f.0) (chain_fault (ipv6_next_header s) (ipv6_after s)))
 
 -- the error after an IPv6 base header, if the packet must have the length that it states
-abbrev pub ipv6_fault_behind : List ℕ → Option ExtsSliceError
-ipv6_fault_behind s =
+abbrev pub ipv6_fault_after : List ℕ → Option ExtsSliceError
+ipv6_fault_after s =
     if nat_lt (length s) (40 + payload_length s) then Some (exts.Len (too_short Slice (length s) 0 layer.Ipv6Packet (40 + payload_length s)))
     else ipv6_chain_fault s
 
@@ -91,11 +91,11 @@ ip_of_ipv6 (exts.Content e) = IpHeaders (Ipv6Ext e)
 
 -- if s doesn't start with an IPv4 packet
 abbrev pub ipv4_fault : List ℕ → Option Ipv4SliceError
-ipv4_fault s = option_or (option_map ipv4_of_header (ipv4_header_fault s)) (option_map ipv4_of_exts (ipv4_fault_behind s))
+ipv4_fault s = option_or (option_map ipv4_of_header (ipv4_header_fault s)) (option_map ipv4_of_exts (ipv4_fault_after s))
 
 -- if s doesn't start with an IPv6 packet, strict
 abbrev pub ipv6_fault : List ℕ → Option Ipv6SliceError
-ipv6_fault s = option_or (option_map ipv6_of_header (ipv6_header_fault s)) (option_map ipv6_of_exts (ipv6_fault_behind s))
+ipv6_fault s = option_or (option_map ipv6_of_header (ipv6_header_fault s)) (option_map ipv6_of_exts (ipv6_fault_after s))
 
 -- the lax one
 abbrev pub ipv6_lax_fault : List ℕ → Option Ipv6SliceError
@@ -106,13 +106,13 @@ abbrev pub ip_fault_of_ipv4 : List ℕ → Option SliceError
 ip_fault_of_ipv4 s =
     if nat_lt (ihl s) 5 then Some (IpHeaders (Ip (Ipv4HeaderLengthSmallerThanHeader (ihl s))))
     else if nat_lt (length s) (ipv4_header_len s) then Some (Len (too_short Slice (length s) 0 layer.Ipv4Header (ipv4_header_len s)))
-    else option_map ip_of_ipv4 (ipv4_fault_behind s)
+    else option_map ip_of_ipv4 (ipv4_fault_after s)
 
 -- version 6
 abbrev pub ip_fault_of_ipv6 : List ℕ → Option SliceError
 ip_fault_of_ipv6 s =
     if nat_lt (length s) 40 then Some (Len (too_short Slice (length s) 0 layer.Ipv6Header 40))
-    else option_map ip_of_ipv6 (ipv6_fault_behind s)
+    else option_map ip_of_ipv6 (ipv6_fault_after s)
 
 -- any version
 abbrev pub ip_fault : List ℕ → Option SliceError

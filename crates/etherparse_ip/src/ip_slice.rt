@@ -76,7 +76,7 @@ impl<'a> IpSlice<'a> {
         let Ok(header) = Ipv4HeaderSlice::from_slice(slice) else {
             unreachable!();
         };
-        match Ipv4Slice::behind(header, slice) {
+        match Ipv4Slice::after_base(header, slice) {
             Ok(packet) => Ok(IpSlice::Ipv4(packet)),
             Err(ip_auth::HeaderSliceError::Len(e)) => Err(SliceError::Len(e)),
             Err(ip_auth::HeaderSliceError::Content(e)) => {
@@ -104,7 +104,7 @@ impl<'a> IpSlice<'a> {
         let Ok(header) = Ipv6HeaderSlice::from_slice(slice) else {
             unreachable!();
         };
-        match Ipv6Slice::behind(header, slice) {
+        match Ipv6Slice::after_base(header, slice) {
             Ok(packet) => Ok(IpSlice::Ipv6(packet)),
             Err(ipv6_exts::HeaderSliceError::Len(e)) => Err(SliceError::Len(e)),
             Err(ipv6_exts::HeaderSliceError::Content(e)) => {

@@ -6,7 +6,7 @@ ghost use Rattle.ip_ext_headers.specs.HeaderFault.{AuthOffsetFits};
 ghost use Rattle.ip_ext_slices.specs.Ipv4ExtensionsSlice.{headers_in};
 ghost use Rattle.etherparse_ip.specs.LenSources.{ipv4_len_source};
 ghost use Rattle.etherparse_ip.specs.Packet.{IsIpv4Packet};
-ghost use Rattle.etherparse_ip.specs.PacketFault.{auth_in_packet, ipv4_fault_behind, ipv4_fault};
+ghost use Rattle.etherparse_ip.specs.PacketFault.{auth_in_packet, ipv4_fault_after, ipv4_fault};
 
 use crate::err::ipv4::{HeaderSliceError, SliceError};
 use crate::err::{Layer, LenError, ip_auth};
@@ -43,7 +43,7 @@ impl<'a> Ipv4Slice<'a> {
             Err(HeaderSliceError::Len(e)) => return Err(SliceError::Len(e)),
             Err(HeaderSliceError::Content(e)) => return Err(SliceError::Header(e)),
         };
-        match Self::behind(header, slice) {
+        match Self::after_base(header, slice) {
             Ok(packet) => Ok(packet),
             Err(ip_auth::HeaderSliceError::Len(e)) => Err(SliceError::Len(e)),
             Err(ip_auth::HeaderSliceError::Content(e)) => Err(SliceError::Exts(e)),
@@ -52,13 +52,13 @@ impl<'a> Ipv4Slice<'a> {
 
     /// Parses the packet at the start of the slice with this base header.
     #[inline(always)]
-    pub(crate) fn behind(
+    pub(crate) fn after_base(
         header: Ipv4HeaderSlice<'a>,
         slice: &'a [u8],
     ) -> Result<Ipv4Slice<'a>, ip_auth::HeaderSliceError>
         requires { IsPrefix (bytes header) slice.now }
         ensures packet { IfOk result (λ x. IsIpv4Packet slice.now (ipv4_parts x)) }
-        ensures fault { result_err result ≡ ipv4_fault_behind slice.now }
+        ensures fault { result_err result ≡ ipv4_fault_after slice.now }
     {
         let header_len = header.slice().len();
         let total_len = usize::from(header.total_len());

@@ -7,7 +7,7 @@ ghost use Rattle.ip_ext_slices.specs.ChainFault.{ExtsOffsetFits};
 ghost use Rattle.ip_ext_slices.specs.Ipv6ExtensionsSlice.{headers_in};
 ghost use Rattle.etherparse_ip.specs.Packet.{IsIpv6Packet};
 ghost use Rattle.etherparse_ip.specs.PacketFault.{exts_in_packet, ipv6_chain_fault};
-ghost use Rattle.etherparse_ip.specs.PacketFault.{ipv6_fault_behind, ipv6_fault, ipv6_lax_fault};
+ghost use Rattle.etherparse_ip.specs.PacketFault.{ipv6_fault_after, ipv6_fault, ipv6_lax_fault};
 
 use crate::err::ipv6::{HeaderSliceError, SliceError};
 use crate::err::{Layer, LenError, ipv6_exts};
@@ -48,7 +48,7 @@ impl<'a> Ipv6Slice<'a> {
             Err(HeaderSliceError::Len(e)) => return Err(SliceError::Len(e)),
             Err(HeaderSliceError::Content(e)) => return Err(SliceError::Header(e)),
         };
-        match Self::behind(header, slice) {
+        match Self::after_base(header, slice) {
             Ok(packet) => Ok(packet),
             Err(ipv6_exts::HeaderSliceError::Len(e)) => Err(SliceError::Len(e)),
             Err(ipv6_exts::HeaderSliceError::Content(e)) => Err(SliceError::Exts(e)),
@@ -75,7 +75,7 @@ impl<'a> Ipv6Slice<'a> {
             Err(HeaderSliceError::Len(e)) => return Err(SliceError::Len(e)),
             Err(HeaderSliceError::Content(e)) => return Err(SliceError::Header(e)),
         };
-        match Self::cut(header, slice) {
+        match Self::parse(header, slice) {
             Ok(packet) => Ok(packet),
             Err(ipv6_exts::HeaderSliceError::Len(e)) => Err(SliceError::Len(e)),
             Err(ipv6_exts::HeaderSliceError::Content(e)) => Err(SliceError::Exts(e)),
@@ -84,13 +84,13 @@ impl<'a> Ipv6Slice<'a> {
 
     /// Parses the packet at the start of the slice with this base header. The packet has the length that it states.
     #[inline(always)]
-    pub(crate) fn behind(
+    pub(crate) fn after_base(
         header: Ipv6HeaderSlice<'a>,
         slice: &'a [u8],
     ) -> Result<Ipv6Slice<'a>, ipv6_exts::HeaderSliceError>
         requires { IsPrefix (bytes header) slice.now }
         ensures packet { IfOk result (λ x. IsIpv6Packet slice.now (ipv6_parts x)) }
-        ensures fault { result_err result ≡ ipv6_fault_behind slice.now }
+        ensures fault { result_err result ≡ ipv6_fault_after slice.now }
     {
         let payload_length = header.payload_length();
         let required_len = Ipv6Header::LEN + usize::from(payload_length);
@@ -101,12 +101,12 @@ impl<'a> Ipv6Slice<'a> {
                 required_len,
             )));
         }
-        Self::cut(header, slice)
+        Self::parse(header, slice)
     }
 
     /// Parses the packet at the start of the slice with this base header, truncated or not.
     #[inline(always)]
-    fn cut(
+    fn parse(
         header: Ipv6HeaderSlice<'a>,
         slice: &'a [u8],
     ) -> Result<Ipv6Slice<'a>, ipv6_exts::HeaderSliceError>

@@ -287,21 +287,21 @@ pub fn ipv6_header_copy<'a>(
 }
 
 /// Checks that the bytes of a chain live as long as the packet, and not only as long as the chain.
-pub fn bytes_behind_the_chain<'a>(headers: Ipv6ExtensionsSlice<'a>) -> &'a [u8]
+pub fn bytes_after_the_chain<'a>(headers: Ipv6ExtensionsSlice<'a>) -> &'a [u8]
     ensures { result.now ≡ bytes headers.entry }
 {
     headers.slice()
 }
 
 /// Checks that the bytes of one header of a chain live as long as the packet.
-pub fn bytes_behind_the_header<'a>(header: Ipv6ExtensionSlice<'a>) -> &'a [u8]
+pub fn bytes_after_the_header<'a>(header: Ipv6ExtensionSlice<'a>) -> &'a [u8]
     ensures { result.now ≡ (header_of header.entry).bytes }
 {
     header.slice()
 }
 
 /// Checks that the parts of single headers live as long as the packet.
-pub fn parts_behind_the_headers<'a>(
+pub fn parts_after_the_headers<'a>(
     raw: Ipv6RawExtHeaderSlice<'a>,
     fragment: Ipv6FragmentHeaderSlice<'a>,
     auth: IpAuthHeaderSlice<'a>,
@@ -316,7 +316,7 @@ pub fn parts_behind_the_headers<'a>(
 }
 
 /// Checks that the bytes after the runs of a chain live as long as the packet.
-pub fn rest_behind_the_runs<'a>(runs: Ipv6ExtensionsRuns<'a>) -> Option<&'a [u8]> {
+pub fn rest_after_the_runs<'a>(runs: Ipv6ExtensionsRuns<'a>) -> Option<&'a [u8]> {
     match runs.end() {
         Some((_, rest, _)) => Some(rest),
         None => None,
@@ -328,11 +328,11 @@ pub fn next_and_rest_of_the_cursor<'a>(
     mut headers: Ipv6ExtensionsCursor<'a>,
 ) -> (Option<Ipv6ExtensionSlice<'a>>, &'a [u8], Option<&'a [u8]>) {
     let next = headers.next();
-    let behind = match headers.end() {
+    let after = match headers.end() {
         Some((_, rest, _)) => Some(rest),
         None => None,
     };
-    (next, headers.rest(), behind)
+    (next, headers.rest(), after)
 }
 
 /// Requires a type that can be copied.

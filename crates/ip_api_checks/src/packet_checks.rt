@@ -297,7 +297,7 @@ pub fn ip_packets<'a>(a: &IpSlice<'a>, b: &IpSlice<'_>) -> Result<(bool, IpSlice
 }
 
 /// Checks that the bytes of base headers live as long as the caller's bytes, and not only as long as the header.
-pub fn bytes_behind_base_headers<'a>(
+pub fn bytes_after_base_headers<'a>(
     ipv4: Ipv4HeaderSlice<'a>,
     ipv6: Ipv6HeaderSlice<'a>,
 ) -> (&'a [u8], &'a [u8])
@@ -308,14 +308,14 @@ pub fn bytes_behind_base_headers<'a>(
 }
 
 /// Checks that the bytes of a payload live as long as the caller's bytes.
-pub fn payload_behind_the_packet<'a>(packet: IpSlice<'a>) -> &'a [u8]
+pub fn payload_after_the_packet<'a>(packet: IpSlice<'a>) -> &'a [u8]
     ensures { result.now ≡ (ip_parts packet.entry).payload }
 {
     packet.payload().payload
 }
 
 /// Checks that the bytes of an IPv4 packet's payload live as long as the caller's bytes.
-pub fn payload_behind_the_ipv4_packet<'a>(packet: Ipv4Slice<'a>) -> &'a [u8]
+pub fn payload_after_the_ipv4_packet<'a>(packet: Ipv4Slice<'a>) -> &'a [u8]
     ensures { result.now ≡ (ipv4_parts packet.entry).payload }
 {
     packet.payload().payload
@@ -323,7 +323,7 @@ pub fn payload_behind_the_ipv4_packet<'a>(packet: Ipv4Slice<'a>) -> &'a [u8]
 
 /// Checks that the base header, the extension headers and the payload of an IPv6 packet live as long as the caller's
 /// bytes.
-pub fn parts_behind_the_ipv6_packet<'a>(packet: Ipv6Slice<'a>) -> [&'a [u8]; 3] {
+pub fn parts_after_the_ipv6_packet<'a>(packet: Ipv6Slice<'a>) -> [&'a [u8]; 3] {
     [
         packet.header().slice(),
         packet.extensions().slice(),

@@ -6,18 +6,18 @@ use Rattle.ip_base.specs.declared.err.len_error.LenError.{LenError}
 use Rattle.ip_base.specs.ExactRead.{IsRefusal, IfSteady}
 use Rattle.ip_base.specs.Limits.{left, started, advanced}
 use Rattle.ip_base.specs.LimitedReader.{inner_of, limits_of, window, IsLimitedRefusal}
-use Rattle.ip_base.specs.Reading.{IsRefused, IsRefusedBehind, IsTakenInLayer, IsPastLimit, IsRefusedWithin, IsRefusedInLayer}
+use Rattle.ip_base.specs.Reading.{IsRefused, IsRefusedAfter, IsConsumedInLayer, IsPastLimit, IsRefusedWithin, IsRefusedInLayer}
 use Rattle.ip_base.specs.declared.err.io.limited_read_error.LimitedReadError.{LimitedReadError}
 use Rattle.ip_base.specs.declared.io.limited_reader.LimitedReader.{LimitedReader}
 
 -- bytes consumed from a prefix are consumed from the whole, if the prefix is long enough
-pub taken_of_front : (a b : Option (List ℕ)) (n m : ℕ) (bytes : List ℕ) → Consumes a b bytes → length bytes + m ≡ n → Consumes (option_map (take n) a) (option_map (take m) b) bytes
-taken_of_front a b n m bytes c e = search (rules, take-append-add)
+pub consumed_of_front : (a b : Option (List ℕ)) (n m : ℕ) (bytes : List ℕ) → Consumes a b bytes → length bytes + m ≡ n → Consumes (option_map (take n) a) (option_map (take m) b) bytes
+consumed_of_front a b n m bytes c e = search (rules, take-append-add)
 
 -- a reader's refused request
-pub refused_behind : (Asks : List ℕ → ℕ → Type 0) (steady then_steady : Bool) (first then : Option (List ℕ)) (failed : Bool) (done : List ℕ) (count : ℕ)
+pub refused_after : (Asks : List ℕ → ℕ → Type 0) (steady then_steady : Bool) (first then : Option (List ℕ)) (failed : Bool) (done : List ℕ) (count : ℕ)
     → then_steady ≡ steady → Consumes first then done → Asks done count → IsRefusal then_steady then count failed → IsRefused Asks steady first failed
-refused_behind Asks steady then_steady first then failed done count e c a r = search rules
+refused_after Asks steady then_steady first then failed done count e c a r = search rules
 
 -- a property of the bytes that follow consumed ones
 pub lift_some : (a b : Option (List ℕ)) (done : List ℕ) (Q : List ℕ → Type 0) → Consumes a b done → IfSome b (λ y. Q (done ++ y)) → IfSome a Q
@@ -41,7 +41,7 @@ module _ (Asks : List ℕ → ℕ → Type 0) (P : List ℕ → Type 0) (short :
   refused_short steady first failed r = search rules
 
   within_short : (steady : Bool) (first : Option (List ℕ)) (failed : Bool) (done : List ℕ) (count n : ℕ)
-      → IsRefusedBehind Asks steady first failed done count → length done + count ≤ n → IfSteady steady (option_map (take n) first) P
+      → IsRefusedAfter Asks steady first failed done count → length done + count ≤ n → IfSteady steady (option_map (take n) first) P
   within_short steady first failed done count n r l = grind (arith, common_steps)
 
   module _ {T : Type 0} (bytes_left : T → Option (List ℕ)) (is_steady has_failed : T → Bool) (layer : Layer) (old new : LimitedReader T) where
@@ -54,18 +54,18 @@ module _ (Asks : List ℕ → ℕ → Type 0) (P : List ℕ → Type 0) (short :
 -- Bytes consumed in a layer.
 module _ {T : Type 0} (bytes_left : T → Option (List ℕ)) (layer : Layer) where
   -- no byte consumed, at the layer's start
-  pub taken_none : (old start : LimitedReader T) → inner_of start ≡ inner_of old → limits_of start ≡ started layer (limits_of old) → IsTakenInLayer bytes_left layer old start []
-  taken_none old start same limits = search rules
+  pub consumed_none : (old start : LimitedReader T) → inner_of start ≡ inner_of old → limits_of start ≡ started layer (limits_of old) → IsConsumedInLayer bytes_left layer old start []
+  consumed_none old start same limits = search rules
 
   -- n more bytes consumed after h
-  pub taken_more : (old mid new : LimitedReader T) (h p : List ℕ) (n : ℕ) → IsTakenInLayer bytes_left layer old mid h → length p ≡ n
+  pub consumed_more : (old mid new : LimitedReader T) (h p : List ℕ) (n : ℕ) → IsConsumedInLayer bytes_left layer old mid h → length p ≡ n
       → Consumes (bytes_left (inner_of mid)) (bytes_left (inner_of new)) p → n ≤ left (limits_of mid) → limits_of new ≡ advanced n (limits_of mid)
-      → IsTakenInLayer bytes_left layer old new (h ++ p)
-  taken_more old mid new h p n t is c l e = grind (arith, common_steps, length-append, taken_of_front)
+      → IsConsumedInLayer bytes_left layer old new (h ++ p)
+  consumed_more old mid new h p n t is c l e = grind (arith, common_steps, length-append, consumed_of_front)
 
   -- a request refused after consumed bytes
   module _ (is_steady has_failed : T → Bool) (Asks : List ℕ → ℕ → Type 0) where
-    pub refused_in_layer : (old mid new : LimitedReader T) (done : List ℕ) (count : ℕ) (e : LimitedReadError) → IsTakenInLayer bytes_left layer old mid done
+    pub refused_in_layer : (old mid new : LimitedReader T) (done : List ℕ) (count : ℕ) (e : LimitedReadError) → IsConsumedInLayer bytes_left layer old mid done
         → is_steady (inner_of mid) ≡ is_steady (inner_of old) → has_failed (inner_of mid) ≡ has_failed (inner_of old)
         → Asks done count → IsLimitedRefusal bytes_left is_steady has_failed mid new count e → limits_of new ≡ limits_of mid
         → IsRefusedInLayer bytes_left is_steady has_failed Asks layer old new e

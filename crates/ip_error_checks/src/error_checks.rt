@@ -95,7 +95,7 @@ pub fn packet_headers_error_copy(
 }
 
 /// Returns an error in extension headers with its offset counted from the start of their IPv6 packet.
-pub fn behind_ipv6(error: LenError) -> ip::HeadersSliceError
+pub fn after_ipv6(error: LenError) -> ip::HeadersSliceError
     requires { error.layer_start_offset < 2048 }
     ensures { result ≡ Len (record error { layer_start_offset = error.layer_start_offset + 40 }) }
 {
@@ -103,7 +103,7 @@ pub fn behind_ipv6(error: LenError) -> ip::HeadersSliceError
 }
 
 /// Returns a content error in extension headers, which is unchanged.
-pub fn content_behind_ipv6(error: ip::HeadersError) -> ip::HeadersSliceError
+pub fn content_after_ipv6(error: ip::HeadersError) -> ip::HeadersSliceError
     ensures { result ≡ Content error }
 {
     ip::HeadersSliceError::Content(error).add_slice_offset(40)

@@ -4,7 +4,7 @@ use Rattle.ip_spec.proofs.Common.{◌≡◌, ℕ, List, ◌∷◌, ap, ◌∙◌
 -- the number to which the headers before a place lead
 pub number_before : {X : Type 0} (v : PlacedFields) (p : Place) (ps : List Place) (m : ℕ) (f : X → HeaderFields) (o : Option X) (r n : ℕ)
     → v p ≡ option_map f o → r ≡ (if is_some o then number_in p else n) → n ≡ first_number v ps m → r ≡ first_number v (p ∷ ps) m
-number_before v p ps m f o r n here is behind = search rules
+number_before v p ps m f o r n here is after = search rules
 
 -- a header linked to a number, and that number
 pub linked_to : (x y z : Option HeaderFields) (k n : ℕ) → x ≡ option_map (relinked k) y → y ≡ z → k ≡ n → x ≡ option_map (relinked n) z

@@ -1,7 +1,7 @@
 -- A struct of six places, and its fields in each.
 use Rattle.ip_spec.proofs.Common.{◌≡◌, ℕ, List, refl, ap, ◌∙◌, arith, true, rules, Option, None, is_some, option_map, option_map_or, ForSome, cases_Bool, none-some, RawFields, FragmentFields, AuthFields, raw_fields, fragment_fields, auth_fields, ExtHeader, Place, hop_by_hop, destination, routing, authentication, final_destination, number_in, header_in, HeaderFields, raw_header, fragment_header, auth_header, fields_of, IsEncoded, IsEncodable, placed_len, fields_len}
 use Rattle.ip_spec.specs.Places.{fragment}
-use Rattle.ip_spec.proofs.PlaceLemmas.{none_behind}
+use Rattle.ip_spec.proofs.PlaceLemmas.{none_after}
 use Rattle.ip_spec.proofs.EncodedLemmas.{same_fragment, same_auth}
 use Rattle.ip_spec.proofs.WalkLemmas.{some_if}
 use Rattle.ip_ext_chains.specs.Ipv6Extensions.{value_of, raw_in, final_of, placed_fields, exts_len}
@@ -22,7 +22,7 @@ final_place : (o : Option RawFields) (p : Option RawFields) → (o ≡ None → 
 final_place o p k = search rules
 
 no_final : (c : List ExtHeader) → raw_in routing c ≡ None → raw_in final_destination c ≡ None
-no_final c e = search (rules, cases_Bool, some_if, none-some, none_behind)
+no_final c e = search (rules, cases_Bool, some_if, none-some, none_after)
 
 -- the value of a chain has the fields of its headers
 pub placed_fields-value_of : (c : List ExtHeader) (p : Place) → placed_fields (value_of c) p ≡ option_map fields_of (header_in p c)

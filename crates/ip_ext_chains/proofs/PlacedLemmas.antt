@@ -1,11 +1,11 @@
 -- Headers in their places.
-use Rattle.ip_spec.proofs.Common.{◌≡◌, ℕ, List, refl, ap, sym, ◌∙◌, Bool, false, rules, ◌==◌, ◌&&◌, not, Option, Some, None, is_some, IfSome, if◌then◌else◌, option_map, option_map_or, eqb-true, raw_fields, fragment_fields, auth_fields, ExtHeader, Place, hop_by_hop, destination, routing, authentication, final_destination, number_in, side_of, header_in, place_of, is_taken}
+use Rattle.ip_spec.proofs.Common.{◌≡◌, ℕ, List, refl, ap, sym, ◌∙◌, Bool, false, rules, ◌==◌, ◌&&◌, not, Option, Some, None, is_some, IfSome, if◌then◌else◌, option_map, option_map_or, eqb-true, raw_fields, fragment_fields, auth_fields, ExtHeader, Place, hop_by_hop, destination, routing, authentication, final_destination, number_in, side_of, header_in, place_of, is_occupied}
 use Rattle.ip_spec.specs.Places.{fragment}
 use Rattle.ip_spec.proofs.FirstLemmas.{find_passes}
 use Rattle.ip_spec.proofs.PlaceLemmas.{has_routing, is_of}
 use Rattle.ip_spec.proofs.WalkLemmas.{is_some-map}
 use Rattle.ip_ext_slices.specs.Ipv6ExtensionSlice.{header_of}
-use Rattle.ip_ext_chains.specs.Slots.{at, ArePlaced, place_in, is_taken_in, raw_at, value_at, AreOfNumber}
+use Rattle.ip_ext_chains.specs.Slots.{at, ArePlaced, place_in, is_occupied_in, raw_at, value_at, AreOfNumber}
 use Rattle.ip_ext_chains.specs.Ipv6Extensions.{raw_in, value_of}
 use Rattle.ip_ext_slices.specs.declared.ipv6_ext_slice.Ipv6ExtensionSlice.{Ipv6ExtensionSlice}
 use Rattle.ip_ext_chains.specs.declared.places.Places.{Places}
@@ -30,8 +30,8 @@ module _ (c : List ExtHeader) (v : Places Ipv6ExtensionSlice) (k : ArePlaced c v
   filled_alike : (o : Option Place) → option_map_or (λ p. is_some (at p v)) o false ≡ option_map_or (λ p. is_some (header_in p c)) o false
   filled_alike o = search rules
 
-  pub taken_same : (m : ℕ) → is_taken_in v m ≡ is_taken m c
-  taken_same m = ap (λ b. not (m == 0) && b) (ap (λ o. option_map_or (λ p. is_some (at p v)) o false) (place_same m) ∙ filled_alike (place_of m (has_routing c)))
+  pub consumed_same : (m : ℕ) → is_occupied_in v m ≡ is_occupied m c
+  consumed_same m = ap (λ b. not (m == 0) && b) (ap (λ o. option_map_or (λ p. is_some (at p v)) o false) (place_same m) ∙ filled_alike (place_of m (has_routing c)))
 
   of_number : (p : Place) (o : Option Ipv6ExtensionSlice) → option_map header_of o ≡ header_in p c → IfSome o (λ h. (header_of h).number ≡ number_in p)
   of_number p o e = search (rules, in_place_number)

@@ -1,9 +1,9 @@
 -- A chain that is read, header by header, into six places.
-use Rattle.ip_spec.proofs.Common.{common_steps, ◌≡◌, ◌≢◌, ℕ, ◌+◌, ◌<◌, List, ◌∷◌, ◌++◌, length, drop, take, refl, ap, sym, ◌∙◌, arith, inl, inr, ◌⊎◌, subst, Bool, true, false, rules, [], ◌==◌, ◌&&◌, not, Option, Some, None, is_some, if◌then◌else◌, option_map, option_map_or, cases_Bool, ne_eqb, none-some, and-false, take-length, drop-append_seam, IsHeader, IsExtensionNumber, ExtHeader, IsChain, IsNext, leads_to, bytes_of, is_empty, FitsPlaces, Place, hop_by_hop, destination, routing, authentication, final_destination, index, number_in, header_in, place_of, is_taken, fields_of, HeaderFields, raw_header}
+use Rattle.ip_spec.proofs.Common.{common_steps, ◌≡◌, ◌≢◌, ℕ, ◌+◌, ◌<◌, List, ◌∷◌, ◌++◌, length, drop, take, refl, ap, sym, ◌∙◌, arith, inl, inr, ◌⊎◌, subst, Bool, true, false, rules, [], ◌==◌, ◌&&◌, not, Option, Some, None, is_some, if◌then◌else◌, option_map, option_map_or, cases_Bool, ne_eqb, none-some, and-false, take-length, drop-append_seam, IsHeader, IsExtensionNumber, ExtHeader, IsChain, IsNext, leads_to, bytes_of, is_empty, FitsPlaces, Place, hop_by_hop, destination, routing, authentication, final_destination, index, number_in, header_in, place_of, is_occupied, fields_of, HeaderFields, raw_header}
 use Rattle.ip_spec.specs.Places.{fragment}
 use Rattle.ip_spec.proofs.PrefixLemmas.{prefix_of-append}
 use Rattle.ip_spec.proofs.ChainLemmas.{no_chain, goes_on, leads_to-more}
-use Rattle.ip_ext_chains.proofs.FittingLemmas.{taken_answers, other_answers}
+use Rattle.ip_ext_chains.proofs.FittingLemmas.{occupied_answers, other_answers}
 use Rattle.ip_spec.proofs.WalkLemmas.{none_if, is_some-map}
 use Rattle.ip_spec.proofs.WalkStepLemmas.{not_empty}
 use Rattle.ip_spec.proofs.FitsLemmas.{fits_places}
@@ -59,10 +59,10 @@ module _ (n : ℕ) (c : List ExtHeader) (m : ℕ) (v : Ipv6Extensions) (first : 
         let own : place_of m (has_routing c) ≡ Some p = ap (place_of m) (sym (routing_there c v k.value)) ∙ e in
         elim (cases_Bool (is_some (placed_fields v p))) [
           | inl there ↦
-              let taken : is_taken m c ≡ true =
+              let occupied : is_occupied m c ≡ true =
               ap (λ (o : Option Place). not (m == 0) && option_map_or (λ (q : Place). is_some (header_in q c)) o false) own
               ∙ ap (λ (b : Bool). not b && is_some (header_in p c)) (ne_eqb m 0 other) ∙ sym (filled c v k.value p) ∙ there in
-              taken_answers n c m k.chain k.fits k.number x v k.value taken
+              occupied_answers n c m k.chain k.fits k.number x v k.value occupied
           | inr free ↦ absurd (none p (record { own = e; free = free; zero_first = λ z. absurd (other z) }))
         ]
   ]
@@ -78,14 +78,14 @@ module _ (n : ℕ) (c : List ExtHeader) (m : ℕ) (v : Ipv6Extensions) (first : 
     is_number_in = place_number m p (has_routing c) own
 
     -- its place is free
-    pub not_taken : is_taken (leads_to n c) c ≡ false
-    not_taken = search (rules, own, free_in, and-false)
+    pub not_occupied : is_occupied (leads_to n c) c ≡ false
+    not_occupied = search (rules, own, free_in, and-false)
 
     pub nested : p ≡ final_destination → is_some v.routing ≡ true
     nested e = search rules
 
-    pub reading_next : (Taken : List ℕ → Type 0) (j : ℕ) (w : Ipv6Extensions) (r : IsReadInto Taken p j v w) → IsReading n (c ++ record { number = m; bytes = r.bytes } ∷ []) j w false
-    reading_next Taken j w r =
+    pub reading_next : (Consumed : List ℕ → Type 0) (j : ℕ) (w : Ipv6Extensions) (r : IsReadInto Consumed p j v w) → IsReading n (c ++ record { number = m; bytes = r.bytes } ∷ []) j w false
+    reading_next Consumed j w r =
         let h : ExtHeader = record { number = m; bytes = r.bytes } in
         let s : List ℕ = bytes_of c ++ r.bytes in
         let H : ℕ → Type 0 = λ i. IsHeader i r.bytes in
@@ -124,8 +124,8 @@ fewer_at : (p : Place) (b : List ℕ) (v : Ipv6Extensions) → is_some (placed_f
 fewer_at p b v free nested = search rules
 
 -- each header that is read occupies one
-pub fewer : (Taken : List ℕ → Type 0) (first : Bool) (m : ℕ) (p : Place) (j : ℕ) (v w : Ipv6Extensions) → IsNextPlace first m p v → (p ≡ final_destination → is_some v.routing ≡ true) → IsReadInto Taken p j v w → free_places w < free_places v
-fewer Taken first m p j v w next nested r = rw r.value (fewer_at p r.bytes v next.free nested)
+pub fewer : (Consumed : List ℕ → Type 0) (first : Bool) (m : ℕ) (p : Place) (j : ℕ) (v w : Ipv6Extensions) → IsNextPlace first m p v → (p ≡ final_destination → is_some v.routing ≡ true) → IsReadInto Consumed p j v w → free_places w < free_places v
+fewer Consumed first m p j v w next nested r = rw r.value (fewer_at p r.bytes v next.free nested)
 
 empty_is : (c : List ExtHeader) → is_empty c ≡ true → c ≡ []
 empty_is c e = search rules
@@ -142,8 +142,8 @@ module _ (n : ℕ) (c : List ExtHeader) (m : ℕ) (v : Ipv6Extensions) (first : 
     }))
   ]
 
-  pub zero_not_taken : m ≡ 0 → is_taken (leads_to n c) c ≡ false
-  zero_not_taken zero_number = ap (λ (j : ℕ). is_taken j c) (sym k.number ∙ zero_number)
+  pub zero_not_occupied : m ≡ 0 → is_occupied (leads_to n c) c ≡ false
+  zero_not_occupied zero_number = ap (λ (j : ℕ). is_occupied j c) (sym k.number ∙ zero_number)
 
   -- so if a header follows, the first number is an extension number
   pub named : (p : Place) → IsNextPlace first m p v → (IsExtensionNumber n → ⊥) → ⊥

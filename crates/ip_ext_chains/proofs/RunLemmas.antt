@@ -1,8 +1,8 @@
 -- Headers stored in their places, and the end of a run.
-use Rattle.ip_spec.proofs.Common.{common_steps, ◌≡◌, ◌≢◌, ℕ, ◌*◌, ◌≤◌, List, ◌∷◌, ◌++◌, length, map, nat_eq, arith, refl, ap, sym, ◌∙◌, Bool, true, false, subst, append_assoc, rules, [], ◌==◌, ◌↔◌, Some, None, is_some, if◌then◌else◌, option_map, eqb-true, YieldsList, YieldsList-from_shown, ExtHeader, bytes_of, IsChain, FitsPlaces, IsTaken, Place, index, header_in, place_of}
-use Rattle.ip_spec.proofs.PlaceLemmas.{has_routing, own_place, placed, fits_more, breaks_more, taken_told}
+use Rattle.ip_spec.proofs.Common.{common_steps, ◌≡◌, ◌≢◌, ℕ, ◌*◌, ◌≤◌, List, ◌∷◌, ◌++◌, length, map, nat_eq, arith, refl, ap, sym, ◌∙◌, Bool, true, false, subst, append_assoc, rules, [], ◌==◌, ◌↔◌, Some, None, is_some, if◌then◌else◌, option_map, eqb-true, YieldsList, YieldsList-from_shown, ExtHeader, bytes_of, IsChain, FitsPlaces, IsOccupied, Place, index, header_in, place_of}
+use Rattle.ip_spec.proofs.PlaceLemmas.{has_routing, own_place, placed, fits_more, breaks_more, occupied_told}
 use Rattle.ip_ext_slices.specs.Ipv6ExtensionSlice.{header_of}
-use Rattle.ip_ext_chains.specs.Slots.{at, place_in, IsPut, IsFreePlace, is_taken_in, IsFilled, ArePlaced, AreOfNumber, value_at}
+use Rattle.ip_ext_chains.specs.Slots.{at, place_in, IsPut, IsFreePlace, is_occupied_in, IsFilled, ArePlaced, AreOfNumber, value_at}
 use Rattle.ip_ext_slices.specs.Longest.{longest_chain}
 use Rattle.ip_ext_chains.specs.RunsOf.{runs_from}
 use Rattle.ip_ext_chains.specs.Ipv6Extensions.{value_of}
@@ -15,7 +15,7 @@ use Rattle.ip_ext_chains.specs.declared.places.Places.{Places}
 use Rattle.ip_ext_slices.proofs.LongestLemmas.{longest_chain-least}
 use Rattle.ip_ext_chains.proofs.RunsOfLemmas.{runs_from-next}
 use Rattle.ip_spec.proofs.HeaderLemmas.{header_number}
-use Rattle.ip_ext_chains.proofs.PlacedLemmas.{mapped_if, filled_same, place_same, none_same, taken_same, value_placed, placed_numbers}
+use Rattle.ip_ext_chains.proofs.PlacedLemmas.{mapped_if, filled_same, place_same, none_same, consumed_same, value_placed, placed_numbers}
 
 -- of the headers c, those before `left` are stored in the places
 pub record IsPlacing (c left : List ExtHeader) (v : Places Ipv6ExtensionSlice) : Type 0 where
@@ -82,18 +82,18 @@ module _ (n : ℕ) (s : List ℕ) (whole : bytes_of (longest_chain n s) ≡ s) w
 
 -- The step of the iterator: the value of the places is that of the first run, and those of the others follow.
 module _ (m : ℕ) (c d : List ExtHeader) (v : Places Ipv6ExtensionSlice) (r : IsRun c v d) where
-  taken_in : is_taken_in v m ≡ true ↔ IsTaken m r.run
-  taken_in =
-      (λ t. (taken_told r.run m r.kept.meets).0 (sym (taken_same r.run v r.placed m) ∙ t), λ t. taken_same r.run v r.placed m ∙ (taken_told r.run m r.kept.meets).1 t)
+  occupied_in : is_occupied_in v m ≡ true ↔ IsOccupied m r.run
+  occupied_in =
+      (λ t. (occupied_told r.run m r.kept.meets).0 (sym (consumed_same r.run v r.placed m) ∙ t), λ t. consumed_same r.run v r.placed m ∙ (occupied_told r.run m r.kept.meets).1 t)
 
-  pub run_passes : (before done : Bool) → before ≡ false → (done ≡ true → (d ≡ []) × (is_taken_in v m ≡ false)) → (done ≡ false → d ≡ [] → is_taken_in v m ≡ true)
+  pub run_passes : (before done : Bool) → before ≡ false → (done ≡ true → (d ≡ []) × (is_occupied_in v m ≡ false)) → (done ≡ false → d ≡ [] → is_occupied_in v m ≡ true)
       → (if before then [] else runs_from m c) ≡ r.run ∷ (if done then [] else runs_from m d)
   run_passes before done some ends on =
-      let free : done ≡ true → IsTaken m r.run → ⊥ = λ w t. let differ : true ≡ false = sym (taken_in.1 t) ∙ (ends w).1 in cc in
+      let free : done ≡ true → IsOccupied m r.run → ⊥ = λ w t. let differ : true ≡ false = sym (occupied_in.1 t) ∙ (ends w).1 in cc in
       ap (λ b. if b then [] else runs_from m c) some ∙ runs_from-next m c r.run r.kept done (λ w. (r.left ∙ (ends w).0, free w))
-      (λ w e. taken_in.0 (on w (sym r.left ∙ e))) ∙ ap (λ l. r.run ∷ (if done then [] else runs_from m l)) r.left
+      (λ w e. occupied_in.0 (on w (sym r.left ∙ e))) ∙ ap (λ l. r.run ∷ (if done then [] else runs_from m l)) r.left
 
-  pub run_next : (before done : Bool) (x : Ipv6Extensions) → before ≡ false → x ≡ value_at v → (done ≡ true → (d ≡ []) × (is_taken_in v m ≡ false)) → (done ≡ false → d ≡ [] → is_taken_in v m ≡ true)
+  pub run_next : (before done : Bool) (x : Ipv6Extensions) → before ≡ false → x ≡ value_at v → (done ≡ true → (d ≡ []) × (is_occupied_in v m ≡ false)) → (done ≡ false → d ≡ [] → is_occupied_in v m ≡ true)
       → map value_of (if before then [] else runs_from m c) ≡ x ∷ map value_of (if done then [] else runs_from m d)
   run_next before done x some is ends on = search (rules, run_passes, value_placed)
 

@@ -1,6 +1,6 @@
 -- The number before the remaining runs: it starts the headers that are left, and each run leads to the next one.
 use Rattle.ip_spec.proofs.Common.{◌≡◌, ◌≢◌, ℕ, List, ◌∷◌, ◌++◌, map, refl, ap, ◌∙◌, Bool, true, subst, rules, [], if◌then◌else◌, AreBytes, ExtHeader, leads_to, bytes_of, IsChain}
-use Rattle.ip_spec.proofs.RunsLemmas.{chain_behind, leads_to-append}
+use Rattle.ip_spec.proofs.RunsLemmas.{chain_after, leads_to-append}
 use Rattle.ip_ext_chains.specs.Ipv6Extensions.{value_of}
 use Rattle.ip_ext_chains.specs.RunsOf.{runs_from}
 use Rattle.ip_ext_chains.specs.Run.{IsRun}
@@ -48,10 +48,10 @@ module _ (n m : ℕ) (c d : List ExtHeader) (v : Places Ipv6ExtensionSlice) (cha
   on = leads_before m c ends ∙ ap (leads_to (number_before m c)) joined ∙ leads_to-append (number_before m c) p d
 
   pub run_leads : number_before m d ≡ leads_to (number_before m c) p
-  run_leads = number_before-chain (leads_to (number_before m c) p) m d (chain_behind (number_before m c) p d both) on
+  run_leads = number_before-chain (leads_to (number_before m c) p) m d (chain_after (number_before m c) p d both) on
 
-  pub bytes_behind : AreBytes (bytes_of c) → AreBytes (bytes_of d)
-  bytes_behind bytes = let B : List ExtHeader → Type 0 = λ l. AreBytes (bytes_of l) in later_bytes p d (subst B joined bytes)
+  pub bytes_after : AreBytes (bytes_of c) → AreBytes (bytes_of d)
+  bytes_after bytes = let B : List ExtHeader → Type 0 = λ l. AreBytes (bytes_of l) in later_bytes p d (subst B joined bytes)
 
-  pub ends_behind : m ≡ leads_to m d
-  ends_behind = leads_alike (leads_to (number_before m c) p) m d on
+  pub ends_after : m ≡ leads_to m d
+  ends_after = leads_alike (leads_to (number_before m c) p) m d on

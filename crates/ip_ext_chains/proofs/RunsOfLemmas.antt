@@ -1,5 +1,5 @@
 -- The runs of the longest chain, and the remaining ones.
-use Rattle.ip_spec.proofs.Common.{◌≡◌, ◌≢◌, ℕ, ◌+◌, ◌/◌, ◌≤◌, List, ◌∷◌, ◌++◌, length, map, refl, ap, sym, ◌∙◌, arith, subst, Bool, true, false, rules, [], if◌then◌else◌, AllByRecursion, append-nil, ExtHeader, leads_to, KeepsBeginning, FitsPlaces, IsTaken, AreRuns, joined, how_many}
+use Rattle.ip_spec.proofs.Common.{◌≡◌, ◌≢◌, ℕ, ◌+◌, ◌/◌, ◌≤◌, List, ◌∷◌, ◌++◌, length, map, refl, ap, sym, ◌∙◌, arith, subst, Bool, true, false, rules, [], if◌then◌else◌, AllByRecursion, append-nil, ExtHeader, leads_to, KeepsBeginning, FitsPlaces, IsOccupied, AreRuns, joined, how_many}
 use Rattle.ip_spec.proofs.RunsLemmas.{some_runs, one_runs, fewest_runs, some_run, runs_bound, runs_more, runs_end}
 use Rattle.ip_ext_slices.specs.Longest.{longest_chain}
 use Rattle.ip_ext_chains.specs.Ipv6Extensions.{value_of}
@@ -52,10 +52,10 @@ module _ (n : ℕ) (s : List ℕ) where
   runs_from-are m c em ec = search (rules, runs_of-are)
 
 -- The first of them is the prefix that is kept, and the others are those of the rest, unless it was the last.
-pub runs_from-next : (m : ℕ) (c p : List ExtHeader) (k : KeepsBeginning FitsPlaces c p) (done : Bool) → (done ≡ true → (k.rest ≡ []) × (IsTaken m p → ⊥)) → (done ≡ false → k.rest ≡ [] → IsTaken m p) → runs_from m c ≡ p ∷ (if done then [] else runs_from m k.rest)
+pub runs_from-next : (m : ℕ) (c p : List ExtHeader) (k : KeepsBeginning FitsPlaces c p) (done : Bool) → (done ≡ true → (k.rest ≡ []) × (IsOccupied m p → ⊥)) → (done ≡ false → k.rest ≡ [] → IsOccupied m p) → runs_from m c ≡ p ∷ (if done then [] else runs_from m k.rest)
 runs_from-next m c p k true ends on =
     let whole : c ≡ p = k.joined ∙ ap (λ l. p ++ l) (ends refl).0 ∙ append-nil p in
     let F : List ExtHeader → Type 0 = FitsPlaces in
-    let free : IsTaken m c → ⊥ = λ t. let T : List ExtHeader → Type 0 = IsTaken m in (ends refl).1 (subst T whole t) in
+    let free : IsOccupied m c → ⊥ = λ t. let T : List ExtHeader → Type 0 = IsOccupied m in (ends refl).1 (subst T whole t) in
     runs_from-is m c (c ∷ []) (runs_end m c (subst F (sym whole) k.meets) free) ∙ ap (λ l. l ∷ []) whole
 runs_from-next m c p k false ends on = runs_from-is m c (p ∷ runs_from m k.rest) (runs_more m c p k (on refl) (runs_from m k.rest) (runs_from-runs m k.rest))

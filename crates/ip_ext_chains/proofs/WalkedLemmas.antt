@@ -13,29 +13,29 @@ use Rattle.ip_ext_chains.specs.declared.walk.Walk.{Walk}
 -- some headers were reached from f and taken out of v, and w is the walk after them
 pub record Walked (v : PlacedFields) (f : ℕ) (w : Walk) : Type 0 where
   pub reached : List ExtHeader
-  pub walking : Walking v f reached (left_in w) w.number.0 w.first w.behind_routing
+  pub walking : Walking v f reached (left_in w) w.number.0 w.first w.past_routing
 
-walking_none : (v : PlacedFields) (f : ℕ) (w : Walk) → ((p : Place) → left_in w p ≡ v p) → w.number.0 ≡ f → w.first ≡ true → w.behind_routing ≡ false → Walking v f [] (left_in w) w.number.0 w.first w.behind_routing
-walking_none v f w left number first behind = search rules
+walking_none : (v : PlacedFields) (f : ℕ) (w : Walk) → ((p : Place) → left_in w p ≡ v p) → w.number.0 ≡ f → w.first ≡ true → w.past_routing ≡ false → Walking v f [] (left_in w) w.number.0 w.first w.past_routing
+walking_none v f w left number first after = search rules
 
-pub walked_none : (v : PlacedFields) (f : ℕ) (w : Walk) → ((p : Place) → left_in w p ≡ v p) → w.number.0 ≡ f → w.first ≡ true → w.behind_routing ≡ false → Walked v f w
-walked_none v f w left number first behind = record { reached = []; walking = walking_none v f w left number first behind }
+pub walked_none : (v : PlacedFields) (f : ℕ) (w : Walk) → ((p : Place) → left_in w p ≡ v p) → w.number.0 ≡ f → w.first ≡ true → w.past_routing ≡ false → Walked v f w
+walked_none v f w left number first after = record { reached = []; walking = walking_none v f w left number first after }
 
 -- the number of remaining headers, and their length in bytes
 abbrev pub headers_left : Walk → ℕ
 headers_left w = sum_placed (λ x. 1) (left_in w)
 
 pub step_less : (old new : Walk) (x : HeaderFields) → IsStep old new x → headers_left new < headers_left old
-step_less old new x s = omega (arith, sum_without (λ y. 1) (left_in old) (left_in new) s.place x s.there s.taken)
+step_less old new x s = omega (arith, sum_without (λ y. 1) (left_in old) (left_in new) s.place x s.there s.left)
 
-module _ (v : PlacedFields) (f : ℕ) (e : IsEncodable v) (old new : Walk) (x : HeaderFields) (s : IsStep old new x) (c : List ExtHeader) (k : Walking v f c (left_in old) old.number.0 old.first old.behind_routing) where
+module _ (v : PlacedFields) (f : ℕ) (e : IsEncodable v) (old new : Walk) (x : HeaderFields) (s : IsStep old new x) (c : List ExtHeader) (k : Walking v f c (left_in old) old.number.0 old.first old.past_routing) where
   abbrev encoded : (h : ExtHeader) × IsEncoded (number_in s.place) x h
   encoded = e.encoded s.place x (left_some (header_in s.place c) (v s.place) x (sym (k.left s.place) ∙ s.there)).1
 
-  step_walking : Walking v f (c ++ encoded.0 ∷ []) (left_in new) new.number.0 new.first new.behind_routing
+  step_walking : Walking v f (c ++ encoded.0 ∷ []) (left_in new) new.number.0 new.first new.past_routing
   step_walking =
-      walks_on v f c (left_in old) old.number.0 old.first old.behind_routing k s.place x encoded.0 s.own s.there encoded.1 (left_in new) new.number.0 new.first
-      new.behind_routing s.taken (s.number ∙ ap next_of (sym encoded.1.fields) ∙ next_said encoded.0) s.first s.behind_routing
+      walks_on v f c (left_in old) old.number.0 old.first old.past_routing k s.place x encoded.0 s.own s.there encoded.1 (left_in new) new.number.0 new.first
+      new.past_routing s.left (s.number ∙ ap next_of (sym encoded.1.fields) ∙ next_said encoded.0) s.first s.past_routing
 
   pub walked_more : Walked v f new
   walked_more = record { reached = c ++ encoded.0 ∷ []; walking = step_walking }
@@ -52,13 +52,13 @@ walked_answer v f old new a k s e = search (rules, walk_answers)
 -- The headers reached were appended to `before`, and there is room for the remaining ones.
 pub record Written (v : PlacedFields) (f : ℕ) (w : Walk) (before now : List ℕ) (room : ℕ) : Type 0 where
   pub reached : List ExtHeader
-  pub walking : Walking v f reached (left_in w) w.number.0 w.first w.behind_routing
+  pub walking : Walking v f reached (left_in w) w.number.0 w.first w.past_routing
   pub appended : now ≡ before ++ bytes_of reached
   pub fits : length now + placed_len (left_in w) ≤ room
 
 -- the length that a step takes from what is left
 pub step_len : (old new : Walk) (x : HeaderFields) → IsStep old new x → placed_len (left_in new) + fields_len x ≡ placed_len (left_in old)
-step_len old new x s = sum_without fields_len (left_in old) (left_in new) s.place x s.there s.taken
+step_len old new x s = sum_without fields_len (left_in old) (left_in new) s.place x s.there s.left
 
 -- there is room for the next header
 pub written_room : (v : PlacedFields) (f : ℕ) (old new : Walk) (x : HeaderFields) → IsStep old new x → (before now : List ℕ) (room : ℕ) → Written v f old before now room → length now + fields_len x ≤ room
@@ -87,12 +87,12 @@ written_in v f e old new before now more room larger r some appended none same f
 pub left_len : (v : PlacedFields) (w : Walk) → ((p : Place) → left_in w p ≡ v p) → placed_len (left_in w) ≡ placed_len v
 left_len v w left = ap placed_len (same_held (left_in w) v left)
 
-pub written_none : (v : PlacedFields) (f : ℕ) (w : Walk) → ((p : Place) → left_in w p ≡ v p) → w.number.0 ≡ f → w.first ≡ true → w.behind_routing ≡ false
+pub written_none : (v : PlacedFields) (f : ℕ) (w : Walk) → ((p : Place) → left_in w p ≡ v p) → w.number.0 ≡ f → w.first ≡ true → w.past_routing ≡ false
     → (before now : List ℕ) (room : ℕ) → now ≡ before → length now + placed_len v ≤ room → Written v f w before now room
-written_none v f w left number first behind before now room same fits =
+written_none v f w left number first after before now room same fits =
     record {
       reached = [];
-      walking = walking_none v f w left number first behind;
+      walking = walking_none v f w left number first after;
       appended = same ∙ sym (append-nil before);
       fits = omega (arith, fits, left_len v w left);
     }
@@ -102,4 +102,4 @@ pub written_answer : (v : PlacedFields) (f : ℕ) (old new : Walk) (before now :
 written_answer v f old new before now room a k s e = walked_answer v f old new a (record { reached = k.reached; walking = k.walking }) s e
 
 pub written_reach : (v : PlacedFields) (f : ℕ) (old new : Walk) (before now : List ℕ) (room : ℕ) (k : Written v f old before now room) → IsStop old new → IsLongestOf (IsReachable v f) k.reached
-written_reach v f old new before now room k s = walk_stops v f k.reached (left_in old) old.number.0 old.first old.behind_routing k.walking s.none
+written_reach v f old new before now room k s = walk_stops v f k.reached (left_in old) old.number.0 old.first old.past_routing k.walking s.none

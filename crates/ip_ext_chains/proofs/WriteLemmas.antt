@@ -1,7 +1,7 @@
 -- A struct of six places as it is parsed, and as it is written.
-use Rattle.ip_spec.proofs.Common.{◌≡◌, ℕ, ◌+◌, ◌<◌, List, ◌++◌, length, ap, sym, ◌∙◌, arith, subst, rules, Err, None, ◌↔◌, append_cancel_left, length-append, All-take, IsLongestOf, IsExtensionNumber, AreBytes, cleared_chain, ExtHeader, leads_to, bytes_of, FitsPlaces, IsEncodable, IsValueOf, IsSpelling, IsReachable, WalkAnswer, leads, IsWalkAnswer, IsRead}
+use Rattle.ip_spec.proofs.Common.{◌≡◌, ℕ, ◌+◌, ◌<◌, List, ◌++◌, length, ap, sym, ◌∙◌, arith, subst, rules, Err, None, ◌↔◌, append_cancel_left, length-append, All-take, IsLongestOf, IsExtensionNumber, AreBytes, cleared_chain, ExtHeader, leads_to, bytes_of, FitsPlaces, IsEncodable, IsValueOf, IsSpelling, IsReachable, WalkAnswer, leads, IsWalkAnswer, IsParsed}
 use Rattle.ip_spec.proofs.FitsLemmas.{fits_places}
-use Rattle.ip_spec.proofs.ReadLemmas.{whole_read}
+use Rattle.ip_spec.proofs.ParsedLemmas.{whole_parsed}
 use Rattle.ip_spec.proofs.WalkLemmas.{one_reach}
 use Rattle.ip_spec.proofs.SpellingLemmas.{one_spelling, spelling_is_reach, one_answer, leads_exactly, leads_spelled, spelled_leads, shown_bytes, cleared_spells, spelled_alike}
 use Rattle.ip_spec.proofs.SumLemmas.{bytes_len}
@@ -28,10 +28,10 @@ module _ (v : Ipv6Extensions) (n : ℕ) where
 
   -- parsing as the fields of v is parsing as v, and vice versa
   abbrev pub IsReadAsHeld : ℕ → List ℕ → Type 0
-  IsReadAsHeld m s = IsRead FitsPlaces (λ c. IsValueOf c (placed_fields v)) n m s
+  IsReadAsHeld m s = IsParsed FitsPlaces (λ c. IsValueOf c (placed_fields v)) n m s
 
   abbrev pub IsReadAsValue : ℕ → List ℕ → Type 0
-  IsReadAsValue m s = IsRead FitsPlaces (λ c. value_of c ≡ v) n m s
+  IsReadAsValue m s = IsParsed FitsPlaces (λ c. value_of c ≡ v) n m s
 
   read_as_value : (m : ℕ) (s : List ℕ) → IsReadAsHeld m s → IsReadAsValue m s
   read_as_value m s r = record { bytes = r.bytes; chain = r.chain; longest = r.longest; value = sym (value_is r.chain r.value); number = r.number; all = r.all }
@@ -78,7 +78,7 @@ module _ (v : Ipv6Extensions) (n : ℕ) where
     written_whole encodable b m e a =
         let s = w.spelling in
         let bytes : AreBytes b = subst AreBytes (appended_is b e) (shown_bytes (placed_fields v) n encodable w.chain s.reachable) in
-        whole_read FitsPlaces fits_places n m (λ c. value_of c ≡ v) b w.chain s.reachable.chain s.reachable.fits (sym (value_is w.chain s.value)) (written_leads m a) (appended_is b e) bytes
+        whole_parsed FitsPlaces fits_places n m (λ c. value_of c ≡ v) b w.chain s.reachable.chain s.reachable.fits (sym (value_is w.chain s.value)) (written_leads m a) (appended_is b e) bytes
 
     -- they are the bytes parsed, with their reserved bits set to zero
     pub written_cleared : (s : List ℕ) → AreBytes s → value_of (fitting_chain n s) ≡ v → new ≡ old ++ bytes_of (cleared_chain (fitting_chain n s))

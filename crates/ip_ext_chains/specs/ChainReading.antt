@@ -10,12 +10,12 @@ use Rattle.ip_spec.specs.Fields.{next_header, raw_fields, fragment_fields, auth_
 use Rattle.ip_spec.specs.Requests.{Asks}
 use Rattle.ip_spec.specs.Chain.{ExtHeader, IsChain, leads_to, bytes_of, is_empty}
 use Rattle.ip_spec.specs.Fits.{FitsPlaces}
-use Rattle.ip_spec.specs.Places.{Place, hop_by_hop, destination, routing, fragment, authentication, final_destination, number_in, place_of, is_taken}
+use Rattle.ip_spec.specs.Places.{Place, hop_by_hop, destination, routing, fragment, authentication, final_destination, number_in, place_of, is_occupied}
 use Rattle.ip_base.specs.Limits.{Limits, left, started, advanced}
 use Rattle.ip_base.specs.LimitedReader.{inner_of, limits_of, window}
-use Rattle.ip_base.specs.Reading.{IsRefused, IsTakenInLayer, IsPastLimit, IsRefusedWithin}
+use Rattle.ip_base.specs.Reading.{IsRefused, IsConsumedInLayer, IsPastLimit, IsRefusedWithin}
 use Rattle.ip_base.specs.declared.io.limited_reader.LimitedReader.{LimitedReader}
-use Rattle.ip_ext_headers.specs.AuthReading.{IsZeroTaken}
+use Rattle.ip_ext_headers.specs.AuthReading.{IsZeroConsumed}
 use Rattle.ip_base.specs.declared.err.ipv6_exts.header_error.HeaderError.TheVariants.{HopByHopNotAtStart, IpAuth}
 use Rattle.ip_ext_chains.specs.Fitting.{IsFittingAnswer}
 use Rattle.ip_ext_chains.specs.Ipv6Extensions.{placed_fields}
@@ -31,41 +31,41 @@ abbrev pub layer_of : ℕ → Layer
 layer_of m = if m == FRAGMENT then Ipv6FragHeader else if m == AUTHENTICATION then IpAuthHeader else Ipv6ExtHeader
 
 -- the limit after headers c, each of which started a layer of its own
-abbrev pub limits_behind : List ExtHeader → Limits → Limits
-limits_behind [] l = l
-limits_behind (h ∷ c) l = limits_behind c (advanced (length h.bytes) (started (layer_of h.number) l))
+abbrev pub limits_after : List ExtHeader → Limits → Limits
+limits_after [] l = l
+limits_after (h ∷ c) l = limits_after c (advanced (length h.bytes) (started (layer_of h.number) l))
 
 -- Headers were read. Whatever follows them, their parse from number n has the value v, the number m, no error, and
--- leaves what follows. `Taken` says which headers a reader returned.
-pub record IsChainTaken {R : Type 0} (Taken : R → R → List ExtHeader → Type 0) (old new : R) (n : ℕ) (v : Ipv6Extensions) (m : ℕ) : Type 0 where
+-- leaves what follows. `Consumed` says which headers a reader returned.
+pub record IsChainConsumed {R : Type 0} (Consumed : R → R → List ExtHeader → Type 0) (old new : R) (n : ℕ) (v : Ipv6Extensions) (m : ℕ) : Type 0 where
   pub headers : List ExtHeader
   pub chain : IsChain n headers
-  pub taken : Taken old new headers
+  pub consumed : Consumed old new headers
   pub answer : (rest : List ℕ) → IsFittingAnswer n (bytes_of headers ++ rest) v m rest None
 
 -- After headers that were read, no header of the number to which they lead could be read, although its place is free.
 -- `Refused` says why, from whether it would be the first, its number, and the reader before and after.
-pub record IsChainRefused {R : Type 0} (Taken : R → R → List ExtHeader → Type 0) (Refused : Bool → ℕ → R → R → Type 0) (old new : R) (n : ℕ) : Type 0 where
+pub record IsChainRefused {R : Type 0} (Consumed : R → R → List ExtHeader → Type 0) (Refused : Bool → ℕ → R → R → Type 0) (old new : R) (n : ℕ) : Type 0 where
   pub headers : List ExtHeader
   pub chain : IsChain n headers
   pub fits : FitsPlaces headers
-  pub free : is_taken (leads_to n headers) headers ≡ false
+  pub free : is_occupied (leads_to n headers) headers ≡ false
   pub between : R
-  pub taken : Taken old between headers
+  pub consumed : Consumed old between headers
   pub refused : Refused (is_empty headers) (leads_to n headers) between new
 
 module _ {T : Type 0} (bytes_left : T → Option (List ℕ)) (is_steady has_failed : T → Bool) where
   -- these headers were read; if there are none, nothing has changed
-  pub record AreTaken (old new : T) (c : List ExtHeader) : Type 0 where
+  pub record AreConsumed (old new : T) (c : List ExtHeader) : Type 0 where
     pub bytes : Consumes (bytes_left old) (bytes_left new) (bytes_of c)
     pub steady : is_steady new ≡ is_steady old
     pub kept : has_failed new ≡ has_failed old
     pub none : c ≡ [] → new ≡ old
 
   -- They were read within the limit, each in a layer of its own. `left_over` says that the limit allowed these bytes.
-  pub record AreTakenInLayers (old new : LimitedReader T) (c : List ExtHeader) : Type 0 where
+  pub record AreConsumedInLayers (old new : LimitedReader T) (c : List ExtHeader) : Type 0 where
     pub left_over : left (limits_of new) + length (bytes_of c) ≡ left (limits_of old)
-    pub limits : limits_of new ≡ limits_behind c (limits_of old)
+    pub limits : limits_of new ≡ limits_after c (limits_of old)
     pub bytes : Consumes (bytes_left (inner_of old)) (bytes_left (inner_of new)) (bytes_of c)
     pub window : Consumes (window bytes_left old) (window bytes_left new) (bytes_of c)
     pub steady : is_steady (inner_of new) ≡ is_steady (inner_of old)
@@ -79,7 +79,7 @@ module _ {T : Type 0} (bytes_left : T → Option (List ℕ)) (is_steady has_fail
       (m ≡ HOP_BY_HOP → IsTrue first) × IsRefused (Asks m) (is_steady old) (bytes_left old) (has_failed new)
   IsHeaderRefused (read.Content HopByHopNotAtStart) first m old new = (m ≡ HOP_BY_HOP) × (first ≡ false) × (new ≡ old)
   IsHeaderRefused (read.Content (IpAuth e)) first m old new =
-      (m ≡ AUTHENTICATION) × IsZeroTaken (Consumes (bytes_left old) (bytes_left new)) (has_failed old) (has_failed new)
+      (m ≡ AUTHENTICATION) × IsZeroConsumed (Consumes (bytes_left old) (bytes_left new)) (has_failed old) (has_failed new)
 
   abbrev pub IsHeaderRefusedInLayer : HeaderLimitedReadError → Bool → ℕ → LimitedReader T → LimitedReader T → Type 0
   IsHeaderRefusedInLayer (limited.Io e) first m old new =
@@ -88,7 +88,7 @@ module _ {T : Type 0} (bytes_left : T → Option (List ℕ)) (is_steady has_fail
       (m ≡ HOP_BY_HOP → IsTrue first) × IsPastLimit bytes_left is_steady has_failed (Asks m) (layer_of m) old new e
   IsHeaderRefusedInLayer (limited.Content HopByHopNotAtStart) first m old new = (m ≡ HOP_BY_HOP) × (first ≡ false) × (new ≡ old)
   IsHeaderRefusedInLayer (limited.Content (IpAuth e)) first m old new =
-      (m ≡ AUTHENTICATION) × IsZeroTaken (IsTakenInLayer bytes_left (layer_of m) old new) (has_failed (inner_of old)) (has_failed (inner_of new))
+      (m ≡ AUTHENTICATION) × IsZeroConsumed (IsConsumedInLayer bytes_left (layer_of m) old new) (has_failed (inner_of old)) (has_failed (inner_of new))
 
 -- a routing header without destination options after it
 abbrev pub routing_fields : List ℕ → Ipv6RoutingExtensions
@@ -114,17 +114,17 @@ abbrev pub HasNoPlace : Bool → ℕ → Ipv6Extensions → Type 0
 HasNoPlace first m v = (p : Place) → IsNextPlace first m p v → ⊥
 
 -- A header was read into the place p, and leads to number m.
-pub record IsReadInto (Taken : List ℕ → Type 0) (p : Place) (m : ℕ) (old new : Ipv6Extensions) : Type 0 where
+pub record IsReadInto (Consumed : List ℕ → Type 0) (p : Place) (m : ℕ) (old new : Ipv6Extensions) : Type 0 where
   pub bytes : List ℕ
   pub header : IsHeader (number_in p) bytes
-  pub taken : Taken bytes
+  pub consumed : Consumed bytes
   pub next : m ≡ next_header bytes
   pub value : new ≡ with_header p bytes old
 
 -- A header was read into a place of its own, and leads to number m.
-pub record IsHeaderRead {V : Type 0} (IsOne : List ℕ → Type 0) (fields_of : List ℕ → V) (Taken : List ℕ → Type 0) (m : ℕ) (place : Option V) : Type 0 where
+pub record IsHeaderRead {V : Type 0} (IsOne : List ℕ → Type 0) (fields_of : List ℕ → V) (Consumed : List ℕ → Type 0) (m : ℕ) (place : Option V) : Type 0 where
   pub bytes : List ℕ
   pub header : IsOne bytes
-  pub taken : Taken bytes
+  pub consumed : Consumed bytes
   pub next : m ≡ next_header bytes
   pub value : place ≡ Some (fields_of bytes)

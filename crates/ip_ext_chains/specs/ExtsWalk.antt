@@ -24,15 +24,15 @@ left_in w p = if is_some (at p w.reached) then None else placed_fields w.headers
 -- a header with fields x is next in the walk `old`, and `new` is the walk after it
 pub record IsStep (old new : Walk) (x : HeaderFields) : Type 0 where
   pub place : Place
-  pub own : next_place old.first old.behind_routing old.number.0 ≡ Some place
+  pub own : next_place old.first old.past_routing old.number.0 ≡ Some place
   pub there : left_in old place ≡ Some x
-  pub taken : (p : Place) → left_in new p ≡ without place (left_in old) p
+  pub left : (p : Place) → left_in new p ≡ without place (left_in old) p
   pub number : new.number.0 ≡ next_of x
   pub first : new.first ≡ false
-  pub behind_routing : new.behind_routing ≡ (old.behind_routing || (old.number.0 == ROUTING))
+  pub past_routing : new.past_routing ≡ (old.past_routing || (old.number.0 == ROUTING))
 
 -- no header is next in the walk `old`, and `new` is at the same position
 pub record IsStop (old new : Walk) : Type 0 where
-  pub none : (p : Place) → next_place old.first old.behind_routing old.number.0 ≡ Some p → left_in old p ≡ None
+  pub none : (p : Place) → next_place old.first old.past_routing old.number.0 ≡ Some p → left_in old p ≡ None
   pub left : (p : Place) → left_in new p ≡ left_in old p
   pub number : new.number.0 ≡ old.number.0

@@ -3,10 +3,10 @@ use Rattle.std.specs.Prelude.{◌≡◌, ℕ, List, Option, None, if◌then◌el
 use Rattle.ip_base.specs.declared.len_source.LenSource.TheVariants.{Slice}
 use Rattle.ip_spec.specs.Chain.{ExtHeader, leads_to}
 use Rattle.ip_spec.specs.Fits.{FitsPlaces}
-use Rattle.ip_spec.specs.Places.{is_taken}
+use Rattle.ip_spec.specs.Places.{is_occupied}
 use Rattle.ip_spec.proofs.UnderLemmas.{some_longest_under}
 use Rattle.ip_spec.proofs.FitsLemmas.{fits_places}
-use Rattle.ip_spec.specs.Parse.{rest_behind, fault_behind, IsAnswer}
+use Rattle.ip_spec.specs.Parse.{rest_after, fault_after, IsAnswer}
 use Rattle.ip_ext_slices.specs.ChainFault.{Fault, chain_faults}
 use Rattle.ip_ext_chains.specs.Ipv6Extensions.{value_of}
 use Rattle.ip_ext_chains.specs.Slots.{ArePlaced}
@@ -21,11 +21,11 @@ fitting_chain n s = (some_longest_under FitsPlaces fits_places n s).0
 -- The error after the chain c, at number m with r left. None if the place of m is occupied: the bytes there aren't
 -- parsed.
 abbrev pub fitting_faults : List ExtHeader → ℕ → List ℕ → Option Fault
-fitting_faults c m r = if is_taken m c then None else chain_faults Slice c m r
+fitting_faults c m r = if is_occupied m c then None else chain_faults Slice c m r
 
 -- the error at the end of the longest chain that fits
 abbrev pub fitting_fault : ℕ → List ℕ → Option Fault
-fitting_fault n s = fault_behind fitting_faults (fitting_chain n s) n s
+fitting_fault n s = fault_after fitting_faults (fitting_chain n s) n s
 
 -- the parse's result for it, whose value is the fields of each header in its place
 abbrev pub IsFittingAnswer : ℕ → List ℕ → Ipv6Extensions → ℕ → List ℕ → Option Fault → Type 0
@@ -35,5 +35,5 @@ IsFittingAnswer n s = IsAnswer value_of fitting_faults (fitting_chain n s) n s
 pub record IsPlacedAnswer (n : ℕ) (s : List ℕ) (v : Places Ipv6ExtensionSlice) (m : ℕ) (r : List ℕ) (f : Option Fault) : Type 0 where
   pub placed : ArePlaced (fitting_chain n s) v
   pub number : m ≡ leads_to n (fitting_chain n s)
-  pub rest : r ≡ rest_behind (fitting_chain n s) s
+  pub rest : r ≡ rest_after (fitting_chain n s) s
   pub fault : f ≡ fitting_fault n s

@@ -26,8 +26,8 @@ abbrev pub place_in : {T : Type 0} → Places T → ℕ → Option Place
 place_in v m = place_of m (is_some (at routing v))
 
 -- m isn't 0, and its place is occupied
-abbrev pub is_taken_in : {T : Type 0} → Places T → ℕ → Bool
-is_taken_in v m = not (m == HOP_BY_HOP) && option_map_or (λ p. is_some (at p v)) (place_in v m) false
+abbrev pub is_occupied_in : {T : Type 0} → Places T → ℕ → Bool
+is_occupied_in v m = not (m == HOP_BY_HOP) && option_map_or (λ p. is_some (at p v)) (place_in v m) false
 
 -- p is the place of m, and it is free
 pub record IsFreePlace {T : Type 0} (m : ℕ) (p : Place) (v : Places T) : Type 0 where

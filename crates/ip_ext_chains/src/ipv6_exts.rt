@@ -61,7 +61,7 @@ impl Ipv6Extensions {
             (fitting_chain start_ip_number.0 start_slice.now) }
         ensures answer { IsFittingAnswer start_ip_number.0 start_slice.now
             result.0 result.1.0 result.2.now result.3 }
-        ensures cut { (j : ℕ) → fitting_chain start_ip_number.0 (take j start_slice.now)
+        ensures truncated { (j : ℕ) → fitting_chain start_ip_number.0 (take j start_slice.now)
             ≡ headers_within j (fitting_chain start_ip_number.0 start_slice.now) }
     {
         let (places, number, rest, fault) = Self::take_places(start_ip_number, start_slice);
@@ -115,7 +115,7 @@ impl Ipv6Extensions {
             let read = len - left.len();
             return (places, headers.next_number(), &bytes[read..], None);
         }
-        if places.is_taken(number) {
+        if places.is_occupied(number) {
             return (places, number, rest, None);
         }
         (places, number, rest, fault)

@@ -6,11 +6,11 @@ ghost use Rattle.ip_spec.specs.Fields.{raw_fields, fragment_fields, auth_fields}
 ghost use Rattle.ip_spec.specs.Lengths.{IsPayloadLen};
 ghost use Rattle.ip_spec.specs.Places.{number_in, final_destination};
 ghost use Rattle.ip_spec.specs.Requests.{RawAsks};
-ghost use Rattle.ip_base.specs.Reading.{IsHeaderTaken, IsRefused};
+ghost use Rattle.ip_base.specs.Reading.{IsHeaderConsumed, IsRefused};
 ghost use Rattle.ip_ext_chains.specs.Place.{as_place};
 ghost use Rattle.ip_ext_chains.specs.Ipv6Extensions.{value_of, placed_fields};
 ghost use Rattle.ip_ext_chains.specs.ReadError.{IsSliceError};
-ghost use Rattle.ip_ext_chains.specs.ChainReading.{AreTaken, IsChainTaken, IsChainRefused, IsHeaderRefused, IsNextPlace, HasNoPlace, IsReadInto, IsHeaderRead, routing_fields};
+ghost use Rattle.ip_ext_chains.specs.ChainReading.{AreConsumed, IsChainConsumed, IsChainRefused, IsHeaderRefused, IsNextPlace, HasNoPlace, IsReadInto, IsHeaderRead, routing_fields};
 ghost use Rattle.ip_ext_chains.specs.ChainReadError.{io_of};
 
 use crate::err::ip_auth;
@@ -35,10 +35,10 @@ impl Ipv6Extensions {
         start_ip_number: IpNumber,
     ) -> Result<(Ipv6Extensions, IpNumber), HeaderReadError>
         ensures answer { IfOk result (λ x.
-            IsChainTaken (AreTaken T.bytes_left T.is_steady T.has_failed)
+            IsChainConsumed (AreConsumed T.bytes_left T.is_steady T.has_failed)
             reader.old reader.new start_ip_number.0 x.0 x.1.0) }
         ensures refused { IfErr result (λ e.
-            IsChainRefused (AreTaken T.bytes_left T.is_steady T.has_failed)
+            IsChainRefused (AreConsumed T.bytes_left T.is_steady T.has_failed)
             (IsHeaderRefused T.bytes_left T.is_steady T.has_failed e)
             reader.old reader.new start_ip_number.0) }
         ensures own { IfErr result (λ e. IfSome (io_of e) (T.has_given reader.new)) }
@@ -65,10 +65,10 @@ impl Ipv6Extensions {
     ) -> Result<IpNumber, HeaderReadError>
         requires empty { self.old ≡ value_of [] }
         ensures answer { IfOk result (λ m.
-            IsChainTaken (AreTaken T.bytes_left T.is_steady T.has_failed)
+            IsChainConsumed (AreConsumed T.bytes_left T.is_steady T.has_failed)
             reader.old reader.new start_ip_number.0 self.new m.0) }
         ensures refused { IfErr result (λ e.
-            IsChainRefused (AreTaken T.bytes_left T.is_steady T.has_failed)
+            IsChainRefused (AreConsumed T.bytes_left T.is_steady T.has_failed)
             (IsHeaderRefused T.bytes_left T.is_steady T.has_failed e)
             reader.old reader.new start_ip_number.0) }
         ensures own { IfErr result (λ e. IfSome (io_of e) (T.has_given reader.new)) }
@@ -166,7 +166,7 @@ fn take_raw<'a, T: ExactRead>(
     buffer: &'a mut [u8; 2046],
     reader: &mut T,
 ) -> io::Result<(IpNumber, &'a [u8])>
-    ensures header { IfOk result (λ x. IsHeaderTaken IsRawHeader raw_fields
+    ensures header { IfOk result (λ x. IsHeaderConsumed IsRawHeader raw_fields
         (Consumes (T.bytes_left reader.old) (T.bytes_left reader.new))
         record { next_header = x.0.0; payload = x.1.now }) }
     ensures allowed { IfOk result (λ x. IsPayloadLen (length x.1.now)) }

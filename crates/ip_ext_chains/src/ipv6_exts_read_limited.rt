@@ -7,11 +7,11 @@ ghost use Rattle.ip_spec.specs.Lengths.{IsPayloadLen};
 ghost use Rattle.ip_spec.specs.Places.{number_in, final_destination};
 ghost use Rattle.ip_spec.specs.Requests.{RawAsks};
 ghost use Rattle.ip_base.specs.LimitedReader.{inner_of, window};
-ghost use Rattle.ip_base.specs.Reading.{IsHeaderTaken, IsTakenInLayer, IsRefusedInLayer};
+ghost use Rattle.ip_base.specs.Reading.{IsHeaderConsumed, IsConsumedInLayer, IsRefusedInLayer};
 ghost use Rattle.ip_ext_chains.specs.Ipv6Extensions.{value_of};
 ghost use Rattle.ip_ext_chains.specs.Place.{as_place};
 ghost use Rattle.ip_ext_chains.specs.ReadError.{IsSliceErrorInLayers};
-ghost use Rattle.ip_ext_chains.specs.ChainReading.{AreTakenInLayers, IsChainTaken, IsChainRefused, IsHeaderRefusedInLayer, IsReadInto, IsHeaderRead, routing_fields, layer_of};
+ghost use Rattle.ip_ext_chains.specs.ChainReading.{AreConsumedInLayers, IsChainConsumed, IsChainRefused, IsHeaderRefusedInLayer, IsReadInto, IsHeaderRead, routing_fields, layer_of};
 ghost use Rattle.ip_ext_chains.specs.ChainLimitedReadError.{io_of};
 ghost use Rattle.ip_base.specs.LimitedReadError.{io_of as limit_io_of};
 
@@ -39,10 +39,10 @@ impl Ipv6Extensions {
         start_ip_number: IpNumber,
     ) -> Result<(Ipv6Extensions, IpNumber), HeaderLimitedReadError>
         ensures answer { IfOk result (λ x.
-            IsChainTaken (AreTakenInLayers T.bytes_left T.is_steady T.has_failed)
+            IsChainConsumed (AreConsumedInLayers T.bytes_left T.is_steady T.has_failed)
             reader.old reader.new start_ip_number.0 x.0 x.1.0) }
         ensures refused { IfErr result (λ e.
-            IsChainRefused (AreTakenInLayers T.bytes_left T.is_steady T.has_failed)
+            IsChainRefused (AreConsumedInLayers T.bytes_left T.is_steady T.has_failed)
             (IsHeaderRefusedInLayer T.bytes_left T.is_steady T.has_failed e)
             reader.old reader.new start_ip_number.0) }
         ensures own { IfErr result (λ e. IfSome (io_of e) (T.has_given (inner_of reader.new))) }
@@ -67,10 +67,10 @@ impl Ipv6Extensions {
     ) -> Result<IpNumber, HeaderLimitedReadError>
         requires empty { self.old ≡ value_of [] }
         ensures answer { IfOk result (λ m.
-            IsChainTaken (AreTakenInLayers T.bytes_left T.is_steady T.has_failed)
+            IsChainConsumed (AreConsumedInLayers T.bytes_left T.is_steady T.has_failed)
             reader.old reader.new start_ip_number.0 self.new m.0) }
         ensures refused { IfErr result (λ e.
-            IsChainRefused (AreTakenInLayers T.bytes_left T.is_steady T.has_failed)
+            IsChainRefused (AreConsumedInLayers T.bytes_left T.is_steady T.has_failed)
             (IsHeaderRefusedInLayer T.bytes_left T.is_steady T.has_failed e)
             reader.old reader.new start_ip_number.0) }
         ensures own { IfErr result (λ e. IfSome (io_of e) (T.has_given (inner_of reader.new))) }
@@ -107,7 +107,7 @@ impl Ipv6Extensions {
     ) -> Result<IpNumber, HeaderLimitedReadError>
         requires { as_place place ≡ final_destination → is_some self.old.routing ≡ true }
         ensures ok { IfOk result (λ m.
-            IsReadInto (IsTakenInLayer T.bytes_left (layer_of (number_in (as_place place)))
+            IsReadInto (IsConsumedInLayer T.bytes_left (layer_of (number_in (as_place place)))
             reader.old reader.new) (as_place place) m.0 self.old self.new) }
         ensures kept { OnOk result
             (T.has_failed (inner_of reader.new) ≡ T.has_failed (inner_of reader.old)) }
@@ -139,8 +139,8 @@ fn take_raw_limited<'a, T: ExactRead>(
     buffer: &'a mut [u8; 2046],
     reader: &mut LimitedReader<T>,
 ) -> Result<(IpNumber, &'a [u8]), LimitedReadError>
-    ensures header { IfOk result (λ x. IsHeaderTaken IsRawHeader raw_fields
-        (IsTakenInLayer T.bytes_left Ipv6ExtHeader reader.old reader.new)
+    ensures header { IfOk result (λ x. IsHeaderConsumed IsRawHeader raw_fields
+        (IsConsumedInLayer T.bytes_left Ipv6ExtHeader reader.old reader.new)
         record { next_header = x.0.0; payload = x.1.now }) }
     ensures allowed { IfOk result (λ x. IsPayloadLen (length x.1.now)) }
     ensures kept { OnOk result
@@ -171,7 +171,7 @@ fn read_raw_limited<T: ExactRead>(
     reader: &mut LimitedReader<T>,
 ) -> Result<IpNumber, HeaderLimitedReadError>
     ensures ok { IfOk result (λ m. IsHeaderRead IsRawHeader raw_fields
-        (IsTakenInLayer T.bytes_left Ipv6ExtHeader reader.old reader.new) m.0 place.new) }
+        (IsConsumedInLayer T.bytes_left Ipv6ExtHeader reader.old reader.new) m.0 place.new) }
     ensures kept { OnOk result
         (T.has_failed (inner_of reader.new) ≡ T.has_failed (inner_of reader.old)) }
     ensures steady { T.is_steady (inner_of reader.new) ≡ T.is_steady (inner_of reader.old) }
@@ -200,7 +200,7 @@ fn read_routing_limited<T: ExactRead>(
     reader: &mut LimitedReader<T>,
 ) -> Result<IpNumber, HeaderLimitedReadError>
     ensures ok { IfOk result (λ m. IsHeaderRead IsRawHeader routing_fields
-        (IsTakenInLayer T.bytes_left Ipv6ExtHeader reader.old reader.new) m.0 place.new) }
+        (IsConsumedInLayer T.bytes_left Ipv6ExtHeader reader.old reader.new) m.0 place.new) }
     ensures kept { OnOk result
         (T.has_failed (inner_of reader.new) ≡ T.has_failed (inner_of reader.old)) }
     ensures steady { T.is_steady (inner_of reader.new) ≡ T.is_steady (inner_of reader.old) }
@@ -229,7 +229,7 @@ fn read_fragment_limited<T: ExactRead>(
     reader: &mut LimitedReader<T>,
 ) -> Result<IpNumber, HeaderLimitedReadError>
     ensures ok { IfOk result (λ m. IsHeaderRead IsFragmentHeader fragment_fields
-        (IsTakenInLayer T.bytes_left Ipv6FragHeader reader.old reader.new) m.0 place.new) }
+        (IsConsumedInLayer T.bytes_left Ipv6FragHeader reader.old reader.new) m.0 place.new) }
     ensures kept { OnOk result
         (T.has_failed (inner_of reader.new) ≡ T.has_failed (inner_of reader.old)) }
     ensures steady { T.is_steady (inner_of reader.new) ≡ T.is_steady (inner_of reader.old) }
@@ -253,7 +253,7 @@ fn read_auth_limited<T: ExactRead>(
     reader: &mut LimitedReader<T>,
 ) -> Result<IpNumber, HeaderLimitedReadError>
     ensures ok { IfOk result (λ m. IsHeaderRead IsAuthHeader auth_fields
-        (IsTakenInLayer T.bytes_left AuthLayer reader.old reader.new) m.0 place.new) }
+        (IsConsumedInLayer T.bytes_left AuthLayer reader.old reader.new) m.0 place.new) }
     ensures kept { OnOk result
         (T.has_failed (inner_of reader.new) ≡ T.has_failed (inner_of reader.old)) }
     ensures steady { T.is_steady (inner_of reader.new) ≡ T.is_steady (inner_of reader.old) }

@@ -2,7 +2,7 @@ ghost use Rattle.std.specs.Prelude.{◌≡◌, ◌≢◌, [], IsTrue};
 ghost use Rattle.std.specs.List.{AllByRecursion};
 ghost use Rattle.ip_spec.specs.Encoding.{AreBytes};
 ghost use Rattle.ip_spec.specs.Chain.{leads_to, bytes_of};
-ghost use Rattle.ip_spec.specs.Parse.{rest_behind};
+ghost use Rattle.ip_spec.specs.Parse.{rest_after};
 ghost use Rattle.ip_ext_slices.specs.Longest.{longest_chain};
 ghost use Rattle.ip_ext_slices.specs.Ipv6ExtensionSliceIter.{headers_left};
 
@@ -23,7 +23,7 @@ pub struct Ipv6ExtensionsRuns<'a> {
     rest: &'a [u8],
     done: bool,
     pub ghost leads: { number.0 ≡ leads_to first.0 (longest_chain first.0 bytes.now) },
-    pub ghost after: { rest.now ≡ rest_behind (longest_chain first.0 bytes.now) bytes.now },
+    pub ghost after: { rest.now ≡ rest_after (longest_chain first.0 bytes.now) bytes.now },
     // the remaining headers lead to the number to which the chain leads
     pub ghost ends: { number.0 ≡ leads_to number.0 (headers_left headers) },
     pub ghost are_bytes: { AreBytes (bytes_of (headers_left headers)) },
@@ -51,7 +51,7 @@ impl<'a> Ipv6ExtensionsRuns<'a> {
         ensures number { number_left result ≡ first.0 }
         ensures runs { runs_left result ≡ runs_of first.0 bytes.now }
         ensures values { values_left result ≡ map value_of (runs_of first.0 bytes.now) }
-        ensures cut { AreRuns (leads_to first.0 (longest_chain first.0 bytes.now))
+        ensures partition { AreRuns (leads_to first.0 (longest_chain first.0 bytes.now))
             (longest_chain first.0 bytes.now) (runs_left result) }
         ensures only { (ps : List (List ExtHeader))
             → AreRuns (leads_to first.0 (longest_chain first.0 bytes.now))
@@ -101,7 +101,7 @@ impl<'a> Ipv6ExtensionsRuns<'a> {
         ensures number { IfSome result (λ e. e.0.0
             ≡ leads_to (start self.now) (longest_chain (start self.now) (input self.now))) }
         ensures rest { IfSome result (λ e. e.1.now
-            ≡ rest_behind (longest_chain (start self.now) (input self.now)) (input self.now)) }
+            ≡ rest_after (longest_chain (start self.now) (input self.now)) (input self.now)) }
         ensures fault { IfSome result (λ e. e.2 ≡ chain_fault (start self.now) (input self.now)) }
     {
         if !self.done {

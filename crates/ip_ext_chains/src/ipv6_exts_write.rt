@@ -6,7 +6,7 @@ ghost use Rattle.ip_spec.specs.Chain.{ExtHeader, bytes_of};
 ghost use Rattle.ip_spec.specs.Places.{Place as spec_place, places};
 ghost use Rattle.ip_spec.specs.Walk.{leads, IsSpelling, IsWalkAnswer};
 ghost use Rattle.ip_spec.specs.Fits.{FitsPlaces};
-ghost use Rattle.ip_spec.specs.Parse.{IsRead};
+ghost use Rattle.ip_spec.specs.Parse.{IsParsed};
 ghost use Rattle.ip_spec.specs.Links.{first_number, linked};
 ghost use Rattle.ip_spec.specs.WalkStep.{IsEncodingOf};
 ghost use Rattle.ip_ext_chains.specs.HeaderRef.{fields_of_ref};
@@ -34,7 +34,7 @@ impl Ipv6Extensions {
         ensures answer { IsWalkAnswer (placed_fields self.now) first.0 (walk_answer result) }
         ensures exactly { (m : ℕ) → (walk_answer result ≡ leads m)
             ↔ ((s : List ℕ)
-            × IsRead FitsPlaces (λ c. value_of c ≡ self.now) first.0 m s) }
+            × IsParsed FitsPlaces (λ c. value_of c ≡ self.now) first.0 m s) }
     {
         self.encodable();
         let mut walk = Walk::new(self, first);
@@ -79,13 +79,13 @@ impl Ipv6Extensions {
     ) -> Result<(), HeaderWriteError>
         ensures ok { OnOk result (IsWritten self.now first.0 out.old.items out.new.items) }
         ensures len { OnOk result (vec_len out.new ≡ vec_len out.old + exts_len self.now) }
-        ensures read_again { OnOk result ((b r : List ℕ) (m : ℕ)
+        ensures parsed_again { OnOk result ((b r : List ℕ) (m : ℕ)
             → out.new.items ≡ out.old.items ++ b
             → IsWalkAnswer (placed_fields self.now) first.0 (leads m) → (IsExtensionNumber m → ⊥)
             → IsFittingAnswer first.0 (b ++ r) self.now m r None) }
-        ensures read_whole { OnOk result ((b : List ℕ) (m : ℕ)
+        ensures parsed_whole { OnOk result ((b : List ℕ) (m : ℕ)
             → out.new.items ≡ out.old.items ++ b → IsWalkAnswer (placed_fields self.now) first.0 (leads m)
-            → IsRead FitsPlaces (λ c. value_of c ≡ self.now) first.0 m b) }
+            → IsParsed FitsPlaces (λ c. value_of c ≡ self.now) first.0 m b) }
         ensures cleared { OnOk result ((s : List ℕ) → AreBytes s
             → value_of (fitting_chain first.0 s) ≡ self.now → out.new.items
             ≡ out.old.items ++ bytes_of (cleared_chain (fitting_chain first.0 s))) }

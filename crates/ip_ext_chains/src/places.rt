@@ -24,13 +24,13 @@ pub(crate) enum Place {
 impl Place {
     /// Returns the place of a header of the number, after a routing header or not.
     #[inline(always)]
-    pub(crate) fn of(number: IpNumber, behind_routing: bool) -> Option<Place>
-        ensures { option_map as_place result ≡ place_of number.0 behind_routing }
+    pub(crate) fn of(number: IpNumber, past_routing: bool) -> Option<Place>
+        ensures { option_map as_place result ≡ place_of number.0 past_routing }
     {
         match number {
             ip_number::IPV6_HOP_BY_HOP => Some(Place::HopByHop),
             ip_number::IPV6_ROUTE => Some(Place::Routing),
-            ip_number::IPV6_DEST_OPTIONS if behind_routing => Some(Place::FinalDestination),
+            ip_number::IPV6_DEST_OPTIONS if past_routing => Some(Place::FinalDestination),
             ip_number::IPV6_DEST_OPTIONS => Some(Place::Destination),
             ip_number::IPV6_FRAG => Some(Place::Fragment),
             ip_number::AUTH => Some(Place::Authentication),
@@ -68,7 +68,7 @@ pub(crate) struct Places<T> {
 }
 
 impl<T: Drop> Places<T> {
-    ghost use Rattle.ip_ext_chains.specs.Slots.{at, IsVacant, IsPut, IsFreePlace, IsFilled, is_taken_in};
+    ghost use Rattle.ip_ext_chains.specs.Slots.{at, IsVacant, IsPut, IsFreePlace, IsFilled, is_occupied_in};
 
     /// Returns places that are all free.
     #[inline(always)]
@@ -99,8 +99,8 @@ impl<T: Drop> Places<T> {
     /// Returns whether the place of the number is occupied. Hop-by-hop options are left out, since they are never a
     /// later header.
     #[inline(always)]
-    pub(crate) fn is_taken(&self, number: IpNumber) -> bool
-        ensures { result ≡ is_taken_in self.now number.0 }
+    pub(crate) fn is_occupied(&self, number: IpNumber) -> bool
+        ensures { result ≡ is_occupied_in self.now number.0 }
     {
         let Some(place) = self.place_of(number) else {
             return false;

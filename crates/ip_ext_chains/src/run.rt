@@ -1,6 +1,6 @@
 ghost use Rattle.std.specs.Prelude.{◌≡◌, [], true, false, IsTrue, IsFalse};
 ghost use Rattle.ip_ext_slices.specs.Ipv6ExtensionSliceIter.{headers_left};
-ghost use Rattle.ip_ext_chains.specs.Slots.{is_taken_in};
+ghost use Rattle.ip_ext_chains.specs.Slots.{is_occupied_in};
 ghost use Rattle.ip_ext_chains.specs.Run.{IsRun};
 
 use crate::places::Places;
@@ -35,9 +35,9 @@ pub(crate) fn is_last(
     number: IpNumber,
 ) -> bool
     ensures last { IsTrue result → (headers_left headers.now ≡ [])
-        × (is_taken_in places.now number.0 ≡ false) }
+        × (is_occupied_in places.now number.0 ≡ false) }
     ensures more { IsFalse result → headers_left headers.now ≡ []
-        → is_taken_in places.now number.0 ≡ true }
+        → is_occupied_in places.now number.0 ≡ true }
 {
-    headers.rest().is_empty() && !places.is_taken(number)
+    headers.rest().is_empty() && !places.is_occupied(number)
 }

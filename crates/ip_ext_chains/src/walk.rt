@@ -24,7 +24,7 @@ pub(crate) struct Walk<'a> {
     reached: Places<()>,
     number: IpNumber,
     first: bool,
-    behind_routing: bool,
+    past_routing: bool,
 }
 
 impl<'a> Walk<'a> {
@@ -34,14 +34,14 @@ impl<'a> Walk<'a> {
         ensures left { (p : spec_place) → left_in result p ≡ placed_fields headers.now p }
         ensures number { result.number.0 ≡ start.0 }
         ensures first { result.first ≡ true }
-        ensures behind_routing { result.behind_routing ≡ false }
+        ensures past_routing { result.past_routing ≡ false }
     {
         Walk {
             headers,
             reached: Places::new(),
             number: start,
             first: true,
-            behind_routing: false,
+            past_routing: false,
         }
     }
 
@@ -55,7 +55,7 @@ impl<'a> Walk<'a> {
             return None;
         }
         // Each arm makes its own call, so that its place and format are known at compile time.
-        match Place::of(self.number, self.behind_routing)? {
+        match Place::of(self.number, self.past_routing)? {
             Place::HopByHop => self.reach(Place::HopByHop),
             Place::Destination => self.reach(Place::Destination),
             Place::Routing => self.reach(Place::Routing),
@@ -80,13 +80,13 @@ impl<'a> Walk<'a> {
     /// Returns whether a header of the number is in the place.
     #[inline(always)]
     fn goes_on_in(&self, place: Place) -> bool
-        ensures { IsTrue result ↔ (next_place self.now.first self.now.behind_routing
+        ensures { IsTrue result ↔ (next_place self.now.first self.now.past_routing
             self.now.number.0 ≡ Some (as_place place)) }
     {
         let is_own = match place {
             Place::HopByHop => self.first,
-            Place::Destination => !self.behind_routing,
-            Place::FinalDestination => self.behind_routing,
+            Place::Destination => !self.past_routing,
+            Place::FinalDestination => self.past_routing,
             Place::Routing | Place::Fragment | Place::Authentication => true,
         };
         is_own && self.number == place.number()
@@ -95,7 +95,7 @@ impl<'a> Walk<'a> {
     /// Reaches the header in the place of the number, if it is left, and returns it.
     #[inline(always)]
     fn reach(&mut self, place: Place) -> Option<HeaderRef<'a>>
-        requires own { next_place self.old.first self.old.behind_routing self.old.number.0
+        requires own { next_place self.old.first self.old.past_routing self.old.number.0
             ≡ Some (as_place place) }
         ensures some { IfSome result (λ h. IsStep self.old self.new (fields_of_ref h)) }
         ensures none { IfNone result (IsStop self.old self.new) }
@@ -103,7 +103,7 @@ impl<'a> Walk<'a> {
     {
         let header = self.left(place)?;
         self.reached.put(place, ());
-        self.behind_routing = self.behind_routing || self.number == ip_number::IPV6_ROUTE;
+        self.past_routing = self.past_routing || self.number == ip_number::IPV6_ROUTE;
         self.first = false;
         self.number = header.next_header();
         Some(header)

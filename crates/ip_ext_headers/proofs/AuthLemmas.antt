@@ -29,4 +29,4 @@ module _ {T : Type 0} (bytes_left : T → Option (List ℕ)) (is_steady has_fail
   limited_fault (limited.Io e) r = refused_within_short AuthAsks (IsTooShort auth_slice_fault) auth_short bytes_left is_steady has_failed IpAuthHeader old new r
   limited_fault (limited.Len e) r = past_limit_short AuthAsks (IsTooShort auth_slice_fault) auth_short bytes_left is_steady has_failed IpAuthHeader old new e r
   limited_fault (limited.Content ZeroPayloadLen) r =
-      of_begun (window bytes_left old) (window bytes_left new) r.done _ r.taken.window (λ xs. auth_zero_fault Slice (length (r.done ++ xs)) 0 r.done xs r.zero_length)
+      of_begun (window bytes_left old) (window bytes_left new) r.done _ r.consumed.window (λ xs. auth_zero_fault Slice (length (r.done ++ xs)) 0 r.done xs r.zero_length)

@@ -7,7 +7,7 @@ use Rattle.ip_base.specs.declared.len_source.LenSource.TheVariants.{Slice}
 use Rattle.ip_spec.specs.Requests.{AuthAsks, IsZeroLength}
 use Rattle.ip_base.specs.ExactRead.{IfSteady}
 use Rattle.ip_base.specs.LimitedReader.{inner_of}
-use Rattle.ip_base.specs.Reading.{IsRefused, IsTakenInLayer, IsPastLimit, IsRefusedWithin}
+use Rattle.ip_base.specs.Reading.{IsRefused, IsConsumedInLayer, IsPastLimit, IsRefusedWithin}
 use Rattle.ip_base.specs.declared.io.limited_reader.LimitedReader.{LimitedReader}
 use Rattle.ip_base.specs.declared.err.io.limited_read_error.LimitedReadError.{LimitedReadError}
 use Rattle.ip_base.specs.declared.err.io.limited_read_error.LimitedReadError.TheVariants as limit
@@ -45,20 +45,20 @@ of_limited_error (limit.Io e) = limited.Io e
 of_limited_error (limit.Len e) = limited.Len e
 
 -- The bytes before the check value were consumed, and the length in them is 0; reading them didn't fail.
-pub record IsZeroTaken (Taken : List ℕ → Type 0) (had_failed has_failed : Bool) : Type 0 where
+pub record IsZeroConsumed (Consumed : List ℕ → Type 0) (had_failed has_failed : Bool) : Type 0 where
   pub done : List ℕ
   pub zero_length : IsZeroLength done
-  pub taken : Taken done
+  pub consumed : Consumed done
   pub kept : has_failed ≡ had_failed
 
 module _ {T : Type 0} (bytes_left : T → Option (List ℕ)) (is_steady has_failed : T → Bool) where
   -- a request was refused, or the length is 0
   abbrev pub IsAuthRefused : T → T → HeaderReadError → Type 0
   IsAuthRefused old new (read.Io e) = IsRefused AuthAsks (is_steady old) (bytes_left old) (has_failed new)
-  IsAuthRefused old new (read.Content e) = IsZeroTaken (Consumes (bytes_left old) (bytes_left new)) (has_failed old) (has_failed new)
+  IsAuthRefused old new (read.Content e) = IsZeroConsumed (Consumes (bytes_left old) (bytes_left new)) (has_failed old) (has_failed new)
 
   abbrev pub IsAuthRefusedInLayer : LimitedReader T → LimitedReader T → HeaderLimitedReadError → Type 0
   IsAuthRefusedInLayer old new (limited.Io e) = IsRefusedWithin bytes_left is_steady has_failed AuthAsks IpAuthHeader old new
   IsAuthRefusedInLayer old new (limited.Len e) = IsPastLimit bytes_left is_steady has_failed AuthAsks IpAuthHeader old new e
   IsAuthRefusedInLayer old new (limited.Content e) =
-      IsZeroTaken (IsTakenInLayer bytes_left IpAuthHeader old new) (has_failed (inner_of old)) (has_failed (inner_of new))
+      IsZeroConsumed (IsConsumedInLayer bytes_left IpAuthHeader old new) (has_failed (inner_of old)) (has_failed (inner_of new))

@@ -7,7 +7,7 @@ ghost use Rattle.ip_spec.specs.Fields.{auth_fields};
 ghost use Rattle.ip_spec.specs.Lengths.{IsIcvLen};
 ghost use Rattle.ip_base.specs.ExactRead.{IfSteady};
 ghost use Rattle.ip_base.specs.LimitedReader.{inner_of, window};
-ghost use Rattle.ip_base.specs.Reading.{IsHeaderTaken, IsTakenInLayer};
+ghost use Rattle.ip_base.specs.Reading.{IsHeaderConsumed, IsConsumedInLayer};
 ghost use Rattle.ip_base.specs.declared.err.layer.Layer.TheVariants.{IpAuthHeader as AuthLayer};
 ghost use Rattle.ip_ext_headers.specs.AuthReading.{auth_slice_fault, IsAuthRefused, IsAuthRefusedInLayer, IsSliceError, IsSliceErrorInLayer};
 ghost use Rattle.ip_ext_headers.specs.AuthReadError.{io_of};
@@ -52,7 +52,7 @@ impl<'a> AuthParts<'a> {
         buffer: &'a mut [u8; 1016],
         reader: &mut T,
     ) -> Result<AuthParts<'a>, HeaderReadError>
-        ensures header { IfOk result (λ p. IsHeaderTaken IsAuthHeader auth_fields
+        ensures header { IfOk result (λ p. IsHeaderConsumed IsAuthHeader auth_fields
             (Consumes (T.bytes_left reader.old) (T.bytes_left reader.new)) (fields_in p)) }
         ensures kept { OnOk result (T.has_failed reader.new ≡ T.has_failed reader.old) }
         ensures steady { T.is_steady reader.new ≡ T.is_steady reader.old }
@@ -87,8 +87,8 @@ impl<'a> AuthParts<'a> {
         buffer: &'a mut [u8; 1016],
         reader: &mut LimitedReader<T>,
     ) -> Result<AuthParts<'a>, HeaderLimitedReadError>
-        ensures header { IfOk result (λ p. IsHeaderTaken IsAuthHeader auth_fields
-            (IsTakenInLayer T.bytes_left AuthLayer reader.old reader.new) (fields_in p)) }
+        ensures header { IfOk result (λ p. IsHeaderConsumed IsAuthHeader auth_fields
+            (IsConsumedInLayer T.bytes_left AuthLayer reader.old reader.new) (fields_in p)) }
         ensures kept { OnOk result
             (T.has_failed (inner_of reader.new) ≡ T.has_failed (inner_of reader.old)) }
         ensures steady { T.is_steady (inner_of reader.new) ≡ T.is_steady (inner_of reader.old) }

@@ -8,7 +8,7 @@ ghost use Rattle.ip_spec.specs.Encoding.{AppendsOne, IsAuthEncoding};
 ghost use Rattle.ip_spec.specs.Decoding.{IsAuthDecoding};
 ghost use Rattle.ip_base.specs.ExactRead.{IfSteady};
 ghost use Rattle.ip_base.specs.LimitedReader.{inner_of, window};
-ghost use Rattle.ip_base.specs.Reading.{IsHeaderTaken, IsTakenInLayer};
+ghost use Rattle.ip_base.specs.Reading.{IsHeaderConsumed, IsConsumedInLayer};
 ghost use Rattle.ip_base.specs.declared.err.layer.Layer.TheVariants.{IpAuthHeader as AuthLayer};
 ghost use Rattle.ip_ext_headers.specs.AuthReadError.{io_of};
 ghost use Rattle.ip_ext_headers.specs.AuthLimitedReadError.{io_of as limited_io_of};
@@ -167,7 +167,7 @@ impl IpAuthHeader {
     /// it the number of consumed bytes is not known.
     #[inline(always)]
     pub fn read<T: ExactRead>(reader: &mut T) -> Result<IpAuthHeader, HeaderReadError>
-        ensures header { IfOk result (IsHeaderTaken IsAuthHeader auth_fields
+        ensures header { IfOk result (IsHeaderConsumed IsAuthHeader auth_fields
             (Consumes (T.bytes_left reader.old) (T.bytes_left reader.new))) }
         ensures kept { OnOk result (T.has_failed reader.new ≡ T.has_failed reader.old) }
         ensures steady { T.is_steady reader.new ≡ T.is_steady reader.old }
@@ -192,8 +192,8 @@ impl IpAuthHeader {
     pub fn read_limited<T: ExactRead>(
         reader: &mut LimitedReader<T>,
     ) -> Result<IpAuthHeader, HeaderLimitedReadError>
-        ensures header { IfOk result (IsHeaderTaken IsAuthHeader auth_fields
-            (IsTakenInLayer T.bytes_left AuthLayer reader.old reader.new)) }
+        ensures header { IfOk result (IsHeaderConsumed IsAuthHeader auth_fields
+            (IsConsumedInLayer T.bytes_left AuthLayer reader.old reader.new)) }
         ensures kept { OnOk result
             (T.has_failed (inner_of reader.new) ≡ T.has_failed (inner_of reader.old)) }
         ensures steady { T.is_steady (inner_of reader.new) ≡ T.is_steady (inner_of reader.old) }
@@ -215,7 +215,7 @@ impl IpAuthHeader {
     /// this header is unchanged.
     #[inline(never)]
     pub fn read_over<T: ExactRead>(&mut self, reader: &mut T) -> Result<(), HeaderReadError>
-        ensures header { OnOk result (IsHeaderTaken IsAuthHeader auth_fields
+        ensures header { OnOk result (IsHeaderConsumed IsAuthHeader auth_fields
             (Consumes (T.bytes_left reader.old) (T.bytes_left reader.new)) self.new) }
         ensures stays { OnErr result (self.new ≡ self.old) }
         ensures kept { OnOk result (T.has_failed reader.new ≡ T.has_failed reader.old) }
@@ -245,8 +245,8 @@ impl IpAuthHeader {
         &mut self,
         reader: &mut LimitedReader<T>,
     ) -> Result<(), HeaderLimitedReadError>
-        ensures header { OnOk result (IsHeaderTaken IsAuthHeader auth_fields
-            (IsTakenInLayer T.bytes_left AuthLayer reader.old reader.new) self.new) }
+        ensures header { OnOk result (IsHeaderConsumed IsAuthHeader auth_fields
+            (IsConsumedInLayer T.bytes_left AuthLayer reader.old reader.new) self.new) }
         ensures stays { OnErr result (self.new ≡ self.old) }
         ensures kept { OnOk result
             (T.has_failed (inner_of reader.new) ≡ T.has_failed (inner_of reader.old)) }

@@ -8,7 +8,7 @@ ghost use Rattle.ip_spec.specs.Decoding.{IsFragmentDecoding};
 ghost use Rattle.ip_spec.specs.Requests.{FragmentAsks};
 ghost use Rattle.ip_base.specs.ExactRead.{IfSteady};
 ghost use Rattle.ip_base.specs.LimitedReader.{inner_of, window};
-ghost use Rattle.ip_base.specs.Reading.{IsHeaderTaken, IsRefused, IsTakenInLayer, IsRefusedInLayer};
+ghost use Rattle.ip_base.specs.Reading.{IsHeaderConsumed, IsRefused, IsConsumedInLayer, IsRefusedInLayer};
 ghost use Rattle.ip_base.specs.declared.err.layer.Layer.TheVariants.{Ipv6FragHeader};
 ghost use Rattle.ip_base.specs.LimitedReadError.{io_of};
 
@@ -102,7 +102,7 @@ impl Ipv6FragmentHeader {
     /// bytes is not known.
     #[inline(always)]
     pub fn read<T: ExactRead>(reader: &mut T) -> io::Result<Ipv6FragmentHeader>
-        ensures header { IfOk result (IsHeaderTaken IsFragmentHeader fragment_fields
+        ensures header { IfOk result (IsHeaderConsumed IsFragmentHeader fragment_fields
             (Consumes (T.bytes_left reader.old) (T.bytes_left reader.new))) }
         ensures kept { OnOk result (T.has_failed reader.new ≡ T.has_failed reader.old) }
         ensures steady { T.is_steady reader.new ≡ T.is_steady reader.old }
@@ -124,8 +124,8 @@ impl Ipv6FragmentHeader {
     pub fn read_limited<T: ExactRead>(
         reader: &mut LimitedReader<T>,
     ) -> Result<Ipv6FragmentHeader, LimitedReadError>
-        ensures header { IfOk result (IsHeaderTaken IsFragmentHeader fragment_fields
-            (IsTakenInLayer T.bytes_left Ipv6FragHeader reader.old reader.new)) }
+        ensures header { IfOk result (IsHeaderConsumed IsFragmentHeader fragment_fields
+            (IsConsumedInLayer T.bytes_left Ipv6FragHeader reader.old reader.new)) }
         ensures kept { OnOk result
             (T.has_failed (inner_of reader.new) ≡ T.has_failed (inner_of reader.old)) }
         ensures steady { T.is_steady (inner_of reader.new) ≡ T.is_steady (inner_of reader.old) }

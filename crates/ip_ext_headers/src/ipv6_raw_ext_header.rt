@@ -9,7 +9,7 @@ ghost use Rattle.ip_spec.specs.Decoding.{IsRawDecoding};
 ghost use Rattle.ip_spec.specs.Requests.{RawAsks};
 ghost use Rattle.ip_base.specs.ExactRead.{IfSteady};
 ghost use Rattle.ip_base.specs.LimitedReader.{inner_of, window};
-ghost use Rattle.ip_base.specs.Reading.{IsHeaderTaken, IsRefused, IsTakenInLayer, IsRefusedInLayer};
+ghost use Rattle.ip_base.specs.Reading.{IsHeaderConsumed, IsRefused, IsConsumedInLayer, IsRefusedInLayer};
 ghost use Rattle.ip_base.specs.declared.err.layer.Layer.TheVariants.{Ipv6ExtHeader};
 ghost use Rattle.ip_base.specs.LimitedReadError.{io_of};
 
@@ -148,7 +148,7 @@ impl Ipv6RawExtHeader {
     /// reader's error; after it the number of consumed bytes is not known.
     #[inline(always)]
     pub fn read<T: ExactRead>(reader: &mut T) -> io::Result<Ipv6RawExtHeader>
-        ensures header { IfOk result (IsHeaderTaken IsRawHeader raw_fields
+        ensures header { IfOk result (IsHeaderConsumed IsRawHeader raw_fields
             (Consumes (T.bytes_left reader.old) (T.bytes_left reader.new))) }
         ensures kept { OnOk result (T.has_failed reader.new ≡ T.has_failed reader.old) }
         ensures steady { T.is_steady reader.new ≡ T.is_steady reader.old }
@@ -180,8 +180,8 @@ impl Ipv6RawExtHeader {
     pub fn read_limited<T: ExactRead>(
         reader: &mut LimitedReader<T>,
     ) -> Result<Ipv6RawExtHeader, LimitedReadError>
-        ensures header { IfOk result (IsHeaderTaken IsRawHeader raw_fields
-            (IsTakenInLayer T.bytes_left Ipv6ExtHeader reader.old reader.new)) }
+        ensures header { IfOk result (IsHeaderConsumed IsRawHeader raw_fields
+            (IsConsumedInLayer T.bytes_left Ipv6ExtHeader reader.old reader.new)) }
         ensures kept { OnOk result
             (T.has_failed (inner_of reader.new) ≡ T.has_failed (inner_of reader.old)) }
         ensures steady { T.is_steady (inner_of reader.new) ≡ T.is_steady (inner_of reader.old) }

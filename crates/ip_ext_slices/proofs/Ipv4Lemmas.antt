@@ -5,7 +5,7 @@ use Rattle.ip_ext_headers.specs.declared.err.ip_auth.header_slice_error.HeaderSl
 use Rattle.ip_ext_headers.specs.HeaderFault.{auth_fault}
 use Rattle.ip_spec.proofs.HeaderLemmas.{auth_of}
 use Rattle.ip_spec.proofs.UnderLemmas.{some_longest_under}
-use Rattle.ip_spec.proofs.ReadLemmas.{has_read_none, has_read_on, read_answers}
+use Rattle.ip_spec.proofs.ParsedLemmas.{has_parsed_none, has_parsed_on, parsed_answers}
 use Rattle.ip_spec.proofs.ShorterLemmas.{longest_shorter}
 use Rattle.ip_spec.proofs.DemandKinds.{at_most_one_of}
 use Rattle.ip_ext_slices.specs.Ipv4Longest.{longest_ipv4_chain}
@@ -33,8 +33,8 @@ module _ {X : Type 0} (value_of : List ExtHeader → X) (n : ℕ) (s : List ℕ)
   pub answer_of_one : (b : List ℕ) (m : ℕ) (r : List ℕ) → n ≡ 51 → IsAuthHeader b → IsPrefix b s → x ≡ value_of (chain_of b) → m ≡ next_header b → r ≡ drop (length b) s → IsIpv4Answer value_of n s x m r None
   answer_of_one b m r e header prefix value number rest =
       let h : ExtHeader = record { number = 51; bytes = b } in
-      let read = has_read_on n s [] n s h m r b (has_read_none n s) (record { number = sym e; header = auth e header; prefix = prefix; zero_only_first = λ z. absurd (omega (arith, e, z)) }) number refl rest in
-      read_answers (AtMostOneOf 51) (at_most_one_of 51) n s (h ∷ []) m r value_of (ipv4_faults Slice) x None (record { read = read; meets = record { one = omega arith; number = (refl, tt) } }) (λ g y q. omega (arith, q.one)) value refl
+      let read = has_parsed_on n s [] n s h m r b (has_parsed_none n s) (record { number = sym e; header = auth e header; prefix = prefix; zero_only_first = λ z. absurd (omega (arith, e, z)) }) number refl rest in
+      parsed_answers (AtMostOneOf 51) (at_most_one_of 51) n s (h ∷ []) m r value_of (ipv4_faults Slice) x None (record { read = read; meets = record { one = omega arith; number = (refl, tt) } }) (λ g y q. omega (arith, q.one)) value refl
 
   -- otherwise the chain is empty
   pub answer_of_none : (f : Option HeaderSliceError) → (n ≡ 51 → NoPrefix IsAuthHeader s) → x ≡ value_of [] → f ≡ ipv4_faults Slice [] n s → IsIpv4Answer value_of n s x n s f

@@ -1,5 +1,5 @@
 -- The encoding of IPv4 extension headers, and the value that it parses to.
-use Rattle.ip_spec.proofs.Common.{◌≡◌, ℕ, ◌<◌, List, ◌++◌, length, drop, refl, sym, ap, ◌∙◌, subst, arith, inl, inr, rules, [], Option, Some, None, Ok, Err, ◌↔◌, slice_range, AllByRecursion, option_map_or, ne_eqb, eqb_tells, append-nil, append_cancel_left, length-append, All-set, All-take, All-drop, All-from_recursion, IsPrefix, auth, AuthFields, auth_fields, cleared_header, AreBytes, AppendsOne, IsAuthEncoding, IsCleared, cleared_chain, ExtHeader, bytes_of, leads_to, AtMostOneOf, IsEndUnder, IsRead, auth_header}
+use Rattle.ip_spec.proofs.Common.{◌≡◌, ℕ, ◌<◌, List, ◌++◌, length, drop, refl, sym, ap, ◌∙◌, subst, arith, inl, inr, rules, [], Option, Some, None, Ok, Err, ◌↔◌, slice_range, AllByRecursion, option_map_or, ne_eqb, eqb_tells, append-nil, append_cancel_left, length-append, All-set, All-take, All-drop, All-from_recursion, IsPrefix, auth, AuthFields, auth_fields, cleared_header, AreBytes, AppendsOne, IsAuthEncoding, IsCleared, cleared_chain, ExtHeader, bytes_of, leads_to, AtMostOneOf, IsEndUnder, IsParsed, auth_header}
 use Rattle.std.specs.declared.result.Result.{Result}
 use Rattle.std.specs.Prelude.{slice_set}
 use Rattle.ip_base.specs.declared.ip_number_impl.IpNumber.{IpNumber}
@@ -7,7 +7,7 @@ use Rattle.ip_base.specs.declared.len_source.LenSource.TheVariants.{Slice}
 use Rattle.ip_spec.proofs.PrefixLemmas.{prefix_first}
 use Rattle.ip_spec.proofs.StepLemmas.{no_chain}
 use Rattle.ip_spec.proofs.UnderLemmas.{one_longest_under}
-use Rattle.ip_spec.proofs.ReadLemmas.{whole_read, read_again}
+use Rattle.ip_spec.proofs.ParsedLemmas.{whole_parsed, parsed_again}
 use Rattle.ip_spec.proofs.DemandKinds.{at_most_one_of}
 use Rattle.ip_spec.proofs.EncodingLemmas.{auth_written, auth_only}
 use Rattle.ip_spec.proofs.EncodedLemmas.{one_encoded}
@@ -40,7 +40,7 @@ HasValue v c = (ipv4_value c ≡ v) × AllByRecursion IsCleared c
 
 -- the empty list encodes a value without a header
 pub none_encodes : (f : ℕ) (v : Option AuthFields) → v ≡ None → IsIpv4Encoding f v []
-none_encodes f v e = (f, whole_read (AtMostOneOf 51) (at_most_one_of 51) f f (HasValue v) [] [] (no_chain f) (at_most_one_of 51).empty (sym e, tt) refl refl (All-from_recursion (λ x. x < 256) [] tt))
+none_encodes f v e = (f, whole_parsed (AtMostOneOf 51) (at_most_one_of 51) f f (HasValue v) [] [] (no_chain f) (at_most_one_of 51).empty (sym e, tt) refl refl (All-from_recursion (λ x. x < 256) [] tt))
 
 -- Some bytes encode the fields.
 abbrev pub IsEncoded : AuthFields → Type 0
@@ -50,7 +50,7 @@ IsEncoded w = (b : List ℕ) × AreBytes b × IsAuthEncoding w b
 pub one_encodes : (f : ℕ) (v : Option AuthFields) (w : AuthFields) (b : List ℕ) → f ≡ 51 → v ≡ Some w → IsEncoded w → IsAuthEncoding w b → IsIpv4Encoding f v b
 one_encodes f v w b named value (d, bytes, encodes) e = (
   w.next_header,
-  whole_read (AtMostOneOf 51) (at_most_one_of 51) f w.next_header (HasValue v) b (chain_of b) (record {
+  whole_parsed (AtMostOneOf 51) (at_most_one_of 51) f w.next_header (HasValue v) b (chain_of b) (record {
     headers = (auth refl e.header, tt);
     links = (sym named, tt);
     zero_only_first = tt;
@@ -77,40 +77,40 @@ pub written : (f : ℕ) (v : Option AuthFields) (old new b : List ℕ) → Appen
 written f v old new b (d, encodes, appended) e = subst (IsIpv4Encoding f v) (append_cancel_left old d b (sym appended ∙ e)) encodes
 
 -- Bytes s parse as v with nothing left.
-abbrev IsReadAs : Option AuthFields → ℕ → ℕ → List ℕ → Type 0
-IsReadAs v f m s = IsRead (AtMostOneOf 51) (λ c. ipv4_value c ≡ v) f m s
+abbrev IsParsedAs : Option AuthFields → ℕ → ℕ → List ℕ → Type 0
+IsParsedAs v f m s = IsParsed (AtMostOneOf 51) (λ c. ipv4_value c ≡ v) f m s
 
 -- After a header, or at a number other than 51, there is no further header and no error.
-record NothingBehind (c : List ExtHeader) (m : ℕ) (r : List ℕ) : Type 0 where
+record NothingAfter (c : List ExtHeader) (m : ℕ) (r : List ℕ) : Type 0 where
   ends : IsEndUnder (AtMostOneOf 51) c m r
   fault : None ≡ ipv4_faults Slice c m r
 
-nothing_behind : (c : List ExtHeader) (m : ℕ) (r : List ℕ) → (c ≡ [] → m ≡ 51 → ⊥) → NothingBehind c m r
-nothing_behind c m r other = search (rules, ne_eqb, length-append)
+nothing_after : (c : List ExtHeader) (m : ℕ) (r : List ℕ) → (c ≡ [] → m ≡ 51 → ⊥) → NothingAfter c m r
+nothing_after c m r other = search (rules, ne_eqb, length-append)
 
 -- if bytes parse as headers, a walk over these leads to the number after them
-read_leads : (v : Option AuthFields) (f m : ℕ) (s : List ℕ) → IsReadAs v f m s → ipv4_walk v f ≡ Ok (record { 0 = m })
-read_leads v f m s r = search rules
+parsed_leads : (v : Option AuthFields) (f m : ℕ) (s : List ℕ) → IsParsedAs v f m s → ipv4_walk v f ≡ Ok (record { 0 = m })
+parsed_leads v f m s r = search rules
 
 module _ (f : ℕ) (v : Option AuthFields) (m : IpNumber) where
   -- an encoding of headers parses as these headers, with nothing left
-  pub encoding_read : (b : List ℕ) → IsIpv4Encoding f v b → ipv4_walk v f ≡ Ok m → IsReadAs v f m.0 b
-  encoding_read b h1 walk = search rules
+  pub encoding_parsed : (b : List ℕ) → IsIpv4Encoding f v b → ipv4_walk v f ≡ Ok m → IsParsedAs v f m.0 b
+  encoding_parsed b h1 walk = search rules
 
   -- and with more bytes after it, unless a header starts there
-  pub encoding_read_again : (b r : List ℕ) → IsIpv4Encoding f v b → ipv4_walk v f ≡ Ok m → (v ≡ None → f ≡ 51 → ⊥) → IsIpv4Answer ipv4_value f (b ++ r) v m.0 r None
-  encoding_read_again b r e walk other =
-      let x : IsReadAs v f m.0 b = encoding_read b e walk in
-      let behind : NothingBehind x.chain m.0 r = nothing_behind x.chain m.0 r (λ none is. other (sym x.value ∙ ap ipv4_value none) (sym (ap (leads_to f) none) ∙ x.number ∙ is)) in
-      read_again (AtMostOneOf 51) (at_most_one_of 51) f m.0 ipv4_value (ipv4_faults Slice) v None b r x behind.ends behind.fault
+  pub encoding_parsed_again : (b r : List ℕ) → IsIpv4Encoding f v b → ipv4_walk v f ≡ Ok m → (v ≡ None → f ≡ 51 → ⊥) → IsIpv4Answer ipv4_value f (b ++ r) v m.0 r None
+  encoding_parsed_again b r e walk other =
+      let x : IsParsedAs v f m.0 b = encoding_parsed b e walk in
+      let after : NothingAfter x.chain m.0 r = nothing_after x.chain m.0 r (λ none is. other (sym x.value ∙ ap ipv4_value none) (sym (ap (leads_to f) none) ∙ x.number ∙ is)) in
+      parsed_again (AtMostOneOf 51) (at_most_one_of 51) f m.0 ipv4_value (ipv4_faults Slice) v None b r x after.ends after.fault
 
 -- If the headers lead to a number, some bytes parse as them, and vice versa.
-leads_read : (f : ℕ) (v : Option AuthFields) (m : IpNumber) → ((w : AuthFields) → v ≡ Some w → IsEncoded w) → ipv4_walk v f ≡ Ok m → (s : List ℕ) × IsReadAs v f m.0 s
-leads_read f None m encoded walk = ([], encoding_read f None m [] (none_encodes f None refl) walk)
-leads_read f (Some w) m encoded walk = elim (eqb_tells f 51) [
-  | inl named ↦ let it = encoded w refl in (it.0, encoding_read f (Some w) m it.0 (one_encodes f (Some w) w it.0 named.1 refl it it.2) walk)
+leads_parsed : (f : ℕ) (v : Option AuthFields) (m : IpNumber) → ((w : AuthFields) → v ≡ Some w → IsEncoded w) → ipv4_walk v f ≡ Ok m → (s : List ℕ) × IsParsedAs v f m.0 s
+leads_parsed f None m encoded walk = ([], encoding_parsed f None m [] (none_encodes f None refl) walk)
+leads_parsed f (Some w) m encoded walk = elim (eqb_tells f 51) [
+  | inl named ↦ let it = encoded w refl in (it.0, encoding_parsed f (Some w) m it.0 (one_encodes f (Some w) w it.0 named.1 refl it it.2) walk)
   | inr other ↦ absurd (let no : Err (ExtNotReferenced (record { 0 = 51 })) ≡ Ok m = rw other.0 at walk in cc)
 ]
 
-pub walk_read : (f : ℕ) (v : Option AuthFields) (m : IpNumber) (x : Result IpNumber ExtsWalkError) → ((w : AuthFields) → v ≡ Some w → IsEncoded w) → x ≡ ipv4_walk v f → (x ≡ Ok m) ↔ ((s : List ℕ) × IsReadAs v f m.0 s)
-walk_read f v m x encoded is = (λ e. leads_read f v m encoded (sym is ∙ e), λ r. is ∙ read_leads v f m.0 r.0 r.1)
+pub walk_parsed : (f : ℕ) (v : Option AuthFields) (m : IpNumber) (x : Result IpNumber ExtsWalkError) → ((w : AuthFields) → v ≡ Some w → IsEncoded w) → x ≡ ipv4_walk v f → (x ≡ Ok m) ↔ ((s : List ℕ) × IsParsedAs v f m.0 s)
+walk_parsed f v m x encoded is = (λ e. leads_parsed f v m encoded (sym is ∙ e), λ r. is ∙ parsed_leads v f m.0 r.0 r.1)

@@ -1,5 +1,5 @@
 -- The longest chain, and the longest chain that is all of some bytes.
-use Rattle.ip_spec.proofs.Common.{◌≡◌, ◌≢◌, ℕ, ◌*◌, ◌≤◌, List, ◌∷◌, length, take, drop, refl, ap, sym, ◌∙◌, arith, subst, Bool, true, false, nat_eq, rules, [], Option, IfNone, IsSome, AllByRecursion, drop-append_seam, drop-drop, length-append, ne_eqb, eqb_tells, next_header, ExtHeader, AreLinked, leads_to, bytes_of, headers_within, is_empty, IsChain, IsPrefixChain, IsLongestChain, IsNext, IsEnd, rest_behind, IsLongestUnder, NoDemand}
+use Rattle.ip_spec.proofs.Common.{◌≡◌, ◌≢◌, ℕ, ◌*◌, ◌≤◌, List, ◌∷◌, length, take, drop, refl, ap, sym, ◌∙◌, arith, subst, Bool, true, false, nat_eq, rules, [], Option, IfNone, IsSome, AllByRecursion, drop-append_seam, drop-drop, length-append, ne_eqb, eqb_tells, next_header, ExtHeader, AreLinked, leads_to, bytes_of, headers_within, is_empty, IsChain, IsPrefixChain, IsLongestChain, IsNext, IsEnd, rest_after, IsLongestUnder, NoDemand}
 use Rattle.ip_spec.proofs.PrefixLemmas.{prefix-length, prefix_first, prefix_second, rest_join}
 use Rattle.ip_spec.proofs.HeaderLemmas.{header-least, one_next}
 use Rattle.ip_spec.proofs.UnderLemmas.{no_demand, longest_under_none}
@@ -35,15 +35,15 @@ pub whole_goes_on : (n : ℕ) (r : List ℕ) → bytes_of (longest_chain n r) �
 whole_goes_on n r e f = some_next n r (longest_chain n r) (longest_chain-longest n r).has e f
 
 -- c is a header and what follows it
-record Cut (n : ℕ) (r : List ℕ) (h : ExtHeader) (c : List ExtHeader) : Type 0 where
+record Split (n : ℕ) (r : List ℕ) (h : ExtHeader) (c : List ExtHeader) : Type 0 where
   others : List ExtHeader
   split : c ≡ h ∷ others
   chain : IsChain (next_header h.bytes) others
   bytes : bytes_of others ≡ drop (length h.bytes) r
 
-cut_chain : (n : ℕ) (r : List ℕ) (h : ExtHeader) (c : List ExtHeader) → IsPrefixChain n r c → bytes_of c ≡ r → IsNext true n r h → Cut n r h c
-cut_chain n r h [] p e x = absurd (omega (arith, ap length e, header-least n h.bytes x.header, prefix-length h.bytes r x.prefix))
-cut_chain n r h (g ∷ c) p e x =
+split_chain : (n : ℕ) (r : List ℕ) (h : ExtHeader) (c : List ExtHeader) → IsPrefixChain n r c → bytes_of c ≡ r → IsNext true n r h → Split n r h c
+split_chain n r h [] p e x = absurd (omega (arith, ap length e, header-least n h.bytes x.header, prefix-length h.bytes r x.prefix))
+split_chain n r h (g ∷ c) p e x =
     let same : g ≡ h = one_next true n r g h (first_next n r g c p) x in
     let C : ExtHeader → Type 0 = λ k. IsChain (next_header k.bytes) c in
     record {
@@ -54,14 +54,14 @@ cut_chain n r h (g ∷ c) p e x =
     }
 
 -- removing its first header leaves the longest chain of the remaining bytes, which is all of them
-pub whole_cut : (n : ℕ) (r : List ℕ) (h : ExtHeader) (k : ℕ) (q b : List ℕ) → bytes_of (longest_chain n r) ≡ r → IsNext true n r h → k ≡ next_header h.bytes → b ≡ h.bytes → q ≡ drop (length b) r
+pub whole_split : (n : ℕ) (r : List ℕ) (h : ExtHeader) (k : ℕ) (q b : List ℕ) → bytes_of (longest_chain n r) ≡ r → IsNext true n r h → k ≡ next_header h.bytes → b ≡ h.bytes → q ≡ drop (length b) r
     → (longest_chain n r ≡ h ∷ longest_chain k q) × (bytes_of (longest_chain k q) ≡ q)
-whole_cut n r h k q b e x ek eb eq =
-    let cut : Cut n r h (longest_chain n r) = cut_chain n r h (longest_chain n r) (longest_chain-longest n r).has e x in
-    let left : bytes_of cut.others ≡ q = cut.bytes ∙ sym (eq ∙ ap (λ (y : List ℕ). drop (length y) r) eb) in
-    let others : longest_chain k q ≡ cut.others =
-    ap (λ m. longest_chain m q) ek ∙ ap (longest_chain (next_header h.bytes)) (sym left) ∙ longest_chain-bytes_of (next_header h.bytes) cut.others cut.chain in
-    (cut.split ∙ ap (λ d. h ∷ d) (sym others), ap bytes_of others ∙ left)
+whole_split n r h k q b e x ek eb eq =
+    let parted : Split n r h (longest_chain n r) = split_chain n r h (longest_chain n r) (longest_chain-longest n r).has e x in
+    let left : bytes_of parted.others ≡ q = parted.bytes ∙ sym (eq ∙ ap (λ (y : List ℕ). drop (length y) r) eb) in
+    let others : longest_chain k q ≡ parted.others =
+    ap (λ m. longest_chain m q) ek ∙ ap (longest_chain (next_header h.bytes)) (sym left) ∙ longest_chain-bytes_of (next_header h.bytes) parted.others parted.chain in
+    (parted.split ∙ ap (λ d. h ∷ d) (sym others), ap bytes_of others ∙ left)
 
 -- a value that is absent only at an end is present if a header follows
 pub some_where_next : {A : Type 0} (o : Option A) (first : Bool) (m : ℕ) (s : List ℕ) → IfNone o (IsEnd first m s) → ((h : ExtHeader) × IsNext first m s h) → IsSome o
@@ -88,12 +88,12 @@ chain_within n s = omega (arith, longest_chain-least n s, prefix-length (bytes_o
 pub longest_from-least : (first : Bool) (n : ℕ) (s : List ℕ) → 8 * length (longest_from first n s) ≤ length s
 longest_from-least first n s = search (rules, chain_within, eqb_tells)
 
-none_behind_zero : (k : ℕ) (c : List ExtHeader) → k ≡ 0 → AreLinked k c → AllByRecursion (λ h. h.number ≢ 0) c → c ≡ []
-none_behind_zero k [] z links a = refl
-none_behind_zero k (h ∷ c) z links a = absurd (a.0 (links.0 ∙ z))
+none_after_zero : (k : ℕ) (c : List ExtHeader) → k ≡ 0 → AreLinked k c → AllByRecursion (λ h. h.number ≢ 0) c → c ≡ []
+none_after_zero k [] z links a = refl
+none_after_zero k (h ∷ c) z links a = absurd (a.0 (links.0 ∙ z))
 
-end_behind : (k : ℕ) (q : List ℕ) (c : List ExtHeader) → k ≢ 0 → IsEnd false (leads_to k c) q → IsEnd (is_empty c) (leads_to k c) q
-end_behind k q c some e = search rules
+end_after : (k : ℕ) (q : List ℕ) (c : List ExtHeader) → k ≢ 0 → IsEnd false (leads_to k c) q → IsEnd (is_empty c) (leads_to k c) q
+end_after k q c some e = search rules
 
 -- the headers after the first of the longest chain are the longest chain there
 module _ (n : ℕ) (r : List ℕ) (g : ExtHeader) (c : List ExtHeader) (l : IsLongestChain n r (g ∷ c)) where
@@ -103,11 +103,11 @@ module _ (n : ℕ) (r : List ℕ) (g : ExtHeader) (c : List ExtHeader) (l : IsLo
       longest_at_end _ _ c (record {
         chain = tail_chain n g c l.has.chain;
         prefix = second;
-      }) (end_behind _ _ c some (subst (IsEnd false (leads_to (next_header g.bytes) c))
+      }) (end_after _ _ c some (subst (IsEnd false (leads_to (next_header g.bytes) c))
       (sym (rest_join g.bytes (bytes_of c) r (prefix_first g.bytes (bytes_of c) r l.has.prefix) second)) (longest_ends n r (g ∷ c) l)))
 
   tail_is : c ≡ longest_from false (next_header g.bytes) (drop (length g.bytes) r)
-  tail_is = search (rules, eqb_tells, none_behind_zero, longest_chain-is, tail_longest)
+  tail_is = search (rules, eqb_tells, none_after_zero, longest_chain-is, tail_longest)
 
 longest_splits : (m : ℕ) (r : List ℕ) (h : ExtHeader) (c : List ExtHeader) → IsLongestChain m r c → IsNext true m r h → c ≡ h ∷ longest_from false (next_header h.bytes) (drop (length h.bytes) r)
 longest_splits m r h [] l x = absurd (longest_ends m r [] l h x)
@@ -120,11 +120,11 @@ pub longest_from-next : (first : Bool) (m : ℕ) (r : List ℕ) (h : ExtHeader) 
 longest_from-next first m r h x = search (rules, longest_splits, longest_chain-longest, eqb_tells, first_or_later)
 
 -- The parts left of l bytes, at number m with r and then at number k with q, one header apart.
-pub record GoesBehind (l : ℕ) (m : ℕ) (r : List ℕ) (h : ExtHeader) (k : ℕ) (q : List ℕ) : Type 0 where
+pub record GoesAfter (l : ℕ) (m : ℕ) (r : List ℕ) (h : ExtHeader) (k : ℕ) (q : List ℕ) : Type 0 where
   pub given : longest_from (nat_eq (length r) l) m r ≡ h ∷ longest_from (nat_eq (length q) l) k q
   pub leads : leads_to m (longest_from (nat_eq (length r) l) m r) ≡ leads_to k (longest_from (nat_eq (length q) l) k q)
-  pub behind : rest_behind (longest_from (nat_eq (length r) l) m r) r ≡ rest_behind (longest_from (nat_eq (length q) l) k q) q
+  pub after : rest_after (longest_from (nat_eq (length r) l) m r) r ≡ rest_after (longest_from (nat_eq (length q) l) k q) q
   pub within : length q ≤ l
 
-pub goes_behind : (l m : ℕ) (r : List ℕ) (h : ExtHeader) (k : ℕ) (q b : List ℕ) → length r ≤ l → IsNext (nat_eq (length r) l) m r h → k ≡ next_header h.bytes → b ≡ h.bytes → q ≡ drop (length b) r → GoesBehind l m r h k q
-goes_behind l m r h k q b within x ek eb eq = search (rules, header-least, prefix-length, nat_eq, ne_eqb, longest_from-next, drop-drop, length-append)
+pub goes_after : (l m : ℕ) (r : List ℕ) (h : ExtHeader) (k : ℕ) (q b : List ℕ) → length r ≤ l → IsNext (nat_eq (length r) l) m r h → k ≡ next_header h.bytes → b ≡ h.bytes → q ≡ drop (length b) r → GoesAfter l m r h k q
+goes_after l m r h k q b within x ek eb eq = search (rules, header-least, prefix-length, nat_eq, ne_eqb, longest_from-next, drop-drop, length-append)

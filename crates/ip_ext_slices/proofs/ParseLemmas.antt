@@ -1,8 +1,8 @@
 -- What the parse knows about the chain parsed so far, and what follows at an end.
-use Rattle.ip_spec.proofs.Common.{common_steps, ◌≡◌, ℕ, arith, subst, ◌-◌, List, ◌∷◌, ◌++◌, length, take, drop, ap, sym, ◌∙◌, Bool, nat_eq, rules, [], ◌==◌, ◌&&◌, ◌||◌, Option, None, AllByRecursion, YieldsList, YieldsList-from_shown, or-false, or_assoc, eqb_tells, IsHeader, rest_behind, next_header, is_fragmenting, ExtHeader, leads_to, bytes_of, is_empty, has_fragmenting, IsNext, IsEnd}
+use Rattle.ip_spec.proofs.Common.{common_steps, ◌≡◌, ℕ, arith, subst, ◌-◌, List, ◌∷◌, ◌++◌, length, take, drop, ap, sym, ◌∙◌, Bool, nat_eq, rules, [], ◌==◌, ◌&&◌, ◌||◌, Option, None, AllByRecursion, YieldsList, YieldsList-from_shown, or-false, or_assoc, eqb_tells, IsHeader, rest_after, next_header, is_fragmenting, ExtHeader, leads_to, bytes_of, is_empty, has_fragmenting, IsNext, IsEnd}
 use Rattle.ip_spec.proofs.PrefixLemmas.{prefix-length}
 use Rattle.ip_spec.proofs.ChainLemmas.{longest_ends, bytes_of-least}
-use Rattle.ip_spec.proofs.ReadLemmas.{HasRead, has_read_on, offset_is, no_next_here, read_longest}
+use Rattle.ip_spec.proofs.ParsedLemmas.{HasParsed, has_parsed_on, offset_is, no_next_here, parsed_longest}
 use Rattle.ip_ext_slices.specs.Longest.{longest_chain, longest_from}
 use Rattle.ip_ext_slices.specs.ChainFault.{Fault, slice_fault, chain_fault}
 use Rattle.ip_ext_slices.specs.ChainAnswer.{IsChainAnswer}
@@ -21,7 +21,7 @@ has_fragmenting-more c h = grind (arith, common_steps, or-false, or_assoc)
 -- the chain parsed of s from n leads to m and leaves r; the flag says whether a header in it fragments the payload
 pub record ParseState (n : ℕ) (s : List ℕ) (m : ℕ) (r : List ℕ) (flag : Bool) : Type 0 where
   pub chain : List ExtHeader
-  pub read : HasRead n s chain m r
+  pub read : HasParsed n s chain m r
   pub fragmented : flag ≡ has_fragmenting chain
 
 -- one more header
@@ -30,20 +30,20 @@ pub parse_goes_on : (n : ℕ) (s : List ℕ) (m : ℕ) (r : List ℕ) (flag : Bo
 parse_goes_on n s m r flag h k q b either p x ek eb eq em =
     record {
       chain = p.chain ++ h ∷ [];
-      read = has_read_on n s p.chain m r h k q b p.read x ek eb eq;
+      read = has_parsed_on n s p.chain m r h k q b p.read x ek eb eq;
       fragmented = em ∙ ap (λ f. f || fragments h) p.fragmented ∙ sym (has_fragmenting-more p.chain h);
     }
 
 -- at an end the chain parsed is the longest
 pub record AtEnd (n : ℕ) (s : List ℕ) (m : ℕ) (r : List ℕ) (flag : Bool) : Type 0 where
   pub number : m ≡ leads_to n (longest_chain n s)
-  pub rest : r ≡ rest_behind (longest_chain n s) s
+  pub rest : r ≡ rest_after (longest_chain n s) s
   pub len : length s - length r ≡ length (bytes_of (longest_chain n s))
   pub fragmented : flag ≡ has_fragmenting (longest_chain n s)
 
 pub at_end : (n : ℕ) (s : List ℕ) (m : ℕ) (r : List ℕ) (flag : Bool) → ParseState n s m r flag → IsEnd (nat_eq (length r) (length s)) m r → AtEnd n s m r flag
 at_end n s m r flag p e =
-    let is : p.chain ≡ longest_chain n s = sym (longest_chain-is n s p.chain (read_longest n s p.chain m r p.read (no_next_here n s p.chain m r p.read e))) in
+    let is : p.chain ≡ longest_chain n s = sym (longest_chain-is n s p.chain (parsed_longest n s p.chain m r p.read (no_next_here n s p.chain m r p.read e))) in
     record {
       number = p.read.number ∙ ap (leads_to n) is;
       rest = p.read.rest ∙ ap (λ d. drop (length (bytes_of d)) s) is;
@@ -55,24 +55,24 @@ no_bytes : (c : List ExtHeader) (k : ℕ) → AllByRecursion (λ h. IsHeader h.n
 no_bytes c k a e = search (rules, nat_eq, eqb_tells, bytes_of-least)
 
 -- the bytes before those left are the chain's
-pub len_behind : (n : ℕ) (s r : List ℕ) → r ≡ rest_behind (longest_chain n s) s → length s - length r ≡ length (bytes_of (longest_chain n s))
-len_behind n s r e = omega (arith, prefix-length (bytes_of (longest_chain n s)) s (longest_chain-longest n s).has.prefix, ap length e)
+pub len_after : (n : ℕ) (s r : List ℕ) → r ≡ rest_after (longest_chain n s) s → length s - length r ≡ length (bytes_of (longest_chain n s))
+len_after n s r e = omega (arith, prefix-length (bytes_of (longest_chain n s)) s (longest_chain-longest n s).has.prefix, ap length e)
 
 -- The longest chain of s from n, of k bytes.
 module _ (n : ℕ) (s : List ℕ) (k : ℕ) (len : k ≡ length (bytes_of (longest_chain n s))) where
-  pub longest_taken : take k s ≡ bytes_of (longest_chain n s)
-  longest_taken = ap (λ j. take j s) len ∙ (longest_chain-longest n s).has.prefix
+  pub longest_front : take k s ≡ bytes_of (longest_chain n s)
+  longest_front = ap (λ j. take j s) len ∙ (longest_chain-longest n s).has.prefix
 
   pub longest_own : longest_chain n (take k s) ≡ longest_chain n s
-  longest_own = ap (longest_chain n) longest_taken ∙ longest_chain-bytes_of n (longest_chain n s) (longest_chain-longest n s).has.chain
+  longest_own = ap (longest_chain n) longest_front ∙ longest_chain-bytes_of n (longest_chain n s) (longest_chain-longest n s).has.chain
 
   first_told : nat_eq k 0 ≡ is_empty (longest_chain n s)
   first_told = no_bytes (longest_chain n s) k (longest_chain-longest n s).has.chain.headers len
 
-  module _ (m : ℕ) (r : List ℕ) (number : m ≡ leads_to n (longest_chain n s)) (rest : r ≡ rest_behind (longest_chain n s) s) where
+  module _ (m : ℕ) (r : List ℕ) (number : m ≡ leads_to n (longest_chain n s)) (rest : r ≡ rest_after (longest_chain n s) s) where
     -- no header follows it, and the error there
-    pub ends_behind : IsEnd (nat_eq k 0) m r
-    ends_behind = search (rules, first_told, longest_ends, longest_chain-longest)
+    pub ends_after : IsEnd (nat_eq k 0) m r
+    ends_after = search (rules, first_told, longest_ends, longest_chain-longest)
 
     pub chain_fault_is : chain_fault n s ≡ slice_fault k (nat_eq k 0) m r
     chain_fault_is = search (rules, first_told)
@@ -83,8 +83,8 @@ pub record IsAtEnd (n : ℕ) (s : List ℕ) (m : ℕ) (r : List ℕ) : Type 0 wh
   pub ends : IsEnd (nat_eq (length s - length r) 0) m r
   pub answers : (f : Option Fault) → f ≡ slice_fault (length s - length r) (nat_eq (length s - length r) 0) m r → IsChainAnswer n s (longest_chain n s) m r f
 
-pub cursor_at_end : (n : ℕ) (s : List ℕ) (first : Bool) (m : ℕ) (r : List ℕ) → leads_to m (longest_from first m r) ≡ leads_to n (longest_chain n s) → rest_behind (longest_from first m r) r ≡ rest_behind (longest_chain n s) s → IsEnd first m r → IsAtEnd n s m r
-cursor_at_end n s first m r leads behind e = search (rules, longest_from-end, len_behind, ends_behind, chain_fault_is)
+pub cursor_at_end : (n : ℕ) (s : List ℕ) (first : Bool) (m : ℕ) (r : List ℕ) → leads_to m (longest_from first m r) ≡ leads_to n (longest_chain n s) → rest_after (longest_from first m r) r ≡ rest_after (longest_chain n s) s → IsEnd first m r → IsAtEnd n s m r
+cursor_at_end n s first m r leads after e = search (rules, longest_from-end, len_after, ends_after, chain_fault_is)
 
 -- the headers that a cursor returns
 ended : (c d : Ipv6ExtensionsCursor) → GivesHeader c None d → length (headers_left c) ≡ 0

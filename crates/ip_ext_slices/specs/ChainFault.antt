@@ -12,7 +12,7 @@ use Rattle.ip_ext_headers.specs.declared.err.ip_auth.header_slice_error.HeaderSl
 use Rattle.ip_ext_headers.specs.HeaderFault.{raw_fault, fragment_fault, auth_fault}
 use Rattle.ip_spec.specs.Numbers.{HOP_BY_HOP, ROUTING, FRAGMENT, AUTHENTICATION, DESTINATION_OPTIONS}
 use Rattle.ip_spec.specs.Chain.{ExtHeader, is_empty, bytes_of}
-use Rattle.ip_spec.specs.Parse.{fault_behind}
+use Rattle.ip_spec.specs.Parse.{fault_after}
 use Rattle.ip_ext_slices.specs.Longest.{longest_chain}
 use Rattle.ip_base.specs.declared.err.ipv6_exts.header_error.HeaderError.{HeaderError}
 use Rattle.ip_base.specs.declared.err.ipv6_exts.header_error.HeaderError.TheVariants.{HopByHopNotAtStart, IpAuth}
@@ -52,7 +52,7 @@ chain_faults source c m r = fault_at source (length r) (length (bytes_of c)) (is
 
 -- the error at the end of the longest chain from n at the start of s
 abbrev pub chain_fault : ℕ → List ℕ → Option Fault
-chain_fault n s = fault_behind (chain_faults Slice) (longest_chain n s) n s
+chain_fault n s = fault_after (chain_faults Slice) (longest_chain n s) n s
 
 -- the error at offset k with n bytes left, by its cause: a layer needs more bytes, or a header is malformed
 abbrev pub error_by_cause : ℕ → ℕ → Result (ℕ × Layer) HeaderError → HeaderSliceError

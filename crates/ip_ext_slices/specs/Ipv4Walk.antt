@@ -7,7 +7,7 @@ use Rattle.ip_spec.specs.Numbers.{AUTHENTICATION}
 use Rattle.ip_spec.specs.Fields.{AuthFields}
 use Rattle.ip_spec.specs.Demand.{AtMostOneOf}
 use Rattle.ip_spec.specs.Encoding.{IsCleared}
-use Rattle.ip_spec.specs.Parse.{IsRead}
+use Rattle.ip_spec.specs.Parse.{IsParsed}
 use Rattle.ip_ext_slices.specs.Ipv4Parse.{ipv4_value}
 use Rattle.ip_base.specs.declared.err.ipv4_exts.exts_walk_error.ExtsWalkError.{ExtsWalkError}
 use Rattle.ip_base.specs.declared.err.ipv4_exts.exts_walk_error.ExtsWalkError.TheVariants.{ExtNotReferenced}
@@ -19,4 +19,4 @@ ipv4_walk (Some v) f = if f == AUTHENTICATION then Ok (record { 0 = v.next_heade
 
 -- from number f, bytes b parse as v with nothing left, and their reserved bits are zero
 abbrev pub IsIpv4Encoding : ℕ → Option AuthFields → List ℕ → Type 0
-IsIpv4Encoding f v b = (m : ℕ) × IsRead (AtMostOneOf AUTHENTICATION) (λ c. (ipv4_value c ≡ v) × AllByRecursion IsCleared c) f m b
+IsIpv4Encoding f v b = (m : ℕ) × IsParsed (AtMostOneOf AUTHENTICATION) (λ c. (ipv4_value c ≡ v) × AllByRecursion IsCleared c) f m b

@@ -1,7 +1,7 @@
 ghost use Rattle.std.specs.Prelude.{ℕ, List, IsSome};
 ghost use Rattle.ip_base.specs.declared.len_source.LenSource.TheVariants.{Slice};
 ghost use Rattle.ip_spec.specs.Header.{IsExtensionNumber};
-ghost use Rattle.ip_spec.specs.Parse.{fault_behind};
+ghost use Rattle.ip_spec.specs.Parse.{fault_after};
 ghost use Rattle.ip_spec.specs.Chain.{ExtHeader, IsLongestChain, leads_to};
 ghost use Rattle.ip_ext_slices.specs.ChainFault.{chain_faults};
 
@@ -9,5 +9,5 @@ ghost use Rattle.ip_ext_slices.specs.ChainFault.{chain_faults};
 pub fn extension_number_left_has_fault()
     ensures { (n : ℕ) (s : List ℕ) (c : List ExtHeader) → IsLongestChain n s c
         → IsExtensionNumber (leads_to n c)
-        → IsSome (fault_behind (chain_faults Slice) c n s) }
+        → IsSome (fault_after (chain_faults Slice) c n s) }
 {}

@@ -12,7 +12,7 @@ ghost use Rattle.ip_ext_slices.specs.Ipv4Parse.{IsIpv4Answer, ipv4_value};
 ghost use Rattle.ip_ext_slices.specs.Ipv4ExtensionsSlice.{headers_in};
 ghost use Rattle.ip_ext_slices.specs.Ipv4Walk.{ipv4_walk, IsIpv4Encoding};
 ghost use Rattle.ip_ext_slices.specs.declared.err.ipv4_exts.header_write_error.HeaderWriteError.TheVariants.{Io, Content};
-ghost use Rattle.ip_spec.specs.Parse.{IsRead};
+ghost use Rattle.ip_spec.specs.Parse.{IsParsed};
 
 use crate::Ipv4ExtensionsSlice;
 use crate::err::ip_auth::HeaderSliceError;
@@ -48,7 +48,7 @@ impl Ipv4Extensions {
             result.0.auth result.1.0 result.2.now result.3 }
         ensures cleared { IsIpv4Encoding start_ip_number.0 result.0.auth
             (bytes_of (cleared_chain (longest_ipv4_chain start_ip_number.0 start_slice.now))) }
-        ensures cut { (j : ℕ) → longest_ipv4_chain start_ip_number.0 (take j start_slice.now)
+        ensures truncated { (j : ℕ) → longest_ipv4_chain start_ip_number.0 (take j start_slice.now)
             ≡ headers_within j (longest_ipv4_chain start_ip_number.0 start_slice.now) }
     {
         let (slices, number, rest, fault) = Self::scan(start_ip_number, start_slice);
@@ -116,7 +116,7 @@ impl Ipv4Extensions {
     pub fn next_header(&self, first_next_header: IpNumber) -> Result<IpNumber, ExtsWalkError>
         ensures answer { result ≡ ipv4_walk self.now.auth first_next_header.0 }
         ensures exactly { (m : IpNumber) → (result ≡ Ok m) ↔ ((s : List ℕ)
-            × IsRead (AtMostOneOf AUTHENTICATION) (λ c. ipv4_value c ≡ self.now.auth)
+            × IsParsed (AtMostOneOf AUTHENTICATION) (λ c. ipv4_value c ≡ self.now.auth)
             first_next_header.0 m.0 s) }
     {
         match &self.auth {
@@ -171,15 +171,15 @@ impl Ipv4Extensions {
         ensures alike { (v : Option AuthFields) (b : List ℕ)
             → IsIpv4Encoding start_ip_number.0 self.now.auth b
             → IsIpv4Encoding start_ip_number.0 v b → self.now.auth ≡ v }
-        ensures read_again { OnOk result ((b r : List ℕ) (m : IpNumber)
+        ensures parsed_again { OnOk result ((b r : List ℕ) (m : IpNumber)
             → out.new.items ≡ out.old.items ++ b
             → ipv4_walk self.now.auth start_ip_number.0 ≡ Ok m
             → (self.now.auth ≡ None → start_ip_number.0 ≡ AUTHENTICATION → ⊥)
             → IsIpv4Answer ipv4_value start_ip_number.0 (b ++ r) self.now.auth m.0 r None) }
-        ensures read_whole { OnOk result ((b : List ℕ) (m : IpNumber)
+        ensures parsed_whole { OnOk result ((b : List ℕ) (m : IpNumber)
             → out.new.items ≡ out.old.items ++ b
             → ipv4_walk self.now.auth start_ip_number.0 ≡ Ok m
-            → IsRead (AtMostOneOf AUTHENTICATION) (λ c. ipv4_value c ≡ self.now.auth)
+            → IsParsed (AtMostOneOf AUTHENTICATION) (λ c. ipv4_value c ≡ self.now.auth)
             start_ip_number.0 m.0 b) }
         ensures len { OnOk result
             (vec_len out.new ≡ vec_len out.old + option_map_or auth_len self.now.auth 0) }

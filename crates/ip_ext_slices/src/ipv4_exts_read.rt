@@ -5,7 +5,7 @@ ghost use Rattle.ip_spec.specs.Numbers.{AUTHENTICATION};
 ghost use Rattle.ip_spec.specs.Header.{IsAuthHeader};
 ghost use Rattle.ip_spec.specs.Fields.{auth_fields};
 ghost use Rattle.ip_base.specs.LimitedReader.{inner_of, window};
-ghost use Rattle.ip_base.specs.Reading.{IsHeaderTaken, IsAnswerTaken, IsTakenInLayer};
+ghost use Rattle.ip_base.specs.Reading.{IsHeaderConsumed, IsAnswerConsumed, IsConsumedInLayer};
 ghost use Rattle.ip_ext_headers.specs.AuthReading.{IsAuthRefused, IsAuthRefusedInLayer, IsSliceError, IsSliceErrorInLayer};
 ghost use Rattle.ip_ext_slices.specs.Ipv4Fault.{ipv4_chain_fault};
 ghost use Rattle.ip_ext_slices.specs.Ipv4Reading.{Answers};
@@ -26,9 +26,9 @@ impl Ipv4Extensions {
         start_ip_number: IpNumber,
     ) -> Result<(Ipv4Extensions, IpNumber), HeaderReadError>
         ensures answer { IfOk result (λ x.
-            IsAnswerTaken (Answers start_ip_number.0 x.0.auth x.1.0)
+            IsAnswerConsumed (Answers start_ip_number.0 x.0.auth x.1.0)
             (Consumes (T.bytes_left reader.old) (T.bytes_left reader.new))) }
-        ensures header { IfOk result (λ x. IfSome x.0.auth (IsHeaderTaken IsAuthHeader auth_fields
+        ensures header { IfOk result (λ x. IfSome x.0.auth (IsHeaderConsumed IsAuthHeader auth_fields
             (Consumes (T.bytes_left reader.old) (T.bytes_left reader.new)))) }
         ensures kept { OnOk result (T.has_failed reader.new ≡ T.has_failed reader.old) }
         ensures steady { T.is_steady reader.new ≡ T.is_steady reader.old }
@@ -60,10 +60,10 @@ impl Ipv4Extensions {
         start_ip_number: IpNumber,
     ) -> Result<(Ipv4Extensions, IpNumber), HeaderLimitedReadError>
         ensures answer { IfOk result (λ x.
-            IsAnswerTaken (Answers start_ip_number.0 x.0.auth x.1.0)
+            IsAnswerConsumed (Answers start_ip_number.0 x.0.auth x.1.0)
             (Consumes (window T.bytes_left reader.old) (window T.bytes_left reader.new))) }
-        ensures header { IfOk result (λ x. IfSome x.0.auth (IsHeaderTaken IsAuthHeader auth_fields
-            (IsTakenInLayer T.bytes_left AuthLayer reader.old reader.new))) }
+        ensures header { IfOk result (λ x. IfSome x.0.auth (IsHeaderConsumed IsAuthHeader auth_fields
+            (IsConsumedInLayer T.bytes_left AuthLayer reader.old reader.new))) }
         ensures kept { OnOk result
             (T.has_failed (inner_of reader.new) ≡ T.has_failed (inner_of reader.old)) }
         ensures steady { T.is_steady (inner_of reader.new) ≡ T.is_steady (inner_of reader.old) }

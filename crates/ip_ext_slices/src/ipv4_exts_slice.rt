@@ -41,7 +41,7 @@ impl<'a> Ipv4ExtensionsSlice<'a> {
             start_ip_number.0 start_slice.now (headers_in result.0) }
         ensures answer { IsIpv4Answer (λ c. c) start_ip_number.0 start_slice.now
             (headers_in result.0) result.1.0 result.2.now result.3 }
-        ensures cut { (j : ℕ) → longest_ipv4_chain start_ip_number.0 (take j start_slice.now)
+        ensures truncated { (j : ℕ) → longest_ipv4_chain start_ip_number.0 (take j start_slice.now)
             ≡ headers_within j (headers_in result.0) }
     {
         if start_ip_number != ip_number::AUTH {

@@ -1,6 +1,6 @@
 ghost use Rattle.std.specs.Prelude.{◌≡◌, ◌==◌, ◌≤◌, length};
 ghost use Rattle.ip_spec.specs.Chain.{leads_to};
-ghost use Rattle.ip_spec.specs.Parse.{rest_behind};
+ghost use Rattle.ip_spec.specs.Parse.{rest_after};
 ghost use Rattle.ip_ext_slices.specs.Longest.{longest_chain, longest_from};
 
 use crate::Ipv6ExtensionSlice;
@@ -23,8 +23,8 @@ pub struct Ipv6ExtensionsCursor<'a> {
     rest: &'a [u8],
     pub ghost leads: { leads_to number.0 (longest_from (length rest.now == length bytes.now) number.0 rest.now)
         ≡ leads_to first.0 (longest_chain first.0 bytes.now) },
-    pub ghost behind: { rest_behind (longest_from (length rest.now == length bytes.now) number.0 rest.now) rest.now
-        ≡ rest_behind (longest_chain first.0 bytes.now) bytes.now },
+    pub ghost after: { rest_after (longest_from (length rest.now == length bytes.now) number.0 rest.now) rest.now
+        ≡ rest_after (longest_chain first.0 bytes.now) bytes.now },
     pub ghost within: { length rest.now ≤ length bytes.now },
 }
 

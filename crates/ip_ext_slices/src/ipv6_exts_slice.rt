@@ -1,7 +1,7 @@
 ghost use Rattle.std.specs.Prelude.{◌≡◌, ◌==◌, ℕ, List, [], length, take, Option, Some, None, is_none, IfOk, IfErr, if◌then◌else◌};
 ghost use Rattle.std.specs.Option.{option_map};
 ghost use Rattle.ip_spec.specs.Prefix.{IsPrefix};
-ghost use Rattle.ip_spec.specs.Parse.{rest_behind};
+ghost use Rattle.ip_spec.specs.Parse.{rest_after};
 ghost use Rattle.ip_spec.specs.Chain.{bytes_of, leads_to, headers_within, is_empty, has_fragmenting, IsLongestChain};
 ghost use Rattle.ip_ext_slices.specs.Longest.{longest_chain};
 ghost use Rattle.ip_ext_slices.specs.ChainFault.{chain_fault};
@@ -83,7 +83,7 @@ impl<'a> Ipv6ExtensionsSlice<'a> {
         ensures longest { IsLongestChain start_ip_number.0 start_slice.now (headers_in result.0) }
         ensures answer { IsChainAnswer start_ip_number.0 start_slice.now
             (headers_in result.0) result.1.0 result.2.now result.3 }
-        ensures cut { (j : ℕ) → longest_chain start_ip_number.0 (take j start_slice.now)
+        ensures truncated { (j : ℕ) → longest_chain start_ip_number.0 (take j start_slice.now)
             ≡ headers_within j (headers_in result.0) }
         ensures bytes { bytes result.0
             ≡ bytes_of (longest_chain start_ip_number.0 start_slice.now) }
@@ -106,7 +106,7 @@ impl<'a> Ipv6ExtensionsSlice<'a> {
     #[inline(always)]
     fn scan(start: IpNumber, bytes: &'a [u8]) -> (IpNumber, &'a [u8], usize, bool)
         ensures number { result.0.0 ≡ leads_to start.0 (longest_chain start.0 bytes.now) }
-        ensures rest { result.1.now ≡ rest_behind (longest_chain start.0 bytes.now) bytes.now }
+        ensures rest { result.1.now ≡ rest_after (longest_chain start.0 bytes.now) bytes.now }
         ensures len { result.2 ≡ length (bytes_of (longest_chain start.0 bytes.now)) }
         ensures flag { result.3 ≡ has_fragmenting (longest_chain start.0 bytes.now) }
     {

@@ -94,11 +94,11 @@ module _ (text bytes : List ℕ) where
   module _ (k : ℕ) (inside : k + 1 < length text) where
     pair_at : (next : ℕ) → next ≡ k + 2 → bytes_of_pairs (drop k text) ≡ onto_bytes (byte_of_digits (get_or text k 0) (get_or text (k + 1) 0)) (bytes_of_pairs (drop next text))
     pair_at next e =
-        let behind : k + 1 + 1 ≡ next = omega (arith, e) in
+        let after : k + 1 + 1 ≡ next = omega (arith, e) in
         ap bytes_of_pairs
         (drop_more text k 0 (omega arith)
         ∙ ap (λ (l : List ℕ). get_or text k 0 ∷ l) (drop_more text (k + 1) 0 inside)
-        ∙ ap (λ (n : ℕ). get_or text k 0 ∷ get_or text (k + 1) 0 ∷ drop n text) behind)
+        ∙ ap (λ (n : ℕ). get_or text k 0 ∷ get_or text (k + 1) 0 ∷ drop n text) after)
 
     pub so_far-bad : SoFar text (drop k text) bytes → byte_of_digits (get_or text k 0) (get_or text (k + 1) 0) ≡ None → bytes_of_pairs text ≡ None
     unfolding SoFar
@@ -121,8 +121,8 @@ module _ (n : ℕ) (s : List ℕ) (c : List ExtHeader) (longest : IsLongestChain
   pub exts6_answer-longest : (number : ℕ) (rest : List ℕ) (first : Bool) (offset : ℕ) (fault : Option Fault)
       → number ≡ leads_to n c → rest ≡ drop (length (bytes_of c)) s → first ≡ is_empty c → offset ≡ length (bytes_of c) → fault ≡ slice_fault offset first number rest
       → exts6_answer n s ≡ header_lines 0 c ++ next_line number (length rest) ++ chain_end_line fault
-  exts6_answer-longest number rest first offset fault leads left one behind is =
-      rw (is, leads, left, one, behind, ← one_longest n s (longest_chain n s) c (some_longest n s).1 longest) refl
+  exts6_answer-longest number rest first offset fault leads left one after is =
+      rw (is, leads, left, one, after, ← one_longest n s (longest_chain n s) c (some_longest n s).1 longest) refl
 
 pub length-prefix : (b s : List ℕ) → IsPrefix b s → length b ≤ length s
 length-prefix b s e = omega (arith, length-take (length b) s, ap length e)

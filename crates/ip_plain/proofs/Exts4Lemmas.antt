@@ -1,5 +1,5 @@
 -- The answer to `exts4`, in the form in which the plain program computes it.
-use Rattle.ip_spec.proofs.Common.{◌≡◌, ℕ, zero, suc, ◌≤◌, List, [], ◌∷◌, ◌++◌, length, take, drop, get_or, true, refl, sym, ap, ◌∙◌, arith, append_assoc, length-take-le, ExtHeader, IsNext, IsEnd, leads_to, rest_behind, fault_behind, NoPrefix, IsAuthHeader, auth}
+use Rattle.ip_spec.proofs.Common.{◌≡◌, ℕ, zero, suc, ◌≤◌, List, [], ◌∷◌, ◌++◌, length, take, drop, get_or, true, refl, sym, ap, ◌∙◌, arith, append_assoc, length-take-le, ExtHeader, IsNext, IsEnd, leads_to, rest_after, fault_after, NoPrefix, IsAuthHeader, auth}
 use Rattle.std.proofs.Common.{append-nil}
 use Rattle.ip_base.specs.declared.len_source.LenSource.TheVariants.{Slice}
 use Rattle.ip_spec.proofs.HeaderLemmas.{header-least, auth_of}
@@ -12,7 +12,7 @@ use Rattle.ipexts_tool.specs.Parts.{header_line, header_lines, next_line, ipv4_e
 
 -- the answer for the chain c
 abbrev told : List ℕ → List ExtHeader → List ℕ
-told s c = header_lines 0 c ++ next_line (leads_to 51 c) (length (rest_behind c s)) ++ ipv4_end_line (fault_behind (ipv4_faults Slice) c 51 s)
+told s c = header_lines 0 c ++ next_line (leads_to 51 c) (length (rest_after c s)) ++ ipv4_end_line (fault_after (ipv4_faults Slice) c 51 s)
 
 first_byte : (k : ℕ) (s : List ℕ) → 8 ≤ k → get_or (take k s) 0 0 ≡ get_or s 0 0
 first_byte zero s few = absurd (omega arith)

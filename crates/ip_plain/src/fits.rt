@@ -43,7 +43,7 @@ fn how_often_before(number: u8, headers: &[PlainHeader<'_>]) -> usize
 }
 
 /// Returns how many of those after the first routing header have the number, or 0 if there is none.
-fn how_often_behind(number: u8, headers: &[PlainHeader<'_>]) -> usize
+fn how_often_after(number: u8, headers: &[PlainHeader<'_>]) -> usize
     ensures { result
         ≡ how_often number (after_routing (numbers_of (map plain_header_of headers.now))) }
 {
@@ -51,8 +51,8 @@ fn how_often_behind(number: u8, headers: &[PlainHeader<'_>]) -> usize
     if at == headers.len() {
         return 0;
     }
-    let (_, behind) = headers.split_at(at + 1);
-    how_often(number, behind)
+    let (_, after) = headers.split_at(at + 1);
+    how_often(number, after)
 }
 
 /// Returns whether the numbers of the headers fit six places: hop-by-hop options, routing, fragment and
@@ -66,7 +66,7 @@ pub fn numbers_fit(headers: &[PlainHeader<'_>]) -> bool
         && how_often(44, headers) <= 1
         && how_often(51, headers) <= 1
         && how_often_before(60, headers) <= 1
-        && how_often_behind(60, headers) <= 1
+        && how_often_after(60, headers) <= 1
 }
 
 /// Returns how many headers fit, from the first on: all, or those before the first that doesn't fit.

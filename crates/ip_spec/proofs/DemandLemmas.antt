@@ -31,13 +31,13 @@ module _ {X : Type 0} (P Q : List X → Type 0) (g : Grows P) (k : IsDemand Q) w
       (g.begins c p.rest (subst P p.joined l.has), p.meets)
       (none_next_where_kept d c p.rest p.joined p.breaks l)
 
-  breaks_behind : (d c rest : List X) → d ≡ c ++ rest → IsLongestOf P d → IsLongestOf (IsUnder Q P) c → NextBreaks Q c rest
-  breaks_behind d c rest e l u = grind (arith, common_steps, none_next_where_longest, begins_first)
+  breaks_after : (d c rest : List X) → d ≡ c ++ rest → IsLongestOf P d → IsLongestOf (IsUnder Q P) c → NextBreaks Q c rest
+  breaks_after d c rest e l u = grind (arith, common_steps, none_next_where_longest, begins_first)
 
   -- and vice versa
   pub kept_where_longest : (d c : List X) → IsLongestOf P d → IsLongestOf (IsUnder Q P) c → KeepsBeginning Q d c
   kept_where_longest d c l u = elim (compare P g d c l.has u.has.0) [
-    | within rest w ↦ search (rules, breaks_behind)
+    | within rest w ↦ search (rules, breaks_after)
     | beyond x rest w ↦ absurd (none_next_where_longest P d l x (begins_first P g d x rest (subst P w u.has.0)))
   ]
 
@@ -59,11 +59,11 @@ abbrev pub Begins : {X : Type 0} → List X → List X → Type 0
 Begins {X} d c = (rest : List X) × (d ≡ c ++ rest)
 
 module _ {X : Type 0} (d : List X) where
-  same_behind : (c : List X) (x y : X) (p q : List X) → d ≡ (c ++ x ∷ []) ++ p → d ≡ (c ++ y ∷ []) ++ q → x ≡ y
-  same_behind c x y p q e f = search (rules, append_cancel_left, append_assoc)
+  same_after : (c : List X) (x y : X) (p q : List X) → d ≡ (c ++ x ∷ []) ++ p → d ≡ (c ++ y ∷ []) ++ q → x ≡ y
+  same_after c x y p q e f = search (rules, append_cancel_left, append_assoc)
 
   pub beginnings_grow : Grows (Begins d)
-  beginnings_grow = search (rules, append_assoc, same_behind)
+  beginnings_grow = search (rules, append_assoc, same_after)
 
   all_longest : IsLongestOf (Begins d) d
   all_longest = grind (arith, common_steps, longest_where_none_next, beginnings_grow, append-nil, length-append)

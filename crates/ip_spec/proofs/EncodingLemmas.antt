@@ -127,7 +127,7 @@ pub auth_encoding-bytes : (v : AuthFields) (b : List ℕ) → IsAuthEncoding v b
 auth_encoding-bytes v [] h small icv = absurd (omega (arith, h.header.len))
 auth_encoding-bytes v (x ∷ t) h small icv =
     let number : x ≡ v.next_header = ap (λ (w : AuthFields). w.next_header) h.fields in
-    let behind : drop 11 t ≡ v.raw_icv = ap (λ (w : AuthFields). w.raw_icv) h.fields in
-    let parts : AreBytes (take 11 t ++ drop 11 t) = All-append (λ y. y < 256) (take 11 t) (drop 11 t) h.cleared.bytes (subst AreBytes (sym behind) icv) in
+    let after : drop 11 t ≡ v.raw_icv = ap (λ (w : AuthFields). w.raw_icv) h.fields in
+    let parts : AreBytes (take 11 t ++ drop 11 t) = All-append (λ y. y < 256) (take 11 t) (drop 11 t) h.cleared.bytes (subst AreBytes (sym after) icv) in
     let rest : AreBytes t = subst AreBytes (take-append-drop 11 t) parts in
     All-from_recursion (λ y. y < 256) (x ∷ t) (omega arith, recursion_from_All (λ y. y < 256) t rest)

@@ -1,5 +1,5 @@
 -- Chains whose headers fit six places.
-use Rattle.ip_spec.proofs.Common.{◌≡◌, ℕ, ◌≤◌, ◌<◌, List, [], ◌∷◌, ◌++◌, length, drop, refl, ap, sym, ◌∙◌, arith, inl, inr, ◌⊎◌, subst, rules, count_by, cases_lt, append-nil, length-append, common_steps, ExtHeader, leads_to, bytes_of, is_empty, IsPrefixChain, IsLongestChain, IsNext, IsEnd, IsDemand, IsLongestUnder, NextBreaks, Place, destination, routing, final_destination, places, side_of, place_of, FitsPlaces, IsTaken}
+use Rattle.ip_spec.proofs.Common.{◌≡◌, ℕ, ◌≤◌, ◌<◌, List, [], ◌∷◌, ◌++◌, length, drop, refl, ap, sym, ◌∙◌, arith, inl, inr, ◌⊎◌, subst, rules, count_by, cases_lt, append-nil, length-append, common_steps, ExtHeader, leads_to, bytes_of, is_empty, IsPrefixChain, IsLongestChain, IsNext, IsEnd, IsDemand, IsLongestUnder, NextBreaks, Place, destination, routing, final_destination, places, side_of, place_of, FitsPlaces, IsOccupied}
 use Rattle.ip_spec.proofs.HeaderLemmas.{header_number, later_of}
 use Rattle.ip_spec.specs.Places.{fragment}
 use Rattle.ip_spec.proofs.FirstLemmas.{count-append, count_before, count_after}
@@ -28,16 +28,16 @@ fits_places = record {
 }
 
 -- The headers after a prefix of a chain that fits, fit by themselves, and so does each single header.
-pub fits_behind : (c d : List ExtHeader) → FitsPlaces (c ++ d) → FitsPlaces d
-fits_behind c d f destination = elim (sides c d) [
+pub fits_after : (c d : List ExtHeader) → FitsPlaces (c ++ d) → FitsPlaces d
+fits_after c d f destination = elim (sides c d) [
   | none_yet none all nothing b a ↦ omega (arith, f destination, ap (count_by (is_of destination)) b, count-append (is_of destination) c (side_of destination d))
   | one_before some b a ↦ omega (arith, f final_destination, ap (count_by (is_of destination)) a, count-append (is_of destination) (side_of final_destination c) d, count_before (is_of destination) (is_of routing) d)
 ]
-fits_behind c d f final_destination = elim (sides c d) [
+fits_after c d f final_destination = elim (sides c d) [
   | none_yet none all nothing b a ↦ omega (arith, f final_destination, ap (count_by (is_of destination)) a)
   | one_before some b a ↦ omega (arith, f final_destination, ap (count_by (is_of destination)) a, count-append (is_of destination) (side_of final_destination c) d, count_after (is_of destination) (is_of routing) d)
 ]
-fits_behind c d f p = omega (arith, f p, count-append (is_of p) c d)
+fits_after c d f p = omega (arith, f p, count-append (is_of p) c d)
 
 pub one_fits : (h : ExtHeader) → FitsPlaces (h ∷ [])
 one_fits h = search (rules, fits_next)
@@ -47,32 +47,32 @@ pub number_fits : (c : List ExtHeader) (g h : ExtHeader) → g.number ≡ h.numb
 number_fits c g h e f = fits_next c h (fits_places.begins c (g ∷ []) f) (λ p o. none_there c g p (ap (λ m. place_of m (has_routing c)) e ∙ o) f)
 
 -- If a header follows and doesn't fit, the place of its number is occupied.
-pub breaks_taken : (c : List ExtHeader) (m : ℕ) (r : List ℕ) (h : ExtHeader) → IsNext (is_empty c) m r h → (FitsPlaces (c ++ h ∷ []) → ⊥) → IsTaken m c
-breaks_taken c m r h x breaks = (
+pub breaks_occupied : (c : List ExtHeader) (m : ℕ) (r : List ℕ) (h : ExtHeader) → IsNext (is_empty c) m r h → (FitsPlaces (c ++ h ∷ []) → ⊥) → IsOccupied m c
+breaks_occupied c m r h x breaks = (
   later_of m (header_number m h.bytes x.header) (λ z. breaks (search rules)),
   λ g e f. breaks (number_fits c g h (e ∙ sym x.number) f),
 )
 
 -- At the end of the longest chain that fits, no header follows, unless the place of its number is occupied.
-pub fitting_ends : (n : ℕ) (s : List ℕ) (c : List ExtHeader) → IsLongestUnder FitsPlaces n s c → (IsTaken (leads_to n c) c → ⊥) → IsEnd (is_empty c) (leads_to n c) (drop (length (bytes_of c)) s)
-fitting_ends n s c l free h x = free (breaks_taken c (leads_to n c) (drop (length (bytes_of c)) s) h x (longest_ends_under FitsPlaces fits_places n s c l h x))
+pub fitting_ends : (n : ℕ) (s : List ℕ) (c : List ExtHeader) → IsLongestUnder FitsPlaces n s c → (IsOccupied (leads_to n c) c → ⊥) → IsEnd (is_empty c) (leads_to n c) (drop (length (bytes_of c)) s)
+fitting_ends n s c l free h x = free (breaks_occupied c (leads_to n c) (drop (length (bytes_of c)) s) h x (longest_ends_under FitsPlaces fits_places n s c l h x))
 
 -- after the prefix of a chain that fits, the place of the number is occupied
-pub next_taken : (n : ℕ) (s : List ℕ) (p rest : List ExtHeader) → IsPrefixChain n s (p ++ rest) → NextBreaks FitsPlaces p rest → (rest ≡ [] → IsTaken (leads_to n p) p) → IsTaken (leads_to n p) p
-next_taken n s p [] q b on = on refl
-next_taken n s p (h ∷ rest) q b on =
-    breaks_taken p (leads_to n p) (drop (length (bytes_of p)) s) h (next_of n s p h (begins_first (IsPrefixChain n s) (chains_grow n s) p h rest q)) b
+pub next_occupied : (n : ℕ) (s : List ℕ) (p rest : List ExtHeader) → IsPrefixChain n s (p ++ rest) → NextBreaks FitsPlaces p rest → (rest ≡ [] → IsOccupied (leads_to n p) p) → IsOccupied (leads_to n p) p
+next_occupied n s p [] q b on = on refl
+next_occupied n s p (h ∷ rest) q b on =
+    breaks_occupied p (leads_to n p) (drop (length (bytes_of p)) s) h (next_of n s p h (begins_first (IsPrefixChain n s) (chains_grow n s) p h rest q)) b
 
 -- It is shorter than the longest chain if and only if a header follows whose place is occupied.
 module _ (n : ℕ) (s : List ℕ) (d c : List ExtHeader) (l : IsLongestChain n s d) (u : IsLongestUnder FitsPlaces n s c) where
-  pub taken_where_shorter : length c < length d → IsTaken (leads_to n c) c
-  taken_where_shorter w =
+  pub occupied_where_shorter : length c < length d → IsOccupied (leads_to n c) c
+  occupied_where_shorter w =
       let C : List ExtHeader → Type 0 = IsPrefixChain n s in
       let k = longest_keeps FitsPlaces fits_places n s d c l u in
-      next_taken n s c k.rest (subst C k.joined l.has) k.breaks (λ e. absurd (omega (arith, ap length k.joined, ap length e, length-append c k.rest, w)))
+      next_occupied n s c k.rest (subst C k.joined l.has) k.breaks (λ e. absurd (omega (arith, ap length k.joined, ap length e, length-append c k.rest, w)))
 
-  longer_behind : (rest : List ExtHeader) → d ≡ c ++ rest → (h : ExtHeader) → IsNext (is_empty c) (leads_to n c) (drop (length (bytes_of c)) s) h → length c < length d
-  longer_behind rest e h x = search (rules, longest_ends, append-nil, length-append)
+  longer_after : (rest : List ExtHeader) → d ≡ c ++ rest → (h : ExtHeader) → IsNext (is_empty c) (leads_to n c) (drop (length (bytes_of c)) s) h → length c < length d
+  longer_after rest e h x = search (rules, longest_ends, append-nil, length-append)
 
   pub shorter_where_next : (h : ExtHeader) → IsNext (is_empty c) (leads_to n c) (drop (length (bytes_of c)) s) h → length c < length d
-  shorter_where_next h x = let k = longest_keeps FitsPlaces fits_places n s d c l u in longer_behind k.rest k.joined h x
+  shorter_where_next h x = let k = longest_keeps FitsPlaces fits_places n s d c l u in longer_after k.rest k.joined h x

@@ -100,17 +100,17 @@ pub prefix_byte : (b s : List ℕ) → IsPrefix b s → 8 ≤ length b → slice
 prefix_byte b s f l = sym (get_or_append_left b (drop (length b) s) 0 1 (omega arith)) ∙ ap (λ x. get_or x 1 0) (sym (prefix-append b s f))
 
 module _ (s : List ℕ) (k : ℕ) (enough : k ≤ length s) (least : 8 ≤ k) where
-  taken : length (take k s) ≡ k
-  taken = length-take-le k s enough
+  front_len : length (take k s) ≡ k
+  front_len = length-take-le k s enough
 
-  taken_byte : slice_index (take k s) 1 ≡ slice_index s 1
-  taken_byte = prefix_byte (take k s) s (prefix_of-take k s) (omega (arith, taken))
+  front_byte : slice_index (take k s) 1 ≡ slice_index s 1
+  front_byte = prefix_byte (take k s) s (prefix_of-take k s) (omega (arith, front_len))
 
   pub raw_begins : k ≡ 8 * (slice_index s 1 + 1) → IsRawHeader (take k s)
-  raw_begins e = record { least = omega (arith, taken); len = taken ∙ e ∙ ap (λ m. 8 * (m + 1)) (sym taken_byte) }
+  raw_begins e = record { least = omega (arith, front_len); len = front_len ∙ e ∙ ap (λ m. 8 * (m + 1)) (sym front_byte) }
 
   pub auth_begins : k ≡ 4 * (slice_index s 1 + 2) → 1 ≤ slice_index s 1 → IsAuthHeader (take k s)
-  auth_begins e some_len = record { not_zero = subst (λ (m : ℕ). 1 ≤ m) (sym taken_byte) some_len; len = taken ∙ e ∙ ap (λ m. 4 * (m + 2)) (sym taken_byte) }
+  auth_begins e some_len = record { not_zero = subst (λ (m : ℕ). 1 ≤ m) (sym front_byte) some_len; len = front_len ∙ e ∙ ap (λ m. 4 * (m + 2)) (sym front_byte) }
 
   pub fragment_begins : k ≡ 8 → IsFragmentHeader (take k s)
-  fragment_begins e = record { len = taken ∙ e }
+  fragment_begins e = record { len = front_len ∙ e }

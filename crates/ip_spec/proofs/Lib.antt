@@ -6,13 +6,13 @@ pub mod DemandLemmas
 pub mod StepLemmas
 pub mod UnderLemmas
 pub mod ChainLemmas
-pub mod ReadLemmas
+pub mod ParsedLemmas
 pub mod DemandKinds
 pub mod FirstLemmas
 pub mod PlaceLemmas
 pub mod FitsLemmas
 pub mod NumbersFitLemmas
-pub mod CutLemmas
+pub mod PartitionLemmas
 pub mod RunsLemmas
 pub mod ShorterLemmas
 pub mod FragmentBitLemmas

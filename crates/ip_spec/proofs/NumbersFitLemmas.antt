@@ -2,7 +2,7 @@
 use Rattle.ip_spec.proofs.Common.{◌≡◌, ℕ, ◌≤◌, List, [], ◌∷◌, ◌++◌, map, refl, ap, sym, ◌∙◌, arith, subst, rules, ◌==◌, ◌↔◌, Some, eqb_tells, same_Some, map-append, common_steps, IsExtensionNumber, ExtHeader, Place, hop_by_hop, destination, routing, authentication, final_destination, number_in, side_of, place_of, FitsPlaces, numbers_of, how_often, before_routing, after_routing, NumbersFit, in_place}
 use Rattle.ip_spec.specs.Places.{fragment}
 use Rattle.ip_spec.proofs.FirstLemmas.{before-map, after-map, count-map, counted, none_counted}
-use Rattle.ip_spec.proofs.PlaceLemmas.{has_routing, is_of, count_in, place_number, own_place, final_behind, destination_before, fits_next, none_there, bare}
+use Rattle.ip_spec.proofs.PlaceLemmas.{has_routing, is_of, count_in, place_number, own_place, final_after, destination_before, fits_next, none_there, bare}
 
 -- how many of the numbers belong to a place
 abbrev often_in : Place → List ℕ → ℕ
@@ -36,7 +36,7 @@ module _ (c : List ExtHeader) where
         arith,
         eqb_tells (how_often 43 (numbers_of c)) 0,
         counts routing,
-        counted (is_of routing) c (final_behind (has_routing c) e),
+        counted (is_of routing) c (final_after (has_routing c) e),
         counts final_destination,
       )
   place_counts p e = sym (counts p)

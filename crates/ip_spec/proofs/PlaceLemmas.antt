@@ -1,13 +1,13 @@
 -- The places of a chain's headers, the place of the next header, and the numbers whose place is occupied.
-use Rattle.ip_spec.proofs.Common.{◌≡◌, ℕ, zero, suc, ◌+◌, List, [], ◌∷◌, ◌++◌, refl, ap, sym, ◌∙◌, arith, inl, inr, Bool, true, false, subst, rules, ◌==◌, ◌↔◌, count_by, Option, Some, None, is_some, if◌then◌else◌, find, AllByRecursion, option_or, option_map_or, cases_Bool, eqb-true, eq-eqb, eqb_tells, same_Some, append-nil, common_steps, IsExtensionNumber, ExtHeader, Place, hop_by_hop, destination, routing, authentication, final_destination, places, index, number_in, side_of, header_in, place_of, is_taken, FitsPlaces, IsTaken}
+use Rattle.ip_spec.proofs.Common.{◌≡◌, ℕ, zero, suc, ◌+◌, List, [], ◌∷◌, ◌++◌, refl, ap, sym, ◌∙◌, arith, inl, inr, Bool, true, false, subst, rules, ◌==◌, ◌↔◌, count_by, Option, Some, None, is_some, if◌then◌else◌, find, AllByRecursion, option_or, option_map_or, cases_Bool, eqb-true, eq-eqb, eqb_tells, same_Some, append-nil, common_steps, IsExtensionNumber, ExtHeader, Place, hop_by_hop, destination, routing, authentication, final_destination, places, index, number_in, side_of, header_in, place_of, is_occupied, FitsPlaces, IsOccupied}
 use Rattle.std.specs.Prelude.{◌≢◌}
 use Rattle.ip_spec.proofs.HeaderLemmas.{later_of, later_not_zero}
 use Rattle.ip_spec.specs.Places.{fragment}
 use Rattle.ip_spec.proofs.FirstLemmas.{before-yes, before-no, count-append, count_yes, count_no, before-none, before-some, after-none, after-some, after_one, counted, none_counted, find_passes, find_more-yes, find_more-no}
 
 -- a number belongs to its place
-pub place_number : (m : ℕ) (p : Place) (behind : Bool) → place_of m behind ≡ Some p → m ≡ number_in p
-place_number m p behind e = sym (eqb-true (number_in p) m (find_passes (λ q. number_in q == m) (if behind then final_destination ∷ places else places) p e))
+pub place_number : (m : ℕ) (p : Place) (after : Bool) → place_of m after ≡ Some p → m ≡ number_in p
+place_number m p after e = sym (eqb-true (number_in p) m (find_passes (λ q. number_in q == m) (if after then final_destination ∷ places else places) p e))
 
 abbrev place_at : ℕ → Place
 place_at zero = hop_by_hop
@@ -25,27 +25,27 @@ pub same_place : (p q : Place) → index p ≡ index q → p ≡ q
 same_place p q e = sym (at_index p) ∙ ap place_at e ∙ at_index q
 
 -- of the two places of 60, the final one is after a routing header
-pub final_behind : (behind : Bool) → place_of 60 behind ≡ Some final_destination → behind ≡ true
-final_behind behind e = search rules
+pub final_after : (after : Bool) → place_of 60 after ≡ Some final_destination → after ≡ true
+final_after after e = search rules
 
-pub destination_before : (behind : Bool) → place_of 60 behind ≡ Some destination → behind ≡ false
-destination_before behind e = search rules
+pub destination_before : (after : Bool) → place_of 60 after ≡ Some destination → after ≡ false
+destination_before after e = search rules
 
 -- a property of all places is one of each
 pub each : (P : Place → Type 0) → AllByRecursion P places → (p : Place) → P p
 each P a p = search rules
 
 -- the place of a number that has only one
-pub in_both : (m : ℕ) (p : Place) → place_of m true ≡ Some p → place_of m false ≡ Some p → (behind : Bool) → place_of m behind ≡ Some p
-in_both m p behind before x4 = search rules
+pub in_both : (m : ℕ) (p : Place) → place_of m true ≡ Some p → place_of m false ≡ Some p → (after : Bool) → place_of m after ≡ Some p
+in_both m p after before x4 = search rules
 
-destination_place : (behind : Bool) → (p : Place) × (place_of 60 behind ≡ Some p)
+destination_place : (after : Bool) → (p : Place) × (place_of 60 after ≡ Some p)
 destination_place true = (final_destination, refl)
 destination_place false = (destination, refl)
 
 -- an extension number has a place
-pub own_place : (m : ℕ) (behind : Bool) → IsExtensionNumber m → (p : Place) × (place_of m behind ≡ Some p)
-own_place m behind x = grind (arith, in_both, destination_place behind)
+pub own_place : (m : ℕ) (after : Bool) → IsExtensionNumber m → (p : Place) × (place_of m after ≡ Some p)
+own_place m after x = grind (arith, in_both, destination_place after)
 
 pub is_extension : (p : Place) → IsExtensionNumber (number_in p)
 is_extension p = search rules
@@ -74,8 +74,8 @@ sides c d = search (rules, cases_Bool (has_routing c), append-nil c, counted, be
 pub nothing_on : (p : Place) → side_of p [] ≡ []
 nothing_on p = search rules
 
-pub none_behind : (c : List ExtHeader) → has_routing c ≡ false → header_in final_destination c ≡ None
-none_behind c none = grind (arith, common_steps, sides c [])
+pub none_after : (c : List ExtHeader) → has_routing c ≡ false → header_in final_destination c ≡ None
+none_after c none = grind (arith, common_steps, sides c [])
 
 -- One more header h after c belongs to at most one place, and the other places are unchanged.
 module _ (c : List ExtHeader) (h : ExtHeader) where
@@ -134,12 +134,12 @@ module _ (c : List ExtHeader) (m : ℕ) (f : FitsPlaces c) where
   abbrev filled : Option Place → Bool
   filled o = option_map_or (λ p. is_some (header_in p c)) o false
 
-  taken_at : (o : Option Place) → place_of m (has_routing c) ≡ o → m ≢ 0 → filled o ≡ true ↔ IsTaken m c
-  taken_at None e other = search rules
-  taken_at (Some p) e other = (
+  occupied_at : (o : Option Place) → place_of m (has_routing c) ≡ o → m ≢ 0 → filled o ≡ true ↔ IsOccupied m c
+  occupied_at None e other = search rules
+  occupied_at (Some p) e other = (
     (λ t. let X : ℕ → Type 0 = IsExtensionNumber in (later_of m (subst X (sym (place_number m p (has_routing c) e)) (is_extension p)) other, λ h k. breaks_more c h p (ap (λ j. place_of j (has_routing c)) k ∙ e) t)),
     λ t. elim (cases_Bool (is_some (header_in p c))) [ inl w ↦ w | inr w ↦ absurd (t.1 (bare m) refl (fits_more c (bare m) p f e w)) ],
   )
 
-  pub taken_told : (is_taken m c ≡ true) ↔ IsTaken m c
-  taken_told = search (rules, eqb_tells, later_not_zero, taken_at)
+  pub occupied_told : (is_occupied m c ≡ true) ↔ IsOccupied m c
+  occupied_told = search (rules, eqb_tells, later_not_zero, occupied_at)

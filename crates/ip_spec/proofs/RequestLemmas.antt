@@ -10,14 +10,14 @@ module _ (h p : List ℕ) where
   index_of_joined : (i : ℕ) → i < length h → slice_index (h ++ p) i ≡ slice_index h i
   index_of_joined i l = get_or_append_left h p 0 i l
 
-  behind : (n : ℕ) → length h ≡ n → drop n (h ++ p) ≡ p
-  behind n e = ap (λ (k : ℕ). drop k (h ++ p)) (sym e) ∙ drop-append_seam h p
+  after : (n : ℕ) → length h ≡ n → drop n (h ++ p) ≡ p
+  after n e = ap (λ (k : ℕ). drop k (h ++ p)) (sym e) ∙ drop-append_seam h p
 
   pub raw_joined : length h ≡ 2 → length p ≡ 8 * slice_index h 1 + 6 → IsRawHeader (h ++ p)
   raw_joined e f = search (rules, length-append, index_of_joined)
 
   pub raw_joined_fields : length h ≡ 2 → raw_fields (h ++ p) ≡ record { next_header = next_header h; payload = p }
-  raw_joined_fields e = search (rules, index_of_joined, behind)
+  raw_joined_fields e = search (rules, index_of_joined, after)
 
   pub auth_joined : length h ≡ 12 → 1 ≤ slice_index h 1 → length p ≡ 4 * (slice_index h 1 - 1) → IsAuthHeader (h ++ p)
   auth_joined e l f = search (rules, index_of_joined, length-append)
@@ -27,4 +27,4 @@ module _ (h p : List ℕ) where
 
   pub auth_joined_fields : length h ≡ 12 → auth_fields (h ++ p) ≡ with_icv h p
   auth_joined_fields e =
-      grind (arith, common_steps, index_of_joined 0 (omega arith), word_of_joined 4 (omega arith), word_of_joined 8 (omega arith), behind 12 e)
+      grind (arith, common_steps, index_of_joined 0 (omega arith), word_of_joined 4 (omega arith), word_of_joined 8 (omega arith), after 12 e)

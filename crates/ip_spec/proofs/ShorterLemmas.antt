@@ -9,8 +9,8 @@ use Rattle.ip_spec.proofs.DemandKinds.{IsWithin, within}
 length_with : (h : ExtHeader) (c : List ExtHeader) → length (bytes_of (h ∷ c)) ≡ length h.bytes + length (bytes_of c)
 length_with h c = length-append h.bytes (bytes_of c)
 
-breaks_behind : (j : ℕ) (h : ExtHeader) (c rest : List ExtHeader) → length h.bytes ≤ j → NextBreaks (IsWithin j) (h ∷ c) rest → NextBreaks (IsWithin (j - length h.bytes)) c rest
-breaks_behind j h c rest few breaks = search (rules, length_with)
+breaks_after : (j : ℕ) (h : ExtHeader) (c rest : List ExtHeader) → length h.bytes ≤ j → NextBreaks (IsWithin j) (h ∷ c) rest → NextBreaks (IsWithin (j - length h.bytes)) c rest
+breaks_after j h c rest few breaks = search (rules, length_with)
 
 -- a bound on the bytes keeps the headers within it
 within_is : (j : ℕ) (c rest : List ExtHeader) → IsWithin j c → NextBreaks (IsWithin j) c rest → c ≡ headers_within j (c ++ rest)
@@ -18,7 +18,7 @@ within_is j [] [] meets breaks = refl
 within_is j [] (x ∷ rest) meets breaks = search rules
 within_is j (h ∷ c) rest meets breaks =
     let few : length h.bytes ≤ j = omega (arith, meets, length_with h c) in
-    rw (le-ltb j (length h.bytes) few) (ap (λ d. h ∷ d) (within_is (j - length h.bytes) c rest (omega (arith, meets, length_with h c)) (breaks_behind j h c rest few breaks)))
+    rw (le-ltb j (length h.bytes) few) (ap (λ d. h ∷ d) (within_is (j - length h.bytes) c rest (omega (arith, meets, length_with h c)) (breaks_after j h c rest few breaks)))
 
 module _ (Q : List ExtHeader → Type 0) (k : IsDemand Q) (n j : ℕ) (s : List ℕ) where
   shorter_under : (c : List ExtHeader) → IsUnder Q (IsPrefixChain n (take j s)) c → IsUnder (IsWithin j) (IsUnder Q (IsPrefixChain n s)) c

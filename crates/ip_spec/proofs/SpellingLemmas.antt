@@ -1,10 +1,10 @@
 -- The encoding of a value, what it parses to, and its walk's result.
-use Rattle.ip_spec.proofs.Common.{◌≡◌, ℕ, ◌<◌, List, [], ◌∷◌, ◌++◌, refl, ap, sym, ◌∙◌, arith, subst, append_assoc, Bool, false, rules, Option, None, is_some, ◌==◌, ◌&&◌, ◌↔◌, if◌then◌else◌, option_map, option_map_or, AllByRecursion, find, common_steps, IsLongestOf, none-some, append-nil, All-append, IsHeader, IsExtensionNumber, AreBytes, IsCleared, cleared_chain, ExtHeader, leads_to, bytes_of, IsChain, IsLongestUnder, FitsPlaces, IsTaken, Place, hop_by_hop, places, number_in, header_in, fields_of, IsEncodable, IsRead, PlacedFields, IsValueOf, IsSpelling, IsReachable, WalkAnswer, leads, hop_by_hop_not_at_start, not_referenced, answer_at, IsWalkAnswer}
+use Rattle.ip_spec.proofs.Common.{◌≡◌, ℕ, ◌<◌, List, [], ◌∷◌, ◌++◌, refl, ap, sym, ◌∙◌, arith, subst, append_assoc, Bool, false, rules, Option, None, is_some, ◌==◌, ◌&&◌, ◌↔◌, if◌then◌else◌, option_map, option_map_or, AllByRecursion, find, common_steps, IsLongestOf, none-some, append-nil, All-append, IsHeader, IsExtensionNumber, AreBytes, IsCleared, cleared_chain, ExtHeader, leads_to, bytes_of, IsChain, IsLongestUnder, FitsPlaces, IsOccupied, Place, hop_by_hop, places, number_in, header_in, fields_of, IsEncodable, IsParsed, PlacedFields, IsValueOf, IsSpelling, IsReachable, WalkAnswer, leads, hop_by_hop_not_at_start, not_referenced, answer_at, IsWalkAnswer}
 use Rattle.ip_spec.proofs.FirstLemmas.{none_passes}
 use Rattle.ip_spec.proofs.LongestOfLemmas.{longest_where_none_next}
 use Rattle.ip_spec.proofs.StepLemmas.{bytes_of-more}
 use Rattle.ip_spec.proofs.FitsLemmas.{fits_places}
-use Rattle.ip_spec.proofs.ReadLemmas.{has_read_before, read_longest_under, whole_read}
+use Rattle.ip_spec.proofs.ParsedLemmas.{has_parsed_before, parsed_longest_under, whole_parsed}
 use Rattle.ip_spec.proofs.ChainLemmas.{whole_longest, one_longest}
 use Rattle.ip_spec.proofs.ClearedLemmas.{cleared_is_chain, cleared_fits, cleared_are, cleared_leads, value-cleared}
 use Rattle.ip_spec.proofs.HeaderLemmas.{header_number}
@@ -13,8 +13,8 @@ use Rattle.ip_spec.proofs.PlaceLemmas.{each, place_number}
 use Rattle.ip_spec.proofs.WalkLemmas.{unreached, none_if, Next, next_shown, shown_grows, one_reach}
 
 -- bytes s parse as the value v of six places
-abbrev pub IsReadAs : PlacedFields → ℕ → ℕ → List ℕ → Type 0
-IsReadAs v f m s = IsRead FitsPlaces (λ c. IsValueOf c v) f m s
+abbrev pub IsParsedAs : PlacedFields → ℕ → ℕ → List ℕ → Type 0
+IsParsedAs v f m s = IsParsed FitsPlaces (λ c. IsValueOf c v) f m s
 
 -- a chain with the value v encodes it
 pub value_spelled : (v : PlacedFields) (f : ℕ) (c : List ExtHeader) → IsChain f c → FitsPlaces c → IsValueOf c v → AllByRecursion IsCleared c → IsSpelling v f c
@@ -73,8 +73,8 @@ module _ (v : PlacedFields) (f : ℕ) where
   pub cleared_spells : (c : List ExtHeader) → IsChain f c → FitsPlaces c → AreBytes (bytes_of c) → IsValueOf c v → IsSpelling v f (cleared_chain c)
   cleared_spells c k fits bytes value = search (rules, value_spelled, cleared_is_chain, cleared_fits, value-cleared, cleared_are)
 
-  pub read_leads : (m : ℕ) (s : List ℕ) → IsReadAs v f m s → IsWalkAnswer v f (leads m)
-  read_leads m s r =
+  pub parsed_leads : (m : ℕ) (s : List ℕ) → IsParsedAs v f m s → IsWalkAnswer v f (leads m)
+  parsed_leads m s r =
       let A : WalkAnswer → Type 0 = IsWalkAnswer v f in
       let chain = r.longest.has.0.chain in
       subst A (ap leads (cleared_leads f r.chain chain.headers ∙ r.number))
@@ -103,27 +103,27 @@ module _ (v : PlacedFields) (f : ℕ) where
     shown_bytes c s = shown_bytes_from [] c (λ k d l. omega arith) s
 
     -- the value is parsed from the bytes of the chain that encodes it
-    pub spelled_whole : (c : List ExtHeader) → IsSpelling v f c → IsReadAs v f (leads_to f c) (bytes_of c)
-    spelled_whole c s = whole_read FitsPlaces fits_places f (leads_to f c) (λ d. IsValueOf d v) (bytes_of c) c s.reachable.chain s.reachable.fits s.value refl refl (shown_bytes c s.reachable)
+    pub spelled_whole : (c : List ExtHeader) → IsSpelling v f c → IsParsedAs v f (leads_to f c) (bytes_of c)
+    spelled_whole c s = whole_parsed FitsPlaces fits_places f (leads_to f c) (λ d. IsValueOf d v) (bytes_of c) c s.reachable.chain s.reachable.fits s.value refl refl (shown_bytes c s.reachable)
 
     -- so a result leads on if and only if the value is parsed from some bytes
-    pub leads_read : (m : ℕ) → IsWalkAnswer v f (leads m) → (s : List ℕ) × IsReadAs v f m s
-    leads_read m a =
+    pub leads_parsed : (m : ℕ) → IsWalkAnswer v f (leads m) → (s : List ℕ) × IsParsedAs v f m s
+    leads_parsed m a =
         let it = leads_spelled m a in
-        let R : ℕ → Type 0 = λ k. IsReadAs v f k (bytes_of it.0) in
+        let R : ℕ → Type 0 = λ k. IsParsedAs v f k (bytes_of it.0) in
         (bytes_of it.0, subst R it.2 (spelled_whole it.0 it.1))
 
-    pub leads_exactly : (a : WalkAnswer) → IsWalkAnswer v f a → (m : ℕ) → (a ≡ leads m) ↔ ((s : List ℕ) × IsReadAs v f m s)
+    pub leads_exactly : (a : WalkAnswer) → IsWalkAnswer v f a → (m : ℕ) → (a ≡ leads m) ↔ ((s : List ℕ) × IsParsedAs v f m s)
     leads_exactly a x m = (
-      (λ e. let A : WalkAnswer → Type 0 = IsWalkAnswer v f in leads_read m (subst A e x)),
-      (λ r. one_answer a (leads m) x (read_leads m r.0 r.1)),
+      (λ e. let A : WalkAnswer → Type 0 = IsWalkAnswer v f in leads_parsed m (subst A e x)),
+      (λ r. one_answer a (leads m) x (parsed_leads m r.0 r.1)),
     )
 
 -- An encoding parses again, whatever follows it, unless an extension number follows whose place is free.
-pub spelled_is_read : (v : PlacedFields) (f : ℕ) (c : List ExtHeader) (r : List ℕ) → IsSpelling v f c → (IsExtensionNumber (leads_to f c) → IsTaken (leads_to f c) c) → IsLongestUnder FitsPlaces f (bytes_of c ++ r) c
-spelled_is_read v f c r s taken =
-    read_longest_under FitsPlaces fits_places f (bytes_of c ++ r) c (leads_to f c) r (has_read_before FitsPlaces fits_places f (leads_to f c) c r s.reachable.chain s.reachable.fits refl)
-    (λ h x. (taken (header_number (leads_to f c) h.bytes x.header)).1 h x.number)
+pub spelled_is_parsed : (v : PlacedFields) (f : ℕ) (c : List ExtHeader) (r : List ℕ) → IsSpelling v f c → (IsExtensionNumber (leads_to f c) → IsOccupied (leads_to f c) c) → IsLongestUnder FitsPlaces f (bytes_of c ++ r) c
+spelled_is_parsed v f c r s occupied =
+    parsed_longest_under FitsPlaces fits_places f (bytes_of c ++ r) c (leads_to f c) r (has_parsed_before FitsPlaces fits_places f (leads_to f c) c r s.reachable.chain s.reachable.fits refl)
+    (λ h x. (occupied (header_number (leads_to f c) h.bytes x.header)).1 h x.number)
 
 -- Writing a parsed value returns the parsed bytes, cleared.
 pub spelled_is_cleared : (v : PlacedFields) (f : ℕ) (c d : List ExtHeader) → IsChain f c → FitsPlaces c → AreBytes (bytes_of c) → IsValueOf c v → IsSpelling v f d → d ≡ cleared_chain c

@@ -50,33 +50,33 @@ pub bytes_len : (v : PlacedFields) (f : ℕ) (c : List ExtHeader) → IsChain f 
 bytes_len v f c k fits value = bytes_sum c k.headers ∙ sum_of_chain fields_len f c k fits ∙ ap placed_len (sym (same_held v (of_chain c) value))
 
 -- A header follows from what is left, or none.
-pub data Going (u : PlacedFields) (first behind : Bool) (m : ℕ) : Type 0 where
-  ends : ((p : Place) → next_place first behind m ≡ Some p → u p ≡ None) → Going u first behind m
-  goes : (p : Place) (x : HeaderFields) → next_place first behind m ≡ Some p → u p ≡ Some x → Going u first behind m
+pub data Going (u : PlacedFields) (first after : Bool) (m : ℕ) : Type 0 where
+  ends : ((p : Place) → next_place first after m ≡ Some p → u p ≡ None) → Going u first after m
+  goes : (p : Place) (x : HeaderFields) → next_place first after m ≡ Some p → u p ≡ Some x → Going u first after m
 
-module _ (u : PlacedFields) (first behind : Bool) (m : ℕ) where
-  going_at : (p : Place) (y : Option HeaderFields) → next_place first behind m ≡ Some p → u p ≡ y → Going u first behind m
+module _ (u : PlacedFields) (first after : Bool) (m : ℕ) where
+  going_at : (p : Place) (y : Option HeaderFields) → next_place first after m ≡ Some p → u p ≡ y → Going u first after m
   going_at p None at e = ends (λ q k. ap u (same_Some q p (sym k ∙ at)) ∙ e)
   going_at p (Some x) at e = goes p x at e
 
-  going_to : (o : Option Place) → next_place first behind m ≡ o → Going u first behind m
+  going_to : (o : Option Place) → next_place first after m ≡ o → Going u first after m
   going_to None at = ends (λ p k. absurd (none-some p (sym at ∙ k)))
   going_to (Some p) at = going_at p (u p) at refl
 
-  pub going : Going u first behind m
-  going = going_to (next_place first behind m) refl
+  pub going : Going u first after m
+  going = going_to (next_place first after m) refl
 
 -- A value whose headers can all be written reaches some chain.
 module _ (v : PlacedFields) (f : ℕ) (e : IsEncodable v) where
-  some_from : (k : ℕ) (c : List ExtHeader) (u : PlacedFields) (m : ℕ) (first behind : Bool) → Walking v f c u m first behind → sum_placed (λ x. 1) u ≤ k → Going u first behind m → (d : List ExtHeader) × IsLongestOf (IsReachable v f) d
-  some_from k c u m first behind w l (ends none) = (c, walk_stops v f c u m first behind w none)
-  some_from zero c u m first behind w l (goes p x at there) = search rules
-  some_from (suc k) c u m first behind w l (goes p x at there) =
+  some_from : (k : ℕ) (c : List ExtHeader) (u : PlacedFields) (m : ℕ) (first after : Bool) → Walking v f c u m first after → sum_placed (λ x. 1) u ≤ k → Going u first after m → (d : List ExtHeader) × IsLongestOf (IsReachable v f) d
+  some_from k c u m first after w l (ends none) = (c, walk_stops v f c u m first after w none)
+  some_from zero c u m first after w l (goes p x at there) = search rules
+  some_from (suc k) c u m first after w l (goes p x at there) =
       let h = e.encoded p x (left_some (header_in p c) (v p) x (sym (w.left p) ∙ there)).1 in
-      some_from k (c ++ h.0 ∷ []) (without p u) (next_header h.0.bytes) false (behind || (m == 43))
-      (walks_on v f c u m first behind w p x h.0 at there h.1 (without p u) (next_header h.0.bytes) false (behind || (m == 43)) (λ q. refl) refl refl refl)
+      some_from k (c ++ h.0 ∷ []) (without p u) (next_header h.0.bytes) false (after || (m == 43))
+      (walks_on v f c u m first after w p x h.0 at there h.1 (without p u) (next_header h.0.bytes) false (after || (m == 43)) (λ q. refl) refl refl refl)
       (let less = sum_without (λ y. 1) u (without p u) p x there (λ q. refl) in omega (arith, less, l))
-      (going (without p u) false (behind || (m == 43)) (next_header h.0.bytes))
+      (going (without p u) false (after || (m == 43)) (next_header h.0.bytes))
 
   pub some_reach : (c : List ExtHeader) × IsLongestOf (IsReachable v f) c
   some_reach = some_from (sum_placed (λ x. 1) v) [] v f true false (walk_begins v f v (λ p. refl)) (omega arith) (going v true false f)

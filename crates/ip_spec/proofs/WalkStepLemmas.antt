@@ -7,13 +7,13 @@ use Rattle.ip_spec.proofs.PlaceLemmas.{has_routing, place_number, placed, fits_m
 use Rattle.ip_spec.proofs.WalkLemmas.{unreached, none_if, there, Next, next_shown, shown_grows}
 
 -- Headers c were reached from f and taken out of v, which leaves u. They lead to m; `first` says that there are none,
--- `behind` that one of them is a routing header.
-pub record Walking (v : PlacedFields) (f : ℕ) (c : List ExtHeader) (u : PlacedFields) (m : ℕ) (first behind : Bool) : Type 0 where
+-- `after` that one of them is a routing header.
+pub record Walking (v : PlacedFields) (f : ℕ) (c : List ExtHeader) (u : PlacedFields) (m : ℕ) (first after : Bool) : Type 0 where
   pub in_value : IsReachable v f c
   pub left : (p : Place) → u p ≡ unreached v c p
   pub number : m ≡ leads_to f c
   pub first_is : first ≡ is_empty c
-  pub behind_is : behind ≡ has_routing c
+  pub after_is : after ≡ has_routing c
 
 pub walk_begins : (v : PlacedFields) (f : ℕ) (u : PlacedFields) → ((p : Place) → u p ≡ v p) → Walking v f [] u f true false
 walk_begins v f u e = search rules
@@ -41,18 +41,18 @@ module _ (c : List ExtHeader) (h : ExtHeader) (p : Place) (joined : (q : Place) 
   left_more : (v : PlacedFields) (q : Place) → without p (unreached v c) q ≡ unreached v (c ++ h ∷ []) q
   left_more v q = search rules
 
-module _ (v : PlacedFields) (f : ℕ) (c : List ExtHeader) (u : PlacedFields) (m : ℕ) (first behind : Bool) (k : Walking v f c u m first behind) where
+module _ (v : PlacedFields) (f : ℕ) (c : List ExtHeader) (u : PlacedFields) (m : ℕ) (first after : Bool) (k : Walking v f c u m first after) where
   -- A header h follows: it is in the place of m, and was left there.
-  pub walks_on : (p : Place) (x : HeaderFields) (h : ExtHeader) → next_place first behind m ≡ Some p → u p ≡ Some x → IsEncoded (number_in p) x h
-      → (w : PlacedFields) (n : ℕ) (early past : Bool) → ((q : Place) → w q ≡ without p u q) → n ≡ next_header h.bytes → early ≡ false → past ≡ (behind || (m == 43))
+  pub walks_on : (p : Place) (x : HeaderFields) (h : ExtHeader) → next_place first after m ≡ Some p → u p ≡ Some x → IsEncoded (number_in p) x h
+      → (w : PlacedFields) (n : ℕ) (early past : Bool) → ((q : Place) → w q ≡ without p u q) → n ≡ next_header h.bytes → early ≡ false → past ≡ (after || (m == 43))
       → Walking v f (c ++ h ∷ []) w n early past
   walks_on p x h at there e w n early past ew en ee ep =
-      let next = next_place_is (m == 0) first (place_of m behind) p at in
+      let next = next_place_is (m == 0) first (place_of m after) p at in
       let left = left_some (header_in p c) (v p) x (sym (k.left p) ∙ there) in
-      let of_m : m ≡ number_in p = place_number m p behind next.0 in
+      let of_m : m ≡ number_in p = place_number m p after next.0 in
       let same : h.number ≡ m = e.number ∙ sym of_m in
       let H : ℕ → Type 0 = λ j. IsHeader j h.bytes in
-      let own : place_of h.number (has_routing c) ≡ Some p = ap (λ j. place_of j (has_routing c)) same ∙ ap (place_of m) (sym k.behind_is) ∙ next.0 in
+      let own : place_of h.number (has_routing c) ≡ Some p = ap (λ j. place_of j (has_routing c)) same ∙ ap (place_of m) (sym k.after_is) ∙ next.0 in
       let joined = placed c h p own (none_if (header_in p c) left.0) in
       record {
         in_value = record {
@@ -64,19 +64,19 @@ module _ (v : PlacedFields) (f : ℕ) (c : List ExtHeader) (u : PlacedFields) (m
         left = λ q. ew q ∙ ap (λ o. if index p == index q then None else o) (k.left q) ∙ left_more c h p joined v q;
         number = en ∙ sym (leads_to-more f c h);
         first_is = ee ∙ not_empty c h;
-        behind_is = ep ∙ ap (λ b. b || (m == 43)) k.behind_is ∙ ap (λ j. has_routing c || (j == 43)) (sym same) ∙ routing_more c h;
+        after_is = ep ∙ ap (λ b. b || (m == 43)) k.after_is ∙ ap (λ j. has_routing c || (j == 43)) (sym same) ∙ routing_more c h;
       }
 
   -- None follows: the headers reached are all.
-  pub walk_stops : ((p : Place) → next_place first behind m ≡ Some p → u p ≡ None) → IsLongestOf (IsReachable v f) c
+  pub walk_stops : ((p : Place) → next_place first after m ≡ Some p → u p ≡ None) → IsLongestOf (IsReachable v f) c
   walk_stops none =
       longest_where_none_next (IsReachable v f) (shown_grows v f) c k.in_value
       (λ x s.
       let n : Next v f c x = next_shown v f c x s in
       let same : x.number ≡ m = n.number ∙ sym k.number in
-      let at : place_of m behind ≡ Some n.joins.place = ap (place_of m) k.behind_is ∙ ap (λ j. place_of j (has_routing c)) (sym same) ∙ n.joins.at in
+      let at : place_of m after ≡ Some n.joins.place = ap (place_of m) k.after_is ∙ ap (λ j. place_of j (has_routing c)) (sym same) ∙ n.joins.at in
       let here : u n.joins.place ≡ Some (fields_of x) = k.left n.joins.place ∙ ap (λ o. if is_some o then None else v n.joins.place) n.joins.free ∙ n.said in
       none-some (fields_of x) (sym (none n.joins.place ((search rules) ∙ at)) ∙ here))
 
-  pub walk_answers : (w : PlacedFields) (n : ℕ) (a : WalkAnswer) → ((p : Place) → next_place first behind m ≡ Some p → u p ≡ None) → ((p : Place) → w p ≡ u p) → n ≡ m → a ≡ answer_at n w → IsWalkAnswer v f a
+  pub walk_answers : (w : PlacedFields) (n : ℕ) (a : WalkAnswer) → ((p : Place) → next_place first after m ≡ Some p → u p ≡ None) → ((p : Place) → w p ≡ u p) → n ≡ m → a ≡ answer_at n w → IsWalkAnswer v f a
   walk_answers w n a none ew en ea = search (rules, walk_stops, same_held)

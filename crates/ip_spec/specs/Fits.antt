@@ -9,5 +9,5 @@ abbrev pub FitsPlaces : List ExtHeader → Type 0
 FitsPlaces c = (p : Place) → count_by (λ h. h.number == number_in p) (side_of p c) ≤ 1
 
 -- m is 43, 44, 51 or 60, and no header of number m fits after c
-abbrev pub IsTaken : ℕ → List ExtHeader → Type 0
-IsTaken m c = IsLaterNumber m × ((h : ExtHeader) → h.number ≡ m → FitsPlaces (c ++ h ∷ []) → ⊥)
+abbrev pub IsOccupied : ℕ → List ExtHeader → Type 0
+IsOccupied m c = IsLaterNumber m × ((h : ExtHeader) → h.number ≡ m → FitsPlaces (c ++ h ∷ []) → ⊥)

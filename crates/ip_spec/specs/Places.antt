@@ -61,8 +61,8 @@ fields_of h =
 
 -- the place of a header of number m, after a routing header or not
 abbrev pub place_of : ℕ → Bool → Option Place
-place_of m behind_routing = find (λ p. number_in p == m) (if behind_routing then final_destination ∷ places else places)
+place_of m past_routing = find (λ p. number_in p == m) (if past_routing then final_destination ∷ places else places)
 
 -- m is not 0, and its place after the chain c is occupied
-abbrev pub is_taken : ℕ → List ExtHeader → Bool
-is_taken m c = not (m == HOP_BY_HOP) && option_map_or (λ p. is_some (header_in p c)) (place_of m (is_some (header_in routing c))) false
+abbrev pub is_occupied : ℕ → List ExtHeader → Bool
+is_occupied m c = not (m == HOP_BY_HOP) && option_map_or (λ p. is_some (header_in p c)) (place_of m (is_some (header_in routing c))) false

@@ -4,7 +4,7 @@ use Rattle.std.specs.Prelude.{◌≡◌, ◌≢◌, ℕ, suc, List, [], ◌∷�
 use Rattle.std.specs.List.{flat_map, AllByRecursion}
 use Rattle.ip_spec.specs.Chain.{ExtHeader, IsChain, leads_to, bytes_of}
 use Rattle.ip_spec.specs.Demand.{NextBreaks, IsLongestUnder}
-use Rattle.ip_spec.specs.Fits.{FitsPlaces, IsTaken}
+use Rattle.ip_spec.specs.Fits.{FitsPlaces, IsOccupied}
 
 -- the pieces joined
 abbrev pub joined : {X : Type 0} → List (List X) → List X
@@ -29,7 +29,7 @@ EachBreaks Q (p ∷ ps) = NextBreaks Q p (joined ps) × EachBreaks Q ps
 
 -- The list c is partitioned under the demand Q: into nonempty pieces that meet Q, and each followed by the first
 -- element of the next breaks Q.
-pub record IsCut {X : Type 0} (Q : List X → Type 0) (c : List X) (ps : List (List X)) : Type 0 where
+pub record IsPartition {X : Type 0} (Q : List X → Type 0) (c : List X) (ps : List (List X)) : Type 0 where
   pub whole : joined ps ≡ c
   pub filled : AllByRecursion (λ p. p ≢ []) ps
   pub meets : AllByRecursion Q ps
@@ -39,8 +39,8 @@ pub record IsCut {X : Type 0} (Q : List X → Type 0) (c : List X) (ps : List (L
 -- the place of m is occupied in the last one, and the empty chain has one empty run.
 pub data AreRuns (m : ℕ) (c : List ExtHeader) (ps : List (List ExtHeader)) : Type 0 where
   none : c ≡ [] → ps ≡ [] ∷ [] → AreRuns m c ps
-  cut : c ≢ [] → IsCut FitsPlaces c ps → (IsTaken m (last_piece ps) → ⊥) → AreRuns m c ps
-  one_more : (cut : List (List ExtHeader)) → IsCut FitsPlaces c cut → IsTaken m (last_piece cut) → ps ≡ cut ++ [] ∷ [] → AreRuns m c ps
+  split : c ≢ [] → IsPartition FitsPlaces c ps → (IsOccupied m (last_piece ps) → ⊥) → AreRuns m c ps
+  one_more : (split : List (List ExtHeader)) → IsPartition FitsPlaces c split → IsOccupied m (last_piece split) → ps ≡ split ++ [] ∷ [] → AreRuns m c ps
 
 -- each run is a chain, from the number to which the one before it leads
 abbrev pub AreChains : ℕ → List (List ExtHeader) → Type 0
@@ -51,6 +51,6 @@ AreChains n (p ∷ ps) = IsChain n p × AreChains (leads_to n p) ps
 -- the bytes that it leaves, and so on until the place of the number is free.
 abbrev pub AreLongestFitting : ℕ → List ℕ → List (List ExtHeader) → Type 0
 AreLongestFitting n s [] = ⊥
-AreLongestFitting n s (p ∷ []) = IsLongestUnder FitsPlaces n s p × (IsTaken (leads_to n p) p → ⊥)
+AreLongestFitting n s (p ∷ []) = IsLongestUnder FitsPlaces n s p × (IsOccupied (leads_to n p) p → ⊥)
 AreLongestFitting n s (p ∷ q ∷ ps) =
-    IsLongestUnder FitsPlaces n s p × IsTaken (leads_to n p) p × AreLongestFitting (leads_to n p) (drop (length (bytes_of p)) s) (q ∷ ps)
+    IsLongestUnder FitsPlaces n s p × IsOccupied (leads_to n p) p × AreLongestFitting (leads_to n p) (drop (length (bytes_of p)) s) (q ∷ ps)

@@ -2,9 +2,9 @@ ghost use Rattle.std.specs.Prelude.{◌≡◌, ◌<◌, ◌↔◌, IsTrue, ℕ, 
 ghost use Rattle.ip_spec.specs.Header.{IsExtensionNumber};
 ghost use Rattle.ip_spec.specs.Chain.{ExtHeader, IsLongestChain, IsNext, IsEnd, leads_to, bytes_of, headers_within, is_empty};
 ghost use Rattle.ip_spec.specs.Demand.{IsDemand, KeepsBeginning, IsLongestUnder, IsEndUnder, Passes, NoDemand, AtMost, AtMostOneOf};
-ghost use Rattle.ip_spec.specs.Fits.{FitsPlaces, IsTaken};
+ghost use Rattle.ip_spec.specs.Fits.{FitsPlaces, IsOccupied};
 ghost use Rattle.ip_spec.specs.NumbersFit.{NumbersFit, numbers_of, in_place};
-ghost use Rattle.ip_spec.specs.Places.{is_taken};
+ghost use Rattle.ip_spec.specs.Places.{is_occupied};
 
 /// Proves that bytes have exactly one longest chain from each number under each demand.
 pub fn one_longest_chain_under_a_demand()
@@ -70,14 +70,14 @@ pub fn one_longest_fitting_chain()
 /// Proves that no header follows the longest chain that fits six places, unless the place of its number is occupied.
 pub fn fitting_chain_ends()
     ensures { (n : ℕ) (s : List ℕ) (c : List ExtHeader) → IsLongestUnder FitsPlaces n s c
-        → (IsTaken (leads_to n c) c → ⊥)
+        → (IsOccupied (leads_to n c) c → ⊥)
         → IsEnd (is_empty c) (leads_to n c) (drop (length (bytes_of c)) s) }
 {}
 
 /// Proves that it is shorter than the longest chain if and only if a header follows whose place is occupied.
-pub fn fitting_chain_stops_where_taken()
+pub fn fitting_chain_stops_where_occupied()
     ensures shorter { (n : ℕ) (s : List ℕ) (d c : List ExtHeader) → IsLongestChain n s d
-        → IsLongestUnder FitsPlaces n s c → length c < length d → IsTaken (leads_to n c) c }
+        → IsLongestUnder FitsPlaces n s c → length c < length d → IsOccupied (leads_to n c) c }
     ensures next { (n : ℕ) (s : List ℕ) (d c : List ExtHeader) → IsLongestChain n s d
         → IsLongestUnder FitsPlaces n s c
         → (h : ExtHeader) → IsNext (is_empty c) (leads_to n c) (drop (length (bytes_of c)) s) h
@@ -98,6 +98,6 @@ pub fn next_number_fits()
 
 /// Proves that the place of a number is occupied after a chain that fits if and only if the number is not 0 and a
 /// header is in its place.
-pub fn taken_numbers()
-    ensures { (m : ℕ) (c : List ExtHeader) → FitsPlaces c → IsTrue (is_taken m c) ↔ IsTaken m c }
+pub fn occupied_numbers()
+    ensures { (m : ℕ) (c : List ExtHeader) → FitsPlaces c → IsTrue (is_occupied m c) ↔ IsOccupied m c }
 {}

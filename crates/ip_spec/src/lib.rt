@@ -10,9 +10,9 @@ mod walk_laws;
 pub use chain_laws::{longest_chain_ends, one_longest_chain};
 pub use demand_laws::{
     chain_fits_by_its_numbers, demand_keeps_its_longest_chain, demands, fitting_chain_ends,
-    fitting_chain_stops_where_taken, longest_chain_under_a_demand_ends,
-    longest_chains_under_demands, next_number_fits, one_longest_chain_under_a_demand,
-    one_longest_fitting_chain, shorter_bytes_keep_whole_headers, taken_numbers,
+    fitting_chain_stops_where_occupied, longest_chain_under_a_demand_ends,
+    longest_chains_under_demands, next_number_fits, occupied_numbers,
+    one_longest_chain_under_a_demand, one_longest_fitting_chain, shorter_bytes_keep_whole_headers,
 };
 pub use header_laws::{
     cleared_header_encodes, cleared_header_says_the_same, encoding_len, one_decoding, one_encoding,
@@ -22,6 +22,6 @@ pub use runs_laws::{
     runs_keep_each_header,
 };
 pub use walk_laws::{
-    linked_headers_are_walked, one_spelling, one_walk_answer, spelled_bytes_are_read,
-    spelling_clears_what_was_read, walk_leads_where_the_value_is_read,
+    linked_headers_are_walked, one_spelling, one_walk_answer, spelled_bytes_are_parsed,
+    spelling_clears_what_was_parsed, walk_leads_where_the_value_is_parsed,
 };

@@ -4,10 +4,10 @@ ghost use Rattle.ip_spec.specs.Header.{IsExtensionNumber};
 ghost use Rattle.ip_spec.specs.Encoding.{AreBytes, cleared_chain};
 ghost use Rattle.ip_spec.specs.Chain.{ExtHeader, leads_to, bytes_of};
 ghost use Rattle.ip_spec.specs.Demand.{IsLongestUnder};
-ghost use Rattle.ip_spec.specs.Fits.{FitsPlaces, IsTaken};
+ghost use Rattle.ip_spec.specs.Fits.{FitsPlaces, IsOccupied};
 ghost use Rattle.ip_spec.specs.Places.{Place, places};
 ghost use Rattle.ip_spec.specs.Walk.{PlacedFields, IsValueOf, IsSpelling, IsReachable, WalkAnswer, leads, IsWalkAnswer};
-ghost use Rattle.ip_spec.specs.Parse.{IsRead};
+ghost use Rattle.ip_spec.specs.Parse.{IsParsed};
 ghost use Rattle.ip_spec.specs.Links.{first_number, linked};
 ghost use Rattle.ip_spec.specs.Encodable.{IsEncodable, placed_len};
 
@@ -26,10 +26,10 @@ pub fn one_walk_answer()
 
 /// Proves that a walk leads to a number if and only if the value is parsed from some bytes with that number and
 /// nothing else left, and if and only if a chain that leads there encodes it.
-pub fn walk_leads_where_the_value_is_read()
+pub fn walk_leads_where_the_value_is_parsed()
     ensures read { (v : PlacedFields) → IsEncodable v → (f m : ℕ)
         → IsWalkAnswer v f (leads m) ↔ ((s : List ℕ)
-        × IsRead FitsPlaces (λ c. IsValueOf c v) f m s) }
+        × IsParsed FitsPlaces (λ c. IsValueOf c v) f m s) }
     ensures spelled { (v : PlacedFields) (f m : ℕ) → IsWalkAnswer v f (leads m)
         → (c : List ExtHeader) × IsSpelling v f c × (leads_to f c ≡ m) }
     ensures spelling { (v : PlacedFields) (f : ℕ) (c : List ExtHeader) → IsSpelling v f c
@@ -48,14 +48,14 @@ pub fn one_spelling()
 
 /// Proves that the chain that encodes a value is parsed from its bytes, whatever follows them, unless it leads to an
 /// extension number whose place is free.
-pub fn spelled_bytes_are_read()
+pub fn spelled_bytes_are_parsed()
     ensures { (v : PlacedFields) (f : ℕ) (c : List ExtHeader) (r : List ℕ) → IsSpelling v f c
-        → (IsExtensionNumber (leads_to f c) → IsTaken (leads_to f c) c)
+        → (IsExtensionNumber (leads_to f c) → IsOccupied (leads_to f c) c)
         → IsLongestUnder FitsPlaces f (bytes_of c ++ r) c }
 {}
 
 /// Proves that the encoding of a parsed value is the parsed chain with its reserved bits set to zero.
-pub fn spelling_clears_what_was_read()
+pub fn spelling_clears_what_was_parsed()
     ensures { (v : PlacedFields) (f : ℕ) (s : List ℕ) (c d : List ExtHeader)
         → IsLongestUnder FitsPlaces f s c → AreBytes (bytes_of c) → IsValueOf c v
         → IsSpelling v f d → d ≡ cleared_chain c }

@@ -11,7 +11,7 @@ ghost use Rattle.ip_spec.specs.Walk.{leads, IsSpelling, IsReachable, IsWalkAnswe
 ghost use Rattle.ip_spec.specs.Numbers.{AUTHENTICATION};
 ghost use Rattle.ip_spec.specs.Demand.{AtMostOneOf, IsDemand, IsLongestUnder, Passes};
 ghost use Rattle.ip_spec.specs.Fits.{FitsPlaces};
-ghost use Rattle.ip_spec.specs.Parse.{IsRead};
+ghost use Rattle.ip_spec.specs.Parse.{IsParsed};
 ghost use Rattle.ip_spec.specs.Runs.{how_many};
 ghost use Rattle.ip_ext_slices.specs.Longest.{longest_chain};
 ghost use Rattle.ip_ext_slices.specs.ChainFault.{chain_fault};
@@ -49,7 +49,7 @@ pub fn first_and_bytes(
 }
 
 /// Returns the error after all runs, from the last run on.
-pub fn fault_behind_runs(runs: &Ipv6ExtensionsRuns<'_>) -> Option<Option<(HeaderSliceError, Layer)>>
+pub fn fault_after_runs(runs: &Ipv6ExtensionsRuns<'_>) -> Option<Option<(HeaderSliceError, Layer)>>
     ensures before { IfNone result (values_left runs.now ≢ []) }
     ensures last { IfSome result (λ _. values_left runs.now ≡ []) }
     ensures fault { IfSome result (λ fault.
@@ -99,13 +99,13 @@ pub fn append_ipv4(headers: &Ipv4Extensions, start: IpNumber, out: &mut Vec<u8>)
     ensures walk { IfSome result (λ _. IsOk (ipv4_walk headers.now.auth start.0)) }
     ensures ok { IfSome result (λ _. AppendsOne (IsIpv4Encoding start.0 headers.now.auth)
         out.old.items out.new.items) }
-    ensures read_again { IfSome result (λ _. (b r : List ℕ) (m : IpNumber)
+    ensures parsed_again { IfSome result (λ _. (b r : List ℕ) (m : IpNumber)
         → out.new.items ≡ out.old.items ++ b → ipv4_walk headers.now.auth start.0 ≡ Ok m
         → (headers.now.auth ≡ None → start.0 ≡ AUTHENTICATION → ⊥)
         → IsIpv4Answer ipv4_value start.0 (b ++ r) headers.now.auth m.0 r None) }
-    ensures read_whole { IfSome result (λ _. (b : List ℕ) (m : IpNumber)
+    ensures parsed_whole { IfSome result (λ _. (b : List ℕ) (m : IpNumber)
         → out.new.items ≡ out.old.items ++ b → ipv4_walk headers.now.auth start.0 ≡ Ok m
-        → IsRead (AtMostOneOf AUTHENTICATION) (λ c. ipv4_value c ≡ headers.now.auth)
+        → IsParsed (AtMostOneOf AUTHENTICATION) (λ c. ipv4_value c ≡ headers.now.auth)
         start.0 m.0 b) }
     ensures len { IfSome result (λ len.
         len ≡ vec_len out.old + option_map_or auth_len headers.now.auth 0) }
@@ -155,9 +155,9 @@ pub fn append_ipv6(headers: &Ipv6Extensions, first: IpNumber, out: &mut Vec<u8>)
         × IsSpelling (placed_fields headers.now) first.0 c
         × (out.new.items ≡ out.old.items ++ bytes_of c)) }
     ensures len { IfSome result (λ len. len ≡ vec_len out.old + exts_len headers.now) }
-    ensures read_whole { IfSome result (λ _. (b : List ℕ) (m : ℕ)
+    ensures parsed_whole { IfSome result (λ _. (b : List ℕ) (m : ℕ)
         → out.new.items ≡ out.old.items ++ b → IsWalkAnswer (placed_fields headers.now) first.0 (leads m)
-        → IsRead FitsPlaces (λ c. value_of c ≡ headers.now) first.0 m b) }
+        → IsParsed FitsPlaces (λ c. value_of c ≡ headers.now) first.0 m b) }
     ensures alike { IfSome result (λ _. (v : Ipv6Extensions) (c : List ExtHeader)
         → IsSpelling (placed_fields v) first.0 c
         → (out.new.items ≡ out.old.items ++ bytes_of c) ↔ (headers.now ≡ v)) }

@@ -4,7 +4,7 @@ ghost use Rattle.std.specs.Option.{option_map};
 ghost use Rattle.std.specs.List.{find};
 ghost use Rattle.ip_spec.specs.Numbers.{FRAGMENT};
 ghost use Rattle.ip_spec.specs.Chain.{ExtHeader, bytes_of, has_fragmenting, leads_to};
-ghost use Rattle.ip_spec.specs.Parse.{rest_behind};
+ghost use Rattle.ip_spec.specs.Parse.{rest_after};
 ghost use Rattle.ip_spec.specs.Demand.{AtMost, IsLongestUnder};
 ghost use Rattle.ip_ext_slices.specs.Longest.{longest_chain};
 ghost use Rattle.ip_ext_slices.specs.Ipv6ExtensionSlice.{header_of};
@@ -26,7 +26,7 @@ pub fn count_headers(start: IpNumber, packet: &[u8]) -> usize
 pub fn whole_payload(start: IpNumber, packet: &[u8]) -> Option<(IpNumber, &[u8])>
     ensures number { IfSome result (λ found.
         found.0.0 ≡ leads_to start.0 (longest_chain start.0 packet.now)) }
-    ensures payload { IfSome result (λ found. found.1.now ≡ rest_behind (longest_chain start.0 packet.now) packet.now) }
+    ensures payload { IfSome result (λ found. found.1.now ≡ rest_after (longest_chain start.0 packet.now) packet.now) }
     ensures whole { IfSome result (λ _.
         has_fragmenting (longest_chain start.0 packet.now) ≡ false) }
 {
@@ -103,7 +103,7 @@ pub fn first_fragment(start: IpNumber, packet: &[u8]) -> Option<Ipv6ExtensionSli
 pub fn count_and_payload(start: IpNumber, packet: &[u8]) -> (usize, IpNumber, &[u8])
     ensures count { result.0 ≡ length (longest_chain start.0 packet.now) }
     ensures number { result.1.0 ≡ leads_to start.0 (longest_chain start.0 packet.now) }
-    ensures payload { result.2.now ≡ rest_behind (longest_chain start.0 packet.now) packet.now }
+    ensures payload { result.2.now ≡ rest_after (longest_chain start.0 packet.now) packet.now }
 {
     let mut headers = Ipv6ExtensionsCursor::new(start, packet);
     let mut count: usize = 0;

@@ -198,7 +198,7 @@ pub fn append_auth(header: &IpAuthHeader, out: &mut Vec<u8>) -> Result<usize, Al
 }
 
 /// Returns how many bytes of a packet lie after its first header of this number; none if it has no such header.
-pub fn len_behind_first(number: u8, packet: &[u8]) -> Option<usize>
+pub fn len_after_first(number: u8, packet: &[u8]) -> Option<usize>
     ensures next { IfSome result (λ left. (len : ℕ) × (len + left ≡ length packet.now)
         × IsNext true number packet.now (record { number = number; bytes = take len packet.now })) }
     ensures none { IfNone result (IsEnd true number packet.now) }

@@ -4,7 +4,7 @@ ghost use Rattle.std.specs.Option.{option_map};
 ghost use Rattle.ip_spec.specs.Fields.{AuthFields};
 ghost use Rattle.ip_spec.specs.Numbers.{AUTHENTICATION};
 ghost use Rattle.ip_spec.specs.Demand.{AtMostOneOf};
-ghost use Rattle.ip_spec.specs.Parse.{IsRead};
+ghost use Rattle.ip_spec.specs.Parse.{IsParsed};
 ghost use Rattle.ip_ext_slices.specs.Ipv4Longest.{longest_ipv4_chain};
 ghost use Rattle.ip_ext_slices.specs.Ipv4Parse.{ipv4_value};
 
@@ -22,7 +22,7 @@ pub fn put_before(
     out: &mut Vec<u8>,
 ) -> Result<IpNumber, AllocError>
     ensures read { IfOk result (λ first. (b : List ℕ) → out.new.items ≡ out.old.items ++ b
-        → IsRead (AtMostOneOf AUTHENTICATION) (λ c. ipv4_value c
+        → IsParsed (AtMostOneOf AUTHENTICATION) (λ c. ipv4_value c
         ≡ option_map (λ (v : AuthFields). record v { next_header = last.0 })
         (ipv4_value (longest_ipv4_chain start.0 packet.now))) first.0 last.0 b) }
     ensures err { OnErr result (out.new.items ≡ out.old.items) }

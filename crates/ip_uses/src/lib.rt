@@ -5,7 +5,6 @@
 pub mod base;
 pub mod chain_outcomes;
 pub mod chains;
-pub mod cuts;
 pub mod from_etherparse;
 pub mod header_outcomes;
 pub mod headers;
@@ -16,4 +15,5 @@ pub mod places;
 pub mod read_outcomes;
 pub mod readers;
 pub mod runs;
+pub mod spans;
 pub mod tool;

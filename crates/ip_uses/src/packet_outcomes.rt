@@ -30,7 +30,7 @@ pub fn ipv6_packet(bytes: &[u8]) -> Result<Ipv6Slice<'_>, ipv6::SliceError>
 }
 
 /// Parses the IPv6 packet, truncated or not, at the start of the bytes, or returns why there is none.
-pub fn ipv6_packet_cut_short(bytes: &[u8]) -> Result<Ipv6Slice<'_>, ipv6::SliceError>
+pub fn truncated_ipv6_packet(bytes: &[u8]) -> Result<Ipv6Slice<'_>, ipv6::SliceError>
     ensures packet { IfOk result (λ x. IsIpv6Packet bytes.now (ipv6_parts x)) }
     ensures faultless { IfOk result (λ _. ipv6_lax_fault bytes.now ≡ None) }
     ensures fault { IfErr result (λ e. ipv6_lax_fault bytes.now ≡ Some e) }

@@ -2,7 +2,7 @@
 ghost use Rattle.std.specs.Prelude.{◌≡◌, ◌++◌, ℕ, List, None, IfSome, IfOk, OnErr};
 ghost use Rattle.std.specs.Option.{option_map};
 ghost use Rattle.ip_spec.specs.Header.{IsExtensionNumber};
-ghost use Rattle.ip_spec.specs.Parse.{rest_behind};
+ghost use Rattle.ip_spec.specs.Parse.{rest_after};
 ghost use Rattle.ip_spec.specs.Fields.{fragment_fields};
 ghost use Rattle.ip_spec.specs.Chain.{leads_to};
 ghost use Rattle.ip_spec.specs.Places.{fragment, header_in};
@@ -30,7 +30,7 @@ pub fn opened(start: IpNumber, packet: &[u8]) -> Option<(Ipv6Extensions, IpNumbe
     ensures value { IfSome result (λ x. x.0 ≡ value_of (fitting_chain start.0 packet.now)) }
     ensures number { IfSome result (λ x.
         x.1.0 ≡ leads_to start.0 (fitting_chain start.0 packet.now)) }
-    ensures payload { IfSome result (λ x. x.2.now ≡ rest_behind (fitting_chain start.0 packet.now) packet.now) }
+    ensures payload { IfSome result (λ x. x.2.now ≡ rest_after (fitting_chain start.0 packet.now) packet.now) }
     ensures whole { IfSome result (λ _. fitting_fault start.0 packet.now ≡ None) }
 {
     match Ipv6Extensions::from_slice(start, packet) {

@@ -10,7 +10,7 @@ ghost use Rattle.ip_spec.specs.Header.{IsRawHeader};
 ghost use Rattle.ip_spec.specs.Requests.{RawAsks, Asks};
 ghost use Rattle.ip_spec.specs.Chain.{ExtHeader, IsChain, leads_to, bytes_of};
 ghost use Rattle.ip_spec.specs.Fits.{FitsPlaces};
-ghost use Rattle.ip_spec.specs.Places.{is_taken};
+ghost use Rattle.ip_spec.specs.Places.{is_occupied};
 ghost use Rattle.ip_base.specs.Limits.{left, limit_error};
 ghost use Rattle.ip_base.specs.LimitedReader.{inner_of, limits_of};
 ghost use Rattle.ip_base.specs.declared.err.len_error.LenError.{LenError as LengthError};
@@ -33,7 +33,7 @@ use ip_ext_headers::{IpAuthHeader, Ipv6RawExtHeader};
 
 /// Returns whether the bytes don't start with a header in the uniform format (RFC 6564): then there are too few for a
 /// request.
-pub fn is_raw_cut(bytes: &mut &[u8]) -> bool
+pub fn is_raw_truncated(bytes: &mut &[u8]) -> bool
     ensures asked { OnTrue result ((done : List ℕ) × (count : ℕ) × RawAsks done count
         × (length bytes.old.now < length done + count)) }
     ensures none { OnTrue result ((b : List ℕ) → IsRawHeader b
@@ -43,7 +43,7 @@ pub fn is_raw_cut(bytes: &mut &[u8]) -> bool
 }
 
 /// Returns whether an authentication header is truncated: then `from_slice` returns a length error.
-pub fn is_auth_cut(bytes: &mut &[u8]) -> bool
+pub fn is_auth_truncated(bytes: &mut &[u8]) -> bool
     ensures { OnTrue result ((e : LengthError)
         × (auth_fault Slice (length bytes.old.now) 0 bytes.old.now ≡ Some (auth.Len e))) }
 {
@@ -58,7 +58,7 @@ pub fn is_auth_cut(bytes: &mut &[u8]) -> bool
 pub fn is_auth_zero(bytes: &mut &[u8]) -> bool
     ensures fault { OnTrue result (auth_fault Slice (length bytes.old.now) 0 bytes.old.now
         ≡ Some (auth.Content ZeroPayloadLen)) }
-    ensures taken { OnTrue result ((done : List ℕ) × (length done ≡ 12)
+    ensures consumed { OnTrue result ((done : List ℕ) × (length done ≡ 12)
         × (bytes.old.now ≡ done ++ bytes.new.now)) }
 {
     match IpAuthHeader::read(bytes) {
@@ -81,7 +81,7 @@ pub fn raw_past_limit(reader: &mut LimitedReader<&[u8]>) -> Option<LenError>
 
 /// Returns whether a header in the uniform format (RFC 6564) is within the limit but the inner reader has too few
 /// bytes.
-pub fn is_raw_cut_within(reader: &mut LimitedReader<&[u8]>) -> bool
+pub fn is_raw_truncated_within(reader: &mut LimitedReader<&[u8]>) -> bool
     ensures { OnTrue result ((done : List ℕ) × (count : ℕ) × RawAsks done count
         × (length done + count ≤ left (limits_of reader.old))
         × (length (inner_of reader.old).now < length done + count)) }
@@ -93,7 +93,7 @@ pub fn is_raw_cut_within(reader: &mut LimitedReader<&[u8]>) -> bool
 }
 
 /// Returns whether the bytes after an IPv4 header are truncated.
-pub fn is_ipv4_cut(bytes: &mut &[u8], start: IpNumber) -> bool
+pub fn is_ipv4_truncated(bytes: &mut &[u8], start: IpNumber) -> bool
     ensures { OnTrue result ((e : LengthError)
         × (ipv4_chain_fault start.0 bytes.old.now ≡ Some (auth.Len e))) }
 {
@@ -116,11 +116,11 @@ pub fn chain_content(bytes: &mut &[u8], start: IpNumber) -> Option<ipv6_exts::He
 
 /// Returns whether a chain read into six places is truncated: then `from_slice` returns a length error, and after
 /// headers that fit there are too few bytes for a request of the next one, whose place is free.
-pub fn is_chain_cut(bytes: &mut &[u8], start: IpNumber) -> bool
+pub fn is_chain_truncated(bytes: &mut &[u8], start: IpNumber) -> bool
     ensures fault { OnTrue result ((e : LengthError)
         × (option_map (λ f. f.0) (fitting_fault start.0 bytes.old.now) ≡ Some (chain.Len e))) }
     ensures headers { OnTrue result ((c : List ExtHeader) × IsChain start.0 c × FitsPlaces c
-        × (is_taken (leads_to start.0 c) c ≡ false) × ((done : List ℕ) × (count : ℕ)
+        × (is_occupied (leads_to start.0 c) c ≡ false) × ((done : List ℕ) × (count : ℕ)
         × Asks (leads_to start.0 c) done count
         × (length bytes.old.now < length (bytes_of c) + (length done + count)))) }
 {
@@ -144,7 +144,7 @@ pub fn chain_past_limit(reader: &mut LimitedReader<&[u8]>, start: IpNumber) -> O
 /// after a chain from the start number.
 pub fn is_chain_read<T: ExactRead>(reader: &mut T, start: IpNumber) -> bool
     ensures kept { OnTrue result (T.has_failed reader.new ≡ T.has_failed reader.old) }
-    ensures taken { OnTrue result ((c : List ExtHeader) × IsChain start.0 c
+    ensures consumed { OnTrue result ((c : List ExtHeader) × IsChain start.0 c
         × Consumes (T.bytes_left reader.old) (T.bytes_left reader.new) (bytes_of c)) }
 {
     Ipv6Extensions::read(reader, start).is_ok()

@@ -1,7 +1,7 @@
 //! Callers of runs.
 ghost use Rattle.std.specs.Prelude.{◌≡◌, ◌+◌, ◌/◌, ◌≤◌, List, ◌∷◌, length, map, IfOk, IfSome};
 ghost use Rattle.ip_spec.specs.Chain.{ExtHeader, leads_to};
-ghost use Rattle.ip_spec.specs.Parse.{rest_behind};
+ghost use Rattle.ip_spec.specs.Parse.{rest_after};
 ghost use Rattle.ip_ext_slices.specs.Longest.{longest_chain};
 ghost use Rattle.ip_ext_chains.specs.RunsOf.{runs_of};
 ghost use Rattle.ip_ext_chains.specs.Ipv6ExtensionsRuns.{start, input, runs_left, number_left};
@@ -34,7 +34,7 @@ pub fn list_runs(
 /// Returns the sum of their lengths, and the number and the bytes after the last.
 pub fn len_of_runs(start: IpNumber, packet: &[u8]) -> (usize, IpNumber, &[u8])
     ensures number { result.1.0 ≡ leads_to start.0 (longest_chain start.0 packet.now) }
-    ensures rest { result.2.now ≡ rest_behind (longest_chain start.0 packet.now) packet.now }
+    ensures rest { result.2.now ≡ rest_after (longest_chain start.0 packet.now) packet.now }
 {
     let mut runs = Ipv6ExtensionsRuns::new(start, packet);
     let mut len: usize = 0;
@@ -57,7 +57,7 @@ pub fn sum_of_runs(start: IpNumber, packet: &[u8]) -> usize {
 }
 
 /// Returns the number to which the headers lead, from the last run on.
-pub fn number_behind_runs(runs: &Ipv6ExtensionsRuns<'_>) -> Option<IpNumber>
+pub fn number_after_runs(runs: &Ipv6ExtensionsRuns<'_>) -> Option<IpNumber>
     ensures { IfSome result (λ number. number.0
         ≡ leads_to (start runs.now) (longest_chain (start runs.now) (input runs.now))) }
 {
@@ -68,7 +68,7 @@ pub fn number_behind_runs(runs: &Ipv6ExtensionsRuns<'_>) -> Option<IpNumber>
 }
 
 /// Returns the number to which the next run leads, if there is one.
-pub fn number_behind_next_run(runs: &mut Ipv6ExtensionsRuns<'_>) -> Option<IpNumber>
+pub fn number_after_next_run(runs: &mut Ipv6ExtensionsRuns<'_>) -> Option<IpNumber>
     ensures { IfSome result (λ number. (run : List ExtHeader)
         × (runs_left runs.old ≡ run ∷ runs_left runs.new)
         × (number.0 ≡ leads_to (number_left runs.old) run)) }

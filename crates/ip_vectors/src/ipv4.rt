@@ -50,8 +50,8 @@ fn check(rt: &impl Abort, row: &Row<'_>) -> Result<(), Fail> {
     let name = row.name;
     check_plain(rt, row);
     let start = IpNumber(row.start);
-    let taken = row.bytes.len().saturating_sub(row.rest);
-    let answer = (IpNumber(row.number), &row.bytes[taken..]);
+    let consumed = row.bytes.len().saturating_sub(row.rest);
+    let answer = (IpNumber(row.number), &row.bytes[consumed..]);
     let (slices, number, rest, fault) = Ipv4ExtensionsSlice::from_slice_lax(start, row.bytes);
     assert_eq!(rt;
         slices.auth.map(|header| header.slice().len()),

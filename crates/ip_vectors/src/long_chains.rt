@@ -45,8 +45,8 @@ pub(crate) const SIX: [u8; 52] = [
 ];
 
 /// Returns how many of the first bytes are whole headers, and how many headers they are.
-fn whole_headers(cut: usize) -> (usize, usize) {
-    match cut {
+fn whole_headers(kept: usize) -> (usize, usize) {
+    match kept {
         0..8 => (0, 0),
         8..16 => (8, 1),
         16..24 => (16, 2),
@@ -58,13 +58,13 @@ fn whole_headers(cut: usize) -> (usize, usize) {
 }
 
 #[test]
-fn what_is_cut_short_is_written_as_its_whole_headers(rt: HostRuntime) -> Result<(), Fail> {
-    for cut in 0..=52usize {
-        let (len, _) = whole_headers(cut);
-        let (exts, _, _, _) = Ipv6Extensions::from_slice_lax(IpNumber(0), &SIX[..cut]);
+fn truncated_chains_are_written_as_their_whole_headers(rt: HostRuntime) -> Result<(), Fail> {
+    for kept in 0..=52usize {
+        let (len, _) = whole_headers(kept);
+        let (exts, _, _, _) = Ipv6Extensions::from_slice_lax(IpNumber(0), &SIX[..kept]);
         let mut out = Vec::new(rt.alloc());
         exts.write(&mut out, IpNumber(0))?;
-        assert_eq!(rt; Some(out.as_slice()), SIX.get(..len), "{cut}");
+        assert_eq!(rt; Some(out.as_slice()), SIX.get(..len), "{kept}");
     }
     Ok(())
 }
@@ -72,37 +72,41 @@ fn what_is_cut_short_is_written_as_its_whole_headers(rt: HostRuntime) -> Result<
 #[test]
 fn the_headers_of_a_front_are_those_within_it(rt: HostRuntime) -> Result<(), Fail> {
     let whole = plain_longest_chain(rt.alloc(), 0, &SIX)?;
-    for cut in 0..=60usize {
-        let (_, count) = whole_headers(cut);
-        assert_eq!(rt; whole_within(cut, whole.headers.as_slice()), count, "{cut}");
-        let front = SIX.get(..cut).unwrap_or(&SIX);
+    for kept in 0..=60usize {
+        let (_, count) = whole_headers(kept);
+        assert_eq!(rt;
+            whole_within(kept, whole.headers.as_slice()),
+            count,
+            "{kept}"
+        );
+        let front = SIX.get(..kept).unwrap_or(&SIX);
         let (chain, _, _, _) = Ipv6ExtensionsSlice::from_slice_lax(IpNumber(0), front);
-        assert_eq!(rt; chain.into_iter().count(), count, "{cut}");
+        assert_eq!(rt; chain.into_iter().count(), count, "{kept}");
     }
     Ok(())
 }
 
 #[test]
-fn nothing_comes_behind_the_last(rt: HostRuntime) {
-    for cut in 0..=52usize {
-        let (_, count) = whole_headers(cut);
-        let (chain, _, _, _) = Ipv6ExtensionsSlice::from_slice_lax(IpNumber(0), &SIX[..cut]);
+fn nothing_comes_after_the_last(rt: HostRuntime) {
+    for kept in 0..=52usize {
+        let (_, count) = whole_headers(kept);
+        let (chain, _, _, _) = Ipv6ExtensionsSlice::from_slice_lax(IpNumber(0), &SIX[..kept]);
         let mut headers = chain.into_iter();
-        let mut cursor = Ipv6ExtensionsCursor::new(IpNumber(0), &SIX[..cut]);
+        let mut cursor = Ipv6ExtensionsCursor::new(IpNumber(0), &SIX[..kept]);
         for _ in 0..count {
             assert!(rt;
                 headers.next().is_some() && cursor.next().is_some(),
-                "{cut}"
+                "{kept}"
             );
         }
-        let mut runs = Ipv6ExtensionsRuns::new(IpNumber(0), &SIX[..cut]);
-        assert!(rt; runs.next().is_some(), "{cut}");
+        let mut runs = Ipv6ExtensionsRuns::new(IpNumber(0), &SIX[..kept]);
+        assert!(rt; runs.next().is_some(), "{kept}");
         for _ in 0..3 {
             assert!(rt;
                 headers.next().is_none() && cursor.next().is_none(),
-                "{cut}"
+                "{kept}"
             );
-            assert!(rt; runs.next().is_none(), "{cut}");
+            assert!(rt; runs.next().is_none(), "{kept}");
         }
     }
 }

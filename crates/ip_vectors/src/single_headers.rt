@@ -35,12 +35,12 @@ fn is_raw_refused(bytes: &[u8], fault: &LenError) -> bool {
 }
 
 /// Returns whether every truncation of a header in the uniform format (RFC 6564) is refused.
-fn are_raw_cuts_refused(bytes: &[u8]) -> bool {
+fn are_truncated_raw_refused(bytes: &[u8]) -> bool {
     let mut refused = true;
-    for cut in 0..bytes.len() {
-        let required = if cut < 8 { 8 } else { bytes.len() };
-        let fault = missing(required, cut, Layer::Ipv6ExtHeader);
-        refused = refused && is_raw_refused(&bytes[..cut], &fault);
+    for kept in 0..bytes.len() {
+        let required = if kept < 8 { 8 } else { bytes.len() };
+        let fault = missing(required, kept, Layer::Ipv6ExtHeader);
+        refused = refused && is_raw_refused(&bytes[..kept], &fault);
     }
     refused
 }
@@ -64,11 +64,11 @@ fn is_raw_slice_of(slice: &Ipv6RawExtHeaderSlice<'_>, header: &Ipv6RawExtHeader)
 }
 
 #[test]
-fn every_cut_of_raw_headers(rt: HostRuntime) -> Result<(), Fail> {
+fn raw_headers_truncated_everywhere(rt: HostRuntime) -> Result<(), Fail> {
     for length in [0u8, 1, 17, 254, 255] {
         let end = (8 * (usize::from(length) + 1)).min(2048);
         let bytes = bytes_with(length, end);
-        assert!(rt; are_raw_cuts_refused(&bytes[..end]), "{length}");
+        assert!(rt; are_truncated_raw_refused(&bytes[..end]), "{length}");
         let (header, rest) = Ipv6RawExtHeader::from_slice(&bytes[..end + 2])?;
         assert!(rt; rest == [1, 2].as_slice(), "{length}");
         assert!(rt; is_raw_header_of(&header, &bytes[..end]), "{length}");
@@ -87,12 +87,12 @@ fn is_auth_refused(bytes: &[u8], fault: &HeaderSliceError) -> bool {
 }
 
 /// Returns whether every truncation of an authentication header is refused.
-fn are_auth_cuts_refused(bytes: &[u8]) -> bool {
+fn are_truncated_auth_refused(bytes: &[u8]) -> bool {
     let mut refused = true;
-    for cut in 0..bytes.len() {
-        let required = if cut < 12 { 12 } else { bytes.len() };
-        let fault = HeaderSliceError::Len(missing(required, cut, Layer::IpAuthHeader));
-        refused = refused && is_auth_refused(&bytes[..cut], &fault);
+    for kept in 0..bytes.len() {
+        let required = if kept < 12 { 12 } else { bytes.len() };
+        let fault = HeaderSliceError::Len(missing(required, kept, Layer::IpAuthHeader));
+        refused = refused && is_auth_refused(&bytes[..kept], &fault);
     }
     refused
 }
@@ -124,11 +124,11 @@ fn is_auth_slice_of(slice: &IpAuthHeaderSlice<'_>, header: &IpAuthHeader) -> boo
 }
 
 #[test]
-fn every_cut_of_authentication_headers(rt: HostRuntime) -> Result<(), Fail> {
+fn authentication_headers_truncated_everywhere(rt: HostRuntime) -> Result<(), Fail> {
     for length in [1u8, 2, 17, 18, 254, 255] {
         let end = (4 * (usize::from(length) + 2)).min(1028);
         let bytes = bytes_with(length, end);
-        assert!(rt; are_auth_cuts_refused(&bytes[..end]), "{length}");
+        assert!(rt; are_truncated_auth_refused(&bytes[..end]), "{length}");
         let (header, rest) = IpAuthHeader::from_slice(&bytes[..end + 2])?;
         assert!(rt; rest == [1, 2].as_slice(), "{length}");
         assert!(rt; is_auth_header_of(&header, &bytes[..end]), "{length}");
@@ -207,10 +207,10 @@ fn reserved_bits_are_read_over_and_written_as_zero(rt: HostRuntime) -> Result<()
     assert_eq!(rt; header.to_bytes(), [17, 0, 0, 0xe1, 1, 2, 3, 4]);
     assert!(rt; header.clone()? == header);
     assert!(rt; Ipv6FragmentHeaderSlice::from_slice(&bytes)?.to_header() == header);
-    for cut in 0..8usize {
-        match Ipv6FragmentHeader::from_slice(&bytes[..cut]) {
-            Ok(_) => assert!(rt; false, "{cut} bytes are enough"),
-            Err(e) => assert_eq!(rt; e, missing(8, cut, Layer::Ipv6FragHeader)),
+    for kept in 0..8usize {
+        match Ipv6FragmentHeader::from_slice(&bytes[..kept]) {
+            Ok(_) => assert!(rt; false, "{kept} bytes are enough"),
+            Err(e) => assert_eq!(rt; e, missing(8, kept, Layer::Ipv6FragHeader)),
         }
     }
     let (header, _) = Ipv6FragmentHeader::from_slice(&[17, 0, 0, 6, 1, 2, 3, 4])?;

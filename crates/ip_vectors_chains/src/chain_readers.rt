@@ -229,7 +229,7 @@ const ENDS: [(&str, u8, &[u8], u8, usize); 5] = [
         8,
     ),
     (
-        "second fragment header, cut",
+        "second fragment header, truncated",
         44,
         &[44, 0, 0, 0, 0, 0, 0, 1, 17, 0, 0],
         44,

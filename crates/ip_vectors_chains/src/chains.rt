@@ -184,8 +184,8 @@ fn headers_of_one_kind(rt: HostRuntime) -> Result<(), Fail> {
         fault: None,
     };
     check(&rt, rt.alloc(), &repeated)?;
-    let cut = Row {
-        name: "a second fragment header is cut",
+    let truncated = Row {
+        name: "a second fragment header is truncated",
         start: 44,
         bytes: &[44, 0, 0, 0, 0, 0, 0, 1, 17, 0, 0],
         headers: &[(44, 8)],
@@ -193,7 +193,7 @@ fn headers_of_one_kind(rt: HostRuntime) -> Result<(), Fail> {
         rest: &[17, 0, 0],
         fault: missing(8, 3, Layer::Ipv6FragHeader, 8, Layer::Ipv6FragHeader),
     };
-    check(&rt, rt.alloc(), &cut)
+    check(&rt, rt.alloc(), &truncated)
 }
 
 #[test]
@@ -222,7 +222,7 @@ fn headers_of_all_kinds(rt: HostRuntime) -> Result<(), Fail> {
 }
 
 #[test]
-fn faults_behind_a_header(rt: HostRuntime) -> Result<(), Fail> {
+fn faults_after_a_header(rt: HostRuntime) -> Result<(), Fail> {
     let ends = Row {
         name: "a routing header is named, and no bytes are left",
         start: 60,
@@ -234,7 +234,7 @@ fn faults_behind_a_header(rt: HostRuntime) -> Result<(), Fail> {
     };
     check(&rt, rt.alloc(), &ends)?;
     let hop_by_hop = Row {
-        name: "hop by hop options behind hop by hop options",
+        name: "hop by hop options after hop by hop options",
         start: 0,
         bytes: &[0, 0, 0, 0, 0, 0, 0, 0],
         headers: &[(0, 8)],
@@ -296,13 +296,13 @@ fn defaults(rt: HostRuntime) -> Result<(), Fail> {
 fn cursors_that_differ(rt: HostRuntime) -> Result<(), Fail> {
     let bytes: &[u8] = &[60, 0, 0, 0, 0, 0, 0, 0, 59, 0, 0, 0, 0, 0, 0, 0];
     let before = Ipv6ExtensionsCursor::new(IpNumber(43), bytes);
-    let mut behind_routing = before.clone()?;
-    let mut behind_options = Ipv6ExtensionsCursor::new(IpNumber(60), bytes);
-    assert!(rt; before == behind_routing && before != behind_options);
-    assert!(rt; behind_routing.next().is_some() && behind_options.next().is_some());
-    assert!(rt; before != behind_routing && behind_routing != behind_options);
-    let begun_there = Ipv6ExtensionsCursor::new(IpNumber(60), behind_routing.rest());
-    assert!(rt; begun_there != behind_routing);
+    let mut past_routing = before.clone()?;
+    let mut after_options = Ipv6ExtensionsCursor::new(IpNumber(60), bytes);
+    assert!(rt; before == past_routing && before != after_options);
+    assert!(rt; past_routing.next().is_some() && after_options.next().is_some());
+    assert!(rt; before != past_routing && past_routing != after_options);
+    let begun_there = Ipv6ExtensionsCursor::new(IpNumber(60), past_routing.rest());
+    assert!(rt; begun_there != past_routing);
     Ok(())
 }
 
@@ -323,7 +323,7 @@ fn exhausted(number: u8) -> Ipv6ExtensionSliceIter<'static> {
 }
 
 #[test]
-fn number_behind_the_last_header(rt: HostRuntime) {
+fn number_after_the_last_header(rt: HostRuntime) {
     let seventeen = Ipv6ExtensionsSlice::default().into_iter();
     let fifty_nine = Ipv6ExtensionSliceIter::default();
     assert!(rt; exhausted(17) == seventeen);

@@ -122,8 +122,8 @@ fn check_slice(
     let (slices, reached, left, told) = Ipv6ExtensionsSlice::from_slice_lax(start, row.bytes);
     assert_eq!(rt; (reached.0, left.len()), (number, rest), "{name}");
     assert_eq!(rt; told, *fault, "{name}");
-    let taken = row.bytes.len().saturating_sub(rest);
-    assert_eq!(rt; slices.slice(), &row.bytes[..taken], "{name}");
+    let consumed = row.bytes.len().saturating_sub(rest);
+    assert_eq!(rt; slices.slice(), &row.bytes[..consumed], "{name}");
     match (Ipv6ExtensionsSlice::from_slice(start, row.bytes), fault) {
         (Ok((strict, reached, left)), None) => {
             assert!(rt; strict == slices, "{name}");
@@ -175,9 +175,9 @@ fn headers_in_their_places(rt: HostRuntime) -> Result<(), Fail> {
 }
 
 #[test]
-fn options_before_routing_and_behind_it(rt: HostRuntime) -> Result<(), Fail> {
+fn options_before_routing_and_after_it(rt: HostRuntime) -> Result<(), Fail> {
     let both_sides = Row {
-        name: "options before routing and behind it",
+        name: "options before routing and after it",
         start: 60,
         bytes: &[
             43, 0, 0, 0, 0, 0, 0, 0, 60, 0, 0, 0, 0, 0, 0, 0, 17, 0, 0, 0, 0, 0, 0, 0,
@@ -189,7 +189,7 @@ fn options_before_routing_and_behind_it(rt: HostRuntime) -> Result<(), Fail> {
     };
     check(&rt, rt.alloc(), &both_sides)?;
     let final_only = Row {
-        name: "options behind routing don't take the other place",
+        name: "options after routing don't take the other place",
         start: 43,
         bytes: &[
             60, 0, 0, 0, 0, 0, 0, 0, 60, 0, 0, 0, 0, 0, 0, 0, 17, 0, 0, 0, 0, 0, 0, 0,
@@ -216,7 +216,7 @@ fn faults_in_places(rt: HostRuntime) -> Result<(), Fail> {
     };
     check(&rt, rt.alloc(), &no_bytes)?;
     let zero_len = Row {
-        name: "an authentication header of length 0 behind options",
+        name: "an authentication header of length 0 after options",
         start: 60,
         bytes: &[51, 0, 0, 0, 0, 0, 0, 0, 17, 0, 0, 0, 0, 0, 0, 0, 0, 0, 0, 0],
         places: [None, Some((0, 8)), None, None, None, None],
@@ -241,7 +241,7 @@ fn hop_by_hop_options_that_come_late(rt: HostRuntime) -> Result<(), Fail> {
     };
     check(&rt, rt.alloc(), &hop_by_hop_twice)?;
     let late_hop_by_hop = Row {
-        name: "hop by hop options behind a fragment header",
+        name: "hop by hop options after a fragment header",
         start: 44,
         bytes: &[0, 0, 0, 0, 0, 0, 0, 0, 17, 0, 0, 0, 0, 0, 0, 0],
         places: [None, None, None, Some((0, 8)), None, None],
@@ -253,8 +253,8 @@ fn hop_by_hop_options_that_come_late(rt: HostRuntime) -> Result<(), Fail> {
 }
 
 #[test]
-fn taken_places(rt: HostRuntime) -> Result<(), Fail> {
-    let short_and_taken = Row {
+fn occupied_places(rt: HostRuntime) -> Result<(), Fail> {
+    let short_and_occupied = Row {
         name: "a second fragment header that is too short isn't looked at",
         start: 44,
         bytes: &[44, 0, 0, 0, 0, 0, 0, 1, 17, 0, 0],
@@ -263,9 +263,9 @@ fn taken_places(rt: HostRuntime) -> Result<(), Fail> {
         rest: 3,
         fault: None,
     };
-    check(&rt, rt.alloc(), &short_and_taken)?;
-    let behind_taken = Row {
-        name: "a fault behind a taken number isn't told",
+    check(&rt, rt.alloc(), &short_and_occupied)?;
+    let after_occupied = Row {
+        name: "a fault after a consumed number isn't told",
         start: 44,
         bytes: &[
             44, 0, 0, 0, 0, 0, 0, 0, 0, 0, 0, 0, 0, 0, 0, 0, 17, 0, 0, 0, 0, 0, 0, 0,
@@ -275,12 +275,12 @@ fn taken_places(rt: HostRuntime) -> Result<(), Fail> {
         rest: 16,
         fault: None,
     };
-    check(&rt, rt.alloc(), &behind_taken)?;
+    check(&rt, rt.alloc(), &after_occupied)?;
     let late = HeaderSliceError::Content(HeaderError::HopByHopNotAtStart);
     let late = Some((late, Layer::Ipv6HopByHopHeader));
-    check_slice(&rt, &behind_taken, 0, 8, &late)?;
-    let whole_and_taken = Row {
-        name: "the whole chain has places, and its last number is taken",
+    check_slice(&rt, &after_occupied, 0, 8, &late)?;
+    let whole_and_occupied = Row {
+        name: "the whole chain has places, and its last number is consumed",
         start: 44,
         bytes: &[60, 0, 0, 0, 0, 0, 0, 0, 44, 0, 0, 0, 0, 0, 0, 0],
         places: [None, Some((8, 8)), None, Some((0, 8)), None, None],
@@ -288,9 +288,9 @@ fn taken_places(rt: HostRuntime) -> Result<(), Fail> {
         rest: 0,
         fault: None,
     };
-    check(&rt, rt.alloc(), &whole_and_taken)?;
+    check(&rt, rt.alloc(), &whole_and_occupied)?;
     let no_more = missing(8, 0, Layer::Ipv6FragHeader, 16, Layer::Ipv6FragHeader);
-    check_slice(&rt, &whole_and_taken, 44, 0, &no_more)
+    check_slice(&rt, &whole_and_occupied, 44, 0, &no_more)
 }
 
 /// Hop-by-hop options, destination options, routing, fragment, authentication and destination options.
@@ -299,10 +299,10 @@ const SIX: [u8; 52] = [
     0, 0, 60, 1, 0, 0, 0, 0, 0, 0, 0, 0, 0, 0, 17, 0, 0, 0, 0, 0, 0, 0,
 ];
 
-/// Returns, for a truncation at `cut`, the length of the whole headers, the number after them, and the bytes that the
+/// Returns, for a truncation at `kept`, the length of the whole headers, the number after them, and the bytes that the
 /// next header needs.
-fn six_cut_at(cut: usize) -> (usize, u8, usize) {
-    match cut {
+fn six_truncated_at(kept: usize) -> (usize, u8, usize) {
+    match kept {
         0..8 => (0, 0, 8),
         8..16 => (8, 60, 8),
         16..24 => (16, 43, 8),
@@ -325,10 +325,10 @@ fn layers(number: u8) -> (Layer, Layer) {
 }
 
 #[test]
-fn six_places_cut_at_each_byte(rt: HostRuntime) -> Result<(), Fail> {
+fn six_places_truncated_at_each_byte(rt: HostRuntime) -> Result<(), Fail> {
     let whole = [(0, 8), (8, 8), (16, 8), (24, 8), (32, 12), (44, 8)];
-    for cut in 0..=SIX.len() {
-        let (read, number, required) = six_cut_at(cut);
+    for kept in 0..=SIX.len() {
+        let (read, number, required) = six_truncated_at(kept);
         let placed_fields = |place: (usize, usize)| -> Option<(usize, usize)> {
             if place.0.saturating_add(place.1) <= read {
                 Some(place)
@@ -337,11 +337,11 @@ fn six_places_cut_at_each_byte(rt: HostRuntime) -> Result<(), Fail> {
             }
         };
         let (inner, layer) = layers(number);
-        let left = cut.saturating_sub(read);
+        let left = kept.saturating_sub(read);
         let row = Row {
-            name: "six places, cut short",
+            name: "six places, kept short",
             start: 0,
-            bytes: &SIX[..cut],
+            bytes: &SIX[..kept],
             places: [
                 placed_fields(whole[0]),
                 placed_fields(whole[1]),

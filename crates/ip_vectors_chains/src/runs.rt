@@ -145,7 +145,7 @@ fn runs_of_one_place(rt: HostRuntime) -> Result<(), Fail> {
     };
     check(&rt, rt.alloc(), &three)?;
     let hop_by_hop = Row {
-        name: "hop by hop options behind two fragment headers",
+        name: "hop by hop options after two fragment headers",
         start: 44,
         bytes: &[
             44, 0, 0, 0, 0, 0, 0, 0, 0, 0, 0, 0, 0, 0, 0, 0, 17, 0, 0, 0, 0, 0, 0, 0,
@@ -160,8 +160,8 @@ fn runs_of_one_place(rt: HostRuntime) -> Result<(), Fail> {
 
 #[test]
 fn runs_that_end_at_a_missing_header(rt: HostRuntime) -> Result<(), Fail> {
-    let cut = Row {
-        name: "a second fragment header is cut",
+    let truncated = Row {
+        name: "a second fragment header is truncated",
         start: 44,
         bytes: &[44, 0, 0, 0, 0, 0, 0, 1, 17, 0, 0],
         items: &[FRAGMENT, NONE],
@@ -169,7 +169,7 @@ fn runs_that_end_at_a_missing_header(rt: HostRuntime) -> Result<(), Fail> {
         rest: &[17, 0, 0],
         fault: no_fragment_header(3, 8),
     };
-    check(&rt, rt.alloc(), &cut)?;
+    check(&rt, rt.alloc(), &truncated)?;
     let ends = Row {
         name: "a second fragment header is named, and no bytes are left",
         start: 44,
@@ -185,7 +185,7 @@ fn runs_that_end_at_a_missing_header(rt: HostRuntime) -> Result<(), Fail> {
 #[test]
 fn runs_of_many_places(rt: HostRuntime) -> Result<(), Fail> {
     let routed = Row {
-        name: "destination options twice behind a routing header",
+        name: "destination options twice after a routing header",
         start: 43,
         bytes: &[
             60, 0, 0, 0, 0, 0, 0, 0, 60, 0, 0, 0, 0, 0, 0, 0, 17, 0, 0, 0, 0, 0, 0, 0,
@@ -223,7 +223,7 @@ fn one_run(rt: HostRuntime) -> Result<(), Fail> {
     };
     check(&rt, rt.alloc(), &nothing)?;
     let hop_by_hop = Row {
-        name: "hop by hop options behind hop by hop options",
+        name: "hop by hop options after hop by hop options",
         start: 0,
         bytes: &[0, 0, 0, 0, 0, 0, 0, 0],
         items: &[HOP_BY_HOP],
@@ -240,7 +240,7 @@ fn numbers_before_runs(rt: HostRuntime) -> Result<(), Fail> {
     let rows: [(&str, u8, &[u8], &[u8]); 4] = [
         ("UDP goes on", 17, &[1, 2, 3], &[17, 17]),
         (
-            "a third fragment header is cut",
+            "a third fragment header is truncated",
             44,
             &[44, 0, 0, 0, 0, 0, 0, 1, 44, 0, 0, 0, 0, 0, 0, 2, 17, 0],
             &[44, 44, 44, 44],

@@ -70,7 +70,7 @@ fn a_header_that_nothing_names(rt: HostRuntime) -> Result<(), Fail> {
 }
 
 #[test]
-fn hop_by_hop_options_behind_a_header(rt: HostRuntime) -> Result<(), Fail> {
+fn hop_by_hop_options_after_a_header(rt: HostRuntime) -> Result<(), Fail> {
     let mut exts = Ipv6Extensions::default();
     exts.hop_by_hop_options = Some(raw(17));
     exts.fragment = Some(fragment(0)?);

@@ -41,12 +41,12 @@ fn ipv4_lengths_that_lie(rt: HostRuntime) -> Result<(), Fail> {
             len_error(60, 59, slice, Layer::Ipv4Header),
         ),
         (
-            "an authentication header that total length cuts",
+            "an authentication header that the total length truncates",
             ipv4_bytes(alloc, 0x45, 24, [0, 0], 51, &auth)?,
             len_error_at(12, 4, stated, Layer::IpAuthHeader, 20),
         ),
         (
-            "zeros that total length cuts",
+            "zeros that the total length truncates",
             ipv4_bytes(alloc, 0x45, 24, [0, 0], 51, &[0; 12])?,
             len_error_at(12, 4, stated, Layer::IpAuthHeader, 20),
         ),
@@ -71,9 +71,9 @@ fn ipv6_lengths_that_lie(rt: HostRuntime) -> Result<(), Fail> {
             assert_eq!(rt; payload.len_source, LenSource::Slice);
             assert_eq!(rt; payload.ip_number, IpNumber(17));
         }
-        Err(_) => assert!(rt; false, "a packet that is cut short"),
+        Err(_) => assert!(rt; false, "a packet that is truncated short"),
     }
-    let cut = ipv6_bytes(alloc, 4, 60, &[17, 0, 0, 0, 0, 0, 0, 0])?;
+    let truncated = ipv6_bytes(alloc, 4, 60, &[17, 0, 0, 0, 0, 0, 0, 0])?;
     let error = len_error_at(
         8,
         4,
@@ -81,7 +81,10 @@ fn ipv6_lengths_that_lie(rt: HostRuntime) -> Result<(), Fail> {
         Layer::Ipv6ExtHeader,
         40,
     );
-    for parsed in [Ipv6Slice::from_slice(&cut), Ipv6Slice::from_slice_lax(&cut)] {
+    for parsed in [
+        Ipv6Slice::from_slice(&truncated),
+        Ipv6Slice::from_slice_lax(&truncated),
+    ] {
         let refused = parsed.map(|packet| packet.payload_ip_number());
         assert_eq!(rt; refused, Err(ipv6::SliceError::Len(error.clone()?)));
     }

@@ -2,10 +2,10 @@
 #![tactic(auto)]
 
 #[cfg(test)]
-mod cuts;
-#[cfg(test)]
 mod lengths_that_lie;
 #[cfg(test)]
 mod packets;
 #[cfg(test)]
 mod samples;
+#[cfg(test)]
+mod spans;

@@ -119,21 +119,21 @@ fn ipv6_lengths(rt: HostRuntime) -> Result<(), Fail> {
 }
 
 #[test]
-fn a_chain_that_is_cut_short_in_a_jumbogram(rt: HostRuntime) -> Result<(), Fail> {
+fn a_truncated_chain_in_a_jumbogram(rt: HostRuntime) -> Result<(), Fail> {
     let jumbo = ipv6_bytes(rt.alloc(), 0, 60, &[43, 0, 0, 0, 0, 0, 0, 0])?;
-    let cut_short = len_error_at(8, 0, LenSource::Slice, Layer::Ipv6ExtHeader, 48);
+    let truncated = len_error_at(8, 0, LenSource::Slice, Layer::Ipv6ExtHeader, 48);
     for parsed in [
         Ipv6Slice::from_slice(&jumbo),
         Ipv6Slice::from_slice_lax(&jumbo),
     ] {
         assert_eq!(rt;
             parsed.map(|packet| ipv6_parts(&packet)),
-            Err(ipv6::SliceError::Len(cut_short.clone()?))
+            Err(ipv6::SliceError::Len(truncated.clone()?))
         );
     }
     assert_eq!(rt;
         IpSlice::from_slice(&jumbo).map(|packet| packet.payload_ip_number()),
-        Err(ip::SliceError::Len(cut_short))
+        Err(ip::SliceError::Len(truncated))
     );
     Ok(())
 }

@@ -5,60 +5,62 @@ ghost use Rattle.ip_spec.specs.Demand.{KeepsBeginning};
 ghost use Rattle.ip_ext_slices.specs.Longest.{longest_chain};
 ghost use Rattle.ip_ext_slices.specs.ChainFault.{slice_fault};
 ghost use Rattle.ip_ext_slices.specs.Ipv4Longest.{longest_ipv4_chain};
-ghost use Rattle.ip_cuts.specs.HeaderCut.{cuts_from, filled};
-ghost use Rattle.ip_cuts.specs.ChainCut.{chain_cut, ipv4_chain_cut};
-ghost use Rattle.ip_cuts.specs.ChainCursor.{IsHeaderCut};
-ghost use Rattle.ip_cuts.specs.FaultFields.{chain_fault_fields};
-ghost use Rattle.ip_cuts.specs.InPlaces.{AreInPlaces};
+ghost use Rattle.ip_spans.specs.HeaderSpan.{spans_from, filled};
+ghost use Rattle.ip_spans.specs.ChainParts.{chain_parts, ipv4_chain_parts};
+ghost use Rattle.ip_spans.specs.ChainCursor.{IsHeaderSpan};
+ghost use Rattle.ip_spans.specs.FaultFields.{chain_fault_fields};
+ghost use Rattle.ip_spans.specs.InPlaces.{AreInPlaces};
 
-use ip_cuts::{ChainCursor, ChainCut, FaultFields, HeaderCut, cut_chain, cut_ipv4_chain, run_len};
+use ip_spans::{
+    ChainCursor, ChainParts, FaultFields, HeaderSpan, parse_chain, parse_ipv4_chain, run_len,
+};
 
-/// Calls `cut_chain` and stores its result in `chain`.
+/// Calls `parse_chain` and stores its result in `chain`.
 #[unsafe(no_mangle)]
-pub extern "C" fn wolfaren_cut_chain(
+pub extern "C" fn wolfaren_parse_chain(
     first: u8,
     bytes: &[u8],
-    cuts: &mut [HeaderCut],
-    chain: &mut ChainCut,
+    spans: &mut [HeaderSpan],
+    chain: &mut ChainParts,
 )
-    ensures chain { chain.new ≡ chain_cut first bytes.now }
+    ensures chain { chain.new ≡ chain_parts first bytes.now }
     ensures within { chain.new.len ≤ length bytes.now }
-    ensures cuts { cuts.new ≡ filled (cuts_from 0 (longest_chain first bytes.now)) cuts.old }
+    ensures spans { spans.new ≡ filled (spans_from 0 (longest_chain first bytes.now)) spans.old }
 {
-    *chain = cut_chain(first, bytes, cuts);
+    *chain = parse_chain(first, bytes, spans);
 }
 
-/// Calls `cut_ipv4_chain` and stores its result in `chain`.
+/// Calls `parse_ipv4_chain` and stores its result in `chain`.
 #[unsafe(no_mangle)]
-pub extern "C" fn wolfaren_cut_ipv4_chain(
+pub extern "C" fn wolfaren_parse_ipv4_chain(
     first: u8,
     bytes: &[u8],
-    cuts: &mut [HeaderCut],
-    chain: &mut ChainCut,
+    spans: &mut [HeaderSpan],
+    chain: &mut ChainParts,
 )
-    ensures chain { chain.new ≡ ipv4_chain_cut first bytes.now }
+    ensures chain { chain.new ≡ ipv4_chain_parts first bytes.now }
     ensures within { chain.new.len ≤ length bytes.now }
-    ensures cuts { cuts.new ≡ filled (cuts_from 0 (longest_ipv4_chain first bytes.now)) cuts.old }
+    ensures spans { spans.new ≡ filled (spans_from 0 (longest_ipv4_chain first bytes.now)) spans.old }
 {
-    *chain = cut_ipv4_chain(first, bytes, cuts);
+    *chain = parse_ipv4_chain(first, bytes, spans);
 }
 
-/// Calls `ChainCursor::next_header`. Returns whether a header follows; if so, stores it in `cut`, which is otherwise
+/// Calls `ChainCursor::next_header`. Returns whether a header follows; if so, stores it in `span`, which is otherwise
 /// unchanged.
 #[unsafe(no_mangle)]
 pub extern "C" fn wolfaren_next_header(
     cursor: &mut ChainCursor,
     bytes: &[u8],
-    cut: &mut HeaderCut,
+    span: &mut HeaderSpan,
 ) -> bool
-    ensures header { IsTrue result → IsHeaderCut cursor.old cursor.new bytes.now cut.new }
+    ensures header { IsTrue result → IsHeaderSpan cursor.old cursor.new bytes.now span.new }
     ensures end { result ≡ false
         → IsEnd (cursor.old.offset == 0) cursor.old.number (drop cursor.old.offset bytes.now) }
-    ensures same { result ≡ false → (cursor.new ≡ cursor.old) × (cut.new ≡ cut.old) }
+    ensures same { result ≡ false → (cursor.new ≡ cursor.old) × (span.new ≡ span.old) }
 {
     match cursor.next_header(bytes) {
         Some(found) => {
-            *cut = found;
+            *span = found;
             true
         }
         None => false,
@@ -76,9 +78,9 @@ pub extern "C" fn wolfaren_fault_at(cursor: &ChainCursor, bytes: &[u8], fault: &
 
 /// Calls `run_len`.
 #[unsafe(no_mangle)]
-pub extern "C" fn wolfaren_run_len(cuts: &[HeaderCut]) -> usize
-    ensures within { result ≤ length cuts.now }
-    ensures run { KeepsBeginning AreInPlaces cuts.now (take result cuts.now) }
+pub extern "C" fn wolfaren_run_len(spans: &[HeaderSpan]) -> usize
+    ensures within { result ≤ length spans.now }
+    ensures run { KeepsBeginning AreInPlaces spans.now (take result spans.now) }
 {
-    run_len(cuts)
+    run_len(spans)
 }

@@ -2,9 +2,9 @@
 ghost use Rattle.std.specs.Prelude.{◌≡◌, ℕ, List, false, IsTrue};
 ghost use Rattle.ip_spec.specs.Prefix.{IsPrefix};
 ghost use Rattle.ip_spec.specs.Header.{IsFragmentHeader, IsAuthHeader};
-ghost use Rattle.ip_cuts.specs.HeaderFields.{BeginsWithFragmentHeader, BeginsWithAuthHeader};
+ghost use Rattle.ip_spans.specs.HeaderFields.{BeginsWithFragmentHeader, BeginsWithAuthHeader};
 
-use ip_cuts::{AuthFields, FragmentFields, auth_fields, fragment_fields};
+use ip_spans::{AuthFields, FragmentFields, auth_fields, fragment_fields};
 
 /// Calls `fragment_fields`. Returns whether the bytes start with a fragment header; if so, stores its fields in
 /// `fields`, which is otherwise unchanged.

@@ -1,5 +1,5 @@
 //! The interface for C and other languages: chains of IP extension headers and packets, parsed into plain numbers.
-//! Each function calls one of `ip_cuts`, with its clauses. A slice is a pointer and a length, and may be null if it
+//! Each function calls one of `ip_spans`, with its clauses. A slice is a pointer and a length, and may be null if it
 //! is empty. `include/wolfaren.h` documents the same functions in C.
 #![tactic(auto)]
 

@@ -1,32 +1,32 @@
 //! Packets.
 ghost use Rattle.std.specs.Prelude.{◌≡◌, ◌+◌, ◌≤◌, length, false, IsTrue, Some, None};
 ghost use Rattle.ip_base.specs.Ipv4Header.{version};
-ghost use Rattle.ip_cuts.specs.PacketCut.{IsPacketCut, payload_cut, parts_in, packet_fault, lax_packet_fault};
+ghost use Rattle.ip_spans.specs.PacketParts.{IsPacketParts, payload_span, parts_in, packet_fault, lax_packet_fault};
 
 use crate::bytes::Bytes;
-use ip_cuts::{
-    FaultFields, HeaderCut, PacketCut, PayloadCut, cut_packet, cut_packet_lax, find_payload,
-    find_payload_lax,
+use ip_spans::{
+    FaultFields, HeaderSpan, PacketParts, PayloadSpan, find_payload, find_payload_lax,
+    parse_packet, parse_packet_lax,
 };
 
-/// Calls `cut_packet`. Returns whether the bytes start with a packet. If so, stores it in `packet`, and `fault` is
+/// Calls `parse_packet`. Returns whether the bytes start with a packet. If so, stores it in `packet`, and `fault` is
 /// unchanged; otherwise stores the error in `fault`, and the others are unchanged.
 #[unsafe(no_mangle)]
-pub extern "C" fn wolfaren_cut_packet(
+pub extern "C" fn wolfaren_parse_packet(
     bytes: Bytes<'_>,
-    cuts: &mut [HeaderCut],
-    packet: &mut PacketCut,
+    spans: &mut [HeaderSpan],
+    packet: &mut PacketParts,
     fault: &mut FaultFields,
 ) -> bool
-    ensures packet { IsTrue result → IsPacketCut bytes.entry.slice.now cuts.old packet.new cuts.new }
+    ensures packet { IsTrue result → IsPacketParts bytes.entry.slice.now spans.old packet.new spans.new }
     ensures within { IsTrue result
         → packet.new.payload_offset + packet.new.payload_len ≤ length bytes.entry.slice.now }
     ensures no_fault { IsTrue result
         → (packet_fault bytes.entry.slice.now ≡ None) × (fault.new ≡ fault.old) }
     ensures fault { result ≡ false → packet_fault bytes.entry.slice.now ≡ Some fault.new }
-    ensures same { result ≡ false → (packet.new ≡ packet.old) × (cuts.new ≡ cuts.old) }
+    ensures same { result ≡ false → (packet.new ≡ packet.old) × (spans.new ≡ spans.old) }
 {
-    match cut_packet(bytes.slice(), cuts) {
+    match parse_packet(bytes.slice(), spans) {
         Ok(found) => {
             packet.put(found);
             true
@@ -38,23 +38,23 @@ pub extern "C" fn wolfaren_cut_packet(
     }
 }
 
-/// Calls `cut_packet_lax`, as `wolfaren_cut_packet` calls `cut_packet`.
+/// Calls `parse_packet_lax`, as `wolfaren_parse_packet` calls `parse_packet`.
 #[unsafe(no_mangle)]
-pub extern "C" fn wolfaren_cut_packet_lax(
+pub extern "C" fn wolfaren_parse_packet_lax(
     bytes: Bytes<'_>,
-    cuts: &mut [HeaderCut],
-    packet: &mut PacketCut,
+    spans: &mut [HeaderSpan],
+    packet: &mut PacketParts,
     fault: &mut FaultFields,
 ) -> bool
-    ensures packet { IsTrue result → IsPacketCut bytes.entry.slice.now cuts.old packet.new cuts.new }
+    ensures packet { IsTrue result → IsPacketParts bytes.entry.slice.now spans.old packet.new spans.new }
     ensures within { IsTrue result
         → packet.new.payload_offset + packet.new.payload_len ≤ length bytes.entry.slice.now }
     ensures no_fault { IsTrue result
         → (lax_packet_fault bytes.entry.slice.now ≡ None) × (fault.new ≡ fault.old) }
     ensures fault { result ≡ false → lax_packet_fault bytes.entry.slice.now ≡ Some fault.new }
-    ensures same { result ≡ false → (packet.new ≡ packet.old) × (cuts.new ≡ cuts.old) }
+    ensures same { result ≡ false → (packet.new ≡ packet.old) × (spans.new ≡ spans.old) }
 {
-    match cut_packet_lax(bytes.slice(), cuts) {
+    match parse_packet_lax(bytes.slice(), spans) {
         Ok(found) => {
             packet.put(found);
             true
@@ -71,11 +71,11 @@ pub extern "C" fn wolfaren_cut_packet_lax(
 #[unsafe(no_mangle)]
 pub extern "C" fn wolfaren_find_payload(
     bytes: Bytes<'_>,
-    payload: &mut PayloadCut,
+    payload: &mut PayloadSpan,
     fault: &mut FaultFields,
 ) -> bool
     ensures payload { IsTrue result
-        → payload.new ≡ payload_cut (version bytes.entry.slice.now) (parts_in bytes.entry.slice.now) }
+        → payload.new ≡ payload_span (version bytes.entry.slice.now) (parts_in bytes.entry.slice.now) }
     ensures within { IsTrue result
         → payload.new.offset + payload.new.len ≤ length bytes.entry.slice.now }
     ensures no_fault { IsTrue result
@@ -99,11 +99,11 @@ pub extern "C" fn wolfaren_find_payload(
 #[unsafe(no_mangle)]
 pub extern "C" fn wolfaren_find_payload_lax(
     bytes: Bytes<'_>,
-    payload: &mut PayloadCut,
+    payload: &mut PayloadSpan,
     fault: &mut FaultFields,
 ) -> bool
     ensures payload { IsTrue result
-        → payload.new ≡ payload_cut (version bytes.entry.slice.now) (parts_in bytes.entry.slice.now) }
+        → payload.new ≡ payload_span (version bytes.entry.slice.now) (parts_in bytes.entry.slice.now) }
     ensures within { IsTrue result
         → payload.new.offset + payload.new.len ≤ length bytes.entry.slice.now }
     ensures no_fault { IsTrue result

@@ -1,42 +1,42 @@
 //! Headers linked and written.
 ghost use Rattle.std.specs.Prelude.{◌≡◌, ◌≤◌, ◌<◌, ◌^◌, ℕ, length, false, IsTrue};
 ghost use Rattle.ip_spec.specs.Chain.{IsChain};
-ghost use Rattle.ip_cuts.specs.LinkedCuts.{first_number, linked_cuts};
-ghost use Rattle.ip_cuts.specs.Written.{AllLieIn, written_cuts, written_chain, begun_with, AreChainCuts};
+ghost use Rattle.ip_spans.specs.LinkedSpans.{first_number, linked_spans};
+ghost use Rattle.ip_spans.specs.Written.{AllLieIn, written_spans, written_chain, begun_with, AreChainSpans};
 
-use ip_cuts::{HeaderCut, link_headers, write_headers};
+use ip_spans::{HeaderSpan, link_headers, write_headers};
 
 /// Calls `link_headers`.
 #[unsafe(no_mangle)]
-pub extern "C" fn wolfaren_link_headers(cuts: &mut [HeaderCut], last: u8) -> u8
-    ensures links { cuts.new ≡ linked_cuts last cuts.old }
-    ensures first { result ≡ first_number last cuts.old }
+pub extern "C" fn wolfaren_link_headers(spans: &mut [HeaderSpan], last: u8) -> u8
+    ensures links { spans.new ≡ linked_spans last spans.old }
+    ensures first { result ≡ first_number last spans.old }
 {
-    link_headers(cuts, last)
+    link_headers(spans, last)
 }
 
 /// Calls `write_headers`. Returns whether the headers were written, and stores their length in bytes in `len`, which
-/// is 0 if a cut doesn't refer to a header of its number.
+/// is 0 if a span doesn't refer to a header of its number.
 #[unsafe(no_mangle)]
 pub extern "C" fn wolfaren_write_headers(
     bytes: &[u8],
-    cuts: &[HeaderCut],
+    spans: &[HeaderSpan],
     out: &mut [u8],
     len: &mut usize,
 ) -> bool
-    ensures lie { IsTrue result → AllLieIn bytes.now cuts.now }
-    ensures len { IsTrue result → len.new ≡ length (written_cuts bytes.now cuts.now) }
+    ensures lie { IsTrue result → AllLieIn bytes.now spans.now }
+    ensures len { IsTrue result → len.new ≡ length (written_spans bytes.now spans.now) }
     ensures written { IsTrue result
-        → out.new ≡ begun_with (written_cuts bytes.now cuts.now) out.old }
-    ensures chain { IsTrue result → (n : ℕ) → AreChainCuts n cuts.now
-        → IsChain n (written_chain bytes.now cuts.now) }
+        → out.new ≡ begun_with (written_spans bytes.now spans.now) out.old }
+    ensures chain { IsTrue result → (n : ℕ) → AreChainSpans n spans.now
+        → IsChain n (written_chain bytes.now spans.now) }
     ensures same { result ≡ false → out.new ≡ out.old }
     ensures full { result ≡ false → 0 < len.new → (length out.old < len.new)
-        × (len.new ≡ length (written_cuts bytes.now cuts.now)) }
-    ensures none { result ≡ false → len.new ≡ 0 → AllLieIn bytes.now cuts.now
-        → length (written_cuts bytes.now cuts.now) < 2 ^ 64 → ⊥ }
+        × (len.new ≡ length (written_spans bytes.now spans.now)) }
+    ensures none { result ≡ false → len.new ≡ 0 → AllLieIn bytes.now spans.now
+        → length (written_spans bytes.now spans.now) < 2 ^ 64 → ⊥ }
 {
-    match write_headers(bytes, cuts, out) {
+    match write_headers(bytes, spans, out) {
         Some(needed) => {
             *len = needed;
             needed <= out.len()

@@ -280,7 +280,7 @@ fn begin<T>(reader: T, start: &IpextsStart) -> LimitedReader<T> {
 }
 
 /// Reads some bytes and then one value, and returns the state of the limit after it.
-fn read_behind<T: ExactRead>(
+fn read_after<T: ExactRead>(
     what: What,
     start: &IpextsStart,
     reader: &mut LimitedReader<T>,
@@ -362,11 +362,11 @@ pub extern "C" fn ipexts_read_limited_fields(
     let mut appended = Vec::new(alloc);
     let (told, left) = if is_over {
         let mut reader = begin(OverRead::new(bytes), limit);
-        let told = read_behind(what, limit, &mut reader, &mut appended);
+        let told = read_after(what, limit, &mut reader, &mut appended);
         (told, reader.take_reader().into_inner().len())
     } else {
         let mut reader = begin(bytes, limit);
-        let told = read_behind(what, limit, &mut reader, &mut appended);
+        let told = read_after(what, limit, &mut reader, &mut appended);
         (told, reader.take_reader().len())
     };
     *out = with_ends(told, left, appended.as_slice(), written);

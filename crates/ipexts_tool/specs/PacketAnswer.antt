@@ -8,7 +8,7 @@ use Rattle.ip_base.specs.Names.{len_source_name}
 use Rattle.ip_spec.specs.Chain.{bytes_of}
 use Rattle.etherparse_ip.specs.declared.err.ip.slice_error.SliceError.{SliceError}
 use Rattle.etherparse_ip.specs.Packet.{Parts}
-use Rattle.etherparse_ip.specs.Cut.{ipv4_cut, ipv6_cut}
+use Rattle.etherparse_ip.specs.PartsIn.{ipv4_parts_in, ipv6_parts_in}
 use Rattle.etherparse_ip.specs.PacketFault.{ip_fault}
 use Rattle.ipexts_tool.specs.Faults.{packet_fault_text}
 use Rattle.ipexts_tool.specs.Parts.{ok_line}
@@ -36,10 +36,10 @@ parts_lines name p =
     ++ payload_line p.number p.fragmented p.source ++ ok_line
 
 -- the parts of the packet at the start of bytes
-abbrev pub cut_lines : List ℕ → List ℕ
-cut_lines bytes =
-    if version bytes == 4 then parts_lines (codes "ipv4") (ipv4_cut bytes)
-    else parts_lines (codes "ipv6") (ipv6_cut bytes)
+abbrev pub packet_part_lines : List ℕ → List ℕ
+packet_part_lines bytes =
+    if version bytes == 4 then parts_lines (codes "ipv4") (ipv4_parts_in bytes)
+    else parts_lines (codes "ipv6") (ipv6_parts_in bytes)
 
 -- the error of a packet
 abbrev pub fault_line : SliceError → List ℕ
@@ -47,7 +47,7 @@ fault_line fault = packet_fault_text fault ++ codes "\n"
 
 -- the packet's parts, or its error
 abbrev pub packet_lines : Option SliceError → List ℕ → List ℕ
-packet_lines None bytes = cut_lines bytes
+packet_lines None bytes = packet_part_lines bytes
 packet_lines (Some fault) bytes = fault_line fault
 
 unfoldable pub packet_answer : List ℕ → List ℕ

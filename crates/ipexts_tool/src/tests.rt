@@ -170,7 +170,7 @@ const MORE_ROWS: [Row; 21] = [
         b"next 51 rest 12\nfault ZeroPayloadLen in IpAuthHeader\n",
     ),
     (
-        "a fragment header cut short",
+        "a truncated fragment header",
         b"exts6 44 2c00000000000001110000\n",
         b"0 frag 8\nnext 44 rest 3\nfault len 8 of 3 Slice Ipv6FragHeader at 8 in Ipv6FragHeader\n",
     ),
@@ -207,7 +207,7 @@ const MORE_ROWS: [Row; 21] = [
         b"next 17 rest 0\nwritten 110100000000000100000002\nok\n",
     ),
     (
-        "a place that is taken",
+        "a place that is consumed",
         b"rewrite6 60 3c000000000000001100000000000000\n",
         b"next 60 rest 8\nwritten 3c00000000000000\nok\n",
     ),

@@ -92,9 +92,9 @@ mod tests {
     }
 
     /// Makes an IPv6 packet with a payload length, a next header, and these bytes after its IPv6 header.
-    fn ipv6(payload_length: u8, next: u8, behind: &str) -> String {
+    fn ipv6(payload_length: u8, next: u8, after: &str) -> String {
         format!(
-            "60000000{payload_length:04x}{next:02x}40{}{behind}",
+            "60000000{payload_length:04x}{next:02x}40{}{after}",
             "00".repeat(32)
         )
     }
@@ -102,8 +102,8 @@ mod tests {
     /// The source of an error in the headers is the slice if the payload length is 0, and nothing else changes.
     #[test]
     fn the_source_of_a_fault_in_the_headers_is_the_one_really_used() {
-        for (next, behind) in [(60, "2b00000000000000"), (44, "11"), (51, "1101")] {
-            let hex = ipv6(0, next, behind);
+        for (next, after) in [(60, "2b00000000000000"), (44, "11"), (51, "1101")] {
+            let hex = ipv6(0, next, after);
             let (original, named) = answer(&hex, Changes::NONE);
             assert!(original.contains(" Ipv6HeaderPayloadLen ") && named.is_empty());
             let (expected, named) = answer(&hex, Changes::ALL);

@@ -68,7 +68,7 @@ fn all_runs(start: u8, bytes: &[u8]) -> Runs {
     let (mut number, mut rest) = (IpNumber(start), bytes);
     loop {
         let offset = bytes.len() - rest.len();
-        let (headers, next, behind, fault) = Ipv6Extensions::from_slice_lax(number, rest);
+        let (headers, next, after, fault) = Ipv6Extensions::from_slice_lax(number, rest);
         // From number 0 the original's `write` panics if there are no hop-by-hop options. In that case nothing was
         // read.
         if !headers.is_empty() {
@@ -77,7 +77,7 @@ fn all_runs(start: u8, bytes: &[u8]) -> Runs {
                 .expect("headers that were read are all reached");
         }
         count += 1;
-        (number, rest) = (next, behind);
+        (number, rest) = (next, after);
         if fault.is_some() || !EXTENSIONS.contains(&number.0) {
             return Runs {
                 count,

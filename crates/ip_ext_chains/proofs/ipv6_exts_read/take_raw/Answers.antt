@@ -1,14 +1,14 @@
 use Rattle.ip_spec.proofs.Common.{rules, arith, ◌≡◌, ◌+◌, ◌++◌, length, refl, [], Consumes-nil, Consumes-trans, RawAsks, raw_start, raw_rest}
 use Rattle.ip_spec.proofs.RequestLemmas.{raw_joined, raw_joined_fields}
-use Rattle.ip_base.proofs.ReadingLemmas.{refused_behind}
+use Rattle.ip_base.proofs.ReadingLemmas.{refused_after}
 use Rattle.ip_ext_chains.proofs.ipv6_exts_read.take_raw.Goals as goal
 
 pub returns-in-Err-clause-refused : goal.returns-in-Err-clause-refused
-returns-in-Err-clause-refused g c = refused_behind RawAsks _ _ _ _ _ [] _ refl (Consumes-nil _) (raw_start refl refl) c.in-Err.ensures.refuses
+returns-in-Err-clause-refused g c = refused_after RawAsks _ _ _ _ _ [] _ refl (Consumes-nil _) (raw_start refl refl) c.in-Err.ensures.refuses
 
 pub returns-in-Err-read_exact-clause-refused : goal.returns-in-Err-read_exact-clause-refused
 returns-in-Err-read_exact-clause-refused g c =
-    refused_behind RawAsks _ _ _ _ _ c.read_exact.new.buf _ c.in-Ok.ensures.steady c.in-Ok.ensures.takes (raw_rest (omega arith) (search rules)) c.in-Err-read_exact.ensures.refuses
+    refused_after RawAsks _ _ _ _ _ c.read_exact.new.buf _ c.in-Ok.ensures.steady c.in-Ok.ensures.takes (raw_rest (omega arith) (search rules)) c.in-Err-read_exact.ensures.refuses
 
 pub returns-in-Ok-read_exact-clause-header : goal.returns-in-Ok-read_exact-clause-header
 returns-in-Ok-read_exact-clause-header g c =
@@ -17,5 +17,5 @@ returns-in-Ok-read_exact-clause-header g c =
       bytes = c.read_exact.new.buf ++ c.read_exact-2.new.buf;
       header = raw_joined c.read_exact.new.buf c.read_exact-2.new.buf e (search rules);
       fields = raw_joined_fields c.read_exact.new.buf c.read_exact-2.new.buf e;
-      taken = Consumes-trans _ _ _ c.read_exact.new.buf c.read_exact-2.new.buf c.in-Ok.ensures.takes c.in-Ok-read_exact.ensures.takes;
+      consumed = Consumes-trans _ _ _ c.read_exact.new.buf c.read_exact-2.new.buf c.in-Ok.ensures.takes c.in-Ok-read_exact.ensures.takes;
     }

@@ -8,6 +8,6 @@ abbrev pub invariant-loop-header : goal.invariant-loop-header
 invariant-loop-header l = record {
   lines : string_bytes l.text ++ header_lines l.offset (map plain_header_of (drop l.header-index l.headers))
       ≡ string_bytes l.fn.text ++ header_lines 0 (map plain_header_of l.headers);
-  behind : l.offset + length (bytes_of (map plain_header_of (drop l.header-index l.headers)))
+  after : l.offset + length (bytes_of (map plain_header_of (drop l.header-index l.headers)))
       ≡ length (bytes_of (map plain_header_of l.headers));
 }

@@ -4,10 +4,10 @@ use Rattle.ip_uses.proofs.chains.keeps_all_headers.Goals as goal
 
 pub returns : goal.returns
 returns c =
-    let cut = c.from_slice_lax.ensures.cut c.args.snap in
+    let truncated = c.from_slice_lax.ensures.truncated c.args.snap in
     let whole = c.from_slice_lax.ensures.answer.value in
     let within = all_within c.args.snap _ in
     let joined = ap length c.slice.ensures.joined in (
-      λ told. cut ∙ within.0 (omega (arith, leb-true _ _ told, joined)) ∙ whole,
-      λ same. le-leb _ _ (omega (arith, joined, within.1 (sym cut ∙ same ∙ sym whole))),
+      λ told. truncated ∙ within.0 (omega (arith, leb-true _ _ told, joined)) ∙ whole,
+      λ same. le-leb _ _ (omega (arith, joined, within.1 (sym truncated ∙ same ∙ sym whole))),
     )

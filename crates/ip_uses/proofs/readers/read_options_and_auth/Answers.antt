@@ -5,4 +5,4 @@ pub returns-in-Ok-read : goal.returns-in-Ok-read
 returns-in-Ok-read g c =
     let o = c.in-Ok.ensures.header in
     let a = c.in-Ok-read.ensures.header in
-    (o.bytes, a.bytes, o.header, o.fields, a.header, a.fields, Consumes-trans _ _ _ o.bytes a.bytes o.taken a.taken)
+    (o.bytes, a.bytes, o.header, o.fields, a.header, a.fields, Consumes-trans _ _ _ o.bytes a.bytes o.consumed a.consumed)

@@ -1,5 +1,5 @@
 use Rattle.ip_spec.proofs.Common.{ap, sym, ◌∙◌, refl, Some}
-use Rattle.ip_cuts.specs.PacketCut.{packet_fault}
+use Rattle.ip_spans.specs.PacketParts.{packet_fault}
 use Rattle.ipexts_c.proofs.packets.wolfaren_find_payload.Goals as goal
 
 pub returns-in-Ok-clause-no_fault : goal.returns-in-Ok-clause-no_fault

@@ -8,5 +8,5 @@ fill-requires-clause-numbers c = walked_numbers _ _ _ _ _ _ c.take_places-fault.
 pub returns-clause-answer : goal.returns-clause-answer
 returns-clause-answer c = walked_answer _ _ _ _ _ _ c.take_places-fault.ensures _ _ c.fill.ensures refl
 
-pub returns-clause-cut : goal.returns-clause-cut
-returns-clause-cut c = λ j. fitting_shorter _ j _
+pub returns-clause-truncated : goal.returns-clause-truncated
+returns-clause-truncated c = λ j. fitting_shorter _ j _

@@ -1,6 +1,6 @@
 use Rattle.ip_spec.proofs.Common.{◌≡◌, ◌∷◌, ◌++◌, refl, sym, ◌∙◌, arith, [], ExtHeader}
-use Rattle.ip_ext_chains.proofs.ReadingLemmas.{reading_next, nested, is_number_in, not_taken, fewer, later, zero_not_taken, no_place_answers}
-use Rattle.ip_ext_chains.proofs.ReadErrorLemmas.{taken_next, refused_as, refused_error}
+use Rattle.ip_ext_chains.proofs.ReadingLemmas.{reading_next, nested, is_number_in, not_occupied, fewer, later, zero_not_occupied, no_place_answers}
+use Rattle.ip_ext_chains.proofs.ReadErrorLemmas.{consumed_next, refused_as, refused_error}
 use Rattle.ip_base.specs.declared.err.ipv6_exts.header_error.HeaderError.TheVariants.{HopByHopNotAtStart}
 use Rattle.ip_ext_chains.specs.declared.err.ipv6_exts.header_read_error.HeaderReadError.TheVariants as read
 use Rattle.ip_ext_chains.proofs.ipv6_exts.Ipv6Extensions.read_headers.Goals as goal
@@ -10,7 +10,7 @@ headers-preserved g c =
     let h : ExtHeader = record { number = c.headers.number.0; bytes = c.in-Ok.ensures.ok.bytes } in (
       c.headers.invariant.0 ++ h ∷ [],
       reading_next _ _ _ _ _ c.headers.invariant.1 _ c.in-Some.ensures.next _ _ _ c.in-Ok.ensures.ok,
-      taken_next _ _ _ _ _ _ c.headers.invariant.0 h c.headers.invariant.2 c.in-Ok.ensures.ok.taken c.in-Ok.ensures.steady c.in-Ok.ensures.kept,
+      consumed_next _ _ _ _ _ _ c.headers.invariant.0 h c.headers.invariant.2 c.in-Ok.ensures.ok.consumed c.in-Ok.ensures.steady c.in-Ok.ensures.kept,
     )
 
 pub headers-smaller : goal.headers-smaller
@@ -24,9 +24,9 @@ returns-in-Err-clause-refused g c =
       headers = came.0;
       chain = came.1.chain;
       fits = came.1.fits;
-      free = not_taken _ _ _ _ _ came.1 _ next;
+      free = not_occupied _ _ _ _ _ came.1 _ next;
       between = c.headers.reader;
-      taken = came.2;
+      consumed = came.2;
       refused = refused_as g.T.ExactRead.bytes_left g.T.ExactRead.is_steady g.T.ExactRead.has_failed c.in-Err.e _ _ _ _ _ c.in-Err.ensures.refused
           (sym came.1.number ∙ is_number_in _ _ _ _ _ came.1 _ next) (λ z. sym came.1.none_yet ∙ next.zero_first (came.1.number ∙ z));
     }
@@ -42,9 +42,9 @@ returns-then-eq-clause-refused g c =
       headers = came.0;
       chain = came.1.chain;
       fits = came.1.fits;
-      free = zero_not_taken _ _ _ _ _ came.1 zero_number;
+      free = zero_not_occupied _ _ _ _ _ came.1 zero_number;
       between = c.headers.reader;
-      taken = came.2;
+      consumed = came.2;
       refused = (sym came.1.number ∙ zero_number, later _ _ _ _ _ came.1 zero_number c.in_default.ensures.none, refl);
     }
 
@@ -54,4 +54,4 @@ returns-then-eq-clause-fault g c = refused_error g.T.ExactRead.bytes_left g.T.Ex
 pub returns-clause-answer : goal.returns-clause-answer
 returns-clause-answer g c =
     let came = c.headers.invariant in
-    record { headers = came.0; chain = came.1.chain; taken = came.2; answer = no_place_answers _ _ _ _ _ came.1 (grind arith) c.in_default.ensures.none }
+    record { headers = came.0; chain = came.1.chain; consumed = came.2; answer = no_place_answers _ _ _ _ _ came.1 (grind arith) c.in_default.ensures.none }

@@ -11,16 +11,16 @@ returns-then-not-is_empty c =
     (rw c.next_number.ensures (longest_chain-longest _ _).has.chain) _ _ _ (c.slice-len.ensures.joined ∙ sym (ap bytes_of c.into_iter-headers.ensures.headers))
     c.take_run-places.new.headers.whole (rw (sym c.rest-left.ensures) (take_rest c.args.bytes.now _))
 
-pub returns-then-is_taken : goal.returns-then-is_taken
-returns-then-is_taken c =
+pub returns-then-is_occupied : goal.returns-then-is_occupied
+returns-then-is_occupied c =
     walk_ends _ _ _ _ _ c.take_run-places.ensures (c.into_iter-headers.ensures.headers ∙ c.from_slice_lax-fault.ensures.answer.value)
     (none_left _ _ c.take_run-places.new.headers.whole (rw (sym c.rest-left.ensures) (sym c.is_empty.ensures ∙ c.if-not-is_empty.false))) _ _ _ _
     c.from_slice_lax-fault.ensures.answer.number c.from_slice_lax-fault.ensures.answer.rest c.from_slice_lax-fault.ensures.answer.fault
-    (sym (ap (λ b. if b then None else c.from_slice_lax-fault.result.3) (sym c.is_taken.ensures ∙ c.if-is_taken.true)))
+    (sym (ap (λ b. if b then None else c.from_slice_lax-fault.result.3) (sym c.is_occupied.ensures ∙ c.if-is_occupied.true)))
 
 pub returns : goal.returns
 returns c =
     walk_ends _ _ _ _ _ c.take_run-places.ensures (c.into_iter-headers.ensures.headers ∙ c.from_slice_lax-fault.ensures.answer.value)
     (none_left _ _ c.take_run-places.new.headers.whole (rw (sym c.rest-left.ensures) (sym c.is_empty.ensures ∙ c.if-not-is_empty.false))) _ _ _ _
     c.from_slice_lax-fault.ensures.answer.number c.from_slice_lax-fault.ensures.answer.rest c.from_slice_lax-fault.ensures.answer.fault
-    (sym (ap (λ b. if b then None else c.from_slice_lax-fault.result.3) (sym c.is_taken.ensures ∙ c.if-is_taken.false)))
+    (sym (ap (λ b. if b then None else c.from_slice_lax-fault.result.3) (sym c.is_occupied.ensures ∙ c.if-is_occupied.false)))

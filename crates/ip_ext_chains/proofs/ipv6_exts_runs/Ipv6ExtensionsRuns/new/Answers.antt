@@ -10,8 +10,8 @@ returns-clause-runs c = (runs_from-are _ _ _ _ c.from_slice_lax.ensures.answer.n
 pub returns-clause-values : goal.returns-clause-values
 returns-clause-values c = ap (map value_of) (runs_from-are _ _ _ _ c.from_slice_lax.ensures.answer.number (c.into_iter.ensures.headers ∙ c.from_slice_lax.ensures.answer.value)).same
 
-pub returns-clause-cut : goal.returns-clause-cut
-returns-clause-cut c = (runs_from-are _ _ _ _ c.from_slice_lax.ensures.answer.number (c.into_iter.ensures.headers ∙ c.from_slice_lax.ensures.answer.value)).runs
+pub returns-clause-partition : goal.returns-clause-partition
+returns-clause-partition c = (runs_from-are _ _ _ _ c.from_slice_lax.ensures.answer.number (c.into_iter.ensures.headers ∙ c.from_slice_lax.ensures.answer.value)).runs
 
 pub returns-clause-only : goal.returns-clause-only
 returns-clause-only c = (runs_from-are _ _ _ _ c.from_slice_lax.ensures.answer.number (c.into_iter.ensures.headers ∙ c.from_slice_lax.ensures.answer.value)).only

@@ -1,7 +1,7 @@
 use Rattle.ip_spec.proofs.Common.{refl, ap, length, arith}
 use Rattle.ip_ext_slices.proofs.LongestLemmas.{longest_chain-longest}
 use Rattle.ip_ext_chains.proofs.RunLemmas.{run_numbers, run_next, run_passes}
-use Rattle.ip_ext_chains.proofs.RunNumberLemmas.{run_leads, ends_behind, bytes_behind}
+use Rattle.ip_ext_chains.proofs.RunNumberLemmas.{run_leads, ends_after, bytes_after}
 use Rattle.ip_ext_chains.proofs.ipv6_exts_runs.Ipv6ExtensionsRunsIterator.next.Goals as goal
 
 pub fill-requires-clause-numbers : goal.fill-requires-clause-numbers
@@ -35,7 +35,7 @@ invariant_of-self c =
     record {
       leads = r.leads;
       after = r.after;
-      ends = ends_behind _ _ _ _ _ chain r.ends c.take_run-places.ensures;
-      are_bytes = bytes_behind _ r.number.0 _ _ _ chain r.ends c.take_run-places.ensures r.are_bytes;
+      ends = ends_after _ _ _ _ _ chain r.ends c.take_run-places.ensures;
+      are_bytes = bytes_after _ r.number.0 _ _ _ chain r.ends c.take_run-places.ensures r.are_bytes;
       last = λ done. (c.is_last-self.ensures.last done).0;
     }

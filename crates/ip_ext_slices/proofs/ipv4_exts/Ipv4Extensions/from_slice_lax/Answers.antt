@@ -10,5 +10,5 @@ are_bytes s small = All-from_get_or (λ x. x < 256) s 0 (λ i l. small i)
 pub returns-clause-cleared : goal.returns-clause-cleared
 returns-clause-cleared c = rw (c.fill.ensures, c.scan-fault.ensures.value) (cleared_encodes _ _ (are_bytes _ (λ i. let f = c.type_inv.start_slice i in omega arith)))
 
-pub returns-clause-cut : goal.returns-clause-cut
-returns-clause-cut c = λ j. ipv4_longest-shorter _ j _
+pub returns-clause-truncated : goal.returns-clause-truncated
+returns-clause-truncated c = λ j. ipv4_longest-shorter _ j _

@@ -1,24 +1,24 @@
 use Rattle.ip_spec.proofs.Common.{sym, arith, [], append-nil}
-use Rattle.ip_ext_slices.proofs.Ipv4WalkLemmas.{one_ipv4_encoding, one_ipv4_encoded, none_encodes, one_encodes, written, encoding_read, encoding_read_again}
+use Rattle.ip_ext_slices.proofs.Ipv4WalkLemmas.{one_ipv4_encoding, one_ipv4_encoded, none_encodes, one_encodes, written, encoding_parsed, encoding_parsed_again}
 use Rattle.ip_ext_slices.proofs.ipv4_exts.Ipv4Extensions.write.Goals as goal
 
 pub returns-in_default-clause-ok : goal.returns-in_default-clause-ok
 returns-in_default-clause-ok g c = ([], none_encodes _ _ c.in_default.is, sym (append-nil _))
 
-pub returns-in_default-clause-read_again : goal.returns-in_default-clause-read_again
-returns-in_default-clause-read_again g c = λ b r m appended. encoding_read_again _ _ m b r (written _ _ _ _ b (returns-in_default-clause-ok g c) appended)
+pub returns-in_default-clause-parsed_again : goal.returns-in_default-clause-parsed_again
+returns-in_default-clause-parsed_again g c = λ b r m appended. encoding_parsed_again _ _ m b r (written _ _ _ _ b (returns-in_default-clause-ok g c) appended)
 
-pub returns-in_default-clause-read_whole : goal.returns-in_default-clause-read_whole
-returns-in_default-clause-read_whole g c = λ b m appended. encoding_read _ _ m b (written _ _ _ _ b (returns-in_default-clause-ok g c) appended)
+pub returns-in_default-clause-parsed_whole : goal.returns-in_default-clause-parsed_whole
+returns-in_default-clause-parsed_whole g c = λ b m appended. encoding_parsed _ _ m b (written _ _ _ _ b (returns-in_default-clause-ok g c) appended)
 
 pub returns-in-Ok-clause-ok : goal.returns-in-Ok-clause-ok
 returns-in-Ok-clause-ok g c = let (b, encodes, appended) = c.in-Ok.ensures.ok in (b, one_encodes _ _ _ b (grind arith) c.in-Some.is c.encodable.ensures encodes, appended)
 
-pub returns-in-Ok-clause-read_again : goal.returns-in-Ok-clause-read_again
-returns-in-Ok-clause-read_again g c = λ b r m appended. encoding_read_again _ _ m b r (written _ _ _ _ b (returns-in-Ok-clause-ok g c) appended)
+pub returns-in-Ok-clause-parsed_again : goal.returns-in-Ok-clause-parsed_again
+returns-in-Ok-clause-parsed_again g c = λ b r m appended. encoding_parsed_again _ _ m b r (written _ _ _ _ b (returns-in-Ok-clause-ok g c) appended)
 
-pub returns-in-Ok-clause-read_whole : goal.returns-in-Ok-clause-read_whole
-returns-in-Ok-clause-read_whole g c = λ b m appended. encoding_read _ _ m b (written _ _ _ _ b (returns-in-Ok-clause-ok g c) appended)
+pub returns-in-Ok-clause-parsed_whole : goal.returns-in-Ok-clause-parsed_whole
+returns-in-Ok-clause-parsed_whole g c = λ b m appended. encoding_parsed _ _ m b (written _ _ _ _ b (returns-in-Ok-clause-ok g c) appended)
 
 pub returns-in-Err-clause-only : goal.returns-in-Err-clause-only
 returns-in-Err-clause-only g c = one_ipv4_encoding _ _

@@ -9,8 +9,8 @@ returns-in-Ok-clause-answer c =
 pub returns-in-Err-clause-answer : goal.returns-in-Err-clause-answer
 returns-in-Err-clause-answer c = answer_of_fault (λ d. d) _ _ _ _ (grind arith) c.in-Err.ensures.none c.in-Err.ensures.fault refl
 
-pub returns-in-Ok-clause-cut : goal.returns-in-Ok-clause-cut
-returns-in-Ok-clause-cut c = λ j. ipv4_longest-shorter _ j _ ∙ ap (headers_within j) (sym (returns-in-Ok-clause-answer c).value)
+pub returns-in-Ok-clause-truncated : goal.returns-in-Ok-clause-truncated
+returns-in-Ok-clause-truncated c = λ j. ipv4_longest-shorter _ j _ ∙ ap (headers_within j) (sym (returns-in-Ok-clause-answer c).value)
 
-pub returns-in-Err-clause-cut : goal.returns-in-Err-clause-cut
-returns-in-Err-clause-cut c = λ j. ipv4_longest-shorter _ j _ ∙ ap (headers_within j) (sym (returns-in-Err-clause-answer c).value)
+pub returns-in-Err-clause-truncated : goal.returns-in-Err-clause-truncated
+returns-in-Err-clause-truncated c = λ j. ipv4_longest-shorter _ j _ ∙ ap (headers_within j) (sym (returns-in-Err-clause-answer c).value)

@@ -14,12 +14,12 @@ pub returns-then-not-is_extension-clause-answer : goal.returns-then-not-is_exten
 returns-then-not-is_extension-clause-answer c =
     let x = c.args.self.now in
     let other : IsExtensionNumber x.number.0 → ⊥ = λ e. let no : true ≡ false = sym (c.is_extension.ensures.1 e) ∙ c.if-not-is_extension.true in cc in
-    (cursor_at_end x.first.0 x.bytes.now _ x.number.0 x.rest.now x.leads x.behind (end_at_other _ x.number.0 x.rest.now other)).answers None (sym (no_fault_at_other Slice _ _ x.number.0 x.rest.now _ other))
+    (cursor_at_end x.first.0 x.bytes.now _ x.number.0 x.rest.now x.leads x.after (end_at_other _ x.number.0 x.rest.now other)).answers None (sym (no_fault_at_other Slice _ _ x.number.0 x.rest.now _ other))
 
 pub fault-fault-requires : goal.fault-fault-requires
 fault-fault-requires c =
     let x = c.args.self.now in
-    fault_at_end Slice _ _ _ _ _ (c.is_extension.ensures.0 c.if-not-is_extension.false) (cursor_at_end _ _ _ _ _ x.leads x.behind c.in-None.ensures.end).ends
+    fault_at_end Slice _ _ _ _ _ (c.is_extension.ensures.0 c.if-not-is_extension.false) (cursor_at_end _ _ _ _ _ x.leads x.after c.in-None.ensures.end).ends
 
 pub returns-in-Some-clause-before : goal.returns-in-Some-clause-before
 returns-in-Some-clause-before c = λ e. let no : _ ∷ _ ≡ [] = sym (longest_from-next _ _ _ _ c.in-Some.ensures.next) ∙ e in cc
@@ -28,4 +28,4 @@ pub returns-in-None-clause-last : goal.returns-in-None-clause-last
 returns-in-None-clause-last c = longest_from-end _ _ _ c.in-None.ensures.end
 
 pub returns-in-None-clause-answer : goal.returns-in-None-clause-answer
-returns-in-None-clause-answer c = (cursor_at_end _ _ _ _ _ c.args.self.now.leads c.args.self.now.behind c.in-None.ensures.end).answers _ (sym c.fault-fault.ensures)
+returns-in-None-clause-answer c = (cursor_at_end _ _ _ _ _ c.args.self.now.leads c.args.self.now.after c.in-None.ensures.end).answers _ (sym c.fault-fault.ensures)

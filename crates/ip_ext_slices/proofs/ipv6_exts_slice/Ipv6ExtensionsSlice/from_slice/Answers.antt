@@ -2,13 +2,13 @@ use Rattle.ip_spec.proofs.Common.{◌∙◌, ap, option_map}
 use Rattle.ip_base.specs.declared.len_source.LenSource.TheVariants.{Slice}
 use Rattle.ip_ext_slices.specs.ChainFault.{Fault}
 use Rattle.ip_ext_slices.proofs.FaultLemmas.{fault_at_end}
-use Rattle.ip_ext_slices.proofs.ParseLemmas.{ends_behind, chain_fault_is}
+use Rattle.ip_ext_slices.proofs.ParseLemmas.{ends_after, chain_fault_is}
 use Rattle.ip_ext_slices.proofs.ipv6_exts_slice.Ipv6ExtensionsSlice.from_slice.Goals as goal
 
 pub error_at-requires : goal.error_at-requires
 error_at-requires c =
     let scanned = c.scan-len.ensures in
-    fault_at_end Slice _ _ _ _ _ (c.is_extension.ensures.0 c.if-is_extension.true) (ends_behind _ _ _ scanned.len _ _ scanned.number scanned.rest)
+    fault_at_end Slice _ _ _ _ _ (c.is_extension.ensures.0 c.if-is_extension.true) (ends_after _ _ _ scanned.len _ _ scanned.number scanned.rest)
 
 pub returns-then-is_extension-clause-fault : goal.returns-then-is_extension-clause-fault
 returns-then-is_extension-clause-fault c =

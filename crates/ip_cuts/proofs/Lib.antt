@@ -1,3 +1,0 @@
-pub mod PacketCutLemmas
-pub mod RunLemmas
-pub mod WrittenLemmas

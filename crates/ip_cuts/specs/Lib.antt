@@ -1,9 +1,0 @@
-pub mod HeaderCut
-pub mod FaultFields
-pub mod ChainCut
-pub mod ChainCursor
-pub mod PacketCut
-pub mod HeaderFields
-pub mod LinkedCuts
-pub mod InPlaces
-pub mod Written

@@ -1,0 +1,3 @@
+pub mod PacketPartsLemmas
+pub mod RunLemmas
+pub mod WrittenLemmas

@@ -1,0 +1,146 @@
+-- An error in plain fields for C callers.
+use Rattle.std.specs.Prelude.{ℕ, Option, Some, None}
+use Rattle.ip_base.specs.declared.err.len_error.LenError.{LenError}
+use Rattle.ip_base.specs.declared.err.layer.Layer.{Layer}
+use Rattle.ip_base.specs.declared.err.layer.Layer.TheVariants.{IpHeader, Ipv4Header, Ipv4Packet, IpAuthHeader, Ipv6Header, Ipv6Packet, Ipv6ExtHeader, Ipv6HopByHopHeader, Ipv6DestOptionsHeader, Ipv6RouteHeader, Ipv6FragHeader, Icmpv4}
+use Rattle.ip_base.specs.declared.len_source.LenSource.{LenSource}
+use Rattle.ip_base.specs.declared.len_source.LenSource.TheVariants.{Slice, Ipv4HeaderTotalLen, Ipv6HeaderPayloadLen}
+use Rattle.ip_base.specs.declared.err.ipv6.header_error.HeaderError.{HeaderError as Ipv6HeaderError}
+use Rattle.ip_base.specs.declared.err.ipv6.header_error.HeaderError.TheVariants as ipv6_header
+use Rattle.ip_base.specs.declared.err.ip_auth.header_error.HeaderError.{HeaderError as AuthError}
+use Rattle.ip_base.specs.declared.err.ip_auth.header_error.HeaderError.TheVariants.{ZeroPayloadLen}
+use Rattle.ip_base.specs.declared.err.ipv6_exts.header_error.HeaderError.{HeaderError as ExtsError}
+use Rattle.ip_base.specs.declared.err.ipv6_exts.header_error.HeaderError.TheVariants.{HopByHopNotAtStart, IpAuth}
+use Rattle.ip_ext_headers.specs.declared.err.ip_auth.header_slice_error.HeaderSliceError.{HeaderSliceError as AuthSliceError}
+use Rattle.ip_ext_headers.specs.declared.err.ip_auth.header_slice_error.HeaderSliceError.TheVariants as auth
+use Rattle.ip_ext_slices.specs.declared.err.ipv6_exts.header_slice_error.HeaderSliceError.{HeaderSliceError as ExtsSliceError}
+use Rattle.ip_ext_slices.specs.declared.err.ipv6_exts.header_slice_error.HeaderSliceError.TheVariants as exts
+use Rattle.ip_ext_slices.specs.ChainFault.{Fault}
+use Rattle.etherparse_ip.specs.declared.err.ip.header_error.HeaderError.{HeaderError}
+use Rattle.etherparse_ip.specs.declared.err.ip.header_error.HeaderError.TheVariants.{UnsupportedIpVersion, Ipv4HeaderLengthSmallerThanHeader}
+use Rattle.etherparse_ip.specs.declared.err.ip.headers_error.HeadersError.{HeadersError}
+use Rattle.etherparse_ip.specs.declared.err.ip.headers_error.HeadersError.TheVariants.{Ip, Ipv4Ext, Ipv6Ext}
+use Rattle.etherparse_ip.specs.declared.err.ip.slice_error.SliceError.{SliceError}
+use Rattle.etherparse_ip.specs.declared.err.ip.slice_error.SliceError.TheVariants as ip
+use Rattle.etherparse_ip.specs.declared.err.ipv6.slice_error.SliceError.{SliceError as Ipv6SliceError}
+use Rattle.etherparse_ip.specs.declared.err.ipv6.slice_error.SliceError.TheVariants as ipv6
+use Rattle.ip_spans.specs.declared.fault_fields.FaultFields.{FaultFields}
+
+-- the kinds: none, too few bytes, hop-by-hop options that aren't first, an authentication header with a length of 0,
+-- an IP version that is neither 4 nor 6, an internet header length below 5
+abbrev pub NO_FAULT : ℕ
+NO_FAULT = 0
+
+abbrev pub TOO_SHORT : ℕ
+TOO_SHORT = 1
+
+abbrev pub HOP_BY_HOP_NOT_AT_START : ℕ
+HOP_BY_HOP_NOT_AT_START = 2
+
+abbrev pub ZERO_PAYLOAD_LEN : ℕ
+ZERO_PAYLOAD_LEN = 3
+
+abbrev pub UNSUPPORTED_IP_VERSION : ℕ
+UNSUPPORTED_IP_VERSION = 4
+
+abbrev pub IPV4_HEADER_LENGTH : ℕ
+IPV4_HEADER_LENGTH = 5
+
+-- the layers; 0 is none
+abbrev pub layer_code : Layer → ℕ
+layer_code IpHeader = 1
+layer_code Ipv4Header = 2
+layer_code Ipv4Packet = 3
+layer_code IpAuthHeader = 4
+layer_code Ipv6Header = 5
+layer_code Ipv6Packet = 6
+layer_code Ipv6ExtHeader = 7
+layer_code Ipv6HopByHopHeader = 8
+layer_code Ipv6DestOptionsHeader = 9
+layer_code Ipv6RouteHeader = 10
+layer_code Ipv6FragHeader = 11
+layer_code Icmpv4 = 12
+
+-- the sources of a length; 0 is none
+abbrev pub len_source_code : LenSource → ℕ
+len_source_code Slice = 1
+len_source_code Ipv4HeaderTotalLen = 2
+len_source_code Ipv6HeaderPayloadLen = 3
+
+-- too few bytes for a layer's header
+abbrev pub len_fields : ℕ → LenError → FaultFields
+len_fields header e = record {
+  required_len = e.required_len;
+  len = e.len;
+  offset = e.layer_start_offset;
+  kind = TOO_SHORT;
+  header = header;
+  layer = layer_code e.layer;
+  len_source = len_source_code e.len_source;
+  value = 0;
+}
+
+-- an error of this kind in a header, with the wrong value
+abbrev pub content_fields : ℕ → ℕ → ℕ → FaultFields
+content_fields header kind value = record {
+  required_len = 0;
+  len = 0;
+  offset = 0;
+  kind = kind;
+  header = header;
+  layer = 0;
+  len_source = 0;
+  value = value;
+}
+
+abbrev pub no_fault : FaultFields
+no_fault = content_fields 0 NO_FAULT 0
+
+-- an error in an authentication header
+abbrev pub auth_error_fields : ℕ → AuthError → FaultFields
+auth_error_fields header ZeroPayloadLen = content_fields header ZERO_PAYLOAD_LEN 0
+
+abbrev pub auth_fields : ℕ → AuthSliceError → FaultFields
+auth_fields header (auth.Len e) = len_fields header e
+auth_fields header (auth.Content e) = auth_error_fields header e
+
+-- an error in an IPv6 chain
+abbrev pub exts_error_fields : ℕ → ExtsError → FaultFields
+exts_error_fields header HopByHopNotAtStart = content_fields header HOP_BY_HOP_NOT_AT_START 0
+exts_error_fields header (IpAuth e) = auth_error_fields header e
+
+abbrev pub exts_fields : ℕ → ExtsSliceError → FaultFields
+exts_fields header (exts.Len e) = len_fields header e
+exts_fields header (exts.Content e) = exts_error_fields header e
+
+-- the error at the end of an IPv6 chain, and of an IPv4 one
+abbrev pub chain_fault_fields : Option Fault → FaultFields
+chain_fault_fields None = no_fault
+chain_fault_fields (Some (e, header)) = exts_fields (layer_code header) e
+
+abbrev pub ipv4_chain_fault_fields : Option AuthSliceError → FaultFields
+ipv4_chain_fault_fields None = no_fault
+ipv4_chain_fault_fields (Some e) = auth_fields (layer_code IpAuthHeader) e
+
+-- an error in a base header
+abbrev pub base_error_fields : HeaderError → FaultFields
+base_error_fields (UnsupportedIpVersion version) = content_fields 0 UNSUPPORTED_IP_VERSION version
+base_error_fields (Ipv4HeaderLengthSmallerThanHeader ihl) = content_fields 0 IPV4_HEADER_LENGTH ihl
+
+abbrev pub headers_error_fields : HeadersError → FaultFields
+headers_error_fields (Ip e) = base_error_fields e
+headers_error_fields (Ipv4Ext e) = auth_error_fields 0 e
+headers_error_fields (Ipv6Ext e) = exts_error_fields 0 e
+
+-- an error in a packet
+abbrev pub packet_fault_fields : SliceError → FaultFields
+packet_fault_fields (ip.Len e) = len_fields 0 e
+packet_fault_fields (ip.IpHeaders e) = headers_error_fields e
+
+abbrev pub ipv6_header_error_fields : Ipv6HeaderError → FaultFields
+ipv6_header_error_fields (ipv6_header.UnexpectedVersion version) = content_fields 0 UNSUPPORTED_IP_VERSION version
+
+abbrev pub ipv6_fault_fields : Ipv6SliceError → FaultFields
+ipv6_fault_fields (ipv6.Len e) = len_fields 0 e
+ipv6_fault_fields (ipv6.Header e) = ipv6_header_error_fields e
+ipv6_fault_fields (ipv6.Exts e) = exts_error_fields 0 e

@@ -1,0 +1,9 @@
+pub mod HeaderSpan
+pub mod FaultFields
+pub mod ChainParts
+pub mod ChainCursor
+pub mod PacketParts
+pub mod HeaderFields
+pub mod LinkedSpans
+pub mod InPlaces
+pub mod Written

@@ -1,0 +1,276 @@
+//! Errors in plain fields, with the codes listed in `specs/FaultFields.antt`.
+ghost use Rattle.std.specs.Prelude.{◌≡◌, IfSome, IfNone};
+ghost use Rattle.ip_base.specs.declared.err.layer.Layer.{Layer};
+ghost use Rattle.ip_base.specs.declared.len_source.LenSource.{LenSource};
+ghost use Rattle.ip_spans.specs.FaultFields.{layer_code, len_source_code, len_fields, content_fields, no_fault};
+ghost use Rattle.ip_spans.specs.FaultFields.{auth_error_fields, auth_fields, exts_error_fields, exts_fields};
+ghost use Rattle.ip_spans.specs.FaultFields.{chain_fault_fields, ipv4_chain_fault_fields, base_error_fields};
+ghost use Rattle.ip_spans.specs.FaultFields.{headers_error_fields, packet_fault_fields, ipv6_header_error_fields};
+ghost use Rattle.ip_spans.specs.FaultFields.{ipv6_fault_fields};
+
+use etherparse_ip::LenSource;
+use etherparse_ip::err::{Layer, LenError, ip, ip_auth, ipv6, ipv6_exts};
+
+/// The kinds of errors.
+pub(crate) mod kind {
+    pub const NONE: u8 = 0;
+
+    pub const TOO_SHORT: u8 = 1;
+
+    pub const HOP_BY_HOP_NOT_AT_START: u8 = 2;
+
+    pub const ZERO_PAYLOAD_LEN: u8 = 3;
+
+    pub const UNSUPPORTED_IP_VERSION: u8 = 4;
+
+    pub const IPV4_HEADER_LENGTH: u8 = 5;
+}
+
+/// An error. A field that its kind doesn't use is 0.
+#[repr(C)]
+#[derive(Clone, Copy, Debug, PartialEq, Eq)]
+pub struct FaultFields {
+    /// The number of bytes needed.
+    pub required_len: usize,
+    /// The number of bytes present.
+    pub len: usize,
+    /// The offset of the layer that needs more, in bytes from the start of the caller's bytes.
+    pub offset: usize,
+    /// The kind of error; 0 is none.
+    pub kind: u8,
+    /// The layer of the header that has a chain's error; 0 for an error of a packet.
+    pub header: u8,
+    /// The layer that needs more bytes.
+    pub layer: u8,
+    /// The source of `len`.
+    pub len_source: u8,
+    /// The wrong version or internet header length.
+    pub value: u32,
+}
+
+/// Returns the code of a layer.
+#[inline(always)]
+pub(crate) fn layer_code_of(layer: Layer) -> u8
+    ensures { result ≡ layer_code layer }
+{
+    match layer {
+        Layer::IpHeader => 1,
+        Layer::Ipv4Header => 2,
+        Layer::Ipv4Packet => 3,
+        Layer::IpAuthHeader => 4,
+        Layer::Ipv6Header => 5,
+        Layer::Ipv6Packet => 6,
+        Layer::Ipv6ExtHeader => 7,
+        Layer::Ipv6HopByHopHeader => 8,
+        Layer::Ipv6DestOptionsHeader => 9,
+        Layer::Ipv6RouteHeader => 10,
+        Layer::Ipv6FragHeader => 11,
+        Layer::Icmpv4 => 12,
+    }
+}
+
+/// Returns the code of a length source.
+#[inline(always)]
+pub(crate) fn len_source_code_of(source: LenSource) -> u8
+    ensures { result ≡ len_source_code source }
+{
+    match source {
+        LenSource::Slice => 1,
+        LenSource::Ipv4HeaderTotalLen => 2,
+        LenSource::Ipv6HeaderPayloadLen => 3,
+    }
+}
+
+impl FaultFields {
+    /// Stores the error here, field by field.
+    #[inline(always)]
+    pub fn put(&mut self, fault: FaultFields)
+        ensures { self.new ≡ fault }
+    {
+        self.required_len = fault.required_len;
+        self.len = fault.len;
+        self.offset = fault.offset;
+        self.kind = fault.kind;
+        self.header = fault.header;
+        self.layer = fault.layer;
+        self.len_source = fault.len_source;
+        self.value = fault.value;
+    }
+
+    /// Returns the fields of no error.
+    #[inline(always)]
+    pub(crate) fn none() -> FaultFields
+        ensures { result ≡ no_fault }
+    {
+        Self::of_content(0, kind::NONE, 0)
+    }
+
+    /// Returns the fields of a length error.
+    #[inline(always)]
+    pub(crate) fn of_len(header: u8, error: &LenError) -> FaultFields
+        ensures { result ≡ len_fields header error.now }
+    {
+        FaultFields {
+            required_len: error.required_len,
+            len: error.len,
+            offset: error.layer_start_offset,
+            kind: kind::TOO_SHORT,
+            header,
+            layer: layer_code_of(error.layer),
+            len_source: len_source_code_of(error.len_source),
+            value: 0,
+        }
+    }
+
+    /// Returns the fields of an error in a header.
+    #[inline(always)]
+    fn of_content(header: u8, kind: u8, value: u8) -> FaultFields
+        ensures { result ≡ content_fields header kind value }
+    {
+        FaultFields {
+            required_len: 0,
+            len: 0,
+            offset: 0,
+            kind,
+            header,
+            layer: 0,
+            len_source: 0,
+            value: u32::from(value),
+        }
+    }
+
+    /// Returns the fields of an error in an authentication header.
+    #[inline(always)]
+    fn of_auth_error(header: u8, error: &ip_auth::HeaderError) -> FaultFields
+        ensures { result ≡ auth_error_fields header error.now }
+    {
+        match error {
+            ip_auth::HeaderError::ZeroPayloadLen => {
+                Self::of_content(header, kind::ZERO_PAYLOAD_LEN, 0)
+            }
+        }
+    }
+
+    /// Returns the fields of an error in an IPv6 extension header.
+    #[inline(always)]
+    fn of_exts_error(header: u8, error: &ipv6_exts::HeaderError) -> FaultFields
+        ensures { result ≡ exts_error_fields header error.now }
+    {
+        match error {
+            ipv6_exts::HeaderError::HopByHopNotAtStart => {
+                Self::of_content(header, kind::HOP_BY_HOP_NOT_AT_START, 0)
+            }
+            ipv6_exts::HeaderError::IpAuth(error) => Self::of_auth_error(header, error),
+        }
+    }
+
+    /// Returns the fields of the error at the end of an IPv6 chain.
+    #[inline(always)]
+    pub(crate) fn of_chain(fault: &Option<(ipv6_exts::HeaderSliceError, Layer)>) -> FaultFields
+        ensures { result ≡ chain_fault_fields fault.now }
+    {
+        match fault {
+            None => Self::none(),
+            Some((ipv6_exts::HeaderSliceError::Len(error), header)) => {
+                Self::of_len(layer_code_of(*header), error)
+            }
+            Some((ipv6_exts::HeaderSliceError::Content(error), header)) => {
+                Self::of_exts_error(layer_code_of(*header), error)
+            }
+        }
+    }
+
+    /// Returns the fields of the error at the end of an IPv4 chain.
+    #[inline(always)]
+    pub(crate) fn of_ipv4_chain(fault: &Option<ip_auth::HeaderSliceError>) -> FaultFields
+        ensures { result ≡ ipv4_chain_fault_fields fault.now }
+    {
+        let header = layer_code_of(Layer::IpAuthHeader);
+        match fault {
+            None => Self::none(),
+            Some(ip_auth::HeaderSliceError::Len(error)) => Self::of_len(header, error),
+            Some(ip_auth::HeaderSliceError::Content(error)) => Self::of_auth_error(header, error),
+        }
+    }
+
+    /// Returns the fields of an error in a base header.
+    #[inline(always)]
+    fn of_base_error(error: &ip::HeaderError) -> FaultFields
+        ensures { result ≡ base_error_fields error.now }
+    {
+        match error {
+            ip::HeaderError::UnsupportedIpVersion { version_number } => {
+                Self::of_content(0, kind::UNSUPPORTED_IP_VERSION, *version_number)
+            }
+            ip::HeaderError::Ipv4HeaderLengthSmallerThanHeader { ihl } => {
+                Self::of_content(0, kind::IPV4_HEADER_LENGTH, *ihl)
+            }
+        }
+    }
+
+    /// Returns the fields of a packet's error.
+    #[inline(always)]
+    pub(crate) fn of_packet(error: &ip::SliceError) -> FaultFields
+        ensures { result ≡ packet_fault_fields error.now }
+    {
+        match error {
+            ip::SliceError::Len(error) => Self::of_len(0, error),
+            ip::SliceError::IpHeaders(ip::HeadersError::Ip(error)) => Self::of_base_error(error),
+            ip::SliceError::IpHeaders(ip::HeadersError::Ipv4Ext(error)) => {
+                Self::of_auth_error(0, error)
+            }
+            ip::SliceError::IpHeaders(ip::HeadersError::Ipv6Ext(error)) => {
+                Self::of_exts_error(0, error)
+            }
+        }
+    }
+
+    /// Returns the fields of an IPv6 packet's error.
+    #[inline(always)]
+    pub(crate) fn of_ipv6_packet(error: &ipv6::SliceError) -> FaultFields
+        ensures { result ≡ ipv6_fault_fields error.now }
+    {
+        match error {
+            ipv6::SliceError::Len(error) => Self::of_len(0, error),
+            ipv6::SliceError::Header(ipv6::HeaderError::UnexpectedVersion { version_number }) => {
+                Self::of_content(0, kind::UNSUPPORTED_IP_VERSION, *version_number)
+            }
+            ipv6::SliceError::Exts(error) => Self::of_exts_error(0, error),
+        }
+    }
+}
+
+/// Returns the layer with this code, if there is one.
+pub(crate) fn layer_of(code: u8) -> Option<Layer>
+    ensures some { IfSome result (λ layer. layer_code layer ≡ code) }
+    ensures none { IfNone result ((layer : Layer) → layer_code layer ≡ code → ⊥) }
+{
+    match code {
+        1 => Some(Layer::IpHeader),
+        2 => Some(Layer::Ipv4Header),
+        3 => Some(Layer::Ipv4Packet),
+        4 => Some(Layer::IpAuthHeader),
+        5 => Some(Layer::Ipv6Header),
+        6 => Some(Layer::Ipv6Packet),
+        7 => Some(Layer::Ipv6ExtHeader),
+        8 => Some(Layer::Ipv6HopByHopHeader),
+        9 => Some(Layer::Ipv6DestOptionsHeader),
+        10 => Some(Layer::Ipv6RouteHeader),
+        11 => Some(Layer::Ipv6FragHeader),
+        12 => Some(Layer::Icmpv4),
+        _ => None,
+    }
+}
+
+/// Returns the length source with this code, if there is one.
+pub(crate) fn len_source_of(code: u8) -> Option<LenSource>
+    ensures some { IfSome result (λ source. len_source_code source ≡ code) }
+    ensures none { IfNone result ((source : LenSource) → len_source_code source ≡ code → ⊥) }
+{
+    match code {
+        1 => Some(LenSource::Slice),
+        2 => Some(LenSource::Ipv4HeaderTotalLen),
+        3 => Some(LenSource::Ipv6HeaderPayloadLen),
+        _ => None,
+    }
+}

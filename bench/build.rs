@@ -1,5 +1,5 @@
-//! Links the static libraries `ipexts_bench` and `ipexts_bench_packets`, the allocator that they need, the walk in
-//! C, and a block of `SHIFT` bytes before the libraries, which moves their code.
+//! Links the static library `ipexts_bench`, the allocator that it needs, the walk in C, and a block of `SHIFT` bytes
+//! before the library, which moves its code.
 use std::env;
 use std::path::{Path, PathBuf};
 use std::process::Command;
@@ -9,7 +9,6 @@ fn main() {
     println!("cargo:rerun-if-env-changed=CC");
     println!("cargo:rerun-if-changed=src/walk.c");
     link_library("ipexts_bench");
-    link_library("ipexts_bench_packets");
     let out = PathBuf::from(env::var("OUT_DIR").expect("Cargo sets OUT_DIR"));
     compile_shift(&out);
     compile(&out, Path::new("src/walk.c"), "walk");
@@ -18,7 +17,7 @@ fn main() {
         "cargo:rustc-link-search=native={}",
         kit().join("c").display()
     );
-    for name in ["shift", "ipexts_bench", "ipexts_bench_packets", "libc_c", "walk"] {
+    for name in ["shift", "ipexts_bench", "libc_c", "walk"] {
         println!("cargo:rustc-link-lib=static={name}");
     }
 }

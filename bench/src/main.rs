@@ -16,6 +16,7 @@ mod original_ipv4;
 mod original_reads;
 mod original_slices;
 mod ours;
+#[path = "../../diff/src/random.rs"]
 mod random;
 mod read_rows;
 mod report;

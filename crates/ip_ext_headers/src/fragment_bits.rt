@@ -21,6 +21,14 @@ pub(crate) fn unpack_flag(low: u8) -> bool
     low & 0b0000_0001 != 0
 }
 
+/// Returns byte 3 with its reserved bits zero.
+#[inline]
+pub(crate) fn clear_reserved_flags(low: u8) -> u8
+    ensures { result ≡ unreserved_bits low }
+{
+    low & 0b1111_1001
+}
+
 /// Returns the two bytes, with reserved bits zero.
 #[inline]
 pub(crate) fn pack(offset: IpFragOffset, more_fragments: bool) -> (u8, u8)

@@ -5,8 +5,8 @@ ghost use Rattle.ip_spec.specs.Fields.{next_header, auth_fields};
 
 use crate::IpAuthHeader;
 use crate::err::ip_auth::{HeaderError, HeaderSliceError};
+use ip_base::IpNumber;
 use ip_base::err::{Layer, LenError};
-use ip_base::{IpNumber, LenSource};
 
 /// The name of this type in earlier versions of the interface.
 #[deprecated(note = "use `IpAuthHeaderSlice`")]
@@ -22,7 +22,6 @@ pub struct IpAuthHeaderSlice<'a> {
 }
 
 impl<'a> IpAuthHeaderSlice<'a> {
-    ghost use Rattle.ip_base.specs.LenError.{too_short};
     ghost use Rattle.ip_base.specs.declared.len_source.LenSource.TheVariants.{Slice};
     ghost use Rattle.ip_ext_headers.specs.HeaderFault.{auth_fault};
     ghost use Rattle.ip_ext_headers.specs.IpAuthHeaderSlice.{bytes};
@@ -38,31 +37,26 @@ impl<'a> IpAuthHeaderSlice<'a> {
             auth_fault Slice (length slice.now) 0 slice.now ≡ Some e) }
     {
         if slice.len() < 12 {
-            return Err(HeaderSliceError::Len(Self::too_short(slice, 12)));
+            return Err(HeaderSliceError::Len(LenError::slice_too_short(
+                slice,
+                Layer::IpAuthHeader,
+                12,
+            )));
         }
         if slice[1] == 0 {
             return Err(HeaderSliceError::Content(HeaderError::ZeroPayloadLen));
         }
         let len = (usize::from(slice[1]) + 2) * 4;
         if slice.len() < len {
-            return Err(HeaderSliceError::Len(Self::too_short(slice, len)));
+            return Err(HeaderSliceError::Len(LenError::slice_too_short(
+                slice,
+                Layer::IpAuthHeader,
+                len,
+            )));
         }
         Ok(IpAuthHeaderSlice {
             slice: &slice[..len],
         })
-    }
-
-    /// Returns the error for a slice at offset 0 shorter than `required_len` bytes.
-    fn too_short(slice: &[u8], required_len: usize) -> LenError
-        ensures { result ≡ too_short Slice (length slice.now) 0 Layer.IpAuthHeader required_len }
-    {
-        LenError {
-            required_len,
-            len: slice.len(),
-            len_source: LenSource::Slice,
-            layer: Layer::IpAuthHeader,
-            layer_start_offset: 0,
-        }
     }
 
     /// Returns the header's bytes, 12 to 1028.

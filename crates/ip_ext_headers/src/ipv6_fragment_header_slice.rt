@@ -6,7 +6,7 @@ ghost use Rattle.ip_spec.specs.Fields.{next_header, is_fragmenting, fragment_fie
 use crate::Ipv6FragmentHeader;
 use crate::fragment_bits::{unpack_flag, unpack_offset};
 use ip_base::err::{Layer, LenError};
-use ip_base::{IpFragOffset, IpNumber, LenSource};
+use ip_base::{IpFragOffset, IpNumber};
 use std::alloc::AllocError;
 
 /// An IPv6 fragment header (RFC 8200, section 4.5), borrowed from the caller's bytes. Two are equal if their bytes
@@ -32,13 +32,7 @@ impl<'a> Ipv6FragmentHeaderSlice<'a> {
             fragment_fault Slice (length slice.now) 0 slice.now ≡ Some e) }
     {
         if slice.len() < 8 {
-            return Err(LenError {
-                required_len: 8,
-                len: slice.len(),
-                len_source: LenSource::Slice,
-                layer: Layer::Ipv6FragHeader,
-                layer_start_offset: 0,
-            });
+            return Err(LenError::slice_too_short(slice, Layer::Ipv6FragHeader, 8));
         }
         Ok(Ipv6FragmentHeaderSlice { slice: &slice[..8] })
     }

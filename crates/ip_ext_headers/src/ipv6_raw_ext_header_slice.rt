@@ -6,7 +6,7 @@ ghost use Rattle.ip_spec.specs.Fields.{next_header, raw_fields};
 
 use crate::Ipv6RawExtHeader;
 use ip_base::err::{Layer, LenError};
-use ip_base::{IpNumber, LenSource, ip_number};
+use ip_base::{IpNumber, ip_number};
 use std::alloc::AllocError;
 
 /// The name of this type in earlier versions of the interface.
@@ -23,7 +23,6 @@ pub struct Ipv6RawExtHeaderSlice<'a> {
 }
 
 impl<'a> Ipv6RawExtHeaderSlice<'a> {
-    ghost use Rattle.ip_base.specs.LenError.{too_short};
     ghost use Rattle.ip_base.specs.declared.len_source.LenSource.TheVariants.{Slice};
     ghost use Rattle.ip_ext_headers.specs.HeaderFault.{raw_fault};
     ghost use Rattle.ip_ext_headers.specs.Ipv6RawExtHeaderSlice.{bytes};
@@ -56,28 +55,15 @@ impl<'a> Ipv6RawExtHeaderSlice<'a> {
             raw_fault Slice (length slice.now) 0 slice.now ≡ Some e) }
     {
         if slice.len() < 8 {
-            return Err(Self::too_short(slice, 8));
+            return Err(LenError::slice_too_short(slice, Layer::Ipv6ExtHeader, 8));
         }
         let len = (usize::from(slice[1]) + 1) * 8;
         if slice.len() < len {
-            return Err(Self::too_short(slice, len));
+            return Err(LenError::slice_too_short(slice, Layer::Ipv6ExtHeader, len));
         }
         Ok(Ipv6RawExtHeaderSlice {
             slice: &slice[..len],
         })
-    }
-
-    /// Returns the error for a slice at offset 0 shorter than `required_len` bytes.
-    fn too_short(slice: &[u8], required_len: usize) -> LenError
-        ensures { result ≡ too_short Slice (length slice.now) 0 Layer.Ipv6ExtHeader required_len }
-    {
-        LenError {
-            required_len,
-            len: slice.len(),
-            len_source: LenSource::Slice,
-            layer: Layer::Ipv6ExtHeader,
-            layer_start_offset: 0,
-        }
     }
 
     /// Returns the header's bytes, 8 to 2048.

@@ -12,6 +12,7 @@ mod ipv6_fragment_header;
 mod ipv6_fragment_header_slice;
 mod ipv6_raw_ext_header;
 mod ipv6_raw_ext_header_slice;
+mod reserved_bits;
 
 pub use ip_auth_header::{IPv6AuthenticationHeader, IpAuthHeader, IpAuthenticationHeader};
 pub use ip_auth_header_slice::{IpAuthHeaderSlice, IpAuthenticationHeaderSlice};
@@ -20,3 +21,4 @@ pub use ipv6_fragment_header::Ipv6FragmentHeader;
 pub use ipv6_fragment_header_slice::Ipv6FragmentHeaderSlice;
 pub use ipv6_raw_ext_header::{Ipv6RawExtHeader, Ipv6RawExtensionHeader};
 pub use ipv6_raw_ext_header_slice::{Ipv6RawExtHeaderSlice, Ipv6RawExtensionHeaderSlice};
+pub use reserved_bits::clear_reserved_bits;

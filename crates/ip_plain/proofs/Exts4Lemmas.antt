@@ -1,5 +1,5 @@
 -- The answer to `exts4`, in the form in which the plain program computes it.
-use Rattle.ip_spec.proofs.Common.{◌≡◌, ℕ, zero, suc, ◌≤◌, List, [], ◌∷◌, ◌++◌, length, take, drop, get_or, true, refl, sym, ap, ◌∙◌, arith, append_assoc, length-take-le, ExtHeader, IsNext, IsEnd, leads_to, rest_after, fault_after, NoPrefix, IsAuthHeader, auth}
+use Rattle.ip_spec.proofs.Common.{◌≡◌, ℕ, zero, suc, ◌≤◌, List, [], ◌∷◌, ◌++◌, length, take, drop, get_or, true, refl, sym, ap, ◌∙◌, arith, append_assoc, length-take-le, ExtHeader, IsNext, IsEnd, leads_to, bytes_of, rest_after, fault_after, NoPrefix, IsAuthHeader, auth}
 use Rattle.std.proofs.Common.{append-nil}
 use Rattle.ip_base.specs.declared.len_source.LenSource.TheVariants.{Slice}
 use Rattle.ip_spec.proofs.HeaderLemmas.{header-least, auth_of}
@@ -19,11 +19,24 @@ first_byte zero s few = absurd (omega arith)
 first_byte (suc k) [] few = refl
 first_byte (suc k) (x ∷ s) few = refl
 
+-- An authentication header of length k at the start of s is the chain.
+module _ (s : List ℕ) (k : ℕ) (enough : k ≤ length s) (next : IsNext true 51 s (record { number = 51; bytes = take k s })) where
+  pub one_header : longest_ipv4_chain 51 s ≡ record { number = 51; bytes = take k s } ∷ []
+  one_header = sym (answer_of_one (λ c. c) 51 s (record { number = 51; bytes = take k s } ∷ []) (take k s) _ _ refl (auth_of 51 (take k s) refl next.header) next.prefix refl refl refl).value
+
+  header_len : length (take k s) ≡ k
+  header_len = length-take-le k s enough
+
+  pub one_len : k ≡ length (bytes_of (longest_ipv4_chain 51 s))
+  one_len = sym (ap (λ c. length (bytes_of c)) one_header ∙ ap length (append-nil (take k s)) ∙ header_len)
+
+  pub one_leads : get_or s 0 0 ≡ leads_to 51 (longest_ipv4_chain 51 s)
+  one_leads = sym (ap (leads_to 51) one_header ∙ first_byte k s (omega (arith, header-least 51 (take k s) next.header, header_len)))
+
 pub exts4_one : (n : ℕ) (s : List ℕ) (k : ℕ) → n ≡ 51 → k ≤ length s → IsNext true 51 s (record { number = 51; bytes = take k s })
     → exts4_answer n s ≡ header_line 0 51 k ++ next_line (get_or s 0 0) (length (drop k s)) ++ ok_line
 exts4_one n s k e enough next =
-    let h : ExtHeader = record { number = 51; bytes = take k s } in
-    let is : longest_ipv4_chain 51 s ≡ h ∷ [] = sym (answer_of_one (λ c. c) 51 s (h ∷ []) (take k s) _ _ refl (auth_of 51 (take k s) refl next.header) next.prefix refl refl refl).value in
+    let is = one_header s k enough next in
     let len : length (take k s) ≡ k = length-take-le k s enough in
     let all : length (take k s ++ []) ≡ k = ap length (append-nil (take k s)) ∙ len in
     let least : 8 ≤ k = omega (arith, header-least 51 (take k s) next.header, len) in

@@ -1,3 +1,4 @@
 pub mod FitsLemmas
 pub mod AnswerLemmas
 pub mod Exts4Lemmas
+pub mod PacketLemmas

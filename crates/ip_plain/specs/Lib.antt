@@ -1,3 +1,4 @@
 pub mod PlainHeader
+pub mod PlainPacket
 pub mod Digits
 pub mod PlainRequest

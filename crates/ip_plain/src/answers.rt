@@ -1,6 +1,5 @@
 //! The tool's answers computed in the simplest way, in memory and line by line. It is slow, and shares no code with
-//! the tool. It uses the library's parse and `write` for `rewrite6`, its runs for `rewriteall6`, and its parse for
-//! `packet`.
+//! the tool. It uses the library's parse and `write` for `rewrite6`, and its runs for `rewriteall6`.
 ghost use Rattle.std.specs.Prelude.{◌≡◌, ◌++◌, ◌==◌, ◌^◌, ◌<◌, length, map};
 ghost use Rattle.std.specs.Prelude.{[], ◌∷◌, slice_index, IfOk, OnOk, string_bytes};
 ghost use Rattle.std.specs.List.{slice_split};
@@ -94,7 +93,7 @@ fn push_answer(alloc: Global, line: &[u8], text: &mut String) -> Result<(), Allo
         Some(PlainRequest::RewriteAll6(number, bytes)) => {
             push_rewriteall6(alloc, number, &bytes, text)
         }
-        Some(PlainRequest::Packet(bytes)) => push_packet(&bytes, text),
+        Some(PlainRequest::Packet(bytes)) => push_packet(alloc, &bytes, text),
         None => text.push_str(BAD_LINE),
     }
 }

@@ -8,6 +8,7 @@ mod chain;
 mod fault;
 mod fits;
 mod packet;
+mod plain_packet;
 mod runs;
 
 pub use answers::plain_answers;

@@ -1,66 +1,40 @@
-//! The answer to `packet`, built in the simplest way from the library's parse.
-ghost use Rattle.std.specs.Prelude.{◌≡◌, ◌++◌, length, codes, OnOk, string_bytes};
-ghost use Rattle.ip_spec.specs.Chain.{bytes_of};
-ghost use Rattle.ip_ext_slices.specs.Ipv4ExtensionsSlice.{headers_in};
-ghost use Rattle.etherparse_ip.specs.Ipv4Slice.{ipv4_parts};
-ghost use Rattle.etherparse_ip.specs.Ipv6Slice.{ipv6_parts};
+//! The answer to `packet`, built in the simplest way.
+ghost use Rattle.std.specs.Prelude.{◌≡◌, ◌++◌, codes, OnOk, string_bytes};
+ghost use Rattle.etherparse_ip.specs.Packet.{Parts};
 ghost use Rattle.ipexts_tool.specs.Faults.{len_fault_text, headers_fault_text};
 ghost use Rattle.ipexts_tool.specs.PacketAnswer.{yes_or_no, lengths_line, payload_line, parts_lines};
 ghost use Rattle.ipexts_tool.specs.PacketAnswer.{fault_line, packet_answer};
+ghost use Rattle.ip_plain.specs.PlainPacket.{HasLengthsOf};
 
+use crate::plain_packet::{PlainPacket, plain_packet};
 use etherparse_ip::err::ip::{HeaderError, HeadersError, SliceError};
 use etherparse_ip::err::{LenError, ipv6_exts};
-use etherparse_ip::{
-    IpPayloadSlice, IpSlice, Ipv4ExtensionsSlice, Ipv4Slice, Ipv6Slice, one_packet,
-};
-use std::alloc::AllocError;
+use std::alloc::{AllocError, Global};
 
 /// Appends the answer to `packet` with these bytes.
-pub(crate) fn push_packet(bytes: &[u8], text: &mut String) -> Result<(), AllocError>
+pub(crate) fn push_packet(alloc: Global, bytes: &[u8], text: &mut String) -> Result<(), AllocError>
     ensures { OnOk result
         (string_bytes text.new ≡ string_bytes text.old ++ packet_answer bytes.now) }
 {
-    one_packet();
-    match IpSlice::from_slice(bytes) {
-        Ok(IpSlice::Ipv4(packet)) => push_ipv4(&packet, text),
-        Ok(IpSlice::Ipv6(packet)) => push_ipv6(&packet, text),
+    match plain_packet(alloc, bytes)? {
+        Ok((name, packet)) => push_parts(name, &packet, text),
         Err(fault) => push_fault(&fault, text),
     }
 }
 
-/// Appends the parts of an IPv4 packet.
-fn push_ipv4(packet: &Ipv4Slice<'_>, text: &mut String) -> Result<(), AllocError>
-    ensures { OnOk result (string_bytes text.new
-        ≡ string_bytes text.old ++ parts_lines (codes "ipv4") (ipv4_parts packet.now)) }
+/// Appends the parts of a packet of the version of this name.
+fn push_parts(name: &str, packet: &PlainPacket, text: &mut String) -> Result<(), AllocError>
+    ensures { (p : Parts) → HasLengthsOf p packet.now → OnOk result (string_bytes text.new
+        ≡ string_bytes text.old ++ parts_lines name.now p) }
 {
-    let header_len = packet.header().slice().len();
-    let exts_len = ipv4_exts_len(packet.extensions());
-    let payload = packet.payload();
-    push_lengths("ipv4", header_len, exts_len, payload.payload.len(), text)?;
-    push_payload(payload, text)?;
-    push_ok(text)
-}
-
-/// Returns the headers' length in bytes.
-fn ipv4_exts_len(headers: Ipv4ExtensionsSlice<'_>) -> usize
-    ensures { result ≡ length (bytes_of (headers_in headers.entry)) }
-{
-    match headers.auth {
-        Some(header) => header.slice().len(),
-        None => 0,
-    }
-}
-
-/// Appends the parts of an IPv6 packet.
-fn push_ipv6(packet: &Ipv6Slice<'_>, text: &mut String) -> Result<(), AllocError>
-    ensures { OnOk result (string_bytes text.new
-        ≡ string_bytes text.old ++ parts_lines (codes "ipv6") (ipv6_parts packet.now)) }
-{
-    let header_len = packet.header().slice().len();
-    let exts_len = packet.extensions().slice().len();
-    let payload = packet.payload();
-    push_lengths("ipv6", header_len, exts_len, payload.payload.len(), text)?;
-    push_payload(payload, text)?;
+    push_lengths(
+        name,
+        packet.header_len,
+        packet.exts_len,
+        packet.payload_len,
+        text,
+    )?;
+    push_payload(packet, text)?;
     push_ok(text)
 }
 
@@ -82,13 +56,13 @@ fn push_lengths(
 }
 
 /// Appends the payload's number, whether it is a fragment, and the source of its length.
-fn push_payload(payload: &IpPayloadSlice<'_>, text: &mut String) -> Result<(), AllocError>
+fn push_payload(packet: &PlainPacket, text: &mut String) -> Result<(), AllocError>
     ensures { OnOk result (string_bytes text.new ≡ string_bytes text.old
-        ++ payload_line payload.now.ip_number.0 payload.now.fragmented payload.now.len_source) }
+        ++ payload_line packet.now.number packet.now.fragmented packet.now.len_source) }
 {
-    let number = payload.ip_number.0;
-    let fragmented = yes_or_no(payload.fragmented);
-    let source = payload.len_source.name();
+    let number = packet.number;
+    let fragmented = yes_or_no(packet.fragmented);
+    let source = packet.len_source.name();
     writeln!(
         text,
         "next {number} fragmented {fragmented} source {source}"

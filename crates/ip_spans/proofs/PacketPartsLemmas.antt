@@ -6,7 +6,7 @@ use Rattle.ip_base.specs.Ipv6Header.{payload_length}
 use Rattle.ip_base.specs.declared.len_source.LenSource.{LenSource}
 use Rattle.etherparse_ip.specs.LenSources.{front}
 use Rattle.etherparse_ip.specs.Packet.{Parts, IsIpv4Packet, IsIpv6Packet}
-use Rattle.etherparse_ip.specs.Span.{ipv4_parts_in, ipv6_parts_in}
+use Rattle.etherparse_ip.specs.PartsIn.{ipv4_parts_in, ipv6_parts_in}
 use Rattle.etherparse_ip.proofs.OnePacketLemmas.{ipv4_version, ipv6_version, ipv4_parts_are, ipv6_parts_are}
 use Rattle.ip_spans.specs.HeaderSpan.{filled}
 use Rattle.ip_spans.specs.PacketParts.{packet_parts, packet_spans, parts_in, IsPacketParts}

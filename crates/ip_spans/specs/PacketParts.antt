@@ -4,7 +4,7 @@ use Rattle.std.specs.Option.{option_map}
 use Rattle.ip_spec.specs.Chain.{bytes_of}
 use Rattle.ip_base.specs.Ipv4Header.{version}
 use Rattle.etherparse_ip.specs.Packet.{Parts}
-use Rattle.etherparse_ip.specs.Span.{ipv4_parts_in, ipv6_parts_in}
+use Rattle.etherparse_ip.specs.PartsIn.{ipv4_parts_in, ipv6_parts_in}
 use Rattle.etherparse_ip.specs.PacketFault.{ip_fault, ipv6_lax_fault}
 use Rattle.ip_spans.specs.HeaderSpan.{spans_from, filled}
 use Rattle.ip_spans.specs.ChainParts.{flag}

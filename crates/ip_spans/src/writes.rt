@@ -4,7 +4,8 @@ ghost use Rattle.ip_spec.specs.Chain.{IsChain};
 ghost use Rattle.ip_spans.specs.Written.{bytes_at, LiesIn, AllLieIn, written_header, written_spans, written_chain, begun_with, AreChainSpans};
 
 use crate::header_span::HeaderSpan;
-use etherparse_ip::{IpNumber, ip_number};
+use etherparse_ip::IpNumber;
+use ip_ext_headers::clear_reserved_bits;
 use ip_ext_slices::header_at;
 
 /// Writes the headers that the spans refer to in `bytes`, one after the other in the order of the spans, to the front
@@ -92,16 +93,6 @@ fn put_header(bytes: &[u8], span: &HeaderSpan, out: &mut [u8])
     ensures { out.new ≡ written_header span.now.number span.now.next_header (bytes_at bytes.now span.now) }
 {
     out.copy_from_slice(&bytes[span.offset..span.offset + span.len]);
-    match IpNumber(span.number) {
-        ip_number::IPV6_FRAG => {
-            out[1] = 0;
-            out[3] = out[3] & 0xf9;
-        }
-        ip_number::AUTH => {
-            out[2] = 0;
-            out[3] = 0;
-        }
-        _ => {}
-    }
+    clear_reserved_bits(IpNumber(span.number), out);
     out[0] = span.next_header;
 }

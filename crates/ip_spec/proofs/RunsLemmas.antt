@@ -2,7 +2,7 @@
 use Rattle.ip_spec.proofs.Common.{◌≡◌, ◌≢◌, ℕ, ◌+◌, ◌/◌, ◌≤◌, List, [], ◌∷◌, ◌++◌, length, drop, refl, ap, sym, ◌∙◌, arith, inl, inr, ◌⊎◌, subst, true, rules, flat_map, AllByRecursion, take-length, append-nil, length-append, map-append, flat_map-append, common_steps, next_header, ExtHeader, leads_to, bytes_of, is_empty, IsChain, IsPrefixChain, IsLongestChain, IsEnd, KeepsBeginning, NextBreaks, IsLongestUnder, FitsPlaces, IsOccupied, cleared_chain, joined, how_many, last_piece, IsPartition, AreRuns, none, split, one_more, AreChains, AreLongestFitting}
 use Rattle.ip_spec.proofs.HeaderLemmas.{later_not_zero, later_or}
 use Rattle.ip_spec.proofs.PrefixLemmas.{prefix_second, rest_join, prefix-length}
-use Rattle.ip_spec.proofs.StepLemmas.{begins, tail_chain, bytes_of-least}
+use Rattle.ip_spec.proofs.StepLemmas.{begins, chain_begins, tail_chain, bytes_of-least}
 use Rattle.ip_spec.proofs.UnderLemmas.{one_longest_under, kept_is_longest}
 use Rattle.ip_spec.proofs.ChainLemmas.{longest_at_end, longest_ends}
 use Rattle.ip_spec.proofs.DemandLemmas.{some_kept}
@@ -151,9 +151,6 @@ runs_step m c ps a = let k = some_kept FitsPlaces fits_places c in runs_step_at 
 pub chain_after : (n : ℕ) (c d : List ExtHeader) → IsChain n (c ++ d) → IsChain (leads_to n c) d
 chain_after n [] d k = k
 chain_after n (h ∷ c) d k = chain_after (next_header h.bytes) c d (tail_chain n h (c ++ d) k)
-
-pub chain_begins : (n : ℕ) (c d : List ExtHeader) → IsChain n (c ++ d) → IsChain n c
-chain_begins n c d k = (begins n (bytes_of (c ++ d)) c d (record { chain = k; prefix = take-length (bytes_of (c ++ d)) })).chain
 
 chains_joined : (n : ℕ) (ps : Pieces) → IsChain n (joined ps) → AreChains n ps
 chains_joined n [] k = tt

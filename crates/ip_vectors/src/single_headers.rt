@@ -10,6 +10,7 @@ use ip_ext_headers::{
     IPv6AuthenticationHeader, IpAuthHeader, IpAuthHeaderSlice, IpAuthenticationHeader,
     IpAuthenticationHeaderSlice, Ipv6FragmentHeader, Ipv6FragmentHeaderSlice, Ipv6RawExtHeader,
     Ipv6RawExtHeaderSlice, Ipv6RawExtensionHeader, Ipv6RawExtensionHeaderSlice,
+    clear_reserved_bits,
 };
 use std::test::Fail;
 
@@ -217,6 +218,34 @@ fn reserved_bits_are_read_over_and_written_as_zero(rt: HostRuntime) -> Result<()
     assert!(rt; !header.is_fragmenting_payload());
     assert_eq!(rt; header.to_bytes(), [17, 0, 0, 0, 1, 2, 3, 4]);
     Ok(())
+}
+
+#[test]
+fn reserved_bits_are_cleared(rt: HostRuntime) {
+    let auth = [17, 1, 0xab, 0xcd, 1, 2, 3, 4, 5, 6, 7, 8];
+    let rows: [(u8, &[u8], &[u8]); 6] = [
+        (
+            44,
+            &[17, 0xff, 0xab, 0xff, 1, 2, 3, 4],
+            &[17, 0, 0xab, 0xf9, 1, 2, 3, 4],
+        ),
+        (44, &[17, 0, 0, 6, 1, 2, 3, 4], &[17, 0, 0, 0, 1, 2, 3, 4]),
+        (51, &auth, &[17, 1, 0, 0, 1, 2, 3, 4, 5, 6, 7, 8]),
+        (
+            60,
+            &[17, 0, 1, 4, 0xff, 0xff, 0xff, 0xff],
+            &[17, 0, 1, 4, 0xff, 0xff, 0xff, 0xff],
+        ),
+        (44, &[17, 0xff, 0xff], &[17, 0xff, 0xff]),
+        (51, &[], &[]),
+    ];
+    for (number, bytes, wanted) in rows {
+        let mut header = [0; 12];
+        let header = &mut header[..bytes.len().min(12)];
+        header.copy_from_slice(&bytes[..bytes.len().min(12)]);
+        clear_reserved_bits(IpNumber(number), header);
+        assert_eq!(rt; *header, *wanted, "{number}");
+    }
 }
 
 #[test]

@@ -10,3 +10,4 @@ mod packets;
 mod parses;
 mod reads;
 mod structs;
+mod whole_packets;

@@ -1,15 +1,15 @@
-use Rattle.ipexts_tool.proofs.PacketLemmas.{ipv4_answer, ipv6_answer, fault_answer}
+use Rattle.ip_spec.proofs.Common.{◌≡◌, ◌++◌, string_bytes}
+use Rattle.std.specs.Prelude.{OnOk}
+use Rattle.ipexts_tool.proofs.PacketLemmas.{fault_answer}
+use Rattle.ip_plain.proofs.PacketLemmas.{parts_answer}
 use Rattle.ip_plain.proofs.packet.push_packet.Goals as goal
 
-pub returns-in-Ok-Ipv4 : goal.returns-in-Ok-Ipv4
-returns-in-Ok-Ipv4 c =
-    let is = rw c.in-Ok-Ipv4.field-0-is at c.in-Ok-Ipv4.ensures.packet in
-    rw (ipv4_answer _ _ c.in-Ok-Ipv4.ensures.fault (c.one_packet.ensures.version_4 _ _ is) (c.one_packet.ensures.ipv4 _ _ is)) c.push_ipv4.ensures
-
-pub returns-in-Ok-Ipv6 : goal.returns-in-Ok-Ipv6
-returns-in-Ok-Ipv6 c =
-    let is = rw c.in-Ok-Ipv6.field-0-is at c.in-Ok-Ipv6.ensures.packet in
-    rw (ipv6_answer _ _ c.in-Ok-Ipv6.ensures.fault (c.one_packet.ensures.version_6 _ _ is) (c.one_packet.ensures.ipv6 _ _ is)) c.push_ipv6.ensures
+pub returns-in-Ok : goal.returns-in-Ok
+returns-in-Ok c =
+    let told = rw c.in-Ok.is at c.in_ok-name.ensures in
+    parts_answer c.args.bytes.now c.in-Ok.name.now c.in-Ok.packet
+    (λ lines. OnOk c.push_parts.result (string_bytes c.push_parts.new.text ≡ string_bytes c.args.text.now ++ lines))
+    told.fault told.ipv4 told.ipv6 c.push_parts.ensures
 
 pub returns-in-Err : goal.returns-in-Err
-returns-in-Err c = rw (fault_answer c.args.bytes.now c.in-Err.fault c.in-Err.ensures.fault) c.push_fault.ensures
+returns-in-Err c = rw (fault_answer c.args.bytes.now c.in-Err.fault (rw c.in-Err.is at c.in_ok-name.ensures.fault)) c.push_fault.ensures

@@ -1,7 +1,8 @@
 # make run            answer the lines of standard input with the proved program ipexts
 # make try            answer sample lines within seconds, with run-time checks instead of proofs
-# make test           compare the documented contracts and errors with the code, run the merge gate, and test the
-#                     program, the library, ipcap, the package and the page, and 20,000 comparisons with etherparse
+# make test           compare the documented contracts, errors and figures with the code and the recorded run, run the
+#                     merge gate, check the spelling, and test the program, the library, ipcap, the package and the
+#                     page, and 20,000 comparisons with etherparse
 # make lib            build the static C library, its header and its pkg-config file in build/
 # make programs       build the program ipcap, which needs libpcap
 # make install        install all of these and ipexts (PREFIX=/usr/local; DESTDIR=.. is prepended to the paths)
@@ -53,6 +54,7 @@ test:
 	$(PYTHON_IS_THERE)
 	scripts/check-calling
 	scripts/check-errors
+	bench/quote --check
 	scripts/gate
 
 VERSION = 0.1.0

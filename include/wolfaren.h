@@ -282,7 +282,7 @@ size_t wolfaren_run_len(const struct wolfaren_header *headers, size_t count);
 bool wolfaren_write_headers(const uint8_t *bytes, size_t len, const struct wolfaren_header *headers, size_t count,
                             uint8_t *out, size_t room, size_t *written);
 
-/* A buffer size, in bytes, that is large enough for every text of wolfaren_fault_text and its terminating null byte. */
+/* A buffer size, in bytes, that is large enough for any text of wolfaren_fault_text and its terminating null byte. */
 #define WOLFAREN_TEXT_ROOM 256
 
 /*

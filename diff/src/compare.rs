@@ -23,7 +23,7 @@ pub enum Outcome {
     Different(String),
 }
 
-/// Makes lines from a seed: of random forms, and every tenth spoilt.
+/// Makes lines from a seed: of random forms, and every tenth is damaged.
 fn lines(seed: u64, count: usize) -> impl Iterator<Item = Vec<u8>> {
     let forms = forms();
     let mut random = Random::new(seed);

@@ -36,7 +36,7 @@ pub fn run(words: &[&str], plant: &Plant) -> Result<ExitCode> {
     }
 }
 
-/// Returns the files of a folder, sorted by name. AFL++ also keeps its own state there, in a subfolder.
+/// Returns the files of a folder, sorted by name. AFL++ also keeps its own state there, in a folder of its own.
 fn files(folder: &str) -> Result<Vec<PathBuf>> {
     let mut files = Vec::new();
     for entry in std::fs::read_dir(folder)? {

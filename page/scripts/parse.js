@@ -5,7 +5,7 @@ Wolfaren.parse = (function () {
     const TOO_SHORT = 1, IP_VERSION = 4, HEADER_LENGTH = 5;
     const PLACES = { 0: 0, 60: 1, 43: 2, 44: 3, 51: 4 };
 
-    // Parses the bytes. `kind` is packet, ethernet, chain6 or chain4.
+    // Parses the bytes. `kind` is `packet`, `ethernet`, `chain6` or `chain4`.
     function parse(kind, first, bytes) {
         const model = { kind, first, bytes, parts: [], fault: null, headers: [], packet: null };
         if (kind === "chain6" || kind === "chain4") return parseChain(model, kind === "chain6" ? 6 : 4);

@@ -31,7 +31,7 @@ fn word_in_range(word: u32)
     ensures { word < 2 ^ 32 }
 {}
 
-/// Proves it of a header in the uniform format (RFC 6564).
+/// Proves that a header in the uniform format (RFC 6564) can be written.
 #[inline(always)]
 fn raw_encodable(header: &Ipv6RawExtHeader)
     ensures { (n : ℕ) → IsRawNumber n
@@ -41,7 +41,7 @@ fn raw_encodable(header: &Ipv6RawExtHeader)
     in_range(header.payload());
 }
 
-/// Proves it of a fragment header.
+/// Proves that a fragment header can be written.
 #[inline(always)]
 fn fragment_encodable(header: &Ipv6FragmentHeader)
     ensures { (h : ExtHeader) × IsEncoded FRAGMENT (fragment_header header.now) h }
@@ -51,7 +51,7 @@ fn fragment_encodable(header: &Ipv6FragmentHeader)
     word_in_range(header.identification);
 }
 
-/// Proves it of an authentication header.
+/// Proves that an authentication header can be written.
 #[inline(always)]
 fn auth_encodable(header: &IpAuthHeader)
     ensures { (h : ExtHeader) × IsEncoded AUTHENTICATION (auth_header header.now) h }
@@ -62,7 +62,7 @@ fn auth_encodable(header: &IpAuthHeader)
     in_range(header.raw_icv());
 }
 
-/// Proves it of an optional header in the uniform format (RFC 6564).
+/// Proves that an optional header in the uniform format (RFC 6564) can be written.
 #[inline(always)]
 fn raw_place_encodable(header: &Option<Ipv6RawExtHeader>)
     ensures { (n : ℕ) → IsRawNumber n → ForSome (option_map raw_header header.now)
@@ -73,7 +73,7 @@ fn raw_place_encodable(header: &Option<Ipv6RawExtHeader>)
     }
 }
 
-/// Proves it of an optional fragment header.
+/// Proves that an optional fragment header can be written.
 #[inline(always)]
 fn fragment_place_encodable(header: &Option<Ipv6FragmentHeader>)
     ensures { ForSome (option_map fragment_header header.now)
@@ -84,7 +84,7 @@ fn fragment_place_encodable(header: &Option<Ipv6FragmentHeader>)
     }
 }
 
-/// Proves it of an optional authentication header.
+/// Proves that an optional authentication header can be written.
 #[inline(always)]
 fn auth_place_encodable(header: &Option<IpAuthHeader>)
     ensures { ForSome (option_map auth_header header.now)
@@ -95,7 +95,7 @@ fn auth_place_encodable(header: &Option<IpAuthHeader>)
     }
 }
 
-/// Proves it of an optional routing header and the destination options after it.
+/// Proves that an optional routing header and the destination options after it can be written.
 #[inline(always)]
 fn routing_encodable(headers: &Option<Ipv6RoutingExtensions>)
     ensures routing { ForSome (option_map (λ r. raw_header r.routing) headers.now)

@@ -18,6 +18,6 @@ abbrev pub spans_from : ℕ → List ExtHeader → List HeaderSpan
 spans_from k [] = []
 spans_from k (h ∷ c) = header_span k h ∷ spans_from (k + length h.bytes) c
 
--- the array ys with as many of xs as fit at its front, and the rest unchanged
+-- the array `ys` with as many of `xs` as fit at its front, and the rest unchanged
 abbrev pub filled : {X : Type 0} → List X → List X → List X
 filled xs ys = take (length ys) xs ++ drop (length xs) ys

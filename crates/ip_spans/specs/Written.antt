@@ -28,7 +28,7 @@ written_header n m b = slice_set (cleared_header n b) 0 m
 abbrev pub written_spans : List ℕ → List HeaderSpan → List ℕ
 written_spans s xs = flat_map (λ x. written_header x.number x.next_header (bytes_at s x)) xs
 
--- the array ys with xs, which fits, at its front, and the rest unchanged
+-- the array `ys` with `xs`, which fits, at its front, and the rest unchanged
 abbrev pub begun_with : List ℕ → List ℕ → List ℕ
 begun_with xs ys = xs ++ drop (length xs) ys
 

@@ -50,8 +50,8 @@ is_fragment more offset = more || not (offset == 0)
 abbrev pub is_fragmenting : List ℕ → Bool
 is_fragmenting b = is_fragment (fragment_fields b).more_fragments (fragment_fields b).fragment_offset
 
--- of an authentication header (RFC 4302, sections 2.4 to 2.6): the security parameters index (spi), the sequence
--- number and the integrity check value (icv)
+-- of an authentication header (RFC 4302, sections 2.4 to 2.6): the security parameters index (`spi`), the sequence
+-- number and the integrity check value (`raw_icv`)
 pub record AuthFields : Type 0 where
   pub next_header : ℕ
   pub spi : ℕ

@@ -98,7 +98,7 @@ pub lines_of-is : (bytes : List ℕ) → lines_of bytes ≡ ended_lines [] bytes
 unfolding ended_lines open_line
 lines_of-is bytes = search (rules, some_parts, onto_begun-none, without_empty_last-is)
 
--- the lines of an input that starts with xs start with the lines that end in xs
+-- the lines of an input that starts with `xs` start with the lines that end in `xs`
 pub lines_of-append : (xs ys : List ℕ)
     → lines_of (xs ++ ys) ≡ ended_lines [] xs ++ (ended_lines (open_line [] xs) ys ++ lines_at_end (open_line [] (xs ++ ys)))
 lines_of-append xs ys = search (rules, lines_of-is, ended_lines-append, append_assoc)

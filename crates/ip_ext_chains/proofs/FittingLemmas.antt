@@ -20,7 +20,7 @@ use Rattle.ip_ext_slices.specs.declared.ipv6_ext_slice.Ipv6ExtensionSlice.{Ipv6E
 use Rattle.ip_ext_chains.specs.declared.ipv6_exts.Ipv6Extensions.{Ipv6Extensions}
 use Rattle.ip_ext_chains.specs.declared.places.Places.{Places}
 use Rattle.ip_ext_slices.proofs.LongestLemmas.{longest_chain-longest}
-use Rattle.ip_ext_chains.proofs.PlacedLemmas.{consumed_same, value_placed, placed_numbers}
+use Rattle.ip_ext_chains.proofs.PlacedLemmas.{occupied_same, value_placed, placed_numbers}
 
 pub fitting_longest : (n : ℕ) (s : List ℕ) → IsLongestUnder FitsPlaces n s (fitting_chain n s)
 fitting_longest n s = (some_longest_under FitsPlaces fits_places n s).1
@@ -76,7 +76,7 @@ walked_whole n s left v k none m r f g em er eg ef =
     let at : List ExtHeader → Option Fault = λ d. fault_after (chain_faults Slice) d n s in
     walked n s left v k m r f number (er ∙ ap (λ d. drop (length (bytes_of d)) s) all) (ef
     ∙ ap (λ o. if is_occupied_in v m then None else o) (eg ∙ ap at (all ∙ run_fits n s left v k))
-    ∙ ap (λ b. if b then None else at (fitting_chain n s)) (consumed_same k.run v k.placed m ∙ ap (λ j. is_occupied j k.run) number
+    ∙ ap (λ b. if b then None else at (fitting_chain n s)) (occupied_same k.run v k.placed m ∙ ap (λ j. is_occupied j k.run) number
     ∙ ap (λ d. is_occupied (leads_to n d) d) (run_fits n s left v k)))
 
 -- The same facts in the terms of the code: the headers that an iterator has returned and left, and the bytes parsed.

@@ -30,8 +30,8 @@ module _ (c : List ExtHeader) (v : Places Ipv6ExtensionSlice) (k : ArePlaced c v
   filled_alike : (o : Option Place) → option_map_or (λ p. is_some (at p v)) o false ≡ option_map_or (λ p. is_some (header_in p c)) o false
   filled_alike o = search rules
 
-  pub consumed_same : (m : ℕ) → is_occupied_in v m ≡ is_occupied m c
-  consumed_same m = ap (λ b. not (m == 0) && b) (ap (λ o. option_map_or (λ p. is_some (at p v)) o false) (place_same m) ∙ filled_alike (place_of m (has_routing c)))
+  pub occupied_same : (m : ℕ) → is_occupied_in v m ≡ is_occupied m c
+  occupied_same m = ap (λ b. not (m == 0) && b) (ap (λ o. option_map_or (λ p. is_some (at p v)) o false) (place_same m) ∙ filled_alike (place_of m (has_routing c)))
 
   of_number : (p : Place) (o : Option Ipv6ExtensionSlice) → option_map header_of o ≡ header_in p c → IfSome o (λ h. (header_of h).number ≡ number_in p)
   of_number p o e = search (rules, in_place_number)

@@ -15,7 +15,7 @@ use Rattle.ip_ext_chains.specs.declared.places.Places.{Places}
 use Rattle.ip_ext_slices.proofs.LongestLemmas.{longest_chain-least}
 use Rattle.ip_ext_chains.proofs.RunsOfLemmas.{runs_from-next}
 use Rattle.ip_spec.proofs.HeaderLemmas.{header_number}
-use Rattle.ip_ext_chains.proofs.PlacedLemmas.{mapped_if, filled_same, place_same, none_same, consumed_same, value_placed, placed_numbers}
+use Rattle.ip_ext_chains.proofs.PlacedLemmas.{mapped_if, filled_same, place_same, none_same, occupied_same, value_placed, placed_numbers}
 
 -- of the headers c, those before `left` are stored in the places
 pub record IsPlacing (c left : List ExtHeader) (v : Places Ipv6ExtensionSlice) : Type 0 where
@@ -84,7 +84,7 @@ module _ (n : ℕ) (s : List ℕ) (whole : bytes_of (longest_chain n s) ≡ s) w
 module _ (m : ℕ) (c d : List ExtHeader) (v : Places Ipv6ExtensionSlice) (r : IsRun c v d) where
   occupied_in : is_occupied_in v m ≡ true ↔ IsOccupied m r.run
   occupied_in =
-      (λ t. (occupied_told r.run m r.kept.meets).0 (sym (consumed_same r.run v r.placed m) ∙ t), λ t. consumed_same r.run v r.placed m ∙ (occupied_told r.run m r.kept.meets).1 t)
+      (λ t. (occupied_told r.run m r.kept.meets).0 (sym (occupied_same r.run v r.placed m) ∙ t), λ t. occupied_same r.run v r.placed m ∙ (occupied_told r.run m r.kept.meets).1 t)
 
   pub run_passes : (before done : Bool) → before ≡ false → (done ≡ true → (d ≡ []) × (is_occupied_in v m ≡ false)) → (done ≡ false → d ≡ [] → is_occupied_in v m ≡ true)
       → (if before then [] else runs_from m c) ≡ r.run ∷ (if done then [] else runs_from m d)

@@ -265,7 +265,7 @@ fn occupied_places(rt: HostRuntime) -> Result<(), Fail> {
     };
     check(&rt, rt.alloc(), &short_and_occupied)?;
     let after_occupied = Row {
-        name: "a fault after a consumed number isn't told",
+        name: "no error is reported after a number whose place is occupied",
         start: 44,
         bytes: &[
             44, 0, 0, 0, 0, 0, 0, 0, 0, 0, 0, 0, 0, 0, 0, 0, 17, 0, 0, 0, 0, 0, 0, 0,
@@ -280,7 +280,7 @@ fn occupied_places(rt: HostRuntime) -> Result<(), Fail> {
     let late = Some((late, Layer::Ipv6HopByHopHeader));
     check_slice(&rt, &after_occupied, 0, 8, &late)?;
     let whole_and_occupied = Row {
-        name: "the whole chain has places, and its last number is consumed",
+        name: "the whole chain has places, and the place of its last number is occupied",
         start: 44,
         bytes: &[60, 0, 0, 0, 0, 0, 0, 0, 44, 0, 0, 0, 0, 0, 0, 0],
         places: [None, Some((8, 8)), None, Some((0, 8)), None, None],

@@ -207,7 +207,7 @@ const MORE_ROWS: [Row; 21] = [
         b"next 17 rest 0\nwritten 110100000000000100000002\nok\n",
     ),
     (
-        "a place that is consumed",
+        "an occupied place",
         b"rewrite6 60 3c000000000000001100000000000000\n",
         b"next 60 rest 8\nwritten 3c00000000000000\nok\n",
     ),

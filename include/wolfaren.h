@@ -32,6 +32,19 @@
 /* The version as one number, for #if: 10000 * major + 100 * minor + patch. */
 #define WOLFAREN_VERSION (10000 * WOLFAREN_VERSION_MAJOR + 100 * WOLFAREN_VERSION_MINOR + WOLFAREN_VERSION_PATCH)
 
+#if !(defined(__x86_64__) && !defined(__ILP32__)) && !defined(_M_X64) && !defined(__aarch64__) && !defined(_M_ARM64)
+#error "libwolfaren needs a 64-bit machine: x86-64 or ARM64"
+#endif
+
+/* What GCC and Clang check of calls: that a result is used, and that the pointers with these numbers aren't null. */
+#ifdef __GNUC__
+#define WOLFAREN_USE_RESULT __attribute__((warn_unused_result))
+#define WOLFAREN_NONNULL(...) __attribute__((nonnull(__VA_ARGS__)))
+#else
+#define WOLFAREN_USE_RESULT
+#define WOLFAREN_NONNULL(...)
+#endif
+
 #ifdef __cplusplus
 extern "C" {
 #endif
@@ -131,7 +144,7 @@ struct wolfaren_chain {
  * header with wolfaren_fragment_fields, and stop there.
  */
 void wolfaren_parse_chain(uint8_t first, const uint8_t *bytes, size_t len, struct wolfaren_header *headers, size_t room,
-                        struct wolfaren_chain *chain);
+                        struct wolfaren_chain *chain) WOLFAREN_NONNULL(6);
 
 /*
  * Parses the IPv4 extension header at the start of the `len` bytes: at most one authentication header. `first` is the
@@ -139,7 +152,7 @@ void wolfaren_parse_chain(uint8_t first, const uint8_t *bytes, size_t len, struc
  * isn't examined. `chain->fragmented` is 0: for IPv4, the IP header says whether the payload is a fragment.
  */
 void wolfaren_parse_ipv4_chain(uint8_t first, const uint8_t *bytes, size_t len, struct wolfaren_header *headers,
-                             size_t room, struct wolfaren_chain *chain);
+                             size_t room, struct wolfaren_chain *chain) WOLFAREN_NONNULL(6);
 
 /*
  * A position in a chain. A walk starts at `{0, first}`. Any offset and number are a valid cursor: it then stands for
@@ -157,15 +170,16 @@ struct wolfaren_cursor {
  * first byte after it. Otherwise returns false and writes nothing: the cursor is at the end of the chain, and its
  * number is the one after the chain.
  */
+WOLFAREN_USE_RESULT
 bool wolfaren_next_header(struct wolfaren_cursor *cursor, const uint8_t *bytes, size_t len,
-                          struct wolfaren_header *header);
+                          struct wolfaren_header *header) WOLFAREN_NONNULL(1, 4);
 
 /*
  * Stores in `fault` the error at the cursor. It is WOLFAREN_NO_FAULT if there is a header at the cursor, or if the
  * number there is not that of an extension header.
  */
 void wolfaren_fault_at(const struct wolfaren_cursor *cursor, const uint8_t *bytes, size_t len,
-                       struct wolfaren_fault *fault);
+                       struct wolfaren_fault *fault) WOLFAREN_NONNULL(1, 4);
 
 /* A packet: the IP header, then the extension headers, then the payload. */
 struct wolfaren_packet {
@@ -188,16 +202,18 @@ struct wolfaren_packet {
  * does, but with offsets from the start of the packet; `fault` is left unchanged. On error, returns false and stores
  * the error in `fault`; `packet` and `headers` are left unchanged. `fault->offset` is set for WOLFAREN_TOO_SHORT.
  */
+WOLFAREN_USE_RESULT
 bool wolfaren_parse_packet(const uint8_t *bytes, size_t len, struct wolfaren_header *headers, size_t room,
-                         struct wolfaren_packet *packet, struct wolfaren_fault *fault);
+                         struct wolfaren_packet *packet, struct wolfaren_fault *fault) WOLFAREN_NONNULL(5, 6);
 
 /*
  * Parses an IP packet like wolfaren_parse_packet, but accepts an IPv6 packet that is truncated, as in a capture. If there
  * are fewer bytes than its payload length states, the packet extends to the end of the bytes and `packet->len_source`
  * is WOLFAREN_SLICE. Its extension headers must still be complete. An IPv4 packet must be complete.
  */
+WOLFAREN_USE_RESULT
 bool wolfaren_parse_packet_lax(const uint8_t *bytes, size_t len, struct wolfaren_header *headers, size_t room,
-                             struct wolfaren_packet *packet, struct wolfaren_fault *fault);
+                             struct wolfaren_packet *packet, struct wolfaren_fault *fault) WOLFAREN_NONNULL(5, 6);
 
 /* The payload of a packet. The fields mean the same as in struct wolfaren_packet. */
 struct wolfaren_payload {
@@ -218,12 +234,14 @@ struct wolfaren_payload {
  * On success, returns true and fills in `payload`; `fault` is left unchanged. On error, returns false and stores the
  * error in `fault`; `payload` is left unchanged.
  */
+WOLFAREN_USE_RESULT
 bool wolfaren_find_payload(const uint8_t *bytes, size_t len, struct wolfaren_payload *payload,
-                           struct wolfaren_fault *fault);
+                           struct wolfaren_fault *fault) WOLFAREN_NONNULL(3, 4);
 
 /* Finds a payload like wolfaren_find_payload, and accepts the same truncated packets as wolfaren_parse_packet_lax. */
+WOLFAREN_USE_RESULT
 bool wolfaren_find_payload_lax(const uint8_t *bytes, size_t len, struct wolfaren_payload *payload,
-                               struct wolfaren_fault *fault);
+                               struct wolfaren_fault *fault) WOLFAREN_NONNULL(3, 4);
 
 /* The fields of a fragment header (RFC 8200, section 4.5). */
 struct wolfaren_fragment {
@@ -237,7 +255,8 @@ struct wolfaren_fragment {
  * Reads the fields of the fragment header at the start of the `len` bytes, and returns true. If there are fewer than 8
  * bytes, returns false and writes nothing.
  */
-bool wolfaren_fragment_fields(const uint8_t *bytes, size_t len, struct wolfaren_fragment *fields);
+WOLFAREN_USE_RESULT
+bool wolfaren_fragment_fields(const uint8_t *bytes, size_t len, struct wolfaren_fragment *fields) WOLFAREN_NONNULL(3);
 
 /* The fields of an authentication header (RFC 4302, section 2). */
 struct wolfaren_authentication {
@@ -251,7 +270,8 @@ struct wolfaren_authentication {
  * Reads the fields of the authentication header at the start of the `len` bytes, and returns true. If there is no valid
  * authentication header, returns false and writes nothing.
  */
-bool wolfaren_authentication_fields(const uint8_t *bytes, size_t len, struct wolfaren_authentication *fields);
+WOLFAREN_USE_RESULT
+bool wolfaren_authentication_fields(const uint8_t *bytes, size_t len, struct wolfaren_authentication *fields) WOLFAREN_NONNULL(3);
 
 /*
  * Links the headers in the array: sets `next_header` of each to the `number` of the one after it, and that of the last
@@ -279,8 +299,9 @@ size_t wolfaren_run_len(const struct wolfaren_header *headers, size_t count);
  * returns false, and sets `*written` to the number of bytes needed if that exceeds `room`, or to 0 if an element
  * doesn't lie within the bytes or isn't exactly one header of its number.
  */
+WOLFAREN_USE_RESULT
 bool wolfaren_write_headers(const uint8_t *bytes, size_t len, const struct wolfaren_header *headers, size_t count,
-                            uint8_t *out, size_t room, size_t *written);
+                            uint8_t *out, size_t room, size_t *written) WOLFAREN_NONNULL(7);
 
 /* A buffer size, in bytes, that is large enough for any text of wolfaren_fault_text and its terminating null byte. */
 #define WOLFAREN_TEXT_ROOM 256
@@ -290,10 +311,30 @@ bool wolfaren_write_headers(const uint8_t *bytes, size_t len, const struct wolfa
  * length of the text in bytes, without the null byte. If the return value is `room` or more, nothing is written.
  * Returns 0 for a fault that no call reports, such as one of kind WOLFAREN_NO_FAULT or of an unknown kind.
  */
-size_t wolfaren_fault_text(const struct wolfaren_fault *fault, char *text, size_t room);
+size_t wolfaren_fault_text(const struct wolfaren_fault *fault, char *text, size_t room) WOLFAREN_NONNULL(1);
 
 #ifdef __cplusplus
 }
+#endif
+
+/* The layouts of the structs that the library reads and writes. */
+#if defined(__cplusplus) && __cplusplus >= 201103L
+#define WOLFAREN_LAYOUT(type, size, last, offset) \
+    static_assert(sizeof(struct type) == (size) && offsetof(struct type, last) == (offset), "layout of struct " #type)
+#elif defined(__STDC_VERSION__) && __STDC_VERSION__ >= 201112L
+#define WOLFAREN_LAYOUT(type, size, last, offset) \
+    _Static_assert(sizeof(struct type) == (size) && offsetof(struct type, last) == (offset), "layout of struct " #type)
+#endif
+#ifdef WOLFAREN_LAYOUT
+WOLFAREN_LAYOUT(wolfaren_fault, 32, value, 28);
+WOLFAREN_LAYOUT(wolfaren_header, 24, next_header, 17);
+WOLFAREN_LAYOUT(wolfaren_chain, 56, fragmented, 52);
+WOLFAREN_LAYOUT(wolfaren_cursor, 16, number, 8);
+WOLFAREN_LAYOUT(wolfaren_packet, 40, len_source, 38);
+WOLFAREN_LAYOUT(wolfaren_payload, 32, len_source, 30);
+WOLFAREN_LAYOUT(wolfaren_fragment, 8, next_header, 7);
+WOLFAREN_LAYOUT(wolfaren_authentication, 24, next_header, 16);
+#undef WOLFAREN_LAYOUT
 #endif
 
 #endif

@@ -170,10 +170,9 @@ bool parse_packet(struct parts *parts, const uint8_t *bytes, size_t len, bool is
     struct wolfaren_payload payload;
     struct wolfaren_fault of_packet = {.kind = WOLFAREN_NO_FAULT}, of_chain = of_packet;
     begin_parts(parts, bytes, len);
-    if (is_short)
-        wolfaren_find_payload_lax(bytes, len, &payload, &of_packet);
-    else
-        wolfaren_find_payload(bytes, len, &payload, &of_packet);
+    if (is_short ? wolfaren_find_payload_lax(bytes, len, &payload, &of_packet)
+                 : wolfaren_find_payload(bytes, len, &payload, &of_packet))
+        of_packet.kind = WOLFAREN_NO_FAULT;
     parts->base_len = base_length(bytes, len);
     if (parts->base_len == 0) {
         put_unread(parts, &of_packet, is_short);

@@ -67,7 +67,11 @@ impl<'a> Ipv4ExtensionsSlice<'a> {
     #[inline]
     fn split(bytes: &'a [u8], chain: &Chain) -> (Ipv4ExtensionsSlice<'a>, IpNumber, &'a [u8]) {
         let (slice, rest) = bytes.split_at(chain.len);
-        (Self::of_parsed(slice), IpNumber(chain.next_header as u8), rest)
+        (
+            Self::of_parsed(slice),
+            IpNumber(chain.next_header as u8),
+            rest,
+        )
     }
 
     /// Returns whether there is no header.

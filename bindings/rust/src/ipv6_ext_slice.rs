@@ -31,7 +31,9 @@ impl<'a> Ipv6ExtensionSlice<'a> {
             ip_number::IPV6_FRAG => {
                 Ipv6ExtensionSlice::Fragment(Ipv6FragmentHeaderSlice::of_parsed(slice))
             }
-            ip_number::AUTH => Ipv6ExtensionSlice::Authentication(IpAuthHeaderSlice::of_parsed(slice)),
+            ip_number::AUTH => {
+                Ipv6ExtensionSlice::Authentication(IpAuthHeaderSlice::of_parsed(slice))
+            }
             _ => Ipv6ExtensionSlice::DestinationOptions(Ipv6RawExtHeaderSlice::of_parsed(slice)),
         }
     }

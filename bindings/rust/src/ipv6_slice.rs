@@ -79,7 +79,11 @@ impl<'a> Ipv6Slice<'a> {
         let header = Ipv6HeaderSlice::of_parsed(base);
         Ipv6Slice {
             header,
-            exts: Ipv6ExtensionsSlice::of_parsed(header.next_header(), parts.exts, parts.fragmented),
+            exts: Ipv6ExtensionsSlice::of_parsed(
+                header.next_header(),
+                parts.exts,
+                parts.fragmented,
+            ),
             payload: parts.payload_slice(),
         }
     }

@@ -34,7 +34,6 @@ extern crate std;
 #[doc = include_str!("../README.md")]
 struct Readme;
 
-mod parse_packet;
 pub mod err;
 mod faults;
 mod ip_auth_header_slice;
@@ -57,6 +56,7 @@ mod ipv6_raw_ext_header_slice;
 mod ipv6_slice;
 mod len_source;
 mod library;
+mod parse_packet;
 
 #[allow(deprecated)]
 pub use ip_auth_header_slice::{IpAuthHeaderSlice, IpAuthenticationHeaderSlice};

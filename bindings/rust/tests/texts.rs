@@ -8,7 +8,14 @@ use wolfaren::{IpFragOffset, IpNumber, LenSource};
 /// A placeholder in braces in a text, and its value.
 type Values<'a> = &'a [(&'a str, &'a str)];
 
-/// Returns the texts of the table, by error and variant.
+/// Returns the names in a cell, each in backquotes.
+fn names(cell: &str) -> Vec<String> {
+    cell.split(',')
+        .map(|name| name.trim().trim_matches('`').to_owned())
+        .collect()
+}
+
+/// Returns the texts of the table, by error and variant. A row may name several of both.
 fn table() -> BTreeMap<(String, String), String> {
     let page = include_str!("../../../docs/errors.md");
     let rows = page
@@ -16,15 +23,17 @@ fn table() -> BTreeMap<(String, String), String> {
         .skip_while(|line| *line != "## Texts and sources")
         .skip(4);
     rows.take_while(|line| line.starts_with('|'))
-        .map(|line| {
-            let cells: Vec<&str> = line
-                .split('|')
-                .map(|cell| cell.trim().trim_matches('`'))
-                .collect();
-            (
-                (cells[1].to_owned(), cells[2].to_owned()),
-                cells[3].to_owned(),
-            )
+        .flat_map(|line| {
+            let cells: Vec<&str> = line.split('|').map(str::trim).collect();
+            let text = cells[3].trim_matches('`').to_owned();
+            let variants = names(cells[2]);
+            names(cells[1]).into_iter().flat_map(move |error| {
+                let text = text.clone();
+                variants
+                    .clone()
+                    .into_iter()
+                    .map(move |variant| ((error.clone(), variant), text.clone()))
+            })
         })
         .collect()
 }

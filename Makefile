@@ -3,9 +3,13 @@
 # make test           compare the documented contracts, errors and figures with the code and the recorded run, run the
 #                     merge gate, check the spelling, and test the program, the library, ipcap, the package and the
 #                     page, and 20,000 comparisons with etherparse
-# make lib            build the static C library, its header and its pkg-config file in build/
-# make programs       build the program ipcap, which needs libpcap
-# make install        install all of these and ipexts (PREFIX=/usr/local; DESTDIR=.. is prepended to the paths)
+# make lib            build the static C library and its header in build/
+# make programs       build the programs ipexts and ipcap, which needs libpcap
+# make install        install what `make programs` has built: the library, the programs and their manual pages. Needs
+#                     neither rt nor a compiler (PREFIX=/usr/local, also LIBDIR, BINDIR, INCLUDEDIR and MANDIR;
+#                     DESTDIR=.. is prepended to the paths)
+# make install-lib    install what `make lib` has built, the library alone
+# make uninstall      remove what `make install` installs
 # make test-c         test the library, ipcap, and the package in bindings/rust
 # make page           build the files that page/index.html needs
 # make test-page      test that page in Chromium
@@ -23,7 +27,7 @@
 #
 # The last eight and make test-c take CARGO_FLAGS="..", additional flags for Cargo, such as one that locates the crate
 # on a machine without network access.
-.PHONY: run try test lib programs install test-c page test-page mutants memory bench bench-border cost diff diff-test diff-fields fuzz fuzz-test
+.PHONY: run try test lib programs install install-lib uninstall test-c page test-page mutants memory bench bench-border cost diff diff-test diff-fields fuzz fuzz-test
 .SILENT:
 
 RT_IS_THERE = command -v rt >/dev/null || { \
@@ -58,8 +62,6 @@ test:
 	scripts/gate
 
 VERSION = 0.1.0
-PREFIX = /usr/local
-DESTDIR =
 
 lib:
 	$(RT_IS_THERE)
@@ -68,23 +70,40 @@ lib:
 	mkdir -p build
 	cp crates/ipexts_c/out/libipexts_c.a build/libwolfaren.a
 	cp include/wolfaren.h build/
-	sed -e 's|@PREFIX@|$(PREFIX)|; s|@VERSION@|$(VERSION)|' include/wolfaren.pc.in > build/wolfaren.pc
 
 programs: lib
 	$(PCAP_IS_THERE)
 	$(MAKE) -C programs ipcap LIB=$(CURDIR)/build INCLUDE=$(CURDIR)/build OUT=$(CURDIR)/build/ipcap.out
-	cp build/ipcap.out/ipcap build/
-
-INSTALLED = $(DESTDIR)$(PREFIX)
-
-install: programs
 	scripts/prove ipexts
-	mkdir -p $(INSTALLED)/bin $(INSTALLED)/include $(INSTALLED)/lib/pkgconfig $(INSTALLED)/share/man/man1
-	cp build/ipcap crates/ipexts/out/ipexts $(INSTALLED)/bin/
-	cp build/wolfaren.h $(INSTALLED)/include/
-	cp build/libwolfaren.a $(INSTALLED)/lib/
-	cp build/wolfaren.pc $(INSTALLED)/lib/pkgconfig/
-	cp programs/ipcap/ipcap.1 programs/ipexts.1 $(INSTALLED)/share/man/man1/
+	cp build/ipcap.out/ipcap crates/ipexts/out/ipexts build/
+
+PREFIX = /usr/local
+BINDIR = $(PREFIX)/bin
+LIBDIR = $(PREFIX)/lib
+INCLUDEDIR = $(PREFIX)/include
+MANDIR = $(PREFIX)/share/man
+DESTDIR =
+INSTALL = install
+
+install-lib:
+	[ -f build/libwolfaren.a ] || { echo "There is nothing to install: run 'make lib' first." >&2; exit 1; }
+	$(INSTALL) -d $(DESTDIR)$(INCLUDEDIR) $(DESTDIR)$(LIBDIR)/pkgconfig
+	$(INSTALL) -m 644 build/wolfaren.h $(DESTDIR)$(INCLUDEDIR)/
+	$(INSTALL) -m 644 build/libwolfaren.a $(DESTDIR)$(LIBDIR)/
+	sed -e 's|@PREFIX@|$(PREFIX)|; s|@INCLUDEDIR@|$(INCLUDEDIR)|; s|@LIBDIR@|$(LIBDIR)|; s|@VERSION@|$(VERSION)|' \
+		include/wolfaren.pc.in > $(DESTDIR)$(LIBDIR)/pkgconfig/wolfaren.pc
+	chmod 644 $(DESTDIR)$(LIBDIR)/pkgconfig/wolfaren.pc
+
+install: install-lib
+	[ -f build/ipcap ] && [ -f build/ipexts ] || { echo "The programs are missing: run 'make programs' first." >&2; exit 1; }
+	$(INSTALL) -d $(DESTDIR)$(BINDIR) $(DESTDIR)$(MANDIR)/man1
+	$(INSTALL) -m 755 build/ipcap build/ipexts $(DESTDIR)$(BINDIR)/
+	$(INSTALL) -m 644 programs/ipcap/ipcap.1 programs/ipexts.1 $(DESTDIR)$(MANDIR)/man1/
+
+uninstall:
+	rm -f $(DESTDIR)$(INCLUDEDIR)/wolfaren.h $(DESTDIR)$(LIBDIR)/libwolfaren.a $(DESTDIR)$(LIBDIR)/pkgconfig/wolfaren.pc
+	rm -f $(DESTDIR)$(BINDIR)/ipcap $(DESTDIR)$(BINDIR)/ipexts
+	rm -f $(DESTDIR)$(MANDIR)/man1/ipcap.1 $(DESTDIR)$(MANDIR)/man1/ipexts.1
 
 test-c: lib
 	$(PYTHON_IS_THERE)

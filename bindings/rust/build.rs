@@ -64,9 +64,9 @@ fn has_archive(folder: &Path) -> bool {
 /// Ends the build with a message that says what is wrong and what to do.
 fn give_up(what: &str) -> ! {
     eprintln!(
-        "\nThe library wolfaren is missing. {what}\n\nIn its repository, `make install PREFIX=..` installs it with a \
-         wolfaren.pc for pkg-config (add its directory to PKG_CONFIG_PATH if necessary), and `make lib` builds it in \
-         build/. Set WOLFAREN_LIB_DIR to the directory that contains {ARCHIVE}.\n"
+        "\nThe library wolfaren is missing. {what}\n\nIn its repository, `make lib` builds it in build/, and `make \
+         install-lib PREFIX=..` installs it with a wolfaren.pc for pkg-config (add its directory to PKG_CONFIG_PATH if \
+         necessary). Otherwise set WOLFAREN_LIB_DIR to the directory that contains {ARCHIVE}.\n"
     );
     exit(1)
 }

@@ -8,7 +8,7 @@ use wolfaren::{IpFragOffset, IpNumber, LenSource};
 /// A placeholder in braces in a text, and its value.
 type Values<'a> = &'a [(&'a str, &'a str)];
 
-/// Returns the names in a cell, each in backquotes.
+/// Returns the names in a cell, which are quoted as code.
 fn names(cell: &str) -> Vec<String> {
     cell.split(',')
         .map(|name| name.trim().trim_matches('`').to_owned())

@@ -1,0 +1,84 @@
+-- A chain that stops at a later fragment's header: one more header, and the end.
+use Rattle.ip_spec.proofs.Common.{◌≡◌, ℕ, List, [], ◌∷◌, ◌++◌, length, drop, refl, sym, ap, ◌∙◌, arith, Bool, true, false, nat_eq, common_steps, or-false, or_assoc, option_map, option_or, find, ◌||◌, next_header, ExtHeader, bytes_of, leads_to, IsNext, IsEnd, IsLongestUnder, rest_after}
+use Rattle.std.proofs.Common.{Some, None, cond}
+use Rattle.std.proofs.lemmas.List.Folds.{find-append}
+use Rattle.ip_spec.proofs.ParsedLemmas.{HasParsed, has_parsed_on, no_next_here, parsed_longest_under}
+use Rattle.ip_spec.proofs.UnderLemmas.{one_longest_under, some_longest_under}
+use Rattle.ip_dissect.specs.LaterDemand.{is_later, has_later, NothingAfterLater, nothing_after_later}
+use Rattle.ip_dissect.specs.Later.{chain_to_later}
+use Rattle.ip_dissect.specs.Found.{found_in}
+use Rattle.ip_dissect.specs.declared.walk.Found.{Found}
+
+-- one more header
+pub has_later-more : (c : List ExtHeader) (h : ExtHeader) → has_later (c ++ h ∷ []) ≡ (has_later c || is_later h)
+has_later-more c h = grind (arith, common_steps, or-false, or_assoc)
+
+pub found-more : {A B : Type 0} (f : A → B) (p : A → Bool) (c : List A) (h : A) → option_map f (find p (c ++ h ∷ [])) ≡ option_or (option_map f (find p c)) (cond (p h) (Some (f h)) None)
+found-more f p c h = rw find-append (grind (arith, common_steps))
+
+-- a header may follow if none is a later fragment's, and otherwise none may
+pub may_follow : (c : List ExtHeader) (h : ExtHeader) → has_later c ≡ false → NothingAfterLater (c ++ h ∷ [])
+may_follow [] h f = (λ e. refl, tt)
+may_follow (g ∷ c) h f = grind (arith, common_steps, may_follow c h)
+
+-- a chain without one meets the demand
+met : (c : List ExtHeader) → has_later c ≡ false → NothingAfterLater c
+met [] f = tt
+met (g ∷ c) f = grind (arith, common_steps, met c)
+
+pub none_follows : (c : List ExtHeader) (h : ExtHeader) → has_later c ≡ true → NothingAfterLater (c ++ h ∷ []) → ⊥
+none_follows [] h f q = cc
+none_follows (g ∷ c) h f q = grind (arith, common_steps, none_follows c h)
+
+pub chain_to_later-longest : (n : ℕ) (s : List ℕ) → IsLongestUnder NothingAfterLater n s (chain_to_later n s)
+chain_to_later-longest n s = (some_longest_under NothingAfterLater nothing_after_later n s).1
+
+-- The pass over a chain: the headers so far, none of which is a later fragment's.
+pub record WalkState (n : ℕ) (s : List ℕ) (m : ℕ) (r : List ℕ) (found : Found) : Type 0 where
+  pub chain : List ExtHeader
+  pub read : HasParsed n s chain m r
+  pub said : found ≡ found_in chain
+  pub none : has_later chain ≡ false
+
+-- the chain is the longest
+pub record AtEnd (n : ℕ) (s : List ℕ) (m : ℕ) (r : List ℕ) (found : Found) : Type 0 where
+  pub number : m ≡ leads_to n (chain_to_later n s)
+  pub rest : r ≡ rest_after (chain_to_later n s) s
+  pub said : found ≡ found_in (chain_to_later n s)
+
+module _ (n : ℕ) (s : List ℕ) (m : ℕ) (r : List ℕ) (found : Found) where
+  end_of : (c : List ExtHeader) → HasParsed n s c m r → found ≡ found_in c → IsLongestUnder NothingAfterLater n s c → AtEnd n s m r found
+  end_of c read said longest =
+      let is : c ≡ chain_to_later n s = one_longest_under NothingAfterLater nothing_after_later n s c (chain_to_later n s) longest (chain_to_later-longest n s) in
+      record {
+        number = read.number ∙ ap (leads_to n) is;
+        rest = read.rest ∙ ap (λ d. drop (length (bytes_of d)) s) is;
+        said = said ∙ ap found_in is;
+      }
+
+  -- where no header follows
+  pub at_end : WalkState n s m r found → IsEnd (nat_eq (length r) (length s)) m r → AtEnd n s m r found
+  at_end w e =
+      end_of w.chain w.read w.said
+      (parsed_longest_under NothingAfterLater nothing_after_later n s w.chain m r (record { read = w.read; meets = met w.chain w.none }) (λ h x q. no_next_here n s w.chain m r w.read e h x))
+
+-- one more header, which isn't a later fragment's
+pub goes_on : (n : ℕ) (s : List ℕ) (m : ℕ) (r : List ℕ) (found : Found) (w : WalkState n s m r found) (h : ExtHeader) (k : ℕ) (q b : List ℕ) (more : Found) (x : IsNext (nat_eq (length r) (length s)) m r h)
+    (number : k ≡ next_header h.bytes) (bytes : b ≡ h.bytes) (rest : q ≡ drop (length b) r) (said : (c : List ExtHeader) → found ≡ found_in c → more ≡ found_in (c ++ h ∷ [])) → more.later ≡ false → WalkState n s k q more
+goes_on n s m r found w h k q b more x number bytes rest said not_later = record {
+  chain = w.chain ++ h ∷ [];
+  read = has_parsed_on n s w.chain m r h k q b w.read x number bytes rest;
+  said = said w.chain w.said;
+  none = ap (λ (f : Found). f.later) (sym (said w.chain w.said)) ∙ not_later;
+}
+
+-- one more header, which is
+pub stops_at_later : (n : ℕ) (s : List ℕ) (m : ℕ) (r : List ℕ) (found : Found) (w : WalkState n s m r found) (h : ExtHeader) (k : ℕ) (q b : List ℕ) (more : Found) (x : IsNext (nat_eq (length r) (length s)) m r h)
+    (number : k ≡ next_header h.bytes) (bytes : b ≡ h.bytes) (rest : q ≡ drop (length b) r) (said : (c : List ExtHeader) → found ≡ found_in c → more ≡ found_in (c ++ h ∷ [])) → more.later ≡ true → AtEnd n s k q more
+stops_at_later n s m r found w h k q b more x number bytes rest said later =
+    let c : List ExtHeader = w.chain ++ h ∷ [] in
+    let read : HasParsed n s c k q = has_parsed_on n s w.chain m r h k q b w.read x number bytes rest in
+    let told : more ≡ found_in c = said w.chain w.said in
+    let has : has_later c ≡ true = ap (λ (f : Found). f.later) (sym told) ∙ later in
+    end_of n s k q more c read told
+    (parsed_longest_under NothingAfterLater nothing_after_later n s c k q (record { read = read; meets = may_follow w.chain h w.none }) (λ g y meets. none_follows c g has meets))

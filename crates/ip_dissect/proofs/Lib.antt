@@ -1,0 +1,4 @@
+pub mod FoundLemmas
+pub mod LaterLemmas
+pub mod PartsLemmas
+pub mod Ipv4Lemmas

@@ -1,0 +1,82 @@
+-- The parts of a packet, from those of the bytes after its base header.
+use Rattle.ip_spec.proofs.Common.{◌≡◌, ℕ, ◌+◌, ◌-◌, List, length, take, drop, subst, refl, ap, ◌∙◌, arith, nat_eq, rules, eqb_tells, Option, Some, None, option_map, option_or, option_map_or, find, if◌then◌else◌, AllByRecursion, IsHeader, IsPrefix, ExtHeader, bytes_of, leads_to, is_empty, rest_after, IsPrefixChain}
+use Rattle.ip_spec.proofs.PrefixLemmas.{prefix-length}
+use Rattle.ip_spec.proofs.ChainLemmas.{bytes_of-least}
+use Rattle.ip_base.specs.Ipv6Header.{ipv6_next_header}
+use Rattle.ip_ext_slices.specs.ChainFault.{slice_fault}
+use Rattle.ip_dissect.specs.Later.{chain_to_later}
+use Rattle.ip_dissect.specs.Fragment.{fragment_of, fragments, is_fragment_header, ipv6_fragment}
+use Rattle.ip_dissect.specs.Found.{found_in}
+use Rattle.ip_dissect.specs.Extent.{packet_bytes, after_base, missing_of, ipv6_stated, ipv6_chain}
+use Rattle.ip_dissect.specs.End.{exts_end, ipv6_end}
+use Rattle.ip_dissect.specs.Dissection.{base_of, HasParts}
+use Rattle.ip_dissect.specs.declared.dissection.Dissection.{Dissection}
+use Rattle.ip_dissect.specs.declared.fragment.Fragment.{Fragment}
+use Rattle.ip_dissect.specs.declared.walk.Found.{Found}
+use Rattle.ip_dissect.specs.declared.end.End.{End}
+use Rattle.ip_dissect.specs.declared.end.End.TheVariants.{LaterFragment, Payload}
+use Rattle.ip_dissect.proofs.LaterLemmas.{chain_to_later-longest}
+
+empty_is : (c : List ExtHeader) (k : ℕ) → AllByRecursion (λ h. IsHeader h.number h.bytes) c → k ≡ length (bytes_of c) → nat_eq k 0 ≡ is_empty c
+empty_is c k a e = search (rules, nat_eq, eqb_tells, bytes_of-least)
+
+-- A chain c from n at the start of x, and r after it.
+module _ (n : ℕ) (x : List ℕ) (c : List ExtHeader) (p : IsPrefixChain n x c) (r : List ℕ) (rest : r ≡ rest_after c x) where
+  pub chain_len : length x - length r ≡ length (bytes_of c)
+  chain_len = omega (arith, prefix-length (bytes_of c) x p.prefix, ap length rest)
+
+  pub chain_front : take (length x - length r) x ≡ bytes_of c
+  chain_front = ap (λ k. take k x) chain_len ∙ p.prefix
+
+  pub chain_none : nat_eq (length x - length r) 0 ≡ is_empty c
+  chain_none = empty_is c (length x - length r) p.chain.headers chain_len
+
+mapped_or : {A B : Type 0} (f : A → B) (a b : Option A) → option_or (option_map f a) (option_map f b) ≡ option_map f (option_or a b)
+mapped_or f None b = refl
+mapped_or f (Some x) b = refl
+
+found_fragment : (f : Found) (c : List ExtHeader) → f ≡ found_in c → option_or f.fragmenting f.first ≡ ipv6_fragment c
+found_fragment f c e = ap (λ (g : Found). option_or g.fragmenting g.first) e ∙ mapped_or fragment_of (find fragments c) (find is_fragment_header c)
+
+pub ipv6_fragment_is : (b x s : List ℕ) (n : ℕ) (found : Found) (f : Option Fragment) → x ≡ after_base b (ipv6_stated b) s → n ≡ ipv6_next_header b → found ≡ found_in (chain_to_later n x)
+    → f ≡ option_or found.fragmenting found.first → f ≡ ipv6_fragment (ipv6_chain b s)
+ipv6_fragment_is b x s n found f xs ns said is =
+    let C : ℕ → List ℕ → Option Fragment = λ k y. ipv6_fragment (chain_to_later k y) in
+    is ∙ found_fragment found (chain_to_later n x) said ∙ ap (C n) xs ∙ ap (λ k. C k (after_base b (ipv6_stated b) s)) ns
+
+-- the bytes of the headers, and those after them, where x follows the base header
+pub has_parts : (s : List ℕ) (t : Option ℕ) (n : ℕ) (c : List ExtHeader) (packet x : List ℕ) (d : Dissection) → IsPrefix (base_of d) s → d.stated_len ≡ t → packet ≡ packet_bytes (base_of d) d.stated_len s
+    → x ≡ drop (length (base_of d)) packet → IsPrefixChain n x c → d.extensions.now ≡ take (length x - length d.payload.now) x → d.next_header.0 ≡ leads_to n c → d.payload.now ≡ rest_after c x
+    → d.missing ≡ missing_of d.stated_len (length s) → d.padding.now ≡ drop (length packet) s → HasParts s t n c d
+has_parts s t n c packet x d prefix stated bytes after chain headers number payload missing padding =
+    let whole : packet ≡ packet_bytes (base_of d) t s = bytes ∙ ap (λ u. packet_bytes (base_of d) u s) stated in
+    record {
+      prefix = prefix;
+      stated = stated;
+      headers = headers ∙ chain_front n x c chain d.payload.now payload;
+      number = number;
+      payload = payload ∙ ap (rest_after c) (after ∙ ap (drop (length (base_of d))) whole);
+      missing = missing ∙ ap (λ u. missing_of u (length s)) stated;
+      padding = padding ∙ ap (λ (y : List ℕ). drop (length y) s) whole;
+    }
+
+-- what follows the base header, by the stated length
+pub after_is : (b s : List ℕ) (t u : Option ℕ) (packet x : List ℕ) → t ≡ u → packet ≡ packet_bytes b t s → x ≡ drop (length b) packet → x ≡ after_base b u s
+after_is b s t u packet x stated bytes after = after ∙ ap (drop (length b)) (bytes ∙ ap (λ v. packet_bytes b v s) stated)
+
+pub ipv6_parts : (s : List ℕ) (n : ℕ) (packet x : List ℕ) (d : Dissection) → IsPrefix (base_of d) s → d.stated_len ≡ ipv6_stated (base_of d) → packet ≡ packet_bytes (base_of d) d.stated_len s
+    → x ≡ drop (length (base_of d)) packet → n ≡ ipv6_next_header (base_of d) → d.extensions.now ≡ take (length x - length d.payload.now) x → d.next_header.0 ≡ leads_to n (chain_to_later n x)
+    → d.payload.now ≡ rest_after (chain_to_later n x) x → d.missing ≡ missing_of d.stated_len (length s) → d.padding.now ≡ drop (length packet) s
+    → HasParts s (ipv6_stated (base_of d)) (ipv6_next_header (base_of d)) (ipv6_chain (base_of d) s) d
+ipv6_parts s n packet x d prefix stated bytes after ns headers number payload missing padding =
+    let P : ℕ → List ℕ → Type 0 = λ k y. HasParts s (ipv6_stated (base_of d)) k (chain_to_later k y) d in
+    let made : P n x = has_parts s _ n (chain_to_later n x) packet x d prefix stated bytes after (chain_to_later-longest n x).has.0 headers number payload missing padding in
+    subst (λ k. P k (after_base (base_of d) (ipv6_stated (base_of d)) s)) ns (subst (P n) (after_is (base_of d) s d.stated_len _ packet x stated bytes after) made)
+
+pub ipv6_end_is : (b x s : List ℕ) (t : Option ℕ) (n m : ℕ) (r : List ℕ) (found : Found) (end : End) → x ≡ after_base b (ipv6_stated b) s → t ≡ ipv6_stated b → n ≡ ipv6_next_header b
+    → m ≡ leads_to n (chain_to_later n x) → r ≡ rest_after (chain_to_later n x) x → found ≡ found_in (chain_to_later n x)
+    → end ≡ (if found.later then LaterFragment else option_map_or (exts_end t) (slice_fault (40 + (length x - length r)) (nat_eq (length x - length r) 0) m r) Payload)
+    → end ≡ ipv6_end b s
+ipv6_end_is b x s t n m r found end xs stated ns number rest said is =
+    let p : IsPrefixChain n x (chain_to_later n x) = (chain_to_later-longest n x).has.0 in
+    is ∙ rw (said, stated, chain_none n x (chain_to_later n x) p r rest, chain_len n x (chain_to_later n x) p r rest, number, rest, ns, xs) (refl {a = ipv6_end b s})

@@ -1,0 +1,78 @@
+-- Why a dissection ends where it does. Offsets count from the start of the packet.
+use Rattle.std.specs.Prelude.{ℕ, ◌+◌, ◌-◌, List, length, nat_lt, Option, Some, None, ◌==◌, ◌&&◌, not, if◌then◌else◌}
+use Rattle.std.specs.Option.{option_map, option_map_or}
+use Rattle.ip_spec.specs.Chain.{leads_to, bytes_of, is_empty}
+use Rattle.ip_spec.specs.Parse.{rest_after, fault_after}
+use Rattle.ip_base.specs.LenError.{too_short}
+use Rattle.ip_base.specs.Ipv4Header.{version, ihl, ipv4_header_len, total_len, protocol, ipv4_fragment_offset}
+use Rattle.ip_base.specs.Ipv6Header.{ipv6_next_header}
+use Rattle.ip_base.specs.declared.len_source.LenSource.{LenSource}
+use Rattle.ip_base.specs.declared.len_source.LenSource.TheVariants.{Slice, Ipv4HeaderTotalLen, Ipv6HeaderPayloadLen}
+use Rattle.ip_base.specs.declared.err.layer.Layer.{Layer}
+use Rattle.ip_base.specs.declared.err.layer.Layer.TheVariants as layer
+use Rattle.ip_base.specs.declared.err.len_error.LenError.{LenError}
+use Rattle.ip_ext_headers.specs.declared.err.ip_auth.header_slice_error.HeaderSliceError.{HeaderSliceError as AuthSliceError}
+use Rattle.ip_ext_headers.specs.declared.err.ip_auth.header_slice_error.HeaderSliceError.TheVariants as auth
+use Rattle.ip_ext_slices.specs.declared.err.ipv6_exts.header_slice_error.HeaderSliceError.TheVariants as exts
+use Rattle.ip_ext_slices.specs.ChainFault.{Fault, slice_fault}
+use Rattle.ip_ext_slices.specs.Ipv4Fault.{ipv4_faults}
+use Rattle.etherparse_ip.specs.PacketFault.{auth_in_packet}
+use Rattle.etherparse_ip.specs.declared.err.ip.header_error.HeaderError.TheVariants.{UnsupportedIpVersion, Ipv4HeaderLengthSmallerThanHeader}
+use Rattle.etherparse_ip.specs.declared.err.ip.headers_error.HeadersError.TheVariants.{Ip, Ipv4Ext, Ipv6Ext}
+use Rattle.etherparse_ip.specs.declared.err.ip.slice_error.SliceError.TheVariants.{Len, IpHeaders}
+use Rattle.ip_dissect.specs.LaterDemand.{has_later}
+use Rattle.ip_dissect.specs.Extent.{ipv4_stated, ipv6_stated, after_base, ipv4_chain, ipv6_chain}
+use Rattle.ip_dissect.specs.declared.end.End.{End}
+use Rattle.ip_dissect.specs.declared.end.End.TheVariants as end
+
+-- Why bytes s don't start with a whole base header. None if they do.
+abbrev pub base_end : List ℕ → Option End
+base_end s =
+    if length s == 0 then Some (end.Truncated (too_short Slice 0 0 layer.IpHeader 1) None)
+    else if version s == 4 then (
+    if nat_lt (ihl s) 5 then Some (end.Fault (IpHeaders (Ip (Ipv4HeaderLengthSmallerThanHeader (ihl s)))) None)
+    else if nat_lt (length s) (ipv4_header_len s) then Some (end.Truncated (too_short Slice (length s) 0 layer.Ipv4Header (ipv4_header_len s)) None)
+    else None
+    )
+    else if version s == 6 then (
+    if nat_lt (length s) 40 then Some (end.Truncated (too_short Slice (length s) 0 layer.Ipv6Header 40) None)
+    else None
+    )
+    else Some (end.Fault (IpHeaders (Ip (UnsupportedIpVersion (version s)))) None)
+
+-- A header needs more bytes than there are. If the stated length t leaves fewer than it needs, the header doesn't fit
+-- the packet: a fault, by the length field. Otherwise the rest of it may exist: it is truncated.
+abbrev pub len_end : Option ℕ → LenSource → LenError → Option Layer → End
+len_end None field e header = end.Truncated e header
+len_end (Some t) field e header =
+    if nat_lt (t - e.layer_start_offset) e.required_len then end.Fault (Len (record e { len = t - e.layer_start_offset; len_source = field })) header
+    else end.Truncated e header
+
+-- the end at an error in an IPv4 extension header, and in an IPv6 one
+abbrev pub auth_end : Option ℕ → AuthSliceError → End
+auth_end t (auth.Len e) = len_end t Ipv4HeaderTotalLen e None
+auth_end t (auth.Content e) = end.Fault (IpHeaders (Ipv4Ext e)) None
+
+abbrev pub exts_end : Option ℕ → Fault → End
+exts_end t (exts.Len e, header) = len_end t Ipv6HeaderPayloadLen e (Some header)
+exts_end t (exts.Content e, header) = end.Fault (IpHeaders (Ipv6Ext e)) (Some header)
+
+-- the end after an IPv4 base header b in bytes s
+abbrev pub ipv4_end : List ℕ → List ℕ → End
+ipv4_end b s =
+    if not (total_len b == 0) && nat_lt (total_len b) (length b) then end.Fault (Len (too_short Ipv4HeaderTotalLen (total_len b) 0 layer.Ipv4Packet (length b))) None
+    else if not (ipv4_fragment_offset b == 0) then end.LaterFragment
+    else option_map_or (auth_end (ipv4_stated b)) (option_map (auth_in_packet Slice (length b)) (fault_after (ipv4_faults Slice) (ipv4_chain b s) (protocol b) (after_base b (ipv4_stated b) s))) end.Payload
+
+-- the error of the IPv6 chain after the base header b in bytes s
+abbrev pub ipv6_error : List ℕ → List ℕ → Option Fault
+ipv6_error b s =
+    slice_fault (40 + length (bytes_of (ipv6_chain b s))) (is_empty (ipv6_chain b s))
+    (leads_to (ipv6_next_header b) (ipv6_chain b s))
+    (rest_after (ipv6_chain b s) (after_base b (ipv6_stated b) s))
+
+-- the end after an IPv6 base header b in bytes s
+abbrev pub ipv6_end : List ℕ → List ℕ → End
+ipv6_end b s =
+    if has_later (ipv6_chain b s) then end.LaterFragment
+    else option_map_or (exts_end (ipv6_stated b)) (ipv6_error b s) end.Payload

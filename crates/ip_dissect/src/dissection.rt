@@ -1,0 +1,36 @@
+use crate::{End, Fragment};
+use ip_base::{IpNumber, Ipv4HeaderSlice, Ipv6HeaderSlice};
+
+/// The base header of a packet of either IP version.
+#[derive(Clone, Copy, Debug)]
+pub enum BaseHeader<'a> {
+    /// An IPv4 header with its options.
+    Ipv4(Ipv4HeaderSlice<'a>),
+    /// An IPv6 header.
+    Ipv6(Ipv6HeaderSlice<'a>),
+}
+
+/// What there is of the packet at the start of some bytes, borrowed from them. The base header, the extension headers
+/// and the payload follow one another and are the packet's bytes; the padding follows the packet.
+#[derive(Clone, Debug, Drop)]
+pub struct Dissection<'a> {
+    /// The base header, if the bytes start with a whole one.
+    pub base: Option<BaseHeader<'a>>,
+    /// The packet's length in bytes by its base header; `None` if the length field is 0, as in a jumbogram (RFC
+    /// 2675) or a packet captured before segmentation offload.
+    pub stated_len: Option<usize>,
+    /// The bytes of the extension headers. No header follows a fragment header with a non-zero offset.
+    pub extensions: &'a [u8],
+    /// Which fragment the packet is; `None` if it is none.
+    pub fragment: Option<Fragment>,
+    /// The protocol number of what follows the headers.
+    pub next_header: IpNumber,
+    /// The packet's bytes after the headers.
+    pub payload: &'a [u8],
+    /// How many bytes of the stated length are not here.
+    pub missing: usize,
+    /// The bytes after the packet.
+    pub padding: &'a [u8],
+    /// Why the headers end where they do.
+    pub end: End,
+}

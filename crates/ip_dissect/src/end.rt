@@ -1,0 +1,25 @@
+use etherparse_ip::err::ip::SliceError;
+use etherparse_ip::err::{Layer, LenError};
+
+/// Why a dissection ends where it does. Offsets in errors count from the start of the packet.
+#[derive(Clone, Debug, PartialEq, Eq, Drop)]
+pub enum End {
+    /// The payload follows the headers.
+    Payload,
+    /// The packet is a fragment with a non-zero offset: its payload continues that of an earlier fragment.
+    LaterFragment,
+    /// A header is incomplete here, but lies within the length that the packet states, or none is stated.
+    Truncated {
+        /// The bytes that the header needs, and those that are here.
+        error: LenError,
+        /// The IPv6 extension header.
+        header: Option<Layer>,
+    },
+    /// A header doesn't fit the packet, or its bytes are malformed.
+    Fault {
+        /// The error.
+        error: SliceError,
+        /// The IPv6 extension header.
+        header: Option<Layer>,
+    },
+}

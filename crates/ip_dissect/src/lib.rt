@@ -1,0 +1,19 @@
+//! One answer for a whole packet of IPv4 (RFC 791) or IPv6 (RFC 8200), for any bytes: its base header, how long it is
+//! stated to be, its extension headers as far as they are whole, what fragment it is, its payload, and why the
+//! dissection ends there.
+#![tactic(auto)]
+
+mod base;
+mod dissection;
+mod end;
+mod ends;
+mod fields;
+mod fragment;
+mod ipv4_chain;
+mod parts;
+mod walk;
+
+pub use dissection::{BaseHeader, Dissection};
+pub use end::End;
+pub use fragment::{Fragment, FragmentKind};
+pub use parts::dissect;

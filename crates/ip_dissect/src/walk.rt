@@ -1,0 +1,130 @@
+//! One pass over the extension headers of an IPv6 packet.
+ghost use Rattle.std.specs.Prelude.{◌≡◌, ◌≤◌, ◌++◌, ◌∷◌, ◌==◌, ◌||◌, not, if◌then◌else◌, Some, None, [], length, drop, List};
+ghost use Rattle.std.specs.Option.{option_or};
+ghost use Rattle.ip_spec.specs.Chain.{ExtHeader, leads_to};
+ghost use Rattle.ip_spec.specs.Parse.{rest_after};
+ghost use Rattle.ip_ext_slices.specs.Ipv6ExtensionSlice.{header_of};
+ghost use Rattle.ip_dissect.specs.Later.{chain_to_later};
+ghost use Rattle.ip_dissect.specs.Fragment.{fragment_in, is_atomic};
+ghost use Rattle.ip_dissect.specs.Found.{found_in};
+
+use crate::{Fragment, FragmentKind};
+use ip_base::IpNumber;
+use ip_ext_slices::{Ipv6ExtensionSlice, header_at};
+
+/// What the fragment headers say.
+#[derive(Clone, Copy, Debug)]
+pub(crate) struct Found {
+    /// The first one that fragments the payload.
+    pub(crate) fragmenting: Option<Fragment>,
+    /// The first one.
+    pub(crate) first: Option<Fragment>,
+    /// Whether one has a non-zero offset.
+    pub(crate) later: bool,
+}
+
+/// The end of a pass: the number that follows the headers, the bytes after them, and what they say.
+#[derive(Clone, Copy, Debug)]
+pub(crate) struct Passed<'a> {
+    pub(crate) number: IpNumber,
+    pub(crate) rest: &'a [u8],
+    pub(crate) found: Found,
+}
+
+/// Returns the bytes after the first `len`.
+#[inline(always)]
+pub(crate) fn after(bytes: &[u8], len: usize) -> &[u8]
+    requires { len ≤ length bytes.now }
+    ensures { result.now ≡ drop len bytes.now }
+{
+    &bytes[len..]
+}
+
+/// Walks the longest chain from `start` in which nothing follows a later fragment's header.
+#[inline(always)]
+pub(crate) fn pass(start: IpNumber, bytes: &[u8]) -> Passed<'_>
+    ensures number { result.number.0 ≡ leads_to start.0 (chain_to_later start.0 bytes.now) }
+    ensures rest { result.rest.now ≡ rest_after (chain_to_later start.0 bytes.now) bytes.now }
+    ensures found { result.found ≡ found_in (chain_to_later start.0 bytes.now) }
+{
+    let mut number = start;
+    let mut rest = bytes;
+    let mut found = Found::none();
+    'headers: while let Some(header) = header_at(rest.len() == bytes.len(), number, rest) {
+        number = header.next_header();
+        rest = after(rest, header.slice().len());
+        found = found.with(&header);
+        if found.later {
+            return Passed {
+                number,
+                rest,
+                found,
+            };
+        }
+    }
+    Passed {
+        number,
+        rest,
+        found,
+    }
+}
+
+impl Found {
+    /// Returns what no header says.
+    #[inline(always)]
+    fn none() -> Found
+        ensures { result ≡ found_in [] }
+    {
+        Found {
+            fragmenting: None,
+            first: None,
+            later: false,
+        }
+    }
+
+    /// Returns what the headers say with one more.
+    #[inline(always)]
+    fn with(self, header: &Ipv6ExtensionSlice<'_>) -> Found
+        ensures { (c : List ExtHeader) → self ≡ found_in c
+            → result ≡ found_in (c ++ header_of header.now ∷ []) }
+    {
+        match fragment_of(header) {
+            Some(fragment) => self.with_fragment(fragment),
+            None => self,
+        }
+    }
+
+    /// Returns what the headers say with one more fragment header.
+    #[inline(always)]
+    fn with_fragment(self, fragment: Fragment) -> Found
+        ensures fragmenting { result.fragmenting
+            ≡ option_or self.fragmenting (if is_atomic fragment then None else Some fragment) }
+        ensures first { result.first ≡ option_or self.first (Some fragment) }
+        ensures later { result.later ≡ (self.later || not (fragment.offset == 0)) }
+    {
+        let fragmenting = match fragment.kind {
+            FragmentKind::Atomic => None,
+            _ => Some(fragment),
+        };
+        Found {
+            fragmenting: self.fragmenting.or(fragmenting),
+            first: self.first.or(Some(fragment)),
+            later: self.later || fragment.offset != 0,
+        }
+    }
+}
+
+/// Returns what a header says, if it is a fragment header.
+#[inline(always)]
+fn fragment_of(header: &Ipv6ExtensionSlice<'_>) -> Option<Fragment>
+    ensures { result ≡ fragment_in (header_of header.now) }
+{
+    match header {
+        Ipv6ExtensionSlice::Fragment(header) => Some(Fragment::new(
+            header.identification(),
+            header.more_fragments(),
+            header.fragment_offset().value(),
+        )),
+        _ => None,
+    }
+}

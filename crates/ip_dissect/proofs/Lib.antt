@@ -2,3 +2,4 @@ pub mod FoundLemmas
 pub mod LaterLemmas
 pub mod PartsLemmas
 pub mod Ipv4Lemmas
+pub mod JoinedLemmas

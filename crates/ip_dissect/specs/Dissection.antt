@@ -1,5 +1,5 @@
 -- The parts of the packet at the start of bytes s.
-use Rattle.std.specs.Prelude.{◌≡◌, ℕ, List, [], length, drop, Option, None}
+use Rattle.std.specs.Prelude.{◌≡◌, ℕ, Bool, true, false, not, List, [], length, drop, Option, None}
 use Rattle.std.specs.Option.{option_map_or}
 use Rattle.ip_spec.specs.Numbers.{NO_NEXT_HEADER}
 use Rattle.ip_spec.specs.Prefix.{IsPrefix}
@@ -22,9 +22,21 @@ abbrev pub base_bytes : BaseHeader → List ℕ
 base_bytes (Ipv4 h) = ipv4_header.bytes h
 base_bytes (Ipv6 h) = ipv6_header.bytes h
 
+-- the header is IPv4's
+abbrev pub is_ipv4_header : BaseHeader → Bool
+is_ipv4_header (Ipv4 h) = true
+is_ipv4_header (Ipv6 h) = false
+
 -- those of the packet's, none if there is no base header
 abbrev pub base_of : Dissection → List ℕ
 base_of d = option_map_or base_bytes d.base []
+
+-- it has an IPv4 base header, or an IPv6 one
+abbrev pub is_ipv4 : Dissection → Bool
+is_ipv4 d = option_map_or is_ipv4_header d.base false
+
+abbrev pub is_ipv6 : Dissection → Bool
+is_ipv6 d = option_map_or (λ h. not (is_ipv4_header h)) d.base false
 
 -- Bytes s start with the base header, which states the length t; c are the extension headers after it, from number n.
 pub record HasParts (s : List ℕ) (t : Option ℕ) (n : ℕ) (c : List ExtHeader) (d : Dissection) : Type 0 where

@@ -4,15 +4,18 @@
 #![tactic(auto)]
 
 mod base;
+mod dissect_laws;
 mod dissection;
 mod end;
 mod ends;
+mod extensions;
 mod fields;
 mod fragment;
 mod ipv4_chain;
 mod parts;
 mod walk;
 
+pub use dissect_laws::{one_chain_to_a_later_fragment, truncated_bytes_keep_whole_headers};
 pub use dissection::{BaseHeader, Dissection};
 pub use end::End;
 pub use fragment::{Fragment, FragmentKind};

@@ -1,5 +1,5 @@
 //! The parts of the packet at the start of bytes.
-ghost use Rattle.std.specs.Prelude.{◌≡◌, Some, None};
+ghost use Rattle.std.specs.Prelude.{◌≡◌, ◌++◌, Some, None};
 ghost use Rattle.ip_spec.specs.Prefix.{IsPrefix};
 ghost use Rattle.ip_base.specs.Ipv4Header.{version};
 ghost use Rattle.ip_base.specs.Ipv4HeaderSlice as ipv4_header;
@@ -7,7 +7,7 @@ ghost use Rattle.ip_base.specs.Ipv6HeaderSlice as ipv6_header;
 ghost use Rattle.ip_dissect.specs.declared.end.End.{End};
 ghost use Rattle.ip_dissect.specs.End.{base_end};
 ghost use Rattle.ip_dissect.specs.Extent.{packet_bytes, missing_of};
-ghost use Rattle.ip_dissect.specs.Dissection.{IsIpv4Dissection, IsIpv6Dissection, IsNoPacket};
+ghost use Rattle.ip_dissect.specs.Dissection.{IsIpv4Dissection, IsIpv6Dissection, IsNoPacket, base_of};
 
 use crate::base::base_header;
 use crate::ends::ipv6_end;
@@ -27,6 +27,8 @@ pub fn dissect(bytes: &[u8]) -> Dissection<'_>
         → IsIpv4Dissection bytes.now result }
     ensures ipv6 { base_end bytes.now ≡ None → version bytes.now ≡ 6
         → IsIpv6Dissection bytes.now result }
+    ensures joined { base_of result ++ result.extensions.now ++ result.payload.now
+        ++ result.padding.now ≡ bytes.now }
 {
     match base_header(bytes) {
         Ok(BaseHeader::Ipv4(base)) => ipv4(base, bytes),

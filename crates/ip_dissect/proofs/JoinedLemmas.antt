@@ -1,0 +1,108 @@
+-- The parts of a packet joined, and the packets in truncated bytes.
+use Rattle.ip_spec.proofs.Common.{◌≡◌, ℕ, ◌-◌, ◌≤◌, List, [], ◌∷◌, ◌++◌, length, take, drop, refl, sym, ap, ◌∙◌, arith, inl, inr, common_steps, append_assoc, take-take, eqb_tells, Option, Some, None, IsPrefix, ExtHeader, bytes_of, headers_within, AtMostOneOf}
+use Rattle.std.proofs.Common.{max, zero, suc}
+use Rattle.ip_spec.proofs.PrefixLemmas.{prefix-append}
+use Rattle.ip_spec.proofs.DemandKinds.{at_most_one_of}
+use Rattle.ip_spec.proofs.ShorterLemmas.{longest_shorter}
+use Rattle.ip_spec.proofs.UnderLemmas.{whole_longest_under, one_longest_under}
+use Rattle.ip_base.specs.Ipv4Header.{protocol, ipv4_fragment_offset}
+use Rattle.ip_base.specs.Ipv6Header.{ipv6_next_header}
+use Rattle.ip_ext_slices.specs.Ipv4Longest.{longest_ipv4_chain}
+use Rattle.ip_ext_slices.specs.Longest.{longest_chain}
+use Rattle.ip_ext_slices.proofs.LongestLemmas.{longest_chain-bytes_of}
+use Rattle.ip_ext_slices.proofs.Ipv4Lemmas.{ipv4_longest, ipv4_longest-shorter}
+use Rattle.ip_dissect.specs.LaterDemand.{NothingAfterLater, nothing_after_later}
+use Rattle.ip_dissect.specs.Later.{chain_to_later}
+use Rattle.ip_dissect.specs.Extent.{packet_bytes, after_base, ipv4_stated, ipv6_stated, ipv4_chain, ipv4_chain_in, ipv6_chain}
+use Rattle.ip_dissect.specs.Dissection.{base_of, HasParts, IsIpv4Dissection, IsIpv6Dissection}
+use Rattle.ip_dissect.specs.declared.dissection.Dissection.{Dissection}
+use Rattle.ip_dissect.proofs.LaterLemmas.{chain_to_later-longest}
+use Rattle.ip_dissect.proofs.Ipv4Lemmas.{ipv4_prefix}
+
+-- the packet's bytes are a prefix of s that starts with the base header
+packet_split : (b : List ℕ) (t : Option ℕ) (s : List ℕ) → packet_bytes b t s ++ drop (length (packet_bytes b t s)) s ≡ s
+packet_split b None s = grind (arith, common_steps)
+packet_split b (Some t) s = grind (arith, common_steps)
+
+packet_begins : (b : List ℕ) (t : Option ℕ) (s : List ℕ) → IsPrefix b s → IsPrefix b (packet_bytes b t s)
+packet_begins b None s p = p
+packet_begins b (Some t) s p = let enough : length b ≤ max t (length b) = omega arith in take-take (length b) (max t (length b)) s enough ∙ p
+
+pub joined : (s : List ℕ) (t : Option ℕ) (n : ℕ) (c : List ExtHeader) (d : Dissection) → HasParts s t n c d → IsPrefix (bytes_of c) (after_base (base_of d) t s)
+    → base_of d ++ d.extensions.now ++ d.payload.now ++ d.padding.now ≡ s
+joined s t n c d h p =
+    let b : List ℕ = base_of d in
+    let after : bytes_of c ++ d.payload.now ≡ after_base b t s = ap (λ r. bytes_of c ++ r) h.payload ∙ sym (prefix-append (bytes_of c) (after_base b t s) p) in
+    let packet : b ++ after_base b t s ≡ packet_bytes b t s = sym (prefix-append b (packet_bytes b t s) (packet_begins b t s h.prefix)) in
+    ap (λ r. r ++ d.padding.now) (append_assoc b d.extensions.now d.payload.now ∙ ap (λ e. b ++ (e ++ d.payload.now)) h.headers ∙ ap (λ r. b ++ r) after ∙ packet)
+    ∙ ap (λ r. packet_bytes b t s ++ r) h.padding
+    ∙ packet_split b t s
+
+pub ipv4_joined : (s : List ℕ) (d : Dissection) → IsIpv4Dissection s d → base_of d ++ d.extensions.now ++ d.payload.now ++ d.padding.now ≡ s
+ipv4_joined s d i = joined s _ _ _ d i.parts (ipv4_prefix (base_of d) _).prefix
+
+pub ipv6_joined : (s : List ℕ) (d : Dissection) → IsIpv6Dissection s d → base_of d ++ d.extensions.now ++ d.payload.now ++ d.padding.now ≡ s
+ipv6_joined s d i = joined s _ _ _ d i.parts (chain_to_later-longest _ _).has.0.prefix
+
+-- Truncated bytes: those of the packet, and those after its base header.
+none_of : (n : ℕ) → take {A = ℕ} n [] ≡ []
+none_of zero = refl
+none_of (suc n) = refl
+
+drop_take : (k j : ℕ) (s : List ℕ) → drop k (take j s) ≡ take (j - k) (drop k s)
+drop_take zero j s = let e : j ≡ j - 0 = omega arith in ap (λ n. take n s) e
+drop_take (suc k) zero s = let e : 0 ≡ 0 - suc k = omega arith in ap (λ n. take n (drop (suc k) s)) e
+drop_take (suc k) (suc j) [] = sym (none_of (suc j - suc k))
+drop_take (suc k) (suc j) (x ∷ s) = let e : j - k ≡ suc j - suc k = omega arith in drop_take k j s ∙ ap (λ n. take n (drop k s)) e
+
+take_swap : (k j : ℕ) (s : List ℕ) → take k (take j s) ≡ take j (take k s)
+take_swap zero j s = sym (none_of j)
+take_swap (suc k) zero s = refl
+take_swap (suc k) (suc j) [] = refl
+take_swap (suc k) (suc j) (x ∷ s) = ap (λ r. x ∷ r) (take_swap k j s)
+
+packet_shorter : (b : List ℕ) (t : Option ℕ) (j : ℕ) (s : List ℕ) → packet_bytes b t (take j s) ≡ take j (packet_bytes b t s)
+packet_shorter b None j s = refl
+packet_shorter b (Some t) j s = take_swap (max t (length b)) j s
+
+after_shorter : (b : List ℕ) (t : Option ℕ) (j : ℕ) (s : List ℕ) → after_base b t (take j s) ≡ take (j - length b) (after_base b t s)
+after_shorter b t j s = ap (drop (length b)) (packet_shorter b t j s) ∙ drop_take (length b) j (packet_bytes b t s)
+
+pub chain_to_later-shorter : (n j : ℕ) (s : List ℕ) → chain_to_later n (take j s) ≡ headers_within j (chain_to_later n s)
+chain_to_later-shorter n j s = longest_shorter NothingAfterLater nothing_after_later n j s (chain_to_later n s) (chain_to_later n (take j s)) (chain_to_later-longest n s) (chain_to_later-longest n (take j s))
+
+pub ipv6_shorter : (j : ℕ) (b s : List ℕ) → ipv6_chain b (take j s) ≡ headers_within (j - length b) (ipv6_chain b s)
+ipv6_shorter j b s = ap (chain_to_later (ipv6_next_header b)) (after_shorter b (ipv6_stated b) j s) ∙ chain_to_later-shorter (ipv6_next_header b) (j - length b) (after_base b (ipv6_stated b) s)
+
+chain_in-shorter : (j : ℕ) (b x : List ℕ) → ipv4_chain_in b (take j x) ≡ headers_within j (ipv4_chain_in b x)
+chain_in-shorter j b x = elim (eqb_tells (ipv4_fragment_offset b) 0) [
+  | inl w ↦ rw w.0 (ipv4_longest-shorter (protocol b) j x)
+  | inr w ↦ rw w.0 refl
+]
+
+pub ipv4_shorter : (j : ℕ) (b s : List ℕ) → ipv4_chain b (take j s) ≡ headers_within (j - length b) (ipv4_chain b s)
+ipv4_shorter j b s = ap (ipv4_chain_in b) (after_shorter b (ipv4_stated b) j s) ∙ chain_in-shorter (j - length b) b (after_base b (ipv4_stated b) s)
+
+-- the headers are the longest chain of their own bytes
+pub ipv6_again : (s : List ℕ) (d : Dissection) → IsIpv6Dissection s d → longest_chain (ipv6_next_header (base_of d)) d.extensions.now ≡ ipv6_chain (base_of d) s
+ipv6_again s d i = ap (longest_chain (ipv6_next_header (base_of d))) i.parts.headers ∙ longest_chain-bytes_of _ (ipv6_chain (base_of d) s) (chain_to_later-longest _ _).has.0.chain
+
+one_of : (b x : List ℕ) → AtMostOneOf 51 (ipv4_chain_in b x)
+one_of b x = elim (eqb_tells (ipv4_fragment_offset b) 0) [
+  | inl w ↦ rw w.0 (ipv4_longest (protocol b) x).has.1
+  | inr w ↦ rw w.0 (at_most_one_of 51).empty
+]
+
+pub ipv4_again : (s : List ℕ) (d : Dissection) → IsIpv4Dissection s d → longest_ipv4_chain (protocol (base_of d)) d.extensions.now ≡ ipv4_chain (base_of d) s
+ipv4_again s d i =
+    let c : List ExtHeader = ipv4_chain (base_of d) s in
+    ap (longest_ipv4_chain (protocol (base_of d))) i.parts.headers
+    ∙ one_longest_under (AtMostOneOf 51) (at_most_one_of 51) (protocol (base_of d)) (bytes_of c) (longest_ipv4_chain (protocol (base_of d)) (bytes_of c)) c (ipv4_longest _ _)
+    (whole_longest_under (AtMostOneOf 51) (at_most_one_of 51) (protocol (base_of d)) c (ipv4_prefix (base_of d) _).chain (one_of (base_of d) _))
+
+-- so a parse of them from the base header's number returns the headers
+pub ipv6_found : (s : List ℕ) (d : Dissection) (n : ℕ) (c : List ExtHeader) → n ≡ ipv6_next_header (base_of d) → c ≡ longest_chain n d.extensions.now → IsIpv6Dissection s d → c ≡ ipv6_chain (base_of d) s
+ipv6_found s d n c ns cs i = cs ∙ ap (λ k. longest_chain k d.extensions.now) ns ∙ ipv6_again s d i
+
+pub ipv4_found : (s : List ℕ) (d : Dissection) (n : ℕ) (c : List ExtHeader) → n ≡ protocol (base_of d) → c ≡ longest_ipv4_chain n d.extensions.now → IsIpv4Dissection s d → c ≡ ipv4_chain (base_of d) s
+ipv4_found s d n c ns cs i = cs ∙ ap (λ k. longest_ipv4_chain k d.extensions.now) ns ∙ ipv4_again s d i

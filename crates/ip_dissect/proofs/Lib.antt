@@ -3,3 +3,4 @@ pub mod LaterLemmas
 pub mod PartsLemmas
 pub mod Ipv4Lemmas
 pub mod JoinedLemmas
+pub mod AgreementLemmas

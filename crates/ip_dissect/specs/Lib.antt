@@ -5,3 +5,4 @@ pub mod Found
 pub mod Extent
 pub mod End
 pub mod Dissection
+pub mod Agreement

@@ -3,6 +3,7 @@
 //! dissection ends there.
 #![tactic(auto)]
 
+mod agreement_laws;
 mod base;
 mod dissect_laws;
 mod dissection;
@@ -15,6 +16,7 @@ mod ipv4_chain;
 mod parts;
 mod walk;
 
+pub use agreement_laws::parsed_packets_have_these_parts;
 pub use dissect_laws::{one_chain_to_a_later_fragment, truncated_bytes_keep_whole_headers};
 pub use dissection::{BaseHeader, Dissection};
 pub use end::End;

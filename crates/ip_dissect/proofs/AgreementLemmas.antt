@@ -1,0 +1,94 @@
+-- Where no later fragment's header is in the chain, a dissection and a parsed packet have the same parts.
+use Rattle.ip_spec.proofs.Common.{◌≡◌, ℕ, ◌+◌, ◌≤◌, List, ◌++◌, length, take, drop, subst, refl, sym, ap, ◌∙◌, arith, false, common_steps, ne_eqb, length-append, length-take, Some, None, IsPrefix, ExtHeader, leads_to, rest_after, ◌==◌, if◌then◌else◌}
+use Rattle.std.proofs.Common.{max}
+use Rattle.ip_spec.proofs.PrefixLemmas.{prefix-length}
+use Rattle.ip_spec.proofs.ChainLemmas.{longest_at_end}
+use Rattle.ip_spec.proofs.UnderLemmas.{longest_ends_under}
+use Rattle.ip_base.specs.Ipv6Header.{IsIpv6Header, payload_length, ipv6_next_header}
+use Rattle.ip_base.specs.Ipv4Header.{IsIpv4Header, total_len, protocol, ipv4_fragment_offset}
+use Rattle.ip_ext_slices.specs.Longest.{longest_chain}
+use Rattle.ip_ext_slices.specs.Ipv4Longest.{longest_ipv4_chain}
+use Rattle.ip_ext_slices.proofs.LongestLemmas.{longest_chain-is}
+use Rattle.etherparse_ip.specs.LenSources.{front, ipv6_len_source}
+use Rattle.etherparse_ip.specs.Packet.{Parts, IsIpv4Packet, IsIpv6Packet}
+use Rattle.etherparse_ip.specs.PartsIn.{ipv4_parts_in, ipv6_parts_in}
+use Rattle.etherparse_ip.specs.PacketFault.{ipv4_after, ipv6_after}
+use Rattle.etherparse_ip.proofs.BaseLemmas.{SaysIpv4, SaysIpv6, says_ipv4, says_ipv6}
+use Rattle.etherparse_ip.proofs.OnePacketLemmas.{ipv4_parts_are, ipv6_parts_are}
+use Rattle.ip_dissect.specs.LaterDemand.{has_later, NothingAfterLater, nothing_after_later}
+use Rattle.ip_dissect.specs.Later.{chain_to_later}
+use Rattle.ip_dissect.specs.Extent.{packet_bytes, after_base, ipv4_stated, ipv6_stated, ipv4_chain, ipv4_chain_in, ipv6_chain}
+use Rattle.ip_dissect.specs.Dissection.{base_of, IsIpv4Dissection, IsIpv6Dissection}
+use Rattle.ip_dissect.specs.Agreement.{HasSameParts}
+use Rattle.ip_dissect.specs.declared.dissection.Dissection.{Dissection}
+use Rattle.ip_dissect.proofs.LaterLemmas.{chain_to_later-longest, may_follow}
+
+-- without a later fragment's header the chain is the longest
+pub no_later : (n : ℕ) (x : List ℕ) → has_later (chain_to_later n x) ≡ false → chain_to_later n x ≡ longest_chain n x
+no_later n x none =
+    let c : List ExtHeader = chain_to_later n x in
+    sym (longest_chain-is n x c (longest_at_end n x c (chain_to_later-longest n x).has.0 (λ h y. longest_ends_under NothingAfterLater nothing_after_later n x c (chain_to_later-longest n x) h y (may_follow c h none))))
+
+-- the packet's bytes are the front of s by the length source
+front_is : (b s : List ℕ) (k : ℕ) → length b ≡ 40 → 40 ≤ length s → packet_bytes b (if k == 0 then None else Some (40 + k)) s ≡ front (ipv6_len_source k (length s)) k s
+front_is b s k forty enough = grind (arith, common_steps)
+
+after_is6 : (b s : List ℕ) → IsIpv6Header b → IsPrefix b s → after_base b (ipv6_stated b) s ≡ ipv6_after s
+after_is6 b s base prefix =
+    let says : SaysIpv6 b s = says_ipv6 b s base prefix in
+    let enough : 40 ≤ length s = omega (arith, prefix-length b s prefix, base.len) in
+    ap (drop (length b)) (front_is b s (payload_length b) base.len enough)
+    ∙ ap (λ k. drop (length b) (front (ipv6_len_source k (length s)) k s)) says.payload
+    ∙ ap (λ n. drop n (front (ipv6_len_source (payload_length s) (length s)) (payload_length s) s)) base.len
+
+base_is6 : (b s : List ℕ) → IsIpv6Header b → IsPrefix b s → b ≡ take 40 s
+base_is6 b s base prefix = sym prefix ∙ ap (λ n. take n s) base.len
+
+pub ipv6_agrees : (s : List ℕ) (d : Dissection) (p : Parts) → IsIpv6Dissection s d → IsIpv6Packet s p → has_later (ipv6_chain (base_of d) s) ≡ false → HasSameParts (ipv6_chain (base_of d) s) d p
+ipv6_agrees s d p i k none =
+    let b : List ℕ = base_of d in
+    let says : SaysIpv6 b s = says_ipv6 b s i.base i.parts.prefix in
+    let is : p ≡ ipv6_parts_in s = ipv6_parts_are s p k in
+    let x : after_base b (ipv6_stated b) s ≡ ipv6_after s = after_is6 b s i.base i.parts.prefix in
+    let c : ipv6_chain b s ≡ longest_chain (ipv6_next_header s) (ipv6_after s) = no_later _ _ none ∙ ap (longest_chain (ipv6_next_header b)) x ∙ ap (λ n. longest_chain n (ipv6_after s)) says.number in
+    record {
+      base = base_is6 b s i.base i.parts.prefix ∙ ap (λ (q : Parts). q.base) (sym is);
+      headers = c ∙ ap (λ (q : Parts). q.headers) (sym is);
+      payload = i.parts.payload ∙ ap (λ e. rest_after e (after_base b (ipv6_stated b) s)) c ∙ ap (rest_after (longest_chain (ipv6_next_header s) (ipv6_after s))) x ∙ ap (λ (q : Parts). q.payload) (sym is);
+      number = i.parts.number ∙ ap (leads_to (ipv6_next_header b)) c ∙ ap (λ n. leads_to n (longest_chain (ipv6_next_header s) (ipv6_after s))) says.number ∙ ap (λ (q : Parts). q.number) (sym is);
+    }
+
+-- IPv4: a parsed packet's total length isn't below its header length
+enough_of : (b y s : List ℕ) (t : ℕ) → b ++ y ≡ take t s → length b ≤ t
+enough_of b y s t e = omega (arith, ap length e, length-append b y, length-take t s)
+
+total_is : (b s : List ℕ) (t : ℕ) → 1 ≤ length b → length b ≤ t → packet_bytes b (if t == 0 then None else Some t) s ≡ take t s
+total_is b s t some enough = rw (ne_eqb t 0 (λ z. absurd (omega (arith, z)))) (let e : max t (length b) ≡ t = omega arith in ap (λ n. take n s) e)
+
+after_is4 : (b s : List ℕ) → IsIpv4Header b → IsPrefix b s → length b ≤ total_len b → after_base b (ipv4_stated b) s ≡ ipv4_after s
+after_is4 b s base prefix enough =
+    let says : SaysIpv4 b s = says_ipv4 b s base prefix in
+    ap (drop (length b)) (total_is b s (total_len b) (omega (arith, base.least, base.len)) enough)
+    ∙ ap (λ t. drop (length b) (take t s)) says.total
+    ∙ ap (λ n. drop n (take (total_len s) s)) says.len
+
+chain_of : (b x : List ℕ) → ipv4_fragment_offset b ≡ 0 → ipv4_chain_in b x ≡ longest_ipv4_chain (protocol b) x
+chain_of b x e = rw e refl
+
+pub ipv4_agrees : (s : List ℕ) (d : Dissection) (p : Parts) → IsIpv4Dissection s d → IsIpv4Packet s p → ipv4_fragment_offset (base_of d) ≡ 0 → HasSameParts (ipv4_chain (base_of d) s) d p
+ipv4_agrees s d p i k none =
+    let b : List ℕ = base_of d in
+    let says : SaysIpv4 b s = says_ipv4 b s i.base i.parts.prefix in
+    let is : p ≡ ipv4_parts_in s = ipv4_parts_are s p k in
+    let base : b ≡ p.base = sym i.parts.prefix ∙ ap (λ n. take n s) says.len ∙ ap (λ (q : Parts). q.base) (sym is) in
+    let stated : front p.source (total_len p.base) s ≡ take (total_len p.base) s = ap (λ f. front f (total_len p.base) s) k.source in
+    let enough : length b ≤ total_len b = let P : List ℕ → Type 0 = λ y. length y ≤ total_len y in subst P (sym base) (enough_of p.base _ s (total_len p.base) (k.joined ∙ stated)) in
+    let x : after_base b (ipv4_stated b) s ≡ ipv4_after s = after_is4 b s i.base i.parts.prefix enough in
+    let c : ipv4_chain b s ≡ longest_ipv4_chain (protocol s) (ipv4_after s) =
+    chain_of b _ none ∙ ap (longest_ipv4_chain (protocol b)) x ∙ ap (λ n. longest_ipv4_chain n (ipv4_after s)) says.number in
+    record {
+      base = base;
+      headers = c ∙ ap (λ (q : Parts). q.headers) (sym is);
+      payload = i.parts.payload ∙ ap (λ e. rest_after e (after_base b (ipv4_stated b) s)) c ∙ ap (rest_after (longest_ipv4_chain (protocol s) (ipv4_after s))) x ∙ ap (λ (q : Parts). q.payload) (sym is);
+      number = i.parts.number ∙ ap (leads_to (protocol b)) c ∙ ap (λ n. leads_to n (longest_ipv4_chain (protocol s) (ipv4_after s))) says.number ∙ ap (λ (q : Parts). q.number) (sym is);
+    }

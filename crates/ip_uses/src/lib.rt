@@ -5,6 +5,7 @@
 pub mod base;
 pub mod chain_outcomes;
 pub mod chains;
+pub mod dissections;
 pub mod from_etherparse;
 pub mod header_outcomes;
 pub mod headers;

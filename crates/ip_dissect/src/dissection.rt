@@ -10,7 +10,7 @@ pub enum BaseHeader<'a> {
     Ipv6(Ipv6HeaderSlice<'a>),
 }
 
-/// What there is of the packet at the start of some bytes, borrowed from them. The base header, the extension headers
+/// The packet at the start of some bytes, as far as it is there, borrowed from them. The base header, the extension headers
 /// and the payload follow one another and are the packet's bytes; the padding follows the packet.
 #[derive(Clone, Debug, Drop)]
 pub struct Dissection<'a> {
@@ -21,7 +21,7 @@ pub struct Dissection<'a> {
     pub stated_len: Option<usize>,
     /// The bytes of the extension headers. No header follows a fragment header with a non-zero offset.
     pub extensions: &'a [u8],
-    /// Which fragment the packet is; `None` if it is none.
+    /// Which fragment the packet is; `None` if it isn't a fragment and has no fragment header.
     pub fragment: Option<Fragment>,
     /// The protocol number of what follows the headers.
     pub next_header: IpNumber,

@@ -1,6 +1,6 @@
-//! One answer for a whole packet of IPv4 (RFC 791) or IPv6 (RFC 8200), for any bytes: its base header, how long it is
-//! stated to be, its extension headers as far as they are whole, what fragment it is, its payload, and why the
-//! dissection ends there.
+//! Dissects a packet of IPv4 (RFC 791) or IPv6 (RFC 8200) at the start of any bytes: its base header, the length that
+//! it states, its extension headers as far as they are whole, which fragment it is, its payload, and why the headers
+//! end where they do.
 #![tactic(auto)]
 
 mod agreement_laws;

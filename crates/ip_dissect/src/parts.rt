@@ -17,8 +17,9 @@ use crate::walk::{after, pass};
 use crate::{BaseHeader, Dissection, End};
 use ip_base::{Ipv4HeaderSlice, Ipv6HeaderSlice, ip_number};
 
-/// Dissects the packet at the start of `bytes`. Returns an answer for any bytes: the parts that are here, and why the
-/// headers end where they do.
+/// Dissects the packet at the start of `bytes`, which may be any bytes. Returns the parts that are here, and why the
+/// headers end where they do. Passes over the extension headers once, copies nothing and allocates nothing. Without a
+/// base header all bytes are padding, and the next header is 59.
 #[inline(always)]
 pub fn dissect(bytes: &[u8]) -> Dissection<'_>
     ensures no_packet { (e : End) → base_end bytes.now ≡ Some e

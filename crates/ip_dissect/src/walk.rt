@@ -12,18 +12,18 @@ use crate::{Fragment, FragmentKind};
 use ip_base::IpNumber;
 use ip_ext_slices::{Ipv6ExtensionSlice, header_at};
 
-/// What the fragment headers say.
+/// What the fragment headers of a chain say.
 #[derive(Clone, Copy, Debug)]
 pub(crate) struct Found {
-    /// The first one that fragments the payload.
+    /// The first fragment header that fragments the payload.
     pub(crate) fragmenting: Option<Fragment>,
-    /// The first one.
+    /// The first fragment header.
     pub(crate) first: Option<Fragment>,
-    /// Whether one has a non-zero offset.
+    /// Whether a fragment header has a non-zero offset.
     pub(crate) later: bool,
 }
 
-/// The end of a pass: the number that follows the headers, the bytes after them, and what they say.
+/// The end of a pass: the number that follows the headers, the bytes after them, and their fragment headers.
 #[derive(Clone, Copy, Debug)]
 pub(crate) struct Passed<'a> {
     pub(crate) number: IpNumber,
@@ -70,7 +70,7 @@ pub(crate) fn pass(start: IpNumber, bytes: &[u8]) -> Passed<'_>
 }
 
 impl Found {
-    /// Returns what no header says.
+    /// Returns the value for a chain without headers.
     #[inline(always)]
     fn none() -> Found
         ensures { result ≡ found_in [] }
@@ -82,7 +82,7 @@ impl Found {
         }
     }
 
-    /// Returns what the headers say with one more.
+    /// Returns the value for the chain with one more header.
     #[inline(always)]
     fn with(self, header: &Ipv6ExtensionSlice<'_>) -> Found
         ensures { (c : List ExtHeader) → self ≡ found_in c
@@ -94,7 +94,7 @@ impl Found {
         }
     }
 
-    /// Returns what the headers say with one more fragment header.
+    /// Returns the value for the chain with one more fragment header.
     #[inline(always)]
     fn with_fragment(self, fragment: Fragment) -> Found
         ensures fragmenting { result.fragmenting
@@ -114,7 +114,7 @@ impl Found {
     }
 }
 
-/// Returns what a header says, if it is a fragment header.
+/// Returns the fragment of a fragment header, and `None` for any other header.
 #[inline(always)]
 fn fragment_of(header: &Ipv6ExtensionSlice<'_>) -> Option<Fragment>
     ensures { result ≡ fragment_in (header_of header.now) }

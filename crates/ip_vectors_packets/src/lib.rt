@@ -2,6 +2,8 @@
 #![tactic(auto)]
 
 #[cfg(test)]
+mod dissect;
+#[cfg(test)]
 mod lengths_that_lie;
 #[cfg(test)]
 mod packets;

@@ -17,7 +17,7 @@ pub fn upper_layer(packet: &Dissection<'_>) -> Option<IpNumber>
         → IfSome result (λ _. ipv6_end (base_of packet.now) s ≡ Payload) }
     ensures number { (s : List ℕ) → IsIpv6Dissection s packet.now
         → IfSome result (λ n. n.0 ≡ leads_to (ipv6_next_header (base_of packet.now))
-            (ipv6_chain (base_of packet.now) s)) }
+        (ipv6_chain (base_of packet.now) s)) }
 {
     match packet.end {
         End::Payload => Some(packet.next_header),

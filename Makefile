@@ -4,12 +4,14 @@
 #                     merge gate, check the spelling, and test the program, the library, ipcap, the package and the
 #                     page, and 20,000 comparisons with etherparse
 # make lib            build the static C library and its header in build/
-# make programs       build the programs ipexts and ipcap, which needs libpcap
+# make programs       build the shared library and the programs ipexts and ipcap, which needs a C compiler and libpcap
 # make install        install what `make programs` has built: the library, the programs and their manual pages. Needs
 #                     neither rt nor a compiler (PREFIX=/usr/local, also LIBDIR, BINDIR, INCLUDEDIR and MANDIR;
 #                     DESTDIR=.. is prepended to the paths)
-# make install-lib    install what `make lib` has built, the library alone
+# make install-lib    install the library alone: the archive of `make lib`, and the shared library if it is built
 # make uninstall      remove what `make install` installs
+# make dist           pack library, programs, page and Rust package for machines without Rattle, as
+#                     build/wolfaren-VERSION-MACHINE-linux.tar.gz
 # make test-c         test the library, ipcap, and the package in bindings/rust
 # make page           build the files that page/index.html needs
 # make test-page      test that page in Chromium
@@ -27,7 +29,7 @@
 #
 # The last eight and make test-c take CARGO_FLAGS="..", additional flags for Cargo, such as one that locates the crate
 # on a machine without network access.
-.PHONY: run try test lib programs install install-lib uninstall test-c page test-page mutants memory bench bench-border cost diff diff-test diff-fields fuzz fuzz-test
+.PHONY: run try test lib programs install install-lib uninstall dist test-c page test-page mutants memory bench bench-border cost diff diff-test diff-fields fuzz fuzz-test
 .SILENT:
 
 RT_IS_THERE = command -v rt >/dev/null || { \
@@ -68,14 +70,15 @@ lib:
 	$(PYTHON_IS_THERE)
 	scripts/prove ipexts_c
 	mkdir -p build
+	rm -f build/libwolfaren.so.0
 	cp crates/ipexts_c/out/libipexts_c.a build/libwolfaren.a
 	cp include/wolfaren.h build/
 
 programs: lib
 	$(PCAP_IS_THERE)
-	$(MAKE) -C programs ipcap LIB=$(CURDIR)/build INCLUDE=$(CURDIR)/build OUT=$(CURDIR)/build/ipcap.out
+	$(MAKE) -C programs shared ipcap LIB=$(CURDIR)/build INCLUDE=$(CURDIR)/build OUT=$(CURDIR)/build/ipcap.out
 	scripts/prove ipexts
-	cp build/ipcap.out/ipcap crates/ipexts/out/ipexts build/
+	cp build/ipcap.out/ipcap build/ipcap.out/libwolfaren.so.0 crates/ipexts/out/ipexts build/
 
 PREFIX = /usr/local
 BINDIR = $(PREFIX)/bin
@@ -90,6 +93,9 @@ install-lib:
 	$(INSTALL) -d $(DESTDIR)$(INCLUDEDIR) $(DESTDIR)$(LIBDIR)/pkgconfig
 	$(INSTALL) -m 644 build/wolfaren.h $(DESTDIR)$(INCLUDEDIR)/
 	$(INSTALL) -m 644 build/libwolfaren.a $(DESTDIR)$(LIBDIR)/
+	if [ -f build/libwolfaren.so.0 ]; then \
+		$(INSTALL) -m 644 build/libwolfaren.so.0 $(DESTDIR)$(LIBDIR)/ && \
+		ln -sf libwolfaren.so.0 $(DESTDIR)$(LIBDIR)/libwolfaren.so; fi
 	sed -e 's|@PREFIX@|$(PREFIX)|; s|@INCLUDEDIR@|$(INCLUDEDIR)|; s|@LIBDIR@|$(LIBDIR)|; s|@VERSION@|$(VERSION)|' \
 		include/wolfaren.pc.in > $(DESTDIR)$(LIBDIR)/pkgconfig/wolfaren.pc
 	chmod 644 $(DESTDIR)$(LIBDIR)/pkgconfig/wolfaren.pc
@@ -101,9 +107,13 @@ install: install-lib
 	$(INSTALL) -m 644 programs/ipcap/ipcap.1 programs/ipexts.1 $(DESTDIR)$(MANDIR)/man1/
 
 uninstall:
-	rm -f $(DESTDIR)$(INCLUDEDIR)/wolfaren.h $(DESTDIR)$(LIBDIR)/libwolfaren.a $(DESTDIR)$(LIBDIR)/pkgconfig/wolfaren.pc
+	rm -f $(DESTDIR)$(INCLUDEDIR)/wolfaren.h $(DESTDIR)$(LIBDIR)/pkgconfig/wolfaren.pc
+	rm -f $(DESTDIR)$(LIBDIR)/libwolfaren.a $(DESTDIR)$(LIBDIR)/libwolfaren.so.0 $(DESTDIR)$(LIBDIR)/libwolfaren.so
 	rm -f $(DESTDIR)$(BINDIR)/ipcap $(DESTDIR)$(BINDIR)/ipexts
 	rm -f $(DESTDIR)$(MANDIR)/man1/ipcap.1 $(DESTDIR)$(MANDIR)/man1/ipexts.1
+
+dist: programs page
+	scripts/dist
 
 test-c: lib
 	$(PYTHON_IS_THERE)

@@ -144,15 +144,15 @@ struct wolfaren_chain {
  * header with wolfaren_fragment_fields, and stop there.
  */
 void wolfaren_parse_chain(uint8_t first, const uint8_t *bytes, size_t len, struct wolfaren_header *headers, size_t room,
-                        struct wolfaren_chain *chain) WOLFAREN_NONNULL(6);
+                          struct wolfaren_chain *chain) WOLFAREN_NONNULL(6);
 
 /*
  * Parses the IPv4 extension header at the start of the `len` bytes: at most one authentication header. `first` is the
- * protocol field of the IPv4 header. Fills in `chain` and `headers` as wolfaren_parse_chain does. What follows the header
- * isn't examined. `chain->fragmented` is 0: for IPv4, the IP header says whether the payload is a fragment.
+ * protocol field of the IPv4 header. Fills in `chain` and `headers` as wolfaren_parse_chain does. What follows the
+ * header isn't examined. `chain->fragmented` is 0: for IPv4, the IP header says whether the payload is a fragment.
  */
 void wolfaren_parse_ipv4_chain(uint8_t first, const uint8_t *bytes, size_t len, struct wolfaren_header *headers,
-                             size_t room, struct wolfaren_chain *chain) WOLFAREN_NONNULL(6);
+                               size_t room, struct wolfaren_chain *chain) WOLFAREN_NONNULL(6);
 
 /*
  * A position in a chain. A walk starts at `{0, first}`. Any offset and number are a valid cursor: it then stands for
@@ -204,16 +204,16 @@ struct wolfaren_packet {
  */
 WOLFAREN_USE_RESULT
 bool wolfaren_parse_packet(const uint8_t *bytes, size_t len, struct wolfaren_header *headers, size_t room,
-                         struct wolfaren_packet *packet, struct wolfaren_fault *fault) WOLFAREN_NONNULL(5, 6);
+                           struct wolfaren_packet *packet, struct wolfaren_fault *fault) WOLFAREN_NONNULL(5, 6);
 
 /*
- * Parses an IP packet like wolfaren_parse_packet, but accepts an IPv6 packet that is truncated, as in a capture. If there
- * are fewer bytes than its payload length states, the packet extends to the end of the bytes and `packet->len_source`
- * is WOLFAREN_SLICE. Its extension headers must still be complete. An IPv4 packet must be complete.
+ * Parses an IP packet like wolfaren_parse_packet, but accepts an IPv6 packet that is truncated, as in a capture. If
+ * there are fewer bytes than its payload length states, the packet extends to the end of the bytes and
+ * `packet->len_source` is WOLFAREN_SLICE. Its extension headers must still be complete. An IPv4 packet must be complete.
  */
 WOLFAREN_USE_RESULT
 bool wolfaren_parse_packet_lax(const uint8_t *bytes, size_t len, struct wolfaren_header *headers, size_t room,
-                             struct wolfaren_packet *packet, struct wolfaren_fault *fault) WOLFAREN_NONNULL(5, 6);
+                               struct wolfaren_packet *packet, struct wolfaren_fault *fault) WOLFAREN_NONNULL(5, 6);
 
 /* The payload of a packet. The fields mean the same as in struct wolfaren_packet. */
 struct wolfaren_payload {
@@ -271,7 +271,8 @@ struct wolfaren_authentication {
  * authentication header, returns false and writes nothing.
  */
 WOLFAREN_USE_RESULT
-bool wolfaren_authentication_fields(const uint8_t *bytes, size_t len, struct wolfaren_authentication *fields) WOLFAREN_NONNULL(3);
+bool wolfaren_authentication_fields(const uint8_t *bytes, size_t len, struct wolfaren_authentication *fields)
+    WOLFAREN_NONNULL(3);
 
 /*
  * Links the headers in the array: sets `next_header` of each to the `number` of the one after it, and that of the last

@@ -7,6 +7,9 @@ use std::process::{exit, Command};
 const ARCHIVE: &str = "libwolfaren.a";
 
 fn main() {
+    if env::var_os("DOCS_RS").is_some() {
+        return; // Documentation is built without the library.
+    }
     for variable in ["WOLFAREN_LIB_DIR", "PKG_CONFIG", "PKG_CONFIG_PATH"] {
         println!("cargo:rerun-if-env-changed={variable}");
     }

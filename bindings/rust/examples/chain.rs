@@ -61,9 +61,10 @@ fn print(packet: &IpSlice<'_>) {
             }
         }
     }
-    let fragment = match packet.is_fragmenting_payload() {
-        true => "fragment of a payload",
-        false => "payload",
+    let fragment = if packet.is_fragmenting_payload() {
+        "fragment of a payload"
+    } else {
+        "payload"
     };
     let number = packet.payload_ip_number().0;
     part(

@@ -47,6 +47,7 @@ impl<'a> IpAuthHeaderSlice<'a> {
 
     /// Returns the bytes of the header, 12 to 1028.
     #[inline]
+    #[must_use]
     pub fn slice(&self) -> &'a [u8] {
         self.slice
     }
@@ -62,12 +63,14 @@ impl<'a> IpAuthHeaderSlice<'a> {
 
     /// Returns the protocol number of what follows the header.
     #[inline]
+    #[must_use]
     pub fn next_header(&self) -> IpNumber {
         IpNumber(self.front()[0])
     }
 
     /// Returns the security parameters index, which identifies the receiver's security association with the sender.
     #[inline]
+    #[must_use]
     pub fn spi(&self) -> u32 {
         let front = self.front();
         u32::from_be_bytes([front[4], front[5], front[6], front[7]])
@@ -75,6 +78,7 @@ impl<'a> IpAuthHeaderSlice<'a> {
 
     /// Returns the sequence number, which counts the sender's packets.
     #[inline]
+    #[must_use]
     pub fn sequence_number(&self) -> u32 {
         let front = self.front();
         u32::from_be_bytes([front[8], front[9], front[10], front[11]])
@@ -82,6 +86,7 @@ impl<'a> IpAuthHeaderSlice<'a> {
 
     /// Returns the integrity check value and its padding, 0 to 1016 bytes.
     #[inline]
+    #[must_use]
     pub fn raw_icv(&self) -> &'a [u8] {
         &self.slice[12..]
     }

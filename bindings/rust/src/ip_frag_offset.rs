@@ -8,7 +8,11 @@ impl IpFragOffset {
     /// The maximum offset.
     pub const MAX_U16: u16 = 0x1fff;
 
-    /// Creates an offset from a number of 8-byte units. Returns an error if it doesn't fit into 13 bits.
+    /// Creates an offset from a number of 8-byte units.
+    ///
+    /// # Errors
+    ///
+    /// The number doesn't fit into 13 bits.
     pub const fn try_new(value: u16) -> Result<IpFragOffset, ValueTooBigError> {
         if value > Self::MAX_U16 {
             return Err(ValueTooBigError {
@@ -27,6 +31,7 @@ impl IpFragOffset {
 
     /// Returns the offset in units of 8 bytes.
     #[inline]
+    #[must_use]
     pub const fn value(self) -> u16 {
         self.0
     }

@@ -52,7 +52,8 @@ impl<'a> IpSlice<'a> {
 
     /// Returns the packet if it is an IPv4 packet.
     #[inline]
-    pub fn ipv4(&self) -> Option<&Ipv4Slice<'_>> {
+    #[must_use]
+    pub fn ipv4(&self) -> Option<&Ipv4Slice<'a>> {
         match self {
             IpSlice::Ipv4(packet) => Some(packet),
             IpSlice::Ipv6(_) => None,
@@ -61,7 +62,8 @@ impl<'a> IpSlice<'a> {
 
     /// Returns the packet if it is an IPv6 packet.
     #[inline]
-    pub fn ipv6(&self) -> Option<&Ipv6Slice<'_>> {
+    #[must_use]
+    pub fn ipv6(&self) -> Option<&Ipv6Slice<'a>> {
         match self {
             IpSlice::Ipv4(_) => None,
             IpSlice::Ipv6(packet) => Some(packet),
@@ -70,12 +72,14 @@ impl<'a> IpSlice<'a> {
 
     /// Returns whether the payload is a fragment.
     #[inline]
+    #[must_use]
     pub fn is_fragmenting_payload(&self) -> bool {
         self.payload().fragmented
     }
 
     /// Returns the source address.
     #[inline]
+    #[must_use]
     pub fn source_addr(&self) -> IpAddr {
         match self {
             IpSlice::Ipv4(packet) => IpAddr::V4(packet.header().source_addr()),
@@ -85,6 +89,7 @@ impl<'a> IpSlice<'a> {
 
     /// Returns the destination address: the receiver, or the next node of a routing header (RFC 8200, section 4.4).
     #[inline]
+    #[must_use]
     pub fn destination_addr(&self) -> IpAddr {
         match self {
             IpSlice::Ipv4(packet) => IpAddr::V4(packet.header().destination_addr()),
@@ -94,6 +99,7 @@ impl<'a> IpSlice<'a> {
 
     /// Returns the payload, which follows the extension headers.
     #[inline]
+    #[must_use]
     pub fn payload(&self) -> &IpPayloadSlice<'a> {
         match self {
             IpSlice::Ipv4(packet) => packet.payload(),
@@ -103,6 +109,7 @@ impl<'a> IpSlice<'a> {
 
     /// Returns the protocol number of the payload.
     #[inline]
+    #[must_use]
     pub fn payload_ip_number(&self) -> IpNumber {
         self.payload().ip_number
     }

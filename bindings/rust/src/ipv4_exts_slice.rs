@@ -35,6 +35,7 @@ impl<'a> Ipv4ExtensionsSlice<'a> {
     /// is an error only if `start_ip_number` is that of an authentication header and the bytes don't start with a
     /// complete and valid one. What follows the header isn't examined, even if it is another authentication header.
     #[inline]
+    #[must_use]
     pub fn from_slice_lax(
         start_ip_number: IpNumber,
         start_slice: &'a [u8],
@@ -50,7 +51,11 @@ impl<'a> Ipv4ExtensionsSlice<'a> {
         (headers, number, rest, fault)
     }
 
-    /// Parses like `from_slice_lax`, but returns its error, if any, as `Err`.
+    /// Parses like `from_slice_lax`, and accepts only chains that don't end at an error.
+    ///
+    /// # Errors
+    ///
+    /// The error of `from_slice_lax`, if there is one.
     #[inline]
     pub fn from_slice(
         start_ip_number: IpNumber,
@@ -76,6 +81,7 @@ impl<'a> Ipv4ExtensionsSlice<'a> {
 
     /// Returns whether there is no header.
     #[inline]
+    #[must_use]
     pub fn is_empty(&self) -> bool {
         self.auth.is_none()
     }

@@ -44,6 +44,7 @@ impl<'a> Ipv4HeaderSlice<'a> {
 
     /// Returns the bytes of the header with its options, 20 to 60.
     #[inline]
+    #[must_use]
     pub fn slice(&self) -> &'a [u8] {
         self.slice
     }
@@ -59,6 +60,7 @@ impl<'a> Ipv4HeaderSlice<'a> {
 
     /// Returns the length of the packet in bytes, including the header.
     #[inline]
+    #[must_use]
     pub fn total_len(&self) -> u16 {
         let front = self.front();
         u16::from_be_bytes([front[2], front[3]])
@@ -66,12 +68,14 @@ impl<'a> Ipv4HeaderSlice<'a> {
 
     /// Returns the protocol number of what follows the header.
     #[inline]
+    #[must_use]
     pub fn protocol(&self) -> IpNumber {
         IpNumber(self.front()[9])
     }
 
     /// Returns whether the packet carries a fragment of the payload: more fragments follow, or the offset isn't 0.
     #[inline]
+    #[must_use]
     pub fn is_fragmenting_payload(&self) -> bool {
         let front = self.front();
         // The more-fragments flag and the 13 bits of the offset.
@@ -80,6 +84,7 @@ impl<'a> Ipv4HeaderSlice<'a> {
 
     /// Returns the source address.
     #[inline]
+    #[must_use]
     pub fn source_addr(&self) -> Ipv4Addr {
         let front = self.front();
         Ipv4Addr::new(front[12], front[13], front[14], front[15])
@@ -87,6 +92,7 @@ impl<'a> Ipv4HeaderSlice<'a> {
 
     /// Returns the destination address.
     #[inline]
+    #[must_use]
     pub fn destination_addr(&self) -> Ipv4Addr {
         let front = self.front();
         Ipv4Addr::new(front[16], front[17], front[18], front[19])

@@ -63,18 +63,21 @@ impl<'a> Ipv4Slice<'a> {
 
     /// Returns the IPv4 header with its options.
     #[inline]
-    pub fn header(&self) -> Ipv4HeaderSlice<'_> {
+    #[must_use]
+    pub fn header(&self) -> Ipv4HeaderSlice<'a> {
         self.header
     }
 
     /// Returns the extension headers: an authentication header, or none.
     #[inline]
-    pub fn extensions(&self) -> Ipv4ExtensionsSlice<'_> {
+    #[must_use]
+    pub fn extensions(&self) -> Ipv4ExtensionsSlice<'a> {
         self.exts
     }
 
     /// Returns the payload, which follows the extension headers.
     #[inline]
+    #[must_use]
     pub fn payload(&self) -> &IpPayloadSlice<'a> {
         &self.payload
     }
@@ -82,12 +85,14 @@ impl<'a> Ipv4Slice<'a> {
     /// Returns the protocol number of the payload: the next header field of the authentication header, or the protocol
     /// field of the IPv4 header if there is none.
     #[inline]
+    #[must_use]
     pub fn payload_ip_number(&self) -> IpNumber {
         self.payload.ip_number
     }
 
     /// Returns whether the payload is a fragment, according to the IPv4 header.
     #[inline]
+    #[must_use]
     pub fn is_payload_fragmented(&self) -> bool {
         self.payload.fragmented
     }

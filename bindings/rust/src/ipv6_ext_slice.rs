@@ -40,6 +40,7 @@ impl<'a> Ipv6ExtensionSlice<'a> {
 
     /// Returns the protocol number of the header itself.
     #[inline]
+    #[must_use]
     pub fn number(&self) -> IpNumber {
         match self {
             Ipv6ExtensionSlice::HopByHop(_) => ip_number::IPV6_HOP_BY_HOP,
@@ -52,6 +53,7 @@ impl<'a> Ipv6ExtensionSlice<'a> {
 
     /// Returns the bytes of the header.
     #[inline]
+    #[must_use]
     pub fn slice(&self) -> &'a [u8] {
         match self {
             Ipv6ExtensionSlice::HopByHop(header)
@@ -64,6 +66,7 @@ impl<'a> Ipv6ExtensionSlice<'a> {
 
     /// Returns the protocol number of what follows the header.
     #[inline]
+    #[must_use]
     pub fn next_header(&self) -> IpNumber {
         match self {
             Ipv6ExtensionSlice::HopByHop(header)

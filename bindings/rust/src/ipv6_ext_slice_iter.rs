@@ -20,12 +20,14 @@ impl<'a> Ipv6ExtensionSliceIter<'a> {
 
     /// Returns the number of the next header or, after the last header, the number that follows the chain.
     #[inline]
+    #[must_use]
     pub fn next_number(&self) -> IpNumber {
         self.number
     }
 
     /// Returns the bytes of the remaining headers.
     #[inline]
+    #[must_use]
     pub fn rest(&self) -> &'a [u8] {
         self.rest
     }

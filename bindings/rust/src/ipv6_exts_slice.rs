@@ -47,6 +47,7 @@ impl<'a> Ipv6ExtensionsSlice<'a> {
     /// Offsets in errors count from the start of `start_slice`. A chain that ends at a number that is not that of an
     /// extension header has no error.
     #[inline]
+    #[must_use]
     pub fn from_slice_lax(
         start_ip_number: IpNumber,
         start_slice: &'a [u8],
@@ -63,7 +64,11 @@ impl<'a> Ipv6ExtensionsSlice<'a> {
         (headers, number, rest, fault)
     }
 
-    /// Parses like `from_slice_lax`, but returns its error, if any, as `Err`.
+    /// Parses like `from_slice_lax`, and accepts only chains that don't end at an error.
+    ///
+    /// # Errors
+    ///
+    /// The error of `from_slice_lax`, if there is one.
     #[inline]
     pub fn from_slice(
         start_ip_number: IpNumber,
@@ -90,24 +95,28 @@ impl<'a> Ipv6ExtensionsSlice<'a> {
 
     /// Returns the number of the first header, if there is one.
     #[inline]
+    #[must_use]
     pub fn first_header(&self) -> Option<IpNumber> {
         self.first_header
     }
 
     /// Returns the bytes of the headers.
     #[inline]
+    #[must_use]
     pub fn slice(&self) -> &'a [u8] {
         self.slice
     }
 
     /// Returns whether a fragment header of the chain fragments the payload.
     #[inline]
+    #[must_use]
     pub fn is_fragmenting_payload(&self) -> bool {
         self.fragmented
     }
 
     /// Returns whether there is no header.
     #[inline]
+    #[must_use]
     pub fn is_empty(&self) -> bool {
         self.slice.is_empty()
     }

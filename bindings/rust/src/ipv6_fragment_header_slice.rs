@@ -9,7 +9,11 @@ pub struct Ipv6FragmentHeaderSlice<'a> {
 }
 
 impl<'a> Ipv6FragmentHeaderSlice<'a> {
-    /// Parses the fragment header at the start of the slice. Returns an error if there are fewer than 8 bytes.
+    /// Parses the fragment header at the start of the slice.
+    ///
+    /// # Errors
+    ///
+    /// There are fewer than 8 bytes.
     ///
     /// ```
     /// use wolfaren::Ipv6FragmentHeaderSlice;
@@ -46,36 +50,42 @@ impl<'a> Ipv6FragmentHeaderSlice<'a> {
 
     /// Returns the 8 bytes of the header.
     #[inline]
+    #[must_use]
     pub fn slice(&self) -> &'a [u8] {
         self.slice
     }
 
     /// Returns the protocol number of what follows the header.
     #[inline]
+    #[must_use]
     pub fn next_header(&self) -> IpNumber {
         IpNumber(self.slice[0])
     }
 
     /// Returns where the fragment lies in the payload, in units of 8 bytes.
     #[inline]
+    #[must_use]
     pub fn fragment_offset(&self) -> IpFragOffset {
         IpFragOffset::of_bytes(self.slice[2], self.slice[3])
     }
 
     /// Returns whether more fragments follow.
     #[inline]
+    #[must_use]
     pub fn more_fragments(&self) -> bool {
         self.slice[3] & 1 != 0
     }
 
     /// Returns the identification, which all fragments of a packet share.
     #[inline]
+    #[must_use]
     pub fn identification(&self) -> u32 {
         u32::from_be_bytes([self.slice[4], self.slice[5], self.slice[6], self.slice[7]])
     }
 
     /// Returns whether the packet carries a fragment of the payload: more fragments follow, or the offset isn't 0.
     #[inline]
+    #[must_use]
     pub fn is_fragmenting_payload(&self) -> bool {
         self.more_fragments() | (self.fragment_offset().value() != 0)
     }

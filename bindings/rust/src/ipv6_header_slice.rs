@@ -41,6 +41,7 @@ impl<'a> Ipv6HeaderSlice<'a> {
 
     /// Returns the 40 bytes of the header.
     #[inline]
+    #[must_use]
     pub fn slice(&self) -> &'a [u8] {
         self.slice
     }
@@ -48,31 +49,35 @@ impl<'a> Ipv6HeaderSlice<'a> {
     /// Returns the payload length: the number of bytes after the header. It is also 0 in a jumbogram, which has more
     /// bytes than fit into the field (RFC 2675).
     #[inline]
+    #[must_use]
     pub fn payload_length(&self) -> u16 {
         u16::from_be_bytes([self.slice[4], self.slice[5]])
     }
 
     /// Returns the protocol number of what follows the header.
     #[inline]
+    #[must_use]
     pub fn next_header(&self) -> IpNumber {
         IpNumber(self.slice[6])
     }
 
     /// Returns the source address.
     #[inline]
+    #[must_use]
     pub fn source_addr(&self) -> Ipv6Addr {
         self.addr(8)
     }
 
     /// Returns the destination address: the receiver, or the next node of a routing header (RFC 8200, section 4.4).
     #[inline]
+    #[must_use]
     pub fn destination_addr(&self) -> Ipv6Addr {
         self.addr(24)
     }
 
     /// Returns the address at these bytes.
     #[inline]
-    fn addr(&self, at: usize) -> Ipv6Addr {
+    fn addr(self, at: usize) -> Ipv6Addr {
         let mut octets = [0; 16];
         octets.copy_from_slice(&self.slice[at..at + 16]);
         Ipv6Addr::from(octets)

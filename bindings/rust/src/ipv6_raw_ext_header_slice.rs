@@ -16,6 +16,7 @@ pub struct Ipv6RawExtHeaderSlice<'a> {
 impl<'a> Ipv6RawExtHeaderSlice<'a> {
     /// Returns whether headers with the number have this format: hop-by-hop options, routing, destination options,
     /// mobility, HIP and Shim6.
+    #[must_use]
     pub const fn header_type_supported(next_header: IpNumber) -> bool {
         matches!(
             next_header,
@@ -28,8 +29,11 @@ impl<'a> Ipv6RawExtHeaderSlice<'a> {
         )
     }
 
-    /// Parses the header at the start of the slice. Returns an error if there are fewer than 8 bytes, or fewer than the
-    /// length field states.
+    /// Parses the header at the start of the slice.
+    ///
+    /// # Errors
+    ///
+    /// There are fewer than 8 bytes, or fewer than the length field states.
     ///
     /// ```
     /// use wolfaren::Ipv6RawExtHeaderSlice;
@@ -62,18 +66,21 @@ impl<'a> Ipv6RawExtHeaderSlice<'a> {
 
     /// Returns the bytes of the header, 8 to 2048.
     #[inline]
+    #[must_use]
     pub fn slice(&self) -> &'a [u8] {
         self.slice
     }
 
     /// Returns the protocol number of what follows the header.
     #[inline]
+    #[must_use]
     pub fn next_header(&self) -> IpNumber {
         IpNumber(self.slice[0])
     }
 
     /// Returns the bytes after the next header and length fields, 6 to 2046 bytes.
     #[inline]
+    #[must_use]
     pub fn payload(&self) -> &'a [u8] {
         &self.slice[2..]
     }

@@ -47,7 +47,10 @@ impl<'a> Ipv6Slice<'a> {
     /// bytes than the payload length states, the packet extends to the end of the slice, and the payload's `len_source`
     /// is `LenSource::Slice`. Otherwise the result is that of `from_slice`.
     ///
-    /// The length source of an error in the extension headers is the one that determines the length of the packet.
+    /// # Errors
+    ///
+    /// Those of `from_slice`, except for missing bytes of the payload. The length source of an error in the extension
+    /// headers is the one that determines the length of the packet.
     #[inline(always)]
     pub fn from_slice_lax(slice: &'a [u8]) -> Result<Ipv6Slice<'a>, SliceError> {
         Self::of_answer(library::parse_packet_lax, slice)
@@ -90,18 +93,21 @@ impl<'a> Ipv6Slice<'a> {
 
     /// Returns the IPv6 header.
     #[inline]
+    #[must_use]
     pub fn header(&self) -> Ipv6HeaderSlice<'a> {
         self.header
     }
 
     /// Returns the extension headers.
     #[inline]
+    #[must_use]
     pub fn extensions(&self) -> &Ipv6ExtensionsSlice<'a> {
         &self.exts
     }
 
     /// Returns the payload, which follows the extension headers.
     #[inline]
+    #[must_use]
     pub fn payload(&self) -> &IpPayloadSlice<'a> {
         &self.payload
     }
@@ -109,12 +115,14 @@ impl<'a> Ipv6Slice<'a> {
     /// Returns the protocol number of the payload: the next header field of the last extension header, or of the IPv6
     /// header if there is none.
     #[inline]
+    #[must_use]
     pub fn payload_ip_number(&self) -> IpNumber {
         self.payload.ip_number
     }
 
     /// Returns whether the payload is a fragment, according to the fragment headers of the chain.
     #[inline]
+    #[must_use]
     pub fn is_payload_fragmented(&self) -> bool {
         self.payload.fragmented
     }

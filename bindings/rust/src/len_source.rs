@@ -11,6 +11,7 @@ pub enum LenSource {
 
 impl LenSource {
     /// Returns the name of the variant.
+    #[must_use]
     pub const fn name(&self) -> &'static str {
         match self {
             LenSource::Slice => "Slice",

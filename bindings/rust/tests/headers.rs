@@ -329,8 +329,8 @@ fn chains_and_their_iterators() {
         headers.next(),
         Some(Ipv6ExtensionSlice::DestinationOptions(_))
     ));
-    let (later, _, _, _) = Ipv6ExtensionsSlice::from_slice_lax(IpNumber(44), &bytes[16..]);
-    assert_eq!(headers, later.into_iter());
+    let (after_first, _, _, _) = Ipv6ExtensionsSlice::from_slice_lax(IpNumber(44), &bytes[16..]);
+    assert_eq!(headers, after_first.into_iter());
     assert!(matches!(
         headers.next(),
         Some(Ipv6ExtensionSlice::Fragment(_))
@@ -349,4 +349,32 @@ fn empty_chains() {
         IpNumber(59)
     );
     assert_ne!(none.into_iter(), Ipv6ExtensionSliceIter::default());
+}
+
+/// The parts of a packet borrow its bytes, so a function can return them without the packet.
+#[test]
+fn parts_outlive_the_packet_value() {
+    fn base_header(bytes: &[u8]) -> Option<&[u8]> {
+        let packet = IpSlice::from_slice(bytes).ok()?;
+        let header = match packet.ipv4() {
+            Some(packet) => packet.header().slice(),
+            None => packet.ipv6()?.header().slice(),
+        };
+        Some(header)
+    }
+    fn extensions(bytes: &[u8]) -> Option<&[u8]> {
+        let packet = IpSlice::from_slice(bytes).ok()?;
+        match packet.ipv4() {
+            Some(packet) => Some(packet.extensions().auth?.slice()),
+            None => Some(packet.ipv6()?.extensions().slice()),
+        }
+    }
+    let mut packet = ipv4(5, 32, 51, 32);
+    (packet[20], packet[21]) = (17, 1);
+    assert_eq!(base_header(&packet), Some(&packet[..20]));
+    assert_eq!(extensions(&packet), Some(&packet[20..]));
+    let mut packet = ipv6(8, 44, 48);
+    packet[40] = 17;
+    assert_eq!(base_header(&packet), Some(&packet[..40]));
+    assert_eq!(extensions(&packet), Some(&packet[40..]));
 }

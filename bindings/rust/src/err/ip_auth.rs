@@ -33,6 +33,7 @@ pub enum HeaderSliceError {
 
 impl HeaderSliceError {
     /// Adds `offset` to the offset of a length error, with [`LenError::add_offset`]. Other errors are unchanged.
+    #[must_use]
     pub fn add_slice_offset(self, offset: usize) -> HeaderSliceError {
         match self {
             HeaderSliceError::Len(e) => HeaderSliceError::Len(e.add_offset(offset)),

@@ -43,6 +43,7 @@ pub enum HeaderSliceError {
 
 impl HeaderSliceError {
     /// Adds `offset` to the offset of a length error, with [`LenError::add_offset`]. Other errors are unchanged.
+    #[must_use]
     pub fn add_slice_offset(self, offset: usize) -> HeaderSliceError {
         match self {
             HeaderSliceError::Len(e) => HeaderSliceError::Len(e.add_offset(offset)),
@@ -51,6 +52,7 @@ impl HeaderSliceError {
     }
 
     /// Returns the length error, if it is one.
+    #[must_use]
     pub fn len_error(&self) -> Option<&LenError> {
         match self {
             HeaderSliceError::Len(e) => Some(e),
@@ -59,6 +61,7 @@ impl HeaderSliceError {
     }
 
     /// Returns the error in the content, if it is one.
+    #[must_use]
     pub fn content(&self) -> Option<&HeaderError> {
         match self {
             HeaderSliceError::Len(_) => None,

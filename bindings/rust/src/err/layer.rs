@@ -27,6 +27,7 @@ pub enum Layer {
 
 impl Layer {
     /// Returns the name of the variant.
+    #[must_use]
     pub const fn name(&self) -> &'static str {
         match self {
             Layer::IpHeader => "IpHeader",

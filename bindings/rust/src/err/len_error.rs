@@ -19,6 +19,7 @@ pub struct LenError {
 
 impl LenError {
     /// Adds `offset` to `layer_start_offset`, which becomes `usize::MAX` if the sum doesn't fit.
+    #[must_use]
     pub const fn add_offset(self, offset: usize) -> LenError {
         LenError {
             layer_start_offset: self.layer_start_offset.saturating_add(offset),

@@ -33,7 +33,7 @@ no_later n x none =
 front_is : (b s : List ℕ) (k : ℕ) → length b ≡ 40 → 40 ≤ length s → packet_bytes b (if k == 0 then None else Some (40 + k)) s ≡ front (ipv6_len_source k (length s)) k s
 front_is b s k forty enough = grind (arith, common_steps)
 
-after_is6 : (b s : List ℕ) → IsIpv6Header b → IsPrefix b s → after_base b (ipv6_stated b) s ≡ ipv6_after s
+pub after_is6 : (b s : List ℕ) → IsIpv6Header b → IsPrefix b s → after_base b (ipv6_stated b) s ≡ ipv6_after s
 after_is6 b s base prefix =
     let says : SaysIpv6 b s = says_ipv6 b s base prefix in
     let enough : 40 ≤ length s = omega (arith, prefix-length b s prefix, base.len) in
@@ -65,14 +65,14 @@ enough_of b y s t e = omega (arith, ap length e, length-append b y, length-take 
 total_is : (b s : List ℕ) (t : ℕ) → 1 ≤ length b → length b ≤ t → packet_bytes b (if t == 0 then None else Some t) s ≡ take t s
 total_is b s t some enough = rw (ne_eqb t 0 (λ z. absurd (omega (arith, z)))) (let e : max t (length b) ≡ t = omega arith in ap (λ n. take n s) e)
 
-after_is4 : (b s : List ℕ) → IsIpv4Header b → IsPrefix b s → length b ≤ total_len b → after_base b (ipv4_stated b) s ≡ ipv4_after s
+pub after_is4 : (b s : List ℕ) → IsIpv4Header b → IsPrefix b s → length b ≤ total_len b → after_base b (ipv4_stated b) s ≡ ipv4_after s
 after_is4 b s base prefix enough =
     let says : SaysIpv4 b s = says_ipv4 b s base prefix in
     ap (drop (length b)) (total_is b s (total_len b) (omega (arith, base.least, base.len)) enough)
     ∙ ap (λ t. drop (length b) (take t s)) says.total
     ∙ ap (λ n. drop n (take (total_len s) s)) says.len
 
-chain_of : (b x : List ℕ) → ipv4_fragment_offset b ≡ 0 → ipv4_chain_in b x ≡ longest_ipv4_chain (protocol b) x
+pub chain_of : (b x : List ℕ) → ipv4_fragment_offset b ≡ 0 → ipv4_chain_in b x ≡ longest_ipv4_chain (protocol b) x
 chain_of b x e = rw e refl
 
 pub ipv4_agrees : (s : List ℕ) (d : Dissection) (p : Parts) → IsIpv4Dissection s d → IsIpv4Packet s p → ipv4_fragment_offset (base_of d) ≡ 0 → HasSameParts (ipv4_chain (base_of d) s) d p

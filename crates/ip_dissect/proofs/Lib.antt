@@ -4,3 +4,4 @@ pub mod PartsLemmas
 pub mod Ipv4Lemmas
 pub mod JoinedLemmas
 pub mod AgreementLemmas
+pub mod AcceptedLemmas

@@ -16,7 +16,7 @@ mod ipv4_chain;
 mod parts;
 mod walk;
 
-pub use agreement_laws::parsed_packets_have_these_parts;
+pub use agreement_laws::{parsed_packets_end_at_their_payload, parsed_packets_have_these_parts};
 pub use dissect_laws::{one_chain_to_a_later_fragment, truncated_bytes_keep_whole_headers};
 pub use dissection::{BaseHeader, Dissection};
 pub use end::End;

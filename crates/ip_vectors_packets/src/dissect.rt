@@ -2,7 +2,7 @@
 use crate::samples::{ipv4_bytes, ipv6_bytes, len_error_at};
 use etherparse_ip::LenSource;
 use etherparse_ip::err::ip::{HeadersError, SliceError};
-use etherparse_ip::err::{Layer, ip_auth, ipv6_exts};
+use etherparse_ip::err::{Layer, LenError, ip_auth, ipv6_exts};
 use ip_dissect::{Dissection, End, Fragment, FragmentKind, dissect};
 use std::process::Abort;
 use std::test::Fail;
@@ -39,67 +39,77 @@ fn fragment(identification: u32, offset: u16, kind: FragmentKind) -> Option<Frag
     })
 }
 
+/// Returns the end at a header of which some bytes aren't here.
+fn truncated(error: LenError, header: Option<Layer>) -> End {
+    End::Truncated { error, header }
+}
+
+/// Returns the end at a header that doesn't fit the packet.
+fn too_long(error: LenError, header: Option<Layer>) -> End {
+    let error = SliceError::Len(error);
+    End::Fault { error, header }
+}
+
 #[test]
-fn ipv6_payloads_and_fragments(rt: HostRuntime) -> Result<(), Fail> {
+fn ipv6_payloads(rt: HostRuntime) -> Result<(), Fail> {
     let alloc = rt.alloc();
     let rows = [
         (
             "8 bytes of UDP and 3 bytes of padding",
             ipv6_bytes(alloc, 8, 17, &[0; 11])?,
             (Some(48), 0, 17, 8, 0, 3),
-            None,
-            End::Payload,
         ),
         (
             "no payload length: all bytes belong to the packet",
             ipv6_bytes(alloc, 0, 17, &[0; 11])?,
             (None, 0, 17, 11, 0, 0),
-            None,
-            End::Payload,
         ),
         (
             "8 of 20 bytes are here",
             ipv6_bytes(alloc, 20, 17, &[0; 8])?,
             (Some(60), 0, 17, 8, 12, 0),
-            None,
-            End::Payload,
         ),
+    ];
+    for (name, bytes, numbers) in &rows {
+        check(&rt, name, &dissect(bytes), *numbers, None, &End::Payload);
+    }
+    Ok(())
+}
+
+#[test]
+fn ipv6_fragments(rt: HostRuntime) -> Result<(), Fail> {
+    let alloc = rt.alloc();
+    let atomic = [17, 0, 0, 0, 0, 0, 0, 9, 1, 2, 3, 4];
+    let first = [60, 0, 0, 1, 0, 0, 0, 9, 17, 0, 1, 4, 0, 0, 0, 0];
+    let middle = [
+        60, 0, 0x05, 0xc9, 0, 0, 0, 7, 0xde, 0xad, 0xbe, 0xef, 0, 0, 0, 0,
+    ];
+    let last = [60, 0, 0x00, 0x08, 0, 0, 1, 0];
+    let rows = [
         (
             "an atomic fragment",
-            ipv6_bytes(alloc, 12, 44, &[17, 0, 0, 0, 0, 0, 0, 9, 1, 2, 3, 4])?,
+            ipv6_bytes(alloc, 12, 44, &atomic)?,
             (Some(52), 8, 17, 4, 0, 0),
             fragment(9, 0, FragmentKind::Atomic),
             End::Payload,
         ),
         (
             "a first fragment, with destination options after its header",
-            ipv6_bytes(
-                alloc,
-                16,
-                44,
-                &[60, 0, 0, 1, 0, 0, 0, 9, 17, 0, 1, 4, 0, 0, 0, 0],
-            )?,
+            ipv6_bytes(alloc, 16, 44, &first)?,
             (Some(56), 16, 17, 0, 0, 0),
             fragment(9, 0, FragmentKind::First),
             End::Payload,
         ),
         (
             "a middle fragment at 8 * 185 bytes, whose payload is not destination options",
-            ipv6_bytes(
-                alloc,
-                16,
-                44,
-                &[
-                    60, 0, 0x05, 0xc9, 0, 0, 0, 7, 0xde, 0xad, 0xbe, 0xef, 0, 0, 0, 0,
-                ],
-            )?,
+            ipv6_bytes(alloc, 16, 44, &middle)?,
             (Some(56), 8, 60, 8, 0, 0),
             fragment(7, 1480, FragmentKind::Middle),
             End::LaterFragment,
         ),
         (
             "a last fragment at 8 * 1 bytes",
-            ipv6_bytes(alloc, 8, 44, &[60, 0, 0x00, 0x08, 0, 0, 1, 0])?,
+            ipv6_bytes(alloc, 8, 44, &last)?,
             (Some(48), 8, 60, 0, 0, 0),
             fragment(256, 8, FragmentKind::Last),
             End::LaterFragment,
@@ -112,71 +122,66 @@ fn ipv6_payloads_and_fragments(rt: HostRuntime) -> Result<(), Fail> {
 }
 
 #[test]
-fn ipv6_headers_that_are_not_whole(rt: HostRuntime) -> Result<(), Fail> {
+fn ipv6_truncated_headers(rt: HostRuntime) -> Result<(), Fail> {
     let alloc = rt.alloc();
     let slice = LenSource::Slice;
-    let stated = LenSource::Ipv6HeaderPayloadLen;
-    let raw = Layer::Ipv6ExtHeader;
+    let options = len_error_at(16, 8, slice, Layer::Ipv6ExtHeader, 40);
+    let fragment = len_error_at(8, 3, slice, Layer::Ipv6FragHeader, 40);
+    let base = len_error_at(40, 39, slice, Layer::Ipv6Header, 0);
     let rows = [
         (
             "16 bytes of options, of which 8 are here",
             ipv6_bytes(alloc, 16, 60, &[17, 1, 0, 0, 0, 0, 0, 0])?,
             (Some(56), 0, 60, 8, 8, 0),
-            End::Truncated {
-                error: len_error_at(16, 8, slice, raw, 40),
-                header: Some(Layer::Ipv6DestOptionsHeader),
-            },
-        ),
-        (
-            "16 bytes of options in a payload of 8",
-            ipv6_bytes(alloc, 8, 60, &[17, 1, 0, 0, 0, 0, 0, 0])?,
-            (Some(48), 0, 60, 8, 0, 0),
-            End::Fault {
-                error: SliceError::Len(len_error_at(16, 8, stated, raw, 40)),
-                header: Some(Layer::Ipv6DestOptionsHeader),
-            },
-        ),
-        (
-            "a routing header of 24 bytes in a payload of 16, of which 9 are here",
-            ipv6_bytes(alloc, 16, 43, &[17, 2, 0, 0, 0, 0, 0, 0, 0])?,
-            (Some(56), 0, 43, 9, 7, 0),
-            End::Fault {
-                error: SliceError::Len(len_error_at(24, 16, stated, raw, 40)),
-                header: Some(Layer::Ipv6RouteHeader),
-            },
+            truncated(options, Some(Layer::Ipv6DestOptionsHeader)),
         ),
         (
             "no payload length: 3 bytes of a fragment header",
             ipv6_bytes(alloc, 0, 44, &[17, 0, 0])?,
             (None, 0, 44, 3, 0, 0),
-            End::Truncated {
-                error: len_error_at(8, 3, slice, Layer::Ipv6FragHeader, 40),
-                header: Some(Layer::Ipv6FragHeader),
-            },
-        ),
-        (
-            "hop by hop options after destination options",
-            ipv6_bytes(
-                alloc,
-                16,
-                60,
-                &[0, 0, 1, 4, 0, 0, 0, 0, 17, 0, 1, 4, 0, 0, 0, 0],
-            )?,
-            (Some(56), 8, 0, 8, 0, 0),
-            End::Fault {
-                error: SliceError::IpHeaders(HeadersError::Ipv6Ext(
-                    ipv6_exts::HeaderError::HopByHopNotAtStart,
-                )),
-                header: Some(Layer::Ipv6HopByHopHeader),
-            },
+            truncated(fragment, Some(Layer::Ipv6FragHeader)),
         ),
         (
             "39 bytes of a base header",
             Vec::from_array(alloc, [0x60; 39])?,
             (None, 0, 59, 0, 0, 39),
-            End::Truncated {
-                error: len_error_at(40, 39, slice, Layer::Ipv6Header, 0),
-                header: None,
+            truncated(base, None),
+        ),
+    ];
+    for (name, bytes, numbers, end) in &rows {
+        check(&rt, name, &dissect(bytes), *numbers, None, end);
+    }
+    Ok(())
+}
+
+#[test]
+fn ipv6_faults(rt: HostRuntime) -> Result<(), Fail> {
+    let alloc = rt.alloc();
+    let stated = LenSource::Ipv6HeaderPayloadLen;
+    let options = len_error_at(16, 8, stated, Layer::Ipv6ExtHeader, 40);
+    let routing = len_error_at(24, 16, stated, Layer::Ipv6ExtHeader, 40);
+    let later_options = [0, 0, 1, 4, 0, 0, 0, 0, 17, 0, 1, 4, 0, 0, 0, 0];
+    let not_at_start = ipv6_exts::HeaderError::HopByHopNotAtStart;
+    let rows = [
+        (
+            "16 bytes of options in a payload of 8",
+            ipv6_bytes(alloc, 8, 60, &[17, 1, 0, 0, 0, 0, 0, 0])?,
+            (Some(48), 0, 60, 8, 0, 0),
+            too_long(options, Some(Layer::Ipv6DestOptionsHeader)),
+        ),
+        (
+            "a routing header of 24 bytes in a payload of 16, of which 9 are here",
+            ipv6_bytes(alloc, 16, 43, &[17, 2, 0, 0, 0, 0, 0, 0, 0])?,
+            (Some(56), 0, 43, 9, 7, 0),
+            too_long(routing, Some(Layer::Ipv6RouteHeader)),
+        ),
+        (
+            "hop-by-hop options after destination options",
+            ipv6_bytes(alloc, 16, 60, &later_options)?,
+            (Some(56), 8, 0, 8, 0, 0),
+            End::Fault {
+                error: SliceError::IpHeaders(HeadersError::Ipv6Ext(not_at_start)),
+                header: Some(Layer::Ipv6HopByHopHeader),
             },
         ),
     ];
@@ -187,22 +192,13 @@ fn ipv6_headers_that_are_not_whole(rt: HostRuntime) -> Result<(), Fail> {
 }
 
 #[test]
-fn ipv4_packets(rt: HostRuntime) -> Result<(), Fail> {
+fn ipv4_payloads_and_fragments(rt: HostRuntime) -> Result<(), Fail> {
     let alloc = rt.alloc();
-    let slice = LenSource::Slice;
-    let stated = LenSource::Ipv4HeaderTotalLen;
-    let auth = [17, 1, 0, 0, 0, 0, 0, 1, 0, 0, 0, 2];
+    let auth = [17, 1, 0, 0, 0, 0, 0, 1, 0, 0, 0, 2, 9, 9, 9];
     let rows = [
         (
             "an authentication header, 2 bytes of payload and 1 of padding",
-            ipv4_bytes(
-                alloc,
-                0x45,
-                34,
-                [0x40, 0],
-                51,
-                &[17, 1, 0, 0, 0, 0, 0, 1, 0, 0, 0, 2, 9, 9, 9],
-            )?,
+            ipv4_bytes(alloc, 0x45, 34, [0x40, 0], 51, &auth)?,
             (Some(34), 12, 17, 2, 0, 1),
             None,
             End::Payload,
@@ -216,8 +212,8 @@ fn ipv4_packets(rt: HostRuntime) -> Result<(), Fail> {
         ),
         (
             "a last fragment at 8 * 2 bytes, whose payload is not an authentication header",
-            ipv4_bytes(alloc, 0x45, 32, [0, 2], 51, &auth)?,
-            (Some(32), 0, 51, 12, 0, 0),
+            ipv4_bytes(alloc, 0x45, 35, [0, 2], 51, &auth)?,
+            (Some(35), 0, 51, 15, 0, 0),
             fragment(0, 16, FragmentKind::Last),
             End::LaterFragment,
         ),
@@ -228,51 +224,53 @@ fn ipv4_packets(rt: HostRuntime) -> Result<(), Fail> {
             fragment(0, 65528, FragmentKind::Middle),
             End::LaterFragment,
         ),
+    ];
+    for (name, bytes, numbers, fragment, end) in &rows {
+        check(&rt, name, &dissect(bytes), *numbers, *fragment, end);
+    }
+    Ok(())
+}
+
+#[test]
+fn ipv4_headers_that_are_not_whole(rt: HostRuntime) -> Result<(), Fail> {
+    let alloc = rt.alloc();
+    let stated = LenSource::Ipv4HeaderTotalLen;
+    let auth = [17, 1, 0, 0, 0, 0, 0, 1, 0, 0, 0, 2];
+    let total = len_error_at(20, 19, stated, Layer::Ipv4Packet, 0);
+    let auth_here = len_error_at(12, 4, LenSource::Slice, Layer::IpAuthHeader, 20);
+    let auth_stated = len_error_at(12, 4, stated, Layer::IpAuthHeader, 20);
+    let zero = ip_auth::HeaderError::ZeroPayloadLen;
+    let rows = [
         (
             "a total length below the header",
             ipv4_bytes(alloc, 0x45, 19, [0, 0], 17, &[0; 4])?,
             (Some(19), 0, 17, 0, 0, 4),
-            None,
-            End::Fault {
-                error: SliceError::Len(len_error_at(20, 19, stated, Layer::Ipv4Packet, 0)),
-                header: None,
-            },
+            too_long(total, None),
         ),
         (
             "an authentication header of 12 bytes, of which 4 are here",
             ipv4_bytes(alloc, 0x45, 32, [0, 0], 51, &[17, 1, 0, 0])?,
             (Some(32), 0, 51, 4, 8, 0),
-            None,
-            End::Truncated {
-                error: len_error_at(12, 4, slice, Layer::IpAuthHeader, 20),
-                header: None,
-            },
+            truncated(auth_here, None),
         ),
         (
             "an authentication header in a packet with room for 4 bytes",
             ipv4_bytes(alloc, 0x45, 24, [0, 0], 51, &auth)?,
             (Some(24), 0, 51, 4, 0, 8),
-            None,
-            End::Fault {
-                error: SliceError::Len(len_error_at(12, 4, stated, Layer::IpAuthHeader, 20)),
-                header: None,
-            },
+            too_long(auth_stated, None),
         ),
         (
             "an authentication header of length 0",
             ipv4_bytes(alloc, 0x45, 32, [0, 0], 51, &[0; 12])?,
             (Some(32), 0, 51, 12, 0, 0),
-            None,
             End::Fault {
-                error: SliceError::IpHeaders(HeadersError::Ipv4Ext(
-                    ip_auth::HeaderError::ZeroPayloadLen,
-                )),
+                error: SliceError::IpHeaders(HeadersError::Ipv4Ext(zero)),
                 header: None,
             },
         ),
     ];
-    for (name, bytes, numbers, fragment, end) in &rows {
-        check(&rt, name, &dissect(bytes), *numbers, *fragment, end);
+    for (name, bytes, numbers, end) in &rows {
+        check(&rt, name, &dissect(bytes), *numbers, None, end);
     }
     Ok(())
 }

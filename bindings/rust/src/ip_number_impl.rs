@@ -2,7 +2,7 @@ use core::fmt;
 
 /// A protocol number, as in the protocol field of IPv4 and the next header fields of IPv6 and its extension headers
 /// (RFC 8200, section 3).
-#[derive(Clone, Copy, PartialEq, Eq, Hash)]
+#[derive(Clone, Copy, Default, PartialEq, Eq, PartialOrd, Ord, Hash)]
 pub struct IpNumber(pub u8);
 
 impl IpNumber {
@@ -48,5 +48,12 @@ impl From<u8> for IpNumber {
     #[inline]
     fn from(value: u8) -> IpNumber {
         IpNumber(value)
+    }
+}
+
+impl From<IpNumber> for u8 {
+    #[inline]
+    fn from(number: IpNumber) -> u8 {
+        number.0
     }
 }

@@ -378,3 +378,10 @@ fn parts_outlive_the_packet_value() {
     assert_eq!(base_header(&packet), Some(&packet[..40]));
     assert_eq!(extensions(&packet), Some(&packet[40..]));
 }
+
+#[test]
+fn protocol_numbers() {
+    assert_eq!(u8::from(IpNumber::from(17)), 17);
+    assert_eq!(IpNumber::default(), IpNumber(0));
+    assert!(IpNumber(6) < IpNumber::UDP);
+}

@@ -201,6 +201,10 @@ struct wolfaren_packet {
  * On success, returns true, fills in `packet`, and stores the headers' positions in `headers` as wolfaren_parse_chain
  * does, but with offsets from the start of the packet; `fault` is left unchanged. On error, returns false and stores
  * the error in `fault`; `packet` and `headers` are left unchanged. `fault->offset` is set for WOLFAREN_TOO_SHORT.
+ *
+ * As in wolfaren_parse_chain, the bytes after an IPv6 fragment header are parsed as headers whatever its offset is. If
+ * the offset isn't 0, they are from the middle of a payload that the sender chooses: the packet may be rejected for them,
+ * or lead to any `payload_number`. If it isn't rejected, `packet->fragmented` is 1.
  */
 WOLFAREN_USE_RESULT
 bool wolfaren_parse_packet(const uint8_t *bytes, size_t len, struct wolfaren_header *headers, size_t room,
@@ -229,7 +233,8 @@ struct wolfaren_payload {
 /*
  * Finds the payload of the IP packet at the start of the `len` bytes. Accepts and rejects the same packets as
  * wolfaren_parse_packet, and checks each extension header, but neither counts the headers nor reports their positions.
- * That makes it faster, and the call to use in a filter.
+ * That makes it faster, and the call to use in a filter. What wolfaren_parse_packet says of fragments applies here too:
+ * a filter must not rely on `payload->number` if `payload->fragmented` is 1.
  *
  * On success, returns true and fills in `payload`; `fault` is left unchanged. On error, returns false and stores the
  * error in `fault`; `payload` is left unchanged.

@@ -50,6 +50,7 @@ pub record HasParts (s : List ℕ) (t : Option ℕ) (n : ℕ) (c : List ExtHeade
 
 -- Bytes s start with an IPv4 base header, and d is the rest of their dissection.
 pub record IsIpv4Dissection (s : List ℕ) (d : Dissection) : Type 0 where
+  pub version : is_ipv4 d ≡ true
   pub base : IsIpv4Header (base_of d)
   pub parts : HasParts s (ipv4_stated (base_of d)) (protocol (base_of d)) (ipv4_chain (base_of d) s) d
   pub fragment : d.fragment ≡ ipv4_fragment (base_of d)
@@ -57,6 +58,7 @@ pub record IsIpv4Dissection (s : List ℕ) (d : Dissection) : Type 0 where
 
 -- Bytes s start with an IPv6 base header, and d is the rest of their dissection.
 pub record IsIpv6Dissection (s : List ℕ) (d : Dissection) : Type 0 where
+  pub version : is_ipv6 d ≡ true
   pub base : IsIpv6Header (base_of d)
   pub parts : HasParts s (ipv6_stated (base_of d)) (ipv6_next_header (base_of d)) (ipv6_chain (base_of d) s) d
   pub fragment : d.fragment ≡ ipv6_fragment (ipv6_chain (base_of d) s)

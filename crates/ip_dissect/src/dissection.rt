@@ -10,8 +10,8 @@ pub enum BaseHeader<'a> {
     Ipv6(Ipv6HeaderSlice<'a>),
 }
 
-/// The packet at the start of some bytes, as far as it is there, borrowed from them. The base header, the extension headers
-/// and the payload follow one another and are the packet's bytes; the padding follows the packet.
+/// The packet at the start of some bytes, as far as it is there, borrowed from them. The base header, the extension
+/// headers and the payload follow one another and are the packet's bytes; the padding follows the packet.
 #[derive(Clone, Debug, Drop)]
 pub struct Dissection<'a> {
     /// The base header, if the bytes start with a whole one.

@@ -12,14 +12,14 @@ pub enum End {
     Truncated {
         /// The bytes that the header needs, and those that are here.
         error: LenError,
-        /// The IPv6 extension header.
+        /// The IPv6 extension header that is incomplete; `None` if it is another header.
         header: Option<Layer>,
     },
     /// A header doesn't fit the packet, or its bytes are malformed.
     Fault {
         /// The error.
         error: SliceError,
-        /// The IPv6 extension header.
+        /// The faulty IPv6 extension header; `None` if the fault is in another header.
         header: Option<Layer>,
     },
 }

@@ -13,6 +13,7 @@ after c = c.after-after_base.ensures ∙ ap (λ (b : List ℕ). drop (length b) 
 
 pub returns : goal.returns
 returns c = record {
+  version = refl;
   base = c.args.base.header;
   parts = ipv4_parts _ _ _ _ c.requires c.ipv4_stated_len-stated_len.ensures (packet c) (after c) refl c.ipv4_chain-chain.ensures.number c.ipv4_chain-chain.ensures.rest c.missing.ensures c.after.ensures;
   fragment = c.ipv4_fragment.ensures;

@@ -15,6 +15,7 @@ stated c = after_is _ _ _ _ _ _ c.ipv6_stated_len-stated_len.ensures (packet c) 
 
 pub returns : goal.returns
 returns c = record {
+  version = refl;
   base = c.args.base.header;
   parts = ipv6_parts _ _ _ _ _ c.requires c.ipv6_stated_len-stated_len.ensures (packet c) (after c) c.next_header.ensures refl c.pass-passed.ensures.number c.pass-passed.ensures.rest c.missing.ensures c.after.ensures;
   fragment = ipv6_fragment_is (bytes c.args.base) _ c.args.bytes.now _ _ _ (stated c) c.next_header.ensures c.pass-passed.ensures.found c.or.ensures;

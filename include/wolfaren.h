@@ -203,8 +203,8 @@ struct wolfaren_packet {
  * the error in `fault`; `packet` and `headers` are left unchanged. `fault->offset` is set for WOLFAREN_TOO_SHORT.
  *
  * As in wolfaren_parse_chain, the bytes after an IPv6 fragment header are parsed as headers whatever its offset is. If
- * the offset isn't 0, they are from the middle of a payload that the sender chooses: the packet may be rejected for them,
- * or lead to any `payload_number`. If it isn't rejected, `packet->fragmented` is 1.
+ * the offset isn't 0, they are from the middle of a payload that the sender chooses: the packet may be rejected for
+ * them, or lead to any `payload_number`. If it isn't rejected, `packet->fragmented` is 1.
  */
 WOLFAREN_USE_RESULT
 bool wolfaren_parse_packet(const uint8_t *bytes, size_t len, struct wolfaren_header *headers, size_t room,
@@ -213,7 +213,8 @@ bool wolfaren_parse_packet(const uint8_t *bytes, size_t len, struct wolfaren_hea
 /*
  * Parses an IP packet like wolfaren_parse_packet, but accepts an IPv6 packet that is truncated, as in a capture. If
  * there are fewer bytes than its payload length states, the packet extends to the end of the bytes and
- * `packet->len_source` is WOLFAREN_SLICE. Its extension headers must still be complete. An IPv4 packet must be complete.
+ * `packet->len_source` is WOLFAREN_SLICE. Its extension headers must still be complete, and an IPv4 packet must be
+ * complete.
  */
 WOLFAREN_USE_RESULT
 bool wolfaren_parse_packet_lax(const uint8_t *bytes, size_t len, struct wolfaren_header *headers, size_t room,

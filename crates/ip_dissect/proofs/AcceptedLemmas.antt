@@ -1,9 +1,9 @@
 -- Where `IpSlice::from_slice` is Ok: a dissection ends at the payload, and nothing is missing.
-use Rattle.ip_spec.proofs.Common.{◌≡◌, ◌≢◌, ◌↔◌, IsSome, ℕ, ◌+◌, ◌≤◌, List, length, sym, ap, ◌∙◌, refl, arith, rules, common_steps, Bool, false, le-ltb, and-false, fault_after, Option, None, Some, none-some, option_map, option_map_or, subst, is_empty, bytes_of, leads_to, ExtHeader, IsPrefix, rest_after, ◌==◌, if◌then◌else◌}
+use Rattle.ip_spec.proofs.Common.{◌≡◌, ◌≢◌, ◌↔◌, IsSome, ℕ, ◌+◌, ◌≤◌, List, length, take, sym, ap, ◌∙◌, refl, arith, rules, common_steps, Bool, false, le-ltb, and-false, fault_after, Option, None, Some, none-some, option_map, option_map_or, subst, is_empty, bytes_of, leads_to, ExtHeader, IsPrefix, rest_after, ◌==◌, if◌then◌else◌}
 use Rattle.ip_spec.proofs.PrefixLemmas.{prefix-length}
 use Rattle.ip_base.specs.declared.len_source.LenSource.{LenSource}
 use Rattle.ip_base.specs.declared.len_source.LenSource.TheVariants.{Slice}
-use Rattle.ip_base.specs.Ipv4Header.{version, ihl, ipv4_header_len, total_len, protocol, ipv4_fragment_offset}
+use Rattle.ip_base.specs.Ipv4Header.{IsIpv4Header, version, ihl, ipv4_header_len, total_len, protocol, ipv4_fragment_offset}
 use Rattle.ip_base.specs.Ipv6Header.{IsIpv6Header, payload_length, ipv6_next_header}
 use Rattle.ip_ext_headers.specs.HeaderFault.{raw_fault, fragment_fault, auth_fault}
 use Rattle.ip_ext_slices.specs.ChainFault.{Fault, fault_at, slice_fault, chain_fault}
@@ -17,12 +17,12 @@ use Rattle.etherparse_ip.proofs.BaseLemmas.{SaysIpv4, says_ipv4, SaysIpv6, says_
 use Rattle.etherparse_ip.proofs.PartsLemmas.{strict_fault_of_chain}
 use Rattle.ip_dissect.specs.LaterDemand.{has_later}
 use Rattle.ip_dissect.specs.Extent.{missing_of, after_base, ipv4_stated, ipv6_stated, ipv4_chain, ipv6_chain}
-use Rattle.ip_dissect.specs.End.{base_end, auth_end, ipv4_end, exts_end, ipv6_error}
-use Rattle.ip_dissect.specs.Dissection.{base_of, IsIpv4Dissection, IsIpv6Dissection}
-use Rattle.ip_dissect.specs.declared.dissection.Dissection.{Dissection}
+use Rattle.ip_dissect.specs.End.{base_end, auth_end, ipv4_end, exts_end, ipv6_error, ipv6_end}
+use Rattle.ip_dissect.specs.Dissection.{dissected}
 use Rattle.ip_dissect.specs.declared.end.End.{End}
 use Rattle.ip_dissect.specs.declared.end.End.TheVariants as end
 use Rattle.ip_dissect.proofs.AgreementLemmas.{no_later, after_is6, after_is4, chain_of}
+use Rattle.ip_dissect.proofs.DissectedLemmas.{BeginIpv4, begin_ipv4, BeginIpv6, begin_ipv6}
 
 none_before : {A B : Type 0} (f : A → B) (o : Option A) → option_map f o ≡ None → o ≡ None
 none_before f None e = refl
@@ -63,10 +63,7 @@ no_chain_fault s e = rw e refl
 chain_fault_of : (s : List ℕ) → ipv6_chain_fault s ≡ None → chain_fault (ipv6_next_header s) (ipv6_after s) ≡ None
 chain_fault_of s e = search (rules, none_before)
 
-module _ (s : List ℕ) (d : Dissection) (i : IsIpv6Dissection s d) (none : has_later (ipv6_chain (base_of d) s) ≡ false) where
-  abbrev b : List ℕ
-  b = base_of d
-
+module _ (b s : List ℕ) (base : IsIpv6Header b) (prefix : IsPrefix b s) (none : has_later (ipv6_chain b s) ≡ false) where
   -- the longest chain after the base header
   abbrev n : ℕ
   n = ipv6_next_header s
@@ -78,20 +75,20 @@ module _ (s : List ℕ) (d : Dissection) (i : IsIpv6Dissection s d) (none : has_
   c = longest_chain n x
 
   says : SaysIpv6 b s
-  says = says_ipv6 b s i.base i.parts.prefix
+  says = says_ipv6 b s base prefix
 
   enough : 40 ≤ length s
-  enough = omega (arith, prefix-length b s i.parts.prefix, i.base.len)
+  enough = omega (arith, prefix-length b s prefix, base.len)
 
   after_version : ip_fault s ≡ option_map ip_of_ipv6 (ipv6_fault_after s)
-  after_version = at_version_6 s (sym says.version ∙ i.base.version) enough
+  after_version = at_version_6 s (sym says.version ∙ base.version) enough
 
   abbrev error_of : List ExtHeader → ℕ → List ℕ → Option Fault
   error_of c n x = slice_fault (40 + length (bytes_of c)) (is_empty c) (leads_to n c) (rest_after c x)
 
   same_error : ipv6_error b s ≡ error_of c n x
   same_error =
-      let after : after_base b (ipv6_stated b) s ≡ x = after_is6 b s i.base i.parts.prefix in
+      let after : after_base b (ipv6_stated b) s ≡ x = after_is6 b s base prefix in
       let chain : ipv6_chain b s ≡ c = no_later _ _ none ∙ ap (longest_chain (ipv6_next_header b)) after ∙ ap (λ m. longest_chain m x) says.number in
       ap (λ e. error_of e (ipv6_next_header b) (after_base b (ipv6_stated b) s)) chain
       ∙ ap (error_of c (ipv6_next_header b)) after
@@ -104,26 +101,31 @@ module _ (s : List ℕ) (d : Dissection) (i : IsIpv6Dissection s d) (none : has_
   chain_none : ipv6_error b s ≡ None → chain_fault n x ≡ None
   chain_none e = fault_none Slice (length (rest_after c x)) (40 + length (bytes_of c)) (length (bytes_of c)) (is_empty c) (leads_to n c) (rest_after c x) (sym same_error ∙ e)
 
-  the_end : d.end ≡ option_map_or (exts_end (ipv6_stated b)) (ipv6_error b s) end.Payload
-  the_end = i.end ∙ rw none refl
+  the_end : ipv6_end b s ≡ option_map_or (exts_end (ipv6_stated b)) (ipv6_error b s) end.Payload
+  the_end = rw none refl
 
-  none_is_missing : (d.missing ≡ 0) ↔ (40 + payload_length s ≤ length s)
-  none_is_missing = grind (arith, common_steps, i.parts.missing, none_missing (payload_length s) (length s) enough, says.payload)
+  none_is_missing : (missing_of (ipv6_stated b) (length s) ≡ 0) ↔ (40 + payload_length s ≤ length s)
+  none_is_missing = grind (arith, common_steps, none_missing (payload_length s) (length s) enough, says.payload)
 
-  ipv6_ends : ip_fault s ≡ None → (d.end ≡ end.Payload) × (d.missing ≡ 0)
+  ipv6_ends : ip_fault s ≡ None → (ipv6_end b s ≡ end.Payload) × (missing_of (ipv6_stated b) (length s) ≡ 0)
   ipv6_ends e =
       let after : ipv6_fault_after s ≡ None = none_before ip_of_ipv6 (ipv6_fault_after s) (sym after_version ∙ e) in
       let whole : 40 + payload_length s ≤ length s = whole_of s after in
       let chain : chain_fault n x ≡ None = chain_fault_of s (sym (strict_fault_of_chain s whole) ∙ after) in
       (the_end ∙ ap (λ o. option_map_or (exts_end (ipv6_stated b)) o end.Payload) (error_none chain), none_is_missing.1 whole)
 
-  ipv6_parses : (d.end ≡ end.Payload) × (d.missing ≡ 0) → ip_fault s ≡ None
+  ipv6_parses : (ipv6_end b s ≡ end.Payload) × (missing_of (ipv6_stated b) (length s) ≡ 0) → ip_fault s ≡ None
   ipv6_parses p =
       let error : ipv6_error b s ≡ None = ends_without_error (ipv6_stated b) (ipv6_error b s) (sym the_end ∙ p.0) in
       after_version ∙ ap (option_map ip_of_ipv6) (strict_fault_of_chain s (none_is_missing.0 p.1) ∙ no_chain_fault s (chain_none error))
 
-  pub ipv6_accepted : (ip_fault s ≡ None) ↔ ((d.end ≡ end.Payload) × (d.missing ≡ 0))
-  ipv6_accepted = (ipv6_ends, ipv6_parses)
+  ipv6_accepted_at : (ip_fault s ≡ None) ↔ ((ipv6_end b s ≡ end.Payload) × (missing_of (ipv6_stated b) (length s) ≡ 0))
+  ipv6_accepted_at = (ipv6_ends, ipv6_parses)
+
+pub ipv6_accepted : (s : List ℕ) → (dissected s).version ≡ 6 → has_later (dissected s).headers ≡ false → (ip_fault s ≡ None) ↔ (((dissected s).end ≡ end.Payload) × ((dissected s).missing ≡ 0))
+ipv6_accepted s v none =
+    let w : BeginIpv6 s (take 40 s) = begin_ipv6 s v in
+    rw w.is (ipv6_accepted_at (take 40 s) s w.header w.prefix (rw w.is at none))
 
 -- IPv4
 at_version_4 : (s : List ℕ) → version s ≡ 4 → 5 ≤ ihl s → ipv4_header_len s ≤ length s → 1 ≤ length s → ip_fault s ≡ option_map ip_of_ipv4 (ipv4_fault_after s)
@@ -158,62 +160,64 @@ none_missing_of t n some = grind (arith, common_steps)
 is_stated : (b : List ℕ) → 1 ≤ total_len b → IsSome (ipv4_stated b)
 is_stated b some = grind (arith, common_steps)
 
-module _ (s : List ℕ) (d : Dissection) (i : IsIpv4Dissection s d) (none : ipv4_fragment_offset (base_of d) ≡ 0) where
-  abbrev h : List ℕ
-  h = base_of d
-
+module _ (h s : List ℕ) (base : IsIpv4Header h) (prefix : IsPrefix h s) (none : ipv4_fragment_offset h ≡ 0) where
   header : SaysIpv4 h s
-  header = says_ipv4 h s i.base i.parts.prefix
+  header = says_ipv4 h s base prefix
 
   least : 5 ≤ ihl s
-  least = omega (arith, i.base.least, i.base.len, header.len)
+  least = omega (arith, base.least, base.len, header.len)
 
   header_whole : ipv4_header_len s ≤ length s
-  header_whole = omega (arith, prefix-length h s i.parts.prefix, header.len)
+  header_whole = omega (arith, prefix-length h s prefix, header.len)
 
   after_header : ip_fault s ≡ option_map ip_of_ipv4 (ipv4_fault_after s)
-  after_header = at_version_4 s (sym header.version ∙ i.base.version) least header_whole (omega (arith, least, header_whole))
+  after_header = at_version_4 s (sym header.version ∙ base.version) least header_whole (omega (arith, least, header_whole))
 
   -- if total length isn't below the header length
   module _ (fits : length h ≤ total_len h) where
     some_total : 1 ≤ total_len h
-    some_total = omega (arith, fits, i.base.least, i.base.len)
+    some_total = omega (arith, fits, base.least, base.len)
 
     same_auth_error : fault_after (ipv4_faults Slice) (ipv4_chain h s) (protocol h) (after_base h (ipv4_stated h) s) ≡ ipv4_chain_fault (protocol s) (ipv4_after s)
     same_auth_error =
-        let after : after_base h (ipv4_stated h) s ≡ ipv4_after s = after_is4 h s i.base i.parts.prefix fits in
+        let after : after_base h (ipv4_stated h) s ≡ ipv4_after s = after_is4 h s base prefix fits in
         ap (λ c. fault_after (ipv4_faults Slice) c (protocol h) (after_base h (ipv4_stated h) s)) (chain_of h _ none)
         ∙ ap (ipv4_chain_fault (protocol h)) after
         ∙ ap (λ n. ipv4_chain_fault n (ipv4_after s)) header.number
 
-    at_end : d.end ≡ option_map_or (auth_end (ipv4_stated h)) (ipv4_error h s) end.Payload
-    at_end = i.end ∙ end_of h s none fits
+    at_end : ipv4_end h s ≡ option_map_or (auth_end (ipv4_stated h)) (ipv4_error h s) end.Payload
+    at_end = end_of h s none fits
 
-    whole_if : (d.missing ≡ 0) ↔ (total_len s ≤ length s)
-    whole_if = grind (arith, common_steps, i.parts.missing, none_missing_of (total_len h) (length s) some_total, header.total)
+    whole_if : (missing_of (ipv4_stated h) (length s) ≡ 0) ↔ (total_len s ≤ length s)
+    whole_if = grind (arith, common_steps, none_missing_of (total_len h) (length s) some_total, header.total)
 
     checks : total_len s ≤ length s → ipv4_fault_after s ≡ option_map (auth_in_packet ipv4_len_source (ipv4_header_len s)) (ipv4_chain_fault (protocol s) (ipv4_after s))
     checks whole = after_total s (omega (arith, fits, header.len, header.total)) whole
 
-  ipv4_ends : ip_fault s ≡ None → (d.end ≡ end.Payload) × (d.missing ≡ 0) × IsSome d.stated_len
+  ipv4_ends : ip_fault s ≡ None → (ipv4_end h s ≡ end.Payload) × (missing_of (ipv4_stated h) (length s) ≡ 0) × IsSome (ipv4_stated h)
   ipv4_ends e =
       let after : ipv4_fault_after s ≡ None = none_before ip_of_ipv4 (ipv4_fault_after s) (sym after_header ∙ e) in
       let fits : length h ≤ total_len h = omega (arith, (total_of s after).0, header.len, header.total) in
       let whole : total_len s ≤ length s = (total_of s after).1 in
       let chain : ipv4_chain_fault (protocol s) (ipv4_after s) ≡ None = none_before (auth_in_packet ipv4_len_source (ipv4_header_len s)) (ipv4_chain_fault (protocol s) (ipv4_after s)) (sym (checks fits whole) ∙ after) in
       let error : ipv4_error h s ≡ None = ap (option_map (auth_in_packet Slice (length h))) (same_auth_error fits ∙ chain) in
-      let stated : IsSome d.stated_len = subst (λ o. IsSome o) (sym i.parts.stated) (is_stated h (some_total fits)) in
+      let stated : IsSome (ipv4_stated h) = is_stated h (some_total fits) in
       (at_end fits ∙ ap (λ o. option_map_or (auth_end (ipv4_stated h)) o end.Payload) error, (whole_if fits).1 whole, stated)
 
-  ipv4_parses : (d.end ≡ end.Payload) × (d.missing ≡ 0) × IsSome d.stated_len → ip_fault s ≡ None
+  ipv4_parses : (ipv4_end h s ≡ end.Payload) × (missing_of (ipv4_stated h) (length s) ≡ 0) × IsSome (ipv4_stated h) → ip_fault s ≡ None
   ipv4_parses p =
-      let fits : length h ≤ total_len h = stated_whole h s (sym i.end ∙ p.0) (subst (λ o. IsSome o) i.parts.stated p.2) in
+      let fits : length h ≤ total_len h = stated_whole h s p.0 p.2 in
       let error : ipv4_error h s ≡ None = ends_without_auth_error (ipv4_stated h) (ipv4_error h s) (sym (at_end fits) ∙ p.0) in
       let chain : ipv4_chain_fault (protocol s) (ipv4_after s) ≡ None = sym (same_auth_error fits) ∙ none_before (auth_in_packet Slice (length h)) _ error in
       after_header ∙ ap (option_map ip_of_ipv4) (checks fits ((whole_if fits).0 p.1) ∙ ap (option_map (auth_in_packet ipv4_len_source (ipv4_header_len s))) chain)
 
-  pub ipv4_accepted : (ip_fault s ≡ None) ↔ ((d.end ≡ end.Payload) × (d.missing ≡ 0) × IsSome d.stated_len)
-  ipv4_accepted = (ipv4_ends, ipv4_parses)
+  ipv4_accepted_at : (ip_fault s ≡ None) ↔ ((ipv4_end h s ≡ end.Payload) × (missing_of (ipv4_stated h) (length s) ≡ 0) × IsSome (ipv4_stated h))
+  ipv4_accepted_at = (ipv4_ends, ipv4_parses)
+
+pub ipv4_accepted : (s : List ℕ) → (dissected s).version ≡ 4 → ipv4_fragment_offset (dissected s).base ≡ 0 → (ip_fault s ≡ None) ↔ (((dissected s).end ≡ end.Payload) × ((dissected s).missing ≡ 0) × IsSome (dissected s).stated)
+ipv4_accepted s v none =
+    let w : BeginIpv4 s (take (ipv4_header_len s) s) = begin_ipv4 s v in
+    rw w.is (ipv4_accepted_at (take (ipv4_header_len s) s) s w.header w.prefix (rw w.is at none))
 
 -- bytes that don't start with a base header
 pub no_packet_accepted : (s : List ℕ) (e : End) → base_end s ≡ Some e → IsSome (ip_fault s)

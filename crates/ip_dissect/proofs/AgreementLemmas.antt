@@ -5,7 +5,7 @@ use Rattle.ip_spec.proofs.PrefixLemmas.{prefix-length}
 use Rattle.ip_spec.proofs.ChainLemmas.{longest_at_end}
 use Rattle.ip_spec.proofs.UnderLemmas.{longest_ends_under}
 use Rattle.ip_base.specs.Ipv6Header.{IsIpv6Header, payload_length, ipv6_next_header}
-use Rattle.ip_base.specs.Ipv4Header.{IsIpv4Header, total_len, protocol, ipv4_fragment_offset}
+use Rattle.ip_base.specs.Ipv4Header.{IsIpv4Header, ipv4_header_len, total_len, protocol, ipv4_fragment_offset}
 use Rattle.ip_ext_slices.specs.Longest.{longest_chain}
 use Rattle.ip_ext_slices.specs.Ipv4Longest.{longest_ipv4_chain}
 use Rattle.ip_ext_slices.proofs.LongestLemmas.{longest_chain-is}
@@ -14,13 +14,13 @@ use Rattle.etherparse_ip.specs.Packet.{Parts, IsIpv4Packet, IsIpv6Packet}
 use Rattle.etherparse_ip.specs.PartsIn.{ipv4_parts_in, ipv6_parts_in}
 use Rattle.etherparse_ip.specs.PacketFault.{ipv4_after, ipv6_after}
 use Rattle.etherparse_ip.proofs.BaseLemmas.{SaysIpv4, SaysIpv6, says_ipv4, says_ipv6}
-use Rattle.etherparse_ip.proofs.OnePacketLemmas.{ipv4_parts_are, ipv6_parts_are}
+use Rattle.etherparse_ip.proofs.OnePacketLemmas.{ipv4_version, ipv6_version, ipv4_parts_are, ipv6_parts_are}
 use Rattle.ip_dissect.specs.LaterDemand.{has_later, NothingAfterLater, nothing_after_later}
 use Rattle.ip_dissect.specs.Later.{chain_to_later}
 use Rattle.ip_dissect.specs.Extent.{packet_bytes, after_base, ipv4_stated, ipv6_stated, ipv4_chain, ipv4_chain_in, ipv6_chain}
-use Rattle.ip_dissect.specs.Dissection.{base_of, IsIpv4Dissection, IsIpv6Dissection}
-use Rattle.ip_dissect.specs.Agreement.{HasSameParts}
-use Rattle.ip_dissect.specs.declared.dissection.Dissection.{Dissection}
+use Rattle.ip_dissect.specs.Dissection.{dissected}
+use Rattle.ip_dissect.specs.Agreement.{HaveSameParts}
+use Rattle.ip_dissect.proofs.DissectedLemmas.{BeginIpv4, header_begins4, BeginIpv6, header_begins6}
 use Rattle.ip_dissect.proofs.LaterLemmas.{chain_to_later-longest, may_follow}
 
 -- without a later fragment's header the chain is the longest
@@ -41,22 +41,24 @@ after_is6 b s base prefix =
     ∙ ap (λ k. drop (length b) (front (ipv6_len_source k (length s)) k s)) says.payload
     ∙ ap (λ n. drop n (front (ipv6_len_source (payload_length s) (length s)) (payload_length s) s)) base.len
 
-base_is6 : (b s : List ℕ) → IsIpv6Header b → IsPrefix b s → b ≡ take 40 s
-base_is6 b s base prefix = sym prefix ∙ ap (λ n. take n s) base.len
+parsed_begins6 : (s : List ℕ) (p : Parts) → IsIpv6Packet s p → BeginIpv6 s (take 40 s)
+parsed_begins6 s p k = header_begins6 s (ipv6_version s p k) (subst (λ b. IsIpv6Header b) (ap (λ (q : Parts). q.base) (ipv6_parts_are s p k)) k.base)
 
-pub ipv6_agrees : (s : List ℕ) (d : Dissection) (p : Parts) → IsIpv6Dissection s d → IsIpv6Packet s p → has_later (ipv6_chain (base_of d) s) ≡ false → HasSameParts (ipv6_chain (base_of d) s) d p
-ipv6_agrees s d p i k none =
-    let b : List ℕ = base_of d in
-    let says : SaysIpv6 b s = says_ipv6 b s i.base i.parts.prefix in
-    let is : p ≡ ipv6_parts_in s = ipv6_parts_are s p k in
-    let x : after_base b (ipv6_stated b) s ≡ ipv6_after s = after_is6 b s i.base i.parts.prefix in
+pub ipv6_agrees : (s : List ℕ) (p : Parts) → IsIpv6Packet s p → has_later (dissected s).headers ≡ false → HaveSameParts (dissected s) p
+ipv6_agrees s p k none =
+    let parsed : p ≡ ipv6_parts_in s = ipv6_parts_are s p k in
+    let b : List ℕ = take 40 s in
+    let w : BeginIpv6 s b = parsed_begins6 s p k in
+    let none : has_later (ipv6_chain b s) ≡ false = rw w.is at none in
+    let says : SaysIpv6 b s = says_ipv6 b s w.header w.prefix in
+    let x : after_base b (ipv6_stated b) s ≡ ipv6_after s = after_is6 b s w.header w.prefix in
     let c : ipv6_chain b s ≡ longest_chain (ipv6_next_header s) (ipv6_after s) = no_later _ _ none ∙ ap (longest_chain (ipv6_next_header b)) x ∙ ap (λ n. longest_chain n (ipv6_after s)) says.number in
-    record {
-      base = base_is6 b s i.base i.parts.prefix ∙ ap (λ (q : Parts). q.base) (sym is);
-      headers = c ∙ ap (λ (q : Parts). q.headers) (sym is);
-      payload = i.parts.payload ∙ ap (λ e. rest_after e (after_base b (ipv6_stated b) s)) c ∙ ap (rest_after (longest_chain (ipv6_next_header s) (ipv6_after s))) x ∙ ap (λ (q : Parts). q.payload) (sym is);
-      number = i.parts.number ∙ ap (leads_to (ipv6_next_header b)) c ∙ ap (λ n. leads_to n (longest_chain (ipv6_next_header s) (ipv6_after s))) says.number ∙ ap (λ (q : Parts). q.number) (sym is);
-    }
+    rw (w.is, parsed) (record {
+      base = refl;
+      headers = c;
+      payload = ap (λ e. rest_after e (after_base b (ipv6_stated b) s)) c ∙ ap (rest_after (longest_chain (ipv6_next_header s) (ipv6_after s))) x;
+      number = ap (leads_to (ipv6_next_header b)) c ∙ ap (λ n. leads_to n (longest_chain (ipv6_next_header s) (ipv6_after s))) says.number;
+    })
 
 -- IPv4: a parsed packet's total length isn't below its header length
 enough_of : (b y s : List ℕ) (t : ℕ) → b ++ y ≡ take t s → length b ≤ t
@@ -75,20 +77,27 @@ after_is4 b s base prefix enough =
 pub chain_of : (b x : List ℕ) → ipv4_fragment_offset b ≡ 0 → ipv4_chain_in b x ≡ longest_ipv4_chain (protocol b) x
 chain_of b x e = rw e refl
 
-pub ipv4_agrees : (s : List ℕ) (d : Dissection) (p : Parts) → IsIpv4Dissection s d → IsIpv4Packet s p → ipv4_fragment_offset (base_of d) ≡ 0 → HasSameParts (ipv4_chain (base_of d) s) d p
-ipv4_agrees s d p i k none =
-    let b : List ℕ = base_of d in
-    let says : SaysIpv4 b s = says_ipv4 b s i.base i.parts.prefix in
-    let is : p ≡ ipv4_parts_in s = ipv4_parts_are s p k in
-    let base : b ≡ p.base = sym i.parts.prefix ∙ ap (λ n. take n s) says.len ∙ ap (λ (q : Parts). q.base) (sym is) in
+parsed_begins4 : (s : List ℕ) (p : Parts) → IsIpv4Packet s p → BeginIpv4 s (take (ipv4_header_len s) s)
+parsed_begins4 s p k = header_begins4 s (ipv4_version s p k) (subst (λ b. IsIpv4Header b) (ap (λ (q : Parts). q.base) (ipv4_parts_are s p k)) k.base)
+
+parsed_enough : (s : List ℕ) (p : Parts) → IsIpv4Packet s p → length (take (ipv4_header_len s) s) ≤ total_len (take (ipv4_header_len s) s)
+parsed_enough s p k =
     let stated : front p.source (total_len p.base) s ≡ take (total_len p.base) s = ap (λ f. front f (total_len p.base) s) k.source in
-    let enough : length b ≤ total_len b = let P : List ℕ → Type 0 = λ y. length y ≤ total_len y in subst P (sym base) (enough_of p.base _ s (total_len p.base) (k.joined ∙ stated)) in
-    let x : after_base b (ipv4_stated b) s ≡ ipv4_after s = after_is4 b s i.base i.parts.prefix enough in
+    subst (λ (b : List ℕ). length b ≤ total_len b) (ap (λ (q : Parts). q.base) (ipv4_parts_are s p k)) (enough_of p.base _ s (total_len p.base) (k.joined ∙ stated))
+
+pub ipv4_agrees : (s : List ℕ) (p : Parts) → IsIpv4Packet s p → ipv4_fragment_offset p.base ≡ 0 → HaveSameParts (dissected s) p
+ipv4_agrees s p k none =
+    let parsed : p ≡ ipv4_parts_in s = ipv4_parts_are s p k in
+    let b : List ℕ = take (ipv4_header_len s) s in
+    let w : BeginIpv4 s b = parsed_begins4 s p k in
+    let none : ipv4_fragment_offset b ≡ 0 = rw parsed at none in
+    let says : SaysIpv4 b s = says_ipv4 b s w.header w.prefix in
+    let x : after_base b (ipv4_stated b) s ≡ ipv4_after s = after_is4 b s w.header w.prefix (parsed_enough s p k) in
     let c : ipv4_chain b s ≡ longest_ipv4_chain (protocol s) (ipv4_after s) =
     chain_of b _ none ∙ ap (longest_ipv4_chain (protocol b)) x ∙ ap (λ n. longest_ipv4_chain n (ipv4_after s)) says.number in
-    record {
-      base = base;
-      headers = c ∙ ap (λ (q : Parts). q.headers) (sym is);
-      payload = i.parts.payload ∙ ap (λ e. rest_after e (after_base b (ipv4_stated b) s)) c ∙ ap (rest_after (longest_ipv4_chain (protocol s) (ipv4_after s))) x ∙ ap (λ (q : Parts). q.payload) (sym is);
-      number = i.parts.number ∙ ap (leads_to (protocol b)) c ∙ ap (λ n. leads_to n (longest_ipv4_chain (protocol s) (ipv4_after s))) says.number ∙ ap (λ (q : Parts). q.number) (sym is);
-    }
+    rw (w.is, parsed) (record {
+      base = refl;
+      headers = c;
+      payload = ap (λ e. rest_after e (after_base b (ipv4_stated b) s)) c ∙ ap (rest_after (longest_ipv4_chain (protocol s) (ipv4_after s))) x;
+      number = ap (leads_to (protocol b)) c ∙ ap (λ n. leads_to n (longest_ipv4_chain (protocol s) (ipv4_after s))) says.number;
+    })

@@ -1,5 +1,5 @@
 -- One more header, and what the fragment headers say.
-use Rattle.ip_spec.proofs.Common.{◌≡◌, ℕ, ◌*◌, List, [], ◌∷◌, ◌++◌, refl, sym, ap, ◌∙◌, arith, Bool, true, false, rules, common_steps, or-false, or_assoc, eqb_tells, cases_Bool, subst, inl, inr, Option, Some, None, option_map, option_or, find, ◌||◌, ◌==◌, if◌then◌else◌, not, ExtHeader, fragment_fields, is_fragmenting}
+use Rattle.ip_spec.proofs.Common.{◌≡◌, ℕ, ◌+◌, ◌*◌, List, [], ◌∷◌, ◌++◌, refl, sym, ap, ◌∙◌, arith, Bool, true, false, rules, common_steps, length, length-append, or-false, or_assoc, eqb_tells, cases_Bool, subst, inl, inr, Option, Some, None, option_map, option_or, find, ◌||◌, ◌==◌, if◌then◌else◌, not, ExtHeader, fragment_fields, is_fragmenting}
 use Rattle.std.proofs.Common.{cond}
 use Rattle.ip_dissect.specs.LaterDemand.{is_later, has_later}
 use Rattle.ip_dissect.specs.Fragment.{fragment_of, fragment_in, fragments, is_fragment_header, is_atomic, is_atomic_kind}
@@ -9,14 +9,17 @@ use Rattle.ip_dissect.specs.declared.fragment.Fragment.{Fragment}
 use Rattle.ip_dissect.specs.declared.fragment.FragmentKind.TheVariants.{Atomic, First, Middle, Last}
 
 has_later-more : (c : List ExtHeader) (h : ExtHeader) → has_later (c ++ h ∷ []) ≡ (has_later c || is_later h)
-has_later-more c h = grind (arith, common_steps, or-false, or_assoc)
+has_later-more c h = grind (arith, common_steps, length, length-append, or-false, or_assoc)
 
 found-more : {A B : Type 0} (f : A → B) (p : A → Bool) (c : List A) (h : A) → option_map f (find p (c ++ h ∷ [])) ≡ option_or (option_map f (find p c)) (cond (p h) (Some (f h)) None)
 found-more f p [] h = grind (arith, common_steps)
 found-more f p (x ∷ c) h = grind (arith, common_steps, found-more f p c h)
 
-same_found : (f : Found) (a b : Option Fragment) (l : Bool) → f.fragmenting ≡ a → f.first ≡ b → f.later ≡ l → f ≡ record { fragmenting = a; first = b; later = l }
-same_found f a b l p q r = rw (← p, ← q, ← r) refl
+same_found : (f : Found) (a b : Option Fragment) (l : Bool) (k : ℕ) → f.fragmenting ≡ a → f.first ≡ b → f.later ≡ l → f.count ≡ k → f ≡ record { fragmenting = a; first = b; later = l; count = k }
+same_found f a b l k p q r t = rw (← p, ← q, ← r, ← t) refl
+
+one_more : (c : List ExtHeader) (h : ExtHeader) (k : ℕ) → k ≡ length c → k + 1 ≡ length (c ++ h ∷ [])
+one_more c h k e = omega (arith, e, length-append c (h ∷ []))
 
 atomic_kind : (z more : Bool) → is_atomic_kind (if z then (if more then First else Atomic) else if more then Middle else Last) ≡ not (more || not z)
 atomic_kind true true = refl
@@ -66,14 +69,15 @@ module _ (h : ExtHeader) where
         absurd cc
   ]
 
-  no_fragment_of : (c : List ExtHeader) (f : Found) → is_fragment_header h ≡ false → f ≡ found_in c → f ≡ found_in (c ++ h ∷ [])
+  no_fragment_of : (c : List ExtHeader) (f : Found) → is_fragment_header h ≡ false → f ≡ found_in c → record f { count = f.count + 1 } ≡ found_in (c ++ h ∷ [])
   no_fragment_of c f n told =
-      told ∙ same_found (found_in c) _ _ _
-      (sym (found-more fragment_of fragments c h ∙ rw n (or_none _)))
-      (sym (found-more fragment_of is_fragment_header c h ∙ rw n (or_none _)))
-      (sym (has_later-more c h ∙ rw n (or-false _)))
+      same_found (record f { count = f.count + 1 }) _ _ _ _
+      (ap (λ (g : Found). g.fragmenting) told ∙ sym (found-more fragment_of fragments c h ∙ rw n (or_none _)))
+      (ap (λ (g : Found). g.first) told ∙ sym (found-more fragment_of is_fragment_header c h ∙ rw n (or_none _)))
+      (ap (λ (g : Found). g.later) told ∙ sym (has_later-more c h ∙ rw n (or-false _)))
+      (one_more c h f.count (ap (λ (g : Found). g.count) told))
 
-  pub no_fragment : (c : List ExtHeader) (f : Found) → fragment_in h ≡ None → f ≡ found_in c → f ≡ found_in (c ++ h ∷ [])
+  pub no_fragment : (c : List ExtHeader) (f : Found) → fragment_in h ≡ None → f ≡ found_in c → record f { count = f.count + 1 } ≡ found_in (c ++ h ∷ [])
   no_fragment c f e told = elim (cases_Bool (is_fragment_header h)) [
     | inl t ↦
         let read : fragment_in h ≡ Some (fragment_of h) = rw t refl in
@@ -84,10 +88,11 @@ module _ (h : ExtHeader) where
 
   pub one_fragment : (c : List ExtHeader) (f more : Found) (x : Fragment) → fragment_in h ≡ Some x → f ≡ found_in c
       → more.fragmenting ≡ option_or f.fragmenting (if is_atomic x then None else Some x) → more.first ≡ option_or f.first (Some x) → more.later ≡ (f.later || not (x.offset == 0))
-      → more ≡ found_in (c ++ h ∷ [])
-  one_fragment c f more x e told p q r =
+      → more.count ≡ f.count + 1 → more ≡ found_in (c ++ h ∷ [])
+  one_fragment c f more x e told p q r t =
       let add : Adds x = adds x e in
-      same_found more _ _ _
+      same_found more _ _ _ _
       (p ∙ ap (λ (g : Found). option_or g.fragmenting (if is_atomic x then None else Some x)) told ∙ ap (option_or (option_map fragment_of (find fragments c))) (sym add.fragmenting) ∙ sym (found-more fragment_of fragments c h))
       (q ∙ ap (λ (g : Found). option_or g.first (Some x)) told ∙ ap (option_or (option_map fragment_of (find is_fragment_header c))) (sym add.first) ∙ sym (found-more fragment_of is_fragment_header c h))
       (r ∙ ap (λ (g : Found). g.later || not (x.offset == 0)) told ∙ ap (λ l. has_later c || l) (sym add.later) ∙ sym (has_later-more c h))
+      (t ∙ one_more c h f.count (ap (λ (g : Found). g.count) told))

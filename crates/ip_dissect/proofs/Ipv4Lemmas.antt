@@ -12,7 +12,8 @@ use Rattle.etherparse_ip.specs.PacketFault.{auth_in_packet}
 use Rattle.etherparse_ip.specs.declared.err.ip.slice_error.SliceError.TheVariants.{Len}
 use Rattle.ip_dissect.specs.Extent.{packet_bytes, after_base, missing_of, ipv4_stated, ipv4_chain, ipv4_chain_in}
 use Rattle.ip_dissect.specs.End.{auth_end, ipv4_end}
-use Rattle.ip_dissect.specs.Dissection.{base_of, HasParts}
+use Rattle.ip_dissect.specs.Fragment.{ipv4_fragment}
+use Rattle.ip_dissect.specs.Dissection.{version_of, base_of, HasParts, with_base, ipv4_dissected}
 use Rattle.ip_dissect.specs.declared.dissection.Dissection.{Dissection}
 use Rattle.ip_dissect.specs.declared.end.End.{End}
 use Rattle.ip_dissect.specs.declared.end.End.TheVariants.{LaterFragment, Payload, Fault}
@@ -25,14 +26,14 @@ ipv4_prefix b x =
       | inr w ↦ rw w.0 (no_header_prefix (protocol b) x)
     ]
 
-pub ipv4_parts : (s : List ℕ) (packet x : List ℕ) (d : Dissection) → IsPrefix (base_of d) s → d.stated_len ≡ ipv4_stated (base_of d) → packet ≡ packet_bytes (base_of d) d.stated_len s
-    → x ≡ drop (length (base_of d)) packet → d.extensions.now ≡ take (length x - length d.payload.now) x → d.next_header.0 ≡ leads_to (protocol (base_of d)) (ipv4_chain_in (base_of d) x)
-    → d.payload.now ≡ rest_after (ipv4_chain_in (base_of d) x) x → d.missing ≡ missing_of d.stated_len (length s) → d.padding.now ≡ drop (length packet) s
-    → HasParts s (ipv4_stated (base_of d)) (protocol (base_of d)) (ipv4_chain (base_of d) s) d
-ipv4_parts s packet x d prefix stated bytes after headers number payload missing padding =
-    let P : List ℕ → Type 0 = λ y. HasParts s (ipv4_stated (base_of d)) (protocol (base_of d)) (ipv4_chain_in (base_of d) y) d in
-    let made : P x = has_parts s _ _ (ipv4_chain_in (base_of d) x) packet x d prefix stated bytes after (ipv4_prefix (base_of d) x) headers number payload missing padding in
-    subst P (after_is (base_of d) s d.stated_len _ packet x stated bytes after) made
+pub ipv4_has_parts : (b s : List ℕ) (packet x : List ℕ) (d : Dissection) → version_of d ≡ 4 → base_of d ≡ b → d.stated_len ≡ ipv4_stated b → packet ≡ packet_bytes b d.stated_len s
+    → x ≡ drop (length b) packet → d.extensions.now ≡ take (length x - length d.payload.now) x → d.header_count ≡ length (ipv4_chain_in b x) → d.next_header.0 ≡ leads_to (protocol b) (ipv4_chain_in b x)
+    → d.payload.now ≡ rest_after (ipv4_chain_in b x) x → d.fragment ≡ ipv4_fragment b → d.missing ≡ missing_of d.stated_len (length s) → d.padding.now ≡ drop (length packet) s → d.end ≡ ipv4_end b s
+    → HasParts (ipv4_dissected b s) d
+ipv4_has_parts b s packet x d version base stated bytes after headers count number payload fragment missing padding end =
+    let P : List ℕ → Type 0 = λ y. HasParts (with_base 4 b s (ipv4_stated b) (protocol b) (ipv4_chain_in b y) (ipv4_fragment b) (ipv4_end b s)) d in
+    let made : P x = has_parts 4 b s _ _ (ipv4_chain_in b x) _ _ packet x d version base stated bytes after (ipv4_prefix b x) headers count number payload fragment missing padding end in
+    subst P (after_is b s d.stated_len _ packet x stated bytes after) made
 
 pub ipv4_end_is : (b x s : List ℕ) (t : Option ℕ) (error : Option HeaderSliceError) (end : End) → x ≡ after_base b (ipv4_stated b) s → t ≡ ipv4_stated b
     → (ipv4_fragment_offset b ≡ 0 → error ≡ fault_after (ipv4_faults Slice) (ipv4_chain_in b x) (protocol b) x)

@@ -1,23 +1,24 @@
 -- The parts of a packet joined, and the packets in truncated bytes.
-use Rattle.ip_spec.proofs.Common.{◌≡◌, ℕ, ◌-◌, ◌≤◌, List, [], ◌∷◌, ◌++◌, length, take, drop, refl, sym, ap, ◌∙◌, arith, inl, inr, common_steps, append_assoc, take-take, eqb_tells, Option, Some, None, IsPrefix, ExtHeader, bytes_of, headers_within, AtMostOneOf}
+use Rattle.ip_spec.proofs.Common.{◌≡◌, ℕ, ◌-◌, ◌≤◌, List, [], ◌∷◌, ◌++◌, length, take, drop, refl, sym, ap, ◌∙◌, arith, inl, inr, common_steps, append_assoc, take-take, eqb_tells, Option, Some, None, IsPrefix, ExtHeader, bytes_of, headers_within, rest_after, AtMostOneOf}
 use Rattle.std.proofs.Common.{max, zero, suc}
-use Rattle.ip_spec.proofs.PrefixLemmas.{prefix-append}
+use Rattle.ip_spec.proofs.PrefixLemmas.{prefix-append, prefix-length}
 use Rattle.ip_spec.proofs.DemandKinds.{at_most_one_of}
 use Rattle.ip_spec.proofs.ShorterLemmas.{longest_shorter}
 use Rattle.ip_spec.proofs.UnderLemmas.{whole_longest_under, one_longest_under}
-use Rattle.ip_base.specs.Ipv4Header.{protocol, ipv4_fragment_offset}
+use Rattle.ip_base.specs.Ipv4Header.{protocol, ipv4_header_len, ipv4_fragment_offset}
 use Rattle.ip_base.specs.Ipv6Header.{ipv6_next_header}
 use Rattle.ip_ext_slices.specs.Ipv4Longest.{longest_ipv4_chain}
 use Rattle.ip_ext_slices.specs.Longest.{longest_chain}
-use Rattle.ip_ext_slices.proofs.LongestLemmas.{longest_chain-bytes_of}
+use Rattle.ip_ext_slices.proofs.LongestLemmas.{longest_chain-longest, longest_chain-bytes_of}
 use Rattle.ip_ext_slices.proofs.Ipv4Lemmas.{ipv4_longest, ipv4_longest-shorter}
 use Rattle.ip_dissect.specs.LaterDemand.{NothingAfterLater, nothing_after_later}
 use Rattle.ip_dissect.specs.Later.{chain_to_later}
 use Rattle.ip_dissect.specs.Extent.{packet_bytes, after_base, ipv4_stated, ipv6_stated, ipv4_chain, ipv4_chain_in, ipv6_chain}
-use Rattle.ip_dissect.specs.Dissection.{base_of, HasParts, IsIpv4Dissection, IsIpv6Dissection}
+use Rattle.ip_dissect.specs.Dissection.{DissectedParts, HasParts, version_of, base_of, dissected, ipv4_dissected, ipv6_dissected}
 use Rattle.ip_dissect.specs.declared.dissection.Dissection.{Dissection}
 use Rattle.ip_dissect.proofs.LaterLemmas.{chain_to_later-longest}
 use Rattle.ip_dissect.proofs.Ipv4Lemmas.{ipv4_prefix}
+use Rattle.ip_dissect.proofs.DissectedLemmas.{BeginIpv4, begin_ipv4, BeginIpv6, begin_ipv6}
 
 -- the packet's bytes are a prefix of s that starts with the base header
 packet_split : (b : List ℕ) (t : Option ℕ) (s : List ℕ) → packet_bytes b t s ++ drop (length (packet_bytes b t s)) s ≡ s
@@ -28,21 +29,27 @@ packet_begins : (b : List ℕ) (t : Option ℕ) (s : List ℕ) → IsPrefix b s 
 packet_begins b None s p = p
 packet_begins b (Some t) s p = let enough : length b ≤ max t (length b) = omega arith in take-take (length b) (max t (length b)) s enough ∙ p
 
-pub joined : (s : List ℕ) (t : Option ℕ) (n : ℕ) (c : List ExtHeader) (d : Dissection) → HasParts s t n c d → IsPrefix (bytes_of c) (after_base (base_of d) t s)
-    → base_of d ++ d.extensions.now ++ d.payload.now ++ d.padding.now ≡ s
-joined s t n c d h p =
-    let b : List ℕ = base_of d in
-    let after : bytes_of c ++ d.payload.now ≡ after_base b t s = ap (λ r. bytes_of c ++ r) h.payload ∙ sym (prefix-append (bytes_of c) (after_base b t s) p) in
-    let packet : b ++ after_base b t s ≡ packet_bytes b t s = sym (prefix-append b (packet_bytes b t s) (packet_begins b t s h.prefix)) in
-    ap (λ r. r ++ d.padding.now) (append_assoc b d.extensions.now d.payload.now ∙ ap (λ e. b ++ (e ++ d.payload.now)) h.headers ∙ ap (λ r. b ++ r) after ∙ packet)
-    ∙ ap (λ r. packet_bytes b t s ++ r) h.padding
-    ∙ packet_split b t s
+module _ (b s : List ℕ) (t : Option ℕ) (n : ℕ) (c : List ExtHeader) (start : IsPrefix b s) (front : IsPrefix (bytes_of c) (after_base b t s)) where
+  after_split : bytes_of c ++ rest_after c (after_base b t s) ≡ after_base b t s
+  after_split = sym (prefix-append (bytes_of c) (after_base b t s) front)
 
-pub ipv4_joined : (s : List ℕ) (d : Dissection) → IsIpv4Dissection s d → base_of d ++ d.extensions.now ++ d.payload.now ++ d.padding.now ≡ s
-ipv4_joined s d i = joined s _ _ _ d i.parts (ipv4_prefix (base_of d) _).prefix
+  packet_is : b ++ after_base b t s ≡ packet_bytes b t s
+  packet_is = sym (prefix-append b (packet_bytes b t s) (packet_begins b t s start))
 
-pub ipv6_joined : (s : List ℕ) (d : Dissection) → IsIpv6Dissection s d → base_of d ++ d.extensions.now ++ d.payload.now ++ d.padding.now ≡ s
-ipv6_joined s d i = joined s _ _ _ d i.parts (chain_to_later-longest _ _).has.0.prefix
+  pub joined : b ++ bytes_of c ++ rest_after c (after_base b t s) ++ drop (length (packet_bytes b t s)) s ≡ s
+  joined =
+      ap (λ r. r ++ drop (length (packet_bytes b t s)) s) (append_assoc b (bytes_of c) (rest_after c (after_base b t s)) ∙ ap (λ r. b ++ r) after_split ∙ packet_is)
+      ∙ packet_split b t s
+
+-- the parts of a dissection joined
+parts_joined : (p : DissectedParts) (d : Dissection) → HasParts p d → base_of d ++ d.extensions.now ++ d.payload.now ++ d.padding.now ≡ p.base ++ bytes_of p.headers ++ p.payload ++ p.padding
+parts_joined p d h = rw (h.base, h.extensions, h.payload, h.padding) refl
+
+pub ipv4_joined : (b s : List ℕ) (d : Dissection) → IsPrefix b s → HasParts (ipv4_dissected b s) d → base_of d ++ d.extensions.now ++ d.payload.now ++ d.padding.now ≡ s
+ipv4_joined b s d start h = parts_joined (ipv4_dissected b s) d h ∙ joined b s (ipv4_stated b) (protocol b) (ipv4_chain b s) start (ipv4_prefix b _).prefix
+
+pub ipv6_joined : (b s : List ℕ) (d : Dissection) → IsPrefix b s → HasParts (ipv6_dissected b s) d → base_of d ++ d.extensions.now ++ d.payload.now ++ d.padding.now ≡ s
+ipv6_joined b s d start h = parts_joined (ipv6_dissected b s) d h ∙ joined b s (ipv6_stated b) (ipv6_next_header b) (ipv6_chain b s) start (chain_to_later-longest _ _).has.0.prefix
 
 -- Truncated bytes: those of the packet, and those after its base header.
 none_of : (n : ℕ) → take {A = ℕ} n [] ≡ []
@@ -84,8 +91,8 @@ pub ipv4_shorter : (j : ℕ) (b s : List ℕ) → ipv4_chain b (take j s) ≡ he
 ipv4_shorter j b s = ap (ipv4_chain_in b) (after_shorter b (ipv4_stated b) j s) ∙ chain_in-shorter (j - length b) b (after_base b (ipv4_stated b) s)
 
 -- the headers are the longest chain of their own bytes
-pub ipv6_again : (s : List ℕ) (d : Dissection) → IsIpv6Dissection s d → longest_chain (ipv6_next_header (base_of d)) d.extensions.now ≡ ipv6_chain (base_of d) s
-ipv6_again s d i = ap (longest_chain (ipv6_next_header (base_of d))) i.parts.headers ∙ longest_chain-bytes_of _ (ipv6_chain (base_of d) s) (chain_to_later-longest _ _).has.0.chain
+ipv6_again : (b s : List ℕ) → longest_chain (ipv6_next_header b) (bytes_of (ipv6_chain b s)) ≡ ipv6_chain b s
+ipv6_again b s = longest_chain-bytes_of _ (ipv6_chain b s) (chain_to_later-longest _ _).has.0.chain
 
 one_of : (b x : List ℕ) → AtMostOneOf 51 (ipv4_chain_in b x)
 one_of b x = elim (eqb_tells (ipv4_fragment_offset b) 0) [
@@ -93,16 +100,29 @@ one_of b x = elim (eqb_tells (ipv4_fragment_offset b) 0) [
   | inr w ↦ rw w.0 (at_most_one_of 51).empty
 ]
 
-pub ipv4_again : (s : List ℕ) (d : Dissection) → IsIpv4Dissection s d → longest_ipv4_chain (protocol (base_of d)) d.extensions.now ≡ ipv4_chain (base_of d) s
-ipv4_again s d i =
-    let c : List ExtHeader = ipv4_chain (base_of d) s in
-    ap (longest_ipv4_chain (protocol (base_of d))) i.parts.headers
-    ∙ one_longest_under (AtMostOneOf 51) (at_most_one_of 51) (protocol (base_of d)) (bytes_of c) (longest_ipv4_chain (protocol (base_of d)) (bytes_of c)) c (ipv4_longest _ _)
-    (whole_longest_under (AtMostOneOf 51) (at_most_one_of 51) (protocol (base_of d)) c (ipv4_prefix (base_of d) _).chain (one_of (base_of d) _))
+ipv4_again : (b s : List ℕ) → longest_ipv4_chain (protocol b) (bytes_of (ipv4_chain b s)) ≡ ipv4_chain b s
+ipv4_again b s =
+    let c : List ExtHeader = ipv4_chain b s in
+    one_longest_under (AtMostOneOf 51) (at_most_one_of 51) (protocol b) (bytes_of c) (longest_ipv4_chain (protocol b) (bytes_of c)) c (ipv4_longest _ _)
+    (whole_longest_under (AtMostOneOf 51) (at_most_one_of 51) (protocol b) c (ipv4_prefix b _).chain (one_of b _))
 
 -- so a parse of them from the base header's number returns the headers
-pub ipv6_found : (s : List ℕ) (d : Dissection) (n : ℕ) (c : List ExtHeader) → n ≡ ipv6_next_header (base_of d) → c ≡ longest_chain n d.extensions.now → IsIpv6Dissection s d → c ≡ ipv6_chain (base_of d) s
-ipv6_found s d n c ns cs i = cs ∙ ap (λ k. longest_chain k d.extensions.now) ns ∙ ipv6_again s d i
+pub ipv6_found : (s : List ℕ) (d : Dissection) (b : List ℕ) (n : ℕ) (c : List ExtHeader) → version_of d ≡ 6 → base_of d ≡ b → n ≡ ipv6_next_header b → c ≡ longest_chain n d.extensions.now → HasParts (dissected s) d → c ≡ (dissected s).headers
+ipv6_found s d b n c six base ns cs h =
+    let w : BeginIpv6 s (take 40 s) = begin_ipv6 s (sym h.version ∙ six) in
+    let b' : List ℕ = take 40 s in
+    let same : b ≡ b' = sym base ∙ h.base ∙ ap (λ (p : DissectedParts). p.base) w.is in
+    let bytes : d.extensions.now ≡ bytes_of (ipv6_chain b' s) = h.extensions ∙ ap (λ (p : DissectedParts). bytes_of p.headers) w.is in
+    cs ∙ ap (λ k. longest_chain k d.extensions.now) (ns ∙ ap ipv6_next_header same) ∙ ap (longest_chain (ipv6_next_header b')) bytes ∙ ipv6_again b' s ∙ ap (λ (p : DissectedParts). p.headers) (sym w.is)
 
-pub ipv4_found : (s : List ℕ) (d : Dissection) (n : ℕ) (c : List ExtHeader) → n ≡ protocol (base_of d) → c ≡ longest_ipv4_chain n d.extensions.now → IsIpv4Dissection s d → c ≡ ipv4_chain (base_of d) s
-ipv4_found s d n c ns cs i = cs ∙ ap (λ k. longest_ipv4_chain k d.extensions.now) ns ∙ ipv4_again s d i
+pub ipv4_found : (s : List ℕ) (d : Dissection) (b : List ℕ) (n : ℕ) (c : List ExtHeader) → version_of d ≡ 4 → base_of d ≡ b → n ≡ protocol b → c ≡ longest_ipv4_chain n d.extensions.now → HasParts (dissected s) d → c ≡ (dissected s).headers
+ipv4_found s d b n c four base ns cs h =
+    let w : BeginIpv4 s (take (ipv4_header_len s) s) = begin_ipv4 s (sym h.version ∙ four) in
+    let b' : List ℕ = take (ipv4_header_len s) s in
+    let same : b ≡ b' = sym base ∙ h.base ∙ ap (λ (p : DissectedParts). p.base) w.is in
+    let bytes : d.extensions.now ≡ bytes_of (ipv4_chain b' s) = h.extensions ∙ ap (λ (p : DissectedParts). bytes_of p.headers) w.is in
+    cs ∙ ap (λ k. longest_ipv4_chain k d.extensions.now) (ns ∙ ap protocol same) ∙ ap (longest_ipv4_chain (protocol b')) bytes ∙ ipv4_again b' s ∙ ap (λ (p : DissectedParts). p.headers) (sym w.is)
+
+-- they lie within the bytes that were parsed
+pub found_within : (n : ℕ) (x y : List ℕ) (c : List ExtHeader) → bytes_of c ≡ y → c ≡ longest_chain n x → length y ≤ length x
+found_within n x y c whole is = omega (arith, ap length whole, ap (λ d. length (bytes_of d)) is, prefix-length (bytes_of (longest_chain n x)) x (longest_chain-longest n x).has.prefix)

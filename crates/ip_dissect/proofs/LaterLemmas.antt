@@ -1,7 +1,9 @@
 -- A chain that stops at a later fragment's header: one more header, and the end.
-use Rattle.ip_spec.proofs.Common.{◌≡◌, ℕ, List, [], ◌∷◌, ◌++◌, length, drop, refl, sym, ap, ◌∙◌, arith, Bool, true, false, nat_eq, common_steps, or-false, or_assoc, option_map, option_or, find, ◌||◌, next_header, ExtHeader, bytes_of, leads_to, IsNext, IsEnd, IsLongestUnder, rest_after}
+use Rattle.ip_spec.proofs.Common.{◌≡◌, ℕ, ◌+◌, ◌<◌, ◌^◌, List, [], ◌∷◌, ◌++◌, length, drop, refl, sym, ap, ◌∙◌, arith, Bool, true, false, nat_eq, common_steps, or-false, or_assoc, option_map, option_or, find, ◌||◌, next_header, ExtHeader, bytes_of, leads_to, IsNext, IsEnd, IsLongestUnder, rest_after}
 use Rattle.std.proofs.Common.{Some, None, cond}
 use Rattle.std.proofs.lemmas.List.Folds.{find-append}
+use Rattle.ip_spec.proofs.PrefixLemmas.{prefix-length}
+use Rattle.ip_spec.proofs.ChainLemmas.{bytes_of-least}
 use Rattle.ip_spec.proofs.ParsedLemmas.{HasParsed, has_parsed_on, no_next_here, parsed_longest_under}
 use Rattle.ip_spec.proofs.UnderLemmas.{one_longest_under, some_longest_under}
 use Rattle.ip_dissect.specs.LaterDemand.{is_later, has_later, NothingAfterLater, nothing_after_later}
@@ -39,6 +41,12 @@ pub record WalkState (n : ℕ) (s : List ℕ) (m : ℕ) (r : List ℕ) (found : 
   pub read : HasParsed n s chain m r
   pub said : found ≡ found_in chain
   pub none : has_later chain ≡ false
+
+-- their number is below 2^64, and so is one more
+pub count_fits : (n : ℕ) (s : List ℕ) (m : ℕ) (r : List ℕ) (found : Found) → WalkState n s m r found → length s < 2 ^ 64 → found.count + 1 < 2 ^ 64
+count_fits n s m r found w fits =
+    let count : found.count ≡ length w.chain = ap (λ (f : Found). f.count) w.said in
+    omega (arith, fits, count, bytes_of-least w.chain w.read.prefix_chain.chain.headers, prefix-length (bytes_of w.chain) s w.read.prefix_chain.prefix)
 
 -- the chain is the longest
 pub record AtEnd (n : ℕ) (s : List ℕ) (m : ℕ) (r : List ℕ) (found : Found) : Type 0 where

@@ -9,7 +9,7 @@ use Rattle.ip_dissect.specs.Fragment.{fragment_of, fragments, is_fragment_header
 use Rattle.ip_dissect.specs.Found.{found_in}
 use Rattle.ip_dissect.specs.Extent.{packet_bytes, after_base, missing_of, ipv6_stated, ipv6_chain}
 use Rattle.ip_dissect.specs.End.{exts_end, ipv6_end}
-use Rattle.ip_dissect.specs.Dissection.{base_of, HasParts}
+use Rattle.ip_dissect.specs.Dissection.{version_of, base_of, HasParts, with_base, ipv6_dissected}
 use Rattle.ip_dissect.specs.declared.dissection.Dissection.{Dissection}
 use Rattle.ip_dissect.specs.declared.fragment.Fragment.{Fragment}
 use Rattle.ip_dissect.specs.declared.walk.Found.{Found}
@@ -44,34 +44,38 @@ ipv6_fragment_is b x s n found f xs ns said is =
     let C : ℕ → List ℕ → Option Fragment = λ k y. ipv6_fragment (chain_to_later k y) in
     is ∙ found_fragment found (chain_to_later n x) said ∙ ap (C n) xs ∙ ap (λ k. C k (after_base b (ipv6_stated b) s)) ns
 
--- the bytes of the headers, and those after them, where x follows the base header
-pub has_parts : (s : List ℕ) (t : Option ℕ) (n : ℕ) (c : List ExtHeader) (packet x : List ℕ) (d : Dissection) → IsPrefix (base_of d) s → d.stated_len ≡ t → packet ≡ packet_bytes (base_of d) d.stated_len s
-    → x ≡ drop (length (base_of d)) packet → IsPrefixChain n x c → d.extensions.now ≡ take (length x - length d.payload.now) x → d.next_header.0 ≡ leads_to n c → d.payload.now ≡ rest_after c x
-    → d.missing ≡ missing_of d.stated_len (length s) → d.padding.now ≡ drop (length packet) s → HasParts s t n c d
-has_parts s t n c packet x d prefix stated bytes after chain headers number payload missing padding =
-    let whole : packet ≡ packet_bytes (base_of d) t s = bytes ∙ ap (λ u. packet_bytes (base_of d) u s) stated in
+-- the parts of a packet, where x follows the base header
+pub has_parts : (v : ℕ) (b s : List ℕ) (t : Option ℕ) (n : ℕ) (c : List ExtHeader) (f : Option Fragment) (e : End) (packet x : List ℕ) (d : Dissection) → version_of d ≡ v → base_of d ≡ b → d.stated_len ≡ t → packet ≡ packet_bytes b d.stated_len s
+    → x ≡ drop (length b) packet → IsPrefixChain n x c → d.extensions.now ≡ take (length x - length d.payload.now) x → d.header_count ≡ length c → d.next_header.0 ≡ leads_to n c → d.payload.now ≡ rest_after c x
+    → d.fragment ≡ f → d.missing ≡ missing_of d.stated_len (length s) → d.padding.now ≡ drop (length packet) s → d.end ≡ e → HasParts (with_base v b s t n c f e) d
+has_parts v b s t n c f e packet x d version base stated bytes after chain headers count number payload fragment missing padding end =
+    let whole : packet ≡ packet_bytes b t s = bytes ∙ ap (λ u. packet_bytes b u s) stated in
     record {
-      prefix = prefix;
+      version = version;
+      base = base;
       stated = stated;
-      headers = headers ∙ chain_front n x c chain d.payload.now payload;
+      extensions = headers ∙ chain_front n x c chain d.payload.now payload;
+      count = count;
       number = number;
-      payload = payload ∙ ap (rest_after c) (after ∙ ap (drop (length (base_of d))) whole);
+      payload = payload ∙ ap (rest_after c) (after ∙ ap (drop (length b)) whole);
+      fragment = fragment;
       missing = missing ∙ ap (λ u. missing_of u (length s)) stated;
       padding = padding ∙ ap (λ (y : List ℕ). drop (length y) s) whole;
+      end = end;
     }
 
 -- what follows the base header, by the stated length
 pub after_is : (b s : List ℕ) (t u : Option ℕ) (packet x : List ℕ) → t ≡ u → packet ≡ packet_bytes b t s → x ≡ drop (length b) packet → x ≡ after_base b u s
 after_is b s t u packet x stated bytes after = after ∙ ap (drop (length b)) (bytes ∙ ap (λ v. packet_bytes b v s) stated)
 
-pub ipv6_parts : (s : List ℕ) (n : ℕ) (packet x : List ℕ) (d : Dissection) → IsPrefix (base_of d) s → d.stated_len ≡ ipv6_stated (base_of d) → packet ≡ packet_bytes (base_of d) d.stated_len s
-    → x ≡ drop (length (base_of d)) packet → n ≡ ipv6_next_header (base_of d) → d.extensions.now ≡ take (length x - length d.payload.now) x → d.next_header.0 ≡ leads_to n (chain_to_later n x)
-    → d.payload.now ≡ rest_after (chain_to_later n x) x → d.missing ≡ missing_of d.stated_len (length s) → d.padding.now ≡ drop (length packet) s
-    → HasParts s (ipv6_stated (base_of d)) (ipv6_next_header (base_of d)) (ipv6_chain (base_of d) s) d
-ipv6_parts s n packet x d prefix stated bytes after ns headers number payload missing padding =
-    let P : ℕ → List ℕ → Type 0 = λ k y. HasParts s (ipv6_stated (base_of d)) k (chain_to_later k y) d in
-    let made : P n x = has_parts s _ n (chain_to_later n x) packet x d prefix stated bytes after (chain_to_later-longest n x).has.0 headers number payload missing padding in
-    subst (λ k. P k (after_base (base_of d) (ipv6_stated (base_of d)) s)) ns (subst (P n) (after_is (base_of d) s d.stated_len _ packet x stated bytes after) made)
+pub ipv6_has_parts : (b s : List ℕ) (n : ℕ) (packet x : List ℕ) (d : Dissection) → version_of d ≡ 6 → base_of d ≡ b → d.stated_len ≡ ipv6_stated b → packet ≡ packet_bytes b d.stated_len s
+    → x ≡ drop (length b) packet → n ≡ ipv6_next_header b → d.extensions.now ≡ take (length x - length d.payload.now) x → d.header_count ≡ length (chain_to_later n x) → d.next_header.0 ≡ leads_to n (chain_to_later n x)
+    → d.payload.now ≡ rest_after (chain_to_later n x) x → d.fragment ≡ ipv6_fragment (ipv6_chain b s) → d.missing ≡ missing_of d.stated_len (length s) → d.padding.now ≡ drop (length packet) s → d.end ≡ ipv6_end b s
+    → HasParts (ipv6_dissected b s) d
+ipv6_has_parts b s n packet x d version base stated bytes after ns headers count number payload fragment missing padding end =
+    let P : ℕ → List ℕ → Type 0 = λ k y. HasParts (with_base 6 b s (ipv6_stated b) k (chain_to_later k y) (ipv6_fragment (ipv6_chain b s)) (ipv6_end b s)) d in
+    let made : P n x = has_parts 6 b s _ n (chain_to_later n x) _ _ packet x d version base stated bytes after (chain_to_later-longest n x).has.0 headers count number payload fragment missing padding end in
+    subst (λ k. P k (after_base b (ipv6_stated b) s)) ns (subst (P n) (after_is b s d.stated_len _ packet x stated bytes after) made)
 
 pub ipv6_end_is : (b x s : List ℕ) (t : Option ℕ) (n m : ℕ) (r : List ℕ) (found : Found) (end : End) → x ≡ after_base b (ipv6_stated b) s → t ≡ ipv6_stated b → n ≡ ipv6_next_header b
     → m ≡ leads_to n (chain_to_later n x) → r ≡ rest_after (chain_to_later n x) x → found ≡ found_in (chain_to_later n x)

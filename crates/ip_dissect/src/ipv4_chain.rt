@@ -24,9 +24,10 @@ use etherparse_ip::err::{Layer, LenError, ip_auth};
 use ip_base::{IpNumber, Ipv4HeaderSlice, LenSource};
 use ip_ext_slices::Ipv4ExtensionsSlice;
 
-/// The number that follows the extension headers, the bytes after them, and the error there.
+/// How many extension headers there are, the number that follows them, the bytes after them, and the error there.
 #[derive(Debug, Drop)]
 pub(crate) struct Ipv4Rest<'a> {
+    pub(crate) header_count: usize,
     pub(crate) number: IpNumber,
     pub(crate) rest: &'a [u8],
     pub(crate) error: Option<ip_auth::HeaderSliceError>,
@@ -35,6 +36,7 @@ pub(crate) struct Ipv4Rest<'a> {
 /// Parses the extension headers in the bytes after this base header. A later fragment has none.
 #[inline(always)]
 pub(crate) fn ipv4_chain<'a>(base: Ipv4HeaderSlice<'_>, after_base: &'a [u8]) -> Ipv4Rest<'a>
+    ensures count { result.header_count ≡ length (ipv4_chain_in (bytes base.entry) after_base.now) }
     ensures number { result.number.0
         ≡ leads_to (protocol (bytes base.entry)) (ipv4_chain_in (bytes base.entry) after_base.now) }
     ensures rest { result.rest.now
@@ -46,13 +48,18 @@ pub(crate) fn ipv4_chain<'a>(base: Ipv4HeaderSlice<'_>, after_base: &'a [u8]) ->
 {
     if ipv4_offset(base) != 0 {
         return Ipv4Rest {
+            header_count: 0,
             number: base.protocol(),
             rest: after_base,
             error: None,
         };
     }
-    let (_, number, rest, error) = Ipv4ExtensionsSlice::from_slice_lax(base.protocol(), after_base);
+    let (headers, number, rest, error) = Ipv4ExtensionsSlice::from_slice_lax(
+        base.protocol(),
+        after_base,
+    );
     Ipv4Rest {
+        header_count: usize::from(headers.auth.is_some()),
         number,
         rest,
         error,

@@ -1,13 +1,10 @@
 //! The parts of the packet at the start of bytes.
-ghost use Rattle.std.specs.Prelude.{◌≡◌, ◌++◌, Some, None};
+ghost use Rattle.std.specs.Prelude.{◌≡◌, ◌++◌};
 ghost use Rattle.ip_spec.specs.Prefix.{IsPrefix};
-ghost use Rattle.ip_base.specs.Ipv4Header.{version};
 ghost use Rattle.ip_base.specs.Ipv4HeaderSlice as ipv4_header;
 ghost use Rattle.ip_base.specs.Ipv6HeaderSlice as ipv6_header;
-ghost use Rattle.ip_dissect.specs.declared.end.End.{End};
-ghost use Rattle.ip_dissect.specs.End.{base_end};
 ghost use Rattle.ip_dissect.specs.Extent.{packet_bytes, missing_of};
-ghost use Rattle.ip_dissect.specs.Dissection.{IsIpv4Dissection, IsIpv6Dissection, IsNoPacket, base_of};
+ghost use Rattle.ip_dissect.specs.Dissection.{HasParts, dissected, without_base, ipv4_dissected, ipv6_dissected, base_of};
 
 use crate::base::base_header;
 use crate::ends::ipv6_end;
@@ -22,12 +19,7 @@ use ip_base::{Ipv4HeaderSlice, Ipv6HeaderSlice, ip_number};
 /// base header all bytes are padding, and the next header is 59.
 #[inline(always)]
 pub fn dissect(bytes: &[u8]) -> Dissection<'_>
-    ensures no_packet { (e : End) → base_end bytes.now ≡ Some e
-        → IsNoPacket bytes.now e result }
-    ensures ipv4 { base_end bytes.now ≡ None → version bytes.now ≡ 4
-        → IsIpv4Dissection bytes.now result }
-    ensures ipv6 { base_end bytes.now ≡ None → version bytes.now ≡ 6
-        → IsIpv6Dissection bytes.now result }
+    ensures parts { HasParts (dissected bytes.now) result }
     ensures joined { base_of result ++ result.extensions.now ++ result.payload.now
         ++ result.padding.now ≡ bytes.now }
 {
@@ -42,12 +34,13 @@ pub fn dissect(bytes: &[u8]) -> Dissection<'_>
 #[cold]
 #[inline(never)]
 fn no_packet(bytes: &[u8], end: End) -> Dissection<'_>
-    ensures { IsNoPacket bytes.now end result }
+    ensures { HasParts (without_base bytes.now end) result }
 {
     Dissection {
         base: None,
         stated_len: None,
         extensions: &[],
+        header_count: 0,
         fragment: None,
         next_header: ip_number::IPV6_NO_NEXT_HEADER,
         payload: &[],
@@ -88,7 +81,7 @@ fn missing(stated_len: Option<usize>, present: usize) -> usize
 #[inline(always)]
 fn ipv6<'a>(base: Ipv6HeaderSlice<'a>, bytes: &'a [u8]) -> Dissection<'a>
     requires { IsPrefix (ipv6_header.bytes base) bytes.now }
-    ensures { IsIpv6Dissection bytes.now result }
+    ensures { HasParts (ipv6_dissected (ipv6_header.bytes base.entry) bytes.now) result }
 {
     let stated_len = ipv6_stated_len(base);
     let slice = base.slice();
@@ -101,6 +94,7 @@ fn ipv6<'a>(base: Ipv6HeaderSlice<'a>, bytes: &'a [u8]) -> Dissection<'a>
         base: Some(BaseHeader::Ipv6(base)),
         stated_len,
         extensions: &after_base[..len],
+        header_count: passed.found.count,
         fragment: passed.found.fragmenting.or(passed.found.first),
         next_header: passed.number,
         payload: passed.rest,
@@ -114,7 +108,7 @@ fn ipv6<'a>(base: Ipv6HeaderSlice<'a>, bytes: &'a [u8]) -> Dissection<'a>
 #[inline(always)]
 fn ipv4<'a>(base: Ipv4HeaderSlice<'a>, bytes: &'a [u8]) -> Dissection<'a>
     requires { IsPrefix (ipv4_header.bytes base) bytes.now }
-    ensures { IsIpv4Dissection bytes.now result }
+    ensures { HasParts (ipv4_dissected (ipv4_header.bytes base.entry) bytes.now) result }
 {
     let stated_len = ipv4_stated_len(base);
     let slice = base.slice();
@@ -127,6 +121,7 @@ fn ipv4<'a>(base: Ipv4HeaderSlice<'a>, bytes: &'a [u8]) -> Dissection<'a>
         base: Some(BaseHeader::Ipv4(base)),
         stated_len,
         extensions: &after_base[..len],
+        header_count: chain.header_count,
         fragment: ipv4_fragment(base),
         next_header: chain.number,
         payload: chain.rest,

@@ -1,5 +1,5 @@
 //! One pass over the extension headers of an IPv6 packet.
-ghost use Rattle.std.specs.Prelude.{◌≡◌, ◌≤◌, ◌++◌, ◌∷◌, ◌==◌, ◌||◌, not, if◌then◌else◌, Some, None, [], length, drop, List};
+ghost use Rattle.std.specs.Prelude.{◌≡◌, ◌≤◌, ◌+◌, ◌<◌, ◌^◌, ◌++◌, ◌∷◌, ◌==◌, ◌||◌, not, if◌then◌else◌, Some, None, [], length, drop, List};
 ghost use Rattle.std.specs.Option.{option_or};
 ghost use Rattle.ip_spec.specs.Chain.{ExtHeader, leads_to};
 ghost use Rattle.ip_spec.specs.Parse.{rest_after};
@@ -12,7 +12,7 @@ use crate::{Fragment, FragmentKind};
 use ip_base::IpNumber;
 use ip_ext_slices::{Ipv6ExtensionSlice, header_at};
 
-/// What the fragment headers of a chain say.
+/// What a pass over a chain finds: its fragment headers, and the number of headers.
 #[derive(Clone, Copy, Debug)]
 pub(crate) struct Found {
     /// The first fragment header that fragments the payload.
@@ -21,9 +21,11 @@ pub(crate) struct Found {
     pub(crate) first: Option<Fragment>,
     /// Whether a fragment header has a non-zero offset.
     pub(crate) later: bool,
+    /// How many headers there are.
+    pub(crate) count: usize,
 }
 
-/// The end of a pass: the number that follows the headers, the bytes after them, and their fragment headers.
+/// The end of a pass: the number that follows the headers, the bytes after them, and what it found.
 #[derive(Clone, Copy, Debug)]
 pub(crate) struct Passed<'a> {
     pub(crate) number: IpNumber,
@@ -79,28 +81,32 @@ impl Found {
             fragmenting: None,
             first: None,
             later: false,
+            count: 0,
         }
     }
 
     /// Returns the value for the chain with one more header.
     #[inline(always)]
     fn with(self, header: &Ipv6ExtensionSlice<'_>) -> Found
+        requires { self.count + 1 < 2 ^ 64 }
         ensures { (c : List ExtHeader) → self ≡ found_in c
             → result ≡ found_in (c ++ header_of header.now ∷ []) }
     {
+        let count = self.count + 1;
         match fragment_of(header) {
-            Some(fragment) => self.with_fragment(fragment),
-            None => self,
+            Some(fragment) => self.with_fragment(fragment, count),
+            None => Found { count, ..self },
         }
     }
 
-    /// Returns the value for the chain with one more fragment header.
+    /// Returns the value for the chain with one more fragment header, which then has `count` headers.
     #[inline(always)]
-    fn with_fragment(self, fragment: Fragment) -> Found
+    fn with_fragment(self, fragment: Fragment, count: usize) -> Found
         ensures fragmenting { result.fragmenting
             ≡ option_or self.fragmenting (if is_atomic fragment then None else Some fragment) }
         ensures first { result.first ≡ option_or self.first (Some fragment) }
         ensures later { result.later ≡ (self.later || not (fragment.offset == 0)) }
+        ensures count { result.count ≡ count }
     {
         let fragmenting = match fragment.kind {
             FragmentKind::Atomic => None,
@@ -110,6 +116,7 @@ impl Found {
             fragmenting: self.fragmenting.or(fragmenting),
             first: self.first.or(Some(fragment)),
             later: self.later || fragment.offset != 0,
+            count,
         }
     }
 }

@@ -6,3 +6,4 @@ pub mod ProgressLemmas
 pub mod MemoryLemmas
 pub mod PacketLemmas
 pub mod Exts6Lemmas
+pub mod DissectLemmas

@@ -18,12 +18,15 @@ use Rattle.etherparse_ip.specs.declared.err.ip.headers_error.HeadersError.TheVar
 use Rattle.etherparse_ip.specs.declared.err.ip.slice_error.SliceError.{SliceError}
 use Rattle.etherparse_ip.specs.declared.err.ip.slice_error.SliceError.TheVariants as packet
 
--- fewer bytes than required: `fault len R of L S Y at O`
-abbrev pub len_fault_text : LenError → List ℕ
-len_fault_text e =
-    codes "fault len " ++ decimal e.required_len ++ codes " of " ++ decimal e.len
+-- fewer bytes than required: `len R of L S Y at O`
+abbrev pub len_text : LenError → List ℕ
+len_text e =
+    codes "len " ++ decimal e.required_len ++ codes " of " ++ decimal e.len
     ++ codes " " ++ len_source_name e.len_source ++ codes " " ++ layer_name e.layer
     ++ codes " at " ++ decimal e.layer_start_offset
+
+abbrev pub len_fault_text : LenError → List ℕ
+len_fault_text e = codes "fault " ++ len_text e
 
 -- the error in the bytes of an authentication header
 abbrev pub auth_fault_text : AuthError → List ℕ

@@ -1,6 +1,6 @@
 //! The texts of faults.
 ghost use Rattle.std.specs.Prelude.{◌≡◌, ◌++◌, OnOk, string_bytes};
-ghost use Rattle.ipexts_tool.specs.Faults.{len_fault_text, auth_fault_text};
+ghost use Rattle.ipexts_tool.specs.Faults.{len_text, len_fault_text, auth_fault_text};
 ghost use Rattle.ipexts_tool.specs.Faults.{auth_slice_fault_text};
 ghost use Rattle.ipexts_tool.specs.Faults.{content_fault_text, chain_fault_text};
 ghost use Rattle.ipexts_tool.specs.Faults.{base_fault_text, packet_fault_text};
@@ -9,13 +9,9 @@ use etherparse_ip::err::ipv6_exts::{HeaderError, HeaderSliceError};
 use etherparse_ip::err::{LenError, ip, ip_auth};
 use std::alloc::{AllocError, Allocator};
 
-/// Appends a length error's text.
-pub fn push_len_fault<A: Allocator>(
-    fault: &LenError,
-    text: &mut String<A>,
-) -> Result<(), AllocError>
-    ensures { OnOk result
-        (string_bytes text.new ≡ string_bytes text.old ++ len_fault_text fault.now) }
+/// Appends the lengths, the layer and the offset of a length error.
+pub fn push_len<A: Allocator>(fault: &LenError, text: &mut String<A>) -> Result<(), AllocError>
+    ensures { OnOk result (string_bytes text.new ≡ string_bytes text.old ++ len_text fault.now) }
 {
     let required_len = fault.required_len;
     let len = fault.len;
@@ -24,8 +20,17 @@ pub fn push_len_fault<A: Allocator>(
     let offset = fault.layer_start_offset;
     write!(
         text,
-        "fault len {required_len} of {len} {source} {layer} at {offset}"
+        "len {required_len} of {len} {source} {layer} at {offset}"
     )
+}
+
+/// Appends a length error's text.
+fn push_len_fault<A: Allocator>(fault: &LenError, text: &mut String<A>) -> Result<(), AllocError>
+    ensures { OnOk result
+        (string_bytes text.new ≡ string_bytes text.old ++ len_fault_text fault.now) }
+{
+    text.push_str("fault ")?;
+    push_len(fault, text)
 }
 
 /// Appends the text of an error in an authentication header.

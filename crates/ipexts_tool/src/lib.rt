@@ -46,6 +46,7 @@ ghost use Rattle.ipexts_tool.specs.Memory.{OnMemory};
 ghost use Rattle.ipexts_tool.specs.Progress.{Advances, StopsWithin};
 
 mod answer;
+mod dissect;
 mod exts4;
 mod exts6;
 mod faults;

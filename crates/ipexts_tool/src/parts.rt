@@ -1,12 +1,13 @@
 //! Parts of answers that several forms share.
 ghost use Rattle.std.specs.Prelude.{◌≡◌, ◌++◌, OnOk, string_bytes};
-ghost use Rattle.ipexts_tool.specs.Parts.{header_name, header_line, next_line};
+ghost use Rattle.ip_ext_slices.specs.Ipv4ExtensionsSlice.{headers_in};
+ghost use Rattle.ipexts_tool.specs.Parts.{header_name, header_line, header_lines, next_line};
 ghost use Rattle.ipexts_tool.specs.Parts.{written_line, ok_line, chain_end_line, ipv4_end_line};
 
 use crate::faults::{push_auth_slice_fault, push_chain_fault};
-use etherparse_ip::IpNumber;
 use etherparse_ip::err::ipv6_exts::HeaderSliceError;
 use etherparse_ip::err::{Layer, ip_auth};
+use etherparse_ip::{IpNumber, Ipv4ExtensionsSlice, ip_number};
 use std::alloc::{AllocError, Allocator};
 
 /// Returns the name of the headers of a number.
@@ -35,6 +36,22 @@ pub fn push_header<A: Allocator>(
 {
     let name = header_name(number);
     writeln!(text, "{offset} {name} {len}")
+}
+
+/// Appends a line for an IPv4 packet's extension header at the offset, if there is one.
+pub fn push_ipv4_headers<A: Allocator>(
+    headers: Ipv4ExtensionsSlice<'_>,
+    offset: usize,
+    text: &mut String<A>,
+) -> Result<(), AllocError>
+    ensures { OnOk result
+        (string_bytes text.new
+        ≡ string_bytes text.old ++ header_lines offset (headers_in headers.entry)) }
+{
+    match headers.auth {
+        Some(header) => push_header(offset, ip_number::AUTH, header.slice().len(), text),
+        None => Ok(()),
+    }
 }
 
 /// Appends the number of what follows the headers, and its length in bytes.

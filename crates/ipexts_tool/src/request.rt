@@ -6,6 +6,7 @@ ghost use Rattle.ipexts_tool.specs.Lines.{max_line_len};
 ghost use Rattle.ipexts_tool.specs.Request.{request_in, answer_to, request_of, request_of_form};
 ghost use Rattle.ipexts_tool.specs.LineFields.{fields_of};
 
+use crate::dissect::push_dissect;
 use crate::exts4::push_exts4;
 use crate::exts6::push_exts6;
 use crate::line_fields::{
@@ -30,6 +31,8 @@ pub enum Request<'a> {
     RewriteAll6(IpNumber, &'a [u8]),
     /// `packet HEX`.
     Packet(&'a [u8]),
+    /// `dissect HEX`.
+    Dissect(&'a [u8]),
 }
 
 /// Parses a line's request. Returns `None` if the line is too long or has no form. The bytes that its digits denote
@@ -73,6 +76,10 @@ fn parse_form<'a>(
         let bytes = parse_hex_alone(arguments, buffer)?;
         return Some(Request::Packet(bytes));
     }
+    if form == b"dissect".as_slice() {
+        let bytes = parse_hex_alone(arguments, buffer)?;
+        return Some(Request::Dissect(bytes));
+    }
     None
 }
 
@@ -91,5 +98,6 @@ pub fn push_answer<A: Allocator + Copy>(
         Request::Rewrite6(number, bytes) => push_rewrite6(alloc, number, bytes, text),
         Request::RewriteAll6(number, bytes) => push_rewriteall6(alloc, number, bytes, text),
         Request::Packet(bytes) => push_packet(bytes, text),
+        Request::Dissect(bytes) => push_dissect(bytes, text),
     }
 }

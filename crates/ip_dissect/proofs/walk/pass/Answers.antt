@@ -1,5 +1,9 @@
-use Rattle.ip_dissect.proofs.LaterLemmas.{goes_on, stops_at_later, at_end}
+use Rattle.ip_spec.proofs.Common.{rules}
+use Rattle.ip_dissect.proofs.LaterLemmas.{count_fits, goes_on, stops_at_later, at_end}
 use Rattle.ip_dissect.proofs.walk.pass.Goals as goal
+
+pub with-found-requires : goal.with-found-requires
+with-found-requires c = count_fits _ _ _ _ _ c.headers.invariant (search rules)
 
 pub headers-preserved : goal.headers-preserved
 headers-preserved c =

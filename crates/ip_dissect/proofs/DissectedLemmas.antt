@@ -1,0 +1,134 @@
+-- Which base header bytes start with, and so which parts their packet has.
+use Rattle.ip_spec.proofs.Common.{◌≡◌, ℕ, ◌≤◌, List, [], length, take, refl, sym, ap, ◌∙◌, arith, rules, common_steps, ◌/◌, length-take-le, get_or-take, inl, inr, eqb_tells, eq-eqb, Option, None, Some, option_map_or, ◌==◌, if◌then◌else◌, IsPrefix}
+use Rattle.ip_spec.proofs.PrefixLemmas.{prefix-length}
+use Rattle.ip_base.specs.Ipv4Header.{version, ihl, ipv4_header_len, IsIpv4Header}
+use Rattle.ip_base.specs.Ipv6Header.{IsIpv6Header}
+use Rattle.etherparse_ip.proofs.BaseLemmas.{SaysIpv4, says_ipv4, SaysIpv6, says_ipv6}
+use Rattle.ip_dissect.specs.End.{base_end}
+use Rattle.ip_dissect.specs.Dissection.{DissectedParts, without_base, ipv4_dissected, ipv6_dissected, dissected}
+use Rattle.ip_dissect.specs.declared.end.End.{End}
+
+-- the parts by what the bytes start with
+picked_none : (s : List ℕ) (o : Option End) (e : End) (x : DissectedParts) → o ≡ Some e → option_map_or (without_base s) o x ≡ without_base s e
+picked_none s o e x is = rw is refl
+
+picked4 : (s : List ℕ) (o : Option End) (v : ℕ) (x y : DissectedParts) → o ≡ None → v ≡ 4 → option_map_or (without_base s) o (if v == 4 then x else y) ≡ x
+picked4 s o v x y none four = rw (none, eq-eqb v 4 four) refl
+
+picked6 : (s : List ℕ) (o : Option End) (v : ℕ) (x y : DissectedParts) → o ≡ None → v ≡ 6 → option_map_or (without_base s) o (if v == 4 then x else y) ≡ y
+picked6 s o v x y none six = rw (none, six) refl
+
+pub dissected-none : (s : List ℕ) (e : End) → base_end s ≡ Some e → dissected s ≡ without_base s e
+unfolding dissected
+dissected-none s e is = picked_none s (base_end s) e _ is
+
+pub dissected-ipv4 : (s b : List ℕ) → base_end s ≡ None → IsIpv4Header b → IsPrefix b s → dissected s ≡ ipv4_dissected b s
+unfolding dissected
+dissected-ipv4 s b none header prefix =
+    let says : SaysIpv4 b s = says_ipv4 b s header prefix in
+    let is : take (ipv4_header_len s) s ≡ b = ap (λ n. take n s) (sym says.len) ∙ prefix in
+    picked4 s (base_end s) (version s) _ _ none (sym says.version ∙ header.version) ∙ ap (λ x. ipv4_dissected x s) is
+
+pub dissected-ipv6 : (s b : List ℕ) → base_end s ≡ None → IsIpv6Header b → IsPrefix b s → dissected s ≡ ipv6_dissected b s
+unfolding dissected
+dissected-ipv6 s b none header prefix =
+    let says : SaysIpv6 b s = says_ipv6 b s header prefix in
+    let is : take 40 s ≡ b = ap (λ n. take n s) (sym header.len) ∙ prefix in
+    picked6 s (base_end s) (version s) _ _ none (sym says.version ∙ header.version) ∙ ap (λ x. ipv6_dissected x s) is
+
+-- the version says which header it is
+four_of : (s : List ℕ) (o : Option End) (v : ℕ) (x y : DissectedParts) → y.version ≡ 6 → (option_map_or (without_base s) o (if v == 4 then x else y)).version ≡ 4 → (o ≡ None) × (v ≡ 4)
+four_of s None v x y six e = elim (eqb_tells v 4) [
+  | inl w ↦ (refl, w.1)
+  | inr w ↦ let e : y.version ≡ 4 = rw w.0 at e in absurd (omega (arith, six, e))
+]
+four_of s (Some z) v x y six e = absurd (omega (arith, e))
+
+six_of : (s : List ℕ) (o : Option End) (v : ℕ) (x y : DissectedParts) → x.version ≡ 4 → (option_map_or (without_base s) o (if v == 4 then x else y)).version ≡ 6 → (o ≡ None) × (v ≡ 4 → ⊥)
+six_of s None v x y four e = elim (eqb_tells v 4) [
+  | inl w ↦ let e : x.version ≡ 6 = rw w.0 at e in absurd (omega (arith, four, e))
+  | inr w ↦ (refl, w.1)
+]
+six_of s (Some z) v x y four e = absurd (omega (arith, e))
+
+base4 : (s : List ℕ) → base_end s ≡ None → version s ≡ 4 → (5 ≤ ihl s) × (ipv4_header_len s ≤ length s)
+base4 s none four = (grind (arith, common_steps), grind (arith, common_steps))
+
+base6 : (s : List ℕ) → base_end s ≡ None → (version s ≡ 4 → ⊥) → (version s ≡ 6) × (40 ≤ length s)
+base6 s none other = (grind (arith, common_steps), grind (arith, common_steps))
+
+-- bytes s start with the IPv4 base header b
+pub record BeginIpv4 (s b : List ℕ) : Type 0 where
+  pub header : IsIpv4Header b
+  pub prefix : IsPrefix b s
+  pub is : dissected s ≡ ipv4_dissected b s
+
+-- bytes s start with the IPv6 base header b
+pub record BeginIpv6 (s b : List ℕ) : Type 0 where
+  pub header : IsIpv6Header b
+  pub prefix : IsPrefix b s
+  pub is : dissected s ≡ ipv6_dissected b s
+
+prefix_taken : (n : ℕ) (s : List ℕ) → IsPrefix (take n s) s
+prefix_taken n s = grind (arith, common_steps)
+
+version_taken : (n : ℕ) (s : List ℕ) → 1 ≤ n → version (take n s) ≡ version s
+version_taken n s some = ap (λ x. x / 16) (get_or-take n s 0 0 some)
+
+header4 : (s : List ℕ) → version s ≡ 4 → 5 ≤ ihl s → ipv4_header_len s ≤ length s → IsIpv4Header (take (ipv4_header_len s) s) × IsPrefix (take (ipv4_header_len s) s) s
+header4 s four least enough = (grind (arith, common_steps), grind (arith, common_steps))
+
+header6 : (s : List ℕ) → version s ≡ 6 → 40 ≤ length s → IsIpv6Header (take 40 s) × IsPrefix (take 40 s) s
+header6 s six enough = (record { version = version_taken 40 s (omega arith) ∙ six; len = length-take-le 40 s enough }, prefix_taken 40 s)
+
+pub begin_ipv4 : (s : List ℕ) → (dissected s).version ≡ 4 → BeginIpv4 s (take (ipv4_header_len s) s)
+unfolding dissected
+begin_ipv4 s v =
+    let p = four_of s (base_end s) (version s) _ _ refl v in
+    let q = base4 s p.0 p.1 in
+    let h = header4 s p.1 q.0 q.1 in
+    record { header = h.0; prefix = h.1; is = picked4 s (base_end s) (version s) _ _ p.0 p.1 }
+
+pub begin_ipv6 : (s : List ℕ) → (dissected s).version ≡ 6 → BeginIpv6 s (take 40 s)
+unfolding dissected
+begin_ipv6 s v =
+    let p = six_of s (base_end s) (version s) _ _ refl v in
+    let q = base6 s p.0 p.1 in
+    let h = header6 s q.0 q.1 in
+    record { header = h.0; prefix = h.1; is = picked6 s (base_end s) (version s) _ _ p.0 q.0 }
+
+-- so do bytes whose first 40 are an IPv6 base header, and those whose first ones are an IPv4 base header
+none6 : (s : List ℕ) → version s ≡ 6 → 40 ≤ length s → base_end s ≡ None
+none6 s six enough = grind (arith, common_steps)
+
+none4 : (s : List ℕ) → version s ≡ 4 → 5 ≤ ihl s → ipv4_header_len s ≤ length s → base_end s ≡ None
+none4 s four least enough = grind (arith, common_steps)
+
+pub header_begins6 : (s : List ℕ) → version s ≡ 6 → IsIpv6Header (take 40 s) → BeginIpv6 s (take 40 s)
+header_begins6 s six header =
+    let prefix : IsPrefix (take 40 s) s = prefix_taken 40 s in
+    let enough : 40 ≤ length s = omega (arith, prefix-length (take 40 s) s prefix, header.len) in
+    record { header = header; prefix = prefix; is = dissected-ipv6 s (take 40 s) (none6 s six enough) header prefix }
+
+pub header_begins4 : (s : List ℕ) → version s ≡ 4 → IsIpv4Header (take (ipv4_header_len s) s) → BeginIpv4 s (take (ipv4_header_len s) s)
+header_begins4 s four header =
+    let b : List ℕ = take (ipv4_header_len s) s in
+    let prefix : IsPrefix b s = prefix_taken (ipv4_header_len s) s in
+    let says : SaysIpv4 b s = says_ipv4 b s header prefix in
+    let enough : ipv4_header_len s ≤ length s = omega (arith, prefix-length b s prefix, says.len) in
+    let least : 5 ≤ ihl s = omega (arith, header.least, header.len, says.len) in
+    record { header = header; prefix = prefix; is = dissected-ipv4 s b (none4 s four least enough) header prefix }
+
+-- bytes without a base header have no extension headers
+no_version_of : (s : List ℕ) (o : Option End) (v : ℕ) (x y : DissectedParts) → x.version ≡ 4 → y.version ≡ 6
+    → ((option_map_or (without_base s) o (if v == 4 then x else y)).version ≡ 6 → ⊥) → ((option_map_or (without_base s) o (if v == 4 then x else y)).version ≡ 4 → ⊥)
+    → (option_map_or (without_base s) o (if v == 4 then x else y)).headers ≡ []
+no_version_of s (Some e) v x y four six p q = refl
+no_version_of s None v x y four six p q = elim (eqb_tells v 4) [
+  | inl w ↦ absurd (q (rw w.0 four))
+  | inr w ↦ absurd (p (rw w.0 six))
+]
+
+pub no_version : (s : List ℕ) → ((dissected s).version ≡ 6 → ⊥) → ((dissected s).version ≡ 4 → ⊥) → (dissected s).headers ≡ []
+unfolding dissected
+no_version s p q = no_version_of s (base_end s) (version s) _ _ refl refl p q

@@ -141,7 +141,7 @@ struct wolfaren_chain {
  *
  * The bytes after a fragment header are parsed as headers whatever its fragment offset is. If the offset isn't 0, they
  * are in fact from the middle of a payload. To avoid this, walk the chain with wolfaren_next_header, read each fragment
- * header with wolfaren_fragment_fields, and stop there.
+ * header with wolfaren_fragment_fields, and stop there; wolfaren_dissect does so for a whole packet.
  */
 void wolfaren_parse_chain(uint8_t first, const uint8_t *bytes, size_t len, struct wolfaren_header *headers, size_t room,
                           struct wolfaren_chain *chain) WOLFAREN_NONNULL(6);
@@ -181,6 +181,67 @@ bool wolfaren_next_header(struct wolfaren_cursor *cursor, const uint8_t *bytes, 
 void wolfaren_fault_at(const struct wolfaren_cursor *cursor, const uint8_t *bytes, size_t len,
                        struct wolfaren_fault *fault) WOLFAREN_NONNULL(1, 4);
 
+/* Which fragment a packet is: values of `fragment` in struct wolfaren_dissection. */
+enum {
+    WOLFAREN_NOT_FRAGMENTED = 0,
+    WOLFAREN_ATOMIC_FRAGMENT = 1, /* the whole packet, with a fragment header (RFC 6946) */
+    WOLFAREN_FIRST_FRAGMENT = 2,
+    WOLFAREN_MIDDLE_FRAGMENT = 3,
+    WOLFAREN_LAST_FRAGMENT = 4
+};
+
+/* Why the headers of a packet end: values of `end` in struct wolfaren_dissection. */
+enum {
+    /* The payload follows them. */
+    WOLFAREN_AT_PAYLOAD = 0,
+    /* The payload follows them, but continues that of an earlier fragment: the fragment offset isn't 0. */
+    WOLFAREN_AT_LATER_FRAGMENT = 1,
+    /* A header is incomplete, but lies within the stated length, or no length is stated. `fault` says which. */
+    WOLFAREN_AT_TRUNCATED_HEADER = 2,
+    /* A header doesn't fit within the stated length, or is malformed. `fault` says how. */
+    WOLFAREN_AT_FAULT = 3
+};
+
+/*
+ * The packet at the start of the input, as far as it is there: the IP header, the extension headers and the payload,
+ * one after another, and then the bytes after the packet. Fields that don't apply are 0.
+ */
+struct wolfaren_dissection {
+    size_t base_len;             /* length of the IP header in bytes; 0 if there is none */
+    size_t stated_len;           /* length of the packet in bytes as the IP header states it; 0 if it states none */
+    size_t headers;              /* number of extension headers */
+    size_t payload_offset;       /* where the payload begins, in bytes from the start of the packet */
+    size_t payload_len;          /* number of payload bytes that are present */
+    size_t missing;              /* number of bytes of the stated length that aren't present */
+    size_t padding;              /* number of bytes after the packet */
+    struct wolfaren_fault fault; /* the error, if `end` is WOLFAREN_AT_TRUNCATED_HEADER or WOLFAREN_AT_FAULT */
+    uint32_t identification;     /* shared by all fragments of a packet */
+    uint32_t fragment_offset;    /* where the fragment lies in the payload, in bytes */
+    uint16_t version;            /* 4 or 6; 0 if there is no IP header */
+    uint16_t payload_number;     /* the protocol number of what follows the headers */
+    uint16_t fragment;           /* WOLFAREN_NOT_FRAGMENTED .. */
+    uint16_t end;                /* WOLFAREN_AT_PAYLOAD .. */
+};
+
+/*
+ * Dissects the packet at the start of the `len` bytes, which may be any bytes. This is the call for filters, probes and
+ * displays: it has an answer for truncated packets, fragments and padding. `dissection` is always filled in completely.
+ *
+ * The packet ends where its total length (IPv4) or payload length (IPv6) says. If that field is 0, no length is stated,
+ * as in a jumbogram (RFC 2675) or a packet captured before segmentation offload, and the packet extends to the end of
+ * the bytes. The headers are the longest chain within the packet in which nothing follows a fragment header with a
+ * non-zero offset, and there are none after an IPv4 header with a non-zero offset: what follows there is the middle of
+ * a payload, which the sender chooses.
+ *
+ * For IPv6, the fragment is that of the first fragment header that fragments the payload; if none does, that of the
+ * first one, which is atomic. Bytes that don't start with an IP header are all padding; `end` and `fault` say why.
+ *
+ * Stores the position of each extension header in `headers` as wolfaren_parse_chain does, but with offsets from the
+ * start of the packet. Pass NULL and 0 to do without: that is faster.
+ */
+void wolfaren_dissect(const uint8_t *bytes, size_t len, struct wolfaren_header *headers, size_t room,
+                      struct wolfaren_dissection *dissection) WOLFAREN_NONNULL(5);
+
 /* A packet: the IP header, then the extension headers, then the payload. */
 struct wolfaren_packet {
     size_t base_len;         /* length of the IP header in bytes: the extension headers begin at this offset */
@@ -204,7 +265,7 @@ struct wolfaren_packet {
  *
  * As in wolfaren_parse_chain, the bytes after an IPv6 fragment header are parsed as headers whatever its offset is. If
  * the offset isn't 0, they are from the middle of a payload that the sender chooses: the packet may be rejected for
- * them, or lead to any `payload_number`. If it isn't rejected, `packet->fragmented` is 1.
+ * them, or lead to any `payload_number`. If it isn't rejected, `packet->fragmented` is 1. wolfaren_dissect stops there.
  */
 WOLFAREN_USE_RESULT
 bool wolfaren_parse_packet(const uint8_t *bytes, size_t len, struct wolfaren_header *headers, size_t room,
@@ -234,8 +295,8 @@ struct wolfaren_payload {
 /*
  * Finds the payload of the IP packet at the start of the `len` bytes. Accepts and rejects the same packets as
  * wolfaren_parse_packet, and checks each extension header, but neither counts the headers nor reports their positions.
- * That makes it faster, and the call to use in a filter. What wolfaren_parse_packet says of fragments applies here too:
- * a filter must not rely on `payload->number` if `payload->fragmented` is 1.
+ * That makes it faster. What wolfaren_parse_packet says of fragments applies here too:
+ * a filter must not rely on `payload->number` if `payload->fragmented` is 1. wolfaren_dissect tells such packets apart.
  *
  * On success, returns true and fills in `payload`; `fault` is left unchanged. On error, returns false and stores the
  * error in `fault`; `payload` is left unchanged.
@@ -337,6 +398,7 @@ WOLFAREN_LAYOUT(wolfaren_fault, 32, value, 28);
 WOLFAREN_LAYOUT(wolfaren_header, 24, next_header, 17);
 WOLFAREN_LAYOUT(wolfaren_chain, 56, fragmented, 52);
 WOLFAREN_LAYOUT(wolfaren_cursor, 16, number, 8);
+WOLFAREN_LAYOUT(wolfaren_dissection, 104, end, 102);
 WOLFAREN_LAYOUT(wolfaren_packet, 40, len_source, 38);
 WOLFAREN_LAYOUT(wolfaren_payload, 32, len_source, 30);
 WOLFAREN_LAYOUT(wolfaren_fragment, 8, next_header, 7);

@@ -1,11 +1,12 @@
 -- Which base header bytes start with, and so which parts their packet has.
-use Rattle.ip_spec.proofs.Common.{◌≡◌, ℕ, ◌≤◌, List, [], length, take, refl, sym, ap, ◌∙◌, arith, rules, common_steps, ◌/◌, length-take-le, get_or-take, inl, inr, eqb_tells, eq-eqb, Option, None, Some, option_map_or, ◌==◌, if◌then◌else◌, IsPrefix}
+use Rattle.ip_spec.proofs.Common.{◌≡◌, ℕ, ◌≤◌, List, [], length, take, refl, sym, ap, ◌∙◌, arith, rules, common_steps, ◌/◌, length-take-le, get_or-take, inl, inr, eqb_tells, eq-eqb, Option, None, Some, option_map_or, ◌==◌, if◌then◌else◌, false, false≢true, IsPrefix}
 use Rattle.ip_spec.proofs.PrefixLemmas.{prefix-length}
 use Rattle.ip_base.specs.Ipv4Header.{version, ihl, ipv4_header_len, IsIpv4Header}
 use Rattle.ip_base.specs.Ipv6Header.{IsIpv6Header}
 use Rattle.etherparse_ip.proofs.BaseLemmas.{SaysIpv4, says_ipv4, SaysIpv6, says_ipv6}
 use Rattle.ip_dissect.specs.End.{base_end}
-use Rattle.ip_dissect.specs.Dissection.{DissectedParts, without_base, ipv4_dissected, ipv6_dissected, dissected}
+use Rattle.ip_dissect.specs.Dissection.{DissectedParts, without_base, ipv4_dissected, ipv6_dissected, dissected, HasParts, version_of}
+use Rattle.ip_dissect.specs.declared.dissection.Dissection.{Dissection}
 use Rattle.ip_dissect.specs.declared.end.End.{End}
 
 -- the parts by what the bytes start with
@@ -129,6 +130,9 @@ no_version_of s None v x y four six p q = elim (eqb_tells v 4) [
   | inr w ↦ absurd (p (rw w.0 six))
 ]
 
-pub no_version : (s : List ℕ) → ((dissected s).version ≡ 6 → ⊥) → ((dissected s).version ≡ 4 → ⊥) → (dissected s).headers ≡ []
+no_version : (s : List ℕ) → ((dissected s).version ≡ 6 → ⊥) → ((dissected s).version ≡ 4 → ⊥) → (dissected s).headers ≡ []
 unfolding dissected
 no_version s p q = no_version_of s (base_end s) (version s) _ _ refl refl p q
+
+pub no_headers : (s : List ℕ) (d : Dissection) → HasParts (dissected s) d → false ≡ (version_of d == 6) → false ≡ (version_of d == 4) → (dissected s).headers ≡ []
+no_headers s d h six four = no_version s (λ e. false≢true (six ∙ ap (λ v. v == 6) (h.version ∙ e))) (λ e. false≢true (four ∙ ap (λ v. v == 4) (h.version ∙ e)))

@@ -3,6 +3,7 @@ pub mod FaultFields
 pub mod ChainParts
 pub mod ChainCursor
 pub mod PacketParts
+pub mod DissectionParts
 pub mod HeaderFields
 pub mod LinkedSpans
 pub mod InPlaces

@@ -7,9 +7,11 @@ ghost use Rattle.ip_spans.specs.FaultFields.{auth_error_fields, auth_fields, ext
 ghost use Rattle.ip_spans.specs.FaultFields.{chain_fault_fields, ipv4_chain_fault_fields, base_error_fields};
 ghost use Rattle.ip_spans.specs.FaultFields.{headers_error_fields, packet_fault_fields, ipv6_header_error_fields};
 ghost use Rattle.ip_spans.specs.FaultFields.{ipv6_fault_fields};
+ghost use Rattle.ip_spans.specs.DissectionParts.{header_code, end_fields};
 
 use etherparse_ip::LenSource;
 use etherparse_ip::err::{Layer, LenError, ip, ip_auth, ipv6, ipv6_exts};
+use ip_dissect::End;
 
 /// The kinds of errors.
 pub(crate) mod kind {
@@ -66,6 +68,17 @@ pub(crate) fn layer_code_of(layer: Layer) -> u8
         Layer::Ipv6RouteHeader => 10,
         Layer::Ipv6FragHeader => 11,
         Layer::Icmpv4 => 12,
+    }
+}
+
+/// Returns the code of a layer, or 0.
+#[inline(always)]
+fn header_code_of(header: Option<Layer>) -> u8
+    ensures { result ≡ header_code header }
+{
+    match header {
+        Some(layer) => layer_code_of(layer),
+        None => 0,
     }
 }
 
@@ -222,6 +235,21 @@ impl FaultFields {
             ip::SliceError::IpHeaders(ip::HeadersError::Ipv6Ext(error)) => {
                 Self::of_exts_error(0, error)
             }
+        }
+    }
+
+    /// Returns the fields of the error at the end of a dissection.
+    #[inline(always)]
+    pub(crate) fn of_end(end: &End) -> FaultFields
+        ensures { result ≡ end_fields end.now }
+    {
+        match end {
+            End::Payload | End::LaterFragment => Self::none(),
+            End::Truncated { error, header } => Self::of_len(header_code_of(*header), error),
+            End::Fault { error, header } => FaultFields {
+                header: header_code_of(*header),
+                ..Self::of_packet(error)
+            },
         }
     }
 

@@ -5,6 +5,7 @@
 
 mod chain_cursor;
 mod chain_parts;
+mod dissection_parts;
 mod fault_fields;
 mod header_fields;
 mod header_span;
@@ -17,6 +18,7 @@ mod writes;
 
 pub use chain_cursor::ChainCursor;
 pub use chain_parts::{ChainParts, parse_chain, parse_ipv4_chain};
+pub use dissection_parts::{DissectionParts, dissect_packet};
 pub use fault_fields::FaultFields;
 pub use header_fields::{AuthFields, FragmentFields, auth_fields, fragment_fields};
 pub use header_span::HeaderSpan;

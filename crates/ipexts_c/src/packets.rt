@@ -1,12 +1,15 @@
 //! Packets.
 ghost use Rattle.std.specs.Prelude.{◌≡◌, ◌+◌, ◌≤◌, length, false, IsTrue, Some, None};
 ghost use Rattle.ip_base.specs.Ipv4Header.{version};
+ghost use Rattle.ip_dissect.specs.Dissection.{dissected};
+ghost use Rattle.ip_spans.specs.HeaderSpan.{filled};
+ghost use Rattle.ip_spans.specs.DissectionParts.{dissection_parts, dissected_spans};
 ghost use Rattle.ip_spans.specs.PacketParts.{IsPacketParts, payload_span, parts_in, packet_fault, lax_packet_fault};
 
 use crate::bytes::Bytes;
 use ip_spans::{
-    FaultFields, HeaderSpan, PacketParts, PayloadSpan, find_payload, find_payload_lax,
-    parse_packet, parse_packet_lax,
+    DissectionParts, FaultFields, HeaderSpan, PacketParts, PayloadSpan, dissect_packet,
+    find_payload, find_payload_lax, parse_packet, parse_packet_lax,
 };
 
 /// Calls `parse_packet`. Returns whether the bytes start with a packet. If so, stores it in `packet`, and `fault` is
@@ -121,4 +124,20 @@ pub extern "C" fn wolfaren_find_payload_lax(
             false
         }
     }
+}
+
+/// Calls `dissect_packet`.
+#[unsafe(no_mangle)]
+pub extern "C" fn wolfaren_dissect(
+    bytes: Bytes<'_>,
+    spans: &mut [HeaderSpan],
+    parts: &mut DissectionParts,
+)
+    ensures parts { parts.new ≡ dissection_parts (dissected bytes.entry.slice.now) }
+    ensures spans { spans.new
+        ≡ filled (dissected_spans (dissected bytes.entry.slice.now)) spans.old }
+    ensures within { parts.new.payload_offset + parts.new.payload_len + parts.new.padding
+        ≡ length bytes.entry.slice.now }
+{
+    dissect_packet(bytes.slice(), spans, parts);
 }

@@ -8,7 +8,7 @@ use Rattle.ip_dissect.specs.Dissection.{DissectedParts, HasParts, dissected, ver
 use Rattle.ip_dissect.specs.declared.dissection.BaseHeader.{BaseHeader}
 use Rattle.ip_dissect.specs.declared.dissection.BaseHeader.TheVariants.{Ipv4, Ipv6}
 use Rattle.ip_dissect.specs.declared.dissection.Dissection.{Dissection}
-use Rattle.ip_dissect.proofs.DissectedLemmas.{no_version}
+use Rattle.ip_dissect.proofs.DissectedLemmas.{no_headers}
 use Rattle.ipexts_tool.specs.Parts.{header_lines, next_line}
 use Rattle.ipexts_tool.specs.DissectAnswer.{base_line, fragment_line, missing_line, in_header, truncated_text, end_line, lines_for, dissected_lines, dissect_answer}
 
@@ -63,13 +63,10 @@ module _ (s : List ℕ) (d : Dissection) (b : BaseHeader) (h : HasParts (dissect
       (w ∙ ap (λ e. t₅ ++ end_line e) h.end)
       ∙ ap (λ (a : List ℕ). old ++ a) (sym (answer_some s d b h some))
 
--- without a base header there are no extension headers
-none_of : (s : List ℕ) (d : Dissection) → HasParts (dissected s) d → (version_of d == 6) ≡ false → (version_of d == 4) ≡ false → (dissected s).headers ≡ []
-none_of s d h six four = no_version s (λ e. false≢true (sym six ∙ ap (λ v. v == 6) (h.version ∙ e))) (λ e. false≢true (sym four ∙ ap (λ v. v == 4) (h.version ∙ e)))
-
-pub no_headers : (text : List ℕ) (offset : ℕ) (d : Dissection) → false ≡ (version_of d == 6) → false ≡ (version_of d == 4)
+-- without a base header there are no lines of headers
+pub no_header_lines : (text : List ℕ) (offset : ℕ) (d : Dissection) → false ≡ (version_of d == 6) → false ≡ (version_of d == 4)
     → (s : List ℕ) → HasParts (dissected s) d → text ≡ text ++ header_lines offset (dissected s).headers
-no_headers text offset d six four s h = rw (none_of s d h (sym six) (sym four)) (sym (append-nil text))
+no_header_lines text offset d six four s h = rw (no_headers s d h six four) (sym (append-nil text))
 
 -- the end at a header that is incomplete here
 pub truncated_joined : (old t new : List ℕ) (e : LenError) (header : Option Layer) (end : End) → end ≡ Truncated e header → t ≡ old ++ truncated_text e → new ≡ t ++ (in_header header ++ codes "\n") → new ≡ old ++ end_line end

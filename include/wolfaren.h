@@ -295,8 +295,9 @@ struct wolfaren_payload {
 /*
  * Finds the payload of the IP packet at the start of the `len` bytes. Accepts and rejects the same packets as
  * wolfaren_parse_packet, and checks each extension header, but neither counts the headers nor reports their positions.
- * That makes it faster. What wolfaren_parse_packet says of fragments applies here too:
- * a filter must not rely on `payload->number` if `payload->fragmented` is 1. wolfaren_dissect distinguishes such packets.
+ * That makes it faster. What wolfaren_parse_packet says of fragments applies here too: a filter must not rely on
+ * `payload->number` if `payload->fragmented` is 1. wolfaren_dissect is the call for filters: it says which fragment a
+ * packet is, and stops at the payload of a later one.
  *
  * On success, returns true and fills in `payload`; `fault` is left unchanged. On error, returns false and stores the
  * error in `fault`; `payload` is left unchanged.

@@ -64,6 +64,8 @@ fn is_cross() -> bool {
 /// Ends the build if the header has another version, or other layouts and calls.
 fn check_header(header: &Path) {
     println!("cargo:rerun-if-changed={}", header.display());
+    let path = header.canonicalize().unwrap_or_else(|_| header.into());
+    println!("cargo:rustc-env=WOLFAREN_HEADER={}", path.display()); // for the tests
     let text = fs::read_to_string(header).unwrap_or_default();
     let value = |name: &str| {
         text.lines()

@@ -288,7 +288,7 @@ mod tests {
 
     /// Returns the size and the name of each field of a struct in the library's header.
     fn fields(name: &str) -> Vec<(usize, &'static str)> {
-        let page = include_str!("../../../include/wolfaren.h");
+        let page = include_str!(env!("WOLFAREN_HEADER"));
         let lines = page.lines().skip_while(|line| *line != name).skip(1);
         lines
             .take_while(|line| *line != "};")

@@ -73,7 +73,7 @@ const _: () = {
 
 /// `WOLFAREN_ABI`: the checksum of the header that this file was written for (`scripts/abi` of the repository).
 #[cfg(test)]
-pub(crate) const ABI: u32 = 0x4ebe_320a;
+pub(crate) const ABI: u32 = 0xb86e_4f52;
 
 unsafe extern "C" {
     fn wolfaren_parse_chain(

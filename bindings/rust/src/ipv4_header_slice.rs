@@ -1,6 +1,6 @@
 use crate::err::ipv4::{HeaderError, HeaderSliceError, SliceError};
 use crate::err::{Layer, LenError};
-use crate::{library, IpNumber, Ipv4Header, LenSource};
+use crate::{library, IpFragOffset, IpNumber, Ipv4Header, LenSource};
 use core::net::Ipv4Addr;
 
 /// A borrowed IPv4 header with its options (RFC 791, section 3.1). Two headers are equal if their bytes are.
@@ -92,6 +92,17 @@ impl<'a> Ipv4HeaderSlice<'a> {
     #[must_use]
     pub fn more_fragments(&self) -> bool {
         self.front()[6] & 0b0010_0000 != 0
+    }
+
+    /// Returns where the fragment's data starts in the payload, in units of 8 bytes.
+    #[inline]
+    #[must_use]
+    pub fn fragments_offset(&self) -> IpFragOffset {
+        let front = self.front();
+        match IpFragOffset::try_new(u16::from_be_bytes([front[6] & 0x1f, front[7]])) {
+            Ok(offset) => offset,
+            Err(_) => unreachable!("the offset has 13 bits"),
+        }
     }
 
     /// Returns the time to live, in hops.

@@ -59,8 +59,16 @@ pub fn dissect_packet(bytes: &[u8], spans: &mut [HeaderSpan], parts: &mut Dissec
         None => put_error(bytes, parts),
     }
     if !spans.is_empty() {
-        put_extensions(&dissect(bytes), spans);
+        put_dissected(bytes, spans);
     }
+}
+
+/// Stores the spans of the extension headers of the packet at the start of bytes.
+#[inline(never)]
+fn put_dissected(bytes: &[u8], spans: &mut [HeaderSpan])
+    ensures { spans.new ≡ filled (dissected_spans (dissected bytes.now)) spans.old }
+{
+    put_extensions(&dissect(bytes), spans);
 }
 
 /// Stores the parts of bytes whose headers end with an error, or that don't start with a base header.
@@ -85,7 +93,6 @@ fn base_len_of(packet: &Dissection<'_>) -> usize
 }
 
 /// Stores the spans of the packet's extension headers.
-#[inline(never)]
 fn put_extensions(packet: &Dissection<'_>, spans: &mut [HeaderSpan])
     requires { length (base_of packet.now) + length packet.now.extensions.now < 2 ^ 64 }
     ensures { (s : List ℕ) → HasParts (dissected s) packet.now

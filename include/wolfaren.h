@@ -247,7 +247,8 @@ struct wolfaren_dissection {
  * a payload, which the sender chooses.
  *
  * For IPv6, the fragment is that of the first fragment header that fragments the payload; if none does, that of the
- * first one, which is atomic. Bytes that don't start with an IP header are all padding; `end` and `fault` say why.
+ * first one, which is atomic. Bytes that don't start with an IP header are all padding: `end` and `fault` say why, and
+ * `payload_number` is 59 (no next header).
  *
  * Stores the position of each extension header in `headers` as wolfaren_parse_chain does, but with offsets from the
  * start of the packet. Pass NULL and 0 to do without: that is faster.

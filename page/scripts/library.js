@@ -1,9 +1,9 @@
 // Calls the library. Its structs have the layout of include/wolfaren.h, with a 64-bit size_t.
 "use strict";
 Wolfaren.library = (function () {
-    const HEADER = 24, PACKET = 40, FAULT = 32, BYTES = 16, TEXT = 256;
-    // A struct wolfaren_packet, a struct wolfaren_fault, and the slice of bytes; a struct wolfaren_chain has 56 bytes.
-    const ANSWER = PACKET + FAULT + BYTES;
+    const HEADER = 24, DISSECTION = 104, BYTES = 16, TEXT = 256;
+    // A struct wolfaren_dissection and the slice of bytes; a struct wolfaren_chain has 56 bytes.
+    const ANSWER = DISSECTION + BYTES;
     // The smallest module with a memory of 64-bit addresses.
     const WIDE = new Uint8Array([0, 97, 115, 109, 1, 0, 0, 0, 5, 3, 1, 4, 1]);
     let calls = null, memory = null, room = 0, start = 0, words = 0;
@@ -68,18 +68,18 @@ Wolfaren.library = (function () {
         return { headers: headersAt(view, at.headers, size(view, at.answer)), len: size(view, at.answer + 8), fault: faultAt(view, at.answer + 16),
             next: view.getUint32(at.answer + 48, true), fragmented: view.getUint32(at.answer + 52, true) === 1 };
     }
-    // Parses a packet, which must be complete. Returns its parts or its error.
-    function parsePacket(bytes) {
-        const at = place(bytes), answer = at.answer, fault = answer + PACKET, given = fault + FAULT;
+    // Dissects the packet at the start of the bytes, which may be any bytes.
+    function dissect(bytes) {
+        const at = place(bytes), answer = at.answer, given = answer + DISSECTION;
         const view = new DataView(memory.buffer);
         // This call takes the bytes as a struct of pointer and length. WebAssembly passes structs in memory.
         view.setBigUint64(given, BigInt(start), true);
         view.setBigUint64(given + 8, BigInt(bytes.length), true);
-        const found = calls.wolfaren_parse_packet(BigInt(given), BigInt(at.headers), BigInt(at.most), BigInt(answer), BigInt(fault));
-        if (!found) return { fault: faultAt(view, fault) };
-        return { baseLen: size(view, answer), headers: headersAt(view, at.headers, size(view, answer + 8)), payloadOffset: size(view, answer + 16),
-            payloadLen: size(view, answer + 24), fault: null, version: view.getUint16(answer + 32, true),
-            number: view.getUint16(answer + 34, true), fragmented: view.getUint16(answer + 36, true) === 1, lenSource: view.getUint16(answer + 38, true) };
+        calls.wolfaren_dissect(BigInt(given), BigInt(at.headers), BigInt(at.most), BigInt(answer));
+        return { baseLen: size(view, answer), statedLen: size(view, answer + 8), headers: headersAt(view, at.headers, size(view, answer + 16)),
+            payloadOffset: size(view, answer + 24), payloadLen: size(view, answer + 32), missing: size(view, answer + 40), padding: size(view, answer + 48),
+            fault: faultAt(view, answer + 56), identification: view.getUint32(answer + 88, true), fragmentOffset: view.getUint32(answer + 92, true),
+            version: view.getUint16(answer + 96, true), number: view.getUint16(answer + 98, true), fragment: view.getUint16(answer + 100, true), end: view.getUint16(answer + 102, true) };
     }
-    return { isSupported, load, parseChain, parsePacket };
+    return { isSupported, load, parseChain, dissect };
 })();

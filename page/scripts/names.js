@@ -8,6 +8,7 @@ Wolfaren.names = (function () {
     // The codes of include/wolfaren.h.
     const layers = ["", "IP header", "IPv4 header", "IPv4 packet", "authentication header", "IPv6 header", "IPv6 packet", "IPv6 extension header",
         "hop-by-hop options header", "destination options header", "routing header", "fragment header"];
+    const fragments = ["", "atomic", "first", "middle", "last"];
     const lengthSources = ["", "the length of the input", "the IPv4 total length", "the IPv6 payload length"];
     const styles = { 0: "hop", 43: "routing", 44: "fragment", 51: "authentication", 60: "destination" };
     const places = ["hop-by-hop", "destination options", "routing", "fragment", "authentication", "final destination options"];
@@ -18,5 +19,5 @@ Wolfaren.names = (function () {
     function bytes(count) {
         return count.toLocaleString("en") + (count === 1 ? " byte" : " bytes");
     }
-    return { headers, layers, lengthSources, styles, places, ofNumber, bytes };
+    return { headers, layers, fragments, lengthSources, styles, places, ofNumber, bytes };
 })();

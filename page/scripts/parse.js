@@ -2,7 +2,8 @@
 "use strict";
 Wolfaren.parse = (function () {
     const VLANS = [0x8100, 0x88a8], TYPES = [0x0800, 0x86dd];
-    const TOO_SHORT = 1, IP_VERSION = 4, HEADER_LENGTH = 5;
+    // The codes of include/wolfaren.h.
+    const TOO_SHORT = 1, ATOMIC = 1, AT_TRUNCATED_HEADER = 2;
     const PLACES = { 0: 0, 60: 1, 43: 2, 44: 3, 51: 4 };
 
     // Parses the bytes. `kind` is `packet`, `ethernet`, `chain6` or `chain4`.
@@ -31,67 +32,33 @@ Wolfaren.parse = (function () {
     function parseChain(model, version) {
         const chain = Wolfaren.library.parseChain(version, model.first, model.bytes);
         pushHeaders(model, chain.headers, 0);
-        end(model, chain, chain.len, model.bytes.length);
+        pushRest(model, chain.next, chain.fragmented, chain.len, model.bytes.length - chain.len);
+        if (chain.fault.kind !== 0) model.fault = { ...chain.fault, offset: chain.len };
         return model;
     }
     function pushHeaders(model, headers, base) {
         model.headers = headers.map((it) => ({ ...it, offset: it.offset + base }));
         for (const it of model.headers) push(model, Wolfaren.names.styles[it.number], Wolfaren.names.ofNumber(it.number), it.offset, it.len, { ...it, isHeader: true });
     }
-    function end(model, chain, at, upTo) {
-        model.next = chain.next;
-        model.restAt = at;
-        model.restLen = upTo - at;
-        model.fragmented = chain.fragmented;
-        push(model, "rest", Wolfaren.names.ofNumber(chain.next), at, upTo - at, { isRest: true, number: chain.next });
-        if (chain.fault.kind !== 0) model.fault = { ...chain.fault, offset: at };
+    function pushRest(model, next, fragmented, at, len) {
+        Object.assign(model, { next, fragmented, restLen: len });
+        push(model, "rest", Wolfaren.names.ofNumber(next), at, len, { isRest: true, number: next });
     }
     function parsePacket(model, base) {
-        const bytes = model.bytes.subarray(base), packet = Wolfaren.library.parsePacket(bytes);
+        const packet = Wolfaren.library.dissect(model.bytes.subarray(base)), fault = packet.fault;
         model.packet = packet;
-        model.base = base;
-        if (packet.fault !== null) return refused(model, base, bytes, packet.fault);
-        pushBase(model, base, packet.baseLen, packet.version);
+        if (packet.version === 0) push(model, "rest", "not parsed", base, packet.padding, {});
+        else pushPacket(model, base, packet);
+        const offset = base + (fault.kind === TOO_SHORT ? fault.offset : packet.payloadOffset);
+        if (fault.kind !== 0) model.fault = { ...fault, offset, isTruncated: packet.end === AT_TRUNCATED_HEADER };
+        return model;
+    }
+    function pushPacket(model, base, packet) {
+        const version = packet.version, nextAt = version === 6 ? 6 : 9, at = base + packet.payloadOffset;
+        push(model, "base", `IPv${version}`, base, packet.baseLen, { version, next: model.bytes[base + nextAt], nextAt });
         pushHeaders(model, packet.headers, base);
-        const at = base + packet.payloadOffset, stop = at + packet.payloadLen;
-        const none = { kind: 0 };
-        end(model, { next: packet.number, fragmented: packet.fragmented, fault: none }, at, stop);
-        push(model, "beyond", "beyond the packet", stop, model.bytes.length - stop, {});
-        return model;
-    }
-    function pushBase(model, base, len, version) {
-        const next = model.bytes[base + (version === 6 ? 6 : 9)];
-        push(model, "base", `IPv${version}`, base, len, { version, next, nextAt: version === 6 ? 6 : 9 });
-    }
-    // Parses a packet that the library rejected: its IP header, if that is complete, and the chain after it.
-    function refused(model, base, bytes, fault) {
-        const version = bytes.length > 0 ? bytes[0] >> 4 : 0, baseLen = version === 6 ? 40 : (bytes[0] & 15) * 4;
-        const isBaseWhole = (version === 6 || version === 4 && baseLen >= 20) && bytes.length >= baseLen;
-        const stated = isBaseWhole ? statedLen(version, bytes) : 0;
-        if (!isBaseWhole || stated < baseLen) {
-            push(model, "rest", "not parsed", base, bytes.length, {});
-            model.fault = { ...fault, offset: base + placeIn(fault) };
-            return model;
-        }
-        pushBase(model, base, baseLen, version);
-        const stop = Math.min(stated, bytes.length);
-        const chain = Wolfaren.library.parseChain(version, bytes[version === 6 ? 6 : 9], bytes.subarray(baseLen, stop));
-        pushHeaders(model, chain.headers, base + baseLen);
-        end(model, { ...chain, fault: { kind: 0 } }, base + baseLen + chain.len, base + stop);
-        push(model, "beyond", "beyond the packet", base + stop, bytes.length - stop, {});
-        const isShort = fault.kind === TOO_SHORT;
-        const isTruncated = isShort && stated > bytes.length;
-        model.fault = { ...fault, offset: isTruncated ? base + bytes.length : isShort ? base + fault.offset : base + baseLen + chain.len };
-        return model;
-    }
-    function placeIn(fault) {
-        return fault.kind === IP_VERSION || fault.kind === HEADER_LENGTH ? 0 : fault.offset;
-    }
-    // Returns the length of the packet by its length field. An IPv6 packet with payload length 0 has all the bytes.
-    function statedLen(version, bytes) {
-        if (version === 4) return bytes[2] * 256 + bytes[3];
-        const len = bytes[4] * 256 + bytes[5];
-        return len === 0 ? bytes.length : 40 + len;
+        pushRest(model, packet.number, packet.fragment > ATOMIC, at, packet.payloadLen);
+        push(model, "beyond", "beyond the packet", at + packet.payloadLen, packet.padding, {});
     }
     // Returns, for each header, the struct of six places that it goes into, by the library, and its place there.
     function placesOf(headers) {

@@ -12,7 +12,7 @@ Wolfaren.table = (function () {
         for (const it of HEAD) head.append(element("th", it, { scope: "col" }));
         const body = table.createTBody();
         for (const part of model.parts) addRow(body, cellsOf(part, model, withPlaces), part.style);
-        if (model.fault) addRow(body, [model.fault.offset, "", "", "fault", "", faultText(model.fault)], "fault");
+        if (model.fault) addRow(body, [model.fault.offset, "", "", model.fault.isTruncated ? "truncated" : "fault", "", faultText(model.fault)], "fault");
     }
     function cellsOf(part, model, withPlaces) {
         const number = part.number === undefined ? "" : part.number;
@@ -21,9 +21,16 @@ Wolfaren.table = (function () {
     }
     function remarkOf(part, model, withPlaces) {
         if (part.isRest) return model.fragmented ? "a fragment" : "";
-        if (part.version && model.packet.fault === null) return `payload${model.fragmented ? " is a fragment and" : ""} ends by ${Wolfaren.names.lengthSources[model.packet.lenSource]}`;
+        if (part.version) return packetText(model.packet);
         if (withPlaces && part.place !== undefined) return `struct ${part.struct}, ${Wolfaren.names.places[part.place]}`;
         return "";
+    }
+    // Returns what a packet states about its length and its fragmentation, and how many bytes are missing.
+    function packetText(packet) {
+        const said = [packet.statedLen === 0 ? "no stated length" : `stated length ${packet.statedLen}`];
+        if (packet.fragment !== 0) said.push(`${Wolfaren.names.fragments[packet.fragment]} fragment, identification ${packet.identification}, offset ${packet.fragmentOffset}`);
+        if (packet.missing > 0) said.push(`${packet.missing} missing`);
+        return said.join("; ");
     }
     function addRow(body, cells, style) {
         const row = body.insertRow();
@@ -53,7 +60,8 @@ Wolfaren.table = (function () {
         return `; then ${kind}${Wolfaren.names.ofNumber(model.next)} (${model.next}) with ${Wolfaren.names.bytes(model.restLen)}`;
     }
     function faultEnd(model) {
-        return model.fault ? `. At byte ${model.fault.offset}: ${model.fault.text.replace(/\.$/, "")}.` : ".";
+        if (!model.fault) return ".";
+        return `. At byte ${model.fault.offset}: ${model.fault.isTruncated ? "truncated: " : ""}${model.fault.text.replace(/\.$/, "")}.`;
     }
     return { show, sentence };
 })();

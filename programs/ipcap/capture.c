@@ -190,7 +190,7 @@ enum reading read_packet(struct capture *capture, struct packet *packet)
 bool parse_captured(struct parts *parts, const struct packet *packet)
 {
     size_t len = packet->header.caplen - packet->ip_offset;
-    if (parse_packet(parts, packet->frame + packet->ip_offset, len, packet->is_short)) return true;
+    if (parse_packet(parts, packet->frame + packet->ip_offset, len)) return true;
     complain_of_memory();
     return false;
 }

@@ -10,17 +10,19 @@ enum { VERSION_AT = 0, COUNT_AT = 1, NUMBERS_AT = 2, NEXT_AT = NUMBERS_AT + KEY_
 
 _Static_assert((int)KEY_USED <= (int)KEY_BYTES, "the key of a chain must fit");
 
-static const char *const end_words[] = {[CHAIN_WHOLE] = "", [CHAIN_FAULTY] = " fault", [CHAIN_TRUNCATED] = " truncated"};
+static const char *const end_words[] = {
+    [CHAIN_WHOLE] = "", [CHAIN_FAULTY] = " fault", [CHAIN_TRUNCATED] = " truncated"};
 
 bool chain_key(const struct parts *parts, struct key *key)
 {
-    if (parts->count > KEY_HEADERS) return false;
+    const struct wolfaren_dissection *packet = &parts->packet;
+    if (packet->headers > KEY_HEADERS) return false;
     memset(key, 0, sizeof *key);
-    key->bytes[VERSION_AT] = parts->version;
-    key->bytes[COUNT_AT] = (uint8_t)parts->count;
-    for (size_t i = 0; i < parts->count; i++) key->bytes[NUMBERS_AT + i] = parts->headers[i].number;
-    key->bytes[NEXT_AT] = parts->number;
-    key->bytes[END_AT] = (uint8_t)parts->end;
+    key->bytes[VERSION_AT] = (uint8_t)packet->version;
+    key->bytes[COUNT_AT] = (uint8_t)packet->headers;
+    for (size_t i = 0; i < packet->headers; i++) key->bytes[NUMBERS_AT + i] = parts->headers[i].number;
+    key->bytes[NEXT_AT] = (uint8_t)packet->payload_number;
+    key->bytes[END_AT] = (uint8_t)end_of_chain(parts);
     return true;
 }
 

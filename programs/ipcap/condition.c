@@ -105,7 +105,7 @@ bool read_condition(struct condition *condition, int count, char *const *argumen
 
 static bool has_header(const struct parts *parts, uint8_t number)
 {
-    for (size_t i = 0; i < parts->count; i++)
+    for (size_t i = 0; i < parts->packet.headers; i++)
         if (parts->headers[i].number == number) return true;
     return false;
 }
@@ -114,9 +114,9 @@ static bool does_hold(const struct test *test, const struct parts *parts)
 {
     if (!parts) return false;
     switch (test->kind) {
-        case TEST_FRAGMENT: return parts->is_fragment;
+        case TEST_FRAGMENT: return is_fragment(parts);
         case TEST_HEADER: return has_header(parts, test->number);
-        case TEST_LEADS_TO: return parts->version != 0 && parts->number == test->number;
+        case TEST_LEADS_TO: return parts->packet.version != 0 && parts->packet.payload_number == test->number;
         case TEST_FAULT: return has_fault(parts);
     }
     return false;

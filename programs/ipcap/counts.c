@@ -28,30 +28,31 @@ void count_frame(struct counts *counts, bool is_short)
 
 static bool count_chain(struct counts *counts, const struct parts *parts)
 {
+    const struct wolfaren_dissection *packet = &parts->packet;
     struct key key;
     if (!chain_key(parts, &key))
         counts->chains.other++;
     else if (add_to_table(&counts->chains, &key, 1) != ADDED)
         return false;
-    length_key(parts->chain_at_end - parts->base_len, &key);
+    length_key(packet->payload_offset - packet->base_len, &key);
     if (add_to_table(&counts->chain_bytes, &key, 1) != ADDED) return false;
-    if (parts->end == CHAIN_WHOLE) counts->numbers[parts->number]++;
+    if (end_of_chain(parts) == CHAIN_WHOLE) counts->numbers[packet->payload_number & UINT8_MAX]++;
     return true;
 }
 
 bool count_packet(struct counts *counts, const struct parts *parts)
 {
-    if (has_fault(parts) && parts->fault.kind < FAULT_KINDS && parts->fault_layer < FAULT_LAYERS)
-        counts->faults[parts->fault.kind][parts->fault_layer]++;
-    if (parts->version == 0) {
+    uint8_t kind = parts->packet.fault.kind, layer = fault_layer(parts);
+    if (has_fault(parts) && kind < FAULT_KINDS && layer < FAULT_LAYERS) counts->faults[kind][layer]++;
+    if (parts->packet.version == 0) {
         counts->unread++;
         return true;
     }
-    if (parts->version == 4)
+    if (parts->packet.version == 4)
         counts->ipv4++;
     else
         counts->ipv6++;
-    if (parts->is_fragment) counts->fragments++;
+    if (is_fragment(parts)) counts->fragments++;
     return count_chain(counts, parts);
 }
 

@@ -45,20 +45,22 @@ static const char *header_color(uint8_t number)
  */
 static bool range_at(const struct parts *parts, size_t index, struct range *range)
 {
-    if (parts->version == 0) return false;
+    const struct wolfaren_dissection *packet = &parts->packet;
+    if (packet->version == 0) return false;
     if (index == 0) {
-        *range = (struct range){0, parts->base_len, parts->version == 4 ? "IPv4" : "IPv6", "\033[1m"};
+        *range = (struct range){0, packet->base_len, packet->version == 4 ? "IPv4" : "IPv6", "\033[1m"};
         return true;
     }
-    if (index <= parts->count) {
+    if (index <= packet->headers) {
         const struct wolfaren_header *header = &parts->headers[index - 1];
         *range = (struct range){header->offset, header->offset + header->len, number_name(header->number),
                                 header_color(header->number)};
         return true;
     }
-    if (index > parts->count + 1 || parts->end != CHAIN_WHOLE || parts->chain_at_end == parts->packet_at_end) return false;
-    const char *name = parts->is_fragment ? "part of payload" : number_name(parts->number);
-    *range = (struct range){parts->chain_at_end, parts->packet_at_end, *name ? name : "payload", plain_color};
+    if (index > packet->headers + 1 || end_of_chain(parts) != CHAIN_WHOLE || packet->payload_len == 0) return false;
+    const char *name = is_fragment(parts) ? "part of payload" : number_name((uint8_t)packet->payload_number);
+    *range = (struct range){packet->payload_offset, packet->payload_offset + packet->payload_len,
+                            *name ? name : "payload", plain_color};
     return true;
 }
 
@@ -139,33 +141,26 @@ static void write_marks(struct drawing *drawing, size_t row, size_t end)
     if (column > 0) putchar('\n');
 }
 
-/* Writes a caret below a byte of a row, followed by the words. */
-static void write_caret(const struct drawing *drawing, size_t column, const char *words)
-{
-    printf("%*s", 6 + (int)(column * CELL), "");
-    set_color(drawing, fault_color);
-    printf("^ %s", words);
-    set_color(drawing, plain_color);
-    putchar('\n');
-}
-
-/* Writes the packet's error below the row in which it begins, and marks where the snap length truncated the chain. */
+/* Writes what is wrong with a header below the row in which it begins, with a caret below its first byte. */
 static void write_fault(const struct drawing *drawing, size_t row)
 {
     const struct parts *parts = drawing->parts;
     char text[WOLFAREN_TEXT_ROOM];
-    if (has_fault(parts) && parts->fault_at >= row && parts->fault_at - row < ROW_BYTES) {
-        size_t len = wolfaren_fault_text(&parts->fault, text, sizeof text);
-        write_caret(drawing, parts->fault_at - row, len > 0 && len < sizeof text ? text : "fault");
-    }
-    if (parts->end == CHAIN_TRUNCATED && parts->chain_at_end >= row && parts->chain_at_end - row < ROW_BYTES)
-        write_caret(drawing, parts->chain_at_end - row, "truncated by the snap length");
+    size_t at = fault_offset(parts);
+    if (end_of_chain(parts) == CHAIN_WHOLE || at < row || at - row >= ROW_BYTES) return;
+    size_t len = wolfaren_fault_text(&parts->packet.fault, text, sizeof text);
+    printf("%*s", 6 + (int)((at - row) * CELL), "");
+    set_color(drawing, fault_color);
+    printf("^ %s%s", has_fault(parts) ? "" : "truncated: ", len > 0 && len < sizeof text ? text : "fault");
+    set_color(drawing, plain_color);
+    putchar('\n');
 }
 
 /* Returns how many bytes are drawn: up to the end of the chain, and some more. */
 static size_t shown_length(const struct parts *parts)
 {
-    size_t end = parts->version == 0 ? UNREAD_BYTES : parts->chain_at_end / ROW_BYTES * ROW_BYTES + 2 * ROW_BYTES;
+    size_t chain_end = parts->packet.payload_offset;
+    size_t end = parts->packet.version == 0 ? UNREAD_BYTES : chain_end / ROW_BYTES * ROW_BYTES + 2 * ROW_BYTES;
     return end < parts->len ? end : parts->len;
 }
 
@@ -173,8 +168,7 @@ void draw_packet(const struct parts *parts, bool in_color)
 {
     struct drawing drawing = {.parts = parts, .in_color = in_color};
     size_t shown = shown_length(parts);
-    size_t last = has_fault(parts) ? parts->fault_at : 0;
-    if (parts->end == CHAIN_TRUNCATED) last = parts->chain_at_end;
+    size_t last = end_of_chain(parts) == CHAIN_WHOLE ? 0 : fault_offset(parts);
     for (size_t row = 0; row < shown || row <= last; row += ROW_BYTES) {
         size_t left = shown > row ? shown - row : 0;
         size_t end = row + (left < ROW_BYTES ? left : ROW_BYTES);
@@ -183,4 +177,5 @@ void draw_packet(const struct parts *parts, bool in_color)
         write_fault(&drawing, row);
     }
     if (shown < parts->len) printf("      and %zu bytes more\n", parts->len - shown);
+    if (parts->packet.missing > 0) printf("      %zu bytes missing\n", parts->packet.missing);
 }

@@ -54,13 +54,13 @@ static void print_title(const struct capture *capture, const struct packet *pack
     struct key key;
     char text[CHAIN_TEXT_ROOM];
     printf(", IP at %zu: ", packet->ip_offset);
-    if (parts->version == 0) {
+    if (parts->packet.version == 0) {
         puts("unread base header");
     } else if (chain_key(parts, &key)) {
         write_chain(&key, text);
         puts(text);
     } else {
-        printf("IPv%d %zu headers -> %d\n", parts->version, parts->count, parts->number);
+        printf("IPv%d %zu headers -> %d\n", parts->packet.version, parts->packet.headers, parts->packet.payload_number);
     }
 }
 

@@ -10,11 +10,12 @@ import test_sum
 import test_use
 
 GROUPS = [("link layers", test_stat.link_layers), ("short frames", test_stat.short_frames),
-          ("faults", test_stat.faults),
+          ("faults", test_stat.faults), ("incomplete packets", test_stat.incomplete_packets),
           ("bounds of packets", test_stat.bounds_of_packets), ("fragments", test_stat.fragments),
           ("snap lengths", test_stat.snap_lengths), ("faults in truncated packets", test_stat.faults_in_truncated_packets),
           ("truncated files", test_stat.truncated_files), ("what can't be read", test_stat.what_cant_be_read),
           ("forms of files", test_stat.forms_of_files), ("chains as tshark finds them", test_stat.tshark_agrees),
+          ("odd packets as tshark finds them", test_stat.tshark_agrees_on_odd_packets),
           ("chains as scapy makes them", test_stat.scapy_agrees), ("tables", test_stat.tables),
           ("sums of parts", test_sum.sums), ("malformed JSON", test_sum.malformed), ("damaged JSON", test_sum.damaged),
           ("bounds of tables", test_sum.bounds), ("conditions", test_filter.conditions),

@@ -67,6 +67,10 @@ def ipv4(protocol, payload, fragment_bits=0, total_len=None, words=5, option_byt
     return before + struct.pack(">H", checksum(before + b"\0\0" + addresses)) + addresses + payload
 
 
+# A later fragment: the bytes after its fragment header are the middle of a payload, and not destination options.
+LATER_FRAGMENT = ipv6(44, fragment(60, 185, 1) + b"\xde\xad\xbe\xef\0\0\0\0")
+
+
 def ethernet(packet, tags=(), ethertype=None):
     """An Ethernet frame, with one VLAN tag for each EtherType in `tags`."""
     if ethertype is None:

@@ -30,7 +30,18 @@ packet 4: 62 of 78 bytes, IP at 14: IPv6 60 -> 44 truncated
 0020  00 00 00 00 00 00 00 02 2c 00 01 04 00 00 00 00
       ----------------------] [----- dest-opts -----]
 0030
-      ^ truncated by the snap length
+      ^ truncated: not enough bytes for Ipv6FragHeader at offset 48: 8 needed, 0 there by Slice
+      16 bytes missing
+
+packet 5: 70 bytes, IP at 14: IPv6 44 -> 60
+0000  60 00 00 00 00 10 2c 40 20 01 0d b8 00 00 00 00
+      [-------------------- IPv6 --------------------
+0010  00 00 00 00 00 00 00 01 20 01 0d b8 00 00 00 00
+      -----------------------------------------------
+0020  00 00 00 00 00 00 00 02 3c 00 05 c9 00 00 00 07
+      ----------------------] [----- fragment ------]
+0030  de ad be ef 00 00 00 00
+      [-- part of payload --]
 """
 
 
@@ -39,6 +50,7 @@ def drawings(harness):
     frames = [ethernet(ipv6_chain([0, 43, 44])), ethernet(bytes(46), (), 0x0806),
               ethernet(ipv4(17, UDP[:8]), (0x8100,))]
     content = capture(frames) + record(ethernet(ipv6(60, options(44) + fragment(17) + bytes(8))), 62)
+    content += record(ethernet(LATER_FRAGMENT))
     status, found, told, _ = harness.run("show", content=content)
     for line, wanted in zip(found.decode().split("\n"), DRAWN.split("\n")):
         harness.equal(line, wanted, "a line")
@@ -60,10 +72,12 @@ def places_of_faults(harness):
     cases = [(ipv6(0, options(43, 3) + routing(17)[:5]), 40 + 32, "offset 72: 8 needed, 5 there"),
              (ipv6_chain([43, 60, 0]), 56, "not directly after the IPv6 header"),
              (ipv6(51, b"\x11\0" + bytes(14)), 40, "too small (0)"),
-             (ipv4(51, b"\x11\0" + bytes(14)), 20, "too small (0)"), (ipv6(60, b""), 40, "8 needed, 0 there"),
+             (ipv4(51, b"\x11\0" + bytes(14)), 20, "too small (0)"),
+             (ipv6(60, b""), 40, "truncated: not enough bytes for Ipv6ExtHeader at offset 40: 8 needed, 0 there"),
              (ipv6_chain([60, 60, 60], 44, b""), 64, "8 needed, 0 there"),
-             (ipv6_chain([0])[:-1], 0, "60 needed, 59 there"),
-             (b"\x50" + bytes(40), 0, "'5'"), (ipv4(17, UDP, words=4), 0, "'4'"), (b"", 0, "1 needed, 0 there"),
+             (ipv4(17, UDP, total_len=19), 0, "20 needed, 19 there"),
+             (b"\x50" + bytes(40), 0, "'5'"), (ipv4(17, UDP, words=4), 0, "'4'"),
+             (b"", 0, "truncated: not enough bytes for IpHeader at offset 0: 1 needed, 0 there"),
              (ipv4(51, authentication(17)[:9], words=7, option_bytes=bytes(8)), 28, "12 needed, 9 there")]
     for packet, place, words in cases:
         status, found, _, _ = harness.run("show", content=capture([ethernet(packet)]))
@@ -71,10 +85,13 @@ def places_of_faults(harness):
         harness.equal((status, len(drawn), drawn[0][0] if drawn else None), (0, 1, place), packet.hex(),
                       found.decode())
         harness.check(words in drawn[0][1], packet.hex(), drawn[0][1])
-    for kept, place in [(0, 0), (16, 16), (39, 39), (40, 40), (47, 40), (48, 48), (71, 48), (72, 72)]:
+    for kept, place, needed in [(0, 0, 1), (16, 0, 40), (39, 0, 40), (40, 40, 8), (47, 40, 8), (48, 48, 8), (55, 48, 8),
+                                (56, 48, 24), (71, 48, 24), (72, 72, 8)]:
         frame = ethernet(ipv6(0, options(43) + routing(44, 2) + fragment(17) + UDP))
         found = harness.run("show", content=file_header() + record(frame, 14 + kept))[1]
-        harness.equal(list(carets(found)), [(place, "truncated by the snap length")], kept, "bytes kept")
+        drawn = [(at, words.startswith("truncated: "), words[words.index("offset"):]) for at, words in carets(found)]
+        harness.equal(drawn, [(place, True, "offset %d: %d needed, %d there by Slice" % (place, needed, kept - place))],
+                      kept, "bytes kept")
 
 
 def long_packets(harness):
@@ -87,7 +104,7 @@ def long_packets(harness):
 
 
 def colors(harness):
-    content = capture([ethernet(ipv6_chain([0, 43])), ethernet(ipv6(60, b""))])
+    content = capture([ethernet(ipv6_chain([0, 43])), ethernet(ipv6(60, b"\x11"))])
     plain = harness.run("show", content=content)[1]
     harness.check(b"\033" not in plain, "no colour in a pipe")
     for arguments in [["--color=never"], ["--color=auto"], ["--color", "never", "-"]]:

@@ -1,5 +1,6 @@
 """Tests of `ipcap stat`. Expected values were worked out by hand from the bytes, except where tshark is named."""
 
+import collections
 import random
 import xml.etree.ElementTree as ElementTree
 
@@ -40,15 +41,14 @@ def short_frames(harness):
                                       (SLL, cooked(b"", 0x86DD), 16), (SLL2, cooked2(b"", 0x86DD), 20),
                                       (NULL, struct.pack("<I", 30), 4)]:
         found, _ = harness.stat(content=capture([frame[:n] for n in range(before + 1)], link_layer))
-        harness.equal(found, statistics(packets=before + 1, not_ip=before, unread=1,
-                                        faults={"too-short IP-header": 1}), "link layer", link_layer)
+        harness.equal(found, statistics(packets=before + 1, not_ip=before, unread=1), "link layer", link_layer)
 
 
 def faulty_packets():
     """Yields packets with their error, the text of their chain, and its length in bytes."""
     for number in [0, 43, 60]:
         first = header(number, 17, 2)
-        for kept in [0, 1, 7, 8, 23]:
+        for kept in [1, 7, 8, 23]:
             yield ipv6(number, first[:kept]), "too-short " + SHORT_NAMES[number], "IPv6 -> %d fault" % number, 0
     for kept in [0, 7]:
         yield ipv6(60, options(44) + fragment(17)[:kept]), "too-short fragment", "IPv6 60 -> 44 fault", 8
@@ -63,15 +63,11 @@ def faulty_packets():
     yield ipv6(51, zero), "zero-length authentication", "IPv6 -> 51 fault", 0
     yield ipv6(0, options(51) + zero), "zero-length authentication", "IPv6 0 -> 51 fault", 8
     yield ipv4(51, zero), "zero-length authentication", "IPv4 -> 51 fault", 0
-    yield ipv6_chain([0])[:-1], "too-short IPv6-packet", "IPv6 0 -> 17", 8
-    yield ipv4(17, UDP, total_len=33), "too-short IPv4-packet", "IPv4 -> 17", 0
     yield ipv4(51, authentication(17), total_len=19), "too-short IPv4-packet", "IPv4 -> 51 fault", 0
-    for packet, fault in [(b"", "too-short IP-header"), (ipv6(17, UDP)[:39], "too-short IPv6-header"),
-                          (ipv4(17, b"")[:19], "too-short IPv4-header"),
-                          (b"\x50" + bytes(50), "unsupported-version IP-header"),
+    yield ipv4(17, UDP, total_len=1), "too-short IPv4-packet", "IPv4 -> 17 fault", 0
+    for packet, fault in [(b"\x50" + bytes(50), "unsupported-version IP-header"),
                           (b"\x00" + bytes(50), "unsupported-version IP-header"),
-                          (ipv4(17, UDP, words=4), "header-length IPv4-header"),
-                          (ipv4(17, b"", words=6), "too-short IPv4-header")]:
+                          (ipv4(17, UDP, words=4), "header-length IPv4-header")]:
         yield packet, fault, None, 0
 
 
@@ -83,11 +79,24 @@ def faults(harness):
         if chain_text:
             wanted["ipv" + chain_text[3]] = 1
             wanted.update(chains={chain_text: 1}, chain_bytes={str(chain_bytes): 1})
-            if not chain_text.endswith("fault"):
-                wanted["final_numbers"] = {"17": 1}
         harness.equal(found, wanted, "packet", packet.hex())
     found, _ = harness.stat(content=capture([packet for packet, *_ in packets], RAW))
     harness.equal(sum(found["faults"].values()), len(packets), "all faults in one capture")
+
+
+def incomplete_packets(harness):
+    """Bytes that are missing within the length that a packet states, or if it states none, are not an error."""
+    packets = [(ipv6_chain([0])[:-1], "IPv6 0 -> 17"), (ipv4(17, UDP, total_len=33), "IPv4 -> 17"),
+               (ipv6(44, b""), "IPv6 -> 44 truncated"),
+               (ipv6(60, options(43) + routing(17)[:5], 0), "IPv6 60 -> 43 truncated"),
+               (ipv6_chain([0, 43])[:50], "IPv6 0 -> 43 truncated"),
+               (ipv4(51, authentication(17)[:11], total_len=0), "IPv4 -> 51 truncated"),
+               (ipv4(51, authentication(17))[:33], "IPv4 -> 51 truncated"),
+               (b"", None), (ipv6(17, UDP)[:39], None), (ipv4(17, b"")[:19], None), (ipv4(17, b"", words=6), None)]
+    for packet, chain_text in packets:
+        found, _ = harness.stat(content=capture([packet], RAW))
+        harness.equal((found["chains"], found["unread"], found["faults"]),
+                      ({chain_text: 1} if chain_text else {}, int(chain_text is None), {}), "packet", packet.hex())
 
 
 def bounds_of_packets(harness):
@@ -97,6 +106,8 @@ def bounds_of_packets(harness):
     harness.equal(chains(ipv6(0, options(43) + routing(17), payload_len=8)), {"IPv6 0 -> 43 fault": 1}, "padding")
     harness.equal(chains(ipv4(17, b"") + bytes(26)), {"IPv4 -> 17": 1}, "IPv4 in a short frame")
     harness.equal(chains(ipv6(0, options(43) + routing(17), payload_len=0)), {"IPv6 0,43 -> 17": 1}, "jumbogram")
+    offloaded = ipv4(51, authentication(17) + UDP, total_len=0)
+    harness.equal(chains(offloaded), {"IPv4 51 -> 17": 1}, "segmentation offload")
     words = ipv4(51, authentication(17) + UDP, words=15, option_bytes=b"\1" * 40)
     harness.equal(chains(words), {"IPv4 51 -> 17": 1}, "IPv4 with options")
 
@@ -110,7 +121,8 @@ def fragments(harness):
                (ipv6(0, options(44) + fragment(51, 9, 1) + bytes(8)), "IPv6 0,44 -> 51", 1),
                (ipv4(51, authentication(17) + UDP, 0x2000), "IPv4 51 -> 17", 1),
                (ipv4(51, authentication(17) + UDP, 0x4000), "IPv4 51 -> 17", 0),
-               (ipv4(51, bytes(24), 0x0001), "IPv4 -> 51", 1), (ipv4(17, UDP, 0x3fff), "IPv4 -> 17", 1)]
+               (ipv4(51, bytes(24), 0x0001), "IPv4 -> 51", 1), (ipv4(17, UDP, 0x3fff), "IPv4 -> 17", 1),
+               (LATER_FRAGMENT, "IPv6 44 -> 60", 1)]
     for packet, chain_text, fragments_wanted in packets:
         found, _ = harness.stat(content=capture([packet], RAW))
         harness.equal((found["chains"], found["fragments"], found["faults"]), ({chain_text: 1}, fragments_wanted, {}),
@@ -205,17 +217,48 @@ def forms_of_files(harness):
             harness.equal(harness.stat("-", content=content), (first, ""), "-", magic, order)
 
 
+# tshark's fields with the number that follows a header: the header's own number, and the field with its length.
+NEXT_FIELDS = {"ipv6.nxt": (None, None), "ip.proto": (None, None), "ipv6.hopopts.nxt": (0, "ipv6.hopopts.len_oct"),
+               "ipv6.routing.nxt": (43, "ipv6.routing.len_oct"), "ipv6.fraghdr.nxt": (44, None),
+               "ah.next_header": (51, "ah.length"), "ipv6.dstopts.nxt": (60, "ipv6.dstopts.len_oct")}
+
+
+def end_of_header(packet, field):
+    """Returns where the header with this next header field ends in the frame, by the length that tshark shows."""
+    length_name, at = NEXT_FIELDS[field.get("name")][1], int(field.get("pos"))
+    if length_name is None:
+        return at + (8 if field.get("name") == "ipv6.fraghdr.nxt" else 1)
+    for length in packet.iter("field"):
+        if length.get("name") == length_name and int(length.get("pos")) == at + 1:
+            # RFC 4302, section 2.2: in words of 4 bytes, minus 2. The other lengths are in bytes.
+            return at + (4 * (int(length.get("value"), 16) + 2) if length_name == "ah.length" else int(length.get("show")))
+    return at + 2048
+
+
+def is_later_fragment(packet):
+    offsets = [f.get("show") for f in packet.iter("field") if f.get("name") in ("ip.frag_offset", "ipv6.fraghdr.offset")]
+    return any(int(offset, 0) for offset in offsets)
+
+
+def is_fragment(packet):
+    flags = [f.get("show") for f in packet.iter("field") if f.get("name") in ("ip.flags.mf", "ipv6.fraghdr.more")]
+    return is_later_fragment(packet) or any(flag in ("1", "True") for flag in flags)
+
+
 def chain_in(packet):
-    """Returns the chain that tshark finds in a packet, from the next header fields."""
-    names = {"ipv6.nxt": None, "ip.proto": None, "ipv6.hopopts.nxt": 0, "ipv6.routing.nxt": 43, "ipv6.fraghdr.nxt": 44,
-             "ah.next_header": 51, "ipv6.dstopts.nxt": 60}
-    fields = [f for f in packet.iter("field") if f.get("name") in names]
+    """Returns the chain of the complete headers that tshark finds in a packet, from the next header fields."""
+    fields = [f for f in packet.iter("field") if f.get("name") in NEXT_FIELDS]
     fields.sort(key=lambda f: int(f.get("pos")))
     if not fields:
         return None
+    captured = int(packet.find("proto[@name='geninfo']/field[@name='caplen']").get("show"))
+    fields = [f for f in fields if end_of_header(packet, f) <= captured]
     version = 6 if fields[0].get("name") == "ipv6.nxt" else 4
-    numbers = [str(names[f.get("name")]) for f in fields[1:]]
-    return "IPv%d %s-> %d" % (version, ",".join(numbers) + " " if numbers else "", int(fields[-1].get("value"), 16))
+    numbers = [str(NEXT_FIELDS[f.get("name")][0]) for f in fields[1:]]
+    final = int(fields[-1].get("value"), 16)
+    is_truncated = final in (SHORT_NAMES if version == 6 else [51]) and not is_later_fragment(packet)
+    return "IPv%d %s-> %d%s" % (version, ",".join(numbers) + " " if numbers else "", final,
+                                " truncated" if is_truncated else "")
 
 
 def random_frames(count, seed):
@@ -236,18 +279,62 @@ def random_frames(count, seed):
     return frames
 
 
+def compare_with_tshark(harness, content, least):
+    """Compares the chains, final numbers and fragments of a capture, with at least so many different chains."""
+    path = harness.file(content)
+    fragments_off = ["-o", "ipv6.defragment:FALSE", "-o", "ip.defragment:FALSE"]
+    packets = list(ElementTree.fromstring(harness.tshark(path, *fragments_off, "-T", "pdml")).iter("packet"))
+    chains = collections.Counter(map(chain_in, packets))
+    not_ip = chains.pop(None, 0)
+    finals = collections.Counter()
+    for text, count in chains.items():
+        if not text.endswith(" truncated"):
+            finals[text.split()[-1]] += count
+    found, _ = harness.stat(path)
+    harness.check(len(chains) >= least, "chains that tshark finds:", len(chains))
+    harness.equal((found["chains"], found["final_numbers"], found["fragments"], found["not_ip"], found["packets"]),
+                  (chains, finals, sum(map(is_fragment, packets)), not_ip, len(packets)), "what tshark finds")
+
+
 def tshark_agrees(harness):
     """tshark finds the same chains."""
-    path = harness.file(capture(random_frames(400, 1)))
-    wanted = {}
-    for packet in ElementTree.fromstring(harness.tshark(path, "-T", "pdml")).iter("packet"):
-        text = chain_in(packet)
-        wanted[text] = wanted.get(text, 0) + 1
-    not_ip = wanted.pop(None)
-    found, _ = harness.stat(path)
-    harness.check(len(wanted) > 50, "chains that tshark finds:", len(wanted))
-    harness.equal((found["chains"], found["not_ip"], found["packets"]), (wanted, not_ip, 400),
-                  "chains that tshark finds")
+    compare_with_tshark(harness, capture(random_frames(400, 1)), 50)
+
+
+def jumbogram(numbers):
+    """Returns a packet whose length is in a jumbo payload option (RFC 2675, section 2), with these headers after it."""
+    following = chain(numbers, 17) + UDP + bytes(65536)
+    jumbo = struct.pack(">BBBBI", (numbers + [17])[0], 0, 0xC2, 4, 8 + len(following))
+    return ipv6(0, jumbo + following, payload_len=0)
+
+
+def odd_packets():
+    """Returns fragments of each kind, and packets whose length field is 0."""
+    following = options(17) + UDP
+    packets = [LATER_FRAGMENT]
+    for offset, more in [(0, 0), (0, 1), (1, 0), (1, 1), (8191, 1), (8191, 0)]:
+        for number in [60, 43, 51, 44, 17] if offset else [60]:
+            packets.append(ipv6(44, fragment(number, offset, more) + following))
+            packets.append(ipv6(60, options(44) + fragment(number, offset, more) + following))
+            packets.append(ipv4(number if offset else 17, following, more << 13 | offset))
+    packets += [jumbogram(numbers) for numbers in [[], [43], [60, 43], [43, 51, 60]]]
+    packets.append(ipv6(6, TCP, payload_len=0))
+    packets.append(ipv4(6, TCP, total_len=0))
+    packets.append(ipv4(51, authentication(6) + TCP, total_len=0))
+    return packets
+
+
+def tshark_agrees_on_odd_packets(harness):
+    """tshark finds the same chains in fragments, in packets without a length, and at every snap length."""
+    compare_with_tshark(harness, capture([ethernet(packet) for packet in odd_packets()], snap_len=200), 15)
+    for packet, base_len in [(ipv6(0, options(43, 1) + routing(51, 2) + authentication(44) + fragment(60)
+                                   + options(17, 1) + UDP), 40),
+                             (ipv6(0, options(44) + fragment(60, 185, 1) + options(17) + UDP), 40),
+                             (jumbogram([43, 51, 60])[:100], 40),
+                             (ipv4(51, authentication(17) + UDP), 20), (ipv4(51, authentication(17) + UDP, 3), 20)]:
+        frame = ethernet(packet)
+        records = [record(frame, kept) for kept in range(14 + base_len, len(frame) + 1)]
+        compare_with_tshark(harness, file_header() + b"".join(records), 1)
 
 
 def scapy_agrees(harness):
@@ -271,7 +358,7 @@ def scapy_agrees(harness):
 def tables(harness):
     """The human-readable output."""
     path = harness.file(capture([ethernet(ipv6_chain([0, 43])), ethernet(ipv6_chain([0, 43])), ethernet(ipv4(6, TCP)),
-                                 ethernet(ipv6(60, b"")), ethernet(bytes(46), (), 0x0806)]))
+                                 ethernet(ipv6(60, b"\x11")), ethernet(bytes(46), (), 0x0806)]))
     wanted = """packets
            5  all
            1  IPv4

@@ -67,6 +67,12 @@ impl Fault {
         layer_of(self.header)
     }
 
+    /// Returns the faulty extension header, if the error is about one.
+    #[inline]
+    pub(crate) fn extension_layer(&self) -> Option<Layer> {
+        (self.header != 0).then(|| layer_of(self.header))
+    }
+
     /// Returns the error of parsing an authentication header.
     #[inline]
     pub(crate) fn of_auth(&self) -> ip_auth::HeaderSliceError {

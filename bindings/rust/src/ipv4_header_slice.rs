@@ -1,6 +1,7 @@
 use crate::err::ipv4::{HeaderError, HeaderSliceError, SliceError};
 use crate::err::{Layer, LenError};
-use crate::{library, IpFragOffset, IpNumber, Ipv4Header, LenSource};
+use crate::library::{self, Base};
+use crate::{IpFragOffset, IpNumber, Ipv4Header, LenSource};
 use core::net::Ipv4Addr;
 
 /// A borrowed IPv4 header with its options (RFC 791, section 3.1). Two headers are equal if their bytes are.
@@ -18,21 +19,16 @@ impl<'a> Ipv4HeaderSlice<'a> {
     /// 5; there are fewer bytes than it states.
     pub fn from_slice(slice: &'a [u8]) -> Result<Ipv4HeaderSlice<'a>, HeaderSliceError> {
         check_version(slice)?;
-        // The library parses whole packets. If the total length is 0, its error reports the length of the IPv4 header.
-        let mut front = [0; 60];
-        let len = slice.len().min(front.len());
-        front[..len].copy_from_slice(&slice[..len]);
-        front[2..4].fill(0);
-        let Err(fault) = library::parse_packet(&front[..len]) else {
-            unreachable!("a packet has some bytes");
-        };
-        match fault.of_ipv4_packet() {
-            SliceError::Len(e) if e.layer == Layer::Ipv4Packet => {
-                Ok(Self::of_parsed(&slice[..e.required_len]))
-            }
+        let packet = library::dissect(slice);
+        if let Some(Base::Ipv4(base)) = packet.base {
+            return Ok(Self::of_parsed(base));
+        }
+        match packet.found.fault.of_ipv4_packet() {
             SliceError::Len(e) => Err(HeaderSliceError::Len(e)),
             SliceError::Header(e) => Err(HeaderSliceError::Content(e)),
-            SliceError::Exts(_) => unreachable!("the packet has no extension headers"),
+            SliceError::Exts(_) => {
+                unreachable!("without an IPv4 header there are no extension headers")
+            }
         }
     }
 

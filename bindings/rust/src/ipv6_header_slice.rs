@@ -1,6 +1,7 @@
 use crate::err::ipv6::{HeaderError, HeaderSliceError, SliceError};
 use crate::err::{Layer, LenError};
-use crate::{library, IpNumber, Ipv6Header, LenSource};
+use crate::library::{self, Base};
+use crate::{IpNumber, Ipv6Header, LenSource};
 use core::net::Ipv6Addr;
 
 /// A borrowed IPv6 header (RFC 8200, section 3). Two headers are equal if their bytes are.
@@ -17,19 +18,17 @@ impl<'a> Ipv6HeaderSlice<'a> {
     /// Checked in this order: there are fewer than 40 bytes; the version isn't 6.
     pub fn from_slice(slice: &'a [u8]) -> Result<Ipv6HeaderSlice<'a>, HeaderSliceError> {
         check_version(slice)?;
-        // The library parses whole packets. Given only an IPv6 header, it either accepts it, or reports that the
-        // extension headers after it are missing.
-        let front = &slice[..slice.len().min(Ipv6Header::LEN)];
-        let error = library::parse_packet_lax(front)
-            .err()
-            .map(|fault| fault.of_ipv6_packet());
-        match (error, front.first_chunk()) {
-            (Some(SliceError::Len(e)), _) if e.layer == Layer::Ipv6Header => {
-                Err(HeaderSliceError::Len(e))
+        // Without the bytes after the IPv6 header, the library parses nothing else.
+        let packet = library::dissect(&slice[..slice.len().min(Ipv6Header::LEN)]);
+        if let Some(Base::Ipv6(base)) = packet.base {
+            return Ok(Self::of_parsed(base));
+        }
+        match packet.found.fault.of_ipv6_packet() {
+            SliceError::Len(e) => Err(HeaderSliceError::Len(e)),
+            SliceError::Header(e) => Err(HeaderSliceError::Content(e)),
+            SliceError::Exts(_) => {
+                unreachable!("without an IPv6 header there are no extension headers")
             }
-            (Some(SliceError::Header(e)), _) => Err(HeaderSliceError::Content(e)),
-            (_, Some(base)) => Ok(Self::of_parsed(base)),
-            (_, None) => unreachable!("fewer than 40 bytes are a length error"),
         }
     }
 

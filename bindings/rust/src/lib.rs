@@ -21,6 +21,9 @@
 //! assert_eq!(error.to_string(), "not enough bytes for Ipv6Packet at offset 0: 56 needed, 50 there by Slice");
 //! # Ok::<(), SliceError>(())
 //! ```
+//!
+//! To filter or count packets as they were captured, use [`Dissection`]: it has a result for truncated packets and for
+//! fragments, of which `IpSlice` parses the payload as headers even if the fragment offset isn't 0.
 #![no_std]
 #![deny(unsafe_code)]
 #![forbid(unsafe_op_in_unsafe_fn)]
@@ -34,6 +37,7 @@ extern crate std;
 #[doc = include_str!("../README.md")]
 struct Readme;
 
+mod dissection;
 pub mod err;
 mod faults;
 mod ip_auth_header_slice;
@@ -58,6 +62,7 @@ mod len_source;
 mod library;
 mod parse_packet;
 
+pub use dissection::{BaseHeader, Dissection, End, Fragment, FragmentKind};
 #[allow(deprecated)]
 pub use ip_auth_header_slice::{IpAuthHeaderSlice, IpAuthenticationHeaderSlice};
 pub use ip_frag_offset::IpFragOffset;

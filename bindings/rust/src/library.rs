@@ -53,6 +53,26 @@ pub(crate) struct Payload {
     pub len_source: u16,
 }
 
+/// `struct wolfaren_dissection`: the packet at the start of any bytes, as far as it is there.
+#[repr(C)]
+#[derive(Clone, Copy, Debug)]
+pub(crate) struct Dissection {
+    pub base_len: usize,
+    pub stated_len: usize,
+    pub headers: usize,
+    pub payload_offset: usize,
+    pub payload_len: usize,
+    pub missing: usize,
+    pub padding: usize,
+    pub fault: Fault,
+    pub identification: u32,
+    pub fragment_offset: u32,
+    pub version: u16,
+    pub payload_number: u16,
+    pub fragment: u16,
+    pub end: u16,
+}
+
 /// `struct wolfaren_cursor`: a position in a chain. Any offset and number are a valid cursor.
 #[repr(C)]
 #[derive(Clone, Copy, Debug)]
@@ -68,6 +88,7 @@ const _: () = {
     assert!(size_of::<Header>() == 24);
     assert!(size_of::<Chain>() == 56);
     assert!(size_of::<Payload>() == 32);
+    assert!(size_of::<Dissection>() == 104);
     assert!(size_of::<Cursor>() == 16);
 };
 
@@ -116,6 +137,14 @@ unsafe extern "C" {
         payload: *mut Payload,
         fault: *mut Fault,
     ) -> bool;
+
+    fn wolfaren_dissect(
+        bytes: *const u8,
+        len: usize,
+        headers: *mut Header,
+        room: usize,
+        dissection: *mut Dissection,
+    );
 
     #[cfg(test)]
     fn wolfaren_fault_text(fault: *const Fault, text: *mut u8, room: usize) -> usize;
@@ -200,6 +229,7 @@ pub(crate) fn fault_at(cursor: &Cursor, bytes: &[u8]) -> Fault {
 type FindPayload = unsafe extern "C" fn(*const u8, usize, *mut Payload, *mut Fault) -> bool;
 
 /// An IP header, with its options.
+#[derive(Clone, Copy)]
 pub(crate) enum Base<'a> {
     Ipv4(&'a [u8]),
     Ipv6(&'a [u8; 40]),
@@ -270,6 +300,46 @@ unsafe fn split_packet(find: FindPayload, bytes: &[u8]) -> Result<Parts<'_>, Fau
     })
 }
 
+/// The parts of a dissected packet and the bytes after it, one after another, and the library's results about them.
+pub(crate) struct DissectedParts<'a> {
+    pub base: Option<Base<'a>>,
+    pub extensions: &'a [u8],
+    pub payload: &'a [u8],
+    pub padding: &'a [u8],
+    pub found: Dissection,
+}
+
+/// Dissects the packet at the start of the bytes.
+#[inline(always)]
+pub(crate) fn dissect(bytes: &[u8]) -> DissectedParts<'_> {
+    let mut found = MaybeUninit::uninit();
+    // SAFETY: the bytes are a slice, which the call only reads. The array has no elements and may be null. `found` has
+    // room for a dissection and doesn't overlap the bytes, and the call writes all of its fields.
+    let found: Dissection = unsafe {
+        wolfaren_dissect(
+            bytes.as_ptr(),
+            bytes.len(),
+            ptr::null_mut(),
+            0,
+            found.as_mut_ptr(),
+        );
+        found.assume_init()
+    };
+    let (packet, padding) = bytes.split_at(found.payload_offset + found.payload_len);
+    let (headers, payload) = packet.split_at(found.payload_offset);
+    let (base, extensions) = headers.split_at(found.base_len);
+    DissectedParts {
+        base: match found.version {
+            4 => Some(Base::Ipv4(base)),
+            _ => base.first_chunk().map(Base::Ipv6),
+        },
+        extensions,
+        payload,
+        padding,
+        found,
+    }
+}
+
 /// Returns the library's text for a fault.
 #[cfg(test)]
 pub(crate) fn fault_text(fault: &Fault) -> std::string::String {
@@ -282,7 +352,7 @@ pub(crate) fn fault_text(fault: &Fault) -> std::string::String {
 
 #[cfg(test)]
 mod tests {
-    use super::{Chain, Cursor, Fault, Header, Payload};
+    use super::{Chain, Cursor, Dissection, Fault, Header, Payload};
     use core::mem::{offset_of, size_of};
     use std::vec::Vec;
 
@@ -384,5 +454,23 @@ mod tests {
             len_source
         );
         check!(Cursor, "wolfaren_cursor", offset, number);
+        check!(
+            Dissection,
+            "wolfaren_dissection",
+            base_len,
+            stated_len,
+            headers,
+            payload_offset,
+            payload_len,
+            missing,
+            padding,
+            fault,
+            identification,
+            fragment_offset,
+            version,
+            payload_number,
+            fragment,
+            end
+        );
     }
 }

@@ -2,3 +2,4 @@ pub mod FitsLemmas
 pub mod AnswerLemmas
 pub mod Exts4Lemmas
 pub mod PacketLemmas
+pub mod DissectLemmas

@@ -1,5 +1,5 @@
 -- A request parsed by the plain program, as the tool's request.
-use Rattle.ipexts_tool.specs.Request.{Request, Exts6, Exts4, Rewrite6, RewriteAll6, Packet}
+use Rattle.ipexts_tool.specs.Request.{Request, Exts6, Exts4, Rewrite6, RewriteAll6, Packet, Dissect}
 use Rattle.ip_plain.specs.declared.answers.PlainRequest.{PlainRequest}
 use Rattle.ip_plain.specs.declared.answers.PlainRequest.TheVariants as plain
 
@@ -9,3 +9,4 @@ asked_by (plain.Exts4 number bytes) = Exts4 (number, bytes.items)
 asked_by (plain.Rewrite6 number bytes) = Rewrite6 (number, bytes.items)
 asked_by (plain.RewriteAll6 number bytes) = RewriteAll6 (number, bytes.items)
 asked_by (plain.Packet bytes) = Packet bytes.items
+asked_by (plain.Dissect bytes) = Dissect bytes.items

@@ -1,6 +1,6 @@
 //! The tool's answers computed in the simplest way, in memory and line by line. It is slow, and shares no code with
 //! the tool. It uses the library's parse and `write` for `rewrite6`, and its runs for `rewriteall6`.
-ghost use Rattle.std.specs.Prelude.{◌≡◌, ◌++◌, ◌==◌, ◌^◌, ◌<◌, length, map};
+ghost use Rattle.std.specs.Prelude.{◌≡◌, ◌++◌, ◌==◌, ◌+◌, ◌^◌, ◌<◌, length, map};
 ghost use Rattle.std.specs.Prelude.{[], ◌∷◌, slice_index, IfOk, OnOk, string_bytes};
 ghost use Rattle.std.specs.List.{slice_split};
 ghost use Rattle.std.specs.Option.{option_map};
@@ -27,6 +27,7 @@ ghost use Rattle.ip_plain.specs.Digits.{byte_of_digits};
 ghost use Rattle.ip_plain.specs.PlainRequest.{asked_by};
 
 use crate::chain::{PlainHeader, next_len, plain_longest_chain};
+use crate::dissect::push_dissect;
 use crate::fault::plain_fault;
 use crate::packet::push_packet;
 use crate::runs::write_runs;
@@ -94,6 +95,7 @@ fn push_answer(alloc: Global, line: &[u8], text: &mut String) -> Result<(), Allo
             push_rewriteall6(alloc, number, &bytes, text)
         }
         Some(PlainRequest::Packet(bytes)) => push_packet(alloc, &bytes, text),
+        Some(PlainRequest::Dissect(bytes)) => push_dissect(alloc, &bytes, text),
         None => text.push_str(BAD_LINE),
     }
 }
@@ -106,6 +108,7 @@ enum PlainRequest {
     Rewrite6(u8, Vec<u8>),
     RewriteAll6(u8, Vec<u8>),
     Packet(Vec<u8>),
+    Dissect(Vec<u8>),
 }
 
 /// Parses the request in the fields of a line.
@@ -132,6 +135,10 @@ fn plain_packet(
     if form == b"packet".as_slice() {
         let bytes = plain_bytes(alloc, digits)?;
         return Ok(bytes.map(PlainRequest::Packet));
+    }
+    if form == b"dissect".as_slice() {
+        let bytes = plain_bytes(alloc, digits)?;
+        return Ok(bytes.map(PlainRequest::Dissect));
     }
     Ok(None)
 }
@@ -241,8 +248,8 @@ fn push_exts6(alloc: Global, number: u8, bytes: &[u8], text: &mut String) -> Res
 {
     let chain = plain_longest_chain(alloc, number, bytes)?;
     let offset = bytes.len() - chain.rest.len();
-    push_headers(&chain.headers, text)?;
-    push_next(chain.number, chain.rest, text)?;
+    push_headers(0, &chain.headers, text)?;
+    push_next(chain.number, chain.rest.len(), text)?;
     let first = chain.headers.is_empty();
     push_chain_end(plain_fault(first, chain.number, chain.rest, offset), text)
 }
@@ -253,16 +260,16 @@ fn push_exts4(number: u8, bytes: &[u8], text: &mut String) -> Result<(), AllocEr
         (string_bytes text.new ≡ string_bytes text.old ++ exts4_answer number bytes.now) }
 {
     if number != 51 {
-        push_next(number, bytes, text)?;
+        push_next(number, bytes.len(), text)?;
         return push_ok(text);
     }
     let Some(len) = next_len(true, 51, bytes) else {
-        push_next(51, bytes, text)?;
+        push_next(51, bytes.len(), text)?;
         return push_auth_fault(bytes, text);
     };
     push_header(0, 51, len, text)?;
     let (_, rest) = bytes.split_at(len);
-    push_next(bytes[0], rest, text)?;
+    push_next(bytes[0], rest.len(), text)?;
     push_ok(text)
 }
 
@@ -279,7 +286,7 @@ fn push_rewrite6(
 {
     let (headers, next, rest, fault) = Ipv6Extensions::from_slice_lax(IpNumber(number), bytes);
     let written = rewritten(alloc, number, bytes, &headers)?;
-    push_next(next.0, rest, text)?;
+    push_next(next.0, rest.len(), text)?;
     push_written(&written, text)?;
     push_chain_end(fault, text)
 }
@@ -316,7 +323,7 @@ fn push_rewriteall6(
     let (count, written) = write_runs(alloc, IpNumber(number), bytes)?;
     let (_, next, rest, fault) = Ipv6ExtensionsSlice::from_slice_lax(IpNumber(number), bytes);
     write!(text, "runs {count} ")?;
-    push_next(next.0, rest, text)?;
+    push_next(next.0, rest.len(), text)?;
     push_written(&written, text)?;
     push_chain_end(fault, text)
 }
@@ -384,21 +391,24 @@ fn push_auth_fault(bytes: &[u8], text: &mut String) -> Result<(), AllocError>
 }
 
 /// Appends the number of what follows the headers, and its length in bytes.
-fn push_next(number: u8, rest: &[u8], text: &mut String) -> Result<(), AllocError>
+pub(crate) fn push_next(number: u8, len: usize, text: &mut String) -> Result<(), AllocError>
     ensures { OnOk result
-        (string_bytes text.new ≡ string_bytes text.old ++ next_line number (length rest.now)) }
+        (string_bytes text.new ≡ string_bytes text.old ++ next_line number len) }
 {
-    let len = rest.len();
     writeln!(text, "next {number} rest {len}")
 }
 
-/// Appends a line for each header.
-fn push_headers(headers: &[PlainHeader<'_>], text: &mut String) -> Result<(), AllocError>
-    requires { length (bytes_of (map plain_header_of headers.now)) < 2 ^ 64 }
+/// Appends a line for each header, the first of which is at the offset.
+pub(crate) fn push_headers(
+    start: usize,
+    headers: &[PlainHeader<'_>],
+    text: &mut String,
+) -> Result<(), AllocError>
+    requires { start + length (bytes_of (map plain_header_of headers.now)) < 2 ^ 64 }
     ensures { OnOk result (string_bytes text.new
-        ≡ string_bytes text.old ++ header_lines 0 (map plain_header_of headers.now)) }
+        ≡ string_bytes text.old ++ header_lines start (map plain_header_of headers.now)) }
 {
-    let mut offset = 0;
+    let mut offset = start;
     for header in headers {
         let len = header.bytes.len();
         push_header(offset, header.number, len, text)?;

@@ -5,9 +5,11 @@
 
 mod answers;
 mod chain;
+mod dissect;
 mod fault;
 mod fits;
 mod packet;
+mod plain_dissection;
 mod plain_packet;
 mod runs;
 

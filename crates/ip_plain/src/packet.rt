@@ -1,7 +1,7 @@
 //! The answer to `packet`, built in the simplest way.
 ghost use Rattle.std.specs.Prelude.{◌≡◌, ◌++◌, codes, OnOk, string_bytes};
 ghost use Rattle.etherparse_ip.specs.Packet.{Parts};
-ghost use Rattle.ipexts_tool.specs.Faults.{len_fault_text, headers_fault_text};
+ghost use Rattle.ipexts_tool.specs.Faults.{len_text, len_fault_text, headers_fault_text, packet_fault_text};
 ghost use Rattle.ipexts_tool.specs.PacketAnswer.{yes_or_no, lengths_line, payload_line, parts_lines};
 ghost use Rattle.ipexts_tool.specs.PacketAnswer.{fault_line, packet_answer};
 ghost use Rattle.ip_plain.specs.PlainPacket.{HasLengthsOf};
@@ -87,23 +87,36 @@ fn push_ok(text: &mut String) -> Result<(), AllocError>
 fn push_fault(fault: &SliceError, text: &mut String) -> Result<(), AllocError>
     ensures { OnOk result (string_bytes text.new ≡ string_bytes text.old ++ fault_line fault.now) }
 {
-    match fault {
-        SliceError::Len(fault) => push_len_fault(fault, text)?,
-        SliceError::IpHeaders(fault) => push_headers_fault(fault, text)?,
-    }
+    push_fault_text(fault, text)?;
     text.push_str("\n")
+}
+
+/// Appends the text of a packet's error, without a newline.
+pub(crate) fn push_fault_text(fault: &SliceError, text: &mut String) -> Result<(), AllocError>
+    ensures { OnOk result
+        (string_bytes text.new ≡ string_bytes text.old ++ packet_fault_text fault.now) }
+{
+    match fault {
+        SliceError::Len(fault) => push_len_fault(fault, text),
+        SliceError::IpHeaders(fault) => push_headers_fault(fault, text),
+    }
 }
 
 /// Appends a length error.
 fn push_len_fault(e: &LenError, text: &mut String) -> Result<(), AllocError>
     ensures { OnOk result (string_bytes text.new ≡ string_bytes text.old ++ len_fault_text e.now) }
 {
+    text.push_str("fault ")?;
+    push_len(e, text)
+}
+
+/// Appends how many bytes are required and how many there are.
+pub(crate) fn push_len(e: &LenError, text: &mut String) -> Result<(), AllocError>
+    ensures { OnOk result (string_bytes text.new ≡ string_bytes text.old ++ len_text e.now) }
+{
     let (required, len, offset) = (e.required_len, e.len, e.layer_start_offset);
     let (source, layer) = (e.len_source.name(), e.layer.name());
-    write!(
-        text,
-        "fault len {required} of {len} {source} {layer} at {offset}"
-    )
+    write!(text, "len {required} of {len} {source} {layer} at {offset}")
 }
 
 /// Appends the error in the bytes of a packet's headers.

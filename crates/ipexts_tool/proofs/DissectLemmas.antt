@@ -35,7 +35,7 @@ answer_some s d b h some =
     let v : (dissected s).version ≡ version_in b = sym h.version ∙ ap (λ o. option_map_or version_in o 0) some in
     lines_if (dissected s).version _ _ (λ z. has_version b (sym v ∙ z))
 
-six_joined : (old a b c d e f t₁ t₂ t₃ t₄ t₅ t₆ : List ℕ) → t₁ ≡ old ++ a → t₂ ≡ t₁ ++ b → t₃ ≡ t₂ ++ c → t₄ ≡ t₃ ++ d → t₅ ≡ t₄ ++ e → t₆ ≡ t₅ ++ f → t₆ ≡ old ++ (a ++ b ++ c ++ d ++ e ++ f)
+pub six_joined : (old a b c d e f t₁ t₂ t₃ t₄ t₅ t₆ : List ℕ) → t₁ ≡ old ++ a → t₂ ≡ t₁ ++ b → t₃ ≡ t₂ ++ c → t₄ ≡ t₃ ++ d → t₅ ≡ t₄ ++ e → t₆ ≡ t₅ ++ f → t₆ ≡ old ++ (a ++ b ++ c ++ d ++ e ++ f)
 six_joined old a b c d e f t₁ t₂ t₃ t₄ t₅ t₆ p q r u v w = rw (w, v, u, r, q, p) (simp append_assoc)
 
 -- the lines for the parts of a dissection with the base header b

@@ -7,7 +7,7 @@ use Rattle.ip_plain.proofs.answers.push_headers.Given as goal
 abbrev pub invariant-loop-header : goal.invariant-loop-header
 invariant-loop-header l = record {
   lines : string_bytes l.text ++ header_lines l.offset (map plain_header_of (drop l.header-index l.headers))
-      ≡ string_bytes l.fn.text ++ header_lines 0 (map plain_header_of l.headers);
+      ≡ string_bytes l.fn.text ++ header_lines l.start (map plain_header_of l.headers);
   after : l.offset + length (bytes_of (map plain_header_of (drop l.header-index l.headers)))
-      ≡ length (bytes_of (map plain_header_of l.headers));
+      ≡ l.start + length (bytes_of (map plain_header_of l.headers));
 }

@@ -3,7 +3,8 @@
 # make test           compare the documented contracts, errors and figures with the code and the recorded run, run the
 #                     merge gate, check the spelling, and test the program, the library, ipcap, the package and the
 #                     page, and 20,000 comparisons with etherparse
-# make lib            build the static C library and its header in build/
+# make lib            build the static C library and its header in build/ (TARGET=aarch64: for ARM64, in build/aarch64/,
+#                     with its shared library if Debian's cross-compiler is there)
 # make programs       build the shared library and the programs ipexts and ipcap, which needs a C compiler and libpcap
 # make install        install what `make programs` has built: the library, the programs and their manual pages. Needs
 #                     neither rt nor a compiler (PREFIX=/usr/local, also LIBDIR, BINDIR, INCLUDEDIR and MANDIR;
@@ -11,7 +12,8 @@
 # make install-lib    install the library alone: the archive of `make lib`, and the shared library if it is built
 # make uninstall      remove what `make install` installs
 # make dist           pack library, programs, page and Rust package for machines without Rattle, as
-#                     build/wolfaren-VERSION-MACHINE-linux.tar.gz
+#                     build/wolfaren-VERSION-x86_64-linux.tar.gz, and without the programs for ARM64
+# make deb            make Debian packages of library, header and ipcap, in build/ (MAINTAINER='NAME <ADDRESS>')
 # make test-c         test the library, ipcap, and the package in bindings/rust
 # make page           build the files that page/index.html needs
 # make test-page      test that page in Chromium
@@ -29,7 +31,7 @@
 #
 # The last eight and make test-c take CARGO_FLAGS="..", additional flags for Cargo, such as one that locates the crate
 # on a machine without network access.
-.PHONY: run try test lib programs install install-lib uninstall dist test-c page test-page mutants memory bench bench-border cost diff diff-test diff-fields fuzz fuzz-test
+.PHONY: run try test lib lib-x86_64 lib-aarch64 programs install install-lib uninstall dist deb test-c page test-page mutants memory bench bench-border cost diff diff-test diff-fields fuzz fuzz-test
 .SILENT:
 
 RT_IS_THERE = command -v rt >/dev/null || { \
@@ -65,7 +67,12 @@ test:
 
 VERSION = 0.1.0
 
-lib:
+TARGET = x86_64
+ARM64_CC = aarch64-linux-gnu-gcc
+
+lib: lib-$(TARGET)
+
+lib-x86_64:
 	$(RT_IS_THERE)
 	$(PYTHON_IS_THERE)
 	scripts/prove ipexts_c
@@ -73,6 +80,20 @@ lib:
 	rm -f build/libwolfaren.so.0
 	cp crates/ipexts_c/out/libipexts_c.a build/libwolfaren.a
 	cp include/wolfaren.h build/
+
+# the archive is moved, so that none of another machine is left beside the proofs
+lib-aarch64:
+	$(RT_IS_THERE)
+	$(PYTHON_IS_THERE)
+	scripts/prove ipexts_c
+	mkdir -p build/aarch64
+	rm -f build/aarch64/libwolfaren.so.0
+	cd crates/ipexts_c && rt lib --target aarch64-unknown-linux-gnu >> ../../build/prove.log 2>&1 || { \
+		echo "ipexts_c could not be built for ARM64; build/prove.log has the output of the tools" >&2; exit 1; }
+	mv crates/ipexts_c/out/libipexts_c.a build/aarch64/libwolfaren.a
+	cp include/wolfaren.h build/aarch64/
+	! command -v $(ARM64_CC) >/dev/null || $(MAKE) -C programs shared CC=$(ARM64_CC) LIB=$(CURDIR)/build/aarch64 \
+		OUT=$(CURDIR)/build/aarch64
 
 programs: lib
 	$(PCAP_IS_THERE)
@@ -87,14 +108,15 @@ INCLUDEDIR = $(PREFIX)/include
 MANDIR = $(PREFIX)/share/man
 DESTDIR =
 INSTALL = install
+BUILD = build
 
 install-lib:
-	[ -f build/libwolfaren.a ] || { echo "There is nothing to install: run 'make lib' first." >&2; exit 1; }
+	[ -f $(BUILD)/libwolfaren.a ] || { echo "There is nothing to install: run 'make lib' first." >&2; exit 1; }
 	$(INSTALL) -d $(DESTDIR)$(INCLUDEDIR) $(DESTDIR)$(LIBDIR)/pkgconfig
-	$(INSTALL) -m 644 build/wolfaren.h $(DESTDIR)$(INCLUDEDIR)/
-	$(INSTALL) -m 644 build/libwolfaren.a $(DESTDIR)$(LIBDIR)/
-	if [ -f build/libwolfaren.so.0 ]; then \
-		$(INSTALL) -m 644 build/libwolfaren.so.0 $(DESTDIR)$(LIBDIR)/ && \
+	$(INSTALL) -m 644 $(BUILD)/wolfaren.h $(DESTDIR)$(INCLUDEDIR)/
+	$(INSTALL) -m 644 $(BUILD)/libwolfaren.a $(DESTDIR)$(LIBDIR)/
+	if [ -f $(BUILD)/libwolfaren.so.0 ]; then \
+		$(INSTALL) -m 644 $(BUILD)/libwolfaren.so.0 $(DESTDIR)$(LIBDIR)/ && \
 		ln -sf libwolfaren.so.0 $(DESTDIR)$(LIBDIR)/libwolfaren.so; fi
 	sed -e 's|@PREFIX@|$(PREFIX)|; s|@INCLUDEDIR@|$(INCLUDEDIR)|; s|@LIBDIR@|$(LIBDIR)|; s|@VERSION@|$(VERSION)|' \
 		include/wolfaren.pc.in > $(DESTDIR)$(LIBDIR)/pkgconfig/wolfaren.pc
@@ -114,6 +136,10 @@ uninstall:
 
 dist: programs page
 	scripts/dist
+	! command -v $(ARM64_CC) >/dev/null || { $(MAKE) lib TARGET=aarch64 && scripts/dist aarch64; }
+
+deb: programs
+	scripts/deb
 
 test-c: lib
 	$(PYTHON_IS_THERE)

@@ -16,7 +16,8 @@
  *
  * The library needs memcpy, memmove and memset, and nothing else. It is compiled for x86-64-v2 (SSE4.2) and the System
  * V calling convention. It uses SSE registers, the red zone below the stack pointer, and less than 1 KB of stack. A
- * kernel must therefore save the SSE registers around calls, and must not take an interrupt on the same stack.
+ * kernel must therefore save the SSE registers around calls, and must not take an interrupt on the same stack. For
+ * ARM64 it is compiled for ARMv8-A, the AAPCS64 calling convention and little-endian data, and may use vector registers.
  */
 #ifndef WOLFAREN_H
 #define WOLFAREN_H
@@ -31,6 +32,9 @@
 
 /* The version as one number, for #if: 10000 * major + 100 * minor + patch. */
 #define WOLFAREN_VERSION (10000 * WOLFAREN_VERSION_MAJOR + 100 * WOLFAREN_VERSION_MINOR + WOLFAREN_VERSION_PATCH)
+
+/* A checksum of the structs, codes and calls in this header, made by scripts/abi of the repository. */
+#define WOLFAREN_ABI 0xb86e4f52u
 
 #if !(defined(__x86_64__) && !defined(__ILP32__)) && !defined(_M_X64) && !defined(__aarch64__) && !defined(_M_ARM64)
 #error "libwolfaren needs a 64-bit machine: x86-64 or ARM64"
@@ -48,6 +52,15 @@
 #ifdef __cplusplus
 extern "C" {
 #endif
+
+/* Returns WOLFAREN_VERSION of the header that the library was built with. */
+uint32_t wolfaren_version(void);
+
+/*
+ * Returns WOLFAREN_ABI of the header that the library was built with. A program and a library with different values
+ * don't fit together: structs, codes or calls differ.
+ */
+uint32_t wolfaren_abi(void);
 
 /* Protocol numbers of the extension headers, as assigned by IANA. */
 enum {
@@ -296,8 +309,9 @@ struct wolfaren_payload {
 /*
  * Finds the payload of the IP packet at the start of the `len` bytes. Accepts and rejects the same packets as
  * wolfaren_parse_packet, and checks each extension header, but neither counts the headers nor reports their positions.
- * That makes it faster. What wolfaren_parse_packet says of fragments applies here too:
- * a filter must not rely on `payload->number` if `payload->fragmented` is 1. wolfaren_dissect distinguishes such packets.
+ * That makes it faster. What wolfaren_parse_packet says of fragments applies here too: a filter must not rely on
+ * `payload->number` if `payload->fragmented` is 1. wolfaren_dissect is the call for filters: it says which fragment a
+ * packet is, and stops at the payload of a later one.
  *
  * On success, returns true and fills in `payload`; `fault` is left unchanged. On error, returns false and stores the
  * error in `fault`; `payload` is left unchanged.
@@ -382,6 +396,53 @@ bool wolfaren_write_headers(const uint8_t *bytes, size_t len, const struct wolfa
  */
 size_t wolfaren_fault_text(const struct wolfaren_fault *fault, char *text, size_t room) WOLFAREN_NONNULL(1);
 
+/* A name of a code: ASCII with a terminating null byte, in the library's constant data. */
+struct wolfaren_name {
+    const char *text; /* valid as long as the library is loaded; never null */
+    size_t size;      /* number of bytes, with the null byte */
+};
+
+/*
+ * Stores the name of a code in `name`. A code without a name, such as 0 for no error, no layer or no length source, has
+ * the empty name. From C and C++, call wolfaren_kind_name and the others below, which return the text.
+ */
+void wolfaren_find_kind_name(uint8_t kind, struct wolfaren_name *name) WOLFAREN_NONNULL(2);
+void wolfaren_find_layer_name(uint8_t layer, struct wolfaren_name *name) WOLFAREN_NONNULL(2);
+void wolfaren_find_len_source_name(uint8_t len_source, struct wolfaren_name *name) WOLFAREN_NONNULL(2);
+void wolfaren_find_number_name(uint8_t number, struct wolfaren_name *name) WOLFAREN_NONNULL(2);
+
+/* Returns the name of a kind of error, such as "TooShort" for WOLFAREN_TOO_SHORT. */
+static inline const char *wolfaren_kind_name(uint8_t kind)
+{
+    struct wolfaren_name name;
+    wolfaren_find_kind_name(kind, &name);
+    return name.text;
+}
+
+/* Returns the name of a header or packet, as wolfaren_fault_text has it: "Ipv6HopByHopHeader". */
+static inline const char *wolfaren_layer_name(uint8_t layer)
+{
+    struct wolfaren_name name;
+    wolfaren_find_layer_name(layer, &name);
+    return name.text;
+}
+
+/* Returns the name of a length source, as wolfaren_fault_text has it: "Slice". */
+static inline const char *wolfaren_len_source_name(uint8_t len_source)
+{
+    struct wolfaren_name name;
+    wolfaren_find_len_source_name(len_source, &name);
+    return name.text;
+}
+
+/* Returns the keyword that IANA has assigned to a protocol number: "TCP" for 6, "IPv6-Frag" for 44. */
+static inline const char *wolfaren_number_name(uint8_t number)
+{
+    struct wolfaren_name name;
+    wolfaren_find_number_name(number, &name);
+    return name.text;
+}
+
 #ifdef __cplusplus
 }
 #endif
@@ -404,6 +465,7 @@ WOLFAREN_LAYOUT(wolfaren_packet, 40, len_source, 38);
 WOLFAREN_LAYOUT(wolfaren_payload, 32, len_source, 30);
 WOLFAREN_LAYOUT(wolfaren_fragment, 8, next_header, 7);
 WOLFAREN_LAYOUT(wolfaren_authentication, 24, next_header, 16);
+WOLFAREN_LAYOUT(wolfaren_name, 16, size, 8);
 #undef WOLFAREN_LAYOUT
 #endif
 

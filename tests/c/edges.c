@@ -1,4 +1,4 @@
-/* Tests what the lines don't cover: short arrays, null, error texts, cursors anywhere, fields of single headers. */
+/* Tests what the lines don't cover: short arrays, null, error texts, cursors anywhere, fields of single headers, names, versions. */
 #include "wolfaren.h"
 
 #include <stdio.h>
@@ -189,6 +189,58 @@ static void payloads(void)
     check(payload.len_source == WOLFAREN_SLICE, "the length source");
 }
 
+static void check_name(const char *name, const char *wanted)
+{
+    if (strcmp(name, wanted) != 0) {
+        fprintf(stderr, "edges: the name %s, expected %s\n", name, wanted);
+        exit(1);
+    }
+}
+
+/* The names of kinds, of layers and length sources as error texts have them, and of numbers as IANA lists them. */
+static void names_of_codes(void)
+{
+    static const char *const KINDS[] = {"", "TooShort", "HopByHopNotAtStart", "ZeroPayloadLen", "UnsupportedIpVersion",
+                                        "Ipv4HeaderLength", ""};
+    static const char *const SOURCES[] = {"", "Slice", "Ipv4HeaderTotalLen", "Ipv6HeaderPayloadLen", ""};
+    static const struct {
+        uint8_t number;
+        const char *name;
+    } NUMBERS[] = {{0, "HOPOPT"}, {1, "ICMP"},        {4, "IPv4"},        {6, "TCP"},      {17, "UDP"},
+                   {41, "IPv6"},  {43, "IPv6-Route"}, {44, "IPv6-Frag"},  {50, "ESP"},     {51, "AH"},
+                   {61, ""},      {58, "IPv6-ICMP"},  {59, "IPv6-NoNxt"}, {60, "IPv6-Opts"}, {132, "SCTP"},
+                   {139, "HIP"},  {140, "Shim6"},     {148, ""},          {255, ""}};
+    for (uint8_t kind = 0; kind < 7; kind++) {
+        check_name(wolfaren_kind_name(kind), KINDS[kind]);
+    }
+    for (uint8_t source = 0; source < 5; source++) {
+        check_name(wolfaren_len_source_name(source), SOURCES[source]);
+    }
+    check_name(wolfaren_kind_name(255), "");
+    check_name(wolfaren_layer_name(WOLFAREN_NO_LAYER), "");
+    check_name(wolfaren_layer_name(200), "");
+    for (uint8_t layer = 1; layer < 12; layer++) {
+        const struct wolfaren_fault fault = {.kind = WOLFAREN_TOO_SHORT, .layer = layer, .len_source = WOLFAREN_SLICE};
+        char text[WOLFAREN_TEXT_ROOM], words[WOLFAREN_TEXT_ROOM];
+        check(wolfaren_fault_text(&fault, text, sizeof text) > 0, "the text of a layer");
+        const char *name = wolfaren_layer_name(layer);
+        snprintf(words, sizeof words, "not enough bytes for %s at offset 0: 0 needed, 0 there by Slice", name);
+        check_name(words, text);
+    }
+    for (size_t i = 0; i < sizeof NUMBERS / sizeof NUMBERS[0]; i++) {
+        check_name(wolfaren_number_name(NUMBERS[i].number), NUMBERS[i].name);
+    }
+    struct wolfaren_name name;
+    wolfaren_find_number_name(6, &name);
+    check(name.size == 4 && strcmp(name.text, "TCP") == 0, "a name's size");
+}
+
+static void version_of_the_library(void)
+{
+    check(wolfaren_version() == WOLFAREN_VERSION, "the library's version is the header's");
+    check(wolfaren_abi() == WOLFAREN_ABI, "the library's checksum is the header's");
+}
+
 int main(void)
 {
     arrays_of_each_length();
@@ -200,5 +252,7 @@ int main(void)
     headers_that_are_written();
     a_truncated_packet();
     payloads();
+    names_of_codes();
+    version_of_the_library();
     return 0;
 }

@@ -201,7 +201,7 @@ mod tests {
 
     /// Returns the value of a constant in the library's header.
     fn code(name: &str) -> u8 {
-        let page = include_str!("../../../include/wolfaren.h");
+        let page = include_str!(env!("WOLFAREN_HEADER"));
         page.lines()
             .find_map(|line| line.trim().strip_prefix(name))
             .and_then(|after| after.split([',', '/']).next())

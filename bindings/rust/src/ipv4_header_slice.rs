@@ -1,7 +1,7 @@
 use crate::err::ipv4::{HeaderError, HeaderSliceError, SliceError};
 use crate::err::{Layer, LenError};
 use crate::library::{self, Base};
-use crate::{IpNumber, Ipv4Header, LenSource};
+use crate::{IpFragOffset, IpNumber, Ipv4Header, LenSource};
 use core::net::Ipv4Addr;
 
 /// A borrowed IPv4 header with its options (RFC 791, section 3.1). Two headers are equal if their bytes are.
@@ -52,6 +52,89 @@ impl<'a> Ipv4HeaderSlice<'a> {
             Some(front) => front,
             None => unreachable!("an IPv4 header has 20 bytes at least"),
         }
+    }
+
+    /// Returns the differentiated services code point, of 6 bits (RFC 2474).
+    #[inline]
+    #[must_use]
+    pub fn dcp(&self) -> u8 {
+        self.front()[1] >> 2
+    }
+
+    /// Returns the bits of explicit congestion notification, 0 to 3 (RFC 3168).
+    #[inline]
+    #[must_use]
+    pub fn ecn(&self) -> u8 {
+        self.front()[1] & 0b11
+    }
+
+    /// Returns the number that all fragments of a packet share.
+    #[inline]
+    #[must_use]
+    pub fn identification(&self) -> u16 {
+        let front = self.front();
+        u16::from_be_bytes([front[4], front[5]])
+    }
+
+    /// Returns whether the packet may not be fragmented.
+    #[inline]
+    #[must_use]
+    pub fn dont_fragment(&self) -> bool {
+        self.front()[6] & 0b0100_0000 != 0
+    }
+
+    /// Returns whether more fragments follow.
+    #[inline]
+    #[must_use]
+    pub fn more_fragments(&self) -> bool {
+        self.front()[6] & 0b0010_0000 != 0
+    }
+
+    /// Returns where the fragment's data starts in the payload, in units of 8 bytes.
+    #[inline]
+    #[must_use]
+    pub fn fragments_offset(&self) -> IpFragOffset {
+        let front = self.front();
+        match IpFragOffset::try_new(u16::from_be_bytes([front[6] & 0x1f, front[7]])) {
+            Ok(offset) => offset,
+            Err(_) => unreachable!("the offset has 13 bits"),
+        }
+    }
+
+    /// Returns the time to live, in hops.
+    #[inline]
+    #[must_use]
+    pub fn ttl(&self) -> u8 {
+        self.front()[8]
+    }
+
+    /// Returns the header's checksum as it is written, which isn't checked.
+    #[inline]
+    #[must_use]
+    pub fn header_checksum(&self) -> u16 {
+        let front = self.front();
+        u16::from_be_bytes([front[10], front[11]])
+    }
+
+    /// Returns the options with their padding, 0 to 40 bytes.
+    #[inline]
+    #[must_use]
+    pub fn options(&self) -> &'a [u8] {
+        &self.slice[Ipv4Header::MIN_LEN..]
+    }
+
+    /// Returns the bytes of the source address.
+    #[inline]
+    #[must_use]
+    pub fn source(&self) -> [u8; 4] {
+        self.source_addr().octets()
+    }
+
+    /// Returns the bytes of the destination address.
+    #[inline]
+    #[must_use]
+    pub fn destination(&self) -> [u8; 4] {
+        self.destination_addr().octets()
     }
 
     /// Returns the length of the packet in bytes, including the header.

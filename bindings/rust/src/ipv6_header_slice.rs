@@ -45,6 +45,27 @@ impl<'a> Ipv6HeaderSlice<'a> {
         self.slice
     }
 
+    /// Returns the traffic class.
+    #[inline]
+    #[must_use]
+    pub fn traffic_class(&self) -> u8 {
+        self.slice[0] << 4 | self.slice[1] >> 4
+    }
+
+    /// Returns the flow label, of 20 bits.
+    #[inline]
+    #[must_use]
+    pub fn flow_label(&self) -> u32 {
+        u32::from_be_bytes([0, self.slice[1] & 0x0f, self.slice[2], self.slice[3]])
+    }
+
+    /// Returns the hop limit.
+    #[inline]
+    #[must_use]
+    pub fn hop_limit(&self) -> u8 {
+        self.slice[7]
+    }
+
     /// Returns the payload length: the number of bytes after the header. It is also 0 in a jumbogram, which has more
     /// bytes than fit into the field (RFC 2675).
     #[inline]

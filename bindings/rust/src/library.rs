@@ -92,6 +92,10 @@ const _: () = {
     assert!(size_of::<Cursor>() == 16);
 };
 
+/// `WOLFAREN_ABI`: the checksum of the header that this file was written for (`scripts/abi` of the repository).
+#[cfg(test)]
+pub(crate) const ABI: u32 = 0xb86e_4f52;
+
 unsafe extern "C" {
     fn wolfaren_parse_chain(
         first: u8,
@@ -144,6 +148,12 @@ unsafe extern "C" {
 
     #[cfg(test)]
     fn wolfaren_fault_text(fault: *const Fault, text: *mut u8, room: usize) -> usize;
+
+    #[cfg(test)]
+    fn wolfaren_version() -> u32;
+
+    #[cfg(test)]
+    fn wolfaren_abi() -> u32;
 }
 
 /// Parses the longest chain of IPv6 extension headers at the start of the bytes, beginning with the number `first`.
@@ -348,7 +358,7 @@ mod tests {
 
     /// Returns the size and the name of each field of a struct in the library's header.
     fn fields(name: &str) -> Vec<(usize, &'static str)> {
-        let page = include_str!("../../../include/wolfaren.h");
+        let page = include_str!(env!("WOLFAREN_HEADER"));
         let lines = page.lines().skip_while(|line| *line != name).skip(1);
         lines
             .take_while(|line| *line != "};")
@@ -394,6 +404,18 @@ mod tests {
             assert_eq!(offsets, [$(offset_of!($struct, $field)),+]);
             assert_eq!(len, size_of::<$struct>());
         };
+    }
+
+    #[test]
+    fn library_has_this_version_and_these_structs() {
+        let parts: Vec<u32> = env!("CARGO_PKG_VERSION")
+            .split('.')
+            .map(|part| part.parse().expect("a part is a number"))
+            .collect();
+        // SAFETY: the calls have no arguments.
+        let (version, abi) = unsafe { (super::wolfaren_version(), super::wolfaren_abi()) };
+        assert_eq!(version, 10_000 * parts[0] + 100 * parts[1] + parts[2]);
+        assert_eq!(abi, super::ABI);
     }
 
     #[test]

@@ -37,6 +37,38 @@ fn ipv6(payload_length: u8, next_header: u8, len: usize) -> Vec<u8> {
     bytes
 }
 
+/// An IPv4 header with each field of RFC 791, section 3.1, set: code point 46, both flags, offset 258, and options.
+#[test]
+fn fields_of_an_ipv4_header() {
+    let bytes = [
+        0x46, 0xb9, 0, 24, 0x12, 0x34, 0x61, 0x02, 64, 17, 0xab, 0xcd, 192, 0, 2, 1, 198, 51, 100,
+        2, 1, 1, 1, 0,
+    ];
+    let header = Ipv4HeaderSlice::from_slice(&bytes).unwrap();
+    assert_eq!((header.dcp(), header.ecn(), header.ttl()), (46, 1, 64));
+    assert!(header.dont_fragment() && header.more_fragments());
+    assert_eq!(header.identification(), 0x1234);
+    assert_eq!(header.fragments_offset().value(), 258);
+    assert_eq!(header.header_checksum(), 0xabcd);
+    assert_eq!(header.options(), [1, 1, 1, 0]);
+    assert_eq!(header.source(), [192, 0, 2, 1]);
+    assert_eq!(header.destination(), [198, 51, 100, 2]);
+    let bytes = ipv4(5, 20, 17, 20);
+    let header = Ipv4HeaderSlice::from_slice(&bytes).unwrap();
+    assert!(!header.dont_fragment() && !header.more_fragments() && header.options().is_empty());
+}
+
+/// An IPv6 header with traffic class 184, a flow label and hop limit 7 (RFC 8200, section 3).
+#[test]
+fn fields_of_an_ipv6_header() {
+    let mut bytes = [0; 40];
+    bytes[..8].copy_from_slice(&[0x6b, 0x8a, 0xbc, 0xde, 0, 0, 59, 7]);
+    let header = Ipv6HeaderSlice::from_slice(&bytes).unwrap();
+    assert_eq!(header.traffic_class(), 0xb8);
+    assert_eq!(header.flow_label(), 0xa_bcde);
+    assert_eq!(header.hop_limit(), 7);
+}
+
 #[test]
 fn raw_headers() {
     let bytes: Vec<u8> = [43, 1].into_iter().chain(2..24).collect();

@@ -5,10 +5,13 @@ ghost use Rattle.ip_spec.specs.Prefix.{IsPrefix};
 ghost use Rattle.ip_base.specs.Ipv4Header.{IsIpv4Header, ipv4_header_fault};
 ghost use Rattle.ip_base.specs.Ipv4Header.{total_len, is_ipv4_fragmenting, protocol};
 ghost use Rattle.ip_base.specs.Ipv4Header.{ipv4_source_octets, ipv4_destination_octets};
+ghost use Rattle.ip_base.specs.Ipv4Header.{ipv4_more_fragments, ipv4_fragment_offset};
+ghost use Rattle.ip_base.specs.BaseHeaderFields.{ipv4_dscp, ipv4_ecn, ipv4_identification, ipv4_dont_fragment};
+ghost use Rattle.ip_base.specs.BaseHeaderFields.{ipv4_ttl, ipv4_checksum, ipv4_options};
 
 use crate::err::ipv4::{HeaderError, HeaderSliceError};
 use crate::err::{Layer, LenError};
-use crate::{IpNumber, Ipv4Header};
+use crate::{IpFragOffset, IpNumber, Ipv4Header};
 use std::net::Ipv4Addr;
 
 /// The IPv4 base header with its options (RFC 791, section 3.1), borrowed from the caller's bytes. Two are equal if
@@ -72,6 +75,70 @@ impl<'a> Ipv4HeaderSlice<'a> {
         self.slice
     }
 
+    /// Returns the differentiated services code point, of 6 bits (RFC 2474).
+    pub fn dcp(&self) -> u8
+        ensures { result ≡ ipv4_dscp (bytes self.now) }
+    {
+        self.slice[1] / 4
+    }
+
+    /// Returns the bits of explicit congestion notification, 0 to 3 (RFC 3168).
+    pub fn ecn(&self) -> u8
+        ensures { result ≡ ipv4_ecn (bytes self.now) }
+    {
+        self.slice[1] % 4
+    }
+
+    /// Returns the number that all fragments of a packet share.
+    pub fn identification(&self) -> u16
+        ensures { result ≡ ipv4_identification (bytes self.now) }
+    {
+        u16::from_be_bytes([self.slice[4], self.slice[5]])
+    }
+
+    /// Returns whether the packet may not be fragmented.
+    pub fn dont_fragment(&self) -> bool
+        ensures { result ≡ ipv4_dont_fragment (bytes self.now) }
+    {
+        self.slice[6] & 0b0100_0000 != 0
+    }
+
+    /// Returns whether more fragments follow.
+    pub fn more_fragments(&self) -> bool
+        ensures { result ≡ ipv4_more_fragments (bytes self.now) }
+    {
+        self.slice[6] & 0b0010_0000 != 0
+    }
+
+    /// Returns where the fragment's data starts in the payload, in units of 8 bytes.
+    pub fn fragments_offset(&self) -> IpFragOffset
+        ensures { result ≡ ipv4_fragment_offset (bytes self.now) }
+    {
+        let units = u16::from(self.slice[6] & 0b0001_1111) * 256 + u16::from(self.slice[7]);
+        IpFragOffset::try_new(units).unwrap()
+    }
+
+    /// Returns the time to live, in hops.
+    pub fn ttl(&self) -> u8
+        ensures { result ≡ ipv4_ttl (bytes self.now) }
+    {
+        self.slice[8]
+    }
+
+    /// Returns the header's checksum as it is written, which isn't checked.
+    pub fn header_checksum(&self) -> u16
+        ensures { result ≡ ipv4_checksum (bytes self.now) }
+    {
+        u16::from_be_bytes([self.slice[10], self.slice[11]])
+    }
+
+    /// Returns the options with their padding, 0 to 40 bytes.
+    pub fn options(&self) -> &'a [u8]
+        ensures { result.now ≡ ipv4_options (bytes self.now) }
+    {
+        &self.slice[20..]
+    }
+
     /// Returns the packet's length in bytes, header included.
     pub fn total_len(&self) -> u16
         ensures { result ≡ total_len (bytes self.now) }
@@ -93,6 +160,30 @@ impl<'a> Ipv4HeaderSlice<'a> {
         let more_fragments = self.slice[6] & 0b0010_0000 != 0;
         let offset = u16::from_be_bytes([self.slice[6] & 0b0001_1111, self.slice[7]]);
         more_fragments | (offset != 0)
+    }
+
+    /// Returns the bytes of the source address.
+    pub fn source(&self) -> [u8; 4]
+        ensures { result ≡ ipv4_source_octets (bytes self.now) }
+    {
+        [
+            self.slice[12],
+            self.slice[13],
+            self.slice[14],
+            self.slice[15],
+        ]
+    }
+
+    /// Returns the bytes of the destination address.
+    pub fn destination(&self) -> [u8; 4]
+        ensures { result ≡ ipv4_destination_octets (bytes self.now) }
+    {
+        [
+            self.slice[16],
+            self.slice[17],
+            self.slice[18],
+            self.slice[19],
+        ]
     }
 
     /// Returns the source address.

@@ -6,6 +6,7 @@ ghost use Rattle.ip_base.specs.Ipv4Header.{version};
 ghost use Rattle.ip_base.specs.Ipv6Header.{IsIpv6Header, ipv6_header_fault};
 ghost use Rattle.ip_base.specs.Ipv6Header.{payload_length, ipv6_next_header};
 ghost use Rattle.ip_base.specs.Ipv6Header.{ipv6_source_octets, ipv6_destination_octets};
+ghost use Rattle.ip_base.specs.BaseHeaderFields.{ipv6_traffic_class, ipv6_flow_label, ipv6_hop_limit};
 
 use crate::err::ipv6::{HeaderError, HeaderSliceError};
 use crate::err::{Layer, LenError};
@@ -65,6 +66,29 @@ impl<'a> Ipv6HeaderSlice<'a> {
         ensures header { IsIpv6Header result.now }
     {
         self.slice
+    }
+
+    /// Returns the traffic class.
+    pub fn traffic_class(&self) -> u8
+        ensures { result ≡ ipv6_traffic_class (bytes self.now) }
+    {
+        self.slice[0] % 16 * 16 + self.slice[1] / 16
+    }
+
+    /// Returns the flow label, of 20 bits.
+    pub fn flow_label(&self) -> u32
+        ensures { result ≡ ipv6_flow_label (bytes self.now) }
+    {
+        u32::from(self.slice[1] % 16) * 65536
+            + u32::from(self.slice[2]) * 256
+            + u32::from(self.slice[3])
+    }
+
+    /// Returns the hop limit.
+    pub fn hop_limit(&self) -> u8
+        ensures { result ≡ ipv6_hop_limit (bytes self.now) }
+    {
+        self.slice[7]
     }
 
     /// Returns the number of bytes that follow the header in the packet; also 0 in a jumbogram, which is longer than

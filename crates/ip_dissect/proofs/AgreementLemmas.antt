@@ -14,7 +14,7 @@ use Rattle.etherparse_ip.specs.Packet.{Parts, IsIpv4Packet, IsIpv6Packet}
 use Rattle.etherparse_ip.specs.PartsIn.{ipv4_parts_in, ipv6_parts_in}
 use Rattle.etherparse_ip.specs.PacketFault.{ipv4_after, ipv6_after}
 use Rattle.etherparse_ip.proofs.BaseLemmas.{SaysIpv4, SaysIpv6, says_ipv4, says_ipv6}
-use Rattle.etherparse_ip.proofs.OnePacketLemmas.{ipv4_version, ipv6_version, ipv4_parts_are, ipv6_parts_are}
+use Rattle.etherparse_ip.proofs.OnePacketLemmas.{ipv4_parts_are, ipv6_parts_are}
 use Rattle.ip_dissect.specs.LaterDemand.{has_later, NothingAfterLater, nothing_after_later}
 use Rattle.ip_dissect.specs.Later.{chain_to_later}
 use Rattle.ip_dissect.specs.Extent.{packet_bytes, after_base, ipv4_stated, ipv6_stated, ipv4_chain, ipv4_chain_in, ipv6_chain}
@@ -42,7 +42,7 @@ after_is6 b s base prefix =
     ∙ ap (λ n. drop n (front (ipv6_len_source (payload_length s) (length s)) (payload_length s) s)) base.len
 
 parsed_begins6 : (s : List ℕ) (p : Parts) → IsIpv6Packet s p → BeginIpv6 s (take 40 s)
-parsed_begins6 s p k = header_begins6 s (ipv6_version s p k) (subst (λ b. IsIpv6Header b) (ap (λ (q : Parts). q.base) (ipv6_parts_are s p k)) k.base)
+parsed_begins6 s p k = header_begins6 s (subst (λ b. IsIpv6Header b) (ap (λ (q : Parts). q.base) (ipv6_parts_are s p k)) k.base)
 
 pub ipv6_agrees : (s : List ℕ) (p : Parts) → IsIpv6Packet s p → has_later (dissected s).headers ≡ false → HaveSameParts (dissected s) p
 ipv6_agrees s p k none =
@@ -78,7 +78,7 @@ pub chain_of : (b x : List ℕ) → ipv4_fragment_offset b ≡ 0 → ipv4_chain_
 chain_of b x e = rw e refl
 
 parsed_begins4 : (s : List ℕ) (p : Parts) → IsIpv4Packet s p → BeginIpv4 s (take (ipv4_header_len s) s)
-parsed_begins4 s p k = header_begins4 s (ipv4_version s p k) (subst (λ b. IsIpv4Header b) (ap (λ (q : Parts). q.base) (ipv4_parts_are s p k)) k.base)
+parsed_begins4 s p k = header_begins4 s (subst (λ b. IsIpv4Header b) (ap (λ (q : Parts). q.base) (ipv4_parts_are s p k)) k.base)
 
 parsed_enough : (s : List ℕ) (p : Parts) → IsIpv4Packet s p → length (take (ipv4_header_len s) s) ≤ total_len (take (ipv4_header_len s) s)
 parsed_enough s p k =

@@ -55,7 +55,7 @@ six_of s (Some z) v x y four e = absurd (omega (arith, e))
 base4 : (s : List ℕ) → base_end s ≡ None → version s ≡ 4 → (5 ≤ ihl s) × (ipv4_header_len s ≤ length s)
 base4 s none four = (grind (arith, common_steps), grind (arith, common_steps))
 
-base6 : (s : List ℕ) → base_end s ≡ None → (version s ≡ 4 → ⊥) → (version s ≡ 6) × (40 ≤ length s)
+pub base6 : (s : List ℕ) → base_end s ≡ None → (version s ≡ 4 → ⊥) → (version s ≡ 6) × (40 ≤ length s)
 base6 s none other = (grind (arith, common_steps), grind (arith, common_steps))
 
 -- bytes s start with the IPv4 base header b
@@ -105,20 +105,28 @@ none6 s six enough = grind (arith, common_steps)
 none4 : (s : List ℕ) → version s ≡ 4 → 5 ≤ ihl s → ipv4_header_len s ≤ length s → base_end s ≡ None
 none4 s four least enough = grind (arith, common_steps)
 
-pub header_begins6 : (s : List ℕ) → version s ≡ 6 → IsIpv6Header (take 40 s) → BeginIpv6 s (take 40 s)
-header_begins6 s six header =
-    let prefix : IsPrefix (take 40 s) s = prefix_taken 40 s in
-    let enough : 40 ≤ length s = omega (arith, prefix-length (take 40 s) s prefix, header.len) in
-    record { header = header; prefix = prefix; is = dissected-ipv6 s (take 40 s) (none6 s six enough) header prefix }
+pub begun6 : (s b : List ℕ) → IsIpv6Header b → IsPrefix b s → dissected s ≡ ipv6_dissected b s
+begun6 s b header prefix =
+    let says : SaysIpv6 b s = says_ipv6 b s header prefix in
+    dissected-ipv6 s b (none6 s (sym says.version ∙ header.version) (omega (arith, prefix-length b s prefix, header.len))) header prefix
 
-pub header_begins4 : (s : List ℕ) → version s ≡ 4 → IsIpv4Header (take (ipv4_header_len s) s) → BeginIpv4 s (take (ipv4_header_len s) s)
-header_begins4 s four header =
-    let b : List ℕ = take (ipv4_header_len s) s in
-    let prefix : IsPrefix b s = prefix_taken (ipv4_header_len s) s in
+pub begun4 : (s b : List ℕ) → IsIpv4Header b → IsPrefix b s → dissected s ≡ ipv4_dissected b s
+begun4 s b header prefix =
     let says : SaysIpv4 b s = says_ipv4 b s header prefix in
     let enough : ipv4_header_len s ≤ length s = omega (arith, prefix-length b s prefix, says.len) in
     let least : 5 ≤ ihl s = omega (arith, header.least, header.len, says.len) in
-    record { header = header; prefix = prefix; is = dissected-ipv4 s b (none4 s four least enough) header prefix }
+    dissected-ipv4 s b (none4 s (sym says.version ∙ header.version) least enough) header prefix
+
+pub header_begins6 : (s : List ℕ) → IsIpv6Header (take 40 s) → BeginIpv6 s (take 40 s)
+header_begins6 s header =
+    let prefix : IsPrefix (take 40 s) s = prefix_taken 40 s in
+    record { header = header; prefix = prefix; is = begun6 s (take 40 s) header prefix }
+
+pub header_begins4 : (s : List ℕ) → IsIpv4Header (take (ipv4_header_len s) s) → BeginIpv4 s (take (ipv4_header_len s) s)
+header_begins4 s header =
+    let b : List ℕ = take (ipv4_header_len s) s in
+    let prefix : IsPrefix b s = prefix_taken (ipv4_header_len s) s in
+    record { header = header; prefix = prefix; is = begun4 s b header prefix }
 
 -- bytes without a base header have no extension headers
 no_version_of : (s : List ℕ) (o : Option End) (v : ℕ) (x y : DissectedParts) → x.version ≡ 4 → y.version ≡ 6

@@ -6,3 +6,4 @@ pub mod DissectedLemmas
 pub mod JoinedLemmas
 pub mod AgreementLemmas
 pub mod AcceptedLemmas
+pub mod OutlineLemmas

@@ -1,5 +1,5 @@
 -- Why a dissection ends where it does. Offsets count from the start of the packet.
-use Rattle.std.specs.Prelude.{ℕ, ◌+◌, ◌-◌, List, length, nat_lt, Option, Some, None, ◌==◌, ◌&&◌, not, if◌then◌else◌}
+use Rattle.std.specs.Prelude.{ℕ, Bool, true, false, ◌+◌, ◌-◌, List, length, nat_lt, Option, Some, None, ◌==◌, ◌&&◌, not, if◌then◌else◌}
 use Rattle.std.specs.Option.{option_map, option_map_or}
 use Rattle.ip_spec.specs.Chain.{leads_to, bytes_of, is_empty}
 use Rattle.ip_spec.specs.Parse.{rest_after, fault_after}
@@ -56,6 +56,13 @@ auth_end t (auth.Content e) = end.Fault (IpHeaders (Ipv4Ext e)) None
 abbrev pub exts_end : Option ℕ → Fault → End
 exts_end t (exts.Len e, header) = len_end t Ipv6HeaderPayloadLen e (Some header)
 exts_end t (exts.Content e, header) = end.Fault (IpHeaders (Ipv6Ext e)) (Some header)
+
+-- it is an error
+abbrev pub has_error : End → Bool
+has_error end.Payload = false
+has_error end.LaterFragment = false
+has_error (end.Truncated e header) = true
+has_error (end.Fault e header) = true
 
 -- the end after an IPv4 base header b in bytes s
 abbrev pub ipv4_end : List ℕ → List ℕ → End

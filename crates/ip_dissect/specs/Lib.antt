@@ -5,4 +5,5 @@ pub mod Found
 pub mod Extent
 pub mod End
 pub mod Dissection
+pub mod Outline
 pub mod Agreement

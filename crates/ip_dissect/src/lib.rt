@@ -13,6 +13,7 @@ mod extensions;
 mod fields;
 mod fragment;
 mod ipv4_chain;
+mod outline;
 mod parts;
 mod walk;
 
@@ -21,4 +22,5 @@ pub use dissect_laws::{one_chain_to_a_later_fragment, truncated_bytes_keep_whole
 pub use dissection::{BaseHeader, Dissection};
 pub use end::End;
 pub use fragment::{Fragment, FragmentKind};
+pub use outline::{Outline, outline_packet};
 pub use parts::dissect;

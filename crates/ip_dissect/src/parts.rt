@@ -52,7 +52,7 @@ fn no_packet(bytes: &[u8], end: End) -> Dissection<'_>
 
 /// Returns the bytes of a packet whose base header has `base_len` bytes and states this length.
 #[inline(always)]
-fn packet_of<'a>(bytes: &'a [u8], base: &[u8], stated_len: Option<usize>) -> &'a [u8]
+pub(crate) fn packet_of<'a>(bytes: &'a [u8], base: &[u8], stated_len: Option<usize>) -> &'a [u8]
     ensures bytes { result.now ≡ packet_bytes base.now stated_len bytes.now }
 {
     let Some(stated_len) = stated_len else {
@@ -68,7 +68,7 @@ fn packet_of<'a>(bytes: &'a [u8], base: &[u8], stated_len: Option<usize>) -> &'a
 
 /// Returns how many bytes of the stated length are not among the `present`.
 #[inline(always)]
-fn missing(stated_len: Option<usize>, present: usize) -> usize
+pub(crate) fn missing(stated_len: Option<usize>, present: usize) -> usize
     ensures { result ≡ missing_of stated_len present }
 {
     match stated_len {

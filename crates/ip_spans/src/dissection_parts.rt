@@ -1,13 +1,14 @@
 ghost use Rattle.std.specs.Prelude.{◌≡◌, ◌+◌, ◌<◌, ◌≤◌, ◌^◌, ℕ, List, length};
 ghost use Rattle.std.specs.Option.{option_map_or};
 ghost use Rattle.ip_dissect.specs.Dissection.{DissectedParts, HasParts, dissected, base_of};
+ghost use Rattle.ip_dissect.specs.Outline.{HasOutline};
 ghost use Rattle.ip_spans.specs.HeaderSpan.{spans_from, filled};
 ghost use Rattle.ip_spans.specs.DissectionParts.{kind_code, fragment_code, end_code};
 ghost use Rattle.ip_spans.specs.DissectionParts.{dissection_parts, dissected_spans};
 
 use crate::fault_fields::FaultFields;
 use crate::header_span::{HeaderSpan, put_ipv4_span, put_spans};
-use ip_dissect::{Dissection, End, Fragment, FragmentKind, dissect};
+use ip_dissect::{Dissection, End, Fragment, FragmentKind, Outline, dissect, outline_packet};
 
 /// A dissected packet: its parts as lengths and offsets, which fragment it is, and why its headers end where they do.
 #[repr(C)]
@@ -53,24 +54,51 @@ pub fn dissect_packet(bytes: &[u8], spans: &mut [HeaderSpan], parts: &mut Dissec
     ensures within { parts.new.payload_offset + parts.new.payload_len + parts.new.padding
         ≡ length bytes.now }
 {
-    let packet = dissect(bytes);
-    let base_len = match &packet.base {
-        Some(base) => base.slice().len(),
-        None => 0,
-    };
-    if !spans.is_empty() {
-        put_extensions(&packet, base_len, spans);
+    match outline_packet(bytes) {
+        Some(outline) => parts.put_outline(&outline),
+        None => put_error(bytes, parts),
     }
-    parts.put(&packet, base_len);
+    if !spans.is_empty() {
+        put_dissected(bytes, spans);
+    }
 }
 
-/// Stores the spans of the packet's extension headers, the first of which is at the offset.
+/// Stores the spans of the extension headers of the packet at the start of bytes.
 #[inline(never)]
-fn put_extensions(packet: &Dissection<'_>, offset: usize, spans: &mut [HeaderSpan])
-    requires { offset + length packet.now.extensions.now < 2 ^ 64 }
-    ensures { (s : List ℕ) → HasParts (dissected s) packet.now
-        → spans.new ≡ filled (spans_from offset (dissected s).headers) spans.old }
+fn put_dissected(bytes: &[u8], spans: &mut [HeaderSpan])
+    ensures { spans.new ≡ filled (dissected_spans (dissected bytes.now)) spans.old }
 {
+    put_extensions(&dissect(bytes), spans);
+}
+
+/// Stores the parts of bytes whose headers end with an error, or that don't start with a base header.
+#[inline(never)]
+fn put_error(bytes: &[u8], parts: &mut DissectionParts)
+    ensures parts { parts.new ≡ dissection_parts (dissected bytes.now) }
+    ensures within { parts.new.payload_offset + parts.new.payload_len + parts.new.padding
+        ≡ length bytes.now }
+{
+    parts.put(&dissect(bytes));
+}
+
+/// Returns the length of the packet's base header, or 0.
+#[inline(always)]
+fn base_len_of(packet: &Dissection<'_>) -> usize
+    ensures { result ≡ length (base_of packet.now) }
+{
+    match &packet.base {
+        Some(base) => base.slice().len(),
+        None => 0,
+    }
+}
+
+/// Stores the spans of the packet's extension headers.
+fn put_extensions(packet: &Dissection<'_>, spans: &mut [HeaderSpan])
+    requires { length (base_of packet.now) + length packet.now.extensions.now < 2 ^ 64 }
+    ensures { (s : List ℕ) → HasParts (dissected s) packet.now
+        → spans.new ≡ filled (spans_from (length (base_of packet.now)) (dissected s).headers) spans.old }
+{
+    let offset = base_len_of(packet);
     if let Some(headers) = packet.ipv6_extensions() {
         put_spans(&headers, offset, spans);
         return;
@@ -81,13 +109,33 @@ fn put_extensions(packet: &Dissection<'_>, offset: usize, spans: &mut [HeaderSpa
 }
 
 impl DissectionParts {
-    /// Stores the fields of a dissection here, one by one. Its base header has `base_len` bytes.
+    /// Stores the fields of a packet whose headers end without an error here, one by one.
     #[inline(always)]
-    fn put(&mut self, packet: &Dissection<'_>, base_len: usize)
-        requires len { base_len ≡ length (base_of packet.now) }
-        requires fits { base_len + length packet.now.extensions.now < 2 ^ 64 }
+    fn put_outline(&mut self, outline: &Outline)
+        requires { outline.now.base_len + outline.now.extensions_len < 2 ^ 64 }
+        ensures { (p : DissectedParts) → HasOutline p outline.now → self.new ≡ dissection_parts p }
+    {
+        self.base_len = outline.base_len;
+        self.stated_len = outline.stated_len.unwrap_or(0);
+        self.headers = outline.header_count;
+        self.payload_offset = outline.base_len + outline.extensions_len;
+        self.payload_len = outline.payload_len;
+        self.missing = outline.missing;
+        self.padding = outline.padding_len;
+        self.fault.put(FaultFields::none());
+        self.put_fragment(outline.fragment);
+        self.version = u16::from(outline.version);
+        self.payload_number = u16::from(outline.next_header.0);
+        self.end = u16::from(outline.is_later_fragment);
+    }
+
+    /// Stores the fields of a dissection here, one by one.
+    #[inline(always)]
+    fn put(&mut self, packet: &Dissection<'_>)
+        requires { length (base_of packet.now) + length packet.now.extensions.now < 2 ^ 64 }
         ensures { (p : DissectedParts) → HasParts p packet.now → self.new ≡ dissection_parts p }
     {
+        let base_len = base_len_of(packet);
         self.base_len = base_len;
         self.stated_len = packet.stated_len.unwrap_or(0);
         self.headers = packet.header_count;

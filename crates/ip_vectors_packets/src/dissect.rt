@@ -3,29 +3,53 @@ use crate::samples::{ipv4_bytes, ipv6_bytes, len_error_at};
 use etherparse_ip::LenSource;
 use etherparse_ip::err::ip::{HeadersError, SliceError};
 use etherparse_ip::err::{Layer, LenError, ip_auth, ipv6_exts};
-use ip_dissect::{Dissection, End, Fragment, FragmentKind, dissect};
+use ip_dissect::{BaseHeader, End, Fragment, FragmentKind, dissect};
 use std::process::Abort;
 use std::test::Fail;
 
-/// The parts of a packet as numbers: the stated length, the length of the extension headers, the next header, the
-/// length of the payload, how many bytes are missing, and the length of the padding.
-type Numbers = (Option<usize>, usize, u8, usize, usize, usize);
+/// The parts of a packet as numbers: the length of the base header, the stated length, the length of the extension
+/// headers, the next header, the length of the payload, how many bytes are missing, and the length of the padding.
+type Numbers = (usize, Option<usize>, usize, u8, usize, usize, usize);
 
-/// Checks the parts of a dissection.
+/// Returns the bytes of a base header.
+fn base_bytes<'a>(base: &Option<BaseHeader<'a>>) -> &'a [u8] {
+    match base {
+        Some(BaseHeader::Ipv4(header)) => header.slice(),
+        Some(BaseHeader::Ipv6(header)) => header.slice(),
+        None => &[],
+    }
+}
+
+/// Dissects the packet and compares its parts with these. Base header, extension headers, payload and padding follow
+/// one another.
 fn check(
     rt: &impl Abort,
     name: &str,
-    found: &Dissection<'_>,
+    bytes: &[u8],
     numbers: Numbers,
     fragment: Option<Fragment>,
     end: &End,
 ) {
-    assert_eq!(rt; found.stated_len, numbers.0, "{name}");
-    assert_eq!(rt; found.extensions.len(), numbers.1, "{name}");
-    assert_eq!(rt; found.next_header.0, numbers.2, "{name}");
-    assert_eq!(rt; found.payload.len(), numbers.3, "{name}");
-    assert_eq!(rt; found.missing, numbers.4, "{name}");
-    assert_eq!(rt; found.padding.len(), numbers.5, "{name}");
+    let (base, stated_len, extensions, next_header, payload, missing, padding) = numbers;
+    let found = dissect(bytes);
+    let after_base = base.saturating_add(extensions);
+    let after_headers = after_base.saturating_add(payload);
+    assert_eq!(rt; Some(base_bytes(&found.base)), bytes.get(..base), "{name}");
+    assert_eq!(rt; found.stated_len, stated_len, "{name}");
+    assert_eq!(rt;
+        Some(found.extensions),
+        bytes.get(base..after_base),
+        "{name}"
+    );
+    assert_eq!(rt; found.next_header.0, next_header, "{name}");
+    assert_eq!(rt;
+        Some(found.payload),
+        bytes.get(after_base..after_headers),
+        "{name}"
+    );
+    assert_eq!(rt; found.missing, missing, "{name}");
+    assert_eq!(rt; found.padding.len(), padding, "{name}");
+    assert_eq!(rt; Some(found.padding), bytes.get(after_headers..), "{name}");
     assert_eq!(rt; found.fragment, fragment, "{name}");
     assert_eq!(rt; &found.end, end, "{name}");
 }
@@ -56,22 +80,22 @@ fn ipv6_payloads(rt: HostRuntime) -> Result<(), Fail> {
     let rows = [
         (
             "8 bytes of UDP and 3 bytes of padding",
-            ipv6_bytes(alloc, 8, 17, &[0; 11])?,
-            (Some(48), 0, 17, 8, 0, 3),
+            ipv6_bytes(alloc, 8, 17, &[1, 2, 3, 4, 5, 6, 7, 8, 9, 10, 11])?,
+            (40, Some(48), 0, 17, 8, 0, 3),
         ),
         (
             "no payload length: all bytes belong to the packet",
-            ipv6_bytes(alloc, 0, 17, &[0; 11])?,
-            (None, 0, 17, 11, 0, 0),
+            ipv6_bytes(alloc, 0, 17, &[1, 2, 3, 4, 5, 6, 7, 8, 9, 10, 11])?,
+            (40, None, 0, 17, 11, 0, 0),
         ),
         (
             "8 of 20 bytes are here",
-            ipv6_bytes(alloc, 20, 17, &[0; 8])?,
-            (Some(60), 0, 17, 8, 12, 0),
+            ipv6_bytes(alloc, 20, 17, &[1, 2, 3, 4, 5, 6, 7, 8])?,
+            (40, Some(60), 0, 17, 8, 12, 0),
         ),
     ];
     for (name, bytes, numbers) in &rows {
-        check(&rt, name, &dissect(bytes), *numbers, None, &End::Payload);
+        check(&rt, name, bytes, *numbers, None, &End::Payload);
     }
     Ok(())
 }
@@ -82,41 +106,41 @@ fn ipv6_fragments(rt: HostRuntime) -> Result<(), Fail> {
     let atomic = [17, 0, 0, 0, 0, 0, 0, 9, 1, 2, 3, 4];
     let first = [60, 0, 0, 1, 0, 0, 0, 9, 17, 0, 1, 4, 0, 0, 0, 0];
     let middle = [
-        60, 0, 0x05, 0xc9, 0, 0, 0, 7, 0xde, 0xad, 0xbe, 0xef, 0, 0, 0, 0,
+        60, 0, 0x05, 0xc9, 0, 0, 0, 7, 0xde, 0xad, 0xbe, 0xef, 1, 2, 3, 4,
     ];
     let last = [60, 0, 0x00, 0x08, 0, 0, 1, 0];
     let rows = [
         (
             "an atomic fragment",
             ipv6_bytes(alloc, 12, 44, &atomic)?,
-            (Some(52), 8, 17, 4, 0, 0),
+            (40, Some(52), 8, 17, 4, 0, 0),
             fragment(9, 0, FragmentKind::Atomic),
             End::Payload,
         ),
         (
             "a first fragment, with destination options after its header",
             ipv6_bytes(alloc, 16, 44, &first)?,
-            (Some(56), 16, 17, 0, 0, 0),
+            (40, Some(56), 16, 17, 0, 0, 0),
             fragment(9, 0, FragmentKind::First),
             End::Payload,
         ),
         (
             "a middle fragment at 8 * 185 bytes, whose payload is not destination options",
             ipv6_bytes(alloc, 16, 44, &middle)?,
-            (Some(56), 8, 60, 8, 0, 0),
+            (40, Some(56), 8, 60, 8, 0, 0),
             fragment(7, 1480, FragmentKind::Middle),
             End::LaterFragment,
         ),
         (
             "a last fragment at 8 * 1 bytes",
             ipv6_bytes(alloc, 8, 44, &last)?,
-            (Some(48), 8, 60, 0, 0, 0),
+            (40, Some(48), 8, 60, 0, 0, 0),
             fragment(256, 8, FragmentKind::Last),
             End::LaterFragment,
         ),
     ];
     for (name, bytes, numbers, fragment, end) in &rows {
-        check(&rt, name, &dissect(bytes), *numbers, *fragment, end);
+        check(&rt, name, bytes, *numbers, *fragment, end);
     }
     Ok(())
 }
@@ -131,25 +155,25 @@ fn ipv6_truncated_headers(rt: HostRuntime) -> Result<(), Fail> {
     let rows = [
         (
             "16 bytes of options, of which 8 are here",
-            ipv6_bytes(alloc, 16, 60, &[17, 1, 0, 0, 0, 0, 0, 0])?,
-            (Some(56), 0, 60, 8, 8, 0),
+            ipv6_bytes(alloc, 16, 60, &[17, 1, 2, 3, 4, 5, 6, 7])?,
+            (40, Some(56), 0, 60, 8, 8, 0),
             truncated(options, Some(Layer::Ipv6DestOptionsHeader)),
         ),
         (
             "no payload length: 3 bytes of a fragment header",
-            ipv6_bytes(alloc, 0, 44, &[17, 0, 0])?,
-            (None, 0, 44, 3, 0, 0),
+            ipv6_bytes(alloc, 0, 44, &[17, 0, 1])?,
+            (40, None, 0, 44, 3, 0, 0),
             truncated(fragment, Some(Layer::Ipv6FragHeader)),
         ),
         (
             "39 bytes of a base header",
             Vec::from_array(alloc, [0x60; 39])?,
-            (None, 0, 59, 0, 0, 39),
+            (0, None, 0, 59, 0, 0, 39),
             truncated(base, None),
         ),
     ];
     for (name, bytes, numbers, end) in &rows {
-        check(&rt, name, &dissect(bytes), *numbers, None, end);
+        check(&rt, name, bytes, *numbers, None, end);
     }
     Ok(())
 }
@@ -160,25 +184,25 @@ fn ipv6_faults(rt: HostRuntime) -> Result<(), Fail> {
     let stated = LenSource::Ipv6HeaderPayloadLen;
     let options = len_error_at(16, 8, stated, Layer::Ipv6ExtHeader, 40);
     let routing = len_error_at(24, 16, stated, Layer::Ipv6ExtHeader, 40);
-    let later_options = [0, 0, 1, 4, 0, 0, 0, 0, 17, 0, 1, 4, 0, 0, 0, 0];
+    let later_options = [0, 0, 1, 4, 0, 0, 0, 0, 17, 0, 1, 4, 5, 6, 7, 8];
     let not_at_start = ipv6_exts::HeaderError::HopByHopNotAtStart;
     let rows = [
         (
             "16 bytes of options in a payload of 8",
-            ipv6_bytes(alloc, 8, 60, &[17, 1, 0, 0, 0, 0, 0, 0])?,
-            (Some(48), 0, 60, 8, 0, 0),
+            ipv6_bytes(alloc, 8, 60, &[17, 1, 2, 3, 4, 5, 6, 7])?,
+            (40, Some(48), 0, 60, 8, 0, 0),
             too_long(options, Some(Layer::Ipv6DestOptionsHeader)),
         ),
         (
             "a routing header of 24 bytes in a payload of 16, of which 9 are here",
-            ipv6_bytes(alloc, 16, 43, &[17, 2, 0, 0, 0, 0, 0, 0, 0])?,
-            (Some(56), 0, 43, 9, 7, 0),
+            ipv6_bytes(alloc, 16, 43, &[17, 2, 0, 1, 3, 4, 5, 6, 7])?,
+            (40, Some(56), 0, 43, 9, 7, 0),
             too_long(routing, Some(Layer::Ipv6RouteHeader)),
         ),
         (
             "hop-by-hop options after destination options",
             ipv6_bytes(alloc, 16, 60, &later_options)?,
-            (Some(56), 8, 0, 8, 0, 0),
+            (40, Some(56), 8, 0, 8, 0, 0),
             End::Fault {
                 error: SliceError::IpHeaders(HeadersError::Ipv6Ext(not_at_start)),
                 header: Some(Layer::Ipv6HopByHopHeader),
@@ -186,7 +210,7 @@ fn ipv6_faults(rt: HostRuntime) -> Result<(), Fail> {
         ),
     ];
     for (name, bytes, numbers, end) in &rows {
-        check(&rt, name, &dissect(bytes), *numbers, None, end);
+        check(&rt, name, bytes, *numbers, None, end);
     }
     Ok(())
 }
@@ -194,39 +218,39 @@ fn ipv6_faults(rt: HostRuntime) -> Result<(), Fail> {
 #[test]
 fn ipv4_payloads_and_fragments(rt: HostRuntime) -> Result<(), Fail> {
     let alloc = rt.alloc();
-    let auth = [17, 1, 0, 0, 0, 0, 0, 1, 0, 0, 0, 2, 9, 9, 9];
+    let auth = [17, 1, 2, 3, 4, 5, 6, 7, 8, 9, 10, 11, 12, 13, 14];
     let rows = [
         (
             "an authentication header, 2 bytes of payload and 1 of padding",
             ipv4_bytes(alloc, 0x45, 34, [0x40, 0], 51, &auth)?,
-            (Some(34), 12, 17, 2, 0, 1),
+            (20, Some(34), 12, 17, 2, 0, 1),
             None,
             End::Payload,
         ),
         (
             "a first fragment",
-            ipv4_bytes(alloc, 0x45, 24, [0x20, 0], 17, &[0; 4])?,
-            (Some(24), 0, 17, 4, 0, 0),
+            ipv4_bytes(alloc, 0x45, 24, [0x20, 0], 17, &[1, 2, 3, 4])?,
+            (20, Some(24), 0, 17, 4, 0, 0),
             fragment(0, 0, FragmentKind::First),
             End::Payload,
         ),
         (
             "a last fragment at 8 * 2 bytes, whose payload is not an authentication header",
             ipv4_bytes(alloc, 0x45, 35, [0, 2], 51, &auth)?,
-            (Some(35), 0, 51, 15, 0, 0),
+            (20, Some(35), 0, 51, 15, 0, 0),
             fragment(0, 16, FragmentKind::Last),
             End::LaterFragment,
         ),
         (
             "a middle fragment at 8 * 8191 bytes, with no total length",
-            ipv4_bytes(alloc, 0x45, 0, [0x3f, 0xff], 17, &[0; 4])?,
-            (None, 0, 17, 4, 0, 0),
+            ipv4_bytes(alloc, 0x45, 0, [0x3f, 0xff], 17, &[1, 2, 3, 4])?,
+            (20, None, 0, 17, 4, 0, 0),
             fragment(0, 65528, FragmentKind::Middle),
             End::LaterFragment,
         ),
     ];
     for (name, bytes, numbers, fragment, end) in &rows {
-        check(&rt, name, &dissect(bytes), *numbers, *fragment, end);
+        check(&rt, name, bytes, *numbers, *fragment, end);
     }
     Ok(())
 }
@@ -235,34 +259,35 @@ fn ipv4_payloads_and_fragments(rt: HostRuntime) -> Result<(), Fail> {
 fn ipv4_headers_that_are_not_whole(rt: HostRuntime) -> Result<(), Fail> {
     let alloc = rt.alloc();
     let stated = LenSource::Ipv4HeaderTotalLen;
-    let auth = [17, 1, 0, 0, 0, 0, 0, 1, 0, 0, 0, 2];
+    let auth = [17, 1, 2, 3, 4, 5, 6, 7, 8, 9, 10, 11];
     let total = len_error_at(20, 19, stated, Layer::Ipv4Packet, 0);
     let auth_here = len_error_at(12, 4, LenSource::Slice, Layer::IpAuthHeader, 20);
     let auth_stated = len_error_at(12, 4, stated, Layer::IpAuthHeader, 20);
+    let zero_length = [17, 0, 1, 2, 3, 4, 5, 6, 7, 8, 9, 10];
     let zero = ip_auth::HeaderError::ZeroPayloadLen;
     let rows = [
         (
             "a total length below the header",
-            ipv4_bytes(alloc, 0x45, 19, [0, 0], 17, &[0; 4])?,
-            (Some(19), 0, 17, 0, 0, 4),
+            ipv4_bytes(alloc, 0x45, 19, [0, 0], 17, &[1, 2, 3, 4])?,
+            (20, Some(19), 0, 17, 0, 0, 4),
             too_long(total, None),
         ),
         (
             "an authentication header of 12 bytes, of which 4 are here",
-            ipv4_bytes(alloc, 0x45, 32, [0, 0], 51, &[17, 1, 0, 0])?,
-            (Some(32), 0, 51, 4, 8, 0),
+            ipv4_bytes(alloc, 0x45, 32, [0, 0], 51, &[17, 1, 2, 3])?,
+            (20, Some(32), 0, 51, 4, 8, 0),
             truncated(auth_here, None),
         ),
         (
             "an authentication header in a packet with room for 4 bytes",
             ipv4_bytes(alloc, 0x45, 24, [0, 0], 51, &auth)?,
-            (Some(24), 0, 51, 4, 0, 8),
+            (20, Some(24), 0, 51, 4, 0, 8),
             too_long(auth_stated, None),
         ),
         (
             "an authentication header of length 0",
-            ipv4_bytes(alloc, 0x45, 32, [0, 0], 51, &[0; 12])?,
-            (Some(32), 0, 51, 12, 0, 0),
+            ipv4_bytes(alloc, 0x45, 32, [0, 0], 51, &zero_length)?,
+            (20, Some(32), 0, 51, 12, 0, 0),
             End::Fault {
                 error: SliceError::IpHeaders(HeadersError::Ipv4Ext(zero)),
                 header: None,
@@ -270,7 +295,7 @@ fn ipv4_headers_that_are_not_whole(rt: HostRuntime) -> Result<(), Fail> {
         ),
     ];
     for (name, bytes, numbers, end) in &rows {
-        check(&rt, name, &dissect(bytes), *numbers, None, end);
+        check(&rt, name, bytes, *numbers, None, end);
     }
     Ok(())
 }

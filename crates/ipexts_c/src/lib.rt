@@ -7,5 +7,7 @@ mod bytes;
 mod chains;
 mod faults;
 mod headers;
+mod names;
 mod packets;
+mod version;
 mod writes;

@@ -25,6 +25,15 @@
 //!   `no`, with the payload's number, whether it is a fragment, and the source of its length; then `ok`. If there is
 //!   no packet, the answer is the fault alone, without a layer.
 //!
+//! - `dissect HEX` dissects the packet at the start of the bytes, whatever they are. It is not a form of etherparse's
+//!   behaviour but this project's own. The answer is `ipv4 base H stated T` or `ipv6 ..`, where H is the length of the
+//!   base header and T the packet's length that it states, in bytes, or `none`; a line for each header, with offsets
+//!   from the start of the packet; `fragment none`, or `fragment K id I offset O`, where K is `atomic`, `first`,
+//!   `middle` or `last` and O counts bytes; `next N rest L`; `missing M padding Q`, where M is the number of stated
+//!   bytes that are not there, and Q that of bytes after the packet; then why the headers end: `payload`, `later
+//!   fragment`, `truncated len R of L Slice Y at O`, or a fault. The last two end in ` in ` and the header's layer if
+//!   it is an IPv6 extension header. Without a base header the answer is the last line alone.
+//!
 //! # Parts of answers
 //!
 //! Each line of an answer ends in a newline.

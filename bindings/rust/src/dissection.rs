@@ -247,7 +247,7 @@ mod tests {
 
     /// Returns the value of a constant in the library's header, by the line that declares it.
     fn code(name: &str) -> u16 {
-        let page = include_str!("../../../include/wolfaren.h");
+        let page = include_str!(env!("WOLFAREN_HEADER"));
         let declared = page.lines().find_map(|line| {
             let value = line.trim().strip_prefix(name)?.strip_prefix(" = ")?;
             value.split([',', ' ']).next()?.parse().ok()

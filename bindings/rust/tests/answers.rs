@@ -34,14 +34,24 @@ fn lines_have_their_known_answers() {
     assert!(counts.iter().all(|count| *count > 50), "{counts:?}");
 }
 
-/// Splits the expected output into answers. An answer ends with `ok`, a fault or `bad line`.
+/// The beginnings of the last line of an answer.
+const LAST: [&str; 6] = [
+    "ok\n",
+    "bad line\n",
+    "fault ",
+    "payload\n",
+    "later fragment\n",
+    "truncated len ",
+];
+
+/// Splits the expected output into answers.
 fn blocks(text: &str) -> impl Iterator<Item = &str> {
     let mut rest = text;
     std::iter::from_fn(move || {
         let mut len = 0;
         for line in rest.split_inclusive('\n') {
             len += line.len();
-            if line == "ok\n" || line == "bad line\n" || line.starts_with("fault ") {
+            if LAST.iter().any(|last| line.starts_with(last)) {
                 break;
             }
         }
@@ -52,7 +62,7 @@ fn blocks(text: &str) -> impl Iterator<Item = &str> {
 }
 
 enum Answer {
-    /// The line is in one of the forms that write headers.
+    /// The line is in one of the forms that write headers, or dissects a packet.
     OtherForm,
     Bad,
     Exts6(String),
@@ -76,6 +86,7 @@ fn answer(line: &[u8]) -> Answer {
                 })
         }
         ["packet", digits] => bytes_in(digits).map(|bytes| Answer::Packet(packet(&bytes))),
+        ["dissect", digits] => bytes_in(digits).map(|_| Answer::OtherForm),
         _ => None,
     };
     known.unwrap_or(Answer::Bad)

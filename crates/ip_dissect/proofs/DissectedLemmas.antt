@@ -13,7 +13,7 @@ use Rattle.ip_dissect.specs.declared.end.End.{End}
 picked_none : (s : List ℕ) (o : Option End) (e : End) (x : DissectedParts) → o ≡ Some e → option_map_or (without_base s) o x ≡ without_base s e
 picked_none s o e x is = rw is refl
 
-picked4 : (s : List ℕ) (o : Option End) (v : ℕ) (x y : DissectedParts) → o ≡ None → v ≡ 4 → option_map_or (without_base s) o (if v == 4 then x else y) ≡ x
+pub picked4 : (s : List ℕ) (o : Option End) (v : ℕ) (x y : DissectedParts) → o ≡ None → v ≡ 4 → option_map_or (without_base s) o (if v == 4 then x else y) ≡ x
 picked4 s o v x y none four = rw (none, eq-eqb v 4 four) refl
 
 picked6 : (s : List ℕ) (o : Option End) (v : ℕ) (x y : DissectedParts) → o ≡ None → v ≡ 6 → option_map_or (without_base s) o (if v == 4 then x else y) ≡ y
@@ -52,10 +52,10 @@ six_of s None v x y four e = elim (eqb_tells v 4) [
 ]
 six_of s (Some z) v x y four e = absurd (omega (arith, e))
 
-base4 : (s : List ℕ) → base_end s ≡ None → version s ≡ 4 → (5 ≤ ihl s) × (ipv4_header_len s ≤ length s)
+pub base4 : (s : List ℕ) → base_end s ≡ None → version s ≡ 4 → (5 ≤ ihl s) × (ipv4_header_len s ≤ length s)
 base4 s none four = (grind (arith, common_steps), grind (arith, common_steps))
 
-base6 : (s : List ℕ) → base_end s ≡ None → (version s ≡ 4 → ⊥) → (version s ≡ 6) × (40 ≤ length s)
+pub base6 : (s : List ℕ) → base_end s ≡ None → (version s ≡ 4 → ⊥) → (version s ≡ 6) × (40 ≤ length s)
 base6 s none other = (grind (arith, common_steps), grind (arith, common_steps))
 
 -- bytes s start with the IPv4 base header b

@@ -52,10 +52,10 @@ six_of s None v x y four e = elim (eqb_tells v 4) [
 ]
 six_of s (Some z) v x y four e = absurd (omega (arith, e))
 
-pub base4 : (s : List ℕ) → base_end s ≡ None → version s ≡ 4 → (5 ≤ ihl s) × (ipv4_header_len s ≤ length s)
+base4 : (s : List ℕ) → base_end s ≡ None → version s ≡ 4 → (5 ≤ ihl s) × (ipv4_header_len s ≤ length s)
 base4 s none four = (grind (arith, common_steps), grind (arith, common_steps))
 
-pub base6 : (s : List ℕ) → base_end s ≡ None → (version s ≡ 4 → ⊥) → (version s ≡ 6) × (40 ≤ length s)
+base6 : (s : List ℕ) → base_end s ≡ None → (version s ≡ 4 → ⊥) → (version s ≡ 6) × (40 ≤ length s)
 base6 s none other = (grind (arith, common_steps), grind (arith, common_steps))
 
 -- bytes s start with the IPv4 base header b

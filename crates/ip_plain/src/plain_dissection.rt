@@ -21,8 +21,10 @@ ghost use Rattle.ip_plain.specs.PlainDissection.{HasFieldsOf};
 use crate::chain::{PlainChain, PlainHeader};
 use crate::fault::plain_fault;
 use crate::later::plain_chain_to_later;
-use crate::plain_base::{ipv4_offset, ipv4_total_len, missing_of, packet_of, plain_base_end};
-use crate::plain_base::{plain_ipv4_fragment, plain_ipv4_stated, plain_ipv6_stated};
+use crate::plain_base::{
+    ipv4_offset, ipv4_total_len, missing_of, packet_of, plain_base_end, plain_ipv4_fragment,
+    plain_ipv4_stated, plain_ipv6_stated,
+};
 use crate::plain_end::{auth_end, exts_end, ipv4_fault};
 use crate::plain_fragment::{has_later, plain_fragment};
 use crate::plain_ipv4::plain_ipv4_chain;

@@ -13,7 +13,7 @@ use Rattle.ip_dissect.specs.declared.end.End.{End}
 picked_none : (s : List ℕ) (o : Option End) (e : End) (x : DissectedParts) → o ≡ Some e → option_map_or (without_base s) o x ≡ without_base s e
 picked_none s o e x is = rw is refl
 
-picked4 : (s : List ℕ) (o : Option End) (v : ℕ) (x y : DissectedParts) → o ≡ None → v ≡ 4 → option_map_or (without_base s) o (if v == 4 then x else y) ≡ x
+pub picked4 : (s : List ℕ) (o : Option End) (v : ℕ) (x y : DissectedParts) → o ≡ None → v ≡ 4 → option_map_or (without_base s) o (if v == 4 then x else y) ≡ x
 picked4 s o v x y none four = rw (none, eq-eqb v 4 four) refl
 
 picked6 : (s : List ℕ) (o : Option End) (v : ℕ) (x y : DissectedParts) → o ≡ None → v ≡ 6 → option_map_or (without_base s) o (if v == 4 then x else y) ≡ y

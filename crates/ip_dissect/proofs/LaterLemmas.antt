@@ -24,7 +24,7 @@ may_follow [] h f = (λ e. refl, tt)
 may_follow (g ∷ c) h f = grind (arith, common_steps, may_follow c h)
 
 -- a chain without one meets the demand
-met : (c : List ExtHeader) → has_later c ≡ false → NothingAfterLater c
+pub met : (c : List ExtHeader) → has_later c ≡ false → NothingAfterLater c
 met [] f = tt
 met (g ∷ c) f = grind (arith, common_steps, met c)
 

@@ -14,7 +14,7 @@ use Rattle.ipexts_tool.specs.Parts.{header_line, header_lines, next_line, ipv4_e
 abbrev told : List ℕ → List ExtHeader → List ℕ
 told s c = header_lines 0 c ++ next_line (leads_to 51 c) (length (rest_after c s)) ++ ipv4_end_line (fault_after (ipv4_faults Slice) c 51 s)
 
-first_byte : (k : ℕ) (s : List ℕ) → 8 ≤ k → get_or (take k s) 0 0 ≡ get_or s 0 0
+pub first_byte : (k : ℕ) (s : List ℕ) → 8 ≤ k → get_or (take k s) 0 0 ≡ get_or s 0 0
 first_byte zero s few = absurd (omega arith)
 first_byte (suc k) [] few = refl
 first_byte (suc k) (x ∷ s) few = refl

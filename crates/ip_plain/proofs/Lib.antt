@@ -3,3 +3,5 @@ pub mod AnswerLemmas
 pub mod Exts4Lemmas
 pub mod PacketLemmas
 pub mod DissectLemmas
+pub mod LaterLemmas
+pub mod FieldLemmas

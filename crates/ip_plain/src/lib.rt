@@ -8,8 +8,13 @@ mod chain;
 mod dissect;
 mod fault;
 mod fits;
+mod later;
 mod packet;
+mod plain_base;
 mod plain_dissection;
+mod plain_end;
+mod plain_fragment;
+mod plain_ipv4;
 mod plain_packet;
 mod runs;
 

@@ -1,13 +1,12 @@
 //! A packet read in the simplest way: the base header byte by byte, then the chain by trying every length. No parser
 //! of the library is called.
-ghost use Rattle.std.specs.Prelude.{◌≡◌, ◌+◌, ◌≤◌, length, map, slice_index, codes, IfOk};
+ghost use Rattle.std.specs.Prelude.{◌≡◌, ◌+◌, ◌≤◌, length, map, codes, IfOk};
 ghost use Rattle.std.specs.Option.{option_map};
 ghost use Rattle.std.specs.Result.{result_err};
 ghost use Rattle.ip_base.specs.Ipv4Header.{version, is_ipv4_fragmenting};
 ghost use Rattle.ip_base.specs.Ipv6Header.{payload_length};
 ghost use Rattle.ip_base.specs.LenError.{too_short};
 ghost use Rattle.ip_base.specs.declared.len_source.LenSource.TheVariants.{Ipv4HeaderTotalLen};
-ghost use Rattle.ip_spec.specs.Fields.{is_fragmenting};
 ghost use Rattle.ip_spec.specs.Chain.{leads_to, bytes_of, has_fragmenting};
 ghost use Rattle.ip_ext_headers.specs.HeaderFault.{auth_fault};
 ghost use Rattle.ip_ext_slices.specs.ChainFault.{chain_fault};
@@ -23,6 +22,7 @@ ghost use Rattle.ip_plain.specs.PlainPacket.{HasLengthsOf, sourced};
 
 use crate::chain::{PlainHeader, next_len, plain_longest_chain};
 use crate::fault::plain_fault;
+use crate::plain_fragment::is_fragmenting;
 use etherparse_ip::err::ip::{HeaderError, HeadersError, SliceError};
 use etherparse_ip::err::{ip_auth, ipv6_exts};
 use ip_base::LenSource;
@@ -162,21 +162,25 @@ fn plain_ipv4_end(
     }
     match next_len(true, 51, after_base) {
         Some(len) => Ok((len, after_base[0])),
-        None => match plain_auth_fault(after_base, header_len) {
+        None => match plain_auth_fault(after_base, LenSource::Ipv4HeaderTotalLen, header_len) {
             Some(error) => Err(error),
             None => Ok((0, 51)),
         },
     }
 }
 
-/// Returns the error of an authentication header at this offset in an IPv4 packet.
-fn plain_auth_fault(left: &[u8], offset: usize) -> Option<ip_auth::HeaderSliceError>
-    ensures { result ≡ auth_fault Ipv4HeaderTotalLen (length left.now) offset left.now }
+/// Returns the error of an authentication header at this offset in an IPv4 packet, the source of whose length is given.
+pub(crate) fn plain_auth_fault(
+    left: &[u8],
+    len_source: LenSource,
+    offset: usize,
+) -> Option<ip_auth::HeaderSliceError>
+    ensures { result ≡ auth_fault len_source (length left.now) offset left.now }
 {
     let error = |required_len| LenError {
         required_len,
         len: left.len(),
-        len_source: LenSource::Ipv4HeaderTotalLen,
+        len_source,
         layer: Layer::IpAuthHeader,
         layer_start_offset: offset,
     };
@@ -299,20 +303,4 @@ fn is_fragmented(headers: &[PlainHeader<'_>]) -> bool
             (first.number == 44 && is_fragmenting(first.bytes)) || is_fragmented(rest)
         }
     }
-}
-
-/// Returns whether a fragment header's offset isn't 0 or its more fragments flag is set (RFC 8200, section 4.5).
-fn is_fragmenting(header: &[u8]) -> bool
-    ensures { result ≡ is_fragmenting header.now }
-{
-    let (high, low) = (byte_at(header, 2), byte_at(header, 3));
-    let offset = 32 * u16::from(high) + u16::from(low & 0xf8) / 8;
-    low & 0x01 != 0 || offset != 0
-}
-
-/// Returns the byte at the index, or 0 after the end.
-fn byte_at(bytes: &[u8], index: usize) -> u8
-    ensures { result ≡ slice_index bytes.now index }
-{
-    if index < bytes.len() { bytes[index] } else { 0 }
 }

@@ -3,17 +3,8 @@ use Rattle.ip_plain.proofs.AnswerLemmas.{is_empty-shown}
 use Rattle.ip_plain.specs.declared.chain.PlainHeader.{PlainHeader}
 use Rattle.ip_plain.specs.PlainHeader.{plain_header_of}
 use Rattle.ip_spec.proofs.ParsedLemmas.{HasParsed, has_parsed_next, parsed_longest}
+use Rattle.ip_plain.proofs.LaterLemmas.{one_pushed}
 use Rattle.ip_plain.proofs.chain.plain_longest_chain.Goals as goal
-
-one_pushed : (n : ℕ) (s : List ℕ) (items pushed : List PlainHeader) (header : PlainHeader) (first : Bool) (m : ℕ) (r prefix after : List ℕ)
-    → HasParsed n s (map plain_header_of items) m r → first ≡ is_empty (map plain_header_of items) → IsNext first m r (record { number = m; bytes = prefix }) → drop (length prefix) r ≡ after
-    → plain_header_of header ≡ record { number = m; bytes = prefix } → pushed ≡ items ++ header ∷ []
-    → HasParsed n s (map plain_header_of pushed) (slice_index prefix 0) after
-one_pushed n s items pushed header first m r prefix after read f next rest is e =
-    let A : List ℕ → Type 0 = λ q. HasParsed n s (map plain_header_of items ++ (record { number = m; bytes = prefix }) ∷ []) (slice_index prefix 0) q in
-    let C : List ExtHeader → Type 0 = λ c. HasParsed n s c (slice_index prefix 0) after in
-    subst C (sym (ap (map plain_header_of) e ∙ map-append plain_header_of items (header ∷ []) ∙ ap (λ h. map plain_header_of items ++ h ∷ []) is))
-    (subst A rest (has_parsed_next n s (map plain_header_of items) m r (record { number = m; bytes = prefix }) read (rw f at next)))
 
 pub headers-preserved : goal.headers-preserved
 headers-preserved c =

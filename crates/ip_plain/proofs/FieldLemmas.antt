@@ -1,0 +1,136 @@
+-- The parts of a packet, in the form in which the plain program computes them.
+use Rattle.ip_spec.proofs.Common.{◌≡◌, ◌≢◌, ℕ, ◌+◌, ◌-◌, ◌*◌, ◌≤◌, length, map, take, drop, List, [], ◌∷◌, ◌++◌, refl, sym, ap, ◌∙◌, arith, rules, common_steps, Bool, true, false, inl, inr, eqb_tells, eq-eqb, ne_eqb, slice_index, length-take-le, Option, None, Some, option_map, option_map_or, ExtHeader, leads_to, bytes_of, is_empty, rest_after, fault_after, IsNext}
+use Rattle.std.proofs.Common.{append-nil, length-drop}
+use Rattle.std.specs.Prelude.{◌==◌, ◌&&◌, not, nat_lt, if◌then◌else◌}
+use Rattle.ip_base.specs.LenError.{too_short}
+use Rattle.ip_base.specs.declared.len_source.LenSource.TheVariants.{Slice, Ipv4HeaderTotalLen}
+use Rattle.ip_base.specs.declared.err.layer.Layer.TheVariants.{Ipv4Packet}
+use Rattle.ip_base.specs.Ipv4Header.{version, ihl, ipv4_header_len, total_len, protocol, ipv4_fragment_offset}
+use Rattle.ip_base.specs.Ipv6Header.{ipv6_next_header}
+use Rattle.ip_ext_slices.specs.ChainFault.{slice_fault}
+use Rattle.ip_ext_slices.specs.Ipv4Fault.{ipv4_faults, ipv4_chain_fault}
+use Rattle.ip_ext_slices.specs.Ipv4Longest.{longest_ipv4_chain}
+use Rattle.etherparse_ip.specs.PacketFault.{auth_in_packet}
+use Rattle.etherparse_ip.specs.declared.err.ip.slice_error.SliceError.TheVariants.{Len}
+use Rattle.ip_dissect.specs.LaterDemand.{has_later}
+use Rattle.ip_dissect.specs.Later.{chain_to_later}
+use Rattle.ip_dissect.specs.Fragment.{ipv4_fragment, ipv6_fragment}
+use Rattle.ip_dissect.specs.Extent.{packet_bytes, after_base, missing_of, ipv4_stated, ipv6_stated, ipv4_chain_in, ipv4_chain, ipv6_chain}
+use Rattle.ip_dissect.specs.End.{base_end, auth_end, exts_end, ipv4_end, ipv6_end}
+use Rattle.ip_dissect.specs.Dissection.{DissectedParts, without_base, ipv4_dissected, ipv6_dissected, dissected}
+use Rattle.ip_dissect.specs.declared.end.End.{End}
+use Rattle.ip_dissect.specs.declared.end.End.TheVariants.{LaterFragment, Payload, Fault}
+use Rattle.ip_dissect.specs.declared.fragment.Fragment.{Fragment}
+use Rattle.ip_dissect.proofs.DissectedLemmas.{picked4}
+use Rattle.ip_plain.proofs.Exts4Lemmas.{one_header}
+use Rattle.ip_plain.specs.PlainHeader.{plain_header_of}
+use Rattle.ip_plain.specs.PlainDissection.{IsToLater, IsIpv4Chain, HasFieldsOf}
+use Rattle.ip_plain.specs.declared.chain.PlainHeader.{PlainHeader}
+use Rattle.ip_plain.specs.declared.chain.PlainChain.{PlainChain}
+use Rattle.ip_plain.specs.declared.plain_dissection.PlainDissection.{PlainDissection}
+
+-- ---- the extension header of an IPv4 packet
+
+pub ipv4_one : (b r : List ℕ) (k : ℕ) → k ≤ length r → IsNext true 51 r (record { number = 51; bytes = take k r }) → ipv4_fragment_offset b ≡ 0 → protocol b ≡ 51
+    → (x : PlainChain) (header : PlainHeader) (old : List PlainHeader) → old ≡ [] → x.headers.items ≡ old ++ header ∷ [] → header.number ≡ 51 → header.bytes.now ≡ take k r → x.number ≡ slice_index header.bytes.now 0 → x.rest.now ≡ drop k r
+    → IsIpv4Chain b r x
+ipv4_one b r k enough next zero auth x header old none items number bytes leads rest =
+    let h : ExtHeader = record { number = 51; bytes = take k r } in
+    let c : List ExtHeader = h ∷ [] in
+    let one : c ≡ longest_ipv4_chain (protocol b) r = sym (one_header r k enough next) ∙ ap (λ n. longest_ipv4_chain n r) (sym auth) in
+    let is : c ≡ ipv4_chain_in b r = one ∙ ap (λ t. if t then longest_ipv4_chain (protocol b) r else []) (sym (eq-eqb (ipv4_fragment_offset b) 0 zero)) in
+    let len : length (bytes_of c) ≡ k = ap length (append-nil (take k r)) ∙ length-take-le k r enough in
+    let shown : plain_header_of header ≡ h = rw (number, bytes) refl in
+    record {
+      headers = ap (map plain_header_of) (items ∙ ap (λ l. l ++ header ∷ []) none) ∙ ap (λ g. g ∷ []) shown ∙ is;
+      number = leads ∙ ap (λ (l : List ℕ). slice_index l 0) bytes ∙ ap (leads_to (protocol b)) is;
+      rest = rest ∙ ap (λ j. drop j r) (sym len) ∙ ap (λ d. rest_after d r) is;
+      within = omega (arith, enough, len, ap (λ d. length (bytes_of d)) is);
+    }
+
+-- ---- the parts
+
+end_of : (o : ℕ) (short : Bool) (y z : End) → (o ≡ 0 → y ≡ z) → (fault : End) → (if short then fault else if not (o == 0) then LaterFragment else y) ≡ (if short then fault else if not (o == 0) then LaterFragment else z)
+end_of o short y z same fault = elim (eqb_tells o 0) [
+  | inl w ↦ ap (λ v. if short then fault else if not (o == 0) then LaterFragment else v) (same w.1)
+  | inr w ↦ rw w.0 refl
+]
+
+-- Bytes s with the base header b, and what was found: the stated length t, the packet's bytes and those after b.
+module _ (b s packet after : List ℕ) (t : Option ℕ) (whole : packet ≡ packet_bytes b t s) (left : after ≡ drop (length b) packet) (x : PlainChain) where
+  after_is : (o : Option ℕ) → t ≡ o → after ≡ after_base b o s
+  after_is o e = left ∙ ap (drop (length b)) whole ∙ ap (λ p. drop (length b) (packet_bytes b p s)) e
+
+  padding_is : (o : Option ℕ) → t ≡ o → length s - length packet ≡ length (drop (length (packet_bytes b o s)) s)
+  padding_is o e = ap (λ p. length s - length p) (whole ∙ ap (λ p. packet_bytes b p s) e) ∙ sym (length-drop (length (packet_bytes b o s)) s)
+
+  module _ (stated : t ≡ ipv6_stated b) (is : IsToLater (ipv6_next_header b) after x) where
+    chain6 : chain_to_later (ipv6_next_header b) after ≡ ipv6_chain b s
+    chain6 = ap (chain_to_later (ipv6_next_header b)) (after_is (ipv6_stated b) stated)
+
+    headers6 : map plain_header_of x.headers.items ≡ ipv6_chain b s
+    headers6 = is.headers ∙ chain6
+
+    rest6 : x.rest.now ≡ rest_after (ipv6_chain b s) (after_base b (ipv6_stated b) s)
+    rest6 = is.rest ∙ ap (λ a. rest_after (chain_to_later (ipv6_next_header b) a) a) (after_is (ipv6_stated b) stated)
+
+    offset6 : length b ≡ 40 → length b + (length after - length x.rest.now) ≡ 40 + length (bytes_of (ipv6_chain b s))
+    offset6 forty = omega (arith, forty, ap length is.rest, length-drop (length (bytes_of (chain_to_later (ipv6_next_header b) after))) after, is.within, ap (λ c. length (bytes_of c)) chain6)
+
+    same_end : (t' : Option ℕ) (c d : List ExtHeader) (k j m n : ℕ) (q r : List ℕ) → t ≡ t' → c ≡ d → k ≡ j → m ≡ n → q ≡ r
+        → (if has_later c then LaterFragment else option_map_or (exts_end t) (slice_fault k (is_empty c) m q) Payload) ≡ (if has_later d then LaterFragment else option_map_or (exts_end t') (slice_fault j (is_empty d) n r) Payload)
+    same_end t' c d k j m n q r et ec ek em eq = rw (et, ec, ek, em, eq) refl
+
+    pub fields6 : length b ≡ 40 → (f : Option Fragment) → f ≡ ipv6_fragment (map plain_header_of x.headers.items) → (missing : ℕ) → missing ≡ missing_of t (length s) → (e : End)
+        → e ≡ (if has_later (map plain_header_of x.headers.items) then LaterFragment else option_map_or (exts_end t) (slice_fault (length b + (length after - length x.rest.now)) (is_empty (map plain_header_of x.headers.items)) x.number x.rest.now) Payload)
+        → HasFieldsOf (ipv6_dissected b s) (record { version = 6; base_len = length b; stated = t; headers = x.headers; number = x.number; payload_len = length x.rest.now; fragment = f; missing = missing; padding_len = length s - length packet; end = e })
+    fields6 forty f fragment missing here e end = record {
+      version = refl;
+      base = refl;
+      stated = stated;
+      headers = headers6;
+      number = is.number ∙ ap (leads_to (ipv6_next_header b)) chain6;
+      payload = ap length rest6;
+      fragment = fragment ∙ ap ipv6_fragment headers6;
+      missing = here ∙ ap (λ o. missing_of o (length s)) stated;
+      padding = padding_is (ipv6_stated b) stated;
+      end = end ∙ same_end _ _ _ _ _ _ _ _ _ stated headers6 (offset6 forty) (is.number ∙ ap (leads_to (ipv6_next_header b)) chain6) rest6;
+    }
+
+  module _ (stated : t ≡ ipv4_stated b) (is : IsIpv4Chain b after x) where
+    chain4 : ipv4_chain_in b after ≡ ipv4_chain b s
+    chain4 = ap (ipv4_chain_in b) (after_is (ipv4_stated b) stated)
+
+    pub end4 : (e : End) → e ≡ (if not (total_len b == 0) && nat_lt (total_len b) (length b) then Fault (Len (too_short Ipv4HeaderTotalLen (total_len b) 0 Ipv4Packet (length b))) None else if not (ipv4_fragment_offset b == 0) then LaterFragment else option_map_or (auth_end t) (option_map (auth_in_packet Slice (length b)) (ipv4_chain_fault (protocol b) after)) Payload) → e ≡ ipv4_end b s
+    end4 e end = end ∙ end_of (ipv4_fragment_offset b) (not (total_len b == 0) && nat_lt (total_len b) (length b)) _ _ (λ zero.
+        ap (λ o. option_map_or (auth_end o) (option_map (auth_in_packet Slice (length b)) (ipv4_chain_fault (protocol b) after)) Payload) stated
+        ∙ ap (λ a. option_map_or (auth_end (ipv4_stated b)) (option_map (auth_in_packet Slice (length b)) (ipv4_chain_fault (protocol b) a)) Payload) (after_is (ipv4_stated b) stated)
+        ∙ ap (λ z. option_map_or (auth_end (ipv4_stated b)) (option_map (auth_in_packet Slice (length b)) (fault_after (ipv4_faults Slice) (if z then longest_ipv4_chain (protocol b) (after_base b (ipv4_stated b) s) else []) (protocol b) (after_base b (ipv4_stated b) s))) Payload) (sym (eq-eqb (ipv4_fragment_offset b) 0 zero))) (Fault (Len (too_short Ipv4HeaderTotalLen (total_len b) 0 Ipv4Packet (length b))) None)
+
+    pub fields4 : (f : Option Fragment) → f ≡ ipv4_fragment b → (missing : ℕ) → missing ≡ missing_of t (length s) → (e : End) → e ≡ ipv4_end b s
+        → HasFieldsOf (ipv4_dissected b s) (record { version = 4; base_len = length b; stated = t; headers = x.headers; number = x.number; payload_len = length x.rest.now; fragment = f; missing = missing; padding_len = length s - length packet; end = e })
+    fields4 f fragment missing here e end = record {
+      version = refl;
+      base = refl;
+      stated = stated;
+      headers = is.headers ∙ chain4;
+      number = is.number ∙ ap (leads_to (protocol b)) chain4;
+      payload = ap length (is.rest ∙ ap (λ a. rest_after (ipv4_chain_in b a) a) (after_is (ipv4_stated b) stated));
+      fragment = fragment;
+      missing = here ∙ ap (λ o. missing_of o (length s)) stated;
+      padding = padding_is (ipv4_stated b) stated;
+      end = end;
+    }
+
+-- ---- which base header the bytes start with
+
+pub dissected4 : (s : List ℕ) → base_end s ≡ None → version s ≡ 4 → dissected s ≡ ipv4_dissected (take (ipv4_header_len s) s) s
+unfolding dissected
+dissected4 s none four = picked4 s (base_end s) (version s) _ _ none four
+
+six_if : (s : List ℕ) (o : Option End) (v : ℕ) (x y : DissectedParts) → o ≡ None → v ≢ 4 → option_map_or (without_base s) o (if v == 4 then x else y) ≡ y
+six_if s o v x y none other = rw (none, ne_eqb v 4 other) refl
+
+pub dissected6 : (s : List ℕ) → base_end s ≡ None → version s ≢ 4 → dissected s ≡ ipv6_dissected (take 40 s) s
+unfolding dissected
+dissected6 s none other = six_if s (base_end s) (version s) _ _ none other

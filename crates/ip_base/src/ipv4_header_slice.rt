@@ -190,24 +190,16 @@ impl<'a> Ipv4HeaderSlice<'a> {
     pub fn source_addr(&self) -> Ipv4Addr
         ensures { ipv4_octets result ≡ ipv4_source_octets (bytes self.now) }
     {
-        Ipv4Addr::new(
-            self.slice[12],
-            self.slice[13],
-            self.slice[14],
-            self.slice[15],
-        )
+        let [a, b, c, d] = self.source();
+        Ipv4Addr::new(a, b, c, d)
     }
 
     /// Returns the destination address.
     pub fn destination_addr(&self) -> Ipv4Addr
         ensures { ipv4_octets result ≡ ipv4_destination_octets (bytes self.now) }
     {
-        Ipv4Addr::new(
-            self.slice[16],
-            self.slice[17],
-            self.slice[18],
-            self.slice[19],
-        )
+        let [a, b, c, d] = self.destination();
+        Ipv4Addr::new(a, b, c, d)
     }
 }
 

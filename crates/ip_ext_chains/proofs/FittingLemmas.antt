@@ -1,9 +1,10 @@
 -- The longest chain that fits six places, as the first run of the longest chain.
-use Rattle.ip_spec.proofs.Common.{◌≡◌, ◌≢◌, ℕ, ◌-◌, List, ◌∷◌, ◌++◌, length, take, drop, refl, ap, sym, ◌∙◌, inl, inr, Bool, true, false, subst, rules, [], Option, Some, None, IsSome, if◌then◌else◌, cases_Bool, IsExtensionNumber, append-nil, length-append, ExtHeader, leads_to, bytes_of, headers_within, is_empty, IsChain, IsPrefixChain, rest_after, fault_after, KeepsBeginning, NextBreaks, IsLongestUnder, IsEndUnder, FitsPlaces, IsOccupied, is_occupied}
+use Rattle.ip_spec.proofs.Common.{◌≡◌, ◌≢◌, ℕ, ◌-◌, List, ◌∷◌, ◌++◌, length, take, drop, refl, ap, sym, ◌∙◌, inl, inr, Bool, true, false, subst, rules, [], Option, Some, None, IsSome, if◌then◌else◌, cases_Bool, IsExtensionNumber, append-nil, length-append, ExtHeader, leads_to, bytes_of, headers_within, is_empty, IsChain, IsPrefixChain, rest_after, fault_after, KeepsBeginning, NextBreaks, IsLongestUnder, IsEndUnder, FitsPlaces, IsOccupied, IsLaterNumber, Place, header_in, next_place, ◌==◌, ◌||◌, is_some, ne_eqb, eq-eqb}
 use Rattle.ip_ext_slices.proofs.FaultLemmas.{fault_at_end, end_at_other, no_fault_at_other}
 use Rattle.ip_ext_slices.proofs.RequestFaultLemmas.{fault_ends}
 use Rattle.std.proofs.lemmas.Grind.{flat_map-append}
-use Rattle.ip_spec.proofs.PlaceLemmas.{occupied_told}
+use Rattle.ip_spec.proofs.HeaderLemmas.{later_of, later_extension, later_not_zero}
+use Rattle.ip_spec.proofs.PlaceLemmas.{occupied_breaks}
 use Rattle.ip_spec.proofs.FitsLemmas.{fits_places, fitting_ends, next_occupied}
 use Rattle.ip_spec.proofs.UnderLemmas.{some_longest_under, one_longest_under, kept_is_longest}
 use Rattle.ip_spec.proofs.ParsedLemmas.{has_parsed_before, parsed_answers}
@@ -14,13 +15,13 @@ use Rattle.ip_ext_chains.specs.Fitting.{fitting_chain, fitting_faults, fitting_f
 use Rattle.ip_base.specs.declared.len_source.LenSource.TheVariants.{Slice}
 use Rattle.ip_ext_slices.specs.ChainFault.{Fault, fault_at, chain_faults, chain_fault}
 use Rattle.ip_ext_chains.specs.Ipv6Extensions.{value_of}
-use Rattle.ip_ext_chains.specs.Slots.{is_occupied_in, value_at, AreOfNumber}
+use Rattle.ip_ext_chains.specs.Slots.{at, value_at, AreOfNumber}
 use Rattle.ip_ext_chains.specs.Run.{IsRun}
 use Rattle.ip_ext_slices.specs.declared.ipv6_ext_slice.Ipv6ExtensionSlice.{Ipv6ExtensionSlice}
 use Rattle.ip_ext_chains.specs.declared.ipv6_exts.Ipv6Extensions.{Ipv6Extensions}
 use Rattle.ip_ext_chains.specs.declared.places.Places.{Places}
 use Rattle.ip_ext_slices.proofs.LongestLemmas.{longest_chain-longest}
-use Rattle.ip_ext_chains.proofs.PlacedLemmas.{occupied_same, value_placed, placed_numbers}
+use Rattle.ip_ext_chains.proofs.PlacedLemmas.{next_same, value_placed, placed_numbers}
 
 pub fitting_longest : (n : ℕ) (s : List ℕ) → IsLongestUnder FitsPlaces n s (fitting_chain n s)
 fitting_longest n s = (some_longest_under FitsPlaces fits_places n s).1
@@ -35,8 +36,23 @@ fitting_is n s c kept =
     one_longest_under FitsPlaces fits_places n s c (fitting_chain n s)
     (kept_is_longest FitsPlaces fits_places n s (longest_chain n s) c (longest_chain-longest n s) kept) (fitting_longest n s)
 
-no_fault : (b : Bool) (f : Option Fault) → b ≡ true → (if b then None else f) ≡ None
-no_fault b f e = search rules
+-- The error after a chain is that of the borrowed chain, unless the number is occupied.
+module _ (c : List ExtHeader) (m : ℕ) (r : List ℕ) where
+  abbrev next : Option Place
+  next = next_place (λ p. header_in p c) m
+
+  pub no_fault_occupied : IsOccupied m c → fitting_faults c m r ≡ None
+  no_fault_occupied t = ap (λ b. if b || is_some next then chain_faults Slice c m r else None) (ne_eqb m 0 (later_not_zero m t.0)) ∙ ap (λ o. if is_some o then chain_faults Slice c m r else None) t.1
+
+  fault_at_next : (o : Option Place) → next ≡ o → (IsOccupied m c → ⊥) → (m ≢ 0) → (if is_some o then chain_faults Slice c m r else None) ≡ chain_faults Slice c m r
+  fault_at_next (Some p) e free other = refl
+  fault_at_next None e free other = sym (no_fault_at_other Slice (length r) (is_empty c) m r (length (bytes_of c)) (λ is. free (later_of m is other, e)))
+
+  pub same_fault_free : (IsOccupied m c → ⊥) → fitting_faults c m r ≡ chain_faults Slice c m r
+  same_fault_free free = elim (cases_Bool (m == 0)) [
+    | inl zero ↦ ap (λ b. if b || is_some next then chain_faults Slice c m r else None) zero
+    | inr other ↦ ap (λ b. if b || is_some next then chain_faults Slice c m r else None) other ∙ fault_at_next next refl free (λ e. let differ : true ≡ false = sym (eq-eqb m 0 e) ∙ other in cc)
+  ]
 
 module _ (n : ℕ) (s : List ℕ) (left : List ExtHeader) (v : Places Ipv6ExtensionSlice) (k : IsRun (longest_chain n s) v left) where
   run_fits : k.run ≡ fitting_chain n s
@@ -63,21 +79,18 @@ walked_on n s (h ∷ left) v k some m chain r er =
     let p : IsPrefixChain n s (c ++ h ∷ left) = run_chain n s (h ∷ left) v k in
     let number : h.number ≡ leads_to n c = (chain_after n c (h ∷ left) p.chain).links.0 in
     let B : List ExtHeader → Type 0 = NextBreaks FitsPlaces c in
-    let occupied : IsOccupied (leads_to n c) c = next_occupied n s c (h ∷ left) p (subst B k.left k.kept.breaks) (λ e. cc) in
-    let fits : c ≡ fitting_chain n s = run_fits n s (h ∷ left) v k in
-    let told : is_occupied (leads_to n (fitting_chain n s)) (fitting_chain n s) ≡ true = ap (λ d. is_occupied (leads_to n d) d) (sym fits) ∙ (occupied_told c (leads_to n c) k.kept.meets).1 occupied in
-    walked n s (h ∷ left) v k m r None (sym chain.links.0 ∙ number) (er ∙ ap (λ j. drop j s) (run_len n s (h ∷ left) v k)) (sym (no_fault _ _ told))
+    let occupied : IsOccupied (leads_to n c) c = next_occupied n s c (h ∷ left) p k.kept.meets (subst B k.left k.kept.breaks) (λ e. cc) in
+    let none : fitting_faults c (leads_to n c) (rest_after c s) ≡ None = no_fault_occupied c (leads_to n c) (rest_after c s) occupied in
+    walked n s (h ∷ left) v k m r None (sym chain.links.0 ∙ number) (er ∙ ap (λ j. drop j s) (run_len n s (h ∷ left) v k))
+    (sym none ∙ ap (λ d. fault_after fitting_faults d n s) (run_fits n s (h ∷ left) v k))
 
--- If none are, it is the whole chain.
-walked_whole : (n : ℕ) (s : List ℕ) (left : List ExtHeader) (v : Places Ipv6ExtensionSlice) → IsRun (longest_chain n s) v left → left ≡ [] → (m : ℕ) (r : List ℕ) (f g : Option Fault) → m ≡ leads_to n (longest_chain n s) → r ≡ rest_after (longest_chain n s) s → g ≡ chain_fault n s → f ≡ (if is_occupied_in v m then None else g) → IsPlacedAnswer n s v m r f
-walked_whole n s left v k none m r f g em er eg ef =
+-- If none are, it is the whole chain, and the error is that of the chain unless the number is occupied.
+walked_whole : (n : ℕ) (s : List ℕ) (left : List ExtHeader) (v : Places Ipv6ExtensionSlice) (k : IsRun (longest_chain n s) v left) → left ≡ [] → (m : ℕ) (r : List ℕ) (f : Option Fault) → m ≡ leads_to n (longest_chain n s) → r ≡ rest_after (longest_chain n s) s → f ≡ fitting_faults k.run m r → IsPlacedAnswer n s v m r f
+walked_whole n s left v k none m r f em er ef =
     let all : longest_chain n s ≡ k.run = run_whole n s left v k ∙ ap (λ l. k.run ++ l) none ∙ append-nil k.run in
     let number : m ≡ leads_to n k.run = em ∙ ap (leads_to n) all in
-    let at : List ExtHeader → Option Fault = λ d. fault_after (chain_faults Slice) d n s in
-    walked n s left v k m r f number (er ∙ ap (λ d. drop (length (bytes_of d)) s) all) (ef
-    ∙ ap (λ o. if is_occupied_in v m then None else o) (eg ∙ ap at (all ∙ run_fits n s left v k))
-    ∙ ap (λ b. if b then None else at (fitting_chain n s)) (occupied_same k.run v k.placed m ∙ ap (λ j. is_occupied j k.run) number
-    ∙ ap (λ d. is_occupied (leads_to n d) d) (run_fits n s left v k)))
+    let rest : r ≡ rest_after k.run s = er ∙ ap (λ d. rest_after d s) all in
+    walked n s left v k m r f number rest (ef ∙ ap (λ j. fitting_faults k.run j r) number ∙ ap (fitting_faults k.run (leads_to n k.run)) rest ∙ ap (λ d. fault_after fitting_faults d n s) (run_fits n s left v k))
 
 -- The same facts in the terms of the code: the headers that an iterator has returned and left, and the bytes parsed.
 module _ (n : ℕ) (s : List ℕ) (all left : List ExtHeader) (v : Places Ipv6ExtensionSlice) (k : IsRun all v left) (e : all ≡ longest_chain n s) where
@@ -88,8 +101,21 @@ module _ (n : ℕ) (s : List ℕ) (all left : List ExtHeader) (v : Places Ipv6Ex
   walk_stops some m chain b q r eb eq er =
       walked_on n s left v of_longest some m chain r (er ∙ ap (λ (d : List ℕ). drop (length d - length q) s) (eb ∙ ap bytes_of e) ∙ ap (λ (d : List ℕ). drop (length (bytes_of (longest_chain n s)) - length d) s) (sym eq))
 
-  pub walk_ends : left ≡ [] → (m : ℕ) (r : List ℕ) (f g : Option Fault) → m ≡ leads_to n (longest_chain n s) → r ≡ rest_after (longest_chain n s) s → g ≡ chain_fault n s → f ≡ (if is_occupied_in v m then None else g) → IsPlacedAnswer n s v m r f
-  walk_ends = walked_whole n s left v of_longest
+  module _ (none : left ≡ []) (m : ℕ) (r : List ℕ) (f g : Option Fault) (em : m ≡ leads_to n (longest_chain n s)) (er : r ≡ rest_after (longest_chain n s) s) (eg : g ≡ chain_fault n s) where
+    abbrev run : IsRun (longest_chain n s) v left
+    run = of_longest
+
+    abbrev IsTaken : Type 0
+    IsTaken = IsLaterNumber m × (next_place (λ p. at p v) m ≡ None)
+
+    pub walk_ends_occupied : IsTaken → f ≡ None → IsPlacedAnswer n s v m r f
+    walk_ends_occupied t ef = walked_whole n s left v run none m r f em er (ef ∙ sym (no_fault_occupied run.run m r (t.0, sym (next_same run.run v run.placed m) ∙ t.1)))
+
+    pub walk_ends_free : (IsTaken → ⊥) → f ≡ g → IsPlacedAnswer n s v m r f
+    walk_ends_free free ef =
+        let all : longest_chain n s ≡ run.run = run_whole n s left v run ∙ ap (λ l. run.run ++ l) none ∙ append-nil run.run in
+        let same : g ≡ chain_faults Slice run.run m r = eg ∙ ap (λ j. chain_faults Slice (longest_chain n s) j (rest_after (longest_chain n s) s)) (sym em) ∙ ap (chain_faults Slice (longest_chain n s) m) (sym er) ∙ ap (λ d. chain_faults Slice d m r) all in
+        walked_whole n s left v run none m r f em er (ef ∙ same ∙ sym (same_fault_free run.run m r (λ t. free (t.0, next_same run.run v run.placed m ∙ t.1))))
 
 -- The end of a chain that fits.
 module _ (n : ℕ) (c : List ExtHeader) (m : ℕ) (chain : IsChain n c) (fits : FitsPlaces c) (number : m ≡ leads_to n c) (x : List ℕ) where
@@ -97,38 +123,26 @@ module _ (n : ℕ) (c : List ExtHeader) (m : ℕ) (chain : IsChain n c) (fits : 
   answered : (v : Ipv6Extensions) (f : Option Fault) → IsEndUnder FitsPlaces c m x → v ≡ value_of c → f ≡ fitting_faults c m x → IsFittingAnswer n (bytes_of c ++ x) v m x f
   answered v f = parsed_answers FitsPlaces fits_places n (bytes_of c ++ x) c m x value_of fitting_faults v f (has_parsed_before FitsPlaces fits_places n m c x chain fits number)
 
-  free_fault : (b : Bool) → b ≡ false → (if b then None else chain_faults Slice c m x) ≡ chain_faults Slice c m x
-  free_fault b e = ap (λ (t : Bool). if t then None else chain_faults Slice c m x) e
-
   -- the error there is the parse's error
-  pub fitting_fault_is : (f : Fault) → is_occupied m c ≡ false → fault_at Slice (length x) (length (bytes_of c)) (is_empty c) m x ≡ Some f → fitting_fault n (bytes_of c ++ x) ≡ Some f
+  pub fitting_fault_is : (f : Fault) → (IsOccupied m c → ⊥) → fault_at Slice (length x) (length (bytes_of c)) (is_empty c) m x ≡ Some f → fitting_fault n (bytes_of c ++ x) ≡ Some f
   fitting_fault_is f free fault =
-      sym (answered (value_of c) (Some f) (λ h y q. fault_ends Slice (length x) (length (bytes_of c)) x (is_empty c) m f fault h y) refl (sym (free_fault (is_occupied m c) free ∙ fault))).fault
+      sym (answered (value_of c) (Some f) (λ h y q. fault_ends Slice (length x) (length (bytes_of c)) x (is_empty c) m f fault h y) refl (sym (same_fault_free c m x free ∙ fault))).fault
 
   -- if the number's place is occupied, there is no error
-  pub occupied_answers : (v : Ipv6Extensions) → v ≡ value_of c → is_occupied m c ≡ true → IsFittingAnswer n (bytes_of c ++ x) v m x None
-  occupied_answers v value occupied =
-      answered v None (λ h y. ((occupied_told c m fits).0 occupied).1 h y.number) value (sym (ap (λ (b : Bool). if b then None else chain_faults Slice c m x) occupied))
+  pub occupied_answers : (v : Ipv6Extensions) → v ≡ value_of c → IsOccupied m c → IsFittingAnswer n (bytes_of c ++ x) v m x None
+  occupied_answers v value occupied = answered v None (λ h y. occupied_breaks c m occupied h y.number) value (sym (no_fault_occupied c m x occupied))
 
   -- nor if the number is not an extension header's
   pub other_answers : (v : Ipv6Extensions) → v ≡ value_of c → (IsExtensionNumber m → ⊥) → IsFittingAnswer n (bytes_of c ++ x) v m x None
-  other_answers v value other = elim (cases_Bool (is_occupied m c)) [
-    | inl occupied ↦ occupied_answers v value occupied
-    | inr free ↦
-        answered v None (λ h y q. end_at_other (is_empty c) m x other h y) value
-        (sym (free_fault (is_occupied m c) free ∙ no_fault_at_other Slice (length x) (is_empty c) m x (length (bytes_of c)) other))
-  ]
+  other_answers v value other =
+      answered v None (λ h y q. end_at_other (is_empty c) m x other h y) value
+      (sym (same_fault_free c m x (λ t. other (later_extension m t.0)) ∙ no_fault_at_other Slice (length x) (is_empty c) m x (length (bytes_of c)) other))
 
 -- At an extension number whose place is free there is an error after the chain.
 pub fitting_fault_at_end : (n : ℕ) (s : List ℕ) (c : List ExtHeader) → IsLongestUnder FitsPlaces n s c → IsExtensionNumber (leads_to n c) → (IsOccupied (leads_to n c) c → ⊥) → IsSome (fault_after fitting_faults c n s)
 fitting_fault_at_end n s c l number free =
-    let m : ℕ = leads_to n c in
-    let fault : Option Fault = chain_faults Slice c m (rest_after c s) in
-    let some : IsSome fault = fault_at_end Slice (length (rest_after c s)) (rest_after c s) (length (bytes_of c)) (is_empty c) m number (fitting_ends n s c l free) in
-    elim (cases_Bool (is_occupied m c)) [
-      | inl t ↦ absurd (free ((occupied_told c m l.has.1).0 t))
-      | inr t ↦ subst (λ (b : Bool). IsSome (if b then None else fault)) (sym t) some
-    ]
+    let some = fault_at_end Slice (length (rest_after c s)) (rest_after c s) (length (bytes_of c)) (is_empty c) (leads_to n c) number (fitting_ends n s c l free) in
+    subst (λ (o : Option Fault). IsSome o) (sym (same_fault_free c (leads_to n c) (rest_after c s) free)) some
 
 -- the walk's result is all that the parse needs
 module _ (n : ℕ) (s : List ℕ) (v : Places Ipv6ExtensionSlice) (m : ℕ) (r : List ℕ) (f : Option Fault) (k : IsPlacedAnswer n s v m r f) where

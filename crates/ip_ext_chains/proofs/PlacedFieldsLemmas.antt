@@ -1,9 +1,9 @@
 -- A struct of six places, and its fields in each.
-use Rattle.ip_spec.proofs.Common.{◌≡◌, ℕ, List, refl, ap, ◌∙◌, arith, true, rules, Option, None, is_some, option_map, option_map_or, ForSome, cases_Bool, none-some, RawFields, FragmentFields, AuthFields, raw_fields, fragment_fields, auth_fields, ExtHeader, Place, hop_by_hop, destination, routing, authentication, final_destination, number_in, header_in, HeaderFields, raw_header, fragment_header, auth_header, fields_of, IsEncoded, IsEncodable, placed_len, fields_len}
+use Rattle.ip_spec.proofs.Common.{◌≡◌, ℕ, List, refl, ap, sym, ◌∙◌, arith, true, rules, Option, None, is_some, option_map, option_map_or, ForSome, cases_Bool, none-some, RawFields, FragmentFields, AuthFields, raw_fields, fragment_fields, auth_fields, ExtHeader, Place, hop_by_hop, destination, routing, authentication, final_destination, number_in, header_in, HeaderFields, raw_header, fragment_header, auth_header, fields_of, IsEncoded, IsEncodable, placed_len, fields_len}
 use Rattle.ip_spec.specs.Places.{fragment}
 use Rattle.ip_spec.proofs.PlaceLemmas.{none_after}
 use Rattle.ip_spec.proofs.EncodedLemmas.{same_fragment, same_auth}
-use Rattle.ip_spec.proofs.WalkLemmas.{some_if}
+use Rattle.ip_spec.proofs.WalkLemmas.{is_some-map}
 use Rattle.ip_ext_chains.specs.Ipv6Extensions.{value_of, raw_in, final_of, placed_fields, exts_len}
 use Rattle.ip_ext_chains.specs.declared.ipv6_exts.Ipv6Extensions.{Ipv6Extensions}
 use Rattle.ip_ext_chains.specs.declared.ipv6_routing_exts.Ipv6RoutingExtensions.{Ipv6RoutingExtensions}
@@ -22,7 +22,7 @@ final_place : (o : Option RawFields) (p : Option RawFields) → (o ≡ None → 
 final_place o p k = search rules
 
 no_final : (c : List ExtHeader) → raw_in routing c ≡ None → raw_in final_destination c ≡ None
-no_final c e = search (rules, cases_Bool, some_if, none-some, none_after)
+no_final c e = ap (option_map (λ h. raw_fields h.bytes)) (none_after c (sym (is_some-map (λ h. raw_fields h.bytes) (header_in routing c)) ∙ ap is_some e))
 
 -- the value of a chain has the fields of its headers
 pub placed_fields-value_of : (c : List ExtHeader) (p : Place) → placed_fields (value_of c) p ≡ option_map fields_of (header_in p c)

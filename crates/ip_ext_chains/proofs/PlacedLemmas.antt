@@ -1,11 +1,11 @@
 -- Headers in their places.
-use Rattle.ip_spec.proofs.Common.{◌≡◌, ℕ, List, refl, ap, sym, ◌∙◌, Bool, false, rules, ◌==◌, ◌&&◌, not, Option, Some, None, is_some, IfSome, if◌then◌else◌, option_map, option_map_or, eqb-true, raw_fields, fragment_fields, auth_fields, ExtHeader, Place, hop_by_hop, destination, routing, authentication, final_destination, number_in, side_of, header_in, place_of, is_occupied}
+use Rattle.ip_spec.proofs.Common.{◌≡◌, ℕ, List, refl, ap, sym, ◌∙◌, Bool, rules, Option, Some, None, is_some, IfSome, if◌then◌else◌, option_map, eqb-true, raw_fields, fragment_fields, auth_fields, ExtHeader, Place, hop_by_hop, destination, routing, authentication, final_destination, number_in, header_in, next_place}
 use Rattle.ip_spec.specs.Places.{fragment}
 use Rattle.ip_spec.proofs.FirstLemmas.{find_passes}
-use Rattle.ip_spec.proofs.PlaceLemmas.{has_routing, is_of}
+use Rattle.ip_spec.proofs.PlaceLemmas.{is_of, side, next_alike}
 use Rattle.ip_spec.proofs.WalkLemmas.{is_some-map}
 use Rattle.ip_ext_slices.specs.Ipv6ExtensionSlice.{header_of}
-use Rattle.ip_ext_chains.specs.Slots.{at, ArePlaced, place_in, is_occupied_in, raw_at, value_at, AreOfNumber}
+use Rattle.ip_ext_chains.specs.Slots.{at, ArePlaced, raw_at, value_at, AreOfNumber}
 use Rattle.ip_ext_chains.specs.Ipv6Extensions.{raw_in, value_of}
 use Rattle.ip_ext_slices.specs.declared.ipv6_ext_slice.Ipv6ExtensionSlice.{Ipv6ExtensionSlice}
 use Rattle.ip_ext_chains.specs.declared.places.Places.{Places}
@@ -14,24 +14,18 @@ pub mapped_if : {A B : Type 0} (f : A → B) (b : Bool) (x : A) (o : Option A) �
 mapped_if f b x o = search rules
 
 pub in_place_number : (p : Place) (c : List ExtHeader) (h : ExtHeader) → header_in p c ≡ Some h → h.number ≡ number_in p
-in_place_number p c h e = eqb-true h.number (number_in p) (find_passes (is_of p) (side_of p c) h e)
+in_place_number p c h e = eqb-true h.number (number_in p) (find_passes (is_of p) (side p c) h e)
 
 -- the occupied places are those of the chain
 module _ (c : List ExtHeader) (v : Places Ipv6ExtensionSlice) (k : ArePlaced c v) where
   pub filled_same : (p : Place) → is_some (at p v) ≡ is_some (header_in p c)
   filled_same p = sym (is_some-map header_of (at p v)) ∙ ap is_some (k p)
 
-  pub place_same : (m : ℕ) → place_in v m ≡ place_of m (has_routing c)
-  place_same m = ap (place_of m) (filled_same routing)
-
   pub none_same : (p : Place) → at p v ≡ None → header_in p c ≡ None
   none_same p e = sym (k p) ∙ ap (option_map header_of) e
 
-  filled_alike : (o : Option Place) → option_map_or (λ p. is_some (at p v)) o false ≡ option_map_or (λ p. is_some (header_in p c)) o false
-  filled_alike o = search rules
-
-  pub occupied_same : (m : ℕ) → is_occupied_in v m ≡ is_occupied m c
-  occupied_same m = ap (λ b. not (m == 0) && b) (ap (λ o. option_map_or (λ p. is_some (at p v)) o false) (place_same m) ∙ filled_alike (place_of m (has_routing c)))
+  pub next_same : (m : ℕ) → next_place (λ p. at p v) m ≡ next_place (λ p. header_in p c) m
+  next_same m = next_alike (λ p. at p v) (λ p. header_in p c) m filled_same
 
   of_number : (p : Place) (o : Option Ipv6ExtensionSlice) → option_map header_of o ≡ header_in p c → IfSome o (λ h. (header_of h).number ≡ number_in p)
   of_number p o e = search (rules, in_place_number)

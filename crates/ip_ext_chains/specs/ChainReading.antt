@@ -1,5 +1,5 @@
 -- Reading a chain, one header after the other, each by its requests.
-use Rattle.std.specs.Prelude.{ℕ, ◌≡◌, ◌+◌, ◌==◌, Bool, false, IsTrue, List, [], ◌∷◌, ◌++◌, length, Option, Some, None, is_some, if◌then◌else◌}
+use Rattle.std.specs.Prelude.{ℕ, ◌≡◌, ◌+◌, ◌==◌, Bool, false, IsTrue, List, [], ◌∷◌, ◌++◌, length, Option, Some, None, if◌then◌else◌}
 use Rattle.std.specs.Option.{option_map}
 use Rattle.std.specs.Io.KnownBytes.{Consumes}
 use Rattle.ip_base.specs.declared.err.layer.Layer.{Layer}
@@ -9,8 +9,8 @@ use Rattle.ip_spec.specs.Header.{IsHeader}
 use Rattle.ip_spec.specs.Fields.{next_header, raw_fields, fragment_fields, auth_fields}
 use Rattle.ip_spec.specs.Requests.{Asks}
 use Rattle.ip_spec.specs.Chain.{ExtHeader, IsChain, leads_to, bytes_of, is_empty}
-use Rattle.ip_spec.specs.Fits.{FitsPlaces}
-use Rattle.ip_spec.specs.Places.{Place, hop_by_hop, destination, routing, fragment, authentication, final_destination, number_in, place_of, is_occupied}
+use Rattle.ip_spec.specs.Fits.{FitsPlaces, IsOccupied}
+use Rattle.ip_spec.specs.Places.{Place, hop_by_hop, destination, routing, fragment, authentication, final_destination, number_in}
 use Rattle.ip_base.specs.Limits.{Limits, left, started, advanced}
 use Rattle.ip_base.specs.LimitedReader.{inner_of, limits_of, window}
 use Rattle.ip_base.specs.Reading.{IsRefused, IsConsumedInLayer, IsPastLimit, IsRefusedWithin}
@@ -18,7 +18,6 @@ use Rattle.ip_base.specs.declared.io.limited_reader.LimitedReader.{LimitedReader
 use Rattle.ip_ext_headers.specs.AuthReading.{IsZeroConsumed}
 use Rattle.ip_base.specs.declared.err.ipv6_exts.header_error.HeaderError.TheVariants.{HopByHopNotAtStart, IpAuth}
 use Rattle.ip_ext_chains.specs.Fitting.{IsFittingAnswer}
-use Rattle.ip_ext_chains.specs.Ipv6Extensions.{placed_fields}
 use Rattle.ip_ext_chains.specs.declared.ipv6_exts.Ipv6Extensions.{Ipv6Extensions}
 use Rattle.ip_ext_chains.specs.declared.ipv6_routing_exts.Ipv6RoutingExtensions.{Ipv6RoutingExtensions}
 use Rattle.ip_ext_chains.specs.declared.err.ipv6_exts.header_read_error.HeaderReadError.{HeaderReadError}
@@ -49,7 +48,7 @@ pub record IsChainRefused {R : Type 0} (Consumed : R → R → List ExtHeader �
   pub headers : List ExtHeader
   pub chain : IsChain n headers
   pub fits : FitsPlaces headers
-  pub free : is_occupied (leads_to n headers) headers ≡ false
+  pub free : IsOccupied (leads_to n headers) headers → ⊥
   pub between : R
   pub consumed : Consumed old between headers
   pub refused : Refused (is_empty headers) (leads_to n headers) between new
@@ -102,16 +101,6 @@ with_header routing b v = record v { routing = Some (routing_fields b) }
 with_header fragment b v = record v { fragment = Some (fragment_fields b) }
 with_header authentication b v = record v { auth = Some (auth_fields b) }
 with_header final_destination b v = record v { routing = option_map {T = Ipv6RoutingExtensions} {U = Ipv6RoutingExtensions} (λ r. record r { final_destination_options = Some (raw_fields b) }) v.routing }
-
--- p is the place of a header of number m, and it is free
-pub record IsNextPlace (first : Bool) (m : ℕ) (p : Place) (v : Ipv6Extensions) : Type 0 where
-  pub own : place_of m (is_some v.routing) ≡ Some p
-  pub free : is_some (placed_fields v p) ≡ false
-  pub zero_first : m ≡ HOP_BY_HOP → IsTrue first
-
--- there is no such place
-abbrev pub HasNoPlace : Bool → ℕ → Ipv6Extensions → Type 0
-HasNoPlace first m v = (p : Place) → IsNextPlace first m p v → ⊥
 
 -- A header was read into the place p, and leads to number m.
 pub record IsReadInto (Consumed : List ℕ → Type 0) (p : Place) (m : ℕ) (old new : Ipv6Extensions) : Type 0 where

@@ -4,7 +4,7 @@ use Rattle.ip_base.specs.declared.ip_number_impl.IpNumber.{IpNumber}
 use Rattle.ip_spec.specs.Numbers.{ROUTING}
 use Rattle.ip_spec.specs.Places.{Place, HeaderFields}
 use Rattle.ip_spec.specs.Walk.{PlacedFields, WalkAnswer, leads, hop_by_hop_not_at_start, not_referenced}
-use Rattle.ip_spec.specs.WalkStep.{next_place, without, next_of}
+use Rattle.ip_spec.specs.WalkStep.{walk_place, without, next_of}
 use Rattle.ip_ext_chains.specs.Slots.{at}
 use Rattle.ip_ext_chains.specs.Ipv6Extensions.{placed_fields}
 use Rattle.ip_base.specs.declared.err.ipv6_exts.exts_walk_error.ExtsWalkError.{ExtsWalkError}
@@ -24,7 +24,7 @@ left_in w p = if is_some (at p w.reached) then None else placed_fields w.headers
 -- a header with fields x is next in the walk `old`, and `new` is the walk after it
 pub record IsStep (old new : Walk) (x : HeaderFields) : Type 0 where
   pub place : Place
-  pub own : next_place old.first old.past_routing old.number.0 ≡ Some place
+  pub own : walk_place old.first old.past_routing old.number.0 ≡ Some place
   pub there : left_in old place ≡ Some x
   pub left : (p : Place) → left_in new p ≡ without place (left_in old) p
   pub number : new.number.0 ≡ next_of x
@@ -33,6 +33,6 @@ pub record IsStep (old new : Walk) (x : HeaderFields) : Type 0 where
 
 -- no header is next in the walk `old`, and `new` is at the same position
 pub record IsStop (old new : Walk) : Type 0 where
-  pub none : (p : Place) → next_place old.first old.past_routing old.number.0 ≡ Some p → left_in old p ≡ None
+  pub none : (p : Place) → walk_place old.first old.past_routing old.number.0 ≡ Some p → left_in old p ≡ None
   pub left : (p : Place) → left_in new p ≡ left_in old p
   pub number : new.number.0 ≡ old.number.0

@@ -1,9 +1,10 @@
 -- The longest chain at the start of bytes that fits six places.
-use Rattle.std.specs.Prelude.{◌≡◌, ℕ, List, Option, None, if◌then◌else◌}
+use Rattle.std.specs.Prelude.{◌≡◌, ℕ, List, Option, None, is_some, ◌==◌, ◌||◌, if◌then◌else◌}
 use Rattle.ip_base.specs.declared.len_source.LenSource.TheVariants.{Slice}
 use Rattle.ip_spec.specs.Chain.{ExtHeader, leads_to}
 use Rattle.ip_spec.specs.Fits.{FitsPlaces}
-use Rattle.ip_spec.specs.Places.{is_occupied}
+use Rattle.ip_spec.specs.Numbers.{HOP_BY_HOP}
+use Rattle.ip_spec.specs.Places.{header_in, next_place}
 use Rattle.ip_spec.proofs.UnderLemmas.{some_longest_under}
 use Rattle.ip_spec.proofs.FitsLemmas.{fits_places}
 use Rattle.ip_spec.specs.Parse.{rest_after, fault_after, IsAnswer}
@@ -18,10 +19,10 @@ use Rattle.ip_ext_chains.specs.declared.ipv6_exts.Ipv6Extensions.{Ipv6Extensions
 abbrev pub fitting_chain : ℕ → List ℕ → List ExtHeader
 fitting_chain n s = (some_longest_under FitsPlaces fits_places n s).0
 
--- The error after the chain c, at number m with r left. None if the place of m is occupied: the bytes there aren't
--- parsed.
+-- The error after the chain c, at number m with r left. None if m has no free place: the bytes there aren't parsed. But
+-- hop-by-hop options after a header are an error.
 abbrev pub fitting_faults : List ExtHeader → ℕ → List ℕ → Option Fault
-fitting_faults c m r = if is_occupied m c then None else chain_faults Slice c m r
+fitting_faults c m r = if (m == HOP_BY_HOP) || is_some (next_place (λ p. header_in p c) m) then chain_faults Slice c m r else None
 
 -- the error at the end of the longest chain that fits
 abbrev pub fitting_fault : ℕ → List ℕ → Option Fault

@@ -1,10 +1,9 @@
 -- The contents of each place.
-use Rattle.std.specs.Prelude.{◌≡◌, ◌==◌, ◌&&◌, ℕ, List, Bool, true, false, not, Option, Some, None, is_some, IfSome, get_or, if◌then◌else◌}
-use Rattle.std.specs.Option.{option_map, option_map_or}
-use Rattle.ip_spec.specs.Numbers.{HOP_BY_HOP}
+use Rattle.std.specs.Prelude.{◌≡◌, ◌==◌, List, Option, Some, None, IfSome, get_or, if◌then◌else◌}
+use Rattle.std.specs.Option.{option_map}
 use Rattle.ip_spec.specs.Chain.{ExtHeader}
 use Rattle.ip_spec.specs.Fields.{RawFields, raw_fields, fragment_fields, auth_fields}
-use Rattle.ip_spec.specs.Places.{Place, hop_by_hop, destination, routing, fragment, authentication, final_destination, index, number_in, place_of, header_in}
+use Rattle.ip_spec.specs.Places.{Place, hop_by_hop, destination, routing, fragment, authentication, final_destination, index, number_in, header_in}
 use Rattle.ip_ext_slices.specs.Ipv6ExtensionSlice.{header_of}
 use Rattle.ip_ext_slices.specs.declared.ipv6_ext_slice.Ipv6ExtensionSlice.{Ipv6ExtensionSlice}
 use Rattle.ip_ext_chains.specs.declared.ipv6_exts.Ipv6Extensions.{Ipv6Extensions}
@@ -20,23 +19,6 @@ IsVacant v = (p : Place) → at p v ≡ None
 -- w is v with x in place q
 abbrev pub IsPut : {T : Type 0} → Place → T → Places T → Places T → Type 0
 IsPut q x v w = (p : Place) → at p w ≡ (if index q == index p then Some x else at p v)
-
--- the place of a header of number m
-abbrev pub place_in : {T : Type 0} → Places T → ℕ → Option Place
-place_in v m = place_of m (is_some (at routing v))
-
--- m isn't 0, and its place is occupied
-abbrev pub is_occupied_in : {T : Type 0} → Places T → ℕ → Bool
-is_occupied_in v m = not (m == HOP_BY_HOP) && option_map_or (λ p. is_some (at p v)) (place_in v m) false
-
--- p is the place of m, and it is free
-pub record IsFreePlace {T : Type 0} (m : ℕ) (p : Place) (v : Places T) : Type 0 where
-  pub own : place_in v m ≡ Some p
-  pub free : at p v ≡ None
-
--- the place of m, if it has one, is occupied
-pub record IsFilled {T : Type 0} (m : ℕ) (v : Places T) : Type 0 where
-  pub filled : (p : Place) → place_in v m ≡ Some p → is_some (at p v) ≡ true
 
 -- the places contain the headers of the chain c, each in its own
 abbrev pub ArePlaced : List ExtHeader → Places Ipv6ExtensionSlice → Type 0

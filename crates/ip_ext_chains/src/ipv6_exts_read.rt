@@ -1,16 +1,17 @@
-ghost use Rattle.std.specs.Prelude.{◌≡◌, ℕ, [], length, IsOk, OnOk, OnErr, IfOk, IfErr, IfSome, IfNone, true, is_some};
+ghost use Rattle.std.specs.Prelude.{◌≡◌, ℕ, [], length, IsOk, OnOk, OnErr, IfOk, IfErr, IfSome, None, true, is_some, not, ◌==◌, ◌&&◌, if◌then◌else◌};
+ghost use Rattle.std.specs.Option.{option_map};
 ghost use Rattle.std.specs.Io.KnownBytes.{Consumes};
-ghost use Rattle.ip_spec.specs.Numbers.{ROUTING, FRAGMENT, AUTHENTICATION};
+ghost use Rattle.ip_spec.specs.Numbers.{HOP_BY_HOP, ROUTING, FRAGMENT, AUTHENTICATION};
 ghost use Rattle.ip_spec.specs.Header.{IsRawHeader, IsFragmentHeader, IsAuthHeader, IsRawNumber, IsExtensionNumber};
 ghost use Rattle.ip_spec.specs.Fields.{raw_fields, fragment_fields, auth_fields};
 ghost use Rattle.ip_spec.specs.Lengths.{IsPayloadLen};
-ghost use Rattle.ip_spec.specs.Places.{number_in, final_destination};
+ghost use Rattle.ip_spec.specs.Places.{number_in, next_place, final_destination};
 ghost use Rattle.ip_spec.specs.Requests.{RawAsks};
 ghost use Rattle.ip_base.specs.Reading.{IsHeaderConsumed, IsRefused};
 ghost use Rattle.ip_ext_chains.specs.Place.{as_place};
 ghost use Rattle.ip_ext_chains.specs.Ipv6Extensions.{value_of, placed_fields};
 ghost use Rattle.ip_ext_chains.specs.ReadError.{IsSliceError};
-ghost use Rattle.ip_ext_chains.specs.ChainReading.{AreConsumed, IsChainConsumed, IsChainRefused, IsHeaderRefused, IsNextPlace, HasNoPlace, IsReadInto, IsHeaderRead, routing_fields};
+ghost use Rattle.ip_ext_chains.specs.ChainReading.{AreConsumed, IsChainConsumed, IsChainRefused, IsHeaderRefused, IsReadInto, IsHeaderRead, routing_fields};
 ghost use Rattle.ip_ext_chains.specs.ChainReadError.{io_of};
 
 use crate::err::ip_auth;
@@ -96,8 +97,8 @@ impl Ipv6Extensions {
 
     /// Returns the place of a header of the number, if it is free. Hop-by-hop options have one only at the start.
     pub(crate) fn next_place(&self, number: IpNumber, is_first: bool) -> Option<Place>
-        ensures next { IfSome result (λ p. IsNextPlace is_first number.0 (as_place p) self.now) }
-        ensures none { IfNone result (HasNoPlace is_first number.0 self.now) }
+        ensures { option_map as_place result ≡ (if (number.0 == HOP_BY_HOP) && not is_first
+            then None else next_place (placed_fields self.now) number.0) }
     {
         if number == ip_number::IPV6_HOP_BY_HOP && !is_first {
             return None;

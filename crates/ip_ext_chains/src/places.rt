@@ -1,9 +1,9 @@
 //! The six places for the headers of an IPv6 chain (RFC 8200, section 4.1).
-ghost use Rattle.std.specs.Prelude.{◌≡◌, is_some, IfSome, IfNone};
+ghost use Rattle.std.specs.Prelude.{◌≡◌, ◌↔◌, IsTrue, None, IfSome};
 ghost use Rattle.std.specs.Option.{option_map};
-ghost use Rattle.ip_spec.specs.Header.{IsRawNumber};
+ghost use Rattle.ip_spec.specs.Header.{IsRawNumber, IsLaterNumber};
 ghost use Rattle.ip_spec.specs.Fields.{raw_fields, fragment_fields, auth_fields};
-ghost use Rattle.ip_spec.specs.Places.{place_of, index, number_in, routing, fragment, authentication};
+ghost use Rattle.ip_spec.specs.Places.{place_of, next_place, index, number_in, fragment, authentication};
 ghost use Rattle.ip_ext_chains.specs.Place.{as_place};
 
 use crate::Ipv6ExtensionSlice;
@@ -68,7 +68,7 @@ pub(crate) struct Places<T> {
 }
 
 impl<T: Drop> Places<T> {
-    ghost use Rattle.ip_ext_chains.specs.Slots.{at, IsVacant, IsPut, IsFreePlace, IsFilled, is_occupied_in};
+    ghost use Rattle.ip_ext_chains.specs.Slots.{at, IsVacant, IsPut};
 
     /// Returns places that are all free.
     #[inline(always)]
@@ -88,37 +88,28 @@ impl<T: Drop> Places<T> {
         self.slots[place.index()].as_ref()
     }
 
-    /// Returns the place of a header of the number, after the routing header if there is one here.
+    /// Returns the place that a header of the number takes next, if it is free.
     #[inline(always)]
-    pub(crate) fn place_of(&self, number: IpNumber) -> Option<Place>
-        ensures { option_map as_place result ≡ place_of number.0 (is_some (at routing self.now)) }
+    pub(crate) fn next_place(&self, number: IpNumber) -> Option<Place>
+        ensures { option_map as_place result ≡ next_place (λ p. at p self.now) number.0 }
     {
-        Place::of(number, self.get(Place::Routing).is_some())
-    }
-
-    /// Returns whether the place of the number is occupied. Hop-by-hop options are left out, since they are never a
-    /// later header.
-    #[inline(always)]
-    pub(crate) fn is_occupied(&self, number: IpNumber) -> bool
-        ensures { result ≡ is_occupied_in self.now number.0 }
-    {
-        let Some(place) = self.place_of(number) else {
-            return false;
-        };
-        number != ip_number::IPV6_HOP_BY_HOP && self.get(place).is_some()
-    }
-
-    /// Returns the place of the number, if it is free.
-    #[inline(always)]
-    pub(crate) fn free_place(&self, number: IpNumber) -> Option<Place>
-        ensures free { IfSome result (λ p. IsFreePlace number.0 (as_place p) self.now) }
-        ensures filled { IfNone result (IsFilled number.0 self.now) }
-    {
-        let place = self.place_of(number)?;
+        let place = Place::of(number, self.get(Place::Routing).is_some())?;
         if self.get(place).is_some() {
             return None;
         }
         Some(place)
+    }
+
+    /// Returns whether the number is that of a later header, and its place is occupied.
+    #[inline(always)]
+    pub(crate) fn is_occupied(&self, number: IpNumber) -> bool
+        ensures { IsTrue result
+            ↔ (IsLaterNumber number.0 × (next_place (λ p. at p self.now) number.0 ≡ None)) }
+    {
+        let Some(place) = Place::of(number, self.get(Place::Routing).is_some()) else {
+            return false;
+        };
+        number != ip_number::IPV6_HOP_BY_HOP && self.get(place).is_some()
     }
 
     /// Stores a value in the place.

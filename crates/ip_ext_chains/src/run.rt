@@ -1,6 +1,8 @@
-ghost use Rattle.std.specs.Prelude.{◌≡◌, [], true, false, IsTrue, IsFalse};
+ghost use Rattle.std.specs.Prelude.{◌≡◌, ◌≢◌, [], None, IsTrue, IsFalse};
 ghost use Rattle.ip_ext_slices.specs.Ipv6ExtensionSliceIter.{headers_left};
-ghost use Rattle.ip_ext_chains.specs.Slots.{is_occupied_in};
+ghost use Rattle.ip_spec.specs.Header.{IsLaterNumber};
+ghost use Rattle.ip_spec.specs.Places.{next_place};
+ghost use Rattle.ip_ext_chains.specs.Slots.{at};
 ghost use Rattle.ip_ext_chains.specs.Run.{IsRun};
 
 use crate::places::Places;
@@ -16,7 +18,7 @@ pub(crate) fn take_run<'a>(
 {
     let mut places = Places::new();
     'headers: loop {
-        let Some(place) = places.free_place(headers.next_number()) else {
+        let Some(place) = places.next_place(headers.next_number()) else {
             return places;
         };
         let Some(header) = headers.next() else {
@@ -35,9 +37,9 @@ pub(crate) fn is_last(
     number: IpNumber,
 ) -> bool
     ensures last { IsTrue result → (headers_left headers.now ≡ [])
-        × (is_occupied_in places.now number.0 ≡ false) }
+        × (IsLaterNumber number.0 → next_place (λ p. at p places.now) number.0 ≢ None) }
     ensures more { IsFalse result → headers_left headers.now ≡ []
-        → is_occupied_in places.now number.0 ≡ true }
+        → IsLaterNumber number.0 × (next_place (λ p. at p places.now) number.0 ≡ None) }
 {
     headers.rest().is_empty() && !places.is_occupied(number)
 }

@@ -3,7 +3,7 @@ ghost use Rattle.std.specs.Prelude.{◌≡◌, ◌↔◌, true, false, IsTrue, S
 ghost use Rattle.std.specs.List.{find};
 ghost use Rattle.std.specs.Option.{option_map};
 ghost use Rattle.ip_spec.specs.Walk.{answer_at};
-ghost use Rattle.ip_spec.specs.WalkStep.{next_place};
+ghost use Rattle.ip_spec.specs.WalkStep.{walk_place};
 ghost use Rattle.ip_spec.specs.Places.{Place as spec_place, places, raw_header};
 ghost use Rattle.ip_ext_chains.specs.Place.{as_place};
 ghost use Rattle.ip_ext_chains.specs.HeaderRef.{fields_of_ref};
@@ -80,7 +80,7 @@ impl<'a> Walk<'a> {
     /// Returns whether a header of the number is in the place.
     #[inline(always)]
     fn goes_on_in(&self, place: Place) -> bool
-        ensures { IsTrue result ↔ (next_place self.now.first self.now.past_routing
+        ensures { IsTrue result ↔ (walk_place self.now.first self.now.past_routing
             self.now.number.0 ≡ Some (as_place place)) }
     {
         let is_own = match place {
@@ -95,7 +95,7 @@ impl<'a> Walk<'a> {
     /// Reaches the header in the place of the number, if it is left, and returns it.
     #[inline(always)]
     fn reach(&mut self, place: Place) -> Option<HeaderRef<'a>>
-        requires own { next_place self.old.first self.old.past_routing self.old.number.0
+        requires own { walk_place self.old.first self.old.past_routing self.old.number.0
             ≡ Some (as_place place) }
         ensures some { IfSome result (λ h. IsStep self.old self.new (fields_of_ref h)) }
         ensures none { IfNone result (IsStop self.old self.new) }

@@ -1,18 +1,17 @@
 //! The headers that fit six places, counted in the simplest way.
-ghost use Rattle.std.specs.Prelude.{◌≡◌, ◌↔◌, ◌≤◌, ◌==◌, length, map, take, IsTrue};
-ghost use Rattle.std.specs.List.{position_or_len};
+ghost use Rattle.std.specs.Prelude.{◌≡◌, ◌↔◌, ◌≤◌, ◌==◌, length, map, take, count_by, IsTrue};
+ghost use Rattle.std.specs.List.{position_or_len, before_first, after_first};
 ghost use Rattle.ip_spec.specs.Numbers.{ROUTING};
 ghost use Rattle.ip_spec.specs.Chain.{headers_within};
 ghost use Rattle.ip_spec.specs.Demand.{KeepsBeginning};
 ghost use Rattle.ip_spec.specs.Fits.{FitsPlaces};
-ghost use Rattle.ip_spec.specs.NumbersFit.{numbers_of, how_often, before_routing, after_routing};
 ghost use Rattle.ip_plain.specs.PlainHeader.{plain_header_of};
 
 use crate::chain::PlainHeader;
 
 /// Returns how many of the headers have the number.
 fn how_often(number: u8, headers: &[PlainHeader<'_>]) -> usize
-    ensures { result ≡ how_often number (numbers_of (map plain_header_of headers.now)) }
+    ensures { result ≡ count_by (λ h. h.number == number) headers.now }
 {
     headers
         .iter()
@@ -22,8 +21,7 @@ fn how_often(number: u8, headers: &[PlainHeader<'_>]) -> usize
 
 /// Returns the number of headers before the first routing header, or of all if there is none.
 fn routing_at(headers: &[PlainHeader<'_>]) -> usize
-    ensures at { result ≡ position_or_len (λ n. n == ROUTING)
-        (numbers_of (map plain_header_of headers.now)) }
+    ensures at { result ≡ position_or_len (λ h. h.number == ROUTING) headers.now }
     ensures within { result ≤ length headers.now }
 {
     match headers {
@@ -35,8 +33,8 @@ fn routing_at(headers: &[PlainHeader<'_>]) -> usize
 
 /// Returns how many of those before the first routing header have the number, or of all if there is none.
 fn how_often_before(number: u8, headers: &[PlainHeader<'_>]) -> usize
-    ensures { result
-        ≡ how_often number (before_routing (numbers_of (map plain_header_of headers.now))) }
+    ensures { result ≡ count_by (λ h. h.number == number)
+        (before_first (λ h. h.number == ROUTING) headers.now) }
 {
     let (before, _) = headers.split_at(routing_at(headers));
     how_often(number, before)
@@ -44,8 +42,8 @@ fn how_often_before(number: u8, headers: &[PlainHeader<'_>]) -> usize
 
 /// Returns how many of those after the first routing header have the number, or 0 if there is none.
 fn how_often_after(number: u8, headers: &[PlainHeader<'_>]) -> usize
-    ensures { result
-        ≡ how_often number (after_routing (numbers_of (map plain_header_of headers.now))) }
+    ensures { result ≡ count_by (λ h. h.number == number)
+        (after_first (λ h. h.number == ROUTING) headers.now) }
 {
     let at = routing_at(headers);
     if at == headers.len() {

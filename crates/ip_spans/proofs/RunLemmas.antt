@@ -1,30 +1,96 @@
 -- How many headers fit one struct with a place for each.
-use Rattle.ip_spec.proofs.Common.{◌≡◌, ℕ, ◌≤◌, List, [], ◌∷◌, ◌++◌, length, take, ap, sym, ◌∙◌, arith, ◌==◌, ◌↔◌, if◌then◌else◌, AllByRecursion, eq-eqb, map-append, append-nil, take_all, KeepsBeginning, IsExtensionNumber, how_often, in_place, before_routing, after_routing}
-use Rattle.ip_spec.proofs.FirstLemmas.{before-none}
-use Rattle.ip_spec.proofs.NumbersFitLemmas.{next_number_tells}
-use Rattle.ip_spans.specs.InPlaces.{AreInPlaces, span_numbers}
+use Rattle.ip_spec.proofs.Common.{◌≡◌, ◌≢◌, ℕ, ◌≤◌, List, [], ◌∷◌, ◌++◌, length, take, map, refl, ap, sym, ◌∙◌, arith, inl, inr, subst, Bool, true, false, Option, Some, IsTrue, is_some, IsSome, find, count_by, cases_Bool, ne_eqb, eq-eqb, eqb-true, same_Some, ◌==◌, ◌↔◌, if◌then◌else◌, AllByRecursion, map-append, append-nil, take_all, KeepsBeginning, IsExtensionNumber, ExtHeader, Place, hop_by_hop, destination, routing, authentication, final_destination, number_in, side_of, place_of, next_place, header_in}
+use Rattle.ip_spec.specs.Places.{fragment}
+use Rattle.std.specs.List.{after_first}
+use Rattle.ip_spec.proofs.FirstLemmas.{before-none, find-map, counted, none_counted}
+use Rattle.ip_spec.proofs.HeaderLemmas.{by_number}
+use Rattle.ip_spec.proofs.PlaceLemmas.{bare, is_of, in_both, own_next, next_own, next_alike, fits_where_next}
+use Rattle.ip_spec.proofs.FitsLemmas.{side-map, fits-map}
+use Rattle.ip_spec.proofs.WalkLemmas.{some_if, is_some-map}
+use Rattle.ip_spans.specs.InPlaces.{AreInPlaces}
 use Rattle.ip_spans.specs.declared.header_span.HeaderSpan.{HeaderSpan}
 
--- without a routing header, all destination options have one place
-pub one_side : (ns : List ℕ) → how_often 43 ns ≡ 0 → how_often 60 ns ≡ in_place 60 ns
-one_side ns e =
-    let all : before_routing ns ≡ ns = ap before_routing (sym (append-nil ns)) ∙ before-none (λ n. n == 43) ns [] e ∙ append-nil ns in
-    sym (ap (λ b. if b then how_often 60 (before_routing ns) else how_often 60 (after_routing ns)) (eq-eqb (how_often 43 ns) 0 e) ∙ ap (how_often 60) all)
+abbrev bares : List HeaderSpan → List ExtHeader
+bares xs = map (λ x. bare x.number) xs
 
-all_more : (P : ℕ → Type 0) (ns : List ℕ) (m : ℕ) → AllByRecursion P (ns ++ m ∷ []) ↔ (AllByRecursion P ns × P m)
-all_more P [] m = ((λ a. (tt, a.0)), λ a. (a.1, tt))
-all_more P (n ∷ ns) m =
-    let more = all_more P ns m in
+-- the span in a place, and the count of those that belong there
+abbrev span_in : List HeaderSpan → Place → Option HeaderSpan
+span_in xs p = find (λ x. x.number == number_in p) (side_of (λ x. x.number) p xs)
+
+abbrev often_in : Place → List HeaderSpan → ℕ
+often_in p xs = count_by (λ x. x.number == number_in p) (side_of (λ x. x.number) p xs)
+
+in_same : (xs : List HeaderSpan) (p : Place) → is_some (span_in xs p) ≡ is_some (header_in p (bares xs))
+in_same xs p =
+    sym (ap (λ c. is_some (find (is_of p) c)) (side-map (λ x. bare x.number) (λ h. h.number) p xs)
+    ∙ ap is_some (find-map (λ x. bare x.number) (is_of p) (side_of (λ x. x.number) p xs)) ∙ is_some-map (λ x. bare x.number) (span_in xs p))
+
+-- a number has a next place if and only if nothing is counted in its own
+module _ (xs : List HeaderSpan) (m : ℕ) where
+  next_where_none : (p : Place) → place_of m (is_some (span_in xs routing)) ≡ Some p → (often_in p xs ≡ 0) ↔ IsSome (next_place (span_in xs) m)
+  next_where_none p own = (
+    (λ none. elim (cases_Bool (is_some (span_in xs p))) [
+      | inl some ↦ absurd (omega (arith, none, counted (λ x. x.number == number_in p) (side_of (λ x. x.number) p xs) some))
+      | inr free ↦ ap is_some (next_own (span_in xs) m p own free)
+    ]),
+    (λ some.
+        let next = some_if (next_place (span_in xs) m) some in
+        let at = own_next (span_in xs) m next.0 next.1 in
+        let same : next.0 ≡ p = same_Some next.0 p (sym at.0 ∙ own) in
+        none_counted (λ x. x.number == number_in p) (side_of (λ x. x.number) p xs) (ap (λ q. is_some (span_in xs q)) (sym same) ∙ at.1)),
+  )
+
+-- a number other than 60 has one place
+pub other_next : (xs : List HeaderSpan) (m : ℕ) → IsExtensionNumber m → m ≢ 60 → (count_by (λ x. x.number == m) xs ≡ 0) ↔ IsSome (next_place (span_in xs) m)
+other_next xs m is other =
+    let N : ℕ → Type 0 = λ k. k ≢ 60 → (count_by (λ x. x.number == k) xs ≡ 0) ↔ IsSome (next_place (span_in xs) k) in
+    let at = λ (k : ℕ) (p : Place) (before : place_of k false ≡ Some p) (after : place_of k true ≡ Some p). next_where_none xs k p (in_both k p after before (is_some (span_in xs routing))) in
+    by_number N (λ z. at 0 hop_by_hop refl refl) (λ z. at 43 routing refl refl) (λ z. absurd (z refl)) (λ z. at 44 fragment refl refl) (λ z. at 51 authentication refl refl) m is other
+
+-- destination options without a routing header, and after one
+all_before : (xs : List HeaderSpan) → count_by (λ x. x.number == 43) xs ≡ 0 → side_of (λ x. x.number) destination xs ≡ xs
+all_before xs none = ap (side_of (λ x. x.number) destination) (sym (append-nil xs)) ∙ before-none (λ x. x.number == 43) xs [] none ∙ append-nil xs
+
+pub destination_next : (xs : List HeaderSpan) → ((if count_by (λ x. x.number == 43) xs == 0 then count_by (λ x. x.number == 60) xs else count_by (λ x. x.number == 60) (after_first (λ x. x.number == 43) xs)) ≡ 0) ↔ IsSome (next_place (span_in xs) 60)
+destination_next xs = elim (cases_Bool (is_some (span_in xs routing))) [
+  | inl some ↦
+      let one = counted (λ x. x.number == 43) xs some in
+      let side = ap (λ b. if b then count_by (λ x. x.number == 60) xs else often_in final_destination xs) (ne_eqb (count_by (λ x. x.number == 43) xs) 0 (λ none. omega (arith, one, none))) in
+      let tells = next_where_none xs 60 final_destination (ap (place_of 60) some) in
+      ((λ e. tells.0 (sym side ∙ e)), λ s. side ∙ tells.1 s)
+  | inr free ↦
+      let none = none_counted (λ x. x.number == 43) xs free in
+      let side = ap (λ b. if b then count_by (λ x. x.number == 60) xs else often_in final_destination xs) (eq-eqb (count_by (λ x. x.number == 43) xs) 0 none) ∙ ap (count_by (λ x. x.number == 60)) (sym (all_before xs none)) in
+      let tells = next_where_none xs 60 destination (ap (place_of 60) free) in
+      ((λ e. tells.0 (sym side ∙ e)), λ s. side ∙ tells.1 s)
+]
+
+-- so a count of 0 says that a number has a next place
+counted_tells : (xs : List HeaderSpan) (m r : ℕ) → IsExtensionNumber m → (r ≡ 0) ↔ IsSome (next_place (span_in xs) m) → IsTrue (r == 0) ↔ (IsExtensionNumber m × IsSome (next_place (span_in xs) m))
+counted_tells xs m r is k = ((λ t. (is, k.0 (eqb-true r 0 t))), λ s. eq-eqb r 0 (k.1 s.1))
+
+pub destination_tells : (xs : List HeaderSpan) (m r : ℕ) → m ≡ 60 → r ≡ (if count_by (λ x. x.number == 43) xs == 0 then count_by (λ x. x.number == 60) xs else count_by (λ x. x.number == 60) (after_first (λ x. x.number == 43) xs)) → IsTrue (r == 0) ↔ (IsExtensionNumber m × IsSome (next_place (span_in xs) m))
+destination_tells xs m r is e = rw (is, e) (counted_tells xs 60 _ (inl (inr (inr refl))) (destination_next xs))
+
+pub other_tells : (xs : List HeaderSpan) (m r : ℕ) → IsExtensionNumber m → m ≢ 60 → r ≡ count_by (λ x. x.number == m) xs → IsTrue (r == 0) ↔ (IsExtensionNumber m × IsSome (next_place (span_in xs) m))
+other_tells xs m r is other e = rw e (counted_tells xs m _ is (other_next xs m is other))
+
+all_more : (P : HeaderSpan → Type 0) (xs : List HeaderSpan) (x : HeaderSpan) → AllByRecursion P (xs ++ x ∷ []) ↔ (AllByRecursion P xs × P x)
+all_more P [] x = ((λ a. (tt, a.0)), λ a. (a.1, tt))
+all_more P (y ∷ xs) x =
+    let more = all_more P xs x in
     ((λ a. let b = more.0 a.1 in ((a.0, b.0), b.1)), λ a. (a.0.0, more.1 (a.0.1, a.1)))
 
--- one more header fits if its place is free
-pub next_has_place : (xs : List HeaderSpan) (x : HeaderSpan) → AreInPlaces xs → AreInPlaces (xs ++ x ∷ []) ↔ (IsExtensionNumber x.number × (in_place x.number (span_numbers xs) ≡ 0))
+-- one more header fits if its number has a next place
+pub next_has_place : (xs : List HeaderSpan) (x : HeaderSpan) → AreInPlaces xs → AreInPlaces (xs ++ x ∷ []) ↔ (IsExtensionNumber x.number × IsSome (next_place (span_in xs) x.number))
 next_has_place xs x f =
-    let more : span_numbers (xs ++ x ∷ []) ≡ span_numbers xs ++ x.number ∷ [] = map-append (λ h. h.number) xs (x ∷ []) in
-    let all = all_more IsExtensionNumber (span_numbers xs) x.number in
-    let tells = λ (is : IsExtensionNumber x.number). next_number_tells x.number (span_numbers xs) is f.fit in (
-      λ g. let is = (all.0 (rw more at g.extensions)).1 in (is, (tells is).0 (rw more at g.fit)),
-      λ p. record { extensions = rw more (all.1 (f.extensions, p.0)); fit = rw more ((tells p.0).1 p.1) },
+    let more : bares (xs ++ x ∷ []) ≡ bares xs ++ bare x.number ∷ [] = map-append (λ h. bare h.number) xs (x ∷ []) in
+    let all = all_more (λ h. IsExtensionNumber h.number) xs x in
+    let fits = λ (l : List HeaderSpan). fits-map (λ (h : HeaderSpan). bare h.number) (λ h. h.number) l in
+    let same : next_place (span_in xs) x.number ≡ next_place (λ p. header_in p (bares xs)) x.number = next_alike (span_in xs) (λ p. header_in p (bares xs)) x.number (in_same xs) in
+    let tells = λ (is : IsExtensionNumber x.number). fits_where_next (bares xs) (bare x.number) ((fits xs).1 f.fit) is in (
+      (λ g. let is = (all.0 g.extensions).1 in (is, ap is_some same ∙ (tells is).0 (rw more at ((fits (xs ++ x ∷ [])).1 g.fit)))),
+      λ p. record { extensions = all.1 (f.extensions, p.0); fit = (fits (xs ++ x ∷ [])).0 (rw more ((tells p.0).1 (sym (ap is_some same) ∙ p.1))) },
     )
 
 pub kept_whole : (xs : List HeaderSpan) (k : ℕ) → length xs ≤ k → AreInPlaces (take k xs) → KeepsBeginning AreInPlaces xs (take (length xs) xs)

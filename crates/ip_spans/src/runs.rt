@@ -1,8 +1,10 @@
-ghost use Rattle.std.specs.Prelude.{◌≡◌, ◌↔◌, ◌≤◌, length, take, IsTrue};
+ghost use Rattle.std.specs.Prelude.{◌≡◌, ◌==◌, ◌↔◌, ◌≤◌, length, take, count_by, IsTrue, IsSome, if◌then◌else◌};
+ghost use Rattle.std.specs.List.{find, after_first};
+ghost use Rattle.ip_spec.specs.Numbers.{ROUTING, DESTINATION_OPTIONS};
 ghost use Rattle.ip_spec.specs.Header.{IsExtensionNumber};
 ghost use Rattle.ip_spec.specs.Demand.{KeepsBeginning};
-ghost use Rattle.ip_spec.specs.NumbersFit.{NumbersFit, how_often, in_place, before_routing, after_routing};
-ghost use Rattle.ip_spans.specs.InPlaces.{AreInPlaces, span_numbers};
+ghost use Rattle.ip_spec.specs.Places.{number_in, side_of, next_place};
+ghost use Rattle.ip_spans.specs.InPlaces.{AreInPlaces};
 
 use crate::header_span::HeaderSpan;
 use etherparse_ip::{IpNumber, ip_number};
@@ -24,8 +26,9 @@ pub fn run_len(headers: &[HeaderSpan]) -> usize
 
 /// Returns whether a header of this number has a free place after the others.
 fn has_place(others: &[HeaderSpan], number: u8) -> bool
-    ensures { IsTrue result
-        ↔ (IsExtensionNumber number × (in_place number (span_numbers others.now) ≡ 0)) }
+    ensures { IsTrue result ↔ (IsExtensionNumber number
+        × IsSome (next_place (λ p. find (λ x. x.number == number_in p)
+        (side_of (λ x. x.number) p others.now)) number)) }
 {
     match IpNumber(number) {
         ip_number::IPV6_DEST_OPTIONS => how_often_on_last_side(others) == 0,
@@ -39,14 +42,17 @@ fn has_place(others: &[HeaderSpan], number: u8) -> bool
 
 /// Returns how many of the headers have this number.
 fn how_often(number: u8, headers: &[HeaderSpan]) -> usize
-    ensures { result ≡ how_often number (span_numbers headers.now) }
+    ensures { result ≡ count_by (λ x. x.number == number) headers.now }
 {
     headers.iter().filter(|it| it.number == number).count()
 }
 
 /// Returns the number of destination options after the first routing header, or among all headers if there is none.
 fn how_often_on_last_side(headers: &[HeaderSpan]) -> usize
-    ensures { result ≡ in_place 60 (span_numbers headers.now) }
+    ensures { result ≡ (if count_by (λ x. x.number == ROUTING) headers.now == 0
+        then count_by (λ x. x.number == DESTINATION_OPTIONS) headers.now
+        else count_by (λ x. x.number == DESTINATION_OPTIONS)
+        (after_first (λ x. x.number == ROUTING) headers.now)) }
 {
     if how_often(43, headers) == 0 {
         return how_often(60, headers);

@@ -1,7 +1,8 @@
 -- Chains whose reserved bits are set to zero: they lead to the same number, and have the same places and fields.
-use Rattle.ip_spec.proofs.Common.{◌≡◌, ◌≢◌, ℕ, ◌<◌, List, [], ◌∷◌, ◌++◌, length, take, drop, refl, ap, sym, ◌∙◌, arith, inl, inr, subst, Bool, rules, Option, Some, None, All, count_by, slice_range, ◌==◌, AllByRecursion, find, option_map, ForSome, cases_Bool, none-some, same_Some, take-append_seam, drop-append_seam, All-from_recursion, recursion_from_All, All-take, All-drop, from_be_bytes, w32, common_steps, IsHeader, IsFragmentHeader, IsAuthHeader, fragment, auth, next_header, FragmentFields, offset_bits, flag_bit, unreserved_bits, cleared_header, AreBytes, fixed_len, IsCleared, cleared_chain, ExtHeader, AreLinked, leads_to, bytes_of, IsChain, FitsPlaces, Place, destination, final_destination, side_of, header_in, HeaderFields, fields_of, fragment_header, IsEncodingOf}
+use Rattle.ip_spec.proofs.Common.{◌≡◌, ◌≢◌, ℕ, ◌<◌, List, [], ◌∷◌, ◌++◌, length, take, drop, refl, ap, sym, ◌∙◌, arith, inl, inr, subst, Bool, rules, Option, Some, None, All, count_by, slice_range, ◌==◌, AllByRecursion, find, option_map, ForSome, cases_Bool, none-some, same_Some, take-append_seam, drop-append_seam, All-from_recursion, recursion_from_All, All-take, All-drop, from_be_bytes, w32, common_steps, IsHeader, IsFragmentHeader, IsAuthHeader, fragment, auth, next_header, FragmentFields, offset_bits, flag_bit, unreserved_bits, cleared_header, AreBytes, fixed_len, IsCleared, cleared_chain, ExtHeader, AreLinked, leads_to, bytes_of, IsChain, FitsPlaces, Place, destination, final_destination, header_in, HeaderFields, fields_of, fragment_header, IsEncodingOf}
 use Rattle.ip_spec.proofs.FirstLemmas.{find-yes, find-no, before-map, after-map, find-map, count-map}
-use Rattle.ip_spec.proofs.PlaceLemmas.{is_of}
+use Rattle.ip_spec.proofs.PlaceLemmas.{is_of, side}
+use Rattle.ip_spec.proofs.FitsLemmas.{side-map, fits-map}
 use Rattle.ip_spec.proofs.HeaderLemmas.{header_number, header-least, by_number, fragment_of, auth_of}
 use Rattle.ip_spec.proofs.FragmentBitLemmas.{unreserved_offset, unreserved_flag, unreserved_again, unreserved_small}
 use Rattle.ip_spec.proofs.EncodingLemmas.{FirstFour, first_four, byte_at, three_before}
@@ -107,14 +108,8 @@ cleared_are (h ∷ c) a b =
     let others : AreBytes (bytes_of c) = subst AreBytes (drop-append_seam h.bytes (bytes_of c)) (All-drop P (length h.bytes) (h.bytes ++ bytes_of c) b) in
     (record { reserved = same.again; bytes = same.bytes (All-take P _ (drop 1 h.bytes) (All-drop P 1 h.bytes mine)) }, cleared_are c a.1 others)
 
--- Each place has the header that it had, cleared.
-side-cleared : (p : Place) (c : List ExtHeader) → side_of p (cleared_chain c) ≡ cleared_chain (side_of p c)
-side-cleared destination c = sym (before-map cleared_of (λ h. h.number == 43) c)
-side-cleared final_destination c = sym (after-map cleared_of (λ h. h.number == 43) c)
-side-cleared p c = refl
-
 pub cleared_fits : (c : List ExtHeader) → FitsPlaces c → FitsPlaces (cleared_chain c)
-cleared_fits c f p = omega (arith, ap (count_by (is_of p)) (side-cleared p c), count-map cleared_of (is_of p) (side_of p c), f p)
+cleared_fits c = (fits-map cleared_of (λ h. h.number) c).1
 
 -- A property of each header is a property of the one in a place.
 find_has : (P : ExtHeader → Type 0) (t : ExtHeader → Bool) (c : List ExtHeader) → All P c → ForSome (find t c) P
@@ -127,7 +122,7 @@ find_has P t (g ∷ c) a h e =
     ]
 
 pub header_in_has : (P : ExtHeader → Type 0) (p : Place) (c : List ExtHeader) → AllByRecursion P c → ForSome (header_in p c) P
-header_in_has P p c a = find_has P (is_of p) (side_of p c) (grind (arith, common_steps))
+header_in_has P p c a = find_has P (is_of p) (side p c) (grind (arith, common_steps))
 
 -- So a cleared chain has the same fields.
 fields-cleared : (o : Option ExtHeader) → ForSome o (λ h. IsHeader h.number h.bytes) → option_map fields_of (option_map cleared_of o) ≡ option_map fields_of o
@@ -135,4 +130,4 @@ fields-cleared None a = refl
 fields-cleared (Some h) a = ap Some (cleared_same h.bytes h.number (a h refl)).fields
 
 pub value-cleared : (p : Place) (c : List ExtHeader) → AreHeaders c → option_map fields_of (header_in p (cleared_chain c)) ≡ option_map fields_of (header_in p c)
-value-cleared p c a = search (rules, fields-cleared, header_in_has, side-cleared, find-map)
+value-cleared p c a = search (rules, fields-cleared, header_in_has, side-map, find-map)

@@ -1,9 +1,9 @@
 -- Chains whose headers fit six places.
-use Rattle.ip_spec.proofs.Common.{◌≡◌, ℕ, ◌≤◌, ◌<◌, List, [], ◌∷◌, ◌++◌, length, drop, refl, ap, sym, ◌∙◌, arith, inl, inr, ◌⊎◌, subst, rules, count_by, cases_lt, append-nil, length-append, common_steps, ExtHeader, leads_to, bytes_of, is_empty, IsPrefixChain, IsLongestChain, IsNext, IsEnd, IsDemand, IsLongestUnder, NextBreaks, Place, destination, routing, final_destination, places, side_of, place_of, FitsPlaces, IsOccupied}
+use Rattle.ip_spec.proofs.Common.{◌≡◌, ℕ, ◌≤◌, ◌<◌, List, [], ◌∷◌, ◌++◌, length, drop, map, refl, ap, sym, ◌∙◌, arith, inl, inr, ◌⊎◌, subst, rules, ◌==◌, ◌↔◌, count_by, cases_lt, append-nil, length-append, common_steps, ExtHeader, leads_to, bytes_of, is_empty, IsPrefixChain, IsLongestChain, IsNext, IsEnd, IsDemand, IsLongestUnder, NextBreaks, Place, destination, routing, final_destination, places, side_of, place_of, number_in, Fits, FitsPlaces, IsOccupied}
 use Rattle.ip_spec.proofs.HeaderLemmas.{header_number, later_of}
 use Rattle.ip_spec.specs.Places.{fragment}
-use Rattle.ip_spec.proofs.FirstLemmas.{count-append, count_before, count_after}
-use Rattle.ip_spec.proofs.PlaceLemmas.{has_routing, is_of, count_in, none_yet, one_before, sides, nothing_on, fits_next, none_there}
+use Rattle.ip_spec.proofs.FirstLemmas.{count-append, count_before, count_after, before-map, after-map, count-map}
+use Rattle.ip_spec.proofs.PlaceLemmas.{has_routing, is_of, side, count_in, bare, none_yet, one_before, sides, nothing_on, fits_next, none_there, breaks_occupied}
 use Rattle.ip_spec.proofs.DemandKinds.{all_or}
 use Rattle.ip_spec.proofs.UnderLemmas.{longest_ends_under, longest_keeps}
 use Rattle.ip_spec.proofs.LongestOfLemmas.{begins_first}
@@ -13,7 +13,7 @@ use Rattle.ip_spec.proofs.ChainLemmas.{longest_ends}
 -- Headers after a chain add to the counts.
 count_grows : (p : Place) (c d : List ExtHeader) → count_in p c ≤ count_in p (c ++ d)
 count_grows destination c d = search (rules, sides, none_yet, count-append, one_before)
-count_grows final_destination c d = grind (arith, common_steps, sides c d, count-append (is_of final_destination) (side_of final_destination c) d)
+count_grows final_destination c d = grind (arith, common_steps, sides c d, count-append (is_of final_destination) (side final_destination c) d)
 count_grows p c d = omega (arith, count-append (is_of p) c d)
 
 -- whether each place has a property
@@ -30,12 +30,12 @@ fits_places = record {
 -- The headers after a prefix of a chain that fits, fit by themselves, and so does each single header.
 pub fits_after : (c d : List ExtHeader) → FitsPlaces (c ++ d) → FitsPlaces d
 fits_after c d f destination = elim (sides c d) [
-  | none_yet none all nothing b a ↦ omega (arith, f destination, ap (count_by (is_of destination)) b, count-append (is_of destination) c (side_of destination d))
-  | one_before some b a ↦ omega (arith, f final_destination, ap (count_by (is_of destination)) a, count-append (is_of destination) (side_of final_destination c) d, count_before (is_of destination) (is_of routing) d)
+  | none_yet none all nothing b a ↦ omega (arith, f destination, ap (count_by (is_of destination)) b, count-append (is_of destination) c (side destination d))
+  | one_before some b a ↦ omega (arith, f final_destination, ap (count_by (is_of destination)) a, count-append (is_of destination) (side final_destination c) d, count_before (is_of destination) (is_of routing) d)
 ]
 fits_after c d f final_destination = elim (sides c d) [
   | none_yet none all nothing b a ↦ omega (arith, f final_destination, ap (count_by (is_of destination)) a)
-  | one_before some b a ↦ omega (arith, f final_destination, ap (count_by (is_of destination)) a, count-append (is_of destination) (side_of final_destination c) d, count_after (is_of destination) (is_of routing) d)
+  | one_before some b a ↦ omega (arith, f final_destination, ap (count_by (is_of destination)) a, count-append (is_of destination) (side final_destination c) d, count_after (is_of destination) (is_of routing) d)
 ]
 fits_after c d f p = omega (arith, f p, count-append (is_of p) c d)
 
@@ -47,21 +47,33 @@ pub number_fits : (c : List ExtHeader) (g h : ExtHeader) → g.number ≡ h.numb
 number_fits c g h e f = fits_next c h (fits_places.begins c (g ∷ []) f) (λ p o. none_there c g p (ap (λ m. place_of m (has_routing c)) e ∙ o) f)
 
 -- If a header follows and doesn't fit, the place of its number is occupied.
-pub breaks_occupied : (c : List ExtHeader) (m : ℕ) (r : List ℕ) (h : ExtHeader) → IsNext (is_empty c) m r h → (FitsPlaces (c ++ h ∷ []) → ⊥) → IsOccupied m c
-breaks_occupied c m r h x breaks = (
-  later_of m (header_number m h.bytes x.header) (λ z. breaks (search rules)),
-  λ g e f. breaks (number_fits c g h (e ∙ sym x.number) f),
-)
+next_breaks : (c : List ExtHeader) (m : ℕ) (r : List ℕ) (h : ExtHeader) → FitsPlaces c → IsNext (is_empty c) m r h → (FitsPlaces (c ++ h ∷ []) → ⊥) → IsOccupied m c
+next_breaks c m r h fits x breaks =
+    breaks_occupied c m fits (later_of m (header_number m h.bytes x.header) (λ z. breaks (search rules)))
+    (λ f. breaks (number_fits c (bare m) h (sym x.number) f))
 
 -- At the end of the longest chain that fits, no header follows, unless the place of its number is occupied.
 pub fitting_ends : (n : ℕ) (s : List ℕ) (c : List ExtHeader) → IsLongestUnder FitsPlaces n s c → (IsOccupied (leads_to n c) c → ⊥) → IsEnd (is_empty c) (leads_to n c) (drop (length (bytes_of c)) s)
-fitting_ends n s c l free h x = free (breaks_occupied c (leads_to n c) (drop (length (bytes_of c)) s) h x (longest_ends_under FitsPlaces fits_places n s c l h x))
+fitting_ends n s c l free h x = free (next_breaks c (leads_to n c) (drop (length (bytes_of c)) s) h l.has.1 x (longest_ends_under FitsPlaces fits_places n s c l h x))
 
 -- after the prefix of a chain that fits, the place of the number is occupied
-pub next_occupied : (n : ℕ) (s : List ℕ) (p rest : List ExtHeader) → IsPrefixChain n s (p ++ rest) → NextBreaks FitsPlaces p rest → (rest ≡ [] → IsOccupied (leads_to n p) p) → IsOccupied (leads_to n p) p
-next_occupied n s p [] q b on = on refl
-next_occupied n s p (h ∷ rest) q b on =
-    breaks_occupied p (leads_to n p) (drop (length (bytes_of p)) s) h (next_of n s p h (begins_first (IsPrefixChain n s) (chains_grow n s) p h rest q)) b
+pub next_occupied : (n : ℕ) (s : List ℕ) (p rest : List ExtHeader) → IsPrefixChain n s (p ++ rest) → FitsPlaces p → NextBreaks FitsPlaces p rest → (rest ≡ [] → IsOccupied (leads_to n p) p) → IsOccupied (leads_to n p) p
+next_occupied n s p [] q fits breaks on = on refl
+next_occupied n s p (h ∷ rest) q fits breaks on =
+    next_breaks p (leads_to n p) (drop (length (bytes_of p)) s) h fits (next_of n s p h (begins_first (IsPrefixChain n s) (chains_grow n s) p h rest q)) breaks
+
+-- The numbers of elements decide whether they fit.
+module _ {X Y : Type 0} (f : X → Y) (number : Y → ℕ) where
+  pub side-map : (p : Place) (xs : List X) → side_of number p (map f xs) ≡ map f (side_of (λ x. number (f x)) p xs)
+  side-map destination xs = sym (before-map f (λ y. number y == 43) xs)
+  side-map final_destination xs = sym (after-map f (λ y. number y == 43) xs)
+  side-map p xs = refl
+
+  count-side : (p : Place) (xs : List X) → count_by (λ y. number y == number_in p) (side_of number p (map f xs)) ≡ count_by (λ x. number (f x) == number_in p) (side_of (λ x. number (f x)) p xs)
+  count-side p xs = ap (count_by (λ y. number y == number_in p)) (side-map p xs) ∙ sym (count-map f (λ y. number y == number_in p) (side_of (λ x. number (f x)) p xs))
+
+  pub fits-map : (xs : List X) → Fits number (map f xs) ↔ Fits (λ x. number (f x)) xs
+  fits-map xs = ((λ fits p. omega (arith, count-side p xs, fits p)), λ fits p. omega (arith, count-side p xs, fits p))
 
 -- It is shorter than the longest chain if and only if a header follows whose place is occupied.
 module _ (n : ℕ) (s : List ℕ) (d c : List ExtHeader) (l : IsLongestChain n s d) (u : IsLongestUnder FitsPlaces n s c) where
@@ -69,7 +81,7 @@ module _ (n : ℕ) (s : List ℕ) (d c : List ExtHeader) (l : IsLongestChain n s
   occupied_where_shorter w =
       let C : List ExtHeader → Type 0 = IsPrefixChain n s in
       let k = longest_keeps FitsPlaces fits_places n s d c l u in
-      next_occupied n s c k.rest (subst C k.joined l.has) k.breaks (λ e. absurd (omega (arith, ap length k.joined, ap length e, length-append c k.rest, w)))
+      next_occupied n s c k.rest (subst C k.joined l.has) k.meets k.breaks (λ e. absurd (omega (arith, ap length k.joined, ap length e, length-append c k.rest, w)))
 
   longer_after : (rest : List ExtHeader) → d ≡ c ++ rest → (h : ExtHeader) → IsNext (is_empty c) (leads_to n c) (drop (length (bytes_of c)) s) h → length c < length d
   longer_after rest e h x = search (rules, longest_ends, append-nil, length-append)

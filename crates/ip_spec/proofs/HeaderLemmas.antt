@@ -30,6 +30,9 @@ by_number S a b c d e n x = search rules
 pub later_of : (n : ℕ) → IsExtensionNumber n → n ≢ 0 → IsLaterNumber n
 later_of = by_number (λ n. n ≢ 0 → IsLaterNumber n) (λ z. absurd (z refl)) (λ z. inl refl) (λ z. inr (inr (inr refl))) (λ z. inr (inl refl)) (λ z. inr (inr (inl refl)))
 
+pub later_extension : (n : ℕ) → IsLaterNumber n → IsExtensionNumber n
+later_extension n l = search rules
+
 pub later_not_zero : (n : ℕ) → IsLaterNumber n → n ≢ 0
 later_not_zero n l z = search rules
 

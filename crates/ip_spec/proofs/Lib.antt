@@ -11,8 +11,6 @@ pub mod DemandKinds
 pub mod FirstLemmas
 pub mod PlaceLemmas
 pub mod FitsLemmas
-pub mod NumbersFitLemmas
-pub mod PartitionLemmas
 pub mod RunsLemmas
 pub mod ShorterLemmas
 pub mod FragmentBitLemmas

@@ -1,5 +1,5 @@
 -- A walk over headers linked in the order of their places reaches the end.
-use Rattle.ip_spec.proofs.Common.{◌≡◌, ℕ, ◌+◌, ◌<◌, ◌≤◌, List, [], ◌∷◌, ◌++◌, drop, refl, ap, sym, ◌∙◌, arith, inl, inr, subst, Bool, true, false, cond, rules, Option, Some, None, is_some, ◌==◌, ◌||◌, nat_lt, if◌then◌else◌, find, option_map, option_map_or, cases_Bool, le-ltb, none-some, All-from_recursion, recursion_from_All, common_steps, IsHeader, next_header, ExtHeader, Place, hop_by_hop, destination, routing, authentication, final_destination, places, index, number_in, header_in, fields_of, HeaderFields, IsCleared, IsEncoded, IsEncodable, PlacedFields, leads, IsWalkAnswer, next_place, without, next_of, relinked, first_number, places_after, linked}
+use Rattle.ip_spec.proofs.Common.{◌≡◌, ℕ, ◌+◌, ◌<◌, ◌≤◌, List, [], ◌∷◌, ◌++◌, drop, refl, ap, sym, ◌∙◌, arith, inl, inr, subst, Bool, true, false, cond, rules, Option, Some, None, is_some, ◌==◌, ◌||◌, nat_lt, if◌then◌else◌, find, option_map, option_map_or, cases_Bool, le-ltb, none-some, All-from_recursion, recursion_from_All, common_steps, IsHeader, next_header, ExtHeader, Place, hop_by_hop, destination, routing, authentication, final_destination, places, index, number_in, header_in, fields_of, HeaderFields, IsCleared, IsEncoded, IsEncodable, PlacedFields, leads, IsWalkAnswer, walk_place, without, next_of, relinked, first_number, places_after, linked}
 use Rattle.ip_spec.specs.Places.{fragment as fragment_place}
 use Rattle.ip_spec.proofs.HeaderLemmas.{header-least}
 use Rattle.ip_spec.proofs.PlaceLemmas.{in_both, has_routing}
@@ -106,7 +106,7 @@ module _ (v : PlacedFields) (m : ℕ) (small : m < 256) (e : IsEncodable v) wher
     step_none : v p ≡ None → Up (k + 1)
     step_none none = grind (arith, common_steps, skipped, number_none)
 
-    step_some : (x : HeaderFields) → v p ≡ Some x → next_place up.first up.after (number_in p) ≡ Some p → Up (k + 1)
+    step_some : (x : HeaderFields) → v p ≡ Some x → walk_place up.first up.after (number_in p) ≡ Some p → Up (k + 1)
     step_some x some goes =
         let j : ℕ = first_number v (places_after p) m in
         let it = (linked_encodable v m small e).encoded p (relinked j x) (ap (option_map (relinked j)) some) in
@@ -117,7 +117,7 @@ module _ (v : PlacedFields) (m : ℕ) (small : m < 256) (e : IsEncodable v) wher
           first = false;
           after = up.after || (first_number v (drop k places) m == 43);
           walking = walks_on w f up.reached (beyond k w) (first_number v (drop k places) m) up.first up.after up.walking p (relinked j x) it.0
-              (ap (next_place up.first up.after) number ∙ goes)
+              (ap (walk_place up.first up.after) number ∙ goes)
               (here p k i ∙ ap (option_map (relinked j)) some)
               it.1
               (beyond (k + 1) w) (first_number v (drop (k + 1) places) m) false (up.after || (first_number v (drop k places) m == 43))
@@ -127,7 +127,7 @@ module _ (v : PlacedFields) (m : ℕ) (small : m < 256) (e : IsEncodable v) wher
           start = λ z. absurd (omega (arith, z));
         }
 
-    step : ((x : HeaderFields) → v p ≡ Some x → next_place up.first up.after (number_in p) ≡ Some p) → Up (k + 1)
+    step : ((x : HeaderFields) → v p ≡ Some x → walk_place up.first up.after (number_in p) ≡ Some p) → Up (k + 1)
     step goes = search (rules, cases_Bool, some_if, step_some, step_none, none_if)
 
   -- whether a routing header was reached: not while it is left, and afterwards yes
@@ -147,11 +147,11 @@ module _ (v : PlacedFields) (m : ℕ) (small : m < 256) (e : IsEncodable v) wher
   all_reached =
       let u0 : Up 0 = record { reached = []; first = true; after = false; walking = walk_begins w f (beyond 0 w) (λ q. ap (λ b. if b then None else w q) (le-ltb (index q) 0 (omega arith))); start = λ z. refl } in
       let u1 : Up 1 = step hop_by_hop 0 refl refl u0 (λ x k. refl) in
-      let u2 : Up 2 = step destination 1 refl refl u1 (λ x k. ap (λ b. next_place u1.first b 60) (not_after 1 u1 (omega arith))) in
+      let u2 : Up 2 = step destination 1 refl refl u1 (λ x k. ap (λ b. walk_place u1.first b 60) (not_after 1 u1 (omega arith))) in
       let u3 : Up 3 = step routing 2 refl refl u2 (λ x k. in_both 43 routing refl refl u2.after) in
       let u4 : Up 4 = step fragment_place 3 refl refl u3 (λ x k. in_both 44 fragment_place refl refl u3.after) in
       let u5 : Up 5 = step authentication 4 refl refl u4 (λ x k. in_both 51 authentication refl refl u4.after) in
-      step final_destination 5 refl refl u5 (λ x k. ap (λ b. next_place u5.first b 60) (is_after 5 u5 (omega arith) (e.nested (ap is_some k))))
+      step final_destination 5 refl refl u5 (λ x k. ap (λ b. walk_place u5.first b 60) (is_after 5 u5 (omega arith) (e.nested (ap is_some k))))
 
   -- a walk over linked headers leads to m
   pub linked_leads : IsWalkAnswer (linked v m) (first_number v places m) (leads m)

@@ -1,7 +1,7 @@
 -- The places of a chain's headers, the place of the next header, and the numbers whose place is occupied.
-use Rattle.ip_spec.proofs.Common.{◌≡◌, ℕ, zero, suc, ◌+◌, List, [], ◌∷◌, ◌++◌, refl, ap, sym, ◌∙◌, arith, inl, inr, Bool, true, false, subst, rules, ◌==◌, ◌↔◌, count_by, Option, Some, None, is_some, if◌then◌else◌, find, AllByRecursion, option_or, option_map_or, cases_Bool, eqb-true, eq-eqb, eqb_tells, same_Some, append-nil, common_steps, IsExtensionNumber, ExtHeader, Place, hop_by_hop, destination, routing, authentication, final_destination, places, index, number_in, side_of, header_in, place_of, is_occupied, FitsPlaces, IsOccupied}
-use Rattle.std.specs.Prelude.{◌≢◌}
-use Rattle.ip_spec.proofs.HeaderLemmas.{later_of, later_not_zero}
+use Rattle.ip_spec.proofs.Common.{◌≡◌, ℕ, zero, suc, ◌+◌, List, [], ◌∷◌, ◌++◌, refl, ap, sym, ◌∙◌, arith, inl, inr, Bool, true, false, subst, rules, ◌==◌, ◌↔◌, count_by, Option, Some, None, is_some, IsSome, if◌then◌else◌, find, AllByRecursion, option_or, cases_Bool, eqb-true, eq-eqb, eqb_tells, none-some, same_Some, append-nil, common_steps, IsExtensionNumber, IsLaterNumber, ExtHeader, Place, hop_by_hop, destination, routing, authentication, final_destination, places, index, number_in, side_of, header_in, place_of, next_place, FitsPlaces, IsOccupied}
+use Rattle.std.specs.Prelude.{◌≢◌, option_and_then}
+use Rattle.ip_spec.proofs.HeaderLemmas.{later_of, later_extension}
 use Rattle.ip_spec.specs.Places.{fragment}
 use Rattle.ip_spec.proofs.FirstLemmas.{before-yes, before-no, count-append, count_yes, count_no, before-none, before-some, after-none, after-some, after_one, counted, none_counted, find_passes, find_more-yes, find_more-no}
 
@@ -58,20 +58,23 @@ has_routing c = is_some (header_in routing c)
 abbrev pub is_of : Place → ExtHeader → Bool
 is_of p h = h.number == number_in p
 
+abbrev pub side : Place → List ExtHeader → List ExtHeader
+side = side_of (λ h. h.number)
+
 abbrev pub count_in : Place → List ExtHeader → ℕ
-count_in p c = count_by (is_of p) (side_of p c)
+count_in p c = count_by (is_of p) (side p c)
 
 -- The headers after c are on one side of the first routing header.
 pub data Sides (c d : List ExtHeader) : Type 0 where
-  none_yet : has_routing c ≡ false → side_of destination c ≡ c → side_of final_destination c ≡ []
-      → side_of destination (c ++ d) ≡ c ++ side_of destination d → side_of final_destination (c ++ d) ≡ side_of final_destination d → Sides c d
+  none_yet : has_routing c ≡ false → side destination c ≡ c → side final_destination c ≡ []
+      → side destination (c ++ d) ≡ c ++ side destination d → side final_destination (c ++ d) ≡ side final_destination d → Sides c d
   one_before : has_routing c ≡ true
-      → side_of destination (c ++ d) ≡ side_of destination c → side_of final_destination (c ++ d) ≡ side_of final_destination c ++ d → Sides c d
+      → side destination (c ++ d) ≡ side destination c → side final_destination (c ++ d) ≡ side final_destination c ++ d → Sides c d
 
 pub sides : (c d : List ExtHeader) → Sides c d
 sides c d = search (rules, cases_Bool (has_routing c), append-nil c, counted, before-some, after-some, none_counted, before-none, after-none)
 
-pub nothing_on : (p : Place) → side_of p [] ≡ []
+pub nothing_on : (p : Place) → side p [] ≡ []
 nothing_on p = search rules
 
 pub none_after : (c : List ExtHeader) → has_routing c ≡ false → header_in final_destination c ≡ None
@@ -88,17 +91,24 @@ module _ (c : List ExtHeader) (h : ExtHeader) where
   of_number : {m : ℕ} → h.number ≡ m → place_of h.number (has_routing c) ≡ place_of m (has_routing c)
   of_number e = ap (λ m. place_of m (has_routing c)) e
 
-  by_number : (p : Place) → side_of p (c ++ h ∷ []) ≡ side_of p c ++ h ∷ [] → (h.number ≡ number_in p → place_of h.number (has_routing c) ≡ Some p) → Comes p
+  by_number : (p : Place) → side p (c ++ h ∷ []) ≡ side p c ++ h ∷ [] → (h.number ≡ number_in p → place_of h.number (has_routing c) ≡ Some p) → Comes p
   by_number p s own = search (rules, eqb_tells, find_more-yes, count-append, count_yes, place_number, find_more-no, count_no)
 
-  same_side : (p : Place) → side_of p (c ++ h ∷ []) ≡ side_of p c → (place_of h.number (has_routing c) ≡ Some p → ⊥) → Comes p
+  same_side : (p : Place) → side p (c ++ h ∷ []) ≡ side p c → (place_of h.number (has_routing c) ≡ Some p → ⊥) → Comes p
   same_side p s other = elsewhere other (ap (find (is_of p)) s) (ap (count_by (is_of p)) s)
 
-  by_side : (p : Place) → side_of p (c ++ h ∷ []) ≡ side_of p c → (place_of (number_in p) (has_routing c) ≡ Some p → ⊥) → Comes p
+  by_side : (p : Place) → side p (c ++ h ∷ []) ≡ side p c → (place_of (number_in p) (has_routing c) ≡ Some p → ⊥) → Comes p
   by_side p s other = same_side p s (λ e. other (sym (of_number (place_number h.number p (has_routing c) e)) ∙ e))
 
   pub comes : (p : Place) → Comes p
-  comes destination = search (rules, sides, by_side, destination_before, eqb_tells, same_side, before-yes, append-nil, place_number, by_number, before-no)
+  comes destination = elim (sides c (h ∷ [])) [
+    | one_before some b a ↦ by_side destination b (λ e. let differ : true ≡ false = sym some ∙ destination_before (has_routing c) e in cc)
+    | none_yet none all nothing b a ↦ elim (cases_Bool (is_of routing h)) [
+      | inl is ↦ same_side destination (b ∙ ap (λ l. c ++ l) (before-yes (is_of routing) h [] is) ∙ append-nil c ∙ sym all)
+          (λ e. omega (arith, eqb-true h.number 43 is, place_number h.number destination (has_routing c) e))
+      | inr other ↦ by_number destination (b ∙ ap (λ l. c ++ l) (before-no (is_of routing) h [] other) ∙ ap (λ l. l ++ h ∷ []) (sym all)) (λ e. of_number e ∙ ap (place_of 60) none)
+    ]
+  ]
   comes final_destination = elim (sides c (h ∷ [])) [
     | one_before some b a ↦ by_number final_destination a (λ e. of_number e ∙ ap (place_of 60) some)
     | none_yet none all nothing b a ↦
@@ -120,26 +130,93 @@ module _ (c : List ExtHeader) (h : ExtHeader) where
   none_there p e f = elim (comes p) [ here e' k n ↦ omega (arith, n, f p) | elsewhere other k n ↦ absurd (other e) ]
 
   pub fits_more : (p : Place) → FitsPlaces c → place_of h.number (has_routing c) ≡ Some p → is_some (header_in p c) ≡ false → FitsPlaces (c ++ h ∷ [])
-  fits_more p f e free = fits_next f (λ q o. ap (λ r. count_in r c) (same_Some q p (sym o ∙ e)) ∙ none_counted (is_of p) (side_of p c) free)
+  fits_more p f e free = fits_next f (λ q o. ap (λ r. count_in r c) (same_Some q p (sym o ∙ e)) ∙ none_counted (is_of p) (side p c) free)
 
   pub breaks_more : (p : Place) → place_of h.number (has_routing c) ≡ Some p → is_some (header_in p c) ≡ true → FitsPlaces (c ++ h ∷ []) → ⊥
-  breaks_more p e filled f = omega (arith, none_there p e f, counted (is_of p) (side_of p c) filled)
+  breaks_more p e filled f = omega (arith, none_there p e f, counted (is_of p) (side p c) filled)
 
 -- a header of number m, with no bytes
 abbrev pub bare : ℕ → ExtHeader
 bare m = record { number = m; bytes = [] }
 
--- The test and the relation agree.
-module _ (c : List ExtHeader) (m : ℕ) (f : FitsPlaces c) where
-  abbrev filled : Option Place → Bool
-  filled o = option_map_or (λ p. is_some (header_in p c)) o false
+-- The next place of a number m, where the places contain v, is its own, if that is free.
+module _ {X : Type 0} (v : Place → Option X) (m : ℕ) where
+  abbrev if_free : Option Place → Option Place
+  if_free o = option_and_then (λ q. if is_some (v q) then None else Some q) o
 
-  occupied_at : (o : Option Place) → place_of m (has_routing c) ≡ o → m ≢ 0 → filled o ≡ true ↔ IsOccupied m c
-  occupied_at None e other = search rules
-  occupied_at (Some p) e other = (
-    (λ t. let X : ℕ → Type 0 = IsExtensionNumber in (later_of m (subst X (sym (place_number m p (has_routing c) e)) (is_extension p)) other, λ h k. breaks_more c h p (ap (λ j. place_of j (has_routing c)) k ∙ e) t)),
-    λ t. elim (cases_Bool (is_some (header_in p c))) [ inl w ↦ w | inr w ↦ absurd (t.1 (bare m) refl (fits_more c (bare m) p f e w)) ],
-  )
+  free_at : (o : Option Place) (p : Place) → if_free o ≡ Some p → (o ≡ Some p) × (is_some (v p) ≡ false)
+  free_at o p e = search rules
 
-  pub occupied_told : (is_occupied m c ≡ true) ↔ IsOccupied m c
-  occupied_told = search (rules, eqb_tells, later_not_zero, occupied_at)
+  next_at : (o : Option Place) (p : Place) → o ≡ Some p → is_some (v p) ≡ false → if_free o ≡ Some p
+  next_at o p own free = search rules
+
+  filled_at : (o : Option Place) (p : Place) → o ≡ Some p → if_free o ≡ None → is_some (v p) ≡ true
+  filled_at o p own none = search rules
+
+  none_at : (o : Option Place) (p : Place) → o ≡ Some p → is_some (v p) ≡ true → if_free o ≡ None
+  none_at o p own filled = search rules
+
+  abbrev own : Option Place
+  own = place_of m (is_some (v routing))
+
+  pub own_next : (p : Place) → next_place v m ≡ Some p → (own ≡ Some p) × (is_some (v p) ≡ false)
+  own_next p e = free_at own p e
+
+  pub next_own : (p : Place) → own ≡ Some p → is_some (v p) ≡ false → next_place v m ≡ Some p
+  next_own p e free = next_at own p e free
+
+  pub filled_own : (p : Place) → own ≡ Some p → next_place v m ≡ None → is_some (v p) ≡ true
+  filled_own p e none = filled_at own p e none
+
+  -- It is occupied if it is that of a later header and its place isn't free.
+  pub occupied_own : (p : Place) → own ≡ Some p → m ≢ 0 → (is_some (v p) ≡ true) ↔ (IsLaterNumber m × (next_place v m ≡ None))
+  occupied_own p e later =
+      let X : ℕ → Type 0 = IsExtensionNumber in (
+        (λ filled. (later_of m (subst X (sym (place_number m p (is_some (v routing)) e)) (is_extension p)) later, none_at own p e filled)),
+        (λ t. filled_own p e t.1),
+      )
+
+  pub no_place : own ≡ None → IsLaterNumber m → ⊥
+  no_place e later = let place = own_place m (is_some (v routing)) (later_extension m later) in none-some place.0 (sym e ∙ place.1)
+
+-- Where the same places are occupied, the same is next.
+module _ {X Y : Type 0} (v : Place → Option X) (w : Place → Option Y) (m : ℕ) (same : (p : Place) → is_some (v p) ≡ is_some (w p)) where
+  free_alike : (o : Option Place) → if_free v m o ≡ if_free w m o
+  free_alike None = refl
+  free_alike (Some p) = ap (λ b. if b then None else Some p) (same p)
+
+  pub next_alike : next_place v m ≡ next_place w m
+  next_alike = ap (λ b. if_free v m (place_of m b)) (same routing) ∙ free_alike (place_of m (is_some (w routing)))
+
+-- A number is occupied after a chain that fits if and only if no header of that number fits after it.
+module _ (c : List ExtHeader) (m : ℕ) where
+  abbrev next : Option Place
+  next = next_place (λ p. header_in p c) m
+
+  pub occupied_breaks : IsOccupied m c → (h : ExtHeader) → h.number ≡ m → FitsPlaces (c ++ h ∷ []) → ⊥
+  occupied_breaks t h e =
+      let place = own_place m (has_routing c) (later_extension m t.0) in
+      let at : place_of h.number (has_routing c) ≡ Some place.0 = ap (λ j. place_of j (has_routing c)) e ∙ place.1 in
+      breaks_more c h place.0 at (filled_own (λ p. header_in p c) m place.0 place.1 t.1)
+
+  breaks_none : (o : Option Place) → next ≡ o → FitsPlaces c → (FitsPlaces (c ++ bare m ∷ []) → ⊥) → o ≡ None
+  breaks_none None e fits breaks = refl
+  breaks_none (Some p) e fits breaks =
+      let at = own_next (λ p. header_in p c) m p e in
+      absurd (breaks (fits_more c (bare m) p fits at.0 at.1))
+
+  pub breaks_occupied : FitsPlaces c → IsLaterNumber m → (FitsPlaces (c ++ bare m ∷ []) → ⊥) → IsOccupied m c
+  breaks_occupied fits later breaks = (later, breaks_none next refl fits breaks)
+
+-- One more extension header fits if and only if its number has a next place.
+module _ (c : List ExtHeader) (h : ExtHeader) (fits : FitsPlaces c) (is : IsExtensionNumber h.number) where
+  fits_where : (o : Option Place) → next_place (λ p. header_in p c) h.number ≡ o → FitsPlaces (c ++ h ∷ []) ↔ IsSome o
+  fits_where None e =
+      let place = own_place h.number (has_routing c) is in
+      ((λ f. absurd (breaks_more c h place.0 place.1 (filled_own (λ p. header_in p c) h.number place.0 place.1 e) f)), λ none. cc)
+  fits_where (Some p) e =
+      let at = own_next (λ p. header_in p c) h.number p e in
+      ((λ f. refl), λ some. fits_more c h p fits at.0 at.1)
+
+  pub fits_where_next : FitsPlaces (c ++ h ∷ []) ↔ IsSome (next_place (λ p. header_in p c) h.number)
+  fits_where_next = fits_where _ refl

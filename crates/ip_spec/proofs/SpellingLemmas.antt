@@ -9,7 +9,7 @@ use Rattle.ip_spec.proofs.ChainLemmas.{whole_longest, one_longest}
 use Rattle.ip_spec.proofs.ClearedLemmas.{cleared_is_chain, cleared_fits, cleared_are, cleared_leads, value-cleared}
 use Rattle.ip_spec.proofs.HeaderLemmas.{header_number}
 use Rattle.ip_spec.proofs.EncodedLemmas.{one_header_says}
-use Rattle.ip_spec.proofs.PlaceLemmas.{each, place_number}
+use Rattle.ip_spec.proofs.PlaceLemmas.{each, place_number, occupied_breaks}
 use Rattle.ip_spec.proofs.WalkLemmas.{unreached, none_if, Next, next_shown, shown_grows, one_reach}
 
 -- bytes s parse as the value v of six places
@@ -123,7 +123,7 @@ module _ (v : PlacedFields) (f : ℕ) where
 pub spelled_is_parsed : (v : PlacedFields) (f : ℕ) (c : List ExtHeader) (r : List ℕ) → IsSpelling v f c → (IsExtensionNumber (leads_to f c) → IsOccupied (leads_to f c) c) → IsLongestUnder FitsPlaces f (bytes_of c ++ r) c
 spelled_is_parsed v f c r s occupied =
     parsed_longest_under FitsPlaces fits_places f (bytes_of c ++ r) c (leads_to f c) r (has_parsed_before FitsPlaces fits_places f (leads_to f c) c r s.reachable.chain s.reachable.fits refl)
-    (λ h x. (occupied (header_number (leads_to f c) h.bytes x.header)).1 h x.number)
+    (λ h x. occupied_breaks c (leads_to f c) (occupied (header_number (leads_to f c) h.bytes x.header)) h x.number)
 
 -- Writing a parsed value returns the parsed bytes, cleared.
 pub spelled_is_cleared : (v : PlacedFields) (f : ℕ) (c d : List ExtHeader) → IsChain f c → FitsPlaces c → AreBytes (bytes_of c) → IsValueOf c v → IsSpelling v f d → d ≡ cleared_chain c

@@ -1,5 +1,5 @@
 -- Sums over the places of a value and over the headers of a chain.
-use Rattle.ip_spec.proofs.Common.{◌≡◌, ℕ, zero, suc, ◌+◌, ◌≤◌, List, [], ◌∷◌, ◌++◌, length, refl, ap, sym, ◌∙◌, arith, subst, append_assoc, Bool, true, false, rules, Option, Some, None, sum_by, ◌==◌, ◌||◌, AllByRecursion, option_map, none-some, same_Some, append-nil, length-append, sum_by-append, IsHeader, next_header, ExtHeader, leads_to, bytes_of, IsChain, FitsPlaces, Place, header_in, fields_of, HeaderFields, IsEncodable, fields_len, sum_placed, placed_len, PlacedFields, IsValueOf, IsReachable, WalkAnswer, answer_at, IsWalkAnswer, next_place, without, IsLongestOf}
+use Rattle.ip_spec.proofs.Common.{◌≡◌, ℕ, zero, suc, ◌+◌, ◌≤◌, List, [], ◌∷◌, ◌++◌, length, refl, ap, sym, ◌∙◌, arith, subst, append_assoc, Bool, true, false, rules, Option, Some, None, sum_by, ◌==◌, ◌||◌, AllByRecursion, option_map, none-some, same_Some, append-nil, length-append, sum_by-append, IsHeader, next_header, ExtHeader, leads_to, bytes_of, IsChain, FitsPlaces, Place, header_in, fields_of, HeaderFields, IsEncodable, fields_len, sum_placed, placed_len, PlacedFields, IsValueOf, IsReachable, WalkAnswer, answer_at, IsWalkAnswer, walk_place, without, IsLongestOf}
 use Rattle.ip_spec.proofs.StepLemmas.{chain_begins}
 use Rattle.ip_spec.proofs.FitsLemmas.{fits_places}
 use Rattle.ip_spec.proofs.WalkLemmas.{unreached, Joins, joins, there}
@@ -51,20 +51,20 @@ bytes_len v f c k fits value = bytes_sum c k.headers ∙ sum_of_chain fields_len
 
 -- A header follows from what is left, or none.
 pub data Going (u : PlacedFields) (first after : Bool) (m : ℕ) : Type 0 where
-  ends : ((p : Place) → next_place first after m ≡ Some p → u p ≡ None) → Going u first after m
-  goes : (p : Place) (x : HeaderFields) → next_place first after m ≡ Some p → u p ≡ Some x → Going u first after m
+  ends : ((p : Place) → walk_place first after m ≡ Some p → u p ≡ None) → Going u first after m
+  goes : (p : Place) (x : HeaderFields) → walk_place first after m ≡ Some p → u p ≡ Some x → Going u first after m
 
 module _ (u : PlacedFields) (first after : Bool) (m : ℕ) where
-  going_at : (p : Place) (y : Option HeaderFields) → next_place first after m ≡ Some p → u p ≡ y → Going u first after m
+  going_at : (p : Place) (y : Option HeaderFields) → walk_place first after m ≡ Some p → u p ≡ y → Going u first after m
   going_at p None at e = ends (λ q k. ap u (same_Some q p (sym k ∙ at)) ∙ e)
   going_at p (Some x) at e = goes p x at e
 
-  going_to : (o : Option Place) → next_place first after m ≡ o → Going u first after m
+  going_to : (o : Option Place) → walk_place first after m ≡ o → Going u first after m
   going_to None at = ends (λ p k. absurd (none-some p (sym at ∙ k)))
   going_to (Some p) at = going_at p (u p) at refl
 
   pub going : Going u first after m
-  going = going_to (next_place first after m) refl
+  going = going_to (walk_place first after m) refl
 
 -- A value whose headers can all be written reaches some chain.
 module _ (v : PlacedFields) (f : ℕ) (e : IsEncodable v) where

@@ -1,5 +1,5 @@
 -- A walk that takes headers out of a value, one after the other.
-use Rattle.ip_spec.proofs.Common.{◌≡◌, ℕ, List, [], ◌∷◌, ◌++◌, ap, sym, ◌∙◌, subst, Bool, true, false, arith, rules, Option, Some, None, is_some, ◌==◌, ◌&&◌, ◌||◌, not, if◌then◌else◌, or-true, or-false, eq-eqb, eqb_tells, none-some, common_steps, IsHeader, next_header, ExtHeader, leads_to, is_empty, Place, index, number_in, header_in, place_of, fields_of, HeaderFields, IsCleared, IsEncoded, PlacedFields, IsReachable, WalkAnswer, answer_at, IsWalkAnswer, next_place, without, IsLongestOf}
+use Rattle.ip_spec.proofs.Common.{◌≡◌, ℕ, List, [], ◌∷◌, ◌++◌, ap, sym, ◌∙◌, subst, Bool, true, false, arith, rules, Option, Some, None, is_some, ◌==◌, ◌&&◌, ◌||◌, not, if◌then◌else◌, or-true, or-false, eq-eqb, eqb_tells, none-some, common_steps, IsHeader, next_header, ExtHeader, leads_to, is_empty, Place, index, number_in, header_in, place_of, fields_of, HeaderFields, IsCleared, IsEncoded, PlacedFields, IsReachable, WalkAnswer, answer_at, IsWalkAnswer, walk_place, without, IsLongestOf}
 use Rattle.ip_spec.proofs.LongestOfLemmas.{longest_where_none_next}
 use Rattle.ip_spec.proofs.StepLemmas.{all_more, leads_to-more, chain_more}
 use Rattle.ip_spec.proofs.FirstLemmas.{find_more-yes, find_more-no}
@@ -22,7 +22,7 @@ walk_begins v f u e = search rules
 pub left_some : (o : Option ExtHeader) (y : Option HeaderFields) (x : HeaderFields) → (if is_some o then None else y) ≡ Some x → (is_some o ≡ false) × (y ≡ Some x)
 left_some o y x e = search rules
 
-next_place_is : (z first : Bool) (o : Option Place) (p : Place) → (if z && not first then None else o) ≡ Some p → (o ≡ Some p) × (z ≡ true → first ≡ true)
+pub next_place_is : (z first : Bool) (o : Option Place) (p : Place) → (if z && not first then None else o) ≡ Some p → (o ≡ Some p) × (z ≡ true → first ≡ true)
 next_place_is z first o p e = search rules
 
 -- values with equal places are equal
@@ -43,7 +43,7 @@ module _ (c : List ExtHeader) (h : ExtHeader) (p : Place) (joined : (q : Place) 
 
 module _ (v : PlacedFields) (f : ℕ) (c : List ExtHeader) (u : PlacedFields) (m : ℕ) (first after : Bool) (k : Walking v f c u m first after) where
   -- A header h follows: it is in the place of m, and was left there.
-  pub walks_on : (p : Place) (x : HeaderFields) (h : ExtHeader) → next_place first after m ≡ Some p → u p ≡ Some x → IsEncoded (number_in p) x h
+  pub walks_on : (p : Place) (x : HeaderFields) (h : ExtHeader) → walk_place first after m ≡ Some p → u p ≡ Some x → IsEncoded (number_in p) x h
       → (w : PlacedFields) (n : ℕ) (early past : Bool) → ((q : Place) → w q ≡ without p u q) → n ≡ next_header h.bytes → early ≡ false → past ≡ (after || (m == 43))
       → Walking v f (c ++ h ∷ []) w n early past
   walks_on p x h at there e w n early past ew en ee ep =
@@ -68,7 +68,7 @@ module _ (v : PlacedFields) (f : ℕ) (c : List ExtHeader) (u : PlacedFields) (m
       }
 
   -- None follows: the headers reached are all.
-  pub walk_stops : ((p : Place) → next_place first after m ≡ Some p → u p ≡ None) → IsLongestOf (IsReachable v f) c
+  pub walk_stops : ((p : Place) → walk_place first after m ≡ Some p → u p ≡ None) → IsLongestOf (IsReachable v f) c
   walk_stops none =
       longest_where_none_next (IsReachable v f) (shown_grows v f) c k.in_value
       (λ x s.
@@ -78,5 +78,5 @@ module _ (v : PlacedFields) (f : ℕ) (c : List ExtHeader) (u : PlacedFields) (m
       let here : u n.joins.place ≡ Some (fields_of x) = k.left n.joins.place ∙ ap (λ o. if is_some o then None else v n.joins.place) n.joins.free ∙ n.said in
       none-some (fields_of x) (sym (none n.joins.place ((search rules) ∙ at)) ∙ here))
 
-  pub walk_answers : (w : PlacedFields) (n : ℕ) (a : WalkAnswer) → ((p : Place) → next_place first after m ≡ Some p → u p ≡ None) → ((p : Place) → w p ≡ u p) → n ≡ m → a ≡ answer_at n w → IsWalkAnswer v f a
+  pub walk_answers : (w : PlacedFields) (n : ℕ) (a : WalkAnswer) → ((p : Place) → walk_place first after m ≡ Some p → u p ≡ None) → ((p : Place) → w p ≡ u p) → n ≡ m → a ≡ answer_at n w → IsWalkAnswer v f a
   walk_answers w n a none ew en ea = search (rules, walk_stops, same_held)

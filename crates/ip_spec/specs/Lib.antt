@@ -12,7 +12,6 @@ pub mod Demand
 pub mod Parse
 pub mod Places
 pub mod Fits
-pub mod NumbersFit
 pub mod Runs
 pub mod Walk
 pub mod Links

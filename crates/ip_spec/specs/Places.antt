@@ -1,7 +1,6 @@
 -- The six places for the headers of an IPv6 chain (RFC 8200, section 4.1), and the fields in each.
-use Rattle.std.specs.Prelude.{ℕ, List, [], ◌∷◌, Bool, false, ◌&&◌, ◌==◌, not, Option, is_some, if◌then◌else◌}
+use Rattle.std.specs.Prelude.{ℕ, List, [], ◌∷◌, Bool, ◌==◌, Option, Some, None, is_some, option_and_then, if◌then◌else◌}
 use Rattle.std.specs.List.{find, before_first, after_first}
-use Rattle.std.specs.Option.{option_map_or}
 use Rattle.ip_spec.specs.Numbers.{HOP_BY_HOP, ROUTING, FRAGMENT, AUTHENTICATION, DESTINATION_OPTIONS}
 use Rattle.ip_spec.specs.Fields.{RawFields, FragmentFields, AuthFields, raw_fields, fragment_fields, auth_fields}
 use Rattle.ip_spec.specs.Chain.{ExtHeader}
@@ -36,16 +35,17 @@ number_in fragment = FRAGMENT
 number_in authentication = AUTHENTICATION
 number_in final_destination = DESTINATION_OPTIONS
 
--- the part of a chain that contains the header of a place: for destination options the headers before the first
--- routing header, or all if there is none; for the final ones those after it, or none; otherwise all
-abbrev pub side_of : Place → List ExtHeader → List ExtHeader
-side_of destination c = before_first (λ h. h.number == ROUTING) c
-side_of final_destination c = after_first (λ h. h.number == ROUTING) c
-side_of p c = c
+-- The part of a list that contains what belongs in a place; `number` gives each element's number. For destination
+-- options it is what comes before the first routing header, or all if there is none; for the final ones what comes
+-- after it, or nothing; otherwise all.
+abbrev pub side_of : {X : Type 0} → (X → ℕ) → Place → List X → List X
+side_of number destination xs = before_first (λ x. number x == ROUTING) xs
+side_of number final_destination xs = after_first (λ x. number x == ROUTING) xs
+side_of number p xs = xs
 
 -- the header of the chain c in a place
 abbrev pub header_in : Place → List ExtHeader → Option ExtHeader
-header_in p c = find (λ h. h.number == number_in p) (side_of p c)
+header_in p c = find (λ h. h.number == number_in p) (side_of (λ h. h.number) p c)
 
 -- a header's fields
 pub data HeaderFields : Type 0 where
@@ -63,6 +63,6 @@ fields_of h =
 abbrev pub place_of : ℕ → Bool → Option Place
 place_of m past_routing = find (λ p. number_in p == m) (if past_routing then final_destination ∷ places else places)
 
--- m is not 0, and its place after the chain c is occupied
-abbrev pub is_occupied : ℕ → List ExtHeader → Bool
-is_occupied m c = not (m == HOP_BY_HOP) && option_map_or (λ p. is_some (header_in p c)) (place_of m (is_some (header_in routing c))) false
+-- The place that a header of number m takes next, where the places contain v, if it is free.
+abbrev pub next_place : {X : Type 0} → (Place → Option X) → ℕ → Option Place
+next_place v m = option_and_then (λ p. if is_some (v p) then None else Some p) (place_of m (is_some (v routing)))

@@ -6,8 +6,8 @@ use Rattle.ip_spec.specs.Places.{Place, index, place_of, HeaderFields, raw_heade
 use Rattle.ip_spec.specs.Walk.{PlacedFields}
 
 -- the place of a header of number m, after a routing header or not; 0 has one only at the start
-abbrev pub next_place : Bool → Bool → ℕ → Option Place
-next_place first past_routing m =
+abbrev pub walk_place : Bool → Bool → ℕ → Option Place
+walk_place first past_routing m =
     if (m == HOP_BY_HOP) && not first then None else place_of m past_routing
 
 -- u with the place p empty

@@ -1,10 +1,9 @@
-ghost use Rattle.std.specs.Prelude.{◌≡◌, ◌<◌, ◌↔◌, IsTrue, ℕ, List, [], ◌∷◌, ◌++◌, Bool, length, take, drop};
-ghost use Rattle.ip_spec.specs.Header.{IsExtensionNumber};
+ghost use Rattle.std.specs.Prelude.{◌≡◌, ◌<◌, ◌↔◌, IsSome, ℕ, List, [], ◌∷◌, ◌++◌, Bool, length, take, drop, map};
+ghost use Rattle.ip_spec.specs.Header.{IsExtensionNumber, IsLaterNumber};
 ghost use Rattle.ip_spec.specs.Chain.{ExtHeader, IsLongestChain, IsNext, IsEnd, leads_to, bytes_of, headers_within, is_empty};
 ghost use Rattle.ip_spec.specs.Demand.{IsDemand, KeepsBeginning, IsLongestUnder, IsEndUnder, Passes, NoDemand, AtMost, AtMostOneOf};
-ghost use Rattle.ip_spec.specs.Fits.{FitsPlaces, IsOccupied};
-ghost use Rattle.ip_spec.specs.NumbersFit.{NumbersFit, numbers_of, in_place};
-ghost use Rattle.ip_spec.specs.Places.{is_occupied};
+ghost use Rattle.ip_spec.specs.Fits.{Fits, FitsPlaces, IsOccupied};
+ghost use Rattle.ip_spec.specs.Places.{header_in, next_place};
 
 /// Proves that bytes have exactly one longest chain from each number under each demand.
 pub fn one_longest_chain_under_a_demand()
@@ -84,20 +83,20 @@ pub fn fitting_chain_stops_where_occupied()
         → length c < length d }
 {}
 
-/// Proves that a chain fits six places if and only if its numbers do: 0, 43, 44 and 51 occur at most once, and 60 at
-/// most once on each side of the first 43.
+/// Proves that the numbers of a chain decide whether it fits six places.
 pub fn chain_fits_by_its_numbers()
-    ensures { (c : List ExtHeader) → FitsPlaces c ↔ NumbersFit (numbers_of c) }
+    ensures { (c : List ExtHeader) → FitsPlaces c ↔ Fits (λ n. n) (map (λ h. h.number) c) }
 {}
 
-/// Proves that an extension number fits after numbers that fit if and only if none of them is in its place.
-pub fn next_number_fits()
-    ensures { (m : ℕ) (ns : List ℕ) → IsExtensionNumber m → NumbersFit ns
-        → NumbersFit (ns ++ m ∷ []) ↔ (in_place m ns ≡ 0) }
+/// Proves that one more extension header fits if and only if its number has a free place.
+pub fn next_header_fits()
+    ensures { (c : List ExtHeader) (h : ExtHeader) → FitsPlaces c → IsExtensionNumber h.number
+        → FitsPlaces (c ++ h ∷ []) ↔ IsSome (next_place (λ p. header_in p c) h.number) }
 {}
 
-/// Proves that the place of a number is occupied after a chain that fits if and only if the number is not 0 and a
-/// header is in its place.
+/// Proves that the place of a number is occupied after a chain that fits if and only if the number is that of a later
+/// header and no header of that number fits.
 pub fn occupied_numbers()
-    ensures { (m : ℕ) (c : List ExtHeader) → FitsPlaces c → IsTrue (is_occupied m c) ↔ IsOccupied m c }
+    ensures { (m : ℕ) (c : List ExtHeader) → FitsPlaces c → IsOccupied m c
+        ↔ (IsLaterNumber m × ((h : ExtHeader) → h.number ≡ m → FitsPlaces (c ++ h ∷ []) → ⊥)) }
 {}

@@ -11,7 +11,7 @@ pub use chain_laws::{longest_chain_ends, one_longest_chain};
 pub use demand_laws::{
     chain_fits_by_its_numbers, demand_keeps_its_longest_chain, demands, fitting_chain_ends,
     fitting_chain_stops_where_occupied, longest_chain_under_a_demand_ends,
-    longest_chains_under_demands, next_number_fits, occupied_numbers,
+    longest_chains_under_demands, next_header_fits, occupied_numbers,
     one_longest_chain_under_a_demand, one_longest_fitting_chain, shorter_bytes_keep_whole_headers,
 };
 pub use header_laws::{

@@ -1,9 +1,10 @@
-ghost use Rattle.std.specs.Prelude.{◌≡◌, ◌↔◌, ℕ, ◌+◌, ◌/◌, ◌≤◌, List, length};
+ghost use Rattle.std.specs.Prelude.{◌≡◌, ℕ, ◌+◌, ◌/◌, ◌≤◌, List, [], ◌∷◌, length, drop};
 ghost use Rattle.std.specs.List.{flat_map, AllByRecursion};
 ghost use Rattle.ip_spec.specs.Chain.{ExtHeader, IsChain, IsLongestChain, leads_to, bytes_of};
-ghost use Rattle.ip_spec.specs.Fits.{FitsPlaces};
+ghost use Rattle.ip_spec.specs.Demand.{IsLongestUnder};
+ghost use Rattle.ip_spec.specs.Fits.{FitsPlaces, IsOccupied};
 ghost use Rattle.ip_spec.specs.Encoding.{cleared_chain};
-ghost use Rattle.ip_spec.specs.Runs.{AreRuns, AreChains, AreLongestFitting, joined, how_many};
+ghost use Rattle.ip_spec.specs.Runs.{AreRuns, AreChains, joined, how_many};
 
 /// Proves that headers and the number to which they lead have exactly one list of runs.
 pub fn one_list_of_runs()
@@ -39,9 +40,16 @@ pub fn runs_keep_each_header()
         → AreRuns m c ps → AreChains n ps }
 {}
 
-/// Proves that the runs of a longest chain are the longest chains that fit six places, each from the number and at
-/// the bytes that the one before leaves, until the place of a number is free.
+/// Proves that the first run of a longest chain is the longest chain that fits six places. If the place of the number
+/// to which it leads is free, it is the only run; otherwise the others are the runs of the longest chain after it.
 pub fn runs_are_longest_fitting_chains()
-    ensures { (n : ℕ) (s : List ℕ) (c : List ExtHeader) (ps : List (List ExtHeader))
-        → IsLongestChain n s c → AreRuns (leads_to n c) c ps ↔ AreLongestFitting n s ps }
+    ensures first { (n : ℕ) (s : List ℕ) (c p : List ExtHeader) (ps : List (List ExtHeader))
+        → IsLongestChain n s c → AreRuns (leads_to n c) c (p ∷ ps) → IsLongestUnder FitsPlaces n s p }
+    ensures last { (n : ℕ) (s : List ℕ) (c p : List ExtHeader) → IsLongestChain n s c
+        → AreRuns (leads_to n c) c (p ∷ []) → IsOccupied (leads_to n p) p → ⊥ }
+    ensures others { (n : ℕ) (s : List ℕ) (c p q : List ExtHeader) (ps : List (List ExtHeader))
+        → IsLongestChain n s c → AreRuns (leads_to n c) c (p ∷ q ∷ ps)
+        → IsOccupied (leads_to n p) p × ((d : List ExtHeader)
+        × IsLongestChain (leads_to n p) (drop (length (bytes_of p)) s) d
+        × AreRuns (leads_to (leads_to n p) d) d (q ∷ ps)) }
 {}

@@ -9,8 +9,7 @@ ghost use Rattle.ip_spec.specs.Prefix.{IsPrefix};
 ghost use Rattle.ip_spec.specs.Header.{IsRawHeader};
 ghost use Rattle.ip_spec.specs.Requests.{RawAsks, Asks};
 ghost use Rattle.ip_spec.specs.Chain.{ExtHeader, IsChain, leads_to, bytes_of};
-ghost use Rattle.ip_spec.specs.Fits.{FitsPlaces};
-ghost use Rattle.ip_spec.specs.Places.{is_occupied};
+ghost use Rattle.ip_spec.specs.Fits.{FitsPlaces, IsOccupied};
 ghost use Rattle.ip_base.specs.Limits.{left, limit_error};
 ghost use Rattle.ip_base.specs.LimitedReader.{inner_of, limits_of};
 ghost use Rattle.ip_base.specs.declared.err.len_error.LenError.{LenError as LengthError};
@@ -120,7 +119,7 @@ pub fn is_chain_truncated(bytes: &mut &[u8], start: IpNumber) -> bool
     ensures fault { OnTrue result ((e : LengthError)
         × (option_map (λ f. f.0) (fitting_fault start.0 bytes.old.now) ≡ Some (chain.Len e))) }
     ensures headers { OnTrue result ((c : List ExtHeader) × IsChain start.0 c × FitsPlaces c
-        × (is_occupied (leads_to start.0 c) c ≡ false) × ((done : List ℕ) × (count : ℕ)
+        × (IsOccupied (leads_to start.0 c) c → ⊥) × ((done : List ℕ) × (count : ℕ)
         × Asks (leads_to start.0 c) done count
         × (length bytes.old.now < length (bytes_of c) + (length done + count)))) }
 {

@@ -1,4 +1,4 @@
-use Rattle.ip_spec.proofs.PartitionLemmas.{how_many-filled, how_many-more}
+use Rattle.ip_spec.proofs.RunsLemmas.{how_many-filled, how_many-more}
 use Rattle.ip_uses.proofs.chain_outcomes.filled_pieces_are_counted.Goals as goal
 
 pub returns-clause-filled : goal.returns-clause-filled

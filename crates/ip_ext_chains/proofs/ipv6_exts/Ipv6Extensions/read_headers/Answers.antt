@@ -1,5 +1,5 @@
 use Rattle.ip_spec.proofs.Common.{◌≡◌, ◌∷◌, ◌++◌, refl, sym, ◌∙◌, arith, [], ExtHeader}
-use Rattle.ip_ext_chains.proofs.ReadingLemmas.{reading_next, nested, is_number_in, not_occupied, fewer, later, zero_not_occupied, no_place_answers}
+use Rattle.ip_ext_chains.proofs.ReadingLemmas.{reading_next, zero_first, is_number_in, not_occupied, fewer, later, zero_not_occupied, no_place_answers}
 use Rattle.ip_ext_chains.proofs.ReadErrorLemmas.{consumed_next, refused_as, refused_error}
 use Rattle.ip_base.specs.declared.err.ipv6_exts.header_error.HeaderError.TheVariants.{HopByHopNotAtStart}
 use Rattle.ip_ext_chains.specs.declared.err.ipv6_exts.header_read_error.HeaderReadError.TheVariants as read
@@ -9,17 +9,17 @@ pub headers-preserved : goal.headers-preserved
 headers-preserved g c =
     let h : ExtHeader = record { number = c.headers.number.0; bytes = c.in-Ok.ensures.ok.bytes } in (
       c.headers.invariant.0 ++ h ∷ [],
-      reading_next _ _ _ _ _ c.headers.invariant.1 _ c.in-Some.ensures.next _ _ _ c.in-Ok.ensures.ok,
+      reading_next _ _ _ _ _ c.headers.invariant.1 _ (sym c.in-Some.ensures) _ _ _ c.in-Ok.ensures.ok,
       consumed_next _ _ _ _ _ _ c.headers.invariant.0 h c.headers.invariant.2 c.in-Ok.ensures.ok.consumed c.in-Ok.ensures.steady c.in-Ok.ensures.kept,
     )
 
 pub headers-smaller : goal.headers-smaller
-headers-smaller g c = fewer _ _ _ _ _ _ _ c.in-Some.ensures.next (nested _ _ _ _ _ c.headers.invariant.1 _ c.in-Some.ensures.next) c.in-Ok.ensures.ok
+headers-smaller g c = fewer _ _ _ _ _ c.headers.invariant.1 _ _ _ _ (sym c.in-Some.ensures) c.in-Ok.ensures.ok
 
 pub returns-in-Err-clause-refused : goal.returns-in-Err-clause-refused
 returns-in-Err-clause-refused g c =
     let came = c.headers.invariant in
-    let next = c.in-Some.ensures.next in
+    let next = sym c.in-Some.ensures in
     record {
       headers = came.0;
       chain = came.1.chain;
@@ -28,7 +28,7 @@ returns-in-Err-clause-refused g c =
       between = c.headers.reader;
       consumed = came.2;
       refused = refused_as g.T.ExactRead.bytes_left g.T.ExactRead.is_steady g.T.ExactRead.has_failed c.in-Err.e _ _ _ _ _ c.in-Err.ensures.refused
-          (sym came.1.number ∙ is_number_in _ _ _ _ _ came.1 _ next) (λ z. sym came.1.none_yet ∙ next.zero_first (came.1.number ∙ z));
+          (sym came.1.number ∙ is_number_in _ _ _ _ _ came.1 _ next) (λ z. sym came.1.none_yet ∙ zero_first _ _ _ _ _ came.1 _ next (came.1.number ∙ z));
     }
 
 pub returns-in-Err-clause-fault : goal.returns-in-Err-clause-fault
@@ -45,7 +45,7 @@ returns-then-eq-clause-refused g c =
       free = zero_not_occupied _ _ _ _ _ came.1 zero_number;
       between = c.headers.reader;
       consumed = came.2;
-      refused = (sym came.1.number ∙ zero_number, later _ _ _ _ _ came.1 zero_number c.in_default.ensures.none, refl);
+      refused = (sym came.1.number ∙ zero_number, later _ _ _ _ _ came.1 zero_number (sym c.in_default.ensures), refl);
     }
 
 pub returns-then-eq-clause-fault : goal.returns-then-eq-clause-fault
@@ -54,4 +54,4 @@ returns-then-eq-clause-fault g c = refused_error g.T.ExactRead.bytes_left g.T.Ex
 pub returns-clause-answer : goal.returns-clause-answer
 returns-clause-answer g c =
     let came = c.headers.invariant in
-    record { headers = came.0; chain = came.1.chain; consumed = came.2; answer = no_place_answers _ _ _ _ _ came.1 (grind arith) c.in_default.ensures.none }
+    record { headers = came.0; chain = came.1.chain; consumed = came.2; answer = no_place_answers _ _ _ _ _ came.1 (grind arith) (sym c.in_default.ensures) }

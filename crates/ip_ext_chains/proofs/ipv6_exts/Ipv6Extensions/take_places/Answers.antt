@@ -1,7 +1,7 @@
-use Rattle.ip_spec.proofs.Common.{ap, sym, ◌∙◌, take_rest, None, if◌then◌else◌, bytes_of}
+use Rattle.ip_spec.proofs.Common.{◌≡◌, refl, ap, sym, ◌∙◌, true, false, take_rest, bytes_of}
 use Rattle.ip_ext_slices.proofs.LongestLemmas.{longest_chain-longest}
 use Rattle.ip_ext_chains.proofs.RunLemmas.{none_left, some_left}
-use Rattle.ip_ext_chains.proofs.FittingLemmas.{walk_stops, walk_ends}
+use Rattle.ip_ext_chains.proofs.FittingLemmas.{walk_stops, walk_ends_occupied, walk_ends_free}
 use Rattle.ip_ext_chains.proofs.ipv6_exts.Ipv6Extensions.take_places.Goals as goal
 
 pub returns-then-not-is_empty : goal.returns-then-not-is_empty
@@ -13,14 +13,14 @@ returns-then-not-is_empty c =
 
 pub returns-then-is_occupied : goal.returns-then-is_occupied
 returns-then-is_occupied c =
-    walk_ends _ _ _ _ _ c.take_run-places.ensures (c.into_iter-headers.ensures.headers ∙ c.from_slice_lax-fault.ensures.answer.value)
+    walk_ends_occupied _ _ _ _ _ c.take_run-places.ensures (c.into_iter-headers.ensures.headers ∙ c.from_slice_lax-fault.ensures.answer.value)
     (none_left _ _ c.take_run-places.new.headers.whole (rw (sym c.rest-left.ensures) (sym c.is_empty.ensures ∙ c.if-not-is_empty.false))) _ _ _ _
     c.from_slice_lax-fault.ensures.answer.number c.from_slice_lax-fault.ensures.answer.rest c.from_slice_lax-fault.ensures.answer.fault
-    (sym (ap (λ b. if b then None else c.from_slice_lax-fault.result.3) (sym c.is_occupied.ensures ∙ c.if-is_occupied.true)))
+    (c.is_occupied.ensures.0 c.if-is_occupied.true) refl
 
 pub returns : goal.returns
 returns c =
-    walk_ends _ _ _ _ _ c.take_run-places.ensures (c.into_iter-headers.ensures.headers ∙ c.from_slice_lax-fault.ensures.answer.value)
+    walk_ends_free _ _ _ _ _ c.take_run-places.ensures (c.into_iter-headers.ensures.headers ∙ c.from_slice_lax-fault.ensures.answer.value)
     (none_left _ _ c.take_run-places.new.headers.whole (rw (sym c.rest-left.ensures) (sym c.is_empty.ensures ∙ c.if-not-is_empty.false))) _ _ _ _
     c.from_slice_lax-fault.ensures.answer.number c.from_slice_lax-fault.ensures.answer.rest c.from_slice_lax-fault.ensures.answer.fault
-    (sym (ap (λ b. if b then None else c.from_slice_lax-fault.result.3) (sym c.is_occupied.ensures ∙ c.if-is_occupied.false)))
+    (λ t. let differ : true ≡ false = sym (c.is_occupied.ensures.1 t) ∙ c.if-is_occupied.false in cc) refl

@@ -144,8 +144,8 @@ impl Ipv6ExtensionsBuilder {
     /// Links the last header to `next`, the number of what follows the chain. Returns the number of the first header,
     /// or `next` if there is no header: the value for the next header field before the chain.
     ///
-    /// A number of an extension header means that further headers follow the chain's bytes. 0 is refused by every parse
-    /// after a header.
+    /// If `next` is the number of an extension header, a parse reads on in the bytes after the chain. After a header,
+    /// every parse refuses 0.
     pub fn link(&mut self, next: IpNumber) -> IpNumber {
         self.next = next;
         IpNumber(library::link_headers(&mut self.headers, next.0))

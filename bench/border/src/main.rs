@@ -12,11 +12,13 @@ mod fragment_bits;
 #[allow(dead_code)]
 #[path = "../../src/inputs.rs"]
 mod inputs;
+// Limits are used by bench/ only.
+#[allow(dead_code)]
 #[path = "../../src/measure.rs"]
 mod measure;
 mod original;
 mod package;
-#[path = "../../src/random.rs"]
+#[path = "../../../diff/src/random.rs"]
 mod random;
 #[path = "../../src/report.rs"]
 mod report;

@@ -29,6 +29,7 @@ use crate::{
 /// assert_eq!(packet.end, End::LaterFragment);
 /// ```
 #[derive(Clone, Debug, PartialEq, Eq)]
+#[non_exhaustive]
 pub struct Dissection<'a> {
     /// The base header, if the bytes start with a complete one.
     pub base: Option<BaseHeader<'a>>,
@@ -88,6 +89,7 @@ pub enum FragmentKind {
 
 /// Why the headers of a packet end. Offsets in errors count from the start of the packet.
 #[derive(Clone, Debug, PartialEq, Eq)]
+#[non_exhaustive]
 pub enum End {
     /// The payload follows them.
     Payload,
@@ -136,7 +138,6 @@ impl<'a> Dissection<'a> {
 
     /// Returns an iterator over the extension headers, in order. That of IPv4 is an authentication header.
     #[inline]
-    #[must_use]
     pub fn headers(&self) -> Ipv6ExtensionSliceIter<'a> {
         Ipv6ExtensionSliceIter::new(self.first_number(), self.extensions)
     }
@@ -240,7 +241,7 @@ impl End {
     }
 }
 
-#[cfg(test)]
+#[cfg(all(test, not(miri)))]
 mod tests {
     use super::{End, FragmentKind};
     use crate::library;

@@ -150,7 +150,7 @@ impl Fault {
     }
 }
 
-#[cfg(test)]
+#[cfg(all(test, not(miri)))]
 mod tests {
     use crate::library::{self, fault_text, Cursor, Fault};
     use std::string::ToString;

@@ -1,10 +1,13 @@
 use crate::err::ValueTooBigError;
 
 /// A fragment offset: 13 bits, in units of 8 bytes (RFC 8200, section 4.5).
-#[derive(Clone, Copy, Debug, PartialEq, Eq, Hash)]
+#[derive(Clone, Copy, Debug, Default, PartialEq, Eq, PartialOrd, Ord, Hash)]
 pub struct IpFragOffset(u16);
 
 impl IpFragOffset {
+    /// The offset 0.
+    pub const ZERO: IpFragOffset = IpFragOffset(0);
+
     /// The maximum offset.
     pub const MAX_U16: u16 = 0x1fff;
 
@@ -42,5 +45,12 @@ impl TryFrom<u16> for IpFragOffset {
 
     fn try_from(value: u16) -> Result<IpFragOffset, ValueTooBigError> {
         IpFragOffset::try_new(value)
+    }
+}
+
+impl From<IpFragOffset> for u16 {
+    #[inline]
+    fn from(offset: IpFragOffset) -> u16 {
+        offset.0
     }
 }

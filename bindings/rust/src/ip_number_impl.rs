@@ -1,32 +1,10 @@
 use core::fmt;
 
 /// A protocol number, as in the protocol field of IPv4 and the next header fields of IPv6 and its extension headers
-/// (RFC 8200, section 3).
+/// (RFC 8200, section 3). The associated constants, and those of [`ip_number`](crate::ip_number), name the numbers that
+/// IANA has assigned.
 #[derive(Clone, Copy, Default, PartialEq, Eq, PartialOrd, Ord, Hash)]
 pub struct IpNumber(pub u8);
-
-impl IpNumber {
-    /// IPv6 hop-by-hop options.
-    pub const IPV6_HEADER_HOP_BY_HOP: IpNumber = IpNumber(0);
-
-    /// User Datagram Protocol (UDP).
-    pub const UDP: IpNumber = IpNumber(17);
-
-    /// The IPv6 routing header.
-    pub const IPV6_ROUTE_HEADER: IpNumber = IpNumber(43);
-
-    /// The IPv6 fragment header.
-    pub const IPV6_FRAGMENTATION_HEADER: IpNumber = IpNumber(44);
-
-    /// The authentication header.
-    pub const AUTHENTICATION_HEADER: IpNumber = IpNumber(51);
-
-    /// No next header (IPv6).
-    pub const IPV6_NO_NEXT_HEADER: IpNumber = IpNumber(59);
-
-    /// IPv6 destination options.
-    pub const IPV6_DESTINATION_OPTIONS: IpNumber = IpNumber(60);
-}
 
 /// Formats the number in decimal. For an extension header, the name follows in parentheses: `44 (IPv6-Frag - Fragment
 /// Header for IPv6)`.

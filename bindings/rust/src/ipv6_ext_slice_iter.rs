@@ -3,6 +3,7 @@ use crate::{ip_number, IpNumber, Ipv6ExtensionSlice};
 /// An iterator over the headers of an IPv6 chain, in order. Returns `None` from then on. Two iterators are equal if the
 /// number of the next header and the remaining bytes are.
 #[derive(Clone, Debug)]
+#[must_use = "iterators do nothing unless they are consumed"]
 pub struct Ipv6ExtensionSliceIter<'a> {
     number: IpNumber,
     rest: &'a [u8],

@@ -81,26 +81,40 @@ impl<'a> Ipv6HeaderSlice<'a> {
         IpNumber(self.slice[6])
     }
 
+    /// Returns the bytes of the source address.
+    #[inline]
+    #[must_use]
+    pub fn source(&self) -> [u8; 16] {
+        self.octets(8)
+    }
+
+    /// Returns the bytes of the destination address.
+    #[inline]
+    #[must_use]
+    pub fn destination(&self) -> [u8; 16] {
+        self.octets(24)
+    }
+
     /// Returns the source address.
     #[inline]
     #[must_use]
     pub fn source_addr(&self) -> Ipv6Addr {
-        self.addr(8)
+        Ipv6Addr::from(self.source())
     }
 
     /// Returns the destination address: the receiver, or the next node of a routing header (RFC 8200, section 4.4).
     #[inline]
     #[must_use]
     pub fn destination_addr(&self) -> Ipv6Addr {
-        self.addr(24)
+        Ipv6Addr::from(self.destination())
     }
 
-    /// Returns the address at these bytes.
+    /// Returns the 16 bytes at this offset.
     #[inline]
-    fn addr(self, at: usize) -> Ipv6Addr {
+    fn octets(self, at: usize) -> [u8; 16] {
         let mut octets = [0; 16];
         octets.copy_from_slice(&self.slice[at..at + 16]);
-        Ipv6Addr::from(octets)
+        octets
     }
 }
 

@@ -1,5 +1,6 @@
 /// Where a length comes from.
 #[derive(Clone, Copy, Debug, PartialEq, Eq, Hash)]
+#[non_exhaustive]
 pub enum LenSource {
     /// The length of the slice that was passed in.
     Slice,

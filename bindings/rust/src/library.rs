@@ -2,6 +2,8 @@
 //! this file.
 #![allow(unsafe_code)]
 
+#[cfg(feature = "alloc")]
+use alloc::vec::Vec;
 use core::mem::{size_of, MaybeUninit};
 use core::{ptr, slice};
 
@@ -81,6 +83,14 @@ pub(crate) struct Cursor {
     pub number: u8,
 }
 
+/// `struct wolfaren_name`: a name of a code, with a 0 byte after it.
+#[cfg(all(test, not(miri)))]
+#[repr(C)]
+struct Name {
+    text: *const u8,
+    size: usize,
+}
+
 // The library is 64-bit, and these are the sizes of its structs.
 const _: () = {
     assert!(size_of::<usize>() == 8);
@@ -93,7 +103,7 @@ const _: () = {
 };
 
 /// `WOLFAREN_ABI`: the checksum of the header that this file was written for (`scripts/abi` of the repository).
-#[cfg(test)]
+#[cfg(all(test, not(miri)))]
 pub(crate) const ABI: u32 = 0xb86e_4f52;
 
 unsafe extern "C" {
@@ -146,13 +156,30 @@ unsafe extern "C" {
         dissection: *mut Dissection,
     );
 
-    #[cfg(test)]
+    #[cfg(feature = "alloc")]
+    fn wolfaren_link_headers(headers: *mut Header, count: usize, last: u8) -> u8;
+
+    #[cfg(feature = "alloc")]
+    fn wolfaren_write_headers(
+        bytes: *const u8,
+        len: usize,
+        headers: *const Header,
+        count: usize,
+        out: *mut u8,
+        room: usize,
+        written: *mut usize,
+    ) -> bool;
+
+    #[cfg(all(test, not(miri)))]
     fn wolfaren_fault_text(fault: *const Fault, text: *mut u8, room: usize) -> usize;
 
-    #[cfg(test)]
+    #[cfg(all(test, not(miri)))]
+    fn wolfaren_find_number_name(number: u8, name: *mut Name);
+
+    #[cfg(all(test, not(miri)))]
     fn wolfaren_version() -> u32;
 
-    #[cfg(test)]
+    #[cfg(all(test, not(miri)))]
     fn wolfaren_abi() -> u32;
 }
 
@@ -340,8 +367,42 @@ pub(crate) fn dissect(bytes: &[u8]) -> DissectedParts<'_> {
     }
 }
 
+/// Links the headers in order, the last one to `last`. Returns the number of the first, or `last` if there is none.
+#[cfg(feature = "alloc")]
+pub(crate) fn link_headers(headers: &mut [Header], last: u8) -> u8 {
+    // SAFETY: the headers are a slice that is borrowed exclusively.
+    unsafe { wolfaren_link_headers(headers.as_mut_ptr(), headers.len(), last) }
+}
+
+/// Appends the headers, which lie in the bytes. Returns `false`, and leaves the vector as it is, if one of them isn't
+/// exactly one header of its number.
+#[cfg(feature = "alloc")]
+pub(crate) fn append_headers(bytes: &[u8], headers: &[Header], out: &mut Vec<u8>) -> bool {
+    out.reserve(headers.iter().map(|header| header.len).sum());
+    let (start, mut written) = (out.len(), 0);
+    let free = out.spare_capacity_mut();
+    // SAFETY: the bytes and the headers are slices, which the call only reads. `free` is a slice that is borrowed
+    // exclusively, so it overlaps neither, and the call only writes it. `written` is a number of this function.
+    let is_written = unsafe {
+        wolfaren_write_headers(
+            bytes.as_ptr(),
+            bytes.len(),
+            headers.as_ptr(),
+            headers.len(),
+            free.as_mut_ptr().cast(),
+            free.len(),
+            &raw mut written,
+        )
+    };
+    if is_written {
+        // SAFETY: the call returned true, so it has written this many bytes to the start of the spare capacity.
+        unsafe { out.set_len(start + written) };
+    }
+    is_written
+}
+
 /// Returns the library's text for a fault.
-#[cfg(test)]
+#[cfg(all(test, not(miri)))]
 pub(crate) fn fault_text(fault: &Fault) -> std::string::String {
     let mut text = [0; 256];
     // SAFETY: the fault is borrowed, and the call only reads it. `text` is an array of that length and doesn't overlap
@@ -350,7 +411,21 @@ pub(crate) fn fault_text(fault: &Fault) -> std::string::String {
     std::string::String::from_utf8(text[..len].to_vec()).expect("the text is UTF-8")
 }
 
-#[cfg(test)]
+/// Returns the keyword that IANA has assigned to a protocol number, which is empty if there is none.
+#[cfg(all(test, not(miri)))]
+pub(crate) fn number_name(number: u8) -> &'static str {
+    let mut name = MaybeUninit::uninit();
+    // SAFETY: `name` has room for a name, and the call writes all of its fields. The text is in the library's constant
+    // data, and `size` bytes long with the 0 byte after it.
+    let text = unsafe {
+        wolfaren_find_number_name(number, name.as_mut_ptr());
+        let name: Name = name.assume_init();
+        slice::from_raw_parts(name.text, name.size - 1)
+    };
+    core::str::from_utf8(text).expect("the name is ASCII")
+}
+
+#[cfg(all(test, not(miri)))]
 mod tests {
     use super::{Chain, Cursor, Dissection, Fault, Header, Payload};
     use core::mem::{offset_of, size_of};

@@ -1,8 +1,11 @@
 //! Answers the test lines of the program `ipexts` with this package, and compares them with the expected answers. The
 //! format of lines and answers is described at the head of `crates/ipexts_tool/src/lib.rt`.
+#![cfg(all(feature = "alloc", not(miri)))]
 use std::fmt::Write;
-use wolfaren::err::{ip, ip_auth, ipv6_exts, LenError};
-use wolfaren::{IpNumber, IpSlice, Ipv4ExtensionsSlice, Ipv6ExtensionsSlice};
+use wolfaren::err::{ip, ip_auth, ipv6_exts, Layer, LenError};
+use wolfaren::{
+    IpNumber, IpSlice, Ipv4ExtensionsSlice, Ipv6ExtensionsBuilder, Ipv6ExtensionsSlice,
+};
 
 const LINES: &[u8] = include_bytes!("../../../crates/ipexts/stdin");
 const ANSWERS: &str = include_str!("../../../crates/ipexts/stdout");
@@ -12,7 +15,7 @@ const MAX_LINE_LEN: usize = 8192;
 
 #[test]
 fn lines_have_their_known_answers() {
-    let mut counts = [0; 4];
+    let mut counts = [0; 5];
     let lines = LINES
         .strip_suffix(b"\n")
         .unwrap_or(LINES)
@@ -26,8 +29,14 @@ fn lines_have_their_known_answers() {
             Answer::Exts6(text) => (1, text),
             Answer::Exts4(text) => (2, text),
             Answer::Packet(text) => (3, text),
+            Answer::RewriteAll6(text) => (4, text),
         };
         counts[form] += 1;
+        // This package doesn't partition chains, so it has no number of runs.
+        let known = known
+            .strip_prefix("runs ")
+            .and_then(|known| known.split_once(' '))
+            .map_or(known, |(_, known)| known);
         assert_eq!(ours, known, "{}", String::from_utf8_lossy(line));
     }
     assert_eq!(answers.next(), None, "there are more answers than lines");
@@ -62,12 +71,13 @@ fn blocks(text: &str) -> impl Iterator<Item = &str> {
 }
 
 enum Answer {
-    /// The line is in one of the forms that write headers, or dissects a packet.
+    /// The line writes the headers that fit into six places, or dissects a packet.
     OtherForm,
     Bad,
     Exts6(String),
     Exts4(String),
     Packet(String),
+    RewriteAll6(String),
 }
 
 fn answer(line: &[u8]) -> Answer {
@@ -82,6 +92,7 @@ fn answer(line: &[u8]) -> Answer {
                 .map(|(number, bytes)| match form {
                     "exts6" => Answer::Exts6(exts6(number, &bytes)),
                     "exts4" => Answer::Exts4(exts4(number, &bytes)),
+                    "rewriteall6" => Answer::RewriteAll6(rewriteall6(number, &bytes)),
                     _ => Answer::OtherForm,
                 })
         }
@@ -126,21 +137,36 @@ fn exts6(start: IpNumber, bytes: &[u8]) -> String {
         offset += len;
     }
     writeln!(text, "next {} rest {}", number.0, rest.len()).unwrap();
+    text.push_str(&last_line(fault.as_ref()));
     match fault {
-        None => {
-            assert_eq!(strict, Ok((headers, number, rest)));
-            text.push_str("ok\n");
-        }
-        Some((fault, layer)) => {
-            let words = match &fault {
-                ipv6_exts::HeaderSliceError::Len(e) => len_words(e),
-                ipv6_exts::HeaderSliceError::Content(e) => exts_words(e),
-            };
-            writeln!(text, "fault {words} in {}", layer.name()).unwrap();
-            assert_eq!(strict, Err(fault));
-        }
+        None => assert_eq!(strict, Ok((headers, number, rest))),
+        Some((fault, _)) => assert_eq!(strict, Err(fault)),
     }
     text
+}
+
+/// Returns the last line of an answer about a chain.
+fn last_line(fault: Option<&(ipv6_exts::HeaderSliceError, Layer)>) -> String {
+    let Some((fault, layer)) = fault else {
+        return "ok\n".to_owned();
+    };
+    let words = match fault {
+        ipv6_exts::HeaderSliceError::Len(e) => len_words(e),
+        ipv6_exts::HeaderSliceError::Content(e) => exts_words(e),
+    };
+    format!("fault {words} in {}\n", layer.name())
+}
+
+/// Copies the chain and writes the copy.
+fn rewriteall6(start: IpNumber, bytes: &[u8]) -> String {
+    let (headers, number, rest, fault) = Ipv6ExtensionsSlice::from_slice_lax(start, bytes);
+    let mut text = format!("next {} rest {}\nwritten ", number.0, rest.len());
+    let written = Ipv6ExtensionsBuilder::from(&headers).to_vec();
+    for byte in &written {
+        write!(text, "{byte:02x}").unwrap();
+    }
+    text.push_str(if written.is_empty() { "-\n" } else { "\n" });
+    text + &last_line(fault.as_ref())
 }
 
 fn exts4(start: IpNumber, bytes: &[u8]) -> String {

@@ -1,4 +1,5 @@
 //! Tests dissecting packets. The expected values were worked out by hand from RFC 791, RFC 4302 and RFC 8200.
+#![cfg(not(miri))]
 use wolfaren::err::ip::{HeaderError, HeadersError, SliceError};
 use wolfaren::err::{ip_auth, ipv6_exts, Layer, LenError};
 use wolfaren::{BaseHeader, Dissection, End, Fragment, FragmentKind, LenSource};

@@ -1,9 +1,10 @@
 //! Tests parsing single headers, IP headers and packets of one version: the results, and the order of the errors.
+#![cfg(not(miri))]
 use wolfaren::err::{ip_auth, ipv4, ipv6, ipv6_exts, Layer, LenError};
 use wolfaren::{
-    IpAuthHeaderSlice, IpNumber, IpSlice, Ipv4HeaderSlice, Ipv4Slice, Ipv6ExtensionSlice,
-    Ipv6ExtensionSliceIter, Ipv6ExtensionsSlice, Ipv6FragmentHeaderSlice, Ipv6HeaderSlice,
-    Ipv6RawExtHeaderSlice, Ipv6Slice, LenSource,
+    BaseHeader, Dissection, IpAuthHeaderSlice, IpNumber, IpSlice, Ipv4HeaderSlice, Ipv4Slice,
+    Ipv6ExtensionSlice, Ipv6ExtensionSliceIter, Ipv6ExtensionsSlice, Ipv6FragmentHeaderSlice,
+    Ipv6HeaderSlice, Ipv6RawExtHeaderSlice, Ipv6Slice, LenSource,
 };
 
 fn too_short(layer: Layer, offset: usize, required: usize, len: usize, by: LenSource) -> LenError {
@@ -67,6 +68,11 @@ fn fields_of_an_ipv6_header() {
     assert_eq!(header.traffic_class(), 0xb8);
     assert_eq!(header.flow_label(), 0xa_bcde);
     assert_eq!(header.hop_limit(), 7);
+    let mut bytes = ipv6(0, 59, 40);
+    bytes[8..40].copy_from_slice(&std::array::from_fn::<u8, 32, _>(|index| index as u8));
+    let header = Ipv6HeaderSlice::from_slice(&bytes).unwrap();
+    assert_eq!(header.source(), bytes[8..24]);
+    assert_eq!(header.destination(), bytes[24..]);
 }
 
 #[test]
@@ -401,14 +407,65 @@ fn parts_outlive_the_packet_value() {
             None => Some(packet.ipv6()?.extensions().slice()),
         }
     }
-    let mut packet = ipv4(5, 32, 51, 32);
+    fn payload(bytes: &[u8]) -> Option<&[u8]> {
+        Some(IpSlice::from_slice(bytes).ok()?.payload().payload)
+    }
+    let mut packet = ipv4(5, 33, 51, 33);
     (packet[20], packet[21]) = (17, 1);
     assert_eq!(base_header(&packet), Some(&packet[..20]));
-    assert_eq!(extensions(&packet), Some(&packet[20..]));
+    assert_eq!(extensions(&packet), Some(&packet[20..32]));
+    assert_eq!(payload(&packet), Some(&packet[32..]));
     let mut packet = ipv6(8, 44, 48);
     packet[40] = 17;
     assert_eq!(base_header(&packet), Some(&packet[..40]));
     assert_eq!(extensions(&packet), Some(&packet[40..]));
+}
+
+/// The parts of each version's packet, of a chain, and of a dissection borrow the bytes alone.
+#[test]
+fn parts_outlive_each_value() {
+    type Ipv4Parts<'a> = (Ipv4HeaderSlice<'a>, Option<IpAuthHeaderSlice<'a>>, &'a [u8]);
+    fn ipv4_parts(bytes: &[u8]) -> Option<Ipv4Parts<'_>> {
+        let packet = Ipv4Slice::from_slice(bytes).ok()?;
+        Some((
+            packet.header(),
+            packet.extensions().auth,
+            packet.payload().payload,
+        ))
+    }
+    fn ipv6_parts(bytes: &[u8]) -> Option<(Ipv6HeaderSlice<'_>, &[u8], &[u8])> {
+        let packet = Ipv6Slice::from_slice(bytes).ok()?;
+        Some((
+            packet.header(),
+            packet.extensions().slice(),
+            packet.payload().payload,
+        ))
+    }
+    fn last_header(bytes: &[u8]) -> Option<Ipv6ExtensionSlice<'_>> {
+        let (chain, _, _) = Ipv6ExtensionsSlice::from_slice(IpNumber(44), bytes).ok()?;
+        chain.into_iter().last()
+    }
+    fn dissected(bytes: &[u8]) -> (Option<BaseHeader<'_>>, Ipv6ExtensionSliceIter<'_>) {
+        let packet = Dissection::from_slice(bytes);
+        (packet.base, packet.headers())
+    }
+    let packet = ipv4(6, 25, 17, 25);
+    let (header, auth, payload) = ipv4_parts(&packet).unwrap();
+    assert_eq!(
+        (header.options(), auth, payload),
+        (&packet[20..24], None, &packet[24..])
+    );
+    let mut packet = ipv6(9, 44, 49);
+    packet[40] = 17;
+    let (header, exts, payload) = ipv6_parts(&packet).unwrap();
+    assert_eq!(
+        (header.slice(), exts, payload),
+        (&packet[..40], &packet[40..48], &packet[48..])
+    );
+    assert_eq!(last_header(&packet[40..]).unwrap().slice(), &packet[40..48]);
+    let (base, headers) = dissected(&packet);
+    assert_eq!(base.unwrap().slice(), &packet[..40]);
+    assert_eq!(headers.rest(), &packet[40..48]);
 }
 
 #[test]

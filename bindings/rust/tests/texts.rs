@@ -155,6 +155,22 @@ fn errors_of_packets_that_hold_no_other() {
 }
 
 #[test]
+fn errors_of_lengths_that_hold_no_other() {
+    use ip_auth::IcvLenError;
+    use ipv6_exts::ExtPayloadLenError;
+    let name = "err::ip_auth::IcvLenError";
+    check(&IcvLenError::TooBig(1017), name, "TooBig", &[("0", "1017")]);
+    check(&IcvLenError::Unaligned(3), name, "Unaligned", &[("0", "3")]);
+    let name = "err::ipv6_exts::ExtPayloadLenError";
+    let error = ExtPayloadLenError::TooSmall(0);
+    check(&error, name, "TooSmall", &[("0", "0")]);
+    let error = ExtPayloadLenError::TooBig(usize::MAX);
+    check(&error, name, "TooBig", &[("0", &usize::MAX.to_string())]);
+    let error = ExtPayloadLenError::Unaligned(7);
+    check(&error, name, "Unaligned", &[("0", "7")]);
+}
+
+#[test]
 fn errors_of_headers_that_hold_another() {
     let len = len_error();
     let auth = ip_auth::HeaderError::ZeroPayloadLen;

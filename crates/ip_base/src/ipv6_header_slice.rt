@@ -106,11 +106,25 @@ impl<'a> Ipv6HeaderSlice<'a> {
         IpNumber(self.slice[6])
     }
 
+    /// Returns the bytes of the source address.
+    pub fn source(&self) -> [u8; 16]
+        ensures { result ≡ ipv6_source_octets (bytes self.now) }
+    {
+        array(&self.slice[8..24])
+    }
+
+    /// Returns the bytes of the destination address.
+    pub fn destination(&self) -> [u8; 16]
+        ensures { result ≡ ipv6_destination_octets (bytes self.now) }
+    {
+        array(&self.slice[24..40])
+    }
+
     /// Returns the source address.
     pub fn source_addr(&self) -> Ipv6Addr
         ensures { ipv6_octets result ≡ ipv6_source_octets (bytes self.now) }
     {
-        address(&self.slice[8..24])
+        address(&self.source())
     }
 
     /// Returns the destination address: the final receiver's, or that of the next node of a routing header (RFC 8200,
@@ -118,7 +132,7 @@ impl<'a> Ipv6HeaderSlice<'a> {
     pub fn destination_addr(&self) -> Ipv6Addr
         ensures { ipv6_octets result ≡ ipv6_destination_octets (bytes self.now) }
     {
-        address(&self.slice[24..40])
+        address(&self.destination())
     }
 }
 
@@ -127,8 +141,16 @@ fn address(octets: &[u8]) -> Ipv6Addr
     requires { length octets.now ≡ 16 }
     ensures { ipv6_octets result ≡ octets.now }
 {
-    match <[u8; 16]>::try_from(octets) {
-        Ok(octets) => Ipv6Addr::from_octets(octets),
+    Ipv6Addr::from_octets(array(octets))
+}
+
+/// Returns 16 bytes as an array.
+fn array(bytes: &[u8]) -> [u8; 16]
+    requires { length bytes.now ≡ 16 }
+    ensures { result ≡ bytes.now }
+{
+    match <[u8; 16]>::try_from(bytes) {
+        Ok(bytes) => bytes,
         Err(_) => unreachable!(),
     }
 }

@@ -5,6 +5,8 @@
 #[cfg(test)]
 mod base;
 #[cfg(test)]
+mod base_headers;
+#[cfg(test)]
 mod full_heap;
 #[cfg(test)]
 mod header_slices;

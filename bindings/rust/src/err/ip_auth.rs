@@ -22,6 +22,32 @@ impl fmt::Display for HeaderError {
 
 impl core::error::Error for HeaderError {}
 
+/// The length of an integrity check value with its padding isn't allowed.
+#[derive(Clone, Debug, PartialEq, Eq, Hash)]
+pub enum IcvLenError {
+    /// It has more than 1016 bytes: this many.
+    TooBig(usize),
+    /// Its length isn't a multiple of 4 bytes: this many.
+    Unaligned(usize),
+}
+
+impl fmt::Display for IcvLenError {
+    fn fmt(&self, f: &mut fmt::Formatter<'_>) -> fmt::Result {
+        match self {
+            IcvLenError::TooBig(len) => write!(
+                f,
+                "Error the IP authentication header ICV length is too large. The ICV size ({len} bytes) is larger then what can be be represented by the 'payload len' field in an IP authentication header."
+            ),
+            IcvLenError::Unaligned(len) => write!(
+                f,
+                "Error the IP authentication header ICV length of {len} bytes is not a multiple of 4. This is required as the payload length field can only express lengths in multiple of 4 bytes."
+            ),
+        }
+    }
+}
+
+impl core::error::Error for IcvLenError {}
+
 /// An error of parsing an authentication header.
 #[derive(Clone, Debug, PartialEq, Eq, Hash)]
 pub enum HeaderSliceError {
@@ -34,7 +60,7 @@ pub enum HeaderSliceError {
 impl HeaderSliceError {
     /// Adds `offset` to the offset of a length error, with [`LenError::add_offset`]. Other errors are unchanged.
     #[must_use]
-    pub fn add_slice_offset(self, offset: usize) -> HeaderSliceError {
+    pub const fn add_slice_offset(self, offset: usize) -> HeaderSliceError {
         match self {
             HeaderSliceError::Len(e) => HeaderSliceError::Len(e.add_offset(offset)),
             HeaderSliceError::Content(e) => HeaderSliceError::Content(e),

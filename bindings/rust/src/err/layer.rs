@@ -1,5 +1,6 @@
 /// The header or packet that an error is about.
 #[derive(Clone, Copy, Debug, PartialEq, Eq, Hash)]
+#[non_exhaustive]
 pub enum Layer {
     /// An IP header whose version isn't known yet.
     IpHeader,

@@ -2,6 +2,8 @@
 //!
 //! Each error implements `Display` and `core::error::Error`. An error that wraps another displays the inner error's
 //! text and has it as its source.
+#[cfg(feature = "alloc")]
+mod build_error;
 pub mod ip;
 pub mod ip_auth;
 pub mod ipv4;
@@ -11,6 +13,8 @@ mod layer;
 mod len_error;
 mod value_too_big_error;
 
+#[cfg(feature = "alloc")]
+pub use build_error::BuildError;
 pub use layer::Layer;
 pub use len_error::LenError;
 pub use value_too_big_error::ValueTooBigError;

@@ -6,5 +6,5 @@ pub returns : goal.returns
 returns c =
     let even : length c.args.octets.now % 2 ≡ 0 = omega arith in
     ap octets_of c.from_octets.ensures
-    ∙ ap (λ b. octets_of (segments_of b)) c.in-Ok.ensures.1.same
+    ∙ ap (λ b. octets_of (segments_of b)) c.array.ensures
     ∙ octets_of-segments_of c.args.octets.now even (λ k. omega (arith, c.type_inv.octets k))

@@ -1,4 +1,4 @@
-//! Compiles a block of `SHIFT` bytes that precedes the library and moves its code.
+//! Compiles the walk in C, and a block of `SHIFT` bytes that precedes the library and moves its code.
 use std::env;
 use std::path::{Path, PathBuf};
 use std::process::Command;
@@ -6,6 +6,7 @@ use std::process::Command;
 fn main() {
     println!("cargo:rerun-if-env-changed=SHIFT");
     println!("cargo:rerun-if-env-changed=CC");
+    println!("cargo:rerun-if-changed=src/walk.c");
     let out = PathBuf::from(env::var("OUT_DIR").expect("Cargo sets OUT_DIR"));
     let shift: usize =
         env::var("SHIFT").map_or(0, |shift| shift.parse().expect("SHIFT is a number"));
@@ -16,23 +17,25 @@ fn main() {
     );
     let file = out.join("shift.s");
     std::fs::write(&file, source).expect("OUT_DIR can be written");
-    compile(&out, &file);
+    compile(&out, &file, "shift");
+    compile(&out, Path::new("src/walk.c"), "walk");
     println!("cargo:rustc-link-search=native={}", out.display());
     println!("cargo:rustc-link-lib=static=shift");
+    println!("cargo:rustc-link-lib=static=walk");
 }
 
-/// Compiles the file to the static library `shift`.
-fn compile(out: &Path, source: &Path) {
+/// Compiles one file to a static library with the given name.
+fn compile(out: &Path, source: &Path, name: &str) {
     let compiler = env::var("CC").unwrap_or_else(|_| "cc".to_owned());
-    let object = out.join("shift.o");
+    let object = out.join(format!("{name}.o"));
     run(Command::new(compiler)
-        .arg("-c")
+        .args(["-O3", "-march=x86-64-v2", "-c"])
         .arg(source)
         .arg("-o")
         .arg(&object));
     run(Command::new("ar")
         .arg("crs")
-        .arg(out.join("libshift.a"))
+        .arg(out.join(format!("lib{name}.a")))
         .arg(&object));
 }
 

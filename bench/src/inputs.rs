@@ -50,22 +50,34 @@ impl Sides {
     /// The packets, which live until the program ends.
     pub fn new(packets: Packets) -> Sides {
         let original = packets.for_the_original();
+        Sides::pair(packets, original)
+    }
+
+    /// Different packets for each side.
+    pub fn pair(ours: Packets, original: Packets) -> Sides {
         Sides {
-            ours: Box::leak(Box::new(packets)),
+            ours: Box::leak(Box::new(ours)),
             original: Box::leak(Box::new(original)),
         }
     }
 }
 
 /// Packets, one after another.
+#[derive(Default)]
 pub struct Packets {
     pub bytes: Vec<u8>,
     pub ends: Vec<usize>,
-    /// Returns the total length of all chains in bytes.
-    pub chains_len: usize,
+    /// The length of each packet's chain in bytes.
+    chain_lens: Vec<usize>,
 }
 
 impl Packets {
+    fn push(&mut self, packet: &[u8], chain_len: usize) {
+        self.bytes.extend(packet);
+        self.ends.push(self.bytes.len());
+        self.chain_lens.push(chain_len);
+    }
+
     pub fn each(&self) -> Vec<&[u8]> {
         let starts = std::iter::once(0).chain(self.ends.iter().copied());
         starts
@@ -74,44 +86,96 @@ impl Packets {
             .collect()
     }
 
+    /// Changes each packet. The function gets the packet and the length of its base header and of its chain.
+    fn changed(&self, mut change: impl FnMut(&[u8], usize, usize) -> Vec<u8>) -> Packets {
+        let mut changed = Packets::default();
+        for (packet, chain_len) in self.each().into_iter().zip(&self.chain_lens) {
+            changed.push(&change(packet, base_len(packet), *chain_len), *chain_len);
+        }
+        changed
+    }
+
     /// Converts the packets to the layout of the original.
     fn for_the_original(&self) -> Packets {
-        let each = self.each().into_iter();
-        Packets {
-            bytes: each
-                .flat_map(|packet| fragment_bits::packet(packet, to_the_original))
-                .collect(),
-            ends: self.ends.clone(),
-            chains_len: self.chains_len,
+        self.changed(|packet, _, _| fragment_bits::packet(packet, to_the_original))
+    }
+
+    /// Sets all fragment offsets to 0.
+    fn without_later_fragments(&self) -> Packets {
+        self.changed(|packet, _, _| {
+            let mut packet = fragment_bits::first_fragments(packet);
+            if packet[0] >> 4 == 4 {
+                (packet[6], packet[7]) = (packet[6] & 0b1110_0000, 0);
+            }
+            packet
+        })
+    }
+
+    /// Sets all fragment offsets to 0, and leaves out packets without extension headers.
+    fn first_with_headers(&self) -> Packets {
+        let first = self.without_later_fragments();
+        let mut kept = Packets::default();
+        for (packet, chain_len) in first.each().into_iter().zip(&first.chain_lens) {
+            if *chain_len > 0 {
+                kept.push(packet, *chain_len);
+            }
         }
+        kept
+    }
+
+    /// Truncates each packet within its chain.
+    fn truncated(&self, random: &mut Random) -> Packets {
+        self.changed(|packet, base_len, chain_len| {
+            packet[..base_len + random.below(chain_len)].to_vec()
+        })
+    }
+
+    /// Lets each packet state a length that ends within its chain.
+    fn ending_early(&self, random: &mut Random) -> Packets {
+        self.changed(|packet, base_len, chain_len| {
+            let mut packet = packet.to_vec();
+            // Of IPv6 packets, a payload length of 0 states no length.
+            let rest = 1 + random.below(chain_len - 1);
+            let (at, len) = match packet[0] >> 4 {
+                4 => (2, base_len + rest),
+                _ => (4, rest),
+            };
+            packet[at..at + 2].copy_from_slice(&(len as u16).to_be_bytes());
+            packet
+        })
+    }
+}
+
+/// Returns the length of a packet's base header.
+fn base_len(packet: &[u8]) -> usize {
+    match packet[0] >> 4 {
+        4 => 4 * usize::from(packet[0] & 0b1111),
+        _ => 40,
     }
 }
 
 /// Makes valid IPv6 packets with 0 to 4 extension headers in the order of RFC 8200, section 4.1. Fewer headers are
 /// more frequent. Payloads have some hundred bytes.
 pub fn packets(count: usize, seed: u64) -> Packets {
+    packets_to(payload_number, count, seed)
+}
+
+/// Makes IPv6 packets as `packets` does, whose chains lead to numbers that the function chooses.
+fn packets_to(payload_number: fn(&mut Random) -> u8, count: usize, seed: u64) -> Packets {
     let mut random = Random::new(seed);
-    let mut packets = Packets {
-        bytes: Vec::new(),
-        ends: Vec::new(),
-        chains_len: 0,
-    };
+    let mut packets = Packets::default();
     for _ in 0..count {
         let numbers = numbers(&mut random);
         let payload = payload_number(&mut random);
         let chain = chain_of(&numbers, payload, &mut random);
         let rest = payload_len(&mut random);
-        let len = (chain.len() + rest) as u16;
-        packets.bytes.extend([0x60, 0, 0, 0]);
-        packets.bytes.extend(len.to_be_bytes());
-        packets
-            .bytes
-            .extend([*numbers.first().unwrap_or(&payload), 64]);
-        packets.bytes.extend(random.bytes(32));
-        packets.bytes.extend(&chain);
-        packets.bytes.extend(random.bytes(rest));
-        packets.ends.push(packets.bytes.len());
-        packets.chains_len += chain.len();
+        let mut packet = vec![0x60, 0, 0, 0];
+        packet.extend(((chain.len() + rest) as u16).to_be_bytes());
+        packet.extend([*numbers.first().unwrap_or(&payload), 64]);
+        packet.extend(random.bytes(32));
+        packet.extend(&chain);
+        packet.extend(random.bytes(rest));
+        packets.push(&packet, chain.len());
     }
     packets
 }
@@ -288,11 +352,7 @@ pub fn truncated(number: u8) -> Chain {
 /// Payloads have some hundred bytes.
 pub fn ipv4_packets(count: usize, seed: u64) -> Packets {
     let mut random = Random::new(seed);
-    let mut packets = Packets {
-        bytes: Vec::new(),
-        ends: Vec::new(),
-        chains_len: 0,
-    };
+    let mut packets = Packets::default();
     for _ in 0..count {
         let payload = payload_number(&mut random);
         let numbers: &[u8] = if random.percent(20) { &[AUTH] } else { &[] };
@@ -308,36 +368,94 @@ pub fn ipv4_packets(count: usize, seed: u64) -> Packets {
             _ => 0x2000 | random.below(0x100) as u16,
         };
         let rest = payload_len(&mut random);
-        let len = (4 * words + chain.len() + rest) as u16;
-        let number = *numbers.first().unwrap_or(&payload);
-        packets.bytes.extend([0x40 | words as u8, 0]);
-        packets.bytes.extend(len.to_be_bytes());
-        packets.bytes.extend(random.bytes(2));
-        packets.bytes.extend(fragment.to_be_bytes());
-        packets.bytes.extend([64, number]);
-        packets.bytes.extend(random.bytes(4 * words - 10));
-        packets.bytes.extend(&chain);
-        packets.bytes.extend(random.bytes(rest));
-        packets.ends.push(packets.bytes.len());
-        packets.chains_len += chain.len();
+        let mut packet = vec![0x40 | words as u8, 0];
+        packet.extend(((4 * words + chain.len() + rest) as u16).to_be_bytes());
+        packet.extend(random.bytes(2));
+        packet.extend(fragment.to_be_bytes());
+        packet.extend([64, *numbers.first().unwrap_or(&payload)]);
+        packet.extend(random.bytes(4 * words - 10));
+        packet.extend(&chain);
+        packet.extend(random.bytes(rest));
+        packets.push(&packet, chain.len());
     }
     packets
 }
 
 /// Interleaves the packets of both, half of each.
 pub fn alternating(one: &Packets, other: &Packets) -> Packets {
-    let mut packets = Packets {
-        bytes: Vec::new(),
-        ends: Vec::new(),
-        chains_len: one.chains_len.midpoint(other.chains_len),
-    };
-    for (index, (one, other)) in one.each().iter().zip(other.each()).enumerate() {
-        packets
-            .bytes
-            .extend(if index % 2 == 0 { *one } else { other });
-        packets.ends.push(packets.bytes.len());
+    let mut packets = Packets::default();
+    let each = one.each().into_iter().zip(other.each());
+    for (index, (one_packet, other_packet)) in each.enumerate() {
+        if index % 2 == 0 {
+            packets.push(one_packet, one.chain_lens[index]);
+        } else {
+            packets.push(other_packet, other.chain_lens[index]);
+        }
     }
     packets
+}
+
+/// Makes whole packets without later fragments, in which a dissection goes as far as a parse.
+pub fn first_fragments(count: usize, seed: u64) -> [(&'static str, Packets); 3] {
+    let ipv6 = packets(count, seed).without_later_fragments();
+    let ipv4 = ipv4_packets(count, seed).without_later_fragments();
+    let both = alternating(&ipv4, &ipv6);
+    [
+        ("IPv6", ipv6),
+        ("IPv4", ipv4),
+        ("either version in turn", both),
+    ]
+}
+
+/// Packets with an error in or after their extension headers, and the same packets without it.
+pub struct Broken {
+    pub what: &'static str,
+    pub packets: Packets,
+    pub whole: Packets,
+}
+
+/// Makes packets that have an error and no later fragments.
+pub fn broken(count: usize, seed: u64) -> [Broken; 5] {
+    let to_late_options = |random: &mut Random| {
+        payload_number(random);
+        HOP_BY_HOP
+    };
+    let ipv6 = |to: fn(&mut Random) -> u8| packets_to(to, count, seed).first_with_headers();
+    let ipv4 = || ipv4_packets(count, seed).first_with_headers();
+    let (whole_ipv6, whole_ipv4) = (ipv6(payload_number), ipv4());
+    let broken = |what, packets, whole| Broken {
+        what,
+        packets,
+        whole,
+    };
+    let random = &mut Random::new(seed);
+    [
+        broken(
+            "IPv6, truncated in a header",
+            whole_ipv6.truncated(random),
+            ipv6(payload_number),
+        ),
+        broken(
+            "IPv6, header beyond the payload length",
+            whole_ipv6.ending_early(random),
+            ipv6(payload_number),
+        ),
+        broken(
+            "IPv6, late hop by hop options",
+            ipv6(to_late_options),
+            whole_ipv6,
+        ),
+        broken(
+            "IPv4, truncated in a header",
+            whole_ipv4.truncated(random),
+            ipv4(),
+        ),
+        broken(
+            "IPv4, header beyond the total length",
+            whole_ipv4.ending_early(random),
+            whole_ipv4,
+        ),
+    ]
 }
 
 /// A packet that is rejected, and why.
@@ -351,19 +469,33 @@ pub struct Refused {
     pub original: Vec<u8>,
 }
 
+impl Refused {
+    fn new(why: &'static str, bytes: Vec<u8>) -> Refused {
+        Refused {
+            why,
+            version: bytes[0] >> 4,
+            truncated: false,
+            original: fragment_bits::packet(&bytes, to_the_original),
+            ours: bytes,
+        }
+    }
+
+    /// Sets the fragment offsets of its chain to 0.
+    pub fn without_later_fragments(&self) -> Refused {
+        Refused {
+            truncated: self.truncated,
+            ..Refused::new(self.why, fragment_bits::first_fragments(&self.ours))
+        }
+    }
+}
+
 /// Packets that are rejected for their IP header, their length, or an extension header.
 pub fn refused_packets() -> Vec<Refused> {
     let truncated_auth = [UDP; 11];
     let zero_auth = [UDP, 0, 0, 0, 0, 0, 0, 0, 0, 0, 0, 0];
     let late = after_four(HOP_BY_HOP, &[UDP; 8]).ours;
     let truncated = after_four(FRAGMENT, &[UDP; 7]).ours;
-    let refused = |why, bytes: Vec<u8>| Refused {
-        why,
-        version: bytes[0] >> 4,
-        truncated: false,
-        original: fragment_bits::packet(&bytes, to_the_original),
-        ours: bytes,
-    };
+    let refused = Refused::new;
     let (short_ipv4, short_ipv6) = (
         ipv4(UDP, &[0; 30])[..49].to_vec(),
         ipv6(UDP, &[0; 30])[..69].to_vec(),
@@ -380,7 +512,10 @@ pub fn refused_packets() -> Vec<Refused> {
         refused("IPv4 header length 4", small_ihl),
         refused("IPv4 total length of 19 bytes", small_total),
         refused("IPv4 total length beyond the bytes", short_ipv4),
-        refused("IPv4, authentication header truncated", ipv4(AUTH, &truncated_auth)),
+        refused(
+            "IPv4, authentication header truncated",
+            ipv4(AUTH, &truncated_auth),
+        ),
         refused(
             "IPv4, authentication header of length 0",
             ipv4(AUTH, &zero_auth),
@@ -391,7 +526,10 @@ pub fn refused_packets() -> Vec<Refused> {
             ..refused("IPv6 payload length beyond the bytes", short_ipv6)
         },
         refused("IPv6, fragment header truncated", ipv6(FRAGMENT, &[UDP; 7])),
-        refused("IPv6, authentication header truncated", ipv6(AUTH, &truncated_auth)),
+        refused(
+            "IPv6, authentication header truncated",
+            ipv6(AUTH, &truncated_auth),
+        ),
         refused(
             "IPv6, authentication header of length 0",
             ipv6(AUTH, &zero_auth),

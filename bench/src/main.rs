@@ -5,10 +5,13 @@
 //!     bench report FILE..                   the table of such lines; a file for each alignment of our code
 //!     bench cost TOOL FILE RUNS             our time for each byte of inputs that are made to take long
 mod cost;
+mod dissect_rows;
 // The functions for single headers are used by diff/ only.
 #[allow(dead_code)]
 #[path = "../../diff/src/fragment_bits.rs"]
 mod fragment_bits;
+// Some functions are used by border/ only.
+#[allow(dead_code)]
 mod inputs;
 mod measure;
 mod original;

@@ -12,6 +12,7 @@ pub trait Packet {
 
 pub struct Ip;
 pub struct IpFilter;
+pub struct IpPlace;
 pub struct Ipv4;
 pub struct Ipv4Filter;
 pub struct Ipv6;
@@ -36,6 +37,26 @@ impl Packet for IpFilter {
             Ok(packet) => of_place(packet.payload()),
             Err(_) => NO_PACKET,
         }
+    }
+}
+
+/// Reads where the payload lies.
+impl Packet for IpPlace {
+    fn digest(bytes: &[u8]) -> u64 {
+        let Ok(packet) = IpSlice::from_slice(bytes) else {
+            return NO_PACKET;
+        };
+        let extensions_len = match &packet {
+            IpSlice::Ipv4(packet) => packet
+                .extensions()
+                .auth
+                .as_ref()
+                .map_or(0, |auth| auth.slice().len()),
+            IpSlice::Ipv6(packet) => packet.extensions().slice().len(),
+        };
+        let payload = packet.payload();
+        let place = with(u64::from(payload.ip_number.0), extensions_len as u64);
+        with(place, payload.payload.len() as u64)
     }
 }
 

@@ -184,6 +184,25 @@ unsafe extern "C" {
         count: usize,
     ) -> u64;
 
+    pub fn ipexts_dissect_packets(
+        p: *const u8,
+        len: usize,
+        ends: *const usize,
+        count: usize,
+    ) -> u64;
+    pub fn ipexts_outline_packets(
+        p: *const u8,
+        len: usize,
+        ends: *const usize,
+        count: usize,
+    ) -> u64;
+    pub fn ipexts_find_payload_packets(
+        p: *const u8,
+        len: usize,
+        ends: *const usize,
+        count: usize,
+    ) -> u64;
+
     pub fn ipexts_raw_read(bytes: *const u8, len: usize, at: usize) -> u64;
     pub fn ipexts_raw_read_limited(bytes: *const u8, len: usize, at: usize) -> u64;
     pub fn ipexts_auth_read(bytes: *const u8, len: usize, at: usize) -> u64;

@@ -57,6 +57,9 @@ const OWN_GOALS: &[(&str, &str, f64)] = &[
     ("raw header", "", 1.30),
     ("fragment header", "", 1.25),
     ("authentication header", "", 1.10),
+    ("C, dissect against", "", 1.10),
+    ("dissect against find_payload", "", 1.10),
+    ("outline_packet against find_payload", "", 1.10),
     ("the tool", "", 1.10),
 ];
 

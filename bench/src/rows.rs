@@ -1,4 +1,5 @@
 //! The rows of the table: which call, on which bytes, on both sides.
+use crate::dissect_rows;
 use crate::fragment_bits::{self, from_the_original};
 use crate::inputs::{self, Chain, Packets, Sides};
 use crate::original::{self, Parse};
@@ -241,6 +242,7 @@ pub fn rows(seed: u64) -> Vec<Row> {
     rows.extend(runs());
     rows.extend(ipv4());
     rows.extend(slice_rows::rows(packets, seed));
+    rows.extend(dissect_rows::rows(seed));
     rows.extend(read_rows::rows(packets));
     rows
 }

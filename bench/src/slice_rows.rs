@@ -166,7 +166,7 @@ fn refusals(form: &Form) -> Vec<Row> {
         .into_iter()
         .filter(|refused| match refused.version {
             4 => !form.name.starts_with("Ipv6"),
-            6 => !form.name.starts_with("Ipv4") && !(lax && refused.truncated),
+            6 => !(form.name.starts_with("Ipv4") || lax && refused.truncated),
             _ => true,
         })
         .map(|refused| {

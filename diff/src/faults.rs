@@ -5,6 +5,12 @@ use std::fmt::Write;
 
 /// Formats a length error.
 pub fn push_len_fault(fault: &LenError, answer: &mut String) {
+    answer.push_str("fault ");
+    push_len(fault, answer);
+}
+
+/// Formats the lengths and the place of a length error.
+pub fn push_len(fault: &LenError, answer: &mut String) {
     let LenError {
         required_len,
         len,
@@ -15,7 +21,7 @@ pub fn push_len_fault(fault: &LenError, answer: &mut String) {
     push(
         answer,
         format_args!(
-            "fault len {required_len} of {len} {len_source:?} {layer:?} at {layer_start_offset}"
+            "len {required_len} of {len} {len_source:?} {layer:?} at {layer_start_offset}"
         ),
     );
 }
@@ -48,6 +54,12 @@ fn ipv6_content(fault: &HeaderError) -> &'static str {
 
 /// Formats the line for an error of a packet.
 pub fn push_packet_fault(fault: &ip::SliceError, answer: &mut String) {
+    push_packet_error(fault, answer);
+    answer.push('\n');
+}
+
+/// Formats an error of a packet.
+pub fn push_packet_error(fault: &ip::SliceError, answer: &mut String) {
     use ip::HeaderError::{Ipv4HeaderLengthSmallerThanHeader, UnsupportedIpVersion};
     match fault {
         ip::SliceError::Len(fault) => push_len_fault(fault, answer),
@@ -66,7 +78,6 @@ pub fn push_packet_fault(fault: &ip::SliceError, answer: &mut String) {
             ip::HeadersError::Ipv6Ext(fault) => answer.push_str(ipv6_content(fault)),
         },
     }
-    answer.push('\n');
 }
 
 /// Appends what `format_args!` formats.

@@ -17,6 +17,9 @@ const DEST_OPTIONS: u8 = 60;
 const IPV6_LEN: usize = 40;
 const FRAGMENT_LEN: usize = 8;
 
+/// The index of the byte of a fragment header that has the high bits of the offset.
+const HIGH_BYTE: usize = 2;
+
 /// The index of the byte of a fragment header that has the low bits of the offset, which the layouts order
 /// differently.
 const LOW_BYTE: usize = 3;
@@ -45,6 +48,21 @@ pub fn header(bytes: &[u8], bits: Bits) -> Vec<u8> {
 
 /// Converts each fragment header of the longest chain at the start of the bytes, beginning with a number.
 pub fn chain(start: u8, bytes: &[u8], bits: Bits) -> Vec<u8> {
+    changed_chain(start, bytes, |header| {
+        header[LOW_BYTE] = bits(header[LOW_BYTE])
+    })
+}
+
+/// Sets the offset of each fragment header of a packet to 0. The chain ends where it does for `packet`.
+pub fn first_fragments(bytes: &[u8]) -> Vec<u8> {
+    changed_packet(bytes, |header| {
+        header[HIGH_BYTE] = 0;
+        header[LOW_BYTE] &= 0b0000_0111;
+    })
+}
+
+/// Changes each fragment header of the longest chain at the start of the bytes, beginning with a number.
+fn changed_chain(start: u8, bytes: &[u8], change: impl Fn(&mut [u8])) -> Vec<u8> {
     let mut bytes = bytes.to_vec();
     let (mut number, mut at) = (start, 0);
     // Hop-by-hop options may only come first.
@@ -53,7 +71,7 @@ pub fn chain(start: u8, bytes: &[u8], bits: Bits) -> Vec<u8> {
             break;
         };
         if number == FRAGMENT {
-            bytes[at + LOW_BYTE] = bits(bytes[at + LOW_BYTE]);
+            change(&mut bytes[at..at + len]);
         }
         number = bytes[at];
         at += len;
@@ -65,6 +83,11 @@ pub fn chain(start: u8, bytes: &[u8], bits: Bits) -> Vec<u8> {
 /// packet does: where its payload length says, or at the end of the bytes if that is 0 or more than there are.
 /// Packets of other versions than 6 have no such header.
 pub fn packet(bytes: &[u8], bits: Bits) -> Vec<u8> {
+    changed_packet(bytes, |header| header[LOW_BYTE] = bits(header[LOW_BYTE]))
+}
+
+/// Changes each fragment header in the chain of the packet at the start of the bytes.
+fn changed_packet(bytes: &[u8], change: impl Fn(&mut [u8])) -> Vec<u8> {
     if bytes.len() < IPV6_LEN || bytes[0] >> 4 != 6 {
         return bytes.to_vec();
     }
@@ -77,7 +100,7 @@ pub fn packet(bytes: &[u8], bits: Bits) -> Vec<u8> {
     };
     let (base, rest) = bytes.split_at(IPV6_LEN);
     let (inside, trailer) = rest.split_at(payload);
-    [base, &chain(bytes[6], inside, bits), trailer].concat()
+    [base, &changed_chain(bytes[6], inside, change), trailer].concat()
 }
 
 /// Returns the length of the header with this number at the start of the bytes, if it is complete.
@@ -156,6 +179,18 @@ mod tests {
         ipv4[0] = 0x45;
         assert_eq!(packet(&ipv4, to_the_original), ipv4);
         assert_eq!(packet(&ipv4[..39], to_the_original), &ipv4[..39]);
+    }
+
+    /// Offset 3 becomes 0; reserved bits, flag and identification are unchanged.
+    #[test]
+    fn later_fragments_become_first_ones() {
+        let mut later = fragment(8);
+        later[41..48].copy_from_slice(&[9, 1, 0b0001_1111, 2, 3, 4, 5]);
+        let first = first_fragments(&later);
+        assert_eq!(first[40..], [17, 9, 0, 0b0000_0111, 2, 3, 4, 5]);
+        assert_eq!(first[..40], later[..40]);
+        later[6] = 17;
+        assert_eq!(first_fragments(&later), later);
     }
 
     #[test]

@@ -5,6 +5,7 @@ pub mod before;
 pub mod chains;
 pub mod changes;
 pub mod compare;
+pub mod dissections;
 pub mod faults;
 pub mod fields;
 pub mod forms;

@@ -11,6 +11,11 @@ pub enum Difference {
     /// The original's strict parse of an IPv6 packet says that the payload length bounds its headers, even if that
     /// is 0 and the slice bounds them. The source in its answer was replaced.
     StrictSourceIsPayloadLength,
+    /// The original parses headers after that of a later fragment. Its results were cut off there.
+    EndsAtLaterFragment,
+    /// The original rejects an IPv4 packet with missing bytes or a total length of 0. It got a copy with the length of
+    /// the bytes.
+    AcceptsOtherLengths,
 }
 
 impl Difference {
@@ -25,6 +30,12 @@ impl Difference {
             }
             Difference::StrictSourceIsPayloadLength => {
                 "a strict IPv6 parse names the payload length as the source of a header's length error although it is 0"
+            }
+            Difference::EndsAtLaterFragment => {
+                "a dissection ends after the header of a later fragment"
+            }
+            Difference::AcceptsOtherLengths => {
+                "a dissection accepts an IPv4 packet with missing bytes or a total length of 0"
             }
         }
     }

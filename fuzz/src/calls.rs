@@ -373,6 +373,11 @@ fn packets() -> Vec<Call> {
             ours::ipexts_ipv6_slice_lax_bytes,
             every_byte::ipv6_slice_lax,
         ),
+        bytes(
+            "dissect, every byte",
+            ours::ipexts_dissect_bytes,
+            every_byte::dissection,
+        ),
         digest("IpSlice", ipexts_ip, packet::<sources::Ip>),
         digest("IpSlice filter", ipexts_ip_filter, packet::<IpFilter>),
         digest("Ipv4Slice", ipexts_ipv4_slice, packet::<Ipv4>),

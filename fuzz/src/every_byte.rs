@@ -1,10 +1,12 @@
 //! Digests of the original's results that cover every byte, like those of `ipexts_diff` for ours.
 use crate::asked::{Asked, Begins};
-use crate::original::{layer_code, of_answer, of_auth, of_fault, of_header, with};
+use crate::original::{layer_code, of_answer, of_auth, of_fault, of_header, of_len_error, with};
 use crate::original_slices::{of_ip_fault, of_ipv4_fault, of_ipv6_fault};
 use crate::sources;
 use diff::chains::EXTENSIONS;
 use diff::changes::Changes;
+use diff::dissections::{dissected, End, Fragment};
+use etherparse::err::Layer;
 use etherparse::{
     IpNumber, IpPayloadSlice, IpSlice, Ipv4Extensions, Ipv4ExtensionsSlice, Ipv4Slice,
     Ipv6ExtensionSlice, Ipv6Extensions, Ipv6ExtensionsSlice, Ipv6RawExtHeader, Ipv6Slice,
@@ -237,4 +239,59 @@ pub fn ipv6_slice_lax(bytes: &[u8]) -> u64 {
         |fault| of_ipv6_fault(&fault),
         |packet| of_ipv6(&asked, &packet),
     )
+}
+
+/// The counterpart of our dissection: parts made from results of the original.
+pub fn dissection(bytes: &[u8]) -> u64 {
+    let asked = Asked::new(Begins::Packet, bytes);
+    let packet = dissected(asked.original());
+    let sum = match packet.version {
+        0 => REFUSED,
+        version => with_bytes(version.into(), asked.ours(packet.base)),
+    };
+    let sum = with(sum, packet.stated.map_or(REFUSED, |stated| stated as u64));
+    let headers = &packet.headers;
+    let all = headers.iter().flat_map(|(_, header)| asked.ours(header));
+    let all: Vec<u8> = all.copied().collect();
+    let sum = with_bytes(with(sum, headers.len() as u64), &all);
+    let sum = headers.iter().fold(sum, |sum, (number, header)| {
+        with_bytes(with(sum, (*number).into()), asked.ours(header))
+    });
+    let sum = with_fragment(sum, packet.fragment);
+    let sum = with_bytes(with(sum, packet.number.into()), asked.ours(packet.payload));
+    let sum = with_bytes(with(sum, packet.missing as u64), asked.ours(packet.padding));
+    with_end(sum, &packet.end)
+}
+
+fn with_fragment(sum: u64, fragment: Option<Fragment>) -> u64 {
+    let Some(fragment) = fragment else {
+        return with(sum, REFUSED);
+    };
+    let kind = match (fragment.has_more, fragment.offset) {
+        (false, 0) => 1,
+        (true, 0) => 2,
+        (true, _) => 3,
+        (false, _) => 4,
+    };
+    let place = with(fragment.identification.into(), fragment.offset.into());
+    with(with(sum, place), kind)
+}
+
+fn with_end(sum: u64, end: &End) -> u64 {
+    let with_layer = |sum, header: &Option<Layer>| {
+        with(
+            sum,
+            header
+                .as_ref()
+                .map_or(REFUSED, |layer| layer_code(layer).into()),
+        )
+    };
+    match end {
+        End::Payload => with(sum, 1),
+        End::LaterFragment => with(sum, 2),
+        End::Truncated(error, header) => {
+            with_layer(with(with(sum, 3), of_len_error(error)), header)
+        }
+        End::Fault(error, header) => with_layer(with(with(sum, 4), of_ip_fault(error)), header),
+    }
 }

@@ -22,6 +22,6 @@ fn lines(input: &Input<'_>) -> Vec<Vec<u8>> {
         .iter()
         .map(|form| format!("{form} {} {hex}", input.start))
         .collect();
-    lines.push(format!("packet {hex}"));
+    lines.extend(["packet", "dissect"].map(|form| format!("{form} {hex}")));
     lines.into_iter().map(String::into_bytes).collect()
 }

@@ -11,4 +11,5 @@ unsafe extern "C" {
     pub fn ipexts_ipv4_slice_bytes(packet: *const u8, len: usize) -> u64;
     pub fn ipexts_ipv6_slice_bytes(packet: *const u8, len: usize) -> u64;
     pub fn ipexts_ipv6_slice_lax_bytes(packet: *const u8, len: usize) -> u64;
+    pub fn ipexts_dissect_bytes(packet: *const u8, len: usize) -> u64;
 }

@@ -39,7 +39,7 @@ pub fn write(folder: &Path, lines: &[u8], seed: u64) -> io::Result<usize> {
 /// Returns the number and the bytes of a line, if it has any.
 fn of_line(line: &[u8]) -> Option<chains::Asked> {
     let (form, arguments) = std::str::from_utf8(line).ok()?.split_once(' ')?;
-    if form == "packet" {
+    if matches!(form, "packet" | "dissect") {
         return Some((0, bytes_of(arguments)?));
     }
     number_and_bytes(arguments)

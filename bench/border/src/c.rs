@@ -1,14 +1,14 @@
 //! Calls the library directly, as a C program does: one call per packet, with room for 16 headers.
-use crate::sums::{of_bytes, of_ipv4_addr, of_ipv6_addr, with, Digest, NO_PACKET};
+use crate::sums::{of_bytes, of_ipv4_addr, of_ipv6_addr, of_place, with, Digest, NO_PACKET};
 use std::mem::MaybeUninit;
 use std::net::{Ipv4Addr, Ipv6Addr};
 use std::slice;
 
 /// The length of the array for headers.
-const ROOM: usize = 16;
+pub const ROOM: usize = 16;
 
 #[repr(C)]
-struct Fault {
+pub struct Fault {
     required_len: usize,
     len: usize,
     offset: usize,
@@ -20,7 +20,7 @@ struct Fault {
 }
 
 #[repr(C)]
-struct Header {
+pub struct Header {
     offset: usize,
     len: usize,
     number: u8,
@@ -105,39 +105,98 @@ impl Room {
                 return None;
             }
             let packet = self.packet.assume_init_ref();
-            let written = packet.headers.min(ROOM);
-            let headers = slice::from_raw_parts(self.headers.as_ptr().cast(), written);
-            Some((packet, headers))
+            Some((packet, written(&self.headers, packet.headers)))
         }
     }
+}
+
+/// Returns the headers that were written, as many of the counted ones as fit.
+///
+/// # Safety
+///
+/// The library must have written them.
+#[inline(always)]
+pub unsafe fn written(headers: &[MaybeUninit<Header>], count: usize) -> &[Header] {
+    // SAFETY: as above; there are at least as many elements.
+    unsafe { slice::from_raw_parts(headers.as_ptr().cast(), count.min(headers.len())) }
 }
 
 /// Reads the fields that a filter needs.
 pub struct Filter;
 
+/// Reads where the payload lies.
+pub struct Place;
+
+/// Reads where the payload and each header lie.
+pub struct Headers;
+
 /// Reads every part of a packet and every header of its chain.
 pub struct Full;
+
+/// Finds the payload of the packet at the start of the bytes.
+#[inline(always)]
+fn find_payload<'a>(bytes: &[u8], room: &'a mut MaybeUninit<Payload>) -> Option<&'a Payload> {
+    let mut fault = MaybeUninit::uninit();
+    // SAFETY: all pointers and lengths are those of borrowed values. If the library returns true, it has
+    // filled in the payload.
+    unsafe {
+        let is_found = wolfaren_find_payload(
+            bytes.as_ptr(),
+            bytes.len(),
+            room.as_mut_ptr(),
+            fault.as_mut_ptr(),
+        );
+        is_found.then(|| room.assume_init_ref())
+    }
+}
 
 impl Digest for Filter {
     #[inline(always)]
     fn digest(bytes: &[u8]) -> u64 {
-        let (mut payload, mut fault) = (MaybeUninit::uninit(), MaybeUninit::uninit());
-        // SAFETY: all pointers and lengths are those of borrowed values. If the library returns true, it has
-        // filled in the payload.
-        let payload: &Payload = unsafe {
-            if !wolfaren_find_payload(
-                bytes.as_ptr(),
-                bytes.len(),
-                payload.as_mut_ptr(),
-                fault.as_mut_ptr(),
-            ) {
-                return NO_PACKET;
-            }
-            payload.assume_init_ref()
+        let mut room = MaybeUninit::uninit();
+        let Some(payload) = find_payload(bytes, &mut room) else {
+            return NO_PACKET;
         };
         let flags = with(u64::from(payload.fragmented), u64::from(payload.number));
         with(flags, payload.len as u64)
     }
+}
+
+impl Digest for Place {
+    #[inline(always)]
+    fn digest(bytes: &[u8]) -> u64 {
+        match find_payload(bytes, &mut MaybeUninit::uninit()) {
+            Some(payload) => of_place(payload.number, payload.offset, payload.len),
+            None => NO_PACKET,
+        }
+    }
+}
+
+impl Digest for Headers {
+    #[inline(always)]
+    fn digest(bytes: &[u8]) -> u64 {
+        let mut room = Room::new();
+        let Some((packet, headers)) = room.parse(bytes) else {
+            return NO_PACKET;
+        };
+        let payload = of_place(
+            packet.payload_number,
+            packet.payload_offset,
+            packet.payload_len,
+        );
+        with(payload, of_headers(headers))
+    }
+}
+
+/// Returns the digest of where headers lie.
+#[inline(always)]
+pub fn of_headers(headers: &[Header]) -> u64 {
+    headers.iter().fold(0, |sum, header| {
+        with(
+            sum,
+            of_place(u16::from(header.number), header.offset, header.len),
+        )
+    })
 }
 
 impl Digest for Full {

@@ -4,6 +4,7 @@
 //!     border measure RUNS WORD   times of the rows whose names have the word, a line each
 //!     border report FILE..       the table of such lines; a file for each alignment of the library
 mod c;
+mod dissect;
 // The functions for single headers are used by diff/ only.
 #[allow(dead_code)]
 #[path = "../../../diff/src/fragment_bits.rs"]
@@ -56,6 +57,9 @@ fn measure(runs: usize, word: &str) {
         if !row.name.contains(word) {
             continue;
         }
+        if let Some(limit) = &row.limit {
+            assert_eq!(limit(), (row.ours)(), "{}: the walk in C differs", row.name);
+        }
         let times = measure::measure(&row, runs);
         let line = Line {
             group: row.group.to_owned(),
@@ -63,7 +67,7 @@ fn measure(runs: usize, word: &str) {
             unit: row.unit.to_owned(),
             ours: times.ours,
             original: times.original,
-            limit: None,
+            limit: times.limit.map(|limit| limit.least),
         };
         line.print();
     }

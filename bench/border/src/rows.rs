@@ -1,7 +1,8 @@
-//! The rows of the table: packets parsed through C or with the package, compared with the original.
+//! The rows of the table: packets parsed through C or with the package, compared with the original, and dissected
+//! through C, compared with the original and with other calls of the library.
 use crate::inputs::{self, Packets, Refused, Sides};
 use crate::sums::{one_call, one_loop, Digest};
-use crate::{c, original, package};
+use crate::{c, dissect, original, package};
 use std::hint::black_box;
 
 /// How many calls are made in one run of a row with a single packet.
@@ -37,87 +38,187 @@ type Call = fn(&[u8]) -> u64;
 struct Form {
     group: &'static str,
     reading: &'static str,
-    our_loop: Loop,
-    our_call: Call,
-    original_loop: Loop,
-    original_call: Call,
+    ours: Calls,
+    other: Calls,
+    /// A bare walk in C.
+    limit: Option<Calls>,
+    /// Whether the other side is also ours, and gets the same bytes.
+    is_against_ours: bool,
+}
+
+/// The calls of one side.
+#[derive(Clone, Copy)]
+struct Calls {
+    all: Loop,
+    one: Call,
+}
+
+impl Calls {
+    fn of<D: Digest>() -> Calls {
+        Calls {
+            all: one_loop::<D>,
+            one: one_call::<D>,
+        }
+    }
+
+    fn in_one_loop(self, packets: &'static Packets) -> Work {
+        Box::new(move || black_box(self.all)(&packets.bytes, &packets.ends))
+    }
+
+    fn a_call_each(self, packets: &'static Packets) -> Work {
+        let each = packets.each();
+        Box::new(move || {
+            let call = black_box(self.one);
+            each.iter()
+                .fold(0u64, |sum, packet| sum.rotate_left(1) ^ call(packet))
+        })
+    }
+
+    fn again(self, bytes: Vec<u8>) -> Work {
+        Box::new(move || {
+            let call = black_box(self.one);
+            (0..CALLS).fold(0u64, |sum, _| sum.rotate_left(1) ^ call(black_box(&bytes)))
+        })
+    }
 }
 
 impl Form {
+    /// Compares with the original.
     fn new<Ours: Digest, Original: Digest>(group: &'static str, reading: &'static str) -> Form {
         Form {
             group,
             reading,
-            our_loop: one_loop::<Ours>,
-            our_call: one_call::<Ours>,
-            original_loop: one_loop::<Original>,
-            original_call: one_call::<Original>,
+            ours: Calls::of::<Ours>(),
+            other: Calls::of::<Original>(),
+            limit: None,
+            is_against_ours: false,
         }
     }
 
-    fn row(&self, what: &str, unit: &'static str, units: usize, ours: Work, original: Work) -> Row {
+    /// Compares with another call of ours.
+    fn against<Ours: Digest, Other: Digest>(group: &'static str, reading: &'static str) -> Form {
+        Form {
+            is_against_ours: true,
+            ..Form::new::<Ours, Other>(group, reading)
+        }
+    }
+
+    fn with_walk(self) -> Form {
+        Form {
+            limit: Some(Calls::of::<dissect::Walk>()),
+            ..self
+        }
+    }
+
+    fn other_packets(&self, packets: Sides) -> &'static Packets {
+        if self.is_against_ours {
+            packets.ours
+        } else {
+            packets.original
+        }
+    }
+
+    /// Makes a row of the work that the function makes of each side's calls and packets.
+    fn row(&self, what: String, packets: Sides, work: fn(Calls, &'static Packets) -> Work) -> Row {
         Row {
             group: self.group,
             name: format!("{}, {}: {what}", self.group, self.reading),
-            unit,
-            units,
-            ours,
-            original,
-            limit: None,
+            unit: "packet",
+            units: packets.ours.ends.len(),
+            ours: work(self.ours, packets.ours),
+            original: work(self.other, self.other_packets(packets)),
+            limit: self.limit.map(|limit| work(limit, packets.ours)),
             written: None,
         }
     }
 
     fn in_one_loop(&self, what: &str, packets: Sides) -> Row {
-        let over = |call: Loop, packets: &'static Packets| -> Work {
-            Box::new(move || black_box(call)(&packets.bytes, &packets.ends))
-        };
-        self.row(
-            &format!("{what}, one loop"),
-            "packet",
-            packets.ours.ends.len(),
-            over(self.our_loop, packets.ours),
-            over(self.original_loop, packets.original),
-        )
+        self.row(format!("{what}, one loop"), packets, Calls::in_one_loop)
     }
 
     fn a_call_each(&self, what: &str, packets: Sides) -> Row {
-        let over = |call: Call, packets: &'static Packets| -> Work {
-            let each = packets.each();
-            Box::new(move || {
-                let call = black_box(call);
-                each.iter()
-                    .fold(0u64, |sum, packet| sum.rotate_left(1) ^ call(packet))
-            })
-        };
-        self.row(
-            &format!("{what}, a call each"),
-            "packet",
-            packets.ours.ends.len(),
-            over(self.our_call, packets.ours),
-            over(self.original_call, packets.original),
-        )
+        self.row(format!("{what}, a call each"), packets, Calls::a_call_each)
     }
 
     fn refused(&self, refused: Refused) -> Row {
-        let over = |call: Call, bytes: Vec<u8>| -> Work {
-            Box::new(move || {
-                let call = black_box(call);
-                (0..CALLS).fold(0u64, |sum, _| sum.rotate_left(1) ^ call(black_box(&bytes)))
-            })
+        let other = if self.is_against_ours {
+            refused.ours.clone()
+        } else {
+            refused.original
         };
-        self.row(
-            &format!("refused, {}", refused.why),
-            "call",
-            CALLS,
-            over(self.our_call, refused.ours),
-            over(self.original_call, refused.original),
-        )
+        Row {
+            group: self.group,
+            name: format!("{}, {}: refused, {}", self.group, self.reading, refused.why),
+            unit: "call",
+            units: CALLS,
+            limit: self.limit.map(|limit| limit.again(refused.ours.clone())),
+            ours: self.ours.again(refused.ours),
+            original: self.other.again(other),
+            written: None,
+        }
     }
 }
 
 /// Returns all rows, with packets from the seed.
 pub fn rows(seed: u64) -> Vec<Row> {
+    let mut rows = parses(seed);
+    rows.extend(dissections(seed));
+    rows.extend(errors_against_whole(seed));
+    rows
+}
+
+/// Packets dissected through C. None is a later fragment, so all sides find the same payload.
+fn dissections(seed: u64) -> Vec<Row> {
+    let forms = [
+        Form::new::<dissect::Place, original::Place>("C, dissect", "filter").with_walk(),
+        Form::new::<dissect::Headers, original::Headers>("C, dissect", "16 headers"),
+        Form::against::<dissect::Place, c::Place>("C, dissect against find_payload", "filter")
+            .with_walk(),
+        Form::against::<dissect::Headers, c::Headers>(
+            "C, dissect against parse_packet",
+            "16 headers",
+        ),
+    ];
+    let whole =
+        inputs::first_fragments(PACKETS, seed).map(|(what, packets)| (what, Sides::new(packets)));
+    let broken = inputs::broken(PACKETS, seed).map(|it| (it.what, Sides::new(it.packets)));
+    let mut rows = Vec::new();
+    for form in &forms {
+        for (what, packets) in whole {
+            rows.push(form.in_one_loop(what, packets));
+            rows.push(form.a_call_each(what, packets));
+        }
+        rows.extend(
+            broken
+                .iter()
+                .map(|(what, packets)| form.in_one_loop(what, *packets)),
+        );
+        if form.reading == "filter" {
+            rows.extend(
+                inputs::refused_packets()
+                    .iter()
+                    .map(|refused| form.refused(refused.without_later_fragments())),
+            );
+        }
+    }
+    rows
+}
+
+/// Packets with an error dissected through C, compared with the same packets without it.
+fn errors_against_whole(seed: u64) -> Vec<Row> {
+    let group = "C, dissect, errors against whole packets";
+    let forms = [
+        Form::new::<dissect::Base<0>, dissect::Base<0>>(group, "filter"),
+        Form::new::<dissect::Base<{ c::ROOM }>, dissect::Base<{ c::ROOM }>>(group, "16 headers"),
+    ];
+    let broken =
+        inputs::broken(PACKETS, seed).map(|it| (it.what, Sides::pair(it.packets, it.whole)));
+    let rows_of = |form: &Form| broken.map(|(what, sides)| form.in_one_loop(what, sides));
+    forms.iter().flat_map(rows_of).collect()
+}
+
+/// Packets parsed through C or with the package.
+fn parses(seed: u64) -> Vec<Row> {
     let ipv6 = Sides::new(inputs::packets(PACKETS, seed));
     let ipv4 = Sides::new(inputs::ipv4_packets(PACKETS, seed));
     let both = Sides::new(inputs::alternating(ipv4.ours, ipv6.ours));

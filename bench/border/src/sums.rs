@@ -32,6 +32,18 @@ pub fn of_ipv6_addr(address: Ipv6Addr) -> u64 {
     with(u64::from(octets[0]), u64::from(octets[15]))
 }
 
+/// The digest of where a header or a payload lies.
+#[inline(always)]
+pub fn of_place(number: u16, offset: usize, len: usize) -> u64 {
+    with(with(u64::from(number), offset as u64), len as u64)
+}
+
+/// The digest of the version and of the base header's length.
+#[inline(always)]
+pub fn of_base(version: u16, len: usize) -> u64 {
+    with(u64::from(version), len as u64)
+}
+
 /// Parses packets one after another, in one loop.
 #[inline(never)]
 pub fn one_loop<D: Digest>(packets: &[u8], ends: &[usize]) -> u64 {

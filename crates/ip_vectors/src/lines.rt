@@ -121,6 +121,57 @@ fn runs_that_are_written_again(rt: HostRuntime) -> Result<(), Fail> {
 }
 
 #[test]
+fn ipv4_packets_dissected(rt: HostRuntime) -> Result<(), Fail> {
+    let rows: [(&[u8], &[u8]); 5] = [
+        (
+            b"dissect 4500001800010000401100007f0000017f00000101020304ff\n",
+            b"ipv4 base 20 stated 24\nfragment none\nnext 17 rest 4\nmissing 0 padding 1\npayload\n",
+        ),
+        (
+            b"dissect 4500001801022001403300007f0000017f00000111010000\n",
+            b"ipv4 base 20 stated 24\nfragment middle id 258 offset 8\nnext 51 rest 4\nmissing 0 padding 0\nlater fragment\n",
+        ),
+        (
+            b"dissect 4500002400010000403300007f0000017f00000111010000\n",
+            b"ipv4 base 20 stated 36\nfragment none\nnext 51 rest 4\nmissing 12 padding 0\ntruncated len 12 of 4 Slice IpAuthHeader at 20\n",
+        ),
+        (
+            b"dissect 4500001800010000403300007f0000017f000001110100000000000100000002\n",
+            b"ipv4 base 20 stated 24\nfragment none\nnext 51 rest 4\nmissing 0 padding 8\nfault len 12 of 4 Ipv4HeaderTotalLen IpAuthHeader at 20\n",
+        ),
+        (
+            b"dissect 4500\n",
+            b"truncated len 20 of 2 Slice Ipv4Header at 0\n",
+        ),
+    ];
+    check(&rt, rt.alloc(), &rows)
+}
+
+#[test]
+fn ipv6_packets_dissected(rt: HostRuntime) -> Result<(), Fail> {
+    let rows: [(&[u8], &[u8]); 5] = [
+        (
+            b"dissect 60000000000c00400000000000000000000000000000000000000000000000000000000000000000110001040000000001020304\n",
+            b"ipv6 base 40 stated 52\n40 hopopt 8\nfragment none\nnext 17 rest 4\nmissing 0 padding 0\npayload\n",
+        ),
+        (
+            b"dissect 6000000000102c4000000000000000000000000000000000000000000000000000000000000000003c00000a000001001100000000000000\n",
+            b"ipv6 base 40 stated 56\n40 frag 8\nfragment last id 256 offset 8\nnext 60 rest 8\nmissing 0 padding 0\nlater fragment\n",
+        ),
+        (
+            b"dissect 6000000000182b4000000000000000000000000000000000000000000000000000000000000000001102000000000000\n",
+            b"ipv6 base 40 stated 64\nfragment none\nnext 43 rest 8\nmissing 16 padding 0\ntruncated len 24 of 8 Slice Ipv6ExtHeader at 40 in Ipv6RouteHeader\n",
+        ),
+        (
+            b"dissect 6000000000083c40000000000000000000000000000000000000000000000000000000000000000011010000000000000000000000000000\n",
+            b"ipv6 base 40 stated 48\nfragment none\nnext 60 rest 8\nmissing 0 padding 8\nfault len 16 of 8 Ipv6HeaderPayloadLen Ipv6ExtHeader at 40 in Ipv6DestOptionsHeader\n",
+        ),
+        (b"dissect 7000\n", b"fault UnsupportedIpVersion 7\n"),
+    ];
+    check(&rt, rt.alloc(), &rows)
+}
+
+#[test]
 fn bad_lines(rt: HostRuntime) -> Result<(), Fail> {
     let rows: [(&[u8], &[u8]); 2] = [
         (b"exts6 256 00\n", b"bad line\n"),

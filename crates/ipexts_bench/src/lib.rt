@@ -4,6 +4,7 @@
 #![tactic(auto)]
 
 mod calls;
+mod dissections;
 mod headers;
 mod ipv4;
 mod packets;

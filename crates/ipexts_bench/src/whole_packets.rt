@@ -34,7 +34,7 @@ pub struct Ipv6Lax;
 pub struct Ipv6LaxFilter;
 
 /// The digest of an error if only a filter reads it.
-const NO_PACKET: u64 = 2;
+pub const NO_PACKET: u64 = 2;
 
 impl Packet for Ip {
     fn digest(bytes: &[u8]) -> u64 {
@@ -121,7 +121,7 @@ fn of_place(payload: &IpPayloadSlice<'_>) -> u64 {
 }
 
 /// Parses each packet, up to the first that isn't one. The packets follow one another, and end at `ends`.
-fn over_each<P: Packet>(packets: &[u8], ends: &[usize]) -> u64 {
+pub fn over_each<P: Packet>(packets: &[u8], ends: &[usize]) -> u64 {
     let mut start = 0;
     let mut sum = 0;
     for end in ends {

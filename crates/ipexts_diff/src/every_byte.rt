@@ -14,7 +14,7 @@ use std::alloc::Global;
 const REFUSED: u64 = 256;
 
 /// Returns the digest `sum` extended by all these bytes.
-fn with_bytes(sum: u64, bytes: &[u8]) -> u64 {
+pub fn with_bytes(sum: u64, bytes: &[u8]) -> u64 {
     let mut sum = with(sum, bytes.len() as u64);
     for byte in bytes {
         sum = sum.wrapping_mul(65_599).wrapping_add(u64::from(*byte));

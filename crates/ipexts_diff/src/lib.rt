@@ -1,6 +1,7 @@
 //! Calls for a program in C or Rust that compares this project's complete results with another's.
 #![tactic(auto)]
 
+mod dissections;
 mod every_byte;
 mod fields;
 mod read_fields;

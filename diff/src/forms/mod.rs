@@ -1,4 +1,5 @@
 //! The forms of a line. To add a form, add a file here and a line in `forms`.
+mod dissect;
 mod exts4;
 mod exts6;
 mod packet;
@@ -38,6 +39,7 @@ pub fn forms() -> Vec<Box<dyn Form>> {
         Box::new(rewrite6::Rewrite6),
         Box::new(rewriteall6::RewriteAll6),
         Box::new(packet::Packet),
+        Box::new(dissect::Dissect),
     ]
 }
 

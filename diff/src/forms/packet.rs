@@ -15,12 +15,7 @@ impl Form for Packet {
     }
 
     fn arguments(&self, random: &mut Random) -> Vec<String> {
-        let upper = random.percent(10);
-        let longest = MAX_LINE_LEN - "packet ".len();
-        packets::asked(random, longest / 2)
-            .into_iter()
-            .map(|bytes| hex_of(&bytes, upper))
-            .collect()
+        arguments(self.name(), random)
     }
 
     fn answer(
@@ -43,6 +38,16 @@ impl Form for Packet {
         }
         Some(named)
     }
+}
+
+/// Makes hexadecimal digits for a form with this name that takes a packet.
+pub fn arguments(name: &str, random: &mut Random) -> Vec<String> {
+    let upper = random.percent(10);
+    let longest = MAX_LINE_LEN - name.len() - " ".len();
+    packets::asked(random, longest / 2)
+        .into_iter()
+        .map(|bytes| hex_of(&bytes, upper))
+        .collect()
 }
 
 /// Appends the lengths of the parts, and the properties of the payload.

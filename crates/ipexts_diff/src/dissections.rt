@@ -1,0 +1,80 @@
+//! A digest of a dissection in which every byte of the result counts.
+use crate::every_byte::with_bytes;
+use ip_digests::digest::{layer_code, of_len_error, with};
+use ip_digests::packets::of_ip_fault;
+use ip_dissect::{Dissection, End, Fragment, FragmentKind, dissect};
+use ip_ext_chains::err::Layer;
+
+/// The value of a part that isn't there.
+const NONE: u64 = 256;
+
+/// Dissects the packet at the start of any bytes.
+#[unsafe(no_mangle)]
+pub extern "C" fn ipexts_dissect_bytes(packet: &[u8]) -> u64 {
+    let packet = dissect(packet);
+    let sum = match &packet.base {
+        Some(base) => with_bytes(u64::from(base.version()), base.slice()),
+        None => NONE,
+    };
+    let sum = match packet.stated_len {
+        Some(len) => with(sum, len as u64),
+        None => with(sum, NONE),
+    };
+    let sum = with_fragment(with_headers(sum, &packet), packet.fragment);
+    let sum = with_bytes(with(sum, u64::from(packet.next_header.0)), packet.payload);
+    let sum = with_bytes(with(sum, packet.missing as u64), packet.padding);
+    with_end(sum, &packet.end)
+}
+
+/// Returns the digest extended by the number and the bytes of each extension header.
+fn with_headers(sum: u64, packet: &Dissection<'_>) -> u64 {
+    let mut sum = with_bytes(with(sum, packet.header_count as u64), packet.extensions);
+    if let Some(headers) = packet.ipv6_extensions() {
+        for header in headers {
+            sum = with_bytes(with(sum, u64::from(header.number().0)), header.slice());
+        }
+    }
+    if let Some(headers) = packet.ipv4_extensions() {
+        if let Some(header) = &headers.auth {
+            sum = with_bytes(with(sum, 51), header.slice());
+        }
+    }
+    sum
+}
+
+/// Returns the digest extended by which fragment the packet is.
+fn with_fragment(sum: u64, fragment: Option<Fragment>) -> u64 {
+    let Some(fragment) = fragment else {
+        return with(sum, NONE);
+    };
+    let kind = match fragment.kind {
+        FragmentKind::Atomic => 1,
+        FragmentKind::First => 2,
+        FragmentKind::Middle => 3,
+        FragmentKind::Last => 4,
+    };
+    let place = with(u64::from(fragment.identification), u64::from(fragment.offset));
+    with(with(sum, place), kind)
+}
+
+/// Returns the digest extended by why the headers end.
+fn with_end(sum: u64, end: &End) -> u64 {
+    match end {
+        End::Payload => with(sum, 1),
+        End::LaterFragment => with(sum, 2),
+        End::Truncated { error, header } => {
+            with_layer(with(with(sum, 3), of_len_error(error)), *header)
+        }
+        End::Fault { error, header } => {
+            with_layer(with(with(sum, 4), of_ip_fault(error)), *header)
+        }
+    }
+}
+
+/// Returns the digest extended by the IPv6 extension header that an error is in.
+fn with_layer(sum: u64, header: Option<Layer>) -> u64 {
+    match header {
+        Some(layer) => with(sum, u64::from(layer_code(&layer))),
+        None => with(sum, NONE),
+    }
+}

@@ -1,11 +1,11 @@
 -- A walk over headers linked in the order of their places reaches the end.
-use Rattle.ip_spec.proofs.Common.{◌≡◌, ℕ, ◌+◌, ◌<◌, ◌≤◌, List, [], ◌∷◌, ◌++◌, drop, refl, ap, sym, ◌∙◌, arith, inl, inr, subst, Bool, true, false, cond, rules, Option, Some, None, is_some, ◌==◌, ◌||◌, nat_lt, if◌then◌else◌, find, option_map, option_map_or, cases_Bool, le-ltb, none-some, All-from_recursion, recursion_from_All, common_steps, IsHeader, next_header, ExtHeader, Place, hop_by_hop, destination, routing, authentication, final_destination, places, index, number_in, header_in, fields_of, HeaderFields, IsCleared, IsEncoded, IsEncodable, PlacedFields, leads, IsWalkAnswer, walk_place, without, next_of, relinked, first_number, places_after, linked}
+use Rattle.ip_spec.proofs.Common.{◌≡◌, ℕ, ◌+◌, ◌<◌, ◌≤◌, List, [], ◌∷◌, ◌++◌, drop, refl, ap, sym, ◌∙◌, arith, inl, inr, subst, Bool, true, false, cond, rules, Option, Some, None, is_some, ◌==◌, ◌||◌, nat_lt, if◌then◌else◌, find, option_map, option_map_or, cases_Bool, le-ltb, none-some, All-from_recursion, recursion_from_All, common_steps, IsHeader, next_header, ExtHeader, Place, hop_by_hop, destination, routing, authentication, final_destination, places, index, number_in, header_in, fields_of, HeaderFields, IsCleared, IsEncoded, IsEncodable, PlacedFields, leads, IsWalkAnswer, without, next_of, relinked, first_number, places_after, linked}
 use Rattle.ip_spec.specs.Places.{fragment as fragment_place}
 use Rattle.ip_spec.proofs.HeaderLemmas.{header-least}
 use Rattle.ip_spec.proofs.PlaceLemmas.{in_both, has_routing}
 use Rattle.ip_spec.proofs.EncodedLemmas.{of_number}
 use Rattle.ip_spec.proofs.WalkLemmas.{none_if, some_if, is_some-map}
-use Rattle.ip_spec.proofs.WalkStepLemmas.{Walking, walk_begins, walks_on, walk_answers}
+use Rattle.ip_spec.proofs.WalkStepLemmas.{walk_place, Walking, walk_begins, walks_on, walk_answers}
 use Rattle.ip_spec.proofs.SpellingLemmas.{leads_where_none}
 
 -- Another next header leaves a header valid.

@@ -1,9 +1,9 @@
 -- A walk that takes headers out of a value, one after the other.
-use Rattle.ip_spec.proofs.Common.{◌≡◌, ℕ, List, [], ◌∷◌, ◌++◌, ap, sym, ◌∙◌, subst, Bool, true, false, arith, rules, Option, Some, None, is_some, ◌==◌, ◌&&◌, ◌||◌, not, if◌then◌else◌, or-true, or-false, eq-eqb, eqb_tells, none-some, common_steps, IsHeader, next_header, ExtHeader, leads_to, is_empty, Place, index, number_in, header_in, place_of, fields_of, HeaderFields, IsCleared, IsEncoded, PlacedFields, IsReachable, WalkAnswer, answer_at, IsWalkAnswer, walk_place, without, IsLongestOf}
+use Rattle.ip_spec.proofs.Common.{◌≡◌, ℕ, List, [], ◌∷◌, ◌++◌, ap, sym, ◌∙◌, subst, Bool, true, false, arith, rules, Option, Some, None, is_some, ◌==◌, ◌&&◌, ◌||◌, not, if◌then◌else◌, or-true, or-false, eq-eqb, eqb_tells, none-some, common_steps, routing, IsHeader, next_header, ExtHeader, leads_to, is_empty, Place, index, number_in, header_in, fields_of, HeaderFields, IsCleared, IsEncoded, PlacedFields, IsReachable, WalkAnswer, answer_at, IsWalkAnswer, next_place, next_in_chain, without, IsLongestOf}
 use Rattle.ip_spec.proofs.LongestOfLemmas.{longest_where_none_next}
 use Rattle.ip_spec.proofs.StepLemmas.{all_more, leads_to-more, chain_more}
 use Rattle.ip_spec.proofs.FirstLemmas.{find_more-yes, find_more-no}
-use Rattle.ip_spec.proofs.PlaceLemmas.{has_routing, place_number, placed, fits_more}
+use Rattle.ip_spec.proofs.PlaceLemmas.{place_of, has_routing, place_number, placed, fits_more, own_next, next_own}
 use Rattle.ip_spec.proofs.WalkLemmas.{unreached, none_if, there, Next, next_shown, shown_grows}
 
 -- Headers c were reached from f and taken out of v, which leaves u. They lead to m; `first` says that there are none,
@@ -24,6 +24,31 @@ left_some o y x e = search rules
 
 pub next_place_is : (z first : Bool) (o : Option Place) (p : Place) → (if z && not first then None else o) ≡ Some p → (o ≡ Some p) × (z ≡ true → first ≡ true)
 next_place_is z first o p e = search rules
+
+in_chain_is : (z first : Bool) (o : Option Place) (p : Place) → o ≡ Some p → (z ≡ true → first ≡ true) → (if z && not first then None else o) ≡ Some p
+in_chain_is z first o p e zero = search rules
+
+-- the place of a header of number m, free or not, after a routing header or not; 0 has one only at the start
+abbrev pub walk_place : Bool → Bool → ℕ → Option Place
+walk_place first after m = if (m == 0) && not first then None else place_of m after
+
+-- it is next if it is free
+module _ {X : Type 0} (reached : Place → Option X) (first : Bool) (m : ℕ) (p : Place) where
+  pub walk_of_next : next_in_chain first reached m ≡ Some p → walk_place first (is_some (reached routing)) m ≡ Some p
+  walk_of_next e =
+      let next = next_place_is (m == 0) first (next_place reached m) p e in
+      in_chain_is (m == 0) first (place_of m (is_some (reached routing))) p (own_next reached m p next.0).0 next.1
+
+  pub number_of_next : next_in_chain first reached m ≡ Some p → m ≡ number_in p
+  number_of_next e = place_number m p (is_some (reached routing)) (own_next reached m p (next_place_is (m == 0) first (next_place reached m) p e).0).0
+
+  pub free_of_next : next_in_chain first reached m ≡ Some p → is_some (reached p) ≡ false
+  free_of_next e = (own_next reached m p (next_place_is (m == 0) first (next_place reached m) p e).0).1
+
+  pub next_of_walk : walk_place first (is_some (reached routing)) m ≡ Some p → is_some (reached p) ≡ false → next_in_chain first reached m ≡ Some p
+  next_of_walk e free =
+      let own = next_place_is (m == 0) first (place_of m (is_some (reached routing))) p e in
+      in_chain_is (m == 0) first (next_place reached m) p (next_own reached m p own.0 free) own.1
 
 -- values with equal places are equal
 pub same_held : (v w : PlacedFields) → ((p : Place) → v p ≡ w p) → v ≡ w

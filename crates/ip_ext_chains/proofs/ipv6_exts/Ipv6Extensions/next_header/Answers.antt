@@ -12,7 +12,7 @@ headers-init c =
     (on _ _ _ c.next_in-3.ensures.some c.next_in-3.ensures.none
     (on _ _ _ c.next_in-2.ensures.some c.next_in-2.ensures.none
     (on _ _ _ c.next_in.ensures.some c.next_in.ensures.none (walked_none (placed_fields c.args.self.now) c.args.first.0 c.new-walk.result
-    c.new-walk.ensures.left c.new-walk.ensures.number c.new-walk.ensures.first c.new-walk.ensures.past_routing))))))
+    c.new-walk.ensures.left c.new-walk.ensures.number c.new-walk.ensures.first c.new-walk.ensures.reached))))))
 
 pub headers-smaller : goal.headers-smaller
 headers-smaller c = step_less c.headers.walk c.next.new.self _ c.in-Some.ensures.some

@@ -26,7 +26,7 @@ headers-init g c =
           (on _ c.append_next-3.new.walk _ _ c.append_next-3.new.out.items _ (vec_capacity c.append_next-3.new.out) _ n3.some n3.appended n3.none n3.same (omega (arith, n3.room, c.append_next-3.new.out.ok.0))
           (on _ c.append_next-2.new.walk _ _ c.append_next-2.new.out.items _ (vec_capacity c.append_next-2.new.out) _ n2.some n2.appended n2.none n2.same (omega (arith, n2.room, c.append_next-2.new.out.ok.0))
           (on _ c.append_next.new.walk _ _ c.append_next.new.out.items _ (vec_capacity c.append_next.new.out) _ n1.some n1.appended n1.none n1.same (omega (arith, n1.room, c.append_next.new.out.ok.0))
-          (written_none (placed_fields c.args.self.now) c.args.first.0 c.new-walk.result w.left w.number w.first w.past_routing c.args.out.now.items c.reserve.new.self.items (vec_capacity c.reserve.new.self) c.reserve.ensures.items
+          (written_none (placed_fields c.args.self.now) c.args.first.0 c.new-walk.result w.left w.number w.first w.reached c.args.out.now.items c.reserve.new.self.items (vec_capacity c.reserve.new.self) c.reserve.ensures.items
           (omega (arith, c.in_default.ensures.ok, c.header_len.ensures.len, exts_sum c.args.self.now, c.reserve.ensures.len, ap length c.reserve.ensures.items, c.reserve.new.self.ok.0))))))))),
       omega (arith, c.reserve.ensures.capacity, n1.capacity, n2.capacity, n3.capacity, n4.capacity, n5.capacity, n6.capacity),
     )

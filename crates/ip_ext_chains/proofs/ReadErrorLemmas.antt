@@ -4,7 +4,6 @@ use Rattle.std.proofs.Common.{length-append}
 use Rattle.ip_base.specs.declared.len_source.LenSource.TheVariants.{Slice}
 use Rattle.ip_base.specs.declared.err.layer.Layer.TheVariants.{Ipv6ExtHeader}
 use Rattle.ip_base.specs.declared.err.io.limited_read_error.LimitedReadError.{LimitedReadError}
-use Rattle.ip_base.specs.declared.err.io.limited_read_error.LimitedReadError.TheVariants as limit
 use Rattle.ip_spec.proofs.ChainLemmas.{bytes_of-more}
 use Rattle.ip_base.specs.ExactRead.{IfSteady}
 use Rattle.ip_base.specs.Limits.{Limits, started, advanced}

@@ -1,5 +1,5 @@
 -- A chain that is read, header by header, into six places.
-use Rattle.ip_spec.proofs.Common.{common_steps, ◌≡◌, ◌≢◌, ℕ, ◌+◌, ◌<◌, List, ◌∷◌, ◌++◌, length, drop, take, refl, ap, sym, ◌∙◌, arith, inl, inr, ◌⊎◌, subst, Bool, true, false, rules, [], ◌==◌, ◌&&◌, not, Option, Some, None, is_some, if◌then◌else◌, option_map, option_map_or, cases_Bool, ne_eqb, eq-eqb, none-some, and-false, take-length, drop-append_seam, IsHeader, IsExtensionNumber, ExtHeader, IsChain, IsNext, leads_to, bytes_of, is_empty, FitsPlaces, Place, hop_by_hop, destination, routing, authentication, final_destination, index, number_in, header_in, next_place, next_in_chain, IsOccupied, fields_of, HeaderFields, raw_header}
+use Rattle.ip_spec.proofs.Common.{common_steps, ◌≡◌, ◌≢◌, ℕ, ◌+◌, ◌<◌, List, ◌∷◌, ◌++◌, length, drop, take, refl, ap, sym, ◌∙◌, arith, inl, inr, subst, Bool, true, false, rules, [], ◌==◌, ◌&&◌, not, Option, Some, None, is_some, if◌then◌else◌, option_map, cases_Bool, ne_eqb, eq-eqb, none-some, take-length, drop-append_seam, IsHeader, IsExtensionNumber, ExtHeader, IsChain, IsNext, leads_to, bytes_of, is_empty, FitsPlaces, Place, hop_by_hop, destination, routing, authentication, final_destination, index, number_in, header_in, next_place, next_in_chain, IsOccupied, fields_of, HeaderFields, raw_header}
 use Rattle.ip_spec.specs.Places.{fragment}
 use Rattle.ip_spec.proofs.PrefixLemmas.{prefix_of-append}
 use Rattle.ip_spec.proofs.ChainLemmas.{no_chain, goes_on, leads_to-more}

@@ -4,7 +4,7 @@ ghost use Rattle.std.specs.List.{find};
 ghost use Rattle.std.specs.Option.{option_map};
 ghost use Rattle.ip_spec.specs.Walk.{answer_at};
 ghost use Rattle.ip_spec.specs.WalkStep.{next_in_chain};
-ghost use Rattle.ip_spec.specs.Places.{Place as spec_place, places, raw_header};
+ghost use Rattle.ip_spec.specs.Places.{places, raw_header};
 ghost use Rattle.ip_ext_chains.specs.Place.{as_place};
 ghost use Rattle.ip_ext_chains.specs.Slots.{at, IsVacant};
 ghost use Rattle.ip_ext_chains.specs.HeaderRef.{fields_of_ref};
@@ -31,7 +31,7 @@ impl<'a> Walk<'a> {
     /// Returns the walk from the number, with no header reached.
     #[inline(always)]
     pub(crate) fn new(headers: &'a Ipv6Extensions, start: IpNumber) -> Walk<'a>
-        ensures left { (p : spec_place) → left_in result p ≡ placed_fields headers.now p }
+        ensures headers { result.headers.now ≡ headers.now }
         ensures number { result.number.0 ≡ start.0 }
         ensures first { result.first ≡ true }
         ensures reached { IsVacant result.reached }

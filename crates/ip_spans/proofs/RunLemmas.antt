@@ -1,5 +1,5 @@
 -- How many headers fit one struct with a place for each.
-use Rattle.ip_spec.proofs.Common.{◌≡◌, ◌≢◌, ℕ, ◌≤◌, List, [], ◌∷◌, ◌++◌, length, take, map, refl, ap, sym, ◌∙◌, arith, inl, inr, subst, Bool, true, false, Option, Some, IsTrue, is_some, IsSome, find, count_by, cases_Bool, ne_eqb, eq-eqb, eqb-true, same_Some, ◌==◌, ◌↔◌, if◌then◌else◌, AllByRecursion, map-append, append-nil, take_all, KeepsBeginning, IsExtensionNumber, ExtHeader, Place, hop_by_hop, destination, routing, authentication, final_destination, number_in, side_of, next_place, header_in}
+use Rattle.ip_spec.proofs.Common.{◌≡◌, ◌≢◌, ℕ, ◌≤◌, List, [], ◌∷◌, ◌++◌, length, take, map, refl, ap, sym, ◌∙◌, arith, inl, inr, true, false, Option, Some, IsTrue, is_some, IsSome, find, count_by, cases_Bool, ne_eqb, eq-eqb, eqb-true, same_Some, ◌==◌, ◌↔◌, if◌then◌else◌, AllByRecursion, map-append, append-nil, take_all, KeepsBeginning, IsExtensionNumber, ExtHeader, Place, hop_by_hop, destination, routing, authentication, final_destination, number_in, side_of, next_place, header_in}
 use Rattle.ip_spec.specs.Places.{fragment}
 use Rattle.std.specs.List.{after_first}
 use Rattle.ip_spec.proofs.FirstLemmas.{before-none, find-map, counted, none_counted}

@@ -62,4 +62,4 @@ pub use Rattle.ip_spec.specs.Prefix.{IsPrefix, NoPrefix}
 pub use Rattle.ip_spec.specs.Requests.{RawAsks, Asks, IsZeroLength, raw_start, raw_rest, AuthAsks, FragmentAsks, fragment_whole, auth_start, auth_icv, asks_raw, asks_fragment, asks_auth}
 pub use Rattle.ip_spec.specs.Runs.{joined, AreChains, AreRuns, how_many}
 pub use Rattle.ip_spec.specs.Walk.{PlacedFields, WalkAnswer, IsWalkAnswer, IsSpelling, IsReachable, answer_at, IsValueOf, leads, hop_by_hop_not_at_start, not_referenced}
-pub use Rattle.ip_spec.specs.WalkStep.{next_of, IsEncodingOf, next_in_chain, without}
+pub use Rattle.ip_spec.specs.WalkStep.{next_of, IsEncodingOf, next_in_chain}

@@ -1,5 +1,5 @@
 -- Headers in their places.
-use Rattle.ip_spec.proofs.Common.{◌≡◌, ℕ, List, refl, ap, sym, ◌∙◌, Bool, rules, Option, Some, None, is_some, IfSome, if◌then◌else◌, option_map, eqb-true, raw_fields, fragment_fields, auth_fields, ExtHeader, Place, hop_by_hop, destination, routing, authentication, final_destination, number_in, header_in, next_place}
+use Rattle.ip_spec.proofs.Common.{◌≡◌, ℕ, List, refl, ap, sym, ◌∙◌, Bool, rules, Option, Some, is_some, IfSome, if◌then◌else◌, option_map, eqb-true, raw_fields, fragment_fields, auth_fields, ExtHeader, Place, hop_by_hop, destination, routing, authentication, final_destination, number_in, header_in, next_place}
 use Rattle.ip_spec.specs.Places.{fragment}
 use Rattle.ip_spec.proofs.FirstLemmas.{find_passes}
 use Rattle.ip_spec.proofs.PlaceLemmas.{is_of, side, next_alike}
@@ -20,9 +20,6 @@ in_place_number p c h e = eqb-true h.number (number_in p) (find_passes (is_of p)
 module _ (c : List ExtHeader) (v : Places Ipv6ExtensionSlice) (k : ArePlaced c v) where
   pub filled_same : (p : Place) → is_some (at p v) ≡ is_some (header_in p c)
   filled_same p = sym (is_some-map header_of (at p v)) ∙ ap is_some (k p)
-
-  pub none_same : (p : Place) → at p v ≡ None → header_in p c ≡ None
-  none_same p e = sym (k p) ∙ ap (option_map header_of) e
 
   pub next_same : (m : ℕ) → next_place (λ p. at p v) m ≡ next_place (λ p. header_in p c) m
   next_same m = next_alike (λ p. at p v) (λ p. header_in p c) m filled_same

@@ -4,7 +4,6 @@ use Rattle.std.proofs.Common.{length-append}
 use Rattle.ip_base.specs.declared.len_source.LenSource.TheVariants.{Slice}
 use Rattle.ip_base.specs.declared.err.layer.Layer.TheVariants.{Ipv6ExtHeader}
 use Rattle.ip_base.specs.declared.err.io.limited_read_error.LimitedReadError.{LimitedReadError}
-use Rattle.ip_base.specs.declared.err.io.limited_read_error.LimitedReadError.TheVariants as limit
 use Rattle.ip_spec.proofs.ChainLemmas.{bytes_of-more}
 use Rattle.ip_base.specs.ExactRead.{IfSteady}
 use Rattle.ip_base.specs.Limits.{Limits, started, advanced}
@@ -92,7 +91,7 @@ module _ {T : Type 0} (bytes_left : T → Option (List ℕ)) (is_steady has_fail
 
   pub layer_refused_as : (e : HeaderLimitedReadError) (first : Bool) (m j : ℕ) (old new : LimitedReader T) → IsHeaderRefusedInLayer bytes_left is_steady has_failed e true j old new → m ≡ j → (m ≡ 0 → IsTrue first)
       → IsHeaderRefusedInLayer bytes_left is_steady has_failed e first m old new
-  layer_refused_as e first m j old new r is h8 = search rules
+  layer_refused_as e first m j old new r is zero_first = search rules
 
   -- a chain whose read failed has the error of the parse of the window
   pub layer_refused_error : (e : HeaderLimitedReadError) (old new : LimitedReader T) (n : ℕ)

@@ -10,7 +10,7 @@ module _ (Consumed : List ℕ → Type 0) (v : Ipv6Extensions) {E : Type 0} (r :
   -- v with a changed place has the header in it that was read
   into : {V : Type 0} (IsOne : List ℕ → Type 0) (fields_of : List ℕ → V) (p : Place) (changed : Option V → Ipv6Extensions) → ((b : List ℕ) → IsOne b → IsHeader (number_in p) b) → ((b : List ℕ) → changed (Some (fields_of b)) ≡ with_header p b v)
       → (o : Option V) → IfOk r (λ m. IsHeaderRead IsOne fields_of Consumed m.0 o) → IfOk r (λ m. IsReadInto Consumed p m.0 v (changed o))
-  into IsOne fields_of p changed header value o h7 = search rules
+  into IsOne fields_of p changed header value o read = search rules
 
   pub into_hop_by_hop : (o : Option RawFields) → IfOk r (λ m. IsHeaderRead IsRawHeader raw_fields Consumed m.0 o) → IfOk r (λ m. IsReadInto Consumed hop_by_hop m.0 v (record v { hop_by_hop_options = o }))
   into_hop_by_hop = into IsRawHeader raw_fields hop_by_hop (λ o. record v { hop_by_hop_options = o }) (λ b. raw (inl refl)) (λ b. refl)
@@ -29,4 +29,4 @@ module _ (Consumed : List ℕ → Type 0) (v : Ipv6Extensions) {E : Type 0} (r :
 
   pub into_final : (o : Option RawFields) (x : Ipv6RoutingExtensions) → v.routing ≡ Some x → IfOk r (λ m. IsHeaderRead IsRawHeader raw_fields Consumed m.0 o)
       → IfOk r (λ m. IsReadInto Consumed final_destination m.0 v (record v { routing = Some (record x { final_destination_options = o }) }))
-  into_final o x there h3 = search rules
+  into_final o x there read = search rules

@@ -1,5 +1,5 @@
 -- A chain that is read, header by header, into six places.
-use Rattle.ip_spec.proofs.Common.{common_steps, ◌≡◌, ◌≢◌, ℕ, ◌+◌, ◌<◌, List, ◌∷◌, ◌++◌, length, drop, take, refl, ap, sym, ◌∙◌, arith, inl, inr, ◌⊎◌, subst, Bool, true, false, rules, [], ◌==◌, ◌&&◌, not, Option, Some, None, is_some, if◌then◌else◌, option_map, option_map_or, cases_Bool, ne_eqb, eq-eqb, none-some, and-false, take-length, drop-append_seam, IsHeader, IsExtensionNumber, ExtHeader, IsChain, IsNext, leads_to, bytes_of, is_empty, FitsPlaces, Place, hop_by_hop, destination, routing, authentication, final_destination, index, number_in, header_in, place_of, next_place, IsOccupied, fields_of, HeaderFields, raw_header}
+use Rattle.ip_spec.proofs.Common.{common_steps, ◌≡◌, ◌≢◌, ℕ, ◌+◌, ◌<◌, List, ◌∷◌, ◌++◌, length, drop, take, refl, ap, sym, ◌∙◌, arith, inl, inr, subst, Bool, true, false, rules, [], ◌==◌, ◌&&◌, not, Option, Some, None, is_some, if◌then◌else◌, option_map, cases_Bool, ne_eqb, eq-eqb, none-some, take-length, drop-append_seam, IsHeader, IsExtensionNumber, ExtHeader, IsChain, IsNext, leads_to, bytes_of, is_empty, FitsPlaces, Place, hop_by_hop, destination, routing, authentication, final_destination, index, number_in, header_in, next_place, next_in_chain, IsOccupied, fields_of, HeaderFields, raw_header}
 use Rattle.ip_spec.specs.Places.{fragment}
 use Rattle.ip_spec.proofs.PrefixLemmas.{prefix_of-append}
 use Rattle.ip_spec.proofs.ChainLemmas.{no_chain, goes_on, leads_to-more}
@@ -8,7 +8,7 @@ use Rattle.ip_spec.proofs.WalkLemmas.{none_if, is_some-map}
 use Rattle.ip_spec.proofs.WalkStepLemmas.{not_empty, next_place_is}
 use Rattle.ip_spec.proofs.HeaderLemmas.{later_of, later_or, later_not_zero}
 use Rattle.ip_spec.proofs.FitsLemmas.{fits_places}
-use Rattle.ip_spec.proofs.PlaceLemmas.{has_routing, place_number, final_after, placed, fits_more, own_next, next_alike}
+use Rattle.ip_spec.proofs.PlaceLemmas.{place_of, has_routing, place_number, final_after, placed, fits_more, own_next, next_alike}
 use Rattle.ip_ext_chains.specs.Fitting.{IsFittingAnswer}
 use Rattle.ip_ext_chains.specs.Ipv6Extensions.{value_of, placed_fields}
 use Rattle.ip_ext_chains.specs.ChainReading.{with_header, IsReadInto}
@@ -36,10 +36,6 @@ module _ (c : List ExtHeader) (v : Ipv6Extensions) (e : v ≡ value_of c) where
   pub next_same : (m : ℕ) → next_place (placed_fields v) m ≡ next_place (λ p. header_in p c) m
   next_same m = next_alike (placed_fields v) (λ p. header_in p c) m filled
 
--- The place that a header of number m takes next in a chain: hop-by-hop options have one only first.
-abbrev pub next_in : Bool → ℕ → Ipv6Extensions → Option Place
-next_in first m v = if (m == 0) && not first then None else next_place (placed_fields v) m
-
 -- One more header.
 put_held : (p q : Place) (b : List ℕ) (v : Ipv6Extensions) → is_some (placed_fields v p) ≡ false → (p ≡ final_destination → is_some v.routing ≡ true)
     → placed_fields (with_header p b v) q ≡ (if index p == index q then Some (fields_of (record { number = number_in p; bytes = b })) else placed_fields v q)
@@ -51,7 +47,7 @@ never_empty c h e = grind (arith, common_steps)
 
 module _ (n : ℕ) (c : List ExtHeader) (m : ℕ) (v : Ipv6Extensions) (first : Bool) (k : IsReading n c m v first) where
   -- a number without a place, other than 0, ends the chain
-  pub no_place_answers : m ≢ 0 → next_in first m v ≡ None → (x : List ℕ) → IsFittingAnswer n (bytes_of c ++ x) v m x None
+  pub no_place_answers : m ≢ 0 → next_in_chain first (placed_fields v) m ≡ None → (x : List ℕ) → IsFittingAnswer n (bytes_of c ++ x) v m x None
   no_place_answers other none x =
       let next : next_place (placed_fields v) m ≡ None = ap (λ b. if b && not first then None else next_place (placed_fields v) m) (sym (ne_eqb m 0 other)) ∙ none in
       elim (later_or m) [
@@ -59,7 +55,7 @@ module _ (n : ℕ) (c : List ExtHeader) (m : ℕ) (v : Ipv6Extensions) (first : 
         | inr not_later ↦ other_answers n c m k.chain k.fits k.number x v k.value (λ is. not_later (later_of m is other))
       ]
 
-  module _ (p : Place) (next : next_in first m v ≡ Some p) where
+  module _ (p : Place) (next : next_in_chain first (placed_fields v) m ≡ Some p) where
     next_is : (next_place (placed_fields v) m ≡ Some p) × (m == 0 ≡ true → first ≡ true)
     next_is = next_place_is (m == 0) first (next_place (placed_fields v) m) p next
 
@@ -128,16 +124,16 @@ empty_is c e = search rules
 
 -- each header that is read occupies one
 module _ (n : ℕ) (c : List ExtHeader) (m : ℕ) (v : Ipv6Extensions) (first : Bool) (k : IsReading n c m v first) where
-  pub fewer : (Consumed : List ℕ → Type 0) (p : Place) (j : ℕ) (w : Ipv6Extensions) → next_in first m v ≡ Some p → IsReadInto Consumed p j v w → free_places w < free_places v
+  pub fewer : (Consumed : List ℕ → Type 0) (p : Place) (j : ℕ) (w : Ipv6Extensions) → next_in_chain first (placed_fields v) m ≡ Some p → IsReadInto Consumed p j v w → free_places w < free_places v
   fewer Consumed p j w next r = rw r.value (fewer_at p r.bytes v (free n c m v first k p next) (nested n c m v first k p next))
 
   -- number 0 has no place only after a header
-  pub later : m ≡ 0 → next_in first m v ≡ None → is_empty c ≡ false
+  pub later : m ≡ 0 → next_in_chain first (placed_fields v) m ≡ None → is_empty c ≡ false
   later zero_number none = elim (cases_Bool (is_empty c)) [
     | inr some ↦ some
     | inl start ↦
         let at : next_place (placed_fields v) 0 ≡ None =
-        sym (ap (λ b. if (0 == 0) && not b then None else next_place (placed_fields v) 0) (k.none_yet ∙ start)) ∙ sym (ap (λ j. next_in first j v) zero_number) ∙ none in
+        sym (ap (λ b. if (0 == 0) && not b then None else next_place (placed_fields v) 0) (k.none_yet ∙ start)) ∙ sym (ap (λ j. next_in_chain first (placed_fields v) j) zero_number) ∙ none in
         absurd (none-some hop_by_hop (sym (sym (next_same c v k.value 0) ∙ at) ∙ ap (λ d. next_place (λ p. header_in p d) 0) (empty_is c start)))
   ]
 
@@ -145,5 +141,5 @@ module _ (n : ℕ) (c : List ExtHeader) (m : ℕ) (v : Ipv6Extensions) (first : 
   zero_not_occupied zero_number t = later_not_zero (leads_to n c) t.0 (sym k.number ∙ zero_number)
 
   -- so if a header follows, the first number is an extension number
-  pub named : (p : Place) → next_in first m v ≡ Some p → (IsExtensionNumber n → ⊥) → ⊥
+  pub named : (p : Place) → next_in_chain first (placed_fields v) m ≡ Some p → (IsExtensionNumber n → ⊥) → ⊥
   named p next other = let number = is_number_in n c m v first k p next in search rules

@@ -1,5 +1,5 @@
 -- Runs written one after the other: the bytes written and the encodings of the others are the whole chain.
-use Rattle.ip_spec.proofs.Common.{◌≡◌, ℕ, ◌+◌, ◌≤◌, List, ◌++◌, length, map, ap, arith, append_assoc, rules, [], Some, flat_map-append, ExtHeader, bytes_of, cleared_chain, joined, IsSpelling}
+use Rattle.ip_spec.proofs.Common.{◌≡◌, ℕ, ◌+◌, List, ◌++◌, length, map, append_assoc, rules, Some, flat_map-append, ExtHeader, bytes_of, cleared_chain, joined, IsSpelling}
 use Rattle.ip_ext_slices.specs.Longest.{longest_chain}
 use Rattle.ip_ext_chains.specs.RunsOf.{runs_of, AreSpellings}
 use Rattle.ip_ext_chains.specs.Ipv6Extensions.{placed_fields}
@@ -16,10 +16,6 @@ pub record IsRewriting (n : ℕ) (s : List ℕ) (r : Ipv6ExtensionsRuns) (m coun
   pub spelled : AreSpellings m (values_left r) (map cleared_chain (runs_left r))
   pub whole : out ++ bytes_of (joined (map cleared_chain (runs_left r))) ≡ bytes_of (cleared_chain (longest_chain n s))
 
-pub rewriting_begins : (n : ℕ) (s : List ℕ) (r : Ipv6ExtensionsRuns) (m : ℕ) (out : List ℕ) → start r ≡ n → input r ≡ s → runs_left r ≡ runs_of n s → AreSpellings n (values_left r) (map cleared_chain (runs_left r))
-    → ((ds : List (List ExtHeader)) → AreSpellings n (values_left r) ds → bytes_of (joined ds) ≡ bytes_of (cleared_chain (longest_chain n s))) → AreSpellings m (values_left r) (map cleared_chain (runs_left r)) → out ≡ [] → IsRewriting n s r m 0 out
-rewriting_begins n s r m out first bytes runs all written spelled none = search rules
-
 -- the next run is returned
 module _ (n : ℕ) (s : List ℕ) (r q : Ipv6ExtensionsRuns) (m count : ℕ) (out : List ℕ) (x : Ipv6Extensions) (k : IsRewriting n s r m count out) (given : GivesRun r (Some x) q) where
   abbrev passes : PassesRun r q
@@ -27,9 +23,6 @@ module _ (n : ℕ) (s : List ℕ) (r q : Ipv6ExtensionsRuns) (m count : ℕ) (ou
 
   abbrev run : List ExtHeader
   run = passes.0
-
-  pub rewriting_least : count + 1 ≤ length (runs_of n s)
-  rewriting_least = omega (arith, k.counted, ap length passes.1)
 
   pub rewriting_spelled : IsSpelling (placed_fields x) m (cleared_chain run)
   rewriting_spelled = search rules

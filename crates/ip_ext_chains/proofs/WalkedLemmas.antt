@@ -1,44 +1,62 @@
 -- The headers that a walk over a struct of six places has reached and written.
-use Rattle.ip_spec.proofs.Common.{common_steps, ◌≡◌, ℕ, ◌+◌, ◌<◌, ◌≤◌, List, ◌∷◌, ◌++◌, length, ap, sym, ◌∙◌, arith, append_assoc, true, false, rules, [], Option, IfSome, IfNone, append-nil, AppendsOne, ExtHeader, bytes_of, Place, number_in, header_in, HeaderFields, IsEncoded, IsEncodable, fields_len, sum_placed, placed_len, IsLongestOf, PlacedFields, IsReachable, WalkAnswer, answer_at, IsWalkAnswer, next_of, IsEncodingOf}
+use Rattle.ip_spec.proofs.Common.{common_steps, ◌≡◌, ℕ, ◌+◌, ◌<◌, ◌≤◌, List, ◌∷◌, ◌++◌, length, ap, sym, ◌∙◌, arith, subst, append_assoc, true, ⊤, ◌==◌, [], Option, Some, None, is_some, if◌then◌else◌, IfSome, IfNone, append-nil, AppendsOne, ExtHeader, bytes_of, Place, index, number_in, HeaderFields, IsEncoded, IsEncodable, fields_len, sum_placed, placed_len, IsLongestOf, PlacedFields, IsReachable, WalkAnswer, answer_at, IsWalkAnswer, next_of, next_in_chain, IsEncodingOf}
 use Rattle.ip_spec.proofs.StepLemmas.{bytes_of-more}
 use Rattle.ip_spec.proofs.EncodedLemmas.{encoding_is}
-use Rattle.ip_spec.proofs.WalkStepLemmas.{Walking, walks_on, walk_stops, walk_answers, left_some, same_held}
+use Rattle.ip_spec.proofs.WalkStepLemmas.{FillsIn, Walking, left, some_or, walk_begins, walks_on, walk_stops, walk_answers, same_held}
 use Rattle.ip_spec.proofs.LinkLemmas.{next_said}
-use Rattle.ip_spec.proofs.SumLemmas.{sum_without}
+use Rattle.ip_spec.proofs.SumLemmas.{sum_left}
+use Rattle.ip_ext_chains.specs.Slots.{at, IsVacant}
+use Rattle.ip_ext_chains.specs.Ipv6Extensions.{placed_fields}
 use Rattle.ip_ext_chains.specs.HeaderRef.{fields_of_ref}
 use Rattle.ip_ext_chains.specs.ExtsWalk.{left_in, IsStep, IsStop}
 use Rattle.ip_ext_chains.specs.declared.header_ref.HeaderRef.{HeaderRef}
 use Rattle.ip_ext_chains.specs.declared.walk.Walk.{Walk}
 
--- some headers were reached from f and taken out of v, and w is the walk after them
+-- some headers were reached from f in v, and w is the walk after them
 pub record Walked (v : PlacedFields) (f : ℕ) (w : Walk) : Type 0 where
   pub reached : List ExtHeader
-  pub walking : Walking v f reached (left_in w) w.number.0 w.first w.past_routing
+  pub walking : Walking v f reached (λ p. at p w.reached) w.number.0 w.first
+  pub value : placed_fields w.headers.now ≡ v
 
-walking_none : (v : PlacedFields) (f : ℕ) (w : Walk) → ((p : Place) → left_in w p ≡ v p) → w.number.0 ≡ f → w.first ≡ true → w.past_routing ≡ false → Walking v f [] (left_in w) w.number.0 w.first w.past_routing
-walking_none v f w left number first after = search rules
-
-pub walked_none : (v : PlacedFields) (f : ℕ) (w : Walk) → ((p : Place) → left_in w p ≡ v p) → w.number.0 ≡ f → w.first ≡ true → w.past_routing ≡ false → Walked v f w
-walked_none v f w left number first after = record { reached = []; walking = walking_none v f w left number first after }
+abbrev pub walked_none : (v : PlacedFields) (f : ℕ) (w : Walk) → placed_fields w.headers.now ≡ v → w.number.0 ≡ f → w.first ≡ true → IsVacant w.reached → Walked v f w
+walked_none v f w value number first vacant =
+    let none = walk_begins v f (λ p. at p w.reached) vacant in
+    record { reached = []; walking = record { in_value = none.in_value; filled = none.filled; number = number; first_is = first }; value = value }
 
 -- the number of remaining headers, and their length in bytes
 abbrev pub headers_left : Walk → ℕ
 headers_left w = sum_placed (λ x. 1) (left_in w)
 
-pub step_less : (old new : Walk) (x : HeaderFields) → IsStep old new x → headers_left new < headers_left old
-step_less old new x s = omega (arith, sum_without (λ y. 1) (left_in old) (left_in new) s.place x s.there s.left)
+module _ (old new : Walk) (x : HeaderFields) (s : IsStep old new x) where
+  pub step_fills : FillsIn s.place (λ p. at p old.reached) (λ p. at p new.reached)
+  step_fills q = ap is_some (s.put q) ∙ some_or (index s.place == index q) tt (at q old.reached)
 
-module _ (v : PlacedFields) (f : ℕ) (e : IsEncodable v) (old new : Walk) (x : HeaderFields) (s : IsStep old new x) (c : List ExtHeader) (k : Walking v f c (left_in old) old.number.0 old.first old.past_routing) where
-  abbrev encoded : (h : ExtHeader) × IsEncoded (number_in s.place) x h
-  encoded = e.encoded s.place x (left_some (header_in s.place c) (v s.place) x (sym (k.left s.place) ∙ s.there)).1
+  step_sum : (g : HeaderFields → ℕ) → sum_placed g (left_in new) + g x ≡ sum_placed g (left_in old)
+  step_sum g =
+      ap (λ h. sum_placed g (left (placed_fields h.now) (λ p. at p new.reached)) + g x) s.headers
+      ∙ sum_left g (placed_fields old.headers.now) (λ p. at p old.reached) (λ p. at p new.reached) old.number.0 old.first s.place x s.own s.there step_fills
 
-  step_walking : Walking v f (c ++ encoded.0 ∷ []) (left_in new) new.number.0 new.first new.past_routing
-  step_walking =
-      walks_on v f c (left_in old) old.number.0 old.first old.past_routing k s.place x encoded.0 s.own s.there encoded.1 (left_in new) new.number.0 new.first
-      new.past_routing s.left (s.number ∙ ap next_of (sym encoded.1.fields) ∙ next_said encoded.0) s.first s.past_routing
+  pub step_less : headers_left new < headers_left old
+  step_less = omega (arith, step_sum (λ y. 1))
 
-  pub walked_more : Walked v f new
-  walked_more = record { reached = c ++ encoded.0 ∷ []; walking = step_walking }
+  -- the length that a step takes from what is left
+  pub step_len : placed_len (left_in new) + fields_len x ≡ placed_len (left_in old)
+  step_len = step_sum fields_len
+
+  module _ (v : PlacedFields) (f : ℕ) (e : IsEncodable v) (k : Walked v f old) where
+    pub step_there : v s.place ≡ Some x
+    step_there = ap (λ u. u s.place) (sym k.value) ∙ s.there
+
+    abbrev encoded : (h : ExtHeader) × IsEncoded (number_in s.place) x h
+    encoded = e.encoded s.place x step_there
+
+    abbrev pub walked_more : Walked v f new
+    walked_more = record {
+      reached = k.reached ++ encoded.0 ∷ [];
+      walking = walks_on v f k.reached (λ p. at p old.reached) old.number.0 old.first k.walking s.place x encoded.0 s.own step_there encoded.1 (λ p. at p new.reached) new.number.0
+          new.first step_fills (s.number ∙ ap next_of (sym encoded.1.fields) ∙ next_said encoded.0) s.first;
+      value = ap (λ h. placed_fields h.now) s.headers ∙ k.value;
+    }
 
 -- a place was checked: its header was reached, or the walk is unchanged
 pub walked_in : (v : PlacedFields) (f : ℕ) → IsEncodable v → (old new : Walk) (r : Option HeaderRef) → IfSome r (λ h. IsStep old new (fields_of_ref h)) → IfNone r (new ≡ old)
@@ -46,19 +64,23 @@ pub walked_in : (v : PlacedFields) (f : ℕ) → IsEncodable v → (old new : Wa
 walked_in v f e old new r some none k = grind (arith, common_steps, walked_more)
 
 -- if none follows, the walk has the result of what is left
-pub walked_answer : (v : PlacedFields) (f : ℕ) (old new : Walk) (a : WalkAnswer) → Walked v f old → IsStop old new → a ≡ answer_at new.number.0 (left_in new) → IsWalkAnswer v f a
-walked_answer v f old new a k s e = search (rules, walk_answers)
+module _ (v : PlacedFields) (f : ℕ) (old new : Walk) (k : Walked v f old) (s : IsStop old new) where
+  none_next : (p : Place) → next_in_chain old.first (λ q. at q old.reached) old.number.0 ≡ Some p → v p ≡ None
+  none_next p at = ap (λ u. u p) (sym k.value) ∙ s.none p at
+
+  pub walked_answer : (a : WalkAnswer) → a ≡ answer_at new.number.0 (left_in new) → IsWalkAnswer v f a
+  walked_answer a e =
+      walk_answers v f k.reached (λ p. at p old.reached) old.number.0 old.first k.walking (left_in new) new.number.0 a none_next
+      (λ p. s.left p ∙ ap (λ u. left u (λ q. at q old.reached) p) k.value) s.number e
+
+  pub walked_reach : IsLongestOf (IsReachable v f) k.reached
+  walked_reach = walk_stops v f k.reached (λ p. at p old.reached) old.number.0 old.first k.walking none_next
 
 -- The headers reached were appended to `before`, and there is room for the remaining ones.
 pub record Written (v : PlacedFields) (f : ℕ) (w : Walk) (before now : List ℕ) (room : ℕ) : Type 0 where
-  pub reached : List ExtHeader
-  pub walking : Walking v f reached (left_in w) w.number.0 w.first w.past_routing
-  pub appended : now ≡ before ++ bytes_of reached
+  pub walked : Walked v f w
+  pub appended : now ≡ before ++ bytes_of walked.reached
   pub fits : length now + placed_len (left_in w) ≤ room
-
--- the length that a step takes from what is left
-pub step_len : (old new : Walk) (x : HeaderFields) → IsStep old new x → placed_len (left_in new) + fields_len x ≡ placed_len (left_in old)
-step_len old new x s = sum_without fields_len (left_in old) (left_in new) s.place x s.there s.left
 
 -- there is room for the next header
 pub written_room : (v : PlacedFields) (f : ℕ) (old new : Walk) (x : HeaderFields) → IsStep old new x → (before now : List ℕ) (room : ℕ) → Written v f old before now room → length now + fields_len x ≤ room
@@ -68,12 +90,12 @@ written_room v f old new x s before now room k = omega (arith, k.fits, step_len 
 pub written_more : (v : PlacedFields) (f : ℕ) → IsEncodable v → (old new : Walk) (x : HeaderFields) → IsStep old new x → (before now more : List ℕ) (room larger : ℕ) → Written v f old before now room
     → AppendsOne (IsEncodingOf x) now more → length more + placed_len (left_in new) ≤ larger → Written v f new before more larger
 written_more v f e old new x s before now more room larger k a fits =
-    let h = encoded v f e old new x s k.reached k.walking in
+    let h = encoded old new x s v f e k.walked in
+    let c = k.walked.reached in
     record {
-      reached = k.reached ++ h.0 ∷ [];
-      walking = step_walking v f e old new x s k.reached k.walking;
-      appended = a.2 ∙ ap (λ l. l ++ a.0) k.appended ∙ append_assoc before (bytes_of k.reached) a.0
-          ∙ ap (λ l. before ++ (bytes_of k.reached ++ l)) (sym (encoding_is _ x h.0 a.0 h.1 a.1)) ∙ ap (λ l. before ++ l) (sym (bytes_of-more k.reached h.0));
+      walked = walked_more old new x s v f e k.walked;
+      appended = a.2 ∙ ap (λ l. l ++ a.0) k.appended ∙ append_assoc before (bytes_of c) a.0
+          ∙ ap (λ l. before ++ (bytes_of c ++ l)) (sym (encoding_is _ x h.0 a.0 h.1 a.1)) ∙ ap (λ l. before ++ l) (sym (bytes_of-more c h.0));
       fits = fits;
     }
 
@@ -81,25 +103,21 @@ written_more v f e old new x s before now more room larger k a fits =
 pub written_in : (v : PlacedFields) (f : ℕ) → IsEncodable v → (old new : Walk) (before now more : List ℕ) (room larger : ℕ) (r : Option HeaderRef)
     → IfSome r (λ h. IsStep old new (fields_of_ref h)) → IfSome r (λ h. AppendsOne (IsEncodingOf (fields_of_ref h)) now more) → IfNone r (new ≡ old) → IfNone r (more ≡ now)
     → length more + placed_len (left_in new) ≤ larger → Written v f old before now room → Written v f new before more larger
-written_in v f e old new before now more room larger r some appended none same fits k = search (rules, written_more)
+written_in v f e old new before now more room larger (Some h) some appended none same fits k = written_more v f e old new (fields_of_ref h) some before now more room larger k appended fits
+written_in v f e old new before now more room larger None some appended none same fits k =
+    let W : Walk → Type 0 = λ w. Written v f w before more larger in
+    subst W (sym none) (record { walked = k.walked; appended = same ∙ k.appended; fits = omega (arith, fits, ap (λ w. placed_len (left_in w)) none) })
 
 -- a new walk has everything left
-pub left_len : (v : PlacedFields) (w : Walk) → ((p : Place) → left_in w p ≡ v p) → placed_len (left_in w) ≡ placed_len v
-left_len v w left = ap placed_len (same_held (left_in w) v left)
+pub left_len : (v : PlacedFields) (w : Walk) → placed_fields w.headers.now ≡ v → IsVacant w.reached → placed_len (left_in w) ≡ placed_len v
+left_len v w value vacant =
+    ap placed_len (same_held (left_in w) (placed_fields w.headers.now) (λ p. ap (λ (o : Option ⊤). if is_some o then None else placed_fields w.headers.now p) (vacant p)) ∙ value)
 
-pub written_none : (v : PlacedFields) (f : ℕ) (w : Walk) → ((p : Place) → left_in w p ≡ v p) → w.number.0 ≡ f → w.first ≡ true → w.past_routing ≡ false
+pub written_none : (v : PlacedFields) (f : ℕ) (w : Walk) → placed_fields w.headers.now ≡ v → w.number.0 ≡ f → w.first ≡ true → IsVacant w.reached
     → (before now : List ℕ) (room : ℕ) → now ≡ before → length now + placed_len v ≤ room → Written v f w before now room
-written_none v f w left number first after before now room same fits =
+written_none v f w value number first vacant before now room same fits =
     record {
-      reached = [];
-      walking = walking_none v f w left number first after;
+      walked = walked_none v f w value number first vacant;
       appended = same ∙ sym (append-nil before);
-      fits = omega (arith, fits, left_len v w left);
+      fits = omega (arith, fits, left_len v w value vacant);
     }
-
--- if none follows, the walk has the result of what is left
-pub written_answer : (v : PlacedFields) (f : ℕ) (old new : Walk) (before now : List ℕ) (room : ℕ) (a : WalkAnswer) → Written v f old before now room → IsStop old new → a ≡ answer_at new.number.0 (left_in new) → IsWalkAnswer v f a
-written_answer v f old new before now room a k s e = walked_answer v f old new a (record { reached = k.reached; walking = k.walking }) s e
-
-pub written_reach : (v : PlacedFields) (f : ℕ) (old new : Walk) (before now : List ℕ) (room : ℕ) (k : Written v f old before now room) → IsStop old new → IsLongestOf (IsReachable v f) k.reached
-written_reach v f old new before now room k s = walk_stops v f k.reached (left_in old) old.number.0 old.first old.past_routing k.walking s.none

@@ -1,11 +1,10 @@
 -- A walk over the headers of a struct of six places, and its result.
-use Rattle.std.specs.Prelude.{◌≡◌, ◌==◌, ◌||◌, false, Some, None, is_some, Result, Ok, Err, if◌then◌else◌}
+use Rattle.std.specs.Prelude.{◌≡◌, false, Some, None, is_some, Result, Ok, Err, if◌then◌else◌}
 use Rattle.ip_base.specs.declared.ip_number_impl.IpNumber.{IpNumber}
-use Rattle.ip_spec.specs.Numbers.{ROUTING}
 use Rattle.ip_spec.specs.Places.{Place, HeaderFields}
 use Rattle.ip_spec.specs.Walk.{PlacedFields, WalkAnswer, leads, hop_by_hop_not_at_start, not_referenced}
-use Rattle.ip_spec.specs.WalkStep.{walk_place, without, next_of}
-use Rattle.ip_ext_chains.specs.Slots.{at}
+use Rattle.ip_spec.specs.WalkStep.{next_in_chain, next_of}
+use Rattle.ip_ext_chains.specs.Slots.{at, IsPut}
 use Rattle.ip_ext_chains.specs.Ipv6Extensions.{placed_fields}
 use Rattle.ip_base.specs.declared.err.ipv6_exts.exts_walk_error.ExtsWalkError.{ExtsWalkError}
 use Rattle.ip_base.specs.declared.err.ipv6_exts.exts_walk_error.ExtsWalkError.TheVariants.{HopByHopNotAtStart, ExtNotReferenced}
@@ -21,18 +20,18 @@ walk_answer (Err (ExtNotReferenced n)) = not_referenced n.0
 abbrev pub left_in : Walk → PlacedFields
 left_in w p = if is_some (at p w.reached) then None else placed_fields w.headers.now p
 
--- a header with fields x is next in the walk `old`, and `new` is the walk after it
+-- a header with fields x is in the next place of the walk `old`, and `new` is the walk after it
 pub record IsStep (old new : Walk) (x : HeaderFields) : Type 0 where
   pub place : Place
-  pub own : walk_place old.first old.past_routing old.number.0 ≡ Some place
-  pub there : left_in old place ≡ Some x
-  pub left : (p : Place) → left_in new p ≡ without place (left_in old) p
+  pub own : next_in_chain old.first (λ p. at p old.reached) old.number.0 ≡ Some place
+  pub there : placed_fields old.headers.now place ≡ Some x
+  pub headers : new.headers ≡ old.headers
+  pub put : IsPut place tt old.reached new.reached
   pub number : new.number.0 ≡ next_of x
   pub first : new.first ≡ false
-  pub past_routing : new.past_routing ≡ (old.past_routing || (old.number.0 == ROUTING))
 
--- no header is next in the walk `old`, and `new` is at the same position
+-- no header is in the next place of the walk `old`, and `new` is at the same position
 pub record IsStop (old new : Walk) : Type 0 where
-  pub none : (p : Place) → walk_place old.first old.past_routing old.number.0 ≡ Some p → left_in old p ≡ None
+  pub none : (p : Place) → next_in_chain old.first (λ q. at q old.reached) old.number.0 ≡ Some p → placed_fields old.headers.now p ≡ None
   pub left : (p : Place) → left_in new p ≡ left_in old p
   pub number : new.number.0 ≡ old.number.0

@@ -1,12 +1,13 @@
-ghost use Rattle.std.specs.Prelude.{◌≡◌, ℕ, [], length, IsOk, OnOk, OnErr, IfOk, IfErr, IfSome, None, true, is_some, not, ◌==◌, ◌&&◌, if◌then◌else◌};
+ghost use Rattle.std.specs.Prelude.{◌≡◌, ℕ, [], length, IsOk, OnOk, OnErr, IfOk, IfErr, IfSome, true, is_some};
 ghost use Rattle.std.specs.Option.{option_map};
 ghost use Rattle.std.specs.Io.KnownBytes.{Consumes};
-ghost use Rattle.ip_spec.specs.Numbers.{HOP_BY_HOP, ROUTING, FRAGMENT, AUTHENTICATION};
+ghost use Rattle.ip_spec.specs.Numbers.{ROUTING, FRAGMENT, AUTHENTICATION};
 ghost use Rattle.ip_spec.specs.Header.{IsRawHeader, IsFragmentHeader, IsAuthHeader, IsRawNumber, IsExtensionNumber};
 ghost use Rattle.ip_spec.specs.Fields.{raw_fields, fragment_fields, auth_fields};
 ghost use Rattle.ip_spec.specs.Lengths.{IsPayloadLen};
-ghost use Rattle.ip_spec.specs.Places.{number_in, next_place, final_destination};
+ghost use Rattle.ip_spec.specs.Places.{number_in, final_destination};
 ghost use Rattle.ip_spec.specs.Requests.{RawAsks};
+ghost use Rattle.ip_spec.specs.WalkStep.{next_in_chain};
 ghost use Rattle.ip_base.specs.Reading.{IsHeaderConsumed, IsRefused};
 ghost use Rattle.ip_ext_chains.specs.Place.{as_place};
 ghost use Rattle.ip_ext_chains.specs.Ipv6Extensions.{value_of, placed_fields};
@@ -97,8 +98,8 @@ impl Ipv6Extensions {
 
     /// Returns the place of a header of the number, if it is free. Hop-by-hop options have one only at the start.
     pub(crate) fn next_place(&self, number: IpNumber, is_first: bool) -> Option<Place>
-        ensures { option_map as_place result ≡ (if (number.0 == HOP_BY_HOP) && not is_first
-            then None else next_place (placed_fields self.now) number.0) }
+        ensures { option_map as_place result
+            ≡ next_in_chain is_first (placed_fields self.now) number.0 }
     {
         if number == ip_number::IPV6_HOP_BY_HOP && !is_first {
             return None;

@@ -1,9 +1,10 @@
 //! The six places for the headers of an IPv6 chain (RFC 8200, section 4.1).
-ghost use Rattle.std.specs.Prelude.{◌≡◌, ◌↔◌, IsTrue, None, IfSome};
+ghost use Rattle.std.specs.Prelude.{◌≡◌, ◌↔◌, ◌==◌, ◌∷◌, IsTrue, None, IfSome, if◌then◌else◌};
+ghost use Rattle.std.specs.List.{find};
 ghost use Rattle.std.specs.Option.{option_map};
 ghost use Rattle.ip_spec.specs.Header.{IsRawNumber, IsLaterNumber};
 ghost use Rattle.ip_spec.specs.Fields.{raw_fields, fragment_fields, auth_fields};
-ghost use Rattle.ip_spec.specs.Places.{place_of, next_place, index, number_in, fragment, authentication};
+ghost use Rattle.ip_spec.specs.Places.{next_place, places, index, number_in, fragment, authentication, final_destination};
 ghost use Rattle.ip_ext_chains.specs.Place.{as_place};
 
 use crate::Ipv6ExtensionSlice;
@@ -25,7 +26,8 @@ impl Place {
     /// Returns the place of a header of the number, after a routing header or not.
     #[inline(always)]
     pub(crate) fn of(number: IpNumber, past_routing: bool) -> Option<Place>
-        ensures { option_map as_place result ≡ place_of number.0 past_routing }
+        ensures { option_map as_place result ≡ find (λ p. number_in p == number.0)
+            (if past_routing then final_destination ∷ places else places) }
     {
         match number {
             ip_number::IPV6_HOP_BY_HOP => Some(Place::HopByHop),
@@ -106,10 +108,14 @@ impl<T: Drop> Places<T> {
         ensures { IsTrue result
             ↔ (IsLaterNumber number.0 × (next_place (λ p. at p self.now) number.0 ≡ None)) }
     {
-        let Some(place) = Place::of(number, self.get(Place::Routing).is_some()) else {
-            return false;
-        };
-        number != ip_number::IPV6_HOP_BY_HOP && self.get(place).is_some()
+        let is_later = matches!(
+            number,
+            ip_number::IPV6_ROUTE
+                | ip_number::IPV6_FRAG
+                | ip_number::AUTH
+                | ip_number::IPV6_DEST_OPTIONS
+        );
+        is_later && self.next_place(number).is_none()
     }
 
     /// Stores a value in the place.

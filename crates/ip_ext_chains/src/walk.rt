@@ -3,9 +3,10 @@ ghost use Rattle.std.specs.Prelude.{◌≡◌, ◌↔◌, true, false, IsTrue, S
 ghost use Rattle.std.specs.List.{find};
 ghost use Rattle.std.specs.Option.{option_map};
 ghost use Rattle.ip_spec.specs.Walk.{answer_at};
-ghost use Rattle.ip_spec.specs.WalkStep.{walk_place};
-ghost use Rattle.ip_spec.specs.Places.{Place as spec_place, places, raw_header};
+ghost use Rattle.ip_spec.specs.WalkStep.{next_in_chain};
+ghost use Rattle.ip_spec.specs.Places.{places, raw_header};
 ghost use Rattle.ip_ext_chains.specs.Place.{as_place};
+ghost use Rattle.ip_ext_chains.specs.Slots.{at, IsVacant};
 ghost use Rattle.ip_ext_chains.specs.HeaderRef.{fields_of_ref};
 ghost use Rattle.ip_ext_chains.specs.Ipv6Extensions.{placed_fields};
 ghost use Rattle.ip_ext_chains.specs.ExtsWalk.{walk_answer, left_in, IsStep, IsStop};
@@ -24,24 +25,22 @@ pub(crate) struct Walk<'a> {
     reached: Places<()>,
     number: IpNumber,
     first: bool,
-    past_routing: bool,
 }
 
 impl<'a> Walk<'a> {
     /// Returns the walk from the number, with no header reached.
     #[inline(always)]
     pub(crate) fn new(headers: &'a Ipv6Extensions, start: IpNumber) -> Walk<'a>
-        ensures left { (p : spec_place) → left_in result p ≡ placed_fields headers.now p }
+        ensures headers { result.headers.now ≡ headers.now }
         ensures number { result.number.0 ≡ start.0 }
         ensures first { result.first ≡ true }
-        ensures past_routing { result.past_routing ≡ false }
+        ensures reached { IsVacant result.reached }
     {
         Walk {
             headers,
             reached: Places::new(),
             number: start,
             first: true,
-            past_routing: false,
         }
     }
 
@@ -55,7 +54,7 @@ impl<'a> Walk<'a> {
             return None;
         }
         // Each arm makes its own call, so that its place and format are known at compile time.
-        match Place::of(self.number, self.past_routing)? {
+        match self.reached.next_place(self.number)? {
             Place::HopByHop => self.reach(Place::HopByHop),
             Place::Destination => self.reach(Place::Destination),
             Place::Routing => self.reach(Place::Routing),
@@ -77,33 +76,32 @@ impl<'a> Walk<'a> {
         self.reach(place)
     }
 
-    /// Returns whether a header of the number is in the place.
+    /// Returns whether the place is the one that a header of the number takes next.
     #[inline(always)]
     fn goes_on_in(&self, place: Place) -> bool
-        ensures { IsTrue result ↔ (walk_place self.now.first self.now.past_routing
+        ensures { IsTrue result ↔ (next_in_chain self.now.first (λ p. at p self.now.reached)
             self.now.number.0 ≡ Some (as_place place)) }
     {
         let is_own = match place {
             Place::HopByHop => self.first,
-            Place::Destination => !self.past_routing,
-            Place::FinalDestination => self.past_routing,
+            Place::Destination => self.reached.get(Place::Routing).is_none(),
+            Place::FinalDestination => self.reached.get(Place::Routing).is_some(),
             Place::Routing | Place::Fragment | Place::Authentication => true,
         };
-        is_own && self.number == place.number()
+        is_own && self.number == place.number() && self.reached.get(place).is_none()
     }
 
-    /// Reaches the header in the place of the number, if it is left, and returns it.
+    /// Reaches the header in the place that is next, if there is one, and returns it.
     #[inline(always)]
     fn reach(&mut self, place: Place) -> Option<HeaderRef<'a>>
-        requires own { walk_place self.old.first self.old.past_routing self.old.number.0
+        requires own { next_in_chain self.old.first (λ p. at p self.old.reached) self.old.number.0
             ≡ Some (as_place place) }
         ensures some { IfSome result (λ h. IsStep self.old self.new (fields_of_ref h)) }
         ensures none { IfNone result (IsStop self.old self.new) }
         ensures same { IfNone result (self.new ≡ self.old) }
     {
-        let header = self.left(place)?;
+        let header = header_in(self.headers, place)?;
         self.reached.put(place, ());
-        self.past_routing = self.past_routing || self.number == ip_number::IPV6_ROUTE;
         self.first = false;
         self.number = header.next_header();
         Some(header)

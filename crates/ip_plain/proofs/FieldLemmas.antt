@@ -1,11 +1,11 @@
 -- The parts of a packet, in the form in which the plain program computes them.
-use Rattle.ip_spec.proofs.Common.{◌≡◌, ◌≢◌, ℕ, ◌+◌, ◌-◌, ◌*◌, ◌≤◌, length, map, take, drop, List, [], ◌∷◌, ◌++◌, refl, sym, ap, ◌∙◌, arith, rules, common_steps, Bool, true, false, inl, inr, eqb_tells, eq-eqb, ne_eqb, slice_index, length-take-le, Option, None, Some, option_map, option_map_or, ExtHeader, leads_to, bytes_of, is_empty, rest_after, fault_after, IsNext}
+use Rattle.ip_spec.proofs.Common.{◌≡◌, ◌≢◌, ℕ, ◌+◌, ◌-◌, ◌≤◌, length, map, take, drop, List, [], ◌∷◌, ◌++◌, refl, sym, ap, ◌∙◌, arith, Bool, true, inl, inr, eqb_tells, eq-eqb, ne_eqb, slice_index, length-take-le, Option, None, option_map, option_map_or, ExtHeader, leads_to, bytes_of, is_empty, rest_after, fault_after, IsNext}
 use Rattle.std.proofs.Common.{append-nil, length-drop}
 use Rattle.std.specs.Prelude.{◌==◌, ◌&&◌, not, nat_lt, if◌then◌else◌}
 use Rattle.ip_base.specs.LenError.{too_short}
 use Rattle.ip_base.specs.declared.len_source.LenSource.TheVariants.{Slice, Ipv4HeaderTotalLen}
 use Rattle.ip_base.specs.declared.err.layer.Layer.TheVariants.{Ipv4Packet}
-use Rattle.ip_base.specs.Ipv4Header.{version, ihl, ipv4_header_len, total_len, protocol, ipv4_fragment_offset}
+use Rattle.ip_base.specs.Ipv4Header.{version, ipv4_header_len, total_len, protocol, ipv4_fragment_offset}
 use Rattle.ip_base.specs.Ipv6Header.{ipv6_next_header}
 use Rattle.ip_ext_slices.specs.ChainFault.{slice_fault}
 use Rattle.ip_ext_slices.specs.Ipv4Fault.{ipv4_faults, ipv4_chain_fault}
@@ -16,7 +16,7 @@ use Rattle.ip_dissect.specs.LaterDemand.{has_later}
 use Rattle.ip_dissect.specs.Later.{chain_to_later}
 use Rattle.ip_dissect.specs.Fragment.{ipv4_fragment, ipv6_fragment}
 use Rattle.ip_dissect.specs.Extent.{packet_bytes, after_base, missing_of, ipv4_stated, ipv6_stated, ipv4_chain_in, ipv4_chain, ipv6_chain}
-use Rattle.ip_dissect.specs.End.{base_end, auth_end, exts_end, ipv4_end, ipv6_end}
+use Rattle.ip_dissect.specs.End.{base_end, auth_end, exts_end, ipv4_end}
 use Rattle.ip_dissect.specs.Dissection.{DissectedParts, without_base, ipv4_dissected, ipv6_dissected, dissected}
 use Rattle.ip_dissect.specs.declared.end.End.{End}
 use Rattle.ip_dissect.specs.declared.end.End.TheVariants.{LaterFragment, Payload, Fault}
@@ -27,7 +27,6 @@ use Rattle.ip_plain.specs.PlainHeader.{plain_header_of}
 use Rattle.ip_plain.specs.PlainDissection.{IsToLater, IsIpv4Chain, HasFieldsOf}
 use Rattle.ip_plain.specs.declared.chain.PlainHeader.{PlainHeader}
 use Rattle.ip_plain.specs.declared.chain.PlainChain.{PlainChain}
-use Rattle.ip_plain.specs.declared.plain_dissection.PlainDissection.{PlainDissection}
 
 -- ---- the extension header of an IPv4 packet
 

@@ -1,6 +1,6 @@
 -- A chain parsed by the plain program: one more header, and the end at a later fragment's.
-use Rattle.ip_spec.proofs.Common.{◌≡◌, ℕ, length, map, List, [], ◌∷◌, ◌++◌, refl, sym, ap, ◌∙◌, subst, Bool, true, false, drop, slice_index, map-append, ExtHeader, is_empty, leads_to, bytes_of, rest_after, IsNext, IsEnd, IsLongestUnder}
-use Rattle.ip_spec.proofs.ParsedLemmas.{HasParsed, has_parsed_none, has_parsed_next, parsed_longest_under}
+use Rattle.ip_spec.proofs.Common.{◌≡◌, ℕ, length, map, List, [], ◌∷◌, ◌++◌, sym, ap, ◌∙◌, subst, Bool, true, false, drop, slice_index, map-append, ExtHeader, is_empty, leads_to, bytes_of, IsNext, IsEnd, IsLongestUnder}
+use Rattle.ip_spec.proofs.ParsedLemmas.{HasParsed, has_parsed_next, parsed_longest_under}
 use Rattle.ip_spec.proofs.UnderLemmas.{one_longest_under}
 use Rattle.ip_dissect.specs.LaterDemand.{is_later, has_later, NothingAfterLater, nothing_after_later}
 use Rattle.ip_dissect.specs.Later.{chain_to_later}
@@ -25,9 +25,6 @@ one_pushed n s items pushed header first m r prefix after read f next rest is e 
 pub record BeforeLater (n : ℕ) (s : List ℕ) (c : List ExtHeader) (m : ℕ) (r : List ℕ) : Type 0 where
   pub read : HasParsed n s c m r
   pub none : has_later c ≡ false
-
-pub before_later_none : (n : ℕ) (s : List ℕ) → BeforeLater n s [] n s
-before_later_none n s = record { read = has_parsed_none n s; none = refl }
 
 -- if it is the longest, it is the chain to a later fragment's header
 to_later : (n : ℕ) (s : List ℕ) (c : List ExtHeader) (m : ℕ) (r : List ℕ) → HasParsed n s c m r → IsLongestUnder NothingAfterLater n s c → (x : PlainChain) → map plain_header_of x.headers.items ≡ c → x.number ≡ m → x.rest.now ≡ r → IsToLater n s x

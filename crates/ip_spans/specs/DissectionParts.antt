@@ -1,5 +1,5 @@
 -- A dissected packet, in plain fields for C callers.
-use Rattle.std.specs.Prelude.{ℕ, ◌+◌, List, length, Option, None, Some}
+use Rattle.std.specs.Prelude.{ℕ, ◌+◌, List, length, Option}
 use Rattle.std.specs.Option.{option_map_or}
 use Rattle.ip_spec.specs.Chain.{bytes_of}
 use Rattle.ip_base.specs.declared.err.layer.Layer.{Layer}

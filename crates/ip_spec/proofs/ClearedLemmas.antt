@@ -1,6 +1,6 @@
 -- Chains whose reserved bits are set to zero: they lead to the same number, and have the same places and fields.
-use Rattle.ip_spec.proofs.Common.{◌≡◌, ◌≢◌, ℕ, ◌<◌, List, [], ◌∷◌, ◌++◌, length, take, drop, refl, ap, sym, ◌∙◌, arith, inl, inr, subst, Bool, rules, Option, Some, None, All, count_by, slice_range, ◌==◌, AllByRecursion, find, option_map, ForSome, cases_Bool, none-some, same_Some, take-append_seam, drop-append_seam, All-from_recursion, recursion_from_All, All-take, All-drop, from_be_bytes, w32, common_steps, IsHeader, IsFragmentHeader, IsAuthHeader, fragment, auth, next_header, FragmentFields, offset_bits, flag_bit, unreserved_bits, cleared_header, AreBytes, fixed_len, IsCleared, cleared_chain, ExtHeader, AreLinked, leads_to, bytes_of, IsChain, FitsPlaces, Place, destination, final_destination, header_in, HeaderFields, fields_of, fragment_header, IsEncodingOf}
-use Rattle.ip_spec.proofs.FirstLemmas.{find-yes, find-no, before-map, after-map, find-map, count-map}
+use Rattle.ip_spec.proofs.Common.{◌≡◌, ◌≢◌, ℕ, ◌<◌, List, [], ◌∷◌, ◌++◌, length, take, drop, refl, ap, sym, ◌∙◌, arith, inl, inr, subst, Bool, rules, Option, Some, None, All, slice_range, AllByRecursion, find, option_map, ForSome, cases_Bool, none-some, same_Some, take-append_seam, drop-append_seam, All-from_recursion, recursion_from_All, All-take, All-drop, from_be_bytes, w32, common_steps, IsHeader, IsFragmentHeader, IsAuthHeader, fragment, auth, next_header, FragmentFields, offset_bits, flag_bit, unreserved_bits, cleared_header, AreBytes, fixed_len, IsCleared, cleared_chain, ExtHeader, AreLinked, leads_to, bytes_of, IsChain, FitsPlaces, Place, header_in, HeaderFields, fields_of, fragment_header, IsEncodingOf}
+use Rattle.ip_spec.proofs.FirstLemmas.{find-yes, find-no, find-map}
 use Rattle.ip_spec.proofs.PlaceLemmas.{is_of, side}
 use Rattle.ip_spec.proofs.FitsLemmas.{side-map, fits-map}
 use Rattle.ip_spec.proofs.HeaderLemmas.{header_number, header-least, by_number, fragment_of, auth_of}

@@ -57,9 +57,9 @@ pub use Rattle.ip_spec.specs.Links.{relinked, first_number, linked, places_after
 pub use Rattle.ip_spec.specs.LongestOf.{IsLongestOf}
 pub use Rattle.ip_spec.specs.Numbers.{AUTHENTICATION, HOP_BY_HOP, FRAGMENT, ROUTING}
 pub use Rattle.ip_spec.specs.Parse.{rest_after, fault_after, IsParsed, IsAnswer}
-pub use Rattle.ip_spec.specs.Places.{next_place, Place, number_in, HeaderFields, hop_by_hop, destination, routing, authentication, final_destination, header_in, raw_header, fragment_header, auth_header, fields_of, side_of, place_of, index, places}
+pub use Rattle.ip_spec.specs.Places.{next_place, Place, number_in, HeaderFields, hop_by_hop, destination, routing, authentication, final_destination, header_in, raw_header, fragment_header, auth_header, fields_of, side_of, index, places}
 pub use Rattle.ip_spec.specs.Prefix.{IsPrefix, NoPrefix}
 pub use Rattle.ip_spec.specs.Requests.{RawAsks, Asks, IsZeroLength, raw_start, raw_rest, AuthAsks, FragmentAsks, fragment_whole, auth_start, auth_icv, asks_raw, asks_fragment, asks_auth}
 pub use Rattle.ip_spec.specs.Runs.{joined, AreChains, AreRuns, how_many}
 pub use Rattle.ip_spec.specs.Walk.{PlacedFields, WalkAnswer, IsWalkAnswer, IsSpelling, IsReachable, answer_at, IsValueOf, leads, hop_by_hop_not_at_start, not_referenced}
-pub use Rattle.ip_spec.specs.WalkStep.{next_of, IsEncodingOf, walk_place, without}
+pub use Rattle.ip_spec.specs.WalkStep.{next_of, IsEncodingOf, next_in_chain}

@@ -1,5 +1,5 @@
 -- Lists with a property under which at most one element can come next, and a demand on them.
-use Rattle.ip_spec.proofs.Common.{◌≡◌, ℕ, ◌≤◌, ◌<◌, List, [], ◌∷◌, ◌++◌, length, take, drop, map, refl, sym, arith, inl, inr, ◌⊎◌, subst, append_assoc, Bool, true, rules, append-nil, append_cancel_left, drop_more, length-append, map-append, take-append-drop, common_steps, IsLongestOf, IsDemand, NextBreaks, KeepsBeginning, Passes}
+use Rattle.ip_spec.proofs.Common.{◌≡◌, ℕ, ◌≤◌, ◌<◌, List, [], ◌∷◌, ◌++◌, length, take, drop, refl, sym, arith, inl, inr, subst, append_assoc, rules, append-nil, append_cancel_left, drop_more, length-append, take-append-drop, common_steps, IsLongestOf, IsDemand, NextBreaks, KeepsBeginning}
 use Rattle.std.specs.Prelude.{get_or}
 use Rattle.ip_spec.proofs.LongestOfLemmas.{Grows, DecidesNext, within, beyond, compare, begins_first, longest_where_none_next, none_next_where_longest, one_longest_of, some_longest_of}
 
@@ -79,17 +79,7 @@ module _ {X : Type 0} (d : List X) where
     pub kept_bounds : (b c rest : List X) → KeepsBeginning Q d b → d ≡ c ++ rest → Q c → length c ≤ length b
     kept_bounds b c rest p e q = search (rules, longest_under_bounds, beginnings_grow, longest_where_kept, all_longest)
 
--- Demands made from a test, from a number that only grows, from two demands, and from a demand on images.
-pub demand_of_test : {X : Type 0} (q : List X → Bool) → Passes q [] → ((c d : List X) → Passes q (c ++ d) → Passes q c) → IsDemand (Passes q)
-demand_of_test q e b = search rules
-
-told : {A : Type 0} → A ⊎ (A → ⊥) → (b : Bool) × ((b ≡ true) → A) × (A → b ≡ true)
-told h0 = search rules
-
--- each demand has a test
-pub test_of_demand : {X : Type 0} (Q : List X → Type 0) → IsDemand Q → (q : List X → Bool) × ((c : List X) → Passes q c → Q c) × ((c : List X) → Q c → Passes q c)
-test_of_demand Q k = (λ c. (told (k.decided c)).0, λ c. (told (k.decided c)).1, λ c. (told (k.decided c)).2)
-
+-- Demands made from a number that only grows, and from two demands.
 pub demand_up_to : {X : Type 0} (f : List X → ℕ) (k : ℕ) → f [] ≤ k → ((c d : List X) → f c ≤ f (c ++ d)) → IsDemand (λ c. f c ≤ k)
 demand_up_to f k none grows = search rules
 
@@ -98,9 +88,6 @@ demand_both A B a b = search rules
 
 pub demand_same : {X : Type 0} (A B : List X → Type 0) → IsDemand A → ((c : List X) → A c → B c) → ((c : List X) → B c → A c) → IsDemand B
 demand_same A B a f g = search rules
-
-pub demand_of-map : {X Y : Type 0} (f : X → Y) (Q : List Y → Type 0) → IsDemand Q → IsDemand (λ c. Q (map f c))
-demand_of-map f Q k = search (rules, map-append)
 
 -- If the first k elements of a list meet the demand, and one more doesn't, the demand keeps these k.
 module _ {X : Type 0} (Q : List X → Type 0) (xs : List X) (k : ℕ) (x : X) (within : k < length xs) where

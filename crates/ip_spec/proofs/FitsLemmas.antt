@@ -1,9 +1,9 @@
 -- Chains whose headers fit six places.
-use Rattle.ip_spec.proofs.Common.{◌≡◌, ℕ, ◌≤◌, ◌<◌, List, [], ◌∷◌, ◌++◌, length, drop, map, refl, ap, sym, ◌∙◌, arith, inl, inr, ◌⊎◌, subst, rules, ◌==◌, ◌↔◌, count_by, cases_lt, append-nil, length-append, common_steps, ExtHeader, leads_to, bytes_of, is_empty, IsPrefixChain, IsLongestChain, IsNext, IsEnd, IsDemand, IsLongestUnder, NextBreaks, Place, destination, routing, final_destination, places, side_of, place_of, number_in, Fits, FitsPlaces, IsOccupied}
+use Rattle.ip_spec.proofs.Common.{◌≡◌, ℕ, ◌≤◌, ◌<◌, List, [], ◌∷◌, ◌++◌, length, drop, map, refl, ap, sym, ◌∙◌, arith, inl, inr, ◌⊎◌, subst, rules, ◌==◌, ◌↔◌, count_by, cases_lt, append-nil, length-append, common_steps, ExtHeader, leads_to, bytes_of, is_empty, IsPrefixChain, IsLongestChain, IsNext, IsEnd, IsDemand, IsLongestUnder, NextBreaks, Place, destination, routing, final_destination, places, side_of, number_in, Fits, FitsPlaces, IsOccupied}
 use Rattle.ip_spec.proofs.HeaderLemmas.{header_number, later_of}
 use Rattle.ip_spec.specs.Places.{fragment}
 use Rattle.ip_spec.proofs.FirstLemmas.{count-append, count_before, count_after, before-map, after-map, count-map}
-use Rattle.ip_spec.proofs.PlaceLemmas.{has_routing, is_of, side, count_in, bare, none_yet, one_before, sides, nothing_on, fits_next, none_there, breaks_occupied}
+use Rattle.ip_spec.proofs.PlaceLemmas.{place_of, has_routing, is_of, side, count_in, bare, none_yet, one_before, sides, nothing_on, fits_next, none_there, breaks_occupied}
 use Rattle.ip_spec.proofs.DemandKinds.{all_or}
 use Rattle.ip_spec.proofs.UnderLemmas.{longest_ends_under, longest_keeps}
 use Rattle.ip_spec.proofs.LongestOfLemmas.{begins_first}

@@ -1,11 +1,11 @@
 -- A walk over headers linked in the order of their places reaches the end.
-use Rattle.ip_spec.proofs.Common.{◌≡◌, ℕ, ◌+◌, ◌<◌, ◌≤◌, List, [], ◌∷◌, ◌++◌, drop, refl, ap, sym, ◌∙◌, arith, inl, inr, subst, Bool, true, false, cond, rules, Option, Some, None, is_some, ◌==◌, ◌||◌, nat_lt, if◌then◌else◌, find, option_map, option_map_or, cases_Bool, le-ltb, none-some, All-from_recursion, recursion_from_All, common_steps, IsHeader, next_header, ExtHeader, Place, hop_by_hop, destination, routing, authentication, final_destination, places, index, number_in, header_in, fields_of, HeaderFields, IsCleared, IsEncoded, IsEncodable, PlacedFields, leads, IsWalkAnswer, walk_place, without, next_of, relinked, first_number, places_after, linked}
+use Rattle.ip_spec.proofs.Common.{◌≡◌, ℕ, ◌+◌, ◌<◌, List, [], ◌∷◌, ◌++◌, drop, refl, ap, sym, ◌∙◌, arith, inl, inr, subst, Bool, true, false, cond, rules, Option, Some, None, is_some, ◌==◌, nat_lt, if◌then◌else◌, find, option_map, option_map_or, cases_Bool, eqb-true, le-ltb, All-from_recursion, recursion_from_All, IsHeader, next_header, ExtHeader, Place, hop_by_hop, destination, routing, authentication, final_destination, places, index, number_in, fields_of, HeaderFields, IsCleared, IsEncoded, IsEncodable, PlacedFields, leads, IsWalkAnswer, next_place, next_in_chain, next_of, relinked, first_number, places_after, linked}
 use Rattle.ip_spec.specs.Places.{fragment as fragment_place}
 use Rattle.ip_spec.proofs.HeaderLemmas.{header-least}
-use Rattle.ip_spec.proofs.PlaceLemmas.{in_both, has_routing}
+use Rattle.ip_spec.proofs.PlaceLemmas.{place_of, same_place, in_both, next_own}
 use Rattle.ip_spec.proofs.EncodedLemmas.{of_number}
-use Rattle.ip_spec.proofs.WalkLemmas.{none_if, some_if, is_some-map}
-use Rattle.ip_spec.proofs.WalkStepLemmas.{Walking, walk_begins, walks_on, walk_answers}
+use Rattle.ip_spec.proofs.WalkLemmas.{none_if, is_some-map}
+use Rattle.ip_spec.proofs.WalkStepLemmas.{FillsIn, Walking, left, walk_begins, walks_on, walk_answers, free_in_chain}
 use Rattle.ip_spec.proofs.SpellingLemmas.{leads_where_none}
 
 -- Another next header leaves a header valid.
@@ -65,12 +65,9 @@ next_said h = search rules
 next_relinked : (j : ℕ) (x : HeaderFields) → next_of (relinked j x) ≡ j
 next_relinked j x = search rules
 
-abbrev nothing : Option HeaderFields
-nothing = None
-
 -- The linked headers in the first k places have been reached.
-abbrev beyond : ℕ → PlacedFields → PlacedFields
-beyond k w q = if nat_lt (index q) k then None else w q
+abbrev first_k : ℕ → PlacedFields → PlacedFields
+first_k k w q = if nat_lt (index q) k then w q else None
 
 module _ (v : PlacedFields) (m : ℕ) (small : m < 256) (e : IsEncodable v) where
   abbrev w : PlacedFields
@@ -82,19 +79,24 @@ module _ (v : PlacedFields) (m : ℕ) (small : m < 256) (e : IsEncodable v) wher
   record Up (k : ℕ) : Type 0 where
     reached : List ExtHeader
     first : Bool
-    after : Bool
-    walking : Walking w f reached (beyond k w) (first_number v (drop k places) m) first after
-    start : k ≡ 0 → first ≡ true
+    walking : Walking w f reached (first_k k w) (first_number v (drop k places) m) first
 
-  -- the next place
-  beyond_next : (p : Place) (k : ℕ) → index p ≡ k → (q : Place) → beyond (k + 1) w q ≡ without p (beyond k w) q
-  beyond_next p k i q = search rules
+  below : (p q : Place) → nat_lt (index q) (index p + 1) ≡ (if index p == index q then true else nat_lt (index q) (index p))
+  below p q = search rules
 
-  skipped : (p : Place) (k : ℕ) → index p ≡ k → v p ≡ None → (q : Place) → beyond (k + 1) w q ≡ beyond k w q
-  skipped p k i none q = search rules
+  -- one more place
+  fills : (p : Place) → is_some (w p) ≡ true → FillsIn p (first_k (index p) w) (first_k (index p + 1) w)
+  fills p some q = elim (cases_Bool (index p == index q)) [
+    | inl same ↦
+        ap (λ b. is_some (if b then w q else None)) (below p q ∙ ap (λ b. if b then true else nat_lt (index q) (index p)) same)
+        ∙ ap (λ r. is_some (w r)) (sym (same_place p q (eqb-true (index p) (index q) same))) ∙ some ∙ sym (ap (λ b. if b then true else is_some (first_k (index p) w q)) same)
+    | inr other ↦
+        ap (λ b. is_some (if b then w q else None)) (below p q ∙ ap (λ b. if b then true else nat_lt (index q) (index p)) other)
+        ∙ sym (ap (λ b. if b then true else is_some (first_k (index p) w q)) other)
+  ]
 
-  here : (p : Place) (k : ℕ) → index p ≡ k → beyond k w p ≡ w p
-  here p k i = ap (λ b. if b then None else w p) (le-ltb (index p) k (omega (arith, i)))
+  skipped : (p : Place) → is_some (w p) ≡ false → (q : Place) → is_some (first_k (index p + 1) w q) ≡ is_some (first_k (index p) w q)
+  skipped p none q = search rules
 
   number_none : (p : Place) (ps : List Place) → v p ≡ None → first_number v (p ∷ ps) m ≡ first_number v ps m
   number_none p ps none = ap (λ o. option_map_or number_in (cond (is_some o) (Some p) (find (λ q. is_some (v q)) ps)) m) none
@@ -102,62 +104,67 @@ module _ (v : PlacedFields) (m : ℕ) (small : m < 256) (e : IsEncodable v) wher
   number_some : (p : Place) (ps : List Place) (x : HeaderFields) → v p ≡ Some x → first_number v (p ∷ ps) m ≡ number_in p
   number_some p ps x some = ap (λ o. option_map_or number_in (cond (is_some o) (Some p) (find (λ q. is_some (v q)) ps)) m) some
 
-  module _ (p : Place) (k : ℕ) (i : index p ≡ k) (at : drop k places ≡ p ∷ drop (k + 1) places) (up : Up k) where
-    step_none : v p ≡ None → Up (k + 1)
-    step_none none = grind (arith, common_steps, skipped, number_none)
+  module _ (p : Place) (at : drop (index p) places ≡ p ∷ drop (index p + 1) places) (up : Up (index p)) where
+    step_none : v p ≡ None → Up (index p + 1)
+    step_none none =
+        let k = up.walking in
+        let absent : is_some (w p) ≡ false = is_some-map (relinked (first_number v (places_after p) m)) (v p) ∙ ap is_some none in
+        record {
+          reached = up.reached;
+          first = up.first;
+          walking = record {
+            in_value = k.in_value;
+            filled = λ q. skipped p absent q ∙ k.filled q;
+            number = sym (ap (λ l. first_number v l m) at ∙ number_none p (drop (index p + 1) places) none) ∙ k.number;
+            first_is = k.first_is;
+          };
+        }
 
-    step_some : (x : HeaderFields) → v p ≡ Some x → walk_place up.first up.after (number_in p) ≡ Some p → Up (k + 1)
+    step_some : (x : HeaderFields) → v p ≡ Some x → next_in_chain up.first (first_k (index p) w) (number_in p) ≡ Some p → Up (index p + 1)
     step_some x some goes =
         let j : ℕ = first_number v (places_after p) m in
-        let it = (linked_encodable v m small e).encoded p (relinked j x) (ap (option_map (relinked j)) some) in
-        let number : first_number v (drop k places) m ≡ number_in p = ap (λ l. first_number v l m) at ∙ number_some p (drop (k + 1) places) x some in
+        let here : w p ≡ Some (relinked j x) = ap (option_map (relinked j)) some in
+        let it = (linked_encodable v m small e).encoded p (relinked j x) here in
+        let number : first_number v (drop (index p) places) m ≡ number_in p = ap (λ l. first_number v l m) at ∙ number_some p (drop (index p + 1) places) x some in
         let next : next_header it.0.bytes ≡ j = sym (next_said it.0) ∙ ap next_of it.1.fields ∙ next_relinked j x in
         record {
           reached = up.reached ++ it.0 ∷ [];
           first = false;
-          after = up.after || (first_number v (drop k places) m == 43);
-          walking = walks_on w f up.reached (beyond k w) (first_number v (drop k places) m) up.first up.after up.walking p (relinked j x) it.0
-              (ap (walk_place up.first up.after) number ∙ goes)
-              (here p k i ∙ ap (option_map (relinked j)) some)
-              it.1
-              (beyond (k + 1) w) (first_number v (drop (k + 1) places) m) false (up.after || (first_number v (drop k places) m == 43))
-              (beyond_next p k i)
-              (ap (λ l. first_number v (drop (l + 1) places) m) (sym i) ∙ sym next)
-              refl refl;
-          start = λ z. absurd (omega (arith, z));
+          walking = walks_on w f up.reached (first_k (index p) w) (first_number v (drop (index p) places) m) up.first up.walking p (relinked j x) it.0
+              (ap (next_in_chain up.first (first_k (index p) w)) number ∙ goes) here it.1 (first_k (index p + 1) w) j false (fills p (ap is_some here)) (sym next) refl;
         }
 
-    step : ((x : HeaderFields) → v p ≡ Some x → walk_place up.first up.after (number_in p) ≡ Some p) → Up (k + 1)
-    step goes = search (rules, cases_Bool, some_if, step_some, step_none, none_if)
+    step : ((x : HeaderFields) → v p ≡ Some x → next_in_chain up.first (first_k (index p) w) (number_in p) ≡ Some p) → Up (index p + 1)
+    step goes = step_at (v p) refl
+      where
+        step_at : (o : Option HeaderFields) → v p ≡ o → Up (index p + 1)
+        step_at None none = step_none none
+        step_at (Some x) some = step_some x some (goes x some)
 
-  -- whether a routing header was reached: not while it is left, and afterwards yes
-  not_after : (k : ℕ) (up : Up k) → k ≤ 2 → up.after ≡ false
-  not_after k up l = elim (cases_Bool (has_routing up.reached)) [
-    | inr none ↦ up.walking.after_is ∙ none
-    | inl some ↦
-        let it = some_if (header_in routing up.reached) some in
-        let nothing : w routing ≡ None = sym (ap (λ b. if b then None else w routing) (le-ltb 2 k l)) ∙ up.walking.left routing ∙ ap (λ b. if b then None else w routing) some in
-        absurd (none-some (fields_of it.0) (sym nothing ∙ up.walking.in_value.in_value routing it.0 it.1))
-  ]
-
-  is_after : (k : ℕ) (up : Up k) → 2 < k → is_some (v routing) ≡ true → up.after ≡ true
-  is_after k up l there = search rules
+  -- each place is next when its turn comes
+  after_routing : (k n : ℕ) (p : Place) → place_of n false ≡ Some p → place_of n true ≡ Some p → is_some (first_k k w p) ≡ false → next_place (first_k k w) n ≡ Some p
+  after_routing k n p before after free = next_own (first_k k w) n p (in_both n p after before (is_some (first_k k w routing))) free
 
   all_reached : Up 6
   all_reached =
-      let u0 : Up 0 = record { reached = []; first = true; after = false; walking = walk_begins w f (beyond 0 w) (λ q. ap (λ b. if b then None else w q) (le-ltb (index q) 0 (omega arith))); start = λ z. refl } in
-      let u1 : Up 1 = step hop_by_hop 0 refl refl u0 (λ x k. refl) in
-      let u2 : Up 2 = step destination 1 refl refl u1 (λ x k. ap (λ b. walk_place u1.first b 60) (not_after 1 u1 (omega arith))) in
-      let u3 : Up 3 = step routing 2 refl refl u2 (λ x k. in_both 43 routing refl refl u2.after) in
-      let u4 : Up 4 = step fragment_place 3 refl refl u3 (λ x k. in_both 44 fragment_place refl refl u3.after) in
-      let u5 : Up 5 = step authentication 4 refl refl u4 (λ x k. in_both 51 authentication refl refl u4.after) in
-      step final_destination 5 refl refl u5 (λ x k. ap (λ b. walk_place u5.first b 60) (is_after 5 u5 (omega arith) (e.nested (ap is_some k))))
+      let u0 : Up 0 = record { reached = []; first = true; walking = walk_begins w f (first_k 0 w) (λ q. ap (λ b. if b then w q else None) (le-ltb (index q) 0 (omega arith))) } in
+      let u1 : Up 1 = step hop_by_hop refl u0 (λ x k. refl) in
+      let u2 : Up 2 = step destination refl u1 (λ x k. refl) in
+      let u3 : Up 3 = step routing refl u2 (λ x k. refl) in
+      let u4 : Up 4 = step fragment_place refl u3 (λ x k. after_routing 3 44 fragment_place refl refl refl) in
+      let u5 : Up 5 = step authentication refl u4 (λ x k. after_routing 4 51 authentication refl refl refl) in
+      step final_destination refl u5
+      (λ x k. next_own (first_k 5 w) 60 final_destination (ap (place_of 60) (is_some-map (relinked (first_number v (places_after routing) m)) (v routing) ∙ e.nested (ap is_some k))) refl)
 
   -- a walk over linked headers leads to m
   pub linked_leads : IsWalkAnswer (linked v m) (first_number v places m) (leads m)
   linked_leads =
       let u : Up 6 = all_reached in
-      walk_answers w f u.reached (beyond 6 w) m u.first u.after u.walking (beyond 6 w) m (leads m) (λ p k. beyond_all p) (λ p. refl) refl (sym (leads_where_none m (beyond 6 w) beyond_all))
+      walk_answers w f u.reached (first_k 6 w) m u.first u.walking (λ p. None) m (leads m)
+      (λ p at. none_if (w p) (sym (all_in p) ∙ free_in_chain w (first_k 6 w) m u.first p at)) (λ p. sym (none_left p)) refl (sym (leads_where_none m (λ p. None) (λ p. refl)))
     where
-      beyond_all : (p : Place) → beyond 6 w p ≡ None
-      beyond_all p = search rules
+      all_in : (p : Place) → is_some (first_k 6 w p) ≡ is_some (w p)
+      all_in p = search rules
+
+      none_left : (p : Place) → left w (first_k 6 w) p ≡ None
+      none_left p = search rules

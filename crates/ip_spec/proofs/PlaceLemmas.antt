@@ -1,9 +1,13 @@
 -- The places of a chain's headers, the place of the next header, and the numbers whose place is occupied.
-use Rattle.ip_spec.proofs.Common.{◌≡◌, ℕ, zero, suc, ◌+◌, List, [], ◌∷◌, ◌++◌, refl, ap, sym, ◌∙◌, arith, inl, inr, Bool, true, false, subst, rules, ◌==◌, ◌↔◌, count_by, Option, Some, None, is_some, IsSome, if◌then◌else◌, find, AllByRecursion, option_or, cases_Bool, eqb-true, eq-eqb, eqb_tells, none-some, same_Some, append-nil, common_steps, IsExtensionNumber, IsLaterNumber, ExtHeader, Place, hop_by_hop, destination, routing, authentication, final_destination, places, index, number_in, side_of, header_in, place_of, next_place, FitsPlaces, IsOccupied}
-use Rattle.std.specs.Prelude.{◌≢◌, option_and_then}
-use Rattle.ip_spec.proofs.HeaderLemmas.{later_of, later_extension}
+use Rattle.ip_spec.proofs.Common.{◌≡◌, ℕ, zero, suc, ◌+◌, List, [], ◌∷◌, ◌++◌, refl, ap, sym, ◌∙◌, arith, inl, inr, Bool, true, false, rules, ◌==◌, ◌↔◌, count_by, Option, Some, None, is_some, IsSome, if◌then◌else◌, find, AllByRecursion, option_or, cases_Bool, eqb-true, eq-eqb, eqb_tells, same_Some, append-nil, common_steps, IsExtensionNumber, IsLaterNumber, ExtHeader, Place, hop_by_hop, destination, routing, authentication, final_destination, places, index, number_in, side_of, header_in, next_place, FitsPlaces, IsOccupied}
+use Rattle.std.specs.Prelude.{option_and_then}
+use Rattle.ip_spec.proofs.HeaderLemmas.{later_extension}
 use Rattle.ip_spec.specs.Places.{fragment}
 use Rattle.ip_spec.proofs.FirstLemmas.{before-yes, before-no, count-append, count_yes, count_no, before-none, before-some, after-none, after-some, after_one, counted, none_counted, find_passes, find_more-yes, find_more-no}
+
+-- the place of a header of number m, free or not, after a routing header or not
+abbrev pub place_of : ℕ → Bool → Option Place
+place_of m after = find (λ p. number_in p == m) (if after then final_destination ∷ places else places)
 
 -- a number belongs to its place
 pub place_number : (m : ℕ) (p : Place) (after : Bool) → place_of m after ≡ Some p → m ≡ number_in p
@@ -153,9 +157,6 @@ module _ {X : Type 0} (v : Place → Option X) (m : ℕ) where
   filled_at : (o : Option Place) (p : Place) → o ≡ Some p → if_free o ≡ None → is_some (v p) ≡ true
   filled_at o p own none = search rules
 
-  none_at : (o : Option Place) (p : Place) → o ≡ Some p → is_some (v p) ≡ true → if_free o ≡ None
-  none_at o p own filled = search rules
-
   abbrev own : Option Place
   own = place_of m (is_some (v routing))
 
@@ -167,17 +168,6 @@ module _ {X : Type 0} (v : Place → Option X) (m : ℕ) where
 
   pub filled_own : (p : Place) → own ≡ Some p → next_place v m ≡ None → is_some (v p) ≡ true
   filled_own p e none = filled_at own p e none
-
-  -- It is occupied if it is that of a later header and its place isn't free.
-  pub occupied_own : (p : Place) → own ≡ Some p → m ≢ 0 → (is_some (v p) ≡ true) ↔ (IsLaterNumber m × (next_place v m ≡ None))
-  occupied_own p e later =
-      let X : ℕ → Type 0 = IsExtensionNumber in (
-        (λ filled. (later_of m (subst X (sym (place_number m p (is_some (v routing)) e)) (is_extension p)) later, none_at own p e filled)),
-        (λ t. filled_own p e t.1),
-      )
-
-  pub no_place : own ≡ None → IsLaterNumber m → ⊥
-  no_place e later = let place = own_place m (is_some (v routing)) (later_extension m later) in none-some place.0 (sym e ∙ place.1)
 
 -- Where the same places are occupied, the same is next.
 module _ {X Y : Type 0} (v : Place → Option X) (w : Place → Option Y) (m : ℕ) (same : (p : Place) → is_some (v p) ≡ is_some (w p)) where

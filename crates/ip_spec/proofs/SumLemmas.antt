@@ -1,9 +1,10 @@
 -- Sums over the places of a value and over the headers of a chain.
-use Rattle.ip_spec.proofs.Common.{◌≡◌, ℕ, zero, suc, ◌+◌, ◌≤◌, List, [], ◌∷◌, ◌++◌, length, refl, ap, sym, ◌∙◌, arith, subst, append_assoc, Bool, true, false, rules, Option, Some, None, sum_by, ◌==◌, ◌||◌, AllByRecursion, option_map, none-some, same_Some, append-nil, length-append, sum_by-append, IsHeader, next_header, ExtHeader, leads_to, bytes_of, IsChain, FitsPlaces, Place, header_in, fields_of, HeaderFields, IsEncodable, fields_len, sum_placed, placed_len, PlacedFields, IsValueOf, IsReachable, WalkAnswer, answer_at, IsWalkAnswer, walk_place, without, IsLongestOf}
+use Rattle.ip_spec.proofs.Common.{◌≡◌, ℕ, zero, suc, ◌+◌, ◌≤◌, List, [], ◌∷◌, ◌++◌, length, refl, ap, sym, ◌∙◌, arith, subst, append_assoc, Bool, true, false, rules, Option, Some, None, sum_by, AllByRecursion, option_map, none-some, same_Some, append-nil, length-append, sum_by-append, IsHeader, next_header, ExtHeader, leads_to, bytes_of, IsChain, FitsPlaces, Place, header_in, fields_of, HeaderFields, IsEncodable, fields_len, sum_placed, placed_len, PlacedFields, IsValueOf, IsReachable, WalkAnswer, answer_at, IsWalkAnswer, next_in_chain, IsLongestOf, index, ◌==◌, if◌then◌else◌}
+use Rattle.std.specs.Prelude.{⊤}
 use Rattle.ip_spec.proofs.StepLemmas.{chain_begins}
 use Rattle.ip_spec.proofs.FitsLemmas.{fits_places}
 use Rattle.ip_spec.proofs.WalkLemmas.{unreached, Joins, joins, there}
-use Rattle.ip_spec.proofs.WalkStepLemmas.{Walking, walk_begins, walks_on, walk_stops, left_some, same_held}
+use Rattle.ip_spec.proofs.WalkStepLemmas.{FillsIn, Walking, without, left, left_at, left_next, some_or, walk_begins, walks_on, walk_stops, same_held}
 
 -- Removing the header of a place subtracts its value from the sum.
 module _ (g : HeaderFields → ℕ) (u w : PlacedFields) where
@@ -49,37 +50,44 @@ bytes_sum (h ∷ c) a = omega (arith, length-append h.bytes (bytes_of c), len_sa
 pub bytes_len : (v : PlacedFields) (f : ℕ) (c : List ExtHeader) → IsChain f c → FitsPlaces c → IsValueOf c v → length (bytes_of c) ≡ placed_len v
 bytes_len v f c k fits value = bytes_sum c k.headers ∙ sum_of_chain fields_len f c k fits ∙ ap placed_len (sym (same_held v (of_chain c) value))
 
--- A header follows from what is left, or none.
-pub data Going (u : PlacedFields) (first after : Bool) (m : ℕ) : Type 0 where
-  ends : ((p : Place) → walk_place first after m ≡ Some p → u p ≡ None) → Going u first after m
-  goes : (p : Place) (x : HeaderFields) → walk_place first after m ≡ Some p → u p ≡ Some x → Going u first after m
+-- A header follows in the next place, or none.
+pub data Going {Y : Type 0} (v : PlacedFields) (r : Place → Option Y) (first : Bool) (m : ℕ) : Type 0 where
+  ends : ((p : Place) → next_in_chain first r m ≡ Some p → v p ≡ None) → Going v r first m
+  goes : (p : Place) (x : HeaderFields) → next_in_chain first r m ≡ Some p → v p ≡ Some x → Going v r first m
 
-module _ (u : PlacedFields) (first after : Bool) (m : ℕ) where
-  going_at : (p : Place) (y : Option HeaderFields) → walk_place first after m ≡ Some p → u p ≡ y → Going u first after m
-  going_at p None at e = ends (λ q k. ap u (same_Some q p (sym k ∙ at)) ∙ e)
+module _ {Y : Type 0} (v : PlacedFields) (r : Place → Option Y) (first : Bool) (m : ℕ) where
+  going_at : (p : Place) (y : Option HeaderFields) → next_in_chain first r m ≡ Some p → v p ≡ y → Going v r first m
+  going_at p None at e = ends (λ q k. ap v (same_Some q p (sym k ∙ at)) ∙ e)
   going_at p (Some x) at e = goes p x at e
 
-  going_to : (o : Option Place) → walk_place first after m ≡ o → Going u first after m
+  going_to : (o : Option Place) → next_in_chain first r m ≡ o → Going v r first m
   going_to None at = ends (λ p k. absurd (none-some p (sym at ∙ k)))
-  going_to (Some p) at = going_at p (u p) at refl
+  going_to (Some p) at = going_at p (v p) at refl
 
-  pub going : Going u first after m
-  going = going_to (walk_place first after m) refl
+  pub going : Going v r first m
+  going = going_to (next_in_chain first r m) refl
+
+-- The sum over what is left after a header is that before without it.
+module _ {Y Z : Type 0} (g : HeaderFields → ℕ) (v : PlacedFields) (r : Place → Option Y) (s : Place → Option Z) (m : ℕ) (first : Bool) (p : Place) (x : HeaderFields) where
+  pub sum_left : next_in_chain first r m ≡ Some p → v p ≡ Some x → FillsIn p r s → sum_placed g (left v s) + g x ≡ sum_placed g (left v r)
+  sum_left at there fills = sum_without g (left v r) (left v s) p x (left_at v r m first p x at there) (left_next v r m first p s fills)
 
 -- A value whose headers can all be written reaches some chain.
 module _ (v : PlacedFields) (f : ℕ) (e : IsEncodable v) where
-  some_from : (k : ℕ) (c : List ExtHeader) (u : PlacedFields) (m : ℕ) (first after : Bool) → Walking v f c u m first after → sum_placed (λ x. 1) u ≤ k → Going u first after m → (d : List ExtHeader) × IsLongestOf (IsReachable v f) d
-  some_from k c u m first after w l (ends none) = (c, walk_stops v f c u m first after w none)
-  some_from zero c u m first after w l (goes p x at there) = search rules
-  some_from (suc k) c u m first after w l (goes p x at there) =
-      let h = e.encoded p x (left_some (header_in p c) (v p) x (sym (w.left p) ∙ there)).1 in
-      some_from k (c ++ h.0 ∷ []) (without p u) (next_header h.0.bytes) false (after || (m == 43))
-      (walks_on v f c u m first after w p x h.0 at there h.1 (without p u) (next_header h.0.bytes) false (after || (m == 43)) (λ q. refl) refl refl refl)
-      (let less = sum_without (λ y. 1) u (without p u) p x there (λ q. refl) in omega (arith, less, l))
-      (going (without p u) false (after || (m == 43)) (next_header h.0.bytes))
+  some_from : (k : ℕ) (c : List ExtHeader) (r : Place → Option ⊤) (m : ℕ) (first : Bool) → Walking v f c r m first → sum_placed (λ x. 1) (left v r) ≤ k → Going v r first m → (d : List ExtHeader) × IsLongestOf (IsReachable v f) d
+  some_from k c r m first w l (ends none) = (c, walk_stops v f c r m first w none)
+  some_from zero c r m first w l (goes p x at there) =
+      absurd (omega (arith, l, sum_left (λ y. 1) v r (λ q. if index p == index q then Some tt else r q) m first p x at there (λ q. some_or (index p == index q) tt (r q))))
+  some_from (suc k) c r m first w l (goes p x at there) =
+      let h = e.encoded p x there in
+      let s : Place → Option ⊤ = λ q. if index p == index q then Some tt else r q in
+      let fills : FillsIn p r s = λ q. some_or (index p == index q) tt (r q) in
+      some_from k (c ++ h.0 ∷ []) s (next_header h.0.bytes) false
+      (walks_on v f c r m first w p x h.0 at there h.1 s (next_header h.0.bytes) false fills refl refl)
+      (let less = sum_left (λ y. 1) v r s m first p x at there fills in omega (arith, less, l)) (going v s false (next_header h.0.bytes))
 
   pub some_reach : (c : List ExtHeader) × IsLongestOf (IsReachable v f) c
-  some_reach = some_from (sum_placed (λ x. 1) v) [] v f true false (walk_begins v f v (λ p. refl)) (omega arith) (going v true false f)
+  some_reach = some_from (sum_placed (λ x. 1) v) [] (λ p. None) f true (walk_begins v f (λ p. None) (λ p. refl)) (omega arith) (going v (λ p. None) true f)
 
   pub some_answer : (a : WalkAnswer) × IsWalkAnswer v f a
   some_answer = let r = some_reach in (answer_at (leads_to f r.0) (unreached v r.0), record { reach = r.0; is_reach = r.1; answer = refl })

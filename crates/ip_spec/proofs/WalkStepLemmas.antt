@@ -1,29 +1,34 @@
--- A walk that takes headers out of a value, one after the other.
-use Rattle.ip_spec.proofs.Common.{◌≡◌, ℕ, List, [], ◌∷◌, ◌++◌, ap, sym, ◌∙◌, subst, Bool, true, false, arith, rules, Option, Some, None, is_some, ◌==◌, ◌&&◌, ◌||◌, not, if◌then◌else◌, or-true, or-false, eq-eqb, eqb_tells, none-some, common_steps, IsHeader, next_header, ExtHeader, leads_to, is_empty, Place, index, number_in, header_in, place_of, fields_of, HeaderFields, IsCleared, IsEncoded, PlacedFields, IsReachable, WalkAnswer, answer_at, IsWalkAnswer, walk_place, without, IsLongestOf}
+-- A walk that reaches headers of a value, one after the other.
+use Rattle.ip_spec.proofs.Common.{◌≡◌, ℕ, List, [], ◌∷◌, ◌++◌, refl, ap, sym, ◌∙◌, subst, Bool, true, false, arith, rules, Option, Some, None, is_some, ◌==◌, ◌&&◌, not, if◌then◌else◌, eq-eqb, eqb-true, none-some, common_steps, IsHeader, next_header, ExtHeader, leads_to, is_empty, Place, index, number_in, header_in, fields_of, HeaderFields, IsCleared, IsEncoded, PlacedFields, IsReachable, WalkAnswer, answer_at, IsWalkAnswer, next_place, next_in_chain, IsLongestOf}
 use Rattle.ip_spec.proofs.LongestOfLemmas.{longest_where_none_next}
-use Rattle.ip_spec.proofs.StepLemmas.{all_more, leads_to-more, chain_more}
-use Rattle.ip_spec.proofs.FirstLemmas.{find_more-yes, find_more-no}
-use Rattle.ip_spec.proofs.PlaceLemmas.{has_routing, place_number, placed, fits_more}
+use Rattle.ip_spec.proofs.StepLemmas.{all_more, leads_to-more, chain_more, no_chain}
+use Rattle.ip_spec.proofs.FitsLemmas.{fits_places}
+use Rattle.ip_spec.proofs.PlaceLemmas.{place_of, has_routing, place_number, placed, fits_more, own_next, next_own, next_alike}
 use Rattle.ip_spec.proofs.WalkLemmas.{unreached, none_if, there, Next, next_shown, shown_grows}
 
--- Headers c were reached from f and taken out of v, which leaves u. They lead to m; `first` says that there are none,
--- `after` that one of them is a routing header.
-pub record Walking (v : PlacedFields) (f : ℕ) (c : List ExtHeader) (u : PlacedFields) (m : ℕ) (first after : Bool) : Type 0 where
+-- The chain c was reached from f in v; r fills its places. It leads to m, and `first` says that it has no header.
+pub record Walking {Y : Type 0} (v : PlacedFields) (f : ℕ) (c : List ExtHeader) (r : Place → Option Y) (m : ℕ) (first : Bool) : Type 0 where
   pub in_value : IsReachable v f c
-  pub left : (p : Place) → u p ≡ unreached v c p
+  pub filled : (p : Place) → is_some (r p) ≡ is_some (header_in p c)
   pub number : m ≡ leads_to f c
   pub first_is : first ≡ is_empty c
-  pub after_is : after ≡ has_routing c
 
-pub walk_begins : (v : PlacedFields) (f : ℕ) (u : PlacedFields) → ((p : Place) → u p ≡ v p) → Walking v f [] u f true false
-walk_begins v f u e = search rules
+nothing_in : (p : Place) → is_some (header_in p []) ≡ false
+nothing_in p = search rules
 
--- the fields in a place that is left
-pub left_some : (o : Option ExtHeader) (y : Option HeaderFields) (x : HeaderFields) → (if is_some o then None else y) ≡ Some x → (is_some o ≡ false) × (y ≡ Some x)
-left_some o y x e = search rules
+pub walk_begins : {Y : Type 0} (v : PlacedFields) (f : ℕ) (r : Place → Option Y) → ((p : Place) → r p ≡ None) → Walking v f [] r f true
+walk_begins v f r none = record {
+  in_value = record { chain = no_chain f; fits = fits_places.empty; in_value = λ p. search rules; cleared = tt };
+  filled = λ p. ap is_some (none p) ∙ sym (nothing_in p);
+  number = refl;
+  first_is = refl;
+}
 
 pub next_place_is : (z first : Bool) (o : Option Place) (p : Place) → (if z && not first then None else o) ≡ Some p → (o ≡ Some p) × (z ≡ true → first ≡ true)
 next_place_is z first o p e = search rules
+
+in_chain_is : (z first : Bool) (o : Option Place) (p : Place) → o ≡ Some p → (z ≡ true → first ≡ true) → (if z && not first then None else o) ≡ Some p
+in_chain_is z first o p e zero = search rules
 
 -- values with equal places are equal
 pub same_held : (v w : PlacedFields) → ((p : Place) → v p ≡ w p) → v ≡ w
@@ -32,51 +37,73 @@ same_held v w e = λ i p. e p i
 pub not_empty : (c : List ExtHeader) (h : ExtHeader) → false ≡ is_empty (c ++ h ∷ [])
 not_empty c h = grind (arith, common_steps)
 
--- a routing header is present if one was, or if this is one
-routing_more : (c : List ExtHeader) (h : ExtHeader) → has_routing c || (h.number == 43) ≡ has_routing (c ++ h ∷ [])
-routing_more c h = search (rules, eqb_tells, or-true, find_more-yes, or-false, find_more-no)
+pub some_or : {X : Type 0} (b : Bool) (x : X) (o : Option X) → is_some (if b then Some x else o) ≡ (if b then true else is_some o)
+some_or b x o = search rules
 
-module _ (c : List ExtHeader) (h : ExtHeader) (p : Place) (joined : (q : Place) → header_in q (c ++ h ∷ []) ≡ (if index p == index q then Some h else header_in q c)) where
-  -- what was left is left without it
-  left_more : (v : PlacedFields) (q : Place) → without p (unreached v c) q ≡ unreached v (c ++ h ∷ []) q
-  left_more v q = search rules
+-- u with the place p empty
+abbrev pub without : Place → PlacedFields → PlacedFields
+without p u q = if index p == index q then None else u q
 
-module _ (v : PlacedFields) (f : ℕ) (c : List ExtHeader) (u : PlacedFields) (m : ℕ) (first after : Bool) (k : Walking v f c u m first after) where
-  -- A header h follows: it is in the place of m, and was left there.
-  pub walks_on : (p : Place) (x : HeaderFields) (h : ExtHeader) → walk_place first after m ≡ Some p → u p ≡ Some x → IsEncoded (number_in p) x h
-      → (w : PlacedFields) (n : ℕ) (early past : Bool) → ((q : Place) → w q ≡ without p u q) → n ≡ next_header h.bytes → early ≡ false → past ≡ (after || (m == 43))
-      → Walking v f (c ++ h ∷ []) w n early past
-  walks_on p x h at there e w n early past ew en ee ep =
-      let next = next_place_is (m == 0) first (place_of m after) p at in
-      let left = left_some (header_in p c) (v p) x (sym (k.left p) ∙ there) in
-      let of_m : m ≡ number_in p = place_number m p after next.0 in
-      let same : h.number ≡ m = e.number ∙ sym of_m in
+-- the fields of v in the places that r doesn't fill
+abbrev pub left : {Y : Type 0} → PlacedFields → (Place → Option Y) → PlacedFields
+left v r p = if is_some (r p) then None else v p
+
+left_if : (b filled : Bool) (y : Option HeaderFields) → (if (if b then true else filled) then None else y) ≡ (if b then None else (if filled then None else y))
+left_if b filled y = search rules
+
+-- A header in the next place p is filled in: s has the places of r, and p.
+abbrev pub FillsIn : {Y Z : Type 0} → Place → (Place → Option Y) → (Place → Option Z) → Type 0
+FillsIn p r s = (q : Place) → is_some (s q) ≡ (if index p == index q then true else is_some (r q))
+
+module _ {Y : Type 0} (v : PlacedFields) (r : Place → Option Y) (m : ℕ) (first : Bool) (p : Place) where
+  pub free_in_chain : next_in_chain first r m ≡ Some p → is_some (r p) ≡ false
+  free_in_chain at = (own_next r m p (next_place_is (m == 0) first (next_place r m) p at).0).1
+
+  pub left_at : (x : HeaderFields) → next_in_chain first r m ≡ Some p → v p ≡ Some x → left v r p ≡ Some x
+  left_at x at there = ap (λ b. if b then None else v p) (free_in_chain at) ∙ there
+
+  pub left_next : {Z : Type 0} (s : Place → Option Z) → FillsIn p r s → (q : Place) → left v s q ≡ without p (left v r) q
+  left_next s fills q = ap (λ b. if b then None else v q) (fills q) ∙ left_if (index p == index q) (is_some (r q)) (v q)
+
+module _ {Y : Type 0} (v : PlacedFields) (f : ℕ) (c : List ExtHeader) (r : Place → Option Y) (m : ℕ) (first : Bool) (k : Walking v f c r m first) where
+  next_same : next_place r m ≡ next_place (λ p. header_in p c) m
+  next_same = next_alike r (λ p. header_in p c) m k.filled
+
+  -- A header h follows, in the next place.
+  pub walks_on : {Z : Type 0} (p : Place) (x : HeaderFields) (h : ExtHeader) → next_in_chain first r m ≡ Some p → v p ≡ Some x → IsEncoded (number_in p) x h
+      → (s : Place → Option Z) (n : ℕ) (early : Bool) → FillsIn p r s → n ≡ next_header h.bytes → early ≡ false → Walking v f (c ++ h ∷ []) s n early
+  walks_on p x h at there e s n early fills en ee =
+      let next = next_place_is (m == 0) first (next_place r m) p at in
+      let own = own_next (λ q. header_in q c) m p (sym next_same ∙ next.0) in
+      let same : h.number ≡ m = e.number ∙ sym (place_number m p (has_routing c) own.0) in
       let H : ℕ → Type 0 = λ j. IsHeader j h.bytes in
-      let own : place_of h.number (has_routing c) ≡ Some p = ap (λ j. place_of j (has_routing c)) same ∙ ap (place_of m) (sym k.after_is) ∙ next.0 in
-      let joined = placed c h p own (none_if (header_in p c) left.0) in
+      let place : place_of h.number (has_routing c) ≡ Some p = ap (λ j. place_of j (has_routing c)) same ∙ own.0 in
+      let joined = placed c h p place (none_if (header_in p c) own.1) in
       record {
         in_value = record {
           chain = chain_more f c h k.in_value.chain (same ∙ k.number) (subst H (sym e.number) e.header) (λ z. sym k.first_is ∙ next.1 (eq-eqb m 0 (sym same ∙ z)));
-          fits = fits_more c h p k.in_value.fits own left.0;
+          fits = fits_more c h p k.in_value.fits place own.1;
           in_value = search rules;
           cleared = all_more IsCleared c h k.in_value.cleared e.cleared;
         };
-        left = λ q. ew q ∙ ap (λ o. if index p == index q then None else o) (k.left q) ∙ left_more c h p joined v q;
+        filled = λ q. fills q ∙ ap (λ b. if index p == index q then true else b) (k.filled q) ∙ sym (ap is_some (joined q) ∙ some_or (index p == index q) h (header_in q c));
         number = en ∙ sym (leads_to-more f c h);
         first_is = ee ∙ not_empty c h;
-        after_is = ep ∙ ap (λ b. b || (m == 43)) k.after_is ∙ ap (λ j. has_routing c || (j == 43)) (sym same) ∙ routing_more c h;
       }
 
   -- None follows: the headers reached are all.
-  pub walk_stops : ((p : Place) → walk_place first after m ≡ Some p → u p ≡ None) → IsLongestOf (IsReachable v f) c
+  pub walk_stops : ((p : Place) → next_in_chain first r m ≡ Some p → v p ≡ None) → IsLongestOf (IsReachable v f) c
   walk_stops none =
       longest_where_none_next (IsReachable v f) (shown_grows v f) c k.in_value
       (λ x s.
       let n : Next v f c x = next_shown v f c x s in
       let same : x.number ≡ m = n.number ∙ sym k.number in
-      let at : place_of m after ≡ Some n.joins.place = ap (place_of m) k.after_is ∙ ap (λ j. place_of j (has_routing c)) (sym same) ∙ n.joins.at in
-      let here : u n.joins.place ≡ Some (fields_of x) = k.left n.joins.place ∙ ap (λ o. if is_some o then None else v n.joins.place) n.joins.free ∙ n.said in
-      none-some (fields_of x) (sym (none n.joins.place ((search rules) ∙ at)) ∙ here))
+      let at : next_place r m ≡ Some n.joins.place =
+      next_same ∙ ap (next_place (λ p. header_in p c)) (sym same) ∙ next_own (λ p. header_in p c) x.number n.joins.place n.joins.at (ap is_some n.joins.free) in
+      let here = in_chain_is (m == 0) first (next_place r m) n.joins.place at (λ z. k.first_is ∙ n.zero (same ∙ eqb-true m 0 z)) in
+      none-some (fields_of x) (sym (none n.joins.place here) ∙ n.said))
 
-  pub walk_answers : (w : PlacedFields) (n : ℕ) (a : WalkAnswer) → ((p : Place) → walk_place first after m ≡ Some p → u p ≡ None) → ((p : Place) → w p ≡ u p) → n ≡ m → a ≡ answer_at n w → IsWalkAnswer v f a
-  walk_answers w n a none ew en ea = search (rules, walk_stops, same_held)
+  pub walk_answers : (w : PlacedFields) (n : ℕ) (a : WalkAnswer) → ((p : Place) → next_in_chain first r m ≡ Some p → v p ≡ None) → ((p : Place) → w p ≡ left v r p) → n ≡ m → a ≡ answer_at n w → IsWalkAnswer v f a
+  walk_answers w n a none ew en ea =
+      let same : w ≡ unreached v c = same_held w (unreached v c) (λ p. ew p ∙ ap (λ b. if b then None else v p) (k.filled p)) in
+      record { reach = c; is_reach = walk_stops none; answer = ea ∙ ap (answer_at n) same ∙ ap (λ j. answer_at j (unreached v c)) (en ∙ k.number) }

@@ -1,5 +1,5 @@
 -- The six places for the headers of an IPv6 chain (RFC 8200, section 4.1), and the fields in each.
-use Rattle.std.specs.Prelude.{ℕ, List, [], ◌∷◌, Bool, ◌==◌, Option, Some, None, is_some, option_and_then, if◌then◌else◌}
+use Rattle.std.specs.Prelude.{ℕ, List, [], ◌∷◌, ◌==◌, Option, Some, None, is_some, option_and_then, if◌then◌else◌}
 use Rattle.std.specs.List.{find, before_first, after_first}
 use Rattle.ip_spec.specs.Numbers.{HOP_BY_HOP, ROUTING, FRAGMENT, AUTHENTICATION, DESTINATION_OPTIONS}
 use Rattle.ip_spec.specs.Fields.{RawFields, FragmentFields, AuthFields, raw_fields, fragment_fields, auth_fields}
@@ -59,10 +59,9 @@ fields_of h =
     else if h.number == AUTHENTICATION then auth_header (auth_fields h.bytes)
     else raw_header (raw_fields h.bytes)
 
--- the place of a header of number m, after a routing header or not
-abbrev pub place_of : ℕ → Bool → Option Place
-place_of m past_routing = find (λ p. number_in p == m) (if past_routing then final_destination ∷ places else places)
-
--- The place that a header of number m takes next, where the places contain v, if it is free.
+-- The place that a header of number m takes next, if it is free, where the places contain v. Destination options take
+-- the final one after a routing header.
 abbrev pub next_place : {X : Type 0} → (Place → Option X) → ℕ → Option Place
-next_place v m = option_and_then (λ p. if is_some (v p) then None else Some p) (place_of m (is_some (v routing)))
+next_place v m =
+    option_and_then (λ p. if is_some (v p) then None else Some p)
+    (find (λ p. number_in p == m) (if is_some (v routing) then final_destination ∷ places else places))

@@ -2,17 +2,11 @@
 use Rattle.std.specs.Prelude.{ℕ, List, Bool, ◌==◌, ◌&&◌, not, Option, None, if◌then◌else◌}
 use Rattle.ip_spec.specs.Numbers.{HOP_BY_HOP}
 use Rattle.ip_spec.specs.Encoding.{IsRawEncoding, IsFragmentEncoding, IsAuthEncoding}
-use Rattle.ip_spec.specs.Places.{Place, index, place_of, HeaderFields, raw_header, fragment_header, auth_header}
-use Rattle.ip_spec.specs.Walk.{PlacedFields}
+use Rattle.ip_spec.specs.Places.{Place, next_place, HeaderFields, raw_header, fragment_header, auth_header}
 
--- the place of a header of number m, after a routing header or not; 0 has one only at the start
-abbrev pub walk_place : Bool → Bool → ℕ → Option Place
-walk_place first past_routing m =
-    if (m == HOP_BY_HOP) && not first then None else place_of m past_routing
-
--- u with the place p empty
-abbrev pub without : Place → PlacedFields → PlacedFields
-without p u q = if index p == index q then None else u q
+-- the place that a header of number m takes next in a chain, where hop-by-hop options are only `first`
+abbrev pub next_in_chain : {X : Type 0} → Bool → (Place → Option X) → ℕ → Option Place
+next_in_chain first v m = if (m == HOP_BY_HOP) && not first then None else next_place v m
 
 -- the next header
 abbrev pub next_of : HeaderFields → ℕ

@@ -13,9 +13,6 @@ pub record FirstConsumed (chain left : List ExtHeader) (i bytes : ℕ) : Type 0 
   pub count : length consumed ≡ i
   pub bytes_consumed : bytes ≡ length (bytes_of consumed)
 
-pub none_consumed : (chain left : List ExtHeader) → left ≡ chain → FirstConsumed chain left 0 0
-none_consumed chain left e = record { consumed = []; joined = e; count = refl; bytes_consumed = refl }
-
 module _ (chain left rest : List ExtHeader) (h : ExtHeader) (i bytes : ℕ) (next : left ≡ h ∷ rest) where
   pub one_consumed : (b : List ℕ) → FirstConsumed chain left i bytes → b ≡ h.bytes → FirstConsumed chain rest (i + 1) (bytes + length b)
   one_consumed b p e = record {

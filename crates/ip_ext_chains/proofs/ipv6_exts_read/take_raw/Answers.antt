@@ -1,4 +1,4 @@
-use Rattle.ip_spec.proofs.Common.{rules, arith, ◌≡◌, ◌+◌, ◌++◌, length, refl, [], Consumes-nil, Consumes-trans, RawAsks, raw_start, raw_rest}
+use Rattle.ip_spec.proofs.Common.{rules, arith, ◌≡◌, ◌++◌, length, refl, [], Consumes-nil, Consumes-trans, RawAsks, raw_start, raw_rest}
 use Rattle.ip_spec.proofs.RequestLemmas.{raw_joined, raw_joined_fields}
 use Rattle.ip_base.proofs.ReadingLemmas.{refused_after}
 use Rattle.ip_ext_chains.proofs.ipv6_exts_read.take_raw.Goals as goal

@@ -1,8 +1,6 @@
-use Rattle.ip_spec.proofs.Common.{◌≡◌, ℕ, length, map, List, [], ◌∷◌, ◌++◌, refl, sym, ap, ◌∙◌, subst, Bool, drop, slice_index, map-append, ExtHeader, is_empty, IsNext}
+use Rattle.ip_spec.proofs.Common.{refl, sym, ap, ◌∙◌, drop}
 use Rattle.ip_plain.proofs.AnswerLemmas.{is_empty-shown}
-use Rattle.ip_plain.specs.declared.chain.PlainHeader.{PlainHeader}
-use Rattle.ip_plain.specs.PlainHeader.{plain_header_of}
-use Rattle.ip_spec.proofs.ParsedLemmas.{HasParsed, has_parsed_next, parsed_longest}
+use Rattle.ip_spec.proofs.ParsedLemmas.{parsed_longest}
 use Rattle.ip_plain.proofs.LaterLemmas.{one_pushed}
 use Rattle.ip_plain.proofs.chain.plain_longest_chain.Goals as goal
 

@@ -1,4 +1,4 @@
-use Rattle.ip_spec.proofs.Common.{rules, ◌≡◌, ◌≢◌, IsExtensionNumber}
+use Rattle.ip_spec.proofs.Common.{rules, ◌≢◌, IsExtensionNumber}
 use Rattle.ip_spans.proofs.RunLemmas.{destination_tells, other_tells}
 use Rattle.ip_spans.proofs.runs.has_place.Goals as goal
 

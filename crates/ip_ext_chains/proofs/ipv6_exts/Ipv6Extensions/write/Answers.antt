@@ -2,13 +2,13 @@ use Rattle.ip_spec.proofs.Common.{◌≡◌, subst, arith, ap, length, vec_capac
 use Rattle.ip_ext_chains.specs.Ipv6Extensions.{placed_fields}
 use Rattle.ip_ext_chains.specs.Write.{IsWalkFault}
 use Rattle.ip_ext_chains.proofs.PlacedFieldsLemmas.{exts_sum}
-use Rattle.ip_ext_chains.proofs.WalkedLemmas.{left_len, written_none, written_in, written_room, written_more, written_answer, written_reach, step_less, step_len}
+use Rattle.ip_ext_chains.proofs.WalkedLemmas.{left_len, written_none, written_in, written_room, written_more, walked_answer, walked_reach, step_less, step_len}
 use Rattle.ip_ext_chains.proofs.WriteLemmas.{all_written, fault_written, written_len, written_again, written_whole, written_cleared, written_alike}
 use Rattle.ip_ext_chains.proofs.ipv6_exts.Ipv6Extensions.write.Goals as goal
 
 pub append_next-requires : goal.append_next-requires
 append_next-requires g c =
-    omega (arith, c.in_default.ensures.ok, c.header_len.ensures.len, exts_sum c.args.self.now, c.reserve.ensures.len, left_len (placed_fields c.args.self.now) c.new-walk.result c.new-walk.ensures.left)
+    omega (arith, c.in_default.ensures.ok, c.header_len.ensures.len, exts_sum c.args.self.now, c.reserve.ensures.len, left_len (placed_fields c.args.self.now) c.new-walk.result (ap placed_fields c.new-walk.ensures.headers) c.new-walk.ensures.reached)
 
 pub headers-init : goal.headers-init
 headers-init g c =
@@ -26,7 +26,7 @@ headers-init g c =
           (on _ c.append_next-3.new.walk _ _ c.append_next-3.new.out.items _ (vec_capacity c.append_next-3.new.out) _ n3.some n3.appended n3.none n3.same (omega (arith, n3.room, c.append_next-3.new.out.ok.0))
           (on _ c.append_next-2.new.walk _ _ c.append_next-2.new.out.items _ (vec_capacity c.append_next-2.new.out) _ n2.some n2.appended n2.none n2.same (omega (arith, n2.room, c.append_next-2.new.out.ok.0))
           (on _ c.append_next.new.walk _ _ c.append_next.new.out.items _ (vec_capacity c.append_next.new.out) _ n1.some n1.appended n1.none n1.same (omega (arith, n1.room, c.append_next.new.out.ok.0))
-          (written_none (placed_fields c.args.self.now) c.args.first.0 c.new-walk.result w.left w.number w.first w.past_routing c.args.out.now.items c.reserve.new.self.items (vec_capacity c.reserve.new.self) c.reserve.ensures.items
+          (written_none (placed_fields c.args.self.now) c.args.first.0 c.new-walk.result (ap placed_fields w.headers) w.number w.first w.reached c.args.out.now.items c.reserve.new.self.items (vec_capacity c.reserve.new.self) c.reserve.ensures.items
           (omega (arith, c.in_default.ensures.ok, c.header_len.ensures.len, exts_sum c.args.self.now, c.reserve.ensures.len, ap length c.reserve.ensures.items, c.reserve.new.self.ok.0))))))))),
       omega (arith, c.reserve.ensures.capacity, n1.capacity, n2.capacity, n3.capacity, n4.capacity, n5.capacity, n6.capacity),
     )
@@ -50,9 +50,9 @@ pub returns-in-Ok-clause-ok : goal.returns-in-Ok-clause-ok
 returns-in-Ok-clause-ok g c =
     let k = c.headers.invariant.0 in
     let s = c.in_default-next.ensures.none in
-    all_written c.args.self.now c.args.first.0 c.args.out.now.items c.headers.out.items c.in-Ok.field-0.0 k.reached
-    (written_reach _ _ c.headers.walk c.next.new.self _ _ _ k s)
-    (written_answer _ _ c.headers.walk c.next.new.self _ _ _ (leads c.in-Ok.field-0.0) k s c.in-Ok.ensures)
+    all_written c.args.self.now c.args.first.0 c.args.out.now.items c.headers.out.items c.in-Ok.field-0.0 k.walked.reached
+    (walked_reach _ _ c.headers.walk c.next.new.self k.walked s)
+    (walked_answer _ _ c.headers.walk c.next.new.self k.walked s (leads c.in-Ok.field-0.0) c.in-Ok.ensures)
     k.appended
 
 pub returns-in-Ok-clause-len : goal.returns-in-Ok-clause-len
@@ -84,7 +84,7 @@ returns-in-Err-answer-clause-content g c = λ fault e.
     let s = c.in_default-next.ensures.none in
     let same : c.in-Err-answer.fault ≡ fault = cc in
     subst (IsWalkFault c.args.self.now c.args.first.0 c.args.out.now.items c.headers.out.items) same
-    (fault_written c.args.self.now c.args.first.0 c.args.out.now.items c.headers.out.items c.in-Err-answer.fault k.reached
-    (written_reach _ _ c.headers.walk c.next.new.self _ _ _ k s)
-    (written_answer _ _ c.headers.walk c.next.new.self _ _ _ _ k s c.in-Err-answer.ensures)
+    (fault_written c.args.self.now c.args.first.0 c.args.out.now.items c.headers.out.items c.in-Err-answer.fault k.walked.reached
+    (walked_reach _ _ c.headers.walk c.next.new.self k.walked s)
+    (walked_answer _ _ c.headers.walk c.next.new.self k.walked s _ c.in-Err-answer.ensures)
     k.appended)

@@ -53,7 +53,10 @@ fn with_fragment(sum: u64, fragment: Option<Fragment>) -> u64 {
         FragmentKind::Middle => 3,
         FragmentKind::Last => 4,
     };
-    let place = with(u64::from(fragment.identification), u64::from(fragment.offset));
+    let place = with(
+        u64::from(fragment.identification),
+        u64::from(fragment.offset),
+    );
     with(with(sum, place), kind)
 }
 

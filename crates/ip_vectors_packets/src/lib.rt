@@ -4,6 +4,8 @@
 #[cfg(test)]
 mod dissect;
 #[cfg(test)]
+mod filters;
+#[cfg(test)]
 mod lengths_that_lie;
 #[cfg(test)]
 mod packets;

@@ -1,0 +1,2 @@
+mod NetworkLemmas
+mod FormulaLemmas

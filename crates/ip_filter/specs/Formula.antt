@@ -1,0 +1,54 @@
+-- Formulas of terms, and the formula that a filter's steps are.
+use Rattle.std.specs.Prelude.{◌≡◌, ℕ, zero, suc, List, [], ◌∷◌, ◌++◌, Bool, false, not, ◌&&◌, ◌||◌, take}
+use Rattle.ip_dissect.specs.Dissection.{DissectedParts}
+use Rattle.ip_filter.specs.Truth.{holds}
+use Rattle.ip_filter.specs.declared.term.Term.{Term}
+use Rattle.ip_filter.specs.declared.filter.StepKind.{StepKind}
+use Rattle.ip_filter.specs.declared.filter.StepKind.TheVariants as kind
+use Rattle.ip_filter.specs.declared.filter.Step.{Step}
+use Rattle.ip_filter.specs.declared.filter.Filter.{Filter}
+
+pub data Formula : Type 0 where
+  single : Term → Formula
+  negation : Formula → Formula
+  both : Formula → Formula → Formula
+  either : Formula → Formula → Formula
+
+-- the formula holds of the packet with the parts p
+abbrev pub truth : Formula → DissectedParts → Bool
+truth (single t) p = holds t p
+truth (negation f) p = not (truth f p)
+truth (both f g) p = truth f p && truth g p
+truth (either f g) p = truth f p || truth g p
+
+-- f negated k times
+abbrev pub negated : ℕ → Formula → Formula
+negated zero f = f
+negated (suc k) f = negation (negated k f)
+
+-- What has been read, the last formula first, after one more step: a term is a formula, and the last two formulas are
+-- joined. A step for which there are too few changes nothing.
+abbrev pub after_step : StepKind → ℕ → List Formula → List Formula
+after_step (kind.Term t) k fs = negated k (single t) ∷ fs
+after_step kind.And k (g ∷ f ∷ fs) = negated k (both f g) ∷ fs
+after_step kind.Or k (g ∷ f ∷ fs) = negated k (either f g) ∷ fs
+after_step x k fs = fs
+
+-- the formulas read from the steps after fs
+abbrev pub read_after : List Formula → List Step → List Formula
+read_after fs [] = fs
+read_after fs (s ∷ steps) = read_after (after_step s.kind s.nots fs) steps
+
+-- the last one holds; none does not
+abbrev pub last_holds : List Formula → DissectedParts → Bool
+last_holds [] p = false
+last_holds (f ∷ fs) p = truth f p
+
+-- the steps of a filter
+abbrev pub steps_of : Filter → List Step
+steps_of x = take x.count x.steps
+
+-- the truths of formulas, in the opposite order
+abbrev pub AreTruths : DissectedParts → List Formula → List Bool → Type 0
+AreTruths p [] bits = bits ≡ []
+AreTruths p (f ∷ fs) bits = (rest : List Bool) × (bits ≡ rest ++ truth f p ∷ []) × AreTruths p fs rest

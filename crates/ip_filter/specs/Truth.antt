@@ -1,0 +1,108 @@
+-- What a term says of a packet.
+use Rattle.std.specs.Prelude.{ℕ, List, length, Bool, true, false, not, ◌==◌, ◌&&◌, ◌||◌, nat_lt, if◌then◌else◌}
+use Rattle.std.specs.Int.{from_be_bytes, w32, w128}
+use Rattle.std.specs.List.{list_any}
+use Rattle.std.specs.Option.{option_map_or}
+use Rattle.ip_spec.specs.Numbers.{AUTHENTICATION}
+use Rattle.ip_spec.specs.Fields.{auth_fields}
+use Rattle.ip_spec.specs.Chain.{bytes_of}
+use Rattle.ip_base.specs.Ipv4Header.{ipv4_source_octets, ipv4_destination_octets}
+use Rattle.ip_base.specs.Ipv6Header.{ipv6_source_octets, ipv6_destination_octets}
+use Rattle.ip_base.specs.declared.err.ipv6_exts.header_error.HeaderError.TheVariants.{HopByHopNotAtStart, IpAuth}
+use Rattle.etherparse_ip.specs.declared.err.ip.header_error.HeaderError.TheVariants.{UnsupportedIpVersion, Ipv4HeaderLengthSmallerThanHeader}
+use Rattle.etherparse_ip.specs.declared.err.ip.headers_error.HeadersError.TheVariants.{Ip, Ipv4Ext, Ipv6Ext}
+use Rattle.etherparse_ip.specs.declared.err.ip.slice_error.SliceError.{SliceError}
+use Rattle.etherparse_ip.specs.declared.err.ip.slice_error.SliceError.TheVariants.{Len, IpHeaders}
+use Rattle.ip_dissect.specs.Dissection.{DissectedParts}
+use Rattle.ip_dissect.specs.declared.fragment.FragmentKind.{FragmentKind}
+use Rattle.ip_dissect.specs.declared.fragment.FragmentKind.TheVariants.{First, Middle, Last}
+use Rattle.ip_dissect.specs.declared.end.End.{End}
+use Rattle.ip_dissect.specs.declared.end.End.TheVariants as end
+use Rattle.ip_filter.specs.Network.{ipv4_lies_in, ipv6_lies_in}
+use Rattle.ip_filter.specs.declared.network.Network.{Network}
+use Rattle.ip_filter.specs.declared.term.Comparison.{Comparison}
+use Rattle.ip_filter.specs.declared.term.Comparison.TheVariants as by
+use Rattle.ip_filter.specs.declared.term.FaultKind.{FaultKind}
+use Rattle.ip_filter.specs.declared.term.FaultKind.TheVariants as kind
+use Rattle.ip_filter.specs.declared.term.Term.{Term}
+use Rattle.ip_filter.specs.declared.term.Term.TheVariants as term
+
+abbrev pub compares : Comparison → ℕ → ℕ → Bool
+compares by.Equal a b = a == b
+compares by.NotEqual a b = not (a == b)
+compares by.Less a b = nat_lt a b
+compares by.AtMost a b = not (nat_lt b a)
+compares by.Greater a b = nat_lt b a
+compares by.AtLeast a b = not (nat_lt a b)
+
+abbrev pub has_base : DissectedParts → Bool
+has_base p = not (p.version == 0)
+
+-- an atomic fragment is the whole packet, so it is none of these
+abbrev pub is_first_kind : FragmentKind → Bool
+is_first_kind First = true
+is_first_kind k = false
+
+abbrev pub is_later_kind : FragmentKind → Bool
+is_later_kind Middle = true
+is_later_kind Last = true
+is_later_kind k = false
+
+abbrev pub is_truncated : End → Bool
+is_truncated (end.Truncated e header) = true
+is_truncated e = false
+
+abbrev pub fault_kind : SliceError → FaultKind
+fault_kind (Len e) = kind.TooShort
+fault_kind (IpHeaders (Ip (UnsupportedIpVersion v))) = kind.UnsupportedIpVersion
+fault_kind (IpHeaders (Ip (Ipv4HeaderLengthSmallerThanHeader l))) = kind.Ipv4HeaderLength
+fault_kind (IpHeaders (Ipv4Ext e)) = kind.ZeroPayloadLen
+fault_kind (IpHeaders (Ipv6Ext HopByHopNotAtStart)) = kind.HopByHopNotAtStart
+fault_kind (IpHeaders (Ipv6Ext (IpAuth e))) = kind.ZeroPayloadLen
+
+-- the number of a kind, to compare two
+abbrev pub kind_index : FaultKind → ℕ
+kind_index kind.TooShort = 0
+kind_index kind.HopByHopNotAtStart = 1
+kind_index kind.ZeroPayloadLen = 2
+kind_index kind.UnsupportedIpVersion = 3
+kind_index kind.Ipv4HeaderLength = 4
+
+-- the end is a fault that passes the test
+abbrev pub is_fault : (FaultKind → Bool) → End → Bool
+is_fault test (end.Fault e header) = test (fault_kind e)
+is_fault test e = false
+
+-- the address of the packet lies in the network: its octets are these of an IPv4 base header, or those of an IPv6 one
+abbrev pub address_lies_in : Network → (List ℕ → List ℕ) → (List ℕ → List ℕ) → DissectedParts → Bool
+address_lies_in n ipv4 ipv6 p =
+    if p.version == 4 then ipv4_lies_in n (from_be_bytes w32 (ipv4 p.base))
+    else if p.version == 6 then ipv6_lies_in n (from_be_bytes w128 (ipv6 p.base))
+    else false
+
+abbrev pub has_source : Network → DissectedParts → Bool
+has_source n p = address_lies_in n ipv4_source_octets ipv6_source_octets p
+
+abbrev pub has_destination : Network → DissectedParts → Bool
+has_destination n p = address_lies_in n ipv4_destination_octets ipv6_destination_octets p
+
+-- the term holds of the packet with the parts p
+abbrev pub holds : Term → DissectedParts → Bool
+holds (term.Version v) p = has_base p && (p.version == v)
+holds (term.Header n) p = list_any (λ h. h.number == n) p.headers
+holds (term.LeadsTo n) p = has_base p && (p.number == n)
+holds term.Fragment p = option_map_or (λ x. is_first_kind x.kind || is_later_kind x.kind) p.fragment false
+holds term.FirstFragment p = option_map_or (λ x. is_first_kind x.kind) p.fragment false
+holds term.LaterFragment p = option_map_or (λ x. is_later_kind x.kind) p.fragment false
+holds term.Truncated p = is_truncated p.end
+holds term.Incomplete p = not (p.missing == 0)
+holds term.Fault p = is_fault (λ k. true) p.end
+holds (term.FaultOf kind) p = is_fault (λ k. kind_index k == kind_index kind) p.end
+holds (term.Headers c n) p = has_base p && compares c (length p.headers) n
+holds (term.ChainBytes c n) p = has_base p && compares c (length (bytes_of p.headers)) n
+holds (term.Payload c n) p = has_base p && compares c (length p.payload) n
+holds (term.SecurityParameters i) p = list_any (λ h. (h.number == AUTHENTICATION) && ((auth_fields h.bytes).spi == i)) p.headers
+holds (term.Identification i) p = option_map_or (λ x. x.identification == i) p.fragment false
+holds (term.Source n) p = has_source n p
+holds (term.Destination n) p = has_destination n p
+holds (term.Either n) p = has_source n p || has_destination n p

@@ -34,7 +34,7 @@ after_step kind.And k (g ∷ f ∷ fs) = negated k (both f g) ∷ fs
 after_step kind.Or k (g ∷ f ∷ fs) = negated k (either f g) ∷ fs
 after_step x k fs = fs
 
--- the formulas read from the steps after fs
+-- what has been read after more steps
 abbrev pub read_after : List Formula → List Step → List Formula
 read_after fs [] = fs
 read_after fs (s ∷ steps) = read_after (after_step s.kind s.nots fs) steps

@@ -43,7 +43,7 @@ pub struct Filter {
 
 impl Filter {
     /// Returns whether the filter matches the packet at the start of `bytes`, which may be any bytes. Bytes without a
-    /// base header meet no term.
+    /// base header meet no term but `Fault`, `FaultOf` and `Truncated`.
     pub fn matches(&self, bytes: &[u8]) -> bool
         ensures { result ≡ last_holds (read_after [] (steps_of self.now)) (dissected bytes.now) }
     {

@@ -1,2 +1,19 @@
 mod NetworkLemmas
 mod FormulaLemmas
+mod WordLemmas
+mod NumberLemmas
+mod ArgumentLemmas
+mod NetworkTextLemmas
+pub mod StepsLemmas
+mod AfterLemmas
+mod PlaceLemmas
+mod TermLemmas
+mod PartStepsLemmas
+mod CountLemmas
+mod MoveLemmas
+mod OperatorLemmas
+mod LeadLemmas
+mod StateLemmas
+mod ReadFormulaLemmas
+mod ParseLemmas
+mod FactsLemmas

@@ -1,7 +1,10 @@
 -- Formulas of terms, and the formula that a filter's steps are.
-use Rattle.std.specs.Prelude.{◌≡◌, ℕ, zero, suc, List, [], ◌∷◌, ◌++◌, Bool, false, not, ◌&&◌, ◌||◌, take}
-use Rattle.ip_dissect.specs.Dissection.{DissectedParts}
+use Rattle.std.specs.Prelude.{◌≡◌, ℕ, zero, suc, List, [], ◌∷◌, ◌++◌, Bool, false, not, ◌&&◌, ◌||◌, take, Option, Some, None}
+use Rattle.std.specs.Borrow.{Bor}
+use Rattle.ip_dissect.specs.Dissection.{dissected}
 use Rattle.ip_filter.specs.Truth.{holds}
+use Rattle.ip_filter.specs.Facts.{HasFacts}
+use Rattle.ip_filter.specs.declared.facts.Facts.{Facts}
 use Rattle.ip_filter.specs.declared.term.Term.{Term}
 use Rattle.ip_filter.specs.declared.filter.StepKind.{StepKind}
 use Rattle.ip_filter.specs.declared.filter.StepKind.TheVariants as kind
@@ -14,12 +17,17 @@ pub data Formula : Type 0 where
   both : Formula → Formula → Formula
   either : Formula → Formula → Formula
 
--- the formula holds of the packet with the parts p
-abbrev pub truth : Formula → DissectedParts → Bool
-truth (single t) p = holds t p
-truth (negation f) p = not (truth f p)
-truth (both f g) p = truth f p && truth g p
-truth (either f g) p = truth f p || truth g p
+-- the formula holds where h says which terms hold
+abbrev pub truth : Formula → (Term → Bool) → Bool
+truth (single t) h = h t
+truth (negation f) h = not (truth f h)
+truth (both f g) h = truth f h && truth g h
+truth (either f g) h = truth f h || truth g h
+
+-- h says which terms hold of the packet, if there is one: otherwise none
+abbrev pub SaysOf : Option (Bor Facts) → (Term → Bool) → Type 0
+SaysOf None h = (t : Term) → h t ≡ false
+SaysOf (Some x) h = (s : List ℕ) × HasFacts (dissected s) x.now × ((t : Term) → h t ≡ holds t (dissected s))
 
 -- f negated k times
 abbrev pub negated : ℕ → Formula → Formula
@@ -40,15 +48,15 @@ read_after fs [] = fs
 read_after fs (s ∷ steps) = read_after (after_step s.kind s.nots fs) steps
 
 -- the last one holds; none does not
-abbrev pub last_holds : List Formula → DissectedParts → Bool
-last_holds [] p = false
-last_holds (f ∷ fs) p = truth f p
+abbrev pub last_holds : List Formula → (Term → Bool) → Bool
+last_holds [] h = false
+last_holds (f ∷ fs) h = truth f h
 
 -- the steps of a filter
 abbrev pub steps_of : Filter → List Step
 steps_of x = take x.count x.steps
 
 -- the truths of formulas, in the opposite order
-abbrev pub AreTruths : DissectedParts → List Formula → List Bool → Type 0
-AreTruths p [] bits = bits ≡ []
-AreTruths p (f ∷ fs) bits = (rest : List Bool) × (bits ≡ rest ++ truth f p ∷ []) × AreTruths p fs rest
+abbrev pub AreTruths : (Term → Bool) → List Formula → List Bool → Type 0
+AreTruths h [] bits = bits ≡ []
+AreTruths h (f ∷ fs) bits = (rest : List Bool) × (bits ≡ rest ++ truth f h ∷ []) × AreTruths h fs rest

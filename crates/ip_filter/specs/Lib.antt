@@ -1,3 +1,10 @@
 pub mod Network
 pub mod Truth
+pub mod Facts
 pub mod Formula
+pub mod Words
+pub mod Numbers
+pub mod Grammar
+pub mod Reading
+pub mod Parsing
+pub mod Parsed

@@ -1,5 +1,5 @@
 -- What a term says of a packet.
-use Rattle.std.specs.Prelude.{ℕ, List, length, Bool, true, false, not, ◌==◌, ◌&&◌, ◌||◌, nat_lt, if◌then◌else◌}
+use Rattle.std.specs.Prelude.{ℕ, List, length, Bool, true, false, not, ◌==◌, ◌&&◌, ◌||◌, nat_lt, if◌then◌else◌, Option, Some, None, is_some}
 use Rattle.std.specs.Int.{from_be_bytes, w32, w128}
 use Rattle.std.specs.List.{list_any}
 use Rattle.std.specs.Option.{option_map_or}
@@ -38,6 +38,9 @@ compares by.AtLeast a b = not (nat_lt a b)
 abbrev pub has_base : DissectedParts → Bool
 has_base p = not (p.version == 0)
 
+abbrev pub is_version : ℕ → DissectedParts → Bool
+is_version v p = has_base p && (p.version == v)
+
 -- an atomic fragment is the whole packet, so it is none of these
 abbrev pub is_first_kind : FragmentKind → Bool
 is_first_kind First = true
@@ -68,10 +71,10 @@ kind_index kind.ZeroPayloadLen = 2
 kind_index kind.UnsupportedIpVersion = 3
 kind_index kind.Ipv4HeaderLength = 4
 
--- the end is a fault that passes the test
-abbrev pub is_fault : (FaultKind → Bool) → End → Bool
-is_fault test (end.Fault e header) = test (fault_kind e)
-is_fault test e = false
+-- the kind of the fault at an end, if it is one
+abbrev pub fault_in : End → Option FaultKind
+fault_in (end.Fault e header) = Some (fault_kind e)
+fault_in e = None
 
 -- the address of the packet lies in the network: its octets are these of an IPv4 base header, or those of an IPv6 one
 abbrev pub address_lies_in : Network → (List ℕ → List ℕ) → (List ℕ → List ℕ) → DissectedParts → Bool
@@ -88,7 +91,7 @@ has_destination n p = address_lies_in n ipv4_destination_octets ipv6_destination
 
 -- the term holds of the packet with the parts p
 abbrev pub holds : Term → DissectedParts → Bool
-holds (term.Version v) p = has_base p && (p.version == v)
+holds (term.Version v) p = is_version v p
 holds (term.Header n) p = list_any (λ h. h.number == n) p.headers
 holds (term.LeadsTo n) p = has_base p && (p.number == n)
 holds term.Fragment p = option_map_or (λ x. is_first_kind x.kind || is_later_kind x.kind) p.fragment false
@@ -96,8 +99,8 @@ holds term.FirstFragment p = option_map_or (λ x. is_first_kind x.kind) p.fragme
 holds term.LaterFragment p = option_map_or (λ x. is_later_kind x.kind) p.fragment false
 holds term.Truncated p = is_truncated p.end
 holds term.Incomplete p = not (p.missing == 0)
-holds term.Fault p = is_fault (λ k. true) p.end
-holds (term.FaultOf kind) p = is_fault (λ k. kind_index k == kind_index kind) p.end
+holds term.Fault p = is_some (fault_in p.end)
+holds (term.FaultOf kind) p = option_map_or (λ k. kind_index k == kind_index kind) (fault_in p.end) false
 holds (term.Headers c n) p = has_base p && compares c (length p.headers) n
 holds (term.ChainBytes c n) p = has_base p && compares c (length (bytes_of p.headers)) n
 holds (term.Payload c n) p = has_base p && compares c (length p.payload) n

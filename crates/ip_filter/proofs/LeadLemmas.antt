@@ -1,0 +1,70 @@
+-- The words of a filter lead to it, and to no other.
+use Rattle.std.proofs.Common.{Some, None, IsTrue, codes}
+use Rattle.std.specs.Prelude.{Option}
+use Rattle.std.specs.Option.{option_map_or}
+use Rattle.ip_spec.proofs.Common.{◌≡◌, ◌+◌, ◌≤◌, List, [], ◌∷◌, ◌++◌, length, refl, sym, ap, subst, arith, append_assoc, append-nil}
+use Rattle.ip_filter.specs.Words.{Word}
+use Rattle.ip_filter.specs.Grammar.{Operand, Conjunction, Disjunction, a_term, a_negation, a_group, an_operand, an_and, a_conjunction, an_or, keyword, operand_words, conjunction_words, filter_words, IsOperand, IsConjunction, IsDisjunction, operand_terms, conjunction_terms, terms_in, operand_depth, conjunction_depth, depth_of, IsFilter, is_and, is_or}
+use Rattle.ip_filter.specs.Reading.{ends_term}
+use Rattle.ip_filter.specs.Parsing.{Open, State, before, after, nothing, Moves, by_not, by_open, by_term, by_and, by_or, by_close, may_follow, LeadsTo, ends, goes_on, with_operand, and_joined, or_joined, negate, open_terms, group_terms}
+
+-- ---- what ends a term
+
+and_ends : (w : Word) (ws : List Word) → IsTrue (is_and w) → IsTrue (ends_term (w ∷ ws))
+and_ends w ws a = grind (arith, a)
+
+or_ends : (w : Word) (ws : List Word) → IsTrue (is_or w) → IsTrue (ends_term (w ∷ ws))
+or_ends w ws o = grind (arith, o)
+
+-- ---- from a part to what follows it
+
+negated_more : (ns : List Word) (w : Word) (u : Operand) → negate (ns ++ w ∷ []) u ≡ negate ns (a_negation w u)
+negated_more [] w u = refl
+negated_more (n ∷ ns) w u = ap (a_negation n) (negated_more ns w u)
+
+module _ (d : Disjunction) where
+  -- one move more
+  step : (s t : State) (us ws : List Word) → Moves s us t → may_follow t ws → LeadsTo t ws d → LeadsTo s (us ++ ws) d
+  step s t us ws m may l = goes_on s t us ws (us ++ ws) d refl m may l
+
+  mutual
+    operand_leads : (u : Operand) (fs : List Open) (f : Open) (ws : List Word) → IsOperand u → length fs + operand_depth u ≤ 16 → group_terms fs + open_terms f + operand_terms u ≤ 64
+        → IsTrue (ends_term ws) → LeadsTo (with_operand fs f u) ws d → LeadsTo (before fs f) (operand_words u ++ ws) d
+    operand_leads (a_term t us) fs f ws is deep many e l = step _ _ (keyword t ∷ us) ws (by_term fs f t us is (omega (arith, many))) e l
+    operand_leads (a_negation w u) fs f ws is deep many e l =
+        let more : Open = record f { nots = f.nots ++ w ∷ [] } in
+        step _ _ (w ∷ []) (operand_words u ++ ws) (by_not fs f w is.0) tt
+        (operand_leads u fs more ws is.1 deep many e (subst (λ x. LeadsTo (after fs f.or_left (and_joined f.and_left x)) ws d) (sym (negated_more f.nots w u)) l))
+    operand_leads (a_group g) fs f ws is deep many e l =
+        let close : List Word = codes ")" ∷ [] in
+        let inner = filter_leads g (f ∷ fs) (close ++ ws) is (omega (arith, deep)) (omega (arith, many)) refl
+        (λ o c same. step _ _ close ws (by_close fs f o c) e (subst (λ x. LeadsTo (with_operand fs f (a_group x)) ws d) (sym same) l)) in
+        subst (λ x. LeadsTo (before fs f) (codes "(" ∷ x) d) (sym (append_assoc (filter_words g) close ws))
+        (step _ _ (codes "(" ∷ []) (filter_words g ++ (close ++ ws)) (by_open fs f (omega (arith, deep))) tt inner)
+
+    conjunction_leads : (c : Conjunction) (fs : List Open) (o : Option (Disjunction × Word)) (ws : List Word) → IsConjunction c → length fs + conjunction_depth c ≤ 16
+        → group_terms fs + option_map_or (λ p. terms_in p.0) o 0 + conjunction_terms c ≤ 64 → IsTrue (ends_term ws) → LeadsTo (after fs o c) ws d
+        → LeadsTo (before fs (record { or_left = o; and_left = None; nots = [] })) (conjunction_words c ++ ws) d
+    conjunction_leads (an_operand u) fs o ws is deep many e l = operand_leads u fs _ ws is deep (omega (arith, many)) e l
+    conjunction_leads (an_and c w u) fs o ws is deep many e l =
+        subst (λ x. LeadsTo (before fs (record { or_left = o; and_left = None; nots = [] })) x d) (sym (append_assoc (conjunction_words c) (w ∷ operand_words u) ws))
+        (conjunction_leads c fs o (w ∷ (operand_words u ++ ws)) is.0 (omega (arith, deep)) (omega (arith, many)) (and_ends w (operand_words u ++ ws) is.1)
+        (step _ _ (w ∷ []) (operand_words u ++ ws) (by_and fs o c w is.1) tt
+        (operand_leads u fs (record { or_left = o; and_left = Some (c, w); nots = [] }) ws is.2 (omega (arith, deep)) (omega (arith, many)) e l)))
+
+    filter_leads : (g : Disjunction) (fs : List Open) (ws : List Word) → IsDisjunction g → length fs + depth_of g ≤ 16 → group_terms fs + terms_in g ≤ 64 → IsTrue (ends_term ws)
+        → ((o : Option (Disjunction × Word)) (c : Conjunction) → or_joined o c ≡ g → LeadsTo (after fs o c) ws d) → LeadsTo (before fs nothing) (filter_words g ++ ws) d
+    filter_leads (a_conjunction c) fs ws is deep many e l = conjunction_leads c fs None ws is deep (omega (arith, many)) e (l None c refl)
+    filter_leads (an_or g w c) fs ws is deep many e l =
+        subst (λ x. LeadsTo (before fs nothing) x d) (sym (append_assoc (filter_words g) (w ∷ conjunction_words c) ws))
+        (filter_leads g fs (w ∷ (conjunction_words c ++ ws)) is.0 (omega (arith, deep)) (omega (arith, many)) (or_ends w (conjunction_words c ++ ws) is.1)
+        (λ o b same. step _ _ (w ∷ []) (conjunction_words c ++ ws) (by_or fs o b w is.1) tt
+        (subst (λ x. LeadsTo (before fs (record { or_left = Some (x, w); and_left = None; nots = [] })) (conjunction_words c ++ ws) d) (sym same)
+        (conjunction_leads c fs (Some (g, w)) ws is.2 (omega (arith, deep)) (omega (arith, many)) e (l (Some (g, w)) c refl)))))
+
+-- the words of a filter lead to it
+pub start_leads : (d : Disjunction) → IsFilter d → LeadsTo (before [] nothing) (filter_words d) d
+start_leads d is =
+    let deep = is.depth in let many = is.terms in
+    subst (λ ws. LeadsTo (before [] nothing) ws d) (append-nil (filter_words d))
+    (filter_leads d d [] [] is.spelled (omega (arith, deep)) (omega (arith, many)) refl (λ o c same. subst (LeadsTo (after [] o c) []) same (ends o c)))

@@ -1,0 +1,219 @@
+-- What a word leads to.
+use Rattle.std.proofs.Common.{is_some, IsTrue, codes}
+use Rattle.std.specs.Option.{option_map_or}
+use Rattle.std.specs.Str.{bytes_eq}
+use Rattle.ip_spec.proofs.Common.{◌≡◌, ℕ, ◌+◌, ◌-◌, ◌<◌, ◌≤◌, ◌^◌, min, List, [], ◌∷◌, ◌++◌, length, take, drop, refl, sym, ap, ◌∙◌, arith, true, false, false≢true, bytes_eq-Decides, append-nil, length-append}
+use Rattle.ip_filter.specs.declared.words.Word.{Word as FirstWord}
+use Rattle.ip_filter.specs.declared.builder.Builder.{Builder}
+use Rattle.ip_filter.specs.declared.term.Term.{Term}
+use Rattle.ip_filter.specs.declared.term.Term.TheVariants as term
+use Rattle.ip_filter.specs.Words.{Word, words}
+use Rattle.ip_filter.specs.Grammar.{Operand, Disjunction, Conjunction, a_term, keyword, AreArguments, is_not, filter_words, conjunction_words}
+use Rattle.ip_filter.specs.Reading.{IsPlace, IsFirstWord, ReadsTerm, RefusesTerm, ends_term}
+use Rattle.ip_filter.specs.Parsing.{Open, State, before, nothing, Moves, by_not, by_open, by_term, may_follow, with_operand, open_terms, group_terms, group_words, state_words, Fits, Holds, HoldsOperand, ReadsOn, RefusesFrom, level_of, levels_of, state_steps, and_joined, negate}
+use Rattle.arrayvec.specs.declared.array_vec.ArrayVec.{ArrayVec}
+use Rattle.ip_filter.specs.declared.builder.Level.{Level}
+use Rattle.ip_filter.specs.declared.filter.Filter.{Filter}
+use Rattle.ip_filter.specs.declared.filter.StepKind.TheVariants as kind
+use Rattle.ip_filter.specs.Formula.{steps_of}
+use Rattle.ip_filter.proofs.PartStepsLemmas.{joined_terms}
+use Rattle.ip_filter.proofs.CountLemmas.{before_count, after_count}
+use Rattle.ip_filter.proofs.PlaceLemmas.{end_of_end, place_in_end, from_place}
+
+-- no keyword is a word `not` or a parenthesis
+keyword_not : (t : Term) → is_not (keyword t) ≡ false
+keyword_not (term.Version v) = refl
+keyword_not t = refl
+
+keyword_open : (t : Term) → bytes_eq (keyword t) (codes "(") ≡ false
+keyword_open (term.Version v) = refl
+keyword_open t = refl
+
+same_word : (k c : Word) → bytes_eq k c ≡ true → k ≡ c
+same_word k c = (bytes_eq-Decides k c).0
+
+module _ (fs : List Open) (f : Open) (w : Word) where
+  -- ---- what may precede an operand
+
+  only_not : (t : State) (vs ws more : List Word) → is_not w ≡ true → Moves (before fs f) vs t → vs ++ more ≡ w ∷ ws
+      → (t ≡ before fs (record f { nots = f.nots ++ w ∷ [] })) × (vs ≡ w ∷ [])
+  only_not t vs ws more n (by_not gs g v p) e =
+      let same : v ≡ w = cc e in (ap (λ x. before gs (record g { nots = g.nots ++ x ∷ [] })) same, ap (λ x. x ∷ []) same)
+  only_not t vs ws more n (by_open gs g few) e = let same : codes "(" ≡ w = cc e in absurd (false≢true (ap is_not same ∙ n))
+  only_not t vs ws more n (by_term gs g u us args few) e = let same : keyword u ≡ w = cc e in absurd (false≢true (sym (keyword_not u) ∙ ap is_not same ∙ n))
+
+  only_open : (t : State) (vs ws more : List Word) → bytes_eq w (codes "(") ≡ true → Moves (before fs f) vs t → vs ++ more ≡ w ∷ ws
+      → (t ≡ before (f ∷ fs) nothing) × (vs ≡ codes "(" ∷ []) × (length fs < 16)
+  only_open t vs ws more o (by_not gs g v p) e =
+      let same : v ≡ w = cc e in absurd (false≢true (ap is_not (sym (same_word w (codes "(") o) ∙ sym same) ∙ p))
+  only_open t vs ws more o (by_open gs g few) e = (refl, refl, few)
+  only_open t vs ws more o (by_term gs g u us args few) e =
+      let same : keyword u ≡ w = cc e in absurd (false≢true (sym (keyword_open u) ∙ ap (λ x. bytes_eq x (codes "(")) same ∙ o))
+
+  -- ---- a term
+
+  only_term : (t : State) (vs ws more : List Word) → is_not w ≡ false → bytes_eq w (codes "(") ≡ false → Moves (before fs f) vs t → may_follow t more → vs ++ more ≡ w ∷ ws
+      → (u : Term) × (us : List Word) × (t ≡ with_operand fs f (a_term u us)) × (vs ≡ keyword u ∷ us) × (keyword u ≡ w) × AreArguments us u
+      × IsTrue (ends_term more) × (us ++ more ≡ ws) × (group_terms fs + open_terms f < 64)
+  only_term t vs ws more n o (by_not gs g v p) may e = let same : v ≡ w = cc e in absurd (false≢true (sym n ∙ ap is_not (sym same) ∙ p))
+  only_term t vs ws more n o (by_open gs g few) may e =
+      let same : w ≡ codes "(" = cc e in absurd (false≢true (sym o ∙ ap (λ x. bytes_eq x (codes "(")) same))
+  only_term t vs ws more n o (by_term gs g u us args few) may e =
+      let same : keyword u ≡ w = cc e in let rest : us ++ more ≡ ws = cc e in (u, us, refl, refl, same, args, may, rest, few)
+
+pub level_count : (fs : List Open) → length (levels_of fs) ≡ length fs
+level_count [] = refl
+level_count (f ∷ fs) = omega (arith, level_count fs, length-append (levels_of fs) (level_of f ∷ []))
+
+few_nots : (fs : List Open) (f : Open) → length (state_words (before fs f)) < 2 ^ 63 → length f.nots < 2 ^ 63
+few_nots fs f few =
+    let o = option_map_or (λ (p : Disjunction × Word). filter_words p.0 ++ p.1 ∷ []) f.or_left [] in
+    let a = option_map_or (λ (p : Conjunction × Word). conjunction_words p.0 ++ p.1 ∷ []) f.and_left [] in
+    omega (arith, few, length-append (group_words fs) (o ++ a ++ f.nots), length-append (o ++ a) f.nots)
+
+-- ---- the first word of a text
+
+module _ (text : List ℕ) (w : FirstWord) (is : IsFirstWord text w) where
+  -- after the word
+  later_place : (front : List Word) (left : ℕ) → IsPlace w.rest.now front left → IsPlace text (w.bytes.now ∷ front) left
+  later_place front left p = place_in_end text w.rest.now is.end (w.bytes.now ∷ []) front left is.begins p
+
+  -- at the word
+  begins_at : words text ≡ words (drop (length text - w.left) text)
+  begins_at = is.place.words_before
+
+  pub at_word : (ws vs more : List Word) → take 1 ws ≡ take 1 (words (drop (length text - w.left) text)) → vs ++ more ≡ ws → (tail : List Word) × (vs ++ more ≡ w.bytes.now ∷ tail)
+  at_word [] vs more next e = absurd (cc (next ∙ ap (take 1) (sym begins_at ∙ is.begins)))
+  at_word (v ∷ ws) vs more next e = let same : v ≡ w.bytes.now = cc (next ∙ ap (take 1) (sym begins_at ∙ is.begins)) in (ws, e ∙ ap (λ x. x ∷ ws) same)
+
+module _ (b : Builder) (w : FirstWord) where
+  pub not_read : (r : ℕ) → is_not w.bytes.now ≡ true → r ≡ min (b.level.nots + 1) 18446744073709551615 → (text : List ℕ) (fs : List Open) (f : Open) → IsFirstWord text w
+      → Holds (before fs f) b → Fits (before fs f)
+      → ReadsOn (before fs f) text w.rest.now (record { filter = b.filter; terms = b.terms; outer = b.outer; level = record { nots = r; or_waits = b.level.or_waits; and_waits = b.level.and_waits }; has_operand = b.has_operand })
+  not_read r n sum text fs f is h fits =
+      let word = w.bytes.now in
+      let more : Open = record f { nots = f.nots ++ word ∷ [] } in
+      let short = fits.words in
+      let count : b.level.nots ≡ length f.nots = ap (λ l. l.nots) h.level in
+      let room : length f.nots < 2 ^ 63 = few_nots fs f short in
+      let nots : r ≡ length (f.nots ++ word ∷ []) = omega (arith, sum, count, room, length-append f.nots (word ∷ [])) in
+      record {
+        next = before fs more;
+        us = word ∷ [];
+        moves = by_not fs f word n;
+        begins = is.begins;
+        end = is.end;
+        holds = record {
+          steps = h.steps;
+          terms = h.terms;
+          outer = h.outer;
+          level = ap (λ l. record { nots = r; or_waits = l.or_waits; and_waits = l.and_waits }) h.level ∙ ap (λ k. record { nots = k; or_waits = is_some f.or_left; and_waits = is_some f.and_left }) nots;
+          operand = h.operand;
+        };
+        only = λ t vs ws more m may e next. only_not fs f word t vs ws more n m e;
+      }
+
+  pub open_read : (outer : ArrayVec Level 16 (Unit {0})) (level : Level) → bytes_eq w.bytes.now (codes "(") ≡ true → outer.items ≡ b.outer.items ++ b.level ∷ []
+      → level ≡ record { nots = 0; or_waits = false; and_waits = false } → length b.outer.items < 16 → (text : List ℕ) (fs : List Open) (f : Open) → IsFirstWord text w
+      → Holds (before fs f) b → Fits (before fs f)
+      → ReadsOn (before fs f) text w.rest.now (record { filter = b.filter; terms = b.terms; outer = outer; level = level; has_operand = b.has_operand })
+  open_read outer level o pushed empty room text fs f is h fits =
+      let same = same_word w.bytes.now (codes "(") o in
+      let few : length fs < 16 = omega (arith, room, ap length h.outer, level_count fs) in
+      record {
+        next = before (f ∷ fs) nothing;
+        us = codes "(" ∷ [];
+        moves = by_open fs f few;
+        begins = is.begins ∙ ap (λ x. x ∷ words w.rest.now) same;
+        end = is.end;
+        holds = record {
+          steps = h.steps ∙ sym (append-nil (state_steps (before fs f))) ∙ sym (append-nil (state_steps (before fs f) ++ []));
+          terms = h.terms ∙ (let e : group_terms fs + open_terms f ≡ group_terms fs + open_terms f + 0 = omega arith in e);
+          outer = pushed ∙ ap (λ ls. ls ++ b.level ∷ []) h.outer ∙ ap (λ l. levels_of fs ++ l ∷ []) h.level;
+          level = empty;
+          operand = h.operand;
+        };
+        only = λ t vs ws more m may e next. let found = only_open fs f w.bytes.now t vs ws more o m (e ∙ ap (λ x. x ∷ ws) (sym same)) in (found.0, found.1);
+      }
+
+  pub no_more_groups : bytes_eq w.bytes.now (codes "(") ≡ true → 16 ≤ length b.outer.items → (text : List ℕ) (fs : List Open) (f : Open) → IsFirstWord text w
+      → Holds (before fs f) b → RefusesFrom (before fs f) text w.left
+  no_more_groups o full text fs f is h = record {
+    front = [];
+    place = is.place;
+    none = λ t vs ws more m may e next.
+        let here = at_word text w is ws vs more next e in
+        let found = only_open fs f w.bytes.now t vs here.0 more o m here.1 in
+        let few = found.2 in
+        omega (arith, full, few, ap length h.outer, level_count fs);
+  }
+
+  module _ (n : is_not w.bytes.now ≡ false) (o : bytes_eq w.bytes.now (codes "(") ≡ false) where
+    pub no_more_terms : 64 ≤ b.terms → (text : List ℕ) (fs : List Open) (f : Open) → IsFirstWord text w → Holds (before fs f) b → RefusesFrom (before fs f) text w.left
+    no_more_terms full text fs f is h = record {
+      front = [];
+      place = is.place;
+      none = λ t vs ws more m may e next.
+          let here = at_word text w is ws vs more next e in
+          let found = only_term fs f w.bytes.now t vs here.0 more n o m may here.1 in
+          let few = found.8 in let same = h.terms in omega (arith, full, few, same);
+    }
+
+    pub no_term : ((t : Term) → keyword t ≡ w.bytes.now → ⊥) → (text : List ℕ) (fs : List Open) (f : Open) → IsFirstWord text w → Holds (before fs f) b → RefusesFrom (before fs f) text w.left
+    no_term none text fs f is h = record {
+      front = [];
+      place = is.place;
+      none = λ t vs ws more m may e next.
+          let here = at_word text w is ws vs more next e in
+          let found = only_term fs f w.bytes.now t vs here.0 more n o m may here.1 in none found.0 found.4;
+    }
+
+    pub bad_term : (left : ℕ) → RefusesTerm w.bytes.now w.rest.now left → (text : List ℕ) (fs : List Open) (f : Open) → IsFirstWord text w → Holds (before fs f) b
+        → RefusesFrom (before fs f) text left
+    bad_term left r text fs f is h = record {
+      front = w.bytes.now ∷ r.before;
+      place = later_place text w is r.before left r.place;
+      none = λ t vs ws more m may e next.
+          let found = only_term fs f w.bytes.now t vs (r.before ++ ws) more n o m may e in
+          r.none found.0 found.1 ws more found.4 found.5 found.6 found.7 (next ∙ ap (λ s. take 1 (words s)) (sym (from_place text w.rest.now is.end left r.place.within)));
+    }
+
+    -- the step of the term is the last one
+    term_holds : (filter : Filter) (t : Term) (us : List Word) (fs : List Open) (f : Open) → Holds (before fs f) b
+        → steps_of filter ≡ steps_of b.filter ++ record { kind = kind.Term t; nots = b.level.nots } ∷ []
+        → HoldsOperand fs f (a_term t us) (record { filter = filter; terms = b.terms + 1; outer = b.outer; level = b.level; has_operand = b.has_operand })
+    term_holds filter t us fs f h pushed = record {
+      steps = pushed ∙ ap (λ s. s ++ record { kind = kind.Term t; nots = b.level.nots } ∷ []) h.steps
+          ∙ ap (λ k. state_steps (before fs f) ++ record { kind = kind.Term t; nots = k } ∷ []) (ap (λ l. l.nots) h.level);
+      terms = ap (λ k. k + 1) h.terms;
+      outer = h.outer;
+      or_waits = ap (λ l. l.or_waits) h.level;
+      and_waits = ap (λ l. l.and_waits) h.level;
+    }
+
+    pub term_read : (filter : Filter) (t : Term) (rest : List ℕ) (new : Builder) → ReadsTerm w.bytes.now w.rest.now t rest → b.terms < 64
+        → (length (steps_of b.filter) < 127 → steps_of filter ≡ steps_of b.filter ++ record { kind = kind.Term t; nots = b.level.nots } ∷ [])
+        → ((fs : List Open) (f : Open) (u : Operand) → HoldsOperand fs f u (record { filter = filter; terms = b.terms + 1; outer = b.outer; level = b.level; has_operand = b.has_operand })
+        → length (state_steps (with_operand fs f u)) ≤ 127 → Holds (with_operand fs f u) new)
+        → (text : List ℕ) (fs : List Open) (f : Open) → IsFirstWord text w → Holds (before fs f) b → Fits (before fs f) → ReadsOn (before fs f) text rest new
+    term_read filter t rest new r few push done text fs f is h fits =
+        let u = a_term t r.args in
+        let terms = h.terms in
+        let room : length (steps_of b.filter) < 127 = omega (arith, few, terms, ap length h.steps, before_count fs f) in
+        let all = joined_terms f.nots u f.and_left in
+        let enough : length (state_steps (with_operand fs f u)) ≤ 127
+        = omega (arith, few, terms, all, after_count fs f.or_left (and_joined f.and_left (negate f.nots u))) in
+        record {
+          next = with_operand fs f u;
+          us = keyword t ∷ r.args;
+          moves = by_term fs f t r.args r.arguments (omega (arith, few, terms));
+          begins = is.begins ∙ ap (λ ws. w.bytes.now ∷ ws) r.begins ∙ ap (λ x. x ∷ (r.args ++ words rest)) (sym r.named);
+          end = end_of_end text w.rest.now is.end rest r.end;
+          holds = done fs f u (term_holds filter t r.args fs f h (push room)) enough;
+          only = λ s vs ws more m may e next.
+              let found = only_term fs f w.bytes.now s vs (r.args ++ ws) more n o m may (e ∙ ap (λ x. x ∷ (r.args ++ ws)) r.named) in
+              let same = r.only found.0 found.1 ws more found.4 found.5 found.6 found.7 next in (
+                found.2 ∙ ap (λ x. with_operand fs f (a_term x found.1)) same.0 ∙ ap (λ x. with_operand fs f (a_term t x)) same.1,
+                found.3 ∙ ap (λ x. keyword x ∷ found.1) same.0 ∙ ap (λ x. keyword t ∷ x) same.1,
+              );
+        }

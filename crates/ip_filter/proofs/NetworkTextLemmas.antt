@@ -1,0 +1,59 @@
+-- Networks, as text writes them.
+use Rattle.std.proofs.Common.{suc, Some, None}
+use Rattle.std.proofs.Math.Seq.{drop-cons}
+use Rattle.std.proofs.NetLemmas.Ipv6.{IsDotted-not_colon_hex}
+use Rattle.std.proofs.NetLemmas.Theorems.{IsIpv4Text_unique, IsIpv6Text_unique}
+use Rattle.std.specs.Net.Addr.{ipv4_bits, ipv6_bits}
+use Rattle.std.specs.Prelude.{Option}
+use Rattle.std.specs.Net.Grammar.{IsIpv4Text, IsIpv6Text}
+use Rattle.std.specs.declared.net.ipv4_addr.Ipv4Addr.{Ipv4Addr}
+use Rattle.std.specs.declared.net.ipv6_addr.Ipv6Addr.{Ipv6Addr}
+use Rattle.ip_spec.proofs.Common.{◌≡◌, ℕ, ◌<◌, ◌≤◌, ◌≢◌, List, length, take, drop, get_or, refl, sym, ap, ◌∙◌, arith, common_steps, nat_tests, drop_all}
+use Rattle.ip_filter.specs.Numbers.{slash_index, prefix_bits, IsNetworkText}
+use Rattle.ip_filter.specs.declared.network.Network.{Network}
+use Rattle.ip_filter.specs.declared.network.Network.TheVariants as network
+
+module _ (w : List ℕ) (i : ℕ) where
+  pub slash_later : i < length w → get_or w i 0 ≢ 47 → slash_index (drop i w) ≡ suc (slash_index (drop (suc i) w))
+  slash_later inside other = grind (arith, common_steps, nat_tests, drop-cons w i 0 inside)
+
+  pub slash_here : i < length w → get_or w i 0 ≡ 47 → slash_index (drop i w) ≡ 0
+  slash_here inside slash = grind (arith, common_steps, nat_tests, drop-cons w i 0 inside)
+
+  pub no_slash : length w ≤ i → slash_index (drop i w) ≡ 0
+  no_slash past = ap slash_index (drop_all i w past)
+
+-- an address of neither version
+pub no_address : (w : List ℕ) (n : Network) → IsNetworkText w n → ((a : Ipv4Addr) → ¬ (IsIpv4Text (take (slash_index w) w) a))
+    → ((a : Ipv6Addr) → ¬ (IsIpv6Text (take (slash_index w) w) a)) → ⊥
+no_address w (network.Ipv4 address len) is none4 none6 = none4 is.0 is.1
+no_address w (network.Ipv6 address len) is none4 none6 = none6 is.0 is.1
+
+-- no number of bits after an address
+pub no_ipv4_len : (w : List ℕ) (n : Network) (a : Ipv4Addr) → IsNetworkText w n → IsIpv4Text (take (slash_index w) w) a
+    → prefix_bits 32 (drop (slash_index w) w) ≡ None → ⊥
+no_ipv4_len w (network.Ipv4 address len) a is writes none = cc (sym none ∙ is.3)
+no_ipv4_len w (network.Ipv6 address len) a is writes none = IsDotted-not_colon_hex _ _ _ writes is.1
+
+pub no_ipv6_len : (w : List ℕ) (n : Network) → IsNetworkText w n → ((a : Ipv4Addr) → ¬ (IsIpv4Text (take (slash_index w) w) a))
+    → prefix_bits 128 (drop (slash_index w) w) ≡ None → ⊥
+no_ipv6_len w (network.Ipv4 address len) is none4 none = none4 is.0 is.1
+no_ipv6_len w (network.Ipv6 address len) is none4 none = cc (sym none ∙ is.3)
+
+same_bits : (a b : Option ℕ) (m n : ℕ) → a ≡ b → a ≡ Some m → b ≡ Some n → m ≡ n
+same_bits a b m n same left right = cc
+
+-- a word writes one network
+pub one_network : (w : List ℕ) (m n : Network) → IsNetworkText w m → IsNetworkText w n → m ≡ n
+one_network w (network.Ipv4 a j) (network.Ipv4 b k) p q =
+    let same = IsIpv4Text_unique _ _ _ p.1 q.1 in
+    let address : a ≡ b = p.2 ∙ ap ipv4_bits same ∙ sym q.2 in
+    let len : j ≡ k = same_bits _ _ j k refl p.3 q.3 in
+    cc
+one_network w (network.Ipv4 a j) (network.Ipv6 b k) p q = absurd (IsDotted-not_colon_hex _ _ _ p.1 q.1)
+one_network w (network.Ipv6 a j) (network.Ipv4 b k) p q = absurd (IsDotted-not_colon_hex _ _ _ q.1 p.1)
+one_network w (network.Ipv6 a j) (network.Ipv6 b k) p q =
+    let same = IsIpv6Text_unique _ _ _ p.1 q.1 in
+    let address : a ≡ b = p.2 ∙ ap ipv6_bits same ∙ sym q.2 in
+    let len : j ≡ k = same_bits _ _ j k refl p.3 q.3 in
+    cc

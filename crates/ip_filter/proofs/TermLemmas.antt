@@ -1,0 +1,390 @@
+-- Terms: the keyword determines what follows it.
+use Rattle.std.specs.Prelude.{Option}
+use Rattle.std.specs.Str.{bytes_eq}
+use Rattle.std.proofs.Common.{Some, None, IfNone, codes, IsTrue}
+use Rattle.ip_spec.proofs.Common.{◌≡◌, ℕ, List, [], ◌∷◌, ◌++◌, take, refl, sym, ap, ◌∙◌, subst, Bool, true, false, ◌||◌, ◌⊎◌, inl, inr, false≢true, cases_Bool, bytes_eq-Decides, if◌then◌else◌}
+use Rattle.ip_filter.specs.declared.term.Comparison.{Comparison}
+use Rattle.ip_filter.specs.declared.term.Term.{Term}
+use Rattle.ip_filter.specs.declared.term.Term.TheVariants as term
+use Rattle.ip_filter.specs.declared.term.FaultKind.{FaultKind}
+use Rattle.ip_filter.specs.declared.network.Network.{Network}
+use Rattle.ip_filter.specs.Words.{Word, words}
+use Rattle.ip_filter.specs.Numbers.{version_of, header_of, protocol_of, number_up_to, comparison_of, fault_kind_of, IsNetworkText}
+use Rattle.ip_filter.specs.Grammar.{keyword, AreArguments, IsOne, Finds, AreCompared, is_and, is_or}
+use Rattle.ip_filter.specs.declared.words.Word.{Word as FirstWord}
+use Rattle.ip_filter.specs.Reading.{IsFirstWord, ReadsArgument, RefusesArgument, ReadsArguments, RefusesArguments, ReadsTerm, RefusesTerm, ends_term, plain_term_of, is_number_keyword, is_count_keyword, is_network_keyword}
+use Rattle.ip_filter.proofs.NetworkTextLemmas.{one_network}
+use Rattle.ip_filter.proofs.PlaceLemmas.{whole, end_of_end, from_place, place_in_end}
+
+-- ---- arguments
+
+module _ {A : Type 0} (Writes : Word → A → Type 0) (unique : (w : Word) (a b : A) → Writes w a → Writes w b → a ≡ b) where
+  one : (text rest : List ℕ) (a : A) → ReadsArgument Writes text a rest → ReadsArguments (IsOne Writes) text a rest
+  one text rest a r = record {
+    args = r.word ∷ [];
+    begins = r.begins;
+    writes = (r.word, refl, r.writes);
+    end = r.end;
+    only = λ b us ws more writes same.
+        let head : writes.0 ≡ r.word = cc (sym (ap (λ x. x ++ more) writes.1) ∙ same) in
+        (unique r.word b a (subst (λ w. Writes w b) head writes.2) r.writes, writes.1 ∙ ap (λ w. w ∷ []) head);
+  }
+
+  not_one : (text : List ℕ) (left : ℕ) → RefusesArgument Writes text left → RefusesArguments (IsOne Writes) text left
+  not_one text left r = record {
+    before = [];
+    place = r.place;
+    none = λ b us ws more writes same next.
+        r.none writes.0 b (ap (take 1) r.place.words_before ∙ sym next ∙ ap (take 1) (sym same) ∙ ap (λ x. take 1 (x ++ more)) writes.1) writes.2;
+  }
+
+found_once : {A : Type 0} (find : Word → Option A) (w : Word) (a b : A) → Finds find w a → Finds find w b → a ≡ b
+found_once find w a b p q = cc
+
+-- a comparison and a number
+module _ (text mid : List ℕ) (c : Comparison) (first : ReadsArgument (Finds comparison_of) text c mid) where
+  pub count_read : (rest : List ℕ) (n : ℕ) → ReadsArgument (Finds (number_up_to 18446744073709551615)) mid n rest → ReadsArguments AreCompared text (c, n) rest
+  count_read rest n second = record {
+    args = first.word ∷ second.word ∷ [];
+    begins = first.begins ∙ ap (λ ws. first.word ∷ ws) second.begins;
+    writes = (first.word, second.word, refl, first.writes, second.writes);
+    end = end_of_end text mid first.end rest second.end;
+    only = λ b us ws more writes same.
+        let all : writes.0 ∷ writes.1 ∷ more ≡ first.word ∷ second.word ∷ ws = sym (ap (λ x. x ++ more) writes.2) ∙ same in
+        let o : writes.0 ≡ first.word = cc all in
+        let w : writes.1 ≡ second.word = cc all in
+        let left : b.0 ≡ c = found_once comparison_of first.word b.0 c (subst (λ x. Finds comparison_of x b.0) o writes.3) first.writes in
+        let right : b.1 ≡ n = found_once (number_up_to 18446744073709551615) second.word b.1 n (subst (λ x. Finds (number_up_to 18446744073709551615) x b.1) w writes.4) second.writes in
+        (ap (λ x. (x, b.1)) left ∙ ap (λ x. (c, x)) right, writes.2 ∙ ap (λ x. x ∷ writes.1 ∷ []) o ∙ ap (λ x. first.word ∷ x ∷ []) w);
+  }
+
+  pub no_number : (left : ℕ) → RefusesArgument (Finds (number_up_to 18446744073709551615)) mid left → RefusesArguments AreCompared text left
+  no_number left second = record {
+    before = first.word ∷ [];
+    place = place_in_end text mid first.end (first.word ∷ []) [] left first.begins second.place;
+    none = λ b us ws more writes same next.
+        let all : writes.0 ∷ writes.1 ∷ more ≡ first.word ∷ ws = sym (ap (λ x. x ++ more) writes.2) ∙ same in
+        let rest : ws ≡ writes.1 ∷ more = cc all in
+        second.none writes.1 b.1 (ap (take 1) (second.place.words_before ∙ ap words (from_place text mid first.end left second.place.within)) ∙ sym next ∙ ap (take 1) rest) writes.4;
+  }
+
+pub no_comparison : (text : List ℕ) (left : ℕ) → RefusesArgument (Finds comparison_of) text left → RefusesArguments AreCompared text left
+no_comparison text left r = record {
+  before = [];
+  place = r.place;
+  none = λ b us ws more writes same next.
+      r.none writes.0 b.0 (ap (take 1) r.place.words_before ∙ sym next ∙ ap (take 1) (sym same) ∙ ap (λ x. take 1 (x ++ more)) writes.2) writes.3;
+}
+
+-- ---- keywords
+
+-- The terms with the keyword k are those that `make` makes, and `Writes` says what follows it.
+record Named {A : Type 0} (Writes : List Word → A → Type 0) (make : A → Term) (k : Word) : Type 0 where
+  named : (a : A) → keyword (make a) ≡ k
+  spelled : (a : A) (us : List Word) → Writes us a → AreArguments us (make a)
+  inverts : (u : Term) (us : List Word) → keyword u ≡ k → AreArguments us u → (a : A) × (u ≡ make a) × Writes us a
+
+module _ {A : Type 0} (Writes : List Word → A → Type 0) (make : A → Term) (c : Word) (n : Named Writes make c) (k : Word) (is : bytes_eq k c ≡ true) where
+  same_keyword : k ≡ c
+  same_keyword = (bytes_eq-Decides k c).0 is
+
+  is_read : (text rest : List ℕ) (a : A) → ReadsArguments Writes text a rest → ReadsTerm k text (make a) rest
+  is_read text rest a r = record {
+    args = r.args;
+    begins = r.begins;
+    named = n.named a ∙ sym same_keyword;
+    arguments = n.spelled a r.args r.writes;
+    end = r.end;
+    only = λ u us ws more ku au ends same next.
+        let i = n.inverts u us (ku ∙ same_keyword) au in
+        let o = r.only i.0 us ws more i.2 same in
+        (i.1 ∙ ap make o.0, o.1);
+  }
+
+  is_refused : (text : List ℕ) (left : ℕ) → RefusesArguments Writes text left → RefusesTerm k text left
+  is_refused text left r = record {
+    before = r.before;
+    place = r.place;
+    none = λ u us ws more ku au ends same next.
+        let i = n.inverts u us (ku ∙ same_keyword) au in
+        r.none i.0 us ws more i.2 same next;
+  }
+
+-- a keyword is no other
+other : {A : Type 0} (c k : Word) → k ≡ c → bytes_eq k c ≡ false → A
+other c k e differs = absurd (false≢true (sym differs ∙ (bytes_eq-Decides k c).1 e))
+
+version_only : (u : Term) (us : List Word) → keyword u ≡ codes "version" → AreArguments us u → (a : ℕ) × (u ≡ term.Version a) × IsOne (Finds version_of) us a
+version_only (term.Version a) us e args = (a, refl, args)
+version_only u us e args = other _ _ e refl
+
+version : Named (IsOne (Finds version_of)) term.Version (codes "version")
+version = record { named = λ a. refl; spelled = λ a us w. w; inverts = version_only }
+
+header_only : (u : Term) (us : List Word) → keyword u ≡ codes "header" → AreArguments us u → (a : ℕ) × (u ≡ term.Header a) × IsOne (Finds header_of) us a
+header_only (term.Header a) us e args = (a, refl, args)
+header_only u us e args = other _ _ e refl
+
+header : Named (IsOne (Finds header_of)) term.Header (codes "header")
+header = record { named = λ a. refl; spelled = λ a us w. w; inverts = header_only }
+
+leads_to_only : (u : Term) (us : List Word) → keyword u ≡ codes "leads-to" → AreArguments us u → (a : ℕ) × (u ≡ term.LeadsTo a) × IsOne (Finds protocol_of) us a
+leads_to_only (term.LeadsTo a) us e args = (a, refl, args)
+leads_to_only u us e args = other _ _ e refl
+
+leads_to : Named (IsOne (Finds protocol_of)) term.LeadsTo (codes "leads-to")
+leads_to = record { named = λ a. refl; spelled = λ a us w. w; inverts = leads_to_only }
+
+spi_only : (u : Term) (us : List Word) → keyword u ≡ codes "spi" → AreArguments us u → (a : ℕ) × (u ≡ term.SecurityParameters a) × IsOne (Finds (number_up_to 4294967295)) us a
+spi_only (term.SecurityParameters a) us e args = (a, refl, args)
+spi_only u us e args = other _ _ e refl
+
+spi : Named (IsOne (Finds (number_up_to 4294967295))) term.SecurityParameters (codes "spi")
+spi = record { named = λ a. refl; spelled = λ a us w. w; inverts = spi_only }
+
+id_only : (u : Term) (us : List Word) → keyword u ≡ codes "id" → AreArguments us u → (a : ℕ) × (u ≡ term.Identification a) × IsOne (Finds (number_up_to 4294967295)) us a
+id_only (term.Identification a) us e args = (a, refl, args)
+id_only u us e args = other _ _ e refl
+
+id : Named (IsOne (Finds (number_up_to 4294967295))) term.Identification (codes "id")
+id = record { named = λ a. refl; spelled = λ a us w. w; inverts = id_only }
+
+headers_only : (u : Term) (us : List Word) → keyword u ≡ codes "headers" → AreArguments us u → (a : Comparison × ℕ) × (u ≡ term.Headers a.0 a.1) × AreCompared us a
+headers_only (term.Headers c n) us e args = ((c, n), refl, args)
+headers_only u us e args = other _ _ e refl
+
+headers : Named AreCompared (λ a. term.Headers a.0 a.1) (codes "headers")
+headers = record { named = λ a. refl; spelled = λ a us w. w; inverts = headers_only }
+
+chain_bytes_only : (u : Term) (us : List Word) → keyword u ≡ codes "chain-bytes" → AreArguments us u → (a : Comparison × ℕ) × (u ≡ term.ChainBytes a.0 a.1) × AreCompared us a
+chain_bytes_only (term.ChainBytes c n) us e args = ((c, n), refl, args)
+chain_bytes_only u us e args = other _ _ e refl
+
+chain_bytes : Named AreCompared (λ a. term.ChainBytes a.0 a.1) (codes "chain-bytes")
+chain_bytes = record { named = λ a. refl; spelled = λ a us w. w; inverts = chain_bytes_only }
+
+payload_only : (u : Term) (us : List Word) → keyword u ≡ codes "payload" → AreArguments us u → (a : Comparison × ℕ) × (u ≡ term.Payload a.0 a.1) × AreCompared us a
+payload_only (term.Payload c n) us e args = ((c, n), refl, args)
+payload_only u us e args = other _ _ e refl
+
+payload : Named AreCompared (λ a. term.Payload a.0 a.1) (codes "payload")
+payload = record { named = λ a. refl; spelled = λ a us w. w; inverts = payload_only }
+
+src_only : (u : Term) (us : List Word) → keyword u ≡ codes "src" → AreArguments us u → (a : Network) × (u ≡ term.Source a) × IsOne IsNetworkText us a
+src_only (term.Source a) us e args = (a, refl, args)
+src_only u us e args = other _ _ e refl
+
+src : Named (IsOne IsNetworkText) term.Source (codes "src")
+src = record { named = λ a. refl; spelled = λ a us w. w; inverts = src_only }
+
+dst_only : (u : Term) (us : List Word) → keyword u ≡ codes "dst" → AreArguments us u → (a : Network) × (u ≡ term.Destination a) × IsOne IsNetworkText us a
+dst_only (term.Destination a) us e args = (a, refl, args)
+dst_only u us e args = other _ _ e refl
+
+dst : Named (IsOne IsNetworkText) term.Destination (codes "dst")
+dst = record { named = λ a. refl; spelled = λ a us w. w; inverts = dst_only }
+
+net_only : (u : Term) (us : List Word) → keyword u ≡ codes "net" → AreArguments us u → (a : Network) × (u ≡ term.Either a) × IsOne IsNetworkText us a
+net_only (term.Either a) us e args = (a, refl, args)
+net_only u us e args = other _ _ e refl
+
+net : Named (IsOne IsNetworkText) term.Either (codes "net")
+net = record { named = λ a. refl; spelled = λ a us w. w; inverts = net_only }
+
+-- ---- `fault`, which a kind may follow
+
+or_cases : (a b : Bool) → (a || b) ≡ true → (a ≡ true) ⊎ (b ≡ true)
+or_cases true b e = inl refl
+or_cases false b e = inr e
+
+module _ (w : Word) (ws : List Word) (kind : FaultKind) (found : fault_kind_of w ≡ Some kind) where
+  no_kind : (l : Word) → fault_kind_of l ≡ None → bytes_eq w l ≡ true → ⊥
+  no_kind l none is = let same : w ≡ l = (bytes_eq-Decides w l).0 is in cc (sym found ∙ ap fault_kind_of same ∙ none)
+
+  -- it doesn't end a term
+  goes_on : IsTrue (ends_term (w ∷ ws)) → ⊥
+  goes_on e = elim (or_cases (is_and w || is_or w) (bytes_eq w (codes ")")) e) [
+    | inl a ↦ elim (or_cases (is_and w) (is_or w) a) [
+      | inl b ↦ elim (or_cases (bytes_eq w (codes "and")) (bytes_eq w (codes "&&")) b) [ inl x ↦ no_kind (codes "and") refl x | inr x ↦ no_kind (codes "&&") refl x ]
+      | inr b ↦ elim (or_cases (bytes_eq w (codes "or")) (bytes_eq w (codes "||")) b) [ inl x ↦ no_kind (codes "or") refl x | inr x ↦ no_kind (codes "||") refl x ]
+    ]
+    | inr x ↦ no_kind (codes ")") refl x
+  ]
+
+fault_only : (u : Term) (us : List Word) → keyword u ≡ codes "fault" → AreArguments us u
+    → ((u ≡ term.Fault) × (us ≡ [])) ⊎ ((kind : FaultKind) × (u ≡ term.FaultOf kind) × IsOne (Finds fault_kind_of) us kind)
+fault_only term.Fault us e args = inl (refl, args)
+fault_only (term.FaultOf kind) us e args = inr (kind, refl, args)
+fault_only u us e args = other _ _ e refl
+
+pub fault_of : (text : List ℕ) (w : FirstWord) (kind : FaultKind) → IsFirstWord text w → Some kind ≡ fault_kind_of w.bytes.now
+    → ReadsTerm (codes "fault") text (term.FaultOf kind) w.rest.now
+fault_of text w kind is found = record {
+  args = w.bytes.now ∷ [];
+  begins = is.begins;
+  named = refl;
+  arguments = (w.bytes.now, refl, sym found);
+  end = is.end;
+  only = λ u us ws more ku au ends same next. elim (fault_only u us ku au) [
+    | inl plain ↦
+        let all : more ≡ w.bytes.now ∷ ws = sym (ap (λ x. x ++ more) plain.1) ∙ same in
+        absurd (goes_on w.bytes.now ws kind (sym found) (subst (λ x. IsTrue (ends_term x)) all ends))
+    | inr f ↦
+        let head : f.2.0 ≡ w.bytes.now = cc (sym (ap (λ x. x ++ more) f.2.1) ∙ same) in
+        let again : f.0 ≡ kind = found_once fault_kind_of w.bytes.now f.0 kind (subst (λ x. Finds fault_kind_of x f.0) head f.2.2) (sym found) in
+        (f.1 ∙ ap term.FaultOf again, f.2.1 ∙ ap (λ x. x ∷ []) head)
+  ];
+}
+
+pub plain_fault : (text : List ℕ) → ((w : Word) → take 1 (words text) ≡ w ∷ [] → fault_kind_of w ≡ None) → ReadsTerm (codes "fault") text term.Fault text
+plain_fault text none = record {
+  args = [];
+  begins = refl;
+  named = refl;
+  arguments = refl;
+  end = whole text;
+  only = λ u us ws more ku au ends same next. elim (fault_only u us ku au) [
+    | inl plain ↦ plain
+    | inr f ↦
+        let head : take 1 (words text) ≡ f.2.0 ∷ [] = sym next ∙ ap (take 1) (sym same) ∙ ap (λ x. take 1 (x ++ more)) f.2.1 in
+        absurd (cc (sym f.2.2 ∙ none f.2.0 head))
+  ];
+}
+
+pub no_word_is_no_kind : (text : List ℕ) → words text ≡ [] → ReadsTerm (codes "fault") text term.Fault text
+no_word_is_no_kind text e = plain_fault text (λ w one. absurd (cc (ap (take 1) (sym e) ∙ one)))
+
+pub other_is_no_kind : (text : List ℕ) (w : FirstWord) → IsFirstWord text w → None ≡ fault_kind_of w.bytes.now → ReadsTerm (codes "fault") text term.Fault text
+other_is_no_kind text w is none = plain_fault text (λ v one. let same : v ≡ w.bytes.now = cc (sym one ∙ ap (take 1) is.begins) in ap fault_kind_of same ∙ sym none)
+
+-- ---- terms without arguments
+
+plain_inverts : (k : Word) (t u : Term) (us : List Word) → plain_term_of k ≡ Some t → keyword u ≡ k → AreArguments us u → (u ≡ t) × (us ≡ [])
+plain_inverts k t term.Fragment us e ku au = (cc (sym e ∙ ap plain_term_of (sym ku)), au)
+plain_inverts k t term.FirstFragment us e ku au = (cc (sym e ∙ ap plain_term_of (sym ku)), au)
+plain_inverts k t term.LaterFragment us e ku au = (cc (sym e ∙ ap plain_term_of (sym ku)), au)
+plain_inverts k t term.Truncated us e ku au = (cc (sym e ∙ ap plain_term_of (sym ku)), au)
+plain_inverts k t term.Incomplete us e ku au = (cc (sym e ∙ ap plain_term_of (sym ku)), au)
+plain_inverts k t u us e ku au = absurd (cc (sym e ∙ ap plain_term_of (sym ku)))
+
+module _ (k : Word) where
+  -- no term has the keyword
+  pub unknown : plain_term_of k ≡ None → bytes_eq k (codes "fault") ≡ false → is_number_keyword k ≡ false → is_count_keyword k ≡ false → is_network_keyword k ≡ false
+      → (t : Term) → keyword t ≡ k → ⊥
+  unknown p f n c w term.Fragment e = cc (sym p ∙ ap plain_term_of (sym e))
+  unknown p f n c w term.FirstFragment e = cc (sym p ∙ ap plain_term_of (sym e))
+  unknown p f n c w term.LaterFragment e = cc (sym p ∙ ap plain_term_of (sym e))
+  unknown p f n c w term.Truncated e = cc (sym p ∙ ap plain_term_of (sym e))
+  unknown p f n c w term.Incomplete e = cc (sym p ∙ ap plain_term_of (sym e))
+  unknown p f n c w term.Fault e = false≢true (sym f ∙ ap (λ x. bytes_eq x (codes "fault")) (sym e))
+  unknown p f n c w (term.FaultOf kind) e = false≢true (sym f ∙ ap (λ x. bytes_eq x (codes "fault")) (sym e))
+  unknown p f n c w (term.Headers x y) e = false≢true (sym c ∙ ap is_count_keyword (sym e))
+  unknown p f n c w (term.ChainBytes x y) e = false≢true (sym c ∙ ap is_count_keyword (sym e))
+  unknown p f n c w (term.Payload x y) e = false≢true (sym c ∙ ap is_count_keyword (sym e))
+  unknown p f n c w (term.Source x) e = false≢true (sym w ∙ ap is_network_keyword (sym e))
+  unknown p f n c w (term.Destination x) e = false≢true (sym w ∙ ap is_network_keyword (sym e))
+  unknown p f n c w (term.Either x) e = false≢true (sym w ∙ ap is_network_keyword (sym e))
+  unknown p f n c w t e = false≢true (sym n ∙ ap is_number_keyword (sym e))
+
+  module _ (t : Term) where
+    one_plain : (l : Word) (u : Term) (rest : Option Term) → keyword u ≡ l → AreArguments [] u → (rest ≡ Some t → (keyword t ≡ k) × AreArguments [] t)
+        → (if bytes_eq k l then Some u else rest) ≡ Some t → (keyword t ≡ k) × AreArguments [] t
+    one_plain l u rest named args others e = elim (cases_Bool (bytes_eq k l)) [
+      | inl is ↦
+          let same : u ≡ t = cc (sym (ap (λ b. if b then Some u else rest) is) ∙ e) in
+          (ap keyword (sym same) ∙ named ∙ sym ((bytes_eq-Decides k l).0 is), subst (AreArguments []) same args)
+      | inr isnt ↦ others (sym (ap (λ b. if b then Some u else rest) isnt) ∙ e)
+    ]
+
+    plain_named : plain_term_of k ≡ Some t → (keyword t ≡ k) × AreArguments [] t
+    plain_named =
+        one_plain (codes "fragment") term.Fragment _ refl refl
+        (one_plain (codes "first-fragment") term.FirstFragment _ refl refl
+        (one_plain (codes "later-fragment") term.LaterFragment _ refl refl
+        (one_plain (codes "truncated") term.Truncated _ refl refl
+        (one_plain (codes "incomplete") term.Incomplete _ refl refl
+        (λ none. absurd (cc none))))))
+
+  pub plain_read : (text : List ℕ) (t : Term) → Some t ≡ plain_term_of k → ReadsTerm k text t text
+  plain_read text t e = record {
+    args = [];
+    begins = refl;
+    named = (plain_named t (sym e)).0;
+    arguments = (plain_named t (sym e)).1;
+    end = whole text;
+    only = λ u us ws more ku au ends same next. plain_inverts k t u us (sym e) ku au;
+  }
+
+module _ (k : Word) (text : List ℕ) where
+  pub version_read : bytes_eq k (codes "version") ≡ true → (rest : List ℕ) (a : ℕ) → ReadsArgument (Finds version_of) text a rest → ReadsTerm k text (term.Version a) rest
+  version_read is rest a r = is_read _ _ _ version k is text rest a (one (Finds version_of) (found_once version_of) text rest a r)
+
+  pub version_refused : bytes_eq k (codes "version") ≡ true → (left : ℕ) → RefusesArgument (Finds version_of) text left → RefusesTerm k text left
+  version_refused is left r = is_refused _ _ _ version k is text left (not_one (Finds version_of) (found_once version_of) text left r)
+
+  pub header_read : bytes_eq k (codes "header") ≡ true → (rest : List ℕ) (a : ℕ) → ReadsArgument (Finds header_of) text a rest → ReadsTerm k text (term.Header a) rest
+  header_read is rest a r = is_read _ _ _ header k is text rest a (one (Finds header_of) (found_once header_of) text rest a r)
+
+  pub header_refused : bytes_eq k (codes "header") ≡ true → (left : ℕ) → RefusesArgument (Finds header_of) text left → RefusesTerm k text left
+  header_refused is left r = is_refused _ _ _ header k is text left (not_one (Finds header_of) (found_once header_of) text left r)
+
+  pub leads_to_read : bytes_eq k (codes "leads-to") ≡ true → (rest : List ℕ) (a : ℕ) → ReadsArgument (Finds protocol_of) text a rest → ReadsTerm k text (term.LeadsTo a) rest
+  leads_to_read is rest a r = is_read _ _ _ leads_to k is text rest a (one (Finds protocol_of) (found_once protocol_of) text rest a r)
+
+  pub leads_to_refused : bytes_eq k (codes "leads-to") ≡ true → (left : ℕ) → RefusesArgument (Finds protocol_of) text left → RefusesTerm k text left
+  leads_to_refused is left r = is_refused _ _ _ leads_to k is text left (not_one (Finds protocol_of) (found_once protocol_of) text left r)
+
+  pub spi_read : bytes_eq k (codes "spi") ≡ true → (rest : List ℕ) (a : ℕ) → ReadsArgument (Finds (number_up_to 4294967295)) text a rest → ReadsTerm k text (term.SecurityParameters a) rest
+  spi_read is rest a r = is_read _ _ _ spi k is text rest a (one (Finds (number_up_to 4294967295)) (found_once (number_up_to 4294967295)) text rest a r)
+
+  pub spi_refused : bytes_eq k (codes "spi") ≡ true → (left : ℕ) → RefusesArgument (Finds (number_up_to 4294967295)) text left → RefusesTerm k text left
+  spi_refused is left r = is_refused _ _ _ spi k is text left (not_one (Finds (number_up_to 4294967295)) (found_once (number_up_to 4294967295)) text left r)
+
+  pub id_read : bytes_eq k (codes "id") ≡ true → (rest : List ℕ) (a : ℕ) → ReadsArgument (Finds (number_up_to 4294967295)) text a rest → ReadsTerm k text (term.Identification a) rest
+  id_read is rest a r = is_read _ _ _ id k is text rest a (one (Finds (number_up_to 4294967295)) (found_once (number_up_to 4294967295)) text rest a r)
+
+  pub id_refused : bytes_eq k (codes "id") ≡ true → (left : ℕ) → RefusesArgument (Finds (number_up_to 4294967295)) text left → RefusesTerm k text left
+  id_refused is left r = is_refused _ _ _ id k is text left (not_one (Finds (number_up_to 4294967295)) (found_once (number_up_to 4294967295)) text left r)
+
+  pub headers_read : bytes_eq k (codes "headers") ≡ true → (rest : List ℕ) (c : Comparison) (n : ℕ) → ReadsArguments AreCompared text (c, n) rest → ReadsTerm k text (term.Headers c n) rest
+  headers_read is rest c n r = is_read _ _ _ headers k is text rest (c, n) r
+
+  pub headers_refused : bytes_eq k (codes "headers") ≡ true → (left : ℕ) → RefusesArguments AreCompared text left → RefusesTerm k text left
+  headers_refused is left r = is_refused _ _ _ headers k is text left r
+
+  pub chain_bytes_read : bytes_eq k (codes "chain-bytes") ≡ true → (rest : List ℕ) (c : Comparison) (n : ℕ) → ReadsArguments AreCompared text (c, n) rest → ReadsTerm k text (term.ChainBytes c n) rest
+  chain_bytes_read is rest c n r = is_read _ _ _ chain_bytes k is text rest (c, n) r
+
+  pub chain_bytes_refused : bytes_eq k (codes "chain-bytes") ≡ true → (left : ℕ) → RefusesArguments AreCompared text left → RefusesTerm k text left
+  chain_bytes_refused is left r = is_refused _ _ _ chain_bytes k is text left r
+
+  pub payload_read : bytes_eq k (codes "payload") ≡ true → (rest : List ℕ) (c : Comparison) (n : ℕ) → ReadsArguments AreCompared text (c, n) rest → ReadsTerm k text (term.Payload c n) rest
+  payload_read is rest c n r = is_read _ _ _ payload k is text rest (c, n) r
+
+  pub payload_refused : bytes_eq k (codes "payload") ≡ true → (left : ℕ) → RefusesArguments AreCompared text left → RefusesTerm k text left
+  payload_refused is left r = is_refused _ _ _ payload k is text left r
+
+  pub src_read : bytes_eq k (codes "src") ≡ true → (rest : List ℕ) (a : Network) → ReadsArgument IsNetworkText text a rest → ReadsTerm k text (term.Source a) rest
+  src_read is rest a r = is_read _ _ _ src k is text rest a (one IsNetworkText one_network text rest a r)
+
+  pub src_refused : bytes_eq k (codes "src") ≡ true → (left : ℕ) → RefusesArgument IsNetworkText text left → RefusesTerm k text left
+  src_refused is left r = is_refused _ _ _ src k is text left (not_one IsNetworkText one_network text left r)
+
+  pub dst_read : bytes_eq k (codes "dst") ≡ true → (rest : List ℕ) (a : Network) → ReadsArgument IsNetworkText text a rest → ReadsTerm k text (term.Destination a) rest
+  dst_read is rest a r = is_read _ _ _ dst k is text rest a (one IsNetworkText one_network text rest a r)
+
+  pub dst_refused : bytes_eq k (codes "dst") ≡ true → (left : ℕ) → RefusesArgument IsNetworkText text left → RefusesTerm k text left
+  dst_refused is left r = is_refused _ _ _ dst k is text left (not_one IsNetworkText one_network text left r)
+
+  pub net_read : bytes_eq k (codes "net") ≡ true → (rest : List ℕ) (a : Network) → ReadsArgument IsNetworkText text a rest → ReadsTerm k text (term.Either a) rest
+  net_read is rest a r = is_read _ _ _ net k is text rest a (one IsNetworkText one_network text rest a r)
+
+  pub net_refused : bytes_eq k (codes "net") ≡ true → (left : ℕ) → RefusesArgument IsNetworkText text left → RefusesTerm k text left
+  net_refused is left r = is_refused _ _ _ net k is text left (not_one IsNetworkText one_network text left r)
+
+pub at_fault : (k : Word) (text rest : List ℕ) (t : Term) → bytes_eq k (codes "fault") ≡ true → ReadsTerm (codes "fault") text t rest → ReadsTerm k text t rest
+at_fault k text rest t is = subst (λ w. ReadsTerm w text t rest) (sym ((bytes_eq-Decides k (codes "fault")).0 is))
+
+pub none_weaker : {X A B : Type 0} (r : Option X) → (A → B) → IfNone r A → IfNone r B
+none_weaker None f a = f a
+none_weaker (Some x) f a = tt

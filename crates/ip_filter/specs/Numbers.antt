@@ -1,0 +1,105 @@
+-- How a filter's text writes numbers, protocols, comparisons, kinds of fault and networks.
+use Rattle.std.specs.Prelude.{◌≡◌, ℕ, List, [], ◌∷◌, length, take, drop, Bool, false, not, ◌==◌, ◌&&◌, nat_le, nat_lt, Option, Some, None, codes, if◌then◌else◌}
+use Rattle.std.specs.List.{list_all, prefix_len}
+use Rattle.std.specs.Char.{is_digit}
+use Rattle.std.specs.Str.{bytes_eq}
+use Rattle.std.specs.Str.Parse.{digits_value}
+use Rattle.std.specs.Net.Addr.{ipv4_bits, ipv6_bits}
+use Rattle.std.specs.Net.Grammar.{IsIpv4Text, IsIpv6Text}
+use Rattle.std.specs.declared.net.ipv4_addr.Ipv4Addr.{Ipv4Addr}
+use Rattle.std.specs.declared.net.ipv6_addr.Ipv6Addr.{Ipv6Addr}
+use Rattle.ip_filter.specs.declared.network.Network.{Network}
+use Rattle.ip_filter.specs.declared.network.Network.TheVariants as network
+use Rattle.ip_filter.specs.declared.term.Comparison.{Comparison}
+use Rattle.ip_filter.specs.declared.term.Comparison.TheVariants as by
+use Rattle.ip_filter.specs.declared.term.FaultKind.{FaultKind}
+use Rattle.ip_filter.specs.declared.term.FaultKind.TheVariants as kind
+use Rattle.ip_filter.specs.Words.{Word}
+
+-- one digit or more of the radix, and nothing else
+abbrev pub is_numeral : ℕ → List ℕ → Bool
+is_numeral radix ds = nat_lt 0 (length ds) && list_all (λ c. is_digit c radix) ds
+
+abbrev pub numeral : ℕ → List ℕ → Option ℕ
+numeral radix ds = if is_numeral radix ds then Some (digits_value radix ds) else None
+
+-- a zero that other digits follow, which some programs take for octal
+abbrev pub has_leading_zero : List ℕ → Bool
+has_leading_zero [] = false
+has_leading_zero (c ∷ ds) = (c == 48) && nat_lt 0 (length ds)
+
+-- hexadecimal digits after 0x, or decimal digits
+abbrev pub number_of : Word → Option ℕ
+number_of w =
+    if bytes_eq (take 2 w) (codes "0x") then numeral 16 (drop 2 w)
+    else if has_leading_zero w then None
+    else numeral 10 w
+
+abbrev pub limited : ℕ → Option ℕ → Option ℕ
+limited most None = None
+limited most (Some n) = if nat_le n most then Some n else None
+
+-- the number that is written, if it is at most this
+abbrev pub number_up_to : ℕ → Word → Option ℕ
+number_up_to most w = limited most (number_of w)
+
+abbrev pub version_of : Word → Option ℕ
+version_of w = if bytes_eq w (codes "4") then Some 4 else if bytes_eq w (codes "6") then Some 6 else None
+
+-- an extension header, by its name or number
+abbrev pub header_of : Word → Option ℕ
+header_of w =
+    if bytes_eq w (codes "hopopt") then Some 0
+    else if bytes_eq w (codes "route") then Some 43
+    else if bytes_eq w (codes "frag") then Some 44
+    else if bytes_eq w (codes "ah") then Some 51
+    else if bytes_eq w (codes "dstopts") then Some 60
+    else number_up_to 255 w
+
+-- what follows the headers, by its name or number
+abbrev pub protocol_of : Word → Option ℕ
+protocol_of w =
+    if bytes_eq w (codes "icmp") then Some 1
+    else if bytes_eq w (codes "tcp") then Some 6
+    else if bytes_eq w (codes "udp") then Some 17
+    else if bytes_eq w (codes "esp") then Some 50
+    else if bytes_eq w (codes "icmp6") then Some 58
+    else if bytes_eq w (codes "no-next") then Some 59
+    else header_of w
+
+abbrev pub comparison_of : Word → Option Comparison
+comparison_of w =
+    if bytes_eq w (codes "=") then Some by.Equal
+    else if bytes_eq w (codes "!=") then Some by.NotEqual
+    else if bytes_eq w (codes "<") then Some by.Less
+    else if bytes_eq w (codes "<=") then Some by.AtMost
+    else if bytes_eq w (codes ">") then Some by.Greater
+    else if bytes_eq w (codes ">=") then Some by.AtLeast
+    else None
+
+abbrev pub fault_kind_of : Word → Option FaultKind
+fault_kind_of w =
+    if bytes_eq w (codes "too-short") then Some kind.TooShort
+    else if bytes_eq w (codes "not-at-start") then Some kind.HopByHopNotAtStart
+    else if bytes_eq w (codes "zero-length") then Some kind.ZeroPayloadLen
+    else if bytes_eq w (codes "unsupported-version") then Some kind.UnsupportedIpVersion
+    else if bytes_eq w (codes "header-length") then Some kind.Ipv4HeaderLength
+    else None
+
+-- how many bytes stand before the first slash
+abbrev pub slash_index : Word → ℕ
+slash_index w = prefix_len (λ c. not (c == 47)) w
+
+-- the number of bits after an address: without a slash, all of them
+abbrev pub prefix_bits : ℕ → List ℕ → Option ℕ
+prefix_bits bits [] = Some bits
+prefix_bits bits (slash ∷ digits) = number_up_to bits digits
+
+-- an address of either version (RFC 4291, section 2.2), and a slash and a number of bits or nothing
+abbrev pub IsNetworkText : Word → Network → Type 0
+IsNetworkText w (network.Ipv4 address len) =
+    (a : Ipv4Addr) × IsIpv4Text (take (slash_index w) w) a × (address ≡ ipv4_bits a)
+    × (prefix_bits 32 (drop (slash_index w) w) ≡ Some len)
+IsNetworkText w (network.Ipv6 address len) =
+    (a : Ipv6Addr) × IsIpv6Text (take (slash_index w) w) a × (address ≡ ipv6_bits a)
+    × (prefix_bits 128 (drop (slash_index w) w) ≡ Some len)

@@ -1,0 +1,201 @@
+-- How the parser puts a filter together, word by word.
+use Rattle.std.specs.Prelude.{◌≡◌, ◌≤◌, ◌<◌, ◌+◌, ℕ, suc, List, [], ◌∷◌, ◌++◌, length, take, drop, Bool, true, false, Option, Some, None, is_some, ⊤, ◌-◌, ◌^◌, IsTrue, codes}
+use Rattle.std.specs.Option.{option_map_or}
+use Rattle.ip_filter.specs.declared.filter.StepKind.TheVariants as kind
+use Rattle.ip_filter.specs.declared.filter.Step.{Step}
+use Rattle.ip_filter.specs.declared.filter.Filter.{Filter}
+use Rattle.ip_filter.specs.declared.builder.Level.{Level}
+use Rattle.ip_filter.specs.declared.builder.Builder.{Builder}
+use Rattle.ip_filter.specs.declared.term.Term.{Term}
+use Rattle.ip_filter.specs.Words.{Word, words}
+use Rattle.ip_filter.specs.Formula.{steps_of}
+use Rattle.ip_filter.specs.Grammar.{Operand, Conjunction, Disjunction, a_term, a_negation, a_group, an_operand, an_and, a_conjunction, an_or, keyword, AreArguments, is_not, is_and, is_or, conjunction_words, filter_words, operand_terms, conjunction_terms, terms_in}
+use Rattle.ip_filter.specs.Reading.{ends_term, IsEnd, IsPlace}
+
+-- ---- the parts that are read
+
+-- What was read since the text or a group began: a disjunction and its `or`, a conjunction and its `and`, and words `not`.
+pub record Open : Type 0 where
+  pub or_left : Option (Disjunction × Word)
+  pub and_left : Option (Conjunction × Word)
+  pub nots : List Word
+
+abbrev pub nothing : Open
+nothing = record { or_left = None; and_left = None; nots = [] }
+
+-- Open groups, the innermost first, and what was read in the last one: an operand follows, or a conjunction was read.
+pub data State : Type 0 where
+  before : List Open → Open → State
+  after : List Open → Option (Disjunction × Word) → Conjunction → State
+
+abbrev pub negate : List Word → Operand → Operand
+negate [] u = u
+negate (w ∷ ws) u = a_negation w (negate ws u)
+
+abbrev pub and_joined : Option (Conjunction × Word) → Operand → Conjunction
+and_joined None u = an_operand u
+and_joined (Some p) u = an_and p.0 p.1 u
+
+abbrev pub or_joined : Option (Disjunction × Word) → Conjunction → Disjunction
+or_joined None c = a_conjunction c
+or_joined (Some p) c = an_or p.0 p.1 c
+
+-- an operand was read
+abbrev pub with_operand : List Open → Open → Operand → State
+with_operand fs f u = after fs f.or_left (and_joined f.and_left (negate f.nots u))
+
+-- how many terms were read
+abbrev pub open_terms : Open → ℕ
+open_terms f = option_map_or (λ p. terms_in p.0) f.or_left 0 + option_map_or (λ p. conjunction_terms p.0) f.and_left 0
+
+abbrev pub group_terms : List Open → ℕ
+group_terms [] = 0
+group_terms (f ∷ fs) = group_terms fs + open_terms f
+
+abbrev pub state_terms : State → ℕ
+state_terms (before fs f) = group_terms fs + open_terms f
+state_terms (after fs o c) = group_terms fs + option_map_or (λ p. terms_in p.0) o 0 + conjunction_terms c
+
+-- the words that were read
+abbrev pub open_words : Open → List Word
+open_words f = option_map_or (λ p. filter_words p.0 ++ p.1 ∷ []) f.or_left [] ++ option_map_or (λ p. conjunction_words p.0 ++ p.1 ∷ []) f.and_left [] ++ f.nots
+
+abbrev pub group_words : List Open → List Word
+group_words [] = []
+group_words (f ∷ fs) = group_words fs ++ open_words f ++ codes "(" ∷ []
+
+abbrev pub state_words : State → List Word
+state_words (before fs f) = group_words fs ++ open_words f
+state_words (after fs o c) = group_words fs ++ option_map_or (λ p. filter_words p.0 ++ p.1 ∷ []) o [] ++ conjunction_words c
+
+-- no count is too large
+pub record Fits (s : State) : Type 0 where
+  pub terms : state_terms s ≤ 64
+  pub words : length (state_words s) < 2 ^ 63
+
+-- The words lead from one state to the next.
+pub data Moves : State → List Word → State → Type 0 where
+  by_not : (fs : List Open) (f : Open) (w : Word) → IsTrue (is_not w) → Moves (before fs f) (w ∷ []) (before fs (record f { nots = f.nots ++ w ∷ [] }))
+  by_open : (fs : List Open) (f : Open) → length fs < 16 → Moves (before fs f) (codes "(" ∷ []) (before (f ∷ fs) nothing)
+  by_term : (fs : List Open) (f : Open) (t : Term) (us : List Word) → AreArguments us t → group_terms fs + open_terms f < 64
+      → Moves (before fs f) (keyword t ∷ us) (with_operand fs f (a_term t us))
+  by_and : (fs : List Open) (o : Option (Disjunction × Word)) (c : Conjunction) (w : Word) → IsTrue (is_and w)
+      → Moves (after fs o c) (w ∷ []) (before fs (record { or_left = o; and_left = Some (c, w); nots = [] }))
+  by_or : (fs : List Open) (o : Option (Disjunction × Word)) (c : Conjunction) (w : Word) → IsTrue (is_or w)
+      → Moves (after fs o c) (w ∷ []) (before fs (record { or_left = Some (or_joined o c, w); and_left = None; nots = [] }))
+  by_close : (fs : List Open) (f : Open) (o : Option (Disjunction × Word)) (c : Conjunction)
+      → Moves (after (f ∷ fs) o c) (codes ")" ∷ []) (with_operand fs f (a_group (or_joined o c)))
+
+-- what may follow a state
+abbrev pub may_follow : State → List Word → Type 0
+may_follow (before fs f) ws = ⊤
+may_follow (after fs o c) ws = IsTrue (ends_term ws)
+
+-- From the state, the words lead to the whole filter d.
+pub data LeadsTo : State → List Word → Disjunction → Type 0 where
+  ends : (o : Option (Disjunction × Word)) (c : Conjunction) → LeadsTo (after [] o c) [] (or_joined o c)
+  goes_on : (s t : State) (us ws all : List Word) (d : Disjunction) → all ≡ us ++ ws → Moves s us t → may_follow t ws → LeadsTo t ws d → LeadsTo s all d
+
+-- ---- the steps of the parts
+
+abbrev mutual
+  pub operand_steps : ℕ → Operand → List Step
+  operand_steps k (a_term t us) = record { kind = kind.Term t; nots = k } ∷ []
+  operand_steps k (a_negation w u) = operand_steps (suc k) u
+  operand_steps k (a_group d) = filter_steps k d
+
+  pub conjunction_steps : ℕ → Conjunction → List Step
+  conjunction_steps k (an_operand u) = operand_steps k u
+  conjunction_steps k (an_and c w u) = conjunction_steps 0 c ++ operand_steps 0 u ++ record { kind = kind.And; nots = k } ∷ []
+
+  pub filter_steps : ℕ → Disjunction → List Step
+  filter_steps k (a_conjunction c) = conjunction_steps k c
+  filter_steps k (an_or d w c) = filter_steps 0 d ++ conjunction_steps 0 c ++ record { kind = kind.Or; nots = k } ∷ []
+
+abbrev pub or_steps : Option (Disjunction × Word) → List Step
+or_steps None = []
+or_steps (Some p) = filter_steps 0 p.0
+
+abbrev pub and_steps : Option (Conjunction × Word) → List Step
+and_steps None = []
+and_steps (Some p) = conjunction_steps 0 p.0
+
+abbrev pub group_steps : List Open → List Step
+group_steps [] = []
+group_steps (f ∷ fs) = group_steps fs ++ or_steps f.or_left ++ and_steps f.and_left
+
+abbrev pub state_steps : State → List Step
+state_steps (before fs f) = group_steps fs ++ or_steps f.or_left ++ and_steps f.and_left
+state_steps (after fs o c) = group_steps fs ++ or_steps o ++ conjunction_steps 0 c
+
+-- ---- the parser's values
+
+abbrev pub level_of : Open → Level
+level_of f = record { nots = length f.nots; or_waits = is_some f.or_left; and_waits = is_some f.and_left }
+
+abbrev pub levels_of : List Open → List Level
+levels_of [] = []
+levels_of (f ∷ fs) = levels_of fs ++ level_of f ∷ []
+
+abbrev pub outer_of : State → List Level
+outer_of (before fs f) = levels_of fs
+outer_of (after fs o c) = levels_of fs
+
+abbrev pub last_level : State → Level
+last_level (before fs f) = level_of f
+last_level (after fs o c) = record { nots = 0; or_waits = is_some o; and_waits = false }
+
+abbrev pub has_operand : State → Bool
+has_operand (before fs f) = false
+has_operand (after fs o c) = true
+
+-- b holds what was read before the operand u, and the steps of u
+pub record HoldsOperand (fs : List Open) (f : Open) (u : Operand) (b : Builder) : Type 0 where
+  pub steps : steps_of b.filter ≡ group_steps fs ++ or_steps f.or_left ++ and_steps f.and_left ++ operand_steps (length f.nots) u
+  pub terms : b.terms ≡ group_terms fs + open_terms f + operand_terms u
+  pub outer : b.outer.items ≡ levels_of fs
+  pub or_waits : b.level.or_waits ≡ is_some f.or_left
+  pub and_waits : b.level.and_waits ≡ is_some f.and_left
+
+-- b holds what was read in a group before its end, but for the level around the group
+pub record HoldsGroup (fs : List Open) (f : Open) (o : Option (Disjunction × Word)) (c : Conjunction) (level : Level) (b : Builder) : Type 0 where
+  pub steps : steps_of b.filter ≡ state_steps (after (f ∷ fs) o c)
+  pub terms : b.terms ≡ state_terms (after (f ∷ fs) o c)
+  pub outer : b.outer.items ≡ levels_of fs
+  pub around : level ≡ level_of f
+  pub or_waits : b.level.or_waits ≡ is_some o
+
+-- b holds what was read in the state s
+pub record Holds (s : State) (b : Builder) : Type 0 where
+  pub steps : steps_of b.filter ≡ state_steps s
+  pub terms : b.terms ≡ state_terms s
+  pub outer : b.outer.items ≡ outer_of s
+  pub level : b.level ≡ last_level s
+  pub operand : b.has_operand ≡ has_operand s
+
+-- ---- what is read next
+
+-- From the state s, the first words of the text lead to one next state, which b holds, and `rest` follows them. Other words
+-- that begin like these, up to the next one, lead nowhere else.
+pub record ReadsOn (s : State) (text rest : List ℕ) (b : Builder) : Type 0 where
+  pub next : State
+  pub us : List Word
+  pub moves : Moves s us next
+  pub begins : words text ≡ us ++ words rest
+  pub end : IsEnd text rest
+  pub holds : Holds next b
+  pub only : (t : State) (vs ws more : List Word) → Moves s vs t → may_follow t more → vs ++ more ≡ us ++ ws → take 1 ws ≡ take 1 (words rest) → (t ≡ next) × (vs ≡ us)
+
+-- From the state s, no words lead on that begin like those of the text, up to that at the place `left`.
+pub record RefusesFrom (s : State) (text : List ℕ) (left : ℕ) : Type 0 where
+  pub front : List Word
+  pub place : IsPlace text front left
+  pub none : (t : State) (vs ws more : List Word) → Moves s vs t → may_follow t more → vs ++ more ≡ front ++ ws
+      → take 1 ws ≡ take 1 (words (drop (length text - left) text)) → ⊥
+
+-- The state is that of a whole filter, of which x has the steps.
+pub record IsFinished (s : State) (x : Filter) : Type 0 where
+  pub or_left : Option (Disjunction × Word)
+  pub last : Conjunction
+  pub whole : s ≡ after [] or_left last
+  pub steps : steps_of x ≡ filter_steps 0 (or_joined or_left last)

@@ -1,0 +1,100 @@
+-- What is read of a text, and where it is refused.
+use Rattle.std.specs.Prelude.{◌≡◌, ◌≤◌, ◌<◌, ◌-◌, ℕ, List, [], ◌∷◌, ◌++◌, length, take, drop, slice_index, Bool, true, false, ◌||◌, Option, Some, None, if◌then◌else◌, IsTrue, codes}
+use Rattle.std.specs.Str.{bytes_eq}
+use Rattle.ip_filter.specs.declared.words.Word.{Word as FirstWord}
+use Rattle.ip_filter.specs.declared.term.Term.{Term}
+use Rattle.ip_filter.specs.declared.term.Term.TheVariants as term
+use Rattle.ip_filter.specs.Words.{Word, words, is_space}
+use Rattle.ip_filter.specs.Grammar.{keyword, AreArguments, is_and, is_or}
+
+-- `rest` is the end of the text
+abbrev pub IsEnd : List ℕ → List ℕ → Type 0
+IsEnd text rest = (length rest ≤ length text) × (rest ≡ drop (length text - length rest) text)
+
+-- A word begins `left` bytes before the end of the text, or the text ends there. The words `before` precede it.
+pub record IsPlace (text : List ℕ) (before : List Word) (left : ℕ) : Type 0 where
+  pub within : left ≤ length text
+  pub words_before : words text ≡ before ++ words (drop (length text - left) text)
+  pub begins : 0 < left → is_space (slice_index text (length text - left)) ≡ false
+
+-- w is the first word of the text.
+pub record IsFirstWord (text : List ℕ) (w : FirstWord) : Type 0 where
+  pub begins : words text ≡ w.bytes.now ∷ words w.rest.now
+  pub place : IsPlace text [] w.left
+  pub end : IsEnd text w.rest.now
+
+-- The text begins with a word that writes a, and `rest` follows it.
+pub record ReadsArgument {A : Type 0} (Writes : Word → A → Type 0) (text : List ℕ) (a : A) (rest : List ℕ) : Type 0 where
+  pub word : Word
+  pub begins : words text ≡ word ∷ words rest
+  pub writes : Writes word a
+  pub end : IsEnd text rest
+
+-- The text has no first word, or it writes nothing. It begins `left` bytes before the end.
+pub record RefusesArgument {A : Type 0} (Writes : Word → A → Type 0) (text : List ℕ) (left : ℕ) : Type 0 where
+  pub place : IsPlace text [] left
+  pub none : (w : Word) (a : A) → take 1 (words text) ≡ w ∷ [] → Writes w a → ⊥
+
+-- The text begins with words that write a, and `rest` follows them. Words that write something and begin like these, up
+-- to the word after them, are these.
+pub record ReadsArguments {A : Type 0} (Writes : List Word → A → Type 0) (text : List ℕ) (a : A) (rest : List ℕ) : Type 0 where
+  pub args : List Word
+  pub begins : words text ≡ args ++ words rest
+  pub writes : Writes args a
+  pub end : IsEnd text rest
+  pub only : (b : A) (us ws more : List Word) → Writes us b → us ++ more ≡ args ++ ws → (b ≡ a) × (us ≡ args)
+
+-- No words that write something begin like those of the text, up to that at the place `left`, or end there.
+pub record RefusesArguments {A : Type 0} (Writes : List Word → A → Type 0) (text : List ℕ) (left : ℕ) : Type 0 where
+  pub before : List Word
+  pub place : IsPlace text before left
+  pub none : (b : A) (us ws more : List Word) → Writes us b → us ++ more ≡ before ++ ws
+      → take 1 ws ≡ take 1 (words (drop (length text - left) text)) → ⊥
+
+-- what may follow a term: nothing, `and`, `or` or `)`
+abbrev pub ends_term : List Word → Bool
+ends_term [] = true
+ends_term (w ∷ ws) = is_and w || is_or w || bytes_eq w (codes ")")
+
+-- After the keyword k, the text begins with the arguments of the term, and `rest` follows them. No other term has the
+-- keyword and these words, whatever follows the next one.
+pub record ReadsTerm (k : Word) (text : List ℕ) (t : Term) (rest : List ℕ) : Type 0 where
+  pub args : List Word
+  pub begins : words text ≡ args ++ words rest
+  pub named : keyword t ≡ k
+  pub arguments : AreArguments args t
+  pub end : IsEnd text rest
+  pub only : (u : Term) (us ws more : List Word) → keyword u ≡ k → AreArguments us u → IsTrue (ends_term more)
+      → us ++ more ≡ args ++ ws → take 1 ws ≡ take 1 (words rest) → (u ≡ t) × (us ≡ args)
+
+-- No term has the keyword k and the first words of the text, up to that at the place `left`, or none there.
+pub record RefusesTerm (k : Word) (text : List ℕ) (left : ℕ) : Type 0 where
+  pub before : List Word
+  pub place : IsPlace text before left
+  pub none : (u : Term) (us ws more : List Word) → keyword u ≡ k → AreArguments us u → IsTrue (ends_term more)
+      → us ++ more ≡ before ++ ws → take 1 ws ≡ take 1 (words (drop (length text - left) text)) → ⊥
+
+-- ---- keywords by what follows them
+
+-- the term with the keyword that takes no arguments
+abbrev pub plain_term_of : Word → Option Term
+plain_term_of k =
+    if bytes_eq k (codes "fragment") then Some term.Fragment
+    else if bytes_eq k (codes "first-fragment") then Some term.FirstFragment
+    else if bytes_eq k (codes "later-fragment") then Some term.LaterFragment
+    else if bytes_eq k (codes "truncated") then Some term.Truncated
+    else if bytes_eq k (codes "incomplete") then Some term.Incomplete
+    else None
+
+-- a number or a name
+abbrev pub is_number_keyword : Word → Bool
+is_number_keyword k =
+    bytes_eq k (codes "version") || bytes_eq k (codes "header") || bytes_eq k (codes "leads-to") || bytes_eq k (codes "spi") || bytes_eq k (codes "id")
+
+-- a comparison and a number
+abbrev pub is_count_keyword : Word → Bool
+is_count_keyword k = bytes_eq k (codes "headers") || bytes_eq k (codes "chain-bytes") || bytes_eq k (codes "payload")
+
+-- a network
+abbrev pub is_network_keyword : Word → Bool
+is_network_keyword k = bytes_eq k (codes "src") || bytes_eq k (codes "dst") || bytes_eq k (codes "net")

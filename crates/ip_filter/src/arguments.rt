@@ -1,0 +1,131 @@
+//! The words after the keyword of a term.
+ghost use Rattle.std.specs.Prelude.{◌≡◌, IfOk, IfErr};
+ghost use Rattle.ip_filter.specs.Words.{words};
+ghost use Rattle.ip_filter.specs.Numbers.{number_up_to, version_of, header_of, protocol_of, comparison_of, fault_kind_of, IsNetworkText};
+ghost use Rattle.ip_filter.specs.Grammar.{Finds};
+ghost use Rattle.ip_filter.specs.Reading.{ReadsArgument, RefusesArgument};
+
+use crate::networks::parse_network;
+use crate::numbers::{parse_comparison, parse_header, parse_number, parse_protocol, parse_version};
+use crate::words::{Word, first_word};
+use crate::{Comparison, Expected, Network};
+
+/// What is wrong in a text.
+#[derive(Clone, Copy)]
+pub struct Unexpected {
+    /// How many bytes there are from the word that isn't expected to the end of the text; 0 if a word is missing.
+    pub left: usize,
+    /// What is expected there.
+    pub expected: Expected,
+}
+
+impl Unexpected {
+    /// Returns the error that something is missing at the end of the text.
+    pub fn missing(expected: Expected) -> Unexpected
+        ensures { result.left ≡ 0 }
+    {
+        Unexpected { left: 0, expected }
+    }
+}
+
+impl Word<'_> {
+    /// Returns the error that something else is expected in place of this word.
+    pub fn unexpected(&self, expected: Expected) -> Unexpected
+        ensures { result.left ≡ self.now.left }
+    {
+        Unexpected {
+            left: self.left,
+            expected,
+        }
+    }
+}
+
+/// Reads an IP version.
+pub fn read_version(text: &[u8]) -> Result<(u8, &[u8]), Unexpected>
+    ensures ok { IfOk result (λ r. ReadsArgument (Finds version_of) text.now r.0 r.1.now) }
+    ensures err { IfErr result (λ e. RefusesArgument (Finds version_of) text.now e.left) }
+{
+    let word = match first_word(text) {
+        Some(word) => word,
+        None => return Err(Unexpected::missing(Expected::Version)),
+    };
+    match parse_version(word.bytes) {
+        Some(version) => Ok((version, word.rest)),
+        None => Err(word.unexpected(Expected::Version)),
+    }
+}
+
+/// Reads the name or number of an extension header.
+pub fn read_header(text: &[u8]) -> Result<(u8, &[u8]), Unexpected>
+    ensures ok { IfOk result (λ r. ReadsArgument (Finds header_of) text.now r.0 r.1.now) }
+    ensures err { IfErr result (λ e. RefusesArgument (Finds header_of) text.now e.left) }
+{
+    let word = match first_word(text) {
+        Some(word) => word,
+        None => return Err(Unexpected::missing(Expected::Header)),
+    };
+    match parse_header(word.bytes) {
+        Some(number) => Ok((number, word.rest)),
+        None => Err(word.unexpected(Expected::Header)),
+    }
+}
+
+/// Reads the name or number of a protocol.
+pub fn read_protocol(text: &[u8]) -> Result<(u8, &[u8]), Unexpected>
+    ensures ok { IfOk result (λ r. ReadsArgument (Finds protocol_of) text.now r.0 r.1.now) }
+    ensures err { IfErr result (λ e. RefusesArgument (Finds protocol_of) text.now e.left) }
+{
+    let word = match first_word(text) {
+        Some(word) => word,
+        None => return Err(Unexpected::missing(Expected::Protocol)),
+    };
+    match parse_protocol(word.bytes) {
+        Some(number) => Ok((number, word.rest)),
+        None => Err(word.unexpected(Expected::Protocol)),
+    }
+}
+
+/// Reads a number of at most `most`.
+pub fn read_number(text: &[u8], most: u64, expected: Expected) -> Result<(u64, &[u8]), Unexpected>
+    ensures ok { IfOk result (λ r. ReadsArgument (Finds (number_up_to most)) text.now r.0 r.1.now) }
+    ensures err { IfErr result (λ e. RefusesArgument (Finds (number_up_to most)) text.now e.left) }
+{
+    let word = match first_word(text) {
+        Some(word) => word,
+        None => return Err(Unexpected::missing(expected)),
+    };
+    match parse_number(word.bytes, most) {
+        Some(number) => Ok((number, word.rest)),
+        None => Err(word.unexpected(expected)),
+    }
+}
+
+/// Reads a comparison.
+pub fn read_comparison(text: &[u8]) -> Result<(Comparison, &[u8]), Unexpected>
+    ensures ok { IfOk result (λ r. ReadsArgument (Finds comparison_of) text.now r.0 r.1.now) }
+    ensures err { IfErr result (λ e. RefusesArgument (Finds comparison_of) text.now e.left) }
+{
+    let word = match first_word(text) {
+        Some(word) => word,
+        None => return Err(Unexpected::missing(Expected::Comparison)),
+    };
+    match parse_comparison(word.bytes) {
+        Some(comparison) => Ok((comparison, word.rest)),
+        None => Err(word.unexpected(Expected::Comparison)),
+    }
+}
+
+/// Reads a network.
+pub fn read_network(text: &[u8]) -> Result<(Network, &[u8]), Unexpected>
+    ensures ok { IfOk result (λ r. ReadsArgument IsNetworkText text.now r.0 r.1.now) }
+    ensures err { IfErr result (λ e. RefusesArgument IsNetworkText text.now e.left) }
+{
+    let word = match first_word(text) {
+        Some(word) => word,
+        None => return Err(Unexpected::missing(Expected::Network)),
+    };
+    match parse_network(word.bytes) {
+        Some(network) => Ok((network, word.rest)),
+        None => Err(word.unexpected(Expected::Network)),
+    }
+}

@@ -1,0 +1,255 @@
+//! A filter while its text is read, from left to right.
+ghost use Rattle.std.specs.Prelude.{◌≡◌, ◌<◌, ◌≤◌, ◌+◌, ◌^◌, ℕ, Option, List, [], ◌∷◌, ◌++◌, length, true, false, codes, if◌then◌else◌, IfOk, IfErr};
+ghost use Rattle.arrayvec.specs.ArrayVec.{array_vec_len};
+ghost use Rattle.ip_filter.specs.Formula.{steps_of};
+ghost use Rattle.ip_filter.specs.declared.filter.StepKind.{StepKind as TheStepKind};
+ghost use Rattle.ip_filter.specs.declared.filter.StepKind.TheVariants.{Or};
+ghost use Rattle.ip_filter.specs.declared.filter.Step.{Step as TheStep};
+ghost use Rattle.ip_filter.specs.Grammar.{Operand, Conjunction, Disjunction, a_group, is_not, is_and, is_or};
+ghost use Rattle.ip_filter.specs.Words.{Word as Text};
+ghost use Rattle.ip_filter.specs.Reading.{IsFirstWord};
+ghost use Rattle.ip_filter.specs.Parsing.{Open, State, before, after, nothing, with_operand, or_joined, state_steps, Fits, Holds, HoldsOperand, HoldsGroup, IsFinished, ReadsOn, RefusesFrom};
+
+use crate::arguments::Unexpected;
+use crate::parse_term::read_term;
+use crate::words::Word;
+use crate::{Expected, Filter, Step, StepKind};
+use arrayvec::ArrayVec;
+
+/// The most terms of a filter.
+const MAX_TERMS: usize = 64;
+
+/// The text or an open group: what waits for the next operand there.
+#[derive(Clone, Copy, Default)]
+pub struct Level {
+    /// How many words `not` precede it.
+    pub nots: u64,
+    /// Whether an `or` does, after its left operand.
+    pub or_waits: bool,
+    /// Whether an `and` does, after its left operand.
+    pub and_waits: bool,
+}
+
+/// A filter while its text is read.
+#[derive(Drop)]
+pub struct Builder {
+    /// The steps so far.
+    pub filter: Filter,
+    /// How many terms there are.
+    pub terms: usize,
+    /// The levels around the last one, the innermost last.
+    pub outer: ArrayVec<Level, 16>,
+    /// The last level.
+    pub level: Level,
+    /// Whether an operand was just read.
+    pub has_operand: bool,
+}
+
+impl Builder {
+    /// Returns the start of a filter.
+    pub fn new() -> Builder
+        ensures { Holds (before [] nothing) result }
+    {
+        Builder {
+            filter: Filter {
+                steps: [Step {
+                    kind: StepKind::And,
+                    nots: 0,
+                }; 127],
+                count: 0,
+            },
+            terms: 0,
+            outer: ArrayVec::new(),
+            level: Level::default(),
+            has_operand: false,
+        }
+    }
+
+    /// Reads on from the word, and returns the text after what was read.
+    pub fn read<'a>(&mut self, word: Word<'a>) -> Result<&'a [u8], Unexpected>
+        ensures ok { IfOk result (λ rest. (text : List ℕ) (s : State) → IsFirstWord text word.entry
+            → Holds s self.old → Fits s → ReadsOn s text rest.now self.new) }
+        ensures err { IfErr result (λ e. (text : List ℕ) (s : State) → IsFirstWord text word.entry
+            → Holds s self.old → RefusesFrom s text e.left) }
+    {
+        if self.has_operand {
+            self.read_operator(word)
+        } else {
+            self.read_operand(word)
+        }
+    }
+
+    /// Reads an operand, or a word that may precede one.
+    fn read_operand<'a>(&mut self, word: Word<'a>) -> Result<&'a [u8], Unexpected>
+        ensures ok { IfOk result (λ rest. (text : List ℕ) (fs : List Open) (f : Open)
+            → IsFirstWord text word.entry → Holds (before fs f) self.old → Fits (before fs f)
+            → ReadsOn (before fs f) text rest.now self.new) }
+        ensures err { IfErr result (λ e. (text : List ℕ) (fs : List Open) (f : Open)
+            → IsFirstWord text word.entry → Holds (before fs f) self.old
+            → RefusesFrom (before fs f) text e.left) }
+    {
+        if is_not(word.bytes) {
+            self.level.nots = self.level.nots.saturating_add(1);
+            return Ok(word.rest);
+        }
+        if word.bytes == b"(".as_slice() {
+            if self.outer.is_full() {
+                return Err(word.unexpected(Expected::LessNesting));
+            }
+            self.outer.push(self.level);
+            self.level = Level::default();
+            return Ok(word.rest);
+        }
+        match read_term(word.bytes, word.rest) {
+            Some(Ok((term, rest))) => {
+                if self.terms >= MAX_TERMS {
+                    return Err(word.unexpected(Expected::FewerTerms));
+                }
+                push(&mut self.filter, StepKind::Term(term), self.level.nots);
+                self.terms += 1;
+                self.end_operand();
+                Ok(rest)
+            }
+            Some(Err(unexpected)) => Err(unexpected),
+            None => Err(word.unexpected(Expected::Operand)),
+        }
+    }
+
+    /// Reads an operator, or the end of a group.
+    fn read_operator<'a>(&mut self, word: Word<'a>) -> Result<&'a [u8], Unexpected>
+        ensures ok { IfOk result (λ rest. (text : List ℕ) (fs : List Open) (o : Option (Disjunction × Text)) (c : Conjunction)
+            → IsFirstWord text word.entry → Holds (after fs o c) self.old → Fits (after fs o c)
+            → ReadsOn (after fs o c) text rest.now self.new) }
+        ensures err { IfErr result (λ e. (text : List ℕ) (fs : List Open) (o : Option (Disjunction × Text)) (c : Conjunction)
+            → IsFirstWord text word.entry → Holds (after fs o c) self.old
+            → RefusesFrom (after fs o c) text e.left) }
+    {
+        if is_and(word.bytes) {
+            self.level.and_waits = true;
+            self.has_operand = false;
+            return Ok(word.rest);
+        }
+        if is_or(word.bytes) {
+            push_or(&mut self.filter, self.level.or_waits);
+            self.level.or_waits = true;
+            self.has_operand = false;
+            return Ok(word.rest);
+        }
+        if word.bytes == b")".as_slice() {
+            return match self.outer.pop() {
+                Some(outer) => {
+                    self.close(outer);
+                    Ok(word.rest)
+                }
+                None => Err(word.unexpected(Expected::OperatorOrEnd)),
+            };
+        }
+        if self.outer.is_empty() {
+            return Err(word.unexpected(Expected::OperatorOrEnd));
+        }
+        Err(word.unexpected(Expected::OperatorOrClose))
+    }
+
+    /// Closes the last group: its formula is an operand in the level around it.
+    fn close(&mut self, outer: Level)
+        ensures { (fs : List Open) (f : Open) (o : Option (Disjunction × Text)) (c : Conjunction)
+            → HoldsGroup fs f o c outer self.old → Fits (after (f ∷ fs) o c)
+            → Holds (with_operand fs f (a_group (or_joined o c))) self.new }
+    {
+        push_or(&mut self.filter, self.level.or_waits);
+        negate_last(&mut self.filter, outer.nots);
+        self.level = outer;
+        self.end_operand();
+    }
+
+    /// Joins the operand whose steps are the last ones to what waits for it.
+    fn end_operand(&mut self)
+        ensures { (fs : List Open) (f : Open) (u : Operand) → HoldsOperand fs f u self.old
+            → length (state_steps (with_operand fs f u)) ≤ 127 → Holds (with_operand fs f u) self.new }
+    {
+        if self.level.and_waits {
+            push(&mut self.filter, StepKind::And, 0);
+        }
+        self.level.nots = 0;
+        self.level.and_waits = false;
+        self.has_operand = true;
+    }
+}
+
+impl Builder {
+    /// Returns the filter at the end of its text, or what is missing there.
+    pub fn finish(mut self) -> Result<Filter, Expected>
+        ensures ok { IfOk result (λ x. (s : State) → Holds s self → Fits s → IsFinished s x) }
+        ensures err { IfErr result (λ e. (o : Option (Disjunction × Text)) (c : Conjunction)
+            → Holds (after [] o c) self → ⊥) }
+    {
+        if !self.has_operand {
+            return Err(Expected::Operand);
+        }
+        if !self.outer.is_empty() {
+            return Err(Expected::OperatorOrClose);
+        }
+        push_or(&mut self.filter, self.level.or_waits);
+        Ok(self.filter)
+    }
+}
+
+/// Appends a step to a filter with fewer than 127.
+fn push(filter: &mut Filter, kind: StepKind, nots: u64)
+    ensures { length (steps_of filter.old) < 127
+        → steps_of filter.new ≡ steps_of filter.old ++ record { kind = kind; nots = nots } ∷ [] }
+{
+    let count = usize::from(filter.count);
+    if count < filter.steps.len() {
+        filter.steps[count] = Step { kind, nots };
+        filter.count += 1;
+    }
+}
+
+/// Negates the last step of a filter more often.
+fn negate_last(filter: &mut Filter, nots: u64)
+    ensures { (front : List TheStep) (x : TheStepKind) (k : ℕ)
+        → steps_of filter.old ≡ front ++ record { kind = x; nots = k } ∷ [] → k + nots < 2 ^ 64
+        → steps_of filter.new ≡ front ++ record { kind = x; nots = k + nots } ∷ [] }
+{
+    let count = usize::from(filter.count).min(filter.steps.len());
+    if count > 0 {
+        let last = filter.steps[count - 1];
+        filter.steps[count - 1] = Step {
+            kind: last.kind,
+            nots: last.nots.saturating_add(nots),
+        };
+    }
+}
+
+/// Appends an `or` to a filter if it has a left operand.
+fn push_or(filter: &mut Filter, waits: bool)
+    ensures step { waits ≡ true → length (steps_of filter.old) < 127
+        → steps_of filter.new ≡ steps_of filter.old ++ record { kind = Or; nots = 0 } ∷ [] }
+    ensures none { waits ≡ false → filter.new ≡ filter.old }
+{
+    if waits {
+        push(filter, StepKind::Or, 0);
+    }
+}
+
+/// Returns whether the word is `not`.
+fn is_not(word: &[u8]) -> bool
+    ensures { result ≡ is_not word.now }
+{
+    word == b"not".as_slice() || word == b"!".as_slice()
+}
+
+/// Returns whether the word is `and`.
+fn is_and(word: &[u8]) -> bool
+    ensures { result ≡ is_and word.now }
+{
+    word == b"and".as_slice() || word == b"&&".as_slice()
+}
+
+/// Returns whether the word is `or`.
+fn is_or(word: &[u8]) -> bool
+    ensures { result ≡ is_or word.now }
+{
+    word == b"or".as_slice() || word == b"||".as_slice()
+}

@@ -1,0 +1,136 @@
+//! Numbers, names and networks, as a filter's text writes them.
+ghost use Rattle.std.specs.Prelude.{◌≡◌, ◌≤◌, ◌-◌, ◌^◌, true};
+ghost use Rattle.ip_filter.specs.Numbers.{numeral, limited, number_up_to, version_of, header_of, protocol_of, comparison_of, fault_kind_of};
+
+use crate::{Comparison, FaultKind};
+
+/// Returns the number that the digits write, or `None` if they aren't digits or it doesn't fit 64 bits.
+fn parse_digits(digits: &[u8], radix: u32) -> Option<u64>
+    requires low { 2 ≤ radix }
+    requires high { radix ≤ 16 }
+    ensures { result ≡ limited (2 ^ 64 - 1) (numeral radix digits.now) }
+{
+    if digits.is_empty() {
+        return None;
+    }
+    let mut number = 0u64;
+    'digits: for byte in digits {
+        let digit = char::from(*byte).to_digit(radix)?;
+        number = number
+            .checked_mul(u64::from(radix))?
+            .checked_add(u64::from(digit))?;
+    }
+    Some(number)
+}
+
+/// Returns the number that the word writes, if it is at most `most`.
+pub fn parse_number(word: &[u8], most: u64) -> Option<u64>
+    ensures { result ≡ number_up_to most word.now }
+{
+    let number = match word {
+        [b'0', b'x', digits @ ..] => parse_digits(digits, 16)?,
+        [b'0', _, ..] => return None,
+        _ => parse_digits(word, 10)?,
+    };
+    if number <= most { Some(number) } else { None }
+}
+
+/// Returns the IP version that the word writes.
+pub fn parse_version(word: &[u8]) -> Option<u8>
+    ensures { result ≡ version_of word.now }
+{
+    if word == b"4".as_slice() {
+        return Some(4);
+    }
+    if word == b"6".as_slice() {
+        return Some(6);
+    }
+    None
+}
+
+/// Returns the number of the extension header that the word names.
+pub fn parse_header(word: &[u8]) -> Option<u8>
+    ensures { result ≡ header_of word.now }
+{
+    if word == b"hopopt".as_slice() {
+        return Some(0);
+    }
+    if word == b"route".as_slice() {
+        return Some(43);
+    }
+    if word == b"frag".as_slice() {
+        return Some(44);
+    }
+    if word == b"ah".as_slice() {
+        return Some(51);
+    }
+    if word == b"dstopts".as_slice() {
+        return Some(60);
+    }
+    match parse_number(word, 255) {
+        Some(number) => Some(number as u8),
+        None => None,
+    }
+}
+
+/// Returns the number of the protocol or extension header that the word names.
+pub fn parse_protocol(word: &[u8]) -> Option<u8>
+    ensures { result ≡ protocol_of word.now }
+{
+    if word == b"icmp".as_slice() {
+        return Some(1);
+    }
+    if word == b"tcp".as_slice() {
+        return Some(6);
+    }
+    if word == b"udp".as_slice() {
+        return Some(17);
+    }
+    if word == b"esp".as_slice() {
+        return Some(50);
+    }
+    if word == b"icmp6".as_slice() {
+        return Some(58);
+    }
+    if word == b"no-next".as_slice() {
+        return Some(59);
+    }
+    parse_header(word)
+}
+
+/// Returns the comparison that the word writes.
+pub fn parse_comparison(word: &[u8]) -> Option<Comparison>
+    ensures { result ≡ comparison_of word.now }
+{
+    match word {
+        b"=" => Some(Comparison::Equal),
+        b"!=" => Some(Comparison::NotEqual),
+        b"<" => Some(Comparison::Less),
+        b"<=" => Some(Comparison::AtMost),
+        b">" => Some(Comparison::Greater),
+        b">=" => Some(Comparison::AtLeast),
+        _ => None,
+    }
+}
+
+/// Returns the kind of fault that the word names.
+pub fn parse_fault_kind(word: &[u8]) -> Option<FaultKind>
+    ensures { result ≡ fault_kind_of word.now }
+{
+    if word == b"too-short".as_slice() {
+        return Some(FaultKind::TooShort);
+    }
+    if word == b"not-at-start".as_slice() {
+        return Some(FaultKind::HopByHopNotAtStart);
+    }
+    if word == b"zero-length".as_slice() {
+        return Some(FaultKind::ZeroPayloadLen);
+    }
+    if word == b"unsupported-version".as_slice() {
+        return Some(FaultKind::UnsupportedIpVersion);
+    }
+    if word == b"header-length".as_slice() {
+        return Some(FaultKind::Ipv4HeaderLength);
+    }
+    None
+}

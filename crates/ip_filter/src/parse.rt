@@ -1,0 +1,41 @@
+//! Parses the text of a filter.
+ghost use Rattle.std.specs.Prelude.{◌≡◌, IfOk, IfErr};
+ghost use Rattle.ip_filter.specs.Parsed.{IsParsed, IsFirstError};
+
+use crate::builder::Builder;
+use crate::words::first_word;
+use crate::{Filter, ParseError};
+
+impl Filter {
+    /// Parses the text of a filter.
+    ///
+    /// The terms are those of `Term`, and `not`, `and` and `or` join them, or `!`, `&&` and `||`; `not` binds most
+    /// tightly, then `and`. Parentheses group. White space separates words where signs don't. The error says what was
+    /// expected at the first word with which no filter goes on. At most 64 terms and 16 levels of parentheses are
+    /// accepted.
+    pub fn parse(text: &[u8]) -> Result<Filter, ParseError>
+        ensures ok { IfOk result (IsParsed text.now) }
+        ensures err { IfErr result (λ e. IsFirstError text.now e.offset) }
+    {
+        let mut builder = Builder::new();
+        let mut rest = text;
+        'words: while let Some(word) = first_word(rest) {
+            match builder.read(word) {
+                Ok(after) => rest = after,
+                Err(error) => {
+                    return Err(ParseError {
+                        offset: text.len() - error.left,
+                        expected: error.expected,
+                    });
+                }
+            }
+        }
+        match builder.finish() {
+            Ok(filter) => Ok(filter),
+            Err(expected) => Err(ParseError {
+                offset: text.len(),
+                expected,
+            }),
+        }
+    }
+}

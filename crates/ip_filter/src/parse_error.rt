@@ -1,0 +1,52 @@
+use thiserror::Error;
+
+/// What the text of a filter needs at some place.
+#[derive(Clone, Copy, Debug, PartialEq, Eq, Error)]
+pub enum Expected {
+    /// A term, or what may precede one.
+    #[error("a term, `not` or `(`")]
+    Operand,
+    /// An operator, or the end of the text.
+    #[error("`and`, `or` or the end")]
+    OperatorOrEnd,
+    /// An operator, or the end of a group.
+    #[error("`and`, `or` or `)`")]
+    OperatorOrClose,
+    /// An IP version.
+    #[error("4 or 6")]
+    Version,
+    /// An extension header.
+    #[error("a number from 0 to 255, `hopopt`, `route`, `frag`, `ah` or `dstopts`")]
+    Header,
+    /// A protocol or an extension header.
+    #[error("a number from 0 to 255 or the name of a protocol")]
+    Protocol,
+    /// A comparison.
+    #[error("`=`, `!=`, `<`, `<=`, `>` or `>=`")]
+    Comparison,
+    /// A number that is compared with.
+    #[error("a number from 0 to 18446744073709551615")]
+    Count,
+    /// A security parameters index or an identification.
+    #[error("a number from 0 to 4294967295")]
+    Number,
+    /// A network.
+    #[error("an address or a prefix")]
+    Network,
+    /// There are 64 terms already.
+    #[error("no more than 64 terms")]
+    FewerTerms,
+    /// There are 16 open parentheses already.
+    #[error("no more than 16 levels of parentheses")]
+    LessNesting,
+}
+
+/// The text is no filter.
+#[derive(Clone, Copy, Debug, PartialEq, Eq, Error)]
+#[error("expected {expected} at byte {offset}")]
+pub struct ParseError {
+    /// Where the first word begins with which no filter goes on, in bytes from the start of the text; its end if a word is missing.
+    pub offset: usize,
+    /// What is expected there.
+    pub expected: Expected,
+}

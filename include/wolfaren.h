@@ -15,9 +15,10 @@
  *  - The library has no state and allocates no memory, so any thread may make any call at any time.
  *
  * The library needs memcpy, memmove and memset, and nothing else. It is compiled for x86-64-v2 (SSE4.2) and the System
- * V calling convention. It uses SSE registers, the red zone below the stack pointer, and less than 1 KB of stack. A
- * kernel must therefore save the SSE registers around calls, and must not take an interrupt on the same stack. For
- * ARM64 it is compiled for ARMv8-A, the AAPCS64 calling convention and little-endian data, and may use vector registers.
+ * V calling convention. It uses SSE registers, the red zone below the stack pointer, and less than 1 KB of stack, except
+ * for wolfaren_parse_filter, which uses 80 KB. A kernel must therefore save the SSE registers around calls, and must not
+ * take an interrupt on the same stack. For ARM64 it is compiled for ARMv8-A, the AAPCS64 calling convention and
+ * little-endian data, and may use vector registers.
  */
 #ifndef WOLFAREN_H
 #define WOLFAREN_H
@@ -34,7 +35,7 @@
 #define WOLFAREN_VERSION (10000 * WOLFAREN_VERSION_MAJOR + 100 * WOLFAREN_VERSION_MINOR + WOLFAREN_VERSION_PATCH)
 
 /* A checksum of the structs, codes and calls in this header, made by scripts/abi of the repository. */
-#define WOLFAREN_ABI 0xb86e4f52u
+#define WOLFAREN_ABI 0xfc8089c3u
 
 #if !(defined(__x86_64__) && !defined(__ILP32__)) && !defined(_M_X64) && !defined(__aarch64__) && !defined(_M_ARM64)
 #error "libwolfaren needs a 64-bit machine: x86-64 or ARM64"
@@ -256,6 +257,83 @@ struct wolfaren_dissection {
 void wolfaren_dissect(const uint8_t *bytes, size_t len, struct wolfaren_header *headers, size_t room,
                       struct wolfaren_dissection *dissection) WOLFAREN_NONNULL(5);
 
+/* The version of struct wolfaren_statistics: other versions have other counts. */
+#define WOLFAREN_STATISTICS_VERSION 1
+
+/*
+ * Statistics of packets. Each count stops at UINT64_MAX. Packets may be counted apart, by threads or machines and in any
+ * order: wolfaren_merge_statistics then returns the statistics of all of them. Any contents are valid input.
+ *
+ * Each packet is counted once in `packets`, once in the three counts by version, and once in the four counts by why its
+ * headers end. A packet that starts with an IP header has a chain, possibly of no headers, and is counted once in
+ * `chain_headers` and once in `chain_bytes`. The payload of a later fragment continues that of an earlier one, so its
+ * protocol number is counted in `later_fragment_numbers`. A fault or a truncated header counts no payload.
+ */
+struct wolfaren_statistics {
+    uint32_t version;                     /* WOLFAREN_STATISTICS_VERSION */
+    uint32_t size;                        /* sizeof(struct wolfaren_statistics) */
+    uint64_t other_frames;                /* frames without an IP packet, by wolfaren_count_other_frame */
+    uint64_t truncated_frames;            /* frames truncated by the snap length, by wolfaren_count_truncated_frame */
+    uint64_t packets;                     /* packets that were counted */
+    uint64_t without_header;              /* packets that don't start with a complete IP header of version 4 or 6 */
+    uint64_t ipv4;                        /* packets with an IPv4 header */
+    uint64_t ipv6;                        /* packets with an IPv6 header */
+    uint64_t at_payload;                  /* packets whose headers end at WOLFAREN_AT_PAYLOAD */
+    uint64_t at_later_fragment;           /* .. at WOLFAREN_AT_LATER_FRAGMENT */
+    uint64_t at_truncated_header;         /* .. at WOLFAREN_AT_TRUNCATED_HEADER */
+    uint64_t at_fault;                    /* .. at WOLFAREN_AT_FAULT */
+    uint64_t atomic_fragments;            /* packets that are WOLFAREN_ATOMIC_FRAGMENT: whole packets */
+    uint64_t first_fragments;             /* .. WOLFAREN_FIRST_FRAGMENT */
+    uint64_t middle_fragments;            /* .. WOLFAREN_MIDDLE_FRAGMENT */
+    uint64_t last_fragments;              /* .. WOLFAREN_LAST_FRAGMENT */
+    uint64_t incomplete;                  /* packets of which stated bytes are missing */
+    uint64_t payload_bytes;               /* payload bytes that were present, except after a fault or truncated header */
+    uint64_t chain_headers[17];           /* chains by their number of headers; the last element: 16 or more */
+    uint64_t chain_bytes[73];             /* chains by their length: see wolfaren_least_chain_bytes */
+    uint64_t headers[256];                /* extension headers by protocol number */
+    uint64_t payload_numbers[256];        /* packets at WOLFAREN_AT_PAYLOAD by `payload_number` */
+    uint64_t later_fragment_numbers[256]; /* packets at WOLFAREN_AT_LATER_FRAGMENT by `payload_number` */
+    uint64_t truncated_headers[16];       /* truncated headers by layer: WOLFAREN_IP_HEADER .. */
+    uint64_t faults[8][16];               /* faults by kind and layer: WOLFAREN_TOO_SHORT .., WOLFAREN_IP_HEADER .. */
+};
+
+/*
+ * Returns the least length in bytes of the chains that element i of `chain_bytes` counts, for i from 0 to 72: each
+ * multiple of 4 below 256 has an element, and then each power of two. The last element counts chains of 65,536 bytes or
+ * more.
+ */
+static inline uint32_t wolfaren_least_chain_bytes(uint32_t i)
+{
+    return i < 64 ? 4 * i : (uint32_t)1 << (i - 56);
+}
+
+/* Sets all counts to 0, and `version` and `size` to their values. */
+void wolfaren_init_statistics(struct wolfaren_statistics *statistics) WOLFAREN_NONNULL(1);
+
+/*
+ * Counts the packet at the start of the `len` bytes, which may be any bytes, as wolfaren_dissect dissects it.
+ *
+ * The layer of a fault or of a truncated header is `header` of struct wolfaren_fault or, if that is WOLFAREN_NO_LAYER,
+ * `layer`. If both are, it is WOLFAREN_IP_HEADER for WOLFAREN_UNSUPPORTED_IP_VERSION, WOLFAREN_IPV4_HEADER for
+ * WOLFAREN_IPV4_HEADER_LENGTH, and WOLFAREN_AUTHENTICATION_HEADER for WOLFAREN_ZERO_PAYLOAD_LEN.
+ */
+void wolfaren_count_packet(struct wolfaren_statistics *statistics, const uint8_t *bytes, size_t len)
+    WOLFAREN_NONNULL(1);
+
+/* Counts a frame that has no IP packet, which the caller knows from the link layer, in `other_frames`. */
+void wolfaren_count_other_frame(struct wolfaren_statistics *statistics) WOLFAREN_NONNULL(1);
+
+/* Counts a frame that the snap length truncated, of any content and in addition to its packet, in `truncated_frames`. */
+void wolfaren_count_truncated_frame(struct wolfaren_statistics *statistics) WOLFAREN_NONNULL(1);
+
+/*
+ * Adds the counts of `from` to those of `into`, and returns true. Statistics may be merged in any order. If `version` or
+ * `size` of either isn't what wolfaren_init_statistics sets, returns false and changes nothing.
+ */
+WOLFAREN_USE_RESULT
+bool wolfaren_merge_statistics(struct wolfaren_statistics *into, const struct wolfaren_statistics *from)
+    WOLFAREN_NONNULL(1, 2);
+
 /* A packet: the IP header, then the extension headers, then the payload. */
 struct wolfaren_packet {
     size_t base_len;         /* length of the IP header in bytes: the extension headers begin at this offset */
@@ -396,6 +474,134 @@ bool wolfaren_write_headers(const uint8_t *bytes, size_t len, const struct wolfa
  */
 size_t wolfaren_fault_text(const struct wolfaren_fault *fault, char *text, size_t room) WOLFAREN_NONNULL(1);
 
+/* The greatest number of steps that a filter uses: 64 terms, and an operator between each two. */
+#define WOLFAREN_FILTER_STEPS 127
+
+/* What a step of a filter does: adds the truth of a term, or joins the last two values. */
+enum wolfaren_step_kind {
+    WOLFAREN_STEP_VERSION = 1,         /* the packet has an IP header of version `number` */
+    WOLFAREN_STEP_HEADER = 2,          /* an extension header has the protocol number `number` */
+    WOLFAREN_STEP_LEADS_TO = 3,        /* the protocol number `number` follows the headers */
+    WOLFAREN_STEP_FRAGMENT = 4,        /* the packet is a fragment, but not an atomic one */
+    WOLFAREN_STEP_FIRST_FRAGMENT = 5,  /* the packet is a first fragment */
+    WOLFAREN_STEP_LATER_FRAGMENT = 6,  /* the packet is a middle or last fragment */
+    WOLFAREN_STEP_TRUNCATED = 7,       /* a header is truncated */
+    WOLFAREN_STEP_INCOMPLETE = 8,      /* bytes of the stated length are missing */
+    WOLFAREN_STEP_FAULT = 9,           /* a header is faulty */
+    WOLFAREN_STEP_FAULT_OF_KIND = 10,  /* a header is faulty, with an error of kind `number`: WOLFAREN_TOO_SHORT .. */
+    WOLFAREN_STEP_HEADERS = 11,        /* the number of extension headers compares so with `number` */
+    WOLFAREN_STEP_CHAIN_BYTES = 12,    /* the length of the extension headers in bytes compares so with `number` */
+    WOLFAREN_STEP_PAYLOAD = 13,        /* the number of payload bytes that are present compares so with `number` */
+    WOLFAREN_STEP_SPI = 14,            /* an authentication header has the security parameters index `number` */
+    WOLFAREN_STEP_IDENTIFICATION = 15, /* the fragment's identification is `number` */
+    WOLFAREN_STEP_SOURCE = 16,         /* the source address is in the network */
+    WOLFAREN_STEP_DESTINATION = 17,    /* the destination address is in the network */
+    WOLFAREN_STEP_EITHER = 18,         /* the source or the destination address is in the network */
+    WOLFAREN_STEP_AND = 19,            /* both values are true */
+    WOLFAREN_STEP_OR = 20              /* at least one value is true */
+};
+
+/* How a count compares with a number. */
+enum wolfaren_comparison {
+    WOLFAREN_EQUAL = 1,
+    WOLFAREN_NOT_EQUAL = 2,
+    WOLFAREN_LESS = 3,
+    WOLFAREN_AT_MOST = 4,
+    WOLFAREN_GREATER = 5,
+    WOLFAREN_AT_LEAST = 6
+};
+
+/* A step of a filter. Fields that its kind doesn't use are ignored. */
+struct wolfaren_filter_step {
+    uint64_t nots;         /* how many times the value is then negated */
+    uint64_t number;       /* the number of a term, or what a count is compared with */
+    uint64_t address_high; /* bytes 0 to 7 of an IPv6 network's address, as a big-endian number */
+    uint64_t address_low;  /* bytes 8 to 15 of it, or the address of an IPv4 network */
+    uint8_t kind;          /* WOLFAREN_STEP_VERSION .. */
+    uint8_t comparison;    /* WOLFAREN_EQUAL .. */
+    uint8_t version;       /* IP version of a network's address: 4 or 6 */
+    uint8_t prefix_len;    /* how many bits of a network's address count */
+};
+
+/*
+ * A filter in postfix order: each operator follows its operands. wolfaren_parse_filter makes one from a text. It is plain
+ * data, which a program may copy, store and modify. Any contents are valid: steps after the first `count` or after the
+ * first WOLFAREN_FILTER_STEPS don't count, an operator without two operands does nothing, and no packet meets a term
+ * with an unknown code or with a number that is too large for it. A filter without terms matches nothing.
+ */
+struct wolfaren_filter {
+    size_t count;                                             /* number of steps */
+    struct wolfaren_filter_step steps[WOLFAREN_FILTER_STEPS]; /* the steps, of which the first `count` are used */
+};
+
+/* What the text of a filter needs; wolfaren_expected_text says it in words. */
+enum wolfaren_expected {
+    WOLFAREN_EXPECTED_OPERAND = 1,            /* a term, `not` or `(` */
+    WOLFAREN_EXPECTED_OPERATOR_OR_END = 2,    /* `and`, `or` or the end */
+    WOLFAREN_EXPECTED_OPERATOR_OR_CLOSE = 3,  /* `and`, `or` or `)` */
+    WOLFAREN_EXPECTED_VERSION = 4,            /* 4 or 6 */
+    WOLFAREN_EXPECTED_HEADER = 5,             /* the number or name of an extension header */
+    WOLFAREN_EXPECTED_PROTOCOL = 6,           /* the number or name of a protocol */
+    WOLFAREN_EXPECTED_COMPARISON = 7,         /* `=`, `!=`, `<`, `<=`, `>` or `>=` */
+    WOLFAREN_EXPECTED_COUNT = 8,              /* a number of 64 bits */
+    WOLFAREN_EXPECTED_NUMBER = 9,             /* a number of 32 bits */
+    WOLFAREN_EXPECTED_NETWORK = 10,           /* an address or a prefix */
+    WOLFAREN_EXPECTED_FEWER_TERMS = 11,       /* no more than 64 terms */
+    WOLFAREN_EXPECTED_LESS_NESTING = 12       /* no more than 16 levels of parentheses */
+};
+
+/* Where the text of a filter is wrong. */
+struct wolfaren_filter_error {
+    size_t offset;    /* offset of the first word that can't be there, in bytes; the length of the text if it is too short */
+    uint8_t expected; /* what is expected there: WOLFAREN_EXPECTED_OPERAND .. */
+};
+
+/*
+ * Parses the text of a filter, which has `len` bytes and no terminating null byte. It consists of the terms below, joined
+ * by `not`, `and` and `or`, or `!`, `&&` and `||`, and of parentheses. `not` binds most tightly, then `and`. White space
+ * separates words. There may be up to 64 terms and 16 levels of parentheses.
+ *
+ *   version 4|6                          the IP version
+ *   header N                             an extension header: 0 to 255, hopopt, route, frag, ah or dstopts
+ *   leads-to N                           the protocol after the headers: as above, or icmp, tcp, udp, esp, icmp6, no-next
+ *   fragment, first-fragment, later-fragment
+ *   truncated, incomplete
+ *   fault, fault KIND                    KIND is too-short, not-at-start, zero-length, unsupported-version or
+ *                                        header-length
+ *   headers OP N, chain-bytes OP N, payload OP N       OP is =, !=, <, <=, > or >=
+ *   spi N, id N
+ *   src NET, dst NET, net NET            NET is an IPv4 or IPv6 address, alone or with a slash and a number of bits
+ *
+ * Numbers are decimal, or hexadecimal after 0x. On success, returns true and fills in `filter`; `error` is left unchanged.
+ * On error, returns false and stores in `error` what is expected where; `filter` is left unchanged.
+ */
+WOLFAREN_USE_RESULT
+bool wolfaren_parse_filter(const char *text, size_t len, struct wolfaren_filter *filter,
+                           struct wolfaren_filter_error *error) WOLFAREN_NONNULL(3, 4);
+
+/*
+ * Formats what the text of a filter needs, such as "`and`, `or` or the end", from its code: writes the words and a
+ * terminating null byte to `text`, which has `room` bytes; WOLFAREN_TEXT_ROOM is enough. Returns the length of the words
+ * in bytes, without the null byte. If the return value is `room` or more, nothing is written. Returns 0 for an unknown
+ * code.
+ */
+size_t wolfaren_expected_text(uint8_t expected, char *text, size_t room);
+
+/*
+ * Returns whether the filter matches the packet at the start of the `len` bytes, which may be any bytes, as
+ * wolfaren_dissect does. Nothing after the packet matters.
+ */
+WOLFAREN_USE_RESULT
+bool wolfaren_filter_matches(const struct wolfaren_filter *filter, const uint8_t *bytes, size_t len)
+    WOLFAREN_NONNULL(1);
+
+/*
+ * Returns whether the filter matches a frame that isn't IP, such as an ARP request: no term holds of it, so it matches
+ * `not fault`.
+ */
+WOLFAREN_USE_RESULT
+bool wolfaren_filter_matches_other(const struct wolfaren_filter *filter) WOLFAREN_NONNULL(1);
+
 /* A name of a code: ASCII with a terminating null byte, in the library's constant data. */
 struct wolfaren_name {
     const char *text; /* valid as long as the library is loaded; never null */
@@ -461,10 +667,14 @@ WOLFAREN_LAYOUT(wolfaren_header, 24, next_header, 17);
 WOLFAREN_LAYOUT(wolfaren_chain, 56, fragmented, 52);
 WOLFAREN_LAYOUT(wolfaren_cursor, 16, number, 8);
 WOLFAREN_LAYOUT(wolfaren_dissection, 104, end, 102);
+WOLFAREN_LAYOUT(wolfaren_statistics, 8152, faults, 7128);
 WOLFAREN_LAYOUT(wolfaren_packet, 40, len_source, 38);
 WOLFAREN_LAYOUT(wolfaren_payload, 32, len_source, 30);
 WOLFAREN_LAYOUT(wolfaren_fragment, 8, next_header, 7);
 WOLFAREN_LAYOUT(wolfaren_authentication, 24, next_header, 16);
+WOLFAREN_LAYOUT(wolfaren_filter_step, 40, prefix_len, 35);
+WOLFAREN_LAYOUT(wolfaren_filter, 5088, steps, 8);
+WOLFAREN_LAYOUT(wolfaren_filter_error, 16, expected, 8);
 WOLFAREN_LAYOUT(wolfaren_name, 16, size, 8);
 #undef WOLFAREN_LAYOUT
 #endif

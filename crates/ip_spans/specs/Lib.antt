@@ -9,3 +9,4 @@ pub mod HeaderFields
 pub mod LinkedSpans
 pub mod InPlaces
 pub mod Written
+pub mod FilterNumbers

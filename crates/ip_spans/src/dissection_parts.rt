@@ -177,9 +177,9 @@ impl DissectionParts {
     }
 }
 
-/// Returns the code of a kind of fragment.
+/// Returns the code of a kind of fragment: 1 atomic, 2 first, 3 middle, 4 last.
 #[inline(always)]
-fn kind_code_of(kind: FragmentKind) -> u16
+pub fn kind_code_of(kind: FragmentKind) -> u16
     ensures { result ≡ kind_code kind }
 {
     match kind {
@@ -190,9 +190,9 @@ fn kind_code_of(kind: FragmentKind) -> u16
     }
 }
 
-/// Returns the code of an end.
+/// Returns the code of an end: 0 at the payload, 1 at that of a later fragment, 2 truncated, 3 faulty.
 #[inline(always)]
-fn end_code_of(end: &End) -> u16
+pub fn end_code_of(end: &End) -> u16
     ensures { result ≡ end_code end.now }
 {
     match end {

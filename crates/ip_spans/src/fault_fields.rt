@@ -238,9 +238,9 @@ impl FaultFields {
         }
     }
 
-    /// Returns the fields of the error at the end of a dissection.
+    /// Returns the fields of the error at the end of a dissection; those of no error if it ends without one.
     #[inline(always)]
-    pub(crate) fn of_end(end: &End) -> FaultFields
+    pub fn of_end(end: &End) -> FaultFields
         ensures { result ≡ end_fields end.now }
     {
         match end {

@@ -1,6 +1,7 @@
 ghost use Rattle.std.specs.Prelude.{◌≡◌, ◌≤◌, ◌<◌, ◌+◌, drop, length, slice_index};
 
 use crate::fault_fields::{FaultFields, kind, layer_of, len_source_of};
+use crate::filter_parse::expected_of;
 use arrayvec::ArrayString;
 use etherparse_ip::LenSource;
 use etherparse_ip::err::{Layer, LenError, ip, ip_auth, ipv6_exts};
@@ -23,6 +24,36 @@ pub fn fault_text(fault: &FaultFields, text: &mut [u8]) -> usize
     if push_words(fault, &mut words).is_err() {
         words.clear();
     }
+    put_words(&words, text)
+}
+
+/// Formats what the text of a filter needs, by its code in `FilterError`, as text at the front of `text`, followed by a 0
+/// byte. Returns the text's length in bytes, at most 255. If the text and the 0 don't fit, `text` is unchanged. An unknown
+/// code has an empty text.
+pub fn expected_text(expected: u8, text: &mut [u8]) -> usize
+    ensures most { result ≤ 255 }
+    ensures end { result < length text.old → slice_index text.new result ≡ 0 }
+    ensures after { drop (result + 1) text.new ≡ drop (result + 1) text.old }
+    ensures refused { length text.old ≤ result → text.new ≡ text.old }
+    ensures len { length text.new ≡ length text.old }
+{
+    let mut words = ArrayString::<TEXT_LEN>::new();
+    if let Some(expected) = expected_of(expected) {
+        if write!(words, "{expected}").is_err() {
+            words.clear();
+        }
+    }
+    put_words(&words, text)
+}
+
+/// Writes the words at the front of `text`, followed by a 0 byte, if both fit. Returns the length of the words.
+fn put_words(words: &ArrayString<TEXT_LEN>, text: &mut [u8]) -> usize
+    ensures most { result ≤ 255 }
+    ensures end { result < length text.old → slice_index text.new result ≡ 0 }
+    ensures after { drop (result + 1) text.new ≡ drop (result + 1) text.old }
+    ensures refused { length text.old ≤ result → text.new ≡ text.old }
+    ensures len { length text.new ≡ length text.old }
+{
     let len = words.len();
     if len < text.len() {
         text[..len].copy_from_slice(words.as_bytes());

@@ -6,8 +6,10 @@
 mod bytes;
 mod chains;
 mod faults;
+mod filters;
 mod headers;
 mod names;
 mod packets;
+mod statistics;
 mod version;
 mod writes;

@@ -1,0 +1,5 @@
+pub mod CountLemmas
+pub mod LengthLemmas
+pub mod HeaderLemmas
+pub mod MergeLemmas
+pub mod StepLemmas

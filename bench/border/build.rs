@@ -22,6 +22,9 @@ fn main() {
     println!("cargo:rustc-link-search=native={}", out.display());
     println!("cargo:rustc-link-lib=static=shift");
     println!("cargo:rustc-link-lib=static=walk");
+    if env::var_os("CARGO_FEATURE_LIBPCAP").is_some() {
+        println!("cargo:rustc-link-lib=pcap");
+    }
 }
 
 /// Compiles one file to a static library with the given name.

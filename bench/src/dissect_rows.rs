@@ -1,4 +1,5 @@
-//! The rows of dissections as a filter reads them, compared with the original and with our own search for the payload.
+//! The rows of dissections as a filter reads them, compared with the original and with our own search for the payload,
+//! and of a filter with one term, compared with the dissection.
 //! No packet is a later fragment, so all sides find the same payload.
 use crate::inputs::{self, Sides};
 use crate::original_slices::{self, IpPlace};
@@ -14,7 +15,7 @@ struct Form {
     is_against_ours: bool,
 }
 
-const FORMS: [Form; 3] = [
+const FORMS: [Form; 4] = [
     Form {
         name: "dissect",
         ours: ours::ipexts_dissect_packets,
@@ -31,6 +32,12 @@ const FORMS: [Form; 3] = [
         name: "outline_packet against find_payload",
         ours: ours::ipexts_outline_packets,
         other: ours::ipexts_find_payload_packets,
+        is_against_ours: true,
+    },
+    Form {
+        name: "header 44 against dissect",
+        ours: ours::ipexts_filter_packets,
+        other: ours::ipexts_fragmented_packets,
         is_against_ours: true,
     },
 ];

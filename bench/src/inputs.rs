@@ -95,6 +95,18 @@ impl Packets {
         changed
     }
 
+    /// Returns the packets that pass the test.
+    #[allow(dead_code)] // Only border/ leaves packets out.
+    pub fn kept(&self, test: impl Fn(&[u8]) -> bool) -> Packets {
+        let mut kept = Packets::default();
+        for (packet, chain_len) in self.each().into_iter().zip(&self.chain_lens) {
+            if test(packet) {
+                kept.push(packet, *chain_len);
+            }
+        }
+        kept
+    }
+
     /// Converts the packets to the layout of the original.
     fn for_the_original(&self) -> Packets {
         self.changed(|packet, _, _| fragment_bits::packet(packet, to_the_original))

@@ -202,6 +202,14 @@ unsafe extern "C" {
         ends: *const usize,
         count: usize,
     ) -> u64;
+    pub fn ipexts_filter_packets(p: *const u8, len: usize, ends: *const usize, count: usize)
+        -> u64;
+    pub fn ipexts_fragmented_packets(
+        p: *const u8,
+        len: usize,
+        ends: *const usize,
+        count: usize,
+    ) -> u64;
 
     pub fn ipexts_raw_read(bytes: *const u8, len: usize, at: usize) -> u64;
     pub fn ipexts_raw_read_limited(bytes: *const u8, len: usize, at: usize) -> u64;

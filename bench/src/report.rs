@@ -60,6 +60,11 @@ const OWN_GOALS: &[(&str, &str, f64)] = &[
     ("C, dissect against", "", 1.10),
     ("dissect against find_payload", "", 1.10),
     ("outline_packet against find_payload", "", 1.10),
+    ("header 44 against dissect", "in a header", 2.60),
+    ("header 44 against dissect", "header beyond", 2.60),
+    ("header 44 against dissect", "late hop by hop", 2.60),
+    ("header 44 against dissect", "", 1.25),
+    ("C, header 44 against dissect", "", 1.25),
     ("the tool", "", 1.10),
 ];
 

@@ -1,10 +1,12 @@
-//! Compares the results of this project with those of etherparse 0.19.0.
+//! Compares the results of this project with those of etherparse 0.19.0, and of filters with those of a plain program.
 //!
 //!     diff lines TOOL SEED COUNT    compares the tool's answers to COUNT lines from a seed
 //!     diff headers SEED COUNT       compares the parts and the written bytes of COUNT single headers
 //!     diff reads SEED COUNT         compares what COUNT reads consume, leave and reject
+//!     diff filters SEED COUNT       compares the filters of COUNT texts over packets with those of a plain program
 //!     diff fields                   prints the fields of fragment headers, given as a line of digits each
 use diff::compare::{all_reads, lines_of_tool, single_headers, Outcome};
+use diff::filters::{self, all_filters};
 use diff::{fields, headers, reads};
 use std::process::ExitCode;
 
@@ -34,6 +36,12 @@ fn main() -> ExitCode {
             count,
             all_reads(reads::ours, number(seed), number(count) as usize),
         ),
+        ["filters", seed, count] => told(
+            "filters",
+            seed,
+            count,
+            all_filters(filters::ours, number(seed), number(count) as usize),
+        ),
         ["fields"] => {
             match fields::answer_lines(std::io::stdin().lock(), std::io::stdout().lock()) {
                 Ok(()) => ExitCode::SUCCESS,
@@ -41,7 +49,7 @@ fn main() -> ExitCode {
             }
         }
         _ => refused(
-            "usage: diff lines TOOL SEED COUNT | headers SEED COUNT | reads SEED COUNT | fields",
+            "usage: diff lines TOOL SEED COUNT | headers SEED COUNT | reads SEED COUNT | filters SEED COUNT | fields",
         ),
     }
 }

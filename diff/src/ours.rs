@@ -172,4 +172,11 @@ unsafe extern "C" {
         written_room: usize,
         out: *mut Read,
     );
+
+    pub fn ipexts_filter(
+        text: *const u8,
+        text_len: usize,
+        packet: *const u8,
+        packet_len: usize,
+    ) -> u64;
 }

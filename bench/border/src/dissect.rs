@@ -80,6 +80,9 @@ pub struct Headers;
 /// room for this many headers.
 pub struct Base<const LEN: usize>;
 
+/// Reads whether an IPv6 packet has a fragment header, without room for headers.
+pub struct Fragmented;
+
 /// Finds the payload of a complete packet in C.
 pub struct Walk;
 
@@ -108,6 +111,15 @@ impl<const LEN: usize> Digest for Base<LEN> {
         let mut room = Room::<LEN>::new();
         let (dissection, _) = room.dissect(bytes);
         of_base(dissection.version, dissection.base_len)
+    }
+}
+
+impl Digest for Fragmented {
+    #[inline(always)]
+    fn digest(bytes: &[u8]) -> u64 {
+        let mut room = Room::<0>::new();
+        let (dissection, _) = room.dissect(bytes);
+        u64::from(dissection.version == 6 && dissection.fragment != 0)
     }
 }
 

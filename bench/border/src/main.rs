@@ -3,8 +3,10 @@
 //!
 //!     border measure RUNS WORD   times of the rows whose names have the word, a line each
 //!     border report FILE..       the table of such lines; a file for each alignment of the library
+//!     border packets FILE        writes the IPv6 packets of the rows of filters for other programs, and their time
 mod c;
 mod dissect;
+mod filter;
 // The functions for single headers are used by diff/ only.
 #[allow(dead_code)]
 #[path = "../../../diff/src/fragment_bits.rs"]
@@ -44,8 +46,15 @@ fn main() -> ExitCode {
                 return ExitCode::FAILURE;
             }
         }
+        ["packets", path] => match rows::write_packets(SEED, path) {
+            Ok(()) => {}
+            Err(error) => {
+                eprintln!("border: {path}: {error}");
+                return ExitCode::FAILURE;
+            }
+        },
         _ => {
-            eprintln!("border: measure RUNS WORD, or report FILE..");
+            eprintln!("border: measure RUNS WORD, report FILE.., or packets FILE");
             return ExitCode::from(2);
         }
     }

@@ -2,7 +2,7 @@
 //! through C, compared with the original and with other calls of the library.
 use crate::inputs::{self, Packets, Refused, Sides};
 use crate::sums::{one_call, one_loop, Digest};
-use crate::{c, dissect, original, package};
+use crate::{c, dissect, filter, original, package};
 use std::hint::black_box;
 
 /// How many calls are made in one run of a row with a single packet.
@@ -164,6 +164,41 @@ pub fn rows(seed: u64) -> Vec<Row> {
     let mut rows = parses(seed);
     rows.extend(dissections(seed));
     rows.extend(errors_against_whole(seed));
+    rows.extend(filters(seed));
+    rows
+}
+
+/// Packets filtered through C by `header 44`, compared with their dissection, and with libpcap if it is here. On packets
+/// with two authentication headers libpcap's `protochain` doesn't end, so they are left out there.
+fn filters(seed: u64) -> Vec<Row> {
+    let whole = inputs::first_fragments(PACKETS, seed);
+    let form = Form::against::<filter::Header44, dissect::Fragmented>(
+        "C, header 44 against dissect",
+        "filter",
+    );
+    #[cfg(feature = "libpcap")]
+    let libpcap = {
+        let has_authentication = |packet: &[u8]| {
+            let packet = wolfaren::Dissection::from_slice(packet);
+            let found = packet.headers().any(|header| header.number().0 == 51);
+            found
+        };
+        let packets = whole[0].1.kept(|packet| !has_authentication(packet));
+        Form::against::<filter::Header44, filter::pcap::Protochain44>(
+            "C, header 44 against libpcap",
+            "filter",
+        )
+        .in_one_loop("IPv6", Sides::new(packets))
+    };
+    let broken = inputs::broken(PACKETS, seed).map(|it| (it.what, Sides::new(it.packets)));
+    let mut rows = Vec::new();
+    for (what, packets) in whole.map(|(what, packets)| (what, Sides::new(packets))) {
+        rows.push(form.in_one_loop(what, packets));
+        rows.push(form.a_call_each(what, packets));
+    }
+    rows.extend(broken.map(|(what, packets)| form.in_one_loop(what, packets)));
+    #[cfg(feature = "libpcap")]
+    rows.push(libpcap);
     rows
 }
 
@@ -247,4 +282,30 @@ fn parses(seed: u64) -> Vec<Row> {
         }
     }
     rows
+}
+
+/// Writes the IPv6 packets that are filtered, each after its length in four bytes, in network byte order. Prints how
+/// many have a fragment header, and the least time of 40 runs of the filter.
+pub fn write_packets(seed: u64, path: &str) -> std::io::Result<()> {
+    let [(_, packets), ..] = inputs::first_fragments(PACKETS, seed);
+    let mut bytes = Vec::new();
+    for packet in packets.each() {
+        bytes.extend((packet.len() as u32).to_be_bytes());
+        bytes.extend(packet);
+    }
+    std::fs::write(path, bytes)?;
+    let mut least = f64::INFINITY;
+    for _ in 0..40 {
+        let start = std::time::Instant::now();
+        black_box(one_loop::<filter::Header44>(&packets.bytes, &packets.ends));
+        least = least.min(start.elapsed().as_nanos() as f64);
+    }
+    let has_one = |packet: &&[u8]| filter::Header44::digest(packet) == 1;
+    let found = packets.each().into_iter().filter(|it| has_one(it)).count();
+    println!(
+        "header 44: {:.1} ns per packet, {found} of {} have a fragment header",
+        least / packets.ends.len() as f64,
+        packets.ends.len()
+    );
+    Ok(())
 }

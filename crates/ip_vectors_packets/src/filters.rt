@@ -222,7 +222,7 @@ fn filter(used: &[Step]) -> Filter {
     filter
 }
 
-fn step(kind: StepKind, nots: u8) -> Step {
+fn step(kind: StepKind, nots: u64) -> Step {
     Step { kind, nots }
 }
 
@@ -234,28 +234,41 @@ fn formulas(rt: HostRuntime) -> Result<(), Fail> {
     let and = step(StepKind::And, 0);
     let or = step(StepKind::Or, 0);
     let rows = [
-        ("yes", filter(&[yes]), true),
-        ("no", filter(&[no]), false),
-        ("not yes", filter(&[step(yes.kind, 1)]), false),
-        ("not not yes", filter(&[step(yes.kind, 2)]), true),
-        ("yes and no", filter(&[yes, no, and]), false),
-        ("yes or no", filter(&[yes, no, or]), true),
+        ("yes", filter(&[yes]), true, false),
+        ("no", filter(&[no]), false, false),
+        ("not yes", filter(&[step(yes.kind, 1)]), false, true),
+        ("not not yes", filter(&[step(yes.kind, 2)]), true, false),
+        ("yes and no", filter(&[yes, no, and]), false, false),
+        ("yes or no", filter(&[yes, no, or]), true, false),
         (
             "not (yes and no)",
             filter(&[yes, no, step(StepKind::And, 1)]),
             true,
+            true,
         ),
-        ("yes or no and no", filter(&[yes, no, no, and, or]), true),
-        ("(yes or no) and no", filter(&[yes, no, or, no, and]), false),
-        ("no steps", filter(&[]), false),
+        (
+            "yes or no and no",
+            filter(&[yes, no, no, and, or]),
+            true,
+            false,
+        ),
+        (
+            "(yes or no) and no",
+            filter(&[yes, no, or, no, and]),
+            false,
+            false,
+        ),
+        ("no steps", filter(&[]), false, false),
         (
             "an operator without operands",
             filter(&[or, yes, and]),
             true,
+            false,
         ),
     ];
-    for (name, filter, matches) in &rows {
+    for (name, filter, matches, other) in &rows {
         assert_eq!(rt; filter.matches(bytes.as_slice()), *matches, "{name}");
+        assert_eq!(rt; filter.matches_other(), *other, "{name}, not IP");
     }
     let full = Filter {
         steps: [yes; 127],

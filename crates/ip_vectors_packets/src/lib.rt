@@ -4,6 +4,8 @@
 #[cfg(test)]
 mod dissect;
 #[cfg(test)]
+mod filter_texts;
+#[cfg(test)]
 mod filters;
 #[cfg(test)]
 mod lengths_that_lie;
@@ -13,3 +15,5 @@ mod packets;
 mod samples;
 #[cfg(test)]
 mod spans;
+#[cfg(test)]
+mod statistics;

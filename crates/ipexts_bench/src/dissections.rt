@@ -1,7 +1,7 @@
 //! Whole packets dissected, and their payload found: the parts are read that a filter needs.
 use crate::whole_packets::{NO_PACKET, Packet, over_each};
 use ip_digests::digest::with;
-use ip_dissect::{End, dissect, outline_packet};
+use ip_dissect::{Dissection, End, dissect, outline_packet};
 use ip_spans::find_payload;
 
 /// A packet, dissected with its errors.
@@ -15,7 +15,14 @@ pub struct Found;
 
 impl Packet for Dissected {
     fn digest(bytes: &[u8]) -> u64 {
-        let packet = dissect(bytes);
+        Dissected::of(&dissect(bytes))
+    }
+}
+
+impl Dissected {
+    /// Returns the digest of the parts that a filter needs.
+    #[inline(always)]
+    pub fn of(packet: &Dissection<'_>) -> u64 {
         match packet.end {
             End::Payload | End::LaterFragment if packet.missing == 0 => of_place(
                 u64::from(packet.next_header.0),

@@ -5,6 +5,7 @@
 
 mod calls;
 mod dissections;
+mod filters;
 mod headers;
 mod ipv4;
 mod packets;

@@ -4,4 +4,5 @@
 mod dissections;
 mod every_byte;
 mod fields;
+mod filters;
 mod read_fields;

@@ -1,0 +1,199 @@
+//! Filters: a plain parser of their texts and a plain evaluation over dissected packets, which share nothing with the
+//! library, and a comparison of both sides on random texts and packets.
+mod parse;
+mod texts;
+mod truth;
+
+use crate::changes::Changes;
+use crate::compare::{Counts, Outcome};
+use crate::dissections::dissected;
+use crate::ours::ipexts_filter;
+use crate::packets;
+use crate::random::Random;
+
+/// The largest packet.
+const LONGEST: usize = 2000;
+
+/// A formula of terms.
+#[derive(Debug)]
+pub enum Formula {
+    Term(Term),
+    Not(Box<Formula>),
+    And(Box<Formula>, Box<Formula>),
+    Or(Box<Formula>, Box<Formula>),
+}
+
+/// A condition on one packet.
+#[derive(Debug)]
+pub enum Term {
+    Version(u64),
+    Header(u64),
+    LeadsTo(u64),
+    Fragment,
+    FirstFragment,
+    LaterFragment,
+    Truncated,
+    Incomplete,
+    Fault(Option<FaultKind>),
+    Headers(Comparison),
+    ChainBytes(Comparison),
+    Payload(Comparison),
+    Spi(u64),
+    Id(u64),
+    Source(Network),
+    Destination(Network),
+    Either(Network),
+}
+
+#[derive(Clone, Copy, Debug, PartialEq, Eq)]
+pub enum FaultKind {
+    TooShort,
+    NotAtStart,
+    ZeroLength,
+    UnsupportedVersion,
+    HeaderLength,
+}
+
+/// A comparison with a number.
+#[derive(Debug)]
+pub struct Comparison {
+    pub sign: String,
+    pub number: u64,
+}
+
+/// The bytes of an address, and how many of its bits count.
+#[derive(Debug)]
+pub struct Network {
+    pub address: Vec<u8>,
+    pub bits: usize,
+}
+
+/// What a text needs, with the codes of `ipexts_filter`.
+#[derive(Clone, Copy, Debug, PartialEq, Eq)]
+pub enum Expected {
+    Operand,
+    OperatorOrEnd,
+    OperatorOrClose,
+    Version,
+    Header,
+    Protocol,
+    Comparison,
+    Count,
+    Number,
+    Network,
+    FewerTerms,
+    LessNesting,
+}
+
+/// The result for a text and a packet: whether the filter matches the packet and whether it matches a frame that is not
+/// IP, or where the text is wrong.
+#[derive(Debug, PartialEq, Eq)]
+pub enum Told {
+    Matches(bool, bool),
+    Refused(usize, u8),
+}
+
+/// Returns the library's result.
+pub fn ours(text: &[u8], packet: &[u8]) -> Told {
+    // SAFETY: each pointer is valid for its length.
+    let told = unsafe { ipexts_filter(text.as_ptr(), text.len(), packet.as_ptr(), packet.len()) };
+    match told {
+        0..4 => Told::Matches(told % 2 == 1, told / 2 == 1),
+        _ => Told::Refused((told / 16) as usize - 1, (told % 16) as u8),
+    }
+}
+
+/// Returns the result of the plain parser and the plain evaluation. The original dissects the packet.
+pub fn plain(text: &[u8], packet: &[u8]) -> Told {
+    match parse::parse(text) {
+        Ok(formula) => {
+            let bytes = Changes::ALL.asked_packet(packet.to_vec());
+            let parts = dissected(&bytes);
+            Told::Matches(
+                truth::holds(&formula, Some(&parts)),
+                truth::holds(&formula, None),
+            )
+        }
+        Err((offset, expected)) => Told::Refused(offset, expected as u8),
+    }
+}
+
+/// Compares `count` texts of filters on random packets. `ours` returns our results.
+pub fn all_filters(ours: impl Fn(&[u8], &[u8]) -> Told, seed: u64, count: usize) -> Outcome {
+    let mut random = Random::new(seed);
+    let mut waiting: Vec<Vec<u8>> = Vec::new();
+    for index in 0..count {
+        if waiting.is_empty() {
+            waiting = packets::asked(&mut random, LONGEST);
+        }
+        let packet = waiting.pop().unwrap_or_default();
+        let text = texts::text(&packet, &mut random);
+        let (ours, plain) = (ours(&text, &packet), plain(&text, &packet));
+        if ours != plain {
+            return Outcome::Different(format!(
+                "filter {}: {:?} over {packet:02x?}\nthe plain program: {plain:?}\nours: {ours:?}",
+                index + 1,
+                String::from_utf8_lossy(&text)
+            ));
+        }
+    }
+    Outcome::Same(Counts::new())
+}
+
+#[cfg(test)]
+mod tests {
+    use super::*;
+
+    #[test]
+    fn the_sides_filter_alike() {
+        assert!(matches!(all_filters(ours, 1, 20_000), Outcome::Same(_)));
+    }
+
+    /// Half of the texts must be filters, and of these each result must occur.
+    #[test]
+    fn texts_and_results_vary() {
+        let mut random = Random::new(2);
+        let mut counts = [0; 4];
+        for _ in 0..4000 {
+            for packet in packets::asked(&mut random, LONGEST) {
+                if let Told::Matches(packet, other) =
+                    plain(&texts::text(&packet, &mut random), &packet)
+                {
+                    counts[usize::from(packet) + 2 * usize::from(other)] += 1;
+                }
+            }
+        }
+        assert!(counts.iter().all(|&count| count > 200), "{counts:?}");
+    }
+
+    fn is_found(planted: impl Fn(&[u8], &[u8]) -> Told) -> bool {
+        matches!(all_filters(planted, 3, 20_000), Outcome::Different(_))
+    }
+
+    #[test]
+    fn planted_differences_are_found() {
+        let replaced = |text: &[u8], old: &str, new: &str| {
+            String::from_utf8_lossy(text).replace(old, new).into_bytes()
+        };
+        assert!(is_found(|text, packet| ours(
+            &replaced(text, " or ", " and "),
+            packet
+        )));
+        assert!(is_found(|text, packet| ours(
+            &replaced(text, "<=", "< "),
+            packet
+        )));
+        assert!(is_found(|text, packet| ours(
+            &replaced(text, "first-", ""),
+            packet
+        )));
+        assert!(is_found(|text, packet| match ours(text, packet) {
+            Told::Refused(offset, expected) => Told::Refused(offset + 1, expected),
+            told => told,
+        }));
+        assert!(is_found(|text, packet| match ours(text, packet) {
+            Told::Matches(packet, _) => Told::Matches(packet, packet),
+            told => told,
+        }));
+    }
+}

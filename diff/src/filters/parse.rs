@@ -1,0 +1,285 @@
+//! The plain parser: recursive descent over words.
+use super::{Comparison, Expected, FaultKind, Formula, Network, Term};
+use std::net::IpAddr;
+
+/// The offset of the word that isn't expected, and what is.
+type Refusal = (usize, Expected);
+
+const MOST_TERMS: usize = 64;
+
+const MOST_LEVELS: usize = 16;
+
+/// Parses the text of a filter.
+pub fn parse(text: &[u8]) -> Result<Formula, Refusal> {
+    let mut parser = Parser {
+        words: words(text),
+        at: 0,
+        end: text.len(),
+        terms: 0,
+        level: 0,
+    };
+    let formula = parser.disjunction()?;
+    match parser.words.get(parser.at) {
+        Some((offset, _)) => Err((*offset, Expected::OperatorOrEnd)),
+        None => Ok(formula),
+    }
+}
+
+/// Splits a text into words with their offsets: signs, and runs of other bytes that aren't white space.
+fn words(text: &[u8]) -> Vec<(usize, String)> {
+    let mut words: Vec<(usize, Vec<u8>)> = Vec::new();
+    let mut is_open = false;
+    for (offset, byte) in text.iter().enumerate() {
+        if b" \t\n\r".contains(byte) {
+            is_open = false;
+            continue;
+        }
+        let last = words.last().and_then(|(_, word)| word.last()).copied();
+        let goes_on = match last {
+            Some(before) if is_open => {
+                if is_sign(before) {
+                    is_pair(before, *byte)
+                } else {
+                    !is_sign(*byte)
+                }
+            }
+            _ => false,
+        };
+        match words.last_mut() {
+            Some((_, word)) if goes_on => word.push(*byte),
+            _ => words.push((offset, vec![*byte])),
+        }
+        is_open = true;
+    }
+    words
+        .into_iter()
+        .map(|(offset, word)| (offset, word.iter().map(|&byte| char::from(byte)).collect()))
+        .collect()
+}
+
+fn is_sign(byte: u8) -> bool {
+    b"!&()<=>|".contains(&byte)
+}
+
+fn is_pair(first: u8, second: u8) -> bool {
+    [*b"&&", *b"||", *b"!=", *b"<=", *b">="].contains(&[first, second])
+}
+
+struct Parser {
+    words: Vec<(usize, String)>,
+    at: usize,
+    end: usize,
+    terms: usize,
+    level: usize,
+}
+
+impl Parser {
+    fn word(&self) -> Option<&str> {
+        self.words.get(self.at).map(|(_, word)| word.as_str())
+    }
+
+    fn is_at(&self, wanted: &[&str]) -> bool {
+        self.word().is_some_and(|word| wanted.contains(&word))
+    }
+
+    fn refuse<T>(&self, expected: Expected) -> Result<T, Refusal> {
+        let offset = self
+            .words
+            .get(self.at)
+            .map_or(self.end, |(offset, _)| *offset);
+        Err((offset, expected))
+    }
+
+    /// Takes the word if the function accepts it.
+    fn take<T>(
+        &mut self,
+        read: impl Fn(&str) -> Option<T>,
+        expected: Expected,
+    ) -> Result<T, Refusal> {
+        match self.word().and_then(read) {
+            Some(value) => {
+                self.at += 1;
+                Ok(value)
+            }
+            None => self.refuse(expected),
+        }
+    }
+
+    fn disjunction(&mut self) -> Result<Formula, Refusal> {
+        let mut formula = self.conjunction()?;
+        while self.is_at(&["or", "||"]) {
+            self.at += 1;
+            formula = Formula::Or(Box::new(formula), Box::new(self.conjunction()?));
+        }
+        Ok(formula)
+    }
+
+    fn conjunction(&mut self) -> Result<Formula, Refusal> {
+        let mut formula = self.operand()?;
+        while self.is_at(&["and", "&&"]) {
+            self.at += 1;
+            formula = Formula::And(Box::new(formula), Box::new(self.operand()?));
+        }
+        Ok(formula)
+    }
+
+    fn operand(&mut self) -> Result<Formula, Refusal> {
+        let mut nots = 0;
+        while self.is_at(&["not", "!"]) {
+            self.at += 1;
+            nots += 1;
+        }
+        let formula = if self.is_at(&["("]) {
+            self.group()?
+        } else {
+            Formula::Term(self.counted_term()?)
+        };
+        Ok((0..nots).fold(formula, |formula, _| Formula::Not(Box::new(formula))))
+    }
+
+    fn group(&mut self) -> Result<Formula, Refusal> {
+        if self.level == MOST_LEVELS {
+            return self.refuse(Expected::LessNesting);
+        }
+        self.at += 1;
+        self.level += 1;
+        let formula = self.disjunction()?;
+        self.level -= 1;
+        self.take(
+            |word| (word == ")").then_some(()),
+            Expected::OperatorOrClose,
+        )?;
+        Ok(formula)
+    }
+
+    fn counted_term(&mut self) -> Result<Term, Refusal> {
+        let start = self.at;
+        let term = self.term()?;
+        if self.terms == MOST_TERMS {
+            self.at = start;
+            return self.refuse(Expected::FewerTerms);
+        }
+        self.terms += 1;
+        Ok(term)
+    }
+
+    fn term(&mut self) -> Result<Term, Refusal> {
+        let word = match self.word() {
+            Some(word) => word.to_owned(),
+            None => return self.refuse(Expected::Operand),
+        };
+        self.at += 1;
+        let number = |word: &str| number(word, u32::MAX.into());
+        Ok(match word.as_str() {
+            "version" => Term::Version(self.take(
+                |word| {
+                    ["4", "6"]
+                        .contains(&word)
+                        .then(|| word.parse().unwrap_or(0))
+                },
+                Expected::Version,
+            )?),
+            "header" => Term::Header(self.take(header, Expected::Header)?),
+            "leads-to" => Term::LeadsTo(self.take(protocol, Expected::Protocol)?),
+            "fragment" => Term::Fragment,
+            "first-fragment" => Term::FirstFragment,
+            "later-fragment" => Term::LaterFragment,
+            "truncated" => Term::Truncated,
+            "incomplete" => Term::Incomplete,
+            "fault" => Term::Fault(self.take(fault_kind, Expected::Operand).ok()),
+            "headers" => Term::Headers(self.comparison()?),
+            "chain-bytes" => Term::ChainBytes(self.comparison()?),
+            "payload" => Term::Payload(self.comparison()?),
+            "spi" => Term::Spi(self.take(number, Expected::Number)?),
+            "id" => Term::Id(self.take(number, Expected::Number)?),
+            "src" => Term::Source(self.take(network, Expected::Network)?),
+            "dst" => Term::Destination(self.take(network, Expected::Network)?),
+            "net" => Term::Either(self.take(network, Expected::Network)?),
+            _ => {
+                self.at -= 1;
+                return self.refuse(Expected::Operand);
+            }
+        })
+    }
+
+    fn comparison(&mut self) -> Result<Comparison, Refusal> {
+        let signs = ["=", "!=", "<", "<=", ">", ">="];
+        let sign = self.take(
+            |word| signs.contains(&word).then(|| word.to_owned()),
+            Expected::Comparison,
+        )?;
+        let number = self.take(|word| number(word, u64::MAX), Expected::Count)?;
+        Ok(Comparison { sign, number })
+    }
+}
+
+/// Returns the number that the word writes in decimal, without leading zeros, or after `0x` in hexadecimal.
+fn number(word: &str, most: u64) -> Option<u64> {
+    let (digits, radix) = match word.strip_prefix("0x") {
+        Some(digits) => (digits, 16),
+        None if word.len() > 1 && word.starts_with('0') => return None,
+        None => (word, 10),
+    };
+    if digits.is_empty() {
+        return None;
+    }
+    let mut value = 0u128;
+    for digit in digits.chars() {
+        let digit = digit.to_digit(radix)?;
+        value = value
+            .saturating_mul(radix.into())
+            .saturating_add(digit.into());
+    }
+    u64::try_from(value).ok().filter(|&value| value <= most)
+}
+
+fn header(word: &str) -> Option<u64> {
+    match word {
+        "hopopt" => Some(0),
+        "route" => Some(43),
+        "frag" => Some(44),
+        "ah" => Some(51),
+        "dstopts" => Some(60),
+        _ => number(word, 255),
+    }
+}
+
+fn protocol(word: &str) -> Option<u64> {
+    match word {
+        "icmp" => Some(1),
+        "tcp" => Some(6),
+        "udp" => Some(17),
+        "esp" => Some(50),
+        "icmp6" => Some(58),
+        "no-next" => Some(59),
+        _ => header(word),
+    }
+}
+
+fn fault_kind(word: &str) -> Option<FaultKind> {
+    match word {
+        "too-short" => Some(FaultKind::TooShort),
+        "not-at-start" => Some(FaultKind::NotAtStart),
+        "zero-length" => Some(FaultKind::ZeroLength),
+        "unsupported-version" => Some(FaultKind::UnsupportedVersion),
+        "header-length" => Some(FaultKind::HeaderLength),
+        _ => None,
+    }
+}
+
+fn network(word: &str) -> Option<Network> {
+    let (address, bits) = match word.split_once('/') {
+        Some((address, bits)) => (address, Some(bits)),
+        None => (word, None),
+    };
+    let address = match address.parse().ok()? {
+        IpAddr::V4(address) => address.octets().to_vec(),
+        IpAddr::V6(address) => address.octets().to_vec(),
+    };
+    let all = 8 * address.len();
+    let bits = match bits {
+        Some(bits) => number(bits, all as u64)? as usize,
+        None => all,
+    };
+    Some(Network { address, bits })
+}

@@ -1,0 +1,264 @@
+//! Makes texts of filters, most of them valid, with terms that hold of a packet about as often as not.
+use crate::random::Random;
+use std::net::{Ipv4Addr, Ipv6Addr};
+
+/// Makes a text for a packet. Every fifth is damaged.
+pub fn text(packet: &[u8], random: &mut Random) -> Vec<u8> {
+    let mut words = Vec::new();
+    match random.below(40) {
+        0 => nested(packet, random, &mut words),
+        1 => long(packet, random, &mut words),
+        _ => disjunction(packet, random, 3, &mut words),
+    }
+    if random.percent(10) {
+        spoil_words(&mut words, random);
+    }
+    let mut text = spaced(&words, random);
+    if random.percent(10) {
+        spoil_bytes(&mut text, random);
+    }
+    text
+}
+
+fn word(words: &mut Vec<String>, text: impl Into<String>) {
+    words.push(text.into());
+}
+
+fn one_of(choices: &[&str], random: &mut Random) -> String {
+    choices[random.below(choices.len())].to_owned()
+}
+
+/// Appends about as many levels of parentheses as are allowed.
+fn nested(packet: &[u8], random: &mut Random, words: &mut Vec<String>) {
+    let levels = 14 + random.below(5);
+    for _ in 0..levels {
+        if random.percent(20) {
+            word(words, one_of(&["not", "!"], random));
+        }
+        word(words, "(");
+    }
+    disjunction(packet, random, 0, words);
+    for _ in 0..levels {
+        word(words, ")");
+    }
+}
+
+/// Appends about as many terms as are allowed.
+fn long(packet: &[u8], random: &mut Random, words: &mut Vec<String>) {
+    for _ in 0..62 + random.below(4) {
+        term(packet, random, words);
+        word(words, one_of(&["and", "or", "&&", "||"], random));
+    }
+    term(packet, random, words);
+}
+
+fn disjunction(packet: &[u8], random: &mut Random, depth: usize, words: &mut Vec<String>) {
+    conjunction(packet, random, depth, words);
+    while random.percent(30) {
+        word(words, one_of(&["or", "||"], random));
+        conjunction(packet, random, depth, words);
+    }
+}
+
+fn conjunction(packet: &[u8], random: &mut Random, depth: usize, words: &mut Vec<String>) {
+    operand(packet, random, depth, words);
+    while random.percent(30) {
+        word(words, one_of(&["and", "&&"], random));
+        operand(packet, random, depth, words);
+    }
+}
+
+fn operand(packet: &[u8], random: &mut Random, depth: usize, words: &mut Vec<String>) {
+    while random.percent(25) {
+        word(words, one_of(&["not", "!"], random));
+    }
+    if depth > 0 && random.percent(30) {
+        word(words, "(");
+        disjunction(packet, random, depth - 1, words);
+        word(words, ")");
+    } else {
+        term(packet, random, words);
+    }
+}
+
+fn term(packet: &[u8], random: &mut Random, words: &mut Vec<String>) {
+    let plain = [
+        "fragment",
+        "first-fragment",
+        "later-fragment",
+        "truncated",
+        "incomplete",
+        "fault",
+    ];
+    match random.below(14) {
+        0..4 => word(words, one_of(&plain, random)),
+        4 => {
+            word(words, "fault");
+            let kinds = [
+                "too-short",
+                "not-at-start",
+                "zero-length",
+                "unsupported-version",
+                "header-length",
+            ];
+            word(words, one_of(&kinds, random));
+        }
+        5 => {
+            word(words, "version");
+            word(words, one_of(&["4", "6"], random));
+        }
+        6 => {
+            word(words, "header");
+            let numbers = [
+                "hopopt", "route", "frag", "ah", "dstopts", "0", "43", "44", "51", "60", "0x2c",
+                "0X2C", "044",
+            ];
+            word(words, one_of(&numbers, random));
+        }
+        7 => {
+            word(words, "leads-to");
+            let names = [
+                "icmp", "tcp", "udp", "esp", "icmp6", "no-next", "frag", "ah", "route", "dstopts",
+            ];
+            let number = random.below(300).to_string();
+            word(
+                words,
+                if random.percent(70) {
+                    one_of(&names, random)
+                } else {
+                    number
+                },
+            );
+        }
+        8 => {
+            word(words, one_of(&["spi", "id"], random));
+            word(words, field(packet, random));
+        }
+        9..11 => {
+            word(words, one_of(&["src", "dst", "net"], random));
+            word(words, network(packet, random));
+        }
+        _ => {
+            word(
+                words,
+                one_of(&["headers", "chain-bytes", "payload"], random),
+            );
+            word(words, one_of(&["=", "!=", "<", "<=", ">", ">="], random));
+            word(words, count(random));
+        }
+    }
+}
+
+fn count(random: &mut Random) -> String {
+    match random.below(12) {
+        0 => u64::MAX.to_string(),
+        1 => "18446744073709551616".to_owned(),
+        2 => format!("0x{:x}", random.below(100)),
+        3..8 => random.below(4).to_string(),
+        _ => random.below(200).to_string(),
+    }
+}
+
+/// Makes a number of 32 bits: four bytes of the packet, two of them, or any.
+fn field(packet: &[u8], random: &mut Random) -> String {
+    let at = [4, 44, 24, 20 + 4 * random.below(20)][random.below(4)];
+    match (packet.get(at..at + 4), random.below(6)) {
+        (Some(bytes), 0..3) => {
+            u32::from_be_bytes([bytes[0], bytes[1], bytes[2], bytes[3]]).to_string()
+        }
+        (Some(bytes), 3) => u16::from_be_bytes([bytes[0], bytes[1]]).to_string(),
+        (_, 4) => (u64::from(u32::MAX) + random.below(2) as u64).to_string(),
+        _ => format!("0x{:X}", random.next() as u32),
+    }
+}
+
+/// Makes a network: an address of the packet, with some bits changed, and a length that may be too large.
+fn network(packet: &[u8], random: &mut Random) -> String {
+    let is_ipv4 = packet.first().is_some_and(|first| first >> 4 == 4) != random.percent(10);
+    let (at, len) = if is_ipv4 {
+        (12 + 4 * random.below(2), 4)
+    } else {
+        (8 + 16 * random.below(2), 16)
+    };
+    let mut bytes = packet
+        .get(at..at + len)
+        .map_or_else(|| random.bytes(len), <[u8]>::to_vec);
+    if random.percent(40) {
+        let bit = random.below(8 * len);
+        bytes[bit / 8] ^= 0x80 >> (bit % 8);
+    }
+    let address = match bytes[..] {
+        [a, b, c, d] => Ipv4Addr::new(a, b, c, d).to_string(),
+        _ => bytes.try_into().map_or(String::new(), |bytes: [u8; 16]| {
+            Ipv6Addr::from(bytes).to_string()
+        }),
+    };
+    match random.below(10) {
+        0..2 => address,
+        2 => format!("{address}/"),
+        3 => format!("{address}/0"),
+        _ => format!("{address}/{}", random.below(8 * len + 2)),
+    }
+}
+
+/// Joins words. A sign may touch its neighbours.
+fn spaced(words: &[String], random: &mut Random) -> Vec<u8> {
+    let mut text = Vec::new();
+    let is_sign = |byte: Option<&u8>| byte.is_some_and(|byte| b"!&()<=>|".contains(byte));
+    for word in words {
+        let may_touch = is_sign(text.last()) || is_sign(word.as_bytes().first());
+        if !may_touch || random.percent(60) {
+            text.push(b' ');
+            while random.percent(10) {
+                text.push(b" \t\n\r"[random.below(4)]);
+            }
+        }
+        text.extend(word.as_bytes());
+    }
+    while random.percent(10) {
+        text.push(b' ');
+    }
+    text
+}
+
+/// Removes, repeats, swaps or replaces a word.
+fn spoil_words(words: &mut Vec<String>, random: &mut Random) {
+    let at = random.below(words.len());
+    match random.below(5) {
+        0 => drop(words.remove(at)),
+        1 => words.insert(at, words[at].clone()),
+        2 => words.swap(at, 0),
+        3 => words.truncate(at),
+        _ => {
+            let others = [
+                "(",
+                ")",
+                "not",
+                "and",
+                "or",
+                "fault",
+                "4",
+                "=",
+                "too-short",
+                "headers",
+                "fragments",
+                "&",
+                "|||",
+            ];
+            words[at] = one_of(&others, random);
+        }
+    }
+}
+
+/// Changes, removes or inserts a byte.
+fn spoil_bytes(text: &mut Vec<u8>, random: &mut Random) {
+    if text.is_empty() {
+        return;
+    }
+    let at = random.below(text.len());
+    match random.below(3) {
+        0 => text[at] = random.next() as u8,
+        1 => drop(text.remove(at)),
+        _ => text.insert(at, b"()!&|=<> x0/"[random.below(12)]),
+    }
+}

@@ -1,4 +1,4 @@
-/* Reads captures packet by packet. */
+/* Reads captures packet by packet. Prints nothing: errors are kept as text. */
 #ifndef IPCAP_CAPTURE_H
 #define IPCAP_CAPTURE_H
 
@@ -6,22 +6,24 @@
 #include <stdbool.h>
 #include <stddef.h>
 #include <stdint.h>
-#include <sys/types.h>
-#include <time.h>
+#include <stdio.h>
 
-#include "parts.h"
+/* A buffer size that is large enough for the text of every error and its terminating null byte. */
+enum { CAPTURE_ERROR_ROOM = PCAP_ERRBUF_SIZE + 64 };
+
+/* How many bytes are read from a file at once. */
+enum { CAPTURE_BUFFER = 1 << 17 };
 
 struct capture {
     pcap_t *handle;
-    const char *name;   /* for messages */
+    const char *name; /* for messages */
     FILE *file;
     int link_layer;
-    bool is_live;       /* the input is not a regular file, so packets may arrive as they are captured */
-    bool shows_progress;
-    bool is_progress_shown; /* there is a progress line on the terminal */
-    off_t len;          /* length of the file in bytes, or 0 if unknown */
-    uint64_t number;    /* number of packets read so far */
-    struct timespec shown; /* when the progress line was last updated */
+    bool is_live;    /* the input is not a regular file, so packets may arrive as they are captured */
+    uint64_t number; /* number of packets read so far */
+    void (*follow)(struct capture *capture); /* called after each packet is read, unless it is null */
+    char error[CAPTURE_ERROR_ROOM];          /* why opening or reading failed, otherwise empty */
+    char buffer[CAPTURE_BUFFER];             /* of the file, unless that is standard input */
 };
 
 /* A packet of a capture. `frame` is valid until the next packet is read. */
@@ -33,21 +35,19 @@ struct packet {
     size_t ip_offset; /* where the IP packet begins in the frame */
 };
 
-/* Opens a file, or standard input if the path is null or `-`. On failure, reports why and returns false. */
+/* Whether a path stands for standard input or output: it is null or `-`. */
+bool is_standard_stream(const char *path);
+
+/* Opens a file or standard input. On failure, sets `error` and returns false. */
 bool open_capture(struct capture *capture, const char *path);
 
-/* Shows progress even if standard output is a terminal. For commands that write nothing to standard output. */
-void allow_progress(struct capture *capture);
+/* Reads the next packet and returns true. At the end, and on failure, which sets `error`, returns false. */
+bool read_packet(struct capture *capture, struct packet *packet);
 
-/* Results of read_packet. */
-enum reading { READ_PACKET, READ_END, READ_FAILED };
+/* Whether the capture was read to its end. */
+bool is_read_whole(const struct capture *capture);
 
-/* Reads the next packet. On failure, reports why. */
-enum reading read_packet(struct capture *capture, struct packet *packet);
-
-/* Parses the IP packet of a captured packet. If memory runs out, reports it and returns false. */
-bool parse_captured(struct parts *parts, const struct packet *packet);
-
+/* Closes a capture that was opened. */
 void close_capture(struct capture *capture);
 
 #endif

@@ -5,8 +5,8 @@
 
 #include "names.h"
 
-/* The bytes of a key: IP version, header count, header numbers; at fixed positions, the final number and the end. */
-enum { VERSION_AT = 0, COUNT_AT = 1, NUMBERS_AT = 2, NEXT_AT = NUMBERS_AT + KEY_HEADERS, END_AT, KEY_USED };
+/* The bytes of a key: IP version, header count, the number after the headers, the end, and the header numbers. */
+enum { VERSION_AT, COUNT_AT, NEXT_AT, END_AT, NUMBERS_AT, KEY_USED = NUMBERS_AT + KEY_HEADERS };
 
 _Static_assert((int)KEY_USED <= (int)KEY_BYTES, "the key of a chain must fit");
 

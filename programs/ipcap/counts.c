@@ -3,118 +3,96 @@
 #include <string.h>
 
 #include "chain_key.h"
+#include "fields.h"
+#include "parts.h"
 
-void length_key(uint64_t len, struct key *key)
+void init_counts(struct counts *counts)
 {
-    memset(key, 0, sizeof *key);
-    for (int i = 7; i >= 0; i--) {
-        key->bytes[i] = (uint8_t)(len & 0xff);
-        len >>= 8;
-    }
+    *counts = (struct counts){0};
+    wolfaren_init_statistics(&counts->statistics);
 }
 
-uint64_t key_length(const struct key *key)
+/* Adds the chain of a packet to the table of chains. Returns false if memory runs out. */
+static bool count_chain(struct table *chains, struct parts *parts, const uint8_t *bytes, size_t len)
 {
-    uint64_t len = 0;
-    for (int i = 0; i < 8; i++) len = len << 8 | key->bytes[i];
-    return len;
-}
-
-void count_frame(struct counts *counts, bool is_short)
-{
-    counts->packets++;
-    if (is_short) counts->truncated++;
-}
-
-static bool count_chain(struct counts *counts, const struct parts *parts)
-{
-    const struct wolfaren_dissection *packet = &parts->packet;
     struct key key;
-    if (!chain_key(parts, &key))
-        counts->chains.other++;
-    else if (add_to_table(&counts->chains, &key, 1) != ADDED)
-        return false;
-    length_key(packet->payload_offset - packet->base_len, &key);
-    if (add_to_table(&counts->chain_bytes, &key, 1) != ADDED) return false;
-    if (end_of_chain(parts) == CHAIN_WHOLE) counts->numbers[packet->payload_number & UINT8_MAX]++;
+    if (!parse_packet(parts, bytes, len)) return false;
+    if (parts->packet.version == 0) return true;
+    if (chain_key(parts, &key)) return add_to_table(chains, &key, 1);
+    chains->other = add_counts(chains->other, 1);
     return true;
 }
 
-bool count_packet(struct counts *counts, const struct parts *parts)
+static bool count_packet(struct counts *counts, struct parts *parts, const struct packet *packet)
 {
-    uint8_t kind = parts->packet.fault.kind, layer = fault_layer(parts);
-    if (has_fault(parts) && kind < FAULT_KINDS && layer < FAULT_LAYERS) counts->faults[kind][layer]++;
-    if (parts->packet.version == 0) {
-        counts->unread++;
+    const uint8_t *bytes = packet->frame + packet->ip_offset;
+    size_t len = packet->header.caplen - packet->ip_offset;
+    if (packet->is_short) wolfaren_count_truncated_frame(&counts->statistics);
+    if (!packet->is_ip) {
+        wolfaren_count_other_frame(&counts->statistics);
         return true;
     }
-    if (parts->packet.version == 4)
-        counts->ipv4++;
-    else
-        counts->ipv6++;
-    if (is_fragment(parts)) counts->fragments++;
-    return count_chain(counts, parts);
+    wolfaren_count_packet(&counts->statistics, bytes, len);
+    return count_chain(&counts->chains, parts, bytes, len);
 }
 
-static enum added add_table(struct table *total, const struct table *more)
+bool count_capture(struct counts *counts, struct capture *capture)
 {
-    if (!add_count(&total->other, more->other)) return ADDED_OVERFLOW;
-    for (size_t i = 0; i < more->count; i++) {
-        enum added added = add_to_table(total, &more->entries[i].key, more->entries[i].count);
-        if (added != ADDED) return added;
-    }
-    return ADDED;
+    struct parts parts = {0};
+    struct packet packet;
+    bool is_counted = true;
+    while (is_counted && read_packet(capture, &packet)) is_counted = count_packet(counts, &parts, &packet);
+    free_parts(&parts);
+    return is_counted;
 }
 
-static bool add_array(uint64_t *total, const uint64_t *more, size_t count)
+bool merge_counts(struct counts *total, const struct counts *more)
 {
-    for (size_t i = 0; i < count; i++)
-        if (!add_count(&total[i], more[i])) return false;
+    /* false only if one of them isn't from init_counts */
+    if (!wolfaren_merge_statistics(&total->statistics, &more->statistics)) return false;
+    total->chains.other = add_counts(total->chains.other, more->chains.other);
+    for (size_t i = 0; i < more->chains.count; i++)
+        if (!add_to_table(&total->chains, &more->chains.entries[i].key, more->chains.entries[i].count)) return false;
     return true;
 }
 
-enum added add_counts(struct counts *total, const struct counts *more)
+static uint64_t sum(const uint64_t *counts, size_t len)
 {
-    bool fits = add_count(&total->packets, more->packets) && add_count(&total->ipv4, more->ipv4)
-        && add_count(&total->ipv6, more->ipv6) && add_count(&total->unread, more->unread)
-        && add_count(&total->not_ip, more->not_ip) && add_count(&total->fragments, more->fragments)
-        && add_count(&total->truncated, more->truncated) && add_array(total->numbers, more->numbers, 256);
-    for (size_t i = 0; fits && i < FAULT_KINDS; i++) fits = add_array(total->faults[i], more->faults[i], FAULT_LAYERS);
-    if (!fits) return ADDED_OVERFLOW;
-    enum added added = add_table(&total->chains, &more->chains);
-    return added == ADDED ? add_table(&total->chain_bytes, &more->chain_bytes) : added;
+    uint64_t total = 0;
+    for (size_t i = 0; i < len; i++) total = add_counts(total, counts[i]);
+    return total;
 }
+
+#define SUM(array) sum((const uint64_t *)(array), sizeof(array) / sizeof(uint64_t))
 
 /*
  * Whether the table has no more chains of an IP version than there are packets of that version, and as many if none is
  * counted as `other`.
  */
-static bool has_chains(const struct counts *counts, uint8_t version, uint64_t packets)
+static bool has_chains(const struct table *chains, uint8_t version, uint64_t packets)
 {
-    uint64_t chains = 0;
-    for (size_t i = 0; i < counts->chains.count; i++)
-        if (key_version(&counts->chains.entries[i].key) == version
-            && !add_count(&chains, counts->chains.entries[i].count))
-            return false;
-    return chains <= packets && (counts->chains.other > 0 || chains == packets);
+    uint64_t total = 0;
+    for (size_t i = 0; i < chains->count; i++)
+        if (key_version(&chains->entries[i].key) == version) total = add_counts(total, chains->entries[i].count);
+    return total <= packets && (chains->other > 0 || total == packets);
 }
 
 bool do_add_up(const struct counts *counts)
 {
-    uint64_t ip = counts->ipv4, chains, lengths, numbers = 0;
-    if (!add_count(&ip, counts->ipv6)) return false;
-    if (!sum_table(&counts->chains, &chains) || !sum_table(&counts->chain_bytes, &lengths)) return false;
-    for (size_t i = 0; i < 256; i++)
-        if (!add_count(&numbers, counts->numbers[i])) return false;
-    uint64_t all = ip;
-    if (!add_count(&all, counts->unread) || !add_count(&all, counts->not_ip)) return false;
-    return all == counts->packets && chains == ip && lengths == ip && numbers <= ip && counts->fragments <= ip
-        && counts->truncated <= counts->packets && has_chains(counts, 4, counts->ipv4)
-        && has_chains(counts, 6, counts->ipv6);
+    const struct wolfaren_statistics *of = &counts->statistics;
+    uint64_t ip = add_counts(of->ipv4, of->ipv6);
+    const uint64_t ends[] = {of->at_payload, of->at_later_fragment, of->at_truncated_header, of->at_fault};
+    const uint64_t fragments[] = {of->atomic_fragments, of->first_fragments, of->middle_fragments, of->last_fragments};
+    return add_counts(ip, of->without_header) == of->packets && SUM(ends) == of->packets
+        && of->truncated_frames <= add_counts(of->packets, of->other_frames) && SUM(fragments) <= ip
+        && of->incomplete <= ip && SUM(of->chain_headers) == ip && SUM(of->chain_bytes) == ip
+        && SUM(of->payload_numbers) == of->at_payload && SUM(of->later_fragment_numbers) == of->at_later_fragment
+        && SUM(of->truncated_headers) == of->at_truncated_header && SUM(of->faults) == of->at_fault
+        && sum_table(&counts->chains) == ip && has_chains(&counts->chains, 4, of->ipv4)
+        && has_chains(&counts->chains, 6, of->ipv6);
 }
 
 void free_counts(struct counts *counts)
 {
     free_table(&counts->chains);
-    free_table(&counts->chain_bytes);
 }

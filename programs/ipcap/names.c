@@ -1,6 +1,5 @@
 #include "names.h"
 
-#include <stdio.h>
 #include <string.h>
 
 #include "wolfaren.h"
@@ -15,7 +14,8 @@ static const char *const number_names[256] = {
     [143] = "Ethernet",
 };
 
-static const char *const kind_names[FAULT_KINDS] = {
+static const char *const kind_names[] = {
+    [WOLFAREN_NO_FAULT] = "",
     [WOLFAREN_TOO_SHORT] = "too-short",
     [WOLFAREN_HOP_BY_HOP_NOT_AT_START] = "not-at-start",
     [WOLFAREN_ZERO_PAYLOAD_LEN] = "zero-length",
@@ -23,7 +23,7 @@ static const char *const kind_names[FAULT_KINDS] = {
     [WOLFAREN_IPV4_HEADER_LENGTH] = "header-length",
 };
 
-static const char *const layer_names[FAULT_LAYERS] = {
+static const char *const layer_names[] = {
     [WOLFAREN_NO_LAYER] = "",
     [WOLFAREN_IP_HEADER] = "IP-header",
     [WOLFAREN_IPV4_HEADER] = "IPv4-header",
@@ -43,22 +43,29 @@ const char *number_name(uint8_t number)
     return number_names[number] ? number_names[number] : "";
 }
 
-void write_fault_name(uint8_t kind, uint8_t layer, char name[FAULT_NAME_ROOM])
+enum { KINDS = sizeof kind_names / sizeof *kind_names, LAYERS = sizeof layer_names / sizeof *layer_names };
+
+const char *kind_name(uint8_t kind)
 {
-    snprintf(name, FAULT_NAME_ROOM, "%s %s", kind_names[kind], layer_names[layer]);
+    return kind < KINDS ? kind_names[kind] : "";
 }
 
-bool find_fault(const char *name, uint8_t *kind, uint8_t *layer)
+const char *layer_name(uint8_t layer)
 {
-    char candidate[FAULT_NAME_ROOM];
-    for (uint8_t k = 1; k < FAULT_KINDS; k++)
-        for (uint8_t l = 1; l < FAULT_LAYERS; l++) {
-            write_fault_name(k, l, candidate);
-            if (strcmp(name, candidate) != 0) continue;
-            *kind = k;
-            *layer = l;
-            return true;
-        }
+    return layer < LAYERS ? layer_names[layer] : "";
+}
+
+bool find_kind(const char *name, size_t len, uint8_t *kind)
+{
+    for (*kind = 1; *kind < KINDS; ++*kind)
+        if (strlen(kind_names[*kind]) == len && memcmp(kind_names[*kind], name, len) == 0) return true;
+    return false;
+}
+
+bool find_layer(const char *name, uint8_t *layer)
+{
+    for (*layer = 1; *layer < LAYERS; ++*layer)
+        if (strcmp(layer_names[*layer], name) == 0) return true;
     return false;
 }
 

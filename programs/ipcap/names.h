@@ -6,19 +6,16 @@
 #include <stddef.h>
 #include <stdint.h>
 
-enum { FAULT_KINDS = 6, FAULT_LAYERS = 12 };
-
 /* Returns the name of a protocol number, or an empty string if it isn't in our list. */
 const char *number_name(uint8_t number);
 
-/* A buffer size that is large enough for the name of every error and its terminating null byte. */
-enum { FAULT_NAME_ROOM = 64 };
+/* Return the name of a kind of error, such as `too-short`, and of a header or packet, such as `routing`. */
+const char *kind_name(uint8_t kind);
+const char *layer_name(uint8_t layer);
 
-/* Writes the name of an error, such as `too-short routing`. Requires kind < FAULT_KINDS and layer < FAULT_LAYERS. */
-void write_fault_name(uint8_t kind, uint8_t layer, char name[FAULT_NAME_ROOM]);
-
-/* Finds the kind and the layer of an error by its name. Returns false if there is none with that name. */
-bool find_fault(const char *name, uint8_t *kind, uint8_t *layer);
+/* Find the kind whose name has these `len` bytes, and the layer with this name. Return false if there is none. */
+bool find_kind(const char *name, size_t len, uint8_t *kind);
+bool find_layer(const char *name, uint8_t *layer);
 
 /* Reads a decimal number from 0 to 255 without leading zeros, and advances `text` past it. Returns false on failure. */
 bool read_byte_number(const char **text, uint8_t *number);

@@ -16,9 +16,10 @@ bool parse_packet(struct parts *parts, const uint8_t *bytes, size_t len)
 {
     parts->bytes = bytes;
     parts->len = len;
-    wolfaren_dissect(bytes, len, parts->headers, parts->room, &parts->packet);
-    if (parts->packet.headers <= parts->room) return true;
-    if (!make_room(parts, parts->packet.headers)) return false;
+    /* without the headers, which most packets don't have, it is faster */
+    wolfaren_dissect(bytes, len, NULL, 0, &parts->packet);
+    if (parts->packet.headers == 0) return true;
+    if (parts->packet.headers > parts->room && !make_room(parts, parts->packet.headers)) return false;
     wolfaren_dissect(bytes, len, parts->headers, parts->room, &parts->packet);
     return true;
 }

@@ -1,13 +1,16 @@
-/* Writes statistics to standard output. Both calls reorder the tables, after which nothing may be added. */
+/* Writes statistics. */
 #ifndef IPCAP_PRINT_COUNTS_H
 #define IPCAP_PRINT_COUNTS_H
 
+#include <stdbool.h>
+#include <stdio.h>
+
 #include "counts.h"
 
-/* Writes human-readable tables. */
-void print_tables(struct counts *counts);
-
-/* Writes one line with a JSON object. */
-void print_json(struct counts *counts);
+/*
+ * Writes one line with a JSON object, or human-readable tables. Sorts the table of chains for that, after which nothing
+ * may be added to the statistics.
+ */
+void print_counts(struct counts *counts, FILE *file, bool json);
 
 #endif

@@ -4,9 +4,11 @@
 #include <string.h>
 
 #include "chain_key.h"
+#include "fields.h"
+#include "names.h"
 #include "report.h"
 
-/* A buffer size that is large enough for the name of every member and its terminating null byte. */
+/* A buffer size that is large enough for any text, such as the name of a member, and its terminating null byte. */
 enum { NAME_ROOM = CHAIN_TEXT_ROOM };
 
 /* Reports an error at the position of the next byte. */
@@ -66,17 +68,17 @@ static bool take(struct json_input *input, int byte, const char *wanted)
     return true;
 }
 
-static bool read_name(struct json_input *input, char name[NAME_ROOM])
+static bool read_text(struct json_input *input, char text[NAME_ROOM])
 {
     size_t len = 0;
-    if (!take(input, '"', "a name in quotes")) return false;
+    if (!take(input, '"', "a text in quotes")) return false;
     while (input->next != '"') {
         if (input->next < ' ' || input->next > '~') return refuse_next(input, "a printable ASCII character");
-        if (len == NAME_ROOM - 1) return refuse(input, "the name is longer than any valid name");
-        name[len++] = (char)input->next;
+        if (len == NAME_ROOM - 1) return refuse(input, "the text is longer than any valid one");
+        text[len++] = (char)input->next;
         advance(input);
     }
-    name[len] = '\0';
+    text[len] = '\0';
     advance(input);
     return true;
 }
@@ -96,11 +98,18 @@ static bool read_count(struct json_input *input, uint64_t *count)
     return true;
 }
 
-/* The state of reading an object. `done` has a bit for each member of the outer object that has been read. */
+/*
+ * The state of reading an object. `done` has a bit for each member of the outer object that has been read, and
+ * `unknown` is where the first unknown member was, if there was one.
+ */
 struct reading {
     struct json_input *input;
     struct counts *counts;
     unsigned done;
+    unsigned minor; /* of the version */
+    struct json_input unknown;
+    uint64_t *elements; /* of the array that is read */
+    const struct array *array;
 };
 
 typedef bool (*member_reader)(struct reading *reading, const char *name);
@@ -114,7 +123,7 @@ static bool read_object(struct reading *reading, member_reader read_member)
     skip_space(input);
     if (input->next == '}') return take(input, '}', "'}'");
     do {
-        if (!read_name(input, name) || !take(input, ':', "':'") || !read_member(reading, name)) return false;
+        if (!read_text(input, name) || !take(input, ':', "':'") || !read_member(reading, name)) return false;
         skip_space(input);
     } while (input->next == ',' && take(input, ',', "','"));
     return take(input, '}', "',' or '}'");
@@ -140,7 +149,7 @@ static bool read_entry(struct reading *reading, struct table *table, const struc
     if (has_key(table, key)) return refuse(reading->input, "duplicate name in a table");
     if (table->count == TABLE_KEYS) return refuse(reading->input, "the table has too many names");
     if (!read_table_count(reading, &count)) return false;
-    if (add_to_table(table, key, count) == ADDED) return true;
+    if (add_to_table(table, key, count)) return true;
     complain_of_memory();
     return false;
 }
@@ -153,81 +162,96 @@ static bool read_chain_member(struct reading *reading, const char *name)
     return read_entry(reading, &reading->counts->chains, &key);
 }
 
-/* Reads a decimal length without leading zeros. */
-static bool read_length(const char *text, uint64_t *len)
+static bool read_element(struct reading *reading, const char *name)
 {
-    *len = 0;
-    if (*text == '\0' || (text[0] == '0' && text[1] != '\0')) return false;
-    for (; *text; text++) {
-        if (*text < '0' || *text > '9' || *len > UINT32_MAX) return false;
-        *len = *len * 10 + (uint64_t)(*text - '0');
-    }
+    size_t element;
+    char words[64];
+    if (reading->array->read_name(name, &element) && element < reading->array->len)
+        return read_into(reading, &reading->elements[element]);
+    snprintf(words, sizeof words, "the name is not in \"%s\"", reading->array->name);
+    return refuse(reading->input, words);
+}
+
+static bool read_array(struct reading *reading, const struct array *array)
+{
+    reading->array = array;
+    reading->elements = array_in(&reading->counts->statistics, array);
+    return read_object(reading, read_element);
+}
+
+/* Reads a text such as "1.0": the version, whose major number must be ours. */
+static bool read_version(struct reading *reading)
+{
+    char text[NAME_ROOM];
+    const char *at = text;
+    uint8_t major, minor;
+    if (!read_text(reading->input, text)) return false;
+    if (!read_byte_number(&at, &major) || *at++ != '.' || !read_byte_number(&at, &minor) || *at)
+        return refuse(reading->input, "the version is not two numbers");
+    if (major != FORMAT_MAJOR) return refuse(reading->input, "the version has another major number");
+    reading->minor = minor;
     return true;
 }
 
-static bool read_length_member(struct reading *reading, const char *name)
+static bool skip_count(struct reading *reading, const char *name)
 {
-    uint64_t len;
-    struct key key;
-    if (strcmp(name, "other") == 0) return read_into(reading, &reading->counts->chain_bytes.other);
-    if (!read_length(name, &len)) return refuse(reading->input, "the name is not a length");
-    length_key(len, &key);
-    return read_entry(reading, &reading->counts->chain_bytes, &key);
+    uint64_t count;
+    (void)name;
+    return read_count(reading->input, &count);
 }
 
-static bool read_number_member(struct reading *reading, const char *name)
+/* Skips the value of an unknown member: a count, a text, or an object of counts. */
+static bool skip_member(struct reading *reading)
 {
-    uint8_t number;
-    if (!read_byte_number(&name, &number) || *name) return refuse(reading->input, "the name is not a protocol number");
-    return read_into(reading, &reading->counts->numbers[number]);
+    char text[NAME_ROOM];
+    if (!reading->unknown.file) reading->unknown = *reading->input;
+    skip_space(reading->input);
+    if (reading->input->next == '{') return read_object(reading, skip_count);
+    return reading->input->next == '"' ? read_text(reading->input, text) : skip_count(reading, NULL);
 }
 
-static bool read_fault_member(struct reading *reading, const char *name)
+/* The members of the outer object: the version, the single counts, the table of chains, and the arrays. */
+enum { VERSION_AT, SCALARS_AT, CHAINS_AT = SCALARS_AT + SCALARS, ARRAYS_AT, MEMBERS = ARRAYS_AT + ARRAYS };
+
+_Static_assert(MEMBERS <= 32, "each member has a bit in `done`");
+
+static const char *member_name(unsigned member)
 {
-    uint8_t kind, layer;
-    if (!find_fault(name, &kind, &layer)) return refuse(reading->input, "the name is not a fault");
-    return read_into(reading, &reading->counts->faults[kind][layer]);
+    if (member == VERSION_AT) return "version";
+    if (member == CHAINS_AT) return "chains";
+    return member < CHAINS_AT ? scalars[member - SCALARS_AT].name : arrays[member - ARRAYS_AT].name;
 }
 
-/* The members of the outer object: the counts and the tables. */
-static const char *const count_names[] = {"packets", "ipv4", "ipv6", "unread", "not_ip", "fragments", "truncated"};
-static const char *const table_names[] = {"chains", "chain_bytes", "final_numbers", "faults"};
-static const member_reader table_readers[] = {read_chain_member, read_length_member, read_number_member,
-                                              read_fault_member};
-
-enum { COUNTS = sizeof count_names / sizeof *count_names, TABLES = sizeof table_names / sizeof *table_names };
-
-static bool mark_done(struct reading *reading, unsigned member)
+static bool read_value(struct reading *reading, unsigned member)
 {
-    unsigned bit = 1U << member;
-    if (reading->done & bit) return refuse(reading->input, "duplicate name in the object");
-    reading->done |= bit;
-    return true;
+    struct wolfaren_statistics *statistics = &reading->counts->statistics;
+    if (member == VERSION_AT) return read_version(reading);
+    if (member == CHAINS_AT) return read_object(reading, read_chain_member);
+    if (member > CHAINS_AT) return read_array(reading, &arrays[member - ARRAYS_AT]);
+    return read_count(reading->input, scalar_in(statistics, &scalars[member - SCALARS_AT]));
 }
 
 static bool read_outer_member(struct reading *reading, const char *name)
 {
-    struct counts *counts = reading->counts;
-    uint64_t *places[COUNTS] = {&counts->packets, &counts->ipv4,      &counts->ipv6, &counts->unread,
-                                &counts->not_ip,  &counts->fragments, &counts->truncated};
-    for (unsigned i = 0; i < COUNTS; i++)
-        if (strcmp(name, count_names[i]) == 0) return mark_done(reading, i) && read_count(reading->input, places[i]);
-    for (unsigned i = 0; i < TABLES; i++)
-        if (strcmp(name, table_names[i]) == 0)
-            return mark_done(reading, COUNTS + i) && read_object(reading, table_readers[i]);
-    return refuse(reading->input, "unknown member name");
+    for (unsigned member = 0; member < MEMBERS; member++) {
+        if (strcmp(name, member_name(member)) != 0) continue;
+        if (reading->done & 1U << member) return refuse(reading->input, "duplicate name in the object");
+        reading->done |= 1U << member;
+        return read_value(reading, member);
+    }
+    return skip_member(reading);
 }
 
 bool read_json(struct json_input *input, struct counts *counts)
 {
-    struct reading reading = {input, counts, 0};
+    struct reading reading = {.input = input, .counts = counts};
     if (!read_object(&reading, read_outer_member)) return false;
-    for (unsigned i = 0; i < COUNTS + TABLES; i++) {
+    for (unsigned member = 0; member < MEMBERS; member++) {
         char words[64];
-        if (reading.done & 1U << i) continue;
-        const char *name = i < COUNTS ? count_names[i] : table_names[i - COUNTS];
-        snprintf(words, sizeof words, "the object has no \"%s\"", name);
+        if (reading.done & 1U << member) continue;
+        snprintf(words, sizeof words, "the object has no \"%s\"", member_name(member));
         return refuse(input, words);
     }
+    if (reading.unknown.file && reading.minor <= FORMAT_MINOR) return refuse(&reading.unknown, "unknown member name");
     return do_add_up(counts) || refuse(input, "the counts don't add up");
 }

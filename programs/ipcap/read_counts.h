@@ -23,8 +23,9 @@ void begin_json(struct json_input *input, FILE *file);
 bool has_more_json(struct json_input *input);
 
 /*
- * Reads an object written by `print_json` into `counts`, which must be filled with zeros. White space is accepted where
- * JSON allows it, and members in any order. Anything else is an error: reports where and why, and returns false.
+ * Reads an object written by `print_counts` into `counts`, which must be those of no packets. White space is accepted
+ * where JSON allows it, and members in any order. Members that aren't known are skipped if the version has our major
+ * number and a larger minor number. Anything else is an error: reports where and why, and returns false.
  */
 bool read_json(struct json_input *input, struct counts *counts);
 

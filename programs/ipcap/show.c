@@ -6,10 +6,10 @@
 #include <string.h>
 #include <unistd.h>
 
-#include "capture.h"
 #include "chain_key.h"
 #include "commands.h"
 #include "drawing.h"
+#include "input.h"
 #include "options.h"
 #include "report.h"
 
@@ -64,6 +64,15 @@ static void print_title(const struct capture *capture, const struct packet *pack
     }
 }
 
+/* Dissects the IP packet of a captured packet. If memory runs out, reports it and returns false. */
+static bool parse_captured(struct parts *parts, const struct packet *packet)
+{
+    size_t len = packet->header.caplen - packet->ip_offset;
+    if (parse_packet(parts, packet->frame + packet->ip_offset, len)) return true;
+    complain_of_memory();
+    return false;
+}
+
 static bool show_packet(const struct capture *capture, const struct packet *packet, struct parts *parts, bool in_color)
 {
     if (packet->is_ip && !parse_captured(parts, packet)) return false;
@@ -76,17 +85,16 @@ static bool show_packet(const struct capture *capture, const struct packet *pack
 
 static bool show_capture(const char *path, bool in_color)
 {
-    struct capture capture;
+    struct input input;
     struct packet packet;
     struct parts parts = {0};
-    enum reading reading;
     bool is_shown = true;
-    if (!open_capture(&capture, path)) return false;
-    while (is_shown && (reading = read_packet(&capture, &packet)) == READ_PACKET)
-        is_shown = show_packet(&capture, &packet, &parts, in_color);
-    close_capture(&capture);
+    if (!open_input(&input, path)) return false;
+    while (is_shown && read_packet(&input.capture, &packet))
+        is_shown = show_packet(&input.capture, &packet, &parts, in_color);
     free_parts(&parts);
-    return is_shown && finish_output() && reading == READ_END;
+    bool is_read = close_input(&input);
+    return is_shown && finish_output() && is_read;
 }
 
 int run_show(int count, char **arguments)

@@ -4,9 +4,9 @@
 #include <stdio.h>
 #include <string.h>
 
-#include "capture.h"
 #include "commands.h"
 #include "counts.h"
+#include "input.h"
 #include "options.h"
 #include "print_counts.h"
 #include "read_counts.h"
@@ -14,7 +14,7 @@
 
 static const char stat_usage[] =
     "usage: ipcap stat [--json] [FILE..]\n"
-    "Counts the chains of IP extension headers in each FILE, or standard input.\n"
+    "Counts the packets of each FILE, or standard input, by their IP extension headers.\n"
     "  --json     print a JSON object of counts, which `ipcap sum` reads, instead of tables\n"
     "  --help     print this help\n"
     "  --version  print the version\n";
@@ -26,71 +26,49 @@ static const char sum_usage[] =
     "  --help     print this help\n"
     "  --version  print the version\n";
 
-/* Counts one packet. */
-static bool count_captured(struct counts *counts, struct parts *parts, const struct packet *packet)
-{
-    count_frame(counts, packet->is_short);
-    if (!packet->is_ip) {
-        counts->not_ip++;
-        return true;
-    }
-    if (!parse_captured(parts, packet)) return false;
-    if (count_packet(counts, parts)) return true;
-    complain_of_memory();
-    return false;
-}
-
 /* Counts the packets of a capture. If it can't be read to its end, the packets before that point are counted. */
-static bool count_capture(struct counts *counts, struct parts *parts, const char *path)
+static bool count_input(struct counts *counts, const char *path)
 {
-    struct capture capture;
-    struct packet packet;
-    enum reading reading;
-    bool is_counted = true;
-    if (!open_capture(&capture, path)) return false;
-    while (is_counted && (reading = read_packet(&capture, &packet)) == READ_PACKET)
-        is_counted = count_captured(counts, parts, &packet);
-    close_capture(&capture);
-    return is_counted && reading == READ_END;
+    struct input input;
+    if (!open_input(&input, path)) return false;
+    bool is_counted = count_capture(counts, &input.capture);
+    bool is_read = close_input(&input);
+    if (!is_counted) complain_of_memory();
+    return is_read && is_counted;
 }
 
 /* Writes the statistics. Returns the exit status: success if writing succeeds and `is_done` is set. */
 static int finish_counts(struct counts *counts, bool json, bool is_done)
 {
     errno = 0;
-    if (json)
-        print_json(counts);
-    else
-        print_tables(counts);
+    print_counts(counts, stdout, json);
     free_counts(counts);
     return finish_output() && is_done ? STATUS_DONE : STATUS_FAILED;
 }
 
 int run_stat(int count, char **arguments)
 {
-    struct counts counts = {0};
-    struct parts parts = {0};
+    struct counts counts;
     bool json, is_done = true;
     int status = read_json_option(count, arguments, stat_usage, &json);
     if (status >= 0) return status;
-    if (optind == count) is_done = count_capture(&counts, &parts, NULL);
+    init_counts(&counts);
+    if (optind == count) is_done = count_input(&counts, NULL);
     for (int i = optind; i < count; i++)
-        if (!count_capture(&counts, &parts, arguments[i])) is_done = false;
-    free_parts(&parts);
+        if (!count_input(&counts, arguments[i])) is_done = false;
     return finish_counts(&counts, json, is_done);
 }
 
 /* Reads the next object and adds it to the total. */
 static bool add_object(struct json_input *input, struct counts *total)
 {
-    struct counts counts = {0};
-    enum added added = ADDED;
+    struct counts counts;
+    init_counts(&counts);
     bool is_read = read_json(input, &counts);
-    if (is_read) added = add_counts(total, &counts);
+    bool is_added = is_read && merge_counts(total, &counts);
     free_counts(&counts);
-    if (added == ADDED_NO_MEMORY) complain_of_memory();
-    if (added == ADDED_OVERFLOW) complain("standard input: a sum exceeds 18446744073709551615");
-    return is_read && added == ADDED;
+    if (is_read && !is_added) complain_of_memory();
+    return is_added;
 }
 
 /* Adds up all objects. There must be at least one. */
@@ -112,10 +90,11 @@ static bool add_objects(struct counts *total)
 
 int run_sum(int count, char **arguments)
 {
-    struct counts total = {0};
+    struct counts total;
     bool json;
     int status = read_json_option(count, arguments, sum_usage, &json);
     if (status >= 0) return status;
+    init_counts(&total);
     if (optind != count) return refuse_usage(sum_usage, "sum reads standard input and takes no file name");
     if (add_objects(&total)) return finish_counts(&total, json, true);
     free_counts(&total);

@@ -3,11 +3,9 @@
 #include <stdlib.h>
 #include <string.h>
 
-bool add_count(uint64_t *count, uint64_t more)
+uint64_t add_counts(uint64_t count, uint64_t more)
 {
-    if (more > UINT64_MAX - *count) return false;
-    *count += more;
-    return true;
+    return more > UINT64_MAX - count ? UINT64_MAX : count + more;
 }
 
 static int compare_keys(const struct key *left, const struct key *right)
@@ -61,20 +59,33 @@ static bool insert(struct table *table, size_t place, const struct key *key, uin
     return true;
 }
 
-enum added add_to_table(struct table *table, const struct key *key, uint64_t count)
+/* Returns where the place of a key is remembered, by a hash of its first bytes. */
+static uint16_t *recent_of(struct table *table, const struct key *key)
 {
-    size_t place = place_of(table, key);
-    if (is_at(table, place, key)) return add_count(&table->entries[place].count, count) ? ADDED : ADDED_OVERFLOW;
-    if (table->count == TABLE_KEYS) return add_count(&table->other, count) ? ADDED : ADDED_OVERFLOW;
-    return insert(table, place, key, count) ? ADDED : ADDED_NO_MEMORY;
+    uint64_t first;
+    memcpy(&first, key->bytes, sizeof first);
+    return &table->recent[first * 0x9e3779b97f4a7c15U >> 56]; /* 2^64 divided by the golden ratio */
 }
 
-bool sum_table(const struct table *table, uint64_t *total)
+bool add_to_table(struct table *table, const struct key *key, uint64_t count)
 {
-    *total = table->other;
-    for (size_t i = 0; i < table->count; i++)
-        if (!add_count(total, table->entries[i].count)) return false;
+    uint16_t *recent = recent_of(table, key);
+    size_t place = is_at(table, *recent, key) ? *recent : place_of(table, key);
+    if (is_at(table, place, key))
+        table->entries[place].count = add_counts(table->entries[place].count, count);
+    else if (table->count == TABLE_KEYS)
+        table->other = add_counts(table->other, count);
+    else if (!insert(table, place, key, count))
+        return false;
+    *recent = (uint16_t)place;
     return true;
+}
+
+uint64_t sum_table(const struct table *table)
+{
+    uint64_t total = table->other;
+    for (size_t i = 0; i < table->count; i++) total = add_counts(total, table->entries[i].count);
+    return total;
 }
 
 static int compare_entries(const void *left, const void *right)

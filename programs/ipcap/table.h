@@ -21,28 +21,29 @@ struct entry {
     uint64_t count;
 };
 
+/* How many keys are found again without a search. */
+enum { TABLE_RECENT = 256 };
+
 /* A table. All zeros are an empty table. */
 struct table {
     struct entry *entries; /* sorted by key */
     size_t count;
     size_t room;
     uint64_t other;
+    uint16_t recent[TABLE_RECENT]; /* by hash: where the key that was last added was then */
 };
 
-/* Adds to a count. If the sum doesn't fit, returns false and leaves the count unchanged. */
-bool add_count(uint64_t *count, uint64_t more);
+/* Returns the sum of two counts. Counts stop at UINT64_MAX. */
+uint64_t add_counts(uint64_t count, uint64_t more);
 
-/* Results of adding to a table. */
-enum added { ADDED, ADDED_NO_MEMORY, ADDED_OVERFLOW };
-
-/* Adds `count` to the count of a key. */
-enum added add_to_table(struct table *table, const struct key *key, uint64_t count);
+/* Adds `count` to the count of a key. Returns false if memory runs out. */
+bool add_to_table(struct table *table, const struct key *key, uint64_t count);
 
 /* Whether a table has a key. */
 bool has_key(const struct table *table, const struct key *key);
 
-/* Stores the sum of all counts, including `other`, in `total`. Returns false if it doesn't fit. */
-bool sum_table(const struct table *table, uint64_t *total);
+/* Returns the sum of all counts, including `other`. */
+uint64_t sum_table(const struct table *table);
 
 /*
  * Sorts the entries for printing: by descending count, and equal counts by key. Afterwards only `free_table` may be

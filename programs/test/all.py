@@ -4,6 +4,7 @@ import sys
 
 import harness
 import test_filter
+import test_library
 import test_show
 import test_stat
 import test_sum
@@ -17,7 +18,9 @@ GROUPS = [("link layers", test_stat.link_layers), ("short frames", test_stat.sho
           ("forms of files", test_stat.forms_of_files), ("chains as tshark finds them", test_stat.tshark_agrees),
           ("odd packets as tshark finds them", test_stat.tshark_agrees_on_odd_packets),
           ("chains as scapy makes them", test_stat.scapy_agrees), ("tables", test_stat.tables),
+          ("tables of numbers", test_stat.tables_of_numbers),
           ("sums of parts", test_sum.sums), ("malformed JSON", test_sum.malformed), ("damaged JSON", test_sum.damaged),
+          ("versions of JSON", test_sum.versions), ("largest counts", test_sum.largest_counts),
           ("bounds of tables", test_sum.bounds), ("conditions", test_filter.conditions),
           ("forms of what is written", test_filter.forms_of_files), ("between programs", test_filter.between_programs),
           ("conditions and outputs that are refused", test_filter.what_is_refused), ("drawings", test_show.drawings),
@@ -26,7 +29,8 @@ GROUPS = [("link layers", test_stat.link_layers), ("short frames", test_stat.sho
           ("full outputs", test_use.full_outputs), ("terminals", test_use.terminals),
           ("interrupts", test_use.interrupts), ("bounded memory", test_use.bounded_memory),
           ("refused memory", test_use.refused_memory),
-          ("damaged captures", test_use.damaged_captures)]
+          ("damaged captures", test_use.damaged_captures), ("the library of captures", test_library.as_ipcap),
+          ("memory refused to the library", test_library.refused_memory)]
 
 if __name__ == "__main__":
     sys.exit(harness.main(GROUPS))

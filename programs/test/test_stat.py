@@ -2,9 +2,11 @@
 
 import collections
 import random
+import re
 import xml.etree.ElementTree as ElementTree
 
 from captures import *
+import harness as expected
 from harness import statistics
 
 SHORT_NAMES = {0: "hop-by-hop", 43: "routing", 44: "fragment", 51: "authentication", 60: "destination-options"}
@@ -28,8 +30,9 @@ def link_layers(harness):
     cases.append(("OpenBSD", LOOP, family(24, six), family(2, four), family(7, bytes(20))))
     for name, link_layer, *frames in cases:
         harness.equal(harness.stat(harness.file(capture(frames, link_layer))), (statistics(
-            packets=3, ipv4=1, ipv6=1, not_ip=1, chains={"IPv4 51 -> 6": 1, "IPv6 0,43 -> 17": 1},
-            chain_bytes={"24": 1, "16": 1}, final_numbers={"6": 1, "17": 1}), ""), "link layer", name)
+            other_frames=1, packets=2, ipv4=1, ipv6=1, at_payload=2, payload_bytes=len(UDP) + len(TCP),
+            chains={"IPv4 51 -> 6": 1, "IPv6 0,43 -> 17": 1}, chain_headers={"1": 1, "2": 1}, chain_bytes={"24": 1, "16": 1},
+            headers={"0": 1, "43": 1, "51": 1}, payload_numbers={"6": 1, "17": 1}), ""), "link layer", name)
     for link_layer, packet, version in [(RAW, six, 6), (RAW, four, 4), (IPV6, six, 6), (IPV4, four, 4)]:
         found, _ = harness.stat(content=capture([packet], link_layer))
         harness.equal((found["packets"], found["ipv%d" % version]), (1, 1), "link layer", link_layer)
@@ -41,7 +44,8 @@ def short_frames(harness):
                                       (SLL, cooked(b"", 0x86DD), 16), (SLL2, cooked2(b"", 0x86DD), 20),
                                       (NULL, struct.pack("<I", 30), 4)]:
         found, _ = harness.stat(content=capture([frame[:n] for n in range(before + 1)], link_layer))
-        harness.equal(found, statistics(packets=before + 1, not_ip=before, unread=1), "link layer", link_layer)
+        harness.equal(found, statistics(other_frames=before, packets=1, without_header=1, at_truncated_header=1,
+                                        truncated_headers={"IP-header": 1}), "link layer", link_layer)
 
 
 def faulty_packets():
@@ -75,10 +79,13 @@ def faults(harness):
     packets = list(faulty_packets())
     for packet, fault, chain_text, chain_bytes in packets:
         found, _ = harness.stat(content=capture([packet], RAW))
-        wanted = statistics(packets=1, faults={fault: 1}, unread=int(chain_text is None))
+        wanted = statistics(packets=1, at_fault=1, faults={fault: 1}, without_header=int(chain_text is None))
         if chain_text:
+            numbers = re.findall(r"\d+", chain_text)[1:-1]
             wanted["ipv" + chain_text[3]] = 1
-            wanted.update(chains={chain_text: 1}, chain_bytes={str(chain_bytes): 1})
+            wanted["atomic_fragments"] = numbers.count("44")
+            wanted.update(chains={chain_text: 1}, chain_bytes={str(chain_bytes): 1}, headers=dict.fromkeys(numbers, 1),
+                          chain_headers={str(len(numbers)): 1})
         harness.equal(found, wanted, "packet", packet.hex())
     found, _ = harness.stat(content=capture([packet for packet, *_ in packets], RAW))
     harness.equal(sum(found["faults"].values()), len(packets), "all faults in one capture")
@@ -95,7 +102,7 @@ def incomplete_packets(harness):
                (b"", None), (ipv6(17, UDP)[:39], None), (ipv4(17, b"")[:19], None), (ipv4(17, b"", words=6), None)]
     for packet, chain_text in packets:
         found, _ = harness.stat(content=capture([packet], RAW))
-        harness.equal((found["chains"], found["unread"], found["faults"]),
+        harness.equal((found["chains"], found["without_header"], found["faults"]),
                       ({chain_text: 1} if chain_text else {}, int(chain_text is None), {}), "packet", packet.hex())
 
 
@@ -125,7 +132,7 @@ def fragments(harness):
                (LATER_FRAGMENT, "IPv6 44 -> 60", 1)]
     for packet, chain_text, fragments_wanted in packets:
         found, _ = harness.stat(content=capture([packet], RAW))
-        harness.equal((found["chains"], found["fragments"], found["faults"]), ({chain_text: 1}, fragments_wanted, {}),
+        harness.equal((found["chains"], expected.fragments(found), found["faults"]), ({chain_text: 1}, fragments_wanted, {}),
                       "packet", packet.hex())
 
 
@@ -154,7 +161,7 @@ def snap_lengths(harness):
             wanted[text] = wanted.get(text, 0) + 1
         unread = wanted.pop(None)
         found, told = harness.stat(content=file_header() + b"".join(record(frame, length) for length in kept))
-        harness.equal((found["chains"], found["unread"], found["truncated"], found["faults"], told),
+        harness.equal((found["chains"], found["without_header"], found["truncated_frames"], found["faults"], told),
                       (wanted, unread, len(kept), {}, ""), "snap lengths of IPv%d" % version)
 
 
@@ -170,7 +177,7 @@ def faults_in_truncated_packets(harness):
             (ipv4(17, UDP, words=3), 40, {"header-length IPv4-header": 1}),
             (ipv4(17, UDP, total_len=10), 40, {"too-short IPv4-packet": 1})]:
         found, _ = harness.stat(content=file_header() + record(ethernet(packet), kept))
-        harness.equal((found["faults"], found["truncated"]), (faults_wanted, 1), "packet", packet.hex())
+        harness.equal((found["faults"], found["truncated_frames"]), (faults_wanted, 1), "packet", packet.hex())
 
 
 def truncated_files(harness):
@@ -286,14 +293,17 @@ def compare_with_tshark(harness, content, least):
     packets = list(ElementTree.fromstring(harness.tshark(path, *fragments_off, "-T", "pdml")).iter("packet"))
     chains = collections.Counter(map(chain_in, packets))
     not_ip = chains.pop(None, 0)
-    finals = collections.Counter()
-    for text, count in chains.items():
-        if not text.endswith(" truncated"):
-            finals[text.split()[-1]] += count
+    finals = {False: collections.Counter(), True: collections.Counter()}
+    for packet in packets:
+        text = chain_in(packet)
+        if text and not text.endswith(" truncated"):
+            finals[is_later_fragment(packet)][text.split()[-1]] += 1
     found, _ = harness.stat(path)
     harness.check(len(chains) >= least, "chains that tshark finds:", len(chains))
-    harness.equal((found["chains"], found["final_numbers"], found["fragments"], found["not_ip"], found["packets"]),
-                  (chains, finals, sum(map(is_fragment, packets)), not_ip, len(packets)), "what tshark finds")
+    harness.equal((found["chains"], found["payload_numbers"], found["later_fragment_numbers"], expected.fragments(found),
+                   found["other_frames"], found["packets"]),
+                  (chains, finals[False], finals[True], sum(map(is_fragment, packets)), not_ip, len(packets) - not_ip),
+                  "what tshark finds")
 
 
 def tshark_agrees(harness):
@@ -360,24 +370,63 @@ def tables(harness):
     path = harness.file(capture([ethernet(ipv6_chain([0, 43])), ethernet(ipv6_chain([0, 43])), ethernet(ipv4(6, TCP)),
                                  ethernet(ipv6(60, b"\x11")), ethernet(bytes(46), (), 0x0806)]))
     wanted = """packets
-           5  all
-           1  IPv4
-           3  IPv6
-           0  IP with an unread base header
-           1  not IP
-           0  fragments
-           0  truncated by the snap length
+           1  frames without an IP packet
+           0  frames truncated by the snap length
+           4  IP packets
+           0  packets without an IP header
+           1  IPv4 packets
+           3  IPv6 packets
+           3  headers that end at the payload
+           0  headers that end at the payload of a later fragment
+           0  headers that end at a truncated header
+           1  headers that end at a fault
+           0  atomic fragments
+           0  first fragments
+           0  middle fragments
+           0  last fragments
+           0  packets with missing bytes
+          44  payload bytes
 chains
            2  IPv6 0,43 -> 17
            1  IPv4 -> 6
            1  IPv6 -> 60 fault
-bytes of a chain
+headers of a chain
+           2  0
+           2  2
+least bytes of a chain
            2  0
            2  16
-final numbers
+extension headers
+           2  0 hop-by-hop
+           2  43 routing
+payloads
            2  17 UDP
            1  6 TCP
+payloads of later fragments
+truncated headers
 faults
            1  too-short destination-options
 """
     harness.equal(harness.run("stat", path), (0, wanted.encode(), "", None), "tables")
+
+
+def tables_of_numbers(harness):
+    """The last element of a table counts everything from there on, and equal counts are sorted by number."""
+    packets = [ipv6_chain([60] * n) for n in [15, 16, 17, 64]] + [ipv6(60, options(17, 31) + UDP), ipv6_chain([60] * 8000)]
+    found, _ = harness.stat(content=capture([ethernet(packet) for packet in packets], snap_len=262144))
+    harness.equal(found["chain_headers"], {"16": 4, "1": 1, "15": 1}, "headers of a chain")
+    harness.equal(found["chain_bytes"], {"120": 1, "128": 1, "136": 1, "256": 1, "512": 1, "32768": 1}, "bytes of a chain")
+    harness.equal(found["headers"], {"60": 15 + 16 + 17 + 64 + 1 + 8000}, "extension headers")
+    packets = [ipv6(44, fragment(17, 5, 1) + UDP), ipv6(44, fragment(6, 5, 0) + TCP), ipv6(44, fragment(17, 0, 1) + UDP),
+               ipv6(44, fragment(58) + UDP), ipv4(1, bytes(8), 0x2000), ipv6_chain([0, 43])[:52], ipv6_chain([0, 43])[:60],
+               ipv4(17, UDP)[:-1]]
+    found, _ = harness.stat(content=capture(packets, RAW))
+    harness.equal(found, statistics(
+        packets=8, ipv4=2, ipv6=6, at_payload=5, at_later_fragment=2, at_truncated_header=1, atomic_fragments=1,
+        first_fragments=2, middle_fragments=1, last_fragments=1, incomplete=3, payload_bytes=12 + 20 + 12 + 12 + 8 + 4 + 11,
+        chains={"IPv4 -> 1": 1, "IPv4 -> 17": 1, "IPv6 0 -> 43 truncated": 1, "IPv6 44 -> 6": 1, "IPv6 44 -> 17": 2,
+                "IPv6 44 -> 58": 1, "IPv6 0,43 -> 17": 1},
+        chain_headers={"0": 2, "1": 5, "2": 1}, chain_bytes={"0": 2, "8": 5, "16": 1}, headers={"0": 2, "43": 1, "44": 4},
+        payload_numbers={"1": 1, "17": 3, "58": 1}, later_fragment_numbers={"6": 1, "17": 1},
+        truncated_headers={"routing": 1}), "fragments and truncated packets")
+    harness.equal(list(found["later_fragment_numbers"]), ["6", "17"], "equal counts")

@@ -12,10 +12,14 @@ def sums(harness):
     """The statistics of the parts of a capture add up to those of the whole, also in several steps."""
     frames = random_frames(300, 2) + [ethernet(b""), ethernet(ipv6(0, b""))]
     whole = harness.run("stat", "--json", harness.file(capture(frames)))[1]
-    bounds = sorted(random.Random(3).sample(range(len(frames)), 4))
+    draw = random.Random(3)
+    bounds = sorted(draw.sample(range(len(frames)), 4))
     files = [harness.file(capture(frames[a:b])) for a, b in zip([0] + bounds, bounds + [len(frames)])]
     parts = [harness.run("stat", "--json", file)[1] for file in files]
     harness.equal(harness.run("sum", "--json", content=b"".join(parts)), (0, whole, "", None), "parts")
+    for _ in range(5):
+        shuffled = draw.sample(parts, len(parts))
+        harness.equal(harness.run("sum", "--json", content=b"".join(shuffled)), (0, whole, "", None), "another order")
     joined = harness.run("sum", "--json", content=b"".join(parts[:2]))[1]
     rest = harness.run("sum", "--json", content=b"".join(parts[2:]))[1]
     harness.equal(harness.run("sum", "--json", content=rest + joined), (0, whole, "", None), "parts of parts")
@@ -26,8 +30,8 @@ def sums(harness):
     total = json.loads(harness.run("sum", "--json", content=whole * 3)[1])
     one = json.loads(whole)
     wanted = {name: {k: v * 3 for k, v in part.items()} if isinstance(part, dict) else part * 3
-              for name, part in one.items()}
-    harness.equal(total, wanted, "three times the whole")
+              for name, part in one.items() if name != "version"}
+    harness.equal(total, {"version": "1.0", **wanted}, "three times the whole")
 
 
 def refuse(harness, content, words, name):
@@ -38,16 +42,17 @@ def refuse(harness, content, words, name):
 
 def good(**parts):
     """Statistics of one packet, as JSON. Members can be overridden."""
-    counts = statistics(packets=1, ipv6=1, chains={"IPv6 0 -> 17": 1}, chain_bytes={"8": 1}, final_numbers={"17": 1})
+    counts = statistics(packets=1, ipv6=1, at_payload=1, chains={"IPv6 0 -> 17": 1}, chain_headers={"1": 1},
+                        chain_bytes={"8": 1}, headers={"0": 1}, payload_numbers={"17": 1})
     return json.dumps({**counts, **parts}, separators=(",", ":")).encode()
 
 
 def malformed(harness):
     text = good()
     cases = [(b"", "no statistics"), (b" \n ", "no statistics"), (b"x", "expected '{', found 'x'"), (b"[]", "'['"),
-             (b"null", "'n'"), (b"{}", "has no \"packets\""), (b"\xff", "byte 0xff"),
-             (b"{\"packets\":1}", "has no \"ipv4\""),
-             (text + b"x", "'x'"), (text + b",", "','"), (text[:-1] + b",}", "expected a name in quotes, found '}'"),
+             (b"null", "'n'"), (b"{}", "has no \"version\""), (b"\xff", "byte 0xff"),
+             (b"{\"version\":\"1.0\",\"other_frames\":0}", "has no \"truncated_frames\""),
+             (text + b"x", "'x'"), (text + b",", "','"), (text[:-1] + b",}", "expected a text in quotes, found '}'"),
              (text.replace(b":1", b":-1", 1), "'-'"), (text.replace(b":1", b":01", 1), "'1'"),
              (text.replace(b":1", b":1.5", 1), "'.'"),
              (text.replace(b":1", b":1e3", 1), "'e'"), (text.replace(b":1", b":\"1\"", 1), "a count"),
@@ -55,8 +60,10 @@ def malformed(harness):
              (text.replace(b":1", b":18446744073709551616", 1), "exceeds 18446744073709551615"),
              (text.replace(b":1", b":99999999999999999999999", 1), "exceeds 18446744073709551615"),
              (text.replace(b":1", b":2", 1), "don't add up"),
-             (text.replace(b"packets", b"packet"), "unknown member"),
-             (text.replace(b"packets", b"pack\\u0065ts"), "unknown member"),
+             (text.replace(b"packets", b"packet"), "has no \"packets\""),
+             (text.replace(b"packets", b"pack\\u0065ts"), "has no \"packets\""),
+             (text[:-1] + b",\"new\":1}", "unknown member"), (text[:-1] + b",\"new\":{\"a\":1}}", "unknown member"),
+             (text[:-1] + b",\"new\":[1]}", "'['"), (text[:-1] + b",\"new\":{\"a\":{}}}", "'{'"),
              (b"{" + text[1:-1] + b",\"packets\":1}", "duplicate name in the object"),
              (text.replace(b"packets", b"x" * 1000), "longer"), (text.replace(b"packets", b"\0"), "byte 0x00"),
              (text.replace(b"packets", b"\n"), "byte 0x0a"), (text.replace(b"\"packets\"", b"packets"), "'p'")]
@@ -69,13 +76,20 @@ def malformed(harness):
               ({"chains": {"IPv4 0 -> 17": 1}}, "don't add up"),
               ({"chains": {}}, "don't add up"), ({"chains": []}, "'['"), ({"chains": {"IPv6 0 -> 17": {}}}, "'{'"),
               ({"chains": 1}, "'1'"),
-              ({"chain_bytes": {"08": 1}}, "not a length"), ({"chain_bytes": {"x": 1}}, "not a length"),
-              ({"chain_bytes": {"9" * 40: 1}}, "not a length"),
-              ({"chain_bytes": {"8": 2}}, "don't add up"), ({"final_numbers": {"256": 1}}, "not a protocol number"),
-              ({"final_numbers": {"17 ": 1}}, "not a protocol number"), ({"final_numbers": {"17": 2}}, "don't add up"),
-              ({"faults": {"too-short": 1}}, "not a fault"), ({"faults": {"routing": 1}}, "not a fault"),
-              ({"not_ip": 1}, "don't add up"),
-              ({"packets": 2**64 - 1, "not_ip": 2**64 - 1}, "don't add up"), ({"fragments": 2}, "don't add up"),
+              ({"chain_bytes": {"08": 1}}, "not in \"chain_bytes\""), ({"chain_bytes": {"x": 1}}, "not in \"chain_bytes\""),
+              ({"chain_bytes": {"9" * 40: 1}}, "not in \"chain_bytes\""), ({"chain_bytes": {"260": 1}}, "not in"),
+              ({"chain_bytes": {"8": 2}}, "don't add up"), ({"chain_headers": {"17": 1}}, "not in \"chain_headers\""),
+              ({"payload_numbers": {"256": 1}}, "not in \"payload_numbers\""), ({"payload_numbers": {"": 1}}, "not in"),
+              ({"payload_numbers": {"17 ": 1}}, "not in"), ({"payload_numbers": {"17": 2}}, "don't add up"),
+              ({"faults": {"too-short": 1}}, "not in \"faults\""), ({"faults": {"routing": 1}}, "not in \"faults\""),
+              ({"faults": {"too-short x": 1}}, "not in"), ({"faults": {" routing": 1}}, "not in"),
+              ({"faults": {"too-short ": 1}}, "not in"), ({"truncated_headers": {"": 1}}, "not in \"truncated_headers\""),
+              ({"without_header": 1}, "don't add up"), ({"truncated_frames": 2}, "don't add up"),
+              ({"first_fragments": 2}, "don't add up"), ({"incomplete": 2}, "don't add up"), ({"at_fault": 1}, "don't add up"),
+              ({"packets": 2**64 - 1, "without_header": 2**64 - 1}, "don't add up"),
+              ({"version": "2.0"}, "another major number"), ({"version": "0.1"}, "another major number"),
+              ({"version": "1"}, "not two numbers"), ({"version": "1.0.0"}, "not two numbers"),
+              ({"version": "1.256"}, "not two numbers"), ({"version": 1}, "expected a text in quotes, found '1'"),
               ({"chains": {"IPv6 0 -> 17": 1, "other": 2**64 - 1}}, "don't add up")]
     cases += [(good(**parts), words) for parts, words in tables]
     twice = text.replace(b"{\"IPv6 0 -> 17\":1}", b"{\"IPv6 0 -> 17\":1,\"IPv6 0 -> 17\":1}")
@@ -85,9 +99,34 @@ def malformed(harness):
         refuse(harness, content, words, repr(content[:80]))
     many = {"IPv6 %d,%d -> 17" % (n // 256, n % 256): 1 for n in range(4097)}
     refuse(harness, good(chains=many), "too many names", "4097 chains")
-    huge = good(packets=2**63, not_ip=2**63 - 1)
-    refuse(harness, huge * 2, "a sum exceeds 18446744073709551615", "a sum that doesn't fit")
     harness.check("line 3, column 2: " in harness.run("sum", content=text + b"\n\n{x")[2], "position of an error")
+
+
+def versions(harness):
+    """Members of a later version with our major number are skipped, wherever the version is."""
+    text = good()
+    later = b"{\"a\":1,\"b\":{\"c\":2},\"d\":\"text\",\"e\":{}," + good(version="1.7")[1:]
+    wanted = harness.run("sum", "--json", content=text)
+    harness.equal(wanted[0], 0, "our version")
+    harness.equal(harness.run("sum", "--json", content=later), wanted, "a later version")
+    counts = json.loads(later)
+    last = json.dumps({**{name: value for name, value in counts.items() if name != "version"}, "version": "1.1"}).encode()
+    harness.equal(harness.run("sum", "--json", content=last), wanted, "the version comes last")
+    harness.equal(json.loads(harness.run("sum", "--json", content=text + later)[1])["packets"], 2, "both versions")
+
+
+def largest_counts(harness):
+    """Sums stop at 2^64 - 1, and such sums can be added again."""
+    most = 2**64 - 1
+    text = good(**{name: 2**63 for name in ["packets", "ipv6", "at_payload", "payload_bytes"]}, headers={"0": 2**63},
+                chains={"IPv6 0 -> 17": 2**63}, chain_headers={"1": 2**63}, chain_bytes={"8": 2**63},
+                payload_numbers={"17": 2**63})
+    wanted = {**json.loads(text), **{name: most for name in ["packets", "ipv6", "at_payload", "payload_bytes"]},
+              "headers": {"0": most}, "chains": {"IPv6 0 -> 17": most}, "chain_headers": {"1": most},
+              "chain_bytes": {"8": most}, "payload_numbers": {"17": most}}
+    twice = harness.run("sum", "--json", content=text * 2)
+    harness.equal((json.loads(twice[1]), twice[2]), (wanted, ""), "twice")
+    harness.equal(harness.run("sum", "--json", content=twice[1] + good() + twice[1]), twice, "sums added again")
 
 
 def damaged(harness):
@@ -119,4 +158,4 @@ def bounds(harness):
     for count, wanted in [(64, {"IPv6 " + ",".join(["60"] * 64) + " -> 17": 1}), (65, {"other": 1}),
                           (8000, {"other": 1})]:
         found, _ = harness.stat(content=capture([ethernet(ipv6_chain([60] * count))], snap_len=262144))
-        harness.equal((found["chains"], found["chain_bytes"]), (wanted, {str(8 * count): 1}), count, "headers")
+        harness.equal(found["chains"], wanted, count, "headers")

@@ -1,0 +1,89 @@
+#include "input.h"
+
+#include <signal.h>
+#include <stdio.h>
+#include <sys/stat.h>
+#include <unistd.h>
+
+#include "report.h"
+
+/* How many packets are read between two checks whether to update the progress line. */
+enum { PROGRESS_PACKETS = 1024 };
+
+static void leave_interrupt(int signal_number)
+{
+    (void)signal_number;
+}
+
+/*
+ * Ignores the first interrupt, which the program at the other end of the pipe receives too: whatever it still writes is
+ * read. The second interrupt ends this program.
+ */
+static void outlive_interrupt(void)
+{
+    struct sigaction action = {.sa_handler = leave_interrupt, .sa_flags = (int)(SA_RESTART | SA_RESETHAND)};
+    struct sigaction before;
+    if (sigaction(SIGINT, NULL, &before) == 0 && before.sa_handler == SIG_DFL) sigaction(SIGINT, &action, NULL);
+}
+
+/* Determines how long the file at a path is, and outlives an interrupt if it is a pipe. */
+static void look_at_file(struct input *input, const char *path)
+{
+    struct stat status;
+    if ((is_standard_stream(path) ? fstat(STDIN_FILENO, &status) : stat(path, &status)) != 0) return;
+    if (S_ISREG(status.st_mode)) input->len = status.st_size;
+    if (S_ISFIFO(status.st_mode)) outlive_interrupt();
+}
+
+/* Erases the progress line, if there is one. */
+static void clear_progress(struct input *input)
+{
+    if (input->is_progress_shown) fputs("\r\033[K", stderr);
+    input->is_progress_shown = false;
+}
+
+/* Updates the progress line, once per second. */
+static void show_progress(struct capture *capture)
+{
+    struct input *input = (struct input *)capture;
+    struct timespec now;
+    if (capture->number % PROGRESS_PACKETS != 0) return;
+    if (clock_gettime(CLOCK_MONOTONIC, &now) != 0 || now.tv_sec == input->shown.tv_sec) return;
+    input->shown = now;
+    input->is_progress_shown = true;
+    fprintf(stderr, "\r\033[K%s: %llu packets", capture->name, (unsigned long long)capture->number);
+    off_t at = ftello(capture->file);
+    if (input->len > 0 && at >= 0 && at <= input->len)
+        fprintf(stderr, ", %d %%", (int)((double)at * 100 / (double)input->len));
+    fflush(stderr);
+}
+
+void allow_progress(struct input *input)
+{
+    bool is_shown = isatty(STDERR_FILENO) && clock_gettime(CLOCK_MONOTONIC, &input->shown) == 0;
+    input->capture.follow = is_shown ? show_progress : NULL;
+}
+
+static bool report_error(const struct capture *capture)
+{
+    if (is_read_whole(capture)) return true;
+    complain("%s: %s", capture->name, capture->error);
+    return false;
+}
+
+bool open_input(struct input *input, const char *path)
+{
+    *input = (struct input){0};
+    look_at_file(input, path);
+    if (!open_capture(&input->capture, path)) return report_error(&input->capture);
+    /* on one terminal, progress and output would mix */
+    if (!isatty(STDOUT_FILENO)) allow_progress(input);
+    return true;
+}
+
+bool close_input(struct input *input)
+{
+    clear_progress(input);
+    close_capture(&input->capture);
+    return report_error(&input->capture);
+}

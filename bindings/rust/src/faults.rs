@@ -32,6 +32,13 @@ fn layer_of(code: u8) -> Layer {
     }
 }
 
+impl Layer {
+    /// Returns the library's code for the layer.
+    pub(crate) const fn code(self) -> usize {
+        self as usize + 1
+    }
+}
+
 /// Converts a code to a length source.
 #[inline]
 pub(crate) fn len_source_of(code: u8) -> LenSource {

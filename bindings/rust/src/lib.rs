@@ -24,7 +24,8 @@
 //! ```
 //!
 //! To filter or count packets as they were captured, use [`Dissection`]: it has a result for truncated packets and for
-//! fragments, of which `IpSlice` parses the payload as headers even if the fragment offset isn't 0.
+//! fragments, of which `IpSlice` parses the payload as headers even if the fragment offset isn't 0. [`Statistics`] has
+//! counts of packets, which can be merged.
 //!
 //! # Names of etherparse
 //!
@@ -81,7 +82,8 @@
 //! `err::ip_auth::HeaderLimitedReadError`, `err::ipv6_exts::ExtsWalkError`, `err::ipv6_exts::HeaderReadError`,
 //! `err::ipv6_exts::HeaderLimitedReadError`, `err::ipv6_exts::HeaderWriteError`.
 //!
-//! Only here: `Dissection`, `BaseHeader`, `Fragment`, `FragmentKind`, `End`, `Ipv6ExtensionsBuilder`, `err::BuildError`.
+//! Only here: `Dissection`, `BaseHeader`, `Fragment`, `FragmentKind`, `End`, `Filter`, `Statistics`, `FaultKind`,
+//! `Ipv6ExtensionsBuilder`, `err::BuildError`, `err::FilterError`, `err::Expected`.
 //!
 //! The table has all names of etherparse's layer of extension headers. Of the layer below, that is IP headers, protocol
 //! numbers, `IpFragOffset`, `LenSource` and `Layer`, etherparse has more names than the table lists. The constants of
@@ -105,6 +107,7 @@ struct Readme;
 mod dissection;
 pub mod err;
 mod faults;
+mod filter;
 mod ip_auth_header_slice;
 mod ip_frag_offset;
 pub mod ip_number;
@@ -130,8 +133,10 @@ mod library;
 mod parse_packet;
 #[cfg(test)]
 mod plain_tests;
+mod statistics;
 
 pub use dissection::{BaseHeader, Dissection, End, Fragment, FragmentKind};
+pub use filter::Filter;
 #[allow(deprecated)]
 pub use ip_auth_header_slice::{IpAuthHeaderSlice, IpAuthenticationHeaderSlice};
 pub use ip_frag_offset::IpFragOffset;
@@ -154,3 +159,4 @@ pub use ipv6_header_slice::Ipv6HeaderSlice;
 pub use ipv6_raw_ext_header_slice::{Ipv6RawExtHeaderSlice, Ipv6RawExtensionHeaderSlice};
 pub use ipv6_slice::Ipv6Slice;
 pub use len_source::LenSource;
+pub use statistics::{FaultKind, Statistics};

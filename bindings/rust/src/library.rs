@@ -2,6 +2,7 @@
 //! this file.
 #![allow(unsafe_code)]
 
+use crate::Statistics;
 #[cfg(feature = "alloc")]
 use alloc::vec::Vec;
 use core::mem::{size_of, MaybeUninit};
@@ -83,6 +84,42 @@ pub(crate) struct Cursor {
     pub number: u8,
 }
 
+/// `WOLFAREN_FILTER_STEPS`: the greatest number of steps that a filter uses.
+const FILTER_STEPS: usize = 127;
+
+/// `WOLFAREN_TEXT_ROOM`: room for any text and its 0 byte.
+pub(crate) const TEXT_ROOM: usize = 256;
+
+/// `struct wolfaren_filter_step`: a step of a filter.
+#[repr(C)]
+#[derive(Clone, Copy, Debug, PartialEq, Eq)]
+pub(crate) struct FilterStep {
+    pub nots: u64,
+    pub number: u64,
+    pub address_high: u64,
+    pub address_low: u64,
+    pub kind: u8,
+    pub comparison: u8,
+    pub version: u8,
+    pub prefix_len: u8,
+}
+
+/// `struct wolfaren_filter`: a filter. Any numbers are one.
+#[repr(C)]
+#[derive(Clone, Copy, PartialEq, Eq)]
+pub(crate) struct Filter {
+    pub count: usize,
+    pub steps: [FilterStep; FILTER_STEPS],
+}
+
+/// `struct wolfaren_filter_error`: where the text of a filter is wrong, and what is expected there.
+#[repr(C)]
+#[derive(Clone, Copy, Debug)]
+pub(crate) struct FilterError {
+    pub offset: usize,
+    pub expected: u8,
+}
+
 /// `struct wolfaren_name`: a name of a code, with a 0 byte after it.
 #[cfg(all(test, not(miri)))]
 #[repr(C)]
@@ -100,11 +137,15 @@ const _: () = {
     assert!(size_of::<Payload>() == 32);
     assert!(size_of::<Dissection>() == 104);
     assert!(size_of::<Cursor>() == 16);
+    assert!(size_of::<FilterStep>() == 40);
+    assert!(size_of::<Filter>() == 5088);
+    assert!(size_of::<FilterError>() == 16);
+    assert!(size_of::<Statistics>() == 8152);
 };
 
 /// `WOLFAREN_ABI`: the checksum of the header that this file was written for (`scripts/abi` of the repository).
 #[cfg(all(test, not(miri)))]
-pub(crate) const ABI: u32 = 0xb86e_4f52;
+pub(crate) const ABI: u32 = 0xfc80_89c3;
 
 unsafe extern "C" {
     fn wolfaren_parse_chain(
@@ -155,6 +196,29 @@ unsafe extern "C" {
         room: usize,
         dissection: *mut Dissection,
     );
+
+    fn wolfaren_parse_filter(
+        text: *const u8,
+        len: usize,
+        filter: *mut Filter,
+        error: *mut FilterError,
+    ) -> bool;
+
+    fn wolfaren_expected_text(expected: u8, text: *mut u8, room: usize) -> usize;
+
+    fn wolfaren_filter_matches(filter: *const Filter, bytes: *const u8, len: usize) -> bool;
+
+    fn wolfaren_filter_matches_other(filter: *const Filter) -> bool;
+
+    fn wolfaren_init_statistics(statistics: *mut Statistics);
+
+    fn wolfaren_count_packet(statistics: *mut Statistics, bytes: *const u8, len: usize);
+
+    fn wolfaren_count_other_frame(statistics: *mut Statistics);
+
+    fn wolfaren_count_truncated_frame(statistics: *mut Statistics);
+
+    fn wolfaren_merge_statistics(into: *mut Statistics, from: *const Statistics) -> bool;
 
     #[cfg(feature = "alloc")]
     fn wolfaren_link_headers(headers: *mut Header, count: usize, last: u8) -> u8;
@@ -250,6 +314,66 @@ pub(crate) fn fault_at(cursor: &Cursor, bytes: &[u8]) -> Fault {
         wolfaren_fault_at(cursor, bytes.as_ptr(), bytes.len(), fault.as_mut_ptr());
         fault.assume_init()
     }
+}
+
+impl Filter {
+    /// Returns the steps that are used.
+    pub(crate) fn used(&self) -> &[FilterStep] {
+        &self.steps[..self.count.min(FILTER_STEPS)]
+    }
+}
+
+/// Parses the text of a filter.
+pub(crate) fn parse_filter(text: &[u8]) -> Result<Filter, FilterError> {
+    let step = FilterStep {
+        nots: 0,
+        number: 0,
+        address_high: 0,
+        address_low: 0,
+        kind: 0,
+        comparison: 0,
+        version: 0,
+        prefix_len: 0,
+    };
+    let mut filter = Filter {
+        count: 0,
+        steps: [step; FILTER_STEPS],
+    };
+    let mut error = MaybeUninit::uninit();
+    // SAFETY: the text is a slice, which the call only reads. The filter is borrowed exclusively; any numbers are one.
+    // `error` has room for an error.
+    if unsafe {
+        wolfaren_parse_filter(
+            text.as_ptr(),
+            text.len(),
+            &raw mut filter,
+            error.as_mut_ptr(),
+        )
+    } {
+        return Ok(filter);
+    }
+    // SAFETY: the call returned false, so it has written all fields of the error.
+    Err(unsafe { error.assume_init() })
+}
+
+/// Formats what the text of a filter needs, and returns the text.
+pub(crate) fn expected_text(expected: u8, room: &mut [u8; TEXT_ROOM]) -> &[u8] {
+    // SAFETY: the room is borrowed exclusively, and the call writes at most its length.
+    let len = unsafe { wolfaren_expected_text(expected, room.as_mut_ptr(), room.len()) };
+    &room[..len.min(TEXT_ROOM)]
+}
+
+/// Returns whether the filter matches the packet at the start of the bytes.
+#[inline(always)]
+pub(crate) fn filter_matches(filter: &Filter, bytes: &[u8]) -> bool {
+    // SAFETY: the filter and the bytes are borrowed, and the call only reads them.
+    unsafe { wolfaren_filter_matches(filter, bytes.as_ptr(), bytes.len()) }
+}
+
+/// Returns whether the filter matches a frame that isn't IP.
+pub(crate) fn filter_matches_other(filter: &Filter) -> bool {
+    // SAFETY: the filter is borrowed, and the call only reads it.
+    unsafe { wolfaren_filter_matches_other(filter) }
 }
 
 /// The type of the library's calls that find the payload of a packet.
@@ -367,6 +491,45 @@ pub(crate) fn dissect(bytes: &[u8]) -> DissectedParts<'_> {
     }
 }
 
+/// Returns the statistics of no frames.
+pub(crate) fn new_statistics() -> Statistics {
+    let mut statistics = MaybeUninit::uninit();
+    // SAFETY: `statistics` has room for statistics, and the call writes all of their fields.
+    unsafe {
+        wolfaren_init_statistics(statistics.as_mut_ptr());
+        statistics.assume_init()
+    }
+}
+
+/// Counts the packet at the start of the bytes.
+#[inline(always)]
+pub(crate) fn count_packet(statistics: &mut Statistics, bytes: &[u8]) {
+    // SAFETY: the statistics are borrowed exclusively. The bytes are a slice, which the call only reads.
+    unsafe { wolfaren_count_packet(statistics, bytes.as_ptr(), bytes.len()) }
+}
+
+/// Counts a frame without an IP packet.
+#[inline(always)]
+pub(crate) fn count_other_frame(statistics: &mut Statistics) {
+    // SAFETY: the statistics are borrowed exclusively.
+    unsafe { wolfaren_count_other_frame(statistics) }
+}
+
+/// Counts a frame that the snap length truncated.
+#[inline(always)]
+pub(crate) fn count_truncated_frame(statistics: &mut Statistics) {
+    // SAFETY: the statistics are borrowed exclusively.
+    unsafe { wolfaren_count_truncated_frame(statistics) }
+}
+
+/// Adds the counts of `from` to those of `into`. Returns whether both have the version and size that `new_statistics`
+/// sets.
+#[inline(always)]
+pub(crate) fn merge_statistics(into: &mut Statistics, from: &Statistics) -> bool {
+    // SAFETY: `into` is borrowed exclusively, so `from` doesn't overlap it, and the call only reads `from`.
+    unsafe { wolfaren_merge_statistics(into, from) }
+}
+
 /// Links the headers in order, the last one to `last`. Returns the number of the first, or `last` if there is none.
 #[cfg(feature = "alloc")]
 pub(crate) fn link_headers(headers: &mut [Header], last: u8) -> u8 {
@@ -427,12 +590,23 @@ pub(crate) fn number_name(number: u8) -> &'static str {
 
 #[cfg(all(test, not(miri)))]
 mod tests {
-    use super::{Chain, Cursor, Dissection, Fault, Header, Payload};
+    use super::{Chain, Cursor, Dissection, Fault, Header, Payload, Statistics};
     use core::mem::{offset_of, size_of};
     use std::vec::Vec;
 
-    /// Returns the size and the name of each field of a struct in the library's header.
-    fn fields(name: &str) -> Vec<(usize, &'static str)> {
+    /// Returns the name of a field, and how many elements it has: 1, or those of its array.
+    fn elements(declared: &'static str) -> (&'static str, usize) {
+        let mut parts = declared.split('[');
+        let name = parts.next().expect("a field has a name");
+        let lens = parts.map(|part| part.trim_end_matches(']').parse::<usize>());
+        (
+            name,
+            lens.map(|len| len.expect("a length is a number")).product(),
+        )
+    }
+
+    /// Returns the size of the elements, their number, and the name of each field of a struct in the library's header.
+    fn fields(name: &str) -> Vec<(usize, usize, &'static str)> {
         let page = include_str!(env!("WOLFAREN_HEADER"));
         let lines = page.lines().skip_while(|line| *line != name).skip(1);
         lines
@@ -443,26 +617,27 @@ mod tests {
                     .trim()
                     .rsplit_once(' ')
                     .expect("a field has a type");
+                let (field, count) = elements(field);
                 let size = match kind {
-                    "size_t" => 8,
+                    "size_t" | "uint64_t" => 8,
                     "uint32_t" => 4,
                     "uint16_t" => 2,
                     "uint8_t" => 1,
                     "struct wolfaren_fault" => size_of::<Fault>(),
                     _ => panic!("{kind} has no size"),
                 };
-                (size, field)
+                (size, count, field)
             })
             .collect()
     }
 
-    /// Returns the offsets in C of fields with these sizes, and the size of the struct.
-    fn layout(sizes: impl Iterator<Item = usize>) -> (Vec<usize>, usize) {
+    /// Returns the offsets in C of fields with elements of these sizes and numbers, and the size of the struct.
+    fn layout(sizes: impl Iterator<Item = (usize, usize)>) -> (Vec<usize>, usize) {
         let mut end = 0usize;
         let offsets = sizes
-            .map(|size| {
+            .map(|(size, count)| {
                 let offset = end.next_multiple_of(size.min(8));
-                end = offset + size;
+                end = offset + size * count;
                 offset
             })
             .collect();
@@ -473,9 +648,9 @@ mod tests {
     macro_rules! check {
         ($struct:ident, $name:literal, $($field:ident),+) => {
             let fields = fields(concat!("struct ", $name, " {"));
-            let names: Vec<&str> = fields.iter().map(|(_, name)| *name).collect();
+            let names: Vec<&str> = fields.iter().map(|(_, _, name)| *name).collect();
             assert_eq!(names, [$(stringify!($field)),+]);
-            let (offsets, len) = layout(fields.iter().map(|(size, _)| *size));
+            let (offsets, len) = layout(fields.iter().map(|(size, count, _)| (*size, *count)));
             assert_eq!(offsets, [$(offset_of!($struct, $field)),+]);
             assert_eq!(len, size_of::<$struct>());
         };
@@ -546,6 +721,35 @@ mod tests {
             payload_number,
             fragment,
             end
+        );
+        check!(
+            Statistics,
+            "wolfaren_statistics",
+            version,
+            size,
+            other_frames,
+            truncated_frames,
+            packets,
+            without_header,
+            ipv4,
+            ipv6,
+            at_payload,
+            at_later_fragment,
+            at_truncated_header,
+            at_fault,
+            atomic_fragments,
+            first_fragments,
+            middle_fragments,
+            last_fragments,
+            incomplete,
+            payload_bytes,
+            chain_headers,
+            chain_bytes,
+            headers,
+            payload_numbers,
+            later_fragment_numbers,
+            truncated_headers,
+            faults
         );
     }
 }

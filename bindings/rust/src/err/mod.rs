@@ -4,6 +4,7 @@
 //! text and has it as its source.
 #[cfg(feature = "alloc")]
 mod build_error;
+mod filter_error;
 pub mod ip;
 pub mod ip_auth;
 pub mod ipv4;
@@ -15,6 +16,7 @@ mod value_too_big_error;
 
 #[cfg(feature = "alloc")]
 pub use build_error::BuildError;
+pub use filter_error::{Expected, FilterError};
 pub use layer::Layer;
 pub use len_error::LenError;
 pub use value_too_big_error::ValueTooBigError;

@@ -1,0 +1,77 @@
+use crate::library;
+use core::{fmt, str};
+
+/// The text of a filter is wrong.
+#[derive(Clone, Debug, PartialEq, Eq, Hash)]
+pub struct FilterError {
+    /// The offset of the first word that can't be there, in bytes; the length of the text if it ends too early.
+    pub offset: usize,
+    /// What is expected there.
+    pub expected: Expected,
+}
+
+/// What the text of a filter needs. `Display` says it in words.
+#[derive(Clone, Copy, Debug, PartialEq, Eq, Hash)]
+#[non_exhaustive]
+pub enum Expected {
+    /// A term, `not` or `(`.
+    Operand = 1,
+    /// `and`, `or` or the end.
+    OperatorOrEnd,
+    /// `and`, `or` or `)`.
+    OperatorOrClose,
+    /// An IP version.
+    Version,
+    /// The number or name of an extension header.
+    Header,
+    /// The number or name of a protocol.
+    Protocol,
+    /// A comparison.
+    Comparison,
+    /// A number of 64 bits.
+    Count,
+    /// A number of 32 bits.
+    Number,
+    /// An address or a prefix.
+    Network,
+    /// No more than 64 terms.
+    FewerTerms,
+    /// No more than 16 levels of parentheses.
+    LessNesting,
+}
+
+impl Expected {
+    /// Returns the value for a code of the library.
+    pub(crate) fn of_code(code: u8) -> Expected {
+        match code {
+            2 => Expected::OperatorOrEnd,
+            3 => Expected::OperatorOrClose,
+            4 => Expected::Version,
+            5 => Expected::Header,
+            6 => Expected::Protocol,
+            7 => Expected::Comparison,
+            8 => Expected::Count,
+            9 => Expected::Number,
+            10 => Expected::Network,
+            11 => Expected::FewerTerms,
+            12 => Expected::LessNesting,
+            _ => Expected::Operand,
+        }
+    }
+}
+
+impl fmt::Display for Expected {
+    fn fmt(&self, f: &mut fmt::Formatter<'_>) -> fmt::Result {
+        let mut room = [0; library::TEXT_ROOM];
+        let text = library::expected_text(*self as u8, &mut room);
+        f.write_str(str::from_utf8(text).unwrap_or_default())
+    }
+}
+
+impl fmt::Display for FilterError {
+    fn fmt(&self, f: &mut fmt::Formatter<'_>) -> fmt::Result {
+        write!(f, "expected {} at byte {}", self.expected, self.offset)
+    }
+}
+
+impl core::error::Error for FilterError {}

@@ -1,0 +1,87 @@
+use crate::err::{Expected, FilterError};
+use crate::library;
+use core::fmt;
+use core::str::FromStr;
+
+/// A filter over packets: terms joined by `not`, `and` and `or`.
+///
+/// ```
+/// use wolfaren::Filter;
+///
+/// let filter = Filter::parse("header frag and not (fault or payload > 1000)")?;
+/// // An atomic fragment with a payload of 4 bytes.
+/// let mut bytes = [0; 52];
+/// (bytes[0], bytes[5], bytes[6], bytes[40]) = (0x60, 12, 44, 17);
+/// assert!(filter.matches(&bytes));
+/// assert!(!filter.matches_other());
+/// # Ok::<(), wolfaren::err::FilterError>(())
+/// ```
+#[derive(Clone, PartialEq, Eq)]
+pub struct Filter {
+    numbers: library::Filter,
+}
+
+impl Filter {
+    /// Parses the text of a filter.
+    ///
+    /// These are the terms. A number is decimal, or hexadecimal after `0x`.
+    ///
+    /// | Term | Holds if |
+    /// |---|---|
+    /// | `version 4`, `version 6` | there is an IP header of this version |
+    /// | `header N` | there is an extension header `hopopt`, `route`, `frag`, `ah` or `dstopts`, or with this number |
+    /// | `leads-to N` | this number follows the headers: as above, or `icmp`, `tcp`, `udp`, `esp`, `icmp6`, `no-next` |
+    /// | `fragment`, `first-fragment`, `later-fragment` | the packet is such a fragment, and not an atomic one |
+    /// | `truncated` | a header is truncated |
+    /// | `incomplete` | bytes of the stated length are missing |
+    /// | `fault` | a header is faulty |
+    /// | `fault KIND` | it is faulty like this: `too-short`, `not-at-start`, `zero-length`, `unsupported-version` or `header-length` |
+    /// | `headers OP N`, `chain-bytes OP N`, `payload OP N` | the number of extension headers, their length in bytes or the number of payload bytes compares so; `OP` is `=`, `!=`, `<`, `<=`, `>` or `>=` |
+    /// | `spi N` | an authentication header has this security parameters index |
+    /// | `id N` | the fragment has this identification |
+    /// | `src NET`, `dst NET`, `net NET` | the source, the destination or one of them is in this network: an address, or a prefix such as `2001:db8::/32` |
+    ///
+    /// `!`, `&&` and `||` are `not`, `and` and `or`. `not` binds most tightly, then `and`; parentheses group. There may
+    /// be up to 64 terms and 16 levels of parentheses.
+    ///
+    /// # Errors
+    ///
+    /// Reports what is expected at the first word that can't be there.
+    pub fn parse(text: &str) -> Result<Filter, FilterError> {
+        match library::parse_filter(text.as_bytes()) {
+            Ok(numbers) => Ok(Filter { numbers }),
+            Err(error) => Err(FilterError {
+                offset: error.offset,
+                expected: Expected::of_code(error.expected),
+            }),
+        }
+    }
+
+    /// Returns whether the filter matches the packet at the start of the bytes, which may be any bytes, as
+    /// [`Dissection::from_slice`](crate::Dissection::from_slice) has it. Nothing after the packet matters.
+    #[inline]
+    #[must_use]
+    pub fn matches(&self, slice: &[u8]) -> bool {
+        library::filter_matches(&self.numbers, slice)
+    }
+
+    /// Returns whether the filter matches a frame that isn't IP, such as an ARP request: no term holds of it.
+    #[must_use]
+    pub fn matches_other(&self) -> bool {
+        library::filter_matches_other(&self.numbers)
+    }
+}
+
+impl FromStr for Filter {
+    type Err = FilterError;
+
+    fn from_str(text: &str) -> Result<Filter, FilterError> {
+        Filter::parse(text)
+    }
+}
+
+impl fmt::Debug for Filter {
+    fn fmt(&self, f: &mut fmt::Formatter<'_>) -> fmt::Result {
+        f.debug_list().entries(self.numbers.used()).finish()
+    }
+}

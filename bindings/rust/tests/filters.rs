@@ -1,0 +1,200 @@
+//! Tests filters. Which packets a filter matches was worked out by hand from RFC 791, RFC 4302 and RFC 8200.
+#![cfg(not(miri))]
+use wolfaren::err::{Expected, FilterError};
+use wolfaren::Filter;
+
+/// Returns an IPv6 packet from `2001:db8::1` to `2001:db8::2`.
+fn ipv6(payload_length: u8, next_header: u8, after: &[u8]) -> Vec<u8> {
+    let front = [0x60, 0, 0, 0, 0, payload_length, next_header, 64];
+    let address = |last: u8| [0x20, 1, 0x0d, 0xb8, 0, 0, 0, 0, 0, 0, 0, 0, 0, 0, 0, last];
+    [&front[..], &address(1), &address(2), after].concat()
+}
+
+/// Returns an IPv4 packet from 192.0.2.1 to 192.0.2.2.
+fn ipv4(protocol: u8, after: &[u8]) -> Vec<u8> {
+    let total_len = 20 + after.len() as u8;
+    let front = [
+        0x45, 0, 0, total_len, 0x12, 0x34, 0, 0, 64, protocol, 0, 0, 192, 0, 2, 1, 192, 0, 2, 2,
+    ];
+    [&front, after].concat()
+}
+
+/// Checks which of the texts are filters that match the packet.
+fn check(packet: &[u8], matching: &[&str], others: &[&str]) {
+    let matches = |text: &str| Filter::parse(text).map(|filter| filter.matches(packet));
+    for text in matching {
+        assert_eq!(matches(text), Ok(true), "{text}");
+        assert_eq!(matches(&format!("not ({text})")), Ok(false), "{text}");
+    }
+    for text in others {
+        assert_eq!(matches(text), Ok(false), "{text}");
+    }
+}
+
+#[test]
+fn fragments() {
+    let middle = ipv6(
+        16,
+        44,
+        &[60, 0, 0x05, 0xc9, 0, 0, 0, 7, 1, 2, 3, 4, 5, 6, 7, 8],
+    );
+    let matching = [
+        "fragment",
+        "later-fragment",
+        "header frag",
+        "header 0x2c && leads-to dstopts",
+        "id 7",
+        "headers = 1",
+        "chain-bytes >= 8",
+        "payload < 9",
+        "version 6",
+        "src 2001:db8::/127",
+        "dst 2001:db8::2",
+        "net 2001:db8::1/128",
+    ];
+    let others = [
+        "first-fragment",
+        "header 60",
+        "id 8",
+        "headers != 1",
+        "truncated or incomplete or fault",
+        "src 2001:db8::2",
+        "net 192.0.2.0/24",
+    ];
+    check(&middle, &matching, &others);
+    let atomic = ipv6(8, 44, &[17, 0, 0, 0, 0, 0, 0, 9]);
+    check(&atomic, &["id 9"], &["fragment"]);
+}
+
+#[test]
+fn authentication() {
+    let auth = ipv4(51, &[6, 1, 0, 0, 0, 0, 1, 2, 0, 0, 0, 3, 9, 9]);
+    let matching = [
+        "version 4 and header ah",
+        "spi 258",
+        "leads-to tcp",
+        "dst 192.0.2.2/31",
+        "chain-bytes > 11",
+    ];
+    check(
+        &auth,
+        &matching,
+        &["spi 3", "src 192.0.2.2/31", "payload > 2"],
+    );
+}
+
+#[test]
+fn errors_in_packets() {
+    let truncated = ipv6(24, 43, &[17, 2, 0, 0, 0, 0, 0, 0]);
+    check(
+        &truncated,
+        &["truncated", "incomplete", "leads-to route"],
+        &["fault", "header route"],
+    );
+    let beyond = ipv6(8, 43, &[17, 2, 0, 0, 0, 0, 0, 0]);
+    check(
+        &beyond,
+        &["fault", "fault too-short"],
+        &["truncated", "fault zero-length"],
+    );
+    check(
+        &[0x50],
+        &["fault unsupported-version"],
+        &["version 4", "headers = 0", "truncated"],
+    );
+    check(&[], &["truncated", "not version 6"], &["fault"]);
+}
+
+#[test]
+fn precedence() {
+    let packet = ipv6(0, 17, &[]);
+    let matching = [
+        "version 6 or fault and fault",
+        "! fault and ! ! version 6",
+        "not not not fault",
+    ];
+    check(&packet, &matching, &["(version 6 or fault) and fault"]);
+}
+
+#[test]
+fn frames_that_are_not_ip() {
+    let matches = |text: &str| Filter::parse(text).map(|filter| filter.matches_other());
+    assert_eq!(matches("not fault"), Ok(true));
+    assert_eq!(matches("truncated or version 6 or headers = 0"), Ok(false));
+}
+
+#[test]
+fn other_bytes_after_a_packet_change_nothing() {
+    let filter: Filter = "payload = 4 and leads-to 17"
+        .parse()
+        .expect("it is a filter");
+    let packet = ipv6(4, 17, &[1, 2, 3, 4]);
+    assert!(filter.matches(&packet));
+    assert!(filter.matches(&[&packet[..], &[44; 9]].concat()));
+}
+
+#[test]
+fn refused_texts() {
+    let header = "a number from 0 to 255, `hopopt`, `route`, `frag`, `ah` or `dstopts`";
+    let rows = [
+        ("", 0, Expected::Operand, "a term, `not` or `(`"),
+        (
+            "fault fault",
+            6,
+            Expected::OperatorOrEnd,
+            "`and`, `or` or the end",
+        ),
+        ("(fault", 6, Expected::OperatorOrClose, "`and`, `or` or `)`"),
+        ("version 5", 8, Expected::Version, "4 or 6"),
+        ("header 256", 7, Expected::Header, header),
+        (
+            "leads-to arp",
+            9,
+            Expected::Protocol,
+            "a number from 0 to 255 or the name of a protocol",
+        ),
+        (
+            "headers 1",
+            8,
+            Expected::Comparison,
+            "`=`, `!=`, `<`, `<=`, `>` or `>=`",
+        ),
+        (
+            "payload < x",
+            10,
+            Expected::Count,
+            "a number from 0 to 18446744073709551615",
+        ),
+        (
+            "spi -1",
+            4,
+            Expected::Number,
+            "a number from 0 to 4294967295",
+        ),
+        (
+            "src 1.2.3.4/33",
+            4,
+            Expected::Network,
+            "an address or a prefix",
+        ),
+    ];
+    for (text, offset, expected, words) in rows {
+        assert_eq!(
+            Filter::parse(text),
+            Err(FilterError { offset, expected }),
+            "{text}"
+        );
+        assert_eq!(expected.to_string(), words);
+    }
+    let error = Filter::parse(&"fault and ".repeat(65)).expect_err("there are 65 terms");
+    assert_eq!(
+        error.to_string(),
+        "expected no more than 64 terms at byte 640"
+    );
+    let error = Filter::parse(&"(".repeat(17)).expect_err("there are 17 levels");
+    assert_eq!((error.offset, error.expected), (16, Expected::LessNesting));
+    assert_eq!(
+        error.expected.to_string(),
+        "no more than 16 levels of parentheses"
+    );
+}

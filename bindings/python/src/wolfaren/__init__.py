@@ -1,0 +1,14 @@
+"""Dissects, filters and counts IP packets by their extension headers.
+
+The work is done by `libwolfaren.so.0`, whose calls are formally verified. This package calls it through cffi.
+"""
+
+from ._dissection import (Dissection, End, ExtensionHeader, Fault, FaultKind, Fragment, FragmentKind, Layer, LenSource,
+                          dissect, protocol_name)
+from ._filter import Filter, FilterError
+from ._statistics import MOST, CaptureError, Statistics, statistics_of
+
+__version__ = "0.1.0"
+
+__all__ = ["MOST", "CaptureError", "Dissection", "End", "ExtensionHeader", "Fault", "FaultKind", "Filter", "FilterError",
+           "Fragment", "FragmentKind", "Layer", "LenSource", "Statistics", "dissect", "protocol_name", "statistics_of"]

@@ -1,0 +1,193 @@
+"""Dissects packets."""
+
+import dataclasses
+import enum
+from typing import Any
+
+from ._library import Buffer, ffi, lib, name_of
+
+# How many extension headers the first call has room for. A packet with more takes a second call.
+_ROOM = 16
+
+
+class End(enum.IntEnum):
+    """Why the headers of a packet end."""
+
+    PAYLOAD = lib.WOLFAREN_AT_PAYLOAD
+    """The payload follows them."""
+    LATER_FRAGMENT = lib.WOLFAREN_AT_LATER_FRAGMENT
+    """The payload follows them, but continues that of an earlier fragment: the fragment offset isn't 0."""
+    TRUNCATED_HEADER = lib.WOLFAREN_AT_TRUNCATED_HEADER
+    """A header is incomplete, but lies within the stated length, or no length is stated."""
+    FAULT = lib.WOLFAREN_AT_FAULT
+    """A header doesn't fit within the stated length, or is malformed."""
+
+
+class FragmentKind(enum.IntEnum):
+    """Which fragment a packet is."""
+
+    NOT_FRAGMENTED = lib.WOLFAREN_NOT_FRAGMENTED
+    ATOMIC = lib.WOLFAREN_ATOMIC_FRAGMENT
+    """The whole packet, with a fragment header (RFC 6946)."""
+    FIRST = lib.WOLFAREN_FIRST_FRAGMENT
+    MIDDLE = lib.WOLFAREN_MIDDLE_FRAGMENT
+    LAST = lib.WOLFAREN_LAST_FRAGMENT
+
+
+class FaultKind(enum.IntEnum):
+    """Kinds of error."""
+
+    TOO_SHORT = lib.WOLFAREN_TOO_SHORT
+    """The layer needs `required_len` bytes from `offset` on, but there are only `len`, as given by `len_source`."""
+    HOP_BY_HOP_NOT_AT_START = lib.WOLFAREN_HOP_BY_HOP_NOT_AT_START
+    """An extension header is followed by hop-by-hop options, which may only follow the IPv6 header directly."""
+    ZERO_PAYLOAD_LEN = lib.WOLFAREN_ZERO_PAYLOAD_LEN
+    """The length field of an authentication header is 0."""
+    UNSUPPORTED_IP_VERSION = lib.WOLFAREN_UNSUPPORTED_IP_VERSION
+    """The version of the packet is `value`, which is neither 4 nor 6."""
+    IPV4_HEADER_LENGTH = lib.WOLFAREN_IPV4_HEADER_LENGTH
+    """The internet header length (IHL) of an IPv4 packet is `value`, which is below 5."""
+
+
+class Layer(enum.IntEnum):
+    """Headers and packets that an error is about."""
+
+    NONE = lib.WOLFAREN_NO_LAYER
+    IP_HEADER = lib.WOLFAREN_IP_HEADER
+    """An IP header whose version isn't known yet."""
+    IPV4_HEADER = lib.WOLFAREN_IPV4_HEADER
+    IPV4_PACKET = lib.WOLFAREN_IPV4_PACKET
+    AUTHENTICATION_HEADER = lib.WOLFAREN_AUTHENTICATION_HEADER
+    IPV6_HEADER = lib.WOLFAREN_IPV6_HEADER
+    IPV6_PACKET = lib.WOLFAREN_IPV6_PACKET
+    IPV6_EXTENSION_HEADER = lib.WOLFAREN_IPV6_EXTENSION_HEADER
+    """Hop-by-hop options, routing or destination options."""
+    HOP_BY_HOP_HEADER = lib.WOLFAREN_HOP_BY_HOP_HEADER
+    DESTINATION_OPTIONS_HEADER = lib.WOLFAREN_DESTINATION_OPTIONS_HEADER
+    ROUTING_HEADER = lib.WOLFAREN_ROUTING_HEADER
+    FRAGMENT_HEADER = lib.WOLFAREN_FRAGMENT_HEADER
+
+
+class LenSource(enum.IntEnum):
+    """Where a length comes from."""
+
+    NONE = lib.WOLFAREN_NO_LEN_SOURCE
+    SLICE = lib.WOLFAREN_SLICE
+    """The number of bytes that were passed."""
+    IPV4_TOTAL_LENGTH = lib.WOLFAREN_IPV4_TOTAL_LENGTH
+    IPV6_PAYLOAD_LENGTH = lib.WOLFAREN_IPV6_PAYLOAD_LENGTH
+
+
+@dataclasses.dataclass(frozen=True, slots=True)
+class Fault:
+    """An error. `str` formats it as text. Numbers that don't apply to its kind are 0; offsets count in bytes from the
+    start of the packet."""
+
+    kind: FaultKind
+    header: Layer
+    """The faulty extension header, or `Layer.NONE` in errors about packets."""
+    layer: Layer
+    """The layer that needs the bytes."""
+    offset: int
+    required_len: int
+    len: int
+    len_source: LenSource
+    value: int
+    text: str
+
+    def __str__(self) -> str:
+        return self.text
+
+
+@dataclasses.dataclass(frozen=True, slots=True)
+class ExtensionHeader:
+    """An extension header of a packet."""
+
+    number: int
+    """The header's own protocol number."""
+    next_header: int
+    """The next header field: the number of what follows."""
+    offset: int
+    """Where the header begins, in bytes from the start of the packet."""
+    bytes: memoryview
+
+
+@dataclasses.dataclass(frozen=True, slots=True)
+class Fragment:
+    """Which fragment a packet is. Of a packet that isn't fragmented, identification and offset are 0."""
+
+    kind: FragmentKind
+    identification: int
+    """A number that all fragments of a packet share."""
+    offset: int
+    """Where the fragment lies in the payload, in bytes."""
+
+
+@dataclasses.dataclass(frozen=True, slots=True)
+class Dissection:
+    """The parts of a packet, one after another, as far as they are present. The slices refer to the packet's bytes."""
+
+    version: int
+    """4 or 6, or 0 if there is no IP header."""
+    base_header: memoryview
+    """The IP header, empty if there is none."""
+    headers: tuple[ExtensionHeader, ...]
+    fragment: Fragment
+    payload_number: int
+    """The protocol number of what follows the headers."""
+    payload: memoryview
+    stated_len: int
+    """The length of the packet in bytes as the IP header states it, or 0 if it states none."""
+    missing: int
+    """How many bytes of the stated length aren't present."""
+    padding: memoryview
+    """The bytes after the packet."""
+    end: End
+    fault: Fault | None
+    """The error if `end` is `End.TRUNCATED_HEADER` or `End.FAULT`, otherwise `None`."""
+
+
+def _fault_of(fault: Any) -> Fault | None:
+    if fault.kind == lib.WOLFAREN_NO_FAULT:
+        return None
+    text = ffi.new("char[]", lib.WOLFAREN_TEXT_ROOM)
+    size = lib.wolfaren_fault_text(ffi.addressof(fault), text, lib.WOLFAREN_TEXT_ROOM)
+    return Fault(FaultKind(fault.kind), Layer(fault.header), Layer(fault.layer), fault.offset, fault.required_len,
+                 fault.len, LenSource(fault.len_source), fault.value, bytes(ffi.buffer(text, size)).decode("ascii"))
+
+
+def dissect(packet: Buffer) -> Dissection:
+    """Dissects the IP packet at the start of the bytes, which may be any bytes.
+
+    The packet ends where its length field says, or, if that is 0, with the bytes. Its headers are the longest chain
+    within the packet in which nothing follows a fragment header with a non-zero offset. Bytes that don't start with an
+    IP header are all padding. Nothing is copied, and no bytes are an error: `fault` reports what is wrong with them.
+    """
+    view = memoryview(packet).toreadonly().cast("B")
+    bytes_, room = ffi.from_buffer("uint8_t[]", view), _ROOM
+    parts = ffi.new("struct wolfaren_dissection *")
+    while True:
+        headers = ffi.new("struct wolfaren_header[]", room)
+        lib.wolfaren_dissect(bytes_, len(view), headers, room, parts)
+        if parts.headers <= room:
+            break
+        room = parts.headers
+    at, end = parts.payload_offset, parts.payload_offset + parts.payload_len
+    return Dissection(
+        version=parts.version,
+        base_header=view[:parts.base_len],
+        headers=tuple(ExtensionHeader(it.number, it.next_header, it.offset, view[it.offset:it.offset + it.len])
+                      for it in headers[0:parts.headers]),
+        fragment=Fragment(FragmentKind(parts.fragment), parts.identification, parts.fragment_offset),
+        payload_number=parts.payload_number,
+        payload=view[at:end],
+        stated_len=parts.stated_len,
+        missing=parts.missing,
+        padding=view[len(view) - parts.padding:],
+        end=End(parts.end),
+        fault=_fault_of(parts.fault))
+
+
+def protocol_name(number: int) -> str:
+    """Returns the keyword that IANA has assigned to a protocol number, such as `TCP` for 6, or an empty string."""
+    return name_of(lib.wolfaren_find_number_name, number)

@@ -1,0 +1,73 @@
+"""Loads the shared libraries. Their C headers, which `scripts/copy-python` puts beside this file, declare their calls."""
+
+import functools
+import importlib.resources
+import os
+import re
+from typing import Any
+
+import cffi
+
+Buffer = bytes | bytearray | memoryview
+
+_FOLDER = importlib.resources.files(__package__)
+
+
+def _text_of(header: str) -> str:
+    return (_FOLDER / header).read_text(encoding="utf-8")
+
+
+def _declarations(text: str) -> str:
+    """Returns what cffi reads of a header: structs, codes, calls, and the constants among its macros."""
+    text = re.sub(r"/\*.*?\*/", "", text, flags=re.S).replace("\\\n", " ")
+    text = re.sub(r"^static inline [^\n]*\n\{.*?^\}$", "", text, flags=re.S | re.M)
+    text = re.sub(r'^#(?!define \w+ \w+$).*$|^extern "C" \{$|^\}$', "", text, flags=re.M)
+    return re.sub(r"WOLFAREN_(NONNULL\([^)]*\)|USE_RESULT|LAYOUT\([^)]*\);)", "", text)
+
+
+def _open(ffi: cffi.FFI, name: str) -> Any:
+    """Opens a library: in the directory WOLFAREN_LIB_DIR if that is set, otherwise in this package, if it was built
+    with the libraries, otherwise where the system's loader finds it."""
+    folder = os.environ.get("WOLFAREN_LIB_DIR")
+    own = _FOLDER / name
+    path = os.path.join(folder, name) if folder else str(own) if own.is_file() else name
+    try:
+        return ffi.dlopen(path)
+    except OSError as error:
+        raise ImportError(f"{error}: install {name}, or set WOLFAREN_LIB_DIR to its directory") from None
+
+
+def _check(library: Any) -> None:
+    """Refuses a library that was built with another header than this package."""
+    wanted = (10000 * library.WOLFAREN_VERSION_MAJOR + 100 * library.WOLFAREN_VERSION_MINOR
+              + library.WOLFAREN_VERSION_PATCH, library.WOLFAREN_ABI)
+    stated = (library.wolfaren_version(), library.wolfaren_abi())
+    if stated != wanted:
+        raise ImportError("libwolfaren.so.0 has version %d and checksum 0x%08x, but the package needs version %d and "
+                          "checksum 0x%08x" % (*stated, *wanted))
+
+
+def _load() -> tuple[cffi.FFI, Any]:
+    ffi = cffi.FFI()
+    ffi.cdef(_declarations(_text_of("wolfaren.h")))
+    library = _open(ffi, "libwolfaren.so.0")
+    _check(library)
+    return ffi, library
+
+
+ffi, lib = _load()
+
+
+@functools.cache
+def captures() -> tuple[cffi.FFI, Any]:
+    """Returns the library that reads captures, which needs libpcap. It is loaded when it is first needed."""
+    own = cffi.FFI()
+    own.cdef(_declarations(_text_of("wolfaren-pcap.h")))
+    return own, _open(own, "libwolfaren-pcap.so.0")
+
+
+def name_of(find: Any, code: int) -> str:
+    """Returns the library's name of a code, by the call that finds it."""
+    name = ffi.new("struct wolfaren_name *")
+    find(code, name)
+    return bytes(ffi.buffer(name.text, name.size - 1)).decode("ascii")

@@ -1,0 +1,323 @@
+"""Counts packets, and merges what was counted apart."""
+
+from __future__ import annotations
+
+import json
+import os
+import re
+from collections.abc import Callable, Mapping
+from typing import Any
+
+from ._dissection import Dissection, End, FaultKind, Layer, dissect
+from ._library import Buffer, captures, ffi, lib
+
+MOST = 2**64 - 1
+"""The largest count. Counts stop there."""
+
+# What the table of chains has room for, as in ipcap: names, and headers of a chain. Other chains are counted as `other`.
+_CHAINS = 4096
+_CHAIN_HEADERS = 64
+
+# The version of the JSON: major and minor number.
+_FORMAT = (1, 0)
+
+_KINDS = {FaultKind.TOO_SHORT: "too-short", FaultKind.HOP_BY_HOP_NOT_AT_START: "not-at-start",
+          FaultKind.ZERO_PAYLOAD_LEN: "zero-length", FaultKind.UNSUPPORTED_IP_VERSION: "unsupported-version",
+          FaultKind.IPV4_HEADER_LENGTH: "header-length"}
+_LAYERS = {Layer.IP_HEADER: "IP-header", Layer.IPV4_HEADER: "IPv4-header", Layer.IPV4_PACKET: "IPv4-packet",
+           Layer.AUTHENTICATION_HEADER: "authentication", Layer.IPV6_HEADER: "IPv6-header",
+           Layer.IPV6_PACKET: "IPv6-packet", Layer.IPV6_EXTENSION_HEADER: "IPv6-extension",
+           Layer.HOP_BY_HOP_HEADER: "hop-by-hop", Layer.DESTINATION_OPTIONS_HEADER: "destination-options",
+           Layer.ROUTING_HEADER: "routing", Layer.FRAGMENT_HEADER: "fragment"}
+_ENDS = {End.FAULT: " fault", End.TRUNCATED_HEADER: " truncated"}
+
+_TYPE = ffi.typeof("struct wolfaren_statistics")
+_SCALARS = [name for name, field in _TYPE.fields if field.type is ffi.typeof("uint64_t")]
+
+
+def _elements(name: str, size: int) -> dict[int, int | str]:
+    """Returns the key of each element of an array of the struct, by its index."""
+    if name == "chain_bytes":  # wolfaren_least_chain_bytes, which is no call of the library
+        return {i: 4 * i if i < 64 else 1 << (i - 56) for i in range(size)}
+    if name == "truncated_headers":
+        return {int(layer): name for layer, name in _LAYERS.items()}
+    if name == "faults":
+        return {16 * kind + layer: f"{_KINDS[kind]} {_LAYERS[layer]}" for kind in _KINDS for layer in _LAYERS}
+    return {i: i for i in range(size)}
+
+
+_ARRAYS = {name: _elements(name, ffi.sizeof(field.type) // 8) for name, field in _TYPE.fields
+           if field.type.kind == "array"}
+
+
+def _chain_of(parts: Dissection) -> str | None:
+    """Returns the name of a packet's chain, as ipcap writes it, or `None` if there is no IP header."""
+    if parts.version == 0:
+        return None
+    if len(parts.headers) > _CHAIN_HEADERS:
+        return "other"
+    numbers = ",".join(str(it.number) for it in parts.headers)
+    return f"IPv{parts.version} {numbers}{' ' if numbers else ''}-> {parts.payload_number}{_ENDS.get(parts.end, '')}"
+
+
+def _chain_order(chain: tuple[str, int]) -> tuple[Any, ...]:
+    """Returns what chains are sorted by: `other` last, then by descending count, and then as ipcap does."""
+    name, count = chain
+    numbers = [int(it) for it in re.findall(r"\d+", name)]
+    return name == "other", -count, numbers[:1], len(numbers), numbers[-1:], name.split(" -> ")[-1].split(), numbers
+
+
+class Statistics:
+    """Counts of packets, which are equal to those of `ipcap stat`, and whose sum is that of all packets.
+
+    The counts are those of `struct wolfaren_statistics`, which the library counts and merges; its calls are proved. The
+    table `chains` is not. Each count stops at `MOST`. A new object has counted no packets.
+    """
+
+    other_frames: int
+    """Frames without an IP packet."""
+    truncated_frames: int
+    """Frames truncated by the snap length."""
+    packets: int
+    """IP packets, or what the link layer says are IP packets."""
+    without_header: int
+    """Packets that don't start with a complete IP header of version 4 or 6."""
+    ipv4: int
+    ipv6: int
+    at_payload: int
+    """Packets whose headers end at the payload; the next three: those with another `End`."""
+    at_later_fragment: int
+    at_truncated_header: int
+    at_fault: int
+    atomic_fragments: int
+    """Packets with a fragment header that are whole (RFC 6946)."""
+    first_fragments: int
+    middle_fragments: int
+    last_fragments: int
+    incomplete: int
+    """Packets of which stated bytes are missing."""
+    payload_bytes: int
+    """Payload bytes that were present, except after a fault or truncated header."""
+    chain_headers: Mapping[int, int]
+    """Chains by their number of headers; 16 means 16 or more. In this and the other mappings, no count is 0."""
+    chain_bytes: Mapping[int, int]
+    """Chains by their length in bytes; a key is the least length that it counts."""
+    headers: Mapping[int, int]
+    """Extension headers by protocol number."""
+    payload_numbers: Mapping[int, int]
+    """Packets whose headers end at the payload, by its protocol number."""
+    later_fragment_numbers: Mapping[int, int]
+    """Later fragments, by the protocol number of the payload."""
+    truncated_headers: Mapping[str, int]
+    """Truncated headers by their name, such as `routing`."""
+    faults: Mapping[str, int]
+    """Faults by kind and header, such as `too-short routing`."""
+
+    __slots__ = ("_counts", "_chains")
+    __hash__ = None  # type: ignore[assignment]
+
+    def __init__(self) -> None:
+        self._counts = ffi.new("struct wolfaren_statistics *")
+        self._chains: dict[str, int] = {}
+        lib.wolfaren_init_statistics(self._counts)
+
+    def __getattr__(self, name: str) -> Any:
+        if name in _ARRAYS:
+            counts = self._array(name)
+            return {key: counts[i] for i, key in _ARRAYS[name].items() if counts[i]}
+        if name in _SCALARS:
+            return getattr(self._counts, name)
+        raise AttributeError(name)
+
+    def _array(self, name: str) -> Any:
+        return ffi.cast("uint64_t *", ffi.addressof(self._counts, name))
+
+    @property
+    def chains(self) -> Mapping[str, int]:
+        """Packets by their chain, such as `IPv6 0,43 -> 17`, the most frequent first. `other` has those that the table
+        has no room for. This table isn't proved."""
+        return dict(sorted(self._chains.items(), key=_chain_order))
+
+    def add(self, packet: Buffer) -> None:
+        """Counts the packet at the start of the bytes, which may be any bytes."""
+        view = ffi.from_buffer("uint8_t[]", packet)
+        lib.wolfaren_count_packet(self._counts, view, len(view))
+        chain = _chain_of(dissect(packet))
+        if chain:
+            self._add_chain(chain, 1)
+
+    def add_other_frame(self) -> None:
+        """Counts a frame without an IP packet."""
+        lib.wolfaren_count_other_frame(self._counts)
+
+    def add_truncated_frame(self) -> None:
+        """Counts a frame that the snap length truncated, in addition to its packet."""
+        lib.wolfaren_count_truncated_frame(self._counts)
+
+    def _add_chain(self, name: str, count: int) -> None:
+        if name not in self._chains and len(self._chains) - ("other" in self._chains) >= _CHAINS:
+            name = "other"
+        self._chains[name] = min(self._chains.get(name, 0) + count, MOST)
+
+    def __iadd__(self, other: Statistics) -> Statistics:
+        if not isinstance(other, Statistics):
+            return NotImplemented
+        if other is self:  # the library's call takes two objects
+            other = Statistics() + self
+        if not lib.wolfaren_merge_statistics(self._counts, other._counts):
+            raise ValueError("the statistics have different versions")
+        for name, count in other._chains.items():
+            self._add_chain(name, count)
+        return self
+
+    def __add__(self, other: Statistics) -> Statistics:
+        if not isinstance(other, Statistics):
+            return NotImplemented
+        total = Statistics()
+        total += self
+        total += other
+        return total
+
+    def __eq__(self, other: object) -> bool:
+        if not isinstance(other, Statistics):
+            return NotImplemented
+        return ffi.buffer(self._counts)[:] == ffi.buffer(other._counts)[:] and self._chains == other._chains
+
+    def __repr__(self) -> str:
+        return f"<Statistics of {self.packets} packets>"
+
+    def __reduce__(self) -> tuple[Callable[[str], Statistics], tuple[str]]:
+        return Statistics.from_json, (self.to_json(),)
+
+    def to_json(self) -> str:
+        """Returns the line that `ipcap stat --json` prints, without the line feed. `ipcap sum` reads it."""
+        members: dict[str, Any] = {"version": "%d.%d" % _FORMAT, **{name: getattr(self, name) for name in _SCALARS}}
+        members["chains"] = self.chains
+        for name, keys in _ARRAYS.items():
+            counts = self._array(name)
+            order = sorted((i for i in keys if counts[i]), key=lambda i: (-counts[i], i))
+            members[name] = {str(keys[i]): counts[i] for i in order}
+        return json.dumps(members, separators=(",", ":"))
+
+    @classmethod
+    def from_json(cls, text: str) -> Statistics:
+        """Reads what `to_json`, `ipcap stat --json` or `ipcap sum --json` has written.
+
+        Raises `ValueError` if the text is something else, or of a version with another major number. Of a version with
+        the same major and a larger minor number, members that aren't known are left out.
+        """
+        members = json.loads(text)
+        if not isinstance(members, dict):
+            raise ValueError("the text is not a JSON object")
+        minor = _minor_version(members.pop("version", None))
+        read = cls()
+        for name in _SCALARS:
+            setattr(read._counts, name, _count(members.pop(name, None), name))
+        for name, count in _table(members.pop("chains", None), "chains", 1 + _CHAINS).items():
+            if not _CHAIN.fullmatch(name):
+                raise ValueError(f'"{name}" is not a chain')
+            read._chains[name] = count
+        for name, keys in _ARRAYS.items():
+            read._read_array(name, {str(key): i for i, key in keys.items()}, members.pop(name, None))
+        if members and minor <= _FORMAT[1]:
+            raise ValueError(f"unknown member {min(members)}")
+        read._check_sums()
+        return read
+
+    def _read_array(self, name: str, indices: dict[str, int], table: Any) -> None:
+        counts = self._array(name)
+        for key, count in _table(table, name, len(indices)).items():
+            if key not in indices:
+                raise ValueError(f'"{key}" is not in "{name}"')
+            counts[indices[key]] = count
+
+    def _check_sums(self) -> None:
+        """Refuses counts that don't add up, as `ipcap sum` does."""
+        chains = min(self.ipv4 + self.ipv6, MOST)
+        sums = [(self.packets, [chains, self.without_header]),
+                (self.packets, [self.at_payload, self.at_later_fragment, self.at_truncated_header, self.at_fault]),
+                (self.at_payload, self.payload_numbers.values()),
+                (self.at_later_fragment, self.later_fragment_numbers.values()),
+                (self.at_truncated_header, self.truncated_headers.values()), (self.at_fault, self.faults.values()),
+                (chains, self.chain_headers.values()), (chains, self.chain_bytes.values()),
+                (chains, self._chains.values())]
+        if any(total != min(sum(parts), MOST) for total, parts in sums):
+            raise ValueError("the counts don't add up")
+
+    def plot(self, most: int = 10) -> Any:
+        """Returns a matplotlib figure with a bar chart each of the chains, payloads and faults, at most `most` bars in
+        each. Save it with `savefig`, or let a notebook show it.
+
+        Raises `ImportError` if matplotlib isn't installed.
+        """
+        try:
+            from matplotlib.figure import Figure
+        except ImportError:
+            raise ImportError("Statistics.plot needs matplotlib (Debian: python3-matplotlib)") from None
+        tables: dict[str, Mapping[Any, int]] = {"chains": self.chains, "payloads": self.payload_numbers, "faults": self.faults}
+        figure = Figure(figsize=(10, 8), layout="constrained")
+        for axes, (title, table) in zip(figure.subplots(len(tables), 1), tables.items()):
+            bars = sorted(table.items(), key=lambda it: -it[1])[:most][::-1]
+            axes.barh([str(key) for key, _ in bars], [count for _, count in bars])
+            axes.set_title(title)
+            axes.set_xlabel("packets")
+        return figure
+
+
+_NUMBER = r"(?:25[0-5]|2[0-4]\d|1\d\d|[1-9]?\d)"
+_CHAIN = re.compile(rf"other|IPv[46] (?:{_NUMBER}(?:,{_NUMBER}){{0,63}} )?-> {_NUMBER}(?: fault| truncated)?", re.ASCII)
+
+
+def _minor_version(version: Any) -> int:
+    found = re.fullmatch(r"(\d+)\.(\d+)", version) if isinstance(version, str) else None
+    if not found:
+        raise ValueError("the version is not two numbers")
+    if int(found[1]) != _FORMAT[0]:
+        raise ValueError(f"version {version}, but this package reads {_FORMAT[0]}.x")
+    return int(found[2])
+
+
+def _count(value: Any, name: str) -> int:
+    if type(value) is not int or not 0 <= value <= MOST:
+        raise ValueError(f'"{name}" is not a count')
+    return value
+
+
+def _table(value: Any, name: str, most: int) -> dict[str, int]:
+    if not isinstance(value, dict) or len(value) > most:
+        raise ValueError(f'"{name}" is not an object of at most {most} counts')
+    if 0 in value.values():
+        raise ValueError(f'a count in "{name}" is 0')
+    return {key: _count(count, key) for key, count in value.items()}
+
+
+class CaptureError(Exception):
+    """A capture that can't be read to its end. `statistics` has the packets up to there."""
+
+    def __init__(self, path: str, reason: str, statistics: Statistics) -> None:
+        super().__init__(path, reason, statistics)
+        self.path = path
+        self.reason = reason
+        self.statistics = statistics
+
+    def __str__(self) -> str:
+        return f"{self.path}: {self.reason}"
+
+
+def statistics_of(path: str | os.PathLike[str]) -> Statistics:
+    """Counts the packets of a capture, which may be in any format that ipcap reads.
+
+    Raises `CaptureError` if the capture can't be read to its end. The file is read by C code with libpcap; Python's
+    other threads run meanwhile.
+    """
+    own, library = captures()
+    error = own.new("char[]", library.WOLFAREN_PCAP_ERROR_ROOM)
+    text = library.wolfaren_pcap_count(os.fsencode(os.path.abspath(path)), error)
+    try:
+        statistics = Statistics.from_json(own.string(text).decode("ascii")) if text else Statistics()
+    finally:
+        library.wolfaren_pcap_free(text)
+    reason = own.string(error).decode(errors="replace")
+    if reason:
+        raise CaptureError(os.fspath(path), reason, statistics)
+    return statistics

@@ -1,0 +1,107 @@
+"""Tests of `dissect`. Expected values were worked out by hand from the bytes, or come from scapy."""
+
+import re
+import unittest
+
+from support import LATER_FRAGMENT, ROOT, TCP, UDP, authentication, fragment, ipv4, ipv6, ipv6_chain, options, routing
+
+import wolfaren
+from wolfaren import End, FaultKind, Fragment, FragmentKind, Layer, LenSource, dissect
+
+
+class Dissections(unittest.TestCase):
+    def test_every_part(self):
+        packet = ipv6(0, options(43) + routing(44, 1) + fragment(51, 0, 1, 99) + authentication(60) + options(17) + UDP)
+        found = dissect(packet + b"pad")
+        self.assertEqual((found.version, found.base_header, found.stated_len), (6, packet[:40], len(packet)))
+        self.assertEqual([(it.number, it.next_header, it.offset, len(it.bytes)) for it in found.headers],
+                         [(0, 43, 40, 8), (43, 44, 48, 16), (44, 51, 64, 8), (51, 60, 72, 24), (60, 17, 96, 8)])
+        self.assertEqual([it.bytes for it in found.headers][1], routing(44, 1))
+        self.assertEqual(found.fragment, Fragment(FragmentKind.FIRST, 99, 0))
+        self.assertEqual((found.payload_number, found.payload, found.padding), (17, UDP, b"pad"))
+        self.assertEqual((found.missing, found.end, found.fault), (0, End.PAYLOAD, None))
+
+    def test_scapy(self):
+        from scapy.layers.inet import UDP as ScapyUdp
+        from scapy.layers.inet6 import IPv6, IPv6ExtHdrDestOpt, IPv6ExtHdrFragment, IPv6ExtHdrHopByHop, PadN
+        from scapy.layers.ipsec import AH
+        after = ScapyUdp(sport=1, dport=2) / b"data"
+        made = (IPv6() / IPv6ExtHdrHopByHop(options=[PadN(optdata=bytes(12))]) / AH(nh=44, payloadlen=4, icv=bytes(12))
+                / IPv6ExtHdrFragment(m=1, id=5) / IPv6ExtHdrDestOpt() / after)
+        found = dissect(bytes(made))
+        self.assertEqual([(it.number, len(it.bytes)) for it in found.headers], [(0, 16), (51, 24), (44, 8), (60, 8)])
+        self.assertEqual(found.payload, bytes(made)[-len(bytes(after)):])
+        self.assertEqual(found.fragment, Fragment(FragmentKind.FIRST, 5, 0))
+
+    def test_ipv4(self):
+        found = dissect(ipv4(51, authentication(6) + TCP, words=7, option_bytes=b"\1" * 8))
+        self.assertEqual((found.version, len(found.base_header), found.payload_number), (4, 28, 6))
+        self.assertEqual([(it.number, it.offset) for it in found.headers], [(51, 28)])
+        self.assertEqual(found.payload, TCP)
+
+    def test_fragments(self):
+        found = dissect(LATER_FRAGMENT)
+        self.assertEqual((found.end, len(found.headers), found.payload_number), (End.LATER_FRAGMENT, 1, 60))
+        self.assertEqual(found.fragment, Fragment(FragmentKind.MIDDLE, 7, 8 * 185))
+        self.assertEqual(found.payload, b"\xde\xad\xbe\xef\0\0\0\0")
+        for offset, more, kind in [(0, 0, FragmentKind.ATOMIC), (0, 1, FragmentKind.FIRST), (5, 1, FragmentKind.MIDDLE),
+                                   (5, 0, FragmentKind.LAST)]:
+            self.assertEqual(dissect(ipv6(44, fragment(17, offset, more) + UDP)).fragment.kind, kind)
+        self.assertEqual(dissect(ipv4(17, UDP)).fragment, Fragment(FragmentKind.NOT_FRAGMENTED, 0, 0))
+
+    def test_faults(self):
+        fault = dissect(ipv6(0, options(60) + b"\x11")).fault
+        self.assertEqual((fault.kind, fault.header, fault.offset, fault.required_len, fault.len, fault.len_source),
+                         (FaultKind.TOO_SHORT, Layer.DESTINATION_OPTIONS_HEADER, 48, 8, 1, LenSource.IPV6_PAYLOAD_LENGTH))
+        self.assertIn("8", str(fault))
+        self.assertEqual(str(fault), fault.text)
+        found = dissect(ipv6_chain([60, 0]))
+        self.assertEqual((found.end, found.fault.kind), (End.FAULT, FaultKind.HOP_BY_HOP_NOT_AT_START))
+        fault = dissect(b"\x50" + bytes(60)).fault
+        self.assertEqual((fault.kind, fault.value), (FaultKind.UNSUPPORTED_IP_VERSION, 5))
+        fault = dissect(ipv4(17, UDP, words=4)).fault
+        self.assertEqual((fault.kind, fault.value), (FaultKind.IPV4_HEADER_LENGTH, 4))
+        self.assertEqual(dissect(ipv4(51, b"\x11\0" + bytes(22))).fault.kind, FaultKind.ZERO_PAYLOAD_LEN)
+
+    def test_truncated(self):
+        whole = ipv6_chain([0, 43])
+        found = dissect(whole[:50])
+        self.assertEqual((found.end, len(found.headers), found.payload_number), (End.TRUNCATED_HEADER, 1, 43))
+        self.assertEqual((found.fault.header, found.missing), (Layer.ROUTING_HEADER, len(whole) - 50))
+
+    def test_no_packet(self):
+        found = dissect(b"")
+        self.assertEqual((found.version, found.headers, found.base_header, found.payload, found.padding), (0, (), b"", b"", b""))
+        self.assertEqual(found.end, End.TRUNCATED_HEADER)
+        self.assertEqual(dissect(b"\x70abc").padding, b"\x70abc")
+
+    def test_many_headers(self):
+        found = dissect(ipv6_chain([60] * 100))
+        self.assertEqual([it.offset for it in found.headers], [40 + 8 * i for i in range(100)])
+
+    def test_nothing_is_copied(self):
+        packet = bytearray(ipv6_chain([0]))
+        found = dissect(packet)
+        packet[48:52] = b"\xff" * 4
+        self.assertEqual(found.payload[:4], b"\xff" * 4)
+        self.assertTrue(found.payload.readonly)
+        self.assertEqual(dissect(memoryview(b"xx" + bytes(packet))[2:]).headers, found.headers)
+
+    def test_frozen(self):
+        with self.assertRaises(AttributeError):
+            dissect(b"").version = 6
+
+    def test_names(self):
+        self.assertEqual([wolfaren.protocol_name(number) for number in (6, 44, 253)][:2], ["TCP", "IPv6-Frag"])
+        with open(f"{ROOT}/include/wolfaren.h", encoding="utf-8") as it:
+            header = it.read()
+        for kind, first in [(End, "WOLFAREN_AT_PAYLOAD"), (FragmentKind, "WOLFAREN_NOT_FRAGMENTED"),
+                            (FaultKind, "WOLFAREN_NO_FAULT"), (Layer, "WOLFAREN_NO_LAYER"),
+                            (LenSource, "WOLFAREN_NO_LEN_SOURCE")]:
+            body = re.search(r"^enum \{([^}]*\b%s = 0.*?)^\};$" % first, header, re.M | re.S)[1]
+            codes = {int(it) for it in re.findall(r"^ +WOLFAREN_\w+ = (\d+)", body, re.M)}
+            self.assertEqual({*map(int, kind), 0}, codes, kind)
+
+
+if __name__ == "__main__":
+    unittest.main()

@@ -1,0 +1,112 @@
+"""Tests of what the package is made of: the declared calls, the libraries that it refuses, and its wheel."""
+
+import glob
+import os
+import re
+import shutil
+import subprocess
+import sys
+import tempfile
+import typing
+import unittest
+
+from support import BUILD, PACKETS, ROOT, capture, ethernet, write
+
+from wolfaren import Statistics
+from wolfaren._library import ffi, lib
+
+DISSECT = "import wolfaren; print(wolfaren.dissect(bytes.fromhex('%s')).payload_number)" % ("60" + "00" * 5 + "11" + "00" * 33)
+COUNT = "import wolfaren; wolfaren.statistics_of('/nonexistent')"
+
+
+def run(words, **environment):
+    """Runs a command and returns its status and all its output."""
+    ran = subprocess.run(words, env={**os.environ, **environment}, stdout=subprocess.PIPE, stderr=subprocess.STDOUT,
+                         text=True, check=False)
+    return ran.returncode, ran.stdout
+
+
+class Declarations(unittest.TestCase):
+    def test_calls_and_structs(self):
+        _, lines = run([f"{ROOT}/scripts/abi"])
+        calls = [it.split("(")[0].split()[-1] for it in lines.splitlines() if "(" in it]
+        self.assertGreater(len(calls), 20)
+        for name in calls:
+            getattr(lib, name)
+        structs = [it.split() for it in lines.splitlines() if it.startswith("struct ")]
+        self.assertGreater(len(structs), 9)
+        for _, name, size, _ in structs:
+            self.assertEqual(ffi.sizeof(f"struct {name.rstrip(':')}"), int(size), name)
+
+    def test_named_counts(self):
+        named = [it for it in typing.get_type_hints(Statistics)]
+        self.assertEqual(named, [name for name, _ in ffi.typeof("struct wolfaren_statistics").fields[2:]])
+
+
+class Types(unittest.TestCase):
+    def test_types(self):
+        package = f"{ROOT}/bindings/python"
+        with tempfile.TemporaryDirectory() as folder:
+            said = run(["mypy", "--config-file", f"{package}/pyproject.toml", "--cache-dir", folder, f"{package}/src/wolfaren"])
+        self.assertEqual(said[0], 0, said[1])
+
+
+class Libraries(unittest.TestCase):
+    def test_missing(self):
+        status, said = run([sys.executable, "-c", DISSECT], WOLFAREN_LIB_DIR="/nonexistent")
+        self.assertEqual(status, 1)
+        self.assertIn("install libwolfaren.so.0, or set WOLFAREN_LIB_DIR", said)
+
+    def test_other_version(self):
+        with tempfile.TemporaryDirectory() as folder:
+            source = "unsigned wolfaren_version(void) { return 100; } unsigned wolfaren_abi(void) { return 1; }"
+            subprocess.run(["cc", "-shared", "-fPIC", "-x", "c", "-", "-o", f"{folder}/libwolfaren.so.0"], input=source,
+                           text=True, check=True)
+            status, said = run([sys.executable, "-c", DISSECT], WOLFAREN_LIB_DIR=folder)
+        self.assertEqual(status, 1)
+        self.assertRegex(said, r"ImportError: libwolfaren.so.0 has version 100 and checksum 0x00000001, but the package "
+                               r"needs version \d+ and checksum 0x[0-9a-f]{8}")
+
+    def test_without_capture_library(self):
+        with tempfile.TemporaryDirectory() as folder:
+            shutil.copy(f"{BUILD}/libwolfaren.so.0", folder)
+            self.assertEqual(run([sys.executable, "-c", DISSECT], WOLFAREN_LIB_DIR=folder), (0, "17\n"))
+            status, said = run([sys.executable, "-c", COUNT], WOLFAREN_LIB_DIR=folder)
+        self.assertEqual(status, 1)
+        self.assertIn("install libwolfaren-pcap.so.0, or set WOLFAREN_LIB_DIR", said)
+
+
+class ReadMe(unittest.TestCase):
+    def test_example(self):
+        with open(f"{ROOT}/bindings/python/README.md", encoding="utf-8") as it:
+            (code,) = re.findall(r"^```python\n(.*?)^```$", it.read(), re.M | re.S)
+        with tempfile.TemporaryDirectory() as folder:
+            for name in ["one.pcap", "other.pcap"]:
+                write(folder, name, capture([ethernet(it) for it in PACKETS[:4]]))
+            code = f"packet = {PACKETS[0]!r}\n{code}print(statistics.packets)"
+            ran = subprocess.run([sys.executable, "-c", code], cwd=folder, capture_output=True, text=True, check=False)
+            self.assertEqual((ran.returncode, ran.stdout), (0, "9\n"), ran.stderr)
+            self.assertTrue(os.path.getsize(f"{folder}/packets.png"))
+
+
+class Wheel(unittest.TestCase):
+    def test_wheel(self):
+        """A wheel with the libraries is built from a copy of the sources, and used where nothing else is found."""
+        with tempfile.TemporaryDirectory() as folder:
+            subprocess.run([f"{ROOT}/scripts/copy-python", f"{folder}/source"], check=True)
+            pip = [sys.executable, "-m", "pip", "--disable-pip-version-check"]
+            status, said = run([*pip, "wheel", "--no-build-isolation", "--no-deps", "--no-index", "-w", folder,
+                                f"{folder}/source"], WOLFAREN_LIB_DIR=os.path.abspath(BUILD))
+            self.assertEqual(status, 0, said)
+            (wheel,) = glob.glob(f"{folder}/wolfaren-*-py3-none-linux_x86_64.whl")
+            status, said = run([*pip, "install", "--no-deps", "--no-index", "--target", f"{folder}/target", wheel])
+            self.assertEqual(status, 0, said)
+            for name in ["py.typed", "wolfaren.h", "libwolfaren.so.0", "libwolfaren-pcap.so.0"]:
+                self.assertTrue(os.path.isfile(f"{folder}/target/wolfaren/{name}"), name)
+            used = ["env", "-u", "WOLFAREN_LIB_DIR", f"PYTHONPATH={folder}/target", sys.executable, "-c"]
+            self.assertEqual(run([*used, DISSECT]), (0, "17\n"))
+            self.assertIn("CaptureError: /nonexistent: No such file", run([*used, COUNT])[1])
+
+
+if __name__ == "__main__":
+    unittest.main()

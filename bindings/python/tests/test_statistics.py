@@ -1,0 +1,194 @@
+"""Tests of `Statistics` and `statistics_of`. Expected values were worked out by hand, or are what ipcap prints."""
+
+import json
+import os
+import pickle
+import sys
+import tempfile
+import threading
+import unittest
+from unittest import mock
+
+from support import (LATER_FRAGMENT, PACKETS, TCP, UDP, authentication, capture, ethernet, fragment, ipcap, ipv4, ipv6,
+                     ipv6_chain, options, write)
+
+from wolfaren import MOST, CaptureError, Statistics, statistics_of
+
+
+def counted(packets):
+    """Returns the statistics of packets."""
+    statistics = Statistics()
+    for packet in packets:
+        statistics.add(packet)
+    return statistics
+
+
+class Counts(unittest.TestCase):
+    def test_by_hand(self):
+        found = counted(PACKETS)
+        self.assertEqual((found.packets, found.ipv4, found.ipv6, found.without_header), (5, 1, 3, 1))
+        self.assertEqual((found.at_payload, found.at_later_fragment, found.at_truncated_header, found.at_fault), (2, 1, 1, 1))
+        self.assertEqual((found.atomic_fragments, found.first_fragments, found.middle_fragments, found.last_fragments),
+                         (1, 0, 1, 0))
+        self.assertEqual(found.payload_bytes, len(UDP) + len(TCP) + 8)
+        self.assertEqual(found.headers, {0: 1, 43: 1, 44: 2, 51: 1, 60: 1})
+        self.assertEqual(found.chain_headers, {0: 2, 1: 1, 5: 1})
+        self.assertEqual(found.chain_bytes, {0: 2, 8: 1, 56: 1})
+        self.assertEqual((found.payload_numbers, found.later_fragment_numbers), ({17: 1, 6: 1}, {60: 1}))
+        self.assertEqual((found.truncated_headers, found.faults), ({"IP-header": 1}, {"too-short destination-options": 1}))
+        self.assertEqual(found.chains, {"IPv6 0,43,44,51,60 -> 17": 1, "IPv6 -> 60 fault": 1, "IPv4 -> 6": 1,
+                                        "IPv6 44 -> 60": 1})
+
+    def test_last_elements(self):
+        found = counted([ipv6_chain([60] * 300), ipv6(60, options(17, 255) + UDP), ipv6_chain([60] * 8000)])
+        self.assertEqual(found.chain_headers, {16: 2, 1: 1})
+        self.assertEqual(found.chain_bytes, {2048: 2, 32768: 1})
+        self.assertEqual(found.chains, {"IPv6 60 -> 17": 1, "other": 2})
+
+    def test_incomplete(self):
+        self.assertEqual(counted([ipv4(17, UDP)[:-1], ipv4(17, UDP)]).incomplete, 1)
+
+    def test_sums(self):
+        one, other = counted(PACKETS[:2]), counted(PACKETS[2:])
+        self.assertEqual(one + other, counted(PACKETS))
+        self.assertEqual(other + one, counted(PACKETS))
+        self.assertNotEqual(one, other)
+        one += one
+        self.assertEqual(one, counted(PACKETS[:2] * 2))
+        self.assertEqual(sum([other] * 3, Statistics()), counted(PACKETS[2:] * 3))
+        with self.assertRaises(TypeError):
+            one + 1
+
+    def test_largest_counts(self):
+        most = json.loads(counted([ipv4(6, TCP)]).to_json().replace(":1,", f":{MOST},").replace(":1}", f":{MOST}}}"))
+        statistics = Statistics.from_json(json.dumps(most))
+        total = statistics + statistics
+        self.assertEqual((total.packets, total.ipv4, total.chains), (MOST, MOST, {"IPv4 -> 6": MOST}))
+        self.assertEqual(Statistics.from_json(total.to_json()), total)
+        self.assertEqual(json.loads(ipcap("sum", "--json", text=statistics.to_json() * 2)), json.loads(total.to_json()))
+
+    def test_copies(self):
+        found = counted(PACKETS)
+        self.assertEqual(pickle.loads(pickle.dumps(found)), found)
+        self.assertEqual(repr(found), "<Statistics of 5 packets>")
+        with self.assertRaises(TypeError):
+            hash(found)
+        with self.assertRaises(AttributeError):
+            found.frames
+
+    def test_many_chains(self):
+        chains = [[43 if number >> bit & 1 else 60 for bit in range(13)] for number in range(5000)]
+        found = counted(ipv6_chain(numbers) for numbers in chains)
+        self.assertEqual((len(found.chains), found.chains["other"]), (4097, 904))
+        self.assertEqual((found + found).chains["other"], 1808)
+        self.assertEqual(ipcap("sum", "--json", text=found.to_json()), found.to_json() + "\n")
+
+
+class Json(unittest.TestCase):
+    def test_as_ipcap(self):
+        packets = PACKETS + [ipv6_chain([60, 43]), ipv6_chain([43, 60]), ipv4(51, authentication(17) + UDP), ipv4(1, b""),
+                             ipv6(44, fragment(17, 0, 1) + UDP), ipv6_chain([0])[:44], ipv6_chain([0])[:44]]
+        with tempfile.TemporaryDirectory() as folder:
+            path = write(folder, "a.pcap", capture([ethernet(it) for it in packets if it] + [ethernet(b"", (), 0x86dd)]))
+            printed = ipcap("stat", "--json", path)
+        found = counted(packets)
+        self.assertEqual(found.to_json() + "\n", printed)
+        self.assertEqual(Statistics.from_json(printed), found)
+        self.assertEqual(ipcap("sum", "--json", text=found.to_json() + printed), (found + found).to_json() + "\n")
+
+    def test_versions(self):
+        text = counted(PACKETS).to_json()
+        added = text.replace('"1.0"', '"1.7"')[:-1] + ',"new":{"a":1},"text":"b"}'
+        self.assertEqual(Statistics.from_json(added), counted(PACKETS))
+        for version in ["2.0", "0.9", "1", "x", ""]:
+            with self.assertRaisesRegex(ValueError, "version"):
+                Statistics.from_json(text.replace("1.0", version))
+
+    def test_refused(self):
+        text = counted(PACKETS).to_json()
+        for old, new, words in [('"packets"', '"packet"', '"packets" is not a count'), ('"ipv4":1', '"ipv4":2', "add up"),
+                                ('"ipv4":1', '"ipv4":-1', "not a count"), ('"ipv4":1', '"ipv4":1.0', "not a count"),
+                                ('"ipv4":1', '"ipv4":true', "not a count"), ('"ipv4":1', f'"ipv4":{MOST + 1}', "not a count"),
+                                ('"IPv4 -> 6"', '"IPv5 -> 6"', "not a chain"),
+                                ('"IPv4 -> 6"', '"IPv4 256 -> 6"', "not a chain"), ('"IPv4 -> 6"', '"IPv4 -> 06"', "not a chain"),
+                                ('"IPv4 -> 6":1', '"IPv4 -> 6":0', 'a count in "chains" is 0'), ('{"0":2', '{"x":2', 'not in "chain_headers"'),
+                                ('"17":1', '"256":1', 'not in "payload_numbers"'), ("{", "[{", ""), ("}", "", "")]:
+            with self.assertRaisesRegex(ValueError, words):
+                Statistics.from_json(text.replace(old, new, 1))
+        for other in ["", "[]", "1", "null"]:
+            with self.assertRaises(ValueError):
+                Statistics.from_json(other)
+        with self.assertRaisesRegex(ValueError, "unknown member new"):
+            Statistics.from_json(text[:-1] + ',"new":1}')
+
+
+class Captures(unittest.TestCase):
+    def setUp(self):
+        self.folder = tempfile.TemporaryDirectory()
+        self.addCleanup(self.folder.cleanup)
+        self.content = capture([ethernet(it) for it in PACKETS[:4]] + [ethernet(bytes(46), (), 0x0806)], snap_len=90)
+        self.path = write(self.folder.name, "a.pcap", self.content)
+
+    def test_counts(self):
+        found = statistics_of(self.path)
+        self.assertEqual((found.packets, found.other_frames, found.truncated_frames), (4, 1, 1))
+        added = counted([*(it[:76] for it in PACKETS[:1]), *PACKETS[1:4]])
+        added.add_other_frame()
+        added.add_truncated_frame()
+        self.assertEqual(found, added)
+        self.assertEqual(found.to_json() + "\n", ipcap("stat", "--json", self.path))
+
+    def test_damaged(self):
+        path = write(self.folder.name, "damaged.pcap", self.content[:-1])
+        with self.assertRaisesRegex(CaptureError, "can't read packet 5: ") as raised:
+            statistics_of(path)
+        self.assertEqual(raised.exception.path, path)
+        self.assertEqual(raised.exception.statistics.packets, 4)
+        self.assertEqual(str(pickle.loads(pickle.dumps(raised.exception))), str(raised.exception))
+
+    def test_unreadable(self):
+        for path, words in [(write(self.folder.name, "x", b"no capture"), "unknown file format"),
+                            (write(self.folder.name, "y", capture([b""], 9)), "link layer PPP .* isn't supported"),
+                            (f"{self.folder.name}/none", "No such file"), (self.folder.name, "Is a directory")]:
+            with self.assertRaisesRegex(CaptureError, words) as raised:
+                statistics_of(path)
+            self.assertEqual(raised.exception.statistics, Statistics())
+
+    def test_names_of_files(self):
+        os.chdir(self.folder.name)
+        write(self.folder.name, "-", self.content)
+        self.assertEqual(statistics_of("-").packets, 4)
+
+    def test_threads(self):
+        results = []
+        threads = [threading.Thread(target=lambda: results.append(statistics_of(self.path))) for _ in range(8)]
+        for thread in threads:
+            thread.start()
+        for thread in threads:
+            thread.join()
+        self.assertEqual(results, [statistics_of(self.path)] * 8)
+
+
+class Plots(unittest.TestCase):
+    def test_bars(self):
+        try:
+            import matplotlib
+        except ImportError:
+            self.skipTest("no matplotlib")
+        figure = counted(PACKETS * 2 + PACKETS[:1]).plot()
+        chains, payloads, faults = figure.axes
+        self.assertEqual([bar.get_width() for bar in chains.patches][-1], 3)
+        self.assertEqual(chains.get_yticklabels()[-1].get_text(), "IPv6 0,43,44,51,60 -> 17")
+        self.assertEqual(sorted(bar.get_width() for bar in payloads.patches), [2, 3])
+        self.assertEqual(faults.get_title(), "faults")
+        with tempfile.TemporaryDirectory() as folder:
+            figure.savefig(f"{folder}/a.png")
+
+    def test_without_matplotlib(self):
+        with mock.patch.dict(sys.modules, {"matplotlib.figure": None, "matplotlib": None}):
+            with self.assertRaisesRegex(ImportError, "python3-matplotlib"):
+                Statistics().plot()
+
+
+if __name__ == "__main__":
+    unittest.main()

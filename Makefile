@@ -5,16 +5,17 @@
 #                     page, and 20,000 comparisons with etherparse
 # make lib            build the static C library and its header in build/ (TARGET=aarch64: for ARM64, in build/aarch64/,
 #                     with its shared library if Debian's cross-compiler is there)
-# make programs       build the shared library and the programs ipexts and ipcap, which needs a C compiler and libpcap
+# make programs       build the shared libraries and the programs ipexts and ipcap, which needs a C compiler and libpcap
+# make wheel          pack the Python package with the shared libraries, as build/wolfaren-VERSION-py3-none-linux_x86_64.whl
 # make install        install what `make programs` has built: the library, the programs and their manual pages. Needs
 #                     neither rt nor a compiler (PREFIX=/usr/local, also LIBDIR, BINDIR, INCLUDEDIR and MANDIR;
 #                     DESTDIR=.. is prepended to the paths)
 # make install-lib    install the library alone: the archive of `make lib`, and the shared library if it is built
 # make uninstall      remove what `make install` installs
-# make dist           pack library, programs, page and Rust package for machines without Rattle, as
+# make dist           pack library, programs, page, Rust and Python package for machines without Rattle, as
 #                     build/wolfaren-VERSION-x86_64-linux.tar.gz, and without the programs for ARM64
 # make deb            make Debian packages of library, header and ipcap, in build/ (MAINTAINER='NAME <ADDRESS>')
-# make test-c         test the library, ipcap, and the package in bindings/rust
+# make test-c         test the library, ipcap, and the packages in bindings/rust and bindings/python
 # make page           build the files that page/index.html needs
 # make test-page      test that page in Chromium
 # make mutants        try the mutants in mutants/ (CRATE='NAME ..': only these crates; ONLY=WORD: only those whose
@@ -31,7 +32,7 @@
 #
 # The last eight and make test-c take CARGO_FLAGS="..", additional flags for Cargo, such as one that locates the crate
 # on a machine without network access.
-.PHONY: run try test lib lib-x86_64 lib-aarch64 programs install install-lib uninstall dist deb test-c page test-page mutants memory bench bench-border cost diff diff-test diff-fields fuzz fuzz-test
+.PHONY: run try test lib lib-x86_64 lib-aarch64 programs wheel install install-lib uninstall dist deb test-c page test-page mutants memory bench bench-border cost diff diff-test diff-fields fuzz fuzz-test
 .SILENT:
 
 RT_IS_THERE = command -v rt >/dev/null || { \
@@ -97,9 +98,19 @@ lib-aarch64:
 
 programs: lib
 	$(PCAP_IS_THERE)
-	$(MAKE) -C programs shared ipcap LIB=$(CURDIR)/build INCLUDE=$(CURDIR)/build OUT=$(CURDIR)/build/ipcap.out
+	$(MAKE) -C programs shared pcap-shared ipcap LIB=$(CURDIR)/build INCLUDE=$(CURDIR)/build OUT=$(CURDIR)/build/ipcap.out
 	scripts/prove ipexts
-	cp build/ipcap.out/ipcap build/ipcap.out/libwolfaren.so.0 crates/ipexts/out/ipexts build/
+	cp build/ipcap.out/ipcap build/ipcap.out/*.so.0 crates/ipexts/out/ipexts build/
+
+# A copy is built, in which the build leaves its files, and which has the files that the links in the package name. The
+# first python3 on the PATH may not be Debian's.
+wheel: programs
+	$(PYTHON_IS_THERE)
+	rm -rf build/python
+	scripts/copy-python build/python
+	for python in python3 /usr/bin/python3; do ! $$python -c 'import pip, setuptools, wheel' 2>/dev/null || break; done; \
+		WOLFAREN_LIB_DIR=$(CURDIR)/build $$python -m pip wheel --quiet --no-build-isolation --no-deps --no-index -w build build/python
+	rm -rf build/python
 
 PREFIX = /usr/local
 BINDIR = $(PREFIX)/bin
@@ -123,14 +134,16 @@ install-lib:
 	chmod 644 $(DESTDIR)$(LIBDIR)/pkgconfig/wolfaren.pc
 
 install: install-lib
-	[ -f build/ipcap ] && [ -f build/ipexts ] || { echo "The programs are missing: run 'make programs' first." >&2; exit 1; }
+	[ -f build/ipcap ] && [ -f build/ipexts ] && [ -f build/libwolfaren-pcap.so.0 ] || { echo "The programs are missing: run 'make programs' first." >&2; exit 1; }
 	$(INSTALL) -d $(DESTDIR)$(BINDIR) $(DESTDIR)$(MANDIR)/man1
+	$(INSTALL) -m 644 build/libwolfaren-pcap.so.0 $(DESTDIR)$(LIBDIR)/
 	$(INSTALL) -m 755 build/ipcap build/ipexts $(DESTDIR)$(BINDIR)/
 	$(INSTALL) -m 644 programs/ipcap/ipcap.1 programs/ipexts.1 $(DESTDIR)$(MANDIR)/man1/
 
 uninstall:
 	rm -f $(DESTDIR)$(INCLUDEDIR)/wolfaren.h $(DESTDIR)$(LIBDIR)/pkgconfig/wolfaren.pc
 	rm -f $(DESTDIR)$(LIBDIR)/libwolfaren.a $(DESTDIR)$(LIBDIR)/libwolfaren.so.0 $(DESTDIR)$(LIBDIR)/libwolfaren.so
+	rm -f $(DESTDIR)$(LIBDIR)/libwolfaren-pcap.so.0
 	rm -f $(DESTDIR)$(BINDIR)/ipcap $(DESTDIR)$(BINDIR)/ipexts
 	rm -f $(DESTDIR)$(MANDIR)/man1/ipcap.1 $(DESTDIR)$(MANDIR)/man1/ipexts.1
 
@@ -141,11 +154,13 @@ dist: programs page
 deb: programs
 	scripts/deb
 
-test-c: lib
+test-c: programs
 	$(PYTHON_IS_THERE)
 	$(CARGO_IS_THERE)
 	scripts/test-c
+	scripts/test-statistics
 	programs/test/run build build
+	scripts/test-python
 	cd bindings/rust && WOLFAREN_LIB_DIR=$(CURDIR)/build cargo test --quiet $$CARGO_FLAGS
 
 page:

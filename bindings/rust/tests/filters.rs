@@ -189,7 +189,7 @@ fn refused_texts() {
     let error = Filter::parse(&"fault and ".repeat(65)).expect_err("there are 65 terms");
     assert_eq!(
         error.to_string(),
-        "expected no more than 64 terms at byte 640"
+        "expected no more than 64 terms at byte 636"
     );
     let error = Filter::parse(&"(".repeat(17)).expect_err("there are 17 levels");
     assert_eq!((error.offset, error.expected), (16, Expected::LessNesting));

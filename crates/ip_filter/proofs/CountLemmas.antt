@@ -30,6 +30,13 @@ mutual
       let last : List Step = record { kind = kind.Or; nots = k } ∷ [] in
       omega (arith, filter_count d 0, conjunction_count c 0, length-append (filter_steps 0 d ++ conjunction_steps 0 c) last, length-append (filter_steps 0 d) (conjunction_steps 0 c))
 
+-- so there is some term
+pub some_term : (u : Operand) → 1 ≤ operand_terms u
+some_term u = omega (arith, operand_count u 0)
+
+pub some_terms : (c : Conjunction) → 1 ≤ conjunction_terms c
+some_terms c = omega (arith, conjunction_count c 0)
+
 or_count : (o : Option (Disjunction × Word)) → length (or_steps o) ≤ 2 * option_map_or (λ p. terms_in p.0) o 0
 or_count None = omega arith
 or_count (Some p) = omega (arith, filter_count p.0 0)

@@ -1,12 +1,16 @@
--- The words of a filter lead to it, and to no other.
+-- The words of a filter lead to it, and what leads to a filter is its words.
 use Rattle.std.proofs.Common.{Some, None, IsTrue, codes}
 use Rattle.std.specs.Prelude.{Option}
 use Rattle.std.specs.Option.{option_map_or}
-use Rattle.ip_spec.proofs.Common.{◌≡◌, ◌+◌, ◌≤◌, List, [], ◌∷◌, ◌++◌, length, refl, sym, ap, subst, arith, append_assoc, append-nil}
+use Rattle.ip_spec.proofs.Common.{◌≡◌, ◌+◌, ◌≤◌, List, [], ◌∷◌, ◌++◌, length, refl, sym, ap, ◌∙◌, subst, arith, append_assoc, append-nil}
+use Rattle.ip_filter.specs.declared.term.Term.{Term}
+use Rattle.ip_filter.specs.declared.term.Term.TheVariants as term
 use Rattle.ip_filter.specs.Words.{Word}
-use Rattle.ip_filter.specs.Grammar.{Operand, Conjunction, Disjunction, a_term, a_negation, a_group, an_operand, an_and, a_conjunction, an_or, keyword, operand_words, conjunction_words, filter_words, IsOperand, IsConjunction, IsDisjunction, operand_terms, conjunction_terms, terms_in, operand_depth, conjunction_depth, depth_of, IsFilter, is_and, is_or}
+use Rattle.ip_filter.specs.Grammar.{Operand, Conjunction, Disjunction, a_term, a_negation, a_group, an_operand, an_and, a_conjunction, an_or, keyword, operand_words, conjunction_words, filter_words, IsOperand, IsConjunction, IsDisjunction, operand_terms, conjunction_terms, terms_in, operand_depth, conjunction_depth, depth_of, IsFilter, AreArguments, is_and, is_or}
 use Rattle.ip_filter.specs.Reading.{ends_term}
-use Rattle.ip_filter.specs.Parsing.{Open, State, before, after, nothing, Moves, by_not, by_open, by_term, by_and, by_or, by_close, may_follow, LeadsTo, ends, goes_on, with_operand, and_joined, or_joined, negate, open_terms, group_terms}
+use Rattle.ip_filter.specs.Parsing.{Open, State, before, after, nothing, HasRoom, Moves, by_not, by_open, by_term, by_and, by_or, by_close, may_follow, LeadsTo, ends, goes_on, with_operand, and_joined, or_joined, negate, open_terms, group_terms, state_words}
+use Rattle.ip_filter.proofs.CountLemmas.{some_term, some_terms}
+use Rattle.ip_filter.proofs.StateLemmas.{Good, good_whole, move_good, move_room, move_words, or_joined_words, or_joined_terms}
 
 -- ---- what ends a term
 
@@ -30,7 +34,7 @@ module _ (d : Disjunction) where
   mutual
     operand_leads : (u : Operand) (fs : List Open) (f : Open) (ws : List Word) → IsOperand u → length fs + operand_depth u ≤ 16 → group_terms fs + open_terms f + operand_terms u ≤ 64
         → IsTrue (ends_term ws) → LeadsTo (with_operand fs f u) ws d → LeadsTo (before fs f) (operand_words u ++ ws) d
-    operand_leads (a_term t us) fs f ws is deep many e l = step _ _ (keyword t ∷ us) ws (by_term fs f t us is (omega (arith, many))) e l
+    operand_leads (a_term t us) fs f ws is deep many e l = step _ _ (keyword t ∷ us) ws (by_term fs f t us is) e l
     operand_leads (a_negation w u) fs f ws is deep many e l =
         let more : Open = record f { nots = f.nots ++ w ∷ [] } in
         step _ _ (w ∷ []) (operand_words u ++ ws) (by_not fs f w is.0) tt
@@ -49,7 +53,7 @@ module _ (d : Disjunction) where
     conjunction_leads (an_and c w u) fs o ws is deep many e l =
         subst (λ x. LeadsTo (before fs (record { or_left = o; and_left = None; nots = [] })) x d) (sym (append_assoc (conjunction_words c) (w ∷ operand_words u) ws))
         (conjunction_leads c fs o (w ∷ (operand_words u ++ ws)) is.0 (omega (arith, deep)) (omega (arith, many)) (and_ends w (operand_words u ++ ws) is.1)
-        (step _ _ (w ∷ []) (operand_words u ++ ws) (by_and fs o c w is.1) tt
+        (step _ _ (w ∷ []) (operand_words u ++ ws) (by_and fs o c w is.1 (omega (arith, many, some_term u))) tt
         (operand_leads u fs (record { or_left = o; and_left = Some (c, w); nots = [] }) ws is.2 (omega (arith, deep)) (omega (arith, many)) e l)))
 
     filter_leads : (g : Disjunction) (fs : List Open) (ws : List Word) → IsDisjunction g → length fs + depth_of g ≤ 16 → group_terms fs + terms_in g ≤ 64 → IsTrue (ends_term ws)
@@ -58,7 +62,7 @@ module _ (d : Disjunction) where
     filter_leads (an_or g w c) fs ws is deep many e l =
         subst (λ x. LeadsTo (before fs nothing) x d) (sym (append_assoc (filter_words g) (w ∷ conjunction_words c) ws))
         (filter_leads g fs (w ∷ (conjunction_words c ++ ws)) is.0 (omega (arith, deep)) (omega (arith, many)) (or_ends w (conjunction_words c ++ ws) is.1)
-        (λ o b same. step _ _ (w ∷ []) (conjunction_words c ++ ws) (by_or fs o b w is.1) tt
+        (λ o b same. step _ _ (w ∷ []) (conjunction_words c ++ ws) (by_or fs o b w is.1 (omega (arith, many, some_terms c, or_joined_terms o b, ap terms_in same))) tt
         (subst (λ x. LeadsTo (before fs (record { or_left = Some (x, w); and_left = None; nots = [] })) (conjunction_words c ++ ws) d) (sym same)
         (conjunction_leads c fs (Some (g, w)) ws is.2 (omega (arith, deep)) (omega (arith, many)) e (l (Some (g, w)) c refl)))))
 
@@ -68,3 +72,32 @@ start_leads d is =
     let deep = is.depth in let many = is.terms in
     subst (λ ws. LeadsTo (before [] nothing) ws d) (append-nil (filter_words d))
     (filter_leads d d [] [] is.spelled (omega (arith, deep)) (omega (arith, many)) refl (λ o c same. subst (LeadsTo (after [] o c) []) same (ends o c)))
+
+-- ---- from what was read to a whole filter
+
+-- what leads to a filter is the rest of its words
+pub lead_filter : (s : State) (ws : List Word) (d : Disjunction) → LeadsTo s ws d → Good s → HasRoom s → IsFilter d × (filter_words d ≡ state_words s ++ ws)
+lead_filter s ws d (ends o c) good room = (good_whole o c good room, or_joined_words o c ∙ sym (append-nil (state_words (after [] o c))))
+lead_filter s ws d (goes_on s2 t us rest all d2 same m may l) good room =
+    let more = lead_filter t rest d2 l (move_good s2 t us m good) (move_room s2 t us m room) in (
+      more.0,
+      more.1 ∙ ap (λ x. x ++ rest) (move_words s2 t us m) ∙ append_assoc (state_words s2) us rest ∙ ap (λ x. state_words s2 ++ x) (sym same),
+    )
+
+-- what was read may end here once each open group is closed
+pub closes : (fs : List Open) (o : Option (Disjunction × Word)) (c : Conjunction) → (d : Disjunction) × (ws : List Word) × LeadsTo (after fs o c) ws d × IsTrue (ends_term ws)
+closes [] o c = (or_joined o c, [], ends o c, refl)
+closes (f ∷ fs) o c =
+    let u = a_group (or_joined o c) in
+    let more = closes fs f.or_left (and_joined f.and_left (negate f.nots u)) in
+    (more.0, codes ")" ∷ more.1, goes_on _ _ (codes ")" ∷ []) more.1 _ more.0 refl (by_close fs f o c) more.3 more.2, refl)
+
+-- so it may after a term
+pub term_ends : (fs : List Open) (f : Open) (t : Term) (us : List Word) → AreArguments us t → (d : Disjunction) × (ws : List Word) × LeadsTo (before fs f) (keyword t ∷ (us ++ ws)) d
+term_ends fs f t us args =
+    let more = closes fs f.or_left (and_joined f.and_left (negate f.nots (a_term t us))) in
+    (more.0, more.1, goes_on _ _ (keyword t ∷ us) more.1 _ more.0 refl (by_term fs f t us args) more.3 more.2)
+
+pub can_end : (s : State) → (d : Disjunction) × (ws : List Word) × LeadsTo s ws d
+can_end (before fs f) = let more = term_ends fs f term.Fragment [] refl in (more.0, _, more.2)
+can_end (after fs o c) = let more = closes fs o c in (more.0, more.1, more.2)

@@ -2,7 +2,7 @@
 use Rattle.std.proofs.Common.{is_some, IsTrue, codes}
 use Rattle.std.specs.Option.{option_map_or}
 use Rattle.std.specs.Str.{bytes_eq}
-use Rattle.ip_spec.proofs.Common.{◌≡◌, ℕ, ◌+◌, ◌-◌, ◌<◌, ◌≤◌, ◌^◌, min, List, [], ◌∷◌, ◌++◌, length, take, drop, refl, sym, ap, ◌∙◌, arith, true, false, false≢true, bytes_eq-Decides, append-nil, length-append}
+use Rattle.ip_spec.proofs.Common.{◌≡◌, ℕ, ◌+◌, ◌-◌, ◌<◌, ◌≤◌, ◌^◌, min, List, [], ◌∷◌, ◌++◌, length, take, drop, refl, sym, ap, ◌∙◌, subst, arith, true, false, false≢true, append_assoc, append-nil, length-append}
 use Rattle.ip_filter.specs.declared.words.Word.{Word as FirstWord}
 use Rattle.ip_filter.specs.declared.builder.Builder.{Builder}
 use Rattle.ip_filter.specs.declared.term.Term.{Term}
@@ -10,7 +10,7 @@ use Rattle.ip_filter.specs.declared.term.Term.TheVariants as term
 use Rattle.ip_filter.specs.Words.{Word, words}
 use Rattle.ip_filter.specs.Grammar.{Operand, Disjunction, Conjunction, a_term, keyword, AreArguments, is_not, filter_words, conjunction_words}
 use Rattle.ip_filter.specs.Reading.{IsPlace, IsFirstWord, ReadsTerm, RefusesTerm, ends_term}
-use Rattle.ip_filter.specs.Parsing.{Open, State, before, nothing, Moves, by_not, by_open, by_term, may_follow, with_operand, open_terms, group_terms, group_words, state_words, Fits, Holds, HoldsOperand, ReadsOn, RefusesFrom, level_of, levels_of, state_steps, and_joined, negate}
+use Rattle.ip_filter.specs.Parsing.{Open, State, before, nothing, Moves, by_not, by_open, by_term, may_follow, LeadsTo, with_operand, open_terms, group_terms, group_words, state_words, Fits, Holds, HoldsOperand, ReadsOn, RefusesFrom, level_of, levels_of, state_steps, and_joined, negate}
 use Rattle.arrayvec.specs.declared.array_vec.ArrayVec.{ArrayVec}
 use Rattle.ip_filter.specs.declared.builder.Level.{Level}
 use Rattle.ip_filter.specs.declared.filter.Filter.{Filter}
@@ -18,6 +18,8 @@ use Rattle.ip_filter.specs.declared.filter.StepKind.TheVariants as kind
 use Rattle.ip_filter.specs.Formula.{steps_of}
 use Rattle.ip_filter.proofs.PartStepsLemmas.{joined_terms}
 use Rattle.ip_filter.proofs.CountLemmas.{before_count, after_count}
+use Rattle.ip_filter.proofs.LeadLemmas.{can_end, term_ends}
+use Rattle.ip_filter.proofs.WordLemmas.{same_word}
 use Rattle.ip_filter.proofs.PlaceLemmas.{end_of_end, place_in_end, from_place}
 
 -- no keyword is a word `not` or a parenthesis
@@ -29,9 +31,6 @@ keyword_open : (t : Term) → bytes_eq (keyword t) (codes "(") ≡ false
 keyword_open (term.Version v) = refl
 keyword_open t = refl
 
-same_word : (k c : Word) → bytes_eq k c ≡ true → k ≡ c
-same_word k c = (bytes_eq-Decides k c).0
-
 module _ (fs : List Open) (f : Open) (w : Word) where
   -- ---- what may precede an operand
 
@@ -40,26 +39,26 @@ module _ (fs : List Open) (f : Open) (w : Word) where
   only_not t vs ws more n (by_not gs g v p) e =
       let same : v ≡ w = cc e in (ap (λ x. before gs (record g { nots = g.nots ++ x ∷ [] })) same, ap (λ x. x ∷ []) same)
   only_not t vs ws more n (by_open gs g few) e = let same : codes "(" ≡ w = cc e in absurd (false≢true (ap is_not same ∙ n))
-  only_not t vs ws more n (by_term gs g u us args few) e = let same : keyword u ≡ w = cc e in absurd (false≢true (sym (keyword_not u) ∙ ap is_not same ∙ n))
+  only_not t vs ws more n (by_term gs g u us args) e = let same : keyword u ≡ w = cc e in absurd (false≢true (sym (keyword_not u) ∙ ap is_not same ∙ n))
 
   only_open : (t : State) (vs ws more : List Word) → bytes_eq w (codes "(") ≡ true → Moves (before fs f) vs t → vs ++ more ≡ w ∷ ws
       → (t ≡ before (f ∷ fs) nothing) × (vs ≡ codes "(" ∷ []) × (length fs < 16)
   only_open t vs ws more o (by_not gs g v p) e =
       let same : v ≡ w = cc e in absurd (false≢true (ap is_not (sym (same_word w (codes "(") o) ∙ sym same) ∙ p))
   only_open t vs ws more o (by_open gs g few) e = (refl, refl, few)
-  only_open t vs ws more o (by_term gs g u us args few) e =
+  only_open t vs ws more o (by_term gs g u us args) e =
       let same : keyword u ≡ w = cc e in absurd (false≢true (sym (keyword_open u) ∙ ap (λ x. bytes_eq x (codes "(")) same ∙ o))
 
   -- ---- a term
 
   only_term : (t : State) (vs ws more : List Word) → is_not w ≡ false → bytes_eq w (codes "(") ≡ false → Moves (before fs f) vs t → may_follow t more → vs ++ more ≡ w ∷ ws
       → (u : Term) × (us : List Word) × (t ≡ with_operand fs f (a_term u us)) × (vs ≡ keyword u ∷ us) × (keyword u ≡ w) × AreArguments us u
-      × IsTrue (ends_term more) × (us ++ more ≡ ws) × (group_terms fs + open_terms f < 64)
+      × IsTrue (ends_term more) × (us ++ more ≡ ws)
   only_term t vs ws more n o (by_not gs g v p) may e = let same : v ≡ w = cc e in absurd (false≢true (sym n ∙ ap is_not (sym same) ∙ p))
   only_term t vs ws more n o (by_open gs g few) may e =
       let same : w ≡ codes "(" = cc e in absurd (false≢true (sym o ∙ ap (λ x. bytes_eq x (codes "(")) same))
-  only_term t vs ws more n o (by_term gs g u us args few) may e =
-      let same : keyword u ≡ w = cc e in let rest : us ++ more ≡ ws = cc e in (u, us, refl, refl, same, args, may, rest, few)
+  only_term t vs ws more n o (by_term gs g u us args) may e =
+      let same : keyword u ≡ w = cc e in let rest : us ++ more ≡ ws = cc e in (u, us, refl, refl, same, args, may, rest)
 
 pub level_count : (fs : List Open) → length (levels_of fs) ≡ length fs
 level_count [] = refl
@@ -141,6 +140,7 @@ module _ (b : Builder) (w : FirstWord) where
   no_more_groups o full text fs f is h = record {
     front = [];
     place = is.place;
+    begins = can_end (before fs f);
     none = λ t vs ws more m may e next.
         let here = at_word text w is ws vs more next e in
         let found = only_open fs f w.bytes.now t vs here.0 more o m here.1 in
@@ -149,20 +149,11 @@ module _ (b : Builder) (w : FirstWord) where
   }
 
   module _ (n : is_not w.bytes.now ≡ false) (o : bytes_eq w.bytes.now (codes "(") ≡ false) where
-    pub no_more_terms : 64 ≤ b.terms → (text : List ℕ) (fs : List Open) (f : Open) → IsFirstWord text w → Holds (before fs f) b → RefusesFrom (before fs f) text w.left
-    no_more_terms full text fs f is h = record {
-      front = [];
-      place = is.place;
-      none = λ t vs ws more m may e next.
-          let here = at_word text w is ws vs more next e in
-          let found = only_term fs f w.bytes.now t vs here.0 more n o m may here.1 in
-          let few = found.8 in let same = h.terms in omega (arith, full, few, same);
-    }
-
     pub no_term : ((t : Term) → keyword t ≡ w.bytes.now → ⊥) → (text : List ℕ) (fs : List Open) (f : Open) → IsFirstWord text w → Holds (before fs f) b → RefusesFrom (before fs f) text w.left
     no_term none text fs f is h = record {
       front = [];
       place = is.place;
+      begins = can_end (before fs f);
       none = λ t vs ws more m may e next.
           let here = at_word text w is ws vs more next e in
           let found = only_term fs f w.bytes.now t vs here.0 more n o m may here.1 in none found.0 found.4;
@@ -173,32 +164,37 @@ module _ (b : Builder) (w : FirstWord) where
     bad_term left r text fs f is h = record {
       front = w.bytes.now ∷ r.before;
       place = later_place text w is r.before left r.place;
+      begins =
+          let b = r.begins in
+          let more = term_ends fs f b.0 (r.before ++ b.1) b.3 in
+          (more.0, b.1 ++ more.1, subst (λ ws. LeadsTo (before fs f) ws more.0) (ap (λ k. k ∷ ((r.before ++ b.1) ++ more.1)) b.2 ∙ ap (λ ws. w.bytes.now ∷ ws) (append_assoc r.before b.1 more.1)) more.2);
       none = λ t vs ws more m may e next.
           let found = only_term fs f w.bytes.now t vs (r.before ++ ws) more n o m may e in
           r.none found.0 found.1 ws more found.4 found.5 found.6 found.7 (next ∙ ap (λ s. take 1 (words s)) (sym (from_place text w.rest.now is.end left r.place.within)));
     }
 
     -- the step of the term is the last one
-    term_holds : (filter : Filter) (t : Term) (us : List Word) (fs : List Open) (f : Open) → Holds (before fs f) b
+    term_holds : (filter : Filter) (count : ℕ) (t : Term) (us : List Word) (fs : List Open) (f : Open) → Holds (before fs f) b → count ≡ b.terms + 1
         → steps_of filter ≡ steps_of b.filter ++ record { kind = kind.Term t; nots = b.level.nots } ∷ []
-        → HoldsOperand fs f (a_term t us) (record { filter = filter; terms = b.terms + 1; outer = b.outer; level = b.level; has_operand = b.has_operand })
-    term_holds filter t us fs f h pushed = record {
+        → HoldsOperand fs f (a_term t us) (record { filter = filter; terms = count; outer = b.outer; level = b.level; has_operand = b.has_operand })
+    term_holds filter count t us fs f h sum pushed = record {
       steps = pushed ∙ ap (λ s. s ++ record { kind = kind.Term t; nots = b.level.nots } ∷ []) h.steps
           ∙ ap (λ k. state_steps (before fs f) ++ record { kind = kind.Term t; nots = k } ∷ []) (ap (λ l. l.nots) h.level);
-      terms = ap (λ k. k + 1) h.terms;
+      terms = sum ∙ ap (λ k. k + 1) h.terms;
       outer = h.outer;
       or_waits = ap (λ l. l.or_waits) h.level;
       and_waits = ap (λ l. l.and_waits) h.level;
     }
 
-    pub term_read : (filter : Filter) (t : Term) (rest : List ℕ) (new : Builder) → ReadsTerm w.bytes.now w.rest.now t rest → b.terms < 64
+    pub term_read : (filter : Filter) (count : ℕ) (t : Term) (rest : List ℕ) (new : Builder) → ReadsTerm w.bytes.now w.rest.now t rest → count ≡ min (b.terms + 1) 18446744073709551615
         → (length (steps_of b.filter) < 127 → steps_of filter ≡ steps_of b.filter ++ record { kind = kind.Term t; nots = b.level.nots } ∷ [])
-        → ((fs : List Open) (f : Open) (u : Operand) → HoldsOperand fs f u (record { filter = filter; terms = b.terms + 1; outer = b.outer; level = b.level; has_operand = b.has_operand })
+        → ((fs : List Open) (f : Open) (u : Operand) → HoldsOperand fs f u (record { filter = filter; terms = count; outer = b.outer; level = b.level; has_operand = b.has_operand })
         → length (state_steps (with_operand fs f u)) ≤ 127 → Holds (with_operand fs f u) new)
         → (text : List ℕ) (fs : List Open) (f : Open) → IsFirstWord text w → Holds (before fs f) b → Fits (before fs f) → ReadsOn (before fs f) text rest new
-    term_read filter t rest new r few push done text fs f is h fits =
+    term_read filter count t rest new r sum push done text fs f is h fits =
         let u = a_term t r.args in
         let terms = h.terms in
+        let few = fits.terms in
         let room : length (steps_of b.filter) < 127 = omega (arith, few, terms, ap length h.steps, before_count fs f) in
         let all = joined_terms f.nots u f.and_left in
         let enough : length (state_steps (with_operand fs f u)) ≤ 127
@@ -206,10 +202,10 @@ module _ (b : Builder) (w : FirstWord) where
         record {
           next = with_operand fs f u;
           us = keyword t ∷ r.args;
-          moves = by_term fs f t r.args r.arguments (omega (arith, few, terms));
+          moves = by_term fs f t r.args r.arguments;
           begins = is.begins ∙ ap (λ ws. w.bytes.now ∷ ws) r.begins ∙ ap (λ x. x ∷ (r.args ++ words rest)) (sym r.named);
           end = end_of_end text w.rest.now is.end rest r.end;
-          holds = done fs f u (term_holds filter t r.args fs f h (push room)) enough;
+          holds = done fs f u (term_holds filter count t r.args fs f h (omega (arith, sum, few, terms)) (push room)) enough;
           only = λ s vs ws more m may e next.
               let found = only_term fs f w.bytes.now s vs (r.args ++ ws) more n o m may (e ∙ ap (λ x. x ∷ (r.args ++ ws)) r.named) in
               let same = r.only found.0 found.1 ws more found.4 found.5 found.6 found.7 next in (

@@ -1,6 +1,7 @@
 -- Networks, as text writes them.
-use Rattle.std.proofs.Common.{suc, Some, None}
+use Rattle.std.proofs.Common.{suc, Some, None, codes}
 use Rattle.std.proofs.Math.Seq.{drop-cons}
+use Rattle.std.proofs.lemmas.Fmt.{decimal_digit}
 use Rattle.std.proofs.NetLemmas.Ipv6.{IsDotted-not_colon_hex}
 use Rattle.std.proofs.NetLemmas.Theorems.{IsIpv4Text_unique, IsIpv6Text_unique}
 use Rattle.std.specs.Net.Addr.{ipv4_bits, ipv6_bits}
@@ -8,7 +9,7 @@ use Rattle.std.specs.Prelude.{Option}
 use Rattle.std.specs.Net.Grammar.{IsIpv4Text, IsIpv6Text}
 use Rattle.std.specs.declared.net.ipv4_addr.Ipv4Addr.{Ipv4Addr}
 use Rattle.std.specs.declared.net.ipv6_addr.Ipv6Addr.{Ipv6Addr}
-use Rattle.ip_spec.proofs.Common.{◌≡◌, ℕ, ◌<◌, ◌≤◌, ◌≢◌, List, length, take, drop, get_or, refl, sym, ap, ◌∙◌, arith, common_steps, nat_tests, drop_all}
+use Rattle.ip_spec.proofs.Common.{◌≡◌, ℕ, ◌<◌, ◌≤◌, ◌≢◌, List, [], ◌∷◌, ◌++◌, length, take, drop, get_or, refl, sym, ap, ◌∙◌, arith, common_steps, nat_tests, drop_all}
 use Rattle.ip_filter.specs.Numbers.{slash_index, prefix_bits, IsNetworkText}
 use Rattle.ip_filter.specs.declared.network.Network.{Network}
 use Rattle.ip_filter.specs.declared.network.Network.TheVariants as network
@@ -39,6 +40,21 @@ pub no_ipv6_len : (w : List ℕ) (n : Network) → IsNetworkText w n → ((a : I
     → prefix_bits 128 (drop (slash_index w) w) ≡ None → ⊥
 no_ipv6_len w (network.Ipv4 address len) is none4 none = none4 is.0 is.1
 no_ipv6_len w (network.Ipv6 address len) is none4 none = cc (sym none ∙ is.3)
+
+-- some word writes a network
+pub some_network : (w : List ℕ) × (n : Network) × IsNetworkText w n
+some_network =
+    let a : Ipv4Addr = record { octets = 0 ∷ 0 ∷ 0 ∷ 0 ∷ [] } in
+    let text : IsIpv4Text (codes "0.0.0.0") a = record {
+      a = 0;
+      b = 0;
+      c = 0;
+      d = 0;
+      fit = omega arith;
+      value = refl;
+      spelled = sym (ap (λ x. x ++ codes "." ++ x ++ codes "." ++ x ++ codes "." ++ x) (decimal_digit 0 (omega arith)));
+    } in
+    (codes "0.0.0.0", network.Ipv4 (ipv4_bits a) 32, (a, text, refl, refl))
 
 same_bits : (a b : Option ℕ) (m n : ℕ) → a ≡ b → a ≡ Some m → b ≡ Some n → m ≡ n
 same_bits a b m n same left right = cc

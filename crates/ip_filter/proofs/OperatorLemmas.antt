@@ -4,7 +4,7 @@ use Rattle.std.specs.Prelude.{Option}
 use Rattle.std.specs.Option.{option_map_or}
 use Rattle.std.specs.Str.{bytes_eq}
 use Rattle.arrayvec.specs.declared.array_vec.ArrayVec.{ArrayVec}
-use Rattle.ip_spec.proofs.Common.{◌≡◌, ℕ, ◌+◌, ◌<◌, ◌≤◌, ◌^◌, List, [], ◌∷◌, ◌++◌, length, refl, sym, ap, ◌∙◌, arith, Bool, true, false, ◌||◌, ◌⊎◌, inl, inr, false≢true, bytes_eq-Decides, append_assoc, append-nil, length-append}
+use Rattle.ip_spec.proofs.Common.{◌≡◌, ℕ, ◌+◌, ◌<◌, ◌≤◌, ◌^◌, List, [], ◌∷◌, ◌++◌, length, refl, sym, ap, ◌∙◌, arith, Bool, true, false, ◌||◌, ◌⊎◌, inl, inr, false≢true, append_assoc, append-nil, length-append}
 use Rattle.std.proofs.lemmas.List.{same_from_push}
 use Rattle.ip_filter.specs.declared.words.Word.{Word as FirstWord}
 use Rattle.ip_filter.specs.declared.builder.Builder.{Builder}
@@ -15,19 +15,15 @@ use Rattle.ip_filter.specs.declared.filter.StepKind.{StepKind}
 use Rattle.ip_filter.specs.declared.filter.StepKind.TheVariants as kind
 use Rattle.ip_filter.specs.Words.{Word, words}
 use Rattle.ip_filter.specs.Formula.{steps_of}
-use Rattle.ip_filter.specs.Grammar.{Operand, Conjunction, Disjunction, a_group, conjunction_terms, terms_in, filter_words, conjunction_words, is_and, is_or}
+use Rattle.ip_filter.specs.Grammar.{Operand, Conjunction, Disjunction, a_group, filter_words, conjunction_words, is_and, is_or}
 use Rattle.ip_filter.specs.Reading.{IsFirstWord}
-use Rattle.ip_filter.specs.Parsing.{Open, State, before, after, Moves, by_and, by_or, by_close, with_operand, or_joined, and_joined, negate, group_words, open_words, state_words, group_steps, or_steps, conjunction_steps, filter_steps, state_steps, level_of, levels_of, Fits, Holds, HoldsOperand, HoldsGroup, IsFinished, ReadsOn, RefusesFrom}
+use Rattle.ip_filter.specs.Parsing.{Open, State, before, after, Moves, by_and, by_or, by_close, with_operand, or_joined, and_joined, negate, group_words, open_words, state_words, group_steps, or_steps, conjunction_steps, filter_steps, state_steps, state_terms, level_of, levels_of, Fits, Holds, HoldsOperand, HoldsGroup, IsFinished, ReadsOn, RefusesFrom}
 use Rattle.ip_filter.proofs.CountLemmas.{after_count, group_end_count, or_end_count, filter_last}
 use Rattle.ip_filter.proofs.PartStepsLemmas.{joined_terms}
 use Rattle.ip_filter.proofs.MoveLemmas.{at_word, level_count}
-
-or_cases : (a b : Bool) → (a || b) ≡ true → (a ≡ true) ⊎ (b ≡ true)
-or_cases true b e = inl refl
-or_cases false b e = inr e
-
-same_word : (k c : Word) → bytes_eq k c ≡ true → k ≡ c
-same_word k c = (bytes_eq-Decides k c).0
+use Rattle.ip_filter.proofs.LeadLemmas.{can_end}
+use Rattle.ip_filter.proofs.StateLemmas.{or_joined_terms}
+use Rattle.ip_filter.proofs.WordLemmas.{or_cases, same_word}
 
 -- an `and` is no `or` and closes no group
 module _ (w : Word) where
@@ -56,44 +52,49 @@ contradicts b t f = absurd (false≢true (sym f ∙ t))
 
 only_and : (w : Word) (fs : List Open) (o : Option (Disjunction × Word)) (c : Conjunction) (t : State) (vs ws more : List Word) → is_and w ≡ true → Moves (after fs o c) vs t
     → vs ++ more ≡ w ∷ ws → (t ≡ before fs (record { or_left = o; and_left = Some (c, w); nots = [] })) × (vs ≡ w ∷ [])
-only_and w fs o c t vs ws more a (by_and gs p d v is) e =
+only_and w fs o c t vs ws more a (by_and gs p d v is few) e =
     let same : v ≡ w = cc e in (ap (λ x. before gs (record { or_left = p; and_left = Some (d, x); nots = [] })) same, ap (λ x. x ∷ []) same)
-only_and w fs o c t vs ws more a (by_or gs p d v is) e =
+only_and w fs o c t vs ws more a (by_or gs p d v is few) e =
     let same : v ≡ w = cc e in contradicts (is_or w) (ap is_or (sym same) ∙ is) (and_no_or w a)
 only_and w fs o c t vs ws more a (by_close gs g p d) e =
     let same : w ≡ codes ")" = cc e in contradicts (is_and w) a (close_no_and w same)
 
 only_or : (w : Word) (fs : List Open) (o : Option (Disjunction × Word)) (c : Conjunction) (t : State) (vs ws more : List Word) → is_or w ≡ true → Moves (after fs o c) vs t
     → vs ++ more ≡ w ∷ ws → (t ≡ before fs (record { or_left = Some (or_joined o c, w); and_left = None; nots = [] })) × (vs ≡ w ∷ [])
-only_or w fs o c t vs ws more a (by_and gs p d v is) e =
+only_or w fs o c t vs ws more a (by_and gs p d v is few) e =
     let same : v ≡ w = cc e in contradicts (is_and w) (ap is_and (sym same) ∙ is) (or_no_and w a)
-only_or w fs o c t vs ws more a (by_or gs p d v is) e =
+only_or w fs o c t vs ws more a (by_or gs p d v is few) e =
     let same : v ≡ w = cc e in (ap (λ x. before gs (record { or_left = Some (or_joined p d, x); and_left = None; nots = [] })) same, ap (λ x. x ∷ []) same)
 only_or w fs o c t vs ws more a (by_close gs g p d) e =
     let same : w ≡ codes ")" = cc e in contradicts (is_or w) a (close_no_or w same)
 
 only_close : (w : Word) (fs : List Open) (f : Open) (o : Option (Disjunction × Word)) (c : Conjunction) (t : State) (vs ws more : List Word) → bytes_eq w (codes ")") ≡ true
     → Moves (after (f ∷ fs) o c) vs t → vs ++ more ≡ w ∷ ws → (t ≡ with_operand fs f (a_group (or_joined o c))) × (vs ≡ codes ")" ∷ [])
-only_close w fs f o c t vs ws more a (by_and gs p d v is) e =
+only_close w fs f o c t vs ws more a (by_and gs p d v is few) e =
     let same : v ≡ w = cc e in contradicts (is_and w) (ap is_and (sym same) ∙ is) (close_no_and w (same_word w (codes ")") a))
-only_close w fs f o c t vs ws more a (by_or gs p d v is) e =
+only_close w fs f o c t vs ws more a (by_or gs p d v is few) e =
     let same : v ≡ w = cc e in contradicts (is_or w) (ap is_or (sym same) ∙ is) (close_no_or w (same_word w (codes ")") a))
 only_close w fs f o c t vs ws more a (by_close gs g p d) e = (refl, refl)
 
 -- no other word leads on
 nowhere : (w : Word) (fs : List Open) (o : Option (Disjunction × Word)) (c : Conjunction) (t : State) (vs ws more : List Word) → is_and w ≡ false → is_or w ≡ false
     → (bytes_eq w (codes ")") ≡ false) ⊎ (length fs ≡ 0) → Moves (after fs o c) vs t → vs ++ more ≡ w ∷ ws → ⊥
-nowhere w fs o c t vs ws more a r n (by_and gs p d v is) e = let same : v ≡ w = cc e in contradicts (is_and w) (ap is_and (sym same) ∙ is) a
-nowhere w fs o c t vs ws more a r n (by_or gs p d v is) e = let same : v ≡ w = cc e in contradicts (is_or w) (ap is_or (sym same) ∙ is) r
+nowhere w fs o c t vs ws more a r n (by_and gs p d v is few) e = let same : v ≡ w = cc e in contradicts (is_and w) (ap is_and (sym same) ∙ is) a
+nowhere w fs o c t vs ws more a r n (by_or gs p d v is few) e = let same : v ≡ w = cc e in contradicts (is_or w) (ap is_or (sym same) ∙ is) r
 nowhere w fs o c t vs ws more a r n (by_close gs g p d) e =
     let same : w ≡ codes ")" = cc e in
     elim n [ inl f ↦ contradicts (bytes_eq w (codes ")")) (ap (λ x. bytes_eq x (codes ")")) same) f | inr none ↦ absurd (omega (arith, none)) ]
 
--- ---- the steps after an `or` or a group
+-- no operator leads on after 64 terms
+joins_nothing : (w : Word) (fs : List Open) (o : Option (Disjunction × Word)) (c : Conjunction) (t : State) (vs ws more : List Word) → is_and w || is_or w ≡ true
+    → 64 ≤ state_terms (after fs o c) → Moves (after fs o c) vs t → vs ++ more ≡ w ∷ ws → ⊥
+joins_nothing w fs o c t vs ws more a full (by_and gs p d v is few) e = omega (arith, full, few)
+joins_nothing w fs o c t vs ws more a full (by_or gs p d v is few) e = omega (arith, full, few)
+joins_nothing w fs o c t vs ws more a full (by_close gs g p d) e =
+    let same : w ≡ codes ")" = cc e in
+    elim (or_cases (is_and w) (is_or w) a) [ inl x ↦ contradicts (is_and w) x (close_no_and w same) | inr x ↦ contradicts (is_or w) x (close_no_or w same) ]
 
-or_terms : (o : Option (Disjunction × Word)) (c : Conjunction) → option_map_or (λ p. terms_in p.0) o 0 + conjunction_terms c ≡ terms_in (or_joined o c)
-or_terms None c = omega arith
-or_terms (Some p) c = refl
+-- ---- the steps after an `or` or a group
 
 or_end : (front : List Step) (o : Option (Disjunction × Word)) (c : Conjunction) (old new : Filter) → steps_of old ≡ front ++ or_steps o ++ conjunction_steps 0 c
     → (is_some o ≡ true → length (steps_of old) < 127 → steps_of new ≡ steps_of old ++ record { kind = kind.Or; nots = 0 } ∷ []) → (is_some o ≡ false → new ≡ old)
@@ -108,16 +109,16 @@ or_end front (Some p) c old new e push keep few =
 -- ---- the parser's steps
 
 module _ (b : Builder) (w : FirstWord) where
-  pub and_read : is_and w.bytes.now ≡ true → (text : List ℕ) (fs : List Open) (o : Option (Disjunction × Word)) (c : Conjunction) → IsFirstWord text w
+  pub and_read : is_and w.bytes.now ≡ true → b.terms < 64 → (text : List ℕ) (fs : List Open) (o : Option (Disjunction × Word)) (c : Conjunction) → IsFirstWord text w
       → Holds (after fs o c) b → Fits (after fs o c)
       → ReadsOn (after fs o c) text w.rest.now (record { filter = b.filter; terms = b.terms; outer = b.outer; level = record { nots = b.level.nots; or_waits = b.level.or_waits; and_waits = true }; has_operand = false })
-  and_read a text fs o c is h fits =
+  and_read a few text fs o c is h fits =
       let word = w.bytes.now in
       let terms = h.terms in
       record {
         next = before fs (record { or_left = o; and_left = Some (c, word); nots = [] });
         us = word ∷ [];
-        moves = by_and fs o c word a;
+        moves = by_and fs o c word a (omega (arith, few, terms));
         begins = is.begins;
         end = is.end;
         holds = record {
@@ -130,23 +131,23 @@ module _ (b : Builder) (w : FirstWord) where
         only = λ t vs ws more m may e next. only_and word fs o c t vs ws more a m e;
       }
 
-  pub or_read : (filter : Filter) → is_or w.bytes.now ≡ true
+  pub or_read : (filter : Filter) → is_or w.bytes.now ≡ true → b.terms < 64
       → (b.level.or_waits ≡ true → length (steps_of b.filter) < 127 → steps_of filter ≡ steps_of b.filter ++ record { kind = kind.Or; nots = 0 } ∷ [])
       → (b.level.or_waits ≡ false → filter ≡ b.filter)
       → (text : List ℕ) (fs : List Open) (o : Option (Disjunction × Word)) (c : Conjunction) → IsFirstWord text w
       → Holds (after fs o c) b → Fits (after fs o c)
       → ReadsOn (after fs o c) text w.rest.now (record { filter = filter; terms = b.terms; outer = b.outer; level = record { nots = b.level.nots; or_waits = true; and_waits = b.level.and_waits }; has_operand = false })
-  or_read filter a push keep text fs o c is h fits =
+  or_read filter a few push keep text fs o c is h fits =
       let word = w.bytes.now in
       let terms = h.terms in
       let waits : b.level.or_waits ≡ is_some o = ap (λ l. l.or_waits) h.level in
-      let all = or_terms o c in
+      let all = or_joined_terms o c in
       let bound = fits.terms in
       let steps = or_end (group_steps fs) o c b.filter filter h.steps (λ e. push (waits ∙ e)) (λ e. keep (waits ∙ e)) (omega (arith, bound, all, or_end_count fs (or_joined o c))) in
       record {
         next = before fs (record { or_left = Some (or_joined o c, word); and_left = None; nots = [] });
         us = word ∷ [];
-        moves = by_or fs o c word a;
+        moves = by_or fs o c word a (omega (arith, few, terms));
         begins = is.begins;
         end = is.end;
         holds = record {
@@ -159,6 +160,17 @@ module _ (b : Builder) (w : FirstWord) where
         only = λ t vs ws more m may e next. only_or word fs o c t vs ws more a m e;
       }
 
+  pub no_more_terms : is_and w.bytes.now || is_or w.bytes.now ≡ true → 64 ≤ b.terms → (text : List ℕ) (fs : List Open) (o : Option (Disjunction × Word)) (c : Conjunction)
+      → IsFirstWord text w → Holds (after fs o c) b → RefusesFrom (after fs o c) text w.left
+  no_more_terms a full text fs o c is h =
+      let terms = h.terms in
+      record {
+        front = [];
+        place = is.place;
+        begins = can_end (after fs o c);
+        none = λ t vs ws more m may e next. let here = at_word text w is ws vs more next e in joins_nothing w.bytes.now fs o c t vs here.0 more a (omega (arith, full, terms)) m here.1;
+      }
+
   pub no_operator : is_and w.bytes.now ≡ false → is_or w.bytes.now ≡ false → (bytes_eq w.bytes.now (codes ")") ≡ false) ⊎ (length b.outer.items ≡ 0)
       → (text : List ℕ) (fs : List Open) (o : Option (Disjunction × Word)) (c : Conjunction) → IsFirstWord text w
       → Holds (after fs o c) b → RefusesFrom (after fs o c) text w.left
@@ -167,6 +179,7 @@ module _ (b : Builder) (w : FirstWord) where
       record {
         front = [];
         place = is.place;
+        begins = can_end (after fs o c);
         none = λ t vs ws more m may e next. let here = at_word text w is ws vs more next e in nowhere w.bytes.now fs o c t vs here.0 more a r none m here.1;
       }
 
@@ -233,7 +246,7 @@ group_closed b level mid last new push keep negate_it done fs f o c h fits =
     let d = or_joined o c in
     let front = group_steps (f ∷ fs) in
     let bound = fits.terms in let short = fits.words in let terms = h.terms in
-    let all = or_terms o c in
+    let all = or_joined_terms o c in
     let mids = or_end front o c b.filter mid h.steps (λ e. push (h.or_waits ∙ e)) (λ e. keep (h.or_waits ∙ e)) (omega (arith, bound, all, group_end_count fs f d)) in
     let l = filter_last d in
     let few = l.few in
@@ -263,7 +276,7 @@ finished b x operand alone push keep (after (f ∷ fs) o c) h fits = absurd (ome
 finished b x operand alone push keep (after [] o c) h fits =
     let waits : b.level.or_waits ≡ is_some o = ap (λ l. l.or_waits) h.level in
     let bound = fits.terms in
-    let all = or_terms o c in
+    let all = or_joined_terms o c in
     record {
       or_left = o;
       last = c;

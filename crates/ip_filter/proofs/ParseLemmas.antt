@@ -1,6 +1,6 @@
 -- A text is read word by word.
 use Rattle.std.specs.Prelude.{Option}
-use Rattle.ip_spec.proofs.Common.{◌≡◌, ℕ, ◌-◌, ◌<◌, ◌≤◌, ◌^◌, List, [], ◌∷◌, ◌++◌, length, take, drop, refl, sym, ap, ◌∙◌, subst, arith, append_assoc, append-nil, append_cancel_left, length-append, drop_all}
+use Rattle.ip_spec.proofs.Common.{◌≡◌, ℕ, ◌-◌, ◌<◌, ◌^◌, List, [], ◌∷◌, ◌++◌, length, take, drop, refl, sym, ap, ◌∙◌, subst, arith, append_assoc, append-nil, append_cancel_left, length-append, drop_all}
 use Rattle.ip_filter.specs.declared.builder.Builder.{Builder}
 use Rattle.ip_filter.specs.declared.filter.Filter.{Filter}
 use Rattle.ip_filter.specs.declared.words.Word.{Word as FirstWord}
@@ -8,12 +8,12 @@ use Rattle.ip_filter.specs.Words.{Word, words}
 use Rattle.ip_filter.specs.Formula.{read_after}
 use Rattle.ip_filter.specs.Grammar.{Conjunction, Disjunction, filter_words, IsFilter}
 use Rattle.ip_filter.specs.Reading.{IsEnd, IsPlace, IsFirstWord}
-use Rattle.ip_filter.specs.Parsing.{State, before, after, nothing, Moves, may_follow, LeadsTo, ends, goes_on, or_joined, state_terms, state_words, Fits, Holds, IsFinished, ReadsOn, RefusesFrom}
+use Rattle.ip_filter.specs.Parsing.{State, before, after, nothing, Moves, may_follow, LeadsTo, ends, goes_on, or_joined, HasRoom, state_words, Fits, Holds, IsFinished, ReadsOn, RefusesFrom}
 use Rattle.ip_filter.specs.Parsed.{IsParsed, IsFirstError}
 use Rattle.ip_filter.proofs.PlaceLemmas.{whole, end_of_end, place_in_end, from_place}
 use Rattle.ip_filter.proofs.WordLemmas.{no_words, words_short}
-use Rattle.ip_filter.proofs.LeadLemmas.{start_leads}
-use Rattle.ip_filter.proofs.StateLemmas.{move_words, move_some, move_terms, Good, move_good, good_whole, or_joined_words}
+use Rattle.ip_filter.proofs.LeadLemmas.{start_leads, lead_filter, can_end}
+use Rattle.ip_filter.proofs.StateLemmas.{move_words, move_some, move_room, Good, move_good, good_whole, or_joined_words}
 use Rattle.ip_filter.proofs.ReadFormulaLemmas.{whole_formula}
 
 -- The words before `rest` led to the state, which b holds. Each filter that begins with them, and goes on with the next
@@ -23,7 +23,7 @@ pub record Going (text rest : List ℕ) (b : Builder) : Type 0 where
   pub holds : Holds state b
   pub end : IsEnd text rest
   pub begins : words text ≡ state_words state ++ words rest
-  pub terms : state_terms state ≤ 64
+  pub room : HasRoom state
   pub good : Good state
   pub leads : (d : Disjunction) (ws : List Word) → IsFilter d → filter_words d ≡ state_words state ++ ws → take 1 ws ≡ take 1 (words rest) → LeadsTo state ws d
 
@@ -33,7 +33,7 @@ begin text b h = record {
   holds = h;
   end = whole text;
   begins = refl;
-  terms = omega arith;
+  room = omega arith;
   good = ((tt, tt, tt), tt, omega arith);
   leads = λ d ws is same next. subst (λ x. LeadsTo (before [] nothing) x d) same (start_leads d is);
 }
@@ -41,7 +41,7 @@ begin text b h = record {
 module _ (text rest : List ℕ) (b : Builder) (g : Going text rest b) where
   pub fits : length text < 2 ^ 63 → Fits g.state
   fits short = record {
-    terms = g.terms;
+    terms = g.room;
     words = omega (arith, short, words_short text, ap length g.begins, length-append (state_words g.state) (words rest));
   }
 
@@ -69,7 +69,7 @@ module _ (text rest : List ℕ) (b new : Builder) (after_word : List ℕ) (g : G
         holds = r.holds;
         end = end_of_end text rest g.end after_word r.end;
         begins = g.begins ∙ ap (λ ws. state_words g.state ++ ws) r.begins ∙ sym (split (words after_word));
-        terms = move_terms g.state r.next r.us r.moves g.terms;
+        room = move_room g.state r.next r.us r.moves g.room;
         good = move_good g.state r.next r.us r.moves g.good;
         leads = λ d ws is same next.
             let first : take 1 (r.us ++ ws) ≡ take 1 (words rest) = same_first r.us ws (words after_word) next ∙ ap (take 1) (sym r.begins) in
@@ -104,6 +104,10 @@ first_error text rest b w left g is r =
       within = omega arith;
       front = state_words g.state ++ r.front;
       place = subst (IsPlace text (state_words g.state ++ r.front)) back here;
+      begins =
+          let more = r.begins in
+          let whole = lead_filter g.state (r.front ++ more.1) more.0 more.2 g.good g.room in
+          (more.0, more.1, whole.0, whole.1 ∙ sym (append_assoc (state_words g.state) r.front more.1));
       none = λ d ws filter same next.
           let all : take 1 (r.front ++ ws) ≡ take 1 (words rest) = same_first r.front ws (words (drop (length rest - left) rest)) (next ∙ ap (λ s. take 1 (words s)) (sym at)) ∙ ap (take 1) (sym r.place.words_before) in
           nowhere g.state r.front ws (r.front ++ ws) d (g.leads d (r.front ++ ws) filter (same ∙ append_assoc (state_words g.state) r.front ws) all) refl
@@ -128,7 +132,7 @@ no_first (w ∷ ws) e = cc
 pub parsed : (text rest : List ℕ) (b : Builder) (x : Filter) (g : Going text rest b) → words rest ≡ [] → IsFinished g.state x → IsParsed text x
 parsed text rest b x g none f =
     let d = or_joined f.or_left f.last in
-    let is : IsFilter d = good_whole f.or_left f.last (subst Good f.whole g.good) (subst (λ s. state_terms s ≤ 64) f.whole g.terms) in
+    let is : IsFilter d = good_whole f.or_left f.last (subst Good f.whole g.good) (subst HasRoom f.whole g.room) in
     let all : state_words g.state ≡ words text = sym (g.begins ∙ ap (λ ws. state_words g.state ++ ws) none ∙ append-nil (state_words g.state)) in
     record {
       written = d;
@@ -154,6 +158,7 @@ missing_end text rest b g none not_whole =
             (sym (no_words (drop (length text - (length text - length text)) text) (ap length (drop_all (length text - (length text - length text)) text (omega arith)))));
         begins = λ some. absurd (omega (arith, some));
       };
+      begins = let more = can_end g.state in let whole = lead_filter g.state more.1 more.0 more.2 g.good g.room in (more.0, more.1, whole.0, whole.1);
       none = λ d ws is same next.
           let led = g.leads d ws is same (next ∙ ap (take 1) nothing_left ∙ ap (take 1) (sym none)) in
           let empty : ws ≡ [] = no_first ws (next ∙ ap (take 1) nothing_left) in

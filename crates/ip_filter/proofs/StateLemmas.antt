@@ -5,7 +5,7 @@ use Rattle.std.specs.Option.{option_map_or}
 use Rattle.ip_spec.proofs.Common.{◌≡◌, ℕ, ◌+◌, ◌≤◌, List, [], ◌∷◌, ◌++◌, length, refl, sym, ap, ◌∙◌, arith, append_assoc, append-nil}
 use Rattle.ip_filter.specs.Words.{Word}
 use Rattle.ip_filter.specs.Grammar.{Operand, Conjunction, Disjunction, a_term, a_group, keyword, operand_words, conjunction_words, filter_words, IsOperand, IsConjunction, IsDisjunction, terms_in, conjunction_terms, operand_depth, conjunction_depth, depth_of, is_not, is_and, is_or, IsFilter}
-use Rattle.ip_filter.specs.Parsing.{Open, State, before, after, Moves, by_not, by_open, by_term, by_and, by_or, by_close, with_operand, and_joined, or_joined, negate, state_terms, open_words, group_words, state_words}
+use Rattle.ip_filter.specs.Parsing.{Open, State, before, after, Moves, by_not, by_open, by_term, by_and, by_or, by_close, with_operand, and_joined, or_joined, negate, HasRoom, open_words, group_words, state_words}
 use Rattle.ip_filter.proofs.PartStepsLemmas.{joined_terms}
 
 -- ---- the words
@@ -39,12 +39,12 @@ move_words s t us (by_not fs f w is) =
     let regroup : group_words fs ++ (o ++ a ++ (f.nots ++ w ∷ [])) ≡ group_words fs ++ (o ++ a ++ f.nots) ++ w ∷ [] = simp append_assoc in
     regroup
 move_words s t us (by_open fs f few) = append-nil (group_words fs ++ open_words f ++ codes "(" ∷ [])
-move_words s t us (by_term fs f u args is few) = with_words fs f (a_term u args)
-move_words s t us (by_and fs o c w is) =
+move_words s t us (by_term fs f u args is) = with_words fs f (a_term u args)
+move_words s t us (by_and fs o c w is few) =
     let l = option_map_or (λ (p : Disjunction × Word). filter_words p.0 ++ p.1 ∷ []) o [] in
     let regroup : group_words fs ++ (l ++ (conjunction_words c ++ w ∷ []) ++ []) ≡ (group_words fs ++ l ++ conjunction_words c) ++ w ∷ [] = simp (append_assoc, append-nil) in
     regroup
-move_words s t us (by_or fs o c w is) =
+move_words s t us (by_or fs o c w is few) =
     let l = option_map_or (λ (p : Disjunction × Word). filter_words p.0 ++ p.1 ∷ []) o [] in
     let regroup : group_words fs ++ (((l ++ conjunction_words c) ++ w ∷ []) ++ [] ++ []) ≡ (group_words fs ++ l ++ conjunction_words c) ++ w ∷ [] = simp (append_assoc, append-nil) in
     ap (λ ws. group_words fs ++ ((ws ++ w ∷ []) ++ [] ++ [])) (or_joined_words o c) ∙ regroup
@@ -56,24 +56,24 @@ move_words s t us (by_close fs f o c) =
 pub move_some : (s t : State) (us : List Word) → Moves s us t → (v : Word) × (vs : List Word) × (us ≡ v ∷ vs)
 move_some s t us (by_not fs f w is) = (w, [], refl)
 move_some s t us (by_open fs f few) = (codes "(", [], refl)
-move_some s t us (by_term fs f u args is few) = (keyword u, args, refl)
-move_some s t us (by_and fs o c w is) = (w, [], refl)
-move_some s t us (by_or fs o c w is) = (w, [], refl)
+move_some s t us (by_term fs f u args is) = (keyword u, args, refl)
+move_some s t us (by_and fs o c w is few) = (w, [], refl)
+move_some s t us (by_or fs o c w is few) = (w, [], refl)
 move_some s t us (by_close fs f o c) = (codes ")", [], refl)
 
 -- ---- the number of terms
 
-or_joined_terms : (o : Option (Disjunction × Word)) (c : Conjunction) → option_map_or (λ p. terms_in p.0) o 0 + conjunction_terms c ≡ terms_in (or_joined o c)
+pub or_joined_terms : (o : Option (Disjunction × Word)) (c : Conjunction) → option_map_or (λ p. terms_in p.0) o 0 + conjunction_terms c ≡ terms_in (or_joined o c)
 or_joined_terms None c = omega arith
 or_joined_terms (Some p) c = refl
 
-pub move_terms : (s t : State) (us : List Word) → Moves s us t → state_terms s ≤ 64 → state_terms t ≤ 64
-move_terms s t us (by_not fs f w is) few = few
-move_terms s t us (by_open fs f deep) few = omega (arith, few)
-move_terms s t us (by_term fs f u args is more) few = omega (arith, more, joined_terms f.nots (a_term u args) f.and_left)
-move_terms s t us (by_and fs o c w is) few = omega (arith, few)
-move_terms s t us (by_or fs o c w is) few = omega (arith, few, or_joined_terms o c)
-move_terms s t us (by_close fs f o c) few = omega (arith, few, or_joined_terms o c, joined_terms f.nots (a_group (or_joined o c)) f.and_left)
+pub move_room : (s t : State) (us : List Word) → Moves s us t → HasRoom s → HasRoom t
+move_room s t us (by_not fs f w is) few = few
+move_room s t us (by_open fs f deep) few = omega (arith, few)
+move_room s t us (by_term fs f u args is) few = omega (arith, few, joined_terms f.nots (a_term u args) f.and_left)
+move_room s t us (by_and fs o c w is more) few = omega (arith, more)
+move_room s t us (by_or fs o c w is more) few = omega (arith, more, or_joined_terms o c)
+move_room s t us (by_close fs f o c) few = omega (arith, few, or_joined_terms o c, joined_terms f.nots (a_group (or_joined o c)) f.and_left)
 
 -- ---- each word means what it stands for, and nothing is nested too deeply
 
@@ -124,16 +124,16 @@ good_operand fs f u open_good groups few good = (open_good.0, good_and (length f
 pub move_good : (s t : State) (us : List Word) → Moves s us t → Good s → Good t
 move_good s t us (by_not fs f w is) good = ((good.0.0, good.0.1, good_nots f.nots w good.0.2 is), good.1, good.2)
 move_good s t us (by_open fs f few) good = ((tt, tt, tt), (good.0, good.1), omega (arith, few))
-move_good s t us (by_term fs f u args is few) good = let deep = good.2 in good_operand fs f (a_term u args) good.0 good.1 good.2 (is, omega (arith, deep))
-move_good s t us (by_and fs o c w is) good = ((good.0, (good.1.0, is, good.1.1), tt), good.2, good.3)
-move_good s t us (by_or fs o c w is) good = let all = good_or (length fs) o c good.0 good.1 in (((all.0, is, all.1), tt, tt), good.2, good.3)
+move_good s t us (by_term fs f u args is) good = let deep = good.2 in good_operand fs f (a_term u args) good.0 good.1 good.2 (is, omega (arith, deep))
+move_good s t us (by_and fs o c w is few) good = ((good.0, (good.1.0, is, good.1.1), tt), good.2, good.3)
+move_good s t us (by_or fs o c w is few) good = let all = good_or (length fs) o c good.0 good.1 in (((all.0, is, all.1), tt, tt), good.2, good.3)
 move_good s t us (by_close fs f o c) good =
     let all = good_or (length (f ∷ fs)) o c good.0 good.1 in
     let deep = all.1 in let deeper = good.3 in
     good_operand fs f (a_group (or_joined o c)) good.2.0 good.2.1 (omega (arith, deeper)) (all.0, omega (arith, deep))
 
 -- the whole filter
-pub good_whole : (o : Option (Disjunction × Word)) (c : Conjunction) → Good (after [] o c) → state_terms (after [] o c) ≤ 64 → IsFilter (or_joined o c)
+pub good_whole : (o : Option (Disjunction × Word)) (c : Conjunction) → Good (after [] o c) → HasRoom (after [] o c) → IsFilter (or_joined o c)
 good_whole o c good few =
     let all = good_or 0 o c good.0 good.1 in
     let deep = all.1 in

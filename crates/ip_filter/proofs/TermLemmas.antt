@@ -2,8 +2,9 @@
 use Rattle.std.specs.Prelude.{Option}
 use Rattle.std.specs.Str.{bytes_eq}
 use Rattle.std.proofs.Common.{Some, None, IfNone, codes, IsTrue}
-use Rattle.ip_spec.proofs.Common.{◌≡◌, ℕ, List, [], ◌∷◌, ◌++◌, take, refl, sym, ap, ◌∙◌, subst, Bool, true, false, ◌||◌, ◌⊎◌, inl, inr, false≢true, cases_Bool, bytes_eq-Decides, if◌then◌else◌}
+use Rattle.ip_spec.proofs.Common.{◌≡◌, ℕ, List, [], ◌∷◌, ◌++◌, take, refl, sym, ap, ◌∙◌, subst, true, false, ◌||◌, ◌⊎◌, inl, inr, false≢true, cases_Bool, bytes_eq-Decides, if◌then◌else◌}
 use Rattle.ip_filter.specs.declared.term.Comparison.{Comparison}
+use Rattle.ip_filter.specs.declared.term.Comparison.TheVariants as by
 use Rattle.ip_filter.specs.declared.term.Term.{Term}
 use Rattle.ip_filter.specs.declared.term.Term.TheVariants as term
 use Rattle.ip_filter.specs.declared.term.FaultKind.{FaultKind}
@@ -13,7 +14,8 @@ use Rattle.ip_filter.specs.Numbers.{version_of, header_of, protocol_of, number_u
 use Rattle.ip_filter.specs.Grammar.{keyword, AreArguments, IsOne, Finds, AreCompared, is_and, is_or}
 use Rattle.ip_filter.specs.declared.words.Word.{Word as FirstWord}
 use Rattle.ip_filter.specs.Reading.{IsFirstWord, ReadsArgument, RefusesArgument, ReadsArguments, RefusesArguments, ReadsTerm, RefusesTerm, ends_term, plain_term_of, is_number_keyword, is_count_keyword, is_network_keyword}
-use Rattle.ip_filter.proofs.NetworkTextLemmas.{one_network}
+use Rattle.ip_filter.proofs.NetworkTextLemmas.{one_network, some_network}
+use Rattle.ip_filter.proofs.WordLemmas.{or_cases, same_word}
 use Rattle.ip_filter.proofs.PlaceLemmas.{whole, end_of_end, from_place, place_in_end}
 
 -- ---- arguments
@@ -30,10 +32,11 @@ module _ {A : Type 0} (Writes : Word → A → Type 0) (unique : (w : Word) (a b
         (unique r.word b a (subst (λ w. Writes w b) head writes.2) r.writes, writes.1 ∙ ap (λ w. w ∷ []) head);
   }
 
-  not_one : (text : List ℕ) (left : ℕ) → RefusesArgument Writes text left → RefusesArguments (IsOne Writes) text left
-  not_one text left r = record {
+  not_one : (w : Word) × (a : A) × Writes w a → (text : List ℕ) (left : ℕ) → RefusesArgument Writes text left → RefusesArguments (IsOne Writes) text left
+  not_one some text left r = record {
     before = [];
     place = r.place;
+    begins = (some.1, some.0 ∷ [], (some.0, refl, some.2));
     none = λ b us ws more writes same next.
         r.none writes.0 b (ap (take 1) r.place.words_before ∙ sym next ∙ ap (take 1) (sym same) ∙ ap (λ x. take 1 (x ++ more)) writes.1) writes.2;
   }
@@ -62,6 +65,7 @@ module _ (text mid : List ℕ) (c : Comparison) (first : ReadsArgument (Finds co
   no_number left second = record {
     before = first.word ∷ [];
     place = place_in_end text mid first.end (first.word ∷ []) [] left first.begins second.place;
+    begins = ((c, 0), codes "0" ∷ [], (first.word, codes "0", refl, first.writes, refl));
     none = λ b us ws more writes same next.
         let all : writes.0 ∷ writes.1 ∷ more ≡ first.word ∷ ws = sym (ap (λ x. x ++ more) writes.2) ∙ same in
         let rest : ws ≡ writes.1 ∷ more = cc all in
@@ -72,6 +76,7 @@ pub no_comparison : (text : List ℕ) (left : ℕ) → RefusesArgument (Finds co
 no_comparison text left r = record {
   before = [];
   place = r.place;
+  begins = ((by.Equal, 0), codes "=" ∷ codes "0" ∷ [], (codes "=", codes "0", refl, refl, refl));
   none = λ b us ws more writes same next.
       r.none writes.0 b.0 (ap (take 1) r.place.words_before ∙ sym next ∙ ap (take 1) (sym same) ∙ ap (λ x. take 1 (x ++ more)) writes.2) writes.3;
 }
@@ -86,7 +91,7 @@ record Named {A : Type 0} (Writes : List Word → A → Type 0) (make : A → Te
 
 module _ {A : Type 0} (Writes : List Word → A → Type 0) (make : A → Term) (c : Word) (n : Named Writes make c) (k : Word) (is : bytes_eq k c ≡ true) where
   same_keyword : k ≡ c
-  same_keyword = (bytes_eq-Decides k c).0 is
+  same_keyword = same_word k c is
 
   is_read : (text rest : List ℕ) (a : A) → ReadsArguments Writes text a rest → ReadsTerm k text (make a) rest
   is_read text rest a r = record {
@@ -105,6 +110,7 @@ module _ {A : Type 0} (Writes : List Word → A → Type 0) (make : A → Term) 
   is_refused text left r = record {
     before = r.before;
     place = r.place;
+    begins = let b = r.begins in (make b.0, b.1, n.named b.0 ∙ sym same_keyword, n.spelled b.0 (r.before ++ b.1) b.2);
     none = λ u us ws more ku au ends same next.
         let i = n.inverts u us (ku ∙ same_keyword) au in
         r.none i.0 us ws more i.2 same next;
@@ -193,13 +199,9 @@ net = record { named = λ a. refl; spelled = λ a us w. w; inverts = net_only }
 
 -- ---- `fault`, which a kind may follow
 
-or_cases : (a b : Bool) → (a || b) ≡ true → (a ≡ true) ⊎ (b ≡ true)
-or_cases true b e = inl refl
-or_cases false b e = inr e
-
 module _ (w : Word) (ws : List Word) (kind : FaultKind) (found : fault_kind_of w ≡ Some kind) where
   no_kind : (l : Word) → fault_kind_of l ≡ None → bytes_eq w l ≡ true → ⊥
-  no_kind l none is = let same : w ≡ l = (bytes_eq-Decides w l).0 is in cc (sym found ∙ ap fault_kind_of same ∙ none)
+  no_kind l none is = let same : w ≡ l = same_word w l is in cc (sym found ∙ ap fault_kind_of same ∙ none)
 
   -- it doesn't end a term
   goes_on : IsTrue (ends_term (w ∷ ws)) → ⊥
@@ -292,7 +294,7 @@ module _ (k : Word) where
     one_plain l u rest named args others e = elim (cases_Bool (bytes_eq k l)) [
       | inl is ↦
           let same : u ≡ t = cc (sym (ap (λ b. if b then Some u else rest) is) ∙ e) in
-          (ap keyword (sym same) ∙ named ∙ sym ((bytes_eq-Decides k l).0 is), subst (AreArguments []) same args)
+          (ap keyword (sym same) ∙ named ∙ sym (same_word k l is), subst (AreArguments []) same args)
       | inr isnt ↦ others (sym (ap (λ b. if b then Some u else rest) isnt) ∙ e)
     ]
 
@@ -320,31 +322,31 @@ module _ (k : Word) (text : List ℕ) where
   version_read is rest a r = is_read _ _ _ version k is text rest a (one (Finds version_of) (found_once version_of) text rest a r)
 
   pub version_refused : bytes_eq k (codes "version") ≡ true → (left : ℕ) → RefusesArgument (Finds version_of) text left → RefusesTerm k text left
-  version_refused is left r = is_refused _ _ _ version k is text left (not_one (Finds version_of) (found_once version_of) text left r)
+  version_refused is left r = is_refused _ _ _ version k is text left (not_one (Finds version_of) (found_once version_of) (codes "4", 4, refl) text left r)
 
   pub header_read : bytes_eq k (codes "header") ≡ true → (rest : List ℕ) (a : ℕ) → ReadsArgument (Finds header_of) text a rest → ReadsTerm k text (term.Header a) rest
   header_read is rest a r = is_read _ _ _ header k is text rest a (one (Finds header_of) (found_once header_of) text rest a r)
 
   pub header_refused : bytes_eq k (codes "header") ≡ true → (left : ℕ) → RefusesArgument (Finds header_of) text left → RefusesTerm k text left
-  header_refused is left r = is_refused _ _ _ header k is text left (not_one (Finds header_of) (found_once header_of) text left r)
+  header_refused is left r = is_refused _ _ _ header k is text left (not_one (Finds header_of) (found_once header_of) (codes "0", 0, refl) text left r)
 
   pub leads_to_read : bytes_eq k (codes "leads-to") ≡ true → (rest : List ℕ) (a : ℕ) → ReadsArgument (Finds protocol_of) text a rest → ReadsTerm k text (term.LeadsTo a) rest
   leads_to_read is rest a r = is_read _ _ _ leads_to k is text rest a (one (Finds protocol_of) (found_once protocol_of) text rest a r)
 
   pub leads_to_refused : bytes_eq k (codes "leads-to") ≡ true → (left : ℕ) → RefusesArgument (Finds protocol_of) text left → RefusesTerm k text left
-  leads_to_refused is left r = is_refused _ _ _ leads_to k is text left (not_one (Finds protocol_of) (found_once protocol_of) text left r)
+  leads_to_refused is left r = is_refused _ _ _ leads_to k is text left (not_one (Finds protocol_of) (found_once protocol_of) (codes "0", 0, refl) text left r)
 
   pub spi_read : bytes_eq k (codes "spi") ≡ true → (rest : List ℕ) (a : ℕ) → ReadsArgument (Finds (number_up_to 4294967295)) text a rest → ReadsTerm k text (term.SecurityParameters a) rest
   spi_read is rest a r = is_read _ _ _ spi k is text rest a (one (Finds (number_up_to 4294967295)) (found_once (number_up_to 4294967295)) text rest a r)
 
   pub spi_refused : bytes_eq k (codes "spi") ≡ true → (left : ℕ) → RefusesArgument (Finds (number_up_to 4294967295)) text left → RefusesTerm k text left
-  spi_refused is left r = is_refused _ _ _ spi k is text left (not_one (Finds (number_up_to 4294967295)) (found_once (number_up_to 4294967295)) text left r)
+  spi_refused is left r = is_refused _ _ _ spi k is text left (not_one (Finds (number_up_to 4294967295)) (found_once (number_up_to 4294967295)) (codes "0", 0, refl) text left r)
 
   pub id_read : bytes_eq k (codes "id") ≡ true → (rest : List ℕ) (a : ℕ) → ReadsArgument (Finds (number_up_to 4294967295)) text a rest → ReadsTerm k text (term.Identification a) rest
   id_read is rest a r = is_read _ _ _ id k is text rest a (one (Finds (number_up_to 4294967295)) (found_once (number_up_to 4294967295)) text rest a r)
 
   pub id_refused : bytes_eq k (codes "id") ≡ true → (left : ℕ) → RefusesArgument (Finds (number_up_to 4294967295)) text left → RefusesTerm k text left
-  id_refused is left r = is_refused _ _ _ id k is text left (not_one (Finds (number_up_to 4294967295)) (found_once (number_up_to 4294967295)) text left r)
+  id_refused is left r = is_refused _ _ _ id k is text left (not_one (Finds (number_up_to 4294967295)) (found_once (number_up_to 4294967295)) (codes "0", 0, refl) text left r)
 
   pub headers_read : bytes_eq k (codes "headers") ≡ true → (rest : List ℕ) (c : Comparison) (n : ℕ) → ReadsArguments AreCompared text (c, n) rest → ReadsTerm k text (term.Headers c n) rest
   headers_read is rest c n r = is_read _ _ _ headers k is text rest (c, n) r
@@ -368,22 +370,22 @@ module _ (k : Word) (text : List ℕ) where
   src_read is rest a r = is_read _ _ _ src k is text rest a (one IsNetworkText one_network text rest a r)
 
   pub src_refused : bytes_eq k (codes "src") ≡ true → (left : ℕ) → RefusesArgument IsNetworkText text left → RefusesTerm k text left
-  src_refused is left r = is_refused _ _ _ src k is text left (not_one IsNetworkText one_network text left r)
+  src_refused is left r = is_refused _ _ _ src k is text left (not_one IsNetworkText one_network some_network text left r)
 
   pub dst_read : bytes_eq k (codes "dst") ≡ true → (rest : List ℕ) (a : Network) → ReadsArgument IsNetworkText text a rest → ReadsTerm k text (term.Destination a) rest
   dst_read is rest a r = is_read _ _ _ dst k is text rest a (one IsNetworkText one_network text rest a r)
 
   pub dst_refused : bytes_eq k (codes "dst") ≡ true → (left : ℕ) → RefusesArgument IsNetworkText text left → RefusesTerm k text left
-  dst_refused is left r = is_refused _ _ _ dst k is text left (not_one IsNetworkText one_network text left r)
+  dst_refused is left r = is_refused _ _ _ dst k is text left (not_one IsNetworkText one_network some_network text left r)
 
   pub net_read : bytes_eq k (codes "net") ≡ true → (rest : List ℕ) (a : Network) → ReadsArgument IsNetworkText text a rest → ReadsTerm k text (term.Either a) rest
   net_read is rest a r = is_read _ _ _ net k is text rest a (one IsNetworkText one_network text rest a r)
 
   pub net_refused : bytes_eq k (codes "net") ≡ true → (left : ℕ) → RefusesArgument IsNetworkText text left → RefusesTerm k text left
-  net_refused is left r = is_refused _ _ _ net k is text left (not_one IsNetworkText one_network text left r)
+  net_refused is left r = is_refused _ _ _ net k is text left (not_one IsNetworkText one_network some_network text left r)
 
 pub at_fault : (k : Word) (text rest : List ℕ) (t : Term) → bytes_eq k (codes "fault") ≡ true → ReadsTerm (codes "fault") text t rest → ReadsTerm k text t rest
-at_fault k text rest t is = subst (λ w. ReadsTerm w text t rest) (sym ((bytes_eq-Decides k (codes "fault")).0 is))
+at_fault k text rest t is = subst (λ w. ReadsTerm w text t rest) (sym (same_word k (codes "fault") is))
 
 pub none_weaker : {X A B : Type 0} (r : Option X) → (A → B) → IfNone r A → IfNone r B
 none_weaker None f a = f a

@@ -1,10 +1,18 @@
 -- The first word of a text.
 use Rattle.std.proofs.Common.{suc}
 use Rattle.std.proofs.Math.Seq.{drop-cons}
-use Rattle.ip_spec.proofs.Common.{◌≡◌, ℕ, ◌+◌, ◌-◌, ◌<◌, ◌≤◌, List, [], ◌∷◌, length, take, drop, get_or, refl, sym, ap, ◌∙◌, arith, common_steps, Bool, true, false, inl, inr, if◌then◌else◌, cases_Bool, drop_all, drop-drop, take_rest, length-drop, nat_tests}
+use Rattle.ip_spec.proofs.Common.{◌≡◌, ℕ, ◌+◌, ◌-◌, ◌<◌, ◌≤◌, List, [], ◌∷◌, length, take, drop, get_or, refl, sym, ap, ◌∙◌, arith, common_steps, Bool, true, false, ◌||◌, ◌⊎◌, inl, inr, bytes_eq-Decides, if◌then◌else◌, cases_Bool, drop_all, drop-drop, take_rest, length-drop, nat_tests}
 use Rattle.std.proofs.lemmas.List.{get_or-drop}
+use Rattle.std.specs.Str.{bytes_eq}
 use Rattle.ip_filter.specs.Reading.{IsPlace, IsEnd}
 use Rattle.ip_filter.specs.Words.{words, word_len, with_byte, is_space, joins, Word}
+
+pub or_cases : (a b : Bool) → (a || b) ≡ true → (a ≡ true) ⊎ (b ≡ true)
+or_cases true b e = inl refl
+or_cases false b e = inr e
+
+pub same_word : (k c : Word) → bytes_eq k c ≡ true → k ≡ c
+same_word k c = (bytes_eq-Decides k c).0
 
 module _ (s : List ℕ) (i : ℕ) (some : 1 ≤ i) where
   at : i ≤ length s → drop (i - 1) s ≡ get_or s (i - 1) 0 ∷ drop i s

@@ -14,10 +14,11 @@ pub record IsParsed (text : List ℕ) (x : Filter) : Type 0 where
   pub only : (d : Disjunction) → IsFilter d → filter_words d ≡ words text → d ≡ written
   pub formula : read_after [] (steps_of x) ≡ formula_of written ∷ []
 
--- A word begins at this offset, or the text ends there, and no filter begins with the words before it and that word, or
--- ends there.
+-- A word begins at this offset, or the text ends there. A filter begins with the words before it, but none with these
+-- words and that one, or with these words alone if the text ends there.
 pub record IsFirstError (text : List ℕ) (offset : ℕ) : Type 0 where
   pub within : offset ≤ length text
   pub front : List Word
   pub place : IsPlace text front (length text - offset)
+  pub begins : (d : Disjunction) × (ws : List Word) × IsFilter d × (filter_words d ≡ front ++ ws)
   pub none : (d : Disjunction) (ws : List Word) → IsFilter d → filter_words d ≡ front ++ ws → take 1 ws ≡ take 1 (words (drop offset text)) → ⊥

@@ -68,20 +68,25 @@ abbrev pub state_words : State → List Word
 state_words (before fs f) = group_words fs ++ open_words f
 state_words (after fs o c) = group_words fs ++ option_map_or (λ p. filter_words p.0 ++ p.1 ∷ []) o [] ++ conjunction_words c
 
+-- there aren't too many terms, also with the one that has to follow
+abbrev pub HasRoom : State → Type 0
+HasRoom (before fs f) = state_terms (before fs f) < 64
+HasRoom (after fs o c) = state_terms (after fs o c) ≤ 64
+
 -- no count is too large
 pub record Fits (s : State) : Type 0 where
-  pub terms : state_terms s ≤ 64
+  pub terms : HasRoom s
   pub words : length (state_words s) < 2 ^ 63
 
 -- The words lead from one state to the next.
 pub data Moves : State → List Word → State → Type 0 where
   by_not : (fs : List Open) (f : Open) (w : Word) → IsTrue (is_not w) → Moves (before fs f) (w ∷ []) (before fs (record f { nots = f.nots ++ w ∷ [] }))
   by_open : (fs : List Open) (f : Open) → length fs < 16 → Moves (before fs f) (codes "(" ∷ []) (before (f ∷ fs) nothing)
-  by_term : (fs : List Open) (f : Open) (t : Term) (us : List Word) → AreArguments us t → group_terms fs + open_terms f < 64
+  by_term : (fs : List Open) (f : Open) (t : Term) (us : List Word) → AreArguments us t
       → Moves (before fs f) (keyword t ∷ us) (with_operand fs f (a_term t us))
-  by_and : (fs : List Open) (o : Option (Disjunction × Word)) (c : Conjunction) (w : Word) → IsTrue (is_and w)
+  by_and : (fs : List Open) (o : Option (Disjunction × Word)) (c : Conjunction) (w : Word) → IsTrue (is_and w) → state_terms (after fs o c) < 64
       → Moves (after fs o c) (w ∷ []) (before fs (record { or_left = o; and_left = Some (c, w); nots = [] }))
-  by_or : (fs : List Open) (o : Option (Disjunction × Word)) (c : Conjunction) (w : Word) → IsTrue (is_or w)
+  by_or : (fs : List Open) (o : Option (Disjunction × Word)) (c : Conjunction) (w : Word) → IsTrue (is_or w) → state_terms (after fs o c) < 64
       → Moves (after fs o c) (w ∷ []) (before fs (record { or_left = Some (or_joined o c, w); and_left = None; nots = [] }))
   by_close : (fs : List Open) (f : Open) (o : Option (Disjunction × Word)) (c : Conjunction)
       → Moves (after (f ∷ fs) o c) (codes ")" ∷ []) (with_operand fs f (a_group (or_joined o c)))
@@ -186,10 +191,12 @@ pub record ReadsOn (s : State) (text rest : List ℕ) (b : Builder) : Type 0 whe
   pub holds : Holds next b
   pub only : (t : State) (vs ws more : List Word) → Moves s vs t → may_follow t more → vs ++ more ≡ us ++ ws → take 1 ws ≡ take 1 (words rest) → (t ≡ next) × (vs ≡ us)
 
--- From the state s, no words lead on that begin like those of the text, up to that at the place `left`.
+-- From the state s, no words lead on that begin like those of the text, up to that at the place `left`. Some filter begins
+-- with the words before that place.
 pub record RefusesFrom (s : State) (text : List ℕ) (left : ℕ) : Type 0 where
   pub front : List Word
   pub place : IsPlace text front left
+  pub begins : (d : Disjunction) × (ws : List Word) × LeadsTo s (front ++ ws) d
   pub none : (t : State) (vs ws more : List Word) → Moves s vs t → may_follow t more → vs ++ more ≡ front ++ ws
       → take 1 ws ≡ take 1 (words (drop (length text - left) text)) → ⊥
 

@@ -44,10 +44,12 @@ pub record ReadsArguments {A : Type 0} (Writes : List Word → A → Type 0) (te
   pub end : IsEnd text rest
   pub only : (b : A) (us ws more : List Word) → Writes us b → us ++ more ≡ args ++ ws → (b ≡ a) × (us ≡ args)
 
--- No words that write something begin like those of the text, up to that at the place `left`, or end there.
+-- No words that write something begin like those of the text, up to that at the place `left`, or end there. Some begin
+-- with the words before that place.
 pub record RefusesArguments {A : Type 0} (Writes : List Word → A → Type 0) (text : List ℕ) (left : ℕ) : Type 0 where
   pub before : List Word
   pub place : IsPlace text before left
+  pub begins : (b : A) × (ws : List Word) × Writes (before ++ ws) b
   pub none : (b : A) (us ws more : List Word) → Writes us b → us ++ more ≡ before ++ ws
       → take 1 ws ≡ take 1 (words (drop (length text - left) text)) → ⊥
 
@@ -67,10 +69,12 @@ pub record ReadsTerm (k : Word) (text : List ℕ) (t : Term) (rest : List ℕ) :
   pub only : (u : Term) (us ws more : List Word) → keyword u ≡ k → AreArguments us u → IsTrue (ends_term more)
       → us ++ more ≡ args ++ ws → take 1 ws ≡ take 1 (words rest) → (u ≡ t) × (us ≡ args)
 
--- No term has the keyword k and the first words of the text, up to that at the place `left`, or none there.
+-- No term has the keyword k and the first words of the text, up to that at the place `left`, or none there. Some term has
+-- the keyword and begins with the words before that place.
 pub record RefusesTerm (k : Word) (text : List ℕ) (left : ℕ) : Type 0 where
   pub before : List Word
   pub place : IsPlace text before left
+  pub begins : (t : Term) × (ws : List Word) × (keyword t ≡ k) × AreArguments (before ++ ws) t
   pub none : (u : Term) (us ws more : List Word) → keyword u ≡ k → AreArguments us u → IsTrue (ends_term more)
       → us ++ more ≡ before ++ ws → take 1 ws ≡ take 1 (words (drop (length text - left) text)) → ⊥
 

@@ -102,11 +102,8 @@ impl Builder {
         }
         match read_term(word.bytes, word.rest) {
             Some(Ok((term, rest))) => {
-                if self.terms >= MAX_TERMS {
-                    return Err(word.unexpected(Expected::FewerTerms));
-                }
                 push(&mut self.filter, StepKind::Term(term), self.level.nots);
-                self.terms += 1;
+                self.terms = self.terms.saturating_add(1);
                 self.end_operand();
                 Ok(rest)
             }
@@ -125,11 +122,17 @@ impl Builder {
             → RefusesFrom (after fs o c) text e.left) }
     {
         if is_and(word.bytes) {
+            if self.terms >= MAX_TERMS {
+                return Err(word.unexpected(Expected::FewerTerms));
+            }
             self.level.and_waits = true;
             self.has_operand = false;
             return Ok(word.rest);
         }
         if is_or(word.bytes) {
+            if self.terms >= MAX_TERMS {
+                return Err(word.unexpected(Expected::FewerTerms));
+            }
             push_or(&mut self.filter, self.level.or_waits);
             self.level.or_waits = true;
             self.has_operand = false;

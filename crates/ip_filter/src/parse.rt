@@ -10,9 +10,9 @@ impl Filter {
     /// Parses the text of a filter.
     ///
     /// The terms are those of `Term`, and `not`, `and` and `or` join them, or `!`, `&&` and `||`; `not` binds most
-    /// tightly, then `and`. Parentheses group. White space separates words where signs don't. The error says what was
-    /// expected at the first word with which no filter goes on. At most 64 terms and 16 levels of parentheses are
-    /// accepted.
+    /// tightly, then `and`. Parentheses group. White space separates words where signs don't. At most 64 terms and 16
+    /// levels of parentheses are accepted. The error is at the first word that can't continue a filter, and says what
+    /// was expected there.
     pub fn parse(text: &[u8]) -> Result<Filter, ParseError>
         ensures ok { IfOk result (IsParsed text.now) }
         ensures err { IfErr result (λ e. IsFirstError text.now e.offset) }

@@ -33,19 +33,20 @@ pub enum Expected {
     /// A network.
     #[error("an address or a prefix")]
     Network,
-    /// There are 64 terms already.
+    /// No operator, since there are 64 terms already.
     #[error("no more than 64 terms")]
     FewerTerms,
-    /// There are 16 open parentheses already.
+    /// No parenthesis, since 16 are open already.
     #[error("no more than 16 levels of parentheses")]
     LessNesting,
 }
 
-/// The text is no filter.
+/// The text isn't a filter.
 #[derive(Clone, Copy, Debug, PartialEq, Eq, Error)]
 #[error("expected {expected} at byte {offset}")]
 pub struct ParseError {
-    /// Where the first word begins with which no filter goes on, in bytes from the start of the text; its end if a word is missing.
+    /// Where the first word begins that can't continue a filter, in bytes from the start of the text; the end of the
+    /// text if a word is missing.
     pub offset: usize,
     /// What is expected there.
     pub expected: Expected,

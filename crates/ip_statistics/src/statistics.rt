@@ -34,7 +34,7 @@ pub struct Statistics {
     pub payload_bytes: u64,
     /// Chains by their number of headers. The last element counts those of 16 or more.
     pub chain_headers: [u64; 17],
-    /// Chains by their length: see `least_chain_bytes`.
+    /// Chains by their bytes: a count for each multiple of 4 below 256, then one from each power of two to the next.
     pub chain_bytes: [u64; 73],
     /// Extension headers by protocol number.
     pub headers: [u64; 256],

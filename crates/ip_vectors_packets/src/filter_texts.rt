@@ -202,7 +202,7 @@ fn sixty_five_terms(rt: HostRuntime) -> Result<(), Fail> {
     }
     text.push_str(" or fault")?;
     let error = ParseError {
-        offset: 576,
+        offset: 573,
         expected: Expected::FewerTerms,
     };
     assert!(rt; Filter::parse(text.as_bytes()) == Err(error), "65 terms");

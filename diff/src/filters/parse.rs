@@ -108,7 +108,7 @@ impl Parser {
     fn disjunction(&mut self) -> Result<Formula, Refusal> {
         let mut formula = self.conjunction()?;
         while self.is_at(&["or", "||"]) {
-            self.at += 1;
+            self.operator()?;
             formula = Formula::Or(Box::new(formula), Box::new(self.conjunction()?));
         }
         Ok(formula)
@@ -117,10 +117,19 @@ impl Parser {
     fn conjunction(&mut self) -> Result<Formula, Refusal> {
         let mut formula = self.operand()?;
         while self.is_at(&["and", "&&"]) {
-            self.at += 1;
+            self.operator()?;
             formula = Formula::And(Box::new(formula), Box::new(self.operand()?));
         }
         Ok(formula)
+    }
+
+    /// Takes an operator, which another term must be able to follow.
+    fn operator(&mut self) -> Result<(), Refusal> {
+        if self.terms == MOST_TERMS {
+            return self.refuse(Expected::FewerTerms);
+        }
+        self.at += 1;
+        Ok(())
     }
 
     fn operand(&mut self) -> Result<Formula, Refusal> {
@@ -153,12 +162,7 @@ impl Parser {
     }
 
     fn counted_term(&mut self) -> Result<Term, Refusal> {
-        let start = self.at;
         let term = self.term()?;
-        if self.terms == MOST_TERMS {
-            self.at = start;
-            return self.refuse(Expected::FewerTerms);
-        }
         self.terms += 1;
         Ok(term)
     }

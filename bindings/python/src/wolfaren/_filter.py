@@ -8,7 +8,7 @@ from ._library import Buffer, ffi, lib
 
 
 class FilterError(ValueError):
-    """A text that is no filter."""
+    """A text that isn't a filter."""
 
     def __init__(self, text: str, offset: int, expected: str) -> None:
         super().__init__(text, offset, expected)
@@ -26,7 +26,7 @@ class Filter:
     """A condition on packets, such as `header 44 and not fault`.
 
     Its terms, which can be joined by `not`, `and`, `or` and parentheses, are those of `ipcap filter` and of
-    `wolfaren_parse_filter` in `wolfaren.h`. Raises `FilterError`, a `ValueError`, if the text is no filter.
+    `wolfaren_parse_filter` in `wolfaren.h`. Raises `FilterError`, a `ValueError`, if the text isn't a filter.
     """
 
     __slots__ = ("text", "_filter")

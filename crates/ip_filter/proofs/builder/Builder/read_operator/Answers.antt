@@ -1,19 +1,19 @@
 use Rattle.ip_spec.proofs.Common.{rules, arith, nat_tests, common_steps, inl, inr}
-use Rattle.ip_filter.proofs.OperatorLemmas.{and_read, or_read, no_operator, closed}
+use Rattle.ip_filter.proofs.OperatorLemmas.{and_read, or_read, no_more_terms, no_operator, closed}
 use Rattle.ip_filter.proofs.builder.Builder.read_operator.Goals as goal
 
 pub returns-then-is_and-clause-ok : goal.returns-then-is_and-clause-ok
-returns-then-is_and-clause-ok c = and_read c.args.self.now c.args.word (search rules)
+returns-then-is_and-clause-ok c = and_read c.args.self.now c.args.word (search rules) c.if-self-ge-MAX_TERMS.false
 
 pub returns-then-is_or-clause-ok : goal.returns-then-is_or-clause-ok
-returns-then-is_or-clause-ok c = or_read c.args.self.now c.args.word c.push_or.new.filter (search rules) c.push_or.ensures.step c.push_or.ensures.none
+returns-then-is_or-clause-ok c = or_read c.args.self.now c.args.word c.push_or.new.filter (search rules) c.if-self-ge-MAX_TERMS-2.false c.push_or.ensures.step c.push_or.ensures.none
 
 pub returns-in-Some-clause-ok : goal.returns-in-Some-clause-ok
 returns-in-Some-clause-ok c = closed c.args.self.now c.args.word c.pop.new.self c.in-Some.outer c.close.new.self (search rules) c.in-Some.ensures.items c.close.ensures
 
 pub returns-in-None-clause-err : goal.returns-in-None-clause-err
 returns-in-None-clause-err c =
-    rw c.unexpected.ensures (no_operator c.args.self.now c.args.word (search rules) (search rules) (inr (grind (arith, common_steps, nat_tests, c.in-None.ensures.variant))))
+    rw c.unexpected-in-None.ensures (no_operator c.args.self.now c.args.word (search rules) (search rules) (inr (grind (arith, common_steps, nat_tests, c.in-None.ensures.variant))))
 
 pub returns-then-is_empty-clause-err : goal.returns-then-is_empty-clause-err
 returns-then-is_empty-clause-err c =
@@ -21,3 +21,10 @@ returns-then-is_empty-clause-err c =
 
 pub returns-clause-err : goal.returns-clause-err
 returns-clause-err c = rw c.unexpected-2.ensures (no_operator c.args.self.now c.args.word (search rules) (search rules) (inl (search rules)))
+
+pub returns-then-self-ge-MAX_TERMS-clause-err : goal.returns-then-self-ge-MAX_TERMS-clause-err
+returns-then-self-ge-MAX_TERMS-clause-err c = rw c.unexpected.ensures (no_more_terms c.args.self.now c.args.word (search rules) c.if-self-ge-MAX_TERMS.true)
+
+pub returns-then-self-ge-MAX_TERMS-2-clause-err : goal.returns-then-self-ge-MAX_TERMS-2-clause-err
+returns-then-self-ge-MAX_TERMS-2-clause-err c =
+    rw c.unexpected-then-self-ge-MAX_TERMS-2.ensures (no_more_terms c.args.self.now c.args.word (search rules) c.if-self-ge-MAX_TERMS-2.true)

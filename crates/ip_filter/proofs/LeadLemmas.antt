@@ -2,13 +2,16 @@
 use Rattle.std.proofs.Common.{Some, None, IsTrue, codes}
 use Rattle.std.specs.Prelude.{Option}
 use Rattle.std.specs.Option.{option_map_or}
-use Rattle.ip_spec.proofs.Common.{◌≡◌, ◌+◌, ◌≤◌, List, [], ◌∷◌, ◌++◌, length, refl, sym, ap, ◌∙◌, subst, arith, append_assoc, append-nil}
+use Rattle.ip_spec.proofs.Common.{◌≡◌, ◌+◌, ◌≤◌, List, [], ◌∷◌, ◌++◌, length, refl, sym, ap, ◌∙◌, subst, arith, Bool, inl, inr, append_assoc, append-nil}
 use Rattle.ip_filter.specs.declared.term.Term.{Term}
 use Rattle.ip_filter.specs.declared.term.Term.TheVariants as term
+use Rattle.ip_filter.specs.declared.parse_error.Expected.{Expected}
+use Rattle.ip_filter.specs.declared.parse_error.Expected.TheVariants as expects
 use Rattle.ip_filter.specs.Words.{Word}
 use Rattle.ip_filter.specs.Grammar.{Operand, Conjunction, Disjunction, a_term, a_negation, a_group, an_operand, an_and, a_conjunction, an_or, keyword, operand_words, conjunction_words, filter_words, IsOperand, IsConjunction, IsDisjunction, operand_terms, conjunction_terms, terms_in, operand_depth, conjunction_depth, depth_of, IsFilter, AreArguments, is_and, is_or}
-use Rattle.ip_filter.specs.Reading.{ends_term}
-use Rattle.ip_filter.specs.Parsing.{Open, State, before, after, nothing, HasRoom, Moves, by_not, by_open, by_term, by_and, by_or, by_close, may_follow, LeadsTo, ends, goes_on, with_operand, and_joined, or_joined, negate, open_terms, group_terms, state_words}
+use Rattle.ip_filter.specs.Reading.{ends_term, LastIs, WantsArgument}
+use Rattle.ip_filter.specs.Parsing.{Open, State, before, after, nothing, HasRoom, Moves, by_not, by_open, by_term, by_and, by_or, by_close, may_follow, LeadsTo, ends, goes_on, with_operand, and_joined, or_joined, negate, open_terms, group_terms, state_words, NeedsOperand, IsWhole, EndsGroup, IsDue}
+use Rattle.ip_filter.specs.Parsed.{AreFilter, BeginFilter, IsExpected}
 use Rattle.ip_filter.proofs.CountLemmas.{some_term, some_terms}
 use Rattle.ip_filter.proofs.StateLemmas.{Good, good_whole, move_good, move_room, move_words, or_joined_words, or_joined_terms}
 
@@ -101,3 +104,68 @@ term_ends fs f t us args =
 pub can_end : (s : State) → (d : Disjunction) × (ws : List Word) × LeadsTo s ws d
 can_end (before fs f) = let more = term_ends fs f term.Fragment [] refl in (more.0, _, more.2)
 can_end (after fs o c) = let more = closes fs o c in (more.0, more.1, more.2)
+
+-- ---- what is expected
+
+module _ (s : State) (good : Good s) (room : HasRoom s) where
+  begin_with : (t : State) (us : List Word) → Moves s us t → BeginFilter (state_words s ++ us)
+  begin_with t us m =
+      let more = can_end t in
+      let all = lead_filter t more.1 more.0 more.2 (move_good s t us m good) (move_room s t us m room) in
+      (more.0, more.1, all.0, all.1 ∙ ap (λ x. x ++ more.1) (move_words s t us m))
+
+needs_operand : (s : State) → Good s → HasRoom s → NeedsOperand s → BeginFilter (state_words s ++ codes "not" ∷ [])
+needs_operand (before fs f) good room is = begin_with (before fs f) good room _ _ (by_not fs f (codes "not") refl)
+needs_operand (after fs o c) good room is = absurd is
+
+is_whole : (s : State) → Good s → HasRoom s → IsWhole s → AreFilter (state_words s)
+is_whole (before fs f) good room is = absurd is
+is_whole (after [] o c) good room is = (or_joined o c, good_whole o c good room, or_joined_words o c)
+is_whole (after (f ∷ fs) o c) good room is = absurd is
+
+ends_group : (s : State) → Good s → HasRoom s → EndsGroup s → BeginFilter (state_words s ++ codes ")" ∷ [])
+ends_group (before fs f) good room is = absurd is
+ends_group (after [] o c) good room is = absurd is
+ends_group (after (f ∷ fs) o c) good room is = begin_with (after (f ∷ fs) o c) good room _ _ (by_close fs f o c)
+
+later_last : (us front : List Word) (is : Word → Bool) → LastIs is front → LastIs is (us ++ front)
+later_last us front is last = (us ++ last.0, last.1, ap (λ ws. us ++ ws) last.2 ∙ sym (append_assoc us last.0 (last.1 ∷ [])), last.3)
+
+nothing_more : (us front : List Word) → front ≡ [] → us ≡ us ++ front
+nothing_more us front e = sym (append-nil us) ∙ ap (λ ws. us ++ ws) (sym e)
+
+module _ (s : State) (good : Good s) (room : HasRoom s) (front next : List Word) where
+  pub due_is_expected : (e : Expected) → IsDue s front next e → IsExpected (state_words s ++ front) next e
+  due_is_expected expects.Operand due = (subst (λ ws. BeginFilter (ws ++ codes "not" ∷ [])) (nothing_more (state_words s) front due.1) (needs_operand s good room due.0), due.2)
+  due_is_expected expects.LessNesting due = (subst (λ ws. BeginFilter (ws ++ codes "not" ∷ [])) (nothing_more (state_words s) front due.1) (needs_operand s good room due.0), due.2)
+  due_is_expected expects.OperatorOrEnd due = (subst AreFilter (nothing_more (state_words s) front due.1) (is_whole s good room due.0), due.2)
+  due_is_expected expects.OperatorOrClose due = (subst (λ ws. BeginFilter (ws ++ codes ")" ∷ [])) (nothing_more (state_words s) front due.1) (ends_group s good room due.0), due.2)
+  due_is_expected expects.FewerTerms due = (
+    elim due.0 [
+      | inl w ↦ inl (subst AreFilter (nothing_more (state_words s) front due.1) (is_whole s good room w))
+      | inr g ↦ inr (subst (λ ws. BeginFilter (ws ++ codes ")" ∷ [])) (nothing_more (state_words s) front due.1) (ends_group s good room g))
+    ],
+    due.2,
+  )
+  due_is_expected expects.Version due = later_last (state_words s) front _ due
+  due_is_expected expects.Header due = later_last (state_words s) front _ due
+  due_is_expected expects.Protocol due = later_last (state_words s) front _ due
+  due_is_expected expects.Comparison due = later_last (state_words s) front _ due
+  due_is_expected expects.Count due = later_last (state_words s) front _ due
+  due_is_expected expects.Number due = later_last (state_words s) front _ due
+  due_is_expected expects.Network due = later_last (state_words s) front _ due
+
+-- an argument is expected in any state
+pub argument_is_due : (s : State) (front next : List Word) (e : Expected) → WantsArgument front e → IsDue s front next e
+argument_is_due s front next expects.Operand wants = absurd wants
+argument_is_due s front next expects.LessNesting wants = absurd wants
+argument_is_due s front next expects.OperatorOrEnd wants = absurd wants
+argument_is_due s front next expects.OperatorOrClose wants = absurd wants
+argument_is_due s front next expects.FewerTerms wants = absurd wants
+argument_is_due s front next expects.Version wants = wants
+argument_is_due s front next expects.Header wants = wants
+argument_is_due s front next expects.Protocol wants = wants
+argument_is_due s front next expects.Comparison wants = wants
+argument_is_due s front next expects.Count wants = wants
+argument_is_due s front next expects.Number wants = wants
+argument_is_due s front next expects.Network wants = wants

@@ -5,6 +5,8 @@ use Rattle.std.specs.Str.{bytes_eq}
 use Rattle.ip_spec.proofs.Common.{◌≡◌, ℕ, ◌+◌, ◌-◌, ◌<◌, ◌≤◌, ◌^◌, min, List, [], ◌∷◌, ◌++◌, length, take, drop, refl, sym, ap, ◌∙◌, subst, arith, true, false, false≢true, append_assoc, append-nil, length-append}
 use Rattle.ip_filter.specs.declared.words.Word.{Word as FirstWord}
 use Rattle.ip_filter.specs.declared.builder.Builder.{Builder}
+use Rattle.ip_filter.specs.declared.parse_error.Expected.{Expected}
+use Rattle.ip_filter.specs.declared.parse_error.Expected.TheVariants as expects
 use Rattle.ip_filter.specs.declared.term.Term.{Term}
 use Rattle.ip_filter.specs.declared.term.Term.TheVariants as term
 use Rattle.ip_filter.specs.Words.{Word, words}
@@ -18,7 +20,7 @@ use Rattle.ip_filter.specs.declared.filter.StepKind.TheVariants as kind
 use Rattle.ip_filter.specs.Formula.{steps_of}
 use Rattle.ip_filter.proofs.PartStepsLemmas.{joined_terms}
 use Rattle.ip_filter.proofs.CountLemmas.{before_count, after_count}
-use Rattle.ip_filter.proofs.LeadLemmas.{can_end, term_ends}
+use Rattle.ip_filter.proofs.LeadLemmas.{can_end, term_ends, argument_is_due}
 use Rattle.ip_filter.proofs.WordLemmas.{same_word}
 use Rattle.ip_filter.proofs.PlaceLemmas.{end_of_end, place_in_end, from_place}
 
@@ -76,6 +78,9 @@ module _ (text : List ℕ) (w : FirstWord) (is : IsFirstWord text w) where
   -- after the word
   later_place : (front : List Word) (left : ℕ) → IsPlace w.rest.now front left → IsPlace text (w.bytes.now ∷ front) left
   later_place front left p = place_in_end text w.rest.now is.end (w.bytes.now ∷ []) front left is.begins p
+
+  pub next_word : take 1 (words (drop (length text - w.left) text)) ≡ w.bytes.now ∷ []
+  next_word = ap (take 1) (sym is.place.words_before ∙ is.begins)
 
   -- at the word
   begins_at : words text ≡ words (drop (length text - w.left) text)
@@ -136,7 +141,7 @@ module _ (b : Builder) (w : FirstWord) where
       }
 
   pub no_more_groups : bytes_eq w.bytes.now (codes "(") ≡ true → 16 ≤ length b.outer.items → (text : List ℕ) (fs : List Open) (f : Open) → IsFirstWord text w
-      → Holds (before fs f) b → RefusesFrom (before fs f) text w.left
+      → Holds (before fs f) b → RefusesFrom (before fs f) text w.left expects.LessNesting
   no_more_groups o full text fs f is h = record {
     front = [];
     place = is.place;
@@ -146,10 +151,12 @@ module _ (b : Builder) (w : FirstWord) where
         let found = only_open fs f w.bytes.now t vs here.0 more o m here.1 in
         let few = found.2 in
         omega (arith, full, few, ap length h.outer, level_count fs);
+    expected = (tt, refl, next_word text w is ∙ ap (λ x. x ∷ []) (same_word w.bytes.now (codes "(") o));
   }
 
   module _ (n : is_not w.bytes.now ≡ false) (o : bytes_eq w.bytes.now (codes "(") ≡ false) where
-    pub no_term : ((t : Term) → keyword t ≡ w.bytes.now → ⊥) → (text : List ℕ) (fs : List Open) (f : Open) → IsFirstWord text w → Holds (before fs f) b → RefusesFrom (before fs f) text w.left
+    pub no_term : ((t : Term) → keyword t ≡ w.bytes.now → ⊥) → (text : List ℕ) (fs : List Open) (f : Open) → IsFirstWord text w → Holds (before fs f) b
+        → RefusesFrom (before fs f) text w.left expects.Operand
     no_term none text fs f is h = record {
       front = [];
       place = is.place;
@@ -157,19 +164,21 @@ module _ (b : Builder) (w : FirstWord) where
       none = λ t vs ws more m may e next.
           let here = at_word text w is ws vs more next e in
           let found = only_term fs f w.bytes.now t vs here.0 more n o m may here.1 in none found.0 found.4;
+      expected = (tt, refl, λ e. let same : w.bytes.now ≡ codes "(" = cc (sym (next_word text w is) ∙ e) in false≢true (sym o ∙ ap (λ x. bytes_eq x (codes "(")) same));
     }
 
-    pub bad_term : (left : ℕ) → RefusesTerm w.bytes.now w.rest.now left → (text : List ℕ) (fs : List Open) (f : Open) → IsFirstWord text w → Holds (before fs f) b
-        → RefusesFrom (before fs f) text left
-    bad_term left r text fs f is h = record {
+    pub bad_term : (left : ℕ) (e : Expected) → RefusesTerm w.bytes.now w.rest.now left e → (text : List ℕ) (fs : List Open) (f : Open) → IsFirstWord text w → Holds (before fs f) b
+        → RefusesFrom (before fs f) text left e
+    bad_term left e r text fs f is h = record {
       front = w.bytes.now ∷ r.before;
       place = later_place text w is r.before left r.place;
       begins =
           let b = r.begins in
           let more = term_ends fs f b.0 (r.before ++ b.1) b.3 in
           (more.0, b.1 ++ more.1, subst (λ ws. LeadsTo (before fs f) ws more.0) (ap (λ k. k ∷ ((r.before ++ b.1) ++ more.1)) b.2 ∙ ap (λ ws. w.bytes.now ∷ ws) (append_assoc r.before b.1 more.1)) more.2);
-      none = λ t vs ws more m may e next.
-          let found = only_term fs f w.bytes.now t vs (r.before ++ ws) more n o m may e in
+      expected = argument_is_due (before fs f) (w.bytes.now ∷ r.before) _ e r.expected;
+      none = λ t vs ws more m may same next.
+          let found = only_term fs f w.bytes.now t vs (r.before ++ ws) more n o m may same in
           r.none found.0 found.1 ws more found.4 found.5 found.6 found.7 (next ∙ ap (λ s. take 1 (words s)) (sym (from_place text w.rest.now is.end left r.place.within)));
     }
 

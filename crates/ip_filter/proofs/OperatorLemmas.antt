@@ -4,9 +4,11 @@ use Rattle.std.specs.Prelude.{Option}
 use Rattle.std.specs.Option.{option_map_or}
 use Rattle.std.specs.Str.{bytes_eq}
 use Rattle.arrayvec.specs.declared.array_vec.ArrayVec.{ArrayVec}
-use Rattle.ip_spec.proofs.Common.{◌≡◌, ℕ, ◌+◌, ◌<◌, ◌≤◌, ◌^◌, List, [], ◌∷◌, ◌++◌, length, refl, sym, ap, ◌∙◌, arith, Bool, true, false, ◌||◌, ◌⊎◌, inl, inr, false≢true, append_assoc, append-nil, length-append}
+use Rattle.ip_spec.proofs.Common.{◌≡◌, ℕ, ◌+◌, ◌-◌, ◌<◌, ◌≤◌, ◌^◌, List, [], ◌∷◌, ◌++◌, length, take, drop, refl, sym, ap, ◌∙◌, arith, Bool, true, false, ◌||◌, ◌⊎◌, inl, inr, false≢true, append_assoc, append-nil, length-append}
 use Rattle.std.proofs.lemmas.List.{same_from_push}
 use Rattle.ip_filter.specs.declared.words.Word.{Word as FirstWord}
+use Rattle.ip_filter.specs.declared.parse_error.Expected.{Expected}
+use Rattle.ip_filter.specs.declared.parse_error.Expected.TheVariants as expects
 use Rattle.ip_filter.specs.declared.builder.Builder.{Builder}
 use Rattle.ip_filter.specs.declared.builder.Level.{Level}
 use Rattle.ip_filter.specs.declared.filter.Filter.{Filter}
@@ -16,11 +18,11 @@ use Rattle.ip_filter.specs.declared.filter.StepKind.TheVariants as kind
 use Rattle.ip_filter.specs.Words.{Word, words}
 use Rattle.ip_filter.specs.Formula.{steps_of}
 use Rattle.ip_filter.specs.Grammar.{Operand, Conjunction, Disjunction, a_group, filter_words, conjunction_words, is_and, is_or}
-use Rattle.ip_filter.specs.Reading.{IsFirstWord}
-use Rattle.ip_filter.specs.Parsing.{Open, State, before, after, Moves, by_and, by_or, by_close, with_operand, or_joined, and_joined, negate, group_words, open_words, state_words, group_steps, or_steps, conjunction_steps, filter_steps, state_steps, state_terms, level_of, levels_of, Fits, Holds, HoldsOperand, HoldsGroup, IsFinished, ReadsOn, RefusesFrom}
+use Rattle.ip_filter.specs.Reading.{IsFirstWord, IsOperator}
+use Rattle.ip_filter.specs.Parsing.{Open, State, before, after, Moves, by_and, by_or, by_close, with_operand, or_joined, and_joined, negate, group_words, open_words, state_words, group_steps, or_steps, conjunction_steps, filter_steps, state_steps, state_terms, level_of, levels_of, Fits, Holds, HoldsOperand, HoldsGroup, IsFinished, ReadsOn, RefusesFrom, IsWhole, EndsGroup, IsDue}
 use Rattle.ip_filter.proofs.CountLemmas.{after_count, group_end_count, or_end_count, filter_last}
 use Rattle.ip_filter.proofs.PartStepsLemmas.{joined_terms}
-use Rattle.ip_filter.proofs.MoveLemmas.{at_word, level_count}
+use Rattle.ip_filter.proofs.MoveLemmas.{at_word, next_word, level_count}
 use Rattle.ip_filter.proofs.LeadLemmas.{can_end}
 use Rattle.ip_filter.proofs.StateLemmas.{or_joined_terms}
 use Rattle.ip_filter.proofs.WordLemmas.{or_cases, same_word}
@@ -106,6 +108,20 @@ or_end front (Some p) c old new e push keep few =
     let room : length (steps_of old) < 127 = omega (arith, few, ap length e, ap length all, length-append (front ++ filter_steps 0 p.0 ++ conjunction_steps 0 c) last) in
     push refl room ∙ ap (λ s. s ++ last) e ∙ all
 
+-- ---- whether the text or a group may end
+
+outermost : (fs : List Open) (o : Option (Disjunction × Word)) (c : Conjunction) → length fs ≡ 0 → IsWhole (after fs o c)
+outermost [] o c none = tt
+outermost (f ∷ fs) o c none = absurd (omega (arith, none))
+
+in_group : (fs : List Open) (o : Option (Disjunction × Word)) (c : Conjunction) → 0 < length fs → EndsGroup (after fs o c)
+in_group [] o c some = absurd (omega (arith, some))
+in_group (f ∷ fs) o c some = tt
+
+may_stop : (fs : List Open) (o : Option (Disjunction × Word)) (c : Conjunction) → IsWhole (after fs o c) ⊎ EndsGroup (after fs o c)
+may_stop [] o c = inl tt
+may_stop (f ∷ fs) o c = inr tt
+
 -- ---- the parser's steps
 
 module _ (b : Builder) (w : FirstWord) where
@@ -161,7 +177,7 @@ module _ (b : Builder) (w : FirstWord) where
       }
 
   pub no_more_terms : is_and w.bytes.now || is_or w.bytes.now ≡ true → 64 ≤ b.terms → (text : List ℕ) (fs : List Open) (o : Option (Disjunction × Word)) (c : Conjunction)
-      → IsFirstWord text w → Holds (after fs o c) b → RefusesFrom (after fs o c) text w.left
+      → IsFirstWord text w → Holds (after fs o c) b → RefusesFrom (after fs o c) text w.left expects.FewerTerms
   no_more_terms a full text fs o c is h =
       let terms = h.terms in
       record {
@@ -169,19 +185,35 @@ module _ (b : Builder) (w : FirstWord) where
         place = is.place;
         begins = can_end (after fs o c);
         none = λ t vs ws more m may e next. let here = at_word text w is ws vs more next e in joins_nothing w.bytes.now fs o c t vs here.0 more a (omega (arith, full, terms)) m here.1;
+        expected = (may_stop fs o c, refl, (w.bytes.now, next_word text w is, a));
       }
 
-  pub no_operator : is_and w.bytes.now ≡ false → is_or w.bytes.now ≡ false → (bytes_eq w.bytes.now (codes ")") ≡ false) ⊎ (length b.outer.items ≡ 0)
-      → (text : List ℕ) (fs : List Open) (o : Option (Disjunction × Word)) (c : Conjunction) → IsFirstWord text w
-      → Holds (after fs o c) b → RefusesFrom (after fs o c) text w.left
-  no_operator a r n text fs o c is h =
-      let none : (bytes_eq w.bytes.now (codes ")") ≡ false) ⊎ (length fs ≡ 0) = elim n [ inl f ↦ inl f | inr e ↦ inr (omega (arith, e, ap length h.outer, level_count fs)) ] in
-      record {
-        front = [];
-        place = is.place;
-        begins = can_end (after fs o c);
-        none = λ t vs ws more m may e next. let here = at_word text w is ws vs more next e in nowhere w.bytes.now fs o c t vs here.0 more a r none m here.1;
-      }
+  module _ (a : is_and w.bytes.now ≡ false) (r : is_or w.bytes.now ≡ false) where
+    no_operator_next : (text : List ℕ) → IsFirstWord text w → ¬ (IsOperator (take 1 (words (drop (length text - w.left) text))))
+    no_operator_next text is op =
+        let same : op.0 ≡ w.bytes.now = cc (sym op.1 ∙ next_word text w is) in
+        elim (or_cases (is_and op.0) (is_or op.0) op.2) [ inl x ↦ contradicts (is_and op.0) x (ap is_and same ∙ a) | inr x ↦ contradicts (is_or op.0) x (ap is_or same ∙ r) ]
+
+    module _ (e : Expected) (none : (fs : List Open) → length fs ≡ length b.outer.items → (bytes_eq w.bytes.now (codes ")") ≡ false) ⊎ (length fs ≡ 0))
+        (due : (fs : List Open) (o : Option (Disjunction × Word)) (c : Conjunction) (next : List Word) → length fs ≡ length b.outer.items → ¬ (IsOperator next) → IsDue (after fs o c) [] next e) where
+      refused : (text : List ℕ) (fs : List Open) (o : Option (Disjunction × Word)) (c : Conjunction) → IsFirstWord text w → Holds (after fs o c) b → RefusesFrom (after fs o c) text w.left e
+      refused text fs o c is h =
+          let depth : length fs ≡ length b.outer.items = omega (arith, ap length h.outer, level_count fs) in
+          record {
+            front = [];
+            place = is.place;
+            begins = can_end (after fs o c);
+            none = λ t vs ws more m may same next. let here = at_word text w is ws vs more next same in nowhere w.bytes.now fs o c t vs here.0 more a r (none fs depth) m here.1;
+            expected = due fs o c _ depth (no_operator_next text is);
+          }
+
+    pub no_operator : length b.outer.items ≡ 0 → (text : List ℕ) (fs : List Open) (o : Option (Disjunction × Word)) (c : Conjunction) → IsFirstWord text w → Holds (after fs o c) b
+        → RefusesFrom (after fs o c) text w.left expects.OperatorOrEnd
+    no_operator alone = refused expects.OperatorOrEnd (λ fs depth. inr (omega (arith, depth, alone))) (λ fs o c next depth no. (outermost fs o c (omega (arith, depth, alone)), refl, no))
+
+    pub no_operator_or_close : bytes_eq w.bytes.now (codes ")") ≡ false → 0 < length b.outer.items → (text : List ℕ) (fs : List Open) (o : Option (Disjunction × Word)) (c : Conjunction)
+        → IsFirstWord text w → Holds (after fs o c) b → RefusesFrom (after fs o c) text w.left expects.OperatorOrClose
+    no_operator_or_close other some = refused expects.OperatorOrClose (λ fs depth. inl other) (λ fs o c next depth no. (in_group fs o c (omega (arith, depth, some)), refl, no))
 
   pub closed : (outer : ArrayVec Level 16 (Unit {0})) (last : Level) (new : Builder) → bytes_eq w.bytes.now (codes ")") ≡ true → b.outer.items ≡ outer.items ++ last ∷ []
       → ((fs : List Open) (f : Open) (o : Option (Disjunction × Word)) (c : Conjunction)
@@ -284,11 +316,17 @@ finished b x operand alone push keep (after [] o c) h fits =
       steps = or_end [] o c b.filter x h.steps (λ e. push (waits ∙ e)) (λ e. keep (waits ∙ e)) (omega (arith, bound, all, or_end_count [] (or_joined o c)));
     }
 
-pub not_after : (b : Builder) → b.has_operand ≡ false → (o : Option (Disjunction × Word)) (c : Conjunction) → Holds (after [] o c) b → ⊥
-not_after b operand o c h = false≢true (sym operand ∙ h.operand)
+no_word_next : ¬ (IsOperator [])
+no_word_next op = cc op.1
 
-pub not_alone : (b : Builder) → 0 < length b.outer.items → (o : Option (Disjunction × Word)) (c : Conjunction) → Holds (after [] o c) b → ⊥
-not_alone b some o c h = omega (arith, some, ap length h.outer)
+pub operand_missing : (b : Builder) → b.has_operand ≡ false → (s : State) → Holds s b → IsDue s [] [] expects.Operand × (IsWhole s → ⊥)
+operand_missing b operand (before fs f) h = ((tt, refl, λ e. cc e), λ is. is)
+operand_missing b operand (after fs o c) h = absurd (false≢true (sym operand ∙ h.operand))
+
+pub close_missing : (b : Builder) → b.has_operand ≡ true → 0 < length b.outer.items → (s : State) → Holds s b → IsDue s [] [] expects.OperatorOrClose × (IsWhole s → ⊥)
+close_missing b operand some (before fs f) h = absurd (false≢true (sym h.operand ∙ operand))
+close_missing b operand some (after [] o c) h = absurd (omega (arith, some, ap length h.outer))
+close_missing b operand some (after (f ∷ fs) o c) h = ((tt, refl, no_word_next), λ is. is)
 
 -- ---- either state
 

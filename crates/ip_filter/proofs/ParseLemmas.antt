@@ -1,6 +1,7 @@
 -- A text is read word by word.
 use Rattle.std.specs.Prelude.{Option}
 use Rattle.ip_spec.proofs.Common.{◌≡◌, ℕ, ◌-◌, ◌<◌, ◌^◌, List, [], ◌∷◌, ◌++◌, length, take, drop, refl, sym, ap, ◌∙◌, subst, arith, append_assoc, append-nil, append_cancel_left, length-append, drop_all}
+use Rattle.ip_filter.specs.declared.parse_error.Expected.{Expected}
 use Rattle.ip_filter.specs.declared.builder.Builder.{Builder}
 use Rattle.ip_filter.specs.declared.filter.Filter.{Filter}
 use Rattle.ip_filter.specs.declared.words.Word.{Word as FirstWord}
@@ -8,11 +9,11 @@ use Rattle.ip_filter.specs.Words.{Word, words}
 use Rattle.ip_filter.specs.Formula.{read_after}
 use Rattle.ip_filter.specs.Grammar.{Conjunction, Disjunction, filter_words, IsFilter}
 use Rattle.ip_filter.specs.Reading.{IsEnd, IsPlace, IsFirstWord}
-use Rattle.ip_filter.specs.Parsing.{State, before, after, nothing, Moves, may_follow, LeadsTo, ends, goes_on, or_joined, HasRoom, state_words, Fits, Holds, IsFinished, ReadsOn, RefusesFrom}
-use Rattle.ip_filter.specs.Parsed.{IsParsed, IsFirstError}
+use Rattle.ip_filter.specs.Parsing.{State, before, after, nothing, Moves, may_follow, LeadsTo, ends, goes_on, or_joined, HasRoom, state_words, Fits, Holds, IsFinished, ReadsOn, RefusesFrom, IsDue, IsWhole}
+use Rattle.ip_filter.specs.Parsed.{IsParsed, IsFirstError, IsExpected}
 use Rattle.ip_filter.proofs.PlaceLemmas.{whole, end_of_end, place_in_end, from_place}
 use Rattle.ip_filter.proofs.WordLemmas.{no_words, words_short}
-use Rattle.ip_filter.proofs.LeadLemmas.{start_leads, lead_filter, can_end}
+use Rattle.ip_filter.proofs.LeadLemmas.{start_leads, lead_filter, can_end, due_is_expected}
 use Rattle.ip_filter.proofs.StateLemmas.{move_words, move_some, move_room, Good, move_good, good_whole, or_joined_words}
 use Rattle.ip_filter.proofs.ReadFormulaLemmas.{whole_formula}
 
@@ -93,8 +94,9 @@ head_of : (xs ys : List Word) (v : Word) (vs : List Word) → take 1 xs ≡ take
 head_of [] ys v vs e is = absurd (cc (e ∙ ap (take 1) is))
 head_of (x ∷ xs) ys v vs e is = (x, xs, refl)
 
-pub first_error : (text rest : List ℕ) (b : Builder) (w : FirstWord) (left : ℕ) (g : Going text rest b) → IsFirstWord rest w → RefusesFrom g.state rest left → IsFirstError text (length text - left)
-first_error text rest b w left g is r =
+pub first_error : (text rest : List ℕ) (b : Builder) (w : FirstWord) (left : ℕ) (e : Expected) (g : Going text rest b) → IsFirstWord rest w → RefusesFrom g.state rest left e
+    → IsFirstError text (length text - left) e
+first_error text rest b w left e g is r =
     let within = r.place.within in
     let shorter = g.end.0 in
     let here : IsPlace text (state_words g.state ++ r.front) left = place_in_end text rest g.end (state_words g.state) r.front left g.begins r.place in
@@ -112,7 +114,8 @@ first_error text rest b w left g is r =
           let all : take 1 (r.front ++ ws) ≡ take 1 (words rest) = same_first r.front ws (words (drop (length rest - left) rest)) (next ∙ ap (λ s. take 1 (words s)) (sym at)) ∙ ap (take 1) (sym r.place.words_before) in
           nowhere g.state r.front ws (r.front ++ ws) d (g.leads d (r.front ++ ws) filter (same ∙ append_assoc (state_words g.state) r.front ws) all) refl
           (head_of (r.front ++ ws) (words rest) w.bytes.now (words w.rest.now) all is.begins)
-          (λ t vs more m may e. r.none t vs ws more m may e (next ∙ ap (λ s. take 1 (words s)) (sym at)));
+          (λ t vs more m may all. r.none t vs ws more m may all (next ∙ ap (λ s. take 1 (words s)) (sym at)));
+      expected = subst (λ s. IsExpected (state_words g.state ++ r.front) (take 1 (words s)) e) at (due_is_expected g.state g.good g.room r.front _ e r.expected);
     }
 
 -- ---- the end of the text
@@ -144,9 +147,10 @@ parsed text rest b x g none f =
       formula = ap (read_after []) f.steps ∙ whole_formula d;
     }
 
-pub missing_end : (text rest : List ℕ) (b : Builder) (g : Going text rest b) → words rest ≡ []
-    → ((o : Option (Disjunction × Word)) (c : Conjunction) → Holds (after [] o c) b → ⊥) → IsFirstError text (length text)
-missing_end text rest b g none not_whole =
+pub missing_end : (text rest : List ℕ) (b : Builder) (e : Expected) (g : Going text rest b) → words rest ≡ []
+    → ((s : State) → Holds s b → IsDue s [] [] e × (IsWhole s → ⊥)) → IsFirstError text (length text) e
+missing_end text rest b e g none due =
+    let here = due g.state g.holds in
     let nothing_left : words (drop (length text) text) ≡ [] = no_words (drop (length text) text) (ap length (drop_all (length text) text (omega arith))) in
     let all : words text ≡ state_words g.state ++ [] = g.begins ∙ ap (λ ws. state_words g.state ++ ws) none in
     record {
@@ -163,5 +167,8 @@ missing_end text rest b g none not_whole =
           let led = g.leads d ws is same (next ∙ ap (take 1) nothing_left ∙ ap (take 1) (sym none)) in
           let empty : ws ≡ [] = no_first ws (next ∙ ap (take 1) nothing_left) in
           let end = only_end g.state ws d led empty in
-          not_whole end.0 end.1 (subst (λ s. Holds s b) end.2 g.holds);
+          here.1 (subst IsWhole (sym end.2) tt);
+      expected =
+          subst (λ ws. IsExpected ws (take 1 (words (drop (length text) text))) e) (append-nil (state_words g.state))
+          (due_is_expected g.state g.good g.room [] _ e (subst (λ ws. IsDue g.state [] ws e) (sym (ap (take 1) nothing_left)) here.0));
     }

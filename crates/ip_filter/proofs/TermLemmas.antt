@@ -1,19 +1,21 @@
 -- Terms: the keyword determines what follows it.
 use Rattle.std.specs.Prelude.{Option}
 use Rattle.std.specs.Str.{bytes_eq}
-use Rattle.std.proofs.Common.{Some, None, IfNone, codes, IsTrue}
-use Rattle.ip_spec.proofs.Common.{◌≡◌, ℕ, List, [], ◌∷◌, ◌++◌, take, refl, sym, ap, ◌∙◌, subst, true, false, ◌||◌, ◌⊎◌, inl, inr, false≢true, cases_Bool, bytes_eq-Decides, if◌then◌else◌}
+use Rattle.std.proofs.Common.{Some, None, is_some, IfNone, codes, IsTrue}
+use Rattle.ip_spec.proofs.Common.{◌≡◌, ℕ, List, [], ◌∷◌, ◌++◌, take, refl, sym, ap, ◌∙◌, subst, Bool, true, false, ◌||◌, ◌⊎◌, inl, inr, false≢true, cases_Bool, bytes_eq-Decides, if◌then◌else◌}
 use Rattle.ip_filter.specs.declared.term.Comparison.{Comparison}
 use Rattle.ip_filter.specs.declared.term.Comparison.TheVariants as by
 use Rattle.ip_filter.specs.declared.term.Term.{Term}
 use Rattle.ip_filter.specs.declared.term.Term.TheVariants as term
+use Rattle.ip_filter.specs.declared.parse_error.Expected.{Expected}
+use Rattle.ip_filter.specs.declared.parse_error.Expected.TheVariants as expects
 use Rattle.ip_filter.specs.declared.term.FaultKind.{FaultKind}
 use Rattle.ip_filter.specs.declared.network.Network.{Network}
 use Rattle.ip_filter.specs.Words.{Word, words}
 use Rattle.ip_filter.specs.Numbers.{version_of, header_of, protocol_of, number_up_to, comparison_of, fault_kind_of, IsNetworkText}
 use Rattle.ip_filter.specs.Grammar.{keyword, AreArguments, IsOne, Finds, AreCompared, is_and, is_or}
 use Rattle.ip_filter.specs.declared.words.Word.{Word as FirstWord}
-use Rattle.ip_filter.specs.Reading.{IsFirstWord, ReadsArgument, RefusesArgument, ReadsArguments, RefusesArguments, ReadsTerm, RefusesTerm, ends_term, plain_term_of, is_number_keyword, is_count_keyword, is_network_keyword}
+use Rattle.ip_filter.specs.Reading.{IsFirstWord, ReadsArgument, RefusesArgument, ReadsArguments, RefusesArguments, ReadsTerm, RefusesTerm, WantsArgument, ends_term, plain_term_of, is_number_keyword, is_count_keyword, is_network_keyword}
 use Rattle.ip_filter.proofs.NetworkTextLemmas.{one_network, some_network}
 use Rattle.ip_filter.proofs.WordLemmas.{or_cases, same_word}
 use Rattle.ip_filter.proofs.PlaceLemmas.{whole, end_of_end, from_place, place_in_end}
@@ -32,11 +34,13 @@ module _ {A : Type 0} (Writes : Word → A → Type 0) (unique : (w : Word) (a b
         (unique r.word b a (subst (λ w. Writes w b) head writes.2) r.writes, writes.1 ∙ ap (λ w. w ∷ []) head);
   }
 
-  not_one : (w : Word) × (a : A) × Writes w a → (text : List ℕ) (left : ℕ) → RefusesArgument Writes text left → RefusesArguments (IsOne Writes) text left
-  not_one some text left r = record {
+  not_one : (w : Word) × (a : A) × Writes w a → (is_keyword : Word → Bool) (e : Expected) → ((k : Word) → IsTrue (is_keyword k) → WantsArgument (k ∷ []) e)
+      → (text : List ℕ) (left : ℕ) → RefusesArgument Writes text left → RefusesArguments (IsOne Writes) is_keyword text left e
+  not_one some is_keyword e due text left r = record {
     before = [];
     place = r.place;
     begins = (some.1, some.0 ∷ [], (some.0, refl, some.2));
+    expected = due;
     none = λ b us ws more writes same next.
         r.none writes.0 b (ap (take 1) r.place.words_before ∙ sym next ∙ ap (take 1) (sym same) ∙ ap (λ x. take 1 (x ++ more)) writes.1) writes.2;
   }
@@ -61,25 +65,35 @@ module _ (text mid : List ℕ) (c : Comparison) (first : ReadsArgument (Finds co
         (ap (λ x. (x, b.1)) left ∙ ap (λ x. (c, x)) right, writes.2 ∙ ap (λ x. x ∷ writes.1 ∷ []) o ∙ ap (λ x. first.word ∷ x ∷ []) w);
   }
 
-  pub no_number : (left : ℕ) → RefusesArgument (Finds (number_up_to 18446744073709551615)) mid left → RefusesArguments AreCompared text left
-  no_number left second = record {
+  without_number : (left : ℕ) → RefusesArgument (Finds (number_up_to 18446744073709551615)) mid left → RefusesArguments AreCompared is_count_keyword text left expects.Count
+  without_number left second = record {
     before = first.word ∷ [];
     place = place_in_end text mid first.end (first.word ∷ []) [] left first.begins second.place;
     begins = ((c, 0), codes "0" ∷ [], (first.word, codes "0", refl, first.writes, refl));
+    expected = λ k is. (k ∷ [], first.word, refl, ap is_some first.writes);
     none = λ b us ws more writes same next.
         let all : writes.0 ∷ writes.1 ∷ more ≡ first.word ∷ ws = sym (ap (λ x. x ++ more) writes.2) ∙ same in
         let rest : ws ≡ writes.1 ∷ more = cc all in
         second.none writes.1 b.1 (ap (take 1) (second.place.words_before ∙ ap words (from_place text mid first.end left second.place.within)) ∙ sym next ∙ ap (take 1) rest) writes.4;
   }
 
-pub no_comparison : (text : List ℕ) (left : ℕ) → RefusesArgument (Finds comparison_of) text left → RefusesArguments AreCompared text left
-no_comparison text left r = record {
+  pub no_number : (left : ℕ) (e : Expected) → RefusesArgument (Finds (number_up_to 18446744073709551615)) mid left × (e ≡ expects.Count)
+      → RefusesArguments AreCompared is_count_keyword text left e
+  no_number left e r = subst (RefusesArguments AreCompared is_count_keyword text left) (sym r.1) (without_number left r.0)
+
+without_comparison : (text : List ℕ) (left : ℕ) → RefusesArgument (Finds comparison_of) text left → RefusesArguments AreCompared is_count_keyword text left expects.Comparison
+without_comparison text left r = record {
   before = [];
   place = r.place;
   begins = ((by.Equal, 0), codes "=" ∷ codes "0" ∷ [], (codes "=", codes "0", refl, refl, refl));
+  expected = λ k is. ([], k, refl, is);
   none = λ b us ws more writes same next.
       r.none writes.0 b.0 (ap (take 1) r.place.words_before ∙ sym next ∙ ap (take 1) (sym same) ∙ ap (λ x. take 1 (x ++ more)) writes.2) writes.3;
 }
+
+pub no_comparison : (text : List ℕ) (left : ℕ) (e : Expected) → RefusesArgument (Finds comparison_of) text left × (e ≡ expects.Comparison)
+    → RefusesArguments AreCompared is_count_keyword text left e
+no_comparison text left e r = subst (RefusesArguments AreCompared is_count_keyword text left) (sym r.1) (without_comparison text left r.0)
 
 -- ---- keywords
 
@@ -106,11 +120,12 @@ module _ {A : Type 0} (Writes : List Word → A → Type 0) (make : A → Term) 
         (i.1 ∙ ap make o.0, o.1);
   }
 
-  is_refused : (text : List ℕ) (left : ℕ) → RefusesArguments Writes text left → RefusesTerm k text left
-  is_refused text left r = record {
+  is_refused : (is_keyword : Word → Bool) → IsTrue (is_keyword c) → (text : List ℕ) (left : ℕ) (e : Expected) → RefusesArguments Writes is_keyword text left e → RefusesTerm k text left e
+  is_refused is_keyword key text left e r = record {
     before = r.before;
     place = r.place;
     begins = let b = r.begins in (make b.0, b.1, n.named b.0 ∙ sym same_keyword, n.spelled b.0 (r.before ++ b.1) b.2);
+    expected = r.expected k (ap is_keyword same_keyword ∙ key);
     none = λ u us ws more ku au ends same next.
         let i = n.inverts u us (ku ∙ same_keyword) au in
         r.none i.0 us ws more i.2 same next;
@@ -317,72 +332,79 @@ module _ (k : Word) where
     only = λ u us ws more ku au ends same next. plain_inverts k t u us (sym e) ku au;
   }
 
+-- the keywords that a number of 32 bits follows
+abbrev number_keyword : Word → Bool
+number_keyword w = bytes_eq w (codes "spi") || bytes_eq w (codes "id")
+
+as_expected : (k : Word) (text : List ℕ) (left : ℕ) (e x : Expected) → e ≡ x → RefusesTerm k text left x → RefusesTerm k text left e
+as_expected k text left e x same = subst (RefusesTerm k text left) (sym same)
+
 module _ (k : Word) (text : List ℕ) where
   pub version_read : bytes_eq k (codes "version") ≡ true → (rest : List ℕ) (a : ℕ) → ReadsArgument (Finds version_of) text a rest → ReadsTerm k text (term.Version a) rest
   version_read is rest a r = is_read _ _ _ version k is text rest a (one (Finds version_of) (found_once version_of) text rest a r)
 
-  pub version_refused : bytes_eq k (codes "version") ≡ true → (left : ℕ) → RefusesArgument (Finds version_of) text left → RefusesTerm k text left
-  version_refused is left r = is_refused _ _ _ version k is text left (not_one (Finds version_of) (found_once version_of) (codes "4", 4, refl) text left r)
+  pub version_refused : bytes_eq k (codes "version") ≡ true → (left : ℕ) (e : Expected) → RefusesArgument (Finds version_of) text left × (e ≡ expects.Version) → RefusesTerm k text left e
+  version_refused is left e r = as_expected k text left e expects.Version r.1 (is_refused _ _ _ version k is (λ w. bytes_eq w (codes "version")) refl text left expects.Version (not_one (Finds version_of) (found_once version_of) (codes "4", 4, refl) (λ w. bytes_eq w (codes "version")) expects.Version (λ w t. ([], w, refl, t)) text left r.0))
 
   pub header_read : bytes_eq k (codes "header") ≡ true → (rest : List ℕ) (a : ℕ) → ReadsArgument (Finds header_of) text a rest → ReadsTerm k text (term.Header a) rest
   header_read is rest a r = is_read _ _ _ header k is text rest a (one (Finds header_of) (found_once header_of) text rest a r)
 
-  pub header_refused : bytes_eq k (codes "header") ≡ true → (left : ℕ) → RefusesArgument (Finds header_of) text left → RefusesTerm k text left
-  header_refused is left r = is_refused _ _ _ header k is text left (not_one (Finds header_of) (found_once header_of) (codes "0", 0, refl) text left r)
+  pub header_refused : bytes_eq k (codes "header") ≡ true → (left : ℕ) (e : Expected) → RefusesArgument (Finds header_of) text left × (e ≡ expects.Header) → RefusesTerm k text left e
+  header_refused is left e r = as_expected k text left e expects.Header r.1 (is_refused _ _ _ header k is (λ w. bytes_eq w (codes "header")) refl text left expects.Header (not_one (Finds header_of) (found_once header_of) (codes "0", 0, refl) (λ w. bytes_eq w (codes "header")) expects.Header (λ w t. ([], w, refl, t)) text left r.0))
 
   pub leads_to_read : bytes_eq k (codes "leads-to") ≡ true → (rest : List ℕ) (a : ℕ) → ReadsArgument (Finds protocol_of) text a rest → ReadsTerm k text (term.LeadsTo a) rest
   leads_to_read is rest a r = is_read _ _ _ leads_to k is text rest a (one (Finds protocol_of) (found_once protocol_of) text rest a r)
 
-  pub leads_to_refused : bytes_eq k (codes "leads-to") ≡ true → (left : ℕ) → RefusesArgument (Finds protocol_of) text left → RefusesTerm k text left
-  leads_to_refused is left r = is_refused _ _ _ leads_to k is text left (not_one (Finds protocol_of) (found_once protocol_of) (codes "0", 0, refl) text left r)
+  pub leads_to_refused : bytes_eq k (codes "leads-to") ≡ true → (left : ℕ) (e : Expected) → RefusesArgument (Finds protocol_of) text left × (e ≡ expects.Protocol) → RefusesTerm k text left e
+  leads_to_refused is left e r = as_expected k text left e expects.Protocol r.1 (is_refused _ _ _ leads_to k is (λ w. bytes_eq w (codes "leads-to")) refl text left expects.Protocol (not_one (Finds protocol_of) (found_once protocol_of) (codes "0", 0, refl) (λ w. bytes_eq w (codes "leads-to")) expects.Protocol (λ w t. ([], w, refl, t)) text left r.0))
 
   pub spi_read : bytes_eq k (codes "spi") ≡ true → (rest : List ℕ) (a : ℕ) → ReadsArgument (Finds (number_up_to 4294967295)) text a rest → ReadsTerm k text (term.SecurityParameters a) rest
   spi_read is rest a r = is_read _ _ _ spi k is text rest a (one (Finds (number_up_to 4294967295)) (found_once (number_up_to 4294967295)) text rest a r)
 
-  pub spi_refused : bytes_eq k (codes "spi") ≡ true → (left : ℕ) → RefusesArgument (Finds (number_up_to 4294967295)) text left → RefusesTerm k text left
-  spi_refused is left r = is_refused _ _ _ spi k is text left (not_one (Finds (number_up_to 4294967295)) (found_once (number_up_to 4294967295)) (codes "0", 0, refl) text left r)
+  pub spi_refused : bytes_eq k (codes "spi") ≡ true → (left : ℕ) (e : Expected) → RefusesArgument (Finds (number_up_to 4294967295)) text left × (e ≡ expects.Number) → RefusesTerm k text left e
+  spi_refused is left e r = as_expected k text left e expects.Number r.1 (is_refused _ _ _ spi k is number_keyword refl text left expects.Number (not_one (Finds (number_up_to 4294967295)) (found_once (number_up_to 4294967295)) (codes "0", 0, refl) number_keyword expects.Number (λ w t. ([], w, refl, t)) text left r.0))
 
   pub id_read : bytes_eq k (codes "id") ≡ true → (rest : List ℕ) (a : ℕ) → ReadsArgument (Finds (number_up_to 4294967295)) text a rest → ReadsTerm k text (term.Identification a) rest
   id_read is rest a r = is_read _ _ _ id k is text rest a (one (Finds (number_up_to 4294967295)) (found_once (number_up_to 4294967295)) text rest a r)
 
-  pub id_refused : bytes_eq k (codes "id") ≡ true → (left : ℕ) → RefusesArgument (Finds (number_up_to 4294967295)) text left → RefusesTerm k text left
-  id_refused is left r = is_refused _ _ _ id k is text left (not_one (Finds (number_up_to 4294967295)) (found_once (number_up_to 4294967295)) (codes "0", 0, refl) text left r)
+  pub id_refused : bytes_eq k (codes "id") ≡ true → (left : ℕ) (e : Expected) → RefusesArgument (Finds (number_up_to 4294967295)) text left × (e ≡ expects.Number) → RefusesTerm k text left e
+  id_refused is left e r = as_expected k text left e expects.Number r.1 (is_refused _ _ _ id k is number_keyword refl text left expects.Number (not_one (Finds (number_up_to 4294967295)) (found_once (number_up_to 4294967295)) (codes "0", 0, refl) number_keyword expects.Number (λ w t. ([], w, refl, t)) text left r.0))
 
   pub headers_read : bytes_eq k (codes "headers") ≡ true → (rest : List ℕ) (c : Comparison) (n : ℕ) → ReadsArguments AreCompared text (c, n) rest → ReadsTerm k text (term.Headers c n) rest
   headers_read is rest c n r = is_read _ _ _ headers k is text rest (c, n) r
 
-  pub headers_refused : bytes_eq k (codes "headers") ≡ true → (left : ℕ) → RefusesArguments AreCompared text left → RefusesTerm k text left
-  headers_refused is left r = is_refused _ _ _ headers k is text left r
+  pub headers_refused : bytes_eq k (codes "headers") ≡ true → (left : ℕ) (e : Expected) → RefusesArguments AreCompared is_count_keyword text left e → RefusesTerm k text left e
+  headers_refused is left e r = is_refused _ _ _ headers k is is_count_keyword refl text left e r
 
   pub chain_bytes_read : bytes_eq k (codes "chain-bytes") ≡ true → (rest : List ℕ) (c : Comparison) (n : ℕ) → ReadsArguments AreCompared text (c, n) rest → ReadsTerm k text (term.ChainBytes c n) rest
   chain_bytes_read is rest c n r = is_read _ _ _ chain_bytes k is text rest (c, n) r
 
-  pub chain_bytes_refused : bytes_eq k (codes "chain-bytes") ≡ true → (left : ℕ) → RefusesArguments AreCompared text left → RefusesTerm k text left
-  chain_bytes_refused is left r = is_refused _ _ _ chain_bytes k is text left r
+  pub chain_bytes_refused : bytes_eq k (codes "chain-bytes") ≡ true → (left : ℕ) (e : Expected) → RefusesArguments AreCompared is_count_keyword text left e → RefusesTerm k text left e
+  chain_bytes_refused is left e r = is_refused _ _ _ chain_bytes k is is_count_keyword refl text left e r
 
   pub payload_read : bytes_eq k (codes "payload") ≡ true → (rest : List ℕ) (c : Comparison) (n : ℕ) → ReadsArguments AreCompared text (c, n) rest → ReadsTerm k text (term.Payload c n) rest
   payload_read is rest c n r = is_read _ _ _ payload k is text rest (c, n) r
 
-  pub payload_refused : bytes_eq k (codes "payload") ≡ true → (left : ℕ) → RefusesArguments AreCompared text left → RefusesTerm k text left
-  payload_refused is left r = is_refused _ _ _ payload k is text left r
+  pub payload_refused : bytes_eq k (codes "payload") ≡ true → (left : ℕ) (e : Expected) → RefusesArguments AreCompared is_count_keyword text left e → RefusesTerm k text left e
+  payload_refused is left e r = is_refused _ _ _ payload k is is_count_keyword refl text left e r
 
   pub src_read : bytes_eq k (codes "src") ≡ true → (rest : List ℕ) (a : Network) → ReadsArgument IsNetworkText text a rest → ReadsTerm k text (term.Source a) rest
   src_read is rest a r = is_read _ _ _ src k is text rest a (one IsNetworkText one_network text rest a r)
 
-  pub src_refused : bytes_eq k (codes "src") ≡ true → (left : ℕ) → RefusesArgument IsNetworkText text left → RefusesTerm k text left
-  src_refused is left r = is_refused _ _ _ src k is text left (not_one IsNetworkText one_network some_network text left r)
+  pub src_refused : bytes_eq k (codes "src") ≡ true → (left : ℕ) (e : Expected) → RefusesArgument IsNetworkText text left × (e ≡ expects.Network) → RefusesTerm k text left e
+  src_refused is left e r = as_expected k text left e expects.Network r.1 (is_refused _ _ _ src k is is_network_keyword refl text left expects.Network (not_one IsNetworkText one_network some_network is_network_keyword expects.Network (λ w t. ([], w, refl, t)) text left r.0))
 
   pub dst_read : bytes_eq k (codes "dst") ≡ true → (rest : List ℕ) (a : Network) → ReadsArgument IsNetworkText text a rest → ReadsTerm k text (term.Destination a) rest
   dst_read is rest a r = is_read _ _ _ dst k is text rest a (one IsNetworkText one_network text rest a r)
 
-  pub dst_refused : bytes_eq k (codes "dst") ≡ true → (left : ℕ) → RefusesArgument IsNetworkText text left → RefusesTerm k text left
-  dst_refused is left r = is_refused _ _ _ dst k is text left (not_one IsNetworkText one_network some_network text left r)
+  pub dst_refused : bytes_eq k (codes "dst") ≡ true → (left : ℕ) (e : Expected) → RefusesArgument IsNetworkText text left × (e ≡ expects.Network) → RefusesTerm k text left e
+  dst_refused is left e r = as_expected k text left e expects.Network r.1 (is_refused _ _ _ dst k is is_network_keyword refl text left expects.Network (not_one IsNetworkText one_network some_network is_network_keyword expects.Network (λ w t. ([], w, refl, t)) text left r.0))
 
   pub net_read : bytes_eq k (codes "net") ≡ true → (rest : List ℕ) (a : Network) → ReadsArgument IsNetworkText text a rest → ReadsTerm k text (term.Either a) rest
   net_read is rest a r = is_read _ _ _ net k is text rest a (one IsNetworkText one_network text rest a r)
 
-  pub net_refused : bytes_eq k (codes "net") ≡ true → (left : ℕ) → RefusesArgument IsNetworkText text left → RefusesTerm k text left
-  net_refused is left r = is_refused _ _ _ net k is text left (not_one IsNetworkText one_network some_network text left r)
+  pub net_refused : bytes_eq k (codes "net") ≡ true → (left : ℕ) (e : Expected) → RefusesArgument IsNetworkText text left × (e ≡ expects.Network) → RefusesTerm k text left e
+  net_refused is left e r = as_expected k text left e expects.Network r.1 (is_refused _ _ _ net k is is_network_keyword refl text left expects.Network (not_one IsNetworkText one_network some_network is_network_keyword expects.Network (λ w t. ([], w, refl, t)) text left r.0))
 
 pub at_fault : (k : Word) (text rest : List ℕ) (t : Term) → bytes_eq k (codes "fault") ≡ true → ReadsTerm (codes "fault") text t rest → ReadsTerm k text t rest
 at_fault k text rest t is = subst (λ w. ReadsTerm w text t rest) (sym (same_word k (codes "fault") is))

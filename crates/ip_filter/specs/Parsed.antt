@@ -1,10 +1,12 @@
 -- What a text is parsed as, and where it is refused.
-use Rattle.std.specs.Prelude.{◌≡◌, ◌≤◌, ◌-◌, ℕ, List, [], ◌∷◌, ◌++◌, length, take, drop}
+use Rattle.std.specs.Prelude.{◌≡◌, ◌≤◌, ◌-◌, ◌⊎◌, ℕ, List, [], ◌∷◌, ◌++◌, length, take, drop, codes}
 use Rattle.ip_filter.specs.declared.filter.Filter.{Filter}
+use Rattle.ip_filter.specs.declared.parse_error.Expected.{Expected}
+use Rattle.ip_filter.specs.declared.parse_error.Expected.TheVariants as expects
 use Rattle.ip_filter.specs.Words.{Word, words}
 use Rattle.ip_filter.specs.Formula.{read_after, steps_of}
 use Rattle.ip_filter.specs.Grammar.{Disjunction, filter_words, formula_of, IsFilter}
-use Rattle.ip_filter.specs.Reading.{IsPlace}
+use Rattle.ip_filter.specs.Reading.{IsPlace, WantsArgument, IsOperator}
 
 -- The words of the text are a filter, in one way, and x has its formula.
 pub record IsParsed (text : List ℕ) (x : Filter) : Type 0 where
@@ -14,11 +16,30 @@ pub record IsParsed (text : List ℕ) (x : Filter) : Type 0 where
   pub only : (d : Disjunction) → IsFilter d → filter_words d ≡ words text → d ≡ written
   pub formula : read_after [] (steps_of x) ≡ formula_of written ∷ []
 
+-- the words are a filter
+abbrev pub AreFilter : List Word → Type 0
+AreFilter ws = (d : Disjunction) × IsFilter d × (filter_words d ≡ ws)
+
+-- some filter begins with the words
+abbrev pub BeginFilter : List Word → Type 0
+BeginFilter ws = (d : Disjunction) × (rest : List Word) × IsFilter d × (filter_words d ≡ ws ++ rest)
+
+-- What is expected after the words `front` instead of `next`, which is the next word, or nothing at the end of the text.
+-- An operator is refused for the number of terms, and a parenthesis for the nesting.
+abbrev pub IsExpected : List Word → List Word → Expected → Type 0
+IsExpected front next expects.Operand = BeginFilter (front ++ codes "not" ∷ []) × ¬ (next ≡ codes "(" ∷ [])
+IsExpected front next expects.LessNesting = BeginFilter (front ++ codes "not" ∷ []) × (next ≡ codes "(" ∷ [])
+IsExpected front next expects.OperatorOrEnd = AreFilter front × ¬ IsOperator next
+IsExpected front next expects.OperatorOrClose = BeginFilter (front ++ codes ")" ∷ []) × ¬ IsOperator next
+IsExpected front next expects.FewerTerms = (AreFilter front ⊎ BeginFilter (front ++ codes ")" ∷ [])) × IsOperator next
+IsExpected front next e = WantsArgument front e
+
 -- A word begins at this offset, or the text ends there. A filter begins with the words before it, but none with these
--- words and that one, or with these words alone if the text ends there.
-pub record IsFirstError (text : List ℕ) (offset : ℕ) : Type 0 where
+-- words and that one, or with these words alone if the text ends there. There e is expected.
+pub record IsFirstError (text : List ℕ) (offset : ℕ) (e : Expected) : Type 0 where
   pub within : offset ≤ length text
   pub front : List Word
   pub place : IsPlace text front (length text - offset)
-  pub begins : (d : Disjunction) × (ws : List Word) × IsFilter d × (filter_words d ≡ front ++ ws)
+  pub begins : BeginFilter front
   pub none : (d : Disjunction) (ws : List Word) → IsFilter d → filter_words d ≡ front ++ ws → take 1 ws ≡ take 1 (words (drop offset text)) → ⊥
+  pub expected : IsExpected front (take 1 (words (drop offset text))) e

@@ -1,16 +1,18 @@
 -- How the parser puts a filter together, word by word.
-use Rattle.std.specs.Prelude.{◌≡◌, ◌≤◌, ◌<◌, ◌+◌, ℕ, suc, List, [], ◌∷◌, ◌++◌, length, take, drop, Bool, true, false, Option, Some, None, is_some, ⊤, ◌-◌, ◌^◌, IsTrue, codes}
+use Rattle.std.specs.Prelude.{◌≡◌, ◌≤◌, ◌<◌, ◌+◌, ℕ, suc, List, [], ◌∷◌, ◌++◌, length, take, drop, Bool, true, false, Option, Some, None, is_some, ⊤, ◌⊎◌, ◌-◌, ◌^◌, IsTrue, codes}
 use Rattle.std.specs.Option.{option_map_or}
 use Rattle.ip_filter.specs.declared.filter.StepKind.TheVariants as kind
 use Rattle.ip_filter.specs.declared.filter.Step.{Step}
 use Rattle.ip_filter.specs.declared.filter.Filter.{Filter}
 use Rattle.ip_filter.specs.declared.builder.Level.{Level}
 use Rattle.ip_filter.specs.declared.builder.Builder.{Builder}
+use Rattle.ip_filter.specs.declared.parse_error.Expected.{Expected}
+use Rattle.ip_filter.specs.declared.parse_error.Expected.TheVariants as expects
 use Rattle.ip_filter.specs.declared.term.Term.{Term}
 use Rattle.ip_filter.specs.Words.{Word, words}
 use Rattle.ip_filter.specs.Formula.{steps_of}
 use Rattle.ip_filter.specs.Grammar.{Operand, Conjunction, Disjunction, a_term, a_negation, a_group, an_operand, an_and, a_conjunction, an_or, keyword, AreArguments, is_not, is_and, is_or, conjunction_words, filter_words, operand_terms, conjunction_terms, terms_in}
-use Rattle.ip_filter.specs.Reading.{ends_term, IsEnd, IsPlace}
+use Rattle.ip_filter.specs.Reading.{ends_term, IsEnd, IsPlace, WantsArgument, IsOperator}
 
 -- ---- the parts that are read
 
@@ -100,6 +102,32 @@ may_follow (after fs o c) ws = IsTrue (ends_term ws)
 pub data LeadsTo : State → List Word → Disjunction → Type 0 where
   ends : (o : Option (Disjunction × Word)) (c : Conjunction) → LeadsTo (after [] o c) [] (or_joined o c)
   goes_on : (s t : State) (us ws all : List Word) (d : Disjunction) → all ≡ us ++ ws → Moves s us t → may_follow t ws → LeadsTo t ws d → LeadsTo s all d
+
+-- ---- what is expected
+
+-- an operand follows
+abbrev pub NeedsOperand : State → Type 0
+NeedsOperand (before fs f) = ⊤
+NeedsOperand (after fs o c) = ⊥
+
+-- what was read is a whole filter
+abbrev pub IsWhole : State → Type 0
+IsWhole (after [] o c) = ⊤
+IsWhole s = ⊥
+
+-- the last group may end here
+abbrev pub EndsGroup : State → Type 0
+EndsGroup (after (f ∷ fs) o c) = ⊤
+EndsGroup s = ⊥
+
+-- what is expected after this state and the words `front` instead of `next`
+abbrev pub IsDue : State → List Word → List Word → Expected → Type 0
+IsDue s front next expects.Operand = NeedsOperand s × (front ≡ []) × ¬ (next ≡ codes "(" ∷ [])
+IsDue s front next expects.LessNesting = NeedsOperand s × (front ≡ []) × (next ≡ codes "(" ∷ [])
+IsDue s front next expects.OperatorOrEnd = IsWhole s × (front ≡ []) × ¬ IsOperator next
+IsDue s front next expects.OperatorOrClose = EndsGroup s × (front ≡ []) × ¬ IsOperator next
+IsDue s front next expects.FewerTerms = (IsWhole s ⊎ EndsGroup s) × (front ≡ []) × IsOperator next
+IsDue s front next e = WantsArgument front e
 
 -- ---- the steps of the parts
 
@@ -192,13 +220,14 @@ pub record ReadsOn (s : State) (text rest : List ℕ) (b : Builder) : Type 0 whe
   pub only : (t : State) (vs ws more : List Word) → Moves s vs t → may_follow t more → vs ++ more ≡ us ++ ws → take 1 ws ≡ take 1 (words rest) → (t ≡ next) × (vs ≡ us)
 
 -- From the state s, no words lead on that begin like those of the text, up to that at the place `left`. Some filter begins
--- with the words before that place.
-pub record RefusesFrom (s : State) (text : List ℕ) (left : ℕ) : Type 0 where
+-- with the words before that place, after which e is expected.
+pub record RefusesFrom (s : State) (text : List ℕ) (left : ℕ) (e : Expected) : Type 0 where
   pub front : List Word
   pub place : IsPlace text front left
   pub begins : (d : Disjunction) × (ws : List Word) × LeadsTo s (front ++ ws) d
   pub none : (t : State) (vs ws more : List Word) → Moves s vs t → may_follow t more → vs ++ more ≡ front ++ ws
       → take 1 ws ≡ take 1 (words (drop (length text - left) text)) → ⊥
+  pub expected : IsDue s front (take 1 (words (drop (length text - left) text))) e
 
 -- The state is that of a whole filter, of which x has the steps.
 pub record IsFinished (s : State) (x : Filter) : Type 0 where

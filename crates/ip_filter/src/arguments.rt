@@ -1,5 +1,6 @@
 //! The words after the keyword of a term.
 ghost use Rattle.std.specs.Prelude.{◌≡◌, IfOk, IfErr};
+ghost use Rattle.ip_filter.specs.declared.parse_error.Expected.TheVariants as expects;
 ghost use Rattle.ip_filter.specs.Words.{words};
 ghost use Rattle.ip_filter.specs.Numbers.{number_up_to, version_of, header_of, protocol_of, comparison_of, fault_kind_of, IsNetworkText};
 ghost use Rattle.ip_filter.specs.Grammar.{Finds};
@@ -22,7 +23,7 @@ pub struct Unexpected {
 impl Unexpected {
     /// Returns the error that something is missing at the end of the text.
     pub fn missing(expected: Expected) -> Unexpected
-        ensures { result.left ≡ 0 }
+        ensures { result ≡ record { left = 0; expected = expected } }
     {
         Unexpected { left: 0, expected }
     }
@@ -31,7 +32,7 @@ impl Unexpected {
 impl Word<'_> {
     /// Returns the error that something else is expected in place of this word.
     pub fn unexpected(&self, expected: Expected) -> Unexpected
-        ensures { result.left ≡ self.now.left }
+        ensures { result ≡ record { left = self.now.left; expected = expected } }
     {
         Unexpected {
             left: self.left,
@@ -43,7 +44,8 @@ impl Word<'_> {
 /// Reads an IP version.
 pub fn read_version(text: &[u8]) -> Result<(u8, &[u8]), Unexpected>
     ensures ok { IfOk result (λ r. ReadsArgument (Finds version_of) text.now r.0 r.1.now) }
-    ensures err { IfErr result (λ e. RefusesArgument (Finds version_of) text.now e.left) }
+    ensures err { IfErr result (λ e. RefusesArgument (Finds version_of) text.now e.left
+        × (e.expected ≡ expects.Version)) }
 {
     let word = match first_word(text) {
         Some(word) => word,
@@ -58,7 +60,8 @@ pub fn read_version(text: &[u8]) -> Result<(u8, &[u8]), Unexpected>
 /// Reads the name or number of an extension header.
 pub fn read_header(text: &[u8]) -> Result<(u8, &[u8]), Unexpected>
     ensures ok { IfOk result (λ r. ReadsArgument (Finds header_of) text.now r.0 r.1.now) }
-    ensures err { IfErr result (λ e. RefusesArgument (Finds header_of) text.now e.left) }
+    ensures err { IfErr result (λ e. RefusesArgument (Finds header_of) text.now e.left
+        × (e.expected ≡ expects.Header)) }
 {
     let word = match first_word(text) {
         Some(word) => word,
@@ -73,7 +76,8 @@ pub fn read_header(text: &[u8]) -> Result<(u8, &[u8]), Unexpected>
 /// Reads the name or number of a protocol.
 pub fn read_protocol(text: &[u8]) -> Result<(u8, &[u8]), Unexpected>
     ensures ok { IfOk result (λ r. ReadsArgument (Finds protocol_of) text.now r.0 r.1.now) }
-    ensures err { IfErr result (λ e. RefusesArgument (Finds protocol_of) text.now e.left) }
+    ensures err { IfErr result (λ e. RefusesArgument (Finds protocol_of) text.now e.left
+        × (e.expected ≡ expects.Protocol)) }
 {
     let word = match first_word(text) {
         Some(word) => word,
@@ -88,7 +92,8 @@ pub fn read_protocol(text: &[u8]) -> Result<(u8, &[u8]), Unexpected>
 /// Reads a number of at most `most`.
 pub fn read_number(text: &[u8], most: u64, expected: Expected) -> Result<(u64, &[u8]), Unexpected>
     ensures ok { IfOk result (λ r. ReadsArgument (Finds (number_up_to most)) text.now r.0 r.1.now) }
-    ensures err { IfErr result (λ e. RefusesArgument (Finds (number_up_to most)) text.now e.left) }
+    ensures err { IfErr result (λ e. RefusesArgument (Finds (number_up_to most)) text.now e.left
+        × (e.expected ≡ expected)) }
 {
     let word = match first_word(text) {
         Some(word) => word,
@@ -103,7 +108,8 @@ pub fn read_number(text: &[u8], most: u64, expected: Expected) -> Result<(u64, &
 /// Reads a comparison.
 pub fn read_comparison(text: &[u8]) -> Result<(Comparison, &[u8]), Unexpected>
     ensures ok { IfOk result (λ r. ReadsArgument (Finds comparison_of) text.now r.0 r.1.now) }
-    ensures err { IfErr result (λ e. RefusesArgument (Finds comparison_of) text.now e.left) }
+    ensures err { IfErr result (λ e. RefusesArgument (Finds comparison_of) text.now e.left
+        × (e.expected ≡ expects.Comparison)) }
 {
     let word = match first_word(text) {
         Some(word) => word,
@@ -118,7 +124,8 @@ pub fn read_comparison(text: &[u8]) -> Result<(Comparison, &[u8]), Unexpected>
 /// Reads a network.
 pub fn read_network(text: &[u8]) -> Result<(Network, &[u8]), Unexpected>
     ensures ok { IfOk result (λ r. ReadsArgument IsNetworkText text.now r.0 r.1.now) }
-    ensures err { IfErr result (λ e. RefusesArgument IsNetworkText text.now e.left) }
+    ensures err { IfErr result (λ e. RefusesArgument IsNetworkText text.now e.left
+        × (e.expected ≡ expects.Network)) }
 {
     let word = match first_word(text) {
         Some(word) => word,

@@ -8,7 +8,7 @@ ghost use Rattle.ip_filter.specs.declared.filter.Step.{Step as TheStep};
 ghost use Rattle.ip_filter.specs.Grammar.{Operand, Conjunction, Disjunction, a_group, is_not, is_and, is_or};
 ghost use Rattle.ip_filter.specs.Words.{Word as Text};
 ghost use Rattle.ip_filter.specs.Reading.{IsFirstWord};
-ghost use Rattle.ip_filter.specs.Parsing.{Open, State, before, after, nothing, with_operand, or_joined, state_steps, Fits, Holds, HoldsOperand, HoldsGroup, IsFinished, ReadsOn, RefusesFrom};
+ghost use Rattle.ip_filter.specs.Parsing.{Open, State, before, after, nothing, with_operand, or_joined, state_steps, Fits, Holds, HoldsOperand, HoldsGroup, IsFinished, ReadsOn, RefusesFrom, IsDue, IsWhole};
 
 use crate::arguments::Unexpected;
 use crate::parse_term::read_term;
@@ -70,7 +70,7 @@ impl Builder {
         ensures ok { IfOk result (λ rest. (text : List ℕ) (s : State) → IsFirstWord text word.entry
             → Holds s self.old → Fits s → ReadsOn s text rest.now self.new) }
         ensures err { IfErr result (λ e. (text : List ℕ) (s : State) → IsFirstWord text word.entry
-            → Holds s self.old → RefusesFrom s text e.left) }
+            → Holds s self.old → RefusesFrom s text e.left e.expected) }
     {
         if self.has_operand {
             self.read_operator(word)
@@ -86,7 +86,7 @@ impl Builder {
             → ReadsOn (before fs f) text rest.now self.new) }
         ensures err { IfErr result (λ e. (text : List ℕ) (fs : List Open) (f : Open)
             → IsFirstWord text word.entry → Holds (before fs f) self.old
-            → RefusesFrom (before fs f) text e.left) }
+            → RefusesFrom (before fs f) text e.left e.expected) }
     {
         if is_not(word.bytes) {
             self.level.nots = self.level.nots.saturating_add(1);
@@ -119,7 +119,7 @@ impl Builder {
             → ReadsOn (after fs o c) text rest.now self.new) }
         ensures err { IfErr result (λ e. (text : List ℕ) (fs : List Open) (o : Option (Disjunction × Text)) (c : Conjunction)
             → IsFirstWord text word.entry → Holds (after fs o c) self.old
-            → RefusesFrom (after fs o c) text e.left) }
+            → RefusesFrom (after fs o c) text e.left e.expected) }
     {
         if is_and(word.bytes) {
             if self.terms >= MAX_TERMS {
@@ -183,8 +183,8 @@ impl Builder {
     /// Returns the filter at the end of its text, or what is missing there.
     pub fn finish(mut self) -> Result<Filter, Expected>
         ensures ok { IfOk result (λ x. (s : State) → Holds s self → Fits s → IsFinished s x) }
-        ensures err { IfErr result (λ e. (o : Option (Disjunction × Text)) (c : Conjunction)
-            → Holds (after [] o c) self → ⊥) }
+        ensures err { IfErr result (λ e. (s : State) → Holds s self
+            → IsDue s [] [] e × (IsWhole s → ⊥)) }
     {
         if !self.has_operand {
             return Err(Expected::Operand);

@@ -15,7 +15,7 @@ impl Filter {
     /// was expected there.
     pub fn parse(text: &[u8]) -> Result<Filter, ParseError>
         ensures ok { IfOk result (IsParsed text.now) }
-        ensures err { IfErr result (λ e. IsFirstError text.now e.offset) }
+        ensures err { IfErr result (λ e. IsFirstError text.now e.offset e.expected) }
     {
         let mut builder = Builder::new();
         let mut rest = text;

@@ -22,7 +22,8 @@ pub type ReadTerm<'a> = Result<(Term, &'a [u8]), Unexpected>;
 /// term has the keyword.
 pub fn read_term<'a>(word: &[u8], text: &'a [u8]) -> Option<ReadTerm<'a>>
     ensures ok { IfSome result (λ read. IfOk read (λ r. ReadsTerm word.now text.now r.0 r.1.now)) }
-    ensures err { IfSome result (λ read. IfErr read (λ e. RefusesTerm word.now text.now e.left)) }
+    ensures err { IfSome result (λ read. IfErr read (λ e. RefusesTerm word.now text.now e.left
+        e.expected)) }
     ensures none { IfNone result ((t : TheTerm) → keyword t ≡ word.now → ⊥) }
 {
     if let Some(term) = plain_term(word) {
@@ -78,7 +79,8 @@ fn read_fault(text: &[u8]) -> (Term, &[u8])
 /// Reads a term whose keyword a number or a name follows; `None` if the keyword is another.
 fn read_number_term<'a>(word: &[u8], text: &'a [u8]) -> Option<ReadTerm<'a>>
     ensures ok { IfSome result (λ read. IfOk read (λ r. ReadsTerm word.now text.now r.0 r.1.now)) }
-    ensures err { IfSome result (λ read. IfErr read (λ e. RefusesTerm word.now text.now e.left)) }
+    ensures err { IfSome result (λ read. IfErr read (λ e. RefusesTerm word.now text.now e.left
+        e.expected)) }
     ensures none { IfNone result (is_number_keyword word.now ≡ false) }
 {
     if word == b"version".as_slice() {
@@ -117,7 +119,8 @@ fn read_number_term<'a>(word: &[u8], text: &'a [u8]) -> Option<ReadTerm<'a>>
 /// Reads a comparison and a number.
 fn read_count(text: &[u8]) -> Result<((Comparison, u64), &[u8]), Unexpected>
     ensures ok { IfOk result (λ r. ReadsArguments AreCompared text.now r.0 r.1.now) }
-    ensures err { IfErr result (λ e. RefusesArguments AreCompared text.now e.left) }
+    ensures err { IfErr result (λ e. RefusesArguments AreCompared is_count_keyword
+        text.now e.left e.expected) }
 {
     match read_comparison(text) {
         Ok((comparison, rest)) => match read_number(rest, u64::MAX, Expected::Count) {
@@ -131,7 +134,8 @@ fn read_count(text: &[u8]) -> Result<((Comparison, u64), &[u8]), Unexpected>
 /// Reads a term whose keyword a comparison follows; `None` if the keyword is another.
 fn read_count_term<'a>(word: &[u8], text: &'a [u8]) -> Option<ReadTerm<'a>>
     ensures ok { IfSome result (λ read. IfOk read (λ r. ReadsTerm word.now text.now r.0 r.1.now)) }
-    ensures err { IfSome result (λ read. IfErr read (λ e. RefusesTerm word.now text.now e.left)) }
+    ensures err { IfSome result (λ read. IfErr read (λ e. RefusesTerm word.now text.now e.left
+        e.expected)) }
     ensures none { IfNone result (is_count_keyword word.now ≡ false) }
 {
     if word == b"headers".as_slice() {
@@ -161,7 +165,8 @@ fn read_count_term<'a>(word: &[u8], text: &'a [u8]) -> Option<ReadTerm<'a>>
 /// Reads a term whose keyword a network follows; `None` if the keyword is another.
 fn read_network_term<'a>(word: &[u8], text: &'a [u8]) -> Option<ReadTerm<'a>>
     ensures ok { IfSome result (λ read. IfOk read (λ r. ReadsTerm word.now text.now r.0 r.1.now)) }
-    ensures err { IfSome result (λ read. IfErr read (λ e. RefusesTerm word.now text.now e.left)) }
+    ensures err { IfSome result (λ read. IfErr read (λ e. RefusesTerm word.now text.now e.left
+        e.expected)) }
     ensures none { IfNone result (is_network_keyword word.now ≡ false) }
 {
     if word == b"src".as_slice() {

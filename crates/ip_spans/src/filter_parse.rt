@@ -21,11 +21,12 @@ pub struct FilterError {
 }
 
 /// Parses the text of a filter, as `ip_filter::Filter::parse` does, and stores its steps in `filter`. The error says
-/// what was expected where. After an error `filter` is unchanged.
+/// what was expected where, as that of `parse` does. After an error `filter` is unchanged.
 pub fn parse_filter(text: &[u8], filter: &mut FilterNumbers) -> Result<(), FilterError>
     ensures ok { IfOk result (λ _. (f : TheFilter) × IsParsed text.now f
         × (steps_in filter.new ≡ steps_of f)) }
-    ensures err { IfErr result (λ e. IsFirstError text.now e.offset) }
+    ensures err { IfErr result (λ e. (x : WasExpected) × (e.expected ≡ expected_code x)
+        × IsFirstError text.now e.offset x) }
     ensures same { IfErr result (λ _. filter.new ≡ filter.old) }
 {
     match Filter::parse(text) {

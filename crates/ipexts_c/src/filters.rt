@@ -5,7 +5,8 @@ ghost use Rattle.ip_filter.specs.Truth.{holds};
 ghost use Rattle.ip_filter.specs.Formula.{read_after, last_holds, steps_of};
 ghost use Rattle.ip_filter.specs.Parsed.{IsParsed, IsFirstError};
 ghost use Rattle.ip_filter.specs.declared.filter.Filter.{Filter as TheFilter};
-ghost use Rattle.ip_spans.specs.FilterNumbers.{steps_in};
+ghost use Rattle.ip_filter.specs.declared.parse_error.Expected.{Expected as WasExpected};
+ghost use Rattle.ip_spans.specs.FilterNumbers.{steps_in, expected_code};
 
 use crate::bytes::Bytes;
 use ip_spans::{
@@ -23,7 +24,8 @@ pub extern "C" fn wolfaren_parse_filter(
     ensures filter { IsTrue result → (f : TheFilter) × IsParsed text.now f
         × (steps_in filter.new ≡ steps_of f) }
     ensures no_error { IsTrue result → error.new ≡ error.old }
-    ensures error { result ≡ false → IsFirstError text.now error.new.offset }
+    ensures error { result ≡ false → (x : WasExpected) × (error.new.expected ≡ expected_code x)
+        × IsFirstError text.now error.new.offset x }
     ensures same { result ≡ false → filter.new ≡ filter.old }
 {
     match parse_filter(text, filter) {

@@ -1,11 +1,11 @@
-use Rattle.ip_spec.proofs.Common.{sym}
+use Rattle.ip_spec.proofs.Common.{sym, refl}
 use Rattle.ip_filter.specs.Numbers.{protocol_of}
 use Rattle.ip_filter.specs.Grammar.{Finds}
 use Rattle.ip_filter.proofs.ArgumentLemmas.{missing, nothing_found, this_word}
 use Rattle.ip_filter.proofs.arguments.read_protocol.Goals as goal
 
 pub returns-in-None-clause-err : goal.returns-in-None-clause-err
-returns-in-None-clause-err c = rw c.missing.ensures (missing c.args.text.now (Finds protocol_of) c.in-None.ensures.none)
+returns-in-None-clause-err c = rw c.missing.ensures (missing c.args.text.now (Finds protocol_of) c.in-None.ensures.none, refl)
 
 pub returns-in-Some-parse_protocol-clause-ok : goal.returns-in-Some-parse_protocol-clause-ok
 returns-in-Some-parse_protocol-clause-ok c =
@@ -13,4 +13,4 @@ returns-in-Some-parse_protocol-clause-ok c =
 
 pub returns-in-None-parse_protocol-clause-err : goal.returns-in-None-parse_protocol-clause-err
 returns-in-None-parse_protocol-clause-err c =
-    rw c.unexpected.ensures (nothing_found _ c.in-Some.word c.in-Some.ensures.some protocol_of (sym c.in-None-parse_protocol.ensures))
+    rw c.unexpected.ensures (nothing_found _ c.in-Some.word c.in-Some.ensures.some protocol_of (sym c.in-None-parse_protocol.ensures), refl)

@@ -5,7 +5,7 @@ pub returns-in-Ok-read_number-clause-ok : goal.returns-in-Ok-read_number-clause-
 returns-in-Ok-read_number-clause-ok c = count_read _ _ _ c.in-Ok.ensures.ok _ _ c.in-Ok-read_number.ensures.ok
 
 pub returns-in-Err-read_number-clause-err : goal.returns-in-Err-read_number-clause-err
-returns-in-Err-read_number-clause-err c = no_number _ _ _ c.in-Ok.ensures.ok _ c.in-Err-read_number.ensures.err
+returns-in-Err-read_number-clause-err c = no_number _ _ _ c.in-Ok.ensures.ok _ _ c.in-Err-read_number.ensures.err
 
 pub returns-in-Err-clause-err : goal.returns-in-Err-clause-err
-returns-in-Err-clause-err c = no_comparison _ _ c.in-Err.ensures.err
+returns-in-Err-clause-err c = no_comparison _ _ _ c.in-Err.ensures.err

@@ -12,7 +12,7 @@ returns-then-self-clause-ok c =
 pub returns-then-self-clause-err : goal.returns-then-self-clause-err
 returns-then-self-clause-err c =
     IfErr-weaker c.read_operator.result _ _
-    (λ e each text s is h. read_after_operand c.args.self.now (λ t. RefusesFrom t text e.left) c.if-self.true (λ fs o d held. each text fs o d is held) s h)
+    (λ e each text s is h. read_after_operand c.args.self.now (λ t. RefusesFrom t text e.left e.expected) c.if-self.true (λ fs o d held. each text fs o d is held) s h)
     c.read_operator.ensures.err
 
 pub returns-else-self-clause-ok : goal.returns-else-self-clause-ok
@@ -24,5 +24,5 @@ returns-else-self-clause-ok c =
 pub returns-else-self-clause-err : goal.returns-else-self-clause-err
 returns-else-self-clause-err c =
     IfErr-weaker c.read_operand.result _ _
-    (λ e each text s is h. read_before_operand c.args.self.now (λ t. RefusesFrom t text e.left) c.if-self.false (λ fs f held. each text fs f is held) s h)
+    (λ e each text s is h. read_before_operand c.args.self.now (λ t. RefusesFrom t text e.left e.expected) c.if-self.false (λ fs f held. each text fs f is held) s h)
     c.read_operand.ensures.err

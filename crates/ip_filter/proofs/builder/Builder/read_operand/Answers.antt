@@ -21,7 +21,7 @@ returns-in-Some-Ok-clause-ok c =
 
 pub returns-in-Some-Err-clause-err : goal.returns-in-Some-Err-clause-err
 returns-in-Some-Err-clause-err c =
-    rw c.in-Some-Err.field-0-is (bad_term c.args.self.now c.args.word (search rules) (search rules) c.in-Some-Err.unexpected.left (rw c.in-Some-Err.field-0-is at c.in-Some-Err.ensures.err))
+    rw c.in-Some-Err.field-0-is (bad_term c.args.self.now c.args.word (search rules) (search rules) c.in-Some-Err.unexpected.left c.in-Some-Err.unexpected.expected (rw c.in-Some-Err.field-0-is at c.in-Some-Err.ensures.err))
 
 pub returns-in-None-clause-err : goal.returns-in-None-clause-err
 returns-in-None-clause-err c = rw c.unexpected-in-None.ensures (no_term c.args.self.now c.args.word (search rules) (search rules) c.in-None.ensures.none)

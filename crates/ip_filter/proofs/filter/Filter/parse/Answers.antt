@@ -28,7 +28,7 @@ overflow_sub-result c =
 pub returns-in-Err-clause-err : goal.returns-in-Err-clause-err
 returns-in-Err-clause-err c =
     let g = c.words.invariant in
-    first_error _ _ _ c.in-Some.word _ g c.in-Some.ensures.some (c.in-Err.ensures.err c.words.rest.now g.state c.in-Some.ensures.some g.holds)
+    first_error _ _ _ c.in-Some.word _ _ g c.in-Some.ensures.some (c.in-Err.ensures.err c.words.rest.now g.state c.in-Some.ensures.some g.holds)
 
 pub returns-in-Ok-finish-clause-ok : goal.returns-in-Ok-finish-clause-ok
 returns-in-Ok-finish-clause-ok c =
@@ -37,4 +37,4 @@ returns-in-Ok-finish-clause-ok c =
     parsed _ _ _ c.in-Ok-finish.filter g c.in_default.ensures.none (c.in-Ok-finish.ensures.ok g.state g.holds (fits _ _ _ g short))
 
 pub returns-in-Err-finish-clause-err : goal.returns-in-Err-finish-clause-err
-returns-in-Err-finish-clause-err c = missing_end _ _ _ c.words.invariant c.in_default.ensures.none c.in-Err-finish.ensures.err
+returns-in-Err-finish-clause-err c = missing_end _ _ _ _ c.words.invariant c.in_default.ensures.none c.in-Err-finish.ensures.err

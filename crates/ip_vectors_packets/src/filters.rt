@@ -270,10 +270,16 @@ fn formulas(rt: HostRuntime) -> Result<(), Fail> {
         assert_eq!(rt; filter.matches(bytes.as_slice()), *matches, "{name}");
         assert_eq!(rt; filter.matches_other(), *other, "{name}, not IP");
     }
-    let full = Filter {
-        steps: [yes; 127],
+    Ok(())
+}
+
+#[test]
+fn count_that_is_too_large(rt: HostRuntime) -> Result<(), Fail> {
+    let bytes = ipv6_bytes(rt.alloc(), 0, 17, &[1, 2, 3, 4])?;
+    let filter = Filter {
+        steps: [step(StepKind::Term(Term::Version(6)), 0); 127],
         count: 255,
     };
-    assert!(rt; full.matches(bytes.as_slice()), "too large a count");
+    assert!(rt; filter.matches(bytes.as_slice()));
     Ok(())
 }

@@ -1,4 +1,4 @@
-//! Links the static library `ipexts_bench`, the allocator that it needs, the walk in C, and a block of `SHIFT` bytes
+//! Links the static library `ipexts_calls`, the allocator that it needs, the walk in C, and a block of `SHIFT` bytes
 //! before the library, which moves its code.
 use std::env;
 use std::path::{Path, PathBuf};
@@ -8,7 +8,7 @@ fn main() {
     println!("cargo:rerun-if-env-changed=SHIFT");
     println!("cargo:rerun-if-env-changed=CC");
     println!("cargo:rerun-if-changed=src/walk.c");
-    link_library("ipexts_bench");
+    link_library("ipexts_calls");
     let out = PathBuf::from(env::var("OUT_DIR").expect("Cargo sets OUT_DIR"));
     compile_shift(&out);
     compile(&out, Path::new("src/walk.c"), "walk");
@@ -17,7 +17,7 @@ fn main() {
         "cargo:rustc-link-search=native={}",
         kit().join("c").display()
     );
-    for name in ["shift", "ipexts_bench", "libc_c", "walk"] {
+    for name in ["shift", "ipexts_calls", "libc_c", "walk"] {
         println!("cargo:rustc-link-lib=static={name}");
     }
 }

@@ -1,11 +1,11 @@
-//! Links the static library `ipexts_diff` and the allocator that it needs.
+//! Links the static library `ipexts_calls` and the allocator that it needs.
 use std::path::Path;
 use std::process::Command;
 
 fn main() {
-    let library = Path::new("../crates/ipexts_diff/out")
+    let library = Path::new("../crates/ipexts_calls/out")
         .canonicalize()
-        .expect("the static library is missing: `rt lib` in crates/ipexts_diff builds it");
+        .expect("the static library is missing: `rt lib` in crates/ipexts_calls builds it");
     let output = Command::new("rt")
         .arg("doc")
         .output()
@@ -16,10 +16,10 @@ fn main() {
         .expect("`rt doc` prints a file's path");
     println!(
         "cargo:rerun-if-changed={}",
-        library.join("libipexts_diff.a").display()
+        library.join("libipexts_calls.a").display()
     );
     println!("cargo:rustc-link-search=native={}", library.display());
     println!("cargo:rustc-link-search=native={}", kit.join("c").display());
-    println!("cargo:rustc-link-lib=static=ipexts_diff");
+    println!("cargo:rustc-link-lib=static=ipexts_calls");
     println!("cargo:rustc-link-lib=static=libc_c");
 }

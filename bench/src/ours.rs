@@ -1,4 +1,4 @@
-//! The calls of the static library `ipexts_bench`, and of the walk in C.
+//! The measured calls of the static library `ipexts_calls`, and those of the walk in C.
 
 /// A call for the chain at the start of the bytes, beginning with a number.
 pub type ChainCall = unsafe extern "C" fn(u8, *const u8, usize) -> u64;

@@ -1,4 +1,4 @@
-//! The calls of the static library `ipexts_diff` that return the parts of single headers.
+//! The calls of the static library `ipexts_calls` that return the parts of single headers.
 
 /// A header, or the error, as returned by the library.
 #[repr(C)]

@@ -1,4 +1,4 @@
-//! Digests of the original's results that cover every byte, like those of `ipexts_diff` for ours.
+//! Digests of the original's results that cover every byte, like those of `ipexts_calls` for ours.
 use crate::asked::{Asked, Begins};
 use crate::original::{layer_code, of_answer, of_auth, of_fault, of_header, of_len_error, with};
 use crate::original_slices::{of_ip_fault, of_ipv4_fault, of_ipv6_fault};

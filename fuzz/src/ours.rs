@@ -1,4 +1,4 @@
-//! The calls of the static library `ipexts_diff` whose digests cover every byte.
+//! The calls of the static library `ipexts_calls` whose digests cover every byte.
 unsafe extern "C" {
     pub fn ipexts_lax_bytes(start: u8, bytes: *const u8, len: usize) -> u64;
     pub fn ipexts_strict_bytes(start: u8, bytes: *const u8, len: usize) -> u64;

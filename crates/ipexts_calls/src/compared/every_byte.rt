@@ -1,16 +1,16 @@
-//! Digests in which every byte of a result counts; those of the other modules use a length and the first byte. They
-//! are too slow to be measured, and serve to compare two implementations.
+//! Digests in which every byte of a result counts; those of `digests` use a length and the first byte.
+use crate::digests::chains::{layer_code, of_auth, of_fault, of_header, of_strict_fault, with};
+use crate::digests::packets::{of_ip_fault, of_ipv4_fault, of_ipv6_fault};
+use crate::digests::structs::of_answer;
+use crate::measured::structs::{over_runs, walk};
 use etherparse_ip::{IpPayloadSlice, IpSlice, Ipv4Slice, Ipv6Slice};
-use ip_digests::digest::{layer_code, of_auth, of_fault, of_header, of_strict_fault, with};
-use ip_digests::packets::{of_ip_fault, of_ipv4_fault, of_ipv6_fault};
-use ip_digests::structs::of_answer;
 use ip_ext_chains::{
     IpNumber, Ipv4Extensions, Ipv4ExtensionsSlice, Ipv6ExtensionSlice, Ipv6Extensions,
-    Ipv6ExtensionsCursor, Ipv6ExtensionsRuns, Ipv6ExtensionsSlice, Ipv6RawExtHeader,
+    Ipv6ExtensionsCursor, Ipv6ExtensionsSlice, Ipv6RawExtHeader,
 };
 use std::alloc::Global;
 
-/// The value of a refused walk or write.
+/// The value of a refused write, or of a header that isn't there.
 const REFUSED: u64 = 256;
 
 /// Returns the digest `sum` extended by all these bytes.
@@ -95,7 +95,8 @@ fn with_payload(sum: u64, header: &Option<Ipv6RawExtHeader>) -> u64 {
 }
 
 /// Returns the digest extended by the bytes that a struct holds.
-fn with_held(sum: u64, exts: &Ipv6Extensions) -> u64 {
+#[inline(never)]
+pub fn with_held(sum: u64, exts: &Ipv6Extensions) -> u64 {
     let options = with_payload(sum, &exts.hop_by_hop_options);
     let options = with_payload(options, &exts.destination_options);
     let routing = match &exts.routing {
@@ -113,11 +114,7 @@ fn with_held(sum: u64, exts: &Ipv6Extensions) -> u64 {
 
 /// Returns the digest extended by the struct as written from a number, and the number to which it leads.
 fn with_written(alloc: Global, sum: u64, exts: &Ipv6Extensions, start: IpNumber) -> u64 {
-    let leads = match exts.next_header(start) {
-        Ok(number) => u64::from(number.0),
-        Err(_) => REFUSED,
-    };
-    let sum = with(with(sum, leads), exts.header_len() as u64);
+    let sum = with(with(sum, walk(exts, start)), exts.header_len() as u64);
     let mut out = Vec::new(alloc);
     match exts.write(&mut out, start) {
         Ok(()) => with_bytes(sum, out.as_slice()),
@@ -149,15 +146,7 @@ pub extern "C" fn ipexts_struct_linked_bytes(
 /// Runs over the runs of a chain, and what follows the last.
 #[unsafe(no_mangle)]
 pub extern "C" fn ipexts_runs_bytes(start: u8, bytes: &[u8]) -> u64 {
-    let mut runs = Ipv6ExtensionsRuns::new(IpNumber(start), bytes);
-    let mut sum = 0;
-    while let Some(exts) = runs.next() {
-        sum = with_held(sum, &exts);
-    }
-    match runs.end() {
-        Some((number, rest, _)) => with_bytes(with(sum, u64::from(number.0)), rest),
-        None => sum,
-    }
+    over_runs(IpNumber(start), bytes, true)
 }
 
 /// Runs the borrowing and the owned lax IPv4 parse, and writes the owned headers.

@@ -1,9 +1,9 @@
 //! Single headers, borrowed and owned, and their bytes. `at` chooses the bytes that are read, so that the compiler
 //! can't omit any.
-use ip_digests::digest::{
+use crate::digests::chains::{
     of_auth, of_auth_fault, of_bytes, of_fragment, of_len_error, of_raw, with,
 };
-use ip_digests::owned::{byte_at, of_owned_auth, of_owned_fragment, of_owned_raw, of_written};
+use crate::digests::owned::{byte_at, of_owned_auth, of_owned_fragment, of_owned_raw, of_written};
 use ip_ext_chains::IpNumber;
 use ip_ext_headers::{
     IpAuthHeader, IpAuthHeaderSlice, Ipv6FragmentHeader, Ipv6FragmentHeaderSlice, Ipv6RawExtHeader,

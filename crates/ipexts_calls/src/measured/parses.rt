@@ -1,5 +1,7 @@
 //! The measured ways to parse a chain. Each returns a digest of the parts read.
-use ip_digests::digest::{of_end, of_header, of_kind, of_lax, of_strict, of_strict_fault, with};
+use crate::digests::chains::{
+    of_end, of_header, of_kind, of_lax, of_strict, of_strict_fault, with,
+};
 use ip_ext_chains::{IpNumber, Ipv6ExtensionSlice, Ipv6ExtensionsCursor, Ipv6ExtensionsSlice};
 
 /// A way to parse a chain.

@@ -1,9 +1,9 @@
 //! A call for each way to parse a chain. Each returns a digest.
-use crate::parses::{
+use crate::measured::parses::{
     CursorFragment, CursorKinds, Lax, LaxFilter, LaxFragment, LaxHeaders, LaxHeadersFilter,
     LaxKinds, Parse, Strict, StrictFilter,
 };
-use crate::structs::{LaxStruct, StrictStruct};
+use crate::measured::structs::{LaxStruct, StrictStruct};
 use ip_ext_chains::IpNumber;
 
 /// Runs the lax parse; reads all of its result.

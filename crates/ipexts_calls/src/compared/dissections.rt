@@ -1,9 +1,9 @@
 //! A digest of a dissection in which every byte of the result counts.
-use crate::every_byte::with_bytes;
-use ip_digests::digest::{layer_code, of_len_error, with};
-use ip_digests::packets::of_ip_fault;
-use ip_dissect::{Dissection, End, Fragment, FragmentKind, dissect};
-use ip_ext_chains::err::Layer;
+use crate::compared::every_byte::with_bytes;
+use crate::digests::chains::{layer_code, of_len_error, with};
+use crate::digests::packets::of_ip_fault;
+use ip_dissect::{Dissection, End, Fragment, dissect};
+use ip_spans::kind_code_of;
 
 /// The value of a part that isn't there.
 const NONE: u64 = 256;
@@ -47,12 +47,7 @@ fn with_fragment(sum: u64, fragment: Option<Fragment>) -> u64 {
     let Some(fragment) = fragment else {
         return with(sum, NONE);
     };
-    let kind = match fragment.kind {
-        FragmentKind::Atomic => 1,
-        FragmentKind::First => 2,
-        FragmentKind::Middle => 3,
-        FragmentKind::Last => 4,
-    };
+    let kind = u64::from(kind_code_of(fragment.kind));
     let place = with(
         u64::from(fragment.identification),
         u64::from(fragment.offset),
@@ -60,24 +55,16 @@ fn with_fragment(sum: u64, fragment: Option<Fragment>) -> u64 {
     with(with(sum, place), kind)
 }
 
-/// Returns the digest extended by why the headers end.
+/// Returns the digest extended by why the headers end, and by the IPv6 extension header that an error is in.
 fn with_end(sum: u64, end: &End) -> u64 {
-    match end {
-        End::Payload => with(sum, 1),
-        End::LaterFragment => with(sum, 2),
-        End::Truncated { error, header } => {
-            with_layer(with(with(sum, 3), of_len_error(error)), *header)
-        }
-        End::Fault { error, header } => {
-            with_layer(with(with(sum, 4), of_ip_fault(error)), *header)
-        }
-    }
-}
-
-/// Returns the digest extended by the IPv6 extension header that an error is in.
-fn with_layer(sum: u64, header: Option<Layer>) -> u64 {
+    let (sum, header) = match end {
+        End::Payload => return with(sum, 1),
+        End::LaterFragment => return with(sum, 2),
+        End::Truncated { error, header } => (with(with(sum, 3), of_len_error(error)), header),
+        End::Fault { error, header } => (with(with(sum, 4), of_ip_fault(error)), header),
+    };
     match header {
-        Some(layer) => with(sum, u64::from(layer_code(&layer))),
+        Some(layer) => with(sum, u64::from(layer_code(layer))),
         None => with(sum, NONE),
     }
 }

@@ -1,6 +1,6 @@
 //! Whole packets dissected, and their payload found: the parts are read that a filter needs.
-use crate::whole_packets::{NO_PACKET, Packet, over_each};
-use ip_digests::digest::with;
+use crate::digests::chains::with;
+use crate::measured::whole_packets::{NO_PACKET, Packet, over_each};
 use ip_dissect::{Dissection, End, dissect, outline_packet};
 use ip_spans::find_payload;
 

@@ -1,7 +1,7 @@
 //! Whole packets: base header, extension headers and payload; all of it is read, or the parts that a filter needs.
+use crate::digests::chains::with;
+use crate::digests::packets::{of_ip, of_ip_fault, of_ipv4, of_ipv4_fault, of_ipv6, of_ipv6_fault};
 use etherparse_ip::{IpPayloadSlice, IpSlice, Ipv4Slice, Ipv6Slice};
-use ip_digests::digest::with;
-use ip_digests::packets::{of_ip, of_ip_fault, of_ipv4, of_ipv4_fault, of_ipv6, of_ipv6_fault};
 
 /// A way to parse a packet.
 pub trait Packet {

@@ -1,8 +1,9 @@
 //! The parses into a struct of six places, and calls on one.
-use crate::parses::Parse;
-use ip_digests::digest::{layer_code, of_bytes, of_fault, of_strict_fault, with};
-use ip_digests::owned::of_written;
-use ip_digests::structs::{of_answer, of_exts};
+use crate::compared::every_byte::{with_bytes, with_held};
+use crate::digests::chains::{layer_code, of_bytes, of_fault, of_strict_fault, with};
+use crate::digests::owned::of_written;
+use crate::digests::structs::{of_answer, of_exts};
+use crate::measured::parses::Parse;
 use ip_ext_chains::{IpNumber, Ipv6Extensions, Ipv6ExtensionsRuns};
 use std::alloc::Global;
 
@@ -42,10 +43,12 @@ fn relink(exts: &mut Ipv6Extensions, time: u32) {
     }
 }
 
-/// Walks the headers from number 0. It is kept out of line, so that its checks aren't hoisted out of the loop.
+/// Walks the headers from a number, and returns the number after them, or 256 if the walk fails. It is kept out of
+/// line, so that its checks aren't hoisted out of the loop. No other function calls `next_header`, so that it is
+/// inlined here.
 #[inline(never)]
-fn walk(exts: &Ipv6Extensions) -> u64 {
-    match exts.next_header(IpNumber(0)) {
+pub fn walk(exts: &Ipv6Extensions, start: IpNumber) -> u64 {
+    match exts.next_header(start) {
         Ok(number) => u64::from(number.0),
         Err(_) => 256,
     }
@@ -65,7 +68,7 @@ pub extern "C" fn ipexts_struct_next_header(bytes: &[u8], _at: usize, times: u32
     let mut sum = 0;
     for time in 0..times {
         relink(&mut exts, time);
-        sum = with(sum, walk(&exts));
+        sum = with(sum, walk(&exts, IpNumber(0)));
     }
     sum
 }
@@ -122,22 +125,34 @@ pub extern "C" fn ipexts_struct_write_new(
 /// Runs over a chain; reads all of each run, and what follows the last.
 #[unsafe(no_mangle)]
 pub extern "C" fn ipexts_runs(start: u8, bytes: &[u8]) -> u64 {
-    let mut runs = Ipv6ExtensionsRuns::new(IpNumber(start), bytes);
-    let mut sum = 0;
-    while let Some(exts) = runs.next() {
-        sum = with(sum, of_run(&exts));
-    }
-    match runs.end() {
-        Some((number, rest, fault)) => {
-            let end = with(u64::from(number.0), of_bytes(rest));
-            with(with(sum, end), u64::from(fault.is_some()))
-        }
-        None => sum,
-    }
+    over_runs(IpNumber(start), bytes, false)
 }
 
-/// Returns the digest of every part of a run.
+/// Runs over a chain, and returns the digest of each run and of what follows the last: of every part, or of every byte.
+/// No other function makes runs, so that the calls for them are inlined here.
 #[inline(never)]
-fn of_run(exts: &Ipv6Extensions) -> u64 {
-    of_exts(exts)
+pub fn over_runs(start: IpNumber, bytes: &[u8], is_every_byte: bool) -> u64 {
+    let mut runs = Ipv6ExtensionsRuns::new(start, bytes);
+    let mut sum = 0;
+    while let Some(exts) = runs.next() {
+        sum = with_run(sum, &exts, is_every_byte);
+    }
+    let Some((number, rest, fault)) = runs.end() else {
+        return sum;
+    };
+    if is_every_byte {
+        return with_bytes(with(sum, u64::from(number.0)), rest);
+    }
+    let end = with(u64::from(number.0), of_bytes(rest));
+    with(with(sum, end), u64::from(fault.is_some()))
+}
+
+/// Returns the digest `sum` extended by a run: by every part, or by every byte.
+#[inline(never)]
+fn with_run(sum: u64, exts: &Ipv6Extensions, is_every_byte: bool) -> u64 {
+    if is_every_byte {
+        with_held(sum, exts)
+    } else {
+        with(sum, of_exts(exts))
+    }
 }

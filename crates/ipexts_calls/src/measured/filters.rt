@@ -1,7 +1,7 @@
 //! Packets filtered by `header 44`, and dissected for what that filter asks.
-use crate::dissections::Dissected;
-use crate::whole_packets::{Packet, over_each};
-use ip_digests::digest::with;
+use crate::digests::chains::with;
+use crate::measured::dissections::Dissected;
+use crate::measured::whole_packets::{Packet, over_each};
 use ip_dissect::{BaseHeader, dissect};
 use ip_filter::{Filter, Step, StepKind, Term};
 

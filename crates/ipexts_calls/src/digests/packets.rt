@@ -1,5 +1,5 @@
 //! Packets and their errors.
-use crate::digest::{len_source_code, of_auth, of_bytes, of_content, of_len_error, with};
+use crate::digests::chains::{len_source_code, of_auth, of_bytes, of_content, of_len_error, with};
 use etherparse_ip::err::ip::{HeaderError, HeadersError, SliceError};
 use etherparse_ip::err::{ip_auth, ipv4, ipv6};
 use etherparse_ip::{IpPayloadSlice, IpSlice, Ipv4Slice, Ipv6Slice};

@@ -1,6 +1,6 @@
 //! IPv4 extension headers, borrowed and owned, and their bytes.
-use ip_digests::digest::{of_auth, of_auth_fault, of_bytes, with};
-use ip_digests::owned::{of_owned_auth, of_written};
+use crate::digests::chains::{of_auth, of_auth_fault, of_bytes, with};
+use crate::digests::owned::{of_owned_auth, of_written};
 use ip_ext_chains::err::ip_auth::HeaderSliceError;
 use ip_ext_chains::{IpNumber, Ipv4Extensions, Ipv4ExtensionsSlice, ip_number};
 use std::alloc::Global;

@@ -1,6 +1,9 @@
 //! Headers and chains read from bytes in memory, with and without a limit. `at` chooses the bytes of a header that
 //! are read, so that the compiler can't omit any.
-use crate::parses::Parse;
+use crate::digests::chains::{of_bytes, of_content, of_len_error, with};
+use crate::digests::owned::{of_owned_auth, of_owned_fragment, of_owned_raw};
+use crate::digests::structs::of_answer;
+use crate::measured::parses::Parse;
 use etherparse_ip::err::Layer;
 use etherparse_ip::err::ipv6_exts::{HeaderLimitedReadError, HeaderReadError};
 use etherparse_ip::io::LimitedReader;
@@ -8,9 +11,6 @@ use etherparse_ip::{
     IpAuthHeader, IpNumber, Ipv4Extensions, Ipv6Extensions, Ipv6FragmentHeader, Ipv6RawExtHeader,
     LenSource,
 };
-use ip_digests::digest::{of_bytes, of_content, of_len_error, with};
-use ip_digests::owned::{of_owned_auth, of_owned_fragment, of_owned_raw};
-use ip_digests::structs::of_answer;
 
 /// The offset of the bytes of a limited read, after an IPv6 header.
 const LAYER_OFFSET: usize = 40;

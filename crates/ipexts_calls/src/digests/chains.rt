@@ -1,4 +1,5 @@
-//! Digests: the values read, folded into one number. Equal digests of the same kind mean equal results.
+//! Borrowed chains and headers, their errors, and the parts of any digest. Equal digests of the same kind mean equal
+//! results.
 use ip_ext_chains::err::ipv6_exts::{HeaderError, HeaderSliceError};
 use ip_ext_chains::err::{Layer, LenError, ip_auth};
 use ip_ext_chains::{IpNumber, Ipv6ExtensionSlice, Ipv6ExtensionsSlice, LenSource};

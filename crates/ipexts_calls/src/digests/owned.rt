@@ -1,5 +1,5 @@
 //! Owned headers and written bytes. `at` chooses the bytes that are read, so that the compiler can't omit any.
-use crate::digest::{of_bytes, with};
+use crate::digests::chains::{of_bytes, with};
 use ip_ext_headers::{IpAuthHeader, Ipv6FragmentHeader, Ipv6RawExtHeader};
 
 /// Returns one of the bytes, at a place known only at run time.

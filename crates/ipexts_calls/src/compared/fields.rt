@@ -1,5 +1,5 @@
 //! The parts of single headers and the bytes written for them, in C structs.
-use ip_digests::digest::{layer_code, len_source_code};
+use crate::digests::chains::{layer_code, len_source_code};
 use ip_ext_chains::IpNumber;
 use ip_ext_chains::err::{LenError, ip_auth};
 use ip_ext_headers::err::ip_auth::IcvLenError;

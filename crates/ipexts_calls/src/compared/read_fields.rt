@@ -1,5 +1,6 @@
 //! The result of a read, in C structs: the value as it is written, the number after it, the bytes left, the error,
 //! and the state of the limit.
+use crate::digests::chains::{layer_code, len_source_code};
 use etherparse_ip::err::io::LimitedReadError;
 use etherparse_ip::err::{Layer, LenError, ip_auth, ipv6_exts};
 use etherparse_ip::io::{ExactRead, LimitedReader, OverRead};
@@ -7,7 +8,6 @@ use etherparse_ip::{
     IpAuthHeader, IpNumber, Ipv4Extensions, Ipv6Extensions, Ipv6FragmentHeader, Ipv6RawExtHeader,
     LenSource,
 };
-use ip_digests::digest::{layer_code, len_source_code};
 use std::alloc::Global;
 
 /// The result of a read. A field without a value is 0.
@@ -144,29 +144,10 @@ fn of_auth_read_fault(fault: &ip_auth::HeaderReadError) -> IpextsRead {
     }
 }
 
-/// Returns the result for a header in the uniform format (RFC 6564).
-fn of_raw(header: &Ipv6RawExtHeader, written: &mut Vec<u8>) -> IpextsRead {
-    let _ = header.write(written);
+/// Returns the result for a single header with this next header.
+fn of_header(next_header: IpNumber) -> IpextsRead {
     IpextsRead {
-        next_header: header.next_header.0,
-        ..NOTHING
-    }
-}
-
-/// Returns the result for an authentication header.
-fn of_auth(header: &IpAuthHeader, written: &mut Vec<u8>) -> IpextsRead {
-    let _ = header.write(written);
-    IpextsRead {
-        next_header: header.next_header.0,
-        ..NOTHING
-    }
-}
-
-/// Returns the result for a fragment header.
-fn of_fragment(header: &Ipv6FragmentHeader, written: &mut Vec<u8>) -> IpextsRead {
-    let _ = header.write(written);
-    IpextsRead {
-        next_header: header.next_header.0,
+        next_header: next_header.0,
         ..NOTHING
     }
 }
@@ -213,15 +194,24 @@ fn of_ipv6(
 fn read<T: ExactRead>(what: What, reader: &mut T, written: &mut Vec<u8>) -> IpextsRead {
     match what.kind {
         0 => match Ipv6RawExtHeader::read(reader) {
-            Ok(header) => of_raw(&header, written),
+            Ok(header) => {
+                let _ = header.write(written);
+                of_header(header.next_header)
+            }
             Err(_) => refused(IO),
         },
         1 => match IpAuthHeader::read(reader) {
-            Ok(header) => of_auth(&header, written),
+            Ok(header) => {
+                let _ = header.write(written);
+                of_header(header.next_header)
+            }
             Err(fault) => of_auth_read_fault(&fault),
         },
         2 => match Ipv6FragmentHeader::read(reader) {
-            Ok(header) => of_fragment(&header, written),
+            Ok(header) => {
+                let _ = header.write(written);
+                of_header(header.next_header)
+            }
             Err(_) => refused(IO),
         },
         3 => match Ipv4Extensions::read(reader, what.start) {
@@ -244,15 +234,24 @@ fn read_limited<T: ExactRead>(
 ) -> IpextsRead {
     match what.kind {
         0 => match Ipv6RawExtHeader::read_limited(reader) {
-            Ok(header) => of_raw(&header, written),
+            Ok(header) => {
+                let _ = header.write(written);
+                of_header(header.next_header)
+            }
             Err(fault) => of_limited_fault(&fault),
         },
         1 => match IpAuthHeader::read_limited(reader) {
-            Ok(header) => of_auth(&header, written),
+            Ok(header) => {
+                let _ = header.write(written);
+                of_header(header.next_header)
+            }
             Err(fault) => of_auth_fault(&fault),
         },
         2 => match Ipv6FragmentHeader::read_limited(reader) {
-            Ok(header) => of_fragment(&header, written),
+            Ok(header) => {
+                let _ = header.write(written);
+                of_header(header.next_header)
+            }
             Err(fault) => of_limited_fault(&fault),
         },
         3 => match Ipv4Extensions::read_limited(reader, what.start) {

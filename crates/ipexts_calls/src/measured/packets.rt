@@ -1,11 +1,11 @@
 //! Loops over IPv6 packets that follow one another in a buffer.
-use crate::parses::{
+use crate::digests::chains::with;
+use crate::measured::parses::{
     CursorFragment, CursorKinds, Lax, LaxFilter, LaxFragment, LaxHeaders, LaxHeadersFilter,
     LaxKinds, Parse, Strict, StrictFilter,
 };
-use crate::reads::{StructRead, StructReadLimited};
-use crate::structs::{LaxStruct, StrictStruct};
-use ip_digests::digest::with;
+use crate::measured::reads::{StructRead, StructReadLimited};
+use crate::measured::structs::{LaxStruct, StrictStruct};
 use ip_ext_chains::IpNumber;
 
 /// The offset of an IPv6 header's next header field (RFC 8200, section 3).

@@ -1,5 +1,5 @@
 //! The contents of a struct of six places.
-use crate::digest::{of_bytes, with};
+use crate::digests::chains::{of_bytes, with};
 use ip_ext_chains::{IpAuthHeader, IpNumber, Ipv6Extensions, Ipv6FragmentHeader, Ipv6RawExtHeader};
 
 /// Returns the digest of every part of a struct, the number to which its chain leads and the bytes after it.

@@ -1,0 +1,6 @@
+//! Calls whose complete results `diff/` and `fuzz/` compare, and which aren't measured.
+mod dissections;
+pub mod every_byte;
+mod fields;
+mod filters;
+mod read_fields;

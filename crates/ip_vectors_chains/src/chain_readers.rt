@@ -1,4 +1,5 @@
 //! Chains read from bytes in memory and from streams, with and without a limit.
+use crate::checks::{assert_bytes, assert_same, assert_that};
 use crate::readers::{STREAMS, front, stream_of};
 use ip_base::err::{Layer, LenError};
 use ip_base::{IpNumber, LenSource};
@@ -135,15 +136,11 @@ fn check_six_within(rt: &impl Abort, there: usize, limit: u8) {
     let most = usize::from(limit);
     let wanted = expected(there, most, ErrorKind::UnexpectedEof);
     let got = six_within(source, limit);
-    assert_eq!(rt; got, wanted, "{there} of memory, limit {limit}");
+    assert_same(rt, ("memory", there, limit), got, wanted);
     for (is_slow, failure) in STREAMS {
         let wanted = expected(there, most, failure.unwrap_or(ErrorKind::UnexpectedEof));
         let got = six_within(stream_of(source, is_slow, failure), limit);
-        assert_eq!(rt;
-            got,
-            wanted,
-            "{there} of a stream, limit {limit}, slow: {is_slow}, then {failure:?}"
-        );
+        assert_same(rt, ("stream", there, limit, is_slow, failure), got, wanted);
     }
 }
 
@@ -153,19 +150,20 @@ fn check_six(rt: &impl Abort, there: usize) {
     let left_over = front(&[9, 9], there.saturating_sub(52));
     let (wanted, _) = expected(there, 54, ErrorKind::UnexpectedEof);
     let mut left = source;
-    assert_eq!(rt; read(&mut left, 0, &SIX), wanted, "{there} of memory");
-    assert!(rt; there < 52 || left == left_over, "{there} of memory");
+    assert_same(rt, ("memory", there), read(&mut left, 0, &SIX), wanted);
+    assert_that(rt, ("memory", there), there < 52 || left == left_over);
     for (is_slow, failure) in STREAMS {
         let (wanted, _) = expected(there, 54, failure.unwrap_or(ErrorKind::UnexpectedEof));
         let mut stream = stream_of(source, is_slow, failure);
-        assert_eq!(rt;
+        assert_same(
+            rt,
+            ("stream", there, is_slow, failure),
             read(&mut stream, 0, &SIX),
             wanted,
-            "{there} of a stream, slow: {is_slow}, then {failure:?}"
         );
-        assert_eq!(rt; stream.failed(), there < 52, "{there} of a stream");
+        assert_same(rt, ("stream", there), stream.failed(), there < 52);
         let left = stream.into_inner().bytes;
-        assert!(rt; there < 52 || left == left_over, "{there} of a stream");
+        assert_that(rt, ("stream", there), there < 52 || left == left_over);
     }
 }
 
@@ -185,8 +183,8 @@ const TWO: [u8; 18] = [43, 0, 0, 0, 0, 0, 0, 0, 17, 0, 0, 0, 0, 0, 0, 0, 9, 9];
 #[test]
 fn two_headers_and_what_is_left(rt: HostRuntime) {
     let mut left = TWO.as_slice();
-    assert_eq!(rt; read(&mut left, 60, &TWO), Outcome::Leads(17));
-    assert_eq!(rt; left, [9, 9].as_slice());
+    assert_same(&rt, "memory", read(&mut left, 60, &TWO), Outcome::Leads(17));
+    assert_bytes(&rt, "bytes left", left, &[9, 9]);
     let len_source = LenSource::Ipv6HeaderPayloadLen;
     let layer = Layer::Ipv6ExtHeader;
     for (limit, outcome, after, unread) in [
@@ -205,18 +203,19 @@ fn two_headers_and_what_is_left(rt: HostRuntime) {
             40,
             Layer::Ipv6Header,
         );
-        assert_eq!(rt;
-            read_limited(&mut reader, 60, &TWO),
-            outcome,
-            "limit {limit}"
-        );
-        assert_eq!(rt; state(&reader), after, "limit {limit}");
-        assert_eq!(rt; reader.take_reader().len(), unread, "limit {limit}");
+        assert_same(&rt, limit, read_limited(&mut reader, 60, &TWO), outcome);
+        assert_same(&rt, limit, state(&reader), after);
+        assert_same(&rt, limit, reader.take_reader().len(), unread);
     }
     let mut reader = LimitedReader::new(&TWO[..12], 16, len_source, 40, Layer::Ipv6Header);
     let eof = Outcome::Io(ErrorKind::UnexpectedEof);
-    assert_eq!(rt; read_limited(&mut reader, 60, &TWO), eof);
-    assert_eq!(rt; state(&reader), (48, 8, 2, layer));
+    assert_same(
+        &rt,
+        "end of the bytes",
+        read_limited(&mut reader, 60, &TWO),
+        eof,
+    );
+    assert_same(&rt, "end of the bytes", state(&reader), (48, 8, 2, layer));
 }
 
 /// Start number, bytes, the number that a read returns, and the number of bytes that it leaves.
@@ -252,27 +251,30 @@ const ENDS: [(&str, u8, &[u8], u8, usize); 5] = [
 fn bytes_after_the_last_header_are_left(rt: HostRuntime) {
     for (name, start, bytes, number, unread) in ENDS {
         let mut left = bytes;
-        assert_eq!(rt;
+        assert_same(
+            &rt,
+            name,
             read(&mut left, start, bytes),
             Outcome::Leads(number),
-            "{name}"
         );
-        assert_eq!(rt; left.len(), unread, "{name}");
+        assert_same(&rt, name, left.len(), unread);
         let mut stream = stream_of(bytes, true, Some(ErrorKind::PermissionDenied));
-        assert_eq!(rt;
+        assert_same(
+            &rt,
+            name,
             read(&mut stream, start, bytes),
             Outcome::Leads(number),
-            "{name}"
         );
-        assert!(rt; !stream.failed(), "{name}");
-        assert_eq!(rt; stream.into_inner().bytes.len(), unread, "{name}");
+        assert_that(&rt, name, !stream.failed());
+        assert_same(&rt, name, stream.into_inner().bytes.len(), unread);
         let mut reader = LimitedReader::new(bytes, 100, LenSource::Slice, 7, Layer::IpHeader);
-        assert_eq!(rt;
+        assert_same(
+            &rt,
+            name,
             read_limited(&mut reader, start, bytes),
             Outcome::Leads(number),
-            "{name}"
         );
-        assert_eq!(rt; reader.take_reader().len(), unread, "{name}");
+        assert_same(&rt, name, reader.take_reader().len(), unread);
     }
 }
 
@@ -282,15 +284,17 @@ fn no_header_leaves_the_reader_as_it_was(rt: HostRuntime) {
     let mut three = [0; 3];
     assert!(rt; reader.read_exact(&mut three).is_ok());
     for start in [1, 17, 50, 58, 59, 255] {
-        assert_eq!(rt;
+        assert_same(
+            &rt,
+            start,
             read_limited(&mut reader, start, &[]),
-            Outcome::Leads(start)
+            Outcome::Leads(start),
         );
         let answer = Ipv4Extensions::read_limited(&mut reader, IpNumber(start));
         assert!(rt; matches!(answer, Ok((exts, number)) if exts.is_empty() && number.0 == start));
     }
-    assert_eq!(rt; state(&reader), (7, 50, 3, Layer::IpHeader));
-    assert_eq!(rt; reader.take_reader().len(), 51);
+    assert_same(&rt, "state", state(&reader), (7, 50, 3, Layer::IpHeader));
+    assert_same(&rt, "bytes left", reader.take_reader().len(), 51);
 }
 
 /// Hop-by-hop options that aren't first, and an authentication header of length 0.
@@ -322,16 +326,16 @@ const WRONG: [(u8, &[u8], Outcome, usize, Layer); 3] = [
 fn wrong_content(rt: HostRuntime) {
     for (start, bytes, outcome, unread, layer) in WRONG {
         let mut left = bytes;
-        assert_eq!(rt; read(&mut left, start, &[]), outcome, "{start}");
-        assert_eq!(rt; left.len(), unread, "{start}");
+        assert_same(&rt, start, &read(&mut left, start, &[]), &outcome);
+        assert_same(&rt, start, left.len(), unread);
         let mut stream = stream_of(bytes, true, Some(ErrorKind::PermissionDenied));
-        assert_eq!(rt; read(&mut stream, start, &[]), outcome, "{start}");
-        assert!(rt; !stream.failed(), "{start}");
+        assert_same(&rt, start, &read(&mut stream, start, &[]), &outcome);
+        assert_that(&rt, start, !stream.failed());
         let mut reader = LimitedReader::new(bytes, 20, LenSource::Slice, 0, Layer::Ipv6Header);
-        assert_eq!(rt; read_limited(&mut reader, start, &[]), outcome, "{start}");
+        assert_same(&rt, start, read_limited(&mut reader, start, &[]), outcome);
         let read_len = bytes.len().saturating_sub(unread);
-        assert_eq!(rt; state(&reader), (0, 20, read_len, layer), "{start}");
-        assert_eq!(rt; reader.take_reader().len(), unread, "{start}");
+        assert_same(&rt, start, state(&reader), (0, 20, read_len, layer));
+        assert_same(&rt, start, reader.take_reader().len(), unread);
     }
 }
 
@@ -347,10 +351,15 @@ fn an_ipv4_chain_has_one_header(rt: HostRuntime) -> Result<(), Fail> {
     let mut left = all;
     let answer = Ipv4Extensions::read(&mut left, IpNumber(51));
     assert!(rt; matches!(answer, Ok((exts, IpNumber(51))) if exts == parsed));
-    assert_eq!(rt; left.len(), 12);
+    assert_same(&rt, "bytes left", left.len(), 12);
     let mut reader = LimitedReader::new(all, 12, LenSource::Slice, 20, Layer::Ipv4Header);
     let answer = Ipv4Extensions::read_limited(&mut reader, IpNumber(51));
     assert!(rt; matches!(answer, Ok((exts, IpNumber(51))) if exts == parsed));
-    assert_eq!(rt; state(&reader), (20, 12, 12, Layer::IpAuthHeader));
+    assert_same(
+        &rt,
+        "state",
+        state(&reader),
+        (20, 12, 12, Layer::IpAuthHeader),
+    );
     Ok(())
 }

@@ -1,9 +1,12 @@
 //! Chains borrowed from bytes.
+use crate::checks::{assert_bytes, assert_same, assert_that};
 use ip_base::err::{Layer, LenError};
 use ip_base::{IpNumber, LenSource};
 use ip_ext_chains::err::ip_auth;
 use ip_ext_chains::err::ipv6_exts::{HeaderError, HeaderSliceError};
-use ip_ext_chains::{Ipv6ExtensionSliceIter, Ipv6ExtensionsCursor, Ipv6ExtensionsSlice};
+use ip_ext_chains::{
+    Ipv6ExtensionSlice, Ipv6ExtensionSliceIter, Ipv6ExtensionsCursor, Ipv6ExtensionsSlice,
+};
 use ip_plain::{plain_fault, plain_longest_chain};
 use std::alloc::Global;
 use std::process::Abort;
@@ -38,36 +41,84 @@ pub(crate) fn missing(
     Some((HeaderSliceError::Len(error), layer))
 }
 
+impl Row<'_> {
+    /// Returns the next number, the rest and the error.
+    fn end(&self) -> (u8, &[u8], &Option<(HeaderSliceError, Layer)>) {
+        (self.number, self.rest, &self.fault)
+    }
+}
+
 /// Checks the row with the parses of the chain crate.
 fn check_parse(rt: &impl Abort, row: &Row<'_>) -> Result<(), Fail> {
     let name = row.name;
     let start = IpNumber(row.start);
     let (chain, number, rest, fault) = Ipv6ExtensionsSlice::from_slice_lax(start, row.bytes);
-    assert_eq!(rt; number, IpNumber(row.number), "{name}");
-    assert_eq!(rt; rest, row.rest, "{name}");
-    assert_eq!(rt; fault, row.fault, "{name}");
     let len = row.bytes.len().saturating_sub(row.rest.len());
-    assert_eq!(rt; chain.slice(), &row.bytes[..len], "{name}");
-    assert_eq!(rt; chain.is_empty(), row.headers.is_empty(), "{name}");
-    let first = if row.headers.is_empty() {
-        None
-    } else {
-        Some(start)
-    };
-    assert_eq!(rt; chain.first_header(), first, "{name}");
+    assert_bytes(rt, name, chain.slice(), &row.bytes[..len]);
+    assert_same(rt, name, chain.is_empty(), row.headers.is_empty());
+    let first = row.headers.first().map(|(number, _)| *number);
+    assert_same(rt, name, chain.first_header().map(|number| number.0), first);
+    check_end(rt, name, Some((number, rest, fault)), row.end());
+    check_strict(rt, row, &chain);
+    check_iterator(rt, row, chain)
+}
+
+/// Checks that the strict parse returns this chain, or the row's error.
+fn check_strict(rt: &impl Abort, row: &Row<'_>, chain: &Ipv6ExtensionsSlice<'_>) {
+    let name = row.name;
     match (
-        Ipv6ExtensionsSlice::from_slice(start, row.bytes),
+        Ipv6ExtensionsSlice::from_slice(IpNumber(row.start), row.bytes),
         &row.fault,
     ) {
         (Ok(strict), None) => {
-            assert!(rt; strict.0 == chain, "{name}");
-            assert_eq!(rt; strict.1, number, "{name}");
-            assert_eq!(rt; strict.2, rest, "{name}");
+            assert_that(rt, name, strict.0 == *chain);
+            check_end(rt, name, Some((strict.1, strict.2, None)), row.end());
         }
-        (Err(error), Some((expected, _))) => assert_eq!(rt; error, *expected, "{name}"),
-        _ => assert!(rt; false, "{name}"),
+        (Err(error), Some((expected, _))) => assert_same(rt, name, &error, expected),
+        _ => assert_that(rt, name, false),
     }
-    check_iterator(rt, row, chain)
+}
+
+/// Checks that there is a header of this number and length, and that its copy is equal.
+fn check_header(
+    rt: &impl Abort,
+    name: &str,
+    header: Option<Ipv6ExtensionSlice<'_>>,
+    expected: (u8, usize),
+) -> Result<(), Fail> {
+    match header {
+        Some(header) => {
+            assert_same(
+                rt,
+                name,
+                (header.number().0, header.slice().len()),
+                expected,
+            );
+            assert_that(rt, name, header.clone()? == header);
+        }
+        None => assert_that(rt, name, false),
+    }
+    Ok(())
+}
+
+/// The next number, the rest and the error at the end of a chain.
+pub(crate) type End<'a> = (IpNumber, &'a [u8], Option<(HeaderSliceError, Layer)>);
+
+/// Checks that there is an end, with this next number, rest and error.
+pub(crate) fn check_end(
+    rt: &impl Abort,
+    name: &str,
+    end: Option<End<'_>>,
+    expected: (u8, &[u8], &Option<(HeaderSliceError, Layer)>),
+) {
+    match end {
+        Some((number, rest, fault)) => {
+            assert_same(rt, name, number.0, expected.0);
+            assert_bytes(rt, name, rest, expected.1);
+            assert_same(rt, name, &fault, expected.2);
+        }
+        None => assert_that(rt, name, false),
+    }
 }
 
 /// Checks that the iterator returns the row's headers, and `None` from then on.
@@ -76,23 +127,12 @@ fn check_iterator(
     row: &Row<'_>,
     chain: Ipv6ExtensionsSlice<'_>,
 ) -> Result<(), Fail> {
-    let name = row.name;
     let mut headers = chain.into_iter();
     for expected in row.headers {
-        match headers.next() {
-            Some(header) => {
-                assert_eq!(rt;
-                    (header.number().0, header.slice().len()),
-                    *expected,
-                    "{name}"
-                );
-                assert!(rt; header.clone()? == header, "{name}");
-            }
-            None => assert!(rt; false, "{name}"),
-        }
+        check_header(rt, row.name, headers.next(), *expected)?;
     }
     for _ in 0..3 {
-        assert!(rt; headers.next().is_none(), "{name}");
+        assert_that(rt, row.name, headers.next().is_none());
     }
     Ok(())
 }
@@ -105,33 +145,17 @@ fn check_cursor(rt: &impl Abort, row: &Row<'_>) -> Result<(), Fail> {
     let mut number = row.start;
     let mut rest = row.bytes;
     for expected in row.headers {
-        assert_eq!(rt; headers.next_number(), IpNumber(number), "{name}");
-        assert_eq!(rt; headers.rest(), rest, "{name}");
-        assert!(rt; headers.end().is_none(), "{name}");
-        match headers.next() {
-            Some(header) => {
-                assert_eq!(rt;
-                    (header.number().0, header.slice().len()),
-                    *expected,
-                    "{name}"
-                );
-                number = rest.first().copied().unwrap_or(0);
-                rest = rest.get(expected.1..).unwrap_or(&[]);
-            }
-            None => assert!(rt; false, "{name}"),
-        }
+        assert_same(rt, name, headers.next_number().0, number);
+        assert_bytes(rt, name, headers.rest(), rest);
+        assert_that(rt, name, headers.end().is_none());
+        check_header(rt, name, headers.next(), *expected)?;
+        number = rest.first().copied().unwrap_or(0);
+        rest = rest.get(expected.1..).unwrap_or(&[]);
     }
     for _ in 0..3 {
-        assert!(rt; headers.clone()? == headers, "{name}");
-        match headers.end() {
-            Some((number, rest, fault)) => {
-                assert_eq!(rt; number, IpNumber(row.number), "{name}");
-                assert_eq!(rt; rest, row.rest, "{name}");
-                assert_eq!(rt; fault, row.fault, "{name}");
-            }
-            None => assert!(rt; false, "{name}"),
-        }
-        assert!(rt; headers.next().is_none(), "{name}");
+        assert_that(rt, name, headers.clone()? == headers);
+        check_end(rt, name, headers.end(), row.end());
+        assert_that(rt, name, headers.next().is_none());
     }
     Ok(())
 }
@@ -140,15 +164,14 @@ fn check_cursor(rt: &impl Abort, row: &Row<'_>) -> Result<(), Fail> {
 fn check_plain(rt: &impl Abort, alloc: Global, row: &Row<'_>) -> Result<(), Fail> {
     let name = row.name;
     let plain = plain_longest_chain(alloc, row.start, row.bytes)?;
-    assert_eq!(rt; plain.number, row.number, "{name}");
-    assert_eq!(rt; plain.rest, row.rest, "{name}");
-    assert_eq!(rt; plain.headers.len(), row.headers.len(), "{name}");
+    assert_same(rt, name, plain.headers.len(), row.headers.len());
     for (header, expected) in plain.headers.iter().zip(row.headers) {
-        assert_eq!(rt; (header.number, header.bytes.len()), *expected, "{name}");
+        assert_same(rt, name, (header.number, header.bytes.len()), *expected);
     }
     let offset = row.bytes.len().saturating_sub(row.rest.len());
     let fault = plain_fault(plain.headers.is_empty(), plain.number, plain.rest, offset);
-    assert_eq!(rt; fault, row.fault, "{name}");
+    let end = (IpNumber(plain.number), plain.rest, fault);
+    check_end(rt, name, Some(end), row.end());
     Ok(())
 }
 
@@ -279,8 +302,8 @@ fn faults_at_the_start(rt: HostRuntime) -> Result<(), Fail> {
 fn defaults(rt: HostRuntime) -> Result<(), Fail> {
     let chain = Ipv6ExtensionsSlice::default();
     assert!(rt; chain.is_empty());
-    assert_eq!(rt; chain.first_header(), None);
-    assert_eq!(rt; chain.slice(), [].as_slice());
+    assert_same(&rt, "no first header", chain.first_header(), None);
+    assert_bytes(&rt, "no bytes", chain.slice(), &[]);
     let empty = chain.into_iter();
     assert!(rt; empty != Ipv6ExtensionSliceIter::default());
     assert!(rt; empty.clone()? == empty);
@@ -342,12 +365,12 @@ fn five_hundred_headers(rt: HostRuntime) -> Result<(), Fail> {
     }
     let (chain, number, rest, fault) = Ipv6ExtensionsSlice::from_slice_lax(IpNumber(44), &bytes);
     assert!(rt; number == IpNumber(17) && rest.is_empty() && fault.is_none());
-    assert_eq!(rt; chain.into_iter().count(), 512);
+    assert_same(&rt, "iterator", chain.into_iter().count(), 512);
     let cursor = Ipv6ExtensionsCursor::new(IpNumber(44), &bytes);
-    assert_eq!(rt; cursor.count(), 512);
+    assert_same(&rt, "cursor", cursor.count(), 512);
     let plain = plain_longest_chain(rt.alloc(), 44, &bytes)?;
     assert!(rt; plain.number == 17 && plain.rest.is_empty());
-    assert_eq!(rt; plain.headers.len(), 512);
+    assert_same(&rt, "plain", plain.headers.len(), 512);
     Ok(())
 }
 

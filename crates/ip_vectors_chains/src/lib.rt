@@ -6,6 +6,8 @@ mod chain_readers;
 #[cfg(test)]
 mod chains;
 #[cfg(test)]
+mod checks;
+#[cfg(test)]
 mod places;
 #[cfg(test)]
 mod readers;

@@ -1,5 +1,6 @@
 //! Chains whose headers are stored in six places.
-use crate::chains::missing;
+use crate::chains::{check_end, missing};
+use crate::checks::{assert_bytes, assert_same, assert_that};
 use ip_base::IpNumber;
 use ip_base::err::Layer;
 use ip_ext_chains::err::ip_auth;
@@ -83,28 +84,20 @@ fn check_parses(rt: &impl Abort, row: &Row<'_>) -> Result<(), Fail> {
     let start = IpNumber(row.start);
     let expected = expected(row);
     let (exts, number, rest, fault) = Ipv6Extensions::from_slice_lax(start, row.bytes);
-    assert!(rt; exts == expected, "{name}");
-    assert_eq!(rt; number, IpNumber(row.number), "{name}");
-    assert_eq!(rt;
-        rest,
-        &row.bytes[row.bytes.len().saturating_sub(row.rest)..],
-        "{name}"
-    );
-    assert_eq!(rt; fault, row.fault, "{name}");
-    assert_eq!(rt;
-        exts.header_len(),
-        row.bytes.len().saturating_sub(row.rest),
-        "{name}"
-    );
-    assert_eq!(rt; exts.is_empty(), row.bytes.len() == row.rest, "{name}");
-    assert!(rt; exts.clone()? == exts, "{name}");
+    assert_that(rt, name, exts == expected);
+    let len = row.bytes.len().saturating_sub(row.rest);
+    let end = (row.number, &row.bytes[len..], &row.fault);
+    check_end(rt, name, Some((number, rest, fault)), end);
+    assert_same(rt, name, exts.header_len(), len);
+    assert_same(rt, name, exts.is_empty(), row.bytes.len() == row.rest);
+    assert_that(rt, name, exts.clone()? == exts);
     match (Ipv6Extensions::from_slice(start, row.bytes), &row.fault) {
         (Ok((strict, number, rest)), None) => {
-            assert!(rt; strict == exts, "{name}");
-            assert_eq!(rt; (number.0, rest.len()), (row.number, row.rest), "{name}");
+            assert_that(rt, name, strict == exts);
+            assert_same(rt, name, (number.0, rest.len()), (row.number, row.rest));
         }
-        (Err(error), Some((expected, _))) => assert_eq!(rt; error, *expected, "{name}"),
-        _ => assert!(rt; false, "{name}"),
+        (Err(error), Some((expected, _))) => assert_same(rt, name, &error, expected),
+        _ => assert_that(rt, name, false),
     }
     Ok(())
 }
@@ -120,17 +113,17 @@ fn check_slice(
     let name = row.name;
     let start = IpNumber(row.start);
     let (slices, reached, left, told) = Ipv6ExtensionsSlice::from_slice_lax(start, row.bytes);
-    assert_eq!(rt; (reached.0, left.len()), (number, rest), "{name}");
-    assert_eq!(rt; told, *fault, "{name}");
+    assert_same(rt, name, (reached.0, left.len()), (number, rest));
+    assert_same(rt, name, &told, fault);
     let consumed = row.bytes.len().saturating_sub(rest);
-    assert_eq!(rt; slices.slice(), &row.bytes[..consumed], "{name}");
+    assert_bytes(rt, name, slices.slice(), &row.bytes[..consumed]);
     match (Ipv6ExtensionsSlice::from_slice(start, row.bytes), fault) {
         (Ok((strict, reached, left)), None) => {
-            assert!(rt; strict == slices, "{name}");
-            assert_eq!(rt; (reached.0, left.len()), (number, rest), "{name}");
+            assert_that(rt, name, strict == slices);
+            assert_same(rt, name, (reached.0, left.len()), (number, rest));
         }
-        (Err(error), Some((expected, _))) => assert_eq!(rt; error, *expected, "{name}"),
-        _ => assert!(rt; false, "{name}"),
+        (Err(error), Some((expected, _))) => assert_same(rt, name, &error, expected),
+        _ => assert_that(rt, name, false),
     }
     Ok(())
 }
@@ -145,8 +138,8 @@ fn check_plain(rt: &impl Abort, alloc: Global, row: &Row<'_>) -> Result<(), Fail
         read = read.saturating_add(header.bytes.len());
         number = header.bytes.first().copied().unwrap_or(number);
     }
-    assert_eq!(rt; read, row.bytes.len().saturating_sub(row.rest), "{name}");
-    assert_eq!(rt; number, row.number, "{name}");
+    assert_same(rt, name, read, row.bytes.len().saturating_sub(row.rest));
+    assert_same(rt, name, number, row.number);
     Ok(())
 }
 
@@ -377,14 +370,14 @@ fn routing_headers_are_as_long_as_their_parts(rt: HostRuntime) -> Result<(), Fai
             routing: Ipv6RawExtHeader::new_raw(IpNumber(60), routing)?,
             final_destination_options: None,
         };
-        assert_eq!(rt; headers.header_len(), alone);
+        assert_same(&rt, "routing alone", headers.header_len(), alone);
         headers.final_destination_options = Some(Ipv6RawExtHeader::new_raw(IpNumber(17), options)?);
-        assert_eq!(rt; headers.header_len(), both);
+        assert_same(&rt, "both", headers.header_len(), both);
     }
     let bounds = (
         Ipv6RoutingExtensions::MIN_LEN,
         Ipv6RoutingExtensions::MAX_LEN,
     );
-    assert_eq!(rt; bounds, (8, 4096));
+    assert_same(&rt, "bounds", bounds, (8, 4096));
     Ok(())
 }

@@ -1,4 +1,5 @@
 //! Single headers, and an IPv4 chain, read from bytes in memory and from streams, with and without a limit.
+use crate::checks::{assert_bytes, assert_same, assert_that};
 use ip_base::err::{Layer, LenError};
 use ip_base::{IpNumber, LenSource};
 use ip_ext_chains::Ipv4Extensions;
@@ -283,25 +284,32 @@ fn within<T: ExactRead + Drop>(
     (outcome, reader.read_len(), began)
 }
 
+/// Returns the layer's offset and limit, and the number of bytes read in it.
+fn extent<T>(reader: &LimitedReader<T>) -> (usize, usize, usize) {
+    (reader.layer_offset(), reader.max_len(), reader.read_len())
+}
+
 /// Reads the first bytes of a header within a limit, from memory and from each stream.
 fn check_within(rt: &impl Abort, case: Case<'_>, there: usize, limit: u16) {
     let (kind, bytes, requests, layer) = case;
     let source = front(bytes, there);
     let most = usize::from(limit);
     let (outcome, came) = expected(requests, layer, there, most, ErrorKind::UnexpectedEof);
-    assert_eq!(rt;
+    assert_same(
+        rt,
+        ("memory", kind, there, limit),
         within(kind, bytes, layer, source, limit),
         (outcome, came, true),
-        "{kind:?}, {there} of memory, limit {limit}"
     );
     for (is_slow, failure) in STREAMS {
         let at_end = failure.unwrap_or(ErrorKind::UnexpectedEof);
         let (outcome, came) = expected(requests, layer, there, most, at_end);
         let stream = stream_of(source, is_slow, failure);
-        assert_eq!(rt;
+        assert_same(
+            rt,
+            ("stream", kind, there, limit, is_slow, failure),
             within(kind, bytes, layer, stream, limit),
             (outcome, came, true),
-            "{kind:?}, {there} of a stream, limit {limit}, slow: {is_slow}, then {failure:?}"
         );
     }
 }
@@ -315,18 +323,19 @@ fn check_read(rt: &impl Abort, case: Case<'_>, there: usize) {
     let is_whole = outcome == Outcome::Header;
     let mut left = front(bytes, there);
     let got = read(kind, bytes, &mut left);
-    assert_eq!(rt; got, outcome, "{kind:?}, {there} of memory");
-    assert!(rt; !is_whole || left.is_empty(), "{kind:?}, {there} of memory");
+    assert_same(rt, ("memory", kind, there), got, outcome);
+    assert_that(rt, ("memory", kind, there), !is_whole || left.is_empty());
     for (is_slow, failure) in STREAMS {
         let at_end = failure.unwrap_or(ErrorKind::UnexpectedEof);
         let (outcome, _) = expected(requests, layer, there, most, at_end);
         let mut stream = stream_of(front(bytes, there), is_slow, failure);
-        assert_eq!(rt;
+        assert_same(
+            rt,
+            ("stream", kind, there, is_slow, failure),
             read(kind, bytes, &mut stream),
             outcome,
-            "{kind:?}, {there} of a stream, slow: {is_slow}, then {failure:?}"
         );
-        assert_eq!(rt; stream.failed(), !is_whole, "{kind:?}, {there} of a stream");
+        assert_same(rt, ("stream", kind, there), stream.failed(), !is_whole);
     }
 }
 
@@ -396,20 +405,21 @@ fn reads_go_on_after_a_failure(rt: HostRuntime) {
             for is_slow in [false, true] {
                 let lost = front(bytes, there);
                 let mut stream = failing_once(lost, is_slow, bytes);
-                assert_eq!(rt;
-                    read(kind, bytes, &mut stream),
-                    failure,
-                    "{kind:?}, {there}"
+                assert_same(
+                    &rt,
+                    (kind, there),
+                    &read(kind, bytes, &mut stream),
+                    &failure,
                 );
                 let next = read(kind, bytes, &mut stream);
-                assert_eq!(rt; next, Outcome::Header, "{kind:?}, {there}");
-                assert!(rt; stream.failed(), "{kind:?}, {there}");
+                assert_same(&rt, (kind, there), next, Outcome::Header);
+                assert_that(&rt, (kind, there), stream.failed());
                 let stream = failing_once(lost, is_slow, bytes);
                 let mut reader = LimitedReader::new(stream, 60, LenSource::Slice, 0, layer);
                 let first = read_limited(kind, bytes, &mut reader);
-                assert_eq!(rt; first, failure, "{kind:?}, {there} within a limit");
+                assert_same(&rt, ("limited", kind, there), &first, &failure);
                 let next = read_limited(kind, bytes, &mut reader);
-                assert_eq!(rt; next, Outcome::Header, "{kind:?}, {there} within a limit");
+                assert_same(&rt, ("limited", kind, there), next, Outcome::Header);
             }
         }
     }
@@ -423,19 +433,20 @@ fn bytes_after_a_header_are_left(rt: HostRuntime) -> Result<(), Fail> {
         more.extend_from_slice(bytes)?;
         more.extend_from_slice(&[1, 2])?;
         let mut left = more.as_slice();
-        assert_eq!(rt; read(kind, bytes, &mut left), Outcome::Header, "{kind:?}");
-        assert_eq!(rt; left, [1, 2].as_slice(), "{kind:?}");
+        assert_same(&rt, kind, read(kind, bytes, &mut left), Outcome::Header);
+        assert_bytes(&rt, kind, left, &[1, 2]);
         let mut stream = stream_of(more.as_slice(), true, None);
-        assert_eq!(rt; read(kind, bytes, &mut stream), Outcome::Header, "{kind:?}");
-        assert_eq!(rt; stream.into_inner().bytes, [1, 2].as_slice(), "{kind:?}");
+        assert_same(&rt, kind, read(kind, bytes, &mut stream), Outcome::Header);
+        assert_bytes(&rt, kind, stream.into_inner().bytes, &[1, 2]);
         let all = more.as_slice();
         let mut reader = LimitedReader::new(all, 60, LenSource::Slice, 0, layer);
-        assert_eq!(rt;
+        assert_same(
+            &rt,
+            kind,
             read_limited(kind, bytes, &mut reader),
             Outcome::Header,
-            "{kind:?}"
         );
-        assert_eq!(rt; reader.take_reader(), [1, 2].as_slice(), "{kind:?}");
+        assert_bytes(&rt, kind, reader.take_reader(), &[1, 2]);
     }
     Ok(())
 }
@@ -454,8 +465,8 @@ fn limits_that_end_within_a_header(rt: HostRuntime) {
         );
         let fault = missing(required_len, limit, Layer::Ipv6ExtHeader);
         let answer = read_limited(Kind::Raw, &options, &mut reader);
-        assert_eq!(rt; answer, Outcome::Len(fault), "{limit}");
-        assert_eq!(rt; reader.read_len(), read_len, "{limit}");
+        assert_same(&rt, limit, answer, Outcome::Len(fault));
+        assert_same(&rt, limit, reader.read_len(), read_len);
     }
     let authentication = [17, 2, 0, 0, 0, 0, 0, 1, 0, 0, 0, 2, 9, 8, 7, 6];
     let bytes = authentication.as_slice();
@@ -468,20 +479,22 @@ fn limits_that_end_within_a_header(rt: HostRuntime) {
         layer_start_offset: 0,
     };
     let answer = read_limited(Kind::Authentication, bytes, &mut reader);
-    assert_eq!(rt; answer, Outcome::Len(fault));
-    assert_eq!(rt; reader.read_len(), 12);
-    assert_eq!(rt; reader.take_reader(), [9, 8, 7, 6].as_slice());
+    assert_same(&rt, "authentication", answer, Outcome::Len(fault));
+    assert_same(&rt, "read", reader.read_len(), 12);
+    assert_bytes(&rt, "bytes left", reader.take_reader(), &[9, 8, 7, 6]);
 }
 
 #[test]
 fn a_length_of_zero_is_content(rt: HostRuntime) {
     let bytes = [17, 0, 0, 0, 0, 0, 0, 1, 0, 0, 0, 2, 9, 8, 7, 6];
     let mut left = bytes.as_slice();
-    assert_eq!(rt;
+    assert_same(
+        &rt,
+        "memory",
         read(Kind::Authentication, &bytes, &mut left),
-        Outcome::Content
+        Outcome::Content,
     );
-    assert_eq!(rt; left, [9, 8, 7, 6].as_slice());
+    assert_bytes(&rt, "bytes left", left, &[9, 8, 7, 6]);
     for (limit, outcome, read_len) in [
         (16, Outcome::Content, 12),
         (12, Outcome::Content, 12),
@@ -489,7 +502,7 @@ fn a_length_of_zero_is_content(rt: HostRuntime) {
     ] {
         let layer = Layer::IpAuthHeader;
         let answer = within(Kind::Authentication, &bytes, layer, bytes.as_slice(), limit);
-        assert_eq!(rt; answer, (outcome, read_len, true), "{limit}");
+        assert_same(&rt, limit, answer, (outcome, read_len, true));
     }
 }
 
@@ -503,19 +516,20 @@ fn layers_follow_one_another(rt: HostRuntime) -> Result<(), Fail> {
     let all = bytes.as_slice();
     let source = LenSource::Ipv6HeaderPayloadLen;
     let mut reader = LimitedReader::new(all, 51, source, 40, Layer::Ipv6Header);
-    assert_eq!(rt; read_limited(Kind::Raw, &RAW, &mut reader), Outcome::Header);
-    assert_eq!(rt;
-        (reader.layer_offset(), reader.max_len(), reader.read_len()),
-        (40, 51, 24)
+    assert_same(
+        &rt,
+        "raw",
+        read_limited(Kind::Raw, &RAW, &mut reader),
+        Outcome::Header,
     );
-    assert_eq!(rt;
+    assert_same(&rt, "raw", extent(&reader), (40, 51, 24));
+    assert_same(
+        &rt,
+        "fragment",
         read_limited(Kind::Fragment, &FRAGMENT, &mut reader),
-        Outcome::Header
+        Outcome::Header,
     );
-    assert_eq!(rt;
-        (reader.layer_offset(), reader.max_len(), reader.read_len()),
-        (64, 27, 8)
-    );
+    assert_same(&rt, "fragment", extent(&reader), (64, 27, 8));
     let fault = LenError {
         required_len: 20,
         len: 19,
@@ -524,11 +538,8 @@ fn layers_follow_one_another(rt: HostRuntime) -> Result<(), Fail> {
         layer_start_offset: 72,
     };
     let answer = read_limited(Kind::Authentication, &AUTHENTICATION, &mut reader);
-    assert_eq!(rt; answer, Outcome::Len(fault));
-    assert_eq!(rt;
-        (reader.layer_offset(), reader.max_len(), reader.read_len()),
-        (72, 19, 12)
-    );
+    assert_same(&rt, "authentication", answer, Outcome::Len(fault));
+    assert_same(&rt, "authentication", extent(&reader), (72, 19, 12));
     Ok(())
 }
 
@@ -538,7 +549,7 @@ fn reads_of_a_limited_reader(rt: HostRuntime) {
     let mut reader = LimitedReader::new(bytes.as_slice(), 4, LenSource::Slice, 7, Layer::IpHeader);
     let mut three = [0; 3];
     assert!(rt; reader.read_exact(&mut three).is_ok());
-    assert_eq!(rt; three, [1, 2, 3]);
+    assert_same(&rt, "first three", three, [1, 2, 3]);
     let mut two = [0; 2];
     let fault = LenError {
         required_len: 5,
@@ -548,16 +559,13 @@ fn reads_of_a_limited_reader(rt: HostRuntime) {
         layer_start_offset: 7,
     };
     let answer = reader.read_exact(&mut two).map_err(of_limit);
-    assert_eq!(rt; answer, Err(Outcome::Len(fault)));
-    assert_eq!(rt; reader.read_len(), 3);
+    assert_same(&rt, "over the limit", answer, Err(Outcome::Len(fault)));
+    assert_same(&rt, "read", reader.read_len(), 3);
     reader.start_layer(Layer::Icmpv4);
-    assert_eq!(rt;
-        (reader.layer_offset(), reader.max_len(), reader.read_len()),
-        (10, 1, 0)
-    );
+    assert_same(&rt, "new layer", extent(&reader), (10, 1, 0));
     let mut one = [0; 1];
     assert!(rt; reader.read_exact(&mut one).is_ok());
-    assert_eq!(rt; one, [4]);
-    assert_eq!(rt; reader.layer(), Layer::Icmpv4);
-    assert_eq!(rt; reader.take_reader(), [5].as_slice());
+    assert_same(&rt, "fourth", one, [4]);
+    assert_same(&rt, "layer", reader.layer(), Layer::Icmpv4);
+    assert_bytes(&rt, "bytes left", reader.take_reader(), &[5]);
 }

@@ -1,4 +1,6 @@
 //! The runs of a chain: structs of six places, one after the other.
+use crate::chains::check_end;
+use crate::checks::{assert_same, assert_that};
 use ip_base::err::{Layer, LenError};
 use ip_base::{IpNumber, LenSource};
 use ip_ext_chains::err::ipv6_exts::{HeaderError, HeaderSliceError};
@@ -79,22 +81,13 @@ fn check_runs(rt: &impl Abort, row: &Row<'_>) -> Result<(), Fail> {
     let name = row.name;
     let mut runs = Ipv6ExtensionsRuns::new(IpNumber(row.start), row.bytes);
     for expected in row.items {
-        assert!(rt; runs.end().is_none(), "{name}");
-        match runs.next() {
-            Some(exts) => assert_eq!(rt; filled(&exts), *expected, "{name}"),
-            None => assert!(rt; false, "{name}"),
-        }
+        assert_that(rt, name, runs.end().is_none());
+        let run = runs.next();
+        assert_same(rt, name, run.as_ref().map(filled), Some(*expected));
     }
     for _ in 0..3 {
-        match runs.end() {
-            Some((number, rest, fault)) => {
-                assert_eq!(rt; number, IpNumber(row.number), "{name}");
-                assert_eq!(rt; rest, row.rest, "{name}");
-                assert_eq!(rt; fault, row.fault, "{name}");
-            }
-            None => assert!(rt; false, "{name}"),
-        }
-        assert!(rt; runs.next().is_none(), "{name}");
+        check_end(rt, name, runs.end(), (row.number, row.rest, &row.fault));
+        assert_that(rt, name, runs.next().is_none());
     }
     Ok(())
 }
@@ -121,12 +114,8 @@ fn check_plain(rt: &impl Abort, alloc: Global, row: &Row<'_>) -> Result<(), Fail
         }
     }
     let name = row.name;
-    assert_eq!(rt; pieces, row.items.len(), "{name}");
-    assert_eq!(rt;
-        (plain.number, plain.rest),
-        (row.number, row.rest),
-        "{name}"
-    );
+    assert_same(rt, name, pieces, row.items.len());
+    assert_same(rt, name, (plain.number, plain.rest), (row.number, row.rest));
     Ok(())
 }
 
@@ -266,10 +255,10 @@ fn numbers_before_runs(rt: HostRuntime) -> Result<(), Fail> {
     for (name, start, bytes, numbers) in rows {
         let mut runs = Ipv6ExtensionsRuns::new(IpNumber(start), bytes);
         for number in numbers {
-            assert_eq!(&rt; runs.next_number(), IpNumber(*number), "{name}");
+            assert_same(&rt, name, runs.next_number().0, *number);
             let _run = runs.next();
         }
-        assert!(&rt; runs.end().is_some(), "{name}");
+        assert_that(&rt, name, runs.end().is_some());
     }
     Ok(())
 }
@@ -284,18 +273,11 @@ fn a_run_for_each_of_4096_headers(rt: HostRuntime) -> Result<(), Fail> {
     let mut runs = Ipv6ExtensionsRuns::new(IpNumber(44), bytes.as_slice());
     let mut count = 0u32;
     while let Some(exts) = runs.next() {
-        assert_eq!(&rt; filled(&exts), FRAGMENT);
+        assert_same(&rt, count, filled(&exts), FRAGMENT);
         count = count.saturating_add(1);
     }
-    assert_eq!(&rt; count, 4096);
-    match runs.end() {
-        Some((number, rest, fault)) => {
-            assert_eq!(&rt; number, IpNumber(17));
-            assert!(&rt; rest.is_empty());
-            assert_eq!(&rt; fault, None);
-        }
-        None => assert!(&rt; false),
-    }
+    assert_same(&rt, "runs", count, 4096);
+    check_end(&rt, "end", runs.end(), (17, &[], &None));
     for _ in 0..3 {
         assert!(&rt; runs.next().is_none());
     }

@@ -1,4 +1,5 @@
 //! Walks, links and writes of the headers in six places.
+use crate::checks::{assert_bytes, assert_same};
 use ip_base::{IpFragOffset, IpNumber};
 use ip_ext_chains::err::ipv6_exts::{ExtsWalkError, HeaderWriteError};
 use ip_ext_chains::{Ipv6Extensions, Ipv6RoutingExtensions};
@@ -45,10 +46,10 @@ fn is_refused(
 #[test]
 fn no_headers_are_written_as_no_bytes(rt: HostRuntime) -> Result<(), Fail> {
     let exts = Ipv6Extensions::default();
-    assert_eq!(rt; exts.next_header(IpNumber(0))?, IpNumber(0));
+    assert_same(&rt, "number", exts.next_header(IpNumber(0))?.0, 0);
     let mut out = Vec::new(rt.alloc());
     exts.write(&mut out, IpNumber(0))?;
-    assert_eq!(rt; out.as_slice(), [].as_slice());
+    assert_bytes(&rt, "bytes", &out, &[]);
     Ok(())
 }
 
@@ -63,9 +64,14 @@ fn a_header_that_nothing_names(rt: HostRuntime) -> Result<(), Fail> {
         missing_ext: IpNumber(44),
     };
     assert!(rt; is_refused(&exts, 60, &fault, &written));
-    assert_eq!(rt; out.as_slice(), [17, 0, 0, 0, 0, 0, 0, 0].as_slice());
+    assert_bytes(&rt, "bytes", &out, &[17, 0, 0, 0, 0, 0, 0, 0]);
     // From the fragment header's number on, both are reached.
-    assert_eq!(rt; exts.next_header(IpNumber(44))?, IpNumber(17));
+    assert_same(
+        &rt,
+        "from the fragment header",
+        exts.next_header(IpNumber(44))?.0,
+        17,
+    );
     Ok(())
 }
 
@@ -77,21 +83,26 @@ fn hop_by_hop_options_after_a_header(rt: HostRuntime) -> Result<(), Fail> {
     let mut out = Vec::new(rt.alloc());
     let written = exts.write(&mut out, IpNumber(44));
     assert!(rt; is_refused(&exts, 44, &ExtsWalkError::HopByHopNotAtStart, &written));
-    assert_eq!(rt; out.as_slice(), [0, 0, 0, 0, 0, 0, 0, 0].as_slice());
+    assert_bytes(&rt, "bytes", &out, &[0, 0, 0, 0, 0, 0, 0, 0]);
     // Without headers, the result is the start number.
     exts.hop_by_hop_options = None;
-    assert_eq!(rt; exts.next_header(IpNumber(44))?, IpNumber(0));
+    assert_same(&rt, "no headers", exts.next_header(IpNumber(44))?.0, 0);
     Ok(())
 }
 
 #[test]
 fn all_places_linked(rt: HostRuntime) -> Result<(), Fail> {
     let mut exts = all_six()?;
-    assert_eq!(rt; exts.set_next_headers(IpNumber(17)), IpNumber(0));
-    assert_eq!(rt; exts.next_header(IpNumber(0))?, IpNumber(17));
+    assert_same(
+        &rt,
+        "first number",
+        exts.set_next_headers(IpNumber(17)).0,
+        0,
+    );
+    assert_same(&rt, "last number", exts.next_header(IpNumber(0))?.0, 17);
     let mut out = Vec::new(rt.alloc());
     exts.write(&mut out, IpNumber(0))?;
-    assert_eq!(rt; out.len(), 52);
+    assert_same(&rt, "length", out.len(), 52);
     for (offset, link) in [
         (0usize, 60u8),
         (8, 43),
@@ -100,11 +111,11 @@ fn all_places_linked(rt: HostRuntime) -> Result<(), Fail> {
         (32, 60),
         (44, 17),
     ] {
-        assert_eq!(rt; out.get(offset).copied(), Some(link), "{offset}");
+        assert_same(&rt, offset, out.get(offset).copied(), Some(link));
     }
     let (again, number, rest) = Ipv6Extensions::from_slice(IpNumber(0), out.as_slice())?;
     assert!(rt; again == exts);
-    assert_eq!(rt; (number, rest.len()), (IpNumber(17), 0));
+    assert_same(&rt, "end", (number, rest.len()), (IpNumber(17), 0));
     Ok(())
 }
 
@@ -115,16 +126,16 @@ fn reserved_bits_are_written_as_zero(rt: HostRuntime) -> Result<(), Fail> {
     assert!(rt; number == IpNumber(17) && fault.is_none());
     match &exts.fragment {
         Some(header) => {
-            assert_eq!(rt; header.next_header, IpNumber(17));
-            assert_eq!(rt; header.fragment_offset.value(), 28);
+            assert_same(&rt, "next header", header.next_header.0, 17);
+            assert_same(&rt, "offset", header.fragment_offset.value(), 28);
             assert!(rt; header.more_fragments && exts.is_fragmenting_payload());
-            assert_eq!(rt; header.identification, 0x0102_0304);
+            assert_same(&rt, "identification", header.identification, 0x0102_0304);
         }
         None => assert!(rt; false, "there is no fragment header"),
     }
     let mut out = Vec::new(rt.alloc());
     exts.write(&mut out, IpNumber(44))?;
-    assert_eq!(rt; out.as_slice(), [17, 0, 0, 0xe1, 1, 2, 3, 4].as_slice());
+    assert_bytes(&rt, "bytes", &out, &[17, 0, 0, 0xe1, 1, 2, 3, 4]);
     Ok(())
 }
 
@@ -146,7 +157,7 @@ fn a_vector_grows_no_further_than_the_headers_need(rt: HostRuntime) -> Result<()
             exts.write(&mut written, first)?;
             let mut reserved = with_room(rt.alloc(), room)?;
             reserved.reserve(exts.header_len())?;
-            assert_eq!(rt; written.capacity(), reserved.capacity(), "{room}");
+            assert_same(&rt, room, written.capacity(), reserved.capacity());
         }
     }
     Ok(())

@@ -1,4 +1,5 @@
 //! Numbers, fragment offsets and the length error.
+use crate::checks::assert_same;
 use ip_base::err::{Layer, LenError, ValueTooBigError};
 use ip_base::{IpFragOffset, IpNumber, LenSource, ip_number};
 use std::test::Fail;
@@ -39,24 +40,24 @@ fn numbers_by_name(rt: HostRuntime) {
         (IpNumber(140), ip_number::SHIM6, 140),
     ];
     for (associated, listed, value) in named {
-        assert_eq!(rt; associated, listed);
-        assert_eq!(rt; listed, IpNumber::from(value));
+        assert_same(&rt, value, associated, listed);
+        assert_same(&rt, value, listed, IpNumber::from(value));
     }
 }
 
 #[test]
 fn fragment_offsets(rt: HostRuntime) -> Result<(), Fail> {
     for value in [0u16, 1, 0x1000, 0x1fff] {
-        assert_eq!(rt; IpFragOffset::try_new(value)?.value(), value);
-        assert_eq!(rt; IpFragOffset::try_from(value)?.value(), value);
+        assert_same(&rt, value, IpFragOffset::try_new(value)?.value(), value);
+        assert_same(&rt, value, IpFragOffset::try_from(value)?.value(), value);
     }
     for value in [0x2000u16, 0xffff] {
         let refused = Err(ValueTooBigError {
             actual: value,
             max_allowed: 8191,
         });
-        assert_eq!(rt; IpFragOffset::try_new(value), refused);
-        assert_eq!(rt; IpFragOffset::try_from(value), refused);
+        assert_same(&rt, value, &IpFragOffset::try_new(value), &refused);
+        assert_same(&rt, value, &IpFragOffset::try_from(value), &refused);
     }
     Ok(())
 }
@@ -77,12 +78,14 @@ fn offset_is_added_to_the_layer(rt: HostRuntime) {
         layer: Layer::Icmpv4,
         layer_start_offset: 203,
     };
-    assert_eq!(rt; error.add_offset(200), moved);
+    assert_same(&rt, "moved", error.add_offset(200), moved);
 }
 
 #[test]
 fn names_are_the_variants(rt: HostRuntime) {
-    assert_eq!(rt; Layer::Ipv6RouteHeader.name(), "Ipv6RouteHeader");
-    assert_eq!(rt; Layer::Icmpv4.name(), "Icmpv4");
-    assert_eq!(rt; LenSource::Ipv4HeaderTotalLen.name(), "Ipv4HeaderTotalLen");
+    let route = Layer::Ipv6RouteHeader;
+    assert_same(&rt, "route", route.name(), "Ipv6RouteHeader");
+    assert_same(&rt, "ICMPv4", Layer::Icmpv4.name(), "Icmpv4");
+    let source = LenSource::Ipv4HeaderTotalLen;
+    assert_same(&rt, "source", source.name(), "Ipv4HeaderTotalLen");
 }

@@ -1,4 +1,5 @@
 //! Calls that need no memory, on a heap without free memory.
+use crate::checks::{assert_bytes, assert_same, assert_that};
 use crate::long_chains::SIX;
 use crate::memory::{six_headers, take_all};
 use etherparse_ip::err::ipv6_exts::{HeaderError, HeaderSliceError};
@@ -62,38 +63,30 @@ fn check_chain(rt: &impl Abort, row: Row<'_>) {
     let (start, bytes, (len, next), (places_len, places_next), fault, ends_before) = row;
     let start = IpNumber(start);
     let (chain, number, rest, error) = Ipv6ExtensionsSlice::from_slice_lax(start, bytes);
-    assert_eq!(rt; (chain.slice().len(), number.0), (len, next), "{bytes:?}");
-    assert_eq!(rt; Some(rest), bytes.get(len..), "{bytes:?}");
-    assert_eq!(rt;
-        error,
-        fault.map(|(error, layer)| (error_of(error), layer)),
-        "{bytes:?}"
-    );
+    assert_same(rt, bytes, (chain.slice().len(), number.0), (len, next));
+    assert_same(rt, bytes, Some(rest), bytes.get(len..));
     let strict = Ipv6ExtensionsSlice::from_slice(start, bytes).err();
-    assert_eq!(rt;
-        strict,
-        fault.map(|(error, _)| error_of(error)),
-        "{bytes:?}"
-    );
+    check_fault(rt, bytes, error, strict, fault);
     let fault = if ends_before { None } else { fault };
     let (exts, number, rest, error) = Ipv6Extensions::from_slice_lax(start, bytes);
-    assert_eq!(rt;
-        (exts.header_len(), number.0),
-        (places_len, places_next),
-        "{bytes:?}"
-    );
-    assert_eq!(rt; Some(rest), bytes.get(places_len..), "{bytes:?}");
-    assert_eq!(rt;
-        error,
-        fault.map(|(error, layer)| (error_of(error), layer)),
-        "{bytes:?}"
-    );
+    let end = (exts.header_len(), number.0);
+    assert_same(rt, bytes, end, (places_len, places_next));
+    assert_same(rt, bytes, Some(rest), bytes.get(places_len..));
     let strict = Ipv6Extensions::from_slice(start, bytes).err();
-    assert_eq!(rt;
-        strict,
-        fault.map(|(error, _)| error_of(error)),
-        "{bytes:?}"
-    );
+    check_fault(rt, bytes, error, strict, fault);
+}
+
+/// Checks the error of the lax parse, and that the strict parse returns it.
+fn check_fault(
+    rt: &impl Abort,
+    bytes: &[u8],
+    lax: Option<(HeaderSliceError, Layer)>,
+    strict: Option<HeaderSliceError>,
+    fault: Option<(Fault, Layer)>,
+) {
+    let expected = fault.map(|(error, layer)| (error_of(error), layer));
+    assert_same(rt, bytes, lax, expected);
+    assert_same(rt, bytes, strict, fault.map(|(error, _)| error_of(error)));
 }
 
 #[test]
@@ -104,10 +97,10 @@ fn chains(rt: HostRuntime) -> Result<(), Fail> {
     let auth_error = ip_auth::HeaderSliceError::Len(too_short(12, 0, Layer::IpAuthHeader, 0));
     let (exts, number, rest, fault) = Ipv4Extensions::from_slice_lax(IpNumber(17), &[0, 1, 2, 3]);
     assert!(rt; exts.is_empty() && number.0 == 17 && rest == [0, 1, 2, 3].as_slice());
-    assert_eq!(rt; fault, None);
+    assert_same(&rt, "IPv4, no extension number", fault, None);
     let (exts, number, rest, fault) = Ipv4ExtensionsSlice::from_slice_lax(IpNumber(51), &[]);
     assert!(rt; exts.is_empty() && number.0 == 51 && rest.is_empty());
-    assert_eq!(rt; fault, Some(auth_error));
+    assert_same(&rt, "IPv4, no bytes", fault, Some(auth_error));
     for row in CHAINS {
         check_chain(&rt, row);
     }
@@ -190,10 +183,10 @@ fn links_and_runs(rt: HostRuntime) -> Result<(), Fail> {
     let mut out: Vec<u8, &LocalHeap> = Vec::with_capacity(&heap, 52)?;
     let _blocks = take_all(&rt, rt.alloc(), &heap)?;
     let mut exts = six_headers()?;
-    assert_eq!(rt; exts.set_next_headers(IpNumber(17)), IpNumber(0));
+    assert_same(&rt, "linked", exts.set_next_headers(IpNumber(17)).0, 0);
     assert!(rt; matches!(exts.next_header(IpNumber(0)), Ok(IpNumber(17))));
     assert!(rt; exts.write(&mut out, IpNumber(0)).is_ok());
-    assert_eq!(rt; out.as_slice(), SIX.as_slice());
+    assert_bytes(&rt, "written", &out, &SIX);
     let three = [
         44, 0, 0, 0, 0, 0, 0, 0, 44, 0, 0, 0, 0, 0, 0, 0, 17, 0, 0, 0, 0, 0, 0, 0,
     ];
@@ -201,16 +194,15 @@ fn links_and_runs(rt: HostRuntime) -> Result<(), Fail> {
     for _ in 0..3 {
         assert!(rt; matches!(runs.next(), Some(exts) if exts.fragment.is_some()));
     }
-    assert_eq!(rt; runs.end(), Some((IpNumber(17), [].as_slice(), None)));
+    let end = (IpNumber(17), [].as_slice(), None);
+    assert_same(&rt, "end after three", runs.end(), Some(end));
     let mut runs = Ipv6ExtensionsRuns::new(IpNumber(44), &[44, 0, 0, 0, 0, 0, 0, 1, 17, 0, 0]);
     assert!(rt; matches!(runs.next(), Some(exts) if exts.fragment.is_some()));
     assert!(rt; matches!(runs.next(), Some(exts) if exts.is_empty()));
     let error = HeaderSliceError::Len(too_short(8, 3, Layer::Ipv6FragHeader, 8));
     let fault = Some((error, Layer::Ipv6FragHeader));
-    assert_eq!(rt;
-        runs.end(),
-        Some((IpNumber(44), [17, 0, 0].as_slice(), fault))
-    );
+    let end = (IpNumber(44), [17, 0, 0].as_slice(), fault);
+    assert_same(&rt, "end at a truncated header", runs.end(), Some(end));
     Ok(())
 }
 
@@ -227,21 +219,20 @@ fn single_headers(rt: HostRuntime) -> Result<(), Fail> {
         bytes[1] = payload_len;
         let refused = IpAuthHeaderSlice::from_slice(front(&bytes, len)).err();
         let error = too_short(required_len, len, Layer::IpAuthHeader, 0);
-        assert_eq!(rt; refused, Some(ip_auth::HeaderSliceError::Len(error)));
+        let error = ip_auth::HeaderSliceError::Len(error);
+        assert_same(&rt, len, refused, Some(error));
     }
     let auth = IpAuthHeaderSlice::from_slice(&bytes);
     assert!(rt; matches!(auth, Ok(header) if header.raw_icv().len() == 1016));
     let raw = Ipv6RawExtHeaderSlice::from_slice(&bytes);
     assert!(rt; matches!(raw, Ok(header) if header.payload().len() == 2046));
     let refused = Ipv6RawExtHeaderSlice::from_slice(front(&bytes, 2047)).err();
-    assert_eq!(rt;
-        refused,
-        Some(too_short(2048, 2047, Layer::Ipv6ExtHeader, 0))
-    );
+    let error = too_short(2048, 2047, Layer::Ipv6ExtHeader, 0);
+    assert_same(&rt, "one byte less", refused, Some(error));
     bytes[1] = 0;
     let refused = IpAuthHeaderSlice::from_slice(front(&bytes, 12)).err();
     let zero = ip_auth::HeaderSliceError::Content(ip_auth::HeaderError::ZeroPayloadLen);
-    assert_eq!(rt; refused, Some(zero));
+    assert_same(&rt, "a length of zero", refused, Some(zero));
     Ok(())
 }
 
@@ -256,10 +247,10 @@ fn limited_reads(rt: HostRuntime) -> Result<(), Fail> {
         let mut error = too_short(required_len, limit, Layer::Ipv6ExtHeader, 40);
         error.len_source = source;
         match Ipv6RawExtHeader::read_limited(&mut reader) {
-            Err(io::LimitedReadError::Len(e)) => assert_eq!(rt; e, error),
-            _ => assert!(rt; false, "limit {limit}"),
+            Err(io::LimitedReadError::Len(e)) => assert_same(&rt, limit, e, error),
+            _ => assert_that(&rt, limit, false),
         }
-        assert_eq!(rt; reader.read_len(), read_len);
+        assert_same(&rt, limit, reader.read_len(), read_len);
     }
     Ok(())
 }
@@ -285,17 +276,18 @@ fn check_ipv6(
 ) {
     match Ipv6Slice::from_slice_lax(bytes) {
         Ok(packet) => {
-            assert_eq!(rt; packet.payload().payload, payload);
-            assert_eq!(rt; packet.payload().len_source, source);
+            assert_bytes(rt, bytes, packet.payload().payload, payload);
+            assert_same(rt, bytes, packet.payload().len_source, source);
         }
-        Err(_) => assert!(rt; false, "{bytes:?}"),
+        Err(_) => assert_that(rt, bytes, false),
     }
     match Ipv6Slice::from_slice(bytes) {
         Ok(packet) => {
-            assert!(rt; refused.is_none() && packet.payload().payload == payload);
-            assert_eq!(rt; packet.payload().len_source, source);
+            assert_that(rt, bytes, refused.is_none());
+            assert_bytes(rt, bytes, packet.payload().payload, payload);
+            assert_same(rt, bytes, packet.payload().len_source, source);
         }
-        Err(e) => assert_eq!(rt; Some(e), refused.map(ipv6::SliceError::Len)),
+        Err(e) => assert_same(rt, bytes, Some(e), refused.map(ipv6::SliceError::Len)),
     }
 }
 
@@ -323,9 +315,11 @@ fn ipv6_packets(rt: HostRuntime) -> Result<(), Fail> {
     );
     let routing = ipv6_packet(0, 60, [43, 0, 0, 0, 0, 0, 0, 0]);
     let error = ipv6::SliceError::Len(too_short(8, 0, Layer::Ipv6ExtHeader, 48));
-    assert_eq!(rt; Ipv6Slice::from_slice(&routing).err(), Some(error));
+    let refused = Ipv6Slice::from_slice(&routing).err();
+    assert_same(&rt, "strict", refused, Some(error));
     let error = ipv6::SliceError::Len(too_short(8, 0, Layer::Ipv6ExtHeader, 48));
-    assert_eq!(rt; Ipv6Slice::from_slice_lax(&routing).err(), Some(error));
+    let refused = Ipv6Slice::from_slice_lax(&routing).err();
+    assert_same(&rt, "lax", refused, Some(error));
     Ok(())
 }
 
@@ -334,7 +328,7 @@ fn ipv4_packets_and_first_bytes(rt: HostRuntime) -> Result<(), Fail> {
     let heap = LocalHeap::new(rt.alloc(), 64)?;
     let _blocks = take_all(&rt, rt.alloc(), &heap)?;
     let error = ip::SliceError::Len(too_short(1, 0, Layer::IpHeader, 0));
-    assert_eq!(rt; IpSlice::from_slice(&[]).err(), Some(error));
+    assert_same(&rt, "no bytes", IpSlice::from_slice(&[]).err(), Some(error));
     for (first, error) in [
         (
             0x44,
@@ -346,20 +340,22 @@ fn ipv4_packets_and_first_bytes(rt: HostRuntime) -> Result<(), Fail> {
         ),
     ] {
         let error = ip::SliceError::IpHeaders(ip::HeadersError::Ip(error));
-        assert_eq!(rt; IpSlice::from_slice(&[first]).err(), Some(error));
+        assert_same(&rt, first, IpSlice::from_slice(&[first]).err(), Some(error));
     }
     let error = ipv4::SliceError::Len(too_short(20, 1, Layer::Ipv4Header, 0));
-    assert_eq!(rt; Ipv4Slice::from_slice(&[0x44]).err(), Some(error));
+    let refused = Ipv4Slice::from_slice(&[0x44]).err();
+    assert_same(&rt, "one byte", refused, Some(error));
     let mut bytes = [
         0x45, 0, 0, 19, 0, 0, 0, 0, 64, 17, 0, 0, 10, 0, 0, 1, 10, 0, 0, 2, 1, 2, 3, 4,
     ];
     let mut error = too_short(20, 19, Layer::Ipv4Packet, 0);
     error.len_source = LenSource::Ipv4HeaderTotalLen;
     let refused = Ipv4Slice::from_slice(front(&bytes, 20)).err();
-    assert_eq!(rt; refused, Some(ipv4::SliceError::Len(error)));
+    let error = ipv4::SliceError::Len(error);
+    assert_same(&rt, "a total length of 19", refused, Some(error));
     bytes[3] = 22;
     match Ipv4Slice::from_slice(&bytes) {
-        Ok(packet) => assert_eq!(rt; packet.payload().payload, [1, 2].as_slice()),
+        Ok(packet) => assert_bytes(&rt, "total length 22", packet.payload().payload, &[1, 2]),
         Err(_) => assert!(rt; false, "a packet with bytes after it"),
     }
     Ok(())

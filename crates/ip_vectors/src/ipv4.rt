@@ -1,4 +1,5 @@
 //! IPv4 extension headers.
+use crate::checks::{assert_bytes, assert_same, assert_that};
 use ip_base::err::{Layer, LenError};
 use ip_base::{IpNumber, LenSource};
 use ip_ext_chains::err::ip_auth::{HeaderError, HeaderSliceError};
@@ -41,8 +42,8 @@ fn check_plain(rt: &impl Abort, row: &Row<'_>) {
         _ => None,
     };
     let name = row.name;
-    assert_eq!(rt; (header, number), (row.header, Some(row.number)), "{name}");
-    assert_eq!(rt; fault, row.fault, "{name}");
+    assert_same(rt, name, (header, number), (row.header, Some(row.number)));
+    assert_same(rt, name, &fault, &row.fault);
 }
 
 /// Checks the row with all forms of the parse.
@@ -53,30 +54,27 @@ fn check(rt: &impl Abort, row: &Row<'_>) -> Result<(), Fail> {
     let consumed = row.bytes.len().saturating_sub(row.rest);
     let answer = (IpNumber(row.number), &row.bytes[consumed..]);
     let (slices, number, rest, fault) = Ipv4ExtensionsSlice::from_slice_lax(start, row.bytes);
-    assert_eq!(rt;
-        slices.auth.map(|header| header.slice().len()),
-        row.header,
-        "{name}"
-    );
-    assert_eq!(rt; (number, rest), answer, "{name}");
-    assert_eq!(rt; fault, row.fault, "{name}");
-    assert_eq!(rt; slices.is_empty(), row.header.is_none(), "{name}");
+    let len = slices.auth.map(|header| header.slice().len());
+    assert_same(rt, name, len, row.header);
+    assert_same(rt, name, (number, rest), answer);
+    assert_same(rt, name, &fault, &row.fault);
+    assert_same(rt, name, slices.is_empty(), row.header.is_none());
     let (headers, number, rest, fault) = Ipv4Extensions::from_slice_lax(start, row.bytes);
-    assert!(rt; headers == slices.to_header(), "{name}");
-    assert_eq!(rt; (number, rest), answer, "{name}");
-    assert_eq!(rt; fault, row.fault, "{name}");
+    assert_that(rt, name, headers == slices.to_header());
+    assert_same(rt, name, (number, rest), answer);
+    assert_same(rt, name, &fault, &row.fault);
     match (
         Ipv4ExtensionsSlice::from_slice(start, row.bytes),
         Ipv4Extensions::from_slice(start, row.bytes),
         &row.fault,
     ) {
         (Ok(strict), Ok(owned), None) => {
-            assert!(rt; strict.0 == slices && owned.0 == headers, "{name}");
-            assert_eq!(rt; (strict.1, strict.2), answer, "{name}");
-            assert_eq!(rt; (owned.1, owned.2), answer, "{name}");
+            assert_that(rt, name, strict.0 == slices && owned.0 == headers);
+            assert_same(rt, name, (strict.1, strict.2), answer);
+            assert_same(rt, name, (owned.1, owned.2), answer);
         }
-        (Err(a), Err(b), Some(expected)) => assert!(rt; a == *expected && b == *expected, "{name}"),
-        _ => assert!(rt; false, "{name}"),
+        (Err(a), Err(b), Some(expected)) => assert_that(rt, name, a == *expected && b == *expected),
+        _ => assert_that(rt, name, false),
     }
     Ok(())
 }
@@ -166,32 +164,33 @@ fn linked_and_written(rt: HostRuntime) -> Result<(), Fail> {
     let mut headers = Ipv4Extensions {
         auth: Some(IpAuthHeader::new(IpNumber(17), 1, 2, &[9, 8, 7, 6])?),
     };
-    assert_eq!(rt; headers.header_len(), 16);
+    assert_same(&rt, "length", headers.header_len(), 16);
     let missing = ExtsWalkError::ExtNotReferenced {
         missing_ext: IpNumber(51),
     };
-    assert_eq!(rt; headers.next_header(IpNumber(17)), Err(missing.clone()?));
+    let refused = headers.next_header(IpNumber(17)).err();
+    assert_same(&rt, "another number", refused.as_ref(), Some(&missing));
     let mut out = Vec::new(rt.alloc());
     match headers.write(&mut out, IpNumber(17)) {
         Err(e) => assert!(rt; e.io().is_none() && e.content() == Some(&missing)),
         Ok(()) => assert!(rt; false, "another number names the header"),
     }
     assert!(rt; out.is_empty());
-    assert_eq!(rt; headers.set_next_headers(IpNumber(6)), IpNumber(51));
-    assert_eq!(rt; headers.next_header(IpNumber(51)), Ok(IpNumber(6)));
+    assert_same(&rt, "linked", headers.set_next_headers(IpNumber(6)).0, 51);
+    assert_same(&rt, "end", headers.next_header(IpNumber(51))?.0, 6);
     assert!(rt; headers.write(&mut out, IpNumber(51)).is_ok());
     let expected = [6, 2, 0, 0, 0, 0, 0, 1, 0, 0, 0, 2, 9, 8, 7, 6];
-    assert_eq!(rt; out.as_slice(), expected.as_slice());
+    assert_bytes(&rt, "written", &out, &expected);
     let copy = headers.clone()?;
     assert!(rt; copy == headers && !copy.is_empty());
 
     let mut none = Ipv4Extensions::default();
     assert!(rt; none.is_empty() && none.clone()? == none && none != copy);
-    assert_eq!(rt; none.header_len(), 0);
-    assert_eq!(rt; none.set_next_headers(IpNumber(6)), IpNumber(6));
-    assert_eq!(rt; none.next_header(IpNumber(51)), Ok(IpNumber(51)));
+    assert_same(&rt, "length of none", none.header_len(), 0);
+    assert_same(&rt, "none linked", none.set_next_headers(IpNumber(6)).0, 6);
+    assert_same(&rt, "end of none", none.next_header(IpNumber(51))?.0, 51);
     assert!(rt; none.write(&mut out, IpNumber(17)).is_ok());
-    assert_eq!(rt; out.len(), 16);
+    assert_same(&rt, "bytes written", out.len(), 16);
     assert!(rt; Ipv4ExtensionsSlice::default().to_header() == none);
     Ok(())
 }
@@ -204,10 +203,10 @@ fn a_vector_grows_no_further_than_the_header_needs(rt: HostRuntime) -> Result<()
     for headers in [Ipv4Extensions::default(), one] {
         for room in [0usize, 15, 16, 40] {
             let mut written = Vec::with_capacity(rt.alloc(), room)?;
-            assert!(rt; headers.write(&mut written, IpNumber(51)).is_ok(), "{room}");
+            assert_that(&rt, room, headers.write(&mut written, IpNumber(51)).is_ok());
             let mut reserved: Vec<u8> = Vec::with_capacity(rt.alloc(), room)?;
             reserved.reserve(headers.header_len())?;
-            assert_eq!(rt; written.capacity(), reserved.capacity(), "{room}");
+            assert_same(&rt, room, written.capacity(), reserved.capacity());
         }
     }
     Ok(())

@@ -7,6 +7,8 @@ mod base;
 #[cfg(test)]
 mod base_headers;
 #[cfg(test)]
+mod checks;
+#[cfg(test)]
 mod full_heap;
 #[cfg(test)]
 mod header_slices;

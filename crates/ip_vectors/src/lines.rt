@@ -1,4 +1,5 @@
 //! Lines and their answers, by the plain program and by `run`.
+use crate::checks::assert_that;
 use ip_plain::plain_answers;
 use ipexts_tool::run;
 use std::alloc::Global;
@@ -17,7 +18,7 @@ fn is_answered(alloc: Global, input: &[u8], answers: &[u8]) -> Result<bool, Fail
 /// Checks that both answer each input as its row says.
 fn check(rt: &impl Abort, alloc: Global, rows: &[(&[u8], &[u8])]) -> Result<(), Fail> {
     for (input, answers) in rows {
-        assert!(rt; is_answered(alloc, input, answers)?, "{input:?}");
+        assert_that(rt, input, is_answered(alloc, input, answers)?);
     }
     Ok(())
 }

@@ -1,4 +1,5 @@
 //! Long chains, and chains truncated at each byte.
+use crate::checks::{assert_same, assert_that};
 use ip_base::IpNumber;
 use ip_ext_chains::{
     Ipv6Extensions, Ipv6ExtensionsCursor, Ipv6ExtensionsRuns, Ipv6ExtensionsSlice,
@@ -21,16 +22,14 @@ fn fragment_headers(alloc: Global, count: u32) -> Result<Vec<u8>, AllocError> {
 fn four_thousand_headers(rt: HostRuntime) -> Result<(), Fail> {
     let bytes = fragment_headers(rt.alloc(), 4096)?;
     let (chain, number, rest, fault) = Ipv6ExtensionsSlice::from_slice_lax(IpNumber(44), &bytes);
-    assert_eq!(rt; chain.slice().len(), 32_768);
-    assert_eq!(rt; number, IpNumber(17));
+    assert_same(&rt, "length", chain.slice().len(), 32_768);
+    assert_same(&rt, "number", number.0, 17);
     assert!(rt; rest.is_empty() && fault.is_none());
     let mut headers = chain.into_iter();
     let mut cursor = Ipv6ExtensionsCursor::new(IpNumber(44), &bytes);
     for count in 0..4096u32 {
-        assert!(rt;
-            headers.next().is_some() && cursor.next().is_some(),
-            "{count}"
-        );
+        assert_that(&rt, count, headers.next().is_some());
+        assert_that(&rt, count, cursor.next().is_some());
     }
     for _ in 0..3 {
         assert!(rt; headers.next().is_none() && cursor.next().is_none());
@@ -64,7 +63,7 @@ fn truncated_chains_are_written_as_their_whole_headers(rt: HostRuntime) -> Resul
         let (exts, _, _, _) = Ipv6Extensions::from_slice_lax(IpNumber(0), &SIX[..kept]);
         let mut out = Vec::new(rt.alloc());
         exts.write(&mut out, IpNumber(0))?;
-        assert_eq!(rt; Some(out.as_slice()), SIX.get(..len), "{kept}");
+        assert_same(&rt, kept, Some(out.as_slice()), SIX.get(..len));
     }
     Ok(())
 }
@@ -74,14 +73,11 @@ fn the_headers_of_a_front_are_those_within_it(rt: HostRuntime) -> Result<(), Fai
     let whole = plain_longest_chain(rt.alloc(), 0, &SIX)?;
     for kept in 0..=60usize {
         let (_, count) = whole_headers(kept);
-        assert_eq!(rt;
-            whole_within(kept, whole.headers.as_slice()),
-            count,
-            "{kept}"
-        );
+        let within = whole_within(kept, whole.headers.as_slice());
+        assert_same(&rt, kept, within, count);
         let front = SIX.get(..kept).unwrap_or(&SIX);
         let (chain, _, _, _) = Ipv6ExtensionsSlice::from_slice_lax(IpNumber(0), front);
-        assert_eq!(rt; chain.into_iter().count(), count, "{kept}");
+        assert_same(&rt, kept, chain.into_iter().count(), count);
     }
     Ok(())
 }
@@ -94,19 +90,15 @@ fn nothing_comes_after_the_last(rt: HostRuntime) {
         let mut headers = chain.into_iter();
         let mut cursor = Ipv6ExtensionsCursor::new(IpNumber(0), &SIX[..kept]);
         for _ in 0..count {
-            assert!(rt;
-                headers.next().is_some() && cursor.next().is_some(),
-                "{kept}"
-            );
+            assert_that(&rt, kept, headers.next().is_some());
+            assert_that(&rt, kept, cursor.next().is_some());
         }
         let mut runs = Ipv6ExtensionsRuns::new(IpNumber(0), &SIX[..kept]);
-        assert!(rt; runs.next().is_some(), "{kept}");
+        assert_that(&rt, kept, runs.next().is_some());
         for _ in 0..3 {
-            assert!(rt;
-                headers.next().is_none() && cursor.next().is_none(),
-                "{kept}"
-            );
-            assert!(rt; runs.next().is_none(), "{kept}");
+            assert_that(&rt, kept, headers.next().is_none());
+            assert_that(&rt, kept, cursor.next().is_none());
+            assert_that(&rt, kept, runs.next().is_none());
         }
     }
 }

@@ -1,4 +1,5 @@
 //! Writes into vectors on a heap without free memory.
+use crate::checks::{assert_bytes, assert_same};
 use crate::long_chains::SIX;
 use ip_base::{IpFragOffset, IpNumber};
 use ip_ext_chains::err::{ipv4_exts, ipv6_exts};
@@ -23,7 +24,7 @@ pub(crate) fn take_all<'a>(
             Err(_) => break,
         }
     }
-    assert_eq!(rt; heap.free(), 0);
+    assert_same(rt, "free memory", heap.free(), 0);
     Ok(blocks)
 }
 
@@ -100,20 +101,17 @@ fn check_room(rt: &impl Abort, alloc: Global, room: u16, row: &Row<'_>) -> Resul
     out.extend_from_slice(&[1, 2, 3])?;
     let blocks = take_all(rt, alloc, &heap)?;
     if room < *needed {
-        assert_eq!(rt;
-            write(item, &mut out),
-            Outcome::OutOfMemory,
-            "{name}, {room}"
-        );
+        let written = write(item, &mut out);
+        assert_same(rt, (name, room), written, Outcome::OutOfMemory);
     } else {
         expected.extend_from_slice(bytes)?;
-        assert_eq!(rt; write(item, &mut out), *outcome, "{name}, {room}");
+        assert_same(rt, (name, room), write(item, &mut out), *outcome);
     }
-    assert_eq!(rt; out.as_slice(), expected.as_slice(), "{name}, {room}");
+    assert_bytes(rt, (name, room), &out, &expected);
     drop(blocks);
     expected.extend_from_slice(bytes)?;
-    assert_eq!(rt; write(item, &mut out), *outcome, "{name}, {room}");
-    assert_eq!(rt; out.as_slice(), expected.as_slice(), "{name}, {room}");
+    assert_same(rt, (name, room), write(item, &mut out), *outcome);
+    assert_bytes(rt, (name, room), &out, &expected);
     Ok(())
 }
 

@@ -1,4 +1,5 @@
 //! Owned headers: parsed, built, changed and written.
+use crate::checks::{assert_bytes, assert_same, assert_that};
 use crate::header_slices::missing;
 use arrayvec::ArrayVec;
 use ip_base::err::{Layer, LenError};
@@ -69,13 +70,13 @@ fn raw_headers_truncated_everywhere(rt: HostRuntime) -> Result<(), Fail> {
     for length in [0u8, 1, 17, 254, 255] {
         let end = (8 * (usize::from(length) + 1)).min(2048);
         let bytes = bytes_with(length, end);
-        assert!(rt; are_truncated_raw_refused(&bytes[..end]), "{length}");
+        assert_that(&rt, length, are_truncated_raw_refused(&bytes[..end]));
         let (header, rest) = Ipv6RawExtHeader::from_slice(&bytes[..end + 2])?;
-        assert!(rt; rest == [1, 2].as_slice(), "{length}");
-        assert!(rt; is_raw_header_of(&header, &bytes[..end]), "{length}");
-        assert!(rt; header.clone()? == header, "{length}");
+        assert_that(&rt, length, rest == [1, 2].as_slice());
+        assert_that(&rt, length, is_raw_header_of(&header, &bytes[..end]));
+        assert_that(&rt, length, header.clone()? == header);
         let slice = Ipv6RawExtHeaderSlice::from_slice(&bytes)?;
-        assert!(rt; is_raw_slice_of(&slice, &header), "{length}");
+        assert_that(&rt, length, is_raw_slice_of(&slice, &header));
     }
     Ok(())
 }
@@ -129,13 +130,13 @@ fn authentication_headers_truncated_everywhere(rt: HostRuntime) -> Result<(), Fa
     for length in [1u8, 2, 17, 18, 254, 255] {
         let end = (4 * (usize::from(length) + 2)).min(1028);
         let bytes = bytes_with(length, end);
-        assert!(rt; are_truncated_auth_refused(&bytes[..end]), "{length}");
+        assert_that(&rt, length, are_truncated_auth_refused(&bytes[..end]));
         let (header, rest) = IpAuthHeader::from_slice(&bytes[..end + 2])?;
-        assert!(rt; rest == [1, 2].as_slice(), "{length}");
-        assert!(rt; is_auth_header_of(&header, &bytes[..end]), "{length}");
-        assert!(rt; header.clone()? == header, "{length}");
+        assert_that(&rt, length, rest == [1, 2].as_slice());
+        assert_that(&rt, length, is_auth_header_of(&header, &bytes[..end]));
+        assert_that(&rt, length, header.clone()? == header);
         let slice = IpAuthHeaderSlice::from_slice(&bytes)?;
-        assert!(rt; is_auth_slice_of(&slice, &header), "{length}");
+        assert_that(&rt, length, is_auth_slice_of(&slice, &header));
     }
     let zero = HeaderSliceError::Content(HeaderError::ZeroPayloadLen);
     assert!(rt; is_auth_refused(&bytes_with(0, 8), &zero));
@@ -148,20 +149,12 @@ fn made_and_written(rt: HostRuntime) -> Result<(), Fail> {
     let auth = IpAuthHeader::new(IpNumber(17), 1, 2, &[9, 8, 7, 6])?;
     auth.write(&mut out)?;
     let expected = [17, 2, 0, 0, 0, 0, 0, 1, 0, 0, 0, 2, 9, 8, 7, 6];
-    assert_eq!(rt; out.as_slice(), expected.as_slice(), "authentication");
-    assert_eq!(rt;
-        auth.to_bytes().as_slice(),
-        expected.as_slice(),
-        "authentication"
-    );
+    assert_bytes(&rt, "authentication", &out, &expected);
+    assert_bytes(&rt, "authentication", &auth.to_bytes(), &expected);
     let mut out = Vec::new(rt.alloc());
     let raw = Ipv6RawExtHeader::new_raw(IpNumber(17), &[1, 2, 3, 4, 5, 6])?;
     raw.write(&mut out)?;
-    assert_eq!(rt;
-        out.as_slice(),
-        [17, 0, 1, 2, 3, 4, 5, 6].as_slice(),
-        "common layout"
-    );
+    assert_bytes(&rt, "raw", &out, &[17, 0, 1, 2, 3, 4, 5, 6]);
     Ok(())
 }
 
@@ -187,11 +180,11 @@ fn fragment_headers_made_and_written(rt: HostRuntime) -> Result<(), Fail> {
         let mut out = Vec::new(rt.alloc());
         let offset = IpFragOffset::try_new(offset)?;
         let header = Ipv6FragmentHeader::new(IpNumber(17), offset, more, identification);
-        assert_eq!(rt; header.to_bytes(), expected, "{name}");
+        assert_same(&rt, name, header.to_bytes(), expected);
         header.write(&mut out)?;
-        assert_eq!(rt; out.as_slice(), expected.as_slice(), "{name}");
+        assert_bytes(&rt, name, &out, &expected);
         let (read, rest) = Ipv6FragmentHeader::from_slice(&expected)?;
-        assert!(rt; read == header && rest.is_empty(), "{name}");
+        assert_that(&rt, name, read == header && rest.is_empty());
     }
     Ok(())
 }
@@ -200,23 +193,25 @@ fn fragment_headers_made_and_written(rt: HostRuntime) -> Result<(), Fail> {
 fn reserved_bits_are_read_over_and_written_as_zero(rt: HostRuntime) -> Result<(), Fail> {
     let bytes = [17, 0xff, 0, 0xe1, 1, 2, 3, 4, 5];
     let (header, rest) = Ipv6FragmentHeader::from_slice(&bytes)?;
-    assert_eq!(rt; rest, [5].as_slice());
-    assert_eq!(rt; header.next_header, IpNumber(17));
-    assert_eq!(rt; header.fragment_offset.value(), 28);
+    assert_bytes(&rt, "rest", rest, &[5]);
+    assert_same(&rt, "next header", header.next_header.0, 17);
+    assert_same(&rt, "offset", header.fragment_offset.value(), 28);
     assert!(rt; header.more_fragments && header.is_fragmenting_payload());
-    assert_eq!(rt; header.identification, 0x0102_0304);
-    assert_eq!(rt; header.to_bytes(), [17, 0, 0, 0xe1, 1, 2, 3, 4]);
+    assert_same(&rt, "identification", header.identification, 0x0102_0304);
+    let written = [17, 0, 0, 0xe1, 1, 2, 3, 4];
+    assert_same(&rt, "written", header.to_bytes(), written);
     assert!(rt; header.clone()? == header);
     assert!(rt; Ipv6FragmentHeaderSlice::from_slice(&bytes)?.to_header() == header);
     for kept in 0..8usize {
         match Ipv6FragmentHeader::from_slice(&bytes[..kept]) {
-            Ok(_) => assert!(rt; false, "{kept} bytes are enough"),
-            Err(e) => assert_eq!(rt; e, missing(8, kept, Layer::Ipv6FragHeader)),
+            Ok(_) => assert_that(&rt, kept, false),
+            Err(e) => assert_same(&rt, kept, e, missing(8, kept, Layer::Ipv6FragHeader)),
         }
     }
     let (header, _) = Ipv6FragmentHeader::from_slice(&[17, 0, 0, 6, 1, 2, 3, 4])?;
     assert!(rt; !header.is_fragmenting_payload());
-    assert_eq!(rt; header.to_bytes(), [17, 0, 0, 0, 1, 2, 3, 4]);
+    let written = [17, 0, 0, 0, 1, 2, 3, 4];
+    assert_same(&rt, "no offset", header.to_bytes(), written);
     Ok(())
 }
 
@@ -244,7 +239,7 @@ fn reserved_bits_are_cleared(rt: HostRuntime) {
         let header = &mut header[..bytes.len().min(12)];
         header.copy_from_slice(&bytes[..bytes.len().min(12)]);
         clear_reserved_bits(IpNumber(number), header);
-        assert_eq!(rt; *header, *wanted, "{number}");
+        assert_bytes(&rt, number, header, wanted);
     }
 }
 
@@ -253,11 +248,11 @@ fn fragmenting_or_not(rt: HostRuntime) -> Result<(), Fail> {
     for (offset, more, fragments) in [(0, false, false), (0, true, true), (1, false, true)] {
         let offset = IpFragOffset::try_new(offset)?;
         let header = Ipv6FragmentHeader::new(IpNumber(17), offset, more, 123);
-        assert_eq!(rt; header.is_fragmenting_payload(), fragments);
+        assert_same(&rt, more, header.is_fragmenting_payload(), fragments);
         let mut exts = Ipv6Extensions::default();
         assert!(rt; !exts.is_fragmenting_payload());
         exts.fragment = Some(header);
-        assert_eq!(rt; exts.is_fragmenting_payload(), fragments);
+        assert_same(&rt, more, exts.is_fragmenting_payload(), fragments);
     }
     Ok(())
 }
@@ -273,8 +268,8 @@ fn refused_lengths(rt: HostRuntime) -> Result<(), Fail> {
     ];
     for (icv, fault) in rows {
         assert!(rt; matches!(IpAuthHeader::new(IpNumber(17), 1, 2, icv), Err(e) if e == fault));
-        assert_eq!(rt; auth.set_raw_icv(icv), Err(fault));
-        assert_eq!(rt; auth.raw_icv(), &kept[..8]);
+        assert_same(&rt, icv.len(), auth.set_raw_icv(icv), Err(fault));
+        assert_bytes(&rt, icv.len(), auth.raw_icv(), &kept[..8]);
     }
     let mut raw = Ipv6RawExtHeader::new_raw(IpNumber(17), &kept)?;
     let rows = [
@@ -286,8 +281,8 @@ fn refused_lengths(rt: HostRuntime) -> Result<(), Fail> {
         assert!(rt;
             matches!(Ipv6RawExtHeader::new_raw(IpNumber(17), payload), Err(e) if e == fault)
         );
-        assert_eq!(rt; raw.set_payload(payload), Err(fault));
-        assert_eq!(rt; raw.payload(), kept.as_slice());
+        assert_same(&rt, payload.len(), raw.set_payload(payload), Err(fault));
+        assert_bytes(&rt, payload.len(), raw.payload(), &kept);
     }
     Ok(())
 }
@@ -298,18 +293,15 @@ fn shorter_bytes_replace_longer(rt: HostRuntime) -> Result<(), Fail> {
     auth.set_raw_icv(&[9, 8, 7, 6])?;
     let other = IpAuthHeader::new(IpNumber(17), 1, 2, &[9, 8, 7, 6])?;
     assert!(rt; auth == other);
-    assert_eq!(rt; auth.to_bytes().as_slice(), other.to_bytes().as_slice());
+    assert_bytes(&rt, "authentication", &auth.to_bytes(), &other.to_bytes());
     let mut raw = Ipv6RawExtHeader::new_raw(IpNumber(17), &[1; 14])?;
     raw.set_payload(&[2; 6])?;
     let other = Ipv6RawExtHeader::new_raw(IpNumber(17), &[2; 6])?;
     assert!(rt; raw == other);
-    assert_eq!(rt; raw.to_bytes().as_slice(), other.to_bytes().as_slice());
+    assert_bytes(&rt, "raw", &raw.to_bytes(), &other.to_bytes());
     raw.next_header = IpNumber(6);
     assert!(rt; raw != other);
-    assert_eq!(rt;
-        raw.to_bytes().as_slice(),
-        [6, 0, 2, 2, 2, 2, 2, 2].as_slice()
-    );
+    assert_bytes(&rt, "changed", &raw.to_bytes(), &[6, 0, 2, 2, 2, 2, 2, 2]);
     Ok(())
 }
 
@@ -330,7 +322,7 @@ fn written_into_reserved_room(rt: HostRuntime) -> Result<(), Fail> {
         44, 1, 1, 2, 3, 4, 5, 6, 7, 8, 9, 10, 11, 12, 13, 14, 51, 0, 0, 9, 0, 0, 0, 3, 17, 2, 0, 0,
         0, 0, 0, 1, 0, 0, 0, 2, 9, 8, 7, 6,
     ];
-    assert_eq!(rt; out.as_slice(), expected.as_slice());
+    assert_bytes(&rt, "written", &out, &expected);
     Ok(())
 }
 
@@ -338,26 +330,21 @@ fn written_into_reserved_room(rt: HostRuntime) -> Result<(), Fail> {
 fn defaults_names_and_numbers(rt: HostRuntime) -> Result<(), Fail> {
     let raw: Ipv6RawExtensionHeader = Ipv6RawExtHeader::default();
     let bytes: ArrayVec<u8, 2048> = raw.to_bytes();
-    assert_eq!(rt; bytes.as_slice(), [255, 0, 0, 0, 0, 0, 0, 0].as_slice());
+    assert_bytes(&rt, "raw", &bytes, &[255, 0, 0, 0, 0, 0, 0, 0]);
     let slice: Ipv6RawExtensionHeaderSlice = Ipv6RawExtHeaderSlice::from_slice(bytes.as_slice())?;
     assert!(rt; slice.to_header() == raw);
     let auth: IpAuthenticationHeader = IpAuthHeader::default();
     let again: IPv6AuthenticationHeader = IpAuthHeader::new(IpNumber(255), 0, 0, &[])?;
     assert!(rt; auth == again);
     let bytes: ArrayVec<u8, 1028> = auth.to_bytes();
-    assert_eq!(rt;
-        bytes.as_slice(),
-        [255, 1, 0, 0, 0, 0, 0, 0, 0, 0, 0, 0].as_slice()
-    );
+    let expected = [255, 1, 0, 0, 0, 0, 0, 0, 0, 0, 0, 0];
+    assert_bytes(&rt, "authentication", &bytes, &expected);
     let slice: IpAuthenticationHeaderSlice = IpAuthHeaderSlice::from_slice(bytes.as_slice())?;
     assert!(rt; slice.to_header() == auth);
     for number in 0..=255u8 {
         let expected = matches!(number, 0 | 43 | 60 | 135 | 139 | 140);
-        assert_eq!(rt;
-            Ipv6RawExtHeader::header_type_supported(IpNumber(number)),
-            expected,
-            "{number}"
-        );
+        let is_raw = Ipv6RawExtHeader::header_type_supported(IpNumber(number));
+        assert_same(&rt, number, is_raw, expected);
     }
     Ok(())
 }

@@ -1,11 +1,12 @@
-use Rattle.ip_spec.proofs.Common.{[], ap, ◌∙◌}
+use Rattle.ip_spec.proofs.Common.{◌≡◌, ◌-◌, [], ◌++◌, length, drop, refl, ap, ◌∙◌, arith}
+use Rattle.ip_filter.specs.Words.{words}
 use Rattle.ip_dissect.specs.Dissection.{dissected}
 use Rattle.ip_filter.specs.Truth.{holds}
 use Rattle.ip_filter.specs.Formula.{last_holds, read_after}
 use Rattle.ip_uses.proofs.filters.meets_text.Goals as goal
 
-pub returns-in-Ok : goal.returns-in-Ok
-returns-in-Ok c =
+pub returns-in-Ok-clause-some : goal.returns-in-Ok-clause-some
+returns-in-Ok-clause-some c =
     let p = c.in-Ok.ensures.ok in (
       p.1.written,
       p.1.filter,
@@ -13,3 +14,11 @@ returns-in-Ok c =
       c.filter_matches.ensures
           ∙ ap (λ steps. last_holds (read_after [] steps) (λ t. holds t (dissected c.args.packet.now))) p.2 ∙ ap (λ fs. last_holds fs (λ t. holds t (dissected c.args.packet.now))) p.1.formula,
     )
+
+pub returns-in-Err-clause-none : goal.returns-in-Err-clause-none
+returns-in-Err-clause-none c =
+    let text = c.args.text.now in
+    let e = c.in-Err.ensures.err.2 in
+    let within = e.within in
+    let back : length text - (length text - c.in-Err.field-0.offset) ≡ c.in-Err.field-0.offset = omega (arith, within) in
+    λ d is same. e.none d (words (drop c.in-Err.field-0.offset text)) is (same ∙ e.place.words_before ∙ ap (λ k. e.front ++ words (drop k text)) back) refl

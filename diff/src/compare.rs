@@ -3,7 +3,7 @@ use crate::bad_lines::spoilt;
 use crate::chains;
 use crate::changes::Changes;
 use crate::forms::{answer, forms};
-use crate::headers::{original, Question, Told};
+use crate::headers::{original, Answer, Question};
 use crate::named::Difference;
 use crate::ours::Start;
 use crate::random::Random;
@@ -65,7 +65,7 @@ pub fn answers_of_tool<L: Iterator<Item = Vec<u8>>>(
         .stdout(Stdio::piped())
         .spawn()?;
     let mut asked = BufWriter::new(child.stdin.take().expect("standard input is piped"));
-    let mut told = BufReader::new(child.stdout.take().expect("standard output is piped"));
+    let mut answers = BufReader::new(child.stdout.take().expect("standard output is piped"));
     let again = lines.clone();
     let writer = std::thread::spawn(move || -> io::Result<()> {
         let mut lines = lines().peekable();
@@ -77,7 +77,7 @@ pub fn answers_of_tool<L: Iterator<Item = Vec<u8>>>(
         }
         asked.flush()
     });
-    let outcome = compare_lines(&mut told, again())?;
+    let outcome = compare_lines(&mut answers, again())?;
     if matches!(outcome, Outcome::Different(_)) {
         // The remaining lines, and the thread that waits to write them, end with this program.
         child.kill()?;
@@ -94,7 +94,7 @@ pub fn answers_of_tool<L: Iterator<Item = Vec<u8>>>(
 }
 
 fn compare_lines(
-    told: &mut impl BufRead,
+    answers: &mut impl BufRead,
     lines: impl Iterator<Item = Vec<u8>>,
 ) -> io::Result<Outcome> {
     let forms = forms();
@@ -107,7 +107,7 @@ fn compare_lines(
         }
         ours.clear();
         for _ in 0..expected.matches('\n').count() {
-            told.read_until(b'\n', &mut ours)?;
+            answers.read_until(b'\n', &mut ours)?;
         }
         if ours != expected.as_bytes() {
             let (line, ours) = (
@@ -120,7 +120,7 @@ fn compare_lines(
             )));
         }
     }
-    if told.read_until(b'\n', &mut ours)? > 0 {
+    if answers.read_until(b'\n', &mut ours)? > 0 {
         return Ok(Outcome::Different(
             "our tool answers more lines than it was asked".to_owned(),
         ));
@@ -129,7 +129,7 @@ fn compare_lines(
 }
 
 /// Compares `count` single headers. `ours` returns our results.
-pub fn single_headers(ours: impl Fn(&Question) -> Told, seed: u64, count: usize) -> Outcome {
+pub fn single_headers(ours: impl Fn(&Question) -> Answer, seed: u64, count: usize) -> Outcome {
     let mut random = Random::new(seed);
     for index in 0..count {
         let question = question(&mut random);
@@ -146,7 +146,7 @@ pub fn single_headers(ours: impl Fn(&Question) -> Told, seed: u64, count: usize)
 
 /// Compares `count` reads. `ours` returns our results.
 pub fn all_reads(
-    ours: impl Fn(&reads::Question) -> reads::Told,
+    ours: impl Fn(&reads::Question) -> reads::Answer,
     seed: u64,
     count: usize,
 ) -> Outcome {
@@ -332,24 +332,30 @@ mod tests {
     /// Falsifies each part of a read in turn, and checks that the difference is found.
     #[test]
     fn a_planted_difference_in_a_read_is_found() {
-        let plants: [fn(&mut reads::Told); 11] = [
-            |told| told.read.fault ^= 1,
-            |told| told.read.source ^= 1,
-            |told| told.read.layer ^= 1,
-            |told| told.read.next_header ^= 1,
-            |told| told.read.places ^= 32,
-            |told| told.read.required_len ^= 8,
-            |told| told.read.offset += 1,
-            |told| told.read.left += 1,
-            |told| told.read.limit.layer_offset += 1,
-            |told| told.read.limit.read_len += 1,
-            |told| told.written.iter_mut().last().map_or((), |byte| *byte ^= 1),
+        let plants: [fn(&mut reads::Answer); 11] = [
+            |answer| answer.read.fault ^= 1,
+            |answer| answer.read.source ^= 1,
+            |answer| answer.read.layer ^= 1,
+            |answer| answer.read.next_header ^= 1,
+            |answer| answer.read.places ^= 32,
+            |answer| answer.read.required_len ^= 8,
+            |answer| answer.read.offset += 1,
+            |answer| answer.read.left += 1,
+            |answer| answer.read.limit.layer_offset += 1,
+            |answer| answer.read.limit.read_len += 1,
+            |answer| {
+                answer
+                    .written
+                    .iter_mut()
+                    .last()
+                    .map_or((), |byte| *byte ^= 1)
+            },
         ];
         for plant in plants {
             let wrong = |question: &reads::Question| {
-                let mut told = reads::ours(question);
-                plant(&mut told);
-                told
+                let mut answer = reads::ours(question);
+                plant(&mut answer);
+                answer
             };
             assert!(matches!(all_reads(wrong, 1, 10_000), Outcome::Different(_)));
         }
@@ -364,11 +370,11 @@ mod tests {
             )),
             Question::FragmentOwned(bytes) => {
                 let bytes = fragment_bits::header(bytes, from_the_original);
-                let mut told = ours(&Question::FragmentOwned(bytes));
-                for written in [&mut told.spelled, &mut told.written] {
+                let mut answer = ours(&Question::FragmentOwned(bytes));
+                for written in [&mut answer.spelled, &mut answer.written] {
                     *written = fragment_bits::header(written, to_the_original);
                 }
-                told
+                answer
             }
             _ => ours(question),
         };
@@ -378,11 +384,11 @@ mod tests {
         ));
         for kind in [Kind::Fragment, Kind::Ipv6] {
             let read = |question: &reads::Question| {
-                let mut told = reads::ours(question);
+                let mut answer = reads::ours(question);
                 if question.kind == kind {
-                    told.written = reads::in_layout(question, &told.written, to_the_original);
+                    answer.written = reads::in_layout(question, &answer.written, to_the_original);
                 }
-                told
+                answer
             };
             assert!(matches!(all_reads(read, 1, 10_000), Outcome::Different(_)));
         }
@@ -394,14 +400,14 @@ mod tests {
     fn each_kind_of_fragment_header_is_asked_for() {
         let met = std::cell::RefCell::new(std::collections::BTreeSet::new());
         let watching = |question: &Question| {
-            let told = ours(question);
+            let answer = ours(question);
             if let Question::FragmentBorrowed(bytes) | Question::FragmentOwned(bytes) = question {
-                if told.header.fault == 0 {
+                if answer.header.fault == 0 {
                     met.borrow_mut()
-                        .insert((bytes[3] & 0b0000_0110, told.header.flags));
+                        .insert((bytes[3] & 0b0000_0110, answer.header.flags));
                 }
             }
-            told
+            answer
         };
         assert!(matches!(
             single_headers(watching, 1, 20_000),
@@ -416,10 +422,11 @@ mod tests {
     fn each_outcome_of_a_read_comes() {
         let met = std::cell::RefCell::new(std::collections::BTreeSet::new());
         let watching = |question: &reads::Question| {
-            let told = reads::ours(question);
+            let answer = reads::ours(question);
             let (kind, is_limited) = (question.kind as u8, question.limit.is_some());
-            met.borrow_mut().insert((kind, is_limited, told.read.fault));
-            told
+            met.borrow_mut()
+                .insert((kind, is_limited, answer.read.fault));
+            answer
         };
         assert!(matches!(all_reads(watching, 2, 20_000), Outcome::Same(_)));
         let faults = |kind: Kind, is_limited: bool| -> Vec<u8> {
@@ -444,21 +451,39 @@ mod tests {
     /// Falsifies each part in turn, and checks that the difference is found.
     #[test]
     fn a_planted_difference_in_a_part_is_found() {
-        let plants: [fn(&mut Told); 8] = [
-            |told| told.header.next_header ^= 1,
-            |told| told.header.number ^= 1,
-            |told| told.header.second_number ^= 1,
-            |told| told.header.flags ^= 2,
-            |told| told.header.required_len ^= 8,
-            |told| told.payload.iter_mut().last().map_or((), |byte| *byte ^= 1),
-            |told| told.spelled.iter_mut().last().map_or((), |byte| *byte ^= 1),
-            |told| told.written.iter_mut().last().map_or((), |byte| *byte ^= 1),
+        let plants: [fn(&mut Answer); 8] = [
+            |answer| answer.header.next_header ^= 1,
+            |answer| answer.header.number ^= 1,
+            |answer| answer.header.second_number ^= 1,
+            |answer| answer.header.flags ^= 2,
+            |answer| answer.header.required_len ^= 8,
+            |answer| {
+                answer
+                    .payload
+                    .iter_mut()
+                    .last()
+                    .map_or((), |byte| *byte ^= 1)
+            },
+            |answer| {
+                answer
+                    .spelled
+                    .iter_mut()
+                    .last()
+                    .map_or((), |byte| *byte ^= 1)
+            },
+            |answer| {
+                answer
+                    .written
+                    .iter_mut()
+                    .last()
+                    .map_or((), |byte| *byte ^= 1)
+            },
         ];
         for plant in plants {
             let wrong = |question: &Question| {
-                let mut told = ours(question);
-                plant(&mut told);
-                told
+                let mut answer = ours(question);
+                plant(&mut answer);
+                answer
             };
             assert!(matches!(
                 single_headers(wrong, 1, 10_000),

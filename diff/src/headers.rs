@@ -13,7 +13,7 @@ const ROOM: usize = 2049;
 
 /// A header with its payload or check value, the result of `to_bytes`, and what `write` appended.
 #[derive(Clone, Debug, Default, PartialEq, Eq)]
-pub struct Told {
+pub struct Answer {
     pub header: Header,
     pub payload: Vec<u8>,
     pub spelled: Vec<u8>,
@@ -34,7 +34,7 @@ pub enum Question {
 }
 
 /// Returns the library's result.
-pub fn ours(question: &Question) -> Told {
+pub fn ours(question: &Question) -> Answer {
     let (mut payload, mut spelled, mut written) = (vec![0; ROOM], vec![0; ROOM], vec![0; ROOM]);
     let (p, s, w) = (
         payload.as_mut_ptr(),
@@ -78,7 +78,7 @@ pub fn ours(question: &Question) -> Told {
     payload.truncate(header.payload_len);
     spelled.truncate(header.spelled_len);
     written.truncate(header.written_len);
-    Told {
+    Answer {
         header,
         payload,
         spelled,
@@ -87,7 +87,7 @@ pub fn ours(question: &Question) -> Told {
 }
 
 /// Returns the original's result, with the bits of fragment headers in our layout.
-pub fn original(question: &Question) -> Told {
+pub fn original(question: &Question) -> Answer {
     match question {
         Question::RawBorrowed(bytes) => {
             Ipv6RawExtHeaderSlice::from_slice(bytes).map_or_else(too_few, raw_slice)
@@ -123,14 +123,14 @@ pub fn original(question: &Question) -> Told {
     }
 }
 
-fn fragment_owned(bytes: &[u8]) -> Told {
+fn fragment_owned(bytes: &[u8]) -> Answer {
     let bytes = fragment_bits::header(bytes, to_the_original);
     Ipv6FragmentHeader::from_slice(&bytes)
         .map_or_else(too_few, |(header, rest)| fragment(&header, rest.len()))
 }
 
-fn raw_slice(header: Ipv6RawExtHeaderSlice<'_>) -> Told {
-    Told {
+fn raw_slice(header: Ipv6RawExtHeaderSlice<'_>) -> Answer {
+    Answer {
         header: Header {
             next_header: header.next_header().0,
             header_len: header.slice().len(),
@@ -138,12 +138,12 @@ fn raw_slice(header: Ipv6RawExtHeaderSlice<'_>) -> Told {
             ..Header::default()
         },
         payload: header.payload().to_vec(),
-        ..Told::default()
+        ..Answer::default()
     }
 }
 
-fn auth_slice(header: IpAuthHeaderSlice<'_>) -> Told {
-    Told {
+fn auth_slice(header: IpAuthHeaderSlice<'_>) -> Answer {
+    Answer {
         header: Header {
             next_header: header.next_header().0,
             number: header.spi(),
@@ -153,11 +153,11 @@ fn auth_slice(header: IpAuthHeaderSlice<'_>) -> Told {
             ..Header::default()
         },
         payload: header.raw_icv().to_vec(),
-        ..Told::default()
+        ..Answer::default()
     }
 }
 
-fn fragment_slice(header: Ipv6FragmentHeaderSlice<'_>) -> Told {
+fn fragment_slice(header: Ipv6FragmentHeaderSlice<'_>) -> Answer {
     let header = Header {
         next_header: header.next_header().0,
         flags: flags(header.more_fragments(), header.is_fragmenting_payload()),
@@ -166,9 +166,9 @@ fn fragment_slice(header: Ipv6FragmentHeaderSlice<'_>) -> Told {
         header_len: header.slice().len(),
         ..Header::default()
     };
-    Told {
+    Answer {
         header,
-        ..Told::default()
+        ..Answer::default()
     }
 }
 
@@ -176,11 +176,11 @@ fn flags(more_fragments: bool, is_fragmenting: bool) -> u8 {
     u8::from(more_fragments) | u8::from(is_fragmenting) << 1
 }
 
-fn raw(header: &Ipv6RawExtHeader, rest_len: usize) -> Told {
+fn raw(header: &Ipv6RawExtHeader, rest_len: usize) -> Answer {
     let mut written = Vec::new();
     header.write(&mut written).expect("a Vec takes all bytes");
     let spelled = header.to_bytes().to_vec();
-    Told {
+    Answer {
         header: Header {
             next_header: header.next_header.0,
             header_len: header.header_len(),
@@ -196,11 +196,11 @@ fn raw(header: &Ipv6RawExtHeader, rest_len: usize) -> Told {
     }
 }
 
-fn auth(header: &IpAuthHeader, rest_len: usize) -> Told {
+fn auth(header: &IpAuthHeader, rest_len: usize) -> Answer {
     let mut written = Vec::new();
     header.write(&mut written).expect("a Vec takes all bytes");
     let spelled = header.to_bytes().to_vec();
-    Told {
+    Answer {
         header: Header {
             next_header: header.next_header.0,
             number: header.spi,
@@ -218,12 +218,12 @@ fn auth(header: &IpAuthHeader, rest_len: usize) -> Told {
     }
 }
 
-fn fragment(header: &Ipv6FragmentHeader, rest_len: usize) -> Told {
+fn fragment(header: &Ipv6FragmentHeader, rest_len: usize) -> Answer {
     let mut written = Vec::new();
     header.write(&mut written).expect("a Vec takes all bytes");
     let written = fragment_bits::header(&written, from_the_original);
     let spelled = fragment_bits::header(&header.to_bytes(), from_the_original);
-    Told {
+    Answer {
         header: Header {
             next_header: header.next_header.0,
             flags: flags(header.more_fragments, header.is_fragmenting_payload()),
@@ -241,7 +241,7 @@ fn fragment(header: &Ipv6FragmentHeader, rest_len: usize) -> Told {
     }
 }
 
-fn too_few(fault: LenError) -> Told {
+fn too_few(fault: LenError) -> Answer {
     let header = Header {
         fault: 1,
         source: len_source_code(&fault.len_source),
@@ -251,27 +251,27 @@ fn too_few(fault: LenError) -> Told {
         offset: fault.layer_start_offset,
         ..Header::default()
     };
-    Told {
+    Answer {
         header,
-        ..Told::default()
+        ..Answer::default()
     }
 }
 
-fn no_auth(fault: ip_auth::HeaderSliceError) -> Told {
+fn no_auth(fault: ip_auth::HeaderSliceError) -> Answer {
     match fault {
         ip_auth::HeaderSliceError::Len(fault) => too_few(fault),
         ip_auth::HeaderSliceError::Content(ip_auth::HeaderError::ZeroPayloadLen) => refused(2, 0),
     }
 }
 
-fn refused(fault: u8, found_len: usize) -> Told {
-    Told {
+fn refused(fault: u8, found_len: usize) -> Answer {
+    Answer {
         header: Header {
             fault,
             found_len,
             ..Header::default()
         },
-        ..Told::default()
+        ..Answer::default()
     }
 }
 

@@ -20,23 +20,23 @@ fn main() -> ExitCode {
     match &words[..] {
         ["lines", tool, seed, count] => {
             match lines_of_tool(tool, number(seed), number(count) as usize) {
-                Ok(outcome) => told("lines", seed, count, outcome),
+                Ok(outcome) => report("lines", seed, count, outcome),
                 Err(e) => refused(&format!("{tool}: {e}")),
             }
         }
-        ["headers", seed, count] => told(
+        ["headers", seed, count] => report(
             "single headers",
             seed,
             count,
             single_headers(headers::ours, number(seed), number(count) as usize),
         ),
-        ["reads", seed, count] => told(
+        ["reads", seed, count] => report(
             "reads",
             seed,
             count,
             all_reads(reads::ours, number(seed), number(count) as usize),
         ),
-        ["filters", seed, count] => told(
+        ["filters", seed, count] => report(
             "filters",
             seed,
             count,
@@ -61,7 +61,7 @@ fn refused(why: &str) -> ExitCode {
 }
 
 /// Prints the result of a comparison.
-fn told(what: &str, seed: &str, count: &str, outcome: Outcome) -> ExitCode {
+fn report(what: &str, seed: &str, count: &str, outcome: Outcome) -> ExitCode {
     match outcome {
         Outcome::Same(counts) => {
             println!("{count} {what} from seed {seed}: the answers are the same");

@@ -42,13 +42,13 @@ pub struct Question {
 
 /// The result of a read, and the value as it is written.
 #[derive(Clone, Debug, Default, PartialEq, Eq)]
-pub struct Told {
+pub struct Answer {
     pub read: Read,
     pub written: Vec<u8>,
 }
 
 /// Returns the library's result.
-pub fn ours(question: &Question) -> Told {
+pub fn ours(question: &Question) -> Answer {
     let Question {
         kind,
         start,
@@ -69,17 +69,17 @@ pub fn ours(question: &Question) -> Told {
         }
     }
     written.truncate(read.written_len);
-    Told { read, written }
+    Answer { read, written }
 }
 
 /// Returns the original's result, with the bits of fragment headers in our layout.
-pub fn original(question: &Question) -> Told {
+pub fn original(question: &Question) -> Answer {
     let before = question.limit.map_or(0, |limit| limit.before.into());
     let (before, headers) = question.bytes.split_at(before.min(question.bytes.len()));
     let bytes = [before, &in_layout(question, headers, to_the_original)].concat();
-    let mut told = read_of(question, &bytes);
-    told.written = in_layout(question, &told.written, from_the_original);
-    told
+    let mut answer = read_of(question, &bytes);
+    answer.written = in_layout(question, &answer.written, from_the_original);
+    answer
 }
 
 /// Converts the headers that a case reads, or that were written from its result, to the other layout.
@@ -92,12 +92,12 @@ pub fn in_layout(question: &Question, bytes: &[u8], bits: Bits) -> Vec<u8> {
 }
 
 /// Returns the original's result for these bytes.
-fn read_of(question: &Question, bytes: &[u8]) -> Told {
+fn read_of(question: &Question, bytes: &[u8]) -> Answer {
     match &question.limit {
         None => {
             let mut reader = Cursor::new(bytes);
-            let told = read(question, &mut reader);
-            with_left(told, &reader, bytes.len())
+            let answer = read(question, &mut reader);
+            with_left(answer, &reader, bytes.len())
         }
         Some(limit) => {
             let mut reader = LimitedReader::new(
@@ -111,31 +111,31 @@ fn read_of(question: &Question, bytes: &[u8]) -> Told {
                 limit.layer_offset as usize,
                 Layer::Ipv6Header,
             );
-            let mut told = match reader.read_exact(&mut vec![0; usize::from(limit.before)]) {
+            let mut answer = match reader.read_exact(&mut vec![0; usize::from(limit.before)]) {
                 Ok(()) => read_limited(question, &mut reader),
                 Err(fault) => limited_fault(fault),
             };
-            told.read.limit = Limit {
+            answer.read.limit = Limit {
                 source: len_source_code(&reader.len_source()),
                 layer: layer_code(&reader.layer()),
                 max_len: reader.max_len(),
                 layer_offset: reader.layer_offset(),
                 read_len: reader.read_len(),
             };
-            with_left(told, &reader.take_reader(), bytes.len())
+            with_left(answer, &reader.take_reader(), bytes.len())
         }
     }
 }
 
 /// Adds the number of bytes left, if the reader didn't fail.
-fn with_left(mut told: Told, reader: &Cursor<&[u8]>, len: usize) -> Told {
-    if told.read.fault != IO {
-        told.read.left = len - reader.position() as usize;
+fn with_left(mut answer: Answer, reader: &Cursor<&[u8]>, len: usize) -> Answer {
+    if answer.read.fault != IO {
+        answer.read.left = len - reader.position() as usize;
     }
-    told
+    answer
 }
 
-fn read(question: &Question, reader: &mut Cursor<&[u8]>) -> Told {
+fn read(question: &Question, reader: &mut Cursor<&[u8]>) -> Answer {
     let start = IpNumber(question.start);
     match question.kind {
         Kind::Raw => {
@@ -158,7 +158,7 @@ fn read(question: &Question, reader: &mut Cursor<&[u8]>) -> Told {
     }
 }
 
-fn read_limited(question: &Question, reader: &mut LimitedReader<Cursor<&[u8]>>) -> Told {
+fn read_limited(question: &Question, reader: &mut LimitedReader<Cursor<&[u8]>>) -> Answer {
     let start = IpNumber(question.start);
     match question.kind {
         Kind::Raw => {
@@ -180,13 +180,13 @@ fn read_limited(question: &Question, reader: &mut LimitedReader<Cursor<&[u8]>>) 
     }
 }
 
-fn refused(fault: u8) -> Told {
-    let mut told = Told::default();
-    told.read.fault = fault;
-    told
+fn refused(fault: u8) -> Answer {
+    let mut answer = Answer::default();
+    answer.read.fault = fault;
+    answer
 }
 
-fn too_few(fault: &LenError) -> Told {
+fn too_few(fault: &LenError) -> Answer {
     let read = Read {
         fault: 1,
         source: len_source_code(&fault.len_source),
@@ -196,27 +196,27 @@ fn too_few(fault: &LenError) -> Told {
         offset: fault.layer_start_offset,
         ..Read::default()
     };
-    Told {
+    Answer {
         read,
-        ..Told::default()
+        ..Answer::default()
     }
 }
 
-fn limited_fault(fault: LimitedReadError) -> Told {
+fn limited_fault(fault: LimitedReadError) -> Answer {
     match fault {
         LimitedReadError::Io(_) => refused(IO),
         LimitedReadError::Len(fault) => too_few(&fault),
     }
 }
 
-fn content(fault: &ipv6_exts::HeaderError) -> Told {
+fn content(fault: &ipv6_exts::HeaderError) -> Answer {
     match fault {
         ipv6_exts::HeaderError::HopByHopNotAtStart => refused(3),
         ipv6_exts::HeaderError::IpAuth(ip_auth::HeaderError::ZeroPayloadLen) => refused(2),
     }
 }
 
-fn auth_fault(fault: ip_auth::HeaderLimitedReadError) -> Told {
+fn auth_fault(fault: ip_auth::HeaderLimitedReadError) -> Answer {
     match fault {
         ip_auth::HeaderLimitedReadError::Io(_) => refused(IO),
         ip_auth::HeaderLimitedReadError::Len(fault) => too_few(&fault),
@@ -226,7 +226,7 @@ fn auth_fault(fault: ip_auth::HeaderLimitedReadError) -> Told {
     }
 }
 
-fn auth_read_fault(fault: ip_auth::HeaderReadError) -> Told {
+fn auth_read_fault(fault: ip_auth::HeaderReadError) -> Answer {
     match fault {
         ip_auth::HeaderReadError::Io(_) => refused(IO),
         ip_auth::HeaderReadError::Content(ip_auth::HeaderError::ZeroPayloadLen) => refused(2),
@@ -234,29 +234,29 @@ fn auth_read_fault(fault: ip_auth::HeaderReadError) -> Told {
 }
 
 /// Returns the value as it is written, the number after it, and the places that it occupies.
-fn value(next: IpNumber, places: u8, written: Vec<u8>) -> Told {
+fn value(next: IpNumber, places: u8, written: Vec<u8>) -> Answer {
     let read = Read {
         next_header: next.0,
         places,
         written_len: written.len(),
         ..Read::default()
     };
-    Told { read, written }
+    Answer { read, written }
 }
 
-fn raw(header: &Ipv6RawExtHeader) -> Told {
+fn raw(header: &Ipv6RawExtHeader) -> Answer {
     value(header.next_header, 0, header.to_bytes().to_vec())
 }
 
-fn auth(header: &IpAuthHeader) -> Told {
+fn auth(header: &IpAuthHeader) -> Answer {
     value(header.next_header, 0, header.to_bytes().to_vec())
 }
 
-fn fragment(header: &Ipv6FragmentHeader) -> Told {
+fn fragment(header: &Ipv6FragmentHeader) -> Answer {
     value(header.next_header, 0, header.to_bytes().to_vec())
 }
 
-fn ipv4(headers: &Ipv4Extensions, start: IpNumber, next: IpNumber) -> Told {
+fn ipv4(headers: &Ipv4Extensions, start: IpNumber, next: IpNumber) -> Answer {
     let mut written = Vec::new();
     headers
         .write(&mut written, start)
@@ -264,7 +264,7 @@ fn ipv4(headers: &Ipv4Extensions, start: IpNumber, next: IpNumber) -> Told {
     value(next, u8::from(headers.auth.is_some()), written)
 }
 
-fn ipv6(exts: &Ipv6Extensions, start: IpNumber, next: IpNumber) -> Told {
+fn ipv6(exts: &Ipv6Extensions, start: IpNumber, next: IpNumber) -> Answer {
     let mut written = Vec::new();
     exts.write(&mut written, start)
         .expect("headers that were read are linked");

@@ -13,8 +13,8 @@ use etherparse::{IpNumber, Ipv6Extensions, Ipv6ExtensionsSlice};
 #[derive(Debug, PartialEq, Eq)]
 pub enum Answer {
     Digest(u64),
-    Header(headers::Told),
-    Read(reads::Told),
+    Header(headers::Answer),
+    Read(reads::Answer),
 }
 
 /// A call, and its counterpart in the original.

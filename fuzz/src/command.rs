@@ -21,7 +21,7 @@ pub fn run(words: &[&str], plant: &Plant) -> Result<ExitCode> {
         ["inputs", folder] => inputs(folder, plant),
         ["lines", tool, folder] => {
             let inputs: Result<Vec<Vec<u8>>> = files(folder)?.iter().map(std::fs::read).collect();
-            Ok(told(lines::ask(tool, &inputs?)?))
+            Ok(report(lines::ask(tool, &inputs?)?))
         }
         ["calls"] => {
             for call in calls::calls() {
@@ -71,7 +71,7 @@ fn inputs(folder: &str, plant: &Plant) -> Result<ExitCode> {
 }
 
 /// Prints the result of a comparison of lines.
-fn told(outcome: Outcome) -> ExitCode {
+fn report(outcome: Outcome) -> ExitCode {
     match outcome {
         Outcome::Same(counts) => {
             for (difference, times) in counts {

@@ -27,13 +27,13 @@ impl Plant {
 fn wrong(answer: Answer) -> Answer {
     match answer {
         Answer::Digest(digest) => Answer::Digest(digest ^ 1),
-        Answer::Header(mut told) => {
-            told.header.next_header ^= 1;
-            Answer::Header(told)
+        Answer::Header(mut header) => {
+            header.header.next_header ^= 1;
+            Answer::Header(header)
         }
-        Answer::Read(mut told) => {
-            told.read.next_header ^= 1;
-            Answer::Read(told)
+        Answer::Read(mut read) => {
+            read.read.next_header ^= 1;
+            Answer::Read(read)
         }
     }
 }

@@ -69,8 +69,8 @@ mod tests {
     fn the_slice_is_the_source_where_payload_length_is_0_before_some_bytes() {
         let (slice, payload) = (LenSource::Slice, LenSource::Ipv6HeaderPayloadLen);
         for (payload_length, len, source) in [(0, 7, slice), (7, 7, payload), (0, 0, payload)] {
-            let told = sources(&truncated(payload_length, len));
-            assert_eq!(told, (source, source), "{payload_length} {len}");
+            let answer = sources(&truncated(payload_length, len));
+            assert_eq!(answer, (source, source), "{payload_length} {len}");
         }
     }
 }

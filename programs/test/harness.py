@@ -50,12 +50,12 @@ class Harness:
         streams = {"stdin": subprocess.PIPE, "stdout": output or subprocess.PIPE, "stderr": subprocess.PIPE}
         filled = [argument.replace("{}", own) for argument in arguments]
         process = subprocess.Popen(command + filled, env=self.environment, **streams)
-        found, told = process.communicate(content)
+        found, errors = process.communicate(content)
         written = None
         if os.path.exists(own):
             with open(own, "rb") as file:
                 written = file.read()
-        return process.returncode, found, told.decode().replace(own, "{}"), written
+        return process.returncode, found, errors.decode().replace(own, "{}"), written
 
     def run(self, *arguments, content=b"", output=None):
         """Runs all builds with the arguments, and checks that they agree. Returns status, standard output, standard

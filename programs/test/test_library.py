@@ -19,11 +19,11 @@ def as_ipcap(harness):
     for content, is_capture in [(whole, True), (whole[:-1], True), (whole[:30], True), (b"no capture", False),
                                 (capture([b""], 9), False)]:
         path = harness.file(content)
-        status, found, told, _ = harness.run("stat", "--json", path)
+        status, found, errors, _ = harness.run("stat", "--json", path)
         for command in counters(harness):
             answer = harness.answer(command, [path], b"", None)
             wanted = found if is_capture else b""
-            reason = told.replace("ipcap: %s: " % path, "").rstrip("\n")
+            reason = errors.replace("ipcap: %s: " % path, "").rstrip("\n")
             harness.equal(answer[:3], (status, wanted, reason), command)
     harness.equal(harness.answer(counters(harness)[0], ["/nonexistent"], b"", None)[:3],
                   (1, b"", "No such file or directory"), "no file")

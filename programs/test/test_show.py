@@ -51,10 +51,10 @@ def drawings(harness):
               ethernet(ipv4(17, UDP[:8]), (0x8100,))]
     content = capture(frames) + record(ethernet(ipv6(60, options(44) + fragment(17) + bytes(8))), 62)
     content += record(ethernet(LATER_FRAGMENT))
-    status, found, told, _ = harness.run("show", content=content)
+    status, found, errors, _ = harness.run("show", content=content)
     for line, wanted in zip(found.decode().split("\n"), DRAWN.split("\n")):
         harness.equal(line, wanted, "a line")
-    harness.equal((status, len(found), told), (0, len(DRAWN), ""), "the whole")
+    harness.equal((status, len(found), errors), (0, len(DRAWN), ""), "the whole")
 
 
 def carets(found):

@@ -160,8 +160,8 @@ def snap_lengths(harness):
             text = snapped(version, ends, numbers, 17, length, 14 + base)
             wanted[text] = wanted.get(text, 0) + 1
         unread = wanted.pop(None)
-        found, told = harness.stat(content=file_header() + b"".join(record(frame, length) for length in kept))
-        harness.equal((found["chains"], found["without_header"], found["truncated_frames"], found["faults"], told),
+        found, errors = harness.stat(content=file_header() + b"".join(record(frame, length) for length in kept))
+        harness.equal((found["chains"], found["without_header"], found["truncated_frames"], found["faults"], errors),
                       (wanted, unread, len(kept), {}, ""), "snap lengths of IPv%d" % version)
 
 
@@ -185,15 +185,15 @@ def truncated_files(harness):
     third = (len(whole) - 24) // 3 * 2 + 24
     for length in [third + 1, third + 15, third + 16, third + 40, len(whole) - 1]:
         path = harness.file(whole[:length])
-        found, told = harness.stat(path, status=1)
+        found, errors = harness.stat(path, status=1)
         harness.equal(found["packets"], 2, "packets of a file of", length, "bytes")
-        harness.check(told.startswith("ipcap: %s: can't read packet 3: " % path), told)
+        harness.check(errors.startswith("ipcap: %s: can't read packet 3: " % path), errors)
     harness.equal(harness.stat(harness.file(whole[:third]))[0]["packets"], 2, "a file that ends after a packet")
     for content in [b"", whole[:3], whole[:23], b"no capture at all, but some bytes"]:
         path = harness.file(content)
-        found, told = harness.stat(path, harness.file(whole), status=1)
+        found, errors = harness.stat(path, harness.file(whole), status=1)
         harness.equal(found["packets"], 3, "the capture after one that can't be read")
-        harness.check(told.startswith("ipcap: %s: " % path), told)
+        harness.check(errors.startswith("ipcap: %s: " % path), errors)
     broken = capture([ethernet(ipv6_chain([0]))]) + struct.pack("<IIII", 0, 0, 0x7fffffff, 0x7fffffff) + bytes(60)
     harness.check("can't read packet 2: " in harness.stat(content=broken, status=1)[1], "a packet of 2 GB")
 

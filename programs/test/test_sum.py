@@ -35,9 +35,9 @@ def sums(harness):
 
 
 def refuse(harness, content, words, name):
-    status, found, told, _ = harness.run("sum", "--json", content=content)
+    status, found, errors, _ = harness.run("sum", "--json", content=content)
     harness.equal((status, found), (1, b""), name)
-    harness.check(told.startswith("ipcap: standard input: ") and told.count("\n") == 1 and words in told, name, told)
+    harness.check(errors.startswith("ipcap: standard input: ") and errors.count("\n") == 1 and words in errors, name, errors)
 
 
 def good(**parts):
@@ -140,8 +140,8 @@ def damaged(harness):
         for _ in range(draw.choice([1, 1, 2, 5])):
             place = draw.randrange(len(changed))
             changed[place] = draw.choice([0, 34, 44, 48, 58, 123, 125, 255, draw.randrange(256)])
-        status, found, told, _ = harness.run("sum", content=bytes(changed))
-        harness.check((status == 0) == (told == "") and (status == 1) == (found == b""), bytes(changed), status, told)
+        status, found, errors, _ = harness.run("sum", content=bytes(changed))
+        harness.check((status == 0) == (errors == "") and (status == 1) == (found == b""), bytes(changed), status, errors)
 
 
 def bounds(harness):
@@ -150,8 +150,8 @@ def bounds(harness):
     for number in range(5000):
         numbers = [43 if number >> bit & 1 else 60 for bit in range(13)]
         frames.append(ethernet(ipv6_chain(numbers)))
-    found, told = harness.stat(harness.file(capture(frames)))
-    harness.equal((len(found["chains"]), found["chains"]["other"], told), (4097, 904, ""), "5000 chains")
+    found, errors = harness.stat(harness.file(capture(frames)))
+    harness.equal((len(found["chains"]), found["chains"]["other"], errors), (4097, 904, ""), "5000 chains")
     harness.equal(found["chain_bytes"], {"104": 5000}, "5000 chains")
     again = harness.run("sum", "--json", content=json.dumps(found).encode() * 2)
     harness.equal(json.loads(again[1])["chains"]["other"], 1808, "5000 chains, twice")

@@ -15,13 +15,13 @@ COMMANDS = ["stat", "sum", "filter", "show"]
 
 def helps(harness):
     for arguments in [["--help"], ["-h"]] + [[c, "--help"] for c in COMMANDS] + [[c, "-h"] for c in COMMANDS]:
-        status, found, told, _ = harness.run(*arguments)
-        harness.equal((status, told), (0, ""), arguments)
+        status, found, errors, _ = harness.run(*arguments)
+        harness.equal((status, errors), (0, ""), arguments)
         harness.check(found.startswith(b"usage: ipcap " + (arguments[0].encode() if len(arguments) > 1 else b"stat")),
                       arguments)
     for arguments in [["--version"]] + [[c, "--version"] for c in COMMANDS]:
-        status, found, told, _ = harness.run(*arguments)
-        harness.equal((status, told), (0, ""), arguments)
+        status, found, errors, _ = harness.run(*arguments)
+        harness.equal((status, errors), (0, ""), arguments)
         harness.check(re.match(rb"ipcap \d+\.\d+\.\d+\nlibpcap ", found), arguments, found)
 
 
@@ -29,9 +29,9 @@ def wrong_usage(harness):
     for arguments in [[], ["frob"], ["--frob"], ["x" * 500], ["stat", "--frob"], ["sum", "file"], ["sum", "--frob"],
                       ["show", "a", "b"],
                       ["show", "--color"], ["show", "--color=red"], ["show", "-w", "x"], ["stat", "--json=1"]]:
-        status, found, told, _ = harness.run(*arguments)
+        status, found, errors, _ = harness.run(*arguments)
         harness.equal((status, found), (2, b""), arguments)
-        harness.check("usage: ipcap " in told, arguments, told)
+        harness.check("usage: ipcap " in errors, arguments, errors)
 
 
 def full_outputs(harness):
@@ -188,5 +188,5 @@ def damaged_captures(harness):
             place = draw.randrange(0 if number % 4 == 0 else 24, len(changed))
             changed[place] = draw.choice([0, 1, 255, draw.randrange(256)])
         command = [["stat"], ["show"], ["filter", "header 44 or fault"]][number % 3]
-        status, _, told, _ = harness.run(*command, content=bytes(changed))
-        harness.equal(status == 0, told == "", command, bytes(changed).hex(), told)
+        status, _, errors, _ = harness.run(*command, content=bytes(changed))
+        harness.equal(status == 0, errors == "", command, bytes(changed).hex(), errors)

@@ -88,38 +88,38 @@ pub enum Expected {
 /// The result for a text and a packet: whether the filter matches the packet and whether it matches a frame that is not
 /// IP, or where the text is wrong.
 #[derive(Debug, PartialEq, Eq)]
-pub enum Told {
+pub enum Answer {
     Matches(bool, bool),
     Refused(usize, u8),
 }
 
 /// Returns the library's result.
-pub fn ours(text: &[u8], packet: &[u8]) -> Told {
+pub fn ours(text: &[u8], packet: &[u8]) -> Answer {
     // SAFETY: each pointer is valid for its length.
-    let told = unsafe { ipexts_filter(text.as_ptr(), text.len(), packet.as_ptr(), packet.len()) };
-    match told {
-        0..4 => Told::Matches(told % 2 == 1, told / 2 == 1),
-        _ => Told::Refused((told / 16) as usize - 1, (told % 16) as u8),
+    let answer = unsafe { ipexts_filter(text.as_ptr(), text.len(), packet.as_ptr(), packet.len()) };
+    match answer {
+        0..4 => Answer::Matches(answer % 2 == 1, answer / 2 == 1),
+        _ => Answer::Refused((answer / 16) as usize - 1, (answer % 16) as u8),
     }
 }
 
 /// Returns the result of the plain parser and the plain evaluation. The original dissects the packet.
-pub fn plain(text: &[u8], packet: &[u8]) -> Told {
+pub fn plain(text: &[u8], packet: &[u8]) -> Answer {
     match parse::parse(text) {
         Ok(formula) => {
             let bytes = Changes::ALL.asked_packet(packet.to_vec());
             let parts = dissected(&bytes);
-            Told::Matches(
+            Answer::Matches(
                 truth::holds(&formula, Some(&parts)),
                 truth::holds(&formula, None),
             )
         }
-        Err((offset, expected)) => Told::Refused(offset, expected as u8),
+        Err((offset, expected)) => Answer::Refused(offset, expected as u8),
     }
 }
 
 /// Compares `count` texts of filters on random packets. `ours` returns our results.
-pub fn all_filters(ours: impl Fn(&[u8], &[u8]) -> Told, seed: u64, count: usize) -> Outcome {
+pub fn all_filters(ours: impl Fn(&[u8], &[u8]) -> Answer, seed: u64, count: usize) -> Outcome {
     let mut random = Random::new(seed);
     let mut waiting: Vec<Vec<u8>> = Vec::new();
     for index in 0..count {
@@ -156,7 +156,7 @@ mod tests {
         let mut counts = [0; 4];
         for _ in 0..4000 {
             for packet in packets::asked(&mut random, LONGEST) {
-                if let Told::Matches(packet, other) =
+                if let Answer::Matches(packet, other) =
                     plain(&texts::text(&packet, &mut random), &packet)
                 {
                     counts[usize::from(packet) + 2 * usize::from(other)] += 1;
@@ -166,7 +166,7 @@ mod tests {
         assert!(counts.iter().all(|&count| count > 200), "{counts:?}");
     }
 
-    fn is_found(planted: impl Fn(&[u8], &[u8]) -> Told) -> bool {
+    fn is_found(planted: impl Fn(&[u8], &[u8]) -> Answer) -> bool {
         matches!(all_filters(planted, 3, 20_000), Outcome::Different(_))
     }
 
@@ -188,12 +188,12 @@ mod tests {
             packet
         )));
         assert!(is_found(|text, packet| match ours(text, packet) {
-            Told::Refused(offset, expected) => Told::Refused(offset + 1, expected),
-            told => told,
+            Answer::Refused(offset, expected) => Answer::Refused(offset + 1, expected),
+            answer => answer,
         }));
         assert!(is_found(|text, packet| match ours(text, packet) {
-            Told::Matches(packet, _) => Told::Matches(packet, packet),
-            told => told,
+            Answer::Matches(packet, _) => Answer::Matches(packet, packet),
+            answer => answer,
         }));
     }
 }

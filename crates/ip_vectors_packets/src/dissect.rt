@@ -1,4 +1,5 @@
 //! Whole packets dissected: each part of each row is worked out by hand from RFC 791, RFC 4302 and RFC 8200.
+use crate::checks::assert_same;
 use crate::samples::{ipv4_bytes, ipv6_bytes, len_error_at};
 use etherparse_ip::LenSource;
 use etherparse_ip::err::ip::{HeadersError, SliceError};
@@ -34,24 +35,18 @@ fn check(
     let found = dissect(bytes);
     let after_base = base.saturating_add(extensions);
     let after_headers = after_base.saturating_add(payload);
-    assert_eq!(rt; Some(base_bytes(&found.base)), bytes.get(..base), "{name}");
-    assert_eq!(rt; found.stated_len, stated_len, "{name}");
-    assert_eq!(rt;
-        Some(found.extensions),
-        bytes.get(base..after_base),
-        "{name}"
-    );
-    assert_eq!(rt; found.next_header.0, next_header, "{name}");
-    assert_eq!(rt;
-        Some(found.payload),
-        bytes.get(after_base..after_headers),
-        "{name}"
-    );
-    assert_eq!(rt; found.missing, missing, "{name}");
-    assert_eq!(rt; found.padding.len(), padding, "{name}");
-    assert_eq!(rt; Some(found.padding), bytes.get(after_headers..), "{name}");
-    assert_eq!(rt; found.fragment, fragment, "{name}");
-    assert_eq!(rt; &found.end, end, "{name}");
+    assert_same(rt, name, Some(base_bytes(&found.base)), bytes.get(..base));
+    assert_same(rt, name, found.stated_len, stated_len);
+    let wanted = bytes.get(base..after_base);
+    assert_same(rt, name, Some(found.extensions), wanted);
+    assert_same(rt, name, found.next_header.0, next_header);
+    let wanted = bytes.get(after_base..after_headers);
+    assert_same(rt, name, Some(found.payload), wanted);
+    assert_same(rt, name, found.missing, missing);
+    assert_same(rt, name, found.padding.len(), padding);
+    assert_same(rt, name, Some(found.padding), bytes.get(after_headers..));
+    assert_same(rt, name, found.fragment, fragment);
+    assert_same(rt, name, &found.end, end);
 }
 
 /// Returns a fragment.

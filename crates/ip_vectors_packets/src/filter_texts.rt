@@ -1,4 +1,5 @@
 //! The texts of filters: the steps of each are worked out by hand from the grammar, as is the place of each error.
+use crate::checks::{assert_same, assert_that};
 use ip_filter::{
     Comparison, Expected, FaultKind, Filter, Network, ParseError, Step, StepKind, Term,
 };
@@ -8,10 +9,10 @@ use std::test::Fail;
 /// Checks the steps of the filter that the text writes.
 fn check(rt: &impl Abort, text: &str, steps: &[Step]) {
     let parsed = Filter::parse(text.as_bytes());
-    assert!(rt; parsed.is_ok(), "{text}");
+    assert_that(rt, text, parsed.is_ok());
     if let Ok(filter) = parsed {
         let count = usize::from(filter.count).min(127);
-        assert!(rt; &filter.steps[..count] == steps, "{text}");
+        assert_that(rt, text, &filter.steps[..count] == steps);
     }
 }
 
@@ -183,7 +184,7 @@ fn first_errors(rt: HostRuntime) -> Result<(), Fail> {
             offset: *offset,
             expected: *expected,
         };
-        assert!(rt; Filter::parse(text.as_bytes()) == Err(error), "{text}");
+        assert_that(&rt, text, Filter::parse(text.as_bytes()) == Err(error));
     }
     Ok(())
 }
@@ -196,15 +197,16 @@ fn sixty_five_terms(rt: HostRuntime) -> Result<(), Fail> {
     }
     text.push_str("fault")?;
     let parsed = Filter::parse(text.as_bytes());
-    assert!(rt; parsed.is_ok(), "64 terms");
+    assert_that(&rt, "64 terms", parsed.is_ok());
     if let Ok(filter) = parsed {
-        assert_eq!(rt; filter.count, 127, "64 terms");
+        assert_same(&rt, "64 terms", filter.count, 127);
     }
     text.push_str(" or fault")?;
     let error = ParseError {
         offset: 573,
         expected: Expected::FewerTerms,
     };
-    assert!(rt; Filter::parse(text.as_bytes()) == Err(error), "65 terms");
+    let refused = Filter::parse(text.as_bytes());
+    assert_that(&rt, "65 terms", refused == Err(error));
     Ok(())
 }

@@ -1,4 +1,5 @@
 //! Terms and formulas over whole packets: what holds of each packet is worked out by hand.
+use crate::checks::assert_same;
 use crate::samples::{ipv4_bytes, ipv6_bytes};
 use ip_dissect::dissect;
 use ip_filter::{Comparison, FaultKind, Filter, Network, Step, StepKind, Term};
@@ -267,8 +268,8 @@ fn formulas(rt: HostRuntime) -> Result<(), Fail> {
         ),
     ];
     for (name, filter, matches, other) in &rows {
-        assert_eq!(rt; filter.matches(bytes.as_slice()), *matches, "{name}");
-        assert_eq!(rt; filter.matches_other(), *other, "{name}, not IP");
+        assert_same(&rt, name, filter.matches(bytes.as_slice()), *matches);
+        assert_same(&rt, (name, "not IP"), filter.matches_other(), *other);
     }
     Ok(())
 }

@@ -1,4 +1,5 @@
 //! Packets with wrong length fields.
+use crate::checks::{assert_bytes, assert_same, assert_that};
 use crate::samples::{ipv4_bytes, ipv6_bytes, len_error, len_error_at};
 use etherparse_ip::err::{Layer, LenError, ip, ipv4, ipv6};
 use etherparse_ip::{IpNumber, IpSlice, Ipv4Slice, Ipv6Slice, LenSource};
@@ -8,13 +9,11 @@ use std::test::Fail;
 /// Checks that both slices refuse the packet with this length error.
 fn check_refused(rt: &impl Abort, name: &str, bytes: &[u8], error: &LenError) -> Result<(), Fail> {
     let refused = Ipv4Slice::from_slice(bytes).map(|packet| packet.payload_ip_number());
-    assert_eq!(rt;
-        refused,
-        Err(ipv4::SliceError::Len(error.clone()?)),
-        "{name}"
-    );
+    let wanted = ipv4::SliceError::Len(error.clone()?);
+    assert_same(rt, name, refused, Err(wanted));
     let refused = IpSlice::from_slice(bytes).map(|packet| packet.payload_ip_number());
-    assert_eq!(rt; refused, Err(ip::SliceError::Len(error.clone()?)), "{name}");
+    let wanted = ip::SliceError::Len(error.clone()?);
+    assert_same(rt, name, refused, Err(wanted));
     Ok(())
 }
 
@@ -63,15 +62,15 @@ fn ipv6_lengths_that_lie(rt: HostRuntime) -> Result<(), Fail> {
     let long = ipv6_bytes(alloc, 65535, 17, &[1, 2, 3, 4, 5, 6, 7, 8])?;
     let strict = Ipv6Slice::from_slice(&long).map(|packet| packet.payload_ip_number());
     let error = len_error(65575, 48, LenSource::Slice, Layer::Ipv6Packet);
-    assert_eq!(rt; strict, Err(ipv6::SliceError::Len(error)));
+    assert_same(&rt, "strict", strict, Err(ipv6::SliceError::Len(error)));
     match Ipv6Slice::from_slice_lax(&long) {
         Ok(packet) => {
             let payload = packet.payload();
-            assert_eq!(rt; payload.payload, [1, 2, 3, 4, 5, 6, 7, 8].as_slice());
-            assert_eq!(rt; payload.len_source, LenSource::Slice);
-            assert_eq!(rt; payload.ip_number, IpNumber(17));
+            assert_bytes(&rt, "payload", payload.payload, &[1, 2, 3, 4, 5, 6, 7, 8]);
+            assert_same(&rt, "length source", payload.len_source, LenSource::Slice);
+            assert_same(&rt, "number", payload.ip_number, IpNumber(17));
         }
-        Err(_) => assert!(rt; false, "a packet that is truncated short"),
+        Err(_) => assert_that(&rt, "a packet that is truncated short", false),
     }
     let truncated = ipv6_bytes(alloc, 4, 60, &[17, 0, 0, 0, 0, 0, 0, 0])?;
     let error = len_error_at(
@@ -86,7 +85,8 @@ fn ipv6_lengths_that_lie(rt: HostRuntime) -> Result<(), Fail> {
         Ipv6Slice::from_slice_lax(&truncated),
     ] {
         let refused = parsed.map(|packet| packet.payload_ip_number());
-        assert_eq!(rt; refused, Err(ipv6::SliceError::Len(error.clone()?)));
+        let wanted = ipv6::SliceError::Len(error.clone()?);
+        assert_same(&rt, "truncated", refused, Err(wanted));
     }
     Ok(())
 }

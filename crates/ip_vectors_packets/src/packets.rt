@@ -1,4 +1,5 @@
 //! Base headers and packets.
+use crate::checks::{assert_bytes, assert_same, assert_that};
 use crate::samples::{ipv4_bytes, ipv6_bytes, len_error, len_error_at};
 use etherparse_ip::err::{Layer, ip, ip_auth, ipv4, ipv6, ipv6_exts};
 use etherparse_ip::{
@@ -53,14 +54,14 @@ fn check_either(rt: &impl Abort, name: &str, bytes: &[u8], parts: Parts<'_>) -> 
     let packet = match IpSlice::from_slice(bytes) {
         Ok(packet) => packet,
         Err(_) => {
-            assert!(rt; false, "{name}");
+            assert_that(rt, name, false);
             return Ok(());
         }
     };
     let (found, number, fragmented) = match &packet {
         IpSlice::Ipv4(packet) => {
             let fragmented = packet.header().is_fragmenting_payload();
-            assert_eq!(rt; packet.is_payload_fragmented(), fragmented, "{name}");
+            assert_same(rt, name, packet.is_payload_fragmented(), fragmented);
             (ipv4_parts(packet), packet.payload_ip_number(), fragmented)
         }
         IpSlice::Ipv6(packet) => (
@@ -69,18 +70,15 @@ fn check_either(rt: &impl Abort, name: &str, bytes: &[u8], parts: Parts<'_>) -> 
             packet.is_payload_fragmented(),
         ),
     };
-    assert_eq!(rt; found, parts, "{name}");
-    assert_eq!(rt;
-        (number.0, fragmented),
-        (parts.number, parts.fragmented),
-        "{name}"
-    );
-    assert_eq!(rt; packet.payload_ip_number(), number, "{name}");
-    assert_eq!(rt; packet.is_fragmenting_payload(), fragmented, "{name}");
-    assert_eq!(rt; packet.payload().payload, parts.payload, "{name}");
-    assert_eq!(rt; packet.ipv4().is_some(), bytes[0] >> 4 == 4, "{name}");
-    assert_eq!(rt; packet.ipv6().is_some(), bytes[0] >> 4 == 6, "{name}");
-    assert!(rt; packet.clone()? == packet, "{name}");
+    assert_same(rt, name, found, parts);
+    assert_same(rt, name, number.0, parts.number);
+    assert_same(rt, name, fragmented, parts.fragmented);
+    assert_same(rt, name, packet.payload_ip_number(), number);
+    assert_same(rt, name, packet.is_fragmenting_payload(), fragmented);
+    assert_same(rt, name, packet.payload().payload, parts.payload);
+    assert_same(rt, name, packet.ipv4().is_some(), bytes[0] >> 4 == 4);
+    assert_same(rt, name, packet.ipv6().is_some(), bytes[0] >> 4 == 6);
+    assert_that(rt, name, packet.clone()? == packet);
     Ok(())
 }
 
@@ -105,14 +103,14 @@ fn ipv6_lengths(rt: HostRuntime) -> Result<(), Fail> {
             source,
         };
         let lax = Ipv6Slice::from_slice_lax(&bytes).map(|packet| ipv6_parts(&packet));
-        assert_eq!(rt; lax, Ok(parts), "{name}");
+        assert_same(&rt, name, lax, Ok(parts));
         let strict = Ipv6Slice::from_slice(&bytes).map(|packet| ipv6_parts(&packet));
         if fits {
-            assert_eq!(rt; strict, Ok(parts), "{name}");
+            assert_same(&rt, name, strict, Ok(parts));
             check_either(&rt, name, &bytes, parts)?;
         } else {
             let error = len_error(49, 48, LenSource::Slice, Layer::Ipv6Packet);
-            assert_eq!(rt; strict, Err(ipv6::SliceError::Len(error)), "{name}");
+            assert_same(&rt, name, strict, Err(ipv6::SliceError::Len(error)));
         }
     }
     Ok(())
@@ -126,15 +124,12 @@ fn a_truncated_chain_in_a_jumbogram(rt: HostRuntime) -> Result<(), Fail> {
         Ipv6Slice::from_slice(&jumbo),
         Ipv6Slice::from_slice_lax(&jumbo),
     ] {
-        assert_eq!(rt;
-            parsed.map(|packet| ipv6_parts(&packet)),
-            Err(ipv6::SliceError::Len(truncated.clone()?))
-        );
+        let parts = parsed.map(|packet| ipv6_parts(&packet));
+        let error = ipv6::SliceError::Len(truncated.clone()?);
+        assert_same(&rt, "Ipv6Slice", parts, Err(error));
     }
-    assert_eq!(rt;
-        IpSlice::from_slice(&jumbo).map(|packet| packet.payload_ip_number()),
-        Err(ip::SliceError::Len(truncated))
-    );
+    let number = IpSlice::from_slice(&jumbo).map(|packet| packet.payload_ip_number());
+    assert_same(&rt, "IpSlice", number, Err(ip::SliceError::Len(truncated)));
     Ok(())
 }
 
@@ -159,14 +154,12 @@ fn headers_after_that_of_a_later_fragment(rt: HostRuntime) -> Result<(), Fail> {
 fn hop_by_hop_options_after_a_header(rt: HostRuntime) -> Result<(), Fail> {
     let zero = ipv6_bytes(rt.alloc(), 8, 60, &[0, 0, 0, 0, 0, 0, 0, 0])?;
     let content = ipv6_exts::HeaderError::HopByHopNotAtStart;
-    assert_eq!(rt;
-        Ipv6Slice::from_slice(&zero).map(|packet| ipv6_parts(&packet)),
-        Err(ipv6::SliceError::Exts(content.clone()?))
-    );
-    assert_eq!(rt;
-        IpSlice::from_slice(&zero).map(|packet| packet.payload_ip_number()),
-        Err(ip::SliceError::IpHeaders(ip::HeadersError::Ipv6Ext(content)))
-    );
+    let parts = Ipv6Slice::from_slice(&zero).map(|packet| ipv6_parts(&packet));
+    let error = ipv6::SliceError::Exts(content.clone()?);
+    assert_same(&rt, "Ipv6Slice", parts, Err(error));
+    let number = IpSlice::from_slice(&zero).map(|packet| packet.payload_ip_number());
+    let error = ip::SliceError::IpHeaders(ip::HeadersError::Ipv6Ext(content));
+    assert_same(&rt, "IpSlice", number, Err(error));
     Ok(())
 }
 
@@ -191,7 +184,7 @@ fn ipv4_wanted(
 /// Parses the IPv4 packet with `Ipv4Slice` and `IpSlice` and compares its parts with these.
 fn check_ipv4(rt: &impl Abort, name: &str, bytes: &[u8], parts: Parts<'_>) -> Result<(), Fail> {
     let packet = Ipv4Slice::from_slice(bytes).map(|packet| ipv4_parts(&packet));
-    assert_eq!(rt; packet, Ok(parts), "{name}");
+    assert_same(rt, name, packet, Ok(parts));
     check_either(rt, name, bytes, parts)
 }
 
@@ -246,14 +239,12 @@ fn an_authentication_header_of_length_0(rt: HostRuntime) -> Result<(), Fail> {
     let auth = [17, 0, 0, 0, 0, 0, 0, 0, 0, 0, 0, 0];
     let bytes = ipv4_bytes(rt.alloc(), 0x45, 32, [0, 0], 51, &auth)?;
     let zero = ip_auth::HeaderError::ZeroPayloadLen;
-    assert_eq!(rt;
-        Ipv4Slice::from_slice(&bytes).map(|packet| ipv4_parts(&packet)),
-        Err(ipv4::SliceError::Exts(zero.clone()?))
-    );
-    assert_eq!(rt;
-        IpSlice::from_slice(&bytes).map(|packet| packet.payload_ip_number()),
-        Err(ip::SliceError::IpHeaders(ip::HeadersError::Ipv4Ext(zero)))
-    );
+    let parts = Ipv4Slice::from_slice(&bytes).map(|packet| ipv4_parts(&packet));
+    let error = ipv4::SliceError::Exts(zero.clone()?);
+    assert_same(&rt, "Ipv4Slice", parts, Err(error));
+    let number = IpSlice::from_slice(&bytes).map(|packet| packet.payload_ip_number());
+    let error = ip::SliceError::IpHeaders(ip::HeadersError::Ipv4Ext(zero));
+    assert_same(&rt, "IpSlice", number, Err(error));
     Ok(())
 }
 
@@ -284,8 +275,8 @@ fn first_bytes(rt: HostRuntime) -> Result<(), Fail> {
     ];
     for (bytes, error) in rows {
         match IpSlice::from_slice(bytes) {
-            Ok(_) => assert!(rt; false, "{bytes:?}"),
-            Err(e) => assert_eq!(rt; e, error, "{bytes:?}"),
+            Ok(_) => assert_that(&rt, bytes, false),
+            Err(e) => assert_same(&rt, bytes, e, error),
         }
     }
     let short = len_error(20, 1, LenSource::Slice, Layer::Ipv4Header);
@@ -300,22 +291,22 @@ fn base_headers(rt: HostRuntime) -> Result<(), Fail> {
     let header = Ipv4HeaderSlice::from_slice(&bytes)
         .ok()
         .expect(&rt, "a header");
-    assert_eq!(rt; Some(header.slice()), bytes.get(..24));
-    assert_eq!(rt; (header.total_len(), header.protocol()), (28, IpNumber(6)));
+    assert_same(&rt, "IPv4 bytes", Some(header.slice()), bytes.get(..24));
+    assert_same(&rt, "total length", header.total_len(), 28);
+    assert_same(&rt, "protocol", header.protocol(), IpNumber(6));
     assert!(rt; header.source_addr() == Ipv4Addr::new(10, 0, 0, 1));
     assert!(rt; header.destination_addr() == Ipv4Addr::new(10, 0, 0, 2));
     let bytes = ipv6_bytes(alloc, 0x102, 6, &[])?;
     let header = Ipv6HeaderSlice::from_slice(&bytes)
         .ok()
         .expect(&rt, "a header");
-    assert_eq!(rt; header.slice(), bytes.as_slice());
-    assert_eq!(rt;
-        (header.payload_length(), header.next_header()),
-        (0x102, IpNumber(6))
-    );
+    assert_bytes(&rt, "IPv6 bytes", header.slice(), &bytes);
+    assert_same(&rt, "payload length", header.payload_length(), 0x102);
+    assert_same(&rt, "next header", header.next_header(), IpNumber(6));
     assert!(rt; header.source_addr() == Ipv6Addr::new(0x2001, 0xdb8, 0, 0, 0, 0, 0, 1));
     assert!(rt; header.destination_addr() == Ipv6Addr::new(0x2001, 0xdb8, 0, 0, 0, 0, 0, 2));
-    assert_eq!(rt; (Ipv4Header::MIN_LEN, Ipv6Header::LEN), (20, 40));
+    assert_same(&rt, "IPv4 length", Ipv4Header::MIN_LEN, 20);
+    assert_same(&rt, "IPv6 length", Ipv6Header::LEN, 40);
     let wrong = ipv4::HeaderSliceError::Content(ipv4::HeaderError::UnexpectedVersion {
         version_number: 6,
     });
@@ -340,7 +331,8 @@ fn addresses(rt: HostRuntime) -> Result<(), Fail> {
     assert!(rt; packet.destination_addr() == IpAddr::V4(Ipv4Addr::new(10, 0, 0, 2)));
     let bytes = ipv6_bytes(rt.alloc(), 0, 59, &[])?;
     let packet = Ipv6Slice::from_slice(&bytes).ok().expect(&rt, "a packet");
-    assert_eq!(rt; packet.payload_ip_number(), IpNumber::IPV6_NO_NEXT_HEADER);
+    let none = IpNumber::IPV6_NO_NEXT_HEADER;
+    assert_same(&rt, "payload number", packet.payload_ip_number(), none);
     assert!(rt; !packet.is_payload_fragmented());
     let packet = IpSlice::from(packet);
     let address = |last| IpAddr::V6(Ipv6Addr::new(0x2001, 0xdb8, 0, 0, 0, 0, 0, last));

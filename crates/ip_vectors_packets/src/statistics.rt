@@ -1,5 +1,6 @@
 //! Statistics of single packets: the counts of each row are worked out by hand from RFC 791, RFC 4302 and RFC 8200, the
 //! codes are those of `include/wolfaren.h`.
+use crate::checks::assert_same;
 use crate::samples::{ipv4_bytes, ipv6_bytes};
 use ip_statistics::{CaptureStatistics, Statistics};
 use std::process::Abort;
@@ -118,7 +119,7 @@ fn check(
 ) {
     let mut found = Statistics::new();
     found.count_packet(bytes);
-    assert_eq!(rt; found, statistics_of(counted), "{name}");
+    assert_same(rt, name, &found, &statistics_of(counted));
     all.count_packet(bytes);
     merged.merge(&found);
 }
@@ -157,11 +158,9 @@ fn ipv4_packets(rt: HostRuntime) -> Result<(), Fail> {
         let bytes = ipv4_bytes(rt.alloc(), 0x45, *total_len, *flags, *protocol, after)?;
         check(&rt, name, bytes.as_slice(), counted, &mut all, &mut merged);
     }
-    assert_eq!(rt; all, merged);
-    assert_eq!(rt;
-        (all.packets, all.ipv4, all.payload_bytes),
-        (9, 9, 8 + 8 + 4 + 8 + 8 + 28)
-    );
+    assert_same(&rt, "merged", &all, &merged);
+    let sums = (all.packets, all.ipv4, all.payload_bytes);
+    assert_same(&rt, "sums", sums, (9, 9, 8 + 8 + 4 + 8 + 8 + 28));
     Ok(())
 }
 
@@ -215,11 +214,9 @@ fn ipv6_packets(rt: HostRuntime) -> Result<(), Fail> {
         let bytes = ipv6_bytes(rt.alloc(), *payload_length, *next_header, after)?;
         check(&rt, name, bytes.as_slice(), counted, &mut all, &mut merged);
     }
-    assert_eq!(rt; all, merged);
-    assert_eq!(rt;
-        (all.ipv6, all.headers[44], all.payload_bytes),
-        (11, 4, 8 + 5 + 8 + 8 + 8 + 8)
-    );
+    assert_same(&rt, "merged", &all, &merged);
+    let sums = (all.ipv6, all.headers[44], all.payload_bytes);
+    assert_same(&rt, "sums", sums, (11, 4, 8 + 5 + 8 + 8 + 8 + 8));
     Ok(())
 }
 
@@ -238,7 +235,7 @@ fn packets_without_a_header(rt: HostRuntime) {
         let counted = Counted { end, error, ..none };
         check(&rt, name, bytes, &counted, &mut all, &mut merged);
     }
-    assert_eq!(rt; all, merged);
+    assert_same(&rt, "merged", &all, &merged);
 }
 
 #[test]
@@ -249,8 +246,8 @@ fn long_chains(rt: HostRuntime) -> Result<(), Fail> {
         bytes.extend_from_slice(&[0; 2048])?;
         let mut found = Statistics::new();
         found.count_packet(bytes.as_slice());
-        assert_eq!(rt; found.chain_headers[1], 1, "{len}");
-        assert_eq!(rt; found.chain_bytes.get(index), Some(&1), "{len}");
+        assert_same(&rt, len, found.chain_headers[1], 1);
+        assert_same(&rt, len, found.chain_bytes.get(index), Some(&1));
     }
     let mut bytes = ipv6_bytes(rt.alloc(), 0, 60, &[])?;
     for _ in 0..17 {
@@ -263,7 +260,7 @@ fn long_chains(rt: HostRuntime) -> Result<(), Fail> {
         found.chain_bytes[34],
         found.headers[60],
     );
-    assert_eq!(rt; counts, (1, 1, 17));
+    assert_same(&rt, "17 headers", counts, (1, 1, 17));
     Ok(())
 }
 
@@ -279,13 +276,13 @@ fn largest_counts(rt: HostRuntime) {
         found.without_header,
         found.truncated_headers[1],
     );
-    assert_eq!(rt; counts, (2, u64::MAX, u64::MAX));
+    assert_same(&rt, "counts", counts, (2, u64::MAX, u64::MAX));
     let mut other = Statistics::new();
     other.packets = u64::MAX - 1;
     other.faults[0] = 3;
     found.merge(&other);
     let counts = (found.packets, found.without_header, found.faults[0]);
-    assert_eq!(rt; counts, (u64::MAX, u64::MAX, 3));
+    assert_same(&rt, "merged counts", counts, (u64::MAX, u64::MAX, 3));
 }
 
 #[test]
@@ -300,7 +297,7 @@ fn captures(rt: HostRuntime) {
     let mut found = empty(0);
     found.count_other_frame();
     found.clear();
-    assert_eq!(rt; found, empty(1));
+    assert_same(&rt, "cleared", &found, &empty(1));
     found.count_other_frame();
     found.count_truncated_frame();
     found.packets.count_packet(&[]);
@@ -309,6 +306,7 @@ fn captures(rt: HostRuntime) {
     sum.truncated_frames = u64::MAX;
     assert!(rt; sum.merge(&found));
     let counts = (sum.other_frames, sum.truncated_frames, sum.packets.packets);
-    assert_eq!(rt; counts, (1, u64::MAX, 1));
-    assert_eq!(rt; (found.other_frames, found.packets.packets), (1, 1));
+    assert_same(&rt, "sum", counts, (1, u64::MAX, 1));
+    let counts = (found.other_frames, found.packets.packets);
+    assert_same(&rt, "merged", counts, (1, 1));
 }

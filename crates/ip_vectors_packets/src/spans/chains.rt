@@ -1,4 +1,5 @@
 //! Chains, and steps along them.
+use crate::checks::assert_same;
 use crate::spans::samples::{NO_FAULT, STAYS, span};
 use ip_spans::{
     AuthFields, ChainCursor, ChainParts, FaultFields, FragmentFields, HeaderSpan, auth_fields,
@@ -47,16 +48,21 @@ fn content(header: u8, kind: u8) -> FaultFields {
     }
 }
 
+/// Returns the number of headers, their length, and the number that follows them.
+fn end_of(chain: &ChainParts) -> (usize, usize, u32) {
+    (chain.headers, chain.len, chain.next_header)
+}
+
 #[test]
 fn six_headers_in_arrays_of_each_length(rt: HostRuntime) {
     for room in 0..=8usize {
         let mut spans = [STAYS; 8];
         let chain = parse_chain(0, &SIX, &mut spans[..room]);
-        assert_eq!(rt; chain.headers, 6, "{room}");
-        assert_eq!(rt; chain.len, 52, "{room}");
+        assert_same(&rt, room, chain.headers, 6);
+        assert_same(&rt, room, chain.len, 52);
         let put = room.min(6);
-        assert_eq!(rt; spans.get(..put), spans_of_six().get(..put), "{room}");
-        assert_eq!(rt; spans.get(put..), [STAYS; 8].get(put..), "{room}");
+        assert_same(&rt, room, spans.get(..put), spans_of_six().get(..put));
+        assert_same(&rt, room, spans.get(put..), [STAYS; 8].get(put..));
     }
 }
 
@@ -79,32 +85,28 @@ fn truncated_chains(rt: HostRuntime) {
             next_header,
             fragmented: 0,
         };
-        assert_eq!(rt; parse_chain(0, &SIX[..len], &mut []), wanted, "{len}");
+        assert_same(&rt, len, parse_chain(0, &SIX[..len], &mut []), wanted);
     }
 }
 
 #[test]
 fn what_headers_say_is_wrong(rt: HostRuntime) {
     let again = parse_chain(0, &[0, 0, 0, 0, 0, 0, 0, 0], &mut []);
-    assert_eq!(rt; (again.headers, again.len, again.next_header), (1, 8, 0));
-    assert_eq!(rt; again.fault, content(8, 2));
+    assert_same(&rt, "twice", end_of(&again), (1, 8, 0));
+    assert_same(&rt, "twice, fault", again.fault, content(8, 2));
     let zero = parse_chain(51, &[17, 0, 0, 0, 0, 0, 0, 0, 0, 0, 0, 0], &mut []);
-    assert_eq!(rt; (zero.headers, zero.len, zero.next_header), (0, 0, 51));
-    assert_eq!(rt; zero.fault, content(4, 3));
+    assert_same(&rt, "zero length", end_of(&zero), (0, 0, 51));
+    assert_same(&rt, "zero length, fault", zero.fault, content(4, 3));
 }
 
 #[test]
 fn a_fragment(rt: HostRuntime) {
     let chain = parse_chain(44, &[17, 0, 0, 0xe1, 1, 2, 3, 4], &mut []);
-    assert_eq!(rt;
-        (chain.headers, chain.next_header, chain.fragmented),
-        (1, 17, 1)
-    );
+    let found = (chain.headers, chain.next_header, chain.fragmented);
+    assert_same(&rt, "fragment", found, (1, 17, 1));
     let atomic = parse_chain(44, &[17, 0, 0, 6, 1, 2, 3, 4], &mut []);
-    assert_eq!(rt;
-        (atomic.headers, atomic.next_header, atomic.fragmented),
-        (1, 17, 0)
-    );
+    let found = (atomic.headers, atomic.next_header, atomic.fragmented);
+    assert_same(&rt, "atomic fragment", found, (1, 17, 0));
 }
 
 #[test]
@@ -114,17 +116,17 @@ fn steps_along_six_headers(rt: HostRuntime) {
         number: 0,
     };
     for wanted in spans_of_six() {
-        assert_eq!(rt; cursor.fault(&SIX), NO_FAULT);
-        assert_eq!(rt; cursor.next_header(&SIX), Some(wanted));
+        assert_same(&rt, wanted.offset, cursor.fault(&SIX), NO_FAULT);
+        assert_same(&rt, wanted.offset, cursor.next_header(&SIX), Some(wanted));
     }
     let end = ChainCursor {
         offset: 52,
         number: 17,
     };
-    for _ in 0..3u32 {
-        assert_eq!(rt; cursor.next_header(&SIX), None);
-        assert_eq!(rt; cursor, end);
-        assert_eq!(rt; cursor.fault(&SIX), NO_FAULT);
+    for step in 0..3u32 {
+        assert_same(&rt, step, cursor.next_header(&SIX), None);
+        assert_same(&rt, step, cursor, end);
+        assert_same(&rt, step, cursor.fault(&SIX), NO_FAULT);
     }
 }
 
@@ -149,9 +151,9 @@ fn cursors_from_anywhere(rt: HostRuntime) {
     ];
     for (name, offset, number, fault) in rows {
         let mut cursor = ChainCursor { offset, number };
-        assert_eq!(rt; cursor.next_header(&SIX), None, "{name}");
-        assert_eq!(rt; cursor.fault(&SIX), fault, "{name}");
-        assert_eq!(rt; (cursor.offset, cursor.number), (offset, number), "{name}");
+        assert_same(&rt, name, cursor.next_header(&SIX), None);
+        assert_same(&rt, name, cursor.fault(&SIX), fault);
+        assert_same(&rt, name, (cursor.offset, cursor.number), (offset, number));
     }
 }
 
@@ -160,19 +162,19 @@ fn chains_of_ipv4(rt: HostRuntime) {
     let mut spans = [STAYS; 2];
     let bytes = [51, 1, 0, 0, 0, 0, 0, 0, 0, 0, 0, 0, 0x11, 0x01];
     let chain = parse_ipv4_chain(51, &bytes, &mut spans);
-    assert_eq!(rt; (chain.headers, chain.len, chain.next_header), (1, 12, 51));
-    assert_eq!(rt; (chain.fault, chain.fragmented), (NO_FAULT, 0));
-    assert_eq!(rt; spans, [span(0, 12, 51, 51), STAYS]);
-    assert_eq!(rt; parse_ipv4_chain(51, &bytes, &mut []).headers, 1);
+    assert_same(&rt, "chain", end_of(&chain), (1, 12, 51));
+    assert_same(&rt, "chain, fault", chain.fault, NO_FAULT);
+    assert_same(&rt, "chain, fragmented", chain.fragmented, 0);
+    assert_same(&rt, "spans", spans, [span(0, 12, 51, 51), STAYS]);
+    let chain = parse_ipv4_chain(51, &bytes, &mut []);
+    assert_same(&rt, "no room", chain.headers, 1);
     let none = parse_ipv4_chain(60, &bytes, &mut spans);
-    assert_eq!(rt; (none.headers, none.len, none.next_header), (0, 0, 60));
-    assert_eq!(rt; none.fault, NO_FAULT);
+    assert_same(&rt, "no extension number", end_of(&none), (0, 0, 60));
+    assert_same(&rt, "no extension number, fault", none.fault, NO_FAULT);
     let zero = parse_ipv4_chain(51, &[17, 0, 0, 0, 0, 0, 0, 0, 0, 0, 0, 0], &mut spans);
-    assert_eq!(rt; zero.fault, content(4, 3));
-    assert_eq!(rt;
-        parse_ipv4_chain(51, &bytes[..11], &mut spans).fault,
-        short(4, 4, 12, 11, 0)
-    );
+    assert_same(&rt, "zero length", zero.fault, content(4, 3));
+    let truncated = parse_ipv4_chain(51, &bytes[..11], &mut spans);
+    assert_same(&rt, "truncated", truncated.fault, short(4, 4, 12, 11, 0));
 }
 
 #[test]
@@ -184,8 +186,9 @@ fn fields_of_single_headers(rt: HostRuntime) {
         more_fragments: 1,
         next_header: 17,
     };
-    assert_eq!(rt; fragment_fields(&fragment), Some(wanted));
-    assert_eq!(rt; fragment_fields(&fragment[..7]), None);
+    assert_same(&rt, "fragment", fragment_fields(&fragment), Some(wanted));
+    let truncated = fragment_fields(&fragment[..7]);
+    assert_same(&rt, "truncated fragment", truncated, None);
     let auth = [17, 1, 0xff, 0xff, 0, 0, 0, 1, 0, 0, 0, 2];
     let wanted = AuthFields {
         len: 12,
@@ -193,7 +196,9 @@ fn fields_of_single_headers(rt: HostRuntime) {
         sequence_number: 2,
         next_header: 17,
     };
-    assert_eq!(rt; auth_fields(&auth), Some(wanted));
-    assert_eq!(rt; auth_fields(&auth[..11]), None);
-    assert_eq!(rt; auth_fields(&[17, 0, 0, 0, 0, 0, 0, 0, 0, 0, 0, 0]), None);
+    assert_same(&rt, "authentication", auth_fields(&auth), Some(wanted));
+    let truncated = auth_fields(&auth[..11]);
+    assert_same(&rt, "truncated authentication", truncated, None);
+    let zero = auth_fields(&[17, 0, 0, 0, 0, 0, 0, 0, 0, 0, 0, 0]);
+    assert_same(&rt, "zero length", zero, None);
 }

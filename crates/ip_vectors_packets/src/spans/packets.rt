@@ -1,4 +1,5 @@
 //! Packets.
+use crate::checks::assert_same;
 use crate::spans::samples::{NO_FAULT, STAYS, span};
 use ip_spans::{
     FaultFields, HeaderSpan, PacketParts, PayloadSpan, find_payload, find_payload_lax,
@@ -48,6 +49,19 @@ fn short(layer: u8, required_len: usize, len: usize, len_source: u8, offset: usi
     }
 }
 
+/// Checks the payload of an accepted packet.
+fn check_payload(rt: &impl Abort, bytes: &[u8], wanted: &PacketParts) {
+    assert_same(rt, "payload", find_payload(bytes), Ok(payload_of(wanted)));
+}
+
+/// Checks the parts and the payload of a packet that the lax calls accept.
+fn check_lax(rt: &impl Abort, bytes: &[u8], wanted: &PacketParts) {
+    let parts = parse_packet_lax(bytes, &mut []);
+    assert_same(rt, "lax parts", parts, Ok(*wanted));
+    let payload = find_payload_lax(bytes);
+    assert_same(rt, "lax payload", payload, Ok(payload_of(wanted)));
+}
+
 #[test]
 fn a_packet_with_two_headers(rt: HostRuntime) -> Result<(), Fail> {
     let after = [
@@ -65,11 +79,11 @@ fn a_packet_with_two_headers(rt: HostRuntime) -> Result<(), Fail> {
         len_source: 3,
     };
     let mut spans = [STAYS; 3];
-    assert_eq!(rt; parse_packet(&bytes, &mut spans), Ok(wanted));
-    assert_eq!(rt; spans, [span(40, 8, 60, 44), span(48, 8, 44, 17), STAYS]);
-    assert_eq!(rt; parse_packet_lax(&bytes, &mut []), Ok(wanted));
-    assert_eq!(rt; find_payload(&bytes), Ok(payload_of(&wanted)));
-    assert_eq!(rt; find_payload_lax(&bytes), Ok(payload_of(&wanted)));
+    assert_same(&rt, "parts", parse_packet(&bytes, &mut spans), Ok(wanted));
+    let stored = [span(40, 8, 60, 44), span(48, 8, 44, 17), STAYS];
+    assert_same(&rt, "spans", spans, stored);
+    check_payload(&rt, &bytes, &wanted);
+    check_lax(&rt, &bytes, &wanted);
     Ok(())
 }
 
@@ -89,23 +103,22 @@ fn an_ipv4_packet_with_an_authentication_header(rt: HostRuntime) -> Result<(), F
         len_source: 2,
     };
     let mut spans = [STAYS; 1];
-    assert_eq!(rt; parse_packet(&bytes, &mut spans), Ok(wanted));
-    assert_eq!(rt; spans, [span(24, 12, 51, 6)]);
-    assert_eq!(rt; parse_packet_lax(&bytes, &mut []), Ok(wanted));
-    assert_eq!(rt; find_payload(&bytes), Ok(payload_of(&wanted)));
-    assert_eq!(rt; find_payload_lax(&bytes), Ok(payload_of(&wanted)));
+    assert_same(&rt, "parts", parse_packet(&bytes, &mut spans), Ok(wanted));
+    assert_same(&rt, "spans", spans, [span(24, 12, 51, 6)]);
+    check_payload(&rt, &bytes, &wanted);
+    check_lax(&rt, &bytes, &wanted);
     Ok(())
 }
 
 /// Checks that the bytes are refused with this error, and that nothing is stored in the array.
 fn is_refused(rt: &impl Abort, name: &str, bytes: &[u8], fault: FaultFields) {
     let mut spans = [STAYS; 2];
-    assert_eq!(rt; parse_packet(bytes, &mut spans), Err(fault), "{name}");
-    assert_eq!(rt; spans, [STAYS; 2], "{name}");
-    assert_eq!(rt; parse_packet_lax(bytes, &mut spans), Err(fault), "{name}");
-    assert_eq!(rt; spans, [STAYS; 2], "{name}");
-    assert_eq!(rt; find_payload(bytes), Err(fault), "{name}");
-    assert_eq!(rt; find_payload_lax(bytes), Err(fault), "{name}");
+    assert_same(rt, name, parse_packet(bytes, &mut spans), Err(fault));
+    assert_same(rt, name, spans, [STAYS; 2]);
+    assert_same(rt, name, parse_packet_lax(bytes, &mut spans), Err(fault));
+    assert_same(rt, name, spans, [STAYS; 2]);
+    assert_same(rt, name, find_payload(bytes), Err(fault));
+    assert_same(rt, name, find_payload_lax(bytes), Err(fault));
 }
 
 #[test]
@@ -153,13 +166,14 @@ fn a_truncated_packet(rt: HostRuntime) -> Result<(), Fail> {
         len_source: 1,
     };
     let refused = short(6, 140, 51, 1, 0);
-    assert_eq!(rt; parse_packet(&bytes, &mut []), Err(refused));
-    assert_eq!(rt; find_payload(&bytes), Err(refused));
-    assert_eq!(rt; parse_packet_lax(&bytes, &mut []), Ok(accepted));
-    assert_eq!(rt; find_payload_lax(&bytes), Ok(payload_of(&accepted)));
+    assert_same(&rt, "parts", parse_packet(&bytes, &mut []), Err(refused));
+    assert_same(&rt, "payload", find_payload(&bytes), Err(refused));
+    check_lax(&rt, &bytes, &accepted);
     let short_auth = ipv6_bytes(rt.alloc(), 100, 51, &[17, 1, 0, 0, 0, 0, 0, 0, 0, 0, 0])?;
     let fault = short(4, 12, 11, 1, 40);
-    assert_eq!(rt; parse_packet_lax(&short_auth, &mut []), Err(fault));
-    assert_eq!(rt; find_payload_lax(&short_auth), Err(fault));
+    let parts = parse_packet_lax(&short_auth, &mut []);
+    assert_same(&rt, "truncated header", parts, Err(fault));
+    let payload = find_payload_lax(&short_auth);
+    assert_same(&rt, "truncated header, payload", payload, Err(fault));
     Ok(())
 }

@@ -1,6 +1,8 @@
 //! Errors as text.
+use crate::checks::{assert_bytes, assert_same, assert_that};
 use crate::spans::samples::NO_FAULT;
 use ip_spans::{FaultFields, fault_text};
+use std::process::Abort;
 
 const SHORT: FaultFields = FaultFields {
     required_len: 8,
@@ -62,15 +64,22 @@ fn rows() -> [(FaultFields, &'static str); 8] {
     ]
 }
 
+/// Checks that the text starts with these words and a zero, and that each byte after the zero is 1.
+fn check_text(rt: &impl Abort, words: &str, text: &[u8; 256]) {
+    let len = words.len();
+    assert!(rt; len < text.len(), "{words}");
+    assert_bytes(rt, words, &text[..len], words.as_bytes());
+    assert_same(rt, words, text[len], 0);
+    assert_that(rt, words, text[len + 1..].iter().all(|byte| *byte == 1));
+}
+
 #[test]
 fn words_of_each_kind(rt: HostRuntime) {
     for (fault, words) in rows() {
         let len = words.len();
         let mut text = [1; 256];
-        assert_eq!(rt; fault_text(&fault, &mut text), len, "{words}");
-        assert_eq!(rt; text.get(..len), Some(words.as_bytes()));
-        assert_eq!(rt; text.get(len), Some(&0), "{words}");
-        assert!(rt; text[len + 1..].iter().all(|byte| *byte == 1), "{words}");
+        assert_same(&rt, words, fault_text(&fault, &mut text), len);
+        check_text(&rt, words, &text);
     }
 }
 
@@ -80,14 +89,10 @@ fn room_for_words(rt: HostRuntime) {
         let len = words.len();
         let mut text = [1; 256];
         assert!(rt; len < text.len(), "{words}");
-        assert_eq!(rt; fault_text(&fault, &mut text[..len]), len, "{words}");
-        assert!(rt; text.iter().all(|byte| *byte == 1), "{words}");
-        assert_eq!(rt; fault_text(&fault, &mut text[..=len]), len, "{words}");
-        assert_eq!(rt; text.get(..len), Some(words.as_bytes()));
-        assert!(rt;
-            text[len] == 0 && text[len + 1..].iter().all(|byte| *byte == 1),
-            "{words}"
-        );
+        assert_same(&rt, words, fault_text(&fault, &mut text[..len]), len);
+        assert_that(&rt, words, text.iter().all(|byte| *byte == 1));
+        assert_same(&rt, words, fault_text(&fault, &mut text[..=len]), len);
+        check_text(&rt, words, &text);
     }
 }
 
@@ -110,7 +115,7 @@ fn codes_that_are_none(rt: HostRuntime) {
     ];
     for fault in none {
         let mut text = [1; 2];
-        assert_eq!(rt; fault_text(&fault, &mut text), 0);
-        assert_eq!(rt; text, [0, 1]);
+        assert_same(&rt, fault, fault_text(&fault, &mut text), 0);
+        assert_same(&rt, fault, text, [0, 1]);
     }
 }

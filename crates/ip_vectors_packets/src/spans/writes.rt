@@ -1,4 +1,5 @@
 //! Headers linked, and written from their place in other bytes.
+use crate::checks::{assert_bytes, assert_same};
 use crate::spans::samples::span;
 use ip_spans::{HeaderSpan, link_headers, parse_chain, write_headers};
 
@@ -23,53 +24,52 @@ const CLEARED: [u8; 28] = [
 #[test]
 fn headers_as_they_lie(rt: HostRuntime) {
     let mut out = [9; 30];
-    assert_eq!(rt;
-        write_headers(&THREE, &spans_of_three(), &mut out),
-        Some(28)
-    );
-    assert_eq!(rt; out.get(..28), Some(&CLEARED[..]));
-    assert_eq!(rt; out.get(28..), Some(&[9, 9][..]));
-    assert_eq!(rt; write_headers(&[], &[], &mut []), Some(0));
+    let len = write_headers(&THREE, &spans_of_three(), &mut out);
+    assert_same(&rt, "length", len, Some(28));
+    assert_same(&rt, "written", out.get(..28), Some(&CLEARED[..]));
+    assert_same(&rt, "after", out.get(28..), Some(&[9, 9][..]));
+    assert_same(&rt, "nothing", write_headers(&[], &[], &mut []), Some(0));
 }
 
 #[test]
 fn headers_in_another_order(rt: HostRuntime) {
     let [options, fragment, auth] = spans_of_three();
     let mut spans = [auth, options, fragment];
-    assert_eq!(rt; link_headers(&mut spans, 6), 51);
-    assert_eq!(rt;
-        spans,
-        [span(16, 12, 51, 60), span(0, 8, 60, 44), span(8, 8, 44, 6)]
-    );
+    assert_same(&rt, "first number", link_headers(&mut spans, 6), 51);
+    let linked = [span(16, 12, 51, 60), span(0, 8, 60, 44), span(8, 8, 44, 6)];
+    assert_same(&rt, "links", spans, linked);
     let mut out = [9; 28];
-    assert_eq!(rt; write_headers(&THREE, &spans, &mut out), Some(28));
-    assert_eq!(rt;
-        out.get(..12),
-        Some(&[60, 1, 0, 0, 3, 3, 3, 3, 0, 0, 0, 4][..])
+    let len = write_headers(&THREE, &spans, &mut out);
+    assert_same(&rt, "length", len, Some(28));
+    assert_bytes(
+        &rt,
+        "authentication",
+        &out[..12],
+        &[60, 1, 0, 0, 3, 3, 3, 3, 0, 0, 0, 4],
     );
-    assert_eq!(rt; out.get(12..20), CLEARED.get(..8));
-    assert_eq!(rt; out.get(20..), Some(&[6, 0, 0x01, 0x09, 2, 2, 2, 2][..]));
+    assert_bytes(&rt, "options", &out[12..20], &CLEARED[..8]);
+    assert_bytes(&rt, "fragment", &out[20..], &[6, 0, 0x01, 0x09, 2, 2, 2, 2]);
     let again = parse_chain(51, &out, &mut []);
-    assert_eq!(rt; (again.headers, again.len, again.next_header), (3, 28, 6));
+    let end = (again.headers, again.len, again.next_header);
+    assert_same(&rt, "parsed", end, (3, 28, 6));
 }
 
 #[test]
 fn links_of_none_and_of_one(rt: HostRuntime) {
-    assert_eq!(rt; link_headers(&mut [], 17), 17);
+    assert_same(&rt, "none", link_headers(&mut [], 17), 17);
     let mut one = [span(0, 8, 43, 7)];
-    assert_eq!(rt; link_headers(&mut one, 17), 43);
-    assert_eq!(rt; one, [span(0, 8, 43, 17)]);
+    assert_same(&rt, "one", link_headers(&mut one, 17), 43);
+    assert_same(&rt, "link of one", one, [span(0, 8, 43, 17)]);
 }
 
 #[test]
 fn room_for_what_is_written(rt: HostRuntime) {
     let mut out = [9; 28];
-    assert_eq!(rt;
-        write_headers(&THREE, &spans_of_three(), &mut out[..27]),
-        Some(28)
-    );
-    assert_eq!(rt; out, [9; 28]);
-    assert_eq!(rt; write_headers(&THREE, &spans_of_three(), &mut []), Some(28));
+    let len = write_headers(&THREE, &spans_of_three(), &mut out[..27]);
+    assert_same(&rt, "length", len, Some(28));
+    assert_same(&rt, "no bytes written", out, [9; 28]);
+    let len = write_headers(&THREE, &spans_of_three(), &mut []);
+    assert_same(&rt, "no room", len, Some(28));
 }
 
 #[test]
@@ -87,11 +87,8 @@ fn spans_that_hold_no_header(rt: HostRuntime) {
     for (name, wrong) in rows {
         let mut out = [9; 64];
         let [first, _, _] = spans_of_three();
-        assert_eq!(rt;
-            write_headers(&THREE, &[first, wrong], &mut out),
-            None,
-            "{name}"
-        );
-        assert_eq!(rt; out, [9; 64], "{name}");
+        let len = write_headers(&THREE, &[first, wrong], &mut out);
+        assert_same(&rt, name, len, None);
+        assert_same(&rt, name, out, [9; 64]);
     }
 }

@@ -7,6 +7,8 @@ mod accessors;
 #[cfg(test)]
 mod alike;
 #[cfg(test)]
+mod checks;
+#[cfg(test)]
 mod samples;
 #[cfg(test)]
 mod sources;

@@ -108,8 +108,11 @@ wheel: programs
 	$(PYTHON_IS_THERE)
 	rm -rf build/python
 	scripts/copy-python build/python
-	for python in python3 /usr/bin/python3; do ! $$python -c 'import pip, setuptools, wheel' 2>/dev/null || break; done; \
-		WOLFAREN_LIB_DIR=$(CURDIR)/build $$python -m pip wheel --quiet --no-build-isolation --no-deps --no-index -w build build/python
+	for python in python3 /usr/bin/python3; do \
+		$$python -c 'import setuptools, wheel, pip' 2>/dev/null || continue; \
+		WOLFAREN_LIB_DIR=$(CURDIR)/build exec $$python -m pip wheel --quiet --no-build-isolation --no-deps --no-index -w build build/python; \
+	done; \
+	echo "Python's pip, setuptools or wheel is missing (Debian: python3-pip python3-setuptools python3-wheel)." >&2; exit 1
 	rm -rf build/python
 
 PREFIX = /usr/local

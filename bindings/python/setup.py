@@ -9,10 +9,14 @@ from wheel.bdist_wheel import bdist_wheel
 
 FOLDER = os.environ.get("WOLFAREN_LIB_DIR")
 LIBRARIES = ["libwolfaren.so.0", "libwolfaren-pcap.so.0"]
+HEADERS = ["wolfaren.h", "wolfaren-pcap.h"]
 
 
 class BuildWithLibraries(build_py):
     def run(self):
+        missing = [it for it in HEADERS if not os.path.isfile(os.path.join("src", "wolfaren", it))]
+        if missing:
+            raise SystemExit(f"{', '.join(missing)} missing: run `make wheel`, or build a copy made by scripts/copy-python")
         super().run()
         for name in LIBRARIES if FOLDER else []:
             shutil.copy(os.path.join(FOLDER, name), os.path.join(self.build_lib, "wolfaren", name))

@@ -90,6 +90,14 @@ class ReadMe(unittest.TestCase):
 
 
 class Wheel(unittest.TestCase):
+    def test_no_headers(self):
+        with tempfile.TemporaryDirectory() as folder:
+            shutil.copytree(f"{ROOT}/bindings/python", f"{folder}/source")
+            status, said = run([sys.executable, "-m", "pip", "wheel", "--no-build-isolation", "--no-deps", "--no-index", "-w",
+                                folder, f"{folder}/source"])
+        self.assertEqual(status, 1, said)
+        self.assertIn("wolfaren.h, wolfaren-pcap.h missing: run `make wheel`", said)
+
     def test_wheel(self):
         """A wheel with the libraries is built from a copy of the sources, and used where nothing else is found."""
         with tempfile.TemporaryDirectory() as folder:

@@ -2,8 +2,8 @@
 use ip_filter::Filter;
 
 /// Parses the text, and returns 1 if the filter matches the packet, plus 2 if it matches a frame that is not IP. If the
-/// text is no filter, returns the index of what is expected among the variants of `Expected`, plus 16 times the offset
-/// and 16.
+/// text isn't a filter, returns 16, plus 16 times the offset of the error, plus the index of what is expected among the
+/// variants of `Expected`.
 #[unsafe(no_mangle)]
 pub extern "C" fn ipexts_filter(text: &[u8], packet: &[u8]) -> u64 {
     match Filter::parse(text) {

@@ -1,5 +1,7 @@
 -- The octets of an address built from octets.
-use Rattle.ip_spec.proofs.Common.{◌≡◌, ℕ, zero, suc, ◌%◌, ◌<◌, List, [], ◌∷◌, length, refl, ap, arith, octets_of, segments_of, div-mul-add, mod-mul-add}
+use Rattle.std.proofs.Common.{◌≡◌, ℕ, zero, suc, ◌%◌, ◌<◌, List, [], ◌∷◌, length, refl, ap, arith}
+use Rattle.std.proofs.lemmas.Nat.{div-mul-add, mod-mul-add}
+use Rattle.std.specs.Net.Addr.{octets_of, segments_of}
 use Rattle.std.specs.Prelude.{slice_index}
 
 -- splitting an even number of bytes into 16-bit segments and joining them returns the bytes

@@ -1,7 +1,7 @@
 -- The IPv4 base header with its options (RFC 791, section 3.1): its fields, in network byte order.
 use Rattle.std.specs.Prelude.{◌≡◌, ℕ, ◌+◌, ◌*◌, ◌/◌, ◌%◌, ◌≤◌, ◌==◌, not, Bool, List, length, slice_index, slice_range, bit_and, nat_lt, Option, Some, None, if◌then◌else◌}
 use Rattle.std.specs.Int.{from_be_bytes, w16}
-use Rattle.ip_spec.specs.Fields.{is_fragment}
+use Rattle.ip_base.specs.Fragment.{is_fragment}
 use Rattle.ip_base.specs.LenError.{too_short}
 use Rattle.ip_base.specs.declared.len_source.LenSource.TheVariants.{Slice}
 use Rattle.ip_base.specs.declared.err.layer.Layer.TheVariants as layer

@@ -1,3 +1,5 @@
+pub mod Prefix
+pub mod Fragment
 pub mod Names
 pub mod LenError
 pub mod Ipv4Header

@@ -1,5 +1,5 @@
 ghost use Rattle.std.specs.Prelude.{◌≡◌, ◌≤◌, ◌↔◌, ℕ, IsOk, IfOk, IfErr};
-ghost use Rattle.ip_spec.specs.Lengths.{MAX_FRAGMENT_OFFSET};
+ghost use Rattle.ip_base.specs.Fragment.{MAX_FRAGMENT_OFFSET};
 
 use crate::err::ValueTooBigError;
 use std::marker::Model;

@@ -1,7 +1,7 @@
 ghost use Rattle.std.specs.Prelude.{◌≡◌, ◌≤◌, length, IfOk};
 ghost use Rattle.std.specs.Result.{result_err};
 ghost use Rattle.std.specs.Net.Addr.{ipv4_octets};
-ghost use Rattle.ip_spec.specs.Prefix.{IsPrefix};
+ghost use Rattle.ip_base.specs.Prefix.{IsPrefix};
 ghost use Rattle.ip_base.specs.Ipv4Header.{IsIpv4Header, ipv4_header_fault};
 ghost use Rattle.ip_base.specs.Ipv4Header.{total_len, is_ipv4_fragmenting, protocol};
 ghost use Rattle.ip_base.specs.Ipv4Header.{ipv4_source_octets, ipv4_destination_octets};

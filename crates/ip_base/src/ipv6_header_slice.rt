@@ -1,7 +1,7 @@
 ghost use Rattle.std.specs.Prelude.{◌≡◌, ◌≤◌, length, IfOk};
 ghost use Rattle.std.specs.Result.{result_err};
 ghost use Rattle.std.specs.Net.Addr.{ipv6_octets};
-ghost use Rattle.ip_spec.specs.Prefix.{IsPrefix};
+ghost use Rattle.ip_base.specs.Prefix.{IsPrefix};
 ghost use Rattle.ip_base.specs.Ipv4Header.{version};
 ghost use Rattle.ip_base.specs.Ipv6Header.{IsIpv6Header, ipv6_header_fault};
 ghost use Rattle.ip_base.specs.Ipv6Header.{payload_length, ipv6_next_header};

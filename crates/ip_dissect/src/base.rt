@@ -1,7 +1,7 @@
 //! The base header at the start of bytes.
 ghost use Rattle.std.specs.Prelude.{◌≡◌, ◌≤◌, IfOk, None, length};
 ghost use Rattle.std.specs.Result.{result_err};
-ghost use Rattle.ip_spec.specs.Prefix.{IsPrefix};
+ghost use Rattle.ip_base.specs.Prefix.{IsPrefix};
 ghost use Rattle.ip_base.specs.LenError.{too_short};
 ghost use Rattle.ip_base.specs.Ipv4Header.{version, IsIpv4Header};
 ghost use Rattle.ip_base.specs.Ipv6Header.{IsIpv6Header};

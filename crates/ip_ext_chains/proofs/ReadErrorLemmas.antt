@@ -12,7 +12,7 @@ use Rattle.ip_base.specs.Reading.{IsConsumedInLayer, IsRefusedInLayer}
 use Rattle.ip_base.specs.declared.io.limited_reader.LimitedReader.{LimitedReader}
 use Rattle.ip_base.proofs.ReadingLemmas.{lift_some, of_all, of_begun, refused_short, refused_within_short, past_limit_short}
 use Rattle.ip_base.specs.declared.err.ip_auth.header_error.HeaderError.TheVariants.{ZeroPayloadLen}
-use Rattle.ip_ext_slices.specs.ChainFault.{Fault, short_at, fault_at}
+use Rattle.ip_ext_slices.specs.ChainFault.{Fault, fault_at}
 use Rattle.ip_base.specs.declared.err.ipv6_exts.header_error.HeaderError.TheVariants.{HopByHopNotAtStart, IpAuth}
 use Rattle.ip_ext_slices.specs.declared.err.ipv6_exts.header_slice_error.HeaderSliceError.TheVariants as slice
 use Rattle.ip_ext_slices.proofs.RequestFaultLemmas.{asks_fault, zero_fault}
@@ -37,7 +37,7 @@ module _ {R : Type 0} (Consumed : R → R → List ExtHeader → Type 0) (Refuse
   pub short_is : (leads_to n k.headers ≡ 0 → IsTrue (is_empty k.headers)) → (done : List ℕ) (count : ℕ) (xs : List ℕ) → Asks (leads_to n k.headers) done count → length xs < count → IsTooShort n (bytes_of k.headers ++ (done ++ xs))
   short_is zero_first done count xs asks few =
       let f = asks_fault Slice (length (done ++ xs)) (length (bytes_of k.headers)) (is_empty k.headers) (leads_to n k.headers) done count xs few zero_first asks in
-      (f.0, error_is (done ++ xs) (short_at f.1 f.0) f.2)
+      (f.0, error_is (done ++ xs) (slice.Len f.0, f.1) f.2)
 
   pub zero_is : (done xs : List ℕ) → leads_to n k.headers ≡ 51 → IsZeroLength done → HasError n (slice.Content (IpAuth ZeroPayloadLen)) (bytes_of k.headers ++ (done ++ xs))
   zero_is done xs is z = error_is (done ++ xs) _ (zero_fault Slice (length (done ++ xs)) (length (bytes_of k.headers)) (is_empty k.headers) (leads_to n k.headers) done xs is z)

@@ -1,5 +1,5 @@
 -- A write of a value that some chain encodes, or that was parsed from bytes, fails only if memory runs out.
-use Rattle.ip_spec.proofs.Common.{◌≡◌, ◌∙◌, ℕ, List, ap, sym, refl, true, ⊤, Option, Err, is_some, Bor, option_map, AllocError, ExtHeader, leads_to, AreBytes, IsSpelling}
+use Rattle.ip_spec.proofs.Common.{◌≡◌, ◌∙◌, ℕ, List, ap, sym, refl, true, ⊤, Option, Err, is_some, Bor, option_map, AllocError, ExtHeader, AreBytes, IsSpelling}
 use Rattle.std.specs.declared.result.Result.{Result}
 use Rattle.ip_spec.proofs.WalkLemmas.{is_some-map}
 use Rattle.ip_spec.proofs.SpellingLemmas.{one_answer, spelled_leads}
@@ -24,7 +24,7 @@ module _ (v : Ipv6Extensions) (n : ℕ) (old new : List ℕ) (o : Option (Bor Al
   ended (Content x) none k as_place = absurd (none x (k x refl))
 
   pub spelled_refused : (e : HeaderWriteError) (d : List ExtHeader) → IsSpelling (placed_fields v) n d → IsContent (Err e) → option_map (λ x. x.now) o ≡ io_of e → is_some o ≡ true
-  spelled_refused e d s = ended e (λ fault k. no_fault fault (leads_to n d) (one_answer (placed_fields v) n _ _ k.answer (spelled_leads (placed_fields v) n d s)))
+  spelled_refused e d s = ended e (λ fault k. no_fault fault _ (one_answer (placed_fields v) n _ _ k.answer (spelled_leads (placed_fields v) n d s)))
 
   pub read_refused : (e : HeaderWriteError) (s : List ℕ) → AreBytes s → value_of (fitting_chain n s) ≡ v → IsContent (Err e) → option_map (λ x. x.now) o ≡ io_of e → is_some o ≡ true
   read_refused e s bytes read = ended e (λ fault k. k.unread s bytes read)

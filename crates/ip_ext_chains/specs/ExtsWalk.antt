@@ -1,20 +1,11 @@
--- A walk over the headers of a struct of six places, and its result.
-use Rattle.std.specs.Prelude.{◌≡◌, false, Some, None, is_some, Result, Ok, Err, if◌then◌else◌}
-use Rattle.ip_base.specs.declared.ip_number_impl.IpNumber.{IpNumber}
+-- A walk over the headers of a struct of six places.
+use Rattle.std.specs.Prelude.{◌≡◌, false, Some, None, is_some, if◌then◌else◌}
 use Rattle.ip_spec.specs.Places.{Place, HeaderFields}
-use Rattle.ip_spec.specs.Walk.{PlacedFields, WalkAnswer, leads, hop_by_hop_not_at_start, not_referenced}
+use Rattle.ip_spec.specs.Walk.{PlacedFields}
 use Rattle.ip_spec.specs.WalkStep.{next_in_chain, next_of}
 use Rattle.ip_ext_chains.specs.Slots.{at, IsPut}
 use Rattle.ip_ext_chains.specs.Ipv6Extensions.{placed_fields}
-use Rattle.ip_base.specs.declared.err.ipv6_exts.exts_walk_error.ExtsWalkError.{ExtsWalkError}
-use Rattle.ip_base.specs.declared.err.ipv6_exts.exts_walk_error.ExtsWalkError.TheVariants.{HopByHopNotAtStart, ExtNotReferenced}
 use Rattle.ip_ext_chains.specs.declared.walk.Walk.{Walk}
-
--- a call's result as the result of a walk
-abbrev pub walk_answer : Result IpNumber ExtsWalkError → WalkAnswer
-walk_answer (Ok n) = leads n.0
-walk_answer (Err HopByHopNotAtStart) = hop_by_hop_not_at_start
-walk_answer (Err (ExtNotReferenced n)) = not_referenced n.0
 
 -- the fields of the headers that a walk hasn't reached
 abbrev pub left_in : Walk → PlacedFields

@@ -1,7 +1,8 @@
 -- The contents of a struct of six places.
 use Rattle.std.specs.Prelude.{ℕ, ◌+◌, List, Bool, false, ◌&&◌, Option, Some, None, is_none, option_and_then}
 use Rattle.std.specs.Option.{option_map, option_map_or}
-use Rattle.ip_spec.specs.Fields.{is_fragment, RawFields, FragmentFields, raw_fields, fragment_fields, auth_fields, raw_len, auth_len}
+use Rattle.ip_base.specs.Fragment.{is_fragment}
+use Rattle.ip_spec.specs.Fields.{RawFields, FragmentFields, raw_fields, fragment_fields, auth_fields, raw_len, auth_len}
 use Rattle.ip_spec.specs.Chain.{ExtHeader}
 use Rattle.ip_spec.specs.Places.{Place, hop_by_hop, destination, routing, fragment, authentication, final_destination, header_in, HeaderFields, raw_header, fragment_header, auth_header}
 use Rattle.ip_ext_chains.specs.declared.ipv6_routing_exts.Ipv6RoutingExtensions.{Ipv6RoutingExtensions}

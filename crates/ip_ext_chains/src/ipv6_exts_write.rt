@@ -1,10 +1,10 @@
-ghost use Rattle.std.specs.Prelude.{◌≡◌, ◌≤◌, ◌<◌, ◌↔◌, ◌+◌, ◌++◌, ℕ, List, None, Err, OnOk, IfSome, IfNone, vec_len, vec_capacity};
+ghost use Rattle.std.specs.Prelude.{◌≡◌, ◌≤◌, ◌<◌, ◌↔◌, ◌+◌, ◌++◌, ℕ, List, None, Ok, Err, OnOk, IfSome, IfNone, vec_len, vec_capacity};
 ghost use Rattle.ip_spec.specs.Header.{IsExtensionNumber};
 ghost use Rattle.ip_spec.specs.Encoding.{AreBytes, AppendsOne, cleared_chain};
 ghost use Rattle.ip_spec.specs.Encodable.{placed_len};
 ghost use Rattle.ip_spec.specs.Chain.{ExtHeader, bytes_of};
 ghost use Rattle.ip_spec.specs.Places.{Place as spec_place, places};
-ghost use Rattle.ip_spec.specs.Walk.{leads, IsSpelling, IsWalkAnswer};
+ghost use Rattle.ip_spec.specs.Walk.{IsSpelling, IsWalkAnswer};
 ghost use Rattle.ip_spec.specs.Fits.{FitsPlaces};
 ghost use Rattle.ip_spec.specs.Parse.{IsParsed};
 ghost use Rattle.ip_spec.specs.Links.{first_number, linked};
@@ -12,7 +12,7 @@ ghost use Rattle.ip_spec.specs.WalkStep.{IsEncodingOf};
 ghost use Rattle.ip_ext_chains.specs.HeaderRef.{fields_of_ref};
 ghost use Rattle.ip_ext_chains.specs.Fitting.{fitting_chain, IsFittingAnswer};
 ghost use Rattle.ip_ext_chains.specs.Ipv6Extensions.{placed_fields, value_of, exts_len};
-ghost use Rattle.ip_ext_chains.specs.ExtsWalk.{walk_answer, left_in, IsStep};
+ghost use Rattle.ip_ext_chains.specs.ExtsWalk.{left_in, IsStep};
 ghost use Rattle.ip_ext_chains.specs.Write.{IsWritten, IsWalkFault};
 ghost use Rattle.ip_ext_chains.specs.declared.err.ipv6_exts.header_write_error.HeaderWriteError.TheVariants.{Io, Content};
 
@@ -31,10 +31,9 @@ impl Ipv6Extensions {
     /// and each is reached, otherwise the error of the walk. It is Ok if and only if some bytes parse as this value
     /// with nothing left.
     pub fn next_header(&self, first: IpNumber) -> Result<IpNumber, ExtsWalkError>
-        ensures answer { IsWalkAnswer (placed_fields self.now) first.0 (walk_answer result) }
-        ensures exactly { (m : ℕ) → (walk_answer result ≡ leads m)
-            ↔ ((s : List ℕ)
-            × IsParsed FitsPlaces (λ c. value_of c ≡ self.now) first.0 m s) }
+        ensures answer { IsWalkAnswer (placed_fields self.now) first.0 result }
+        ensures exactly { (m : IpNumber) → (result ≡ Ok m) ↔ ((s : List ℕ)
+            × IsParsed FitsPlaces (λ c. value_of c ≡ self.now) first.0 m.0 s) }
     {
         self.encodable();
         let mut walk = Walk::new(self, first);
@@ -54,7 +53,7 @@ impl Ipv6Extensions {
     pub fn set_next_headers(&mut self, last: IpNumber) -> IpNumber
         ensures links { (p : spec_place) → placed_fields self.new p ≡ linked (placed_fields self.old) last.0 p }
         ensures first { result.0 ≡ first_number (placed_fields self.old) places last.0 }
-        ensures leads { IsWalkAnswer (placed_fields self.new) result.0 (leads last.0) }
+        ensures leads { IsWalkAnswer (placed_fields self.new) result.0 (Ok last) }
     {
         self.encodable();
         let next = link_final(&mut self.routing, last);
@@ -79,13 +78,13 @@ impl Ipv6Extensions {
     ) -> Result<(), HeaderWriteError>
         ensures ok { OnOk result (IsWritten self.now first.0 out.old.items out.new.items) }
         ensures len { OnOk result (vec_len out.new ≡ vec_len out.old + exts_len self.now) }
-        ensures parsed_again { OnOk result ((b r : List ℕ) (m : ℕ)
+        ensures parsed_again { OnOk result ((b r : List ℕ) (m : IpNumber)
             → out.new.items ≡ out.old.items ++ b
-            → IsWalkAnswer (placed_fields self.now) first.0 (leads m) → (IsExtensionNumber m → ⊥)
-            → IsFittingAnswer first.0 (b ++ r) self.now m r None) }
-        ensures parsed_whole { OnOk result ((b : List ℕ) (m : ℕ)
-            → out.new.items ≡ out.old.items ++ b → IsWalkAnswer (placed_fields self.now) first.0 (leads m)
-            → IsParsed FitsPlaces (λ c. value_of c ≡ self.now) first.0 m b) }
+            → IsWalkAnswer (placed_fields self.now) first.0 (Ok m) → (IsExtensionNumber m.0 → ⊥)
+            → IsFittingAnswer first.0 (b ++ r) self.now m.0 r None) }
+        ensures parsed_whole { OnOk result ((b : List ℕ) (m : IpNumber)
+            → out.new.items ≡ out.old.items ++ b → IsWalkAnswer (placed_fields self.now) first.0 (Ok m)
+            → IsParsed FitsPlaces (λ c. value_of c ≡ self.now) first.0 m.0 b) }
         ensures cleared { OnOk result ((s : List ℕ) → AreBytes s
             → value_of (fitting_chain first.0 s) ≡ self.now → out.new.items
             ≡ out.old.items ++ bytes_of (cleared_chain (fitting_chain first.0 s))) }

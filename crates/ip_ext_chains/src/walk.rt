@@ -9,7 +9,7 @@ ghost use Rattle.ip_ext_chains.specs.Place.{as_place};
 ghost use Rattle.ip_ext_chains.specs.Slots.{at, IsVacant};
 ghost use Rattle.ip_ext_chains.specs.HeaderRef.{fields_of_ref};
 ghost use Rattle.ip_ext_chains.specs.Ipv6Extensions.{placed_fields};
-ghost use Rattle.ip_ext_chains.specs.ExtsWalk.{walk_answer, left_in, IsStep, IsStop};
+ghost use Rattle.ip_ext_chains.specs.ExtsWalk.{left_in, IsStep, IsStop};
 
 use crate::Ipv6Extensions;
 use crate::err::ipv6_exts::ExtsWalkError;
@@ -158,7 +158,7 @@ impl<'a> Walk<'a> {
     /// Returns the number that was reached if no header is left, otherwise the error of the walk.
     #[inline(always)]
     pub(crate) fn answer(&self) -> Result<IpNumber, ExtsWalkError>
-        ensures { walk_answer result ≡ answer_at self.now.number.0 (left_in self.now) }
+        ensures { result ≡ answer_at self.now.number.0 (left_in self.now) }
     {
         match self.first_left() {
             None => Ok(self.number),

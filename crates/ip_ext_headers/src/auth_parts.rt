@@ -1,7 +1,7 @@
 //! The parts of an authentication header that a read consumes before the header is built.
 ghost use Rattle.std.specs.Prelude.{◌≡◌, length, OnOk, OnErr, IfOk, IfErr, IfSome};
 ghost use Rattle.std.specs.Io.KnownBytes.{Consumes};
-ghost use Rattle.ip_spec.specs.Prefix.{NoPrefix};
+ghost use Rattle.ip_base.specs.Prefix.{NoPrefix};
 ghost use Rattle.ip_spec.specs.Header.{IsAuthHeader};
 ghost use Rattle.ip_spec.specs.Fields.{auth_fields};
 ghost use Rattle.ip_spec.specs.Lengths.{IsIcvLen};

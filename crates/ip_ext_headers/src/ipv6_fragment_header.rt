@@ -1,8 +1,9 @@
 ghost use Rattle.std.specs.Prelude.{◌≡◌, ◌≤◌, ◌<◌, ◌+◌, ◌++◌, ℕ, List, OnOk, OnErr, IfOk, IfErr, vec_len, vec_capacity, length, IfSome};
 ghost use Rattle.std.specs.Io.KnownBytes.{Consumes};
-ghost use Rattle.ip_spec.specs.Prefix.{IsPrefix, NoPrefix};
+ghost use Rattle.ip_base.specs.Prefix.{IsPrefix, NoPrefix};
 ghost use Rattle.ip_spec.specs.Header.{IsFragmentHeader};
-ghost use Rattle.ip_spec.specs.Fields.{is_fragment, fragment_fields};
+ghost use Rattle.ip_base.specs.Fragment.{is_fragment};
+ghost use Rattle.ip_spec.specs.Fields.{fragment_fields};
 ghost use Rattle.ip_spec.specs.Encoding.{AppendsOne, IsFragmentEncoding};
 ghost use Rattle.ip_spec.specs.Decoding.{IsFragmentDecoding};
 ghost use Rattle.ip_spec.specs.Requests.{FragmentAsks};

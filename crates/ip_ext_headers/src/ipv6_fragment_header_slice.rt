@@ -1,5 +1,5 @@
 ghost use Rattle.std.specs.Prelude.{◌≡◌, ℕ, List, IfOk, IfErr, length};
-ghost use Rattle.ip_spec.specs.Prefix.{IsPrefix};
+ghost use Rattle.ip_base.specs.Prefix.{IsPrefix};
 ghost use Rattle.ip_spec.specs.Header.{IsFragmentHeader};
 ghost use Rattle.ip_spec.specs.Fields.{next_header, is_fragmenting, fragment_fields};
 

@@ -82,11 +82,11 @@ pub longest_from-end : (first : Bool) (m : ℕ) (r : List ℕ) → IsEnd first m
 longest_from-end first m r e = search (rules, none_begins, longest_chain-longest, eqb_tells, not_zero_ends)
 
 -- each of its headers has at least 8 bytes
-chain_within : (n : ℕ) (s : List ℕ) → 8 * length (longest_chain n s) ≤ length s
-chain_within n s = omega (arith, longest_chain-least n s, prefix-length (bytes_of (longest_chain n s)) s (longest_chain-longest n s).has.prefix)
+pub longest_chain-within : (n : ℕ) (s : List ℕ) → 8 * length (longest_chain n s) ≤ length s
+longest_chain-within n s = omega (arith, longest_chain-least n s, prefix-length (bytes_of (longest_chain n s)) s (longest_chain-longest n s).has.prefix)
 
 pub longest_from-least : (first : Bool) (n : ℕ) (s : List ℕ) → 8 * length (longest_from first n s) ≤ length s
-longest_from-least first n s = search (rules, chain_within, eqb_tells)
+longest_from-least first n s = search (rules, longest_chain-within, eqb_tells)
 
 none_after_zero : (k : ℕ) (c : List ExtHeader) → k ≡ 0 → AreLinked k c → AllByRecursion (λ h. h.number ≢ 0) c → c ≡ []
 none_after_zero k [] z links a = refl

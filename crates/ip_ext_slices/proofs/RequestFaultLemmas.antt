@@ -7,24 +7,24 @@ use Rattle.ip_base.specs.declared.len_source.LenSource.{LenSource}
 use Rattle.ip_ext_headers.specs.HeaderFault.{raw_fault, fragment_fault, auth_fault}
 use Rattle.ip_base.specs.declared.err.ip_auth.header_error.HeaderError.TheVariants.{ZeroPayloadLen}
 use Rattle.ip_ext_headers.proofs.FaultLemmas.{raw_at_header, fragment_at_header, auth_at_header, raw_asks_fault, fragment_asks_fault, auth_asks_fault, auth_zero_fault}
-use Rattle.ip_ext_slices.specs.ChainFault.{Fault, short_at, auth_at, fault_at}
+use Rattle.ip_ext_slices.specs.ChainFault.{Fault, auth_at, fault_at}
 use Rattle.ip_base.specs.declared.err.ipv6_exts.header_error.HeaderError.TheVariants.{IpAuth}
-use Rattle.ip_ext_slices.specs.declared.err.ipv6_exts.header_slice_error.HeaderSliceError.TheVariants.{Content}
+use Rattle.ip_ext_slices.specs.declared.err.ipv6_exts.header_slice_error.HeaderSliceError.TheVariants.{Len, Content}
 
 module _ (source : LenSource) (n k : ℕ) (x : List ℕ) where
   -- the error at a number is that of its header format
-  fault_first : (first : Bool) → IsTrue first → fault_at source n k first 0 x ≡ option_map (short_at Ipv6HopByHopHeader) (raw_fault source n k x)
+  fault_first : (first : Bool) → IsTrue first → fault_at source n k first 0 x ≡ option_map (λ e. (Len e, Ipv6HopByHopHeader)) (raw_fault source n k x)
   fault_first first t = search rules
 
-  fault_raw : (first : Bool) (m : ℕ) → IsRawNumber m → (m ≡ 0 → IsTrue first) → (l : Layer) × (fault_at source n k first m x ≡ option_map (short_at l) (raw_fault source n k x))
+  fault_raw : (first : Bool) (m : ℕ) → IsRawNumber m → (m ≡ 0 → IsTrue first) → (l : Layer) × (fault_at source n k first m x ≡ option_map (λ e. (Len e, l)) (raw_fault source n k x))
   fault_raw first m is zero_first =
-      let P : ℕ → Type 0 = λ j. (l : Layer) × (fault_at source n k first j x ≡ option_map (short_at l) (raw_fault source n k x)) in
+      let P : ℕ → Type 0 = λ j. (l : Layer) × (fault_at source n k first j x ≡ option_map (λ e. (Len e, l)) (raw_fault source n k x)) in
       elim is [
         | inl e ↦ subst P (sym e) (Ipv6HopByHopHeader, fault_first first (zero_first e))
         | inr is' ↦ elim is' [ inl e ↦ subst P (sym e) (Ipv6RouteHeader, refl) | inr e ↦ subst P (sym e) (Ipv6DestOptionsHeader, refl) ]
       ]
 
-  fault_fragment : (first : Bool) (m : ℕ) → m ≡ 44 → fault_at source n k first m x ≡ option_map (short_at Ipv6FragHeader) (fragment_fault source n k x)
+  fault_fragment : (first : Bool) (m : ℕ) → m ≡ 44 → fault_at source n k first m x ≡ option_map (λ e. (Len e, Ipv6FragHeader)) (fragment_fault source n k x)
   fault_fragment first m e = search rules
 
   fault_auth : (first : Bool) (m : ℕ) → m ≡ 51 → fault_at source n k first m x ≡ option_map auth_at (auth_fault source n k x)
@@ -40,15 +40,15 @@ module _ (source : LenSource) (n k : ℕ) (x : List ℕ) where
 module _ (source : LenSource) (n k : ℕ) (first : Bool) (m : ℕ) where
   -- a request after the consumed bytes finds too few
   pub asks_fault : (done : List ℕ) (count : ℕ) (xs : List ℕ) → length xs < count → (m ≡ 0 → IsTrue first) → Asks m done count
-      → (e : LenError) × (l : Layer) × (fault_at source n k first m (done ++ xs) ≡ Some (short_at l e))
+      → (e : LenError) × (l : Layer) × (fault_at source n k first m (done ++ xs) ≡ Some (Len e, l))
   asks_fault done count xs few zero_first a = elim a [
     | asks_raw is r ↦
         let f = fault_raw source n k (done ++ xs) first m is zero_first in
         let g = raw_asks_fault source n k done count xs few r in
-        (g.0, f.0, f.1 ∙ ap (option_map (short_at f.0)) g.1)
+        (g.0, f.0, f.1 ∙ ap (option_map (λ e. (Len e, f.0))) g.1)
     | asks_fragment e r ↦
         let g = fragment_asks_fault source n k done count xs few r in
-        (g.0, Ipv6FragHeader, fault_fragment source n k (done ++ xs) first m e ∙ ap (option_map (short_at Ipv6FragHeader)) g.1)
+        (g.0, Ipv6FragHeader, fault_fragment source n k (done ++ xs) first m e ∙ ap (option_map (λ e. (Len e, Ipv6FragHeader))) g.1)
     | asks_auth e r ↦
         let g = auth_asks_fault source n k done count xs few r in
         (g.0, IpAuthHeader, fault_auth source n k (done ++ xs) first m e ∙ ap (option_map auth_at) g.1)

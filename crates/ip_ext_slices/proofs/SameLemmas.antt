@@ -1,12 +1,13 @@
 -- Slices of extension headers with the same headers have the same first number and the same bytes.
-use Rattle.ip_spec.proofs.Common.{◌≡◌, ℕ, List, [], ◌∷◌, length, refl, ap, sym, ◌∙◌, arith, subst, ◌↔◌, IsTrue, Bool, false, rules, ◌==◌, Option, Some, None, ExtHeader, AreLinked, bytes_of}
+use Rattle.ip_spec.proofs.Common.{◌≡◌, ℕ, ◌*◌, ◌≤◌, List, [], ◌∷◌, length, refl, ap, sym, ◌∙◌, arith, subst, ◌↔◌, IsTrue, Bool, false, rules, ◌==◌, if◌then◌else◌, Option, Some, None, option_map_or, eqb-true, eqb_tells, ExtHeader, AreLinked, bytes_of}
+use Rattle.std.proofs.lemmas.List.{nil_from_length}
 use Rattle.std.specs.Prelude.{is_none}
 use Rattle.ip_base.specs.declared.ip_number_impl.IpNumber.{IpNumber}
 use Rattle.ip_ext_slices.specs.Longest.{longest_chain}
 use Rattle.ip_ext_slices.specs.StartNumber.{start_number}
 use Rattle.ip_ext_slices.specs.Ipv6ExtensionsSlice.{first_number, bytes, headers_in}
 use Rattle.ip_ext_slices.specs.declared.ipv6_exts_slice.Ipv6ExtensionsSlice.{Ipv6ExtensionsSlice}
-use Rattle.ip_ext_slices.proofs.LongestLemmas.{longest_chain-longest}
+use Rattle.ip_ext_slices.proofs.LongestLemmas.{longest_chain-longest, longest_chain-within}
 
 -- headers with bytes are linked from one number only
 linked_from_one : (m n : ℕ) (c : List ExtHeader) → AreLinked m c → AreLinked n c → (length (bytes_of c) == 0) ≡ false → m ≡ n
@@ -18,7 +19,26 @@ same_start m n s t e some =
     let links : AreLinked n (longest_chain m s) = subst (AreLinked n) (sym e) (longest_chain-longest n t).has.chain.links in
     linked_from_one m n (longest_chain m s) (longest_chain-longest m s).has.chain.links links some
 
-same_first : (x y : Option IpNumber) (s t : List ℕ) → longest_chain (start_number x) s ≡ longest_chain (start_number y) t → bytes_of (longest_chain (start_number x) s) ≡ s → s ≡ t → is_none x ≡ (length s == 0) → is_none y ≡ (length t == 0) → x ≡ y
+-- the longest chain from a first number, if there is one
+abbrev headers_from : Option IpNumber → List ℕ → List ExtHeader
+headers_from o s = option_map_or (λ n. longest_chain n.0 s) o []
+
+-- without bytes there are no headers, whatever the first number
+no_headers : (n : ℕ) (s : List ℕ) → length s ≡ 0 → longest_chain n s ≡ []
+no_headers n s none = nil_from_length (longest_chain n s) (omega (arith, longest_chain-within n s, none))
+
+pub from_start : (n : IpNumber) (o : Option IpNumber) (s : List ℕ) → o ≡ (if length s == 0 then None else Some n) → headers_from o s ≡ longest_chain n.0 s
+from_start n o s e = search (rules, no_headers, eqb_tells)
+
+pub from_start_number : (o : Option IpNumber) (s : List ℕ) → is_none o ≡ (length s == 0) → longest_chain (start_number o) s ≡ headers_from o s
+from_start_number None s none = no_headers (start_number None) s (eqb-true (length s) 0 (sym none))
+from_start_number (Some n) s none = refl
+
+pub from_start-least : (o : Option IpNumber) (s : List ℕ) → 8 * length (headers_from o s) ≤ length s
+from_start-least None s = omega arith
+from_start-least (Some n) s = longest_chain-within n.0 s
+
+same_first : (x y : Option IpNumber) (s t : List ℕ) → headers_from x s ≡ headers_from y t → bytes_of (headers_from x s) ≡ s → s ≡ t → is_none x ≡ (length s == 0) → is_none y ≡ (length t == 0) → x ≡ y
 same_first None None s t e w b f g = refl
 same_first None (Some n) s t e w b f g = absurd (grind (arith, ap (λ (u : List ℕ). length u == 0) b))
 same_first (Some m) None s t e w b f g = absurd (grind (arith, ap (λ (u : List ℕ). length u == 0) b))
@@ -34,6 +54,6 @@ same_headers-first x y e = same_first x.first_header y.first_header x.slice.now 
 -- a test for equal first numbers and bytes is a test for equal headers
 pub same_headers : (x y : Ipv6ExtensionsSlice) (r : Bool) → IsTrue r ↔ ((first_number x ≡ first_number y) × (bytes x ≡ bytes y)) → IsTrue r ↔ (headers_in x ≡ headers_in y)
 same_headers x y r k = (
-  λ t. ap (λ n. longest_chain (start_number n) (bytes x)) (k.0 t).0 ∙ ap (longest_chain (start_number (first_number y))) (k.0 t).1,
+  λ t. ap (λ o. headers_from o (bytes x)) (k.0 t).0 ∙ ap (headers_from (first_number y)) (k.0 t).1,
   λ e. k.1 (same_headers-first x y e, same_headers-bytes x y e),
 )

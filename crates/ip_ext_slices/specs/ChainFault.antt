@@ -22,23 +22,19 @@ use Rattle.ip_ext_slices.specs.declared.err.ipv6_exts.header_slice_error.HeaderS
 abbrev pub Fault : Type 0
 Fault = HeaderSliceError × Layer
 
--- too few bytes for a layer's header
-abbrev pub short_at : Layer → LenError → Fault
-short_at layer e = (Len e, layer)
-
 -- too few bytes for an authentication header, or a bad length field in it
 abbrev pub auth_at : AuthSliceError → Fault
-auth_at (auth.Len e) = short_at IpAuthHeader e
+auth_at (auth.Len e) = (Len e, IpAuthHeader)
 auth_at (auth.Content e) = (Content (IpAuth e), IpAuthHeader)
 
 -- The error at number m, with r left at offset k; the source says that n bytes are left. `first` says that no header
 -- precedes. None if a header follows, and none if m is not an extension header's number.
 abbrev pub fault_at : LenSource → ℕ → ℕ → Bool → ℕ → List ℕ → Option Fault
 fault_at source n k first m r =
-    if m == HOP_BY_HOP then (if first then option_map (short_at Ipv6HopByHopHeader) (raw_fault source n k r) else Some (Content HopByHopNotAtStart, Ipv6HopByHopHeader))
-    else if m == ROUTING then option_map (short_at Ipv6RouteHeader) (raw_fault source n k r)
-    else if m == DESTINATION_OPTIONS then option_map (short_at Ipv6DestOptionsHeader) (raw_fault source n k r)
-    else if m == FRAGMENT then option_map (short_at Ipv6FragHeader) (fragment_fault source n k r)
+    if m == HOP_BY_HOP then (if first then option_map (λ e. (Len e, Ipv6HopByHopHeader)) (raw_fault source n k r) else Some (Content HopByHopNotAtStart, Ipv6HopByHopHeader))
+    else if m == ROUTING then option_map (λ e. (Len e, Ipv6RouteHeader)) (raw_fault source n k r)
+    else if m == DESTINATION_OPTIONS then option_map (λ e. (Len e, Ipv6DestOptionsHeader)) (raw_fault source n k r)
+    else if m == FRAGMENT then option_map (λ e. (Len e, Ipv6FragHeader)) (fragment_fault source n k r)
     else if m == AUTHENTICATION then option_map auth_at (auth_fault source n k r)
     else None
 

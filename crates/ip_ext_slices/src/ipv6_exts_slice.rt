@@ -1,6 +1,6 @@
 ghost use Rattle.std.specs.Prelude.{◌≡◌, ◌==◌, ℕ, List, [], length, take, Option, Some, None, is_none, IfOk, IfErr, if◌then◌else◌};
-ghost use Rattle.std.specs.Option.{option_map};
-ghost use Rattle.ip_spec.specs.Prefix.{IsPrefix};
+ghost use Rattle.std.specs.Option.{option_map, option_map_or};
+ghost use Rattle.ip_base.specs.Prefix.{IsPrefix};
 ghost use Rattle.ip_spec.specs.Parse.{rest_after};
 ghost use Rattle.ip_spec.specs.Chain.{bytes_of, leads_to, headers_within, is_empty, has_fragmenting, IsLongestChain};
 ghost use Rattle.ip_ext_slices.specs.Longest.{longest_chain};
@@ -22,9 +22,10 @@ pub struct Ipv6ExtensionsSlice<'a> {
     first_header: Option<IpNumber>,
     fragmented: bool,
     slice: &'a [u8],
-    pub ghost whole: { bytes_of (longest_chain (start_number first_header) slice.now) ≡ slice.now },
-    pub ghost flag: { fragmented
-        ≡ has_fragmenting (longest_chain (start_number first_header) slice.now) },
+    pub ghost whole: { bytes_of (option_map_or (λ n. longest_chain n.0 slice.now) first_header [])
+        ≡ slice.now },
+    pub ghost flag: { fragmented ≡ has_fragmenting
+        (option_map_or (λ n. longest_chain n.0 slice.now) first_header []) },
     pub ghost first: { is_none first_header ≡ (length slice.now == 0) },
 }
 

@@ -2,7 +2,7 @@
 use Rattle.std.specs.Prelude.{◌≡◌, ℕ, List, [], length, Option, None, Some}
 use Rattle.std.specs.Option.{option_map_or}
 use Rattle.ip_spec.specs.Numbers.{NO_NEXT_HEADER}
-use Rattle.ip_spec.specs.Prefix.{IsPrefix}
+use Rattle.ip_base.specs.Prefix.{IsPrefix}
 use Rattle.ip_spec.specs.Chain.{bytes_of}
 use Rattle.ip_base.specs.Ipv4Header.{protocol, IsIpv4Header}
 use Rattle.ip_base.specs.Ipv6Header.{ipv6_next_header, IsIpv6Header}

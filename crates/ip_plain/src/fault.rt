@@ -4,7 +4,8 @@ ghost use Rattle.std.specs.Option.{option_map};
 ghost use Rattle.ip_ext_headers.specs.HeaderFault.{raw_fault, fragment_fault, auth_fault};
 ghost use Rattle.ip_base.specs.LenError.{too_short};
 ghost use Rattle.ip_base.specs.declared.len_source.LenSource.TheVariants.{Slice};
-ghost use Rattle.ip_ext_slices.specs.ChainFault.{slice_fault, short_at, auth_at};
+ghost use Rattle.ip_ext_slices.specs.ChainFault.{slice_fault, auth_at};
+ghost use Rattle.ip_ext_slices.specs.declared.err.ipv6_exts.header_slice_error.HeaderSliceError.TheVariants.{Len};
 
 use ip_base::LenSource;
 use ip_base::err::{Layer, LenError};
@@ -40,7 +41,7 @@ pub fn plain_fault(
 
 /// Returns the error that `required` bytes are needed.
 fn short(inner: Layer, left: &[u8], offset: usize, required: usize, layer: Layer) -> Fault
-    ensures { result ≡ short_at layer (too_short Slice (length left.now) offset inner required) }
+    ensures { result ≡ (Len (too_short Slice (length left.now) offset inner required), layer) }
 {
     let error = LenError {
         required_len: required,
@@ -54,7 +55,7 @@ fn short(inner: Layer, left: &[u8], offset: usize, required: usize, layer: Layer
 
 /// Returns the error of hop-by-hop options, routing and destination options.
 fn plain_raw_fault(left: &[u8], offset: usize, layer: Layer) -> Option<Fault>
-    ensures { result ≡ option_map (short_at layer)
+    ensures { result ≡ option_map (λ e. (Len e, layer))
         (raw_fault Slice (length left.now) offset left.now) }
 {
     if left.len() < 8 {
@@ -69,7 +70,7 @@ fn plain_raw_fault(left: &[u8], offset: usize, layer: Layer) -> Option<Fault>
 
 /// Returns the error of a fragment header.
 fn plain_fragment_fault(left: &[u8], offset: usize) -> Option<Fault>
-    ensures { result ≡ option_map (short_at Layer.Ipv6FragHeader)
+    ensures { result ≡ option_map (λ e. (Len e, Layer.Ipv6FragHeader))
         (fragment_fault Slice (length left.now) offset left.now) }
 {
     if left.len() < 8 {

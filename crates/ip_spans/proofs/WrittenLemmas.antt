@@ -54,7 +54,7 @@ relinked_header n m b header =
     let len : length (slice_set b 0 m) ≡ length b = length-set b 0 m in
     let one : slice_index (slice_set b 0 m) 1 ≡ slice_index b 1 = get_or-set_other b 0 1 m 0 (λ e. absurd (search rules)) in
     elim header [
-      | raw k h ↦ raw k (record { least = rw len h.least; len = len ∙ h.len ∙ ap (λ i. 8 * (i + 1)) (sym one) })
+      | raw k h ↦ raw k (record { len = len ∙ h.len ∙ ap (λ i. 8 * (i + 1)) (sym one) })
       | fragment k h ↦ fragment k (record { len = len ∙ h.len })
       | auth k h ↦ auth k (record { not_zero = rw one h.not_zero; len = len ∙ h.len ∙ ap (λ i. 4 * (i + 2)) (sym one) })
     ]

@@ -1,6 +1,6 @@
 -- The fields of single headers, as plain numbers.
 use Rattle.std.specs.Prelude.{◌≡◌, ℕ, List, length}
-use Rattle.ip_spec.specs.Prefix.{IsPrefix}
+use Rattle.ip_base.specs.Prefix.{IsPrefix}
 use Rattle.ip_spec.specs.Header.{IsFragmentHeader, IsAuthHeader}
 use Rattle.ip_spec.specs.Fields.{next_header, fragment_fields, auth_fields}
 use Rattle.ip_spans.specs.ChainParts.{flag}

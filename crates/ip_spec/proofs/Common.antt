@@ -44,6 +44,8 @@ pub use Rattle.std.specs.Str.{bytes_eq}
 pub use Rattle.std.specs.Str.Parse.{AllDigits, digits_value}
 pub use Rattle.std.specs.declared.alloc.AllocError.{AllocError}
 pub use borrow.Rule.Slice.PartMut.{put_mid}
+pub use Rattle.ip_base.specs.Fragment.{MAX_FRAGMENT_OFFSET}
+pub use Rattle.ip_base.specs.Prefix.{IsPrefix, NoPrefix}
 pub use Rattle.ip_spec.specs.Chain.{ExtHeader, bytes_of, has_fragmenting, IsEnd, IsChain, AreLinked, leads_to, headers_within, is_empty, IsPrefixChain, IsNext, IsLongestChain}
 pub use Rattle.ip_spec.specs.Decoding.{IsDecoding}
 pub use Rattle.ip_spec.specs.Demand.{AtMostOneOf, KeepsBeginning, NextBreaks, IsLongestUnder, IsEndUnder, NoDemand, IsDemand, AtMost, Passes}
@@ -52,14 +54,13 @@ pub use Rattle.ip_spec.specs.Encoding.{cleared_header, AreBytes, cleared_chain, 
 pub use Rattle.ip_spec.specs.Fields.{next_header, RawFields, FragmentFields, AuthFields, raw_fields, fragment_fields, auth_fields, is_fragmenting, offset_bits, flag_bit, unreserved_bits}
 pub use Rattle.ip_spec.specs.Fits.{Fits, FitsPlaces, IsOccupied}
 pub use Rattle.ip_spec.specs.Header.{IsExtensionNumber, IsHeader, raw, auth, IsRawNumber, IsRawHeader, IsFragmentHeader, IsAuthHeader, IsLaterNumber, fragment}
-pub use Rattle.ip_spec.specs.Lengths.{IsIcvLen, IsPayloadLen, MAX_FRAGMENT_OFFSET}
+pub use Rattle.ip_spec.specs.Lengths.{IsIcvLen, IsPayloadLen}
 pub use Rattle.ip_spec.specs.Links.{relinked, first_number, linked, places_after}
 pub use Rattle.ip_spec.specs.LongestOf.{IsLongestOf}
 pub use Rattle.ip_spec.specs.Numbers.{AUTHENTICATION, HOP_BY_HOP, FRAGMENT, ROUTING}
 pub use Rattle.ip_spec.specs.Parse.{rest_after, fault_after, IsParsed, IsAnswer}
 pub use Rattle.ip_spec.specs.Places.{next_place, Place, number_in, HeaderFields, hop_by_hop, destination, routing, authentication, final_destination, header_in, raw_header, fragment_header, auth_header, fields_of, side_of, index, places}
-pub use Rattle.ip_spec.specs.Prefix.{IsPrefix, NoPrefix}
 pub use Rattle.ip_spec.specs.Requests.{RawAsks, Asks, IsZeroLength, raw_start, raw_rest, AuthAsks, FragmentAsks, fragment_whole, auth_start, auth_icv, asks_raw, asks_fragment, asks_auth}
 pub use Rattle.ip_spec.specs.Runs.{joined, AreChains, AreRuns, how_many}
-pub use Rattle.ip_spec.specs.Walk.{PlacedFields, WalkAnswer, IsWalkAnswer, IsSpelling, IsReachable, answer_at, IsValueOf, leads, hop_by_hop_not_at_start, not_referenced}
+pub use Rattle.ip_spec.specs.Walk.{PlacedFields, IsWalkAnswer, IsSpelling, IsReachable, answer_at, IsValueOf}
 pub use Rattle.ip_spec.specs.WalkStep.{next_of, IsEncodingOf, next_in_chain}

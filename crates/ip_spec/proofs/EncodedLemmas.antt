@@ -55,7 +55,7 @@ module _ (x : RawFields) (next : x.next_header < 256) (len : IsPayloadLen (lengt
   raw_encoded n k =
       let all : AreBytes (raw_written x) = bytes_first x.next_header (drop 1 (raw_written x)) next (bytes_first ((length x.payload + 2) / 8 - 1) x.payload units bytes) in
       let one : AreBytes (slice_range (raw_written x) 1 2) = bytes_first ((length x.payload + 2) / 8 - 1) [] units (λ i d l. omega arith) in
-      let header : IsRawHeader (raw_written x) = record { least = omega (arith, len.least); len = omega (arith, len.least, len.whole) } in
+      let header : IsRawHeader (raw_written x) = record { len = omega (arith, len.least, len.whole) } in
       let E : ℕ → Type 0 = λ m. (h : ExtHeader) × IsEncoded m (raw_header x) h in
       by_raw E
       (of_number 0 (raw_written x), record { number = refl; header = raw (inl refl) header; fields = refl; cleared = record { reserved = refl; bytes = one }; bytes = all })

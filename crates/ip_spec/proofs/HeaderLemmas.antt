@@ -50,7 +50,7 @@ pub auth_of : (n : ℕ) (b : List ℕ) → n ≡ 51 → IsHeader n b → IsAuthH
 auth_of n b k h = elim h [ raw k' r ↦ absurd (grind (arith, common_steps)) | fragment e f ↦ absurd (omega arith) | auth e a ↦ a ]
 
 pub header-least : (n : ℕ) (b : List ℕ) → IsHeader n b → 8 ≤ length b
-header-least n b h = elim h [ raw k r ↦ r.least | fragment k f ↦ omega (arith, f.len) | auth k a ↦ omega (arith, a.len, a.not_zero) ]
+header-least n b h = elim h [ raw k r ↦ omega (arith, r.len) | fragment k f ↦ omega (arith, f.len) | auth k a ↦ omega (arith, a.len, a.not_zero) ]
 
 -- Bytes are a header, or not.
 pub header_or : (n : ℕ) (b : List ℕ) → IsHeader n b ⊎ (IsHeader n b → ⊥)
@@ -110,7 +110,7 @@ module _ (s : List ℕ) (k : ℕ) (enough : k ≤ length s) (least : 8 ≤ k) wh
   front_byte = prefix_byte (take k s) s (prefix_of-take k s) (omega (arith, front_len))
 
   pub raw_begins : k ≡ 8 * (slice_index s 1 + 1) → IsRawHeader (take k s)
-  raw_begins e = record { least = omega (arith, front_len); len = front_len ∙ e ∙ ap (λ m. 8 * (m + 1)) (sym front_byte) }
+  raw_begins e = record { len = front_len ∙ e ∙ ap (λ m. 8 * (m + 1)) (sym front_byte) }
 
   pub auth_begins : k ≡ 4 * (slice_index s 1 + 2) → 1 ≤ slice_index s 1 → IsAuthHeader (take k s)
   auth_begins e some_len = record { not_zero = subst (λ (m : ℕ). 1 ≤ m) (sym front_byte) some_len; len = front_len ∙ e ∙ ap (λ m. 4 * (m + 2)) (sym front_byte) }

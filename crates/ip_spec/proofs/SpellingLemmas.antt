@@ -1,5 +1,6 @@
 -- The encoding of a value, what it parses to, and its walk's result.
-use Rattle.ip_spec.proofs.Common.{◌≡◌, ℕ, ◌<◌, List, [], ◌∷◌, ◌++◌, refl, ap, sym, ◌∙◌, arith, subst, append_assoc, Bool, false, rules, Option, None, is_some, ◌==◌, ◌&&◌, ◌↔◌, if◌then◌else◌, option_map, option_map_or, AllByRecursion, find, common_steps, IsLongestOf, none-some, append-nil, All-append, IsHeader, IsExtensionNumber, AreBytes, IsCleared, cleared_chain, ExtHeader, leads_to, bytes_of, IsChain, IsLongestUnder, FitsPlaces, IsOccupied, Place, hop_by_hop, places, number_in, header_in, fields_of, IsEncodable, IsParsed, PlacedFields, IsValueOf, IsSpelling, IsReachable, WalkAnswer, leads, hop_by_hop_not_at_start, not_referenced, answer_at, IsWalkAnswer}
+use Rattle.ip_spec.proofs.Common.{◌≡◌, ℕ, ◌<◌, List, [], ◌∷◌, ◌++◌, refl, ap, sym, ◌∙◌, arith, subst, append_assoc, Bool, false, rules, Option, None, is_some, ◌==◌, ◌&&◌, ◌↔◌, if◌then◌else◌, option_map, option_map_or, AllByRecursion, find, common_steps, IsLongestOf, none-some, append-nil, All-append, IsHeader, IsExtensionNumber, AreBytes, IsCleared, cleared_chain, ExtHeader, leads_to, bytes_of, IsChain, IsLongestUnder, FitsPlaces, IsOccupied, Place, hop_by_hop, places, number_in, header_in, fields_of, IsEncodable, IsParsed, PlacedFields, IsValueOf, IsSpelling, IsReachable, answer_at, IsWalkAnswer, Err}
+use Rattle.ip_base.specs.declared.err.ipv6_exts.exts_walk_error.ExtsWalkError.TheVariants.{HopByHopNotAtStart, ExtNotReferenced}
 use Rattle.ip_spec.proofs.FirstLemmas.{none_passes}
 use Rattle.ip_spec.proofs.LongestOfLemmas.{longest_where_none_next}
 use Rattle.ip_spec.proofs.StepLemmas.{bytes_of-more}
@@ -10,7 +11,7 @@ use Rattle.ip_spec.proofs.ClearedLemmas.{cleared_is_chain, cleared_fits, cleared
 use Rattle.ip_spec.proofs.HeaderLemmas.{header_number}
 use Rattle.ip_spec.proofs.EncodedLemmas.{one_header_says}
 use Rattle.ip_spec.proofs.PlaceLemmas.{each, place_number, occupied_breaks}
-use Rattle.ip_spec.proofs.WalkLemmas.{unreached, none_if, Next, next_shown, shown_grows, one_reach}
+use Rattle.ip_spec.proofs.WalkLemmas.{WalkAnswer, leads, unreached, none_if, Next, next_shown, shown_grows, one_reach}
 
 -- bytes s parse as the value v of six places
 abbrev pub IsParsedAs : PlacedFields → ℕ → ℕ → List ℕ → Type 0
@@ -42,7 +43,7 @@ nothing_filled u e p = none_if (u p) (each (λ q. is_some (u q) ≡ false) (none
 -- a result that leads on means that nothing is left, and vice versa; the result is computed from what is left:
 -- hop-by-hop options, and the first place
 abbrev fault_or_number : ℕ → Bool → Option Place → WalkAnswer
-fault_or_number m b o = option_map_or (λ p. if (m == 0) && b then hop_by_hop_not_at_start else not_referenced (number_in p)) o (leads m)
+fault_or_number m b o = option_map_or (λ p. Err (if (m == 0) && b then HopByHopNotAtStart else ExtNotReferenced (record { 0 = number_in p }))) o (leads m)
 
 leads_told : (m k : ℕ) (b : Bool) (o : Option Place) → leads k ≡ fault_or_number m b o → (o ≡ None) × (m ≡ k)
 leads_told m k b o e = search rules

@@ -1,11 +1,21 @@
 -- The fields that a value has, the headers that it reaches and its encoding, from a number.
 use Rattle.ip_spec.proofs.Common.{◌≡◌, ℕ, List, [], ◌∷◌, ◌++◌, ap, sym, ◌∙◌, inl, inr, subst, append_assoc, true, false, rules, Option, Some, None, is_some, ◌==◌, if◌then◌else◌, option_map, cases_Bool, same_Some, append-nil, IsHeader, IsLongestOf, ExtHeader, leads_to, is_empty, IsChain, FitsPlaces, Place, index, header_in, fields_of, IsCleared, PlacedFields, IsReachable}
+use Rattle.std.specs.Prelude.{Result, Ok}
+use Rattle.ip_base.specs.declared.ip_number_impl.IpNumber.{IpNumber}
+use Rattle.ip_base.specs.declared.err.ipv6_exts.exts_walk_error.ExtsWalkError.{ExtsWalkError}
 use Rattle.ip_spec.proofs.LongestOfLemmas.{Grows, one_longest_of}
 use Rattle.ip_spec.proofs.StepLemmas.{all_first, all_next, chain_begins, chain_number, chain_header, chain_zero}
 use Rattle.ip_spec.proofs.FitsLemmas.{fits_places}
 use Rattle.ip_spec.proofs.PlaceLemmas.{place_of, has_routing, own_place, placed, breaks_more}
 use Rattle.ip_spec.proofs.HeaderLemmas.{header_number}
 use Rattle.ip_spec.proofs.EncodedLemmas.{one_header_says}
+
+abbrev pub WalkAnswer : Type 0
+WalkAnswer = Result IpNumber ExtsWalkError
+
+-- the result of a walk that leads to m
+abbrev pub leads : ℕ → WalkAnswer
+leads m = Ok (record { 0 = m })
 
 pub none_if : {X : Type 0} (o : Option X) → is_some o ≡ false → o ≡ None
 none_if o e = search rules

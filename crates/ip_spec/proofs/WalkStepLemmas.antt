@@ -1,10 +1,10 @@
 -- A walk that reaches headers of a value, one after the other.
-use Rattle.ip_spec.proofs.Common.{◌≡◌, ℕ, List, [], ◌∷◌, ◌++◌, refl, ap, sym, ◌∙◌, subst, Bool, true, false, arith, rules, Option, Some, None, is_some, ◌==◌, ◌&&◌, not, if◌then◌else◌, eq-eqb, eqb-true, none-some, common_steps, IsHeader, next_header, ExtHeader, leads_to, is_empty, Place, index, number_in, header_in, fields_of, HeaderFields, IsCleared, IsEncoded, PlacedFields, IsReachable, WalkAnswer, answer_at, IsWalkAnswer, next_place, next_in_chain, IsLongestOf}
+use Rattle.ip_spec.proofs.Common.{◌≡◌, ℕ, List, [], ◌∷◌, ◌++◌, refl, ap, sym, ◌∙◌, subst, Bool, true, false, arith, rules, Option, Some, None, is_some, ◌==◌, ◌&&◌, not, if◌then◌else◌, eq-eqb, eqb-true, none-some, common_steps, IsHeader, next_header, ExtHeader, leads_to, is_empty, Place, index, number_in, header_in, fields_of, HeaderFields, IsCleared, IsEncoded, PlacedFields, IsReachable, answer_at, IsWalkAnswer, next_place, next_in_chain, IsLongestOf}
 use Rattle.ip_spec.proofs.LongestOfLemmas.{longest_where_none_next}
 use Rattle.ip_spec.proofs.StepLemmas.{all_more, leads_to-more, chain_more, no_chain}
 use Rattle.ip_spec.proofs.FitsLemmas.{fits_places}
 use Rattle.ip_spec.proofs.PlaceLemmas.{place_of, has_routing, place_number, placed, fits_more, own_next, next_own, next_alike}
-use Rattle.ip_spec.proofs.WalkLemmas.{unreached, none_if, there, Next, next_shown, shown_grows}
+use Rattle.ip_spec.proofs.WalkLemmas.{WalkAnswer, unreached, none_if, there, Next, next_shown, shown_grows}
 
 -- The chain c was reached from f in v; r fills its places. It leads to m, and `first` says that it has no header.
 pub record Walking {Y : Type 0} (v : PlacedFields) (f : ℕ) (c : List ExtHeader) (r : Place → Option Y) (m : ℕ) (first : Bool) : Type 0 where

@@ -1,7 +1,7 @@
 -- Chains of extension headers (RFC 8200, section 4).
 use Rattle.std.specs.Prelude.{◌≡◌, ◌≢◌, ℕ, ◌-◌, nat_lt, List, [], ◌∷◌, length, drop, ⊤, Bool, true, false, IsTrue, ◌==◌, ◌&&◌, if◌then◌else◌}
 use Rattle.std.specs.List.{flat_map, AllByRecursion, list_any}
-use Rattle.ip_spec.specs.Prefix.{IsPrefix}
+use Rattle.ip_base.specs.Prefix.{IsPrefix}
 use Rattle.ip_spec.specs.Numbers.{HOP_BY_HOP, FRAGMENT}
 use Rattle.ip_spec.specs.LongestOf.{IsLongestOf}
 use Rattle.ip_spec.specs.Header.{IsHeader}

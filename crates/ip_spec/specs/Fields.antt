@@ -1,6 +1,7 @@
 -- The fields of a header, in network byte order. Byte 0 of each header is the next header.
-use Rattle.std.specs.Prelude.{ℕ, ◌+◌, ◌*◌, ◌/◌, ◌==◌, ◌||◌, not, Bool, List, length, drop, slice_index, slice_range, bit_and}
+use Rattle.std.specs.Prelude.{ℕ, ◌+◌, ◌*◌, ◌/◌, ◌==◌, not, Bool, List, length, drop, slice_index, slice_range, bit_and}
 use Rattle.std.specs.Int.{from_be_bytes, w32}
+use Rattle.ip_base.specs.Fragment.{is_fragment}
 
 abbrev pub next_header : List ℕ → ℕ
 next_header b = slice_index b 0
@@ -43,10 +44,7 @@ fragment_fields b = record {
   identification = from_be_bytes w32 (slice_range b 4 8);
 }
 
--- The packet is a fragment: more fragments follow, or the offset is not 0.
-abbrev pub is_fragment : Bool → ℕ → Bool
-is_fragment more offset = more || not (offset == 0)
-
+-- the packet is a fragment: more fragments follow, or the offset is not 0
 abbrev pub is_fragmenting : List ℕ → Bool
 is_fragmenting b = is_fragment (fragment_fields b).more_fragments (fragment_fields b).fragment_offset
 

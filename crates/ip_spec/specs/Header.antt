@@ -3,9 +3,8 @@ use Rattle.std.specs.Prelude.{◌≡◌, ℕ, ◌+◌, ◌*◌, ◌≤◌, List,
 use Rattle.ip_spec.specs.Numbers.{HOP_BY_HOP, ROUTING, FRAGMENT, AUTHENTICATION, DESTINATION_OPTIONS}
 
 -- Hop-by-hop options, routing, destination options (RFC 8200, sections 4.3, 4.4, 4.6): byte 1 is the length in units
--- of 8 bytes, without the first unit. `least` follows from `len`, and says at once what the shortest header is.
+-- of 8 bytes, without the first unit.
 pub record IsRawHeader (b : List ℕ) : Type 0 where
-  pub least : 8 ≤ length b
   pub len : length b ≡ 8 * (slice_index b 1 + 1)
 
 -- A fragment header (RFC 8200, section 4.5) has 8 bytes.

@@ -1,10 +1,6 @@
 -- The values and the lengths, in bytes, that a header's fields may have.
 use Rattle.std.specs.Prelude.{ℕ, ◌≡◌, ◌+◌, ◌≤◌, ◌%◌}
 
--- the largest fragment offset: 13 bits (RFC 8200, section 4.5)
-abbrev pub MAX_FRAGMENT_OFFSET : ℕ
-MAX_FRAGMENT_OFFSET = 0x1fff
-
 -- of a payload: with the next header and length fields before it, a multiple of 8 bytes, at most 256 units (RFC 8200,
 -- sections 4.3, 4.4, 4.6)
 pub record IsPayloadLen (n : ℕ) : Type 0 where

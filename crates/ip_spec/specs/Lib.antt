@@ -1,4 +1,3 @@
-pub mod Prefix
 pub mod Numbers
 pub mod Lengths
 pub mod LongestOf

@@ -20,7 +20,7 @@ pub record IsAnswer {X F : Type 0} (value_of : List ExtHeader → X) (faults : L
   pub value : x ≡ value_of c
   pub number : m ≡ leads_to n c
   pub rest : r ≡ rest_after c s
-  pub fault : f ≡ fault_after faults c n s
+  pub fault : f ≡ faults c (leads_to n c) (rest_after c s)
 
 -- Bytes s parse from number n with nothing left: the longest chain under the demand Q is all of them and leads to m,
 -- and its value meets V. `bytes` is needed since a list may have numbers that are no bytes.

@@ -1,7 +1,10 @@
 -- The encoding of a value of six places, the headers that it reaches from a number, and the result of a walk.
-use Rattle.std.specs.Prelude.{◌≡◌, ℕ, List, ◌==◌, ◌&&◌, Option, Some, None, is_some, if◌then◌else◌}
+use Rattle.std.specs.Prelude.{◌≡◌, ℕ, List, ◌==◌, ◌&&◌, Option, Some, None, is_some, Result, Ok, Err, if◌then◌else◌}
 use Rattle.std.specs.List.{find, AllByRecursion}
 use Rattle.std.specs.Option.{option_map, option_map_or, ForSome}
+use Rattle.ip_base.specs.declared.ip_number_impl.IpNumber.{IpNumber}
+use Rattle.ip_base.specs.declared.err.ipv6_exts.exts_walk_error.ExtsWalkError.{ExtsWalkError}
+use Rattle.ip_base.specs.declared.err.ipv6_exts.exts_walk_error.ExtsWalkError.TheVariants.{HopByHopNotAtStart, ExtNotReferenced}
 use Rattle.ip_spec.specs.Numbers.{HOP_BY_HOP}
 use Rattle.ip_spec.specs.LongestOf.{IsLongestOf}
 use Rattle.ip_spec.specs.Chain.{ExtHeader, IsChain, leads_to}
@@ -30,22 +33,16 @@ pub record IsSpelling (v : PlacedFields) (f : ℕ) (c : List ExtHeader) : Type 0
   pub reachable : IsReachable v f c
   pub value : IsValueOf c v
 
--- The result of a walk: the number to which it leads, or why not all headers are reached.
-pub data WalkAnswer : Type 0 where
-  leads : ℕ → WalkAnswer
-  hop_by_hop_not_at_start : WalkAnswer
-  not_referenced : ℕ → WalkAnswer
-
 -- The result if the headers reached lead to m and leave u, by the first check that holds: nothing is left; m is 0 and
 -- hop-by-hop options are left; otherwise no header refers to the first one left, in the order of the places.
-abbrev pub answer_at : ℕ → PlacedFields → WalkAnswer
+abbrev pub answer_at : ℕ → PlacedFields → Result IpNumber ExtsWalkError
 answer_at m u =
-    option_map_or (λ p. if (m == HOP_BY_HOP) && is_some (u hop_by_hop) then hop_by_hop_not_at_start else not_referenced (number_in p))
-    (find (λ p. is_some (u p)) places) (leads m)
+    option_map_or (λ p. Err (if (m == HOP_BY_HOP) && is_some (u hop_by_hop) then HopByHopNotAtStart else ExtNotReferenced (record { 0 = number_in p })))
+    (find (λ p. is_some (u p)) places) (Ok (record { 0 = m }))
 
 -- a is the result of the walk over v from f: the headers that it reaches are the longest reachable chain, and it
 -- leaves the fields of v in the places that this chain doesn't fill
-pub record IsWalkAnswer (v : PlacedFields) (f : ℕ) (a : WalkAnswer) : Type 0 where
+pub record IsWalkAnswer (v : PlacedFields) (f : ℕ) (a : Result IpNumber ExtsWalkError) : Type 0 where
   pub reach : List ExtHeader
   pub is_reach : IsLongestOf (IsReachable v f) reach
   pub answer : a ≡ answer_at (leads_to f reach) (λ p. if is_some (header_in p reach) then None else v p)

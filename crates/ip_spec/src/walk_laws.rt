@@ -1,4 +1,6 @@
-ghost use Rattle.std.specs.Prelude.{◌≡◌, ◌<◌, ◌↔◌, ℕ, List, ◌++◌, length};
+ghost use Rattle.std.specs.Prelude.{◌≡◌, ◌<◌, ◌↔◌, ℕ, List, ◌++◌, length, Result, Ok};
+ghost use Rattle.ip_base.specs.declared.ip_number_impl.IpNumber.{IpNumber};
+ghost use Rattle.ip_base.specs.declared.err.ipv6_exts.exts_walk_error.ExtsWalkError.{ExtsWalkError};
 ghost use Rattle.ip_spec.specs.LongestOf.{IsLongestOf};
 ghost use Rattle.ip_spec.specs.Header.{IsExtensionNumber};
 ghost use Rattle.ip_spec.specs.Encoding.{AreBytes, cleared_chain};
@@ -6,7 +8,7 @@ ghost use Rattle.ip_spec.specs.Chain.{ExtHeader, leads_to, bytes_of};
 ghost use Rattle.ip_spec.specs.Demand.{IsLongestUnder};
 ghost use Rattle.ip_spec.specs.Fits.{FitsPlaces, IsOccupied};
 ghost use Rattle.ip_spec.specs.Places.{Place, places};
-ghost use Rattle.ip_spec.specs.Walk.{PlacedFields, IsValueOf, IsSpelling, IsReachable, WalkAnswer, leads, IsWalkAnswer};
+ghost use Rattle.ip_spec.specs.Walk.{PlacedFields, IsValueOf, IsSpelling, IsReachable, IsWalkAnswer};
 ghost use Rattle.ip_spec.specs.Parse.{IsParsed};
 ghost use Rattle.ip_spec.specs.Links.{first_number, linked};
 ghost use Rattle.ip_spec.specs.Encodable.{IsEncodable, placed_len};
@@ -19,21 +21,21 @@ pub fn one_walk_answer()
     ensures only_reach { (v : PlacedFields) (f : ℕ) (c d : List ExtHeader)
         → IsLongestOf (IsReachable v f) c → IsLongestOf (IsReachable v f) d → c ≡ d }
     ensures some_answer { (v : PlacedFields) → IsEncodable v → (f : ℕ)
-        → (a : WalkAnswer) × IsWalkAnswer v f a }
-    ensures only_answer { (v : PlacedFields) (f : ℕ) (a b : WalkAnswer) → IsWalkAnswer v f a
-        → IsWalkAnswer v f b → a ≡ b }
+        → (a : Result IpNumber ExtsWalkError) × IsWalkAnswer v f a }
+    ensures only_answer { (v : PlacedFields) (f : ℕ) (a b : Result IpNumber ExtsWalkError)
+        → IsWalkAnswer v f a → IsWalkAnswer v f b → a ≡ b }
 {}
 
 /// Proves that a walk leads to a number if and only if the value is parsed from some bytes with that number and
 /// nothing else left, and if and only if a chain that leads there encodes it.
 pub fn walk_leads_where_the_value_is_parsed()
-    ensures read { (v : PlacedFields) → IsEncodable v → (f m : ℕ)
-        → IsWalkAnswer v f (leads m) ↔ ((s : List ℕ)
-        × IsParsed FitsPlaces (λ c. IsValueOf c v) f m s) }
-    ensures spelled { (v : PlacedFields) (f m : ℕ) → IsWalkAnswer v f (leads m)
-        → (c : List ExtHeader) × IsSpelling v f c × (leads_to f c ≡ m) }
+    ensures read { (v : PlacedFields) → IsEncodable v → (f : ℕ) (m : IpNumber)
+        → IsWalkAnswer v f (Ok m) ↔ ((s : List ℕ)
+        × IsParsed FitsPlaces (λ c. IsValueOf c v) f m.0 s) }
+    ensures spelled { (v : PlacedFields) (f : ℕ) (m : IpNumber) → IsWalkAnswer v f (Ok m)
+        → (c : List ExtHeader) × IsSpelling v f c × (leads_to f c ≡ m.0) }
     ensures spelling { (v : PlacedFields) (f : ℕ) (c : List ExtHeader) → IsSpelling v f c
-        → IsWalkAnswer v f (leads (leads_to f c)) }
+        → IsWalkAnswer v f (Ok (record { 0 = leads_to f c })) }
 {}
 
 /// Proves that at most one chain encodes a value from a number, and that equal bytes encode equal values only.
@@ -64,5 +66,5 @@ pub fn spelling_clears_what_was_parsed()
 /// Proves that a walk over linked headers reaches their end.
 pub fn linked_headers_are_walked()
     ensures { (v : PlacedFields) (m : ℕ) → m < 256 → IsEncodable v
-        → IsWalkAnswer (linked v m) (first_number v places m) (leads m) }
+        → IsWalkAnswer (linked v m) (first_number v places m) (Ok (record { 0 = m })) }
 {}

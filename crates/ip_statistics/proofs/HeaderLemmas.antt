@@ -6,7 +6,7 @@ use Rattle.std.proofs.lemmas.Grind.{common_steps}
 use Rattle.std.proofs.lemmas.List.{append_assoc, drop_at, take_at, nil_from_length}
 use Rattle.std.proofs.lemmas.List.Sums.{sum_by-cons}
 use Rattle.ip_spec.proofs.Common.{eqb_tells}
-use Rattle.ip_spec.specs.Prefix.{IsPrefix}
+use Rattle.ip_base.specs.Prefix.{IsPrefix}
 use Rattle.ip_spec.specs.Chain.{ExtHeader, bytes_of}
 use Rattle.ip_spec.specs.Demand.{AtMostOneOf}
 use Rattle.ip_spec.proofs.DemandKinds.{at_most_one_of}

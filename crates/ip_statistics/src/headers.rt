@@ -1,7 +1,7 @@
 //! Extension headers counted by their numbers.
 ghost use Rattle.std.specs.Prelude.{◌≡◌, ◌==◌, ◌<◌, ◌≤◌, ◌+◌, ℕ, List, length};
 ghost use Rattle.std.specs.List.{count_by};
-ghost use Rattle.ip_spec.specs.Prefix.{IsPrefix};
+ghost use Rattle.ip_base.specs.Prefix.{IsPrefix};
 ghost use Rattle.ip_spec.specs.Chain.{ExtHeader};
 ghost use Rattle.ip_spec.specs.Demand.{AtMostOneOf};
 ghost use Rattle.ip_base.specs.Ipv6HeaderSlice.{bytes as bytes_of_base};

@@ -1,7 +1,7 @@
 //! Callers of the base layer and of the plain program.
 ghost use Rattle.std.specs.Prelude.{◌≡◌, ◌≤◌, ◌<◌, ◌+◌, ◌^◌, length, take, IfOk, IfErr, IfSome};
 ghost use Rattle.ip_spec.specs.Header.{IsHeader};
-ghost use Rattle.ip_spec.specs.Lengths.{MAX_FRAGMENT_OFFSET};
+ghost use Rattle.ip_base.specs.Fragment.{MAX_FRAGMENT_OFFSET};
 
 use ip_base::IpFragOffset;
 use ip_base::err::{LenError, ValueTooBigError};

@@ -7,7 +7,7 @@ ghost use Rattle.ip_spec.specs.Fields.{auth_len};
 ghost use Rattle.ip_spec.specs.Encoding.{AppendsOne, AreBytes};
 ghost use Rattle.ip_spec.specs.Chain.{ExtHeader, IsNext, is_empty, leads_to, bytes_of};
 ghost use Rattle.ip_spec.specs.LongestOf.{IsLongestOf};
-ghost use Rattle.ip_spec.specs.Walk.{leads, IsSpelling, IsReachable, IsWalkAnswer};
+ghost use Rattle.ip_spec.specs.Walk.{IsSpelling, IsReachable, IsWalkAnswer};
 ghost use Rattle.ip_spec.specs.Numbers.{AUTHENTICATION};
 ghost use Rattle.ip_spec.specs.Demand.{AtMostOneOf, IsDemand, IsLongestUnder, Passes};
 ghost use Rattle.ip_spec.specs.Fits.{FitsPlaces};
@@ -22,7 +22,6 @@ ghost use Rattle.ip_ext_slices.specs.Ipv4ExtensionsSlice.{headers_in};
 ghost use Rattle.ip_ext_slices.specs.Ipv4Walk.{ipv4_walk, IsIpv4Encoding};
 ghost use Rattle.ip_ext_chains.specs.Ipv6Extensions.{placed_fields, value_of, exts_len};
 ghost use Rattle.ip_ext_chains.specs.Ipv6ExtensionsRuns.{start, input, values_left};
-ghost use Rattle.ip_ext_chains.specs.ExtsWalk.{walk_answer};
 
 use ip_base::IpNumber;
 use ip_base::err::Layer;
@@ -155,9 +154,9 @@ pub fn append_ipv6(headers: &Ipv6Extensions, first: IpNumber, out: &mut Vec<u8>)
         × IsSpelling (placed_fields headers.now) first.0 c
         × (out.new.items ≡ out.old.items ++ bytes_of c)) }
     ensures len { IfSome result (λ len. len ≡ vec_len out.old + exts_len headers.now) }
-    ensures parsed_whole { IfSome result (λ _. (b : List ℕ) (m : ℕ)
-        → out.new.items ≡ out.old.items ++ b → IsWalkAnswer (placed_fields headers.now) first.0 (leads m)
-        → IsParsed FitsPlaces (λ c. value_of c ≡ headers.now) first.0 m b) }
+    ensures parsed_whole { IfSome result (λ _. (b : List ℕ) (m : IpNumber)
+        → out.new.items ≡ out.old.items ++ b → IsWalkAnswer (placed_fields headers.now) first.0 (Ok m)
+        → IsParsed FitsPlaces (λ c. value_of c ≡ headers.now) first.0 m.0 b) }
     ensures alike { IfSome result (λ _. (v : Ipv6Extensions) (c : List ExtHeader)
         → IsSpelling (placed_fields v) first.0 c
         → (out.new.items ≡ out.old.items ++ bytes_of c) ↔ (headers.now ≡ v)) }
@@ -193,7 +192,7 @@ pub fn ipv6_walk_refused(
     out: &mut Vec<u8>,
 ) -> Option<ExtsWalkError>
     ensures answer { IfSome result (λ e.
-        IsWalkAnswer (placed_fields headers.now) first.0 (walk_answer (Err e))) }
+        IsWalkAnswer (placed_fields headers.now) first.0 (Err e)) }
     ensures reached { IfSome result (λ _. (c : List ExtHeader)
         × IsLongestOf (IsReachable (placed_fields headers.now) first.0) c
         × (out.new.items ≡ out.old.items ++ bytes_of c)) }

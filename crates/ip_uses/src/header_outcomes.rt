@@ -2,9 +2,9 @@
 //! Their own clauses name the result in std's terms only, so none of them can be proved if such a clause, or the term
 //! by which it names the result, says nothing.
 ghost use Rattle.std.specs.Prelude.{◌≡◌, true, ◌≤◌, ◌<◌, ◌+◌, ◌-◌, ℕ, List, Some, length, take, drop, OnErr, IfOk, IfErr, IfSome, IfNone, vec_len, vec_capacity};
-ghost use Rattle.ip_spec.specs.Prefix.{IsPrefix};
+ghost use Rattle.ip_base.specs.Prefix.{IsPrefix};
 ghost use Rattle.ip_spec.specs.Header.{IsRawHeader, IsFragmentHeader, IsAuthHeader};
-ghost use Rattle.ip_spec.specs.Lengths.{MAX_FRAGMENT_OFFSET};
+ghost use Rattle.ip_base.specs.Fragment.{MAX_FRAGMENT_OFFSET};
 ghost use Rattle.ip_spec.specs.Fields.{raw_len, auth_len};
 ghost use Rattle.ip_spec.specs.Encoding.{AppendsOne, IsRawEncoding, IsFragmentEncoding, IsAuthEncoding};
 ghost use Rattle.ip_spec.specs.Decoding.{IsRawDecoding, IsFragmentDecoding, IsAuthDecoding};

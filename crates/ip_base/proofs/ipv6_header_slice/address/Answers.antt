@@ -1,4 +1,5 @@
-use Rattle.ip_spec.proofs.Common.{◌≡◌, ◌∙◌, ap, length, ◌%◌, arith, octets_of, segments_of}
+use Rattle.std.proofs.Common.{◌≡◌, ◌∙◌, ap, length, ◌%◌, arith}
+use Rattle.std.specs.Net.Addr.{octets_of, segments_of}
 use Rattle.ip_base.proofs.AddressLemmas.{octets_of-segments_of}
 use Rattle.ip_base.proofs.ipv6_header_slice.address.Goals as goal
 

@@ -1,4 +1,4 @@
-use Rattle.ip_spec.proofs.Common.{◌≡◌, subst, arith, ap, length, vec_capacity, leads}
+use Rattle.ip_spec.proofs.Common.{◌≡◌, subst, arith, ap, length, vec_capacity, Ok}
 use Rattle.ip_ext_chains.specs.Ipv6Extensions.{placed_fields}
 use Rattle.ip_ext_chains.specs.Write.{IsWalkFault}
 use Rattle.ip_ext_chains.proofs.PlacedFieldsLemmas.{exts_sum}
@@ -50,9 +50,9 @@ pub returns-in-Ok-clause-ok : goal.returns-in-Ok-clause-ok
 returns-in-Ok-clause-ok g c =
     let k = c.headers.invariant.0 in
     let s = c.in_default-next.ensures.none in
-    all_written c.args.self.now c.args.first.0 c.args.out.now.items c.headers.out.items c.in-Ok.field-0.0 k.walked.reached
+    all_written c.args.self.now c.args.first.0 c.args.out.now.items c.headers.out.items c.in-Ok.field-0 k.walked.reached
     (walked_reach _ _ c.headers.walk c.next.new.self k.walked s)
-    (walked_answer _ _ c.headers.walk c.next.new.self k.walked s (leads c.in-Ok.field-0.0) c.in-Ok.ensures)
+    (walked_answer _ _ c.headers.walk c.next.new.self k.walked s (Ok c.in-Ok.field-0) c.in-Ok.ensures)
     k.appended
 
 pub returns-in-Ok-clause-len : goal.returns-in-Ok-clause-len

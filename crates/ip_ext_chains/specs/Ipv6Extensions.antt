@@ -35,10 +35,6 @@ placed_fields v fragment = option_map fragment_header v.fragment
 placed_fields v authentication = option_map auth_header v.auth
 placed_fields v final_destination = option_map raw_header (final_of v.routing)
 
--- the length of a routing header and the options after it
-abbrev pub routing_len : Ipv6RoutingExtensions → ℕ
-routing_len v = raw_len v.routing + option_map_or raw_len v.final_destination_options 0
-
 -- the sum over the places
 abbrev pub exts_len : Ipv6Extensions → ℕ
 exts_len v =

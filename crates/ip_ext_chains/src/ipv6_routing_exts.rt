@@ -1,5 +1,6 @@
-ghost use Rattle.std.specs.Prelude.{◌≡◌, ◌≤◌};
-ghost use Rattle.ip_ext_chains.specs.Ipv6Extensions.{routing_len};
+ghost use Rattle.std.specs.Prelude.{◌≡◌, ◌+◌, ◌≤◌};
+ghost use Rattle.std.specs.Option.{option_map_or};
+ghost use Rattle.ip_spec.specs.Fields.{raw_len};
 
 use ip_ext_headers::Ipv6RawExtHeader;
 use std::alloc::AllocError;
@@ -23,7 +24,8 @@ impl Ipv6RoutingExtensions {
 
     /// Returns the headers' length in bytes, `MIN_LEN` to `MAX_LEN`.
     pub fn header_len(&self) -> usize
-        ensures len { result ≡ routing_len self.now }
+        ensures len { result ≡ raw_len self.now.routing
+            + option_map_or raw_len self.now.final_destination_options 0 }
         ensures least { 8 ≤ result }
         ensures most { result ≤ 4096 }
     {

@@ -4,7 +4,6 @@ use Rattle.std.proofs.lemmas.List.{nil_from_length}
 use Rattle.std.specs.Prelude.{is_none}
 use Rattle.ip_base.specs.declared.ip_number_impl.IpNumber.{IpNumber}
 use Rattle.ip_ext_slices.specs.Longest.{longest_chain}
-use Rattle.ip_ext_slices.specs.StartNumber.{start_number}
 use Rattle.ip_ext_slices.specs.Ipv6ExtensionsSlice.{first_number, bytes, headers_in}
 use Rattle.ip_ext_slices.specs.declared.ipv6_exts_slice.Ipv6ExtensionsSlice.{Ipv6ExtensionsSlice}
 use Rattle.ip_ext_slices.proofs.LongestLemmas.{longest_chain-longest, longest_chain-within}
@@ -30,9 +29,9 @@ no_headers n s none = nil_from_length (longest_chain n s) (omega (arith, longest
 pub from_start : (n : IpNumber) (o : Option IpNumber) (s : List ℕ) → o ≡ (if length s == 0 then None else Some n) → headers_from o s ≡ longest_chain n.0 s
 from_start n o s e = search (rules, no_headers, eqb_tells)
 
-pub from_start_number : (o : Option IpNumber) (s : List ℕ) → is_none o ≡ (length s == 0) → longest_chain (start_number o) s ≡ headers_from o s
-from_start_number None s none = no_headers (start_number None) s (eqb-true (length s) 0 (sym none))
-from_start_number (Some n) s none = refl
+pub from_start_number : (o : Option IpNumber) (m : ℕ) (s : List ℕ) → is_none o ≡ (length s == 0) → longest_chain (option_map_or (λ n. n.0) o m) s ≡ headers_from o s
+from_start_number None m s none = no_headers m s (eqb-true (length s) 0 (sym none))
+from_start_number (Some n) m s none = refl
 
 pub from_start-least : (o : Option IpNumber) (s : List ℕ) → 8 * length (headers_from o s) ≤ length s
 from_start-least None s = omega arith

@@ -2,7 +2,6 @@ pub mod Longest
 pub mod ChainFault
 pub mod SliceError
 pub mod ChainAnswer
-pub mod StartNumber
 pub mod Ipv6ExtensionSlice
 pub mod Ipv6ExtensionsSlice
 pub mod Ipv6ExtensionSliceIter

@@ -6,7 +6,7 @@ ghost use Rattle.ip_spec.specs.Chain.{bytes_of, leads_to, headers_within, is_emp
 ghost use Rattle.ip_ext_slices.specs.Longest.{longest_chain};
 ghost use Rattle.ip_ext_slices.specs.ChainFault.{chain_fault};
 ghost use Rattle.ip_ext_slices.specs.ChainAnswer.{IsChainAnswer};
-ghost use Rattle.ip_ext_slices.specs.StartNumber.{start_number};
+ghost use Rattle.ip_spec.specs.Numbers.{UDP};
 
 use crate::err::Layer;
 use crate::err::ipv6_exts::HeaderSliceError;
@@ -191,7 +191,7 @@ impl<'a> IntoIterator for Ipv6ExtensionsSlice<'a> {
         ensures headers { headers_left result ≡ headers_in self.entry }
         ensures joined { bytes_of (headers_left result) ≡ bytes self.entry }
         ensures bound { 8 * length (headers_in self.entry) ≤ length (bytes self.entry) }
-        ensures number { number_left result ≡ start_number (first_number self.entry) }
+        ensures number { number_left result ≡ option_map_or (λ n. n.0) (first_number self.entry) UDP }
         ensures bytes { bytes_left result ≡ bytes self.entry }
     {
         Ipv6ExtensionSliceIter {

@@ -49,13 +49,13 @@ pub use Rattle.ip_base.specs.Prefix.{IsPrefix, NoPrefix}
 pub use Rattle.ip_spec.specs.Chain.{ExtHeader, bytes_of, has_fragmenting, IsEnd, IsChain, AreLinked, leads_to, headers_within, is_empty, IsPrefixChain, IsNext, IsLongestChain}
 pub use Rattle.ip_spec.specs.Decoding.{IsDecoding}
 pub use Rattle.ip_spec.specs.Demand.{AtMostOneOf, KeepsBeginning, NextBreaks, IsLongestUnder, IsEndUnder, NoDemand, IsDemand, AtMost, Passes}
-pub use Rattle.ip_spec.specs.Encodable.{IsEncoded, IsEncodable, placed_len, fields_len, sum_placed}
+pub use Rattle.ip_spec.specs.Encodable.{IsEncoded, IsEncodable, placed_len, fields_len}
 pub use Rattle.ip_spec.specs.Encoding.{cleared_header, AreBytes, cleared_chain, AppendsOne, IsAuthEncoding, IsCleared, fixed_len, IsFragmentEncoding, IsEncoding}
 pub use Rattle.ip_spec.specs.Fields.{next_header, RawFields, FragmentFields, AuthFields, raw_fields, fragment_fields, auth_fields, is_fragmenting, offset_bits, flag_bit, unreserved_bits}
 pub use Rattle.ip_spec.specs.Fits.{Fits, FitsPlaces, IsOccupied}
 pub use Rattle.ip_spec.specs.Header.{IsExtensionNumber, IsHeader, raw, auth, IsRawNumber, IsRawHeader, IsFragmentHeader, IsAuthHeader, IsLaterNumber, fragment}
 pub use Rattle.ip_spec.specs.Lengths.{IsIcvLen, IsPayloadLen}
-pub use Rattle.ip_spec.specs.Links.{relinked, first_number, linked, places_after}
+pub use Rattle.ip_spec.specs.Links.{relinked, first_number, linked}
 pub use Rattle.ip_spec.specs.LongestOf.{IsLongestOf}
 pub use Rattle.ip_spec.specs.Numbers.{AUTHENTICATION, HOP_BY_HOP, FRAGMENT, ROUTING}
 pub use Rattle.ip_spec.specs.Parse.{rest_after, fault_after, IsParsed, IsAnswer}

@@ -1,5 +1,5 @@
 -- A walk over headers linked in the order of their places reaches the end.
-use Rattle.ip_spec.proofs.Common.{◌≡◌, ℕ, ◌+◌, ◌<◌, List, [], ◌∷◌, ◌++◌, drop, refl, ap, sym, ◌∙◌, arith, inl, inr, subst, Bool, true, false, cond, rules, Option, Some, None, is_some, ◌==◌, nat_lt, if◌then◌else◌, find, option_map, option_map_or, cases_Bool, eqb-true, le-ltb, All-from_recursion, recursion_from_All, IsHeader, next_header, ExtHeader, Place, hop_by_hop, destination, routing, authentication, final_destination, places, index, number_in, fields_of, HeaderFields, IsCleared, IsEncoded, IsEncodable, PlacedFields, IsWalkAnswer, next_place, next_in_chain, next_of, relinked, first_number, places_after, linked}
+use Rattle.ip_spec.proofs.Common.{◌≡◌, ℕ, ◌+◌, ◌<◌, List, [], ◌∷◌, ◌++◌, drop, refl, ap, sym, ◌∙◌, arith, inl, inr, subst, Bool, true, false, cond, rules, Option, Some, None, is_some, ◌==◌, nat_lt, if◌then◌else◌, find, option_map, option_map_or, cases_Bool, eqb-true, le-ltb, All-from_recursion, recursion_from_All, IsHeader, next_header, ExtHeader, Place, hop_by_hop, destination, routing, authentication, final_destination, places, index, number_in, fields_of, HeaderFields, IsCleared, IsEncoded, IsEncodable, PlacedFields, IsWalkAnswer, next_place, next_in_chain, next_of, relinked, first_number, linked}
 use Rattle.ip_spec.specs.Places.{fragment as fragment_place}
 use Rattle.ip_spec.proofs.HeaderLemmas.{header-least}
 use Rattle.ip_spec.proofs.PlaceLemmas.{place_of, same_place, in_both, next_own}
@@ -50,11 +50,11 @@ mapped_some j o y e = search rules
 pub linked_encodable : (v : PlacedFields) (m : ℕ) → m < 256 → IsEncodable v → IsEncodable (linked v m)
 linked_encodable v m small e = record {
   encoded = λ p y k.
-      let j : ℕ = first_number v (places_after p) m in
+      let j : ℕ = first_number v (drop (index p + 1) places) m in
       let it = mapped_some j (v p) y k in
       let own = e.encoded p it.0 it.1 in
       let E : HeaderFields → Type 0 = λ z. (h : ExtHeader) × IsEncoded (number_in p) z h in
-      subst E it.2 (relinked_encoded (number_in p) j it.0 own.0 (first_number_small v (places_after p) m small) own.1);
+      subst E it.2 (relinked_encoded (number_in p) j it.0 own.0 (first_number_small v (drop (index p + 1) places) m small) own.1);
   nested = λ k. is_some-map _ (v routing) ∙ e.nested (sym (is_some-map _ (v final_destination)) ∙ k);
 }
 
@@ -108,7 +108,7 @@ module _ (v : PlacedFields) (m : ℕ) (small : m < 256) (e : IsEncodable v) wher
     step_none : v p ≡ None → Up (index p + 1)
     step_none none =
         let k = up.walking in
-        let absent : is_some (w p) ≡ false = is_some-map (relinked (first_number v (places_after p) m)) (v p) ∙ ap is_some none in
+        let absent : is_some (w p) ≡ false = is_some-map (relinked (first_number v (drop (index p + 1) places) m)) (v p) ∙ ap is_some none in
         record {
           reached = up.reached;
           first = up.first;
@@ -122,7 +122,7 @@ module _ (v : PlacedFields) (m : ℕ) (small : m < 256) (e : IsEncodable v) wher
 
     step_some : (x : HeaderFields) → v p ≡ Some x → next_in_chain up.first (first_k (index p) w) (number_in p) ≡ Some p → Up (index p + 1)
     step_some x some goes =
-        let j : ℕ = first_number v (places_after p) m in
+        let j : ℕ = first_number v (drop (index p + 1) places) m in
         let here : w p ≡ Some (relinked j x) = ap (option_map (relinked j)) some in
         let it = (linked_encodable v m small e).encoded p (relinked j x) here in
         let number : first_number v (drop (index p) places) m ≡ number_in p = ap (λ l. first_number v l m) at ∙ number_some p (drop (index p + 1) places) x some in
@@ -154,7 +154,7 @@ module _ (v : PlacedFields) (m : ℕ) (small : m < 256) (e : IsEncodable v) wher
       let u4 : Up 4 = step fragment_place refl u3 (λ x k. after_routing 3 44 fragment_place refl refl refl) in
       let u5 : Up 5 = step authentication refl u4 (λ x k. after_routing 4 51 authentication refl refl refl) in
       step final_destination refl u5
-      (λ x k. next_own (first_k 5 w) 60 final_destination (ap (place_of 60) (is_some-map (relinked (first_number v (places_after routing) m)) (v routing) ∙ e.nested (ap is_some k))) refl)
+      (λ x k. next_own (first_k 5 w) 60 final_destination (ap (place_of 60) (is_some-map (relinked (first_number v (drop (index routing + 1) places) m)) (v routing) ∙ e.nested (ap is_some k))) refl)
 
   -- a walk over linked headers leads to m
   pub linked_leads : IsWalkAnswer (linked v m) (first_number v places m) (leads m)

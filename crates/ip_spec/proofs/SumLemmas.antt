@@ -1,10 +1,14 @@
 -- Sums over the places of a value and over the headers of a chain.
-use Rattle.ip_spec.proofs.Common.{◌≡◌, ℕ, zero, suc, ◌+◌, ◌≤◌, List, [], ◌∷◌, ◌++◌, length, refl, ap, sym, ◌∙◌, arith, subst, append_assoc, Bool, true, false, rules, Option, Some, None, sum_by, AllByRecursion, option_map, none-some, same_Some, append-nil, length-append, sum_by-append, IsHeader, next_header, ExtHeader, leads_to, bytes_of, IsChain, FitsPlaces, Place, header_in, fields_of, HeaderFields, IsEncodable, fields_len, sum_placed, placed_len, PlacedFields, IsValueOf, IsReachable, answer_at, IsWalkAnswer, next_in_chain, IsLongestOf, index, ◌==◌, if◌then◌else◌}
+use Rattle.ip_spec.proofs.Common.{◌≡◌, ℕ, zero, suc, ◌+◌, ◌≤◌, List, [], ◌∷◌, ◌++◌, length, refl, ap, sym, ◌∙◌, arith, subst, append_assoc, Bool, true, false, rules, Option, Some, None, sum_by, AllByRecursion, option_map, option_map_or, none-some, same_Some, append-nil, length-append, sum_by-append, IsHeader, next_header, ExtHeader, leads_to, bytes_of, IsChain, FitsPlaces, Place, places, header_in, fields_of, HeaderFields, IsEncodable, fields_len, placed_len, PlacedFields, IsValueOf, IsReachable, answer_at, IsWalkAnswer, next_in_chain, IsLongestOf, index, ◌==◌, if◌then◌else◌}
 use Rattle.std.specs.Prelude.{⊤}
 use Rattle.ip_spec.proofs.StepLemmas.{chain_begins}
 use Rattle.ip_spec.proofs.FitsLemmas.{fits_places}
 use Rattle.ip_spec.proofs.WalkLemmas.{WalkAnswer, unreached, Joins, joins, there}
 use Rattle.ip_spec.proofs.WalkStepLemmas.{FillsIn, Walking, without, left, left_at, left_next, some_or, walk_begins, walks_on, walk_stops, same_held}
+
+-- the sum of f over the fields in the places
+abbrev pub sum_placed : (HeaderFields → ℕ) → PlacedFields → ℕ
+sum_placed f v = sum_by (λ p. option_map_or f (v p) 0) places
 
 -- Removing the header of a place subtracts its value from the sum.
 module _ (g : HeaderFields → ℕ) (u w : PlacedFields) where

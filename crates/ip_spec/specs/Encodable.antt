@@ -28,10 +28,6 @@ fields_len (raw_header x) = raw_len x
 fields_len (fragment_header x) = 8
 fields_len (auth_header x) = auth_len x
 
--- the sum of f over the fields in the places
-abbrev pub sum_placed : (HeaderFields → ℕ) → PlacedFields → ℕ
-sum_placed f v = sum_by (λ p. option_map_or f (v p) 0) places
-
 -- the length of the headers of all places
 abbrev pub placed_len : PlacedFields → ℕ
-placed_len v = sum_placed fields_len v
+placed_len v = sum_by (λ p. option_map_or fields_len (v p) 0) places

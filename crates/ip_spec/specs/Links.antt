@@ -15,10 +15,6 @@ relinked m (auth_header x) = auth_header (record x { next_header = m })
 abbrev pub first_number : PlacedFields → List Place → ℕ → ℕ
 first_number v ps m = option_map_or number_in (find (λ p. is_some (v p)) ps) m
 
--- the places after one
-abbrev pub places_after : Place → List Place
-places_after p = drop (index p + 1) places
-
--- v with each header leading to the next one, and the last to m
+-- v with each header leading to the one in the next place that has one, and the last to m
 abbrev pub linked : PlacedFields → ℕ → PlacedFields
-linked v m p = option_map (relinked (first_number v (places_after p) m)) (v p)
+linked v m p = option_map (relinked (first_number v (drop (index p + 1) places) m)) (v p)

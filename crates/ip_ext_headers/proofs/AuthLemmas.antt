@@ -7,7 +7,6 @@ use Rattle.ip_ext_headers.proofs.FaultLemmas.{auth_asks_fault, auth_zero_fault}
 use Rattle.ip_base.specs.Reading.{IsRefusedInLayer}
 use Rattle.ip_base.specs.LimitedReader.{inner_of, window}
 use Rattle.ip_base.specs.declared.err.io.limited_read_error.LimitedReadError.{LimitedReadError}
-use Rattle.ip_base.specs.declared.err.io.limited_read_error.LimitedReadError.TheVariants as limit
 use Rattle.ip_base.specs.declared.io.limited_reader.LimitedReader.{LimitedReader}
 use Rattle.ip_base.proofs.ReadingLemmas.{of_begun, refused_within_short, past_limit_short}
 use Rattle.ip_ext_headers.specs.declared.err.ip_auth.header_limited_read_error.HeaderLimitedReadError.{HeaderLimitedReadError}

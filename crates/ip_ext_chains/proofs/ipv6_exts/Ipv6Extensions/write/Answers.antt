@@ -1,6 +1,6 @@
 use Rattle.ip_spec.proofs.Common.{◌≡◌, subst, arith, ap, length, vec_capacity, Ok}
 use Rattle.ip_ext_chains.specs.Ipv6Extensions.{placed_fields}
-use Rattle.ip_ext_chains.specs.Write.{IsWalkFault}
+use Rattle.ip_ext_chains.specs.Write.{IsWritten, IsWalkFault}
 use Rattle.ip_ext_chains.proofs.PlacedFieldsLemmas.{exts_sum}
 use Rattle.ip_ext_chains.proofs.WalkedLemmas.{left_len, written_none, written_in, written_room, written_more, walked_answer, walked_reach, step_less, step_len}
 use Rattle.ip_ext_chains.proofs.WriteLemmas.{all_written, fault_written, written_len, written_again, written_whole, written_cleared, written_alike}
@@ -46,8 +46,9 @@ headers-preserved g c =
       omega (arith, c.headers.invariant.1, c.append.ensures.capacity),
     )
 
-pub returns-in-Ok-clause-ok : goal.returns-in-Ok-clause-ok
-returns-in-Ok-clause-ok g c =
+-- the bytes written
+written : (g : _) (c : goal.In-Ok g) → IsWritten c.args.self.now c.args.first.0 c.args.out.now.items c.headers.out.items
+written g c =
     let k = c.headers.invariant.0 in
     let s = c.in_default-next.ensures.none in
     all_written c.args.self.now c.args.first.0 c.args.out.now.items c.headers.out.items c.in-Ok.field-0 k.walked.reached
@@ -55,22 +56,25 @@ returns-in-Ok-clause-ok g c =
     (walked_answer _ _ c.headers.walk c.next.new.self k.walked s (Ok c.in-Ok.field-0) c.in-Ok.ensures)
     k.appended
 
+pub returns-in-Ok-clause-ok : goal.returns-in-Ok-clause-ok
+returns-in-Ok-clause-ok = written
+
 pub returns-in-Ok-clause-len : goal.returns-in-Ok-clause-len
 returns-in-Ok-clause-len g c =
-    omega (arith, written_len c.args.self.now c.args.first.0 c.args.out.now.items c.headers.out.items (returns-in-Ok-clause-ok g c), c.headers.out.ok.0, c.args.out.now.ok.0)
+    omega (arith, written_len c.args.self.now c.args.first.0 c.args.out.now.items c.headers.out.items (written g c), c.headers.out.ok.0, c.args.out.now.ok.0)
 
 pub returns-in-Ok-clause-parsed_again : goal.returns-in-Ok-clause-parsed_again
-returns-in-Ok-clause-parsed_again g c = written_again c.args.self.now c.args.first.0 c.args.out.now.items c.headers.out.items (returns-in-Ok-clause-ok g c)
+returns-in-Ok-clause-parsed_again g c = written_again c.args.self.now c.args.first.0 c.args.out.now.items c.headers.out.items (written g c)
 
 pub returns-in-Ok-clause-parsed_whole : goal.returns-in-Ok-clause-parsed_whole
 returns-in-Ok-clause-parsed_whole g c =
-    written_whole c.args.self.now c.args.first.0 c.args.out.now.items c.headers.out.items (returns-in-Ok-clause-ok g c) c.encodable.ensures
+    written_whole c.args.self.now c.args.first.0 c.args.out.now.items c.headers.out.items (written g c) c.encodable.ensures
 
 pub returns-in-Ok-clause-cleared : goal.returns-in-Ok-clause-cleared
-returns-in-Ok-clause-cleared g c = written_cleared c.args.self.now c.args.first.0 c.args.out.now.items c.headers.out.items (returns-in-Ok-clause-ok g c)
+returns-in-Ok-clause-cleared g c = written_cleared c.args.self.now c.args.first.0 c.args.out.now.items c.headers.out.items (written g c)
 
 pub returns-in-Ok-clause-alike : goal.returns-in-Ok-clause-alike
-returns-in-Ok-clause-alike g c = written_alike c.args.self.now c.args.first.0 c.args.out.now.items c.headers.out.items (returns-in-Ok-clause-ok g c)
+returns-in-Ok-clause-alike g c = written_alike c.args.self.now c.args.first.0 c.args.out.now.items c.headers.out.items (written g c)
 
 pub returns-in-Ok-clause-capacity : goal.returns-in-Ok-clause-capacity
 returns-in-Ok-clause-capacity g c = c.headers.invariant.1

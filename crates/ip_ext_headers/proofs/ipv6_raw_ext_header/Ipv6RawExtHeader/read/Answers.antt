@@ -1,4 +1,4 @@
-use Rattle.ip_spec.proofs.Common.{rules, arith, ◌≡◌, ◌+◌, ◌++◌, length, ◌∙◌, refl, sym, [], Consumes-nil, Consumes-trans, RawAsks, raw_start, raw_rest}
+use Rattle.ip_spec.proofs.Common.{rules, arith, ◌≡◌, ◌++◌, length, ◌∙◌, refl, sym, [], Consumes-nil, Consumes-trans, RawAsks, raw_start, raw_rest}
 use Rattle.ip_spec.proofs.RequestLemmas.{raw_joined, raw_joined_fields}
 use Rattle.ip_base.proofs.ReadingLemmas.{refused_after}
 use Rattle.ip_ext_headers.proofs.ipv6_raw_ext_header.Ipv6RawExtHeader.read.Goals as goal

@@ -1,14 +1,10 @@
 -- The error of a chain that is read is the error of the parse.
-use Rattle.ip_spec.proofs.Common.{common_steps, ◌≡◌, ℕ, ◌<◌, List, ◌∷◌, ◌++◌, length, refl, ap, ◌∙◌, Bool, true, false, arith, rules, [], Option, Some, IsTrue, option_map, Consumes, IsRawNumber, RawAsks, Asks, IsZeroLength, ExtHeader, leads_to, bytes_of, is_empty}
-use Rattle.std.proofs.Common.{length-append}
+use Rattle.ip_spec.proofs.Common.{◌≡◌, ℕ, ◌<◌, List, ◌++◌, length, refl, ap, ◌∙◌, Bool, true, false, rules, Option, Some, IsTrue, option_map, Consumes, Asks, IsZeroLength, ExtHeader, leads_to, bytes_of, is_empty}
 use Rattle.ip_base.specs.declared.len_source.LenSource.TheVariants.{Slice}
-use Rattle.ip_base.specs.declared.err.layer.Layer.TheVariants.{Ipv6ExtHeader}
 use Rattle.ip_base.specs.declared.err.io.limited_read_error.LimitedReadError.{LimitedReadError}
-use Rattle.ip_spec.proofs.ChainLemmas.{bytes_of-more}
 use Rattle.ip_base.specs.ExactRead.{IfSteady}
-use Rattle.ip_base.specs.Limits.{Limits, started, advanced}
 use Rattle.ip_base.specs.LimitedReader.{inner_of, window}
-use Rattle.ip_base.specs.Reading.{IsConsumedInLayer, IsRefusedInLayer}
+use Rattle.ip_base.specs.Reading.{IsRefusedInLayer}
 use Rattle.ip_base.specs.declared.io.limited_reader.LimitedReader.{LimitedReader}
 use Rattle.ip_base.proofs.ReadingLemmas.{lift_some, of_all, of_begun, refused_short, refused_within_short, past_limit_short}
 use Rattle.ip_base.specs.declared.err.ip_auth.header_error.HeaderError.TheVariants.{ZeroPayloadLen}
@@ -17,13 +13,12 @@ use Rattle.ip_base.specs.declared.err.ipv6_exts.header_error.HeaderError.TheVari
 use Rattle.ip_ext_slices.specs.declared.err.ipv6_exts.header_slice_error.HeaderSliceError.TheVariants as slice
 use Rattle.ip_ext_slices.proofs.RequestFaultLemmas.{asks_fault, zero_fault}
 use Rattle.ip_ext_chains.specs.ReadError.{HasError, IsTooShort, IsSliceError, IsSliceErrorInLayers, of_limited_error}
-use Rattle.ip_ext_chains.specs.ChainReading.{AreConsumed, AreConsumedInLayers, IsChainRefused, IsHeaderRefused, IsHeaderRefusedInLayer, layer_of, limits_after}
+use Rattle.ip_ext_chains.specs.ChainReading.{AreConsumed, AreConsumedInLayers, IsChainRefused, IsHeaderRefused, IsHeaderRefusedInLayer, layer_of}
 use Rattle.ip_ext_chains.specs.declared.err.ipv6_exts.header_read_error.HeaderReadError.{HeaderReadError}
 use Rattle.ip_ext_chains.specs.declared.err.ipv6_exts.header_read_error.HeaderReadError.TheVariants as read
 use Rattle.ip_ext_chains.specs.declared.err.ipv6_exts.header_limited_read_error.HeaderLimitedReadError.{HeaderLimitedReadError}
 use Rattle.ip_ext_chains.specs.declared.err.ipv6_exts.header_limited_read_error.HeaderLimitedReadError.TheVariants as limited
 use Rattle.ip_ext_chains.proofs.FittingLemmas.{fitting_fault_is}
-use Rattle.ip_ext_chains.proofs.ReadingLemmas.{never_empty}
 
 -- a property of the bytes after consumed ones, also for a steady reader only
 pub lift_steady : (steady then_steady : Bool) (a b : Option (List ℕ)) (done : List ℕ) (Q : List ℕ → Type 0) → then_steady ≡ steady → Consumes a b done → IfSteady then_steady b (λ y. Q (done ++ y)) → IfSteady steady a Q
@@ -48,16 +43,6 @@ module _ {R : Type 0} (Consumed : R → R → List ExtHeader → Type 0) (Refuse
       error_is x _ (ap (λ (b : Bool). at b (leads_to n k.headers)) later ∙ ap (at false) is)
 
 module _ {T : Type 0} (bytes_left : T → Option (List ℕ)) (is_steady has_failed : T → Bool) where
-  -- one more header was read
-  pub consumed_next : (old mid new : T) (c : List ExtHeader) (h : ExtHeader) → AreConsumed bytes_left is_steady has_failed old mid c → Consumes (bytes_left mid) (bytes_left new) h.bytes
-      → is_steady new ≡ is_steady mid → has_failed new ≡ has_failed mid → AreConsumed bytes_left is_steady has_failed old new (c ++ h ∷ [])
-  consumed_next old mid new c h t b steady kept = grind (arith, common_steps, bytes_of-more, never_empty)
-
-  -- the refusal of a header at the start of a chain is a refusal wherever the header may be read
-  pub refused_as : (e : HeaderReadError) (first : Bool) (m j : ℕ) (old new : T) → IsHeaderRefused bytes_left is_steady has_failed e true j old new → m ≡ j → (m ≡ 0 → IsTrue first)
-      → IsHeaderRefused bytes_left is_steady has_failed e first m old new
-  refused_as e first m j old new r is zero_first = search rules
-
   -- a chain whose read failed has the error of the parse
   pub refused_error : (e : HeaderReadError) (old new : T) (n : ℕ)
       → IsChainRefused (AreConsumed bytes_left is_steady has_failed) (IsHeaderRefused bytes_left is_steady has_failed e) old new n → IsSliceError n (is_steady old) (bytes_left old) e
@@ -72,26 +57,11 @@ module _ {T : Type 0} (bytes_left : T → Option (List ℕ)) (is_steady has_fail
       (of_begun _ _ k.refused.1.done _ k.refused.1.consumed (λ xs. zero_is _ _ old new n k k.refused.1.done xs k.refused.0 k.refused.1.zero_length))
 
 -- Within a limit.
-limits_after-more : (c : List ExtHeader) (h : ExtHeader) (l : Limits) → limits_after (c ++ h ∷ []) l ≡ advanced (length h.bytes) (started (layer_of h.number) (limits_after c l))
-limits_after-more [] h l = refl
-limits_after-more (g ∷ c) h l = limits_after-more c h (advanced (length g.bytes) (started (layer_of g.number) l))
-
 module _ {T : Type 0} (bytes_left : T → Option (List ℕ)) (is_steady has_failed : T → Bool) where
-  -- one more header was read
-  pub layer_next : (old mid new : LimitedReader T) (c : List ExtHeader) (h : ExtHeader) (j : ℕ) → h.number ≡ j → AreConsumedInLayers bytes_left is_steady has_failed old mid c → IsConsumedInLayer bytes_left (layer_of j) mid new h.bytes
-      → is_steady (inner_of new) ≡ is_steady (inner_of mid) → has_failed (inner_of new) ≡ has_failed (inner_of mid) → AreConsumedInLayers bytes_left is_steady has_failed old new (c ++ h ∷ [])
-  layer_next old mid new c h j is t consumed steady kept = grind (arith, common_steps, bytes_of-more, length-append, limits_after-more, never_empty)
-
-  pub raw_refused : (e : LimitedReadError) (old new : LimitedReader T) → IsRefusedInLayer bytes_left is_steady has_failed RawAsks Ipv6ExtHeader old new e
-      → (m : ℕ) → IsRawNumber m → IsHeaderRefusedInLayer bytes_left is_steady has_failed (of_limited_error e) true m old new
-  raw_refused e old new r m is = search rules
-
-  pub no_layer : (old : LimitedReader T) → AreConsumedInLayers bytes_left is_steady has_failed old old []
-  no_layer old = search rules
-
-  pub layer_refused_as : (e : HeaderLimitedReadError) (first : Bool) (m j : ℕ) (old new : LimitedReader T) → IsHeaderRefusedInLayer bytes_left is_steady has_failed e true j old new → m ≡ j → (m ≡ 0 → IsTrue first)
-      → IsHeaderRefusedInLayer bytes_left is_steady has_failed e first m old new
-  layer_refused_as e first m j old new r is zero_first = search rules
+  -- a refused request of a header is a refusal of the header
+  pub request_refused : (e : LimitedReadError) (m : ℕ) (old new : LimitedReader T) → IsRefusedInLayer bytes_left is_steady has_failed (Asks m) (layer_of m) old new e
+      → IsHeaderRefusedInLayer bytes_left is_steady has_failed (of_limited_error e) true m old new
+  request_refused e m old new r = search rules
 
   -- a chain whose read failed has the error of the parse of the window
   pub layer_refused_error : (e : HeaderLimitedReadError) (old new : LimitedReader T) (n : ℕ)

@@ -1,5 +1,5 @@
 -- Reading a chain, one header after the other, each by its requests.
-use Rattle.std.specs.Prelude.{ℕ, ◌≡◌, ◌+◌, ◌==◌, Bool, false, IsTrue, List, [], ◌∷◌, ◌++◌, length, Option, Some, None, if◌then◌else◌}
+use Rattle.std.specs.Prelude.{ℕ, ◌≡◌, ◌+◌, ◌==◌, Bool, false, IsTrue, List, [], ◌∷◌, ◌++◌, length, Option, Some, None, if◌then◌else◌, refl}
 use Rattle.std.specs.Option.{option_map}
 use Rattle.std.specs.Io.KnownBytes.{Consumes}
 use Rattle.ip_base.specs.declared.err.layer.Layer.{Layer}
@@ -33,6 +33,11 @@ layer_of m = if m == FRAGMENT then Ipv6FragHeader else if m == AUTHENTICATION th
 abbrev pub limits_after : List ExtHeader → Limits → Limits
 limits_after [] l = l
 limits_after (h ∷ c) l = limits_after c (advanced (length h.bytes) (started (layer_of h.number) l))
+
+-- the limit after one more header
+pub limits_after-more : (c : List ExtHeader) (h : ExtHeader) (l : Limits) → limits_after (c ++ h ∷ []) l ≡ advanced (length h.bytes) (started (layer_of h.number) (limits_after c l))
+limits_after-more [] h l = refl
+limits_after-more (g ∷ c) h l = limits_after-more c h (advanced (length g.bytes) (started (layer_of g.number) l))
 
 -- Headers were read. Whatever follows them, their parse from number n has the value v, the number m, no error, and
 -- leaves what follows. `Consumed` says which headers a reader returned.
@@ -70,6 +75,15 @@ module _ {T : Type 0} (bytes_left : T → Option (List ℕ)) (is_steady has_fail
     pub steady : is_steady (inner_of new) ≡ is_steady (inner_of old)
     pub kept : has_failed (inner_of new) ≡ has_failed (inner_of old)
     pub none : c ≡ [] → new ≡ old
+
+  -- these bytes of a header were read, without a failure
+  abbrev pub IsRead : T → T → List ℕ → Type 0
+  IsRead old new bytes = Consumes (bytes_left old) (bytes_left new) bytes × (is_steady new ≡ is_steady old) × (has_failed new ≡ has_failed old)
+
+  -- they were read within the limit, in a layer of their own
+  abbrev pub IsReadInLayer : Layer → LimitedReader T → LimitedReader T → List ℕ → Type 0
+  IsReadInLayer layer old new bytes =
+      IsConsumedInLayer bytes_left layer old new bytes × (is_steady (inner_of new) ≡ is_steady (inner_of old)) × (has_failed (inner_of new) ≡ has_failed (inner_of old))
 
   -- Why a header of number m isn't read. Hop-by-hop options (0) are read only first; later they are an error, and
   -- nothing is read.

@@ -1,21 +1,14 @@
-use Rattle.ip_spec.proofs.Common.{rules, arith, ◌≡◌, ◌++◌, length, refl, [], Consumes-nil, Consumes-trans, RawAsks, raw_start, raw_rest}
-use Rattle.ip_spec.proofs.RequestLemmas.{raw_joined, raw_joined_fields}
-use Rattle.ip_base.proofs.ReadingLemmas.{refused_after}
+use Rattle.ip_spec.proofs.Common.{rules, arith, ◌≡◌, ℕ, refl, [], IsRawNumber, asks_raw, raw_start, raw_rest}
+use Rattle.ip_base.specs.declared.err.layer.Layer.TheVariants.{Ipv6ExtHeader}
+use Rattle.ip_ext_chains.specs.ChainReading.{layer_of}
 use Rattle.ip_ext_chains.proofs.ipv6_exts_read.take_raw.Goals as goal
 
+raw_layer : (m : ℕ) → IsRawNumber m → layer_of m ≡ Ipv6ExtHeader
+raw_layer m is = search rules
+
 pub returns-in-Err-clause-refused : goal.returns-in-Err-clause-refused
-returns-in-Err-clause-refused g c = refused_after RawAsks _ _ _ _ _ [] _ refl (Consumes-nil _) (raw_start refl refl) c.in-Err.ensures.refuses
+returns-in-Err-clause-refused g c = λ m is. c.in-Err.ensures.refused m _ [] (rw (raw_layer m is) c.start_layer.ensures.begun) (asks_raw is (raw_start refl refl))
 
 pub returns-in-Err-read_exact-clause-refused : goal.returns-in-Err-read_exact-clause-refused
-returns-in-Err-read_exact-clause-refused g c =
-    refused_after RawAsks _ _ _ _ _ c.read_exact.new.buf _ c.in-Ok.ensures.steady c.in-Ok.ensures.takes (raw_rest (omega arith) (search rules)) c.in-Err-read_exact.ensures.refuses
-
-pub returns-in-Ok-read_exact-clause-header : goal.returns-in-Ok-read_exact-clause-header
-returns-in-Ok-read_exact-clause-header g c =
-    let e : length c.read_exact.new.buf ≡ 2 = omega arith in
-    record {
-      bytes = c.read_exact.new.buf ++ c.read_exact-2.new.buf;
-      header = raw_joined c.read_exact.new.buf c.read_exact-2.new.buf e (search rules);
-      fields = raw_joined_fields c.read_exact.new.buf c.read_exact-2.new.buf e;
-      consumed = Consumes-trans _ _ _ c.read_exact.new.buf c.read_exact-2.new.buf c.in-Ok.ensures.takes c.in-Ok-read_exact.ensures.takes;
-    }
+returns-in-Err-read_exact-clause-refused g c = λ m is.
+    c.in-Err-read_exact.ensures.refused m _ c.read_exact.new.buf (rw (raw_layer m is) (c.in-Ok.ensures.more Ipv6ExtHeader _ [] c.start_layer.ensures.begun)) (asks_raw is (raw_rest (omega arith) (search rules)))

@@ -1,16 +1,17 @@
-use Rattle.ip_spec.proofs.Common.{◌≡◌, ◌∷◌, ◌++◌, refl, sym, ◌∙◌, arith, [], ExtHeader}
-use Rattle.ip_ext_chains.proofs.ReadingLemmas.{reading_next, zero_first, is_number_in, not_occupied, fewer, later, zero_not_occupied, no_place_answers}
-use Rattle.ip_ext_chains.proofs.ReadErrorLemmas.{consumed_next, refused_as, refused_error}
-use Rattle.ip_base.specs.declared.err.ipv6_exts.header_error.HeaderError.TheVariants.{HopByHopNotAtStart}
-use Rattle.ip_ext_chains.specs.declared.err.ipv6_exts.header_read_error.HeaderReadError.TheVariants as read
+use Rattle.ip_spec.proofs.Common.{◌≡◌, ◌∷◌, ◌++◌, sym, ◌∙◌, arith, [], ExtHeader}
+use Rattle.ip_ext_chains.proofs.ReadingLemmas.{reading_next, zero_first, is_number_in, not_occupied, fewer, later, zero_not_occupied, no_place_answers, never_empty}
 use Rattle.ip_ext_chains.proofs.ipv6_exts.Ipv6Extensions.read_headers.Goals as goal
 
 pub headers-preserved : goal.headers-preserved
 headers-preserved g c =
+    let came = c.headers.invariant in
+    let next = sym c.in-Some.ensures in
     let h : ExtHeader = record { number = c.headers.number.0; bytes = c.in-Ok.ensures.ok.bytes } in (
-      c.headers.invariant.0 ++ h ∷ [],
-      reading_next _ _ _ _ _ c.headers.invariant.1 _ (sym c.in-Some.ensures) _ _ _ c.in-Ok.ensures.ok,
-      consumed_next _ _ _ _ _ _ c.headers.invariant.0 h c.headers.invariant.2 c.in-Ok.ensures.ok.consumed c.in-Ok.ensures.steady c.in-Ok.ensures.kept,
+      came.0 ++ h ∷ [],
+      reading_next _ _ _ _ _ came.1 _ next _ _ _ c.in-Ok.ensures.ok,
+      g.met.S.HeaderSource.reads_next c.args.reader.now c.headers.reader c.read_into.new.reader came.0 h _ (is_number_in _ _ _ _ _ came.1 _ next) came.2 c.in-Ok.ensures.ok.consumed,
+      c.in-Ok.ensures.steady ∙ came.3,
+      λ none. absurd (never_empty came.0 h none),
     )
 
 pub headers-smaller : goal.headers-smaller
@@ -27,12 +28,9 @@ returns-in-Err-clause-refused g c =
       free = not_occupied _ _ _ _ _ came.1 _ next;
       between = c.headers.reader;
       consumed = came.2;
-      refused = refused_as g.T.ExactRead.bytes_left g.T.ExactRead.is_steady g.T.ExactRead.has_failed c.in-Err.e _ _ _ _ _ c.in-Err.ensures.refused
+      refused = g.met.S.HeaderSource.refuses_there c.in-Err.e _ _ _ c.headers.reader c.read_into.new.reader c.in-Err.ensures.refused
           (sym came.1.number ∙ is_number_in _ _ _ _ _ came.1 _ next) (λ z. sym came.1.none_yet ∙ zero_first _ _ _ _ _ came.1 _ next (came.1.number ∙ z));
     }
-
-pub returns-in-Err-clause-fault : goal.returns-in-Err-clause-fault
-returns-in-Err-clause-fault g c = refused_error g.T.ExactRead.bytes_left g.T.ExactRead.is_steady g.T.ExactRead.has_failed c.in-Err.e _ _ _ (returns-in-Err-clause-refused g c)
 
 pub returns-then-eq-clause-refused : goal.returns-then-eq-clause-refused
 returns-then-eq-clause-refused g c =
@@ -45,11 +43,8 @@ returns-then-eq-clause-refused g c =
       free = zero_not_occupied _ _ _ _ _ came.1 zero_number;
       between = c.headers.reader;
       consumed = came.2;
-      refused = (sym came.1.number ∙ zero_number, later _ _ _ _ _ came.1 zero_number (sym c.in_default.ensures), refl);
+      refused = rw (sym came.1.number ∙ zero_number, later _ _ _ _ _ came.1 zero_number (sym c.in_default.ensures)) (c.misplaced.ensures.refused c.headers.reader);
     }
-
-pub returns-then-eq-clause-fault : goal.returns-then-eq-clause-fault
-returns-then-eq-clause-fault g c = refused_error g.T.ExactRead.bytes_left g.T.ExactRead.is_steady g.T.ExactRead.has_failed (read.Content HopByHopNotAtStart) _ _ _ (returns-then-eq-clause-refused g c)
 
 pub returns-clause-answer : goal.returns-clause-answer
 returns-clause-answer g c =

@@ -1,7 +1,7 @@
 -- Sums over the places of a value and over the headers of a chain.
-use Rattle.ip_spec.proofs.Common.{◌≡◌, ℕ, zero, suc, ◌+◌, ◌≤◌, List, [], ◌∷◌, ◌++◌, length, refl, ap, sym, ◌∙◌, arith, subst, append_assoc, Bool, true, false, rules, Option, Some, None, sum_by, AllByRecursion, option_map, none-some, same_Some, append-nil, length-append, sum_by-append, IsHeader, next_header, ExtHeader, leads_to, bytes_of, IsChain, FitsPlaces, Place, header_in, fields_of, HeaderFields, IsEncodable, fields_len, sum_placed, placed_len, PlacedFields, IsValueOf, IsReachable, WalkAnswer, answer_at, IsWalkAnswer, next_in_chain, IsLongestOf, index, ◌==◌, if◌then◌else◌}
+use Rattle.ip_spec.proofs.Common.{◌≡◌, ℕ, zero, suc, ◌+◌, ◌≤◌, List, [], ◌∷◌, ◌++◌, length, refl, ap, sym, ◌∙◌, arith, Bool, true, false, rules, Option, Some, None, sum_by, AllByRecursion, option_map, none-some, same_Some, length-append, sum_by-append, IsHeader, next_header, ExtHeader, leads_to, bytes_of, IsChain, FitsPlaces, Place, header_in, fields_of, HeaderFields, IsEncodable, fields_len, sum_placed, placed_len, PlacedFields, IsValueOf, IsReachable, WalkAnswer, answer_at, IsWalkAnswer, next_in_chain, IsLongestOf, index, ◌==◌, if◌then◌else◌}
 use Rattle.std.specs.Prelude.{⊤}
-use Rattle.ip_spec.proofs.StepLemmas.{chain_begins}
+use Rattle.ip_spec.proofs.StepLemmas.{by_more, chain_begins}
 use Rattle.ip_spec.proofs.FitsLemmas.{fits_places}
 use Rattle.ip_spec.proofs.WalkLemmas.{unreached, Joins, joins, there}
 use Rattle.ip_spec.proofs.WalkStepLemmas.{FillsIn, Walking, without, left, left_at, left_next, some_or, walk_begins, walks_on, walk_stops, same_held}
@@ -22,21 +22,11 @@ module _ (g : HeaderFields → ℕ) where
   sum_more : (f : ℕ) (c : List ExtHeader) (x : ExtHeader) → Joins f c x → sum_placed g (of_chain c) + g (fields_of x) ≡ sum_placed g (of_chain (c ++ x ∷ []))
   sum_more f c x j = sum_without g (of_chain (c ++ x ∷ [])) (of_chain c) j.place (fields_of x) (ap (option_map fields_of) (there j)) (search rules)
 
-  sum_from : (f : ℕ) (c d : List ExtHeader) → sum_of c ≡ sum_placed g (of_chain c) → IsChain f (c ++ d) → FitsPlaces (c ++ d) → sum_of (c ++ d) ≡ sum_placed g (of_chain (c ++ d))
-  sum_from f c [] e k fits = let S : List ExtHeader → Type 0 = λ l. sum_of l ≡ sum_placed g (of_chain l) in subst S (sym (append-nil c)) e
-  sum_from f c (x ∷ d) e k fits =
-      let more : (c ++ x ∷ []) ++ d ≡ c ++ x ∷ d = append_assoc c (x ∷ []) d in
-      let S : List ExtHeader → Type 0 = λ l. sum_of l ≡ sum_placed g (of_chain l) in
-      let K : List ExtHeader → Type 0 = IsChain f in
-      let F : List ExtHeader → Type 0 = FitsPlaces in
-      let k' : IsChain f ((c ++ x ∷ []) ++ d) = subst K (sym more) k in
-      let fits' : FitsPlaces ((c ++ x ∷ []) ++ d) = subst F (sym more) fits in
-      let j : Joins f c x = joins f c x (chain_begins f (c ++ x ∷ []) d k') (fits_places.begins (c ++ x ∷ []) d fits') in
-      let one : sum_of (c ++ x ∷ []) ≡ sum_placed g (of_chain (c ++ x ∷ [])) = omega (arith, e, sum_by-append (λ h. g (fields_of h)) c (x ∷ []), sum_more f c x j) in
-      subst S more (sum_from f (c ++ x ∷ []) d one k' fits')
-
   pub sum_of_chain : (f : ℕ) (c : List ExtHeader) → IsChain f c → FitsPlaces c → sum_of c ≡ sum_placed g (of_chain c)
-  sum_of_chain f c = sum_from f [] c refl
+  sum_of_chain f = by_more (λ c. IsChain f c → FitsPlaces c → sum_of c ≡ sum_placed g (of_chain c)) (λ k fits. refl)
+      (λ c x before k fits.
+      let sum = before (chain_begins f c (x ∷ []) k) (fits_places.begins c (x ∷ []) fits) in
+      omega (arith, sum, sum_by-append (λ h. g (fields_of h)) c (x ∷ []), sum_more f c x (joins f c x k fits)))
 
 -- The fields determine the length of a header.
 pub len_said : (h : ExtHeader) → IsHeader h.number h.bytes → length h.bytes ≡ fields_len (fields_of h)

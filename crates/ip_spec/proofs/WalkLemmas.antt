@@ -1,5 +1,5 @@
 -- The fields that a value has, the headers that it reaches and its encoding, from a number.
-use Rattle.ip_spec.proofs.Common.{◌≡◌, ℕ, List, [], ◌∷◌, ◌++◌, sym, subst, append_assoc, true, false, rules, Option, Some, None, is_some, ◌==◌, if◌then◌else◌, option_map, cases_Bool, append-nil, IsHeader, IsLongestOf, ExtHeader, leads_to, is_empty, IsChain, FitsPlaces, Place, index, header_in, fields_of, IsCleared, PlacedFields, IsReachable}
+use Rattle.ip_spec.proofs.Common.{◌≡◌, ℕ, List, [], ◌∷◌, ◌++◌, append_assoc, true, false, rules, Option, Some, None, is_some, ◌==◌, if◌then◌else◌, option_map, cases_Bool, append-nil, IsHeader, IsLongestOf, ExtHeader, leads_to, is_empty, IsChain, FitsPlaces, Place, index, header_in, fields_of, IsCleared, PlacedFields, IsReachable}
 use Rattle.ip_spec.proofs.LongestOfLemmas.{Grows, one_longest_of}
 use Rattle.ip_spec.proofs.StepLemmas.{all_first, all_next, chain_begins, chain_number, chain_header, chain_zero}
 use Rattle.ip_spec.proofs.FitsLemmas.{fits_places}
@@ -63,8 +63,8 @@ module _ (v : PlacedFields) (f : ℕ) where
       search (rules, chain_begins, fits_places.begins, s.in_value, kept j, all_first)
 
   shown_begins : (c d : List ExtHeader) → IsReachable v f (c ++ d) → IsReachable v f c
-  shown_begins c [] s = subst (IsReachable v f) (append-nil c) s
-  shown_begins c (x ∷ d) s = shown_before c x (shown_begins (c ++ x ∷ []) d (subst (IsReachable v f) (sym (append_assoc c (x ∷ []) d)) s))
+  shown_begins c [] s = rw append-nil at s
+  shown_begins c (x ∷ d) s = shown_before c x (shown_begins (c ++ x ∷ []) d (rw append_assoc s))
 
   same_next : (c : List ExtHeader) (x y : ExtHeader) → Next c x → Next c y → x ≡ y
   same_next c x y a b = one_header_says x y (cc) a.header b.header a.cleared b.cleared (cc)

@@ -10,7 +10,9 @@ at_most k = search (rules, length-append)
 
 -- the first k are kept
 pub at_most_keeps : (k : ℕ) (d : List ExtHeader) → KeepsBeginning (AtMost k) d (take k d)
-at_most_keeps k d = record { rest = drop k d; joined = sym (take-append-drop k d); meets = omega (arith, length-take k d); breaks = grind (arith, common_steps) }
+at_most_keeps k d =
+    let all = take-append-drop k d in
+    record { rest = drop k d; joined = sym all; meets = omega (arith, length-take k d); breaks = grind (arith, common_steps) }
 
 -- so the longest chain of at most k headers is the first k of the longest
 pub longest_at_most : (k n : ℕ) (s : List ℕ) (d : List ExtHeader) → IsLongestChain n s d → IsLongestUnder (AtMost k) n s (take k d)

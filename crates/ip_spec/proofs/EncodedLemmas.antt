@@ -1,8 +1,8 @@
 -- Fields determine their header if its reserved bits are zero.
-use Rattle.ip_spec.proofs.Common.{◌≡◌, ℕ, ◌+◌, ◌-◌, ◌/◌, ◌^◌, ◌<◌, ◌≤◌, List, ◌∷◌, length, refl, ap, sym, ◌∙◌, arith, rules, slice_range, All-from_recursion, recursion_from_All, All-append, IsHeader, IsRawHeader, IsRawNumber, auth, RawFields, FragmentFields, AuthFields, raw_fields, MAX_FRAGMENT_OFFSET, IsPayloadLen, IsIcvLen, AreBytes, IsFragmentEncoding, IsAuthEncoding, IsCleared, ExtHeader, HeaderFields, raw_header, fragment_header, auth_header, fields_of, IsEncoded, IsEncodingOf}
+use Rattle.ip_spec.proofs.Common.{◌≡◌, ℕ, ◌+◌, ◌-◌, ◌/◌, ◌^◌, ◌<◌, ◌≤◌, List, ◌∷◌, length, sym, ◌∙◌, arith, rules, All-from_recursion, recursion_from_All, IsHeader, IsRawHeader, IsRawNumber, RawFields, FragmentFields, AuthFields, raw_fields, MAX_FRAGMENT_OFFSET, IsPayloadLen, IsIcvLen, AreBytes, IsFragmentEncoding, IsAuthEncoding, IsCleared, ExtHeader, HeaderFields, raw_header, fragment_header, auth_header, fields_of, IsEncoded, IsEncodingOf}
 use Rattle.ip_spec.proofs.HeaderLemmas.{header_number, by_number, ext_header-eq}
-use Rattle.ip_spec.proofs.EncodingLemmas.{fragment_only, auth_only, fragment_encodes, auth_written_encodes, fragment_written, auth_written}
-use Rattle.ip_spec.proofs.FragmentBitLemmas.{high_byte, low_byte, packed_offset, packed_flag, packed_reserved, high_small, low_small}
+use Rattle.ip_spec.proofs.EncodingLemmas.{fragment_only, auth_only, fragment_encodes, auth_written_encodes, auth_encoding-bytes, fragment_written, auth_written}
+use Rattle.ip_spec.proofs.FragmentBitLemmas.{packed_offset, packed_flag, packed_reserved, high_small, low_small}
 
 -- the header of number n with bytes b
 abbrev pub of_number : ℕ → List ℕ → ExtHeader
@@ -51,19 +51,10 @@ module _ (x : RawFields) (next : x.next_header < 256) (len : IsPayloadLen (lengt
 
 pub fragment_encoded : (x : FragmentFields) → x.next_header < 256 → x.fragment_offset ≤ MAX_FRAGMENT_OFFSET → x.identification < 2 ^ 32 → (h : ExtHeader) × IsEncoded 44 (fragment_header x) h
 fragment_encoded x next offset id =
-    let e : IsFragmentEncoding x (fragment_written x) = fragment_encodes x (high_byte x.fragment_offset) (low_byte x.fragment_offset x.more_fragments)
-    (packed_offset x.fragment_offset x.more_fragments) (packed_flag x.fragment_offset x.more_fragments) (packed_reserved x.fragment_offset x.more_fragments)
-    (high_small x.fragment_offset offset) (low_small x.fragment_offset x.more_fragments) id in search rules
+    let e : IsFragmentEncoding x (fragment_written x) =
+    search (rules, fragment_encodes, packed_offset, packed_flag, packed_reserved, high_small, low_small) in search rules
 
 pub auth_encoded : (x : AuthFields) → x.next_header < 256 → IsIcvLen (length x.raw_icv) → AreBytes x.raw_icv → x.spi < 2 ^ 32 → x.sequence_number < 2 ^ 32 → (h : ExtHeader) × IsEncoded 51 (auth_header x) h
 auth_encoded x next len icv spi seq =
-    let e : IsAuthEncoding x (auth_written x) = auth_written_encodes x len.most len.whole spi seq in (
-      of_number 51 (auth_written x),
-      record {
-        number = refl;
-        header = auth refl e.header;
-        fields = ap auth_header e.fields;
-        cleared = e.cleared;
-        bytes = All-append (λ y. y < 256) (x.next_header ∷ slice_range (auth_written x) 1 12) x.raw_icv (bytes_first x.next_header (slice_range (auth_written x) 1 12) next e.cleared.bytes) icv;
-      },
-    )
+    let e : IsAuthEncoding x (auth_written x) = auth_written_encodes x len.most len.whole spi seq in
+    let bytes = auth_encoding-bytes x (auth_written x) e next icv in search rules

@@ -1,5 +1,5 @@
 -- Headers, and headers at the start of bytes.
-use Rattle.ip_spec.proofs.Common.{◌≡◌, ◌≢◌, ℕ, zero, suc, ◌+◌, ◌*◌, ◌<◌, ◌≤◌, List, ◌++◌, length, get_or, take, drop, refl, ap, sym, ◌∙◌, arith, inl, inr, ◌⊎◌, subst, Bool, true, false, nat_eq, cond, slice_index, rules, common_steps, get_or_append_left, take_at, length-take-le, take-append_seam, eqb_tells, IsHeader, IsRawHeader, IsFragmentHeader, IsAuthHeader, IsRawNumber, IsExtensionNumber, IsLaterNumber, raw, fragment, auth, IsPrefix, ExtHeader, IsNext, IsEnd}
+use Rattle.ip_spec.proofs.Common.{◌≡◌, ◌≢◌, ℕ, zero, suc, ◌+◌, ◌*◌, ◌<◌, ◌≤◌, List, ◌++◌, length, get_or, take, drop, refl, ap, sym, ◌∙◌, arith, inl, inr, ◌⊎◌, subst, Bool, true, false, nat_eq, cond, slice_index, rules, common_steps, get_or_append_left, length-take-le, take-append_seam, eqb_tells, IsHeader, IsRawHeader, IsFragmentHeader, IsAuthHeader, IsRawNumber, IsExtensionNumber, IsLaterNumber, raw, fragment, auth, IsPrefix, ExtHeader, IsNext, IsEnd}
 use Rattle.ip_spec.proofs.PrefixLemmas.{prefix-append, prefix_of-take, prefix-length}
 
 pub eq_or : (m n : ℕ) → (m ≡ n) ⊎ (m ≢ n)
@@ -67,7 +67,12 @@ header-told n b h = search rules
 -- two headers of one number at one place are equal
 pub one_header : (n : ℕ) (b d x y : List ℕ) → IsHeader n b → IsHeader n d → b ++ x ≡ d ++ y → b ≡ d
 one_header n b d x y hb hd e =
-    grind (arith, common_steps, header-least n b hb, header-least n d hd, header-told n b hb, header-told n d hd, get_or_append_left b x 0 1, get_or_append_left d y 0 1, take-append_seam b x, take_at d y)
+    let lb : 8 ≤ length b = header-least n b hb in
+    let ld : 8 ≤ length d = header-least n d hd in
+    let one = get_or_append_left b x 0 1 (omega arith) in
+    let other = get_or_append_left d y 0 1 (omega arith) in
+    let same_len : length b ≡ length d = cc (header-told n b hb, header-told n d hd) in
+    cc (take-append_seam b x, take-append_seam d y)
 
 -- s starts with a header of fewer than k bytes, or not
 short_header_or : (n : ℕ) (s : List ℕ) (k : ℕ) → ((b : List ℕ) × IsHeader n b × IsPrefix b s) ⊎ ((b : List ℕ) → IsHeader n b → IsPrefix b s → length b < k → ⊥)

@@ -151,7 +151,9 @@ module _ (c : List ExtHeader) (m : ℕ) where
   next = next_place (λ p. header_in p c) m
 
   pub occupied_breaks : IsOccupied m c → (h : ExtHeader) → h.number ≡ m → FitsPlaces (c ++ h ∷ []) → ⊥
-  occupied_breaks t h e f = grind (arith, common_steps, own_place m (has_routing c) (later_extension m t.0), breaks_more c h, filled_own (λ p. header_in p c) m)
+  occupied_breaks t h e f =
+      let place = own_place m (has_routing c) (later_extension m t.0) in
+      grind (arith, common_steps, place, breaks_more c h, filled_own (λ p. header_in p c) m)
 
   pub breaks_occupied : FitsPlaces c → IsLaterNumber m → (FitsPlaces (c ++ bare m ∷ []) → ⊥) → IsOccupied m c
   breaks_occupied fits later breaks =

@@ -1,5 +1,5 @@
 -- The parts of an IPv4 packet.
-use Rattle.ip_spec.proofs.Common.{◌≡◌, ℕ, ◌-◌, List, length, take, drop, subst, refl, ◌∙◌, inl, inr, nat_lt, eqb_tells, Option, None, option_map, option_map_or, ◌==◌, ◌&&◌, not, if◌then◌else◌, IsPrefix, leads_to, rest_after, fault_after, IsPrefixChain}
+use Rattle.ip_spec.proofs.Common.{◌≡◌, ℕ, ◌-◌, List, length, take, drop, subst, refl, ◌∙◌, inl, inr, nat_lt, eqb_tells, Option, None, option_map, option_map_or, ◌==◌, ◌&&◌, not, if◌then◌else◌, leads_to, rest_after, fault_after, IsPrefixChain}
 use Rattle.ip_spec.proofs.StepLemmas.{no_header_prefix}
 use Rattle.ip_base.specs.LenError.{too_short}
 use Rattle.ip_base.specs.Ipv4Header.{protocol, total_len, ipv4_fragment_offset}
@@ -10,7 +10,7 @@ use Rattle.ip_ext_slices.specs.Ipv4Fault.{ipv4_faults}
 use Rattle.ip_ext_slices.proofs.Ipv4Lemmas.{ipv4_longest}
 use Rattle.etherparse_ip.specs.PacketFault.{auth_in_packet}
 use Rattle.etherparse_ip.specs.declared.err.ip.slice_error.SliceError.TheVariants.{Len}
-use Rattle.ip_dissect.specs.Extent.{packet_bytes, after_base, missing_of, ipv4_stated, ipv4_chain, ipv4_chain_in}
+use Rattle.ip_dissect.specs.Extent.{packet_bytes, after_base, missing_of, ipv4_stated, ipv4_chain_in}
 use Rattle.ip_dissect.specs.End.{auth_end, ipv4_end}
 use Rattle.ip_dissect.specs.Fragment.{ipv4_fragment}
 use Rattle.ip_dissect.specs.Dissection.{version_of, base_of, HasParts, with_base, ipv4_dissected}

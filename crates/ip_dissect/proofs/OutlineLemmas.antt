@@ -1,7 +1,7 @@
 -- The outline of a packet, from that of the bytes after its base header.
 use Rattle.ip_spec.proofs.Common.{◌≡◌, ℕ, ◌+◌, ◌-◌, ◌≤◌, List, length, drop, subst, refl, sym, ap, ◌∙◌, arith, rules, common_steps, nat_eq, Bool, true, false, false≢true, Option, Some, None, is_some, IfSome, IfNone, option_or, option_map_or, if◌then◌else◌, ◌&&◌, not, length-drop, IsPrefix, leads_to, rest_after}
 use Rattle.ip_spec.proofs.PrefixLemmas.{prefix-length}
-use Rattle.ip_base.specs.Ipv4Header.{version, ihl, ipv4_header_len, IsIpv4Header, ipv4_header_fault}
+use Rattle.ip_base.specs.Ipv4Header.{version, IsIpv4Header, ipv4_header_fault}
 use Rattle.ip_base.specs.Ipv6Header.{IsIpv6Header, ipv6_next_header, ipv6_header_fault}
 use Rattle.ip_base.specs.declared.err.ipv4.header_slice_error.HeaderSliceError.{HeaderSliceError as Ipv4Error}
 use Rattle.ip_base.specs.declared.err.ipv6.header_slice_error.HeaderSliceError.{HeaderSliceError as Ipv6Error}
@@ -13,7 +13,6 @@ use Rattle.ip_dissect.specs.Extent.{packet_bytes, after_base, missing_of, ipv6_s
 use Rattle.ip_dissect.specs.End.{base_end, has_error, exts_end, ipv6_end}
 use Rattle.ip_dissect.specs.Dissection.{dissected, with_base, ipv4_dissected, ipv6_dissected}
 use Rattle.ip_dissect.specs.Outline.{HasOutline}
-use Rattle.ip_dissect.specs.declared.fragment.Fragment.{Fragment}
 use Rattle.ip_dissect.specs.declared.outline.Outline.{Outline}
 use Rattle.ip_dissect.specs.declared.walk.Found.{Found}
 use Rattle.ip_dissect.specs.declared.end.End.{End}

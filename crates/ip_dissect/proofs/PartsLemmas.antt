@@ -1,5 +1,5 @@
 -- The parts of a packet, from those of the bytes after its base header.
-use Rattle.ip_spec.proofs.Common.{◌≡◌, ℕ, ◌+◌, ◌-◌, List, length, take, drop, subst, refl, ap, ◌∙◌, arith, nat_eq, rules, eqb_tells, Option, Some, None, option_map, option_or, option_map_or, find, if◌then◌else◌, AllByRecursion, IsHeader, IsPrefix, ExtHeader, bytes_of, leads_to, is_empty, rest_after, IsPrefixChain}
+use Rattle.ip_spec.proofs.Common.{◌≡◌, ℕ, ◌+◌, ◌-◌, List, length, take, drop, subst, refl, ap, ◌∙◌, arith, nat_eq, rules, eqb_tells, Option, Some, None, option_map, option_or, option_map_or, find, if◌then◌else◌, AllByRecursion, IsHeader, ExtHeader, bytes_of, leads_to, is_empty, rest_after, IsPrefixChain}
 use Rattle.ip_spec.proofs.PrefixLemmas.{prefix-length}
 use Rattle.ip_spec.proofs.ChainLemmas.{bytes_of-least}
 use Rattle.ip_base.specs.Ipv6Header.{ipv6_next_header}

@@ -1,4 +1,4 @@
-use Rattle.ip_spec.proofs.Common.{rules, sym}
+use Rattle.ip_spec.proofs.Common.{rules}
 use Rattle.ip_base.specs.Ipv4HeaderSlice as ipv4_header
 use Rattle.ip_base.specs.Ipv6HeaderSlice as ipv6_header
 use Rattle.ip_dissect.proofs.OutlineLemmas.{empty_error, other_error, ipv4_error, ipv6_error, outline4, outline6, no_outline4, no_outline6}

@@ -1,5 +1,5 @@
 -- Slices of extension headers with the same headers have the same first number and the same bytes.
-use Rattle.ip_spec.proofs.Common.{◌≡◌, ℕ, List, [], ◌∷◌, length, refl, ap, sym, ◌∙◌, arith, subst, ◌↔◌, IsTrue, Bool, false, rules, ◌==◌, Option, Some, None, ExtHeader, AreLinked, bytes_of}
+use Rattle.ip_spec.proofs.Common.{◌≡◌, ℕ, List, [], ◌∷◌, length, ap, sym, ◌∙◌, ◌↔◌, IsTrue, Bool, false, rules, ◌==◌, Option, ExtHeader, AreLinked, bytes_of}
 use Rattle.std.specs.Prelude.{is_none}
 use Rattle.ip_base.specs.declared.ip_number_impl.IpNumber.{IpNumber}
 use Rattle.ip_ext_slices.specs.Longest.{longest_chain}
@@ -14,16 +14,10 @@ linked_from_one m n [] a b some = absurd (search rules)
 linked_from_one m n (h ∷ c) a b some = sym a.0 ∙ b.0
 
 same_start : (m n : ℕ) (s t : List ℕ) → longest_chain m s ≡ longest_chain n t → (length (bytes_of (longest_chain m s)) == 0) ≡ false → m ≡ n
-same_start m n s t e some =
-    let links : AreLinked n (longest_chain m s) = subst (AreLinked n) (sym e) (longest_chain-longest n t).has.chain.links in
-    linked_from_one m n (longest_chain m s) (longest_chain-longest m s).has.chain.links links some
+same_start m n s t e some = search (rules, linked_from_one, longest_chain-longest)
 
 same_first : (x y : Option IpNumber) (s t : List ℕ) → longest_chain (start_number x) s ≡ longest_chain (start_number y) t → bytes_of (longest_chain (start_number x) s) ≡ s → s ≡ t → is_none x ≡ (length s == 0) → is_none y ≡ (length t == 0) → x ≡ y
-same_first None None s t e w b f g = refl
-same_first None (Some n) s t e w b f g = absurd (grind (arith, ap (λ (u : List ℕ). length u == 0) b))
-same_first (Some m) None s t e w b f g = absurd (grind (arith, ap (λ (u : List ℕ). length u == 0) b))
-same_first (Some m) (Some n) s t e w b f g =
-    ap (λ k. Some (record { 0 = k })) (same_start m.0 n.0 s t e (ap (λ (u : List ℕ). length u == 0) w ∙ sym f))
+same_first x y s t e w b f g = search (rules, same_start)
 
 pub same_headers-bytes : (x y : Ipv6ExtensionsSlice) → headers_in x ≡ headers_in y → bytes x ≡ bytes y
 same_headers-bytes x y e = sym x.whole ∙ ap bytes_of e ∙ y.whole
@@ -33,7 +27,4 @@ same_headers-first x y e = same_first x.first_header y.first_header x.slice.now 
 
 -- a test for equal first numbers and bytes is a test for equal headers
 pub same_headers : (x y : Ipv6ExtensionsSlice) (r : Bool) → IsTrue r ↔ ((first_number x ≡ first_number y) × (bytes x ≡ bytes y)) → IsTrue r ↔ (headers_in x ≡ headers_in y)
-same_headers x y r k = (
-  λ t. ap (λ n. longest_chain (start_number n) (bytes x)) (k.0 t).0 ∙ ap (longest_chain (start_number (first_number y))) (k.0 t).1,
-  λ e. k.1 (same_headers-first x y e, same_headers-bytes x y e),
-)
+same_headers x y r k = search (rules, same_headers-first, same_headers-bytes)

@@ -1,5 +1,5 @@
 -- Where `IpSlice::from_slice` is Ok: a dissection ends at the payload, and nothing is missing.
-use Rattle.ip_spec.proofs.Common.{◌≡◌, ◌≢◌, ◌↔◌, IsSome, ℕ, ◌+◌, ◌≤◌, List, length, take, sym, ap, ◌∙◌, refl, arith, rules, common_steps, Bool, false, le-ltb, and-false, fault_after, Option, None, Some, none-some, option_map, option_map_or, subst, is_empty, bytes_of, leads_to, ExtHeader, IsPrefix, rest_after, ◌==◌, if◌then◌else◌}
+use Rattle.ip_spec.proofs.Common.{◌≡◌, ◌↔◌, IsSome, ℕ, ◌+◌, ◌≤◌, List, length, take, sym, ◌∙◌, refl, arith, rules, common_steps, Bool, false, le-ltb, and-false, fault_after, Option, None, Some, option_map, option_map_or, is_empty, bytes_of, leads_to, ExtHeader, IsPrefix, rest_after, ◌==◌, if◌then◌else◌}
 use Rattle.ip_spec.proofs.PrefixLemmas.{prefix-length}
 use Rattle.ip_base.specs.declared.len_source.LenSource.{LenSource}
 use Rattle.ip_base.specs.declared.len_source.LenSource.TheVariants.{Slice}
@@ -8,7 +8,6 @@ use Rattle.ip_base.specs.Ipv6Header.{IsIpv6Header, payload_length, ipv6_next_hea
 use Rattle.ip_ext_headers.specs.HeaderFault.{raw_fault, fragment_fault, auth_fault}
 use Rattle.ip_ext_slices.specs.ChainFault.{Fault, fault_at, slice_fault, chain_fault}
 use Rattle.ip_ext_slices.specs.Longest.{longest_chain}
-use Rattle.ip_ext_slices.specs.Ipv4Longest.{longest_ipv4_chain}
 use Rattle.ip_ext_slices.specs.Ipv4Fault.{ipv4_faults, ipv4_chain_fault}
 use Rattle.ip_ext_headers.specs.declared.err.ip_auth.header_slice_error.HeaderSliceError.{HeaderSliceError as AuthSliceError}
 use Rattle.etherparse_ip.specs.LenSources.{ipv4_len_source}
@@ -21,12 +20,11 @@ use Rattle.ip_dissect.specs.End.{base_end, auth_end, ipv4_end, exts_end, ipv6_er
 use Rattle.ip_dissect.specs.Dissection.{dissected}
 use Rattle.ip_dissect.specs.declared.end.End.{End}
 use Rattle.ip_dissect.specs.declared.end.End.TheVariants as end
-use Rattle.ip_dissect.proofs.AgreementLemmas.{no_later, after_is6, after_is4, chain_of}
+use Rattle.ip_dissect.proofs.AgreementLemmas.{no_later, after_is6, after_is4}
 use Rattle.ip_dissect.proofs.DissectedLemmas.{BeginIpv4, begin_ipv4, BeginIpv6, begin_ipv6}
 
 none_before : {A B : Type 0} (f : A → B) (o : Option A) → option_map f o ≡ None → o ≡ None
-none_before f None e = refl
-none_before f (Some x) e = absurd (none-some (f x) (sym e))
+none_before f o e = search rules
 
 -- whether there is an error doesn't depend on the offset
 raw_none : (source : LenSource) (n j k : ℕ) (r : List ℕ) → raw_fault source n j r ≡ None → raw_fault source n k r ≡ None
@@ -41,12 +39,8 @@ auth_none source n j k r e = search rules
 fault_none : (source : LenSource) (n j k : ℕ) (first : Bool) (m : ℕ) (r : List ℕ) → fault_at source n j first m r ≡ None → fault_at source n k first m r ≡ None
 fault_none source n j k first m r e = search (rules, none_before, raw_none, fragment_none, auth_none)
 
-exts_not_payload : (t : Option ℕ) (f : Fault) → exts_end t f ≢ end.Payload
-exts_not_payload t f e = search rules
-
 ends_without_error : (t : Option ℕ) (o : Option Fault) → option_map_or (exts_end t) o end.Payload ≡ end.Payload → o ≡ None
-ends_without_error t None e = refl
-ends_without_error t (Some f) e = absurd (exts_not_payload t f e)
+ends_without_error t o e = search rules
 
 none_missing : (k n : ℕ) → 40 ≤ n → (missing_of (if k == 0 then None else Some (40 + k)) n ≡ 0) ↔ (40 + k ≤ n)
 none_missing k n enough = grind (arith, common_steps)
@@ -87,12 +81,7 @@ module _ (b s : List ℕ) (base : IsIpv6Header b) (prefix : IsPrefix b s) (none 
   error_of c n x = slice_fault (40 + length (bytes_of c)) (is_empty c) (leads_to n c) (rest_after c x)
 
   same_error : ipv6_error b s ≡ error_of c n x
-  same_error =
-      let after : after_base b (ipv6_stated b) s ≡ x = after_is6 b s base prefix in
-      let chain : ipv6_chain b s ≡ c = no_later _ _ none ∙ ap (longest_chain (ipv6_next_header b)) after ∙ ap (λ m. longest_chain m x) says.number in
-      ap (λ e. error_of e (ipv6_next_header b) (after_base b (ipv6_stated b) s)) chain
-      ∙ ap (error_of c (ipv6_next_header b)) after
-      ∙ ap (λ m. error_of c m x) says.number
+  same_error = cc (after_is6 b s base prefix, no_later (ipv6_next_header b) (after_base b (ipv6_stated b) s) none, says.number)
 
   -- the error of the chain counts its offset from there, and that of the dissection from the packet's start
   error_none : chain_fault n x ≡ None → ipv6_error b s ≡ None
@@ -111,38 +100,32 @@ module _ (b s : List ℕ) (base : IsIpv6Header b) (prefix : IsPrefix b s) (none 
   ipv6_ends e =
       let after : ipv6_fault_after s ≡ None = none_before ip_of_ipv6 (ipv6_fault_after s) (sym after_version ∙ e) in
       let whole : 40 + payload_length s ≤ length s = whole_of s after in
-      let chain : chain_fault n x ≡ None = chain_fault_of s (sym (strict_fault_of_chain s whole) ∙ after) in
-      (the_end ∙ ap (λ o. option_map_or (exts_end (ipv6_stated b)) o end.Payload) (error_none chain), none_is_missing.1 whole)
+      let error : ipv6_error b s ≡ None = error_none (chain_fault_of s (sym (strict_fault_of_chain s whole) ∙ after)) in
+      (cc (the_end), none_is_missing.1 whole)
 
   ipv6_parses : (ipv6_end b s ≡ end.Payload) × (missing_of (ipv6_stated b) (length s) ≡ 0) → ip_fault s ≡ None
   ipv6_parses p =
       let error : ipv6_error b s ≡ None = ends_without_error (ipv6_stated b) (ipv6_error b s) (sym the_end ∙ p.0) in
-      after_version ∙ ap (option_map ip_of_ipv6) (strict_fault_of_chain s (none_is_missing.0 p.1) ∙ no_chain_fault s (chain_none error))
-
-  ipv6_accepted_at : (ip_fault s ≡ None) ↔ ((ipv6_end b s ≡ end.Payload) × (missing_of (ipv6_stated b) (length s) ≡ 0))
-  ipv6_accepted_at = (ipv6_ends, ipv6_parses)
+      cc (after_version, strict_fault_of_chain s (none_is_missing.0 p.1), no_chain_fault s (chain_none error))
 
 pub ipv6_accepted : (s : List ℕ) → (dissected s).version ≡ 6 → has_later (dissected s).headers ≡ false → (ip_fault s ≡ None) ↔ (((dissected s).end ≡ end.Payload) × ((dissected s).missing ≡ 0))
 ipv6_accepted s v none =
     let w : BeginIpv6 s (take 40 s) = begin_ipv6 s v in
-    rw w.is (ipv6_accepted_at (take 40 s) s w.header w.prefix (rw w.is at none))
+    let none = rw w.is at none in
+    rw w.is (ipv6_ends (take 40 s) s w.header w.prefix none, ipv6_parses (take 40 s) s w.header w.prefix none)
 
 -- IPv4
 at_version_4 : (s : List ℕ) → version s ≡ 4 → 5 ≤ ihl s → ipv4_header_len s ≤ length s → 1 ≤ length s → ip_fault s ≡ option_map ip_of_ipv4 (ipv4_fault_after s)
 at_version_4 s v least header some = search rules
 
 total_of : (s : List ℕ) → ipv4_fault_after s ≡ None → (ipv4_header_len s ≤ total_len s) × (total_len s ≤ length s)
-total_of s e = (grind (arith, common_steps), grind (arith, common_steps))
+total_of s e = grind (arith, common_steps)
 
 after_total : (s : List ℕ) → ipv4_header_len s ≤ total_len s → total_len s ≤ length s → ipv4_fault_after s ≡ option_map (auth_in_packet ipv4_len_source (ipv4_header_len s)) (ipv4_chain_fault (protocol s) (ipv4_after s))
 after_total s header whole = rw (le-ltb (total_len s) (ipv4_header_len s) header, le-ltb (length s) (total_len s) whole) refl
 
-auth_not_payload : (t : Option ℕ) (e : AuthSliceError) → auth_end t e ≢ end.Payload
-auth_not_payload t f e = search rules
-
 ends_without_auth_error : (t : Option ℕ) (o : Option AuthSliceError) → option_map_or (auth_end t) o end.Payload ≡ end.Payload → o ≡ None
-ends_without_auth_error t None e = refl
-ends_without_auth_error t (Some f) e = absurd (auth_not_payload t f e)
+ends_without_auth_error t o e = search rules
 
 -- the error of the chain after the base header, with its offset from the packet's start
 abbrev ipv4_error : List ℕ → List ℕ → Option AuthSliceError
@@ -181,9 +164,7 @@ module _ (h s : List ℕ) (base : IsIpv4Header h) (prefix : IsPrefix h s) (none 
     same_auth_error : fault_after (ipv4_faults Slice) (ipv4_chain h s) (protocol h) (after_base h (ipv4_stated h) s) ≡ ipv4_chain_fault (protocol s) (ipv4_after s)
     same_auth_error =
         let after : after_base h (ipv4_stated h) s ≡ ipv4_after s = after_is4 h s base prefix fits in
-        ap (λ c. fault_after (ipv4_faults Slice) c (protocol h) (after_base h (ipv4_stated h) s)) (chain_of h _ none)
-        ∙ ap (ipv4_chain_fault (protocol h)) after
-        ∙ ap (λ n. ipv4_chain_fault n (ipv4_after s)) header.number
+        rw (none, after, header.number) refl
 
     at_end : ipv4_end h s ≡ option_map_or (auth_end (ipv4_stated h)) (ipv4_error h s) end.Payload
     at_end = end_of h s none fits
@@ -199,25 +180,23 @@ module _ (h s : List ℕ) (base : IsIpv4Header h) (prefix : IsPrefix h s) (none 
       let after : ipv4_fault_after s ≡ None = none_before ip_of_ipv4 (ipv4_fault_after s) (sym after_header ∙ e) in
       let fits : length h ≤ total_len h = omega (arith, (total_of s after).0, header.len, header.total) in
       let whole : total_len s ≤ length s = (total_of s after).1 in
-      let chain : ipv4_chain_fault (protocol s) (ipv4_after s) ≡ None = none_before (auth_in_packet ipv4_len_source (ipv4_header_len s)) (ipv4_chain_fault (protocol s) (ipv4_after s)) (sym (checks fits whole) ∙ after) in
-      let error : ipv4_error h s ≡ None = ap (option_map (auth_in_packet Slice (length h))) (same_auth_error fits ∙ chain) in
-      let stated : IsSome (ipv4_stated h) = is_stated h (some_total fits) in
-      (at_end fits ∙ ap (λ o. option_map_or (auth_end (ipv4_stated h)) o end.Payload) error, (whole_if fits).1 whole, stated)
+      let chain : ipv4_chain_fault (protocol s) (ipv4_after s) ≡ None =
+      none_before (auth_in_packet ipv4_len_source (ipv4_header_len s)) _ (sym (checks fits whole) ∙ after) in
+      (cc (at_end fits, same_auth_error fits), (whole_if fits).1 whole, is_stated h (some_total fits))
 
   ipv4_parses : (ipv4_end h s ≡ end.Payload) × (missing_of (ipv4_stated h) (length s) ≡ 0) × IsSome (ipv4_stated h) → ip_fault s ≡ None
   ipv4_parses p =
       let fits : length h ≤ total_len h = stated_whole h s p.0 p.2 in
       let error : ipv4_error h s ≡ None = ends_without_auth_error (ipv4_stated h) (ipv4_error h s) (sym (at_end fits) ∙ p.0) in
-      let chain : ipv4_chain_fault (protocol s) (ipv4_after s) ≡ None = sym (same_auth_error fits) ∙ none_before (auth_in_packet Slice (length h)) _ error in
-      after_header ∙ ap (option_map ip_of_ipv4) (checks fits ((whole_if fits).0 p.1) ∙ ap (option_map (auth_in_packet ipv4_len_source (ipv4_header_len s))) chain)
-
-  ipv4_accepted_at : (ip_fault s ≡ None) ↔ ((ipv4_end h s ≡ end.Payload) × (missing_of (ipv4_stated h) (length s) ≡ 0) × IsSome (ipv4_stated h))
-  ipv4_accepted_at = (ipv4_ends, ipv4_parses)
+      let chain : ipv4_chain_fault (protocol s) (ipv4_after s) ≡ None =
+      sym (same_auth_error fits) ∙ none_before (auth_in_packet Slice (length h)) _ error in
+      rw (after_header, checks fits ((whole_if fits).0 p.1), chain) refl
 
 pub ipv4_accepted : (s : List ℕ) → (dissected s).version ≡ 4 → ipv4_fragment_offset (dissected s).base ≡ 0 → (ip_fault s ≡ None) ↔ (((dissected s).end ≡ end.Payload) × ((dissected s).missing ≡ 0) × IsSome (dissected s).stated)
 ipv4_accepted s v none =
     let w : BeginIpv4 s (take (ipv4_header_len s) s) = begin_ipv4 s v in
-    rw w.is (ipv4_accepted_at (take (ipv4_header_len s) s) s w.header w.prefix (rw w.is at none))
+    let none = rw w.is at none in
+    rw w.is (ipv4_ends _ s w.header w.prefix none, ipv4_parses _ s w.header w.prefix none)
 
 -- bytes that don't start with a base header
 pub no_packet_accepted : (s : List ℕ) (e : End) → base_end s ≡ Some e → IsSome (ip_fault s)

@@ -1,6 +1,5 @@
 -- Where no later fragment's header is in the chain, a dissection and a parsed packet have the same parts.
-use Rattle.ip_spec.proofs.Common.{◌≡◌, ℕ, ◌+◌, ◌≤◌, List, ◌++◌, length, take, drop, subst, refl, sym, ap, ◌∙◌, arith, false, common_steps, ne_eqb, length-append, length-take, Some, None, IsPrefix, ExtHeader, leads_to, rest_after, ◌==◌, if◌then◌else◌}
-use Rattle.std.proofs.Common.{max}
+use Rattle.ip_spec.proofs.Common.{◌≡◌, ℕ, ◌+◌, ◌≤◌, List, ◌++◌, length, take, refl, sym, ap, ◌∙◌, arith, false, common_steps, length-append, length-take, Some, None, IsPrefix, ExtHeader, ◌==◌, if◌then◌else◌}
 use Rattle.ip_spec.proofs.PrefixLemmas.{prefix-length}
 use Rattle.ip_spec.proofs.ChainLemmas.{longest_at_end}
 use Rattle.ip_spec.proofs.UnderLemmas.{longest_ends_under}
@@ -11,7 +10,6 @@ use Rattle.ip_ext_slices.specs.Ipv4Longest.{longest_ipv4_chain}
 use Rattle.ip_ext_slices.proofs.LongestLemmas.{longest_chain-is}
 use Rattle.etherparse_ip.specs.LenSources.{front, ipv6_len_source}
 use Rattle.etherparse_ip.specs.Packet.{Parts, IsIpv4Packet, IsIpv6Packet}
-use Rattle.etherparse_ip.specs.PartsIn.{ipv4_parts_in, ipv6_parts_in}
 use Rattle.etherparse_ip.specs.PacketFault.{ipv4_after, ipv6_after}
 use Rattle.etherparse_ip.proofs.BaseLemmas.{SaysIpv4, SaysIpv6, says_ipv4, says_ipv6}
 use Rattle.etherparse_ip.proofs.OnePacketLemmas.{ipv4_parts_are, ipv6_parts_are}
@@ -37,67 +35,50 @@ pub after_is6 : (b s : List ℕ) → IsIpv6Header b → IsPrefix b s → after_b
 after_is6 b s base prefix =
     let says : SaysIpv6 b s = says_ipv6 b s base prefix in
     let enough : 40 ≤ length s = omega (arith, prefix-length b s prefix, base.len) in
-    ap (drop (length b)) (front_is b s (payload_length b) base.len enough)
-    ∙ ap (λ k. drop (length b) (front (ipv6_len_source k (length s)) k s)) says.payload
-    ∙ ap (λ n. drop n (front (ipv6_len_source (payload_length s) (length s)) (payload_length s) s)) base.len
+    cc (front_is b s (payload_length b) base.len enough)
 
 parsed_begins6 : (s : List ℕ) (p : Parts) → IsIpv6Packet s p → BeginIpv6 s (take 40 s)
-parsed_begins6 s p k = header_begins6 s (subst (λ b. IsIpv6Header b) (ap (λ (q : Parts). q.base) (ipv6_parts_are s p k)) k.base)
+parsed_begins6 s p k = header_begins6 s (rw (ipv6_parts_are s p k) at k.base)
 
 pub ipv6_agrees : (s : List ℕ) (p : Parts) → IsIpv6Packet s p → has_later (dissected s).headers ≡ false → HaveSameParts (dissected s) p
 ipv6_agrees s p k none =
-    let parsed : p ≡ ipv6_parts_in s = ipv6_parts_are s p k in
     let b : List ℕ = take 40 s in
     let w : BeginIpv6 s b = parsed_begins6 s p k in
     let none : has_later (ipv6_chain b s) ≡ false = rw w.is at none in
     let says : SaysIpv6 b s = says_ipv6 b s w.header w.prefix in
     let x : after_base b (ipv6_stated b) s ≡ ipv6_after s = after_is6 b s w.header w.prefix in
-    let c : ipv6_chain b s ≡ longest_chain (ipv6_next_header s) (ipv6_after s) = no_later _ _ none ∙ ap (longest_chain (ipv6_next_header b)) x ∙ ap (λ n. longest_chain n (ipv6_after s)) says.number in
-    rw (w.is, parsed) (record {
-      base = refl;
-      headers = c;
-      payload = ap (λ e. rest_after e (after_base b (ipv6_stated b) s)) c ∙ ap (rest_after (longest_chain (ipv6_next_header s) (ipv6_after s))) x;
-      number = ap (leads_to (ipv6_next_header b)) c ∙ ap (λ n. leads_to n (longest_chain (ipv6_next_header s) (ipv6_after s))) says.number;
-    })
+    let c : ipv6_chain b s ≡ longest_chain (ipv6_next_header s) (ipv6_after s) = cc (no_later _ _ none, says.number) in
+    rw (w.is, ipv6_parts_are s p k) (record { base = refl; headers = c; payload = cc; number = cc (says.number) })
 
 -- IPv4: a parsed packet's total length isn't below its header length
 enough_of : (b y s : List ℕ) (t : ℕ) → b ++ y ≡ take t s → length b ≤ t
 enough_of b y s t e = omega (arith, ap length e, length-append b y, length-take t s)
 
 total_is : (b s : List ℕ) (t : ℕ) → 1 ≤ length b → length b ≤ t → packet_bytes b (if t == 0 then None else Some t) s ≡ take t s
-total_is b s t some enough = rw (ne_eqb t 0 (λ z. absurd (omega (arith, z)))) (let e : max t (length b) ≡ t = omega arith in ap (λ n. take n s) e)
+total_is b s t some enough = grind (arith, common_steps)
 
 pub after_is4 : (b s : List ℕ) → IsIpv4Header b → IsPrefix b s → length b ≤ total_len b → after_base b (ipv4_stated b) s ≡ ipv4_after s
 after_is4 b s base prefix enough =
     let says : SaysIpv4 b s = says_ipv4 b s base prefix in
-    ap (drop (length b)) (total_is b s (total_len b) (omega (arith, base.least, base.len)) enough)
-    ∙ ap (λ t. drop (length b) (take t s)) says.total
-    ∙ ap (λ n. drop n (take (total_len s) s)) says.len
+    cc (total_is b s (total_len b) (omega (arith, base.least, base.len)) enough)
 
 pub chain_of : (b x : List ℕ) → ipv4_fragment_offset b ≡ 0 → ipv4_chain_in b x ≡ longest_ipv4_chain (protocol b) x
 chain_of b x e = rw e refl
 
 parsed_begins4 : (s : List ℕ) (p : Parts) → IsIpv4Packet s p → BeginIpv4 s (take (ipv4_header_len s) s)
-parsed_begins4 s p k = header_begins4 s (subst (λ b. IsIpv4Header b) (ap (λ (q : Parts). q.base) (ipv4_parts_are s p k)) k.base)
+parsed_begins4 s p k = header_begins4 s (rw (ipv4_parts_are s p k) at k.base)
 
 parsed_enough : (s : List ℕ) (p : Parts) → IsIpv4Packet s p → length (take (ipv4_header_len s) s) ≤ total_len (take (ipv4_header_len s) s)
 parsed_enough s p k =
     let stated : front p.source (total_len p.base) s ≡ take (total_len p.base) s = ap (λ f. front f (total_len p.base) s) k.source in
-    subst (λ (b : List ℕ). length b ≤ total_len b) (ap (λ (q : Parts). q.base) (ipv4_parts_are s p k)) (enough_of p.base _ s (total_len p.base) (k.joined ∙ stated))
+    rw (ipv4_parts_are s p k) at (enough_of p.base _ s (total_len p.base) (k.joined ∙ stated))
 
 pub ipv4_agrees : (s : List ℕ) (p : Parts) → IsIpv4Packet s p → ipv4_fragment_offset p.base ≡ 0 → HaveSameParts (dissected s) p
 ipv4_agrees s p k none =
-    let parsed : p ≡ ipv4_parts_in s = ipv4_parts_are s p k in
     let b : List ℕ = take (ipv4_header_len s) s in
     let w : BeginIpv4 s b = parsed_begins4 s p k in
-    let none : ipv4_fragment_offset b ≡ 0 = rw parsed at none in
+    let none : ipv4_fragment_offset b ≡ 0 = rw (ipv4_parts_are s p k) at none in
     let says : SaysIpv4 b s = says_ipv4 b s w.header w.prefix in
     let x : after_base b (ipv4_stated b) s ≡ ipv4_after s = after_is4 b s w.header w.prefix (parsed_enough s p k) in
-    let c : ipv4_chain b s ≡ longest_ipv4_chain (protocol s) (ipv4_after s) =
-    chain_of b _ none ∙ ap (longest_ipv4_chain (protocol b)) x ∙ ap (λ n. longest_ipv4_chain n (ipv4_after s)) says.number in
-    rw (w.is, parsed) (record {
-      base = refl;
-      headers = c;
-      payload = ap (λ e. rest_after e (after_base b (ipv4_stated b) s)) c ∙ ap (rest_after (longest_ipv4_chain (protocol s) (ipv4_after s))) x;
-      number = ap (leads_to (protocol b)) c ∙ ap (λ n. leads_to n (longest_ipv4_chain (protocol s) (ipv4_after s))) says.number;
-    })
+    let c : ipv4_chain b s ≡ longest_ipv4_chain (protocol s) (ipv4_after s) = cc (chain_of b (after_base b (ipv4_stated b) s) none, says.number) in
+    rw (w.is, ipv4_parts_are s p k) (record { base = refl; headers = c; payload = cc; number = cc (says.number) })

@@ -1,5 +1,5 @@
 -- Which base header bytes start with, and so which parts their packet has.
-use Rattle.ip_spec.proofs.Common.{◌≡◌, ℕ, ◌≤◌, List, [], length, take, refl, sym, ap, ◌∙◌, arith, rules, common_steps, ◌/◌, length-take-le, get_or-take, inl, inr, eqb_tells, eq-eqb, Option, None, Some, option_map_or, ◌==◌, if◌then◌else◌, false, false≢true, IsPrefix}
+use Rattle.ip_spec.proofs.Common.{◌≡◌, ℕ, ◌≤◌, List, [], length, take, refl, sym, ap, ◌∙◌, arith, rules, common_steps, ◌/◌, length-take-le, get_or-take, eqb_tells, eq-eqb, Option, None, Some, option_map_or, ◌==◌, if◌then◌else◌, false, IsPrefix}
 use Rattle.ip_spec.proofs.PrefixLemmas.{prefix-length}
 use Rattle.ip_base.specs.Ipv4Header.{version, ihl, ipv4_header_len, IsIpv4Header}
 use Rattle.ip_base.specs.Ipv6Header.{IsIpv6Header}
@@ -39,18 +39,10 @@ dissected-ipv6 s b none header prefix =
 
 -- the version says which header it is
 four_of : (s : List ℕ) (o : Option End) (v : ℕ) (x y : DissectedParts) → y.version ≡ 6 → (option_map_or (without_base s) o (if v == 4 then x else y)).version ≡ 4 → (o ≡ None) × (v ≡ 4)
-four_of s None v x y six e = elim (eqb_tells v 4) [
-  | inl w ↦ (refl, w.1)
-  | inr w ↦ let e : y.version ≡ 4 = rw w.0 at e in absurd (omega (arith, six, e))
-]
-four_of s (Some z) v x y six e = absurd (omega (arith, e))
+four_of s o v x y six e = search (rules, eqb_tells v 4)
 
 six_of : (s : List ℕ) (o : Option End) (v : ℕ) (x y : DissectedParts) → x.version ≡ 4 → (option_map_or (without_base s) o (if v == 4 then x else y)).version ≡ 6 → (o ≡ None) × (v ≡ 4 → ⊥)
-six_of s None v x y four e = elim (eqb_tells v 4) [
-  | inl w ↦ let e : x.version ≡ 6 = rw w.0 at e in absurd (omega (arith, four, e))
-  | inr w ↦ (refl, w.1)
-]
-six_of s (Some z) v x y four e = absurd (omega (arith, e))
+six_of s o v x y four e = search (rules, eqb_tells v 4)
 
 base4 : (s : List ℕ) → base_end s ≡ None → version s ≡ 4 → (5 ≤ ihl s) × (ipv4_header_len s ≤ length s)
 base4 s none four = (grind (arith, common_steps), grind (arith, common_steps))
@@ -80,7 +72,7 @@ header4 : (s : List ℕ) → version s ≡ 4 → 5 ≤ ihl s → ipv4_header_len
 header4 s four least enough = (grind (arith, common_steps), grind (arith, common_steps))
 
 header6 : (s : List ℕ) → version s ≡ 6 → 40 ≤ length s → IsIpv6Header (take 40 s) × IsPrefix (take 40 s) s
-header6 s six enough = (record { version = version_taken 40 s (omega arith) ∙ six; len = length-take-le 40 s enough }, prefix_taken 40 s)
+header6 s six enough = search (rules, version_taken, prefix_taken, length-take-le)
 
 pub begin_ipv4 : (s : List ℕ) → (dissected s).version ≡ 4 → BeginIpv4 s (take (ipv4_header_len s) s)
 unfolding dissected
@@ -118,29 +110,20 @@ begun4 s b header prefix =
     dissected-ipv4 s b (none4 s (sym says.version ∙ header.version) least enough) header prefix
 
 pub header_begins6 : (s : List ℕ) → IsIpv6Header (take 40 s) → BeginIpv6 s (take 40 s)
-header_begins6 s header =
-    let prefix : IsPrefix (take 40 s) s = prefix_taken 40 s in
-    record { header = header; prefix = prefix; is = begun6 s (take 40 s) header prefix }
+header_begins6 s header = search (rules, prefix_taken, begun6)
 
 pub header_begins4 : (s : List ℕ) → IsIpv4Header (take (ipv4_header_len s) s) → BeginIpv4 s (take (ipv4_header_len s) s)
-header_begins4 s header =
-    let b : List ℕ = take (ipv4_header_len s) s in
-    let prefix : IsPrefix b s = prefix_taken (ipv4_header_len s) s in
-    record { header = header; prefix = prefix; is = begun4 s b header prefix }
+header_begins4 s header = search (rules, prefix_taken, begun4)
 
 -- bytes without a base header have no extension headers
 no_version_of : (s : List ℕ) (o : Option End) (v : ℕ) (x y : DissectedParts) → x.version ≡ 4 → y.version ≡ 6
     → ((option_map_or (without_base s) o (if v == 4 then x else y)).version ≡ 6 → ⊥) → ((option_map_or (without_base s) o (if v == 4 then x else y)).version ≡ 4 → ⊥)
     → (option_map_or (without_base s) o (if v == 4 then x else y)).headers ≡ []
-no_version_of s (Some e) v x y four six p q = refl
-no_version_of s None v x y four six p q = elim (eqb_tells v 4) [
-  | inl w ↦ absurd (q (rw w.0 four))
-  | inr w ↦ absurd (p (rw w.0 six))
-]
+no_version_of s o v x y four six p q = search (rules, eqb_tells v 4)
 
 no_version : (s : List ℕ) → ((dissected s).version ≡ 6 → ⊥) → ((dissected s).version ≡ 4 → ⊥) → (dissected s).headers ≡ []
 unfolding dissected
 no_version s p q = no_version_of s (base_end s) (version s) _ _ refl refl p q
 
 pub no_headers : (s : List ℕ) (d : Dissection) → HasParts (dissected s) d → false ≡ (version_of d == 6) → false ≡ (version_of d == 4) → (dissected s).headers ≡ []
-no_headers s d h six four = no_version s (λ e. false≢true (six ∙ ap (λ v. v == 6) (h.version ∙ e))) (λ e. false≢true (four ∙ ap (λ v. v == 4) (h.version ∙ e)))
+no_headers s d h six four = no_version s (search rules) (search rules)

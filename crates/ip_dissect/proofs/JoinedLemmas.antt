@@ -1,11 +1,11 @@
 -- The parts of a packet joined, and the packets in truncated bytes.
-use Rattle.ip_spec.proofs.Common.{◌≡◌, ℕ, ◌-◌, ◌≤◌, List, [], ◌∷◌, ◌++◌, length, take, drop, refl, sym, ap, ◌∙◌, arith, inl, inr, common_steps, append_assoc, take-take, eqb_tells, Option, Some, None, IsPrefix, ExtHeader, bytes_of, headers_within, rest_after, AtMostOneOf}
-use Rattle.std.proofs.Common.{max, zero, suc}
+use Rattle.ip_spec.proofs.Common.{rules, ◌≡◌, ℕ, ◌-◌, ◌≤◌, List, [], ◌∷◌, ◌++◌, length, take, drop, sym, ap, ◌∙◌, arith, common_steps, append_assoc, Option, IsPrefix, ExtHeader, bytes_of, headers_within, rest_after, AtMostOneOf}
+use Rattle.std.proofs.Common.{zero, suc}
 use Rattle.ip_spec.proofs.PrefixLemmas.{prefix-append, prefix-length}
 use Rattle.ip_spec.proofs.DemandKinds.{at_most_one_of}
 use Rattle.ip_spec.proofs.ShorterLemmas.{longest_shorter}
 use Rattle.ip_spec.proofs.UnderLemmas.{whole_longest_under, one_longest_under}
-use Rattle.ip_base.specs.Ipv4Header.{protocol, ipv4_header_len, ipv4_fragment_offset}
+use Rattle.ip_base.specs.Ipv4Header.{protocol, ipv4_header_len}
 use Rattle.ip_base.specs.Ipv6Header.{ipv6_next_header}
 use Rattle.ip_ext_slices.specs.Ipv4Longest.{longest_ipv4_chain}
 use Rattle.ip_ext_slices.specs.Longest.{longest_chain}
@@ -22,12 +22,10 @@ use Rattle.ip_dissect.proofs.DissectedLemmas.{BeginIpv4, begin_ipv4, BeginIpv6, 
 
 -- the packet's bytes are a prefix of s that starts with the base header
 packet_split : (b : List ℕ) (t : Option ℕ) (s : List ℕ) → packet_bytes b t s ++ drop (length (packet_bytes b t s)) s ≡ s
-packet_split b None s = grind (arith, common_steps)
-packet_split b (Some t) s = grind (arith, common_steps)
+packet_split b t s = grind (arith, common_steps)
 
 packet_begins : (b : List ℕ) (t : Option ℕ) (s : List ℕ) → IsPrefix b s → IsPrefix b (packet_bytes b t s)
-packet_begins b None s p = p
-packet_begins b (Some t) s p = let enough : length b ≤ max t (length b) = omega arith in take-take (length b) (max t (length b)) s enough ∙ p
+packet_begins b t s p = grind (arith, common_steps)
 
 module _ (b s : List ℕ) (t : Option ℕ) (n : ℕ) (c : List ExtHeader) (start : IsPrefix b s) (front : IsPrefix (bytes_of c) (after_base b t s)) where
   after_split : bytes_of c ++ rest_after c (after_base b t s) ≡ after_base b t s
@@ -37,13 +35,11 @@ module _ (b s : List ℕ) (t : Option ℕ) (n : ℕ) (c : List ExtHeader) (start
   packet_is = sym (prefix-append b (packet_bytes b t s) (packet_begins b t s start))
 
   pub joined : b ++ bytes_of c ++ rest_after c (after_base b t s) ++ drop (length (packet_bytes b t s)) s ≡ s
-  joined =
-      ap (λ r. r ++ drop (length (packet_bytes b t s)) s) (append_assoc b (bytes_of c) (rest_after c (after_base b t s)) ∙ ap (λ r. b ++ r) after_split ∙ packet_is)
-      ∙ packet_split b t s
+  joined = cc (append_assoc b (bytes_of c) (rest_after c (after_base b t s)), after_split, packet_is, packet_split b t s)
 
 -- the parts of a dissection joined
 parts_joined : (p : DissectedParts) (d : Dissection) → HasParts p d → base_of d ++ d.extensions.now ++ d.payload.now ++ d.padding.now ≡ p.base ++ bytes_of p.headers ++ p.payload ++ p.padding
-parts_joined p d h = rw (h.base, h.extensions, h.payload, h.padding) refl
+parts_joined p d h = cc (h.base, h.extensions, h.payload, h.padding)
 
 pub ipv4_joined : (b s : List ℕ) (d : Dissection) → IsPrefix b s → HasParts (ipv4_dissected b s) d → base_of d ++ d.extensions.now ++ d.payload.now ++ d.padding.now ≡ s
 ipv4_joined b s d start h = parts_joined (ipv4_dissected b s) d h ∙ joined b s (ipv4_stated b) (protocol b) (ipv4_chain b s) start (ipv4_prefix b _).prefix
@@ -52,25 +48,17 @@ pub ipv6_joined : (b s : List ℕ) (d : Dissection) → IsPrefix b s → HasPart
 ipv6_joined b s d start h = parts_joined (ipv6_dissected b s) d h ∙ joined b s (ipv6_stated b) (ipv6_next_header b) (ipv6_chain b s) start (chain_to_later-longest _ _).has.0.prefix
 
 -- Truncated bytes: those of the packet, and those after its base header.
-none_of : (n : ℕ) → take {A = ℕ} n [] ≡ []
-none_of zero = refl
-none_of (suc n) = refl
-
 drop_take : (k j : ℕ) (s : List ℕ) → drop k (take j s) ≡ take (j - k) (drop k s)
 drop_take zero j s = let e : j ≡ j - 0 = omega arith in ap (λ n. take n s) e
 drop_take (suc k) zero s = let e : 0 ≡ 0 - suc k = omega arith in ap (λ n. take n (drop (suc k) s)) e
-drop_take (suc k) (suc j) [] = sym (none_of (suc j - suc k))
-drop_take (suc k) (suc j) (x ∷ s) = let e : j - k ≡ suc j - suc k = omega arith in drop_take k j s ∙ ap (λ n. take n (drop k s)) e
+drop_take (suc k) (suc j) [] = grind (arith, common_steps)
+drop_take (suc k) (suc j) (x ∷ s) = grind (arith, common_steps, drop_take k j s)
 
 take_swap : (k j : ℕ) (s : List ℕ) → take k (take j s) ≡ take j (take k s)
-take_swap zero j s = sym (none_of j)
-take_swap (suc k) zero s = refl
-take_swap (suc k) (suc j) [] = refl
-take_swap (suc k) (suc j) (x ∷ s) = ap (λ r. x ∷ r) (take_swap k j s)
+take_swap k j s = grind (arith, common_steps)
 
 packet_shorter : (b : List ℕ) (t : Option ℕ) (j : ℕ) (s : List ℕ) → packet_bytes b t (take j s) ≡ take j (packet_bytes b t s)
-packet_shorter b None j s = refl
-packet_shorter b (Some t) j s = take_swap (max t (length b)) j s
+packet_shorter b t j s = search (rules, take_swap)
 
 after_shorter : (b : List ℕ) (t : Option ℕ) (j : ℕ) (s : List ℕ) → after_base b t (take j s) ≡ take (j - length b) (after_base b t s)
 after_shorter b t j s = ap (drop (length b)) (packet_shorter b t j s) ∙ drop_take (length b) j (packet_bytes b t s)
@@ -82,10 +70,7 @@ pub ipv6_shorter : (j : ℕ) (b s : List ℕ) → ipv6_chain b (take j s) ≡ he
 ipv6_shorter j b s = ap (chain_to_later (ipv6_next_header b)) (after_shorter b (ipv6_stated b) j s) ∙ chain_to_later-shorter (ipv6_next_header b) (j - length b) (after_base b (ipv6_stated b) s)
 
 chain_in-shorter : (j : ℕ) (b x : List ℕ) → ipv4_chain_in b (take j x) ≡ headers_within j (ipv4_chain_in b x)
-chain_in-shorter j b x = elim (eqb_tells (ipv4_fragment_offset b) 0) [
-  | inl w ↦ rw w.0 (ipv4_longest-shorter (protocol b) j x)
-  | inr w ↦ rw w.0 refl
-]
+chain_in-shorter j b x = search (rules, ipv4_longest-shorter)
 
 pub ipv4_shorter : (j : ℕ) (b s : List ℕ) → ipv4_chain b (take j s) ≡ headers_within (j - length b) (ipv4_chain b s)
 ipv4_shorter j b s = ap (ipv4_chain_in b) (after_shorter b (ipv4_stated b) j s) ∙ chain_in-shorter (j - length b) b (after_base b (ipv4_stated b) s)
@@ -95,33 +80,27 @@ ipv6_again : (b s : List ℕ) → longest_chain (ipv6_next_header b) (bytes_of (
 ipv6_again b s = longest_chain-bytes_of _ (ipv6_chain b s) (chain_to_later-longest _ _).has.0.chain
 
 one_of : (b x : List ℕ) → AtMostOneOf 51 (ipv4_chain_in b x)
-one_of b x = elim (eqb_tells (ipv4_fragment_offset b) 0) [
-  | inl w ↦ rw w.0 (ipv4_longest (protocol b) x).has.1
-  | inr w ↦ rw w.0 (at_most_one_of 51).empty
-]
+one_of b x = search (rules, ipv4_longest, (at_most_one_of 51).empty)
 
 ipv4_again : (b s : List ℕ) → longest_ipv4_chain (protocol b) (bytes_of (ipv4_chain b s)) ≡ ipv4_chain b s
-ipv4_again b s =
-    let c : List ExtHeader = ipv4_chain b s in
-    one_longest_under (AtMostOneOf 51) (at_most_one_of 51) (protocol b) (bytes_of c) (longest_ipv4_chain (protocol b) (bytes_of c)) c (ipv4_longest _ _)
-    (whole_longest_under (AtMostOneOf 51) (at_most_one_of 51) (protocol b) c (ipv4_prefix b _).chain (one_of b _))
+ipv4_again b s = search (rules, one_longest_under (AtMostOneOf 51) (at_most_one_of 51), ipv4_longest, whole_longest_under (AtMostOneOf 51) (at_most_one_of 51), ipv4_prefix, one_of)
 
 -- so a parse of them from the base header's number returns the headers
 pub ipv6_found : (s : List ℕ) (d : Dissection) (b : List ℕ) (n : ℕ) (c : List ExtHeader) → version_of d ≡ 6 → base_of d ≡ b → n ≡ ipv6_next_header b → c ≡ longest_chain n d.extensions.now → HasParts (dissected s) d → c ≡ (dissected s).headers
 ipv6_found s d b n c six base ns cs h =
-    let w : BeginIpv6 s (take 40 s) = begin_ipv6 s (sym h.version ∙ six) in
     let b' : List ℕ = take 40 s in
-    let same : b ≡ b' = sym base ∙ h.base ∙ ap (λ (p : DissectedParts). p.base) w.is in
-    let bytes : d.extensions.now ≡ bytes_of (ipv6_chain b' s) = h.extensions ∙ ap (λ (p : DissectedParts). bytes_of p.headers) w.is in
-    cs ∙ ap (λ k. longest_chain k d.extensions.now) (ns ∙ ap ipv6_next_header same) ∙ ap (longest_chain (ipv6_next_header b')) bytes ∙ ipv6_again b' s ∙ ap (λ (p : DissectedParts). p.headers) (sym w.is)
+    let w : BeginIpv6 s b' = begin_ipv6 s (sym h.version ∙ six) in
+    let same : b ≡ b' = cc (h.base, w.is) in
+    let bytes : d.extensions.now ≡ bytes_of (ipv6_chain b' s) = cc (h.extensions, w.is) in
+    cc (ipv6_again b' s)
 
 pub ipv4_found : (s : List ℕ) (d : Dissection) (b : List ℕ) (n : ℕ) (c : List ExtHeader) → version_of d ≡ 4 → base_of d ≡ b → n ≡ protocol b → c ≡ longest_ipv4_chain n d.extensions.now → HasParts (dissected s) d → c ≡ (dissected s).headers
 ipv4_found s d b n c four base ns cs h =
-    let w : BeginIpv4 s (take (ipv4_header_len s) s) = begin_ipv4 s (sym h.version ∙ four) in
     let b' : List ℕ = take (ipv4_header_len s) s in
-    let same : b ≡ b' = sym base ∙ h.base ∙ ap (λ (p : DissectedParts). p.base) w.is in
-    let bytes : d.extensions.now ≡ bytes_of (ipv4_chain b' s) = h.extensions ∙ ap (λ (p : DissectedParts). bytes_of p.headers) w.is in
-    cs ∙ ap (λ k. longest_ipv4_chain k d.extensions.now) (ns ∙ ap protocol same) ∙ ap (longest_ipv4_chain (protocol b')) bytes ∙ ipv4_again b' s ∙ ap (λ (p : DissectedParts). p.headers) (sym w.is)
+    let w : BeginIpv4 s b' = begin_ipv4 s (sym h.version ∙ four) in
+    let same : b ≡ b' = cc (h.base, w.is) in
+    let bytes : d.extensions.now ≡ bytes_of (ipv4_chain b' s) = cc (h.extensions, w.is) in
+    cc (ipv4_again b' s)
 
 -- they lie within the bytes that were parsed
 pub found_within : (n : ℕ) (x y : List ℕ) (c : List ExtHeader) → bytes_of c ≡ y → c ≡ longest_chain n x → length y ≤ length x

@@ -1,5 +1,5 @@
 -- A chain that stops at a later fragment's header: one more header, and the end.
-use Rattle.ip_spec.proofs.Common.{◌≡◌, ℕ, ◌+◌, ◌<◌, ◌^◌, List, [], ◌∷◌, ◌++◌, length, drop, refl, sym, ap, ◌∙◌, arith, Bool, true, false, nat_eq, common_steps, or-false, or_assoc, option_map, option_or, find, ◌||◌, next_header, ExtHeader, bytes_of, leads_to, IsNext, IsEnd, IsLongestUnder, rest_after}
+use Rattle.ip_spec.proofs.Common.{◌≡◌, ℕ, ◌+◌, ◌<◌, ◌^◌, List, [], ◌∷◌, ◌++◌, length, drop, sym, ap, ◌∙◌, arith, rules, Bool, true, false, nat_eq, common_steps, or-false, or_assoc, option_map, option_or, find, ◌||◌, next_header, ExtHeader, bytes_of, leads_to, IsNext, IsEnd, IsLongestUnder, rest_after}
 use Rattle.std.proofs.Common.{Some, None, cond}
 use Rattle.std.proofs.lemmas.List.Folds.{find-append}
 use Rattle.ip_spec.proofs.PrefixLemmas.{prefix-length}
@@ -20,7 +20,7 @@ found-more f p c h = rw find-append (grind (arith, common_steps))
 
 -- a header may follow if none is a later fragment's, and otherwise none may
 pub may_follow : (c : List ExtHeader) (h : ExtHeader) → has_later c ≡ false → NothingAfterLater (c ++ h ∷ [])
-may_follow [] h f = (λ e. refl, tt)
+may_follow [] h f = search rules
 may_follow (g ∷ c) h f = grind (arith, common_steps, may_follow c h)
 
 -- a chain without one meets the demand
@@ -57,12 +57,8 @@ pub record AtEnd (n : ℕ) (s : List ℕ) (m : ℕ) (r : List ℕ) (found : Foun
 module _ (n : ℕ) (s : List ℕ) (m : ℕ) (r : List ℕ) (found : Found) where
   end_of : (c : List ExtHeader) → HasParsed n s c m r → found ≡ found_in c → IsLongestUnder NothingAfterLater n s c → AtEnd n s m r found
   end_of c read said longest =
-      let is : c ≡ chain_to_later n s = one_longest_under NothingAfterLater nothing_after_later n s c (chain_to_later n s) longest (chain_to_later-longest n s) in
-      record {
-        number = read.number ∙ ap (leads_to n) is;
-        rest = read.rest ∙ ap (λ d. drop (length (bytes_of d)) s) is;
-        said = said ∙ ap found_in is;
-      }
+      let is : c ≡ chain_to_later n s = one_longest_under NothingAfterLater nothing_after_later n s c _ longest (chain_to_later-longest n s) in
+      record { number = cc (read.number); rest = cc (read.rest); said = cc }
 
   -- where no header follows
   pub at_end : WalkState n s m r found → IsEnd (nat_eq (length r) (length s)) m r → AtEnd n s m r found

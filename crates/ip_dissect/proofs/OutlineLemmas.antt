@@ -1,8 +1,8 @@
 -- The outline of a packet, from that of the bytes after its base header.
-use Rattle.ip_spec.proofs.Common.{◌≡◌, ℕ, ◌+◌, ◌-◌, ◌≤◌, List, length, drop, subst, refl, sym, ap, ◌∙◌, arith, rules, common_steps, nat_eq, Bool, true, false, false≢true, Option, Some, None, is_some, IfSome, IfNone, option_or, option_map_or, if◌then◌else◌, ◌&&◌, not, length-drop, IsPrefix, leads_to, rest_after}
+use Rattle.ip_spec.proofs.Common.{◌≡◌, ℕ, ◌+◌, ◌-◌, ◌≤◌, List, length, drop, subst, refl, sym, ap, ◌∙◌, arith, rules, common_steps, nat_eq, Bool, true, false, Option, Some, None, is_some, option_or, option_map_or, if◌then◌else◌, ◌&&◌, not, length-drop, IsPrefix, leads_to, rest_after}
 use Rattle.ip_spec.proofs.PrefixLemmas.{prefix-length}
-use Rattle.ip_base.specs.Ipv4Header.{version, ihl, ipv4_header_len, IsIpv4Header, ipv4_header_fault}
-use Rattle.ip_base.specs.Ipv6Header.{IsIpv6Header, ipv6_next_header, ipv6_header_fault}
+use Rattle.ip_base.specs.Ipv4Header.{version, ipv4_header_fault}
+use Rattle.ip_base.specs.Ipv6Header.{ipv6_next_header, ipv6_header_fault}
 use Rattle.ip_base.specs.declared.err.ipv4.header_slice_error.HeaderSliceError.{HeaderSliceError as Ipv4Error}
 use Rattle.ip_base.specs.declared.err.ipv6.header_slice_error.HeaderSliceError.{HeaderSliceError as Ipv6Error}
 use Rattle.ip_ext_slices.specs.ChainFault.{Fault, slice_fault}
@@ -11,33 +11,25 @@ use Rattle.ip_dissect.specs.Fragment.{ipv6_fragment}
 use Rattle.ip_dissect.specs.Found.{found_in}
 use Rattle.ip_dissect.specs.Extent.{packet_bytes, after_base, missing_of, ipv6_stated, ipv6_chain}
 use Rattle.ip_dissect.specs.End.{base_end, has_error, exts_end, ipv6_end}
-use Rattle.ip_dissect.specs.Dissection.{dissected, with_base, ipv4_dissected, ipv6_dissected}
+use Rattle.ip_dissect.specs.Dissection.{dissected, with_base, ipv6_dissected}
 use Rattle.ip_dissect.specs.Outline.{HasOutline}
-use Rattle.ip_dissect.specs.declared.fragment.Fragment.{Fragment}
 use Rattle.ip_dissect.specs.declared.outline.Outline.{Outline}
 use Rattle.ip_dissect.specs.declared.walk.Found.{Found}
 use Rattle.ip_dissect.specs.declared.end.End.{End}
 use Rattle.ip_dissect.specs.declared.end.End.TheVariants.{LaterFragment, Payload}
 use Rattle.ip_dissect.proofs.LaterLemmas.{chain_to_later-longest}
 use Rattle.ip_dissect.proofs.PartsLemmas.{chain_len, after_is, ipv6_fragment_is, ipv6_end_is}
-use Rattle.ip_dissect.proofs.DissectedLemmas.{dissected-none, begun4, begun6, base6}
+use Rattle.ip_dissect.proofs.DissectedLemmas.{dissected-none, base6}
 
 -- the end after an IPv6 chain, by whether there is an error
 abbrev end_after : Bool → Option ℕ → Option Fault → End
 end_after later t o = if later then LaterFragment else option_map_or (exts_end t) o Payload
 
 end_without : (later : Bool) (t : Option ℕ) (o : Option Fault) → (not later && is_some o) ≡ false → end_after later t o ≡ (if later then LaterFragment else Payload)
-end_without true t o e = refl
-end_without false t None e = refl
-end_without false t (Some f) e = absurd (false≢true (sym e))
-
-exts_error : (t : Option ℕ) (f : Fault) → has_error (exts_end t f) ≡ true
-exts_error t f = search rules
+end_without later t o e = search rules
 
 end_with : (later : Bool) (t : Option ℕ) (o : Option Fault) → (not later && is_some o) ≡ true → has_error (end_after later t o) ≡ true
-end_with true t o e = absurd (false≢true e)
-end_with false t None e = absurd (false≢true e)
-end_with false t (Some f) e = exts_error t f
+end_with later t o e = search rules
 
 -- A pass over the bytes x after an IPv6 base header b, read as y: the number m, the bytes r, and what it found.
 module _ (b s y : List ℕ) (same : y ≡ b) (n : ℕ) (packet x : List ℕ) (t : Option ℕ) (stated : t ≡ ipv6_stated b) (front : packet ≡ packet_bytes y t s) (left : x ≡ drop (length y) packet) (ns : n ≡ ipv6_next_header b)
@@ -82,8 +74,7 @@ base_error : (s : List ℕ) (e : End) → base_end s ≡ Some e → has_error e 
 base_error s e is = search rules
 
 error_of : (s : List ℕ) (o : Option End) → base_end s ≡ o → (o ≡ None → ⊥) → has_error (dissected s).end ≡ true
-error_of s None is some = absurd (some refl)
-error_of s (Some e) is some = rw (dissected-none s e is) (base_error s e is)
+error_of s o is some = grind (arith, common_steps, dissected-none s, base_error s)
 
 pub empty_error : (s : List ℕ) → length s ≡ 0 → has_error (dissected s).end ≡ true
 empty_error s e = error_of s (base_end s) refl (λ none. search rules)
@@ -97,23 +88,9 @@ ipv4_error s e four fault = error_of s (base_end s) refl (λ none. grind (arith,
 pub ipv6_error : (s : List ℕ) (e : Ipv6Error) → version s ≡ 6 → Some e ≡ ipv6_header_fault s → has_error (dissected s).end ≡ true
 ipv6_error s e six fault = error_of s (base_end s) refl (λ none. grind (arith, common_steps))
 
--- those that do
-pub outline4 : (s b : List ℕ) (o : Option Outline) → IsIpv4Header b → IsPrefix b s → IfSome o (HasOutline (ipv4_dissected b s)) → IfSome o (HasOutline (dissected s))
-outline4 s b o header prefix has = rw (begun4 s b header prefix) has
-
-pub outline6 : (s b : List ℕ) (o : Option Outline) → IsIpv6Header b → IsPrefix b s → IfSome o (HasOutline (ipv6_dissected b s)) → IfSome o (HasOutline (dissected s))
-outline6 s b o header prefix has = rw (begun6 s b header prefix) has
-
-pub no_outline4 : (s b : List ℕ) (o : Option Outline) → IsIpv4Header b → IsPrefix b s → IfNone o (has_error (ipv4_dissected b s).end ≡ true) → IfNone o (has_error (dissected s).end ≡ true)
-no_outline4 s b o header prefix has = rw (begun4 s b header prefix) has
-
-pub no_outline6 : (s b : List ℕ) (o : Option Outline) → IsIpv6Header b → IsPrefix b s → IfNone o (has_error (ipv6_dissected b s).end ≡ true) → IfNone o (has_error (dissected s).end ≡ true)
-no_outline6 s b o header prefix has = rw (begun6 s b header prefix) has
-
 -- The parts lie one after another in the bytes: those of a packet with a base header b, read as y, and r after the headers.
 packet_fits : (b s : List ℕ) (t : Option ℕ) → IsPrefix b s → (length b ≤ length (packet_bytes b t s)) × (length (packet_bytes b t s) ≤ length s)
-packet_fits b s None p = (omega (arith, prefix-length b s p), omega arith)
-packet_fits b s (Some t) p = (grind (arith, common_steps, prefix-length b s p), grind (arith, common_steps))
+packet_fits b s t p = grind (arith, common_steps, prefix-length b s p)
 
 pub parts_within : (b s y : List ℕ) (same : y ≡ b) (t : Option ℕ) (packet x r : List ℕ) (k : ℕ) → IsPrefix b s → packet ≡ packet_bytes y t s → x ≡ drop (length y) packet → r ≡ drop k x
     → length y + (length x - length r) + length r + (length s - length packet) ≡ length s

@@ -1,5 +1,5 @@
 -- The parts of a packet, from those of the bytes after its base header.
-use Rattle.ip_spec.proofs.Common.{◌≡◌, ℕ, ◌+◌, ◌-◌, List, length, take, drop, subst, refl, ap, ◌∙◌, arith, nat_eq, rules, eqb_tells, Option, Some, None, option_map, option_or, option_map_or, find, if◌then◌else◌, AllByRecursion, IsHeader, IsPrefix, ExtHeader, bytes_of, leads_to, is_empty, rest_after, IsPrefixChain}
+use Rattle.ip_spec.proofs.Common.{◌≡◌, ℕ, ◌+◌, ◌-◌, List, length, take, drop, refl, ap, ◌∙◌, arith, nat_eq, rules, eqb_tells, Option, option_map, option_or, option_map_or, find, if◌then◌else◌, AllByRecursion, IsHeader, ExtHeader, bytes_of, leads_to, is_empty, rest_after, IsPrefixChain}
 use Rattle.ip_spec.proofs.PrefixLemmas.{prefix-length}
 use Rattle.ip_spec.proofs.ChainLemmas.{bytes_of-least}
 use Rattle.ip_base.specs.Ipv6Header.{ipv6_next_header}
@@ -32,17 +32,14 @@ module _ (n : ℕ) (x : List ℕ) (c : List ExtHeader) (p : IsPrefixChain n x c)
   chain_none = empty_is c (length x - length r) p.chain.headers chain_len
 
 mapped_or : {A B : Type 0} (f : A → B) (a b : Option A) → option_or (option_map f a) (option_map f b) ≡ option_map f (option_or a b)
-mapped_or f None b = refl
-mapped_or f (Some x) b = refl
+mapped_or f a b = search rules
 
 found_fragment : (f : Found) (c : List ExtHeader) → f ≡ found_in c → option_or f.fragmenting f.first ≡ ipv6_fragment c
 found_fragment f c e = ap (λ (g : Found). option_or g.fragmenting g.first) e ∙ mapped_or fragment_of (find fragments c) (find is_fragment_header c)
 
 pub ipv6_fragment_is : (b x s : List ℕ) (n : ℕ) (found : Found) (f : Option Fragment) → x ≡ after_base b (ipv6_stated b) s → n ≡ ipv6_next_header b → found ≡ found_in (chain_to_later n x)
     → f ≡ option_or found.fragmenting found.first → f ≡ ipv6_fragment (ipv6_chain b s)
-ipv6_fragment_is b x s n found f xs ns said is =
-    let C : ℕ → List ℕ → Option Fragment = λ k y. ipv6_fragment (chain_to_later k y) in
-    is ∙ found_fragment found (chain_to_later n x) said ∙ ap (C n) xs ∙ ap (λ k. C k (after_base b (ipv6_stated b) s)) ns
+ipv6_fragment_is b x s n found f xs ns said is = cc (found_fragment found (chain_to_later n x) said)
 
 -- the parts of a packet, where x follows the base header
 pub has_parts : (v : ℕ) (b s : List ℕ) (t : Option ℕ) (n : ℕ) (c : List ExtHeader) (f : Option Fragment) (e : End) (packet x : List ℕ) (d : Dissection) → version_of d ≡ v → base_of d ≡ b → d.stated_len ≡ t → packet ≡ packet_bytes b d.stated_len s
@@ -73,9 +70,8 @@ pub ipv6_has_parts : (b s : List ℕ) (n : ℕ) (packet x : List ℕ) (d : Disse
     → d.payload.now ≡ rest_after (chain_to_later n x) x → d.fragment ≡ ipv6_fragment (ipv6_chain b s) → d.missing ≡ missing_of d.stated_len (length s) → d.padding.now ≡ drop (length packet) s → d.end ≡ ipv6_end b s
     → HasParts (ipv6_dissected b s) d
 ipv6_has_parts b s n packet x d version base stated bytes after ns headers count number payload fragment missing padding end =
-    let P : ℕ → List ℕ → Type 0 = λ k y. HasParts (with_base 6 b s (ipv6_stated b) k (chain_to_later k y) (ipv6_fragment (ipv6_chain b s)) (ipv6_end b s)) d in
-    let made : P n x = has_parts 6 b s _ n (chain_to_later n x) _ _ packet x d version base stated bytes after (chain_to_later-longest n x).has.0 headers count number payload fragment missing padding end in
-    subst (λ k. P k (after_base b (ipv6_stated b) s)) ns (subst (P n) (after_is b s d.stated_len _ packet x stated bytes after) made)
+    let made = has_parts 6 b s _ n (chain_to_later n x) _ _ packet x d version base stated bytes after (chain_to_later-longest n x).has.0 headers count number payload fragment missing padding end in
+    rw (ns, after_is b s d.stated_len _ packet x stated bytes after) at made
 
 pub ipv6_end_is : (b x s : List ℕ) (t : Option ℕ) (n m : ℕ) (r : List ℕ) (found : Found) (end : End) → x ≡ after_base b (ipv6_stated b) s → t ≡ ipv6_stated b → n ≡ ipv6_next_header b
     → m ≡ leads_to n (chain_to_later n x) → r ≡ rest_after (chain_to_later n x) x → found ≡ found_in (chain_to_later n x)

@@ -1,6 +1,6 @@
 -- An extension header's number has an error wherever the chain ends; at any other number the chain ends without an
 -- error.
-use Rattle.ip_spec.proofs.Common.{◌≡◌, ◌≢◌, ℕ, ◌+◌, ◌*◌, List, length, take, refl, sym, arith, inl, inr, ◌⊎◌, subst, Bool, true, false, slice_index, rules, Option, None, IsSome, IsTrue, option_map, cases_lt, lt-ltb, le-ltb, eqb_tells, IsHeader, IsExtensionNumber, IsRawNumber, raw, fragment, auth, ExtHeader, IsNext, IsEnd}
+use Rattle.ip_spec.proofs.Common.{◌≡◌, ◌≢◌, ℕ, ◌+◌, ◌*◌, List, length, take, refl, arith, inl, inr, ◌⊎◌, Bool, true, false, slice_index, rules, Option, None, IsSome, IsTrue, option_map, cases_lt, lt-ltb, le-ltb, eqb_tells, IsHeader, IsExtensionNumber, IsRawNumber, raw, fragment, auth, ExtHeader, IsNext, IsEnd}
 use Rattle.ip_base.specs.declared.len_source.LenSource.{LenSource}
 use Rattle.ip_spec.proofs.PrefixLemmas.{prefix_of-take}
 use Rattle.ip_spec.proofs.HeaderLemmas.{header_number, raw_begins, fragment_begins, auth_begins}
@@ -53,13 +53,8 @@ module _ (source : LenSource) (n : ℕ) (r : List ℕ) (k : ℕ) where
 
   -- if the chain ends at an extension header's number, there is an error
   pub fault_at_end : (first : Bool) (m : ℕ) → IsExtensionNumber m → IsEnd first m r → IsSome (fault_at source n k first m r)
-  fault_at_end first m is e = elim is [
-    | inl raw_number ↦ fault_of_raw first m raw_number e
-    | inr is' ↦ elim is' [
-      | inl z ↦ let Q : ℕ → Type 0 = λ j. IsSome (fault_at source n k first j r) in subst Q (sym z) (mapped _ (fragment_fault source n k r) (elim (fragment_or_fault source n first m r k z) [ inl (h, x) ↦ absurd (e h x) | inr s ↦ s ]))
-      | inr z ↦ let Q : ℕ → Type 0 = λ j. IsSome (fault_at source n k first j r) in subst Q (sym z) (mapped _ (auth_fault source n k r) (elim (auth_or_fault source n first m r k z) [ inl (h, x) ↦ absurd (e h x) | inr s ↦ s ]))
-    ]
-  ]
+  fault_at_end first m is e =
+      search (rules, fault_of_raw, fragment_or_fault source n first m r k, auth_or_fault source n first m r k, mapped)
 
 -- at any other number the chain ends
 pub end_at_other : (first : Bool) (m : ℕ) (r : List ℕ) → (IsExtensionNumber m → ⊥) → IsEnd first m r

@@ -10,7 +10,7 @@ use Rattle.ip_ext_slices.proofs.Ipv4Lemmas.{ipv4_longest, by_one, answer_of_one,
 
 -- the number is not 51: no header
 pub none_answers : (n : ℕ) → n ≢ 51 → (rest : List ℕ) → Answers n None n rest rest
-none_answers n other rest = answer_of_none ipv4_value n rest None None (λ e. absurd (other e)) refl (rw (ne_eqb n 51 other) refl)
+none_answers n other rest = search (rules, answer_of_none, ne_eqb)
 
 -- the number is 51, and these bytes are the header
 pub one_answers : (n : ℕ) (b : List ℕ) (v : AuthFields) (m : ℕ) → n ≡ 51 → IsAuthHeader b → auth_fields b ≡ v → m ≡ v.next_header → (rest : List ℕ) → Answers n (Some v) m (b ++ rest) rest

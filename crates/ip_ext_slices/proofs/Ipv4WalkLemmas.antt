@@ -1,5 +1,5 @@
 -- The encoding of IPv4 extension headers, and the value that it parses to.
-use Rattle.ip_spec.proofs.Common.{◌≡◌, ℕ, ◌<◌, List, ◌++◌, length, drop, refl, sym, ap, ◌∙◌, subst, arith, inl, inr, rules, [], Option, Some, None, Ok, Err, ◌↔◌, slice_range, AllByRecursion, option_map_or, ne_eqb, eqb_tells, append-nil, append_cancel_left, length-append, All-set, All-take, All-drop, All-from_recursion, IsPrefix, auth, AuthFields, auth_fields, cleared_header, AreBytes, AppendsOne, IsAuthEncoding, IsCleared, cleared_chain, ExtHeader, bytes_of, leads_to, AtMostOneOf, IsEndUnder, IsParsed, auth_header}
+use Rattle.ip_spec.proofs.Common.{◌≡◌, ℕ, ◌<◌, List, ◌++◌, length, drop, refl, sym, ap, ◌∙◌, subst, arith, inl, inr, rules, [], Option, Some, None, Ok, ◌↔◌, slice_range, AllByRecursion, option_map_or, ne_eqb, eqb_tells, append-nil, append_cancel_left, length-append, All-set, All-take, All-drop, IsPrefix, auth, AuthFields, auth_fields, cleared_header, AreBytes, AppendsOne, IsAuthEncoding, IsCleared, cleared_chain, ExtHeader, bytes_of, AtMostOneOf, IsEndUnder, IsParsed, auth_header}
 use Rattle.std.specs.declared.result.Result.{Result}
 use Rattle.std.specs.Prelude.{slice_set}
 use Rattle.ip_base.specs.declared.ip_number_impl.IpNumber.{IpNumber}
@@ -13,7 +13,6 @@ use Rattle.ip_spec.proofs.EncodingLemmas.{auth_written, auth_only}
 use Rattle.ip_spec.proofs.EncodedLemmas.{one_encoded}
 use Rattle.ip_spec.proofs.ClearedLemmas.{cleared_encodes as header_encodes}
 use Rattle.ip_base.specs.declared.err.ipv4_exts.exts_walk_error.ExtsWalkError.{ExtsWalkError}
-use Rattle.ip_base.specs.declared.err.ipv4_exts.exts_walk_error.ExtsWalkError.TheVariants.{ExtNotReferenced}
 use Rattle.ip_ext_slices.specs.Ipv4Longest.{longest_ipv4_chain}
 use Rattle.ip_ext_slices.specs.Ipv4Parse.{ipv4_value, IsIpv4Answer}
 use Rattle.ip_ext_slices.specs.Ipv4Fault.{ipv4_faults}
@@ -33,14 +32,14 @@ one_ipv4_encoding f v b d x y = encoding_is f v b x ∙ sym (encoding_is f v d y
 
 -- and a list encodes at most one value
 pub one_ipv4_encoded : (f : ℕ) (v w : Option AuthFields) (b : List ℕ) → IsIpv4Encoding f v b → IsIpv4Encoding f w b → v ≡ w
-one_ipv4_encoded f v w b (m, x) (n, y) = sym x.value.0 ∙ ap ipv4_value (one_longest_under (AtMostOneOf 51) (at_most_one_of 51) f b x.chain y.chain x.longest y.longest) ∙ y.value.0
+one_ipv4_encoded f v w b (m, x) (n, y) = cc (one_longest_under (AtMostOneOf 51) (at_most_one_of 51) f b x.chain y.chain x.longest y.longest, x.value.0, y.value.0)
 
 abbrev HasValue : Option AuthFields → List ExtHeader → Type 0
 HasValue v c = (ipv4_value c ≡ v) × AllByRecursion IsCleared c
 
 -- the empty list encodes a value without a header
 pub none_encodes : (f : ℕ) (v : Option AuthFields) → v ≡ None → IsIpv4Encoding f v []
-none_encodes f v e = (f, whole_parsed (AtMostOneOf 51) (at_most_one_of 51) f f (HasValue v) [] [] (no_chain f) (at_most_one_of 51).empty (sym e, tt) refl refl (All-from_recursion (λ x. x < 256) [] tt))
+none_encodes f v e = (f, whole_parsed (AtMostOneOf 51) (at_most_one_of 51) f f (HasValue v) [] [] (no_chain f) (at_most_one_of 51).empty (sym e, tt) refl refl (λ i d l. omega arith))
 
 -- Some bytes encode the fields.
 abbrev pub IsEncoded : AuthFields → Type 0
@@ -65,16 +64,16 @@ cleared_encodes n s bytes =
     let E : List ExtHeader → Type 0 = λ c. IsPrefix (bytes_of c) s → IsIpv4Encoding n (ipv4_value c) (bytes_of (cleared_chain c)) in
     by_one E n (λ p. none_encodes n None refl) (λ b named h p.
     let d : List ℕ = cleared_header 51 b in
-    let whole : AreBytes b = subst AreBytes (prefix_first b [] s p) (All-take (λ x. x < 256) (length b) s bytes) in
+    let whole : AreBytes b = rw (prefix_first b [] s p) at (All-take (λ x. x < 256) (length b) s bytes) in
     let fixed : AreBytes (slice_range b 1 12) = All-take (λ x. x < 256) 11 (drop 1 b) (All-drop (λ x. x < 256) 1 b whole) in
     let zeros : AreBytes d = All-set (λ x. x < 256) (slice_set b 2 0) 3 0 (omega arith) (All-set (λ x. x < 256) b 2 0 (omega arith) whole) in
     let e : IsAuthEncoding (auth_fields b) d = header_encodes 51 b (auth refl h) fixed in
-    subst (IsIpv4Encoding n (Some (auth_fields b))) (sym (append-nil d)) (one_encodes n (Some (auth_fields b)) (auth_fields b) d named refl (d, zeros, e) e))
+    rw append-nil (one_encodes n (Some (auth_fields b)) (auth_fields b) d named refl (d, zeros, e) e))
     (longest_ipv4_chain n s) l.has.0.chain l.has.1 l.has.0.prefix
 
 -- the appended bytes encode the value
 pub written : (f : ℕ) (v : Option AuthFields) (old new b : List ℕ) → AppendsOne (IsIpv4Encoding f v) old new → new ≡ old ++ b → IsIpv4Encoding f v b
-written f v old new b (d, encodes, appended) e = subst (IsIpv4Encoding f v) (append_cancel_left old d b (sym appended ∙ e)) encodes
+written f v old new b a e = search (rules, append_cancel_left, a)
 
 -- Bytes s parse as v with nothing left.
 abbrev IsParsedAs : Option AuthFields → ℕ → ℕ → List ℕ → Type 0
@@ -101,7 +100,7 @@ module _ (f : ℕ) (v : Option AuthFields) (m : IpNumber) where
   pub encoding_parsed_again : (b r : List ℕ) → IsIpv4Encoding f v b → ipv4_walk v f ≡ Ok m → (v ≡ None → f ≡ 51 → ⊥) → IsIpv4Answer ipv4_value f (b ++ r) v m.0 r None
   encoding_parsed_again b r e walk other =
       let x : IsParsedAs v f m.0 b = encoding_parsed b e walk in
-      let after : NothingAfter x.chain m.0 r = nothing_after x.chain m.0 r (λ none is. other (sym x.value ∙ ap ipv4_value none) (sym (ap (leads_to f) none) ∙ x.number ∙ is)) in
+      let after : NothingAfter x.chain m.0 r = nothing_after x.chain m.0 r (λ none is. other (cc (x.value)) (cc (x.number))) in
       parsed_again (AtMostOneOf 51) (at_most_one_of 51) f m.0 ipv4_value (ipv4_faults Slice) v None b r x after.ends after.fault
 
 -- If the headers lead to a number, some bytes parse as them, and vice versa.
@@ -109,8 +108,8 @@ leads_parsed : (f : ℕ) (v : Option AuthFields) (m : IpNumber) → ((w : AuthFi
 leads_parsed f None m encoded walk = ([], encoding_parsed f None m [] (none_encodes f None refl) walk)
 leads_parsed f (Some w) m encoded walk = elim (eqb_tells f 51) [
   | inl named ↦ let it = encoded w refl in (it.0, encoding_parsed f (Some w) m it.0 (one_encodes f (Some w) w it.0 named.1 refl it it.2) walk)
-  | inr other ↦ absurd (let no : Err (ExtNotReferenced (record { 0 = 51 })) ≡ Ok m = rw other.0 at walk in cc)
+  | inr other ↦ absurd (search rules)
 ]
 
 pub walk_parsed : (f : ℕ) (v : Option AuthFields) (m : IpNumber) (x : Result IpNumber ExtsWalkError) → ((w : AuthFields) → v ≡ Some w → IsEncoded w) → x ≡ ipv4_walk v f → (x ≡ Ok m) ↔ ((s : List ℕ) × IsParsedAs v f m.0 s)
-walk_parsed f v m x encoded is = (λ e. leads_parsed f v m encoded (sym is ∙ e), λ r. is ∙ parsed_leads v f m.0 r.0 r.1)
+walk_parsed f v m x encoded is = search (rules, leads_parsed, parsed_leads)

@@ -1,5 +1,5 @@
 -- The longest chain, and the longest chain that is all of some bytes.
-use Rattle.ip_spec.proofs.Common.{◌≡◌, ◌≢◌, ℕ, ◌*◌, ◌≤◌, List, ◌∷◌, length, take, drop, refl, ap, sym, ◌∙◌, arith, subst, Bool, true, false, nat_eq, rules, [], Option, IfNone, IsSome, AllByRecursion, drop-append_seam, drop-drop, length-append, ne_eqb, eqb_tells, next_header, ExtHeader, AreLinked, leads_to, bytes_of, headers_within, is_empty, IsChain, IsPrefixChain, IsLongestChain, IsNext, IsEnd, rest_after, IsLongestUnder, NoDemand}
+use Rattle.ip_spec.proofs.Common.{◌≡◌, ◌≢◌, ℕ, ◌*◌, ◌≤◌, List, ◌∷◌, length, take, drop, refl, ap, ◌∙◌, arith, Bool, true, false, nat_eq, rules, [], Option, IfNone, IsSome, AllByRecursion, drop-append_seam, drop-drop, length-append, ne_eqb, eqb_tells, next_header, ExtHeader, AreLinked, leads_to, bytes_of, headers_within, is_empty, IsChain, IsPrefixChain, IsLongestChain, IsNext, IsEnd, rest_after, NoDemand}
 use Rattle.ip_spec.proofs.PrefixLemmas.{prefix-length, prefix_first, prefix_second, rest_join}
 use Rattle.ip_spec.proofs.HeaderLemmas.{header-least, one_next}
 use Rattle.ip_spec.proofs.UnderLemmas.{no_demand, longest_under_none}
@@ -15,9 +15,7 @@ longest_chain-is n s c l = one_longest n s (longest_chain n s) c (longest_chain-
 
 -- of truncated bytes it is the headers that lie wholly within them
 pub longest_chain-shorter : (n j : ℕ) (s : List ℕ) → longest_chain n (take j s) ≡ headers_within j (longest_chain n s)
-longest_chain-shorter n j s =
-    let under : (t : List ℕ) → IsLongestUnder NoDemand n t (longest_chain n t) = λ t. longest_under_none n t (longest_chain n t) (longest_chain-longest n t) in
-    longest_shorter NoDemand no_demand n j s (longest_chain n s) (longest_chain n (take j s)) (under s) (under (take j s))
+longest_chain-shorter n j s = search (rules, longest_shorter NoDemand no_demand, longest_under_none, longest_chain-longest)
 
 -- a chain is the longest of its own bytes
 pub longest_chain-bytes_of : (n : ℕ) (c : List ExtHeader) → IsChain n c → longest_chain n (bytes_of c) ≡ c
@@ -45,23 +43,17 @@ split_chain : (n : ℕ) (r : List ℕ) (h : ExtHeader) (c : List ExtHeader) → 
 split_chain n r h [] p e x = absurd (omega (arith, ap length e, header-least n h.bytes x.header, prefix-length h.bytes r x.prefix))
 split_chain n r h (g ∷ c) p e x =
     let same : g ≡ h = one_next true n r g h (first_next n r g c p) x in
-    let C : ExtHeader → Type 0 = λ k. IsChain (next_header k.bytes) c in
-    record {
-      others = c;
-      split = ap (λ k. k ∷ c) same;
-      chain = subst C same (tail_chain n g c p.chain);
-      bytes = sym (drop-append_seam g.bytes (bytes_of c)) ∙ ap (drop (length g.bytes)) e ∙ ap (λ (k : ExtHeader). drop (length k.bytes) r) same;
-    }
+    let chain : IsChain (next_header h.bytes) c = rw same at (tail_chain n g c p.chain) in
+    record { others = c; split = cc; chain = chain; bytes = cc (drop-append_seam g.bytes (bytes_of c)) }
 
 -- removing its first header leaves the longest chain of the remaining bytes, which is all of them
 pub whole_split : (n : ℕ) (r : List ℕ) (h : ExtHeader) (k : ℕ) (q b : List ℕ) → bytes_of (longest_chain n r) ≡ r → IsNext true n r h → k ≡ next_header h.bytes → b ≡ h.bytes → q ≡ drop (length b) r
     → (longest_chain n r ≡ h ∷ longest_chain k q) × (bytes_of (longest_chain k q) ≡ q)
 whole_split n r h k q b e x ek eb eq =
     let parted : Split n r h (longest_chain n r) = split_chain n r h (longest_chain n r) (longest_chain-longest n r).has e x in
-    let left : bytes_of parted.others ≡ q = parted.bytes ∙ sym (eq ∙ ap (λ (y : List ℕ). drop (length y) r) eb) in
-    let others : longest_chain k q ≡ parted.others =
-    ap (λ m. longest_chain m q) ek ∙ ap (longest_chain (next_header h.bytes)) (sym left) ∙ longest_chain-bytes_of (next_header h.bytes) parted.others parted.chain in
-    (parted.split ∙ ap (λ d. h ∷ d) (sym others), ap bytes_of others ∙ left)
+    let left : bytes_of parted.others ≡ q = cc (parted.bytes) in
+    let others : longest_chain k q ≡ parted.others = cc (longest_chain-bytes_of (next_header h.bytes) parted.others parted.chain) in
+    (cc (parted.split), cc)
 
 -- a value that is absent only at an end is present if a header follows
 pub some_where_next : {A : Type 0} (o : Option A) (first : Bool) (m : ℕ) (s : List ℕ) → IfNone o (IsEnd first m s) → ((h : ExtHeader) × IsNext first m s h) → IsSome o
@@ -69,10 +61,10 @@ some_where_next o first m s e h5 = search rules
 
 -- Number 0 has a header only at the start of a chain. Any other number may have one anywhere.
 not_zero_ends : (m : ℕ) (r : List ℕ) → m ≢ 0 → IsEnd false m r → IsEnd true m r
-not_zero_ends m r some e = λ h x. e h (record { number = x.number; header = x.header; prefix = x.prefix; zero_only_first = λ z. absurd (some z) })
+not_zero_ends m r some e h x = search (rules, e, some)
 
 first_or_later : (first : Bool) (m : ℕ) (r : List ℕ) (h : ExtHeader) → IsNext first m r h → IsNext true m r h
-first_or_later first m r h x = record { number = x.number; header = x.header; prefix = x.prefix; zero_only_first = λ z. refl }
+first_or_later first m r h x = search rules
 
 none_begins : (m : ℕ) (r : List ℕ) (c : List ExtHeader) → IsPrefixChain m r c → IsEnd true m r → c ≡ []
 none_begins m r c p e = search (rules, first_next)
@@ -100,20 +92,16 @@ module _ (n : ℕ) (r : List ℕ) (g : ExtHeader) (c : List ExtHeader) (l : IsLo
   tail_longest : next_header g.bytes ≢ 0 → IsLongestChain (next_header g.bytes) (drop (length g.bytes) r) c
   tail_longest some =
       let second = prefix_second g.bytes (bytes_of c) r l.has.prefix in
-      longest_at_end _ _ c (record {
-        chain = tail_chain n g c l.has.chain;
-        prefix = second;
-      }) (end_after _ _ c some (subst (IsEnd false (leads_to (next_header g.bytes) c))
-      (sym (rest_join g.bytes (bytes_of c) r (prefix_first g.bytes (bytes_of c) r l.has.prefix) second)) (longest_ends n r (g ∷ c) l)))
+      let after = rest_join g.bytes (bytes_of c) r (prefix_first g.bytes (bytes_of c) r l.has.prefix) second in
+      longest_at_end _ _ c (record { chain = tail_chain n g c l.has.chain; prefix = second })
+      (end_after _ _ c some (rw after (longest_ends n r (g ∷ c) l)))
 
   tail_is : c ≡ longest_from false (next_header g.bytes) (drop (length g.bytes) r)
   tail_is = search (rules, eqb_tells, none_after_zero, longest_chain-is, tail_longest)
 
 longest_splits : (m : ℕ) (r : List ℕ) (h : ExtHeader) (c : List ExtHeader) → IsLongestChain m r c → IsNext true m r h → c ≡ h ∷ longest_from false (next_header h.bytes) (drop (length h.bytes) r)
 longest_splits m r h [] l x = absurd (longest_ends m r [] l h x)
-longest_splits m r h (g ∷ c) l x =
-    let same : g ≡ h = one_next true m r g h (first_next m r g c l.has) x in
-    ap (λ d. g ∷ d) (tail_is m r g c l) ∙ ap (λ (j : ExtHeader). j ∷ longest_from false (next_header j.bytes) (drop (length j.bytes) r)) same
+longest_splits m r h (g ∷ c) l x = cc (one_next true m r g h (first_next m r g c l.has) x, tail_is m r g c l)
 
 -- if a header follows, it is the first that is left, and the others follow it
 pub longest_from-next : (first : Bool) (m : ℕ) (r : List ℕ) (h : ExtHeader) → IsNext first m r h → longest_from first m r ≡ h ∷ longest_from false (next_header h.bytes) (drop (length h.bytes) r)

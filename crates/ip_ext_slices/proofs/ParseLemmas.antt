@@ -1,5 +1,5 @@
 -- What the parse knows about the chain parsed so far, and what follows at an end.
-use Rattle.ip_spec.proofs.Common.{common_steps, ◌≡◌, ℕ, arith, subst, ◌-◌, List, ◌∷◌, ◌++◌, length, take, drop, ap, sym, ◌∙◌, Bool, nat_eq, rules, [], ◌==◌, ◌&&◌, ◌||◌, Option, None, AllByRecursion, YieldsList, YieldsList-from_shown, or-false, or_assoc, eqb_tells, IsHeader, rest_after, next_header, is_fragmenting, ExtHeader, leads_to, bytes_of, is_empty, has_fragmenting, IsNext, IsEnd}
+use Rattle.ip_spec.proofs.Common.{common_steps, ◌≡◌, ℕ, arith, subst, ◌-◌, List, ◌∷◌, ◌++◌, length, take, drop, ap, ◌∙◌, Bool, nat_eq, rules, [], ◌==◌, ◌&&◌, ◌||◌, Option, None, AllByRecursion, YieldsList, YieldsList-from_shown, or-false, or_assoc, eqb_tells, IsHeader, rest_after, next_header, is_fragmenting, ExtHeader, leads_to, bytes_of, is_empty, has_fragmenting, IsNext, IsEnd}
 use Rattle.ip_spec.proofs.PrefixLemmas.{prefix-length}
 use Rattle.ip_spec.proofs.ChainLemmas.{longest_ends, bytes_of-least}
 use Rattle.ip_spec.proofs.ParsedLemmas.{HasParsed, has_parsed_on, offset_is, no_next_here, parsed_longest}
@@ -27,12 +27,11 @@ pub record ParseState (n : ℕ) (s : List ℕ) (m : ℕ) (r : List ℕ) (flag : 
 -- one more header
 pub parse_goes_on : (n : ℕ) (s : List ℕ) (m : ℕ) (r : List ℕ) (flag : Bool) (h : ExtHeader) (k : ℕ) (q b : List ℕ) (either : Bool) → ParseState n s m r flag → IsNext (nat_eq (length r) (length s)) m r h
     → k ≡ next_header h.bytes → b ≡ h.bytes → q ≡ drop (length b) r → either ≡ (flag || fragments h) → ParseState n s k q either
-parse_goes_on n s m r flag h k q b either p x ek eb eq em =
-    record {
-      chain = p.chain ++ h ∷ [];
-      read = has_parsed_on n s p.chain m r h k q b p.read x ek eb eq;
-      fragmented = em ∙ ap (λ f. f || fragments h) p.fragmented ∙ sym (has_fragmenting-more p.chain h);
-    }
+parse_goes_on n s m r flag h k q b either p x ek eb eq em = record {
+  chain = p.chain ++ h ∷ [];
+  read = has_parsed_on n s p.chain m r h k q b p.read x ek eb eq;
+  fragmented = cc (p.fragmented, has_fragmenting-more p.chain h);
+}
 
 -- at an end the chain parsed is the longest
 pub record AtEnd (n : ℕ) (s : List ℕ) (m : ℕ) (r : List ℕ) (flag : Bool) : Type 0 where
@@ -43,13 +42,10 @@ pub record AtEnd (n : ℕ) (s : List ℕ) (m : ℕ) (r : List ℕ) (flag : Bool)
 
 pub at_end : (n : ℕ) (s : List ℕ) (m : ℕ) (r : List ℕ) (flag : Bool) → ParseState n s m r flag → IsEnd (nat_eq (length r) (length s)) m r → AtEnd n s m r flag
 at_end n s m r flag p e =
-    let is : p.chain ≡ longest_chain n s = sym (longest_chain-is n s p.chain (parsed_longest n s p.chain m r p.read (no_next_here n s p.chain m r p.read e))) in
-    record {
-      number = p.read.number ∙ ap (leads_to n) is;
-      rest = p.read.rest ∙ ap (λ d. drop (length (bytes_of d)) s) is;
-      len = offset_is n s p.chain m r p.read ∙ ap (λ d. length (bytes_of d)) is;
-      fragmented = p.fragmented ∙ ap has_fragmenting is;
-    }
+    let longest = parsed_longest n s p.chain m r p.read (no_next_here n s p.chain m r p.read e) in
+    let is : longest_chain n s ≡ p.chain = longest_chain-is n s p.chain longest in
+    let len = offset_is n s p.chain m r p.read in
+    record { number = cc (p.read.number); rest = cc (p.read.rest); len = cc; fragmented = cc (p.fragmented) }
 
 no_bytes : (c : List ExtHeader) (k : ℕ) → AllByRecursion (λ h. IsHeader h.number h.bytes) c → k ≡ length (bytes_of c) → nat_eq k 0 ≡ is_empty c
 no_bytes c k a e = search (rules, nat_eq, eqb_tells, bytes_of-least)

@@ -1,5 +1,5 @@
 -- The error at a number: none if a header follows, and one if a request of a header finds too few bytes.
-use Rattle.ip_spec.proofs.Common.{◌≡◌, ℕ, ◌<◌, List, ◌++◌, length, refl, sym, ap, ◌∙◌, inl, inr, subst, Bool, rules, Some, None, IsTrue, option_map, IsRawNumber, Asks, asks_raw, asks_fragment, asks_auth, IsZeroLength, ExtHeader, IsNext, IsEnd}
+use Rattle.ip_spec.proofs.Common.{◌≡◌, ℕ, ◌<◌, List, ◌++◌, length, refl, ap, ◌∙◌, inl, inr, Bool, rules, Some, None, IsTrue, option_map, IsRawNumber, Asks, asks_raw, asks_fragment, asks_auth, IsZeroLength, ExtHeader, IsNext, IsEnd}
 use Rattle.ip_base.specs.declared.err.layer.Layer.{Layer}
 use Rattle.ip_base.specs.declared.err.layer.Layer.TheVariants.{Ipv6HopByHopHeader, Ipv6DestOptionsHeader, Ipv6RouteHeader, Ipv6FragHeader, IpAuthHeader}
 use Rattle.ip_base.specs.declared.err.len_error.LenError.{LenError}
@@ -17,12 +17,10 @@ module _ (source : LenSource) (n k : ℕ) (x : List ℕ) where
   fault_first first t = search rules
 
   fault_raw : (first : Bool) (m : ℕ) → IsRawNumber m → (m ≡ 0 → IsTrue first) → (l : Layer) × (fault_at source n k first m x ≡ option_map (λ e. (Len e, l)) (raw_fault source n k x))
-  fault_raw first m is zero_first =
-      let P : ℕ → Type 0 = λ j. (l : Layer) × (fault_at source n k first j x ≡ option_map (λ e. (Len e, l)) (raw_fault source n k x)) in
-      elim is [
-        | inl e ↦ subst P (sym e) (Ipv6HopByHopHeader, fault_first first (zero_first e))
-        | inr is' ↦ elim is' [ inl e ↦ subst P (sym e) (Ipv6RouteHeader, refl) | inr e ↦ subst P (sym e) (Ipv6DestOptionsHeader, refl) ]
-      ]
+  fault_raw first m is zero_first = elim is [
+    | inl e ↦ (Ipv6HopByHopHeader, search (rules, fault_first, zero_first))
+    | inr is' ↦ elim is' [ inl e ↦ (Ipv6RouteHeader, rw e refl) | inr e ↦ (Ipv6DestOptionsHeader, rw e refl) ]
+  ]
 
   fault_fragment : (first : Bool) (m : ℕ) → m ≡ 44 → fault_at source n k first m x ≡ option_map (λ e. (Len e, Ipv6FragHeader)) (fragment_fault source n k x)
   fault_fragment first m e = search rules
@@ -35,7 +33,7 @@ module _ (source : LenSource) (n k : ℕ) (x : List ℕ) where
 
   -- so if there is an error, no header follows
   pub fault_ends : (first : Bool) (m : ℕ) (f : Fault) → fault_at source n k first m x ≡ Some f → IsEnd first m x
-  fault_ends first m f e = λ h y. (let differ : None ≡ Some f = sym (no_fault_at_next first m h y) ∙ e in cc)
+  fault_ends first m f e h y = cc (no_fault_at_next first m h y)
 
 module _ (source : LenSource) (n k : ℕ) (first : Bool) (m : ℕ) where
   -- a request after the consumed bytes finds too few

@@ -14,9 +14,7 @@ linked_from_one m n [] a b some = absurd (search rules)
 linked_from_one m n (h ∷ c) a b some = sym a.0 ∙ b.0
 
 same_start : (m n : ℕ) (s t : List ℕ) → longest_chain m s ≡ longest_chain n t → (length (bytes_of (longest_chain m s)) == 0) ≡ false → m ≡ n
-same_start m n s t e some =
-    let links : AreLinked n (longest_chain m s) = subst (AreLinked n) (sym e) (longest_chain-longest n t).has.chain.links in
-    linked_from_one m n (longest_chain m s) (longest_chain-longest m s).has.chain.links links some
+same_start m n s t e some = search (rules, linked_from_one, longest_chain-longest)
 
 -- the longest chain from a first number, if there is one
 abbrev headers_from : Option IpNumber → List ℕ → List ExtHeader
@@ -38,11 +36,7 @@ from_start-least None s = omega arith
 from_start-least (Some n) s = longest_chain-within n.0 s
 
 same_first : (x y : Option IpNumber) (s t : List ℕ) → headers_from x s ≡ headers_from y t → bytes_of (headers_from x s) ≡ s → s ≡ t → is_none x ≡ (length s == 0) → is_none y ≡ (length t == 0) → x ≡ y
-same_first None None s t e w b f g = refl
-same_first None (Some n) s t e w b f g = absurd (grind (arith, ap (λ (u : List ℕ). length u == 0) b))
-same_first (Some m) None s t e w b f g = absurd (grind (arith, ap (λ (u : List ℕ). length u == 0) b))
-same_first (Some m) (Some n) s t e w b f g =
-    ap (λ k. Some (record { 0 = k })) (same_start m.0 n.0 s t e (ap (λ (u : List ℕ). length u == 0) w ∙ sym f))
+same_first x y s t e w b f g = search (rules, same_start)
 
 pub same_headers-bytes : (x y : Ipv6ExtensionsSlice) → headers_in x ≡ headers_in y → bytes x ≡ bytes y
 same_headers-bytes x y e = sym x.whole ∙ ap bytes_of e ∙ y.whole
@@ -52,7 +46,4 @@ same_headers-first x y e = same_first x.first_header y.first_header x.slice.now 
 
 -- a test for equal first numbers and bytes is a test for equal headers
 pub same_headers : (x y : Ipv6ExtensionsSlice) (r : Bool) → IsTrue r ↔ ((first_number x ≡ first_number y) × (bytes x ≡ bytes y)) → IsTrue r ↔ (headers_in x ≡ headers_in y)
-same_headers x y r k = (
-  λ t. ap (λ o. headers_from o (bytes x)) (k.0 t).0 ∙ ap (headers_from (first_number y)) (k.0 t).1,
-  λ e. k.1 (same_headers-first x y e, same_headers-bytes x y e),
-)
+same_headers x y r k = search (rules, same_headers-first, same_headers-bytes)

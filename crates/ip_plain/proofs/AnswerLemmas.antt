@@ -1,6 +1,6 @@
 -- The tool's definitions, in the form in which the plain program computes them.
-use Rattle.ip_spec.proofs.Common.{◌≡◌, ◌≢◌, ℕ, ◌+◌, ◌*◌, ◌%◌, ◌<◌, ◌≤◌, List, [], ◌∷◌, ◌++◌, length, drop, map, refl, sym, ap, ◌∙◌, arith, append_assoc, get_or, nat_eq, inl, inr, codes, Option, None, Some, Result, Ok, Err, option_map, bytes_eq, result_ok, cond-false, false_from_ne_true, ne_eqb, bytes_eq-Decides, length-take, drop_more, ExtHeader, IsLongestChain, leads_to, bytes_of, is_empty, eqb_tells, IsPrefix}
-use Rattle.std.proofs.Common.{◌==◌, append-nil}
+use Rattle.ip_spec.proofs.Common.{common_steps, rules, ◌≡◌, ◌≢◌, ℕ, ◌+◌, ◌*◌, ◌%◌, ◌<◌, ◌≤◌, List, [], ◌∷◌, ◌++◌, length, drop, map, refl, sym, ap, ◌∙◌, arith, append_assoc, get_or, nat_eq, codes, Option, None, Some, Result, Ok, option_map, result_ok, bytes_eq-Decides, length-take, drop_more, ExtHeader, IsLongestChain, leads_to, bytes_of, is_empty, IsPrefix}
+use Rattle.std.proofs.Common.{append-nil}
 use Rattle.std.specs.Prelude.{Bool}
 use Rattle.ip_plain.specs.PlainHeader.{plain_header_of}
 use Rattle.ip_plain.specs.declared.chain.PlainHeader.{PlainHeader}
@@ -9,7 +9,6 @@ use Rattle.ip_ext_slices.specs.ChainFault.{Fault, slice_fault}
 use Rattle.ip_ext_slices.specs.Longest.{longest_chain}
 use Rattle.hex.specs.Hex.{decode_pairs, hex_digit_value, digit_or_error, ◌>>=◌}
 use Rattle.hex.specs.declared.error.FromHexError.{FromHexError}
-use Rattle.hex.specs.declared.error.FromHexError.TheVariants.{OddLength}
 use Rattle.ip_plain.specs.Digits.{byte_of_values, byte_of_digits}
 use Rattle.ipexts_tool.specs.Exts6.{exts6_answer}
 use Rattle.ipexts_tool.specs.LineFields.{bytes_of_hex}
@@ -21,15 +20,14 @@ use Rattle.ipexts_tool.specs.Parts.{header_lines, next_line, chain_end_line}
 pub last_dropped : (front : List (List ℕ)) → without_empty_last (front ++ [] ∷ []) ≡ front
 last_dropped [] = refl
 last_dropped ([] ∷ []) = refl
-last_dropped ([] ∷ next ∷ front) = ap (λ (ls : List (List ℕ)). [] ∷ ls) (last_dropped (next ∷ front))
-last_dropped ((b ∷ line) ∷ front) = ap (λ (ls : List (List ℕ)). (b ∷ line) ∷ ls) (last_dropped front)
+last_dropped ([] ∷ next ∷ front) = cc (last_dropped (next ∷ front))
+last_dropped ((b ∷ line) ∷ front) = cc (last_dropped front)
 
 pub last_kept : (front : List (List ℕ)) (last : List ℕ) → 0 < length last → without_empty_last (front ++ last ∷ []) ≡ front ++ last ∷ []
-last_kept [] [] some = absurd (omega arith)
-last_kept [] (b ∷ last) some = refl
-last_kept ([] ∷ []) last some = ap (λ (ls : List (List ℕ)). [] ∷ ls) (last_kept [] last some)
-last_kept ([] ∷ next ∷ front) last some = ap (λ (ls : List (List ℕ)). [] ∷ ls) (last_kept (next ∷ front) last some)
-last_kept ((b ∷ line) ∷ front) last some = ap (λ (ls : List (List ℕ)). (b ∷ line) ∷ ls) (last_kept front last some)
+last_kept [] last some = search rules
+last_kept ([] ∷ []) last some = search (rules, last_kept [])
+last_kept ([] ∷ next ∷ front) last some = cc (last_kept (next ∷ front) last some)
+last_kept ((b ∷ line) ∷ front) last some = cc (last_kept front last some)
 
 -- ---- hexadecimal digits
 
@@ -47,40 +45,29 @@ bytes_of_pairs (high ∷ low ∷ rest) = onto_bytes (byte_of_digits high low) (b
 onto_bytes-ok : (i : ℕ) (h l : Option ℕ) (high low : ℕ) (bytes : Result (List ℕ) FromHexError)
     → result_ok ((digit_or_error high i h >>= (λ a. digit_or_error low (i + 1) l >>= (λ b. Ok (a * 16 + b)))) >>= (λ byte. bytes >>= (λ more. Ok (byte ∷ more))))
     ≡ onto_bytes (byte_of_values h l) (result_ok bytes)
-onto_bytes-ok i (Some h) (Some l) high low (Ok bytes) = refl
-onto_bytes-ok i (Some h) (Some l) high low (Err e) = refl
-onto_bytes-ok i (Some h) None high low bytes = refl
-onto_bytes-ok i None l high low bytes = refl
+onto_bytes-ok i h l high low bytes = search rules
 
 -- decoding returns these bytes
 pub decode_pairs-bytes : (i : ℕ) (text : List ℕ) → result_ok (decode_pairs i text) ≡ bytes_of_pairs text
 unfolding decode_pairs
 decode_pairs-bytes i [] = refl
 decode_pairs-bytes i (digit ∷ []) = refl
-decode_pairs-bytes i (high ∷ low ∷ rest) =
-    onto_bytes-ok i (hex_digit_value high) (hex_digit_value low) high low (decode_pairs (i + 2) rest)
-    ∙ ap (onto_bytes (byte_of_digits high low)) (decode_pairs-bytes (i + 2) rest)
+decode_pairs-bytes i (high ∷ low ∷ rest) = cc (onto_bytes-ok i (hex_digit_value high) (hex_digit_value low) high low (decode_pairs (i + 2) rest), decode_pairs-bytes (i + 2) rest)
 
 -- at least two digits, and an even number of them
 pub bytes_of_hex-pairs : (text : List ℕ) → text ≢ codes "-" → 0 < length text → length text % 2 ≢ 1 → bytes_of_hex text ≡ bytes_of_pairs text
-bytes_of_hex-pairs [] dash some even = absurd (omega arith)
-bytes_of_hex-pairs (c ∷ cs) dash some even =
-    cond-false (bytes_eq (c ∷ cs) (codes "-")) (Some []) _ (false_from_ne_true _ (λ same. dash ((bytes_eq-Decides (c ∷ cs) (codes "-")).0 same)))
-    ∙ ap result_ok (cond-false (length (c ∷ cs) % 2 == 1) (Err OddLength) (decode_pairs 0 (c ∷ cs)) (ne_eqb (length (c ∷ cs) % 2) 1 even))
-    ∙ decode_pairs-bytes 0 (c ∷ cs)
+bytes_of_hex-pairs text dash some even = grind (arith, common_steps, decode_pairs-bytes 0 text, bytes_eq-Decides text (codes "-"))
 
 -- the bytes so far and those of the remaining digits are those of all digits
 pub SoFar : List ℕ → List ℕ → List ℕ → Type 0
 SoFar text left bytes = option_map (λ more. bytes ++ more) (bytes_of_pairs left) ≡ bytes_of_pairs text
 
 option_map-same : (o : Option (List ℕ)) → option_map (λ more. [] ++ more) o ≡ o
-option_map-same None = refl
-option_map-same (Some bytes) = refl
+option_map-same o = search rules
 
 option_map-more : (bytes : List ℕ) (byte : ℕ) (o : Option (List ℕ))
     → option_map (λ more. (bytes ++ byte ∷ []) ++ more) o ≡ option_map (λ more. bytes ++ more) (onto_bytes (Some byte) o)
-option_map-more bytes byte None = refl
-option_map-more bytes byte (Some more) = ap Some (append_assoc bytes (byte ∷ []) more)
+option_map-more bytes byte o = search (rules, append_assoc)
 
 module _ (text bytes : List ℕ) where
   pub so_far-none : bytes ≡ [] → SoFar text text bytes
@@ -95,10 +82,7 @@ module _ (text bytes : List ℕ) where
     pair_at : (next : ℕ) → next ≡ k + 2 → bytes_of_pairs (drop k text) ≡ onto_bytes (byte_of_digits (get_or text k 0) (get_or text (k + 1) 0)) (bytes_of_pairs (drop next text))
     pair_at next e =
         let after : k + 1 + 1 ≡ next = omega (arith, e) in
-        ap bytes_of_pairs
-        (drop_more text k 0 (omega arith)
-        ∙ ap (λ (l : List ℕ). get_or text k 0 ∷ l) (drop_more text (k + 1) 0 inside)
-        ∙ ap (λ (n : ℕ). get_or text k 0 ∷ get_or text (k + 1) 0 ∷ drop n text) after)
+        cc (drop_more text k 0 (omega arith), drop_more text (k + 1) 0 inside)
 
     pub so_far-bad : SoFar text (drop k text) bytes → byte_of_digits (get_or text k 0) (get_or text (k + 1) 0) ≡ None → bytes_of_pairs text ≡ None
     unfolding SoFar
@@ -128,5 +112,4 @@ pub length-prefix : (b s : List ℕ) → IsPrefix b s → length b ≤ length s
 length-prefix b s e = omega (arith, length-take (length b) s, ap length e)
 
 pub is_empty-shown : (items : List PlainHeader) (len : ℕ) → len ≡ length items → nat_eq len 0 ≡ is_empty (map plain_header_of items)
-is_empty-shown [] len e = ap (λ k. nat_eq k 0) e
-is_empty-shown (h ∷ items) len e = elim (eqb_tells len 0) [ inl w ↦ absurd (omega (arith, e, w.1)) | inr w ↦ w.0 ]
+is_empty-shown items len e = grind (arith, common_steps)

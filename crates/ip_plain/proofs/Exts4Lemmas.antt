@@ -1,5 +1,5 @@
 -- The answer to `exts4`, in the form in which the plain program computes it.
-use Rattle.ip_spec.proofs.Common.{◌≡◌, ℕ, zero, suc, ◌≤◌, List, [], ◌∷◌, ◌++◌, length, take, drop, get_or, true, refl, sym, ap, ◌∙◌, arith, append_assoc, length-take-le, ExtHeader, IsNext, IsEnd, leads_to, bytes_of, rest_after, fault_after, NoPrefix, IsAuthHeader, auth}
+use Rattle.ip_spec.proofs.Common.{common_steps, ◌≡◌, ℕ, ◌≤◌, List, [], ◌∷◌, ◌++◌, length, take, drop, get_or, true, refl, sym, ap, ◌∙◌, arith, append_assoc, length-take-le, ExtHeader, IsNext, IsEnd, leads_to, bytes_of, rest_after, fault_after, NoPrefix, IsAuthHeader, auth}
 use Rattle.std.proofs.Common.{append-nil}
 use Rattle.ip_base.specs.declared.len_source.LenSource.TheVariants.{Slice}
 use Rattle.ip_spec.proofs.HeaderLemmas.{header-least, auth_of}
@@ -15,9 +15,7 @@ abbrev told : List ℕ → List ExtHeader → List ℕ
 told s c = header_lines 0 c ++ next_line (leads_to 51 c) (length (rest_after c s)) ++ ipv4_end_line (fault_after (ipv4_faults Slice) c 51 s)
 
 pub first_byte : (k : ℕ) (s : List ℕ) → 8 ≤ k → get_or (take k s) 0 0 ≡ get_or s 0 0
-first_byte zero s few = absurd (omega arith)
-first_byte (suc k) [] few = refl
-first_byte (suc k) (x ∷ s) few = refl
+first_byte k s few = grind (arith, common_steps)
 
 -- An authentication header of length k at the start of s is the chain.
 module _ (s : List ℕ) (k : ℕ) (enough : k ≤ length s) (next : IsNext true 51 s (record { number = 51; bytes = take k s })) where

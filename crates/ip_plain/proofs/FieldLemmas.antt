@@ -1,5 +1,5 @@
 -- The parts of a packet, in the form in which the plain program computes them.
-use Rattle.ip_spec.proofs.Common.{◌≡◌, ◌≢◌, ℕ, ◌+◌, ◌-◌, ◌≤◌, length, map, take, drop, List, [], ◌∷◌, ◌++◌, refl, sym, ap, ◌∙◌, arith, Bool, true, inl, inr, eqb_tells, eq-eqb, ne_eqb, slice_index, length-take-le, Option, None, option_map, option_map_or, ExtHeader, leads_to, bytes_of, is_empty, rest_after, fault_after, IsNext}
+use Rattle.ip_spec.proofs.Common.{rules, ◌≡◌, ◌≢◌, ℕ, ◌+◌, ◌-◌, ◌≤◌, length, map, take, drop, List, [], ◌∷◌, ◌++◌, refl, ap, ◌∙◌, arith, Bool, true, eqb_tells, ne_eqb, slice_index, length-take-le, Option, None, option_map, option_map_or, ExtHeader, bytes_of, is_empty, rest_after, IsNext}
 use Rattle.std.proofs.Common.{append-nil, length-drop}
 use Rattle.std.specs.Prelude.{◌==◌, ◌&&◌, not, nat_lt, if◌then◌else◌}
 use Rattle.ip_base.specs.LenError.{too_short}
@@ -8,8 +8,7 @@ use Rattle.ip_base.specs.declared.err.layer.Layer.TheVariants.{Ipv4Packet}
 use Rattle.ip_base.specs.Ipv4Header.{version, ipv4_header_len, total_len, protocol, ipv4_fragment_offset}
 use Rattle.ip_base.specs.Ipv6Header.{ipv6_next_header}
 use Rattle.ip_ext_slices.specs.ChainFault.{slice_fault}
-use Rattle.ip_ext_slices.specs.Ipv4Fault.{ipv4_faults, ipv4_chain_fault}
-use Rattle.ip_ext_slices.specs.Ipv4Longest.{longest_ipv4_chain}
+use Rattle.ip_ext_slices.specs.Ipv4Fault.{ipv4_chain_fault}
 use Rattle.etherparse_ip.specs.PacketFault.{auth_in_packet}
 use Rattle.etherparse_ip.specs.declared.err.ip.slice_error.SliceError.TheVariants.{Len}
 use Rattle.ip_dissect.specs.LaterDemand.{has_later}
@@ -36,49 +35,36 @@ pub ipv4_one : (b r : List ℕ) (k : ℕ) → k ≤ length r → IsNext true 51 
 ipv4_one b r k enough next zero auth x header old none items number bytes leads rest =
     let h : ExtHeader = record { number = 51; bytes = take k r } in
     let c : List ExtHeader = h ∷ [] in
-    let one : c ≡ longest_ipv4_chain (protocol b) r = sym (one_header r k enough next) ∙ ap (λ n. longest_ipv4_chain n r) (sym auth) in
-    let is : c ≡ ipv4_chain_in b r = one ∙ ap (λ t. if t then longest_ipv4_chain (protocol b) r else []) (sym (eq-eqb (ipv4_fragment_offset b) 0 zero)) in
+    let is : ipv4_chain_in b r ≡ c = rw (zero, auth) (one_header r k enough next) in
     let len : length (bytes_of c) ≡ k = ap length (append-nil (take k r)) ∙ length-take-le k r enough in
-    let shown : plain_header_of header ≡ h = rw (number, bytes) refl in
-    record {
-      headers = ap (map plain_header_of) (items ∙ ap (λ l. l ++ header ∷ []) none) ∙ ap (λ g. g ∷ []) shown ∙ is;
-      number = leads ∙ ap (λ (l : List ℕ). slice_index l 0) bytes ∙ ap (leads_to (protocol b)) is;
-      rest = rest ∙ ap (λ j. drop j r) (sym len) ∙ ap (λ d. rest_after d r) is;
-      within = omega (arith, enough, len, ap (λ d. length (bytes_of d)) is);
-    }
+    let shown : plain_header_of header ≡ h = cc in
+    record { headers = rw (items, none) (cc); number = cc; rest = cc; within = omega (arith, enough, len, ap (λ d. length (bytes_of d)) is) }
 
 -- ---- the parts
 
 end_of : (o : ℕ) (short : Bool) (y z : End) → (o ≡ 0 → y ≡ z) → (fault : End) → (if short then fault else if not (o == 0) then LaterFragment else y) ≡ (if short then fault else if not (o == 0) then LaterFragment else z)
-end_of o short y z same fault = elim (eqb_tells o 0) [
-  | inl w ↦ ap (λ v. if short then fault else if not (o == 0) then LaterFragment else v) (same w.1)
-  | inr w ↦ rw w.0 refl
-]
+end_of o short y z same fault = search (rules, eqb_tells o 0, same)
 
 -- Bytes s with the base header b, and what was found: the stated length t, the packet's bytes and those after b.
 module _ (b s packet after : List ℕ) (t : Option ℕ) (whole : packet ≡ packet_bytes b t s) (left : after ≡ drop (length b) packet) (x : PlainChain) where
   after_is : (o : Option ℕ) → t ≡ o → after ≡ after_base b o s
-  after_is o e = left ∙ ap (drop (length b)) whole ∙ ap (λ p. drop (length b) (packet_bytes b p s)) e
+  after_is o e = cc
 
   padding_is : (o : Option ℕ) → t ≡ o → length s - length packet ≡ length (drop (length (packet_bytes b o s)) s)
-  padding_is o e = ap (λ p. length s - length p) (whole ∙ ap (λ p. packet_bytes b p s) e) ∙ sym (length-drop (length (packet_bytes b o s)) s)
+  padding_is o e = cc (length-drop (length (packet_bytes b o s)) s)
 
   module _ (stated : t ≡ ipv6_stated b) (is : IsToLater (ipv6_next_header b) after x) where
     chain6 : chain_to_later (ipv6_next_header b) after ≡ ipv6_chain b s
     chain6 = ap (chain_to_later (ipv6_next_header b)) (after_is (ipv6_stated b) stated)
 
     headers6 : map plain_header_of x.headers.items ≡ ipv6_chain b s
-    headers6 = is.headers ∙ chain6
+    headers6 = cc (is.headers, chain6)
 
     rest6 : x.rest.now ≡ rest_after (ipv6_chain b s) (after_base b (ipv6_stated b) s)
-    rest6 = is.rest ∙ ap (λ a. rest_after (chain_to_later (ipv6_next_header b) a) a) (after_is (ipv6_stated b) stated)
+    rest6 = cc (is.rest, after_is (ipv6_stated b) stated)
 
     offset6 : length b ≡ 40 → length b + (length after - length x.rest.now) ≡ 40 + length (bytes_of (ipv6_chain b s))
     offset6 forty = omega (arith, forty, ap length is.rest, length-drop (length (bytes_of (chain_to_later (ipv6_next_header b) after))) after, is.within, ap (λ c. length (bytes_of c)) chain6)
-
-    same_end : (t' : Option ℕ) (c d : List ExtHeader) (k j m n : ℕ) (q r : List ℕ) → t ≡ t' → c ≡ d → k ≡ j → m ≡ n → q ≡ r
-        → (if has_later c then LaterFragment else option_map_or (exts_end t) (slice_fault k (is_empty c) m q) Payload) ≡ (if has_later d then LaterFragment else option_map_or (exts_end t') (slice_fault j (is_empty d) n r) Payload)
-    same_end t' c d k j m n q r et ec ek em eq = rw (et, ec, ek, em, eq) refl
 
     pub fields6 : length b ≡ 40 → (f : Option Fragment) → f ≡ ipv6_fragment (map plain_header_of x.headers.items) → (missing : ℕ) → missing ≡ missing_of t (length s) → (e : End)
         → e ≡ (if has_later (map plain_header_of x.headers.items) then LaterFragment else option_map_or (exts_end t) (slice_fault (length b + (length after - length x.rest.now)) (is_empty (map plain_header_of x.headers.items)) x.number x.rest.now) Payload)
@@ -88,12 +74,12 @@ module _ (b s packet after : List ℕ) (t : Option ℕ) (whole : packet ≡ pack
       base = refl;
       stated = stated;
       headers = headers6;
-      number = is.number ∙ ap (leads_to (ipv6_next_header b)) chain6;
+      number = cc (is.number, chain6);
       payload = ap length rest6;
-      fragment = fragment ∙ ap ipv6_fragment headers6;
-      missing = here ∙ ap (λ o. missing_of o (length s)) stated;
+      fragment = cc (headers6);
+      missing = cc;
       padding = padding_is (ipv6_stated b) stated;
-      end = end ∙ same_end _ _ _ _ _ _ _ _ _ stated headers6 (offset6 forty) (is.number ∙ ap (leads_to (ipv6_next_header b)) chain6) rest6;
+      end = rw (end, stated, headers6, offset6 forty, is.number, chain6, rest6) refl;
     }
 
   module _ (stated : t ≡ ipv4_stated b) (is : IsIpv4Chain b after x) where
@@ -101,10 +87,9 @@ module _ (b s packet after : List ℕ) (t : Option ℕ) (whole : packet ≡ pack
     chain4 = ap (ipv4_chain_in b) (after_is (ipv4_stated b) stated)
 
     pub end4 : (e : End) → e ≡ (if not (total_len b == 0) && nat_lt (total_len b) (length b) then Fault (Len (too_short Ipv4HeaderTotalLen (total_len b) 0 Ipv4Packet (length b))) None else if not (ipv4_fragment_offset b == 0) then LaterFragment else option_map_or (auth_end t) (option_map (auth_in_packet Slice (length b)) (ipv4_chain_fault (protocol b) after)) Payload) → e ≡ ipv4_end b s
-    end4 e end = end ∙ end_of (ipv4_fragment_offset b) (not (total_len b == 0) && nat_lt (total_len b) (length b)) _ _ (λ zero.
-        ap (λ o. option_map_or (auth_end o) (option_map (auth_in_packet Slice (length b)) (ipv4_chain_fault (protocol b) after)) Payload) stated
-        ∙ ap (λ a. option_map_or (auth_end (ipv4_stated b)) (option_map (auth_in_packet Slice (length b)) (ipv4_chain_fault (protocol b) a)) Payload) (after_is (ipv4_stated b) stated)
-        ∙ ap (λ z. option_map_or (auth_end (ipv4_stated b)) (option_map (auth_in_packet Slice (length b)) (fault_after (ipv4_faults Slice) (if z then longest_ipv4_chain (protocol b) (after_base b (ipv4_stated b) s) else []) (protocol b) (after_base b (ipv4_stated b) s))) Payload) (sym (eq-eqb (ipv4_fragment_offset b) 0 zero))) (Fault (Len (too_short Ipv4HeaderTotalLen (total_len b) 0 Ipv4Packet (length b))) None)
+    end4 e end =
+        let after : after ≡ after_base b (ipv4_stated b) s = after_is (ipv4_stated b) stated in
+        rw (end, stated, after) (end_of (ipv4_fragment_offset b) (not (total_len b == 0) && nat_lt (total_len b) (length b)) _ _ (λ zero. rw zero refl) (Fault (Len (too_short Ipv4HeaderTotalLen (total_len b) 0 Ipv4Packet (length b))) None))
 
     pub fields4 : (f : Option Fragment) → f ≡ ipv4_fragment b → (missing : ℕ) → missing ≡ missing_of t (length s) → (e : End) → e ≡ ipv4_end b s
         → HasFieldsOf (ipv4_dissected b s) (record { version = 4; base_len = length b; stated = t; headers = x.headers; number = x.number; payload_len = length x.rest.now; fragment = f; missing = missing; padding_len = length s - length packet; end = e })
@@ -112,11 +97,11 @@ module _ (b s packet after : List ℕ) (t : Option ℕ) (whole : packet ≡ pack
       version = refl;
       base = refl;
       stated = stated;
-      headers = is.headers ∙ chain4;
-      number = is.number ∙ ap (leads_to (protocol b)) chain4;
-      payload = ap length (is.rest ∙ ap (λ a. rest_after (ipv4_chain_in b a) a) (after_is (ipv4_stated b) stated));
+      headers = cc (is.headers, chain4);
+      number = cc (is.number, chain4);
+      payload = cc (is.rest, after_is (ipv4_stated b) stated);
       fragment = fragment;
-      missing = here ∙ ap (λ o. missing_of o (length s)) stated;
+      missing = cc;
       padding = padding_is (ipv4_stated b) stated;
       end = end;
     }

@@ -1,5 +1,5 @@
 -- The counts of the plain program.
-use Rattle.ip_spec.proofs.Common.{◌≡◌, rules, ℕ, ◌+◌, ◌<◌, ◌≤◌, List, length, take, map, sym, ◌∙◌, arith, subst, take-map, take_more, length-map, ExtHeader, count_by, ◌==◌, ◌↔◌, KeepsBeginning, Place, hop_by_hop, destination, routing, authentication, final_destination, number_in, side_of, FitsPlaces}
+use Rattle.ip_spec.proofs.Common.{◌≡◌, rules, ℕ, ◌+◌, ◌<◌, ◌≤◌, List, length, take, map, arith, take-map, take_more, length-map, ExtHeader, count_by, ◌==◌, ◌↔◌, KeepsBeginning, Place, hop_by_hop, destination, routing, authentication, final_destination, number_in, side_of, FitsPlaces}
 use Rattle.ip_spec.specs.Places.{fragment}
 use Rattle.ip_spec.proofs.FitsLemmas.{fits-map}
 use Rattle.ip_spec.proofs.DemandLemmas.{kept_first}
@@ -11,12 +11,10 @@ use Rattle.ip_plain.specs.declared.chain.PlainHeader.{PlainHeader}
 module _ (hs : List PlainHeader) (k : ℕ) (within : k < length hs) where
   pub kept_of_plain : FitsPlaces (map plain_header_of (take k hs)) → (FitsPlaces (map plain_header_of (take (k + 1) hs)) → ⊥) → KeepsBeginning FitsPlaces (map plain_header_of hs) (map plain_header_of (take k hs))
   kept_of_plain f fails =
-      let F : List ExtHeader → Type 0 = FitsPlaces in
-      let K : List ExtHeader → Type 0 = KeepsBeginning FitsPlaces (map plain_header_of hs) in
       let d = map plain_header_of hs in
-      let same : (j : ℕ) → take j d ≡ map plain_header_of (take j hs) = λ j. take-map plain_header_of j hs in
       let inside : k < length d = omega (arith, within, length-map hs plain_header_of) in
-      subst K (same k) (kept_first FitsPlaces d k (bare 0) inside (subst F (sym (same k)) f) (λ g. fails (subst F (sym (take_more d k (bare 0) inside) ∙ same (k + 1)) g)))
+      let same : (j : ℕ) → take j d ≡ map plain_header_of (take j hs) = λ j. take-map plain_header_of j hs in
+      rw (same k) at (kept_first FitsPlaces d k (bare 0) inside (rw (same k) f) (λ g. fails (rw (← same (k + 1), take_more d k (bare 0) inside) g)))
 
 -- The counts of the numbers in each place.
 module _ (hs : List PlainHeader) where
@@ -36,9 +34,5 @@ module _ (hs : List PlainHeader) where
 
   pub told_by_counts : {A : Type 0} → A ↔ AllOnce → A ↔ FitsPlaces (map plain_header_of hs)
   told_by_counts k =
-      let same = fits-map plain_header_of (λ (h : ExtHeader). h.number) hs in (
-        (λ a. same.1 (once_in (k.0 a))),
-        λ fits.
-            let at : (p : Place) → often_in p ≤ 1 = same.0 fits in
-            k.1 (record { hop_by_hop_options = at hop_by_hop; routing_header = at routing; fragment_header = at fragment; auth_header = at authentication; destination_options = at destination; final_options = at final_destination }),
-      )
+      let same = fits-map plain_header_of (λ (h : ExtHeader). h.number) hs in
+      ((λ a. same.1 (once_in (k.0 a))), (λ fits. let at : (p : Place) → often_in p ≤ 1 = same.0 fits in k.1 (search (rules, at))))

@@ -1,5 +1,5 @@
 -- A chain parsed by the plain program: one more header, and the end at a later fragment's.
-use Rattle.ip_spec.proofs.Common.{◌≡◌, ℕ, length, map, List, [], ◌∷◌, ◌++◌, sym, ap, ◌∙◌, subst, Bool, true, false, drop, slice_index, map-append, ExtHeader, is_empty, leads_to, bytes_of, IsNext, IsEnd, IsLongestUnder}
+use Rattle.ip_spec.proofs.Common.{◌≡◌, ℕ, length, map, List, [], ◌∷◌, ◌++◌, ap, ◌∙◌, Bool, true, false, drop, slice_index, map-append, ExtHeader, is_empty, bytes_of, IsNext, IsEnd, IsLongestUnder}
 use Rattle.ip_spec.proofs.ParsedLemmas.{HasParsed, has_parsed_next, parsed_longest_under}
 use Rattle.ip_spec.proofs.UnderLemmas.{one_longest_under}
 use Rattle.ip_dissect.specs.LaterDemand.{is_later, has_later, NothingAfterLater, nothing_after_later}
@@ -16,10 +16,9 @@ pub one_pushed : (n : ℕ) (s : List ℕ) (items pushed : List PlainHeader) (hea
     → plain_header_of header ≡ record { number = m; bytes = prefix } → pushed ≡ items ++ header ∷ []
     → HasParsed n s (map plain_header_of pushed) (slice_index prefix 0) after
 one_pushed n s items pushed header first m r prefix after read f next rest is e =
-    let A : List ℕ → Type 0 = λ q. HasParsed n s (map plain_header_of items ++ (record { number = m; bytes = prefix }) ∷ []) (slice_index prefix 0) q in
-    let C : List ExtHeader → Type 0 = λ c. HasParsed n s c (slice_index prefix 0) after in
-    subst C (sym (ap (map plain_header_of) e ∙ map-append plain_header_of items (header ∷ []) ∙ ap (λ h. map plain_header_of items ++ h ∷ []) is))
-    (subst A rest (has_parsed_next n s (map plain_header_of items) m r (record { number = m; bytes = prefix }) read (rw f at next)))
+    let h : ExtHeader = record { number = m; bytes = prefix } in
+    let all : map plain_header_of pushed ≡ map plain_header_of items ++ h ∷ [] = cc (map-append plain_header_of items (header ∷ [])) in
+    rw (all, ← rest) (has_parsed_next n s (map plain_header_of items) m r h read (rw f at next))
 
 -- the chain c has been parsed and has no later fragment's header
 pub record BeforeLater (n : ℕ) (s : List ℕ) (c : List ExtHeader) (m : ℕ) (r : List ℕ) : Type 0 where
@@ -30,12 +29,8 @@ pub record BeforeLater (n : ℕ) (s : List ℕ) (c : List ExtHeader) (m : ℕ) (
 to_later : (n : ℕ) (s : List ℕ) (c : List ExtHeader) (m : ℕ) (r : List ℕ) → HasParsed n s c m r → IsLongestUnder NothingAfterLater n s c → (x : PlainChain) → map plain_header_of x.headers.items ≡ c → x.number ≡ m → x.rest.now ≡ r → IsToLater n s x
 to_later n s c m r read longest x xh xn xr =
     let is : c ≡ chain_to_later n s = one_longest_under NothingAfterLater nothing_after_later n s c (chain_to_later n s) longest (chain_to_later-longest n s) in
-    record {
-      headers = xh ∙ is;
-      number = xn ∙ read.number ∙ ap (leads_to n) is;
-      rest = xr ∙ read.rest ∙ ap (λ d. drop (length (bytes_of d)) s) is;
-      within = length-prefix (bytes_of (chain_to_later n s)) s (chain_to_later-longest n s).has.0.prefix;
-    }
+    let within = length-prefix (bytes_of (chain_to_later n s)) s (chain_to_later-longest n s).has.0.prefix in
+    record { headers = cc; number = cc (read.number); rest = cc (read.rest); within = within }
 
 -- where no header follows
 pub ends_here : (n : ℕ) (s : List ℕ) (c : List ExtHeader) (m : ℕ) (r : List ℕ) → BeforeLater n s c m r → IsEnd (is_empty c) m r → (x : PlainChain) → map plain_header_of x.headers.items ≡ c → x.number ≡ m → x.rest.now ≡ r → IsToLater n s x
@@ -55,13 +50,13 @@ module _ (n : ℕ) (s : List ℕ) (items pushed : List PlainHeader) (header : Pl
   all = ap (map plain_header_of) e ∙ map-append plain_header_of items (header ∷ []) ∙ ap (λ h. map plain_header_of items ++ h ∷ []) is
 
   has : has_later (map plain_header_of pushed) ≡ later
-  has = ap has_later all ∙ has_later-more (map plain_header_of items) (record { number = m; bytes = prefix }) ∙ rw w.none (sym told)
+  has = cc (all, has_later-more (map plain_header_of items) (record { number = m; bytes = prefix }), w.none)
 
   pub goes_on : later ≡ false → BeforeLater n s (map plain_header_of pushed) (slice_index prefix 0) after
   goes_on not_later = record { read = read; none = has ∙ not_later }
 
   meets : NothingAfterLater (map plain_header_of pushed)
-  meets = let Q : List ExtHeader → Type 0 = NothingAfterLater in subst Q (sym all) (may_follow (map plain_header_of items) (record { number = m; bytes = prefix }) w.none)
+  meets = rw all (may_follow (map plain_header_of items) (record { number = m; bytes = prefix }) w.none)
 
   pub stops_here : later ≡ true → (x : PlainChain) → x.headers.items ≡ pushed → x.number ≡ slice_index prefix 0 → x.rest.now ≡ after → IsToLater n s x
   stops_here is_one x xh =

@@ -1,5 +1,5 @@
 -- The error after an IPv6 header, and the answer for a packet, by the version in its first byte.
-use Rattle.ip_spec.proofs.Common.{◌≡◌, ℕ, ◌+◌, ◌-◌, ◌≤◌, List, length, drop, arith, nat_lt, cond-false, le-ltb, length-take-le, ap, sym, ◌∙◌, subst, inl, inr, Bool, Option, None, option_map, codes, if◌then◌else◌, eqb_tells, rules, ExtHeader, IsLongestChain, leads_to, bytes_of, is_empty, has_fragmenting, rest_after}
+use Rattle.ip_spec.proofs.Common.{refl, ◌≡◌, ℕ, ◌+◌, ◌-◌, ◌≤◌, List, length, drop, arith, le-ltb, length-take-le, ap, sym, ◌∙◌, inl, inr, Bool, Option, None, option_map, codes, eqb_tells, rules, ExtHeader, IsLongestChain, leads_to, bytes_of, is_empty, has_fragmenting, rest_after}
 use Rattle.std.proofs.Common.{length-drop}
 use Rattle.ip_spec.proofs.ChainLemmas.{one_longest, some_longest}
 use Rattle.ip_base.specs.declared.len_source.LenSource.{LenSource}
@@ -12,7 +12,7 @@ use Rattle.ip_base.specs.Ipv4Header.{version}
 use Rattle.etherparse_ip.specs.Packet.{Parts}
 use Rattle.etherparse_ip.specs.PartsIn.{ipv4_parts_in, ipv6_parts_in}
 use Rattle.etherparse_ip.specs.PacketFault.{ip_fault, ip_fault_of_ipv6, ipv6_after, exts_in_packet, ip_of_ipv6}
-use Rattle.ipexts_tool.specs.PacketAnswer.{parts_lines, packet_lines, packet_answer}
+use Rattle.ipexts_tool.specs.PacketAnswer.{parts_lines, packet_answer}
 use Rattle.ip_plain.specs.PlainPacket.{HasLengthsOf, sourced}
 use Rattle.ip_plain.specs.declared.plain_packet.PlainPacket.{PlainPacket}
 
@@ -30,15 +30,14 @@ module _ (n : ℕ) (s : List ℕ) (c : List ExtHeader) (longest : IsLongestChain
   read_len = omega (arith, ap length left, length-drop (length (bytes_of c)) s, length-prefix (bytes_of c) s longest.has.prefix)
 
   pub end_len : length s - length r ≡ length (bytes_of (longest_chain n s))
-  end_len = read_len ∙ ap (λ d. length (bytes_of d)) (sym same_chain)
+  end_len = cc (read_len, same_chain)
 
   pub end_fragmented : (b : Bool) → b ≡ has_fragmenting c → b ≡ has_fragmenting (longest_chain n s)
   end_fragmented b e = e ∙ ap has_fragmenting (sym same_chain)
 
   pub end_fault : (source : LenSource) (first : Bool) (m : ℕ) (f : Option Fault) → first ≡ is_empty c → m ≡ leads_to n c → f ≡ slice_fault (length s - length r + 40) first m r
       → option_map ip_of_ipv6 (option_map (sourced source) (option_map (λ e. e.0) f)) ≡ option_map ip_of_ipv6 (option_map (exts_in_packet source 40) (option_map (λ e. e.0) (chain_fault n s)))
-  end_fault source first m f none leads is = ap (option_map ip_of_ipv6)
-      (rw (is, read_len, none, leads, left, ← same_chain) (sym (from_start source (length (bytes_of (longest_chain n s))) 40 (is_empty (longest_chain n s)) (leads_to n (longest_chain n s)) (rest_after (longest_chain n s) s))))
+  end_fault source first m f none leads is = search (rules, from_start, read_len, same_chain)
 
 -- An IPv6 packet with all the bytes that it states, read with payload length p, and the bytes after its base header.
 module _ (s after : List ℕ) (source : LenSource) (p : ℕ) (field : p ≡ payload_length s) (stated : 40 + p ≤ length s)
@@ -47,27 +46,17 @@ module _ (s after : List ℕ) (source : LenSource) (p : ℕ) (field : p ≡ payl
   by_field = by ∙ ap (λ k. ipv6_len_source k (length s)) field
 
   same : ipv6_after s ≡ after
-  same = ap (λ b. drop 40 (front b (payload_length s) s)) (sym by_field) ∙ ap (λ k. drop 40 (front source k s)) (sym field) ∙ ap (drop 40) (sym whole) ∙ sym left
+  same = rw (← by_field, ← field, ← whole, ← left) refl
 
   pub ipv6_fault_is : option_map ip_of_ipv6 (option_map (exts_in_packet source 40) (option_map (λ f. f.0) (chain_fault (ipv6_next_header s) after))) ≡ ip_fault_of_ipv6 s
-  ipv6_fault_is =
-      sym (cond-false (nat_lt (length s) 40) _ _ (le-ltb (length s) 40 (omega arith))
-      ∙ ap (option_map ip_of_ipv6) (cond-false (nat_lt (length s) (40 + payload_length s)) _ _ (le-ltb (length s) (40 + payload_length s) (omega arith)))
-      ∙ ap (λ b. option_map ip_of_ipv6 (option_map (exts_in_packet b 40) (option_map (λ f. f.0) (chain_fault (ipv6_next_header s) (ipv6_after s))))) (sym by_field)
-      ∙ ap (λ a. option_map ip_of_ipv6 (option_map (exts_in_packet source 40) (option_map (λ f. f.0) (chain_fault (ipv6_next_header s) a)))) same)
+  ipv6_fault_is = search (rules, by_field, same, le-ltb)
 
   pub ipv6_lengths : (k m : ℕ) (fragmented : Bool) → k ≡ length (bytes_of (longest_chain (ipv6_next_header s) after)) → m ≡ leads_to (ipv6_next_header s) (longest_chain (ipv6_next_header s) after)
       → fragmented ≡ has_fragmenting (longest_chain (ipv6_next_header s) after)
       → HasLengthsOf (ipv6_parts_in s) (record { header_len = 40; exts_len = k; payload_len = length after - k; number = m; fragmented = fragmented; len_source = source })
   ipv6_lengths k m fragmented len leads fragments =
-      record {
-        header = sym (length-take-le 40 s (omega arith));
-        exts = len ∙ ap (λ a. length (bytes_of (longest_chain (ipv6_next_header s) a))) (sym same);
-        payload = ap (λ j. length after - j) len ∙ sym (length-drop (length (bytes_of (longest_chain (ipv6_next_header s) after))) after) ∙ ap (λ a. length (rest_after (longest_chain (ipv6_next_header s) a) a)) (sym same);
-        number = leads ∙ ap (λ a. leads_to (ipv6_next_header s) (longest_chain (ipv6_next_header s) a)) (sym same);
-        fragmented = fragments ∙ ap (λ a. has_fragmenting (longest_chain (ipv6_next_header s) a)) (sym same);
-        source = by_field;
-      }
+      let header = sym (length-take-le 40 s (omega arith)) in
+      rw same (record { header = header; exts = len; payload = search (rules, length-drop); number = leads; fragmented = fragments; source = by_field })
 
 -- what holds of the lines of the parts holds of the answer
 pub parts_answer : (s name : List ℕ) (x : PlainPacket) (L : List ℕ → Type 0) → None ≡ ip_fault s
@@ -76,16 +65,6 @@ pub parts_answer : (s name : List ℕ) (x : PlainPacket) (L : List ℕ → Type 
     → ((p : Parts) → HasLengthsOf p x → L (parts_lines name p)) → L (packet_answer s)
 unfolding packet_answer
 parts_answer s name x L ok four six lines = elim (eqb_tells (version s) 4) [
-  | inl is ↦
-      subst L
-      (ap (λ n. parts_lines n (ipv4_parts_in s)) (four is.1).0
-      ∙ ap (λ b. if b then parts_lines (codes "ipv4") (ipv4_parts_in s) else parts_lines (codes "ipv6") (ipv6_parts_in s)) (sym is.0)
-      ∙ ap (λ f. packet_lines f s) ok)
-      (lines (ipv4_parts_in s) (four is.1).1)
-  | inr not ↦
-      subst L
-      (ap (λ n. parts_lines n (ipv6_parts_in s)) (six not.1).0
-      ∙ ap (λ b. if b then parts_lines (codes "ipv4") (ipv4_parts_in s) else parts_lines (codes "ipv6") (ipv6_parts_in s)) (sym not.0)
-      ∙ ap (λ f. packet_lines f s) ok)
-      (lines (ipv6_parts_in s) (six not.1).1)
+  | inl is ↦ rw (← ok, is.0) (rw (four is.1).0 at (lines (ipv4_parts_in s) (four is.1).1))
+  | inr not ↦ rw (← ok, not.0) (rw (six not.1).0 at (lines (ipv6_parts_in s) (six not.1).1))
 ]

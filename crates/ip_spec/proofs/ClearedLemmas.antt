@@ -1,6 +1,6 @@
 -- Chains whose reserved bits are set to zero: they lead to the same number, and have the same places and fields.
-use Rattle.ip_spec.proofs.Common.{◌≡◌, ◌≢◌, ℕ, ◌<◌, List, [], ◌∷◌, ◌++◌, length, take, drop, refl, ap, sym, ◌∙◌, arith, inl, inr, subst, Bool, rules, Option, Some, None, All, slice_range, AllByRecursion, find, option_map, ForSome, cases_Bool, none-some, same_Some, take-append_seam, drop-append_seam, All-from_recursion, recursion_from_All, All-take, All-drop, from_be_bytes, w32, common_steps, IsHeader, IsFragmentHeader, IsAuthHeader, fragment, auth, next_header, FragmentFields, offset_bits, flag_bit, unreserved_bits, cleared_header, AreBytes, fixed_len, IsCleared, cleared_chain, ExtHeader, AreLinked, leads_to, bytes_of, IsChain, FitsPlaces, Place, header_in, HeaderFields, fields_of, fragment_header, IsEncodingOf}
-use Rattle.ip_spec.proofs.FirstLemmas.{find-yes, find-no, find-map}
+use Rattle.ip_spec.proofs.Common.{◌≡◌, ◌≢◌, ℕ, ◌<◌, List, [], ◌∷◌, ◌++◌, length, take, drop, refl, ap, ◌∙◌, arith, subst, Bool, rules, Option, Some, None, All, slice_range, AllByRecursion, find, option_map, ForSome, none-some, take-append_seam, drop-append_seam, recursion_from_All, All-take, All-drop, common_steps, IsHeader, IsFragmentHeader, IsAuthHeader, next_header, cleared_header, AreBytes, fixed_len, IsCleared, cleared_chain, ExtHeader, AreLinked, leads_to, bytes_of, IsChain, FitsPlaces, Place, header_in, HeaderFields, fields_of, IsEncodingOf}
+use Rattle.ip_spec.proofs.FirstLemmas.{find-map}
 use Rattle.ip_spec.proofs.PlaceLemmas.{is_of, side}
 use Rattle.ip_spec.proofs.FitsLemmas.{side-map, fits-map}
 use Rattle.ip_spec.proofs.HeaderLemmas.{header_number, header-least, by_number, fragment_of, auth_of}
@@ -22,30 +22,14 @@ module _ (x0 x1 x2 x3 : ℕ) (rest : List ℕ) where
   four_and = x0 ∷ x1 ∷ x2 ∷ x3 ∷ rest
 
   fragment_same : IsFragmentHeader four_and → ClearedSame 44 four_and
-  fragment_same h =
-      let fields : ℕ → Bool → FragmentFields = λ a m. record { next_header = x0; fragment_offset = a; more_fragments = m; identification = from_be_bytes w32 (take 4 rest) } in
-      record {
-        header = fragment refl (record { len = h.len });
-        fields = ap fragment_header (ap (λ a. fields a (flag_bit (unreserved_bits x3))) (unreserved_offset x2 x3) ∙ ap (fields (offset_bits x2 x3)) (unreserved_flag x2 x3));
-        next = refl;
-        len = refl;
-        again = ap (λ y. x0 ∷ 0 ∷ x2 ∷ y ∷ rest) (unreserved_again x2 x3);
-        bytes = λ a.
-            three_before 0 x2 (unreserved_bits x3) (take 4 rest) (omega arith) (byte_at (slice_range four_and 1 8) a 1)
-            (unreserved_small x2 x3 (byte_at (slice_range four_and 1 8) a 2)) (All-drop (λ x. x < 256) 3 (slice_range four_and 1 8) a);
-      }
+  fragment_same h = search (rules, unreserved_offset x2 x3, unreserved_flag x2 x3, unreserved_again x2 x3, unreserved_small x2 x3)
 
   auth_same : IsAuthHeader four_and → ClearedSame 51 four_and
-  auth_same h = record {
-    header = auth refl (record { not_zero = h.not_zero; len = h.len });
-    fields = refl;
-    next = refl;
-    len = refl;
-    again = refl;
-    bytes = λ a.
-        three_before x1 0 0 (take 8 rest) (byte_at (slice_range four_and 1 12) a 0) (omega arith) (omega arith)
-        (All-drop (λ x. x < 256) 3 (slice_range four_and 1 12) a);
-  }
+  auth_same h =
+      let fixed : List ℕ = slice_range four_and 1 12 in
+      let bytes : AreBytes fixed → AreBytes (x1 ∷ 0 ∷ 0 ∷ take 8 rest) =
+      λ a. three_before x1 0 0 (take 8 rest) (byte_at fixed a 0) (omega arith) (omega arith) (All-drop (λ x. x < 256) 3 fixed a) in
+      search (rules, bytes)
 
 module _ (b : List ℕ) where
   abbrev Same : ℕ → Type 0
@@ -56,10 +40,7 @@ module _ (b : List ℕ) where
       let f : FirstFour b = first_four b (omega (arith, header-least n b h)) in
       let F : List ℕ → Type 0 = λ l. IsFragmentHeader l → ClearedSame 44 l in
       let A : List ℕ → Type 0 = λ l. IsAuthHeader l → ClearedSame 51 l in
-      by_number Same
-      (λ g. record { header = g; fields = refl; next = refl; len = refl; again = refl; bytes = λ a. a })
-      (λ g. record { header = g; fields = refl; next = refl; len = refl; again = refl; bytes = λ a. a })
-      (λ g. record { header = g; fields = refl; next = refl; len = refl; again = refl; bytes = λ a. a })
+      by_number Same (search rules) (search rules) (search rules)
       (λ g. subst F f.joined (fragment_same f.x0 f.x1 f.x2 f.x3 f.rest) (fragment_of 44 b refl g))
       (λ g. subst A f.joined (auth_same f.x0 f.x1 f.x2 f.x3 f.rest) (auth_of 51 b refl g))
       n (header_number n b h) h
@@ -114,12 +95,7 @@ cleared_fits c = (fits-map cleared_of (λ h. h.number) c).1
 -- A property of each header is a property of the one in a place.
 find_has : (P : ExtHeader → Type 0) (t : ExtHeader → Bool) (c : List ExtHeader) → All P c → ForSome (find t c) P
 find_has P t [] a h e = absurd (none-some h e)
-find_has P t (g ∷ c) a h e =
-    let both : AllByRecursion P (g ∷ c) = recursion_from_All P (g ∷ c) a in
-    elim (cases_Bool (t g)) [
-      | inl w ↦ subst P (same_Some g h (sym (find-yes t g c w) ∙ e)) both.0
-      | inr w ↦ find_has P t c (All-from_recursion P c both.1) h (sym (find-no t g c w) ∙ e)
-    ]
+find_has P t (g ∷ c) a h e = grind (arith, common_steps, find_has P t c, recursion_from_All P (g ∷ c) a)
 
 pub header_in_has : (P : ExtHeader → Type 0) (p : Place) (c : List ExtHeader) → AllByRecursion P c → ForSome (header_in p c) P
 header_in_has P p c a = find_has P (is_of p) (side p c) (grind (arith, common_steps))

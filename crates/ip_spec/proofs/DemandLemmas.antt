@@ -1,7 +1,7 @@
 -- Lists with a property under which at most one element can come next, and a demand on them.
-use Rattle.ip_spec.proofs.Common.{◌≡◌, ℕ, ◌≤◌, ◌<◌, List, [], ◌∷◌, ◌++◌, length, take, drop, refl, sym, arith, inl, inr, subst, append_assoc, rules, append-nil, append_cancel_left, drop_more, length-append, take-append-drop, common_steps, IsLongestOf, IsDemand, NextBreaks, KeepsBeginning}
+use Rattle.ip_spec.proofs.Common.{◌≡◌, ℕ, ◌≤◌, ◌<◌, List, [], ◌∷◌, ◌++◌, length, take, drop, sym, arith, subst, append_assoc, rules, append-nil, append_cancel_left, drop_more, length-append, take-append-drop, common_steps, IsLongestOf, IsDemand, NextBreaks, KeepsBeginning}
 use Rattle.std.specs.Prelude.{get_or}
-use Rattle.ip_spec.proofs.LongestOfLemmas.{Grows, DecidesNext, within, beyond, compare, begins_first, longest_where_none_next, none_next_where_longest, one_longest_of, some_longest_of}
+use Rattle.ip_spec.proofs.LongestOfLemmas.{Grows, DecidesNext, compare, begins_first, longest_where_none_next, none_next_where_longest, one_longest_of, some_longest_of}
 
 -- c has the property P and meets the demand Q
 abbrev pub IsUnder : {X : Type 0} → (List X → Type 0) → (List X → Type 0) → List X → Type 0
@@ -36,20 +36,12 @@ module _ {X : Type 0} (P Q : List X → Type 0) (g : Grows P) (k : IsDemand Q) w
 
   -- and vice versa
   pub kept_where_longest : (d c : List X) → IsLongestOf P d → IsLongestOf (IsUnder Q P) c → KeepsBeginning Q d c
-  kept_where_longest d c l u = elim (compare P g d c l.has u.has.0) [
-    | within rest w ↦ search (rules, breaks_after)
-    | beyond x rest w ↦ absurd (none_next_where_longest P d l x (begins_first P g d x rest (subst P w u.has.0)))
-  ]
+  kept_where_longest d c l u = grind (arith, common_steps, compare P g d c l.has u.has.0, breaks_after d c, none_next_where_longest, begins_first)
 
 -- A demand keeps some prefix of each list.
 kept_from : {X : Type 0} (Q : List X → Type 0) → IsDemand Q → (c rest : List X) → Q c → (b : List X) × KeepsBeginning Q (c ++ rest) b
-kept_from Q k c [] q = (c, record { rest = []; joined = refl; meets = q; breaks = tt })
-kept_from {X} Q k c (x ∷ rest) q = elim (k.decided (c ++ x ∷ [])) [
-  | inr breaks ↦ (c, record { rest = x ∷ rest; joined = refl; meets = q; breaks = breaks })
-  | inl more ↦
-      let K : List X → Type 0 = λ d. (b : List X) × KeepsBeginning Q d b in
-      subst K (append_assoc c (x ∷ []) rest) (kept_from Q k (c ++ x ∷ []) rest more)
-]
+kept_from Q k c [] q = search rules
+kept_from Q k c (x ∷ rest) q = search (rules, k.decided (c ++ x ∷ []), kept_from Q k (c ++ x ∷ []) rest, append_assoc)
 
 pub some_kept : {X : Type 0} (Q : List X → Type 0) → IsDemand Q → (d : List X) → (c : List X) × KeepsBeginning Q d c
 some_kept Q k d = kept_from Q k [] d k.empty
@@ -72,27 +64,13 @@ module _ {X : Type 0} (d : List X) where
     -- What a demand keeps is unique: the longest prefix that meets the demand.
     pub one_kept : (b c : List X) → KeepsBeginning Q d b → KeepsBeginning Q d c → b ≡ c
     one_kept b c p q =
-        one_longest_of (IsUnder Q (Begins d)) (under_grows (Begins d) Q beginnings_grow k) b c
-        (longest_where_kept (Begins d) Q beginnings_grow k d b all_longest p)
-        (longest_where_kept (Begins d) Q beginnings_grow k d c all_longest q)
+        let whole = longest_where_kept (Begins d) Q beginnings_grow k d in
+        search (rules, one_longest_of (IsUnder Q (Begins d)), under_grows (Begins d) Q beginnings_grow k, whole, all_longest)
 
     pub kept_bounds : (b c rest : List X) → KeepsBeginning Q d b → d ≡ c ++ rest → Q c → length c ≤ length b
     kept_bounds b c rest p e q = search (rules, longest_under_bounds, beginnings_grow, longest_where_kept, all_longest)
 
--- Demands made from a number that only grows, and from two demands.
-pub demand_up_to : {X : Type 0} (f : List X → ℕ) (k : ℕ) → f [] ≤ k → ((c d : List X) → f c ≤ f (c ++ d)) → IsDemand (λ c. f c ≤ k)
-demand_up_to f k none grows = search rules
-
-pub demand_both : {X : Type 0} (A B : List X → Type 0) → IsDemand A → IsDemand B → IsDemand (λ c. A c × B c)
-demand_both A B a b = search rules
-
-pub demand_same : {X : Type 0} (A B : List X → Type 0) → IsDemand A → ((c : List X) → A c → B c) → ((c : List X) → B c → A c) → IsDemand B
-demand_same A B a f g = search rules
-
 -- If the first k elements of a list meet the demand, and one more doesn't, the demand keeps these k.
 module _ {X : Type 0} (Q : List X → Type 0) (xs : List X) (k : ℕ) (x : X) (within : k < length xs) where
-  breaks_at : (rest : List X) → drop k xs ≡ rest → (Q (take k xs ++ get_or xs k x ∷ []) → ⊥) → NextBreaks Q (take k xs) rest
-  breaks_at rest e fails = search (rules, drop_more)
-
   pub kept_first : Q (take k xs) → (Q (take k xs ++ get_or xs k x ∷ []) → ⊥) → KeepsBeginning Q xs (take k xs)
-  kept_first q fails = record { rest = drop k xs; joined = sym (take-append-drop k xs); meets = q; breaks = breaks_at (drop k xs) refl fails }
+  kept_first q fails = record { rest = drop k xs; joined = sym (take-append-drop k xs); meets = q; breaks = search (rules, drop_more) }

@@ -1,8 +1,8 @@
 -- Fields determine their header if its reserved bits are zero.
-use Rattle.ip_spec.proofs.Common.{◌≡◌, ℕ, ◌+◌, ◌-◌, ◌/◌, ◌^◌, ◌<◌, ◌≤◌, List, [], ◌∷◌, length, drop, refl, ap, sym, ◌∙◌, arith, inl, inr, rules, slice_range, All-from_recursion, recursion_from_All, All-append, IsHeader, IsRawHeader, IsRawNumber, raw, auth, RawFields, FragmentFields, AuthFields, raw_fields, MAX_FRAGMENT_OFFSET, IsPayloadLen, IsIcvLen, AreBytes, IsFragmentEncoding, IsAuthEncoding, IsCleared, ExtHeader, HeaderFields, raw_header, fragment_header, auth_header, fields_of, IsEncoded, IsEncodingOf}
-use Rattle.ip_spec.proofs.HeaderLemmas.{header_number, by_raw, by_number, raw_of, fragment_of, auth_of, ext_header-eq}
-use Rattle.ip_spec.proofs.EncodingLemmas.{fragment_only, auth_only, fragment_encodes, auth_written_encodes, fragment_written, auth_written}
-use Rattle.ip_spec.proofs.FragmentBitLemmas.{high_byte, low_byte, packed_offset, packed_flag, packed_reserved, high_small, low_small}
+use Rattle.ip_spec.proofs.Common.{◌≡◌, ℕ, ◌+◌, ◌-◌, ◌/◌, ◌^◌, ◌<◌, ◌≤◌, List, ◌∷◌, length, sym, ◌∙◌, arith, rules, All-from_recursion, recursion_from_All, IsHeader, IsRawHeader, IsRawNumber, RawFields, FragmentFields, AuthFields, raw_fields, MAX_FRAGMENT_OFFSET, IsPayloadLen, IsIcvLen, AreBytes, IsFragmentEncoding, IsAuthEncoding, IsCleared, ExtHeader, HeaderFields, raw_header, fragment_header, auth_header, fields_of, IsEncoded, IsEncodingOf}
+use Rattle.ip_spec.proofs.HeaderLemmas.{header_number, by_number, ext_header-eq}
+use Rattle.ip_spec.proofs.EncodingLemmas.{fragment_only, auth_only, fragment_encodes, auth_written_encodes, auth_encoding-bytes, fragment_written, auth_written}
+use Rattle.ip_spec.proofs.FragmentBitLemmas.{packed_offset, packed_flag, packed_reserved, high_small, low_small}
 
 -- the header of number n with bytes b
 abbrev pub of_number : ℕ → List ℕ → ExtHeader
@@ -21,12 +21,7 @@ one_encoded (auth_header v) b d h g = auth_only v b h ∙ sym (auth_only v d g)
 pub cleared_is_encoding : (n : ℕ) (b : List ℕ) → IsHeader n b → IsCleared (of_number n b) → IsEncodingOf (fields_of (of_number n b)) b
 cleared_is_encoding n b h =
     by_number (λ m. IsHeader m b → IsCleared (of_number m b) → IsEncodingOf (fields_of (of_number m b)) b)
-    (λ g c. record { header = raw_of 0 b (inl refl) g; fields = refl; cleared = c })
-    (λ g c. record { header = raw_of 43 b (inr (inl refl)) g; fields = refl; cleared = record { reserved = refl; bytes = c.bytes } })
-    (λ g c. record { header = raw_of 60 b (inr (inr refl)) g; fields = refl; cleared = record { reserved = refl; bytes = c.bytes } })
-    (λ g c. record { header = fragment_of 44 b refl g; fields = refl; cleared = c })
-    (λ g c. record { header = auth_of 51 b refl g; fields = refl; cleared = c })
-    n (header_number n b h) h
+    (search rules) (search rules) (search rules) (search rules) (search rules) n (header_number n b h) h
 
 pub encoding_is : (n : ℕ) (x : HeaderFields) (h : ExtHeader) (b : List ℕ) → IsEncoded n x h → IsEncodingOf x b → h.bytes ≡ b
 encoding_is n x h b e = search (rules, one_encoded, cleared_is_encoding)
@@ -52,32 +47,14 @@ module _ (x : RawFields) (next : x.next_header < 256) (len : IsPayloadLen (lengt
   units = omega (arith, len.most)
 
   pub raw_encoded : (n : ℕ) → IsRawNumber n → (h : ExtHeader) × IsEncoded n (raw_header x) h
-  raw_encoded n k =
-      let all : AreBytes (raw_written x) = bytes_first x.next_header (drop 1 (raw_written x)) next (bytes_first ((length x.payload + 2) / 8 - 1) x.payload units bytes) in
-      let one : AreBytes (slice_range (raw_written x) 1 2) = bytes_first ((length x.payload + 2) / 8 - 1) [] units (λ i d l. omega arith) in
-      let header : IsRawHeader (raw_written x) = record { len = omega (arith, len.least, len.whole) } in
-      let E : ℕ → Type 0 = λ m. (h : ExtHeader) × IsEncoded m (raw_header x) h in
-      by_raw E
-      (of_number 0 (raw_written x), record { number = refl; header = raw (inl refl) header; fields = refl; cleared = record { reserved = refl; bytes = one }; bytes = all })
-      (of_number 43 (raw_written x), record { number = refl; header = raw (inr (inl refl)) header; fields = refl; cleared = record { reserved = refl; bytes = one }; bytes = all })
-      (of_number 60 (raw_written x), record { number = refl; header = raw (inr (inr refl)) header; fields = refl; cleared = record { reserved = refl; bytes = one }; bytes = all })
-      n k
+  raw_encoded n k = (of_number n (raw_written x), search (rules, bytes_first, units))
 
 pub fragment_encoded : (x : FragmentFields) → x.next_header < 256 → x.fragment_offset ≤ MAX_FRAGMENT_OFFSET → x.identification < 2 ^ 32 → (h : ExtHeader) × IsEncoded 44 (fragment_header x) h
 fragment_encoded x next offset id =
-    let e : IsFragmentEncoding x (fragment_written x) = fragment_encodes x (high_byte x.fragment_offset) (low_byte x.fragment_offset x.more_fragments)
-    (packed_offset x.fragment_offset x.more_fragments) (packed_flag x.fragment_offset x.more_fragments) (packed_reserved x.fragment_offset x.more_fragments)
-    (high_small x.fragment_offset offset) (low_small x.fragment_offset x.more_fragments) id in search rules
+    let e : IsFragmentEncoding x (fragment_written x) =
+    search (rules, fragment_encodes, packed_offset, packed_flag, packed_reserved, high_small, low_small) in search rules
 
 pub auth_encoded : (x : AuthFields) → x.next_header < 256 → IsIcvLen (length x.raw_icv) → AreBytes x.raw_icv → x.spi < 2 ^ 32 → x.sequence_number < 2 ^ 32 → (h : ExtHeader) × IsEncoded 51 (auth_header x) h
 auth_encoded x next len icv spi seq =
-    let e : IsAuthEncoding x (auth_written x) = auth_written_encodes x len.most len.whole spi seq in (
-      of_number 51 (auth_written x),
-      record {
-        number = refl;
-        header = auth refl e.header;
-        fields = ap auth_header e.fields;
-        cleared = e.cleared;
-        bytes = All-append (λ y. y < 256) (x.next_header ∷ slice_range (auth_written x) 1 12) x.raw_icv (bytes_first x.next_header (slice_range (auth_written x) 1 12) next e.cleared.bytes) icv;
-      },
-    )
+    let e : IsAuthEncoding x (auth_written x) = auth_written_encodes x len.most len.whole spi seq in
+    let bytes = auth_encoding-bytes x (auth_written x) e next icv in search rules

@@ -95,30 +95,20 @@ module _ (v : AuthFields) (x0 x1 x2 x3 y0 y1 y2 y3 z0 z1 z2 z3 : ℕ) (rest : Li
   auth_only_parts bytes h =
       let ys : List ℕ = y0 ∷ y1 ∷ y2 ∷ y3 ∷ [] in
       let zs : List ℕ = z0 ∷ z1 ∷ z2 ∷ z3 ∷ [] in
-      let number : x0 ≡ v.next_header = ap (λ (w : AuthFields). w.next_header) h.fields in
       let icv : rest ≡ v.raw_icv = ap (λ (w : AuthFields). w.raw_icv) h.fields in
       let len : x1 ≡ length v.raw_icv / 4 + 1 = omega (arith, h.header.len, h.header.not_zero, ap length icv) in
-      let zero_two : x2 ≡ 0 = ap (λ l. get_or l 2 0) (sym h.cleared.reserved) in
-      let zero_three : x3 ≡ 0 = ap (λ l. get_or l 3 0) (sym h.cleared.reserved) in
       let index : to_be_bytes w32 v.spi ≡ ys =
-      be_bytes_4 ys v.spi refl (λ i. byte_at ys (All-take (λ x. x < 256) 4 (drop 3 (slice_range twelve 1 12)) (All-drop (λ x. x < 256) 3 (slice_range twelve 1 12) bytes)) i) (sym (ap (λ (w : AuthFields). w.spi) h.fields)) in
+      be_bytes_4 ys v.spi refl (λ i. byte_at ys (All-take (λ x. x < 256) 4 (drop 3 (slice_range twelve 1 12)) (All-drop (λ x. x < 256) 3 (slice_range twelve 1 12) bytes)) i) (cc) in
       let sequence : to_be_bytes w32 v.sequence_number ≡ zs =
-      be_bytes_4 zs v.sequence_number refl (λ i. byte_at zs (All-take (λ x. x < 256) 4 (drop 7 (slice_range twelve 1 12)) (All-drop (λ x. x < 256) 7 (slice_range twelve 1 12) bytes)) i) (sym (ap (λ (w : AuthFields). w.sequence_number) h.fields)) in
-      let written : ℕ → ℕ → ℕ → ℕ → List ℕ → List ℕ → List ℕ → List ℕ = λ a c d e s q i. a ∷ c ∷ d ∷ e ∷ (s ++ (q ++ i)) in
-      ap (λ a. written a x1 x2 x3 ys zs rest) number ∙ ap (λ a. written v.next_header a x2 x3 ys zs rest) len
-      ∙ ap (λ a. written v.next_header (length v.raw_icv / 4 + 1) a x3 ys zs rest) zero_two
-      ∙ ap (λ a. written v.next_header (length v.raw_icv / 4 + 1) 0 a ys zs rest) zero_three
-      ∙ ap (λ s. written v.next_header (length v.raw_icv / 4 + 1) 0 0 s zs rest) (sym index)
-      ∙ ap (λ s. written v.next_header (length v.raw_icv / 4 + 1) 0 0 (to_be_bytes w32 v.spi) s rest) (sym sequence)
-      ∙ ap (λ s. written v.next_header (length v.raw_icv / 4 + 1) 0 0 (to_be_bytes w32 v.spi) (to_be_bytes w32 v.sequence_number) s) icv
+      be_bytes_4 zs v.sequence_number refl (λ i. byte_at zs (All-take (λ x. x < 256) 4 (drop 7 (slice_range twelve 1 12)) (All-drop (λ x. x < 256) 7 (slice_range twelve 1 12) bytes)) i) (cc) in
+      cc
 
 pub auth_only : (v : AuthFields) (b : List ℕ) → IsAuthEncoding v b → b ≡ auth_written v
 auth_only v b h =
     let f : FirstFour b = first_four b (omega (arith, h.header.len, h.header.not_zero)) in
     let g : FirstFour f.rest = first_four f.rest (omega (arith, h.header.len, h.header.not_zero, ap length f.joined)) in
     let k : FirstFour g.rest = first_four g.rest (omega (arith, h.header.len, h.header.not_zero, ap length f.joined, ap length g.joined)) in
-    let e : twelve v f.x0 f.x1 f.x2 f.x3 g.x0 g.x1 g.x2 g.x3 k.x0 k.x1 k.x2 k.x3 k.rest ≡ b =
-    ap (λ l. f.x0 ∷ f.x1 ∷ f.x2 ∷ f.x3 ∷ l) (ap (λ l. g.x0 ∷ g.x1 ∷ g.x2 ∷ g.x3 ∷ l) k.joined ∙ g.joined) ∙ f.joined in
+    let e : twelve v f.x0 f.x1 f.x2 f.x3 g.x0 g.x1 g.x2 g.x3 k.x0 k.x1 k.x2 k.x3 k.rest ≡ b = cc in
     let P : List ℕ → Type 0 = λ l. AreBytes (slice_range l 1 12) → IsAuthEncoding v l → l ≡ auth_written v in
     subst P e (auth_only_parts v f.x0 f.x1 f.x2 f.x3 g.x0 g.x1 g.x2 g.x3 k.x0 k.x1 k.x2 k.x3 k.rest) h.cleared.bytes h
 

@@ -1,5 +1,5 @@
 -- The first element of a list that passes a test, and the parts before and after it, for joined lists.
-use Rattle.ip_spec.proofs.Common.{◌≡◌, ℕ, ◌+◌, ◌≤◌, List, [], ◌∷◌, ◌++◌, take, drop, map, refl, ap, sym, ◌∙◌, arith, inl, inr, Bool, true, false, cond, rules, not, count_by, Some, None, is_some, position_or_len, find, before_first, after_first, AllByRecursion, option_or, option_map, cases_Bool, none-some, take-append-drop, sum_by-append, find-append, common_steps}
+use Rattle.ip_spec.proofs.Common.{◌≡◌, ℕ, ◌+◌, ◌≤◌, List, [], ◌∷◌, ◌++◌, take, drop, map, refl, ap, sym, ◌∙◌, arith, inl, inr, Bool, true, false, cond, rules, not, count_by, Some, None, is_some, position_or_len, find, before_first, after_first, AllByRecursion, option_map, cases_Bool, take-append-drop, sum_by-append, common_steps}
 
 module _ {X : Type 0} (t : X → Bool) where
   module _ (x : X) (xs : List X) where
@@ -8,9 +8,6 @@ module _ {X : Type 0} (t : X → Bool) where
 
     pub before-no : t x ≡ false → before_first t (x ∷ xs) ≡ x ∷ before_first t xs
     before-no e = search rules
-
-    after-no : t x ≡ false → after_first t (x ∷ xs) ≡ after_first t xs
-    after-no e = search rules
 
     pub find-yes : t x ≡ true → find t (x ∷ xs) ≡ Some x
     find-yes e = ap (λ b. cond b (Some x) (find t xs)) e
@@ -22,79 +19,49 @@ module _ {X : Type 0} (t : X → Bool) where
   count-append xs ys = sum_by-append (λ x. cond (t x) 1 0) xs ys
 
   pub count_yes : (x : X) (xs : List X) → t x ≡ true → count_by t (x ∷ xs) ≡ 1 + count_by t xs
-  count_yes x xs e = let one : count_by t (x ∷ []) ≡ 1 = ap (λ b. 0 + cond b 1 0) e in omega (arith, count-append (x ∷ []) xs)
+  count_yes x xs e = grind (arith, common_steps)
 
   pub count_no : (x : X) (xs : List X) → t x ≡ false → count_by t (x ∷ xs) ≡ count_by t xs
-  count_no x xs e = let none : count_by t (x ∷ []) ≡ 0 = ap (λ b. 0 + cond b 1 0) e in omega (arith, count-append (x ∷ []) xs)
+  count_no x xs e = grind (arith, common_steps)
 
   -- If none passes, the elements that follow keep their side of the first that does.
   pub before-none : (xs ys : List X) → count_by t xs ≡ 0 → before_first t (xs ++ ys) ≡ xs ++ before_first t ys
   before-none [] ys e = refl
-  before-none (x ∷ xs) ys e = elim (cases_Bool (t x)) [
-    | inl w ↦ absurd (omega (arith, count_yes x xs w, e))
-    | inr w ↦ before-no x (xs ++ ys) w ∙ ap (λ l. x ∷ l) (before-none xs ys (sym (count_no x xs w) ∙ e))
-  ]
+  before-none (x ∷ xs) ys e = search (rules, cases_Bool (t x), count_yes, before-no, before-none xs ys, count_no)
 
   pub after-none : (xs ys : List X) → count_by t xs ≡ 0 → after_first t (xs ++ ys) ≡ after_first t ys
   after-none [] ys e = refl
-  after-none (x ∷ xs) ys e = elim (cases_Bool (t x)) [
-    | inl w ↦ absurd (omega (arith, count_yes x xs w, e))
-    | inr w ↦ after-no x (xs ++ ys) w ∙ after-none xs ys (sym (count_no x xs w) ∙ e)
-  ]
+  after-none (x ∷ xs) ys e = grind (arith, common_steps, after-none xs ys)
 
   -- If one does, the elements that follow are after it.
   pub before-some : (xs ys : List X) → 1 ≤ count_by t xs → before_first t (xs ++ ys) ≡ before_first t xs
   before-some [] ys l = absurd (omega arith)
-  before-some (x ∷ xs) ys l = elim (cases_Bool (t x)) [
-    | inl w ↦ before-yes x (xs ++ ys) w ∙ sym (before-yes x xs w)
-    | inr w ↦ before-no x (xs ++ ys) w ∙ ap (λ l. x ∷ l) (before-some xs ys (omega (arith, count_no x xs w, l))) ∙ sym (before-no x xs w)
-  ]
+  before-some (x ∷ xs) ys l = grind (arith, common_steps, before-yes, before-no, before-some xs ys)
 
   pub after-some : (xs ys : List X) → 1 ≤ count_by t xs → after_first t (xs ++ ys) ≡ after_first t xs ++ ys
   after-some [] ys l = absurd (omega arith)
-  after-some (x ∷ xs) ys l = elim (cases_Bool (t x)) [
-    | inl w ↦ search rules
-    | inr w ↦ after-no x (xs ++ ys) w ∙ after-some xs ys (omega (arith, count_no x xs w, l)) ∙ ap (λ l. l ++ ys) (sym (after-no x xs w))
-  ]
+  after-some (x ∷ xs) ys l = grind (arith, common_steps, after-some xs ys)
 
   -- of a single element
   pub after_one : (x : X) → after_first t (x ∷ []) ≡ []
-  after_one x = search (rules, cases_Bool, after-no)
+  after_one x = search rules
 
   -- The first that passes exists if the count is not 0, and one more follows it if the count is more.
   pub counted : (xs : List X) → is_some (find t xs) ≡ true → 1 ≤ count_by t xs
   counted [] e = absurd (cc)
-  counted (x ∷ xs) e = elim (cases_Bool (t x)) [
-    | inl w ↦ omega (arith, count_yes x xs w)
-    | inr w ↦ omega (arith, count_no x xs w, counted xs (sym (ap is_some (find-no x xs w)) ∙ e))
-  ]
+  counted (x ∷ xs) e = grind (arith, common_steps, counted xs)
 
   pub none_counted : (xs : List X) → is_some (find t xs) ≡ false → count_by t xs ≡ 0
   none_counted [] e = refl
-  none_counted (x ∷ xs) e = elim (cases_Bool (t x)) [
-    | inl w ↦ absurd (cc)
-    | inr w ↦ count_no x xs w ∙ none_counted xs (sym (ap is_some (find-no x xs w)) ∙ e)
-  ]
+  none_counted (x ∷ xs) e = grind (arith, common_steps, none_counted xs)
 
   pub none_passes : (xs : List X) → find t xs ≡ None → AllByRecursion (λ x. t x ≡ false) xs
   none_passes [] e = tt
-  none_passes (x ∷ xs) e = elim (cases_Bool (t x)) [
-    | inl w ↦ absurd (none-some x (sym e ∙ find-yes x xs w))
-    | inr w ↦ (w, none_passes xs (sym (find-no x xs w) ∙ e))
-  ]
+  none_passes (x ∷ xs) e = grind (arith, common_steps, none_passes xs)
 
   pub find_passes : (xs : List X) (x : X) → find t xs ≡ Some x → t x ≡ true
   find_passes [] x e = absurd (cc)
-  find_passes (y ∷ ys) x e = elim (cases_Bool (t y)) [
-    | inl w ↦ search rules
-    | inr w ↦ find_passes ys x (sym (find-no y ys w) ∙ e)
-  ]
-
-  pub find_more-yes : (xs : List X) (x : X) → t x ≡ true → find t (xs ++ x ∷ []) ≡ option_or (find t xs) (Some x)
-  find_more-yes xs x e = find-append t xs (x ∷ []) ∙ ap (λ o. option_or (find t xs) o) (find-yes x [] e)
-
-  pub find_more-no : (xs : List X) (x : X) → t x ≡ false → find t (xs ++ x ∷ []) ≡ find t xs
-  find_more-no xs x e = search (rules, find-append, find-no)
+  find_passes (y ∷ ys) x e = grind (arith, common_steps, find_passes ys x)
 
 -- On neither side do more elements pass a test than in the whole list.
 module _ {X : Type 0} (t u : X → Bool) (xs : List X) where

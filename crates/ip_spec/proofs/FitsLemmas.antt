@@ -1,9 +1,9 @@
 -- Chains whose headers fit six places.
-use Rattle.ip_spec.proofs.Common.{◌≡◌, ℕ, ◌≤◌, ◌<◌, List, [], ◌∷◌, ◌++◌, length, drop, map, refl, ap, sym, ◌∙◌, arith, inl, inr, ◌⊎◌, subst, rules, ◌==◌, ◌↔◌, count_by, cases_lt, append-nil, length-append, common_steps, ExtHeader, leads_to, bytes_of, is_empty, IsPrefixChain, IsLongestChain, IsNext, IsEnd, IsDemand, IsLongestUnder, NextBreaks, Place, destination, routing, final_destination, places, side_of, number_in, Fits, FitsPlaces, IsOccupied}
+use Rattle.ip_spec.proofs.Common.{◌≡◌, ℕ, ◌≤◌, ◌<◌, List, [], ◌∷◌, ◌++◌, length, drop, map, refl, ap, sym, ◌∙◌, arith, ◌⊎◌, rules, ◌==◌, ◌↔◌, count_by, cases_lt, append-nil, length-append, common_steps, ExtHeader, leads_to, bytes_of, is_empty, IsPrefixChain, IsLongestChain, IsNext, IsEnd, IsDemand, IsLongestUnder, NextBreaks, Place, destination, routing, final_destination, places, side_of, number_in, Fits, FitsPlaces, IsOccupied}
 use Rattle.ip_spec.proofs.HeaderLemmas.{header_number, later_of}
 use Rattle.ip_spec.specs.Places.{fragment}
 use Rattle.ip_spec.proofs.FirstLemmas.{count-append, count_before, count_after, before-map, after-map, count-map}
-use Rattle.ip_spec.proofs.PlaceLemmas.{place_of, has_routing, is_of, side, count_in, bare, none_yet, one_before, sides, nothing_on, fits_next, none_there, breaks_occupied}
+use Rattle.ip_spec.proofs.PlaceLemmas.{place_of, has_routing, is_of, count_in, bare, sides, fits_next, none_there, breaks_occupied}
 use Rattle.ip_spec.proofs.DemandKinds.{all_or}
 use Rattle.ip_spec.proofs.UnderLemmas.{longest_ends_under, longest_keeps}
 use Rattle.ip_spec.proofs.LongestOfLemmas.{begins_first}
@@ -12,9 +12,7 @@ use Rattle.ip_spec.proofs.ChainLemmas.{longest_ends}
 
 -- Headers after a chain add to the counts.
 count_grows : (p : Place) (c d : List ExtHeader) → count_in p c ≤ count_in p (c ++ d)
-count_grows destination c d = search (rules, sides, none_yet, count-append, one_before)
-count_grows final_destination c d = grind (arith, common_steps, sides c d, count-append (is_of final_destination) (side final_destination c) d)
-count_grows p c d = omega (arith, count-append (is_of p) c d)
+count_grows p c d = search (rules, sides c d, count-append)
 
 -- whether each place has a property
 each_or : (P : Place → Type 0) → ((p : Place) → P p ⊎ (P p → ⊥)) → ((p : Place) → P p) ⊎ (((p : Place) → P p) → ⊥)
@@ -22,21 +20,17 @@ each_or P test = grind (arith, common_steps, all_or P test places, fragment)
 
 pub fits_places : IsDemand FitsPlaces
 fits_places = record {
-  empty = λ p. omega (arith, ap (count_by (is_of p)) (nothing_on p));
+  empty = search rules;
   begins = λ c d f p. omega (arith, count_grows p c d, f p);
-  decided = λ c. each_or (λ p. count_in p c ≤ 1) (λ p. elim (cases_lt 1 (count_in p c)) [ inl l ↦ inr (λ w. omega arith) | inr l ↦ inl l ]);
+  decided = λ c. each_or (λ p. count_in p c ≤ 1) (λ p. search (rules, cases_lt 1 (count_in p c)));
 }
 
 -- The headers after a prefix of a chain that fits, fit by themselves, and so does each single header.
 pub fits_after : (c d : List ExtHeader) → FitsPlaces (c ++ d) → FitsPlaces d
-fits_after c d f destination = elim (sides c d) [
-  | none_yet none all nothing b a ↦ omega (arith, f destination, ap (count_by (is_of destination)) b, count-append (is_of destination) c (side destination d))
-  | one_before some b a ↦ omega (arith, f final_destination, ap (count_by (is_of destination)) a, count-append (is_of destination) (side final_destination c) d, count_before (is_of destination) (is_of routing) d)
-]
-fits_after c d f final_destination = elim (sides c d) [
-  | none_yet none all nothing b a ↦ omega (arith, f final_destination, ap (count_by (is_of destination)) a)
-  | one_before some b a ↦ omega (arith, f final_destination, ap (count_by (is_of destination)) a, count-append (is_of destination) (side final_destination c) d, count_after (is_of destination) (is_of routing) d)
-]
+fits_after c d f destination =
+    search (rules, sides c d, f destination, f final_destination, count-append (is_of destination), count_before (is_of destination) (is_of routing) d)
+fits_after c d f final_destination =
+    search (rules, sides c d, f final_destination, count-append (is_of destination), count_after (is_of destination) (is_of routing) d)
 fits_after c d f p = omega (arith, f p, count-append (is_of p) c d)
 
 pub one_fits : (h : ExtHeader) → FitsPlaces (h ∷ [])
@@ -54,7 +48,7 @@ next_breaks c m r h fits x breaks =
 
 -- At the end of the longest chain that fits, no header follows, unless the place of its number is occupied.
 pub fitting_ends : (n : ℕ) (s : List ℕ) (c : List ExtHeader) → IsLongestUnder FitsPlaces n s c → (IsOccupied (leads_to n c) c → ⊥) → IsEnd (is_empty c) (leads_to n c) (drop (length (bytes_of c)) s)
-fitting_ends n s c l free h x = free (next_breaks c (leads_to n c) (drop (length (bytes_of c)) s) h l.has.1 x (longest_ends_under FitsPlaces fits_places n s c l h x))
+fitting_ends n s c l free h x = search (rules, free, next_breaks, longest_ends_under, fits_places)
 
 -- after the prefix of a chain that fits, the place of the number is occupied
 pub next_occupied : (n : ℕ) (s : List ℕ) (p rest : List ExtHeader) → IsPrefixChain n s (p ++ rest) → FitsPlaces p → NextBreaks FitsPlaces p rest → (rest ≡ [] → IsOccupied (leads_to n p) p) → IsOccupied (leads_to n p) p
@@ -70,21 +64,19 @@ module _ {X Y : Type 0} (f : X → Y) (number : Y → ℕ) where
   side-map p xs = refl
 
   count-side : (p : Place) (xs : List X) → count_by (λ y. number y == number_in p) (side_of number p (map f xs)) ≡ count_by (λ x. number (f x) == number_in p) (side_of (λ x. number (f x)) p xs)
-  count-side p xs = ap (count_by (λ y. number y == number_in p)) (side-map p xs) ∙ sym (count-map f (λ y. number y == number_in p) (side_of (λ x. number (f x)) p xs))
+  count-side p xs = search (rules, side-map, count-map)
 
   pub fits-map : (xs : List X) → Fits number (map f xs) ↔ Fits (λ x. number (f x)) xs
-  fits-map xs = ((λ fits p. omega (arith, count-side p xs, fits p)), λ fits p. omega (arith, count-side p xs, fits p))
+  fits-map xs = search (rules, count-side)
 
 -- It is shorter than the longest chain if and only if a header follows whose place is occupied.
 module _ (n : ℕ) (s : List ℕ) (d c : List ExtHeader) (l : IsLongestChain n s d) (u : IsLongestUnder FitsPlaces n s c) where
   pub occupied_where_shorter : length c < length d → IsOccupied (leads_to n c) c
   occupied_where_shorter w =
-      let C : List ExtHeader → Type 0 = IsPrefixChain n s in
       let k = longest_keeps FitsPlaces fits_places n s d c l u in
-      next_occupied n s c k.rest (subst C k.joined l.has) k.meets k.breaks (λ e. absurd (omega (arith, ap length k.joined, ap length e, length-append c k.rest, w)))
-
-  longer_after : (rest : List ExtHeader) → d ≡ c ++ rest → (h : ExtHeader) → IsNext (is_empty c) (leads_to n c) (drop (length (bytes_of c)) s) h → length c < length d
-  longer_after rest e h x = search (rules, longest_ends, append-nil, length-append)
+      next_occupied n s c k.rest (search rules) k.meets k.breaks (search (rules, append-nil))
 
   pub shorter_where_next : (h : ExtHeader) → IsNext (is_empty c) (leads_to n c) (drop (length (bytes_of c)) s) h → length c < length d
-  shorter_where_next h x = let k = longest_keeps FitsPlaces fits_places n s d c l u in longer_after k.rest k.joined h x
+  shorter_where_next h x =
+      let k = longest_keeps FitsPlaces fits_places n s d c l u in
+      grind (arith, common_steps, longest_ends n s c, append-nil, length-append)

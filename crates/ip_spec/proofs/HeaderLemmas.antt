@@ -1,5 +1,5 @@
 -- Headers, and headers at the start of bytes.
-use Rattle.ip_spec.proofs.Common.{◌≡◌, ◌≢◌, ℕ, zero, suc, ◌+◌, ◌*◌, ◌<◌, ◌≤◌, List, ◌++◌, length, get_or, take, drop, refl, ap, sym, ◌∙◌, arith, inl, inr, ◌⊎◌, subst, Bool, true, false, nat_eq, cond, slice_index, rules, common_steps, get_or_append_left, take_at, length-take-le, take-append_seam, eqb_tells, IsHeader, IsRawHeader, IsFragmentHeader, IsAuthHeader, IsRawNumber, IsExtensionNumber, IsLaterNumber, raw, fragment, auth, IsPrefix, ExtHeader, IsNext, IsEnd}
+use Rattle.ip_spec.proofs.Common.{◌≡◌, ◌≢◌, ℕ, zero, suc, ◌+◌, ◌*◌, ◌<◌, ◌≤◌, List, ◌++◌, length, get_or, take, drop, refl, ap, sym, ◌∙◌, arith, inl, inr, ◌⊎◌, subst, Bool, true, false, nat_eq, cond, slice_index, rules, common_steps, get_or_append_left, length-take-le, take-append_seam, eqb_tells, IsHeader, IsRawHeader, IsFragmentHeader, IsAuthHeader, IsRawNumber, IsExtensionNumber, IsLaterNumber, raw, fragment, auth, IsPrefix, ExtHeader, IsNext, IsEnd}
 use Rattle.ip_spec.proofs.PrefixLemmas.{prefix-append, prefix_of-take, prefix-length}
 
 pub eq_or : (m n : ℕ) → (m ≡ n) ⊎ (m ≢ n)
@@ -16,7 +16,7 @@ pub kind : (n : ℕ) → Kind n
 kind n = search rules
 
 pub header_number : (n : ℕ) (b : List ℕ) → IsHeader n b → IsExtensionNumber n
-header_number n b h = elim h [ raw k r ↦ inl k | fragment e f ↦ inr (inl e) | auth e a ↦ inr (inr e) ]
+header_number n b h = search rules
 
 -- A property of 0, 43 and 60 holds for each number of the uniform format (RFC 6564),
 pub by_raw : (S : ℕ → Type 0) → S 0 → S 43 → S 60 → (n : ℕ) → IsRawNumber n → S n
@@ -28,7 +28,7 @@ by_number S a b c d e n x = search rules
 
 -- The extension numbers except 0 are those of headers that may follow another.
 pub later_of : (n : ℕ) → IsExtensionNumber n → n ≢ 0 → IsLaterNumber n
-later_of = by_number (λ n. n ≢ 0 → IsLaterNumber n) (λ z. absurd (z refl)) (λ z. inl refl) (λ z. inr (inr (inr refl))) (λ z. inr (inl refl)) (λ z. inr (inr (inl refl)))
+later_of n x z = search rules
 
 pub later_extension : (n : ℕ) → IsLaterNumber n → IsExtensionNumber n
 later_extension n l = search rules
@@ -41,13 +41,13 @@ later_or n = search rules
 
 -- The format of the headers of a number.
 pub raw_of : (n : ℕ) (b : List ℕ) → IsRawNumber n → IsHeader n b → IsRawHeader b
-raw_of n b k h = elim h [ raw k' r ↦ r | fragment e f ↦ absurd (grind (arith, common_steps)) | auth e a ↦ absurd (grind (arith, common_steps)) ]
+raw_of n b k h = search rules
 
 pub fragment_of : (n : ℕ) (b : List ℕ) → n ≡ 44 → IsHeader n b → IsFragmentHeader b
-fragment_of n b k h = elim h [ raw k' r ↦ absurd (grind (arith, common_steps)) | fragment e f ↦ f | auth e a ↦ absurd (omega arith) ]
+fragment_of n b k h = search rules
 
 pub auth_of : (n : ℕ) (b : List ℕ) → n ≡ 51 → IsHeader n b → IsAuthHeader b
-auth_of n b k h = elim h [ raw k' r ↦ absurd (grind (arith, common_steps)) | fragment e f ↦ absurd (omega arith) | auth e a ↦ a ]
+auth_of n b k h = search rules
 
 pub header-least : (n : ℕ) (b : List ℕ) → IsHeader n b → 8 ≤ length b
 header-least n b h = elim h [ raw k r ↦ omega (arith, r.len) | fragment k f ↦ omega (arith, f.len) | auth k a ↦ omega (arith, a.len, a.not_zero) ]
@@ -69,11 +69,10 @@ pub one_header : (n : ℕ) (b d x y : List ℕ) → IsHeader n b → IsHeader n 
 one_header n b d x y hb hd e =
     let lb : 8 ≤ length b = header-least n b hb in
     let ld : 8 ≤ length d = header-least n d hd in
-    let same_byte : slice_index b 1 ≡ slice_index d 1 =
-    sym (get_or_append_left b x 0 1 (omega arith)) ∙ ap (λ l. get_or l 1 0) e ∙ get_or_append_left d y 0 1 (omega arith) in
-    let same_len : length b ≡ length d =
-    header-told n b hb ∙ ap (told n) same_byte ∙ sym (header-told n d hd) in
-    sym (take-append_seam b x) ∙ ap (take (length b)) e ∙ take_at d y (length b) (sym same_len)
+    let one = get_or_append_left b x 0 1 (omega arith) in
+    let other = get_or_append_left d y 0 1 (omega arith) in
+    let same_len : length b ≡ length d = cc (header-told n b hb, header-told n d hd) in
+    cc (take-append_seam b x, take-append_seam d y)
 
 -- s starts with a header of fewer than k bytes, or not
 short_header_or : (n : ℕ) (s : List ℕ) (k : ℕ) → ((b : List ℕ) × IsHeader n b × IsPrefix b s) ⊎ ((b : List ℕ) → IsHeader n b → IsPrefix b s → length b < k → ⊥)

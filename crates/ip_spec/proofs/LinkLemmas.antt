@@ -1,5 +1,5 @@
 -- A walk over headers linked in the order of their places reaches the end.
-use Rattle.ip_spec.proofs.Common.{◌≡◌, ℕ, ◌+◌, ◌<◌, List, [], ◌∷◌, ◌++◌, drop, refl, ap, sym, ◌∙◌, arith, inl, inr, subst, Bool, true, false, cond, rules, Option, Some, None, is_some, ◌==◌, nat_lt, if◌then◌else◌, find, option_map, option_map_or, cases_Bool, eqb-true, le-ltb, All-from_recursion, recursion_from_All, IsHeader, next_header, ExtHeader, Place, hop_by_hop, destination, routing, authentication, final_destination, places, index, number_in, fields_of, HeaderFields, IsCleared, IsEncoded, IsEncodable, PlacedFields, IsWalkAnswer, next_place, next_in_chain, next_of, relinked, first_number, linked}
+use Rattle.ip_spec.proofs.Common.{◌≡◌, ℕ, ◌+◌, ◌<◌, List, [], ◌∷◌, ◌++◌, drop, refl, ap, sym, ◌∙◌, arith, Bool, true, false, rules, Option, Some, None, is_some, ◌==◌, nat_lt, if◌then◌else◌, option_map, cases_Bool, eqb-true, le-ltb, All-from_recursion, recursion_from_All, IsHeader, next_header, ExtHeader, Place, hop_by_hop, destination, routing, authentication, final_destination, places, index, number_in, fields_of, HeaderFields, IsCleared, IsEncoded, IsEncodable, PlacedFields, IsWalkAnswer, next_place, next_in_chain, next_of, relinked, first_number, linked}
 use Rattle.ip_spec.specs.Places.{fragment as fragment_place}
 use Rattle.ip_spec.proofs.HeaderLemmas.{header-least}
 use Rattle.ip_spec.proofs.PlaceLemmas.{place_of, same_place, in_both, next_own}
@@ -25,18 +25,9 @@ module _ (m x0 : ℕ) (rest : List ℕ) (small : m < 256) where
 relinked_list : (n j k : ℕ) (x : HeaderFields) (b : List ℕ) → j < 256 → IsEncoded n x (of_number k b) → (h : ExtHeader) × IsEncoded n (relinked j x) h
 relinked_list n j k x [] small e = absurd (omega (arith, header-least n [] e.header))
 relinked_list n j k x (x0 ∷ rest) small e =
-    let H : ℕ → Type 0 = λ i. IsHeader i (x0 ∷ rest) in
-    let I : ℕ → Type 0 = λ i. IsHeader i (j ∷ rest) in
-    let same : Relinked j x0 rest small k = relinked_same j x0 rest small k (subst H (sym e.number) e.header) e.cleared in (
-      of_number k (j ∷ rest),
-      record {
-        number = e.number;
-        header = subst I e.number same.header;
-        fields = same.fields ∙ ap (relinked j) e.fields;
-        cleared = same.cleared;
-        bytes = All-from_recursion (λ y. y < 256) (j ∷ rest) (small, (recursion_from_All (λ y. y < 256) (x0 ∷ rest) e.bytes).1);
-      },
-    )
+    let same : Relinked j x0 rest small k = relinked_same j x0 rest small k (rw e.number e.header) e.cleared in
+    let bytes = All-from_recursion (λ y. y < 256) (j ∷ rest) (small, (recursion_from_All (λ y. y < 256) (x0 ∷ rest) e.bytes).1) in
+    search (rules, same, bytes)
 
 pub relinked_encoded : (n j : ℕ) (x : HeaderFields) (h : ExtHeader) → j < 256 → IsEncoded n x h → (g : ExtHeader) × IsEncoded n (relinked j x) g
 relinked_encoded n j x h small e = relinked_list n j h.number x h.bytes small e
@@ -50,12 +41,10 @@ mapped_some j o y e = search rules
 pub linked_encodable : (v : PlacedFields) (m : ℕ) → m < 256 → IsEncodable v → IsEncodable (linked v m)
 linked_encodable v m small e = record {
   encoded = λ p y k.
-      let j : ℕ = first_number v (drop (index p + 1) places) m in
-      let it = mapped_some j (v p) y k in
+      let it = mapped_some (first_number v (drop (index p + 1) places) m) (v p) y k in
       let own = e.encoded p it.0 it.1 in
-      let E : HeaderFields → Type 0 = λ z. (h : ExtHeader) × IsEncoded (number_in p) z h in
-      subst E it.2 (relinked_encoded (number_in p) j it.0 own.0 (first_number_small v (drop (index p + 1) places) m small) own.1);
-  nested = λ k. is_some-map _ (v routing) ∙ e.nested (sym (is_some-map _ (v final_destination)) ∙ k);
+      rw it.2 at (relinked_encoded (number_in p) _ it.0 own.0 (first_number_small v (drop (index p + 1) places) m small) own.1);
+  nested = search (rules, is_some-map, e.nested);
 }
 
 -- the fields contain the next header
@@ -86,60 +75,34 @@ module _ (v : PlacedFields) (m : ℕ) (small : m < 256) (e : IsEncodable v) wher
 
   -- one more place
   fills : (p : Place) → is_some (w p) ≡ true → FillsIn p (first_k (index p) w) (first_k (index p + 1) w)
-  fills p some q = elim (cases_Bool (index p == index q)) [
-    | inl same ↦
-        ap (λ b. is_some (if b then w q else None)) (below p q ∙ ap (λ b. if b then true else nat_lt (index q) (index p)) same)
-        ∙ ap (λ r. is_some (w r)) (sym (same_place p q (eqb-true (index p) (index q) same))) ∙ some ∙ sym (ap (λ b. if b then true else is_some (first_k (index p) w q)) same)
-    | inr other ↦
-        ap (λ b. is_some (if b then w q else None)) (below p q ∙ ap (λ b. if b then true else nat_lt (index q) (index p)) other)
-        ∙ sym (ap (λ b. if b then true else is_some (first_k (index p) w q)) other)
-  ]
+  fills p some q = search (rules, cases_Bool (index p == index q), same_place, eqb-true, below)
 
   skipped : (p : Place) → is_some (w p) ≡ false → (q : Place) → is_some (first_k (index p + 1) w q) ≡ is_some (first_k (index p) w q)
   skipped p none q = search rules
-
-  number_none : (p : Place) (ps : List Place) → v p ≡ None → first_number v (p ∷ ps) m ≡ first_number v ps m
-  number_none p ps none = ap (λ o. option_map_or number_in (cond (is_some o) (Some p) (find (λ q. is_some (v q)) ps)) m) none
-
-  number_some : (p : Place) (ps : List Place) (x : HeaderFields) → v p ≡ Some x → first_number v (p ∷ ps) m ≡ number_in p
-  number_some p ps x some = ap (λ o. option_map_or number_in (cond (is_some o) (Some p) (find (λ q. is_some (v q)) ps)) m) some
 
   module _ (p : Place) (at : drop (index p) places ≡ p ∷ drop (index p + 1) places) (up : Up (index p)) where
     step_none : v p ≡ None → Up (index p + 1)
     step_none none =
         let k = up.walking in
         let absent : is_some (w p) ≡ false = is_some-map (relinked (first_number v (drop (index p + 1) places) m)) (v p) ∙ ap is_some none in
-        record {
-          reached = up.reached;
-          first = up.first;
-          walking = record {
-            in_value = k.in_value;
-            filled = λ q. skipped p absent q ∙ k.filled q;
-            number = sym (ap (λ l. first_number v l m) at ∙ number_none p (drop (index p + 1) places) none) ∙ k.number;
-            first_is = k.first_is;
-          };
-        }
+        let number : first_number v (drop (index p + 1) places) m ≡ first_number v (drop (index p) places) m = cc in
+        record { reached = up.reached; first = up.first; walking = search (rules, k, skipped p absent, number) }
 
     step_some : (x : HeaderFields) → v p ≡ Some x → next_in_chain up.first (first_k (index p) w) (number_in p) ≡ Some p → Up (index p + 1)
     step_some x some goes =
         let j : ℕ = first_number v (drop (index p + 1) places) m in
         let here : w p ≡ Some (relinked j x) = ap (option_map (relinked j)) some in
         let it = (linked_encodable v m small e).encoded p (relinked j x) here in
-        let number : first_number v (drop (index p) places) m ≡ number_in p = ap (λ l. first_number v l m) at ∙ number_some p (drop (index p + 1) places) x some in
-        let next : next_header it.0.bytes ≡ j = sym (next_said it.0) ∙ ap next_of it.1.fields ∙ next_relinked j x in
+        let number : first_number v (drop (index p) places) m ≡ number_in p = cc in
         record {
           reached = up.reached ++ it.0 ∷ [];
           first = false;
           walking = walks_on w f up.reached (first_k (index p) w) (first_number v (drop (index p) places) m) up.first up.walking p (relinked j x) it.0
-              (ap (next_in_chain up.first (first_k (index p) w)) number ∙ goes) here it.1 (first_k (index p + 1) w) j false (fills p (ap is_some here)) (sym next) refl;
+              (rw number goes) here it.1 (first_k (index p + 1) w) j false (fills p (ap is_some here)) (cc (next_said it.0, next_relinked j x)) refl;
         }
 
     step : ((x : HeaderFields) → v p ≡ Some x → next_in_chain up.first (first_k (index p) w) (number_in p) ≡ Some p) → Up (index p + 1)
-    step goes = step_at (v p) refl
-      where
-        step_at : (o : Option HeaderFields) → v p ≡ o → Up (index p + 1)
-        step_at None none = step_none none
-        step_at (Some x) some = step_some x some (goes x some)
+    step goes = elim (v p) as (λ o. v p ≡ o → Up (index p + 1)) [ None ↦ step_none | Some x ↦ λ some. step_some x some (goes x some) ] refl
 
   -- each place is next when its turn comes
   after_routing : (k n : ℕ) (p : Place) → place_of n false ≡ Some p → place_of n true ≡ Some p → is_some (first_k k w p) ≡ false → next_place (first_k k w) n ≡ Some p
@@ -160,11 +123,7 @@ module _ (v : PlacedFields) (m : ℕ) (small : m < 256) (e : IsEncodable v) wher
   pub linked_leads : IsWalkAnswer (linked v m) (first_number v places m) (leads m)
   linked_leads =
       let u : Up 6 = all_reached in
+      let all_in : (p : Place) → is_some (first_k 6 w p) ≡ is_some (w p) = λ p. search rules in
+      let none_left : (p : Place) → None ≡ left w (first_k 6 w) p = λ p. search rules in
       walk_answers w f u.reached (first_k 6 w) m u.first u.walking (λ p. None) m (leads m)
-      (λ p at. none_if (w p) (sym (all_in p) ∙ free_in_chain w (first_k 6 w) m u.first p at)) (λ p. sym (none_left p)) refl (sym (leads_where_none m (λ p. None) (λ p. refl)))
-    where
-      all_in : (p : Place) → is_some (first_k 6 w p) ≡ is_some (w p)
-      all_in p = search rules
-
-      none_left : (p : Place) → left w (first_k 6 w) p ≡ None
-      none_left p = search rules
+      (λ p at. none_if (w p) (sym (all_in p) ∙ free_in_chain w (first_k 6 w) m u.first p at)) none_left refl (sym (leads_where_none m (λ p. None) (λ p. refl)))

@@ -1,5 +1,5 @@
 -- A chain that is parsed from the start of bytes.
-use Rattle.ip_spec.proofs.Common.{◌≡◌, ℕ, ◌+◌, ◌-◌, List, [], ◌∷◌, ◌++◌, length, drop, refl, ap, sym, ◌∙◌, arith, subst, Bool, nat_eq, rules, Option, drop-append_seam, eqb_tells, AllByRecursion, common_steps, IsHeader, next_header, AreBytes, ExtHeader, leads_to, bytes_of, is_empty, IsChain, IsPrefixChain, IsLongestChain, IsNext, IsEnd, IsAnswer, IsParsed, IsDemand, IsLongestUnder, IsEndUnder, NoDemand}
+use Rattle.ip_spec.proofs.Common.{◌≡◌, ℕ, ◌-◌, List, [], ◌∷◌, ◌++◌, length, drop, ap, sym, arith, nat_eq, rules, Option, drop-append_seam, common_steps, next_header, AreBytes, ExtHeader, leads_to, bytes_of, is_empty, IsChain, IsPrefixChain, IsLongestChain, IsNext, IsEnd, IsAnswer, IsParsed, IsDemand, IsLongestUnder, IsEndUnder, NoDemand}
 use Rattle.ip_spec.proofs.PrefixLemmas.{prefix-length, prefix_of-append, rest_join}
 use Rattle.ip_spec.proofs.UnderLemmas.{longest_at_end_under, one_longest_under, some_longest_under, whole_longest_under, no_demand, longest_without}
 use Rattle.ip_spec.proofs.ChainLemmas.{no_chain, goes_on, bytes_of-more, leads_to-more, bytes_of-least}
@@ -11,7 +11,7 @@ pub record HasParsed (n : ℕ) (s : List ℕ) (c : List ExtHeader) (m : ℕ) (r 
   pub rest : r ≡ drop (length (bytes_of c)) s
 
 pub has_parsed_none : (n : ℕ) (s : List ℕ) → HasParsed n s [] n s
-has_parsed_none n s = record { prefix_chain = record { chain = no_chain n; prefix = refl }; number = refl; rest = refl }
+has_parsed_none n s = search (rules, no_chain)
 
 module _ (n : ℕ) (s : List ℕ) (c : List ExtHeader) (m : ℕ) (r : List ℕ) where
   pub next_there : (h : ExtHeader) → HasParsed n s c m r → IsNext (is_empty c) m r h → IsNext (is_empty c) (leads_to n c) (drop (length (bytes_of c)) s) h
@@ -26,10 +26,7 @@ module _ (n : ℕ) (s : List ℕ) (c : List ExtHeader) (m : ℕ) (r : List ℕ) 
       record {
         prefix_chain = goes_on n s c h p.prefix_chain there;
         number = sym (leads_to-more n c h);
-        rest =
-            ap (drop (length h.bytes)) p.rest
-            ∙ rest_join (bytes_of c) h.bytes s p.prefix_chain.prefix there.prefix
-            ∙ ap (λ (b : List ℕ). drop (length b) s) (sym (bytes_of-more c h));
+        rest = cc (rest_join (bytes_of c) h.bytes s p.prefix_chain.prefix there.prefix, bytes_of-more c h);
       }
 
 -- in addition, c meets the demand Q
@@ -53,9 +50,7 @@ module _ (Q : List ExtHeader → Type 0) (k : IsDemand Q) (n : ℕ) (s : List �
     pub parsed_answers : {X F : Type 0} (value_of : List ExtHeader → X) (faults : List ExtHeader → ℕ → List ℕ → Option F) (x : X) (f : Option F) → HasParsedUnder Q n s c m r → IsEndUnder Q c m r → x ≡ value_of c → f ≡ faults c m r
         → IsAnswer value_of faults (some_longest_under Q k n s).0 n s x m r f
     parsed_answers value_of faults x f p e value fault =
-        let A : List ExtHeader → Type 0 = λ d. IsAnswer value_of faults d n s x m r f in
-        subst A (one_longest_under Q k n s c _ (parsed_longest_under p e) (some_longest_under Q k n s).1)
-        (search rules)
+        rw (one_longest_under Q k n s _ c (some_longest_under Q k n s).1 (parsed_longest_under p e)) (search rules)
 
 module _ (Q : List ExtHeader → Type 0) (k : IsDemand Q) (n m : ℕ) where
   -- a chain is parsed from its bytes with more bytes after them
@@ -70,9 +65,8 @@ module _ (Q : List ExtHeader → Type 0) (k : IsDemand Q) (n m : ℕ) where
   pub parsed_again : {X F : Type 0} (value_of : List ExtHeader → X) (faults : List ExtHeader → ℕ → List ℕ → Option F) (x : X) (f : Option F) (s r : List ℕ) (e : IsParsed Q (λ c. value_of c ≡ x) n m s) → IsEndUnder Q e.chain m r → f ≡ faults e.chain m r
       → IsAnswer value_of faults (some_longest_under Q k n (s ++ r)).0 n (s ++ r) x m r f
   parsed_again value_of faults x f s r e ends fault =
-      let A : List ℕ → Type 0 = λ l. IsAnswer value_of faults (some_longest_under Q k n (l ++ r)).0 n (l ++ r) x m r f in
       let read = has_parsed_before e.chain r e.longest.has.0.chain e.longest.has.1 (sym e.number) in
-      subst A e.all (parsed_answers Q k n (bytes_of e.chain ++ r) e.chain m r value_of faults x f read ends (sym e.value) fault)
+      rw (← e.all) (parsed_answers Q k n (bytes_of e.chain ++ r) e.chain m r value_of faults x f read ends (sym e.value) fault)
 
 module _ (n : ℕ) (s : List ℕ) (c : List ExtHeader) (m : ℕ) (r : List ℕ) where
   -- the number of bytes parsed, and whether there are any
@@ -83,20 +77,13 @@ module _ (n : ℕ) (s : List ℕ) (c : List ExtHeader) (m : ℕ) (r : List ℕ) 
   parsed_longest p e = longest_without n s c (parsed_longest_under NoDemand no_demand n s c m r (record { read = p; meets = tt }) (λ h x q. e h x))
 
 -- the bytes after a chain are all bytes if and only if it is empty
-after_all : (c : List ExtHeader) (k l : ℕ) → AllByRecursion (λ h. IsHeader h.number h.bytes) c → length (bytes_of c) + k ≡ l → nat_eq k l ≡ is_empty c
-after_all c k l a e = search (rules, eqb_tells, bytes_of-least)
-
 pub first_is : (n : ℕ) (s : List ℕ) (c : List ExtHeader) (m : ℕ) (r : List ℕ) → HasParsed n s c m r → nat_eq (length r) (length s) ≡ is_empty c
-first_is n s c m r p = after_all c (length r) (length s) p.prefix_chain.chain.headers (omega (arith, prefix-length (bytes_of c) s p.prefix_chain.prefix, ap length p.rest))
+first_is n s c m r p = grind (arith, common_steps, bytes_of-least c, prefix-length (bytes_of c) s)
 
 -- The step and the end as in the code: the number of bytes left shows whether the header is the first.
 module _ (n : ℕ) (s : List ℕ) (c : List ExtHeader) (m : ℕ) (r : List ℕ) where
   pub has_parsed_on : (h : ExtHeader) (j : ℕ) (q b : List ℕ) → HasParsed n s c m r → IsNext (nat_eq (length r) (length s)) m r h → j ≡ next_header h.bytes → b ≡ h.bytes → q ≡ drop (length b) r → HasParsed n s (c ++ h ∷ []) j q
-  has_parsed_on h j q b p x ej eb eq =
-      let F : Bool → Type 0 = λ f. IsNext f m r h in
-      let J : ℕ → Type 0 = λ t. HasParsed n s (c ++ h ∷ []) t q in
-      let Q : List ℕ → Type 0 = λ t. HasParsed n s (c ++ h ∷ []) (next_header h.bytes) t in
-      subst J (sym ej) (subst Q (sym (eq ∙ ap (λ (y : List ℕ). drop (length y) r) eb)) (has_parsed_next n s c m r h p (subst F (first_is n s c m r p) x)))
+  has_parsed_on h j q b p x ej eb eq = rw (ej, eq, eb) (has_parsed_next n s c m r h p (rw (first_is n s c m r p) at x))
 
   pub no_next_here : HasParsed n s c m r → IsEnd (nat_eq (length r) (length s)) m r → IsEnd (is_empty c) m r
-  no_next_here p e = let F : Bool → Type 0 = λ f. IsEnd f m r in subst F (first_is n s c m r p) e
+  no_next_here p e = rw (first_is n s c m r p) at e

@@ -1,9 +1,8 @@
 -- The places of a chain's headers, the place of the next header, and the numbers whose place is occupied.
-use Rattle.ip_spec.proofs.Common.{◌≡◌, ℕ, zero, suc, ◌+◌, List, [], ◌∷◌, ◌++◌, refl, ap, sym, ◌∙◌, arith, inl, inr, Bool, true, false, rules, ◌==◌, ◌↔◌, count_by, Option, Some, None, is_some, IsSome, if◌then◌else◌, find, AllByRecursion, option_or, cases_Bool, eqb-true, eq-eqb, eqb_tells, same_Some, append-nil, common_steps, IsExtensionNumber, IsLaterNumber, ExtHeader, Place, hop_by_hop, destination, routing, authentication, final_destination, places, index, number_in, side_of, header_in, next_place, FitsPlaces, IsOccupied}
-use Rattle.std.specs.Prelude.{option_and_then}
+use Rattle.ip_spec.proofs.Common.{◌≡◌, ℕ, ◌+◌, List, [], ◌∷◌, ◌++◌, refl, ap, sym, ◌∙◌, arith, inl, inr, Bool, true, false, rules, ◌==◌, ◌↔◌, count_by, Option, Some, None, is_some, IsSome, if◌then◌else◌, find, find-append, AllByRecursion, option_or, cases_Bool, eqb-true, eq-eqb, eqb_tells, same_Some, append-nil, common_steps, IsExtensionNumber, IsLaterNumber, ExtHeader, Place, hop_by_hop, destination, routing, authentication, final_destination, places, index, number_in, side_of, header_in, next_place, FitsPlaces, IsOccupied}
 use Rattle.ip_spec.proofs.HeaderLemmas.{later_extension}
 use Rattle.ip_spec.specs.Places.{fragment}
-use Rattle.ip_spec.proofs.FirstLemmas.{before-yes, before-no, count-append, count_yes, count_no, before-none, before-some, after-none, after-some, after_one, counted, none_counted, find_passes, find_more-yes, find_more-no}
+use Rattle.ip_spec.proofs.FirstLemmas.{before-yes, before-no, count-append, before-none, before-some, after-none, after-some, after_one, counted, none_counted, find_passes}
 
 -- the place of a header of number m, free or not, after a routing header or not
 abbrev pub place_of : ℕ → Bool → Option Place
@@ -13,20 +12,9 @@ place_of m after = find (λ p. number_in p == m) (if after then final_destinatio
 pub place_number : (m : ℕ) (p : Place) (after : Bool) → place_of m after ≡ Some p → m ≡ number_in p
 place_number m p after e = sym (eqb-true (number_in p) m (find_passes (λ q. number_in q == m) (if after then final_destination ∷ places else places) p e))
 
-abbrev place_at : ℕ → Place
-place_at zero = hop_by_hop
-place_at (suc zero) = destination
-place_at (suc (suc zero)) = routing
-place_at (suc (suc (suc zero))) = fragment
-place_at (suc (suc (suc (suc zero)))) = authentication
-place_at (suc (suc (suc (suc (suc n))))) = final_destination
-
-at_index : (p : Place) → place_at (index p) ≡ p
-at_index p = search rules
-
 -- a place is determined by its index
 pub same_place : (p q : Place) → index p ≡ index q → p ≡ q
-same_place p q e = sym (at_index p) ∙ ap place_at e ∙ at_index q
+same_place p q e = search rules
 
 -- of the two places of 60, the final one is after a routing header
 pub final_after : (after : Bool) → place_of 60 after ≡ Some final_destination → after ≡ true
@@ -43,13 +31,9 @@ each P a p = search rules
 pub in_both : (m : ℕ) (p : Place) → place_of m true ≡ Some p → place_of m false ≡ Some p → (after : Bool) → place_of m after ≡ Some p
 in_both m p after before x4 = search rules
 
-destination_place : (after : Bool) → (p : Place) × (place_of 60 after ≡ Some p)
-destination_place true = (final_destination, refl)
-destination_place false = (destination, refl)
-
 -- an extension number has a place
 pub own_place : (m : ℕ) (after : Bool) → IsExtensionNumber m → (p : Place) × (place_of m after ≡ Some p)
-own_place m after x = grind (arith, in_both, destination_place after)
+own_place m after x = search (rules, cases_Bool after)
 
 pub is_extension : (p : Place) → IsExtensionNumber (number_in p)
 is_extension p = search rules
@@ -96,7 +80,7 @@ module _ (c : List ExtHeader) (h : ExtHeader) where
   of_number e = ap (λ m. place_of m (has_routing c)) e
 
   by_number : (p : Place) → side p (c ++ h ∷ []) ≡ side p c ++ h ∷ [] → (h.number ≡ number_in p → place_of h.number (has_routing c) ≡ Some p) → Comes p
-  by_number p s own = search (rules, eqb_tells, find_more-yes, count-append, count_yes, place_number, find_more-no, count_no)
+  by_number p s own = search (rules, eqb_tells, find-append, count-append, place_number)
 
   same_side : (p : Place) → side p (c ++ h ∷ []) ≡ side p c → (place_of h.number (has_routing c) ≡ Some p → ⊥) → Comes p
   same_side p s other = elsewhere other (ap (find (is_of p)) s) (ap (count_by (is_of p)) s)
@@ -106,22 +90,21 @@ module _ (c : List ExtHeader) (h : ExtHeader) where
 
   pub comes : (p : Place) → Comes p
   comes destination = elim (sides c (h ∷ [])) [
-    | one_before some b a ↦ by_side destination b (λ e. let differ : true ≡ false = sym some ∙ destination_before (has_routing c) e in cc)
+    | one_before some b a ↦ by_side destination b (λ e. absurd (cc (destination_before (has_routing c) e)))
     | none_yet none all nothing b a ↦ elim (cases_Bool (is_of routing h)) [
-      | inl is ↦ same_side destination (b ∙ ap (λ l. c ++ l) (before-yes (is_of routing) h [] is) ∙ append-nil c ∙ sym all)
+      | inl is ↦ same_side destination (cc (before-yes (is_of routing) h [] is, append-nil c))
           (λ e. omega (arith, eqb-true h.number 43 is, place_number h.number destination (has_routing c) e))
-      | inr other ↦ by_number destination (b ∙ ap (λ l. c ++ l) (before-no (is_of routing) h [] other) ∙ ap (λ l. l ++ h ∷ []) (sym all)) (λ e. of_number e ∙ ap (place_of 60) none)
+      | inr other ↦ by_number destination (cc (before-no (is_of routing) h [] other)) (λ e. of_number e ∙ ap (place_of 60) none)
     ]
   ]
   comes final_destination = elim (sides c (h ∷ [])) [
     | one_before some b a ↦ by_number final_destination a (λ e. of_number e ∙ ap (place_of 60) some)
-    | none_yet none all nothing b a ↦
-        by_side final_destination (a ∙ after_one (is_of routing) h ∙ sym nothing) (λ e. cc)
+    | none_yet none all nothing b a ↦ by_side final_destination (cc (after_one (is_of routing) h)) (λ e. cc)
   ]
-  comes hop_by_hop = by_number hop_by_hop refl (λ e. of_number e ∙ in_both 0 hop_by_hop refl refl (has_routing c))
-  comes routing = by_number routing refl (λ e. of_number e ∙ in_both 43 routing refl refl (has_routing c))
-  comes fragment = by_number fragment refl (λ e. of_number e ∙ in_both 44 fragment refl refl (has_routing c))
-  comes authentication = by_number authentication refl (λ e. of_number e ∙ in_both 51 authentication refl refl (has_routing c))
+  comes hop_by_hop = by_number hop_by_hop refl (search (rules, in_both))
+  comes routing = by_number routing refl (search (rules, in_both))
+  comes fragment = by_number fragment refl (search (rules, in_both))
+  comes authentication = by_number authentication refl (search (rules, in_both))
 
   pub placed : (q : Place) → place_of h.number (has_routing c) ≡ Some q → header_in q c ≡ None → (p : Place) → header_in p (c ++ h ∷ []) ≡ (if index q == index p then Some h else header_in p c)
   placed q e free p = search (rules, comes, same_Some, eq-eqb, eqb_tells, same_place)
@@ -145,38 +128,22 @@ bare m = record { number = m; bytes = [] }
 
 -- The next place of a number m, where the places contain v, is its own, if that is free.
 module _ {X : Type 0} (v : Place → Option X) (m : ℕ) where
-  abbrev if_free : Option Place → Option Place
-  if_free o = option_and_then (λ q. if is_some (v q) then None else Some q) o
-
-  free_at : (o : Option Place) (p : Place) → if_free o ≡ Some p → (o ≡ Some p) × (is_some (v p) ≡ false)
-  free_at o p e = search rules
-
-  next_at : (o : Option Place) (p : Place) → o ≡ Some p → is_some (v p) ≡ false → if_free o ≡ Some p
-  next_at o p own free = search rules
-
-  filled_at : (o : Option Place) (p : Place) → o ≡ Some p → if_free o ≡ None → is_some (v p) ≡ true
-  filled_at o p own none = search rules
-
   abbrev own : Option Place
   own = place_of m (is_some (v routing))
 
   pub own_next : (p : Place) → next_place v m ≡ Some p → (own ≡ Some p) × (is_some (v p) ≡ false)
-  own_next p e = free_at own p e
+  own_next p e = search rules
 
   pub next_own : (p : Place) → own ≡ Some p → is_some (v p) ≡ false → next_place v m ≡ Some p
-  next_own p e free = next_at own p e free
+  next_own p e free = cc
 
   pub filled_own : (p : Place) → own ≡ Some p → next_place v m ≡ None → is_some (v p) ≡ true
-  filled_own p e none = filled_at own p e none
+  filled_own p e none = search rules
 
 -- Where the same places are occupied, the same is next.
 module _ {X Y : Type 0} (v : Place → Option X) (w : Place → Option Y) (m : ℕ) (same : (p : Place) → is_some (v p) ≡ is_some (w p)) where
-  free_alike : (o : Option Place) → if_free v m o ≡ if_free w m o
-  free_alike None = refl
-  free_alike (Some p) = ap (λ b. if b then None else Some p) (same p)
-
   pub next_alike : next_place v m ≡ next_place w m
-  next_alike = ap (λ b. if_free v m (place_of m b)) (same routing) ∙ free_alike (place_of m (is_some (w routing)))
+  next_alike = grind (arith, common_steps, same)
 
 -- A number is occupied after a chain that fits if and only if no header of that number fits after it.
 module _ (c : List ExtHeader) (m : ℕ) where
@@ -184,29 +151,21 @@ module _ (c : List ExtHeader) (m : ℕ) where
   next = next_place (λ p. header_in p c) m
 
   pub occupied_breaks : IsOccupied m c → (h : ExtHeader) → h.number ≡ m → FitsPlaces (c ++ h ∷ []) → ⊥
-  occupied_breaks t h e =
+  occupied_breaks t h e f =
       let place = own_place m (has_routing c) (later_extension m t.0) in
-      let at : place_of h.number (has_routing c) ≡ Some place.0 = ap (λ j. place_of j (has_routing c)) e ∙ place.1 in
-      breaks_more c h place.0 at (filled_own (λ p. header_in p c) m place.0 place.1 t.1)
-
-  breaks_none : (o : Option Place) → next ≡ o → FitsPlaces c → (FitsPlaces (c ++ bare m ∷ []) → ⊥) → o ≡ None
-  breaks_none None e fits breaks = refl
-  breaks_none (Some p) e fits breaks =
-      let at = own_next (λ p. header_in p c) m p e in
-      absurd (breaks (fits_more c (bare m) p fits at.0 at.1))
+      grind (arith, common_steps, place, breaks_more c h, filled_own (λ p. header_in p c) m)
 
   pub breaks_occupied : FitsPlaces c → IsLaterNumber m → (FitsPlaces (c ++ bare m ∷ []) → ⊥) → IsOccupied m c
-  breaks_occupied fits later breaks = (later, breaks_none next refl fits breaks)
+  breaks_occupied fits later breaks =
+      let place = own_place m (has_routing c) (later_extension m later) in
+      grind (arith, common_steps, fits_more c (bare m) place.0 fits place.1)
 
 -- One more extension header fits if and only if its number has a next place.
 module _ (c : List ExtHeader) (h : ExtHeader) (fits : FitsPlaces c) (is : IsExtensionNumber h.number) where
-  fits_where : (o : Option Place) → next_place (λ p. header_in p c) h.number ≡ o → FitsPlaces (c ++ h ∷ []) ↔ IsSome o
-  fits_where None e =
-      let place = own_place h.number (has_routing c) is in
-      ((λ f. absurd (breaks_more c h place.0 place.1 (filled_own (λ p. header_in p c) h.number place.0 place.1 e) f)), λ none. cc)
-  fits_where (Some p) e =
-      let at = own_next (λ p. header_in p c) h.number p e in
-      ((λ f. refl), λ some. fits_more c h p fits at.0 at.1)
-
   pub fits_where_next : FitsPlaces (c ++ h ∷ []) ↔ IsSome (next_place (λ p. header_in p c) h.number)
-  fits_where_next = fits_where _ refl
+  fits_where_next =
+      let place = own_place h.number (has_routing c) is in
+      elim (cases_Bool (is_some (header_in place.0 c))) [
+        | inl filled ↦ search (rules, breaks_more, place)
+        | inr free ↦ search (rules, fits_more, place, next_own)
+      ]

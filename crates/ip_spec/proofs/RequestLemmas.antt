@@ -26,5 +26,4 @@ module _ (h p : List ℕ) where
   word_of_joined i l = ap (take 4) (drop-append-le i h p (omega arith)) ∙ take-append-le 4 (drop i h) p (omega (arith, length-drop i h))
 
   pub auth_joined_fields : length h ≡ 12 → auth_fields (h ++ p) ≡ with_icv h p
-  auth_joined_fields e =
-      grind (arith, common_steps, index_of_joined 0 (omega arith), word_of_joined 4 (omega arith), word_of_joined 8 (omega arith), after 12 e)
+  auth_joined_fields e = grind (arith, common_steps, after 12 e, word_of_joined 4, word_of_joined 8)

@@ -21,8 +21,7 @@ none_occupied m t = occupied_breaks [] m t (bare m) refl (one_fits (bare m))
 
 -- If headers follow a run or the number's place is occupied after it, the run has a header.
 some_element : (m : ℕ) (p rest : List ExtHeader) → NextBreaks FitsPlaces p rest → (rest ≡ [] → IsOccupied m p) → 1 ≤ length p
-some_element m [] [] breaks on = absurd (none_occupied m (on refl))
-some_element m [] (h ∷ rest) breaks on = absurd (breaks (one_fits h))
+some_element m [] rest breaks on = search (rules, none_occupied, one_fits)
 some_element m (h ∷ p) rest breaks on = omega arith
 
 module _ (m : ℕ) (c p : List ExtHeader) (k : KeepsBeginning FitsPlaces c p) (on : k.rest ≡ [] → IsOccupied m p) where
@@ -38,17 +37,15 @@ data First (m : ℕ) (c : List ExtHeader) : Type 0 where
   ends : FitsPlaces c → (IsOccupied m c → ⊥) → First m c
   goes : (p : List ExtHeader) (k : KeepsBeginning FitsPlaces c p) → (k.rest ≡ [] → IsOccupied m p) → First m c
 
-first_at : (m : ℕ) (c p rest : List ExtHeader) → c ≡ p ++ rest → FitsPlaces p → NextBreaks FitsPlaces p rest → First m c
-first_at m c p [] e fits breaks =
-    let whole : p ≡ c = sym (e ∙ append-nil p) in
-    elim (occupied_or m p) [
-      | inl occupied ↦ goes p (record { rest = []; joined = e; meets = fits; breaks = tt }) (λ none. occupied)
-      | inr free ↦ subst (First m) whole (ends fits free)
-    ]
-first_at m c p (h ∷ rest) e fits breaks = goes p (record { rest = h ∷ rest; joined = e; meets = fits; breaks = breaks }) (λ none. cc)
+first_at : (m : ℕ) (c p : List ExtHeader) (k : KeepsBeginning FitsPlaces c p) (rest : List ExtHeader) → k.rest ≡ rest → First m c
+first_at m c p k [] e = elim (occupied_or m p) [
+  | inl occupied ↦ goes p k (λ none. occupied)
+  | inr free ↦ let whole : p ≡ c = cc (append-nil p) in subst (First m) whole (ends k.meets free)
+]
+first_at m c p k (h ∷ rest) e = goes p k (λ none. cc)
 
 first : (m : ℕ) (c : List ExtHeader) → First m c
-first m c = let kept = some_kept FitsPlaces fits_places c in first_at m c kept.0 kept.1.rest kept.1.joined kept.1.meets kept.1.breaks
+first m c = let kept = some_kept FitsPlaces fits_places c in first_at m c kept.0 kept.1 kept.1.rest refl
 
 runs_within : (bound m : ℕ) (c : List ExtHeader) → length c ≤ bound → First m c → (ps : Pieces) × AreRuns m c ps
 runs_within bound m c few (ends fits free) = (c ∷ [], (refl, fits, free))
@@ -72,25 +69,20 @@ first_kept m c p [] a = all_kept c p a.0 a.1
 first_kept m c p (q ∷ ps) a = a.0
 
 rest_same : (c p q : List ExtHeader) (k : KeepsBeginning FitsPlaces c p) (j : KeepsBeginning FitsPlaces c q) → (p ≡ q) × (k.rest ≡ j.rest)
-rest_same c p q k j =
-    let same : p ≡ q = one_kept c FitsPlaces fits_places p q k j in
-    (same, append_cancel_left q k.rest j.rest (ap (λ l. l ++ k.rest) (sym same) ∙ sym k.joined ∙ j.joined))
+rest_same c p q k j = search (rules, one_kept c FitsPlaces fits_places p q k j, append_cancel_left)
 
 ends_free : (m : ℕ) (c p q r : List ExtHeader) (ps : Pieces) → AreRuns m c (p ∷ []) → AreRuns m c (q ∷ r ∷ ps) → ⊥
-ends_free m c p q r ps a b =
-    let same = rest_same c p q (all_kept c p a.0 a.1) b.0 in
-    a.2 (subst (IsOccupied m) (sym same.0) (b.1 (sym same.1)))
+ends_free m c p q r ps a b = let same = rest_same c p q (all_kept c p a.0 a.1) b.0 in search (rules, same)
 
 pub one_runs : (m : ℕ) (c : List ExtHeader) (ps qs : Pieces) → AreRuns m c ps → AreRuns m c qs → ps ≡ qs
 one_runs m c [] qs a b = absurd a
 one_runs m c (p ∷ ps) [] a b = absurd b
-one_runs m c (p ∷ []) (q ∷ []) a b = ap (λ l. l ∷ []) (sym a.0 ∙ b.0)
+one_runs m c (p ∷ []) (q ∷ []) a b = cc
 one_runs m c (p ∷ []) (q ∷ r ∷ qs) a b = absurd (ends_free m c p q r qs a b)
 one_runs m c (p ∷ r ∷ ps) (q ∷ []) a b = absurd (ends_free m c q p r ps b a)
 one_runs m c (p ∷ r ∷ ps) (q ∷ t ∷ qs) a b =
     let same = rest_same c p q a.0 b.0 in
-    let R : List ExtHeader → Type 0 = λ l. AreRuns m l (t ∷ qs) in
-    ap (λ l. l ∷ (r ∷ ps)) same.0 ∙ ap (λ l. q ∷ l) (one_runs m a.0.rest (r ∷ ps) (t ∷ qs) a.2 (subst R (sym same.1) b.2))
+    cc (one_runs m a.0.rest (r ∷ ps) (t ∷ qs) a.2 (rw same.1 b.2))
 
 -- No header is lost.
 pub runs_joined : (m : ℕ) (c : List ExtHeader) (ps : Pieces) → AreRuns m c ps → joined ps ≡ c
@@ -126,21 +118,18 @@ runs_bound n s c m ps q a = omega (arith, count_runs m c ps a, bytes_of-least c 
 -- The nonempty pieces.
 pub how_many-filled : {X : Type 0} (ps : List (List X)) → AllByRecursion (λ p. p ≢ []) ps → how_many ps ≡ length ps
 how_many-filled [] a = refl
-how_many-filled ([] ∷ ps) a = absurd (a.0 refl)
-how_many-filled ((x ∷ p) ∷ ps) a = ap suc (how_many-filled ps a.1)
+how_many-filled (p ∷ ps) a = search (rules, how_many-filled ps)
 
 pub how_many-more : {X : Type 0} (ps : List (List X)) → how_many (ps ++ [] ∷ []) ≡ how_many ps
 how_many-more [] = refl
-how_many-more ([] ∷ ps) = how_many-more ps
-how_many-more ((x ∷ p) ∷ ps) = ap suc (how_many-more ps)
+how_many-more (p ∷ ps) = search (rules, how_many-more ps)
 
 -- a piece adds at most one, and one if it has an element
 how_many-least : {X : Type 0} (p : List X) (ps : List (List X)) → how_many ps ≤ how_many (p ∷ ps)
 how_many-least p ps = search rules
 
 how_many-most : {X : Type 0} (p : List X) (ps : List (List X)) → how_many (p ∷ ps) ≤ suc (how_many ps)
-how_many-most [] ps = omega arith
-how_many-most (x ∷ p) ps = omega arith
+how_many-most p ps = search rules
 
 how_many-beyond : {X : Type 0} (p : List X) (x : X) (q : List X) (ps : List (List X)) → how_many ((p ++ x ∷ q) ∷ ps) ≡ suc (how_many ps)
 how_many-beyond [] x q ps = refl
@@ -148,12 +137,10 @@ how_many-beyond (y ∷ p) x q ps = refl
 
 none_nonempty : {X : Type 0} (ps : List (List X)) → length (joined ps) ≡ 0 → how_many ps ≡ 0
 none_nonempty [] e = refl
-none_nonempty ([] ∷ ps) e = none_nonempty ps e
-none_nonempty ((x ∷ p) ∷ ps) e = absurd (omega (arith, e))
+none_nonempty (p ∷ ps) e = search (rules, none_nonempty ps)
 
 others_fewer : (rs : Pieces) (m : ℕ) (d p : List ExtHeader) (ps : Pieces) (a : AreRuns m d (p ∷ ps)) → ((qs : Pieces) → AreRuns m (first_kept m d p ps a).rest qs → how_many qs ≤ how_many rs) → how_many ps ≤ how_many rs
-others_fewer rs m d p [] a less = omega arith
-others_fewer rs m d p (q ∷ ps) a less = less (q ∷ ps) a.2
+others_fewer rs m d p ps a less = search rules
 
 -- If d is a suffix of the concatenation of pieces that fit, no more of its runs have headers than of those pieces.
 fewest : (rs : Pieces) (m : ℕ) (x d : List ExtHeader) (ps : Pieces) → x ++ d ≡ joined rs → AllByRecursion FitsPlaces rs → AreRuns m d ps → how_many ps ≤ how_many rs
@@ -161,18 +148,18 @@ fewest [] m x d ps e fit a = omega (arith, none_nonempty ps (ap length (runs_joi
 fewest (r ∷ rs) m x d [] e fit a = absurd a
 fewest (r ∷ rs) m x d (p ∷ ps) e fit a = elim (compare (Begins (r ++ joined rs)) (beginnings_grow (r ++ joined rs)) x r (d, sym e) (joined rs, refl)) [
   | within more w ↦
-      let rest : more ++ d ≡ joined rs = append_cancel_left r (more ++ d) (joined rs) (sym (append_assoc r more d) ∙ ap (λ l. l ++ d) (sym w) ∙ e) in
+      let rest : more ++ d ≡ joined rs = append_cancel_left r (more ++ d) (joined rs) (cc (append_assoc r more d)) in
       omega (arith, fewest rs m more d (p ∷ ps) rest fit.1 a, how_many-least r rs)
   | beyond y more w ↦
       let z : List ExtHeader = y ∷ more in
-      let back : d ≡ z ++ joined rs = append_cancel_left x d (z ++ joined rs) (e ∙ ap (λ l. l ++ joined rs) w ∙ append_assoc x z (joined rs)) in
+      let back : d ≡ z ++ joined rs = append_cancel_left x d (z ++ joined rs) (cc (append_assoc x z (joined rs))) in
       let kept : KeepsBeginning FitsPlaces d p = first_kept m d p ps a in
-      let shorter : length z ≤ length p = kept_bounds d FitsPlaces fits_places p z (joined rs) kept back (fits_after x z (subst FitsPlaces w fit.0)) in
-      let count : how_many (r ∷ rs) ≡ suc (how_many rs) = ap (λ l. how_many (l ∷ rs)) w ∙ how_many-beyond x y more rs in
+      let shorter : length z ≤ length p = kept_bounds d FitsPlaces fits_places p z (joined rs) kept back (fits_after x z (rw w at fit.0)) in
+      let count : how_many (r ∷ rs) ≡ suc (how_many rs) = cc (how_many-beyond x y more rs) in
       elim (compare (Begins d) (beginnings_grow d) p z (kept.rest, kept.joined) (joined rs, back)) [
         | beyond v t u ↦ absurd (omega (arith, shorter, ap length u, length-append p (v ∷ t)))
         | within t u ↦
-            let rest : t ++ kept.rest ≡ joined rs = append_cancel_left z (t ++ kept.rest) (joined rs) (sym (append_assoc z t kept.rest) ∙ ap (λ l. l ++ kept.rest) (sym u) ∙ sym kept.joined ∙ back) in
+            let rest : t ++ kept.rest ≡ joined rs = append_cancel_left z (t ++ kept.rest) (joined rs) (cc (append_assoc z t kept.rest)) in
             omega (arith, others_fewer rs m d p ps a (λ qs b. fewest rs m t kept.rest qs rest fit.1 b), how_many-most p ps, count)
       ]
 ]
@@ -191,7 +178,7 @@ chains_joined n [] k = tt
 chains_joined n (p ∷ ps) k = (chain_begins n p (joined ps) k, chains_joined (leads_to n p) ps (chain_after n p (joined ps) k))
 
 pub runs_chains : (n m : ℕ) (c : List ExtHeader) (ps : Pieces) → IsChain n c → AreRuns m c ps → AreChains n ps
-runs_chains n m c ps k a = let C : List ExtHeader → Type 0 = IsChain n in chains_joined n ps (subst C (sym (runs_joined m c ps a)) k)
+runs_chains n m c ps k a = chains_joined n ps (rw (runs_joined m c ps a) k)
 
 -- After a prefix of the longest chain, its rest is the longest chain from there.
 pub leads_to-append : (n : ℕ) (c d : List ExtHeader) → leads_to n (c ++ d) ≡ leads_to (leads_to n c) d
@@ -226,16 +213,14 @@ module _ (n : ℕ) (s : List ℕ) (c p : List ExtHeader) (l : IsLongestChain n s
   first_is_longest ps a = kept_is_longest FitsPlaces fits_places n s c p l (first_kept (leads_to n c) c p ps a)
 
   pub last_is_free : AreRuns (leads_to n c) c (p ∷ []) → IsOccupied (leads_to n p) p → ⊥
-  last_is_free a = let T : List ExtHeader → Type 0 = λ d. IsOccupied (leads_to n d) p → ⊥ in subst T a.0 a.2
+  last_is_free a = rw a.0 at a.2
 
   pub others_follow : (q : List ExtHeader) (ps : Pieces) → AreRuns (leads_to n c) c (p ∷ q ∷ ps)
       → IsOccupied (leads_to n p) p × ((d : List ExtHeader) × IsLongestChain (leads_to n p) (drop (length (bytes_of p)) s) d × AreRuns (leads_to (leads_to n p) d) d (q ∷ ps))
   others_follow q ps a =
       let k = a.0 in
-      let L : List ExtHeader → Type 0 = IsLongestChain n s in
-      let T : ℕ → Type 0 = λ m. IsOccupied m p in
       let R : ℕ → Type 0 = λ m. AreRuns m k.rest (q ∷ ps) in
-      let whole : IsLongestChain n s (p ++ k.rest) = subst L k.joined l in
-      let leads : leads_to n c ≡ leads_to (leads_to n p) k.rest = ap (leads_to n) k.joined ∙ leads_to-append n p k.rest in
-      let occupied = next_occupied n s p k.rest whole.has k.meets k.breaks (λ none. subst T (leads ∙ ap (leads_to (leads_to n p)) none) (a.1 none)) in
+      let whole : IsLongestChain n s (p ++ k.rest) = rw k.joined at l in
+      let leads : leads_to n c ≡ leads_to (leads_to n p) k.rest = cc (leads_to-append n p k.rest) in
+      let occupied = next_occupied n s p k.rest whole.has k.meets k.breaks (λ none. rw (leads, none) at (a.1 none)) in
       (occupied, (k.rest, rest_longest n s p k.rest (λ none. later_not_zero (leads_to n p) occupied.0) whole, subst R leads a.2))

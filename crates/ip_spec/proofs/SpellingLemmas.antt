@@ -1,17 +1,16 @@
 -- The encoding of a value, what it parses to, and its walk's result.
-use Rattle.ip_spec.proofs.Common.{◌≡◌, ℕ, ◌<◌, List, [], ◌∷◌, ◌++◌, refl, ap, sym, ◌∙◌, arith, subst, append_assoc, Bool, false, rules, Option, None, is_some, ◌==◌, ◌&&◌, ◌↔◌, if◌then◌else◌, option_map, option_map_or, AllByRecursion, find, common_steps, IsLongestOf, none-some, append-nil, All-append, IsHeader, IsExtensionNumber, AreBytes, IsCleared, cleared_chain, ExtHeader, leads_to, bytes_of, IsChain, IsLongestUnder, FitsPlaces, IsOccupied, Place, hop_by_hop, places, number_in, header_in, fields_of, IsEncodable, IsParsed, PlacedFields, IsValueOf, IsSpelling, IsReachable, answer_at, IsWalkAnswer, Err}
+use Rattle.ip_spec.proofs.Common.{Err, ◌≡◌, ℕ, ◌<◌, List, [], ◌∷◌, ◌++◌, refl, ap, sym, ◌∙◌, arith, Bool, rules, Option, None, is_some, ◌==◌, ◌&&◌, ◌↔◌, if◌then◌else◌, option_map, option_map_or, AllByRecursion, find, common_steps, IsLongestOf, All-append, IsExtensionNumber, AreBytes, IsCleared, cleared_chain, ExtHeader, leads_to, bytes_of, IsChain, IsLongestUnder, FitsPlaces, IsOccupied, Place, hop_by_hop, places, number_in, header_in, fields_of, IsEncodable, IsParsed, PlacedFields, IsValueOf, IsSpelling, IsReachable, answer_at, IsWalkAnswer}
 use Rattle.ip_base.specs.declared.err.ipv6_exts.exts_walk_error.ExtsWalkError.TheVariants.{HopByHopNotAtStart, ExtNotReferenced}
-use Rattle.ip_spec.proofs.FirstLemmas.{none_passes}
 use Rattle.ip_spec.proofs.LongestOfLemmas.{longest_where_none_next}
-use Rattle.ip_spec.proofs.StepLemmas.{bytes_of-more}
+use Rattle.ip_spec.proofs.StepLemmas.{by_more, bytes_of-more}
 use Rattle.ip_spec.proofs.FitsLemmas.{fits_places}
 use Rattle.ip_spec.proofs.ParsedLemmas.{has_parsed_before, parsed_longest_under, whole_parsed}
 use Rattle.ip_spec.proofs.ChainLemmas.{whole_longest, one_longest}
 use Rattle.ip_spec.proofs.ClearedLemmas.{cleared_is_chain, cleared_fits, cleared_are, cleared_leads, value-cleared}
 use Rattle.ip_spec.proofs.HeaderLemmas.{header_number}
 use Rattle.ip_spec.proofs.EncodedLemmas.{one_header_says}
-use Rattle.ip_spec.proofs.PlaceLemmas.{each, place_number, occupied_breaks}
-use Rattle.ip_spec.proofs.WalkLemmas.{WalkAnswer, leads, unreached, none_if, Next, next_shown, shown_grows, one_reach}
+use Rattle.ip_spec.proofs.PlaceLemmas.{place_number, occupied_breaks}
+use Rattle.ip_spec.proofs.WalkLemmas.{WalkAnswer, leads, unreached, Next, next_shown, shown_grows, one_reach}
 
 -- bytes s parse as the value v of six places
 abbrev pub IsParsedAs : PlacedFields → ℕ → ℕ → List ℕ → Type 0
@@ -25,9 +24,7 @@ value_spelled v f c chain fits value cleared = search rules
 pub spelling_is_reach : (v : PlacedFields) (f : ℕ) (c : List ExtHeader) → IsSpelling v f c → IsLongestOf (IsReachable v f) c
 spelling_is_reach v f c s =
     longest_where_none_next (IsReachable v f) (shown_grows v f) c s.reachable
-    (λ x k.
-    let n : Next v f c x = next_shown v f c x k in
-    none-some (fields_of x) (sym (s.value n.joins.place ∙ ap (option_map fields_of) n.joins.free) ∙ n.said))
+    (λ x k. let n : Next v f c x = next_shown v f c x k in cc (s.value n.joins.place))
 
 pub one_spelling : (v : PlacedFields) (f : ℕ) (c d : List ExtHeader) → IsSpelling v f c → IsSpelling v f d → c ≡ d
 one_spelling v f c d s t = one_reach v f c d (spelling_is_reach v f c s) (spelling_is_reach v f d t)
@@ -38,7 +35,7 @@ first_filled u = find (λ p. is_some (u p)) places
 
 -- If nothing is left, each place of v is that of the chain.
 pub nothing_filled : (u : PlacedFields) → first_filled u ≡ None → (p : Place) → u p ≡ None
-nothing_filled u e p = none_if (u p) (each (λ q. is_some (u q) ≡ false) (none_passes (λ q. is_some (u q)) places e) p)
+nothing_filled u e p = search rules
 
 -- a result that leads on means that nothing is left, and vice versa; the result is computed from what is left:
 -- hop-by-hop options, and the first place
@@ -76,32 +73,22 @@ module _ (v : PlacedFields) (f : ℕ) where
 
   pub parsed_leads : (m : ℕ) (s : List ℕ) → IsParsedAs v f m s → IsWalkAnswer v f (leads m)
   parsed_leads m s r =
-      let A : WalkAnswer → Type 0 = IsWalkAnswer v f in
       let chain = r.longest.has.0.chain in
-      subst A (ap leads (cleared_leads f r.chain chain.headers ∙ r.number))
-      (spelled_leads (cleared_chain r.chain) (cleared_spells r.chain chain r.longest.has.1 (subst AreBytes (sym r.all) r.bytes) r.value))
+      let spelled = cleared_spells r.chain chain r.longest.has.1 (rw r.all r.bytes) r.value in
+      rw (cleared_leads f r.chain chain.headers, r.number) at (spelled_leads (cleared_chain r.chain) spelled)
 
   module _ (e : IsEncodable v) where
     said_bytes : (c : List ExtHeader) (x : ExtHeader) → Next v f c x → AreBytes x.bytes
     said_bytes c x n =
         let it = e.encoded n.joins.place (fields_of x) n.said in
-        let H : ℕ → Type 0 = λ j. IsHeader j it.0.bytes in
-        let same : it.0.number ≡ x.number = it.1.number ∙ sym (place_number x.number n.joins.place _ n.joins.at) in
-        let one : it.0 ≡ x = one_header_says it.0 x same (subst H (sym it.1.number) it.1.header) n.header it.1.cleared n.cleared it.1.fields in
-        subst AreBytes (ap (λ (h : ExtHeader). h.bytes) one) it.1.bytes
-
-    shown_bytes_from : (c d : List ExtHeader) → AreBytes (bytes_of c) → IsReachable v f (c ++ d) → AreBytes (bytes_of (c ++ d))
-    shown_bytes_from c [] b s = subst (λ (l : List ExtHeader). AreBytes (bytes_of l)) (sym (append-nil c)) b
-    shown_bytes_from c (x ∷ d) b s =
-        let more : (c ++ x ∷ []) ++ d ≡ c ++ x ∷ d = append_assoc c (x ∷ []) d in
-        let S : List ExtHeader → Type 0 = IsReachable v f in
-        let B : List ExtHeader → Type 0 = λ l. AreBytes (bytes_of l) in
-        let whole : IsReachable v f ((c ++ x ∷ []) ++ d) = subst S (sym more) s in
-        let n : Next v f c x = next_shown v f c x ((shown_grows v f).begins (c ++ x ∷ []) d whole) in
-        subst B more (shown_bytes_from (c ++ x ∷ []) d (subst AreBytes (sym (bytes_of-more c x)) (All-append (λ y. y < 256) (bytes_of c) x.bytes b (said_bytes c x n))) whole)
+        let same : it.0.number ≡ x.number = cc (it.1.number, place_number x.number n.joins.place _ n.joins.at) in
+        rw (one_header_says it.0 x same (rw it.1.number it.1.header) n.header it.1.cleared n.cleared it.1.fields) at it.1.bytes
 
     pub shown_bytes : (c : List ExtHeader) → IsReachable v f c → AreBytes (bytes_of c)
-    shown_bytes c s = shown_bytes_from [] c (λ k d l. omega arith) s
+    shown_bytes = by_more (λ c. IsReachable v f c → AreBytes (bytes_of c)) (λ s k d l. omega arith)
+        (λ c x before s.
+        let all = All-append (λ y. y < 256) (bytes_of c) x.bytes (before ((shown_grows v f).begins c (x ∷ []) s)) in
+        rw bytes_of-more (all (said_bytes c x (next_shown v f c x s))))
 
     -- the value is parsed from the bytes of the chain that encodes it
     pub spelled_whole : (c : List ExtHeader) → IsSpelling v f c → IsParsedAs v f (leads_to f c) (bytes_of c)
@@ -109,16 +96,10 @@ module _ (v : PlacedFields) (f : ℕ) where
 
     -- so a result leads on if and only if the value is parsed from some bytes
     pub leads_parsed : (m : ℕ) → IsWalkAnswer v f (leads m) → (s : List ℕ) × IsParsedAs v f m s
-    leads_parsed m a =
-        let it = leads_spelled m a in
-        let R : ℕ → Type 0 = λ k. IsParsedAs v f k (bytes_of it.0) in
-        (bytes_of it.0, subst R it.2 (spelled_whole it.0 it.1))
+    leads_parsed m a = let it = leads_spelled m a in (bytes_of it.0, rw it.2 at (spelled_whole it.0 it.1))
 
     pub leads_exactly : (a : WalkAnswer) → IsWalkAnswer v f a → (m : ℕ) → (a ≡ leads m) ↔ ((s : List ℕ) × IsParsedAs v f m s)
-    leads_exactly a x m = (
-      (λ e. let A : WalkAnswer → Type 0 = IsWalkAnswer v f in leads_parsed m (subst A e x)),
-      (λ r. one_answer a (leads m) x (parsed_leads m r.0 r.1)),
-    )
+    leads_exactly a x m = ((λ e. leads_parsed m (rw e at x)), (λ r. one_answer a (leads m) x (parsed_leads m r.0 r.1)))
 
 -- An encoding parses again, whatever follows it, unless an extension number follows whose place is free.
 pub spelled_is_parsed : (v : PlacedFields) (f : ℕ) (c : List ExtHeader) (r : List ℕ) → IsSpelling v f c → (IsExtensionNumber (leads_to f c) → IsOccupied (leads_to f c) c) → IsLongestUnder FitsPlaces f (bytes_of c ++ r) c

@@ -1,8 +1,16 @@
 -- Chains at the start of bytes, and the next header.
-use Rattle.ip_spec.proofs.Common.{◌≡◌, ℕ, ◌*◌, ◌≤◌, List, [], ◌∷◌, ◌++◌, length, drop, refl, ap, ◌∙◌, arith, true, rules, AllByRecursion, append-nil, length-append, flat_map-append, common_steps, IsHeader, next_header, ExtHeader, AreLinked, leads_to, bytes_of, is_empty, IsChain, IsPrefixChain, IsNext}
+use Rattle.ip_spec.proofs.Common.{◌≡◌, ℕ, ◌*◌, ◌≤◌, List, [], ◌∷◌, ◌++◌, length, drop, refl, ap, ◌∙◌, arith, true, rules, AllByRecursion, append_assoc, append-nil, length-append, flat_map-append, common_steps, IsHeader, next_header, ExtHeader, AreLinked, leads_to, bytes_of, is_empty, IsChain, IsPrefixChain, IsNext}
 use Rattle.ip_spec.proofs.PrefixLemmas.{prefix_first, prefix_second, prefix_join, prefix-length}
 use Rattle.ip_spec.proofs.HeaderLemmas.{header-least, next_or, one_next}
 use Rattle.ip_spec.proofs.LongestOfLemmas.{Grows, DecidesNext}
+
+-- A property holds for each list if it holds for the empty list and for a list with one more element at its end.
+more_from : {X : Type 0} (P : List X → Type 0) → ((c : List X) (x : X) → P c → P (c ++ x ∷ [])) → (c d : List X) → P c → P (c ++ d)
+more_from P step c [] p = rw append-nil p
+more_from P step c (x ∷ d) p = rw append_assoc at (more_from P step (c ++ x ∷ []) d (step c x p))
+
+pub by_more : {X : Type 0} (P : List X → Type 0) → P [] → ((c : List X) (x : X) → P c → P (c ++ x ∷ [])) → (c : List X) → P c
+by_more P none step c = more_from P step [] c none
 
 -- A property of each element is one of each element of a prefix, of the element after it, and of both joined.
 pub all_first : {X : Type 0} (P : X → Type 0) (c d : List X) → AllByRecursion P (c ++ d) → AllByRecursion P c

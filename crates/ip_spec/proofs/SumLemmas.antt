@@ -1,7 +1,7 @@
 -- Sums over the places of a value and over the headers of a chain.
-use Rattle.ip_spec.proofs.Common.{◌≡◌, ℕ, zero, suc, ◌+◌, ◌≤◌, List, [], ◌∷◌, ◌++◌, length, refl, ap, sym, ◌∙◌, arith, subst, append_assoc, Bool, true, false, rules, Option, Some, None, sum_by, AllByRecursion, option_map, option_map_or, none-some, same_Some, append-nil, length-append, sum_by-append, IsHeader, next_header, ExtHeader, leads_to, bytes_of, IsChain, FitsPlaces, Place, places, header_in, fields_of, HeaderFields, IsEncodable, fields_len, placed_len, PlacedFields, IsValueOf, IsReachable, answer_at, IsWalkAnswer, next_in_chain, IsLongestOf, index, ◌==◌, if◌then◌else◌}
+use Rattle.ip_spec.proofs.Common.{◌≡◌, ℕ, zero, suc, ◌+◌, ◌≤◌, List, [], ◌∷◌, ◌++◌, length, refl, ap, arith, Bool, true, false, rules, Option, Some, None, sum_by, AllByRecursion, option_map, option_map_or, same_Some, length-append, sum_by-append, IsHeader, next_header, ExtHeader, leads_to, bytes_of, IsChain, FitsPlaces, Place, places, header_in, fields_of, HeaderFields, IsEncodable, fields_len, placed_len, PlacedFields, IsValueOf, IsReachable, answer_at, IsWalkAnswer, next_in_chain, IsLongestOf, index, ◌==◌, if◌then◌else◌}
 use Rattle.std.specs.Prelude.{⊤}
-use Rattle.ip_spec.proofs.StepLemmas.{chain_begins}
+use Rattle.ip_spec.proofs.StepLemmas.{by_more, chain_begins}
 use Rattle.ip_spec.proofs.FitsLemmas.{fits_places}
 use Rattle.ip_spec.proofs.WalkLemmas.{WalkAnswer, unreached, Joins, joins, there}
 use Rattle.ip_spec.proofs.WalkStepLemmas.{FillsIn, Walking, without, left, left_at, left_next, some_or, walk_begins, walks_on, walk_stops, same_held}
@@ -26,21 +26,11 @@ module _ (g : HeaderFields → ℕ) where
   sum_more : (f : ℕ) (c : List ExtHeader) (x : ExtHeader) → Joins f c x → sum_placed g (of_chain c) + g (fields_of x) ≡ sum_placed g (of_chain (c ++ x ∷ []))
   sum_more f c x j = sum_without g (of_chain (c ++ x ∷ [])) (of_chain c) j.place (fields_of x) (ap (option_map fields_of) (there j)) (search rules)
 
-  sum_from : (f : ℕ) (c d : List ExtHeader) → sum_of c ≡ sum_placed g (of_chain c) → IsChain f (c ++ d) → FitsPlaces (c ++ d) → sum_of (c ++ d) ≡ sum_placed g (of_chain (c ++ d))
-  sum_from f c [] e k fits = let S : List ExtHeader → Type 0 = λ l. sum_of l ≡ sum_placed g (of_chain l) in subst S (sym (append-nil c)) e
-  sum_from f c (x ∷ d) e k fits =
-      let more : (c ++ x ∷ []) ++ d ≡ c ++ x ∷ d = append_assoc c (x ∷ []) d in
-      let S : List ExtHeader → Type 0 = λ l. sum_of l ≡ sum_placed g (of_chain l) in
-      let K : List ExtHeader → Type 0 = IsChain f in
-      let F : List ExtHeader → Type 0 = FitsPlaces in
-      let k' : IsChain f ((c ++ x ∷ []) ++ d) = subst K (sym more) k in
-      let fits' : FitsPlaces ((c ++ x ∷ []) ++ d) = subst F (sym more) fits in
-      let j : Joins f c x = joins f c x (chain_begins f (c ++ x ∷ []) d k') (fits_places.begins (c ++ x ∷ []) d fits') in
-      let one : sum_of (c ++ x ∷ []) ≡ sum_placed g (of_chain (c ++ x ∷ [])) = omega (arith, e, sum_by-append (λ h. g (fields_of h)) c (x ∷ []), sum_more f c x j) in
-      subst S more (sum_from f (c ++ x ∷ []) d one k' fits')
-
   pub sum_of_chain : (f : ℕ) (c : List ExtHeader) → IsChain f c → FitsPlaces c → sum_of c ≡ sum_placed g (of_chain c)
-  sum_of_chain f c = sum_from f [] c refl
+  sum_of_chain f = by_more (λ c. IsChain f c → FitsPlaces c → sum_of c ≡ sum_placed g (of_chain c)) (λ k fits. refl)
+      (λ c x before k fits.
+      let sum = before (chain_begins f c (x ∷ []) k) (fits_places.begins c (x ∷ []) fits) in
+      omega (arith, sum, sum_by-append (λ h. g (fields_of h)) c (x ∷ []), sum_more f c x (joins f c x k fits)))
 
 -- The fields determine the length of a header.
 pub len_said : (h : ExtHeader) → IsHeader h.number h.bytes → length h.bytes ≡ fields_len (fields_of h)
@@ -52,7 +42,7 @@ bytes_sum (h ∷ c) a = omega (arith, length-append h.bytes (bytes_of c), len_sa
 
 -- the length of a chain's bytes is that of its value
 pub bytes_len : (v : PlacedFields) (f : ℕ) (c : List ExtHeader) → IsChain f c → FitsPlaces c → IsValueOf c v → length (bytes_of c) ≡ placed_len v
-bytes_len v f c k fits value = bytes_sum c k.headers ∙ sum_of_chain fields_len f c k fits ∙ ap placed_len (sym (same_held v (of_chain c) value))
+bytes_len v f c k fits value = cc (bytes_sum c k.headers, sum_of_chain fields_len f c k fits, same_held v (of_chain c) value)
 
 -- A header follows in the next place, or none.
 pub data Going {Y : Type 0} (v : PlacedFields) (r : Place → Option Y) (first : Bool) (m : ℕ) : Type 0 where
@@ -61,11 +51,11 @@ pub data Going {Y : Type 0} (v : PlacedFields) (r : Place → Option Y) (first :
 
 module _ {Y : Type 0} (v : PlacedFields) (r : Place → Option Y) (first : Bool) (m : ℕ) where
   going_at : (p : Place) (y : Option HeaderFields) → next_in_chain first r m ≡ Some p → v p ≡ y → Going v r first m
-  going_at p None at e = ends (λ q k. ap v (same_Some q p (sym k ∙ at)) ∙ e)
+  going_at p None at e = search (rules, same_Some)
   going_at p (Some x) at e = goes p x at e
 
   going_to : (o : Option Place) → next_in_chain first r m ≡ o → Going v r first m
-  going_to None at = ends (λ p k. absurd (none-some p (sym at ∙ k)))
+  going_to None at = search rules
   going_to (Some p) at = going_at p (v p) at refl
 
   pub going : Going v r first m
@@ -86,9 +76,10 @@ module _ (v : PlacedFields) (f : ℕ) (e : IsEncodable v) where
       let h = e.encoded p x there in
       let s : Place → Option ⊤ = λ q. if index p == index q then Some tt else r q in
       let fills : FillsIn p r s = λ q. some_or (index p == index q) tt (r q) in
-      some_from k (c ++ h.0 ∷ []) s (next_header h.0.bytes) false
-      (walks_on v f c r m first w p x h.0 at there h.1 s (next_header h.0.bytes) false fills refl refl)
-      (let less = sum_left (λ y. 1) v r s m first p x at there fills in omega (arith, less, l)) (going v s false (next_header h.0.bytes))
+      let less = sum_left (λ y. 1) v r s m first p x at there fills in
+      let n = next_header h.0.bytes in
+      some_from k (c ++ h.0 ∷ []) s n false (walks_on v f c r m first w p x h.0 at there h.1 s n false fills refl refl)
+      (omega (arith, less, l)) (going v s false n)
 
   pub some_reach : (c : List ExtHeader) × IsLongestOf (IsReachable v f) c
   some_reach = some_from (sum_placed (λ x. 1) v) [] (λ p. None) f true (walk_begins v f (λ p. None) (λ p. refl)) (omega arith) (going v (λ p. None) true f)

@@ -1,5 +1,5 @@
 -- Chains under a demand: the next header, the longest, and its relation to the longest without a demand.
-use Rattle.ip_spec.proofs.Common.{◌≡◌, ℕ, ◌≤◌, List, [], ◌∷◌, ◌++◌, length, drop, ap, arith, inl, take-length, drop-length, IsPrefix, ExtHeader, leads_to, bytes_of, is_empty, IsChain, IsPrefixChain, IsLongestChain, IsNext, IsDemand, KeepsBeginning, IsLongestUnder, IsEndUnder, NoDemand}
+use Rattle.ip_spec.proofs.Common.{◌≡◌, ℕ, ◌≤◌, List, [], ◌∷◌, ◌++◌, length, drop, inl, rules, take-length, drop-length, ExtHeader, leads_to, bytes_of, is_empty, IsChain, IsPrefixChain, IsLongestChain, IsNext, IsDemand, KeepsBeginning, IsLongestUnder, IsEndUnder, NoDemand}
 use Rattle.ip_spec.proofs.PrefixLemmas.{prefix-length}
 use Rattle.ip_spec.proofs.HeaderLemmas.{header-least}
 use Rattle.ip_spec.proofs.LongestOfLemmas.{Grows, longest_where_none_next, none_next_where_longest, one_longest_of, longest_same}
@@ -39,9 +39,8 @@ module _ (Q : List ExtHeader → Type 0) (k : IsDemand Q) (n : ℕ) (s : List �
 -- a chain that meets the demand is the longest of its own bytes
 pub whole_longest_under : (Q : List ExtHeader → Type 0) → IsDemand Q → (n : ℕ) (c : List ExtHeader) → IsChain n c → Q c → IsLongestUnder Q n (bytes_of c) c
 whole_longest_under Q k n c chain q =
-    let whole : IsPrefix (bytes_of c) (bytes_of c) = take-length (bytes_of c) in
-    longest_at_end_under Q k n (bytes_of c) c (record { chain = chain; prefix = whole }, q)
-    (λ h x m. absurd (omega (arith, header-least (leads_to n c) h.bytes x.header, prefix-length h.bytes (drop (length (bytes_of c)) (bytes_of c)) x.prefix, ap length (drop-length (bytes_of c)))))
+    longest_at_end_under Q k n (bytes_of c) c (record { chain = chain; prefix = take-length (bytes_of c) }, q)
+    (λ h x m. search (rules, header-least, prefix-length, drop-length))
 
 -- Without a demand the chains are the same.
 pub no_demand : IsDemand NoDemand

@@ -1,5 +1,5 @@
 -- The fields that a value has, the headers that it reaches and its encoding, from a number.
-use Rattle.ip_spec.proofs.Common.{◌≡◌, ℕ, List, [], ◌∷◌, ◌++◌, ap, sym, ◌∙◌, inl, inr, subst, append_assoc, true, false, rules, Option, Some, None, is_some, ◌==◌, if◌then◌else◌, option_map, cases_Bool, same_Some, append-nil, IsHeader, IsLongestOf, ExtHeader, leads_to, is_empty, IsChain, FitsPlaces, Place, index, header_in, fields_of, IsCleared, PlacedFields, IsReachable}
+use Rattle.ip_spec.proofs.Common.{◌≡◌, ℕ, List, [], ◌∷◌, ◌++◌, append_assoc, true, false, rules, Option, Some, None, is_some, ◌==◌, if◌then◌else◌, option_map, cases_Bool, append-nil, IsHeader, IsLongestOf, ExtHeader, leads_to, is_empty, IsChain, FitsPlaces, Place, index, header_in, fields_of, IsCleared, PlacedFields, IsReachable}
 use Rattle.std.specs.Prelude.{Result, Ok}
 use Rattle.ip_base.specs.declared.ip_number_impl.IpNumber.{IpNumber}
 use Rattle.ip_base.specs.declared.err.ipv6_exts.exts_walk_error.ExtsWalkError.{ExtsWalkError}
@@ -40,11 +40,7 @@ pub record Joins (f : ℕ) (c : List ExtHeader) (x : ExtHeader) : Type 0 where
 pub joins : (f : ℕ) (c : List ExtHeader) (x : ExtHeader) → IsChain f (c ++ x ∷ []) → FitsPlaces (c ++ x ∷ []) → Joins f c x
 joins f c x k fits =
     let own = own_place x.number (has_routing c) (header_number x.number x.bytes (chain_header f c x k)) in
-    let free : header_in own.0 c ≡ None = elim (cases_Bool (is_some (header_in own.0 c))) [
-      | inl w ↦ absurd (breaks_more c x own.0 own.1 w fits)
-      | inr w ↦ none_if (header_in own.0 c) w
-    ] in
-    record { place = own.0; at = own.1; free = free; joined = placed c x own.0 own.1 free }
+    search (rules, cases_Bool (is_some (header_in own.0 c)), breaks_more, none_if, placed)
 
 module _ {f : ℕ} {c : List ExtHeader} {x : ExtHeader} (j : Joins f c x) where
   -- it is in its place
@@ -68,33 +64,20 @@ module _ (v : PlacedFields) (f : ℕ) where
   pub next_shown : (c : List ExtHeader) (x : ExtHeader) → IsReachable v f (c ++ x ∷ []) → Next c x
   next_shown c x s =
       let j : Joins f c x = joins f c x s.chain s.fits in
-      record {
-        number = chain_number f c x s.chain;
-        header = chain_header f c x s.chain;
-        zero = chain_zero f c x s.chain;
-        cleared = all_next IsCleared c x s.cleared;
-        joins = j;
-        said = s.in_value j.place x (there j);
-      }
+      let said : v j.place ≡ Some (fields_of x) = s.in_value j.place x (there j) in
+      search (rules, chain_number, chain_header, chain_zero, all_next)
 
   shown_before : (c : List ExtHeader) (x : ExtHeader) → IsReachable v f (c ++ x ∷ []) → IsReachable v f c
-  shown_before c x s = record {
-    chain = chain_begins f c (x ∷ []) s.chain;
-    fits = fits_places.begins c (x ∷ []) s.fits;
-    in_value = λ p h e. s.in_value p h (kept (joins f c x s.chain s.fits) p h e);
-    cleared = all_first IsCleared c (x ∷ []) s.cleared;
-  }
+  shown_before c x s =
+      let j : Joins f c x = joins f c x s.chain s.fits in
+      search (rules, chain_begins, fits_places.begins, s.in_value, kept j, all_first)
 
   shown_begins : (c d : List ExtHeader) → IsReachable v f (c ++ d) → IsReachable v f c
-  shown_begins c [] s = subst (IsReachable v f) (append-nil c) s
-  shown_begins c (x ∷ d) s = shown_before c x (shown_begins (c ++ x ∷ []) d (subst (IsReachable v f) (sym (append_assoc c (x ∷ []) d)) s))
+  shown_begins c [] s = rw append-nil at s
+  shown_begins c (x ∷ d) s = shown_before c x (shown_begins (c ++ x ∷ []) d (rw append_assoc s))
 
   same_next : (c : List ExtHeader) (x y : ExtHeader) → Next c x → Next c y → x ≡ y
-  same_next c x y a b =
-      let same : x.number ≡ y.number = a.number ∙ sym b.number in
-      let places : Some a.joins.place ≡ Some b.joins.place = sym a.joins.at ∙ ap (λ m. place_of m (has_routing c)) same ∙ b.joins.at in
-      let fields : Some (fields_of x) ≡ Some (fields_of y) = sym a.said ∙ ap v (same_Some _ _ places) ∙ b.said in
-      one_header_says x y same a.header b.header a.cleared b.cleared (same_Some _ _ fields)
+  same_next c x y a b = one_header_says x y (cc) a.header b.header a.cleared b.cleared (cc)
 
   pub shown_grows : Grows (IsReachable v f)
   shown_grows = record { begins = shown_begins; one_next = λ c x y p q. same_next c x y (next_shown c x p) (next_shown c y q) }

@@ -1,5 +1,5 @@
 -- A walk that reaches headers of a value, one after the other.
-use Rattle.ip_spec.proofs.Common.{◌≡◌, ℕ, List, [], ◌∷◌, ◌++◌, refl, ap, sym, ◌∙◌, subst, Bool, true, false, arith, rules, Option, Some, None, is_some, ◌==◌, ◌&&◌, not, if◌then◌else◌, eq-eqb, eqb-true, none-some, common_steps, IsHeader, next_header, ExtHeader, leads_to, is_empty, Place, index, number_in, header_in, fields_of, HeaderFields, IsCleared, IsEncoded, PlacedFields, IsReachable, answer_at, IsWalkAnswer, next_place, next_in_chain, IsLongestOf}
+use Rattle.ip_spec.proofs.Common.{◌≡◌, ℕ, List, [], ◌∷◌, ◌++◌, ap, sym, ◌∙◌, Bool, true, false, arith, rules, Option, Some, None, is_some, ◌==◌, ◌&&◌, not, if◌then◌else◌, eq-eqb, eqb-true, common_steps, next_header, ExtHeader, leads_to, is_empty, Place, index, number_in, header_in, HeaderFields, IsCleared, IsEncoded, PlacedFields, IsReachable, answer_at, IsWalkAnswer, next_place, next_in_chain, IsLongestOf}
 use Rattle.ip_spec.proofs.LongestOfLemmas.{longest_where_none_next}
 use Rattle.ip_spec.proofs.StepLemmas.{all_more, leads_to-more, chain_more, no_chain}
 use Rattle.ip_spec.proofs.FitsLemmas.{fits_places}
@@ -17,12 +17,7 @@ nothing_in : (p : Place) → is_some (header_in p []) ≡ false
 nothing_in p = search rules
 
 pub walk_begins : {Y : Type 0} (v : PlacedFields) (f : ℕ) (r : Place → Option Y) → ((p : Place) → r p ≡ None) → Walking v f [] r f true
-walk_begins v f r none = record {
-  in_value = record { chain = no_chain f; fits = fits_places.empty; in_value = λ p. search rules; cleared = tt };
-  filled = λ p. ap is_some (none p) ∙ sym (nothing_in p);
-  number = refl;
-  first_is = refl;
-}
+walk_begins v f r none = search (rules, no_chain f, fits_places)
 
 pub next_place_is : (z first : Bool) (o : Option Place) (p : Place) → (if z && not first then None else o) ≡ Some p → (o ≡ Some p) × (z ≡ true → first ≡ true)
 next_place_is z first o p e = search rules
@@ -48,22 +43,19 @@ without p u q = if index p == index q then None else u q
 abbrev pub left : {Y : Type 0} → PlacedFields → (Place → Option Y) → PlacedFields
 left v r p = if is_some (r p) then None else v p
 
-left_if : (b filled : Bool) (y : Option HeaderFields) → (if (if b then true else filled) then None else y) ≡ (if b then None else (if filled then None else y))
-left_if b filled y = search rules
-
 -- A header in the next place p is filled in: s has the places of r, and p.
 abbrev pub FillsIn : {Y Z : Type 0} → Place → (Place → Option Y) → (Place → Option Z) → Type 0
 FillsIn p r s = (q : Place) → is_some (s q) ≡ (if index p == index q then true else is_some (r q))
 
 module _ {Y : Type 0} (v : PlacedFields) (r : Place → Option Y) (m : ℕ) (first : Bool) (p : Place) where
   pub free_in_chain : next_in_chain first r m ≡ Some p → is_some (r p) ≡ false
-  free_in_chain at = (own_next r m p (next_place_is (m == 0) first (next_place r m) p at).0).1
+  free_in_chain at = search rules
 
   pub left_at : (x : HeaderFields) → next_in_chain first r m ≡ Some p → v p ≡ Some x → left v r p ≡ Some x
-  left_at x at there = ap (λ b. if b then None else v p) (free_in_chain at) ∙ there
+  left_at x at there = cc (free_in_chain at)
 
   pub left_next : {Z : Type 0} (s : Place → Option Z) → FillsIn p r s → (q : Place) → left v s q ≡ without p (left v r) q
-  left_next s fills q = ap (λ b. if b then None else v q) (fills q) ∙ left_if (index p == index q) (is_some (r q)) (v q)
+  left_next s fills q = search (rules, fills q)
 
 module _ {Y : Type 0} (v : PlacedFields) (f : ℕ) (c : List ExtHeader) (r : Place → Option Y) (m : ℕ) (first : Bool) (k : Walking v f c r m first) where
   next_same : next_place r m ≡ next_place (λ p. header_in p c) m
@@ -76,17 +68,14 @@ module _ {Y : Type 0} (v : PlacedFields) (f : ℕ) (c : List ExtHeader) (r : Pla
       let next = next_place_is (m == 0) first (next_place r m) p at in
       let own = own_next (λ q. header_in q c) m p (sym next_same ∙ next.0) in
       let same : h.number ≡ m = e.number ∙ sym (place_number m p (has_routing c) own.0) in
-      let H : ℕ → Type 0 = λ j. IsHeader j h.bytes in
       let place : place_of h.number (has_routing c) ≡ Some p = ap (λ j. place_of j (has_routing c)) same ∙ own.0 in
       let joined = placed c h p place (none_if (header_in p c) own.1) in
+      let chain = chain_more f c h k.in_value.chain (same ∙ k.number) (rw e.number e.header) (λ z. sym k.first_is ∙ next.1 (eq-eqb m 0 (sym same ∙ z))) in
+      let fits = fits_more c h p k.in_value.fits place own.1 in
+      let cleared = all_more IsCleared c h k.in_value.cleared e.cleared in
       record {
-        in_value = record {
-          chain = chain_more f c h k.in_value.chain (same ∙ k.number) (subst H (sym e.number) e.header) (λ z. sym k.first_is ∙ next.1 (eq-eqb m 0 (sym same ∙ z)));
-          fits = fits_more c h p k.in_value.fits place own.1;
-          in_value = search rules;
-          cleared = all_more IsCleared c h k.in_value.cleared e.cleared;
-        };
-        filled = λ q. fills q ∙ ap (λ b. if index p == index q then true else b) (k.filled q) ∙ sym (ap is_some (joined q) ∙ some_or (index p == index q) h (header_in q c));
+        in_value = search rules;
+        filled = search (rules, fills, k.filled, joined, some_or);
         number = en ∙ sym (leads_to-more f c h);
         first_is = ee ∙ not_empty c h;
       }
@@ -97,13 +86,11 @@ module _ {Y : Type 0} (v : PlacedFields) (f : ℕ) (c : List ExtHeader) (r : Pla
       longest_where_none_next (IsReachable v f) (shown_grows v f) c k.in_value
       (λ x s.
       let n : Next v f c x = next_shown v f c x s in
-      let same : x.number ≡ m = n.number ∙ sym k.number in
-      let at : next_place r m ≡ Some n.joins.place =
-      next_same ∙ ap (next_place (λ p. header_in p c)) (sym same) ∙ next_own (λ p. header_in p c) x.number n.joins.place n.joins.at (ap is_some n.joins.free) in
-      let here = in_chain_is (m == 0) first (next_place r m) n.joins.place at (λ z. k.first_is ∙ n.zero (same ∙ eqb-true m 0 z)) in
-      none-some (fields_of x) (sym (none n.joins.place here) ∙ n.said))
+      let own = next_own (λ p. header_in p c) m n.joins.place (cc (n.joins.at, k.number, n.number)) (ap is_some n.joins.free) in
+      let here = in_chain_is (m == 0) first (next_place r m) n.joins.place (next_same ∙ own) (λ z. k.first_is ∙ n.zero (n.number ∙ sym k.number ∙ eqb-true m 0 z)) in
+      cc (none n.joins.place here))
 
   pub walk_answers : (w : PlacedFields) (n : ℕ) (a : WalkAnswer) → ((p : Place) → next_in_chain first r m ≡ Some p → v p ≡ None) → ((p : Place) → w p ≡ left v r p) → n ≡ m → a ≡ answer_at n w → IsWalkAnswer v f a
   walk_answers w n a none ew en ea =
-      let same : w ≡ unreached v c = same_held w (unreached v c) (λ p. ew p ∙ ap (λ b. if b then None else v p) (k.filled p)) in
-      record { reach = c; is_reach = walk_stops none; answer = ea ∙ ap (answer_at n) same ∙ ap (λ j. answer_at j (unreached v c)) (en ∙ k.number) }
+      let same : w ≡ unreached v c = same_held w (unreached v c) (λ p. cc (ew p, k.filled p)) in
+      search (rules, walk_stops none)

@@ -9,23 +9,12 @@ pub headers-preserved : goal.headers-preserved
 headers-preserved c =
     goes_on _ _ _ _ _ c.headers.invariant _ _ _ _ _ c.in-Some.ensures.next c.next_header-number.ensures c.slice.ensures.bytes c.after-rest.ensures c.with-found.ensures c.if-found.false
 
-pub returns-then-found-clause-number : goal.returns-then-found-clause-number
-returns-then-found-clause-number c =
-    (stops_at_later _ _ _ _ _ c.headers.invariant _ _ _ _ _ c.in-Some.ensures.next c.next_header-number.ensures c.slice.ensures.bytes c.after-rest.ensures c.with-found.ensures c.if-found.true).number
+pub returns-then-found : goal.returns-then-found
+returns-then-found c =
+    let end = stops_at_later _ _ _ _ _ c.headers.invariant _ _ _ _ _ c.in-Some.ensures.next c.next_header-number.ensures c.slice.ensures.bytes c.after-rest.ensures c.with-found.ensures c.if-found.true in
+    record { number = end.number; rest = end.rest; found = end.said }
 
-pub returns-then-found-clause-rest : goal.returns-then-found-clause-rest
-returns-then-found-clause-rest c =
-    (stops_at_later _ _ _ _ _ c.headers.invariant _ _ _ _ _ c.in-Some.ensures.next c.next_header-number.ensures c.slice.ensures.bytes c.after-rest.ensures c.with-found.ensures c.if-found.true).rest
-
-pub returns-then-found-clause-found : goal.returns-then-found-clause-found
-returns-then-found-clause-found c =
-    (stops_at_later _ _ _ _ _ c.headers.invariant _ _ _ _ _ c.in-Some.ensures.next c.next_header-number.ensures c.slice.ensures.bytes c.after-rest.ensures c.with-found.ensures c.if-found.true).said
-
-pub returns-clause-number : goal.returns-clause-number
-returns-clause-number c = (at_end _ _ _ _ _ c.headers.invariant c.in_default.ensures.end).number
-
-pub returns-clause-rest : goal.returns-clause-rest
-returns-clause-rest c = (at_end _ _ _ _ _ c.headers.invariant c.in_default.ensures.end).rest
-
-pub returns-clause-found : goal.returns-clause-found
-returns-clause-found c = (at_end _ _ _ _ _ c.headers.invariant c.in_default.ensures.end).said
+pub returns : goal.returns
+returns c =
+    let end = at_end _ _ _ _ _ c.headers.invariant c.in_default.ensures.end in
+    record { number = end.number; rest = end.rest; found = end.said }

@@ -10,14 +10,7 @@ headers-preserved c =
       | else-fragmented w ↦ rw (w.if-fragmented.false, w.fragmented-is) w.is_fragmenting_payload-fragmented.ensures
     ])
 
-pub returns-clause-number : goal.returns-clause-number
-returns-clause-number c = (at_end _ _ _ _ _ c.headers.invariant c.in_default.ensures.end).number
-
-pub returns-clause-rest : goal.returns-clause-rest
-returns-clause-rest c = (at_end _ _ _ _ _ c.headers.invariant c.in_default.ensures.end).rest
-
-pub returns-clause-flag : goal.returns-clause-flag
-returns-clause-flag c = (at_end _ _ _ _ _ c.headers.invariant c.in_default.ensures.end).fragmented
-
-pub returns-clause-len : goal.returns-clause-len
-returns-clause-len c = (at_end _ _ _ _ _ c.headers.invariant c.in_default.ensures.end).len
+pub returns : goal.returns
+returns c =
+    let end = at_end _ _ _ _ _ c.headers.invariant c.in_default.ensures.end in
+    record { number = end.number; rest = end.rest; flag = end.fragmented; len = end.len }

@@ -129,7 +129,7 @@ impl<T: ExactRead> HeaderSource for Unlimited<T> {
     fn start_layer(_reader: &mut T, _layer: Layer) {}
 
     #[inline(always)]
-    fn read_exact(reader: &mut T, buf: &mut [u8]) -> Result<(), HeaderReadError> {
+    fn read_exact(reader: &mut T, buf: &mut [u8]) -> Result<(), Self::Error> {
         match reader.read_exact(buf) {
             Ok(()) => Ok(()),
             Err(e) => Err(HeaderReadError::Io(e)),
@@ -139,7 +139,7 @@ impl<T: ExactRead> HeaderSource for Unlimited<T> {
     fn read_fragment(
         place: &mut Option<Ipv6FragmentHeader>,
         reader: &mut T,
-    ) -> Result<IpNumber, HeaderReadError> {
+    ) -> Result<IpNumber, Self::Error> {
         match Ipv6FragmentHeader::read(reader) {
             Ok(header) => {
                 let next_header = header.next_header;
@@ -153,7 +153,7 @@ impl<T: ExactRead> HeaderSource for Unlimited<T> {
     fn read_auth(
         place: &mut Option<IpAuthHeader>,
         reader: &mut T,
-    ) -> Result<IpNumber, HeaderReadError> {
+    ) -> Result<IpNumber, Self::Error> {
         *place = Some(IpAuthHeader::default());
         let Some(header) = place else { unreachable!() };
         match header.read_over(reader) {
@@ -166,7 +166,7 @@ impl<T: ExactRead> HeaderSource for Unlimited<T> {
     }
 
     #[inline(always)]
-    fn misplaced() -> HeaderReadError {
+    fn misplaced() -> Self::Error {
         HeaderReadError::Content(HeaderError::HopByHopNotAtStart)
     }
 }
@@ -201,10 +201,7 @@ impl<T: ExactRead> HeaderSource for Limited<T> {
     }
 
     #[inline(always)]
-    fn read_exact(
-        reader: &mut LimitedReader<T>,
-        buf: &mut [u8],
-    ) -> Result<(), HeaderLimitedReadError> {
+    fn read_exact(reader: &mut LimitedReader<T>, buf: &mut [u8]) -> Result<(), Self::Error> {
         match reader.read_exact(buf) {
             Ok(()) => Ok(()),
             Err(e) => Err(HeaderLimitedReadError::of_limited(e)),
@@ -214,7 +211,7 @@ impl<T: ExactRead> HeaderSource for Limited<T> {
     fn read_fragment(
         place: &mut Option<Ipv6FragmentHeader>,
         reader: &mut LimitedReader<T>,
-    ) -> Result<IpNumber, HeaderLimitedReadError> {
+    ) -> Result<IpNumber, Self::Error> {
         match Ipv6FragmentHeader::read_limited(reader) {
             Ok(header) => {
                 let next_header = header.next_header;
@@ -228,7 +225,7 @@ impl<T: ExactRead> HeaderSource for Limited<T> {
     fn read_auth(
         place: &mut Option<IpAuthHeader>,
         reader: &mut LimitedReader<T>,
-    ) -> Result<IpNumber, HeaderLimitedReadError> {
+    ) -> Result<IpNumber, Self::Error> {
         *place = Some(IpAuthHeader::default());
         let Some(header) = place else { unreachable!() };
         match header.read_over_limited(reader) {
@@ -242,7 +239,7 @@ impl<T: ExactRead> HeaderSource for Limited<T> {
     }
 
     #[inline(always)]
-    fn misplaced() -> HeaderLimitedReadError {
+    fn misplaced() -> Self::Error {
         HeaderLimitedReadError::Content(HeaderError::HopByHopNotAtStart)
     }
 }

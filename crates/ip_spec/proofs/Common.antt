@@ -1,7 +1,7 @@
 -- The names that most proofs use, from the standard library and the definitions, re-exported here.
 pub use Rattle.std.proofs.Common.{◌≡◌, ℕ, List, arith, rules, ◌+◌, ◌≤◌, ◌++◌, take, drop, refl, sym, ◌<◌, ◌^◌, ap, ◌∙◌, append_assoc, [], ◌∷◌, zero, suc, ◌%◌, ◌*◌, true, subst, false, ◌-◌, inl, inr, ◌⊎◌, map, ◌/◌, vec_capacity, cond, tests, bit_and, lit≤, min, length, Bool, nat_eq, slice_index, ◌≢◌, slice_index_or, slice_set, get_or}
 pub use Rattle.std.proofs.KnownBytes.{Consumes-nil, Consumes-trans, Appends-nil, Appends-trans, Appends-kept, Consumes-kept}
-pub use Rattle.std.proofs.Math.Bool.{and-true, and-false, or-false, or_assoc, or-true}
+pub use Rattle.std.proofs.Math.Bool.{and-true, and-false, or-false, or_assoc}
 pub use Rattle.std.proofs.Math.Seq.{take-length, drop-append_seam, take-append_seam, take-append-add, drop-length}
 pub use Rattle.std.proofs.lemmas.Bool.{eq-eqb, cases_Bool, eqb-true, ne_eqb, cases_lt, lt-ltb, le-ltb, cond-false, false_from_ne_true, leb-true, le-leb, false≢true, cond-true, cases_eq, lt-leb}
 pub use Rattle.std.proofs.lemmas.Bool.Decides.{Decides-and, eqb_tells, nat_tests}

@@ -1,5 +1,5 @@
 -- The first element of a list that passes a test, and the parts before and after it, for joined lists.
-use Rattle.ip_spec.proofs.Common.{◌≡◌, ℕ, ◌+◌, ◌≤◌, List, [], ◌∷◌, ◌++◌, take, drop, map, refl, ap, sym, ◌∙◌, arith, inl, inr, Bool, true, false, cond, rules, not, count_by, Some, None, is_some, position_or_len, find, before_first, after_first, AllByRecursion, option_map, cases_Bool, take-append-drop, sum_by-append, common_steps}
+use Rattle.ip_spec.proofs.Common.{◌≡◌, ℕ, ◌+◌, ◌≤◌, List, [], ◌∷◌, ◌++◌, take, drop, map, refl, ap, sym, ◌∙◌, arith, inl, inr, Bool, true, false, cond, rules, not, count_by, Some, is_some, position_or_len, find, before_first, after_first, option_map, cases_Bool, take-append-drop, sum_by-append, common_steps}
 
 module _ {X : Type 0} (t : X → Bool) where
   module _ (x : X) (xs : List X) where
@@ -8,12 +8,6 @@ module _ {X : Type 0} (t : X → Bool) where
 
     pub before-no : t x ≡ false → before_first t (x ∷ xs) ≡ x ∷ before_first t xs
     before-no e = search rules
-
-    pub find-yes : t x ≡ true → find t (x ∷ xs) ≡ Some x
-    find-yes e = ap (λ b. cond b (Some x) (find t xs)) e
-
-    pub find-no : t x ≡ false → find t (x ∷ xs) ≡ find t xs
-    find-no e = ap (λ b. cond b (Some x) (find t xs)) e
 
   pub count-append : (xs ys : List X) → count_by t (xs ++ ys) ≡ count_by t xs + count_by t ys
   count-append xs ys = sum_by-append (λ x. cond (t x) 1 0) xs ys
@@ -54,10 +48,6 @@ module _ {X : Type 0} (t : X → Bool) where
   pub none_counted : (xs : List X) → is_some (find t xs) ≡ false → count_by t xs ≡ 0
   none_counted [] e = refl
   none_counted (x ∷ xs) e = grind (arith, common_steps, none_counted xs)
-
-  pub none_passes : (xs : List X) → find t xs ≡ None → AllByRecursion (λ x. t x ≡ false) xs
-  none_passes [] e = tt
-  none_passes (x ∷ xs) e = grind (arith, common_steps, none_passes xs)
 
   pub find_passes : (xs : List X) (x : X) → find t xs ≡ Some x → t x ≡ true
   find_passes [] x e = absurd (cc)

@@ -18,11 +18,7 @@ kind n = search rules
 pub header_number : (n : ℕ) (b : List ℕ) → IsHeader n b → IsExtensionNumber n
 header_number n b h = search rules
 
--- A property of 0, 43 and 60 holds for each number of the uniform format (RFC 6564),
-pub by_raw : (S : ℕ → Type 0) → S 0 → S 43 → S 60 → (n : ℕ) → IsRawNumber n → S n
-by_raw S a b c n k = search rules
-
--- and a property of 44 and 51 too, for each extension number.
+-- A property of 0, 43, 60, 44 and 51 holds for each extension number.
 pub by_number : (S : ℕ → Type 0) → S 0 → S 43 → S 60 → S 44 → S 51 → (n : ℕ) → IsExtensionNumber n → S n
 by_number S a b c d e n x = search rules
 
@@ -40,9 +36,6 @@ pub later_or : (n : ℕ) → IsLaterNumber n ⊎ (IsLaterNumber n → ⊥)
 later_or n = search rules
 
 -- The format of the headers of a number.
-pub raw_of : (n : ℕ) (b : List ℕ) → IsRawNumber n → IsHeader n b → IsRawHeader b
-raw_of n b k h = search rules
-
 pub fragment_of : (n : ℕ) (b : List ℕ) → n ≡ 44 → IsHeader n b → IsFragmentHeader b
 fragment_of n b k h = search rules
 

@@ -34,23 +34,16 @@ pub record HasParsedUnder (Q : List ExtHeader → Type 0) (n : ℕ) (s : List �
   pub read : HasParsed n s c m r
   pub meets : Q c
 
-module _ (Q : List ExtHeader → Type 0) (k : IsDemand Q) (n : ℕ) (s : List ℕ) where
-  pub has_parsed_none_under : HasParsedUnder Q n s [] n s
-  has_parsed_none_under = record { read = has_parsed_none n s; meets = k.empty }
+module _ (Q : List ExtHeader → Type 0) (k : IsDemand Q) (n : ℕ) (s : List ℕ) (c : List ExtHeader) (m : ℕ) (r : List ℕ) where
+  -- if no header follows that still meets the demand, the chain parsed is the longest under it
+  pub parsed_longest_under : HasParsedUnder Q n s c m r → IsEndUnder Q c m r → IsLongestUnder Q n s c
+  parsed_longest_under p e = search (rules, longest_at_end_under, next_here)
 
-  module _ (c : List ExtHeader) (m : ℕ) (r : List ℕ) where
-    pub has_parsed_next_under : (h : ExtHeader) → HasParsedUnder Q n s c m r → IsNext (is_empty c) m r h → Q (c ++ h ∷ []) → HasParsedUnder Q n s (c ++ h ∷ []) (next_header h.bytes) (drop (length h.bytes) r)
-    has_parsed_next_under h p x q = record { read = has_parsed_next n s c m r h p.read x; meets = q }
-
-    -- if no header follows that still meets the demand, the chain parsed is the longest under it
-    pub parsed_longest_under : HasParsedUnder Q n s c m r → IsEndUnder Q c m r → IsLongestUnder Q n s c
-    parsed_longest_under p e = search (rules, longest_at_end_under, next_here)
-
-    -- so it is the result, for any value and errors computed from chains
-    pub parsed_answers : {X F : Type 0} (value_of : List ExtHeader → X) (faults : List ExtHeader → ℕ → List ℕ → Option F) (x : X) (f : Option F) → HasParsedUnder Q n s c m r → IsEndUnder Q c m r → x ≡ value_of c → f ≡ faults c m r
-        → IsAnswer value_of faults (some_longest_under Q k n s).0 n s x m r f
-    parsed_answers value_of faults x f p e value fault =
-        rw (one_longest_under Q k n s _ c (some_longest_under Q k n s).1 (parsed_longest_under p e)) (search rules)
+  -- so it is the result, for any value and errors computed from chains
+  pub parsed_answers : {X F : Type 0} (value_of : List ExtHeader → X) (faults : List ExtHeader → ℕ → List ℕ → Option F) (x : X) (f : Option F) → HasParsedUnder Q n s c m r → IsEndUnder Q c m r → x ≡ value_of c → f ≡ faults c m r
+      → IsAnswer value_of faults (some_longest_under Q k n s).0 n s x m r f
+  parsed_answers value_of faults x f p e value fault =
+      rw (one_longest_under Q k n s _ c (some_longest_under Q k n s).1 (parsed_longest_under p e)) (search rules)
 
 module _ (Q : List ExtHeader → Type 0) (k : IsDemand Q) (n m : ℕ) where
   -- a chain is parsed from its bytes with more bytes after them

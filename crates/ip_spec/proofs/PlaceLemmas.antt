@@ -62,9 +62,6 @@ pub data Sides (c d : List ExtHeader) : Type 0 where
 pub sides : (c d : List ExtHeader) → Sides c d
 sides c d = search (rules, cases_Bool (has_routing c), append-nil c, counted, before-some, after-some, none_counted, before-none, after-none)
 
-pub nothing_on : (p : Place) → side p [] ≡ []
-nothing_on p = search rules
-
 pub none_after : (c : List ExtHeader) → has_routing c ≡ false → header_in final_destination c ≡ None
 none_after c none = grind (arith, common_steps, sides c [])
 
@@ -147,9 +144,6 @@ module _ {X Y : Type 0} (v : Place → Option X) (w : Place → Option Y) (m : �
 
 -- A number is occupied after a chain that fits if and only if no header of that number fits after it.
 module _ (c : List ExtHeader) (m : ℕ) where
-  abbrev next : Option Place
-  next = next_place (λ p. header_in p c) m
-
   pub occupied_breaks : IsOccupied m c → (h : ExtHeader) → h.number ≡ m → FitsPlaces (c ++ h ∷ []) → ⊥
   occupied_breaks t h e f =
       let place = own_place m (has_routing c) (later_extension m t.0) in

@@ -1,9 +1,9 @@
 -- Chains under a demand: the next header, the longest, and its relation to the longest without a demand.
-use Rattle.ip_spec.proofs.Common.{◌≡◌, ℕ, ◌≤◌, List, [], ◌∷◌, ◌++◌, length, drop, inl, rules, take-length, drop-length, ExtHeader, leads_to, bytes_of, is_empty, IsChain, IsPrefixChain, IsLongestChain, IsNext, IsDemand, KeepsBeginning, IsLongestUnder, IsEndUnder, NoDemand}
+use Rattle.ip_spec.proofs.Common.{◌≡◌, ℕ, List, [], ◌∷◌, ◌++◌, length, drop, inl, rules, take-length, drop-length, ExtHeader, leads_to, bytes_of, is_empty, IsChain, IsPrefixChain, IsLongestChain, IsNext, IsDemand, KeepsBeginning, IsLongestUnder, IsEndUnder, NoDemand}
 use Rattle.ip_spec.proofs.PrefixLemmas.{prefix-length}
 use Rattle.ip_spec.proofs.HeaderLemmas.{header-least}
 use Rattle.ip_spec.proofs.LongestOfLemmas.{Grows, longest_where_none_next, none_next_where_longest, one_longest_of, longest_same}
-use Rattle.ip_spec.proofs.DemandLemmas.{IsUnder, under_grows, some_longest_under_of, longest_under_bounds, longest_where_kept, kept_where_longest}
+use Rattle.ip_spec.proofs.DemandLemmas.{IsUnder, under_grows, some_longest_under_of, longest_where_kept, kept_where_longest}
 use Rattle.ip_spec.proofs.StepLemmas.{next_of, goes_on, chains_grow, chains_decide, chain-bound, no_header_prefix}
 
 module _ (Q : List ExtHeader → Type 0) (k : IsDemand Q) (n : ℕ) (s : List ℕ) where
@@ -32,9 +32,6 @@ module _ (Q : List ExtHeader → Type 0) (k : IsDemand Q) (n : ℕ) (s : List �
 
   pub kept_is_longest : (d c : List ExtHeader) → IsLongestChain n s d → KeepsBeginning Q d c → IsLongestUnder Q n s c
   kept_is_longest = longest_where_kept (IsPrefixChain n s) Q (chains_grow n s) k
-
-  pub longest_bounds_under : (c d : List ExtHeader) → IsLongestUnder Q n s c → IsUnder Q (IsPrefixChain n s) d → length d ≤ length c
-  longest_bounds_under = longest_under_bounds (IsPrefixChain n s) Q (chains_grow n s) k
 
 -- a chain that meets the demand is the longest of its own bytes
 pub whole_longest_under : (Q : List ExtHeader → Type 0) → IsDemand Q → (n : ℕ) (c : List ExtHeader) → IsChain n c → Q c → IsLongestUnder Q n (bytes_of c) c

@@ -13,9 +13,6 @@ pub record Walking {Y : Type 0} (v : PlacedFields) (f : ℕ) (c : List ExtHeader
   pub number : m ≡ leads_to f c
   pub first_is : first ≡ is_empty c
 
-nothing_in : (p : Place) → is_some (header_in p []) ≡ false
-nothing_in p = search rules
-
 pub walk_begins : {Y : Type 0} (v : PlacedFields) (f : ℕ) (r : Place → Option Y) → ((p : Place) → r p ≡ None) → Walking v f [] r f true
 walk_begins v f r none = search (rules, no_chain f, fits_places)
 

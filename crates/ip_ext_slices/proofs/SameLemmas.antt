@@ -1,5 +1,5 @@
 -- Slices of extension headers with the same headers have the same first number and the same bytes.
-use Rattle.ip_spec.proofs.Common.{◌≡◌, ℕ, ◌*◌, ◌≤◌, List, [], ◌∷◌, length, refl, ap, sym, ◌∙◌, arith, subst, ◌↔◌, IsTrue, Bool, false, rules, ◌==◌, if◌then◌else◌, Option, Some, None, option_map_or, eqb-true, eqb_tells, ExtHeader, AreLinked, bytes_of}
+use Rattle.ip_spec.proofs.Common.{◌≡◌, ℕ, ◌*◌, ◌≤◌, List, [], ◌∷◌, length, refl, ap, sym, ◌∙◌, arith, ◌↔◌, IsTrue, Bool, false, rules, ◌==◌, if◌then◌else◌, Option, Some, None, option_map_or, eqb-true, eqb_tells, ExtHeader, AreLinked, bytes_of}
 use Rattle.std.proofs.lemmas.List.{nil_from_length}
 use Rattle.std.specs.Prelude.{is_none}
 use Rattle.ip_base.specs.declared.ip_number_impl.IpNumber.{IpNumber}

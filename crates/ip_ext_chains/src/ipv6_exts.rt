@@ -158,21 +158,11 @@ impl Ipv6Extensions {
         ensures most { result ≤ 9228 }
         ensures encodable { IsEncodable (placed_fields self.now) }
     {
-        self.encodable();
         raw_len(&self.hop_by_hop_options)
             + raw_len(&self.destination_options)
-            + match &self.routing {
-                Some(routing) => routing.header_len(),
-                None => 0,
-            }
-            + match &self.fragment {
-                Some(fragment) => fragment.header_len(),
-                None => 0,
-            }
-            + match &self.auth {
-                Some(auth) => auth.header_len(),
-                None => 0,
-            }
+            + routing_len(&self.routing)
+            + fragment_len(&self.fragment)
+            + auth_len(&self.auth)
     }
 
     /// Returns whether no place is occupied.
@@ -209,10 +199,55 @@ fn put_raw(place: &mut Option<Ipv6RawExtHeader>, header: Option<&Ipv6RawExtHeade
     }
 }
 
-/// Returns the length in bytes of an optional header.
+/// Returns the length in bytes of an optional header in the uniform format (RFC 6564).
 fn raw_len(header: &Option<Ipv6RawExtHeader>) -> usize
     ensures len { result ≡ option_map_or raw_len header.now 0 }
     ensures most { result ≤ 2048 }
+    ensures encodable { (n : ℕ) → IsRawNumber n → ForSome (option_map raw_header header.now)
+        (λ x. (h : ExtHeader) × IsEncoded n x h) }
+{
+    match header {
+        Some(header) => header.header_len(),
+        None => 0,
+    }
+}
+
+/// Returns the length in bytes of an optional routing header and the destination options after it.
+fn routing_len(headers: &Option<Ipv6RoutingExtensions>) -> usize
+    ensures len { result ≡ option_map_or (λ r. raw_len r.routing
+        + option_map_or raw_len r.final_destination_options 0) headers.now 0 }
+    ensures most { result ≤ 4096 }
+    ensures routing { ForSome (option_map (λ r. raw_header r.routing) headers.now)
+        (λ x. (h : ExtHeader) × IsEncoded ROUTING x h) }
+    ensures final_destination { ForSome (option_map raw_header (final_of headers.now))
+        (λ x. (h : ExtHeader) × IsEncoded DESTINATION_OPTIONS x h) }
+{
+    match headers {
+        Some(headers) => {
+            headers.routing.header_len() + raw_len(&headers.final_destination_options)
+        }
+        None => 0,
+    }
+}
+
+/// Returns the length in bytes of an optional fragment header.
+fn fragment_len(header: &Option<Ipv6FragmentHeader>) -> usize
+    ensures len { result ≡ option_map_or (λ _. 8) header.now 0 }
+    ensures encodable { ForSome (option_map fragment_header header.now)
+        (λ x. (h : ExtHeader) × IsEncoded FRAGMENT x h) }
+{
+    match header {
+        Some(header) => header.header_len(),
+        None => 0,
+    }
+}
+
+/// Returns the length in bytes of an optional authentication header.
+fn auth_len(header: &Option<IpAuthHeader>) -> usize
+    ensures len { result ≡ option_map_or auth_len header.now 0 }
+    ensures most { result ≤ 1028 }
+    ensures encodable { ForSome (option_map auth_header header.now)
+        (λ x. (h : ExtHeader) × IsEncoded AUTHENTICATION x h) }
 {
     match header {
         Some(header) => header.header_len(),

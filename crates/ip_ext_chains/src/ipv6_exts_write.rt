@@ -35,7 +35,8 @@ impl Ipv6Extensions {
         ensures exactly { (m : IpNumber) → (result ≡ Ok m) ↔ ((s : List ℕ)
             × IsParsed FitsPlaces (λ c. value_of c ≡ self.now) first.0 m.0 s) }
     {
-        self.encodable();
+        // Each header can be written, as the contract of this call says.
+        let _ = self.header_len();
         let mut walk = Walk::new(self, first);
         // Headers linked in the order of the places, the usual case, are all reached here.
         let _ = walk.next_in(Place::HopByHop);
@@ -55,7 +56,8 @@ impl Ipv6Extensions {
         ensures first { result.0 ≡ first_number (placed_fields self.old) places last.0 }
         ensures leads { IsWalkAnswer (placed_fields self.new) result.0 (Ok last) }
     {
-        self.encodable();
+        // Each header can be written, as the contract of this call says.
+        let _ = self.header_len();
         let next = link_final(&mut self.routing, last);
         let next = link_auth(&mut self.auth, next);
         let next = link_fragment(&mut self.fragment, next);
@@ -101,7 +103,6 @@ impl Ipv6Extensions {
             → 0 < exts_len self.now }
         ensures capacity { vec_capacity out.old ≤ vec_capacity out.new }
     {
-        self.encodable();
         if let Err(refused) = out.reserve(self.header_len()) {
             return Err(HeaderWriteError::Io(refused));
         }

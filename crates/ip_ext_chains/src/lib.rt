@@ -3,7 +3,6 @@
 #![tactic(auto)]
 
 mod chain_laws;
-mod encodable;
 pub mod err;
 mod header_ref;
 mod header_source;

@@ -2,7 +2,11 @@ ghost use Rattle.std.specs.Prelude.{◌≡◌, ◌≤◌, ◌<◌, ◌+◌, ◌*
 ghost use Rattle.std.specs.Int.{to_be_bytes, w32};
 ghost use Rattle.std.specs.Io.KnownBytes.{Consumes};
 ghost use Rattle.ip_base.specs.Prefix.{IsPrefix, NoPrefix};
+ghost use Rattle.ip_spec.specs.Numbers.{AUTHENTICATION};
 ghost use Rattle.ip_spec.specs.Header.{IsAuthHeader};
+ghost use Rattle.ip_spec.specs.Chain.{ExtHeader};
+ghost use Rattle.ip_spec.specs.Places.{auth_header};
+ghost use Rattle.ip_spec.specs.Encodable.{IsEncoded};
 ghost use Rattle.ip_spec.specs.Fields.{auth_len, auth_fields};
 ghost use Rattle.ip_spec.specs.Encoding.{AppendsOne, IsAuthEncoding};
 ghost use Rattle.ip_spec.specs.Decoding.{IsAuthDecoding};
@@ -15,6 +19,7 @@ ghost use Rattle.ip_ext_headers.specs.AuthLimitedReadError.{io_of as limited_io_
 
 use crate::IpAuthHeaderSlice;
 use crate::auth_parts::AuthParts;
+use crate::encodable::auth_encodable;
 use crate::err::ip_auth::{HeaderLimitedReadError, HeaderReadError, HeaderSliceError, IcvLenError};
 use arrayvec::ArrayVec;
 use ip_base::IpNumber;
@@ -362,13 +367,17 @@ impl IpAuthHeader {
         }
     }
 
-    /// Returns the header's length in bytes, 12 to 1028.
+    /// Returns the header's length in bytes, 12 to 1028. Every value can be written: the ranges of its fields guarantee
+    /// it.
     pub fn header_len(&self) -> usize
         ensures len { result ≡ auth_len self.now }
         ensures least { 12 ≤ result }
         ensures most { result ≤ 1028 }
+        ensures encodable { (h : ExtHeader) × IsEncoded AUTHENTICATION (auth_header self.now) h }
     {
-        self.raw_icv.len() + 12
+        let raw_icv = self.raw_icv();
+        auth_encodable(self.next_header, self.spi, self.sequence_number, raw_icv);
+        raw_icv.len() + 12
     }
 
     /// Returns the bytes before the check value.

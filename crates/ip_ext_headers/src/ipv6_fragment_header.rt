@@ -1,7 +1,11 @@
 ghost use Rattle.std.specs.Prelude.{◌≡◌, ◌≤◌, ◌<◌, ◌+◌, ◌++◌, ℕ, List, OnOk, OnErr, IfOk, IfErr, vec_len, vec_capacity, length, IfSome};
 ghost use Rattle.std.specs.Io.KnownBytes.{Consumes};
 ghost use Rattle.ip_base.specs.Prefix.{IsPrefix, NoPrefix};
+ghost use Rattle.ip_spec.specs.Numbers.{FRAGMENT};
 ghost use Rattle.ip_spec.specs.Header.{IsFragmentHeader};
+ghost use Rattle.ip_spec.specs.Chain.{ExtHeader};
+ghost use Rattle.ip_spec.specs.Places.{fragment_header};
+ghost use Rattle.ip_spec.specs.Encodable.{IsEncoded};
 ghost use Rattle.ip_base.specs.Fragment.{is_fragment};
 ghost use Rattle.ip_spec.specs.Fields.{fragment_fields};
 ghost use Rattle.ip_spec.specs.Encoding.{AppendsOne, IsFragmentEncoding};
@@ -14,6 +18,7 @@ ghost use Rattle.ip_base.specs.declared.err.layer.Layer.TheVariants.{Ipv6FragHea
 ghost use Rattle.ip_base.specs.LimitedReadError.{io_of};
 
 use crate::Ipv6FragmentHeaderSlice;
+use crate::encodable::fragment_encodable;
 use crate::fragment_bits::{pack, unpack_flag, unpack_offset};
 use ip_base::err::io::LimitedReadError;
 use ip_base::err::{Layer, LenError};
@@ -192,10 +197,17 @@ impl Ipv6FragmentHeader {
         let _ = out.extend_from_slice(&self.to_bytes());
     }
 
-    /// Returns the header's length in bytes.
+    /// Returns the header's length in bytes. Every value can be written: the ranges of its fields guarantee it.
     pub fn header_len(&self) -> usize
-        ensures { result ≡ 8 }
+        ensures len { result ≡ 8 }
+        ensures encodable { (h : ExtHeader) × IsEncoded FRAGMENT (fragment_header self.now) h }
     {
+        fragment_encodable(
+            self.next_header,
+            self.fragment_offset,
+            self.more_fragments,
+            self.identification,
+        );
         Self::LEN
     }
 

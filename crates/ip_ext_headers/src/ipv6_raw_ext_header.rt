@@ -2,7 +2,10 @@ ghost use Rattle.std.specs.Prelude.{◌≡◌, ◌≤◌, ◌<◌, ◌+◌, ◌*
 ghost use Rattle.std.specs.Io.KnownBytes.{Consumes};
 ghost use Rattle.ip_spec.specs.Numbers.{HOP_BY_HOP, ROUTING, DESTINATION_OPTIONS};
 ghost use Rattle.ip_base.specs.Prefix.{IsPrefix, NoPrefix};
-ghost use Rattle.ip_spec.specs.Header.{IsRawHeader};
+ghost use Rattle.ip_spec.specs.Header.{IsRawHeader, IsRawNumber};
+ghost use Rattle.ip_spec.specs.Chain.{ExtHeader};
+ghost use Rattle.ip_spec.specs.Places.{raw_header};
+ghost use Rattle.ip_spec.specs.Encodable.{IsEncoded};
 ghost use Rattle.ip_spec.specs.Fields.{raw_fields, raw_len};
 ghost use Rattle.ip_spec.specs.Encoding.{AppendsOne, IsRawEncoding};
 ghost use Rattle.ip_spec.specs.Decoding.{IsRawDecoding};
@@ -14,6 +17,7 @@ ghost use Rattle.ip_base.specs.declared.err.layer.Layer.TheVariants.{Ipv6ExtHead
 ghost use Rattle.ip_base.specs.LimitedReadError.{io_of};
 
 use crate::Ipv6RawExtHeaderSlice;
+use crate::encodable::raw_encodable;
 use crate::err::ipv6_exts::ExtPayloadLenError;
 use arrayvec::ArrayVec;
 use ip_base::IpNumber;
@@ -274,13 +278,18 @@ impl Ipv6RawExtHeader {
         }
     }
 
-    /// Returns the header's length in bytes, 8 to 2048.
+    /// Returns the header's length in bytes, 8 to 2048. Every value can be written: the ranges of its fields guarantee
+    /// it.
     pub fn header_len(&self) -> usize
         ensures len { result ≡ raw_len self.now }
         ensures least { 8 ≤ result }
         ensures most { result ≤ 2048 }
+        ensures encodable { (n : ℕ) → IsRawNumber n
+            → (h : ExtHeader) × IsEncoded n (raw_header self.now) h }
     {
-        self.payload.len() + 2
+        let payload = self.payload();
+        raw_encodable(self.next_header, payload);
+        payload.len() + 2
     }
 
     /// Returns the first unit of 8 bytes, which every header has.

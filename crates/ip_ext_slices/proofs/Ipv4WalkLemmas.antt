@@ -1,5 +1,5 @@
 -- The encoding of IPv4 extension headers, and the value that it parses to.
-use Rattle.ip_spec.proofs.Common.{◌≡◌, ℕ, ◌<◌, List, ◌++◌, length, drop, refl, sym, ap, ◌∙◌, subst, arith, inl, inr, rules, [], Option, Some, None, Ok, ◌↔◌, slice_range, AllByRecursion, option_map_or, ne_eqb, eqb_tells, append-nil, append_cancel_left, length-append, All-set, All-take, All-drop, IsPrefix, auth, AuthFields, auth_fields, cleared_header, AreBytes, AppendsOne, IsAuthEncoding, IsCleared, cleared_chain, ExtHeader, bytes_of, AtMostOneOf, IsEndUnder, IsParsed, auth_header}
+use Rattle.ip_spec.proofs.Common.{◌≡◌, ℕ, ◌<◌, List, ◌++◌, length, drop, refl, sym, ap, ◌∙◌, subst, arith, inl, inr, rules, [], Option, Some, None, Ok, ◌↔◌, slice_range, AllByRecursion, option_map_or, ne_eqb, eqb_tells, append-nil, append_cancel_left, length-append, All-set, All-take, All-drop, IsPrefix, auth, AuthFields, auth_fields, cleared_header, AreBytes, AppendsOne, IsAuthEncoding, IsCleared, cleared_chain, ExtHeader, bytes_of, AtMostOneOf, IsEndUnder, IsParsed, auth_header, IsEncoded}
 use Rattle.std.specs.declared.result.Result.{Result}
 use Rattle.std.specs.Prelude.{slice_set}
 use Rattle.ip_base.specs.declared.ip_number_impl.IpNumber.{IpNumber}
@@ -10,7 +10,7 @@ use Rattle.ip_spec.proofs.UnderLemmas.{one_longest_under}
 use Rattle.ip_spec.proofs.ParsedLemmas.{whole_parsed, parsed_again}
 use Rattle.ip_spec.proofs.DemandKinds.{at_most_one_of}
 use Rattle.ip_spec.proofs.EncodingLemmas.{auth_written, auth_only}
-use Rattle.ip_spec.proofs.EncodedLemmas.{one_encoded}
+use Rattle.ip_spec.proofs.EncodedLemmas.{of_number, cleared_is_encoding, encoding_is as encoded_bytes}
 use Rattle.ip_spec.proofs.ClearedLemmas.{cleared_encodes as header_encodes}
 use Rattle.ip_base.specs.declared.err.ipv4_exts.exts_walk_error.ExtsWalkError.{ExtsWalkError}
 use Rattle.ip_ext_slices.specs.Ipv4Longest.{longest_ipv4_chain}
@@ -41,20 +41,24 @@ HasValue v c = (ipv4_value c ≡ v) × AllByRecursion IsCleared c
 pub none_encodes : (f : ℕ) (v : Option AuthFields) → v ≡ None → IsIpv4Encoding f v []
 none_encodes f v e = (f, whole_parsed (AtMostOneOf 51) (at_most_one_of 51) f f (HasValue v) [] [] (no_chain f) (at_most_one_of 51).empty (sym e, tt) refl refl (λ i d l. omega arith))
 
--- Some bytes encode the fields.
-abbrev pub IsEncoded : AuthFields → Type 0
-IsEncoded w = (b : List ℕ) × AreBytes b × IsAuthEncoding w b
+-- Some header has the fields.
+abbrev pub CanBe : AuthFields → Type 0
+CanBe w = (h : ExtHeader) × IsEncoded 51 (auth_header w) h
+
+-- Its bytes encode them.
+auth_encodes : (w : AuthFields) (h : ExtHeader) → IsEncoded 51 (auth_header w) h → IsAuthEncoding w h.bytes
+auth_encodes w h e = search (rules, cleared_is_encoding)
 
 -- These bytes are the only ones, and they encode the header.
-pub one_encodes : (f : ℕ) (v : Option AuthFields) (w : AuthFields) (b : List ℕ) → f ≡ 51 → v ≡ Some w → IsEncoded w → IsAuthEncoding w b → IsIpv4Encoding f v b
-one_encodes f v w b named value (d, bytes, encodes) e = (
+pub one_encodes : (f : ℕ) (v : Option AuthFields) (w : AuthFields) (b : List ℕ) → f ≡ 51 → v ≡ Some w → CanBe w → IsAuthEncoding w b → IsIpv4Encoding f v b
+one_encodes f v w b named value (h, encoded) e = (
   w.next_header,
   whole_parsed (AtMostOneOf 51) (at_most_one_of 51) f w.next_header (HasValue v) b (chain_of b) (record {
     headers = (auth refl e.header, tt);
     links = (sym named, tt);
     zero_only_first = tt;
   }) (record { one = omega arith; number = (refl, tt) }) (ap Some e.fields ∙ sym value, (e.cleared, tt)) (ap (λ (u : AuthFields). u.next_header) e.fields) (append-nil b)
-      (subst AreBytes (one_encoded (auth_header w) d b encodes e) bytes),
+      (subst AreBytes (encoded_bytes 51 (auth_header w) h b encoded e) encoded.bytes),
 )
 
 -- With its reserved bits set to zero, the longest chain encodes its value.
@@ -68,7 +72,7 @@ cleared_encodes n s bytes =
     let fixed : AreBytes (slice_range b 1 12) = All-take (λ x. x < 256) 11 (drop 1 b) (All-drop (λ x. x < 256) 1 b whole) in
     let zeros : AreBytes d = All-set (λ x. x < 256) (slice_set b 2 0) 3 0 (omega arith) (All-set (λ x. x < 256) b 2 0 (omega arith) whole) in
     let e : IsAuthEncoding (auth_fields b) d = header_encodes 51 b (auth refl h) fixed in
-    rw append-nil (one_encodes n (Some (auth_fields b)) (auth_fields b) d named refl (d, zeros, e) e))
+    rw append-nil (one_encodes n (Some (auth_fields b)) (auth_fields b) d named refl (of_number 51 d, search (rules, zeros, e)) e))
     (longest_ipv4_chain n s) l.has.0.chain l.has.1 l.has.0.prefix
 
 -- the appended bytes encode the value
@@ -104,12 +108,12 @@ module _ (f : ℕ) (v : Option AuthFields) (m : IpNumber) where
       parsed_again (AtMostOneOf 51) (at_most_one_of 51) f m.0 ipv4_value (ipv4_faults Slice) v None b r x after.ends after.fault
 
 -- If the headers lead to a number, some bytes parse as them, and vice versa.
-leads_parsed : (f : ℕ) (v : Option AuthFields) (m : IpNumber) → ((w : AuthFields) → v ≡ Some w → IsEncoded w) → ipv4_walk v f ≡ Ok m → (s : List ℕ) × IsParsedAs v f m.0 s
+leads_parsed : (f : ℕ) (v : Option AuthFields) (m : IpNumber) → ((w : AuthFields) → v ≡ Some w → CanBe w) → ipv4_walk v f ≡ Ok m → (s : List ℕ) × IsParsedAs v f m.0 s
 leads_parsed f None m encoded walk = ([], encoding_parsed f None m [] (none_encodes f None refl) walk)
 leads_parsed f (Some w) m encoded walk = elim (eqb_tells f 51) [
-  | inl named ↦ let it = encoded w refl in (it.0, encoding_parsed f (Some w) m it.0 (one_encodes f (Some w) w it.0 named.1 refl it it.2) walk)
+  | inl named ↦ let (h, e) = encoded w refl in (h.bytes, encoding_parsed f (Some w) m h.bytes (one_encodes f (Some w) w h.bytes named.1 refl (h, e) (auth_encodes w h e)) walk)
   | inr other ↦ absurd (search rules)
 ]
 
-pub walk_parsed : (f : ℕ) (v : Option AuthFields) (m : IpNumber) (x : Result IpNumber ExtsWalkError) → ((w : AuthFields) → v ≡ Some w → IsEncoded w) → x ≡ ipv4_walk v f → (x ≡ Ok m) ↔ ((s : List ℕ) × IsParsedAs v f m.0 s)
+pub walk_parsed : (f : ℕ) (v : Option AuthFields) (m : IpNumber) (x : Result IpNumber ExtsWalkError) → ((w : AuthFields) → v ≡ Some w → CanBe w) → x ≡ ipv4_walk v f → (x ≡ Ok m) ↔ ((s : List ℕ) × IsParsedAs v f m.0 s)
 walk_parsed f v m x encoded is = search (rules, leads_parsed, parsed_leads)

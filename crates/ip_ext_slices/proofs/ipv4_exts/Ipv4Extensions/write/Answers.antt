@@ -12,7 +12,7 @@ pub returns-in_default-clause-parsed_whole : goal.returns-in_default-clause-pars
 returns-in_default-clause-parsed_whole g c = λ b m appended. encoding_parsed _ _ m b (written _ _ _ _ b (returns-in_default-clause-ok g c) appended)
 
 pub returns-in-Ok-clause-ok : goal.returns-in-Ok-clause-ok
-returns-in-Ok-clause-ok g c = let (b, encodes, appended) = c.in-Ok.ensures.ok in (b, one_encodes _ _ _ b (grind arith) c.in-Some.is c.encodable.ensures encodes, appended)
+returns-in-Ok-clause-ok g c = let (b, encodes, appended) = c.in-Ok.ensures.ok in (b, one_encodes _ _ _ b (grind arith) c.in-Some.is c.header_len.ensures.encodable encodes, appended)
 
 pub returns-in-Ok-clause-parsed_again : goal.returns-in-Ok-clause-parsed_again
 returns-in-Ok-clause-parsed_again g c = λ b r m appended. encoding_parsed_again _ _ m b r (written _ _ _ _ b (returns-in-Ok-clause-ok g c) appended)

@@ -1,14 +1,17 @@
-ghost use Rattle.std.specs.Prelude.{◌≡◌, ◌≤◌, ℕ, [], take, Some, None, IfOk, IfErr};
-ghost use Rattle.std.specs.Option.{option_map, option_map_or};
-ghost use Rattle.ip_spec.specs.Fields.{raw_len, raw_fields};
-ghost use Rattle.ip_spec.specs.Chain.{headers_within};
+ghost use Rattle.std.specs.Prelude.{◌≡◌, ◌≤◌, ◌+◌, ℕ, [], take, Some, None, IfOk, IfErr};
+ghost use Rattle.std.specs.Option.{option_map, option_map_or, ForSome};
+ghost use Rattle.ip_spec.specs.Numbers.{ROUTING, FRAGMENT, AUTHENTICATION, DESTINATION_OPTIONS};
+ghost use Rattle.ip_spec.specs.Header.{IsRawNumber};
+ghost use Rattle.ip_spec.specs.Fields.{raw_len, auth_len, raw_fields};
+ghost use Rattle.ip_spec.specs.Chain.{ExtHeader, headers_within};
+ghost use Rattle.ip_spec.specs.Places.{raw_header, fragment_header, auth_header};
 ghost use Rattle.ip_spec.specs.Demand.{IsLongestUnder};
-ghost use Rattle.ip_spec.specs.Encodable.{IsEncodable};
+ghost use Rattle.ip_spec.specs.Encodable.{IsEncoded, IsEncodable};
 ghost use Rattle.ip_spec.specs.Fits.{FitsPlaces};
 ghost use Rattle.ip_ext_headers.specs.Ipv6RawExtHeaderSlice.{bytes};
 ghost use Rattle.ip_ext_chains.specs.Fitting.{fitting_chain, fitting_fault, IsFittingAnswer, IsPlacedAnswer};
 ghost use Rattle.ip_ext_chains.specs.Slots.{AreOfNumber, value_at};
-ghost use Rattle.ip_ext_chains.specs.Ipv6Extensions.{value_of, placed_fields, exts_len, has_none, is_fragmented};
+ghost use Rattle.ip_ext_chains.specs.Ipv6Extensions.{value_of, placed_fields, final_of, exts_len, has_none, is_fragmented};
 
 use crate::err::Layer;
 use crate::err::ipv6_exts::HeaderSliceError;

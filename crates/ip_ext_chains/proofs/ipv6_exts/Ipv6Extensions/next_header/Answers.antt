@@ -6,7 +6,7 @@ use Rattle.ip_ext_chains.proofs.ipv6_exts.Ipv6Extensions.next_header.Goals as go
 
 pub headers-init : goal.headers-init
 headers-init c =
-    let on = walked_in (placed_fields c.args.self.now) c.args.first.0 c.encodable.ensures in
+    let on = walked_in (placed_fields c.args.self.now) c.args.first.0 c.header_len.ensures.encodable in
     on _ _ _ c.next_in-6.ensures.some c.next_in-6.ensures.none
     (on _ _ _ c.next_in-5.ensures.some c.next_in-5.ensures.none
     (on _ _ _ c.next_in-4.ensures.some c.next_in-4.ensures.none
@@ -20,7 +20,7 @@ headers-smaller c = step_less c.headers.walk c.next.new.self _ c.in-Some.ensures
 
 pub headers-preserved : goal.headers-preserved
 headers-preserved c =
-    walked_more c.headers.walk c.next.new.self _ c.in-Some.ensures.some (placed_fields c.args.self.now) c.args.first.0 c.encodable.ensures c.headers.invariant
+    walked_more c.headers.walk c.next.new.self _ c.in-Some.ensures.some (placed_fields c.args.self.now) c.args.first.0 c.header_len.ensures.encodable c.headers.invariant
 
 pub returns-clause-answer : goal.returns-clause-answer
 returns-clause-answer c =
@@ -28,5 +28,5 @@ returns-clause-answer c =
 
 pub returns-clause-exactly : goal.returns-clause-exactly
 returns-clause-exactly c =
-    answer_exactly c.args.self.now c.args.first.0 c.encodable.ensures _
+    answer_exactly c.args.self.now c.args.first.0 c.header_len.ensures.encodable _
     (walked_answer (placed_fields c.args.self.now) c.args.first.0 c.headers.walk c.next.new.self c.headers.invariant c.in_default.ensures.none _ c.answer.ensures)

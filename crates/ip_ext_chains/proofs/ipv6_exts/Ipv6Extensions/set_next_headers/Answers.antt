@@ -46,4 +46,4 @@ returns-clause-links c p =
 
 pub returns-clause-leads : goal.returns-clause-leads
 returns-clause-leads c =
-    answer_same _ _ _ _ _ (returns-clause-links c) (numbers c).hop_by_hop_options (linked_leads (placed_fields c.args.self.now) c.args.last.0 (omega arith) c.encodable.ensures)
+    answer_same _ _ _ _ _ (returns-clause-links c) (numbers c).hop_by_hop_options (linked_leads (placed_fields c.args.self.now) c.args.last.0 (omega arith) c.header_len.ensures.encodable)

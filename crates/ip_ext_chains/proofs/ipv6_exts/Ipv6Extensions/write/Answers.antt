@@ -12,7 +12,7 @@ append_next-requires g c =
 
 pub headers-init : goal.headers-init
 headers-init g c =
-    let on = written_in (placed_fields c.args.self.now) c.args.first.0 c.encodable.ensures in
+    let on = written_in (placed_fields c.args.self.now) c.args.first.0 c.header_len.ensures.encodable in
     let w = c.new-walk.ensures in
     let n1 = c.append_next.ensures in
     let n2 = c.append_next-2.ensures in
@@ -41,7 +41,7 @@ append-requires g c =
 pub headers-preserved : goal.headers-preserved
 headers-preserved g c =
     let s = c.in-Some.ensures.some in (
-      written_more (placed_fields c.args.self.now) c.args.first.0 c.encodable.ensures c.headers.walk c.next.new.self _ s _ _ _ _ _ c.headers.invariant.0 c.append.ensures.appended
+      written_more (placed_fields c.args.self.now) c.args.first.0 c.header_len.ensures.encodable c.headers.walk c.next.new.self _ s _ _ _ _ _ c.headers.invariant.0 c.append.ensures.appended
           (omega (arith, c.headers.invariant.0.fits, step_len c.headers.walk c.next.new.self _ s, c.append.ensures.len, c.append.ensures.capacity, c.headers.out.ok.0, c.append.new.out.ok.0)),
       omega (arith, c.headers.invariant.1, c.append.ensures.capacity),
     )
@@ -68,7 +68,7 @@ returns-in-Ok-clause-parsed_again g c = written_again c.args.self.now c.args.fir
 
 pub returns-in-Ok-clause-parsed_whole : goal.returns-in-Ok-clause-parsed_whole
 returns-in-Ok-clause-parsed_whole g c =
-    written_whole c.args.self.now c.args.first.0 c.args.out.now.items c.headers.out.items (written g c) c.encodable.ensures
+    written_whole c.args.self.now c.args.first.0 c.args.out.now.items c.headers.out.items (written g c) c.header_len.ensures.encodable
 
 pub returns-in-Ok-clause-cleared : goal.returns-in-Ok-clause-cleared
 returns-in-Ok-clause-cleared g c = written_cleared c.args.self.now c.args.first.0 c.args.out.now.items c.headers.out.items (written g c)

@@ -202,10 +202,11 @@ impl Ipv6FragmentHeader {
         ensures len { result ≡ 8 }
         ensures encodable { (h : ExtHeader) × IsEncoded FRAGMENT (fragment_header self.now) h }
     {
+        let (offset, more_fragments) = (self.fragment_offset, self.more_fragments);
         fragment_encodable(
             self.next_header,
-            self.fragment_offset,
-            self.more_fragments,
+            offset,
+            more_fragments,
             self.identification,
         );
         Self::LEN

@@ -202,13 +202,8 @@ impl Ipv6FragmentHeader {
         ensures len { result ≡ 8 }
         ensures encodable { (h : ExtHeader) × IsEncoded FRAGMENT (fragment_header self.now) h }
     {
-        let (offset, more_fragments) = (self.fragment_offset, self.more_fragments);
-        fragment_encodable(
-            self.next_header,
-            offset,
-            more_fragments,
-            self.identification,
-        );
+        let (offset, more) = (self.fragment_offset, self.more_fragments);
+        fragment_encodable(self.next_header, offset, more, self.identification);
         Self::LEN
     }
 

@@ -12,5 +12,4 @@ pub mod LinkedLemmas
 pub mod RefusedLemmas
 pub mod RewritingLemmas
 pub mod ReadingLemmas
-pub mod ReadIntoLemmas
 pub mod ReadErrorLemmas

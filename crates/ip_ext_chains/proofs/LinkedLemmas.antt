@@ -9,7 +9,7 @@ number_before v p ps m f o r n here is after = search rules
 
 -- a header linked to a number, and that number
 pub linked_to : (x y z : Option HeaderFields) (k n : ℕ) → x ≡ option_map (relinked k) y → y ≡ z → k ≡ n → x ≡ option_map (relinked n) z
-linked_to x y z k n e f g = e ∙ ap (option_map (relinked k)) f ∙ ap (λ j. option_map (relinked j) z) g
+linked_to x y z k n e f g = cc
 
 pub answer_same : (v w : PlacedFields) (f g : ℕ) (a : WalkAnswer) → ((p : Place) → v p ≡ w p) → f ≡ g → IsWalkAnswer w g a → IsWalkAnswer v f a
 answer_same v w f g a e k x = search rules

@@ -1,4 +1,5 @@
 -- The number before the remaining runs: it starts the headers that are left, and each run leads to the next one.
+use Rattle.ip_spec.proofs.Common.{sym}
 use Rattle.ip_spec.proofs.Common.{◌≡◌, ◌≢◌, ℕ, List, ◌∷◌, ◌++◌, map, refl, ap, ◌∙◌, Bool, true, subst, rules, [], if◌then◌else◌, AreBytes, ExtHeader, leads_to, bytes_of, IsChain}
 use Rattle.ip_spec.proofs.RunsLemmas.{chain_after, leads_to-append}
 use Rattle.ip_ext_chains.specs.Ipv6Extensions.{value_of}
@@ -35,23 +36,11 @@ number_before-end m c done last e = search (rules, values_left-some)
 
 -- The headers c, which lead to m, are a run and the remaining ones d.
 module _ (n m : ℕ) (c d : List ExtHeader) (v : Places Ipv6ExtensionSlice) (chain : IsChain n c) (ends : m ≡ leads_to m c) (r : IsRun c v d) where
-  abbrev p : List ExtHeader
-  p = r.run
-
-  joined : c ≡ p ++ d
-  joined = r.kept.joined ∙ ap (λ l. p ++ l) r.left
-
-  both : IsChain (number_before m c) (p ++ d)
-  both = let C : List ExtHeader → Type 0 = IsChain (number_before m c) in subst C joined (chain_before n m c chain)
-
-  on : m ≡ leads_to (leads_to (number_before m c) p) d
-  on = leads_before m c ends ∙ ap (leads_to (number_before m c)) joined ∙ leads_to-append (number_before m c) p d
-
-  pub run_leads : number_before m d ≡ leads_to (number_before m c) p
-  run_leads = number_before-chain (leads_to (number_before m c) p) m d (chain_after (number_before m c) p d both) on
+  pub run_leads : number_before m d ≡ leads_to (number_before m c) r.run
+  run_leads = search (rules, number_before-chain, chain_after (number_before m c) r.run d, chain_before n m c chain, leads_before, leads_to-append)
 
   pub bytes_after : AreBytes (bytes_of c) → AreBytes (bytes_of d)
-  bytes_after bytes = let B : List ExtHeader → Type 0 = λ l. AreBytes (bytes_of l) in later_bytes p d (subst B joined bytes)
+  bytes_after bytes = let joined : c ≡ r.run ++ d = cc in search (rules, later_bytes r.run d)
 
   pub ends_after : m ≡ leads_to m d
-  ends_after = leads_alike (leads_to (number_before m c) p) m d on
+  ends_after = search (rules, leads_alike (leads_to (number_before m c) r.run), leads_before, leads_to-append)

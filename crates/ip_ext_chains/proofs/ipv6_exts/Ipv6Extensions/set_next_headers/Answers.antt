@@ -28,9 +28,6 @@ numbers c =
     let n0 = number_before v hop_by_hop (drop 1 places) m raw_header _ c.link_raw.result.0 _ refl c.link_raw.ensures.number n1 in
     record { hop_by_hop_options = n0; destination_options = n1; routing_header = n2; fragment_header = n3; auth_header = n4; final_options = n5 }
 
-pub returns-clause-first : goal.returns-clause-first
-returns-clause-first c = (numbers c).hop_by_hop_options
-
 pub returns-clause-links : goal.returns-clause-links
 returns-clause-links c p =
     let n : Numbers c = numbers c in

@@ -76,12 +76,6 @@ returns-in-Ok-clause-cleared g c = written_cleared c.args.self.now c.args.first.
 pub returns-in-Ok-clause-alike : goal.returns-in-Ok-clause-alike
 returns-in-Ok-clause-alike g c = written_alike c.args.self.now c.args.first.0 c.args.out.now.items c.headers.out.items (written g c)
 
-pub returns-in-Ok-clause-capacity : goal.returns-in-Ok-clause-capacity
-returns-in-Ok-clause-capacity g c = c.headers.invariant.1
-
-pub returns-in-Err-answer-clause-capacity : goal.returns-in-Err-answer-clause-capacity
-returns-in-Err-answer-clause-capacity g c = c.headers.invariant.1
-
 pub returns-in-Err-answer-clause-content : goal.returns-in-Err-answer-clause-content
 returns-in-Err-answer-clause-content g c = λ fault e.
     let k = c.headers.invariant.0 in

@@ -1,5 +1,5 @@
 -- The longest chain that fits six places, as the first run of the longest chain.
-use Rattle.ip_spec.proofs.Common.{◌≡◌, ◌≢◌, ℕ, ◌-◌, List, ◌∷◌, ◌++◌, length, take, drop, refl, ap, sym, ◌∙◌, inl, inr, true, false, subst, rules, [], Option, Some, None, IsSome, if◌then◌else◌, cases_Bool, IsExtensionNumber, append-nil, length-append, ExtHeader, leads_to, bytes_of, headers_within, is_empty, IsChain, IsPrefixChain, rest_after, fault_after, KeepsBeginning, NextBreaks, IsLongestUnder, IsEndUnder, FitsPlaces, IsOccupied, IsLaterNumber, Place, header_in, next_place, ◌==◌, ◌||◌, is_some, ne_eqb, eq-eqb}
+use Rattle.ip_spec.proofs.Common.{◌≡◌, ◌≢◌, ℕ, ◌-◌, List, ◌++◌, length, take, drop, rules, [], Option, Some, None, IsSome, cases_Bool, IsExtensionNumber, append-nil, length-append, ExtHeader, leads_to, bytes_of, headers_within, is_empty, IsChain, IsPrefixChain, rest_after, fault_after, IsLongestUnder, IsEndUnder, FitsPlaces, IsOccupied, IsLaterNumber, header_in, next_place, ◌==◌, is_some, ne_eqb}
 use Rattle.ip_ext_slices.proofs.FaultLemmas.{fault_at_end, end_at_other, no_fault_at_other}
 use Rattle.ip_ext_slices.proofs.RequestFaultLemmas.{fault_ends}
 use Rattle.std.proofs.lemmas.Grind.{flat_map-append}

@@ -1,5 +1,5 @@
 -- The numbers that are set when headers are linked.
-use Rattle.ip_spec.proofs.Common.{◌≡◌, ℕ, List, ◌∷◌, ap, ◌∙◌, rules, Option, is_some, if◌then◌else◌, option_map, Place, number_in, HeaderFields, PlacedFields, IsWalkAnswer, relinked, first_number}
+use Rattle.ip_spec.proofs.Common.{◌≡◌, ℕ, List, ◌∷◌, rules, Option, is_some, if◌then◌else◌, option_map, Place, number_in, HeaderFields, PlacedFields, IsWalkAnswer, relinked, first_number}
 use Rattle.ip_spec.proofs.WalkLemmas.{WalkAnswer}
 
 -- the number to which the headers before a place lead

@@ -1,6 +1,5 @@
 -- A struct of six places, and its fields in each.
-use Rattle.ip_spec.proofs.Common.{common_steps}
-use Rattle.ip_spec.proofs.Common.{◌≡◌, ℕ, List, refl, ap, sym, ◌∙◌, arith, true, rules, Option, None, is_some, option_map, option_map_or, ForSome, RawFields, FragmentFields, AuthFields, raw_fields, fragment_fields, auth_fields, ExtHeader, Place, hop_by_hop, destination, routing, authentication, final_destination, number_in, header_in, HeaderFields, raw_header, fragment_header, auth_header, fields_of, IsEncoded, IsEncodable, placed_len, fields_len}
+use Rattle.ip_spec.proofs.Common.{◌≡◌, ℕ, List, true, rules, Option, None, is_some, option_map, ForSome, raw_fields, ExtHeader, Place, hop_by_hop, destination, routing, authentication, final_destination, number_in, header_in, HeaderFields, raw_header, fields_of, IsEncoded, IsEncodable, placed_len}
 use Rattle.ip_spec.specs.Places.{fragment}
 use Rattle.ip_spec.proofs.PlaceLemmas.{none_after}
 use Rattle.ip_spec.proofs.EncodedLemmas.{same_fragment, same_auth}

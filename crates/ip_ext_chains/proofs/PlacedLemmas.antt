@@ -1,5 +1,5 @@
 -- Headers in their places.
-use Rattle.ip_spec.proofs.Common.{◌≡◌, ℕ, List, refl, ap, sym, ◌∙◌, Bool, rules, Option, Some, is_some, IfSome, if◌then◌else◌, option_map, eqb-true, raw_fields, fragment_fields, auth_fields, ExtHeader, Place, hop_by_hop, destination, routing, authentication, final_destination, number_in, header_in, next_place}
+use Rattle.ip_spec.proofs.Common.{◌≡◌, ℕ, List, refl, ap, ◌∙◌, Bool, rules, Option, Some, if◌then◌else◌, option_map, eqb-true, raw_fields, fragment_fields, auth_fields, ExtHeader, Place, hop_by_hop, destination, routing, authentication, final_destination, number_in, header_in, next_place}
 use Rattle.ip_spec.specs.Places.{fragment}
 use Rattle.ip_spec.proofs.FirstLemmas.{find_passes}
 use Rattle.ip_spec.proofs.PlaceLemmas.{is_of, side, next_alike}

@@ -1,6 +1,5 @@
 -- The error of a chain that is read is the error of the parse.
-use Rattle.ip_spec.proofs.Common.{common_steps, arith}
-use Rattle.ip_spec.proofs.Common.{◌≡◌, ℕ, ◌<◌, List, ◌++◌, length, refl, ap, ◌∙◌, Bool, true, false, rules, Option, Some, IsTrue, option_map, Consumes, Asks, IsZeroLength, ExtHeader, leads_to, bytes_of, is_empty}
+use Rattle.ip_spec.proofs.Common.{◌≡◌, ℕ, ◌<◌, List, ◌++◌, length, refl, Bool, true, false, rules, Option, Some, IsTrue, Consumes, Asks, IsZeroLength, ExtHeader, leads_to, bytes_of, is_empty}
 use Rattle.ip_base.specs.declared.len_source.LenSource.TheVariants.{Slice}
 use Rattle.ip_base.specs.declared.err.io.limited_read_error.LimitedReadError.{LimitedReadError}
 use Rattle.ip_base.specs.ExactRead.{IfSteady}

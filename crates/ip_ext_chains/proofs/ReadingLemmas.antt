@@ -1,14 +1,12 @@
 -- A chain that is read, header by header, into six places.
-use Rattle.ip_spec.proofs.StepLemmas.{chain_more, chain_begins}
-use Rattle.ip_spec.proofs.Common.{common_steps, ◌≡◌, ◌≢◌, ℕ, ◌+◌, ◌<◌, List, ◌∷◌, ◌++◌, length, drop, take, refl, ap, sym, ◌∙◌, arith, inl, inr, subst, Bool, true, false, rules, [], ◌==◌, ◌&&◌, not, Option, Some, None, is_some, if◌then◌else◌, option_map, cases_Bool, ne_eqb, eq-eqb, none-some, take-length, drop-append_seam, IsHeader, IsExtensionNumber, ExtHeader, IsChain, IsNext, leads_to, bytes_of, is_empty, FitsPlaces, Place, hop_by_hop, destination, routing, authentication, final_destination, index, number_in, header_in, next_place, next_in_chain, IsOccupied, fields_of, HeaderFields, raw_header}
+use Rattle.ip_spec.proofs.StepLemmas.{chain_more}
+use Rattle.ip_spec.proofs.Common.{◌≡◌, ◌≢◌, ℕ, ◌+◌, ◌<◌, List, ◌∷◌, ◌++◌, inl, inr, Bool, true, false, rules, [], ◌==◌, Option, Some, None, is_some, if◌then◌else◌, ne_eqb, IsHeader, ExtHeader, IsChain, leads_to, bytes_of, is_empty, FitsPlaces, Place, hop_by_hop, destination, routing, authentication, final_destination, index, number_in, header_in, next_place, next_in_chain, IsOccupied, fields_of, raw_header}
 use Rattle.ip_spec.specs.Places.{fragment}
-use Rattle.ip_spec.proofs.PrefixLemmas.{prefix_of-append}
-use Rattle.ip_spec.proofs.ChainLemmas.{no_chain, goes_on, leads_to-more}
+use Rattle.ip_spec.proofs.ChainLemmas.{leads_to-more}
 use Rattle.ip_ext_chains.proofs.FittingLemmas.{occupied_answers, other_answers}
 use Rattle.ip_spec.proofs.WalkLemmas.{none_if, is_some-map}
-use Rattle.ip_spec.proofs.WalkStepLemmas.{not_empty, next_place_is}
-use Rattle.ip_spec.proofs.HeaderLemmas.{later_of, later_or, later_not_zero}
-use Rattle.ip_spec.proofs.FitsLemmas.{fits_places}
+use Rattle.ip_spec.proofs.WalkStepLemmas.{not_empty}
+use Rattle.ip_spec.proofs.HeaderLemmas.{later_of, later_or}
 use Rattle.ip_spec.proofs.PlaceLemmas.{place_of, has_routing, place_number, final_after, placed, fits_more, own_next, next_alike}
 use Rattle.ip_ext_chains.specs.Fitting.{IsFittingAnswer}
 use Rattle.ip_ext_chains.specs.Ipv6Extensions.{value_of, placed_fields}

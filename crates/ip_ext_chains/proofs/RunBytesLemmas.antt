@@ -1,5 +1,4 @@
 -- The headers of a chain at the start of bytes are bytes, and so are those of its parts.
-use Rattle.ip_spec.proofs.Common.{rules}
 use Rattle.ip_spec.proofs.Common.{common_steps, ℕ, ◌<◌, List, ◌++◌, length, subst, arith, take-append_seam, drop-append_seam, flat_map-append, All-take, All-drop, AreBytes, ExtHeader, bytes_of}
 use Rattle.ip_spec.proofs.PrefixLemmas.{prefix-append}
 use Rattle.ip_ext_slices.specs.Longest.{longest_chain}

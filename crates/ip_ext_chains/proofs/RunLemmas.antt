@@ -1,6 +1,5 @@
 -- Headers stored in their places, and the end of a run.
-use Rattle.ip_spec.proofs.Common.{take}
-use Rattle.ip_spec.proofs.Common.{common_steps, ◌≡◌, ◌≢◌, ℕ, ◌*◌, ◌≤◌, List, ◌∷◌, ◌++◌, length, map, nat_eq, arith, refl, ap, sym, ◌∙◌, Bool, true, false, subst, append_assoc, rules, [], ◌==◌, Option, Some, None, is_some, if◌then◌else◌, option_map, eqb-true, YieldsList, YieldsList-from_shown, ExtHeader, bytes_of, IsChain, IsLaterNumber, FitsPlaces, Place, index, header_in, next_place}
+use Rattle.ip_spec.proofs.Common.{common_steps, ◌≡◌, ◌≢◌, ℕ, List, ◌∷◌, ◌++◌, length, map, nat_eq, arith, refl, Bool, true, false, append_assoc, rules, [], Option, Some, None, if◌then◌else◌, eqb-true, YieldsList, YieldsList-from_shown, ExtHeader, bytes_of, IsChain, IsLaterNumber, FitsPlaces, Place, header_in, next_place}
 use Rattle.ip_spec.proofs.PlaceLemmas.{placed, fits_more, own_next, fits_where_next}
 use Rattle.ip_spec.proofs.WalkLemmas.{none_if}
 use Rattle.ip_ext_slices.specs.Ipv6ExtensionSlice.{header_of}

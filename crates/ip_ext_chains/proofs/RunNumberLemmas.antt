@@ -1,6 +1,5 @@
 -- The number before the remaining runs: it starts the headers that are left, and each run leads to the next one.
-use Rattle.ip_spec.proofs.Common.{sym}
-use Rattle.ip_spec.proofs.Common.{◌≡◌, ◌≢◌, ℕ, List, ◌∷◌, ◌++◌, map, refl, ap, ◌∙◌, Bool, true, subst, rules, [], if◌then◌else◌, AreBytes, ExtHeader, leads_to, bytes_of, IsChain}
+use Rattle.ip_spec.proofs.Common.{◌≡◌, ◌≢◌, ℕ, List, ◌∷◌, ◌++◌, map, refl, Bool, true, rules, [], if◌then◌else◌, AreBytes, ExtHeader, leads_to, bytes_of, IsChain}
 use Rattle.ip_spec.proofs.RunsLemmas.{chain_after, leads_to-append}
 use Rattle.ip_ext_chains.specs.Ipv6Extensions.{value_of}
 use Rattle.ip_ext_chains.specs.RunsOf.{runs_from}

@@ -1,7 +1,6 @@
 -- The encodings of the values of runs: the runs themselves, with their reserved bits set to zero.
-use Rattle.ip_spec.proofs.RunsLemmas.{some_runs}
 use Rattle.ip_spec.proofs.Common.{rules}
-use Rattle.ip_spec.proofs.Common.{◌≡◌, ℕ, List, ◌∷◌, ◌++◌, map, refl, ap, sym, ◌∙◌, subst, Bool, true, false, [], if◌then◌else◌, flat_map, AllByRecursion, flat_map-append, AreBytes, cleared_chain, ExtHeader, IsChain, leads_to, bytes_of, FitsPlaces, AreChains, AreRuns, joined}
+use Rattle.ip_spec.proofs.Common.{◌≡◌, ℕ, List, ◌∷◌, map, refl, Bool, [], if◌then◌else◌, flat_map, AllByRecursion, flat_map-append, AreBytes, cleared_chain, ExtHeader, leads_to, bytes_of, FitsPlaces, AreChains, joined}
 use Rattle.ip_spec.proofs.ClearedLemmas.{cleared_leads}
 use Rattle.ip_spec.proofs.RunsLemmas.{runs_joined, runs_written, runs_fit, runs_chains}
 use Rattle.ip_spec.proofs.SpellingLemmas.{one_spelling, cleared_spells}

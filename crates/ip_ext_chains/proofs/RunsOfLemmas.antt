@@ -1,7 +1,7 @@
 -- The runs of the longest chain, and the remaining ones.
 use Rattle.ip_spec.proofs.Common.{common_steps}
-use Rattle.ip_spec.proofs.Common.{◌≡◌, ◌≢◌, ℕ, ◌+◌, ◌/◌, ◌≤◌, List, ◌∷◌, ◌++◌, length, map, refl, ap, sym, ◌∙◌, arith, subst, Bool, true, false, rules, [], if◌then◌else◌, AllByRecursion, append-nil, ExtHeader, leads_to, KeepsBeginning, FitsPlaces, IsOccupied, AreRuns, joined, how_many}
-use Rattle.ip_spec.proofs.RunsLemmas.{some_runs, one_runs, fewest_runs, some_run, runs_bound, runs_more, runs_end}
+use Rattle.ip_spec.proofs.Common.{◌≡◌, ◌≢◌, ℕ, ◌+◌, ◌/◌, ◌≤◌, List, ◌∷◌, length, map, refl, arith, Bool, true, false, rules, [], if◌then◌else◌, AllByRecursion, append-nil, ExtHeader, leads_to, KeepsBeginning, FitsPlaces, IsOccupied, AreRuns, joined, how_many}
+use Rattle.ip_spec.proofs.RunsLemmas.{some_runs, one_runs, fewest_runs, some_run, runs_bound, runs_more}
 use Rattle.ip_ext_slices.specs.Longest.{longest_chain}
 use Rattle.ip_ext_chains.specs.Ipv6Extensions.{value_of}
 use Rattle.ip_ext_chains.specs.RunsOf.{runs_from, runs_of}

@@ -1,10 +1,10 @@
 -- The headers that a walk over a struct of six places has reached and written.
-use Rattle.ip_spec.proofs.Common.{rules, refl}
-use Rattle.ip_spec.proofs.Common.{common_steps, ◌≡◌, ℕ, ◌+◌, ◌<◌, ◌≤◌, List, ◌∷◌, ◌++◌, length, ap, sym, ◌∙◌, arith, subst, append_assoc, true, ⊤, ◌==◌, [], Option, Some, None, is_some, if◌then◌else◌, IfSome, IfNone, append-nil, AppendsOne, ExtHeader, bytes_of, Place, index, number_in, HeaderFields, IsEncoded, IsEncodable, fields_len, placed_len, IsLongestOf, PlacedFields, IsReachable, answer_at, IsWalkAnswer, next_of, next_in_chain, IsEncodingOf}
+use Rattle.ip_spec.proofs.Common.{rules}
+use Rattle.ip_spec.proofs.Common.{common_steps, ◌≡◌, ℕ, ◌+◌, ◌<◌, ◌≤◌, List, ◌∷◌, ◌++◌, length, ap, arith, append_assoc, true, [], Option, Some, None, IfSome, IfNone, append-nil, AppendsOne, ExtHeader, bytes_of, Place, number_in, HeaderFields, IsEncoded, IsEncodable, fields_len, placed_len, IsLongestOf, PlacedFields, IsReachable, answer_at, IsWalkAnswer, next_in_chain, IsEncodingOf}
 use Rattle.ip_spec.proofs.StepLemmas.{bytes_of-more}
 use Rattle.ip_spec.proofs.EncodedLemmas.{encoding_is}
 use Rattle.ip_spec.proofs.WalkLemmas.{WalkAnswer}
-use Rattle.ip_spec.proofs.WalkStepLemmas.{FillsIn, Walking, left, some_or, walk_begins, walks_on, walk_stops, walk_answers, same_held}
+use Rattle.ip_spec.proofs.WalkStepLemmas.{FillsIn, Walking, walk_begins, walks_on, walk_stops, walk_answers, same_held}
 use Rattle.ip_spec.proofs.LinkLemmas.{next_said}
 use Rattle.ip_spec.proofs.SumLemmas.{sum_placed, sum_left}
 use Rattle.ip_ext_chains.specs.Slots.{at, IsVacant}

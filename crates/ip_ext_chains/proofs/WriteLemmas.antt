@@ -1,9 +1,8 @@
 -- A struct of six places as it is parsed, and as it is written.
-use Rattle.ip_spec.proofs.Common.{common_steps, refl}
-use Rattle.ip_spec.proofs.Common.{◌≡◌, ℕ, ◌+◌, ◌<◌, List, ◌++◌, length, ap, sym, ◌∙◌, arith, subst, rules, Ok, Err, None, ◌↔◌, append_cancel_left, length-append, All-take, IsLongestOf, IsExtensionNumber, AreBytes, cleared_chain, ExtHeader, leads_to, bytes_of, FitsPlaces, IsEncodable, IsValueOf, IsSpelling, IsReachable, IsWalkAnswer, IsParsed}
+use Rattle.ip_spec.proofs.Common.{◌≡◌, ℕ, ◌+◌, ◌<◌, List, ◌++◌, length, ap, sym, arith, rules, Ok, Err, None, ◌↔◌, append_cancel_left, length-append, All-take, IsLongestOf, IsExtensionNumber, AreBytes, cleared_chain, ExtHeader, leads_to, bytes_of, FitsPlaces, IsEncodable, IsValueOf, IsSpelling, IsReachable, IsWalkAnswer, IsParsed}
 use Rattle.ip_spec.proofs.FitsLemmas.{fits_places}
 use Rattle.ip_spec.proofs.ParsedLemmas.{whole_parsed}
-use Rattle.ip_spec.proofs.WalkLemmas.{WalkAnswer, leads, one_reach}
+use Rattle.ip_spec.proofs.WalkLemmas.{WalkAnswer, one_reach}
 use Rattle.ip_spec.proofs.SpellingLemmas.{one_spelling, spelling_is_reach, one_answer, leads_exactly, leads_spelled, spelled_leads, shown_bytes, cleared_spells, spelled_alike}
 use Rattle.ip_spec.proofs.SumLemmas.{bytes_len}
 use Rattle.ip_ext_chains.specs.Fitting.{fitting_chain, IsFittingAnswer}

@@ -1,5 +1,4 @@
-use Rattle.ip_spec.proofs.Common.{◌∙◌, arith, refl, ap, map, get_or_default, AreBytes}
-use Rattle.ip_ext_chains.specs.Ipv6Extensions.{value_of}
+use Rattle.ip_spec.proofs.Common.{◌∙◌, arith, refl, get_or_default, AreBytes}
 use Rattle.ip_ext_chains.proofs.RunsOfLemmas.{runs_from-are}
 use Rattle.ip_ext_chains.proofs.RunSpellingLemmas.{runs_spelled, spellings_written}
 use Rattle.ip_ext_chains.proofs.ipv6_exts_runs.Ipv6ExtensionsRuns.new.Goals as goal

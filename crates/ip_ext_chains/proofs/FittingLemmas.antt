@@ -21,7 +21,7 @@ use Rattle.ip_ext_slices.specs.declared.ipv6_ext_slice.Ipv6ExtensionSlice.{Ipv6E
 use Rattle.ip_ext_chains.specs.declared.ipv6_exts.Ipv6Extensions.{Ipv6Extensions}
 use Rattle.ip_ext_chains.specs.declared.places.Places.{Places}
 use Rattle.ip_ext_slices.proofs.LongestLemmas.{longest_chain-longest}
-use Rattle.ip_ext_chains.proofs.RunNumberLemmas.{number_before-some}
+use Rattle.ip_ext_chains.proofs.RunsOfLemmas.{number_before-some}
 use Rattle.ip_ext_chains.proofs.PlacedLemmas.{next_same, value_placed, placed_numbers}
 
 pub fitting_longest : (n : ℕ) (s : List ℕ) → IsLongestUnder FitsPlaces n s (fitting_chain n s)

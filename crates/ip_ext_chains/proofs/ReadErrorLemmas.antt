@@ -30,7 +30,8 @@ module _ {R : Type 0} (Consumed : R → R → List ExtHeader → Type 0) (Refuse
   error_is x f e = cc (fitting_fault_is n k.headers (leads_to n k.headers) k.chain k.fits refl x f k.free e)
 
   pub short_is : (leads_to n k.headers ≡ 0 → IsTrue (is_empty k.headers)) → (done : List ℕ) (count : ℕ) (xs : List ℕ) → Asks (leads_to n k.headers) done count → length xs < count → IsTooShort n (bytes_of k.headers ++ (done ++ xs))
-  short_is zero_first done count xs asks few = let f = asks_fault Slice (length (done ++ xs)) (length (bytes_of k.headers)) (is_empty k.headers) (leads_to n k.headers) done count xs few zero_first asks in search (rules, error_is)
+  short_is zero_first done count xs asks few =
+      let f = asks_fault Slice (length (done ++ xs)) (length (bytes_of k.headers)) (is_empty k.headers) (leads_to n k.headers) done count xs few zero_first asks in search (rules, error_is)
 
   pub zero_is : (done xs : List ℕ) → leads_to n k.headers ≡ 51 → IsZeroLength done → HasError n (slice.Content (IpAuth ZeroPayloadLen)) (bytes_of k.headers ++ (done ++ xs))
   zero_is done xs is z = search (rules, error_is (done ++ xs), zero_fault)
@@ -57,7 +58,8 @@ module _ {T : Type 0} (bytes_left : T → Option (List ℕ)) (is_steady has_fail
   pub layer_refused_error : (e : HeaderLimitedReadError) (old new : LimitedReader T) (n : ℕ)
       → IsChainRefused (AreConsumedInLayers bytes_left is_steady has_failed) (IsHeaderRefusedInLayer bytes_left is_steady has_failed e) old new n
       → IsSliceErrorInLayers n (is_steady (inner_of old)) (window bytes_left old) e
-  layer_refused_error (limited.Io e) old new n k = let short = refused_within_short (Asks (leads_to n k.headers)) (λ y. IsTooShort n (bytes_of k.headers ++ y)) (short_is _ _ old new n k k.refused.0) bytes_left is_steady has_failed _ k.between new k.refused.1 in search (rules, lift_steady)
+  layer_refused_error (limited.Io e) old new n k =
+      let short = refused_within_short (Asks (leads_to n k.headers)) (λ y. IsTooShort n (bytes_of k.headers ++ y)) (short_is _ _ old new n k k.refused.0) bytes_left is_steady has_failed _ k.between new k.refused.1 in search (rules, lift_steady)
   layer_refused_error (limited.Len e) old new n k = search (rules, lift_some, past_limit_short, short_is)
   layer_refused_error (limited.Content HopByHopNotAtStart) old new n k = search (rules, lift_some, of_all, later_is)
   layer_refused_error (limited.Content (IpAuth ZeroPayloadLen)) old new n k = search (rules, lift_some, of_begun, zero_is)

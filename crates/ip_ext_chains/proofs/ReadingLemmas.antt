@@ -60,11 +60,13 @@ module _ (n : ℕ) (c : List ExtHeader) (m : ℕ) (v : Ipv6Extensions) (first : 
     not_occupied t = let same = next_same c v k.value m in search rules
 
     pub nested : p ≡ final_destination → is_some v.routing ≡ true
-    nested e = let at : place_of 60 (has_routing c) ≡ Some final_destination = cc (is_number_in, in_chain.0) in
+    nested e =
+        let at : place_of 60 (has_routing c) ≡ Some final_destination = cc (is_number_in, in_chain.0) in
         cc (is_some-map (λ (r : Ipv6RoutingExtensions). raw_header r.routing) v.routing, filled c v k.value routing, final_after (has_routing c) at)
 
     pub reading_next : (Consumed : List ℕ → Type 0) (j : ℕ) (w : Ipv6Extensions) (r : IsReadInto Consumed p j v w) → IsReading n (c ++ record { number = m; bytes = r.bytes } ∷ []) j w false
-    reading_next Consumed j w r = let h : ExtHeader = record { number = m; bytes = r.bytes } in
+    reading_next Consumed j w r =
+        let h : ExtHeader = record { number = m; bytes = r.bytes } in
         let number = is_number_in in
         let header : IsHeader m r.bytes = rw number r.header in
         record {

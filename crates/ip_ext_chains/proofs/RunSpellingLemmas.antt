@@ -1,19 +1,17 @@
 -- The encodings of the values of runs: the runs themselves, with their reserved bits set to zero.
-use Rattle.ip_spec.proofs.Common.{rules}
-use Rattle.ip_spec.proofs.Common.{◌≡◌, ℕ, List, ◌∷◌, map, refl, Bool, [], if◌then◌else◌, flat_map, AllByRecursion, flat_map-append, AreBytes, cleared_chain, ExtHeader, leads_to, bytes_of, FitsPlaces, AreChains, joined}
+use Rattle.ip_spec.proofs.Common.{rules, ◌≡◌, ℕ, List, ◌∷◌, map, refl, Bool, [], if◌then◌else◌, flat_map, AllByRecursion, flat_map-append, AreBytes, cleared_chain, ExtHeader, leads_to, bytes_of, FitsPlaces, AreChains, joined}
 use Rattle.ip_spec.proofs.ClearedLemmas.{cleared_leads}
 use Rattle.ip_spec.proofs.RunsLemmas.{runs_joined, runs_written, runs_fit, runs_chains}
 use Rattle.ip_spec.proofs.SpellingLemmas.{one_spelling, cleared_spells}
 use Rattle.ip_ext_slices.specs.Longest.{longest_chain}
 use Rattle.ip_ext_chains.specs.Ipv6Extensions.{value_of, placed_fields}
-use Rattle.ip_ext_chains.specs.RunsOf.{AreSpellings, runs_from}
+use Rattle.ip_ext_chains.specs.RunsOf.{AreSpellings, runs_from, runs_of}
 use Rattle.ip_ext_chains.specs.Ipv6ExtensionsRuns.{number_before}
 use Rattle.ip_ext_chains.specs.declared.ipv6_exts.Ipv6Extensions.{Ipv6Extensions}
 use Rattle.ip_ext_slices.proofs.LongestLemmas.{longest_chain-longest}
 use Rattle.ip_ext_chains.proofs.PlacedFieldsLemmas.{placed_fields-value_of}
-use Rattle.ip_ext_chains.proofs.RunsOfLemmas.{AreRunsOf, runs_from-runs}
-use Rattle.ip_ext_chains.proofs.RunBytesLemmas.{first_bytes, later_bytes, chain_bytes}
-use Rattle.ip_ext_chains.proofs.RunNumberLemmas.{chain_before}
+use Rattle.ip_ext_chains.proofs.RunLemmas.{none_left, some_left}
+use Rattle.ip_ext_chains.proofs.RunsOfLemmas.{number_before-some, number_before-end, runs_from-runs, first_bytes, later_bytes, chain_bytes, chain_before}
 
 pub pieces_spelled : (n : ℕ) (ps : List (List ExtHeader)) → AreChains n ps → AllByRecursion FitsPlaces ps → AreBytes (bytes_of (joined ps)) → AreSpellings n (map value_of ps) (map cleared_chain ps)
 pieces_spelled n [] k f b = tt
@@ -36,9 +34,12 @@ pub left_spelled : (n m : ℕ) (s : List ℕ) (done : Bool) (j : ℕ) → AreByt
 left_spelled n m s done j bytes e = search (rules, pieces_spelled, runs_chains, runs_fit, runs_joined, chain_before, longest_chain-longest, runs_from-runs)
 
 -- the runs of the longest chain at the start of bytes
-module _ (n : ℕ) (s : List ℕ) (bytes : AreBytes s) (ps : List (List ExtHeader)) (vs : List Ipv6Extensions) (are : AreRunsOf n s ps) (values : vs ≡ map value_of ps) where
-  pub runs_spelled : AreSpellings n vs (map cleared_chain ps)
-  runs_spelled = search (rules, pieces_spelled, runs_chains, runs_fit, runs_joined, longest_chain-longest, chain_bytes)
+module _ (n : ℕ) (s : List ℕ) (bytes : AreBytes s) where
+  pub runs_spelled : AreSpellings n (map value_of (runs_of n s)) (map cleared_chain (runs_of n s))
+  runs_spelled = search (rules, pieces_spelled, runs_chains, runs_fit, runs_joined, longest_chain-longest, chain_bytes, runs_from-runs)
 
-  pub spellings_written : (ds : List (List ExtHeader)) → AreSpellings n vs ds → bytes_of (joined ds) ≡ bytes_of (cleared_chain (longest_chain n s))
-  spellings_written ds t = search (rules, one_list_of_spellings n vs, runs_spelled, bytes_joined, runs_written)
+  pub spellings_written : (ds : List (List ExtHeader)) → AreSpellings n (map value_of (runs_of n s)) ds → bytes_of (joined ds) ≡ bytes_of (cleared_chain (longest_chain n s))
+  spellings_written ds t = search (rules, one_list_of_spellings n (map value_of (runs_of n s)), runs_spelled, bytes_joined, runs_written, runs_from-runs)
+
+-- what is known of the number before the remaining runs
+pub ruleset numbers_left = (left_spelled, none_left, some_left, number_before-some, number_before-end, longest_chain-longest)

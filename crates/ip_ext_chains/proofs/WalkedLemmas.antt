@@ -1,6 +1,5 @@
 -- The headers that a walk over a struct of six places has reached and written.
-use Rattle.ip_spec.proofs.Common.{rules}
-use Rattle.ip_spec.proofs.Common.{common_steps, ◌≡◌, ℕ, ◌+◌, ◌<◌, ◌≤◌, List, ◌∷◌, ◌++◌, length, ap, arith, append_assoc, true, [], Option, Some, None, IfSome, IfNone, append-nil, AppendsOne, ExtHeader, bytes_of, Place, number_in, HeaderFields, IsEncoded, IsEncodable, fields_len, placed_len, IsLongestOf, PlacedFields, IsReachable, answer_at, IsWalkAnswer, next_in_chain, IsEncodingOf}
+use Rattle.ip_spec.proofs.Common.{rules, common_steps, ◌≡◌, ℕ, ◌+◌, ◌<◌, ◌≤◌, List, ◌∷◌, ◌++◌, length, ap, arith, append_assoc, true, [], Option, Some, None, IfSome, IfNone, append-nil, AppendsOne, ExtHeader, bytes_of, Place, number_in, HeaderFields, IsEncoded, IsEncodable, fields_len, placed_len, IsLongestOf, PlacedFields, IsReachable, answer_at, IsWalkAnswer, next_in_chain, IsEncodingOf}
 use Rattle.ip_spec.proofs.StepLemmas.{bytes_of-more}
 use Rattle.ip_spec.proofs.EncodedLemmas.{encoding_is}
 use Rattle.ip_spec.proofs.WalkLemmas.{WalkAnswer}
@@ -78,14 +77,11 @@ pub record Written (v : PlacedFields) (f : ℕ) (w : Walk) (before now : List �
   pub appended : now ≡ before ++ bytes_of walked.reached
   pub fits : length now + placed_len (left_in w) ≤ room
 
--- there is room for the next header
-pub written_room : (v : PlacedFields) (f : ℕ) (old new : Walk) (x : HeaderFields) → IsStep old new x → (before now : List ℕ) (room : ℕ) → Written v f old before now room → length now + fields_len x ≤ room
-written_room v f old new x s before now room k = search (rules, step_len)
-
 -- its bytes were appended
 pub written_more : (v : PlacedFields) (f : ℕ) → IsEncodable v → (old new : Walk) (x : HeaderFields) → IsStep old new x → (before now more : List ℕ) (room larger : ℕ) → Written v f old before now room
     → AppendsOne (IsEncodingOf x) now more → length more + placed_len (left_in new) ≤ larger → Written v f new before more larger
-written_more v f e old new x s before now more room larger k a fits = let h = encoded old new x s v f e k.walked in
+written_more v f e old new x s before now more room larger k a fits =
+    let h = encoded old new x s v f e k.walked in
     let c = k.walked.reached in
     record {
       walked = walked_more old new x s v f e k.walked;

@@ -40,12 +40,14 @@ module _ (v : Ipv6Extensions) (n : ℕ) where
   read_as_held m s r = search (rules, value_holds)
 
   pub answer_exactly : IsEncodable (placed_fields v) → (a : WalkAnswer) → IsWalkAnswer (placed_fields v) n a → (m : IpNumber) → (a ≡ Ok m) ↔ ((s : List ℕ) × IsReadAsValue m.0 s)
-  answer_exactly e a k m = let both = leads_exactly (placed_fields v) n e a k m.0 in
+  answer_exactly e a k m =
+      let both = leads_exactly (placed_fields v) n e a k m.0 in
       (λ w. search (rules, read_as_value, both.0 w), λ r. search (rules, read_as_held, both.1))
 
   -- the encoding of a value parsed from bytes, whatever was left after it
   read_spelled : (s : List ℕ) → AreBytes s → value_of (fitting_chain n s) ≡ v → IsSpelling (placed_fields v) n (cleared_chain (fitting_chain n s))
-  read_spelled s bytes e = let l = fitting_longest n s in
+  read_spelled s bytes e =
+      let l = fitting_longest n s in
       cleared_spells (placed_fields v) n (fitting_chain n s) l.has.0.chain l.has.1
       (rw (← l.has.0.prefix) (All-take (λ x. x < 256) (length (bytes_of (fitting_chain n s))) s bytes)) (value_holds (fitting_chain n s) (cc))
 
@@ -55,7 +57,8 @@ module _ (v : Ipv6Extensions) (n : ℕ) where
 
   module _ (old new : List ℕ) (w : IsWritten v n old new) where
     pub written_len : length new ≡ length old + exts_len v
-    written_len = omega (arith, ap length w.appended, length-append old (bytes_of w.chain), bytes_len (placed_fields v) n w.chain w.spelling.reachable.chain w.spelling.reachable.fits w.spelling.value, exts_sum v)
+    written_len =
+        omega (arith, ap length w.appended, length-append old (bytes_of w.chain), bytes_len (placed_fields v) n w.chain w.spelling.reachable.chain w.spelling.reachable.fits w.spelling.value, exts_sum v)
 
     appended_is : (b : List ℕ) → new ≡ old ++ b → bytes_of w.chain ≡ b
     appended_is b e = search (rules, append_cancel_left old)
@@ -66,7 +69,8 @@ module _ (v : Ipv6Extensions) (n : ℕ) where
 
     -- the bytes written parse again
     pub written_again : (b r : List ℕ) (m : IpNumber) → new ≡ old ++ b → IsWalkAnswer (placed_fields v) n (Ok m) → (IsExtensionNumber m.0 → ⊥) → IsFittingAnswer n (b ++ r) v m.0 r None
-    written_again b r m e a other = rw (← appended_is b e) (other_answers n w.chain m.0 w.spelling.reachable.chain w.spelling.reachable.fits (cc (written_leads m a)) r v (value_is w.chain w.spelling.value) other)
+    written_again b r m e a other =
+        rw (← appended_is b e) (other_answers n w.chain m.0 w.spelling.reachable.chain w.spelling.reachable.fits (cc (written_leads m a)) r v (value_is w.chain w.spelling.value) other)
 
     -- with nothing left
     pub written_whole : IsEncodable (placed_fields v) → (b : List ℕ) (m : IpNumber) → new ≡ old ++ b → IsWalkAnswer (placed_fields v) n (Ok m) → IsReadAsValue m.0 b
@@ -79,12 +83,14 @@ module _ (v : Ipv6Extensions) (n : ℕ) where
 
     -- and they encode no other value
     pub written_alike : (x : Ipv6Extensions) (c : List ExtHeader) → IsSpelling (placed_fields x) n c → (new ≡ old ++ bytes_of c) ↔ (v ≡ x)
-    written_alike x c k = let both = spelled_alike (placed_fields v) (placed_fields x) n w.chain c w.spelling k in
+    written_alike x c k =
+        let both = spelled_alike (placed_fields v) (placed_fields x) n w.chain c w.spelling k in
         (λ e. placed_fields_one v x (both.0 (appended_is (bytes_of c) e)), λ e. cc (both.1 (λ p. cc)))
 
   -- The walk leads on, and the headers reached were appended: these are all.
   pub all_written : (old new : List ℕ) (m : IpNumber) (c : List ExtHeader) → IsLongestOf (IsReachable (placed_fields v) n) c → IsWalkAnswer (placed_fields v) n (Ok m) → new ≡ old ++ bytes_of c → IsWritten v n old new
-  all_written old new m c reach a appended = let it = leads_spelled (placed_fields v) n m.0 a in
+  all_written old new m c reach a appended =
+      let it = leads_spelled (placed_fields v) n m.0 a in
       let s : IsSpelling (placed_fields v) n c = rw (← one_reach (placed_fields v) n it.0 c (spelling_is_reach (placed_fields v) n it.0 it.1) reach) it.1 in
       let answer = spelled_leads (placed_fields v) n c s in search rules
 

@@ -1,16 +1,12 @@
 pub mod PlacedLemmas
 pub mod RunsOfLemmas
-pub mod RunBytesLemmas
-pub mod RunNumberLemmas
 pub mod RunLemmas
 pub mod FittingLemmas
 pub mod PlacedFieldsLemmas
 pub mod RunSpellingLemmas
 pub mod WalkedLemmas
 pub mod WriteLemmas
-pub mod LinkedLemmas
 pub mod RefusedLemmas
 pub mod RewritingLemmas
 pub mod ReadingLemmas
-pub mod ReadIntoLemmas
 pub mod ReadErrorLemmas

@@ -1,5 +1,5 @@
 -- Headers in their places.
-use Rattle.ip_spec.proofs.Common.{◌≡◌, ℕ, List, refl, ap, sym, ◌∙◌, Bool, rules, Option, Some, is_some, IfSome, if◌then◌else◌, option_map, eqb-true, raw_fields, fragment_fields, auth_fields, ExtHeader, Place, hop_by_hop, destination, routing, authentication, final_destination, number_in, header_in, next_place}
+use Rattle.ip_spec.proofs.Common.{◌≡◌, ℕ, List, refl, ap, ◌∙◌, Bool, rules, Option, Some, if◌then◌else◌, option_map, eqb-true, raw_fields, fragment_fields, auth_fields, ExtHeader, Place, hop_by_hop, destination, routing, authentication, final_destination, number_in, header_in, next_place}
 use Rattle.ip_spec.specs.Places.{fragment}
 use Rattle.ip_spec.proofs.FirstLemmas.{find_passes}
 use Rattle.ip_spec.proofs.PlaceLemmas.{is_of, side, next_alike}
@@ -14,21 +14,15 @@ pub mapped_if : {A B : Type 0} (f : A → B) (b : Bool) (x : A) (o : Option A) �
 mapped_if f b x o = search rules
 
 pub in_place_number : (p : Place) (c : List ExtHeader) (h : ExtHeader) → header_in p c ≡ Some h → h.number ≡ number_in p
-in_place_number p c h e = eqb-true h.number (number_in p) (find_passes (is_of p) (side p c) h e)
+in_place_number p c h e = search (rules, find_passes (is_of p) (side p c) h, eqb-true)
 
 -- the occupied places are those of the chain
 module _ (c : List ExtHeader) (v : Places Ipv6ExtensionSlice) (k : ArePlaced c v) where
-  pub filled_same : (p : Place) → is_some (at p v) ≡ is_some (header_in p c)
-  filled_same p = sym (is_some-map header_of (at p v)) ∙ ap is_some (k p)
-
   pub next_same : (m : ℕ) → next_place (λ p. at p v) m ≡ next_place (λ p. header_in p c) m
-  next_same m = next_alike (λ p. at p v) (λ p. header_in p c) m filled_same
-
-  of_number : (p : Place) (o : Option Ipv6ExtensionSlice) → option_map header_of o ≡ header_in p c → IfSome o (λ h. (header_of h).number ≡ number_in p)
-  of_number p o e = search (rules, in_place_number)
+  next_same m = next_alike (λ p. at p v) (λ p. header_in p c) m (λ p. cc (is_some-map header_of (at p v), k p))
 
   pub placed_numbers : AreOfNumber v
-  placed_numbers p = of_number p (at p v) (k p)
+  placed_numbers p = search (rules, in_place_number p c, k p)
 
   -- the headers in the places are the value of the chain
   map_map : {A : Type 0} (f : ExtHeader → A) (o : Option Ipv6ExtensionSlice) → option_map (λ h. f (header_of h)) o ≡ option_map f (option_map header_of o)

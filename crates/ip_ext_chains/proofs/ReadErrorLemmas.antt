@@ -1,5 +1,5 @@
 -- The error of a chain that is read is the error of the parse.
-use Rattle.ip_spec.proofs.Common.{◌≡◌, ℕ, ◌<◌, List, ◌++◌, length, refl, ap, ◌∙◌, Bool, true, false, rules, Option, Some, IsTrue, option_map, Consumes, Asks, IsZeroLength, ExtHeader, leads_to, bytes_of, is_empty}
+use Rattle.ip_spec.proofs.Common.{◌≡◌, ℕ, ◌<◌, List, ◌++◌, length, refl, Bool, true, false, rules, Option, Some, IsTrue, Consumes, Asks, IsZeroLength, ExtHeader, leads_to, bytes_of, is_empty}
 use Rattle.ip_base.specs.declared.len_source.LenSource.TheVariants.{Slice}
 use Rattle.ip_base.specs.declared.err.io.limited_read_error.LimitedReadError.{LimitedReadError}
 use Rattle.ip_base.specs.ExactRead.{IfSteady}
@@ -27,34 +27,25 @@ lift_steady steady then_steady a b done Q e c f = search rules
 -- After the headers of a chain whose read failed.
 module _ {R : Type 0} (Consumed : R → R → List ExtHeader → Type 0) (Refused : Bool → ℕ → R → R → Type 0) (old new : R) (n : ℕ) (k : IsChainRefused Consumed Refused old new n) where
   pub error_is : (x : List ℕ) (f : Fault) → fault_at Slice (length x) (length (bytes_of k.headers)) (is_empty k.headers) (leads_to n k.headers) x ≡ Some f → HasError n f.0 (bytes_of k.headers ++ x)
-  error_is x f e = ap (option_map (λ (g : Fault). g.0)) (fitting_fault_is n k.headers (leads_to n k.headers) k.chain k.fits refl x f k.free e)
+  error_is x f e = cc (fitting_fault_is n k.headers (leads_to n k.headers) k.chain k.fits refl x f k.free e)
 
   pub short_is : (leads_to n k.headers ≡ 0 → IsTrue (is_empty k.headers)) → (done : List ℕ) (count : ℕ) (xs : List ℕ) → Asks (leads_to n k.headers) done count → length xs < count → IsTooShort n (bytes_of k.headers ++ (done ++ xs))
   short_is zero_first done count xs asks few =
-      let f = asks_fault Slice (length (done ++ xs)) (length (bytes_of k.headers)) (is_empty k.headers) (leads_to n k.headers) done count xs few zero_first asks in
-      (f.0, error_is (done ++ xs) (slice.Len f.0, f.1) f.2)
+      let f = asks_fault Slice (length (done ++ xs)) (length (bytes_of k.headers)) (is_empty k.headers) (leads_to n k.headers) done count xs few zero_first asks in search (rules, error_is)
 
   pub zero_is : (done xs : List ℕ) → leads_to n k.headers ≡ 51 → IsZeroLength done → HasError n (slice.Content (IpAuth ZeroPayloadLen)) (bytes_of k.headers ++ (done ++ xs))
-  zero_is done xs is z = error_is (done ++ xs) _ (zero_fault Slice (length (done ++ xs)) (length (bytes_of k.headers)) (is_empty k.headers) (leads_to n k.headers) done xs is z)
+  zero_is done xs is z = search (rules, error_is (done ++ xs), zero_fault)
 
   pub later_is : (x : List ℕ) → leads_to n k.headers ≡ 0 → is_empty k.headers ≡ false → HasError n (slice.Content HopByHopNotAtStart) (bytes_of k.headers ++ x)
-  later_is x is later =
-      let at : Bool → ℕ → Option Fault = λ b m. fault_at Slice (length x) (length (bytes_of k.headers)) b m x in
-      error_is x _ (ap (λ (b : Bool). at b (leads_to n k.headers)) later ∙ ap (at false) is)
+  later_is x is later = search (rules, error_is x)
 
 module _ {T : Type 0} (bytes_left : T → Option (List ℕ)) (is_steady has_failed : T → Bool) where
   -- a chain whose read failed has the error of the parse
   pub refused_error : (e : HeaderReadError) (old new : T) (n : ℕ)
       → IsChainRefused (AreConsumed bytes_left is_steady has_failed) (IsHeaderRefused bytes_left is_steady has_failed e) old new n → IsSliceError n (is_steady old) (bytes_left old) e
-  refused_error (read.Io e) old new n k =
-      lift_steady _ _ _ _ (bytes_of k.headers) (IsTooShort n) k.consumed.steady k.consumed.bytes
-      (refused_short (Asks (leads_to n k.headers)) (λ y. IsTooShort n (bytes_of k.headers ++ y)) (short_is _ _ old new n k k.refused.0) _ _ _ k.refused.1)
-  refused_error (read.Content HopByHopNotAtStart) old new n k =
-      lift_some _ _ (bytes_of k.headers) (HasError n (slice.Content HopByHopNotAtStart)) k.consumed.bytes
-      (of_all (bytes_left k.between) _ (λ y. later_is _ _ old new n k y k.refused.0 k.refused.1))
-  refused_error (read.Content (IpAuth ZeroPayloadLen)) old new n k =
-      lift_some _ _ (bytes_of k.headers) (HasError n (slice.Content (IpAuth ZeroPayloadLen))) k.consumed.bytes
-      (of_begun _ _ k.refused.1.done _ k.refused.1.consumed (λ xs. zero_is _ _ old new n k k.refused.1.done xs k.refused.0 k.refused.1.zero_length))
+  refused_error (read.Io e) old new n k = search (rules, lift_steady, refused_short, short_is)
+  refused_error (read.Content HopByHopNotAtStart) old new n k = search (rules, lift_some, of_all, later_is)
+  refused_error (read.Content (IpAuth ZeroPayloadLen)) old new n k = search (rules, lift_some, of_begun, zero_is)
 
 -- Within a limit.
 module _ {T : Type 0} (bytes_left : T → Option (List ℕ)) (is_steady has_failed : T → Bool) where
@@ -68,14 +59,7 @@ module _ {T : Type 0} (bytes_left : T → Option (List ℕ)) (is_steady has_fail
       → IsChainRefused (AreConsumedInLayers bytes_left is_steady has_failed) (IsHeaderRefusedInLayer bytes_left is_steady has_failed e) old new n
       → IsSliceErrorInLayers n (is_steady (inner_of old)) (window bytes_left old) e
   layer_refused_error (limited.Io e) old new n k =
-      lift_steady _ _ _ _ (bytes_of k.headers) (IsTooShort n) k.consumed.steady k.consumed.window
-      (refused_within_short (Asks (leads_to n k.headers)) (λ y. IsTooShort n (bytes_of k.headers ++ y)) (short_is _ _ old new n k k.refused.0) bytes_left is_steady has_failed _ k.between new k.refused.1)
-  layer_refused_error (limited.Len e) old new n k =
-      lift_some _ _ (bytes_of k.headers) (IsTooShort n) k.consumed.window
-      (past_limit_short (Asks (leads_to n k.headers)) (λ y. IsTooShort n (bytes_of k.headers ++ y)) (short_is _ _ old new n k k.refused.0) bytes_left is_steady has_failed _ k.between new e k.refused.1)
-  layer_refused_error (limited.Content HopByHopNotAtStart) old new n k =
-      lift_some _ _ (bytes_of k.headers) (HasError n (slice.Content HopByHopNotAtStart)) k.consumed.window
-      (of_all (window bytes_left k.between) _ (λ y. later_is _ _ old new n k y k.refused.0 k.refused.1))
-  layer_refused_error (limited.Content (IpAuth ZeroPayloadLen)) old new n k =
-      lift_some _ _ (bytes_of k.headers) (HasError n (slice.Content (IpAuth ZeroPayloadLen))) k.consumed.window
-      (of_begun _ _ k.refused.1.done _ k.refused.1.consumed.window (λ xs. zero_is _ _ old new n k k.refused.1.done xs k.refused.0 k.refused.1.zero_length))
+      let short = refused_within_short (Asks (leads_to n k.headers)) (λ y. IsTooShort n (bytes_of k.headers ++ y)) (short_is _ _ old new n k k.refused.0) bytes_left is_steady has_failed _ k.between new k.refused.1 in search (rules, lift_steady)
+  layer_refused_error (limited.Len e) old new n k = search (rules, lift_some, past_limit_short, short_is)
+  layer_refused_error (limited.Content HopByHopNotAtStart) old new n k = search (rules, lift_some, of_all, later_is)
+  layer_refused_error (limited.Content (IpAuth ZeroPayloadLen)) old new n k = search (rules, lift_some, of_begun, zero_is)

@@ -1,9 +1,9 @@
 -- The headers that a walk over a struct of six places has reached and written.
-use Rattle.ip_spec.proofs.Common.{common_steps, ◌≡◌, ℕ, ◌+◌, ◌<◌, ◌≤◌, List, ◌∷◌, ◌++◌, length, ap, sym, ◌∙◌, arith, subst, append_assoc, true, ⊤, ◌==◌, [], Option, Some, None, is_some, if◌then◌else◌, IfSome, IfNone, append-nil, AppendsOne, ExtHeader, bytes_of, Place, index, number_in, HeaderFields, IsEncoded, IsEncodable, fields_len, placed_len, IsLongestOf, PlacedFields, IsReachable, answer_at, IsWalkAnswer, next_of, next_in_chain, IsEncodingOf}
+use Rattle.ip_spec.proofs.Common.{rules, common_steps, ◌≡◌, ℕ, ◌+◌, ◌<◌, ◌≤◌, List, ◌∷◌, ◌++◌, length, ap, arith, append_assoc, true, [], Option, Some, None, IfSome, IfNone, append-nil, AppendsOne, ExtHeader, bytes_of, Place, number_in, HeaderFields, IsEncoded, IsEncodable, fields_len, placed_len, IsLongestOf, PlacedFields, IsReachable, answer_at, IsWalkAnswer, next_in_chain, IsEncodingOf}
 use Rattle.ip_spec.proofs.StepLemmas.{bytes_of-more}
 use Rattle.ip_spec.proofs.EncodedLemmas.{encoding_is}
 use Rattle.ip_spec.proofs.WalkLemmas.{WalkAnswer}
-use Rattle.ip_spec.proofs.WalkStepLemmas.{FillsIn, Walking, left, some_or, walk_begins, walks_on, walk_stops, walk_answers, same_held}
+use Rattle.ip_spec.proofs.WalkStepLemmas.{FillsIn, Walking, walk_begins, walks_on, walk_stops, walk_answers, same_held}
 use Rattle.ip_spec.proofs.LinkLemmas.{next_said}
 use Rattle.ip_spec.proofs.SumLemmas.{sum_placed, sum_left}
 use Rattle.ip_ext_chains.specs.Slots.{at, IsVacant}
@@ -20,9 +20,7 @@ pub record Walked (v : PlacedFields) (f : ℕ) (w : Walk) : Type 0 where
   pub value : placed_fields w.headers.now ≡ v
 
 abbrev pub walked_none : (v : PlacedFields) (f : ℕ) (w : Walk) → placed_fields w.headers.now ≡ v → w.number.0 ≡ f → w.first ≡ true → IsVacant w.reached → Walked v f w
-walked_none v f w value number first vacant =
-    let none = walk_begins v f (λ p. at p w.reached) vacant in
-    record { reached = []; walking = record { in_value = none.in_value; filled = none.filled; number = number; first_is = first }; value = value }
+walked_none v f w value number first vacant = search (rules, walk_begins v f (λ p. at p w.reached) vacant)
 
 -- the number of remaining headers, and their length in bytes
 abbrev pub headers_left : Walk → ℕ
@@ -30,15 +28,13 @@ headers_left w = sum_placed (λ x. 1) (left_in w)
 
 module _ (old new : Walk) (x : HeaderFields) (s : IsStep old new x) where
   pub step_fills : FillsIn s.place (λ p. at p old.reached) (λ p. at p new.reached)
-  step_fills q = ap is_some (s.put q) ∙ some_or (index s.place == index q) tt (at q old.reached)
+  step_fills q = search (rules, s.put q)
 
   step_sum : (g : HeaderFields → ℕ) → sum_placed g (left_in new) + g x ≡ sum_placed g (left_in old)
-  step_sum g =
-      ap (λ h. sum_placed g (left (placed_fields h.now) (λ p. at p new.reached)) + g x) s.headers
-      ∙ sum_left g (placed_fields old.headers.now) (λ p. at p old.reached) (λ p. at p new.reached) old.number.0 old.first s.place x s.own s.there step_fills
+  step_sum g = rw s.headers (sum_left g (placed_fields old.headers.now) (λ p. at p old.reached) (λ p. at p new.reached) old.number.0 old.first s.place x s.own s.there step_fills)
 
   pub step_less : headers_left new < headers_left old
-  step_less = omega (arith, step_sum (λ y. 1))
+  step_less = search (rules, step_sum)
 
   -- the length that a step takes from what is left
   pub step_len : placed_len (left_in new) + fields_len x ≡ placed_len (left_in old)
@@ -46,17 +42,17 @@ module _ (old new : Walk) (x : HeaderFields) (s : IsStep old new x) where
 
   module _ (v : PlacedFields) (f : ℕ) (e : IsEncodable v) (k : Walked v f old) where
     pub step_there : v s.place ≡ Some x
-    step_there = ap (λ u. u s.place) (sym k.value) ∙ s.there
+    step_there = cc
 
     abbrev encoded : (h : ExtHeader) × IsEncoded (number_in s.place) x h
     encoded = e.encoded s.place x step_there
 
     abbrev pub walked_more : Walked v f new
-    walked_more = record {
-      reached = k.reached ++ encoded.0 ∷ [];
-      walking = walks_on v f k.reached (λ p. at p old.reached) old.number.0 old.first k.walking s.place x encoded.0 s.own step_there encoded.1 (λ p. at p new.reached) new.number.0
-          new.first step_fills (s.number ∙ ap next_of (sym encoded.1.fields) ∙ next_said encoded.0) s.first;
-      value = ap (λ h. placed_fields h.now) s.headers ∙ k.value;
+    walked_more = let h = encoded in record {
+      reached = k.reached ++ h.0 ∷ [];
+      walking = walks_on v f k.reached (λ p. at p old.reached) old.number.0 old.first k.walking s.place x h.0 s.own step_there h.1 (λ p. at p new.reached) new.number.0
+          new.first step_fills (search (rules, next_said)) s.first;
+      value = cc;
     }
 
 -- a place was checked: its header was reached, or the walk is unchanged
@@ -67,25 +63,19 @@ walked_in v f e old new r some none k = grind (arith, common_steps, walked_more)
 -- if none follows, the walk has the result of what is left
 module _ (v : PlacedFields) (f : ℕ) (old new : Walk) (k : Walked v f old) (s : IsStop old new) where
   none_next : (p : Place) → next_in_chain old.first (λ q. at q old.reached) old.number.0 ≡ Some p → v p ≡ None
-  none_next p at = ap (λ u. u p) (sym k.value) ∙ s.none p at
+  none_next p at = rw (← k.value) (s.none p at)
 
   pub walked_answer : (a : WalkAnswer) → a ≡ answer_at new.number.0 (left_in new) → IsWalkAnswer v f a
-  walked_answer a e =
-      walk_answers v f k.reached (λ p. at p old.reached) old.number.0 old.first k.walking (left_in new) new.number.0 a none_next
-      (λ p. s.left p ∙ ap (λ u. left u (λ q. at q old.reached) p) k.value) s.number e
+  walked_answer a e = walk_answers v f k.reached (λ p. at p old.reached) old.number.0 old.first k.walking (left_in new) new.number.0 a none_next (λ p. search (rules, s.left p)) s.number e
 
   pub walked_reach : IsLongestOf (IsReachable v f) k.reached
-  walked_reach = walk_stops v f k.reached (λ p. at p old.reached) old.number.0 old.first k.walking none_next
+  walked_reach = search (rules, walk_stops, none_next)
 
 -- The headers reached were appended to `before`, and there is room for the remaining ones.
 pub record Written (v : PlacedFields) (f : ℕ) (w : Walk) (before now : List ℕ) (room : ℕ) : Type 0 where
   pub walked : Walked v f w
   pub appended : now ≡ before ++ bytes_of walked.reached
   pub fits : length now + placed_len (left_in w) ≤ room
-
--- there is room for the next header
-pub written_room : (v : PlacedFields) (f : ℕ) (old new : Walk) (x : HeaderFields) → IsStep old new x → (before now : List ℕ) (room : ℕ) → Written v f old before now room → length now + fields_len x ≤ room
-written_room v f old new x s before now room k = omega (arith, k.fits, step_len old new x s)
 
 -- its bytes were appended
 pub written_more : (v : PlacedFields) (f : ℕ) → IsEncodable v → (old new : Walk) (x : HeaderFields) → IsStep old new x → (before now more : List ℕ) (room larger : ℕ) → Written v f old before now room
@@ -95,8 +85,7 @@ written_more v f e old new x s before now more room larger k a fits =
     let c = k.walked.reached in
     record {
       walked = walked_more old new x s v f e k.walked;
-      appended = a.2 ∙ ap (λ l. l ++ a.0) k.appended ∙ append_assoc before (bytes_of c) a.0
-          ∙ ap (λ l. before ++ (bytes_of c ++ l)) (sym (encoding_is _ x h.0 a.0 h.1 a.1)) ∙ ap (λ l. before ++ l) (sym (bytes_of-more c h.0));
+      appended = cc (k.appended, append_assoc before (bytes_of c) a.0, encoding_is _ x h.0 a.0 h.1 a.1, bytes_of-more c h.0);
       fits = fits;
     }
 
@@ -104,21 +93,17 @@ written_more v f e old new x s before now more room larger k a fits =
 pub written_in : (v : PlacedFields) (f : ℕ) → IsEncodable v → (old new : Walk) (before now more : List ℕ) (room larger : ℕ) (r : Option HeaderRef)
     → IfSome r (λ h. IsStep old new (fields_of_ref h)) → IfSome r (λ h. AppendsOne (IsEncodingOf (fields_of_ref h)) now more) → IfNone r (new ≡ old) → IfNone r (more ≡ now)
     → length more + placed_len (left_in new) ≤ larger → Written v f old before now room → Written v f new before more larger
-written_in v f e old new before now more room larger (Some h) some appended none same fits k = written_more v f e old new (fields_of_ref h) some before now more room larger k appended fits
-written_in v f e old new before now more room larger None some appended none same fits k =
-    let W : Walk → Type 0 = λ w. Written v f w before more larger in
-    subst W (sym none) (record { walked = k.walked; appended = same ∙ k.appended; fits = omega (arith, fits, ap (λ w. placed_len (left_in w)) none) })
+written_in v f e old new before now more room larger (Some h) some appended none same fits k = search (rules, written_more)
+written_in v f e old new before now more room larger None some appended none same fits k = rw none (record { walked = k.walked; appended = cc; fits = grind (arith, common_steps) })
 
 -- a new walk has everything left
 pub left_len : (v : PlacedFields) (w : Walk) → placed_fields w.headers.now ≡ v → IsVacant w.reached → placed_len (left_in w) ≡ placed_len v
-left_len v w value vacant =
-    ap placed_len (same_held (left_in w) (placed_fields w.headers.now) (λ p. ap (λ (o : Option ⊤). if is_some o then None else placed_fields w.headers.now p) (vacant p)) ∙ value)
+left_len v w value vacant = ap placed_len (same_held (left_in w) v (λ p. cc (vacant p)))
 
 pub written_none : (v : PlacedFields) (f : ℕ) (w : Walk) → placed_fields w.headers.now ≡ v → w.number.0 ≡ f → w.first ≡ true → IsVacant w.reached
     → (before now : List ℕ) (room : ℕ) → now ≡ before → length now + placed_len v ≤ room → Written v f w before now room
-written_none v f w value number first vacant before now room same fits =
-    record {
-      walked = walked_none v f w value number first vacant;
-      appended = same ∙ sym (append-nil before);
-      fits = omega (arith, fits, left_len v w value vacant);
-    }
+written_none v f w value number first vacant before now room same fits = record {
+  walked = walked_none v f w value number first vacant;
+  appended = cc (append-nil before);
+  fits = omega (arith, fits, left_len v w value vacant);
+}

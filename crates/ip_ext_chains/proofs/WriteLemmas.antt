@@ -1,8 +1,8 @@
 -- A struct of six places as it is parsed, and as it is written.
-use Rattle.ip_spec.proofs.Common.{◌≡◌, ℕ, ◌+◌, ◌<◌, List, ◌++◌, length, ap, sym, ◌∙◌, arith, subst, rules, Ok, Err, None, ◌↔◌, append_cancel_left, length-append, All-take, IsLongestOf, IsExtensionNumber, AreBytes, cleared_chain, ExtHeader, leads_to, bytes_of, FitsPlaces, IsEncodable, IsValueOf, IsSpelling, IsReachable, IsWalkAnswer, IsParsed}
+use Rattle.ip_spec.proofs.Common.{◌≡◌, ℕ, ◌+◌, ◌<◌, List, ◌++◌, length, ap, sym, arith, rules, Ok, Err, None, ◌↔◌, append_cancel_left, length-append, All-take, IsLongestOf, IsExtensionNumber, AreBytes, cleared_chain, ExtHeader, leads_to, bytes_of, FitsPlaces, IsEncodable, IsValueOf, IsSpelling, IsReachable, IsWalkAnswer, IsParsed}
 use Rattle.ip_spec.proofs.FitsLemmas.{fits_places}
 use Rattle.ip_spec.proofs.ParsedLemmas.{whole_parsed}
-use Rattle.ip_spec.proofs.WalkLemmas.{WalkAnswer, leads, one_reach}
+use Rattle.ip_spec.proofs.WalkLemmas.{WalkAnswer, one_reach}
 use Rattle.ip_spec.proofs.SpellingLemmas.{one_spelling, spelling_is_reach, one_answer, leads_exactly, leads_spelled, spelled_leads, shown_bytes, cleared_spells, spelled_alike}
 use Rattle.ip_spec.proofs.SumLemmas.{bytes_len}
 use Rattle.ip_ext_chains.specs.Fitting.{fitting_chain, IsFittingAnswer}
@@ -21,10 +21,10 @@ no_fault e m k = search rules
 module _ (v : Ipv6Extensions) (n : ℕ) where
   -- a chain has the value v if its headers have the fields of v
   value_is : (c : List ExtHeader) → IsValueOf c (placed_fields v) → v ≡ value_of c
-  value_is c k = placed_fields_one v (value_of c) (λ p. k p ∙ sym (placed_fields-value_of c p))
+  value_is c k = search (rules, placed_fields_one, placed_fields-value_of)
 
   value_holds : (c : List ExtHeader) → v ≡ value_of c → IsValueOf c (placed_fields v)
-  value_holds c e p = ap (λ w. placed_fields w p) e ∙ placed_fields-value_of c p
+  value_holds c e p = cc (placed_fields-value_of c p)
 
   -- parsing as the fields of v is parsing as v, and vice versa
   abbrev pub IsReadAsHeld : ℕ → List ℕ → Type 0
@@ -34,71 +34,65 @@ module _ (v : Ipv6Extensions) (n : ℕ) where
   IsReadAsValue m s = IsParsed FitsPlaces (λ c. value_of c ≡ v) n m s
 
   read_as_value : (m : ℕ) (s : List ℕ) → IsReadAsHeld m s → IsReadAsValue m s
-  read_as_value m s r = record { bytes = r.bytes; chain = r.chain; longest = r.longest; value = sym (value_is r.chain r.value); number = r.number; all = r.all }
+  read_as_value m s r = search (rules, value_is)
 
   read_as_held : (m : ℕ) (s : List ℕ) → IsReadAsValue m s → IsReadAsHeld m s
-  read_as_held m s r = record { bytes = r.bytes; chain = r.chain; longest = r.longest; value = value_holds r.chain (sym r.value); number = r.number; all = r.all }
+  read_as_held m s r = search (rules, value_holds)
 
   pub answer_exactly : IsEncodable (placed_fields v) → (a : WalkAnswer) → IsWalkAnswer (placed_fields v) n a → (m : IpNumber) → (a ≡ Ok m) ↔ ((s : List ℕ) × IsReadAsValue m.0 s)
   answer_exactly e a k m =
       let both = leads_exactly (placed_fields v) n e a k m.0 in
-      (λ w. let it = both.0 w in (it.0, read_as_value m.0 it.0 it.1), λ r. both.1 (r.0, read_as_held m.0 r.0 r.1))
+      (λ w. search (rules, read_as_value, both.0 w), λ r. search (rules, read_as_held, both.1))
 
   -- the encoding of a value parsed from bytes, whatever was left after it
   read_spelled : (s : List ℕ) → AreBytes s → value_of (fitting_chain n s) ≡ v → IsSpelling (placed_fields v) n (cleared_chain (fitting_chain n s))
   read_spelled s bytes e =
       let l = fitting_longest n s in
       cleared_spells (placed_fields v) n (fitting_chain n s) l.has.0.chain l.has.1
-      (subst AreBytes l.has.0.prefix (All-take (λ x. x < 256) (length (bytes_of (fitting_chain n s))) s bytes)) (value_holds (fitting_chain n s) (sym e))
+      (rw (← l.has.0.prefix) (All-take (λ x. x < 256) (length (bytes_of (fitting_chain n s))) s bytes)) (value_holds (fitting_chain n s) (cc))
 
   -- a value parsed from bytes has no error
   pub fault_unread : (e : ExtsWalkError) → IsWalkAnswer (placed_fields v) n (Err e) → (s : List ℕ) → AreBytes s → value_of (fitting_chain n s) ≡ v → ⊥
-  fault_unread e a s bytes k =
-      no_fault e _ (one_answer (placed_fields v) n (Err e) _ a (spelled_leads (placed_fields v) n (cleared_chain (fitting_chain n s)) (read_spelled s bytes k)))
+  fault_unread e a s bytes k = cc (one_answer (placed_fields v) n (Err e) _ a (spelled_leads (placed_fields v) n (cleared_chain (fitting_chain n s)) (read_spelled s bytes k)))
 
   module _ (old new : List ℕ) (w : IsWritten v n old new) where
     pub written_len : length new ≡ length old + exts_len v
-    written_len = omega (arith, ap length w.appended, length-append old (bytes_of w.chain), bytes_len (placed_fields v) n w.chain w.spelling.reachable.chain w.spelling.reachable.fits w.spelling.value, exts_sum v)
+    written_len =
+        omega (arith, ap length w.appended, length-append old (bytes_of w.chain), bytes_len (placed_fields v) n w.chain w.spelling.reachable.chain w.spelling.reachable.fits w.spelling.value, exts_sum v)
 
     appended_is : (b : List ℕ) → new ≡ old ++ b → bytes_of w.chain ≡ b
-    appended_is b e = append_cancel_left old (bytes_of w.chain) b (sym w.appended ∙ e)
+    appended_is b e = search (rules, append_cancel_left old)
 
     -- the number to which it leads
     written_leads : (m : IpNumber) → IsWalkAnswer (placed_fields v) n (Ok m) → leads_to n w.chain ≡ m.0
-    written_leads m a = let same : leads (leads_to n w.chain) ≡ Ok m = one_answer (placed_fields v) n _ _ w.answer a in cc
+    written_leads m a = cc (one_answer (placed_fields v) n _ _ w.answer a)
 
     -- the bytes written parse again
     pub written_again : (b r : List ℕ) (m : IpNumber) → new ≡ old ++ b → IsWalkAnswer (placed_fields v) n (Ok m) → (IsExtensionNumber m.0 → ⊥) → IsFittingAnswer n (b ++ r) v m.0 r None
     written_again b r m e a other =
-        subst (λ l. IsFittingAnswer n (l ++ r) v m.0 r None) (appended_is b e)
-        (other_answers n w.chain m.0 w.spelling.reachable.chain w.spelling.reachable.fits (sym (written_leads m a)) r v (value_is w.chain w.spelling.value) other)
+        rw (← appended_is b e) (other_answers n w.chain m.0 w.spelling.reachable.chain w.spelling.reachable.fits (cc (written_leads m a)) r v (value_is w.chain w.spelling.value) other)
 
     -- with nothing left
     pub written_whole : IsEncodable (placed_fields v) → (b : List ℕ) (m : IpNumber) → new ≡ old ++ b → IsWalkAnswer (placed_fields v) n (Ok m) → IsReadAsValue m.0 b
-    written_whole encodable b m e a =
-        let s = w.spelling in
-        let bytes : AreBytes b = subst AreBytes (appended_is b e) (shown_bytes (placed_fields v) n encodable w.chain s.reachable) in
-        whole_parsed FitsPlaces fits_places n m.0 (λ c. value_of c ≡ v) b w.chain s.reachable.chain s.reachable.fits (sym (value_is w.chain s.value)) (written_leads m a) (appended_is b e) bytes
+    written_whole encodable b m e a = whole_parsed FitsPlaces fits_places n m.0 (λ c. value_of c ≡ v) b w.chain w.spelling.reachable.chain w.spelling.reachable.fits (sym (value_is w.chain w.spelling.value)) (written_leads m a) (appended_is b e)
+        (rw (← appended_is b e) (shown_bytes (placed_fields v) n encodable w.chain w.spelling.reachable))
 
     -- they are the bytes parsed, with their reserved bits set to zero
     pub written_cleared : (s : List ℕ) → AreBytes s → value_of (fitting_chain n s) ≡ v → new ≡ old ++ bytes_of (cleared_chain (fitting_chain n s))
-    written_cleared s bytes e =
-        w.appended ∙ ap (λ l. old ++ bytes_of l) (one_spelling (placed_fields v) n w.chain (cleared_chain (fitting_chain n s)) w.spelling (read_spelled s bytes e))
+    written_cleared s bytes e = cc (one_spelling (placed_fields v) n w.chain _ w.spelling (read_spelled s bytes e))
 
     -- and they encode no other value
     pub written_alike : (x : Ipv6Extensions) (c : List ExtHeader) → IsSpelling (placed_fields x) n c → (new ≡ old ++ bytes_of c) ↔ (v ≡ x)
     written_alike x c k =
         let both = spelled_alike (placed_fields v) (placed_fields x) n w.chain c w.spelling k in
-        (λ e. placed_fields_one v x (both.0 (appended_is (bytes_of c) e)), λ e. w.appended ∙ ap (λ l. old ++ l) (both.1 (λ p. ap (λ y. placed_fields y p) e)))
+        (λ e. placed_fields_one v x (both.0 (appended_is (bytes_of c) e)), λ e. cc (both.1 (λ p. cc)))
 
   -- The walk leads on, and the headers reached were appended: these are all.
   pub all_written : (old new : List ℕ) (m : IpNumber) (c : List ExtHeader) → IsLongestOf (IsReachable (placed_fields v) n) c → IsWalkAnswer (placed_fields v) n (Ok m) → new ≡ old ++ bytes_of c → IsWritten v n old new
   all_written old new m c reach a appended =
       let it = leads_spelled (placed_fields v) n m.0 a in
-      let s : IsSpelling (placed_fields v) n c = subst (IsSpelling (placed_fields v) n)
-      (one_reach (placed_fields v) n it.0 c (spelling_is_reach (placed_fields v) n it.0 it.1) reach) it.1 in
-      record { chain = c; spelling = s; answer = spelled_leads (placed_fields v) n c s; appended = appended }
+      let s : IsSpelling (placed_fields v) n c = rw (← one_reach (placed_fields v) n it.0 c (spelling_is_reach (placed_fields v) n it.0 it.1) reach) it.1 in
+      let answer = spelled_leads (placed_fields v) n c s in search rules
 
   pub fault_written : (old new : List ℕ) (e : ExtsWalkError) (c : List ExtHeader) → IsLongestOf (IsReachable (placed_fields v) n) c → IsWalkAnswer (placed_fields v) n (Err e) → new ≡ old ++ bytes_of c → IsWalkFault v n old new e
-  fault_written old new e c reach a appended =
-      record { answer = a; appended = appended ∙ ap (λ l. old ++ bytes_of l) (one_reach (placed_fields v) n c a.reach reach a.is_reach); unread = fault_unread e a }
+  fault_written old new e c reach a appended = record { answer = a; appended = cc (one_reach (placed_fields v) n c a.reach reach a.is_reach); unread = fault_unread e a }

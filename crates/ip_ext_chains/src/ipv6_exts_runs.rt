@@ -45,6 +45,7 @@ impl<'a> Ipv6ExtensionsRuns<'a> {
     /// least one run, and at most one per 8 bytes and one more. No header is lost: written one after the other, the
     /// first from `first` and each other from the number to which the one before leads, they are the chain with its
     /// reserved bits zero.
+    #[tactic(auto, using(ip_spec::proofs::RunsLemmas::one_runs, ip_spec::proofs::RunsLemmas::fewest_runs, ip_spec::proofs::RunsLemmas::runs_bound))]
     pub fn new(first: IpNumber, bytes: &'a [u8]) -> Ipv6ExtensionsRuns<'a>
         ensures start { start result ≡ first.0 }
         ensures input { input result ≡ bytes.now }
@@ -79,6 +80,7 @@ impl<'a> Ipv6ExtensionsRuns<'a> {
 
     /// Returns the number from which the next run is to be written: at the start `first`, and then the number to
     /// which the run before leads. After the last run it is the number to which the chain leads.
+    #[tactic(auto, using(crate::proofs::RunSpellingLemmas::numbers_left))]
     pub fn next_number(&self) -> IpNumber
         ensures number { result.0 ≡ number_left self.now }
         ensures spelled { AreSpellings result.0 (values_left self.now)
@@ -95,6 +97,7 @@ impl<'a> Ipv6ExtensionsRuns<'a> {
     /// Returns the end of the chain once no item is left, and `None` before: the number to which the chain leads, the
     /// bytes after it, and the error that ended it, if any, with its layer. Offsets in the error count from the start
     /// of the bytes given to `new`.
+    #[tactic(auto, using(crate::proofs::RunsOfLemmas::some_value_left, ip_ext_slices::proofs::ParseLemmas::chain_fault_is, ip_ext_slices::proofs::ParseLemmas::len_after))]
     pub fn end(&self) -> Option<(IpNumber, &'a [u8], Option<(HeaderSliceError, Layer)>)>
         ensures before { IfNone result (values_left self.now ≢ []) }
         ensures last { IfSome result (λ _. values_left self.now ≡ []) }

@@ -1,6 +1,6 @@
 use Rattle.ip_spec.proofs.Common.{sym}
 use Rattle.ip_ext_slices.proofs.LongestLemmas.{longest_chain-longest}
-use Rattle.ip_ext_chains.proofs.RunLemmas.{placing_next, run_ends, run_all}
+use Rattle.ip_ext_chains.proofs.RunLemmas.{placing_more, run_ends, run_all}
 use Rattle.ip_ext_chains.proofs.run.take_run.Goals as goal
 
 pub returns-in_default : goal.returns-in_default
@@ -11,4 +11,5 @@ returns-in_default-next c = run_all _ _ _ _ c.headers.invariant c.in_default-nex
 
 pub headers-preserved : goal.headers-preserved
 headers-preserved c =
-    placing_next _ _ _ _ _ _ _ _ (longest_chain-longest _ _).has.chain c.headers.invariant c.in-Some-next.ensures.steps (sym (rw c.next_number.ensures at c.in-Some.ensures)) c.put.ensures
+    let e = c.in-Some-next.ensures.steps in
+    placing_more _ _ _ _ _ _ _ (rw (← e) (longest_chain-longest _ _).has.chain) (rw e at c.headers.invariant) (sym (rw c.next_number.ensures at c.in-Some.ensures)) c.put.ensures

@@ -1,5 +1,5 @@
-use Rattle.ip_spec.proofs.Common.{◌≡◌, ◌∷◌, ◌++◌, sym, ◌∙◌, arith, [], ExtHeader}
-use Rattle.ip_ext_chains.proofs.ReadingLemmas.{reading_next, zero_first, is_number_in, not_occupied, fewer, later, zero_not_occupied, no_place_answers, never_empty}
+use Rattle.ip_spec.proofs.Common.{rules, ◌∷◌, ◌++◌, sym, ◌∙◌, arith, [], ExtHeader}
+use Rattle.ip_ext_chains.proofs.ReadingLemmas.{reading_next, is_number_in, not_occupied, fewer, no_place_answers}
 use Rattle.ip_ext_chains.proofs.ipv6_exts.Ipv6Extensions.read_headers.Goals as goal
 
 pub headers-preserved : goal.headers-preserved
@@ -11,7 +11,7 @@ headers-preserved g c =
       reading_next _ _ _ _ _ came.1 _ next _ _ _ c.in-Ok.ensures.ok,
       g.met.S.HeaderSource.reads_next c.args.reader.now c.headers.reader c.read_into.new.reader came.0 h _ (is_number_in _ _ _ _ _ came.1 _ next) came.2 c.in-Ok.ensures.ok.consumed,
       c.in-Ok.ensures.steady ∙ came.3,
-      λ none. absurd (never_empty came.0 h none),
+      search rules,
     )
 
 pub headers-smaller : goal.headers-smaller
@@ -29,21 +29,7 @@ returns-in-Err-clause-refused g c =
       between = c.headers.reader;
       consumed = came.2;
       refused = g.met.S.HeaderSource.refuses_there c.in-Err.e _ _ _ c.headers.reader c.read_into.new.reader c.in-Err.ensures.refused
-          (sym came.1.number ∙ is_number_in _ _ _ _ _ came.1 _ next) (λ z. sym came.1.none_yet ∙ zero_first _ _ _ _ _ came.1 _ next (came.1.number ∙ z));
-    }
-
-pub returns-then-eq-clause-refused : goal.returns-then-eq-clause-refused
-returns-then-eq-clause-refused g c =
-    let came = c.headers.invariant in
-    let zero_number : c.headers.number.0 ≡ 0 = grind arith in
-    record {
-      headers = came.0;
-      chain = came.1.chain;
-      fits = came.1.fits;
-      free = zero_not_occupied _ _ _ _ _ came.1 zero_number;
-      between = c.headers.reader;
-      consumed = came.2;
-      refused = rw (sym came.1.number ∙ zero_number, later _ _ _ _ _ came.1 zero_number (sym c.in_default.ensures)) (c.misplaced.ensures.refused c.headers.reader);
+          (sym came.1.number ∙ is_number_in _ _ _ _ _ came.1 _ next) (search rules);
     }
 
 pub returns-clause-answer : goal.returns-clause-answer

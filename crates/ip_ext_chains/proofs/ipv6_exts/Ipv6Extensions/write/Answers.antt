@@ -1,8 +1,8 @@
-use Rattle.ip_spec.proofs.Common.{◌≡◌, subst, arith, ap, length, vec_capacity, Ok}
+use Rattle.ip_spec.proofs.Common.{rules, arith, ap, length, vec_capacity, Ok}
 use Rattle.ip_ext_chains.specs.Ipv6Extensions.{placed_fields}
-use Rattle.ip_ext_chains.specs.Write.{IsWritten, IsWalkFault}
+use Rattle.ip_ext_chains.specs.Write.{IsWritten}
 use Rattle.ip_ext_chains.proofs.PlacedFieldsLemmas.{exts_sum}
-use Rattle.ip_ext_chains.proofs.WalkedLemmas.{left_len, written_none, written_in, written_room, written_more, walked_answer, walked_reach, step_less, step_len}
+use Rattle.ip_ext_chains.proofs.WalkedLemmas.{left_len, written_none, written_in, written_more, walked_answer, walked_reach, step_len}
 use Rattle.ip_ext_chains.proofs.WriteLemmas.{all_written, fault_written, written_len, written_again, written_whole, written_cleared, written_alike}
 use Rattle.ip_ext_chains.proofs.ipv6_exts.Ipv6Extensions.write.Goals as goal
 
@@ -30,13 +30,6 @@ headers-init g c =
           (omega (arith, c.in_default.ensures.ok, c.header_len.ensures.len, exts_sum c.args.self.now, c.reserve.ensures.len, ap length c.reserve.ensures.items, c.reserve.new.self.ok.0))))))))),
       omega (arith, c.reserve.ensures.capacity, n1.capacity, n2.capacity, n3.capacity, n4.capacity, n5.capacity, n6.capacity),
     )
-
-pub headers-smaller : goal.headers-smaller
-headers-smaller g c = step_less c.headers.walk c.next.new.self _ c.in-Some.ensures.some
-
-pub append-requires : goal.append-requires
-append-requires g c =
-    omega (arith, c.headers.out.ok.0, written_room (placed_fields c.args.self.now) c.args.first.0 c.headers.walk c.next.new.self _ c.in-Some.ensures.some _ _ _ c.headers.invariant.0)
 
 pub headers-preserved : goal.headers-preserved
 headers-preserved g c =
@@ -76,19 +69,11 @@ returns-in-Ok-clause-cleared g c = written_cleared c.args.self.now c.args.first.
 pub returns-in-Ok-clause-alike : goal.returns-in-Ok-clause-alike
 returns-in-Ok-clause-alike g c = written_alike c.args.self.now c.args.first.0 c.args.out.now.items c.headers.out.items (written g c)
 
-pub returns-in-Ok-clause-capacity : goal.returns-in-Ok-clause-capacity
-returns-in-Ok-clause-capacity g c = c.headers.invariant.1
-
-pub returns-in-Err-answer-clause-capacity : goal.returns-in-Err-answer-clause-capacity
-returns-in-Err-answer-clause-capacity g c = c.headers.invariant.1
-
 pub returns-in-Err-answer-clause-content : goal.returns-in-Err-answer-clause-content
-returns-in-Err-answer-clause-content g c = λ fault e.
+returns-in-Err-answer-clause-content g c =
     let k = c.headers.invariant.0 in
     let s = c.in_default-next.ensures.none in
-    let same : c.in-Err-answer.fault ≡ fault = cc in
-    subst (IsWalkFault c.args.self.now c.args.first.0 c.args.out.now.items c.headers.out.items) same
-    (fault_written c.args.self.now c.args.first.0 c.args.out.now.items c.headers.out.items c.in-Err-answer.fault k.walked.reached
+    let w = fault_written c.args.self.now c.args.first.0 c.args.out.now.items c.headers.out.items c.in-Err-answer.fault k.walked.reached
     (walked_reach _ _ c.headers.walk c.next.new.self k.walked s)
     (walked_answer _ _ c.headers.walk c.next.new.self k.walked s _ c.in-Err-answer.ensures)
-    k.appended)
+    k.appended in search rules

@@ -1,36 +1,13 @@
-use Rattle.ip_spec.proofs.Common.{◌∙◌, arith, refl, ap, map, get_or_default, AreBytes}
-use Rattle.ip_ext_chains.specs.Ipv6Extensions.{value_of}
-use Rattle.ip_ext_chains.proofs.RunsOfLemmas.{runs_from-are}
+use Rattle.ip_spec.proofs.Common.{◌∙◌, arith, get_or_default, AreBytes}
 use Rattle.ip_ext_chains.proofs.RunSpellingLemmas.{runs_spelled, spellings_written}
 use Rattle.ip_ext_chains.proofs.ipv6_exts_runs.Ipv6ExtensionsRuns.new.Goals as goal
-
-pub returns-clause-runs : goal.returns-clause-runs
-returns-clause-runs c = (runs_from-are _ _ _ _ c.from_slice_lax.ensures.answer.number (c.into_iter.ensures.headers ∙ c.from_slice_lax.ensures.answer.value)).same
-
-pub returns-clause-values : goal.returns-clause-values
-returns-clause-values c = ap (map value_of) (runs_from-are _ _ _ _ c.from_slice_lax.ensures.answer.number (c.into_iter.ensures.headers ∙ c.from_slice_lax.ensures.answer.value)).same
-
-pub returns-clause-partition : goal.returns-clause-partition
-returns-clause-partition c = (runs_from-are _ _ _ _ c.from_slice_lax.ensures.answer.number (c.into_iter.ensures.headers ∙ c.from_slice_lax.ensures.answer.value)).runs
-
-pub returns-clause-only : goal.returns-clause-only
-returns-clause-only c = (runs_from-are _ _ _ _ c.from_slice_lax.ensures.answer.number (c.into_iter.ensures.headers ∙ c.from_slice_lax.ensures.answer.value)).only
-
-pub returns-clause-fewest : goal.returns-clause-fewest
-returns-clause-fewest c = (runs_from-are _ _ _ _ c.from_slice_lax.ensures.answer.number (c.into_iter.ensures.headers ∙ c.from_slice_lax.ensures.answer.value)).fewest
 
 pub returns-clause-spelled : goal.returns-clause-spelled
 returns-clause-spelled c =
     let bytes : AreBytes c.args.bytes.now = λ k d l. omega (arith, get_or_default c.args.bytes.now k d 0 l, c.type_inv.bytes k) in
-    runs_spelled _ _ bytes _ _ (runs_from-are _ _ _ _ c.from_slice_lax.ensures.answer.number (c.into_iter.ensures.headers ∙ c.from_slice_lax.ensures.answer.value)) refl
+    rw (c.from_slice_lax.ensures.answer.number, c.into_iter.ensures.headers ∙ c.from_slice_lax.ensures.answer.value) (runs_spelled _ _ bytes)
 
 pub returns-clause-written : goal.returns-clause-written
 returns-clause-written c =
     let bytes : AreBytes c.args.bytes.now = λ k d l. omega (arith, get_or_default c.args.bytes.now k d 0 l, c.type_inv.bytes k) in
-    spellings_written _ _ bytes _ _ (runs_from-are _ _ _ _ c.from_slice_lax.ensures.answer.number (c.into_iter.ensures.headers ∙ c.from_slice_lax.ensures.answer.value)) refl
-
-pub returns-clause-least : goal.returns-clause-least
-returns-clause-least c = (runs_from-are _ _ _ _ c.from_slice_lax.ensures.answer.number (c.into_iter.ensures.headers ∙ c.from_slice_lax.ensures.answer.value)).least
-
-pub returns-clause-most : goal.returns-clause-most
-returns-clause-most c = (runs_from-are _ _ _ _ c.from_slice_lax.ensures.answer.number (c.into_iter.ensures.headers ∙ c.from_slice_lax.ensures.answer.value)).most
+    rw (c.from_slice_lax.ensures.answer.number, c.into_iter.ensures.headers ∙ c.from_slice_lax.ensures.answer.value) (spellings_written _ _ bytes)

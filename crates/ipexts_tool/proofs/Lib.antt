@@ -1,4 +1,3 @@
-pub mod SplitLemmas
 pub mod NumberLemmas
 pub mod OpenLineLemmas
 pub mod LineFieldLemmas

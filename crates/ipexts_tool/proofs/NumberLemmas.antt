@@ -1,5 +1,5 @@
 -- The number that a text is the numeral of.
-use Rattle.ip_spec.proofs.Common.{◌≡◌, lit≤, ℕ, zero, suc, ◌+◌, ◌-◌, ◌*◌, ◌^◌, ◌<◌, ◌≤◌, List, length, take, get_or, refl, sym, ap, ◌∙◌, subst, arith, rules, inl, inr, common_steps, find, range_with_len, bytes_eq, AllDigits, digits_value, digit_value, IsInRange, IsOutOfRange, decimal, cond-true, cond-false, cases_eq, false_from_ne_true, bytes_eq-Decides, IsNumeralModel, numerals_by_value, tells_digits, digit_at, digits_value-take-le, digits_value_more, digits_more, nat_tests, decimal_injective, decimal_is_IsNumeral, decimal_digit, first_decimal, decimal-digits_value}
+use Rattle.ip_spec.proofs.Common.{◌≡◌, lit≤, ℕ, zero, suc, ◌+◌, ◌-◌, ◌*◌, ◌^◌, ◌<◌, ◌≤◌, List, length, take, get_or, refl, arith, rules, common_steps, find, range_with_len, bytes_eq, AllDigits, digits_value, IsInRange, IsOutOfRange, decimal, cond-false, false_from_ne_true, cases_eq, bytes_eq-Decides, numerals_by_value, tells_digits, digit_at, digits_value-take-le, digits_value_more, digits_more, nat_tests, take_all, decimal_injective, decimal_is_IsNumeral, decimal_digit, first_decimal, decimal-digits_value}
 use Rattle.std.proofs.Common.{Some, None}
 use Rattle.ipexts_tool.specs.LineFields.{number_of}
 
@@ -9,14 +9,7 @@ module _ (text : List ℕ) where
       → find (λ k. bytes_eq (decimal k) text) (range_with_len a m) ≡ Some n
   found_in n a zero fits all low high e = absurd (omega arith)
   found_in n a (suc m) fits all low high e =
-      elim (cases_eq a n) [
-        | inl same ↦
-            cond-true (bytes_eq (decimal a) text) (Some a) _ ((bytes_eq-Decides (decimal a) text).1 (ap decimal same ∙ e)) ∙ ap Some same
-        | inr other ↦
-            cond-false (bytes_eq (decimal a) text) (Some a) _
-            (false_from_ne_true _ (λ yes. other (decimal_injective a n (omega arith) fits ((bytes_eq-Decides (decimal a) text).0 yes ∙ sym e))))
-            ∙ found_in n (a + 1) m fits (omega arith) (omega arith) (omega arith) e
-      ]
+      search (rules, cases_eq a n, cond-false, false_from_ne_true, bytes_eq-Decides, decimal_injective a n, found_in n (a + 1) m fits)
 
   absent_in : (a m : ℕ) → ((n : ℕ) → n < a + m → decimal n ≡ text → ⊥) → find (λ k. bytes_eq (decimal k) text) (range_with_len a m) ≡ None
   absent_in a zero none = refl
@@ -30,21 +23,14 @@ module _ (text : List ℕ) where
   unfolding number_of
   number_of-none none = absent_in 0 256 (λ n below e. none n (omega arith) e)
 
--- digits and their value, in std's terms
-own : IsNumeralModel (AllDigits 10) (digits_value 10)
-own = numerals_by_value (AllDigits 10) tells_digits
-
 module _ (text : List ℕ) where
   -- digits without a leading zero
   pub number_of-digits : AllDigits 10 text → 0 < length text → (get_or text 0 0 ≡ 48 → length text ≡ 1) → digits_value 10 text < 256
       → number_of text ≡ Some (digits_value 10 text)
-  number_of-digits digits some plain below = number_of-some text (digits_value 10 text) below (decimal-digits_value own text digits some plain (omega arith))
+  number_of-digits digits some plain below = search (rules, number_of-some, decimal-digits_value (numerals_by_value (AllDigits 10) tells_digits))
 
   pub number_of-empty : length text ≡ 0 → number_of text ≡ None
   number_of-empty empty = search (rules, number_of-none, decimal_is_IsNumeral)
-
-  pub number_of-no_digits : (AllDigits 10 text → ⊥) → number_of text ≡ None
-  number_of-no_digits none = number_of-none text (λ n below e. none (subst (AllDigits 10) e (decimal_is_IsNumeral n (omega arith)).0.1))
 
   -- a prefix of the digits is too large already
   pub number_of-too_large : (i : ℕ) → 256 ≤ digits_value 10 (take i text) → number_of text ≡ None
@@ -55,16 +41,16 @@ module _ (text : List ℕ) where
 
 -- ---- one digit more
 
-pub digit_value-digit : (c : ℕ) → 48 ≤ c → c ≤ 57 → digit_value c ≡ c - 48
-digit_value-digit c low high = grind (arith, nat_tests)
-
 module _ (text : List ℕ) (i : ℕ) (inside : i < length text) where
   -- a byte that is not a digit
   pub number_of-other_byte : IsOutOfRange 48 57 (get_or text i 0) → number_of text ≡ None
-  number_of-other_byte other = search (rules, number_of-no_digits, digit_at)
+  number_of-other_byte other = search (rules, number_of-none, decimal_is_IsNumeral, digit_at)
 
   pub digits_value-next : IsInRange 48 57 (get_or text i 0) → digits_value 10 (take (i + 1) text) ≡ digits_value 10 (take i text) * 10 + (get_or text i 0 - 48)
-  digits_value-next digit = search (rules, digits_value_more, digit_value-digit)
+  digits_value-next digit = grind (arith, nat_tests, digits_value_more)
 
   pub AllDigits-next : AllDigits 10 (take i text) → IsInRange 48 57 (get_or text i 0) → AllDigits 10 (take (i + 1) text)
-  AllDigits-next digits digit = search (rules, digit_value-digit, digits_more)
+  AllDigits-next digits digit = grind (arith, nat_tests, digits_more)
+
+-- what a loop over the digits needs
+pub ruleset numbers = (number_of-empty, number_of-leading_zero, number_of-other_byte, number_of-too_large, number_of-digits, digits_value-next, AllDigits-next, take_all)

@@ -1,26 +1,20 @@
 -- The answer for a packet, by the result of its parse.
-use Rattle.ip_spec.proofs.Common.{◌≡◌, ℕ, List, refl, ap, sym, ◌∙◌, arith, Some, None, codes, ◌==◌, if◌then◌else◌, eq-eqb, ne_eqb}
+use Rattle.ip_spec.proofs.Common.{◌≡◌, ℕ, List, Some, None, codes}
 use Rattle.ip_base.specs.Ipv4Header.{version}
 use Rattle.etherparse_ip.specs.declared.err.ip.slice_error.SliceError.{SliceError}
 use Rattle.etherparse_ip.specs.Packet.{Parts}
 use Rattle.etherparse_ip.specs.PartsIn.{ipv4_parts_in, ipv6_parts_in}
 use Rattle.etherparse_ip.specs.PacketFault.{ip_fault}
-use Rattle.ipexts_tool.specs.PacketAnswer.{parts_lines, fault_line, packet_lines, packet_answer}
-
-four_lines : (v : ℕ) (four six : List ℕ) → v ≡ 4 → (if v == 4 then four else six) ≡ four
-four_lines v four six e = rw (eq-eqb v 4 e) refl
-
-six_lines : (v : ℕ) (four six : List ℕ) → v ≡ 6 → (if v == 4 then four else six) ≡ six
-six_lines v four six e = rw (ne_eqb v 4 (λ z. absurd (omega arith))) refl
+use Rattle.ipexts_tool.specs.PacketAnswer.{parts_lines, fault_line, packet_answer}
 
 pub ipv4_answer : (s : List ℕ) (p : Parts) → None ≡ ip_fault s → version s ≡ 4 → p ≡ ipv4_parts_in s → packet_answer s ≡ parts_lines (codes "ipv4") p
 unfolding packet_answer
-ipv4_answer s p ok v is = ap (λ f. packet_lines f s) (sym ok) ∙ four_lines (version s) _ _ v ∙ ap (parts_lines (codes "ipv4")) (sym is)
+ipv4_answer s p ok v is = cc
 
 pub ipv6_answer : (s : List ℕ) (p : Parts) → None ≡ ip_fault s → version s ≡ 6 → p ≡ ipv6_parts_in s → packet_answer s ≡ parts_lines (codes "ipv6") p
 unfolding packet_answer
-ipv6_answer s p ok v is = ap (λ f. packet_lines f s) (sym ok) ∙ six_lines (version s) _ _ v ∙ ap (parts_lines (codes "ipv6")) (sym is)
+ipv6_answer s p ok v is = cc
 
 pub fault_answer : (s : List ℕ) (e : SliceError) → Some e ≡ ip_fault s → packet_answer s ≡ fault_line e
 unfolding packet_answer
-fault_answer s e told = ap (λ f. packet_lines f s) (sym told)
+fault_answer s e told = cc

@@ -15,6 +15,7 @@ use ip_dissect::{BaseHeader, Dissection, End, Fragment, FragmentKind, dissect};
 use std::alloc::{AllocError, Allocator};
 
 /// Appends the parts of the packet at the start of `bytes`, and why its headers end where they do.
+#[tactic(auto, using(crate::proofs::DissectLemmas::answer_none))]
 pub fn push_dissect<A: Allocator>(bytes: &[u8], text: &mut String<A>) -> Result<(), AllocError>
     ensures { OnOk result
         (string_bytes text.new ≡ string_bytes text.old ++ dissect_answer bytes.now) }
@@ -62,6 +63,7 @@ fn push_stated<A: Allocator>(
 }
 
 /// Appends a line for each extension header, the first of which is at the offset.
+#[tactic(auto, using(crate::proofs::DissectLemmas::no_header_lines))]
 fn push_headers<A: Allocator>(
     packet: &Dissection<'_>,
     offset: usize,

@@ -36,6 +36,7 @@ fn tell<A: Allocator + Copy, W: Write>(
 }
 
 /// Appends `part` to `line`, up to its capacity.
+#[tactic(auto, using(crate::proofs::OpenLineLemmas::line_parts))]
 fn keep(line: &mut OpenLine, part: &[u8])
     ensures { line.new.items ≡ take kept_len (line.old.items ++ part.now) }
 {
@@ -44,6 +45,7 @@ fn keep(line: &mut OpenLine, part: &[u8])
 }
 
 /// Writes the answer to the line that starts with `line` and ends with `part`, and empties `line`.
+#[tactic(auto, using(crate::proofs::OpenLineLemmas::line_parts))]
 fn end_line<A: Allocator + Copy, W: Write>(
     line: &mut OpenLine,
     part: &[u8],
@@ -66,6 +68,7 @@ fn end_line<A: Allocator + Copy, W: Write>(
 
 /// Answers the lines that end in `chunk`, the first of which started with `line`, and keeps in `line` what follows
 /// them.
+#[tactic(auto, using(crate::proofs::OpenLineLemmas::line_parts))]
 pub fn feed<A: Allocator + Copy, W: Write>(
     chunk: &[u8],
     line: &mut OpenLine,

@@ -26,6 +26,7 @@ pub fn split_once(text: &[u8], separator: u8) -> Option<(&[u8], &[u8])>
 }
 
 /// Parses a decimal numeral of a number below 256.
+#[tactic(auto, using(crate::proofs::NumberLemmas::numbers))]
 fn parse_number(text: &[u8]) -> Option<u8>
     ensures { result ≡ number_of text.now }
 {
@@ -78,6 +79,7 @@ pub fn parse_number_and_hex<'a>(
 }
 
 /// Parses `HEX`.
+#[tactic(auto, using(crate::proofs::LineFieldLemmas::whole_field))]
 pub fn parse_hex_alone<'a>(text: &[u8], buffer: &'a mut [u8; BYTES_LEN]) -> Option<&'a [u8]>
     requires { length text.now ≤ max_line_len }
     ensures { option_map (λ bytes. bytes.now) result ≡ bytes_alone (fields_of text.now) }

@@ -16,6 +16,7 @@ use etherparse_ip::{
 use std::alloc::{AllocError, Allocator};
 
 /// Appends the answer for `bytes` as a packet.
+#[tactic(auto, using(crate::proofs::PacketLemmas::fault_answer))]
 pub fn push_packet<A: Allocator>(bytes: &[u8], text: &mut String<A>) -> Result<(), AllocError>
     ensures { OnOk result
         (string_bytes text.new ≡ string_bytes text.old ++ packet_answer bytes.now) }

@@ -4,7 +4,7 @@ use Rattle.ipexts_tool.proofs.ProgressLemmas.{Advances-none, Advances-trans, Adv
 use Rattle.ipexts_tool.proofs.run.Goals as goal
 
 pub loop-init : goal.loop-init
-loop-init g c = rw c.new-line.ensures (Advances-none (g.R.Read.remaining c.args.input.now) _ (g.W.Write.contents c.args.output.now) [] (Consumes-nil _))
+loop-init g c = rw c.new-line.ensures (Advances-none _ _ _ [] (Consumes-nil _))
 
 pub returns-in_err-advance-clause-memory : goal.returns-in_err-advance-clause-memory
 returns-in_err-advance-clause-memory g c =
@@ -19,9 +19,7 @@ returns-then-not-branch-clause-answers g c =
 pub returns-then-not-branch-clause-memory : goal.returns-then-not-branch-clause-memory
 returns-then-not-branch-clause-memory g c =
     let came = Advances-trans _ _ _ _ _ _ _ _ c.loop.invariant c.in_ok-advance.ensures.ok in
-    IfErr-weaker c.finish.result _ _
-    (λ e. IfMemory-weaker e (λ kept. StopsWithin-answers _ _ _ _ _ _ came (StopsWithin-none (g.R.Read.remaining c.advance.new.input) _ _ _ kept)))
-    c.finish.ensures.memory
+    IfErr-weaker c.finish.result _ _ (λ e. IfMemory-weaker e (λ kept. StopsWithin-answers _ _ _ _ _ _ came (StopsWithin-none _ _ _ _ kept))) c.finish.ensures.memory
 
 pub loop-preserved : goal.loop-preserved
 loop-preserved g c = Advances-trans _ _ _ _ _ _ _ _ c.loop.invariant c.in_ok-advance.ensures.ok

@@ -1,7 +1,7 @@
-use Rattle.ipexts_tool.proofs.Exts6Lemmas.{on_ok}
+use Rattle.ip_spec.proofs.Common.{on_ok_weaker}
 use Rattle.ipexts_tool.proofs.DissectLemmas.{truncated_joined}
 use Rattle.ipexts_tool.proofs.dissect.push_end.Goals as goal
 
 pub returns-in_ok-push_truncated-in-Truncated : goal.returns-in_ok-push_truncated-in-Truncated
 returns-in_ok-push_truncated-in-Truncated g c =
-    on_ok _ _ _ (truncated_joined _ _ _ _ _ c.args.end.now c.in-Truncated.is c.in_ok-push_truncated-in-Truncated.ensures) c.push_in.ensures
+    on_ok_weaker _ (truncated_joined _ _ _ _ _ c.args.end.now c.in-Truncated.is c.in_ok-push_truncated-in-Truncated.ensures) c.push_in.ensures

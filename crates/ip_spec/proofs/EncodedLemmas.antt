@@ -19,9 +19,7 @@ one_encoded (auth_header v) b d h g = auth_only v b h ∙ sym (auth_only v d g)
 
 -- and a header whose reserved bits are zero encodes its fields.
 pub cleared_is_encoding : (n : ℕ) (b : List ℕ) → IsHeader n b → IsCleared (of_number n b) → IsEncodingOf (fields_of (of_number n b)) b
-cleared_is_encoding n b h =
-    by_number (λ m. IsHeader m b → IsCleared (of_number m b) → IsEncodingOf (fields_of (of_number m b)) b)
-    (search rules) (search rules) (search rules) (search rules) (search rules) n (header_number n b h) h
+cleared_is_encoding n b h = grind (arith, by_number, header_number)
 
 pub encoding_is : (n : ℕ) (x : HeaderFields) (h : ExtHeader) (b : List ℕ) → IsEncoded n x h → IsEncodingOf x b → h.bytes ≡ b
 encoding_is n x h b e = search (rules, one_encoded, cleared_is_encoding)

@@ -77,6 +77,4 @@ module _ (n : ℕ) (s : List ℕ) (d c : List ExtHeader) (l : IsLongestChain n s
       next_occupied n s c k.rest (search rules) k.meets k.breaks (search (rules, append-nil))
 
   pub shorter_where_next : (h : ExtHeader) → IsNext (is_empty c) (leads_to n c) (drop (length (bytes_of c)) s) h → length c < length d
-  shorter_where_next h x =
-      let k = longest_keeps FitsPlaces fits_places n s d c l u in
-      grind (arith, common_steps, longest_ends n s c, append-nil, length-append)
+  shorter_where_next h x = grind (arith, longest_keeps, fits_places, longest_ends, append-nil, length-append)

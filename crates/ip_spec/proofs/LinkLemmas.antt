@@ -82,11 +82,7 @@ module _ (v : PlacedFields) (m : ℕ) (small : m < 256) (e : IsEncodable v) wher
 
   module _ (p : Place) (at : drop (index p) places ≡ p ∷ drop (index p + 1) places) (up : Up (index p)) where
     step_none : v p ≡ None → Up (index p + 1)
-    step_none none =
-        let k = up.walking in
-        let absent : is_some (w p) ≡ false = is_some-map (relinked (first_number v (drop (index p + 1) places) m)) (v p) ∙ ap is_some none in
-        let number : first_number v (drop (index p + 1) places) m ≡ first_number v (drop (index p) places) m = cc in
-        record { reached = up.reached; first = up.first; walking = search (rules, k, skipped p absent, number) }
+    step_none none = search (rules, is_some-map, skipped)
 
     step_some : (x : HeaderFields) → v p ≡ Some x → next_in_chain up.first (first_k (index p) w) (number_in p) ≡ Some p → Up (index p + 1)
     step_some x some goes =

@@ -1,5 +1,5 @@
 -- The places of a chain's headers, the place of the next header, and the numbers whose place is occupied.
-use Rattle.ip_spec.proofs.Common.{◌≡◌, ℕ, ◌+◌, List, [], ◌∷◌, ◌++◌, refl, ap, sym, ◌∙◌, arith, inl, inr, Bool, true, false, rules, ◌==◌, ◌↔◌, count_by, Option, Some, None, is_some, IsSome, if◌then◌else◌, find, find-append, AllByRecursion, option_or, cases_Bool, eqb-true, eq-eqb, eqb_tells, same_Some, append-nil, common_steps, IsExtensionNumber, IsLaterNumber, ExtHeader, Place, hop_by_hop, destination, routing, authentication, final_destination, places, index, number_in, side_of, header_in, next_place, FitsPlaces, IsOccupied}
+use Rattle.ip_spec.proofs.Common.{◌≡◌, ℕ, ◌+◌, List, [], ◌∷◌, ◌++◌, refl, ap, sym, ◌∙◌, arith, inl, inr, Bool, true, false, rules, ◌==◌, ◌↔◌, count_by, Option, Some, None, is_some, IsSome, if◌then◌else◌, find, find-append, option_or, cases_Bool, eqb-true, eq-eqb, eqb_tells, same_Some, append-nil, common_steps, IsExtensionNumber, IsLaterNumber, ExtHeader, Place, hop_by_hop, destination, routing, authentication, final_destination, places, index, number_in, side_of, header_in, next_place, FitsPlaces, IsOccupied}
 use Rattle.ip_spec.proofs.HeaderLemmas.{later_extension}
 use Rattle.ip_spec.specs.Places.{fragment}
 use Rattle.ip_spec.proofs.FirstLemmas.{before-yes, before-no, count-append, before-none, before-some, after-none, after-some, after_one, counted, none_counted, find_passes}
@@ -23,10 +23,6 @@ final_after after e = search rules
 pub destination_before : (after : Bool) → place_of 60 after ≡ Some destination → after ≡ false
 destination_before after e = search rules
 
--- a property of all places is one of each
-pub each : (P : Place → Type 0) → AllByRecursion P places → (p : Place) → P p
-each P a p = search rules
-
 -- the place of a number that has only one
 pub in_both : (m : ℕ) (p : Place) → place_of m true ≡ Some p → place_of m false ≡ Some p → (after : Bool) → place_of m after ≡ Some p
 in_both m p after before x4 = search rules
@@ -34,9 +30,6 @@ in_both m p after before x4 = search rules
 -- an extension number has a place
 pub own_place : (m : ℕ) (after : Bool) → IsExtensionNumber m → (p : Place) × (place_of m after ≡ Some p)
 own_place m after x = search (rules, cases_Bool after)
-
-pub is_extension : (p : Place) → IsExtensionNumber (number_in p)
-is_extension p = search rules
 
 -- a routing header is present
 abbrev pub has_routing : List ExtHeader → Bool

@@ -88,6 +88,4 @@ module _ {Y : Type 0} (v : PlacedFields) (f : ℕ) (c : List ExtHeader) (r : Pla
       cc (none n.joins.place here))
 
   pub walk_answers : (w : PlacedFields) (n : ℕ) (a : WalkAnswer) → ((p : Place) → next_in_chain first r m ≡ Some p → v p ≡ None) → ((p : Place) → w p ≡ left v r p) → n ≡ m → a ≡ answer_at n w → IsWalkAnswer v f a
-  walk_answers w n a none ew en ea =
-      let same : w ≡ unreached v c = same_held w (unreached v c) (λ p. cc (ew p, k.filled p)) in
-      search (rules, walk_stops none)
+  walk_answers w n a none ew en ea = search (rules, unreached, same_held, walk_stops)

@@ -4,9 +4,10 @@ use Rattle.ip_spec.proofs.FirstLemmas.{find-map}
 use Rattle.ip_spec.proofs.PlaceLemmas.{is_of, side}
 use Rattle.ip_spec.proofs.FitsLemmas.{side-map, fits-map}
 use Rattle.ip_spec.proofs.HeaderLemmas.{header_number, header-least, by_number, fragment_of, auth_of}
-use Rattle.ip_spec.proofs.FragmentBitLemmas.{unreserved_offset, unreserved_flag, unreserved_again, unreserved_small}
+use Rattle.ip_spec.proofs.FragmentBitLemmas.{reserved_part}
 use Rattle.ip_spec.proofs.EncodingLemmas.{FirstFour, first_four, byte_at, three_before}
 use Rattle.ip_spec.proofs.EncodedLemmas.{cleared_is_encoding}
+use Rattle.ip_spec.proofs.Common.{and_assoc}
 
 -- The properties of a header that clearing leaves unchanged.
 pub record ClearedSame (n : ℕ) (b : List ℕ) : Type 0 where
@@ -22,7 +23,7 @@ module _ (x0 x1 x2 x3 : ℕ) (rest : List ℕ) where
   four_and = x0 ∷ x1 ∷ x2 ∷ x3 ∷ rest
 
   fragment_same : IsFragmentHeader four_and → ClearedSame 44 four_and
-  fragment_same h = search (rules, unreserved_offset x2 x3, unreserved_flag x2 x3, unreserved_again x2 x3, unreserved_small x2 x3)
+  fragment_same h = search (rules, reserved_part, and_assoc)
 
   auth_same : IsAuthHeader four_and → ClearedSame 51 four_and
   auth_same h =

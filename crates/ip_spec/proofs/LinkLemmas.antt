@@ -2,7 +2,7 @@
 use Rattle.ip_spec.proofs.Common.{◌≡◌, ℕ, ◌+◌, ◌<◌, List, [], ◌∷◌, ◌++◌, drop, refl, ap, sym, ◌∙◌, arith, Bool, true, false, rules, Option, Some, None, is_some, ◌==◌, nat_lt, if◌then◌else◌, option_map, cases_Bool, eqb-true, le-ltb, All-from_recursion, recursion_from_All, IsHeader, next_header, ExtHeader, Place, hop_by_hop, destination, routing, authentication, final_destination, places, index, number_in, fields_of, HeaderFields, IsCleared, IsEncoded, IsEncodable, PlacedFields, IsWalkAnswer, next_place, next_in_chain, next_of, relinked, first_number, linked}
 use Rattle.ip_spec.specs.Places.{fragment as fragment_place}
 use Rattle.ip_spec.proofs.HeaderLemmas.{header-least}
-use Rattle.ip_spec.proofs.PlaceLemmas.{place_of, same_place, in_both, next_own}
+use Rattle.ip_spec.proofs.PlaceLemmas.{place_of, in_both, next_own}
 use Rattle.ip_spec.proofs.EncodedLemmas.{of_number}
 use Rattle.ip_spec.proofs.WalkLemmas.{leads, none_if, is_some-map}
 use Rattle.ip_spec.proofs.WalkStepLemmas.{FillsIn, Walking, left, walk_begins, walks_on, walk_answers, free_in_chain}
@@ -75,7 +75,7 @@ module _ (v : PlacedFields) (m : ℕ) (small : m < 256) (e : IsEncodable v) wher
 
   -- one more place
   fills : (p : Place) → is_some (w p) ≡ true → FillsIn p (first_k (index p) w) (first_k (index p + 1) w)
-  fills p some q = search (rules, cases_Bool (index p == index q), same_place, eqb-true, below)
+  fills p some q = search (rules, cases_Bool, eqb-true, below)
 
   skipped : (p : Place) → is_some (w p) ≡ false → (q : Place) → is_some (first_k (index p + 1) w q) ≡ is_some (first_k (index p) w q)
   skipped p none q = search rules

@@ -6,9 +6,11 @@ use Rattle.ip_base.specs.declared.err.ipv6_exts.exts_walk_error.ExtsWalkError.{E
 use Rattle.ip_spec.proofs.LongestOfLemmas.{Grows, one_longest_of}
 use Rattle.ip_spec.proofs.StepLemmas.{all_first, all_next, chain_begins, chain_number, chain_header, chain_zero}
 use Rattle.ip_spec.proofs.FitsLemmas.{fits_places}
-use Rattle.ip_spec.proofs.PlaceLemmas.{place_of, has_routing, own_place, placed, breaks_more}
+use Rattle.ip_spec.proofs.PlaceLemmas.{place_of, has_routing, own_place, placed}
 use Rattle.ip_spec.proofs.HeaderLemmas.{header_number}
 use Rattle.ip_spec.proofs.EncodedLemmas.{one_header_says}
+use Rattle.ip_spec.proofs.PlaceLemmas.{none_there}
+use Rattle.ip_spec.proofs.FirstLemmas.{counted}
 
 abbrev pub WalkAnswer : Type 0
 WalkAnswer = Result IpNumber ExtsWalkError
@@ -40,7 +42,7 @@ pub record Joins (f : ℕ) (c : List ExtHeader) (x : ExtHeader) : Type 0 where
 pub joins : (f : ℕ) (c : List ExtHeader) (x : ExtHeader) → IsChain f (c ++ x ∷ []) → FitsPlaces (c ++ x ∷ []) → Joins f c x
 joins f c x k fits =
     let own = own_place x.number (has_routing c) (header_number x.number x.bytes (chain_header f c x k)) in
-    search (rules, cases_Bool (is_some (header_in own.0 c)), breaks_more, none_if, placed)
+    search (rules, cases_Bool (is_some (header_in own.0 c)), none_there, counted, none_if, placed)
 
 module _ {f : ℕ} {c : List ExtHeader} {x : ExtHeader} (j : Joins f c x) where
   -- it is in its place

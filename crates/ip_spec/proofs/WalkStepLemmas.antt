@@ -48,9 +48,6 @@ module _ {Y : Type 0} (v : PlacedFields) (r : Place → Option Y) (m : ℕ) (fir
   pub free_in_chain : next_in_chain first r m ≡ Some p → is_some (r p) ≡ false
   free_in_chain at = search rules
 
-  pub left_at : (x : HeaderFields) → next_in_chain first r m ≡ Some p → v p ≡ Some x → left v r p ≡ Some x
-  left_at x at there = cc (free_in_chain at)
-
   pub left_next : {Z : Type 0} (s : Place → Option Z) → FillsIn p r s → (q : Place) → left v s q ≡ without p (left v r) q
   left_next s fills q = search (rules, fills q)
 

@@ -1,5 +1,5 @@
 -- Fields determine their header if its reserved bits are zero.
-use Rattle.ip_spec.proofs.Common.{◌≡◌, ℕ, ◌+◌, ◌-◌, ◌/◌, ◌^◌, ◌<◌, ◌≤◌, List, ◌∷◌, length, sym, ◌∙◌, arith, rules, IsHeader, IsRawHeader, IsRawNumber, RawFields, FragmentFields, AuthFields, raw_fields, MAX_FRAGMENT_OFFSET, IsPayloadLen, IsIcvLen, AreBytes, IsFragmentEncoding, IsAuthEncoding, IsCleared, ExtHeader, HeaderFields, raw_header, fragment_header, auth_header, fields_of, IsEncoded, IsEncodingOf}
+use Rattle.ip_spec.proofs.Common.{◌≡◌, ℕ, ◌+◌, ◌-◌, ◌/◌, ◌^◌, ◌<◌, ◌≤◌, List, ◌∷◌, length, sym, ◌∙◌, arith, rules, IsHeader, IsRawHeader, IsRawNumber, RawFields, FragmentFields, AuthFields, raw_fields, MAX_FRAGMENT_OFFSET, IsPayloadLen, IsIcvLen, AreBytes, IsFragmentEncoding, IsCleared, ExtHeader, HeaderFields, raw_header, fragment_header, auth_header, fields_of, IsEncoded, IsEncodingOf}
 use Rattle.ip_spec.proofs.HeaderLemmas.{header_number, by_number}
 use Rattle.ip_spec.proofs.EncodingLemmas.{fragment_only, auth_only, fragment_encodes, auth_written_encodes, auth_encoding-bytes, fragment_written, auth_written}
 use Rattle.ip_spec.proofs.FragmentBitLemmas.{packed_offset, packed_flag, packed_reserved}
@@ -48,5 +48,5 @@ fragment_encoded x next offset id =
 
 pub auth_encoded : (x : AuthFields) → x.next_header < 256 → IsIcvLen (length x.raw_icv) → AreBytes x.raw_icv → x.spi < 2 ^ 32 → x.sequence_number < 2 ^ 32 → (h : ExtHeader) × IsEncoded 51 (auth_header x) h
 auth_encoded x next len icv spi seq =
-    let e : IsAuthEncoding x (auth_written x) = auth_written_encodes x len.most len.whole spi seq in
-    let bytes = auth_encoding-bytes x (auth_written x) e next icv in search rules
+    let e = auth_written_encodes x len.most len.whole spi seq in
+    search (rules, auth_encoding-bytes x (auth_written x) e next icv)

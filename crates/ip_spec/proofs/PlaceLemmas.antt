@@ -2,7 +2,7 @@
 use Rattle.ip_spec.proofs.Common.{◌≡◌, ℕ, ◌+◌, List, [], ◌∷◌, ◌++◌, refl, ap, sym, ◌∙◌, arith, inl, inr, Bool, true, false, rules, ◌==◌, ◌↔◌, count_by, Option, Some, None, is_some, IsSome, if◌then◌else◌, find, find-append, option_or, cases_Bool, eqb-true, eq-eqb, eqb_tells, same_Some, append-nil, common_steps, IsExtensionNumber, IsLaterNumber, ExtHeader, Place, hop_by_hop, destination, routing, authentication, final_destination, places, index, number_in, side_of, header_in, next_place, FitsPlaces, IsOccupied}
 use Rattle.ip_spec.proofs.HeaderLemmas.{later_extension}
 use Rattle.ip_spec.specs.Places.{fragment}
-use Rattle.ip_spec.proofs.FirstLemmas.{before-no, before-none, before-some, after-none, after-some, after_one, counted, none_counted, find_passes}
+use Rattle.ip_spec.proofs.FirstLemmas.{before-no, before-none, before-some, after-none, after-some, after_one, counted, none_counted}
 use Rattle.ip_spec.proofs.Common.{sum_by-append}
 
 -- the place of a header of number m, free or not, after a routing header or not
@@ -11,7 +11,7 @@ place_of m after = find (λ p. number_in p == m) (if after then final_destinatio
 
 -- a number belongs to its place
 pub place_number : (m : ℕ) (p : Place) (after : Bool) → place_of m after ≡ Some p → m ≡ number_in p
-place_number m p after e = sym (eqb-true (number_in p) m (find_passes (λ q. number_in q == m) (if after then final_destination ∷ places else places) p e))
+place_number m p after e = search rules
 
 -- of the two places of 60, the final one is after a routing header
 pub final_after : (after : Bool) → place_of 60 after ≡ Some final_destination → after ≡ true
@@ -129,21 +129,12 @@ module _ {X Y : Type 0} (v : Place → Option X) (w : Place → Option Y) (m : �
 -- A number is occupied after a chain that fits if and only if no header of that number fits after it.
 module _ (c : List ExtHeader) (m : ℕ) where
   pub occupied_breaks : IsOccupied m c → (h : ExtHeader) → h.number ≡ m → FitsPlaces (c ++ h ∷ []) → ⊥
-  occupied_breaks t h e f =
-      let place = own_place m (has_routing c) (later_extension m t.0) in
-      grind (arith, common_steps, place, none_there, counted)
+  occupied_breaks t h e f = search (rules, own_place m (has_routing c) (later_extension m t.0), none_there, counted)
 
   pub breaks_occupied : FitsPlaces c → IsLaterNumber m → (FitsPlaces (c ++ bare m ∷ []) → ⊥) → IsOccupied m c
-  breaks_occupied fits later breaks =
-      let place = own_place m (has_routing c) (later_extension m later) in
-      grind (arith, common_steps, fits_more c (bare m) place.0 fits place.1)
+  breaks_occupied fits later breaks = search (rules, own_place m (has_routing c) (later_extension m later), fits_more)
 
 -- One more extension header fits if and only if its number has a next place.
 module _ (c : List ExtHeader) (h : ExtHeader) (fits : FitsPlaces c) (is : IsExtensionNumber h.number) where
   pub fits_where_next : FitsPlaces (c ++ h ∷ []) ↔ IsSome (next_place (λ p. header_in p c) h.number)
-  fits_where_next =
-      let place = own_place h.number (has_routing c) is in
-      elim (cases_Bool (is_some (header_in place.0 c))) [
-        | inl filled ↦ search (rules, none_there, counted, place)
-        | inr free ↦ search (rules, fits_more, place, next_own)
-      ]
+  fits_where_next = search (rules, own_place h.number (has_routing c) is, none_there, counted, fits_more)

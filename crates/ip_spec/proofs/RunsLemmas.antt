@@ -202,7 +202,7 @@ module _ (n : ℕ) (s : List ℕ) (p : List ExtHeader) where
 -- So the first run is the longest chain that fits, and the others are the runs of the longest chain after it.
 module _ (n : ℕ) (s : List ℕ) (c p : List ExtHeader) (l : IsLongestChain n s c) where
   pub first_is_longest : (ps : Pieces) → AreRuns (leads_to n c) c (p ∷ ps) → IsLongestUnder FitsPlaces n s p
-  first_is_longest ps a = kept_is_longest FitsPlaces fits_places n s c p l (first_kept (leads_to n c) c p ps a)
+  first_is_longest ps a = search (rules, kept_is_longest, fits_places, first_kept)
 
   pub last_is_free : AreRuns (leads_to n c) c (p ∷ []) → IsOccupied (leads_to n p) p → ⊥
   last_is_free a = rw a.0 at a.2

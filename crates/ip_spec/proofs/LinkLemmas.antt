@@ -7,6 +7,8 @@ use Rattle.ip_spec.proofs.EncodedLemmas.{of_number}
 use Rattle.ip_spec.proofs.WalkLemmas.{leads, none_if, is_some-map}
 use Rattle.ip_spec.proofs.WalkStepLemmas.{FillsIn, Walking, left, walk_begins, walks_on, walk_answers, free_in_chain}
 use Rattle.ip_spec.proofs.SpellingLemmas.{leads_where_none}
+use Rattle.std.proofs.lemmas.Grind.{common_steps}
+use Rattle.std.proofs.lemmas.Bool.Decides.{eqb_tells}
 
 -- Another next header leaves a header valid.
 module _ (m x0 : ℕ) (rest : List ℕ) (small : m < 256) where
@@ -70,19 +72,13 @@ module _ (v : PlacedFields) (m : ℕ) (small : m < 256) (e : IsEncodable v) wher
     first : Bool
     walking : Walking w f reached (first_k k w) (first_number v (drop k places) m) first
 
-  below : (p q : Place) → nat_lt (index q) (index p + 1) ≡ (if index p == index q then true else nat_lt (index q) (index p))
-  below p q = search rules
-
   -- one more place
   fills : (p : Place) → is_some (w p) ≡ true → FillsIn p (first_k (index p) w) (first_k (index p + 1) w)
-  fills p some q = search (rules, cases_Bool, eqb-true, below)
-
-  skipped : (p : Place) → is_some (w p) ≡ false → (q : Place) → is_some (first_k (index p + 1) w q) ≡ is_some (first_k (index p) w q)
-  skipped p none q = search rules
+  fills p some q = grind (arith, common_steps, cases_Bool, eqb-true)
 
   module _ (p : Place) (at : drop (index p) places ≡ p ∷ drop (index p + 1) places) (up : Up (index p)) where
     step_none : v p ≡ None → Up (index p + 1)
-    step_none none = search (rules, is_some-map, skipped)
+    step_none none = grind (arith, common_steps, is_some-map)
 
     step_some : (x : HeaderFields) → v p ≡ Some x → next_in_chain up.first (first_k (index p) w) (number_in p) ≡ Some p → Up (index p + 1)
     step_some x some goes =

@@ -10,6 +10,9 @@ use Rattle.ip_spec.proofs.DemandLemmas.{Begins, beginnings_grow, some_kept, one_
 use Rattle.ip_spec.proofs.PlaceLemmas.{bare, occupied_breaks}
 use Rattle.ip_spec.proofs.FitsLemmas.{fits_places, fits_after, next_occupied}
 use Rattle.ip_spec.proofs.PlaceLemmas.{fits_next}
+use Rattle.std.proofs.lemmas.Grind.{common_steps}
+use Rattle.std.proofs.lemmas.Bool.Decides.{eqb_tells}
+use Rattle.std.proofs.lemmas.Bool.{cases_Bool}
 
 abbrev Pieces : Type 0
 Pieces = List (List ExtHeader)
@@ -17,18 +20,13 @@ Pieces = List (List ExtHeader)
 occupied_or : (m : ℕ) (c : List ExtHeader) → IsOccupied m c ⊎ (IsOccupied m c → ⊥)
 occupied_or m c = search (rules, later_or)
 
--- If headers follow a run or the number's place is occupied after it, the run has a header.
-some_element : (m : ℕ) (p rest : List ExtHeader) → NextBreaks FitsPlaces p rest → (rest ≡ [] → IsOccupied m p) → 1 ≤ length p
-some_element m [] rest breaks on = search (rules, occupied_breaks, bare, fits_next)
-some_element m (h ∷ p) rest breaks on = omega arith
-
 module _ (m : ℕ) (c p : List ExtHeader) (k : KeepsBeginning FitsPlaces c p) (on : k.rest ≡ [] → IsOccupied m p) where
   pub runs_more : (ps : Pieces) → AreRuns m k.rest ps → AreRuns m c (p ∷ ps)
   runs_more [] a = absurd a
   runs_more (q ∷ ps) a = (k, on, a)
 
   fewer_left : suc (length k.rest) ≤ length c
-  fewer_left = omega (arith, ap length k.joined, length-append p k.rest, some_element m p k.rest k.breaks on)
+  fewer_left = grind (arith, common_steps, length-append, occupied_breaks, bare, fits_next)
 
 -- There is exactly one list of runs.
 data First (m : ℕ) (c : List ExtHeader) : Type 0 where

@@ -29,7 +29,7 @@ module _ (source : LenSource) (n k : ℕ) (x : List ℕ) where
   fault_auth first m e = search rules
 
   no_fault_at_next : (first : Bool) (m : ℕ) (h : ExtHeader) → IsNext first m x h → fault_at source n k first m x ≡ None
-  no_fault_at_next first m h y = search (rules, fault_raw, raw_at_header, fault_fragment, fragment_at_header, fault_auth, auth_at_header)
+  no_fault_at_next first m h y = search (rules, raw_at_header, fragment_at_header, auth_at_header)
 
   -- so if there is an error, no header follows
   pub fault_ends : (first : Bool) (m : ℕ) (f : Fault) → fault_at source n k first m x ≡ Some f → IsEnd first m x
@@ -54,4 +54,4 @@ module _ (source : LenSource) (n k : ℕ) (first : Bool) (m : ℕ) where
 
   -- the length of an authentication header is zero
   pub zero_fault : (done xs : List ℕ) → m ≡ 51 → IsZeroLength done → fault_at source n k first m (done ++ xs) ≡ Some (Content (IpAuth ZeroPayloadLen), IpAuthHeader)
-  zero_fault done xs e z = fault_auth source n k (done ++ xs) first m e ∙ ap (option_map auth_at) (auth_zero_fault source n k done xs z)
+  zero_fault done xs e z = search (rules, fault_auth, auth_zero_fault)

@@ -1,12 +1,13 @@
 -- Chains whose reserved bits are set to zero: they lead to the same number, and have the same places and fields.
-use Rattle.ip_spec.proofs.Common.{◌≡◌, ◌≢◌, ℕ, ◌<◌, List, [], ◌∷◌, ◌++◌, length, take, drop, refl, ap, ◌∙◌, arith, subst, Bool, rules, Option, Some, None, All, slice_range, AllByRecursion, find, option_map, ForSome, none-some, take-append_seam, drop-append_seam, recursion_from_All, All-take, All-drop, common_steps, IsHeader, IsFragmentHeader, IsAuthHeader, next_header, cleared_header, AreBytes, fixed_len, IsCleared, cleared_chain, ExtHeader, AreLinked, leads_to, bytes_of, IsChain, FitsPlaces, Place, header_in, HeaderFields, fields_of, IsEncodingOf}
+use Rattle.ip_spec.proofs.Common.{◌≡◌, ◌≢◌, ℕ, ◌<◌, List, [], ◌∷◌, ◌++◌, length, take, drop, refl, ap, ◌∙◌, arith, subst, Bool, rules, Option, Some, None, All, slice_range, AllByRecursion, find, option_map, ForSome, none-some, take-append_seam, drop-append_seam, recursion_from_All, All-take, All-drop, common_steps, IsHeader, IsFragmentHeader, IsAuthHeader, next_header, cleared_header, AreBytes, fixed_len, IsCleared, cleared_chain, ExtHeader, AreLinked, leads_to, bytes_of, IsChain, FitsPlaces, Place, header_in, fields_of, IsEncodingOf}
 use Rattle.ip_spec.proofs.FirstLemmas.{find-map}
 use Rattle.ip_spec.proofs.PlaceLemmas.{is_of, side}
 use Rattle.ip_spec.proofs.FitsLemmas.{side-map, fits-map}
 use Rattle.ip_spec.proofs.HeaderLemmas.{header_number, header-least, by_number, fragment_of, auth_of}
-use Rattle.ip_spec.proofs.FragmentBitLemmas.{unreserved_offset, unreserved_flag, unreserved_again, unreserved_small}
+use Rattle.ip_spec.proofs.FragmentBitLemmas.{reserved_part}
 use Rattle.ip_spec.proofs.EncodingLemmas.{FirstFour, first_four, byte_at, three_before}
 use Rattle.ip_spec.proofs.EncodedLemmas.{cleared_is_encoding}
+use Rattle.ip_spec.proofs.Common.{and_assoc}
 
 -- The properties of a header that clearing leaves unchanged.
 pub record ClearedSame (n : ℕ) (b : List ℕ) : Type 0 where
@@ -22,7 +23,7 @@ module _ (x0 x1 x2 x3 : ℕ) (rest : List ℕ) where
   four_and = x0 ∷ x1 ∷ x2 ∷ x3 ∷ rest
 
   fragment_same : IsFragmentHeader four_and → ClearedSame 44 four_and
-  fragment_same h = search (rules, unreserved_offset x2 x3, unreserved_flag x2 x3, unreserved_again x2 x3, unreserved_small x2 x3)
+  fragment_same h = search (rules, reserved_part, and_assoc)
 
   auth_same : IsAuthHeader four_and → ClearedSame 51 four_and
   auth_same h =
@@ -49,8 +50,7 @@ module _ (b : List ℕ) where
 pub cleared_encodes : (n : ℕ) (b : List ℕ) → IsHeader n b → AreBytes (slice_range b 1 (fixed_len n)) → IsEncodingOf (fields_of (record { number = n; bytes = b })) (cleared_header n b)
 cleared_encodes n b h bytes =
     let same = cleared_same b n h in
-    let E : HeaderFields → Type 0 = λ x. IsEncodingOf x (cleared_header n b) in
-    subst E same.fields (cleared_is_encoding n (cleared_header n b) same.header (record { reserved = same.again; bytes = same.bytes bytes }))
+    rw same.fields at (cleared_is_encoding n (cleared_header n b) same.header (search (rules, same)))
 
 -- the header h with its reserved bits set to zero
 abbrev pub cleared_of : ExtHeader → ExtHeader

@@ -1,5 +1,5 @@
 -- The demands: none, at most this many headers, at most this many bytes, at most one header of one number.
-use Rattle.ip_spec.proofs.Common.{◌≡◌, ℕ, ◌≤◌, List, [], ◌∷◌, length, take, drop, sym, rules, arith, inl, ◌⊎◌, AllByRecursion, length-append, take-append-drop, length-take, flat_map-append, common_steps, ExtHeader, bytes_of, IsLongestChain, IsDemand, IsLongestUnder, KeepsBeginning, AtMost, AtMostOneOf}
+use Rattle.ip_spec.proofs.Common.{◌≡◌, ℕ, ◌≤◌, List, [], ◌∷◌, length, take, rules, arith, inl, ◌⊎◌, AllByRecursion, length-append, take-append-drop, length-take, flat_map-append, common_steps, ExtHeader, bytes_of, IsLongestChain, IsDemand, IsLongestUnder, KeepsBeginning, AtMost, AtMostOneOf}
 use Rattle.ip_spec.proofs.HeaderLemmas.{eq_or}
 use Rattle.ip_spec.proofs.StepLemmas.{all_first}
 use Rattle.ip_spec.proofs.UnderLemmas.{kept_is_longest}
@@ -10,9 +10,7 @@ at_most k = search (rules, length-append)
 
 -- the first k are kept
 pub at_most_keeps : (k : ℕ) (d : List ExtHeader) → KeepsBeginning (AtMost k) d (take k d)
-at_most_keeps k d =
-    let all = take-append-drop k d in
-    record { rest = drop k d; joined = sym all; meets = omega (arith, length-take k d); breaks = grind (arith, common_steps) }
+at_most_keeps k d = grind (arith, common_steps, take-append-drop k d, length-take)
 
 -- so the longest chain of at most k headers is the first k of the longest
 pub longest_at_most : (k n : ℕ) (s : List ℕ) (d : List ExtHeader) → IsLongestChain n s d → IsLongestUnder (AtMost k) n s (take k d)
@@ -27,9 +25,8 @@ demand_all P test = record { empty = tt; begins = all_first P; decided = all_or 
 
 pub at_most_one_of : (m : ℕ) → IsDemand (AtMostOneOf m)
 at_most_one_of m =
-    let one = at_most 1 in
     let numbers = demand_all (λ (h : ExtHeader). h.number ≡ m) (λ h. eq_or h.number m) in
-    search rules
+    search (rules, at_most 1)
 
 -- at most j bytes; the number of bytes only grows
 abbrev pub IsWithin : ℕ → List ExtHeader → Type 0

@@ -1,7 +1,7 @@
 -- Lists with a property under which at most one element can come next, and a demand on them.
 use Rattle.ip_spec.proofs.Common.{◌≡◌, ℕ, ◌≤◌, ◌<◌, List, [], ◌∷◌, ◌++◌, length, take, drop, sym, arith, subst, append_assoc, rules, append-nil, append_cancel_left, drop_more, length-append, take-append-drop, common_steps, IsLongestOf, IsDemand, NextBreaks, KeepsBeginning}
 use Rattle.std.specs.Prelude.{get_or}
-use Rattle.ip_spec.proofs.LongestOfLemmas.{Grows, DecidesNext, compare, begins_first, longest_where_none_next, none_next_where_longest, one_longest_of, some_longest_of}
+use Rattle.ip_spec.proofs.LongestOfLemmas.{Grows, DecidesNext, compare, begins_first, longest_where_none_next, one_longest_of, some_longest_of}
 
 -- c has the property P and meets the demand Q
 abbrev pub IsUnder : {X : Type 0} → (List X → Type 0) → (List X → Type 0) → List X → Type 0
@@ -22,7 +22,7 @@ module _ {X : Type 0} (P Q : List X → Type 0) (g : Grows P) (k : IsDemand Q) w
   longest_under_bounds c d l u = search rules
 
   none_next_where_kept : (d c rest : List X) → d ≡ c ++ rest → NextBreaks Q c rest → IsLongestOf P d → (x : X) → IsUnder Q P (c ++ x ∷ []) → ⊥
-  none_next_where_kept d c rest e breaks l x u = grind (arith, common_steps, none_next_where_longest, append-nil, begins_first)
+  none_next_where_kept d c rest e breaks l x u = grind (arith, common_steps, append-nil, begins_first)
 
   -- the part of the longest that the demand keeps is the longest under the demand
   pub longest_where_kept : (d c : List X) → IsLongestOf P d → KeepsBeginning Q d c → IsLongestOf (IsUnder Q P) c
@@ -32,11 +32,11 @@ module _ {X : Type 0} (P Q : List X → Type 0) (g : Grows P) (k : IsDemand Q) w
       (none_next_where_kept d c p.rest p.joined p.breaks l)
 
   breaks_after : (d c rest : List X) → d ≡ c ++ rest → IsLongestOf P d → IsLongestOf (IsUnder Q P) c → NextBreaks Q c rest
-  breaks_after d c rest e l u = grind (arith, common_steps, none_next_where_longest, begins_first)
+  breaks_after d c rest e l u = grind (arith, common_steps, begins_first)
 
   -- and vice versa
   pub kept_where_longest : (d c : List X) → IsLongestOf P d → IsLongestOf (IsUnder Q P) c → KeepsBeginning Q d c
-  kept_where_longest d c l u = grind (arith, common_steps, compare P g d c l.has u.has.0, breaks_after d c, none_next_where_longest, begins_first)
+  kept_where_longest d c l u = grind (arith, common_steps, compare P g d c l.has u.has.0, breaks_after d c, begins_first)
 
 -- A demand keeps some prefix of each list.
 kept_from : {X : Type 0} (Q : List X → Type 0) → IsDemand Q → (c rest : List X) → Q c → (b : List X) × KeepsBeginning Q (c ++ rest) b
@@ -51,11 +51,8 @@ abbrev pub Begins : {X : Type 0} → List X → List X → Type 0
 Begins {X} d c = (rest : List X) × (d ≡ c ++ rest)
 
 module _ {X : Type 0} (d : List X) where
-  same_after : (c : List X) (x y : X) (p q : List X) → d ≡ (c ++ x ∷ []) ++ p → d ≡ (c ++ y ∷ []) ++ q → x ≡ y
-  same_after c x y p q e f = search (rules, append_cancel_left, append_assoc)
-
   pub beginnings_grow : Grows (Begins d)
-  beginnings_grow = search (rules, append_assoc, same_after)
+  beginnings_grow = search (rules, append_assoc, append_cancel_left)
 
   all_longest : IsLongestOf (Begins d) d
   all_longest = grind (arith, common_steps, longest_where_none_next, beginnings_grow, append-nil, length-append)

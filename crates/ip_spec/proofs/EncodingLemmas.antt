@@ -45,11 +45,11 @@ auth_written v =
 
 -- a number in network byte order is bytes
 be_bytes-are : (n : ℕ) → AreBytes (to_be_bytes w32 n)
-be_bytes-are n = All-from_recursion (λ x. x < 256) (to_be_bytes w32 n) (omega arith, (omega arith, (omega arith, (omega arith, tt))))
+be_bytes-are n = search rules
 
 -- three bytes before bytes
 pub three_before : (x1 x2 x3 : ℕ) (rest : List ℕ) → x1 < 256 → x2 < 256 → x3 < 256 → AreBytes rest → AreBytes (x1 ∷ x2 ∷ x3 ∷ rest)
-three_before x1 x2 x3 rest b c d e = All-from_recursion (λ x. x < 256) (x1 ∷ x2 ∷ x3 ∷ rest) (b, (c, (d, recursion_from_All (λ x. x < 256) rest e)))
+three_before x1 x2 x3 rest b c d e = search rules
 
 -- bytes 2 and 3 with the offset and the flag, and without a reserved bit, make the header with these fields
 pub fragment_encodes : (v : FragmentFields) (high low : ℕ) → offset_bits high low ≡ v.fragment_offset → flag_bit low ≡ v.more_fragments → unreserved_bits low ≡ low

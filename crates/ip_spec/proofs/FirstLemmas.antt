@@ -1,27 +1,18 @@
 -- The first element of a list that passes a test, and the parts before and after it, for joined lists.
-use Rattle.ip_spec.proofs.Common.{◌≡◌, ℕ, ◌+◌, ◌≤◌, List, [], ◌∷◌, ◌++◌, take, drop, map, refl, ap, sym, ◌∙◌, arith, inl, inr, Bool, true, false, cond, rules, not, count_by, Some, is_some, position_or_len, find, before_first, after_first, option_map, cases_Bool, take-append-drop, sum_by-append, common_steps}
+use Rattle.ip_spec.proofs.Common.{◌≡◌, ℕ, ◌+◌, ◌≤◌, List, [], ◌∷◌, ◌++◌, map, refl, ap, sym, ◌∙◌, arith, inl, inr, Bool, true, false, rules, count_by, Some, is_some, position_or_len, find, before_first, after_first, option_map, cases_Bool, take-append-drop, sum_by-append, common_steps}
 
 module _ {X : Type 0} (t : X → Bool) where
   module _ (x : X) (xs : List X) where
-    pub before-yes : t x ≡ true → before_first t (x ∷ xs) ≡ []
-    before-yes e = ap (λ b. take (cond (not b) (1 + position_or_len t xs) 0) (x ∷ xs)) e
-
     pub before-no : t x ≡ false → before_first t (x ∷ xs) ≡ x ∷ before_first t xs
     before-no e = search rules
-
-  pub count-append : (xs ys : List X) → count_by t (xs ++ ys) ≡ count_by t xs + count_by t ys
-  count-append xs ys = sum_by-append (λ x. cond (t x) 1 0) xs ys
 
   pub count_yes : (x : X) (xs : List X) → t x ≡ true → count_by t (x ∷ xs) ≡ 1 + count_by t xs
   count_yes x xs e = grind (arith, common_steps)
 
-  pub count_no : (x : X) (xs : List X) → t x ≡ false → count_by t (x ∷ xs) ≡ count_by t xs
-  count_no x xs e = grind (arith, common_steps)
-
   -- If none passes, the elements that follow keep their side of the first that does.
   pub before-none : (xs ys : List X) → count_by t xs ≡ 0 → before_first t (xs ++ ys) ≡ xs ++ before_first t ys
   before-none [] ys e = refl
-  before-none (x ∷ xs) ys e = search (rules, cases_Bool (t x), count_yes, before-no, before-none xs ys, count_no)
+  before-none (x ∷ xs) ys e = search (rules, cases_Bool (t x), count_yes, before-no, before-none xs ys)
 
   pub after-none : (xs ys : List X) → count_by t xs ≡ 0 → after_first t (xs ++ ys) ≡ after_first t ys
   after-none [] ys e = refl
@@ -30,7 +21,7 @@ module _ {X : Type 0} (t : X → Bool) where
   -- If one does, the elements that follow are after it.
   pub before-some : (xs ys : List X) → 1 ≤ count_by t xs → before_first t (xs ++ ys) ≡ before_first t xs
   before-some [] ys l = absurd (omega arith)
-  before-some (x ∷ xs) ys l = grind (arith, common_steps, before-yes, before-no, before-some xs ys)
+  before-some (x ∷ xs) ys l = grind (arith, common_steps, before-no, before-some xs ys)
 
   pub after-some : (xs ys : List X) → 1 ≤ count_by t xs → after_first t (xs ++ ys) ≡ after_first t xs ++ ys
   after-some [] ys l = absurd (omega arith)
@@ -56,10 +47,10 @@ module _ {X : Type 0} (t : X → Bool) where
 -- On neither side do more elements pass a test than in the whole list.
 module _ {X : Type 0} (t u : X → Bool) (xs : List X) where
   pub count_before : count_by t (before_first u xs) ≤ count_by t xs
-  count_before = let k : ℕ = position_or_len u xs in omega (arith, count-append t (take k xs) (drop k xs), ap (count_by t) (take-append-drop k xs))
+  count_before = grind (arith, common_steps, take-append-drop, sum_by-append)
 
   pub count_after : count_by t (after_first u xs) ≤ count_by t xs
-  count_after = let k : ℕ = position_or_len u xs + 1 in omega (arith, count-append t (take k xs) (drop k xs), ap (count_by t) (take-append-drop k xs))
+  count_after = let k : ℕ = position_or_len u xs + 1 in omega (arith, sum_by-append, ap (count_by t) (take-append-drop k xs))
 
 -- Lists of images: the parts before and after the first image that passes.
 module _ {X Y : Type 0} (f : X → Y) (t : Y → Bool) where
@@ -77,7 +68,3 @@ module _ {X Y : Type 0} (f : X → Y) (t : Y → Bool) where
   pub find-map : (xs : List X) → find t (map f xs) ≡ option_map f (find (λ x. t (f x)) xs)
   find-map [] = refl
   find-map (x ∷ xs) = grind (arith, common_steps, find-map xs)
-
-  pub count-map : (xs : List X) → count_by (λ x. t (f x)) xs ≡ count_by t (map f xs)
-  count-map [] = refl
-  count-map (x ∷ xs) = grind (arith, common_steps, count-map xs)

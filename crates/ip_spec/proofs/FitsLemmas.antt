@@ -2,17 +2,18 @@
 use Rattle.ip_spec.proofs.Common.{◌≡◌, ℕ, ◌≤◌, ◌<◌, List, [], ◌∷◌, ◌++◌, length, drop, map, refl, ap, sym, ◌∙◌, arith, ◌⊎◌, rules, ◌==◌, ◌↔◌, count_by, cases_lt, append-nil, length-append, common_steps, ExtHeader, leads_to, bytes_of, is_empty, IsPrefixChain, IsLongestChain, IsNext, IsEnd, IsDemand, IsLongestUnder, NextBreaks, Place, destination, routing, final_destination, places, side_of, number_in, Fits, FitsPlaces, IsOccupied}
 use Rattle.ip_spec.proofs.HeaderLemmas.{header_number, later_of}
 use Rattle.ip_spec.specs.Places.{fragment}
-use Rattle.ip_spec.proofs.FirstLemmas.{count-append, count_before, count_after, before-map, after-map, count-map}
+use Rattle.ip_spec.proofs.FirstLemmas.{count_before, count_after, before-map, after-map}
 use Rattle.ip_spec.proofs.PlaceLemmas.{place_of, has_routing, is_of, count_in, bare, sides, fits_next, none_there, breaks_occupied}
 use Rattle.ip_spec.proofs.DemandKinds.{all_or}
 use Rattle.ip_spec.proofs.UnderLemmas.{longest_ends_under, longest_keeps}
 use Rattle.ip_spec.proofs.LongestOfLemmas.{begins_first}
 use Rattle.ip_spec.proofs.StepLemmas.{next_of, chains_grow}
 use Rattle.ip_spec.proofs.ChainLemmas.{longest_ends}
+use Rattle.ip_spec.proofs.Common.{sum_by-append}
 
 -- Headers after a chain add to the counts.
 count_grows : (p : Place) (c d : List ExtHeader) → count_in p c ≤ count_in p (c ++ d)
-count_grows p c d = search (rules, sides c d, count-append)
+count_grows p c d = search (rules, sides c d, sum_by-append)
 
 -- whether each place has a property
 each_or : (P : Place → Type 0) → ((p : Place) → P p ⊎ (P p → ⊥)) → ((p : Place) → P p) ⊎ (((p : Place) → P p) → ⊥)
@@ -28,13 +29,10 @@ fits_places = record {
 -- The headers after a prefix of a chain that fits, fit by themselves, and so does each single header.
 pub fits_after : (c d : List ExtHeader) → FitsPlaces (c ++ d) → FitsPlaces d
 fits_after c d f destination =
-    search (rules, sides c d, f destination, f final_destination, count-append (is_of destination), count_before (is_of destination) (is_of routing) d)
+    search (rules, sides c d, f destination, f final_destination, sum_by-append, count_before (is_of destination) (is_of routing) d)
 fits_after c d f final_destination =
-    search (rules, sides c d, f final_destination, count-append (is_of destination), count_after (is_of destination) (is_of routing) d)
-fits_after c d f p = omega (arith, f p, count-append (is_of p) c d)
-
-pub one_fits : (h : ExtHeader) → FitsPlaces (h ∷ [])
-one_fits h = search (rules, fits_next)
+    search (rules, sides c d, f final_destination, sum_by-append, count_after (is_of destination) (is_of routing) d)
+fits_after c d f p = omega (arith, f p, sum_by-append)
 
 -- a header's number decides whether it fits
 pub number_fits : (c : List ExtHeader) (g h : ExtHeader) → g.number ≡ h.number → FitsPlaces (c ++ g ∷ []) → FitsPlaces (c ++ h ∷ [])
@@ -64,7 +62,7 @@ module _ {X Y : Type 0} (f : X → Y) (number : Y → ℕ) where
   side-map p xs = refl
 
   count-side : (p : Place) (xs : List X) → count_by (λ y. number y == number_in p) (side_of number p (map f xs)) ≡ count_by (λ x. number (f x) == number_in p) (side_of (λ x. number (f x)) p xs)
-  count-side p xs = search (rules, side-map, count-map)
+  count-side p xs = grind (arith, common_steps, side-map)
 
   pub fits-map : (xs : List X) → Fits number (map f xs) ↔ Fits (λ x. number (f x)) xs
   fits-map xs = search (rules, count-side)
@@ -77,6 +75,4 @@ module _ (n : ℕ) (s : List ℕ) (d c : List ExtHeader) (l : IsLongestChain n s
       next_occupied n s c k.rest (search rules) k.meets k.breaks (search (rules, append-nil))
 
   pub shorter_where_next : (h : ExtHeader) → IsNext (is_empty c) (leads_to n c) (drop (length (bytes_of c)) s) h → length c < length d
-  shorter_where_next h x =
-      let k = longest_keeps FitsPlaces fits_places n s d c l u in
-      grind (arith, common_steps, longest_ends n s c, append-nil, length-append)
+  shorter_where_next h x = grind (arith, longest_keeps, fits_places, longest_ends, append-nil, length-append)

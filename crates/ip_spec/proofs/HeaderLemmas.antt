@@ -1,19 +1,9 @@
 -- Headers, and headers at the start of bytes.
-use Rattle.ip_spec.proofs.Common.{◌≡◌, ◌≢◌, ℕ, zero, suc, ◌+◌, ◌*◌, ◌<◌, ◌≤◌, List, ◌++◌, length, get_or, take, drop, refl, ap, sym, ◌∙◌, arith, inl, inr, ◌⊎◌, subst, Bool, true, false, nat_eq, cond, slice_index, rules, common_steps, get_or_append_left, length-take-le, take-append_seam, eqb_tells, IsHeader, IsRawHeader, IsFragmentHeader, IsAuthHeader, IsRawNumber, IsExtensionNumber, IsLaterNumber, raw, fragment, auth, IsPrefix, ExtHeader, IsNext, IsEnd}
+use Rattle.ip_spec.proofs.Common.{◌≡◌, ◌≢◌, ℕ, zero, suc, ◌+◌, ◌*◌, ◌<◌, ◌≤◌, List, ◌++◌, length, get_or, take, drop, refl, ap, sym, ◌∙◌, arith, inl, inr, ◌⊎◌, Bool, true, false, nat_eq, cond, slice_index, rules, common_steps, get_or_append_left, length-take-le, take-append_seam, eqb_tells, IsHeader, IsRawHeader, IsFragmentHeader, IsAuthHeader, IsExtensionNumber, IsLaterNumber, raw, fragment, auth, IsPrefix, ExtHeader, IsNext, IsEnd}
 use Rattle.ip_spec.proofs.PrefixLemmas.{prefix-append, prefix_of-take, prefix-length}
 
 pub eq_or : (m n : ℕ) → (m ≡ n) ⊎ (m ≢ n)
 eq_or m n = elim (eqb_tells m n) [ inl w ↦ inl w.1 | inr w ↦ inr w.1 ]
-
--- The kinds of numbers.
-pub data Kind (n : ℕ) : Type 0 where
-  is_raw : IsRawNumber n → Kind n
-  is_fragment : n ≡ 44 → Kind n
-  is_auth : n ≡ 51 → Kind n
-  is_other : (IsRawNumber n → ⊥) → n ≢ 44 → n ≢ 51 → Kind n
-
-pub kind : (n : ℕ) → Kind n
-kind n = search rules
 
 pub header_number : (n : ℕ) (b : List ℕ) → IsHeader n b → IsExtensionNumber n
 header_number n b h = search rules
@@ -83,29 +73,20 @@ pub next_or : (first : Bool) (m : ℕ) (r : List ℕ) → ((h : ExtHeader) × Is
 next_or true m r = first_or m r
 next_or false m r = grind (arith, common_steps, eq_or m 0, first_or m r)
 
-pub ext_header-eq : (h g : ExtHeader) → h.number ≡ g.number → h.bytes ≡ g.bytes → h ≡ g
-ext_header-eq h g p q = search rules
-
 -- at most one header follows
 pub one_next : (first : Bool) (m : ℕ) (r : List ℕ) (h g : ExtHeader) → IsNext first m r h → IsNext first m r g → h ≡ g
-one_next first m r h g x y = grind (arith, common_steps, ext_header-eq, one_header, prefix-append)
+one_next first m r h g x y = grind (arith, common_steps, one_header, prefix-append)
 
 -- Bytes that are long enough start with a header.
 pub prefix_byte : (b s : List ℕ) → IsPrefix b s → 8 ≤ length b → slice_index b 1 ≡ slice_index s 1
 prefix_byte b s f l = sym (get_or_append_left b (drop (length b) s) 0 1 (omega arith)) ∙ ap (λ x. get_or x 1 0) (sym (prefix-append b s f))
 
 module _ (s : List ℕ) (k : ℕ) (enough : k ≤ length s) (least : 8 ≤ k) where
-  front_len : length (take k s) ≡ k
-  front_len = length-take-le k s enough
-
-  front_byte : slice_index (take k s) 1 ≡ slice_index s 1
-  front_byte = prefix_byte (take k s) s (prefix_of-take k s) (omega (arith, front_len))
-
   pub raw_begins : k ≡ 8 * (slice_index s 1 + 1) → IsRawHeader (take k s)
-  raw_begins e = record { len = front_len ∙ e ∙ ap (λ m. 8 * (m + 1)) (sym front_byte) }
+  raw_begins e = search (rules, prefix_byte, prefix_of-take, length-take-le)
 
   pub auth_begins : k ≡ 4 * (slice_index s 1 + 2) → 1 ≤ slice_index s 1 → IsAuthHeader (take k s)
-  auth_begins e some_len = record { not_zero = subst (λ (m : ℕ). 1 ≤ m) (sym front_byte) some_len; len = front_len ∙ e ∙ ap (λ m. 4 * (m + 2)) (sym front_byte) }
+  auth_begins e some_len = search (rules, prefix_byte, prefix_of-take, length-take-le)
 
   pub fragment_begins : k ≡ 8 → IsFragmentHeader (take k s)
-  fragment_begins e = record { len = front_len ∙ e }
+  fragment_begins e = search (rules, length-take-le)

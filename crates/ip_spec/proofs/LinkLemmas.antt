@@ -2,11 +2,13 @@
 use Rattle.ip_spec.proofs.Common.{◌≡◌, ℕ, ◌+◌, ◌<◌, List, [], ◌∷◌, ◌++◌, drop, refl, ap, sym, ◌∙◌, arith, Bool, true, false, rules, Option, Some, None, is_some, ◌==◌, nat_lt, if◌then◌else◌, option_map, cases_Bool, eqb-true, le-ltb, All-from_recursion, recursion_from_All, IsHeader, next_header, ExtHeader, Place, hop_by_hop, destination, routing, authentication, final_destination, places, index, number_in, fields_of, HeaderFields, IsCleared, IsEncoded, IsEncodable, PlacedFields, IsWalkAnswer, next_place, next_in_chain, next_of, relinked, first_number, linked}
 use Rattle.ip_spec.specs.Places.{fragment as fragment_place}
 use Rattle.ip_spec.proofs.HeaderLemmas.{header-least}
-use Rattle.ip_spec.proofs.PlaceLemmas.{place_of, same_place, in_both, next_own}
+use Rattle.ip_spec.proofs.PlaceLemmas.{place_of, in_both, next_own}
 use Rattle.ip_spec.proofs.EncodedLemmas.{of_number}
 use Rattle.ip_spec.proofs.WalkLemmas.{leads, none_if, is_some-map}
 use Rattle.ip_spec.proofs.WalkStepLemmas.{FillsIn, Walking, left, walk_begins, walks_on, walk_answers, free_in_chain}
 use Rattle.ip_spec.proofs.SpellingLemmas.{leads_where_none}
+use Rattle.std.proofs.lemmas.Grind.{common_steps}
+use Rattle.std.proofs.lemmas.Bool.Decides.{eqb_tells}
 
 -- Another next header leaves a header valid.
 module _ (m x0 : ℕ) (rest : List ℕ) (small : m < 256) where
@@ -70,23 +72,13 @@ module _ (v : PlacedFields) (m : ℕ) (small : m < 256) (e : IsEncodable v) wher
     first : Bool
     walking : Walking w f reached (first_k k w) (first_number v (drop k places) m) first
 
-  below : (p q : Place) → nat_lt (index q) (index p + 1) ≡ (if index p == index q then true else nat_lt (index q) (index p))
-  below p q = search rules
-
   -- one more place
   fills : (p : Place) → is_some (w p) ≡ true → FillsIn p (first_k (index p) w) (first_k (index p + 1) w)
-  fills p some q = search (rules, cases_Bool (index p == index q), same_place, eqb-true, below)
-
-  skipped : (p : Place) → is_some (w p) ≡ false → (q : Place) → is_some (first_k (index p + 1) w q) ≡ is_some (first_k (index p) w q)
-  skipped p none q = search rules
+  fills p some q = grind (arith, common_steps, cases_Bool, eqb-true)
 
   module _ (p : Place) (at : drop (index p) places ≡ p ∷ drop (index p + 1) places) (up : Up (index p)) where
     step_none : v p ≡ None → Up (index p + 1)
-    step_none none =
-        let k = up.walking in
-        let absent : is_some (w p) ≡ false = is_some-map (relinked (first_number v (drop (index p + 1) places) m)) (v p) ∙ ap is_some none in
-        let number : first_number v (drop (index p + 1) places) m ≡ first_number v (drop (index p) places) m = cc in
-        record { reached = up.reached; first = up.first; walking = search (rules, k, skipped p absent, number) }
+    step_none none = grind (arith, common_steps, is_some-map)
 
     step_some : (x : HeaderFields) → v p ≡ Some x → next_in_chain up.first (first_k (index p) w) (number_in p) ≡ Some p → Up (index p + 1)
     step_some x some goes =

@@ -30,10 +30,6 @@ compare P g c d p q = compare_from P g [] c d p q
 pub longest_where_none_next : {X : Type 0} (P : List X → Type 0) → Grows P → (c : List X) → P c → ((x : X) → P (c ++ x ∷ []) → ⊥) → IsLongestOf P c
 longest_where_none_next P g c p none = grind (arith, common_steps, compare P g c, begins_first P g c)
 
--- nothing can come next after the longest
-pub none_next_where_longest : {X : Type 0} (P : List X → Type 0) (c : List X) → IsLongestOf P c → (x : X) → P (c ++ x ∷ []) → ⊥
-none_next_where_longest P c l x p = search (rules, length-append)
-
 -- there is at most one
 pub one_longest_of : {X : Type 0} (P : List X → Type 0) → Grows P → (c d : List X) → IsLongestOf P c → IsLongestOf P d → c ≡ d
 one_longest_of P g c d lc ld = grind (arith, common_steps, compare P g c d lc.has ld.has)

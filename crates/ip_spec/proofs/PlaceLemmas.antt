@@ -1,8 +1,9 @@
 -- The places of a chain's headers, the place of the next header, and the numbers whose place is occupied.
-use Rattle.ip_spec.proofs.Common.{◌≡◌, ℕ, ◌+◌, List, [], ◌∷◌, ◌++◌, refl, ap, sym, ◌∙◌, arith, inl, inr, Bool, true, false, rules, ◌==◌, ◌↔◌, count_by, Option, Some, None, is_some, IsSome, if◌then◌else◌, find, find-append, AllByRecursion, option_or, cases_Bool, eqb-true, eq-eqb, eqb_tells, same_Some, append-nil, common_steps, IsExtensionNumber, IsLaterNumber, ExtHeader, Place, hop_by_hop, destination, routing, authentication, final_destination, places, index, number_in, side_of, header_in, next_place, FitsPlaces, IsOccupied}
+use Rattle.ip_spec.proofs.Common.{◌≡◌, ℕ, ◌+◌, List, [], ◌∷◌, ◌++◌, refl, ap, sym, ◌∙◌, arith, inl, inr, Bool, true, false, rules, ◌==◌, ◌↔◌, count_by, Option, Some, None, is_some, IsSome, if◌then◌else◌, find, find-append, option_or, cases_Bool, eqb-true, eq-eqb, eqb_tells, same_Some, append-nil, common_steps, IsExtensionNumber, IsLaterNumber, ExtHeader, Place, hop_by_hop, destination, routing, authentication, final_destination, places, index, number_in, side_of, header_in, next_place, FitsPlaces, IsOccupied}
 use Rattle.ip_spec.proofs.HeaderLemmas.{later_extension}
 use Rattle.ip_spec.specs.Places.{fragment}
-use Rattle.ip_spec.proofs.FirstLemmas.{before-yes, before-no, count-append, before-none, before-some, after-none, after-some, after_one, counted, none_counted, find_passes}
+use Rattle.ip_spec.proofs.FirstLemmas.{before-no, before-none, before-some, after-none, after-some, after_one, counted, none_counted}
+use Rattle.ip_spec.proofs.Common.{sum_by-append}
 
 -- the place of a header of number m, free or not, after a routing header or not
 abbrev pub place_of : ℕ → Bool → Option Place
@@ -10,11 +11,7 @@ place_of m after = find (λ p. number_in p == m) (if after then final_destinatio
 
 -- a number belongs to its place
 pub place_number : (m : ℕ) (p : Place) (after : Bool) → place_of m after ≡ Some p → m ≡ number_in p
-place_number m p after e = sym (eqb-true (number_in p) m (find_passes (λ q. number_in q == m) (if after then final_destination ∷ places else places) p e))
-
--- a place is determined by its index
-pub same_place : (p q : Place) → index p ≡ index q → p ≡ q
-same_place p q e = search rules
+place_number m p after e = search rules
 
 -- of the two places of 60, the final one is after a routing header
 pub final_after : (after : Bool) → place_of 60 after ≡ Some final_destination → after ≡ true
@@ -23,10 +20,6 @@ final_after after e = search rules
 pub destination_before : (after : Bool) → place_of 60 after ≡ Some destination → after ≡ false
 destination_before after e = search rules
 
--- a property of all places is one of each
-pub each : (P : Place → Type 0) → AllByRecursion P places → (p : Place) → P p
-each P a p = search rules
-
 -- the place of a number that has only one
 pub in_both : (m : ℕ) (p : Place) → place_of m true ≡ Some p → place_of m false ≡ Some p → (after : Bool) → place_of m after ≡ Some p
 in_both m p after before x4 = search rules
@@ -34,9 +27,6 @@ in_both m p after before x4 = search rules
 -- an extension number has a place
 pub own_place : (m : ℕ) (after : Bool) → IsExtensionNumber m → (p : Place) × (place_of m after ≡ Some p)
 own_place m after x = search (rules, cases_Bool after)
-
-pub is_extension : (p : Place) → IsExtensionNumber (number_in p)
-is_extension p = search rules
 
 -- a routing header is present
 abbrev pub has_routing : List ExtHeader → Bool
@@ -77,7 +67,7 @@ module _ (c : List ExtHeader) (h : ExtHeader) where
   of_number e = ap (λ m. place_of m (has_routing c)) e
 
   by_number : (p : Place) → side p (c ++ h ∷ []) ≡ side p c ++ h ∷ [] → (h.number ≡ number_in p → place_of h.number (has_routing c) ≡ Some p) → Comes p
-  by_number p s own = search (rules, eqb_tells, find-append, count-append, place_number)
+  by_number p s own = search (rules, eqb_tells, find-append, sum_by-append, place_number)
 
   same_side : (p : Place) → side p (c ++ h ∷ []) ≡ side p c → (place_of h.number (has_routing c) ≡ Some p → ⊥) → Comes p
   same_side p s other = elsewhere other (ap (find (is_of p)) s) (ap (count_by (is_of p)) s)
@@ -89,7 +79,7 @@ module _ (c : List ExtHeader) (h : ExtHeader) where
   comes destination = elim (sides c (h ∷ [])) [
     | one_before some b a ↦ by_side destination b (λ e. absurd (cc (destination_before (has_routing c) e)))
     | none_yet none all nothing b a ↦ elim (cases_Bool (is_of routing h)) [
-      | inl is ↦ same_side destination (cc (before-yes (is_of routing) h [] is, append-nil c))
+      | inl is ↦ same_side destination (cc (append-nil c))
           (λ e. omega (arith, eqb-true h.number 43 is, place_number h.number destination (has_routing c) e))
       | inr other ↦ by_number destination (cc (before-no (is_of routing) h [] other)) (λ e. of_number e ∙ ap (place_of 60) none)
     ]
@@ -104,7 +94,7 @@ module _ (c : List ExtHeader) (h : ExtHeader) where
   comes authentication = by_number authentication refl (search (rules, in_both))
 
   pub placed : (q : Place) → place_of h.number (has_routing c) ≡ Some q → header_in q c ≡ None → (p : Place) → header_in p (c ++ h ∷ []) ≡ (if index q == index p then Some h else header_in p c)
-  placed q e free p = search (rules, comes, same_Some, eq-eqb, eqb_tells, same_place)
+  placed q e free p = search (rules, comes, same_Some, eq-eqb, eqb_tells)
 
   -- It fits if and only if its place is free.
   pub fits_next : FitsPlaces c → ((p : Place) → place_of h.number (has_routing c) ≡ Some p → count_in p c ≡ 0) → FitsPlaces (c ++ h ∷ [])
@@ -115,9 +105,6 @@ module _ (c : List ExtHeader) (h : ExtHeader) where
 
   pub fits_more : (p : Place) → FitsPlaces c → place_of h.number (has_routing c) ≡ Some p → is_some (header_in p c) ≡ false → FitsPlaces (c ++ h ∷ [])
   fits_more p f e free = fits_next f (λ q o. ap (λ r. count_in r c) (same_Some q p (sym o ∙ e)) ∙ none_counted (is_of p) (side p c) free)
-
-  pub breaks_more : (p : Place) → place_of h.number (has_routing c) ≡ Some p → is_some (header_in p c) ≡ true → FitsPlaces (c ++ h ∷ []) → ⊥
-  breaks_more p e filled f = omega (arith, none_there p e f, counted (is_of p) (side p c) filled)
 
 -- a header of number m, with no bytes
 abbrev pub bare : ℕ → ExtHeader
@@ -134,9 +121,6 @@ module _ {X : Type 0} (v : Place → Option X) (m : ℕ) where
   pub next_own : (p : Place) → own ≡ Some p → is_some (v p) ≡ false → next_place v m ≡ Some p
   next_own p e free = cc
 
-  pub filled_own : (p : Place) → own ≡ Some p → next_place v m ≡ None → is_some (v p) ≡ true
-  filled_own p e none = search rules
-
 -- Where the same places are occupied, the same is next.
 module _ {X Y : Type 0} (v : Place → Option X) (w : Place → Option Y) (m : ℕ) (same : (p : Place) → is_some (v p) ≡ is_some (w p)) where
   pub next_alike : next_place v m ≡ next_place w m
@@ -145,21 +129,12 @@ module _ {X Y : Type 0} (v : Place → Option X) (w : Place → Option Y) (m : �
 -- A number is occupied after a chain that fits if and only if no header of that number fits after it.
 module _ (c : List ExtHeader) (m : ℕ) where
   pub occupied_breaks : IsOccupied m c → (h : ExtHeader) → h.number ≡ m → FitsPlaces (c ++ h ∷ []) → ⊥
-  occupied_breaks t h e f =
-      let place = own_place m (has_routing c) (later_extension m t.0) in
-      grind (arith, common_steps, place, breaks_more c h, filled_own (λ p. header_in p c) m)
+  occupied_breaks t h e f = search (rules, own_place m (has_routing c) (later_extension m t.0), none_there, counted)
 
   pub breaks_occupied : FitsPlaces c → IsLaterNumber m → (FitsPlaces (c ++ bare m ∷ []) → ⊥) → IsOccupied m c
-  breaks_occupied fits later breaks =
-      let place = own_place m (has_routing c) (later_extension m later) in
-      grind (arith, common_steps, fits_more c (bare m) place.0 fits place.1)
+  breaks_occupied fits later breaks = search (rules, own_place m (has_routing c) (later_extension m later), fits_more)
 
 -- One more extension header fits if and only if its number has a next place.
 module _ (c : List ExtHeader) (h : ExtHeader) (fits : FitsPlaces c) (is : IsExtensionNumber h.number) where
   pub fits_where_next : FitsPlaces (c ++ h ∷ []) ↔ IsSome (next_place (λ p. header_in p c) h.number)
-  fits_where_next =
-      let place = own_place h.number (has_routing c) is in
-      elim (cases_Bool (is_some (header_in place.0 c))) [
-        | inl filled ↦ search (rules, breaks_more, place)
-        | inr free ↦ search (rules, fits_more, place, next_own)
-      ]
+  fits_where_next = search (rules, own_place h.number (has_routing c) is, none_there, counted, fits_more)

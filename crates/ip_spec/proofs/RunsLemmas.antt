@@ -1,5 +1,5 @@
 -- The runs of a chain.
-use Rattle.ip_spec.proofs.Common.{◌≡◌, ◌≢◌, ℕ, zero, suc, ◌+◌, ◌/◌, ◌≤◌, List, [], ◌∷◌, ◌++◌, length, drop, refl, ap, sym, ◌∙◌, arith, inl, inr, ◌⊎◌, subst, append_assoc, true, rules, flat_map, AllByRecursion, append-nil, append_cancel_left, length-append, map-append, flat_map-append, next_header, ExtHeader, leads_to, bytes_of, is_empty, IsChain, IsPrefixChain, IsLongestChain, IsEnd, KeepsBeginning, NextBreaks, IsLongestUnder, FitsPlaces, IsOccupied, cleared_chain, joined, how_many, AreRuns, AreChains}
+use Rattle.ip_spec.proofs.Common.{◌≡◌, ◌≢◌, ℕ, zero, suc, ◌+◌, ◌/◌, ◌≤◌, List, [], ◌∷◌, ◌++◌, length, drop, refl, ap, sym, ◌∙◌, arith, inl, inr, ◌⊎◌, subst, append_assoc, rules, flat_map, AllByRecursion, append-nil, append_cancel_left, length-append, map-append, flat_map-append, next_header, ExtHeader, leads_to, bytes_of, is_empty, IsChain, IsPrefixChain, IsLongestChain, IsEnd, KeepsBeginning, NextBreaks, IsLongestUnder, FitsPlaces, IsOccupied, cleared_chain, joined, how_many, AreRuns, AreChains}
 use Rattle.ip_spec.proofs.HeaderLemmas.{later_not_zero, later_or}
 use Rattle.ip_spec.proofs.PrefixLemmas.{prefix_second, rest_join, prefix-length}
 use Rattle.ip_spec.proofs.LongestOfLemmas.{compare, within, beyond}
@@ -8,7 +8,11 @@ use Rattle.ip_spec.proofs.UnderLemmas.{kept_is_longest}
 use Rattle.ip_spec.proofs.ChainLemmas.{longest_at_end, longest_ends}
 use Rattle.ip_spec.proofs.DemandLemmas.{Begins, beginnings_grow, some_kept, one_kept, kept_bounds}
 use Rattle.ip_spec.proofs.PlaceLemmas.{bare, occupied_breaks}
-use Rattle.ip_spec.proofs.FitsLemmas.{fits_places, fits_after, one_fits, next_occupied}
+use Rattle.ip_spec.proofs.FitsLemmas.{fits_places, fits_after, next_occupied}
+use Rattle.ip_spec.proofs.PlaceLemmas.{fits_next}
+use Rattle.std.proofs.lemmas.Grind.{common_steps}
+use Rattle.std.proofs.lemmas.Bool.Decides.{eqb_tells}
+use Rattle.std.proofs.lemmas.Bool.{cases_Bool}
 
 abbrev Pieces : Type 0
 Pieces = List (List ExtHeader)
@@ -16,21 +20,13 @@ Pieces = List (List ExtHeader)
 occupied_or : (m : ℕ) (c : List ExtHeader) → IsOccupied m c ⊎ (IsOccupied m c → ⊥)
 occupied_or m c = search (rules, later_or)
 
-none_occupied : (m : ℕ) → IsOccupied m [] → ⊥
-none_occupied m t = occupied_breaks [] m t (bare m) refl (one_fits (bare m))
-
--- If headers follow a run or the number's place is occupied after it, the run has a header.
-some_element : (m : ℕ) (p rest : List ExtHeader) → NextBreaks FitsPlaces p rest → (rest ≡ [] → IsOccupied m p) → 1 ≤ length p
-some_element m [] rest breaks on = search (rules, none_occupied, one_fits)
-some_element m (h ∷ p) rest breaks on = omega arith
-
 module _ (m : ℕ) (c p : List ExtHeader) (k : KeepsBeginning FitsPlaces c p) (on : k.rest ≡ [] → IsOccupied m p) where
   pub runs_more : (ps : Pieces) → AreRuns m k.rest ps → AreRuns m c (p ∷ ps)
   runs_more [] a = absurd a
   runs_more (q ∷ ps) a = (k, on, a)
 
   fewer_left : suc (length k.rest) ≤ length c
-  fewer_left = omega (arith, ap length k.joined, length-append p k.rest, some_element m p k.rest k.breaks on)
+  fewer_left = grind (arith, common_steps, length-append, occupied_breaks, bare, fits_next)
 
 -- There is exactly one list of runs.
 data First (m : ℕ) (c : List ExtHeader) : Type 0 where
@@ -185,9 +181,6 @@ pub leads_to-append : (n : ℕ) (c d : List ExtHeader) → leads_to n (c ++ d) �
 leads_to-append n [] d = refl
 leads_to-append n (h ∷ c) d = leads_to-append (next_header h.bytes) c d
 
-bytes_of-append : (c d : List ExtHeader) → bytes_of (c ++ d) ≡ bytes_of c ++ bytes_of d
-bytes_of-append c d = flat_map-append (λ h. h.bytes) c d
-
 module _ (n : ℕ) (s : List ℕ) (p : List ExtHeader) where
   abbrev number : ℕ
   number = leads_to n p
@@ -195,14 +188,11 @@ module _ (n : ℕ) (s : List ℕ) (p : List ExtHeader) where
   abbrev rest : List ℕ
   rest = drop (length (bytes_of p)) s
 
-  zero_after : (c : List ExtHeader) → (c ≡ [] → number ≢ 0) → (leads_to number c ≡ 0 → is_empty c ≡ true) → leads_to number c ≡ 0 → ⊥
-  zero_after c nz first z = search rules
-
   rest_prefix : (c : List ExtHeader) → IsPrefixChain n s (p ++ c) → IsPrefixChain number rest c
-  rest_prefix c q = search (rules, chain_after n p c q.chain, bytes_of-append p c, prefix_second)
+  rest_prefix c q = search (rules, chain_after n p c q.chain, flat_map-append, prefix_second)
 
   rest_ends : (c : List ExtHeader) → (c ≡ [] → number ≢ 0) → IsLongestChain n s (p ++ c) → IsEnd (is_empty c) (leads_to number c) (drop (length (bytes_of c)) rest)
-  rest_ends c nz l h x = search (rules, leads_to-append, begins, rest_join, rest_prefix, bytes_of-append, longest_ends, zero_after)
+  rest_ends c nz l h x = search (rules, leads_to-append, begins, rest_join, rest_prefix, flat_map-append, longest_ends, first)
 
   pub rest_longest : (c : List ExtHeader) → (c ≡ [] → number ≢ 0) → IsLongestChain n s (p ++ c) → IsLongestChain number rest c
   rest_longest c nz l = longest_at_end number rest c (rest_prefix c l.has) (rest_ends c nz l)
@@ -210,7 +200,7 @@ module _ (n : ℕ) (s : List ℕ) (p : List ExtHeader) where
 -- So the first run is the longest chain that fits, and the others are the runs of the longest chain after it.
 module _ (n : ℕ) (s : List ℕ) (c p : List ExtHeader) (l : IsLongestChain n s c) where
   pub first_is_longest : (ps : Pieces) → AreRuns (leads_to n c) c (p ∷ ps) → IsLongestUnder FitsPlaces n s p
-  first_is_longest ps a = kept_is_longest FitsPlaces fits_places n s c p l (first_kept (leads_to n c) c p ps a)
+  first_is_longest ps a = search (rules, kept_is_longest, fits_places, first_kept)
 
   pub last_is_free : AreRuns (leads_to n c) c (p ∷ []) → IsOccupied (leads_to n p) p → ⊥
   last_is_free a = rw a.0 at a.2

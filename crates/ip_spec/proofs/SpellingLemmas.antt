@@ -92,7 +92,7 @@ module _ (v : PlacedFields) (f : ℕ) where
 
     -- the value is parsed from the bytes of the chain that encodes it
     pub spelled_whole : (c : List ExtHeader) → IsSpelling v f c → IsParsedAs v f (leads_to f c) (bytes_of c)
-    spelled_whole c s = whole_parsed FitsPlaces fits_places f (leads_to f c) (λ d. IsValueOf d v) (bytes_of c) c s.reachable.chain s.reachable.fits s.value refl refl (shown_bytes c s.reachable)
+    spelled_whole c s = search (rules, whole_parsed, fits_places, shown_bytes)
 
     -- so a result leads on if and only if the value is parsed from some bytes
     pub leads_parsed : (m : ℕ) → IsWalkAnswer v f (leads m) → (s : List ℕ) × IsParsedAs v f m s

@@ -4,7 +4,8 @@ use Rattle.std.specs.Prelude.{⊤}
 use Rattle.ip_spec.proofs.StepLemmas.{by_more, chain_begins}
 use Rattle.ip_spec.proofs.FitsLemmas.{fits_places}
 use Rattle.ip_spec.proofs.WalkLemmas.{WalkAnswer, unreached, Joins, joins, there}
-use Rattle.ip_spec.proofs.WalkStepLemmas.{FillsIn, Walking, without, left, left_at, left_next, some_or, walk_begins, walks_on, walk_stops, same_held}
+use Rattle.ip_spec.proofs.WalkStepLemmas.{FillsIn, Walking, without, left, some_or, walk_begins, walks_on, walk_stops, same_held}
+use Rattle.ip_spec.proofs.WalkStepLemmas.{free_in_chain}
 
 -- the sum of f over the fields in the places
 abbrev pub sum_placed : (HeaderFields → ℕ) → PlacedFields → ℕ
@@ -64,7 +65,7 @@ module _ {Y : Type 0} (v : PlacedFields) (r : Place → Option Y) (first : Bool)
 -- The sum over what is left after a header is that before without it.
 module _ {Y Z : Type 0} (g : HeaderFields → ℕ) (v : PlacedFields) (r : Place → Option Y) (s : Place → Option Z) (m : ℕ) (first : Bool) (p : Place) (x : HeaderFields) where
   pub sum_left : next_in_chain first r m ≡ Some p → v p ≡ Some x → FillsIn p r s → sum_placed g (left v s) + g x ≡ sum_placed g (left v r)
-  sum_left at there fills = sum_without g (left v r) (left v s) p x (left_at v r m first p x at there) (left_next v r m first p s fills)
+  sum_left at there fills = search (rules, there, sum_without, left, free_in_chain)
 
 -- A value whose headers can all be written reaches some chain.
 module _ (v : PlacedFields) (f : ℕ) (e : IsEncodable v) where

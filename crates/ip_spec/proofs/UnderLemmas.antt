@@ -1,24 +1,22 @@
 -- Chains under a demand: the next header, the longest, and its relation to the longest without a demand.
-use Rattle.ip_spec.proofs.Common.{◌≡◌, ℕ, List, [], ◌∷◌, ◌++◌, length, drop, inl, rules, take-length, drop-length, ExtHeader, leads_to, bytes_of, is_empty, IsChain, IsPrefixChain, IsLongestChain, IsNext, IsDemand, KeepsBeginning, IsLongestUnder, IsEndUnder, NoDemand}
+use Rattle.ip_spec.proofs.Common.{◌≡◌, ℕ, List, length, drop, inl, rules, take-length, drop-length, ExtHeader, leads_to, bytes_of, IsChain, IsPrefixChain, IsLongestChain, IsDemand, KeepsBeginning, IsLongestUnder, IsEndUnder, NoDemand}
 use Rattle.ip_spec.proofs.PrefixLemmas.{prefix-length}
 use Rattle.ip_spec.proofs.HeaderLemmas.{header-least}
-use Rattle.ip_spec.proofs.LongestOfLemmas.{Grows, longest_where_none_next, none_next_where_longest, one_longest_of, longest_same}
+use Rattle.ip_spec.proofs.LongestOfLemmas.{Grows, longest_where_none_next, one_longest_of, longest_same}
 use Rattle.ip_spec.proofs.DemandLemmas.{IsUnder, under_grows, some_longest_under_of, longest_where_kept, kept_where_longest}
 use Rattle.ip_spec.proofs.StepLemmas.{next_of, goes_on, chains_grow, chains_decide, chain-bound, no_header_prefix}
+use Rattle.ip_spec.proofs.Common.{length-append}
 
 module _ (Q : List ExtHeader → Type 0) (k : IsDemand Q) (n : ℕ) (s : List ℕ) where
   pub chains_grow_under : Grows (IsUnder Q (IsPrefixChain n s))
   chains_grow_under = under_grows (IsPrefixChain n s) Q (chains_grow n s) k
-
-  pub goes_on_under : (c : List ExtHeader) (h : ExtHeader) → IsUnder Q (IsPrefixChain n s) c → IsNext (is_empty c) (leads_to n c) (drop (length (bytes_of c)) s) h → Q (c ++ h ∷ []) → IsUnder Q (IsPrefixChain n s) (c ++ h ∷ [])
-  goes_on_under c h p x q = (goes_on n s c h p.0 x, q)
 
   -- if no header follows that still meets the demand, the chain is the longest, and vice versa
   pub longest_at_end_under : (c : List ExtHeader) → IsUnder Q (IsPrefixChain n s) c → IsEndUnder Q c (leads_to n c) (drop (length (bytes_of c)) s) → IsLongestUnder Q n s c
   longest_at_end_under c p e = longest_where_none_next (IsUnder Q (IsPrefixChain n s)) chains_grow_under c p (λ h u. e h (next_of n s c h u.0) u.1)
 
   pub longest_ends_under : (c : List ExtHeader) → IsLongestUnder Q n s c → IsEndUnder Q c (leads_to n c) (drop (length (bytes_of c)) s)
-  longest_ends_under c l h x q = none_next_where_longest (IsUnder Q (IsPrefixChain n s)) c l h (goes_on_under c h l.has x q)
+  longest_ends_under c l h x q = search (rules, IsUnder, goes_on, length-append)
 
   pub one_longest_under : (c d : List ExtHeader) → IsLongestUnder Q n s c → IsLongestUnder Q n s d → c ≡ d
   one_longest_under c d = one_longest_of (IsUnder Q (IsPrefixChain n s)) chains_grow_under c d

@@ -1,14 +1,16 @@
 -- The fields that a value has, the headers that it reaches and its encoding, from a number.
-use Rattle.ip_spec.proofs.Common.{◌≡◌, ℕ, List, [], ◌∷◌, ◌++◌, append_assoc, true, false, rules, Option, Some, None, is_some, ◌==◌, if◌then◌else◌, option_map, cases_Bool, append-nil, IsHeader, IsLongestOf, ExtHeader, leads_to, is_empty, IsChain, FitsPlaces, Place, index, header_in, fields_of, IsCleared, PlacedFields, IsReachable}
+use Rattle.ip_spec.proofs.Common.{◌≡◌, ℕ, List, [], ◌∷◌, ◌++◌, append_assoc, true, false, rules, Option, Some, None, is_some, ◌==◌, if◌then◌else◌, option_map, append-nil, IsHeader, IsLongestOf, ExtHeader, leads_to, is_empty, IsChain, FitsPlaces, Place, index, header_in, fields_of, IsCleared, PlacedFields, IsReachable}
 use Rattle.std.specs.Prelude.{Result, Ok}
 use Rattle.ip_base.specs.declared.ip_number_impl.IpNumber.{IpNumber}
 use Rattle.ip_base.specs.declared.err.ipv6_exts.exts_walk_error.ExtsWalkError.{ExtsWalkError}
 use Rattle.ip_spec.proofs.LongestOfLemmas.{Grows, one_longest_of}
 use Rattle.ip_spec.proofs.StepLemmas.{all_first, all_next, chain_begins, chain_number, chain_header, chain_zero}
 use Rattle.ip_spec.proofs.FitsLemmas.{fits_places}
-use Rattle.ip_spec.proofs.PlaceLemmas.{place_of, has_routing, own_place, placed, breaks_more}
+use Rattle.ip_spec.proofs.PlaceLemmas.{place_of, has_routing, own_place, placed}
 use Rattle.ip_spec.proofs.HeaderLemmas.{header_number}
 use Rattle.ip_spec.proofs.EncodedLemmas.{one_header_says}
+use Rattle.ip_spec.proofs.PlaceLemmas.{none_there}
+use Rattle.ip_spec.proofs.FirstLemmas.{counted}
 
 abbrev pub WalkAnswer : Type 0
 WalkAnswer = Result IpNumber ExtsWalkError
@@ -38,9 +40,7 @@ pub record Joins (f : ℕ) (c : List ExtHeader) (x : ExtHeader) : Type 0 where
   pub joined : (p : Place) → header_in p (c ++ x ∷ []) ≡ (if index place == index p then Some x else header_in p c)
 
 pub joins : (f : ℕ) (c : List ExtHeader) (x : ExtHeader) → IsChain f (c ++ x ∷ []) → FitsPlaces (c ++ x ∷ []) → Joins f c x
-joins f c x k fits =
-    let own = own_place x.number (has_routing c) (header_number x.number x.bytes (chain_header f c x k)) in
-    search (rules, cases_Bool (is_some (header_in own.0 c)), breaks_more, none_if, placed)
+joins f c x k fits = search (rules, own_place x.number (has_routing c) (header_number x.number x.bytes (chain_header f c x k)), none_there, counted, placed)
 
 module _ {f : ℕ} {c : List ExtHeader} {x : ExtHeader} (j : Joins f c x) where
   -- it is in its place
@@ -68,9 +68,7 @@ module _ (v : PlacedFields) (f : ℕ) where
       search (rules, chain_number, chain_header, chain_zero, all_next)
 
   shown_before : (c : List ExtHeader) (x : ExtHeader) → IsReachable v f (c ++ x ∷ []) → IsReachable v f c
-  shown_before c x s =
-      let j : Joins f c x = joins f c x s.chain s.fits in
-      search (rules, chain_begins, fits_places.begins, s.in_value, kept j, all_first)
+  shown_before c x s = search (rules, joins f c x s.chain s.fits, chain_begins, fits_places.begins, s.in_value, kept, all_first)
 
   shown_begins : (c d : List ExtHeader) → IsReachable v f (c ++ d) → IsReachable v f c
   shown_begins c [] s = rw append-nil at s

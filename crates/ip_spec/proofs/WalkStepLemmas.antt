@@ -1,10 +1,10 @@
 -- A walk that reaches headers of a value, one after the other.
-use Rattle.ip_spec.proofs.Common.{◌≡◌, ℕ, List, [], ◌∷◌, ◌++◌, ap, sym, ◌∙◌, Bool, true, false, arith, rules, Option, Some, None, is_some, ◌==◌, ◌&&◌, not, if◌then◌else◌, eq-eqb, eqb-true, common_steps, next_header, ExtHeader, leads_to, is_empty, Place, index, number_in, header_in, HeaderFields, IsCleared, IsEncoded, PlacedFields, IsReachable, answer_at, IsWalkAnswer, next_place, next_in_chain, IsLongestOf}
+use Rattle.ip_spec.proofs.Common.{◌≡◌, ℕ, List, [], ◌∷◌, ◌++◌, sym, ◌∙◌, Bool, true, false, arith, rules, Option, Some, None, is_some, ◌==◌, ◌&&◌, not, if◌then◌else◌, eq-eqb, common_steps, next_header, ExtHeader, leads_to, is_empty, Place, index, number_in, header_in, HeaderFields, IsEncoded, PlacedFields, IsReachable, answer_at, IsWalkAnswer, next_place, next_in_chain, IsLongestOf}
 use Rattle.ip_spec.proofs.LongestOfLemmas.{longest_where_none_next}
 use Rattle.ip_spec.proofs.StepLemmas.{all_more, leads_to-more, chain_more, no_chain}
 use Rattle.ip_spec.proofs.FitsLemmas.{fits_places}
-use Rattle.ip_spec.proofs.PlaceLemmas.{place_of, has_routing, place_number, placed, fits_more, own_next, next_own, next_alike}
-use Rattle.ip_spec.proofs.WalkLemmas.{WalkAnswer, unreached, none_if, there, Next, next_shown, shown_grows}
+use Rattle.ip_spec.proofs.PlaceLemmas.{has_routing, place_number, placed, fits_more, own_next, next_own, next_alike}
+use Rattle.ip_spec.proofs.WalkLemmas.{WalkAnswer, unreached, none_if, there, next_shown, shown_grows}
 
 -- The chain c was reached from f in v; r fills its places. It leads to m, and `first` says that it has no header.
 pub record Walking {Y : Type 0} (v : PlacedFields) (f : ℕ) (c : List ExtHeader) (r : Place → Option Y) (m : ℕ) (first : Bool) : Type 0 where
@@ -18,9 +18,6 @@ walk_begins v f r none = search (rules, no_chain f, fits_places)
 
 pub next_place_is : (z first : Bool) (o : Option Place) (p : Place) → (if z && not first then None else o) ≡ Some p → (o ≡ Some p) × (z ≡ true → first ≡ true)
 next_place_is z first o p e = search rules
-
-in_chain_is : (z first : Bool) (o : Option Place) (p : Place) → o ≡ Some p → (z ≡ true → first ≡ true) → (if z && not first then None else o) ≡ Some p
-in_chain_is z first o p e zero = search rules
 
 -- values with equal places are equal
 pub same_held : (v w : PlacedFields) → ((p : Place) → v p ≡ w p) → v ≡ w
@@ -48,12 +45,6 @@ module _ {Y : Type 0} (v : PlacedFields) (r : Place → Option Y) (m : ℕ) (fir
   pub free_in_chain : next_in_chain first r m ≡ Some p → is_some (r p) ≡ false
   free_in_chain at = search rules
 
-  pub left_at : (x : HeaderFields) → next_in_chain first r m ≡ Some p → v p ≡ Some x → left v r p ≡ Some x
-  left_at x at there = cc (free_in_chain at)
-
-  pub left_next : {Z : Type 0} (s : Place → Option Z) → FillsIn p r s → (q : Place) → left v s q ≡ without p (left v r) q
-  left_next s fills q = search (rules, fills q)
-
 module _ {Y : Type 0} (v : PlacedFields) (f : ℕ) (c : List ExtHeader) (r : Place → Option Y) (m : ℕ) (first : Bool) (k : Walking v f c r m first) where
   next_same : next_place r m ≡ next_place (λ p. header_in p c) m
   next_same = next_alike r (λ p. header_in p c) m k.filled
@@ -62,32 +53,17 @@ module _ {Y : Type 0} (v : PlacedFields) (f : ℕ) (c : List ExtHeader) (r : Pla
   pub walks_on : {Z : Type 0} (p : Place) (x : HeaderFields) (h : ExtHeader) → next_in_chain first r m ≡ Some p → v p ≡ Some x → IsEncoded (number_in p) x h
       → (s : Place → Option Z) (n : ℕ) (early : Bool) → FillsIn p r s → n ≡ next_header h.bytes → early ≡ false → Walking v f (c ++ h ∷ []) s n early
   walks_on p x h at there e s n early fills en ee =
-      let next = next_place_is (m == 0) first (next_place r m) p at in
-      let own = own_next (λ q. header_in q c) m p (sym next_same ∙ next.0) in
+      let own = own_next (λ q. header_in q c) m p (sym next_same ∙ (next_place_is (m == 0) first (next_place r m) p at).0) in
       let same : h.number ≡ m = e.number ∙ sym (place_number m p (has_routing c) own.0) in
-      let place : place_of h.number (has_routing c) ≡ Some p = ap (λ j. place_of j (has_routing c)) same ∙ own.0 in
-      let joined = placed c h p place (none_if (header_in p c) own.1) in
-      let chain = chain_more f c h k.in_value.chain (same ∙ k.number) (rw e.number e.header) (λ z. sym k.first_is ∙ next.1 (eq-eqb m 0 (sym same ∙ z))) in
-      let fits = fits_more c h p k.in_value.fits place own.1 in
-      let cleared = all_more IsCleared c h k.in_value.cleared e.cleared in
-      record {
-        in_value = search rules;
-        filled = search (rules, fills, k.filled, joined, some_or);
-        number = en ∙ sym (leads_to-more f c h);
-        first_is = ee ∙ not_empty c h;
-      }
+      let joined = placed c h p (cc) (none_if (header_in p c) own.1) in
+      let chain = chain_more f c h k.in_value.chain (cc) (rw e.number e.header) (search (rules, next_place_is, eq-eqb)) in
+      search (rules, fills, k.filled, joined, some_or, leads_to-more, fits_more c h p k.in_value.fits (cc) own.1, all_more)
 
   -- None follows: the headers reached are all.
   pub walk_stops : ((p : Place) → next_in_chain first r m ≡ Some p → v p ≡ None) → IsLongestOf (IsReachable v f) c
   walk_stops none =
       longest_where_none_next (IsReachable v f) (shown_grows v f) c k.in_value
-      (λ x s.
-      let n : Next v f c x = next_shown v f c x s in
-      let own = next_own (λ p. header_in p c) m n.joins.place (cc (n.joins.at, k.number, n.number)) (ap is_some n.joins.free) in
-      let here = in_chain_is (m == 0) first (next_place r m) n.joins.place (next_same ∙ own) (λ z. k.first_is ∙ n.zero (n.number ∙ sym k.number ∙ eqb-true m 0 z)) in
-      cc (none n.joins.place here))
+      (λ x s. search (rules, next_shown v f c x s, next_same, none, next_own))
 
   pub walk_answers : (w : PlacedFields) (n : ℕ) (a : WalkAnswer) → ((p : Place) → next_in_chain first r m ≡ Some p → v p ≡ None) → ((p : Place) → w p ≡ left v r p) → n ≡ m → a ≡ answer_at n w → IsWalkAnswer v f a
-  walk_answers w n a none ew en ea =
-      let same : w ≡ unreached v c = same_held w (unreached v c) (λ p. cc (ew p, k.filled p)) in
-      search (rules, walk_stops none)
+  walk_answers w n a none ew en ea = search (rules, unreached, same_held, walk_stops)

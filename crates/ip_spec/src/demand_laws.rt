@@ -50,6 +50,7 @@ pub fn demands()
 
 /// Proves that the longest chain under no demand is the longest chain, and under that of at most k headers its first
 /// k.
+#[tactic(auto, using(crate::proofs::UnderLemmas::longest_under_none, crate::proofs::UnderLemmas::longest_without, crate::proofs::DemandKinds::longest_at_most))]
 pub fn longest_chains_under_demands()
     ensures none { (n : ℕ) (s : List ℕ) (c : List ExtHeader) → IsLongestUnder NoDemand n s c
         ↔ IsLongestChain n s c }
@@ -67,6 +68,7 @@ pub fn one_longest_fitting_chain()
 {}
 
 /// Proves that no header follows the longest chain that fits six places, unless the place of its number is occupied.
+#[tactic(auto, using(crate::proofs::FitsLemmas::fitting_ends))]
 pub fn fitting_chain_ends()
     ensures { (n : ℕ) (s : List ℕ) (c : List ExtHeader) → IsLongestUnder FitsPlaces n s c
         → (IsOccupied (leads_to n c) c → ⊥)
@@ -74,6 +76,7 @@ pub fn fitting_chain_ends()
 {}
 
 /// Proves that it is shorter than the longest chain if and only if a header follows whose place is occupied.
+#[tactic(auto, using(crate::proofs::FitsLemmas::occupied_where_shorter, crate::proofs::FitsLemmas::shorter_where_next))]
 pub fn fitting_chain_stops_where_occupied()
     ensures shorter { (n : ℕ) (s : List ℕ) (d c : List ExtHeader) → IsLongestChain n s d
         → IsLongestUnder FitsPlaces n s c → length c < length d → IsOccupied (leads_to n c) c }
@@ -89,6 +92,7 @@ pub fn chain_fits_by_its_numbers()
 {}
 
 /// Proves that one more extension header fits if and only if its number has a free place.
+#[tactic(auto, using(crate::proofs::PlaceLemmas::fits_where_next))]
 pub fn next_header_fits()
     ensures { (c : List ExtHeader) (h : ExtHeader) → FitsPlaces c → IsExtensionNumber h.number
         → FitsPlaces (c ++ h ∷ []) ↔ IsSome (next_place (λ p. header_in p c) h.number) }

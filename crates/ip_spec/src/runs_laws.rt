@@ -15,6 +15,7 @@ pub fn one_list_of_runs()
 
 /// Proves that the runs are the fewest: any other list of pieces that fit six places and join to the same headers has
 /// at least as many nonempty pieces.
+#[tactic(auto, using(crate::proofs::RunsLemmas::fewest_runs))]
 pub fn fewest_runs()
     ensures { (m : ℕ) (c : List ExtHeader) (ps qs : List (List ExtHeader))
         → AreRuns m c ps → joined qs ≡ c → AllByRecursion FitsPlaces qs
@@ -22,6 +23,7 @@ pub fn fewest_runs()
 {}
 
 /// Proves that there is a run, and at most one per 8 bytes and one more.
+#[tactic(auto, using(crate::proofs::RunsLemmas::some_run, crate::proofs::RunsLemmas::runs_bound))]
 pub fn runs_count()
     ensures least { (m : ℕ) (c : List ExtHeader) (ps : List (List ExtHeader)) → AreRuns m c ps
         → 1 ≤ length ps }
@@ -31,6 +33,7 @@ pub fn runs_count()
 
 /// Proves that no header is lost: the runs joined are the headers, and the runs written one after the other are the
 /// headers written. Each run of a chain is a chain, from the number to which the run before it leads.
+#[tactic(auto, using(crate::proofs::RunsLemmas::runs_joined, crate::proofs::RunsLemmas::runs_written, crate::proofs::RunsLemmas::runs_chains))]
 pub fn runs_keep_each_header()
     ensures joined { (m : ℕ) (c : List ExtHeader) (ps : List (List ExtHeader)) → AreRuns m c ps
         → joined ps ≡ c }

@@ -64,6 +64,7 @@ pub fn spelling_clears_what_was_parsed()
 {}
 
 /// Proves that a walk over linked headers reaches their end.
+#[tactic(auto, using(crate::proofs::LinkLemmas::linked_leads))]
 pub fn linked_headers_are_walked()
     ensures { (v : PlacedFields) (m : ℕ) → m < 256 → IsEncodable v
         → IsWalkAnswer (linked v m) (first_number v places m) (Ok (record { 0 = m })) }

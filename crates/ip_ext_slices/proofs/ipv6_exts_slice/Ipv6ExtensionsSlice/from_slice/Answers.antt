@@ -9,7 +9,3 @@ pub error_at-requires : goal.error_at-requires
 error_at-requires c =
     let scanned = c.scan-len.ensures in
     fault_at_end Slice _ _ _ _ _ (c.is_extension.ensures.0 c.if-is_extension.true) (ends_after _ _ _ scanned.len _ _ scanned.number scanned.rest)
-
-pub returns-then-is_extension-clause-fault : goal.returns-then-is_extension-clause-fault
-returns-then-is_extension-clause-fault c =
-    ap (option_map (λ (f : Fault). f.0)) (chain_fault_is _ _ _ c.scan-len.ensures.len _ _ c.scan-len.ensures.number c.scan-len.ensures.rest) ∙ c.error_at.ensures

@@ -1,7 +1,6 @@
 -- An extension header's number has an error wherever the chain ends; at any other number the chain ends without an
 -- error.
-use Rattle.std.proofs.lemmas.Grind.{common_steps}
-use Rattle.ip_spec.proofs.Common.{◌≡◌, ◌≢◌, ℕ, ◌+◌, ◌*◌, List, length, take, refl, arith, inl, inr, ◌⊎◌, Bool, true, false, slice_index, rules, Option, None, IsSome, IsTrue, option_map, cases_lt, lt-ltb, le-ltb, eqb_tells, IsHeader, IsExtensionNumber, IsRawNumber, raw, fragment, auth, ExtHeader, IsNext, IsEnd}
+use Rattle.ip_spec.proofs.Common.{common_steps, ◌≡◌, ℕ, ◌+◌, ◌*◌, List, length, take, refl, arith, ◌⊎◌, Bool, slice_index, rules, None, IsSome, IsTrue, IsHeader, IsExtensionNumber, IsRawNumber, ExtHeader, IsNext, IsEnd}
 use Rattle.ip_base.specs.declared.len_source.LenSource.{LenSource}
 use Rattle.ip_spec.proofs.PrefixLemmas.{prefix_of-take}
 use Rattle.ip_spec.proofs.HeaderLemmas.{header_number, raw_begins, fragment_begins, auth_begins}

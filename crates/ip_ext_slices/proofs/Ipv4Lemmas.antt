@@ -1,11 +1,11 @@
 -- The longest chain of IPv4 extension headers: one header, or none.
-use Rattle.ip_spec.proofs.Common.{common_steps, ◌≡◌, ℕ, List, ◌∷◌, length, take, drop, refl, sym, arith, rules, [], Option, Some, None, NoPrefix, IsPrefix, IsAuthHeader, auth, next_header, ExtHeader, IsChain, headers_within, AtMostOneOf, IsLongestUnder}
+use Rattle.ip_spec.proofs.Common.{common_steps, ◌≡◌, ℕ, List, ◌∷◌, length, take, drop, refl, arith, rules, [], Option, Some, None, NoPrefix, IsPrefix, IsAuthHeader, next_header, ExtHeader, IsChain, headers_within, AtMostOneOf, IsLongestUnder}
 use Rattle.ip_base.specs.declared.len_source.LenSource.TheVariants.{Slice}
 use Rattle.ip_ext_headers.specs.declared.err.ip_auth.header_slice_error.HeaderSliceError.{HeaderSliceError}
 use Rattle.ip_ext_headers.specs.HeaderFault.{auth_fault}
 use Rattle.ip_spec.proofs.HeaderLemmas.{auth_of}
 use Rattle.ip_spec.proofs.UnderLemmas.{some_longest_under}
-use Rattle.ip_spec.proofs.ParsedLemmas.{has_parsed_none, has_parsed_on, parsed_answers}
+use Rattle.ip_spec.proofs.ParsedLemmas.{has_parsed_none, parsed_answers}
 use Rattle.ip_spec.proofs.ShorterLemmas.{longest_shorter}
 use Rattle.ip_spec.proofs.DemandKinds.{at_most_one_of}
 use Rattle.ip_ext_slices.specs.Ipv4Longest.{longest_ipv4_chain}

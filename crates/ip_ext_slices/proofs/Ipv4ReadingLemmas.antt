@@ -1,5 +1,5 @@
 -- Reading IPv4 extension headers returns the value that parsing them does.
-use Rattle.ip_spec.proofs.Common.{◌≡◌, ◌≢◌, ℕ, List, ◌++◌, refl, ap, sym, ◌∙◌, rules, Some, None, ne_eqb, drop-append_seam, IsAuthHeader, AuthFields, auth_fields}
+use Rattle.ip_spec.proofs.Common.{◌≡◌, ◌≢◌, ℕ, List, ◌++◌, rules, Some, None, ne_eqb, drop-append_seam, IsAuthHeader, AuthFields, auth_fields}
 use Rattle.ip_ext_headers.specs.AuthReading.{auth_slice_fault}
 use Rattle.ip_ext_headers.proofs.FaultLemmas.{auth_at_header}
 use Rattle.ip_spec.proofs.PrefixLemmas.{prefix_of-append, prefix_first}

@@ -1,5 +1,5 @@
 -- What the parse knows about the chain parsed so far, and what follows at an end.
-use Rattle.ip_spec.proofs.Common.{common_steps, ◌≡◌, ℕ, arith, subst, ◌-◌, List, ◌∷◌, ◌++◌, length, take, drop, ap, ◌∙◌, Bool, nat_eq, rules, [], ◌==◌, ◌&&◌, ◌||◌, Option, None, AllByRecursion, YieldsList, YieldsList-from_shown, or-false, or_assoc, eqb_tells, IsHeader, rest_after, next_header, is_fragmenting, ExtHeader, leads_to, bytes_of, is_empty, has_fragmenting, IsNext, IsEnd}
+use Rattle.ip_spec.proofs.Common.{common_steps, ◌≡◌, ℕ, arith, subst, ◌-◌, List, ◌∷◌, ◌++◌, length, take, drop, ap, ◌∙◌, Bool, nat_eq, rules, [], ◌==◌, ◌&&◌, ◌||◌, Option, None, YieldsList, YieldsList-from_shown, or-false, or_assoc, rest_after, next_header, is_fragmenting, ExtHeader, leads_to, bytes_of, has_fragmenting, IsNext, IsEnd}
 use Rattle.ip_spec.proofs.PrefixLemmas.{prefix-length}
 use Rattle.ip_spec.proofs.ChainLemmas.{longest_ends, bytes_of-least}
 use Rattle.ip_spec.proofs.ParsedLemmas.{HasParsed, has_parsed_on, offset_is, no_next_here, parsed_longest}
@@ -41,9 +41,6 @@ at_end n s m r flag p e =
     let longest = parsed_longest n s p.chain m r p.read (no_next_here n s p.chain m r p.read e) in
     search (rules, longest_chain-is n s p.chain longest, offset_is n s p.chain m r p.read)
 
-no_bytes : (c : List ExtHeader) (k : ℕ) → AllByRecursion (λ h. IsHeader h.number h.bytes) c → k ≡ length (bytes_of c) → nat_eq k 0 ≡ is_empty c
-no_bytes c k a e = search (rules, nat_eq, eqb_tells, bytes_of-least)
-
 -- the bytes before those left are the chain's
 pub len_after : (n : ℕ) (s r : List ℕ) → r ≡ rest_after (longest_chain n s) s → length s - length r ≡ length (bytes_of (longest_chain n s))
 len_after n s r e = omega (arith, prefix-length (bytes_of (longest_chain n s)) s (longest_chain-longest n s).has.prefix, ap length e)
@@ -59,10 +56,10 @@ module _ (n : ℕ) (s : List ℕ) (k : ℕ) (len : k ≡ length (bytes_of (longe
   module _ (m : ℕ) (r : List ℕ) (number : m ≡ leads_to n (longest_chain n s)) (rest : r ≡ rest_after (longest_chain n s) s) where
     -- no header follows it, and the error there
     pub ends_after : IsEnd (nat_eq k 0) m r
-    ends_after = search (rules, no_bytes, longest_ends, longest_chain-longest)
+    ends_after = search (rules, bytes_of-least, longest_ends, longest_chain-longest)
 
     pub chain_fault_is : chain_fault n s ≡ slice_fault k (nat_eq k 0) m r
-    chain_fault_is = search (rules, no_bytes, longest_chain-longest)
+    chain_fault_is = search (rules, bytes_of-least, longest_chain-longest)
 
 -- A cursor over the longest chain of s from n has reached number m with r left, and the headers left from there lead
 -- to where the chain leads. At an end, the cursor is at the end of the chain.

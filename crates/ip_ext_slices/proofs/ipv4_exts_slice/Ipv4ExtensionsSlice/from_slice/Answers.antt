@@ -1,4 +1,4 @@
-use Rattle.ip_spec.proofs.Common.{refl, arith, rules, take_rest}
+use Rattle.ip_spec.proofs.Common.{refl, arith, take_rest}
 use Rattle.ip_ext_slices.proofs.Ipv4Lemmas.{answer_of_one}
 use Rattle.ip_ext_slices.proofs.ipv4_exts_slice.Ipv4ExtensionsSlice.from_slice.Goals as goal
 

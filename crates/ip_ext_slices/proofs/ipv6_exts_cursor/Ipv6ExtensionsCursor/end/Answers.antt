@@ -1,7 +1,7 @@
 use Rattle.ip_spec.proofs.Common.{◌≡◌, ◌∷◌, sym, ◌∙◌, true, false, [], None, IsExtensionNumber}
 use Rattle.ip_base.specs.declared.len_source.LenSource.TheVariants.{Slice}
 use Rattle.ip_ext_slices.proofs.FaultLemmas.{fault_at_end, end_at_other, no_fault_at_other}
-use Rattle.ip_ext_slices.proofs.LongestLemmas.{longest_from_end, longest_from_next}
+use Rattle.ip_ext_slices.proofs.LongestLemmas.{longest_from_next}
 use Rattle.ip_ext_slices.proofs.ParseLemmas.{cursor_at_end}
 use Rattle.ip_ext_slices.proofs.ipv6_exts_cursor.Ipv6ExtensionsCursor.end.Goals as goal
 

@@ -1,8 +1,6 @@
-use Rattle.ip_spec.proofs.Common.{◌∙◌, ap, option_map}
 use Rattle.ip_base.specs.declared.len_source.LenSource.TheVariants.{Slice}
-use Rattle.ip_ext_slices.specs.ChainFault.{Fault}
 use Rattle.ip_ext_slices.proofs.FaultLemmas.{fault_at_end}
-use Rattle.ip_ext_slices.proofs.ParseLemmas.{ends_after, chain_fault_is}
+use Rattle.ip_ext_slices.proofs.ParseLemmas.{ends_after}
 use Rattle.ip_ext_slices.proofs.ipv6_exts_slice.Ipv6ExtensionsSlice.from_slice.Goals as goal
 
 pub error_at-requires : goal.error_at-requires

@@ -1,6 +1,5 @@
 use Rattle.ip_base.specs.declared.len_source.LenSource.TheVariants.{Slice}
 use Rattle.ip_ext_slices.proofs.FaultLemmas.{fault_at_end}
-use Rattle.ip_ext_slices.proofs.LongestLemmas.{longest_chain_shorter}
 use Rattle.ip_ext_slices.proofs.ParseLemmas.{ends_after}
 use Rattle.ip_ext_slices.proofs.ipv6_exts_slice.Ipv6ExtensionsSlice.from_slice_lax.Goals as goal
 

@@ -1,5 +1,5 @@
 -- The tool's definitions, in the form in which the plain program computes them.
-use Rattle.ip_spec.proofs.Common.{common_steps, rules, ◌≡◌, ◌≢◌, ℕ, ◌+◌, ◌*◌, ◌%◌, ◌<◌, ◌≤◌, List, [], ◌∷◌, ◌++◌, length, drop, map, refl, sym, ap, ◌∙◌, arith, append_assoc, get_or, nat_eq, codes, Option, None, Some, Result, Ok, option_map, result_ok, bytes_eq-Decides, length-take, drop_more, ExtHeader, IsLongestChain, leads_to, bytes_of, is_empty, IsPrefix}
+use Rattle.ip_spec.proofs.Common.{common_steps, rules, map-append, ◌/◌, slice_index, drop_all, ◌≡◌, ◌≢◌, ℕ, ◌+◌, ◌*◌, ◌%◌, ◌<◌, ◌≤◌, List, [], ◌∷◌, ◌++◌, length, drop, map, refl, ap, arith, append_assoc, get_or, nat_eq, codes, Option, None, Some, Result, Ok, option_map, result_ok, bytes_eq-Decides, length-take, drop_more, ExtHeader, IsLongestChain, leads_to, bytes_of, is_empty, IsPrefix}
 use Rattle.std.proofs.Common.{append-nil}
 use Rattle.std.specs.Prelude.{Bool}
 use Rattle.ip_plain.specs.PlainHeader.{plain_header_of}
@@ -7,7 +7,7 @@ use Rattle.ip_plain.specs.declared.chain.PlainHeader.{PlainHeader}
 use Rattle.ip_spec.proofs.ChainLemmas.{one_longest, some_longest}
 use Rattle.ip_ext_slices.specs.ChainFault.{Fault, slice_fault}
 use Rattle.ip_ext_slices.specs.Longest.{longest_chain}
-use Rattle.hex.specs.Hex.{decode_pairs, hex_digit_value, digit_or_error, ◌>>=◌}
+use Rattle.hex.specs.Hex.{encode_with, encode_lower, lower_digits, decode_pairs, hex_digit_value, digit_or_error, ◌>>=◌}
 use Rattle.hex.specs.declared.error.FromHexError.{FromHexError}
 use Rattle.ip_plain.specs.Digits.{byte_of_values, byte_of_digits}
 use Rattle.ipexts_tool.specs.Exts6.{exts6_answer}
@@ -17,17 +17,18 @@ use Rattle.ipexts_tool.specs.Parts.{header_lines, next_line, chain_end_line}
 
 -- ---- lines
 
-pub last_dropped : (front : List (List ℕ)) → without_empty_last (front ++ [] ∷ []) ≡ front
-last_dropped [] = refl
-last_dropped ([] ∷ []) = refl
-last_dropped ([] ∷ next ∷ front) = cc (last_dropped (next ∷ front))
-last_dropped ((b ∷ line) ∷ front) = cc (last_dropped front)
+pub last_dropped : (front : List (List ℕ)) (last : List ℕ) → length last ≡ 0 → without_empty_last (front ++ last ∷ []) ≡ front
+last_dropped [] last none = search rules
+last_dropped (line ∷ front) last none = search (rules, last_dropped front last none)
 
 pub last_kept : (front : List (List ℕ)) (last : List ℕ) → 0 < length last → without_empty_last (front ++ last ∷ []) ≡ front ++ last ∷ []
 last_kept [] last some = search rules
 last_kept ([] ∷ []) last some = search (rules, last_kept [])
 last_kept ([] ∷ next ∷ front) last some = cc (last_kept (next ∷ front) last some)
 last_kept ((b ∷ line) ∷ front) last some = cc (last_kept front last some)
+
+-- what `plain_lines` uses
+pub ruleset last_lines = (last_dropped, last_kept, map-append)
 
 -- ---- hexadecimal digits
 
@@ -62,9 +63,6 @@ bytes_of_hex-pairs text dash some even = grind (arith, common_steps, decode_pair
 pub SoFar : List ℕ → List ℕ → List ℕ → Type 0
 SoFar text left bytes = option_map (λ more. bytes ++ more) (bytes_of_pairs left) ≡ bytes_of_pairs text
 
-option_map-same : (o : Option (List ℕ)) → option_map (λ more. [] ++ more) o ≡ o
-option_map-same o = search rules
-
 option_map-more : (bytes : List ℕ) (byte : ℕ) (o : Option (List ℕ))
     → option_map (λ more. (bytes ++ byte ∷ []) ++ more) o ≡ option_map (λ more. bytes ++ more) (onto_bytes (Some byte) o)
 option_map-more bytes byte o = search (rules, append_assoc)
@@ -72,31 +70,40 @@ option_map-more bytes byte o = search (rules, append_assoc)
 module _ (text bytes : List ℕ) where
   pub so_far-none : bytes ≡ [] → SoFar text text bytes
   unfolding SoFar
-  so_far-none e = rw e (option_map-same (bytes_of_pairs text))
+  so_far-none e = search rules
 
   pub so_far-all : SoFar text [] bytes → bytes_of_pairs text ≡ Some bytes
   unfolding SoFar
-  so_far-all e = sym e ∙ ap Some (append-nil bytes)
+  so_far-all e = cc (append-nil bytes)
 
   module _ (k : ℕ) (inside : k + 1 < length text) where
     pair_at : (next : ℕ) → next ≡ k + 2 → bytes_of_pairs (drop k text) ≡ onto_bytes (byte_of_digits (get_or text k 0) (get_or text (k + 1) 0)) (bytes_of_pairs (drop next text))
-    pair_at next e =
-        let after : k + 1 + 1 ≡ next = omega (arith, e) in
-        cc (drop_more text k 0 (omega arith), drop_more text (k + 1) 0 inside)
+    pair_at next e = grind (arith, common_steps)
 
     pub so_far-bad : SoFar text (drop k text) bytes → byte_of_digits (get_or text k 0) (get_or text (k + 1) 0) ≡ None → bytes_of_pairs text ≡ None
     unfolding SoFar
-    so_far-bad e none =
-        sym e
-        ∙ ap (option_map (λ more. bytes ++ more)) (pair_at (k + 2) refl ∙ ap (λ (o : Option ℕ). onto_bytes o (bytes_of_pairs (drop (k + 2) text))) none)
+    so_far-bad e none = cc (pair_at (k + 2) refl)
 
     pub so_far-more : (byte next : ℕ) → next ≡ k + 2 → SoFar text (drop k text) bytes → byte_of_digits (get_or text k 0) (get_or text (k + 1) 0) ≡ Some byte
         → SoFar text (drop next text) (bytes ++ byte ∷ [])
     unfolding SoFar
-    so_far-more byte next two e is =
-        option_map-more bytes byte (bytes_of_pairs (drop next text))
-        ∙ ap (option_map (λ more. bytes ++ more)) (ap (λ (o : Option ℕ). onto_bytes o (bytes_of_pairs (drop next text))) (sym is) ∙ sym (pair_at next two))
-        ∙ e
+    so_far-more byte next two e is = cc (option_map-more bytes byte (bytes_of_pairs (drop next text)), pair_at next two)
+
+-- what `plain_bytes` uses
+pub ruleset bytes_so_far = (so_far-none, so_far-all, so_far-bad, so_far-more, bytes_of_hex-pairs, drop_all)
+
+-- the digits of the next byte only
+pub next_digits : (bs : List ℕ) (i : ℕ) → i < length bs → encode_lower (drop i bs)
+    ≡ slice_index lower_digits (slice_index bs i / 16) ∷ slice_index lower_digits (slice_index bs i % 16) ∷ encode_lower (drop (i + 1) bs)
+unfolding encode_with
+next_digits bs i h = rw (drop_more bs i 0 h) refl
+
+pub no_digits : (bs : List ℕ) (i : ℕ) → length bs ≤ i → encode_lower (drop i bs) ≡ []
+unfolding encode_with
+no_digits bs i h = rw (drop_all i bs h) refl
+
+-- what `push_digits` uses
+pub ruleset digits = (next_digits, no_digits, append-nil, append_assoc)
 
 -- ---- chains
 

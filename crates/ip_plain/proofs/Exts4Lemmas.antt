@@ -1,18 +1,13 @@
 -- The answer to `exts4`, in the form in which the plain program computes it.
-use Rattle.ip_spec.proofs.Common.{common_steps, ◌≡◌, ℕ, ◌≤◌, List, [], ◌∷◌, ◌++◌, length, take, drop, get_or, true, refl, sym, ap, ◌∙◌, arith, append_assoc, length-take-le, ExtHeader, IsNext, IsEnd, leads_to, bytes_of, rest_after, fault_after, NoPrefix, IsAuthHeader, auth}
+use Rattle.ip_spec.proofs.Common.{common_steps, rules, ◌≡◌, ℕ, ◌≤◌, List, [], ◌∷◌, ◌++◌, length, take, drop, get_or, true, refl, sym, arith, append_assoc, length-take-le, IsNext, IsEnd, leads_to, bytes_of, NoPrefix, IsAuthHeader, auth}
 use Rattle.std.proofs.Common.{append-nil}
 use Rattle.ip_base.specs.declared.len_source.LenSource.TheVariants.{Slice}
 use Rattle.ip_spec.proofs.HeaderLemmas.{header-least, auth_of}
 use Rattle.ip_ext_headers.specs.HeaderFault.{auth_fault}
-use Rattle.ip_ext_slices.specs.Ipv4Fault.{ipv4_faults}
 use Rattle.ip_ext_slices.specs.Ipv4Longest.{longest_ipv4_chain}
 use Rattle.ip_ext_slices.proofs.Ipv4Lemmas.{answer_of_one, answer_of_none}
 use Rattle.ipexts_tool.specs.Exts4.{exts4_answer}
-use Rattle.ipexts_tool.specs.Parts.{header_line, header_lines, next_line, ipv4_end_line, ok_line}
-
--- the answer for the chain c
-abbrev told : List ℕ → List ExtHeader → List ℕ
-told s c = header_lines 0 c ++ next_line (leads_to 51 c) (length (rest_after c s)) ++ ipv4_end_line (fault_after (ipv4_faults Slice) c 51 s)
+use Rattle.ipexts_tool.specs.Parts.{header_line, next_line, ipv4_end_line, ok_line}
 
 pub first_byte : (k : ℕ) (s : List ℕ) → 8 ≤ k → get_or (take k s) 0 0 ≡ get_or s 0 0
 first_byte k s few = grind (arith, common_steps)
@@ -22,32 +17,23 @@ module _ (s : List ℕ) (k : ℕ) (enough : k ≤ length s) (next : IsNext true 
   pub one_header : longest_ipv4_chain 51 s ≡ record { number = 51; bytes = take k s } ∷ []
   one_header = sym (answer_of_one (λ c. c) 51 s (record { number = 51; bytes = take k s } ∷ []) (take k s) _ _ refl (auth_of 51 (take k s) refl next.header) next.prefix refl refl refl).value
 
-  header_len : length (take k s) ≡ k
-  header_len = length-take-le k s enough
-
   pub one_len : k ≡ length (bytes_of (longest_ipv4_chain 51 s))
-  one_len = sym (ap (λ c. length (bytes_of c)) one_header ∙ ap length (append-nil (take k s)) ∙ header_len)
+  one_len = rw one_header (simp (append-nil, length-take-le))
 
   pub one_leads : get_or s 0 0 ≡ leads_to 51 (longest_ipv4_chain 51 s)
-  one_leads = sym (ap (leads_to 51) one_header ∙ first_byte k s (omega (arith, header-least 51 (take k s) next.header, header_len)))
+  one_leads = rw one_header (search (rules, first_byte, header-least))
 
 pub exts4_one : (n : ℕ) (s : List ℕ) (k : ℕ) → n ≡ 51 → k ≤ length s → IsNext true 51 s (record { number = 51; bytes = take k s })
     → exts4_answer n s ≡ header_line 0 51 k ++ next_line (get_or s 0 0) (length (drop k s)) ++ ok_line
 exts4_one n s k e enough next =
-    let is = one_header s k enough next in
     let len : length (take k s) ≡ k = length-take-le k s enough in
-    let all : length (take k s ++ []) ≡ k = ap length (append-nil (take k s)) ∙ len in
     let least : 8 ≤ k = omega (arith, header-least 51 (take k s) next.header, len) in
-    ap (λ m. exts4_answer m s) e ∙ ap (told s) is
-    ∙ ap (λ j. (header_line 0 51 j ++ []) ++ next_line (get_or (take k s) 0 0) (length (drop (length (take k s ++ [])) s)) ++ ok_line) len
-    ∙ ap (λ l. l ++ next_line (get_or (take k s) 0 0) (length (drop (length (take k s ++ [])) s)) ++ ok_line) (append-nil (header_line 0 51 k))
-    ∙ ap (λ j. header_line 0 51 k ++ next_line (get_or (take k s) 0 0) (length (drop j s)) ++ ok_line) all
-    ∙ ap (λ m. header_line 0 51 k ++ next_line m (length (drop k s)) ++ ok_line) (first_byte k s least)
+    rw (e, one_header s k enough next) (simp (append-nil, len, first_byte k s least))
 
 pub exts4_none : (n : ℕ) (s : List ℕ) → n ≡ 51 → IsEnd true 51 s → exts4_answer n s ≡ next_line 51 (length s) ++ ipv4_end_line (auth_fault Slice (length s) 0 s)
 exts4_none n s e end =
     let none : NoPrefix IsAuthHeader s = λ b h p. end (record { number = 51; bytes = b }) (record { number = refl; header = auth refl h; prefix = p; zero_only_first = λ z. refl }) in
-    ap (λ m. exts4_answer m s) e ∙ ap (told s) (sym (answer_of_none (λ c. c) 51 s [] _ (λ z. none) refl refl).value)
+    rw (e, ← (answer_of_none (λ c. c) 51 s [] _ (λ z. none) refl refl).value) refl
 
 -- Parts appended one after the other.
 pub two_joined : (text next end t₁ t₂ : List ℕ) → t₁ ≡ text ++ next → t₂ ≡ t₁ ++ end → t₂ ≡ text ++ (next ++ end)

@@ -1,5 +1,5 @@
 -- The parts of a packet, in the form in which the plain program computes them.
-use Rattle.ip_spec.proofs.Common.{rules, ◌≡◌, ◌≢◌, ℕ, ◌+◌, ◌-◌, ◌≤◌, length, map, take, drop, List, [], ◌∷◌, ◌++◌, refl, ap, ◌∙◌, arith, Bool, true, eqb_tells, ne_eqb, slice_index, length-take-le, Option, None, option_map, option_map_or, ExtHeader, bytes_of, is_empty, rest_after, IsNext}
+use Rattle.ip_spec.proofs.Common.{rules, ◌≡◌, ◌≢◌, ℕ, ◌+◌, ◌-◌, ◌≤◌, length, map, take, drop, List, [], ◌∷◌, ◌++◌, refl, ap, ◌∙◌, arith, true, eqb_tells, ne_eqb, slice_index, length-take-le, Option, None, option_map, option_map_or, ExtHeader, bytes_of, is_empty, rest_after, IsNext}
 use Rattle.std.proofs.Common.{append-nil, length-drop}
 use Rattle.std.specs.Prelude.{◌==◌, ◌&&◌, not, nat_lt, if◌then◌else◌}
 use Rattle.ip_base.specs.LenError.{too_short}
@@ -16,11 +16,10 @@ use Rattle.ip_dissect.specs.Later.{chain_to_later}
 use Rattle.ip_dissect.specs.Fragment.{ipv4_fragment, ipv6_fragment}
 use Rattle.ip_dissect.specs.Extent.{packet_bytes, after_base, missing_of, ipv4_stated, ipv6_stated, ipv4_chain_in, ipv4_chain, ipv6_chain}
 use Rattle.ip_dissect.specs.End.{base_end, auth_end, exts_end, ipv4_end}
-use Rattle.ip_dissect.specs.Dissection.{DissectedParts, without_base, ipv4_dissected, ipv6_dissected, dissected}
+use Rattle.ip_dissect.specs.Dissection.{ipv4_dissected, ipv6_dissected, dissected}
 use Rattle.ip_dissect.specs.declared.end.End.{End}
 use Rattle.ip_dissect.specs.declared.end.End.TheVariants.{LaterFragment, Payload, Fault}
 use Rattle.ip_dissect.specs.declared.fragment.Fragment.{Fragment}
-use Rattle.ip_dissect.proofs.DissectedLemmas.{picked4}
 use Rattle.ip_plain.proofs.Exts4Lemmas.{one_header}
 use Rattle.ip_plain.specs.PlainHeader.{plain_header_of}
 use Rattle.ip_plain.specs.PlainDissection.{IsToLater, IsIpv4Chain, HasFieldsOf}
@@ -41,9 +40,6 @@ ipv4_one b r k enough next zero auth x header old none items number bytes leads 
     record { headers = rw (items, none) (cc); number = cc; rest = cc; within = omega (arith, enough, len, ap (λ d. length (bytes_of d)) is) }
 
 -- ---- the parts
-
-end_of : (o : ℕ) (short : Bool) (y z : End) → (o ≡ 0 → y ≡ z) → (fault : End) → (if short then fault else if not (o == 0) then LaterFragment else y) ≡ (if short then fault else if not (o == 0) then LaterFragment else z)
-end_of o short y z same fault = search (rules, eqb_tells o 0, same)
 
 -- Bytes s with the base header b, and what was found: the stated length t, the packet's bytes and those after b.
 module _ (b s packet after : List ℕ) (t : Option ℕ) (whole : packet ≡ packet_bytes b t s) (left : after ≡ drop (length b) packet) (x : PlainChain) where
@@ -89,7 +85,7 @@ module _ (b s packet after : List ℕ) (t : Option ℕ) (whole : packet ≡ pack
     pub end4 : (e : End) → e ≡ (if not (total_len b == 0) && nat_lt (total_len b) (length b) then Fault (Len (too_short Ipv4HeaderTotalLen (total_len b) 0 Ipv4Packet (length b))) None else if not (ipv4_fragment_offset b == 0) then LaterFragment else option_map_or (auth_end t) (option_map (auth_in_packet Slice (length b)) (ipv4_chain_fault (protocol b) after)) Payload) → e ≡ ipv4_end b s
     end4 e end =
         let after : after ≡ after_base b (ipv4_stated b) s = after_is (ipv4_stated b) stated in
-        rw (end, stated, after) (end_of (ipv4_fragment_offset b) (not (total_len b == 0) && nat_lt (total_len b) (length b)) _ _ (λ zero. rw zero refl) (Fault (Len (too_short Ipv4HeaderTotalLen (total_len b) 0 Ipv4Packet (length b))) None))
+        rw (end, stated, after) (search (rules, eqb_tells (ipv4_fragment_offset b) 0))
 
     pub fields4 : (f : Option Fragment) → f ≡ ipv4_fragment b → (missing : ℕ) → missing ≡ missing_of t (length s) → (e : End) → e ≡ ipv4_end b s
         → HasFieldsOf (ipv4_dissected b s) (record { version = 4; base_len = length b; stated = t; headers = x.headers; number = x.number; payload_len = length x.rest.now; fragment = f; missing = missing; padding_len = length s - length packet; end = e })
@@ -110,11 +106,8 @@ module _ (b s packet after : List ℕ) (t : Option ℕ) (whole : packet ≡ pack
 
 pub dissected4 : (s : List ℕ) → base_end s ≡ None → version s ≡ 4 → dissected s ≡ ipv4_dissected (take (ipv4_header_len s) s) s
 unfolding dissected
-dissected4 s none four = picked4 s (base_end s) (version s) _ _ none four
-
-six_if : (s : List ℕ) (o : Option End) (v : ℕ) (x y : DissectedParts) → o ≡ None → v ≢ 4 → option_map_or (without_base s) o (if v == 4 then x else y) ≡ y
-six_if s o v x y none other = rw (none, ne_eqb v 4 other) refl
+dissected4 s none four = cc
 
 pub dissected6 : (s : List ℕ) → base_end s ≡ None → version s ≢ 4 → dissected s ≡ ipv6_dissected (take 40 s) s
 unfolding dissected
-dissected6 s none other = six_if s (base_end s) (version s) _ _ none other
+dissected6 s none other = cc (ne_eqb (version s) 4 other)

@@ -26,7 +26,7 @@ module _ (n : ℕ) (s : List ℕ) (c : List ExtHeader) (longest : IsLongestChain
   same_chain : longest_chain n s ≡ c
   same_chain = one_longest n s (longest_chain n s) c (some_longest n s).1 longest
 
-  read_len : length s - length r ≡ length (bytes_of c)
+  pub read_len : length s - length r ≡ length (bytes_of c)
   read_len = omega (arith, ap length left, length-drop (length (bytes_of c)) s, length-prefix (bytes_of c) s longest.has.prefix)
 
   pub end_len : length s - length r ≡ length (bytes_of (longest_chain n s))

@@ -65,6 +65,7 @@ fn plain_parts<'a>(
 }
 
 /// Returns the lines of an input.
+#[tactic(auto, using(crate::proofs::AnswerLemmas::last_lines))]
 fn plain_lines<'a>(alloc: Global, input: &'a [u8]) -> Result<Vec<&'a [u8]>, AllocError>
     ensures { IfOk result (λ lines. map (λ line. line.now) lines.items ≡ lines_of input.now) }
 {
@@ -112,6 +113,7 @@ enum PlainRequest {
 }
 
 /// Parses the request in the fields of a line.
+#[tactic(auto, using(crate::proofs::DissectLemmas::no_request_few, crate::proofs::DissectLemmas::no_request_many))]
 fn plain_request(alloc: Global, fields: &[&[u8]]) -> Result<Option<PlainRequest>, AllocError>
     ensures { IfOk result (λ request. option_map asked_by request
         ≡ request_of_fields (map (λ field. field.now) fields.now)) }
@@ -222,6 +224,7 @@ fn byte_of_digits(high: u8, low: u8) -> Option<u8>
 }
 
 /// Parses the hexadecimal digits of a text.
+#[tactic(auto, using(crate::proofs::AnswerLemmas::bytes_so_far))]
 fn plain_bytes(alloc: Global, text: &[u8]) -> Result<Option<Vec<u8>>, AllocError>
     ensures { IfOk result (λ bytes. option_map (λ b. b.items) bytes ≡ bytes_of_hex text.now) }
 {
@@ -342,6 +345,7 @@ fn push_written(bytes: &[u8], text: &mut String) -> Result<(), AllocError>
 }
 
 /// Appends the hexadecimal digits of bytes.
+#[tactic(auto, using(crate::proofs::AnswerLemmas::digits))]
 fn push_digits(bytes: &[u8], text: &mut String) -> Result<(), AllocError>
     ensures { OnOk result
         (string_bytes text.new ≡ string_bytes text.old ++ encode_lower bytes.now) }

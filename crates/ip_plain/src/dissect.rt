@@ -11,6 +11,7 @@ use ip_dissect::{End, Fragment, FragmentKind};
 use std::alloc::{AllocError, Global};
 
 /// Appends the answer to `dissect` with these bytes.
+#[tactic(auto, using(crate::proofs::DissectLemmas::answer_none))]
 pub(crate) fn push_dissect(alloc: Global, bytes: &[u8], text: &mut String) -> Result<(), AllocError>
     ensures { OnOk result
         (string_bytes text.new ≡ string_bytes text.old ++ dissect_answer bytes.now) }

@@ -68,6 +68,7 @@ pub fn numbers_fit(headers: &[PlainHeader<'_>]) -> bool
 }
 
 /// Returns how many headers fit, from the first on: all, or those before the first that doesn't fit.
+#[tactic(auto, using(crate::proofs::FitsLemmas::kept_of_plain))]
 pub fn fitting_len(headers: &[PlainHeader<'_>]) -> usize
     ensures within { result ≤ length headers.now }
     ensures kept { KeepsBeginning FitsPlaces (map plain_header_of headers.now)

@@ -50,6 +50,7 @@ pub(crate) struct PlainDissection<'a> {
 }
 
 /// Dissects the packet at the start of the bytes. Returns an error only if memory runs out.
+#[tactic(auto, using(crate::proofs::FieldLemmas::dissected6))]
 pub(crate) fn plain_dissection<'a>(
     alloc: Global,
     bytes: &'a [u8],

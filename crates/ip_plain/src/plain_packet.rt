@@ -144,6 +144,7 @@ fn is_ipv4_fragment(bytes: &[u8]) -> bool
 
 /// Returns the length of the authentication header that follows an IPv4 header of this length and protocol, or 0, and
 /// the number of what follows.
+#[tactic(auto, using(crate::proofs::Exts4Lemmas::one_len, crate::proofs::Exts4Lemmas::one_leads))]
 fn plain_ipv4_end(
     protocol: u8,
     after_base: &[u8],
@@ -198,6 +199,7 @@ pub(crate) fn plain_auth_fault(
 }
 
 /// Reads the IPv6 packet at the start of the bytes (RFC 8200, section 3). Fails only if memory runs out.
+#[tactic(auto, using(crate::proofs::PacketLemmas::ipv6_fault_is, crate::proofs::PacketLemmas::ipv6_lengths))]
 pub(crate) fn plain_ipv6(
     alloc: Global,
     bytes: &[u8],
@@ -256,6 +258,7 @@ fn plain_front(bytes: &[u8], payload_length: u16) -> (&[u8], LenSource)
 
 /// Returns the end of the chain after an IPv6 header, or its error in the packet, the source of whose length is given.
 /// Fails only if memory runs out.
+#[tactic(auto, using(crate::proofs::PacketLemmas::end_len))]
 fn plain_ipv6_end(
     alloc: Global,
     first: u8,

@@ -1,9 +1,9 @@
-use Rattle.ip_spec.proofs.Common.{arith, ◌≡◌, ◌-◌, map, length, ◌≤◌, ap, ◌∙◌, string_bytes, on_ok_weaker, bytes_of, is_empty}
-use Rattle.std.proofs.Common.{length-drop}
+use Rattle.ip_spec.proofs.Common.{◌-◌, map, length, ◌∙◌, string_bytes, on_ok_weaker}
 use Rattle.ip_plain.proofs.Exts4Lemmas.{three_joined}
 use Rattle.ip_plain.specs.PlainHeader.{plain_header_of}
 use Rattle.ipexts_tool.specs.Parts.{chain_end_line}
-use Rattle.ip_plain.proofs.AnswerLemmas.{exts6_answer-longest, length-prefix, is_empty-shown}
+use Rattle.ip_plain.proofs.AnswerLemmas.{exts6_answer-longest, is_empty-shown}
+use Rattle.ip_plain.proofs.PacketLemmas.{read_len}
 use Rattle.ip_plain.proofs.answers.push_exts6.Goals as goal
 
 pub returns : goal.returns
@@ -12,10 +12,8 @@ returns c =
     let chain = c.in_ok-chain.chain in
     let headers = map plain_header_of chain.headers.items in
     let longest = c.in_ok-chain.ensures.longest in
-    let fits : length (bytes_of headers) ≤ length bytes = length-prefix (bytes_of headers) bytes longest.has.prefix in
-    let offset : length bytes - length chain.rest.now ≡ length (bytes_of headers)
-    = omega (arith, ap length c.in_ok-chain.ensures.rest, length-drop (length (bytes_of headers)) bytes, fits) in
-    let first : c.is_empty-first.result ≡ is_empty headers = c.is_empty-first.ensures ∙ is_empty-shown chain.headers.items chain.headers.len chain.headers.ok.0 in
+    let offset = read_len c.args.number bytes headers longest chain.rest.now c.in_ok-chain.ensures.rest in
+    let first = c.is_empty-first.ensures ∙ is_empty-shown chain.headers.items chain.headers.len chain.headers.ok.0 in
     let answer = exts6_answer-longest c.args.number bytes headers longest chain.number chain.rest.now c.is_empty-first.result
     (length bytes - length chain.rest.now) c.plain_fault.result c.in_ok-chain.ensures.number c.in_ok-chain.ensures.rest first offset c.plain_fault.ensures in
     let told = three_joined _ _ _ (chain_end_line c.plain_fault.result) _ _ (string_bytes c.push_chain_end.new.text)

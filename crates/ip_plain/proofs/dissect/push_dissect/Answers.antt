@@ -1,9 +1,6 @@
 use Rattle.ip_spec.proofs.Common.{on_ok_weaker}
-use Rattle.ip_plain.proofs.DissectLemmas.{answer_none, plain_joined}
+use Rattle.ip_plain.proofs.DissectLemmas.{plain_joined}
 use Rattle.ip_plain.proofs.dissect.push_dissect.Goals as goal
-
-pub returns-then-packet-eq0 : goal.returns-then-packet-eq0
-returns-then-packet-eq0 c = rw (answer_none c.args.bytes.now _ c.in_ok-packet.ensures.fields c.if-packet-eq0.true) c.push_end.ensures
 
 pub returns : goal.returns
 returns c =

@@ -1,6 +1,6 @@
 use Rattle.ip_spec.proofs.Common.{◌∙◌, sym}
 use Rattle.ip_dissect.proofs.DissectedLemmas.{dissected-none}
-use Rattle.ip_plain.proofs.FieldLemmas.{dissected4, dissected6}
+use Rattle.ip_plain.proofs.FieldLemmas.{dissected4}
 use Rattle.ip_plain.proofs.plain_dissection.plain_dissection.Goals as goal
 
 pub returns-in-Some-clause-fields : goal.returns-in-Some-clause-fields
@@ -10,8 +10,3 @@ pub returns-then-bytes-eq4-clause-fields : goal.returns-then-bytes-eq4-clause-fi
 returns-then-bytes-eq4-clause-fields c =
     let h = rw (c.split_at.ensures.front, c.from.ensures) at c.plain_ipv4.ensures.fields in
     rw (dissected4 c.args.bytes.now (sym c.plain_base_end.ensures ∙ c.in_default.is) c.if-bytes-eq4.true) h
-
-pub returns-clause-fields : goal.returns-clause-fields
-returns-clause-fields c =
-    let h = rw c.split_at-2.ensures.front at c.plain_ipv6.ensures.fields in
-    rw (dissected6 c.args.bytes.now (sym c.plain_base_end.ensures ∙ c.in_default.is) c.if-bytes-eq4.false) h

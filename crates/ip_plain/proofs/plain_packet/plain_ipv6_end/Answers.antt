@@ -1,11 +1,8 @@
 use Rattle.ip_spec.proofs.Common.{◌∙◌, ap, sym, map, Some, has_fragmenting}
 use Rattle.ip_plain.specs.PlainHeader.{plain_header_of}
 use Rattle.ip_plain.proofs.AnswerLemmas.{is_empty-shown}
-use Rattle.ip_plain.proofs.PacketLemmas.{end_len, end_fragmented, end_fault}
+use Rattle.ip_plain.proofs.PacketLemmas.{end_fragmented, end_fault}
 use Rattle.ip_plain.proofs.plain_packet.plain_ipv6_end.Goals as goal
-
-pub returns-clause-len : goal.returns-clause-len
-returns-clause-len c = let chain = c.in_ok-chain in end_len _ _ _ chain.ensures.longest chain.chain.rest.now chain.ensures.rest
 
 pub returns-clause-fragmented : goal.returns-clause-fragmented
 returns-clause-fragmented c =

@@ -1,4 +1,4 @@
-use Rattle.ip_spec.proofs.Common.{refl}
+use Rattle.ip_spec.proofs.Common.{rules, refl}
 use Rattle.ip_ext_chains.proofs.RefusedLemmas.{spelled_refused}
 use Rattle.ip_ext_chains.proofs.RewritingLemmas.{rewriting_spelled, rewriting_goes}
 use Rattle.ip_plain.proofs.runs.write_runs.Goals as goal
@@ -11,4 +11,4 @@ unwrap-requires c =
 pub runs-preserved : goal.runs-preserved
 runs-preserved c =
     let spelled = rewriting_spelled _ _ c.runs.runs c.next.new.self _ _ _ _ c.runs.invariant c.in-Some.ensures.steps in
-    rewriting_goes _ _ c.runs.runs c.next.new.self _ _ _ _ c.runs.invariant c.in-Some.ensures.steps _ _ c.next_number-next-in-Some.ensures.spelled ((c.in_default-write.ensures.alike _ _ spelled).1 refl)
+    search (rules, rewriting_goes, (c.in_default-write.ensures.alike _ _ spelled).1 refl)

@@ -99,9 +99,5 @@ pub fitting_fault_at_end : (n : ℕ) (s : List ℕ) (c : List ExtHeader) → IsL
 fitting_fault_at_end n s c l number free = search (rules, fault_at_end, fitting_ends, same_fault_free)
 
 -- the walk's result is all that the parse needs
-module _ (n : ℕ) (s : List ℕ) (v : Places Ipv6ExtensionSlice) (m : ℕ) (r : List ℕ) (f : Option Fault) (k : IsPlacedAnswer n s v m r f) where
-  pub walked_numbers : AreOfNumber v
-  walked_numbers = placed_numbers (fitting_chain n s) v k.placed
-
-  pub walked_answer : (w : Ipv6Extensions) (g : Option Fault) → w ≡ value_at v → f ≡ g → IsFittingAnswer n s w m r g
-  walked_answer w g e eg = search (rules, value_placed)
+pub walked_answer : (n : ℕ) (s : List ℕ) (v : Places Ipv6ExtensionSlice) (m : ℕ) (r : List ℕ) (f g : Option Fault) (w : Ipv6Extensions) → IsPlacedAnswer n s v m r f → w ≡ value_at v → f ≡ g → IsFittingAnswer n s w m r g
+walked_answer n s v m r f g w k e eg = search (rules, value_placed)

@@ -26,9 +26,6 @@ exts_sum v = search rules
 
 -- The final place has destination options only with a routing header, so a struct can be written if each of its
 -- headers can.
-pub nested : (o : Option Ipv6RoutingExtensions) → is_some (option_map raw_header (final_of o)) ≡ true → is_some (option_map (λ r. raw_header r.routing) o) ≡ true
-nested o e = search rules
-
 abbrev CanBe : ℕ → Option HeaderFields → Type 0
 CanBe n o = ForSome o (λ x. (h : ExtHeader) × IsEncoded n x h)
 
@@ -42,5 +39,5 @@ encodable_where v a b d e f g = record {
     | authentication ↦ f
     | final_destination ↦ g
   ];
-  nested = nested v.routing;
+  nested = search rules;
 }

@@ -28,9 +28,10 @@ runs_from-next m c p k true ends on =
     let whole : c ≡ p = cc (append-nil p) in search (rules, runs_from-is)
 runs_from-next m c p k false ends on = let more = runs_more m c p k (on refl) in search (rules, runs_from-is, runs_from-runs)
 
+-- The headers of a chain at the start of bytes are bytes, and so are those of its parts.
 module _ (c d : List ExtHeader) (b : AreBytes (bytes_of (c ++ d))) where
   both_bytes : AreBytes (bytes_of c ++ bytes_of d)
-  both_bytes = subst AreBytes (flat_map-append (λ (h : ExtHeader). h.bytes) c d) b
+  both_bytes = rw (← flat_map-append) b
 
   pub first_bytes : AreBytes (bytes_of c)
   first_bytes = rw (← take-append_seam (bytes_of c) (bytes_of d)) (All-take (λ x. x < 256) (length (bytes_of c)) _ both_bytes)

@@ -62,14 +62,11 @@ walked_in v f e old new r some none k = grind (arith, common_steps, walked_more)
 
 -- if none follows, the walk has the result of what is left
 module _ (v : PlacedFields) (f : ℕ) (old new : Walk) (k : Walked v f old) (s : IsStop old new) where
-  none_next : (p : Place) → next_in_chain old.first (λ q. at q old.reached) old.number.0 ≡ Some p → v p ≡ None
-  none_next p at = rw (← k.value) (s.none p at)
-
   pub walked_answer : (a : WalkAnswer) → a ≡ answer_at new.number.0 (left_in new) → IsWalkAnswer v f a
-  walked_answer a e = walk_answers v f k.reached (λ p. at p old.reached) old.number.0 old.first k.walking (left_in new) new.number.0 a none_next (λ p. search (rules, s.left p)) s.number e
+  walked_answer a e = search (rules, walk_answers v f k.reached (λ p. at p old.reached) old.number.0 old.first k.walking, s.left, s.none)
 
   pub walked_reach : IsLongestOf (IsReachable v f) k.reached
-  walked_reach = search (rules, walk_stops, none_next)
+  walked_reach = search (rules, walk_stops v f k.reached (λ p. at p old.reached) old.number.0 old.first k.walking, s.none)
 
 -- The headers reached were appended to `before`, and there is room for the remaining ones.
 pub record Written (v : PlacedFields) (f : ℕ) (w : Walk) (before now : List ℕ) (room : ℕ) : Type 0 where

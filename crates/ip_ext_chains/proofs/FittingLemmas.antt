@@ -97,7 +97,3 @@ module _ (n : ℕ) (c : List ExtHeader) (m : ℕ) (chain : IsChain n c) (fits : 
 -- At an extension number whose place is free there is an error after the chain.
 pub fitting_fault_at_end : (n : ℕ) (s : List ℕ) (c : List ExtHeader) → IsLongestUnder FitsPlaces n s c → IsExtensionNumber (leads_to n c) → (IsOccupied (leads_to n c) c → ⊥) → IsSome (fault_after fitting_faults c n s)
 fitting_fault_at_end n s c l number free = search (rules, fault_at_end, fitting_ends, same_fault_free)
-
--- the walk's result is all that the parse needs
-pub walked_answer : (n : ℕ) (s : List ℕ) (v : Places Ipv6ExtensionSlice) (m : ℕ) (r : List ℕ) (f g : Option Fault) (w : Ipv6Extensions) → IsPlacedAnswer n s v m r f → w ≡ value_at v → f ≡ g → IsFittingAnswer n s w m r g
-walked_answer n s v m r f g w k e eg = search (rules, value_placed)

@@ -41,19 +41,14 @@ module _ (old new : Walk) (x : HeaderFields) (s : IsStep old new x) where
   step_len = step_sum fields_len
 
   module _ (v : PlacedFields) (f : ℕ) (e : IsEncodable v) (k : Walked v f old) where
-    pub step_there : v s.place ≡ Some x
-    step_there = cc
-
     abbrev encoded : (h : ExtHeader) × IsEncoded (number_in s.place) x h
-    encoded = e.encoded s.place x step_there
+    encoded = e.encoded s.place x (cc)
 
     abbrev pub walked_more : Walked v f new
-    walked_more = let h = encoded in record {
-      reached = k.reached ++ h.0 ∷ [];
-      walking = walks_on v f k.reached (λ p. at p old.reached) old.number.0 old.first k.walking s.place x h.0 s.own step_there h.1 (λ p. at p new.reached) new.number.0
-          new.first step_fills (search (rules, next_said)) s.first;
-      value = cc;
-    }
+    walked_more =
+        let h = encoded in
+        let goes = walks_on v f k.reached (λ p. at p old.reached) old.number.0 old.first k.walking s.place x h.0 s.own (cc) h.1 (λ p. at p new.reached) new.number.0 new.first step_fills in
+        record { reached = k.reached ++ h.0 ∷ []; walking = search (rules, next_said); value = cc }
 
 -- a place was checked: its header was reached, or the walk is unchanged
 pub walked_in : (v : PlacedFields) (f : ℕ) → IsEncodable v → (old new : Walk) (r : Option HeaderRef) → IfSome r (λ h. IsStep old new (fields_of_ref h)) → IfNone r (new ≡ old)

@@ -23,21 +23,19 @@ module _ (v : Ipv6Extensions) (n : ℕ) where
   value_is : (c : List ExtHeader) → IsValueOf c (placed_fields v) → v ≡ value_of c
   value_is c k = search (rules, placed_fields_one, placed_fields-value_of)
 
-  value_holds : (c : List ExtHeader) → v ≡ value_of c → IsValueOf c (placed_fields v)
-  value_holds c e p = cc (placed_fields-value_of c p)
-
   abbrev pub IsReadAsValue : ℕ → List ℕ → Type 0
   IsReadAsValue m s = IsParsed FitsPlaces (λ c. value_of c ≡ v) n m s
 
   pub answer_exactly : IsEncodable (placed_fields v) → (a : WalkAnswer) → IsWalkAnswer (placed_fields v) n a → (m : IpNumber) → (a ≡ Ok m) ↔ ((s : List ℕ) × IsReadAsValue m.0 s)
   answer_exactly e a k m =
       let both = leads_exactly (placed_fields v) n e a k m.0 in
-      (λ w. search (rules, value_is, both.0 w), λ r. search (rules, value_holds, both.1))
+      (λ w. search (rules, value_is, both.0 w), λ r. search (rules, placed_fields-value_of, both.1))
 
   -- the encoding of a value parsed from bytes, whatever was left after it
   read_spelled : (s : List ℕ) → AreBytes s → value_of (fitting_chain n s) ≡ v → IsSpelling (placed_fields v) n (cleared_chain (fitting_chain n s))
   read_spelled s bytes e =
-      let l = fitting_longest n s in search (rules, cleared_spells (placed_fields v) n (fitting_chain n s), All-take (λ x. x < 256) (length (bytes_of (fitting_chain n s))) s bytes, value_holds)
+      let l = fitting_longest n s in
+      search (rules, cleared_spells (placed_fields v) n (fitting_chain n s), All-take (λ x. x < 256) (length (bytes_of (fitting_chain n s))) s bytes, placed_fields-value_of)
 
   module _ (old new : List ℕ) (w : IsWritten v n old new) where
     pub written_len : length new ≡ length old + exts_len v

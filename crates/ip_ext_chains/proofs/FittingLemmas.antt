@@ -51,12 +51,10 @@ module _ (n : ℕ) (s : List ℕ) (left : List ExtHeader) (v : Places Ipv6Extens
   -- If headers are left, the place of the next one is occupied.
   pub walk_stops : left ≢ [] → (m : ℕ) → IsChain m left → (r : List ℕ) → r ≡ drop (length (bytes_of (longest_chain n s)) - length (bytes_of left)) s → IsPlacedAnswer n s v m r None
   walk_stops some m chain r er =
-      let c : List ExtHeader = k.run in
-      let whole : longest_chain n s ≡ c ++ left = cc in
-      let p : IsPrefixChain n s (c ++ left) = rw (← whole) (longest_chain-longest n s).has in
-      let after = chain_after n c left p.chain in
-      let occupied = next_occupied n s c left p k.kept.meets (rw (← k.left) k.kept.breaks) in
-      let fits = run_fits in search (rules, number_before-some m 0, number_before-some (leads_to n c) 0, flat_map-append, length-append, no_fault_occupied)
+      let p : IsPrefixChain n s (k.run ++ left) = search (rules, longest_chain-longest) in
+      let after = chain_after n k.run left p.chain in
+      let occupied = next_occupied n s k.run left p k.kept.meets (rw (← k.left) k.kept.breaks) in
+      let fits = run_fits in search (rules, number_before-some m 0, number_before-some (leads_to n k.run) 0, flat_map-append, length-append, no_fault_occupied)
 
   -- If none are, it is the whole chain, and the error is that of the chain unless the number is occupied.
   module _ (none : left ≡ []) (m : ℕ) (r : List ℕ) (f : Option Fault) (em : m ≡ leads_to n (longest_chain n s)) (er : r ≡ rest_after (longest_chain n s) s) (ef : f ≡ chain_fault n s) where
@@ -97,11 +95,3 @@ module _ (n : ℕ) (c : List ExtHeader) (m : ℕ) (chain : IsChain n c) (fits : 
 -- At an extension number whose place is free there is an error after the chain.
 pub fitting_fault_at_end : (n : ℕ) (s : List ℕ) (c : List ExtHeader) → IsLongestUnder FitsPlaces n s c → IsExtensionNumber (leads_to n c) → (IsOccupied (leads_to n c) c → ⊥) → IsSome (fault_after fitting_faults c n s)
 fitting_fault_at_end n s c l number free = search (rules, fault_at_end, fitting_ends, same_fault_free)
-
--- the walk's result is all that the parse needs
-module _ (n : ℕ) (s : List ℕ) (v : Places Ipv6ExtensionSlice) (m : ℕ) (r : List ℕ) (f : Option Fault) (k : IsPlacedAnswer n s v m r f) where
-  pub walked_numbers : AreOfNumber v
-  walked_numbers = placed_numbers (fitting_chain n s) v k.placed
-
-  pub walked_answer : (w : Ipv6Extensions) (g : Option Fault) → w ≡ value_at v → f ≡ g → IsFittingAnswer n s w m r g
-  walked_answer w g e eg = search (rules, value_placed)

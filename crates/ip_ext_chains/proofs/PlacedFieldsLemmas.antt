@@ -26,21 +26,13 @@ exts_sum v = search rules
 
 -- The final place has destination options only with a routing header, so a struct can be written if each of its
 -- headers can.
-pub nested : (o : Option Ipv6RoutingExtensions) → is_some (option_map raw_header (final_of o)) ≡ true → is_some (option_map (λ r. raw_header r.routing) o) ≡ true
-nested o e = search rules
-
 abbrev CanBe : ℕ → Option HeaderFields → Type 0
 CanBe n o = ForSome o (λ x. (h : ExtHeader) × IsEncoded n x h)
 
-pub encodable_where : (v : Ipv6Extensions) → CanBe 0 (placed_fields v hop_by_hop) → CanBe 60 (placed_fields v destination) → CanBe 43 (placed_fields v routing) → CanBe 44 (placed_fields v fragment) → CanBe 51 (placed_fields v authentication) → CanBe 60 (placed_fields v final_destination) → IsEncodable (placed_fields v)
-encodable_where v a b d e f g = record {
-  encoded = λ p. elim p as (λ q. CanBe (number_in q) (placed_fields v q)) [
-    | hop_by_hop ↦ a
-    | destination ↦ b
-    | routing ↦ d
-    | fragment ↦ e
-    | authentication ↦ f
-    | final_destination ↦ g
-  ];
-  nested = nested v.routing;
-}
+module _ (v : Ipv6Extensions) (a : CanBe 0 (placed_fields v hop_by_hop)) (b : CanBe 60 (placed_fields v destination)) (d : CanBe 43 (placed_fields v routing)) (e : CanBe 44 (placed_fields v fragment)) (f : CanBe 51 (placed_fields v authentication)) (g : CanBe 60 (placed_fields v final_destination)) where
+  encoded_in : (p : Place) → CanBe (number_in p) (placed_fields v p)
+  encoded_in hop_by_hop = a
+  encoded_in p = search rules
+
+  pub encodable_where : IsEncodable (placed_fields v)
+  encodable_where = record { encoded = encoded_in; nested = search rules }

@@ -25,13 +25,8 @@ module _ (c : List ExtHeader) (v : Places Ipv6ExtensionSlice) (k : ArePlaced c v
   placed_numbers p = search (rules, in_place_number p c, k p)
 
   -- the headers in the places are the value of the chain
-  map_map : {A : Type 0} (f : ExtHeader → A) (o : Option Ipv6ExtensionSlice) → option_map (λ h. f (header_of h)) o ≡ option_map f (option_map header_of o)
-  map_map f o = search rules
-
   same_at : {A : Type 0} (f : ExtHeader → A) (p : Place) → option_map (λ h. f (header_of h)) (at p v) ≡ option_map f (header_in p c)
-  same_at f p = map_map f (at p v) ∙ ap (option_map f) (k p)
+  same_at f p = rw (← k p) (search rules)
 
   pub value_placed : value_at v ≡ value_of c
-  value_placed =
-      let raw : (p : Place) → raw_at p v ≡ raw_in p c = same_at (λ h. raw_fields h.bytes) in
-      rw (raw hop_by_hop, raw destination, raw routing, raw final_destination, same_at (λ h. fragment_fields h.bytes) fragment, same_at (λ h. auth_fields h.bytes) authentication) refl
+  value_placed = simp (same_at (λ h. raw_fields h.bytes), same_at (λ h. fragment_fields h.bytes), same_at (λ h. auth_fields h.bytes))

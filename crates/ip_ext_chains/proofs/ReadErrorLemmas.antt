@@ -47,9 +47,7 @@ module _ {T : Type 0} (bytes_left : T → Option (List ℕ)) (is_steady has_fail
   refused_error (read.Content HopByHopNotAtStart) old new n k = search (rules, lift_some, of_all, later_is)
   refused_error (read.Content (IpAuth ZeroPayloadLen)) old new n k = search (rules, lift_some, of_begun, zero_is)
 
--- Within a limit.
-module _ {T : Type 0} (bytes_left : T → Option (List ℕ)) (is_steady has_failed : T → Bool) where
-  -- a refused request of a header is a refusal of the header
+  -- within a limit a refused request of a header is a refusal of the header
   pub request_refused : (e : LimitedReadError) (m : ℕ) (old new : LimitedReader T) → IsRefusedInLayer bytes_left is_steady has_failed (Asks m) (layer_of m) old new e
       → IsHeaderRefusedInLayer bytes_left is_steady has_failed (of_limited_error e) true m old new
   request_refused e m old new r = search rules

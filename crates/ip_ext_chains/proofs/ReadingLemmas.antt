@@ -1,6 +1,8 @@
 -- A chain that is read, header by header, into six places.
+use Rattle.std.specs.Option.{is_none}
+use Rattle.std.specs.List.{filter}
+use Rattle.ip_spec.proofs.Common.{length, places, ◌≡◌, ◌≢◌, ℕ, ◌+◌, ◌<◌, List, ◌∷◌, ◌++◌, inl, inr, Bool, true, false, rules, [], ◌==◌, Option, Some, None, is_some, if◌then◌else◌, ne_eqb, IsHeader, ExtHeader, IsChain, leads_to, bytes_of, is_empty, FitsPlaces, Place, hop_by_hop, destination, routing, authentication, final_destination, index, number_in, header_in, next_place, next_in_chain, IsOccupied, fields_of, raw_header}
 use Rattle.ip_spec.proofs.StepLemmas.{chain_more}
-use Rattle.ip_spec.proofs.Common.{◌≡◌, ◌≢◌, ℕ, ◌+◌, ◌<◌, List, ◌∷◌, ◌++◌, inl, inr, Bool, true, false, rules, [], ◌==◌, Option, Some, None, is_some, if◌then◌else◌, ne_eqb, IsHeader, ExtHeader, IsChain, leads_to, bytes_of, is_empty, FitsPlaces, Place, hop_by_hop, destination, routing, authentication, final_destination, index, number_in, header_in, next_place, next_in_chain, IsOccupied, fields_of, raw_header}
 use Rattle.ip_spec.specs.Places.{fragment}
 use Rattle.ip_spec.proofs.ChainLemmas.{leads_to-more}
 use Rattle.ip_ext_chains.proofs.FittingLemmas.{occupied_answers, other_answers}
@@ -36,6 +38,13 @@ module _ (c : List ExtHeader) (v : Ipv6Extensions) (e : v ≡ value_of c) where
 put_held : (p q : Place) (b : List ℕ) (v : Ipv6Extensions) → is_some (placed_fields v p) ≡ false → (p ≡ final_destination → is_some v.routing ≡ true)
     → placed_fields (with_header p b v) q ≡ (if index p == index q then Some (fields_of (record { number = number_in p; bytes = b })) else placed_fields v q)
 put_held p q b v free nested = search rules
+
+-- the number of empty places
+abbrev pub free_places : Ipv6Extensions → ℕ
+free_places v = length (filter (λ p. is_none (placed_fields v p)) places)
+
+fewer_at : (p : Place) (b : List ℕ) (v : Ipv6Extensions) → is_some (placed_fields v p) ≡ false → (p ≡ final_destination → is_some v.routing ≡ true) → free_places (with_header p b v) < free_places v
+fewer_at p b v free nested = search rules
 
 module _ (n : ℕ) (c : List ExtHeader) (m : ℕ) (v : Ipv6Extensions) (first : Bool) (k : IsReading n c m v first) where
   -- a number without a place, other than 0, ends the chain
@@ -78,19 +87,6 @@ module _ (n : ℕ) (c : List ExtHeader) (m : ℕ) (v : Ipv6Extensions) (first : 
           none_yet = not_empty c h;
         }
 
--- the number of empty places
-abbrev pub count_empty : {A : Type 0} → Option A → ℕ
-count_empty None = 1
-count_empty (Some x) = 0
-
-abbrev pub free_places : Ipv6Extensions → ℕ
-free_places v =
-    count_empty (placed_fields v hop_by_hop) + (count_empty (placed_fields v destination) + (count_empty (placed_fields v routing) + (count_empty (placed_fields v fragment) + (count_empty (placed_fields v authentication) + count_empty (placed_fields v final_destination)))))
-
-fewer_at : (p : Place) (b : List ℕ) (v : Ipv6Extensions) → is_some (placed_fields v p) ≡ false → (p ≡ final_destination → is_some v.routing ≡ true) → free_places (with_header p b v) < free_places v
-fewer_at p b v free nested = search rules
-
--- each header that is read occupies one
-module _ (n : ℕ) (c : List ExtHeader) (m : ℕ) (v : Ipv6Extensions) (first : Bool) (k : IsReading n c m v first) where
-  pub fewer : (Consumed : List ℕ → Type 0) (p : Place) (j : ℕ) (w : Ipv6Extensions) → next_in_chain first (placed_fields v) m ≡ Some p → IsReadInto Consumed p j v w → free_places w < free_places v
-  fewer Consumed p j w next r = search (rules, fewer_at, free n c m v first k p, nested n c m v first k p)
+    -- a header that is read occupies one place
+    pub fewer : (Consumed : List ℕ → Type 0) (j : ℕ) (w : Ipv6Extensions) → IsReadInto Consumed p j v w → free_places w < free_places v
+    fewer Consumed j w r = search (rules, fewer_at, free, nested)

@@ -18,11 +18,8 @@ pub record IsRewriting (n : ℕ) (s : List ℕ) (r : Ipv6ExtensionsRuns) (m coun
 
 -- the next run is returned
 module _ (n : ℕ) (s : List ℕ) (r q : Ipv6ExtensionsRuns) (m count : ℕ) (out : List ℕ) (x : Ipv6Extensions) (k : IsRewriting n s r m count out) (given : GivesRun r (Some x) q) where
-  abbrev passes : PassesRun r q
-  passes = given.3
-
   abbrev run : List ExtHeader
-  run = passes.0
+  run = given.3.0
 
   pub rewriting_spelled : IsSpelling (placed_fields x) m (cleared_chain run)
   rewriting_spelled = search rules

@@ -1,5 +1,5 @@
 -- Headers stored in their places, and the end of a run.
-use Rattle.ip_spec.proofs.Common.{common_steps, ◌≡◌, ◌≢◌, ℕ, List, ◌∷◌, ◌++◌, length, map, nat_eq, arith, refl, Bool, true, false, append_assoc, rules, [], Option, Some, None, if◌then◌else◌, eqb-true, YieldsList, YieldsList-from_shown, ExtHeader, bytes_of, IsChain, IsLaterNumber, FitsPlaces, Place, header_in, next_place}
+use Rattle.ip_spec.proofs.Common.{take, common_steps, ◌≡◌, ◌≢◌, ℕ, List, ◌∷◌, ◌++◌, length, map, nat_eq, arith, refl, Bool, true, false, append_assoc, rules, [], Option, Some, None, if◌then◌else◌, eqb-true, YieldsList, YieldsList-from_shown, ExtHeader, bytes_of, IsChain, IsLaterNumber, FitsPlaces, Place, header_in, next_place}
 use Rattle.ip_spec.proofs.PlaceLemmas.{placed, fits_more, own_next, fits_where_next}
 use Rattle.ip_spec.proofs.WalkLemmas.{none_if}
 use Rattle.ip_ext_slices.specs.Ipv6ExtensionSlice.{header_of}
@@ -29,13 +29,9 @@ pub record IsPlacing (c left : List ExtHeader) (v : Places Ipv6ExtensionSlice) :
 pub placing_more : (c : List ExtHeader) (m : ℕ) (h : Ipv6ExtensionSlice) (left : List ExtHeader) (v w : Places Ipv6ExtensionSlice) (p : Place) → IsChain m (header_of h ∷ left) → IsPlacing c (header_of h ∷ left) v → next_place (λ q. at q v) m ≡ Some p → IsPut p h v w → IsPlacing c left w
 placing_more c m h left v w p chain k next put =
     let own = own_next (λ q. header_in q k.run) (header_of h).number p (cc (next_same k.run v k.placed m)) in
-    let none = none_if (header_in p k.run) own.1 in
-    record {
-      run = k.run ++ header_of h ∷ [];
-      whole = search (rules, append_assoc);
-      fits = search (rules, fits_more);
-      placed = λ q. search (rules, put q, mapped_if, k.placed q, placed k.run (header_of h) p own.0 none q);
-    }
+    let fits = fits_more k.run (header_of h) p k.fits own.0 own.1 in
+    let placed = placed k.run (header_of h) p own.0 (none_if (header_in p k.run) own.1) in
+    record { run = k.run ++ header_of h ∷ []; whole = search (rules, append_assoc); fits = fits; placed = λ q. search (rules, put q, mapped_if, k.placed q, placed q) }
 
 -- The run ends if no header is left, or if the place of the next one is occupied.
 pub run_all : (c left after : List ExtHeader) (v : Places Ipv6ExtensionSlice) → IsPlacing c left v → (left ≡ []) × (after ≡ []) → IsRun c v after
@@ -48,9 +44,6 @@ run_ends c (h ∷ left) v m chain k none =
     let fits = fits_where_next k.run h k.fits (header_number h.number h.bytes chain.headers.0) in
     record { run = k.run; kept = record { rest = h ∷ left; joined = k.whole; meets = k.fits; breaks = search rules }; left = refl; placed = k.placed }
 
-pub run_numbers : (c d : List ExtHeader) (v : Places Ipv6ExtensionSlice) → IsRun c v d → AreOfNumber v
-run_numbers c d v r = placed_numbers r.run v r.placed
-
 -- bytes are left if and only if headers are
 module _ (n : ℕ) (s : List ℕ) (whole : bytes_of (longest_chain n s) ≡ s) where
   pub none_left : nat_eq (length s) 0 ≡ true → longest_chain n s ≡ []
@@ -61,16 +54,9 @@ module _ (n : ℕ) (s : List ℕ) (whole : bytes_of (longest_chain n s) ≡ s) w
 
 -- The step of the iterator: the value of the places is that of the first run, and those of the others follow.
 module _ (m : ℕ) (c d : List ExtHeader) (v : Places Ipv6ExtensionSlice) (r : IsRun c v d) where
-  abbrev next : Option Place
-  next = next_place (λ p. at p v) m
-
-  pub run_passes : (before done : Bool) → before ≡ false → (done ≡ true → (d ≡ []) × (IsLaterNumber m → next ≢ None)) → (done ≡ false → d ≡ [] → IsLaterNumber m × (next ≡ None))
+  pub run_passes : (before done : Bool) → before ≡ false → (done ≡ true → (d ≡ []) × (IsLaterNumber m → next_place (λ p. at p v) m ≢ None)) → (done ≡ false → d ≡ [] → IsLaterNumber m × (next_place (λ p. at p v) m ≡ None))
       → (if before then [] else runs_from m c) ≡ r.run ∷ (if done then [] else runs_from m d)
-  run_passes before done some ends on = let same = next_same r.run v r.placed m in let next = runs_from-next m c r.run r.kept done in search rules
-
-  pub run_next : (before done : Bool) (x : Ipv6Extensions) → before ≡ false → x ≡ value_at v → (done ≡ true → (d ≡ []) × (IsLaterNumber m → next ≢ None)) → (done ≡ false → d ≡ [] → IsLaterNumber m × (next ≡ None))
-      → map value_of (if before then [] else runs_from m c) ≡ x ∷ map value_of (if done then [] else runs_from m d)
-  run_next before done x some is ends on = let passes = run_passes before done some ends on in let value = value_placed r.run v r.placed in search rules
+  run_passes before done some ends on = search (rules, next_same r.run v r.placed, runs_from-next m c r.run r.kept done)
 
 -- the items of an iterator over runs
 pub runs_yield : (r : Ipv6ExtensionsRuns) (all : List Ipv6Extensions) → values_left r ≡ all → YieldsList GivesRun (λ x. x) r all

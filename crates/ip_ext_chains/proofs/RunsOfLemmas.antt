@@ -14,9 +14,6 @@ use Rattle.ip_ext_slices.specs.declared.ipv6_ext_slice.Ipv6ExtensionSlice.{Ipv6E
 pub runs_from-runs : (m : ℕ) (c : List ExtHeader) → AreRuns m c (runs_from m c)
 runs_from-runs m c = (some_runs m c).1
 
-pub runs_from-is : (m : ℕ) (c : List ExtHeader) (ps : List (List ExtHeader)) → AreRuns m c ps → runs_from m c ≡ ps
-runs_from-is m c ps a = search (rules, one_runs, runs_from-runs)
-
 -- there is always a first run
 pub some_value_left : (done : Bool) (m : ℕ) (c : List ExtHeader) → done ≡ false → map value_of (if done then [] else runs_from m c) ≢ []
 some_value_left done m c w = λ e. grind (arith, common_steps, some_run m c (runs_from m c) (runs_from-runs m c))
@@ -25,12 +22,13 @@ some_value_left done m c w = λ e. grind (arith, common_steps, some_run m c (run
 pub runs_from-next : (m : ℕ) (c p : List ExtHeader) (k : KeepsBeginning FitsPlaces c p) (done : Bool) → (done ≡ true → (k.rest ≡ []) × (IsOccupied m p → ⊥)) → (done ≡ false → k.rest ≡ [] → IsOccupied m p) → runs_from m c ≡ p ∷ (if done then [] else runs_from m k.rest)
 runs_from-next m c p k true ends on =
     let last = ends refl in
-    let whole : c ≡ p = cc (append-nil p) in search (rules, runs_from-is)
-runs_from-next m c p k false ends on = let more = runs_more m c p k (on refl) in search (rules, runs_from-is, runs_from-runs)
+    let whole : c ≡ p = cc (append-nil p) in search (rules, one_runs m c (runs_from m c), runs_from-runs)
+runs_from-next m c p k false ends on = let more = runs_more m c p k (on refl) in search (rules, one_runs m c (runs_from m c), runs_from-runs)
 
+-- The headers of a chain at the start of bytes are bytes, and so are those of its parts.
 module _ (c d : List ExtHeader) (b : AreBytes (bytes_of (c ++ d))) where
   both_bytes : AreBytes (bytes_of c ++ bytes_of d)
-  both_bytes = subst AreBytes (flat_map-append (λ (h : ExtHeader). h.bytes) c d) b
+  both_bytes = rw (← flat_map-append) b
 
   pub first_bytes : AreBytes (bytes_of c)
   first_bytes = rw (← take-append_seam (bytes_of c) (bytes_of d)) (All-take (λ x. x < 256) (length (bytes_of c)) _ both_bytes)

@@ -41,19 +41,14 @@ module _ (old new : Walk) (x : HeaderFields) (s : IsStep old new x) where
   step_len = step_sum fields_len
 
   module _ (v : PlacedFields) (f : ℕ) (e : IsEncodable v) (k : Walked v f old) where
-    pub step_there : v s.place ≡ Some x
-    step_there = cc
-
     abbrev encoded : (h : ExtHeader) × IsEncoded (number_in s.place) x h
-    encoded = e.encoded s.place x step_there
+    encoded = e.encoded s.place x (cc)
 
     abbrev pub walked_more : Walked v f new
-    walked_more = let h = encoded in record {
-      reached = k.reached ++ h.0 ∷ [];
-      walking = walks_on v f k.reached (λ p. at p old.reached) old.number.0 old.first k.walking s.place x h.0 s.own step_there h.1 (λ p. at p new.reached) new.number.0
-          new.first step_fills (search (rules, next_said)) s.first;
-      value = cc;
-    }
+    walked_more =
+        let h = encoded in
+        let goes = walks_on v f k.reached (λ p. at p old.reached) old.number.0 old.first k.walking s.place x h.0 s.own (cc) h.1 (λ p. at p new.reached) new.number.0 new.first step_fills in
+        record { reached = k.reached ++ h.0 ∷ []; walking = search (rules, next_said); value = cc }
 
 -- a place was checked: its header was reached, or the walk is unchanged
 pub walked_in : (v : PlacedFields) (f : ℕ) → IsEncodable v → (old new : Walk) (r : Option HeaderRef) → IfSome r (λ h. IsStep old new (fields_of_ref h)) → IfNone r (new ≡ old)
@@ -62,14 +57,11 @@ walked_in v f e old new r some none k = grind (arith, common_steps, walked_more)
 
 -- if none follows, the walk has the result of what is left
 module _ (v : PlacedFields) (f : ℕ) (old new : Walk) (k : Walked v f old) (s : IsStop old new) where
-  none_next : (p : Place) → next_in_chain old.first (λ q. at q old.reached) old.number.0 ≡ Some p → v p ≡ None
-  none_next p at = rw (← k.value) (s.none p at)
-
   pub walked_answer : (a : WalkAnswer) → a ≡ answer_at new.number.0 (left_in new) → IsWalkAnswer v f a
-  walked_answer a e = walk_answers v f k.reached (λ p. at p old.reached) old.number.0 old.first k.walking (left_in new) new.number.0 a none_next (λ p. search (rules, s.left p)) s.number e
+  walked_answer a e = search (rules, walk_answers v f k.reached (λ p. at p old.reached) old.number.0 old.first k.walking, s.left, s.none)
 
   pub walked_reach : IsLongestOf (IsReachable v f) k.reached
-  walked_reach = search (rules, walk_stops, none_next)
+  walked_reach = search (rules, walk_stops v f k.reached (λ p. at p old.reached) old.number.0 old.first k.walking, s.none)
 
 -- The headers reached were appended to `before`, and there is room for the remaining ones.
 pub record Written (v : PlacedFields) (f : ℕ) (w : Walk) (before now : List ℕ) (room : ℕ) : Type 0 where

@@ -1,5 +1,5 @@
 -- A struct of six places as it is parsed, and as it is written.
-use Rattle.ip_spec.proofs.Common.{◌≡◌, ℕ, ◌+◌, ◌<◌, List, ◌++◌, length, ap, sym, arith, rules, Ok, Err, None, ◌↔◌, append_cancel_left, length-append, All-take, IsLongestOf, IsExtensionNumber, AreBytes, cleared_chain, ExtHeader, leads_to, bytes_of, FitsPlaces, IsEncodable, IsValueOf, IsSpelling, IsReachable, IsWalkAnswer, IsParsed}
+use Rattle.ip_spec.proofs.Common.{common_steps, ◌≡◌, ℕ, ◌+◌, ◌<◌, List, ◌++◌, length, ap, sym, arith, rules, Ok, Err, None, ◌↔◌, append_cancel_left, length-append, All-take, IsLongestOf, IsExtensionNumber, AreBytes, cleared_chain, ExtHeader, leads_to, bytes_of, FitsPlaces, IsEncodable, IsValueOf, IsSpelling, IsReachable, IsWalkAnswer, IsParsed}
 use Rattle.ip_spec.proofs.FitsLemmas.{fits_places}
 use Rattle.ip_spec.proofs.ParsedLemmas.{whole_parsed}
 use Rattle.ip_spec.proofs.WalkLemmas.{WalkAnswer, one_reach}
@@ -23,37 +23,19 @@ module _ (v : Ipv6Extensions) (n : ℕ) where
   value_is : (c : List ExtHeader) → IsValueOf c (placed_fields v) → v ≡ value_of c
   value_is c k = search (rules, placed_fields_one, placed_fields-value_of)
 
-  value_holds : (c : List ExtHeader) → v ≡ value_of c → IsValueOf c (placed_fields v)
-  value_holds c e p = cc (placed_fields-value_of c p)
-
-  -- parsing as the fields of v is parsing as v, and vice versa
-  abbrev pub IsReadAsHeld : ℕ → List ℕ → Type 0
-  IsReadAsHeld m s = IsParsed FitsPlaces (λ c. IsValueOf c (placed_fields v)) n m s
-
   abbrev pub IsReadAsValue : ℕ → List ℕ → Type 0
   IsReadAsValue m s = IsParsed FitsPlaces (λ c. value_of c ≡ v) n m s
-
-  read_as_value : (m : ℕ) (s : List ℕ) → IsReadAsHeld m s → IsReadAsValue m s
-  read_as_value m s r = search (rules, value_is)
-
-  read_as_held : (m : ℕ) (s : List ℕ) → IsReadAsValue m s → IsReadAsHeld m s
-  read_as_held m s r = search (rules, value_holds)
 
   pub answer_exactly : IsEncodable (placed_fields v) → (a : WalkAnswer) → IsWalkAnswer (placed_fields v) n a → (m : IpNumber) → (a ≡ Ok m) ↔ ((s : List ℕ) × IsReadAsValue m.0 s)
   answer_exactly e a k m =
       let both = leads_exactly (placed_fields v) n e a k m.0 in
-      (λ w. search (rules, read_as_value, both.0 w), λ r. search (rules, read_as_held, both.1))
+      (λ w. search (rules, value_is, both.0 w), λ r. search (rules, placed_fields-value_of, both.1))
 
   -- the encoding of a value parsed from bytes, whatever was left after it
   read_spelled : (s : List ℕ) → AreBytes s → value_of (fitting_chain n s) ≡ v → IsSpelling (placed_fields v) n (cleared_chain (fitting_chain n s))
   read_spelled s bytes e =
       let l = fitting_longest n s in
-      cleared_spells (placed_fields v) n (fitting_chain n s) l.has.0.chain l.has.1
-      (rw (← l.has.0.prefix) (All-take (λ x. x < 256) (length (bytes_of (fitting_chain n s))) s bytes)) (value_holds (fitting_chain n s) (cc))
-
-  -- a value parsed from bytes has no error
-  pub fault_unread : (e : ExtsWalkError) → IsWalkAnswer (placed_fields v) n (Err e) → (s : List ℕ) → AreBytes s → value_of (fitting_chain n s) ≡ v → ⊥
-  fault_unread e a s bytes k = cc (one_answer (placed_fields v) n (Err e) _ a (spelled_leads (placed_fields v) n (cleared_chain (fitting_chain n s)) (read_spelled s bytes k)))
+      search (rules, cleared_spells (placed_fields v) n (fitting_chain n s), All-take (λ x. x < 256) (length (bytes_of (fitting_chain n s))) s bytes, placed_fields-value_of)
 
   module _ (old new : List ℕ) (w : IsWritten v n old new) where
     pub written_len : length new ≡ length old + exts_len v
@@ -95,4 +77,6 @@ module _ (v : Ipv6Extensions) (n : ℕ) where
       let answer = spelled_leads (placed_fields v) n c s in search rules
 
   pub fault_written : (old new : List ℕ) (e : ExtsWalkError) (c : List ExtHeader) → IsLongestOf (IsReachable (placed_fields v) n) c → IsWalkAnswer (placed_fields v) n (Err e) → new ≡ old ++ bytes_of c → IsWalkFault v n old new e
-  fault_written old new e c reach a appended = record { answer = a; appended = cc (one_reach (placed_fields v) n c a.reach reach a.is_reach); unread = fault_unread e a }
+  fault_written old new e c reach a appended =
+      let same = one_reach (placed_fields v) n c a.reach reach a.is_reach in
+      record { answer = a; appended = cc; unread = λ s bytes k. cc (one_answer (placed_fields v) n _ _ a (spelled_leads (placed_fields v) n _ (read_spelled s bytes k))) }

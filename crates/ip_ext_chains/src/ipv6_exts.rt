@@ -51,6 +51,7 @@ impl Ipv6Extensions {
     /// the number is not an extension header's, and none if its place is occupied: the bytes there aren't parsed. Of
     /// truncated bytes, as in a capture, it returns the headers that lie wholly within them.
     #[inline(always)]
+    #[tactic(auto, using(crate::proofs::PlacedLemmas::value_placed, crate::proofs::FittingLemmas::fitting_shorter))]
     pub fn from_slice_lax(
         start_ip_number: IpNumber,
         start_slice: &[u8],
@@ -75,6 +76,7 @@ impl Ipv6Extensions {
 
     /// Parses the headers as `from_slice_lax` does, and returns the error, if there is one, instead of the headers.
     #[inline(never)]
+    #[tactic(auto, using(crate::proofs::PlacedLemmas::value_placed))]
     pub fn from_slice(
         start_ip_number: IpNumber,
         start_slice: &[u8],

@@ -45,7 +45,6 @@ impl<'a> Ipv6ExtensionsRuns<'a> {
     /// least one run, and at most one per 8 bytes and one more. No header is lost: written one after the other, the
     /// first from `first` and each other from the number to which the one before leads, they are the chain with its
     /// reserved bits zero.
-    #[tactic(auto, using(ip_spec::proofs::RunsLemmas::one_runs, ip_spec::proofs::RunsLemmas::fewest_runs, ip_spec::proofs::RunsLemmas::runs_bound))]
     pub fn new(first: IpNumber, bytes: &'a [u8]) -> Ipv6ExtensionsRuns<'a>
         ensures start { start result ≡ first.0 }
         ensures input { input result ≡ bytes.now }

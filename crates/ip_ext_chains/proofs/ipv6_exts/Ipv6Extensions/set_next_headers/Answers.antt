@@ -7,11 +7,7 @@ use Rattle.ip_ext_chains.proofs.ipv6_exts.Ipv6Extensions.set_next_headers.Goals 
 
 pub returns-clause-links : goal.returns-clause-links
 returns-clause-links c hop_by_hop = search rules
-returns-clause-links c destination = search rules
-returns-clause-links c routing = search rules
-returns-clause-links c fragment = search rules
-returns-clause-links c authentication = search rules
-returns-clause-links c final_destination = search rules
+returns-clause-links c p = search rules
 
 answer_same : (v w : PlacedFields) (f g : ℕ) (a : WalkAnswer) → ((p : Place) → v p ≡ w p) → f ≡ g → IsWalkAnswer w g a → IsWalkAnswer v f a
 answer_same v w f g a e k x = search rules

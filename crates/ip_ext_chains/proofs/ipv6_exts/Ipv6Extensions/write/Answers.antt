@@ -12,24 +12,19 @@ append_next-requires g c =
 
 pub headers-init : goal.headers-init
 headers-init g c =
-    let on = written_in (placed_fields c.args.self.now) c.args.first.0 c.header_len.ensures.encodable in
+    let v = placed_fields c.args.self.now in
+    let on = written_in v c.args.first.0 c.header_len.ensures.encodable in
     let w = c.new-walk.ensures in
-    let n1 = c.append_next.ensures in
-    let n2 = c.append_next-2.ensures in
-    let n3 = c.append_next-3.ensures in
-    let n4 = c.append_next-4.ensures in
-    let n5 = c.append_next-5.ensures in
-    let n6 = c.append_next-6.ensures in (
-      (on _ c.append_next-6.new.walk _ _ c.append_next-6.new.out.items _ (vec_capacity c.append_next-6.new.out) _ n6.some n6.appended n6.none n6.same (omega (arith, n6.room, c.append_next-6.new.out.ok.0))
-          (on _ c.append_next-5.new.walk _ _ c.append_next-5.new.out.items _ (vec_capacity c.append_next-5.new.out) _ n5.some n5.appended n5.none n5.same (omega (arith, n5.room, c.append_next-5.new.out.ok.0))
-          (on _ c.append_next-4.new.walk _ _ c.append_next-4.new.out.items _ (vec_capacity c.append_next-4.new.out) _ n4.some n4.appended n4.none n4.same (omega (arith, n4.room, c.append_next-4.new.out.ok.0))
-          (on _ c.append_next-3.new.walk _ _ c.append_next-3.new.out.items _ (vec_capacity c.append_next-3.new.out) _ n3.some n3.appended n3.none n3.same (omega (arith, n3.room, c.append_next-3.new.out.ok.0))
-          (on _ c.append_next-2.new.walk _ _ c.append_next-2.new.out.items _ (vec_capacity c.append_next-2.new.out) _ n2.some n2.appended n2.none n2.same (omega (arith, n2.room, c.append_next-2.new.out.ok.0))
-          (on _ c.append_next.new.walk _ _ c.append_next.new.out.items _ (vec_capacity c.append_next.new.out) _ n1.some n1.appended n1.none n1.same (omega (arith, n1.room, c.append_next.new.out.ok.0))
-          (written_none (placed_fields c.args.self.now) c.args.first.0 c.new-walk.result (ap placed_fields w.headers) w.number w.first w.reached c.args.out.now.items c.reserve.new.self.items (vec_capacity c.reserve.new.self) c.reserve.ensures.items
-          (omega (arith, c.in_default.ensures.ok, c.header_len.ensures.len, exts_sum c.args.self.now, c.reserve.ensures.len, ap length c.reserve.ensures.items, c.reserve.new.self.ok.0))))))))),
-      omega (arith, c.reserve.ensures.capacity, n1.capacity, n2.capacity, n3.capacity, n4.capacity, n5.capacity, n6.capacity),
-    )
+    let len = exts_sum c.args.self.now in
+    let w0 = written_none v c.args.first.0 c.new-walk.result (ap placed_fields w.headers) w.number w.first w.reached c.args.out.now.items c.reserve.new.self.items (vec_capacity c.reserve.new.self) c.reserve.ensures.items
+    (omega (arith, c.in_default.ensures.ok, c.header_len.ensures.len, len, c.reserve.ensures.len, ap length c.reserve.ensures.items, c.reserve.new.self.ok.0)) in
+    let w1 = on _ c.append_next.new.walk _ _ c.append_next.new.out.items _ (vec_capacity c.append_next.new.out) _ c.append_next.ensures.some c.append_next.ensures.appended c.append_next.ensures.none c.append_next.ensures.same (search rules) w0 in
+    let w2 = on _ c.append_next-2.new.walk _ _ c.append_next-2.new.out.items _ (vec_capacity c.append_next-2.new.out) _ c.append_next-2.ensures.some c.append_next-2.ensures.appended c.append_next-2.ensures.none c.append_next-2.ensures.same (search rules) w1 in
+    let w3 = on _ c.append_next-3.new.walk _ _ c.append_next-3.new.out.items _ (vec_capacity c.append_next-3.new.out) _ c.append_next-3.ensures.some c.append_next-3.ensures.appended c.append_next-3.ensures.none c.append_next-3.ensures.same (search rules) w2 in
+    let w4 = on _ c.append_next-4.new.walk _ _ c.append_next-4.new.out.items _ (vec_capacity c.append_next-4.new.out) _ c.append_next-4.ensures.some c.append_next-4.ensures.appended c.append_next-4.ensures.none c.append_next-4.ensures.same (search rules) w3 in
+    let w5 = on _ c.append_next-5.new.walk _ _ c.append_next-5.new.out.items _ (vec_capacity c.append_next-5.new.out) _ c.append_next-5.ensures.some c.append_next-5.ensures.appended c.append_next-5.ensures.none c.append_next-5.ensures.same (search rules) w4 in
+    let w6 = on _ c.append_next-6.new.walk _ _ c.append_next-6.new.out.items _ (vec_capacity c.append_next-6.new.out) _ c.append_next-6.ensures.some c.append_next-6.ensures.appended c.append_next-6.ensures.none c.append_next-6.ensures.same (search rules) w5 in
+    (w6, search rules)
 
 pub headers-preserved : goal.headers-preserved
 headers-preserved g c =

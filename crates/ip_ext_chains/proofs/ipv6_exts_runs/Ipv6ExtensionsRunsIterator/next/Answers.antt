@@ -1,18 +1,19 @@
 use Rattle.ip_spec.proofs.Common.{rules}
 use Rattle.ip_ext_slices.proofs.LongestLemmas.{longest_chain-longest}
-use Rattle.ip_ext_chains.proofs.RunLemmas.{run_numbers, run_next, run_passes}
+use Rattle.ip_ext_chains.proofs.RunLemmas.{run_passes}
+use Rattle.ip_ext_chains.proofs.PlacedLemmas.{placed_numbers, value_placed}
 use Rattle.ip_ext_chains.proofs.RunsOfLemmas.{run_leads, ends_after, bytes_after}
 use Rattle.ip_ext_chains.proofs.ipv6_exts_runs.Ipv6ExtensionsRunsIterator.next.Goals as goal
 
 pub fill-requires-clause-numbers : goal.fill-requires-clause-numbers
-fill-requires-clause-numbers c = run_numbers _ _ _ c.take_run-places.ensures
+fill-requires-clause-numbers c = placed_numbers _ _ c.take_run-places.ensures.placed
 
 pub returns-clause-steps : goal.returns-clause-steps
 returns-clause-steps c =
     let last = c.is_last-self.ensures in
     let r = c.args.self.now in
     let run = c.take_run-places.ensures in
-    let next = run_next r.number.0 _ _ _ run r.done c.is_last-self.result _ c.if-self.false c.fill.ensures last.last last.more in
+    let value = value_placed run.run _ run.placed in
     let passes = run_passes r.number.0 _ _ _ run r.done c.is_last-self.result c.if-self.false last.last last.more in
     let leads = run_leads _ _ _ _ _ (longest_chain-longest _ _).has.chain r.ends run in
     search rules

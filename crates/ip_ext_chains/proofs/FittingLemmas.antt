@@ -15,14 +15,14 @@ use Rattle.ip_ext_chains.specs.Fitting.{fitting_chain, fitting_faults, fitting_f
 use Rattle.ip_base.specs.declared.len_source.LenSource.TheVariants.{Slice}
 use Rattle.ip_ext_slices.specs.ChainFault.{Fault, fault_at, chain_faults, chain_fault}
 use Rattle.ip_ext_chains.specs.Ipv6Extensions.{value_of}
-use Rattle.ip_ext_chains.specs.Slots.{at, value_at, AreOfNumber}
+use Rattle.ip_ext_chains.specs.Slots.{at}
 use Rattle.ip_ext_chains.specs.Run.{IsRun}
 use Rattle.ip_ext_slices.specs.declared.ipv6_ext_slice.Ipv6ExtensionSlice.{Ipv6ExtensionSlice}
 use Rattle.ip_ext_chains.specs.declared.ipv6_exts.Ipv6Extensions.{Ipv6Extensions}
 use Rattle.ip_ext_chains.specs.declared.places.Places.{Places}
 use Rattle.ip_ext_slices.proofs.LongestLemmas.{longest_chain-longest}
 use Rattle.ip_ext_chains.proofs.RunsOfLemmas.{number_before-some}
-use Rattle.ip_ext_chains.proofs.PlacedLemmas.{next_same, value_placed, placed_numbers}
+use Rattle.ip_ext_chains.proofs.PlacedLemmas.{next_same}
 
 pub fitting_longest : (n : ℕ) (s : List ℕ) → IsLongestUnder FitsPlaces n s (fitting_chain n s)
 fitting_longest n s = (some_longest_under FitsPlaces fits_places n s).1
@@ -52,9 +52,8 @@ module _ (n : ℕ) (s : List ℕ) (left : List ExtHeader) (v : Places Ipv6Extens
   pub walk_stops : left ≢ [] → (m : ℕ) → IsChain m left → (r : List ℕ) → r ≡ drop (length (bytes_of (longest_chain n s)) - length (bytes_of left)) s → IsPlacedAnswer n s v m r None
   walk_stops some m chain r er =
       let p : IsPrefixChain n s (k.run ++ left) = search (rules, longest_chain-longest) in
-      let after = chain_after n k.run left p.chain in
       let occupied = next_occupied n s k.run left p k.kept.meets (rw (← k.left) k.kept.breaks) in
-      let fits = run_fits in search (rules, number_before-some m 0, number_before-some (leads_to n k.run) 0, flat_map-append, length-append, no_fault_occupied)
+      let fits = run_fits in search (rules, chain_after n k.run left p.chain, number_before-some m 0, number_before-some (leads_to n k.run) 0, flat_map-append, length-append, no_fault_occupied)
 
   -- If none are, it is the whole chain, and the error is that of the chain unless the number is occupied.
   module _ (none : left ≡ []) (m : ℕ) (r : List ℕ) (f : Option Fault) (em : m ≡ leads_to n (longest_chain n s)) (er : r ≡ rest_after (longest_chain n s) s) (ef : f ≡ chain_fault n s) where

@@ -1,12 +1,11 @@
 -- A struct of six places, and its fields in each.
-use Rattle.ip_spec.proofs.Common.{◌≡◌, ℕ, List, true, rules, Option, None, is_some, option_map, ForSome, raw_fields, ExtHeader, Place, hop_by_hop, destination, routing, authentication, final_destination, number_in, header_in, HeaderFields, raw_header, fields_of, IsEncoded, IsEncodable, placed_len}
+use Rattle.ip_spec.proofs.Common.{◌≡◌, ℕ, List, rules, Option, None, option_map, ForSome, raw_fields, ExtHeader, Place, hop_by_hop, destination, routing, authentication, final_destination, number_in, header_in, HeaderFields, fields_of, IsEncoded, IsEncodable, placed_len}
 use Rattle.ip_spec.specs.Places.{fragment}
 use Rattle.ip_spec.proofs.PlaceLemmas.{none_after}
 use Rattle.ip_spec.proofs.EncodedLemmas.{same_fragment, same_auth}
 use Rattle.ip_spec.proofs.WalkLemmas.{is_some-map}
-use Rattle.ip_ext_chains.specs.Ipv6Extensions.{value_of, raw_in, final_of, placed_fields, exts_len}
+use Rattle.ip_ext_chains.specs.Ipv6Extensions.{value_of, raw_in, placed_fields, exts_len}
 use Rattle.ip_ext_chains.specs.declared.ipv6_exts.Ipv6Extensions.{Ipv6Extensions}
-use Rattle.ip_ext_chains.specs.declared.ipv6_routing_exts.Ipv6RoutingExtensions.{Ipv6RoutingExtensions}
 use Rattle.ip_ext_chains.proofs.PlacedLemmas.{in_place_number}
 
 no_final : (c : List ExtHeader) → raw_in routing c ≡ None → raw_in final_destination c ≡ None

@@ -1,12 +1,11 @@
 -- Headers in their places.
-use Rattle.ip_spec.proofs.Common.{◌≡◌, ℕ, List, refl, ap, ◌∙◌, Bool, rules, Option, Some, if◌then◌else◌, option_map, eqb-true, raw_fields, fragment_fields, auth_fields, ExtHeader, Place, hop_by_hop, destination, routing, authentication, final_destination, number_in, header_in, next_place}
-use Rattle.ip_spec.specs.Places.{fragment}
+use Rattle.ip_spec.proofs.Common.{◌≡◌, ℕ, List, Bool, rules, Option, Some, if◌then◌else◌, option_map, eqb-true, raw_fields, fragment_fields, auth_fields, ExtHeader, Place, number_in, header_in, next_place}
 use Rattle.ip_spec.proofs.FirstLemmas.{find_passes}
 use Rattle.ip_spec.proofs.PlaceLemmas.{is_of, side, next_alike}
 use Rattle.ip_spec.proofs.WalkLemmas.{is_some-map}
 use Rattle.ip_ext_slices.specs.Ipv6ExtensionSlice.{header_of}
-use Rattle.ip_ext_chains.specs.Slots.{at, ArePlaced, raw_at, value_at, AreOfNumber}
-use Rattle.ip_ext_chains.specs.Ipv6Extensions.{raw_in, value_of}
+use Rattle.ip_ext_chains.specs.Slots.{at, ArePlaced, value_at, AreOfNumber}
+use Rattle.ip_ext_chains.specs.Ipv6Extensions.{value_of}
 use Rattle.ip_ext_slices.specs.declared.ipv6_ext_slice.Ipv6ExtensionSlice.{Ipv6ExtensionSlice}
 use Rattle.ip_ext_chains.specs.declared.places.Places.{Places}
 

@@ -1,9 +1,8 @@
 -- A chain that is read, header by header, into six places.
 use Rattle.std.specs.Option.{is_none}
 use Rattle.std.specs.List.{filter}
-use Rattle.ip_spec.proofs.Common.{length, places, ◌≡◌, ◌≢◌, ℕ, ◌+◌, ◌<◌, List, ◌∷◌, ◌++◌, inl, inr, Bool, true, false, rules, [], ◌==◌, Option, Some, None, is_some, if◌then◌else◌, ne_eqb, IsHeader, ExtHeader, IsChain, leads_to, bytes_of, is_empty, FitsPlaces, Place, hop_by_hop, destination, routing, authentication, final_destination, index, number_in, header_in, next_place, next_in_chain, IsOccupied, fields_of, raw_header}
+use Rattle.ip_spec.proofs.Common.{length, places, ◌≡◌, ◌≢◌, ℕ, ◌<◌, List, ◌∷◌, ◌++◌, inl, inr, Bool, true, false, rules, [], ◌==◌, Some, None, is_some, if◌then◌else◌, ne_eqb, IsHeader, ExtHeader, IsChain, leads_to, bytes_of, is_empty, FitsPlaces, Place, routing, final_destination, index, number_in, header_in, next_place, next_in_chain, IsOccupied, fields_of}
 use Rattle.ip_spec.proofs.StepLemmas.{chain_more}
-use Rattle.ip_spec.specs.Places.{fragment}
 use Rattle.ip_spec.proofs.ChainLemmas.{leads_to-more}
 use Rattle.ip_ext_chains.proofs.FittingLemmas.{occupied_answers, other_answers}
 use Rattle.ip_spec.proofs.WalkLemmas.{none_if, is_some-map}
@@ -14,7 +13,6 @@ use Rattle.ip_ext_chains.specs.Fitting.{IsFittingAnswer}
 use Rattle.ip_ext_chains.specs.Ipv6Extensions.{value_of, placed_fields}
 use Rattle.ip_ext_chains.specs.ChainReading.{with_header, IsReadInto}
 use Rattle.ip_ext_chains.specs.declared.ipv6_exts.Ipv6Extensions.{Ipv6Extensions}
-use Rattle.ip_ext_chains.specs.declared.ipv6_routing_exts.Ipv6RoutingExtensions.{Ipv6RoutingExtensions}
 use Rattle.ip_ext_chains.proofs.PlacedLemmas.{mapped_if}
 use Rattle.ip_ext_chains.proofs.PlacedFieldsLemmas.{placed_fields-value_of, placed_fields_one}
 
@@ -69,9 +67,7 @@ module _ (n : ℕ) (c : List ExtHeader) (m : ℕ) (v : Ipv6Extensions) (first : 
     not_occupied t = let same = next_same c v k.value m in search rules
 
     pub nested : p ≡ final_destination → is_some v.routing ≡ true
-    nested e =
-        let at : place_of 60 (has_routing c) ≡ Some final_destination = cc (is_number_in, in_chain.0) in
-        cc (is_some-map (λ (r : Ipv6RoutingExtensions). raw_header r.routing) v.routing, filled c v k.value routing, final_after (has_routing c) at)
+    nested e = search (rules, is_number_in, in_chain, filled c v k.value routing, final_after (has_routing c))
 
     pub reading_next : (Consumed : List ℕ → Type 0) (j : ℕ) (w : Ipv6Extensions) (r : IsReadInto Consumed p j v w) → IsReading n (c ++ record { number = m; bytes = r.bytes } ∷ []) j w false
     reading_next Consumed j w r =

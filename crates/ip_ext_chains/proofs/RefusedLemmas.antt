@@ -1,5 +1,5 @@
 -- A write of a value that some chain encodes, or that was parsed from bytes, fails only if memory runs out.
-use Rattle.ip_spec.proofs.Common.{rules, ⊤, ◌≡◌, ◌∙◌, ℕ, List, ap, sym, refl, true, Option, Err, is_some, Bor, option_map, AllocError, ExtHeader, AreBytes, IsSpelling}
+use Rattle.ip_spec.proofs.Common.{rules, ⊤, ◌≡◌, ℕ, List, refl, true, Option, Err, is_some, Bor, option_map, AllocError, ExtHeader, AreBytes, IsSpelling}
 use Rattle.std.specs.declared.result.Result.{Result}
 use Rattle.ip_spec.proofs.WalkLemmas.{is_some-map}
 use Rattle.ip_spec.proofs.SpellingLemmas.{one_answer, spelled_leads}

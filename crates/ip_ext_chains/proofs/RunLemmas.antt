@@ -1,12 +1,11 @@
 -- Headers stored in their places, and the end of a run.
-use Rattle.ip_spec.proofs.Common.{take, common_steps, ◌≡◌, ◌≢◌, ℕ, List, ◌∷◌, ◌++◌, length, map, nat_eq, arith, refl, Bool, true, false, append_assoc, rules, [], Option, Some, None, if◌then◌else◌, eqb-true, YieldsList, YieldsList-from_shown, ExtHeader, bytes_of, IsChain, IsLaterNumber, FitsPlaces, Place, header_in, next_place}
+use Rattle.ip_spec.proofs.Common.{common_steps, ◌≡◌, ◌≢◌, ℕ, List, ◌∷◌, ◌++◌, length, nat_eq, arith, refl, Bool, true, false, append_assoc, rules, [], Some, None, if◌then◌else◌, eqb-true, YieldsList, YieldsList-from_shown, ExtHeader, bytes_of, IsChain, IsLaterNumber, FitsPlaces, Place, header_in, next_place}
 use Rattle.ip_spec.proofs.PlaceLemmas.{placed, fits_more, own_next, fits_where_next}
 use Rattle.ip_spec.proofs.WalkLemmas.{none_if}
 use Rattle.ip_ext_slices.specs.Ipv6ExtensionSlice.{header_of}
-use Rattle.ip_ext_chains.specs.Slots.{at, IsPut, ArePlaced, AreOfNumber, value_at}
+use Rattle.ip_ext_chains.specs.Slots.{at, IsPut, ArePlaced}
 use Rattle.ip_ext_slices.specs.Longest.{longest_chain}
 use Rattle.ip_ext_chains.specs.RunsOf.{runs_from}
-use Rattle.ip_ext_chains.specs.Ipv6Extensions.{value_of}
 use Rattle.ip_ext_chains.specs.Run.{IsRun}
 use Rattle.ip_ext_chains.specs.Ipv6ExtensionsRuns.{values_left, GivesRun}
 use Rattle.ip_ext_chains.specs.declared.ipv6_exts_runs.Ipv6ExtensionsRuns.{Ipv6ExtensionsRuns}
@@ -16,7 +15,7 @@ use Rattle.ip_ext_chains.specs.declared.places.Places.{Places}
 use Rattle.ip_ext_slices.proofs.LongestLemmas.{longest_chain-least}
 use Rattle.ip_ext_chains.proofs.RunsOfLemmas.{runs_from-next}
 use Rattle.ip_spec.proofs.HeaderLemmas.{header_number}
-use Rattle.ip_ext_chains.proofs.PlacedLemmas.{mapped_if, next_same, value_placed, placed_numbers}
+use Rattle.ip_ext_chains.proofs.PlacedLemmas.{mapped_if, next_same}
 
 -- of the headers c, those before `left` are stored in the places
 pub record IsPlacing (c left : List ExtHeader) (v : Places Ipv6ExtensionSlice) : Type 0 where
@@ -30,8 +29,7 @@ pub placing_more : (c : List ExtHeader) (m : ℕ) (h : Ipv6ExtensionSlice) (left
 placing_more c m h left v w p chain k next put =
     let own = own_next (λ q. header_in q k.run) (header_of h).number p (cc (next_same k.run v k.placed m)) in
     let fits = fits_more k.run (header_of h) p k.fits own.0 own.1 in
-    let placed = placed k.run (header_of h) p own.0 (none_if (header_in p k.run) own.1) in
-    record { run = k.run ++ header_of h ∷ []; whole = search (rules, append_assoc); fits = fits; placed = λ q. search (rules, put q, mapped_if, k.placed q, placed q) }
+    let placed = placed k.run (header_of h) p own.0 (none_if (header_in p k.run) own.1) in search (rules, append_assoc, put, mapped_if, k.placed, placed)
 
 -- The run ends if no header is left, or if the place of the next one is occupied.
 pub run_all : (c left after : List ExtHeader) (v : Places Ipv6ExtensionSlice) → IsPlacing c left v → (left ≡ []) × (after ≡ []) → IsRun c v after

@@ -19,10 +19,8 @@ pieces_spelled n (p ∷ ps) k f b = search (rules, cleared_spells, first_bytes, 
 
 pub one_list_of_spellings : (n : ℕ) (vs : List Ipv6Extensions) (ds es : List (List ExtHeader)) → AreSpellings n vs ds → AreSpellings n vs es → ds ≡ es
 one_list_of_spellings n [] ds es s t = search rules
-one_list_of_spellings n (v ∷ vs) [] es s t = absurd s
-one_list_of_spellings n (v ∷ vs) (d ∷ ds) [] s t = absurd t
-one_list_of_spellings n (v ∷ vs) (d ∷ ds) (e ∷ es) s t =
-    let same = one_spelling (placed_fields v) n d e s.0 t.0 in cc (one_list_of_spellings (leads_to n d) vs ds es s.1 (rw same t.1))
+one_list_of_spellings n (v ∷ vs) (d ∷ ds) (e ∷ es) s t = let same = one_spelling (placed_fields v) n d e s.0 t.0 in cc (one_list_of_spellings (leads_to n d) vs ds es s.1 (rw same t.1))
+one_list_of_spellings n (v ∷ vs) ds es s t = search rules
 
 bytes_joined : (ps : List (List ExtHeader)) → bytes_of (joined (map cleared_chain ps)) ≡ flat_map (λ p. bytes_of (cleared_chain p)) ps
 bytes_joined [] = refl
@@ -41,5 +39,5 @@ module _ (n : ℕ) (s : List ℕ) (bytes : AreBytes s) where
   pub spellings_written : (ds : List (List ExtHeader)) → AreSpellings n (map value_of (runs_of n s)) ds → bytes_of (joined ds) ≡ bytes_of (cleared_chain (longest_chain n s))
   spellings_written ds t = search (rules, one_list_of_spellings n (map value_of (runs_of n s)), runs_spelled, bytes_joined, runs_written, runs_from-runs)
 
--- what is known of the number before the remaining runs
+-- the lemmas on the number from which the remaining runs are encoded
 pub ruleset numbers_left = (left_spelled, none_left, some_left, number_before-some, number_before-end, longest_chain-longest)

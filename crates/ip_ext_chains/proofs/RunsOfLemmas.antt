@@ -1,5 +1,5 @@
 -- The runs of the longest chain and the remaining ones, the number before them, and their bytes.
-use Rattle.ip_spec.proofs.Common.{common_steps, ◌≡◌, ◌≢◌, ℕ, List, ◌∷◌, length, map, refl, arith, Bool, true, false, rules, [], if◌then◌else◌, append-nil, ExtHeader, leads_to, KeepsBeginning, FitsPlaces, IsOccupied, AreRuns, ◌<◌, ◌++◌, subst, take-append_seam, drop-append_seam, flat_map-append, All-take, All-drop, AreBytes, bytes_of, IsChain}
+use Rattle.ip_spec.proofs.Common.{common_steps, ◌≡◌, ◌≢◌, ℕ, List, ◌∷◌, length, map, refl, arith, Bool, true, false, rules, [], if◌then◌else◌, append-nil, ExtHeader, leads_to, KeepsBeginning, FitsPlaces, IsOccupied, AreRuns, ◌<◌, ◌++◌, take-append_seam, drop-append_seam, flat_map-append, All-take, All-drop, AreBytes, bytes_of, IsChain}
 use Rattle.ip_spec.proofs.RunsLemmas.{some_runs, one_runs, some_run, runs_more, chain_after, leads_to-append}
 use Rattle.ip_ext_slices.specs.Longest.{longest_chain}
 use Rattle.ip_ext_chains.specs.Ipv6Extensions.{value_of}

@@ -1,5 +1,5 @@
 -- The headers that a walk over a struct of six places has reached and written.
-use Rattle.ip_spec.proofs.Common.{rules, common_steps, ◌≡◌, ℕ, ◌+◌, ◌<◌, ◌≤◌, List, ◌∷◌, ◌++◌, length, ap, arith, append_assoc, true, [], Option, Some, None, IfSome, IfNone, append-nil, AppendsOne, ExtHeader, bytes_of, Place, number_in, HeaderFields, IsEncoded, IsEncodable, fields_len, placed_len, IsLongestOf, PlacedFields, IsReachable, answer_at, IsWalkAnswer, next_in_chain, IsEncodingOf}
+use Rattle.ip_spec.proofs.Common.{rules, common_steps, ◌≡◌, ℕ, ◌+◌, ◌<◌, ◌≤◌, List, ◌∷◌, ◌++◌, length, ap, arith, append_assoc, true, [], Option, Some, None, IfSome, IfNone, append-nil, AppendsOne, ExtHeader, bytes_of, number_in, HeaderFields, IsEncoded, IsEncodable, fields_len, placed_len, IsLongestOf, PlacedFields, IsReachable, answer_at, IsWalkAnswer, IsEncodingOf}
 use Rattle.ip_spec.proofs.StepLemmas.{bytes_of-more}
 use Rattle.ip_spec.proofs.EncodedLemmas.{encoding_is}
 use Rattle.ip_spec.proofs.WalkLemmas.{WalkAnswer}
@@ -69,7 +69,7 @@ pub record Written (v : PlacedFields) (f : ℕ) (w : Walk) (before now : List �
   pub appended : now ≡ before ++ bytes_of walked.reached
   pub fits : length now + placed_len (left_in w) ≤ room
 
--- its bytes were appended
+-- The next header was reached, and its bytes were appended.
 pub written_more : (v : PlacedFields) (f : ℕ) → IsEncodable v → (old new : Walk) (x : HeaderFields) → IsStep old new x → (before now more : List ℕ) (room larger : ℕ) → Written v f old before now room
     → AppendsOne (IsEncodingOf x) now more → length more + placed_len (left_in new) ≤ larger → Written v f new before more larger
 written_more v f e old new x s before now more room larger k a fits =
@@ -94,8 +94,6 @@ left_len v w value vacant = ap placed_len (same_held (left_in w) v (λ p. cc (va
 
 pub written_none : (v : PlacedFields) (f : ℕ) (w : Walk) → placed_fields w.headers.now ≡ v → w.number.0 ≡ f → w.first ≡ true → IsVacant w.reached
     → (before now : List ℕ) (room : ℕ) → now ≡ before → length now + placed_len v ≤ room → Written v f w before now room
-written_none v f w value number first vacant before now room same fits = record {
-  walked = walked_none v f w value number first vacant;
-  appended = cc (append-nil before);
-  fits = omega (arith, fits, left_len v w value vacant);
-}
+written_none v f w value number first vacant before now room same fits =
+    let walked = walked_none v f w value number first vacant in
+    record { walked = walked; appended = cc (append-nil before); fits = omega (arith, fits, left_len v w value vacant) }

@@ -1,5 +1,5 @@
 -- A struct of six places as it is parsed, and as it is written.
-use Rattle.ip_spec.proofs.Common.{common_steps, ◌≡◌, ℕ, ◌+◌, ◌<◌, List, ◌++◌, length, ap, sym, arith, rules, Ok, Err, None, ◌↔◌, append_cancel_left, length-append, All-take, IsLongestOf, IsExtensionNumber, AreBytes, cleared_chain, ExtHeader, leads_to, bytes_of, FitsPlaces, IsEncodable, IsValueOf, IsSpelling, IsReachable, IsWalkAnswer, IsParsed}
+use Rattle.ip_spec.proofs.Common.{◌≡◌, ℕ, ◌+◌, ◌<◌, List, ◌++◌, length, ap, sym, arith, rules, Ok, Err, None, ◌↔◌, append_cancel_left, length-append, All-take, IsLongestOf, IsExtensionNumber, AreBytes, cleared_chain, ExtHeader, leads_to, bytes_of, FitsPlaces, IsEncodable, IsValueOf, IsSpelling, IsReachable, IsWalkAnswer, IsParsed}
 use Rattle.ip_spec.proofs.FitsLemmas.{fits_places}
 use Rattle.ip_spec.proofs.ParsedLemmas.{whole_parsed}
 use Rattle.ip_spec.proofs.WalkLemmas.{WalkAnswer, one_reach}
@@ -23,6 +23,7 @@ module _ (v : Ipv6Extensions) (n : ℕ) where
   value_is : (c : List ExtHeader) → IsValueOf c (placed_fields v) → v ≡ value_of c
   value_is c k = search (rules, placed_fields_one, placed_fields-value_of)
 
+  -- bytes s parse as v with nothing left, and lead to m
   abbrev pub IsReadAsValue : ℕ → List ℕ → Type 0
   IsReadAsValue m s = IsParsed FitsPlaces (λ c. value_of c ≡ v) n m s
 
@@ -66,8 +67,7 @@ module _ (v : Ipv6Extensions) (n : ℕ) where
     -- and they encode no other value
     pub written_alike : (x : Ipv6Extensions) (c : List ExtHeader) → IsSpelling (placed_fields x) n c → (new ≡ old ++ bytes_of c) ↔ (v ≡ x)
     written_alike x c k =
-        let both = spelled_alike (placed_fields v) (placed_fields x) n w.chain c w.spelling k in
-        (λ e. placed_fields_one v x (both.0 (appended_is (bytes_of c) e)), λ e. cc (both.1 (λ p. cc)))
+        let both = spelled_alike (placed_fields v) (placed_fields x) n w.chain c w.spelling k in search (rules, placed_fields_one v x, both.0, appended_is (bytes_of c), both.1)
 
   -- The walk leads on, and the headers reached were appended: these are all.
   pub all_written : (old new : List ℕ) (m : IpNumber) (c : List ExtHeader) → IsLongestOf (IsReachable (placed_fields v) n) c → IsWalkAnswer (placed_fields v) n (Ok m) → new ≡ old ++ bytes_of c → IsWritten v n old new

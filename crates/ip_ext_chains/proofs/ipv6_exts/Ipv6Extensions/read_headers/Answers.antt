@@ -1,4 +1,4 @@
-use Rattle.ip_spec.proofs.Common.{rules, ◌∷◌, ◌++◌, sym, ◌∙◌, arith, [], ExtHeader}
+use Rattle.ip_spec.proofs.Common.{rules, sym, arith}
 use Rattle.ip_ext_chains.proofs.ReadingLemmas.{reading_next, is_number_in, not_occupied, no_place_answers}
 use Rattle.ip_ext_chains.proofs.ipv6_exts.Ipv6Extensions.read_headers.Goals as goal
 

@@ -1,5 +1,4 @@
-use Rattle.ip_spec.proofs.Common.{◌≡◌, ℕ, arith, rules, Place, PlacedFields, IsWalkAnswer, hop_by_hop, destination, routing, authentication, final_destination}
-use Rattle.ip_spec.specs.Places.{fragment}
+use Rattle.ip_spec.proofs.Common.{◌≡◌, ℕ, arith, rules, Place, PlacedFields, IsWalkAnswer, hop_by_hop}
 use Rattle.ip_spec.proofs.LinkLemmas.{linked_leads}
 use Rattle.ip_spec.proofs.WalkLemmas.{WalkAnswer}
 use Rattle.ip_ext_chains.specs.Ipv6Extensions.{placed_fields}

@@ -61,7 +61,6 @@ impl Ipv6Extensions {
     /// Reads the headers into their places, which are all free, and returns the number of what follows them. It is
     /// kept out of line: with the loop in `read`, the struct would be cleared and moved once more.
     #[inline(never)]
-    #[tactic(auto, using(crate::proofs::ReadingLemmas::fewer))]
     fn read_headers<S: HeaderSource>(
         &mut self,
         reader: &mut S::Reader,

@@ -30,7 +30,6 @@ impl Ipv6Extensions {
     /// Returns the number to which the headers lead along their next headers, if the first is of the number `first`
     /// and each is reached, otherwise the error of the walk. It is Ok if and only if some bytes parse as this value
     /// with nothing left.
-    #[tactic(auto, using(crate::proofs::WalkedLemmas::step_less, crate::proofs::WalkedLemmas::walked_more))]
     pub fn next_header(&self, first: IpNumber) -> Result<IpNumber, ExtsWalkError>
         ensures answer { IsWalkAnswer (placed_fields self.now) first.0 result }
         ensures exactly { (m : IpNumber) → (result ≡ Ok m) ↔ ((s : List ℕ)
@@ -74,7 +73,6 @@ impl Ipv6Extensions {
     /// Memory is requested first. Returns `Io` if there are headers for which the vector has no room and can't grow;
     /// then nothing has been appended. Returns `Content` if a header isn't reached; then the headers that are reached
     /// have been appended.
-    #[tactic(auto, using(crate::proofs::WalkedLemmas::step_less, crate::proofs::WalkedLemmas::step_len))]
     pub fn write<A: Allocator>(
         &self,
         out: &mut Vec<u8, A>,
@@ -127,7 +125,6 @@ impl Ipv6Extensions {
 
 /// Appends the bytes of the next header of the walk, if it is in this place, and returns the header.
 #[inline(always)]
-#[tactic(auto, using(crate::proofs::WalkedLemmas::step_len))]
 fn append_next<'a, A: Allocator>(
     walk: &mut Walk<'a>,
     place: Place,

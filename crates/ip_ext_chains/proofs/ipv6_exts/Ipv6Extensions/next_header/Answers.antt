@@ -1,6 +1,6 @@
 use Rattle.ip_spec.proofs.Common.{ap}
 use Rattle.ip_ext_chains.specs.Ipv6Extensions.{placed_fields}
-use Rattle.ip_ext_chains.proofs.WalkedLemmas.{walked_none, walked_in, walked_answer}
+use Rattle.ip_ext_chains.proofs.WalkedLemmas.{step_less, walked_more, walked_none, walked_in, walked_answer}
 use Rattle.ip_ext_chains.proofs.WriteLemmas.{answer_exactly}
 use Rattle.ip_ext_chains.proofs.ipv6_exts.Ipv6Extensions.next_header.Goals as goal
 
@@ -14,6 +14,13 @@ headers-init c =
     (on _ _ _ c.next_in-2.ensures.some c.next_in-2.ensures.none
     (on _ _ _ c.next_in.ensures.some c.next_in.ensures.none (walked_none (placed_fields c.args.self.now) c.args.first.0 c.new-walk.result
     (ap placed_fields c.new-walk.ensures.headers) c.new-walk.ensures.number c.new-walk.ensures.first c.new-walk.ensures.reached))))))
+
+pub headers-smaller : goal.headers-smaller
+headers-smaller c = step_less c.headers.walk c.next.new.self _ c.in-Some.ensures.some
+
+pub headers-preserved : goal.headers-preserved
+headers-preserved c =
+    walked_more c.headers.walk c.next.new.self _ c.in-Some.ensures.some (placed_fields c.args.self.now) c.args.first.0 c.encodable.ensures c.headers.invariant
 
 pub returns-clause-answer : goal.returns-clause-answer
 returns-clause-answer c =

@@ -1,5 +1,5 @@
 use Rattle.ip_spec.proofs.Common.{rules, sym, arith}
-use Rattle.ip_ext_chains.proofs.ReadingLemmas.{reading_next, is_number_in, not_occupied, no_place_answers}
+use Rattle.ip_ext_chains.proofs.ReadingLemmas.{fewer, reading_next, is_number_in, not_occupied, no_place_answers}
 use Rattle.ip_ext_chains.proofs.ipv6_exts.Ipv6Extensions.read_headers.Goals as goal
 
 pub headers-preserved : goal.headers-preserved
@@ -9,6 +9,9 @@ headers-preserved g c =
     let number = is_number_in _ _ _ _ _ came.1 _ next in
     let reading = reading_next _ _ _ _ _ came.1 _ next _ _ _ c.in-Ok.ensures.ok in
     search (rules, g.met.S.HeaderSource.reads_next)
+
+pub headers-smaller : goal.headers-smaller
+headers-smaller g c = fewer _ _ _ _ _ c.headers.invariant.1 _ (sym c.in-Some.ensures) _ _ _ c.in-Ok.ensures.ok
 
 pub returns-in-Err-clause-refused : goal.returns-in-Err-clause-refused
 returns-in-Err-clause-refused g c =

@@ -2,7 +2,7 @@ use Rattle.ip_spec.proofs.Common.{rules, arith, ap, length, vec_capacity, Ok}
 use Rattle.ip_ext_chains.specs.Ipv6Extensions.{placed_fields}
 use Rattle.ip_ext_chains.specs.Write.{IsWritten}
 use Rattle.ip_ext_chains.proofs.PlacedFieldsLemmas.{exts_sum}
-use Rattle.ip_ext_chains.proofs.WalkedLemmas.{left_len, written_none, written_in, written_more, walked_answer, walked_reach, step_len}
+use Rattle.ip_ext_chains.proofs.WalkedLemmas.{left_len, written_none, written_in, written_more, walked_answer, walked_reach, step_less, step_len}
 use Rattle.ip_ext_chains.proofs.WriteLemmas.{all_written, fault_written, written_len, written_again, written_whole, written_cleared, written_alike}
 use Rattle.ip_ext_chains.proofs.ipv6_exts.Ipv6Extensions.write.Goals as goal
 
@@ -25,6 +25,12 @@ headers-init g c =
     let w5 = on _ c.append_next-5.new.walk _ _ c.append_next-5.new.out.items _ (vec_capacity c.append_next-5.new.out) _ c.append_next-5.ensures.some c.append_next-5.ensures.appended c.append_next-5.ensures.none c.append_next-5.ensures.same (search rules) w4 in
     let w6 = on _ c.append_next-6.new.walk _ _ c.append_next-6.new.out.items _ (vec_capacity c.append_next-6.new.out) _ c.append_next-6.ensures.some c.append_next-6.ensures.appended c.append_next-6.ensures.none c.append_next-6.ensures.same (search rules) w5 in
     (w6, search rules)
+
+pub headers-smaller : goal.headers-smaller
+headers-smaller g c = step_less c.headers.walk c.next.new.self _ c.in-Some.ensures.some
+
+pub append-requires : goal.append-requires
+append-requires g c = omega (arith, step_len c.headers.walk c.next.new.self _ c.in-Some.ensures.some, c.headers.invariant.0.fits, c.headers.out.ok.0)
 
 pub headers-preserved : goal.headers-preserved
 headers-preserved g c =

@@ -20,7 +20,7 @@ headers-smaller c = step_less c.headers.walk c.next.new.self _ c.in-Some.ensures
 
 pub headers-preserved : goal.headers-preserved
 headers-preserved c =
-    walked_more c.headers.walk c.next.new.self _ c.in-Some.ensures.some (placed_fields c.args.self.now) c.args.first.0 c.encodable.ensures c.headers.invariant
+    walked_more c.headers.walk c.next.new.self _ c.in-Some.ensures.some (placed_fields c.args.self.now) c.args.first.0 c.header_len.ensures.encodable c.headers.invariant
 
 pub returns-clause-answer : goal.returns-clause-answer
 returns-clause-answer c =

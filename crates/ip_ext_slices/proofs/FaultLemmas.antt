@@ -1,6 +1,6 @@
 -- An extension header's number has an error wherever the chain ends; at any other number the chain ends without an
 -- error.
-use Rattle.ip_spec.proofs.Common.{◌≡◌, ◌≢◌, ℕ, ◌+◌, ◌*◌, List, length, take, refl, arith, inl, inr, ◌⊎◌, Bool, true, false, slice_index, rules, Option, None, IsSome, IsTrue, option_map, cases_lt, lt-ltb, le-ltb, eqb_tells, IsHeader, IsExtensionNumber, IsRawNumber, raw, fragment, auth, ExtHeader, IsNext, IsEnd}
+use Rattle.ip_spec.proofs.Common.{common_steps, ◌≡◌, ℕ, ◌+◌, ◌*◌, List, length, take, refl, arith, ◌⊎◌, Bool, slice_index, rules, None, IsSome, IsTrue, IsHeader, IsExtensionNumber, IsRawNumber, ExtHeader, IsNext, IsEnd}
 use Rattle.ip_base.specs.declared.len_source.LenSource.{LenSource}
 use Rattle.ip_spec.proofs.PrefixLemmas.{prefix_of-take}
 use Rattle.ip_spec.proofs.HeaderLemmas.{header_number, raw_begins, fragment_begins, auth_begins}
@@ -11,50 +11,19 @@ begins : (first : Bool) (m : ℕ) (r b : List ℕ) → IsHeader m b → take (le
 begins first m r b h f z = (record { number = m; bytes = b }, record { number = refl; header = h; prefix = f; zero_only_first = z })
 
 raw_or_fault : (source : LenSource) (n : ℕ) (first : Bool) (m : ℕ) (r : List ℕ) (k : ℕ) → IsRawNumber m → (m ≡ 0 → IsTrue first) → ((h : ExtHeader) × IsNext first m r h) ⊎ IsSome (raw_fault source n k r)
-raw_or_fault source n first m r k raw_number z = elim (cases_lt (length r) 8) [
-  | inl few ↦ inr (rw (lt-ltb (length r) 8 few) refl)
-  | inr len ↦ elim (cases_lt (length r) (8 * (slice_index r 1 + 1))) [
-    | inl few ↦ inr (rw (le-ltb (length r) 8 len, lt-ltb (length r) (8 * (slice_index r 1 + 1)) few) refl)
-    | inr enough ↦ inl (begins first m r (take (8 * (slice_index r 1 + 1)) r) (raw raw_number (raw_begins r (8 * (slice_index r 1 + 1)) enough (omega arith) refl)) (prefix_of-take (8 * (slice_index r 1 + 1)) r) z)
-  ]
-]
+raw_or_fault source n first m r k raw_number z = grind (arith, common_steps, begins first m r (take (8 * (slice_index r 1 + 1)) r), raw_begins r (8 * (slice_index r 1 + 1)), prefix_of-take)
 
 fragment_or_fault : (source : LenSource) (n : ℕ) (first : Bool) (m : ℕ) (r : List ℕ) (k : ℕ) → m ≡ 44 → ((h : ExtHeader) × IsNext first m r h) ⊎ IsSome (fragment_fault source n k r)
-fragment_or_fault source n first m r k e = elim (cases_lt (length r) 8) [
-  | inl few ↦ inr (rw (lt-ltb (length r) 8 few) refl)
-  | inr enough ↦ inl (begins first m r (take 8 r) (fragment e (fragment_begins r 8 enough (omega arith) refl)) (prefix_of-take 8 r) (λ z. absurd (omega arith)))
-]
+fragment_or_fault source n first m r k e = grind (arith, common_steps, begins first m r (take 8 r), fragment_begins r 8, prefix_of-take)
 
 auth_or_fault : (source : LenSource) (n : ℕ) (first : Bool) (m : ℕ) (r : List ℕ) (k : ℕ) → m ≡ 51 → ((h : ExtHeader) × IsNext first m r h) ⊎ IsSome (auth_fault source n k r)
-auth_or_fault source n first m r k e = elim (cases_lt (length r) 12) [
-  | inl few ↦ inr (rw (lt-ltb (length r) 12 few) refl)
-  | inr twelve ↦ elim (eqb_tells (slice_index r 1) 0) [
-    | inl w ↦ inr (rw (le-ltb (length r) 12 twelve, w.0) refl)
-    | inr w ↦ elim (cases_lt (length r) (4 * (slice_index r 1 + 2))) [
-      | inl few ↦ inr (rw (le-ltb (length r) 12 twelve, w.0, lt-ltb (length r) (4 * (slice_index r 1 + 2)) few) refl)
-      | inr enough ↦ inl (begins first m r (take (4 * (slice_index r 1 + 2)) r) (auth e (auth_begins r (4 * (slice_index r 1 + 2)) enough (omega (arith, w.1)) refl (omega (arith, w.1)))) (prefix_of-take (4 * (slice_index r 1 + 2)) r) (λ z. absurd (omega arith)))
-    ]
-  ]
-]
-
-mapped : {A B : Type 0} (f : A → B) (o : Option A) → IsSome o → IsSome (option_map f o)
-mapped f o s = search rules
+auth_or_fault source n first m r k e = grind (arith, common_steps, begins first m r (take (4 * (slice_index r 1 + 2)) r), auth_begins r (4 * (slice_index r 1 + 2)), prefix_of-take)
 
 module _ (source : LenSource) (n : ℕ) (r : List ℕ) (k : ℕ) where
-  at_zero : (first : Bool) → IsEnd first 0 r → IsSome (fault_at source n k first 0 r)
-  at_zero true e = elim (raw_or_fault source n true 0 r k (inl refl) (λ z. refl)) [ inl (h, x) ↦ absurd (e h x) | inr s ↦ mapped _ (raw_fault source n k r) s ]
-  at_zero false e = refl
-
-  at_raw : (first : Bool) (m : ℕ) → IsRawNumber m → m ≢ 0 → IsEnd first m r → IsSome (raw_fault source n k r)
-  at_raw first m raw_number not_zero e = elim (raw_or_fault source n first m r k raw_number (λ z. absurd (not_zero z))) [ inl (h, x) ↦ absurd (e h x) | inr s ↦ s ]
-
-  fault_of_raw : (first : Bool) (m : ℕ) → IsRawNumber m → IsEnd first m r → IsSome (fault_at source n k first m r)
-  fault_of_raw first m is e = search (rules, at_zero, mapped, at_raw)
-
   -- if the chain ends at an extension header's number, there is an error
   pub fault_at_end : (first : Bool) (m : ℕ) → IsExtensionNumber m → IsEnd first m r → IsSome (fault_at source n k first m r)
   fault_at_end first m is e =
-      search (rules, fault_of_raw, fragment_or_fault source n first m r k, auth_or_fault source n first m r k, mapped)
+      search (rules, raw_or_fault source n first m r k, fragment_or_fault source n first m r k, auth_or_fault source n first m r k)
 
 -- at any other number the chain ends
 pub end_at_other : (first : Bool) (m : ℕ) (r : List ℕ) → (IsExtensionNumber m → ⊥) → IsEnd first m r

@@ -1,11 +1,11 @@
 -- The longest chain of IPv4 extension headers: one header, or none.
-use Rattle.ip_spec.proofs.Common.{common_steps, ◌≡◌, ℕ, List, ◌∷◌, length, take, drop, refl, sym, arith, rules, [], Option, Some, None, NoPrefix, IsPrefix, IsAuthHeader, auth, next_header, ExtHeader, IsChain, headers_within, AtMostOneOf, IsLongestUnder}
+use Rattle.ip_spec.proofs.Common.{common_steps, ◌≡◌, ℕ, List, ◌∷◌, length, take, drop, refl, arith, rules, [], Option, Some, None, NoPrefix, IsPrefix, IsAuthHeader, next_header, ExtHeader, IsChain, headers_within, AtMostOneOf, IsLongestUnder}
 use Rattle.ip_base.specs.declared.len_source.LenSource.TheVariants.{Slice}
 use Rattle.ip_ext_headers.specs.declared.err.ip_auth.header_slice_error.HeaderSliceError.{HeaderSliceError}
 use Rattle.ip_ext_headers.specs.HeaderFault.{auth_fault}
 use Rattle.ip_spec.proofs.HeaderLemmas.{auth_of}
 use Rattle.ip_spec.proofs.UnderLemmas.{some_longest_under}
-use Rattle.ip_spec.proofs.ParsedLemmas.{has_parsed_none, has_parsed_on, parsed_answers}
+use Rattle.ip_spec.proofs.ParsedLemmas.{has_parsed_none, parsed_answers}
 use Rattle.ip_spec.proofs.ShorterLemmas.{longest_shorter}
 use Rattle.ip_spec.proofs.DemandKinds.{at_most_one_of}
 use Rattle.ip_ext_slices.specs.Ipv4Longest.{longest_ipv4_chain}
@@ -32,13 +32,11 @@ module _ {X : Type 0} (value_of : List ExtHeader → X) (n : ℕ) (s : List ℕ)
   -- if the number is 51 and an authentication header starts the bytes, the header is the chain
   pub answer_of_one : (b : List ℕ) (m : ℕ) (r : List ℕ) → n ≡ 51 → IsAuthHeader b → IsPrefix b s → x ≡ value_of (chain_of b) → m ≡ next_header b → r ≡ drop (length b) s → IsIpv4Answer value_of n s x m r None
   answer_of_one b m r e header prefix value number rest =
-      let h : ExtHeader = record { number = 51; bytes = b } in
-      let read = has_parsed_on n s [] n s h m r b (has_parsed_none n s) (record { number = sym e; header = auth e header; prefix = prefix; zero_only_first = λ z. absurd (omega (arith, e, z)) }) number refl rest in
-      parsed_answers (AtMostOneOf 51) (at_most_one_of 51) n s (h ∷ []) m r value_of (ipv4_faults Slice) x None (record { read = read; meets = record { one = omega arith; number = (refl, tt) } }) (λ g y q. omega (arith, q.one)) value refl
+      parsed_answers (AtMostOneOf 51) (at_most_one_of 51) n s (chain_of b) m r value_of (ipv4_faults Slice) x None (search (rules, has_parsed_none)) (λ g y q. omega (arith, q.one)) value refl
 
   -- otherwise the chain is empty
   pub answer_of_none : (f : Option HeaderSliceError) → (n ≡ 51 → NoPrefix IsAuthHeader s) → x ≡ value_of [] → f ≡ ipv4_faults Slice [] n s → IsIpv4Answer value_of n s x n s f
   answer_of_none f none = search rules
 
   pub answer_of_fault : (e : HeaderSliceError) → n ≡ 51 → NoPrefix IsAuthHeader s → auth_fault Slice (length s) 0 s ≡ Some e → x ≡ value_of [] → IsIpv4Answer value_of n s x n s (Some e)
-  answer_of_fault e is none fault value = answer_of_none (Some e) (λ z. none) value (sym (rw is fault))
+  answer_of_fault e is none fault value = search (rules, answer_of_none)

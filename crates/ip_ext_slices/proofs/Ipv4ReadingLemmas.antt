@@ -1,5 +1,5 @@
 -- Reading IPv4 extension headers returns the value that parsing them does.
-use Rattle.ip_spec.proofs.Common.{◌≡◌, ◌≢◌, ℕ, List, ◌++◌, refl, ap, sym, ◌∙◌, rules, Some, None, ne_eqb, drop-append_seam, IsAuthHeader, AuthFields, auth_fields}
+use Rattle.ip_spec.proofs.Common.{◌≡◌, ◌≢◌, ℕ, List, ◌++◌, rules, Some, None, ne_eqb, drop-append_seam, IsAuthHeader, AuthFields, auth_fields}
 use Rattle.ip_ext_headers.specs.AuthReading.{auth_slice_fault}
 use Rattle.ip_ext_headers.proofs.FaultLemmas.{auth_at_header}
 use Rattle.ip_spec.proofs.PrefixLemmas.{prefix_of-append, prefix_first}
@@ -14,9 +14,7 @@ none_answers n other rest = search (rules, answer_of_none, ne_eqb)
 
 -- the number is 51, and these bytes are the header
 pub one_answers : (n : ℕ) (b : List ℕ) (v : AuthFields) (m : ℕ) → n ≡ 51 → IsAuthHeader b → auth_fields b ≡ v → m ≡ v.next_header → (rest : List ℕ) → Answers n (Some v) m (b ++ rest) rest
-one_answers n b v m e header fields number rest =
-    answer_of_one ipv4_value n (b ++ rest) (Some v) b m rest e header (prefix_of-append b rest (b ++ rest) refl)
-    (ap Some (sym fields)) (number ∙ ap (λ (w : AuthFields). w.next_header) (sym fields)) (sym (drop-append_seam b rest))
+one_answers n b v m e header fields number rest = search (rules, answer_of_one ipv4_value n (b ++ rest) (Some v) b m rest, prefix_of-append, drop-append_seam)
 
 -- if the number is 51, the header's error is the error of the headers
 pub fault_same : (n : ℕ) → n ≡ 51 → auth_slice_fault ≡ ipv4_chain_fault n

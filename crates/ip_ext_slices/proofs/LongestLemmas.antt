@@ -1,5 +1,5 @@
 -- The longest chain, and the longest chain that is all of some bytes.
-use Rattle.ip_spec.proofs.Common.{◌≡◌, ◌≢◌, ℕ, ◌*◌, ◌≤◌, List, ◌∷◌, length, take, drop, refl, ap, ◌∙◌, arith, Bool, true, false, nat_eq, rules, [], Option, IfNone, IsSome, AllByRecursion, drop-append_seam, drop-drop, length-append, ne_eqb, eqb_tells, next_header, ExtHeader, AreLinked, leads_to, bytes_of, headers_within, is_empty, IsChain, IsPrefixChain, IsLongestChain, IsNext, IsEnd, rest_after, NoDemand}
+use Rattle.ip_spec.proofs.Common.{common_steps, ◌≡◌, ◌≢◌, ℕ, ◌*◌, ◌≤◌, List, ◌∷◌, length, take, drop, arith, Bool, true, false, nat_eq, rules, [], Option, IfNone, IsSome, drop-drop, length-append, ne_eqb, next_header, ExtHeader, leads_to, bytes_of, headers_within, is_empty, IsChain, IsPrefixChain, IsLongestChain, IsNext, IsEnd, rest_after, NoDemand}
 use Rattle.ip_spec.proofs.PrefixLemmas.{prefix-length, prefix_first, prefix_second, rest_join}
 use Rattle.ip_spec.proofs.HeaderLemmas.{header-least, one_next}
 use Rattle.ip_spec.proofs.UnderLemmas.{no_demand, longest_under_none}
@@ -14,8 +14,8 @@ pub longest_chain-is : (n : ℕ) (s : List ℕ) (c : List ExtHeader) → IsLonge
 longest_chain-is n s c l = one_longest n s (longest_chain n s) c (longest_chain-longest n s) l
 
 -- of truncated bytes it is the headers that lie wholly within them
-pub longest_chain-shorter : (n j : ℕ) (s : List ℕ) → longest_chain n (take j s) ≡ headers_within j (longest_chain n s)
-longest_chain-shorter n j s = search (rules, longest_shorter NoDemand no_demand, longest_under_none, longest_chain-longest)
+pub longest_chain_shorter : (n j : ℕ) (s : List ℕ) → longest_chain n (take j s) ≡ headers_within j (longest_chain n s)
+longest_chain_shorter n j s = search (rules, longest_shorter NoDemand no_demand, longest_under_none, longest_chain-longest)
 
 -- a chain is the longest of its own bytes
 pub longest_chain-bytes_of : (n : ℕ) (c : List ExtHeader) → IsChain n c → longest_chain n (bytes_of c) ≡ c
@@ -40,49 +40,27 @@ record Split (n : ℕ) (r : List ℕ) (h : ExtHeader) (c : List ExtHeader) : Typ
   bytes : bytes_of others ≡ drop (length h.bytes) r
 
 split_chain : (n : ℕ) (r : List ℕ) (h : ExtHeader) (c : List ExtHeader) → IsPrefixChain n r c → bytes_of c ≡ r → IsNext true n r h → Split n r h c
-split_chain n r h [] p e x = absurd (omega (arith, ap length e, header-least n h.bytes x.header, prefix-length h.bytes r x.prefix))
-split_chain n r h (g ∷ c) p e x =
-    let same : g ≡ h = one_next true n r g h (first_next n r g c p) x in
-    let chain : IsChain (next_header h.bytes) c = rw same at (tail_chain n g c p.chain) in
-    record { others = c; split = cc; chain = chain; bytes = cc (drop-append_seam g.bytes (bytes_of c)) }
+split_chain n r h c p e x = grind (arith, common_steps)
 
 -- removing its first header leaves the longest chain of the remaining bytes, which is all of them
 pub whole_split : (n : ℕ) (r : List ℕ) (h : ExtHeader) (k : ℕ) (q b : List ℕ) → bytes_of (longest_chain n r) ≡ r → IsNext true n r h → k ≡ next_header h.bytes → b ≡ h.bytes → q ≡ drop (length b) r
     → (longest_chain n r ≡ h ∷ longest_chain k q) × (bytes_of (longest_chain k q) ≡ q)
-whole_split n r h k q b e x ek eb eq =
-    let parted : Split n r h (longest_chain n r) = split_chain n r h (longest_chain n r) (longest_chain-longest n r).has e x in
-    let left : bytes_of parted.others ≡ q = cc (parted.bytes) in
-    let others : longest_chain k q ≡ parted.others = cc (longest_chain-bytes_of (next_header h.bytes) parted.others parted.chain) in
-    (cc (parted.split), cc)
+whole_split n r h k q b e x ek eb eq = grind (arith, split_chain n r h (longest_chain n r) (longest_chain-longest n r).has e x, longest_chain-bytes_of)
 
 -- a value that is absent only at an end is present if a header follows
 pub some_where_next : {A : Type 0} (o : Option A) (first : Bool) (m : ℕ) (s : List ℕ) → IfNone o (IsEnd first m s) → ((h : ExtHeader) × IsNext first m s h) → IsSome o
 some_where_next o first m s e h5 = search rules
 
--- Number 0 has a header only at the start of a chain. Any other number may have one anywhere.
-not_zero_ends : (m : ℕ) (r : List ℕ) → m ≢ 0 → IsEnd false m r → IsEnd true m r
-not_zero_ends m r some e h x = search (rules, e, some)
-
-first_or_later : (first : Bool) (m : ℕ) (r : List ℕ) (h : ExtHeader) → IsNext first m r h → IsNext true m r h
-first_or_later first m r h x = search rules
-
-none_begins : (m : ℕ) (r : List ℕ) (c : List ExtHeader) → IsPrefixChain m r c → IsEnd true m r → c ≡ []
-none_begins m r c p e = search (rules, first_next)
-
 -- at an end no header is left
-pub longest_from-end : (first : Bool) (m : ℕ) (r : List ℕ) → IsEnd first m r → longest_from first m r ≡ []
-longest_from-end first m r e = search (rules, none_begins, longest_chain-longest, eqb_tells, not_zero_ends)
+pub longest_from_end : (first : Bool) (m : ℕ) (r : List ℕ) → IsEnd first m r → longest_from first m r ≡ []
+longest_from_end first m r e = search (rules, first_next, longest_chain-longest)
 
 -- each of its headers has at least 8 bytes
 pub longest_chain-within : (n : ℕ) (s : List ℕ) → 8 * length (longest_chain n s) ≤ length s
 longest_chain-within n s = omega (arith, longest_chain-least n s, prefix-length (bytes_of (longest_chain n s)) s (longest_chain-longest n s).has.prefix)
 
-pub longest_from-least : (first : Bool) (n : ℕ) (s : List ℕ) → 8 * length (longest_from first n s) ≤ length s
-longest_from-least first n s = search (rules, longest_chain-within, eqb_tells)
-
-none_after_zero : (k : ℕ) (c : List ExtHeader) → k ≡ 0 → AreLinked k c → AllByRecursion (λ h. h.number ≢ 0) c → c ≡ []
-none_after_zero k [] z links a = refl
-none_after_zero k (h ∷ c) z links a = absurd (a.0 (links.0 ∙ z))
+pub longest_from_least : (first : Bool) (n : ℕ) (s : List ℕ) → 8 * length (longest_from first n s) ≤ length s
+longest_from_least first n s = search (rules, longest_chain-within)
 
 end_after : (k : ℕ) (q : List ℕ) (c : List ExtHeader) → k ≢ 0 → IsEnd false (leads_to k c) q → IsEnd (is_empty c) (leads_to k c) q
 end_after k q c some e = search rules
@@ -97,15 +75,15 @@ module _ (n : ℕ) (r : List ℕ) (g : ExtHeader) (c : List ExtHeader) (l : IsLo
       (end_after _ _ c some (rw after (longest_ends n r (g ∷ c) l)))
 
   tail_is : c ≡ longest_from false (next_header g.bytes) (drop (length g.bytes) r)
-  tail_is = search (rules, eqb_tells, none_after_zero, longest_chain-is, tail_longest)
+  tail_is = search (rules, longest_chain-is, tail_longest)
 
 longest_splits : (m : ℕ) (r : List ℕ) (h : ExtHeader) (c : List ExtHeader) → IsLongestChain m r c → IsNext true m r h → c ≡ h ∷ longest_from false (next_header h.bytes) (drop (length h.bytes) r)
 longest_splits m r h [] l x = absurd (longest_ends m r [] l h x)
 longest_splits m r h (g ∷ c) l x = cc (one_next true m r g h (first_next m r g c l.has) x, tail_is m r g c l)
 
 -- if a header follows, it is the first that is left, and the others follow it
-pub longest_from-next : (first : Bool) (m : ℕ) (r : List ℕ) (h : ExtHeader) → IsNext first m r h → longest_from first m r ≡ h ∷ longest_from false (next_header h.bytes) (drop (length h.bytes) r)
-longest_from-next first m r h x = search (rules, longest_splits, longest_chain-longest, eqb_tells, first_or_later)
+pub longest_from_next : (first : Bool) (m : ℕ) (r : List ℕ) (h : ExtHeader) → IsNext first m r h → longest_from first m r ≡ h ∷ longest_from false (next_header h.bytes) (drop (length h.bytes) r)
+longest_from_next first m r h x = search (rules, longest_splits, longest_chain-longest)
 
 -- The parts left of l bytes, at number m with r and then at number k with q, one header apart.
 pub record GoesAfter (l : ℕ) (m : ℕ) (r : List ℕ) (h : ExtHeader) (k : ℕ) (q : List ℕ) : Type 0 where
@@ -115,4 +93,4 @@ pub record GoesAfter (l : ℕ) (m : ℕ) (r : List ℕ) (h : ExtHeader) (k : ℕ
   pub within : length q ≤ l
 
 pub goes_after : (l m : ℕ) (r : List ℕ) (h : ExtHeader) (k : ℕ) (q b : List ℕ) → length r ≤ l → IsNext (nat_eq (length r) l) m r h → k ≡ next_header h.bytes → b ≡ h.bytes → q ≡ drop (length b) r → GoesAfter l m r h k q
-goes_after l m r h k q b within x ek eb eq = search (rules, header-least, prefix-length, nat_eq, ne_eqb, longest_from-next, drop-drop, length-append)
+goes_after l m r h k q b within x ek eb eq = search (rules, header-least, prefix-length, nat_eq, ne_eqb, longest_from_next, drop-drop, length-append)

@@ -1,5 +1,5 @@
 -- What the parse knows about the chain parsed so far, and what follows at an end.
-use Rattle.ip_spec.proofs.Common.{common_steps, ◌≡◌, ℕ, arith, subst, ◌-◌, List, ◌∷◌, ◌++◌, length, take, drop, ap, ◌∙◌, Bool, nat_eq, rules, [], ◌==◌, ◌&&◌, ◌||◌, Option, None, AllByRecursion, YieldsList, YieldsList-from_shown, or-false, or_assoc, eqb_tells, IsHeader, rest_after, next_header, is_fragmenting, ExtHeader, leads_to, bytes_of, is_empty, has_fragmenting, IsNext, IsEnd}
+use Rattle.ip_spec.proofs.Common.{common_steps, ◌≡◌, ℕ, arith, subst, ◌-◌, List, ◌∷◌, ◌++◌, length, take, drop, ap, ◌∙◌, Bool, nat_eq, rules, [], ◌==◌, ◌&&◌, ◌||◌, Option, None, YieldsList, YieldsList-from_shown, or-false, or_assoc, rest_after, next_header, is_fragmenting, ExtHeader, leads_to, bytes_of, has_fragmenting, IsNext, IsEnd}
 use Rattle.ip_spec.proofs.PrefixLemmas.{prefix-length}
 use Rattle.ip_spec.proofs.ChainLemmas.{longest_ends, bytes_of-least}
 use Rattle.ip_spec.proofs.ParsedLemmas.{HasParsed, has_parsed_on, offset_is, no_next_here, parsed_longest}
@@ -9,7 +9,7 @@ use Rattle.ip_ext_slices.specs.ChainAnswer.{IsChainAnswer}
 use Rattle.ip_ext_slices.specs.Ipv6ExtensionSlice.{header_of}
 use Rattle.ip_ext_slices.specs.Ipv6ExtensionsCursor.{headers_left, GivesHeader}
 use Rattle.ip_ext_slices.specs.declared.ipv6_exts_cursor.Ipv6ExtensionsCursor.{Ipv6ExtensionsCursor}
-use Rattle.ip_ext_slices.proofs.LongestLemmas.{longest_chain-longest, longest_chain-is, longest_chain-bytes_of, longest_from-end}
+use Rattle.ip_ext_slices.proofs.LongestLemmas.{longest_chain-longest, longest_chain-is, longest_chain-bytes_of, longest_from_end}
 
 -- a fragment header that fragments the payload
 abbrev pub fragments : ExtHeader → Bool
@@ -27,11 +27,7 @@ pub record ParseState (n : ℕ) (s : List ℕ) (m : ℕ) (r : List ℕ) (flag : 
 -- one more header
 pub parse_goes_on : (n : ℕ) (s : List ℕ) (m : ℕ) (r : List ℕ) (flag : Bool) (h : ExtHeader) (k : ℕ) (q b : List ℕ) (either : Bool) → ParseState n s m r flag → IsNext (nat_eq (length r) (length s)) m r h
     → k ≡ next_header h.bytes → b ≡ h.bytes → q ≡ drop (length b) r → either ≡ (flag || fragments h) → ParseState n s k q either
-parse_goes_on n s m r flag h k q b either p x ek eb eq em = record {
-  chain = p.chain ++ h ∷ [];
-  read = has_parsed_on n s p.chain m r h k q b p.read x ek eb eq;
-  fragmented = cc (p.fragmented, has_fragmenting-more p.chain h);
-}
+parse_goes_on n s m r flag h k q b either p x ek eb eq em = search (rules, has_parsed_on n s p.chain m r h k q b p.read x ek eb eq, has_fragmenting-more)
 
 -- at an end the chain parsed is the longest
 pub record AtEnd (n : ℕ) (s : List ℕ) (m : ℕ) (r : List ℕ) (flag : Bool) : Type 0 where
@@ -43,12 +39,7 @@ pub record AtEnd (n : ℕ) (s : List ℕ) (m : ℕ) (r : List ℕ) (flag : Bool)
 pub at_end : (n : ℕ) (s : List ℕ) (m : ℕ) (r : List ℕ) (flag : Bool) → ParseState n s m r flag → IsEnd (nat_eq (length r) (length s)) m r → AtEnd n s m r flag
 at_end n s m r flag p e =
     let longest = parsed_longest n s p.chain m r p.read (no_next_here n s p.chain m r p.read e) in
-    let is : longest_chain n s ≡ p.chain = longest_chain-is n s p.chain longest in
-    let len = offset_is n s p.chain m r p.read in
-    record { number = cc (p.read.number); rest = cc (p.read.rest); len = cc; fragmented = cc (p.fragmented) }
-
-no_bytes : (c : List ExtHeader) (k : ℕ) → AllByRecursion (λ h. IsHeader h.number h.bytes) c → k ≡ length (bytes_of c) → nat_eq k 0 ≡ is_empty c
-no_bytes c k a e = search (rules, nat_eq, eqb_tells, bytes_of-least)
+    search (rules, longest_chain-is n s p.chain longest, offset_is n s p.chain m r p.read)
 
 -- the bytes before those left are the chain's
 pub len_after : (n : ℕ) (s r : List ℕ) → r ≡ rest_after (longest_chain n s) s → length s - length r ≡ length (bytes_of (longest_chain n s))
@@ -62,16 +53,13 @@ module _ (n : ℕ) (s : List ℕ) (k : ℕ) (len : k ≡ length (bytes_of (longe
   pub longest_own : longest_chain n (take k s) ≡ longest_chain n s
   longest_own = ap (longest_chain n) longest_front ∙ longest_chain-bytes_of n (longest_chain n s) (longest_chain-longest n s).has.chain
 
-  first_told : nat_eq k 0 ≡ is_empty (longest_chain n s)
-  first_told = no_bytes (longest_chain n s) k (longest_chain-longest n s).has.chain.headers len
-
   module _ (m : ℕ) (r : List ℕ) (number : m ≡ leads_to n (longest_chain n s)) (rest : r ≡ rest_after (longest_chain n s) s) where
     -- no header follows it, and the error there
     pub ends_after : IsEnd (nat_eq k 0) m r
-    ends_after = search (rules, first_told, longest_ends, longest_chain-longest)
+    ends_after = search (rules, bytes_of-least, longest_ends, longest_chain-longest)
 
     pub chain_fault_is : chain_fault n s ≡ slice_fault k (nat_eq k 0) m r
-    chain_fault_is = search (rules, first_told)
+    chain_fault_is = search (rules, bytes_of-least, longest_chain-longest)
 
 -- A cursor over the longest chain of s from n has reached number m with r left, and the headers left from there lead
 -- to where the chain leads. At an end, the cursor is at the end of the chain.
@@ -80,7 +68,7 @@ pub record IsAtEnd (n : ℕ) (s : List ℕ) (m : ℕ) (r : List ℕ) : Type 0 wh
   pub answers : (f : Option Fault) → f ≡ slice_fault (length s - length r) (nat_eq (length s - length r) 0) m r → IsChainAnswer n s (longest_chain n s) m r f
 
 pub cursor_at_end : (n : ℕ) (s : List ℕ) (first : Bool) (m : ℕ) (r : List ℕ) → leads_to m (longest_from first m r) ≡ leads_to n (longest_chain n s) → rest_after (longest_from first m r) r ≡ rest_after (longest_chain n s) s → IsEnd first m r → IsAtEnd n s m r
-cursor_at_end n s first m r leads after e = search (rules, longest_from-end, len_after, ends_after, chain_fault_is)
+cursor_at_end n s first m r leads after e = search (rules, longest_from_end, len_after, ends_after, chain_fault_is)
 
 -- the headers that a cursor returns
 ended : (c d : Ipv6ExtensionsCursor) → GivesHeader c None d → length (headers_left c) ≡ 0

@@ -1,5 +1,5 @@
 -- The error at a number: none if a header follows, and one if a request of a header finds too few bytes.
-use Rattle.ip_spec.proofs.Common.{◌≡◌, ℕ, ◌<◌, List, ◌++◌, length, refl, ap, ◌∙◌, inl, inr, Bool, rules, Some, None, IsTrue, option_map, IsRawNumber, Asks, asks_raw, asks_fragment, asks_auth, IsZeroLength, ExtHeader, IsNext, IsEnd}
+use Rattle.ip_spec.proofs.Common.{◌≡◌, ℕ, ◌<◌, List, ◌++◌, length, refl, ap, ◌∙◌, inl, inr, Bool, rules, Some, IsTrue, option_map, IsRawNumber, Asks, asks_raw, asks_fragment, asks_auth, IsZeroLength, IsEnd}
 use Rattle.ip_base.specs.declared.err.layer.Layer.{Layer}
 use Rattle.ip_base.specs.declared.err.layer.Layer.TheVariants.{Ipv6HopByHopHeader, Ipv6DestOptionsHeader, Ipv6RouteHeader, Ipv6FragHeader, IpAuthHeader}
 use Rattle.ip_base.specs.declared.err.len_error.LenError.{LenError}
@@ -13,12 +13,9 @@ use Rattle.ip_ext_slices.specs.declared.err.ipv6_exts.header_slice_error.HeaderS
 
 module _ (source : LenSource) (n k : ℕ) (x : List ℕ) where
   -- the error at a number is that of its header format
-  fault_first : (first : Bool) → IsTrue first → fault_at source n k first 0 x ≡ option_map (λ e. (Len e, Ipv6HopByHopHeader)) (raw_fault source n k x)
-  fault_first first t = search rules
-
   fault_raw : (first : Bool) (m : ℕ) → IsRawNumber m → (m ≡ 0 → IsTrue first) → (l : Layer) × (fault_at source n k first m x ≡ option_map (λ e. (Len e, l)) (raw_fault source n k x))
   fault_raw first m is zero_first = elim is [
-    | inl e ↦ (Ipv6HopByHopHeader, search (rules, fault_first, zero_first))
+    | inl e ↦ (Ipv6HopByHopHeader, search (rules, zero_first))
     | inr is' ↦ elim is' [ inl e ↦ (Ipv6RouteHeader, rw e refl) | inr e ↦ (Ipv6DestOptionsHeader, rw e refl) ]
   ]
 
@@ -28,12 +25,9 @@ module _ (source : LenSource) (n k : ℕ) (x : List ℕ) where
   fault_auth : (first : Bool) (m : ℕ) → m ≡ 51 → fault_at source n k first m x ≡ option_map auth_at (auth_fault source n k x)
   fault_auth first m e = search rules
 
-  no_fault_at_next : (first : Bool) (m : ℕ) (h : ExtHeader) → IsNext first m x h → fault_at source n k first m x ≡ None
-  no_fault_at_next first m h y = search (rules, fault_raw, raw_at_header, fault_fragment, fragment_at_header, fault_auth, auth_at_header)
-
   -- so if there is an error, no header follows
   pub fault_ends : (first : Bool) (m : ℕ) (f : Fault) → fault_at source n k first m x ≡ Some f → IsEnd first m x
-  fault_ends first m f e h y = cc (no_fault_at_next first m h y)
+  fault_ends first m f e h y = search (rules, raw_at_header, fragment_at_header, auth_at_header)
 
 module _ (source : LenSource) (n k : ℕ) (first : Bool) (m : ℕ) where
   -- a request after the consumed bytes finds too few
@@ -54,4 +48,4 @@ module _ (source : LenSource) (n k : ℕ) (first : Bool) (m : ℕ) where
 
   -- the length of an authentication header is zero
   pub zero_fault : (done xs : List ℕ) → m ≡ 51 → IsZeroLength done → fault_at source n k first m (done ++ xs) ≡ Some (Content (IpAuth ZeroPayloadLen), IpAuthHeader)
-  zero_fault done xs e z = fault_auth source n k (done ++ xs) first m e ∙ ap (option_map auth_at) (auth_zero_fault source n k done xs z)
+  zero_fault done xs e z = search (rules, fault_auth, auth_zero_fault)

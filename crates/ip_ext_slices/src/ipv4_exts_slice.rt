@@ -63,6 +63,7 @@ impl<'a> Ipv4ExtensionsSlice<'a> {
 
     /// Parses the headers as `from_slice_lax` does, and returns the error, if there is one, instead of the headers.
     #[inline(always)]
+    #[tactic(auto, using(crate::proofs::Ipv4Lemmas::answer_of_one))]
     pub fn from_slice(
         start_ip_number: IpNumber,
         start_slice: &'a [u8],

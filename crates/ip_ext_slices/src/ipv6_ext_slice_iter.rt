@@ -47,6 +47,7 @@ impl<'a> Iterator for Ipv6ExtensionSliceIter<'a> {
 
     ghost remaining = { item_count headers_left };
 
+    #[tactic(auto, using(crate::proofs::LongestLemmas::whole_goes_on, crate::proofs::LongestLemmas::whole_split, crate::proofs::LongestLemmas::some_where_next))]
     fn next(&mut self) -> Option<Ipv6ExtensionSlice<'a>> {
         if self.rest.is_empty() {
             return None;

@@ -36,6 +36,7 @@ impl<'a> Ipv6ExtensionsCursor<'a> {
 
     /// Returns a cursor over the longest chain at the start of `bytes`, for the start number `first`.
     #[inline(always)]
+    #[tactic(auto, using(crate::proofs::LongestLemmas::longest_from_least))]
     pub fn new(first: IpNumber, bytes: &'a [u8]) -> Ipv6ExtensionsCursor<'a>
         ensures start { start result ≡ first.0 }
         ensures input { input result ≡ bytes.now }
@@ -73,6 +74,7 @@ impl<'a> Ipv6ExtensionsCursor<'a> {
     /// the bytes after it, and the error that ended it, if any, with its layer. Offsets in the error count from the
     /// start of the bytes given to `new`.
     #[inline(always)]
+    #[tactic(auto, using(crate::proofs::FaultLemmas::end_at_other, crate::proofs::LongestLemmas::longest_from_end))]
     pub fn end(&self) -> Option<(IpNumber, &'a [u8], Option<(HeaderSliceError, Layer)>)>
         ensures before { IfNone result (headers_left self.now ≢ []) }
         ensures last { IfSome result (λ _. headers_left self.now ≡ []) }
@@ -104,6 +106,7 @@ impl<'a> Iterator for Ipv6ExtensionsCursor<'a> {
     ghost remaining = { item_count headers_left };
 
     #[inline(always)]
+    #[tactic(auto, using(crate::proofs::LongestLemmas::goes_after, crate::proofs::LongestLemmas::longest_from_end))]
     fn next(&mut self) -> Option<Ipv6ExtensionSlice<'a>> {
         let first = self.rest.len() == self.bytes.len();
         let Some(header) = header_at(first, self.number, self.rest) else {

@@ -51,6 +51,7 @@ impl<'a> Ipv6ExtensionsSlice<'a> {
 
     /// Returns the longest chain from `start` at the start of `input`: the first `len` bytes.
     #[inline(always)]
+    #[tactic(auto, using(crate::proofs::ParseLemmas::longest_front, crate::proofs::ParseLemmas::longest_own))]
     fn first(
         start: IpNumber,
         input: &'a [u8],
@@ -72,6 +73,7 @@ impl<'a> Ipv6ExtensionsSlice<'a> {
     /// start of `start_slice`. A chain that leads to a number that is not an extension header's has no error. Of
     /// truncated bytes, as in a capture, it returns the chain of the headers that lie wholly within them.
     #[inline(always)]
+    #[tactic(auto, using(crate::proofs::LongestLemmas::longest_chain_shorter))]
     pub fn from_slice_lax(
         start_ip_number: IpNumber,
         start_slice: &'a [u8],
@@ -124,6 +126,7 @@ impl<'a> Ipv6ExtensionsSlice<'a> {
 
     /// Parses the headers as `from_slice_lax` does, and returns the error, if there is one, instead of the headers.
     #[inline(always)]
+    #[tactic(auto, using(crate::proofs::ParseLemmas::chain_fault_is))]
     pub fn from_slice(
         start_ip_number: IpNumber,
         start_slice: &'a [u8],
@@ -187,6 +190,7 @@ impl<'a> IntoIterator for Ipv6ExtensionsSlice<'a> {
 
     ghost into_iter_gives = { λ x it. headers_left it ≡ headers_in x };
 
+    #[tactic(auto, using(crate::proofs::SameLemmas::from_start_number))]
     fn into_iter(self) -> Ipv6ExtensionSliceIter<'a>
         ensures headers { headers_left result ≡ headers_in self.entry }
         ensures joined { bytes_of (headers_left result) ≡ bytes self.entry }
@@ -228,6 +232,7 @@ impl PartialEq for Ipv6ExtensionsSlice<'_> {
 
     ghost laws = { Prim.search (comparing, rules) };
 
+    #[tactic(auto, using(crate::proofs::SameLemmas::same_headers))]
     fn eq(&self, other: &Self) -> bool
         ensures answer { result ≡ same_slice self.now other.now }
         ensures same { IsTrue result ↔ ((first_number self.now ≡ first_number other.now)

@@ -1,5 +1,5 @@
 -- Chains whose reserved bits are set to zero: they lead to the same number, and have the same places and fields.
-use Rattle.ip_spec.proofs.Common.{◌≡◌, ◌≢◌, ℕ, ◌<◌, List, [], ◌∷◌, ◌++◌, length, take, drop, refl, ap, ◌∙◌, arith, subst, Bool, rules, Option, Some, None, All, slice_range, AllByRecursion, find, option_map, ForSome, none-some, take-append_seam, drop-append_seam, recursion_from_All, All-take, All-drop, common_steps, IsHeader, IsFragmentHeader, IsAuthHeader, next_header, cleared_header, AreBytes, fixed_len, IsCleared, cleared_chain, ExtHeader, AreLinked, leads_to, bytes_of, IsChain, FitsPlaces, Place, header_in, fields_of, IsEncodingOf}
+use Rattle.ip_spec.proofs.Common.{◌≡◌, ◌≢◌, ℕ, ◌<◌, List, [], ◌∷◌, ◌++◌, length, take, drop, refl, ap, ◌∙◌, arith, subst, Bool, rules, Option, Some, None, All, slice_range, AllByRecursion, find, option_map, ForSome, none-some, take-append_seam, drop-append_seam, recursion_from_All, All-take, All-drop, common_steps, IsHeader, IsFragmentHeader, IsAuthHeader, next_header, cleared_header, AreBytes, fixed_len, IsCleared, cleared_chain, ExtHeader, AreLinked, leads_to, bytes_of, IsChain, FitsPlaces, Place, header_in, fields_of, IsEncodingOf, and_assoc}
 use Rattle.ip_spec.proofs.FirstLemmas.{find-map}
 use Rattle.ip_spec.proofs.PlaceLemmas.{is_of, side}
 use Rattle.ip_spec.proofs.FitsLemmas.{side-map, fits-map}
@@ -7,7 +7,6 @@ use Rattle.ip_spec.proofs.HeaderLemmas.{header_number, header-least, by_number, 
 use Rattle.ip_spec.proofs.FragmentBitLemmas.{reserved_part}
 use Rattle.ip_spec.proofs.EncodingLemmas.{FirstFour, first_four, byte_at, three_before}
 use Rattle.ip_spec.proofs.EncodedLemmas.{cleared_is_encoding}
-use Rattle.ip_spec.proofs.Common.{and_assoc}
 
 -- The properties of a header that clearing leaves unchanged.
 pub record ClearedSame (n : ℕ) (b : List ℕ) : Type 0 where

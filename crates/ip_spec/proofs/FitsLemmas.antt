@@ -1,5 +1,5 @@
 -- Chains whose headers fit six places.
-use Rattle.ip_spec.proofs.Common.{◌≡◌, ℕ, ◌≤◌, ◌<◌, List, [], ◌∷◌, ◌++◌, length, drop, map, refl, ap, sym, ◌∙◌, arith, ◌⊎◌, rules, ◌==◌, ◌↔◌, count_by, cases_lt, append-nil, length-append, common_steps, ExtHeader, leads_to, bytes_of, is_empty, IsPrefixChain, IsLongestChain, IsNext, IsEnd, IsDemand, IsLongestUnder, NextBreaks, Place, destination, routing, final_destination, places, side_of, number_in, Fits, FitsPlaces, IsOccupied}
+use Rattle.ip_spec.proofs.Common.{◌≡◌, ℕ, ◌≤◌, ◌<◌, List, [], ◌∷◌, ◌++◌, length, drop, map, refl, ap, sym, ◌∙◌, arith, ◌⊎◌, rules, ◌==◌, ◌↔◌, count_by, cases_lt, append-nil, length-append, common_steps, ExtHeader, leads_to, bytes_of, is_empty, IsPrefixChain, IsLongestChain, IsNext, IsEnd, IsDemand, IsLongestUnder, NextBreaks, Place, destination, routing, final_destination, places, side_of, number_in, Fits, FitsPlaces, IsOccupied, sum_by-append}
 use Rattle.ip_spec.proofs.HeaderLemmas.{header_number, later_of}
 use Rattle.ip_spec.specs.Places.{fragment}
 use Rattle.ip_spec.proofs.FirstLemmas.{count_before, count_after, before-map, after-map}
@@ -9,7 +9,6 @@ use Rattle.ip_spec.proofs.UnderLemmas.{longest_ends_under, longest_keeps}
 use Rattle.ip_spec.proofs.LongestOfLemmas.{begins_first}
 use Rattle.ip_spec.proofs.StepLemmas.{next_of, chains_grow}
 use Rattle.ip_spec.proofs.ChainLemmas.{longest_ends}
-use Rattle.ip_spec.proofs.Common.{sum_by-append}
 
 -- Headers after a chain add to the counts.
 count_grows : (p : Place) (c d : List ExtHeader) → count_in p c ≤ count_in p (c ++ d)

@@ -1,9 +1,8 @@
 -- The places of a chain's headers, the place of the next header, and the numbers whose place is occupied.
-use Rattle.ip_spec.proofs.Common.{◌≡◌, ℕ, ◌+◌, List, [], ◌∷◌, ◌++◌, refl, ap, sym, ◌∙◌, arith, inl, inr, Bool, true, false, rules, ◌==◌, ◌↔◌, count_by, Option, Some, None, is_some, IsSome, if◌then◌else◌, find, find-append, option_or, cases_Bool, eqb-true, eq-eqb, eqb_tells, same_Some, append-nil, common_steps, IsExtensionNumber, IsLaterNumber, ExtHeader, Place, hop_by_hop, destination, routing, authentication, final_destination, places, index, number_in, side_of, header_in, next_place, FitsPlaces, IsOccupied}
+use Rattle.ip_spec.proofs.Common.{◌≡◌, ℕ, ◌+◌, List, [], ◌∷◌, ◌++◌, refl, ap, sym, ◌∙◌, arith, inl, inr, Bool, true, false, rules, ◌==◌, ◌↔◌, count_by, Option, Some, None, is_some, IsSome, if◌then◌else◌, find, find-append, option_or, cases_Bool, eqb-true, eq-eqb, eqb_tells, same_Some, append-nil, common_steps, IsExtensionNumber, IsLaterNumber, ExtHeader, Place, hop_by_hop, destination, routing, authentication, final_destination, places, index, number_in, side_of, header_in, next_place, FitsPlaces, IsOccupied, sum_by-append}
 use Rattle.ip_spec.proofs.HeaderLemmas.{later_extension}
 use Rattle.ip_spec.specs.Places.{fragment}
 use Rattle.ip_spec.proofs.FirstLemmas.{before-no, before-none, before-some, after-none, after-some, after_one, counted, none_counted}
-use Rattle.ip_spec.proofs.Common.{sum_by-append}
 
 -- the place of a header of number m, free or not, after a routing header or not
 abbrev pub place_of : ℕ → Bool → Option Place

@@ -1,5 +1,5 @@
 -- The runs of a chain.
-use Rattle.ip_spec.proofs.Common.{◌≡◌, ◌≢◌, ℕ, zero, suc, ◌+◌, ◌/◌, ◌≤◌, List, [], ◌∷◌, ◌++◌, length, drop, refl, ap, sym, ◌∙◌, arith, inl, inr, ◌⊎◌, subst, append_assoc, rules, flat_map, AllByRecursion, append-nil, append_cancel_left, length-append, map-append, flat_map-append, next_header, ExtHeader, leads_to, bytes_of, is_empty, IsChain, IsPrefixChain, IsLongestChain, IsEnd, KeepsBeginning, NextBreaks, IsLongestUnder, FitsPlaces, IsOccupied, cleared_chain, joined, how_many, AreRuns, AreChains}
+use Rattle.ip_spec.proofs.Common.{◌≡◌, ◌≢◌, ℕ, zero, suc, ◌+◌, ◌/◌, ◌≤◌, List, [], ◌∷◌, ◌++◌, length, drop, refl, ap, sym, ◌∙◌, arith, inl, inr, ◌⊎◌, subst, append_assoc, rules, flat_map, AllByRecursion, append-nil, append_cancel_left, length-append, map-append, flat_map-append, next_header, ExtHeader, leads_to, bytes_of, is_empty, IsChain, IsPrefixChain, IsLongestChain, IsEnd, KeepsBeginning, NextBreaks, IsLongestUnder, FitsPlaces, IsOccupied, cleared_chain, joined, how_many, AreRuns, AreChains, common_steps, eqb_tells, cases_Bool}
 use Rattle.ip_spec.proofs.HeaderLemmas.{later_not_zero, later_or}
 use Rattle.ip_spec.proofs.PrefixLemmas.{prefix_second, rest_join, prefix-length}
 use Rattle.ip_spec.proofs.LongestOfLemmas.{compare, within, beyond}
@@ -7,12 +7,8 @@ use Rattle.ip_spec.proofs.StepLemmas.{begins, chain_begins, tail_chain, bytes_of
 use Rattle.ip_spec.proofs.UnderLemmas.{kept_is_longest}
 use Rattle.ip_spec.proofs.ChainLemmas.{longest_at_end, longest_ends}
 use Rattle.ip_spec.proofs.DemandLemmas.{Begins, beginnings_grow, some_kept, one_kept, kept_bounds}
-use Rattle.ip_spec.proofs.PlaceLemmas.{bare, occupied_breaks}
+use Rattle.ip_spec.proofs.PlaceLemmas.{bare, occupied_breaks, fits_next}
 use Rattle.ip_spec.proofs.FitsLemmas.{fits_places, fits_after, next_occupied}
-use Rattle.ip_spec.proofs.PlaceLemmas.{fits_next}
-use Rattle.std.proofs.lemmas.Grind.{common_steps}
-use Rattle.std.proofs.lemmas.Bool.Decides.{eqb_tells}
-use Rattle.std.proofs.lemmas.Bool.{cases_Bool}
 
 abbrev Pieces : Type 0
 Pieces = List (List ExtHeader)

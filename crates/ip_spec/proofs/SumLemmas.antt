@@ -4,8 +4,7 @@ use Rattle.std.specs.Prelude.{⊤}
 use Rattle.ip_spec.proofs.StepLemmas.{by_more, chain_begins}
 use Rattle.ip_spec.proofs.FitsLemmas.{fits_places}
 use Rattle.ip_spec.proofs.WalkLemmas.{WalkAnswer, unreached, Joins, joins, there}
-use Rattle.ip_spec.proofs.WalkStepLemmas.{FillsIn, Walking, without, left, some_or, walk_begins, walks_on, walk_stops, same_held}
-use Rattle.ip_spec.proofs.WalkStepLemmas.{free_in_chain}
+use Rattle.ip_spec.proofs.WalkStepLemmas.{FillsIn, Walking, without, left, some_or, walk_begins, walks_on, walk_stops, same_held, free_in_chain}
 
 -- the sum of f over the fields in the places
 abbrev pub sum_placed : (HeaderFields → ℕ) → PlacedFields → ℕ

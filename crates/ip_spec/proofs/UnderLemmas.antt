@@ -1,11 +1,10 @@
 -- Chains under a demand: the next header, the longest, and its relation to the longest without a demand.
-use Rattle.ip_spec.proofs.Common.{◌≡◌, ℕ, List, length, drop, inl, rules, take-length, drop-length, ExtHeader, leads_to, bytes_of, IsChain, IsPrefixChain, IsLongestChain, IsDemand, KeepsBeginning, IsLongestUnder, IsEndUnder, NoDemand}
+use Rattle.ip_spec.proofs.Common.{◌≡◌, ℕ, List, length, drop, inl, rules, take-length, drop-length, ExtHeader, leads_to, bytes_of, IsChain, IsPrefixChain, IsLongestChain, IsDemand, KeepsBeginning, IsLongestUnder, IsEndUnder, NoDemand, length-append}
 use Rattle.ip_spec.proofs.PrefixLemmas.{prefix-length}
 use Rattle.ip_spec.proofs.HeaderLemmas.{header-least}
 use Rattle.ip_spec.proofs.LongestOfLemmas.{Grows, longest_where_none_next, one_longest_of, longest_same}
 use Rattle.ip_spec.proofs.DemandLemmas.{IsUnder, under_grows, some_longest_under_of, longest_where_kept, kept_where_longest}
 use Rattle.ip_spec.proofs.StepLemmas.{next_of, goes_on, chains_grow, chains_decide, chain-bound, no_header_prefix}
-use Rattle.ip_spec.proofs.Common.{length-append}
 
 module _ (Q : List ExtHeader → Type 0) (k : IsDemand Q) (n : ℕ) (s : List ℕ) where
   pub chains_grow_under : Grows (IsUnder Q (IsPrefixChain n s))

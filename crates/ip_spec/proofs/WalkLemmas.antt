@@ -6,10 +6,9 @@ use Rattle.ip_base.specs.declared.err.ipv6_exts.exts_walk_error.ExtsWalkError.{E
 use Rattle.ip_spec.proofs.LongestOfLemmas.{Grows, one_longest_of}
 use Rattle.ip_spec.proofs.StepLemmas.{all_first, all_next, chain_begins, chain_number, chain_header, chain_zero}
 use Rattle.ip_spec.proofs.FitsLemmas.{fits_places}
-use Rattle.ip_spec.proofs.PlaceLemmas.{place_of, has_routing, own_place, placed}
+use Rattle.ip_spec.proofs.PlaceLemmas.{place_of, has_routing, own_place, placed, none_there}
 use Rattle.ip_spec.proofs.HeaderLemmas.{header_number}
 use Rattle.ip_spec.proofs.EncodedLemmas.{one_header_says}
-use Rattle.ip_spec.proofs.PlaceLemmas.{none_there}
 use Rattle.ip_spec.proofs.FirstLemmas.{counted}
 
 abbrev pub WalkAnswer : Type 0

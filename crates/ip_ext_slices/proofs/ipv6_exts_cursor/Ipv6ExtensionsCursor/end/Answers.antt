@@ -1,14 +1,9 @@
 use Rattle.ip_spec.proofs.Common.{◌≡◌, ◌∷◌, sym, ◌∙◌, true, false, [], None, IsExtensionNumber}
 use Rattle.ip_base.specs.declared.len_source.LenSource.TheVariants.{Slice}
 use Rattle.ip_ext_slices.proofs.FaultLemmas.{fault_at_end, end_at_other, no_fault_at_other}
-use Rattle.ip_ext_slices.proofs.LongestLemmas.{longest_from-end, longest_from-next}
+use Rattle.ip_ext_slices.proofs.LongestLemmas.{longest_from_next}
 use Rattle.ip_ext_slices.proofs.ParseLemmas.{cursor_at_end}
 use Rattle.ip_ext_slices.proofs.ipv6_exts_cursor.Ipv6ExtensionsCursor.end.Goals as goal
-
-pub returns-then-not-is_extension-clause-last : goal.returns-then-not-is_extension-clause-last
-returns-then-not-is_extension-clause-last c =
-    let other : IsExtensionNumber c.args.self.now.number.0 → ⊥ = λ e. let no : true ≡ false = sym (c.is_extension.ensures.1 e) ∙ c.if-not-is_extension.true in cc in
-    longest_from-end _ c.args.self.now.number.0 c.args.self.now.rest.now (end_at_other _ c.args.self.now.number.0 c.args.self.now.rest.now other)
 
 pub returns-then-not-is_extension-clause-answer : goal.returns-then-not-is_extension-clause-answer
 returns-then-not-is_extension-clause-answer c =
@@ -22,10 +17,7 @@ fault-fault-requires c =
     fault_at_end Slice _ _ _ _ _ (c.is_extension.ensures.0 c.if-not-is_extension.false) (cursor_at_end _ _ _ _ _ x.leads x.after c.in-None.ensures.end).ends
 
 pub returns-in-Some-clause-before : goal.returns-in-Some-clause-before
-returns-in-Some-clause-before c = λ e. let no : _ ∷ _ ≡ [] = sym (longest_from-next _ _ _ _ c.in-Some.ensures.next) ∙ e in cc
-
-pub returns-in-None-clause-last : goal.returns-in-None-clause-last
-returns-in-None-clause-last c = longest_from-end _ _ _ c.in-None.ensures.end
+returns-in-Some-clause-before c = λ e. let no : _ ∷ _ ≡ [] = sym (longest_from_next _ _ _ _ c.in-Some.ensures.next) ∙ e in cc
 
 pub returns-in-None-clause-answer : goal.returns-in-None-clause-answer
 returns-in-None-clause-answer c = (cursor_at_end _ _ _ _ _ c.args.self.now.leads c.args.self.now.after c.in-None.ensures.end).answers _ (sym c.fault-fault.ensures)

@@ -1,15 +1,9 @@
-use Rattle.ip_spec.proofs.Common.{◌∙◌, ap, option_map}
 use Rattle.ip_base.specs.declared.len_source.LenSource.TheVariants.{Slice}
-use Rattle.ip_ext_slices.specs.ChainFault.{Fault}
 use Rattle.ip_ext_slices.proofs.FaultLemmas.{fault_at_end}
-use Rattle.ip_ext_slices.proofs.ParseLemmas.{ends_after, chain_fault_is}
+use Rattle.ip_ext_slices.proofs.ParseLemmas.{ends_after}
 use Rattle.ip_ext_slices.proofs.ipv6_exts_slice.Ipv6ExtensionsSlice.from_slice.Goals as goal
 
 pub error_at-requires : goal.error_at-requires
 error_at-requires c =
     let scanned = c.scan-len.ensures in
     fault_at_end Slice _ _ _ _ _ (c.is_extension.ensures.0 c.if-is_extension.true) (ends_after _ _ _ scanned.len _ _ scanned.number scanned.rest)
-
-pub returns-then-is_extension-clause-fault : goal.returns-then-is_extension-clause-fault
-returns-then-is_extension-clause-fault c =
-    ap (option_map (λ (f : Fault). f.0)) (chain_fault_is _ _ _ c.scan-len.ensures.len _ _ c.scan-len.ensures.number c.scan-len.ensures.rest) ∙ c.error_at.ensures

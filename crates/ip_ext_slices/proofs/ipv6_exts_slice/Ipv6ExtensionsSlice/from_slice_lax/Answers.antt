@@ -1,6 +1,5 @@
 use Rattle.ip_base.specs.declared.len_source.LenSource.TheVariants.{Slice}
 use Rattle.ip_ext_slices.proofs.FaultLemmas.{fault_at_end}
-use Rattle.ip_ext_slices.proofs.LongestLemmas.{longest_chain-shorter}
 use Rattle.ip_ext_slices.proofs.ParseLemmas.{ends_after}
 use Rattle.ip_ext_slices.proofs.ipv6_exts_slice.Ipv6ExtensionsSlice.from_slice_lax.Goals as goal
 
@@ -8,9 +7,3 @@ pub fault-fault-requires : goal.fault-fault-requires
 fault-fault-requires c =
     let scanned = c.scan-len.ensures in
     fault_at_end Slice _ _ _ _ _ (c.is_extension.ensures.0 c.if-is_extension.true) (ends_after _ _ _ scanned.len _ _ scanned.number scanned.rest)
-
-pub returns-then-is_extension-clause-truncated : goal.returns-then-is_extension-clause-truncated
-returns-then-is_extension-clause-truncated c = λ j. rw c.first-found.ensures.headers (longest_chain-shorter _ j _)
-
-pub returns-clause-truncated : goal.returns-clause-truncated
-returns-clause-truncated c = λ j. rw c.first-found-2.ensures.headers (longest_chain-shorter _ j _)

@@ -1,5 +1,5 @@
 -- The error at bytes: none at a header, and one if a request of a header finds too few bytes.
-use Rattle.ip_spec.proofs.Common.{common_steps, ◌≡◌, ℕ, ◌+◌, ◌*◌, ◌<◌, List, ◌++◌, length, refl, arith, slice_index, ap, inl, inr, rules, Some, None, cases_lt, lt-ltb, le-ltb, ne_eqb, get_or_append_left, IsPrefix, IsRawHeader, IsFragmentHeader, IsAuthHeader, RawAsks, FragmentAsks, fragment_whole, AuthAsks, auth_start, auth_icv, IsZeroLength}
+use Rattle.ip_spec.proofs.Common.{common_steps, ◌≡◌, ℕ, ◌+◌, ◌*◌, ◌<◌, List, ◌++◌, length, arith, slice_index, inl, inr, rules, Some, None, cases_lt, lt-ltb, le-ltb, get_or_append_left, IsPrefix, IsRawHeader, IsFragmentHeader, IsAuthHeader, RawAsks, FragmentAsks, fragment_whole, AuthAsks, auth_start, auth_icv, IsZeroLength}
 use Rattle.std.proofs.Common.{length-append}
 use Rattle.ip_base.specs.LenError.{too_short}
 use Rattle.ip_base.specs.declared.err.len_error.LenError.{LenError}
@@ -19,19 +19,12 @@ module _ (source : LenSource) (n k : ℕ) where
   fragment_at_header b s h p = search rules
 
   pub auth_at_header : (b s : List ℕ) → IsAuthHeader b → IsPrefix b s → auth_fault source n k s ≡ None
-  auth_at_header b s h p =
-      let same : slice_index b 1 ≡ slice_index s 1 = prefix_byte b s p (omega (arith, h.not_zero, h.len)) in
-      let enough = prefix-length b s p in
-      rw (
-        le-ltb (length s) 12 (omega (arith, h.not_zero, h.len)),
-        ne_eqb (slice_index s 1) 0 (omega (arith, h.not_zero)),
-        le-ltb (length s) (4 * (slice_index s 1 + 2)) (omega (arith, h.len)),
-      ) refl
+  auth_at_header b s h p = grind (arith, common_steps, prefix_byte b s, prefix-length b s)
 
   raw_rest_fault : (s : List ℕ) → length s < 8 * (slice_index s 1 + 1) → (e : LenError) × (raw_fault source n k s ≡ Some e)
   raw_rest_fault s few = elim (cases_lt (length s) 8) [
-    | inl less ↦ (too_short source n k Ipv6ExtHeader 8, rw (lt-ltb (length s) 8 less) refl)
-    | inr more ↦ (too_short source n k Ipv6ExtHeader (8 * (slice_index s 1 + 1)), rw (le-ltb (length s) 8 more, lt-ltb (length s) (8 * (slice_index s 1 + 1)) few) refl)
+    | inl less ↦ (too_short source n k Ipv6ExtHeader 8, search rules)
+    | inr more ↦ (too_short source n k Ipv6ExtHeader (8 * (slice_index s 1 + 1)), search rules)
   ]
 
   -- A request after the consumed bytes finds too few.
@@ -40,26 +33,12 @@ module _ (source : LenSource) (n k : ℕ) where
     raw_asks_fault a = search (rules, lt-ltb, length-append, raw_rest_fault, get_or_append_left)
 
     pub fragment_asks_fault : FragmentAsks done count → (e : LenError) × (fragment_fault source n k (done ++ xs) ≡ Some e)
-    fragment_asks_fault a =
-        elim a [
-          | fragment_whole none c ↦ (
-            too_short source n k Ipv6FragHeader 8,
-            rw (lt-ltb (length (done ++ xs)) 8 (omega (arith, length-append done xs, ap length none, few))) refl,
-          )
-        ]
+    fragment_asks_fault a = elim a [ fragment_whole none c ↦ (too_short source n k Ipv6FragHeader 8, search (rules, length-append)) ]
 
     pub auth_asks_fault : AuthAsks done count → (e : LenError) × (auth_fault source n k (done ++ xs) ≡ Some (Len e))
     auth_asks_fault a = elim a [
-      | auth_start none c ↦ (too_short source n k IpAuthHeader 12, rw (lt-ltb (length (done ++ xs)) 12 (omega (arith, length-append done xs, ap length none, few))) refl)
-      | auth_icv len z c ↦
-          let byte : slice_index (done ++ xs) 1 ≡ slice_index done 1 = get_or_append_left done xs 0 1 (omega arith) in (
-            too_short source n k IpAuthHeader (4 * (slice_index (done ++ xs) 1 + 2)),
-            rw (
-              le-ltb (length (done ++ xs)) 12 (omega (arith, length-append done xs)),
-              ne_eqb (slice_index (done ++ xs) 1) 0 (omega arith),
-              lt-ltb (length (done ++ xs)) (4 * (slice_index (done ++ xs) 1 + 2)) (omega (arith, length-append done xs, few)),
-            ) refl,
-          )
+      | auth_start none c ↦ (too_short source n k IpAuthHeader 12, search (rules, length-append))
+      | auth_icv len z c ↦ (too_short source n k IpAuthHeader (4 * (slice_index (done ++ xs) 1 + 2)), search (rules, slice_index, get_or_append_left, length-append))
     ]
 
   -- the consumed bytes say that the length is zero

@@ -1,4 +1,4 @@
-use Rattle.ip_spec.proofs.Common.{rules, arith, ◌≡◌, ◌-◌, ◌*◌, ◌++◌, length, ◌∙◌, slice_index, refl, sym, [], Consumes-nil, Consumes-trans, AuthAsks, auth_start, auth_icv}
+use Rattle.ip_spec.proofs.Common.{rules, arith, refl, [], Consumes-nil, Consumes-trans, AuthAsks, auth_start, auth_icv}
 use Rattle.ip_spec.proofs.RequestLemmas.{auth_joined, auth_joined_fields}
 use Rattle.ip_base.proofs.ReadingLemmas.{refused_after, refused_short}
 use Rattle.ip_ext_headers.specs.AuthReading.{auth_slice_fault, IsTooShort}
@@ -20,11 +20,6 @@ returns-in-Err-read_exact-clause-fault g c = refused_short AuthAsks (IsTooShort 
 
 pub returns-in-Ok-read_exact-clause-header : goal.returns-in-Ok-read_exact-clause-header
 returns-in-Ok-read_exact-clause-header g c =
-    let e : length c.read_exact.new.buf ≡ 12 = omega arith in
-    let n : length c.read_exact-2.new.buf ≡ 4 * (slice_index c.read_exact.new.buf 1 - 1) = search rules in
-    record {
-      bytes = c.read_exact.new.buf ++ c.read_exact-2.new.buf;
-      header = auth_joined c.read_exact.new.buf c.read_exact-2.new.buf e (omega arith) n;
-      fields = auth_joined_fields c.read_exact.new.buf c.read_exact-2.new.buf e ∙ sym c.of_bytes.ensures;
-      consumed = Consumes-trans _ _ _ c.read_exact.new.buf c.read_exact-2.new.buf c.in-Ok.ensures.takes c.in-Ok-read_exact.ensures.takes;
-    }
+    let h = c.read_exact.new.buf in
+    let p = c.read_exact-2.new.buf in
+    search (rules, auth_joined h p, auth_joined_fields h p, Consumes-trans _ _ _ h p c.in-Ok.ensures.takes c.in-Ok-read_exact.ensures.takes)

@@ -1,4 +1,4 @@
-use Rattle.ip_spec.proofs.Common.{rules, arith, ◌≡◌, ◌-◌, ◌*◌, ◌++◌, length, List, ℕ, ap, ◌∙◌, slice_index, refl, sym, [], AuthAsks, auth_start, auth_icv}
+use Rattle.ip_spec.proofs.Common.{rules, arith, List, ℕ, ap, ◌∙◌, refl, [], AuthAsks, auth_start, auth_icv}
 use Rattle.ip_base.specs.declared.err.layer.Layer.TheVariants.{IpAuthHeader as AuthLayer}
 use Rattle.ip_spec.proofs.RequestLemmas.{auth_joined, auth_joined_fields}
 use Rattle.ip_base.proofs.ReadingLemmas.{consumed_none, consumed_more, refused_in_layer}
@@ -17,13 +17,8 @@ returns-in-Err-clause-fault g c = limited_fault g.T.ExactRead.bytes_left g.T.Exa
 pub returns-then-payload_len-eq0-clause-refused : goal.returns-then-payload_len-eq0-clause-refused
 returns-then-payload_len-eq0-clause-refused g c =
     let t = consumed_none g.T.ExactRead.bytes_left AuthLayer c.args.reader.now c.start_layer.new.self c.start_layer.ensures.reader c.start_layer.ensures.limits in
-    record {
-      done = c.read_exact.new.buf;
-      zero_length = record { len = omega arith; zero = omega arith };
-      consumed = consumed_more _ _ _ _ c.read_exact.new.self [] c.read_exact.new.buf _ t (omega arith) c.in-Ok.ensures.takes c.in-Ok.ensures.within
-          c.in-Ok.ensures.limits;
-      kept = c.in-Ok.ensures.kept ∙ ap g.T.ExactRead.has_failed c.start_layer.ensures.reader;
-    }
+    let u = consumed_more _ _ _ _ c.read_exact.new.self [] c.read_exact.new.buf _ t (omega arith) c.in-Ok.ensures.takes c.in-Ok.ensures.within c.in-Ok.ensures.limits in
+    search (rules, u)
 
 pub returns-in-Err-read_exact-clause-refused : goal.returns-in-Err-read_exact-clause-refused
 returns-in-Err-read_exact-clause-refused g c =
@@ -41,13 +36,7 @@ pub returns-in-Ok-read_exact-clause-header : goal.returns-in-Ok-read_exact-claus
 returns-in-Ok-read_exact-clause-header g c =
     let h : List ℕ = c.read_exact.new.buf in
     let p : List ℕ = c.read_exact-2.new.buf in
-    let e : length h ≡ 12 = omega arith in
-    let n : length p ≡ 4 * (slice_index h 1 - 1) = search rules in
     let t = consumed_none g.T.ExactRead.bytes_left AuthLayer c.args.reader.now c.start_layer.new.self c.start_layer.ensures.reader c.start_layer.ensures.limits in
     let u = consumed_more _ _ _ _ c.read_exact.new.self [] h _ t (omega arith) c.in-Ok.ensures.takes c.in-Ok.ensures.within c.in-Ok.ensures.limits in
-    record {
-      bytes = h ++ p;
-      header = auth_joined h p e (omega arith) n;
-      fields = auth_joined_fields h p e ∙ sym c.of_bytes.ensures;
-      consumed = consumed_more _ _ _ _ _ h p _ u (search rules) c.in-Ok-read_exact.ensures.takes c.in-Ok-read_exact.ensures.within c.in-Ok-read_exact.ensures.limits;
-    }
+    let v = consumed_more _ _ _ _ c.read_exact-2.new.self h p _ u (search rules) c.in-Ok-read_exact.ensures.takes c.in-Ok-read_exact.ensures.within c.in-Ok-read_exact.ensures.limits in
+    search (rules, auth_joined h p, auth_joined_fields h p, v)

@@ -1,4 +1,4 @@
-use Rattle.ip_spec.proofs.Common.{arith, ap, refl, sym, [], err_from_is_err_and, FragmentAsks, fragment_whole}
+use Rattle.ip_spec.proofs.Common.{rules, arith, ap, refl, [], err_from_is_err_and, FragmentAsks, fragment_whole}
 use Rattle.ip_base.specs.declared.err.layer.Layer.TheVariants.{Ipv6FragHeader}
 use Rattle.ip_base.proofs.ReadingLemmas.{consumed_none, consumed_more, refused_in_layer}
 use Rattle.ip_ext_headers.proofs.ipv6_fragment_header.Ipv6FragmentHeader.read_limited.Goals as goal
@@ -13,10 +13,5 @@ returns-in_err-read_exact-clause-refused g c =
 pub returns-clause-header : goal.returns-clause-header
 returns-clause-header g c =
     let t = consumed_none g.T.ExactRead.bytes_left Ipv6FragHeader c.args.reader.now c.start_layer.new.self c.start_layer.ensures.reader c.start_layer.ensures.limits in
-    record {
-      bytes = c.read_exact.new.buf;
-      header = record { len = omega arith };
-      fields = sym c.of_bytes.ensures;
-      consumed = consumed_more _ _ _ _ c.read_exact.new.self [] c.read_exact.new.buf _ t (omega arith) c.in_ok-read_exact.ensures.takes
-          c.in_ok-read_exact.ensures.within c.in_ok-read_exact.ensures.limits;
-    }
+    let u = consumed_more _ _ _ _ c.read_exact.new.self [] c.read_exact.new.buf _ t (omega arith) c.in_ok-read_exact.ensures.takes c.in_ok-read_exact.ensures.within c.in_ok-read_exact.ensures.limits in
+    search (rules, u)

@@ -1,4 +1,4 @@
-use Rattle.ip_spec.proofs.Common.{rules, arith, ◌≡◌, ◌++◌, length, ◌∙◌, refl, sym, [], Consumes-nil, Consumes-trans, RawAsks, raw_start, raw_rest}
+use Rattle.ip_spec.proofs.Common.{rules, arith, refl, [], Consumes-nil, Consumes-trans, RawAsks, raw_start, raw_rest}
 use Rattle.ip_spec.proofs.RequestLemmas.{raw_joined, raw_joined_fields}
 use Rattle.ip_base.proofs.ReadingLemmas.{refused_after}
 use Rattle.ip_ext_headers.proofs.ipv6_raw_ext_header.Ipv6RawExtHeader.read.Goals as goal
@@ -12,10 +12,6 @@ returns-in-Err-read_exact-clause-refused g c =
 
 pub returns-in-Ok-read_exact-clause-header : goal.returns-in-Ok-read_exact-clause-header
 returns-in-Ok-read_exact-clause-header g c =
-    let e : length c.read_exact.new.buf ≡ 2 = omega arith in
-    record {
-      bytes = c.read_exact.new.buf ++ c.read_exact-2.new.buf;
-      header = raw_joined c.read_exact.new.buf c.read_exact-2.new.buf e (search rules);
-      fields = raw_joined_fields c.read_exact.new.buf c.read_exact-2.new.buf e ∙ sym c.with_payload.ensures;
-      consumed = Consumes-trans _ _ _ c.read_exact.new.buf c.read_exact-2.new.buf c.in-Ok.ensures.takes c.in-Ok-read_exact.ensures.takes;
-    }
+    let h = c.read_exact.new.buf in
+    let p = c.read_exact-2.new.buf in
+    search (rules, raw_joined h p, raw_joined_fields h p, Consumes-trans _ _ _ h p c.in-Ok.ensures.takes c.in-Ok-read_exact.ensures.takes)

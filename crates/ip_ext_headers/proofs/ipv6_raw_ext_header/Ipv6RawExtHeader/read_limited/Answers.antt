@@ -1,4 +1,4 @@
-use Rattle.ip_spec.proofs.Common.{rules, arith, ◌≡◌, ◌+◌, ◌*◌, ◌++◌, length, List, ℕ, ap, ◌∙◌, slice_index, refl, sym, [], RawAsks, raw_start, raw_rest}
+use Rattle.ip_spec.proofs.Common.{rules, arith, List, ℕ, ap, ◌∙◌, refl, [], RawAsks, raw_start, raw_rest}
 use Rattle.ip_base.specs.declared.err.layer.Layer.TheVariants.{Ipv6ExtHeader}
 use Rattle.ip_spec.proofs.RequestLemmas.{raw_joined, raw_joined_fields}
 use Rattle.ip_base.proofs.ReadingLemmas.{consumed_none, consumed_more, refused_in_layer}
@@ -22,13 +22,7 @@ pub returns-in-Ok-read_exact-clause-header : goal.returns-in-Ok-read_exact-claus
 returns-in-Ok-read_exact-clause-header g c =
     let h : List ℕ = c.read_exact.new.buf in
     let p : List ℕ = c.read_exact-2.new.buf in
-    let e : length h ≡ 2 = omega arith in
-    let n : length p ≡ 8 * slice_index h 1 + 6 = search rules in
     let t = consumed_none g.T.ExactRead.bytes_left Ipv6ExtHeader c.args.reader.now c.start_layer.new.self c.start_layer.ensures.reader c.start_layer.ensures.limits in
     let u = consumed_more _ _ _ _ c.read_exact.new.self [] h _ t (omega arith) c.in-Ok.ensures.takes c.in-Ok.ensures.within c.in-Ok.ensures.limits in
-    record {
-      bytes = h ++ p;
-      header = raw_joined h p e n;
-      fields = raw_joined_fields h p e ∙ sym c.with_payload.ensures;
-      consumed = consumed_more _ _ _ _ _ h p _ u (search rules) c.in-Ok-read_exact.ensures.takes c.in-Ok-read_exact.ensures.within c.in-Ok-read_exact.ensures.limits;
-    }
+    let v = consumed_more _ _ _ _ c.read_exact-2.new.self h p _ u (search rules) c.in-Ok-read_exact.ensures.takes c.in-Ok-read_exact.ensures.within c.in-Ok-read_exact.ensures.limits in
+    search (rules, raw_joined h p, raw_joined_fields h p, v)

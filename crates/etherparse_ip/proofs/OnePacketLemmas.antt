@@ -1,5 +1,5 @@
 -- The bytes determine the parts of a packet.
-use Rattle.ip_spec.proofs.Common.{◌≡◌, ℕ, ◌+◌, List, ◌++◌, take, drop, ap, sym, ◌∙◌, append_assoc, rules, arith, common_steps, take-append-drop, take-length, IsPrefix}
+use Rattle.ip_spec.proofs.Common.{◌≡◌, ℕ, List, ◌++◌, take, drop, ap, sym, ◌∙◌, append_assoc, rules, arith, common_steps, take-append-drop, take-length, IsPrefix}
 use Rattle.ip_base.specs.declared.len_source.LenSource.{LenSource}
 use Rattle.ip_base.specs.Ipv4Header.{version}
 use Rattle.ip_spec.proofs.PrefixLemmas.{prefix_of-append}

@@ -1,10 +1,8 @@
 -- Packets are equal if their parts are.
-use Rattle.ip_spec.proofs.Common.{◌≡◌, ℕ, List, [], ◌∷◌, ap, ◌∙◌, rules, arith, ◌==◌, ◌↔◌, Option, IsTrue, Decides, pointwise, option_eq, option_map_or, on, and-true, Decides-and, ExtHeader, AUTHENTICATION}
+use Rattle.ip_spec.proofs.Common.{◌≡◌, ℕ, List, ap, ◌∙◌, rules, arith, ◌==◌, ◌↔◌, Option, IsTrue, Decides, pointwise, option_eq, and-true, Decides-and, common_steps}
 use Rattle.std.specs.Prelude.{Bool, nat_eq}
 use Rattle.ip_base.specs.declared.ip_number_impl.IpNumber.{IpNumber}
 use Rattle.ip_base.specs.declared.ip_payload_slice.IpPayloadSlice.{IpPayloadSlice}
-use Rattle.ip_ext_headers.specs.IpAuthHeaderSlice.{bytes}
-use Rattle.ip_ext_headers.specs.declared.ip_auth_header_slice.IpAuthHeaderSlice.{IpAuthHeaderSlice}
 use Rattle.etherparse_ip.specs.Ipv4Slice.{ipv4_parts}
 use Rattle.ip_ext_slices.proofs.SameLemmas.{same_headers-first, same_headers-bytes}
 use Rattle.etherparse_ip.specs.Ipv6Slice.{ipv6_parts}
@@ -24,17 +22,8 @@ ArePayloadsSame a b = (a.ip_number.0 ≡ b.ip_number.0) × ((a.fragmented ≡ b.
 payloads_tell : (a b : IpPayloadSlice) → Decides (payload_equal a b) (ArePayloadsSame a b)
 payloads_tell a b = search rules
 
-abbrev headers_of : Option IpAuthHeaderSlice → List ExtHeader
-headers_of x = option_map_or (λ h. record { number = AUTHENTICATION; bytes = bytes h } ∷ []) x []
-
-headers_tell : (x y : Option IpAuthHeaderSlice) → Decides (option_eq (on bytes (pointwise nat_eq)) x y) (headers_of x ≡ headers_of y)
-headers_tell x y = search rules
-
 numbers_tell : (x y : Option IpNumber) → Decides (option_eq (λ m n. m.0 == n.0) x y) (x ≡ y)
 numbers_tell x y = search rules
-
-ipv4_tells : (a b : Ipv4Slice) → Decides (ipv4_packet_equal a b) (ipv4_parts a ≡ ipv4_parts b)
-ipv4_tells a b = grind (arith, Decides-and, bytes_tell, headers_tell, payloads_tell)
 
 ipv6_tells : (a b : Ipv6Slice) → Decides (ipv6_packet_equal a b) (ipv6_parts a ≡ ipv6_parts b)
 ipv6_tells a b =
@@ -51,7 +40,7 @@ ipv6_tells a b =
 
 -- the result of a comparison of packets
 pub ipv4_same : (a b : Ipv4Slice) (r : Bool) → r ≡ ipv4_packet_equal a b → IsTrue r ↔ (ipv4_parts a ≡ ipv4_parts b)
-ipv4_same a b r k = rw k (ipv4_tells a b)
+ipv4_same a b r k = grind (arith, common_steps, bytes_tell, payloads_tell)
 
 pub ipv6_same : (a b : Ipv6Slice) (r : Bool) → r ≡ ipv6_packet_equal a b → IsTrue r ↔ (ipv6_parts a ≡ ipv6_parts b)
 ipv6_same a b r k = rw k (ipv6_tells a b)

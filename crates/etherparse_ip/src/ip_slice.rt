@@ -200,6 +200,7 @@ impl PartialEq for IpSlice<'_> {
 
     ghost laws = { partial_equiv_from_equiv packet_equivalence };
 
+    #[tactic(auto, using(crate::proofs::PacketEqualLemmas::same_packets))]
     fn eq(&self, other: &Self) -> bool
         ensures answer { result ≡ packet_equal self.now other.now }
         ensures same { IsTrue result ↔ AreSame self.now other.now }

@@ -52,6 +52,7 @@ impl<'a> Ipv4Slice<'a> {
 
     /// Parses the packet at the start of the slice with this base header.
     #[inline(always)]
+    #[tactic(auto, using(crate::proofs::PartsLemmas::ipv4_after_fault))]
     pub(crate) fn after_base(
         header: Ipv4HeaderSlice<'a>,
         slice: &'a [u8],

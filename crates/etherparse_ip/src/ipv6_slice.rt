@@ -38,6 +38,7 @@ impl<'a> Ipv6Slice<'a> {
     /// `LenSource::Slice` if the payload length is 0 and bytes follow the base header, otherwise
     /// `LenSource::Ipv6HeaderPayloadLen`.
     #[inline(always)]
+    #[tactic(auto, using(crate::proofs::FaultLemmas::lax_accepts_strict))]
     pub fn from_slice(slice: &'a [u8]) -> Result<Ipv6Slice<'a>, SliceError>
         ensures packet { IfOk result (λ x. IsIpv6Packet slice.now (ipv6_parts x)) }
         ensures fault { result_err result ≡ ipv6_fault slice.now }
@@ -84,6 +85,7 @@ impl<'a> Ipv6Slice<'a> {
 
     /// Parses the packet at the start of the slice with this base header. The packet has the length that it states.
     #[inline(always)]
+    #[tactic(auto, using(crate::proofs::PartsLemmas::strict_fault_of_chain, crate::proofs::PartsLemmas::stated_of_base))]
     pub(crate) fn after_base(
         header: Ipv6HeaderSlice<'a>,
         slice: &'a [u8],
@@ -106,6 +108,7 @@ impl<'a> Ipv6Slice<'a> {
 
     /// Parses the packet at the start of the slice with this base header, truncated or not.
     #[inline(always)]
+    #[tactic(auto, using(crate::proofs::PartsLemmas::ipv6_after_fault, crate::proofs::PartsLemmas::after_base_length, crate::proofs::FaultLemmas::chain_fault_fits))]
     fn parse(
         header: Ipv6HeaderSlice<'a>,
         slice: &'a [u8],

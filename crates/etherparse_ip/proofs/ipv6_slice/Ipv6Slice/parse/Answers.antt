@@ -1,16 +1,8 @@
-use Rattle.ip_spec.proofs.Common.{◌∙◌, ap, sym, length, arith, rules, option_map}
-use Rattle.std.proofs.Common.{Some}
+use Rattle.ip_spec.proofs.Common.{◌∙◌, ap, sym, length, rules, option_map}
 use Rattle.ip_base.specs.Ipv6HeaderSlice.{bytes}
 use Rattle.etherparse_ip.specs.PacketFault.{exts_in_packet}
-use Rattle.etherparse_ip.proofs.PartsLemmas.{AtIpv6, ipv6_packet, ipv6_after_fault, after_base-length}
-use Rattle.etherparse_ip.proofs.FaultLemmas.{chain_fault_fits}
+use Rattle.etherparse_ip.proofs.PartsLemmas.{AtIpv6, ipv6_packet, ipv6_after_fault}
 use Rattle.etherparse_ip.proofs.ipv6_slice.Ipv6Slice.parse.Goals as goal
-
-pub in_packet-requires : goal.in_packet-requires
-in_packet-requires c =
-    let at : AtIpv6 c.args.slice.now (bytes c.args.header) c.next_header.result.0 (length c.slice-header_len.result.now) c.payload_length-payload_length.result c.ipv6_front-len_source.result.1 c.ipv6_front-len_source.result.0.now c.after.result.now =
-    search rules in
-    chain_fault_fits c.next_header.result.0 c.after.result.now (length c.slice-header_len.result.now) c.in-Err.e c.in-Err.ensures.fault (omega (arith, after_base-length _ _ _ _ _ _ _ _ at))
 
 pub returns-in-Ok-clause-packet : goal.returns-in-Ok-clause-packet
 returns-in-Ok-clause-packet c =
@@ -23,12 +15,4 @@ returns-in-Ok-clause-fault c =
     let at : AtIpv6 c.args.slice.now (bytes c.args.header) c.next_header.result.0 (length c.slice-header_len.result.now) c.payload_length-payload_length.result c.ipv6_front-len_source.result.1 c.ipv6_front-len_source.result.0.now c.after.result.now =
     search rules in
     ap (λ o. option_map (exts_in_packet c.ipv6_front-len_source.result.1 (length c.slice-header_len.result.now)) (option_map (λ f. f.0) o)) c.in-Ok.ensures.answer.fault
-    ∙ sym (ipv6_after_fault _ _ _ _ _ _ _ _ at)
-
-pub returns-in-Err-clause-fault : goal.returns-in-Err-clause-fault
-returns-in-Err-clause-fault c =
-    let at : AtIpv6 c.args.slice.now (bytes c.args.header) c.next_header.result.0 (length c.slice-header_len.result.now) c.payload_length-payload_length.result c.ipv6_front-len_source.result.1 c.ipv6_front-len_source.result.0.now c.after.result.now =
-    search rules in
-    ap Some c.in_packet.ensures
-    ∙ ap (option_map (exts_in_packet c.ipv6_front-len_source.result.1 (length c.slice-header_len.result.now))) (sym c.in-Err.ensures.fault)
     ∙ sym (ipv6_after_fault _ _ _ _ _ _ _ _ at)

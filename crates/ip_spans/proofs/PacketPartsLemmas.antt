@@ -1,5 +1,5 @@
 -- The parts of the packet at the start of bytes.
-use Rattle.ip_spec.proofs.Common.{◌≡◌, ℕ, ◌+◌, ◌≤◌, List, ◌++◌, length, ap, ◌∙◌, arith, common_steps, bytes_of}
+use Rattle.ip_spec.proofs.Common.{rules, ◌≡◌, ℕ, ◌+◌, ◌≤◌, List, ◌++◌, length, ap, ◌∙◌, arith, common_steps, bytes_of}
 use Rattle.std.proofs.Common.{◌==◌, if◌then◌else◌, length-append}
 use Rattle.ip_base.specs.Ipv4Header.{version}
 use Rattle.ip_base.specs.Ipv6Header.{payload_length}
@@ -24,20 +24,14 @@ pub in_ipv6 : {Y : Type 0} (f : ℕ → Parts → Y) (s : List ℕ) (p : Parts) 
 in_ipv6 f s p is_packet = said_in f s 6 p (ipv6_version s p is_packet) (ipv6_parts_are s p is_packet)
 
 pub parts_of_ipv4 : (s : List ℕ) (p : Parts) (old new : List HeaderSpan) (parts : PacketParts) → IsIpv4Packet s p → parts ≡ packet_parts 4 p → new ≡ filled (packet_spans p) old → IsPacketParts s old parts new
-parts_of_ipv4 s p old new parts is_packet fields spans =
-    record { fields = fields ∙ in_ipv4 packet_parts s p is_packet; spans = spans ∙ in_ipv4 (λ n q. filled (packet_spans q) old) s p is_packet }
+parts_of_ipv4 s p old new parts is_packet fields spans = search (rules, ipv4_version s p is_packet, ipv4_parts_are s p is_packet)
 
 pub parts_of_ipv6 : (s : List ℕ) (p : Parts) (old new : List HeaderSpan) (parts : PacketParts) → IsIpv6Packet s p → parts ≡ packet_parts 6 p → new ≡ filled (packet_spans p) old → IsPacketParts s old parts new
-parts_of_ipv6 s p old new parts is_packet fields spans =
-    record { fields = fields ∙ in_ipv6 packet_parts s p is_packet; spans = spans ∙ in_ipv6 (λ n q. filled (packet_spans q) old) s p is_packet }
+parts_of_ipv6 s p old new parts is_packet fields spans = search (rules, ipv6_version s p is_packet, ipv6_parts_are s p is_packet)
 
 -- the front by a source isn't longer than the bytes
 front_within : (by : LenSource) (n : ℕ) (s : List ℕ) → length (front by n s) ≤ length s
 front_within by n s = grind (arith, common_steps)
 
--- and the three parts, joined, are that front
-parts_within : (by : LenSource) (n : ℕ) (s b c y : List ℕ) → b ++ (c ++ y) ≡ front by n s → length b + length c + length y ≤ length s
-parts_within by n s b c y joined = omega (arith, front_within by n s, ap length joined, length-append b (c ++ y), length-append c y)
-
 pub ipv6_within : (s : List ℕ) (p : Parts) → IsIpv6Packet s p → length p.base + length (bytes_of p.headers) + length p.payload ≤ length s
-ipv6_within s p is_packet = parts_within p.source (payload_length p.base) s p.base (bytes_of p.headers) p.payload is_packet.joined
+ipv6_within s p is_packet = grind (arith, common_steps, front_within, length-append)

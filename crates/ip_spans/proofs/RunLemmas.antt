@@ -1,5 +1,5 @@
 -- How many headers fit one struct with a place for each.
-use Rattle.ip_spec.proofs.Common.{◌≡◌, ◌≢◌, ℕ, ◌≤◌, List, [], ◌∷◌, ◌++◌, length, take, map, refl, ap, sym, ◌∙◌, arith, inl, inr, true, false, Option, Some, IsTrue, is_some, IsSome, find, count_by, cases_Bool, ne_eqb, eq-eqb, eqb-true, same_Some, ◌==◌, ◌↔◌, if◌then◌else◌, AllByRecursion, map-append, append-nil, take_all, KeepsBeginning, IsExtensionNumber, ExtHeader, Place, hop_by_hop, destination, routing, authentication, final_destination, number_in, side_of, next_place, header_in}
+use Rattle.ip_spec.proofs.Common.{common_steps, rules, ◌≡◌, ◌≢◌, ℕ, ◌≤◌, List, [], ◌∷◌, ◌++◌, length, take, map, refl, ap, sym, ◌∙◌, arith, inl, inr, true, false, Option, Some, IsTrue, is_some, IsSome, find, count_by, cases_Bool, ne_eqb, eq-eqb, eqb-true, same_Some, ◌==◌, ◌↔◌, if◌then◌else◌, AllByRecursion, map-append, append-nil, take_all, KeepsBeginning, IsExtensionNumber, ExtHeader, Place, hop_by_hop, destination, routing, authentication, final_destination, number_in, side_of, next_place, header_in}
 use Rattle.ip_spec.specs.Places.{fragment}
 use Rattle.std.specs.List.{after_first}
 use Rattle.ip_spec.proofs.FirstLemmas.{before-none, find-map, counted, none_counted}
@@ -21,24 +21,12 @@ abbrev often_in : Place → List HeaderSpan → ℕ
 often_in p xs = count_by (λ x. x.number == number_in p) (side_of (λ x. x.number) p xs)
 
 in_same : (xs : List HeaderSpan) (p : Place) → is_some (span_in xs p) ≡ is_some (header_in p (bares xs))
-in_same xs p =
-    sym (ap (λ c. is_some (find (is_of p) c)) (side-map (λ x. bare x.number) (λ h. h.number) p xs)
-    ∙ ap is_some (find-map (λ x. bare x.number) (is_of p) (side_of (λ x. x.number) p xs)) ∙ is_some-map (λ x. bare x.number) (span_in xs p))
+in_same xs p = search (rules, side-map, find-map, is_some-map)
 
 -- a number has a next place if and only if nothing is counted in its own
 module _ (xs : List HeaderSpan) (m : ℕ) where
   next_where_none : (p : Place) → place_of m (is_some (span_in xs routing)) ≡ Some p → (often_in p xs ≡ 0) ↔ IsSome (next_place (span_in xs) m)
-  next_where_none p own = (
-    (λ none. elim (cases_Bool (is_some (span_in xs p))) [
-      | inl some ↦ absurd (omega (arith, none, counted (λ x. x.number == number_in p) (side_of (λ x. x.number) p xs) some))
-      | inr free ↦ ap is_some (next_own (span_in xs) m p own free)
-    ]),
-    (λ some.
-        let next = some_if (next_place (span_in xs) m) some in
-        let at = own_next (span_in xs) m next.0 next.1 in
-        let same : next.0 ≡ p = same_Some next.0 p (sym at.0 ∙ own) in
-        none_counted (λ x. x.number == number_in p) (side_of (λ x. x.number) p xs) (ap (λ q. is_some (span_in xs q)) (sym same) ∙ at.1)),
-  )
+  next_where_none p own = search (rules, cases_Bool (is_some (span_in xs p)), counted, none_counted)
 
 -- a number other than 60 has one place
 pub other_next : (xs : List HeaderSpan) (m : ℕ) → IsExtensionNumber m → m ≢ 60 → (count_by (λ x. x.number == m) xs ≡ 0) ↔ IsSome (next_place (span_in xs) m)
@@ -53,27 +41,15 @@ all_before xs none = ap (side_of (λ x. x.number) destination) (sym (append-nil 
 
 pub destination_next : (xs : List HeaderSpan) → ((if count_by (λ x. x.number == 43) xs == 0 then count_by (λ x. x.number == 60) xs else count_by (λ x. x.number == 60) (after_first (λ x. x.number == 43) xs)) ≡ 0) ↔ IsSome (next_place (span_in xs) 60)
 destination_next xs = elim (cases_Bool (is_some (span_in xs routing))) [
-  | inl some ↦
-      let one = counted (λ x. x.number == 43) xs some in
-      let side = ap (λ b. if b then count_by (λ x. x.number == 60) xs else often_in final_destination xs) (ne_eqb (count_by (λ x. x.number == 43) xs) 0 (λ none. omega (arith, one, none))) in
-      let tells = next_where_none xs 60 final_destination (ap (place_of 60) some) in
-      ((λ e. tells.0 (sym side ∙ e)), λ s. side ∙ tells.1 s)
-  | inr free ↦
-      let none = none_counted (λ x. x.number == 43) xs free in
-      let side = ap (λ b. if b then count_by (λ x. x.number == 60) xs else often_in final_destination xs) (eq-eqb (count_by (λ x. x.number == 43) xs) 0 none) ∙ ap (count_by (λ x. x.number == 60)) (sym (all_before xs none)) in
-      let tells = next_where_none xs 60 destination (ap (place_of 60) free) in
-      ((λ e. tells.0 (sym side ∙ e)), λ s. side ∙ tells.1 s)
+  | inl some ↦ search (rules, counted (λ x. x.number == 43) xs some, next_where_none xs 60 final_destination)
+  | inr free ↦ search (rules, none_counted (λ x. x.number == 43) xs free, all_before xs, next_where_none xs 60 destination)
 ]
 
--- so a count of 0 says that a number has a next place
-counted_tells : (xs : List HeaderSpan) (m r : ℕ) → IsExtensionNumber m → (r ≡ 0) ↔ IsSome (next_place (span_in xs) m) → IsTrue (r == 0) ↔ (IsExtensionNumber m × IsSome (next_place (span_in xs) m))
-counted_tells xs m r is k = ((λ t. (is, k.0 (eqb-true r 0 t))), λ s. eq-eqb r 0 (k.1 s.1))
-
 pub destination_tells : (xs : List HeaderSpan) (m r : ℕ) → m ≡ 60 → r ≡ (if count_by (λ x. x.number == 43) xs == 0 then count_by (λ x. x.number == 60) xs else count_by (λ x. x.number == 60) (after_first (λ x. x.number == 43) xs)) → IsTrue (r == 0) ↔ (IsExtensionNumber m × IsSome (next_place (span_in xs) m))
-destination_tells xs m r is e = rw (is, e) (counted_tells xs 60 _ (inl (inr (inr refl))) (destination_next xs))
+destination_tells xs m r is e = search (rules, destination_next)
 
 pub other_tells : (xs : List HeaderSpan) (m r : ℕ) → IsExtensionNumber m → m ≢ 60 → r ≡ count_by (λ x. x.number == m) xs → IsTrue (r == 0) ↔ (IsExtensionNumber m × IsSome (next_place (span_in xs) m))
-other_tells xs m r is other e = rw e (counted_tells xs m _ is (other_next xs m is other))
+other_tells xs m r is other e = search (rules, other_next)
 
 all_more : (P : HeaderSpan → Type 0) (xs : List HeaderSpan) (x : HeaderSpan) → AllByRecursion P (xs ++ x ∷ []) ↔ (AllByRecursion P xs × P x)
 all_more P [] x = ((λ a. (tt, a.0)), λ a. (a.1, tt))
@@ -94,6 +70,4 @@ next_has_place xs x f =
     )
 
 pub kept_whole : (xs : List HeaderSpan) (k : ℕ) → length xs ≤ k → AreInPlaces (take k xs) → KeepsBeginning AreInPlaces xs (take (length xs) xs)
-kept_whole xs k all f =
-    let here : take (length xs) xs ≡ xs = take_all (length xs) xs (omega arith) in
-    record { rest = []; joined = sym (append-nil (take (length xs) xs) ∙ here); meets = rw (here, ← take_all k xs all) f; breaks = tt }
+kept_whole xs k all f = search (rules, take_all, append-nil)

@@ -93,6 +93,7 @@ fn base_len_of(packet: &Dissection<'_>) -> usize
 }
 
 /// Stores the spans of the packet's extension headers.
+#[tactic(auto, using(ip_dissect::proofs::DissectedLemmas::no_headers))]
 fn put_extensions(packet: &Dissection<'_>, spans: &mut [HeaderSpan])
     requires { length (base_of packet.now) + length packet.now.extensions.now < 2 ^ 64 }
     ensures { (s : List ℕ) → HasParts (dissected s) packet.now

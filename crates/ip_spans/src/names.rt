@@ -4,6 +4,7 @@ ghost use Rattle.std.specs.Prelude.{◌≡◌};
 ghost use Rattle.ip_spans.specs.CodeNames.{name_in, kind_names, layer_names, len_source_names, number_names};
 
 /// Returns the name of a kind of error.
+#[tactic(auto, using(std::proofs::lemmas::List::get_or_past))]
 pub fn kind_name(kind: u8) -> &'static [u8]
     ensures { result.now ≡ name_in kind_names kind }
 {
@@ -19,6 +20,7 @@ pub fn kind_name(kind: u8) -> &'static [u8]
 }
 
 /// Returns the name of a layer, as error texts have it.
+#[tactic(auto, using(std::proofs::lemmas::List::get_or_past))]
 pub fn layer_name(layer: u8) -> &'static [u8]
     ensures { result.now ≡ name_in layer_names layer }
 {
@@ -41,6 +43,7 @@ pub fn layer_name(layer: u8) -> &'static [u8]
 }
 
 /// Returns the name of a length source, as error texts have it.
+#[tactic(auto, using(std::proofs::lemmas::List::get_or_past))]
 pub fn len_source_name(len_source: u8) -> &'static [u8]
     ensures { result.now ≡ name_in len_source_names len_source }
 {

@@ -1,7 +1,0 @@
-use Rattle.std.proofs.lemmas.List.{get_or_past}
-use Rattle.ip_spec.proofs.Common.{[], ◌∷◌, ◌++◌, sym, ap, arith}
-use Rattle.ip_spans.specs.CodeNames.{kind_names}
-use Rattle.ip_spans.proofs.names.kind_name.Goals as goal
-
-pub returns-in_default : goal.returns-in_default
-returns-in_default c = sym (ap (λ t. t ++ 0 ∷ []) (get_or_past kind_names c.args.kind [] (omega (arith))))

@@ -1,8 +1,7 @@
 -- The parts of the packet at the start of bytes.
-use Rattle.ip_spec.proofs.Common.{rules, ◌≡◌, ℕ, ◌+◌, ◌≤◌, List, ◌++◌, length, ap, ◌∙◌, arith, common_steps, bytes_of}
+use Rattle.ip_spec.proofs.Common.{rules, ◌≡◌, ℕ, ◌+◌, ◌≤◌, List, length, arith, common_steps, bytes_of}
 use Rattle.std.proofs.Common.{◌==◌, if◌then◌else◌, length-append}
 use Rattle.ip_base.specs.Ipv4Header.{version}
-use Rattle.ip_base.specs.Ipv6Header.{payload_length}
 use Rattle.ip_base.specs.declared.len_source.LenSource.{LenSource}
 use Rattle.etherparse_ip.specs.LenSources.{front}
 use Rattle.etherparse_ip.specs.Packet.{Parts, IsIpv4Packet, IsIpv6Packet}

@@ -1,12 +1,12 @@
 -- How many headers fit one struct with a place for each.
-use Rattle.ip_spec.proofs.Common.{common_steps, rules, ◌≡◌, ◌≢◌, ℕ, ◌≤◌, List, [], ◌∷◌, ◌++◌, length, take, map, refl, ap, sym, ◌∙◌, arith, inl, inr, true, false, Option, Some, IsTrue, is_some, IsSome, find, count_by, cases_Bool, ne_eqb, eq-eqb, eqb-true, same_Some, ◌==◌, ◌↔◌, if◌then◌else◌, AllByRecursion, map-append, append-nil, take_all, KeepsBeginning, IsExtensionNumber, ExtHeader, Place, hop_by_hop, destination, routing, authentication, final_destination, number_in, side_of, next_place, header_in}
+use Rattle.ip_spec.proofs.Common.{rules, ◌≡◌, ◌≢◌, ℕ, ◌≤◌, List, [], ◌∷◌, ◌++◌, length, take, map, refl, ap, sym, ◌∙◌, inl, inr, true, false, Option, Some, IsTrue, is_some, IsSome, find, count_by, cases_Bool, ◌==◌, ◌↔◌, if◌then◌else◌, AllByRecursion, map-append, append-nil, take_all, KeepsBeginning, IsExtensionNumber, ExtHeader, Place, hop_by_hop, destination, routing, authentication, final_destination, number_in, side_of, next_place, header_in}
 use Rattle.ip_spec.specs.Places.{fragment}
 use Rattle.std.specs.List.{after_first}
 use Rattle.ip_spec.proofs.FirstLemmas.{before-none, find-map, counted, none_counted}
 use Rattle.ip_spec.proofs.HeaderLemmas.{by_number}
-use Rattle.ip_spec.proofs.PlaceLemmas.{place_of, bare, is_of, in_both, own_next, next_own, next_alike, fits_where_next}
+use Rattle.ip_spec.proofs.PlaceLemmas.{place_of, bare, in_both, next_alike, fits_where_next}
 use Rattle.ip_spec.proofs.FitsLemmas.{side-map, fits-map}
-use Rattle.ip_spec.proofs.WalkLemmas.{some_if, is_some-map}
+use Rattle.ip_spec.proofs.WalkLemmas.{is_some-map}
 use Rattle.ip_spans.specs.InPlaces.{AreInPlaces}
 use Rattle.ip_spans.specs.declared.header_span.HeaderSpan.{HeaderSpan}
 

@@ -1,7 +1,6 @@
 -- Headers that are written one after the other.
-use Rattle.ip_spec.proofs.Common.{common_steps, ◌≡◌, refl, ap, sym, ◌∙◌, ℕ, ◌+◌, ◌*◌, ◌≤◌, ◌<◌, ◌≢◌, List, [], ◌∷◌, ◌++◌, length, take, drop, slice_index_or, slice_set, true, arith, rules, append_assoc, subst, drop_more, drop-drop, length-take-le, length-drop, length-set, get_or-set_other, get_or-set_same, AllByRecursion, take-put_mid, drop-put_mid, take-length, put_mid, HOP_BY_HOP, IsHeader, raw, fragment, auth, next_header, IsEnd, IsChain, AreLinked, cleared_header}
+use Rattle.ip_spec.proofs.Common.{common_steps, ◌≡◌, refl, ℕ, ◌+◌, ◌≤◌, ◌<◌, ◌≢◌, List, [], ◌∷◌, ◌++◌, length, take, drop, slice_index_or, slice_set, true, arith, rules, subst, drop_more, drop-drop, length-take-le, length-drop, length-set, get_or-set_other, get_or-set_same, AllByRecursion, take-put_mid, drop-put_mid, take-length, put_mid, HOP_BY_HOP, IsHeader, next_header, IsEnd, IsChain, AreLinked}
 use Rattle.std.proofs.Common.{length-append}
-use Rattle.std.specs.Prelude.{slice_index}
 use Rattle.ip_spec.proofs.HeaderLemmas.{header-least}
 use Rattle.ip_spec.proofs.ClearedLemmas.{cleared_same}
 use Rattle.ip_spans.specs.Written.{bytes_at, LiesIn, AllLieIn, written_header, written_spans, written_chain, begun_with, AreSpansLinked, AreChainSpans}

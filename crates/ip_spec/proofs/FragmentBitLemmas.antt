@@ -1,4 +1,4 @@
--- Bytes 2 and 3 of a fragment header, with the offset and the flag packed. No other proof examines their bits.
+-- Bytes 2 and 3 of a fragment header, with the offset and the flag packed.
 use Rattle.ip_spec.proofs.Common.{◌≡◌, ℕ, ◌+◌, ◌*◌, ◌/◌, ◌%◌, ◌<◌, arith, Bool, cond, bit_and, rules, and_comm, and_mask, and-not, and_high, eqb_tells, common_steps, offset_bits, flag_bit, unreserved_bits}
 
 -- the bytes with this offset and flag, and without a reserved bit

@@ -1,7 +1,6 @@
 -- The tool's definitions, in the form in which the plain program computes them.
-use Rattle.ip_spec.proofs.Common.{common_steps, rules, map-append, ◌/◌, slice_index, drop_all, ◌≡◌, ◌≢◌, ℕ, ◌+◌, ◌*◌, ◌%◌, ◌<◌, ◌≤◌, List, [], ◌∷◌, ◌++◌, length, drop, map, refl, ap, arith, append_assoc, get_or, nat_eq, codes, Option, None, Some, Result, Ok, option_map, result_ok, bytes_eq-Decides, length-take, drop_more, ExtHeader, IsLongestChain, leads_to, bytes_of, is_empty, IsPrefix}
+use Rattle.ip_spec.proofs.Common.{common_steps, rules, map-append, ◌/◌, slice_index, drop_all, ◌≡◌, ◌≢◌, ℕ, ◌+◌, ◌*◌, ◌%◌, ◌<◌, ◌≤◌, List, [], ◌∷◌, ◌++◌, length, drop, map, refl, ap, arith, append_assoc, get_or, nat_eq, codes, Option, None, Some, Result, Ok, option_map, result_ok, bytes_eq-Decides, length-take, drop_more, ExtHeader, IsLongestChain, leads_to, bytes_of, is_empty, IsPrefix, Bool}
 use Rattle.std.proofs.Common.{append-nil}
-use Rattle.std.specs.Prelude.{Bool}
 use Rattle.ip_plain.specs.PlainHeader.{plain_header_of}
 use Rattle.ip_plain.specs.declared.chain.PlainHeader.{PlainHeader}
 use Rattle.ip_spec.proofs.ChainLemmas.{one_longest, some_longest}

@@ -1,7 +1,5 @@
 -- The request and the answer for `dissect`, in the form in which the plain program computes them.
-use Rattle.ip_spec.proofs.Common.{rules, ◌≡◌, ◌≢◌, ℕ, ◌<◌, ◌≤◌, List, [], ◌∷◌, ◌++◌, length, map, refl, arith, Option, None, ne_eqb, ◌==◌, if◌then◌else◌}
-use Rattle.std.specs.Prelude.{Bool}
-use Rattle.std.proofs.Common.{Bor}
+use Rattle.ip_spec.proofs.Common.{rules, ◌≡◌, ◌≢◌, ℕ, ◌<◌, ◌≤◌, List, [], ◌∷◌, ◌++◌, length, map, refl, arith, Option, None, ne_eqb, ◌==◌, if◌then◌else◌, Bool, Bor}
 use Rattle.ip_dissect.specs.Dissection.{dissected}
 use Rattle.ipexts_tool.specs.Request.{Request, request_of_form, request_of_fields}
 use Rattle.ipexts_tool.specs.LineFields.{number_and_bytes, bytes_alone}

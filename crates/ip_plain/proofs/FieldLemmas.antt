@@ -1,7 +1,6 @@
 -- The parts of a packet, in the form in which the plain program computes them.
-use Rattle.ip_spec.proofs.Common.{rules, ◌≡◌, ◌≢◌, ℕ, ◌+◌, ◌-◌, ◌≤◌, length, map, take, drop, List, [], ◌∷◌, ◌++◌, refl, ap, ◌∙◌, arith, true, eqb_tells, ne_eqb, slice_index, length-take-le, Option, None, option_map, option_map_or, ExtHeader, bytes_of, is_empty, rest_after, IsNext}
+use Rattle.ip_spec.proofs.Common.{rules, ◌≡◌, ◌≢◌, ℕ, ◌+◌, ◌-◌, ◌≤◌, length, map, take, drop, List, [], ◌∷◌, ◌++◌, refl, ap, ◌∙◌, arith, true, eqb_tells, ne_eqb, slice_index, length-take-le, Option, None, option_map, option_map_or, ExtHeader, bytes_of, is_empty, rest_after, IsNext, ◌==◌, ◌&&◌, not, nat_lt, if◌then◌else◌}
 use Rattle.std.proofs.Common.{append-nil, length-drop}
-use Rattle.std.specs.Prelude.{◌==◌, ◌&&◌, not, nat_lt, if◌then◌else◌}
 use Rattle.ip_base.specs.LenError.{too_short}
 use Rattle.ip_base.specs.declared.len_source.LenSource.TheVariants.{Slice, Ipv4HeaderTotalLen}
 use Rattle.ip_base.specs.declared.err.layer.Layer.TheVariants.{Ipv4Packet}

@@ -1,6 +1,7 @@
 -- The first headers of a chain, one after the other.
-use Rattle.ip_spec.proofs.Common.{◌≡◌, ℕ, ◌+◌, ◌≤◌, List, [], ◌∷◌, ◌++◌, length, take, refl, ap, sym, ◌∙◌, arith, append_assoc, append-nil, length-append, take_all, take_at, ExtHeader, bytes_of, AtMost, IsLongestUnder}
+use Rattle.ip_spec.proofs.Common.{◌≡◌, ℕ, ◌+◌, ◌≤◌, List, [], ◌∷◌, ◌++◌, length, take, ◌∙◌, arith, rules, common_steps, append_assoc, length-append, take_at, ExtHeader, bytes_of, AtMost, IsLongestUnder}
 use Rattle.ip_spec.proofs.ChainLemmas.{bytes_of-more}
+use Rattle.ip_spec.proofs.RunsLemmas.{how_many-filled, how_many-more}
 use Rattle.ip_spec.proofs.UnderLemmas.{one_longest_under}
 use Rattle.ip_spec.proofs.DemandKinds.{at_most, longest_at_most}
 use Rattle.ip_ext_slices.specs.Longest.{longest_chain}
@@ -17,22 +18,22 @@ module _ (chain left rest : List ExtHeader) (h : ExtHeader) (i bytes : ℕ) (nex
   pub one_consumed : (b : List ℕ) → FirstConsumed chain left i bytes → b ≡ h.bytes → FirstConsumed chain rest (i + 1) (bytes + length b)
   one_consumed b p e = record {
     consumed = p.consumed ++ h ∷ [];
-    joined = append_assoc p.consumed (h ∷ []) rest ∙ ap (λ l. p.consumed ++ l) (sym next) ∙ p.joined;
-    count = omega (arith, p.count, length-append p.consumed (h ∷ []));
-    bytes_consumed = omega (arith, p.bytes_consumed, ap length e, ap length (bytes_of-more p.consumed h), length-append (bytes_of p.consumed) h.bytes);
+    joined = cc (p.joined, append_assoc p.consumed (h ∷ []) rest);
+    count = search (rules, length-append, p.count);
+    bytes_consumed = search (rules, p.bytes_consumed, bytes_of-more, length-append);
   }
 
 module _ (k : ℕ) (chain left : List ExtHeader) (i bytes : ℕ) where
   -- none is left, or k have been taken
   pub all_consumed : FirstConsumed chain left i bytes → left ≡ [] → i ≤ k → bytes ≡ length (bytes_of (take k chain))
-  all_consumed p none few =
-      let whole : p.consumed ≡ chain = sym (append-nil p.consumed) ∙ ap (λ l. p.consumed ++ l) (sym none) ∙ p.joined in
-      p.bytes_consumed ∙ ap (λ (l : List ExtHeader). length (bytes_of l)) (whole ∙ sym (take_all k chain (omega (arith, few, p.count, ap length whole))))
+  all_consumed p none few = grind (arith, common_steps, p.joined, p.count, p.bytes_consumed)
 
   pub enough_consumed : FirstConsumed chain left i bytes → i ≡ k → bytes ≡ length (bytes_of (take k chain))
-  enough_consumed p full = p.bytes_consumed ∙ ap (λ (l : List ExtHeader). length (bytes_of l)) (sym (take_at p.consumed left k (p.count ∙ full)) ∙ ap (take k) p.joined)
+  enough_consumed p full = cc (p.bytes_consumed, take_at p.consumed left k (p.count ∙ full), p.joined)
 
 -- they are the longest chain of at most k headers
 pub first_are_longest : (k n : ℕ) (s : List ℕ) (x : ℕ) → x ≡ length (bytes_of (take k (longest_chain n s))) → (c : List ExtHeader) → IsLongestUnder (AtMost k) n s c → x ≡ length (bytes_of c)
-first_are_longest k n s x e c l =
-    e ∙ ap (λ (d : List ExtHeader). length (bytes_of d)) (one_longest_under (AtMost k) (at_most k) n s (take k (longest_chain n s)) c (longest_at_most k n s (longest_chain n s) (longest_chain-longest n s)) l)
+first_are_longest k n s x e c l = cc (one_longest_under (AtMost k) (at_most k) n s (take k (longest_chain n s)) c (longest_at_most k n s (longest_chain n s) (longest_chain-longest n s)) l)
+
+-- how many pieces a chain in runs has
+pub ruleset pieces_counted = (how_many-filled, how_many-more)

@@ -216,6 +216,7 @@ pub fn no_header_goes_on_under_a_demand()
 }
 
 /// Proves that `how_many` counts the pieces that have a header: all of them if none is empty.
+#[tactic(auto, using(crate::proofs::FirstLemmas::pieces_counted))]
 pub fn filled_pieces_are_counted()
     ensures filled { (ps : List (List ExtHeader)) → AllByRecursion (λ p. p ≢ []) ps
         → how_many ps ≡ length ps }

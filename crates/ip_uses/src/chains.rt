@@ -68,6 +68,7 @@ pub fn joined(alloc: Global, headers: Ipv6ExtensionsSlice<'_>) -> Result<Vec<u8>
 }
 
 /// Returns the length in bytes of the first `k` headers of the chain, or of all if there are fewer.
+#[tactic(auto, using(crate::proofs::FirstLemmas::one_consumed))]
 pub fn first_headers(k: usize, start: IpNumber, packet: &[u8]) -> usize
     ensures first { result ≡ length (bytes_of (take k (longest_chain start.0 packet.now))) }
     ensures under { (c : List ExtHeader) → IsLongestUnder (AtMost k) start.0 packet.now c

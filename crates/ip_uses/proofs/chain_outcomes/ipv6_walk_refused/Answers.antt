@@ -1,5 +1,4 @@
-use Rattle.ip_spec.proofs.Common.{ap}
-use Rattle.std.specs.Prelude.{Err}
+use Rattle.ip_spec.proofs.Common.{ap, Err}
 use Rattle.ip_uses.proofs.chain_outcomes.ipv6_walk_refused.Goals as goal
 
 pub returns-in-Err-Content-clause-reached : goal.returns-in-Err-Content-clause-reached

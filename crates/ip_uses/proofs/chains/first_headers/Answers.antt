@@ -1,13 +1,10 @@
 use Rattle.ip_spec.proofs.Common.{arith}
-use Rattle.ip_uses.proofs.FirstLemmas.{one_consumed, all_consumed, enough_consumed, first_are_longest}
+use Rattle.ip_uses.proofs.FirstLemmas.{all_consumed, enough_consumed, first_are_longest}
 use Rattle.ip_uses.proofs.chains.first_headers.Goals as goal
 
 pub returns-in_default-clause-under : goal.returns-in_default-clause-under
 returns-in_default-clause-under c =
     first_are_longest c.args.k c.args.start.0 c.args.packet.now _ (all_consumed c.args.k _ _ _ _ c.headers.invariant c.in_default.ensures.steps.0 (omega (arith, c.headers-test.true)))
-
-pub headers-preserved : goal.headers-preserved
-headers-preserved c = one_consumed _ _ _ _ _ _ c.in-Some.ensures.steps _ c.headers.invariant c.slice.ensures.bytes
 
 pub returns-clause-under : goal.returns-clause-under
 returns-clause-under c =

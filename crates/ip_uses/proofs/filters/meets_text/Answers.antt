@@ -1,8 +1,5 @@
-use Rattle.ip_spec.proofs.Common.{◌≡◌, ◌-◌, [], ◌++◌, length, drop, refl, ap, ◌∙◌, arith}
+use Rattle.ip_spec.proofs.Common.{◌≡◌, ◌-◌, ◌++◌, length, drop, refl, ap, ◌∙◌, arith}
 use Rattle.ip_filter.specs.Words.{words}
-use Rattle.ip_dissect.specs.Dissection.{dissected}
-use Rattle.ip_filter.specs.Truth.{holds}
-use Rattle.ip_filter.specs.Formula.{last_holds, read_after}
 use Rattle.ip_uses.proofs.filters.meets_text.Goals as goal
 
 pub returns-in-Ok-clause-some : goal.returns-in-Ok-clause-some
@@ -11,8 +8,7 @@ returns-in-Ok-clause-some c =
       p.1.written,
       p.1.filter,
       p.1.words_of,
-      c.filter_matches.ensures
-          ∙ ap (λ steps. last_holds (read_after [] steps) (λ t. holds t (dissected c.args.packet.now))) p.2 ∙ ap (λ fs. last_holds fs (λ t. holds t (dissected c.args.packet.now))) p.1.formula,
+      c.filter_matches.ensures ∙ rw (p.2, p.1.formula) refl,
     )
 
 pub returns-in-Err-clause-none : goal.returns-in-Err-clause-none

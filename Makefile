@@ -190,7 +190,7 @@ MINUTES = 5
 export SEED LINES HEADERS MINUTES ONLY CARGO_FLAGS
 
 bench:
-	status=0; bench/run || status=1; [ -n "$(ONLY)" ] || bench/border/run || status=1; exit $$status
+	status=0; bench/compare || status=1; [ -n "$(ONLY)" ] || bench/border/run || status=1; exit $$status
 
 bench-border:
 	bench/border/run

@@ -25,6 +25,7 @@ use arrayvec::ArrayVec;
 use ip_base::IpNumber;
 use ip_base::io::{ExactRead, LimitedReader};
 use std::alloc::{AllocError, Allocator};
+use std::fmt;
 use std::marker::Model;
 
 /// The name of this type in early versions of the interface.
@@ -37,20 +38,23 @@ pub type IpAuthenticationHeader = IpAuthHeader;
 
 /// An authentication header (RFC 4302, section 2). Its integrity check value with padding has 0 to 1016 bytes, a
 /// multiple of 4. In a contract it is the record of its four fields.
-#[derive(Debug, Drop)]
+#[derive(Drop)]
 pub struct IpAuthHeader {
-    // First, so that no padding lies between it and the end of the header.
-    raw_icv: ArrayVec<u8, 1016>,
+    // The check value and any bytes after it. As in `Ipv6RawExtHeader`, a place for a header is cleared once, and no
+    // header of 1 KB is moved.
+    bytes: [u8; 1016],
     /// The security parameters index, by which the receiver identifies the security association.
     pub spi: u32,
     /// The sender's packet counter.
     pub sequence_number: u32,
     /// The next header field.
     pub next_header: IpNumber,
+    // How many units of 4 bytes the check value has.
+    icv_units: u8,
 }
 
 impl Model for IpAuthHeader {
-    ghost use Rattle.std.specs.Prelude.{length};
+    ghost use Rattle.std.specs.Prelude.{◌*◌, take};
     ghost use Rattle.ip_spec.specs.Fields.{AuthFields};
     ghost use Rattle.ip_spec.specs.Lengths.{IsIcvLen};
 
@@ -60,17 +64,10 @@ impl Model for IpAuthHeader {
       next_header = h.next_header.0;
       spi = h.spi;
       sequence_number = h.sequence_number;
-      raw_icv = h.raw_icv.items;
+      raw_icv = take (4 * h.icv_units) h.bytes;
     } };
 
-    ghost invariant = { λ h. IsIcvLen (length h.raw_icv.items) };
-
-    ghost inverse = { λ v. record {
-      next_header = record { 0 = v.next_header };
-      spi = v.spi;
-      sequence_number = v.sequence_number;
-      raw_icv = record { items = v.raw_icv };
-    } };
+    ghost invariant = { λ h. IsIcvLen (4 * h.icv_units) };
 }
 
 impl IpAuthHeader {
@@ -128,14 +125,12 @@ impl IpAuthHeader {
           raw_icv = raw_icv.now;
         } }
     {
-        let mut bytes = ArrayVec::new();
-        let _ = bytes.try_extend_from_slice(raw_icv);
-        IpAuthHeader {
-            next_header,
-            spi,
-            sequence_number,
-            raw_icv: bytes,
-        }
+        let mut header = Self::default();
+        header.next_header = next_header;
+        header.spi = spi;
+        header.sequence_number = sequence_number;
+        header.fill(raw_icv);
+        header
     }
 
     /// Checks that a check value may have `len` bytes.
@@ -304,7 +299,17 @@ impl IpAuthHeader {
         ensures icv { result.now ≡ self.now.raw_icv }
         ensures allowed { IsIcvLen (length result.now) }
     {
-        self.raw_icv.as_slice()
+        &self.bytes[..4 * usize::from(self.icv_units)]
+    }
+
+    /// Sets the check value, which has an allowed length.
+    #[inline(always)]
+    fn fill(&mut self, raw_icv: &[u8])
+        requires { IsIcvLen (length raw_icv.now) }
+        ensures { self.new ≡ record self.old { raw_icv = raw_icv.now } }
+    {
+        self.bytes[..raw_icv.len()].copy_from_slice(raw_icv);
+        self.icv_units = (raw_icv.len() / 4) as u8;
     }
 
     /// Sets the check value. Returns an error, in this order, if it has more than 1016 bytes, or a number of bytes
@@ -317,8 +322,7 @@ impl IpAuthHeader {
     {
         // Tested before a byte is touched.
         Self::check_icv_len(raw_icv.len())?;
-        self.raw_icv.clear();
-        let _ = self.raw_icv.try_extend_from_slice(raw_icv);
+        self.fill(raw_icv);
         Ok(())
     }
 
@@ -331,7 +335,7 @@ impl IpAuthHeader {
     {
         let mut bytes = ArrayVec::new();
         let _ = bytes.try_extend_from_slice(&self.first_bytes());
-        let _ = bytes.try_extend_from_slice(self.raw_icv.as_slice());
+        let _ = bytes.try_extend_from_slice(self.raw_icv());
         bytes
     }
 
@@ -361,7 +365,7 @@ impl IpAuthHeader {
     {
         // Neither call fails: there is room.
         let _ = out.extend_from_slice(&self.first_bytes());
-        let raw_icv = self.raw_icv.as_slice();
+        let raw_icv = self.raw_icv();
         if !raw_icv.is_empty() {
             let _ = out.extend_from_slice(raw_icv);
         }
@@ -385,13 +389,14 @@ impl IpAuthHeader {
     fn first_bytes(&self) -> [u8; 12]
         ensures { IsAuthEncoding self.now (result ++ self.now.raw_icv) }
     {
+        let raw_icv = self.raw_icv();
         let spi = self.spi;
         let sequence_number = self.sequence_number;
         let [spi0, spi1, spi2, spi3] = spi.to_be_bytes();
         let [seq0, seq1, seq2, seq3] = sequence_number.to_be_bytes();
         [
             self.next_header.0,
-            (self.raw_icv.len() / 4) as u8 + 1,
+            (raw_icv.len() / 4) as u8 + 1,
             0,
             0,
             spi0,
@@ -403,6 +408,17 @@ impl IpAuthHeader {
             seq2,
             seq3,
         ]
+    }
+}
+
+impl fmt::Debug for IpAuthHeader {
+    fn fmt<W: fmt::Write>(&self, f: &mut fmt::Formatter<W>) -> fmt::Result {
+        f.debug_struct("IpAuthHeader")
+            .field("raw_icv", &self.raw_icv())
+            .field("spi", &self.spi)
+            .field("sequence_number", &self.sequence_number)
+            .field("next_header", &self.next_header)
+            .finish()
     }
 }
 
@@ -429,8 +445,15 @@ impl Default for IpAuthHeader {
     ghost is_default = { λ h.
         h ≡ record { next_header = 255; spi = 0; sequence_number = 0; raw_icv = [] } };
 
+    #[inline(always)]
     fn default() -> IpAuthHeader {
-        Self::with_icv(IpNumber(255), 0, 0, &[])
+        IpAuthHeader {
+            bytes: [0; 1016],
+            spi: 0,
+            sequence_number: 0,
+            next_header: IpNumber(255),
+            icv_units: 0,
+        }
     }
 }
 

@@ -2,13 +2,14 @@ ghost use Rattle.std.specs.Prelude.{◌≡◌, ◌≤◌, ◌+◌, ℕ, [], take
 ghost use Rattle.std.specs.Option.{option_map, option_map_or, ForSome};
 ghost use Rattle.ip_spec.specs.Numbers.{ROUTING, FRAGMENT, AUTHENTICATION, DESTINATION_OPTIONS};
 ghost use Rattle.ip_spec.specs.Header.{IsRawNumber};
-ghost use Rattle.ip_spec.specs.Fields.{raw_len, auth_len, raw_fields};
+ghost use Rattle.ip_spec.specs.Fields.{raw_len, auth_len, raw_fields, auth_fields};
 ghost use Rattle.ip_spec.specs.Chain.{ExtHeader, headers_within};
 ghost use Rattle.ip_spec.specs.Places.{raw_header, fragment_header, auth_header};
 ghost use Rattle.ip_spec.specs.Demand.{IsLongestUnder};
 ghost use Rattle.ip_spec.specs.Encodable.{IsEncoded, IsEncodable};
 ghost use Rattle.ip_spec.specs.Fits.{FitsPlaces};
 ghost use Rattle.ip_ext_headers.specs.Ipv6RawExtHeaderSlice.{bytes};
+ghost use Rattle.ip_ext_headers.specs.IpAuthHeaderSlice.{bytes as auth_bytes};
 ghost use Rattle.ip_ext_chains.specs.Fitting.{fitting_chain, fitting_fault, IsFittingAnswer, IsPlacedAnswer};
 ghost use Rattle.ip_ext_chains.specs.Slots.{AreOfNumber, value_at};
 ghost use Rattle.ip_ext_chains.specs.Ipv6Extensions.{value_of, placed_fields, final_of, exts_len, has_none, is_fragmented};
@@ -19,7 +20,9 @@ use crate::places::{Place, Places};
 use crate::run::take_run;
 use crate::{Ipv6ExtensionSlice, Ipv6ExtensionsSlice, Ipv6RoutingExtensions};
 use ip_base::IpNumber;
-use ip_ext_headers::{IpAuthHeader, Ipv6FragmentHeader, Ipv6RawExtHeader, Ipv6RawExtHeaderSlice};
+use ip_ext_headers::{
+    IpAuthHeader, IpAuthHeaderSlice, Ipv6FragmentHeader, Ipv6RawExtHeader, Ipv6RawExtHeaderSlice,
+};
 use std::alloc::AllocError;
 
 /// Six places for IPv6 extension headers: one for each kind, and two for destination options, one before a routing
@@ -138,12 +141,7 @@ impl Ipv6Extensions {
             &mut self.destination_options,
             places.raw(Place::Destination),
         );
-        if let Some(header) = places.raw(Place::Routing) {
-            self.routing = Some(Ipv6RoutingExtensions {
-                routing: header.to_header(),
-                final_destination_options: None,
-            });
-        }
+        put_routing(&mut self.routing, places.raw(Place::Routing));
         if let Some(routing) = &mut self.routing {
             let options = places.raw(Place::FinalDestination);
             put_raw(&mut routing.final_destination_options, options);
@@ -151,9 +149,7 @@ impl Ipv6Extensions {
         if let Some(header) = places.fragment() {
             self.fragment = Some(header.to_header());
         }
-        if let Some(header) = places.auth() {
-            self.auth = Some(header.to_header());
-        }
+        put_auth(&mut self.auth, places.auth());
     }
 
     /// Returns the headers' length in bytes, 0 to 9228. Each header can be written: the ranges of its fields
@@ -193,14 +189,68 @@ impl Ipv6Extensions {
     }
 }
 
-/// Stores the header, if there is one, in the place, which is free.
+/// Stores the header, if there is one, in the place, which is free. The header is made there, as that of `put_routing`
+/// and `put_auth` is: that clears its 2 KB once, and a header made elsewhere would be moved twice.
 #[inline(always)]
 fn put_raw(place: &mut Option<Ipv6RawExtHeader>, header: Option<&Ipv6RawExtHeaderSlice<'_>>)
     requires { place.old ≡ None }
     ensures { place.new ≡ option_map (λ h. raw_fields (bytes h.now)) header.entry }
 {
     if let Some(header) = header {
-        *place = Some(header.to_header());
+        *place = Some(Ipv6RawExtHeader::default());
+        if let Some(made) = place {
+            set_raw(made, header);
+        }
+    }
+}
+
+/// Stores the routing header, if there is one, in the place, which is free, without options after it.
+#[inline(always)]
+fn put_routing(
+    place: &mut Option<Ipv6RoutingExtensions>,
+    header: Option<&Ipv6RawExtHeaderSlice<'_>>,
+)
+    requires { place.old ≡ None }
+    ensures { place.new ≡ option_map (λ h. record {
+      routing = raw_fields (bytes h.now);
+      final_destination_options = None;
+    }) header.entry }
+{
+    if let Some(header) = header {
+        *place = Some(Ipv6RoutingExtensions {
+            routing: Ipv6RawExtHeader::default(),
+            final_destination_options: None,
+        });
+        if let Some(made) = place {
+            set_raw(&mut made.routing, header);
+        }
+    }
+}
+
+/// Sets the header to the one in the slice.
+#[inline(always)]
+fn set_raw(header: &mut Ipv6RawExtHeader, slice: &Ipv6RawExtHeaderSlice<'_>)
+    ensures { header.new ≡ raw_fields (bytes slice.now) }
+{
+    let _ = slice.slice();
+    header.next_header = slice.next_header();
+    let _ = header.set_payload(slice.payload());
+}
+
+/// Stores the authentication header, if there is one, in the place, which is free.
+#[inline(always)]
+fn put_auth(place: &mut Option<IpAuthHeader>, header: Option<&IpAuthHeaderSlice<'_>>)
+    requires { place.old ≡ None }
+    ensures { place.new ≡ option_map (λ h. auth_fields (auth_bytes h.now)) header.entry }
+{
+    if let Some(header) = header {
+        *place = Some(IpAuthHeader::default());
+        if let Some(made) = place {
+            made.next_header = header.next_header();
+            made.spi = header.spi();
+            made.sequence_number = header.sequence_number();
+            let _ = made.set_raw_icv(header.raw_icv());
+        }
     }
 }
 

@@ -72,20 +72,9 @@ advance h steps i bits more s w next truths few = record {
   few = omega (arith, few, w.few);
 }
 
-none_holds : (h : Term → Bool) (fs : List Formula) (bits : List Bool) → length bits ≡ 0 → AreTruths h fs bits → false ≡ last_holds fs h
-none_holds h [] bits e are = refl
-none_holds h (f ∷ fs) bits e are = absurd (omega (arith, e, as_many h (f ∷ fs) bits are))
-
 all_read : (h : Term → Bool) (steps : List Step) (i : ℕ) (bits : List Bool) (w : Progress h steps i bits) → drop i steps ≡ [] → w.formulas ≡ read_after [] steps
 all_read h steps i bits w e = ap (read_after w.formulas) (sym e) ∙ w.left
 
-pub no_truth : (h : Term → Bool) (steps : List Step) (i : ℕ) (bits : List Bool) → Progress h steps i bits → drop i steps ≡ [] → length bits ≡ 0 → false ≡ last_holds (read_after [] steps) h
-no_truth h steps i bits w e none = none_holds h w.formulas bits none w.truths ∙ ap (λ fs. last_holds fs h) (all_read h steps i bits w e)
-
-last_of : (h : Term → Bool) (fs : List Formula) (bits : List Bool) (b : Bool) → 1 ≤ length bits → AreTruths h fs bits → ((f : Formula) (gs : List Formula) → AreTruths h (f ∷ gs) bits → b ≡ truth f h) → b ≡ last_holds fs h
-last_of h [] bits b some are told = absurd (omega (arith, some, as_many h [] bits are))
-last_of h (f ∷ fs) bits b some are told = told f fs are
-
-pub last_truth : (h : Term → Bool) (steps : List Step) (i : ℕ) (bits : List Bool) (b : Bool) → Progress h steps i bits → drop i steps ≡ [] → 1 ≤ length bits
-    → ((f : Formula) (gs : List Formula) → AreTruths h (f ∷ gs) bits → b ≡ truth f h) → b ≡ last_holds (read_after [] steps) h
-last_truth h steps i bits b w e some told = last_of h w.formulas bits b some w.truths told ∙ ap (λ fs. last_holds fs h) (all_read h steps i bits w e)
+-- all steps were read
+pub finished : (h : Term → Bool) (steps : List Step) (i : ℕ) (bits : List Bool) (b : Bool) → Progress h steps i bits → drop i steps ≡ [] → ((fs : List Formula) → AreTruths h fs bits → b ≡ last_holds fs h) → b ≡ last_holds (read_after [] steps) h
+finished h steps i bits b w e told = told w.formulas w.truths ∙ ap (λ fs. last_holds fs h) (all_read h steps i bits w e)

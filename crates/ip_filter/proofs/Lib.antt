@@ -1,4 +1,5 @@
 mod NetworkLemmas
+mod BitsLemmas
 mod FormulaLemmas
 mod WordLemmas
 mod NumberLemmas

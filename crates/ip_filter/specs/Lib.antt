@@ -2,6 +2,7 @@ pub mod Network
 pub mod Truth
 pub mod Facts
 pub mod Formula
+pub mod Bits
 pub mod Words
 pub mod Numbers
 pub mod Grammar

@@ -3,7 +3,8 @@ ghost use Rattle.ip_dissect.specs.Dissection.{dissected};
 ghost use Rattle.ip_filter.specs.Truth.{holds};
 ghost use Rattle.ip_filter.specs.Formula.{read_after, last_holds, steps_of};
 
-use crate::{Term, steps_match, steps_match_other};
+use crate::steps::own_steps_match;
+use crate::{Term, steps_match_other};
 
 /// What a step does.
 #[derive(Clone, Copy, Debug, PartialEq, Eq)]
@@ -43,7 +44,7 @@ impl Filter {
         ensures { result ≡ last_holds (read_after [] (steps_of self.now))
             (λ t. holds t (dissected bytes.now)) }
     {
-        steps_match(self.used_steps(), bytes)
+        own_steps_match(self.used_steps(), bytes)
     }
 
     /// Returns whether the filter matches a frame that is not IP: no term holds of it.

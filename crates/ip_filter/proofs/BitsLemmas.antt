@@ -78,7 +78,7 @@ joined_last h (suc zero) n nots is_and last t v fs two ts neg are = absurd (omeg
 joined_last h (suc (suc k)) n nots is_and last t v fs two ts neg are =
     let less : suc (suc k) - 1 ≡ suc k = omega arith in
     rw less (join_truths h nots (with_last (suc (suc k)) n last) (low_bits (suc k) n) (low_bits k (n / 2)) (with_last (suc k) (n / 2) v) last (eqb (n % 2) 1) t v (omega (arith, length-with_last (suc (suc k)) n last))
-        (λ f gs. last_popped h f gs (low_bits (suc k) n) last) (λ f gs. last_popped h f gs (low_bits k (n / 2)) (eqb (n % 2) 1)) neg refl is_and fs ts are)
+    (λ f gs. last_popped h f gs (low_bits (suc k) n) last) (λ f gs. last_popped h f gs (low_bits k (n / 2)) (eqb (n % 2) 1)) neg refl is_and fs ts are)
 
 -- the last truth of all
 pub last_told : (h : Term → Bool) (k n : ℕ) (t : Bool) (fs : List Formula) → 0 < k → AreTruths h fs (with_last k n t) → t ≡ last_holds fs h

@@ -246,8 +246,8 @@ fn fault_kind(error: &SliceError) -> FaultKind
     }
 }
 
-/// Returns whether the kind of the packet's fragment passes the test. It is a call of its own: inlined, its tests were done
-/// once for each packet before its steps, also if no step asks for a fragment.
+/// Returns whether the kind of the packet's fragment passes the test. It is a call of its own: inlined, it is done for
+/// each packet before the steps, even if none of them asks for a fragment.
 #[inline(never)]
 pub(crate) fn fragment_is(fragment: Option<Fragment>, first: bool, later: bool) -> bool
     ensures { result ≡ option_map_or

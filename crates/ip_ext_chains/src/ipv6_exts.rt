@@ -154,6 +154,8 @@ impl Ipv6Extensions {
 
     /// Returns the headers' length in bytes, 0 to 9228. Each header can be written: the ranges of its fields
     /// guarantee it.
+    // Kept out of line, so that `write` has few uses of the struct's address, as the headers' `write_reserved` is.
+    #[inline(never)]
     pub fn header_len(&self) -> usize
         ensures len { result ≡ exts_len self.now }
         ensures most { result ≤ 9228 }

@@ -1,3 +1,4 @@
 pub mod EqualLemmas
 pub mod FaultLemmas
 pub mod AuthLemmas
+mod CopyLemmas

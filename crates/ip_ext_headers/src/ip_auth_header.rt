@@ -19,6 +19,7 @@ ghost use Rattle.ip_ext_headers.specs.AuthLimitedReadError.{io_of as limited_io_
 
 use crate::IpAuthHeaderSlice;
 use crate::auth_parts::AuthParts;
+use crate::copying::copy;
 use crate::encodable::auth_encodable;
 use crate::err::ip_auth::{HeaderLimitedReadError, HeaderReadError, HeaderSliceError, IcvLenError};
 use arrayvec::ArrayVec;
@@ -308,7 +309,9 @@ impl IpAuthHeader {
         requires { IsIcvLen (length raw_icv.now) }
         ensures { self.new ≡ record self.old { raw_icv = raw_icv.now } }
     {
-        self.bytes[..raw_icv.len()].copy_from_slice(raw_icv);
+        if !raw_icv.is_empty() {
+            copy(&mut self.bytes[..raw_icv.len()], raw_icv);
+        }
         self.icv_units = (raw_icv.len() / 4) as u8;
     }
 
@@ -356,7 +359,8 @@ impl IpAuthHeader {
     }
 
     /// Appends the header's bytes. The vector must have room for them.
-    #[inline(always)]
+    // Kept out of line, as `copy` is: inlined in `Ipv6Extensions::write`, it has too many uses of the struct's address.
+    #[inline(never)]
     pub fn write_reserved<A: Allocator>(&self, out: &mut Vec<u8, A>)
         requires room { vec_len out.old + auth_len self.now ≤ vec_capacity out.old }
         ensures appended { AppendsOne (IsAuthEncoding self.now) out.old.items out.new.items }

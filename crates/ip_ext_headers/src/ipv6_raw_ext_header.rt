@@ -17,6 +17,7 @@ ghost use Rattle.ip_base.specs.declared.err.layer.Layer.TheVariants.{Ipv6ExtHead
 ghost use Rattle.ip_base.specs.LimitedReadError.{io_of};
 
 use crate::Ipv6RawExtHeaderSlice;
+use crate::copying::copy;
 use crate::encodable::raw_encodable;
 use crate::err::ipv6_exts::ExtPayloadLenError;
 use arrayvec::ArrayVec;
@@ -231,7 +232,7 @@ impl Ipv6RawExtHeader {
         requires { IsPayloadLen (length payload.now) }
         ensures { self.new ≡ record self.old { payload = payload.now } }
     {
-        self.bytes[..payload.len()].copy_from_slice(payload);
+        copy(&mut self.bytes[..payload.len()], payload);
         self.hdr_ext_len = ((payload.len() - 6) / 8) as u8;
     }
 
@@ -279,7 +280,8 @@ impl Ipv6RawExtHeader {
     }
 
     /// Appends the header's bytes. The vector must have room for them.
-    #[inline(always)]
+    // Kept out of line, as `copy` is: inlined in `Ipv6Extensions::write`, it has too many uses of the struct's address.
+    #[inline(never)]
     pub fn write_reserved<A: Allocator>(&self, out: &mut Vec<u8, A>)
         requires room { vec_len out.old + raw_len self.now ≤ vec_capacity out.old }
         ensures appended { AppendsOne (IsRawEncoding self.now) out.old.items out.new.items }

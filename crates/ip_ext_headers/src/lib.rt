@@ -4,6 +4,7 @@
 #![tactic(auto)]
 
 mod auth_parts;
+mod copying;
 mod encodable;
 pub mod err;
 mod fragment_bits;

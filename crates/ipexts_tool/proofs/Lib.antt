@@ -1,6 +1,7 @@
 pub mod NumberLemmas
 pub mod OpenLineLemmas
 pub mod LineFieldLemmas
+pub mod HexDigitLemmas
 pub mod ProgressLemmas
 pub mod MemoryLemmas
 pub mod PacketLemmas

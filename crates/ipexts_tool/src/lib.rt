@@ -60,6 +60,7 @@ mod exts4;
 mod exts6;
 mod faults;
 mod feed;
+mod hex_digits;
 mod line_fields;
 mod packet;
 mod parts;

@@ -6,6 +6,7 @@ ghost use Rattle.ipexts_tool.specs.Lines.{max_line_len};
 ghost use Rattle.ipexts_tool.specs.LineFields.{fields_of, number_of};
 ghost use Rattle.ipexts_tool.specs.LineFields.{bytes_of_hex, number_and_bytes, bytes_alone};
 
+use crate::hex_digits::decode;
 use etherparse_ip::IpNumber;
 
 /// The longest line that is a request, in bytes.
@@ -59,7 +60,9 @@ fn parse_hex<'a>(text: &[u8], buffer: &'a mut [u8; BYTES_LEN]) -> Option<&'a [u8
     }
     let len = text.len() / 2;
     let bytes = &mut buffer[..len];
-    hex::decode_to_slice(text, bytes).ok()?;
+    if text.len() % 2 != 0 || !decode(text, bytes) {
+        return None;
+    }
     Some(bytes)
 }
 

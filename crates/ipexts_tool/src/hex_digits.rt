@@ -1,0 +1,113 @@
+//! Hexadecimal digits, decoded in blocks of 32 by vectors of 16 bytes.
+ghost use Rattle.std.specs.Prelude.{◌≡◌, ℕ, ◌+◌, ◌*◌, ◌%◌, ◌<◌, ◌≤◌, ◌⊎◌, ◌++◌, length, map, slice_index};
+ghost use Rattle.std.specs.Bool.{OnTrue, OnFalse};
+ghost use Rattle.std.specs.Result.{result_ok};
+ghost use Rattle.hex.specs.Hex.{decode_of};
+ghost use Rattle.ipexts_tool.specs.HexDigits.{digit_value, IsDecoded, HasOther};
+
+use std::simd::prelude::*;
+
+/// The bytes of a block, which has twice as many digits.
+const BLOCK_LEN: usize = 16;
+
+/// Stores the bytes that the digits denote. Returns whether they all are digits; if not, nothing is known of the
+/// bytes.
+pub fn decode(text: &[u8], bytes: &mut [u8]) -> bool
+    requires { length text.now ≡ 2 * length bytes.old }
+    ensures digits { OnTrue result (decode_of text.now ≡ Ok bytes.new) }
+    ensures other { OnFalse result (result_ok (decode_of text.now) ≡ None) }
+{
+    if bytes.len() < BLOCK_LEN {
+        return decode_short(text, bytes);
+    }
+    let last = bytes.len() - BLOCK_LEN;
+    let mut at = 0;
+    'blocks: while at < last {
+        if !decode_block(text, at, bytes) {
+            return false;
+        }
+        at += BLOCK_LEN;
+    }
+    // The last block may share bytes with the one before.
+    decode_block(text, last, bytes)
+}
+
+/// Does the same for less than a block, which is filled up with zeros.
+fn decode_short(text: &[u8], bytes: &mut [u8]) -> bool
+    requires twice { length text.now ≡ 2 * length bytes.old }
+    requires short { length bytes.old < BLOCK_LEN }
+    ensures digits { OnTrue result (decode_of text.now ≡ Ok bytes.new) }
+    ensures other { OnFalse result (result_ok (decode_of text.now) ≡ None) }
+{
+    let mut digits = [b'0'; 2 * BLOCK_LEN];
+    digits[..text.len()].copy_from_slice(text);
+    let mut block = [0; BLOCK_LEN];
+    let are_digits = decode_block(&digits, 0, &mut block);
+    let len = bytes.len();
+    bytes.copy_from_slice(&block[..len]);
+    are_digits
+}
+
+/// Stores the bytes of the block that starts at byte `at`. Returns whether its digits all are digits.
+#[inline(always)]
+fn decode_block(text: &[u8], at: usize, bytes: &mut [u8]) -> bool
+    requires twice { length text.now ≡ 2 * length bytes.old }
+    requires inside { at + BLOCK_LEN ≤ length bytes.old }
+    ensures digits { OnTrue result
+        ((k : ℕ) → at ≤ k → k < at + BLOCK_LEN → IsDecoded text.now bytes.new k) }
+    ensures other { OnFalse result (HasOther text.now) }
+    ensures kept { (k : ℕ) → k < at → slice_index bytes.new k ≡ slice_index bytes.old k }
+{
+    let front = digit_values(u8x16::from_slice(&text[2 * at..]));
+    let back = digit_values(u8x16::from_slice(&text[2 * at + BLOCK_LEN..]));
+    joined(front, back).copy_to_slice(&mut bytes[at..]);
+    are_values(front, back)
+}
+
+/// Returns the value of each digit, and 255 for any other byte.
+#[inline(always)]
+fn digit_values(digits: u8x16) -> u8x16
+    ensures { result ≡ map digit_value digits }
+{
+    let decimal = digits - u8x16::splat(b'0');
+    let letter = (digits | u8x16::splat(0x20)) - u8x16::splat(b'a');
+    let letter_value = letter
+        .simd_lt(u8x16::splat(6))
+        .select(letter + u8x16::splat(10), u8x16::splat(255));
+    decimal
+        .simd_lt(u8x16::splat(10))
+        .select(decimal, letter_value)
+}
+
+/// Joins the values of each two digits.
+#[inline(always)]
+fn joined(front: u8x16, back: u8x16) -> u8x16
+    ensures len { length result ≡ BLOCK_LEN }
+    ensures lanes { (k : ℕ) → k < BLOCK_LEN → slice_index result k
+        ≡ (slice_index (front ++ back) (2 * k) * 16 + slice_index (front ++ back) (2 * k + 1)) % 256 }
+{
+    let high: u8x16 = front.shuffle(
+        back,
+        [0, 2, 4, 6, 8, 10, 12, 14, 16, 18, 20, 22, 24, 26, 28, 30],
+    );
+    let low: u8x16 = front.shuffle(
+        back,
+        [1, 3, 5, 7, 9, 11, 13, 15, 17, 19, 21, 23, 25, 27, 29, 31],
+    );
+    high * u8x16::splat(16) + low
+}
+
+/// Returns whether no lane is 128 or more.
+#[inline(always)]
+fn are_values(front: u8x16, back: u8x16) -> bool
+    ensures yes { OnTrue result
+        ((k : ℕ) → (slice_index front k < 128) × (slice_index back k < 128)) }
+    ensures no { OnFalse result ((k : ℕ) × (k < BLOCK_LEN)
+        × ((128 ≤ slice_index front k) ⊎ (128 ≤ slice_index back k))) }
+{
+    let larger = front.simd_max(back);
+    larger.simd_ge(u8x16::splat(128)).to_bitmask() == 0
+}
+
+#[cfg(test)]
+mod tests;

@@ -1,6 +1,7 @@
 pub mod NumberLemmas
 pub mod OpenLineLemmas
 pub mod LineFieldLemmas
+pub mod SearchLemmas
 pub mod HexDigitLemmas
 pub mod ProgressLemmas
 pub mod MemoryLemmas

@@ -68,6 +68,7 @@ mod request;
 mod rewrite6;
 mod rewriteall6;
 mod scratch;
+mod search;
 mod tool_error;
 
 use arrayvec::ArrayVec;

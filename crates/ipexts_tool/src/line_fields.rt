@@ -7,6 +7,7 @@ ghost use Rattle.ipexts_tool.specs.LineFields.{fields_of, number_of};
 ghost use Rattle.ipexts_tool.specs.LineFields.{bytes_of_hex, number_and_bytes, bytes_alone};
 
 use crate::hex_digits::decode;
+use crate::search::first_index;
 use etherparse_ip::IpNumber;
 
 /// The longest line that is a request, in bytes.
@@ -22,7 +23,7 @@ pub fn split_once(text: &[u8], separator: u8) -> Option<(&[u8], &[u8])>
     ensures shorter { IfSome result (λ parts. length parts.1.now < length text.now) }
     ensures absent { IfNone result (slice_split (λ b. b == separator) text.now ≡ text.now ∷ []) }
 {
-    let end = text.iter().position(|byte| *byte == separator)?;
+    let end = first_index(text, separator)?;
     Some((&text[..end], &text[end + 1..]))
 }
 

@@ -1,11 +1,14 @@
 -- A chain that stops at a later fragment's header: one more header, and the end.
-use Rattle.ip_spec.proofs.Common.{◌≡◌, ℕ, ◌+◌, ◌<◌, ◌^◌, List, [], ◌∷◌, ◌++◌, length, drop, sym, ap, ◌∙◌, arith, rules, Bool, true, false, nat_eq, common_steps, or-false, or_assoc, option_map, option_or, find, ◌||◌, next_header, ExtHeader, bytes_of, leads_to, IsNext, IsEnd, IsLongestUnder, rest_after}
+use Rattle.ip_spec.proofs.Common.{◌≡◌, ℕ, ◌+◌, ◌-◌, ◌<◌, ◌≤◌, ◌^◌, length-drop, List, [], ◌∷◌, ◌++◌, length, drop, sym, ap, ◌∙◌, arith, rules, Bool, true, false, nat_eq, common_steps, or-false, or_assoc, option_map, option_or, is_some, IsSome, find, ◌||◌, ◌&&◌, not, Option, IsExtensionNumber, next_header, ExtHeader, bytes_of, leads_to, IsNext, IsEnd, IsLongestUnder, rest_after}
 use Rattle.std.proofs.Common.{Some, None, cond}
 use Rattle.std.proofs.lemmas.List.Folds.{find-append}
 use Rattle.ip_spec.proofs.PrefixLemmas.{prefix-length}
 use Rattle.ip_spec.proofs.ChainLemmas.{bytes_of-least}
 use Rattle.ip_spec.proofs.ParsedLemmas.{HasParsed, has_parsed_on, no_next_here, parsed_longest_under}
 use Rattle.ip_spec.proofs.UnderLemmas.{one_longest_under, some_longest_under}
+use Rattle.ip_base.specs.declared.len_source.LenSource.TheVariants.{Slice}
+use Rattle.ip_ext_slices.specs.ChainFault.{Fault, slice_fault}
+use Rattle.ip_ext_slices.proofs.FaultLemmas.{fault_at_end, no_fault_at_other}
 use Rattle.ip_dissect.specs.LaterDemand.{is_later, has_later, NothingAfterLater, nothing_after_later}
 use Rattle.ip_dissect.specs.Later.{chain_to_later}
 use Rattle.ip_dissect.specs.Found.{found_in}
@@ -65,6 +68,30 @@ module _ (n : ℕ) (s : List ℕ) (m : ℕ) (r : List ℕ) (found : Found) where
   at_end w e =
       end_of w.chain w.read w.said
       (parsed_longest_under NothingAfterLater nothing_after_later n s w.chain m r (record { read = w.read; meets = met w.chain w.none }) (λ h x q. no_next_here n s w.chain m r w.read e h x))
+
+-- by the number of bytes passed
+same_first : (a b : ℕ) → a ≤ b → nat_eq a b ≡ nat_eq (b - a) 0
+same_first a b l = grind (arith, common_steps)
+
+there : (later : Bool) (o : Option Fault) → later ≡ false → IsSome o → true ≡ (not later && is_some o)
+there later o f some = grind (arith, common_steps)
+
+none_there : (later : Bool) (o : Option Fault) → o ≡ None → false ≡ (not later && is_some o)
+none_there later o none = grind (arith, common_steps)
+
+pub none_after_later : (later : Bool) (o : Option Fault) → later ≡ true → false ≡ (not later && is_some o)
+none_after_later later o t = grind (arith, common_steps)
+
+-- the error where the pass stops: at an extension header's number there is one, and at any other there is none
+pub fault_there : (n : ℕ) (s : List ℕ) (m : ℕ) (r : List ℕ) (found : Found) → WalkState n s m r found → IsExtensionNumber m → IsEnd (nat_eq (length r) (length s)) m r → (k : ℕ)
+    → true ≡ (not found.later && is_some (slice_fault k (nat_eq (length s - length r) 0) m r))
+fault_there n s m r found w is e k =
+    let fewer : length r ≤ length s = omega (arith, ap length w.read.rest, length-drop (length (bytes_of w.chain)) s) in
+    let goes_on : found.later ≡ false = ap (λ (f : Found). f.later) w.said ∙ w.none in
+    there found.later _ goes_on (fault_at_end Slice (length r) r k (nat_eq (length s - length r) 0) m is (rw (same_first (length r) (length s) fewer) at e))
+
+pub no_fault_there : (m : ℕ) (s r : List ℕ) (later : Bool) → (IsExtensionNumber m → ⊥) → (k : ℕ) → false ≡ (not later && is_some (slice_fault k (nat_eq (length s - length r) 0) m r))
+no_fault_there m s r later other k = none_there later _ (no_fault_at_other Slice (length r) (nat_eq (length s - length r) 0) m r k other)
 
 -- one more header, which isn't a later fragment's
 pub goes_on : (n : ℕ) (s : List ℕ) (m : ℕ) (r : List ℕ) (found : Found) (w : WalkState n s m r found) (h : ExtHeader) (k : ℕ) (q b : List ℕ) (more : Found) (x : IsNext (nat_eq (length r) (length s)) m r h)

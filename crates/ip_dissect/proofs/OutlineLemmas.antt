@@ -22,13 +22,13 @@ use Rattle.ip_dissect.proofs.PartsLemmas.{chain_len, after_is, ipv6_fragment_is,
 use Rattle.ip_dissect.proofs.DissectedLemmas.{dissected-none, base6}
 
 -- the end after an IPv6 chain, by whether there is an error
-abbrev end_after : Bool → Option ℕ → Option Fault → End
+abbrev pub end_after : Bool → Option ℕ → Option Fault → End
 end_after later t o = if later then LaterFragment else option_map_or (exts_end t) o Payload
 
 end_without : (later : Bool) (t : Option ℕ) (o : Option Fault) → (not later && is_some o) ≡ false → end_after later t o ≡ (if later then LaterFragment else Payload)
 end_without later t o e = search rules
 
-end_with : (later : Bool) (t : Option ℕ) (o : Option Fault) → (not later && is_some o) ≡ true → has_error (end_after later t o) ≡ true
+pub end_with : (later : Bool) (t : Option ℕ) (o : Option Fault) → (not later && is_some o) ≡ true → has_error (end_after later t o) ≡ true
 end_with later t o e = search rules
 
 -- A pass over the bytes x after an IPv6 base header b, read as y: the number m, the bytes r, and what it found.

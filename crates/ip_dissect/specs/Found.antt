@@ -1,11 +1,15 @@
 -- What a pass over a chain finds.
-use Rattle.std.specs.Prelude.{List, length}
+use Rattle.std.specs.Prelude.{◌≡◌, ℕ, List, length, ◌-◌, ◌==◌, ◌&&◌, not, is_some}
 use Rattle.std.specs.List.{find}
 use Rattle.std.specs.Option.{option_map}
-use Rattle.ip_spec.specs.Chain.{ExtHeader}
+use Rattle.ip_spec.specs.Chain.{ExtHeader, leads_to}
+use Rattle.ip_spec.specs.Parse.{rest_after}
+use Rattle.ip_ext_slices.specs.ChainFault.{slice_fault}
+use Rattle.ip_dissect.specs.Later.{chain_to_later}
 use Rattle.ip_dissect.specs.LaterDemand.{has_later}
 use Rattle.ip_dissect.specs.Fragment.{fragment_of, fragments, is_fragment_header}
 use Rattle.ip_dissect.specs.declared.walk.Found.{Found}
+use Rattle.ip_dissect.specs.declared.walk.Passed.{Passed}
 
 -- of the fragment headers the first one that fragments the payload, the first one, and whether one is a later
 -- fragment's; and the number of headers
@@ -16,3 +20,11 @@ found_in c = record {
   later = has_later c;
   count = length c;
 }
+
+-- The pass p went over the chain from n at the start of s, and there is an error unless it stopped at a later fragment's
+-- header or at a number that is no extension header's.
+pub record HasPassed (n : ℕ) (s : List ℕ) (p : Passed) : Type 0 where
+  pub number : p.number.0 ≡ leads_to n (chain_to_later n s)
+  pub rest : p.rest.now ≡ rest_after (chain_to_later n s) s
+  pub found : p.found ≡ found_in (chain_to_later n s)
+  pub fault : (k : ℕ) → p.is_fault ≡ (not p.found.later && is_some (slice_fault k (length s - length p.rest.now == 0) p.number.0 p.rest.now))

@@ -3,6 +3,7 @@ pub mod Later
 pub mod Fragment
 pub mod Found
 pub mod Extent
+pub mod Walked
 pub mod End
 pub mod Dissection
 pub mod Outline

@@ -1,5 +1,5 @@
 //! Why the headers of a packet end where they do.
-ghost use Rattle.std.specs.Prelude.{◌≡◌, ◌==◌, ◌+◌, ◌^◌, ◌<◌, if◌then◌else◌};
+ghost use Rattle.std.specs.Prelude.{◌≡◌, ◌==◌, ◌+◌, ◌^◌, ◌<◌, ◌&&◌, not, is_some, if◌then◌else◌};
 ghost use Rattle.std.specs.Option.{option_map_or};
 ghost use Rattle.ip_base.specs.declared.len_source.LenSource.TheVariants.{Slice};
 ghost use Rattle.ip_ext_headers.specs.HeaderFault.{AuthOffsetFits};
@@ -12,22 +12,38 @@ use crate::End;
 use crate::walk::Passed;
 use etherparse_ip::err::ip::{HeadersError, SliceError};
 use etherparse_ip::err::{Layer, LenError, ip_auth, ipv6_exts};
-use ip_base::{Ipv6Header, LenSource};
+use ip_base::{IpNumber, Ipv6Header, LenSource};
 use ip_ext_slices::fault_at;
 
 /// Returns the end of an IPv6 packet after `len` bytes of extension headers.
 #[inline(always)]
 pub(crate) fn ipv6_end(passed: &Passed<'_>, len: usize, stated_len: Option<usize>) -> End
-    requires { 40 + len < 2 ^ 64 }
+    requires len { 40 + len < 2 ^ 64 }
+    requires fault { passed.now.is_fault ≡ (not passed.now.found.later
+        && is_some (slice_fault (40 + len) (len == 0) passed.now.number.0 passed.now.rest.now)) }
     ensures { result ≡ (if passed.now.found.later then LaterFragment
         else option_map_or (exts_end stated_len) (slice_fault (40 + len) (len == 0)
         passed.now.number.0 passed.now.rest.now) Payload) }
 {
-    if passed.found.later {
-        return End::LaterFragment;
+    if passed.is_fault {
+        return end_at_extension(passed.number, passed.rest, len, stated_len);
     }
-    let offset = Ipv6Header::LEN + len;
-    match fault_at(len == 0, passed.number, passed.rest, offset) {
+    if passed.found.later {
+        End::LaterFragment
+    } else {
+        End::Payload
+    }
+}
+
+/// Returns the end at the number of an IPv6 extension header after `len` bytes of them.
+#[cold]
+#[inline(never)]
+fn end_at_extension(number: IpNumber, rest: &[u8], len: usize, stated_len: Option<usize>) -> End
+    requires { 40 + len < 2 ^ 64 }
+    ensures { result ≡ option_map_or (exts_end stated_len) (slice_fault (40 + len) (len == 0)
+        number.0 rest.now) Payload }
+{
+    match fault_at(len == 0, number, rest, Ipv6Header::LEN + len) {
         None => End::Payload,
         Some((ipv6_exts::HeaderSliceError::Len(error), header)) => end_of_len(
             error,

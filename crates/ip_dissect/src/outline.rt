@@ -1,21 +1,19 @@
 //! The parts of a packet as lengths and numbers, where its headers end without an error.
-ghost use Rattle.std.specs.Prelude.{◌≡◌, ◌==◌, ◌+◌, ◌<◌, ◌^◌, ◌&&◌, not, nat_lt, true, is_some, length, IfSome, IfNone};
+ghost use Rattle.std.specs.Prelude.{◌≡◌, ◌==◌, ◌+◌, ◌&&◌, not, nat_lt, true, length, IfSome, IfNone};
 ghost use Rattle.ip_base.specs.Prefix.{IsPrefix};
 ghost use Rattle.ip_base.specs.Ipv4Header.{total_len};
 ghost use Rattle.ip_base.specs.Ipv4HeaderSlice as ipv4_header;
 ghost use Rattle.ip_base.specs.Ipv6HeaderSlice as ipv6_header;
-ghost use Rattle.ip_ext_slices.specs.ChainFault.{slice_fault};
 ghost use Rattle.ip_dissect.specs.End.{has_error, ipv4_end, ipv6_end};
 ghost use Rattle.ip_dissect.specs.Dissection.{dissected, ipv4_dissected, ipv6_dissected};
 ghost use Rattle.ip_dissect.specs.Outline.{HasOutline};
 
 use crate::Fragment;
-use crate::fields::{ipv4_fragment, ipv4_offset, ipv4_stated_len, ipv6_stated_len};
+use crate::fields::{ipv4_fragment, ipv4_offset, ipv4_stated_len};
 use crate::ipv4_chain::ipv4_chain;
-use crate::parts::{missing, packet_of};
-use crate::walk::{Passed, after, pass};
-use ip_base::{IpNumber, Ipv4HeaderSlice, Ipv6Header, Ipv6HeaderSlice};
-use ip_ext_slices::fault_at;
+use crate::parts::{Walked, ipv6_walk, missing, packet_of};
+use crate::walk::after;
+use ip_base::{IpNumber, Ipv4HeaderSlice, Ipv6HeaderSlice};
 
 /// The parts of a packet whose headers end at its payload, as lengths and numbers.
 #[derive(Clone, Copy, Debug, PartialEq, Eq)]
@@ -80,20 +78,20 @@ fn ipv6_outline(base: Ipv6HeaderSlice<'_>, bytes: &[u8]) -> Option<Outline>
     ensures within { IfSome result (λ o. o.base_len + o.extensions_len + o.payload_len
         + o.padding_len ≡ length bytes.now) }
 {
-    let stated_len = ipv6_stated_len(base);
-    let slice = base.slice();
-    let packet = packet_of(bytes, slice, stated_len);
-    let after_base = after(packet, slice.len());
-    let passed = pass(base.next_header(), after_base);
-    let len = after_base.len() - passed.rest.len();
-    if has_fault(&passed, len) {
+    let Walked {
+        stated_len,
+        packet,
+        after_base,
+        passed,
+    } = ipv6_walk(base, bytes);
+    if passed.is_fault {
         return None;
     }
     Some(Outline {
         version: 6,
-        base_len: slice.len(),
+        base_len: base.slice().len(),
         stated_len,
-        extensions_len: len,
+        extensions_len: after_base.len() - passed.rest.len(),
         header_count: passed.found.count,
         next_header: passed.number,
         payload_len: passed.rest.len(),
@@ -104,41 +102,9 @@ fn ipv6_outline(base: Ipv6HeaderSlice<'_>, bytes: &[u8]) -> Option<Outline>
     })
 }
 
-/// Returns whether an error follows the `len` bytes of IPv6 extension headers.
-#[inline(always)]
-fn has_fault(passed: &Passed<'_>, len: usize) -> bool
-    requires { 40 + len < 2 ^ 64 }
-    ensures { result ≡ (not passed.now.found.later && is_some (slice_fault (40 + len) (len == 0)
-        passed.now.number.0 passed.now.rest.now)) }
-{
-    !passed.found.later && is_fault(len, passed.number, passed.rest)
-}
-
-/// Returns whether there is an error at this number after `len` bytes of IPv6 extension headers.
-#[inline(always)]
-fn is_fault(len: usize, number: IpNumber, rest: &[u8]) -> bool
-    requires { 40 + len < 2 ^ 64 }
-    ensures { result ≡ is_some (slice_fault (40 + len) (len == 0) number.0 rest.now) }
-{
-    match number.0 {
-        0 | 43 | 44 | 51 | 60 => fault_is_here(len, number, rest),
-        _ => false,
-    }
-}
-
-/// Returns whether there is an error at the number of an extension header.
-#[cold]
-#[inline(never)]
-fn fault_is_here(len: usize, number: IpNumber, rest: &[u8]) -> bool
-    requires { 40 + len < 2 ^ 64 }
-    ensures { result ≡ is_some (slice_fault (40 + len) (len == 0) number.0 rest.now) }
-{
-    fault_at(len == 0, number, rest, Ipv6Header::LEN + len).is_some()
-}
-
 /// Outlines the IPv4 packet with this base header.
 #[inline(always)]
-fn ipv4_outline(base: Ipv4HeaderSlice<'_>, bytes: &[u8]) -> Option<Outline>
+pub(crate) fn ipv4_outline(base: Ipv4HeaderSlice<'_>, bytes: &[u8]) -> Option<Outline>
     requires { IsPrefix (ipv4_header.bytes base) bytes.now }
     ensures parts { IfSome result (HasOutline (ipv4_dissected (ipv4_header.bytes base.entry) bytes.now)) }
     ensures none { IfNone result
@@ -175,7 +141,7 @@ fn ipv4_outline(base: Ipv4HeaderSlice<'_>, bytes: &[u8]) -> Option<Outline>
 
 /// Returns whether the total length is below the header length.
 #[inline(always)]
-fn is_too_short(base: Ipv4HeaderSlice<'_>) -> bool
+pub(crate) fn is_too_short(base: Ipv4HeaderSlice<'_>) -> bool
     ensures { result ≡ (not (total_len (ipv4_header.bytes base.entry) == 0)
         && nat_lt (total_len (ipv4_header.bytes base.entry)) (length (ipv4_header.bytes base.entry))) }
 {

@@ -4,13 +4,14 @@ ghost use Rattle.ip_base.specs.Prefix.{IsPrefix};
 ghost use Rattle.ip_base.specs.Ipv4HeaderSlice as ipv4_header;
 ghost use Rattle.ip_base.specs.Ipv6HeaderSlice as ipv6_header;
 ghost use Rattle.ip_dissect.specs.Extent.{packet_bytes, missing_of};
+ghost use Rattle.ip_dissect.specs.Walked.{HasWalked};
 ghost use Rattle.ip_dissect.specs.Dissection.{HasParts, dissected, without_base, ipv4_dissected, ipv6_dissected, base_of};
 
 use crate::base::base_header;
 use crate::ends::ipv6_end;
 use crate::fields::{ipv4_fragment, ipv4_stated_len, ipv6_stated_len};
 use crate::ipv4_chain::{ipv4_chain, ipv4_end};
-use crate::walk::{after, pass};
+use crate::walk::{Passed, after, pass};
 use crate::{BaseHeader, Dissection, End};
 use ip_base::{Ipv4HeaderSlice, Ipv6HeaderSlice, ip_number};
 
@@ -77,17 +78,49 @@ pub(crate) fn missing(stated_len: Option<usize>, present: usize) -> usize
     }
 }
 
+/// An IPv6 packet after the pass over its extension headers.
+#[derive(Clone, Copy)]
+pub(crate) struct Walked<'a> {
+    /// The length that it states, base header included.
+    pub(crate) stated_len: Option<usize>,
+    /// Its bytes.
+    pub(crate) packet: &'a [u8],
+    /// Its bytes after the base header.
+    pub(crate) after_base: &'a [u8],
+    /// The pass over them.
+    pub(crate) passed: Passed<'a>,
+}
+
+/// Passes over the extension headers of the IPv6 packet with this base header.
+#[inline(always)]
+pub(crate) fn ipv6_walk<'a>(base: Ipv6HeaderSlice<'_>, bytes: &'a [u8]) -> Walked<'a>
+    requires { IsPrefix (ipv6_header.bytes base) bytes.now }
+    ensures { HasWalked (ipv6_header.bytes base.entry) bytes.now result }
+{
+    let stated_len = ipv6_stated_len(base);
+    let slice = base.slice();
+    let packet = packet_of(bytes, slice, stated_len);
+    let after_base = after(packet, slice.len());
+    Walked {
+        stated_len,
+        packet,
+        after_base,
+        passed: pass(base.next_header(), after_base),
+    }
+}
+
 /// Returns the parts of the IPv6 packet with this base header.
 #[inline(always)]
 fn ipv6<'a>(base: Ipv6HeaderSlice<'a>, bytes: &'a [u8]) -> Dissection<'a>
     requires { IsPrefix (ipv6_header.bytes base) bytes.now }
     ensures { HasParts (ipv6_dissected (ipv6_header.bytes base.entry) bytes.now) result }
 {
-    let stated_len = ipv6_stated_len(base);
-    let slice = base.slice();
-    let packet = packet_of(bytes, slice, stated_len);
-    let after_base = after(packet, slice.len());
-    let passed = pass(base.next_header(), after_base);
+    let Walked {
+        stated_len,
+        packet,
+        after_base,
+        passed,
+    } = ipv6_walk(base, bytes);
     let len = after_base.len() - passed.rest.len();
     let end = ipv6_end(&passed, len, stated_len);
     Dissection {

@@ -1,12 +1,11 @@
 //! One pass over the extension headers of an IPv6 packet.
-ghost use Rattle.std.specs.Prelude.{◌≡◌, ◌≤◌, ◌+◌, ◌<◌, ◌^◌, ◌++◌, ◌∷◌, ◌==◌, ◌||◌, not, if◌then◌else◌, Some, None, [], length, drop, List};
+ghost use Rattle.std.specs.Prelude.{◌≡◌, ◌≤◌, ◌+◌, ◌<◌, ◌^◌, ◌++◌, ◌∷◌, ◌==◌, ◌||◌, ◌↔◌, not, if◌then◌else◌, Some, None, [], length, drop, List, IsTrue};
 ghost use Rattle.std.specs.Option.{option_or};
-ghost use Rattle.ip_spec.specs.Chain.{ExtHeader, leads_to};
-ghost use Rattle.ip_spec.specs.Parse.{rest_after};
+ghost use Rattle.ip_spec.specs.Header.{IsExtensionNumber};
+ghost use Rattle.ip_spec.specs.Chain.{ExtHeader};
 ghost use Rattle.ip_ext_slices.specs.Ipv6ExtensionSlice.{header_of};
-ghost use Rattle.ip_dissect.specs.Later.{chain_to_later};
 ghost use Rattle.ip_dissect.specs.Fragment.{fragment_in, is_atomic};
-ghost use Rattle.ip_dissect.specs.Found.{found_in};
+ghost use Rattle.ip_dissect.specs.Found.{found_in, HasPassed};
 
 use crate::{Fragment, FragmentKind};
 use ip_base::IpNumber;
@@ -25,12 +24,15 @@ pub(crate) struct Found {
     pub(crate) count: usize,
 }
 
-/// The end of a pass: the number that follows the headers, the bytes after them, and what it found.
+/// The end of a pass: the number that follows the headers, the bytes after them, what it found, and
+/// whether an error follows.
 #[derive(Clone, Copy, Debug)]
 pub(crate) struct Passed<'a> {
     pub(crate) number: IpNumber,
     pub(crate) rest: &'a [u8],
     pub(crate) found: Found,
+    /// Whether it stopped at an extension header's number without such a header.
+    pub(crate) is_fault: bool,
 }
 
 /// Returns the bytes after the first `len`.
@@ -42,17 +44,31 @@ pub(crate) fn after(bytes: &[u8], len: usize) -> &[u8]
     &bytes[len..]
 }
 
+/// Returns whether the number is an extension header's.
+#[inline(always)]
+pub(crate) fn is_extension(number: IpNumber) -> bool
+    ensures { IsTrue result ↔ IsExtensionNumber number.0 }
+{
+    matches!(number.0, 0 | 43 | 44 | 51 | 60)
+}
+
 /// Walks the longest chain from `start` in which nothing follows a later fragment's header.
 #[inline(always)]
 pub(crate) fn pass(start: IpNumber, bytes: &[u8]) -> Passed<'_>
-    ensures number { result.number.0 ≡ leads_to start.0 (chain_to_later start.0 bytes.now) }
-    ensures rest { result.rest.now ≡ rest_after (chain_to_later start.0 bytes.now) bytes.now }
-    ensures found { result.found ≡ found_in (chain_to_later start.0 bytes.now) }
+    ensures { HasPassed start.0 bytes.now result }
 {
     let mut number = start;
     let mut rest = bytes;
     let mut found = Found::none();
-    'headers: while let Some(header) = header_at(rest.len() == bytes.len(), number, rest) {
+    'headers: while is_extension(number) {
+        let Some(header) = header_at(rest.len() == bytes.len(), number, rest) else {
+            return Passed {
+                number,
+                rest,
+                found,
+                is_fault: true,
+            };
+        };
         number = header.next_header();
         rest = after(rest, header.slice().len());
         found = found.with(&header);
@@ -61,6 +77,7 @@ pub(crate) fn pass(start: IpNumber, bytes: &[u8]) -> Passed<'_>
                 number,
                 rest,
                 found,
+                is_fault: false,
             };
         }
     }
@@ -68,6 +85,7 @@ pub(crate) fn pass(start: IpNumber, bytes: &[u8]) -> Passed<'_>
         number,
         rest,
         found,
+        is_fault: false,
     }
 }
 

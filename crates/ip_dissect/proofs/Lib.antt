@@ -7,3 +7,4 @@ pub mod JoinedLemmas
 pub mod AgreementLemmas
 pub mod AcceptedLemmas
 pub mod OutlineLemmas
+pub mod PlainLemmas

@@ -15,6 +15,7 @@ mod fragment;
 mod ipv4_chain;
 mod outline;
 mod parts;
+mod plain;
 mod walk;
 
 pub use agreement_laws::{parsed_packets_end_at_their_payload, parsed_packets_have_these_parts};
@@ -24,3 +25,4 @@ pub use end::End;
 pub use fragment::{Fragment, FragmentKind};
 pub use outline::{Outline, outline_packet};
 pub use parts::dissect;
+pub use plain::outline_plain_packet;

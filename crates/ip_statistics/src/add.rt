@@ -10,7 +10,9 @@ use crate::headers::{count_authentication, count_headers, count_outlined_headers
 use crate::lengths::count_length;
 use crate::parts::Parts;
 use ip_base::Ipv6HeaderSlice;
-use ip_dissect::{Dissection, End, Fragment, FragmentKind, Outline, dissect, outline_packet};
+use ip_dissect::{
+    Dissection, End, Fragment, FragmentKind, Outline, dissect, outline_packet, outline_plain_packet,
+};
 use ip_spans::{FaultFields, end_code_of, kind_code_of};
 
 /// The codes of ends.
@@ -62,6 +64,18 @@ impl Statistics {
         ensures counts { self.new ≡ merged self.old (counts_of (dissected bytes.now)) }
         ensures packets { (xs : List (List ℕ)) → self.old ≡ statistics_of xs
             → self.new ≡ statistics_of (bytes.now ∷ xs) }
+    {
+        match outline_plain_packet(bytes) {
+            Some(outline) => self.count_outlined(&outline, bytes),
+            None => self.count_other(bytes),
+        }
+    }
+
+    /// Counts the packet at the start of bytes. It is kept out of line, since most packets have no extension headers:
+    /// counting those then needs no loop, and no registers that would have to be saved.
+    #[inline(never)]
+    fn count_other(&mut self, bytes: &[u8])
+        ensures { self.new ≡ merged self.old (counts_of (dissected bytes.now)) }
     {
         match outline_packet(bytes) {
             Some(outline) => self.count_outlined(&outline, bytes),

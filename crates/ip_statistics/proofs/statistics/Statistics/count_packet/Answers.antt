@@ -9,4 +9,4 @@ pub returns-in-Some-clause-packets : goal.returns-in-Some-clause-packets
 returns-in-Some-clause-packets c = λ xs e. c.count_outlined.ensures ∙ ap (λ a. merged a (counts_of (dissected c.args.bytes.now))) e ∙ merged_comm _ _
 
 pub returns-in-None-clause-packets : goal.returns-in-None-clause-packets
-returns-in-None-clause-packets c = λ xs e. c.count_dissected.ensures ∙ ap (λ a. merged a (counts_of (dissected c.args.bytes.now))) e ∙ merged_comm _ _
+returns-in-None-clause-packets c = λ xs e. c.count_other.ensures ∙ ap (λ a. merged a (counts_of (dissected c.args.bytes.now))) e ∙ merged_comm _ _

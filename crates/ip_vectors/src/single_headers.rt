@@ -349,21 +349,35 @@ fn defaults_names_and_numbers(rt: HostRuntime) -> Result<(), Fail> {
     Ok(())
 }
 
-/// Debug texts name the fields of an owned header, of which the first is the payload or the check value as a list.
+/// Debug texts name the fields of an owned header, of which the first is the payload or the check value as a list. Of a
+/// longer one that was there before, nothing is printed.
 #[test]
 fn debug_texts_of_owned_headers(rt: HostRuntime) -> Result<(), Fail> {
     let number = IpNumber(43);
-    let raw = Ipv6RawExtHeader::new_raw(number, &[1, 2, 3, 4, 5, 6])?;
+    let mut raw = Ipv6RawExtHeader::new_raw(number, &[0; 14])?;
+    raw.set_payload(&[1, 2, 3, 4, 5, 6])?;
     let got = format!(in rt.alloc(); "{raw:?}")?;
     let expected = format!(in rt.alloc();
         "Ipv6RawExtHeader {{ payload: [1, 2, 3, 4, 5, 6], next_header: {number:?} }}"
     )?;
     assert_same(&rt, "uniform format", got.as_str(), expected.as_str());
-    let auth = IpAuthHeader::new(number, 7, 8, &[9, 10, 11, 12])?;
+    let mut auth = IpAuthHeader::new(number, 7, 8, &[9; 8])?;
+    auth.set_raw_icv(&[9, 10, 11, 12])?;
     let got = format!(in rt.alloc(); "{auth:?}")?;
     let expected = format!(in rt.alloc();
         "IpAuthHeader {{ raw_icv: [9, 10, 11, 12], spi: 7, sequence_number: 8, next_header: {number:?} }}"
     )?;
     assert_same(&rt, "authentication", got.as_str(), expected.as_str());
+    auth.set_raw_icv(&[])?;
+    let got = format!(in rt.alloc(); "{auth:#?}")?;
+    let expected = format!(in rt.alloc();
+        "IpAuthHeader {{\n    raw_icv: [],\n    spi: 7,\n    sequence_number: 8,\n    next_header: {number:#?},\n}}"
+    )?;
+    assert_same(
+        &rt,
+        "without a check value",
+        got.as_str(),
+        expected.as_str(),
+    );
     Ok(())
 }

@@ -4,7 +4,7 @@ use crate::samples::{ipv4_bytes, ipv6_bytes, len_error_at};
 use etherparse_ip::LenSource;
 use etherparse_ip::err::ip::{HeadersError, SliceError};
 use etherparse_ip::err::{Layer, LenError, ip_auth, ipv6_exts};
-use ip_dissect::{BaseHeader, End, Fragment, FragmentKind, dissect};
+use ip_dissect::{BaseHeader, End, Fragment, FragmentKind, dissect, outline_plain_packet};
 use std::process::Abort;
 use std::test::Fail;
 
@@ -47,6 +47,23 @@ fn check(
     assert_same(rt, name, Some(found.padding), bytes.get(after_headers..));
     assert_same(rt, name, found.fragment, fragment);
     assert_same(rt, name, &found.end, end);
+    let is_plain = extensions == 0 && fragment.is_none() && *end == End::Payload;
+    let wanted = if is_plain { Some(numbers) } else { None };
+    assert_same(rt, name, plain_numbers(bytes), wanted);
+}
+
+/// Returns the parts of a packet without extension headers that is no fragment, by its outline.
+fn plain_numbers(bytes: &[u8]) -> Option<Numbers> {
+    let outline = outline_plain_packet(bytes)?;
+    Some((
+        outline.base_len,
+        outline.stated_len,
+        outline.extensions_len,
+        outline.next_header.0,
+        outline.payload_len,
+        outline.missing,
+        outline.padding_len,
+    ))
 }
 
 /// Returns a fragment.

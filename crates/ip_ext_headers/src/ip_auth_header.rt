@@ -41,8 +41,7 @@ pub type IpAuthenticationHeader = IpAuthHeader;
 /// multiple of 4. In a contract it is the record of its four fields.
 #[derive(Drop)]
 pub struct IpAuthHeader {
-    // The check value and any bytes after it. As in `Ipv6RawExtHeader`, a place for a header is cleared once, and no
-    // header of 1 KB is moved.
+    // The check value and any bytes after it, as the payload of `Ipv6RawExtHeader`.
     bytes: [u8; 1016],
     /// The security parameters index, by which the receiver identifies the security association.
     pub spi: u32,
@@ -109,10 +108,9 @@ impl IpAuthHeader {
         Ok(Self::with_icv(next_header, spi, sequence_number, raw_icv))
     }
 
-    /// Returns the header with these fields, whose check value has an allowed length. The header is built where it is
-    /// returned.
+    /// Returns the header with these fields, whose check value has an allowed length.
     #[inline(always)]
-    pub(crate) fn with_icv(
+    fn with_icv(
         next_header: IpNumber,
         spi: u32,
         sequence_number: u32,
@@ -126,12 +124,12 @@ impl IpAuthHeader {
           raw_icv = raw_icv.now;
         } }
     {
-        let mut header = Self::default();
-        header.next_header = next_header;
-        header.spi = spi;
-        header.sequence_number = sequence_number;
-        header.fill(raw_icv);
-        header
+        Self::of_parts(AuthParts {
+            next_header,
+            spi,
+            sequence_number,
+            raw_icv,
+        })
     }
 
     /// Checks that a check value may have `len` bytes.
@@ -151,6 +149,7 @@ impl IpAuthHeader {
     /// Parses the header at the start of `slice`, and returns it with the bytes after it. Returns an error, in this
     /// order, if there are fewer than 12 bytes, if the payload length field is 0, or if there are fewer bytes than
     /// the header's own length.
+    #[inline(never)]
     pub fn from_slice(slice: &[u8]) -> Result<(IpAuthHeader, &[u8]), HeaderSliceError>
         ensures decoding { IfOk result (λ p. IsAuthDecoding slice.now p.0 p.1.now) }
         ensures none { IfErr result (λ _. (b : List ℕ)
@@ -159,8 +158,10 @@ impl IpAuthHeader {
             auth_fault Slice (length slice.now) 0 slice.now ≡ Some e) }
     {
         let header = IpAuthHeaderSlice::from_slice(slice)?;
-        let rest = &slice[header.slice().len()..];
-        Ok((header.to_header(), rest))
+        // Made in the pair, as by `Ipv6RawExtHeader::from_slice`.
+        let mut parsed = (Self::default(), &slice[header.slice().len()..]);
+        parsed.0.set_parts(header.parts());
+        Ok(parsed)
     }
 
     /// Reads a header: 12 bytes, then the check value, whose length they state, and no byte after it. Returns
@@ -279,20 +280,17 @@ impl IpAuthHeader {
         self.next_header = parts.next_header;
         self.spi = parts.spi;
         self.sequence_number = parts.sequence_number;
-        let _ = self.set_raw_icv(parts.raw_icv);
+        self.fill(parts.raw_icv);
     }
 
     /// Returns the header with these parts.
     #[inline(always)]
-    fn of_parts(parts: AuthParts<'_>) -> IpAuthHeader
+    pub(crate) fn of_parts(parts: AuthParts<'_>) -> IpAuthHeader
         ensures { result ≡ fields_in parts.entry }
     {
-        Self::with_icv(
-            parts.next_header,
-            parts.spi,
-            parts.sequence_number,
-            parts.raw_icv,
-        )
+        let mut header = Self::default();
+        header.set_parts(parts);
+        header
     }
 
     /// Returns the integrity check value with its padding, 0 to 1016 bytes.

@@ -4,6 +4,7 @@ ghost use Rattle.ip_spec.specs.Header.{IsAuthHeader};
 ghost use Rattle.ip_spec.specs.Fields.{next_header, auth_fields};
 
 use crate::IpAuthHeader;
+use crate::auth_parts::AuthParts;
 use crate::err::ip_auth::{HeaderError, HeaderSliceError};
 use ip_base::IpNumber;
 use ip_base::err::{Layer, LenError};
@@ -25,6 +26,7 @@ impl<'a> IpAuthHeaderSlice<'a> {
     ghost use Rattle.ip_base.specs.declared.len_source.LenSource.TheVariants.{Slice};
     ghost use Rattle.ip_ext_headers.specs.HeaderFault.{auth_fault};
     ghost use Rattle.ip_ext_headers.specs.IpAuthHeaderSlice.{bytes};
+    ghost use Rattle.ip_ext_headers.specs.AuthParts.{fields_in};
 
     /// Parses the header at the start of `slice`. Returns an error, in this order, if there are fewer than 12 bytes,
     /// if the payload length field is 0, or if there are fewer bytes than the header's own length.
@@ -100,12 +102,20 @@ impl<'a> IpAuthHeaderSlice<'a> {
     pub fn to_header(&self) -> IpAuthHeader
         ensures { result ≡ auth_fields (bytes self.now) }
     {
-        IpAuthHeader::with_icv(
-            self.next_header(),
-            self.spi(),
-            self.sequence_number(),
-            self.raw_icv(),
-        )
+        IpAuthHeader::of_parts(self.parts())
+    }
+
+    /// Returns the header's fields.
+    #[inline(always)]
+    pub(crate) fn parts(&self) -> AuthParts<'a>
+        ensures { fields_in result ≡ auth_fields (bytes self.now) }
+    {
+        AuthParts {
+            next_header: self.next_header(),
+            spi: self.spi(),
+            sequence_number: self.sequence_number(),
+            raw_icv: self.raw_icv(),
+        }
     }
 }
 

@@ -38,8 +38,8 @@ pub type Ipv6RawExtensionHeader = Ipv6RawExtHeader;
 /// those two bytes its length is a multiple of 8. In a contract it is the record of its next header and its payload.
 #[derive(Drop)]
 pub struct Ipv6RawExtHeader {
-    // The payload and any bytes after it. A header whose bytes are all zero has a payload of six zeros, so a place for
-    // one is filled by clearing it once (26 ns) and copying the payload, and no header of 2 KB is moved (28 ns).
+    // The payload and any bytes after it. A header whose bytes are all zero has a payload of six zeros, so a header in
+    // a larger value is made by clearing that (26 ns) and copying the payload. It isn't moved there (28 ns).
     bytes: [u8; 2046],
     // The length field: how many units of 8 bytes the header has after the first.
     hdr_ext_len: u8,
@@ -92,6 +92,7 @@ impl Ipv6RawExtHeader {
 
     /// Returns the header with this next header and this payload. Returns an error, in this order, if the payload has
     /// fewer than 6 bytes, more than 2046, or if its length plus 2 is not a multiple of 8.
+    #[inline(never)]
     pub fn new_raw(
         next_header: IpNumber,
         payload: &[u8],
@@ -105,16 +106,14 @@ impl Ipv6RawExtHeader {
         Ok(Self::with_payload(next_header, payload))
     }
 
-    /// Returns the header with this next header and a payload of an allowed length. The header is built where it is
-    /// returned.
+    /// Returns the header with this next header and a payload of an allowed length.
     #[inline(always)]
     pub(crate) fn with_payload(next_header: IpNumber, payload: &[u8]) -> Ipv6RawExtHeader
         requires { IsPayloadLen (length payload.now) }
         ensures { result ≡ record { next_header = next_header.0; payload = payload.now } }
     {
         let mut header = Self::default();
-        header.next_header = next_header;
-        header.fill(payload);
+        header.set(next_header, payload);
         header
     }
 
@@ -137,6 +136,7 @@ impl Ipv6RawExtHeader {
 
     /// Parses the header at the start of `slice`, and returns it with the bytes after it. Returns an error if there
     /// are fewer than 8 bytes, or fewer than the header's own length.
+    #[inline(never)]
     pub fn from_slice(slice: &[u8]) -> Result<(Ipv6RawExtHeader, &[u8]), LenError>
         ensures decoding { IfOk result (λ p. IsRawDecoding slice.now p.0 p.1.now) }
         ensures none { IfErr result (λ _. (b : List ℕ) → IsRawHeader b → IsPrefix b slice.now → ⊥) }
@@ -145,7 +145,10 @@ impl Ipv6RawExtHeader {
     {
         let header = Ipv6RawExtHeaderSlice::from_slice(slice)?;
         let rest = &slice[header.slice().len()..];
-        Ok((header.to_header(), rest))
+        // Made in the pair: a header that is made first is moved once more, 62 ns for 92.
+        let mut parsed = (Self::default(), rest);
+        parsed.0.set(header.next_header(), header.payload());
+        Ok(parsed)
     }
 
     /// Reads a header: 2 bytes, then the number of bytes that the second states, and no byte after those. Returns the
@@ -172,9 +175,22 @@ impl Ipv6RawExtHeader {
         let mut buffer = [0; Self::MAX_PAYLOAD_LEN];
         let payload = &mut buffer[..len];
         match reader.read_exact(payload) {
-            Ok(()) => Ok(Self::with_payload(IpNumber(next_header), payload)),
+            Ok(()) => Ok(Self::of_read(IpNumber(next_header), payload)),
             Err(e) => Err(e),
         }
+    }
+
+    /// Returns the header that was read. It is filled with `copy`, so that `read` makes it in the caller's variable:
+    /// 60 ns for 161.
+    #[inline(always)]
+    fn of_read(next_header: IpNumber, payload: &[u8]) -> Ipv6RawExtHeader
+        requires { IsPayloadLen (length payload.now) }
+        ensures { result ≡ record { next_header = next_header.0; payload = payload.now } }
+    {
+        let mut header = Self::default();
+        header.next_header = next_header;
+        header.fill(payload);
+        header
     }
 
     /// Reads a header within a limit, as `read` does from the bytes that may still be read. It starts the layer
@@ -205,7 +221,7 @@ impl Ipv6RawExtHeader {
         let mut buffer = [0; Self::MAX_PAYLOAD_LEN];
         let payload = &mut buffer[..8 * usize::from(hdr_ext_len) + 6];
         match reader.read_exact(payload) {
-            Ok(()) => Ok(Self::with_payload(IpNumber(next_header), payload)),
+            Ok(()) => Ok(Self::of_read(IpNumber(next_header), payload)),
             Err(e) => Err(e),
         }
     }
@@ -224,6 +240,17 @@ impl Ipv6RawExtHeader {
         ensures { result ≡ length self.now.payload }
     {
         8 * usize::from(self.hdr_ext_len) + 6
+    }
+
+    /// Sets the header to this next header and a payload of an allowed length.
+    #[inline(always)]
+    fn set(&mut self, next_header: IpNumber, payload: &[u8])
+        requires { IsPayloadLen (length payload.now) }
+        ensures { self.new ≡ record { next_header = next_header.0; payload = payload.now } }
+    {
+        self.next_header = next_header;
+        self.bytes[..payload.len()].copy_from_slice(payload);
+        self.hdr_ext_len = ((payload.len() - 6) / 8) as u8;
     }
 
     /// Sets the payload, which has an allowed length.

@@ -17,7 +17,7 @@ use ip_ext_chains::err::{ipv4_exts, ipv6_exts};
 use ip_ext_chains::{
     Ipv4Extensions, Ipv4ExtensionsSlice, Ipv6ExtensionSlice, Ipv6ExtensionSliceIter,
     Ipv6Extensions, Ipv6ExtensionsCursor, Ipv6ExtensionsRuns, Ipv6ExtensionsSlice,
-    Ipv6RoutingExtensions,
+    Ipv6RoutingExtensions, fitting_headers,
 };
 use ip_ext_headers::err::ip_auth;
 use ip_ext_headers::err::ipv6_exts::ExtPayloadLenError;
@@ -321,6 +321,12 @@ pub fn rest_after_the_runs<'a>(runs: Ipv6ExtensionsRuns<'a>) -> Option<&'a [u8]>
         Some((_, rest, _)) => Some(rest),
         None => None,
     }
+}
+
+/// Checks that the headers that fit six places, and the bytes after them, live as long as the packet.
+pub fn fitting_headers_of<'a>(packet: &'a [u8]) -> (Ipv6ExtensionsSlice<'a>, &'a [u8]) {
+    let (headers, _, rest, _) = fitting_headers(IpNumber(0), packet);
+    (headers, rest)
 }
 
 /// Checks that a cursor's headers, and the bytes after them, live as long as the packet.

@@ -77,6 +77,12 @@ pub fn chain_slices(
     _cursor: &etherparse_ip::Ipv6ExtensionsCursor<'_>,
 ) {}
 
+/// Borrowed headers that fit six places, and their write.
+pub fn borrowed_headers(packet: &[u8], out: &mut Vec<u8>) -> Result<(), AllocError> {
+    let (headers, _, _, _) = etherparse_ip::fitting_headers(etherparse_ip::IpNumber(0), packet);
+    etherparse_ip::write_chain(&headers, out)
+}
+
 /// Packets, and their law.
 pub fn packets(
     _ipv4: &etherparse_ip::Ipv4Slice<'_>,

@@ -1,5 +1,5 @@
 -- The longest chain that fits six places, as the first run of the longest chain.
-use Rattle.ip_spec.proofs.Common.{◌≡◌, ◌≢◌, ℕ, ◌-◌, List, ◌++◌, length, take, drop, rules, [], Option, Some, None, IsSome, cases_Bool, IsExtensionNumber, append-nil, length-append, ExtHeader, leads_to, bytes_of, headers_within, is_empty, IsChain, IsPrefixChain, rest_after, fault_after, IsLongestUnder, IsEndUnder, FitsPlaces, IsOccupied, IsLaterNumber, header_in, next_place, ◌==◌, is_some, ne_eqb}
+use Rattle.ip_spec.proofs.Common.{◌≡◌, ◌≢◌, ℕ, ◌-◌, arith, ap, List, ◌++◌, length, take, drop, rules, [], Option, Some, None, IsSome, cases_Bool, IsExtensionNumber, append-nil, length-append, ExtHeader, leads_to, bytes_of, headers_within, is_empty, IsChain, IsPrefixChain, rest_after, fault_after, IsLongestUnder, IsEndUnder, FitsPlaces, IsOccupied, IsLaterNumber, header_in, next_place, ◌==◌, is_some, ne_eqb}
 use Rattle.ip_ext_slices.proofs.FaultLemmas.{fault_at_end, end_at_other, no_fault_at_other}
 use Rattle.ip_ext_slices.proofs.RequestFaultLemmas.{fault_ends}
 use Rattle.std.proofs.lemmas.Grind.{flat_map-append}
@@ -20,7 +20,7 @@ use Rattle.ip_ext_chains.specs.Run.{IsRun}
 use Rattle.ip_ext_slices.specs.declared.ipv6_ext_slice.Ipv6ExtensionSlice.{Ipv6ExtensionSlice}
 use Rattle.ip_ext_chains.specs.declared.ipv6_exts.Ipv6Extensions.{Ipv6Extensions}
 use Rattle.ip_ext_chains.specs.declared.places.Places.{Places}
-use Rattle.ip_ext_slices.proofs.LongestLemmas.{longest_chain-longest}
+use Rattle.ip_ext_slices.proofs.LongestLemmas.{longest_chain-longest, longest_chain-bytes_of}
 use Rattle.ip_ext_chains.proofs.RunsOfLemmas.{number_before-some}
 use Rattle.ip_ext_chains.proofs.PlacedLemmas.{next_same}
 
@@ -47,6 +47,19 @@ module _ (n : ℕ) (s : List ℕ) (left : List ExtHeader) (v : Places Ipv6Extens
   run_fits : k.run ≡ fitting_chain n s
   run_fits =
       search (rules, one_longest_under FitsPlaces fits_places n s, kept_is_longest FitsPlaces fits_places n s (longest_chain n s), longest_chain-longest, fitting_longest)
+
+  -- The bytes before those left are its bytes, and their longest chain is the run.
+  pub run_front : (j : ℕ) → j ≡ length (bytes_of (longest_chain n s)) - length (bytes_of left) → longest_chain n (take j s) ≡ fitting_chain n s
+  run_front j e =
+      let fits = run_fits in
+      let p : IsPrefixChain n s (fitting_chain n s) = (fitting_longest n s).has.0 in
+      let joined : bytes_of (longest_chain n s) ≡ bytes_of k.run ++ bytes_of left = search (rules, flat_map-append) in
+      let len : j ≡ length (bytes_of (fitting_chain n s)) = omega (arith, e, ap length joined, length-append (bytes_of k.run) (bytes_of left), ap (λ c. length (bytes_of c)) fits) in
+      rw (len, p.prefix) (longest_chain-bytes_of n (fitting_chain n s) p.chain)
+
+  -- If none are left, the run is the longest chain.
+  pub run_whole : left ≡ [] → longest_chain n s ≡ fitting_chain n s
+  run_whole none = let fits = run_fits in cc (append-nil k.run)
 
   -- If headers are left, the place of the next one is occupied.
   pub walk_stops : left ≢ [] → (m : ℕ) → IsChain m left → (r : List ℕ) → r ≡ drop (length (bytes_of (longest_chain n s)) - length (bytes_of left)) s → IsPlacedAnswer n s v m r None

@@ -6,6 +6,7 @@ pub mod PlacedFieldsLemmas
 pub mod RunSpellingLemmas
 pub mod WalkedLemmas
 pub mod WriteLemmas
+pub mod ClearingLemmas
 pub mod RefusedLemmas
 pub mod RewritingLemmas
 pub mod ReadingLemmas

@@ -32,6 +32,10 @@ fitting_fault n s = fault_after fitting_faults (fitting_chain n s) n s
 abbrev pub IsFittingAnswer : ℕ → List ℕ → Ipv6Extensions → ℕ → List ℕ → Option Fault → Type 0
 IsFittingAnswer n s = IsAnswer value_of fitting_faults (fitting_chain n s) n s
 
+-- the parse's result for it, borrowed: its value is all of its headers
+abbrev pub IsFittingHeaders : ℕ → List ℕ → List ExtHeader → ℕ → List ℕ → Option Fault → Type 0
+IsFittingHeaders n s = IsAnswer (λ c. c) fitting_faults (fitting_chain n s) n s
+
 -- the result of the walk over it: its headers in their places, with the number, rest and error after it
 pub record IsPlacedAnswer (n : ℕ) (s : List ℕ) (v : Places Ipv6ExtensionSlice) (m : ℕ) (r : List ℕ) (f : Option Fault) : Type 0 where
   pub placed : ArePlaced (fitting_chain n s) v

@@ -1,4 +1,4 @@
-ghost use Rattle.std.specs.Prelude.{◌≡◌, ◌≢◌, [], IsTrue};
+ghost use Rattle.std.specs.Prelude.{◌≡◌, ◌≢◌, [], IsTrue, IsFalse};
 ghost use Rattle.std.specs.List.{AllByRecursion};
 ghost use Rattle.ip_spec.specs.Encoding.{AreBytes};
 ghost use Rattle.ip_spec.specs.Chain.{leads_to, bytes_of};
@@ -8,8 +8,11 @@ ghost use Rattle.ip_ext_slices.specs.Ipv6ExtensionSliceIter.{headers_left};
 
 use crate::err::Layer;
 use crate::err::ipv6_exts::HeaderSliceError;
+use crate::places::Places;
 use crate::run::{is_last, take_run};
-use crate::{Ipv6ExtensionSliceIter, Ipv6Extensions, Ipv6ExtensionsSlice, fault_at};
+use crate::{
+    Ipv6ExtensionSlice, Ipv6ExtensionSliceIter, Ipv6Extensions, Ipv6ExtensionsSlice, fault_at,
+};
 use ip_base::IpNumber;
 
 /// The headers of a chain in the fewest structs of six places, in order, and `None` from then on.
@@ -39,7 +42,8 @@ impl<'a> Ipv6ExtensionsRuns<'a> {
     ghost use Rattle.ip_ext_slices.specs.ChainFault.{chain_fault};
     ghost use Rattle.ip_ext_chains.specs.RunsOf.{runs_of, AreSpellings};
     ghost use Rattle.ip_ext_chains.specs.Ipv6Extensions.{value_of};
-    ghost use Rattle.ip_ext_chains.specs.Ipv6ExtensionsRuns.{start, input, runs_left, values_left, number_left};
+    ghost use Rattle.ip_ext_chains.specs.Ipv6ExtensionsRuns.{start, input, runs_left, values_left, number_left, PassesRun};
+    ghost use Rattle.ip_ext_chains.specs.Ipv6ExtensionsRuns.{TakesRun};
 
     /// Returns the runs of the longest chain at the start of the bytes, for the start number `first`. There is at
     /// least one run, and at most one per 8 bytes and one more. No header is lost: written one after the other, the
@@ -93,6 +97,33 @@ impl<'a> Ipv6ExtensionsRuns<'a> {
         self.headers.next_number()
     }
 
+    /// Passes over the next run, as `next` does, and returns whether there was one. No struct is made of it, so
+    /// counting the runs takes no more than passing over their headers.
+    pub fn skip_run(&mut self) -> bool
+        ensures some { IsTrue result → PassesRun self.old self.new }
+        ensures none { IsFalse result → values_left self.old ≡ [] }
+        ensures unchanged { IsFalse result → self.new ≡ self.old }
+        ensures start { start self.new ≡ start self.old }
+        ensures input { input self.new ≡ input self.old }
+    {
+        if self.done {
+            return false;
+        }
+        let _ = self.take_places();
+        true
+    }
+
+    /// Passes over the next run, which there is, and returns its headers in their places.
+    #[inline(always)]
+    fn take_places(&mut self) -> Places<Ipv6ExtensionSlice<'a>>
+        requires { IsFalse self.old.done }
+        ensures { TakesRun self.old result self.new }
+    {
+        let places = take_run(&mut self.headers);
+        self.done = is_last(&self.headers, &places, self.number);
+        places
+    }
+
     /// Returns the end of the chain once no item is left, and `None` before: the number to which the chain leads, the
     /// bytes after it, and the error that ended it, if any, with its layer. Offsets in the error count from the start
     /// of the bytes given to `new`.
@@ -129,8 +160,7 @@ impl<'a> Iterator for Ipv6ExtensionsRuns<'a> {
         if self.done {
             return None;
         }
-        let places = take_run(&mut self.headers);
-        self.done = is_last(&self.headers, &places, self.number);
+        let places = self.take_places();
         let mut exts = Ipv6Extensions::default();
         exts.fill(&places);
         Some(exts)

@@ -2,6 +2,7 @@
 //! a chain that has more of them. The borrowed chains and those of IPv4 are exported here too.
 #![tactic(auto)]
 
+mod borrowed;
 mod chain_laws;
 pub mod err;
 mod header_ref;
@@ -16,6 +17,7 @@ mod places;
 mod run;
 mod walk;
 
+pub use borrowed::{fitting_headers, write_chain};
 pub use chain_laws::free_extension_number_left_has_fault;
 pub use ip_base::{IpNumber, LenSource, ip_number};
 pub use ip_ext_headers::{

@@ -1,17 +1,20 @@
 //! Callers of the parse into six places.
-ghost use Rattle.std.specs.Prelude.{◌≡◌, ◌++◌, ℕ, List, None, IfSome, IfOk, OnErr};
+ghost use Rattle.std.specs.Prelude.{◌≡◌, ◌<◌, ◌+◌, ◌++◌, ◌==◌, ℕ, List, length, Some, None, IfSome, IfNone, IfOk, OnOk, OnErr, if◌then◌else◌, vec_len, vec_capacity};
 ghost use Rattle.std.specs.Option.{option_map};
 ghost use Rattle.ip_spec.specs.Header.{IsExtensionNumber};
 ghost use Rattle.ip_spec.specs.Parse.{rest_after};
 ghost use Rattle.ip_spec.specs.Fields.{fragment_fields};
-ghost use Rattle.ip_spec.specs.Chain.{leads_to};
+ghost use Rattle.ip_spec.specs.Chain.{leads_to, bytes_of};
+ghost use Rattle.ip_spec.specs.Encoding.{cleared_chain};
 ghost use Rattle.ip_spec.specs.Places.{fragment, header_in};
+ghost use Rattle.ip_ext_slices.specs.Ipv6ExtensionsSlice.{headers_in, bytes};
 ghost use Rattle.ip_ext_chains.specs.Ipv6Extensions.{value_of};
 ghost use Rattle.ip_ext_chains.specs.Fitting.{fitting_chain, fitting_fault, IsFittingAnswer};
 
 use ip_base::IpNumber;
-use ip_ext_chains::Ipv6Extensions;
-use ip_ext_chains::err::ipv6_exts::HeaderWriteError;
+use ip_ext_chains::err::Layer;
+use ip_ext_chains::err::ipv6_exts::{HeaderSliceError, HeaderWriteError};
+use ip_ext_chains::{Ipv6Extensions, Ipv6ExtensionsSlice, fitting_headers, write_chain};
 use ip_ext_headers::Ipv6FragmentHeader;
 use ip_spec::one_walk_answer;
 use std::alloc::AllocError;
@@ -58,5 +61,52 @@ pub fn put_in_order(
         Ok(()) => Ok(first),
         Err(HeaderWriteError::Io(e)) => Err(e),
         Err(HeaderWriteError::Content(_)) => unreachable!(),
+    }
+}
+
+/// Appends the headers after an IPv6 header that fit six places, with their reserved bits zero. Returns the number of
+/// the first, if there is one, the number and the bytes after them, and the error there.
+pub fn copy_fitting<'a>(
+    start: IpNumber,
+    packet: &'a [u8],
+    out: &mut Vec<u8>,
+) -> Result<
+    (
+        Option<IpNumber>,
+        IpNumber,
+        &'a [u8],
+        Option<(HeaderSliceError, Layer)>,
+    ),
+    AllocError,
+>
+    ensures written { OnOk result (out.new.items
+        ≡ out.old.items ++ bytes_of (cleared_chain (fitting_chain start.0 packet.now))) }
+    ensures first { IfOk result (λ x. x.0
+        ≡ (if length (bytes_of (fitting_chain start.0 packet.now)) == 0 then None else Some start)) }
+    ensures number { IfOk result (λ x.
+        x.1.0 ≡ leads_to start.0 (fitting_chain start.0 packet.now)) }
+    ensures rest { IfOk result (λ x. x.2.now ≡ rest_after (fitting_chain start.0 packet.now) packet.now) }
+    ensures fault { IfOk result (λ x. x.3 ≡ fitting_fault start.0 packet.now) }
+    ensures err { OnErr result (out.new.items ≡ out.old.items) }
+{
+    let (headers, number, rest, fault) = fitting_headers(start, packet);
+    write_chain(&headers, out)?;
+    Ok((headers.first_header(), number, rest, fault))
+}
+
+/// Appends borrowed headers with their reserved bits zero. Returns the vector's new length, or `None` if there are
+/// headers and no room for them; then the vector is unchanged.
+pub fn append_borrowed(headers: &Ipv6ExtensionsSlice<'_>, out: &mut Vec<u8>) -> Option<usize>
+    ensures written { IfSome result (λ _. out.new.items
+        ≡ out.old.items ++ bytes_of (cleared_chain (headers_in headers.now))) }
+    ensures len { IfSome result (λ len. len ≡ vec_len out.old + length (bytes headers.now)) }
+    ensures same { IfNone result (out.new.items ≡ out.old.items) }
+    ensures full { IfNone result (vec_capacity out.old
+        < vec_len out.old + length (bytes headers.now)) }
+    ensures some { IfNone result (0 < length (bytes headers.now)) }
+{
+    match write_chain(headers, out) {
+        Ok(()) => Some(out.len()),
+        Err(_) => None,
     }
 }

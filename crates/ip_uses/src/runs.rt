@@ -1,10 +1,10 @@
 //! Callers of runs.
-ghost use Rattle.std.specs.Prelude.{◌≡◌, ◌+◌, ◌/◌, ◌≤◌, List, ◌∷◌, length, map, IfOk, IfSome};
+ghost use Rattle.std.specs.Prelude.{◌≡◌, ◌+◌, ◌/◌, ◌≤◌, List, [], ◌∷◌, length, map, IfOk, IfSome, IfNone};
 ghost use Rattle.ip_spec.specs.Chain.{ExtHeader, leads_to};
 ghost use Rattle.ip_spec.specs.Parse.{rest_after};
 ghost use Rattle.ip_ext_slices.specs.Longest.{longest_chain};
 ghost use Rattle.ip_ext_chains.specs.RunsOf.{runs_of};
-ghost use Rattle.ip_ext_chains.specs.Ipv6ExtensionsRuns.{start, input, runs_left, number_left};
+ghost use Rattle.ip_ext_chains.specs.Ipv6ExtensionsRuns.{start, input, runs_left, values_left, number_left};
 ghost use Rattle.ip_ext_chains.specs.Ipv6Extensions.{value_of};
 
 use ip_base::IpNumber;
@@ -74,6 +74,22 @@ pub fn number_after_next_run(runs: &mut Ipv6ExtensionsRuns<'_>) -> Option<IpNumb
         × (number.0 ≡ leads_to (number_left runs.old) run)) }
 {
     let _run = runs.next()?;
+    Some(runs.next_number())
+}
+
+/// Passes over the next run, if there is one, and returns the number to which it leads.
+pub fn number_after_skipped_run(runs: &mut Ipv6ExtensionsRuns<'_>) -> Option<IpNumber>
+    ensures passed { IfSome result (λ number. (run : List ExtHeader)
+        × (runs_left runs.old ≡ run ∷ runs_left runs.new)
+        × (number.0 ≡ leads_to (number_left runs.old) run)) }
+    ensures none { IfNone result (values_left runs.old ≡ []) }
+    ensures same { IfNone result (runs.new ≡ runs.old) }
+    ensures start { start runs.new ≡ start runs.old }
+    ensures input { input runs.new ≡ input runs.old }
+{
+    if !runs.skip_run() {
+        return None;
+    }
     Some(runs.next_number())
 }
 

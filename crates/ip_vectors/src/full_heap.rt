@@ -8,7 +8,7 @@ use etherparse_ip::io::LimitedReader;
 use etherparse_ip::{
     IpAuthHeaderSlice, IpNumber, IpSlice, Ipv4Extensions, Ipv4ExtensionsSlice, Ipv4Slice,
     Ipv6Extensions, Ipv6ExtensionsRuns, Ipv6ExtensionsSlice, Ipv6RawExtHeader,
-    Ipv6RawExtHeaderSlice, Ipv6Slice, LenSource,
+    Ipv6RawExtHeaderSlice, Ipv6Slice, LenSource, fitting_headers,
 };
 use linked_list_allocator::LocalHeap;
 use std::process::Abort;
@@ -67,10 +67,15 @@ fn check_chain(rt: &impl Abort, row: Row<'_>) {
     assert_same(rt, bytes, Some(rest), bytes.get(len..));
     let strict = Ipv6ExtensionsSlice::from_slice(start, bytes).err();
     check_fault(rt, bytes, error, strict, fault);
+    let (fitting, fitting_number, fitting_rest, fitting_fault) = fitting_headers(start, bytes);
     let fault = if ends_before { None } else { fault };
     let (exts, number, rest, error) = Ipv6Extensions::from_slice_lax(start, bytes);
     let end = (exts.header_len(), number.0);
     assert_same(rt, bytes, end, (places_len, places_next));
+    let end = (fitting.slice().len(), fitting_number.0);
+    assert_same(rt, bytes, end, (places_len, places_next));
+    assert_same(rt, bytes, Some(fitting_rest), bytes.get(places_len..));
+    assert_same(rt, bytes, &fitting_fault, &error);
     assert_same(rt, bytes, Some(rest), bytes.get(places_len..));
     let strict = Ipv6Extensions::from_slice(start, bytes).err();
     check_fault(rt, bytes, error, strict, fault);
@@ -196,6 +201,8 @@ fn links_and_runs(rt: HostRuntime) -> Result<(), Fail> {
     }
     let end = (IpNumber(17), [].as_slice(), None);
     assert_same(&rt, "end after three", runs.end(), Some(end));
+    let mut passed = Ipv6ExtensionsRuns::new(IpNumber(44), &three);
+    assert!(rt; passed.skip_run() && passed.skip_run() && passed.skip_run() && !passed.skip_run());
     let mut runs = Ipv6ExtensionsRuns::new(IpNumber(44), &[44, 0, 0, 0, 0, 0, 0, 1, 17, 0, 0]);
     assert!(rt; matches!(runs.next(), Some(exts) if exts.fragment.is_some()));
     assert!(rt; matches!(runs.next(), Some(exts) if exts.is_empty()));

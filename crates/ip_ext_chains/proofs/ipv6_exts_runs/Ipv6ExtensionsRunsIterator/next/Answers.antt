@@ -1,30 +1,15 @@
 use Rattle.ip_spec.proofs.Common.{rules}
-use Rattle.ip_ext_slices.proofs.LongestLemmas.{longest_chain-longest}
-use Rattle.ip_ext_chains.proofs.RunLemmas.{run_passes}
 use Rattle.ip_ext_chains.proofs.PlacedLemmas.{placed_numbers, value_placed}
-use Rattle.ip_ext_chains.proofs.RunsOfLemmas.{run_leads, ends_after, bytes_after}
 use Rattle.ip_ext_chains.proofs.ipv6_exts_runs.Ipv6ExtensionsRunsIterator.next.Goals as goal
 
 pub fill-requires-clause-numbers : goal.fill-requires-clause-numbers
-fill-requires-clause-numbers c = placed_numbers _ _ c.take_run-places.ensures.placed
+fill-requires-clause-numbers c = placed_numbers _ _ c.take_places-places.ensures.1
 
 pub returns-clause-steps : goal.returns-clause-steps
 returns-clause-steps c =
-    let last = c.is_last-self.ensures in
-    let r = c.args.self.now in
-    let run = c.take_run-places.ensures in
-    let value = value_placed run.run _ run.placed in
-    let passes = run_passes r.number.0 _ _ _ run r.done c.is_last-self.result c.if-self.false last.last last.more in
-    let leads = run_leads _ _ _ _ _ (longest_chain-longest _ _).has.chain r.ends run in
+    let taken = c.take_places-places.ensures in
+    let value = value_placed taken.0.0 _ taken.1 in
     search rules
 
 pub returns-clause-goes : goal.returns-clause-goes
 returns-clause-goes c = let next = (returns-clause-steps c).0 in search rules
-
-pub invariant_of-self : goal.invariant_of-self
-invariant_of-self c =
-    let r = c.args.self.now in
-    let chain = (longest_chain-longest r.headers.next_header.0 r.headers.rest.now).has.chain in
-    let ends = ends_after _ _ _ _ _ chain r.ends c.take_run-places.ensures in
-    let bytes = bytes_after _ r.number.0 _ _ _ chain r.ends c.take_run-places.ensures r.are_bytes in
-    let last = c.is_last-self.ensures.last in search rules

@@ -16,7 +16,7 @@ use etherparse_ip::Ipv6ExtensionSlice;
 use etherparse_ip::err::ip::{HeaderError, HeadersError, SliceError};
 use etherparse_ip::err::ipv6_exts;
 use ip_base::{IpNumber, Ipv4HeaderSlice, Ipv6HeaderSlice, ip_number};
-use ip_dissect::{BaseHeader, Dissection, End, Fragment, FragmentKind, outline_packet};
+use ip_dissect::{BaseHeader, Dissection, End, Fragment, FragmentKind, outline_plain_packet};
 use ip_ext_slices::Ipv6ExtensionsCursor;
 
 /// What terms ask of a packet: a dissection without its errors.
@@ -55,13 +55,14 @@ impl<'a> Facts<'a> {
         }
     }
 
-    /// Returns those of the packet at the start of `bytes`, unless its headers end with an error.
+    /// Returns those of the packet at the start of `bytes`, if it has no extension headers, is no fragment and its
+    /// headers end without an error.
     #[inline(always)]
-    pub(crate) fn without_error(bytes: &'a [u8]) -> Option<Facts<'a>>
+    pub(crate) fn of_plain(bytes: &'a [u8]) -> Option<Facts<'a>>
         ensures { IfSome result (HasFacts (dissected bytes.now)) }
     {
         let base = base_header(bytes)?;
-        let outline = outline_packet(bytes)?;
+        let outline = outline_plain_packet(bytes)?;
         Some(Facts {
             base: Some(base),
             first: first_number(Some(base)),

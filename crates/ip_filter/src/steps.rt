@@ -40,16 +40,16 @@ pub fn steps_match<S: AsStep>(steps: &[S], bytes: &[u8]) -> bool
     ensures { result ≡ last_holds (read_after [] (map S.step_of (take 127 steps.now)))
         (λ t. holds t (dissected bytes.now)) }
 {
-    match Facts::without_error(bytes) {
+    match Facts::of_plain(bytes) {
         Some(facts) => evaluate(steps, Some(&facts)),
-        None => steps_match_error(steps, bytes),
+        None => steps_match_any(steps, bytes),
     }
 }
 
-/// Returns the same for bytes that may be a packet whose headers end with an error, in more time.
-#[cold]
+/// Evaluates the steps for any packet, by its dissection. It is kept out of line, since most packets have no extension
+/// headers: much of what terms ask of those is known at compile time.
 #[inline(never)]
-fn steps_match_error<S: AsStep>(steps: &[S], bytes: &[u8]) -> bool
+fn steps_match_any<S: AsStep>(steps: &[S], bytes: &[u8]) -> bool
     ensures { result ≡ last_holds (read_after [] (map S.step_of (take 127 steps.now)))
         (λ t. holds t (dissected bytes.now)) }
 {
@@ -67,16 +67,26 @@ pub fn steps_match_other<S: AsStep>(steps: &[S]) -> bool
 }
 
 /// Returns whether the formula of a filter's own steps holds of the packet at the start of `bytes`. The steps are read
-/// where they are: other steps are copied one by one, which `steps_match` does.
+/// where they are; `steps_match` copies each step.
 #[inline(always)]
 pub(crate) fn own_steps_match(steps: &[Step], bytes: &[u8]) -> bool
     requires { length steps.now ≤ 127 }
     ensures { result ≡ last_holds (read_after [] steps.now) (λ t. holds t (dissected bytes.now)) }
 {
-    match Facts::without_error(bytes) {
+    match Facts::of_plain(bytes) {
         Some(facts) => evaluate_own(steps, Some(&facts)),
-        None => steps_match_error(steps, bytes),
+        None => own_steps_match_any(steps, bytes),
     }
+}
+
+/// Evaluates a filter's own steps for any packet, by its dissection.
+#[inline(never)]
+fn own_steps_match_any(steps: &[Step], bytes: &[u8]) -> bool
+    requires { length steps.now ≤ 127 }
+    ensures { result ≡ last_holds (read_after [] steps.now) (λ t. holds t (dissected bytes.now)) }
+{
+    let facts = Facts::of(&dissect(bytes));
+    evaluate_own(steps, Some(&facts))
 }
 
 /// Returns whether the formula of the first 127 steps holds of the packet. Without a packet no term holds.
@@ -134,8 +144,8 @@ fn apply(step: &Step, packet: Option<&Facts<'_>>, truths: &mut Truths)
     }
 }
 
-/// Truths, of which the last one is kept apart and the others are the bits of a number, the last of them the lowest. So
-/// nothing is cleared for a packet.
+/// Truths: the last one, and the others as the bits of a number, the latest of them lowest. Nothing is cleared for a
+/// packet.
 #[derive(Clone, Copy, Debug)]
 struct Truths {
     others: u128,

@@ -32,8 +32,7 @@ pub fn dissect(bytes: &[u8]) -> Dissection<'_>
 }
 
 /// Returns the parts of bytes that don't start with a base header, for this reason.
-#[cold]
-#[inline(never)]
+#[inline(always)]
 fn no_packet(bytes: &[u8], end: End) -> Dissection<'_>
     ensures { HasParts (without_base bytes.now end) result }
 {

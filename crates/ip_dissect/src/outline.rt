@@ -104,7 +104,7 @@ fn ipv6_outline(base: Ipv6HeaderSlice<'_>, bytes: &[u8]) -> Option<Outline>
 
 /// Outlines the IPv4 packet with this base header.
 #[inline(always)]
-pub(crate) fn ipv4_outline(base: Ipv4HeaderSlice<'_>, bytes: &[u8]) -> Option<Outline>
+fn ipv4_outline(base: Ipv4HeaderSlice<'_>, bytes: &[u8]) -> Option<Outline>
     requires { IsPrefix (ipv4_header.bytes base) bytes.now }
     ensures parts { IfSome result (HasOutline (ipv4_dissected (ipv4_header.bytes base.entry) bytes.now)) }
     ensures none { IfNone result

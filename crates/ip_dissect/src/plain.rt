@@ -1,5 +1,5 @@
 //! Packets without extension headers.
-ghost use Rattle.std.specs.Prelude.{◌≡◌, ◌+◌, ◌≤◌, is_some, length, IfSome};
+ghost use Rattle.std.specs.Prelude.{◌≡◌, ◌+◌, is_some, length, IfSome};
 ghost use Rattle.ip_base.specs.Prefix.{IsPrefix};
 ghost use Rattle.ip_base.specs.Ipv4HeaderSlice as ipv4_header;
 ghost use Rattle.ip_base.specs.Ipv6HeaderSlice as ipv6_header;
@@ -14,8 +14,8 @@ use crate::walk::{after, is_extension};
 use ip_base::{IpNumber, Ipv4HeaderSlice, Ipv6HeaderSlice, ip_number};
 
 /// Outlines the packet at the start of `bytes`, which may be any bytes, if it has no extension headers, is no fragment
-/// and its headers end without an error, and returns `None` for any other. It has no loop: a caller that passes all
-/// other packets to a function of its own saves most of their time for these.
+/// and its headers end without an error, and returns `None` for any other. It has no loop, so a caller that passes all
+/// other packets to a function that isn't inlined saves time.
 #[inline(always)]
 pub fn outline_plain_packet(bytes: &[u8]) -> Option<Outline>
     ensures plain { is_some result ≡ is_plain (dissected bytes.now) }

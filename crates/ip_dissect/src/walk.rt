@@ -8,7 +8,7 @@ ghost use Rattle.ip_dissect.specs.Fragment.{fragment_in, is_atomic};
 ghost use Rattle.ip_dissect.specs.Found.{found_in, HasPassed};
 
 use crate::{Fragment, FragmentKind};
-use ip_base::IpNumber;
+use ip_base::{IpNumber, ip_number};
 use ip_ext_slices::{Ipv6ExtensionSlice, header_at};
 
 /// What a pass over a chain finds: its fragment headers, and the number of headers.
@@ -49,7 +49,14 @@ pub(crate) fn after(bytes: &[u8], len: usize) -> &[u8]
 pub(crate) fn is_extension(number: IpNumber) -> bool
     ensures { IsTrue result ↔ IsExtensionNumber number.0 }
 {
-    matches!(number.0, 0 | 43 | 44 | 51 | 60)
+    matches!(
+        number,
+        ip_number::IPV6_HOP_BY_HOP
+            | ip_number::IPV6_ROUTE
+            | ip_number::IPV6_FRAG
+            | ip_number::AUTH
+            | ip_number::IPV6_DEST_OPTIONS
+    )
 }
 
 /// Walks the longest chain from `start` in which nothing follows a later fragment's header.

@@ -18,7 +18,8 @@ use std::alloc::{AllocError, Allocator};
 /// Parses the headers as `Ipv6Extensions::from_slice_lax` does, and returns them borrowed: the longest chain at the
 /// start of the bytes that has a place for each of its headers (RFC 8200, section 4.1), for this start number. Returns
 /// the number to which it leads, the bytes after it and the error that ended it, if any, as that call does. Offsets in
-/// the error count from the start of `start_slice`. No header is copied.
+/// the error count from the start of `start_slice`. No header is copied. Takes time linear in the longest chain, also
+/// in the part of it that doesn't fit.
 pub fn fitting_headers(
     start_ip_number: IpNumber,
     start_slice: &[u8],
@@ -48,7 +49,7 @@ pub fn fitting_headers(
     let mut headers = all.into_iter();
     let places = take_run(&mut headers);
     let left = headers.rest();
-    // Usually all headers fit, and none is parsed again.
+    // Usually all headers fit. If some are left, the headers before them are parsed once more.
     if !left.is_empty() {
         let read = chain.slice().len() - left.len();
         let (fitting, _, _, _) = Ipv6ExtensionsSlice::from_slice_lax(
@@ -64,7 +65,7 @@ pub fn fitting_headers(
 }
 
 /// Appends the headers of the chain, with their reserved bits zero (RFC 8200, section 4.5; RFC 4302, section 2.3).
-/// Links and lengths are unchanged, so these headers lead to the number to which the chain leads.
+/// Links and lengths are unchanged.
 ///
 /// Memory is requested first, for all headers at once. Returns an error if there are headers for which the vector has
 /// no room and can't grow; then nothing has been appended.

@@ -191,8 +191,8 @@ impl Ipv6Extensions {
     }
 }
 
-/// Stores the header, if there is one, in the place, which is free. The header is made there, as that of `put_routing`
-/// and `put_auth` is: that clears its 2 KB once, and a header made elsewhere would be moved twice.
+/// Stores the header, if there is one, in the place, which is free. `put_raw`, `put_routing` and `put_auth` make the
+/// header in its place, so its bytes are cleared once and not moved.
 #[inline(always)]
 fn put_raw(place: &mut Option<Ipv6RawExtHeader>, header: Option<&Ipv6RawExtHeaderSlice<'_>>)
     requires { place.old ≡ None }
@@ -234,6 +234,7 @@ fn put_routing(
 fn set_raw(header: &mut Ipv6RawExtHeader, slice: &Ipv6RawExtHeaderSlice<'_>)
     ensures { header.new ≡ raw_fields (bytes slice.now) }
 {
+    // For its contract: the slice is a header, so its payload has an allowed length.
     let _ = slice.slice();
     header.next_header = slice.next_header();
     let _ = header.set_payload(slice.payload());

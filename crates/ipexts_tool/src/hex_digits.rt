@@ -10,8 +10,7 @@ use std::simd::prelude::*;
 /// The bytes of a block, which has twice as many digits.
 const BLOCK_LEN: usize = 16;
 
-/// Stores the bytes that the digits denote. Returns whether they all are digits; if not, nothing is known of the
-/// bytes.
+/// Stores the bytes that the digits denote. Returns whether all are digits; if not, nothing is known of the bytes.
 pub fn decode(text: &[u8], bytes: &mut [u8]) -> bool
     requires { length text.now ≡ 2 * length bytes.old }
     ensures digits { OnTrue result (decode_of text.now ≡ Ok bytes.new) }
@@ -32,7 +31,7 @@ pub fn decode(text: &[u8], bytes: &mut [u8]) -> bool
     decode_block(text, last, bytes)
 }
 
-/// Does the same for less than a block, which is filled up with zeros.
+/// Stores the bytes as `decode` does, for digits of less than a block, which is filled up with zeros.
 fn decode_short(text: &[u8], bytes: &mut [u8]) -> bool
     requires twice { length text.now ≡ 2 * length bytes.old }
     requires short { length bytes.old < BLOCK_LEN }
@@ -48,7 +47,7 @@ fn decode_short(text: &[u8], bytes: &mut [u8]) -> bool
     are_digits
 }
 
-/// Stores the bytes of the block that starts at byte `at`. Returns whether its digits all are digits.
+/// Stores the bytes of the block that starts at byte `at`. Returns whether all its digits are digits.
 #[inline(always)]
 fn decode_block(text: &[u8], at: usize, bytes: &mut [u8]) -> bool
     requires twice { length text.now ≡ 2 * length bytes.old }
@@ -79,7 +78,7 @@ fn digit_values(digits: u8x16) -> u8x16
         .select(decimal, letter_value)
 }
 
-/// Joins the values of each two digits.
+/// Joins the values of each pair of digits.
 #[inline(always)]
 fn joined(front: u8x16, back: u8x16) -> u8x16
     ensures len { length result ≡ BLOCK_LEN }

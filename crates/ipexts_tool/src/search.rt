@@ -4,7 +4,7 @@ ghost use Rattle.std.specs.Simd.Lanes.{chunk, mask_l};
 
 use std::simd::prelude::*;
 
-/// The bytes that are looked at at once.
+/// How many bytes are compared at once.
 const BLOCK_LEN: usize = 16;
 
 /// Returns the index of the first `byte`.

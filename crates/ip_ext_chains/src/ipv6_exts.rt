@@ -154,7 +154,7 @@ impl Ipv6Extensions {
 
     /// Returns the headers' length in bytes, 0 to 9228. Each header can be written: the ranges of its fields
     /// guarantee it.
-    // Kept out of line, so that `write` has few uses of the struct's address, as the headers' `write_reserved` is.
+    // Kept out of line, so that `write` has few uses of the struct's address, as `append_raw` is.
     #[inline(never)]
     pub fn header_len(&self) -> usize
         ensures len { result ≡ exts_len self.now }
@@ -201,7 +201,7 @@ fn put_raw(place: &mut Option<Ipv6RawExtHeader>, header: Option<&Ipv6RawExtHeade
     if let Some(header) = header {
         *place = Some(Ipv6RawExtHeader::default());
         if let Some(made) = place {
-            set_raw(made, header);
+            header.copy_to(made);
         }
     }
 }
@@ -224,20 +224,9 @@ fn put_routing(
             final_destination_options: None,
         });
         if let Some(made) = place {
-            set_raw(&mut made.routing, header);
+            header.copy_to(&mut made.routing);
         }
     }
-}
-
-/// Sets the header to the one in the slice.
-#[inline(always)]
-fn set_raw(header: &mut Ipv6RawExtHeader, slice: &Ipv6RawExtHeaderSlice<'_>)
-    ensures { header.new ≡ raw_fields (bytes slice.now) }
-{
-    // For its contract: the slice is a header, so its payload has an allowed length.
-    let _ = slice.slice();
-    header.next_header = slice.next_header();
-    let _ = header.set_payload(slice.payload());
 }
 
 /// Stores the authentication header, if there is one, in the place, which is free.
@@ -248,11 +237,8 @@ fn put_auth(place: &mut Option<IpAuthHeader>, header: Option<&IpAuthHeaderSlice<
 {
     if let Some(header) = header {
         *place = Some(IpAuthHeader::default());
-        if let Some(made) = place {
-            made.next_header = header.next_header();
-            made.spi = header.spi();
-            made.sequence_number = header.sequence_number();
-            let _ = made.set_raw_icv(header.raw_icv());
+        if let Some(auth) = place {
+            header.copy_to(auth);
         }
     }
 }

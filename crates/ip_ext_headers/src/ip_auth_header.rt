@@ -41,20 +41,20 @@ pub type IpAuthenticationHeader = IpAuthHeader;
 /// multiple of 4. In a contract it is the record of its four fields.
 #[derive(Drop)]
 pub struct IpAuthHeader {
-    // The check value and any bytes after it, as the payload of `Ipv6RawExtHeader`.
+    // The check value and any bytes after it.
     bytes: [u8; 1016],
+    // The check value's length, a `usize` as the payload's of `Ipv6RawExtHeader`.
+    icv_len: usize,
     /// The security parameters index, by which the receiver identifies the security association.
     pub spi: u32,
     /// The sender's packet counter.
     pub sequence_number: u32,
     /// The next header field.
     pub next_header: IpNumber,
-    // How many units of 4 bytes the check value has.
-    icv_units: u8,
 }
 
 impl Model for IpAuthHeader {
-    ghost use Rattle.std.specs.Prelude.{◌*◌, take};
+    ghost use Rattle.std.specs.Prelude.{take};
     ghost use Rattle.ip_spec.specs.Fields.{AuthFields};
     ghost use Rattle.ip_spec.specs.Lengths.{IsIcvLen};
 
@@ -64,10 +64,10 @@ impl Model for IpAuthHeader {
       next_header = h.next_header.0;
       spi = h.spi;
       sequence_number = h.sequence_number;
-      raw_icv = take (4 * h.icv_units) h.bytes;
+      raw_icv = take h.icv_len h.bytes;
     } };
 
-    ghost invariant = { λ h. IsIcvLen (4 * h.icv_units) };
+    ghost invariant = { λ h. IsIcvLen h.icv_len };
 }
 
 impl IpAuthHeader {
@@ -149,7 +149,6 @@ impl IpAuthHeader {
     /// Parses the header at the start of `slice`, and returns it with the bytes after it. Returns an error, in this
     /// order, if there are fewer than 12 bytes, if the payload length field is 0, or if there are fewer bytes than
     /// the header's own length.
-    #[inline(never)]
     pub fn from_slice(slice: &[u8]) -> Result<(IpAuthHeader, &[u8]), HeaderSliceError>
         ensures decoding { IfOk result (λ p. IsAuthDecoding slice.now p.0 p.1.now) }
         ensures none { IfErr result (λ _. (b : List ℕ)
@@ -158,10 +157,8 @@ impl IpAuthHeader {
             auth_fault Slice (length slice.now) 0 slice.now ≡ Some e) }
     {
         let header = IpAuthHeaderSlice::from_slice(slice)?;
-        // Made in the pair, as by `Ipv6RawExtHeader::from_slice`.
-        let mut parsed = (Self::default(), &slice[header.slice().len()..]);
-        parsed.0.set_parts(header.parts());
-        Ok(parsed)
+        let rest = &slice[header.slice().len()..];
+        Ok((header.to_header(), rest))
     }
 
     /// Reads a header: 12 bytes, then the check value, whose length they state, and no byte after it. Returns
@@ -280,7 +277,7 @@ impl IpAuthHeader {
         self.next_header = parts.next_header;
         self.spi = parts.spi;
         self.sequence_number = parts.sequence_number;
-        self.fill(parts.raw_icv);
+        self.set(parts.raw_icv);
     }
 
     /// Returns the header with these parts.
@@ -288,9 +285,16 @@ impl IpAuthHeader {
     pub(crate) fn of_parts(parts: AuthParts<'_>) -> IpAuthHeader
         ensures { result ≡ fields_in parts.entry }
     {
-        let mut header = Self::default();
-        header.set_parts(parts);
-        header
+        let raw_icv = parts.raw_icv;
+        let mut bytes = [0; Self::MAX_ICV_LEN];
+        bytes[..raw_icv.len()].copy_from_slice(raw_icv);
+        IpAuthHeader {
+            bytes,
+            icv_len: raw_icv.len(),
+            spi: parts.spi,
+            sequence_number: parts.sequence_number,
+            next_header: parts.next_header,
+        }
     }
 
     /// Returns the integrity check value with its padding, 0 to 1016 bytes.
@@ -298,19 +302,29 @@ impl IpAuthHeader {
         ensures icv { result.now ≡ self.now.raw_icv }
         ensures allowed { IsIcvLen (length result.now) }
     {
-        &self.bytes[..4 * usize::from(self.icv_units)]
+        &self.bytes[..self.icv_len]
     }
 
     /// Sets the check value, which has an allowed length.
     #[inline(always)]
-    fn fill(&mut self, raw_icv: &[u8])
+    fn set(&mut self, raw_icv: &[u8])
+        requires { IsIcvLen (length raw_icv.now) }
+        ensures { self.new ≡ record self.old { raw_icv = raw_icv.now } }
+    {
+        self.bytes[..raw_icv.len()].copy_from_slice(raw_icv);
+        self.icv_len = raw_icv.len();
+    }
+
+    /// Sets the check value, as `set` does, by `copy`: a larger value that contains the header then isn't moved.
+    #[inline(always)]
+    pub(crate) fn set_in_place(&mut self, raw_icv: &[u8])
         requires { IsIcvLen (length raw_icv.now) }
         ensures { self.new ≡ record self.old { raw_icv = raw_icv.now } }
     {
         if !raw_icv.is_empty() {
             copy(&mut self.bytes[..raw_icv.len()], raw_icv);
         }
-        self.icv_units = (raw_icv.len() / 4) as u8;
+        self.icv_len = raw_icv.len();
     }
 
     /// Sets the check value. Returns an error, in this order, if it has more than 1016 bytes, or a number of bytes
@@ -323,7 +337,7 @@ impl IpAuthHeader {
     {
         // Tested before a byte is touched.
         Self::check_icv_len(raw_icv.len())?;
-        self.fill(raw_icv);
+        self.set(raw_icv);
         Ok(())
     }
 
@@ -357,8 +371,7 @@ impl IpAuthHeader {
     }
 
     /// Appends the header's bytes. The vector must have room for them.
-    // Kept out of line, as `copy` is: inlined in `Ipv6Extensions::write`, it has too many uses of the struct's address.
-    #[inline(never)]
+    #[inline(always)]
     pub fn write_reserved<A: Allocator>(&self, out: &mut Vec<u8, A>)
         requires room { vec_len out.old + auth_len self.now ≤ vec_capacity out.old }
         ensures appended { AppendsOne (IsAuthEncoding self.now) out.old.items out.new.items }
@@ -450,11 +463,11 @@ impl Default for IpAuthHeader {
     #[inline(always)]
     fn default() -> IpAuthHeader {
         IpAuthHeader {
-            bytes: [0; 1016],
+            bytes: [0; Self::MAX_ICV_LEN],
+            icv_len: 0,
             spi: 0,
             sequence_number: 0,
             next_header: IpNumber(255),
-            icv_units: 0,
         }
     }
 }

@@ -26,7 +26,6 @@ impl<'a> IpAuthHeaderSlice<'a> {
     ghost use Rattle.ip_base.specs.declared.len_source.LenSource.TheVariants.{Slice};
     ghost use Rattle.ip_ext_headers.specs.HeaderFault.{auth_fault};
     ghost use Rattle.ip_ext_headers.specs.IpAuthHeaderSlice.{bytes};
-    ghost use Rattle.ip_ext_headers.specs.AuthParts.{fields_in};
 
     /// Parses the header at the start of `slice`. Returns an error, in this order, if there are fewer than 12 bytes,
     /// if the payload length field is 0, or if there are fewer bytes than the header's own length.
@@ -102,20 +101,23 @@ impl<'a> IpAuthHeaderSlice<'a> {
     pub fn to_header(&self) -> IpAuthHeader
         ensures { result ≡ auth_fields (bytes self.now) }
     {
-        IpAuthHeader::of_parts(self.parts())
-    }
-
-    /// Returns the header's fields.
-    #[inline(always)]
-    pub(crate) fn parts(&self) -> AuthParts<'a>
-        ensures { fields_in result ≡ auth_fields (bytes self.now) }
-    {
-        AuthParts {
+        IpAuthHeader::of_parts(AuthParts {
             next_header: self.next_header(),
             spi: self.spi(),
             sequence_number: self.sequence_number(),
             raw_icv: self.raw_icv(),
-        }
+        })
+    }
+
+    /// Sets `header` to this header, in its place, as `copy_to` of `Ipv6RawExtHeaderSlice` does.
+    #[inline(always)]
+    pub fn copy_to(&self, header: &mut IpAuthHeader)
+        ensures { header.new ≡ auth_fields (bytes self.now) }
+    {
+        header.next_header = self.next_header();
+        header.spi = self.spi();
+        header.sequence_number = self.sequence_number();
+        header.set_in_place(self.raw_icv());
     }
 }
 

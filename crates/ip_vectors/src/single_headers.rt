@@ -77,6 +77,9 @@ fn raw_headers_truncated_everywhere(rt: HostRuntime) -> Result<(), Fail> {
         assert_that(&rt, length, header.clone()? == header);
         let slice = Ipv6RawExtHeaderSlice::from_slice(&bytes)?;
         assert_that(&rt, length, is_raw_slice_of(&slice, &header));
+        let mut replaced = Ipv6RawExtHeader::new_raw(IpNumber(9), &[9; 22])?;
+        slice.copy_to(&mut replaced);
+        assert_that(&rt, length, replaced == header);
     }
     Ok(())
 }
@@ -137,6 +140,9 @@ fn authentication_headers_truncated_everywhere(rt: HostRuntime) -> Result<(), Fa
         assert_that(&rt, length, header.clone()? == header);
         let slice = IpAuthHeaderSlice::from_slice(&bytes)?;
         assert_that(&rt, length, is_auth_slice_of(&slice, &header));
+        let mut replaced = IpAuthHeader::new(IpNumber(9), 9, 9, &[9; 24])?;
+        slice.copy_to(&mut replaced);
+        assert_that(&rt, length, replaced == header);
     }
     let zero = HeaderSliceError::Content(HeaderError::ZeroPayloadLen);
     assert!(rt; is_auth_refused(&bytes_with(0, 8), &zero));

@@ -4,7 +4,7 @@ use Rattle.ip_ext_headers.proofs.ip_auth_header.IpAuthHeader.first_bytes.Goals a
 
 pub returns : goal.returns
 returns c =
-    let icv : List ℕ = take (4 * c.self.inside.icv_units) c.self.inside.bytes in
+    let icv : List ℕ = take c.self.inside.icv_len c.self.inside.bytes in
     let v : AuthFields = record { next_header = c.self.inside.next_header.0; spi = c.self.inside.spi; sequence_number = c.self.inside.sequence_number; raw_icv = icv } in
     let is : c.raw_icv-raw_icv.result.now ≡ icv = c.raw_icv-raw_icv.ensures.icv ∙ sym (ap (λ (w : AuthFields). w.raw_icv) c.self.view_is) in
     let Allowed : List ℕ → Type 0 = λ b. IsIcvLen (length b) in

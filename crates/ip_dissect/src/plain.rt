@@ -10,8 +10,9 @@ use crate::Outline;
 use crate::fields::{ipv4_stated_len, ipv6_stated_len};
 use crate::outline::is_too_short;
 use crate::parts::{missing, packet_of};
-use crate::walk::{after, is_extension};
+use crate::walk::after;
 use ip_base::{IpNumber, Ipv4HeaderSlice, Ipv6HeaderSlice, ip_number};
+use ip_ext_slices::is_extension;
 
 /// Outlines the packet at the start of `bytes`, which may be any bytes, if it has no extension headers, is no fragment
 /// and its headers end without an error, and returns `None` for any other. It has no loop, so a caller that passes all

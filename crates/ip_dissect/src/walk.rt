@@ -1,15 +1,14 @@
 //! One pass over the extension headers of an IPv6 packet.
-ghost use Rattle.std.specs.Prelude.{◌≡◌, ◌≤◌, ◌+◌, ◌<◌, ◌^◌, ◌++◌, ◌∷◌, ◌==◌, ◌||◌, ◌↔◌, not, if◌then◌else◌, Some, None, [], length, drop, List, IsTrue};
+ghost use Rattle.std.specs.Prelude.{◌≡◌, ◌≤◌, ◌+◌, ◌<◌, ◌^◌, ◌++◌, ◌∷◌, ◌==◌, ◌||◌, not, if◌then◌else◌, Some, None, [], length, drop, List};
 ghost use Rattle.std.specs.Option.{option_or};
-ghost use Rattle.ip_spec.specs.Header.{IsExtensionNumber};
 ghost use Rattle.ip_spec.specs.Chain.{ExtHeader};
 ghost use Rattle.ip_ext_slices.specs.Ipv6ExtensionSlice.{header_of};
 ghost use Rattle.ip_dissect.specs.Fragment.{fragment_in, is_atomic};
 ghost use Rattle.ip_dissect.specs.Found.{found_in, HasPassed};
 
 use crate::{Fragment, FragmentKind};
-use ip_base::{IpNumber, ip_number};
-use ip_ext_slices::{Ipv6ExtensionSlice, header_at};
+use ip_base::IpNumber;
+use ip_ext_slices::{Ipv6ExtensionSlice, header_at, is_extension};
 
 /// What a pass over a chain finds: its fragment headers, and the number of headers.
 #[derive(Clone, Copy, Debug)]
@@ -42,21 +41,6 @@ pub(crate) fn after(bytes: &[u8], len: usize) -> &[u8]
     ensures { result.now ≡ drop len bytes.now }
 {
     &bytes[len..]
-}
-
-/// Returns whether the number is an extension header's.
-#[inline(always)]
-pub(crate) fn is_extension(number: IpNumber) -> bool
-    ensures { IsTrue result ↔ IsExtensionNumber number.0 }
-{
-    matches!(
-        number,
-        ip_number::IPV6_HOP_BY_HOP
-            | ip_number::IPV6_ROUTE
-            | ip_number::IPV6_FRAG
-            | ip_number::AUTH
-            | ip_number::IPV6_DEST_OPTIONS
-    )
 }
 
 /// Walks the longest chain from `start` in which nothing follows a later fragment's header.

@@ -57,9 +57,9 @@ pub fn header_at(first: bool, number: IpNumber, bytes: &[u8]) -> Option<Ipv6Exte
     }
 }
 
-/// Returns whether the number is an extension header's.
-#[inline]
-pub(crate) fn is_extension(number: IpNumber) -> bool
+/// Returns whether the number is an extension header's (RFC 8200, section 4; RFC 4302, section 2).
+#[inline(always)]
+pub fn is_extension(number: IpNumber) -> bool
     ensures { IsTrue result ↔ IsExtensionNumber number.0 }
 {
     matches!(

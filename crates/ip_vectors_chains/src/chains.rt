@@ -7,6 +7,7 @@ use ip_ext_chains::err::ipv6_exts::{HeaderError, HeaderSliceError};
 use ip_ext_chains::{
     Ipv6ExtensionSlice, Ipv6ExtensionSliceIter, Ipv6ExtensionsCursor, Ipv6ExtensionsSlice,
 };
+use ip_ext_slices::is_extension;
 use ip_plain::{plain_fault, plain_longest_chain};
 use std::alloc::Global;
 use std::process::Abort;
@@ -393,4 +394,12 @@ fn errors_told_from_further_to_the_front(rt: HostRuntime) {
     let late = HeaderSliceError::Content(HeaderError::HopByHopNotAtStart);
     let same = HeaderSliceError::Content(HeaderError::HopByHopNotAtStart);
     assert!(rt; late.add_slice_offset(200) == same);
+}
+
+#[test]
+fn numbers_of_extension_headers(rt: HostRuntime) {
+    for number in 0..=255u8 {
+        let expected = matches!(number, 0 | 43 | 44 | 51 | 60);
+        assert_same(&rt, number, is_extension(IpNumber(number)), expected);
+    }
 }

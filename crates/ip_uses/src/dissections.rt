@@ -1,10 +1,11 @@
 //! Callers of `ip_dissect`.
-ghost use Rattle.std.specs.Prelude.{◌≡◌, ℕ, List, IfSome};
+ghost use Rattle.std.specs.Prelude.{◌≡◌, ℕ, List, length, is_some, IfSome};
 ghost use Rattle.ip_dissect.specs.Dissection.{HasParts, dissected};
+ghost use Rattle.ip_dissect.specs.Outline.{is_plain};
 ghost use Rattle.ip_dissect.specs.declared.end.End.TheVariants.{Payload};
 
 use etherparse_ip::IpNumber;
-use ip_dissect::{Dissection, End};
+use ip_dissect::{Dissection, End, outline_plain_packet};
 
 /// Returns the protocol number of the payload, if it starts here: the headers before it are whole, and the packet is
 /// not a later fragment.
@@ -18,4 +19,15 @@ pub fn upper_layer(packet: &Dissection<'_>) -> Option<IpNumber>
         End::Payload => Some(packet.next_header),
         _ => None,
     }
+}
+
+/// Returns the payload's protocol number and its length in bytes, if the packet has no extension headers, is no
+/// fragment, and its headers are whole.
+pub fn plain_payload(bytes: &[u8]) -> Option<(IpNumber, usize)>
+    ensures plain { is_some result ≡ is_plain (dissected bytes.now) }
+    ensures number { IfSome result (λ x. x.0.0 ≡ (dissected bytes.now).number) }
+    ensures len { IfSome result (λ x. x.1 ≡ length (dissected bytes.now).payload) }
+{
+    let packet = outline_plain_packet(bytes)?;
+    Some((packet.next_header, packet.payload_len))
 }

@@ -1,16 +1,19 @@
 -- Vectors of hexadecimal digits, lane by lane, and the bytes that all digits of a text denote.
-use Rattle.std.proofs.Common.{◌≡◌, ℕ, zero, suc, ◌+◌, ◌-◌, ◌*◌, ◌%◌, ◌^◌, ◌<◌, ◌≤◌, ◌⊎◌, inl, inr, List, [], ◌∷◌, ◌++◌, length, get_or, map, replicate, Bool, true, false, ◌&&◌, cond, eqb, ltb, leb, T, bit_or, refl, sym, ap, ◌∙◌, subst, arith, w8, Fits, eqb→eq, eq-zero-or-pos, ltb-true, ltb-false, leb-true, leb-false, drop, take, length-append, length-drop}
+use Rattle.std.proofs.Common.{◌≡◌, ℕ, zero, suc, ◌+◌, ◌-◌, ◌*◌, ◌%◌, ◌^◌, ◌<◌, ◌≤◌, ◌⊎◌, inl, inr, List, [], ◌∷◌, ◌++◌, length, get_or, map, replicate, Bool, true, false, ◌&&◌, cond, eqb, ltb, leb, T, bit_or, refl, sym, ap, ◌∙◌, subst, arith, w8, Fits, eqb→eq, eq-zero-or-pos, ltb-true, ltb-false, leb-true, leb-false, drop, take, length-append, length-drop, length-take}
 use Rattle.std.proofs.lemmas.List.{length-map, get_or-map, get_or-drop, get_or-take, get_or_append_left, get_or-append_right}
 use Rattle.std.proofs.lemmas.Bool.{cases_lt}
-use Rattle.std.proofs.lemmas.Simd.{length-zip2, length-sel_l, mask_l-mod, length-chunk, get_or-chunk, get_or-put_chunk_at, get_or-replicate}
+use Rattle.std.proofs.lemmas.Simd.{length-zip2, length-sel_l, mask_l-mod, length-chunk, get_or-chunk, get_or-put_chunk_at}
 use Rattle.std.specs.Simd.Lanes.{chunk, put_chunk}
 use Rattle.std.specs.Option.{unwrap_or}
-use Rattle.std.specs.Result.{result_ok}
+use Rattle.std.specs.Result.{result_ok, is_ok, MatchResult}
 use Rattle.std.proofs.Common.{Option, Some, None, Result, Ok, Err}
-use Rattle.hex.specs.Hex.{hex_digit_value, is_hex_digit, digit_or_error, value_at, pair_value, decode_pairs, decode_of}
+use Rattle.hex.specs.Hex.{hex_digit_value, is_hex_digit, digit_or_error, value_at, pair_value, decode_pairs, decode_of, decode_sized}
 use Rattle.hex.specs.declared.error.FromHexError.{FromHexError}
 use Rattle.hex.proofs.Pairs.{decode_sized-pairs}
-use Rattle.hex.proofs.HexLemmas.{decode_sized-twice, decode_of-ok}
+use Rattle.hex.proofs.HexLemmas.{decode_sized-twice, decode_of-ok, decode_of-err, decode_of-same}
+use Rattle.std.proofs.lemmas.List.FromFn.{get_or-map-range_with_len, length-map-range_with_len}
+use Rattle.std.specs.List.{range_with_len}
+use borrow.Rule.Slice.PartMut.{put_mid}
 use Rattle.std.specs.Simd.Lanes.{zip2, sel_l, top, mask_l, Each1}
 use lib.Ieee.Fits.{and_l, and_r}
 use Rattle.ipexts_tool.specs.HexDigits.{digit_value, IsDecoded, HasOther}
@@ -205,6 +208,10 @@ digit-small : (c : ℕ) → is_hex_digit c ≡ true → digit_value c < 16
 unfolding digit_value
 digit-small c digit = grind (arith)
 
+no-digit : (c : ℕ) → is_hex_digit c ≡ false → 16 ≤ digit_value c
+unfolding digit_value
+no-digit c other = grind (arith)
+
 refused : (text : List ℕ) (r : Result (List ℕ) FromHexError) → decode_of text ≡ r → HasOther text → result_ok r ≡ None
 refused text (Err e) is found = refl
 refused text (Ok bytes) is found =
@@ -214,48 +221,86 @@ refused text (Ok bytes) is found =
 pub other_refused : (text : List ℕ) → HasOther text → result_ok (decode_of text) ≡ None
 other_refused text found = refused text (decode_of text) refl found
 
--- a block that ends where the bytes do, with the bytes before it
+-- a byte that a later block leaves as it is
 pub IsDecoded-kept : (text old bytes : List ℕ) (k : ℕ) → get_or bytes k 0 ≡ get_or old k 0 → IsDecoded text old k → IsDecoded text bytes k
 IsDecoded-kept text old bytes k same h = record { high = h.high; low = h.low; value = same ∙ h.value }
 
--- a text that is filled up with zeros
-module _ (text front : List ℕ) (copied : front ≡ text) (short : length text ≤ 32) where
-  filled : List ℕ
-  filled = front ++ drop (length text) (replicate 32 48)
+-- ---- each byte of a text that decodes
 
-  filled-same : (k : ℕ) → k < length text → get_or filled k 0 ≡ get_or text k 0
-  unfolding filled
-  filled-same k inside = get_or_append_left front _ 0 k (omega (arith, ap length copied)) ∙ ap (λ (xs : List ℕ). get_or xs k 0) copied
+values : List ℕ → ℕ → List ℕ
+values text n = map (λ k. digit_value (get_or text (2 * k) 0) * 16 + digit_value (get_or text (2 * k + 1) 0)) (range_with_len 0 n)
 
-  filled-zero : (k : ℕ) → length text ≤ k → k < 32 → get_or filled k 0 ≡ 48
-  unfolding filled
-  filled-zero k past inside =
-      let here : length text + (k - length text) ≡ k = omega arith in
-      get_or-append_right front _ (length text) k 0 (ap length copied) past
-      ∙ get_or-drop (length text) (replicate 32 48) (k - length text) 0
-      ∙ ap (λ n. get_or (replicate 32 48) n 0) here ∙ get_or-replicate 32 k 48 0 inside
+each_decoded : (text bytes : List ℕ) → decode_of text ≡ Ok bytes → (k : ℕ) → k < length bytes → IsDecoded text bytes k
+unfolding values
+each_decoded text bytes is k below =
+    let n = length bytes in
+    let ok = decode_of-ok text bytes is in
+    let digit : (i : ℕ) → i < length text → digit_value (get_or text i 0) < 16 = λ i inside. digit-small _ (ok.1 i 0 inside) in
+    let value : (j : ℕ) → j < n → get_or (values text n) j 0 ≡ digit_value (get_or text (2 * j) 0) * 16 + digit_value (get_or text (2 * j + 1) 0) =
+    λ j inside. get_or-map-range_with_len _ 0 n j j 0 inside (omega arith) in
+    let len : length (values text n) ≡ n = length-map-range_with_len _ 0 n in
+    let all = all_decoded text (values text n) (omega (arith, len, ok.2)) (λ j inside. record {
+      high = digit (2 * j) (omega (arith, len, ok.2));
+      low = digit (2 * j + 1) (omega (arith, len, ok.2));
+      value = value j (omega (arith, len));
+    }) in
+    record {
+      high = digit (2 * k) (omega (arith, ok.2));
+      low = digit (2 * k + 1) (omega (arith, ok.2));
+      value = ap (λ (xs : List ℕ). get_or xs k 0) (decode_of-same text bytes _ is all) ∙ value k below;
+    }
 
-  length-filled : length filled ≡ 32
-  unfolding filled
-  length-filled = omega (arith, length-append front (drop (length text) (replicate 32 48)), length-drop (length text) (replicate {A = ℕ} 32 48), ap length copied)
+-- ---- the digits after whole blocks, which denote the bytes from `at` on
 
-  IsDecoded-filled : (block bytes : List ℕ) (k : ℕ) → 2 * k + 1 < length text → get_or bytes k 0 ≡ get_or block k 0 → IsDecoded filled block k → IsDecoded text bytes k
-  IsDecoded-filled block bytes k inside kept h =
-      let high = filled-same (2 * k) (omega arith) in
-      let low = filled-same (2 * k + 1) inside in
-      record { high = rw high at h.high; low = rw low at h.low; value = kept ∙ h.value ∙ rw (high, low) refl }
+module _ (text old : List ℕ) (at n m : ℕ) (twice : length text ≡ 2 * length old) (inside : at + n ≡ length old) (same : m ≡ n) where
+  left : List ℕ
+  left = take (length text - 2 * at) (drop (2 * at) text)
 
-  pub all-filled : (block bytes : List ℕ) (n : ℕ) → length text ≡ 2 * length bytes → length bytes < 16 → bytes ≡ take n block → length bytes ≡ n
-      → ((k : ℕ) → 0 ≤ k → k < 16 → IsDecoded (front ++ drop (length text) (replicate 32 48)) block k) → decode_of text ≡ Ok bytes
-  unfolding filled
-  all-filled block bytes n twice few kept long each =
-      all_decoded text bytes twice (λ k below.
-      IsDecoded-filled block bytes k (omega arith) (ap (λ (xs : List ℕ). get_or xs k 0) kept ∙ get_or-take n block k 0 (omega arith)) (each k (omega arith) (omega arith)))
+  left-at : (j i : ℕ) → j < 2 * n → 2 * at + j ≡ i → get_or left j 0 ≡ get_or text i 0
+  unfolding left
+  left-at j i below is =
+      get_or-take (length text - 2 * at) (drop (2 * at) text) j 0 (omega arith) ∙ get_or-drop (2 * at) text j 0 ∙ ap (λ m. get_or text m 0) is
 
-  pub other-filled : HasOther (front ++ drop (length text) (replicate 32 48)) → HasOther text
-  unfolding filled digit_value
-  other-filled found =
-      elim (cases_lt found.0 (length text)) [
-        | inl inside ↦ (found.0, inside, rw (filled-same found.0 inside) at found.2)
-        | inr past ↦ absurd (omega (arith, rw (filled-zero found.0 past (omega (arith, length-filled, found.1))) at found.2))
+  length-left : length left ≡ 2 * n
+  unfolding left
+  length-left = omega (arith, length-take (length text - 2 * at) (drop (2 * at) text), length-drop (2 * at) text)
+
+  decode_sized-left : decode_sized left m ≡ decode_of left
+  decode_sized-left = decode_sized-twice left m (omega (arith, same, length-left))
+
+  IsDecoded-left : (new out : List ℕ) (k : ℕ) → at ≤ k → k < length old → get_or new k 0 ≡ get_or out (k - at) 0 → IsDecoded left out (k - at) → IsDecoded text new k
+  IsDecoded-left new out k past below same h =
+      let high = left-at (2 * (k - at)) (2 * k) (omega arith) (omega arith) in
+      let low = left-at (2 * (k - at) + 1) (2 * k + 1) (omega arith) (omega arith) in
+      record { high = rw high at h.high; low = rw low at h.low; value = same ∙ h.value ∙ rw (high, low) refl }
+
+  pub left-decoded : ((k : ℕ) → k < at → IsDecoded text old k) → (out : List ℕ) → decode_sized (take (length text - 2 * at) (drop (2 * at) text)) m ≡ Ok out → decode_of text ≡ Ok (put_mid at n old out)
+  unfolding left
+  left-decoded before out is =
+      let decoded : decode_of left ≡ Ok out = sym decode_sized-left ∙ is in
+      let len = (decode_of-ok left out decoded).2 in
+      let front : length (take at old) ≡ at = omega (arith, length-take at old) in
+      let whole : length (put_mid at n old out) ≡ length old =
+      omega (arith, length-append (take at old) (out ++ drop n (drop at old)), length-append out (drop n (drop at old)), length-drop n (drop at old), length-drop at old, len, length-left, front) in
+      all_decoded text (put_mid at n old out) (omega (arith, whole)) (λ k below.
+      elim (cases_lt k at) [
+        | inl within ↦ IsDecoded-kept text old _ k (get_or_append_left (take at old) _ 0 k (omega arith) ∙ get_or-take at old k 0 within) (before k within)
+        | inr past ↦ IsDecoded-left _ out k past (omega (arith, whole)) (get_or-append_right (take at old) _ at k 0 front past ∙ get_or_append_left out _ 0 (k - at) (omega (arith, len, length-left))) (each_decoded left out decoded (k - at) (omega (arith, len, length-left)))
+      ])
+
+  pub left-refused : (e : FromHexError) → decode_sized (take (length text - 2 * at) (drop (2 * at) text)) m ≡ Err e → result_ok (decode_of text) ≡ None
+  unfolding left
+  left-refused e is =
+      elim (decode_of-err left e (sym decode_sized-left ∙ is)) [
+        | inl odd ↦ absurd (omega (arith, odd.0, length-left))
+        | inr bad ↦ other_refused text (2 * at + bad.0, omega (arith, bad.2, length-left), rw (← left-at bad.0 _ (omega (arith, bad.2, length-left)) refl) (no-digit _ bad.3))
       ]
+
+-- what `decode_to_slice` says of the text is what the text denotes
+pub written_ok : (d : Result (List ℕ) FromHexError) (r : Result Unit FromHexError) (out : List ℕ) → MatchResult d (λ bytes. (r ≡ Ok tt) × (out ≡ bytes)) (λ e. r ≡ Err e) → is_ok r ≡ true → d ≡ Ok out
+written_ok (Ok bytes) r out h is = ap Ok (sym h.1)
+written_ok (Err e) r out h is = cc (is, ap is_ok h)
+
+pub written_err : (d : Result (List ℕ) FromHexError) (r : Result Unit FromHexError) (out : List ℕ) → MatchResult d (λ bytes. (r ≡ Ok tt) × (out ≡ bytes)) (λ e. r ≡ Err e) → is_ok r ≡ false → (e : FromHexError) × (d ≡ Err e)
+written_err (Ok bytes) r out h is = cc (is, ap is_ok h.0)
+written_err (Err e) r out h is = (e, refl)

@@ -1,4 +1,4 @@
-//! Hexadecimal digits, decoded in blocks of 32 by vectors of 16 bytes.
+//! Hexadecimal digits: whole blocks of 32 are decoded by vectors of 16 bytes, and what is left by the crate `hex`.
 ghost use Rattle.std.specs.Prelude.{◌≡◌, ℕ, ◌+◌, ◌*◌, ◌%◌, ◌<◌, ◌≤◌, ◌⊎◌, ◌++◌, length, map, slice_index};
 ghost use Rattle.std.specs.Bool.{OnTrue, OnFalse};
 ghost use Rattle.std.specs.Result.{result_ok};
@@ -16,35 +16,14 @@ pub fn decode(text: &[u8], bytes: &mut [u8]) -> bool
     ensures digits { OnTrue result (decode_of text.now ≡ Ok bytes.new) }
     ensures other { OnFalse result (result_ok (decode_of text.now) ≡ None) }
 {
-    if bytes.len() < BLOCK_LEN {
-        return decode_short(text, bytes);
-    }
-    let last = bytes.len() - BLOCK_LEN;
     let mut at = 0;
-    'blocks: while at < last {
+    'blocks: while bytes.len() - at >= BLOCK_LEN {
         if !decode_block(text, at, bytes) {
             return false;
         }
         at += BLOCK_LEN;
     }
-    // The last block may share bytes with the one before.
-    decode_block(text, last, bytes)
-}
-
-/// Stores the bytes as `decode` does, for digits of less than a block, which is filled up with zeros.
-fn decode_short(text: &[u8], bytes: &mut [u8]) -> bool
-    requires twice { length text.now ≡ 2 * length bytes.old }
-    requires short { length bytes.old < BLOCK_LEN }
-    ensures digits { OnTrue result (decode_of text.now ≡ Ok bytes.new) }
-    ensures other { OnFalse result (result_ok (decode_of text.now) ≡ None) }
-{
-    let mut digits = [b'0'; 2 * BLOCK_LEN];
-    digits[..text.len()].copy_from_slice(text);
-    let mut block = [0; BLOCK_LEN];
-    let are_digits = decode_block(&digits, 0, &mut block);
-    let len = bytes.len();
-    bytes.copy_from_slice(&block[..len]);
-    are_digits
+    hex::decode_to_slice(&text[2 * at..], &mut bytes[at..]).is_ok()
 }
 
 /// Stores the bytes of the block that starts at byte `at`. Returns whether all its digits are digits.

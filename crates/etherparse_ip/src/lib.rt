@@ -18,7 +18,7 @@ pub use ip_base::{
 pub use ip_ext_chains::{
     Ipv4Extensions, Ipv4ExtensionsSlice, Ipv6ExtensionSlice, Ipv6ExtensionSliceIter,
     Ipv6Extensions, Ipv6ExtensionsCursor, Ipv6ExtensionsRuns, Ipv6ExtensionsSlice,
-    Ipv6RoutingExtensions, fitting_headers, write_chain,
+    Ipv6RoutingExtensions, clear_chain, fitting_headers,
 };
 pub use ip_ext_headers::{
     IPv6AuthenticationHeader, IpAuthHeader, IpAuthHeaderSlice, IpAuthenticationHeader,

@@ -77,10 +77,13 @@ pub fn chain_slices(
     _cursor: &etherparse_ip::Ipv6ExtensionsCursor<'_>,
 ) {}
 
-/// Borrowed headers that fit six places, and their write.
+/// Borrowed headers that fit six places, and a copy of them with reserved bits zero.
 pub fn borrowed_headers(packet: &[u8], out: &mut Vec<u8>) -> Result<(), AllocError> {
     let (headers, _, _, _) = etherparse_ip::fitting_headers(etherparse_ip::IpNumber(0), packet);
-    etherparse_ip::write_chain(&headers, out)
+    out.clear();
+    out.extend_from_slice(headers.slice())?;
+    etherparse_ip::clear_chain(&headers, out.as_mut_slice());
+    Ok(())
 }
 
 /// Packets, and their law.

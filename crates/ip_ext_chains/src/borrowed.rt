@@ -1,5 +1,5 @@
-//! Borrowed chains: the longest one that fits six places, and the headers of a chain as they are written.
-ghost use Rattle.std.specs.Prelude.{◌≡◌, ◌≤◌, ◌<◌, ◌+◌, ◌++◌, ◌==◌, ℕ, length, take, None, Some, OnOk, OnErr, if◌then◌else◌, vec_len, vec_capacity};
+//! Borrowed chains: the longest one that fits six places, and a copy of a chain with its reserved bits zero.
+ghost use Rattle.std.specs.Prelude.{◌≡◌, ◌==◌, ℕ, length, take, None, Some, if◌then◌else◌};
 ghost use Rattle.ip_spec.specs.Chain.{bytes_of, headers_within};
 ghost use Rattle.ip_spec.specs.Demand.{IsLongestUnder};
 ghost use Rattle.ip_spec.specs.Encoding.{cleared_chain};
@@ -13,7 +13,6 @@ use crate::err::ipv6_exts::HeaderSliceError;
 use crate::run::take_run;
 use ip_base::IpNumber;
 use ip_ext_headers::clear_reserved_bits;
-use std::alloc::{AllocError, Allocator};
 
 /// Parses the headers as `Ipv6Extensions::from_slice_lax` does, and returns them borrowed: the longest chain at the
 /// start of the bytes that has a place for each of its headers (RFC 8200, section 4.1), for this start number. Returns
@@ -64,35 +63,11 @@ pub fn fitting_headers(
     (chain, number, rest, fault)
 }
 
-/// Appends the headers of the chain, with their reserved bits zero (RFC 8200, section 4.5; RFC 4302, section 2.3).
-/// Links and lengths are unchanged.
-///
-/// Memory is requested first, for all headers at once. Returns an error if there are headers for which the vector has
-/// no room and can't grow; then nothing has been appended.
-pub fn write_chain<A: Allocator>(
-    headers: &Ipv6ExtensionsSlice<'_>,
-    out: &mut Vec<u8, A>,
-) -> Result<(), AllocError>
-    ensures ok { OnOk result (out.new.items
-        ≡ out.old.items ++ bytes_of (cleared_chain (headers_in headers.now))) }
-    ensures len { OnOk result (vec_len out.new ≡ vec_len out.old + length (bytes_in headers.now)) }
-    ensures unchanged { OnErr result (out.new.items ≡ out.old.items) }
-    ensures full { OnErr result (vec_capacity out.old
-        < vec_len out.old + length (bytes_in headers.now)) }
-    ensures some { OnErr result (0 < length (bytes_in headers.now)) }
-    ensures capacity { vec_capacity out.old ≤ vec_capacity out.new }
-{
-    let start = out.len();
-    // One copy for all headers: most kinds have no reserved bits.
-    out.extend_from_slice(headers.slice())?;
-    clear_headers(headers, &mut out.as_mut_slice()[start..]);
-    Ok(())
-}
-
-/// Clears the reserved bits of the headers, in a copy of their bytes.
-fn clear_headers(headers: &Ipv6ExtensionsSlice<'_>, copy: &mut [u8])
-    requires copy { copy.old ≡ bytes_of (headers_in headers.now) }
-    ensures { copy.new ≡ bytes_of (cleared_chain (headers_in headers.now)) }
+/// Clears the reserved bits of the headers (RFC 8200, section 4.5; RFC 4302, section 2.3) in a copy of their bytes that
+/// the caller made. Links and lengths are unchanged. Nothing is allocated.
+pub fn clear_chain(headers: &Ipv6ExtensionsSlice<'_>, copy: &mut [u8])
+    requires copied { copy.old ≡ bytes_in headers.now }
+    ensures cleared { copy.new ≡ bytes_of (cleared_chain (headers_in headers.now)) }
 {
     let Ok(headers) = headers.clone() else {
         unreachable!();

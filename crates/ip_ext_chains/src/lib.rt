@@ -17,7 +17,7 @@ mod places;
 mod run;
 mod walk;
 
-pub use borrowed::{fitting_headers, write_chain};
+pub use borrowed::{clear_chain, fitting_headers};
 pub use chain_laws::free_extension_number_left_has_fault;
 pub use ip_base::{IpNumber, LenSource, ip_number};
 pub use ip_ext_headers::{

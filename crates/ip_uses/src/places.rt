@@ -1,5 +1,5 @@
 //! Callers of the parse into six places.
-ghost use Rattle.std.specs.Prelude.{◌≡◌, ◌<◌, ◌+◌, ◌++◌, ◌==◌, ℕ, List, length, Some, None, IfSome, IfNone, IfOk, OnOk, OnErr, if◌then◌else◌, vec_len, vec_capacity};
+ghost use Rattle.std.specs.Prelude.{◌≡◌, ◌<◌, ◌++◌, ◌==◌, ℕ, List, length, take, drop, Some, None, IfSome, IfNone, IfOk, OnOk, OnErr, if◌then◌else◌};
 ghost use Rattle.std.specs.Option.{option_map};
 ghost use Rattle.ip_spec.specs.Header.{IsExtensionNumber};
 ghost use Rattle.ip_spec.specs.Parse.{rest_after};
@@ -14,7 +14,7 @@ ghost use Rattle.ip_ext_chains.specs.Fitting.{fitting_chain, fitting_fault, IsFi
 use ip_base::IpNumber;
 use ip_ext_chains::err::Layer;
 use ip_ext_chains::err::ipv6_exts::{HeaderSliceError, HeaderWriteError};
-use ip_ext_chains::{Ipv6Extensions, Ipv6ExtensionsSlice, fitting_headers, write_chain};
+use ip_ext_chains::{Ipv6Extensions, Ipv6ExtensionsSlice, clear_chain, fitting_headers};
 use ip_ext_headers::Ipv6FragmentHeader;
 use ip_spec::one_walk_answer;
 use std::alloc::AllocError;
@@ -90,23 +90,41 @@ pub fn copy_fitting<'a>(
     ensures err { OnErr result (out.new.items ≡ out.old.items) }
 {
     let (headers, number, rest, fault) = fitting_headers(start, packet);
-    write_chain(&headers, out)?;
+    append_cleared(&headers, out)?;
     Ok((headers.first_header(), number, rest, fault))
 }
 
-/// Appends borrowed headers with their reserved bits zero. Returns the vector's new length, or `None` if there are
-/// headers and no room for them; then the vector is unchanged.
-pub fn append_borrowed(headers: &Ipv6ExtensionsSlice<'_>, out: &mut Vec<u8>) -> Option<usize>
-    ensures written { IfSome result (λ _. out.new.items
+/// Appends borrowed headers with their reserved bits zero. Without memory for them the vector is unchanged.
+pub fn append_cleared(
+    headers: &Ipv6ExtensionsSlice<'_>,
+    out: &mut Vec<u8>,
+) -> Result<(), AllocError>
+    ensures written { OnOk result (out.new.items
         ≡ out.old.items ++ bytes_of (cleared_chain (headers_in headers.now))) }
-    ensures len { IfSome result (λ len. len ≡ vec_len out.old + length (bytes headers.now)) }
-    ensures same { IfNone result (out.new.items ≡ out.old.items) }
-    ensures full { IfNone result (vec_capacity out.old
-        < vec_len out.old + length (bytes headers.now)) }
-    ensures some { IfNone result (0 < length (bytes headers.now)) }
+    ensures err { OnErr result (out.new.items ≡ out.old.items) }
 {
-    match write_chain(headers, out) {
-        Ok(()) => Some(out.len()),
-        Err(_) => None,
+    let start = out.len();
+    out.extend_from_slice(headers.slice())?;
+    clear_chain(headers, &mut out.as_mut_slice()[start..]);
+    Ok(())
+}
+
+/// Copies borrowed headers to the start of `buffer` with their reserved bits zero, without memory. Returns their
+/// length, or `None` if they don't fit; then the buffer is unchanged.
+pub fn copy_cleared(headers: &Ipv6ExtensionsSlice<'_>, buffer: &mut [u8]) -> Option<usize>
+    ensures len { IfSome result (λ len. len ≡ length (bytes headers.now)) }
+    ensures written { IfSome result (λ len. take len buffer.new
+        ≡ bytes_of (cleared_chain (headers_in headers.now))) }
+    ensures rest { IfSome result (λ len. drop len buffer.new ≡ drop len buffer.old) }
+    ensures none { IfNone result (length buffer.old < length (bytes headers.now)) }
+    ensures same { IfNone result (buffer.new ≡ buffer.old) }
+{
+    let len = headers.slice().len();
+    if buffer.len() < len {
+        return None;
     }
+    let copy = &mut buffer[..len];
+    copy.copy_from_slice(headers.slice());
+    clear_chain(headers, copy);
+    Some(len)
 }

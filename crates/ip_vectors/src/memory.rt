@@ -3,9 +3,7 @@ use crate::checks::{assert_bytes, assert_same};
 use crate::long_chains::SIX;
 use ip_base::{IpFragOffset, IpNumber};
 use ip_ext_chains::err::{ipv4_exts, ipv6_exts};
-use ip_ext_chains::{
-    Ipv4Extensions, Ipv6Extensions, Ipv6ExtensionsSlice, Ipv6RoutingExtensions, write_chain,
-};
+use ip_ext_chains::{Ipv4Extensions, Ipv6Extensions, Ipv6RoutingExtensions};
 use ip_ext_headers::{IpAuthHeader, Ipv6FragmentHeader, Ipv6RawExtHeader};
 use linked_list_allocator::LocalHeap;
 use std::alloc::{AllocError, Global};
@@ -30,7 +28,7 @@ pub(crate) fn take_all<'a>(
     Ok(blocks)
 }
 
-/// A header to write, or a chain from this number, which may be borrowed from these bytes.
+/// A header to write, or a chain from this number.
 #[derive(Drop)]
 enum Item {
     Raw(Ipv6RawExtHeader),
@@ -38,7 +36,6 @@ enum Item {
     Authentication(IpAuthHeader),
     Ipv4Chain(Ipv4Extensions, u8),
     Ipv6Chain(Ipv6Extensions, u8),
-    Borrowed(&'static [u8], u8),
 }
 
 /// The result of a write.
@@ -89,10 +86,6 @@ fn write(item: &Item, out: &mut Vec<u8, &LocalHeap>) -> Outcome {
         Item::Authentication(header) => of_header(header.write(out)),
         Item::Ipv4Chain(exts, first) => of_ipv4(exts.write(out, IpNumber(*first))),
         Item::Ipv6Chain(exts, first) => of_ipv6(exts.write(out, IpNumber(*first))),
-        Item::Borrowed(bytes, first) => {
-            let (headers, _, _, _) = Ipv6ExtensionsSlice::from_slice_lax(IpNumber(*first), bytes);
-            of_header(write_chain(&headers, out))
-        }
     }
 }
 
@@ -223,30 +216,6 @@ fn six_places_are_written_into_the_room_they_need(rt: HostRuntime) -> Result<(),
             16,
             &[0, 0, 0, 0, 0, 0, 0, 0],
             Outcome::HopByHopNotAtStart,
-        ),
-    ];
-    check(&rt, rt.alloc(), &rows)
-}
-
-#[test]
-fn borrowed_headers_are_written_into_the_room_they_need(rt: HostRuntime) -> Result<(), Fail> {
-    let rows: [Row<'_>; 2] = [
-        (
-            "two fragment headers",
-            Item::Borrowed(
-                &[44, 255, 0, 255, 1, 2, 3, 4, 17, 255, 0, 6, 5, 6, 7, 8],
-                44,
-            ),
-            16,
-            &[44, 0, 0, 249, 1, 2, 3, 4, 17, 0, 0, 0, 5, 6, 7, 8],
-            Outcome::Written,
-        ),
-        (
-            "none",
-            Item::Borrowed(&[1, 2, 3], 17),
-            0,
-            &[],
-            Outcome::Written,
         ),
     ];
     check(&rt, rt.alloc(), &rows)

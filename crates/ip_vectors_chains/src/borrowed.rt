@@ -1,11 +1,11 @@
-//! Borrowed chains: the headers that fit six places, and the headers of a chain as they are written.
+//! Borrowed chains: the headers that fit six places, and copies of a chain with its reserved bits zero.
 use crate::chains::check_end;
 use crate::checks::{assert_bytes, assert_same, assert_that};
 use ip_base::IpNumber;
 use ip_base::err::Layer;
 use ip_ext_chains::err::ipv6_exts::{HeaderError, HeaderSliceError};
 use ip_ext_chains::{
-    Ipv6Extensions, Ipv6ExtensionsRuns, Ipv6ExtensionsSlice, fitting_headers, write_chain,
+    Ipv6Extensions, Ipv6ExtensionsRuns, Ipv6ExtensionsSlice, clear_chain, fitting_headers,
 };
 use ip_plain::{PlainHeader, fitting_len, plain_longest_chain};
 use std::alloc::{AllocError, Global};
@@ -30,7 +30,7 @@ struct Row<'a> {
 fn check(rt: &impl Abort, alloc: Global, row: &Row<'_>) -> Result<(), Fail> {
     check_plain(rt, alloc, row)?;
     check_fitting(rt, row);
-    check_writes(rt, alloc, row)?;
+    check_cleared(rt, alloc, row)?;
     check_runs(rt, row);
     Ok(())
 }
@@ -55,14 +55,22 @@ fn check_fitting(rt: &impl Abort, row: &Row<'_>) {
     );
 }
 
-/// Checks the bytes that are written for the headers that fit and for all headers, after three other bytes.
-fn check_writes(rt: &impl Abort, alloc: Global, row: &Row<'_>) -> Result<(), Fail> {
+/// Appends the headers of the chain with their reserved bits zero.
+fn push_cleared(headers: &Ipv6ExtensionsSlice<'_>, out: &mut Vec<u8>) -> Result<(), AllocError> {
+    let start = out.len();
+    out.extend_from_slice(headers.slice())?;
+    clear_chain(headers, &mut out.as_mut_slice()[start..]);
+    Ok(())
+}
+
+/// Checks the cleared bytes of the headers that fit and of all headers, after three other bytes.
+fn check_cleared(rt: &impl Abort, alloc: Global, row: &Row<'_>) -> Result<(), Fail> {
     let start = IpNumber(row.start);
     let (all, _, _, _) = Ipv6ExtensionsSlice::from_slice_lax(start, row.bytes);
     let (fitting, _, _, _) = fitting_headers(start, row.bytes);
     let mut out = Vec::from_slice(alloc, &[1, 2, 3])?;
-    write_chain(&all, &mut out)?;
-    write_chain(&fitting, &mut out)?;
+    push_cleared(&all, &mut out)?;
+    push_cleared(&fitting, &mut out)?;
     let mut expected = Vec::from_slice(alloc, &[1, 2, 3])?;
     expected.extend_from_slice(row.written)?;
     expected.extend_from_slice(row.written.get(..row.fitting).unwrap_or(&[]))?;
@@ -240,7 +248,7 @@ fn five_headers(alloc: Global, code: usize) -> Result<(u8, Vec<u8>), AllocError>
     Ok((next, bytes))
 }
 
-/// Checks that the headers that fit are those that the struct has, with the same end, and are written as it is.
+/// Checks that the headers that fit are those that the struct has, with the same end, and are cleared as it writes them.
 fn check_struct(rt: &impl Abort, alloc: Global, start: u8, bytes: &[u8]) -> Result<(), Fail> {
     let start = IpNumber(start);
     let (headers, number, rest, fault) = fitting_headers(start, bytes);
@@ -252,19 +260,20 @@ fn check_struct(rt: &impl Abort, alloc: Global, start: u8, bytes: &[u8]) -> Resu
         (next.0, left, &expected),
     );
     let mut borrowed = Vec::new(alloc);
-    write_chain(&headers, &mut borrowed)?;
+    push_cleared(&headers, &mut borrowed)?;
     let mut owned = Vec::new(alloc);
     exts.write(&mut owned, start)?;
     assert_bytes(rt, bytes, &borrowed, &owned);
     Ok(())
 }
 
-/// Checks that the longest chain is written as its runs are, one after the other, and has as many as are passed over.
+/// Checks that the longest chain is cleared as its runs write it, one after the other, and has as many as are passed
+/// over.
 fn check_all_runs(rt: &impl Abort, alloc: Global, start: u8, bytes: &[u8]) -> Result<(), Fail> {
     let start = IpNumber(start);
     let (headers, _, _, _) = Ipv6ExtensionsSlice::from_slice_lax(start, bytes);
     let mut borrowed = Vec::new(alloc);
-    write_chain(&headers, &mut borrowed)?;
+    push_cleared(&headers, &mut borrowed)?;
     let mut owned = Vec::new(alloc);
     let mut runs = Ipv6ExtensionsRuns::new(start, bytes);
     let mut passed = Ipv6ExtensionsRuns::new(start, bytes);

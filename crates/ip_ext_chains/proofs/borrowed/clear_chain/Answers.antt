@@ -1,6 +1,6 @@
 use Rattle.ip_spec.proofs.Common.{arith, ap, length}
 use Rattle.ip_ext_chains.proofs.ClearingLemmas.{room, clearing_more}
-use Rattle.ip_ext_chains.proofs.borrowed.clear_headers.Goals as goal
+use Rattle.ip_ext_chains.proofs.borrowed.clear_chain.Goals as goal
 
 pub slice_bounds-clear_reserved_bits-end : goal.slice_bounds-clear_reserved_bits-end
 slice_bounds-clear_reserved_bits-end c =

@@ -13,6 +13,7 @@ use ip_ext_headers::{
     Ipv6RawExtHeaderSlice, Ipv6RawExtensionHeader, Ipv6RawExtensionHeaderSlice,
     clear_reserved_bits,
 };
+use std::alloc::{AllocError, Global};
 use std::test::Fail;
 
 /// Returns bytes that differ from place to place, with the length byte, and with 1 and 2 from `end` on.
@@ -56,6 +57,13 @@ fn is_raw_header_of(header: &Ipv6RawExtHeader, bytes: &[u8]) -> bool {
         && header.to_bytes().as_slice() == bytes
 }
 
+/// Returns the bytes that the header appends.
+fn raw_written(header: &Ipv6RawExtHeader, alloc: Global) -> Result<Vec<u8>, AllocError> {
+    let mut out = Vec::new(alloc);
+    header.write(&mut out)?;
+    Ok(out)
+}
+
 /// Returns whether the slice agrees with the struct, and its copy with it.
 fn is_raw_slice_of(slice: &Ipv6RawExtHeaderSlice<'_>, header: &Ipv6RawExtHeader) -> bool {
     slice.next_header() == header.next_header
@@ -67,13 +75,16 @@ fn is_raw_slice_of(slice: &Ipv6RawExtHeaderSlice<'_>, header: &Ipv6RawExtHeader)
 
 #[test]
 fn raw_headers_truncated_everywhere(rt: HostRuntime) -> Result<(), Fail> {
-    for length in [0u8, 1, 17, 254, 255] {
+    // The payloads of lengths 2 to 7 have 22 to 62 bytes: longer than one block of 16, and copied in such blocks.
+    for length in [0u8, 1, 2, 3, 4, 5, 6, 7, 8, 17, 254, 255] {
         let end = (8 * (usize::from(length) + 1)).min(2048);
         let bytes = bytes_with(length, end);
         assert_that(&rt, length, are_truncated_raw_refused(&bytes[..end]));
         let (header, rest) = Ipv6RawExtHeader::from_slice(&bytes[..end + 2])?;
         assert_that(&rt, length, rest == [1, 2].as_slice());
         assert_that(&rt, length, is_raw_header_of(&header, &bytes[..end]));
+        let written = raw_written(&header, rt.alloc())?;
+        assert_bytes(&rt, length, &written, &bytes[..end]);
         assert_that(&rt, length, header.clone()? == header);
         let slice = Ipv6RawExtHeaderSlice::from_slice(&bytes)?;
         assert_that(&rt, length, is_raw_slice_of(&slice, &header));
@@ -117,6 +128,13 @@ fn is_auth_header_of(header: &IpAuthHeader, bytes: &[u8]) -> bool {
         && written.as_slice().ends_with(&bytes[4..])
 }
 
+/// Returns the bytes that the header appends.
+fn auth_written(header: &IpAuthHeader, alloc: Global) -> Result<Vec<u8>, AllocError> {
+    let mut out = Vec::new(alloc);
+    header.write(&mut out)?;
+    Ok(out)
+}
+
 /// Returns whether the slice agrees with the struct, and its copy with it.
 fn is_auth_slice_of(slice: &IpAuthHeaderSlice<'_>, header: &IpAuthHeader) -> bool {
     slice.next_header() == header.next_header
@@ -130,13 +148,16 @@ fn is_auth_slice_of(slice: &IpAuthHeaderSlice<'_>, header: &IpAuthHeader) -> boo
 
 #[test]
 fn authentication_headers_truncated_everywhere(rt: HostRuntime) -> Result<(), Fail> {
-    for length in [1u8, 2, 17, 18, 254, 255] {
+    // The check values of lengths 5 to 16 have 16 to 60 bytes, and are copied in blocks of 16.
+    for length in [1u8, 2, 3, 4, 5, 6, 8, 9, 12, 15, 16, 17, 18, 254, 255] {
         let end = (4 * (usize::from(length) + 2)).min(1028);
         let bytes = bytes_with(length, end);
         assert_that(&rt, length, are_truncated_auth_refused(&bytes[..end]));
         let (header, rest) = IpAuthHeader::from_slice(&bytes[..end + 2])?;
         assert_that(&rt, length, rest == [1, 2].as_slice());
         assert_that(&rt, length, is_auth_header_of(&header, &bytes[..end]));
+        let written = auth_written(&header, rt.alloc())?;
+        assert_bytes(&rt, length, &written, &header.to_bytes());
         assert_that(&rt, length, header.clone()? == header);
         let slice = IpAuthHeaderSlice::from_slice(&bytes)?;
         assert_that(&rt, length, is_auth_slice_of(&slice, &header));
@@ -385,5 +406,30 @@ fn debug_texts_of_owned_headers(rt: HostRuntime) -> Result<(), Fail> {
         got.as_str(),
         expected.as_str(),
     );
+    Ok(())
+}
+
+/// The text of a raw header on several lines, as Rust's derive prints these fields.
+const RAW_ON_LINES: &str = "Ipv6RawExtHeader {
+    payload: [
+        1,
+        2,
+        3,
+        4,
+        5,
+        6,
+    ],
+    next_header: 17,
+}";
+
+#[test]
+fn debug_texts_on_several_lines(rt: HostRuntime) -> Result<(), Fail> {
+    let mut raw = Ipv6RawExtHeader::new_raw(IpNumber(17), &[1, 2, 3, 4, 5, 6])?;
+    let got = format!(in rt.alloc(); "{raw:#?}")?;
+    assert_same(&rt, "6 bytes", got.as_str(), RAW_ON_LINES);
+    raw.set_payload(&[200; 62])?;
+    raw.set_payload(&[1, 2, 3, 4, 5, 6])?;
+    let got = format!(in rt.alloc(); "{raw:#?}")?;
+    assert_same(&rt, "6 bytes after 62", got.as_str(), RAW_ON_LINES);
     Ok(())
 }

@@ -10,6 +10,8 @@ mod chains;
 #[cfg(test)]
 mod checks;
 #[cfg(test)]
+mod debug_texts;
+#[cfg(test)]
 mod places;
 #[cfg(test)]
 mod readers;

@@ -1,10 +1,11 @@
 //! Walks, links and writes of the headers in six places.
-use crate::checks::{assert_bytes, assert_same};
+use crate::checks::{assert_bytes, assert_same, assert_that};
 use ip_base::{IpFragOffset, IpNumber};
 use ip_ext_chains::err::ipv6_exts::{ExtsWalkError, HeaderWriteError};
 use ip_ext_chains::{Ipv6Extensions, Ipv6RoutingExtensions};
 use ip_ext_headers::{IpAuthHeader, Ipv6FragmentHeader, Ipv6RawExtHeader};
 use std::alloc::{AllocError, Global};
+use std::process::Abort;
 use std::test::Fail;
 
 fn raw(next: u8) -> Ipv6RawExtHeader {
@@ -159,6 +160,89 @@ fn a_vector_grows_no_further_than_the_headers_need(rt: HostRuntime) -> Result<()
             reserved.reserve(exts.header_len())?;
             assert_same(&rt, room, written.capacity(), reserved.capacity());
         }
+    }
+    Ok(())
+}
+
+/// Appends bytes that count up from 100, and again from 100 after 156 of them.
+fn push_counting(out: &mut Vec<u8>, count: usize) -> Result<(), AllocError> {
+    for i in 0..count {
+        out.push(100 + (i % 156) as u8)?;
+    }
+    Ok(())
+}
+
+/// Appends a header in the uniform format (RFC 6564) with this number of units of 8 bytes after the first.
+fn push_raw(out: &mut Vec<u8>, next: u8, units: u8) -> Result<(), AllocError> {
+    out.extend_from_slice(&[next, units])?;
+    push_counting(out, 8 * usize::from(units) + 6)
+}
+
+/// Returns a chain that occupies all six places, with this many units of 8 bytes after the first in each raw header,
+/// and this many words of 4 bytes of check value.
+fn chain_of_six(alloc: Global, units: u8, words: u8) -> Result<Vec<u8>, AllocError> {
+    let mut out = Vec::new(alloc);
+    push_raw(&mut out, 60, units)?;
+    push_raw(&mut out, 43, units)?;
+    push_raw(&mut out, 44, units)?;
+    out.extend_from_slice(&[51, 0, 0, 9, 1, 2, 3, 4])?;
+    out.extend_from_slice(&[60, words.wrapping_add(1), 0, 0])?;
+    push_counting(&mut out, 4 * usize::from(words) + 8)?;
+    push_raw(&mut out, 17, units)?;
+    Ok(out)
+}
+
+/// Returns the payload of a header, and no bytes without one.
+fn payload_of(header: Option<&Ipv6RawExtHeader>) -> &[u8] {
+    match header {
+        Some(header) => header.payload(),
+        None => &[],
+    }
+}
+
+/// Checks that the raw headers have this payload, and the authentication header has this check value.
+fn check_payloads(rt: &impl Abort, row: u8, exts: &Ipv6Extensions, payload: &[u8], icv: &[u8]) {
+    let first = exts.hop_by_hop_options.as_ref();
+    assert_bytes(rt, (row, "hop-by-hop options"), payload_of(first), payload);
+    let before = exts.destination_options.as_ref();
+    assert_bytes(
+        rt,
+        (row, "destination options"),
+        payload_of(before),
+        payload,
+    );
+    if let Some(routing) = &exts.routing {
+        assert_bytes(rt, (row, "routing"), routing.routing.payload(), payload);
+        let after = routing.final_destination_options.as_ref();
+        assert_bytes(rt, (row, "final options"), payload_of(after), payload);
+    }
+    if let Some(auth) = &exts.auth {
+        assert_bytes(rt, (row, "check value"), auth.raw_icv(), icv);
+    }
+    assert_that(rt, row, exts.routing.is_some() && exts.auth.is_some());
+}
+
+/// Payloads of 6 to 70 bytes and check values of 0 to 68. Those of 16 to 63 bytes are copied in blocks of 16.
+#[test]
+fn each_byte_of_a_payload_comes_back(rt: HostRuntime) -> Result<(), Fail> {
+    let mut counting = Vec::new(rt.alloc());
+    push_counting(&mut counting, 80)?;
+    for words in 0..=17u8 {
+        let units = words / 2;
+        let bytes = chain_of_six(rt.alloc(), units, words)?;
+        let (exts, number, rest, fault) = Ipv6Extensions::from_slice_lax(IpNumber(0), &bytes);
+        assert_that(
+            &rt,
+            words,
+            number == IpNumber(17) && rest.is_empty() && fault.is_none(),
+        );
+        let payload = counting.get(..8 * usize::from(units) + 6).unwrap_or(&[]);
+        // The check value follows 8 counted bytes.
+        let icv = counting.get(8..8 + 4 * usize::from(words)).unwrap_or(&[]);
+        check_payloads(&rt, words, &exts, payload, icv);
+        let mut written = Vec::new(rt.alloc());
+        exts.write(&mut written, IpNumber(0))?;
+        assert_bytes(&rt, words, &written, &bytes);
     }
     Ok(())
 }

@@ -12,7 +12,11 @@ mod filters;
 #[cfg(test)]
 mod lengths_that_lie;
 #[cfg(test)]
+mod long_formulas;
+#[cfg(test)]
 mod packets;
+#[cfg(test)]
+mod plain_packets;
 #[cfg(test)]
 mod samples;
 #[cfg(test)]

@@ -9,7 +9,8 @@ use std::process::ExitCode;
 
 /// The text shown before the first line if standard input is a terminal.
 const LINES: &str =
-    "Lines: exts6 N HEX, exts4 N HEX, rewrite6 N HEX, rewriteall6 N HEX, packet HEX ('-' for no bytes); Ctrl-D ends.";
+    "Lines: exts6 N HEX, exts4 N HEX, rewrite6 N HEX, rewriteall6 N HEX, packet HEX, dissect HEX
+('-' for no bytes); Ctrl-D ends.";
 
 fn main(rt: HostRuntime) -> ExitCode {
     if rt.stdin().is_terminal() {

@@ -4,6 +4,7 @@ use crate::checks::assert_same;
 use crate::samples::{ipv4_bytes, ipv6_bytes};
 use ip_dissect::outline_plain_packet;
 use ip_filter::Filter;
+use std::alloc::Global;
 use std::process::Abort;
 use std::test::Fail;
 
@@ -274,16 +275,20 @@ const IPV6_FRAGMENTS_AND_ERRORS: [Ipv6Row; 8] = [
     ),
 ];
 
-#[test]
-fn ipv6_packets(rt: HostRuntime) -> Result<(), Fail> {
-    let tables: [&[Ipv6Row]; 3] = [&IPV6_PLAIN, &IPV6_HEADERS, &IPV6_FRAGMENTS_AND_ERRORS];
-    for table in tables {
-        for (payload_length, next_header, after, row) in table {
-            let bytes = ipv6_bytes(rt.alloc(), *payload_length, *next_header, after)?;
-            check(&rt, row, bytes.as_slice());
-        }
+/// Checks the rows of a table.
+fn check_ipv6(rt: &impl Abort, alloc: Global, table: &[Ipv6Row]) -> Result<(), Fail> {
+    for (payload_length, next_header, after, row) in table {
+        let bytes = ipv6_bytes(alloc, *payload_length, *next_header, after)?;
+        check(rt, row, bytes.as_slice());
     }
     Ok(())
+}
+
+#[test]
+fn ipv6_packets(rt: HostRuntime) -> Result<(), Fail> {
+    check_ipv6(&rt, rt.alloc(), &IPV6_PLAIN)?;
+    check_ipv6(&rt, rt.alloc(), &IPV6_HEADERS)?;
+    check_ipv6(&rt, rt.alloc(), &IPV6_FRAGMENTS_AND_ERRORS)
 }
 
 /// An IPv4 packet: its first byte, its total length, its flags and offset, its protocol, the bytes after the first 20,
@@ -517,16 +522,19 @@ const IPV4_OTHERS: [Ipv4Row; 10] = [
     ),
 ];
 
-#[test]
-fn ipv4_packets(rt: HostRuntime) -> Result<(), Fail> {
-    let tables: [&[Ipv4Row]; 2] = [&IPV4_PLAIN, &IPV4_OTHERS];
-    for table in tables {
-        for (first, total_len, fragment, protocol, after, row) in table {
-            let bytes = ipv4_bytes(rt.alloc(), *first, *total_len, *fragment, *protocol, after)?;
-            check(&rt, row, bytes.as_slice());
-        }
+/// Checks the rows of a table.
+fn check_ipv4(rt: &impl Abort, alloc: Global, table: &[Ipv4Row]) -> Result<(), Fail> {
+    for (first, total_len, fragment, protocol, after, row) in table {
+        let bytes = ipv4_bytes(alloc, *first, *total_len, *fragment, *protocol, after)?;
+        check(rt, row, bytes.as_slice());
     }
     Ok(())
+}
+
+#[test]
+fn ipv4_packets(rt: HostRuntime) -> Result<(), Fail> {
+    check_ipv4(&rt, rt.alloc(), &IPV4_PLAIN)?;
+    check_ipv4(&rt, rt.alloc(), &IPV4_OTHERS)
 }
 
 #[test]

@@ -1,4 +1,3 @@
 pub mod EqualLemmas
 pub mod FaultLemmas
 pub mod AuthLemmas
-mod CopyLemmas

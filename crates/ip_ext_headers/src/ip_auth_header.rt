@@ -18,15 +18,14 @@ ghost use Rattle.ip_ext_headers.specs.AuthReadError.{io_of};
 ghost use Rattle.ip_ext_headers.specs.AuthLimitedReadError.{io_of as limited_io_of};
 
 use crate::IpAuthHeaderSlice;
+use crate::appending::append;
 use crate::auth_parts::AuthParts;
-use crate::copying::copy;
 use crate::encodable::auth_encodable;
 use crate::err::ip_auth::{HeaderLimitedReadError, HeaderReadError, HeaderSliceError, IcvLenError};
 use arrayvec::ArrayVec;
 use ip_base::IpNumber;
 use ip_base::io::{ExactRead, LimitedReader};
 use std::alloc::{AllocError, Allocator};
-use std::fmt;
 use std::marker::Model;
 
 /// The name of this type in early versions of the interface.
@@ -39,12 +38,10 @@ pub type IpAuthenticationHeader = IpAuthHeader;
 
 /// An authentication header (RFC 4302, section 2). Its integrity check value with padding has 0 to 1016 bytes, a
 /// multiple of 4. In a contract it is the record of its four fields.
-#[derive(Drop)]
+#[derive(Debug, Drop)]
 pub struct IpAuthHeader {
-    // The check value and any bytes after it.
-    bytes: [u8; 1016],
-    // The check value's length, a `usize` as the payload's of `Ipv6RawExtHeader`.
-    icv_len: usize,
+    // First, so that no padding lies between it and the end of the header.
+    raw_icv: ArrayVec<u8, 1016>,
     /// The security parameters index, by which the receiver identifies the security association.
     pub spi: u32,
     /// The sender's packet counter.
@@ -54,7 +51,7 @@ pub struct IpAuthHeader {
 }
 
 impl Model for IpAuthHeader {
-    ghost use Rattle.std.specs.Prelude.{take};
+    ghost use Rattle.std.specs.Prelude.{length};
     ghost use Rattle.ip_spec.specs.Fields.{AuthFields};
     ghost use Rattle.ip_spec.specs.Lengths.{IsIcvLen};
 
@@ -64,10 +61,17 @@ impl Model for IpAuthHeader {
       next_header = h.next_header.0;
       spi = h.spi;
       sequence_number = h.sequence_number;
-      raw_icv = take h.icv_len h.bytes;
+      raw_icv = h.raw_icv.items;
     } };
 
-    ghost invariant = { λ h. IsIcvLen h.icv_len };
+    ghost invariant = { λ h. IsIcvLen (length h.raw_icv.items) };
+
+    ghost inverse = { λ v. record {
+      next_header = record { 0 = v.next_header };
+      spi = v.spi;
+      sequence_number = v.sequence_number;
+      raw_icv = record { items = v.raw_icv };
+    } };
 }
 
 impl IpAuthHeader {
@@ -285,12 +289,10 @@ impl IpAuthHeader {
     pub(crate) fn of_parts(parts: AuthParts<'_>) -> IpAuthHeader
         ensures { result ≡ fields_in parts.entry }
     {
-        let raw_icv = parts.raw_icv;
-        let mut bytes = [0; Self::MAX_ICV_LEN];
-        bytes[..raw_icv.len()].copy_from_slice(raw_icv);
+        let mut raw_icv = ArrayVec::new();
+        let _ = raw_icv.try_extend_from_slice(parts.raw_icv);
         IpAuthHeader {
-            bytes,
-            icv_len: raw_icv.len(),
+            raw_icv,
             spi: parts.spi,
             sequence_number: parts.sequence_number,
             next_header: parts.next_header,
@@ -302,7 +304,7 @@ impl IpAuthHeader {
         ensures icv { result.now ≡ self.now.raw_icv }
         ensures allowed { IsIcvLen (length result.now) }
     {
-        &self.bytes[..self.icv_len]
+        self.raw_icv.as_slice()
     }
 
     /// Sets the check value, which has an allowed length.
@@ -311,20 +313,19 @@ impl IpAuthHeader {
         requires { IsIcvLen (length raw_icv.now) }
         ensures { self.new ≡ record self.old { raw_icv = raw_icv.now } }
     {
-        self.bytes[..raw_icv.len()].copy_from_slice(raw_icv);
-        self.icv_len = raw_icv.len();
+        self.raw_icv.clear();
+        let _ = self.raw_icv.try_extend_from_slice(raw_icv);
     }
 
-    /// Sets the check value, as `set` does, by `copy`: a larger value that contains the header then isn't moved.
-    #[inline(always)]
+    /// Sets the check value as `set` does, in a larger value that isn't moved (docs/DECISIONS.md, "Moves of large
+    /// values").
+    #[inline]
     pub(crate) fn set_in_place(&mut self, raw_icv: &[u8])
         requires { IsIcvLen (length raw_icv.now) }
         ensures { self.new ≡ record self.old { raw_icv = raw_icv.now } }
     {
-        if !raw_icv.is_empty() {
-            copy(&mut self.bytes[..raw_icv.len()], raw_icv);
-        }
-        self.icv_len = raw_icv.len();
+        self.raw_icv.clear();
+        append(&mut self.raw_icv, raw_icv);
     }
 
     /// Sets the check value. Returns an error, in this order, if it has more than 1016 bytes, or a number of bytes
@@ -404,14 +405,13 @@ impl IpAuthHeader {
     fn first_bytes(&self) -> [u8; 12]
         ensures { IsAuthEncoding self.now (result ++ self.now.raw_icv) }
     {
-        let raw_icv = self.raw_icv();
         let spi = self.spi;
         let sequence_number = self.sequence_number;
         let [spi0, spi1, spi2, spi3] = spi.to_be_bytes();
         let [seq0, seq1, seq2, seq3] = sequence_number.to_be_bytes();
         [
             self.next_header.0,
-            (raw_icv.len() / 4) as u8 + 1,
+            (self.raw_icv.len() / 4) as u8 + 1,
             0,
             0,
             spi0,
@@ -423,17 +423,6 @@ impl IpAuthHeader {
             seq2,
             seq3,
         ]
-    }
-}
-
-impl fmt::Debug for IpAuthHeader {
-    fn fmt<W: fmt::Write>(&self, f: &mut fmt::Formatter<W>) -> fmt::Result {
-        f.debug_struct("IpAuthHeader")
-            .field("raw_icv", &self.raw_icv())
-            .field("spi", &self.spi)
-            .field("sequence_number", &self.sequence_number)
-            .field("next_header", &self.next_header)
-            .finish()
     }
 }
 
@@ -460,11 +449,10 @@ impl Default for IpAuthHeader {
     ghost is_default = { λ h.
         h ≡ record { next_header = 255; spi = 0; sequence_number = 0; raw_icv = [] } };
 
-    #[inline(always)]
+    #[inline]
     fn default() -> IpAuthHeader {
         IpAuthHeader {
-            bytes: [0; Self::MAX_ICV_LEN],
-            icv_len: 0,
+            raw_icv: ArrayVec::new(),
             spi: 0,
             sequence_number: 0,
             next_header: IpNumber(255),

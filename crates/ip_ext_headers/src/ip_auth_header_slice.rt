@@ -109,7 +109,7 @@ impl<'a> IpAuthHeaderSlice<'a> {
         })
     }
 
-    /// Sets `header` to this header, in its place, as `copy_to` of `Ipv6RawExtHeaderSlice` does.
+    /// Sets `header` to this header, in its place. A larger value that contains it isn't moved.
     #[inline(always)]
     pub fn copy_to(&self, header: &mut IpAuthHeader)
         ensures { header.new ≡ auth_fields (bytes self.now) }

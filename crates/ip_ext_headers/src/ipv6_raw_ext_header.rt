@@ -1,4 +1,4 @@
-ghost use Rattle.std.specs.Prelude.{◌≡◌, ◌≤◌, ◌<◌, ◌+◌, ◌*◌, ◌++◌, ◌↔◌, ◌⊎◌, ℕ, List, length, drop, replicate, IsTrue, IsOk, OnOk, OnErr, IfOk, IfErr, vec_len, vec_capacity, IfSome};
+ghost use Rattle.std.specs.Prelude.{◌≡◌, ◌≤◌, ◌<◌, ◌+◌, ◌*◌, ◌++◌, [], ◌↔◌, ◌⊎◌, ℕ, List, length, drop, replicate, IsTrue, IsOk, OnOk, OnErr, IfOk, IfErr, vec_len, vec_capacity, IfSome};
 ghost use Rattle.std.specs.Io.KnownBytes.{Consumes};
 ghost use Rattle.ip_spec.specs.Numbers.{HOP_BY_HOP, ROUTING, DESTINATION_OPTIONS};
 ghost use Rattle.ip_base.specs.Prefix.{IsPrefix, NoPrefix};
@@ -17,7 +17,7 @@ ghost use Rattle.ip_base.specs.declared.err.layer.Layer.TheVariants.{Ipv6ExtHead
 ghost use Rattle.ip_base.specs.LimitedReadError.{io_of};
 
 use crate::Ipv6RawExtHeaderSlice;
-use crate::copying::copy;
+use crate::appending::append;
 use crate::encodable::raw_encodable;
 use crate::err::ipv6_exts::ExtPayloadLenError;
 use arrayvec::ArrayVec;
@@ -26,8 +26,8 @@ use ip_base::err::io::LimitedReadError;
 use ip_base::err::{Layer, LenError};
 use ip_base::io::{ExactRead, LimitedReader};
 use std::alloc::{AllocError, Allocator};
+use std::io;
 use std::marker::Model;
-use std::{fmt, io};
 
 /// The name of this type in earlier versions of the interface.
 #[deprecated(note = "use `Ipv6RawExtHeader`")]
@@ -36,30 +36,29 @@ pub type Ipv6RawExtensionHeader = Ipv6RawExtHeader;
 /// An IPv6 header in the uniform format (RFC 6564): hop-by-hop options, routing or destination options (RFC 8200,
 /// sections 4.3, 4.4, 4.6). Its payload, the bytes after the next header and length fields, has 6 to 2046 bytes; with
 /// those two bytes its length is a multiple of 8. In a contract it is the record of its next header and its payload.
-#[derive(Drop)]
+#[derive(Debug, Drop)]
 pub struct Ipv6RawExtHeader {
-    // The payload and any bytes after it.
-    bytes: [u8; 2046],
+    // First, so that no padding lies between it and the end of the header.
+    payload: ArrayVec<u8, 2046>,
     /// The next header field.
     pub next_header: IpNumber,
-    // The payload's length. A `usize`, so that a header is aligned as the results are that return one: where the two
-    // differ, the compiler moves a header once more (28 ns), and the 9 KB of six places, too.
-    payload_len: usize,
 }
 
 impl Model for Ipv6RawExtHeader {
-    ghost use Rattle.std.specs.Prelude.{take};
+    ghost use Rattle.std.specs.Prelude.{length};
     ghost use Rattle.ip_spec.specs.Fields.{RawFields};
     ghost use Rattle.ip_spec.specs.Lengths.{IsPayloadLen};
 
     ghost Value = { RawFields };
 
-    ghost view = { λ h. record {
-      next_header = h.next_header.0;
-      payload = take h.payload_len h.bytes;
-    } };
+    ghost view = { λ h. record { next_header = h.next_header.0; payload = h.payload.items } };
 
-    ghost invariant = { λ h. IsPayloadLen h.payload_len };
+    ghost invariant = { λ h. IsPayloadLen (length h.payload.items) };
+
+    ghost inverse = { λ v. record {
+      next_header = record { 0 = v.next_header };
+      payload = record { items = v.payload };
+    } };
 }
 
 impl Ipv6RawExtHeader {
@@ -111,12 +110,11 @@ impl Ipv6RawExtHeader {
         requires { IsPayloadLen (length payload.now) }
         ensures { result ≡ record { next_header = next_header.0; payload = payload.now } }
     {
-        let mut bytes = [0; Self::MAX_PAYLOAD_LEN];
-        bytes[..payload.len()].copy_from_slice(payload);
+        let mut bytes = ArrayVec::new();
+        let _ = bytes.try_extend_from_slice(payload);
         Ipv6RawExtHeader {
-            bytes,
+            payload: bytes,
             next_header,
-            payload_len: payload.len(),
         }
     }
 
@@ -179,8 +177,7 @@ impl Ipv6RawExtHeader {
         }
     }
 
-    /// Returns the header that was read. It is filled in place, 30 ns: made of an array, as by `with_payload`, it would
-    /// be moved three times, 28 ns each.
+    /// Returns the header that was read, which is made in its place (docs/DECISIONS.md, "Moves of large values").
     #[inline(always)]
     fn of_read(next_header: IpNumber, payload: &[u8]) -> Ipv6RawExtHeader
         requires { IsPayloadLen (length payload.now) }
@@ -220,7 +217,6 @@ impl Ipv6RawExtHeader {
         let mut buffer = [0; Self::MAX_PAYLOAD_LEN];
         let payload = &mut buffer[..8 * usize::from(hdr_ext_len) + 6];
         match reader.read_exact(payload) {
-            // Filled in place as in `read`, it would be moved as often as this.
             Ok(()) => Ok(Self::with_payload(IpNumber(next_header), payload)),
             Err(e) => Err(e),
         }
@@ -231,7 +227,7 @@ impl Ipv6RawExtHeader {
         ensures payload { result.now ≡ self.now.payload }
         ensures allowed { IsPayloadLen (length result.now) }
     {
-        &self.bytes[..self.payload_len]
+        self.payload.as_slice()
     }
 
     /// Sets the payload, which has an allowed length.
@@ -240,18 +236,18 @@ impl Ipv6RawExtHeader {
         requires { IsPayloadLen (length payload.now) }
         ensures { self.new ≡ record self.old { payload = payload.now } }
     {
-        self.bytes[..payload.len()].copy_from_slice(payload);
-        self.payload_len = payload.len();
+        self.payload.clear();
+        let _ = self.payload.try_extend_from_slice(payload);
     }
 
-    /// Sets the payload, as `set` does, by `copy`: a larger value that contains the header then isn't moved.
-    #[inline(always)]
+    /// Sets the payload as `set` does, in a larger value that isn't moved (docs/DECISIONS.md, "Moves of large values").
+    #[inline]
     pub(crate) fn set_in_place(&mut self, payload: &[u8])
         requires { IsPayloadLen (length payload.now) }
         ensures { self.new ≡ record self.old { payload = payload.now } }
     {
-        copy(&mut self.bytes[..payload.len()], payload);
-        self.payload_len = payload.len();
+        self.payload.clear();
+        append(&mut self.payload, payload);
     }
 
     /// Sets the payload. Returns an error, in this order, if it has fewer than 6 bytes, more than 2046, or if its
@@ -350,16 +346,7 @@ impl Ipv6RawExtHeader {
     fn hdr_ext_len(&self) -> u8
         ensures { raw_len self.now ≡ 8 * (result + 1) }
     {
-        ((self.payload().len() - 6) / 8) as u8
-    }
-}
-
-impl fmt::Debug for Ipv6RawExtHeader {
-    fn fmt<W: fmt::Write>(&self, f: &mut fmt::Formatter<W>) -> fmt::Result {
-        f.debug_struct("Ipv6RawExtHeader")
-            .field("payload", &self.payload())
-            .field("next_header", &self.next_header)
-            .finish()
+        ((self.payload.len() - 6) / 8) as u8
     }
 }
 
@@ -380,12 +367,14 @@ impl Default for Ipv6RawExtHeader {
 
     ghost is_default = { λ h. h ≡ record { next_header = 255; payload = replicate 6 0 } };
 
-    #[inline(always)]
+    // Inlined once it has been optimized: it is then one store of zeros (docs/DECISIONS.md, "Moves of large values").
+    #[inline]
     fn default() -> Ipv6RawExtHeader {
+        let mut payload = ArrayVec::new();
+        push_zeros(&mut payload);
         Ipv6RawExtHeader {
-            bytes: [0; Self::MAX_PAYLOAD_LEN],
+            payload,
             next_header: IpNumber(255),
-            payload_len: 6,
         }
     }
 }
@@ -413,4 +402,15 @@ impl Eq for Ipv6RawExtHeader {
     ghost use Rattle.std.proofs.Common.{rules};
 
     ghost laws = { Prim.search (comparing, rules) };
+}
+
+/// Appends the zeros of the shortest payload.
+#[inline]
+fn push_zeros(payload: &mut ArrayVec<u8, 2046>)
+    requires { payload.old.items ≡ [] }
+    ensures { payload.new.items ≡ replicate 6 0 }
+{
+    for _ in 0..Ipv6RawExtHeader::MIN_PAYLOAD_LEN {
+        payload.push(0);
+    }
 }

@@ -96,8 +96,8 @@ impl<'a> Ipv6RawExtHeaderSlice<'a> {
         Ipv6RawExtHeader::with_payload(self.next_header(), self.payload())
     }
 
-    /// Sets `header` to this header, in its place. In a larger value, such as six places, that takes 35 ns less than
-    /// to move the header of `to_header` there.
+    /// Sets `header` to this header, in its place. A larger value that contains it, such as six places, isn't moved, as
+    /// it is if the header of `to_header` is assigned.
     #[inline(always)]
     pub fn copy_to(&self, header: &mut Ipv6RawExtHeader)
         ensures { header.new ≡ raw_fields (bytes self.now) }

@@ -3,8 +3,8 @@
 //! 4). A header slice borrows the caller's bytes, and its bytes are exactly one header.
 #![tactic(auto)]
 
+mod appending;
 mod auth_parts;
-mod copying;
 mod encodable;
 pub mod err;
 mod fragment_bits;

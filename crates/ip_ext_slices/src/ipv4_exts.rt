@@ -104,10 +104,7 @@ impl Ipv4Extensions {
         };
         self.auth = Some(IpAuthHeader::default());
         if let Some(header) = &mut self.auth {
-            header.next_header = slice.next_header();
-            header.spi = slice.spi();
-            header.sequence_number = slice.sequence_number();
-            let _ = header.set_raw_icv(slice.raw_icv());
+            slice.copy_to(header);
         }
     }
 

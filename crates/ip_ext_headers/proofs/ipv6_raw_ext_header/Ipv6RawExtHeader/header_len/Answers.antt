@@ -1,4 +1,4 @@
-use Rattle.ip_spec.proofs.Common.{ℕ, List, ap, ◌∙◌, subst, RawFields, IsRawNumber, raw_header, ExtHeader, IsEncoded}
+use Rattle.ip_spec.proofs.Common.{◌≡◌, ℕ, List, ap, ◌∙◌, subst, RawFields, IsRawNumber, raw_header, ExtHeader, IsEncoded}
 use Rattle.ip_ext_headers.proofs.ipv6_raw_ext_header.Ipv6RawExtHeader.header_len.Goals as goal
 
 pub returns-clause-encodable : goal.returns-clause-encodable

@@ -1,23 +1,19 @@
 -- The headers that a walk over a struct of six places has reached and written.
-use Rattle.ip_spec.proofs.Common.{rules, common_steps, ◌≡◌, ℕ, ◌+◌, ◌<◌, ◌≤◌, List, ◌∷◌, ◌++◌, length, ap, arith, append_assoc, true, [], Option, Some, None, IfSome, IfNone, append-nil, AppendsOne, ExtHeader, bytes_of, number_in, HeaderFields, IsEncoded, IsEncodable, fields_len, placed_len, IsLongestOf, PlacedFields, IsReachable, answer_at, IsWalkAnswer, IsEncodingOf}
+use Rattle.ip_spec.proofs.Common.{rules, common_steps, refl, ◌≡◌, ℕ, ◌+◌, ◌<◌, List, ◌∷◌, ◌++◌, ap, arith, append_assoc, true, [], Option, Some, None, is_some, IfSome, IfNone, append-nil, AppendsOne, ExtHeader, bytes_of, places, number_in, HeaderFields, IsEncoded, IsEncodable, fields_len, placed_len, IsLongestOf, PlacedFields, IsReachable, answer_at, IsWalkAnswer, IsEncodingOf}
+use Rattle.std.specs.List.{find}
 use Rattle.ip_spec.proofs.StepLemmas.{bytes_of-more}
 use Rattle.ip_spec.proofs.EncodedLemmas.{encoding_is}
 use Rattle.ip_spec.proofs.WalkLemmas.{WalkAnswer}
-use Rattle.ip_spec.proofs.WalkStepLemmas.{FillsIn, Walking, walk_begins, walks_on, walk_stops, walk_answers, same_held}
+use Rattle.ip_spec.proofs.SpellingLemmas.{nothing_filled}
+use Rattle.ip_spec.proofs.WalkStepLemmas.{FillsIn, walk_begins, walks_on, walk_stops, walk_answers, same_held, free_in_chain}
 use Rattle.ip_spec.proofs.LinkLemmas.{next_said}
 use Rattle.ip_spec.proofs.SumLemmas.{sum_placed, sum_left}
 use Rattle.ip_ext_chains.specs.Slots.{at, IsVacant}
 use Rattle.ip_ext_chains.specs.Ipv6Extensions.{placed_fields}
 use Rattle.ip_ext_chains.specs.HeaderRef.{fields_of_ref}
-use Rattle.ip_ext_chains.specs.ExtsWalk.{left_in, IsStep, IsStop}
+use Rattle.ip_ext_chains.specs.ExtsWalk.{left_in, IsStep, IsStop, Walked, HasWritten, IsWalkWritten}
 use Rattle.ip_ext_chains.specs.declared.header_ref.HeaderRef.{HeaderRef}
 use Rattle.ip_ext_chains.specs.declared.walk.Walk.{Walk}
-
--- some headers were reached from f in v, and w is the walk after them
-pub record Walked (v : PlacedFields) (f : ℕ) (w : Walk) : Type 0 where
-  pub reached : List ExtHeader
-  pub walking : Walking v f reached (λ p. at p w.reached) w.number.0 w.first
-  pub value : placed_fields w.headers.now ≡ v
 
 abbrev pub walked_none : (v : PlacedFields) (f : ℕ) (w : Walk) → placed_fields w.headers.now ≡ v → w.number.0 ≡ f → w.first ≡ true → IsVacant w.reached → Walked v f w
 walked_none v f w value number first vacant = search (rules, walk_begins v f (λ p. at p w.reached) vacant)
@@ -63,37 +59,49 @@ module _ (v : PlacedFields) (f : ℕ) (old new : Walk) (k : Walked v f old) (s :
   pub walked_reach : IsLongestOf (IsReachable v f) k.reached
   walked_reach = search (rules, walk_stops v f k.reached (λ p. at p old.reached) old.number.0 old.first k.walking, s.none)
 
--- The headers reached were appended to `before`, and there is room for the remaining ones.
-pub record Written (v : PlacedFields) (f : ℕ) (w : Walk) (before now : List ℕ) (room : ℕ) : Type 0 where
-  pub walked : Walked v f w
-  pub appended : now ≡ before ++ bytes_of walked.reached
-  pub fits : length now + placed_len (left_in w) ≤ room
-
 -- The next header was reached, and its bytes were appended.
-pub written_more : (v : PlacedFields) (f : ℕ) → IsEncodable v → (old new : Walk) (x : HeaderFields) → IsStep old new x → (before now more : List ℕ) (room larger : ℕ) → Written v f old before now room
-    → AppendsOne (IsEncodingOf x) now more → length more + placed_len (left_in new) ≤ larger → Written v f new before more larger
-written_more v f e old new x s before now more room larger k a fits =
+pub written_more : (v : PlacedFields) (f : ℕ) → IsEncodable v → (old new : Walk) (x : HeaderFields) → IsStep old new x → (before now more : List ℕ) → HasWritten v f old before now
+    → AppendsOne (IsEncodingOf x) now more → HasWritten v f new before more
+written_more v f e old new x s before now more k a =
     let h = encoded old new x s v f e k.walked in
     let c = k.walked.reached in
     record {
       walked = walked_more old new x s v f e k.walked;
       appended = cc (k.appended, append_assoc before (bytes_of c) a.0, encoding_is _ x h.0 a.0 h.1 a.1, bytes_of-more c h.0);
-      fits = fits;
     }
 
 -- a place was checked: its header was reached and its bytes appended, or everything is unchanged
-pub written_in : (v : PlacedFields) (f : ℕ) → IsEncodable v → (old new : Walk) (before now more : List ℕ) (room larger : ℕ) (r : Option HeaderRef)
+pub written_in : (v : PlacedFields) (f : ℕ) → IsEncodable v → (old new : Walk) (before now more : List ℕ) (r : Option HeaderRef)
     → IfSome r (λ h. IsStep old new (fields_of_ref h)) → IfSome r (λ h. AppendsOne (IsEncodingOf (fields_of_ref h)) now more) → IfNone r (new ≡ old) → IfNone r (more ≡ now)
-    → length more + placed_len (left_in new) ≤ larger → Written v f old before now room → Written v f new before more larger
-written_in v f e old new before now more room larger (Some h) some appended none same fits k = search (rules, written_more)
-written_in v f e old new before now more room larger None some appended none same fits k = rw none (record { walked = k.walked; appended = cc; fits = grind (arith, common_steps) })
+    → HasWritten v f old before now → HasWritten v f new before more
+written_in v f e old new before now more (Some h) some appended none same k = search (rules, written_more)
+written_in v f e old new before now more None some appended none same k = rw none (record { walked = k.walked; appended = cc })
+
+-- no header follows: all that are reached were written
+pub written_walk : (v : PlacedFields) (f : ℕ) (old new : Walk) (before now : List ℕ) → HasWritten v f old before now → IsStop old new
+    → (a : WalkAnswer) → a ≡ answer_at new.number.0 (left_in new) → IsWalkWritten v f before now a
+written_walk v f old new before now k s a e =
+    record {
+      reached = k.walked.reached;
+      is_reached = walked_reach v f old new k.walked s;
+      answer = walked_answer v f old new k.walked s a e;
+      appended = k.appended;
+    }
+
+-- if no header is left, none follows
+pub stop_where_none : (w : Walk) → find (λ p. is_some (left_in w p)) places ≡ None → IsStop w w
+stop_where_none w e =
+    record {
+      none = λ p own. search (rules, free_in_chain (placed_fields w.headers.now) (λ q. at q w.reached) w.number.0 w.first p own, nothing_filled (left_in w) e p);
+      left = λ p. refl;
+      number = refl;
+    }
 
 -- a new walk has everything left
 pub left_len : (v : PlacedFields) (w : Walk) → placed_fields w.headers.now ≡ v → IsVacant w.reached → placed_len (left_in w) ≡ placed_len v
 left_len v w value vacant = ap placed_len (same_held (left_in w) v (λ p. cc (vacant p)))
 
 pub written_none : (v : PlacedFields) (f : ℕ) (w : Walk) → placed_fields w.headers.now ≡ v → w.number.0 ≡ f → w.first ≡ true → IsVacant w.reached
-    → (before now : List ℕ) (room : ℕ) → now ≡ before → length now + placed_len v ≤ room → Written v f w before now room
-written_none v f w value number first vacant before now room same fits =
-    let walked = walked_none v f w value number first vacant in
-    record { walked = walked; appended = cc (append-nil before); fits = omega (arith, fits, left_len v w value vacant) }
+    → (before now : List ℕ) → now ≡ before → HasWritten v f w before now
+written_none v f w value number first vacant before now same =
+    record { walked = walked_none v f w value number first vacant; appended = cc (append-nil before) }

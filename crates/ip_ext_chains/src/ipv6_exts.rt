@@ -154,7 +154,7 @@ impl Ipv6Extensions {
 
     /// Returns the headers' length in bytes, 0 to 9228. Each header can be written: the ranges of its fields
     /// guarantee it.
-    // Kept out of line, so that `write` has few uses of the struct's address, as `append_raw` is.
+    // Kept out of line, so that six places aren't moved (docs/DECISIONS.md, "Moves of large values").
     #[inline(never)]
     pub fn header_len(&self) -> usize
         ensures len { result ≡ exts_len self.now }
@@ -191,8 +191,8 @@ impl Ipv6Extensions {
     }
 }
 
-/// Stores the header, if there is one, in the place, which is free. `put_raw`, `put_routing` and `put_auth` make the
-/// header in its place, so its bytes are cleared once and not moved.
+/// Stores the header, if there is one, in the place, which is free. It is made there (docs/DECISIONS.md, "Moves of
+/// large values").
 #[inline(always)]
 fn put_raw(place: &mut Option<Ipv6RawExtHeader>, header: Option<&Ipv6RawExtHeaderSlice<'_>>)
     requires { place.old ≡ None }

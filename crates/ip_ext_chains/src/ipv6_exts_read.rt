@@ -59,7 +59,7 @@ impl Ipv6Extensions {
     }
 
     /// Reads the headers into their places, which are all free, and returns the number of what follows them. It is
-    /// kept out of line: with the loop in `read`, the struct would be cleared and moved once more.
+    /// kept out of line, so that the struct isn't moved (docs/DECISIONS.md, "Moves of large values").
     #[inline(never)]
     fn read_headers<S: HeaderSource>(
         &mut self,

@@ -1,10 +1,10 @@
 ghost use Rattle.std.specs.Prelude.{◌≡◌, ◌≤◌, ◌<◌, ◌↔◌, ◌+◌, ◌++◌, ℕ, List, None, Ok, Err, OnOk, IfSome, IfNone, vec_len, vec_capacity};
 ghost use Rattle.ip_spec.specs.Header.{IsExtensionNumber};
 ghost use Rattle.ip_spec.specs.Encoding.{AreBytes, AppendsOne, cleared_chain};
-ghost use Rattle.ip_spec.specs.Encodable.{placed_len};
+ghost use Rattle.ip_spec.specs.Encodable.{IsEncodable, placed_len};
 ghost use Rattle.ip_spec.specs.Chain.{ExtHeader, bytes_of};
 ghost use Rattle.ip_spec.specs.Places.{Place as spec_place, places};
-ghost use Rattle.ip_spec.specs.Walk.{IsSpelling, IsWalkAnswer};
+ghost use Rattle.ip_spec.specs.Walk.{PlacedFields, IsSpelling, IsWalkAnswer};
 ghost use Rattle.ip_spec.specs.Fits.{FitsPlaces};
 ghost use Rattle.ip_spec.specs.Parse.{IsParsed};
 ghost use Rattle.ip_spec.specs.Links.{first_number, linked};
@@ -12,7 +12,7 @@ ghost use Rattle.ip_spec.specs.WalkStep.{IsEncodingOf};
 ghost use Rattle.ip_ext_chains.specs.HeaderRef.{fields_of_ref};
 ghost use Rattle.ip_ext_chains.specs.Fitting.{fitting_chain, IsFittingAnswer};
 ghost use Rattle.ip_ext_chains.specs.Ipv6Extensions.{placed_fields, value_of, exts_len};
-ghost use Rattle.ip_ext_chains.specs.ExtsWalk.{left_in, IsStep};
+ghost use Rattle.ip_ext_chains.specs.ExtsWalk.{left_in, IsStep, HasWritten, IsWalkWritten};
 ghost use Rattle.ip_ext_chains.specs.Write.{IsWritten, IsWalkFault};
 ghost use Rattle.ip_ext_chains.specs.declared.err.ipv6_exts.header_write_error.HeaderWriteError.TheVariants.{Io, Content};
 
@@ -106,6 +106,26 @@ impl Ipv6Extensions {
         if let Err(refused) = out.reserve(self.header_len()) {
             return Err(HeaderWriteError::Io(refused));
         }
+        match self.append(first, out) {
+            Ok(_) => Ok(()),
+            Err(fault) => Err(HeaderWriteError::Content(fault)),
+        }
+    }
+
+    /// Appends the headers in the order of a walk from the number `first`, and returns the result of the walk. The
+    /// vector must have room for all headers.
+    #[inline(always)]
+    fn append<A: Allocator>(
+        &self,
+        first: IpNumber,
+        out: &mut Vec<u8, A>,
+    ) -> Result<IpNumber, ExtsWalkError>
+        requires room { vec_len out.old + exts_len self.now ≤ vec_capacity out.old }
+        requires encodable { IsEncodable (placed_fields self.now) }
+        ensures written { IsWalkWritten (placed_fields self.now) first.0
+            out.old.items out.new.items result }
+        ensures capacity { vec_capacity out.old ≤ vec_capacity out.new }
+    {
         let mut walk = Walk::new(self, first);
         let _ = append_next(&mut walk, Place::HopByHop, out);
         let _ = append_next(&mut walk, Place::Destination, out);
@@ -113,13 +133,7 @@ impl Ipv6Extensions {
         let _ = append_next(&mut walk, Place::Fragment, out);
         let _ = append_next(&mut walk, Place::Authentication, out);
         let _ = append_next(&mut walk, Place::FinalDestination, out);
-        'headers: while let Some(header) = walk.next() {
-            header.append(out);
-        }
-        match walk.answer() {
-            Ok(_) => Ok(()),
-            Err(fault) => Err(HeaderWriteError::Content(fault)),
-        }
+        append_left(walk, out)
     }
 }
 
@@ -142,4 +156,42 @@ fn append_next<'a, A: Allocator>(
     let header = walk.next_in(place)?;
     header.append(out);
     Some(header)
+}
+
+/// Appends the bytes of the headers that the walk reaches from here, and returns the result of the walk.
+#[inline(always)]
+fn append_left<A: Allocator>(
+    walk: Walk<'_>,
+    out: &mut Vec<u8, A>,
+) -> Result<IpNumber, ExtsWalkError>
+    requires room { vec_len out.old + placed_len (left_in walk) ≤ vec_capacity out.old }
+    ensures written { (v : PlacedFields) (f : ℕ) (before : List ℕ) → IsEncodable v
+        → HasWritten v f walk.entry before out.old.items
+        → IsWalkWritten v f before out.new.items result }
+    ensures capacity { vec_capacity out.old ≤ vec_capacity out.new }
+{
+    // Headers linked in the order of the places, the usual case, have all been reached.
+    if walk.first_left().is_none() {
+        return Ok(walk.number());
+    }
+    append_others(walk, out)
+}
+
+/// Appends the bytes of the headers in the order of the walk, and returns its result. It is kept out of line, so that
+/// six places that are written aren't moved (docs/DECISIONS.md, "Moves of large values").
+#[inline(never)]
+fn append_others<A: Allocator>(
+    mut walk: Walk<'_>,
+    out: &mut Vec<u8, A>,
+) -> Result<IpNumber, ExtsWalkError>
+    requires room { vec_len out.old + placed_len (left_in walk) ≤ vec_capacity out.old }
+    ensures written { (v : PlacedFields) (f : ℕ) (before : List ℕ) → IsEncodable v
+        → HasWritten v f walk.entry before out.old.items
+        → IsWalkWritten v f before out.new.items result }
+    ensures capacity { vec_capacity out.old ≤ vec_capacity out.new }
+{
+    'headers: while let Some(header) = walk.next() {
+        header.append(out);
+    }
+    walk.answer()
 }

@@ -133,9 +133,17 @@ impl<'a> Walk<'a> {
         header_in(self.headers, place)
     }
 
+    /// Returns the number that was reached.
+    #[inline(always)]
+    pub(crate) fn number(&self) -> IpNumber
+        ensures { result ≡ self.now.number }
+    {
+        self.number
+    }
+
     /// Returns the first place, in order, whose header isn't reached.
     #[inline(always)]
-    fn first_left(&self) -> Option<Place>
+    pub(crate) fn first_left(&self) -> Option<Place>
         ensures { option_map as_place result ≡ find (λ p. is_some (left_in self.now p)) places }
     {
         if self.left(Place::HopByHop).is_some() {

@@ -8,7 +8,7 @@ use etherparse_ip::io::LimitedReader;
 use etherparse_ip::{
     IpAuthHeaderSlice, IpNumber, IpSlice, Ipv4Extensions, Ipv4ExtensionsSlice, Ipv4Slice,
     Ipv6Extensions, Ipv6ExtensionsRuns, Ipv6ExtensionsSlice, Ipv6RawExtHeader,
-    Ipv6RawExtHeaderSlice, Ipv6Slice, LenSource, fitting_headers,
+    Ipv6RawExtHeaderSlice, Ipv6Slice, LenSource, clear_chain, fitting_headers,
 };
 use linked_list_allocator::LocalHeap;
 use std::process::Abort;
@@ -210,6 +210,20 @@ fn links_and_runs(rt: HostRuntime) -> Result<(), Fail> {
     let fault = Some((error, Layer::Ipv6FragHeader));
     let end = (IpNumber(44), [17, 0, 0].as_slice(), fault);
     assert_same(&rt, "end at a truncated header", runs.end(), Some(end));
+    Ok(())
+}
+
+#[test]
+fn cleared_copies(rt: HostRuntime) -> Result<(), Fail> {
+    let heap = LocalHeap::new(rt.alloc(), 64)?;
+    let mut copy: Vec<u8, &LocalHeap> = Vec::with_capacity(&heap, 16)?;
+    let bytes = [44, 255, 0, 255, 1, 2, 3, 4, 17, 255, 0, 6, 5, 6, 7, 8, 9];
+    let (headers, _, _, _) = Ipv6ExtensionsSlice::from_slice_lax(IpNumber(44), &bytes);
+    copy.extend_from_slice(headers.slice())?;
+    let _blocks = take_all(&rt, rt.alloc(), &heap)?;
+    clear_chain(&headers, copy.as_mut_slice());
+    let cleared = [44, 0, 0, 249, 1, 2, 3, 4, 17, 0, 0, 0, 5, 6, 7, 8];
+    assert_bytes(&rt, "cleared", &copy, &cleared);
     Ok(())
 }
 

@@ -11,7 +11,7 @@ use Rattle.ip_spec.proofs.SumLemmas.{sum_placed, sum_left}
 use Rattle.ip_ext_chains.specs.Slots.{at, IsVacant}
 use Rattle.ip_ext_chains.specs.Ipv6Extensions.{placed_fields}
 use Rattle.ip_ext_chains.specs.HeaderRef.{fields_of_ref}
-use Rattle.ip_ext_chains.specs.ExtsWalk.{left_in, IsStep, IsStop, Walked, HasWritten, IsWalkWritten}
+use Rattle.ip_ext_chains.specs.ExtsWalk.{left_in, IsAt, IsStep, IsStop, Walked, HasWritten, IsWalkWritten}
 use Rattle.ip_ext_chains.specs.declared.header_ref.HeaderRef.{HeaderRef}
 use Rattle.ip_ext_chains.specs.declared.walk.Walk.{Walk}
 
@@ -58,6 +58,18 @@ module _ (v : PlacedFields) (f : ℕ) (old new : Walk) (k : Walked v f old) (s :
 
   pub walked_reach : IsLongestOf (IsReachable v f) k.reached
   walked_reach = search (rules, walk_stops v f k.reached (λ p. at p old.reached) old.number.0 old.first k.walking, s.none)
+
+-- what a walk has written, another one in the same position has
+pub written_at : (v : PlacedFields) (f : ℕ) (old new : Walk) → IsAt old new.headers.now new.reached new.number new.first → (before now : List ℕ) → HasWritten v f old before now → HasWritten v f new before now
+written_at v f old new here before now k =
+    record {
+      walked = record {
+        reached = k.walked.reached;
+        walking = rw (← here.reached_are, ← here.number_is, ← here.first_is) k.walked.walking;
+        value = cc (k.walked.value, here.headers_are);
+      };
+      appended = k.appended;
+    }
 
 -- The next header was reached, and its bytes were appended.
 pub written_more : (v : PlacedFields) (f : ℕ) → IsEncodable v → (old new : Walk) (x : HeaderFields) → IsStep old new x → (before now more : List ℕ) → HasWritten v f old before now

@@ -1,5 +1,5 @@
 -- A walk over the headers of a struct of six places.
-use Rattle.std.specs.Prelude.{◌≡◌, ℕ, List, ◌++◌, false, Some, None, is_some, Result, if◌then◌else◌}
+use Rattle.std.specs.Prelude.{◌≡◌, ℕ, List, ◌++◌, Bool, false, Some, None, is_some, Result, if◌then◌else◌}
 use Rattle.ip_spec.specs.Chain.{ExtHeader, bytes_of}
 use Rattle.ip_spec.specs.LongestOf.{IsLongestOf}
 use Rattle.ip_spec.specs.Places.{Place, HeaderFields}
@@ -10,11 +10,24 @@ use Rattle.ip_base.specs.declared.ip_number_impl.IpNumber.{IpNumber}
 use Rattle.ip_base.specs.declared.err.ipv6_exts.exts_walk_error.ExtsWalkError.{ExtsWalkError}
 use Rattle.ip_ext_chains.specs.Slots.{at, IsPut}
 use Rattle.ip_ext_chains.specs.Ipv6Extensions.{placed_fields}
+use Rattle.ip_ext_chains.specs.declared.ipv6_exts.Ipv6Extensions.{Ipv6Extensions}
+use Rattle.ip_ext_chains.specs.declared.places.Places.{Places}
 use Rattle.ip_ext_chains.specs.declared.walk.Walk.{Walk}
+
+-- the fields of the headers that aren't in the places reached
+abbrev pub left_from : {T : Type 0} → Ipv6Extensions → Places T → PlacedFields
+left_from headers reached p = if is_some (at p reached) then None else placed_fields headers p
 
 -- the fields of the headers that a walk hasn't reached
 abbrev pub left_in : Walk → PlacedFields
-left_in w p = if is_some (at p w.reached) then None else placed_fields w.headers.now p
+left_in w = left_from w.headers.now w.reached
+
+-- the walk w has this position
+pub record IsAt (w : Walk) (headers : Ipv6Extensions) (reached : Places (Unit {0})) (number : IpNumber) (first : Bool) : Type 0 where
+  pub headers_are : w.headers.now ≡ headers
+  pub reached_are : w.reached ≡ reached
+  pub number_is : w.number ≡ number
+  pub first_is : w.first ≡ first
 
 -- a header with fields x is in the next place of the walk `old`, and `new` is the walk after it
 pub record IsStep (old new : Walk) (x : HeaderFields) : Type 0 where

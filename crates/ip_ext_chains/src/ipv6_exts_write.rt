@@ -12,7 +12,8 @@ ghost use Rattle.ip_spec.specs.WalkStep.{IsEncodingOf};
 ghost use Rattle.ip_ext_chains.specs.HeaderRef.{fields_of_ref};
 ghost use Rattle.ip_ext_chains.specs.Fitting.{fitting_chain, IsFittingAnswer};
 ghost use Rattle.ip_ext_chains.specs.Ipv6Extensions.{placed_fields, value_of, exts_len};
-ghost use Rattle.ip_ext_chains.specs.ExtsWalk.{left_in, IsStep, HasWritten, IsWalkWritten};
+ghost use Rattle.ip_ext_chains.specs.ExtsWalk.{left_in, left_from, IsAt, IsStep, HasWritten, IsWalkWritten};
+ghost use Rattle.ip_ext_chains.specs.declared.walk.Walk.{Walk as walk_value};
 ghost use Rattle.ip_ext_chains.specs.Write.{IsWritten, IsWalkFault};
 ghost use Rattle.ip_ext_chains.specs.declared.err.ipv6_exts.header_write_error.HeaderWriteError.TheVariants.{Io, Content};
 
@@ -20,7 +21,7 @@ use crate::Ipv6Extensions;
 use crate::err::ipv6_exts::{ExtsWalkError, HeaderWriteError};
 use crate::header_ref::HeaderRef;
 use crate::links::{link_auth, link_final, link_fragment, link_raw, link_routing};
-use crate::places::Place;
+use crate::places::{Place, Places};
 use crate::walk::Walk;
 use ip_base::IpNumber;
 use ip_base::ip_number::{IPV6_DEST_OPTIONS, IPV6_HOP_BY_HOP};
@@ -172,24 +173,35 @@ fn append_left<A: Allocator>(
 {
     // Headers linked in the order of the places, the usual case, have all been reached.
     if walk.first_left().is_none() {
-        return Ok(walk.number());
+        return Ok(walk.number);
     }
-    append_others(walk, out)
+    append_others(walk.headers, walk.reached, walk.number, walk.first, out)
 }
 
-/// Appends the bytes of the headers in the order of the walk, and returns its result. It is kept out of line, so that
-/// six places that are written aren't moved (docs/DECISIONS.md, "Moves of large values").
+/// Appends the bytes of the headers that the walk reaches from this position, and returns its result. It is kept out of
+/// line, and takes the walk apart, so that six places that are written aren't moved (docs/DECISIONS.md, "Moves of large
+/// values").
 #[inline(never)]
 fn append_others<A: Allocator>(
-    mut walk: Walk<'_>,
+    headers: &Ipv6Extensions,
+    reached: Places<()>,
+    number: IpNumber,
+    first: bool,
     out: &mut Vec<u8, A>,
 ) -> Result<IpNumber, ExtsWalkError>
-    requires room { vec_len out.old + placed_len (left_in walk) ≤ vec_capacity out.old }
-    ensures written { (v : PlacedFields) (f : ℕ) (before : List ℕ) → IsEncodable v
-        → HasWritten v f walk.entry before out.old.items
-        → IsWalkWritten v f before out.new.items result }
+    requires room { vec_len out.old + placed_len (left_from headers.now reached)
+        ≤ vec_capacity out.old }
+    ensures written { (w : walk_value) → IsAt w headers.now reached number first
+        → (v : PlacedFields) (f : ℕ) (before : List ℕ) → IsEncodable v
+        → HasWritten v f w before out.old.items → IsWalkWritten v f before out.new.items result }
     ensures capacity { vec_capacity out.old ≤ vec_capacity out.new }
 {
+    let mut walk = Walk {
+        headers,
+        reached,
+        number,
+        first,
+    };
     'headers: while let Some(header) = walk.next() {
         header.append(out);
     }

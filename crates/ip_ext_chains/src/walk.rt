@@ -21,10 +21,10 @@ use ip_ext_headers::Ipv6RawExtHeader;
 /// A walk. Each place that it reaches is marked, so that none is reached twice.
 #[derive(Drop)]
 pub(crate) struct Walk<'a> {
-    headers: &'a Ipv6Extensions,
-    reached: Places<()>,
-    number: IpNumber,
-    first: bool,
+    pub(crate) headers: &'a Ipv6Extensions,
+    pub(crate) reached: Places<()>,
+    pub(crate) number: IpNumber,
+    pub(crate) first: bool,
 }
 
 impl<'a> Walk<'a> {
@@ -131,14 +131,6 @@ impl<'a> Walk<'a> {
             return None;
         }
         header_in(self.headers, place)
-    }
-
-    /// Returns the number that was reached.
-    #[inline(always)]
-    pub(crate) fn number(&self) -> IpNumber
-        ensures { result ≡ self.now.number }
-    {
-        self.number
     }
 
     /// Returns the first place, in order, whose header isn't reached.

@@ -379,9 +379,9 @@ impl IpAuthHeader {
         ensures len { vec_len out.new ≡ vec_len out.old + auth_len self.now }
         ensures capacity { vec_capacity out.old ≤ vec_capacity out.new }
     {
+        let raw_icv = self.raw_icv();
         // Neither call fails: there is room.
         let _ = out.extend_from_slice(&self.first_bytes());
-        let raw_icv = self.raw_icv();
         if !raw_icv.is_empty() {
             let _ = out.extend_from_slice(raw_icv);
         }

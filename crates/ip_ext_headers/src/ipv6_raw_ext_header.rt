@@ -301,9 +301,9 @@ impl Ipv6RawExtHeader {
         ensures len { vec_len out.new ≡ vec_len out.old + raw_len self.now }
         ensures capacity { vec_capacity out.old ≤ vec_capacity out.new }
     {
+        let rest = &self.payload()[6..];
         // Neither call fails: there is room.
         let _ = out.extend_from_slice(&self.first_bytes());
-        let rest = &self.payload()[6..];
         if !rest.is_empty() {
             let _ = out.extend_from_slice(rest);
         }

@@ -1,3 +1,4 @@
+//! An IPv4 packet, borrowed.
 ghost use Rattle.std.specs.Prelude.{◌≡◌, IfOk};
 ghost use Rattle.std.specs.Result.{result_err};
 ghost use Rattle.ip_base.specs.Ipv4HeaderSlice.{bytes};

@@ -1,3 +1,4 @@
+//! An IPv6 packet, borrowed.
 ghost use Rattle.std.specs.Prelude.{◌≡◌, ◌≤◌, ◌+◌, None, IfOk, length};
 ghost use Rattle.std.specs.Result.{result_err};
 ghost use Rattle.ip_base.specs.Ipv6Header.{payload_length, ipv6_header_fault};

@@ -1,3 +1,4 @@
+//! Laws of packets, proved as the contracts of calls.
 ghost use Rattle.std.specs.Prelude.{◌≡◌, ℕ, List};
 ghost use Rattle.ip_base.specs.Ipv4Header.{version};
 ghost use Rattle.etherparse_ip.specs.Packet.{Parts, IsIpv4Packet, IsIpv6Packet};

@@ -1,3 +1,4 @@
+//! The bytes after a header.
 ghost use Rattle.std.specs.Prelude.{◌≡◌, ◌≤◌, drop, length};
 
 /// Returns the bytes after the first `len`.

@@ -1,3 +1,4 @@
+//! A fragment offset.
 ghost use Rattle.std.specs.Prelude.{◌≡◌, ◌≤◌, ◌↔◌, ℕ, IsOk, IfOk, IfErr};
 ghost use Rattle.ip_base.specs.Fragment.{MAX_FRAGMENT_OFFSET};
 

@@ -1,3 +1,4 @@
+//! A protocol number.
 ghost use Rattle.std.specs.Prelude.{◌≡◌};
 
 use std::fmt;

@@ -1,3 +1,4 @@
+//! The payload of a packet, borrowed.
 use crate::{IpNumber, LenSource};
 
 /// The payload of an IP packet, after its extension headers, borrowed from the caller's bytes.

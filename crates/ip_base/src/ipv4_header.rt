@@ -1,3 +1,4 @@
+//! The length of an IPv4 header without options (RFC 791, section 3.1).
 /// The IPv4 base header (RFC 791, section 3.1). Holds only the header's length.
 pub struct Ipv4Header {}
 

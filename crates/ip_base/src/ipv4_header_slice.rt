@@ -1,3 +1,4 @@
+//! An IPv4 header (RFC 791, section 3.1), borrowed.
 ghost use Rattle.std.specs.Prelude.{◌≡◌, ◌≤◌, length, IfOk};
 ghost use Rattle.std.specs.Result.{result_err};
 ghost use Rattle.std.specs.Net.Addr.{ipv4_octets};

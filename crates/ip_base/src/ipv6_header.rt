@@ -1,3 +1,4 @@
+//! The length of an IPv6 header (RFC 8200, section 3).
 /// The IPv6 base header (RFC 8200, section 3). Holds only the header's length.
 pub struct Ipv6Header {}
 

@@ -1,3 +1,4 @@
+//! An IPv6 header (RFC 8200, section 3), borrowed.
 ghost use Rattle.std.specs.Prelude.{◌≡◌, ◌≤◌, length, IfOk};
 ghost use Rattle.std.specs.Result.{result_err};
 ghost use Rattle.std.specs.Net.Addr.{ipv6_octets};

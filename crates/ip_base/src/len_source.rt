@@ -1,3 +1,4 @@
+//! Where a length comes from.
 ghost use Rattle.std.specs.Prelude.{◌≡◌};
 
 /// The source of a length.

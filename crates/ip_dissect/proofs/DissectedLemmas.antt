@@ -1,11 +1,20 @@
 -- Which base header bytes start with, and so which parts their packet has.
-use Rattle.ip_spec.proofs.Common.{◌≡◌, ℕ, ◌≤◌, List, [], length, take, refl, sym, ap, ◌∙◌, arith, rules, common_steps, ◌/◌, length-take-le, get_or-take, eqb_tells, eq-eqb, Option, None, Some, option_map_or, ◌==◌, if◌then◌else◌, false, IsPrefix}
+use Rattle.ip_spec.proofs.Common.{◌≡◌, ℕ, ◌≤◌, List, [], length, take, refl, sym, subst, ap, ◌∙◌, arith, rules, common_steps, ◌/◌, length-take-le, get_or-take, eqb_tells, eq-eqb, Option, None, Some, option_map_or, ◌==◌, if◌then◌else◌, true, false, IsPrefix}
 use Rattle.ip_spec.proofs.PrefixLemmas.{prefix-length}
-use Rattle.ip_base.specs.Ipv4Header.{version, ihl, ipv4_header_len, IsIpv4Header}
-use Rattle.ip_base.specs.Ipv6Header.{IsIpv6Header}
+use Rattle.ip_base.specs.Ipv4Header.{version, ihl, ipv4_header_len, IsIpv4Header, ipv4_header_fault}
+use Rattle.ip_base.specs.Ipv6Header.{IsIpv6Header, ipv6_header_fault}
+use Rattle.ip_base.specs.declared.err.ipv4.header_slice_error.HeaderSliceError.{HeaderSliceError as Ipv4Error}
+use Rattle.ip_base.specs.declared.err.ipv6.header_slice_error.HeaderSliceError.{HeaderSliceError as Ipv6Error}
+use Rattle.ip_base.specs.Ipv4HeaderSlice as ipv4_header
+use Rattle.ip_base.specs.Ipv6HeaderSlice as ipv6_header
+use Rattle.ip_base.specs.declared.ipv4_header_slice.Ipv4HeaderSlice.{Ipv4HeaderSlice}
+use Rattle.ip_base.specs.declared.ipv6_header_slice.Ipv6HeaderSlice.{Ipv6HeaderSlice}
 use Rattle.etherparse_ip.proofs.BaseLemmas.{SaysIpv4, says_ipv4, SaysIpv6, says_ipv6}
-use Rattle.ip_dissect.specs.End.{base_end}
-use Rattle.ip_dissect.specs.Dissection.{DissectedParts, without_base, ipv4_dissected, ipv6_dissected, dissected, HasParts, version_of}
+use Rattle.ip_dissect.specs.End.{base_end, has_error}
+use Rattle.ip_dissect.specs.Dissection.{DissectedParts, without_base, ipv4_dissected, ipv6_dissected, dissected, HasParts, version_of, version_in, base_bytes}
+use Rattle.ip_dissect.specs.Outline.{IsBaseOf}
+use Rattle.ip_dissect.specs.declared.dissection.BaseHeader.{BaseHeader}
+use Rattle.ip_dissect.specs.declared.dissection.BaseHeader.TheVariants.{Ipv4, Ipv6}
 use Rattle.ip_dissect.specs.declared.dissection.Dissection.{Dissection}
 use Rattle.ip_dissect.specs.declared.end.End.{End}
 
@@ -90,6 +99,17 @@ begin_ipv6 s v =
     let h = header6 s q.0 q.1 in
     record { header = h.0; prefix = h.1; is = picked6 s (base_end s) (version s) _ _ p.0 q.0 }
 
+base_none_of : (s : List ℕ) (o : Option End) → base_end s ≡ o → (o ≡ None → ⊥) → IsBaseOf s None
+base_none_of s (Some e) is some = record { version = ap (λ (p : DissectedParts). p.version) (sym (dissected-none s e is)); base = ap (λ (p : DissectedParts). p.base) (sym (dissected-none s e is)) }
+base_none_of s None is some = absurd (some refl)
+
+version_there : (s : List ℕ) (o : Option End) (v : ℕ) (x y : DissectedParts) → x.version ≡ 4 → y.version ≡ 6 → o ≡ None → 0 ≡ (option_map_or (without_base s) o (if v == 4 then x else y)).version → ⊥
+version_there s o v x y four six none zero = search (rules, eqb_tells v 4)
+
+has_version : (s : List ℕ) → base_end s ≡ None → 0 ≡ (dissected s).version → ⊥
+unfolding dissected
+has_version s none zero = version_there s (base_end s) (version s) _ _ refl refl none zero
+
 -- so do bytes whose first 40 are an IPv6 base header, and those whose first ones are an IPv4 base header
 none6 : (s : List ℕ) → version s ≡ 6 → 40 ≤ length s → base_end s ≡ None
 none6 s six enough = grind (arith, common_steps)
@@ -114,6 +134,56 @@ header_begins6 s header = search (rules, prefix_taken, begun6)
 
 pub header_begins4 : (s : List ℕ) → IsIpv4Header (take (ipv4_header_len s) s) → BeginIpv4 s (take (ipv4_header_len s) s)
 header_begins4 s header = search (rules, prefix_taken, begun4)
+
+-- which base header they start with, and so which parts they have
+pub base_none : (s : List ℕ) → (base_end s ≡ None → ⊥) → IsBaseOf s None
+base_none s some = base_none_of s (base_end s) refl some
+
+pub base_none_empty : (s : List ℕ) → length s ≡ 0 → IsBaseOf s None
+base_none_empty s e = base_none s (λ none. search rules)
+
+pub base_none_other : (s : List ℕ) → (version s ≡ 4 → ⊥) → (version s ≡ 6 → ⊥) → IsBaseOf s None
+base_none_other s four six = base_none s (λ none. six (base6 s none four).0)
+
+pub base_none4 : (s : List ℕ) (e : Ipv4Error) → version s ≡ 4 → Some e ≡ ipv4_header_fault s → IsBaseOf s None
+base_none4 s e four fault = base_none s (λ none. grind (arith, common_steps))
+
+pub base_none6 : (s : List ℕ) (e : Ipv6Error) → version s ≡ 6 → Some e ≡ ipv6_header_fault s → IsBaseOf s None
+base_none6 s e six fault = base_none s (λ none. grind (arith, common_steps))
+
+pub base_some4 : (s : List ℕ) (h : Ipv4HeaderSlice) → IsIpv4Header (ipv4_header.bytes h) → IsPrefix (ipv4_header.bytes h) s → IsBaseOf s (Some (Ipv4 h))
+base_some4 s h header prefix = let is : dissected s ≡ ipv4_dissected (ipv4_header.bytes h) s = begun4 s _ header prefix in record { version = ap (λ (p : DissectedParts). p.version) (sym is); base = ap (λ (p : DissectedParts). p.base) (sym is) }
+
+pub base_some6 : (s : List ℕ) (h : Ipv6HeaderSlice) → IsIpv6Header (ipv6_header.bytes h) → IsPrefix (ipv6_header.bytes h) s → IsBaseOf s (Some (Ipv6 h))
+base_some6 s h header prefix = let is : dissected s ≡ ipv6_dissected (ipv6_header.bytes h) s = begun6 s _ header prefix in record { version = ap (λ (p : DissectedParts). p.version) (sym is); base = ap (λ (p : DissectedParts). p.base) (sym is) }
+
+pub begins4 : (s : List ℕ) (o : Option BaseHeader) (b : List ℕ) → IsBaseOf s o → option_map_or version_in o 0 ≡ 4 → option_map_or base_bytes o [] ≡ b → BeginIpv4 s b
+begins4 s o b is version base =
+    let w : BeginIpv4 s (take (ipv4_header_len s) s) = begin_ipv4 s (sym is.version ∙ version) in
+    let P : List ℕ → Type 0 = λ b. BeginIpv4 s b in
+    subst P (sym (sym base ∙ is.base ∙ ap (λ (p : DissectedParts). p.base) w.is)) w
+
+pub begins6 : (s : List ℕ) (o : Option BaseHeader) (b : List ℕ) → IsBaseOf s o → option_map_or version_in o 0 ≡ 6 → option_map_or base_bytes o [] ≡ b → BeginIpv6 s b
+begins6 s o b is version base =
+    let w : BeginIpv6 s (take 40 s) = begin_ipv6 s (sym is.version ∙ version) in
+    let P : List ℕ → Type 0 = λ b. BeginIpv6 s b in
+    subst P (sym (sym base ∙ is.base ∙ ap (λ (p : DissectedParts). p.base) w.is)) w
+
+pub base_error : (s : List ℕ) (e : End) → base_end s ≡ Some e → has_error e ≡ true
+base_error s e is = search rules
+
+-- bytes s don't start with a base header, for the reason e
+pub record BeginNone (s : List ℕ) : Type 0 where
+  pub reason : End
+  pub ends : base_end s ≡ Some reason
+  pub is : dissected s ≡ without_base s reason
+
+none_of : (s : List ℕ) (o : Option End) → base_end s ≡ o → 0 ≡ (dissected s).version → BeginNone s
+none_of s (Some e) is zero = record { reason = e; ends = is; is = dissected-none s e is }
+none_of s None is zero = absurd (has_version s is zero)
+
+pub begins_none : (s : List ℕ) → IsBaseOf s None → BeginNone s
+begins_none s is = none_of s (base_end s) refl is.version
 
 -- bytes without a base header have no extension headers
 no_version_of : (s : List ℕ) (o : Option End) (v : ℕ) (x y : DissectedParts) → x.version ≡ 4 → y.version ≡ 6

@@ -1,5 +1,5 @@
 -- The parts of an IPv4 packet.
-use Rattle.ip_spec.proofs.Common.{rules, ◌≡◌, ℕ, ◌-◌, List, length, take, drop, nat_lt, eqb_tells, Option, None, option_map, option_map_or, ◌==◌, ◌&&◌, not, if◌then◌else◌, leads_to, rest_after, fault_after, IsPrefixChain}
+use Rattle.ip_spec.proofs.Common.{rules, ◌≡◌, ℕ, List, length, nat_lt, eqb_tells, Option, None, option_map, option_map_or, ◌==◌, ◌&&◌, not, if◌then◌else◌, fault_after, IsPrefixChain}
 use Rattle.ip_spec.proofs.StepLemmas.{no_header_prefix}
 use Rattle.ip_base.specs.LenError.{too_short}
 use Rattle.ip_base.specs.Ipv4Header.{protocol, total_len, ipv4_fragment_offset}
@@ -10,24 +10,13 @@ use Rattle.ip_ext_slices.specs.Ipv4Fault.{ipv4_faults}
 use Rattle.ip_ext_slices.proofs.Ipv4Lemmas.{ipv4_longest}
 use Rattle.etherparse_ip.specs.PacketFault.{auth_in_packet}
 use Rattle.etherparse_ip.specs.declared.err.ip.slice_error.SliceError.TheVariants.{Len}
-use Rattle.ip_dissect.specs.Extent.{packet_bytes, after_base, missing_of, ipv4_stated, ipv4_chain_in}
+use Rattle.ip_dissect.specs.Extent.{after_base, ipv4_stated, ipv4_chain_in}
 use Rattle.ip_dissect.specs.End.{auth_end, ipv4_end}
-use Rattle.ip_dissect.specs.Fragment.{ipv4_fragment}
-use Rattle.ip_dissect.specs.Dissection.{version_of, base_of, HasParts, ipv4_dissected}
-use Rattle.ip_dissect.specs.declared.dissection.Dissection.{Dissection}
 use Rattle.ip_dissect.specs.declared.end.End.{End}
 use Rattle.ip_dissect.specs.declared.end.End.TheVariants.{LaterFragment, Payload, Fault}
-use Rattle.ip_dissect.proofs.PartsLemmas.{has_parts, after_is}
 
 pub ipv4_prefix : (b x : List ℕ) → IsPrefixChain (protocol b) x (ipv4_chain_in b x)
 ipv4_prefix b x = search (rules, ipv4_longest, no_header_prefix)
-
-pub ipv4_has_parts : (b s : List ℕ) (packet x : List ℕ) (d : Dissection) → version_of d ≡ 4 → base_of d ≡ b → d.stated_len ≡ ipv4_stated b → packet ≡ packet_bytes b d.stated_len s
-    → x ≡ drop (length b) packet → d.extensions.now ≡ take (length x - length d.payload.now) x → d.header_count ≡ length (ipv4_chain_in b x) → d.next_header.0 ≡ leads_to (protocol b) (ipv4_chain_in b x)
-    → d.payload.now ≡ rest_after (ipv4_chain_in b x) x → d.fragment ≡ ipv4_fragment b → d.missing ≡ missing_of d.stated_len (length s) → d.padding.now ≡ drop (length packet) s → d.end ≡ ipv4_end b s
-    → HasParts (ipv4_dissected b s) d
-ipv4_has_parts b s packet x d version base stated bytes after headers count number payload fragment missing padding end =
-    rw (after_is b s d.stated_len _ packet x stated bytes after) at (has_parts 4 b s _ _ (ipv4_chain_in b x) _ _ packet x d version base stated bytes after (ipv4_prefix b x) headers count number payload fragment missing padding end)
 
 pub ipv4_end_is : (b x s : List ℕ) (t : Option ℕ) (error : Option HeaderSliceError) (end : End) → x ≡ after_base b (ipv4_stated b) s → t ≡ ipv4_stated b
     → (ipv4_fragment_offset b ≡ 0 → error ≡ fault_after (ipv4_faults Slice) (ipv4_chain_in b x) (protocol b) x)

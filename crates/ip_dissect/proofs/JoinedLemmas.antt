@@ -1,5 +1,5 @@
 -- The parts of a packet joined, and the packets in truncated bytes.
-use Rattle.ip_spec.proofs.Common.{rules, ◌≡◌, ℕ, ◌-◌, ◌≤◌, List, [], ◌∷◌, ◌++◌, length, take, drop, sym, ap, ◌∙◌, arith, common_steps, append_assoc, Option, IsPrefix, ExtHeader, bytes_of, headers_within, rest_after, AtMostOneOf}
+use Rattle.ip_spec.proofs.Common.{rules, ◌≡◌, ℕ, ◌-◌, ◌≤◌, List, [], ◌∷◌, ◌++◌, length, take, drop, sym, ap, ◌∙◌, arith, common_steps, append_assoc, drop-append_seam, take-append_seam, length-append, ◌+◌, refl, Option, None, Some, IsPrefix, ExtHeader, bytes_of, headers_within, rest_after, AtMostOneOf}
 use Rattle.std.proofs.Common.{zero, suc}
 use Rattle.ip_spec.proofs.PrefixLemmas.{prefix-append, prefix-length}
 use Rattle.ip_spec.proofs.DemandKinds.{at_most_one_of}
@@ -14,11 +14,16 @@ use Rattle.ip_ext_slices.proofs.Ipv4Lemmas.{ipv4_longest, ipv4_longest-shorter}
 use Rattle.ip_dissect.specs.LaterDemand.{NothingAfterLater, nothing_after_later}
 use Rattle.ip_dissect.specs.Later.{chain_to_later}
 use Rattle.ip_dissect.specs.Extent.{packet_bytes, after_base, ipv4_stated, ipv6_stated, ipv4_chain, ipv4_chain_in, ipv6_chain}
-use Rattle.ip_dissect.specs.Dissection.{DissectedParts, HasParts, version_of, base_of, dissected, ipv4_dissected, ipv6_dissected}
+use Rattle.ip_dissect.specs.Dissection.{DissectedParts, HasParts, version_of, base_of, dissected}
+use Rattle.ip_base.specs.Ipv4HeaderSlice as ipv4_header
+use Rattle.ip_base.specs.Ipv6HeaderSlice as ipv6_header
+use Rattle.ip_dissect.specs.Outline.{IsBaseOf}
+use Rattle.ip_dissect.specs.declared.dissection.BaseHeader.{BaseHeader}
+use Rattle.ip_dissect.specs.declared.dissection.BaseHeader.TheVariants.{Ipv4, Ipv6}
 use Rattle.ip_dissect.specs.declared.dissection.Dissection.{Dissection}
 use Rattle.ip_dissect.proofs.LaterLemmas.{chain_to_later-longest}
 use Rattle.ip_dissect.proofs.Ipv4Lemmas.{ipv4_prefix}
-use Rattle.ip_dissect.proofs.DissectedLemmas.{BeginIpv4, begin_ipv4, BeginIpv6, begin_ipv6}
+use Rattle.ip_dissect.proofs.DissectedLemmas.{BeginIpv4, begin_ipv4, begins4, BeginIpv6, begin_ipv6, begins6, BeginNone, begins_none}
 
 -- the packet's bytes are a prefix of s that starts with the base header
 packet_split : (b : List ℕ) (t : Option ℕ) (s : List ℕ) → packet_bytes b t s ++ drop (length (packet_bytes b t s)) s ≡ s
@@ -37,15 +42,51 @@ module _ (b s : List ℕ) (t : Option ℕ) (n : ℕ) (c : List ExtHeader) (start
   pub joined : b ++ bytes_of c ++ rest_after c (after_base b t s) ++ drop (length (packet_bytes b t s)) s ≡ s
   joined = cc (append_assoc b (bytes_of c) (rest_after c (after_base b t s)), after_split, packet_is, packet_split b t s)
 
--- the parts of a dissection joined
-parts_joined : (p : DissectedParts) (d : Dissection) → HasParts p d → base_of d ++ d.extensions.now ++ d.payload.now ++ d.padding.now ≡ p.base ++ bytes_of p.headers ++ p.payload ++ p.padding
-parts_joined p d h = cc (h.base, h.extensions, h.payload, h.padding)
+-- the parts of any bytes
+abbrev parts_of : DissectedParts → List ℕ
+parts_of p = p.base ++ bytes_of p.headers ++ p.payload ++ p.padding
 
-pub ipv4_joined : (b s : List ℕ) (d : Dissection) → IsPrefix b s → HasParts (ipv4_dissected b s) d → base_of d ++ d.extensions.now ++ d.payload.now ++ d.padding.now ≡ s
-ipv4_joined b s d start h = parts_joined (ipv4_dissected b s) d h ∙ joined b s (ipv4_stated b) (protocol b) (ipv4_chain b s) start (ipv4_prefix b _).prefix
+pub parts_joined : (s : List ℕ) (b : Option BaseHeader) → IsBaseOf s b → parts_of (dissected s) ≡ s
+parts_joined s None is = let w : BeginNone s = begins_none s is in ap parts_of w.is
+parts_joined s (Some (Ipv4 h)) is =
+    let b : List ℕ = ipv4_header.bytes h in
+    let w : BeginIpv4 s b = begins4 s (Some (Ipv4 h)) b is refl refl in
+    ap parts_of w.is ∙ joined b s (ipv4_stated b) (protocol b) (ipv4_chain b s) w.prefix (ipv4_prefix b _).prefix
+parts_joined s (Some (Ipv6 h)) is =
+    let b : List ℕ = ipv6_header.bytes h in
+    let w : BeginIpv6 s b = begins6 s (Some (Ipv6 h)) b is refl refl in
+    ap parts_of w.is ∙ joined b s (ipv6_stated b) (ipv6_next_header b) (ipv6_chain b s) w.prefix (chain_to_later-longest _ _).has.0.prefix
 
-pub ipv6_joined : (b s : List ℕ) (d : Dissection) → IsPrefix b s → HasParts (ipv6_dissected b s) d → base_of d ++ d.extensions.now ++ d.payload.now ++ d.padding.now ≡ s
-ipv6_joined b s d start h = parts_joined (ipv6_dissected b s) d h ∙ joined b s (ipv6_stated b) (ipv6_next_header b) (ipv6_chain b s) start (chain_to_later-longest _ _).has.0.prefix
+-- and those of a dissection
+pub dissection_joined : (s : List ℕ) (b : Option BaseHeader) (d : Dissection) → IsBaseOf s b → HasParts (dissected s) d → base_of d ++ d.extensions.now ++ d.payload.now ++ d.padding.now ≡ s
+dissection_joined s b d is h = cc (h.base, h.extensions, h.payload, h.padding, parts_joined s b is)
+
+-- Where each of four joined parts lies.
+module _ (a b c d s : List ℕ) (whole : a ++ b ++ c ++ d ≡ s) (i j k l : ℕ) (is : i ≡ length a) (js : j ≡ length b) (ks : k ≡ length c) (ls : l ≡ length d) where
+  pub parts_fit : i + j + k + l ≡ length s
+  parts_fit = omega (arith, is, js, ks, ls, ap length (sym whole), length-append (a ++ b ++ c) d, length-append (a ++ b) c, length-append a b)
+
+  split : a ++ (b ++ (c ++ d)) ≡ s
+  split = sym (append_assoc a b (c ++ d)) ∙ sym (append_assoc (a ++ b) c d) ∙ whole
+
+  after_first : drop i s ≡ b ++ (c ++ d)
+  after_first = ap (drop i) (sym split) ∙ ap (λ n. drop n (a ++ (b ++ (c ++ d)))) is ∙ drop-append_seam a (b ++ (c ++ d))
+
+  pub second_part : take (i + j - i) (drop i s) ≡ b
+  second_part = let size : i + j - i ≡ length b = omega (arith, js) in ap (λ n. take n (drop i s)) size ∙ ap (take (length b)) after_first ∙ take-append_seam b (c ++ d)
+
+  after_second : drop (i + j) s ≡ c ++ d
+  after_second =
+      let size : i + j ≡ length (a ++ b) = omega (arith, is, js, length-append a b) in
+      ap (drop (i + j)) (sym (sym (append_assoc (a ++ b) c d) ∙ whole)) ∙ ap (λ n. drop n ((a ++ b) ++ (c ++ d))) size ∙ drop-append_seam (a ++ b) (c ++ d)
+
+  pub third_part : take (i + j + k - (i + j)) (drop (i + j) s) ≡ c
+  third_part = let size : i + j + k - (i + j) ≡ length c = omega (arith, ks) in ap (λ n. take n (drop (i + j) s)) size ∙ ap (take (length c)) after_second ∙ take-append_seam c d
+
+  pub last_part : drop (length s - l) s ≡ d
+  last_part =
+      let size : length s - l ≡ length (a ++ b ++ c) = omega (arith, ls, ap length (sym whole), length-append (a ++ b ++ c) d) in
+      ap (drop (length s - l)) (sym whole) ∙ ap (λ n. drop n (a ++ b ++ c ++ d)) size ∙ drop-append_seam (a ++ b ++ c) d
 
 -- Truncated bytes: those of the packet, and those after its base header.
 drop_take : (k j : ℕ) (s : List ℕ) → drop k (take j s) ≡ take (j - k) (drop k s)

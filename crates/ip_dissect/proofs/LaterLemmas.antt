@@ -1,5 +1,5 @@
 -- A chain that stops at a later fragment's header: one more header, and the end.
-use Rattle.ip_spec.proofs.Common.{◌≡◌, ℕ, ◌+◌, ◌-◌, ◌<◌, ◌≤◌, ◌^◌, length-drop, List, [], ◌∷◌, ◌++◌, length, drop, sym, ap, ◌∙◌, arith, rules, Bool, true, false, nat_eq, common_steps, or-false, or_assoc, option_map, option_or, is_some, IsSome, find, ◌||◌, ◌&&◌, not, Option, IsExtensionNumber, next_header, ExtHeader, bytes_of, leads_to, IsNext, IsEnd, IsLongestUnder, rest_after}
+use Rattle.ip_spec.proofs.Common.{◌≡◌, ℕ, ◌+◌, ◌-◌, ◌<◌, ◌≤◌, ◌^◌, length-drop, List, [], ◌∷◌, ◌++◌, length, drop, sym, refl, ap, ◌∙◌, arith, rules, Bool, true, false, nat_eq, common_steps, or-false, or_assoc, option_map, option_or, is_some, IsSome, find, ◌||◌, ◌&&◌, not, Option, IsExtensionNumber, next_header, ExtHeader, bytes_of, leads_to, IsNext, IsEnd, IsLongestUnder, rest_after}
 use Rattle.std.proofs.Common.{Some, None, cond}
 use Rattle.std.proofs.lemmas.List.Folds.{find-append}
 use Rattle.ip_spec.proofs.PrefixLemmas.{prefix-length}
@@ -39,17 +39,23 @@ pub chain_to_later-longest : (n : ℕ) (s : List ℕ) → IsLongestUnder Nothing
 chain_to_later-longest n s = (some_longest_under NothingAfterLater nothing_after_later n s).1
 
 -- The pass over a chain: the headers so far, none of which is a later fragment's.
-pub record WalkState (n : ℕ) (s : List ℕ) (m : ℕ) (r : List ℕ) (found : Found) : Type 0 where
-  pub chain : List ExtHeader
+pub record WalkState (n : ℕ) (s : List ℕ) (chain : List ExtHeader) (m : ℕ) (r : List ℕ) (found : Found) : Type 0 where
   pub read : HasParsed n s chain m r
   pub said : found ≡ found_in chain
   pub none : has_later chain ≡ false
 
 -- their number is below 2^64, and so is one more
-pub count_fits : (n : ℕ) (s : List ℕ) (m : ℕ) (r : List ℕ) (found : Found) → WalkState n s m r found → length s < 2 ^ 64 → found.count + 1 < 2 ^ 64
-count_fits n s m r found w fits =
-    let count : found.count ≡ length w.chain = ap (λ (f : Found). f.count) w.said in
-    omega (arith, fits, count, bytes_of-least w.chain w.read.prefix_chain.chain.headers, prefix-length (bytes_of w.chain) s w.read.prefix_chain.prefix)
+pub count_fits : (n : ℕ) (s : List ℕ) (c : List ExtHeader) (m : ℕ) (r : List ℕ) (found : Found) → WalkState n s c m r found → length s < 2 ^ 64 → found.count + 1 < 2 ^ 64
+count_fits n s c m r found w fits =
+    omega (arith, fits, ap (λ (f : Found). f.count) w.said, bytes_of-least c w.read.prefix_chain.chain.headers, prefix-length (bytes_of c) s w.read.prefix_chain.prefix)
+
+-- how many they are, and how many bytes they have
+pub count_is : (n : ℕ) (s : List ℕ) (c : List ExtHeader) (m : ℕ) (r : List ℕ) (found : Found) (w : WalkState n s c m r found) → found.count ≡ length c
+count_is n s c m r found w = ap (λ (f : Found). f.count) w.said
+
+pub offset_is : (n : ℕ) (s : List ℕ) (c : List ExtHeader) (m : ℕ) (r : List ℕ) (found : Found) (w : WalkState n s c m r found) (k : ℕ) → k + (length s - length r) ≡ k + length (bytes_of c)
+offset_is n s c m r found w k =
+    omega (arith, ap length w.read.rest, length-drop (length (bytes_of c)) s, prefix-length (bytes_of c) s w.read.prefix_chain.prefix)
 
 -- the chain is the longest
 pub record AtEnd (n : ℕ) (s : List ℕ) (m : ℕ) (r : List ℕ) (found : Found) : Type 0 where
@@ -57,17 +63,19 @@ pub record AtEnd (n : ℕ) (s : List ℕ) (m : ℕ) (r : List ℕ) (found : Foun
   pub rest : r ≡ rest_after (chain_to_later n s) s
   pub said : found ≡ found_in (chain_to_later n s)
 
-module _ (n : ℕ) (s : List ℕ) (m : ℕ) (r : List ℕ) (found : Found) where
-  end_of : (c : List ExtHeader) → HasParsed n s c m r → found ≡ found_in c → IsLongestUnder NothingAfterLater n s c → AtEnd n s m r found
-  end_of c read said longest =
-      let is : c ≡ chain_to_later n s = one_longest_under NothingAfterLater nothing_after_later n s c _ longest (chain_to_later-longest n s) in
-      record { number = cc (read.number); rest = cc (read.rest); said = cc }
+module _ (n : ℕ) (s : List ℕ) (c : List ExtHeader) (m : ℕ) (r : List ℕ) (found : Found) where
+  end_of : HasParsed n s c m r → found ≡ found_in c → c ≡ chain_to_later n s → AtEnd n s m r found
+  end_of read said is = record { number = cc (read.number); rest = cc (read.rest); said = cc }
 
   -- where no header follows
-  pub at_end : WalkState n s m r found → IsEnd (nat_eq (length r) (length s)) m r → AtEnd n s m r found
-  at_end w e =
-      end_of w.chain w.read w.said
-      (parsed_longest_under NothingAfterLater nothing_after_later n s w.chain m r (record { read = w.read; meets = met w.chain w.none }) (λ h x q. no_next_here n s w.chain m r w.read e h x))
+  pub chain_at_end : WalkState n s c m r found → IsEnd (nat_eq (length r) (length s)) m r → c ≡ chain_to_later n s
+  chain_at_end w e =
+      one_longest_under NothingAfterLater nothing_after_later n s c _
+      (parsed_longest_under NothingAfterLater nothing_after_later n s c m r (record { read = w.read; meets = met c w.none }) (λ h x q. no_next_here n s c m r w.read e h x))
+      (chain_to_later-longest n s)
+
+  pub at_end : WalkState n s c m r found → IsEnd (nat_eq (length r) (length s)) m r → AtEnd n s m r found
+  at_end w e = end_of w.read w.said (chain_at_end w e)
 
 -- by the number of bytes passed
 same_first : (a b : ℕ) → a ≤ b → nat_eq a b ≡ nat_eq (b - a) 0
@@ -83,33 +91,41 @@ pub none_after_later : (later : Bool) (o : Option Fault) → later ≡ true → 
 none_after_later later o t = grind (arith, common_steps)
 
 -- the error where the pass stops: at an extension header's number there is one, and at any other there is none
-pub fault_there : (n : ℕ) (s : List ℕ) (m : ℕ) (r : List ℕ) (found : Found) → WalkState n s m r found → IsExtensionNumber m → IsEnd (nat_eq (length r) (length s)) m r → (k : ℕ)
+pub fault_there : (n : ℕ) (s : List ℕ) (c : List ExtHeader) (m : ℕ) (r : List ℕ) (found : Found) → WalkState n s c m r found → IsExtensionNumber m → IsEnd (nat_eq (length r) (length s)) m r → (k : ℕ)
     → true ≡ (not found.later && is_some (slice_fault k (nat_eq (length s - length r) 0) m r))
-fault_there n s m r found w is e k =
-    let fewer : length r ≤ length s = omega (arith, ap length w.read.rest, length-drop (length (bytes_of w.chain)) s) in
+fault_there n s c m r found w is e k =
+    let fewer : length r ≤ length s = omega (arith, ap length w.read.rest, length-drop (length (bytes_of c)) s) in
     let goes_on : found.later ≡ false = ap (λ (f : Found). f.later) w.said ∙ w.none in
     there found.later _ goes_on (fault_at_end Slice (length r) r k (nat_eq (length s - length r) 0) m is (rw (same_first (length r) (length s) fewer) at e))
 
 pub no_fault_there : (m : ℕ) (s r : List ℕ) (later : Bool) → (IsExtensionNumber m → ⊥) → (k : ℕ) → false ≡ (not later && is_some (slice_fault k (nat_eq (length s - length r) 0) m r))
 no_fault_there m s r later other k = none_there later _ (no_fault_at_other Slice (length r) (nat_eq (length s - length r) 0) m r k other)
 
+-- the header by its number and its bytes
+pub header_is : (h : ExtHeader) (m : ℕ) (b : List ℕ) → h.number ≡ m → b ≡ h.bytes → record { number = m; bytes = b } ≡ h
+header_is h m b number bytes = rw (← number, bytes) refl
+
 -- one more header, which isn't a later fragment's
-pub goes_on : (n : ℕ) (s : List ℕ) (m : ℕ) (r : List ℕ) (found : Found) (w : WalkState n s m r found) (h : ExtHeader) (k : ℕ) (q b : List ℕ) (more : Found) (x : IsNext (nat_eq (length r) (length s)) m r h)
-    (number : k ≡ next_header h.bytes) (bytes : b ≡ h.bytes) (rest : q ≡ drop (length b) r) (said : (c : List ExtHeader) → found ≡ found_in c → more ≡ found_in (c ++ h ∷ [])) → more.later ≡ false → WalkState n s k q more
-goes_on n s m r found w h k q b more x number bytes rest said not_later = record {
-  chain = w.chain ++ h ∷ [];
-  read = has_parsed_on n s w.chain m r h k q b w.read x number bytes rest;
-  said = said w.chain w.said;
-  none = ap (λ (f : Found). f.later) (sym (said w.chain w.said)) ∙ not_later;
+pub goes_on : (n : ℕ) (s : List ℕ) (c : List ExtHeader) (m : ℕ) (r : List ℕ) (found : Found) (w : WalkState n s c m r found) (h : ExtHeader) (k : ℕ) (q b : List ℕ) (more : Found) (x : IsNext (nat_eq (length r) (length s)) m r h)
+    (number : k ≡ next_header h.bytes) (bytes : b ≡ h.bytes) (rest : q ≡ drop (length b) r) (said : (d : List ExtHeader) → found ≡ found_in d → more ≡ found_in (d ++ h ∷ [])) → more.later ≡ false → WalkState n s (c ++ h ∷ []) k q more
+goes_on n s c m r found w h k q b more x number bytes rest said not_later = record {
+  read = has_parsed_on n s c m r h k q b w.read x number bytes rest;
+  said = said c w.said;
+  none = ap (λ (f : Found). f.later) (sym (said c w.said)) ∙ not_later;
 }
 
 -- one more header, which is
-pub stops_at_later : (n : ℕ) (s : List ℕ) (m : ℕ) (r : List ℕ) (found : Found) (w : WalkState n s m r found) (h : ExtHeader) (k : ℕ) (q b : List ℕ) (more : Found) (x : IsNext (nat_eq (length r) (length s)) m r h)
-    (number : k ≡ next_header h.bytes) (bytes : b ≡ h.bytes) (rest : q ≡ drop (length b) r) (said : (c : List ExtHeader) → found ≡ found_in c → more ≡ found_in (c ++ h ∷ [])) → more.later ≡ true → AtEnd n s k q more
-stops_at_later n s m r found w h k q b more x number bytes rest said later =
-    let c : List ExtHeader = w.chain ++ h ∷ [] in
-    let read : HasParsed n s c k q = has_parsed_on n s w.chain m r h k q b w.read x number bytes rest in
-    let told : more ≡ found_in c = said w.chain w.said in
-    let has : has_later c ≡ true = ap (λ (f : Found). f.later) (sym told) ∙ later in
-    end_of n s k q more c read told
-    (parsed_longest_under NothingAfterLater nothing_after_later n s c k q (record { read = read; meets = may_follow w.chain h w.none }) (λ g y meets. none_follows c g has meets))
+module _ (n : ℕ) (s : List ℕ) (c : List ExtHeader) (m : ℕ) (r : List ℕ) (found : Found) (w : WalkState n s c m r found) (h : ExtHeader) (k : ℕ) (q b : List ℕ) (more : Found) (x : IsNext (nat_eq (length r) (length s)) m r h)
+    (number : k ≡ next_header h.bytes) (bytes : b ≡ h.bytes) (rest : q ≡ drop (length b) r) (said : (d : List ExtHeader) → found ≡ found_in d → more ≡ found_in (d ++ h ∷ [])) (later : more.later ≡ true) where
+  read_on : HasParsed n s (c ++ h ∷ []) k q
+  read_on = has_parsed_on n s c m r h k q b w.read x number bytes rest
+
+  pub chain_at_later : c ++ h ∷ [] ≡ chain_to_later n s
+  chain_at_later =
+      let has : has_later (c ++ h ∷ []) ≡ true = ap (λ (f : Found). f.later) (sym (said c w.said)) ∙ later in
+      one_longest_under NothingAfterLater nothing_after_later n s (c ++ h ∷ []) _
+      (parsed_longest_under NothingAfterLater nothing_after_later n s (c ++ h ∷ []) k q (record { read = read_on; meets = may_follow c h w.none }) (λ g y meets. none_follows (c ++ h ∷ []) g has meets))
+      (chain_to_later-longest n s)
+
+  pub stops_at_later : AtEnd n s k q more
+  stops_at_later = end_of n s (c ++ h ∷ []) k q more read_on (said c w.said) chain_at_later

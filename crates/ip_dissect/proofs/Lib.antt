@@ -4,6 +4,7 @@ pub mod PartsLemmas
 pub mod Ipv4Lemmas
 pub mod DissectedLemmas
 pub mod JoinedLemmas
+pub mod PacketLemmas
 pub mod AgreementLemmas
 pub mod AcceptedLemmas
 pub mod OutlineLemmas

@@ -1,99 +1,139 @@
 -- The outline of a packet, from that of the bytes after its base header.
-use Rattle.ip_spec.proofs.Common.{◌≡◌, ℕ, ◌+◌, ◌-◌, ◌≤◌, List, length, drop, subst, refl, sym, ap, ◌∙◌, arith, rules, common_steps, nat_eq, Bool, true, false, Option, Some, None, is_some, option_or, option_map_or, if◌then◌else◌, ◌&&◌, not, length-drop, IsPrefix, leads_to, rest_after}
-use Rattle.ip_spec.proofs.PrefixLemmas.{prefix-length}
-use Rattle.ip_base.specs.Ipv4Header.{version, ipv4_header_fault}
-use Rattle.ip_base.specs.Ipv6Header.{ipv6_next_header, ipv6_header_fault}
-use Rattle.ip_base.specs.declared.err.ipv4.header_slice_error.HeaderSliceError.{HeaderSliceError as Ipv4Error}
-use Rattle.ip_base.specs.declared.err.ipv6.header_slice_error.HeaderSliceError.{HeaderSliceError as Ipv6Error}
+use Rattle.ip_spec.proofs.Common.{◌≡◌, ℕ, ◌+◌, ◌-◌, List, [], length, drop, subst, refl, sym, ap, ◌∙◌, rules, nat_eq, Bool, true, false, Option, None, Some, is_some, option_or, option_map, option_map_or, if◌then◌else◌, ◌==◌, ◌&&◌, ◌||◌, not, length-drop, ExtHeader, bytes_of, is_empty, leads_to, rest_after, fault_after, IsPrefixChain}
+use Rattle.ip_base.specs.declared.ip_number_impl.IpNumber.{IpNumber}
+use Rattle.ip_base.specs.Ipv4Header.{protocol, ipv4_fragment_offset}
+use Rattle.ip_base.specs.Ipv6Header.{ipv6_next_header}
+use Rattle.ip_base.specs.declared.len_source.LenSource.TheVariants.{Slice}
 use Rattle.ip_ext_slices.specs.ChainFault.{Fault, slice_fault}
+use Rattle.ip_ext_slices.specs.Ipv4Fault.{ipv4_faults}
+use Rattle.ip_ext_headers.specs.declared.err.ip_auth.header_slice_error.HeaderSliceError.{HeaderSliceError as AuthError}
+use Rattle.etherparse_ip.specs.PacketFault.{auth_in_packet}
+use Rattle.etherparse_ip.specs.declared.err.ip.slice_error.SliceError.{SliceError}
 use Rattle.ip_dissect.specs.Later.{chain_to_later}
-use Rattle.ip_dissect.specs.Fragment.{ipv6_fragment}
+use Rattle.ip_dissect.specs.LaterDemand.{has_later}
+use Rattle.ip_dissect.specs.Fragment.{ipv4_fragment, ipv6_fragment}
 use Rattle.ip_dissect.specs.Found.{found_in}
-use Rattle.ip_dissect.specs.Extent.{packet_bytes, after_base, missing_of, ipv6_stated, ipv6_chain}
-use Rattle.ip_dissect.specs.End.{base_end, has_error, exts_end, ipv6_end}
-use Rattle.ip_dissect.specs.Dissection.{dissected, with_base, ipv6_dissected}
-use Rattle.ip_dissect.specs.Outline.{HasOutline}
+use Rattle.ip_dissect.specs.Extent.{packet_bytes, after_base, missing_of, ipv4_stated, ipv6_stated, ipv4_chain, ipv4_chain_in, ipv6_chain}
+use Rattle.ip_dissect.specs.End.{base_end, has_error, auth_end, exts_end, is_too_short, ipv4_end, ipv6_end}
+use Rattle.ip_dissect.specs.Dissection.{without_base, with_base, ipv4_dissected, ipv6_dissected}
+use Rattle.ip_dissect.specs.Outline.{outline_of, plain_outline, is_later_end}
+use Rattle.ip_dissect.specs.declared.fragment.Fragment.{Fragment}
 use Rattle.ip_dissect.specs.declared.outline.Outline.{Outline}
 use Rattle.ip_dissect.specs.declared.walk.Found.{Found}
 use Rattle.ip_dissect.specs.declared.end.End.{End}
-use Rattle.ip_dissect.specs.declared.end.End.TheVariants.{LaterFragment, Payload}
+use Rattle.ip_dissect.specs.declared.end.End.TheVariants.{LaterFragment, Payload, Fault as fault_end}
 use Rattle.ip_dissect.proofs.LaterLemmas.{chain_to_later-longest}
-use Rattle.ip_dissect.proofs.PartsLemmas.{chain_len, after_is, ipv6_fragment_is, ipv6_end_is}
-use Rattle.ip_dissect.proofs.DissectedLemmas.{dissected-none, base6}
+use Rattle.ip_dissect.proofs.Ipv4Lemmas.{ipv4_prefix}
+use Rattle.ip_dissect.proofs.PartsLemmas.{empty_is, chain_len, ipv6_fragment_is, ipv6_end_is}
+
+same_outline : (o : Outline) (v b : ℕ) (t : Option ℕ) (k c n l : ℕ) (f : Option Fragment) (m p : ℕ) (later error : Bool) → o.version ≡ v → o.base_len ≡ b → o.stated_len ≡ t → o.extensions_len ≡ k → o.header_count ≡ c → o.next_header.0 ≡ n
+    → o.payload_len ≡ l → o.fragment ≡ f → o.missing ≡ m → o.padding_len ≡ p → o.is_later_fragment ≡ later → o.has_error ≡ error
+    → o ≡ record { version = v; base_len = b; stated_len = t; extensions_len = k; header_count = c; next_header = record { 0 = n }; payload_len = l; fragment = f; missing = m; padding_len = p; is_later_fragment = later; has_error = error }
+same_outline o v b t k c n l f m p later error vs bs ts ks cs ns ls fs ms ps laters errors = rw (← vs, ← bs, ← ts, ← ks, ← cs, ← ns, ← ls, ← fs, ← ms, ← ps, ← laters, ← errors) refl
+
+-- The outline o of bytes s with the base header b, read as y, of version v, which states u, read as t. Of the packet's
+-- bytes x after it, c are the headers, from n, and r the rest. The packet is the fragment f and ends at e.
+module _ (v : ℕ) (b s y : List ℕ) (same : y ≡ b) (t u : Option ℕ) (stated : t ≡ u) (packet x r : List ℕ) (front : packet ≡ packet_bytes y t s) (left : x ≡ drop (length y) packet) where
+  whole : packet ≡ packet_bytes b u s
+  whole = front ∙ ap (λ z. packet_bytes z t s) same ∙ ap (λ w. packet_bytes b w s) stated
+
+  pub after_base_is : x ≡ after_base b u s
+  after_base_is = left ∙ ap (λ (z : List ℕ). drop (length z) packet) same ∙ ap (drop (length b)) whole
+
+  pub with_base_outlined : (n : ℕ) (c : List ExtHeader) (f : Option Fragment) (e : End) (p : IsPrefixChain n x c) (rest : r ≡ rest_after c x) (o : Outline) → o.version ≡ v → o.base_len ≡ length y → o.stated_len ≡ t
+      → o.extensions_len ≡ length x - length r → o.header_count ≡ length c → o.next_header.0 ≡ leads_to n c → o.payload_len ≡ length r → o.fragment ≡ f → o.missing ≡ missing_of t (length s) → o.padding_len ≡ length s - length packet
+      → o.is_later_fragment ≡ is_later_end e → o.has_error ≡ has_error e → o ≡ outline_of (with_base v b s u n c f e)
+  with_base_outlined n c f e p rest o version base is extensions count number payload fragment missing padding later error =
+      same_outline o _ _ _ _ _ _ _ _ _ _ _ _ version (base ∙ ap length same) (is ∙ stated) (extensions ∙ chain_len n x c p r rest) count number (payload ∙ ap length rest ∙ ap (λ z. length (rest_after c z)) after_base_is) fragment
+      (missing ∙ ap (λ w. missing_of w (length s)) stated) (padding ∙ sym (length-drop (length packet) s) ∙ ap (λ (z : List ℕ). length (drop (length z) s)) whole) later error
 
 -- the end after an IPv6 chain, by whether there is an error
 abbrev pub end_after : Bool → Option ℕ → Option Fault → End
 end_after later t o = if later then LaterFragment else option_map_or (exts_end t) o Payload
 
-end_without : (later : Bool) (t : Option ℕ) (o : Option Fault) → (not later && is_some o) ≡ false → end_after later t o ≡ (if later then LaterFragment else Payload)
-end_without later t o e = search rules
+later_after : (later : Bool) (t : Option ℕ) (o : Option Fault) → later ≡ is_later_end (end_after later t o)
+later_after later t o = search rules
+
+error_after : (later : Bool) (t : Option ℕ) (o : Option Fault) → (not later && is_some o) ≡ has_error (end_after later t o)
+error_after later t o = search rules
 
 pub end_with : (later : Bool) (t : Option ℕ) (o : Option Fault) → (not later && is_some o) ≡ true → has_error (end_after later t o) ≡ true
-end_with later t o e = search rules
+end_with later t o e = sym (error_after later t o) ∙ e
 
 -- A pass over the bytes x after an IPv6 base header b, read as y: the number m, the bytes r, and what it found.
-module _ (b s y : List ℕ) (same : y ≡ b) (n : ℕ) (packet x : List ℕ) (t : Option ℕ) (stated : t ≡ ipv6_stated b) (front : packet ≡ packet_bytes y t s) (left : x ≡ drop (length y) packet) (ns : n ≡ ipv6_next_header b)
-    (m : ℕ) (r : List ℕ) (found : Found) (number : m ≡ leads_to n (chain_to_later n x)) (rest : r ≡ rest_after (chain_to_later n x) x) (said : found ≡ found_in (chain_to_later n x)) where
-  bytes : packet ≡ packet_bytes b t s
-  bytes = front ∙ ap (λ z. packet_bytes z t s) same
+module _ (b s y : List ℕ) (same : y ≡ b) (t : Option ℕ) (stated : t ≡ ipv6_stated b) (packet x r : List ℕ) (front : packet ≡ packet_bytes y t s) (left : x ≡ drop (length y) packet) (n m : ℕ) (ns : n ≡ ipv6_next_header b)
+    (found : Found) (number : m ≡ leads_to n (chain_to_later n x)) (rest : r ≡ rest_after (chain_to_later n x) x) (said : found ≡ found_in (chain_to_later n x)) where
+  abbrev xs : x ≡ after_base b (ipv6_stated b) s
+  xs = after_base_is 6 b s y same t (ipv6_stated b) stated packet x r front left
 
-  xs : x ≡ after_base b (ipv6_stated b) s
-  xs = after_is b s t _ packet x stated bytes (left ∙ ap (λ (z : List ℕ). drop (length z) packet) same)
+  pub ipv6_chain_is : chain_to_later n x ≡ ipv6_chain b s
+  ipv6_chain_is = ap (λ k. chain_to_later k x) ns ∙ ap (chain_to_later (ipv6_next_header b)) xs
 
-  abbrev error : Option Fault
-  error = slice_fault (40 + (length x - length r)) (nat_eq (length x - length r) 0) m r
-
-  the_end : end_after found.later t error ≡ ipv6_end b s
+  the_end : end_after found.later t (slice_fault (40 + (length x - length r)) (nat_eq (length x - length r) 0) m r) ≡ ipv6_end b s
   the_end = ipv6_end_is b x s t n m r found _ xs stated ns number rest said refl
 
-  pub ipv6_outline_none : (not found.later && is_some error) ≡ true → has_error (ipv6_end b s) ≡ true
-  ipv6_outline_none e = ap has_error (sym the_end) ∙ end_with found.later t error e
-
-  pub ipv6_has_outline : (o : Outline) → o.version ≡ 6 → o.base_len ≡ length b → o.stated_len ≡ t → o.extensions_len ≡ length x - length r → o.header_count ≡ found.count → o.next_header.0 ≡ m → o.payload_len ≡ length r
-      → o.fragment ≡ option_or found.fragmenting found.first → o.missing ≡ missing_of t (length s) → o.padding_len ≡ length s - length packet → o.is_later_fragment ≡ found.later → (not found.later && is_some error) ≡ false → HasOutline (ipv6_dissected b s) o
-  ipv6_has_outline o version base is extensions count next payload fragment missing padding later none =
-      let P : ℕ → List ℕ → Type 0 = λ k y. HasOutline (with_base 6 b s (ipv6_stated b) k (chain_to_later k y) (ipv6_fragment (ipv6_chain b s)) (ipv6_end b s)) o in
-      let whole : packet ≡ packet_bytes b (ipv6_stated b) s = bytes ∙ ap (λ u. packet_bytes b u s) stated in
-      let made : P n x = record {
-        version = version;
-        base = base;
-        stated = is ∙ stated;
-        extensions = extensions ∙ chain_len n x (chain_to_later n x) (chain_to_later-longest n x).has.0 r rest;
-        count = count ∙ ap (λ (f : Found). f.count) said;
-        number = next ∙ number;
-        payload = payload ∙ ap length rest ∙ ap (λ y. length (rest_after (chain_to_later n x) y)) xs;
-        fragment = ipv6_fragment_is b x s n found o.fragment xs ns said fragment;
-        missing = missing ∙ ap (λ u. missing_of u (length s)) stated;
-        padding = padding ∙ sym (length-drop (length packet) s) ∙ ap (λ (y : List ℕ). length (drop (length y) s)) whole;
-        end = sym the_end ∙ end_without found.later t error none ∙ ap (λ l. if l then LaterFragment else Payload) (sym later);
-      } in
+  pub ipv6_outlined : (o : Outline) → o.version ≡ 6 → o.base_len ≡ length y → o.stated_len ≡ t → o.extensions_len ≡ length x - length r → o.header_count ≡ found.count → o.next_header.0 ≡ m → o.payload_len ≡ length r
+      → o.fragment ≡ option_or found.fragmenting found.first → o.missing ≡ missing_of t (length s) → o.padding_len ≡ length s - length packet → o.is_later_fragment ≡ found.later
+      → o.has_error ≡ (not found.later && is_some (slice_fault (40 + (length x - length r)) (nat_eq (length x - length r) 0) m r)) → o ≡ outline_of (ipv6_dissected b s)
+  ipv6_outlined o version base is extensions count next payload fragment missing padding later error =
+      let P : ℕ → List ℕ → Type 0 = λ k z. o ≡ outline_of (with_base 6 b s (ipv6_stated b) k (chain_to_later k z) (ipv6_fragment (ipv6_chain b s)) (ipv6_end b s)) in
+      let made : P n x =
+      with_base_outlined 6 b s y same t (ipv6_stated b) stated packet x r front left n (chain_to_later n x) _ _ (chain_to_later-longest n x).has.0 rest o version base is extensions (count ∙ ap (λ (f : Found). f.count) said) (next ∙ number)
+      payload (ipv6_fragment_is b x s n found o.fragment xs ns said fragment) missing padding (later ∙ later_after found.later t _ ∙ ap is_later_end the_end) (error ∙ error_after found.later t _ ∙ ap has_error the_end)
+      in
       subst (λ k. P k (after_base b (ipv6_stated b) s)) ns (subst (P n) xs made)
 
--- bytes that don't start with a base header
-base_error : (s : List ℕ) (e : End) → base_end s ≡ Some e → has_error e ≡ true
-base_error s e is = search rules
+-- the end after an IPv4 base header, by whether its total length is too small and its offset 0
+abbrev end4 : Bool → Bool → SliceError → Option ℕ → ℕ → Option AuthError → End
+end4 short zero e t k o = if short then fault_end e None else if not zero then LaterFragment else option_map_or (auth_end t) (option_map (auth_in_packet Slice k) o) Payload
 
-error_of : (s : List ℕ) (o : Option End) → base_end s ≡ o → (o ≡ None → ⊥) → has_error (dissected s).end ≡ true
-error_of s o is some = grind (arith, common_steps, dissected-none s, base_error s)
+later4 : (short zero : Bool) (e : SliceError) (t : Option ℕ) (k : ℕ) (o : Option AuthError) → (not short && not zero) ≡ is_later_end (end4 short zero e t k o)
+later4 short zero e t k o = search rules
 
-pub empty_error : (s : List ℕ) → length s ≡ 0 → has_error (dissected s).end ≡ true
-empty_error s e = error_of s (base_end s) refl (λ none. search rules)
+error4 : (short zero : Bool) (e : SliceError) (t : Option ℕ) (k : ℕ) (o : Option AuthError) → (short || (zero && is_some o)) ≡ has_error (end4 short zero e t k o)
+error4 short zero e t k o = search rules
 
-pub other_error : (s : List ℕ) → (version s ≡ 4 → ⊥) → (version s ≡ 6 → ⊥) → has_error (dissected s).end ≡ true
-other_error s four six = error_of s (base_end s) refl (λ none. six (base6 s none four).0)
+-- The headers after an IPv4 base header b, read as y: their number, what they lead to, and whether an error follows.
+module _ (b s y : List ℕ) (same : y ≡ b) (t : Option ℕ) (stated : t ≡ ipv4_stated b) (packet x r : List ℕ) (front : packet ≡ packet_bytes y t s) (left : x ≡ drop (length y) packet) where
+  abbrev xs4 : x ≡ after_base b (ipv4_stated b) s
+  xs4 = after_base_is 4 b s y same t (ipv4_stated b) stated packet x r front left
 
-pub ipv4_error : (s : List ℕ) (e : Ipv4Error) → version s ≡ 4 → Some e ≡ ipv4_header_fault s → has_error (dissected s).end ≡ true
-ipv4_error s e four fault = error_of s (base_end s) refl (λ none. grind (arith, common_steps))
+  pub ipv4_chain_is : ipv4_chain_in b x ≡ ipv4_chain b s
+  ipv4_chain_is = ap (ipv4_chain_in b) xs4
 
-pub ipv6_error : (s : List ℕ) (e : Ipv6Error) → version s ≡ 6 → Some e ≡ ipv6_header_fault s → has_error (dissected s).end ≡ true
-ipv6_error s e six fault = error_of s (base_end s) refl (λ none. grind (arith, common_steps))
+  pub ipv4_outlined : (rest : r ≡ rest_after (ipv4_chain_in b x) x) (short later error : Bool) → short ≡ is_too_short b → later ≡ not (ipv4_fragment_offset b == 0)
+      → error ≡ ((ipv4_fragment_offset b == 0) && is_some (fault_after (ipv4_faults Slice) (ipv4_chain_in b x) (protocol b) x))
+      → (o : Outline) → o.version ≡ 4 → o.base_len ≡ length y → o.stated_len ≡ t → o.extensions_len ≡ length x - length r → o.header_count ≡ length (ipv4_chain_in b x) → o.next_header.0 ≡ leads_to (protocol b) (ipv4_chain_in b x)
+      → o.payload_len ≡ length r → o.fragment ≡ ipv4_fragment b → o.missing ≡ missing_of t (length s) → o.padding_len ≡ length s - length packet → o.is_later_fragment ≡ (not short && later) → o.has_error ≡ (short || error)
+      → o ≡ outline_of (ipv4_dissected b s)
+  ipv4_outlined rest short later error shorts laters errors o version base is extensions count next payload fragment missing padding later_is error_is =
+      let P : List ℕ → Type 0 = λ z. o ≡ outline_of (with_base 4 b s (ipv4_stated b) (protocol b) (ipv4_chain_in b z) (ipv4_fragment b) (ipv4_end b s)) in
+      let Q : List ℕ → Type 0 = λ z. error ≡ ((ipv4_fragment_offset b == 0) && is_some (fault_after (ipv4_faults Slice) (ipv4_chain_in b z) (protocol b) z)) in
+      let there : Q (after_base b (ipv4_stated b) s) = subst Q xs4 errors in
+      let made : P x =
+      with_base_outlined 4 b s y same t (ipv4_stated b) stated packet x r front left (protocol b) (ipv4_chain_in b x) _ _ (ipv4_prefix b x) rest o version base is extensions count next payload fragment missing padding
+      (later_is ∙ rw (shorts, laters) (later4 _ (ipv4_fragment_offset b == 0) _ (ipv4_stated b) (length b) (fault_after (ipv4_faults Slice) (ipv4_chain b s) (protocol b) (after_base b (ipv4_stated b) s)))) (error_is ∙ rw (shorts, there) (error4 _ (ipv4_fragment_offset b == 0) _ (ipv4_stated b) (length b) (fault_after (ipv4_faults Slice) (ipv4_chain b s) (protocol b) (after_base b (ipv4_stated b) s))))
+      in
+      subst P xs4 made
 
--- The parts lie one after another in the bytes: those of a packet with a base header b, read as y, and r after the headers.
-packet_fits : (b s : List ℕ) (t : Option ℕ) → IsPrefix b s → (length b ≤ length (packet_bytes b t s)) × (length (packet_bytes b t s) ≤ length s)
-packet_fits b s t p = grind (arith, common_steps, prefix-length b s p)
+-- bytes without a base header
+none_error : (s : List ℕ) (e : End) → base_end s ≡ Some e → (false ≡ is_later_end e) × (true ≡ has_error e)
+none_error s e is = search rules
 
-pub parts_within : (b s y : List ℕ) (same : y ≡ b) (t : Option ℕ) (packet x r : List ℕ) (k : ℕ) → IsPrefix b s → packet ≡ packet_bytes y t s → x ≡ drop (length y) packet → r ≡ drop k x
-    → length y + (length x - length r) + length r + (length s - length packet) ≡ length s
-parts_within b s y same t packet x r k p front left rest =
-    let fits : (length b ≤ length (packet_bytes b t s)) × (length (packet_bytes b t s) ≤ length s) = packet_fits b s t p in
-    omega (arith, ap length same, ap length (front ∙ ap (λ z. packet_bytes z t s) same), ap length left, length-drop (length y) packet, ap length rest, length-drop k x, fits.0, fits.1)
+pub none_outlined : (s : List ℕ) (o : Outline) → o ≡ record { version = 0; base_len = 0; stated_len = None; extensions_len = 0; header_count = 0; next_header = record { 0 = 59 }; payload_len = 0; fragment = None; missing = 0; padding_len = length s; is_later_fragment = false; has_error = true }
+    → (e : End) → base_end s ≡ Some e → o ≡ outline_of (without_base s e)
+none_outlined s o is e ends = let w = none_error s e ends in is ∙ rw (← w.0, ← w.1) refl
+
+-- a packet without headers, fragment and error
+pub plain_outlined : (v : ℕ) (b s : List ℕ) (t : Option ℕ) (n : ℕ) (number : IpNumber) (c : List ExtHeader) (f : Option Fragment) (e : End) → number.0 ≡ n → c ≡ [] → f ≡ None → e ≡ Payload → plain_outline v b t number s ≡ outline_of (with_base v b s t n c f e)
+plain_outlined v b s t n number c f e same none whole ends = rw (none, whole, ends, ← same) refl
+
+-- the error where an IPv6 walk stopped
+not_later : (later : Bool) (e : End) → has_error (if later then LaterFragment else e) ≡ true → e ≡ (if later then LaterFragment else e)
+not_later later e wrong = search rules
+
+pub ipv6_error_is : (b s : List ℕ) (o : Outline) (r : List ℕ) (e : End) → o ≡ outline_of (ipv6_dissected b s) → r ≡ (ipv6_dissected b s).payload → has_error (ipv6_end b s) ≡ true
+    → e ≡ option_map_or (exts_end o.stated_len) (slice_fault (40 + o.extensions_len) (o.extensions_len == 0) o.next_header.0 r) Payload → e ≡ ipv6_end b s
+ipv6_error_is b s o r e is rest wrong made =
+    let none : (length (bytes_of (ipv6_chain b s)) == 0) ≡ is_empty (ipv6_chain b s) = empty_is (ipv6_chain b s) _ (chain_to_later-longest _ _).has.0.chain.headers refl in
+    made ∙ rw (is, rest, none) (not_later (has_later (ipv6_chain b s)) _ wrong)

@@ -1,4 +1,4 @@
--- The parts of a packet, from those of the bytes after its base header.
+-- What a pass over the bytes after an IPv6 base header finds.
 use Rattle.ip_spec.proofs.Common.{◌≡◌, ℕ, ◌+◌, ◌-◌, List, length, take, drop, refl, ap, ◌∙◌, arith, nat_eq, rules, eqb_tells, Option, option_map, option_or, option_map_or, find, if◌then◌else◌, AllByRecursion, IsHeader, ExtHeader, bytes_of, leads_to, is_empty, rest_after, IsPrefixChain}
 use Rattle.ip_spec.proofs.PrefixLemmas.{prefix-length}
 use Rattle.ip_spec.proofs.ChainLemmas.{bytes_of-least}
@@ -7,17 +7,15 @@ use Rattle.ip_ext_slices.specs.ChainFault.{slice_fault}
 use Rattle.ip_dissect.specs.Later.{chain_to_later}
 use Rattle.ip_dissect.specs.Fragment.{fragment_of, fragments, is_fragment_header, ipv6_fragment}
 use Rattle.ip_dissect.specs.Found.{found_in}
-use Rattle.ip_dissect.specs.Extent.{packet_bytes, after_base, missing_of, ipv6_stated, ipv6_chain}
+use Rattle.ip_dissect.specs.Extent.{packet_bytes, after_base, ipv6_stated, ipv6_chain}
 use Rattle.ip_dissect.specs.End.{exts_end, ipv6_end}
-use Rattle.ip_dissect.specs.Dissection.{version_of, base_of, HasParts, with_base, ipv6_dissected}
-use Rattle.ip_dissect.specs.declared.dissection.Dissection.{Dissection}
 use Rattle.ip_dissect.specs.declared.fragment.Fragment.{Fragment}
 use Rattle.ip_dissect.specs.declared.walk.Found.{Found}
 use Rattle.ip_dissect.specs.declared.end.End.{End}
 use Rattle.ip_dissect.specs.declared.end.End.TheVariants.{LaterFragment, Payload}
 use Rattle.ip_dissect.proofs.LaterLemmas.{chain_to_later-longest}
 
-empty_is : (c : List ExtHeader) (k : ℕ) → AllByRecursion (λ h. IsHeader h.number h.bytes) c → k ≡ length (bytes_of c) → nat_eq k 0 ≡ is_empty c
+pub empty_is : (c : List ExtHeader) (k : ℕ) → AllByRecursion (λ h. IsHeader h.number h.bytes) c → k ≡ length (bytes_of c) → nat_eq k 0 ≡ is_empty c
 empty_is c k a e = search (rules, nat_eq, eqb_tells, bytes_of-least)
 
 -- A chain c from n at the start of x, and r after it.
@@ -41,37 +39,9 @@ pub ipv6_fragment_is : (b x s : List ℕ) (n : ℕ) (found : Found) (f : Option 
     → f ≡ option_or found.fragmenting found.first → f ≡ ipv6_fragment (ipv6_chain b s)
 ipv6_fragment_is b x s n found f xs ns said is = cc (found_fragment found (chain_to_later n x) said)
 
--- the parts of a packet, where x follows the base header
-pub has_parts : (v : ℕ) (b s : List ℕ) (t : Option ℕ) (n : ℕ) (c : List ExtHeader) (f : Option Fragment) (e : End) (packet x : List ℕ) (d : Dissection) → version_of d ≡ v → base_of d ≡ b → d.stated_len ≡ t → packet ≡ packet_bytes b d.stated_len s
-    → x ≡ drop (length b) packet → IsPrefixChain n x c → d.extensions.now ≡ take (length x - length d.payload.now) x → d.header_count ≡ length c → d.next_header.0 ≡ leads_to n c → d.payload.now ≡ rest_after c x
-    → d.fragment ≡ f → d.missing ≡ missing_of d.stated_len (length s) → d.padding.now ≡ drop (length packet) s → d.end ≡ e → HasParts (with_base v b s t n c f e) d
-has_parts v b s t n c f e packet x d version base stated bytes after chain headers count number payload fragment missing padding end =
-    let whole : packet ≡ packet_bytes b t s = bytes ∙ ap (λ u. packet_bytes b u s) stated in
-    record {
-      version = version;
-      base = base;
-      stated = stated;
-      extensions = headers ∙ chain_front n x c chain d.payload.now payload;
-      count = count;
-      number = number;
-      payload = payload ∙ ap (rest_after c) (after ∙ ap (drop (length b)) whole);
-      fragment = fragment;
-      missing = missing ∙ ap (λ u. missing_of u (length s)) stated;
-      padding = padding ∙ ap (λ (y : List ℕ). drop (length y) s) whole;
-      end = end;
-    }
-
 -- what follows the base header, by the stated length
 pub after_is : (b s : List ℕ) (t u : Option ℕ) (packet x : List ℕ) → t ≡ u → packet ≡ packet_bytes b t s → x ≡ drop (length b) packet → x ≡ after_base b u s
 after_is b s t u packet x stated bytes after = after ∙ ap (drop (length b)) (bytes ∙ ap (λ v. packet_bytes b v s) stated)
-
-pub ipv6_has_parts : (b s : List ℕ) (n : ℕ) (packet x : List ℕ) (d : Dissection) → version_of d ≡ 6 → base_of d ≡ b → d.stated_len ≡ ipv6_stated b → packet ≡ packet_bytes b d.stated_len s
-    → x ≡ drop (length b) packet → n ≡ ipv6_next_header b → d.extensions.now ≡ take (length x - length d.payload.now) x → d.header_count ≡ length (chain_to_later n x) → d.next_header.0 ≡ leads_to n (chain_to_later n x)
-    → d.payload.now ≡ rest_after (chain_to_later n x) x → d.fragment ≡ ipv6_fragment (ipv6_chain b s) → d.missing ≡ missing_of d.stated_len (length s) → d.padding.now ≡ drop (length packet) s → d.end ≡ ipv6_end b s
-    → HasParts (ipv6_dissected b s) d
-ipv6_has_parts b s n packet x d version base stated bytes after ns headers count number payload fragment missing padding end =
-    let made = has_parts 6 b s _ n (chain_to_later n x) _ _ packet x d version base stated bytes after (chain_to_later-longest n x).has.0 headers count number payload fragment missing padding end in
-    rw (ns, after_is b s d.stated_len _ packet x stated bytes after) at made
 
 pub ipv6_end_is : (b x s : List ℕ) (t : Option ℕ) (n m : ℕ) (r : List ℕ) (found : Found) (end : End) → x ≡ after_base b (ipv6_stated b) s → t ≡ ipv6_stated b → n ≡ ipv6_next_header b
     → m ≡ leads_to n (chain_to_later n x) → r ≡ rest_after (chain_to_later n x) x → found ≡ found_in (chain_to_later n x)

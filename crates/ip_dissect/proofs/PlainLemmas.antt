@@ -1,8 +1,7 @@
 -- Packets without extension headers.
-use Rattle.ip_spec.proofs.Common.{◌≡◌, ℕ, ◌+◌, List, [], ◌∷◌, length, subst, refl, sym, ap, ◌∙◌, arith, rules, common_steps, inr, Bool, true, false, Option, None, is_some, IsSome, option_map, option_map_or, if◌then◌else◌, ◌==◌, ◌&&◌, not, nat_lt, IsExtensionNumber, ExtHeader, leads_to, bytes_of, is_empty, rest_after, fault_after, AtMostOneOf, IsLongestUnder}
+use Rattle.ip_spec.proofs.Common.{◌≡◌, ℕ, ◌+◌, List, [], ◌∷◌, length, subst, refl, sym, ap, ◌∙◌, arith, rules, common_steps, inr, Bool, true, false, Option, None, is_some, IsSome, option_map, option_map_or, if◌then◌else◌, ◌==◌, ◌&&◌, not, IsExtensionNumber, ExtHeader, leads_to, bytes_of, is_empty, rest_after, fault_after, AtMostOneOf, IsLongestUnder}
 use Rattle.ip_spec.proofs.ParsedLemmas.{has_parsed_none, parsed_longest_under}
 use Rattle.ip_spec.proofs.UnderLemmas.{one_longest_under, longest_ends_under}
-use Rattle.ip_base.specs.declared.ip_number_impl.IpNumber.{IpNumber}
 use Rattle.ip_base.specs.LenError.{too_short}
 use Rattle.ip_base.specs.declared.len_source.LenSource.TheVariants.{Slice, Ipv4HeaderTotalLen}
 use Rattle.ip_base.specs.declared.err.layer.Layer.TheVariants.{Ipv4Packet}
@@ -10,7 +9,7 @@ use Rattle.ip_ext_headers.specs.HeaderFault.{auth_fault}
 use Rattle.ip_ext_headers.specs.declared.err.ip_auth.header_slice_error.HeaderSliceError.{HeaderSliceError as AuthError}
 use Rattle.ip_ext_slices.specs.Ipv4Fault.{ipv4_faults}
 use Rattle.ip_ext_slices.specs.Ipv4Longest.{longest_ipv4_chain}
-use Rattle.ip_ext_slices.proofs.Ipv4Lemmas.{ipv4_longest}
+use Rattle.ip_ext_slices.proofs.Ipv4Lemmas.{ipv4_longest, by_one}
 use Rattle.etherparse_ip.specs.PacketFault.{auth_in_packet}
 use Rattle.etherparse_ip.specs.declared.err.ip.slice_error.SliceError.TheVariants.{Len}
 use Rattle.ip_spec.proofs.DemandKinds.{at_most_one_of}
@@ -22,31 +21,15 @@ use Rattle.ip_dissect.specs.LaterDemand.{has_later, NothingAfterLater, nothing_a
 use Rattle.ip_dissect.specs.Later.{chain_to_later}
 use Rattle.ip_dissect.specs.Extent.{after_base, ipv4_stated, ipv4_chain, ipv6_stated, ipv6_chain}
 use Rattle.ip_dissect.specs.Fragment.{ipv4_fragment, ipv6_fragment}
-use Rattle.ip_dissect.specs.End.{has_error, exts_end, auth_end, ipv4_end, ipv6_end}
-use Rattle.ip_dissect.specs.Dissection.{DissectedParts, with_base, ipv4_dissected, ipv6_dissected}
-use Rattle.ip_dissect.specs.Outline.{HasOutline, is_plain, plain_outline}
+use Rattle.ip_dissect.specs.End.{has_error, exts_end, auth_end, is_too_short, ipv4_end, ipv6_end}
+use Rattle.ip_dissect.specs.Dissection.{DissectedParts, dissected, ipv4_dissected, ipv6_dissected}
+use Rattle.ip_dissect.proofs.DissectedLemmas.{BeginNone, begins_none, base_error}
+use Rattle.ip_dissect.specs.Outline.{is_plain, IsBaseOf}
 use Rattle.ip_dissect.specs.declared.fragment.Fragment.{Fragment}
 use Rattle.ip_dissect.specs.declared.end.End.{End}
 use Rattle.ip_dissect.specs.declared.end.End.TheVariants.{Payload, LaterFragment, Fault}
 use Rattle.ip_dissect.proofs.LaterLemmas.{chain_to_later-longest}
 use Rattle.ip_dissect.proofs.OutlineLemmas.{end_after, end_with}
-
--- a packet without headers, fragment and error
-pub plain_has_outline : (v : ℕ) (b s : List ℕ) (t : Option ℕ) (n : ℕ) (number : IpNumber) (c : List ExtHeader) (f : Option Fragment) (e : End) → number.0 ≡ n → c ≡ [] → f ≡ None → e ≡ Payload
-    → HasOutline (with_base v b s t n c f e) (plain_outline v b t number s)
-plain_has_outline v b s t n number c f e same none whole ends = rw (none, whole, ends) (record {
-  version = refl;
-  base = refl;
-  stated = refl;
-  extensions = refl;
-  count = refl;
-  number = same;
-  payload = refl;
-  fragment = refl;
-  missing = refl;
-  padding = refl;
-  end = refl;
-})
 
 pub plain_is : (c : List ExtHeader) (f : Option Fragment) (e : End) → c ≡ [] → f ≡ None → e ≡ Payload → (not (has_error e) && is_empty c && not (is_some f)) ≡ true
 plain_is c f e none whole ends = rw (none, whole, ends) refl
@@ -58,6 +41,9 @@ not_plain (h ∷ c) f e wrong = grind (arith, common_steps)
 pub error_not_plain : (p : DissectedParts) → has_error p.end ≡ true → is_plain p ≡ false
 error_not_plain p e = rw e refl
 
+pub none_not_plain : (s : List ℕ) → IsBaseOf s None → is_plain (dissected s) ≡ false
+none_not_plain s is = let w : BeginNone s = begins_none s is in error_not_plain (dissected s) (ap (λ (p : DissectedParts). has_error p.end) w.is ∙ base_error s w.reason w.ends)
+
 with_fragment : (c : List ExtHeader) (f : Option Fragment) (e : End) → IsSome f → (not (has_error e) && is_empty c && not (is_some f)) ≡ false
 with_fragment c f e some = grind (arith, common_steps)
 
@@ -67,6 +53,11 @@ none_at_other n s other =
     one_longest_under NothingAfterLater nothing_after_later n s (chain_to_later n s) [] (chain_to_later-longest n s)
     (parsed_longest_under NothingAfterLater nothing_after_later n s [] n s (record { read = has_parsed_none n s; meets = tt }) (λ h x q. end_at_other true n s other h x))
 
+none_at_other4 : (n : ℕ) (s : List ℕ) → (n ≡ 51 → ⊥) → longest_ipv4_chain n s ≡ []
+none_at_other4 n s other =
+    let w : IsLongestUnder (AtMostOneOf 51) n s (longest_ipv4_chain n s) = ipv4_longest n s in
+    by_one (λ c. c ≡ []) n refl (λ b is h. absurd (other is)) (longest_ipv4_chain n s) w.has.0.chain w.has.1
+
 -- the end after the chain c from n at the start of x
 abbrev end_of : Option ℕ → ℕ → List ℕ → List ExtHeader → End
 end_of t n x c = end_after (has_later c) t (slice_fault (40 + length (bytes_of c)) (is_empty c) (leads_to n c) (rest_after c x))
@@ -74,7 +65,7 @@ end_of t n x c = end_after (has_later c) t (slice_fault (40 + length (bytes_of c
 -- and after an IPv4 one
 abbrev end4_of : List ℕ → Option ℕ → ℕ → ℕ → List ℕ → List ExtHeader → End
 end4_of b t offset n x c =
-    if not (total_len b == 0) && nat_lt (total_len b) (length b) then Fault (Len (too_short Ipv4HeaderTotalLen (total_len b) 0 Ipv4Packet (length b))) None
+    if is_too_short b then Fault (Len (too_short Ipv4HeaderTotalLen (total_len b) 0 Ipv4Packet (length b))) None
     else if not (offset == 0) then LaterFragment
     else option_map_or (auth_end t) (option_map (auth_in_packet Slice (length b)) (fault_after (ipv4_faults Slice) c n x)) Payload
 
@@ -99,7 +90,7 @@ either_fails true d e p q = p
 either_fails false d e p q = q
 
 end4_fails : (b : List ℕ) (t : Option ℕ) (offset n : ℕ) (x : List ℕ) → offset ≡ 0 → n ≡ 51 → IsSome (auth_fault Slice (length x) 0 x) → has_error (end4_of b t offset n x []) ≡ true
-end4_fails b t offset n x zero auth some = rw (zero, auth) (either_fails (not (total_len b == 0) && nat_lt (total_len b) (length b)) _ _ refl (auth_ends_fail t (length b) (auth_fault Slice (length x) 0 x) some))
+end4_fails b t offset n x zero auth some = rw (zero, auth) (either_fails (is_too_short b) _ _ refl (auth_ends_fail t (length b) (auth_fault Slice (length x) 0 x) some))
 
 module _ (b s : List ℕ) where
   abbrev number : ℕ
@@ -129,7 +120,7 @@ module _ (b s : List ℕ) where
   ipv6_not_plain is = not_plain (ipv6_chain b s) (ipv6_fragment (ipv6_chain b s)) (ipv6_end b s) (ipv6_fails is)
 
   -- an IPv4 packet with too small a total length, a fragment, and one with an authentication header
-  pub short_not_plain : (not (total_len b == 0) && nat_lt (total_len b) (length b)) ≡ true → is_plain (ipv4_dissected b s) ≡ false
+  pub short_not_plain : is_too_short b ≡ true → is_plain (ipv4_dissected b s) ≡ false
   short_not_plain e = not_plain (ipv4_chain b s) (ipv4_fragment b) (ipv4_end b s) (λ _. rw e refl)
 
   fragment_there : is_ipv4_fragmenting b ≡ true → IsSome (ipv4_fragment b)
@@ -141,7 +132,7 @@ module _ (b s : List ℕ) where
   abbrev after4 : List ℕ
   after4 = after_base b (ipv4_stated b) s
 
-  pub auth_fails : is_ipv4_fragmenting b ≡ false → protocol b ≡ 51 → ipv4_chain b s ≡ [] → has_error (ipv4_end b s) ≡ true
+  auth_fails : is_ipv4_fragmenting b ≡ false → protocol b ≡ 51 → ipv4_chain b s ≡ [] → has_error (ipv4_end b s) ≡ true
   auth_fails whole auth none =
       let zero : ipv4_fragment_offset b ≡ 0 = grind (arith, common_steps) in
       let chain : longest_ipv4_chain 51 after4 ≡ [] = ap (λ n. longest_ipv4_chain n after4) (sym auth) ∙ chain_if (ipv4_fragment_offset b) (longest_ipv4_chain (protocol b) after4) zero none in
@@ -150,3 +141,14 @@ module _ (b s : List ℕ) where
 
   pub auth_not_plain : is_ipv4_fragmenting b ≡ false → protocol b ≡ 51 → is_plain (ipv4_dissected b s) ≡ false
   auth_not_plain whole auth = not_plain (ipv4_chain b s) (ipv4_fragment b) (ipv4_end b s) (auth_fails whole auth)
+
+  -- and any other one
+  module _ (short : is_too_short b ≡ false) (whole : is_ipv4_fragmenting b ≡ false) (other : protocol b ≡ 51 → ⊥) where
+    pub ipv4_none : ipv4_chain b s ≡ []
+    ipv4_none = search (rules, none_at_other4 (protocol b) after4)
+
+    pub ipv4_whole : ipv4_fragment b ≡ None
+    ipv4_whole = grind (arith, common_steps)
+
+    pub ipv4_payload : ipv4_end b s ≡ Payload
+    ipv4_payload = ap (end4_of b (ipv4_stated b) (ipv4_fragment_offset b) (protocol b) after4) ipv4_none ∙ grind (arith, common_steps)

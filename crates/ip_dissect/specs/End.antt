@@ -64,10 +64,14 @@ has_error end.LaterFragment = false
 has_error (end.Truncated e header) = true
 has_error (end.Fault e header) = true
 
+-- The total length of an IPv4 base header b is below its header length.
+abbrev pub is_too_short : List ℕ → Bool
+is_too_short b = not (total_len b == 0) && nat_lt (total_len b) (length b)
+
 -- the end after an IPv4 base header b in bytes s
 abbrev pub ipv4_end : List ℕ → List ℕ → End
 ipv4_end b s =
-    if not (total_len b == 0) && nat_lt (total_len b) (length b) then end.Fault (Len (too_short Ipv4HeaderTotalLen (total_len b) 0 layer.Ipv4Packet (length b))) None
+    if is_too_short b then end.Fault (Len (too_short Ipv4HeaderTotalLen (total_len b) 0 layer.Ipv4Packet (length b))) None
     else if not (ipv4_fragment_offset b == 0) then end.LaterFragment
     else option_map_or (auth_end (ipv4_stated b)) (option_map (auth_in_packet Slice (length b)) (fault_after (ipv4_faults Slice) (ipv4_chain b s) (protocol b) (after_base b (ipv4_stated b) s))) end.Payload
 

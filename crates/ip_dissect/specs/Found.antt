@@ -27,4 +27,4 @@ pub record HasPassed (n : ℕ) (s : List ℕ) (p : Passed) : Type 0 where
   pub number : p.number.0 ≡ leads_to n (chain_to_later n s)
   pub rest : p.rest.now ≡ rest_after (chain_to_later n s) s
   pub found : p.found ≡ found_in (chain_to_later n s)
-  pub fault : (k : ℕ) → p.is_fault ≡ (not p.found.later && is_some (slice_fault k (length s - length p.rest.now == 0) p.number.0 p.rest.now))
+  pub error : (k : ℕ) → p.has_error ≡ (not p.found.later && is_some (slice_fault k (length s - length p.rest.now == 0) p.number.0 p.rest.now))

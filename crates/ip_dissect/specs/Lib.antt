@@ -3,7 +3,6 @@ pub mod Later
 pub mod Fragment
 pub mod Found
 pub mod Extent
-pub mod Walked
 pub mod End
 pub mod Dissection
 pub mod Outline

@@ -1,3 +1,4 @@
+//! Laws of chains up to a later fragment and of truncated bytes, proved as the contracts of calls.
 ghost use Rattle.std.specs.Prelude.{◌≡◌, ◌-◌, ℕ, List, length, take};
 ghost use Rattle.ip_spec.specs.Chain.{ExtHeader, headers_within};
 ghost use Rattle.ip_spec.specs.Demand.{IsDemand, IsLongestUnder};

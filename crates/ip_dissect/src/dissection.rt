@@ -1,3 +1,4 @@
+//! The parts of a packet, borrowed.
 ghost use Rattle.std.specs.Prelude.{◌≡◌};
 ghost use Rattle.ip_dissect.specs.Dissection.{version_in, base_bytes};
 

@@ -1,3 +1,4 @@
+//! Why the headers of a packet end where they do, as a value.
 use etherparse_ip::err::ip::SliceError;
 use etherparse_ip::err::{Layer, LenError};
 

@@ -1,44 +1,120 @@
-//! Why the headers of a packet end where they do.
-ghost use Rattle.std.specs.Prelude.{◌≡◌, ◌==◌, ◌+◌, ◌^◌, ◌<◌, ◌&&◌, not, is_some, if◌then◌else◌};
-ghost use Rattle.std.specs.Option.{option_map_or};
+//! Why the headers of a packet end where they do. These functions are kept out of line, since most packets have no error.
+ghost use Rattle.std.specs.Prelude.{◌≡◌, ◌==◌, ◌+◌, ◌^◌, ◌<◌, ◌≤◌, ◌&&◌, not, nat_lt, length, Some, None, IsSome, if◌then◌else◌};
+ghost use Rattle.std.specs.Option.{option_map_or, option_map, ForSome};
+ghost use Rattle.ip_base.specs.Prefix.{IsPrefix};
+ghost use Rattle.ip_base.specs.LenError.{too_short};
+ghost use Rattle.ip_base.specs.Ipv4Header.{version};
+ghost use Rattle.ip_base.specs.Ipv4HeaderSlice as ipv4_header;
 ghost use Rattle.ip_base.specs.declared.len_source.LenSource.TheVariants.{Slice};
 ghost use Rattle.ip_ext_headers.specs.HeaderFault.{AuthOffsetFits};
 ghost use Rattle.etherparse_ip.specs.PacketFault.{auth_in_packet};
+ghost use Rattle.etherparse_ip.specs.declared.err.ip.headers_error.HeadersError.TheVariants.{Ip};
+ghost use Rattle.etherparse_ip.specs.declared.err.ip.slice_error.SliceError.TheVariants.{IpHeaders};
 ghost use Rattle.ip_ext_slices.specs.ChainFault.{slice_fault};
-ghost use Rattle.ip_dissect.specs.End.{len_end, auth_end, exts_end};
-ghost use Rattle.ip_dissect.specs.declared.end.End.TheVariants.{LaterFragment, Payload};
+ghost use Rattle.ip_dissect.specs.End.{base_end, ipv4_end, len_end, auth_end, exts_end};
+ghost use Rattle.ip_dissect.specs.declared.end.End.TheVariants.{Truncated, Fault, Payload};
 
 use crate::End;
-use crate::walk::Passed;
-use etherparse_ip::err::ip::{HeadersError, SliceError};
+use crate::fields::{ipv4_offset, ipv4_stated_len};
+use crate::outline::{is_too_short, packet_of};
+use crate::walk::after;
+use etherparse_ip::err::ip::{HeaderError, HeadersError, SliceError};
 use etherparse_ip::err::{Layer, LenError, ip_auth, ipv6_exts};
-use ip_base::{IpNumber, Ipv6Header, LenSource};
-use ip_ext_slices::fault_at;
+use ip_base::{IpNumber, Ipv4HeaderSlice, Ipv6Header, LenSource};
+use ip_ext_slices::{Ipv4ExtensionsSlice, fault_at};
 
-/// Returns the end of an IPv6 packet after `len` bytes of extension headers.
-#[inline(always)]
-pub(crate) fn ipv6_end(passed: &Passed<'_>, len: usize, stated_len: Option<usize>) -> End
-    requires len { 40 + len < 2 ^ 64 }
-    requires fault { passed.now.is_fault ≡ (not passed.now.found.later
-        && is_some (slice_fault (40 + len) (len == 0) passed.now.number.0 passed.now.rest.now)) }
-    ensures { result ≡ (if passed.now.found.later then LaterFragment
-        else option_map_or (exts_end stated_len) (slice_fault (40 + len) (len == 0)
-        passed.now.number.0 passed.now.rest.now) Payload) }
+/// Returns the end of bytes that don't start with a whole base header.
+#[cold]
+#[inline(never)]
+pub(crate) fn base_error(bytes: &[u8]) -> End
+    requires { IsSome (base_end bytes.now) }
+    ensures { base_end bytes.now ≡ Some result }
 {
-    if passed.is_fault {
-        return end_at_extension(passed.number, passed.rest, len, stated_len);
+    if bytes.is_empty() {
+        return truncated(bytes, Layer::IpHeader, 1);
     }
-    if passed.found.later {
-        End::LaterFragment
-    } else {
-        End::Payload
+    match bytes[0] >> 4 {
+        4 => ipv4_base_error(bytes),
+        6 => truncated(bytes, Layer::Ipv6Header, Ipv6Header::LEN),
+        version_number => malformed(HeaderError::UnsupportedIpVersion { version_number }),
+    }
+}
+
+/// Returns the end of bytes of version 4 that don't start with a whole base header.
+fn ipv4_base_error(bytes: &[u8]) -> End
+    requires some { 1 ≤ length bytes.now }
+    requires version { version bytes.now ≡ 4 }
+    requires error { IsSome (base_end bytes.now) }
+    ensures { base_end bytes.now ≡ Some result }
+{
+    let ihl = bytes[0] & 0b1111;
+    if ihl < 5 {
+        return malformed(HeaderError::Ipv4HeaderLengthSmallerThanHeader { ihl });
+    }
+    truncated(bytes, Layer::Ipv4Header, usize::from(ihl) * 4)
+}
+
+/// Returns the end of bytes that are too few for this layer.
+fn truncated(bytes: &[u8], layer: Layer, required_len: usize) -> End
+    ensures { result ≡ Truncated (too_short Slice (length bytes.now) 0 layer required_len) None }
+{
+    End::Truncated {
+        error: LenError::slice_too_short(bytes, layer, required_len),
+        header: None,
+    }
+}
+
+/// Returns the end at a malformed base header.
+fn malformed(error: HeaderError) -> End
+    ensures { result ≡ Fault (IpHeaders (Ip error)) None }
+{
+    End::Fault {
+        error: SliceError::IpHeaders(HeadersError::Ip(error)),
+        header: None,
+    }
+}
+
+/// Returns the end of the IPv4 packet with this base header.
+#[cold]
+#[inline(never)]
+pub(crate) fn ipv4_end(base: Ipv4HeaderSlice<'_>, bytes: &[u8]) -> End
+    requires { IsPrefix (ipv4_header.bytes base) bytes.now }
+    ensures { result ≡ ipv4_end (ipv4_header.bytes base.entry) bytes.now }
+{
+    let slice = base.slice();
+    if is_too_short(base) {
+        let error = LenError {
+            required_len: slice.len(),
+            layer_start_offset: 0,
+            len_source: LenSource::Ipv4HeaderTotalLen,
+            layer: Layer::Ipv4Packet,
+            len: usize::from(base.total_len()),
+        };
+        return End::Fault {
+            error: SliceError::Len(error),
+            header: None,
+        };
+    }
+    if ipv4_offset(base) != 0 {
+        return End::LaterFragment;
+    }
+    let stated_len = ipv4_stated_len(base);
+    let after_base = after(packet_of(bytes, slice, stated_len), slice.len());
+    match Ipv4ExtensionsSlice::from_slice_lax(base.protocol(), after_base).3 {
+        Some(error) => end_of_auth(error, slice.len(), stated_len),
+        None => End::Payload,
     }
 }
 
 /// Returns the end at the number of an IPv6 extension header after `len` bytes of them.
 #[cold]
 #[inline(never)]
-fn end_at_extension(number: IpNumber, rest: &[u8], len: usize, stated_len: Option<usize>) -> End
+pub(crate) fn end_at_extension(
+    number: IpNumber,
+    rest: &[u8],
+    len: usize,
+    stated_len: Option<usize>,
+) -> End
     requires { 40 + len < 2 ^ 64 }
     ensures { result ≡ option_map_or (exts_end stated_len) (slice_fault (40 + len) (len == 0)
         number.0 rest.now) Payload }
@@ -59,13 +135,7 @@ fn end_at_extension(number: IpNumber, rest: &[u8], len: usize, stated_len: Optio
 }
 
 /// Returns the end at an error of an authentication header after an IPv4 base header of `base_len` bytes.
-#[cold]
-#[inline(never)]
-pub(crate) fn end_of_auth(
-    error: ip_auth::HeaderSliceError,
-    base_len: usize,
-    stated_len: Option<usize>,
-) -> End
+fn end_of_auth(error: ip_auth::HeaderSliceError, base_len: usize, stated_len: Option<usize>) -> End
     requires { AuthOffsetFits error base_len }
     ensures { result ≡ auth_end stated_len (auth_in_packet Slice base_len error) }
 {
@@ -86,8 +156,6 @@ pub(crate) fn end_of_auth(
 
 /// Returns the end at a header for which there are too few bytes. It doesn't fit the packet if the stated length
 /// leaves fewer bytes than it needs; otherwise it is truncated.
-#[cold]
-#[inline(never)]
 fn end_of_len(
     error: LenError,
     header: Option<Layer>,

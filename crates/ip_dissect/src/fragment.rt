@@ -1,3 +1,4 @@
+//! Which fragment a packet is.
 ghost use Rattle.std.specs.Prelude.{◌≡◌, ◌≤◌};
 ghost use Rattle.ip_dissect.specs.Fragment.{kind_of, fragment_with};
 

@@ -1,53 +1,25 @@
 //! Packets without extension headers.
-ghost use Rattle.std.specs.Prelude.{◌≡◌, ◌+◌, is_some, length, IfSome};
+ghost use Rattle.std.specs.Prelude.{◌≡◌, is_some, IfSome};
 ghost use Rattle.ip_base.specs.Prefix.{IsPrefix};
 ghost use Rattle.ip_base.specs.Ipv4HeaderSlice as ipv4_header;
 ghost use Rattle.ip_base.specs.Ipv6HeaderSlice as ipv6_header;
-ghost use Rattle.ip_dissect.specs.Dissection.{dissected, ipv4_dissected, ipv6_dissected};
-ghost use Rattle.ip_dissect.specs.Outline.{HasOutline, is_plain, plain_outline};
+ghost use Rattle.ip_dissect.specs.Dissection.{ipv4_dissected, ipv6_dissected};
+ghost use Rattle.ip_dissect.specs.Outline.{outline_of, is_plain, plain_outline};
 
 use crate::Outline;
 use crate::fields::{ipv4_stated_len, ipv6_stated_len};
-use crate::outline::is_too_short;
-use crate::parts::{missing, packet_of};
+use crate::outline::{is_too_short, missing, packet_of};
 use crate::walk::after;
 use ip_base::{IpNumber, Ipv4HeaderSlice, Ipv6HeaderSlice, ip_number};
 use ip_ext_slices::is_extension;
 
-/// Outlines the packet at the start of `bytes`, which may be any bytes, if it has no extension headers, is no fragment
-/// and its headers end without an error, and returns `None` for any other. It has no loop, so a caller that passes all
-/// other packets to a function that isn't inlined saves time.
-#[inline(always)]
-pub fn outline_plain_packet(bytes: &[u8]) -> Option<Outline>
-    ensures plain { is_some result ≡ is_plain (dissected bytes.now) }
-    ensures parts { IfSome result (HasOutline (dissected bytes.now)) }
-    ensures within { IfSome result (λ o. o.base_len + o.extensions_len + o.payload_len
-        + o.padding_len ≡ length bytes.now) }
-{
-    if bytes.is_empty() {
-        return None;
-    }
-    match bytes[0] >> 4 {
-        4 => match Ipv4HeaderSlice::from_slice(bytes) {
-            Ok(base) => ipv4_plain(base, bytes),
-            Err(_) => None,
-        },
-        6 => match Ipv6HeaderSlice::from_slice(bytes) {
-            Ok(base) => ipv6_plain(base, bytes),
-            Err(_) => None,
-        },
-        _ => None,
-    }
-}
-
 /// Outlines the IPv6 packet with this base header if no extension header follows it.
 #[inline(always)]
-fn ipv6_plain(base: Ipv6HeaderSlice<'_>, bytes: &[u8]) -> Option<Outline>
+pub(crate) fn ipv6_plain(base: Ipv6HeaderSlice<'_>, bytes: &[u8]) -> Option<Outline>
     requires { IsPrefix (ipv6_header.bytes base) bytes.now }
     ensures plain { is_some result ≡ is_plain (ipv6_dissected (ipv6_header.bytes base.entry) bytes.now) }
-    ensures parts { IfSome result (HasOutline (ipv6_dissected (ipv6_header.bytes base.entry) bytes.now)) }
-    ensures within { IfSome result (λ o. o.base_len + o.extensions_len + o.payload_len
-        + o.padding_len ≡ length bytes.now) }
+    ensures outline { IfSome result (λ o.
+        o ≡ outline_of (ipv6_dissected (ipv6_header.bytes base.entry) bytes.now)) }
 {
     let number = base.next_header();
     if is_extension(number) {
@@ -58,12 +30,11 @@ fn ipv6_plain(base: Ipv6HeaderSlice<'_>, bytes: &[u8]) -> Option<Outline>
 
 /// Outlines the IPv4 packet with this base header if it is no fragment, and no authentication header follows.
 #[inline(always)]
-fn ipv4_plain(base: Ipv4HeaderSlice<'_>, bytes: &[u8]) -> Option<Outline>
+pub(crate) fn ipv4_plain(base: Ipv4HeaderSlice<'_>, bytes: &[u8]) -> Option<Outline>
     requires { IsPrefix (ipv4_header.bytes base) bytes.now }
     ensures plain { is_some result ≡ is_plain (ipv4_dissected (ipv4_header.bytes base.entry) bytes.now) }
-    ensures parts { IfSome result (HasOutline (ipv4_dissected (ipv4_header.bytes base.entry) bytes.now)) }
-    ensures within { IfSome result (λ o. o.base_len + o.extensions_len + o.payload_len
-        + o.padding_len ≡ length bytes.now) }
+    ensures outline { IfSome result (λ o.
+        o ≡ outline_of (ipv4_dissected (ipv4_header.bytes base.entry) bytes.now)) }
 {
     let number = base.protocol();
     if is_too_short(base) || base.is_fragmenting_payload() || number == ip_number::AUTH {
@@ -72,7 +43,7 @@ fn ipv4_plain(base: Ipv4HeaderSlice<'_>, bytes: &[u8]) -> Option<Outline>
     Some(plain_outline(4, base.slice(), ipv4_stated_len(base), number, bytes))
 }
 
-/// Returns the outline of a packet whose payload, of this number, follows its base header.
+/// Outlines a packet whose payload, of this number, follows its base header.
 #[inline(always)]
 fn plain_outline(
     version: u8,
@@ -82,9 +53,7 @@ fn plain_outline(
     bytes: &[u8],
 ) -> Outline
     requires { IsPrefix base.now bytes.now }
-    ensures outline { result ≡ plain_outline version base.now stated_len number bytes.now }
-    ensures within { result.base_len + result.extensions_len + result.payload_len
-        + result.padding_len ≡ length bytes.now }
+    ensures { result ≡ plain_outline version base.now stated_len number bytes.now }
 {
     let packet = packet_of(bytes, base, stated_len);
     Outline {
@@ -99,5 +68,6 @@ fn plain_outline(
         missing: missing(stated_len, bytes.len()),
         padding_len: after(bytes, packet.len()).len(),
         is_later_fragment: false,
+        has_error: false,
     }
 }

@@ -5,8 +5,9 @@ ghost use Rattle.ip_spec.specs.Chain.{ExtHeader};
 ghost use Rattle.ip_ext_slices.specs.Ipv6ExtensionSlice.{header_of};
 ghost use Rattle.ip_dissect.specs.Fragment.{fragment_in, is_atomic};
 ghost use Rattle.ip_dissect.specs.Found.{found_in, HasPassed};
+ghost use Rattle.ip_dissect.specs.Later.{chain_to_later};
 
-use crate::{Fragment, FragmentKind};
+use crate::{Fragment, FragmentKind, HeaderVisitor};
 use ip_base::IpNumber;
 use ip_ext_slices::{Ipv6ExtensionSlice, header_at, is_extension};
 
@@ -31,7 +32,7 @@ pub(crate) struct Passed<'a> {
     pub(crate) rest: &'a [u8],
     pub(crate) found: Found,
     /// Whether it stopped at an extension header's number without such a header.
-    pub(crate) is_fault: bool,
+    pub(crate) has_error: bool,
 }
 
 /// Returns the bytes after the first `len`.
@@ -43,10 +44,18 @@ pub(crate) fn after(bytes: &[u8], len: usize) -> &[u8]
     &bytes[len..]
 }
 
-/// Walks the longest chain from `start` in which nothing follows a later fragment's header.
+/// Walks the longest chain from `start` in which nothing follows a later fragment's header. The bytes start `offset`
+/// bytes after the start of the packet.
 #[inline(always)]
-pub(crate) fn pass(start: IpNumber, bytes: &[u8]) -> Passed<'_>
-    ensures { HasPassed start.0 bytes.now result }
+pub(crate) fn pass<'a, V: HeaderVisitor>(
+    start: IpNumber,
+    bytes: &'a [u8],
+    offset: usize,
+    visitor: &mut V,
+) -> Passed<'a>
+    requires { offset + length bytes.now < 2 ^ 64 }
+    ensures passed { HasPassed start.0 bytes.now result }
+    ensures visited { V.visited visitor.old offset (chain_to_later start.0 bytes.now) visitor.new }
 {
     let mut number = start;
     let mut rest = bytes;
@@ -57,18 +66,23 @@ pub(crate) fn pass(start: IpNumber, bytes: &[u8]) -> Passed<'_>
                 number,
                 rest,
                 found,
-                is_fault: true,
+                has_error: true,
             };
         };
-        number = header.next_header();
-        rest = after(rest, header.slice().len());
+        let index = found.count;
+        let at = offset + (bytes.len() - rest.len());
+        let slice = header.slice();
+        let next = header.next_header();
         found = found.with(&header);
+        rest = after(rest, slice.len());
+        visitor.visit(number, slice, index, at);
+        number = next;
         if found.later {
             return Passed {
                 number,
                 rest,
                 found,
-                is_fault: false,
+                has_error: false,
             };
         }
     }
@@ -76,7 +90,7 @@ pub(crate) fn pass(start: IpNumber, bytes: &[u8]) -> Passed<'_>
         number,
         rest,
         found,
-        is_fault: false,
+        has_error: false,
     }
 }
 

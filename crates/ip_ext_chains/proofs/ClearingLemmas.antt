@@ -1,16 +1,11 @@
 -- Reserved bits that are cleared in the joined bytes of headers, one header after the other.
-use Rattle.ip_spec.proofs.Common.{common_steps, ◌≡◌, ℕ, ◌+◌, ◌≤◌, List, ◌∷◌, ◌++◌, length, take, drop, arith, ap, drop-drop, length-drop, length-append, append_assoc, take-append_seam, drop-append_seam, take-put_mid, drop-put_mid, put_mid, ExtHeader, bytes_of, IsHeader, cleared_header, cleared_chain}
+use Rattle.ip_spec.proofs.Common.{common_steps, ◌≡◌, ℕ, ◌+◌, ◌≤◌, List, ◌∷◌, length, take, drop, arith, ap, drop-drop, length-drop, length-append, append_assoc, take-append_seam, drop-append_seam, take-put_mid, drop-put_mid, put_mid, ExtHeader, bytes_of, IsHeader, cleared_header}
+use Rattle.ip_ext_chains.specs.Clearing.{Clearing}
 use Rattle.ip_spec.proofs.HeaderLemmas.{header-least}
 use Rattle.ip_spec.proofs.ClearedLemmas.{cleared_same}
 
--- The bytes before `at` are cleared headers, and those from there on the bytes of the remaining headers.
-pub record Clearing (all left : List ExtHeader) (at : ℕ) (copy : List ℕ) : Type 0 where
-  pub within : at ≤ length copy
-  pub cleared : take at copy ++ bytes_of (cleared_chain left) ≡ bytes_of (cleared_chain all)
-  pub rest : drop at copy ≡ bytes_of left
-
 -- one more header
-module _ (all : List ExtHeader) (h : ExtHeader) (left : List ExtHeader) (at : ℕ) (copy : List ℕ) (k : Clearing all (h ∷ left) at copy) where
+module _ (all : List ℕ) (h : ExtHeader) (left : List ExtHeader) (at : ℕ) (copy : List ℕ) (k : Clearing all (h ∷ left) at copy) where
   -- it is in the copy where the headers before it end
   pub room : at + length h.bytes ≤ length copy
   room = omega (arith, k.within, ap length k.rest, length-append h.bytes (bytes_of left), length-drop at copy)

@@ -1,10 +1,13 @@
 -- The longest chain that fits six places, as the first run of the longest chain.
-use Rattle.ip_spec.proofs.Common.{◌≡◌, ◌≢◌, ℕ, ◌-◌, arith, ap, List, ◌++◌, length, take, drop, rules, [], Option, Some, None, IsSome, cases_Bool, IsExtensionNumber, append-nil, length-append, ExtHeader, leads_to, bytes_of, headers_within, is_empty, IsChain, IsPrefixChain, rest_after, fault_after, IsLongestUnder, IsEndUnder, FitsPlaces, IsOccupied, IsLaterNumber, header_in, next_place, ◌==◌, is_some, ne_eqb}
+use Rattle.ip_spec.proofs.Common.{◌≡◌, ◌≢◌, ℕ, ◌-◌, arith, ap, List, ◌++◌, length, take, drop, rules, [], Option, Some, None, IsSome, cases_Bool, IsExtensionNumber, append-nil, length-append, ExtHeader, leads_to, bytes_of, headers_within, is_empty, IsChain, IsPrefixChain, rest_after, fault_after, IsLongestUnder, IsEndUnder, FitsPlaces, IsOccupied, IsLaterNumber, header_in, next_place, has_fragmenting, is_fragmenting, option_map_or, false, ◌==◌, is_some, ne_eqb}
 use Rattle.ip_ext_slices.proofs.FaultLemmas.{fault_at_end, end_at_other, no_fault_at_other}
 use Rattle.ip_ext_slices.proofs.RequestFaultLemmas.{fault_ends}
 use Rattle.std.proofs.lemmas.Grind.{flat_map-append}
 use Rattle.ip_spec.proofs.HeaderLemmas.{later_of, later_extension, later_not_zero}
-use Rattle.ip_spec.proofs.PlaceLemmas.{occupied_breaks}
+use Rattle.ip_spec.proofs.FirstLemmas.{only_both}
+use Rattle.ip_spec.proofs.PrefixLemmas.{prefix-length}
+use Rattle.ip_spec.proofs.PlaceLemmas.{is_of, occupied_breaks}
+use Rattle.ip_spec.specs.Places.{fragment}
 use Rattle.ip_spec.proofs.FitsLemmas.{fits_places, fitting_ends, next_occupied}
 use Rattle.ip_spec.proofs.UnderLemmas.{some_longest_under, one_longest_under, kept_is_longest}
 use Rattle.ip_spec.proofs.ParsedLemmas.{has_parsed_before, parsed_answers}
@@ -15,7 +18,8 @@ use Rattle.ip_ext_chains.specs.Fitting.{fitting_chain, fitting_faults, fitting_f
 use Rattle.ip_base.specs.declared.len_source.LenSource.TheVariants.{Slice}
 use Rattle.ip_ext_slices.specs.ChainFault.{Fault, fault_at, chain_faults, chain_fault}
 use Rattle.ip_ext_chains.specs.Ipv6Extensions.{value_of}
-use Rattle.ip_ext_chains.specs.Slots.{at}
+use Rattle.ip_ext_slices.specs.Ipv6ExtensionSlice.{header_of}
+use Rattle.ip_ext_chains.specs.Slots.{at, ArePlaced}
 use Rattle.ip_ext_chains.specs.Run.{IsRun}
 use Rattle.ip_ext_slices.specs.declared.ipv6_ext_slice.Ipv6ExtensionSlice.{Ipv6ExtensionSlice}
 use Rattle.ip_ext_chains.specs.declared.ipv6_exts.Ipv6Extensions.{Ipv6Extensions}
@@ -30,6 +34,21 @@ fitting_longest n s = (some_longest_under FitsPlaces fits_places n s).1
 -- of truncated bytes it is the headers that lie wholly within them
 pub fitting_shorter : (n j : ℕ) (s : List ℕ) → fitting_chain n (take j s) ≡ headers_within j (fitting_chain n s)
 fitting_shorter n j s = longest_shorter FitsPlaces fits_places n j s (fitting_chain n s) (fitting_chain n (take j s)) (fitting_longest n s) (fitting_longest n (take j s))
+
+-- The bytes before the rest after it are its bytes, and it is their longest chain.
+module _ (n : ℕ) (s r : List ℕ) (rest : r ≡ rest_after (fitting_chain n s) s) where
+  pub fitting_front : take (length s - length r) s ≡ bytes_of (fitting_chain n s)
+  fitting_front =
+      let p : IsPrefixChain n s (fitting_chain n s) = (fitting_longest n s).has.0 in
+      let len : length s - length r ≡ length (bytes_of (fitting_chain n s)) = omega (arith, ap length rest, prefix-length _ _ p.prefix) in rw len p.prefix
+
+  pub fitting_own : longest_chain n (take (length s - length r) s) ≡ fitting_chain n s
+  fitting_own = rw fitting_front (longest_chain-bytes_of n (fitting_chain n s) (fitting_longest n s).has.0.chain)
+
+-- a chain that fits has at most one fragment header, the one in its place
+pub placed_fragments : (c : List ExtHeader) (v : Places Ipv6ExtensionSlice) → FitsPlaces c → ArePlaced c v → has_fragmenting c ≡ option_map_or (λ h. is_fragmenting (header_of h).bytes) (at fragment v) false
+placed_fragments c v fits placed =
+    let one = only_both (is_of fragment) (λ h. is_fragmenting h.bytes) c (fits fragment) in search (rules, placed fragment)
 
 -- The error after a chain is that of the borrowed chain, unless the number is occupied.
 module _ (c : List ExtHeader) (m : ℕ) (r : List ℕ) where
@@ -47,19 +66,6 @@ module _ (n : ℕ) (s : List ℕ) (left : List ExtHeader) (v : Places Ipv6Extens
   run_fits : k.run ≡ fitting_chain n s
   run_fits =
       search (rules, one_longest_under FitsPlaces fits_places n s, kept_is_longest FitsPlaces fits_places n s (longest_chain n s), longest_chain-longest, fitting_longest)
-
-  -- The bytes before those left are its bytes, and their longest chain is the run.
-  pub run_front : (j : ℕ) → j ≡ length (bytes_of (longest_chain n s)) - length (bytes_of left) → longest_chain n (take j s) ≡ fitting_chain n s
-  run_front j e =
-      let fits = run_fits in
-      let p : IsPrefixChain n s (fitting_chain n s) = (fitting_longest n s).has.0 in
-      let joined : bytes_of (longest_chain n s) ≡ bytes_of k.run ++ bytes_of left = search (rules, flat_map-append) in
-      let len : j ≡ length (bytes_of (fitting_chain n s)) = omega (arith, e, ap length joined, length-append (bytes_of k.run) (bytes_of left), ap (λ c. length (bytes_of c)) fits) in
-      rw (len, p.prefix) (longest_chain-bytes_of n (fitting_chain n s) p.chain)
-
-  -- If none are left, the run is the longest chain.
-  pub run_whole : left ≡ [] → longest_chain n s ≡ fitting_chain n s
-  run_whole none = let fits = run_fits in cc (append-nil k.run)
 
   -- If headers are left, the place of the next one is occupied.
   pub walk_stops : left ≢ [] → (m : ℕ) → IsChain m left → (r : List ℕ) → r ≡ drop (length (bytes_of (longest_chain n s)) - length (bytes_of left)) s → IsPlacedAnswer n s v m r None

@@ -12,6 +12,8 @@ use Rattle.ip_spec.proofs.PlaceLemmas.{place_of, has_routing, place_number, fina
 use Rattle.ip_ext_chains.specs.Fitting.{IsFittingAnswer}
 use Rattle.ip_ext_chains.specs.Ipv6Extensions.{value_of, placed_fields}
 use Rattle.ip_ext_chains.specs.ChainReading.{with_header, IsReadInto}
+use Rattle.ip_ext_chains.specs.Slots.{at, IsVacant, IsPut}
+use Rattle.ip_ext_chains.specs.declared.places.Places.{Places}
 use Rattle.ip_ext_chains.specs.declared.ipv6_exts.Ipv6Extensions.{Ipv6Extensions}
 use Rattle.ip_ext_chains.proofs.PlacedLemmas.{mapped_if}
 use Rattle.ip_ext_chains.proofs.PlacedFieldsLemmas.{placed_fields-value_of, placed_fields_one}
@@ -43,6 +45,16 @@ free_places v = length (filter (λ p. is_none (placed_fields v p)) places)
 
 fewer_at : (p : Place) (b : List ℕ) (v : Ipv6Extensions) → is_some (placed_fields v p) ≡ false → (p ≡ final_destination → is_some v.routing ≡ true) → free_places (with_header p b v) < free_places v
 fewer_at p b v free nested = search rules
+
+-- the occupied places are those of the value
+abbrev pub AreOccupied : Places (Unit {0}) → Ipv6Extensions → Type 0
+AreOccupied o v = (p : Place) → is_some (at p o) ≡ is_some (placed_fields v p)
+
+pub none_occupied : (o : Places (Unit {0})) (v : Ipv6Extensions) → IsVacant o → v ≡ value_of [] → AreOccupied o v
+none_occupied o v vacant e p = search (rules, vacant)
+
+pub next_occupied : (o : Places (Unit {0})) (v : Ipv6Extensions) (first : Bool) (m : ℕ) → AreOccupied o v → next_in_chain first (λ p. at p o) m ≡ next_in_chain first (placed_fields v) m
+next_occupied o v first m same = let k = next_alike (λ p. at p o) (placed_fields v) m same in search rules
 
 module _ (n : ℕ) (c : List ExtHeader) (m : ℕ) (v : Ipv6Extensions) (first : Bool) (k : IsReading n c m v first) where
   -- a number without a place, other than 0, ends the chain
@@ -86,3 +98,6 @@ module _ (n : ℕ) (c : List ExtHeader) (m : ℕ) (v : Ipv6Extensions) (first : 
     -- a header that is read occupies one place
     pub fewer : (Consumed : List ℕ → Type 0) (j : ℕ) (w : Ipv6Extensions) → IsReadInto Consumed p j v w → free_places w < free_places v
     fewer Consumed j w r = search (rules, fewer_at, free, nested)
+
+    pub occupied_more : (Consumed : List ℕ → Type 0) (j : ℕ) (w : Ipv6Extensions) (o q : Places (Unit {0})) → IsReadInto Consumed p j v w → AreOccupied o v → IsPut p tt o q → AreOccupied q w
+    occupied_more Consumed j w o q r same put t = search (rules, put t, same t, r.value, put_held p t r.bytes v free nested)

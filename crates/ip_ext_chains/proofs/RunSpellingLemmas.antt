@@ -36,8 +36,10 @@ module _ (n : ℕ) (s : List ℕ) (bytes : AreBytes s) where
   pub runs_spelled : AreSpellings n (map value_of (runs_of n s)) (map cleared_chain (runs_of n s))
   runs_spelled = search (rules, pieces_spelled, runs_chains, runs_fit, runs_joined, longest_chain-longest, chain_bytes, runs_from-runs)
 
-  pub spellings_written : (ds : List (List ExtHeader)) → AreSpellings n (map value_of (runs_of n s)) ds → bytes_of (joined ds) ≡ bytes_of (cleared_chain (longest_chain n s))
-  spellings_written ds t = search (rules, one_list_of_spellings n (map value_of (runs_of n s)), runs_spelled, bytes_joined, runs_written, runs_from-runs)
+-- the bytes of the encodings of all runs of a chain
+pub spellings_written : (n m : ℕ) (c : List ExtHeader) → AreSpellings n (map value_of (runs_from m c)) (map cleared_chain (runs_from m c))
+    → (ds : List (List ExtHeader)) → AreSpellings n (map value_of (runs_from m c)) ds → bytes_of (joined ds) ≡ bytes_of (cleared_chain c)
+spellings_written n m c spelled ds t = search (rules, one_list_of_spellings n (map value_of (runs_from m c)), bytes_joined, runs_written, runs_from-runs)
 
 -- the lemmas on the number from which the remaining runs are encoded
 pub ruleset numbers_left = (left_spelled, none_left, some_left, number_before-some, number_before-end, longest_chain-longest)

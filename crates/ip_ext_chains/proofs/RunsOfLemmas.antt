@@ -1,6 +1,6 @@
 -- The runs of the longest chain and the remaining ones, the number before them, and their bytes.
-use Rattle.ip_spec.proofs.Common.{common_steps, ◌≡◌, ◌≢◌, ℕ, List, ◌∷◌, length, map, refl, arith, Bool, true, false, rules, [], if◌then◌else◌, append-nil, ExtHeader, leads_to, KeepsBeginning, FitsPlaces, IsOccupied, AreRuns, ◌<◌, ◌++◌, take-append_seam, drop-append_seam, flat_map-append, All-take, All-drop, AreBytes, bytes_of, IsChain}
-use Rattle.ip_spec.proofs.RunsLemmas.{some_runs, one_runs, some_run, runs_more, chain_after, leads_to-append}
+use Rattle.ip_spec.proofs.Common.{common_steps, ◌≡◌, ◌≢◌, ℕ, List, ◌∷◌, length, map, refl, arith, Bool, true, false, rules, [], if◌then◌else◌, append-nil, ExtHeader, leads_to, KeepsBeginning, FitsPlaces, IsOccupied, AreRuns, ◌<◌, ◌++◌, take-append_seam, drop-append_seam, flat_map-append, All-take, All-drop, AreBytes, bytes_of, IsChain, joined, ◌≤◌, ◌/◌, ◌+◌}
+use Rattle.ip_spec.proofs.RunsLemmas.{some_runs, one_runs, runs_joined, runs_bound, some_run, runs_more, chain_after, leads_to-append}
 use Rattle.ip_ext_slices.specs.Longest.{longest_chain}
 use Rattle.ip_ext_chains.specs.Ipv6Extensions.{value_of}
 use Rattle.ip_ext_chains.specs.RunsOf.{runs_from}
@@ -13,6 +13,14 @@ use Rattle.ip_ext_slices.specs.declared.ipv6_ext_slice.Ipv6ExtensionSlice.{Ipv6E
 
 pub runs_from-runs : (m : ℕ) (c : List ExtHeader) → AreRuns m c (runs_from m c)
 runs_from-runs m c = (some_runs m c).1
+
+-- the remaining ones joined are the remaining headers
+pub left_joined : (m : ℕ) (c : List ExtHeader) (done : Bool) → (done ≡ true → c ≡ []) → joined (if done then [] else runs_from m c) ≡ c
+left_joined m c done last = search (rules, runs_joined, runs_from-runs)
+
+-- there is at most one for each 8 bytes and one more
+pub left_few : (m n : ℕ) (s : List ℕ) (done : Bool) → length (if done then [] else runs_from m (longest_chain n s)) ≤ length s / 8 + 1
+left_few m n s done = search (rules, runs_bound, longest_chain-longest, runs_from-runs)
 
 -- there is always a first run
 pub some_value_left : (done : Bool) (m : ℕ) (c : List ExtHeader) → done ≡ false → map value_of (if done then [] else runs_from m c) ≢ []

@@ -1,16 +1,21 @@
 //! Borrowed chains: the longest one that fits six places, and a copy of a chain with its reserved bits zero.
-ghost use Rattle.std.specs.Prelude.{◌≡◌, ◌==◌, ℕ, length, take, None, Some, if◌then◌else◌};
-ghost use Rattle.ip_spec.specs.Chain.{bytes_of, headers_within};
+ghost use Rattle.std.specs.Prelude.{◌≡◌, ◌==◌, ◌≤◌, ◌+◌, ℕ, List, ◌∷◌, ◌++◌, length, take, drop, None, Some, if◌then◌else◌};
+ghost use Rattle.ip_spec.specs.Chain.{ExtHeader, bytes_of, headers_within};
 ghost use Rattle.ip_spec.specs.Demand.{IsLongestUnder};
 ghost use Rattle.ip_spec.specs.Encoding.{cleared_chain};
 ghost use Rattle.ip_spec.specs.Fits.{FitsPlaces};
 ghost use Rattle.ip_ext_slices.specs.Ipv6ExtensionsSlice.{first_number, bytes as bytes_in, headers_in};
+ghost use Rattle.ip_ext_slices.specs.Ipv6ExtensionSlice.{header_of};
+ghost use Rattle.ip_ext_slices.specs.Ipv6ExtensionSliceIter.{headers_left};
+ghost use Rattle.ip_ext_chains.specs.Clearing.{Clearing};
+ghost use Rattle.ip_ext_chains.specs.Run.{IsRun};
 ghost use Rattle.ip_ext_chains.specs.Fitting.{fitting_chain, IsFittingHeaders};
 
-use crate::Ipv6ExtensionsSlice;
 use crate::err::Layer;
 use crate::err::ipv6_exts::HeaderSliceError;
-use crate::run::take_run;
+use crate::places::Places;
+use crate::run::take_fitting;
+use crate::{Ipv6ExtensionSlice, Ipv6ExtensionSliceIter, Ipv6ExtensionsSlice};
 use ip_base::IpNumber;
 use ip_ext_headers::clear_reserved_bits;
 
@@ -38,29 +43,11 @@ pub fn fitting_headers(
     ensures first { first_number result.0
         ≡ (if length (bytes_in result.0) == 0 then None else Some start_ip_number) }
 {
-    let (chain, number, rest, fault) = Ipv6ExtensionsSlice::from_slice_lax(
-        start_ip_number,
-        start_slice,
-    );
-    let Ok(all) = chain.clone() else {
-        unreachable!();
-    };
-    let mut headers = all.into_iter();
-    let places = take_run(&mut headers);
-    let left = headers.rest();
-    // Usually all headers fit. If some are left, the headers before them are parsed once more.
-    if !left.is_empty() {
-        let read = chain.slice().len() - left.len();
-        let (fitting, _, _, _) = Ipv6ExtensionsSlice::from_slice_lax(
-            start_ip_number,
-            &start_slice[..read],
-        );
-        return (fitting, headers.next_number(), &start_slice[read..], None);
-    }
-    if places.is_occupied(number) {
-        return (chain, number, rest, None);
-    }
-    (chain, number, rest, fault)
+    let (places, number, rest, fault) = take_fitting(start_ip_number, start_slice);
+    let fragmented = places.is_fragmenting_payload();
+    let front = &start_slice[..start_slice.len() - rest.len()];
+    let headers = Ipv6ExtensionsSlice::new(start_ip_number, front, fragmented);
+    (headers, number, rest, fault)
 }
 
 /// Clears the reserved bits of the headers (RFC 8200, section 4.5; RFC 4302, section 2.3) in a copy of their bytes that
@@ -75,8 +62,47 @@ pub fn clear_chain(headers: &Ipv6ExtensionsSlice<'_>, copy: &mut [u8])
     let mut headers = headers.into_iter();
     let mut at = 0;
     'headers: while let Some(header) = headers.next() {
-        let end = at + header.slice().len();
-        clear_reserved_bits(header.number(), &mut copy[at..end]);
-        at = end;
+        at = clear_header(&header, at, copy);
     }
+}
+
+/// Stores headers in their places, as `take_run` does, and clears their reserved bits in a copy of the chain, where the
+/// first starts at `start`. Returns the places, and where the last header ends.
+#[inline(always)]
+pub(crate) fn clear_run<'a>(
+    headers: &mut Ipv6ExtensionSliceIter<'a>,
+    start: usize,
+    copy: &mut [u8],
+) -> (Places<Ipv6ExtensionSlice<'a>>, usize)
+    requires within { start ≤ length copy.old }
+    requires copied { drop start copy.old ≡ bytes_of (headers_left headers.old) }
+    ensures run { IsRun (headers_left headers.old) result.0 (headers_left headers.new) }
+    ensures cleared { Clearing
+        (take start copy.old ++ bytes_of (cleared_chain (headers_left headers.old)))
+        (headers_left headers.new) result.1 copy.new }
+{
+    let mut places = Places::new();
+    let mut at = start;
+    'headers: loop {
+        let Some(place) = places.next_place(headers.next_number()) else {
+            return (places, at);
+        };
+        let Some(header) = headers.next() else {
+            return (places, at);
+        };
+        at = clear_header(&header, at, copy);
+        places.put(place, header);
+    }
+}
+
+/// Clears the reserved bits of the header in a copy of its chain, where it starts at `at`. Returns where it ends.
+#[inline(always)]
+fn clear_header(header: &Ipv6ExtensionSlice<'_>, at: usize, copy: &mut [u8]) -> usize
+    requires room { at + length (header_of header.now).bytes ≤ length copy.old }
+    ensures { (all : List ℕ) (left : List ExtHeader)
+        → Clearing all (header_of header.now ∷ left) at copy.old → Clearing all left result copy.new }
+{
+    let end = at + header.slice().len();
+    clear_reserved_bits(header.number(), &mut copy[at..end]);
+    end
 }

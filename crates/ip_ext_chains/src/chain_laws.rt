@@ -1,3 +1,4 @@
+//! A law of longest chains that fit six places, proved as the contract of a call.
 ghost use Rattle.std.specs.Prelude.{ℕ, List, IsSome};
 ghost use Rattle.ip_spec.specs.Header.{IsExtensionNumber};
 ghost use Rattle.ip_spec.specs.Chain.{ExtHeader, leads_to};

@@ -1,6 +1,5 @@
 //! A header in its place.
 ghost use Rattle.std.specs.Prelude.{◌≡◌, ◌≤◌, ◌+◌, vec_len, vec_capacity};
-ghost use Rattle.std.specs.Option.{option_map};
 ghost use Rattle.ip_spec.specs.Encoding.{AppendsOne, IsRawEncoding, IsAuthEncoding};
 ghost use Rattle.ip_spec.specs.Encodable.{fields_len};
 ghost use Rattle.ip_spec.specs.Fields.{raw_len, auth_len};

@@ -1,3 +1,4 @@
+//! Six places for IPv6 extension headers, parsed from bytes.
 ghost use Rattle.std.specs.Prelude.{◌≡◌, ◌≤◌, ◌+◌, ℕ, [], take, Some, None, IfOk, IfErr};
 ghost use Rattle.std.specs.Option.{option_map, option_map_or, ForSome};
 ghost use Rattle.ip_spec.specs.Numbers.{ROUTING, FRAGMENT, AUTHENTICATION, DESTINATION_OPTIONS};
@@ -10,15 +11,15 @@ ghost use Rattle.ip_spec.specs.Encodable.{IsEncoded, IsEncodable};
 ghost use Rattle.ip_spec.specs.Fits.{FitsPlaces};
 ghost use Rattle.ip_ext_headers.specs.Ipv6RawExtHeaderSlice.{bytes};
 ghost use Rattle.ip_ext_headers.specs.IpAuthHeaderSlice.{bytes as auth_bytes};
-ghost use Rattle.ip_ext_chains.specs.Fitting.{fitting_chain, fitting_fault, IsFittingAnswer, IsPlacedAnswer};
+ghost use Rattle.ip_ext_chains.specs.Fitting.{fitting_chain, fitting_fault, IsFittingAnswer};
 ghost use Rattle.ip_ext_chains.specs.Slots.{AreOfNumber, value_at};
 ghost use Rattle.ip_ext_chains.specs.Ipv6Extensions.{value_of, placed_fields, final_of, exts_len, has_none, is_fragmented};
 
 use crate::err::Layer;
 use crate::err::ipv6_exts::HeaderSliceError;
 use crate::places::{Place, Places};
-use crate::run::take_run;
-use crate::{Ipv6ExtensionSlice, Ipv6ExtensionsSlice, Ipv6RoutingExtensions};
+use crate::run::take_fitting;
+use crate::{Ipv6ExtensionSlice, Ipv6RoutingExtensions};
 use ip_base::IpNumber;
 use ip_ext_headers::{
     IpAuthHeader, IpAuthHeaderSlice, Ipv6FragmentHeader, Ipv6RawExtHeader, Ipv6RawExtHeaderSlice,
@@ -71,7 +72,7 @@ impl Ipv6Extensions {
         ensures truncated { (j : ℕ) → fitting_chain start_ip_number.0 (take j start_slice.now)
             ≡ headers_within j (fitting_chain start_ip_number.0 start_slice.now) }
     {
-        let (places, number, rest, fault) = Self::take_places(start_ip_number, start_slice);
+        let (places, number, rest, fault) = take_fitting(start_ip_number, start_slice);
         let mut exts = Self::default();
         exts.fill(&places);
         (exts, number, rest, fault)
@@ -89,7 +90,7 @@ impl Ipv6Extensions {
         ensures fault { IfErr result (λ e. option_map (λ f. f.0)
             (fitting_fault start_ip_number.0 start_slice.now) ≡ Some e) }
     {
-        let (places, number, rest, fault) = Self::take_places(start_ip_number, start_slice);
+        let (places, number, rest, fault) = take_fitting(start_ip_number, start_slice);
         match fault {
             Some((error, _)) => return Err(error),
             None => {}
@@ -97,36 +98,6 @@ impl Ipv6Extensions {
         let mut exts = Self::default();
         exts.fill(&places);
         Ok((exts, number, rest))
-    }
-
-    /// Stores the headers of the longest chain at the start of the bytes in their places, up to the first whose place
-    /// is occupied. Returns the places, the number to which these headers lead, the bytes after them and the error
-    /// there. Nothing large is built before the error is known.
-    #[inline(never)]
-    fn take_places(
-        start: IpNumber,
-        bytes: &[u8],
-    ) -> (
-        Places<Ipv6ExtensionSlice<'_>>,
-        IpNumber,
-        &[u8],
-        Option<(HeaderSliceError, Layer)>,
-    )
-        ensures { IsPlacedAnswer start.0 bytes.now result.0 result.1.0 result.2.now result.3 }
-    {
-        let (chain, number, rest, fault) = Ipv6ExtensionsSlice::from_slice_lax(start, bytes);
-        let len = chain.slice().len();
-        let mut headers = chain.into_iter();
-        let places = take_run(&mut headers);
-        let left = headers.rest();
-        if !left.is_empty() {
-            let read = len - left.len();
-            return (places, headers.next_number(), &bytes[read..], None);
-        }
-        if places.is_occupied(number) {
-            return (places, number, rest, None);
-        }
-        (places, number, rest, fault)
     }
 
     /// Fills this value, whose places are all free, in place.

@@ -1,23 +1,22 @@
+//! Headers read from a stream into six places.
 ghost use Rattle.std.specs.Prelude.{◌≡◌, ℕ, [], length, IsOk, IfOk, IfErr, IfSome, true, is_some};
-ghost use Rattle.std.specs.Option.{option_map};
 ghost use Rattle.ip_spec.specs.Numbers.{ROUTING};
 ghost use Rattle.ip_spec.specs.Header.{IsRawHeader, IsRawNumber, IsExtensionNumber};
 ghost use Rattle.ip_spec.specs.Fields.{raw_fields};
 ghost use Rattle.ip_spec.specs.Lengths.{IsPayloadLen};
 ghost use Rattle.ip_spec.specs.Places.{number_in, final_destination};
-ghost use Rattle.ip_spec.specs.WalkStep.{next_in_chain};
 ghost use Rattle.ip_base.specs.LimitedReader.{inner_of, window};
 ghost use Rattle.ip_base.specs.Reading.{IsHeaderConsumed};
 ghost use Rattle.ip_base.specs.declared.err.layer.Layer.TheVariants.{Ipv6ExtHeader};
 ghost use Rattle.ip_ext_chains.specs.Place.{as_place};
-ghost use Rattle.ip_ext_chains.specs.Ipv6Extensions.{value_of, placed_fields};
+ghost use Rattle.ip_ext_chains.specs.Ipv6Extensions.{value_of};
 ghost use Rattle.ip_ext_chains.specs.ReadError.{IsSliceError, IsSliceErrorInLayers};
 ghost use Rattle.ip_ext_chains.specs.ChainReading.{AreConsumed, AreConsumedInLayers, IsChainConsumed, IsChainRefused, IsHeaderRefused, IsHeaderRefusedInLayer, IsReadInto, IsHeaderRead, routing_fields, layer_of};
 
 use crate::err::Layer;
 use crate::err::ipv6_exts::{HeaderLimitedReadError, HeaderReadError};
 use crate::header_source::{HeaderSource, Limited, Unlimited};
-use crate::places::Place;
+use crate::places::{Place, Places};
 use crate::{Ipv6Extensions, Ipv6RoutingExtensions};
 use ip_base::{IpNumber, ip_number};
 use ip_ext_headers::Ipv6RawExtHeader;
@@ -79,49 +78,19 @@ impl Ipv6Extensions {
         let mut buffer = [0; Ipv6RawExtHeader::MAX_PAYLOAD_LEN];
         let mut number = start_ip_number;
         let mut is_first = true;
-        'headers: while let Some(place) = self.next_place(number, is_first) {
+        let mut occupied = Places::new();
+        'headers: while let Some(place) = occupied.next_in_chain(is_first, number) {
             match self.read_into::<S>(place, &mut buffer, reader) {
                 Ok(next_header) => number = next_header,
                 Err(e) => return Err(e),
             }
+            occupied.put(place, ());
             is_first = false;
         }
         if number == ip_number::IPV6_HOP_BY_HOP {
             return Err(S::misplaced());
         }
         Ok(number)
-    }
-
-    /// Returns the place of a header of the number, if it is free. Hop-by-hop options have one only at the start.
-    pub(crate) fn next_place(&self, number: IpNumber, is_first: bool) -> Option<Place>
-        ensures { option_map as_place result
-            ≡ next_in_chain is_first (placed_fields self.now) number.0 }
-    {
-        if number == ip_number::IPV6_HOP_BY_HOP && !is_first {
-            return None;
-        }
-        let place = Place::of(number, self.routing.is_some())?;
-        if self.has(place) {
-            return None;
-        }
-        Some(place)
-    }
-
-    /// Returns whether the place is occupied.
-    fn has(&self, place: Place) -> bool
-        ensures { result ≡ is_some (placed_fields self.now (as_place place)) }
-    {
-        match place {
-            Place::HopByHop => self.hop_by_hop_options.is_some(),
-            Place::Destination => self.destination_options.is_some(),
-            Place::Routing => self.routing.is_some(),
-            Place::Fragment => self.fragment.is_some(),
-            Place::Authentication => self.auth.is_some(),
-            Place::FinalDestination => match &self.routing {
-                Some(routing) => routing.final_destination_options.is_some(),
-                None => false,
-            },
-        }
     }
 
     /// Reads a header into the place, which is free, and returns its next header. The buffer holds the payload bytes

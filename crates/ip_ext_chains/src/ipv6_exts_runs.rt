@@ -1,3 +1,4 @@
+//! The runs of a chain: its headers in as few structs of six places as hold them.
 ghost use Rattle.std.specs.Prelude.{◌≡◌, ◌≢◌, [], IsTrue, IsFalse};
 ghost use Rattle.std.specs.List.{AllByRecursion};
 ghost use Rattle.ip_spec.specs.Encoding.{AreBytes};
@@ -6,6 +7,7 @@ ghost use Rattle.ip_spec.specs.Parse.{rest_after};
 ghost use Rattle.ip_ext_slices.specs.Longest.{longest_chain};
 ghost use Rattle.ip_ext_slices.specs.Ipv6ExtensionSliceIter.{headers_left};
 
+use crate::borrowed::clear_run;
 use crate::err::Layer;
 use crate::err::ipv6_exts::HeaderSliceError;
 use crate::places::Places;
@@ -34,15 +36,16 @@ pub struct Ipv6ExtensionsRuns<'a> {
 }
 
 impl<'a> Ipv6ExtensionsRuns<'a> {
-    ghost use Rattle.std.specs.Prelude.{ℕ, ◌+◌, ◌/◌, ◌≤◌, List, [], length, map, IfSome, IfNone};
+    ghost use Rattle.std.specs.Prelude.{◌+◌, ◌/◌, ◌≤◌, List, [], length, map, IfSome, IfNone};
     ghost use Rattle.ip_spec.specs.Chain.{ExtHeader};
     ghost use Rattle.ip_spec.specs.Encoding.{cleared_chain};
     ghost use Rattle.ip_spec.specs.Fits.{FitsPlaces};
     ghost use Rattle.ip_spec.specs.Runs.{AreRuns, joined, how_many};
     ghost use Rattle.ip_ext_slices.specs.ChainFault.{chain_fault};
-    ghost use Rattle.ip_ext_chains.specs.RunsOf.{runs_of, AreSpellings};
+    ghost use Rattle.ip_ext_slices.specs.Ipv6ExtensionsSlice.{bytes as bytes_in, headers_in};
+    ghost use Rattle.ip_ext_chains.specs.RunsOf.{runs_from, runs_of, AreSpellings};
     ghost use Rattle.ip_ext_chains.specs.Ipv6Extensions.{value_of};
-    ghost use Rattle.ip_ext_chains.specs.Ipv6ExtensionsRuns.{start, input, runs_left, values_left, number_left, PassesRun};
+    ghost use Rattle.ip_ext_chains.specs.Ipv6ExtensionsRuns.{start, input, runs_left, values_left, number_before, number_left, PassesRun};
     ghost use Rattle.ip_ext_chains.specs.Ipv6ExtensionsRuns.{TakesRun};
 
     /// Returns the runs of the longest chain at the start of the bytes, for the start number `first`. There is at
@@ -79,6 +82,67 @@ impl<'a> Ipv6ExtensionsRuns<'a> {
             rest,
             done: false,
         }
+    }
+
+    /// Returns the runs of a chain that is already parsed and leads to `number`, as `new` does for bytes. Nothing is
+    /// parsed again. They start at the number of the first header, or at `number` if there is none. `end` is that of
+    /// the headers' bytes alone.
+    #[inline(always)]
+    pub fn from_headers(
+        headers: Ipv6ExtensionsSlice<'a>,
+        number: IpNumber,
+    ) -> Ipv6ExtensionsRuns<'a>
+        requires leads { number.0 ≡ leads_to number.0 (headers_in headers) }
+        ensures start { start result ≡ number_left result }
+        ensures input { input result ≡ bytes_in headers.entry }
+        ensures number { number_left result ≡ number_before number.0 (headers_in headers.entry) }
+        ensures runs { runs_left result ≡ runs_from number.0 (headers_in headers.entry) }
+        ensures values { values_left result
+            ≡ map value_of (runs_from number.0 (headers_in headers.entry)) }
+        ensures partition { AreRuns number.0 (headers_in headers.entry) (runs_left result) }
+        ensures joined { joined (runs_left result) ≡ headers_in headers.entry }
+        ensures only { (ps : List (List ExtHeader)) → AreRuns number.0 (headers_in headers.entry) ps
+            → ps ≡ runs_left result }
+        ensures fewest { (ps : List (List ExtHeader)) → joined ps ≡ headers_in headers.entry
+            → AllByRecursion FitsPlaces ps → how_many (runs_left result) ≤ how_many ps }
+        ensures spelled { AreSpellings (number_left result) (values_left result)
+            (map cleared_chain (runs_left result)) }
+        ensures written { (ds : List (List ExtHeader))
+            → AreSpellings (number_left result) (values_left result) ds
+            → bytes_of (joined ds) ≡ bytes_of (cleared_chain (headers_in headers.entry)) }
+        ensures least { 1 ≤ length (runs_left result) }
+        ensures most { length (runs_left result) ≤ length (bytes_in headers.entry) / 8 + 1 }
+    {
+        let first = headers.first_header().unwrap_or(number);
+        let bytes = headers.slice();
+        Ipv6ExtensionsRuns {
+            first,
+            bytes,
+            headers: headers.into_iter(),
+            number,
+            rest: &bytes[bytes.len()..],
+            done: false,
+        }
+    }
+
+    /// Clears the reserved bits of the remaining headers in a copy of their bytes, as `clear_chain` does, and returns
+    /// the number of remaining runs. Passes over the headers once, and makes no struct of them.
+    pub fn clear_runs(self, copy: &mut [u8]) -> usize
+        requires copied { copy.old ≡ bytes_of (joined (runs_left self)) }
+        ensures cleared { copy.new ≡ bytes_of (cleared_chain (joined (runs_left self.entry))) }
+        ensures count { result ≡ length (runs_left self.entry) }
+    {
+        let mut headers = self.headers;
+        let mut done = self.done;
+        let mut count: usize = 0;
+        let mut at = 0;
+        'runs: while !done {
+            let (places, end) = clear_run(&mut headers, at, copy);
+            done = is_last(&headers, &places, self.number);
+            count += 1;
+            at = end;
+        }
+        count
     }
 
     /// Returns the number from which the next run is to be written: at the start `first`, and then the number to

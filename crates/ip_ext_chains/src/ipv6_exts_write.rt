@@ -1,13 +1,12 @@
+//! Headers in six places written, in the order of a walk.
 ghost use Rattle.std.specs.Prelude.{◌≡◌, ◌≤◌, ◌<◌, ◌↔◌, ◌+◌, ◌++◌, ℕ, List, None, Ok, Err, OnOk, IfSome, IfNone, vec_len, vec_capacity};
 ghost use Rattle.ip_spec.specs.Header.{IsExtensionNumber};
 ghost use Rattle.ip_spec.specs.Encoding.{AreBytes, AppendsOne, cleared_chain};
 ghost use Rattle.ip_spec.specs.Encodable.{IsEncodable, placed_len};
 ghost use Rattle.ip_spec.specs.Chain.{ExtHeader, bytes_of};
-ghost use Rattle.ip_spec.specs.Places.{Place as spec_place, places};
 ghost use Rattle.ip_spec.specs.Walk.{PlacedFields, IsSpelling, IsWalkAnswer};
 ghost use Rattle.ip_spec.specs.Fits.{FitsPlaces};
 ghost use Rattle.ip_spec.specs.Parse.{IsParsed};
-ghost use Rattle.ip_spec.specs.Links.{first_number, linked};
 ghost use Rattle.ip_spec.specs.WalkStep.{IsEncodingOf};
 ghost use Rattle.ip_ext_chains.specs.HeaderRef.{fields_of_ref};
 ghost use Rattle.ip_ext_chains.specs.Fitting.{fitting_chain, IsFittingAnswer};
@@ -20,53 +19,12 @@ ghost use Rattle.ip_ext_chains.specs.declared.err.ipv6_exts.header_write_error.H
 use crate::Ipv6Extensions;
 use crate::err::ipv6_exts::{ExtsWalkError, HeaderWriteError};
 use crate::header_ref::HeaderRef;
-use crate::links::{link_auth, link_final, link_fragment, link_raw, link_routing};
 use crate::places::{Place, Places};
 use crate::walk::Walk;
 use ip_base::IpNumber;
-use ip_base::ip_number::{IPV6_DEST_OPTIONS, IPV6_HOP_BY_HOP};
 use std::alloc::{AllocError, Allocator};
 
 impl Ipv6Extensions {
-    /// Returns the number to which the headers lead along their next headers, if the first is of the number `first`
-    /// and each is reached, otherwise the error of the walk. It is Ok if and only if some bytes parse as this value
-    /// with nothing left.
-    pub fn next_header(&self, first: IpNumber) -> Result<IpNumber, ExtsWalkError>
-        ensures answer { IsWalkAnswer (placed_fields self.now) first.0 result }
-        ensures exactly { (m : IpNumber) → (result ≡ Ok m) ↔ ((s : List ℕ)
-            × IsParsed FitsPlaces (λ c. value_of c ≡ self.now) first.0 m.0 s) }
-    {
-        // Each header can be written, as the contract of this call says.
-        let _ = self.header_len();
-        let mut walk = Walk::new(self, first);
-        // Headers linked in the order of the places, the usual case, are all reached here.
-        let _ = walk.next_in(Place::HopByHop);
-        let _ = walk.next_in(Place::Destination);
-        let _ = walk.next_in(Place::Routing);
-        let _ = walk.next_in(Place::Fragment);
-        let _ = walk.next_in(Place::Authentication);
-        let _ = walk.next_in(Place::FinalDestination);
-        'headers: while let Some(_) = walk.next() {}
-        walk.answer()
-    }
-
-    /// Links each header to the next one present, in the order of the places, and the last to `last`. Returns the
-    /// number of the first, or `last` if there is none: a walk from there leads to `last`.
-    pub fn set_next_headers(&mut self, last: IpNumber) -> IpNumber
-        ensures links { (p : spec_place) → placed_fields self.new p ≡ linked (placed_fields self.old) last.0 p }
-        ensures first { result.0 ≡ first_number (placed_fields self.old) places last.0 }
-        ensures leads { IsWalkAnswer (placed_fields self.new) result.0 (Ok last) }
-    {
-        // Each header can be written, as the contract of this call says.
-        let _ = self.header_len();
-        let next = link_final(&mut self.routing, last);
-        let next = link_auth(&mut self.auth, next);
-        let next = link_fragment(&mut self.fragment, next);
-        let next = link_routing(&mut self.routing, next);
-        let next = link_raw(&mut self.destination_options, IPV6_DEST_OPTIONS, next);
-        link_raw(&mut self.hop_by_hop_options, IPV6_HOP_BY_HOP, next)
-    }
-
     /// Appends the headers in the order of a walk from the number `first`, with their reserved bits zero. Unless
     /// memory runs out, the result is Ok if and only if that of `next_header` is. The bytes parse as this value, with
     /// nothing left; if they lead to a number that is not an extension header's, they do so whatever bytes follow.

@@ -1,3 +1,4 @@
+//! A routing header and the destination options after it.
 ghost use Rattle.std.specs.Prelude.{◌≡◌, ◌+◌, ◌≤◌};
 ghost use Rattle.std.specs.Option.{option_map_or};
 ghost use Rattle.ip_spec.specs.Fields.{raw_len};

@@ -1,10 +1,11 @@
 //! The six places for the headers of an IPv6 chain (RFC 8200, section 4.1).
-ghost use Rattle.std.specs.Prelude.{◌≡◌, ◌↔◌, ◌==◌, ◌∷◌, IsTrue, None, IfSome, if◌then◌else◌};
+ghost use Rattle.std.specs.Prelude.{◌≡◌, ◌↔◌, ◌==◌, ◌∷◌, false, IsTrue, None, IfSome, if◌then◌else◌};
 ghost use Rattle.std.specs.List.{find};
-ghost use Rattle.std.specs.Option.{option_map};
+ghost use Rattle.std.specs.Option.{option_map, option_map_or};
 ghost use Rattle.ip_spec.specs.Header.{IsRawNumber, IsLaterNumber};
-ghost use Rattle.ip_spec.specs.Fields.{raw_fields, fragment_fields, auth_fields};
+ghost use Rattle.ip_spec.specs.Fields.{raw_fields, auth_fields, is_fragmenting};
 ghost use Rattle.ip_spec.specs.Places.{next_place, places, index, number_in, fragment, authentication, final_destination};
+ghost use Rattle.ip_spec.specs.WalkStep.{next_in_chain};
 ghost use Rattle.ip_ext_chains.specs.Place.{as_place};
 
 use crate::Ipv6ExtensionSlice;
@@ -102,6 +103,18 @@ impl<T: Drop> Places<T> {
         Some(place)
     }
 
+    /// Returns the place that a header of the number takes next in a chain, if it is free. Hop-by-hop options have one
+    /// only at the start.
+    #[inline(always)]
+    pub(crate) fn next_in_chain(&self, is_first: bool, number: IpNumber) -> Option<Place>
+        ensures { option_map as_place result ≡ next_in_chain is_first (λ p. at p self.now) number.0 }
+    {
+        if number == ip_number::IPV6_HOP_BY_HOP && !is_first {
+            return None;
+        }
+        self.next_place(number)
+    }
+
     /// Returns whether the number is that of a later header, and its place is occupied.
     #[inline(always)]
     pub(crate) fn is_occupied(&self, number: IpNumber) -> bool
@@ -157,12 +170,26 @@ impl<'a> Places<Ipv6ExtensionSlice<'a>> {
     pub(crate) fn fragment(&self) -> Option<&Ipv6FragmentHeaderSlice<'a>>
         requires number { IfSome (at fragment self.now)
             (λ h. (header_of h).number ≡ number_in fragment) }
-        ensures { option_map (λ h. fragment_fields (fragment_slice.bytes h.now)) result
-            ≡ option_map (λ h. fragment_fields (header_of h).bytes) (at fragment self.now) }
+        ensures { option_map (λ h. fragment_slice.bytes h.now) result
+            ≡ option_map (λ h. (header_of h).bytes) (at fragment self.now) }
     {
         match self.get(Place::Fragment) {
             Some(Ipv6ExtensionSlice::Fragment(header)) => Some(header),
             _ => None,
+        }
+    }
+
+    /// Returns whether a fragment header is present and fragments the payload.
+    #[inline(always)]
+    pub(crate) fn is_fragmenting_payload(&self) -> bool
+        requires number { IfSome (at fragment self.now)
+            (λ h. (header_of h).number ≡ number_in fragment) }
+        ensures { result ≡ option_map_or (λ h. is_fragmenting (header_of h).bytes)
+            (at fragment self.now) false }
+    {
+        match self.fragment() {
+            Some(header) => header.is_fragmenting_payload(),
+            None => false,
         }
     }
 

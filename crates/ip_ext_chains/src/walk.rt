@@ -1,5 +1,5 @@
 //! The walk along the next headers of headers in six places.
-ghost use Rattle.std.specs.Prelude.{◌≡◌, ◌↔◌, true, false, IsTrue, Some, None, is_some, IfSome, IfNone, if◌then◌else◌};
+ghost use Rattle.std.specs.Prelude.{◌≡◌, ◌↔◌, true, false, IsTrue, Some, None, is_some, IfSome, IfNone};
 ghost use Rattle.std.specs.List.{find};
 ghost use Rattle.std.specs.Option.{option_map};
 ghost use Rattle.ip_spec.specs.Walk.{answer_at};
@@ -50,33 +50,15 @@ impl<'a> Walk<'a> {
         ensures some { IfSome result (λ h. IsStep self.old self.new (fields_of_ref h)) }
         ensures none { IfNone result (IsStop self.old self.new) }
     {
-        if self.number == ip_number::IPV6_HOP_BY_HOP && !self.first {
-            return None;
-        }
         // Each arm makes its own call, so that its place and format are known at compile time.
-        match Place::of(self.number, self.reached.get(Place::Routing).is_some())? {
-            Place::HopByHop => self.reach_free(Place::HopByHop),
-            Place::Destination => self.reach_free(Place::Destination),
-            Place::Routing => self.reach_free(Place::Routing),
-            Place::Fragment => self.reach_free(Place::Fragment),
-            Place::Authentication => self.reach_free(Place::Authentication),
-            Place::FinalDestination => self.reach_free(Place::FinalDestination),
+        match self.reached.next_in_chain(self.first, self.number)? {
+            Place::HopByHop => self.reach(Place::HopByHop),
+            Place::Destination => self.reach(Place::Destination),
+            Place::Routing => self.reach(Place::Routing),
+            Place::Fragment => self.reach(Place::Fragment),
+            Place::Authentication => self.reach(Place::Authentication),
+            Place::FinalDestination => self.reach(Place::FinalDestination),
         }
-    }
-
-    /// Reaches the header in the place of the number, if the place is free and has one, and returns it.
-    #[inline(always)]
-    fn reach_free(&mut self, place: Place) -> Option<HeaderRef<'a>>
-        requires own { next_in_chain self.old.first (λ p. at p self.old.reached) self.old.number.0
-            ≡ (if is_some (at (as_place place) self.old.reached) then None
-            else Some (as_place place)) }
-        ensures some { IfSome result (λ h. IsStep self.old self.new (fields_of_ref h)) }
-        ensures none { IfNone result (IsStop self.old self.new) }
-    {
-        if self.reached.get(place).is_some() {
-            return None;
-        }
-        self.reach(place)
     }
 
     /// Returns the next header, if it is in the place.

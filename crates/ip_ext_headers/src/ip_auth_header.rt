@@ -1,3 +1,4 @@
+//! An authentication header (RFC 4302, section 2), owned.
 ghost use Rattle.std.specs.Prelude.{◌≡◌, ◌≤◌, ◌<◌, ◌+◌, ◌*◌, ◌++◌, [], ◌∷◌, ◌↔◌, ℕ, List, length, IsOk, OnOk, OnErr, IfOk, IfErr, vec_len, vec_capacity, IfSome};
 ghost use Rattle.std.specs.Int.{to_be_bytes, w32};
 ghost use Rattle.std.specs.Io.KnownBytes.{Consumes};

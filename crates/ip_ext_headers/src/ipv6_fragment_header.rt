@@ -1,3 +1,4 @@
+//! A fragment header (RFC 8200, section 4.5), owned.
 ghost use Rattle.std.specs.Prelude.{◌≡◌, ◌≤◌, ◌<◌, ◌+◌, ◌++◌, ℕ, List, OnOk, OnErr, IfOk, IfErr, vec_len, vec_capacity, length, IfSome};
 ghost use Rattle.std.specs.Io.KnownBytes.{Consumes};
 ghost use Rattle.ip_base.specs.Prefix.{IsPrefix, NoPrefix};

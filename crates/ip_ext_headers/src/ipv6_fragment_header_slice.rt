@@ -1,3 +1,4 @@
+//! A fragment header (RFC 8200, section 4.5), borrowed.
 ghost use Rattle.std.specs.Prelude.{◌≡◌, ℕ, List, IfOk, IfErr, length};
 ghost use Rattle.ip_base.specs.Prefix.{IsPrefix};
 ghost use Rattle.ip_spec.specs.Header.{IsFragmentHeader};

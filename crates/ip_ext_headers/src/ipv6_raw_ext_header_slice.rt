@@ -1,3 +1,4 @@
+//! A header in the uniform format (RFC 6564), borrowed.
 ghost use Rattle.std.specs.Prelude.{◌≡◌, ◌≤◌, ◌↔◌, ◌⊎◌, ℕ, List, length, IfOk, IfErr, IsTrue};
 ghost use Rattle.ip_spec.specs.Numbers.{HOP_BY_HOP, ROUTING, DESTINATION_OPTIONS};
 ghost use Rattle.ip_base.specs.Prefix.{IsPrefix};

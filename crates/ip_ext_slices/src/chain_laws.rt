@@ -1,3 +1,4 @@
+//! A law of longest chains, proved as the contract of a call.
 ghost use Rattle.std.specs.Prelude.{ℕ, List, IsSome};
 ghost use Rattle.ip_base.specs.declared.len_source.LenSource.TheVariants.{Slice};
 ghost use Rattle.ip_spec.specs.Header.{IsExtensionNumber};

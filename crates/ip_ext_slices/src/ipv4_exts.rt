@@ -1,9 +1,9 @@
-ghost use Rattle.std.specs.Prelude.{◌≡◌, ◌≤◌, ◌<◌, ◌+◌, ◌++◌, ◌↔◌, ℕ, List, length, take, Option, Some, None, Ok, Err, IsOk, OnOk, OnErr, IfOk, IfErr, IfSome, is_some, is_none, vec_len, vec_capacity, if◌then◌else◌};
+//! The extension headers of IPv4, owned: parsed, linked and written.
+ghost use Rattle.std.specs.Prelude.{◌≡◌, ◌≤◌, ◌<◌, ◌+◌, ◌++◌, ◌↔◌, ℕ, List, length, take, Option, Some, None, Ok, Err, IsOk, OnOk, OnErr, IfOk, IfErr, is_some, is_none, vec_len, vec_capacity, if◌then◌else◌};
 ghost use Rattle.std.specs.Option.{option_map, option_map_or};
 ghost use Rattle.ip_spec.specs.Numbers.{AUTHENTICATION};
 ghost use Rattle.ip_spec.specs.Fields.{AuthFields, auth_len};
-ghost use Rattle.ip_spec.specs.Lengths.{IsIcvLen};
-ghost use Rattle.ip_spec.specs.Encoding.{AppendsOne, AreBytes, IsAuthEncoding, cleared_chain};
+ghost use Rattle.ip_spec.specs.Encoding.{AppendsOne, cleared_chain};
 ghost use Rattle.ip_spec.specs.Chain.{bytes_of, headers_within};
 ghost use Rattle.ip_spec.specs.Demand.{IsLongestUnder, AtMostOneOf};
 ghost use Rattle.ip_ext_slices.specs.Ipv4Longest.{longest_ipv4_chain};

@@ -1,3 +1,4 @@
+//! The extension headers of IPv4, read from a stream.
 ghost use Rattle.std.specs.Prelude.{◌≡◌, ◌≢◌, IsOk, OnOk, IfOk, IfErr, IfSome};
 ghost use Rattle.std.specs.Io.KnownBytes.{Consumes};
 ghost use Rattle.ip_base.specs.declared.err.layer.Layer.TheVariants.{IpAuthHeader as AuthLayer};

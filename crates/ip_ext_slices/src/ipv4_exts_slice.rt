@@ -1,3 +1,4 @@
+//! The extension headers of IPv4, borrowed.
 ghost use Rattle.std.specs.Prelude.{◌≡◌, ℕ, [], take, IfOk, IfErr, Some, None};
 ghost use Rattle.ip_spec.specs.Numbers.{AUTHENTICATION};
 ghost use Rattle.ip_spec.specs.Chain.{headers_within, is_empty};

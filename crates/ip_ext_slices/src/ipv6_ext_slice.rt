@@ -1,3 +1,4 @@
+//! One header of an IPv6 chain, borrowed.
 ghost use Rattle.std.specs.Prelude.{◌≡◌, ◌==◌, ◌&&◌};
 ghost use Rattle.ip_spec.specs.Header.{IsHeader};
 ghost use Rattle.ip_spec.specs.Numbers.{FRAGMENT};

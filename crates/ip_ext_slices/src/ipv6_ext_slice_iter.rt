@@ -1,3 +1,4 @@
+//! An iterator over the headers of a parsed IPv6 chain.
 ghost use Rattle.std.specs.Prelude.{◌≡◌};
 ghost use Rattle.ip_spec.specs.Chain.{bytes_of};
 ghost use Rattle.ip_ext_slices.specs.Longest.{longest_chain};

@@ -1,3 +1,4 @@
+//! A cursor over an IPv6 chain, which parses each header when it is asked for.
 ghost use Rattle.std.specs.Prelude.{◌≡◌, ◌==◌, ◌≤◌, length};
 ghost use Rattle.ip_spec.specs.Chain.{leads_to};
 ghost use Rattle.ip_spec.specs.Parse.{rest_after};

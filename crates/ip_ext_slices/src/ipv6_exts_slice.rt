@@ -1,4 +1,5 @@
-ghost use Rattle.std.specs.Prelude.{◌≡◌, ◌==◌, ℕ, List, [], length, take, Option, Some, None, is_none, IfOk, IfErr, if◌then◌else◌};
+//! A parsed IPv6 chain, borrowed.
+ghost use Rattle.std.specs.Prelude.{◌≡◌, ◌==◌, ℕ, [], length, take, Option, Some, None, is_none, IfOk, IfErr, if◌then◌else◌};
 ghost use Rattle.std.specs.Option.{option_map, option_map_or};
 ghost use Rattle.ip_base.specs.Prefix.{IsPrefix};
 ghost use Rattle.ip_spec.specs.Parse.{rest_after};
@@ -32,9 +33,10 @@ pub struct Ipv6ExtensionsSlice<'a> {
 impl<'a> Ipv6ExtensionsSlice<'a> {
     ghost use Rattle.ip_ext_slices.specs.Ipv6ExtensionsSlice.{first_number, bytes, headers_in};
 
-    /// Returns the chain from `start` that is all of `slice`.
+    /// Returns the chain from `start` that is all of `slice`, without parsing it: the caller knows its headers, and
+    /// whether one of them fragments the payload.
     #[inline(always)]
-    fn new(start: IpNumber, slice: &'a [u8], fragmented: bool) -> Ipv6ExtensionsSlice<'a>
+    pub fn new(start: IpNumber, slice: &'a [u8], fragmented: bool) -> Ipv6ExtensionsSlice<'a>
         requires whole { bytes_of (longest_chain start.0 slice.now) ≡ slice.now }
         requires flag { fragmented ≡ has_fragmenting (longest_chain start.0 slice.now) }
         ensures bytes { bytes result ≡ slice.now }

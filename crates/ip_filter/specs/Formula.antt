@@ -3,7 +3,6 @@ use Rattle.std.specs.Prelude.{◌≡◌, ℕ, zero, suc, List, [], ◌∷◌, �
 use Rattle.std.specs.Borrow.{Bor}
 use Rattle.ip_dissect.specs.Dissection.{dissected}
 use Rattle.ip_filter.specs.Truth.{holds}
-use Rattle.ip_filter.specs.Facts.{HasFacts}
 use Rattle.ip_filter.specs.declared.facts.Facts.{Facts}
 use Rattle.ip_filter.specs.declared.term.Term.{Term}
 use Rattle.ip_filter.specs.declared.filter.StepKind.{StepKind}
@@ -27,7 +26,7 @@ truth (either f g) h = truth f h || truth g h
 -- h says which terms hold of the packet, if there is one: otherwise none
 abbrev pub SaysOf : Option (Bor Facts) → (Term → Bool) → Type 0
 SaysOf None h = (t : Term) → h t ≡ false
-SaysOf (Some x) h = (s : List ℕ) × HasFacts (dissected s) x.now × ((t : Term) → h t ≡ holds t (dissected s))
+SaysOf (Some x) h = (t : Term) → h t ≡ holds t (dissected x.now.packet.bytes.now)
 
 -- f negated k times
 abbrev pub negated : ℕ → Formula → Formula

@@ -1,5 +1,6 @@
 pub mod Network
 pub mod Truth
+pub mod NumberSet
 pub mod Facts
 pub mod Formula
 pub mod Bits

@@ -1,109 +1,81 @@
 //! What terms ask of a packet.
-ghost use Rattle.std.specs.Prelude.{◌≡◌, ◌==◌, ◌&&◌, ◌||◌, ℕ, List, false, IfSome};
+ghost use Rattle.std.specs.Prelude.{◌≡◌, ◌==◌, ◌&&◌, ◌||◌, [], false, IfSome};
 ghost use Rattle.std.specs.List.{list_any};
-ghost use Rattle.std.specs.Option.{option_map_or};
+ghost use Rattle.std.specs.Option.{ForNone, ForSome, option_map_or};
 ghost use Rattle.ip_spec.specs.Numbers.{AUTHENTICATION};
 ghost use Rattle.ip_spec.specs.Fields.{auth_fields};
 ghost use Rattle.ip_ext_slices.specs.Longest.{longest_chain};
 ghost use Rattle.ip_ext_slices.specs.Ipv6ExtensionSlice.{header_of};
-ghost use Rattle.ip_dissect.specs.Dissection.{DissectedParts, HasParts, dissected};
-ghost use Rattle.ip_filter.specs.Facts.{HasFacts, IsBaseHeader, first_number};
+ghost use Rattle.ip_dissect.specs.Dissection.{dissected};
+ghost use Rattle.ip_filter.specs.NumberSet.{AreNumbersIn, has_number};
+ghost use Rattle.ip_filter.specs.Facts.{first_number};
 ghost use Rattle.ip_filter.specs.Truth.{is_first_kind, is_later_kind, fault_kind, fault_in, is_truncated};
 ghost use Rattle.ip_filter.specs.Truth.{has_source, has_destination, is_version};
 
+use crate::number_set::NumberSet;
 use crate::{FaultKind, Network};
 use etherparse_ip::Ipv6ExtensionSlice;
 use etherparse_ip::err::ip::{HeaderError, HeadersError, SliceError};
 use etherparse_ip::err::ipv6_exts;
-use ip_base::{IpNumber, Ipv4HeaderSlice, Ipv6HeaderSlice, ip_number};
-use ip_dissect::{BaseHeader, Dissection, End, Fragment, FragmentKind, outline_plain_packet};
+use ip_base::{IpNumber, ip_number};
+use ip_dissect::{BaseHeader, End, Fragment, FragmentKind, Packet};
 use ip_ext_slices::Ipv6ExtensionsCursor;
 
-/// What terms ask of a packet: a dissection without its errors.
+/// What terms ask of a packet: its parts, and the numbers of its extension headers.
 #[derive(Clone, Copy, Debug)]
 pub(crate) struct Facts<'a> {
-    pub(crate) base: Option<BaseHeader<'a>>,
-    /// The number of the first extension header, or of what follows the base header.
-    pub(crate) first: IpNumber,
-    pub(crate) extensions: &'a [u8],
-    pub(crate) header_count: usize,
-    pub(crate) number: IpNumber,
-    pub(crate) payload_len: usize,
-    pub(crate) fragment: Option<Fragment>,
-    pub(crate) missing: usize,
-    pub(crate) is_truncated: bool,
-    pub(crate) fault: Option<FaultKind>,
+    pub(crate) packet: Packet<'a>,
+    /// `None` for a packet that is known to have no extension headers.
+    pub(crate) numbers: Option<&'a NumberSet>,
+    pub ghost some_are: { ForSome numbers (λ set. AreNumbersIn (dissected packet.bytes.now).headers set.now) },
+    pub ghost none_are: { ForNone numbers ((dissected packet.bytes.now).headers ≡ []) },
 }
 
 impl<'a> Facts<'a> {
-    /// Returns those of a dissected packet.
-    #[inline(always)]
-    pub(crate) fn of(packet: &Dissection<'a>) -> Facts<'a>
-        ensures { (s : List ℕ) → HasParts (dissected s) packet.now → HasFacts (dissected s) result }
-    {
-        Facts {
-            base: packet.base,
-            first: first_number(packet.base),
-            extensions: packet.extensions,
-            header_count: packet.header_count,
-            number: packet.next_header,
-            payload_len: packet.payload.len(),
-            fragment: packet.fragment,
-            missing: packet.missing,
-            is_truncated: is_truncated(&packet.end),
-            fault: fault_in(&packet.end),
-        }
-    }
-
-    /// Returns those of the packet at the start of `bytes`, if it has no extension headers, is no fragment and its
-    /// headers end without an error.
+    /// Returns those of a packet, if it has no extension headers, is no fragment and has no error.
     #[inline(always)]
     pub(crate) fn of_plain(bytes: &'a [u8]) -> Option<Facts<'a>>
-        ensures { IfSome result (HasFacts (dissected bytes.now)) }
+        ensures { IfSome result (λ facts. facts.packet.bytes.now ≡ bytes.now) }
     {
-        let base = base_header(bytes)?;
-        let outline = outline_plain_packet(bytes)?;
+        let packet = Packet::plain(bytes)?;
         Some(Facts {
-            base: Some(base),
-            first: first_number(Some(base)),
-            extensions: &bytes[outline.base_len..outline.base_len + outline.extensions_len],
-            header_count: outline.header_count,
-            number: outline.next_header,
-            payload_len: outline.payload_len,
-            fragment: outline.fragment,
-            missing: outline.missing,
-            is_truncated: false,
-            fault: None,
+            packet,
+            numbers: None,
         })
     }
 
     /// Returns whether the packet has an extension header of this number.
     #[inline(always)]
     pub(crate) fn has_number(&self, number: u8) -> bool
-        ensures { (s : List ℕ) → HasFacts (dissected s) self.now
-            → result ≡ list_any (λ h. h.number == number) (dissected s).headers }
+        ensures { result ≡ has_number number (dissected self.now.packet.bytes.now).headers }
     {
-        if number == ip_number::IPV6_FRAG.0 && self.has_version(6) {
-            return self.fragment.is_some();
+        match self.numbers {
+            Some(numbers) => numbers.has(number),
+            None => false,
         }
-        self.header_count != 0 && has_number(self.first, self.extensions, number)
     }
 
-    /// Returns whether the packet has an authentication header with the security parameters index.
+    /// Returns whether the packet has an authentication header with the security parameters index. Walks the extension
+    /// headers again if there is an authentication header.
     #[inline(always)]
     pub(crate) fn has_spi(&self, spi: u32) -> bool
-        ensures { (p : DissectedParts) → HasFacts p self.now → result ≡ list_any (λ h.
-            (h.number == AUTHENTICATION) && ((auth_fields h.bytes).spi == spi)) p.headers }
+        ensures { result ≡ list_any (λ h. (h.number == AUTHENTICATION)
+            && ((auth_fields h.bytes).spi == spi)) (dissected self.now.packet.bytes.now).headers }
     {
-        self.header_count != 0 && has_spi(self.first, self.extensions, spi)
+        self.has_number(ip_number::AUTH.0)
+            && has_spi(
+                first_number(self.packet.base),
+                self.packet.extensions(),
+                spi,
+            )
     }
 
     /// Returns whether the source address of the packet lies in the network.
     #[inline(always)]
     pub(crate) fn has_source(&self, network: Network) -> bool
-        ensures { (p : DissectedParts) → HasFacts p self.now → result ≡ has_source network p }
+        ensures { result ≡ has_source network (dissected self.now.packet.bytes.now) }
     {
-        match &self.base {
+        match &self.packet.base {
             Some(BaseHeader::Ipv4(header)) => network.has_ipv4(u32::from_be_bytes(header.source())),
             Some(BaseHeader::Ipv6(header)) => {
                 network.has_ipv6(u128::from_be_bytes(header.source()))
@@ -115,9 +87,9 @@ impl<'a> Facts<'a> {
     /// Returns whether the destination address of the packet lies in the network.
     #[inline(always)]
     pub(crate) fn has_destination(&self, network: Network) -> bool
-        ensures { (p : DissectedParts) → HasFacts p self.now → result ≡ has_destination network p }
+        ensures { result ≡ has_destination network (dissected self.now.packet.bytes.now) }
     {
-        match &self.base {
+        match &self.packet.base {
             Some(BaseHeader::Ipv4(header)) => {
                 network.has_ipv4(u32::from_be_bytes(header.destination()))
             }
@@ -131,27 +103,31 @@ impl<'a> Facts<'a> {
     /// Returns whether the packet has a base header of this version.
     #[inline(always)]
     pub(crate) fn has_version(&self, version: u8) -> bool
-        ensures { (p : DissectedParts) → HasFacts p self.now → result ≡ is_version version p }
+        ensures { result ≡ is_version version (dissected self.now.packet.bytes.now) }
     {
-        match &self.base {
+        match &self.packet.base {
             Some(base) => base.version() == version,
             None => false,
         }
     }
-}
 
-/// Returns the base header at the start of the bytes, if there is a whole one.
-#[inline(always)]
-fn base_header(bytes: &[u8]) -> Option<BaseHeader<'_>>
-    ensures { IfSome result (IsBaseHeader bytes.now) }
-{
-    if bytes.is_empty() {
-        return None;
+    /// Returns whether a header is truncated.
+    #[inline(always)]
+    pub(crate) fn is_truncated(&self) -> bool
+        ensures { result ≡ is_truncated (dissected self.now.packet.bytes.now).end }
+    {
+        self.packet.outline.has_error && is_truncated(&self.packet.end())
     }
-    match bytes[0] >> 4 {
-        4 => Some(BaseHeader::Ipv4(Ipv4HeaderSlice::from_slice(bytes).ok()?)),
-        6 => Some(BaseHeader::Ipv6(Ipv6HeaderSlice::from_slice(bytes).ok()?)),
-        _ => None,
+
+    /// Returns the kind of the fault, if a header is faulty.
+    #[inline(always)]
+    pub(crate) fn fault(&self) -> Option<FaultKind>
+        ensures { result ≡ fault_in (dissected self.now.packet.bytes.now).end }
+    {
+        if !self.packet.outline.has_error {
+            return None;
+        }
+        fault_in(&self.packet.end())
     }
 }
 
@@ -165,18 +141,6 @@ fn first_number(base: Option<BaseHeader<'_>>) -> IpNumber
         Some(BaseHeader::Ipv6(header)) => header.next_header(),
         None => ip_number::IPV6_NO_NEXT_HEADER,
     }
-}
-
-/// Returns whether a header of the longest chain has the number.
-fn has_number(first: IpNumber, bytes: &[u8], number: u8) -> bool
-    ensures { result ≡ list_any (λ h. h.number == number) (longest_chain first.0 bytes.now) }
-{
-    'headers: for header in Ipv6ExtensionsCursor::new(first, bytes) {
-        if header.number().0 == number {
-            return true;
-        }
-    }
-    false
 }
 
 /// Returns whether an authentication header of the longest chain has the security parameters index.

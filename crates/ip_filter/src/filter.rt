@@ -1,3 +1,4 @@
+//! A filter: a formula of terms, as steps in postfix order.
 ghost use Rattle.std.specs.Prelude.{◌≡◌, ◌≤◌, [], length, false};
 ghost use Rattle.ip_dissect.specs.Dissection.{dissected};
 ghost use Rattle.ip_filter.specs.Truth.{holds};

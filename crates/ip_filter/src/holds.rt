@@ -1,13 +1,13 @@
 //! What a term says of a packet.
-ghost use Rattle.std.specs.Prelude.{◌≡◌, ◌==◌, ℕ, List, false};
+ghost use Rattle.std.specs.Prelude.{◌≡◌, ◌==◌, false};
 ghost use Rattle.std.specs.Option.{option_map_or};
-ghost use Rattle.ip_dissect.specs.Dissection.{HasParts, dissected};
-ghost use Rattle.ip_filter.specs.Facts.{HasFacts};
+ghost use Rattle.ip_dissect.specs.Dissection.{dissected};
 ghost use Rattle.ip_filter.specs.Truth.{compares, holds, kind_index};
 
 use crate::facts::{Facts, fragment_is};
+use crate::number_set::NumberSet;
 use crate::{Comparison, FaultKind, Term};
-use ip_dissect::Dissection;
+use ip_dissect::Packet;
 
 impl Comparison {
     /// Returns whether the count compares so with the number.
@@ -51,49 +51,51 @@ fn is_of_kind(fault: Option<FaultKind>, kind: FaultKind) -> bool
 }
 
 impl Term {
-    /// Returns whether the term holds of the packet.
-    pub fn holds(&self, packet: &Dissection<'_>) -> bool
-        ensures { (s : List ℕ) → HasParts (dissected s) packet.now
-            → result ≡ holds self.now (dissected s) }
+    /// Returns whether the term holds of the packet at the start of `bytes`, which may be any bytes.
+    pub fn holds(&self, bytes: &[u8]) -> bool
+        ensures { result ≡ holds self.now (dissected bytes.now) }
     {
-        self.is_met(&Facts::of(packet))
+        let mut numbers = NumberSet::none();
+        let packet = Packet::walk(bytes, &mut numbers);
+        self.is_met(&Facts {
+            packet,
+            numbers: Some(&numbers),
+        })
     }
 
     /// Returns whether the term holds of a packet with these facts.
     #[inline(always)]
-    pub(crate) fn is_met(&self, packet: &Facts<'_>) -> bool
-        ensures { (s : List ℕ) → HasFacts (dissected s) packet.now
-            → result ≡ holds self.now (dissected s) }
+    pub(crate) fn is_met(&self, facts: &Facts<'_>) -> bool
+        ensures { result ≡ holds self.now (dissected facts.now.packet.bytes.now) }
     {
+        let outline = &facts.packet.outline;
         match *self {
-            Term::Header(number) => packet.has_number(number),
-            Term::SecurityParameters(spi) => packet.has_spi(spi),
-            Term::Source(network) => packet.has_source(network),
-            Term::Destination(network) => packet.has_destination(network),
-            Term::Either(network) => {
-                packet.has_source(network) || packet.has_destination(network)
-            }
-            Term::Fragment => fragment_is(packet.fragment, true, true),
-            Term::FirstFragment => fragment_is(packet.fragment, true, false),
-            Term::LaterFragment => fragment_is(packet.fragment, false, true),
-            Term::Identification(identification) => match packet.fragment {
+            Term::Header(number) => facts.has_number(number),
+            Term::SecurityParameters(spi) => facts.has_spi(spi),
+            Term::Source(network) => facts.has_source(network),
+            Term::Destination(network) => facts.has_destination(network),
+            Term::Either(network) => facts.has_source(network) || facts.has_destination(network),
+            Term::Fragment => fragment_is(outline.fragment, true, true),
+            Term::FirstFragment => fragment_is(outline.fragment, true, false),
+            Term::LaterFragment => fragment_is(outline.fragment, false, true),
+            Term::Identification(identification) => match outline.fragment {
                 Some(fragment) => fragment.identification == identification,
                 None => false,
             },
-            Term::Truncated => packet.is_truncated,
-            Term::Incomplete => packet.missing != 0,
-            Term::Fault => packet.fault.is_some(),
-            Term::FaultOf(kind) => is_of_kind(packet.fault, kind),
-            Term::Version(version) => packet.has_version(version),
-            Term::LeadsTo(number) => packet.base.is_some() && packet.number.0 == number,
+            Term::Truncated => facts.is_truncated(),
+            Term::Incomplete => outline.missing != 0,
+            Term::Fault => facts.fault().is_some(),
+            Term::FaultOf(kind) => is_of_kind(facts.fault(), kind),
+            Term::Version(version) => facts.has_version(version),
+            Term::LeadsTo(number) => outline.version != 0 && outline.next_header.0 == number,
             Term::Headers(comparison, number) => {
-                packet.base.is_some() && comparison.holds(packet.header_count as u64, number)
+                outline.version != 0 && comparison.holds(outline.header_count as u64, number)
             }
             Term::ChainBytes(comparison, number) => {
-                packet.base.is_some() && comparison.holds(packet.extensions.len() as u64, number)
+                outline.version != 0 && comparison.holds(outline.extensions_len as u64, number)
             }
             Term::Payload(comparison, number) => {
-                packet.base.is_some() && comparison.holds(packet.payload_len as u64, number)
+                outline.version != 0 && comparison.holds(outline.payload_len as u64, number)
             }
         }
     }

@@ -1,3 +1,4 @@
+//! Laws of filters, proved as the contracts of calls.
 ghost use Rattle.std.specs.Prelude.{◌≡◌, ◌≤◌, ℕ, List, Some, length, take};
 ghost use Rattle.ip_dissect.specs.Dissection.{dissected};
 ghost use Rattle.ip_filter.specs.Truth.{holds};

@@ -9,6 +9,7 @@ mod holds;
 mod laws;
 mod network;
 mod networks;
+mod number_set;
 mod numbers;
 mod parse;
 mod parse_error;

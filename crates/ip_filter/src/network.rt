@@ -1,3 +1,4 @@
+//! A network of IPv4 or IPv6 addresses.
 ghost use Rattle.std.specs.Prelude.{◌≡◌, ◌/◌, ◌^◌, ◌-◌, ◌==◌, ◌&&◌};
 ghost use Rattle.ip_filter.specs.Network.{ipv4_lies_in, ipv6_lies_in};
 

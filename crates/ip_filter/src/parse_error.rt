@@ -1,3 +1,4 @@
+//! The error of the parse of a filter.
 use thiserror::Error;
 
 /// What the text of a filter needs at some place.

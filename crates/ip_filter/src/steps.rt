@@ -9,8 +9,9 @@ ghost use Rattle.ip_filter.specs.declared.filter.StepKind.TheVariants.{And, Or};
 ghost use Rattle.ip_filter.specs.declared.filter.Step.{Step};
 
 use crate::facts::Facts;
+use crate::number_set::NumberSet;
 use crate::{Step, StepKind, Term};
-use ip_dissect::dissect;
+use ip_dissect::Packet;
 
 /// The most steps of a filter: 64 terms, and an operator between each two.
 const MAX_STEPS: usize = 127;
@@ -46,15 +47,22 @@ pub fn steps_match<S: AsStep>(steps: &[S], bytes: &[u8]) -> bool
     }
 }
 
-/// Evaluates the steps for any packet, by its dissection. It is kept out of line, since most packets have no extension
-/// headers: much of what terms ask of those is known at compile time.
+/// Evaluates the steps for any packet. It is kept out of line, since most packets have no extension headers: much of
+/// what terms ask of those is known at compile time.
 #[inline(never)]
 fn steps_match_any<S: AsStep>(steps: &[S], bytes: &[u8]) -> bool
     ensures { result ≡ last_holds (read_after [] (map S.step_of (take 127 steps.now)))
         (λ t. holds t (dissected bytes.now)) }
 {
-    let facts = Facts::of(&dissect(bytes));
-    evaluate(steps, Some(&facts))
+    let mut numbers = NumberSet::none();
+    let packet = Packet::walk(bytes, &mut numbers);
+    evaluate(
+        steps,
+        Some(&Facts {
+            packet,
+            numbers: Some(&numbers),
+        }),
+    )
 }
 
 /// Returns whether the formula of the first 127 steps holds of a frame that is not IP: no term holds of it.
@@ -79,14 +87,21 @@ pub(crate) fn own_steps_match(steps: &[Step], bytes: &[u8]) -> bool
     }
 }
 
-/// Evaluates a filter's own steps for any packet, by its dissection.
+/// Evaluates a filter's own steps for any packet.
 #[inline(never)]
 fn own_steps_match_any(steps: &[Step], bytes: &[u8]) -> bool
     requires { length steps.now ≤ 127 }
     ensures { result ≡ last_holds (read_after [] steps.now) (λ t. holds t (dissected bytes.now)) }
 {
-    let facts = Facts::of(&dissect(bytes));
-    evaluate_own(steps, Some(&facts))
+    let mut numbers = NumberSet::none();
+    let packet = Packet::walk(bytes, &mut numbers);
+    evaluate_own(
+        steps,
+        Some(&Facts {
+            packet,
+            numbers: Some(&numbers),
+        }),
+    )
 }
 
 /// Returns whether the formula of the first 127 steps holds of the packet. Without a packet no term holds.

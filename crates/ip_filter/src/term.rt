@@ -1,3 +1,4 @@
+//! The terms of a filter.
 use crate::Network;
 
 /// How a count is compared with a number.

@@ -1,10 +1,7 @@
 -- An error in plain fields for C callers.
 use Rattle.std.specs.Prelude.{ℕ, Option, Some, None}
 use Rattle.ip_base.specs.declared.err.len_error.LenError.{LenError}
-use Rattle.ip_base.specs.declared.err.layer.Layer.{Layer}
-use Rattle.ip_base.specs.declared.err.layer.Layer.TheVariants.{IpHeader, Ipv4Header, Ipv4Packet, IpAuthHeader, Ipv6Header, Ipv6Packet, Ipv6ExtHeader, Ipv6HopByHopHeader, Ipv6DestOptionsHeader, Ipv6RouteHeader, Ipv6FragHeader, Icmpv4}
-use Rattle.ip_base.specs.declared.len_source.LenSource.{LenSource}
-use Rattle.ip_base.specs.declared.len_source.LenSource.TheVariants.{Slice, Ipv4HeaderTotalLen, Ipv6HeaderPayloadLen}
+use Rattle.ip_base.specs.declared.err.layer.Layer.TheVariants.{IpAuthHeader}
 use Rattle.ip_base.specs.declared.err.ipv6.header_error.HeaderError.{HeaderError as Ipv6HeaderError}
 use Rattle.ip_base.specs.declared.err.ipv6.header_error.HeaderError.TheVariants as ipv6_header
 use Rattle.ip_base.specs.declared.err.ip_auth.header_error.HeaderError.{HeaderError as AuthError}
@@ -24,48 +21,8 @@ use Rattle.etherparse_ip.specs.declared.err.ip.slice_error.SliceError.{SliceErro
 use Rattle.etherparse_ip.specs.declared.err.ip.slice_error.SliceError.TheVariants as ip
 use Rattle.etherparse_ip.specs.declared.err.ipv6.slice_error.SliceError.{SliceError as Ipv6SliceError}
 use Rattle.etherparse_ip.specs.declared.err.ipv6.slice_error.SliceError.TheVariants as ipv6
+use Rattle.ip_codes.specs.Codes.{NO_FAULT, TOO_SHORT, HOP_BY_HOP_NOT_AT_START, ZERO_PAYLOAD_LEN, UNSUPPORTED_IP_VERSION, IPV4_HEADER_LENGTH, layer_code, len_source_code}
 use Rattle.ip_spans.specs.declared.fault_fields.FaultFields.{FaultFields}
-
--- the kinds: none, too few bytes, hop-by-hop options that aren't first, an authentication header with a length of 0,
--- an IP version that is neither 4 nor 6, an internet header length below 5
-abbrev pub NO_FAULT : ℕ
-NO_FAULT = 0
-
-abbrev pub TOO_SHORT : ℕ
-TOO_SHORT = 1
-
-abbrev pub HOP_BY_HOP_NOT_AT_START : ℕ
-HOP_BY_HOP_NOT_AT_START = 2
-
-abbrev pub ZERO_PAYLOAD_LEN : ℕ
-ZERO_PAYLOAD_LEN = 3
-
-abbrev pub UNSUPPORTED_IP_VERSION : ℕ
-UNSUPPORTED_IP_VERSION = 4
-
-abbrev pub IPV4_HEADER_LENGTH : ℕ
-IPV4_HEADER_LENGTH = 5
-
--- the layers; 0 is none
-abbrev pub layer_code : Layer → ℕ
-layer_code IpHeader = 1
-layer_code Ipv4Header = 2
-layer_code Ipv4Packet = 3
-layer_code IpAuthHeader = 4
-layer_code Ipv6Header = 5
-layer_code Ipv6Packet = 6
-layer_code Ipv6ExtHeader = 7
-layer_code Ipv6HopByHopHeader = 8
-layer_code Ipv6DestOptionsHeader = 9
-layer_code Ipv6RouteHeader = 10
-layer_code Ipv6FragHeader = 11
-layer_code Icmpv4 = 12
-
--- the sources of a length; 0 is none
-abbrev pub len_source_code : LenSource → ℕ
-len_source_code Slice = 1
-len_source_code Ipv4HeaderTotalLen = 2
-len_source_code Ipv6HeaderPayloadLen = 3
 
 -- too few bytes for a layer's header
 abbrev pub len_fields : ℕ → LenError → FaultFields

@@ -8,7 +8,8 @@ use Rattle.etherparse_ip.specs.PartsIn.{ipv4_parts_in, ipv6_parts_in}
 use Rattle.etherparse_ip.specs.PacketFault.{ip_fault, ipv6_lax_fault}
 use Rattle.ip_spans.specs.HeaderSpan.{spans_from, filled}
 use Rattle.ip_spans.specs.ChainParts.{flag}
-use Rattle.ip_spans.specs.FaultFields.{packet_fault_fields, ipv6_fault_fields, len_source_code}
+use Rattle.ip_spans.specs.FaultFields.{packet_fault_fields, ipv6_fault_fields}
+use Rattle.ip_codes.specs.Codes.{len_source_code}
 use Rattle.ip_spans.specs.declared.header_span.HeaderSpan.{HeaderSpan}
 use Rattle.ip_spans.specs.declared.packet_parts.PacketParts.{PacketParts}
 use Rattle.ip_spans.specs.declared.payload_span.PayloadSpan.{PayloadSpan}

@@ -1,3 +1,4 @@
+//! A position in a chain, and the step to the next header.
 ghost use Rattle.std.specs.Prelude.{◌≡◌, ◌==◌, drop, IfSome, IfNone};
 ghost use Rattle.ip_spec.specs.Chain.{IsEnd};
 ghost use Rattle.ip_ext_slices.specs.ChainFault.{slice_fault};

@@ -1,3 +1,4 @@
+//! The longest chain at the start of bytes, with the spans of its headers.
 ghost use Rattle.std.specs.Prelude.{◌≡◌, ◌≤◌, length};
 ghost use Rattle.ip_ext_slices.specs.Longest.{longest_chain};
 ghost use Rattle.ip_ext_slices.specs.Ipv4Longest.{longest_ipv4_chain};

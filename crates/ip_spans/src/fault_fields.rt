@@ -1,32 +1,19 @@
 //! Errors in plain fields, with the codes listed in `specs/FaultFields.antt`.
 ghost use Rattle.std.specs.Prelude.{◌≡◌, IfSome, IfNone};
+ghost use Rattle.ip_codes.specs.Codes.{layer_code, len_source_code};
 ghost use Rattle.ip_base.specs.declared.err.layer.Layer.{Layer};
 ghost use Rattle.ip_base.specs.declared.len_source.LenSource.{LenSource};
-ghost use Rattle.ip_spans.specs.FaultFields.{layer_code, len_source_code, len_fields, content_fields, no_fault};
+ghost use Rattle.ip_spans.specs.FaultFields.{len_fields, content_fields, no_fault};
 ghost use Rattle.ip_spans.specs.FaultFields.{auth_error_fields, auth_fields, exts_error_fields, exts_fields};
 ghost use Rattle.ip_spans.specs.FaultFields.{chain_fault_fields, ipv4_chain_fault_fields, base_error_fields};
 ghost use Rattle.ip_spans.specs.FaultFields.{headers_error_fields, packet_fault_fields, ipv6_header_error_fields};
 ghost use Rattle.ip_spans.specs.FaultFields.{ipv6_fault_fields};
-ghost use Rattle.ip_spans.specs.DissectionParts.{header_code, end_fields};
+ghost use Rattle.ip_spans.specs.DissectionParts.{end_fields};
 
 use etherparse_ip::LenSource;
 use etherparse_ip::err::{Layer, LenError, ip, ip_auth, ipv6, ipv6_exts};
+use ip_codes::{header_code_of, kind, layer_code_of, len_source_code_of};
 use ip_dissect::End;
-
-/// The kinds of errors.
-pub(crate) mod kind {
-    pub const NONE: u8 = 0;
-
-    pub const TOO_SHORT: u8 = 1;
-
-    pub const HOP_BY_HOP_NOT_AT_START: u8 = 2;
-
-    pub const ZERO_PAYLOAD_LEN: u8 = 3;
-
-    pub const UNSUPPORTED_IP_VERSION: u8 = 4;
-
-    pub const IPV4_HEADER_LENGTH: u8 = 5;
-}
 
 /// An error. A field that its kind doesn't use is 0.
 #[repr(C)]
@@ -48,50 +35,6 @@ pub struct FaultFields {
     pub len_source: u8,
     /// The wrong version or internet header length.
     pub value: u32,
-}
-
-/// Returns the code of a layer.
-#[inline(always)]
-pub(crate) fn layer_code_of(layer: Layer) -> u8
-    ensures { result ≡ layer_code layer }
-{
-    match layer {
-        Layer::IpHeader => 1,
-        Layer::Ipv4Header => 2,
-        Layer::Ipv4Packet => 3,
-        Layer::IpAuthHeader => 4,
-        Layer::Ipv6Header => 5,
-        Layer::Ipv6Packet => 6,
-        Layer::Ipv6ExtHeader => 7,
-        Layer::Ipv6HopByHopHeader => 8,
-        Layer::Ipv6DestOptionsHeader => 9,
-        Layer::Ipv6RouteHeader => 10,
-        Layer::Ipv6FragHeader => 11,
-        Layer::Icmpv4 => 12,
-    }
-}
-
-/// Returns the code of a layer, or 0.
-#[inline(always)]
-fn header_code_of(header: Option<Layer>) -> u8
-    ensures { result ≡ header_code header }
-{
-    match header {
-        Some(layer) => layer_code_of(layer),
-        None => 0,
-    }
-}
-
-/// Returns the code of a length source.
-#[inline(always)]
-pub(crate) fn len_source_code_of(source: LenSource) -> u8
-    ensures { result ≡ len_source_code source }
-{
-    match source {
-        LenSource::Slice => 1,
-        LenSource::Ipv4HeaderTotalLen => 2,
-        LenSource::Ipv6HeaderPayloadLen => 3,
-    }
 }
 
 impl FaultFields {

@@ -4,8 +4,8 @@ ghost use Rattle.ip_filter.specs.Formula.{steps_of};
 ghost use Rattle.ip_filter.specs.declared.filter.StepKind.TheVariants as kind_of;
 ghost use Rattle.ip_spans.specs.FilterNumbers.{comparison_in, fault_kind_in, network_in, kind_in, step_in, steps_in};
 
-use crate::fault_fields::kind;
 use crate::filter_numbers::{FilterNumbers, StepNumbers, step};
+use ip_codes::kind;
 use ip_filter::{Comparison, FaultKind, Filter, Network, Step, StepKind, Term};
 
 impl FilterNumbers {

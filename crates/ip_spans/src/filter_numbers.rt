@@ -5,7 +5,7 @@ ghost use Rattle.ip_filter.specs.Truth.{holds};
 ghost use Rattle.ip_filter.specs.Formula.{read_after, last_holds};
 ghost use Rattle.ip_spans.specs.FilterNumbers.{fitting, comparison_in, fault_kind_in, network_in, term_in, step_in, steps_in};
 
-use crate::fault_fields::kind;
+use ip_codes::kind;
 use ip_filter::{
     AsStep, Comparison, FaultKind, Network, Step, StepKind, Term, steps_match, steps_match_other,
 };

@@ -22,12 +22,12 @@ mod writes;
 
 pub use chain_cursor::ChainCursor;
 pub use chain_parts::{ChainParts, parse_chain, parse_ipv4_chain};
-pub use dissection_parts::{DissectionParts, dissect_packet, end_code_of, kind_code_of};
+pub use dissection_parts::{DissectionParts, dissect_packet};
 pub use fault_fields::FaultFields;
 pub use filter_numbers::{FilterNumbers, StepNumbers, filter_matches, filter_matches_other};
 pub use filter_parse::{FilterError, parse_filter};
 pub use header_fields::{AuthFields, FragmentFields, auth_fields, fragment_fields};
-pub use header_span::HeaderSpan;
+pub use header_span::{HeaderSpan, HeaderSpans};
 pub use links::link_headers;
 pub use names::{kind_name, layer_name, len_source_name, number_name};
 pub use packet_parts::{PacketParts, parse_packet, parse_packet_lax};

@@ -1,3 +1,4 @@
+//! The links between the headers that spans refer to.
 ghost use Rattle.std.specs.Prelude.{◌≡◌};
 ghost use Rattle.ip_spans.specs.LinkedSpans.{first_number, linked_spans};
 

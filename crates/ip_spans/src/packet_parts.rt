@@ -1,3 +1,4 @@
+//! A parsed packet in plain fields, with the spans of its headers.
 ghost use Rattle.std.specs.Prelude.{◌≡◌, ◌+◌, ◌≤◌, length, IfOk, IfErr};
 ghost use Rattle.std.specs.Result.{result_err};
 ghost use Rattle.etherparse_ip.specs.Ipv4Slice.{ipv4_parts};
@@ -5,11 +6,12 @@ ghost use Rattle.etherparse_ip.specs.Ipv6Slice.{ipv6_parts};
 ghost use Rattle.ip_spans.specs.HeaderSpan.{filled};
 ghost use Rattle.ip_spans.specs.ChainParts.{flag};
 ghost use Rattle.ip_spans.specs.PacketParts.{IsPacketParts, packet_parts, packet_spans, packet_fault, lax_packet_fault};
-ghost use Rattle.ip_spans.specs.FaultFields.{len_source_code};
+ghost use Rattle.ip_codes.specs.Codes.{len_source_code};
 
-use crate::fault_fields::{FaultFields, len_source_code_of};
+use crate::fault_fields::FaultFields;
 use crate::header_span::{HeaderSpan, put_ipv4_span, put_spans};
 use etherparse_ip::{IpPayloadSlice, IpSlice, Ipv4Slice, Ipv6Slice};
+use ip_codes::len_source_code_of;
 
 /// A packet: its base header, its extension headers and its payload, one after the other.
 #[repr(C)]

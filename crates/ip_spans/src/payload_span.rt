@@ -1,3 +1,4 @@
+//! The payload of a parsed packet.
 ghost use Rattle.std.specs.Prelude.{◌≡◌, ◌+◌, ◌≤◌, length, IfOk};
 ghost use Rattle.std.specs.Result.{result_err};
 ghost use Rattle.ip_base.specs.Ipv4Header.{version};
@@ -5,10 +6,11 @@ ghost use Rattle.etherparse_ip.specs.Ipv4Slice.{ipv4_parts};
 ghost use Rattle.etherparse_ip.specs.Ipv6Slice.{ipv6_parts};
 ghost use Rattle.ip_spans.specs.ChainParts.{flag};
 ghost use Rattle.ip_spans.specs.PacketParts.{payload_span, parts_in, packet_fault, lax_packet_fault};
-ghost use Rattle.ip_spans.specs.FaultFields.{len_source_code};
+ghost use Rattle.ip_codes.specs.Codes.{len_source_code};
 
-use crate::fault_fields::{FaultFields, len_source_code_of};
+use crate::fault_fields::FaultFields;
 use etherparse_ip::{IpPayloadSlice, IpSlice, Ipv4Slice, Ipv6Slice};
+use ip_codes::len_source_code_of;
 
 /// The payload of a packet, and where the extension headers before it start.
 #[repr(C)]

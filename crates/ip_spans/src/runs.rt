@@ -1,3 +1,4 @@
+//! The length of a run of spans.
 ghost use Rattle.std.specs.Prelude.{◌≡◌, ◌==◌, ◌↔◌, ◌≤◌, length, take, count_by, IsTrue, IsSome, if◌then◌else◌};
 ghost use Rattle.std.specs.List.{find, after_first};
 ghost use Rattle.ip_spec.specs.Numbers.{ROUTING, DESTINATION_OPTIONS};

@@ -1,10 +1,12 @@
+//! The texts of errors.
 ghost use Rattle.std.specs.Prelude.{◌≡◌, ◌≤◌, ◌<◌, ◌+◌, drop, length, slice_index};
 
-use crate::fault_fields::{FaultFields, kind, layer_of, len_source_of};
+use crate::fault_fields::{FaultFields, layer_of, len_source_of};
 use crate::filter_parse::expected_of;
 use arrayvec::ArrayString;
 use etherparse_ip::LenSource;
 use etherparse_ip::err::{Layer, LenError, ip, ip_auth, ipv6_exts};
+use ip_codes::kind;
 use std::fmt::Write;
 
 /// The maximum length of a text, in bytes.

@@ -1,3 +1,4 @@
+//! Writes of the headers that spans refer to.
 ghost use Rattle.std.specs.Prelude.{◌≡◌, ◌≤◌, ◌<◌, ◌↔◌, ◌^◌, ℕ, length, IsTrue, IfSome, IfNone};
 ghost use Rattle.ip_spec.specs.Header.{IsHeader};
 ghost use Rattle.ip_spec.specs.Chain.{IsChain};

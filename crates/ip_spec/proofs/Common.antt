@@ -34,7 +34,7 @@ pub use Rattle.std.specs.Cmp.Rules.{comparing}
 pub use Rattle.std.specs.Fmt.{decimal}
 pub use Rattle.std.specs.Int.{from_be_bytes, w32, to_be_bytes, IsInRange, IsOutOfRange}
 pub use Rattle.std.specs.Io.KnownBytes.{Consumes, Appends, IsAtEnd, Keeps, ReadConsumes}
-pub use Rattle.std.specs.List.{AllByRecursion, flat_map, slice_split, find, position_or_len, before_first, after_first, join_with_byte, range_with_len, onto_first}
+pub use Rattle.std.specs.List.{AllByRecursion, flat_map, list_any, slice_split, find, position_or_len, before_first, after_first, join_with_byte, range_with_len, onto_first}
 pub use Rattle.std.specs.Net.Addr.{octets_of, segments_of}
 pub use Rattle.std.specs.Option.{option_map, option_eq, option_map_or, ForSome, option_or, option_zip}
 pub use Rattle.std.specs.Ordering.{on}

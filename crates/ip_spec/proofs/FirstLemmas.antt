@@ -1,5 +1,5 @@
 -- The first element of a list that passes a test, and the parts before and after it, for joined lists.
-use Rattle.ip_spec.proofs.Common.{◌≡◌, ℕ, ◌+◌, ◌≤◌, List, [], ◌∷◌, ◌++◌, map, refl, ap, sym, ◌∙◌, arith, inl, inr, Bool, true, false, rules, count_by, Some, is_some, position_or_len, find, before_first, after_first, option_map, cases_Bool, take-append-drop, sum_by-append, common_steps}
+use Rattle.ip_spec.proofs.Common.{◌≡◌, ℕ, ◌+◌, ◌≤◌, List, [], ◌∷◌, ◌++◌, map, refl, ap, sym, ◌∙◌, arith, inl, inr, Bool, true, false, rules, count_by, Some, is_some, position_or_len, find, before_first, after_first, option_map, option_map_or, list_any, ◌&&◌, cases_Bool, take-append-drop, sum_by-append, common_steps}
 
 module _ {X : Type 0} (t : X → Bool) where
   module _ (x : X) (xs : List X) where
@@ -43,6 +43,16 @@ module _ {X : Type 0} (t : X → Bool) where
   pub find_passes : (xs : List X) (x : X) → find t xs ≡ Some x → t x ≡ true
   find_passes [] x e = absurd (cc)
   find_passes (y ∷ ys) x e = grind (arith, common_steps, find_passes ys x)
+
+-- Of elements of which at most one passes a test, the first that does is the only one that can pass another, too.
+module _ {X : Type 0} (t q : X → Bool) where
+  none_both : (xs : List X) → count_by t xs ≡ 0 → list_any (λ x. t x && q x) xs ≡ false
+  none_both [] e = refl
+  none_both (x ∷ xs) e = grind (arith, common_steps, none_both xs)
+
+  pub only_both : (xs : List X) → count_by t xs ≤ 1 → list_any (λ x. t x && q x) xs ≡ option_map_or q (find t xs) false
+  only_both [] l = refl
+  only_both (x ∷ xs) l = grind (arith, common_steps, none_both xs, only_both xs)
 
 -- On neither side do more elements pass a test than in the whole list.
 module _ {X : Type 0} (t u : X → Bool) (xs : List X) where

@@ -1,3 +1,4 @@
+//! Laws of longest chains, proved as the contracts of calls.
 ghost use Rattle.std.specs.Prelude.{◌≡◌, ℕ, List, length, drop};
 ghost use Rattle.ip_spec.specs.Chain.{ExtHeader, IsLongestChain, leads_to, bytes_of, is_empty, IsEnd};
 

@@ -1,3 +1,4 @@
+//! Laws of longest chains under a demand, proved as the contracts of calls.
 ghost use Rattle.std.specs.Prelude.{◌≡◌, ◌<◌, ◌↔◌, IsSome, ℕ, List, [], ◌∷◌, ◌++◌, Bool, length, take, drop, map};
 ghost use Rattle.ip_spec.specs.Header.{IsExtensionNumber, IsLaterNumber};
 ghost use Rattle.ip_spec.specs.Chain.{ExtHeader, IsLongestChain, IsNext, IsEnd, leads_to, bytes_of, headers_within, is_empty};

@@ -1,3 +1,4 @@
+//! Laws of single headers, proved as the contracts of calls.
 ghost use Rattle.std.specs.Prelude.{◌≡◌, ℕ, List, length, slice_range};
 ghost use Rattle.ip_spec.specs.Numbers.{FRAGMENT, AUTHENTICATION};
 ghost use Rattle.ip_spec.specs.Header.{IsRawHeader, IsFragmentHeader, IsAuthHeader};

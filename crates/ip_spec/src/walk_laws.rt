@@ -1,3 +1,4 @@
+//! Laws of walks over six places, proved as the contracts of calls.
 ghost use Rattle.std.specs.Prelude.{◌≡◌, ◌<◌, ◌↔◌, ℕ, List, ◌++◌, length, Result, Ok};
 ghost use Rattle.ip_base.specs.declared.ip_number_impl.IpNumber.{IpNumber};
 ghost use Rattle.ip_base.specs.declared.err.ipv6_exts.exts_walk_error.ExtsWalkError.{ExtsWalkError};

@@ -1,17 +1,23 @@
 -- What one packet counts.
 use Rattle.std.specs.Prelude.{ℕ, ◌+◌, ◌*◌, ◌==◌, ◌&&◌, not, min, length, Bool, Option, if◌then◌else◌}
-use Rattle.std.specs.List.{count_by}
+use Rattle.std.specs.Option.{option_map_or}
 use Rattle.ip_spec.specs.Chain.{bytes_of}
-use Rattle.ip_base.specs.declared.err.layer.Layer.TheVariants.{IpHeader, Ipv4Header, IpAuthHeader}
+use Rattle.ip_base.specs.declared.err.layer.Layer.TheVariants.{IpHeader, Ipv4Header, IpAuthHeader, Ipv6HopByHopHeader}
+use Rattle.ip_base.specs.declared.err.ipv6_exts.header_error.HeaderError.TheVariants.{HopByHopNotAtStart, IpAuth}
+use Rattle.etherparse_ip.specs.declared.err.ip.header_error.HeaderError.TheVariants.{UnsupportedIpVersion, Ipv4HeaderLengthSmallerThanHeader}
+use Rattle.etherparse_ip.specs.declared.err.ip.headers_error.HeadersError.TheVariants.{Ip, Ipv4Ext, Ipv6Ext}
+use Rattle.etherparse_ip.specs.declared.err.ip.slice_error.SliceError.{SliceError}
+use Rattle.etherparse_ip.specs.declared.err.ip.slice_error.SliceError.TheVariants.{Len, IpHeaders}
 use Rattle.ip_dissect.specs.Dissection.{DissectedParts}
 use Rattle.ip_dissect.specs.End.{has_error}
 use Rattle.ip_dissect.specs.declared.fragment.Fragment.{Fragment}
 use Rattle.ip_dissect.specs.declared.fragment.FragmentKind.{FragmentKind}
 use Rattle.ip_dissect.specs.declared.fragment.FragmentKind.TheVariants.{Atomic, First, Middle, Last}
-use Rattle.ip_spans.specs.FaultFields.{UNSUPPORTED_IP_VERSION, IPV4_HEADER_LENGTH, ZERO_PAYLOAD_LEN, layer_code}
-use Rattle.ip_spans.specs.DissectionParts.{kind_code, fragment_code, end_code, end_fields}
-use Rattle.ip_spans.specs.declared.fault_fields.FaultFields.{FaultFields}
+use Rattle.ip_dissect.specs.declared.end.End.{End}
+use Rattle.ip_dissect.specs.declared.end.End.TheVariants.{Payload, LaterFragment, Truncated, Fault}
+use Rattle.ip_codes.specs.Codes.{error_kind, layer_code, kind_code, fragment_code, end_code}
 use Rattle.ip_statistics.specs.Counts.{each_below, one_if}
+use Rattle.ip_statistics.specs.HeaderCounts.{number_counts}
 use Rattle.ip_statistics.specs.Lengths.{is_for_length}
 use Rattle.ip_statistics.specs.declared.statistics.Statistics.{Statistics}
 
@@ -28,18 +34,28 @@ AT_TRUNCATED_HEADER = 2
 abbrev pub AT_FAULT : ℕ
 AT_FAULT = 3
 
--- the code of the header or packet that is truncated or faulty
-abbrev pub faulty_layer : FaultFields → ℕ
-faulty_layer f =
-    if not (f.header == 0) then f.header
-    else if f.kind == UNSUPPORTED_IP_VERSION then layer_code IpHeader
-    else if f.kind == IPV4_HEADER_LENGTH then layer_code Ipv4Header
-    else if f.kind == ZERO_PAYLOAD_LEN then layer_code IpAuthHeader
-    else f.layer
+-- the code of the layer that an error in a packet names
+abbrev pub error_layer : SliceError → ℕ
+error_layer (Len e) = layer_code e.layer
+error_layer (IpHeaders (Ip (UnsupportedIpVersion v))) = layer_code IpHeader
+error_layer (IpHeaders (Ip (Ipv4HeaderLengthSmallerThanHeader l))) = layer_code Ipv4Header
+error_layer (IpHeaders (Ipv4Ext e)) = layer_code IpAuthHeader
+error_layer (IpHeaders (Ipv6Ext HopByHopNotAtStart)) = layer_code Ipv6HopByHopHeader
+error_layer (IpHeaders (Ipv6Ext (IpAuth e))) = layer_code IpAuthHeader
+
+-- the code of the header or packet that is truncated or faulty: the IPv6 extension header, or what the error names
+abbrev pub faulty_layer : End → ℕ
+faulty_layer Payload = 0
+faulty_layer LaterFragment = 0
+faulty_layer (Truncated e header) = option_map_or layer_code header (layer_code e.layer)
+faulty_layer (Fault e header) = option_map_or layer_code header (error_layer e)
 
 -- the place of a fault's count, by its kind and its layer
-abbrev pub fault_index : FaultFields → ℕ
-fault_index f = 16 * f.kind + faulty_layer f
+abbrev pub fault_index : End → ℕ
+fault_index Payload = 0
+fault_index LaterFragment = 0
+fault_index (Truncated e header) = 0
+fault_index (Fault e header) = 16 * error_kind e + faulty_layer (Fault e header)
 
 -- the fragment is of this kind
 abbrev pub is_fragment_of : FragmentKind → Option Fragment → Bool
@@ -65,9 +81,9 @@ counts_of p = record {
   payload_bytes = if has_error p.end then 0 else length p.payload;
   chain_headers = each_below 17 (λ i. one_if (not (p.version == 0) && (min (length p.headers) 16 == i)));
   chain_bytes = each_below 73 (λ i. one_if (not (p.version == 0) && is_for_length i (length (bytes_of p.headers))));
-  headers = each_below 256 (λ n. count_by (λ h. h.number == n) p.headers);
+  headers = number_counts p.headers;
   payload_numbers = each_below 256 (λ n. one_if ((end_code p.end == AT_PAYLOAD) && (p.number == n)));
   later_fragment_numbers = each_below 256 (λ n. one_if ((end_code p.end == AT_LATER_FRAGMENT) && (p.number == n)));
-  truncated_headers = each_below 16 (λ l. one_if ((end_code p.end == AT_TRUNCATED_HEADER) && (faulty_layer (end_fields p.end) == l)));
-  faults = each_below 128 (λ i. one_if ((end_code p.end == AT_FAULT) && (fault_index (end_fields p.end) == i)));
+  truncated_headers = each_below 16 (λ l. one_if ((end_code p.end == AT_TRUNCATED_HEADER) && (faulty_layer p.end == l)));
+  faults = each_below 128 (λ i. one_if ((end_code p.end == AT_FAULT) && (fault_index p.end == i)));
 }

@@ -4,7 +4,7 @@ use Rattle.ip_dissect.specs.End.{has_error}
 use Rattle.ip_dissect.specs.declared.end.End.{End}
 use Rattle.ip_dissect.specs.declared.fragment.Fragment.{Fragment}
 use Rattle.ip_dissect.specs.declared.fragment.FragmentKind.TheVariants.{Atomic, First, Middle, Last}
-use Rattle.ip_spans.specs.DissectionParts.{end_code, end_fields}
+use Rattle.ip_codes.specs.Codes.{end_code}
 use Rattle.ip_statistics.specs.Counts.{added, all_added, each_below, one_if}
 use Rattle.ip_statistics.specs.Lengths.{is_for_length}
 use Rattle.ip_statistics.specs.Packet.{AT_PAYLOAD, AT_LATER_FRAGMENT, AT_TRUNCATED_HEADER, AT_FAULT, faulty_layer, fault_index, is_fragment_of}
@@ -43,8 +43,8 @@ end_added e a = record a {
   at_later_fragment = added a.at_later_fragment (one_if (end_code e == AT_LATER_FRAGMENT));
   at_truncated_header = added a.at_truncated_header (one_if (end_code e == AT_TRUNCATED_HEADER));
   at_fault = added a.at_fault (one_if (end_code e == AT_FAULT));
-  truncated_headers = all_added a.truncated_headers (each_below 16 (λ l. one_if ((end_code e == AT_TRUNCATED_HEADER) && (faulty_layer (end_fields e) == l))));
-  faults = all_added a.faults (each_below 128 (λ i. one_if ((end_code e == AT_FAULT) && (fault_index (end_fields e) == i))));
+  truncated_headers = all_added a.truncated_headers (each_below 16 (λ l. one_if ((end_code e == AT_TRUNCATED_HEADER) && (faulty_layer e == l))));
+  faults = all_added a.faults (each_below 128 (λ i. one_if ((end_code e == AT_FAULT) && (fault_index e == i))));
 }
 
 -- the payload of k bytes with the number n, at the end e

@@ -1,47 +1,69 @@
 //! Where truncated headers and faults are counted.
-ghost use Rattle.std.specs.Prelude.{◌≡◌, ◌<◌};
-ghost use Rattle.ip_statistics.specs.Packet.{faulty_layer, fault_index};
+ghost use Rattle.std.specs.Prelude.{◌≡◌, ◌+◌};
+ghost use Rattle.ip_statistics.specs.Packet.{error_layer, faulty_layer, fault_index};
 
-use ip_spans::FaultFields;
+use etherparse_ip::err::ip::{HeaderError, HeadersError, SliceError};
+use etherparse_ip::err::{Layer, ipv6_exts};
+use ip_codes::{error_kind_of, layer_code_of};
+use ip_dissect::End;
 
-/// The codes of faults that name no layer.
-mod kind {
-    pub const ZERO_PAYLOAD_LEN: u8 = 3;
-
-    pub const UNSUPPORTED_IP_VERSION: u8 = 4;
-
-    pub const IPV4_HEADER_LENGTH: u8 = 5;
-}
-
-/// The codes of their layers.
-mod layer {
-    pub const IP_HEADER: u8 = 1;
-
-    pub const IPV4_HEADER: u8 = 2;
-
-    pub const AUTHENTICATION_HEADER: u8 = 4;
-}
-
-/// Returns the code of the header or packet that is truncated or faulty.
+/// Returns the code of the header or packet that is truncated or faulty, and 0 if none is.
 #[inline(always)]
-pub(crate) fn layer_of(fault: &FaultFields) -> u8
-    ensures { result ≡ faulty_layer fault.now }
+pub(crate) fn layer_of(end: &End) -> u8
+    ensures { result ≡ faulty_layer end.now }
 {
-    if fault.header != 0 {
-        return fault.header;
-    }
-    match fault.kind {
-        kind::UNSUPPORTED_IP_VERSION => layer::IP_HEADER,
-        kind::IPV4_HEADER_LENGTH => layer::IPV4_HEADER,
-        kind::ZERO_PAYLOAD_LEN => layer::AUTHENTICATION_HEADER,
-        _ => fault.layer,
+    match end {
+        End::Payload | End::LaterFragment => 0,
+        End::Truncated {
+            header: Some(layer),
+            ..
+        } => layer_code_of(*layer),
+        End::Truncated {
+            error,
+            header: None,
+        } => layer_code_of(error.layer),
+        End::Fault {
+            header: Some(layer),
+            ..
+        } => layer_code_of(*layer),
+        End::Fault {
+            error,
+            header: None,
+        } => layer_of_error(error),
     }
 }
 
 /// Returns the index of a fault's count.
 #[inline(always)]
-pub(crate) fn index_of(fault: &FaultFields) -> usize
-    ensures { result ≡ fault_index fault.now }
+pub(crate) fn index_of(end: &End) -> usize
+    ensures { result ≡ fault_index end.now }
 {
-    16 * usize::from(fault.kind) + usize::from(layer_of(fault))
+    match end {
+        End::Fault { error, .. } => {
+            16 * usize::from(error_kind_of(error)) + usize::from(layer_of(end))
+        }
+        _ => 0,
+    }
+}
+
+/// Returns the code of the layer that an error in a packet names.
+fn layer_of_error(error: &SliceError) -> u8
+    ensures { result ≡ error_layer error.now }
+{
+    let layer = match error {
+        SliceError::Len(error) => error.layer,
+        SliceError::IpHeaders(HeadersError::Ip(HeaderError::UnsupportedIpVersion { .. })) => {
+            Layer::IpHeader
+        }
+        SliceError::IpHeaders(
+            HeadersError::Ip(HeaderError::Ipv4HeaderLengthSmallerThanHeader { .. }),
+        ) => Layer::Ipv4Header,
+        SliceError::IpHeaders(HeadersError::Ipv4Ext(_)) => Layer::IpAuthHeader,
+        SliceError::IpHeaders(HeadersError::Ipv6Ext(ipv6_exts::HeaderError::HopByHopNotAtStart)) =>
+            { Layer::Ipv6HopByHopHeader }
+        SliceError::IpHeaders(HeadersError::Ipv6Ext(ipv6_exts::HeaderError::IpAuth(_))) => {
+            Layer::IpAuthHeader
+        }
+    };
+    layer_code_of(layer)
 }

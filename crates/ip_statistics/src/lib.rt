@@ -10,7 +10,6 @@ mod headers;
 mod lengths;
 mod merge;
 mod merge_laws;
-mod parts;
 mod statistics;
 
 pub use capture::CaptureStatistics;

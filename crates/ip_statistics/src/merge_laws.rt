@@ -1,3 +1,4 @@
+//! A law of merged statistics, proved as the contract of a call.
 ghost use Rattle.std.specs.Prelude.{◌≡◌, ℕ, List, ◌++◌, IsPermutation};
 ghost use Rattle.ip_statistics.specs.Statistics.{merged, nothing};
 ghost use Rattle.ip_statistics.specs.Lists.{statistics_of, Merges, packets_in, merged_in};

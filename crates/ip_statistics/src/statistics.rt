@@ -1,3 +1,4 @@
+//! Statistics of packets: the counts.
 ghost use Rattle.std.specs.Prelude.{◌≡◌};
 
 /// Statistics of packets. Each count stops at 2^64 - 1.

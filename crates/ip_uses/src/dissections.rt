@@ -5,7 +5,7 @@ ghost use Rattle.ip_dissect.specs.Outline.{is_plain};
 ghost use Rattle.ip_dissect.specs.declared.end.End.TheVariants.{Payload};
 
 use etherparse_ip::IpNumber;
-use ip_dissect::{Dissection, End, outline_plain_packet};
+use ip_dissect::{Dissection, End, Packet};
 
 /// Returns the protocol number of the payload, if it starts here: the headers before it are whole, and the packet is
 /// not a later fragment.
@@ -28,6 +28,6 @@ pub fn plain_payload(bytes: &[u8]) -> Option<(IpNumber, usize)>
     ensures number { IfSome result (λ x. x.0.0 ≡ (dissected bytes.now).number) }
     ensures len { IfSome result (λ x. x.1 ≡ length (dissected bytes.now).payload) }
 {
-    let packet = outline_plain_packet(bytes)?;
-    Some((packet.next_header, packet.payload_len))
+    let packet = Packet::plain(bytes)?;
+    Some((packet.outline.next_header, packet.outline.payload_len))
 }

@@ -32,7 +32,7 @@ fn check(rt: &impl Abort, alloc: Global, row: &Row<'_>) -> Result<(), Fail> {
     check_fitting(rt, row);
     check_cleared(rt, alloc, row)?;
     check_runs(rt, row);
-    Ok(())
+    check_cleared_runs(rt, alloc, row)
 }
 
 /// Checks the headers that fit six places, and what follows them.
@@ -89,6 +89,16 @@ fn check_runs(rt: &impl Abort, row: &Row<'_>) {
         assert_that(rt, row.name, runs.end().is_some());
         assert_that(rt, row.name, !runs.skip_run());
     }
+}
+
+/// Checks the number of runs of the parsed headers, and the copy in which they are cleared.
+fn check_cleared_runs(rt: &impl Abort, alloc: Global, row: &Row<'_>) -> Result<(), Fail> {
+    let (all, number, _, _) = Ipv6ExtensionsSlice::from_slice_lax(IpNumber(row.start), row.bytes);
+    let mut copy = Vec::from_slice(alloc, all.slice())?;
+    let runs = Ipv6ExtensionsRuns::from_headers(all, number);
+    assert_same(rt, row.name, runs.clear_runs(copy.as_mut_slice()), row.runs);
+    assert_bytes(rt, row.name, &copy, row.written);
+    Ok(())
 }
 
 /// Appends the header with its reserved bits zero (RFC 8200, section 4.5; RFC 4302, section 2.3).

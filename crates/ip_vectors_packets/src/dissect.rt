@@ -4,7 +4,7 @@ use crate::samples::{ipv4_bytes, ipv6_bytes, len_error_at};
 use etherparse_ip::LenSource;
 use etherparse_ip::err::ip::{HeadersError, SliceError};
 use etherparse_ip::err::{Layer, LenError, ip_auth, ipv6_exts};
-use ip_dissect::{BaseHeader, End, Fragment, FragmentKind, dissect, outline_plain_packet};
+use ip_dissect::{BaseHeader, End, Fragment, FragmentKind, Packet, dissect};
 use std::process::Abort;
 use std::test::Fail;
 
@@ -54,7 +54,7 @@ fn check(
 
 /// Returns the parts of a packet without extension headers that is no fragment, by its outline.
 fn plain_numbers(bytes: &[u8]) -> Option<Numbers> {
-    let outline = outline_plain_packet(bytes)?;
+    let outline = Packet::plain(bytes)?.outline;
     Some((
         outline.base_len,
         outline.stated_len,

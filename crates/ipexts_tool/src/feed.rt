@@ -8,8 +8,9 @@ ghost use Rattle.ipexts_tool.specs.Memory.{OnMemory};
 
 use crate::ToolError;
 use crate::answer::answer;
-use crate::line_fields::{MAX_LINE_LEN, split_once};
+use crate::line_fields::MAX_LINE_LEN;
 use crate::scratch::Scratch;
+use crate::search::split_once;
 use arrayvec::ArrayVec;
 use std::alloc::Allocator;
 use std::io::Write;

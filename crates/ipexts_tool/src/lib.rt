@@ -46,7 +46,7 @@
 //!   UnsupportedIpVersion V` or `fault Ipv4HeaderLengthSmallerThanHeader I`.
 #![tactic(auto)]
 
-ghost use Rattle.std.specs.Prelude.{◌≡◌, ℕ, List, take, OnOk, IfOk, IfSome};
+ghost use Rattle.std.specs.Prelude.{ℕ, take, OnOk, IfOk, IfSome};
 ghost use Rattle.std.specs.Bool.{OnFalse};
 ghost use Rattle.std.specs.Io.KnownBytes.{Appends, IsAtEnd};
 ghost use Rattle.ipexts_tool.specs.Answers.{answers, answers_to};

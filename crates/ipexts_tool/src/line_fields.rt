@@ -1,13 +1,12 @@
 //! The fields of a line, and the numbers and bytes that they denote.
-ghost use Rattle.std.specs.Prelude.{◌≡◌, ◌==◌, ◌<◌, ◌≤◌, ℕ, ◌∷◌, [], take, length, IfSome, IfNone};
-ghost use Rattle.std.specs.List.{slice_split};
+ghost use Rattle.std.specs.Prelude.{◌≡◌, ◌==◌, ◌<◌, ◌≤◌, [], length};
 ghost use Rattle.std.specs.Option.{option_map};
 ghost use Rattle.ipexts_tool.specs.Lines.{max_line_len};
 ghost use Rattle.ipexts_tool.specs.LineFields.{fields_of, number_of};
 ghost use Rattle.ipexts_tool.specs.LineFields.{bytes_of_hex, number_and_bytes, bytes_alone};
 
 use crate::hex_digits::decode;
-use crate::search::first_index;
+use crate::search::split_once;
 use etherparse_ip::IpNumber;
 
 /// The longest line that is a request, in bytes.
@@ -15,17 +14,6 @@ pub const MAX_LINE_LEN: usize = 8192;
 
 /// The most bytes that the digits of one line can denote.
 pub const BYTES_LEN: usize = MAX_LINE_LEN / 2;
-
-/// Returns the bytes before the first `separator`, and those after it.
-pub fn split_once(text: &[u8], separator: u8) -> Option<(&[u8], &[u8])>
-    ensures found { IfSome result (λ parts. slice_split (λ b. b == separator) text.now
-        ≡ parts.0.now ∷ slice_split (λ b. b == separator) parts.1.now) }
-    ensures shorter { IfSome result (λ parts. length parts.1.now < length text.now) }
-    ensures absent { IfNone result (slice_split (λ b. b == separator) text.now ≡ text.now ∷ []) }
-{
-    let end = first_index(text, separator)?;
-    Some((&text[..end], &text[end + 1..]))
-}
 
 /// Parses a decimal numeral of a number below 256.
 #[tactic(auto, using(crate::proofs::NumberLemmas::numbers))]

@@ -1,22 +1,14 @@
-//! The request in a line. A form of a line has a variant, an arm where the line is parsed and an arm where the
-//! request is answered.
-ghost use Rattle.std.specs.Prelude.{◌≡◌, ◌++◌, ◌≤◌, length, OnOk, string_bytes};
+//! The request in a line. A form of a line has a variant and an arm where the line is parsed, and an arm in `answer.rt`
+//! where the request is answered.
+ghost use Rattle.std.specs.Prelude.{◌≡◌, ◌≤◌, length};
 ghost use Rattle.std.specs.Option.{option_map};
 ghost use Rattle.ipexts_tool.specs.Lines.{max_line_len};
-ghost use Rattle.ipexts_tool.specs.Request.{request_in, answer_to, request_of, request_of_form};
+ghost use Rattle.ipexts_tool.specs.Request.{request_in, request_of, request_of_form};
 ghost use Rattle.ipexts_tool.specs.LineFields.{fields_of};
 
-use crate::dissect::push_dissect;
-use crate::exts4::push_exts4;
-use crate::exts6::push_exts6;
-use crate::line_fields::{
-    BYTES_LEN, MAX_LINE_LEN, parse_hex_alone, parse_number_and_hex, split_once,
-};
-use crate::packet::push_packet;
-use crate::rewrite6::push_rewrite6;
-use crate::rewriteall6::push_rewriteall6;
+use crate::line_fields::{BYTES_LEN, MAX_LINE_LEN, parse_hex_alone, parse_number_and_hex};
+use crate::search::split_once;
 use etherparse_ip::IpNumber;
-use std::alloc::{AllocError, Allocator};
 
 /// The request in a line.
 #[derive(Drop)]
@@ -81,23 +73,4 @@ fn parse_form<'a>(
         return Some(Request::Dissect(bytes));
     }
     None
-}
-
-/// Appends the answer to a request.
-pub fn push_answer<A: Allocator + Copy>(
-    alloc: A,
-    request: Request<'_>,
-    text: &mut String<A>,
-) -> Result<(), AllocError>
-    ensures { OnOk result
-        (string_bytes text.new ≡ string_bytes text.old ++ answer_to (request_in request.entry)) }
-{
-    match request {
-        Request::Exts6(number, bytes) => push_exts6(number, bytes, text),
-        Request::Exts4(number, bytes) => push_exts4(number, bytes, text),
-        Request::Rewrite6(number, bytes) => push_rewrite6(alloc, number, bytes, text),
-        Request::RewriteAll6(number, bytes) => push_rewriteall6(alloc, number, bytes, text),
-        Request::Packet(bytes) => push_packet(bytes, text),
-        Request::Dissect(bytes) => push_dissect(bytes, text),
-    }
 }

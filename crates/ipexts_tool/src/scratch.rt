@@ -1,3 +1,4 @@
+//! Buffers for the answers to lines.
 ghost use Rattle.std.specs.Prelude.{◌≡◌, [], replicate, string_bytes};
 
 use crate::line_fields::BYTES_LEN;

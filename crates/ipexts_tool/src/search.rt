@@ -1,5 +1,6 @@
-//! Searches for a byte, 16 bytes at a time.
-ghost use Rattle.std.specs.Prelude.{◌≡◌, ◌≢◌, ℕ, ◌+◌, ◌<◌, ◌≤◌, ◌==◌, length, map, slice_index, IfSome, IfNone};
+//! Searches for a byte, 16 bytes at a time, and splits bytes there.
+ghost use Rattle.std.specs.Prelude.{◌≡◌, ◌≢◌, ℕ, ◌+◌, ◌<◌, ◌≤◌, ◌==◌, [], ◌∷◌, length, map, slice_index, IfSome, IfNone};
+ghost use Rattle.std.specs.List.{slice_split};
 ghost use Rattle.std.specs.Simd.Lanes.{chunk, mask_l};
 
 use std::simd::prelude::*;
@@ -23,6 +24,17 @@ pub fn first_index(text: &[u8], byte: u8) -> Option<usize>
         at += BLOCK_LEN;
     }
     first_index_from(text, at, byte)
+}
+
+/// Returns the bytes before the first `separator`, and those after it.
+pub fn split_once(text: &[u8], separator: u8) -> Option<(&[u8], &[u8])>
+    ensures found { IfSome result (λ parts. slice_split (λ b. b == separator) text.now
+        ≡ parts.0.now ∷ slice_split (λ b. b == separator) parts.1.now) }
+    ensures shorter { IfSome result (λ parts. length parts.1.now < length text.now) }
+    ensures absent { IfNone result (slice_split (λ b. b == separator) text.now ≡ text.now ∷ []) }
+{
+    let end = first_index(text, separator)?;
+    Some((&text[..end], &text[end + 1..]))
 }
 
 /// Returns the index of the first `byte` from the index `from` on.

@@ -1,3 +1,4 @@
+//! The error of a run of the tool.
 ghost use Rattle.std.specs.Prelude.{◌≡◌, Some};
 ghost use Rattle.ipexts_tool.specs.declared.tool_error.ToolError.TheVariants.{Memory, Io};
 

@@ -1,3 +1,4 @@
+//! The cause of a packet's error.
 use crate::err::{LenError, ip, ip_auth, ipv4, ipv6, ipv6_exts};
 
 /// The cause of a packet's error: the value inside the error.

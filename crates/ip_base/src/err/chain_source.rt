@@ -1,3 +1,4 @@
+//! The cause of an extension header's error.
 use crate::err::{LenError, ip_auth, ip_exts, ipv4_exts, ipv6_exts};
 use std::alloc::AllocError;
 use std::io;

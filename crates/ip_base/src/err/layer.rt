@@ -1,3 +1,4 @@
+//! The layers that errors name.
 ghost use Rattle.std.specs.Prelude.{◌≡◌};
 
 /// The header or packet that an error reports.

@@ -1,3 +1,4 @@
+//! The error of too few bytes.
 ghost use Rattle.std.specs.Prelude.{◌≡◌, ◌+◌, ◌^◌, ◌<◌, length};
 
 use crate::LenSource;

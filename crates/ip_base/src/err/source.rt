@@ -1,3 +1,4 @@
+//! The cause of a single header's error.
 use crate::err::{LenError, ip_auth};
 use std::io;
 

@@ -1,3 +1,4 @@
+//! The error of a value that is too big for its field.
 use thiserror::Error;
 
 /// A value exceeds the largest that its field can hold.

@@ -1,3 +1,4 @@
+//! Readers of exactly as many bytes as requested.
 ghost use Rattle.std.specs.Prelude.{◌≡◌, ℕ, ◌≤◌, ◌↔◌, IsOk, Bool, true, false, List, length, Some, OnOk, OnErr, IfErr, IsSome, Option};
 ghost use Rattle.std.specs.IoError.{error_kind};
 ghost use Rattle.std.specs.declared.io.Error.{Error};

@@ -1,3 +1,4 @@
+//! An exact reader over any reader of the standard library.
 ghost use Rattle.std.specs.Prelude.{◌≡◌, false, ⊤};
 ghost use Rattle.std.proofs.Common.{rules};
 

@@ -2,8 +2,8 @@
 use crate::compared::every_byte::with_bytes;
 use crate::digests::chains::{layer_code, of_len_error, with};
 use crate::digests::packets::of_ip_fault;
+use ip_codes::kind_code_of;
 use ip_dissect::{Dissection, End, Fragment, dissect};
-use ip_spans::kind_code_of;
 
 /// The value of a part that isn't there.
 const NONE: u64 = 256;

@@ -1,3 +1,4 @@
+//! The error of an IP header of either version.
 ghost use Rattle.std.specs.Prelude.{IsNone};
 
 use crate::err::PacketSource;

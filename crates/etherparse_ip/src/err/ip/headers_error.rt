@@ -1,3 +1,4 @@
+//! The error of the IP headers of a packet.
 ghost use Rattle.std.specs.Prelude.{◌≡◌, Some};
 ghost use Rattle.std.specs.Option.{option_map};
 ghost use Rattle.etherparse_ip.specs.PacketCause.{packet_cause_in};

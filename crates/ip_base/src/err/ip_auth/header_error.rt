@@ -1,3 +1,4 @@
+//! The error of the bytes of an authentication header.
 ghost use Rattle.std.specs.Prelude.{IsNone};
 
 use crate::err::Source;

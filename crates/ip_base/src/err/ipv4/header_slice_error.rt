@@ -1,3 +1,4 @@
+//! The error of a parse of an IPv4 header.
 use super::HeaderError;
 use crate::err::LenError;
 use thiserror::Error;

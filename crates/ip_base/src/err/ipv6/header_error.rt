@@ -1,3 +1,4 @@
+//! The error of the bytes of an IPv6 header.
 use thiserror::Error;
 
 /// An error in the bytes of an IPv6 base header.

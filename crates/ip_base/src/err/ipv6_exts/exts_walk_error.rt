@@ -1,3 +1,4 @@
+//! The error of a walk over IPv6 extension headers.
 ghost use Rattle.std.specs.Prelude.{IsNone};
 
 use crate::IpNumber;

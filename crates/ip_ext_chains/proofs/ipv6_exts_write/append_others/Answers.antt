@@ -1,4 +1,4 @@
-use Rattle.ip_spec.proofs.Common.{refl, arith}
+use Rattle.ip_spec.proofs.Common.{arith}
 use Rattle.ip_ext_chains.proofs.WalkedLemmas.{written_at, written_more, written_walk, step_less, step_len}
 use Rattle.ip_ext_chains.proofs.ipv6_exts_write.append_others.Goals as goal
 

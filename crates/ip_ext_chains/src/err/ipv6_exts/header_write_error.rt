@@ -1,3 +1,4 @@
+//! The error of a write of IPv6 extension headers.
 ghost use Rattle.std.specs.Prelude.{◌≡◌, Some};
 ghost use Rattle.std.specs.Option.{option_map};
 ghost use Rattle.ip_base.specs.ChainCause.{chain_cause_in};

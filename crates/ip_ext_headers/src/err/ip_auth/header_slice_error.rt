@@ -1,3 +1,4 @@
+//! The error of a parse of an authentication header.
 ghost use Rattle.std.specs.Prelude.{◌≡◌, Some};
 ghost use Rattle.std.specs.Option.{option_map};
 ghost use Rattle.ip_base.specs.Cause.{cause_in};

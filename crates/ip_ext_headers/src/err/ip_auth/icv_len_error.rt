@@ -1,3 +1,4 @@
+//! The error of a check value of a length that no authentication header has.
 ghost use Rattle.std.specs.Prelude.{IsNone};
 
 use crate::err::Source;

@@ -1,3 +1,4 @@
+//! The error of a payload of a length that no header in the uniform format (RFC 6564) has.
 ghost use Rattle.std.specs.Prelude.{IsNone};
 
 use crate::err::Source;

@@ -1,4 +1,4 @@
-use Rattle.ip_spec.proofs.Common.{rules, arith, ap, Ok}
+use Rattle.ip_spec.proofs.Common.{rules, arith}
 use Rattle.ip_ext_chains.specs.Write.{IsWritten}
 use Rattle.ip_ext_chains.proofs.WriteLemmas.{all_written, fault_written, written_len, written_again, written_whole, written_cleared, written_alike}
 use Rattle.ip_ext_chains.proofs.ipv6_exts.Ipv6Extensions.write.Goals as goal

@@ -24,4 +24,4 @@ returns-clause-spelled c =
 pub returns-clause-written : goal.returns-clause-written
 returns-clause-written c =
     let bytes : AreBytes c.args.bytes.now = λ k d l. omega (arith, get_or_default c.args.bytes.now k d 0 l, c.type_inv.bytes k) in
-    rw (c.from_slice_lax.ensures.answer.number, c.into_iter.ensures.headers ∙ c.from_slice_lax.ensures.answer.value) (spellings_written _ _ bytes)
+    rw (c.from_slice_lax.ensures.answer.number, c.into_iter.ensures.headers ∙ c.from_slice_lax.ensures.answer.value) (spellings_written _ _ _ (runs_spelled _ _ bytes))

@@ -1,0 +1,11 @@
+//! The codes of errors, layers, length sources, fragments and ends of packets: small numbers for counts by code, and for
+//! C. `specs/Codes.antt` lists them.
+#![tactic(auto)]
+
+mod ends;
+mod errors;
+mod layers;
+
+pub use ends::{end_code_of, kind_code_of};
+pub use errors::{error_kind_of, kind};
+pub use layers::{header_code_of, layer_code_of, len_source_code_of};

@@ -1,0 +1,58 @@
+//! The walk over a packet: its base header, and then its extension headers, if there are any.
+ghost use Rattle.std.specs.Prelude.{◌≡◌, length};
+ghost use Rattle.ip_dissect.specs.Dissection.{dissected};
+ghost use Rattle.ip_dissect.specs.Outline.{outline_of, IsBaseOf};
+
+use crate::base::base_header;
+use crate::outline::{ipv4_outline, ipv6_outline, no_outline};
+use crate::{BaseHeader, HeaderVisitor, Outline, Packet};
+
+/// The start of a packet: its base header is parsed, and its extension headers haven't been walked.
+#[derive(Clone, Copy, Debug)]
+pub(crate) struct PacketStart<'a> {
+    /// All bytes.
+    pub(crate) bytes: &'a [u8],
+    /// The base header, if the bytes start with a whole one.
+    base: Option<BaseHeader<'a>>,
+    ghost base_is: { IsBaseOf bytes.now base },
+}
+
+impl<'a> PacketStart<'a> {
+    /// Parses the base header at the start of `bytes`, which may be any bytes.
+    #[inline(always)]
+    pub(crate) fn parse(bytes: &'a [u8]) -> PacketStart<'a>
+        ensures { result.bytes.now ≡ bytes.now }
+    {
+        PacketStart {
+            bytes,
+            base: base_header(bytes),
+        }
+    }
+
+    /// Walks the extension headers, passes each to the visitor once, and returns the packet.
+    #[inline(always)]
+    pub(crate) fn walk<V: HeaderVisitor>(self, visitor: &mut V) -> Packet<'a>
+        ensures bytes { result.bytes.now ≡ self.entry.bytes.now }
+        ensures visited { V.visited visitor.old (length (dissected self.entry.bytes.now).base)
+            (dissected self.entry.bytes.now).headers visitor.new }
+    {
+        match self.base {
+            Some(BaseHeader::Ipv4(base)) => self.with(ipv4_outline(base, self.bytes, visitor)),
+            Some(BaseHeader::Ipv6(base)) => self.with(ipv6_outline(base, self.bytes, visitor)),
+            None => self.with(no_outline(self.bytes)),
+        }
+    }
+
+    /// Returns the packet with this outline.
+    #[inline(always)]
+    fn with(&self, outline: Outline) -> Packet<'a>
+        requires { outline ≡ outline_of (dissected self.now.bytes.now) }
+        ensures { result.bytes.now ≡ self.now.bytes.now }
+    {
+        Packet {
+            bytes: self.bytes,
+            base: self.base,
+            outline,
+        }
+    }
+}

@@ -1,0 +1,55 @@
+//! The numbers of a packet's extension headers.
+ghost use Rattle.std.specs.Prelude.{◌≡◌, List, []};
+ghost use Rattle.std.specs.List.{AllByRecursion};
+ghost use Rattle.ip_spec.specs.Chain.{ExtHeader};
+ghost use Rattle.ip_spec.specs.Header.{IsHeader};
+
+use ip_base::IpNumber;
+use ip_dissect::HeaderVisitor;
+
+/// More than the number of any extension header.
+const NUMBERS: usize = 64;
+
+/// Which numbers the extension headers of a packet have.
+#[derive(Clone, Copy, Debug)]
+pub(crate) struct NumberSet {
+    /// At each number, whether a header has it.
+    present: [bool; NUMBERS],
+}
+
+impl NumberSet {
+    ghost use Rattle.ip_filter.specs.NumberSet.{AreNumbersIn, has_number};
+
+    /// Returns the set without a number.
+    #[inline(always)]
+    pub(crate) fn none() -> NumberSet
+        ensures { AreNumbersIn [] result }
+    {
+        NumberSet {
+            present: [false; NUMBERS],
+        }
+    }
+
+    /// Returns whether an extension header has the number.
+    #[inline(always)]
+    pub(crate) fn has(&self, number: u8) -> bool
+        ensures { (c : List ExtHeader) → AllByRecursion (λ h. IsHeader h.number h.bytes) c
+            → AreNumbersIn c self.now → result ≡ has_number number c }
+    {
+        let number = usize::from(number);
+        number < NUMBERS && self.present[number]
+    }
+}
+
+impl HeaderVisitor for NumberSet {
+    ghost use Rattle.ip_filter.specs.NumberSet.{AreNumbersIn};
+
+    ghost visited = { λ old k c new. AreNumbersIn [] old → AreNumbersIn c new };
+
+    ghost none = { λ v k e. e };
+
+    #[inline(always)]
+    fn visit(&mut self, number: IpNumber, _header: &[u8], _index: usize, _offset: usize) {
+        self.present[usize::from(number.0)] = true;
+    }
+}

@@ -1,4 +1,3 @@
-pub mod BaseLemmas
 pub mod PartsLemmas
 pub mod FaultLemmas
 pub mod OnePacketLemmas

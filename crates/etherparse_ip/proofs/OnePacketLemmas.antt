@@ -2,11 +2,11 @@
 use Rattle.ip_spec.proofs.Common.{◌≡◌, ℕ, List, ◌++◌, take, drop, ap, sym, ◌∙◌, append_assoc, rules, arith, common_steps, take-append-drop, take-length, IsPrefix}
 use Rattle.ip_base.specs.declared.len_source.LenSource.{LenSource}
 use Rattle.ip_base.specs.Ipv4Header.{version}
+use Rattle.ip_base.proofs.BaseLemmas.{says_ipv4, says_ipv6}
 use Rattle.ip_spec.proofs.PrefixLemmas.{prefix_of-append}
 use Rattle.etherparse_ip.specs.LenSources.{front}
 use Rattle.etherparse_ip.specs.Packet.{Parts, IsIpv4Packet, IsIpv6Packet}
 use Rattle.etherparse_ip.specs.PartsIn.{ipv4_parts_in, ipv6_parts_in}
-use Rattle.etherparse_ip.proofs.BaseLemmas.{says_ipv4, says_ipv6}
 
 -- a prefix of a prefix of s is a prefix of s
 begins : (b x s : List ℕ) (k : ℕ) → b ++ x ≡ take k s → IsPrefix b s

@@ -5,17 +5,18 @@ use Rattle.ip_spec.proofs.ChainLemmas.{some_longest}
 use Rattle.ip_spec.proofs.UnderLemmas.{some_longest_under}
 use Rattle.ip_spec.proofs.DemandKinds.{at_most_one_of}
 use Rattle.ip_ext_headers.specs.declared.err.ip_auth.header_slice_error.HeaderSliceError.{HeaderSliceError}
-use Rattle.ip_ext_slices.specs.ChainFault.{Fault, chain_fault}
+use Rattle.ip_ext_headers.specs.HeaderFault.{auth_in_packet}
+use Rattle.ip_ext_slices.specs.ChainFault.{Fault, chain_fault, exts_in_packet}
 use Rattle.ip_ext_slices.specs.ChainAnswer.{IsChainAnswer}
 use Rattle.ip_ext_slices.specs.Ipv4Parse.{IsIpv4Answer}
 use Rattle.ip_base.specs.Ipv4Header.{IsIpv4Header, total_len, protocol, is_ipv4_fragmenting}
 use Rattle.ip_base.specs.Ipv6Header.{IsIpv6Header, payload_length, ipv6_next_header}
 use Rattle.ip_base.specs.declared.len_source.LenSource.{LenSource}
 use Rattle.ip_base.specs.declared.len_source.LenSource.TheVariants.{Slice, Ipv4HeaderTotalLen, Ipv6HeaderPayloadLen}
+use Rattle.ip_base.proofs.BaseLemmas.{says_ipv4}
 use Rattle.ip_ext_slices.specs.Ipv4Fault.{ipv4_chain_fault}
 use Rattle.etherparse_ip.specs.LenSources.{front, ipv6_len_source}
-use Rattle.etherparse_ip.specs.PacketFault.{auth_in_packet, exts_in_packet, ipv4_fault_after, ipv6_chain_fault, ipv6_fault_after}
-use Rattle.etherparse_ip.proofs.BaseLemmas.{says_ipv4}
+use Rattle.etherparse_ip.specs.PacketFault.{ipv4_fault_after, ipv6_chain_fault, ipv6_fault_after}
 use Rattle.etherparse_ip.specs.Packet.{IsIpv4Packet, IsIpv6Packet}
 
 answer_split : (n : ℕ) (s : List ℕ) (c : List ExtHeader) (m : ℕ) (r : List ℕ) (f : Option Fault) → IsChainAnswer n s c m r f → bytes_of c ++ r ≡ s

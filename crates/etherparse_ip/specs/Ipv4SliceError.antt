@@ -1,6 +1,6 @@
 -- The cause of an IPv4 packet's error.
-use Rattle.etherparse_ip.specs.PacketCause.{PacketCause, IpAuth, Ipv4Header}
-use Rattle.etherparse_ip.specs.PacketCause as cause
+use Rattle.ip_base.specs.PacketCause.{PacketCause, IpAuth, Ipv4Header}
+use Rattle.ip_base.specs.PacketCause as cause
 use Rattle.etherparse_ip.specs.declared.err.ipv4.slice_error.SliceError.{SliceError}
 use Rattle.etherparse_ip.specs.declared.err.ipv4.slice_error.SliceError.TheVariants.{Len, Header, Exts}
 

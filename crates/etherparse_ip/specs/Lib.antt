@@ -2,10 +2,6 @@ pub mod LenSources
 pub mod Packet
 pub mod PacketFault
 pub mod PartsIn
-pub mod PacketCause
-pub mod HeadersError
-pub mod PacketHeadersError
-pub mod IpSliceError
 pub mod Ipv4SliceError
 pub mod Ipv6SliceError
 pub mod Ipv4Slice

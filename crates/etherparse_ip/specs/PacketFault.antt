@@ -2,41 +2,31 @@
 -- do.
 use Rattle.std.specs.Prelude.{ℕ, ◌+◌, ◌==◌, nat_lt, List, length, drop, Option, Some, if◌then◌else◌}
 use Rattle.std.specs.Option.{option_map, option_or}
-use Rattle.ip_base.specs.LenError.{too_short, moved}
+use Rattle.ip_base.specs.LenError.{too_short}
 use Rattle.ip_base.specs.Ipv4Header.{version, ihl, ipv4_header_len, total_len, protocol, ipv4_header_fault}
 use Rattle.ip_base.specs.Ipv6Header.{payload_length, ipv6_next_header, ipv6_header_fault}
-use Rattle.ip_base.specs.declared.len_source.LenSource.{LenSource}
 use Rattle.ip_base.specs.declared.len_source.LenSource.TheVariants.{Slice, Ipv4HeaderTotalLen}
 use Rattle.ip_base.specs.declared.err.layer.Layer.TheVariants as layer
 use Rattle.ip_base.specs.declared.err.ipv4.header_slice_error.HeaderSliceError.{HeaderSliceError as Ipv4HeaderSliceError}
 use Rattle.ip_base.specs.declared.err.ipv4.header_slice_error.HeaderSliceError.TheVariants as ipv4_header
 use Rattle.ip_base.specs.declared.err.ipv6.header_slice_error.HeaderSliceError.{HeaderSliceError as Ipv6HeaderSliceError}
 use Rattle.ip_base.specs.declared.err.ipv6.header_slice_error.HeaderSliceError.TheVariants as ipv6_header
+use Rattle.ip_base.specs.declared.err.ip.header_error.HeaderError.TheVariants.{UnsupportedIpVersion, Ipv4HeaderLengthSmallerThanHeader}
+use Rattle.ip_base.specs.declared.err.ip.headers_error.HeadersError.TheVariants.{Ip, Ipv4Ext, Ipv6Ext}
+use Rattle.ip_base.specs.declared.err.ip.slice_error.SliceError.{SliceError}
+use Rattle.ip_base.specs.declared.err.ip.slice_error.SliceError.TheVariants.{Len, IpHeaders}
 use Rattle.ip_ext_headers.specs.declared.err.ip_auth.header_slice_error.HeaderSliceError.{HeaderSliceError as AuthSliceError}
 use Rattle.ip_ext_headers.specs.declared.err.ip_auth.header_slice_error.HeaderSliceError.TheVariants as auth
+use Rattle.ip_ext_headers.specs.HeaderFault.{auth_in_packet}
 use Rattle.ip_ext_slices.specs.declared.err.ipv6_exts.header_slice_error.HeaderSliceError.{HeaderSliceError as ExtsSliceError}
 use Rattle.ip_ext_slices.specs.declared.err.ipv6_exts.header_slice_error.HeaderSliceError.TheVariants as exts
-use Rattle.ip_ext_slices.specs.ChainFault.{chain_fault}
+use Rattle.ip_ext_slices.specs.ChainFault.{chain_fault, exts_in_packet}
 use Rattle.ip_ext_slices.specs.Ipv4Fault.{ipv4_chain_fault}
 use Rattle.etherparse_ip.specs.LenSources.{front, ipv4_len_source, ipv6_len_source}
 use Rattle.etherparse_ip.specs.declared.err.ipv4.slice_error.SliceError.{SliceError as Ipv4SliceError}
 use Rattle.etherparse_ip.specs.declared.err.ipv4.slice_error.SliceError.TheVariants as ipv4
 use Rattle.etherparse_ip.specs.declared.err.ipv6.slice_error.SliceError.{SliceError as Ipv6SliceError}
 use Rattle.etherparse_ip.specs.declared.err.ipv6.slice_error.SliceError.TheVariants as ipv6
-use Rattle.etherparse_ip.specs.declared.err.ip.header_error.HeaderError.TheVariants.{UnsupportedIpVersion, Ipv4HeaderLengthSmallerThanHeader}
-use Rattle.etherparse_ip.specs.declared.err.ip.headers_error.HeadersError.TheVariants.{Ip, Ipv4Ext, Ipv6Ext}
-use Rattle.etherparse_ip.specs.declared.err.ip.slice_error.SliceError.{SliceError}
-use Rattle.etherparse_ip.specs.declared.err.ip.slice_error.SliceError.TheVariants.{Len, IpHeaders}
-
--- The extension headers' error with its offset counted from the packet's start: they start at offset k, and the
--- source is that of the packet's length.
-abbrev pub auth_in_packet : LenSource → ℕ → AuthSliceError → AuthSliceError
-auth_in_packet source k (auth.Len e) = auth.Len (moved source k e)
-auth_in_packet source k (auth.Content e) = auth.Content e
-
-abbrev pub exts_in_packet : LenSource → ℕ → ExtsSliceError → ExtsSliceError
-exts_in_packet source k (exts.Len e) = exts.Len (moved source k e)
-exts_in_packet source k (exts.Content e) = exts.Content e
 
 -- what follows the base header in the packet's front
 abbrev pub ipv4_after : List ℕ → List ℕ

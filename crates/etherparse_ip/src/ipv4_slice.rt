@@ -3,11 +3,11 @@ ghost use Rattle.std.specs.Prelude.{◌≡◌, IfOk};
 ghost use Rattle.std.specs.Result.{result_err};
 ghost use Rattle.ip_base.specs.Ipv4HeaderSlice.{bytes};
 ghost use Rattle.ip_base.specs.Prefix.{IsPrefix};
-ghost use Rattle.ip_ext_headers.specs.HeaderFault.{AuthOffsetFits};
+ghost use Rattle.ip_ext_headers.specs.HeaderFault.{AuthOffsetFits, auth_in_packet};
 ghost use Rattle.ip_ext_slices.specs.Ipv4ExtensionsSlice.{headers_in};
 ghost use Rattle.etherparse_ip.specs.LenSources.{ipv4_len_source};
 ghost use Rattle.etherparse_ip.specs.Packet.{IsIpv4Packet};
-ghost use Rattle.etherparse_ip.specs.PacketFault.{auth_in_packet, ipv4_fault_after, ipv4_fault};
+ghost use Rattle.etherparse_ip.specs.PacketFault.{ipv4_fault_after, ipv4_fault};
 
 use crate::err::ipv4::{HeaderSliceError, SliceError};
 use crate::err::{Layer, LenError, ip_auth};

@@ -4,11 +4,10 @@ ghost use Rattle.std.specs.Result.{result_err};
 ghost use Rattle.ip_base.specs.Ipv6Header.{payload_length, ipv6_header_fault};
 ghost use Rattle.ip_base.specs.Ipv6HeaderSlice.{bytes};
 ghost use Rattle.ip_base.specs.Prefix.{IsPrefix};
-ghost use Rattle.ip_ext_slices.specs.ChainFault.{ExtsOffsetFits};
+ghost use Rattle.ip_ext_slices.specs.ChainFault.{ExtsOffsetFits, exts_in_packet};
 ghost use Rattle.ip_ext_slices.specs.Ipv6ExtensionsSlice.{headers_in};
 ghost use Rattle.etherparse_ip.specs.Packet.{IsIpv6Packet};
-ghost use Rattle.etherparse_ip.specs.PacketFault.{exts_in_packet, ipv6_chain_fault};
-ghost use Rattle.etherparse_ip.specs.PacketFault.{ipv6_fault_after, ipv6_fault, ipv6_lax_fault};
+ghost use Rattle.etherparse_ip.specs.PacketFault.{ipv6_chain_fault, ipv6_fault_after, ipv6_fault, ipv6_lax_fault};
 
 use crate::err::ipv6::{HeaderSliceError, SliceError};
 use crate::err::{Layer, LenError, ipv6_exts};

@@ -12,6 +12,10 @@ pub mod ChainCause
 pub mod Ipv6HeaderError
 pub mod IpHeaderError
 pub mod IpWalkError
+pub mod PacketCause
+pub mod HeadersError
+pub mod PacketHeadersError
+pub mod IpSliceError
 pub mod ExactRead
 pub mod LimitedReadError
 pub mod OverRead

@@ -1,6 +1,6 @@
 //! The parts shared by every IP layer: protocol numbers, names of layers and length sources, base headers of IPv4
-//! (RFC 791) and IPv6 (RFC 8200), a packet's payload, errors of lengths and of extension headers, and readers that
-//! return exactly as many bytes as requested.
+//! (RFC 791) and IPv6 (RFC 8200), a packet's payload, errors of lengths, of extension headers and of packets, and
+//! readers that return exactly as many bytes as requested.
 #![tactic(auto)]
 
 pub mod err;

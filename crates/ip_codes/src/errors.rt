@@ -2,8 +2,8 @@
 ghost use Rattle.std.specs.Prelude.{◌≡◌};
 ghost use Rattle.ip_codes.specs.Codes.{error_kind};
 
-use etherparse_ip::err::ip::{HeaderError, HeadersError, SliceError};
-use etherparse_ip::err::ipv6_exts;
+use ip_base::err::ip::{HeaderError, HeadersError, SliceError};
+use ip_base::err::ipv6_exts;
 
 /// The codes of the kinds of errors.
 pub mod kind {

@@ -2,8 +2,8 @@
 ghost use Rattle.std.specs.Prelude.{◌≡◌};
 ghost use Rattle.ip_codes.specs.Codes.{layer_code, header_code, len_source_code};
 
-use etherparse_ip::LenSource;
-use etherparse_ip::err::Layer;
+use ip_base::LenSource;
+use ip_base::err::Layer;
 
 /// Returns the code of a layer, as `specs/Codes.antt` lists them.
 #[inline(always)]

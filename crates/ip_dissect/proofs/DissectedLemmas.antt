@@ -9,7 +9,7 @@ use Rattle.ip_base.specs.Ipv4HeaderSlice as ipv4_header
 use Rattle.ip_base.specs.Ipv6HeaderSlice as ipv6_header
 use Rattle.ip_base.specs.declared.ipv4_header_slice.Ipv4HeaderSlice.{Ipv4HeaderSlice}
 use Rattle.ip_base.specs.declared.ipv6_header_slice.Ipv6HeaderSlice.{Ipv6HeaderSlice}
-use Rattle.etherparse_ip.proofs.BaseLemmas.{SaysIpv4, says_ipv4, SaysIpv6, says_ipv6}
+use Rattle.ip_base.proofs.BaseLemmas.{SaysIpv4, says_ipv4, SaysIpv6, says_ipv6}
 use Rattle.ip_dissect.specs.End.{base_end, has_error}
 use Rattle.ip_dissect.specs.Dissection.{DissectedParts, without_base, ipv4_dissected, ipv6_dissected, dissected, HasParts, version_of, version_in, base_bytes}
 use Rattle.ip_dissect.specs.Outline.{IsBaseOf}

@@ -5,11 +5,11 @@ use Rattle.ip_base.specs.LenError.{too_short}
 use Rattle.ip_base.specs.Ipv4Header.{protocol, total_len, ipv4_fragment_offset}
 use Rattle.ip_base.specs.declared.err.layer.Layer.TheVariants.{Ipv4Packet}
 use Rattle.ip_base.specs.declared.len_source.LenSource.TheVariants.{Slice, Ipv4HeaderTotalLen}
+use Rattle.ip_base.specs.declared.err.ip.slice_error.SliceError.TheVariants.{Len}
 use Rattle.ip_ext_headers.specs.declared.err.ip_auth.header_slice_error.HeaderSliceError.{HeaderSliceError}
+use Rattle.ip_ext_headers.specs.HeaderFault.{auth_in_packet}
 use Rattle.ip_ext_slices.specs.Ipv4Fault.{ipv4_faults}
 use Rattle.ip_ext_slices.proofs.Ipv4Lemmas.{ipv4_longest}
-use Rattle.etherparse_ip.specs.PacketFault.{auth_in_packet}
-use Rattle.etherparse_ip.specs.declared.err.ip.slice_error.SliceError.TheVariants.{Len}
 use Rattle.ip_dissect.specs.Extent.{after_base, ipv4_stated, ipv4_chain_in}
 use Rattle.ip_dissect.specs.End.{auth_end, ipv4_end}
 use Rattle.ip_dissect.specs.declared.end.End.{End}

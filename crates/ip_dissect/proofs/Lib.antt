@@ -5,7 +5,5 @@ pub mod Ipv4Lemmas
 pub mod DissectedLemmas
 pub mod JoinedLemmas
 pub mod PacketLemmas
-pub mod AgreementLemmas
-pub mod AcceptedLemmas
 pub mod OutlineLemmas
 pub mod PlainLemmas

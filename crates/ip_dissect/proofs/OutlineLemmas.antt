@@ -4,11 +4,11 @@ use Rattle.ip_base.specs.declared.ip_number_impl.IpNumber.{IpNumber}
 use Rattle.ip_base.specs.Ipv4Header.{protocol, ipv4_fragment_offset}
 use Rattle.ip_base.specs.Ipv6Header.{ipv6_next_header}
 use Rattle.ip_base.specs.declared.len_source.LenSource.TheVariants.{Slice}
+use Rattle.ip_base.specs.declared.err.ip.slice_error.SliceError.{SliceError}
 use Rattle.ip_ext_slices.specs.ChainFault.{Fault, slice_fault}
 use Rattle.ip_ext_slices.specs.Ipv4Fault.{ipv4_faults}
 use Rattle.ip_ext_headers.specs.declared.err.ip_auth.header_slice_error.HeaderSliceError.{HeaderSliceError as AuthError}
-use Rattle.etherparse_ip.specs.PacketFault.{auth_in_packet}
-use Rattle.etherparse_ip.specs.declared.err.ip.slice_error.SliceError.{SliceError}
+use Rattle.ip_ext_headers.specs.HeaderFault.{auth_in_packet}
 use Rattle.ip_dissect.specs.Later.{chain_to_later}
 use Rattle.ip_dissect.specs.LaterDemand.{has_later}
 use Rattle.ip_dissect.specs.Fragment.{ipv4_fragment, ipv6_fragment}

@@ -5,16 +5,15 @@ use Rattle.ip_spec.proofs.UnderLemmas.{one_longest_under, longest_ends_under}
 use Rattle.ip_base.specs.LenError.{too_short}
 use Rattle.ip_base.specs.declared.len_source.LenSource.TheVariants.{Slice, Ipv4HeaderTotalLen}
 use Rattle.ip_base.specs.declared.err.layer.Layer.TheVariants.{Ipv4Packet}
-use Rattle.ip_ext_headers.specs.HeaderFault.{auth_fault}
+use Rattle.ip_ext_headers.specs.HeaderFault.{auth_fault, auth_in_packet}
 use Rattle.ip_ext_headers.specs.declared.err.ip_auth.header_slice_error.HeaderSliceError.{HeaderSliceError as AuthError}
 use Rattle.ip_ext_slices.specs.Ipv4Fault.{ipv4_faults}
 use Rattle.ip_ext_slices.specs.Ipv4Longest.{longest_ipv4_chain}
 use Rattle.ip_ext_slices.proofs.Ipv4Lemmas.{ipv4_longest, by_one}
-use Rattle.etherparse_ip.specs.PacketFault.{auth_in_packet}
-use Rattle.etherparse_ip.specs.declared.err.ip.slice_error.SliceError.TheVariants.{Len}
 use Rattle.ip_spec.proofs.DemandKinds.{at_most_one_of}
 use Rattle.ip_base.specs.Ipv4Header.{total_len, protocol, ipv4_fragment_offset, is_ipv4_fragmenting}
 use Rattle.ip_base.specs.Ipv6Header.{ipv6_next_header}
+use Rattle.ip_base.specs.declared.err.ip.slice_error.SliceError.TheVariants.{Len}
 use Rattle.ip_ext_slices.specs.ChainFault.{slice_fault, auth_at}
 use Rattle.ip_ext_slices.proofs.FaultLemmas.{fault_at_end, end_at_other, no_fault_at_other}
 use Rattle.ip_dissect.specs.LaterDemand.{has_later, NothingAfterLater, nothing_after_later}

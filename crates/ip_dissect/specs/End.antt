@@ -11,15 +11,15 @@ use Rattle.ip_base.specs.declared.len_source.LenSource.TheVariants.{Slice, Ipv4H
 use Rattle.ip_base.specs.declared.err.layer.Layer.{Layer}
 use Rattle.ip_base.specs.declared.err.layer.Layer.TheVariants as layer
 use Rattle.ip_base.specs.declared.err.len_error.LenError.{LenError}
+use Rattle.ip_base.specs.declared.err.ip.header_error.HeaderError.TheVariants.{UnsupportedIpVersion, Ipv4HeaderLengthSmallerThanHeader}
+use Rattle.ip_base.specs.declared.err.ip.headers_error.HeadersError.TheVariants.{Ip, Ipv4Ext, Ipv6Ext}
+use Rattle.ip_base.specs.declared.err.ip.slice_error.SliceError.TheVariants.{Len, IpHeaders}
 use Rattle.ip_ext_headers.specs.declared.err.ip_auth.header_slice_error.HeaderSliceError.{HeaderSliceError as AuthSliceError}
 use Rattle.ip_ext_headers.specs.declared.err.ip_auth.header_slice_error.HeaderSliceError.TheVariants as auth
+use Rattle.ip_ext_headers.specs.HeaderFault.{auth_in_packet}
 use Rattle.ip_ext_slices.specs.declared.err.ipv6_exts.header_slice_error.HeaderSliceError.TheVariants as exts
 use Rattle.ip_ext_slices.specs.ChainFault.{Fault, slice_fault}
 use Rattle.ip_ext_slices.specs.Ipv4Fault.{ipv4_faults}
-use Rattle.etherparse_ip.specs.PacketFault.{auth_in_packet}
-use Rattle.etherparse_ip.specs.declared.err.ip.header_error.HeaderError.TheVariants.{UnsupportedIpVersion, Ipv4HeaderLengthSmallerThanHeader}
-use Rattle.etherparse_ip.specs.declared.err.ip.headers_error.HeadersError.TheVariants.{Ip, Ipv4Ext, Ipv6Ext}
-use Rattle.etherparse_ip.specs.declared.err.ip.slice_error.SliceError.TheVariants.{Len, IpHeaders}
 use Rattle.ip_dissect.specs.LaterDemand.{has_later}
 use Rattle.ip_dissect.specs.Extent.{ipv4_stated, ipv6_stated, after_base, ipv4_chain, ipv6_chain}
 use Rattle.ip_dissect.specs.declared.end.End.{End}

@@ -6,4 +6,3 @@ pub mod Extent
 pub mod End
 pub mod Dissection
 pub mod Outline
-pub mod Agreement

@@ -1,6 +1,6 @@
 //! Why the headers of a packet end where they do, as a value.
-use etherparse_ip::err::ip::SliceError;
-use etherparse_ip::err::{Layer, LenError};
+use ip_base::err::ip::SliceError;
+use ip_base::err::{Layer, LenError};
 
 /// Why a dissection ends where it does. Offsets in errors count from the start of the packet.
 #[derive(Clone, Debug, PartialEq, Eq, Drop)]

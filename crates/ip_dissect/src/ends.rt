@@ -6,10 +6,9 @@ ghost use Rattle.ip_base.specs.LenError.{too_short};
 ghost use Rattle.ip_base.specs.Ipv4Header.{version};
 ghost use Rattle.ip_base.specs.Ipv4HeaderSlice as ipv4_header;
 ghost use Rattle.ip_base.specs.declared.len_source.LenSource.TheVariants.{Slice};
-ghost use Rattle.ip_ext_headers.specs.HeaderFault.{AuthOffsetFits};
-ghost use Rattle.etherparse_ip.specs.PacketFault.{auth_in_packet};
-ghost use Rattle.etherparse_ip.specs.declared.err.ip.headers_error.HeadersError.TheVariants.{Ip};
-ghost use Rattle.etherparse_ip.specs.declared.err.ip.slice_error.SliceError.TheVariants.{IpHeaders};
+ghost use Rattle.ip_base.specs.declared.err.ip.headers_error.HeadersError.TheVariants.{Ip};
+ghost use Rattle.ip_base.specs.declared.err.ip.slice_error.SliceError.TheVariants.{IpHeaders};
+ghost use Rattle.ip_ext_headers.specs.HeaderFault.{AuthOffsetFits, auth_in_packet};
 ghost use Rattle.ip_ext_slices.specs.ChainFault.{slice_fault};
 ghost use Rattle.ip_dissect.specs.End.{base_end, ipv4_end, len_end, auth_end, exts_end};
 ghost use Rattle.ip_dissect.specs.declared.end.End.TheVariants.{Truncated, Fault, Payload};
@@ -18,9 +17,10 @@ use crate::End;
 use crate::fields::{ipv4_offset, ipv4_stated_len};
 use crate::outline::{is_too_short, packet_of};
 use crate::walk::after;
-use etherparse_ip::err::ip::{HeaderError, HeadersError, SliceError};
-use etherparse_ip::err::{Layer, LenError, ip_auth, ipv6_exts};
+use ip_base::err::ip::{HeaderError, HeadersError, SliceError};
+use ip_base::err::{Layer, LenError};
 use ip_base::{IpNumber, Ipv4HeaderSlice, Ipv6Header, LenSource};
+use ip_ext_slices::err::{ip_auth, ipv6_exts};
 use ip_ext_slices::{Ipv4ExtensionsSlice, fault_at};
 
 /// Returns the end of bytes that don't start with a whole base header.

@@ -3,7 +3,6 @@
 //! end where they do.
 #![tactic(auto)]
 
-mod agreement_laws;
 mod base;
 mod dissect_laws;
 mod dissection;
@@ -21,7 +20,6 @@ mod visitor;
 mod walk;
 mod walks;
 
-pub use agreement_laws::{parsed_packets_end_at_their_payload, parsed_packets_have_these_parts};
 pub use dissect_laws::{one_chain_to_a_later_fragment, truncated_bytes_keep_whole_headers};
 pub use dissection::{BaseHeader, Dissection};
 pub use end::End;

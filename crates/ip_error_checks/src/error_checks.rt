@@ -1,7 +1,7 @@
 //! Checks of the errors that no call returns yet, like those of the others in `ip_api_checks`; of the errors that can
 //! be hashed; and that each is an error with a text.
 ghost use Rattle.std.specs.Prelude.{◌≡◌, ◌<◌, ◌+◌, ◌↔◌, IsTrue, IsFalse, IfOk};
-ghost use Rattle.etherparse_ip.specs.declared.err.ip.headers_slice_error.HeadersSliceError.TheVariants.{Len, Content};
+ghost use Rattle.ip_base.specs.declared.err.ip.headers_slice_error.HeadersSliceError.TheVariants.{Len, Content};
 
 use etherparse_ip::err::{
     ChainSource, LenError, PacketSource, Source, ValueTooBigError, io, ip, ip_auth, ip_exts, ipv4,

@@ -36,3 +36,9 @@ auth_moved k (Content e) = Content e
 abbrev pub AuthOffsetFits : HeaderSliceError → ℕ → Type 0
 AuthOffsetFits (Len e) k = e.layer_start_offset + k < 2 ^ 64
 AuthOffsetFits (Content e) k = ⊤
+
+-- The error with its offset counted from a packet's start: the header starts at offset k, and the source is that of the
+-- packet's length.
+abbrev pub auth_in_packet : LenSource → ℕ → HeaderSliceError → HeaderSliceError
+auth_in_packet source k (Len e) = Len (moved source k e)
+auth_in_packet source k (Content e) = Content e

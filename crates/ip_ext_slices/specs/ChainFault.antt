@@ -62,3 +62,9 @@ exts_moved k (Content e) = Content e
 abbrev pub ExtsOffsetFits : HeaderSliceError → ℕ → Type 0
 ExtsOffsetFits (Len e) k = e.layer_start_offset + k < 2 ^ 64
 ExtsOffsetFits (Content e) k = ⊤
+
+-- The error with its offset counted from a packet's start: the extension headers start at offset k, and the source is
+-- that of the packet's length.
+abbrev pub exts_in_packet : LenSource → ℕ → HeaderSliceError → HeaderSliceError
+exts_in_packet source k (Len e) = Len (moved source k e)
+exts_in_packet source k (Content e) = Content e

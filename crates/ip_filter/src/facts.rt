@@ -14,12 +14,11 @@ ghost use Rattle.ip_filter.specs.Truth.{has_source, has_destination, is_version}
 
 use crate::number_set::NumberSet;
 use crate::{FaultKind, Network};
-use etherparse_ip::Ipv6ExtensionSlice;
-use etherparse_ip::err::ip::{HeaderError, HeadersError, SliceError};
-use etherparse_ip::err::ipv6_exts;
+use ip_base::err::ip::{HeaderError, HeadersError, SliceError};
+use ip_base::err::ipv6_exts;
 use ip_base::{IpNumber, ip_number};
 use ip_dissect::{BaseHeader, End, Fragment, FragmentKind, Packet};
-use ip_ext_slices::Ipv6ExtensionsCursor;
+use ip_ext_slices::{Ipv6ExtensionSlice, Ipv6ExtensionsCursor};
 
 /// What terms ask of a packet: its parts, and the numbers of its extension headers.
 #[derive(Clone, Copy, Debug)]

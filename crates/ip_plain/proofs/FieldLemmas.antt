@@ -6,10 +6,10 @@ use Rattle.ip_base.specs.declared.len_source.LenSource.TheVariants.{Slice, Ipv4H
 use Rattle.ip_base.specs.declared.err.layer.Layer.TheVariants.{Ipv4Packet}
 use Rattle.ip_base.specs.Ipv4Header.{version, ipv4_header_len, total_len, protocol, ipv4_fragment_offset}
 use Rattle.ip_base.specs.Ipv6Header.{ipv6_next_header}
+use Rattle.ip_base.specs.declared.err.ip.slice_error.SliceError.TheVariants.{Len}
+use Rattle.ip_ext_headers.specs.HeaderFault.{auth_in_packet}
 use Rattle.ip_ext_slices.specs.ChainFault.{slice_fault}
 use Rattle.ip_ext_slices.specs.Ipv4Fault.{ipv4_chain_fault}
-use Rattle.etherparse_ip.specs.PacketFault.{auth_in_packet}
-use Rattle.etherparse_ip.specs.declared.err.ip.slice_error.SliceError.TheVariants.{Len}
 use Rattle.ip_dissect.specs.LaterDemand.{has_later}
 use Rattle.ip_dissect.specs.Later.{chain_to_later}
 use Rattle.ip_dissect.specs.Fragment.{ipv4_fragment, ipv6_fragment}

@@ -5,13 +5,13 @@ use Rattle.ip_spec.proofs.ChainLemmas.{one_longest, some_longest}
 use Rattle.ip_base.specs.declared.len_source.LenSource.{LenSource}
 use Rattle.ip_base.specs.Ipv6Header.{payload_length, ipv6_next_header}
 use Rattle.etherparse_ip.specs.LenSources.{front, ipv6_len_source}
-use Rattle.ip_ext_slices.specs.ChainFault.{Fault, slice_fault, chain_fault}
+use Rattle.ip_ext_slices.specs.ChainFault.{Fault, slice_fault, chain_fault, exts_in_packet}
 use Rattle.ip_plain.proofs.AnswerLemmas.{length-prefix}
 use Rattle.ip_ext_slices.specs.Longest.{longest_chain}
 use Rattle.ip_base.specs.Ipv4Header.{version}
 use Rattle.etherparse_ip.specs.Packet.{Parts}
 use Rattle.etherparse_ip.specs.PartsIn.{ipv4_parts_in, ipv6_parts_in}
-use Rattle.etherparse_ip.specs.PacketFault.{ip_fault, ip_fault_of_ipv6, ipv6_after, exts_in_packet, ip_of_ipv6}
+use Rattle.etherparse_ip.specs.PacketFault.{ip_fault, ip_fault_of_ipv6, ipv6_after, ip_of_ipv6}
 use Rattle.ipexts_tool.specs.PacketAnswer.{parts_lines, packet_answer}
 use Rattle.ip_plain.specs.PlainPacket.{HasLengthsOf, sourced}
 use Rattle.ip_plain.specs.declared.plain_packet.PlainPacket.{PlainPacket}

@@ -7,10 +7,10 @@ ghost use Rattle.ip_base.specs.Ipv4Header.{version, ipv4_header_len, total_len, 
 ghost use Rattle.ip_base.specs.LenError.{too_short};
 ghost use Rattle.ip_base.specs.declared.len_source.LenSource.TheVariants.{Slice, Ipv4HeaderTotalLen};
 ghost use Rattle.ip_base.specs.declared.err.layer.Layer.TheVariants.{Ipv4Packet};
+ghost use Rattle.ip_base.specs.declared.err.ip.slice_error.SliceError.TheVariants.{Len};
+ghost use Rattle.ip_ext_headers.specs.HeaderFault.{auth_in_packet};
 ghost use Rattle.ip_ext_slices.specs.ChainFault.{slice_fault};
 ghost use Rattle.ip_ext_slices.specs.Ipv4Fault.{ipv4_chain_fault};
-ghost use Rattle.etherparse_ip.specs.PacketFault.{auth_in_packet};
-ghost use Rattle.etherparse_ip.specs.declared.err.ip.slice_error.SliceError.TheVariants.{Len};
 ghost use Rattle.ip_dissect.specs.LaterDemand.{has_later};
 ghost use Rattle.ip_dissect.specs.End.{base_end, auth_end, exts_end};
 ghost use Rattle.ip_dissect.specs.declared.end.End.TheVariants.{LaterFragment, Payload, Fault};

@@ -2,8 +2,8 @@
 ghost use Rattle.std.specs.Prelude.{◌≡◌, length};
 ghost use Rattle.std.specs.Option.{option_map, option_map_or};
 ghost use Rattle.ip_base.specs.declared.len_source.LenSource.TheVariants.{Slice};
+ghost use Rattle.ip_ext_headers.specs.HeaderFault.{auth_in_packet};
 ghost use Rattle.ip_ext_slices.specs.Ipv4Fault.{ipv4_chain_fault};
-ghost use Rattle.etherparse_ip.specs.PacketFault.{auth_in_packet};
 ghost use Rattle.ip_dissect.specs.End.{len_end, auth_end, exts_end};
 ghost use Rattle.ip_dissect.specs.declared.end.End.TheVariants.{Payload};
 

@@ -8,15 +8,14 @@ ghost use Rattle.ip_base.specs.Ipv6Header.{payload_length};
 ghost use Rattle.ip_base.specs.LenError.{too_short};
 ghost use Rattle.ip_base.specs.declared.len_source.LenSource.TheVariants.{Ipv4HeaderTotalLen};
 ghost use Rattle.ip_spec.specs.Chain.{leads_to, bytes_of, has_fragmenting};
-ghost use Rattle.ip_ext_headers.specs.HeaderFault.{auth_fault};
-ghost use Rattle.ip_ext_slices.specs.ChainFault.{chain_fault};
+ghost use Rattle.ip_ext_headers.specs.HeaderFault.{auth_fault, auth_in_packet};
+ghost use Rattle.ip_ext_slices.specs.ChainFault.{chain_fault, exts_in_packet};
 ghost use Rattle.ip_ext_slices.specs.Ipv4Fault.{ipv4_chain_fault};
 ghost use Rattle.ip_ext_slices.specs.Ipv4Longest.{longest_ipv4_chain};
 ghost use Rattle.ip_ext_slices.specs.Longest.{longest_chain};
 ghost use Rattle.etherparse_ip.specs.LenSources.{front, ipv6_len_source};
 ghost use Rattle.etherparse_ip.specs.PartsIn.{ipv4_parts_in, ipv6_parts_in};
-ghost use Rattle.etherparse_ip.specs.PacketFault.{ip_fault_of_ipv4, ip_fault_of_ipv6, ip_fault};
-ghost use Rattle.etherparse_ip.specs.PacketFault.{auth_in_packet, exts_in_packet, ip_of_ipv6};
+ghost use Rattle.etherparse_ip.specs.PacketFault.{ip_fault_of_ipv4, ip_fault_of_ipv6, ip_fault, ip_of_ipv6};
 ghost use Rattle.ip_plain.specs.PlainHeader.{plain_header_of};
 ghost use Rattle.ip_plain.specs.PlainPacket.{HasLengthsOf, sourced};
 

@@ -8,17 +8,17 @@ use Rattle.ip_base.specs.declared.err.ip_auth.header_error.HeaderError.{HeaderEr
 use Rattle.ip_base.specs.declared.err.ip_auth.header_error.HeaderError.TheVariants.{ZeroPayloadLen}
 use Rattle.ip_base.specs.declared.err.ipv6_exts.header_error.HeaderError.{HeaderError as ExtsError}
 use Rattle.ip_base.specs.declared.err.ipv6_exts.header_error.HeaderError.TheVariants.{HopByHopNotAtStart, IpAuth}
+use Rattle.ip_base.specs.declared.err.ip.header_error.HeaderError.{HeaderError}
+use Rattle.ip_base.specs.declared.err.ip.header_error.HeaderError.TheVariants.{UnsupportedIpVersion, Ipv4HeaderLengthSmallerThanHeader}
+use Rattle.ip_base.specs.declared.err.ip.headers_error.HeadersError.{HeadersError}
+use Rattle.ip_base.specs.declared.err.ip.headers_error.HeadersError.TheVariants.{Ip, Ipv4Ext, Ipv6Ext}
+use Rattle.ip_base.specs.declared.err.ip.slice_error.SliceError.{SliceError}
+use Rattle.ip_base.specs.declared.err.ip.slice_error.SliceError.TheVariants as ip
 use Rattle.ip_ext_headers.specs.declared.err.ip_auth.header_slice_error.HeaderSliceError.{HeaderSliceError as AuthSliceError}
 use Rattle.ip_ext_headers.specs.declared.err.ip_auth.header_slice_error.HeaderSliceError.TheVariants as auth
 use Rattle.ip_ext_slices.specs.declared.err.ipv6_exts.header_slice_error.HeaderSliceError.{HeaderSliceError as ExtsSliceError}
 use Rattle.ip_ext_slices.specs.declared.err.ipv6_exts.header_slice_error.HeaderSliceError.TheVariants as exts
 use Rattle.ip_ext_slices.specs.ChainFault.{Fault}
-use Rattle.etherparse_ip.specs.declared.err.ip.header_error.HeaderError.{HeaderError}
-use Rattle.etherparse_ip.specs.declared.err.ip.header_error.HeaderError.TheVariants.{UnsupportedIpVersion, Ipv4HeaderLengthSmallerThanHeader}
-use Rattle.etherparse_ip.specs.declared.err.ip.headers_error.HeadersError.{HeadersError}
-use Rattle.etherparse_ip.specs.declared.err.ip.headers_error.HeadersError.TheVariants.{Ip, Ipv4Ext, Ipv6Ext}
-use Rattle.etherparse_ip.specs.declared.err.ip.slice_error.SliceError.{SliceError}
-use Rattle.etherparse_ip.specs.declared.err.ip.slice_error.SliceError.TheVariants as ip
 use Rattle.etherparse_ip.specs.declared.err.ipv6.slice_error.SliceError.{SliceError as Ipv6SliceError}
 use Rattle.etherparse_ip.specs.declared.err.ipv6.slice_error.SliceError.TheVariants as ipv6
 use Rattle.ip_codes.specs.Codes.{NO_FAULT, TOO_SHORT, HOP_BY_HOP_NOT_AT_START, ZERO_PAYLOAD_LEN, UNSUPPORTED_IP_VERSION, IPV4_HEADER_LENGTH, layer_code, len_source_code}

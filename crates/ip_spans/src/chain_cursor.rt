@@ -8,7 +8,7 @@ ghost use Rattle.ip_spans.specs.FaultFields.{chain_fault_fields};
 
 use crate::fault_fields::FaultFields;
 use crate::header_span::HeaderSpan;
-use etherparse_ip::IpNumber;
+use ip_base::IpNumber;
 use ip_ext_slices::{fault_at, header_at};
 
 /// A position in a chain: its offset, and the number of what starts there. A walk starts at offset 0 with the number

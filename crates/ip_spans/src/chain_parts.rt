@@ -7,7 +7,8 @@ ghost use Rattle.ip_spans.specs.ChainParts.{chain_parts, ipv4_chain_parts};
 
 use crate::fault_fields::FaultFields;
 use crate::header_span::{HeaderSpan, put_ipv4_span, put_spans};
-use etherparse_ip::{IpNumber, Ipv4ExtensionsSlice, Ipv6ExtensionsSlice};
+use ip_base::IpNumber;
+use ip_ext_slices::{Ipv4ExtensionsSlice, Ipv6ExtensionsSlice};
 
 /// The longest chain of extension headers at the start of some bytes, and its end.
 #[repr(C)]

@@ -10,10 +10,12 @@ ghost use Rattle.ip_spans.specs.FaultFields.{headers_error_fields, packet_fault_
 ghost use Rattle.ip_spans.specs.FaultFields.{ipv6_fault_fields};
 ghost use Rattle.ip_spans.specs.DissectionParts.{end_fields};
 
-use etherparse_ip::LenSource;
-use etherparse_ip::err::{Layer, LenError, ip, ip_auth, ipv6, ipv6_exts};
+use etherparse_ip::err::ipv6;
+use ip_base::LenSource;
+use ip_base::err::{Layer, LenError, ip};
 use ip_codes::{header_code_of, kind, layer_code_of, len_source_code_of};
 use ip_dissect::End;
+use ip_ext_slices::err::{ip_auth, ipv6_exts};
 
 /// An error. A field that its kind doesn't use is 0.
 #[repr(C)]

@@ -4,7 +4,7 @@ ghost use Rattle.ip_base.specs.Prefix.{IsPrefix};
 ghost use Rattle.ip_spec.specs.Header.{IsFragmentHeader, IsAuthHeader};
 ghost use Rattle.ip_spans.specs.HeaderFields.{BeginsWithFragmentHeader, BeginsWithAuthHeader};
 
-use etherparse_ip::{IpAuthHeaderSlice, Ipv6FragmentHeaderSlice};
+use ip_ext_headers::{IpAuthHeaderSlice, Ipv6FragmentHeaderSlice};
 
 /// The fields of a fragment header (RFC 8200, section 4.5).
 #[repr(C)]

@@ -7,9 +7,9 @@ ghost use Rattle.ip_ext_slices.specs.Ipv6ExtensionsSlice.{bytes, headers_in};
 ghost use Rattle.ip_ext_slices.specs.Ipv4ExtensionsSlice.{headers_in as ipv4_headers_in};
 ghost use Rattle.ip_spans.specs.HeaderSpan.{header_span, spans_from, filled};
 
-use etherparse_ip::{Ipv4ExtensionsSlice, Ipv6ExtensionSlice, Ipv6ExtensionsSlice, ip_number};
-use ip_base::IpNumber;
+use ip_base::{IpNumber, ip_number};
 use ip_dissect::HeaderVisitor;
+use ip_ext_slices::{Ipv4ExtensionsSlice, Ipv6ExtensionSlice, Ipv6ExtensionsSlice};
 
 /// The span of an extension header in the caller's bytes, its number and its next header.
 #[repr(C)]

@@ -8,7 +8,7 @@ ghost use Rattle.ip_spec.specs.Places.{number_in, side_of, next_place};
 ghost use Rattle.ip_spans.specs.InPlaces.{AreInPlaces};
 
 use crate::header_span::HeaderSpan;
-use etherparse_ip::{IpNumber, ip_number};
+use ip_base::{IpNumber, ip_number};
 
 /// Returns how many of the headers, from the first on, fit one struct of six places: all, or those before the first
 /// whose place is occupied or that is not an extension header. In a chain they are its first run; the header after

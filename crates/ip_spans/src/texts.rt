@@ -4,8 +4,8 @@ ghost use Rattle.std.specs.Prelude.{◌≡◌, ◌≤◌, ◌<◌, ◌+◌, drop
 use crate::fault_fields::{FaultFields, layer_of, len_source_of};
 use crate::filter_parse::expected_of;
 use arrayvec::ArrayString;
-use etherparse_ip::LenSource;
-use etherparse_ip::err::{Layer, LenError, ip, ip_auth, ipv6_exts};
+use ip_base::LenSource;
+use ip_base::err::{Layer, LenError, ip, ip_auth, ipv6_exts};
 use ip_codes::kind;
 use std::fmt::Write;
 

@@ -5,7 +5,7 @@ ghost use Rattle.ip_spec.specs.Chain.{IsChain};
 ghost use Rattle.ip_spans.specs.Written.{bytes_at, LiesIn, AllLieIn, written_header, written_spans, written_chain, begun_with, AreChainSpans};
 
 use crate::header_span::HeaderSpan;
-use etherparse_ip::IpNumber;
+use ip_base::IpNumber;
 use ip_ext_headers::clear_reserved_bits;
 use ip_ext_slices::header_at;
 

@@ -4,10 +4,10 @@ use Rattle.std.specs.Option.{option_map_or}
 use Rattle.ip_spec.specs.Chain.{bytes_of}
 use Rattle.ip_base.specs.declared.err.layer.Layer.TheVariants.{IpHeader, Ipv4Header, IpAuthHeader, Ipv6HopByHopHeader}
 use Rattle.ip_base.specs.declared.err.ipv6_exts.header_error.HeaderError.TheVariants.{HopByHopNotAtStart, IpAuth}
-use Rattle.etherparse_ip.specs.declared.err.ip.header_error.HeaderError.TheVariants.{UnsupportedIpVersion, Ipv4HeaderLengthSmallerThanHeader}
-use Rattle.etherparse_ip.specs.declared.err.ip.headers_error.HeadersError.TheVariants.{Ip, Ipv4Ext, Ipv6Ext}
-use Rattle.etherparse_ip.specs.declared.err.ip.slice_error.SliceError.{SliceError}
-use Rattle.etherparse_ip.specs.declared.err.ip.slice_error.SliceError.TheVariants.{Len, IpHeaders}
+use Rattle.ip_base.specs.declared.err.ip.header_error.HeaderError.TheVariants.{UnsupportedIpVersion, Ipv4HeaderLengthSmallerThanHeader}
+use Rattle.ip_base.specs.declared.err.ip.headers_error.HeadersError.TheVariants.{Ip, Ipv4Ext, Ipv6Ext}
+use Rattle.ip_base.specs.declared.err.ip.slice_error.SliceError.{SliceError}
+use Rattle.ip_base.specs.declared.err.ip.slice_error.SliceError.TheVariants.{Len, IpHeaders}
 use Rattle.ip_dissect.specs.Dissection.{DissectedParts}
 use Rattle.ip_dissect.specs.End.{has_error}
 use Rattle.ip_dissect.specs.declared.fragment.Fragment.{Fragment}

@@ -2,8 +2,8 @@
 ghost use Rattle.std.specs.Prelude.{◌≡◌, ◌+◌};
 ghost use Rattle.ip_statistics.specs.Packet.{error_layer, faulty_layer, fault_index};
 
-use etherparse_ip::err::ip::{HeaderError, HeadersError, SliceError};
-use etherparse_ip::err::{Layer, ipv6_exts};
+use ip_base::err::ip::{HeaderError, HeadersError, SliceError};
+use ip_base::err::{Layer, ipv6_exts};
 use ip_codes::{error_kind_of, layer_code_of};
 use ip_dissect::End;
 

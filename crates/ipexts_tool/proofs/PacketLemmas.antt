@@ -1,7 +1,7 @@
 -- The answer for a packet, by the result of its parse.
 use Rattle.ip_spec.proofs.Common.{◌≡◌, ℕ, List, Some, None, codes}
 use Rattle.ip_base.specs.Ipv4Header.{version}
-use Rattle.etherparse_ip.specs.declared.err.ip.slice_error.SliceError.{SliceError}
+use Rattle.ip_base.specs.declared.err.ip.slice_error.SliceError.{SliceError}
 use Rattle.etherparse_ip.specs.Packet.{Parts}
 use Rattle.etherparse_ip.specs.PartsIn.{ipv4_parts_in, ipv6_parts_in}
 use Rattle.etherparse_ip.specs.PacketFault.{ip_fault}

@@ -9,14 +9,14 @@ use Rattle.ip_ext_headers.specs.declared.err.ip_auth.header_slice_error.HeaderSl
 use Rattle.ip_ext_chains.specs.Names.{layer_name, len_source_name}
 use Rattle.ip_base.specs.declared.err.ipv6_exts.header_error.HeaderError.{HeaderError}
 use Rattle.ip_base.specs.declared.err.ipv6_exts.header_error.HeaderError.TheVariants.{HopByHopNotAtStart, IpAuth}
+use Rattle.ip_base.specs.declared.err.ip.header_error.HeaderError.{HeaderError as BaseError}
+use Rattle.ip_base.specs.declared.err.ip.header_error.HeaderError.TheVariants.{UnsupportedIpVersion, Ipv4HeaderLengthSmallerThanHeader}
+use Rattle.ip_base.specs.declared.err.ip.headers_error.HeadersError.{HeadersError}
+use Rattle.ip_base.specs.declared.err.ip.headers_error.HeadersError.TheVariants.{Ip, Ipv4Ext, Ipv6Ext}
+use Rattle.ip_base.specs.declared.err.ip.slice_error.SliceError.{SliceError}
+use Rattle.ip_base.specs.declared.err.ip.slice_error.SliceError.TheVariants as packet
 use Rattle.ip_ext_slices.specs.declared.err.ipv6_exts.header_slice_error.HeaderSliceError.{HeaderSliceError}
 use Rattle.ip_ext_slices.specs.declared.err.ipv6_exts.header_slice_error.HeaderSliceError.TheVariants.{Len, Content}
-use Rattle.etherparse_ip.specs.declared.err.ip.header_error.HeaderError.{HeaderError as BaseError}
-use Rattle.etherparse_ip.specs.declared.err.ip.header_error.HeaderError.TheVariants.{UnsupportedIpVersion, Ipv4HeaderLengthSmallerThanHeader}
-use Rattle.etherparse_ip.specs.declared.err.ip.headers_error.HeadersError.{HeadersError}
-use Rattle.etherparse_ip.specs.declared.err.ip.headers_error.HeadersError.TheVariants.{Ip, Ipv4Ext, Ipv6Ext}
-use Rattle.etherparse_ip.specs.declared.err.ip.slice_error.SliceError.{SliceError}
-use Rattle.etherparse_ip.specs.declared.err.ip.slice_error.SliceError.TheVariants as packet
 
 -- fewer bytes than required: `len R of L S Y at O`
 abbrev pub len_text : LenError → List ℕ

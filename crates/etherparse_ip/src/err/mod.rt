@@ -5,8 +5,6 @@ pub mod ipv4;
 pub mod ipv4_exts;
 pub mod ipv6;
 pub mod ipv6_exts;
-mod packet_source;
 
-pub use ip_base::err::{ChainSource, Layer, LenError, Source, ValueTooBigError, io};
+pub use ip_base::err::{ChainSource, Layer, LenError, PacketSource, Source, ValueTooBigError, io};
 pub use ip_ext_headers::err::ip_auth;
-pub use packet_source::PacketSource;

@@ -1,7 +1,7 @@
 //! The error of a parse of an IPv4 packet.
 ghost use Rattle.std.specs.Prelude.{◌≡◌, Some};
 ghost use Rattle.std.specs.Option.{option_map};
-ghost use Rattle.etherparse_ip.specs.PacketCause.{packet_cause_in};
+ghost use Rattle.ip_base.specs.PacketCause.{packet_cause_in};
 
 use super::HeaderError;
 use crate::err::{LenError, PacketSource, ip_auth};

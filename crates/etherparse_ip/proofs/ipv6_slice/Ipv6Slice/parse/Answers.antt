@@ -1,6 +1,6 @@
 use Rattle.ip_spec.proofs.Common.{◌∙◌, ap, sym, length, rules, option_map}
 use Rattle.ip_base.specs.Ipv6HeaderSlice.{bytes}
-use Rattle.etherparse_ip.specs.PacketFault.{exts_in_packet}
+use Rattle.ip_ext_slices.specs.ChainFault.{exts_in_packet}
 use Rattle.etherparse_ip.proofs.PartsLemmas.{AtIpv6, ipv6_packet, ipv6_after_fault}
 use Rattle.etherparse_ip.proofs.ipv6_slice.Ipv6Slice.parse.Goals as goal
 

@@ -5,14 +5,14 @@ use Rattle.ip_base.specs.declared.len_source.LenSource.{LenSource}
 use Rattle.ip_base.specs.declared.len_source.LenSource.TheVariants.{Slice}
 use Rattle.ip_base.specs.Ipv4Header.{IsIpv4Header, version, ihl, ipv4_header_len, total_len, protocol, ipv4_fragment_offset}
 use Rattle.ip_base.specs.Ipv6Header.{IsIpv6Header, payload_length, ipv6_next_header}
-use Rattle.ip_ext_headers.specs.HeaderFault.{raw_fault, fragment_fault, auth_fault}
+use Rattle.ip_base.proofs.BaseLemmas.{SaysIpv4, says_ipv4, SaysIpv6, says_ipv6}
+use Rattle.ip_ext_headers.specs.HeaderFault.{raw_fault, fragment_fault, auth_fault, auth_in_packet}
 use Rattle.ip_ext_slices.specs.ChainFault.{Fault, fault_at, slice_fault, chain_fault}
 use Rattle.ip_ext_slices.specs.Longest.{longest_chain}
 use Rattle.ip_ext_slices.specs.Ipv4Fault.{ipv4_faults, ipv4_chain_fault}
 use Rattle.ip_ext_headers.specs.declared.err.ip_auth.header_slice_error.HeaderSliceError.{HeaderSliceError as AuthSliceError}
 use Rattle.etherparse_ip.specs.LenSources.{ipv4_len_source}
-use Rattle.etherparse_ip.specs.PacketFault.{ip_fault, ip_of_ipv4, ipv4_fault_after, ipv4_after, auth_in_packet, ip_of_ipv6, ipv6_fault_after, ipv6_chain_fault, ipv6_after}
-use Rattle.etherparse_ip.proofs.BaseLemmas.{SaysIpv4, says_ipv4, SaysIpv6, says_ipv6}
+use Rattle.etherparse_ip.specs.PacketFault.{ip_fault, ip_of_ipv4, ipv4_fault_after, ipv4_after, ip_of_ipv6, ipv6_fault_after, ipv6_chain_fault, ipv6_after}
 use Rattle.etherparse_ip.proofs.PartsLemmas.{strict_fault_of_chain}
 use Rattle.ip_dissect.specs.LaterDemand.{has_later}
 use Rattle.ip_dissect.specs.Extent.{missing_of, after_base, ipv4_stated, ipv6_stated, ipv4_chain, ipv6_chain}
@@ -20,7 +20,7 @@ use Rattle.ip_dissect.specs.End.{base_end, auth_end, ipv4_end, exts_end, ipv6_er
 use Rattle.ip_dissect.specs.Dissection.{dissected}
 use Rattle.ip_dissect.specs.declared.end.End.{End}
 use Rattle.ip_dissect.specs.declared.end.End.TheVariants as end
-use Rattle.ip_dissect.proofs.AgreementLemmas.{no_later, after_is6, after_is4}
+use Rattle.ip_agreement.proofs.AgreementLemmas.{no_later, after_is6, after_is4}
 use Rattle.ip_dissect.proofs.DissectedLemmas.{BeginIpv4, begin_ipv4, BeginIpv6, begin_ipv6}
 
 none_before : {A B : Type 0} (f : A → B) (o : Option A) → option_map f o ≡ None → o ≡ None

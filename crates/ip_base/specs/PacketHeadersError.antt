@@ -1,10 +1,10 @@
 -- The cause of an error of a packet's headers, and the error with its offset moved.
 use Rattle.std.specs.Prelude.{ℕ, ◌+◌, ◌<◌, ◌^◌, ⊤}
 use Rattle.ip_base.specs.LenError.{moved}
-use Rattle.etherparse_ip.specs.PacketCause.{PacketCause, IpHeaders}
-use Rattle.etherparse_ip.specs.PacketCause as cause
-use Rattle.etherparse_ip.specs.declared.err.ip.headers_slice_error.HeadersSliceError.{HeadersSliceError}
-use Rattle.etherparse_ip.specs.declared.err.ip.headers_slice_error.HeadersSliceError.TheVariants.{Len, Content}
+use Rattle.ip_base.specs.PacketCause.{PacketCause, IpHeaders}
+use Rattle.ip_base.specs.PacketCause as cause
+use Rattle.ip_base.specs.declared.err.ip.headers_slice_error.HeadersSliceError.{HeadersSliceError}
+use Rattle.ip_base.specs.declared.err.ip.headers_slice_error.HeadersSliceError.TheVariants.{Len, Content}
 
 abbrev pub cause_of : HeadersSliceError → PacketCause
 cause_of (Len e) = cause.Len e

@@ -5,19 +5,19 @@ use Rattle.ip_spec.proofs.ChainLemmas.{longest_at_end}
 use Rattle.ip_spec.proofs.UnderLemmas.{longest_ends_under}
 use Rattle.ip_base.specs.Ipv6Header.{IsIpv6Header, payload_length, ipv6_next_header}
 use Rattle.ip_base.specs.Ipv4Header.{IsIpv4Header, ipv4_header_len, total_len, protocol, ipv4_fragment_offset}
+use Rattle.ip_base.proofs.BaseLemmas.{SaysIpv4, SaysIpv6, says_ipv4, says_ipv6}
 use Rattle.ip_ext_slices.specs.Longest.{longest_chain}
 use Rattle.ip_ext_slices.specs.Ipv4Longest.{longest_ipv4_chain}
 use Rattle.ip_ext_slices.proofs.LongestLemmas.{longest_chain-is}
 use Rattle.etherparse_ip.specs.LenSources.{front, ipv6_len_source}
 use Rattle.etherparse_ip.specs.Packet.{Parts, IsIpv4Packet, IsIpv6Packet}
 use Rattle.etherparse_ip.specs.PacketFault.{ipv4_after, ipv6_after}
-use Rattle.etherparse_ip.proofs.BaseLemmas.{SaysIpv4, SaysIpv6, says_ipv4, says_ipv6}
 use Rattle.etherparse_ip.proofs.OnePacketLemmas.{ipv4_parts_are, ipv6_parts_are}
 use Rattle.ip_dissect.specs.LaterDemand.{has_later, NothingAfterLater, nothing_after_later}
 use Rattle.ip_dissect.specs.Later.{chain_to_later}
 use Rattle.ip_dissect.specs.Extent.{packet_bytes, after_base, ipv4_stated, ipv6_stated, ipv4_chain, ipv4_chain_in, ipv6_chain}
 use Rattle.ip_dissect.specs.Dissection.{dissected}
-use Rattle.ip_dissect.specs.Agreement.{HaveSameParts}
+use Rattle.ip_agreement.specs.Agreement.{HaveSameParts}
 use Rattle.ip_dissect.proofs.DissectedLemmas.{BeginIpv4, header_begins4, BeginIpv6, header_begins6}
 use Rattle.ip_dissect.proofs.LaterLemmas.{chain_to_later-longest, may_follow}
 

@@ -6,7 +6,7 @@ ghost use Rattle.etherparse_ip.specs.PacketFault.{ip_fault};
 ghost use Rattle.ip_dissect.specs.LaterDemand.{has_later};
 ghost use Rattle.ip_dissect.specs.End.{base_end};
 ghost use Rattle.ip_dissect.specs.Dissection.{dissected};
-ghost use Rattle.ip_dissect.specs.Agreement.{HaveSameParts};
+ghost use Rattle.ip_agreement.specs.Agreement.{HaveSameParts};
 ghost use Rattle.ip_dissect.specs.declared.end.End.{End};
 ghost use Rattle.ip_dissect.specs.declared.end.End.TheVariants.{Payload};
 

@@ -1,5 +1,7 @@
 -- A base header at the start of bytes has the fields of the bytes.
-use Rattle.ip_spec.proofs.Common.{◌≡◌, ℕ, List, length, arith, rules, common_steps, IsPrefix}
+use Rattle.std.proofs.Common.{◌≡◌, ℕ, List, length, arith, rules}
+use Rattle.std.proofs.lemmas.Grind.{common_steps}
+use Rattle.ip_base.specs.Prefix.{IsPrefix}
 use Rattle.ip_base.specs.Ipv4Header.{version, IsIpv4Header, ipv4_header_len, total_len, protocol, is_ipv4_fragmenting}
 use Rattle.ip_base.specs.Ipv6Header.{IsIpv6Header, payload_length, ipv6_next_header}
 

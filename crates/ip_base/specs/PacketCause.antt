@@ -4,10 +4,10 @@ use Rattle.ip_base.specs.declared.err.ipv6.header_error.HeaderError.{HeaderError
 use Rattle.ip_base.specs.declared.err.len_error.LenError.{LenError}
 use Rattle.ip_base.specs.declared.err.ip_auth.header_error.HeaderError.{HeaderError as AuthError}
 use Rattle.ip_base.specs.declared.err.ipv6_exts.header_error.HeaderError.{HeaderError as Ipv6ExtsError}
-use Rattle.etherparse_ip.specs.declared.err.ip.header_error.HeaderError.{HeaderError}
-use Rattle.etherparse_ip.specs.declared.err.ip.headers_error.HeadersError.{HeadersError}
-use Rattle.etherparse_ip.specs.declared.err.packet_source.PacketSource.{PacketSource}
-use Rattle.etherparse_ip.specs.declared.err.packet_source.PacketSource.TheVariants as source
+use Rattle.ip_base.specs.declared.err.ip.header_error.HeaderError.{HeaderError}
+use Rattle.ip_base.specs.declared.err.ip.headers_error.HeadersError.{HeadersError}
+use Rattle.ip_base.specs.declared.err.packet_source.PacketSource.{PacketSource}
+use Rattle.ip_base.specs.declared.err.packet_source.PacketSource.TheVariants as source
 
 -- too few bytes, or malformed headers
 pub data PacketCause : Type 0 where

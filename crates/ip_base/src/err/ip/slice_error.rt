@@ -1,7 +1,7 @@
 //! The error of a parse of a packet of either version.
 ghost use Rattle.std.specs.Prelude.{◌≡◌, Some};
 ghost use Rattle.std.specs.Option.{option_map};
-ghost use Rattle.etherparse_ip.specs.PacketCause.{packet_cause_in};
+ghost use Rattle.ip_base.specs.PacketCause.{packet_cause_in};
 
 use super::HeadersError;
 use crate::err::{LenError, PacketSource};
@@ -19,7 +19,7 @@ pub enum SliceError {
 }
 
 impl SliceError {
-    ghost use Rattle.etherparse_ip.specs.IpSliceError.{cause_of};
+    ghost use Rattle.ip_base.specs.IpSliceError.{cause_of};
 
     /// Returns the error's cause.
     pub fn source(&self) -> Option<PacketSource<'_>>

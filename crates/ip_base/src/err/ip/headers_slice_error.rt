@@ -1,7 +1,7 @@
 //! The error of a parse of the IP headers of a packet.
 ghost use Rattle.std.specs.Prelude.{◌≡◌, Some};
 ghost use Rattle.std.specs.Option.{option_map};
-ghost use Rattle.etherparse_ip.specs.PacketCause.{packet_cause_in};
+ghost use Rattle.ip_base.specs.PacketCause.{packet_cause_in};
 
 use super::HeadersError;
 use crate::err::{LenError, PacketSource};
@@ -19,7 +19,7 @@ pub enum HeadersSliceError {
 }
 
 impl HeadersSliceError {
-    ghost use Rattle.etherparse_ip.specs.PacketHeadersError.{cause_of, headers_moved, HeadersOffsetFits};
+    ghost use Rattle.ip_base.specs.PacketHeadersError.{cause_of, headers_moved, HeadersOffsetFits};
 
     /// Returns the error with `offset` bytes added to the offset of a length error. Nothing else changes. The sum of
     /// the offsets must be below 2^64.

@@ -1,7 +1,7 @@
 //! The error of the IP headers of a packet.
 ghost use Rattle.std.specs.Prelude.{◌≡◌, Some};
 ghost use Rattle.std.specs.Option.{option_map};
-ghost use Rattle.etherparse_ip.specs.PacketCause.{packet_cause_in};
+ghost use Rattle.ip_base.specs.PacketCause.{packet_cause_in};
 
 use super::HeaderError;
 use crate::err::{PacketSource, ip_auth, ipv6_exts};
@@ -22,7 +22,7 @@ pub enum HeadersError {
 }
 
 impl HeadersError {
-    ghost use Rattle.etherparse_ip.specs.HeadersError.{cause_of};
+    ghost use Rattle.ip_base.specs.HeadersError.{cause_of};
 
     /// Returns the error's cause.
     pub fn source(&self) -> Option<PacketSource<'_>>

@@ -2,6 +2,9 @@
 
 #include <stdlib.h>
 
+/* Packets with more extension headers are dissected once more, in a longer array. */
+enum { FIRST_ROOM = 16 };
+
 static bool make_room(struct parts *parts, size_t room)
 {
     if (room > SIZE_MAX / sizeof *parts->headers) return false;
@@ -16,10 +19,10 @@ bool parse_packet(struct parts *parts, const uint8_t *bytes, size_t len)
 {
     parts->bytes = bytes;
     parts->len = len;
-    /* without the headers, which most packets don't have, it is faster */
-    wolfaren_dissect(bytes, len, NULL, 0, &parts->packet);
-    if (parts->packet.headers == 0) return true;
-    if (parts->packet.headers > parts->room && !make_room(parts, parts->packet.headers)) return false;
+    if (parts->room == 0 && !make_room(parts, FIRST_ROOM)) return false;
+    wolfaren_dissect(bytes, len, parts->headers, parts->room, &parts->packet);
+    if (parts->packet.headers <= parts->room) return true;
+    if (!make_room(parts, parts->packet.headers)) return false;
     wolfaren_dissect(bytes, len, parts->headers, parts->room, &parts->packet);
     return true;
 }

@@ -7,3 +7,4 @@ pub mod JoinedLemmas
 pub mod PacketLemmas
 pub mod OutlineLemmas
 pub mod PlainLemmas
+pub mod VisitedLemmas

@@ -1,5 +1,5 @@
 -- The outline of a packet, from that of the bytes after its base header.
-use Rattle.ip_spec.proofs.Common.{◌≡◌, ℕ, ◌+◌, ◌-◌, List, [], length, drop, subst, refl, sym, ap, ◌∙◌, rules, nat_eq, Bool, true, false, Option, None, Some, is_some, option_or, option_map, option_map_or, if◌then◌else◌, ◌==◌, ◌&&◌, ◌||◌, not, length-drop, ExtHeader, bytes_of, is_empty, leads_to, rest_after, fault_after, IsPrefixChain}
+use Rattle.ip_spec.proofs.Common.{◌≡◌, ℕ, ◌+◌, ◌-◌, List, [], length, drop, subst, refl, sym, ap, ◌∙◌, rules, nat_eq, Bool, true, false, Option, None, Some, is_some, option_map, option_map_or, if◌then◌else◌, ◌==◌, ◌&&◌, ◌||◌, not, length-drop, ExtHeader, bytes_of, is_empty, leads_to, rest_after, fault_after, IsPrefixChain}
 use Rattle.ip_base.specs.declared.ip_number_impl.IpNumber.{IpNumber}
 use Rattle.ip_base.specs.Ipv4Header.{protocol, ipv4_fragment_offset}
 use Rattle.ip_base.specs.Ipv6Header.{ipv6_next_header}
@@ -73,7 +73,7 @@ module _ (b s y : List ℕ) (same : y ≡ b) (t : Option ℕ) (stated : t ≡ ip
   the_end = ipv6_end_is b x s t n m r found _ xs stated ns number rest said refl
 
   pub ipv6_outlined : (o : Outline) → o.version ≡ 6 → o.base_len ≡ length y → o.stated_len ≡ t → o.extensions_len ≡ length x - length r → o.header_count ≡ found.count → o.next_header.0 ≡ m → o.payload_len ≡ length r
-      → o.fragment ≡ option_or found.fragmenting found.first → o.missing ≡ missing_of t (length s) → o.padding_len ≡ length s - length packet → o.is_later_fragment ≡ found.later
+      → o.fragment ≡ found.fragment → o.missing ≡ missing_of t (length s) → o.padding_len ≡ length s - length packet → o.is_later_fragment ≡ found.later
       → o.has_error ≡ (not found.later && is_some (slice_fault (40 + (length x - length r)) (nat_eq (length x - length r) 0) m r)) → o ≡ outline_of (ipv6_dissected b s)
   ipv6_outlined o version base is extensions count next payload fragment missing padding later error =
       let P : ℕ → List ℕ → Type 0 = λ k z. o ≡ outline_of (with_base 6 b s (ipv6_stated b) k (chain_to_later k z) (ipv6_fragment (ipv6_chain b s)) (ipv6_end b s)) in

@@ -1,11 +1,11 @@
 -- What a pass over the bytes after an IPv6 base header finds.
-use Rattle.ip_spec.proofs.Common.{◌≡◌, ℕ, ◌+◌, ◌-◌, List, length, take, drop, refl, ap, ◌∙◌, arith, nat_eq, rules, eqb_tells, Option, option_map, option_or, option_map_or, find, if◌then◌else◌, AllByRecursion, IsHeader, ExtHeader, bytes_of, leads_to, is_empty, rest_after, IsPrefixChain}
+use Rattle.ip_spec.proofs.Common.{◌≡◌, ℕ, ◌+◌, ◌-◌, List, length, take, drop, refl, ap, ◌∙◌, arith, nat_eq, rules, eqb_tells, Option, option_map_or, if◌then◌else◌, AllByRecursion, IsHeader, ExtHeader, bytes_of, leads_to, is_empty, rest_after, IsPrefixChain}
 use Rattle.ip_spec.proofs.PrefixLemmas.{prefix-length}
 use Rattle.ip_spec.proofs.ChainLemmas.{bytes_of-least}
 use Rattle.ip_base.specs.Ipv6Header.{ipv6_next_header}
 use Rattle.ip_ext_slices.specs.ChainFault.{slice_fault}
 use Rattle.ip_dissect.specs.Later.{chain_to_later}
-use Rattle.ip_dissect.specs.Fragment.{fragment_of, fragments, is_fragment_header, ipv6_fragment}
+use Rattle.ip_dissect.specs.Fragment.{ipv6_fragment}
 use Rattle.ip_dissect.specs.Found.{found_in}
 use Rattle.ip_dissect.specs.Extent.{packet_bytes, after_base, ipv6_stated, ipv6_chain}
 use Rattle.ip_dissect.specs.End.{exts_end, ipv6_end}
@@ -29,15 +29,9 @@ module _ (n : ℕ) (x : List ℕ) (c : List ExtHeader) (p : IsPrefixChain n x c)
   pub chain_none : nat_eq (length x - length r) 0 ≡ is_empty c
   chain_none = empty_is c (length x - length r) p.chain.headers chain_len
 
-mapped_or : {A B : Type 0} (f : A → B) (a b : Option A) → option_or (option_map f a) (option_map f b) ≡ option_map f (option_or a b)
-mapped_or f a b = search rules
-
-found_fragment : (f : Found) (c : List ExtHeader) → f ≡ found_in c → option_or f.fragmenting f.first ≡ ipv6_fragment c
-found_fragment f c e = ap (λ (g : Found). option_or g.fragmenting g.first) e ∙ mapped_or fragment_of (find fragments c) (find is_fragment_header c)
-
 pub ipv6_fragment_is : (b x s : List ℕ) (n : ℕ) (found : Found) (f : Option Fragment) → x ≡ after_base b (ipv6_stated b) s → n ≡ ipv6_next_header b → found ≡ found_in (chain_to_later n x)
-    → f ≡ option_or found.fragmenting found.first → f ≡ ipv6_fragment (ipv6_chain b s)
-ipv6_fragment_is b x s n found f xs ns said is = cc (found_fragment found (chain_to_later n x) said)
+    → f ≡ found.fragment → f ≡ ipv6_fragment (ipv6_chain b s)
+ipv6_fragment_is b x s n found f xs ns said is = cc (is, ap (λ (g : Found). g.fragment) said)
 
 -- what follows the base header, by the stated length
 pub after_is : (b s : List ℕ) (t u : Option ℕ) (packet x : List ℕ) → t ≡ u → packet ≡ packet_bytes b t s → x ≡ drop (length b) packet → x ≡ after_base b u s

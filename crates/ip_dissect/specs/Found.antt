@@ -1,22 +1,18 @@
 -- What a pass over a chain finds.
 use Rattle.std.specs.Prelude.{◌≡◌, ℕ, List, length, ◌-◌, ◌==◌, ◌&&◌, not, is_some}
-use Rattle.std.specs.List.{find}
-use Rattle.std.specs.Option.{option_map}
 use Rattle.ip_spec.specs.Chain.{ExtHeader, leads_to}
 use Rattle.ip_spec.specs.Parse.{rest_after}
 use Rattle.ip_ext_slices.specs.ChainFault.{slice_fault}
 use Rattle.ip_dissect.specs.Later.{chain_to_later}
 use Rattle.ip_dissect.specs.LaterDemand.{has_later}
-use Rattle.ip_dissect.specs.Fragment.{fragment_of, fragments, is_fragment_header}
+use Rattle.ip_dissect.specs.Fragment.{ipv6_fragment}
 use Rattle.ip_dissect.specs.declared.walk.Found.{Found}
 use Rattle.ip_dissect.specs.declared.walk.Passed.{Passed}
 
--- of the fragment headers the first one that fragments the payload, the first one, and whether one is a later
--- fragment's; and the number of headers
+-- the fragment, whether a header is a later fragment's, and the number of headers
 abbrev pub found_in : List ExtHeader → Found
 found_in c = record {
-  fragmenting = option_map fragment_of (find fragments c);
-  first = option_map fragment_of (find is_fragment_header c);
+  fragment = ipv6_fragment c;
   later = has_later c;
   count = length c;
 }

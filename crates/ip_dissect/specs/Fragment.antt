@@ -1,11 +1,11 @@
 -- What kind of fragment a packet is (RFC 791, section 3.2; RFC 8200, section 4.5; RFC 6946 for atomic fragments).
-use Rattle.std.specs.Prelude.{ℕ, ◌*◌, List, Bool, true, false, Option, Some, None, slice_range, ◌==◌, ◌&&◌, if◌then◌else◌}
-use Rattle.std.specs.Int.{from_be_bytes, w16}
+use Rattle.std.specs.Prelude.{ℕ, ◌*◌, List, Bool, true, false, Option, Some, None, not, ◌==◌, ◌&&◌, ◌||◌, if◌then◌else◌}
 use Rattle.std.specs.List.{find}
 use Rattle.std.specs.Option.{option_map, option_or}
 use Rattle.ip_spec.specs.Numbers.{FRAGMENT}
 use Rattle.ip_spec.specs.Fields.{fragment_fields, is_fragmenting}
 use Rattle.ip_spec.specs.Chain.{ExtHeader}
+use Rattle.ip_base.specs.BaseHeaderFields.{ipv4_identification}
 use Rattle.ip_base.specs.Ipv4Header.{ipv4_more_fragments, ipv4_fragment_offset, is_ipv4_fragmenting}
 use Rattle.ip_dissect.specs.declared.fragment.FragmentKind.{FragmentKind}
 use Rattle.ip_dissect.specs.declared.fragment.FragmentKind.TheVariants.{Atomic, First, Middle, Last}
@@ -42,10 +42,6 @@ fragments h = (h.number == FRAGMENT) && is_fragmenting h.bytes
 abbrev pub ipv6_fragment : List ExtHeader → Option Fragment
 ipv6_fragment c = option_map fragment_of (option_or (find fragments c) (find is_fragment_header c))
 
--- the identification field of an IPv4 base header
-abbrev pub ipv4_identification : List ℕ → ℕ
-ipv4_identification b = from_be_bytes w16 (slice_range b 4 6)
-
 -- of an IPv4 base header: none if the offset and the flag are 0
 abbrev pub ipv4_fragment : List ℕ → Option Fragment
 ipv4_fragment b =
@@ -65,3 +61,9 @@ is_atomic_kind Last = false
 -- it is a whole packet
 abbrev pub is_atomic : Fragment → Bool
 is_atomic x = is_atomic_kind x.kind
+
+-- One more fragment header doesn't replace the fragment found before, if there is one: that one fragments the payload, or
+-- the header doesn't.
+abbrev pub is_kept : Option Fragment → Fragment → Bool
+is_kept None x = false
+is_kept (Some y) x = not (is_atomic y) || is_atomic x

@@ -6,3 +6,4 @@ pub mod Extent
 pub mod End
 pub mod Dissection
 pub mod Outline
+pub mod Visited

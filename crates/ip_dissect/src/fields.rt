@@ -39,8 +39,7 @@ pub(crate) fn ipv4_offset(base: Ipv4HeaderSlice<'_>) -> u16
     ensures value { result ≡ ipv4_fragment_offset (ipv4_header.bytes base.entry) }
     ensures fits { result ≤ 8191 }
 {
-    let slice = base.slice();
-    u16::from_be_bytes([slice[6] & 0b0001_1111, slice[7]])
+    base.fragments_offset().value()
 }
 
 /// Returns which fragment an IPv4 packet is.
@@ -51,8 +50,6 @@ pub(crate) fn ipv4_fragment(base: Ipv4HeaderSlice<'_>) -> Option<Fragment>
     if !base.is_fragmenting_payload() {
         return None;
     }
-    let slice = base.slice();
-    let identification = u16::from_be_bytes([slice[4], slice[5]]);
-    let more_fragments = slice[6] & 0b0010_0000 != 0;
-    Some(Fragment::new(u32::from(identification), more_fragments, ipv4_offset(base)))
+    let identification = u32::from(base.identification());
+    Some(Fragment::new(identification, base.more_fragments(), ipv4_offset(base)))
 }

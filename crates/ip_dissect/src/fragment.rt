@@ -1,6 +1,6 @@
 //! Which fragment a packet is.
 ghost use Rattle.std.specs.Prelude.{◌≡◌, ◌≤◌};
-ghost use Rattle.ip_dissect.specs.Fragment.{kind_of, fragment_with};
+ghost use Rattle.ip_dissect.specs.Fragment.{kind_of, fragment_with, is_atomic};
 
 /// Which fragment of a packet this is.
 #[derive(Clone, Copy, Debug, PartialEq, Eq)]
@@ -38,6 +38,14 @@ impl Fragment {
             offset: 8 * offset,
             kind: FragmentKind::of(more_fragments, offset),
         }
+    }
+
+    /// Returns whether it is a whole packet.
+    #[inline(always)]
+    pub(crate) fn is_atomic(&self) -> bool
+        ensures { result ≡ is_atomic self.now }
+    {
+        matches!(self.kind, FragmentKind::Atomic)
     }
 }
 

@@ -126,7 +126,7 @@ pub(crate) fn ipv6_outline<V: HeaderVisitor>(
         header_count: passed.found.count,
         next_header: passed.number,
         payload_len: passed.rest.len(),
-        fragment: passed.found.fragmenting.or(passed.found.first),
+        fragment: passed.found.fragment,
         missing: missing(stated_len, bytes.len()),
         padding_len: bytes.len() - packet.len(),
         is_later_fragment: passed.found.later,

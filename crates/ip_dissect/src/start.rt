@@ -9,18 +9,18 @@ use crate::{BaseHeader, HeaderVisitor, Outline, Packet};
 
 /// The start of a packet: its base header is parsed, and its extension headers haven't been walked.
 #[derive(Clone, Copy, Debug)]
-pub(crate) struct PacketStart<'a> {
+pub struct PacketStart<'a> {
     /// All bytes.
-    pub(crate) bytes: &'a [u8],
+    pub bytes: &'a [u8],
     /// The base header, if the bytes start with a whole one.
-    base: Option<BaseHeader<'a>>,
-    ghost base_is: { IsBaseOf bytes.now base },
+    pub base: Option<BaseHeader<'a>>,
+    pub ghost base_is: { IsBaseOf bytes.now base },
 }
 
 impl<'a> PacketStart<'a> {
     /// Parses the base header at the start of `bytes`, which may be any bytes.
     #[inline(always)]
-    pub(crate) fn parse(bytes: &'a [u8]) -> PacketStart<'a>
+    pub fn parse(bytes: &'a [u8]) -> PacketStart<'a>
         ensures { result.bytes.now ≡ bytes.now }
     {
         PacketStart {
@@ -29,9 +29,9 @@ impl<'a> PacketStart<'a> {
         }
     }
 
-    /// Walks the extension headers, passes each to the visitor once, and returns the packet.
+    /// Walks the extension headers: passes each to the visitor once, and returns the packet.
     #[inline(always)]
-    pub(crate) fn walk<V: HeaderVisitor>(self, visitor: &mut V) -> Packet<'a>
+    pub fn walk<V: HeaderVisitor>(self, visitor: &mut V) -> Packet<'a>
         ensures bytes { result.bytes.now ≡ self.entry.bytes.now }
         ensures visited { V.visited visitor.old (length (dissected self.entry.bytes.now).base)
             (dissected self.entry.bytes.now).headers visitor.new }

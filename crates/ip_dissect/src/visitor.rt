@@ -1,8 +1,11 @@
-//! What a walk does with the extension headers that it passes.
-ghost use Rattle.std.specs.Prelude.{◌≡◌, ◌+◌, ◌++◌, ◌∷◌, ℕ, List, [], length, refl};
+//! What is done with a packet, and with each of its extension headers.
+ghost use Rattle.std.specs.Prelude.{◌≡◌, ◌+◌, ◌++◌, ◌∷◌, ℕ, List, [], true, false, length, refl};
 ghost use Rattle.ip_spec.specs.Header.{IsHeader};
 ghost use Rattle.ip_spec.specs.Chain.{ExtHeader, bytes_of};
+ghost use Rattle.ip_dissect.specs.Dissection.{dissected};
+ghost use Rattle.ip_dissect.specs.Outline.{is_plain};
 
+use crate::{Packet, PacketStart};
 use ip_base::IpNumber;
 
 /// What a walk over a packet does with each extension header: it counts them, say, or stores where they are. A walk
@@ -34,4 +37,38 @@ impl HeaderVisitor for NoVisitor {
 
     #[inline(always)]
     fn visit(&mut self, _number: IpNumber, _header: &[u8], _index: usize, _offset: usize) {}
+}
+
+/// What is done with a packet: it is counted, say, or a filter tells whether it matches.
+pub trait PacketVisitor<'a> {
+    /// What is known of a plain packet after the visit.
+    type Plain;
+
+    /// What is known of any other packet after the visit.
+    type Other;
+
+    /// What the visitor is before and after the plain packet at the start of these bytes, and what is known of it.
+    ghost plain: { Self → List ℕ → Self → Self.Plain → Type 0 };
+
+    /// What the visitor is before and after any other packet at the start of these bytes, and what is known of it.
+    ghost other: { Self → List ℕ → Self → Self.Other → Type 0 };
+
+    /// Visits a packet without extension headers that is no fragment and has no error.
+    fn visit_plain(&mut self, packet: Packet<'a>) -> Self::Plain
+        requires { is_plain (dissected packet.bytes.now) ≡ true }
+        ensures { plain self.old packet.entry.bytes.now self.new result };
+
+    /// Visits any other packet, with its base header parsed: `PacketStart::walk` passes its extension headers.
+    fn visit_other(&mut self, start: PacketStart<'a>) -> Self::Other
+        requires { is_plain (dissected start.bytes.now) ≡ false }
+        ensures { other self.old start.entry.bytes.now self.new result };
+}
+
+/// What is known of a packet after a visit.
+#[derive(Clone, Copy, Debug)]
+pub enum Visited<P, O> {
+    /// A packet without extension headers that is no fragment and has no error.
+    Plain(P),
+    /// Any other packet.
+    Other(O),
 }

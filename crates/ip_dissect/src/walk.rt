@@ -1,23 +1,20 @@
 //! One pass over the extension headers of an IPv6 packet.
 ghost use Rattle.std.specs.Prelude.{◌≡◌, ◌≤◌, ◌+◌, ◌<◌, ◌^◌, ◌++◌, ◌∷◌, ◌==◌, ◌||◌, not, if◌then◌else◌, Some, None, [], length, drop, List};
-ghost use Rattle.std.specs.Option.{option_or};
 ghost use Rattle.ip_spec.specs.Chain.{ExtHeader};
 ghost use Rattle.ip_ext_slices.specs.Ipv6ExtensionSlice.{header_of};
-ghost use Rattle.ip_dissect.specs.Fragment.{fragment_in, is_atomic};
+ghost use Rattle.ip_dissect.specs.Fragment.{fragment_in, is_kept};
 ghost use Rattle.ip_dissect.specs.Found.{found_in, HasPassed};
 ghost use Rattle.ip_dissect.specs.Later.{chain_to_later};
 
-use crate::{Fragment, FragmentKind, HeaderVisitor};
+use crate::{Fragment, HeaderVisitor};
 use ip_base::IpNumber;
 use ip_ext_slices::{Ipv6ExtensionSlice, header_at, is_extension};
 
 /// What a pass over a chain finds: its fragment headers, and the number of headers.
 #[derive(Clone, Copy, Debug)]
 pub(crate) struct Found {
-    /// The first fragment header that fragments the payload.
-    pub(crate) fragmenting: Option<Fragment>,
-    /// The first fragment header.
-    pub(crate) first: Option<Fragment>,
+    /// The first fragment header that fragments the payload; if none does, the first one.
+    pub(crate) fragment: Option<Fragment>,
     /// Whether a fragment header has a non-zero offset.
     pub(crate) later: bool,
     /// How many headers there are.
@@ -101,8 +98,7 @@ impl Found {
         ensures { result ≡ found_in [] }
     {
         Found {
-            fragmenting: None,
-            first: None,
+            fragment: None,
             later: false,
             count: 0,
         }
@@ -125,20 +121,22 @@ impl Found {
     /// Returns the value for the chain with one more fragment header, which then has `count` headers.
     #[inline(always)]
     fn with_fragment(self, fragment: Fragment, count: usize) -> Found
-        ensures fragmenting { result.fragmenting
-            ≡ option_or self.fragmenting (if is_atomic fragment then None else Some fragment) }
-        ensures first { result.first ≡ option_or self.first (Some fragment) }
+        ensures fragment { result.fragment
+            ≡ (if is_kept self.fragment fragment then self.fragment else Some fragment) }
         ensures later { result.later ≡ (self.later || not (fragment.offset == 0)) }
         ensures count { result.count ≡ count }
     {
-        let fragmenting = match fragment.kind {
-            FragmentKind::Atomic => None,
-            _ => Some(fragment),
+        let is_kept = match self.fragment {
+            Some(before) => !before.is_atomic() | fragment.is_atomic(),
+            None => false,
         };
         Found {
-            fragmenting: self.fragmenting.or(fragmenting),
-            first: self.first.or(Some(fragment)),
-            later: self.later || fragment.offset != 0,
+            fragment: if is_kept {
+                self.fragment
+            } else {
+                Some(fragment)
+            },
+            later: self.later | (fragment.offset != 0),
             count,
         }
     }

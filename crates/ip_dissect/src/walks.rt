@@ -1,56 +1,12 @@
-//! The calls that answer for the packet at the start of any bytes: plain, walked, dissected and outlined.
+//! The calls that walk the packet at the start of any bytes: walked, dissected and outlined.
 ghost use Rattle.std.specs.Prelude.{◌≡◌, ◌++◌, ◌+◌, not, is_some, length, IfSome};
 ghost use Rattle.ip_dissect.specs.End.{has_error};
 ghost use Rattle.ip_dissect.specs.Dissection.{HasParts, dissected, base_of};
-ghost use Rattle.ip_dissect.specs.Outline.{outline_of, is_plain};
+ghost use Rattle.ip_dissect.specs.Outline.{outline_of};
 
-use crate::plain::{ipv4_plain, ipv6_plain};
-use crate::start::PacketStart;
-use crate::{BaseHeader, Dissection, HeaderVisitor, NoVisitor, Outline, Packet};
-use ip_base::{Ipv4HeaderSlice, Ipv6HeaderSlice};
+use crate::{Dissection, HeaderVisitor, NoVisitor, Outline, Packet, PacketStart};
 
 impl<'a> Packet<'a> {
-    /// Returns the packet at the start of `bytes`, which may be any bytes, if it has no extension headers, is no fragment
-    /// and has no error, and `None` for any other. It has no loop, so a caller that walks all other packets in a
-    /// function that isn't inlined saves time.
-    #[inline(always)]
-    pub fn plain(bytes: &'a [u8]) -> Option<Packet<'a>>
-        ensures plain { is_some result ≡ is_plain (dissected bytes.now) }
-        ensures bytes { IfSome result (λ packet. packet.bytes.now ≡ bytes.now) }
-    {
-        if bytes.is_empty() {
-            return None;
-        }
-        // not by `base_header`, with whose result the compiler selects the length of the header before it is known
-        match bytes[0] >> 4 {
-            4 => match Ipv4HeaderSlice::from_slice(bytes) {
-                Ok(base) => {
-                    let outline = ipv4_plain(base, bytes)?;
-                    let base = Some(BaseHeader::Ipv4(base));
-                    Some(Packet {
-                        bytes,
-                        base,
-                        outline,
-                    })
-                }
-                Err(_) => None,
-            },
-            6 => match Ipv6HeaderSlice::from_slice(bytes) {
-                Ok(base) => {
-                    let outline = ipv6_plain(base, bytes)?;
-                    let base = Some(BaseHeader::Ipv6(base));
-                    Some(Packet {
-                        bytes,
-                        base,
-                        outline,
-                    })
-                }
-                Err(_) => None,
-            },
-            _ => None,
-        }
-    }
-
     /// Walks the packet at the start of `bytes`, which may be any bytes: parses the base header, passes each extension
     /// header to the visitor once, and returns the packet.
     #[inline(always)]

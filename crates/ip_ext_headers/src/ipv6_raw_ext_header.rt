@@ -173,14 +173,15 @@ impl Ipv6RawExtHeader {
         let mut buffer = [0; Self::MAX_PAYLOAD_LEN];
         let payload = &mut buffer[..len];
         match reader.read_exact(payload) {
-            Ok(()) => Ok(Self::of_read(IpNumber(next_header), payload)),
+            Ok(()) => Ok(Self::filled_with(IpNumber(next_header), payload)),
             Err(e) => Err(e),
         }
     }
 
-    /// Returns the header that was read, which is made in its place (docs/DECISIONS.md, "Moves of large values").
+    /// Returns the header with this next header and payload, filled in its place (docs/DECISIONS.md, "Moves of large
+    /// values").
     #[inline(always)]
-    fn of_read(next_header: IpNumber, payload: &[u8]) -> Ipv6RawExtHeader
+    fn filled_with(next_header: IpNumber, payload: &[u8]) -> Ipv6RawExtHeader
         requires { IsPayloadLen (length payload.now) }
         ensures { result ≡ record { next_header = next_header.0; payload = payload.now } }
     {
@@ -218,7 +219,7 @@ impl Ipv6RawExtHeader {
         let mut buffer = [0; Self::MAX_PAYLOAD_LEN];
         let payload = &mut buffer[..8 * usize::from(hdr_ext_len) + 6];
         match reader.read_exact(payload) {
-            Ok(()) => Ok(Self::with_payload(IpNumber(next_header), payload)),
+            Ok(()) => Ok(Self::filled_with(IpNumber(next_header), payload)),
             Err(e) => Err(e),
         }
     }

@@ -11,7 +11,7 @@ use Rattle.ip_ext_slices.specs.declared.ipv6_exts_cursor.Ipv6ExtensionsCursor.{I
 
 -- the number and the bytes that it was created with
 abbrev pub start : Ipv6ExtensionsCursor → ℕ
-start c = c.first.0
+start c = c.start.0
 
 abbrev pub input : Ipv6ExtensionsCursor → List ℕ
 input c = c.bytes.now

@@ -18,14 +18,14 @@ use std::alloc::AllocError;
 #[derive(Debug, Drop)]
 pub struct Ipv6ExtensionsCursor<'a> {
     // Only `eq` reads it; the contracts of `next` and `end` refer to it.
-    first: IpNumber,
+    start: IpNumber,
     bytes: &'a [u8],
     number: IpNumber,
     rest: &'a [u8],
     pub ghost leads: { leads_to number.0 (longest_from (length rest.now == length bytes.now) number.0 rest.now)
-        ≡ leads_to first.0 (longest_chain first.0 bytes.now) },
+        ≡ leads_to start.0 (longest_chain start.0 bytes.now) },
     pub ghost after: { rest_after (longest_from (length rest.now == length bytes.now) number.0 rest.now) rest.now
-        ≡ rest_after (longest_chain first.0 bytes.now) bytes.now },
+        ≡ rest_after (longest_chain start.0 bytes.now) bytes.now },
     pub ghost within: { length rest.now ≤ length bytes.now },
 }
 
@@ -35,22 +35,22 @@ impl<'a> Ipv6ExtensionsCursor<'a> {
     ghost use Rattle.ip_ext_slices.specs.ChainAnswer.{IsChainAnswer};
     ghost use Rattle.ip_ext_slices.specs.Ipv6ExtensionsCursor.{start, input, number_left, bytes_left, headers_left};
 
-    /// Returns a cursor over the longest chain at the start of `bytes`, for the start number `first`.
+    /// Returns a cursor over the longest chain at the start of `bytes`, for this start number.
     #[inline(always)]
     #[tactic(auto, using(crate::proofs::LongestLemmas::longest_from_least))]
-    pub fn new(first: IpNumber, bytes: &'a [u8]) -> Ipv6ExtensionsCursor<'a>
-        ensures start { start result ≡ first.0 }
+    pub fn new(start_ip_number: IpNumber, bytes: &'a [u8]) -> Ipv6ExtensionsCursor<'a>
+        ensures start { start result ≡ start_ip_number.0 }
         ensures input { input result ≡ bytes.now }
-        ensures number { number_left result ≡ first.0 }
+        ensures number { number_left result ≡ start_ip_number.0 }
         ensures rest { bytes_left result ≡ bytes.now }
-        ensures headers { headers_left result ≡ longest_chain first.0 bytes.now }
-        ensures longest { IsLongestChain first.0 bytes.now (headers_left result) }
+        ensures headers { headers_left result ≡ longest_chain start_ip_number.0 bytes.now }
+        ensures longest { IsLongestChain start_ip_number.0 bytes.now (headers_left result) }
         ensures bound { 8 * length (headers_left result) ≤ length bytes.now }
     {
         Ipv6ExtensionsCursor {
-            first,
+            start: start_ip_number,
             bytes,
-            number: first,
+            number: start_ip_number,
             rest: bytes,
         }
     }
@@ -129,7 +129,7 @@ impl<'a> Clone for Ipv6ExtensionsCursor<'a> {
 
     fn clone(&self) -> Result<Ipv6ExtensionsCursor<'a>, AllocError> {
         Ok(Ipv6ExtensionsCursor {
-            first: self.first,
+            start: self.start,
             bytes: self.bytes,
             number: self.number,
             rest: self.rest,
@@ -151,7 +151,7 @@ impl PartialEq for Ipv6ExtensionsCursor<'_> {
         ensures answer { result ≡ same_cursor self.now other.now }
         ensures same { IsTrue result ↔ IsSameCursor self.now other.now }
     {
-        self.first == other.first
+        self.start == other.start
             && self.bytes == other.bytes
             && self.number == other.number
             && self.rest == other.rest

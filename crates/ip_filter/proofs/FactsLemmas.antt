@@ -1,7 +1,9 @@
 -- The extension headers of a packet, and their numbers.
 use Rattle.ip_spec.proofs.Common.{◌≡◌, ℕ, List, [], ◌∷◌, ◌++◌, refl, ◌∙◌, rules, arith, common_steps, bytes_of, ExtHeader, IsChain, IsHeader, AllByRecursion, Option, None, Some, Bool, true, false, ◌==◌, ◌||◌, ◌&&◌}
-use Rattle.std.proofs.Common.{get_or, set, inl, inr, length, ◌<◌, ◌≤◌}
-use Rattle.std.proofs.lemmas.List.{get_or-set_same, get_or-set_other}
+use Rattle.std.proofs.Common.{inl, inr, ◌<◌, ◌≤◌, ◌*◌, ◌%◌, ◌^◌, bit_or}
+use Rattle.std.specs.Int.{bit_at}
+use Rattle.std.proofs.lemmas.Nat.{pow_below}
+use Rattle.std.proofs.lemmas.Nat.Bits.{bit_at_or, bit_at-lt, bit_at-pow_same, bit_at-pow_other}
 use Rattle.std.proofs.lemmas.Bool.{cases_eq}
 use Rattle.ip_spec.specs.Header.{raw, fragment, auth}
 use Rattle.std.specs.List.{list_any}
@@ -46,12 +48,22 @@ none_larger n large (h ∷ c) all =
 number_more : (n : ℕ) (c : List ExtHeader) (h : ExtHeader) → has_number n (c ++ h ∷ []) ≡ (has_number n c || (h.number == n))
 number_more n c h = grind (arith, common_steps)
 
-pub set_more : (xs : List Bool) (k : ℕ) (b : List ℕ) (c : List ExtHeader) → length xs ≡ 64 → k < 64 → ((n : ℕ) → n < 64 → get_or xs n false ≡ has_number n c)
-    → (n : ℕ) → n < 64 → get_or (set xs k true) n false ≡ has_number n (c ++ record { number = k; bytes = b } ∷ [])
-set_more xs k b c e small are n less = elim (cases_eq n k) [
-  | inl same ↦ rw same (get_or-set_same xs k true false (omega (arith, e, small)) ∙ grind (arith, common_steps, number_more k c (record { number = k; bytes = b })))
-  | inr other ↦ get_or-set_other xs k n true false other ∙ are n less ∙ grind (arith, common_steps, number_more n c (record { number = k; bytes = b }))
-]
+-- the bit of a number below 64
+one_bit : (k w : ℕ) → k < w → 1 * 2 ^ k % 2 ^ w ≡ 2 ^ k
+one_bit k w less = grind (arith, common_steps, pow_below k w less)
+
+bit_same : (m k : ℕ) → (bit_at (bit_or m (2 ^ k)) k == 1) ≡ true
+bit_same m k = rw (bit_at_or m (2 ^ k) k, bit_at-pow_same k) (grind (arith, common_steps, bit_at-lt m k))
+
+bit_other : (m k n : ℕ) → (n ≡ k → ⊥) → (bit_at (bit_or m (2 ^ k)) n == 1) ≡ (bit_at m n == 1)
+bit_other m k n other = rw (bit_at_or m (2 ^ k) n, bit_at-pow_other k n other) (grind (arith, common_steps))
+
+pub set_more : (m k : ℕ) (b : List ℕ) (c : List ExtHeader) → k < 64 → ((n : ℕ) → n < 64 → (bit_at m n == 1) ≡ has_number n c)
+    → (n : ℕ) → n < 64 → (bit_at (bit_or m (1 * 2 ^ k % 2 ^ 64)) n == 1) ≡ has_number n (c ++ record { number = k; bytes = b } ∷ [])
+set_more m k b c small are n less = rw (one_bit k 64 small) (elim (cases_eq n k) [
+  | inl same ↦ rw same (bit_same m k ∙ grind (arith, common_steps, number_more k c (record { number = k; bytes = b })))
+  | inr other ↦ bit_other m k n other ∙ are n less ∙ grind (arith, common_steps, number_more n c (record { number = k; bytes = b }))
+])
 
 -- Without a header of the number, none has it and passes another test.
 pub none_passes : (n : ℕ) (q : ExtHeader → Bool) (c : List ExtHeader) → false ≡ has_number n c → false ≡ list_any (λ h. (h.number == n) && q h) c

@@ -1,12 +1,13 @@
 //! What terms ask of a packet.
-ghost use Rattle.std.specs.Prelude.{◌≡◌, ◌==◌, ◌&&◌, ◌||◌, [], false, IfSome};
+ghost use Rattle.std.specs.Prelude.{◌≡◌, ◌==◌, ◌&&◌, ◌||◌, true, false};
 ghost use Rattle.std.specs.List.{list_any};
-ghost use Rattle.std.specs.Option.{ForNone, ForSome, option_map_or};
+ghost use Rattle.std.specs.Option.{option_map_or};
 ghost use Rattle.ip_spec.specs.Numbers.{AUTHENTICATION};
 ghost use Rattle.ip_spec.specs.Fields.{auth_fields};
 ghost use Rattle.ip_ext_slices.specs.Longest.{longest_chain};
 ghost use Rattle.ip_ext_slices.specs.Ipv6ExtensionSlice.{header_of};
 ghost use Rattle.ip_dissect.specs.Dissection.{dissected};
+ghost use Rattle.ip_dissect.specs.Outline.{is_plain};
 ghost use Rattle.ip_filter.specs.NumberSet.{AreNumbersIn, has_number};
 ghost use Rattle.ip_filter.specs.Facts.{first_number};
 ghost use Rattle.ip_filter.specs.Truth.{is_first_kind, is_later_kind, fault_kind, fault_in, is_truncated};
@@ -24,23 +25,21 @@ use ip_ext_slices::{Ipv6ExtensionSlice, Ipv6ExtensionsCursor};
 #[derive(Clone, Copy, Debug)]
 pub(crate) struct Facts<'a> {
     pub(crate) packet: Packet<'a>,
-    /// `None` for a packet that is known to have no extension headers.
-    pub(crate) numbers: Option<&'a NumberSet>,
-    pub ghost some_are: { ForSome numbers (λ set. AreNumbersIn (dissected packet.bytes.now).headers set.now) },
-    pub ghost none_are: { ForNone numbers ((dissected packet.bytes.now).headers ≡ []) },
+    pub(crate) numbers: NumberSet,
+    pub ghost numbers_are: { AreNumbersIn (dissected packet.bytes.now).headers numbers },
 }
 
 impl<'a> Facts<'a> {
-    /// Returns those of a packet, if it has no extension headers, is no fragment and has no error.
+    /// Returns those of a packet that has no extension headers, is no fragment and has no error.
     #[inline(always)]
-    pub(crate) fn of_plain(bytes: &'a [u8]) -> Option<Facts<'a>>
-        ensures { IfSome result (λ facts. facts.packet.bytes.now ≡ bytes.now) }
+    pub(crate) fn of_plain(packet: Packet<'a>) -> Facts<'a>
+        requires { is_plain (dissected packet.bytes.now) ≡ true }
+        ensures { result.packet.bytes.now ≡ packet.entry.bytes.now }
     {
-        let packet = Packet::plain(bytes)?;
-        Some(Facts {
+        Facts {
             packet,
-            numbers: None,
-        })
+            numbers: NumberSet::none(),
+        }
     }
 
     /// Returns whether the packet has an extension header of this number.
@@ -48,10 +47,7 @@ impl<'a> Facts<'a> {
     pub(crate) fn has_number(&self, number: u8) -> bool
         ensures { result ≡ has_number number (dissected self.now.packet.bytes.now).headers }
     {
-        match self.numbers {
-            Some(numbers) => numbers.has(number),
-            None => false,
-        }
+        self.numbers.has(number)
     }
 
     /// Returns whether the packet has an authentication header with the security parameters index. Walks the extension

@@ -5,9 +5,8 @@ ghost use Rattle.ip_dissect.specs.Dissection.{dissected};
 ghost use Rattle.ip_filter.specs.Truth.{compares, holds, kind_index};
 
 use crate::facts::{Facts, fragment_is};
-use crate::number_set::NumberSet;
-use crate::{Comparison, FaultKind, Term};
-use ip_dissect::Packet;
+use crate::steps::own_steps_match;
+use crate::{Comparison, FaultKind, Step, StepKind, Term};
 
 impl Comparison {
     /// Returns whether the count compares so with the number.
@@ -55,12 +54,13 @@ impl Term {
     pub fn holds(&self, bytes: &[u8]) -> bool
         ensures { result ≡ holds self.now (dissected bytes.now) }
     {
-        let mut numbers = NumberSet::none();
-        let packet = Packet::walk(bytes, &mut numbers);
-        self.is_met(&Facts {
-            packet,
-            numbers: Some(&numbers),
-        })
+        own_steps_match(
+            &[Step {
+                kind: StepKind::Term(*self),
+                nots: 0,
+            }],
+            bytes,
+        )
     }
 
     /// Returns whether the term holds of a packet with these facts.

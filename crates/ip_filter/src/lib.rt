@@ -14,6 +14,7 @@ mod numbers;
 mod parse;
 mod parse_error;
 mod parse_term;
+mod question;
 mod steps;
 mod term;
 mod words;

@@ -8,13 +8,13 @@ use ip_base::IpNumber;
 use ip_dissect::HeaderVisitor;
 
 /// More than the number of any extension header.
-const NUMBERS: usize = 64;
+const NUMBERS: u8 = 64;
 
 /// Which numbers the extension headers of a packet have.
 #[derive(Clone, Copy, Debug)]
 pub(crate) struct NumberSet {
-    /// At each number, whether a header has it.
-    present: [bool; NUMBERS],
+    /// The bit of each number says whether a header has it.
+    bits: u64,
 }
 
 impl NumberSet {
@@ -25,9 +25,7 @@ impl NumberSet {
     pub(crate) fn none() -> NumberSet
         ensures { AreNumbersIn [] result }
     {
-        NumberSet {
-            present: [false; NUMBERS],
-        }
+        NumberSet { bits: 0 }
     }
 
     /// Returns whether an extension header has the number.
@@ -36,8 +34,7 @@ impl NumberSet {
         ensures { (c : List ExtHeader) → AllByRecursion (λ h. IsHeader h.number h.bytes) c
             → AreNumbersIn c self.now → result ≡ has_number number c }
     {
-        let number = usize::from(number);
-        number < NUMBERS && self.present[number]
+        number < NUMBERS && (self.bits >> number) & 1 == 1
     }
 }
 
@@ -50,6 +47,6 @@ impl HeaderVisitor for NumberSet {
 
     #[inline(always)]
     fn visit(&mut self, number: IpNumber, _header: &[u8], _index: usize, _offset: usize) {
-        self.present[usize::from(number.0)] = true;
+        self.bits |= 1 << number.0;
     }
 }

@@ -9,15 +9,14 @@ ghost use Rattle.ip_filter.specs.declared.filter.StepKind.TheVariants.{And, Or};
 ghost use Rattle.ip_filter.specs.declared.filter.Step.{Step};
 
 use crate::facts::Facts;
-use crate::number_set::NumberSet;
+use crate::question::{Question, ask};
 use crate::{Step, StepKind, Term};
-use ip_dissect::Packet;
 
 /// The most steps of a filter: 64 terms, and an operator between each two.
 const MAX_STEPS: usize = 127;
 
 /// What can be read as a step of a filter.
-pub trait AsStep {
+pub trait AsStep: Copy {
     ghost step_of: { Self → Step };
 
     /// Returns the step.
@@ -41,28 +40,22 @@ pub fn steps_match<S: AsStep>(steps: &[S], bytes: &[u8]) -> bool
     ensures { result ≡ last_holds (read_after [] (map S.step_of (take 127 steps.now)))
         (λ t. holds t (dissected bytes.now)) }
 {
-    match Facts::of_plain(bytes) {
-        Some(facts) => evaluate(steps, Some(&facts)),
-        None => steps_match_any(steps, bytes),
-    }
+    ask(AnySteps { steps }, bytes)
 }
 
-/// Evaluates the steps for any packet. It is kept out of line, since most packets have no extension headers: much of
-/// what terms ask of those is known at compile time.
-#[inline(never)]
-fn steps_match_any<S: AsStep>(steps: &[S], bytes: &[u8]) -> bool
-    ensures { result ≡ last_holds (read_after [] (map S.step_of (take 127 steps.now)))
-        (λ t. holds t (dissected bytes.now)) }
-{
-    let mut numbers = NumberSet::none();
-    let packet = Packet::walk(bytes, &mut numbers);
-    evaluate(
-        steps,
-        Some(&Facts {
-            packet,
-            numbers: Some(&numbers),
-        }),
-    )
+/// Steps of any form, of which the first 127 are evaluated.
+#[derive(Clone, Copy, Debug)]
+struct AnySteps<'s, S> {
+    steps: &'s [S],
+}
+
+impl<S: AsStep> Question for AnySteps<'_, S> {
+    ghost is_yes = { λ q h. last_holds (read_after [] (map S.step_of (take 127 q.steps.now))) h };
+
+    #[inline(always)]
+    fn ask(self, packet: Option<&Facts<'_>>) -> bool {
+        evaluate(self.steps, packet)
+    }
 }
 
 /// Returns whether the formula of the first 127 steps holds of a frame that is not IP: no term holds of it.
@@ -81,27 +74,23 @@ pub(crate) fn own_steps_match(steps: &[Step], bytes: &[u8]) -> bool
     requires { length steps.now ≤ 127 }
     ensures { result ≡ last_holds (read_after [] steps.now) (λ t. holds t (dissected bytes.now)) }
 {
-    match Facts::of_plain(bytes) {
-        Some(facts) => evaluate_own(steps, Some(&facts)),
-        None => own_steps_match_any(steps, bytes),
-    }
+    ask(OwnSteps { steps }, bytes)
 }
 
-/// Evaluates a filter's own steps for any packet.
-#[inline(never)]
-fn own_steps_match_any(steps: &[Step], bytes: &[u8]) -> bool
-    requires { length steps.now ≤ 127 }
-    ensures { result ≡ last_holds (read_after [] steps.now) (λ t. holds t (dissected bytes.now)) }
-{
-    let mut numbers = NumberSet::none();
-    let packet = Packet::walk(bytes, &mut numbers);
-    evaluate_own(
-        steps,
-        Some(&Facts {
-            packet,
-            numbers: Some(&numbers),
-        }),
-    )
+/// A filter's own steps.
+#[derive(Clone, Copy, Debug)]
+struct OwnSteps<'s> {
+    steps: &'s [Step],
+    ghost few: { length steps.now ≤ 127 },
+}
+
+impl Question for OwnSteps<'_> {
+    ghost is_yes = { λ q h. last_holds (read_after [] q.steps.now) h };
+
+    #[inline(always)]
+    fn ask(self, packet: Option<&Facts<'_>>) -> bool {
+        evaluate_own(self.steps, packet)
+    }
 }
 
 /// Returns whether the formula of the first 127 steps holds of the packet. Without a packet no term holds.

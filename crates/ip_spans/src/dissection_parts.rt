@@ -1,15 +1,18 @@
 //! A dissected packet in plain fields.
 ghost use Rattle.std.specs.Prelude.{◌≡◌, ◌+◌, length};
 ghost use Rattle.std.specs.Option.{option_map_or};
+ghost use Rattle.std.proofs.Common.{rules};
 ghost use Rattle.ip_dissect.specs.Dissection.{dissected};
 ghost use Rattle.ip_codes.specs.Codes.{fragment_code, end_code};
-ghost use Rattle.ip_spans.specs.HeaderSpan.{filled};
-ghost use Rattle.ip_spans.specs.DissectionParts.{dissection_parts, dissected_spans, end_fields};
+ghost use Rattle.ip_spans.specs.HeaderSpan.{filled, spans_from};
+ghost use Rattle.ip_spans.specs.DissectionParts.{dissection_parts, dissected_spans, end_fields, AreStored};
 
 use crate::fault_fields::FaultFields;
-use crate::header_span::{HeaderSpan, HeaderSpans};
+use crate::fields::Fields;
+use crate::header_span::HeaderSpan;
+use ip_base::IpNumber;
 use ip_codes::{end_code_of, kind_code_of};
-use ip_dissect::{Fragment, Packet};
+use ip_dissect::{Fragment, HeaderVisitor, Packet, PacketStart, PacketVisitor};
 
 /// A dissected packet: its parts as lengths and offsets, which fragment it is, and why its headers end where they do.
 #[repr(C)]
@@ -55,24 +58,56 @@ pub fn dissect_packet(bytes: &[u8], spans: &mut [HeaderSpan], parts: &mut Dissec
     ensures within { parts.new.payload_offset + parts.new.payload_len + parts.new.padding
         ≡ length bytes.now }
 {
-    match Packet::plain(bytes) {
-        Some(packet) => parts.put(&packet),
-        None => put_walked(bytes, spans, parts),
+    let _ = Packet::visit(bytes, &mut PartsAndSpans { parts, spans });
+}
+
+/// Where the parts of a packet and the spans of its extension headers are stored.
+#[derive(Debug, Drop)]
+struct PartsAndSpans<'p, 's> {
+    parts: &'p mut DissectionParts,
+    spans: &'s mut [HeaderSpan],
+}
+
+impl HeaderVisitor for PartsAndSpans<'_, '_> {
+    ghost visited = { λ old k c new. (new.parts.ghost_name ≡ old.parts.ghost_name)
+        × (new.spans.ghost_name ≡ old.spans.ghost_name)
+        × (new.spans.now ≡ filled (spans_from k c) old.spans.now) };
+
+    ghost none = { Prim.search rules };
+
+    /// Stores the span of the header, if it fits.
+    #[inline(always)]
+    fn visit(&mut self, number: IpNumber, header: &[u8], index: usize, offset: usize) {
+        if index < self.spans.len() {
+            self.spans[index].put(HeaderSpan {
+                offset,
+                len: header.len(),
+                number: number.0,
+                next_header: header[0],
+            });
+        }
     }
 }
 
-/// Walks the extension headers, and stores their spans and the parts of the packet. It is kept out of line, since most
-/// packets have no extension headers.
-#[inline(never)]
-fn put_walked(bytes: &[u8], spans: &mut [HeaderSpan], parts: &mut DissectionParts)
-    ensures parts { parts.new ≡ dissection_parts (dissected bytes.now) }
-    ensures spans { spans.new ≡ filled (dissected_spans (dissected bytes.now)) spans.old }
-    ensures within { parts.new.payload_offset + parts.new.payload_len + parts.new.padding
-        ≡ length bytes.now }
-{
-    let mut visitor = HeaderSpans { spans };
-    let packet = Packet::walk(bytes, &mut visitor);
-    parts.put(&packet);
+impl<'a> PacketVisitor<'a> for PartsAndSpans<'_, '_> {
+    type Plain = ();
+
+    type Other = ();
+
+    ghost plain = { λ old s new _. AreStored old s new };
+
+    ghost other = { λ old s new _. AreStored old s new };
+
+    #[inline(always)]
+    fn visit_plain(&mut self, packet: Packet<'a>) {
+        self.parts.put(&packet);
+    }
+
+    #[inline(always)]
+    fn visit_other(&mut self, start: PacketStart<'a>) {
+        let packet = start.walk(self);
+        self.parts.put(&packet);
+    }
 }
 
 impl DissectionParts {

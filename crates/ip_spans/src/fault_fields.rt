@@ -10,6 +10,7 @@ ghost use Rattle.ip_spans.specs.FaultFields.{headers_error_fields, packet_fault_
 ghost use Rattle.ip_spans.specs.FaultFields.{ipv6_fault_fields};
 ghost use Rattle.ip_spans.specs.DissectionParts.{end_fields};
 
+use crate::fields::Fields;
 use etherparse_ip::err::ipv6;
 use ip_base::LenSource;
 use ip_base::err::{Layer, LenError, ip};
@@ -39,22 +40,21 @@ pub struct FaultFields {
     pub value: u32,
 }
 
-impl FaultFields {
-    /// Stores the error here, field by field.
+impl Fields for FaultFields {
     #[inline(always)]
-    pub fn put(&mut self, fault: FaultFields)
-        ensures { self.new ≡ fault }
-    {
-        self.required_len = fault.required_len;
-        self.len = fault.len;
-        self.offset = fault.offset;
-        self.kind = fault.kind;
-        self.header = fault.header;
-        self.layer = fault.layer;
-        self.len_source = fault.len_source;
-        self.value = fault.value;
+    fn put(&mut self, fields: FaultFields) {
+        self.required_len = fields.required_len;
+        self.len = fields.len;
+        self.offset = fields.offset;
+        self.kind = fields.kind;
+        self.header = fields.header;
+        self.layer = fields.layer;
+        self.len_source = fields.len_source;
+        self.value = fields.value;
     }
+}
 
+impl FaultFields {
     /// Returns the fields of no error.
     #[inline(always)]
     pub(crate) fn none() -> FaultFields
@@ -214,7 +214,7 @@ impl FaultFields {
 }
 
 /// Returns the layer with this code, if there is one.
-pub(crate) fn layer_of(code: u8) -> Option<Layer>
+pub(crate) fn layer_with_code(code: u8) -> Option<Layer>
     ensures some { IfSome result (λ layer. layer_code layer ≡ code) }
     ensures none { IfNone result ((layer : Layer) → layer_code layer ≡ code → ⊥) }
 {

@@ -1,14 +1,13 @@
 //! The spans of extension headers, and how they are stored.
 ghost use Rattle.std.specs.Prelude.{◌≡◌, ◌+◌, ◌<◌, ◌^◌, length};
-ghost use Rattle.std.proofs.Common.{rules};
 ghost use Rattle.ip_spec.specs.Chain.{bytes_of};
 ghost use Rattle.ip_ext_slices.specs.Ipv6ExtensionSlice.{header_of};
 ghost use Rattle.ip_ext_slices.specs.Ipv6ExtensionsSlice.{bytes, headers_in};
 ghost use Rattle.ip_ext_slices.specs.Ipv4ExtensionsSlice.{headers_in as ipv4_headers_in};
 ghost use Rattle.ip_spans.specs.HeaderSpan.{header_span, spans_from, filled};
 
-use ip_base::{IpNumber, ip_number};
-use ip_dissect::HeaderVisitor;
+use crate::fields::Fields;
+use ip_base::ip_number;
 use ip_ext_slices::{Ipv4ExtensionsSlice, Ipv6ExtensionSlice, Ipv6ExtensionsSlice};
 
 /// The span of an extension header in the caller's bytes, its number and its next header.
@@ -38,42 +37,15 @@ impl HeaderSpan {
             next_header: header.next_header().0,
         }
     }
-
-    /// Stores the span here, field by field, so that the padding after the fields isn't moved with them.
-    #[inline(always)]
-    pub(crate) fn put(&mut self, span: HeaderSpan)
-        ensures { self.new ≡ span }
-    {
-        self.offset = span.offset;
-        self.len = span.len;
-        self.number = span.number;
-        self.next_header = span.next_header;
-    }
 }
 
-/// A visitor that stores the span of each extension header at the front of an array, as many as fit.
-#[derive(Debug, Drop)]
-pub struct HeaderSpans<'s> {
-    /// The array.
-    pub spans: &'s mut [HeaderSpan],
-}
-
-impl HeaderVisitor for HeaderSpans<'_> {
-    ghost visited = { λ old k c new. (new.spans.ghost_name ≡ old.spans.ghost_name)
-        × (new.spans.now ≡ filled (spans_from k c) old.spans.now) };
-
-    ghost none = { Prim.search rules };
-
+impl Fields for HeaderSpan {
     #[inline(always)]
-    fn visit(&mut self, number: IpNumber, header: &[u8], index: usize, offset: usize) {
-        if index < self.spans.len() {
-            self.spans[index].put(HeaderSpan {
-                offset,
-                len: header.len(),
-                number: number.0,
-                next_header: header[0],
-            });
-        }
+    fn put(&mut self, fields: HeaderSpan) {
+        self.offset = fields.offset;
+        self.len = fields.len;
+        self.number = fields.number;
+        self.next_header = fields.next_header;
     }
 }
 

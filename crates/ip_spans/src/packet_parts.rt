@@ -9,6 +9,7 @@ ghost use Rattle.ip_spans.specs.PacketParts.{IsPacketParts, packet_parts, packet
 ghost use Rattle.ip_codes.specs.Codes.{len_source_code};
 
 use crate::fault_fields::FaultFields;
+use crate::fields::Fields;
 use crate::header_span::{HeaderSpan, put_ipv4_span, put_spans};
 use etherparse_ip::{IpPayloadSlice, IpSlice, Ipv4Slice, Ipv6Slice};
 use ip_codes::len_source_code_of;
@@ -72,6 +73,20 @@ pub fn parse_packet_lax(bytes: &[u8], spans: &mut [HeaderSpan]) -> Result<Packet
     }
 }
 
+impl Fields for PacketParts {
+    #[inline(always)]
+    fn put(&mut self, fields: PacketParts) {
+        self.base_len = fields.base_len;
+        self.headers = fields.headers;
+        self.payload_offset = fields.payload_offset;
+        self.payload_len = fields.payload_len;
+        self.version = fields.version;
+        self.payload_number = fields.payload_number;
+        self.fragmented = fields.fragmented;
+        self.len_source = fields.len_source;
+    }
+}
+
 impl PacketParts {
     /// Returns the fields of an IPv4 packet.
     #[inline(always)]
@@ -94,21 +109,6 @@ impl PacketParts {
         let len = packet.extensions().slice().len();
         let headers = put_spans(packet.extensions(), base_len, spans);
         Self::with_payload(6, base_len, headers, base_len + len, packet.payload())
-    }
-
-    /// Stores the fields here, one by one.
-    #[inline(always)]
-    pub fn put(&mut self, parts: PacketParts)
-        ensures { self.new ≡ parts }
-    {
-        self.base_len = parts.base_len;
-        self.headers = parts.headers;
-        self.payload_offset = parts.payload_offset;
-        self.payload_len = parts.payload_len;
-        self.version = parts.version;
-        self.payload_number = parts.payload_number;
-        self.fragmented = parts.fragmented;
-        self.len_source = parts.len_source;
     }
 
     /// Returns the fields of a packet with this payload.

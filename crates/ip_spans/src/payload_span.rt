@@ -9,6 +9,7 @@ ghost use Rattle.ip_spans.specs.PacketParts.{payload_span, parts_in, packet_faul
 ghost use Rattle.ip_codes.specs.Codes.{len_source_code};
 
 use crate::fault_fields::FaultFields;
+use crate::fields::Fields;
 use etherparse_ip::{IpPayloadSlice, IpSlice, Ipv4Slice, Ipv6Slice};
 use ip_codes::len_source_code_of;
 
@@ -63,6 +64,19 @@ pub fn find_payload_lax(bytes: &[u8]) -> Result<PayloadSpan, FaultFields>
     }
 }
 
+impl Fields for PayloadSpan {
+    #[inline(always)]
+    fn put(&mut self, fields: PayloadSpan) {
+        self.base_len = fields.base_len;
+        self.offset = fields.offset;
+        self.len = fields.len;
+        self.version = fields.version;
+        self.number = fields.number;
+        self.fragmented = fields.fragmented;
+        self.len_source = fields.len_source;
+    }
+}
+
 impl PayloadSpan {
     /// Returns the payload of an IPv4 packet.
     #[inline(always)]
@@ -85,20 +99,6 @@ impl PayloadSpan {
         let base_len = packet.header().slice().len();
         let len = packet.extensions().slice().len();
         Self::new(6, base_len, base_len + len, packet.payload())
-    }
-
-    /// Stores the fields here, one by one.
-    #[inline(always)]
-    pub fn put(&mut self, span: PayloadSpan)
-        ensures { self.new ≡ span }
-    {
-        self.base_len = span.base_len;
-        self.offset = span.offset;
-        self.len = span.len;
-        self.version = span.version;
-        self.number = span.number;
-        self.fragmented = span.fragmented;
-        self.len_source = span.len_source;
     }
 
     /// Returns the fields of this payload, which starts at the offset.

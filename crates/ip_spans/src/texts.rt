@@ -1,7 +1,7 @@
 //! The texts of errors.
 ghost use Rattle.std.specs.Prelude.{◌≡◌, ◌≤◌, ◌<◌, ◌+◌, drop, length, slice_index};
 
-use crate::fault_fields::{FaultFields, layer_of, len_source_of};
+use crate::fault_fields::{FaultFields, layer_with_code, len_source_of};
 use crate::filter_parse::expected_of;
 use arrayvec::ArrayString;
 use ip_base::LenSource;
@@ -100,8 +100,10 @@ fn push_words(fault: &FaultFields, words: &mut ArrayString<TEXT_LEN>) -> std::fm
 
 /// Appends the text of a length error.
 fn push_len_words(fault: &FaultFields, words: &mut ArrayString<TEXT_LEN>) -> std::fmt::Result {
-    let (Some(layer), Some(len_source)) = (layer_of(fault.layer), len_source_of(fault.len_source))
-    else {
+    let (Some(layer), Some(len_source)) = (
+        layer_with_code(fault.layer),
+        len_source_of(fault.len_source),
+    ) else {
         return Ok(());
     };
     let error = LenError {

@@ -7,6 +7,8 @@ use Rattle.ip_dissect.specs.Dissection.{DissectedParts}
 use Rattle.ip_dissect.specs.Outline.{is_plain}
 use Rattle.ip_statistics.specs.Counts.{all_added, each_below, one_if}
 use Rattle.ip_statistics.specs.HeaderCounts.{number_counts}
+use Rattle.ip_statistics.specs.Statistics.{merged}
+use Rattle.ip_statistics.specs.declared.statistics.Statistics.{Statistics}
 use Rattle.ip_statistics.proofs.CountLemmas.{each_below_same, length-all_added, length-each_below, sum_of_none, sum_of_sums}
 
 -- the headers in a list with the number k
@@ -37,3 +39,7 @@ no_empty (h ∷ c) e = cc
 
 pub plain_counts : (xs : List ℕ) (p : DissectedParts) → is_plain p ≡ true → xs ≡ all_added xs (number_counts []) → xs ≡ all_added xs (number_counts p.headers)
 plain_counts xs p is none = none ∙ ap (λ hs. all_added xs (number_counts hs)) (sym (no_empty p.headers (search rules)))
+
+-- The headers are counted by number before all else.
+pub headers_first : (a b new : Statistics) (hs : List ℕ) → new ≡ record (merged (record a { headers = hs }) b) { headers = hs } → hs ≡ all_added a.headers b.headers → new ≡ merged a b
+headers_first a b new hs e f = e ∙ ap (λ zs. record (merged a b) { headers = zs }) f

@@ -5,11 +5,12 @@ ghost use Rattle.ip_statistics.specs.Packet.{is_fragment_of};
 
 use crate::Statistics;
 use crate::counts::{add, count_at, count_if};
-use crate::faults::{index_of, layer_of};
+use crate::faults::{index_of, layer_code_at};
 use crate::headers::{HeaderCounts, count_none};
 use crate::lengths::count_length;
 use ip_codes::{end_code_of, kind_code_of};
-use ip_dissect::{End, Fragment, FragmentKind, Outline, Packet};
+use ip_dissect::FragmentKind::{Atomic, First, Last, Middle};
+use ip_dissect::{End, Fragment, FragmentKind, Outline, Packet, PacketStart, PacketVisitor};
 
 /// The codes of ends.
 mod at {
@@ -49,7 +50,6 @@ impl Statistics {
     ghost use Rattle.ip_dissect.specs.Dissection.{DissectedParts, dissected};
     ghost use Rattle.ip_dissect.specs.Outline.{outline_of};
     ghost use Rattle.ip_statistics.specs.Packet.{counts_of};
-    ghost use Rattle.ip_statistics.specs.Steps.{version_added, fragment_added, chain_added, end_added, payload_added};
     ghost use Rattle.ip_statistics.specs.Statistics.{merged};
     ghost use Rattle.ip_statistics.specs.Lists.{statistics_of};
 
@@ -60,27 +60,7 @@ impl Statistics {
         ensures packets { (xs : List (List ℕ)) → self.old ≡ statistics_of xs
             → self.new ≡ statistics_of (bytes.now ∷ xs) }
     {
-        match Packet::plain(bytes) {
-            Some(packet) => {
-                count_none(&self.headers);
-                self.add_packet(&packet);
-            }
-            None => self.count_walked(bytes),
-        }
-    }
-
-    /// Walks the extension headers, and counts the packet and them. It is kept out of line, since most packets have no
-    /// extension headers: counting those then needs no loop, and no registers that would have to be saved.
-    #[inline(never)]
-    fn count_walked(&mut self, bytes: &[u8])
-        ensures { self.new ≡ merged self.old (counts_of (dissected bytes.now)) }
-    {
-        count_none(&self.headers);
-        let mut headers = HeaderCounts {
-            counts: &mut self.headers,
-        };
-        let packet = Packet::walk(bytes, &mut headers);
-        self.add_packet(&packet);
+        let _ = Packet::visit(bytes, self);
     }
 
     /// Adds all counts of a packet but those of its extension headers by number.
@@ -99,92 +79,72 @@ impl Statistics {
         ensures { (p : DissectedParts) → outline.now ≡ outline_of p → end.now ≡ p.end
             → self.new ≡ record (merged self.old (counts_of p)) { headers = self.old.headers } }
     {
-        self.add_version(outline.version, outline.missing);
-        self.add_fragment(outline.fragment);
-        self.add_chain(
-            outline.version != 0,
-            outline.header_count,
-            outline.extensions_len,
-        );
-        self.add_end(end);
-        self.add_payload(end, outline.next_header.0, outline.payload_len);
-    }
-
-    /// Counts a packet by its version, and whether bytes are missing.
-    #[inline(always)]
-    fn add_version(&mut self, version: u8, missing: usize)
-        ensures { self.new ≡ version_added version missing self.old }
-    {
-        count_if(&mut self.ipv6, version == 6);
-        count_if(&mut self.ipv4, version == 4);
-        count_if(&mut self.without_header, version == 0);
+        count_if(&mut self.ipv6, outline.version == 6);
+        count_if(&mut self.ipv4, outline.version == 4);
+        count_if(&mut self.without_header, outline.version == 0);
         add(&mut self.packets, 1);
-        count_if(&mut self.incomplete, missing != 0);
-    }
-
-    /// Counts a packet by which fragment it is.
-    #[inline(always)]
-    fn add_fragment(&mut self, fragment: Option<Fragment>)
-        ensures { self.new ≡ fragment_added fragment self.old }
-    {
-        count_if(
-            &mut self.atomic_fragments,
-            is_of_kind(fragment, FragmentKind::Atomic),
-        );
-        count_if(
-            &mut self.first_fragments,
-            is_of_kind(fragment, FragmentKind::First),
-        );
-        count_if(
-            &mut self.middle_fragments,
-            is_of_kind(fragment, FragmentKind::Middle),
-        );
-        count_if(
-            &mut self.last_fragments,
-            is_of_kind(fragment, FragmentKind::Last),
-        );
-    }
-
-    /// Counts a chain by its number of headers and its length in bytes.
-    #[inline(always)]
-    fn add_chain(&mut self, has_chain: bool, header_count: usize, len: usize)
-        ensures { self.new ≡ chain_added has_chain header_count len self.old }
-    {
-        count_at(&mut self.chain_headers, header_count.min(16), has_chain);
-        count_length(&mut self.chain_bytes, len, has_chain);
-    }
-
-    /// Counts a packet by why its headers end, and its truncated or faulty header.
-    #[inline(always)]
-    fn add_end(&mut self, end: &End)
-        ensures { self.new ≡ end_added end.now self.old }
-    {
+        count_if(&mut self.incomplete, outline.missing != 0);
+        let fragment = outline.fragment;
+        count_if(&mut self.atomic_fragments, is_of_kind(fragment, Atomic));
+        count_if(&mut self.first_fragments, is_of_kind(fragment, First));
+        count_if(&mut self.middle_fragments, is_of_kind(fragment, Middle));
+        count_if(&mut self.last_fragments, is_of_kind(fragment, Last));
+        let has_chain = outline.version != 0;
+        let header_count = outline.header_count.min(16);
+        count_at(&mut self.chain_headers, header_count, has_chain);
+        count_length(&mut self.chain_bytes, outline.extensions_len, has_chain);
         let code = end_code_of(end);
         count_if(&mut self.at_payload, code == at::PAYLOAD);
         count_if(&mut self.at_later_fragment, code == at::LATER_FRAGMENT);
         count_if(&mut self.at_truncated_header, code == at::TRUNCATED_HEADER);
         count_if(&mut self.at_fault, code == at::FAULT);
+        let layer = usize::from(layer_code_at(end));
         count_at(
             &mut self.truncated_headers,
-            usize::from(layer_of(end)),
+            layer,
             code == at::TRUNCATED_HEADER,
         );
         count_at(&mut self.faults, index_of(end), code == at::FAULT);
-    }
-
-    /// Counts a payload by its protocol number, and its bytes.
-    #[inline(always)]
-    fn add_payload(&mut self, end: &End, number: u8, len: usize)
-        ensures { self.new ≡ payload_added end.now number len self.old }
-    {
-        let code = end_code_of(end);
-        let number = usize::from(number);
-        add(&mut self.payload_bytes, payload_bytes(end, len));
+        add(
+            &mut self.payload_bytes,
+            payload_bytes(end, outline.payload_len),
+        );
+        let number = usize::from(outline.next_header.0);
         count_at(&mut self.payload_numbers, number, code == at::PAYLOAD);
         count_at(
             &mut self.later_fragment_numbers,
             number,
             code == at::LATER_FRAGMENT,
         );
+    }
+}
+
+impl<'a> PacketVisitor<'a> for Statistics {
+    ghost use Rattle.ip_dissect.specs.Dissection.{dissected};
+    ghost use Rattle.ip_statistics.specs.Packet.{counts_of};
+    ghost use Rattle.ip_statistics.specs.Statistics.{merged};
+
+    type Plain = ();
+
+    type Other = ();
+
+    ghost plain = { λ old s new _. new ≡ merged old (counts_of (dissected s)) };
+
+    ghost other = { λ old s new _. new ≡ merged old (counts_of (dissected s)) };
+
+    #[inline(always)]
+    fn visit_plain(&mut self, packet: Packet<'a>) {
+        count_none(&self.headers);
+        self.add_packet(&packet);
+    }
+
+    #[inline(always)]
+    fn visit_other(&mut self, start: PacketStart<'a>) {
+        count_none(&self.headers);
+        let mut headers = HeaderCounts {
+            counts: &mut self.headers,
+        };
+        let packet = start.walk(&mut headers);
+        self.add_packet(&packet);
     }
 }

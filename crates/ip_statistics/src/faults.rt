@@ -9,7 +9,7 @@ use ip_dissect::End;
 
 /// Returns the code of the header or packet that is truncated or faulty, and 0 if none is.
 #[inline(always)]
-pub(crate) fn layer_of(end: &End) -> u8
+pub(crate) fn layer_code_at(end: &End) -> u8
     ensures { result ≡ faulty_layer end.now }
 {
     match end {
@@ -40,7 +40,7 @@ pub(crate) fn index_of(end: &End) -> usize
 {
     match end {
         End::Fault { error, .. } => {
-            16 * usize::from(error_kind_of(error)) + usize::from(layer_of(end))
+            16 * usize::from(error_kind_of(error)) + usize::from(layer_code_at(end))
         }
         _ => 0,
     }

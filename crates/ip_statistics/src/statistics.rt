@@ -53,6 +53,7 @@ impl Statistics {
     ghost use Rattle.ip_statistics.specs.Statistics.{nothing};
 
     /// Returns the statistics of no packets.
+    #[inline(always)]
     pub fn new() -> Statistics
         ensures { result ≡ nothing }
     {
@@ -85,26 +86,6 @@ impl Statistics {
     pub fn clear(&mut self)
         ensures { self.new ≡ nothing }
     {
-        self.packets = 0;
-        self.without_header = 0;
-        self.ipv4 = 0;
-        self.ipv6 = 0;
-        self.at_payload = 0;
-        self.at_later_fragment = 0;
-        self.at_truncated_header = 0;
-        self.at_fault = 0;
-        self.atomic_fragments = 0;
-        self.first_fragments = 0;
-        self.middle_fragments = 0;
-        self.last_fragments = 0;
-        self.incomplete = 0;
-        self.payload_bytes = 0;
-        self.chain_headers = [0; 17];
-        self.chain_bytes = [0; 73];
-        self.headers = [0; 256];
-        self.payload_numbers = [0; 256];
-        self.later_fragment_numbers = [0; 256];
-        self.truncated_headers = [0; 16];
-        self.faults = [0; 128];
+        *self = Statistics::new();
     }
 }

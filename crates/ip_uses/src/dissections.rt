@@ -5,7 +5,7 @@ ghost use Rattle.ip_dissect.specs.Outline.{is_plain};
 ghost use Rattle.ip_dissect.specs.declared.end.End.TheVariants.{Payload};
 
 use etherparse_ip::IpNumber;
-use ip_dissect::{Dissection, End, Packet};
+use ip_dissect::{Dissection, End, Packet, PacketStart, PacketVisitor, Visited};
 
 /// Returns the protocol number of the payload, if it starts here: the headers before it are whole, and the packet is
 /// not a later fragment.
@@ -21,6 +21,27 @@ pub fn upper_layer(packet: &Dissection<'_>) -> Option<IpNumber>
     }
 }
 
+/// A visitor that returns the payload's protocol number and its length in bytes, if the packet is plain.
+#[derive(Drop)]
+struct PlainPayload;
+
+impl<'a> PacketVisitor<'a> for PlainPayload {
+    type Plain = (IpNumber, usize);
+
+    type Other = ();
+
+    ghost plain = { λ old s new x.
+        (x.0.0 ≡ (dissected s).number) × (x.1 ≡ length (dissected s).payload) };
+
+    ghost other = { λ old s new _. new ≡ old };
+
+    fn visit_plain(&mut self, packet: Packet<'a>) -> (IpNumber, usize) {
+        (packet.outline.next_header, packet.outline.payload_len)
+    }
+
+    fn visit_other(&mut self, _start: PacketStart<'a>) {}
+}
+
 /// Returns the payload's protocol number and its length in bytes, if the packet has no extension headers, is no
 /// fragment, and its headers are whole.
 pub fn plain_payload(bytes: &[u8]) -> Option<(IpNumber, usize)>
@@ -28,6 +49,8 @@ pub fn plain_payload(bytes: &[u8]) -> Option<(IpNumber, usize)>
     ensures number { IfSome result (λ x. x.0.0 ≡ (dissected bytes.now).number) }
     ensures len { IfSome result (λ x. x.1 ≡ length (dissected bytes.now).payload) }
 {
-    let packet = Packet::plain(bytes)?;
-    Some((packet.outline.next_header, packet.outline.payload_len))
+    match Packet::visit(bytes, &mut PlainPayload) {
+        Visited::Plain(payload) => Some(payload),
+        Visited::Other(()) => None,
+    }
 }

@@ -1,10 +1,11 @@
 //! Whole packets dissected: each part of each row is worked out by hand from RFC 791, RFC 4302 and RFC 8200.
 use crate::checks::assert_same;
+use crate::plain_outline::plain_outline;
 use crate::samples::{ipv4_bytes, ipv6_bytes, len_error_at};
 use etherparse_ip::LenSource;
 use etherparse_ip::err::ip::{HeadersError, SliceError};
 use etherparse_ip::err::{Layer, LenError, ip_auth, ipv6_exts};
-use ip_dissect::{BaseHeader, End, Fragment, FragmentKind, Packet, dissect};
+use ip_dissect::{BaseHeader, End, Fragment, FragmentKind, dissect};
 use std::process::Abort;
 use std::test::Fail;
 
@@ -54,7 +55,7 @@ fn check(
 
 /// Returns the parts of a packet without extension headers that is no fragment, by its outline.
 fn plain_numbers(bytes: &[u8]) -> Option<Numbers> {
-    let outline = Packet::plain(bytes)?.outline;
+    let outline = plain_outline(bytes)?;
     Some((
         outline.base_len,
         outline.stated_len,

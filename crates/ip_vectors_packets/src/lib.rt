@@ -16,6 +16,8 @@ mod long_formulas;
 #[cfg(test)]
 mod packets;
 #[cfg(test)]
+mod plain_outline;
+#[cfg(test)]
 mod plain_packets;
 #[cfg(test)]
 mod samples;

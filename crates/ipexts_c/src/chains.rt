@@ -11,6 +11,7 @@ ghost use Rattle.ip_spans.specs.ChainCursor.{IsHeaderSpan};
 ghost use Rattle.ip_spans.specs.FaultFields.{chain_fault_fields};
 ghost use Rattle.ip_spans.specs.InPlaces.{AreInPlaces};
 
+use crate::results::put_some;
 use ip_spans::{
     ChainCursor, ChainParts, FaultFields, HeaderSpan, parse_chain, parse_ipv4_chain, run_len,
 };
@@ -58,13 +59,7 @@ pub extern "C" fn wolfaren_next_header(
         → IsEnd (cursor.old.offset == 0) cursor.old.number (drop cursor.old.offset bytes.now) }
     ensures same { result ≡ false → (cursor.new ≡ cursor.old) × (span.new ≡ span.old) }
 {
-    match cursor.next_header(bytes) {
-        Some(found) => {
-            *span = found;
-            true
-        }
-        None => false,
-    }
+    put_some(cursor.next_header(bytes), span)
 }
 
 /// Calls `ChainCursor::fault` and stores its result in `fault`.

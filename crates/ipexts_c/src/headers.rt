@@ -4,6 +4,7 @@ ghost use Rattle.ip_base.specs.Prefix.{IsPrefix};
 ghost use Rattle.ip_spec.specs.Header.{IsFragmentHeader, IsAuthHeader};
 ghost use Rattle.ip_spans.specs.HeaderFields.{BeginsWithFragmentHeader, BeginsWithAuthHeader};
 
+use crate::results::put_some;
 use ip_spans::{AuthFields, FragmentFields, auth_fields, fragment_fields};
 
 /// Calls `fragment_fields`. Returns whether the bytes start with a fragment header; if so, stores its fields in
@@ -15,13 +16,7 @@ pub extern "C" fn wolfaren_fragment_fields(bytes: &[u8], fields: &mut FragmentFi
         → (b : List ℕ) → IsFragmentHeader b → IsPrefix b bytes.now → ⊥ }
     ensures same { result ≡ false → fields.new ≡ fields.old }
 {
-    match fragment_fields(bytes) {
-        Some(found) => {
-            *fields = found;
-            true
-        }
-        None => false,
-    }
+    put_some(fragment_fields(bytes), fields)
 }
 
 /// Calls `auth_fields`. Returns whether the bytes start with an authentication header; if so, stores its fields in
@@ -33,11 +28,5 @@ pub extern "C" fn wolfaren_authentication_fields(bytes: &[u8], fields: &mut Auth
         → (b : List ℕ) → IsAuthHeader b → IsPrefix b bytes.now → ⊥ }
     ensures same { result ≡ false → fields.new ≡ fields.old }
 {
-    match auth_fields(bytes) {
-        Some(found) => {
-            *fields = found;
-            true
-        }
-        None => false,
-    }
+    put_some(auth_fields(bytes), fields)
 }

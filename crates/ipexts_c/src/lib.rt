@@ -10,6 +10,7 @@ mod filters;
 mod headers;
 mod names;
 mod packets;
+mod results;
 mod statistics;
 mod version;
 mod writes;

@@ -7,6 +7,7 @@ ghost use Rattle.ip_spans.specs.DissectionParts.{dissection_parts, dissected_spa
 ghost use Rattle.ip_spans.specs.PacketParts.{IsPacketParts, payload_span, parts_in, packet_fault, lax_packet_fault};
 
 use crate::bytes::Bytes;
+use crate::results::put_result;
 use ip_spans::{
     DissectionParts, FaultFields, HeaderSpan, PacketParts, PayloadSpan, dissect_packet,
     find_payload, find_payload_lax, parse_packet, parse_packet_lax,
@@ -29,16 +30,7 @@ pub extern "C" fn wolfaren_parse_packet(
     ensures fault { result ≡ false → packet_fault bytes.entry.slice.now ≡ Some fault.new }
     ensures same { result ≡ false → (packet.new ≡ packet.old) × (spans.new ≡ spans.old) }
 {
-    match parse_packet(bytes.slice(), spans) {
-        Ok(found) => {
-            packet.put(found);
-            true
-        }
-        Err(found) => {
-            fault.put(found);
-            false
-        }
-    }
+    put_result(parse_packet(bytes.slice(), spans), packet, fault)
 }
 
 /// Calls `parse_packet_lax`, as `wolfaren_parse_packet` calls `parse_packet`.
@@ -57,16 +49,7 @@ pub extern "C" fn wolfaren_parse_packet_lax(
     ensures fault { result ≡ false → lax_packet_fault bytes.entry.slice.now ≡ Some fault.new }
     ensures same { result ≡ false → (packet.new ≡ packet.old) × (spans.new ≡ spans.old) }
 {
-    match parse_packet_lax(bytes.slice(), spans) {
-        Ok(found) => {
-            packet.put(found);
-            true
-        }
-        Err(found) => {
-            fault.put(found);
-            false
-        }
-    }
+    put_result(parse_packet_lax(bytes.slice(), spans), packet, fault)
 }
 
 /// Calls `find_payload`. Returns whether the bytes start with a packet. If so, stores its payload in `payload`, and
@@ -86,16 +69,7 @@ pub extern "C" fn wolfaren_find_payload(
     ensures fault { result ≡ false
         → (packet_fault bytes.entry.slice.now ≡ Some fault.new) × (payload.new ≡ payload.old) }
 {
-    match find_payload(bytes.slice()) {
-        Ok(found) => {
-            payload.put(found);
-            true
-        }
-        Err(found) => {
-            fault.put(found);
-            false
-        }
-    }
+    put_result(find_payload(bytes.slice()), payload, fault)
 }
 
 /// Calls `find_payload_lax`, as `wolfaren_find_payload` calls `find_payload`.
@@ -114,16 +88,7 @@ pub extern "C" fn wolfaren_find_payload_lax(
     ensures fault { result ≡ false
         → (lax_packet_fault bytes.entry.slice.now ≡ Some fault.new) × (payload.new ≡ payload.old) }
 {
-    match find_payload_lax(bytes.slice()) {
-        Ok(found) => {
-            payload.put(found);
-            true
-        }
-        Err(found) => {
-            fault.put(found);
-            false
-        }
-    }
+    put_result(find_payload_lax(bytes.slice()), payload, fault)
 }
 
 /// Calls `dissect_packet`.

@@ -22,7 +22,7 @@ pub const KEPT_LEN: usize = MAX_LINE_LEN + 1;
 pub type OpenLine = ArrayVec<u8, KEPT_LEN>;
 
 /// Writes the answer to `line`.
-fn tell<A: Allocator + Copy, W: Write>(
+fn write_answer<A: Allocator + Copy, W: Write>(
     line: &[u8],
     scratch: &mut Scratch<A>,
     output: &mut W,
@@ -59,10 +59,10 @@ fn end_line<A: Allocator + Copy, W: Write>(
     ensures memory { OnMemory result (Keeps (W.contents output.old) (W.contents output.new)) }
 {
     if line.is_empty() {
-        return tell(part, scratch, output);
+        return write_answer(part, scratch, output);
     }
     keep(line, part);
-    tell(line.as_slice(), scratch, output)?;
+    write_answer(line.as_slice(), scratch, output)?;
     line.clear();
     Ok(())
 }
@@ -104,7 +104,7 @@ pub fn finish<A: Allocator + Copy, W: Write>(
     ensures memory { OnMemory result (Keeps (W.contents output.old) (W.contents output.new)) }
 {
     if !line.is_empty() {
-        tell(line, scratch, output)?;
+        write_answer(line, scratch, output)?;
         output.flush()?;
     }
     Ok(())

@@ -7,4 +7,4 @@ pub returns-clause-outline : goal.returns-clause-outline
 returns-clause-outline g c =
     let passed = c.pass-passed.ensures.passed in
     ipv6_outlined (bytes c.args.base) c.args.bytes.now _ c.slice-slice.ensures.bytes _ c.ipv6_stated_len-stated_len.ensures _ _ _ c.packet_of-packet.ensures.bytes c.after-after_base.ensures _ _ c.next_header.ensures _ passed.number passed.rest passed.found
-    _ refl refl refl refl refl refl refl c.or.ensures c.missing.ensures refl refl (passed.error _)
+    _ refl refl refl refl refl refl refl refl c.missing.ensures refl refl (passed.error _)

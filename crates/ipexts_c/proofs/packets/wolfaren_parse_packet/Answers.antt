@@ -1,6 +1,9 @@
-use Rattle.ip_spec.proofs.Common.{ap, sym, ◌∙◌, refl}
+use Rattle.ip_spec.proofs.Common.{ap, sym, ◌∙◌}
+use Rattle.std.specs.Result.{result_err}
 use Rattle.ip_spans.specs.PacketParts.{packet_fault}
 use Rattle.ipexts_c.proofs.packets.wolfaren_parse_packet.Goals as goal
 
-pub returns-in-Ok-clause-no_fault : goal.returns-in-Ok-clause-no_fault
-returns-in-Ok-clause-no_fault c = λ e. (ap packet_fault (sym c.slice.ensures) ∙ sym c.in-Ok.ensures.fault, refl)
+pub returns-clause-no_fault : goal.returns-clause-no_fault
+returns-clause-no_fault c = λ e.
+    let found = c.put_result.ensures.found e in
+    (ap packet_fault (sym c.slice.ensures) ∙ sym c.parse_packet.ensures.fault ∙ ap result_err found.0, found.1)

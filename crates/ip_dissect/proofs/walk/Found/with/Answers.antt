@@ -3,7 +3,7 @@ use Rattle.ip_spec.proofs.Common.{sym}
 use Rattle.ip_dissect.proofs.walk.Found.with.Goals as goal
 
 pub returns-in-Some : goal.returns-in-Some
-returns-in-Some c = λ d told. one_fragment _ d _ _ _ (sym c.in-Some.ensures) told c.with_fragment.ensures.fragmenting c.with_fragment.ensures.first c.with_fragment.ensures.later c.with_fragment.ensures.count
+returns-in-Some c = λ d told. one_fragment _ d _ _ _ (sym c.in-Some.ensures) told c.with_fragment.ensures.fragment c.with_fragment.ensures.later c.with_fragment.ensures.count
 
 pub returns-in-None : goal.returns-in-None
 returns-in-None c = λ d told. no_fragment _ d _ (sym c.in-None.ensures) told

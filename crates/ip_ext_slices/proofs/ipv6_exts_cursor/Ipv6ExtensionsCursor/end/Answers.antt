@@ -9,7 +9,7 @@ pub returns-then-not-is_extension-clause-answer : goal.returns-then-not-is_exten
 returns-then-not-is_extension-clause-answer c =
     let x = c.args.self.now in
     let other : IsExtensionNumber x.number.0 → ⊥ = λ e. let no : true ≡ false = sym (c.is_extension.ensures.1 e) ∙ c.if-not-is_extension.true in cc in
-    (cursor_at_end x.first.0 x.bytes.now _ x.number.0 x.rest.now x.leads x.after (end_at_other _ x.number.0 x.rest.now other)).answers None (sym (no_fault_at_other Slice _ _ x.number.0 x.rest.now _ other))
+    (cursor_at_end x.start.0 x.bytes.now _ x.number.0 x.rest.now x.leads x.after (end_at_other _ x.number.0 x.rest.now other)).answers None (sym (no_fault_at_other Slice _ _ x.number.0 x.rest.now _ other))
 
 pub fault-fault-requires : goal.fault-fault-requires
 fault-fault-requires c =

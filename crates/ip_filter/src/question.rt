@@ -1,7 +1,6 @@
 //! Packets that are asked a question.
-ghost use Rattle.std.specs.Prelude.{◌≡◌, Bool, true};
+ghost use Rattle.std.specs.Prelude.{◌≡◌, Bool};
 ghost use Rattle.ip_dissect.specs.Dissection.{dissected};
-ghost use Rattle.ip_dissect.specs.Outline.{is_plain};
 ghost use Rattle.ip_filter.specs.Truth.{holds};
 ghost use Rattle.ip_filter.specs.Formula.{SaysOf};
 ghost use Rattle.ip_filter.specs.declared.term.Term.{Term};

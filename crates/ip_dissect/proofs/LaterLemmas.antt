@@ -1,7 +1,6 @@
 -- A chain that stops at a later fragment's header: one more header, and the end.
-use Rattle.ip_spec.proofs.Common.{◌≡◌, ℕ, ◌+◌, ◌-◌, ◌<◌, ◌≤◌, ◌^◌, length-drop, List, [], ◌∷◌, ◌++◌, length, drop, sym, refl, ap, ◌∙◌, arith, rules, Bool, true, false, nat_eq, common_steps, or-false, or_assoc, option_map, option_or, is_some, IsSome, find, ◌||◌, ◌&&◌, not, Option, IsExtensionNumber, next_header, ExtHeader, bytes_of, leads_to, IsNext, IsEnd, IsLongestUnder, rest_after}
-use Rattle.std.proofs.Common.{Some, None, cond}
-use Rattle.std.proofs.lemmas.List.Folds.{find-append}
+use Rattle.ip_spec.proofs.Common.{◌≡◌, ℕ, ◌+◌, ◌-◌, ◌<◌, ◌≤◌, ◌^◌, length-drop, List, [], ◌∷◌, ◌++◌, length, drop, sym, refl, ap, ◌∙◌, arith, rules, Bool, true, false, nat_eq, common_steps, or-false, or_assoc, is_some, IsSome, ◌||◌, ◌&&◌, not, Option, IsExtensionNumber, next_header, ExtHeader, bytes_of, leads_to, IsNext, IsEnd, IsLongestUnder, rest_after}
+use Rattle.std.proofs.Common.{None}
 use Rattle.ip_spec.proofs.PrefixLemmas.{prefix-length}
 use Rattle.ip_spec.proofs.ChainLemmas.{bytes_of-least}
 use Rattle.ip_spec.proofs.ParsedLemmas.{HasParsed, has_parsed_on, no_next_here, parsed_longest_under}
@@ -17,9 +16,6 @@ use Rattle.ip_dissect.specs.declared.walk.Found.{Found}
 -- one more header
 pub has_later-more : (c : List ExtHeader) (h : ExtHeader) → has_later (c ++ h ∷ []) ≡ (has_later c || is_later h)
 has_later-more c h = grind (arith, common_steps, or-false, or_assoc)
-
-pub found-more : {A B : Type 0} (f : A → B) (p : A → Bool) (c : List A) (h : A) → option_map f (find p (c ++ h ∷ [])) ≡ option_or (option_map f (find p c)) (cond (p h) (Some (f h)) None)
-found-more f p c h = rw find-append (grind (arith, common_steps))
 
 -- a header may follow if none is a later fragment's, and otherwise none may
 pub may_follow : (c : List ExtHeader) (h : ExtHeader) → has_later c ≡ false → NothingAfterLater (c ++ h ∷ [])

@@ -1,5 +1,5 @@
 -- The outline of a packet, from that of the bytes after its base header.
-use Rattle.ip_spec.proofs.Common.{◌≡◌, ℕ, ◌+◌, ◌-◌, List, [], length, drop, subst, refl, sym, ap, ◌∙◌, rules, nat_eq, Bool, true, false, Option, None, Some, is_some, option_map, option_map_or, if◌then◌else◌, ◌==◌, ◌&&◌, ◌||◌, not, length-drop, ExtHeader, bytes_of, is_empty, leads_to, rest_after, fault_after, IsPrefixChain}
+use Rattle.ip_spec.proofs.Common.{◌≡◌, ℕ, ◌+◌, ◌-◌, List, [], length, drop, subst, refl, sym, ap, ◌∙◌, rules, nat_eq, Bool, true, Option, None, is_some, option_map, option_map_or, if◌then◌else◌, ◌==◌, ◌&&◌, ◌||◌, not, length-drop, ExtHeader, bytes_of, is_empty, leads_to, rest_after, fault_after, IsPrefixChain}
 use Rattle.ip_base.specs.declared.ip_number_impl.IpNumber.{IpNumber}
 use Rattle.ip_base.specs.Ipv4Header.{protocol, ipv4_fragment_offset}
 use Rattle.ip_base.specs.Ipv6Header.{ipv6_next_header}
@@ -14,8 +14,8 @@ use Rattle.ip_dissect.specs.LaterDemand.{has_later}
 use Rattle.ip_dissect.specs.Fragment.{ipv4_fragment, ipv6_fragment}
 use Rattle.ip_dissect.specs.Found.{found_in}
 use Rattle.ip_dissect.specs.Extent.{packet_bytes, after_base, missing_of, ipv4_stated, ipv6_stated, ipv4_chain, ipv4_chain_in, ipv6_chain}
-use Rattle.ip_dissect.specs.End.{base_end, has_error, auth_end, exts_end, is_too_short, ipv4_end, ipv6_end}
-use Rattle.ip_dissect.specs.Dissection.{without_base, with_base, ipv4_dissected, ipv6_dissected}
+use Rattle.ip_dissect.specs.End.{has_error, auth_end, exts_end, is_too_short, ipv4_end, ipv6_end}
+use Rattle.ip_dissect.specs.Dissection.{with_base, ipv4_dissected, ipv6_dissected}
 use Rattle.ip_dissect.specs.Outline.{outline_of, plain_outline, is_later_end}
 use Rattle.ip_dissect.specs.declared.fragment.Fragment.{Fragment}
 use Rattle.ip_dissect.specs.declared.outline.Outline.{Outline}
@@ -66,9 +66,6 @@ module _ (b s y : List ℕ) (same : y ≡ b) (t : Option ℕ) (stated : t ≡ ip
   abbrev xs : x ≡ after_base b (ipv6_stated b) s
   xs = after_base_is 6 b s y same t (ipv6_stated b) stated packet x r front left
 
-  pub ipv6_chain_is : chain_to_later n x ≡ ipv6_chain b s
-  ipv6_chain_is = ap (λ k. chain_to_later k x) ns ∙ ap (chain_to_later (ipv6_next_header b)) xs
-
   the_end : end_after found.later t (slice_fault (40 + (length x - length r)) (nat_eq (length x - length r) 0) m r) ≡ ipv6_end b s
   the_end = ipv6_end_is b x s t n m r found _ xs stated ns number rest said refl
 
@@ -98,9 +95,6 @@ module _ (b s y : List ℕ) (same : y ≡ b) (t : Option ℕ) (stated : t ≡ ip
   abbrev xs4 : x ≡ after_base b (ipv4_stated b) s
   xs4 = after_base_is 4 b s y same t (ipv4_stated b) stated packet x r front left
 
-  pub ipv4_chain_is : ipv4_chain_in b x ≡ ipv4_chain b s
-  ipv4_chain_is = ap (ipv4_chain_in b) xs4
-
   pub ipv4_outlined : (rest : r ≡ rest_after (ipv4_chain_in b x) x) (short later error : Bool) → short ≡ is_too_short b → later ≡ not (ipv4_fragment_offset b == 0)
       → error ≡ ((ipv4_fragment_offset b == 0) && is_some (fault_after (ipv4_faults Slice) (ipv4_chain_in b x) (protocol b) x))
       → (o : Outline) → o.version ≡ 4 → o.base_len ≡ length y → o.stated_len ≡ t → o.extensions_len ≡ length x - length r → o.header_count ≡ length (ipv4_chain_in b x) → o.next_header.0 ≡ leads_to (protocol b) (ipv4_chain_in b x)
@@ -115,14 +109,6 @@ module _ (b s y : List ℕ) (same : y ≡ b) (t : Option ℕ) (stated : t ≡ ip
       (later_is ∙ rw (shorts, laters) (later4 _ (ipv4_fragment_offset b == 0) _ (ipv4_stated b) (length b) (fault_after (ipv4_faults Slice) (ipv4_chain b s) (protocol b) (after_base b (ipv4_stated b) s)))) (error_is ∙ rw (shorts, there) (error4 _ (ipv4_fragment_offset b == 0) _ (ipv4_stated b) (length b) (fault_after (ipv4_faults Slice) (ipv4_chain b s) (protocol b) (after_base b (ipv4_stated b) s))))
       in
       subst P xs4 made
-
--- bytes without a base header
-none_error : (s : List ℕ) (e : End) → base_end s ≡ Some e → (false ≡ is_later_end e) × (true ≡ has_error e)
-none_error s e is = search rules
-
-pub none_outlined : (s : List ℕ) (o : Outline) → o ≡ record { version = 0; base_len = 0; stated_len = None; extensions_len = 0; header_count = 0; next_header = record { 0 = 59 }; payload_len = 0; fragment = None; missing = 0; padding_len = length s; is_later_fragment = false; has_error = true }
-    → (e : End) → base_end s ≡ Some e → o ≡ outline_of (without_base s e)
-none_outlined s o is e ends = let w = none_error s e ends in is ∙ rw (← w.0, ← w.1) refl
 
 -- a packet without headers, fragment and error
 pub plain_outlined : (v : ℕ) (b s : List ℕ) (t : Option ℕ) (n : ℕ) (number : IpNumber) (c : List ExtHeader) (f : Option Fragment) (e : End) → number.0 ≡ n → c ≡ [] → f ≡ None → e ≡ Payload → plain_outline v b t number s ≡ outline_of (with_base v b s t n c f e)

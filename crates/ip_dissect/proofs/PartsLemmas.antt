@@ -1,5 +1,5 @@
 -- What a pass over the bytes after an IPv6 base header finds.
-use Rattle.ip_spec.proofs.Common.{◌≡◌, ℕ, ◌+◌, ◌-◌, List, length, take, drop, refl, ap, ◌∙◌, arith, nat_eq, rules, eqb_tells, Option, option_map_or, if◌then◌else◌, AllByRecursion, IsHeader, ExtHeader, bytes_of, leads_to, is_empty, rest_after, IsPrefixChain}
+use Rattle.ip_spec.proofs.Common.{◌≡◌, ℕ, ◌+◌, ◌-◌, List, length, drop, refl, ap, ◌∙◌, arith, nat_eq, rules, eqb_tells, Option, option_map_or, if◌then◌else◌, AllByRecursion, IsHeader, ExtHeader, bytes_of, leads_to, is_empty, rest_after, IsPrefixChain}
 use Rattle.ip_spec.proofs.PrefixLemmas.{prefix-length}
 use Rattle.ip_spec.proofs.ChainLemmas.{bytes_of-least}
 use Rattle.ip_base.specs.Ipv6Header.{ipv6_next_header}
@@ -22,9 +22,6 @@ empty_is c k a e = search (rules, nat_eq, eqb_tells, bytes_of-least)
 module _ (n : ℕ) (x : List ℕ) (c : List ExtHeader) (p : IsPrefixChain n x c) (r : List ℕ) (rest : r ≡ rest_after c x) where
   pub chain_len : length x - length r ≡ length (bytes_of c)
   chain_len = omega (arith, prefix-length (bytes_of c) x p.prefix, ap length rest)
-
-  pub chain_front : take (length x - length r) x ≡ bytes_of c
-  chain_front = ap (λ k. take k x) chain_len ∙ p.prefix
 
   pub chain_none : nat_eq (length x - length r) 0 ≡ is_empty c
   chain_none = empty_is c (length x - length r) p.chain.headers chain_len

@@ -1,5 +1,5 @@
 -- A chain that stops at a later fragment's header: one more header, and the end.
-use Rattle.ip_spec.proofs.Common.{◌≡◌, ℕ, ◌+◌, ◌-◌, ◌<◌, ◌≤◌, ◌^◌, length-drop, List, [], ◌∷◌, ◌++◌, length, drop, sym, refl, ap, ◌∙◌, arith, rules, Bool, true, false, nat_eq, common_steps, or-false, or_assoc, is_some, IsSome, ◌||◌, ◌&&◌, not, Option, IsExtensionNumber, next_header, ExtHeader, bytes_of, leads_to, IsNext, IsEnd, IsLongestUnder, rest_after}
+use Rattle.ip_spec.proofs.Common.{◌≡◌, ℕ, ◌+◌, ◌-◌, ◌<◌, ◌≤◌, ◌^◌, length-drop, List, [], ◌∷◌, ◌++◌, length, drop, take, length-take-le, sym, refl, ap, ◌∙◌, arith, rules, Bool, true, false, nat_eq, common_steps, or-false, or_assoc, is_some, IsSome, IsTrue, ◌↔◌, ◌||◌, ◌&&◌, not, Option, IsExtensionNumber, next_header, ExtHeader, bytes_of, leads_to, IsNext, IsEnd, IsLongestUnder, rest_after}
 use Rattle.std.proofs.Common.{None}
 use Rattle.ip_spec.proofs.PrefixLemmas.{prefix-length}
 use Rattle.ip_spec.proofs.ChainLemmas.{bytes_of-least}
@@ -86,42 +86,34 @@ none_there later o none = grind (arith, common_steps)
 pub none_after_later : (later : Bool) (o : Option Fault) → later ≡ true → false ≡ (not later && is_some o)
 none_after_later later o t = grind (arith, common_steps)
 
--- the error where the pass stops: at an extension header's number there is one, and at any other there is none
-pub fault_there : (n : ℕ) (s : List ℕ) (c : List ExtHeader) (m : ℕ) (r : List ℕ) (found : Found) → WalkState n s c m r found → IsExtensionNumber m → IsEnd (nat_eq (length r) (length s)) m r → (k : ℕ)
+-- The error where the pass stops: at an extension header's number there is one, and at any other there is none.
+fault_there : (n : ℕ) (s : List ℕ) (c : List ExtHeader) (m : ℕ) (r : List ℕ) (found : Found) → WalkState n s c m r found → IsExtensionNumber m → IsEnd (nat_eq (length r) (length s)) m r → (k : ℕ)
     → true ≡ (not found.later && is_some (slice_fault k (nat_eq (length s - length r) 0) m r))
 fault_there n s c m r found w is e k =
     let fewer : length r ≤ length s = omega (arith, ap length w.read.rest, length-drop (length (bytes_of c)) s) in
     let goes_on : found.later ≡ false = ap (λ (f : Found). f.later) w.said ∙ w.none in
     there found.later _ goes_on (fault_at_end Slice (length r) r k (nat_eq (length s - length r) 0) m is (rw (same_first (length r) (length s) fewer) at e))
 
-pub no_fault_there : (m : ℕ) (s r : List ℕ) (later : Bool) → (IsExtensionNumber m → ⊥) → (k : ℕ) → false ≡ (not later && is_some (slice_fault k (nat_eq (length s - length r) 0) m r))
-no_fault_there m s r later other k = none_there later _ (no_fault_at_other Slice (length r) (nat_eq (length s - length r) 0) m r k other)
+pub error_there : (n : ℕ) (s : List ℕ) (c : List ExtHeader) (m : ℕ) (r : List ℕ) (found : Found) → WalkState n s c m r found → IsEnd (nat_eq (length r) (length s)) m r → (is : Bool) → IsTrue is ↔ IsExtensionNumber m → (k : ℕ)
+    → is ≡ (not found.later && is_some (slice_fault k (nat_eq (length s - length r) 0) m r))
+error_there n s c m r found w e true is k = fault_there n s c m r found w (is.0 (search rules)) e k
+error_there n s c m r found w e false is k = none_there found.later _ (no_fault_at_other Slice (length r) (nat_eq (length s - length r) 0) m r k (λ x. search (rules, is.1 x)))
 
--- the header by its number and its bytes
-pub header_is : (h : ExtHeader) (m : ℕ) (b : List ℕ) → h.number ≡ m → b ≡ h.bytes → record { number = m; bytes = b } ≡ h
-header_is h m b number bytes = rw (← number, bytes) refl
+-- One more header, of k bytes: it isn't a later fragment's, or it is.
+module _ (n : ℕ) (s : List ℕ) (c : List ExtHeader) (m : ℕ) (r : List ℕ) (found : Found) (w : WalkState n s c m r found) (k : ℕ) (q : List ℕ) (more : Found)
+    (x : IsNext (nat_eq (length r) (length s)) m r (record { number = m; bytes = take k r })) (within : k ≤ length r) (rest : q ≡ drop k r) (said : more ≡ found_in (c ++ record { number = m; bytes = take k r } ∷ [])) where
+  read_on : HasParsed n s (c ++ record { number = m; bytes = take k r } ∷ []) (next_header (take k r)) q
+  read_on = has_parsed_on n s c m r (record { number = m; bytes = take k r }) (next_header (take k r)) q (take k r) w.read x refl refl (rest ∙ ap (λ j. drop j r) (sym (length-take-le k r within)))
 
--- one more header, which isn't a later fragment's
-pub goes_on : (n : ℕ) (s : List ℕ) (c : List ExtHeader) (m : ℕ) (r : List ℕ) (found : Found) (w : WalkState n s c m r found) (h : ExtHeader) (k : ℕ) (q b : List ℕ) (more : Found) (x : IsNext (nat_eq (length r) (length s)) m r h)
-    (number : k ≡ next_header h.bytes) (bytes : b ≡ h.bytes) (rest : q ≡ drop (length b) r) (said : (d : List ExtHeader) → found ≡ found_in d → more ≡ found_in (d ++ h ∷ [])) → more.later ≡ false → WalkState n s (c ++ h ∷ []) k q more
-goes_on n s c m r found w h k q b more x number bytes rest said not_later = record {
-  read = has_parsed_on n s c m r h k q b w.read x number bytes rest;
-  said = said c w.said;
-  none = ap (λ (f : Found). f.later) (sym (said c w.said)) ∙ not_later;
-}
+  pub goes_on : more.later ≡ false → WalkState n s (c ++ record { number = m; bytes = take k r } ∷ []) (next_header (take k r)) q more
+  goes_on not_later = record { read = read_on; said = said; none = ap (λ (f : Found). f.later) (sym said) ∙ not_later }
 
--- one more header, which is
-module _ (n : ℕ) (s : List ℕ) (c : List ExtHeader) (m : ℕ) (r : List ℕ) (found : Found) (w : WalkState n s c m r found) (h : ExtHeader) (k : ℕ) (q b : List ℕ) (more : Found) (x : IsNext (nat_eq (length r) (length s)) m r h)
-    (number : k ≡ next_header h.bytes) (bytes : b ≡ h.bytes) (rest : q ≡ drop (length b) r) (said : (d : List ExtHeader) → found ≡ found_in d → more ≡ found_in (d ++ h ∷ [])) (later : more.later ≡ true) where
-  read_on : HasParsed n s (c ++ h ∷ []) k q
-  read_on = has_parsed_on n s c m r h k q b w.read x number bytes rest
-
-  pub chain_at_later : c ++ h ∷ [] ≡ chain_to_later n s
-  chain_at_later =
-      let has : has_later (c ++ h ∷ []) ≡ true = ap (λ (f : Found). f.later) (sym (said c w.said)) ∙ later in
-      one_longest_under NothingAfterLater nothing_after_later n s (c ++ h ∷ []) _
-      (parsed_longest_under NothingAfterLater nothing_after_later n s (c ++ h ∷ []) k q (record { read = read_on; meets = may_follow c h w.none }) (λ g y meets. none_follows (c ++ h ∷ []) g has meets))
+  pub chain_at_later : more.later ≡ true → c ++ record { number = m; bytes = take k r } ∷ [] ≡ chain_to_later n s
+  chain_at_later later =
+      let has : has_later (c ++ record { number = m; bytes = take k r } ∷ []) ≡ true = ap (λ (f : Found). f.later) (sym said) ∙ later in
+      one_longest_under NothingAfterLater nothing_after_later n s _ _
+      (parsed_longest_under NothingAfterLater nothing_after_later n s _ (next_header (take k r)) q (record { read = read_on; meets = may_follow c _ w.none }) (λ g y meets. none_follows _ g has meets))
       (chain_to_later-longest n s)
 
-  pub stops_at_later : AtEnd n s k q more
-  stops_at_later = end_of n s (c ++ h ∷ []) k q more read_on (said c w.said) chain_at_later
+  pub stops_at_later : more.later ≡ true → AtEnd n s (next_header (take k r)) q more
+  stops_at_later later = end_of n s _ (next_header (take k r)) q more read_on said (chain_at_later later)

@@ -1,14 +1,16 @@
 //! One pass over the extension headers of an IPv6 packet.
-ghost use Rattle.std.specs.Prelude.{◌≡◌, ◌≤◌, ◌+◌, ◌<◌, ◌^◌, ◌++◌, ◌∷◌, ◌==◌, ◌||◌, not, if◌then◌else◌, Some, None, [], length, drop, List};
+ghost use Rattle.std.specs.Prelude.{◌≡◌, ◌≤◌, ◌+◌, ◌<◌, ◌^◌, ◌++◌, ◌∷◌, ◌==◌, ◌||◌, not, if◌then◌else◌, Some, None, [], length, drop, List, ℕ};
 ghost use Rattle.ip_spec.specs.Chain.{ExtHeader};
-ghost use Rattle.ip_ext_slices.specs.Ipv6ExtensionSlice.{header_of};
+ghost use Rattle.ip_base.specs.Prefix.{IsPrefix};
+ghost use Rattle.ip_spec.specs.Header.{IsHeader};
 ghost use Rattle.ip_dissect.specs.Fragment.{fragment_in, is_kept};
 ghost use Rattle.ip_dissect.specs.Found.{found_in, HasPassed};
 ghost use Rattle.ip_dissect.specs.Later.{chain_to_later};
 
 use crate::{Fragment, HeaderVisitor};
-use ip_base::IpNumber;
-use ip_ext_slices::{Ipv6ExtensionSlice, header_at, is_extension};
+use ip_base::{IpNumber, ip_number};
+use ip_ext_headers::Ipv6FragmentHeaderSlice;
+use ip_ext_slices::{header_len_at, is_extension};
 
 /// What a pass over a chain finds: its fragment headers, and the number of headers.
 #[derive(Clone, Copy, Debug)]
@@ -57,23 +59,14 @@ pub(crate) fn pass<'a, V: HeaderVisitor>(
     let mut number = start;
     let mut rest = bytes;
     let mut found = Found::none();
-    'headers: while is_extension(number) {
-        let Some(header) = header_at(rest.len() == bytes.len(), number, rest) else {
-            return Passed {
-                number,
-                rest,
-                found,
-                has_error: true,
-            };
-        };
+    'headers: while let Some(len) = header_len_at(rest.len() == bytes.len(), number, rest) {
         let index = found.count;
         let at = offset + (bytes.len() - rest.len());
-        let slice = header.slice();
-        let next = header.next_header();
-        found = found.with(&header);
-        rest = after(rest, slice.len());
-        visitor.visit(number, slice, index, at);
-        number = next;
+        let header = &rest[..len];
+        found = found.with(fragment_at(number, rest));
+        visitor.visit(number, header, index, at);
+        number = IpNumber(header[0]);
+        rest = after(rest, len);
         if found.later {
             return Passed {
                 number,
@@ -87,7 +80,7 @@ pub(crate) fn pass<'a, V: HeaderVisitor>(
         number,
         rest,
         found,
-        has_error: false,
+        has_error: is_extension(number),
     }
 }
 
@@ -104,15 +97,15 @@ impl Found {
         }
     }
 
-    /// Returns the value for the chain with one more header.
+    /// Returns the value for the chain with one more header, which is of this fragment if it is a fragment header.
     #[inline(always)]
-    fn with(self, header: &Ipv6ExtensionSlice<'_>) -> Found
+    fn with(self, fragment: Option<Fragment>) -> Found
         requires { self.count + 1 < 2 ^ 64 }
-        ensures { (c : List ExtHeader) → self ≡ found_in c
-            → result ≡ found_in (c ++ header_of header.now ∷ []) }
+        ensures { (c : List ExtHeader) (h : ExtHeader) → self ≡ found_in c
+            → fragment ≡ fragment_in h → result ≡ found_in (c ++ h ∷ []) }
     {
         let count = self.count + 1;
-        match fragment_of(header) {
+        match fragment {
             Some(fragment) => self.with_fragment(fragment, count),
             None => Found { count, ..self },
         }
@@ -142,17 +135,21 @@ impl Found {
     }
 }
 
-/// Returns the fragment of a fragment header, and `None` for any other header.
+/// Returns the fragment of the header of this number at the start of `bytes`, and `None` unless it is a fragment header.
 #[inline(always)]
-fn fragment_of(header: &Ipv6ExtensionSlice<'_>) -> Option<Fragment>
-    ensures { result ≡ fragment_in (header_of header.now) }
+fn fragment_at(number: IpNumber, bytes: &[u8]) -> Option<Fragment>
+    ensures { (b : List ℕ) → IsHeader number.0 b → IsPrefix b bytes.now
+        → result ≡ fragment_in (record { number = number.0; bytes = b }) }
 {
-    match header {
-        Ipv6ExtensionSlice::Fragment(header) => Some(Fragment::new(
+    if number != ip_number::IPV6_FRAG {
+        return None;
+    }
+    match Ipv6FragmentHeaderSlice::from_slice(bytes) {
+        Ok(header) => Some(Fragment::new(
             header.identification(),
             header.more_fragments(),
             header.fragment_offset().value(),
         )),
-        _ => None,
+        Err(_) => None,
     }
 }

@@ -41,7 +41,8 @@ pub(crate) fn ipv4_chain<'a, V: HeaderVisitor>(
     ensures visited { V.visited visitor.old (length (bytes base.entry))
         (ipv4_chain_in (bytes base.entry) after_base.now) visitor.new }
 {
-    if ipv4_offset(base) != 0 {
+    // the number first, since no branch can predict the offsets of fragments
+    if base.protocol() != ip_number::AUTH || ipv4_offset(base) != 0 {
         return Ipv4Rest {
             header_count: 0,
             number: base.protocol(),

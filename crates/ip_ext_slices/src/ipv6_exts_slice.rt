@@ -191,8 +191,11 @@ fn is_fragmenting(number: IpNumber, bytes: &[u8]) -> bool
     ensures { (b : List ℕ) → IsHeader number.0 b → IsPrefix b bytes.now
         → result ≡ ((number.0 == FRAGMENT) && is_fragmenting b) }
 {
+    if number != ip_number::IPV6_FRAG {
+        return false;
+    }
     match Ipv6FragmentHeaderSlice::from_slice(bytes) {
-        Ok(header) => (number == ip_number::IPV6_FRAG) & header.is_fragmenting_payload(),
+        Ok(header) => header.is_fragmenting_payload(),
         Err(_) => false,
     }
 }

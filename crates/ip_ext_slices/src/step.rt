@@ -1,6 +1,5 @@
 //! The step from one header of an IPv6 chain to the next.
-ghost use Rattle.std.specs.Prelude.{◌≡◌, ◌≤◌, ◌+◌, ◌*◌, ◌↔◌, ◌==◌, ◌&&◌, ◌||◌, not, length, take, drop, slice_index, nat_lt, if◌then◌else◌, IsTrue, Option, Some, IsSome, IfSome, IfNone, ℕ};
-ghost use Rattle.ip_spec.specs.Numbers.{HOP_BY_HOP, FRAGMENT, AUTHENTICATION};
+ghost use Rattle.std.specs.Prelude.{◌≡◌, ◌≤◌, ◌+◌, ◌*◌, ◌↔◌, ◌==◌, length, take, drop, slice_index, nat_lt, if◌then◌else◌, IsTrue, Option, Some, IsSome, IfSome, IfNone, ℕ};
 ghost use Rattle.std.specs.Option.{option_map};
 ghost use Rattle.ip_spec.specs.Header.{IsExtensionNumber};
 ghost use Rattle.ip_spec.specs.Chain.{IsNext, IsEnd};
@@ -58,9 +57,9 @@ pub fn header_at(first: bool, number: IpNumber, bytes: &[u8]) -> Option<Ipv6Exte
     }
 }
 
-/// Returns the length of the header of this number at the start of `bytes`, in bytes. `first` says that no header precedes
-/// it. Returns `None` if the chain ends here. It is for walks: `header_at` branches on the kind of header, which varies
-/// from header to header, so that processors mispredict it.
+/// Returns the length of the header of this number at the start of `bytes`, in bytes. `first` says that no header
+/// precedes it. Returns `None` if the chain ends here. `header_at` branches on the kind of header, which a processor
+/// can't predict in a chain of several kinds.
 #[inline(always)]
 pub fn header_len_at(first: bool, number: IpNumber, bytes: &[u8]) -> Option<usize>
     ensures next { IfSome result (λ len. IsNext first number.0 bytes.now
@@ -71,37 +70,19 @@ pub fn header_len_at(first: bool, number: IpNumber, bytes: &[u8]) -> Option<usiz
     if !is_extension(number) || bytes.len() < 8 {
         return None;
     }
-    let len = len_with(number, bytes[1]);
-    if !is_allowed(first, number, bytes[1]) | (len > bytes.len()) {
+    if number == ip_number::IPV6_FRAG {
+        return Some(8);
+    }
+    if number == ip_number::IPV6_HOP_BY_HOP && !first {
+        return None;
+    }
+    let is_auth = number == ip_number::AUTH;
+    let unit = if is_auth { 4 } else { 8 };
+    let len = 8 + unit * usize::from(bytes[1]);
+    if (is_auth & (bytes[1] == 0)) | (len > bytes.len()) {
         return None;
     }
     Some(len)
-}
-
-/// Returns the length of a header of this number whose byte 1 is `field`.
-#[inline(always)]
-fn len_with(number: IpNumber, field: u8) -> usize
-    ensures { result ≡ (if number.0 == FRAGMENT then 8
-        else if number.0 == AUTHENTICATION then 4 * (field + 2) else 8 * (field + 1)) }
-{
-    let is_auth = number == ip_number::AUTH;
-    let unit = if is_auth { 4 } else { 8 };
-    let units = if number == ip_number::IPV6_FRAG {
-        1
-    } else {
-        usize::from(field) + 1 + usize::from(is_auth)
-    };
-    unit * units
-}
-
-/// Returns whether a header of this number may have `field` as byte 1, and may be here: hop-by-hop options may only be
-/// first.
-#[inline(always)]
-fn is_allowed(first: bool, number: IpNumber, field: u8) -> bool
-    ensures { result ≡ ((first || not (number.0 == HOP_BY_HOP))
-        && (not (number.0 == AUTHENTICATION) || not (field == 0))) }
-{
-    (first | (number != ip_number::IPV6_HOP_BY_HOP)) & ((number != ip_number::AUTH) | (field != 0))
 }
 
 /// Returns whether the number is an extension header's (RFC 8200, section 4; RFC 4302, section 2).

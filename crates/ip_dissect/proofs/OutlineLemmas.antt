@@ -1,5 +1,5 @@
 -- The outline of a packet, from that of the bytes after its base header.
-use Rattle.ip_spec.proofs.Common.{◌≡◌, ℕ, ◌+◌, ◌-◌, List, [], length, drop, subst, refl, sym, ap, ◌∙◌, rules, nat_eq, Bool, true, Option, None, is_some, option_map, option_map_or, if◌then◌else◌, ◌==◌, ◌&&◌, ◌||◌, not, length-drop, ExtHeader, bytes_of, is_empty, leads_to, rest_after, fault_after, IsPrefixChain}
+use Rattle.ip_spec.proofs.Common.{◌≡◌, ℕ, ◌+◌, ◌-◌, List, [], length, drop, subst, refl, sym, ap, ◌∙◌, rules, nat_eq, Bool, true, Option, None, is_some, IsSome, option_map, option_map_or, if◌then◌else◌, ◌==◌, ◌&&◌, ◌||◌, not, length-drop, ExtHeader, bytes_of, is_empty, leads_to, rest_after, fault_after, IsPrefixChain}
 use Rattle.ip_base.specs.declared.ip_number_impl.IpNumber.{IpNumber}
 use Rattle.ip_base.specs.Ipv4Header.{protocol, ipv4_fragment_offset}
 use Rattle.ip_base.specs.Ipv6Header.{ipv6_next_header}
@@ -118,8 +118,15 @@ plain_outlined v b s t n number c f e same none whole ends = rw (none, whole, en
 not_later : (later : Bool) (e : End) → has_error (if later then LaterFragment else e) ≡ true → e ≡ (if later then LaterFragment else e)
 not_later later e wrong = search rules
 
-pub ipv6_error_is : (b s : List ℕ) (o : Outline) (r : List ℕ) (e : End) → o ≡ outline_of (ipv6_dissected b s) → r ≡ (ipv6_dissected b s).payload → has_error (ipv6_end b s) ≡ true
-    → e ≡ option_map_or (exts_end o.stated_len) (slice_fault (40 + o.extensions_len) (o.extensions_len == 0) o.next_header.0 r) Payload → e ≡ ipv6_end b s
-ipv6_error_is b s o r e is rest wrong made =
-    let none : (length (bytes_of (ipv6_chain b s)) == 0) ≡ is_empty (ipv6_chain b s) = empty_is (ipv6_chain b s) _ (chain_to_later-longest _ _).has.0.chain.headers refl in
-    made ∙ rw (is, rest, none) (not_later (has_later (ipv6_chain b s)) _ wrong)
+there_is : (later : Bool) (t : Option ℕ) (o : Option Fault) → has_error (end_after later t o) ≡ true → IsSome o
+there_is later t o wrong = search rules
+
+module _ (b s : List ℕ) (o : Outline) (r : List ℕ) (is : o ≡ outline_of (ipv6_dissected b s)) (rest : r ≡ (ipv6_dissected b s).payload) (wrong : has_error (ipv6_end b s) ≡ true) where
+  none : (length (bytes_of (ipv6_chain b s)) == 0) ≡ is_empty (ipv6_chain b s)
+  none = empty_is (ipv6_chain b s) _ (chain_to_later-longest _ _).has.0.chain.headers refl
+
+  pub ipv6_error_there : IsSome (slice_fault (40 + o.extensions_len) (o.extensions_len == 0) o.next_header.0 r)
+  ipv6_error_there = rw (is, rest, none) (there_is (has_later (ipv6_chain b s)) (ipv6_stated b) _ wrong)
+
+  pub ipv6_error_is : (e : End) → e ≡ option_map_or (exts_end o.stated_len) (slice_fault (40 + o.extensions_len) (o.extensions_len == 0) o.next_header.0 r) Payload → e ≡ ipv6_end b s
+  ipv6_error_is e made = made ∙ rw (is, rest, none) (not_later (has_later (ipv6_chain b s)) _ wrong)

@@ -21,7 +21,7 @@ use ip_base::err::ip::{HeaderError, HeadersError, SliceError};
 use ip_base::err::{Layer, LenError};
 use ip_base::{IpNumber, Ipv4HeaderSlice, Ipv6Header, LenSource};
 use ip_ext_slices::err::{ip_auth, ipv6_exts};
-use ip_ext_slices::{Ipv4ExtensionsSlice, fault_at};
+use ip_ext_slices::{Ipv4ExtensionsSlice, fault};
 
 /// Returns the end of bytes that don't start with a whole base header.
 #[cold]
@@ -106,7 +106,7 @@ pub(crate) fn ipv4_end(base: Ipv4HeaderSlice<'_>, bytes: &[u8]) -> End
     }
 }
 
-/// Returns the end at the number of an IPv6 extension header after `len` bytes of them.
+/// Returns the end at the number of an IPv6 extension header after `len` bytes of them, where an error is.
 #[cold]
 #[inline(never)]
 pub(crate) fn end_at_extension(
@@ -115,19 +115,19 @@ pub(crate) fn end_at_extension(
     len: usize,
     stated_len: Option<usize>,
 ) -> End
-    requires { 40 + len < 2 ^ 64 }
+    requires fits { 40 + len < 2 ^ 64 }
+    requires fault { IsSome (slice_fault (40 + len) (len == 0) number.0 rest.now) }
     ensures { result ≡ option_map_or (exts_end stated_len) (slice_fault (40 + len) (len == 0)
         number.0 rest.now) Payload }
 {
-    match fault_at(len == 0, number, rest, Ipv6Header::LEN + len) {
-        None => End::Payload,
-        Some((ipv6_exts::HeaderSliceError::Len(error), header)) => end_of_len(
+    match fault(len == 0, number, rest, Ipv6Header::LEN + len) {
+        (ipv6_exts::HeaderSliceError::Len(error), header) => end_of_len(
             error,
             Some(header),
             stated_len,
             LenSource::Ipv6HeaderPayloadLen,
         ),
-        Some((ipv6_exts::HeaderSliceError::Content(error), header)) => End::Fault {
+        (ipv6_exts::HeaderSliceError::Content(error), header) => End::Fault {
             error: SliceError::IpHeaders(HeadersError::Ipv6Ext(error)),
             header: Some(header),
         },

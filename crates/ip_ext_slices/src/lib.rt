@@ -21,4 +21,4 @@ pub use ipv6_ext_slice::Ipv6ExtensionSlice;
 pub use ipv6_ext_slice_iter::Ipv6ExtensionSliceIter;
 pub use ipv6_exts_cursor::Ipv6ExtensionsCursor;
 pub use ipv6_exts_slice::Ipv6ExtensionsSlice;
-pub use step::{fault_at, header_at, header_len_at, is_extension};
+pub use step::{fault, fault_at, header_at, header_len_at, is_extension};

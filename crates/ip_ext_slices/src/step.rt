@@ -13,9 +13,6 @@ use ip_base::{IpNumber, LenSource, ip_number};
 use ip_ext_headers::err::ip_auth;
 use ip_ext_headers::{IpAuthHeaderSlice, Ipv6FragmentHeaderSlice, Ipv6RawExtHeaderSlice};
 
-/// An error and the layer that it is in.
-pub(crate) type Fault = (HeaderSliceError, Layer);
-
 /// Returns the bytes after the first `len`.
 pub(crate) fn after(bytes: &[u8], len: usize) -> &[u8]
     requires { len ≤ length bytes.now }
@@ -144,11 +141,17 @@ pub(crate) fn error_at(
     }
 }
 
-/// Returns the error at an extension header's number where the chain ends, as `error_at` does, with its layer. It is
-/// kept out of line, since most chains end without an error. Each kind of error is built where it is returned.
+/// Returns the error at an extension header's number where the chain ends, with `bytes` left, `offset` bytes after its
+/// start, and the layer that the error is in. `first` says that no header precedes it. Kept out of line, since most
+/// chains end without an error. Each kind of error is built where it is returned.
 #[cold]
 #[inline(never)]
-pub(crate) fn fault(first: bool, number: IpNumber, bytes: &[u8], offset: usize) -> Fault
+pub fn fault(
+    first: bool,
+    number: IpNumber,
+    bytes: &[u8],
+    offset: usize,
+) -> (HeaderSliceError, Layer)
     requires { IsSome (slice_fault offset first number.0 bytes.now) }
     ensures { slice_fault offset first number.0 bytes.now ≡ Some result }
 {

@@ -13,8 +13,7 @@ pub headers-preserved : goal.headers-preserved
 headers-preserved g c =
     let w = c.headers.invariant.1 in
     let header = c.in-Some.ensures in
-    let said = c.with-found.ensures _ _ w.said (c.fragment_at.ensures _ header.next.header header.next.prefix) in
-    (
+    let said = c.with-found.ensures _ _ w.said (c.fragment_at.ensures _ header.next.header header.next.prefix) in (
       c.headers.invariant.0 ++ record { number = c.headers.number.0; bytes = take c.in-Some.len c.headers.rest.now } ∷ [],
       goes_on _ _ _ _ _ _ w _ _ _ header.next header.within c.after-rest.ensures said c.if-found.false,
       c.visit.ensures _ _ c.headers.invariant.0 c.headers.invariant.2 (count_is _ _ _ _ _ _ w) (offset_is _ _ _ _ _ _ w c.args.offset),

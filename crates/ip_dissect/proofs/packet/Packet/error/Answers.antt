@@ -7,7 +7,7 @@ use Rattle.ip_dissect.specs.End.{has_error}
 use Rattle.ip_dissect.specs.declared.outline.Outline.{Outline}
 use Rattle.ip_dissect.specs.declared.end.End.{End}
 use Rattle.ip_dissect.proofs.DissectedLemmas.{begins4, begins6, begins_none}
-use Rattle.ip_dissect.proofs.OutlineLemmas.{ipv6_error_is}
+use Rattle.ip_dissect.proofs.OutlineLemmas.{ipv6_error_there, ipv6_error_is}
 use Rattle.ip_dissect.proofs.PacketLemmas.{outline_fits}
 use Rattle.ip_dissect.proofs.packet.Packet.error.Goals as goal
 
@@ -22,7 +22,12 @@ end_at_extension-requires c =
     let w = begins6 _ _ (ipv6_header.bytes c.in-Some-Ipv6.field-0-0) c.args.self.now.base_is (search rules) (search rules) in
     let fits = outline_fits c.args.self.now.bytes.now _ _ c.args.self.now.base_is c.args.self.now.outline_is in
     let base = ap (λ (o : Outline). o.base_len) (c.args.self.now.outline_is ∙ ap outline_of w.is) ∙ w.header.len in
-    search (rules, fits, base)
+    record {
+      fits = search (rules, fits, base);
+      fault =
+          ipv6_error_there (ipv6_header.bytes c.in-Some-Ipv6.field-0-0) c.args.self.now.bytes.now _ _ (c.args.self.now.outline_is ∙ ap outline_of w.is) (c.payload.ensures ∙ ap (λ (p : DissectedParts). p.payload) w.is)
+          (ap (λ (p : DissectedParts). has_error p.end) (sym w.is) ∙ c.requires);
+    }
 
 pub base_error-requires : goal.base_error-requires
 base_error-requires c = let P : Option End → Type 0 = λ o. IsSome o in subst P (sym (begins_none _ (rw c.in-None.is at c.args.self.now.base_is)).ends) (search rules)
@@ -33,8 +38,8 @@ returns-in-Some-Ipv4 c = c.ipv4_end.ensures ∙ ap (λ (p : DissectedParts). p.e
 pub returns-in-Some-Ipv6 : goal.returns-in-Some-Ipv6
 returns-in-Some-Ipv6 c =
     let w = begins6 _ _ (ipv6_header.bytes c.in-Some-Ipv6.field-0-0) c.args.self.now.base_is (search rules) (search rules) in
-    ipv6_error_is (ipv6_header.bytes c.in-Some-Ipv6.field-0-0) c.args.self.now.bytes.now _ _ _ (c.args.self.now.outline_is ∙ ap outline_of w.is) (c.payload.ensures ∙ ap (λ (p : DissectedParts). p.payload) w.is)
-    (ap (λ (p : DissectedParts). has_error p.end) (sym w.is) ∙ c.requires) c.end_at_extension.ensures
+    ipv6_error_is (ipv6_header.bytes c.in-Some-Ipv6.field-0-0) c.args.self.now.bytes.now _ _ (c.args.self.now.outline_is ∙ ap outline_of w.is) (c.payload.ensures ∙ ap (λ (p : DissectedParts). p.payload) w.is)
+    (ap (λ (p : DissectedParts). has_error p.end) (sym w.is) ∙ c.requires) _ c.end_at_extension.ensures
     ∙ ap (λ (p : DissectedParts). p.end) (sym w.is)
 
 pub returns-in-None : goal.returns-in-None

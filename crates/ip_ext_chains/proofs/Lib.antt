@@ -1,6 +1,7 @@
 pub mod PlacedLemmas
 pub mod RunsOfLemmas
 pub mod RunLemmas
+pub mod NumberedLemmas
 pub mod FittingLemmas
 pub mod PlacedFieldsLemmas
 pub mod RunSpellingLemmas

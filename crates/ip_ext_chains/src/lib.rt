@@ -13,6 +13,7 @@ mod ipv6_exts_runs;
 mod ipv6_exts_write;
 mod ipv6_routing_exts;
 mod links;
+mod numbered;
 mod places;
 mod run;
 mod walk;
@@ -31,3 +32,4 @@ pub use ip_ext_slices::{
 pub use ipv6_exts::Ipv6Extensions;
 pub use ipv6_exts_runs::Ipv6ExtensionsRuns;
 pub use ipv6_routing_exts::Ipv6RoutingExtensions;
+pub use numbered::{HasNumber, run_len};

@@ -1,4 +1,3 @@
 pub mod SpanLemmas
 pub mod PacketPartsLemmas
-pub mod RunLemmas
 pub mod WrittenLemmas

@@ -7,6 +7,5 @@ pub mod PacketParts
 pub mod DissectionParts
 pub mod HeaderFields
 pub mod LinkedSpans
-pub mod InPlaces
 pub mod Written
 pub mod FilterNumbers

@@ -7,7 +7,8 @@ ghost use Rattle.ip_ext_slices.specs.Ipv4ExtensionsSlice.{headers_in as ipv4_hea
 ghost use Rattle.ip_spans.specs.HeaderSpan.{header_span, spans_from, filled};
 
 use crate::fields::Fields;
-use ip_base::ip_number;
+use ip_base::{IpNumber, ip_number};
+use ip_ext_chains::HasNumber;
 use ip_ext_slices::{Ipv4ExtensionsSlice, Ipv6ExtensionSlice, Ipv6ExtensionsSlice};
 
 /// The span of an extension header in the caller's bytes, its number and its next header.
@@ -46,6 +47,15 @@ impl Fields for HeaderSpan {
         self.len = fields.len;
         self.number = fields.number;
         self.next_header = fields.next_header;
+    }
+}
+
+impl HasNumber for HeaderSpan {
+    ghost number_of = { λ span. span.number };
+
+    #[inline(always)]
+    fn number(&self) -> IpNumber {
+        IpNumber(self.number)
     }
 }
 

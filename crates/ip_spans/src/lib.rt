@@ -17,7 +17,6 @@ mod links;
 mod names;
 mod packet_parts;
 mod payload_span;
-mod runs;
 mod texts;
 mod writes;
 
@@ -34,6 +33,5 @@ pub use links::link_headers;
 pub use names::{kind_name, layer_name, len_source_name, number_name};
 pub use packet_parts::{PacketParts, parse_packet, parse_packet_lax};
 pub use payload_span::{PayloadSpan, find_payload, find_payload_lax};
-pub use runs::run_len;
 pub use texts::{expected_text, fault_text};
 pub use writes::write_headers;

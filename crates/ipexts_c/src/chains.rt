@@ -5,15 +5,16 @@ ghost use Rattle.ip_spec.specs.Demand.{KeepsBeginning};
 ghost use Rattle.ip_ext_slices.specs.Longest.{longest_chain};
 ghost use Rattle.ip_ext_slices.specs.ChainFault.{slice_fault};
 ghost use Rattle.ip_ext_slices.specs.Ipv4Longest.{longest_ipv4_chain};
+ghost use Rattle.ip_ext_chains.specs.InPlaces.{AreInPlaces};
 ghost use Rattle.ip_spans.specs.HeaderSpan.{spans_from, filled};
 ghost use Rattle.ip_spans.specs.ChainParts.{chain_parts, ipv4_chain_parts};
 ghost use Rattle.ip_spans.specs.ChainCursor.{IsHeaderSpan};
 ghost use Rattle.ip_spans.specs.FaultFields.{chain_fault_fields};
-ghost use Rattle.ip_spans.specs.InPlaces.{AreInPlaces};
 
 use crate::results::put_some;
+use ip_ext_chains::run_len;
 use ip_spans::{
-    ChainCursor, ChainParts, FaultFields, HeaderSpan, parse_chain, parse_ipv4_chain, run_len,
+    ChainCursor, ChainParts, FaultFields, HeaderSpan, parse_chain, parse_ipv4_chain,
 };
 
 /// Calls `parse_chain` and stores its result in `chain`.
@@ -75,7 +76,8 @@ pub extern "C" fn wolfaren_fault_at(cursor: &ChainCursor, bytes: &[u8], fault: &
 #[unsafe(no_mangle)]
 pub extern "C" fn wolfaren_run_len(spans: &[HeaderSpan]) -> usize
     ensures within { result ≤ length spans.now }
-    ensures run { KeepsBeginning AreInPlaces spans.now (take result spans.now) }
+    ensures run { KeepsBeginning (AreInPlaces (λ span. span.number)) spans.now
+        (take result spans.now) }
 {
     run_len(spans)
 }

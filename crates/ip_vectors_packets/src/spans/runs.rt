@@ -1,7 +1,8 @@
 //! The number of headers that fit one struct of six places.
 use crate::checks::assert_same;
 use crate::spans::samples::{STAYS, span};
-use ip_spans::{HeaderSpan, parse_chain, run_len};
+use ip_ext_chains::run_len;
+use ip_spans::{HeaderSpan, parse_chain};
 use std::process::Abort;
 
 /// Returns the length of the first run of headers with these numbers, at most 8.

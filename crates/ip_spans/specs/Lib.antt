@@ -1,6 +1,5 @@
 pub mod HeaderSpan
 pub mod FaultFields
-pub mod CodeNames
 pub mod ChainParts
 pub mod ChainCursor
 pub mod PacketParts

@@ -1,8 +1,8 @@
 //! Names of codes.
 ghost use Rattle.std.specs.Prelude.{◌≡◌};
-ghost use Rattle.ip_spans.specs.CodeNames.{name_in, kind_names, layer_names, len_source_names, number_names};
+ghost use Rattle.ip_codes.specs.CodeNames.{name_in, kind_names, layer_names, len_source_names, number_names};
 
-use ip_spans::{kind_name, layer_name, len_source_name, number_name};
+use ip_codes::{kind_name, layer_name, len_source_name, number_name};
 
 /// Calls `kind_name` and stores its result in `name`.
 #[unsafe(no_mangle)]

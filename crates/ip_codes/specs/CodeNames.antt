@@ -1,4 +1,4 @@
--- The names of the codes in plain fields, each followed by a 0 byte, as C expects of a text.
+-- The names of codes and of protocol numbers, each followed by a 0 byte, as C expects of a text.
 use Rattle.std.specs.Prelude.{ℕ, List, [], ◌∷◌, ◌++◌, codes, slice_index_or}
 use Rattle.ip_base.specs.Names.{layer_name, len_source_name}
 use Rattle.ip_base.specs.declared.err.layer.Layer.TheVariants.{IpHeader, Ipv4Header, Ipv4Packet, IpAuthHeader, Ipv6Header, Ipv6Packet, Ipv6ExtHeader, Ipv6HopByHopHeader, Ipv6DestOptionsHeader, Ipv6RouteHeader, Ipv6FragHeader, Icmpv4}

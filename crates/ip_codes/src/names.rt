@@ -1,7 +1,7 @@
-//! The names of the codes in plain fields, as constant texts for C: each is followed by a 0 byte. A code without a
+//! The names of codes and of protocol numbers, as constant texts for C: each is followed by a 0 byte. A code without a
 //! name, such as 0, has the empty name.
 ghost use Rattle.std.specs.Prelude.{◌≡◌};
-ghost use Rattle.ip_spans.specs.CodeNames.{name_in, kind_names, layer_names, len_source_names, number_names};
+ghost use Rattle.ip_codes.specs.CodeNames.{name_in, kind_names, layer_names, len_source_names, number_names};
 
 /// Returns the name of a kind of error.
 #[tactic(auto, using(std::proofs::lemmas::List::get_or_past))]

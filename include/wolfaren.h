@@ -35,7 +35,7 @@
 #define WOLFAREN_VERSION (10000 * WOLFAREN_VERSION_MAJOR + 100 * WOLFAREN_VERSION_MINOR + WOLFAREN_VERSION_PATCH)
 
 /* A checksum of the structs, codes and calls in this header, made by scripts/abi of the repository. */
-#define WOLFAREN_ABI 0xfc8089c3u
+#define WOLFAREN_ABI 0xbaf3e33au
 
 #if !(defined(__x86_64__) && !defined(__ILP32__)) && !defined(_M_X64) && !defined(__aarch64__) && !defined(_M_ARM64)
 #error "libwolfaren needs a 64-bit machine: x86-64 or ARM64"
@@ -319,6 +319,14 @@ void wolfaren_init_statistics(struct wolfaren_statistics *statistics) WOLFAREN_N
  */
 void wolfaren_count_packet(struct wolfaren_statistics *statistics, const uint8_t *bytes, size_t len)
     WOLFAREN_NONNULL(1);
+
+/*
+ * Counts the packet at the start of the `len` bytes as wolfaren_count_packet does, and dissects it as wolfaren_dissect
+ * does, in one walk over its extension headers.
+ */
+void wolfaren_count_dissection(struct wolfaren_statistics *statistics, const uint8_t *bytes, size_t len,
+                               struct wolfaren_header *headers, size_t room, struct wolfaren_dissection *dissection)
+    WOLFAREN_NONNULL(1, 6);
 
 /* Counts a frame that has no IP packet, which the caller knows from the link layer, in `other_frames`. */
 void wolfaren_count_other_frame(struct wolfaren_statistics *statistics) WOLFAREN_NONNULL(1);

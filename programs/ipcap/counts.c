@@ -12,11 +12,10 @@ void init_counts(struct counts *counts)
     wolfaren_init_statistics(&counts->statistics);
 }
 
-/* Adds the chain of a packet to the table of chains. Returns false if memory runs out. */
-static bool count_chain(struct table *chains, struct parts *parts, const uint8_t *bytes, size_t len)
+/* Adds the chain of a dissected packet to the table of chains. Returns false if memory runs out. */
+static bool count_chain(struct table *chains, const struct parts *parts)
 {
     struct key key;
-    if (!parse_packet(parts, bytes, len)) return false;
     if (parts->packet.version == 0) return true;
     if (chain_key(parts, &key)) return add_to_table(chains, &key, 1);
     chains->other = add_counts(chains->other, 1);
@@ -32,8 +31,7 @@ static bool count_packet(struct counts *counts, struct parts *parts, const struc
         wolfaren_count_other_frame(&counts->statistics);
         return true;
     }
-    wolfaren_count_packet(&counts->statistics, bytes, len);
-    return count_chain(&counts->chains, parts, bytes, len);
+    return parse_packet(parts, bytes, len, &counts->statistics) && count_chain(&counts->chains, parts);
 }
 
 bool count_capture(struct counts *counts, struct capture *capture)

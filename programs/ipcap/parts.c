@@ -15,12 +15,13 @@ static bool make_room(struct parts *parts, size_t room)
     return true;
 }
 
-bool parse_packet(struct parts *parts, const uint8_t *bytes, size_t len)
+bool parse_packet(struct parts *parts, const uint8_t *bytes, size_t len, struct wolfaren_statistics *statistics)
 {
     parts->bytes = bytes;
     parts->len = len;
     if (parts->room == 0 && !make_room(parts, FIRST_ROOM)) return false;
-    wolfaren_dissect(bytes, len, parts->headers, parts->room, &parts->packet);
+    if (statistics) wolfaren_count_dissection(statistics, bytes, len, parts->headers, parts->room, &parts->packet);
+    else wolfaren_dissect(bytes, len, parts->headers, parts->room, &parts->packet);
     if (parts->packet.headers <= parts->room) return true;
     if (!make_room(parts, parts->packet.headers)) return false;
     wolfaren_dissect(bytes, len, parts->headers, parts->room, &parts->packet);

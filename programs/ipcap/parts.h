@@ -24,8 +24,11 @@ struct parts {
     size_t room;                     /* number of elements allocated */
 };
 
-/* Dissects the packet at the start of the `len` bytes. Returns false if memory runs out. */
-bool parse_packet(struct parts *parts, const uint8_t *bytes, size_t len);
+/*
+ * Dissects the packet at the start of the `len` bytes, and counts it in the statistics unless they are NULL. Returns false
+ * if memory runs out.
+ */
+bool parse_packet(struct parts *parts, const uint8_t *bytes, size_t len, struct wolfaren_statistics *statistics);
 
 /* Returns how the chain of a packet ends. */
 enum chain_end end_of_chain(const struct parts *parts);

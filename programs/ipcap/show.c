@@ -68,7 +68,7 @@ static void print_title(const struct capture *capture, const struct packet *pack
 static bool parse_captured(struct parts *parts, const struct packet *packet)
 {
     size_t len = packet->header.caplen - packet->ip_offset;
-    if (parse_packet(parts, packet->frame + packet->ip_offset, len)) return true;
+    if (parse_packet(parts, packet->frame + packet->ip_offset, len, NULL)) return true;
     complain_of_memory();
     return false;
 }

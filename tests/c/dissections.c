@@ -1,6 +1,6 @@
 /*
- * Tests wolfaren_dissect: each end, for IPv4 and IPv6, packets truncated at every byte, and short arrays. The expected
- * values were worked out by hand from RFC 791, RFC 4302 and RFC 8200.
+ * Tests wolfaren_dissect and wolfaren_count_dissection: each end, for IPv4 and IPv6, packets truncated at every byte, and
+ * short arrays. The expected values were worked out by hand from RFC 791, RFC 4302 and RFC 8200.
  */
 #include "wolfaren.h"
 
@@ -45,8 +45,11 @@ static uint8_t *exact_copy(const uint8_t *bytes, size_t len)
     return copy;
 }
 
-/* Dissects the bytes with room for this many headers. Elements that aren't written must keep their values. */
-static void check_with_room(const char *name, const uint8_t *bytes, size_t len, size_t room,
+/*
+ * Dissects the bytes with room for this many headers, and counts the packet in the same walk or not. Elements that aren't
+ * written must keep their values.
+ */
+static void check_with_room(const char *name, bool is_counted, const uint8_t *bytes, size_t len, size_t room,
                             const struct wolfaren_dissection *wanted, const struct wolfaren_header *wanted_headers)
 {
     struct wolfaren_header headers[MAX_HEADERS + 1];
@@ -55,7 +58,14 @@ static void check_with_room(const char *name, const uint8_t *bytes, size_t len, 
     memset(headers, 0xff, sizeof headers);
     memset(&stays, 0xff, sizeof stays);
     memset(&found, 0xff, sizeof found);
-    wolfaren_dissect(bytes, len, room > 0 ? headers : NULL, room, &found);
+    if (is_counted) {
+        struct wolfaren_statistics counts;
+        wolfaren_init_statistics(&counts);
+        wolfaren_count_dissection(&counts, bytes, len, room > 0 ? headers : NULL, room, &found);
+        check(counts.packets == 1, name, "the count");
+    } else {
+        wolfaren_dissect(bytes, len, room > 0 ? headers : NULL, room, &found);
+    }
     check(memcmp(&found, wanted, sizeof found) == 0, name, "the dissection");
     for (size_t i = 0; i <= MAX_HEADERS; i++) {
         bool is_written = i < room && i < wanted->headers;
@@ -69,7 +79,8 @@ static void check_dissection(const char *name, const uint8_t *bytes, size_t len,
 {
     uint8_t *copy = exact_copy(bytes, len);
     for (size_t room = 0; room <= MAX_HEADERS + 1; room++) {
-        check_with_room(name, copy, len, room, wanted, headers);
+        check_with_room(name, false, copy, len, room, wanted, headers);
+        check_with_room(name, true, copy, len, room, wanted, headers);
     }
     free(copy);
 }

@@ -73,6 +73,15 @@ static size_t read_bytes(const char *digits, uint8_t *bytes)
     return len;
 }
 
+/* Counts the packet, and dissects it in the same walk or not. */
+static void count_packet(struct wolfaren_statistics *part, bool is_dissected, const uint8_t *bytes, size_t len)
+{
+    struct wolfaren_header header;
+    struct wolfaren_dissection dissection;
+    if (is_dissected) wolfaren_count_dissection(part, bytes, len, &header, 1, &dissection);
+    else wolfaren_count_packet(part, bytes, len);
+}
+
 static void count_lines(struct wolfaren_statistics parts[PARTS])
 {
     static char line[2 * MAX_PACKET + 4];
@@ -81,7 +90,7 @@ static void count_lines(struct wolfaren_statistics parts[PARTS])
         struct wolfaren_statistics *part = &parts[i * i % PARTS];
         if (line[0] == 'o') wolfaren_count_other_frame(part);
         if (line[0] == 't') wolfaren_count_truncated_frame(part);
-        if (line[0] == 'p') wolfaren_count_packet(part, bytes, read_bytes(line + 1, bytes));
+        if (line[0] == 'p') count_packet(part, i % 2 == 0, bytes, read_bytes(line + 1, bytes));
     }
 }
 

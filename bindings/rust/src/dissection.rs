@@ -1,6 +1,6 @@
 use crate::err::ip::SliceError;
 use crate::err::{Layer, LenError};
-use crate::library::{self, Base, Fault};
+use crate::library::{self, Base, DissectedParts, Fault};
 use crate::{
     ip_number, IpNumber, Ipv4ExtensionsSlice, Ipv4HeaderSlice, Ipv6ExtensionSliceIter,
     Ipv6ExtensionsSlice, Ipv6HeaderSlice,
@@ -115,7 +115,12 @@ impl<'a> Dissection<'a> {
     /// Dissects the IPv4 or IPv6 packet at the start of the bytes, which may be any bytes.
     #[must_use]
     pub fn from_slice(slice: &'a [u8]) -> Dissection<'a> {
-        let parts = library::dissect(slice);
+        Dissection::of_parts(library::dissect(slice))
+    }
+
+    /// Returns the dissection with these parts.
+    #[inline(always)]
+    pub(crate) fn of_parts(parts: DissectedParts<'a>) -> Dissection<'a> {
         let found = &parts.found;
         let kind = FragmentKind::of_code(found.fragment);
         Dissection {

@@ -145,7 +145,7 @@ const _: () = {
 
 /// `WOLFAREN_ABI`: the checksum of the header that this file was written for (`scripts/abi` of the repository).
 #[cfg(all(test, not(miri)))]
-pub(crate) const ABI: u32 = 0xfc80_89c3;
+pub(crate) const ABI: u32 = 0xbaf3_e33a;
 
 unsafe extern "C" {
     fn wolfaren_parse_chain(
@@ -213,6 +213,15 @@ unsafe extern "C" {
     fn wolfaren_init_statistics(statistics: *mut Statistics);
 
     fn wolfaren_count_packet(statistics: *mut Statistics, bytes: *const u8, len: usize);
+
+    fn wolfaren_count_dissection(
+        statistics: *mut Statistics,
+        bytes: *const u8,
+        len: usize,
+        headers: *mut Header,
+        room: usize,
+        dissection: *mut Dissection,
+    );
 
     fn wolfaren_count_other_frame(statistics: *mut Statistics);
 
@@ -476,6 +485,36 @@ pub(crate) fn dissect(bytes: &[u8]) -> DissectedParts<'_> {
         );
         found.assume_init()
     };
+    dissected_parts(bytes, found)
+}
+
+/// Counts the packet at the start of the bytes, and dissects it.
+#[inline(always)]
+pub(crate) fn count_dissection<'a>(
+    statistics: &mut Statistics,
+    bytes: &'a [u8],
+) -> DissectedParts<'a> {
+    let mut found = MaybeUninit::uninit();
+    // SAFETY: the statistics are borrowed exclusively. The bytes are a slice, which the call only reads. The array has no
+    // elements and may be null. `found` has room for a dissection and overlaps neither, and the call writes all of its
+    // fields.
+    let found: Dissection = unsafe {
+        wolfaren_count_dissection(
+            statistics,
+            bytes.as_ptr(),
+            bytes.len(),
+            ptr::null_mut(),
+            0,
+            found.as_mut_ptr(),
+        );
+        found.assume_init()
+    };
+    dissected_parts(bytes, found)
+}
+
+/// Returns the parts of a packet that the library has dissected.
+#[inline(always)]
+fn dissected_parts(bytes: &[u8], found: Dissection) -> DissectedParts<'_> {
     let (packet, padding) = bytes.split_at(found.payload_offset + found.payload_len);
     let (headers, payload) = packet.split_at(found.payload_offset);
     let (base, extensions) = headers.split_at(found.base_len);

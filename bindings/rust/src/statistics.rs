@@ -1,5 +1,5 @@
 use crate::err::Layer;
-use crate::library;
+use crate::{library, Dissection};
 use core::ops::AddAssign;
 
 /// Statistics of packets, and of the frames of a capture. Each count stops at `u64::MAX`.
@@ -100,6 +100,12 @@ impl Statistics {
     #[inline]
     pub fn count(&mut self, bytes: &[u8]) {
         library::count_packet(self, bytes);
+    }
+
+    /// Counts the packet at the start of the bytes as `count` does, and dissects it as `Dissection::from_slice` does, in
+    /// one walk over its extension headers.
+    pub fn count_dissection<'a>(&mut self, bytes: &'a [u8]) -> Dissection<'a> {
+        Dissection::of_parts(library::count_dissection(self, bytes))
     }
 
     /// Counts a frame that has no IP packet.

@@ -1,7 +1,7 @@
 //! Tests statistics. The expected counts were worked out by hand from RFC 791, RFC 4302 and RFC 8200.
 #![cfg(not(miri))]
 use wolfaren::err::Layer;
-use wolfaren::{FaultKind, Statistics};
+use wolfaren::{Dissection, FaultKind, Statistics};
 
 /// Returns an IPv6 packet.
 fn ipv6(payload_length: u8, next_header: u8, after: &[u8]) -> Vec<u8> {
@@ -72,7 +72,8 @@ fn merges_in_any_order() {
     let (mut all, mut forward, mut backward) =
         (Statistics::new(), Statistics::new(), Statistics::default());
     for packet in packets() {
-        all.count(&packet);
+        let dissection = all.count_dissection(&packet);
+        assert_eq!(dissection, Dissection::from_slice(&packet));
         let mut one = Statistics::new();
         one.count(&packet);
         forward += &one;

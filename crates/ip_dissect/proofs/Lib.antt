@@ -7,4 +7,3 @@ pub mod JoinedLemmas
 pub mod PacketLemmas
 pub mod OutlineLemmas
 pub mod PlainLemmas
-pub mod VisitedLemmas

@@ -19,6 +19,7 @@ mod start;
 mod visit;
 mod visitor;
 mod walk;
+mod walk_visitor;
 mod walks;
 
 pub use dissect_laws::{one_chain_to_a_later_fragment, truncated_bytes_keep_whole_headers};
@@ -29,4 +30,5 @@ pub use outline::Outline;
 pub use packet::Packet;
 pub use start::PacketStart;
 pub use visitor::{HeaderVisitor, NoVisitor, PacketVisitor, Visited};
+pub use walk_visitor::{Both, WalkVisitor};
 pub use walks::{dissect, outline_packet};

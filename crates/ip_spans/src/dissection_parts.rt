@@ -12,7 +12,7 @@ use crate::fields::Fields;
 use crate::header_span::HeaderSpan;
 use ip_base::IpNumber;
 use ip_codes::{end_code_of, kind_code_of};
-use ip_dissect::{Fragment, HeaderVisitor, Packet, PacketStart, PacketVisitor};
+use ip_dissect::{Fragment, HeaderVisitor, Packet, WalkVisitor};
 
 /// A dissected packet: its parts as lengths and offsets, which fragment it is, and why its headers end where they do.
 #[repr(C)]
@@ -58,14 +58,16 @@ pub fn dissect_packet(bytes: &[u8], spans: &mut [HeaderSpan], parts: &mut Dissec
     ensures within { parts.new.payload_offset + parts.new.payload_len + parts.new.padding
         ≡ length bytes.now }
 {
-    let _ = Packet::visit(bytes, &mut PartsAndSpans { parts, spans });
+    Packet::walk_through(bytes, &mut PartsAndSpans { parts, spans });
 }
 
-/// Where the parts of a packet and the spans of its extension headers are stored.
+/// The visitor of `dissect_packet`: where the parts of a packet and the spans of its extension headers are stored.
 #[derive(Debug, Drop)]
-struct PartsAndSpans<'p, 's> {
-    parts: &'p mut DissectionParts,
-    spans: &'s mut [HeaderSpan],
+pub struct PartsAndSpans<'p, 's> {
+    /// The parts.
+    pub parts: &'p mut DissectionParts,
+    /// The spans of the first headers, as many as fit.
+    pub spans: &'s mut [HeaderSpan],
 }
 
 impl HeaderVisitor for PartsAndSpans<'_, '_> {
@@ -89,24 +91,13 @@ impl HeaderVisitor for PartsAndSpans<'_, '_> {
     }
 }
 
-impl<'a> PacketVisitor<'a> for PartsAndSpans<'_, '_> {
-    type Plain = ();
+impl WalkVisitor for PartsAndSpans<'_, '_> {
+    ghost walked = { AreStored };
 
-    type Other = ();
-
-    ghost plain = { λ old s new _. AreStored old s new };
-
-    ghost other = { λ old s new _. AreStored old s new };
-
+    /// Stores the parts of the packet.
     #[inline(always)]
-    fn visit_plain(&mut self, packet: Packet<'a>) {
-        self.parts.put(&packet);
-    }
-
-    #[inline(always)]
-    fn visit_other(&mut self, start: PacketStart<'a>) {
-        let packet = start.walk(self);
-        self.parts.put(&packet);
+    fn end(&mut self, packet: &Packet<'_>) {
+        self.parts.put(packet);
     }
 }
 

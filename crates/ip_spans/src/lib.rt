@@ -21,7 +21,7 @@ mod writes;
 
 pub use chain_cursor::ChainCursor;
 pub use chain_parts::{ChainParts, parse_chain, parse_ipv4_chain};
-pub use dissection_parts::{DissectionParts, dissect_packet};
+pub use dissection_parts::{DissectionParts, PartsAndSpans, dissect_packet};
 pub use fault_fields::FaultFields;
 pub use fields::Fields;
 pub use filter_numbers::{FilterNumbers, StepNumbers, filter_matches, filter_matches_other};

@@ -2,9 +2,7 @@
 use Rattle.std.proofs.Common.{◌≡◌, ℕ, ◌+◌, ◌==◌, ◌&&◌, List, [], ◌∷◌, ◌++◌, length, get_or, Fits, w64, sym, refl, ◌∙◌, ap, true, arith, rules}
 use Rattle.std.specs.List.{count_by}
 use Rattle.std.proofs.lemmas.List.Sums.{sum_by-cons}
-use Rattle.ip_spec.specs.Chain.{ExtHeader, is_empty}
-use Rattle.ip_dissect.specs.Dissection.{DissectedParts}
-use Rattle.ip_dissect.specs.Outline.{is_plain}
+use Rattle.ip_spec.specs.Chain.{ExtHeader}
 use Rattle.ip_statistics.specs.Counts.{all_added, each_below, one_if}
 use Rattle.ip_statistics.specs.HeaderCounts.{number_counts}
 use Rattle.ip_statistics.specs.Statistics.{merged}
@@ -31,14 +29,6 @@ counted_more old xs ys c h e sum one = one
 -- None is.
 pub none_counted : (xs : List ℕ) (c : List ExtHeader) → c ≡ [] → length xs ≡ 256 → ((i : ℕ) → Fits w64 (get_or xs i 0)) → xs ≡ all_added xs (number_counts c)
 none_counted xs c none e fits = sum_of_none xs 256 (with_number c) e fits (λ i _. ap (λ hs. with_number hs i) none)
-
--- A plain packet has no headers.
-no_empty : (c : List ExtHeader) → is_empty c ≡ true → c ≡ []
-no_empty [] e = refl
-no_empty (h ∷ c) e = cc
-
-pub plain_counts : (xs : List ℕ) (p : DissectedParts) → is_plain p ≡ true → xs ≡ all_added xs (number_counts []) → xs ≡ all_added xs (number_counts p.headers)
-plain_counts xs p is none = none ∙ ap (λ hs. all_added xs (number_counts hs)) (sym (no_empty p.headers (search rules)))
 
 -- The headers are counted by number before all else.
 pub headers_first : (a b new : Statistics) (hs : List ℕ) → new ≡ record (merged (record a { headers = hs }) b) { headers = hs } → hs ≡ all_added a.headers b.headers → new ≡ merged a b

@@ -6,11 +6,11 @@ ghost use Rattle.ip_statistics.specs.Packet.{is_fragment_of};
 use crate::Statistics;
 use crate::counts::{add, count_at, count_if};
 use crate::faults::{index_of, layer_code_at};
-use crate::headers::{HeaderCounts, count_none};
+use crate::headers::count_none;
 use crate::lengths::count_length;
 use ip_codes::{end_code_of, kind_code_of};
 use ip_dissect::FragmentKind::{Atomic, First, Last, Middle};
-use ip_dissect::{End, Fragment, FragmentKind, Outline, Packet, PacketStart, PacketVisitor};
+use ip_dissect::{Both, End, Fragment, FragmentKind, Outline, Packet, WalkVisitor};
 
 /// The codes of ends.
 mod at {
@@ -60,17 +60,25 @@ impl Statistics {
         ensures packets { (xs : List (List ℕ)) → self.old ≡ statistics_of xs
             → self.new ≡ statistics_of (bytes.now ∷ xs) }
     {
-        let _ = Packet::visit(bytes, self);
+        count_none(&self.headers);
+        Packet::walk_through(bytes, self);
     }
 
-    /// Adds all counts of a packet but those of its extension headers by number.
+    /// Counts the packet at the start of `bytes`, which may be any bytes, and has another visitor visit it in the same
+    /// walk.
     #[inline(always)]
-    fn add_packet(&mut self, packet: &Packet<'_>)
-        ensures { self.new ≡ record (merged self.old (counts_of (dissected packet.now.bytes.now))) {
-          headers = self.old.headers;
-        } }
+    pub fn count_and_visit<W: WalkVisitor>(&mut self, bytes: &[u8], visitor: &mut W)
+        ensures counts { self.new ≡ merged self.old (counts_of (dissected bytes.now)) }
+        ensures visited { W.walked visitor.old bytes.now visitor.new }
     {
-        self.add_outline(&packet.outline, &packet.end());
+        count_none(&self.headers);
+        Packet::walk_through(
+            bytes,
+            &mut Both {
+                first: self,
+                second: visitor,
+            },
+        );
     }
 
     /// Adds all counts of a packet with this outline and end but those of its extension headers by number.
@@ -119,32 +127,17 @@ impl Statistics {
     }
 }
 
-impl<'a> PacketVisitor<'a> for Statistics {
+impl WalkVisitor for Statistics {
     ghost use Rattle.ip_dissect.specs.Dissection.{dissected};
+    ghost use Rattle.ip_statistics.specs.HeaderCounts.{AreCounts};
     ghost use Rattle.ip_statistics.specs.Packet.{counts_of};
     ghost use Rattle.ip_statistics.specs.Statistics.{merged};
 
-    type Plain = ();
+    ghost walked = { λ old s new. AreCounts old.headers → new ≡ merged old (counts_of (dissected s)) };
 
-    type Other = ();
-
-    ghost plain = { λ old s new _. new ≡ merged old (counts_of (dissected s)) };
-
-    ghost other = { λ old s new _. new ≡ merged old (counts_of (dissected s)) };
-
+    /// Adds all counts of the packet but those of its extension headers by number, which `visit` has added.
     #[inline(always)]
-    fn visit_plain(&mut self, packet: Packet<'a>) {
-        count_none(&self.headers);
-        self.add_packet(&packet);
-    }
-
-    #[inline(always)]
-    fn visit_other(&mut self, start: PacketStart<'a>) {
-        count_none(&self.headers);
-        let mut headers = HeaderCounts {
-            counts: &mut self.headers,
-        };
-        let packet = start.walk(&mut headers);
-        self.add_packet(&packet);
+    fn end(&mut self, packet: &Packet<'_>) {
+        self.add_outline(&packet.outline, &packet.end());
     }
 }

@@ -108,7 +108,8 @@ fn put_end(wanted: &mut Statistics, counted: &Counted<'_>) {
     }
 }
 
-/// Counts the packet alone and compares the counts. Counts it in `all`, and merges the counts into `merged`.
+/// Counts the packet alone and compares the counts. Counts it in `all` in the same walk, and merges the counts into
+/// `merged`.
 fn check(
     rt: &impl Abort,
     name: &str,
@@ -118,9 +119,8 @@ fn check(
     merged: &mut Statistics,
 ) {
     let mut found = Statistics::new();
-    found.count_packet(bytes);
+    found.count_and_visit(bytes, all);
     assert_same(rt, name, &found, &statistics_of(counted));
-    all.count_packet(bytes);
     merged.merge(&found);
 }
 

@@ -13,9 +13,7 @@ ghost use Rattle.ip_spans.specs.FaultFields.{chain_fault_fields};
 
 use crate::results::put_some;
 use ip_ext_chains::run_len;
-use ip_spans::{
-    ChainCursor, ChainParts, FaultFields, HeaderSpan, parse_chain, parse_ipv4_chain,
-};
+use ip_spans::{ChainCursor, ChainParts, FaultFields, HeaderSpan, parse_chain, parse_ipv4_chain};
 
 /// Calls `parse_chain` and stores its result in `chain`.
 #[unsafe(no_mangle)]

@@ -1,12 +1,15 @@
 //! Statistics of packets.
-ghost use Rattle.std.specs.Prelude.{◌≡◌, ◌&&◌, true, false};
+ghost use Rattle.std.specs.Prelude.{◌≡◌, ◌+◌, ◌&&◌, true, false, length};
 ghost use Rattle.ip_dissect.specs.Dissection.{dissected};
 ghost use Rattle.ip_statistics.specs.Counts.{added};
 ghost use Rattle.ip_statistics.specs.Packet.{counts_of};
 ghost use Rattle.ip_statistics.specs.Statistics.{merged};
 ghost use Rattle.ip_statistics.specs.Capture.{no_frames, is_current, captures_merged};
+ghost use Rattle.ip_spans.specs.HeaderSpan.{filled};
+ghost use Rattle.ip_spans.specs.DissectionParts.{dissection_parts, dissected_spans};
 
 use crate::bytes::Bytes;
+use ip_spans::{DissectionParts, HeaderSpan, PartsAndSpans};
 use ip_statistics::CaptureStatistics;
 
 /// Calls `CaptureStatistics::clear`.
@@ -25,6 +28,29 @@ pub extern "C" fn wolfaren_count_packet(statistics: &mut CaptureStatistics, byte
     } }
 {
     statistics.packets.count_packet(bytes.slice());
+}
+
+/// Calls `Statistics::count_and_visit` with the visitor of `dissect_packet`.
+#[unsafe(no_mangle)]
+pub extern "C" fn wolfaren_count_dissection(
+    statistics: &mut CaptureStatistics,
+    bytes: Bytes<'_>,
+    spans: &mut [HeaderSpan],
+    parts: &mut DissectionParts,
+)
+    ensures statistics { statistics.new ≡ record statistics.old {
+      packets = merged statistics.old.packets (counts_of (dissected bytes.entry.slice.now));
+    } }
+    ensures parts { parts.new ≡ dissection_parts (dissected bytes.entry.slice.now) }
+    ensures spans { spans.new
+        ≡ filled (dissected_spans (dissected bytes.entry.slice.now)) spans.old }
+    ensures within { parts.new.payload_offset + parts.new.payload_len + parts.new.padding
+        ≡ length bytes.entry.slice.now }
+{
+    let mut visitor = PartsAndSpans { parts, spans };
+    statistics
+        .packets
+        .count_and_visit(bytes.slice(), &mut visitor);
 }
 
 /// Calls `CaptureStatistics::count_other_frame`.

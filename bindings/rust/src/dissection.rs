@@ -115,12 +115,12 @@ impl<'a> Dissection<'a> {
     /// Dissects the IPv4 or IPv6 packet at the start of the bytes, which may be any bytes.
     #[must_use]
     pub fn from_slice(slice: &'a [u8]) -> Dissection<'a> {
-        Dissection::of_parts(library::dissect(slice))
+        Dissection::of_parts(&library::dissect(slice))
     }
 
     /// Returns the dissection with these parts.
     #[inline(always)]
-    pub(crate) fn of_parts(parts: DissectedParts<'a>) -> Dissection<'a> {
+    pub(crate) fn of_parts(parts: &DissectedParts<'a>) -> Dissection<'a> {
         let found = &parts.found;
         let kind = FragmentKind::of_code(found.fragment);
         Dissection {

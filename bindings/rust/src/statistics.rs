@@ -105,7 +105,7 @@ impl Statistics {
     /// Counts the packet at the start of the bytes as `count` does, and dissects it as `Dissection::from_slice` does, in
     /// one walk over its extension headers.
     pub fn count_dissection<'a>(&mut self, bytes: &'a [u8]) -> Dissection<'a> {
-        Dissection::of_parts(library::count_dissection(self, bytes))
+        Dissection::of_parts(&library::count_dissection(self, bytes))
     }
 
     /// Counts a frame that has no IP packet.

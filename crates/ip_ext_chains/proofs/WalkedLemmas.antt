@@ -1,10 +1,8 @@
 -- The headers that a walk over a struct of six places has reached and written.
-use Rattle.ip_spec.proofs.Common.{rules, common_steps, refl, ◌≡◌, ℕ, ◌+◌, ◌<◌, List, ◌∷◌, ◌++◌, ap, arith, append_assoc, true, [], Option, Some, None, is_some, IfSome, IfNone, append-nil, AppendsOne, ExtHeader, bytes_of, places, number_in, HeaderFields, IsEncoded, IsEncodable, fields_len, placed_len, IsLongestOf, PlacedFields, IsReachable, answer_at, IsWalkAnswer, IsEncodingOf}
-use Rattle.std.specs.List.{find}
+use Rattle.ip_spec.proofs.Common.{rules, common_steps, refl, ◌≡◌, ℕ, ◌+◌, ◌<◌, List, ◌∷◌, ◌++◌, ap, arith, append_assoc, true, [], Option, Some, None, IfSome, IfNone, append-nil, AppendsOne, ExtHeader, bytes_of, Place, number_in, HeaderFields, IsEncoded, IsEncodable, fields_len, placed_len, IsLongestOf, PlacedFields, IsReachable, answer_at, IsWalkAnswer, IsEncodingOf}
 use Rattle.ip_spec.proofs.StepLemmas.{bytes_of-more}
 use Rattle.ip_spec.proofs.EncodedLemmas.{encoding_is}
 use Rattle.ip_spec.proofs.WalkLemmas.{WalkAnswer}
-use Rattle.ip_spec.proofs.SpellingLemmas.{nothing_filled}
 use Rattle.ip_spec.proofs.WalkStepLemmas.{FillsIn, walk_begins, walks_on, walk_stops, walk_answers, same_held, free_in_chain}
 use Rattle.ip_spec.proofs.LinkLemmas.{next_said}
 use Rattle.ip_spec.proofs.SumLemmas.{sum_placed, sum_left}
@@ -101,10 +99,10 @@ written_walk v f old new before now k s a e =
     }
 
 -- if no header is left, none follows
-pub stop_where_none : (w : Walk) → find (λ p. is_some (left_in w p)) places ≡ None → IsStop w w
+pub stop_where_none : (w : Walk) → ((p : Place) → left_in w p ≡ None) → IsStop w w
 stop_where_none w e =
     record {
-      none = λ p own. search (rules, free_in_chain (placed_fields w.headers.now) (λ q. at q w.reached) w.number.0 w.first p own, nothing_filled (left_in w) e p);
+      none = λ p own. search (rules, free_in_chain (placed_fields w.headers.now) (λ q. at q w.reached) w.number.0 w.first p own, e p);
       left = λ p. refl;
       number = refl;
     }

@@ -1,24 +1,23 @@
 //! Headers in six places written, in the order of a walk.
-ghost use Rattle.std.specs.Prelude.{◌≡◌, ◌≤◌, ◌<◌, ◌↔◌, ◌+◌, ◌++◌, ℕ, List, None, Ok, Err, OnOk, IfSome, IfNone, vec_len, vec_capacity};
+ghost use Rattle.std.specs.Prelude.{◌≡◌, ◌≤◌, ◌<◌, ◌↔◌, ◌+◌, ◌++◌, ℕ, List, None, Ok, Err, IsTrue, OnOk, vec_len, vec_capacity};
 ghost use Rattle.ip_spec.specs.Header.{IsExtensionNumber};
-ghost use Rattle.ip_spec.specs.Encoding.{AreBytes, AppendsOne, cleared_chain};
+ghost use Rattle.ip_spec.specs.Encoding.{AreBytes, cleared_chain};
 ghost use Rattle.ip_spec.specs.Encodable.{IsEncodable, placed_len};
 ghost use Rattle.ip_spec.specs.Chain.{ExtHeader, bytes_of};
 ghost use Rattle.ip_spec.specs.Walk.{PlacedFields, IsSpelling, IsWalkAnswer};
 ghost use Rattle.ip_spec.specs.Fits.{FitsPlaces};
 ghost use Rattle.ip_spec.specs.Parse.{IsParsed};
-ghost use Rattle.ip_spec.specs.WalkStep.{IsEncodingOf};
-ghost use Rattle.ip_ext_chains.specs.HeaderRef.{fields_of_ref};
+ghost use Rattle.ip_spec.specs.Places.{Place as spec_place};
+ghost use Rattle.ip_ext_chains.specs.Place.{as_place};
 ghost use Rattle.ip_ext_chains.specs.Fitting.{fitting_chain, IsFittingAnswer};
 ghost use Rattle.ip_ext_chains.specs.Ipv6Extensions.{placed_fields, value_of, exts_len};
-ghost use Rattle.ip_ext_chains.specs.ExtsWalk.{left_in, left_from, IsAt, IsStep, HasWritten, IsWalkWritten};
+ghost use Rattle.ip_ext_chains.specs.ExtsWalk.{left_in, left_from, IsAt, HasWritten, IsWalkWritten};
 ghost use Rattle.ip_ext_chains.specs.declared.walk.Walk.{Walk as walk_value};
 ghost use Rattle.ip_ext_chains.specs.Write.{IsWritten, IsWalkFault};
 ghost use Rattle.ip_ext_chains.specs.declared.err.ipv6_exts.header_write_error.HeaderWriteError.TheVariants.{Io, Content};
 
 use crate::Ipv6Extensions;
 use crate::err::ipv6_exts::{ExtsWalkError, HeaderWriteError};
-use crate::header_ref::HeaderRef;
 use crate::places::{Place, Places};
 use crate::walk::Walk;
 use ip_base::IpNumber;
@@ -86,54 +85,50 @@ impl Ipv6Extensions {
         ensures capacity { vec_capacity out.old ≤ vec_capacity out.new }
     {
         let mut walk = Walk::new(self, first);
-        let _ = append_next(&mut walk, Place::HopByHop, out);
-        let _ = append_next(&mut walk, Place::Destination, out);
-        let _ = append_next(&mut walk, Place::Routing, out);
-        let _ = append_next(&mut walk, Place::Fragment, out);
-        let _ = append_next(&mut walk, Place::Authentication, out);
-        let _ = append_next(&mut walk, Place::FinalDestination, out);
-        append_left(walk, out)
+        // Headers linked in the order of the places, the usual case, are all reached here.
+        if append_in_order(&mut walk, out) {
+            return Ok(walk.number);
+        }
+        append_others(walk.headers, walk.reached, walk.number, walk.first, out)
     }
 }
 
-/// Appends the bytes of the next header of the walk, if it is in this place, and returns the header.
+/// Appends the bytes of the headers that the walk reaches in the order of the places, up to the first header that isn't
+/// next. Returns whether all headers are reached.
 #[inline(always)]
-fn append_next<'a, A: Allocator>(
-    walk: &mut Walk<'a>,
-    place: Place,
-    out: &mut Vec<u8, A>,
-) -> Option<HeaderRef<'a>>
+fn append_in_order<A: Allocator>(walk: &mut Walk<'_>, out: &mut Vec<u8, A>) -> bool
     requires room { vec_len out.old + placed_len (left_in walk.old) ≤ vec_capacity out.old }
-    ensures some { IfSome result (λ h. IsStep walk.old walk.new (fields_of_ref h)) }
-    ensures appended { IfSome result (λ h.
-        AppendsOne (IsEncodingOf (fields_of_ref h)) out.old.items out.new.items) }
-    ensures none { IfNone result (walk.new ≡ walk.old) }
-    ensures same { IfNone result (out.new.items ≡ out.old.items) }
+    ensures written { (v : PlacedFields) (f : ℕ) (before : List ℕ) → IsEncodable v
+        → HasWritten v f walk.old before out.old.items
+        → HasWritten v f walk.new before out.new.items }
+    ensures whole { IsTrue result → (p : spec_place) → left_in walk.new p ≡ None }
     ensures room { vec_len out.new + placed_len (left_in walk.new) ≤ vec_capacity out.new }
     ensures capacity { vec_capacity out.old ≤ vec_capacity out.new }
 {
-    let header = walk.next_in(place)?;
-    header.append(out);
-    Some(header)
+    append_next(walk, Place::HopByHop, out)
+        && append_next(walk, Place::Destination, out)
+        && append_next(walk, Place::Routing, out)
+        && append_next(walk, Place::Fragment, out)
+        && append_next(walk, Place::Authentication, out)
+        && append_next(walk, Place::FinalDestination, out)
 }
 
-/// Appends the bytes of the headers that the walk reaches from here, and returns the result of the walk.
+/// Appends the bytes of the header in the place, if the walk reaches it next. Returns whether no header is left there.
 #[inline(always)]
-fn append_left<A: Allocator>(
-    walk: Walk<'_>,
-    out: &mut Vec<u8, A>,
-) -> Result<IpNumber, ExtsWalkError>
-    requires room { vec_len out.old + placed_len (left_in walk) ≤ vec_capacity out.old }
+fn append_next<A: Allocator>(walk: &mut Walk<'_>, place: Place, out: &mut Vec<u8, A>) -> bool
+    requires room { vec_len out.old + placed_len (left_in walk.old) ≤ vec_capacity out.old }
     ensures written { (v : PlacedFields) (f : ℕ) (before : List ℕ) → IsEncodable v
-        → HasWritten v f walk.entry before out.old.items
-        → IsWalkWritten v f before out.new.items result }
+        → HasWritten v f walk.old before out.old.items
+        → HasWritten v f walk.new before out.new.items }
+    ensures here { IsTrue result → left_in walk.new (as_place place) ≡ None }
+    ensures others { (p : spec_place) → left_in walk.old p ≡ None → left_in walk.new p ≡ None }
+    ensures room { vec_len out.new + placed_len (left_in walk.new) ≤ vec_capacity out.new }
     ensures capacity { vec_capacity out.old ≤ vec_capacity out.new }
 {
-    // Headers linked in the order of the places, the usual case, have all been reached.
-    if walk.first_left().is_none() {
-        return Ok(walk.number);
+    if let Some(header) = walk.next_in(place) {
+        header.append(out);
     }
-    append_others(walk.headers, walk.reached, walk.number, walk.first, out)
+    walk.left(place).is_none()
 }
 
 /// Appends the bytes of the headers that the walk reaches from this position, and returns its result. It is kept out of

@@ -106,7 +106,7 @@ impl<'a> Walk<'a> {
 
     /// Returns the header in the place, if it isn't reached yet.
     #[inline(always)]
-    fn left(&self, place: Place) -> Option<HeaderRef<'a>>
+    pub(crate) fn left(&self, place: Place) -> Option<HeaderRef<'a>>
         ensures { option_map fields_of_ref result ≡ left_in self.now (as_place place) }
     {
         if self.reached.get(place).is_some() {
@@ -117,7 +117,7 @@ impl<'a> Walk<'a> {
 
     /// Returns the first place, in order, whose header isn't reached.
     #[inline(always)]
-    pub(crate) fn first_left(&self) -> Option<Place>
+    fn first_left(&self) -> Option<Place>
         ensures { option_map as_place result ≡ find (λ p. is_some (left_in self.now p)) places }
     {
         if self.left(Place::HopByHop).is_some() {

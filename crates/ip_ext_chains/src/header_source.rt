@@ -154,8 +154,7 @@ impl<T: ExactRead> HeaderSource for Unlimited<T> {
         place: &mut Option<IpAuthHeader>,
         reader: &mut T,
     ) -> Result<IpNumber, Self::Error> {
-        *place = Some(IpAuthHeader::default());
-        let Some(header) = place else { unreachable!() };
+        let header = place.insert(IpAuthHeader::default());
         match header.read_over(reader) {
             Ok(()) => Ok(header.next_header),
             Err(ip_auth::HeaderReadError::Io(e)) => Err(HeaderReadError::Io(e)),
@@ -226,8 +225,7 @@ impl<T: ExactRead> HeaderSource for Limited<T> {
         place: &mut Option<IpAuthHeader>,
         reader: &mut LimitedReader<T>,
     ) -> Result<IpNumber, Self::Error> {
-        *place = Some(IpAuthHeader::default());
-        let Some(header) = place else { unreachable!() };
+        let header = place.insert(IpAuthHeader::default());
         match header.read_over_limited(reader) {
             Ok(()) => Ok(header.next_header),
             Err(ip_auth::HeaderLimitedReadError::Io(e)) => Err(HeaderLimitedReadError::Io(e)),

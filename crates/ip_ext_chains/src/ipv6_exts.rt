@@ -170,10 +170,7 @@ fn put_raw(place: &mut Option<Ipv6RawExtHeader>, header: Option<&Ipv6RawExtHeade
     ensures { place.new ≡ option_map (λ h. raw_fields (bytes h.now)) header.entry }
 {
     if let Some(header) = header {
-        *place = Some(Ipv6RawExtHeader::default());
-        if let Some(made) = place {
-            header.copy_to(made);
-        }
+        header.copy_to(place.insert(Ipv6RawExtHeader::default()));
     }
 }
 
@@ -190,13 +187,7 @@ fn put_routing(
     }) header.entry }
 {
     if let Some(header) = header {
-        *place = Some(Ipv6RoutingExtensions {
-            routing: Ipv6RawExtHeader::default(),
-            final_destination_options: None,
-        });
-        if let Some(made) = place {
-            header.copy_to(&mut made.routing);
-        }
+        header.copy_to(&mut place.insert(Ipv6RoutingExtensions::blank()).routing);
     }
 }
 
@@ -207,10 +198,7 @@ fn put_auth(place: &mut Option<IpAuthHeader>, header: Option<&IpAuthHeaderSlice<
     ensures { place.new ≡ option_map (λ h. auth_fields (auth_bytes h.now)) header.entry }
 {
     if let Some(header) = header {
-        *place = Some(IpAuthHeader::default());
-        if let Some(auth) = place {
-            header.copy_to(auth);
-        }
+        header.copy_to(place.insert(IpAuthHeader::default()));
     }
 }
 

@@ -217,10 +217,8 @@ fn read_raw<S: HeaderSource>(
 {
     match take_raw::<S>(buffer, reader) {
         Ok((next_header, payload)) => {
-            *place = Some(Ipv6RawExtHeader::default());
-            if let Some(header) = place {
-                make_raw(header, next_header, payload);
-            }
+            let header = place.insert(Ipv6RawExtHeader::default());
+            make_raw(header, next_header, payload);
             Ok(next_header)
         }
         Err(e) => Err(e),
@@ -241,13 +239,8 @@ fn read_routing<S: HeaderSource>(
 {
     match take_raw::<S>(buffer, reader) {
         Ok((next_header, payload)) => {
-            *place = Some(Ipv6RoutingExtensions {
-                routing: Ipv6RawExtHeader::default(),
-                final_destination_options: None,
-            });
-            if let Some(routing) = place {
-                make_raw(&mut routing.routing, next_header, payload);
-            }
+            let headers = place.insert(Ipv6RoutingExtensions::blank());
+            make_raw(&mut headers.routing, next_header, payload);
             Ok(next_header)
         }
         Err(e) => Err(e),

@@ -1,5 +1,5 @@
 //! A routing header and the destination options after it.
-ghost use Rattle.std.specs.Prelude.{◌≡◌, ◌+◌, ◌≤◌};
+ghost use Rattle.std.specs.Prelude.{◌≡◌, ◌+◌, ◌≤◌, None};
 ghost use Rattle.std.specs.Option.{option_map_or};
 ghost use Rattle.ip_spec.specs.Fields.{raw_len};
 
@@ -22,6 +22,17 @@ impl Ipv6RoutingExtensions {
 
     /// The largest length of both headers, in bytes.
     pub const MAX_LEN: usize = 4096;
+
+    /// Returns a routing header to be filled in its place, without destination options after it.
+    #[inline(always)]
+    pub(crate) fn blank() -> Ipv6RoutingExtensions
+        ensures { result.final_destination_options ≡ None }
+    {
+        Ipv6RoutingExtensions {
+            routing: Ipv6RawExtHeader::default(),
+            final_destination_options: None,
+        }
+    }
 
     /// Returns the headers' length in bytes, `MIN_LEN` to `MAX_LEN`.
     pub fn header_len(&self) -> usize

@@ -4,17 +4,11 @@ use Rattle.std.specs.List.{list_all}
 use Rattle.std.specs.Str.Parse.{digits_value}
 use Rattle.std.proofs.Common.{Some, None}
 use Rattle.std.proofs.lemmas.Str.Parse.{digits_value-take-le}
-use Rattle.std.proofs.lemmas.List.Folds.{list_all_at, list_all_more}
-use Rattle.ip_spec.proofs.Common.{◌≡◌, ℕ, ◌+◌, ◌*◌, ◌<◌, ◌≤◌, List, length, take, get_or, arith, common_steps, true, false, digit_value, nat_tests, digits_value_more}
+use Rattle.std.proofs.lemmas.List.Folds.{list_all_more}
+use Rattle.ip_spec.proofs.Common.{◌≡◌, ℕ, ◌+◌, ◌*◌, ◌<◌, ◌≤◌, List, length, take, get_or, arith, common_steps, true, digit_value, nat_tests, digits_value_more}
 use Rattle.ip_filter.specs.Numbers.{numeral, limited}
 
 module _ (most radix : ℕ) (ds : List ℕ) where
-  pub no_digits : length ds ≡ 0 → None ≡ limited most (numeral radix ds)
-  no_digits e = grind (arith, common_steps, nat_tests)
-
-  pub other_byte : (i : ℕ) → i < length ds → is_digit (get_or ds i 0) radix ≡ false → None ≡ limited most (numeral radix ds)
-  other_byte i inside other = grind (arith, common_steps, nat_tests, list_all_at (λ c. is_digit c radix) ds i 0 inside other)
-
   pub too_large : (i : ℕ) → 1 ≤ radix → most < digits_value radix (take i ds) → None ≡ limited most (numeral radix ds)
   too_large i some large = grind (arith, common_steps, nat_tests, digits_value-take-le radix ds i some)
 

@@ -1,5 +1,5 @@
 -- The runs of a chain.
-use Rattle.ip_spec.proofs.Common.{◌≡◌, ◌≢◌, ℕ, zero, suc, ◌+◌, ◌/◌, ◌≤◌, List, [], ◌∷◌, ◌++◌, length, drop, refl, ap, sym, ◌∙◌, arith, inl, inr, ◌⊎◌, subst, append_assoc, rules, flat_map, AllByRecursion, append-nil, append_cancel_left, length-append, map-append, flat_map-append, next_header, ExtHeader, leads_to, bytes_of, is_empty, IsChain, IsPrefixChain, IsLongestChain, IsEnd, KeepsBeginning, NextBreaks, IsLongestUnder, FitsPlaces, IsOccupied, cleared_chain, joined, how_many, AreRuns, AreChains, common_steps, eqb_tells, cases_Bool}
+use Rattle.ip_spec.proofs.Common.{◌≡◌, ◌≢◌, ℕ, zero, suc, ◌+◌, ◌/◌, ◌≤◌, List, [], ◌∷◌, ◌++◌, length, drop, refl, ap, sym, ◌∙◌, arith, inl, inr, ◌⊎◌, subst, append_assoc, rules, flat_map, AllByRecursion, append-nil, append_cancel_left, length-append, map-append, flat_map-append, next_header, ExtHeader, leads_to, bytes_of, is_empty, IsChain, IsPrefixChain, IsLongestChain, IsEnd, KeepsBeginning, IsLongestUnder, FitsPlaces, IsOccupied, cleared_chain, joined, how_many, AreRuns, AreChains, common_steps}
 use Rattle.ip_spec.proofs.HeaderLemmas.{later_not_zero, later_or}
 use Rattle.ip_spec.proofs.PrefixLemmas.{prefix_second, rest_join, prefix-length}
 use Rattle.ip_spec.proofs.LongestOfLemmas.{compare, within, beyond}
@@ -48,9 +48,6 @@ runs_within (suc bound) m c few (goes p k on) =
 
 pub some_runs : (m : ℕ) (c : List ExtHeader) → (ps : Pieces) × AreRuns m c ps
 some_runs m c = runs_within (length c) m c (omega arith) (first m c)
-
-pub runs_end : (m : ℕ) (c : List ExtHeader) → FitsPlaces c → (IsOccupied m c → ⊥) → AreRuns m c (c ∷ [])
-runs_end m c fits free = (refl, fits, free)
 
 -- the whole list is kept if it meets the demand
 abbrev all_kept : (c p : List ExtHeader) → c ≡ p → FitsPlaces p → KeepsBeginning FitsPlaces c p

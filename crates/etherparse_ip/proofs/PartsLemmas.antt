@@ -8,7 +8,7 @@ use Rattle.ip_ext_headers.specs.declared.err.ip_auth.header_slice_error.HeaderSl
 use Rattle.ip_ext_headers.specs.HeaderFault.{auth_in_packet}
 use Rattle.ip_ext_slices.specs.ChainFault.{Fault, chain_fault, exts_in_packet}
 use Rattle.ip_ext_slices.specs.ChainAnswer.{IsChainAnswer}
-use Rattle.ip_ext_slices.specs.Ipv4Parse.{IsIpv4Answer}
+use Rattle.ip_ext_chains.specs.Ipv4Parse.{IsIpv4Answer}
 use Rattle.ip_base.specs.Ipv4Header.{IsIpv4Header, total_len, protocol, is_ipv4_fragmenting}
 use Rattle.ip_base.specs.Ipv6Header.{IsIpv6Header, payload_length, ipv6_next_header}
 use Rattle.ip_base.specs.declared.len_source.LenSource.{LenSource}

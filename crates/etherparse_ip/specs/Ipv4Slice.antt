@@ -1,6 +1,6 @@
 -- The contents of an IPv4 packet.
 use Rattle.ip_base.specs.Ipv4HeaderSlice as base
-use Rattle.ip_ext_slices.specs.Ipv4ExtensionsSlice as exts
+use Rattle.ip_ext_chains.specs.Ipv4ExtensionsSlice as exts
 use Rattle.etherparse_ip.specs.Packet.{Parts}
 use Rattle.etherparse_ip.specs.declared.ipv4_slice.Ipv4Slice.{Ipv4Slice}
 

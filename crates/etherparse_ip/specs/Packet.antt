@@ -5,7 +5,7 @@ use Rattle.ip_base.specs.Ipv4Header.{IsIpv4Header, total_len, protocol, is_ipv4_
 use Rattle.ip_base.specs.Ipv6Header.{IsIpv6Header, payload_length, ipv6_next_header}
 use Rattle.ip_spec.specs.Chain.{ExtHeader, bytes_of, has_fragmenting}
 use Rattle.ip_ext_slices.specs.ChainAnswer.{IsChainAnswer}
-use Rattle.ip_ext_slices.specs.Ipv4Parse.{IsIpv4Answer}
+use Rattle.ip_ext_chains.specs.Ipv4Parse.{IsIpv4Answer}
 use Rattle.etherparse_ip.specs.LenSources.{front, ipv4_len_source, ipv6_len_source}
 
 -- the base header, the extension headers and the payload; the payload's protocol number, whether it is a fragment,

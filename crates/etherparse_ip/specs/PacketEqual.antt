@@ -11,7 +11,7 @@ use Rattle.ip_base.specs.contracts.len_source.LenSource.{the_type}
 use Rattle.ip_base.specs.declared.ip_payload_slice.IpPayloadSlice.{IpPayloadSlice}
 use Rattle.ip_ext_headers.specs.IpAuthHeaderSlice as auth
 use Rattle.ip_ext_slices.specs.Ipv6ExtensionsSlice.{first_number, bytes, same_slice}
-use Rattle.ip_ext_slices.specs.Ipv4ExtensionsSlice.{same_slices}
+use Rattle.ip_ext_chains.specs.Ipv4ExtensionsSlice.{same_slices}
 use Rattle.etherparse_ip.specs.IpSlice.{ipv4_of, ipv6_of}
 use Rattle.etherparse_ip.specs.declared.ipv4_slice.Ipv4Slice.{Ipv4Slice}
 use Rattle.etherparse_ip.specs.declared.ipv6_slice.Ipv6Slice.{Ipv6Slice}

@@ -4,7 +4,7 @@ ghost use Rattle.std.specs.Result.{result_err};
 ghost use Rattle.ip_base.specs.Ipv4HeaderSlice.{bytes};
 ghost use Rattle.ip_base.specs.Prefix.{IsPrefix};
 ghost use Rattle.ip_ext_headers.specs.HeaderFault.{AuthOffsetFits, auth_in_packet};
-ghost use Rattle.ip_ext_slices.specs.Ipv4ExtensionsSlice.{headers_in};
+ghost use Rattle.ip_ext_chains.specs.Ipv4ExtensionsSlice.{headers_in};
 ghost use Rattle.etherparse_ip.specs.LenSources.{ipv4_len_source};
 ghost use Rattle.etherparse_ip.specs.Packet.{IsIpv4Packet};
 ghost use Rattle.etherparse_ip.specs.PacketFault.{ipv4_fault_after, ipv4_fault};
@@ -13,7 +13,7 @@ use crate::err::ipv4::{HeaderSliceError, SliceError};
 use crate::err::{Layer, LenError, ip_auth};
 use crate::rest::after;
 use ip_base::{IpNumber, IpPayloadSlice, Ipv4HeaderSlice, LenSource};
-use ip_ext_slices::Ipv4ExtensionsSlice;
+use ip_ext_chains::Ipv4ExtensionsSlice;
 
 /// An IPv4 packet (RFC 791): its base header, extension headers and payload, borrowed from the caller's bytes. Two
 /// are equal if all their parts are.

@@ -2,7 +2,7 @@
 //! that the type's own contracts don't cover, the impls of each type, and the lifetimes of borrowed bytes. A new type
 //! must be added to each of these.
 ghost use Rattle.std.specs.Prelude.{◌≡◌, ◌↔◌, IsTrue, IsFalse, IfOk};
-ghost use Rattle.ip_ext_slices.specs.Ipv4ExtensionsSlice.{headers_in};
+ghost use Rattle.ip_ext_chains.specs.Ipv4ExtensionsSlice.{headers_in};
 ghost use Rattle.ip_ext_slices.specs.Ipv6ExtensionSlice.{header_of};
 ghost use Rattle.ip_ext_slices.specs.Ipv6ExtensionsSlice.{bytes};
 

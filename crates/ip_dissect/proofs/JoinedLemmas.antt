@@ -10,7 +10,7 @@ use Rattle.ip_base.specs.Ipv6Header.{ipv6_next_header}
 use Rattle.ip_ext_slices.specs.Ipv4Longest.{longest_ipv4_chain}
 use Rattle.ip_ext_slices.specs.Longest.{longest_chain}
 use Rattle.ip_ext_slices.proofs.LongestLemmas.{longest_chain-longest, longest_chain-bytes_of}
-use Rattle.ip_ext_slices.proofs.Ipv4Lemmas.{ipv4_longest, ipv4_longest-shorter}
+use Rattle.ip_ext_slices.proofs.Ipv4Lemmas.{ipv4_longest, whole_header}
 use Rattle.ip_dissect.specs.LaterDemand.{NothingAfterLater, nothing_after_later}
 use Rattle.ip_dissect.specs.Later.{chain_to_later}
 use Rattle.ip_dissect.specs.Extent.{packet_bytes, after_base, ipv4_stated, ipv6_stated, ipv4_chain, ipv4_chain_in, ipv6_chain}
@@ -111,7 +111,7 @@ pub ipv6_shorter : (j : ℕ) (b s : List ℕ) → ipv6_chain b (take j s) ≡ he
 ipv6_shorter j b s = ap (chain_to_later (ipv6_next_header b)) (after_shorter b (ipv6_stated b) j s) ∙ chain_to_later-shorter (ipv6_next_header b) (j - length b) (after_base b (ipv6_stated b) s)
 
 chain_in-shorter : (j : ℕ) (b x : List ℕ) → ipv4_chain_in b (take j x) ≡ headers_within j (ipv4_chain_in b x)
-chain_in-shorter j b x = search (rules, ipv4_longest-shorter)
+chain_in-shorter j b x = search (rules, whole_header)
 
 pub ipv4_shorter : (j : ℕ) (b s : List ℕ) → ipv4_chain b (take j s) ≡ headers_within (j - length b) (ipv4_chain b s)
 ipv4_shorter j b s = ap (ipv4_chain_in b) (after_shorter b (ipv4_stated b) j s) ∙ chain_in-shorter (j - length b) b (after_base b (ipv4_stated b) s)

@@ -21,7 +21,7 @@ use ip_base::err::ip::{HeaderError, HeadersError, SliceError};
 use ip_base::err::{Layer, LenError};
 use ip_base::{IpNumber, Ipv4HeaderSlice, Ipv6Header, LenSource};
 use ip_ext_slices::err::{ip_auth, ipv6_exts};
-use ip_ext_slices::{Ipv4ExtensionsSlice, fault};
+use ip_ext_slices::{authentication_header_at, fault};
 
 /// Returns the end of bytes that don't start with a whole base header.
 #[cold]
@@ -100,9 +100,9 @@ pub(crate) fn ipv4_end(base: Ipv4HeaderSlice<'_>, bytes: &[u8]) -> End
     }
     let stated_len = ipv4_stated_len(base);
     let after_base = after(packet_of(bytes, slice, stated_len), slice.len());
-    match Ipv4ExtensionsSlice::from_slice_lax(base.protocol(), after_base).3 {
-        Some(error) => end_of_auth(error, slice.len(), stated_len),
-        None => End::Payload,
+    match authentication_header_at(base.protocol(), after_base) {
+        Ok(_) => End::Payload,
+        Err(error) => end_of_auth(error, slice.len(), stated_len),
     }
 }
 

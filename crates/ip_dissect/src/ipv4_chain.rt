@@ -11,7 +11,7 @@ ghost use Rattle.ip_dissect.specs.Extent.{ipv4_chain_in};
 use crate::HeaderVisitor;
 use crate::fields::ipv4_offset;
 use ip_base::{IpNumber, Ipv4HeaderSlice, ip_number};
-use ip_ext_slices::Ipv4ExtensionsSlice;
+use ip_ext_slices::authentication_header_at;
 
 /// How many extension headers there are, the number that follows them, the bytes after them, and whether an error
 /// follows.
@@ -41,26 +41,31 @@ pub(crate) fn ipv4_chain<'a, V: HeaderVisitor>(
     ensures visited { V.visited visitor.old (length (bytes base.entry))
         (ipv4_chain_in (bytes base.entry) after_base.now) visitor.new }
 {
+    let none = Ipv4Rest {
+        header_count: 0,
+        number: base.protocol(),
+        rest: after_base,
+        has_error: false,
+    };
     // the number first, since no branch can predict the offsets of fragments
     if base.protocol() != ip_number::AUTH || ipv4_offset(base) != 0 {
-        return Ipv4Rest {
-            header_count: 0,
-            number: base.protocol(),
-            rest: after_base,
-            has_error: false,
-        };
+        return none;
     }
-    let (headers, number, rest, error) = Ipv4ExtensionsSlice::from_slice_lax(
-        base.protocol(),
-        after_base,
-    );
-    if let Some(header) = headers.auth {
-        visitor.visit(ip_number::AUTH, header.slice(), 0, base.slice().len());
-    }
-    Ipv4Rest {
-        header_count: usize::from(headers.auth.is_some()),
-        number,
-        rest,
-        has_error: error.is_some(),
+    match authentication_header_at(base.protocol(), after_base) {
+        Ok(None) => none,
+        Ok(Some(header)) => {
+            let slice = header.slice();
+            visitor.visit(ip_number::AUTH, slice, 0, base.slice().len());
+            Ipv4Rest {
+                header_count: 1,
+                number: header.next_header(),
+                rest: &after_base[slice.len()..],
+                has_error: false,
+            }
+        }
+        Err(_) => Ipv4Rest {
+            has_error: true,
+            ..none
+        },
     }
 }

@@ -12,3 +12,5 @@ pub mod RefusedLemmas
 pub mod RewritingLemmas
 pub mod ReadingLemmas
 pub mod ReadErrorLemmas
+pub mod Ipv4ReadingLemmas
+pub mod Ipv4WalkLemmas

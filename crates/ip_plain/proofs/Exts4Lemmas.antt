@@ -5,7 +5,7 @@ use Rattle.ip_base.specs.declared.len_source.LenSource.TheVariants.{Slice}
 use Rattle.ip_spec.proofs.HeaderLemmas.{header-least, auth_of}
 use Rattle.ip_ext_headers.specs.HeaderFault.{auth_fault}
 use Rattle.ip_ext_slices.specs.Ipv4Longest.{longest_ipv4_chain}
-use Rattle.ip_ext_slices.proofs.Ipv4Lemmas.{answer_of_one, answer_of_none}
+use Rattle.ip_ext_slices.proofs.Ipv4Lemmas.{one_longest, none_longest}
 use Rattle.ipexts_tool.specs.Exts4.{exts4_answer}
 use Rattle.ipexts_tool.specs.Parts.{header_line, next_line, ipv4_end_line, ok_line}
 
@@ -15,7 +15,7 @@ first_byte k s few = grind (arith, common_steps)
 -- An authentication header of length k at the start of s is the chain.
 module _ (s : List ℕ) (k : ℕ) (enough : k ≤ length s) (next : IsNext true 51 s (record { number = 51; bytes = take k s })) where
   pub one_header : longest_ipv4_chain 51 s ≡ record { number = 51; bytes = take k s } ∷ []
-  one_header = sym (answer_of_one (λ c. c) 51 s (record { number = 51; bytes = take k s } ∷ []) (take k s) _ _ refl (auth_of 51 (take k s) refl next.header) next.prefix refl refl refl).value
+  one_header = one_longest 51 s (take k s) refl (auth_of 51 (take k s) refl next.header) next.prefix
 
   pub one_len : k ≡ length (bytes_of (longest_ipv4_chain 51 s))
   one_len = rw one_header (simp (append-nil, length-take-le))
@@ -33,7 +33,7 @@ exts4_one n s k e enough next =
 pub exts4_none : (n : ℕ) (s : List ℕ) → n ≡ 51 → IsEnd true 51 s → exts4_answer n s ≡ next_line 51 (length s) ++ ipv4_end_line (auth_fault Slice (length s) 0 s)
 exts4_none n s e end =
     let none : NoPrefix IsAuthHeader s = λ b h p. end (record { number = 51; bytes = b }) (record { number = refl; header = auth refl h; prefix = p; zero_only_first = λ z. refl }) in
-    rw (e, ← (answer_of_none (λ c. c) 51 s [] _ (λ z. none) refl refl).value) refl
+    rw (e, none_longest 51 s (λ z. none)) refl
 
 -- Parts appended one after the other.
 pub two_joined : (text next end t₁ t₂ : List ℕ) → t₁ ≡ text ++ next → t₂ ≡ t₁ ++ end → t₂ ≡ text ++ (next ++ end)

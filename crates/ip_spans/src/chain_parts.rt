@@ -7,8 +7,9 @@ ghost use Rattle.ip_spans.specs.ChainParts.{chain_parts, ipv4_chain_parts};
 
 use crate::fault_fields::FaultFields;
 use crate::header_span::{HeaderSpan, put_ipv4_span, put_spans};
+use etherparse_ip::Ipv4ExtensionsSlice;
 use ip_base::IpNumber;
-use ip_ext_slices::{Ipv4ExtensionsSlice, Ipv6ExtensionsSlice};
+use ip_ext_slices::Ipv6ExtensionsSlice;
 
 /// The longest chain of extension headers at the start of some bytes, and its end.
 #[repr(C)]
@@ -65,7 +66,7 @@ pub fn parse_ipv4_chain(first: u8, bytes: &[u8], spans: &mut [HeaderSpan]) -> Ch
         bytes,
     );
     let fault = FaultFields::of_ipv4_chain(&fault);
-    let (headers, len) = put_ipv4_span(&chain, 0, spans);
+    let (headers, len) = put_ipv4_span(chain.auth, 0, spans);
     ChainParts {
         headers,
         len,

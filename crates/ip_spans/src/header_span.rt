@@ -3,13 +3,14 @@ ghost use Rattle.std.specs.Prelude.{◌≡◌, ◌+◌, ◌<◌, ◌^◌, length
 ghost use Rattle.ip_spec.specs.Chain.{bytes_of};
 ghost use Rattle.ip_ext_slices.specs.Ipv6ExtensionSlice.{header_of};
 ghost use Rattle.ip_ext_slices.specs.Ipv6ExtensionsSlice.{bytes, headers_in};
-ghost use Rattle.ip_ext_slices.specs.Ipv4ExtensionsSlice.{headers_in as ipv4_headers_in};
+ghost use Rattle.ip_ext_slices.specs.Ipv4Longest.{authentication_chain};
 ghost use Rattle.ip_spans.specs.HeaderSpan.{header_span, spans_from, filled};
 
 use crate::fields::Fields;
 use ip_base::{IpNumber, ip_number};
 use ip_ext_chains::HasNumber;
-use ip_ext_slices::{Ipv4ExtensionsSlice, Ipv6ExtensionSlice, Ipv6ExtensionsSlice};
+use ip_ext_headers::IpAuthHeaderSlice;
+use ip_ext_slices::{Ipv6ExtensionSlice, Ipv6ExtensionsSlice};
 
 /// The span of an extension header in the caller's bytes, its number and its next header.
 #[repr(C)]
@@ -87,19 +88,20 @@ pub(crate) fn put_spans(
     count
 }
 
-/// Stores the span of an IPv4 packet's extension header, if there is one. Returns the number of headers and their
+/// Stores the span of an IPv4 packet's authentication header, if there is one. Returns the number of headers and their
 /// length in bytes.
 #[inline(always)]
 pub(crate) fn put_ipv4_span(
-    headers: &Ipv4ExtensionsSlice<'_>,
+    header: Option<IpAuthHeaderSlice<'_>>,
     offset: usize,
     spans: &mut [HeaderSpan],
 ) -> (usize, usize)
-    ensures count { result.0 ≡ length (ipv4_headers_in headers.now) }
-    ensures len { result.1 ≡ length (bytes_of (ipv4_headers_in headers.now)) }
-    ensures spans { spans.new ≡ filled (spans_from offset (ipv4_headers_in headers.now)) spans.old }
+    ensures count { result.0 ≡ length (authentication_chain header.entry) }
+    ensures len { result.1 ≡ length (bytes_of (authentication_chain header.entry)) }
+    ensures spans { spans.new
+        ≡ filled (spans_from offset (authentication_chain header.entry)) spans.old }
 {
-    let Some(header) = &headers.auth else {
+    let Some(header) = header else {
         return (0, 0);
     };
     let len = header.slice().len();

@@ -95,7 +95,7 @@ impl PacketParts {
         ensures spans { spans.new ≡ filled (packet_spans (ipv4_parts packet.now)) spans.old }
     {
         let base_len = packet.header().slice().len();
-        let (headers, len) = put_ipv4_span(&packet.extensions(), base_len, spans);
+        let (headers, len) = put_ipv4_span(packet.extensions().auth, base_len, spans);
         Self::with_payload(4, base_len, headers, base_len + len, packet.payload())
     }
 

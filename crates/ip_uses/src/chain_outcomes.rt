@@ -17,9 +17,9 @@ ghost use Rattle.ip_ext_slices.specs.Longest.{longest_chain};
 ghost use Rattle.ip_ext_slices.specs.ChainFault.{chain_fault};
 ghost use Rattle.ip_ext_chains.specs.Fitting.{fitting_chain, fitting_fault};
 ghost use Rattle.ip_ext_slices.specs.Ipv4Fault.{ipv4_chain_fault};
-ghost use Rattle.ip_ext_slices.specs.Ipv4Parse.{IsIpv4Answer, ipv4_value};
-ghost use Rattle.ip_ext_slices.specs.Ipv4ExtensionsSlice.{headers_in};
-ghost use Rattle.ip_ext_slices.specs.Ipv4Walk.{ipv4_walk, IsIpv4Encoding};
+ghost use Rattle.ip_ext_chains.specs.Ipv4Parse.{IsIpv4Answer, ipv4_value};
+ghost use Rattle.ip_ext_chains.specs.Ipv4ExtensionsSlice.{headers_in};
+ghost use Rattle.ip_ext_chains.specs.Ipv4Walk.{ipv4_walk, IsIpv4Encoding};
 ghost use Rattle.ip_ext_chains.specs.Ipv6Extensions.{placed_fields, value_of, exts_len};
 ghost use Rattle.ip_ext_chains.specs.Ipv6ExtensionsRuns.{start, input, values_left};
 

@@ -6,7 +6,7 @@ ghost use Rattle.ip_spec.specs.Numbers.{AUTHENTICATION};
 ghost use Rattle.ip_spec.specs.Demand.{AtMostOneOf};
 ghost use Rattle.ip_spec.specs.Parse.{IsParsed};
 ghost use Rattle.ip_ext_slices.specs.Ipv4Longest.{longest_ipv4_chain};
-ghost use Rattle.ip_ext_slices.specs.Ipv4Parse.{ipv4_value};
+ghost use Rattle.ip_ext_chains.specs.Ipv4Parse.{ipv4_value};
 
 use ip_base::IpNumber;
 use ip_ext_chains::err::ipv4_exts::HeaderWriteError;

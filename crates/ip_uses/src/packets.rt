@@ -1,7 +1,7 @@
 //! Callers of packets.
 ghost use Rattle.std.specs.Prelude.{◌≡◌, ◌≤◌, ◌+◌, ◌↔◌, length, false, IsTrue};
 ghost use Rattle.ip_spec.specs.Chain.{bytes_of};
-ghost use Rattle.ip_ext_slices.specs.Ipv4ExtensionsSlice.{headers_in};
+ghost use Rattle.ip_ext_chains.specs.Ipv4ExtensionsSlice.{headers_in};
 ghost use Rattle.etherparse_ip.specs.IpSlice.{ip_parts};
 
 use etherparse_ip::{IpNumber, IpSlice, Ipv4ExtensionsSlice, ip_number};

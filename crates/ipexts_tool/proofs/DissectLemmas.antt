@@ -1,7 +1,9 @@
 -- The parts of the answer to `dissect HEX`, joined.
-use Rattle.ip_spec.proofs.Common.{◌≡◌, ℕ, List, ◌++◌, length, rules, append_assoc, append-nil, Option, None, Some, codes, ne_eqb, ◌==◌, false}
+use Rattle.ip_spec.proofs.Common.{◌≡◌, ℕ, List, ◌++◌, length, rules, append_assoc, sym, inl, inr, Option, None, Some, IfSome, codes, ne_eqb, eqb_tells, ◌==◌, false}
 use Rattle.ip_base.specs.declared.err.layer.Layer.{Layer}
 use Rattle.ip_base.specs.declared.err.len_error.LenError.{LenError}
+use Rattle.ip_ext_headers.specs.declared.ip_auth_header_slice.IpAuthHeaderSlice.{IpAuthHeaderSlice}
+use Rattle.ip_ext_slices.specs.Ipv4Longest.{authentication_chain}
 use Rattle.ip_dissect.specs.declared.end.End.{End}
 use Rattle.ip_dissect.specs.declared.end.End.TheVariants.{Truncated}
 use Rattle.ip_dissect.specs.Dissection.{HasParts, dissected, version_of, version_in, base_bytes}
@@ -32,10 +34,15 @@ answer_joined s d b h some old t₁ t₂ t₃ t₄ t₅ t₆ p q r u v w =
     let lines = six_joined old _ _ _ _ _ _ t₁ t₂ t₃ t₄ t₅ t₆ p q r u v w in
     rw (answer_some s d b h some, ← h.version, ← h.base, some, ← h.stated, ← h.fragment, ← h.number, ← h.payload, ← h.missing, ← h.padding, ← h.end) lines
 
--- without a base header there are no lines of headers
-pub no_header_lines : (text : List ℕ) (offset : ℕ) (d : Dissection) → false ≡ (version_of d == 6) → false ≡ (version_of d == 4)
-    → (s : List ℕ) → HasParts (dissected s) d → text ≡ text ++ header_lines offset (dissected s).headers
-no_header_lines text offset d six four s h = search (rules, no_headers, append-nil)
+-- the headers of a packet that isn't IPv6 are its authentication header, if there is one
+pub ipv4_headers : (d : Dissection) (h : Option IpAuthHeaderSlice) → false ≡ (version_of d == 6) → IfSome h (λ _. version_of d ≡ 4)
+    → (version_of d ≡ 4 → (s : List ℕ) → HasParts (dissected s) d → authentication_chain h ≡ (dissected s).headers)
+    → (s : List ℕ) → HasParts (dissected s) d → authentication_chain h ≡ (dissected s).headers
+ipv4_headers d (Some x) six four are s p = are four s p
+ipv4_headers d None six four are s p = elim (eqb_tells (version_of d) 4) [
+  | inl is ↦ are is.1 s p
+  | inr other ↦ sym (no_headers s d p six (sym other.0))
+]
 
 -- the end at a header that is incomplete here
 pub truncated_joined : (old t new : List ℕ) (e : LenError) (header : Option Layer) (end : End) → end ≡ Truncated e header → t ≡ old ++ truncated_text e → new ≡ t ++ (in_header header ++ codes "\n") → new ≡ old ++ end_line end

@@ -7,7 +7,7 @@ ghost use Rattle.ipexts_tool.specs.DissectAnswer.{stated_text, base_line, fragme
 ghost use Rattle.ipexts_tool.specs.DissectAnswer.{in_header, truncated_text, end_line, dissect_answer};
 
 use crate::faults::{push_len, push_packet_fault};
-use crate::parts::{push_header, push_ipv4_headers, push_next};
+use crate::parts::{push_authentication, push_header, push_next};
 use etherparse_ip::Ipv6ExtensionsSlice;
 use etherparse_ip::err::{Layer, LenError};
 use ip_dissect::{BaseHeader, Dissection, End, Fragment, FragmentKind, dissect};
@@ -62,7 +62,6 @@ fn push_stated<A: Allocator>(
 }
 
 /// Appends a line for each extension header, the first of which is at the offset.
-#[tactic(auto, using(crate::proofs::DissectLemmas::no_header_lines))]
 fn push_headers<A: Allocator>(
     packet: &Dissection<'_>,
     offset: usize,
@@ -76,10 +75,7 @@ fn push_headers<A: Allocator>(
     if let Some(headers) = packet.ipv6_extensions() {
         return push_ipv6_headers(headers, offset, text);
     }
-    if let Some(headers) = packet.ipv4_extensions() {
-        return push_ipv4_headers(headers, offset, text);
-    }
-    Ok(())
+    push_authentication(packet.ipv4_authentication(), offset, text)
 }
 
 /// Appends a line for each IPv6 extension header, the first of which is at the offset.

@@ -2,7 +2,7 @@
 ghost use Rattle.std.specs.Prelude.{◌≡◌, ◌++◌, OnOk, string_bytes};
 ghost use Rattle.ipexts_tool.specs.Exts4.{exts4_answer};
 
-use crate::parts::{push_ipv4_end, push_ipv4_headers, push_next};
+use crate::parts::{push_authentication, push_ipv4_end, push_next};
 use etherparse_ip::{IpNumber, Ipv4ExtensionsSlice};
 use std::alloc::{AllocError, Allocator};
 
@@ -16,7 +16,7 @@ pub fn push_exts4<A: Allocator>(
         (string_bytes text.new ≡ string_bytes text.old ++ exts4_answer number.0 bytes.now) }
 {
     let (headers, next, rest, fault) = Ipv4ExtensionsSlice::from_slice_lax(number, bytes);
-    push_ipv4_headers(headers, 0, text)?;
+    push_authentication(headers.auth, 0, text)?;
     push_next(next, rest.len(), text)?;
     push_ipv4_end(fault, text)
 }

@@ -1,13 +1,13 @@
 //! Parts of answers that several forms share.
 ghost use Rattle.std.specs.Prelude.{◌≡◌, ◌++◌, OnOk, string_bytes};
-ghost use Rattle.ip_ext_slices.specs.Ipv4ExtensionsSlice.{headers_in};
+ghost use Rattle.ip_ext_slices.specs.Ipv4Longest.{authentication_chain};
 ghost use Rattle.ipexts_tool.specs.Parts.{header_name, header_line, header_lines, next_line};
 ghost use Rattle.ipexts_tool.specs.Parts.{written_line, ok_line, chain_end_line, ipv4_end_line};
 
 use crate::faults::{push_auth_slice_fault, push_chain_fault};
 use etherparse_ip::err::ipv6_exts::HeaderSliceError;
 use etherparse_ip::err::{Layer, ip_auth};
-use etherparse_ip::{IpNumber, Ipv4ExtensionsSlice, ip_number};
+use etherparse_ip::{IpAuthHeaderSlice, IpNumber, ip_number};
 use std::alloc::{AllocError, Allocator};
 
 /// Returns the name of the headers of a number.
@@ -38,17 +38,17 @@ pub fn push_header<A: Allocator>(
     writeln!(text, "{offset} {name} {len}")
 }
 
-/// Appends a line for an IPv4 packet's extension header at the offset, if there is one.
-pub fn push_ipv4_headers<A: Allocator>(
-    headers: Ipv4ExtensionsSlice<'_>,
+/// Appends a line for the authentication header of an IPv4 packet at the offset, if there is one.
+pub fn push_authentication<A: Allocator>(
+    header: Option<IpAuthHeaderSlice<'_>>,
     offset: usize,
     text: &mut String<A>,
 ) -> Result<(), AllocError>
     ensures { OnOk result
         (string_bytes text.new
-        ≡ string_bytes text.old ++ header_lines offset (headers_in headers.entry)) }
+        ≡ string_bytes text.old ++ header_lines offset (authentication_chain header.entry)) }
 {
-    match headers.auth {
+    match header {
         Some(header) => push_header(offset, ip_number::AUTH, header.slice().len(), text),
         None => Ok(()),
     }

@@ -1,5 +1,4 @@
-//! Errors of chains and of IPv4 extension headers, and the errors of lower crates that they contain.
-pub mod ipv4_exts;
+//! Errors of chains, and the errors of lower crates that they contain.
 pub mod ipv6_exts;
 
 pub use ip_base::err::{ChainSource, Layer, LenError};

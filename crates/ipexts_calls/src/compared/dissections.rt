@@ -34,10 +34,8 @@ fn with_headers(sum: u64, packet: &Dissection<'_>) -> u64 {
             sum = with_bytes(with(sum, u64::from(header.number().0)), header.slice());
         }
     }
-    if let Some(headers) = packet.ipv4_extensions() {
-        if let Some(header) = &headers.auth {
-            sum = with_bytes(with(sum, 51), header.slice());
-        }
+    if let Some(header) = packet.ipv4_authentication() {
+        sum = with_bytes(with(sum, 51), header.slice());
     }
     sum
 }

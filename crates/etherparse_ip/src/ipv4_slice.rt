@@ -11,7 +11,6 @@ ghost use Rattle.etherparse_ip.specs.PacketFault.{ipv4_fault_after, ipv4_fault};
 
 use crate::err::ipv4::{HeaderSliceError, SliceError};
 use crate::err::{Layer, LenError, ip_auth};
-use crate::rest::after;
 use ip_base::{IpNumber, IpPayloadSlice, Ipv4HeaderSlice, LenSource};
 use ip_ext_chains::Ipv4ExtensionsSlice;
 
@@ -82,7 +81,8 @@ impl<'a> Ipv4Slice<'a> {
         }
         let front = &slice[..total_len];
         let fragmented = header.is_fragmenting_payload();
-        match Ipv4ExtensionsSlice::from_slice(header.protocol(), after(front, header_len)) {
+        let after = front.split_at(header_len).1;
+        match Ipv4ExtensionsSlice::from_slice(header.protocol(), after) {
             Ok((exts, ip_number, payload)) => Ok(Ipv4Slice {
                 header,
                 exts,

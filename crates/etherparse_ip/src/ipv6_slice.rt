@@ -12,7 +12,6 @@ ghost use Rattle.etherparse_ip.specs.PacketFault.{ipv6_chain_fault, ipv6_fault_a
 use crate::err::ipv6::{HeaderSliceError, SliceError};
 use crate::err::{Layer, LenError, ipv6_exts};
 use crate::len_sources::ipv6_front;
-use crate::rest::after;
 use ip_base::{IpNumber, IpPayloadSlice, Ipv6Header, Ipv6HeaderSlice, LenSource};
 use ip_ext_slices::Ipv6ExtensionsSlice;
 
@@ -120,7 +119,8 @@ impl<'a> Ipv6Slice<'a> {
         let payload_length = header.payload_length();
         let (front, len_source) = ipv6_front(payload_length, slice);
         let header_len = header.slice().len();
-        match Ipv6ExtensionsSlice::from_slice(header.next_header(), after(front, header_len)) {
+        let after = front.split_at(header_len).1;
+        match Ipv6ExtensionsSlice::from_slice(header.next_header(), after) {
             Ok((exts, ip_number, payload)) => {
                 let fragmented = exts.is_fragmenting_payload();
                 Ok(Ipv6Slice {

@@ -9,7 +9,6 @@ mod ipv4_slice;
 mod ipv6_slice;
 mod len_sources;
 mod packet_laws;
-mod rest;
 
 pub use ip_base::{
     IpFragOffset, IpNumber, IpPayloadSlice, Ipv4Header, Ipv4HeaderSlice, Ipv6Header,

@@ -4,7 +4,7 @@ ghost use Rattle.ip_spec.specs.Chain.{bytes_of};
 ghost use Rattle.ip_ext_slices.specs.Longest.{longest_chain};
 
 use crate::Ipv6ExtensionSlice;
-use crate::step::{after, header_at};
+use crate::step::header_at;
 use ip_base::{IpNumber, ip_number};
 use std::alloc::AllocError;
 
@@ -56,7 +56,7 @@ impl<'a> Iterator for Ipv6ExtensionSliceIter<'a> {
         // The bytes are whole headers, so they start with one.
         let header = header_at(true, self.next_header, self.rest).unwrap();
         self.next_header = header.next_header();
-        self.rest = after(self.rest, header.slice().len());
+        self.rest = self.rest.split_at(header.slice().len()).1;
         Some(header)
     }
 }

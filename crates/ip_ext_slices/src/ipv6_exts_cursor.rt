@@ -7,7 +7,7 @@ ghost use Rattle.ip_ext_slices.specs.Longest.{longest_chain, longest_from};
 use crate::Ipv6ExtensionSlice;
 use crate::err::Layer;
 use crate::err::ipv6_exts::HeaderSliceError;
-use crate::step::{after, fault, header_at, is_extension};
+use crate::step::{fault, header_at, is_extension};
 use ip_base::{IpNumber, ip_number};
 use std::alloc::AllocError;
 
@@ -114,7 +114,7 @@ impl<'a> Iterator for Ipv6ExtensionsCursor<'a> {
             return None;
         };
         self.number = header.next_header();
-        self.rest = after(self.rest, header.slice().len());
+        self.rest = self.rest.split_at(header.slice().len()).1;
         Some(header)
     }
 }

@@ -13,7 +13,7 @@ ghost use Rattle.ip_spec.specs.Fields.{is_fragmenting};
 
 use crate::err::Layer;
 use crate::err::ipv6_exts::HeaderSliceError;
-use crate::step::{after, error_at, fault, header_len_at, is_extension};
+use crate::step::{error_at, fault, header_len_at, is_extension};
 use crate::{Ipv6ExtensionSlice, Ipv6ExtensionSliceIter};
 use ip_base::{IpNumber, ip_number};
 use ip_ext_headers::Ipv6FragmentHeaderSlice;
@@ -125,7 +125,7 @@ impl<'a> Ipv6ExtensionsSlice<'a> {
             let header = &rest[..len];
             fragmented = fragmented | is_fragmenting(number, rest);
             number = IpNumber(header[0]);
-            rest = after(rest, len);
+            rest = rest.split_at(len).1;
         }
         (number, rest, bytes.len() - rest.len(), fragmented)
     }

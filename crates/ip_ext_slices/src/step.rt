@@ -1,5 +1,5 @@
 //! The step from one header of an IPv6 chain to the next.
-ghost use Rattle.std.specs.Prelude.{◌≡◌, ◌≤◌, ◌+◌, ◌*◌, ◌↔◌, ◌==◌, length, take, drop, slice_index, nat_lt, if◌then◌else◌, IsTrue, Option, Some, IsSome, IfSome, IfNone, ℕ};
+ghost use Rattle.std.specs.Prelude.{◌≡◌, ◌≤◌, ◌+◌, ◌*◌, ◌↔◌, ◌==◌, length, take, slice_index, nat_lt, if◌then◌else◌, IsTrue, Option, Some, IsSome, IfSome, IfNone, ℕ};
 ghost use Rattle.std.specs.Option.{option_map};
 ghost use Rattle.ip_spec.specs.Header.{IsExtensionNumber};
 ghost use Rattle.ip_spec.specs.Chain.{IsNext, IsEnd};
@@ -13,13 +13,6 @@ use ip_base::{IpNumber, LenSource, ip_number};
 use ip_ext_headers::err::ip_auth;
 use ip_ext_headers::{IpAuthHeaderSlice, Ipv6FragmentHeaderSlice, Ipv6RawExtHeaderSlice};
 
-/// Returns the bytes after the first `len`.
-pub(crate) fn after(bytes: &[u8], len: usize) -> &[u8]
-    requires { len ≤ length bytes.now }
-    ensures { result.now ≡ drop len bytes.now }
-{
-    &bytes[len..]
-}
 
 /// Parses the header of this number at the start of `bytes`. `first` says that no header precedes it: hop-by-hop
 /// options are allowed only there (RFC 8200, section 4.1). Returns `None` if the chain ends here.

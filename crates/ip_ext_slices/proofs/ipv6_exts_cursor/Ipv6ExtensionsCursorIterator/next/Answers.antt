@@ -4,5 +4,5 @@ use Rattle.ip_ext_slices.proofs.ipv6_exts_cursor.Ipv6ExtensionsCursorIterator.ne
 
 pub invariant_of-self : goal.invariant_of-self
 invariant_of-self c =
-    let goes = goes_after _ _ _ _ _ _ _ c.args.self.now.within c.in-Some.ensures.next c.next_header-self.ensures c.slice.ensures.bytes c.after-self.ensures in
+    let goes = goes_after _ _ _ _ _ _ _ c.args.self.now.within c.in-Some.ensures.next c.next_header-self.ensures c.slice.ensures.bytes c.split_at.ensures.back in
     search (rules, goes)

@@ -8,7 +8,7 @@ headers-preserved c =
     let within : c.in-Some.len ≤ length c.headers.rest.now = c.in-Some.ensures.within in
     let len : length (take c.in-Some.len c.headers.rest.now) ≡ c.in-Some.len = rw length-take-le in
     parse_goes_on _ _ _ _ _ _ _ _ (take c.in-Some.len c.headers.rest.now) _ c.headers.invariant next refl refl
-    (c.after-rest.ensures ∙ ap (λ k. drop k c.headers.rest.now) (sym len))
+    (c.split_at.ensures.back ∙ ap (λ k. drop k c.headers.rest.now) (sym len))
     (ap (λ x. c.headers.fragmented || x) (c.is_fragmenting-fragmented.ensures _ next.header next.prefix))
 
 pub returns : goal.returns

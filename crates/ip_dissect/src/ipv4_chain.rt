@@ -1,5 +1,5 @@
 //! The extension headers after an IPv4 base header.
-ghost use Rattle.std.specs.Prelude.{◌≡◌, ◌==◌, ◌&&◌, not, is_some, length};
+ghost use Rattle.std.specs.Prelude.{◌≡◌, ◌==◌, ◌&&◌, is_some, length};
 ghost use Rattle.ip_spec.specs.Chain.{leads_to};
 ghost use Rattle.ip_spec.specs.Parse.{rest_after, fault_after};
 ghost use Rattle.ip_base.specs.Ipv4Header.{protocol, ipv4_fragment_offset};

@@ -1,5 +1,5 @@
 //! The definitions computed in the simplest way. It is slow: it tries every length.
-ghost use Rattle.std.specs.Prelude.{◌≡◌, ◌↔◌, ◌≤◌, ℕ, take, drop, length, map, IsTrue, IfOk, IfSome, IfNone};
+ghost use Rattle.std.specs.Prelude.{◌≡◌, ◌↔◌, ◌≤◌, take, drop, length, map, IsTrue, IfOk, IfSome, IfNone};
 ghost use Rattle.ip_spec.specs.Header.{IsHeader};
 ghost use Rattle.ip_spec.specs.Chain.{IsLongestChain, IsNext, IsEnd, leads_to, bytes_of};
 ghost use Rattle.ip_plain.specs.PlainHeader.{plain_header_of};

@@ -1,9 +1,9 @@
 //! A dissection of the packet at the start of bytes, in the simplest way: the base header byte by byte, then the chain
 //! by trying every length. No parser of the library is called.
-ghost use Rattle.std.specs.Prelude.{◌≡◌, ◌+◌, ◌≤◌, ◌==◌, ◌&&◌, not, nat_lt, if◌then◌else◌, length, map, take, IfOk, None};
+ghost use Rattle.std.specs.Prelude.{◌≡◌, ◌+◌, ◌≤◌, ◌==◌, ◌&&◌, not, nat_lt, if◌then◌else◌, length, map, IfOk, None};
 ghost use Rattle.std.specs.Option.{option_map, option_map_or};
 ghost use Rattle.ip_spec.specs.Chain.{bytes_of, is_empty};
-ghost use Rattle.ip_base.specs.Ipv4Header.{version, ipv4_header_len, total_len, protocol, ipv4_fragment_offset};
+ghost use Rattle.ip_base.specs.Ipv4Header.{version, total_len, protocol, ipv4_fragment_offset};
 ghost use Rattle.ip_base.specs.LenError.{too_short};
 ghost use Rattle.ip_base.specs.declared.len_source.LenSource.TheVariants.{Slice, Ipv4HeaderTotalLen};
 ghost use Rattle.ip_base.specs.declared.err.layer.Layer.TheVariants.{Ipv4Packet};

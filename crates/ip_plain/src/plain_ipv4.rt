@@ -1,5 +1,5 @@
 //! The extension headers of an IPv4 packet, found in the simplest way.
-ghost use Rattle.std.specs.Prelude.{◌≡◌, ◌≤◌, IfOk, length};
+ghost use Rattle.std.specs.Prelude.{◌≤◌, IfOk, length};
 ghost use Rattle.ip_plain.specs.PlainDissection.{IsIpv4Chain};
 
 use crate::chain::{PlainChain, PlainHeader, next_len};

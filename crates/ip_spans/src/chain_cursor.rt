@@ -2,7 +2,6 @@
 ghost use Rattle.std.specs.Prelude.{◌≡◌, ◌==◌, drop, IfSome, IfNone};
 ghost use Rattle.ip_spec.specs.Chain.{IsEnd};
 ghost use Rattle.ip_ext_slices.specs.ChainFault.{slice_fault};
-ghost use Rattle.ip_ext_slices.specs.Ipv6ExtensionSlice.{header_of};
 ghost use Rattle.ip_spans.specs.ChainCursor.{IsHeaderSpan};
 ghost use Rattle.ip_spans.specs.FaultFields.{chain_fault_fields};
 

@@ -4,9 +4,9 @@ ghost use Rattle.ip_codes.specs.Codes.{layer_code, len_source_code};
 ghost use Rattle.ip_base.specs.declared.err.layer.Layer.{Layer};
 ghost use Rattle.ip_base.specs.declared.len_source.LenSource.{LenSource};
 ghost use Rattle.ip_spans.specs.FaultFields.{len_fields, content_fields, no_fault};
-ghost use Rattle.ip_spans.specs.FaultFields.{auth_error_fields, auth_fields, exts_error_fields, exts_fields};
+ghost use Rattle.ip_spans.specs.FaultFields.{auth_error_fields, exts_error_fields};
 ghost use Rattle.ip_spans.specs.FaultFields.{chain_fault_fields, ipv4_chain_fault_fields, base_error_fields};
-ghost use Rattle.ip_spans.specs.FaultFields.{headers_error_fields, packet_fault_fields, ipv6_header_error_fields};
+ghost use Rattle.ip_spans.specs.FaultFields.{packet_fault_fields};
 ghost use Rattle.ip_spans.specs.FaultFields.{ipv6_fault_fields};
 ghost use Rattle.ip_spans.specs.DissectionParts.{end_fields};
 

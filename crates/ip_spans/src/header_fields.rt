@@ -1,5 +1,5 @@
 //! The fields of single headers.
-ghost use Rattle.std.specs.Prelude.{◌≡◌, ℕ, List, IfSome, IfNone};
+ghost use Rattle.std.specs.Prelude.{ℕ, List, IfSome, IfNone};
 ghost use Rattle.ip_base.specs.Prefix.{IsPrefix};
 ghost use Rattle.ip_spec.specs.Header.{IsFragmentHeader, IsAuthHeader};
 ghost use Rattle.ip_spans.specs.HeaderFields.{BeginsWithFragmentHeader, BeginsWithAuthHeader};

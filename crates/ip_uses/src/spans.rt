@@ -1,7 +1,5 @@
 //! Callers of `ip_spans`.
-ghost use Rattle.std.specs.Prelude.{◌≡◌, ◌↔◌, ◌≤◌, ℕ, List, [], ◌∷◌, ◌++◌, length, take, drop, IsTrue, IfSome, Some, None};
-ghost use Rattle.ip_base.specs.Ipv4Header.{version};
-ghost use Rattle.ip_spec.specs.Chain.{bytes_of};
+ghost use Rattle.std.specs.Prelude.{◌≡◌, ◌↔◌, ◌≤◌, [], ◌++◌, length, IsTrue};
 ghost use Rattle.ip_spec.specs.Demand.{KeepsBeginning};
 ghost use Rattle.ip_spec.specs.Parse.{rest_after};
 ghost use Rattle.ip_ext_slices.specs.Longest.{longest_chain};

@@ -13,7 +13,6 @@ use ip_base::{IpNumber, LenSource, ip_number};
 use ip_ext_headers::err::ip_auth;
 use ip_ext_headers::{IpAuthHeaderSlice, Ipv6FragmentHeaderSlice, Ipv6RawExtHeaderSlice};
 
-
 /// Parses the header of this number at the start of `bytes`. `first` says that no header precedes it: hop-by-hop
 /// options are allowed only there (RFC 8200, section 4.1). Returns `None` if the chain ends here.
 #[inline]

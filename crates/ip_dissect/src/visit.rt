@@ -20,23 +20,23 @@ impl<'a> Packet<'a> {
     pub fn visit<V: PacketVisitor<'a>>(
         bytes: &'a [u8],
         visitor: &mut V,
-    ) -> Visited<V::Plain, V::Other>
-        ensures { IsVisited V.plain V.other visitor.old bytes.now visitor.new result }
+    ) -> Visited<V::Plain, V::Slow>
+        ensures { IsVisited V.plain V.slow visitor.old bytes.now visitor.new result }
     {
         if bytes.is_empty() {
-            return Visited::Other(without_base(bytes, visitor));
+            return Visited::Slow(without_base(bytes, visitor));
         }
         // not by `base_header`, with whose result the compiler selects the length of the header before it is known
         match bytes[0] >> 4 {
             4 => match Ipv4HeaderSlice::from_slice(bytes) {
                 Ok(base) => visit_ipv4(base, bytes, visitor),
-                Err(_) => Visited::Other(without_base(bytes, visitor)),
+                Err(_) => Visited::Slow(without_base(bytes, visitor)),
             },
             6 => match Ipv6HeaderSlice::from_slice(bytes) {
                 Ok(base) => visit_ipv6(base, bytes, visitor),
-                Err(_) => Visited::Other(without_base(bytes, visitor)),
+                Err(_) => Visited::Slow(without_base(bytes, visitor)),
             },
-            _ => Visited::Other(without_base(bytes, visitor)),
+            _ => Visited::Slow(without_base(bytes, visitor)),
         }
     }
 }
@@ -47,9 +47,9 @@ fn visit_ipv4<'a, V: PacketVisitor<'a>>(
     base: Ipv4HeaderSlice<'a>,
     bytes: &'a [u8],
     visitor: &mut V,
-) -> Visited<V::Plain, V::Other>
+) -> Visited<V::Plain, V::Slow>
     requires { IsPrefix (ipv4_header.bytes base) bytes.now }
-    ensures { IsVisited V.plain V.other visitor.old bytes.now visitor.new result }
+    ensures { IsVisited V.plain V.slow visitor.old bytes.now visitor.new result }
 {
     match ipv4_plain(base, bytes) {
         Some(outline) => Visited::Plain(visitor.visit_plain(Packet {
@@ -57,7 +57,7 @@ fn visit_ipv4<'a, V: PacketVisitor<'a>>(
             base: Some(BaseHeader::Ipv4(base)),
             outline,
         })),
-        None => Visited::Other(other_ipv4(base, bytes, visitor)),
+        None => Visited::Slow(slow_ipv4(base, bytes, visitor)),
     }
 }
 
@@ -67,9 +67,9 @@ fn visit_ipv6<'a, V: PacketVisitor<'a>>(
     base: Ipv6HeaderSlice<'a>,
     bytes: &'a [u8],
     visitor: &mut V,
-) -> Visited<V::Plain, V::Other>
+) -> Visited<V::Plain, V::Slow>
     requires { IsPrefix (ipv6_header.bytes base) bytes.now }
-    ensures { IsVisited V.plain V.other visitor.old bytes.now visitor.new result }
+    ensures { IsVisited V.plain V.slow visitor.old bytes.now visitor.new result }
 {
     match ipv6_plain(base, bytes) {
         Some(outline) => Visited::Plain(visitor.visit_plain(Packet {
@@ -77,22 +77,22 @@ fn visit_ipv6<'a, V: PacketVisitor<'a>>(
             base: Some(BaseHeader::Ipv6(base)),
             outline,
         })),
-        None => Visited::Other(other_ipv6(base, bytes, visitor)),
+        None => Visited::Slow(slow_ipv6(base, bytes, visitor)),
     }
 }
 
 /// Visits the IPv4 packet with this base header, which isn't plain.
 #[inline(never)]
-fn other_ipv4<'a, V: PacketVisitor<'a>>(
+fn slow_ipv4<'a, V: PacketVisitor<'a>>(
     base: Ipv4HeaderSlice<'a>,
     bytes: &'a [u8],
     visitor: &mut V,
-) -> V::Other
+) -> V::Slow
     requires base { IsBaseOf bytes.now (Some (Ipv4 base)) }
     requires plain { is_plain (dissected bytes.now) ≡ false }
-    ensures { V.other visitor.old bytes.now visitor.new result }
+    ensures { V.slow visitor.old bytes.now visitor.new result }
 {
-    visitor.visit_other(PacketStart {
+    visitor.visit_slow(PacketStart {
         bytes,
         base: Some(BaseHeader::Ipv4(base)),
     })
@@ -100,16 +100,16 @@ fn other_ipv4<'a, V: PacketVisitor<'a>>(
 
 /// Visits the IPv6 packet with this base header, which isn't plain.
 #[inline(never)]
-fn other_ipv6<'a, V: PacketVisitor<'a>>(
+fn slow_ipv6<'a, V: PacketVisitor<'a>>(
     base: Ipv6HeaderSlice<'a>,
     bytes: &'a [u8],
     visitor: &mut V,
-) -> V::Other
+) -> V::Slow
     requires base { IsBaseOf bytes.now (Some (Ipv6 base)) }
     requires plain { is_plain (dissected bytes.now) ≡ false }
-    ensures { V.other visitor.old bytes.now visitor.new result }
+    ensures { V.slow visitor.old bytes.now visitor.new result }
 {
-    visitor.visit_other(PacketStart {
+    visitor.visit_slow(PacketStart {
         bytes,
         base: Some(BaseHeader::Ipv6(base)),
     })
@@ -117,10 +117,10 @@ fn other_ipv6<'a, V: PacketVisitor<'a>>(
 
 /// Visits bytes that don't start with a whole base header.
 #[inline(never)]
-fn without_base<'a, V: PacketVisitor<'a>>(bytes: &'a [u8], visitor: &mut V) -> V::Other
+fn without_base<'a, V: PacketVisitor<'a>>(bytes: &'a [u8], visitor: &mut V) -> V::Slow
     requires { IsBaseOf bytes.now None }
     ensures plain { is_plain (dissected bytes.now) ≡ false }
-    ensures visited { V.other visitor.old bytes.now visitor.new result }
+    ensures visited { V.slow visitor.old bytes.now visitor.new result }
 {
-    visitor.visit_other(PacketStart { bytes, base: None })
+    visitor.visit_slow(PacketStart { bytes, base: None })
 }

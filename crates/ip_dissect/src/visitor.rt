@@ -44,24 +44,25 @@ pub trait PacketVisitor<'a> {
     /// What is known of a plain packet after the visit.
     type Plain;
 
-    /// What is known of any other packet after the visit.
-    type Other;
+    /// What is known of any other packet after the visit, on the slow path.
+    type Slow;
 
     /// What the visitor is before and after the plain packet at the start of these bytes, and what is known of it.
     ghost plain: { Self → List ℕ → Self → Self.Plain → Type 0 };
 
     /// What the visitor is before and after any other packet at the start of these bytes, and what is known of it.
-    ghost other: { Self → List ℕ → Self → Self.Other → Type 0 };
+    ghost slow: { Self → List ℕ → Self → Self.Slow → Type 0 };
 
     /// Visits a packet without extension headers that is no fragment and has no error.
     fn visit_plain(&mut self, packet: Packet<'a>) -> Self::Plain
         requires { is_plain (dissected packet.bytes.now) ≡ true }
         ensures { plain self.old packet.entry.bytes.now self.new result };
 
-    /// Visits any other packet, with its base header parsed: `PacketStart::walk` passes its extension headers.
-    fn visit_other(&mut self, start: PacketStart<'a>) -> Self::Other
+    /// Visits any other packet, on the slow path, with its base header parsed: `PacketStart::walk` passes its extension
+    /// headers.
+    fn visit_slow(&mut self, start: PacketStart<'a>) -> Self::Slow
         requires { is_plain (dissected start.bytes.now) ≡ false }
-        ensures { other self.old start.entry.bytes.now self.new result };
+        ensures { slow self.old start.entry.bytes.now self.new result };
 }
 
 /// What is known of a packet after a visit.
@@ -69,6 +70,6 @@ pub trait PacketVisitor<'a> {
 pub enum Visited<P, O> {
     /// A packet without extension headers that is no fragment and has no error.
     Plain(P),
-    /// Any other packet.
-    Other(O),
+    /// Any other packet, which took the slow path.
+    Slow(O),
 }

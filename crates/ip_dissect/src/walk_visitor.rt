@@ -38,12 +38,12 @@ struct Walking<'w, W> {
 impl<'a, W: WalkVisitor> PacketVisitor<'a> for Walking<'_, W> {
     type Plain = ();
 
-    type Other = ();
+    type Slow = ();
 
     ghost plain = { λ old s new _. (new.visitor.ghost_name ≡ old.visitor.ghost_name)
         × W.walked old.visitor.now s new.visitor.now };
 
-    ghost other = { λ old s new _. (new.visitor.ghost_name ≡ old.visitor.ghost_name)
+    ghost slow = { λ old s new _. (new.visitor.ghost_name ≡ old.visitor.ghost_name)
         × W.walked old.visitor.now s new.visitor.now };
 
     #[inline(always)]
@@ -52,7 +52,7 @@ impl<'a, W: WalkVisitor> PacketVisitor<'a> for Walking<'_, W> {
     }
 
     #[inline(always)]
-    fn visit_other(&mut self, start: PacketStart<'a>) {
+    fn visit_slow(&mut self, start: PacketStart<'a>) {
         let packet = start.walk(self.visitor);
         self.visitor.end(&packet);
     }

@@ -27,7 +27,7 @@ pub(crate) fn ask<Q: Question>(question: Q, bytes: &[u8]) -> bool
 {
     match Packet::visit(bytes, &mut Asker { question }) {
         Visited::Plain(packet) => question.ask(Some(&Facts::of_plain(packet))),
-        Visited::Other(answer) => answer,
+        Visited::Slow(answer) => answer,
     }
 }
 
@@ -40,11 +40,11 @@ struct Asker<Q> {
 impl<'a, Q: Question> PacketVisitor<'a> for Asker<Q> {
     type Plain = Packet<'a>;
 
-    type Other = bool;
+    type Slow = bool;
 
     ghost plain = { λ old s new packet. packet.bytes.now ≡ s };
 
-    ghost other = { λ old s new answer.
+    ghost slow = { λ old s new answer.
         answer ≡ Q.is_yes old.question (λ t. holds t (dissected s)) };
 
     #[inline(always)]
@@ -53,7 +53,7 @@ impl<'a, Q: Question> PacketVisitor<'a> for Asker<Q> {
     }
 
     #[inline(always)]
-    fn visit_other(&mut self, start: PacketStart<'a>) -> bool {
+    fn visit_slow(&mut self, start: PacketStart<'a>) -> bool {
         let mut numbers = NumberSet::none();
         let packet = start.walk(&mut numbers);
         ask_walked(self.question, &Facts { packet, numbers })

@@ -28,18 +28,18 @@ struct PlainPayload;
 impl<'a> PacketVisitor<'a> for PlainPayload {
     type Plain = (IpNumber, usize);
 
-    type Other = ();
+    type Slow = ();
 
     ghost plain = { λ old s new x.
         (x.0.0 ≡ (dissected s).number) × (x.1 ≡ length (dissected s).payload) };
 
-    ghost other = { λ old s new _. new ≡ old };
+    ghost slow = { λ old s new _. new ≡ old };
 
     fn visit_plain(&mut self, packet: Packet<'a>) -> (IpNumber, usize) {
         (packet.outline.next_header, packet.outline.payload_len)
     }
 
-    fn visit_other(&mut self, _start: PacketStart<'a>) {}
+    fn visit_slow(&mut self, _start: PacketStart<'a>) {}
 }
 
 /// Returns the payload's protocol number and its length in bytes, if the packet has no extension headers, is no
@@ -51,6 +51,6 @@ pub fn plain_payload(bytes: &[u8]) -> Option<(IpNumber, usize)>
 {
     match Packet::visit(bytes, &mut PlainPayload) {
         Visited::Plain(payload) => Some(payload),
-        Visited::Other(()) => None,
+        Visited::Slow(()) => None,
     }
 }

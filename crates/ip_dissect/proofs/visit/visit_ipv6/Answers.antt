@@ -13,8 +13,8 @@ invariant_of-visit_plain g c = record {
 pub visit_plain-requires : goal.visit_plain-requires
 visit_plain-requires g c = λ _. (search rules, ap is_plain (begun6 c.args.bytes.now (bytes c.args.base) c.args.base.header c.requires) ∙ sym c.in-Some.ensures.plain)
 
-pub other_ipv6-requires : goal.other_ipv6-requires
-other_ipv6-requires g c = λ _. (
+pub slow_ipv6-requires : goal.slow_ipv6-requires
+slow_ipv6-requires g c = λ _. (
   search rules,
   (
     base_some6 c.args.bytes.now c.args.base c.args.base.header c.requires,
@@ -31,5 +31,5 @@ returns-in-Some g c = (
 pub returns-in-None : goal.returns-in-None
 returns-in-None g c = (
   ap is_plain (begun6 c.args.bytes.now (bytes c.args.base) c.args.base.header c.requires) ∙ sym c.in-None.ensures.plain,
-  c.other_ipv6.ensures,
+  c.slow_ipv6.ensures,
 )

@@ -3,7 +3,7 @@ ghost use Rattle.std.specs.Prelude.{◌≡◌, ◌+◌, length};
 ghost use Rattle.std.specs.Option.{option_map_or};
 ghost use Rattle.std.proofs.Common.{rules};
 ghost use Rattle.ip_dissect.specs.Dissection.{dissected};
-ghost use Rattle.ip_codes.specs.Codes.{fragment_code, end_code};
+ghost use Rattle.ip_codes.specs.Codes.{fragment_code};
 ghost use Rattle.ip_spans.specs.HeaderSpan.{filled, spans_from};
 ghost use Rattle.ip_spans.specs.DissectionParts.{dissection_parts, dissected_spans, AreStored};
 

@@ -1,5 +1,5 @@
 -- Extension headers counted by their numbers.
-use Rattle.std.proofs.Common.{◌≡◌, ℕ, ◌+◌, ◌==◌, ◌&&◌, List, [], ◌∷◌, ◌++◌, length, get_or, Fits, w64, sym, refl, ◌∙◌, ap, true, arith, rules}
+use Rattle.std.proofs.Common.{◌≡◌, ℕ, ◌+◌, ◌==◌, ◌&&◌, List, [], ◌∷◌, ◌++◌, length, get_or, Fits, w64, sym, ◌∙◌, ap, true, arith}
 use Rattle.std.specs.List.{count_by}
 use Rattle.std.proofs.lemmas.List.Sums.{sum_by-cons}
 use Rattle.ip_spec.specs.Chain.{ExtHeader}

@@ -1,13 +1,13 @@
 //! Chains borrowed from bytes.
 use crate::checks::{assert_bytes, assert_same, assert_that};
 use ip_base::err::{Layer, LenError};
-use ip_base::{IpNumber, LenSource};
+use ip_base::{IpNumber, LenSource, ip_number};
 use ip_ext_chains::err::ip_auth;
 use ip_ext_chains::err::ipv6_exts::{HeaderError, HeaderSliceError};
 use ip_ext_chains::{
     Ipv6ExtensionSlice, Ipv6ExtensionSliceIter, Ipv6ExtensionsCursor, Ipv6ExtensionsSlice,
 };
-use ip_ext_slices::is_extension;
+use ip_ext_slices::{authentication_header_at, fault, header_len_at, is_extension};
 use ip_plain::{plain_fault, plain_longest_chain};
 use std::alloc::Global;
 use std::process::Abort;
@@ -402,4 +402,62 @@ fn numbers_of_extension_headers(rt: HostRuntime) {
         let expected = matches!(number, 0 | 43 | 44 | 51 | 60);
         assert_same(&rt, number, is_extension(IpNumber(number)), expected);
     }
+}
+
+/// Rows: whether no header precedes, the number, the bytes, and the length of the header there (RFC 8200, section 4; RFC
+/// 4302, section 2.2).
+#[test]
+fn lengths_of_next_headers(rt: HostRuntime) {
+    let rows: [(bool, u8, &[u8], Option<usize>); 12] = [
+        (
+            true,
+            0,
+            &[17, 1, 0, 0, 0, 0, 0, 0, 0, 0, 0, 0, 0, 0, 0, 0, 9],
+            Some(16),
+        ),
+        (false, 0, &[17, 0, 0, 0, 0, 0, 0, 0], None),
+        (false, 43, &[17, 0, 0, 0, 0, 0, 0, 0], Some(8)),
+        (false, 43, &[17, 0, 0, 0, 0, 0, 0], None),
+        (false, 44, &[17, 255, 0, 0, 0, 0, 0, 0], Some(8)),
+        (false, 44, &[17, 0, 0, 0, 0, 0, 0], None),
+        (false, 51, &[17, 1, 0, 0, 0, 0, 0, 0, 0, 0, 0, 0], Some(12)),
+        (false, 51, &[17, 0, 0, 0, 0, 0, 0, 0, 0, 0, 0, 0], None),
+        (false, 51, &[17, 1, 0, 0, 0, 0, 0, 0, 0, 0, 0], None),
+        (
+            false,
+            60,
+            &[17, 1, 0, 0, 0, 0, 0, 0, 0, 0, 0, 0, 0, 0, 0],
+            None,
+        ),
+        (true, 135, &[17, 0, 0, 0, 0, 0, 0, 0], None),
+        (true, 17, &[], None),
+    ];
+    'rows: for (first, number, bytes, len) in rows {
+        assert_same(
+            &rt,
+            number,
+            header_len_at(first, IpNumber(number), bytes),
+            len,
+        );
+    }
+}
+
+#[test]
+fn errors_where_headers_are_missing(rt: HostRuntime) {
+    let error = fault(true, ip_number::IPV6_ROUTE, &[17, 2, 0], 40);
+    let expected = missing(8, 3, Layer::Ipv6ExtHeader, 40, Layer::Ipv6RouteHeader);
+    assert_same(&rt, 43, Some(error), expected);
+}
+
+#[test]
+fn authentication_headers_after_ipv4(rt: HostRuntime) {
+    let bytes: &[u8] = &[17, 1, 0, 0, 0, 0, 0, 7, 0, 0, 0, 0, 9];
+    match authentication_header_at(ip_number::AUTH, bytes) {
+        Ok(Some(header)) => assert_bytes(&rt, 51, header.slice(), &bytes[..12]),
+        _ => assert_that(&rt, 51, false),
+    }
+    let other = authentication_header_at(ip_number::IPV6_FRAG, bytes);
+    assert_that(&rt, 44, matches!(other, Ok(None)));
+    let short = authentication_header_at(ip_number::AUTH, &bytes[..11]);
+    assert_that(&rt, 11, short.is_err());
 }

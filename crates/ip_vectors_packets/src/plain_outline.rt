@@ -12,17 +12,17 @@ struct PlainOutline;
 impl<'a> PacketVisitor<'a> for PlainOutline {
     type Plain = Outline;
 
-    type Other = ();
+    type Slow = ();
 
     ghost plain = { λ old s new outline. outline ≡ outline_of (dissected s) };
 
-    ghost other = { λ old s new _. new ≡ old };
+    ghost slow = { λ old s new _. new ≡ old };
 
     fn visit_plain(&mut self, packet: Packet<'a>) -> Outline {
         packet.outline
     }
 
-    fn visit_other(&mut self, _start: PacketStart<'a>) {}
+    fn visit_slow(&mut self, _start: PacketStart<'a>) {}
 }
 
 /// Returns the outline of the packet at the start of the bytes, if it is plain.
@@ -31,6 +31,6 @@ pub fn plain_outline(bytes: &[u8]) -> Option<Outline>
 {
     match Packet::visit(bytes, &mut PlainOutline) {
         Visited::Plain(outline) => Some(outline),
-        Visited::Other(()) => None,
+        Visited::Slow(()) => None,
     }
 }

@@ -1,5 +1,5 @@
 //! A parsed IPv6 chain, borrowed.
-ghost use Rattle.std.specs.Prelude.{◌≡◌, ◌==◌, ◌&&◌, ℕ, List, [], length, take, Option, Some, None, is_none, IfOk, IfErr, if◌then◌else◌};
+ghost use Rattle.std.specs.Prelude.{◌≡◌, ◌==◌, ℕ, [], length, take, Option, Some, None, is_none, IfOk, IfErr, if◌then◌else◌};
 ghost use Rattle.std.specs.Option.{option_map, option_map_or};
 ghost use Rattle.ip_base.specs.Prefix.{IsPrefix};
 ghost use Rattle.ip_spec.specs.Parse.{rest_after};
@@ -7,16 +7,13 @@ ghost use Rattle.ip_spec.specs.Chain.{bytes_of, leads_to, headers_within, is_emp
 ghost use Rattle.ip_ext_slices.specs.Longest.{longest_chain};
 ghost use Rattle.ip_ext_slices.specs.ChainFault.{chain_fault};
 ghost use Rattle.ip_ext_slices.specs.ChainAnswer.{IsChainAnswer};
-ghost use Rattle.ip_spec.specs.Numbers.{UDP, FRAGMENT};
-ghost use Rattle.ip_spec.specs.Header.{IsHeader};
-ghost use Rattle.ip_spec.specs.Fields.{is_fragmenting};
+ghost use Rattle.ip_spec.specs.Numbers.{UDP};
 
 use crate::err::Layer;
 use crate::err::ipv6_exts::HeaderSliceError;
-use crate::step::{error_at, fault, header_len_at, is_extension};
+use crate::step::{error_at, fault, header_at, is_extension};
 use crate::{Ipv6ExtensionSlice, Ipv6ExtensionSliceIter};
 use ip_base::{IpNumber, ip_number};
-use ip_ext_headers::Ipv6FragmentHeaderSlice;
 use std::alloc::AllocError;
 
 /// A chain of IPv6 extension headers (RFC 8200, section 4), borrowed from the caller's bytes. Its bytes are whole
@@ -121,11 +118,10 @@ impl<'a> Ipv6ExtensionsSlice<'a> {
         let mut number = start;
         let mut rest = bytes;
         let mut fragmented = false;
-        'headers: while let Some(len) = header_len_at(rest.len() == bytes.len(), number, rest) {
-            let header = &rest[..len];
-            fragmented = fragmented | is_fragmenting(number, rest);
-            number = IpNumber(header[0]);
-            rest = rest.split_at(len).1;
+        'headers: while let Some(header) = header_at(rest.len() == bytes.len(), number, rest) {
+            fragmented = fragmented || header.is_fragmenting_payload();
+            number = header.next_header();
+            rest = rest.split_at(header.slice().len()).1;
         }
         (number, rest, bytes.len() - rest.len(), fragmented)
     }
@@ -182,21 +178,6 @@ impl<'a> Ipv6ExtensionsSlice<'a> {
         ensures { result ≡ is_empty (headers_in self.now) }
     {
         self.slice.is_empty()
-    }
-}
-
-/// Returns whether the header of this number at the start of `bytes` is a fragment header that fragments the payload.
-#[inline(always)]
-fn is_fragmenting(number: IpNumber, bytes: &[u8]) -> bool
-    ensures { (b : List ℕ) → IsHeader number.0 b → IsPrefix b bytes.now
-        → result ≡ ((number.0 == FRAGMENT) && is_fragmenting b) }
-{
-    if number != ip_number::IPV6_FRAG {
-        return false;
-    }
-    match Ipv6FragmentHeaderSlice::from_slice(bytes) {
-        Ok(header) => header.is_fragmenting_payload(),
-        Err(_) => false,
     }
 }
 

@@ -1,15 +1,14 @@
-use Rattle.ip_spec.proofs.Common.{◌≡◌, length, take, drop, length-take-le, refl, sym, ap, ◌∙◌, ◌||◌, ◌≤◌}
 use Rattle.ip_ext_slices.proofs.ParseLemmas.{parse_goes_on, at_end}
 use Rattle.ip_ext_slices.proofs.ipv6_exts_slice.Ipv6ExtensionsSlice.scan.Goals as goal
+use Rattle.ip_ext_slices.proofs.ipv6_exts_slice.Ipv6ExtensionsSlice.scan.Goals.{then-fragmented, else-fragmented}
 
 pub headers-preserved : goal.headers-preserved
 headers-preserved c =
-    let next = c.in-Some.ensures.next in
-    let within : c.in-Some.len ≤ length c.headers.rest.now = c.in-Some.ensures.within in
-    let len : length (take c.in-Some.len c.headers.rest.now) ≡ c.in-Some.len = rw length-take-le in
-    parse_goes_on _ _ _ _ _ _ _ _ (take c.in-Some.len c.headers.rest.now) _ c.headers.invariant next refl refl
-    (c.split_at.ensures.back ∙ ap (λ k. drop k c.headers.rest.now) (sym len))
-    (ap (λ x. c.headers.fragmented || x) (c.is_fragmenting-fragmented.ensures _ next.header next.prefix))
+    parse_goes_on _ _ _ _ _ _ _ _ _ _ c.headers.invariant c.in-Some.ensures.next c.next_header-number.ensures c.slice.ensures.bytes c.split_at.ensures.back
+    (elim c.if-fragmented.branch [
+      | then-fragmented w ↦ rw (w.if-fragmented.true, w.fragmented-is) w.if-fragmented.true
+      | else-fragmented w ↦ rw (w.if-fragmented.false, w.fragmented-is) w.is_fragmenting_payload-fragmented.ensures
+    ])
 
 pub returns : goal.returns
 returns c =

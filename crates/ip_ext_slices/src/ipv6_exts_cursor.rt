@@ -7,7 +7,7 @@ ghost use Rattle.ip_ext_slices.specs.Longest.{longest_chain, longest_from};
 use crate::Ipv6ExtensionSlice;
 use crate::err::Layer;
 use crate::err::ipv6_exts::HeaderSliceError;
-use crate::step::{fault, header_at, is_extension};
+use crate::step::{cold_fault, header_at, is_extension};
 use ip_base::{IpNumber, ip_number};
 use std::alloc::AllocError;
 
@@ -89,7 +89,7 @@ impl<'a> Ipv6ExtensionsCursor<'a> {
         match header_at(self.rest.len() == self.bytes.len(), self.number, self.rest) {
             Some(_) => None,
             None => {
-                let fault = fault(len == 0, self.number, self.rest, len);
+                let fault = cold_fault(len == 0, self.number, self.rest, len);
                 Some((self.number, self.rest, Some(fault)))
             }
         }

@@ -11,7 +11,7 @@ ghost use Rattle.ip_spec.specs.Numbers.{UDP};
 
 use crate::err::Layer;
 use crate::err::ipv6_exts::HeaderSliceError;
-use crate::step::{error_at, fault, header_at, is_extension};
+use crate::step::{cold_fault, fault, header_at, is_extension};
 use crate::{Ipv6ExtensionSlice, Ipv6ExtensionSliceIter};
 use ip_base::{IpNumber, ip_number};
 use std::alloc::AllocError;
@@ -98,7 +98,7 @@ impl<'a> Ipv6ExtensionsSlice<'a> {
     {
         let (number, rest, len, fragmented) = Self::scan(start_ip_number, start_slice);
         if is_extension(number) {
-            let fault = fault(len == 0, number, rest, len);
+            let fault = cold_fault(len == 0, number, rest, len);
             let found = Self::first(start_ip_number, start_slice, len, fragmented);
             return (found, number, rest, Some(fault));
         }
@@ -144,7 +144,7 @@ impl<'a> Ipv6ExtensionsSlice<'a> {
     {
         let (number, rest, len, fragmented) = Self::scan(start_ip_number, start_slice);
         if is_extension(number) {
-            return Err(error_at(len == 0, number, rest, len));
+            return Err(fault(len == 0, number, rest, len).0);
         }
         let found = Self::first(start_ip_number, start_slice, len, fragmented);
         Ok((found, number, rest))

@@ -109,35 +109,10 @@ fn cause(first: bool, number: IpNumber, bytes: &[u8]) -> Result<(usize, Layer), 
     }
 }
 
-/// Returns the error at an extension header's number where the chain ends, with `bytes` left, `offset` bytes after
-/// its start. `first` says that no header precedes it.
-#[inline(always)]
-pub(crate) fn error_at(
-    first: bool,
-    number: IpNumber,
-    bytes: &[u8],
-    offset: usize,
-) -> HeaderSliceError
-    requires { IsSome (slice_fault offset first number.0 bytes.now) }
-    ensures { option_map (λ f. f.0) (slice_fault offset first number.0 bytes.now) ≡ Some result }
-{
-    match cause(first, number, bytes) {
-        Err(error) => HeaderSliceError::Content(error),
-        Ok((required_len, layer)) => HeaderSliceError::Len(LenError {
-            required_len,
-            len: bytes.len(),
-            len_source: LenSource::Slice,
-            layer,
-            layer_start_offset: offset,
-        }),
-    }
-}
-
 /// Returns the error at an extension header's number where the chain ends, with `bytes` left, `offset` bytes after its
-/// start, and the layer that the error is in. `first` says that no header precedes it. Kept out of line, since most
-/// chains end without an error. Each kind of error is built where it is returned.
-#[cold]
-#[inline(never)]
+/// start, and the layer that the error is in. `first` says that no header precedes it. Each kind of error is built where
+/// it is returned. Call it where code is cold already: it is inlined, so that the error isn't moved through memory.
+#[inline(always)]
 pub fn fault(
     first: bool,
     number: IpNumber,
@@ -166,6 +141,21 @@ pub fn fault(
         layer_start_offset: offset,
     };
     (HeaderSliceError::Len(error), layer)
+}
+
+/// As `fault`, out of line, since most chains end without an error.
+#[cold]
+#[inline(never)]
+pub(crate) fn cold_fault(
+    first: bool,
+    number: IpNumber,
+    bytes: &[u8],
+    offset: usize,
+) -> (HeaderSliceError, Layer)
+    requires { IsSome (slice_fault offset first number.0 bytes.now) }
+    ensures { slice_fault offset first number.0 bytes.now ≡ Some result }
+{
+    fault(first, number, bytes, offset)
 }
 
 /// Returns the error of a chain that leads to the number with `rest` left, `offset` bytes after its start; `first`

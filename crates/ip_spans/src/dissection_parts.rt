@@ -118,9 +118,15 @@ impl DissectionParts {
         self.put_fragment(outline.fragment);
         self.version = u16::from(outline.version);
         self.payload_number = u16::from(outline.next_header.0);
-        let end = packet.end();
-        self.fault.put(FaultFields::of_end(&end));
-        self.end = end_code_of(&end);
+        // Apart, so that an error's fields are read where they were stored, and aren't moved first.
+        if outline.has_error {
+            let end = packet.end();
+            self.fault.put(FaultFields::of_end(&end));
+            self.end = end_code_of(&end);
+        } else {
+            self.fault.put(FaultFields::none());
+            self.end = end_code_of(&packet.end());
+        }
     }
 
     /// Stores the fields of the fragment here.

@@ -11,8 +11,8 @@ returns-then-not-is_extension-clause-answer c =
     let other : IsExtensionNumber x.number.0 → ⊥ = λ e. let no : true ≡ false = sym (c.is_extension.ensures.1 e) ∙ c.if-not-is_extension.true in cc in
     (cursor_at_end x.start.0 x.bytes.now _ x.number.0 x.rest.now x.leads x.after (end_at_other _ x.number.0 x.rest.now other)).answers None (sym (no_fault_at_other Slice _ _ x.number.0 x.rest.now _ other))
 
-pub fault-fault-requires : goal.fault-fault-requires
-fault-fault-requires c =
+pub cold_fault-fault-requires : goal.cold_fault-fault-requires
+cold_fault-fault-requires c =
     let x = c.args.self.now in
     fault_at_end Slice _ _ _ _ _ (c.is_extension.ensures.0 c.if-not-is_extension.false) (cursor_at_end _ _ _ _ _ x.leads x.after c.in-None.ensures.end).ends
 
@@ -20,4 +20,4 @@ pub returns-in-Some-clause-before : goal.returns-in-Some-clause-before
 returns-in-Some-clause-before c = λ e. let no : _ ∷ _ ≡ [] = sym (longest_from_next _ _ _ _ c.in-Some.ensures.next) ∙ e in cc
 
 pub returns-in-None-clause-answer : goal.returns-in-None-clause-answer
-returns-in-None-clause-answer c = (cursor_at_end _ _ _ _ _ c.args.self.now.leads c.args.self.now.after c.in-None.ensures.end).answers _ (sym c.fault-fault.ensures)
+returns-in-None-clause-answer c = (cursor_at_end _ _ _ _ _ c.args.self.now.leads c.args.self.now.after c.in-None.ensures.end).answers _ (sym c.cold_fault-fault.ensures)

@@ -3,7 +3,7 @@ use Rattle.ip_ext_slices.proofs.FaultLemmas.{fault_at_end}
 use Rattle.ip_ext_slices.proofs.ParseLemmas.{ends_after}
 use Rattle.ip_ext_slices.proofs.ipv6_exts_slice.Ipv6ExtensionsSlice.from_slice_lax.Goals as goal
 
-pub fault-fault-requires : goal.fault-fault-requires
-fault-fault-requires c =
+pub cold_fault-fault-requires : goal.cold_fault-fault-requires
+cold_fault-fault-requires c =
     let scanned = c.scan-len.ensures in
     fault_at_end Slice _ _ _ _ _ (c.is_extension.ensures.0 c.if-is_extension.true) (ends_after _ _ _ scanned.len _ _ scanned.number scanned.rest)

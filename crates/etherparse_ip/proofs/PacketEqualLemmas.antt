@@ -1,6 +1,5 @@
 -- Packets are equal if their parts are.
-use Rattle.ip_spec.proofs.Common.{◌≡◌, ℕ, List, ap, ◌∙◌, rules, arith, ◌==◌, ◌↔◌, Option, IsTrue, Decides, pointwise, option_eq, and-true, Decides-and, common_steps}
-use Rattle.std.specs.Prelude.{Bool, nat_eq}
+use Rattle.ip_spec.proofs.Common.{◌≡◌, ℕ, List, ap, ◌∙◌, rules, arith, ◌==◌, ◌↔◌, Option, IsTrue, Decides, pointwise, option_eq, and-true, Decides-and, common_steps, Bool, nat_eq}
 use Rattle.ip_base.specs.declared.ip_number_impl.IpNumber.{IpNumber}
 use Rattle.ip_base.specs.declared.ip_payload_slice.IpPayloadSlice.{IpPayloadSlice}
 use Rattle.etherparse_ip.specs.Ipv4Slice.{ipv4_parts}

@@ -1,8 +1,5 @@
 -- One more header, and what the fragment headers say.
-use Rattle.ip_spec.proofs.Common.{◌≡◌, ℕ, ◌+◌, ◌*◌, List, [], ◌∷◌, ◌++◌, refl, sym, ◌∙◌, ap, arith, common_steps, Bool, true, false, rules, length, length-append, or-false, eqb_tells, cases_Bool, Option, Some, None, option_or, option_map, ◌||◌, ◌==◌, if◌then◌else◌, not, ExtHeader, fragment_fields, is_fragmenting}
-use Rattle.std.proofs.Common.{cond}
-use Rattle.std.specs.List.{find}
-use Rattle.std.proofs.lemmas.List.Folds.{find-append}
+use Rattle.ip_spec.proofs.Common.{◌≡◌, ℕ, ◌+◌, ◌*◌, List, [], ◌∷◌, ◌++◌, refl, sym, ◌∙◌, ap, arith, common_steps, Bool, true, false, rules, length, length-append, or-false, eqb_tells, cases_Bool, Option, Some, None, option_or, option_map, ◌||◌, ◌==◌, if◌then◌else◌, not, ExtHeader, fragment_fields, is_fragmenting, cond, find, find-append}
 use Rattle.ip_spec.proofs.FirstLemmas.{find_passes}
 use Rattle.ip_dissect.specs.LaterDemand.{is_later}
 use Rattle.ip_dissect.specs.Fragment.{fragment_of, fragment_in, fragments, is_fragment_header, is_atomic, is_kept, ipv6_fragment}

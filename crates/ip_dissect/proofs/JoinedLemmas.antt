@@ -1,6 +1,5 @@
 -- The parts of a packet joined, and the packets in truncated bytes.
-use Rattle.ip_spec.proofs.Common.{rules, ◌≡◌, ℕ, ◌-◌, ◌≤◌, List, [], ◌∷◌, ◌++◌, length, take, drop, sym, ap, ◌∙◌, arith, common_steps, append_assoc, drop-append_seam, take-append_seam, length-append, ◌+◌, refl, Option, None, Some, IsPrefix, ExtHeader, bytes_of, headers_within, rest_after, AtMostOneOf}
-use Rattle.std.proofs.Common.{zero, suc}
+use Rattle.ip_spec.proofs.Common.{rules, ◌≡◌, ℕ, ◌-◌, ◌≤◌, List, [], ◌∷◌, ◌++◌, length, take, drop, sym, ap, ◌∙◌, arith, common_steps, append_assoc, drop-append_seam, take-append_seam, length-append, ◌+◌, refl, Option, None, Some, IsPrefix, ExtHeader, bytes_of, headers_within, rest_after, AtMostOneOf, zero, suc}
 use Rattle.ip_spec.proofs.PrefixLemmas.{prefix-append, prefix-length}
 use Rattle.ip_spec.proofs.DemandKinds.{at_most_one_of}
 use Rattle.ip_spec.proofs.ShorterLemmas.{longest_shorter}

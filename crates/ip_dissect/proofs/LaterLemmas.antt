@@ -1,6 +1,5 @@
 -- A chain that stops at a later fragment's header: one more header, and the end.
-use Rattle.ip_spec.proofs.Common.{◌≡◌, ℕ, ◌+◌, ◌-◌, ◌<◌, ◌≤◌, ◌^◌, length-drop, List, [], ◌∷◌, ◌++◌, length, drop, take, length-take-le, sym, refl, ap, ◌∙◌, arith, rules, Bool, true, false, nat_eq, common_steps, or-false, or_assoc, is_some, IsSome, IsTrue, ◌↔◌, ◌||◌, ◌&&◌, not, Option, IsExtensionNumber, next_header, ExtHeader, bytes_of, leads_to, IsNext, IsEnd, IsLongestUnder, rest_after}
-use Rattle.std.proofs.Common.{None}
+use Rattle.ip_spec.proofs.Common.{◌≡◌, ℕ, ◌+◌, ◌-◌, ◌<◌, ◌≤◌, ◌^◌, length-drop, List, [], ◌∷◌, ◌++◌, length, drop, take, length-take-le, sym, refl, ap, ◌∙◌, arith, rules, Bool, true, false, nat_eq, common_steps, or-false, or_assoc, is_some, IsSome, IsTrue, ◌↔◌, ◌||◌, ◌&&◌, not, Option, IsExtensionNumber, next_header, ExtHeader, bytes_of, leads_to, IsNext, IsEnd, IsLongestUnder, rest_after, None}
 use Rattle.ip_spec.proofs.PrefixLemmas.{prefix-length}
 use Rattle.ip_spec.proofs.ChainLemmas.{bytes_of-least}
 use Rattle.ip_spec.proofs.ParsedLemmas.{HasParsed, has_parsed_on, no_next_here, parsed_longest_under}

@@ -1,6 +1,5 @@
 -- Two fields, the second being the rest of the text; and one field, which is the whole text.
-use Rattle.ip_spec.proofs.Common.{◌≡◌, ℕ, ◌<◌, List, ◌∷◌, ◌++◌, length, get_or, refl, arith, rules, common_steps, codes, join_with_byte, option_zip, result_ok, length-append, get_or_at, join_with_byte-slice_split, bytes_eq-Decides}
-use Rattle.std.proofs.Common.{Option, None, Result, Ok, Err}
+use Rattle.ip_spec.proofs.Common.{◌≡◌, ℕ, ◌<◌, List, ◌∷◌, ◌++◌, length, get_or, refl, arith, rules, common_steps, codes, join_with_byte, option_zip, result_ok, length-append, get_or_at, join_with_byte-slice_split, bytes_eq-Decides, Option, None, Result, Ok, Err}
 use Rattle.hex.specs.Hex.{decode_of}
 use Rattle.hex.proofs.HexLemmas.{decode_of-ok}
 use Rattle.ipexts_tool.specs.LineFields.{fields_of, number_of, bytes_of_hex, number_and_bytes, bytes_alone}

@@ -1,6 +1,5 @@
 -- The number that a text is the numeral of.
-use Rattle.ip_spec.proofs.Common.{◌≡◌, lit≤, ℕ, zero, suc, ◌+◌, ◌-◌, ◌*◌, ◌^◌, ◌<◌, ◌≤◌, List, length, take, get_or, refl, arith, rules, common_steps, find, range_with_len, bytes_eq, AllDigits, digits_value, IsInRange, IsOutOfRange, decimal, cond-false, false_from_ne_true, cases_eq, bytes_eq-Decides, numerals_by_value, tells_digits, digit_at, digits_value-take-le, digits_value_more, digits_more, nat_tests, take_all, decimal_injective, decimal_is_IsNumeral, decimal_digit, first_decimal, decimal-digits_value}
-use Rattle.std.proofs.Common.{Some, None}
+use Rattle.ip_spec.proofs.Common.{◌≡◌, lit≤, ℕ, zero, suc, ◌+◌, ◌-◌, ◌*◌, ◌^◌, ◌<◌, ◌≤◌, List, length, take, get_or, refl, arith, rules, common_steps, find, range_with_len, bytes_eq, AllDigits, digits_value, IsInRange, IsOutOfRange, decimal, cond-false, false_from_ne_true, cases_eq, bytes_eq-Decides, numerals_by_value, tells_digits, digit_at, digits_value-take-le, digits_value_more, digits_more, nat_tests, take_all, decimal_injective, decimal_is_IsNumeral, decimal_digit, first_decimal, decimal-digits_value, Some, None}
 use Rattle.ipexts_tool.specs.LineFields.{number_of}
 
 -- for any range, since a tactic would unfold a literal bound

@@ -1,6 +1,5 @@
 -- The lines of bytes that arrive in parts.
-use Rattle.ip_spec.proofs.Common.{◌≡◌, ℕ, suc, min, ◌+◌, ◌<◌, List, [], ◌∷◌, ◌++◌, length, take, refl, ap, arith, append_assoc, rules, common_steps, if◌then◌else◌, nat_le, Option, None, slice_split, option_map_or, cases_lt, cond-false, lt-leb, take_all, length-take, take-append-add}
-use Rattle.std.proofs.Common.{append-nil, length-append}
+use Rattle.ip_spec.proofs.Common.{◌≡◌, ℕ, suc, min, ◌+◌, ◌<◌, List, [], ◌∷◌, ◌++◌, length, take, refl, ap, arith, append_assoc, rules, common_steps, if◌then◌else◌, nat_le, Option, None, slice_split, option_map_or, cases_lt, cond-false, lt-leb, take_all, length-take, take-append-add, append-nil, length-append}
 use Rattle.std.proofs.lemmas.List.{take_min}
 use Rattle.std.proofs.lemmas.List.Splits.{length-slice_split}
 use Rattle.ipexts_tool.specs.Lines.{is_newline, lines_of, without_empty_last, max_line_len}

@@ -1,6 +1,5 @@
 -- Joining the parts of a run.
-use Rattle.ip_spec.proofs.Common.{◌≡◌, ℕ, List, [], ◌++◌, length, take, refl, append_assoc, rules, Option, Some, IfSome, Result, Ok, Appends, Consumes, IsAtEnd, Keeps, ReadConsumes, Appends-nil, Appends-trans, Appends-kept, Consumes-trans, take-append_seam, flat_map-append}
-use Rattle.std.proofs.Common.{append-nil, take-append-drop}
+use Rattle.ip_spec.proofs.Common.{◌≡◌, ℕ, List, [], ◌++◌, length, take, refl, append_assoc, rules, Option, Some, IfSome, Result, Ok, Appends, Consumes, IsAtEnd, Keeps, ReadConsumes, Appends-nil, Appends-trans, Appends-kept, Consumes-trans, take-append_seam, flat_map-append, append-nil, take-append-drop}
 use Rattle.ipexts_tool.specs.Answers.{answers, answers_to}
 use Rattle.ipexts_tool.specs.Lines.{lines_of}
 use Rattle.ipexts_tool.specs.OpenLine.{ended_lines, open_line, lines_at_end}

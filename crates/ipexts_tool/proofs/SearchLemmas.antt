@@ -4,9 +4,6 @@ use Rattle.std.specs.List.{prefix_len}
 use Rattle.std.specs.Simd.Lanes.{mask_l, chunk}
 use Rattle.std.proofs.lemmas.Simd.{trailing_mask_l, length-chunk, run_in_chunk_fails, run_in_chunk_stops}
 use lib.Count.{count_trailing_zeros}
-use Rattle.std.proofs.Common.{Option, None, Some, inl, inr}
-use Rattle.std.proofs.lemmas.Bool.{cases_lt}
-use Rattle.std.specs.Prelude.{IfSome, IfNone}
 
 module _ (p : ℕ → Bool) where
   prefix-short : (xs : List ℕ) → 0 < mask_l (map p xs) → prefix_len (λ x. not (p x)) xs < length xs
@@ -31,13 +28,3 @@ module _ (p : ℕ → Bool) where
 
     pub before-fails : (k : ℕ) → at ≤ k → k < at + count_trailing_zeros 64 m → p (get_or text k 0) ≡ false
     before-fails = run_in_chunk_fails p text at 16 _ 0 inside first-is
-
--- a byte that is at no place before `from`, and the first place from there on
-module _ (text : List ℕ) (byte from : ℕ) (before : (k : ℕ) → k < from → get_or text k 0 ≡ byte → ⊥) where
-  pub first_of_all : (r : Option ℕ) → IfSome r (λ i. (k : ℕ) → from ≤ k → k < i → get_or text k 0 ≡ byte → ⊥) → IfSome r (λ i. (k : ℕ) → k < i → get_or text k 0 ≡ byte → ⊥)
-  first_of_all None first = tt
-  first_of_all (Some i) first = λ k below. elim (cases_lt k from) [ inl l ↦ before k l | inr g ↦ first k g below ]
-
-  pub absent_at_all : (r : Option ℕ) → IfNone r ((k : ℕ) → from ≤ k → k < length text → get_or text k 0 ≡ byte → ⊥) → IfNone r ((k : ℕ) → k < length text → get_or text k 0 ≡ byte → ⊥)
-  absent_at_all None absent = λ k below. elim (cases_lt k from) [ inl l ↦ before k l | inr g ↦ absent k g below ]
-  absent_at_all (Some i) absent = tt

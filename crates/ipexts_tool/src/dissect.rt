@@ -3,8 +3,7 @@ ghost use Rattle.std.specs.Prelude.{◌≡◌, ◌++◌, ◌+◌, ◌<◌, ◌^�
 ghost use Rattle.ip_ext_slices.specs.Ipv6ExtensionsSlice.{bytes, headers_in};
 ghost use Rattle.ip_dissect.specs.Dissection.{HasParts, dissected, version_in, base_bytes};
 ghost use Rattle.ipexts_tool.specs.Parts.{header_lines};
-ghost use Rattle.ipexts_tool.specs.DissectAnswer.{stated_text, base_line, fragment_line, kind_name, missing_line};
-ghost use Rattle.ipexts_tool.specs.DissectAnswer.{in_header, truncated_text, end_line, dissect_answer};
+ghost use Rattle.ipexts_tool.specs.DissectAnswer.{stated_text, base_line, fragment_line, kind_name, missing_line, in_header, truncated_text, end_line, dissect_answer};
 
 use crate::faults::{push_len, push_packet_fault};
 use crate::parts::{push_authentication, push_header, push_next};

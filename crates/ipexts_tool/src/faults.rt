@@ -1,9 +1,6 @@
 //! The texts of faults.
 ghost use Rattle.std.specs.Prelude.{◌≡◌, ◌++◌, OnOk, string_bytes};
-ghost use Rattle.ipexts_tool.specs.Faults.{len_text, len_fault_text, auth_fault_text};
-ghost use Rattle.ipexts_tool.specs.Faults.{auth_slice_fault_text};
-ghost use Rattle.ipexts_tool.specs.Faults.{content_fault_text, chain_fault_text};
-ghost use Rattle.ipexts_tool.specs.Faults.{base_fault_text, packet_fault_text};
+ghost use Rattle.ipexts_tool.specs.Faults.{len_text, len_fault_text, auth_fault_text, auth_slice_fault_text, content_fault_text, chain_fault_text, base_fault_text, packet_fault_text};
 
 use etherparse_ip::err::ipv6_exts::{HeaderError, HeaderSliceError};
 use etherparse_ip::err::{LenError, ip, ip_auth};

@@ -2,8 +2,7 @@
 ghost use Rattle.std.specs.Prelude.{◌≡◌, ◌==◌, ◌<◌, ◌≤◌, [], length};
 ghost use Rattle.std.specs.Option.{option_map};
 ghost use Rattle.ipexts_tool.specs.Lines.{max_line_len};
-ghost use Rattle.ipexts_tool.specs.LineFields.{fields_of, number_of};
-ghost use Rattle.ipexts_tool.specs.LineFields.{bytes_of_hex, number_and_bytes, bytes_alone};
+ghost use Rattle.ipexts_tool.specs.LineFields.{fields_of, number_of, bytes_of_hex, number_and_bytes, bytes_alone};
 
 use crate::hex_digits::decode;
 use crate::search::split_once;

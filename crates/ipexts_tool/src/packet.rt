@@ -4,8 +4,7 @@ ghost use Rattle.ip_spec.specs.Chain.{bytes_of};
 ghost use Rattle.ip_ext_chains.specs.Ipv4ExtensionsSlice.{headers_in};
 ghost use Rattle.etherparse_ip.specs.Ipv4Slice.{ipv4_parts};
 ghost use Rattle.etherparse_ip.specs.Ipv6Slice.{ipv6_parts};
-ghost use Rattle.ipexts_tool.specs.PacketAnswer.{yes_or_no, lengths_line, payload_line, parts_lines, fault_line};
-ghost use Rattle.ipexts_tool.specs.PacketAnswer.{packet_answer};
+ghost use Rattle.ipexts_tool.specs.PacketAnswer.{yes_or_no, lengths_line, payload_line, parts_lines, fault_line, packet_answer};
 
 use crate::faults::push_packet_fault;
 use crate::parts::push_ok;

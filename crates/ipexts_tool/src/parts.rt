@@ -1,8 +1,7 @@
 //! Parts of answers that several forms share.
 ghost use Rattle.std.specs.Prelude.{◌≡◌, ◌++◌, OnOk, string_bytes};
 ghost use Rattle.ip_ext_slices.specs.Ipv4Longest.{authentication_chain};
-ghost use Rattle.ipexts_tool.specs.Parts.{header_name, header_line, header_lines, next_line};
-ghost use Rattle.ipexts_tool.specs.Parts.{written_line, ok_line, chain_end_line, ipv4_end_line};
+ghost use Rattle.ipexts_tool.specs.Parts.{header_name, header_line, header_lines, next_line, written_line, ok_line, chain_end_line, ipv4_end_line};
 
 use crate::faults::{push_auth_slice_fault, push_chain_fault};
 use etherparse_ip::err::ipv6_exts::HeaderSliceError;

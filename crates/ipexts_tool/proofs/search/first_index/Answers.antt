@@ -1,7 +1,7 @@
 use Rattle.std.proofs.Common.{sym, ◌∙◌, inl, inr, ◌==◌, ℕ, Bool, arith, eqb-true}
 use Rattle.std.proofs.lemmas.Bool.{cases_lt, eqb-false}
 use Rattle.std.proofs.lemmas.Simd.{none_from_empty_mask}
-use Rattle.ipexts_tool.proofs.SearchLemmas.{first-inside, first-passes, before-fails, first_of_all, absent_at_all}
+use Rattle.ipexts_tool.proofs.SearchLemmas.{first-inside, first-passes, before-fails}
 use Rattle.ipexts_tool.proofs.search.first_index.Goals as goal
 
 pub returns-then-places-ne0-clause-inside : goal.returns-then-places-ne0-clause-inside
@@ -33,9 +33,3 @@ search-preserved c =
             | inr within ↦ eqb-false _ _ (none_from_empty_mask p c.args.text.now c.search.at 16 0 (omega arith) (sym c.places_in_block-places.ensures ∙ c.if-places-ne0.false) k within below)
           ];
     }
-
-pub returns-clause-first : goal.returns-clause-first
-returns-clause-first c = first_of_all c.args.text.now c.args.byte c.search.at c.search.invariant.before c.first_index_from.result c.first_index_from.ensures.first
-
-pub returns-clause-absent : goal.returns-clause-absent
-returns-clause-absent c = absent_at_all c.args.text.now c.args.byte c.search.at c.search.invariant.before c.first_index_from.result c.first_index_from.ensures.absent

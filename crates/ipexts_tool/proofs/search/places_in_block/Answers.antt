@@ -1,7 +1,6 @@
-use Rattle.std.proofs.Common.{eqb, w8}
+use Rattle.std.proofs.Common.{arith, eqb, w8}
 use Rattle.std.specs.Simd.Lanes.{chunk}
 use Rattle.std.proofs.lemmas.Simd.{bitmask_splat, length-chunk}
-use Rattle.std.proofs.Common.{arith}
 use Rattle.ipexts_tool.proofs.search.places_in_block.Goals as goal
 
 pub returns : goal.returns

@@ -1,7 +1,6 @@
-use Rattle.ip_spec.proofs.Common.{rules, ℕ, ◌≡◌, ◌≢◌, ◌<◌, arith, eq-eqb, ne_eqb, length, get_or, take_rest, false, position_or_len, slice_split_none, All-from_get_or}
+use Rattle.ip_spec.proofs.Common.{rules, ℕ, ◌≡◌, ◌≢◌, ◌<◌, arith, eq-eqb, ne_eqb, length, get_or, take_rest, false, position_or_len, slice_split_none, All-from_get_or, ◌==◌, Bool}
 use Rattle.std.proofs.lemmas.List.Splits.{slice_split_first}
 use Rattle.std.proofs.lemmas.List.Sums.{position_or_len_is}
-use Rattle.std.specs.Prelude.{◌==◌, Bool}
 use Rattle.ipexts_tool.proofs.search.split_once.Goals as goal
 
 pub returns-in_err-end-clause-absent : goal.returns-in_err-end-clause-absent

@@ -1,5 +1,6 @@
 -- The first place in a block whose byte passes a test, by the mask of the lanes.
-use Rattle.std.proofs.Common.{◌≡◌, ℕ, suc, ◌+◌, ◌*◌, ◌<◌, ◌≤◌, List, [], ◌∷◌, length, get_or, map, Bool, true, false, not, cond, arith}
+use Rattle.std.proofs.Common.{◌≡◌, ℕ, ◌+◌, ◌<◌, ◌≤◌, List, [], ◌∷◌, length, get_or, map, Bool, true, false, not, arith}
+use Rattle.std.proofs.lemmas.Grind.{common_steps}
 use Rattle.std.specs.List.{prefix_len}
 use Rattle.std.specs.Simd.Lanes.{mask_l, chunk}
 use Rattle.std.proofs.lemmas.Simd.{trailing_mask_l, length-chunk, run_in_chunk_fails, run_in_chunk_stops}
@@ -8,12 +9,7 @@ use lib.Count.{count_trailing_zeros}
 module _ (p : ℕ → Bool) where
   prefix-short : (xs : List ℕ) → 0 < mask_l (map p xs) → prefix_len (λ x. not (p x)) xs < length xs
   prefix-short [] marked = absurd (omega arith)
-  prefix-short (x ∷ xs) marked = go (p x) marked (λ more. prefix-short xs more)
-    where
-      go : (t : Bool) → 0 < cond t 1 0 + 2 * mask_l (map p xs) → (0 < mask_l (map p xs) → prefix_len (λ x. not (p x)) xs < length xs)
-          → cond (not t) (1 + prefix_len (λ x. not (p x)) xs) 0 < suc (length xs)
-      go true marked later = omega arith
-      go false marked later = omega (arith, later (omega arith))
+  prefix-short (x ∷ xs) marked = grind (arith, common_steps, prefix-short xs)
 
   -- of the marks m of a block at least one is set
   module _ (text : List ℕ) (at m : ℕ) (inside : at + 16 ≤ length text) (marks : m ≡ mask_l (map p (chunk at 16 text))) (marked : 0 < m) where

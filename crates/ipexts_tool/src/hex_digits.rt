@@ -1,9 +1,10 @@
 //! Hexadecimal digits: whole blocks of 32 are decoded by vectors of 16 bytes, and what is left by the crate `hex`.
-ghost use Rattle.std.specs.Prelude.{◌≡◌, ℕ, ◌+◌, ◌*◌, ◌%◌, ◌<◌, ◌≤◌, ◌⊎◌, ◌++◌, length, map, slice_index};
+ghost use Rattle.std.specs.Prelude.{◌≡◌, ◌+◌, ◌*◌, ◌%◌, ◌≤◌, ◌++◌, length, take, map, slice_index, nat_lt};
+ghost use Rattle.std.specs.List.{range_with_len, list_all};
 ghost use Rattle.std.specs.Bool.{OnTrue, OnFalse};
 ghost use Rattle.std.specs.Result.{result_ok};
 ghost use Rattle.hex.specs.Hex.{decode_of};
-ghost use Rattle.ipexts_tool.specs.HexDigits.{digit_value, IsDecoded, HasOther};
+ghost use Rattle.ipexts_tool.specs.HexDigits.{digit_value};
 
 use std::simd::prelude::*;
 
@@ -26,15 +27,15 @@ pub fn decode(text: &[u8], bytes: &mut [u8]) -> bool
     hex::decode_to_slice(&text[2 * at..], &mut bytes[at..]).is_ok()
 }
 
-/// Stores the bytes of the block that starts at byte `at`. Returns whether all its digits are digits.
+/// Stores the bytes of the block that starts at byte `at`. Returns whether all its digits are digits. Those before it
+/// stay decoded.
 #[inline(always)]
 fn decode_block(text: &[u8], at: usize, bytes: &mut [u8]) -> bool
     requires twice { length text.now ≡ 2 * length bytes.old }
     requires inside { at + BLOCK_LEN ≤ length bytes.old }
-    ensures digits { OnTrue result
-        ((k : ℕ) → at ≤ k → k < at + BLOCK_LEN → IsDecoded text.now bytes.new k) }
-    ensures other { OnFalse result (HasOther text.now) }
-    ensures kept { (k : ℕ) → k < at → slice_index bytes.new k ≡ slice_index bytes.old k }
+    ensures digits { OnTrue result (decode_of (take (2 * at) text.now) ≡ Ok (take at bytes.old)
+        → decode_of (take (2 * (at + BLOCK_LEN)) text.now) ≡ Ok (take (at + BLOCK_LEN) bytes.new)) }
+    ensures other { OnFalse result (result_ok (decode_of text.now) ≡ None) }
 {
     let front = digit_values(u8x16::from_slice(&text[2 * at..]));
     let back = digit_values(u8x16::from_slice(&text[2 * at + BLOCK_LEN..]));
@@ -60,9 +61,8 @@ fn digit_values(digits: u8x16) -> u8x16
 /// Joins the values of each pair of digits.
 #[inline(always)]
 fn joined(front: u8x16, back: u8x16) -> u8x16
-    ensures len { length result ≡ BLOCK_LEN }
-    ensures lanes { (k : ℕ) → k < BLOCK_LEN → slice_index result k
-        ≡ (slice_index (front ++ back) (2 * k) * 16 + slice_index (front ++ back) (2 * k + 1)) % 256 }
+    ensures { result ≡ map (λ k. (slice_index (front ++ back) (2 * k) * 16 % 256
+        + slice_index (front ++ back) (2 * k + 1)) % 256) (range_with_len 0 BLOCK_LEN) }
 {
     let high: u8x16 = front.shuffle(
         back,
@@ -78,10 +78,7 @@ fn joined(front: u8x16, back: u8x16) -> u8x16
 /// Returns whether no lane is 128 or more.
 #[inline(always)]
 fn are_values(front: u8x16, back: u8x16) -> bool
-    ensures yes { OnTrue result
-        ((k : ℕ) → (slice_index front k < 128) × (slice_index back k < 128)) }
-    ensures no { OnFalse result ((k : ℕ) × (k < BLOCK_LEN)
-        × ((128 ≤ slice_index front k) ⊎ (128 ≤ slice_index back k))) }
+    ensures { result ≡ list_all (λ v. nat_lt v 128) (front ++ back) }
 {
     let larger = front.simd_max(back);
     larger.simd_ge(u8x16::splat(128)).to_bitmask() == 0

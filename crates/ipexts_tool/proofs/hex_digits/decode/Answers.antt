@@ -1,10 +1,8 @@
-use Rattle.std.proofs.Common.{arith, rules, sym, ◌∙◌, ◌-◌, length}
+use Rattle.std.proofs.Common.{arith, rules, refl, sym, ◌∙◌, ◌-◌, length}
 use Rattle.std.proofs.lemmas.Bool.{OnTrue_from, OnFalse_from}
-use Rattle.ipexts_tool.proofs.HexDigitLemmas.{other_refused, left-decoded, left-refused, written_ok, written_err}
+use Rattle.hex.specs.Hex.{decode_pairs}
+use Rattle.ipexts_tool.proofs.HexDigitLemmas.{left-decoded, left-refused, written_ok, written_err}
 use Rattle.ipexts_tool.proofs.hex_digits.decode.Goals as goal
-
-pub returns-then-not-decode_block-clause-other : goal.returns-then-not-decode_block-clause-other
-returns-then-not-decode_block-clause-other c = other_refused c.args.text.now c.if-not-decode_block.ensures.other
 
 pub returns-clause-digits : goal.returns-clause-digits
 returns-clause-digits c =
@@ -17,3 +15,7 @@ returns-clause-other c =
     OnFalse_from _ _ (λ is.
     let refused = written_err _ _ c.decode_to_slice.new.out c.decode_to_slice.ensures.value (sym c.is_ok.ensures.value ∙ is) in
     left-refused c.args.text.now c.blocks-2.bytes c.blocks-2.at (length c.blocks-2.bytes - c.blocks-2.at) _ (omega arith) (omega arith) (search rules) refused.0 refused.1)
+
+pub blocks-2-init : goal.blocks-2-init
+unfolding decode_pairs
+blocks-2-init c = record { inside = omega arith; decoded = refl }

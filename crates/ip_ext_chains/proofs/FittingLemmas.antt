@@ -1,5 +1,5 @@
 -- The longest chain that fits six places, as the first run of the longest chain.
-use Rattle.ip_spec.proofs.Common.{◌≡◌, ◌≢◌, ℕ, ◌-◌, arith, ap, List, ◌++◌, length, take, drop, rules, [], Option, Some, None, IsSome, cases_Bool, IsExtensionNumber, append-nil, length-append, ExtHeader, leads_to, bytes_of, headers_within, is_empty, IsChain, IsPrefixChain, rest_after, fault_after, IsLongestUnder, IsEndUnder, FitsPlaces, IsOccupied, IsLaterNumber, header_in, next_place, has_fragmenting, is_fragmenting, option_map_or, false, ◌==◌, is_some, ne_eqb}
+use Rattle.ip_spec.proofs.Common.{◌≡◌, ◌≢◌, ℕ, ◌-◌, List, ◌++◌, length, take, drop, rules, [], Option, Some, None, IsSome, cases_Bool, IsExtensionNumber, append-nil, length-append, ExtHeader, leads_to, bytes_of, headers_within, is_empty, IsChain, IsPrefixChain, rest_after, fault_after, IsLongestUnder, IsEndUnder, FitsPlaces, IsOccupied, IsLaterNumber, header_in, next_place, has_fragmenting, is_fragmenting, option_map_or, false, ◌==◌, is_some, ne_eqb}
 use Rattle.ip_ext_slices.proofs.FaultLemmas.{fault_at_end, end_at_other, no_fault_at_other}
 use Rattle.ip_ext_slices.proofs.RequestFaultLemmas.{fault_ends}
 use Rattle.std.proofs.lemmas.Grind.{flat_map-append}
@@ -38,9 +38,7 @@ fitting_shorter n j s = longest_shorter FitsPlaces fits_places n j s (fitting_ch
 -- The bytes before the rest after it are its bytes, and it is their longest chain.
 module _ (n : ℕ) (s r : List ℕ) (rest : r ≡ rest_after (fitting_chain n s) s) where
   pub fitting_front : take (length s - length r) s ≡ bytes_of (fitting_chain n s)
-  fitting_front =
-      let p : IsPrefixChain n s (fitting_chain n s) = (fitting_longest n s).has.0 in
-      let len : length s - length r ≡ length (bytes_of (fitting_chain n s)) = omega (arith, ap length rest, prefix-length _ _ p.prefix) in rw len p.prefix
+  fitting_front = search (rules, fitting_longest, prefix-length)
 
   pub fitting_own : longest_chain n (take (length s - length r) s) ≡ fitting_chain n s
   fitting_own = rw fitting_front (longest_chain-bytes_of n (fitting_chain n s) (fitting_longest n s).has.0.chain)

@@ -1,7 +1,6 @@
 -- The encoding of IPv4 extension headers, and the value that it parses to.
-use Rattle.ip_spec.proofs.Common.{◌≡◌, ℕ, ◌<◌, List, ◌++◌, length, drop, refl, sym, ap, ◌∙◌, subst, arith, inl, inr, rules, [], Option, Some, None, Ok, ◌↔◌, slice_range, AllByRecursion, option_map_or, ne_eqb, eqb_tells, append-nil, append_cancel_left, length-append, All-set, All-take, All-drop, IsPrefix, auth, AuthFields, auth_fields, cleared_header, AreBytes, AppendsOne, IsAuthEncoding, IsCleared, cleared_chain, ExtHeader, bytes_of, AtMostOneOf, IsEndUnder, IsParsed, auth_header, IsEncoded}
+use Rattle.ip_spec.proofs.Common.{◌≡◌, ℕ, ◌<◌, List, ◌++◌, length, drop, refl, sym, ap, ◌∙◌, subst, arith, inl, inr, rules, [], Option, Some, None, Ok, ◌↔◌, slice_range, AllByRecursion, option_map_or, ne_eqb, eqb_tells, append-nil, append_cancel_left, length-append, All-set, All-take, All-drop, IsPrefix, auth, AuthFields, auth_fields, cleared_header, AreBytes, AppendsOne, IsAuthEncoding, IsCleared, cleared_chain, ExtHeader, bytes_of, AtMostOneOf, IsEndUnder, IsParsed, auth_header, IsEncoded, slice_set}
 use Rattle.std.specs.declared.result.Result.{Result}
-use Rattle.std.specs.Prelude.{slice_set}
 use Rattle.ip_base.specs.declared.ip_number_impl.IpNumber.{IpNumber}
 use Rattle.ip_base.specs.declared.len_source.LenSource.TheVariants.{Slice}
 use Rattle.ip_spec.proofs.PrefixLemmas.{prefix_first}

@@ -90,13 +90,7 @@ written_in v f e old new before now more None some appended none same k = rw non
 -- no header follows: all that are reached were written
 pub written_walk : (v : PlacedFields) (f : ℕ) (old new : Walk) (before now : List ℕ) → HasWritten v f old before now → IsStop old new
     → (a : WalkAnswer) → a ≡ answer_at new.number.0 (left_in new) → IsWalkWritten v f before now a
-written_walk v f old new before now k s a e =
-    record {
-      reached = k.walked.reached;
-      is_reached = walked_reach v f old new k.walked s;
-      answer = walked_answer v f old new k.walked s a e;
-      appended = k.appended;
-    }
+written_walk v f old new before now k s a e = search (rules, walked_reach, walked_answer)
 
 -- if no header is left, none follows
 pub stop_where_none : (w : Walk) → ((p : Place) → left_in w p ≡ None) → IsStop w w

@@ -279,8 +279,7 @@ impl Clone for Ipv6Extensions {
 impl PartialEq for Ipv6Extensions {
     ghost use Rattle.std.specs.Prelude.{◌↔◌, IsTrue};
     ghost use Rattle.std.specs.Cmp.{partial_equiv_from_equiv};
-    ghost use Rattle.ip_ext_chains.specs.ExtsEqual.{exts_equivalence};
-    ghost use Rattle.ip_ext_chains.specs.ExtsEqual.{exts_equal};
+    ghost use Rattle.ip_ext_chains.specs.ExtsEqual.{exts_equivalence, exts_equal};
 
     ghost eq = { exts_equal };
 

@@ -45,8 +45,7 @@ impl<'a> Ipv6ExtensionsRuns<'a> {
     ghost use Rattle.ip_ext_slices.specs.Ipv6ExtensionsSlice.{bytes as bytes_in, headers_in};
     ghost use Rattle.ip_ext_chains.specs.RunsOf.{runs_from, runs_of, AreSpellings};
     ghost use Rattle.ip_ext_chains.specs.Ipv6Extensions.{value_of};
-    ghost use Rattle.ip_ext_chains.specs.Ipv6ExtensionsRuns.{start, input, runs_left, values_left, number_before, number_left, PassesRun};
-    ghost use Rattle.ip_ext_chains.specs.Ipv6ExtensionsRuns.{TakesRun};
+    ghost use Rattle.ip_ext_chains.specs.Ipv6ExtensionsRuns.{start, input, runs_left, values_left, number_before, number_left, PassesRun, TakesRun};
 
     /// Returns the runs of the longest chain at the start of the bytes, for the start number `first`. There is at
     /// least one run, and at most one per 8 bytes and one more. No header is lost: written one after the other, the

@@ -67,8 +67,7 @@ impl Clone for Ipv6RoutingExtensions {
 impl PartialEq for Ipv6RoutingExtensions {
     ghost use Rattle.std.specs.Prelude.{◌↔◌, IsTrue};
     ghost use Rattle.std.specs.Cmp.{partial_equiv_from_equiv};
-    ghost use Rattle.ip_ext_chains.specs.ExtsEqual.{routing_equivalence};
-    ghost use Rattle.ip_ext_chains.specs.ExtsEqual.{routing_equal};
+    ghost use Rattle.ip_ext_chains.specs.ExtsEqual.{routing_equivalence, routing_equal};
 
     ghost eq = { routing_equal };
 

@@ -1,4 +1,4 @@
-use Rattle.ip_spec.proofs.Common.{arith}
+use Rattle.ip_spec.proofs.Common.{rules, arith}
 use Rattle.ip_ext_chains.proofs.WalkedLemmas.{step_len, written_more}
 use Rattle.ip_ext_chains.proofs.ipv6_exts_write.append_next.Goals as goal
 use Rattle.ip_ext_chains.proofs.ipv6_exts_write.append_next.Goals.{in-Some, in_default}
@@ -14,8 +14,4 @@ returns-clause-written g c v f before e k =
     ]
 
 pub returns-clause-room : goal.returns-clause-room
-returns-clause-room g c =
-    elim c.match-next_in.branch [
-      | in-Some w ↦ rw w.out-is (omega (arith, step_len _ _ _ w.in-Some.ensures.some, c.requires.room, w.append.ensures.len, w.append.ensures.capacity))
-      | in_default w ↦ rw (w.out-is, w.in_default.ensures.none) c.requires.room
-    ]
+returns-clause-room g c = search (rules, in-Some, step_len, in_default)

@@ -43,8 +43,7 @@ impl HeaderLimitedReadError {
     {
         match self {
             HeaderLimitedReadError::Io(e) => Some(e),
-            HeaderLimitedReadError::Len(_) => None,
-            HeaderLimitedReadError::Content(_) => None,
+            _ => None,
         }
     }
 
@@ -53,9 +52,8 @@ impl HeaderLimitedReadError {
         ensures { result ≡ len_of self }
     {
         match self {
-            HeaderLimitedReadError::Io(_) => None,
             HeaderLimitedReadError::Len(e) => Some(e),
-            HeaderLimitedReadError::Content(_) => None,
+            _ => None,
         }
     }
 
@@ -64,9 +62,8 @@ impl HeaderLimitedReadError {
         ensures { result ≡ content_of self }
     {
         match self {
-            HeaderLimitedReadError::Io(_) => None,
-            HeaderLimitedReadError::Len(_) => None,
             HeaderLimitedReadError::Content(e) => Some(e),
+            _ => None,
         }
     }
 

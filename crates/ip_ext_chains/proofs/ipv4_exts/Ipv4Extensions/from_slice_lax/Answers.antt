@@ -1,5 +1,4 @@
-use Rattle.ip_spec.proofs.Common.{ℕ, ◌<◌, List, arith, All-from_get_or, AreBytes}
-use Rattle.std.specs.Prelude.{slice_index_or}
+use Rattle.ip_spec.proofs.Common.{ℕ, ◌<◌, List, arith, All-from_get_or, AreBytes, slice_index_or}
 use Rattle.ip_ext_chains.proofs.Ipv4WalkLemmas.{cleared_encodes}
 use Rattle.ip_ext_chains.proofs.ipv4_exts.Ipv4Extensions.from_slice_lax.Goals as goal
 

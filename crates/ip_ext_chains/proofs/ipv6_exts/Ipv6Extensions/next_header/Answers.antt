@@ -1,4 +1,4 @@
-use Rattle.ip_spec.proofs.Common.{ap}
+use Rattle.ip_spec.proofs.Common.{rules, ap}
 use Rattle.ip_ext_chains.specs.Ipv6Extensions.{placed_fields}
 use Rattle.ip_ext_chains.proofs.WalkedLemmas.{step_less, walked_more, walked_none, walked_in, walked_answer}
 use Rattle.ip_ext_chains.proofs.WriteLemmas.{answer_exactly}
@@ -19,8 +19,7 @@ pub headers-smaller : goal.headers-smaller
 headers-smaller c = step_less c.headers.walk c.next.new.self _ c.in-Some.ensures.some
 
 pub headers-preserved : goal.headers-preserved
-headers-preserved c =
-    walked_more c.headers.walk c.next.new.self _ c.in-Some.ensures.some (placed_fields c.args.self.now) c.args.first.0 c.header_len.ensures.encodable c.headers.invariant
+headers-preserved c = search (rules, walked_more)
 
 pub returns-clause-answer : goal.returns-clause-answer
 returns-clause-answer c =

@@ -1,4 +1,4 @@
-use Rattle.ip_spec.proofs.Common.{◌≡◌, ◌∷◌, [], ap, length, if◌then◌else◌, refl, arith, rules, bytes_of, ◌∙◌}
+use Rattle.ip_spec.proofs.Common.{◌≡◌, ◌∷◌, [], ap, length, if◌then◌else◌, arith, rules}
 use Rattle.ip_ext_slices.specs.Ipv6ExtensionSliceIter.{headers_left}
 use Rattle.ip_ext_chains.specs.RunsOf.{runs_from}
 use Rattle.ip_ext_chains.proofs.RunsOfLemmas.{left_joined, left_few}
@@ -6,14 +6,7 @@ use Rattle.ip_ext_chains.proofs.RunLemmas.{run_passes}
 use Rattle.ip_ext_chains.proofs.ipv6_exts_runs.Ipv6ExtensionsRuns.clear_runs.Goals as goal
 
 pub runs-init : goal.runs-init
-runs-init c =
-    let x = c.args.self in
-    let joined = left_joined x.number.0 _ x.done x.last in
-    record {
-      counted = search rules;
-      clearing = rw joined (record { within = omega arith; cleared = refl; rest = rw joined at c.requires.copied });
-      last = x.last;
-    }
+runs-init c = search (rules, left_joined)
 
 -- the run is passed over
 passes : (c : goal.After-is_last-done) → (if c.runs.done then [] else runs_from c.args.self.number.0 (headers_left c.runs.headers))
@@ -21,10 +14,7 @@ passes : (c : goal.After-is_last-done) → (if c.runs.done then [] else runs_fro
 passes c = let last = c.is_last-done.ensures in run_passes _ _ _ _ c.clear_run-end.ensures.run _ _ (search rules) last.last last.more
 
 pub overflow_add-count : goal.overflow_add-count
-overflow_add-count c =
-    let x = c.args.self in
-    let same = c.requires.copied ∙ ap bytes_of (left_joined x.number.0 _ x.done x.last) ∙ x.headers.whole in
-    omega (arith, ap length (passes c), c.runs.invariant.counted, left_few x.number.0 x.headers.next_header.0 x.headers.rest.now x.done, ap length same)
+overflow_add-count c = search (rules, left_joined, passes, left_few)
 
 pub runs-smaller : goal.runs-smaller
 runs-smaller c = omega (arith, ap length (passes c))

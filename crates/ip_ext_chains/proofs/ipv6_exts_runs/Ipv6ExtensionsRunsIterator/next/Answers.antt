@@ -6,10 +6,7 @@ pub fill-requires-clause-numbers : goal.fill-requires-clause-numbers
 fill-requires-clause-numbers c = placed_numbers _ _ c.take_places-places.ensures.1
 
 pub returns-clause-steps : goal.returns-clause-steps
-returns-clause-steps c =
-    let taken = c.take_places-places.ensures in
-    let value = value_placed taken.0.0 _ taken.1 in
-    search rules
+returns-clause-steps c = search (rules, value_placed)
 
 pub returns-clause-goes : goal.returns-clause-goes
 returns-clause-goes c = let next = (returns-clause-steps c).0 in search rules

@@ -41,10 +41,7 @@ dissected-ipv4 s b none header prefix =
 
 pub dissected-ipv6 : (s b : List ℕ) → base_end s ≡ None → IsIpv6Header b → IsPrefix b s → dissected s ≡ ipv6_dissected b s
 unfolding dissected
-dissected-ipv6 s b none header prefix =
-    let says : SaysIpv6 b s = says_ipv6 b s header prefix in
-    let is : take 40 s ≡ b = ap (λ n. take n s) (sym header.len) ∙ prefix in
-    picked6 s (base_end s) (version s) _ _ none (sym says.version ∙ header.version) ∙ ap (λ x. ipv6_dissected x s) is
+dissected-ipv6 s b none header prefix = search (rules, SaysIpv6, says_ipv6, picked6)
 
 -- the version says which header it is
 four_of : (s : List ℕ) (o : Option End) (v : ℕ) (x y : DissectedParts) → y.version ≡ 6 → (option_map_or (without_base s) o (if v == 4 then x else y)).version ≡ 4 → (o ≡ None) × (v ≡ 4)
@@ -85,19 +82,11 @@ header6 s six enough = search (rules, version_taken, prefix_taken, length-take-l
 
 pub begin_ipv4 : (s : List ℕ) → (dissected s).version ≡ 4 → BeginIpv4 s (take (ipv4_header_len s) s)
 unfolding dissected
-begin_ipv4 s v =
-    let p = four_of s (base_end s) (version s) _ _ refl v in
-    let q = base4 s p.0 p.1 in
-    let h = header4 s p.1 q.0 q.1 in
-    record { header = h.0; prefix = h.1; is = picked4 s (base_end s) (version s) _ _ p.0 p.1 }
+begin_ipv4 s v = search (rules, four_of, base4, header4, picked4)
 
 pub begin_ipv6 : (s : List ℕ) → (dissected s).version ≡ 6 → BeginIpv6 s (take 40 s)
 unfolding dissected
-begin_ipv6 s v =
-    let p = six_of s (base_end s) (version s) _ _ refl v in
-    let q = base6 s p.0 p.1 in
-    let h = header6 s q.0 q.1 in
-    record { header = h.0; prefix = h.1; is = picked6 s (base_end s) (version s) _ _ p.0 q.0 }
+begin_ipv6 s v = search (rules, six_of, base6, header6, picked6)
 
 base_none_of : (s : List ℕ) (o : Option End) → base_end s ≡ o → (o ≡ None → ⊥) → IsBaseOf s None
 base_none_of s (Some e) is some = record { version = ap (λ (p : DissectedParts). p.version) (sym (dissected-none s e is)); base = ap (λ (p : DissectedParts). p.base) (sym (dissected-none s e is)) }
@@ -164,10 +153,7 @@ begins4 s o b is version base =
     subst P (sym (sym base ∙ is.base ∙ ap (λ (p : DissectedParts). p.base) w.is)) w
 
 pub begins6 : (s : List ℕ) (o : Option BaseHeader) (b : List ℕ) → IsBaseOf s o → option_map_or version_in o 0 ≡ 6 → option_map_or base_bytes o [] ≡ b → BeginIpv6 s b
-begins6 s o b is version base =
-    let w : BeginIpv6 s (take 40 s) = begin_ipv6 s (sym is.version ∙ version) in
-    let P : List ℕ → Type 0 = λ b. BeginIpv6 s b in
-    subst P (sym (sym base ∙ is.base ∙ ap (λ (p : DissectedParts). p.base) w.is)) w
+begins6 s o b is version base = search (rules, begin_ipv6, is)
 
 pub base_error : (s : List ℕ) (e : End) → base_end s ≡ Some e → has_error e ≡ true
 base_error s e is = search rules

@@ -49,8 +49,7 @@ pub count_is : (n : ℕ) (s : List ℕ) (c : List ExtHeader) (m : ℕ) (r : List
 count_is n s c m r found w = ap (λ (f : Found). f.count) w.said
 
 pub offset_is : (n : ℕ) (s : List ℕ) (c : List ExtHeader) (m : ℕ) (r : List ℕ) (found : Found) (w : WalkState n s c m r found) (k : ℕ) → k + (length s - length r) ≡ k + length (bytes_of c)
-offset_is n s c m r found w k =
-    omega (arith, ap length w.read.rest, length-drop (length (bytes_of c)) s, prefix-length (bytes_of c) s w.read.prefix_chain.prefix)
+offset_is n s c m r found w k = search (rules, length-drop, prefix-length)
 
 -- the chain is the longest
 pub record AtEnd (n : ℕ) (s : List ℕ) (m : ℕ) (r : List ℕ) (found : Found) : Type 0 where

@@ -1,5 +1,5 @@
 -- What a pass over the bytes after an IPv6 base header finds.
-use Rattle.ip_spec.proofs.Common.{◌≡◌, ℕ, ◌+◌, ◌-◌, List, length, drop, refl, ap, ◌∙◌, arith, nat_eq, rules, eqb_tells, Option, option_map_or, if◌then◌else◌, AllByRecursion, IsHeader, ExtHeader, bytes_of, leads_to, is_empty, rest_after, IsPrefixChain}
+use Rattle.ip_spec.proofs.Common.{◌≡◌, ℕ, ◌+◌, ◌-◌, List, length, drop, ap, ◌∙◌, arith, nat_eq, rules, eqb_tells, Option, option_map_or, if◌then◌else◌, AllByRecursion, IsHeader, ExtHeader, bytes_of, leads_to, is_empty, rest_after, IsPrefixChain}
 use Rattle.ip_spec.proofs.PrefixLemmas.{prefix-length}
 use Rattle.ip_spec.proofs.ChainLemmas.{bytes_of-least}
 use Rattle.ip_base.specs.Ipv6Header.{ipv6_next_header}
@@ -38,6 +38,4 @@ pub ipv6_end_is : (b x s : List ℕ) (t : Option ℕ) (n m : ℕ) (r : List ℕ)
     → m ≡ leads_to n (chain_to_later n x) → r ≡ rest_after (chain_to_later n x) x → found ≡ found_in (chain_to_later n x)
     → end ≡ (if found.later then LaterFragment else option_map_or (exts_end t) (slice_fault (40 + (length x - length r)) (nat_eq (length x - length r) 0) m r) Payload)
     → end ≡ ipv6_end b s
-ipv6_end_is b x s t n m r found end xs stated ns number rest said is =
-    let p : IsPrefixChain n x (chain_to_later n x) = (chain_to_later-longest n x).has.0 in
-    is ∙ rw (said, stated, chain_none n x (chain_to_later n x) p r rest, chain_len n x (chain_to_later n x) p r rest, number, rest, ns, xs) (refl {a = ipv6_end b s})
+ipv6_end_is b x s t n m r found end xs stated ns number rest said is = search (rules, chain_to_later-longest, chain_none, chain_len)

@@ -48,14 +48,10 @@ with_fragment c f e some = grind (arith, common_steps)
 
 -- no header follows a number that is no extension header's
 pub none_at_other : (n : ℕ) (s : List ℕ) → (IsExtensionNumber n → ⊥) → chain_to_later n s ≡ []
-none_at_other n s other =
-    one_longest_under NothingAfterLater nothing_after_later n s (chain_to_later n s) [] (chain_to_later-longest n s)
-    (parsed_longest_under NothingAfterLater nothing_after_later n s [] n s (record { read = has_parsed_none n s; meets = tt }) (λ h x q. end_at_other true n s other h x))
+none_at_other n s other = search (rules, one_longest_under, chain_to_later-longest, parsed_longest_under, has_parsed_none, end_at_other)
 
 none_at_other4 : (n : ℕ) (s : List ℕ) → (n ≡ 51 → ⊥) → longest_ipv4_chain n s ≡ []
-none_at_other4 n s other =
-    let w : IsLongestUnder (AtMostOneOf 51) n s (longest_ipv4_chain n s) = ipv4_longest n s in
-    by_one (λ c. c ≡ []) n refl (λ b is h. absurd (other is)) (longest_ipv4_chain n s) w.has.0.chain w.has.1
+none_at_other4 n s other = search (rules, ipv4_longest, by_one)
 
 -- the end after the chain c from n at the start of x
 abbrev end_of : Option ℕ → ℕ → List ℕ → List ExtHeader → End

@@ -104,9 +104,7 @@ module _ (b s : List ℕ) (base : IsIpv6Header b) (prefix : IsPrefix b s) (none 
       (cc (the_end), none_is_missing.1 whole)
 
   ipv6_parses : (ipv6_end b s ≡ end.Payload) × (missing_of (ipv6_stated b) (length s) ≡ 0) → ip_fault s ≡ None
-  ipv6_parses p =
-      let error : ipv6_error b s ≡ None = ends_without_error (ipv6_stated b) (ipv6_error b s) (sym the_end ∙ p.0) in
-      cc (after_version, strict_fault_of_chain s (none_is_missing.0 p.1), no_chain_fault s (chain_none error))
+  ipv6_parses p = search (rules, ends_without_error, the_end, after_version, strict_fault_of_chain, none_is_missing, no_chain_fault, chain_none)
 
 pub ipv6_accepted : (s : List ℕ) → (dissected s).version ≡ 6 → has_later (dissected s).headers ≡ false → (ip_fault s ≡ None) ↔ (((dissected s).end ≡ end.Payload) × ((dissected s).missing ≡ 0))
 ipv6_accepted s v none =
@@ -162,9 +160,7 @@ module _ (h s : List ℕ) (base : IsIpv4Header h) (prefix : IsPrefix h s) (none 
     some_total = omega (arith, fits, base.least, base.len)
 
     same_auth_error : fault_after (ipv4_faults Slice) (ipv4_chain h s) (protocol h) (after_base h (ipv4_stated h) s) ≡ ipv4_chain_fault (protocol s) (ipv4_after s)
-    same_auth_error =
-        let after : after_base h (ipv4_stated h) s ≡ ipv4_after s = after_is4 h s base prefix fits in
-        rw (none, after, header.number) refl
+    same_auth_error = search (rules, after_is4, header)
 
     at_end : ipv4_end h s ≡ option_map_or (auth_end (ipv4_stated h)) (ipv4_error h s) end.Payload
     at_end = end_of h s none fits
@@ -176,13 +172,7 @@ module _ (h s : List ℕ) (base : IsIpv4Header h) (prefix : IsPrefix h s) (none 
     checks whole = after_total s (omega (arith, fits, header.len, header.total)) whole
 
   ipv4_ends : ip_fault s ≡ None → (ipv4_end h s ≡ end.Payload) × (missing_of (ipv4_stated h) (length s) ≡ 0) × IsSome (ipv4_stated h)
-  ipv4_ends e =
-      let after : ipv4_fault_after s ≡ None = none_before ip_of_ipv4 (ipv4_fault_after s) (sym after_header ∙ e) in
-      let fits : length h ≤ total_len h = omega (arith, (total_of s after).0, header.len, header.total) in
-      let whole : total_len s ≤ length s = (total_of s after).1 in
-      let chain : ipv4_chain_fault (protocol s) (ipv4_after s) ≡ None =
-      none_before (auth_in_packet ipv4_len_source (ipv4_header_len s)) _ (sym (checks fits whole) ∙ after) in
-      (cc (at_end fits, same_auth_error fits), (whole_if fits).1 whole, is_stated h (some_total fits))
+  ipv4_ends e = search (rules, none_before, after_header, total_of, header, checks, at_end, same_auth_error, whole_if, is_stated, some_total)
 
   ipv4_parses : (ipv4_end h s ≡ end.Payload) × (missing_of (ipv4_stated h) (length s) ≡ 0) × IsSome (ipv4_stated h) → ip_fault s ≡ None
   ipv4_parses p =

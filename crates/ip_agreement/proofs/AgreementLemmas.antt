@@ -1,5 +1,5 @@
 -- Where no later fragment's header is in the chain, a dissection and a parsed packet have the same parts.
-use Rattle.ip_spec.proofs.Common.{◌≡◌, ℕ, ◌+◌, ◌≤◌, List, ◌++◌, length, take, refl, sym, ap, ◌∙◌, arith, false, common_steps, length-append, length-take, Some, None, IsPrefix, ExtHeader, ◌==◌, if◌then◌else◌}
+use Rattle.ip_spec.proofs.Common.{rules, ◌≡◌, ℕ, ◌+◌, ◌≤◌, List, ◌++◌, length, take, refl, sym, ap, arith, false, common_steps, length-append, length-take, Some, None, IsPrefix, ExtHeader, ◌==◌, if◌then◌else◌}
 use Rattle.ip_spec.proofs.PrefixLemmas.{prefix-length}
 use Rattle.ip_spec.proofs.ChainLemmas.{longest_at_end}
 use Rattle.ip_spec.proofs.UnderLemmas.{longest_ends_under}
@@ -15,7 +15,7 @@ use Rattle.etherparse_ip.specs.PacketFault.{ipv4_after, ipv6_after}
 use Rattle.etherparse_ip.proofs.OnePacketLemmas.{ipv4_parts_are, ipv6_parts_are}
 use Rattle.ip_dissect.specs.LaterDemand.{has_later, NothingAfterLater, nothing_after_later}
 use Rattle.ip_dissect.specs.Later.{chain_to_later}
-use Rattle.ip_dissect.specs.Extent.{packet_bytes, after_base, ipv4_stated, ipv6_stated, ipv4_chain, ipv4_chain_in, ipv6_chain}
+use Rattle.ip_dissect.specs.Extent.{packet_bytes, after_base, ipv4_stated, ipv6_stated, ipv4_chain_in, ipv6_chain}
 use Rattle.ip_dissect.specs.Dissection.{dissected}
 use Rattle.ip_agreement.specs.Agreement.{HaveSameParts}
 use Rattle.ip_dissect.proofs.DissectedLemmas.{BeginIpv4, header_begins4, BeginIpv6, header_begins6}
@@ -58,9 +58,7 @@ total_is : (b s : List ℕ) (t : ℕ) → 1 ≤ length b → length b ≤ t → 
 total_is b s t some enough = grind (arith, common_steps)
 
 pub after_is4 : (b s : List ℕ) → IsIpv4Header b → IsPrefix b s → length b ≤ total_len b → after_base b (ipv4_stated b) s ≡ ipv4_after s
-after_is4 b s base prefix enough =
-    let says : SaysIpv4 b s = says_ipv4 b s base prefix in
-    cc (total_is b s (total_len b) (omega (arith, base.least, base.len)) enough)
+after_is4 b s base prefix enough = search (rules, SaysIpv4, says_ipv4, total_is)
 
 pub chain_of : (b x : List ℕ) → ipv4_fragment_offset b ≡ 0 → ipv4_chain_in b x ≡ longest_ipv4_chain (protocol b) x
 chain_of b x e = rw e refl
@@ -69,16 +67,7 @@ parsed_begins4 : (s : List ℕ) (p : Parts) → IsIpv4Packet s p → BeginIpv4 s
 parsed_begins4 s p k = header_begins4 s (rw (ipv4_parts_are s p k) at k.base)
 
 parsed_enough : (s : List ℕ) (p : Parts) → IsIpv4Packet s p → length (take (ipv4_header_len s) s) ≤ total_len (take (ipv4_header_len s) s)
-parsed_enough s p k =
-    let stated : front p.source (total_len p.base) s ≡ take (total_len p.base) s = ap (λ f. front f (total_len p.base) s) k.source in
-    rw (ipv4_parts_are s p k) at (enough_of p.base _ s (total_len p.base) (k.joined ∙ stated))
+parsed_enough s p k = search (rules, ipv4_parts_are, enough_of)
 
 pub ipv4_agrees : (s : List ℕ) (p : Parts) → IsIpv4Packet s p → ipv4_fragment_offset p.base ≡ 0 → HaveSameParts (dissected s) p
-ipv4_agrees s p k none =
-    let b : List ℕ = take (ipv4_header_len s) s in
-    let w : BeginIpv4 s b = parsed_begins4 s p k in
-    let none : ipv4_fragment_offset b ≡ 0 = rw (ipv4_parts_are s p k) at none in
-    let says : SaysIpv4 b s = says_ipv4 b s w.header w.prefix in
-    let x : after_base b (ipv4_stated b) s ≡ ipv4_after s = after_is4 b s w.header w.prefix (parsed_enough s p k) in
-    let c : ipv4_chain b s ≡ longest_ipv4_chain (protocol s) (ipv4_after s) = cc (chain_of b (after_base b (ipv4_stated b) s) none, says.number) in
-    rw (w.is, ipv4_parts_are s p k) (record { base = refl; headers = c; payload = cc; number = cc (says.number) })
+ipv4_agrees s p k none = search (rules, BeginIpv4, parsed_begins4, ipv4_parts_are, SaysIpv4, says_ipv4, after_is4, parsed_enough, chain_of)

@@ -312,12 +312,9 @@ fn bad_lines(rt: HostRuntime) -> Result<(), Fail> {
     for (name, line) in rows {
         let mut input = line.to_vec(rt.alloc())?;
         input.extend_from_slice(b"\nexts6 17 -\n")?;
+        let output = output_of(rt.alloc(), &input)?;
         let answers = b"bad line\nnext 17 rest 0\nok\n".as_slice();
-        assert_eq!(rt;
-            output_of(rt.alloc(), &input)?.as_slice(),
-            answers,
-            "{name}"
-        );
+        assert_eq!(rt; output.as_slice(), answers, "{name}");
     }
     Ok(())
 }
@@ -331,28 +328,22 @@ fn long_lines(rt: HostRuntime) -> Result<(), Fail> {
     assert_eq!(rt; input.len(), 8193, "8,192 bytes and a newline");
     let output = output_of(rt.alloc(), &input)?;
     assert!(rt; output.starts_with(b"0 hopopt 8\n8 frag 8\n"));
-    assert!(rt;
-        output.ends_with(
-            b"\n4080 frag 8\nnext 44 rest 4\nfault len 8 of 4 Slice Ipv6FragHeader at 4088 in Ipv6FragHeader\n"
-        )
-    );
+    let end =
+        b"\n4080 frag 8\nnext 44 rest 4\nfault len 8 of 4 Slice Ipv6FragHeader at 4088 in Ipv6FragHeader\n";
+    assert!(rt; output.ends_with(end));
     let lines = output.iter().filter(|byte| **byte == b'\n').count();
     assert_eq!(rt; lines, 513, "a line for each header and two more");
 
     let mut input = b"exts6 17 ".to_vec(rt.alloc())?;
     input.extend_from_slice(&digits)?;
-    assert_eq!(rt;
-        output_of(rt.alloc(), &input)?.as_slice(),
-        b"bad line\n".as_slice()
-    );
+    let output = output_of(rt.alloc(), &input)?;
+    assert_eq!(rt; output.as_slice(), b"bad line\n".as_slice());
 
     let mut input = repeated(rt.alloc(), b"x", 200_000)?;
     input.extend_from_slice(b"\nexts6 17 -")?;
     let output = output_of(rt.alloc(), &input)?;
-    assert_eq!(rt;
-        output.as_slice(),
-        b"bad line\nnext 17 rest 0\nok\n".as_slice()
-    );
+    let answers = b"bad line\nnext 17 rest 0\nok\n".as_slice();
+    assert_eq!(rt; output.as_slice(), answers);
     Ok(())
 }
 
@@ -371,10 +362,8 @@ fn lines_come_in_pieces(rt: HostRuntime) -> Result<(), Fail> {
     // More bytes than a chunk, at once and one by one.
     let many = repeated(rt.alloc(), b"exts6 17 00010203\n", 5000)?;
     let answers = repeated(rt.alloc(), b"next 17 rest 4\nok\n", 5000)?;
-    assert_eq!(rt;
-        output_of(rt.alloc(), &many)?.as_slice(),
-        answers.as_slice()
-    );
+    let output = output_of(rt.alloc(), &many)?;
+    assert_eq!(rt; output.as_slice(), answers.as_slice());
     let mut output = Vec::new(rt.alloc());
     run(rt.alloc(), &mut dripping(&many), &mut output)?;
     assert_eq!(rt; output.as_slice(), answers.as_slice(), "90,000 reads");
@@ -404,11 +393,8 @@ fn each_answer_is_written_at_once(rt: HostRuntime) -> Result<(), Fail> {
     let (lines, answers) = lines_and_answers(rt.alloc())?;
     let mut output = counting(rt.alloc());
     run(rt.alloc(), &mut lines.as_slice(), &mut output)?;
-    assert_eq!(rt;
-        (output.writes, output.flushes),
-        (9, 2),
-        "a chunk and a last line"
-    );
+    let calls = (output.writes, output.flushes);
+    assert_eq!(rt; calls, (9, 2), "a chunk and a last line");
     assert_eq!(rt; output.written.as_slice(), answers.as_slice());
     Ok(())
 }
@@ -436,15 +422,10 @@ fn reads_that_fail(rt: HostRuntime) -> Result<(), Fail> {
         };
         let result = run(rt.alloc(), &mut input, &mut output);
         assert!(rt; failed_with(&result, kind), "{kind:?}");
-        assert_eq!(rt;
-            input.calls as usize,
-            lines.len() + 1,
-            "{kind:?}: no call after it"
-        );
-        assert!(rt;
-            are_answers(&output, &ROWS, 8),
-            "{kind:?}: the last line has no answer"
-        );
+        let calls = input.calls as usize;
+        assert_eq!(rt; calls, lines.len() + 1, "{kind:?}: no call after it");
+        let are_whole = are_answers(&output, &ROWS, 8);
+        assert!(rt; are_whole, "{kind:?}: the last line has no answer");
     }
     Ok(())
 }
@@ -470,15 +451,10 @@ fn writes_that_fail(rt: HostRuntime) -> Result<(), Fail> {
                 ..counting(rt.alloc())
             };
             let result = run(rt.alloc(), &mut lines.as_slice(), &mut output);
-            assert!(rt;
-                failed_with(&result, kind),
-                "{kind:?}: a flush isn't tried again"
-            );
-            assert_eq!(rt;
-                (output.writes, output.flushes),
-                (writes, flushes_left),
-                "{kind:?}"
-            );
+            let has_failed = failed_with(&result, kind);
+            assert!(rt; has_failed, "{kind:?}: a flush isn't tried again");
+            let calls = (output.writes, output.flushes);
+            assert_eq!(rt; calls, (writes, flushes_left), "{kind:?}");
         }
     }
     Ok(())
@@ -572,11 +548,8 @@ fn refused_memory_leaves_whole_answers(rt: HostRuntime) -> Result<(), Fail> {
                 let next = first.saturating_add(answers);
                 let is_refused = room == 0 && (answers == 0 || next == 4 || next == 5);
                 assert!(rt; !is_refused || written == answers, "{first}, {answers}");
-                let is_enough = room == 39;
-                assert!(rt;
-                    !is_enough || written as usize == rows.len(),
-                    "{first}, {answers}"
-                );
+                let is_whole = written as usize == rows.len();
+                assert!(rt; room < 39 || is_whole, "{first}, {answers}");
             }
         }
     }
@@ -586,10 +559,8 @@ fn refused_memory_leaves_whole_answers(rt: HostRuntime) -> Result<(), Fail> {
 #[test]
 fn errors_have_texts(rt: HostRuntime) -> Result<(), Fail> {
     let io = ToolError::from(io::Error::from(ErrorKind::TimedOut));
-    assert_eq!(rt;
-        io.to_string(rt.alloc())?.as_str(),
-        "input or output failed"
-    );
+    let text = io.to_string(rt.alloc())?;
+    assert_eq!(rt; text.as_str(), "input or output failed");
     let memory = ToolError::from(AllocError);
     assert_eq!(rt; memory.to_string(rt.alloc())?.as_str(), "out of memory");
     Ok(())

@@ -65,10 +65,8 @@ fn each_byte_in_each_place(rt: HostRuntime) -> Result<(), Fail> {
     for len in [1usize, 2, 15, 16, 17, 31, 32, 33, 48, 49] {
         fill(&mut text, 7);
         for place in 0..2 * len {
-            assert!(rt;
-                agrees_on_bytes(&mut text[..2 * len], place, len),
-                "{len}, {place}"
-            );
+            let agree = agrees_on_bytes(&mut text[..2 * len], place, len);
+            assert!(rt; agree, "{len}, {place}");
         }
     }
     Ok(())

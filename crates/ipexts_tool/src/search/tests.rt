@@ -11,11 +11,8 @@ fn first_places_in_texts_of_all_lengths(rt: HostRuntime) -> Result<(), Fail> {
             text[place] = b'\n';
             text[69 - place / 3] = b'\n';
             let expected = text[..len].iter().position(|byte| *byte == b'\n');
-            assert_eq!(rt;
-                first_index(&text[..len], b'\n'),
-                expected,
-                "{len}, {place}"
-            );
+            let found = first_index(&text[..len], b'\n');
+            assert_eq!(rt; found, expected, "{len}, {place}");
             text[place] = b'x';
             text[69 - place / 3] = b'x';
         }

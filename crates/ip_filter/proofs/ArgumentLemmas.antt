@@ -1,9 +1,6 @@
 -- The words after a keyword.
-use Rattle.std.proofs.Common.{None}
-use Rattle.std.specs.Prelude.{Option}
 use Rattle.ip_spec.proofs.Common.{◌≡◌, ℕ, ◌-◌, List, [], length, take, drop, sym, ap, ◌∙◌, arith, subst, drop_all}
 use Rattle.ip_filter.specs.Words.{Word, words}
-use Rattle.ip_filter.specs.Grammar.{Finds}
 use Rattle.ip_filter.specs.declared.words.Word.{Word as FirstWord}
 use Rattle.ip_filter.specs.Reading.{IsPlace, IsFirstWord, ReadsArgument, RefusesArgument}
 use Rattle.ip_filter.proofs.WordLemmas.{no_words}
@@ -16,21 +13,12 @@ module _ (text : List ℕ) where
     begins = λ some. absurd (omega arith);
   }
 
-  pub missing : {A : Type 0} (Writes : Word → A → Type 0) → words text ≡ [] → RefusesArgument Writes text 0
-  missing Writes e = record {
-    place = end_of_text e;
-    none = λ w a one writes. cc (ap (take 1) e);
-  }
-
 module _ (text : List ℕ) (w : FirstWord) (is : IsFirstWord text w) where
   pub other_word : {A : Type 0} (Writes : Word → A → Type 0) → ((a : A) → Writes w.bytes.now a → ⊥) → RefusesArgument Writes text w.left
   other_word Writes none = record {
     place = is.place;
     none = λ v a one writes. let same : v ≡ w.bytes.now = cc (ap (take 1) is.begins) in none a (subst (λ x. Writes x a) same writes);
   }
-
-  pub nothing_found : {A : Type 0} (f : Word → Option A) → f w.bytes.now ≡ None → RefusesArgument (Finds f) text w.left
-  nothing_found f none = other_word (Finds f) (λ a one. cc (sym none ∙ one))
 
   pub this_word : {A : Type 0} (Writes : Word → A → Type 0) (a : A) → Writes w.bytes.now a → ReadsArgument Writes text a w.rest.now
   this_word Writes a writes = record { word = w.bytes.now; begins = is.begins; writes = writes; end = is.end }

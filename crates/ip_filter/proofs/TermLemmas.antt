@@ -135,82 +135,38 @@ module _ {A : Type 0} (Writes : List Word → A → Type 0) (make : A → Term) 
 other : {A : Type 0} (c k : Word) → k ≡ c → bytes_eq k c ≡ false → A
 other c k e differs = absurd (false≢true (sym differs ∙ (bytes_eq-Decides k c).1 e))
 
-version_only : (u : Term) (us : List Word) → keyword u ≡ codes "version" → AreArguments us u → (a : ℕ) × (u ≡ term.Version a) × IsOne (Finds version_of) us a
-version_only (term.Version a) us e args = (a, refl, args)
-version_only u us e args = other _ _ e refl
-
 version : Named (IsOne (Finds version_of)) term.Version (codes "version")
-version = record { named = λ a. refl; spelled = λ a us w. w; inverts = version_only }
-
-header_only : (u : Term) (us : List Word) → keyword u ≡ codes "header" → AreArguments us u → (a : ℕ) × (u ≡ term.Header a) × IsOne (Finds header_of) us a
-header_only (term.Header a) us e args = (a, refl, args)
-header_only u us e args = other _ _ e refl
+version = record { named = λ a. refl; spelled = λ a us w. w; inverts = elim [ (term.Version a) ↦ λ us e args. (a, refl, args) | u ↦ λ us e args. other _ _ e refl ] }
 
 header : Named (IsOne (Finds header_of)) term.Header (codes "header")
-header = record { named = λ a. refl; spelled = λ a us w. w; inverts = header_only }
-
-leads_to_only : (u : Term) (us : List Word) → keyword u ≡ codes "leads-to" → AreArguments us u → (a : ℕ) × (u ≡ term.LeadsTo a) × IsOne (Finds protocol_of) us a
-leads_to_only (term.LeadsTo a) us e args = (a, refl, args)
-leads_to_only u us e args = other _ _ e refl
+header = record { named = λ a. refl; spelled = λ a us w. w; inverts = elim [ (term.Header a) ↦ λ us e args. (a, refl, args) | u ↦ λ us e args. other _ _ e refl ] }
 
 leads_to : Named (IsOne (Finds protocol_of)) term.LeadsTo (codes "leads-to")
-leads_to = record { named = λ a. refl; spelled = λ a us w. w; inverts = leads_to_only }
-
-spi_only : (u : Term) (us : List Word) → keyword u ≡ codes "spi" → AreArguments us u → (a : ℕ) × (u ≡ term.SecurityParameters a) × IsOne (Finds (number_up_to 4294967295)) us a
-spi_only (term.SecurityParameters a) us e args = (a, refl, args)
-spi_only u us e args = other _ _ e refl
+leads_to = record { named = λ a. refl; spelled = λ a us w. w; inverts = elim [ (term.LeadsTo a) ↦ λ us e args. (a, refl, args) | u ↦ λ us e args. other _ _ e refl ] }
 
 spi : Named (IsOne (Finds (number_up_to 4294967295))) term.SecurityParameters (codes "spi")
-spi = record { named = λ a. refl; spelled = λ a us w. w; inverts = spi_only }
-
-id_only : (u : Term) (us : List Word) → keyword u ≡ codes "id" → AreArguments us u → (a : ℕ) × (u ≡ term.Identification a) × IsOne (Finds (number_up_to 4294967295)) us a
-id_only (term.Identification a) us e args = (a, refl, args)
-id_only u us e args = other _ _ e refl
+spi = record { named = λ a. refl; spelled = λ a us w. w; inverts = elim [ (term.SecurityParameters a) ↦ λ us e args. (a, refl, args) | u ↦ λ us e args. other _ _ e refl ] }
 
 id : Named (IsOne (Finds (number_up_to 4294967295))) term.Identification (codes "id")
-id = record { named = λ a. refl; spelled = λ a us w. w; inverts = id_only }
-
-headers_only : (u : Term) (us : List Word) → keyword u ≡ codes "headers" → AreArguments us u → (a : Comparison × ℕ) × (u ≡ term.Headers a.0 a.1) × AreCompared us a
-headers_only (term.Headers c n) us e args = ((c, n), refl, args)
-headers_only u us e args = other _ _ e refl
+id = record { named = λ a. refl; spelled = λ a us w. w; inverts = elim [ (term.Identification a) ↦ λ us e args. (a, refl, args) | u ↦ λ us e args. other _ _ e refl ] }
 
 headers : Named AreCompared (λ a. term.Headers a.0 a.1) (codes "headers")
-headers = record { named = λ a. refl; spelled = λ a us w. w; inverts = headers_only }
-
-chain_bytes_only : (u : Term) (us : List Word) → keyword u ≡ codes "chain-bytes" → AreArguments us u → (a : Comparison × ℕ) × (u ≡ term.ChainBytes a.0 a.1) × AreCompared us a
-chain_bytes_only (term.ChainBytes c n) us e args = ((c, n), refl, args)
-chain_bytes_only u us e args = other _ _ e refl
+headers = record { named = λ a. refl; spelled = λ a us w. w; inverts = elim [ (term.Headers c n) ↦ λ us e args. ((c, n), refl, args) | u ↦ λ us e args. other _ _ e refl ] }
 
 chain_bytes : Named AreCompared (λ a. term.ChainBytes a.0 a.1) (codes "chain-bytes")
-chain_bytes = record { named = λ a. refl; spelled = λ a us w. w; inverts = chain_bytes_only }
-
-payload_only : (u : Term) (us : List Word) → keyword u ≡ codes "payload" → AreArguments us u → (a : Comparison × ℕ) × (u ≡ term.Payload a.0 a.1) × AreCompared us a
-payload_only (term.Payload c n) us e args = ((c, n), refl, args)
-payload_only u us e args = other _ _ e refl
+chain_bytes = record { named = λ a. refl; spelled = λ a us w. w; inverts = elim [ (term.ChainBytes c n) ↦ λ us e args. ((c, n), refl, args) | u ↦ λ us e args. other _ _ e refl ] }
 
 payload : Named AreCompared (λ a. term.Payload a.0 a.1) (codes "payload")
-payload = record { named = λ a. refl; spelled = λ a us w. w; inverts = payload_only }
-
-src_only : (u : Term) (us : List Word) → keyword u ≡ codes "src" → AreArguments us u → (a : Network) × (u ≡ term.Source a) × IsOne IsNetworkText us a
-src_only (term.Source a) us e args = (a, refl, args)
-src_only u us e args = other _ _ e refl
+payload = record { named = λ a. refl; spelled = λ a us w. w; inverts = elim [ (term.Payload c n) ↦ λ us e args. ((c, n), refl, args) | u ↦ λ us e args. other _ _ e refl ] }
 
 src : Named (IsOne IsNetworkText) term.Source (codes "src")
-src = record { named = λ a. refl; spelled = λ a us w. w; inverts = src_only }
-
-dst_only : (u : Term) (us : List Word) → keyword u ≡ codes "dst" → AreArguments us u → (a : Network) × (u ≡ term.Destination a) × IsOne IsNetworkText us a
-dst_only (term.Destination a) us e args = (a, refl, args)
-dst_only u us e args = other _ _ e refl
+src = record { named = λ a. refl; spelled = λ a us w. w; inverts = elim [ (term.Source a) ↦ λ us e args. (a, refl, args) | u ↦ λ us e args. other _ _ e refl ] }
 
 dst : Named (IsOne IsNetworkText) term.Destination (codes "dst")
-dst = record { named = λ a. refl; spelled = λ a us w. w; inverts = dst_only }
-
-net_only : (u : Term) (us : List Word) → keyword u ≡ codes "net" → AreArguments us u → (a : Network) × (u ≡ term.Either a) × IsOne IsNetworkText us a
-net_only (term.Either a) us e args = (a, refl, args)
-net_only u us e args = other _ _ e refl
+dst = record { named = λ a. refl; spelled = λ a us w. w; inverts = elim [ (term.Destination a) ↦ λ us e args. (a, refl, args) | u ↦ λ us e args. other _ _ e refl ] }
 
 net : Named (IsOne IsNetworkText) term.Either (codes "net")
-net = record { named = λ a. refl; spelled = λ a us w. w; inverts = net_only }
+net = record { named = λ a. refl; spelled = λ a us w. w; inverts = elim [ (term.Either a) ↦ λ us e args. (a, refl, args) | u ↦ λ us e args. other _ _ e refl ] }
 
 -- ---- `fault`, which a kind may follow
 
@@ -412,3 +368,10 @@ at_fault k text rest t is = subst (λ w. ReadsTerm w text t rest) (sym (same_wor
 pub none_weaker : {X A B : Type 0} (r : Option X) → (A → B) → IfNone r A → IfNone r B
 none_weaker None f a = f a
 none_weaker (Some x) f a = tt
+
+-- by what follows the keyword
+pub ruleset number_terms = (version_read, version_refused, header_read, header_refused, leads_to_read, leads_to_refused, spi_read, spi_refused, id_read, id_refused)
+
+pub ruleset count_terms = (headers_read, headers_refused, chain_bytes_read, payload_read)
+
+pub ruleset network_terms = (src_read, src_refused, dst_read, dst_refused, net_read, net_refused)

@@ -1,10 +1,12 @@
 //! The words after the keyword of a term.
-ghost use Rattle.std.specs.Prelude.{◌≡◌, IfOk, IfErr};
+#![tactic(auto, using(crate::proofs::ArgumentLemmas::end_of_text, crate::proofs::ArgumentLemmas::other_word, crate::proofs::ArgumentLemmas::this_word))]
+
+ghost use Rattle.std.specs.Prelude.{◌≡◌, [], IfOk, IfErr};
 ghost use Rattle.ip_filter.specs.declared.parse_error.Expected.TheVariants as expects;
 ghost use Rattle.ip_filter.specs.Words.{words};
 ghost use Rattle.ip_filter.specs.Numbers.{number_up_to, version_of, header_of, protocol_of, comparison_of, fault_kind_of, IsNetworkText};
 ghost use Rattle.ip_filter.specs.Grammar.{Finds};
-ghost use Rattle.ip_filter.specs.Reading.{ReadsArgument, RefusesArgument};
+ghost use Rattle.ip_filter.specs.Reading.{IsPlace, IsFirstWord, ReadsArgument, RefusesArgument};
 
 use crate::networks::parse_network;
 use crate::numbers::{parse_comparison, parse_header, parse_number, parse_protocol, parse_version};
@@ -20,15 +22,6 @@ pub struct Unexpected {
     pub expected: Expected,
 }
 
-impl Unexpected {
-    /// Returns the error that something is missing at the end of the text.
-    pub fn missing(expected: Expected) -> Unexpected
-        ensures { result ≡ record { left = 0; expected = expected } }
-    {
-        Unexpected { left: 0, expected }
-    }
-}
-
 impl Word<'_> {
     /// Returns the error that something else is expected in place of this word.
     pub fn unexpected(&self, expected: Expected) -> Unexpected
@@ -41,16 +34,25 @@ impl Word<'_> {
     }
 }
 
+/// Returns the first word of a text, or the error that it is missing at the end.
+fn argument(text: &[u8], expected: Expected) -> Result<Word<'_>, Unexpected>
+    ensures ok { IfOk result (IsFirstWord text.now) }
+    ensures err { IfErr result (λ e. (words text.now ≡ []) × IsPlace text.now [] e.left
+        × (e.expected ≡ expected)) }
+{
+    match first_word(text) {
+        Some(word) => Ok(word),
+        None => Err(Unexpected { left: 0, expected }),
+    }
+}
+
 /// Reads an IP version.
 pub fn read_version(text: &[u8]) -> Result<(u8, &[u8]), Unexpected>
     ensures ok { IfOk result (λ r. ReadsArgument (Finds version_of) text.now r.0 r.1.now) }
     ensures err { IfErr result (λ e. RefusesArgument (Finds version_of) text.now e.left
         × (e.expected ≡ expects.Version)) }
 {
-    let word = match first_word(text) {
-        Some(word) => word,
-        None => return Err(Unexpected::missing(Expected::Version)),
-    };
+    let word = argument(text, Expected::Version)?;
     match parse_version(word.bytes) {
         Some(version) => Ok((version, word.rest)),
         None => Err(word.unexpected(Expected::Version)),
@@ -63,10 +65,7 @@ pub fn read_header(text: &[u8]) -> Result<(u8, &[u8]), Unexpected>
     ensures err { IfErr result (λ e. RefusesArgument (Finds header_of) text.now e.left
         × (e.expected ≡ expects.Header)) }
 {
-    let word = match first_word(text) {
-        Some(word) => word,
-        None => return Err(Unexpected::missing(Expected::Header)),
-    };
+    let word = argument(text, Expected::Header)?;
     match parse_header(word.bytes) {
         Some(number) => Ok((number, word.rest)),
         None => Err(word.unexpected(Expected::Header)),
@@ -79,10 +78,7 @@ pub fn read_protocol(text: &[u8]) -> Result<(u8, &[u8]), Unexpected>
     ensures err { IfErr result (λ e. RefusesArgument (Finds protocol_of) text.now e.left
         × (e.expected ≡ expects.Protocol)) }
 {
-    let word = match first_word(text) {
-        Some(word) => word,
-        None => return Err(Unexpected::missing(Expected::Protocol)),
-    };
+    let word = argument(text, Expected::Protocol)?;
     match parse_protocol(word.bytes) {
         Some(number) => Ok((number, word.rest)),
         None => Err(word.unexpected(Expected::Protocol)),
@@ -95,10 +91,7 @@ pub fn read_number(text: &[u8], most: u64, expected: Expected) -> Result<(u64, &
     ensures err { IfErr result (λ e. RefusesArgument (Finds (number_up_to most)) text.now e.left
         × (e.expected ≡ expected)) }
 {
-    let word = match first_word(text) {
-        Some(word) => word,
-        None => return Err(Unexpected::missing(expected)),
-    };
+    let word = argument(text, expected)?;
     match parse_number(word.bytes, most) {
         Some(number) => Ok((number, word.rest)),
         None => Err(word.unexpected(expected)),
@@ -111,10 +104,7 @@ pub fn read_comparison(text: &[u8]) -> Result<(Comparison, &[u8]), Unexpected>
     ensures err { IfErr result (λ e. RefusesArgument (Finds comparison_of) text.now e.left
         × (e.expected ≡ expects.Comparison)) }
 {
-    let word = match first_word(text) {
-        Some(word) => word,
-        None => return Err(Unexpected::missing(Expected::Comparison)),
-    };
+    let word = argument(text, Expected::Comparison)?;
     match parse_comparison(word.bytes) {
         Some(comparison) => Ok((comparison, word.rest)),
         None => Err(word.unexpected(Expected::Comparison)),
@@ -127,10 +117,7 @@ pub fn read_network(text: &[u8]) -> Result<(Network, &[u8]), Unexpected>
     ensures err { IfErr result (λ e. RefusesArgument IsNetworkText text.now e.left
         × (e.expected ≡ expects.Network)) }
 {
-    let word = match first_word(text) {
-        Some(word) => word,
-        None => return Err(Unexpected::missing(Expected::Network)),
-    };
+    let word = argument(text, Expected::Network)?;
     match parse_network(word.bytes) {
         Some(network) => Ok((network, word.rest)),
         None => Err(word.unexpected(Expected::Network)),

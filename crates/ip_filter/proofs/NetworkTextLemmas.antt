@@ -9,7 +9,7 @@ use Rattle.std.specs.Prelude.{Option}
 use Rattle.std.specs.Net.Grammar.{IsIpv4Text, IsIpv6Text}
 use Rattle.std.specs.declared.net.ipv4_addr.Ipv4Addr.{Ipv4Addr}
 use Rattle.std.specs.declared.net.ipv6_addr.Ipv6Addr.{Ipv6Addr}
-use Rattle.ip_spec.proofs.Common.{◌≡◌, ℕ, ◌<◌, ◌≤◌, ◌≢◌, List, [], ◌∷◌, ◌++◌, length, take, drop, get_or, refl, sym, ap, ◌∙◌, arith, common_steps, nat_tests, drop_all}
+use Rattle.ip_spec.proofs.Common.{◌≡◌, ℕ, ◌<◌, ◌≤◌, ◌≢◌, List, [], ◌∷◌, ◌++◌, length, take, drop, get_or, refl, sym, ap, ◌∙◌, arith, common_steps, nat_tests, drop_all, ◌-◌, take_rest}
 use Rattle.ip_filter.specs.Numbers.{slash_index, prefix_bits, IsNetworkText}
 use Rattle.ip_filter.specs.declared.network.Network.{Network}
 use Rattle.ip_filter.specs.declared.network.Network.TheVariants as network
@@ -24,22 +24,23 @@ module _ (w : List ℕ) (i : ℕ) where
   pub no_slash : length w ≤ i → slash_index (drop i w) ≡ 0
   no_slash past = ap slash_index (drop_all i w past)
 
--- an address of neither version
-pub no_address : (w : List ℕ) (n : Network) → IsNetworkText w n → ((a : Ipv4Addr) → ¬ (IsIpv4Text (take (slash_index w) w) a))
-    → ((a : Ipv6Addr) → ¬ (IsIpv6Text (take (slash_index w) w) a)) → ⊥
-no_address w (network.Ipv4 address len) is none4 none6 = none4 is.0 is.1
-no_address w (network.Ipv6 address len) is none4 none6 = none6 is.0 is.1
+module _ (w : List ℕ) (i : ℕ) (at : i ≡ slash_index w) where
+  -- an address of neither version
+  pub no_address : (n : Network) → IsNetworkText w n → ((a : Ipv4Addr) → ¬ (IsIpv4Text (take i w) a)) → ((a : Ipv6Addr) → ¬ (IsIpv6Text (take i w) a)) → ⊥
+  no_address (network.Ipv4 address len) is none4 none6 = none4 is.0 (rw at is.1)
+  no_address (network.Ipv6 address len) is none4 none6 = none6 is.0 (rw at is.1)
 
--- no number of bits after an address
-pub no_ipv4_len : (w : List ℕ) (n : Network) (a : Ipv4Addr) → IsNetworkText w n → IsIpv4Text (take (slash_index w) w) a
-    → prefix_bits 32 (drop (slash_index w) w) ≡ None → ⊥
-no_ipv4_len w (network.Ipv4 address len) a is writes none = cc (sym none ∙ is.3)
-no_ipv4_len w (network.Ipv6 address len) a is writes none = IsDotted-not_colon_hex _ _ _ writes is.1
+  bits_after : (bits : ℕ) → prefix_bits bits (take (length w - i) (drop i w)) ≡ prefix_bits bits (drop (slash_index w) w)
+  bits_after bits = ap (prefix_bits bits) (take_rest w i ∙ ap (λ k. drop k w) at)
 
-pub no_ipv6_len : (w : List ℕ) (n : Network) → IsNetworkText w n → ((a : Ipv4Addr) → ¬ (IsIpv4Text (take (slash_index w) w) a))
-    → prefix_bits 128 (drop (slash_index w) w) ≡ None → ⊥
-no_ipv6_len w (network.Ipv4 address len) is none4 none = none4 is.0 is.1
-no_ipv6_len w (network.Ipv6 address len) is none4 none = cc (sym none ∙ is.3)
+  -- no number of bits after an address
+  pub no_ipv4_len : (n : Network) (a : Ipv4Addr) → IsNetworkText w n → IsIpv4Text (take i w) a → None ≡ prefix_bits 32 (take (length w - i) (drop i w)) → ⊥
+  no_ipv4_len (network.Ipv4 address len) a is writes none = cc (none ∙ bits_after 32 ∙ is.3)
+  no_ipv4_len (network.Ipv6 address len) a is writes none = IsDotted-not_colon_hex _ _ _ (rw at at writes) is.1
+
+  pub no_ipv6_len : (n : Network) → IsNetworkText w n → ((a : Ipv4Addr) → ¬ (IsIpv4Text (take i w) a)) → None ≡ prefix_bits 128 (take (length w - i) (drop i w)) → ⊥
+  no_ipv6_len (network.Ipv4 address len) is none4 none = none4 is.0 (rw at is.1)
+  no_ipv6_len (network.Ipv6 address len) is none4 none = cc (none ∙ bits_after 128 ∙ is.3)
 
 -- some word writes a network
 pub some_network : (w : List ℕ) × (n : Network) × IsNetworkText w n

@@ -28,6 +28,7 @@ impl NumberSet {
         NumberSet { bits: 0 }
     }
 
+    #[tactic(auto, using(crate::proofs::FactsLemmas::none_larger))]
     /// Returns whether an extension header has the number.
     #[inline(always)]
     pub(crate) fn has(&self, number: u8) -> bool
@@ -45,6 +46,7 @@ impl HeaderVisitor for NumberSet {
 
     ghost none = { λ v k e. e };
 
+    #[tactic(auto, using(crate::proofs::FactsLemmas::set_more, crate::proofs::FactsLemmas::small_number))]
     #[inline(always)]
     fn visit(&mut self, number: IpNumber, _header: &[u8], _index: usize, _offset: usize) {
         self.bits |= 1 << number.0;

@@ -171,6 +171,7 @@ impl Truths {
         }
     }
 
+    #[tactic(auto, using(crate::proofs::BitsLemmas::appended))]
     /// Appends a truth.
     #[inline(always)]
     fn push(&mut self, truth: bool)
@@ -186,6 +187,7 @@ impl Truths {
         self.count += 1;
     }
 
+    #[tactic(auto, using(crate::proofs::BitsLemmas::left_alone))]
     /// Joins the last two truths, if there are two, and negates the result `nots` times.
     #[inline(always)]
     fn join(&mut self, is_and: bool, nots: u64)
@@ -203,6 +205,7 @@ impl Truths {
         self.count -= 1;
     }
 
+    #[tactic(auto, using(crate::proofs::BitsLemmas::last_told, crate::proofs::BitsLemmas::none_told))]
     /// Returns the last truth; false without one.
     #[inline(always)]
     fn last_of_all(&self) -> bool
@@ -228,6 +231,7 @@ fn joined(is_and: bool, first: bool, second: bool) -> bool
     }
 }
 
+#[tactic(auto, using(crate::proofs::FormulaLemmas::negated_odd, crate::proofs::FormulaLemmas::negated_even))]
 /// Returns a formula's truth after it was negated `nots` times.
 #[inline(always)]
 fn negated(truth: bool, nots: u64) -> bool

@@ -14,23 +14,7 @@ use Rattle.ip_filter.specs.declared.term.Term.TheVariants as term
 -- no term reads the padding
 padding_unread : (x : Term) (p : DissectedParts) (z : List ℕ) → holds x (record p { padding = z }) ≡ holds x p
 padding_unread (term.Version v) p z = refl
-padding_unread (term.Header n) p z = refl
-padding_unread (term.LeadsTo n) p z = refl
-padding_unread term.Fragment p z = refl
-padding_unread term.FirstFragment p z = refl
-padding_unread term.LaterFragment p z = refl
-padding_unread term.Truncated p z = refl
-padding_unread term.Incomplete p z = refl
-padding_unread term.Fault p z = refl
-padding_unread (term.FaultOf k) p z = refl
-padding_unread (term.Headers c n) p z = refl
-padding_unread (term.ChainBytes c n) p z = refl
-padding_unread (term.Payload c n) p z = refl
-padding_unread (term.SecurityParameters i) p z = refl
-padding_unread (term.Identification i) p z = refl
-padding_unread (term.Source n) p z = refl
-padding_unread (term.Destination n) p z = refl
-padding_unread (term.Either n) p z = refl
+padding_unread x p z = refl
 
 -- equal truths of terms give equal truths of formulas
 truth-same : (f : Formula) (g h : Term → Bool) → ((x : Term) → g x ≡ h x) → truth f g ≡ truth f h

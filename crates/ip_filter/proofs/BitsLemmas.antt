@@ -73,12 +73,11 @@ module _ (h : Term → Bool) (f : Formula) (fs : List Formula) where
 -- the last two truths joined
 pub joined_last : (h : Term → Bool) (k n nots : ℕ) (is_and last t v : Bool) (fs : List Formula) → 2 ≤ k → t ≡ (if is_and then eqb (n % 2) 1 && last else eqb (n % 2) 1 || last) → ((f : Formula) → truth f h ≡ t → v ≡ truth (negated nots f) h)
     → AreTruths h fs (with_last k n last) → AreTruths h (after_step (if is_and then And else Or) nots fs) (with_last (k - 1) (n / 2) v)
-joined_last h zero n nots is_and last t v fs two ts neg are = absurd (omega (arith, two))
-joined_last h (suc zero) n nots is_and last t v fs two ts neg are = absurd (omega (arith, two))
 joined_last h (suc (suc k)) n nots is_and last t v fs two ts neg are =
     let less : suc (suc k) - 1 ≡ suc k = omega arith in
     rw less (join_truths h nots (with_last (suc (suc k)) n last) (low_bits (suc k) n) (low_bits k (n / 2)) (with_last (suc k) (n / 2) v) last (eqb (n % 2) 1) t v (omega (arith, length-with_last (suc (suc k)) n last))
     (λ f gs. last_popped h f gs (low_bits (suc k) n) last) (λ f gs. last_popped h f gs (low_bits k (n / 2)) (eqb (n % 2) 1)) neg refl is_and fs ts are)
+joined_last h k n nots is_and last t v fs two ts neg are = absurd (omega (arith, two))
 
 -- the last truth of all
 pub last_told : (h : Term → Bool) (k n : ℕ) (t : Bool) (fs : List Formula) → 0 < k → AreTruths h fs (with_last k n t) → t ≡ last_holds fs h

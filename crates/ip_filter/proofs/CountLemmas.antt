@@ -8,17 +8,17 @@ use Rattle.ip_filter.specs.declared.filter.StepKind.TheVariants as kind
 use Rattle.ip_filter.specs.declared.filter.Step.{Step}
 use Rattle.ip_filter.specs.Words.{Word}
 use Rattle.ip_filter.specs.Grammar.{Operand, Conjunction, Disjunction, a_term, a_negation, a_group, an_operand, an_and, a_conjunction, an_or, operand_terms, conjunction_terms, terms_in, operand_words, conjunction_words, filter_words}
-use Rattle.ip_filter.specs.Parsing.{Open, before, after, group_terms, group_steps, or_steps, and_steps, operand_steps, conjunction_steps, filter_steps, state_steps, state_terms}
+use Rattle.ip_filter.specs.Parsing.{Open, after, group_terms, group_steps, or_steps, and_steps, operand_steps, conjunction_steps, filter_steps, state_steps, state_terms}
 
 -- ---- a step for each term, and one between each two
 
 mutual
-  operand_count : (u : Operand) (k : ℕ) → suc (length (operand_steps k u)) ≡ 2 * operand_terms u
+  pub operand_count : (u : Operand) (k : ℕ) → suc (length (operand_steps k u)) ≡ 2 * operand_terms u
   operand_count (a_term t us) k = refl
   operand_count (a_negation w u) k = operand_count u (suc k)
   operand_count (a_group d) k = filter_count d k
 
-  conjunction_count : (c : Conjunction) (k : ℕ) → suc (length (conjunction_steps k c)) ≡ 2 * conjunction_terms c
+  pub conjunction_count : (c : Conjunction) (k : ℕ) → suc (length (conjunction_steps k c)) ≡ 2 * conjunction_terms c
   conjunction_count (an_operand u) k = operand_count u k
   conjunction_count (an_and c w u) k =
       let last : List Step = record { kind = kind.And; nots = k } ∷ [] in
@@ -30,13 +30,6 @@ mutual
       let last : List Step = record { kind = kind.Or; nots = k } ∷ [] in
       omega (arith, filter_count d 0, conjunction_count c 0, length-append (filter_steps 0 d ++ conjunction_steps 0 c) last, length-append (filter_steps 0 d) (conjunction_steps 0 c))
 
--- so there is some term
-pub some_term : (u : Operand) → 1 ≤ operand_terms u
-some_term u = omega (arith, operand_count u 0)
-
-pub some_terms : (c : Conjunction) → 1 ≤ conjunction_terms c
-some_terms c = omega (arith, conjunction_count c 0)
-
 or_count : (o : Option (Disjunction × Word)) → length (or_steps o) ≤ 2 * option_map_or (λ p. terms_in p.0) o 0
 or_count None = omega arith
 or_count (Some p) = omega (arith, filter_count p.0 0)
@@ -45,22 +38,16 @@ and_count : (a : Option (Conjunction × Word)) → length (and_steps a) ≤ 2 * 
 and_count None = omega arith
 and_count (Some p) = omega (arith, conjunction_count p.0 0)
 
-group_count : (fs : List Open) → length (group_steps fs) ≤ 2 * group_terms fs
+pub group_count : (fs : List Open) → length (group_steps fs) ≤ 2 * group_terms fs
 group_count [] = omega arith
 group_count (f ∷ fs) =
     omega (arith, group_count fs, or_count f.or_left, and_count f.and_left, length-append (group_steps fs ++ or_steps f.or_left) (and_steps f.and_left), length-append (group_steps fs) (or_steps f.or_left))
-
-pub before_count : (fs : List Open) (f : Open) → length (state_steps (before fs f)) ≤ 2 * state_terms (before fs f)
-before_count fs f = group_count (f ∷ fs)
 
 pub after_count : (fs : List Open) (o : Option (Disjunction × Word)) (c : Conjunction) → suc (length (state_steps (after fs o c))) ≤ 2 * state_terms (after fs o c)
 after_count fs o c =
     omega (arith, group_count fs, or_count o, conjunction_count c 0, length-append (group_steps fs ++ or_steps o) (conjunction_steps 0 c), length-append (group_steps fs) (or_steps o))
 
--- the steps of a whole group, and of what is around it
-pub group_end_count : (fs : List Open) (f : Open) (d : Disjunction) → suc (length (group_steps (f ∷ fs) ++ filter_steps 0 d)) ≤ 2 * (group_terms (f ∷ fs) + terms_in d)
-group_end_count fs f d = omega (arith, group_count (f ∷ fs), filter_count d 0, length-append (group_steps (f ∷ fs)) (filter_steps 0 d))
-
+-- the steps of a whole text or group, and of what is around it
 pub or_end_count : (fs : List Open) (d : Disjunction) → suc (length (group_steps fs ++ filter_steps 0 d)) ≤ 2 * (group_terms fs + terms_in d)
 or_end_count fs d = omega (arith, group_count fs, filter_count d 0, length-append (group_steps fs) (filter_steps 0 d))
 

@@ -23,11 +23,9 @@ as_many h (f ∷ fs) bits (rest, e, are) = omega (arith, ap length e, length-app
 
 -- fewer than two formulas can't be joined
 pub too_few : (h : Term → Bool) (is_and : Bool) (k : ℕ) (fs : List Formula) (bits : List Bool) → length bits < 2 → AreTruths h fs bits → AreTruths h (after_step (if is_and then And else Or) k fs) bits
-too_few h true k [] bits few are = are
-too_few h false k [] bits few are = are
-too_few h true k (f ∷ []) bits few are = are
-too_few h false k (f ∷ []) bits few are = are
 too_few h is_and k (g ∷ f ∷ fs) bits few are = absurd (omega (arith, as_many h (g ∷ f ∷ fs) bits are))
+too_few h true k fs bits few are = are
+too_few h false k fs bits few are = are
 
 module _ (k : ℕ) (f : Formula) (h : Term → Bool) (b : Bool) (e : truth f h ≡ b) where
   pub negated_odd : k % 2 ≡ 1 → not b ≡ truth (negated k f) h
@@ -72,9 +70,6 @@ advance h steps i bits more s w next truths few = record {
   few = omega (arith, few, w.few);
 }
 
-all_read : (h : Term → Bool) (steps : List Step) (i : ℕ) (bits : List Bool) (w : Progress h steps i bits) → drop i steps ≡ [] → w.formulas ≡ read_after [] steps
-all_read h steps i bits w e = ap (read_after w.formulas) (sym e) ∙ w.left
-
 -- all steps were read
 pub finished : (h : Term → Bool) (steps : List Step) (i : ℕ) (bits : List Bool) (b : Bool) → Progress h steps i bits → drop i steps ≡ [] → ((fs : List Formula) → AreTruths h fs bits → b ≡ last_holds fs h) → b ≡ last_holds (read_after [] steps) h
-finished h steps i bits b w e told = told w.formulas w.truths ∙ ap (λ fs. last_holds fs h) (all_read h steps i bits w e)
+finished h steps i bits b w e told = told w.formulas w.truths ∙ ap (λ fs. last_holds fs h) (ap (read_after w.formulas) (sym e) ∙ w.left)

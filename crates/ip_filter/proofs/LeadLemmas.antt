@@ -12,7 +12,7 @@ use Rattle.ip_filter.specs.Grammar.{Operand, Conjunction, Disjunction, a_term, a
 use Rattle.ip_filter.specs.Reading.{ends_term, LastIs, WantsArgument}
 use Rattle.ip_filter.specs.Parsing.{Open, State, before, after, nothing, HasRoom, Moves, by_not, by_open, by_term, by_and, by_or, by_close, may_follow, LeadsTo, ends, goes_on, with_operand, and_joined, or_joined, negate, open_terms, group_terms, state_words, NeedsOperand, IsWhole, EndsGroup, IsDue}
 use Rattle.ip_filter.specs.Parsed.{AreFilter, BeginFilter, IsExpected}
-use Rattle.ip_filter.proofs.CountLemmas.{some_term, some_terms}
+use Rattle.ip_filter.proofs.CountLemmas.{operand_count, conjunction_count}
 use Rattle.ip_filter.proofs.StateLemmas.{Good, good_whole, move_good, move_room, move_words, or_joined_words, or_joined_terms}
 
 -- ---- what ends a term
@@ -56,7 +56,7 @@ module _ (d : Disjunction) where
     conjunction_leads (an_and c w u) fs o ws is deep many e l =
         subst (λ x. LeadsTo (before fs (record { or_left = o; and_left = None; nots = [] })) x d) (sym (append_assoc (conjunction_words c) (w ∷ operand_words u) ws))
         (conjunction_leads c fs o (w ∷ (operand_words u ++ ws)) is.0 (omega (arith, deep)) (omega (arith, many)) (and_ends w (operand_words u ++ ws) is.1)
-        (step _ _ (w ∷ []) (operand_words u ++ ws) (by_and fs o c w is.1 (omega (arith, many, some_term u))) tt
+        (step _ _ (w ∷ []) (operand_words u ++ ws) (by_and fs o c w is.1 (omega (arith, many, operand_count u 0))) tt
         (operand_leads u fs (record { or_left = o; and_left = Some (c, w); nots = [] }) ws is.2 (omega (arith, deep)) (omega (arith, many)) e l)))
 
     filter_leads : (g : Disjunction) (fs : List Open) (ws : List Word) → IsDisjunction g → length fs + depth_of g ≤ 16 → group_terms fs + terms_in g ≤ 64 → IsTrue (ends_term ws)
@@ -65,7 +65,7 @@ module _ (d : Disjunction) where
     filter_leads (an_or g w c) fs ws is deep many e l =
         subst (λ x. LeadsTo (before fs nothing) x d) (sym (append_assoc (filter_words g) (w ∷ conjunction_words c) ws))
         (filter_leads g fs (w ∷ (conjunction_words c ++ ws)) is.0 (omega (arith, deep)) (omega (arith, many)) (or_ends w (conjunction_words c ++ ws) is.1)
-        (λ o b same. step _ _ (w ∷ []) (conjunction_words c ++ ws) (by_or fs o b w is.1 (omega (arith, many, some_terms c, or_joined_terms o b, ap terms_in same))) tt
+        (λ o b same. step _ _ (w ∷ []) (conjunction_words c ++ ws) (by_or fs o b w is.1 (omega (arith, many, conjunction_count c 0, or_joined_terms o b, ap terms_in same))) tt
         (subst (λ x. LeadsTo (before fs (record { or_left = Some (x, w); and_left = None; nots = [] })) (conjunction_words c ++ ws) d) (sym same)
         (conjunction_leads c fs (Some (g, w)) ws is.2 (omega (arith, deep)) (omega (arith, many)) e (l (Some (g, w)) c refl)))))
 
@@ -119,14 +119,12 @@ needs_operand (before fs f) good room is = begin_with (before fs f) good room _ 
 needs_operand (after fs o c) good room is = absurd is
 
 is_whole : (s : State) → Good s → HasRoom s → IsWhole s → AreFilter (state_words s)
-is_whole (before fs f) good room is = absurd is
 is_whole (after [] o c) good room is = (or_joined o c, good_whole o c good room, or_joined_words o c)
-is_whole (after (f ∷ fs) o c) good room is = absurd is
+is_whole s good room is = absurd is
 
 ends_group : (s : State) → Good s → HasRoom s → EndsGroup s → BeginFilter (state_words s ++ codes ")" ∷ [])
-ends_group (before fs f) good room is = absurd is
-ends_group (after [] o c) good room is = absurd is
 ends_group (after (f ∷ fs) o c) good room is = begin_with (after (f ∷ fs) o c) good room _ _ (by_close fs f o c)
+ends_group s good room is = absurd is
 
 later_last : (us front : List Word) (is : Word → Bool) → LastIs is front → LastIs is (us ++ front)
 later_last us front is last = (us ++ last.0, last.1, ap (λ ws. us ++ ws) last.2 ∙ sym (append_assoc us last.0 (last.1 ∷ [])), last.3)
@@ -147,13 +145,7 @@ module _ (s : State) (good : Good s) (room : HasRoom s) (front next : List Word)
     ],
     due.2,
   )
-  due_is_expected expects.Version due = later_last (state_words s) front _ due
-  due_is_expected expects.Header due = later_last (state_words s) front _ due
-  due_is_expected expects.Protocol due = later_last (state_words s) front _ due
-  due_is_expected expects.Comparison due = later_last (state_words s) front _ due
-  due_is_expected expects.Count due = later_last (state_words s) front _ due
-  due_is_expected expects.Number due = later_last (state_words s) front _ due
-  due_is_expected expects.Network due = later_last (state_words s) front _ due
+  due_is_expected e due = later_last (state_words s) front _ due
 
 -- an argument is expected in any state
 pub argument_is_due : (s : State) (front next : List Word) (e : Expected) → WantsArgument front e → IsDue s front next e
@@ -162,10 +154,4 @@ argument_is_due s front next expects.LessNesting wants = absurd wants
 argument_is_due s front next expects.OperatorOrEnd wants = absurd wants
 argument_is_due s front next expects.OperatorOrClose wants = absurd wants
 argument_is_due s front next expects.FewerTerms wants = absurd wants
-argument_is_due s front next expects.Version wants = wants
-argument_is_due s front next expects.Header wants = wants
-argument_is_due s front next expects.Protocol wants = wants
-argument_is_due s front next expects.Comparison wants = wants
-argument_is_due s front next expects.Count wants = wants
-argument_is_due s front next expects.Number wants = wants
-argument_is_due s front next expects.Network wants = wants
+argument_is_due s front next e wants = wants

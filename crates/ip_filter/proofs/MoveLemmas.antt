@@ -12,14 +12,14 @@ use Rattle.ip_filter.specs.declared.term.Term.TheVariants as term
 use Rattle.ip_filter.specs.Words.{Word, words}
 use Rattle.ip_filter.specs.Grammar.{Operand, Disjunction, Conjunction, a_term, keyword, AreArguments, is_not, filter_words, conjunction_words}
 use Rattle.ip_filter.specs.Reading.{IsPlace, IsFirstWord, ReadsTerm, RefusesTerm, ends_term}
-use Rattle.ip_filter.specs.Parsing.{Open, State, before, nothing, Moves, by_not, by_open, by_term, may_follow, LeadsTo, with_operand, open_terms, group_terms, group_words, state_words, Fits, Holds, HoldsOperand, ReadsOn, RefusesFrom, level_of, levels_of, state_steps, and_joined, negate}
+use Rattle.ip_filter.specs.Parsing.{Open, State, before, nothing, Moves, by_not, by_open, by_term, may_follow, LeadsTo, with_operand, open_terms, group_terms, group_words, open_words, Fits, Holds, HoldsOperand, ReadsOn, RefusesFrom, level_of, levels_of, state_steps, and_joined, negate}
 use Rattle.arrayvec.specs.declared.array_vec.ArrayVec.{ArrayVec}
 use Rattle.ip_filter.specs.declared.builder.Level.{Level}
 use Rattle.ip_filter.specs.declared.filter.Filter.{Filter}
 use Rattle.ip_filter.specs.declared.filter.StepKind.TheVariants as kind
 use Rattle.ip_filter.specs.Formula.{steps_of}
 use Rattle.ip_filter.proofs.PartStepsLemmas.{joined_terms}
-use Rattle.ip_filter.proofs.CountLemmas.{before_count, after_count}
+use Rattle.ip_filter.proofs.CountLemmas.{group_count, after_count}
 use Rattle.ip_filter.proofs.LeadLemmas.{can_end, term_ends, argument_is_due}
 use Rattle.ip_filter.proofs.WordLemmas.{same_word}
 use Rattle.ip_filter.proofs.PlaceLemmas.{end_of_end, place_in_end, from_place}
@@ -38,15 +38,13 @@ module _ (fs : List Open) (f : Open) (w : Word) where
 
   only_not : (t : State) (vs ws more : List Word) → is_not w ≡ true → Moves (before fs f) vs t → vs ++ more ≡ w ∷ ws
       → (t ≡ before fs (record f { nots = f.nots ++ w ∷ [] })) × (vs ≡ w ∷ [])
-  only_not t vs ws more n (by_not gs g v p) e =
-      let same : v ≡ w = cc e in (ap (λ x. before gs (record g { nots = g.nots ++ x ∷ [] })) same, ap (λ x. x ∷ []) same)
-  only_not t vs ws more n (by_open gs g few) e = let same : codes "(" ≡ w = cc e in absurd (false≢true (ap is_not same ∙ n))
-  only_not t vs ws more n (by_term gs g u us args) e = let same : keyword u ≡ w = cc e in absurd (false≢true (sym (keyword_not u) ∙ ap is_not same ∙ n))
+  only_not t vs ws more n (by_not gs g v p) e = (cc e, cc e)
+  only_not t vs ws more n (by_open gs g few) e = let same : codes "(" ≡ w = cc e in absurd (cc (ap is_not same))
+  only_not t vs ws more n (by_term gs g u us args) e = let same : keyword u ≡ w = cc e in absurd (cc (keyword_not u, ap is_not same))
 
   only_open : (t : State) (vs ws more : List Word) → bytes_eq w (codes "(") ≡ true → Moves (before fs f) vs t → vs ++ more ≡ w ∷ ws
       → (t ≡ before (f ∷ fs) nothing) × (vs ≡ codes "(" ∷ []) × (length fs < 16)
-  only_open t vs ws more o (by_not gs g v p) e =
-      let same : v ≡ w = cc e in absurd (false≢true (ap is_not (sym (same_word w (codes "(") o) ∙ sym same) ∙ p))
+  only_open t vs ws more o (by_not gs g v p) e = absurd (cc (ap is_not (same_word w (codes "(") o)))
   only_open t vs ws more o (by_open gs g few) e = (refl, refl, few)
   only_open t vs ws more o (by_term gs g u us args) e =
       let same : keyword u ≡ w = cc e in absurd (false≢true (sym (keyword_open u) ∙ ap (λ x. bytes_eq x (codes "(")) same ∙ o))
@@ -66,11 +64,11 @@ pub level_count : (fs : List Open) → length (levels_of fs) ≡ length fs
 level_count [] = refl
 level_count (f ∷ fs) = omega (arith, level_count fs, length-append (levels_of fs) (level_of f ∷ []))
 
-few_nots : (fs : List Open) (f : Open) → length (state_words (before fs f)) < 2 ^ 63 → length f.nots < 2 ^ 63
-few_nots fs f few =
+pub open_nots : (f : Open) → length f.nots ≤ length (open_words f)
+open_nots f =
     let o = option_map_or (λ (p : Disjunction × Word). filter_words p.0 ++ p.1 ∷ []) f.or_left [] in
     let a = option_map_or (λ (p : Conjunction × Word). conjunction_words p.0 ++ p.1 ∷ []) f.and_left [] in
-    omega (arith, few, length-append (group_words fs) (o ++ a ++ f.nots), length-append (o ++ a) f.nots)
+    omega (arith, length-append (o ++ a) f.nots)
 
 -- ---- the first word of a text
 
@@ -99,7 +97,7 @@ module _ (b : Builder) (w : FirstWord) where
       let more : Open = record f { nots = f.nots ++ word ∷ [] } in
       let short = fits.words in
       let count : b.level.nots ≡ length f.nots = ap (λ l. l.nots) h.level in
-      let room : length f.nots < 2 ^ 63 = few_nots fs f short in
+      let room : length f.nots < 2 ^ 63 = omega (arith, short, open_nots f, length-append (group_words fs) (open_words f)) in
       let nots : r ≡ length (f.nots ++ word ∷ []) = omega (arith, sum, count, room, length-append f.nots (word ∷ [])) in
       record {
         next = before fs more;
@@ -204,7 +202,7 @@ module _ (b : Builder) (w : FirstWord) where
         let u = a_term t r.args in
         let terms = h.terms in
         let few = fits.terms in
-        let room : length (steps_of b.filter) < 127 = omega (arith, few, terms, ap length h.steps, before_count fs f) in
+        let room : length (steps_of b.filter) < 127 = omega (arith, few, terms, ap length h.steps, group_count (f ∷ fs)) in
         let all = joined_terms f.nots u f.and_left in
         let enough : length (state_steps (with_operand fs f u)) ≤ 127
         = omega (arith, few, terms, all, after_count fs f.or_left (and_joined f.and_left (negate f.nots u))) in

@@ -1,10 +1,9 @@
 -- What an operator or the end of a group leads to.
 use Rattle.std.proofs.Common.{Some, None, is_some, codes}
 use Rattle.std.specs.Prelude.{Option}
-use Rattle.std.specs.Option.{option_map_or}
 use Rattle.std.specs.Str.{bytes_eq}
 use Rattle.arrayvec.specs.declared.array_vec.ArrayVec.{ArrayVec}
-use Rattle.ip_spec.proofs.Common.{◌≡◌, ℕ, ◌+◌, ◌-◌, ◌<◌, ◌≤◌, ◌^◌, List, [], ◌∷◌, ◌++◌, length, take, drop, refl, sym, ap, ◌∙◌, arith, Bool, true, false, ◌||◌, ◌⊎◌, inl, inr, false≢true, append_assoc, append-nil, length-append}
+use Rattle.ip_spec.proofs.Common.{◌≡◌, ℕ, ◌+◌, ◌-◌, ◌<◌, ◌≤◌, ◌^◌, List, [], ◌∷◌, ◌++◌, length, take, drop, refl, sym, ap, ◌∙◌, arith, true, false, ◌||◌, ◌⊎◌, inl, inr, false≢true, append_assoc, append-nil, length-append}
 use Rattle.std.proofs.lemmas.List.{same_from_push}
 use Rattle.ip_filter.specs.declared.words.Word.{Word as FirstWord}
 use Rattle.ip_filter.specs.declared.parse_error.Expected.{Expected}
@@ -20,81 +19,56 @@ use Rattle.ip_filter.specs.Formula.{steps_of}
 use Rattle.ip_filter.specs.Grammar.{Operand, Conjunction, Disjunction, a_group, filter_words, conjunction_words, is_and, is_or}
 use Rattle.ip_filter.specs.Reading.{IsFirstWord, IsOperator}
 use Rattle.ip_filter.specs.Parsing.{Open, State, before, after, Moves, by_and, by_or, by_close, with_operand, or_joined, and_joined, negate, group_words, open_words, state_words, group_steps, or_steps, conjunction_steps, filter_steps, state_steps, state_terms, level_of, levels_of, Fits, Holds, HoldsOperand, HoldsGroup, IsFinished, ReadsOn, RefusesFrom, IsWhole, EndsGroup, IsDue}
-use Rattle.ip_filter.proofs.CountLemmas.{after_count, group_end_count, or_end_count, filter_last}
+use Rattle.ip_filter.proofs.CountLemmas.{after_count, or_end_count, filter_last}
 use Rattle.ip_filter.proofs.PartStepsLemmas.{joined_terms}
-use Rattle.ip_filter.proofs.MoveLemmas.{at_word, next_word, level_count}
+use Rattle.ip_filter.proofs.MoveLemmas.{at_word, next_word, level_count, open_nots}
 use Rattle.ip_filter.proofs.LeadLemmas.{can_end}
 use Rattle.ip_filter.proofs.StateLemmas.{or_joined_terms}
-use Rattle.ip_filter.proofs.WordLemmas.{or_cases, same_word}
+use Rattle.ip_filter.proofs.WordLemmas.{or_cases, either_word, same_word}
 
--- an `and` is no `or` and closes no group
+-- an `and` is no `or`
 module _ (w : Word) where
-  and_is : is_and w ≡ true → (w ≡ codes "and") ⊎ (w ≡ codes "&&")
-  and_is a = elim (or_cases (bytes_eq w (codes "and")) (bytes_eq w (codes "&&")) a) [ inl x ↦ inl (same_word w (codes "and") x) | inr x ↦ inr (same_word w (codes "&&") x) ]
-
   and_no_or : is_and w ≡ true → is_or w ≡ false
-  and_no_or a = elim (and_is a) [ inl x ↦ ap is_or x | inr x ↦ ap is_or x ]
+  and_no_or a = either_word (λ x. is_or x ≡ false) w (codes "and") (codes "&&") a refl refl
 
   or_no_and : is_or w ≡ true → is_and w ≡ false
-  or_no_and o = elim (or_cases (bytes_eq w (codes "or")) (bytes_eq w (codes "||")) o) [
-    | inl x ↦ ap is_and (same_word w (codes "or") x)
-    | inr x ↦ ap is_and (same_word w (codes "||") x)
-  ]
-
-  close_no_and : w ≡ codes ")" → is_and w ≡ false
-  close_no_and e = ap is_and e
-
-  close_no_or : w ≡ codes ")" → is_or w ≡ false
-  close_no_or e = ap is_or e
-
-contradicts : {A : Type 0} (b : Bool) → b ≡ true → b ≡ false → A
-contradicts b t f = absurd (false≢true (sym f ∙ t))
+  or_no_and o = either_word (λ x. is_and x ≡ false) w (codes "or") (codes "||") o refl refl
 
 -- ---- what the words lead to
 
 only_and : (w : Word) (fs : List Open) (o : Option (Disjunction × Word)) (c : Conjunction) (t : State) (vs ws more : List Word) → is_and w ≡ true → Moves (after fs o c) vs t
     → vs ++ more ≡ w ∷ ws → (t ≡ before fs (record { or_left = o; and_left = Some (c, w); nots = [] })) × (vs ≡ w ∷ [])
-only_and w fs o c t vs ws more a (by_and gs p d v is few) e =
-    let same : v ≡ w = cc e in (ap (λ x. before gs (record { or_left = p; and_left = Some (d, x); nots = [] })) same, ap (λ x. x ∷ []) same)
-only_and w fs o c t vs ws more a (by_or gs p d v is few) e =
-    let same : v ≡ w = cc e in contradicts (is_or w) (ap is_or (sym same) ∙ is) (and_no_or w a)
-only_and w fs o c t vs ws more a (by_close gs g p d) e =
-    let same : w ≡ codes ")" = cc e in contradicts (is_and w) a (close_no_and w same)
+only_and w fs o c t vs ws more a (by_and gs p d v is few) e = (cc e, cc e)
+only_and w fs o c t vs ws more a (by_or gs p d v is few) e = absurd (cc (and_no_or w a))
+only_and w fs o c t vs ws more a (by_close gs g p d) e = let same : w ≡ codes ")" = cc e in absurd (cc (ap is_and same))
 
 only_or : (w : Word) (fs : List Open) (o : Option (Disjunction × Word)) (c : Conjunction) (t : State) (vs ws more : List Word) → is_or w ≡ true → Moves (after fs o c) vs t
     → vs ++ more ≡ w ∷ ws → (t ≡ before fs (record { or_left = Some (or_joined o c, w); and_left = None; nots = [] })) × (vs ≡ w ∷ [])
-only_or w fs o c t vs ws more a (by_and gs p d v is few) e =
-    let same : v ≡ w = cc e in contradicts (is_and w) (ap is_and (sym same) ∙ is) (or_no_and w a)
-only_or w fs o c t vs ws more a (by_or gs p d v is few) e =
-    let same : v ≡ w = cc e in (ap (λ x. before gs (record { or_left = Some (or_joined p d, x); and_left = None; nots = [] })) same, ap (λ x. x ∷ []) same)
-only_or w fs o c t vs ws more a (by_close gs g p d) e =
-    let same : w ≡ codes ")" = cc e in contradicts (is_or w) a (close_no_or w same)
+only_or w fs o c t vs ws more a (by_and gs p d v is few) e = absurd (cc (or_no_and w a))
+only_or w fs o c t vs ws more a (by_or gs p d v is few) e = (cc e, cc e)
+only_or w fs o c t vs ws more a (by_close gs g p d) e = let same : w ≡ codes ")" = cc e in absurd (cc (ap is_or same))
 
-only_close : (w : Word) (fs : List Open) (f : Open) (o : Option (Disjunction × Word)) (c : Conjunction) (t : State) (vs ws more : List Word) → bytes_eq w (codes ")") ≡ true
+only_close : (w : Word) (fs : List Open) (f : Open) (o : Option (Disjunction × Word)) (c : Conjunction) (t : State) (vs ws more : List Word) → w ≡ codes ")"
     → Moves (after (f ∷ fs) o c) vs t → vs ++ more ≡ w ∷ ws → (t ≡ with_operand fs f (a_group (or_joined o c))) × (vs ≡ codes ")" ∷ [])
-only_close w fs f o c t vs ws more a (by_and gs p d v is few) e =
-    let same : v ≡ w = cc e in contradicts (is_and w) (ap is_and (sym same) ∙ is) (close_no_and w (same_word w (codes ")") a))
-only_close w fs f o c t vs ws more a (by_or gs p d v is few) e =
-    let same : v ≡ w = cc e in contradicts (is_or w) (ap is_or (sym same) ∙ is) (close_no_or w (same_word w (codes ")") a))
+only_close w fs f o c t vs ws more a (by_and gs p d v is few) e = absurd (cc (ap is_and a))
+only_close w fs f o c t vs ws more a (by_or gs p d v is few) e = absurd (cc (ap is_or a))
 only_close w fs f o c t vs ws more a (by_close gs g p d) e = (refl, refl)
 
 -- no other word leads on
 nowhere : (w : Word) (fs : List Open) (o : Option (Disjunction × Word)) (c : Conjunction) (t : State) (vs ws more : List Word) → is_and w ≡ false → is_or w ≡ false
     → (bytes_eq w (codes ")") ≡ false) ⊎ (length fs ≡ 0) → Moves (after fs o c) vs t → vs ++ more ≡ w ∷ ws → ⊥
-nowhere w fs o c t vs ws more a r n (by_and gs p d v is few) e = let same : v ≡ w = cc e in contradicts (is_and w) (ap is_and (sym same) ∙ is) a
-nowhere w fs o c t vs ws more a r n (by_or gs p d v is few) e = let same : v ≡ w = cc e in contradicts (is_or w) (ap is_or (sym same) ∙ is) r
+nowhere w fs o c t vs ws more a r n (by_and gs p d v is few) e = cc e
+nowhere w fs o c t vs ws more a r n (by_or gs p d v is few) e = cc e
 nowhere w fs o c t vs ws more a r n (by_close gs g p d) e =
     let same : w ≡ codes ")" = cc e in
-    elim n [ inl f ↦ contradicts (bytes_eq w (codes ")")) (ap (λ x. bytes_eq x (codes ")")) same) f | inr none ↦ absurd (omega (arith, none)) ]
+    elim n [ inl f ↦ cc (ap (λ x. bytes_eq x (codes ")")) same) | inr none ↦ absurd (omega (arith, none)) ]
 
 -- no operator leads on after 64 terms
 joins_nothing : (w : Word) (fs : List Open) (o : Option (Disjunction × Word)) (c : Conjunction) (t : State) (vs ws more : List Word) → is_and w || is_or w ≡ true
     → 64 ≤ state_terms (after fs o c) → Moves (after fs o c) vs t → vs ++ more ≡ w ∷ ws → ⊥
+joins_nothing w fs o c t vs ws more a full (by_close gs g p d) e = let same : w ≡ codes ")" = cc e in cc (ap (λ x. is_and x || is_or x) same)
 joins_nothing w fs o c t vs ws more a full (by_and gs p d v is few) e = omega (arith, full, few)
 joins_nothing w fs o c t vs ws more a full (by_or gs p d v is few) e = omega (arith, full, few)
-joins_nothing w fs o c t vs ws more a full (by_close gs g p d) e =
-    let same : w ≡ codes ")" = cc e in
-    elim (or_cases (is_and w) (is_or w) a) [ inl x ↦ contradicts (is_and w) x (close_no_and w same) | inr x ↦ contradicts (is_or w) x (close_no_or w same) ]
 
 -- ---- the steps after an `or` or a group
 
@@ -192,7 +166,7 @@ module _ (b : Builder) (w : FirstWord) where
     no_operator_next : (text : List ℕ) → IsFirstWord text w → ¬ (IsOperator (take 1 (words (drop (length text - w.left) text))))
     no_operator_next text is op =
         let same : op.0 ≡ w.bytes.now = cc (sym op.1 ∙ next_word text w is) in
-        elim (or_cases (is_and op.0) (is_or op.0) op.2) [ inl x ↦ contradicts (is_and op.0) x (ap is_and same ∙ a) | inr x ↦ contradicts (is_or op.0) x (ap is_or same ∙ r) ]
+        elim (or_cases (is_and op.0) (is_or op.0) op.2) [ inl x ↦ cc (ap is_and same) | inr x ↦ cc (ap is_or same) ]
 
     module _ (e : Expected) (none : (fs : List Open) → length fs ≡ length b.outer.items → (bytes_eq w.bytes.now (codes ")") ≡ false) ⊎ (length fs ≡ 0))
         (due : (fs : List Open) (o : Option (Disjunction × Word)) (c : Conjunction) (next : List Word) → length fs ≡ length b.outer.items → ¬ (IsOperator next) → IsDue (after fs o c) [] next e) where
@@ -238,14 +212,8 @@ module _ (b : Builder) (w : FirstWord) where
           around = parts.1;
           or_waits = ap (λ l. l.or_waits) h.level;
         }) fits;
-        only = λ t vs ws more m may e next. only_close w.bytes.now fs f o c t vs ws more p m (e ∙ ap (λ x. x ∷ ws) (sym same));
+        only = λ t vs ws more m may e next. only_close w.bytes.now fs f o c t vs ws more same m (e ∙ ap (λ x. x ∷ ws) (sym same));
       }
-
-open_nots : (f : Open) → length f.nots ≤ length (open_words f)
-open_nots f =
-    let o = option_map_or (λ (p : Disjunction × Word). filter_words p.0 ++ p.1 ∷ []) f.or_left [] in
-    let a = option_map_or (λ (p : Conjunction × Word). conjunction_words p.0 ++ p.1 ∷ []) f.and_left [] in
-    omega (arith, length-append (o ++ a) f.nots)
 
 few_words : (fs : List Open) (f : Open) (o : Option (Disjunction × Word)) (c : Conjunction) → length f.nots + length (filter_words (or_joined o c)) ≤ length (state_words (after (f ∷ fs) o c))
 few_words fs f None c =
@@ -279,7 +247,7 @@ group_closed b level mid last new push keep negate_it done fs f o c h fits =
     let front = group_steps (f ∷ fs) in
     let bound = fits.terms in let short = fits.words in let terms = h.terms in
     let all = or_joined_terms o c in
-    let mids = or_end front o c b.filter mid h.steps (λ e. push (h.or_waits ∙ e)) (λ e. keep (h.or_waits ∙ e)) (omega (arith, bound, all, group_end_count fs f d)) in
+    let mids = or_end front o c b.filter mid h.steps (λ e. push (h.or_waits ∙ e)) (λ e. keep (h.or_waits ∙ e)) (omega (arith, bound, all, or_end_count (f ∷ fs) d)) in
     let l = filter_last d in
     let few = l.few in
     let nots : level.nots ≡ length f.nots = ap (λ x. x.nots) h.around in

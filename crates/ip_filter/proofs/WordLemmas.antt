@@ -1,7 +1,7 @@
 -- The first word of a text.
 use Rattle.std.proofs.Common.{suc}
 use Rattle.std.proofs.Math.Seq.{drop-cons}
-use Rattle.ip_spec.proofs.Common.{◌≡◌, ℕ, ◌+◌, ◌-◌, ◌<◌, ◌≤◌, List, [], ◌∷◌, length, take, drop, get_or, refl, sym, ap, ◌∙◌, arith, common_steps, Bool, true, false, ◌||◌, ◌⊎◌, inl, inr, bytes_eq-Decides, if◌then◌else◌, cases_Bool, drop_all, drop-drop, take_rest, length-drop, nat_tests}
+use Rattle.ip_spec.proofs.Common.{◌≡◌, ℕ, ◌+◌, ◌-◌, ◌<◌, ◌≤◌, List, [], ◌∷◌, length, take, drop, get_or, refl, sym, ap, ◌∙◌, subst, arith, common_steps, Bool, true, false, ◌||◌, ◌⊎◌, inl, inr, bytes_eq-Decides, if◌then◌else◌, cases_Bool, drop_all, drop-drop, take_rest, length-drop, nat_tests}
 use Rattle.std.proofs.lemmas.List.{get_or-drop}
 use Rattle.std.specs.Str.{bytes_eq}
 use Rattle.ip_filter.specs.Reading.{IsPlace, IsEnd}
@@ -13,6 +13,10 @@ or_cases false b e = inr e
 
 pub same_word : (k c : Word) → bytes_eq k c ≡ true → k ≡ c
 same_word k c = (bytes_eq-Decides k c).0
+
+-- what holds of two words holds of a word that is one of them
+pub either_word : (P : Word → Type 0) (w a b : Word) → (bytes_eq w a || bytes_eq w b) ≡ true → P a → P b → P w
+either_word P w a b is pa pb = elim (or_cases (bytes_eq w a) (bytes_eq w b) is) [ inl x ↦ subst P (sym (same_word w a x)) pa | inr x ↦ subst P (sym (same_word w b x)) pb ]
 
 module _ (s : List ℕ) (i : ℕ) (some : 1 ≤ i) where
   at : i ≤ length s → drop (i - 1) s ≡ get_or s (i - 1) 0 ∷ drop i s

@@ -6,9 +6,6 @@ use Rattle.ip_filter.specs.declared.term.Term.{Term}
 use Rattle.ip_filter.specs.declared.filter.Step.{Step}
 use Rattle.ip_filter.specs.declared.filter.StepKind.TheVariants.{And, Or}
 
-odd : ℕ → Bool
-odd k = nat_eq (k % 2) 1
-
 odd-suc : (k : ℕ) → nat_eq (suc k % 2) 1 ≡ not (nat_eq (k % 2) 1)
 odd-suc k = grind (arith, common_steps, eqb_tells)
 

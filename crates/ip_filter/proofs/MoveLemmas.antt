@@ -46,17 +46,15 @@ module _ (fs : List Open) (f : Open) (w : Word) where
       → (t ≡ before (f ∷ fs) nothing) × (vs ≡ codes "(" ∷ []) × (length fs < 16)
   only_open t vs ws more o (by_not gs g v p) e = absurd (cc (ap is_not (same_word w (codes "(") o)))
   only_open t vs ws more o (by_open gs g few) e = (refl, refl, few)
-  only_open t vs ws more o (by_term gs g u us args) e =
-      let same : keyword u ≡ w = cc e in absurd (false≢true (sym (keyword_open u) ∙ ap (λ x. bytes_eq x (codes "(")) same ∙ o))
+  only_open t vs ws more o (by_term gs g u us args) e = let same : keyword u ≡ w = cc e in absurd (cc (keyword_open u, ap (λ x. bytes_eq x (codes "(")) same))
 
   -- ---- a term
 
   only_term : (t : State) (vs ws more : List Word) → is_not w ≡ false → bytes_eq w (codes "(") ≡ false → Moves (before fs f) vs t → may_follow t more → vs ++ more ≡ w ∷ ws
       → (u : Term) × (us : List Word) × (t ≡ with_operand fs f (a_term u us)) × (vs ≡ keyword u ∷ us) × (keyword u ≡ w) × AreArguments us u
       × IsTrue (ends_term more) × (us ++ more ≡ ws)
-  only_term t vs ws more n o (by_not gs g v p) may e = let same : v ≡ w = cc e in absurd (false≢true (sym n ∙ ap is_not (sym same) ∙ p))
-  only_term t vs ws more n o (by_open gs g few) may e =
-      let same : w ≡ codes "(" = cc e in absurd (false≢true (sym o ∙ ap (λ x. bytes_eq x (codes "(")) same))
+  only_term t vs ws more n o (by_not gs g v p) may e = absurd (cc n)
+  only_term t vs ws more n o (by_open gs g few) may e = let same : w ≡ codes "(" = cc e in absurd (cc (ap (λ x. bytes_eq x (codes "(")) same))
   only_term t vs ws more n o (by_term gs g u us args) may e =
       let same : keyword u ≡ w = cc e in let rest : us ++ more ≡ ws = cc e in (u, us, refl, refl, same, args, may, rest)
 

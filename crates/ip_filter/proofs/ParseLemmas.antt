@@ -40,7 +40,7 @@ begin text b h = record {
 }
 
 module _ (text rest : List ℕ) (b : Builder) (g : Going text rest b) where
-  pub fits : length text < 2 ^ 63 → Fits g.state
+  fits : length text < 2 ^ 63 → Fits g.state
   fits short = record {
     terms = g.room;
     words = omega (arith, short, words_short text, ap length g.begins, length-append (state_words g.state) (words rest));
@@ -60,7 +60,11 @@ lead_on s t us ws all d (goes_on s2 r vs more all2 d2 same m may l) e some only 
     let rest : more ≡ ws = append_cancel_left us more ws (ap (λ x. x ++ more) (sym found.1) ∙ sym same ∙ e) in
     subst (λ x. LeadsTo x ws d2) found.0 (subst (λ x. LeadsTo r x d2) rest l)
 
-module _ (text rest : List ℕ) (b new : Builder) (after_word : List ℕ) (g : Going text rest b) (r : ReadsOn g.state rest after_word new) where
+module _ (text rest : List ℕ) (b new : Builder) (w : FirstWord) (after_word : List ℕ) (g : Going text rest b) (short : length text < 2 ^ 63) (is : IsFirstWord rest w)
+    (read : (t : List ℕ) (s : State) → IsFirstWord t w → Holds s b → Fits s → ReadsOn s t after_word new) where
+  r : ReadsOn g.state rest after_word new
+  r = read rest g.state is g.holds (fits text rest b g short)
+
   pub go_on : Going text after_word new
   go_on =
       let read = move_words g.state r.next r.us r.moves in
@@ -94,9 +98,10 @@ head_of : (xs ys : List Word) (v : Word) (vs : List Word) → take 1 xs ≡ take
 head_of [] ys v vs e is = absurd (cc (e ∙ ap (take 1) is))
 head_of (x ∷ xs) ys v vs e is = (x, xs, refl)
 
-pub first_error : (text rest : List ℕ) (b : Builder) (w : FirstWord) (left : ℕ) (e : Expected) (g : Going text rest b) → IsFirstWord rest w → RefusesFrom g.state rest left e
+pub first_error : (text rest : List ℕ) (b : Builder) (w : FirstWord) (left : ℕ) (e : Expected) (g : Going text rest b) → IsFirstWord rest w → ((t : List ℕ) (s : State) → IsFirstWord t w → Holds s b → RefusesFrom s t left e)
     → IsFirstError text (length text - left) e
-first_error text rest b w left e g is r =
+first_error text rest b w left e g is refuse =
+    let r = refuse rest g.state is g.holds in
     let within = r.place.within in
     let shorter = g.end.0 in
     let here : IsPlace text (state_words g.state ++ r.front) left = place_in_end text rest g.end (state_words g.state) r.front left g.begins r.place in
@@ -132,8 +137,9 @@ no_first : (ws : List Word) → take 1 ws ≡ [] → ws ≡ []
 no_first [] e = refl
 no_first (w ∷ ws) e = cc
 
-pub parsed : (text rest : List ℕ) (b : Builder) (x : Filter) (g : Going text rest b) → words rest ≡ [] → IsFinished g.state x → IsParsed text x
-parsed text rest b x g none f =
+pub parsed : (text rest : List ℕ) (b : Builder) (x : Filter) (g : Going text rest b) → length text < 2 ^ 63 → words rest ≡ [] → ((s : State) → Holds s b → Fits s → IsFinished s x) → IsParsed text x
+parsed text rest b x g short none finish =
+    let f = finish g.state g.holds (fits text rest b g short) in
     let d = or_joined f.or_left f.last in
     let is : IsFilter d = good_whole f.or_left f.last (subst Good f.whole g.good) (subst HasRoom f.whole g.room) in
     let all : state_words g.state ≡ words text = sym (g.begins ∙ ap (λ ws. state_words g.state ++ ws) none ∙ append-nil (state_words g.state)) in

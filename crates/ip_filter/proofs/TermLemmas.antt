@@ -17,7 +17,7 @@ use Rattle.ip_filter.specs.Grammar.{keyword, AreArguments, IsOne, Finds, AreComp
 use Rattle.ip_filter.specs.declared.words.Word.{Word as FirstWord}
 use Rattle.ip_filter.specs.Reading.{IsFirstWord, ReadsArgument, RefusesArgument, ReadsArguments, RefusesArguments, ReadsTerm, RefusesTerm, WantsArgument, ends_term, plain_term_of, is_number_keyword, is_count_keyword, is_network_keyword}
 use Rattle.ip_filter.proofs.NetworkTextLemmas.{one_network, some_network}
-use Rattle.ip_filter.proofs.WordLemmas.{or_cases, same_word}
+use Rattle.ip_filter.proofs.WordLemmas.{or_cases, either_word, same_word}
 use Rattle.ip_filter.proofs.PlaceLemmas.{whole, end_of_end, from_place, place_in_end}
 
 -- ---- arguments
@@ -35,14 +35,14 @@ module _ {A : Type 0} (Writes : Word → A → Type 0) (unique : (w : Word) (a b
   }
 
   not_one : (w : Word) × (a : A) × Writes w a → (is_keyword : Word → Bool) (e : Expected) → ((k : Word) → IsTrue (is_keyword k) → WantsArgument (k ∷ []) e)
-      → (text : List ℕ) (left : ℕ) → RefusesArgument Writes text left → RefusesArguments (IsOne Writes) is_keyword text left e
-  not_one some is_keyword e due text left r = record {
+      → (text : List ℕ) (left : ℕ) (x : Expected) → RefusesArgument Writes text left × (x ≡ e) → RefusesArguments (IsOne Writes) is_keyword text left x
+  not_one some is_keyword e due text left x r = record {
     before = [];
-    place = r.place;
+    place = r.0.place;
     begins = (some.1, some.0 ∷ [], (some.0, refl, some.2));
-    expected = due;
+    expected = rw r.1 due;
     none = λ b us ws more writes same next.
-        r.none writes.0 b (ap (take 1) r.place.words_before ∙ sym next ∙ ap (take 1) (sym same) ∙ ap (λ x. take 1 (x ++ more)) writes.1) writes.2;
+        r.0.none writes.0 b (ap (take 1) r.0.place.words_before ∙ sym next ∙ ap (take 1) (sym same) ∙ ap (λ x. take 1 (x ++ more)) writes.1) writes.2;
   }
 
 found_once : {A : Type 0} (find : Word → Option A) (w : Word) (a b : A) → Finds find w a → Finds find w b → a ≡ b
@@ -65,35 +65,29 @@ module _ (text mid : List ℕ) (c : Comparison) (first : ReadsArgument (Finds co
         (ap (λ x. (x, b.1)) left ∙ ap (λ x. (c, x)) right, writes.2 ∙ ap (λ x. x ∷ writes.1 ∷ []) o ∙ ap (λ x. first.word ∷ x ∷ []) w);
   }
 
-  without_number : (left : ℕ) → RefusesArgument (Finds (number_up_to 18446744073709551615)) mid left → RefusesArguments AreCompared is_count_keyword text left expects.Count
-  without_number left second = record {
+  pub no_number : (left : ℕ) (e : Expected) → RefusesArgument (Finds (number_up_to 18446744073709551615)) mid left × (e ≡ expects.Count)
+      → RefusesArguments AreCompared is_count_keyword text left e
+  no_number left e r = let second = r.0 in record {
     before = first.word ∷ [];
     place = place_in_end text mid first.end (first.word ∷ []) [] left first.begins second.place;
     begins = ((c, 0), codes "0" ∷ [], (first.word, codes "0", refl, first.writes, refl));
-    expected = λ k is. (k ∷ [], first.word, refl, ap is_some first.writes);
+    expected = rw r.1 (λ k is. (k ∷ [], first.word, refl, ap is_some first.writes));
     none = λ b us ws more writes same next.
         let all : writes.0 ∷ writes.1 ∷ more ≡ first.word ∷ ws = sym (ap (λ x. x ++ more) writes.2) ∙ same in
         let rest : ws ≡ writes.1 ∷ more = cc all in
         second.none writes.1 b.1 (ap (take 1) (second.place.words_before ∙ ap words (from_place text mid first.end left second.place.within)) ∙ sym next ∙ ap (take 1) rest) writes.4;
   }
 
-  pub no_number : (left : ℕ) (e : Expected) → RefusesArgument (Finds (number_up_to 18446744073709551615)) mid left × (e ≡ expects.Count)
-      → RefusesArguments AreCompared is_count_keyword text left e
-  no_number left e r = subst (RefusesArguments AreCompared is_count_keyword text left) (sym r.1) (without_number left r.0)
-
-without_comparison : (text : List ℕ) (left : ℕ) → RefusesArgument (Finds comparison_of) text left → RefusesArguments AreCompared is_count_keyword text left expects.Comparison
-without_comparison text left r = record {
-  before = [];
-  place = r.place;
-  begins = ((by.Equal, 0), codes "=" ∷ codes "0" ∷ [], (codes "=", codes "0", refl, refl, refl));
-  expected = λ k is. ([], k, refl, is);
-  none = λ b us ws more writes same next.
-      r.none writes.0 b.0 (ap (take 1) r.place.words_before ∙ sym next ∙ ap (take 1) (sym same) ∙ ap (λ x. take 1 (x ++ more)) writes.2) writes.3;
-}
-
 pub no_comparison : (text : List ℕ) (left : ℕ) (e : Expected) → RefusesArgument (Finds comparison_of) text left × (e ≡ expects.Comparison)
     → RefusesArguments AreCompared is_count_keyword text left e
-no_comparison text left e r = subst (RefusesArguments AreCompared is_count_keyword text left) (sym r.1) (without_comparison text left r.0)
+no_comparison text left e r = record {
+  before = [];
+  place = r.0.place;
+  begins = ((by.Equal, 0), codes "=" ∷ codes "0" ∷ [], (codes "=", codes "0", refl, refl, refl));
+  expected = rw r.1 (λ k is. ([], k, refl, is));
+  none = λ b us ws more writes same next.
+      r.0.none writes.0 b.0 (ap (take 1) r.0.place.words_before ∙ sym next ∙ ap (take 1) (sym same) ∙ ap (λ x. take 1 (x ++ more)) writes.2) writes.3;
+}
 
 -- ---- keywords
 
@@ -171,18 +165,15 @@ net = record { named = λ a. refl; spelled = λ a us w. w; inverts = elim [ (ter
 -- ---- `fault`, which a kind may follow
 
 module _ (w : Word) (ws : List Word) (kind : FaultKind) (found : fault_kind_of w ≡ Some kind) where
-  no_kind : (l : Word) → fault_kind_of l ≡ None → bytes_eq w l ≡ true → ⊥
-  no_kind l none is = let same : w ≡ l = same_word w l is in cc (sym found ∙ ap fault_kind_of same ∙ none)
-
   -- it doesn't end a term
   goes_on : IsTrue (ends_term (w ∷ ws)) → ⊥
-  goes_on e = elim (or_cases (is_and w || is_or w) (bytes_eq w (codes ")")) e) [
-    | inl a ↦ elim (or_cases (is_and w) (is_or w) a) [
-      | inl b ↦ elim (or_cases (bytes_eq w (codes "and")) (bytes_eq w (codes "&&")) b) [ inl x ↦ no_kind (codes "and") refl x | inr x ↦ no_kind (codes "&&") refl x ]
-      | inr b ↦ elim (or_cases (bytes_eq w (codes "or")) (bytes_eq w (codes "||")) b) [ inl x ↦ no_kind (codes "or") refl x | inr x ↦ no_kind (codes "||") refl x ]
-    ]
-    | inr x ↦ no_kind (codes ")") refl x
-  ]
+  goes_on e =
+      let NoKind = λ (l : Word). fault_kind_of l ≡ None in
+      let none : NoKind w = elim (or_cases (is_and w || is_or w) (bytes_eq w (codes ")")) e) [
+        | inl a ↦ elim (or_cases (is_and w) (is_or w) a) [ inl b ↦ either_word NoKind w (codes "and") (codes "&&") b refl refl | inr b ↦ either_word NoKind w (codes "or") (codes "||") b refl refl ]
+        | inr x ↦ ap fault_kind_of (same_word w (codes ")") x)
+      ] in
+      cc (sym found ∙ none)
 
 fault_only : (u : Term) (us : List Word) → keyword u ≡ codes "fault" → AreArguments us u
     → ((u ≡ term.Fault) × (us ≡ [])) ⊎ ((kind : FaultKind) × (u ≡ term.FaultOf kind) × IsOne (Finds fault_kind_of) us kind)
@@ -240,24 +231,17 @@ plain_inverts k t term.Truncated us e ku au = (cc (sym e ∙ ap plain_term_of (s
 plain_inverts k t term.Incomplete us e ku au = (cc (sym e ∙ ap plain_term_of (sym ku)), au)
 plain_inverts k t u us e ku au = absurd (cc (sym e ∙ ap plain_term_of (sym ku)))
 
+keyword_known : (t : Term) → is_some (plain_term_of (keyword t)) || bytes_eq (keyword t) (codes "fault") || is_number_keyword (keyword t) || is_count_keyword (keyword t) || is_network_keyword (keyword t) ≡ true
+keyword_known (term.Version v) = refl
+keyword_known t = refl
+
 module _ (k : Word) where
   -- no term has the keyword
   pub unknown : plain_term_of k ≡ None → bytes_eq k (codes "fault") ≡ false → is_number_keyword k ≡ false → is_count_keyword k ≡ false → is_network_keyword k ≡ false
       → (t : Term) → keyword t ≡ k → ⊥
-  unknown p f n c w term.Fragment e = cc (sym p ∙ ap plain_term_of (sym e))
-  unknown p f n c w term.FirstFragment e = cc (sym p ∙ ap plain_term_of (sym e))
-  unknown p f n c w term.LaterFragment e = cc (sym p ∙ ap plain_term_of (sym e))
-  unknown p f n c w term.Truncated e = cc (sym p ∙ ap plain_term_of (sym e))
-  unknown p f n c w term.Incomplete e = cc (sym p ∙ ap plain_term_of (sym e))
-  unknown p f n c w term.Fault e = false≢true (sym f ∙ ap (λ x. bytes_eq x (codes "fault")) (sym e))
-  unknown p f n c w (term.FaultOf kind) e = false≢true (sym f ∙ ap (λ x. bytes_eq x (codes "fault")) (sym e))
-  unknown p f n c w (term.Headers x y) e = false≢true (sym c ∙ ap is_count_keyword (sym e))
-  unknown p f n c w (term.ChainBytes x y) e = false≢true (sym c ∙ ap is_count_keyword (sym e))
-  unknown p f n c w (term.Payload x y) e = false≢true (sym c ∙ ap is_count_keyword (sym e))
-  unknown p f n c w (term.Source x) e = false≢true (sym w ∙ ap is_network_keyword (sym e))
-  unknown p f n c w (term.Destination x) e = false≢true (sym w ∙ ap is_network_keyword (sym e))
-  unknown p f n c w (term.Either x) e = false≢true (sym w ∙ ap is_network_keyword (sym e))
-  unknown p f n c w t e = false≢true (sym n ∙ ap is_number_keyword (sym e))
+  unknown p f n c w t e =
+      let known : is_some (plain_term_of k) || bytes_eq k (codes "fault") || is_number_keyword k || is_count_keyword k || is_network_keyword k ≡ true = rw (← e) (keyword_known t) in
+      false≢true (rw (p, f, n, c, w) at known)
 
   module _ (t : Term) where
     one_plain : (l : Word) (u : Term) (rest : Option Term) → keyword u ≡ l → AreArguments [] u → (rest ≡ Some t → (keyword t ≡ k) × AreArguments [] t)
@@ -292,39 +276,36 @@ module _ (k : Word) where
 abbrev number_keyword : Word → Bool
 number_keyword w = bytes_eq w (codes "spi") || bytes_eq w (codes "id")
 
-as_expected : (k : Word) (text : List ℕ) (left : ℕ) (e x : Expected) → e ≡ x → RefusesTerm k text left x → RefusesTerm k text left e
-as_expected k text left e x same = subst (RefusesTerm k text left) (sym same)
-
 module _ (k : Word) (text : List ℕ) where
   pub version_read : bytes_eq k (codes "version") ≡ true → (rest : List ℕ) (a : ℕ) → ReadsArgument (Finds version_of) text a rest → ReadsTerm k text (term.Version a) rest
   version_read is rest a r = is_read _ _ _ version k is text rest a (one (Finds version_of) (found_once version_of) text rest a r)
 
   pub version_refused : bytes_eq k (codes "version") ≡ true → (left : ℕ) (e : Expected) → RefusesArgument (Finds version_of) text left × (e ≡ expects.Version) → RefusesTerm k text left e
-  version_refused is left e r = as_expected k text left e expects.Version r.1 (is_refused _ _ _ version k is (λ w. bytes_eq w (codes "version")) refl text left expects.Version (not_one (Finds version_of) (found_once version_of) (codes "4", 4, refl) (λ w. bytes_eq w (codes "version")) expects.Version (λ w t. ([], w, refl, t)) text left r.0))
+  version_refused is left e r = is_refused _ _ _ version k is (λ w. bytes_eq w (codes "version")) refl text left e (not_one (Finds version_of) (found_once version_of) (codes "4", 4, refl) (λ w. bytes_eq w (codes "version")) expects.Version (λ w t. ([], w, refl, t)) text left e r)
 
   pub header_read : bytes_eq k (codes "header") ≡ true → (rest : List ℕ) (a : ℕ) → ReadsArgument (Finds header_of) text a rest → ReadsTerm k text (term.Header a) rest
   header_read is rest a r = is_read _ _ _ header k is text rest a (one (Finds header_of) (found_once header_of) text rest a r)
 
   pub header_refused : bytes_eq k (codes "header") ≡ true → (left : ℕ) (e : Expected) → RefusesArgument (Finds header_of) text left × (e ≡ expects.Header) → RefusesTerm k text left e
-  header_refused is left e r = as_expected k text left e expects.Header r.1 (is_refused _ _ _ header k is (λ w. bytes_eq w (codes "header")) refl text left expects.Header (not_one (Finds header_of) (found_once header_of) (codes "0", 0, refl) (λ w. bytes_eq w (codes "header")) expects.Header (λ w t. ([], w, refl, t)) text left r.0))
+  header_refused is left e r = is_refused _ _ _ header k is (λ w. bytes_eq w (codes "header")) refl text left e (not_one (Finds header_of) (found_once header_of) (codes "0", 0, refl) (λ w. bytes_eq w (codes "header")) expects.Header (λ w t. ([], w, refl, t)) text left e r)
 
   pub leads_to_read : bytes_eq k (codes "leads-to") ≡ true → (rest : List ℕ) (a : ℕ) → ReadsArgument (Finds protocol_of) text a rest → ReadsTerm k text (term.LeadsTo a) rest
   leads_to_read is rest a r = is_read _ _ _ leads_to k is text rest a (one (Finds protocol_of) (found_once protocol_of) text rest a r)
 
   pub leads_to_refused : bytes_eq k (codes "leads-to") ≡ true → (left : ℕ) (e : Expected) → RefusesArgument (Finds protocol_of) text left × (e ≡ expects.Protocol) → RefusesTerm k text left e
-  leads_to_refused is left e r = as_expected k text left e expects.Protocol r.1 (is_refused _ _ _ leads_to k is (λ w. bytes_eq w (codes "leads-to")) refl text left expects.Protocol (not_one (Finds protocol_of) (found_once protocol_of) (codes "0", 0, refl) (λ w. bytes_eq w (codes "leads-to")) expects.Protocol (λ w t. ([], w, refl, t)) text left r.0))
+  leads_to_refused is left e r = is_refused _ _ _ leads_to k is (λ w. bytes_eq w (codes "leads-to")) refl text left e (not_one (Finds protocol_of) (found_once protocol_of) (codes "0", 0, refl) (λ w. bytes_eq w (codes "leads-to")) expects.Protocol (λ w t. ([], w, refl, t)) text left e r)
 
   pub spi_read : bytes_eq k (codes "spi") ≡ true → (rest : List ℕ) (a : ℕ) → ReadsArgument (Finds (number_up_to 4294967295)) text a rest → ReadsTerm k text (term.SecurityParameters a) rest
   spi_read is rest a r = is_read _ _ _ spi k is text rest a (one (Finds (number_up_to 4294967295)) (found_once (number_up_to 4294967295)) text rest a r)
 
   pub spi_refused : bytes_eq k (codes "spi") ≡ true → (left : ℕ) (e : Expected) → RefusesArgument (Finds (number_up_to 4294967295)) text left × (e ≡ expects.Number) → RefusesTerm k text left e
-  spi_refused is left e r = as_expected k text left e expects.Number r.1 (is_refused _ _ _ spi k is number_keyword refl text left expects.Number (not_one (Finds (number_up_to 4294967295)) (found_once (number_up_to 4294967295)) (codes "0", 0, refl) number_keyword expects.Number (λ w t. ([], w, refl, t)) text left r.0))
+  spi_refused is left e r = is_refused _ _ _ spi k is number_keyword refl text left e (not_one (Finds (number_up_to 4294967295)) (found_once (number_up_to 4294967295)) (codes "0", 0, refl) number_keyword expects.Number (λ w t. ([], w, refl, t)) text left e r)
 
   pub id_read : bytes_eq k (codes "id") ≡ true → (rest : List ℕ) (a : ℕ) → ReadsArgument (Finds (number_up_to 4294967295)) text a rest → ReadsTerm k text (term.Identification a) rest
   id_read is rest a r = is_read _ _ _ id k is text rest a (one (Finds (number_up_to 4294967295)) (found_once (number_up_to 4294967295)) text rest a r)
 
   pub id_refused : bytes_eq k (codes "id") ≡ true → (left : ℕ) (e : Expected) → RefusesArgument (Finds (number_up_to 4294967295)) text left × (e ≡ expects.Number) → RefusesTerm k text left e
-  id_refused is left e r = as_expected k text left e expects.Number r.1 (is_refused _ _ _ id k is number_keyword refl text left expects.Number (not_one (Finds (number_up_to 4294967295)) (found_once (number_up_to 4294967295)) (codes "0", 0, refl) number_keyword expects.Number (λ w t. ([], w, refl, t)) text left r.0))
+  id_refused is left e r = is_refused _ _ _ id k is number_keyword refl text left e (not_one (Finds (number_up_to 4294967295)) (found_once (number_up_to 4294967295)) (codes "0", 0, refl) number_keyword expects.Number (λ w t. ([], w, refl, t)) text left e r)
 
   pub headers_read : bytes_eq k (codes "headers") ≡ true → (rest : List ℕ) (c : Comparison) (n : ℕ) → ReadsArguments AreCompared text (c, n) rest → ReadsTerm k text (term.Headers c n) rest
   headers_read is rest c n r = is_read _ _ _ headers k is text rest (c, n) r
@@ -348,19 +329,19 @@ module _ (k : Word) (text : List ℕ) where
   src_read is rest a r = is_read _ _ _ src k is text rest a (one IsNetworkText one_network text rest a r)
 
   pub src_refused : bytes_eq k (codes "src") ≡ true → (left : ℕ) (e : Expected) → RefusesArgument IsNetworkText text left × (e ≡ expects.Network) → RefusesTerm k text left e
-  src_refused is left e r = as_expected k text left e expects.Network r.1 (is_refused _ _ _ src k is is_network_keyword refl text left expects.Network (not_one IsNetworkText one_network some_network is_network_keyword expects.Network (λ w t. ([], w, refl, t)) text left r.0))
+  src_refused is left e r = is_refused _ _ _ src k is is_network_keyword refl text left e (not_one IsNetworkText one_network some_network is_network_keyword expects.Network (λ w t. ([], w, refl, t)) text left e r)
 
   pub dst_read : bytes_eq k (codes "dst") ≡ true → (rest : List ℕ) (a : Network) → ReadsArgument IsNetworkText text a rest → ReadsTerm k text (term.Destination a) rest
   dst_read is rest a r = is_read _ _ _ dst k is text rest a (one IsNetworkText one_network text rest a r)
 
   pub dst_refused : bytes_eq k (codes "dst") ≡ true → (left : ℕ) (e : Expected) → RefusesArgument IsNetworkText text left × (e ≡ expects.Network) → RefusesTerm k text left e
-  dst_refused is left e r = as_expected k text left e expects.Network r.1 (is_refused _ _ _ dst k is is_network_keyword refl text left expects.Network (not_one IsNetworkText one_network some_network is_network_keyword expects.Network (λ w t. ([], w, refl, t)) text left r.0))
+  dst_refused is left e r = is_refused _ _ _ dst k is is_network_keyword refl text left e (not_one IsNetworkText one_network some_network is_network_keyword expects.Network (λ w t. ([], w, refl, t)) text left e r)
 
   pub net_read : bytes_eq k (codes "net") ≡ true → (rest : List ℕ) (a : Network) → ReadsArgument IsNetworkText text a rest → ReadsTerm k text (term.Either a) rest
   net_read is rest a r = is_read _ _ _ net k is text rest a (one IsNetworkText one_network text rest a r)
 
   pub net_refused : bytes_eq k (codes "net") ≡ true → (left : ℕ) (e : Expected) → RefusesArgument IsNetworkText text left × (e ≡ expects.Network) → RefusesTerm k text left e
-  net_refused is left e r = as_expected k text left e expects.Network r.1 (is_refused _ _ _ net k is is_network_keyword refl text left expects.Network (not_one IsNetworkText one_network some_network is_network_keyword expects.Network (λ w t. ([], w, refl, t)) text left r.0))
+  net_refused is left e r = is_refused _ _ _ net k is is_network_keyword refl text left e (not_one IsNetworkText one_network some_network is_network_keyword expects.Network (λ w t. ([], w, refl, t)) text left e r)
 
 pub at_fault : (k : Word) (text rest : List ℕ) (t : Term) → bytes_eq k (codes "fault") ≡ true → ReadsTerm (codes "fault") text t rest → ReadsTerm k text t rest
 at_fault k text rest t is = subst (λ w. ReadsTerm w text t rest) (sym (same_word k (codes "fault") is))

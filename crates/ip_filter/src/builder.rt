@@ -79,6 +79,7 @@ impl Builder {
         }
     }
 
+    #[tactic(auto, using(crate::proofs::MoveLemmas::not_read, crate::proofs::MoveLemmas::open_read, crate::proofs::MoveLemmas::no_more_groups, crate::proofs::MoveLemmas::no_term, crate::proofs::MoveLemmas::bad_term))]
     /// Reads an operand, or a word that may precede one.
     fn read_operand<'a>(&mut self, word: Word<'a>) -> Result<&'a [u8], Unexpected>
         ensures ok { IfOk result (λ rest. (text : List ℕ) (fs : List Open) (f : Open)
@@ -112,6 +113,7 @@ impl Builder {
         }
     }
 
+    #[tactic(auto, using(crate::proofs::OperatorLemmas::and_read, crate::proofs::OperatorLemmas::or_read, crate::proofs::OperatorLemmas::no_more_terms, crate::proofs::OperatorLemmas::no_operator, crate::proofs::OperatorLemmas::no_operator_or_close, crate::proofs::OperatorLemmas::closed))]
     /// Reads an operator, or the end of a group.
     fn read_operator<'a>(&mut self, word: Word<'a>) -> Result<&'a [u8], Unexpected>
         ensures ok { IfOk result (λ rest. (text : List ℕ) (fs : List Open) (o : Option (Disjunction × Text)) (c : Conjunction)
@@ -165,6 +167,7 @@ impl Builder {
         self.end_operand();
     }
 
+    #[tactic(auto, using(crate::proofs::PartStepsLemmas::alone, crate::proofs::PartStepsLemmas::joined))]
     /// Joins the operand whose steps are the last ones to what waits for it.
     fn end_operand(&mut self)
         ensures { (fs : List Open) (f : Open) (u : Operand) → HoldsOperand fs f u self.old
@@ -180,6 +183,7 @@ impl Builder {
 }
 
 impl Builder {
+    #[tactic(auto, using(crate::proofs::OperatorLemmas::finished, crate::proofs::OperatorLemmas::operand_missing, crate::proofs::OperatorLemmas::close_missing))]
     /// Returns the filter at the end of its text, or what is missing there.
     pub fn finish(mut self) -> Result<Filter, Expected>
         ensures ok { IfOk result (λ x. (s : State) → Holds s self → Fits s → IsFinished s x) }
@@ -209,6 +213,7 @@ fn push(filter: &mut Filter, kind: StepKind, nots: u64)
     }
 }
 
+#[tactic(auto, using(crate::proofs::PartStepsLemmas::negated_last))]
 /// Negates the last step of a filter more often.
 fn negate_last(filter: &mut Filter, nots: u64)
     ensures { (front : List TheStep) (x : TheStepKind) (k : ℕ)

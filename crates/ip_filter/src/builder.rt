@@ -79,7 +79,6 @@ impl Builder {
         }
     }
 
-    #[tactic(auto, using(crate::proofs::MoveLemmas::not_read, crate::proofs::MoveLemmas::open_read, crate::proofs::MoveLemmas::no_more_groups, crate::proofs::MoveLemmas::no_term, crate::proofs::MoveLemmas::bad_term))]
     /// Reads an operand, or a word that may precede one.
     fn read_operand<'a>(&mut self, word: Word<'a>) -> Result<&'a [u8], Unexpected>
         ensures ok { IfOk result (λ rest. (text : List ℕ) (fs : List Open) (f : Open)
@@ -113,7 +112,6 @@ impl Builder {
         }
     }
 
-    #[tactic(auto, using(crate::proofs::OperatorLemmas::and_read, crate::proofs::OperatorLemmas::or_read, crate::proofs::OperatorLemmas::no_more_terms, crate::proofs::OperatorLemmas::no_operator, crate::proofs::OperatorLemmas::no_operator_or_close, crate::proofs::OperatorLemmas::closed))]
     /// Reads an operator, or the end of a group.
     fn read_operator<'a>(&mut self, word: Word<'a>) -> Result<&'a [u8], Unexpected>
         ensures ok { IfOk result (λ rest. (text : List ℕ) (fs : List Open) (o : Option (Disjunction × Text)) (c : Conjunction)

@@ -62,10 +62,6 @@ pub sum_by_place : (xs ys : List ℕ) (n : ℕ) (f : ℕ → ℕ) → length xs 
 sum_by_place xs ys n f e l same = is_all_added xs (each_below n f) ys (e ∙ sym (length-each_below n f)) (l ∙ sym e) (λ i below.
     let within : i < n = omega (arith, below, e) in same i within ∙ ap (added (get_or xs i 0)) (sym (get_or-each_below n f i 0 within)))
 
--- Lists with the same counts are equal.
-pub same_counts : (xs ys : List ℕ) → length ys ≡ length xs → ((i : ℕ) → i < length xs → get_or ys i 0 ≡ get_or xs i 0) → ys ≡ xs
-same_counts xs ys e same = ext_get_or 0 ys xs e (λ i l. same i (omega (arith, l, e)))
-
 -- Equal counts make equal lists.
 pub each_below_same : (n : ℕ) (f g : ℕ → ℕ) → ((i : ℕ) → i < n → f i ≡ g i) → each_below n f ≡ each_below n g
 each_below_same n f g same = ext_get_or 0 (each_below n f) (each_below n g) (length-each_below n f ∙ sym (length-each_below n g)) (λ i l.

@@ -5,8 +5,6 @@ use Rattle.std.proofs.lemmas.List.Sums.{sum_by-cons}
 use Rattle.ip_spec.specs.Chain.{ExtHeader}
 use Rattle.ip_statistics.specs.Counts.{all_added, each_below, one_if}
 use Rattle.ip_statistics.specs.HeaderCounts.{number_counts}
-use Rattle.ip_statistics.specs.Statistics.{merged}
-use Rattle.ip_statistics.specs.declared.statistics.Statistics.{Statistics}
 use Rattle.ip_statistics.proofs.CountLemmas.{each_below_same, length-all_added, length-each_below, sum_of_none, sum_of_sums}
 
 -- the headers in a list with the number k
@@ -29,7 +27,3 @@ counted_more old xs ys c h e sum one = one
 -- None is.
 pub none_counted : (xs : List ℕ) (c : List ExtHeader) → c ≡ [] → length xs ≡ 256 → ((i : ℕ) → Fits w64 (get_or xs i 0)) → xs ≡ all_added xs (number_counts c)
 none_counted xs c none e fits = sum_of_none xs 256 (with_number c) e fits (λ i _. ap (λ hs. with_number hs i) none)
-
--- The headers are counted by number before all else.
-pub headers_first : (a b new : Statistics) (hs : List ℕ) → new ≡ record (merged (record a { headers = hs }) b) { headers = hs } → hs ≡ all_added a.headers b.headers → new ≡ merged a b
-headers_first a b new hs e f = e ∙ ap (λ zs. record (merged a b) { headers = zs }) f

@@ -42,6 +42,7 @@ pub(crate) fn count_at(counts: &mut [u64], index: usize, condition: bool)
     }
 }
 
+#[tactic(auto, using(crate::proofs::CountLemmas::is_all_added))]
 /// Adds each count of `other` to the count at its index.
 pub(crate) fn add_all(counts: &mut [u64], other: &[u64])
     requires { length counts.old ≡ length other.now }

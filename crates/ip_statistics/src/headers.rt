@@ -9,6 +9,7 @@ use crate::counts::count_at;
 use ip_base::IpNumber;
 use ip_dissect::HeaderVisitor;
 
+#[tactic(auto, using(crate::proofs::HeaderLemmas::none_counted))]
 /// Counts no header: the counts are their sums with no counts.
 #[inline(always)]
 pub(crate) fn count_none(counts: &[u64])

@@ -165,8 +165,8 @@ impl Builder {
         self.end_operand();
     }
 
-    #[tactic(auto, using(crate::proofs::PartStepsLemmas::alone, crate::proofs::PartStepsLemmas::joined))]
     /// Joins the operand whose steps are the last ones to what waits for it.
+    #[tactic(auto, using(crate::proofs::PartStepsLemmas::alone, crate::proofs::PartStepsLemmas::joined))]
     fn end_operand(&mut self)
         ensures { (fs : List Open) (f : Open) (u : Operand) → HoldsOperand fs f u self.old
             → length (state_steps (with_operand fs f u)) ≤ 127 → Holds (with_operand fs f u) self.new }
@@ -181,8 +181,8 @@ impl Builder {
 }
 
 impl Builder {
-    #[tactic(auto, using(crate::proofs::OperatorLemmas::finished, crate::proofs::OperatorLemmas::operand_missing, crate::proofs::OperatorLemmas::close_missing))]
     /// Returns the filter at the end of its text, or what is missing there.
+    #[tactic(auto, using(crate::proofs::OperatorLemmas::finished, crate::proofs::OperatorLemmas::operand_missing, crate::proofs::OperatorLemmas::close_missing))]
     pub fn finish(mut self) -> Result<Filter, Expected>
         ensures ok { IfOk result (λ x. (s : State) → Holds s self → Fits s → IsFinished s x) }
         ensures err { IfErr result (λ e. (s : State) → Holds s self
@@ -211,8 +211,8 @@ fn push(filter: &mut Filter, kind: StepKind, nots: u64)
     }
 }
 
-#[tactic(auto, using(crate::proofs::PartStepsLemmas::negated_last))]
 /// Negates the last step of a filter more often.
+#[tactic(auto, using(crate::proofs::PartStepsLemmas::negated_last))]
 fn negate_last(filter: &mut Filter, nots: u64)
     ensures { (front : List TheStep) (x : TheStepKind) (k : ℕ)
         → steps_of filter.old ≡ front ++ record { kind = x; nots = k } ∷ [] → k + nots < 2 ^ 64

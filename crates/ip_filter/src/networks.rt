@@ -35,8 +35,8 @@ pub fn parse_network(word: &[u8]) -> Option<Network>
     }
 }
 
-#[tactic(auto, using(crate::proofs::NetworkTextLemmas::slash_later, crate::proofs::NetworkTextLemmas::slash_here, crate::proofs::NetworkTextLemmas::no_slash))]
 /// Returns the index of the first slash, or the length of the word.
+#[tactic(auto, using(crate::proofs::NetworkTextLemmas::slash_later, crate::proofs::NetworkTextLemmas::slash_here, crate::proofs::NetworkTextLemmas::no_slash))]
 fn slash_index(word: &[u8]) -> usize
     ensures index { result ≡ slash_index word.now }
     ensures within { result ≤ length word.now }

@@ -28,9 +28,9 @@ impl NumberSet {
         NumberSet { bits: 0 }
     }
 
-    #[tactic(auto, using(crate::proofs::FactsLemmas::none_larger))]
     /// Returns whether an extension header has the number.
     #[inline(always)]
+    #[tactic(auto, using(crate::proofs::FactsLemmas::none_larger))]
     pub(crate) fn has(&self, number: u8) -> bool
         ensures { (c : List ExtHeader) → AllByRecursion (λ h. IsHeader h.number h.bytes) c
             → AreNumbersIn c self.now → result ≡ has_number number c }
@@ -46,8 +46,8 @@ impl HeaderVisitor for NumberSet {
 
     ghost none = { λ v k e. e };
 
-    #[tactic(auto, using(crate::proofs::FactsLemmas::set_more, crate::proofs::FactsLemmas::small_number))]
     #[inline(always)]
+    #[tactic(auto, using(crate::proofs::FactsLemmas::set_more, crate::proofs::FactsLemmas::small_number))]
     fn visit(&mut self, number: IpNumber, _header: &[u8], _index: usize, _offset: usize) {
         self.bits |= 1 << number.0;
     }

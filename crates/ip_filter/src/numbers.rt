@@ -4,8 +4,8 @@ ghost use Rattle.ip_filter.specs.Numbers.{numeral, limited, number_up_to, versio
 
 use crate::{Comparison, FaultKind};
 
-#[tactic(auto, using(crate::proofs::NumberLemmas::all_digits, crate::proofs::NumberLemmas::overflow_mul, crate::proofs::NumberLemmas::overflow_add))]
 /// Returns the number that the digits write, or `None` if they aren't digits or it doesn't fit 64 bits.
+#[tactic(auto, using(crate::proofs::NumberLemmas::all_digits, crate::proofs::NumberLemmas::overflow_mul, crate::proofs::NumberLemmas::overflow_add))]
 fn parse_digits(digits: &[u8], radix: u32) -> Option<u64>
     requires low { 2 ≤ radix }
     requires high { radix ≤ 16 }

@@ -63,8 +63,8 @@ fn plain_term(word: &[u8]) -> Option<Term>
     None
 }
 
-#[tactic(auto, using(crate::proofs::TermLemmas::fault_of, crate::proofs::TermLemmas::no_word_is_no_kind, crate::proofs::TermLemmas::other_is_no_kind))]
 /// Reads what follows the keyword `fault`, which may be a kind of fault.
+#[tactic(auto, using(crate::proofs::TermLemmas::fault_of, crate::proofs::TermLemmas::no_word_is_no_kind, crate::proofs::TermLemmas::other_is_no_kind))]
 fn read_fault(text: &[u8]) -> (Term, &[u8])
     ensures { ReadsTerm (codes "fault") text.now result.0 result.1.now }
 {
@@ -77,8 +77,8 @@ fn read_fault(text: &[u8]) -> (Term, &[u8])
     }
 }
 
-#[tactic(auto, using(crate::proofs::TermLemmas::number_terms))]
 /// Reads a term whose keyword a number or a name follows; `None` if the keyword is another.
+#[tactic(auto, using(crate::proofs::TermLemmas::number_terms))]
 fn read_number_term<'a>(word: &[u8], text: &'a [u8]) -> Option<ReadTerm<'a>>
     ensures ok { IfSome result (λ read. IfOk read (λ r. ReadsTerm word.now text.now r.0 r.1.now)) }
     ensures err { IfSome result (λ read. IfErr read (λ e. RefusesTerm word.now text.now e.left
@@ -118,8 +118,8 @@ fn read_number_term<'a>(word: &[u8], text: &'a [u8]) -> Option<ReadTerm<'a>>
     None
 }
 
-#[tactic(auto, using(crate::proofs::TermLemmas::count_read, crate::proofs::TermLemmas::no_number, crate::proofs::TermLemmas::no_comparison))]
 /// Reads a comparison and a number.
+#[tactic(auto, using(crate::proofs::TermLemmas::count_read, crate::proofs::TermLemmas::no_number, crate::proofs::TermLemmas::no_comparison))]
 fn read_count(text: &[u8]) -> Result<((Comparison, u64), &[u8]), Unexpected>
     ensures ok { IfOk result (λ r. ReadsArguments AreCompared text.now r.0 r.1.now) }
     ensures err { IfErr result (λ e. RefusesArguments AreCompared is_count_keyword
@@ -134,8 +134,8 @@ fn read_count(text: &[u8]) -> Result<((Comparison, u64), &[u8]), Unexpected>
     }
 }
 
-#[tactic(auto, using(crate::proofs::TermLemmas::count_terms))]
 /// Reads a term whose keyword a comparison follows; `None` if the keyword is another.
+#[tactic(auto, using(crate::proofs::TermLemmas::count_terms))]
 fn read_count_term<'a>(word: &[u8], text: &'a [u8]) -> Option<ReadTerm<'a>>
     ensures ok { IfSome result (λ read. IfOk read (λ r. ReadsTerm word.now text.now r.0 r.1.now)) }
     ensures err { IfSome result (λ read. IfErr read (λ e. RefusesTerm word.now text.now e.left
@@ -166,8 +166,8 @@ fn read_count_term<'a>(word: &[u8], text: &'a [u8]) -> Option<ReadTerm<'a>>
     None
 }
 
-#[tactic(auto, using(crate::proofs::TermLemmas::network_terms))]
 /// Reads a term whose keyword a network follows; `None` if the keyword is another.
+#[tactic(auto, using(crate::proofs::TermLemmas::network_terms))]
 fn read_network_term<'a>(word: &[u8], text: &'a [u8]) -> Option<ReadTerm<'a>>
     ensures ok { IfSome result (λ read. IfOk read (λ r. ReadsTerm word.now text.now r.0 r.1.now)) }
     ensures err { IfSome result (λ read. IfErr read (λ e. RefusesTerm word.now text.now e.left

@@ -171,9 +171,9 @@ impl Truths {
         }
     }
 
-    #[tactic(auto, using(crate::proofs::BitsLemmas::appended))]
     /// Appends a truth.
     #[inline(always)]
+    #[tactic(auto, using(crate::proofs::BitsLemmas::appended))]
     fn push(&mut self, truth: bool)
         requires { self.old.count < 127 }
         ensures items { truths_in self.new ≡ truths_in self.old ++ truth ∷ [] }
@@ -187,9 +187,9 @@ impl Truths {
         self.count += 1;
     }
 
-    #[tactic(auto, using(crate::proofs::BitsLemmas::left_alone))]
     /// Joins the last two truths, if there are two, and negates the result `nots` times.
     #[inline(always)]
+    #[tactic(auto, using(crate::proofs::BitsLemmas::left_alone))]
     fn join(&mut self, is_and: bool, nots: u64)
         ensures truths { (h : Term → Bool) (fs : List Formula) → AreTruths h fs (truths_in self.old)
             → AreTruths h (after_step (if is_and then And else Or) nots fs) (truths_in self.new) }
@@ -205,9 +205,9 @@ impl Truths {
         self.count -= 1;
     }
 
-    #[tactic(auto, using(crate::proofs::BitsLemmas::last_told, crate::proofs::BitsLemmas::none_told))]
     /// Returns the last truth; false without one.
     #[inline(always)]
+    #[tactic(auto, using(crate::proofs::BitsLemmas::last_told, crate::proofs::BitsLemmas::none_told))]
     fn last_of_all(&self) -> bool
         ensures { (h : Term → Bool) (fs : List Formula) → AreTruths h fs (truths_in self.now)
             → result ≡ last_holds fs h }
@@ -231,9 +231,9 @@ fn joined(is_and: bool, first: bool, second: bool) -> bool
     }
 }
 
-#[tactic(auto, using(crate::proofs::FormulaLemmas::negated_odd, crate::proofs::FormulaLemmas::negated_even))]
 /// Returns a formula's truth after it was negated `nots` times.
 #[inline(always)]
+#[tactic(auto, using(crate::proofs::FormulaLemmas::negated_odd, crate::proofs::FormulaLemmas::negated_even))]
 fn negated(truth: bool, nots: u64) -> bool
     ensures { (f : Formula) (h : Term → Bool) → truth_of f h ≡ truth
         → result ≡ truth_of (negated nots f) h }

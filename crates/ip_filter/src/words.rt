@@ -14,8 +14,8 @@ pub struct Word<'a> {
     pub rest: &'a [u8],
 }
 
-#[tactic(auto, using(crate::proofs::WordLemmas::first_of, crate::proofs::WordLemmas::no_words))]
 /// Returns the first word of a text.
+#[tactic(auto, using(crate::proofs::WordLemmas::first_of, crate::proofs::WordLemmas::no_words))]
 pub fn first_word(text: &[u8]) -> Option<Word<'_>>
     ensures some { IfSome result (IsFirstWord text.now) }
     ensures shorter { IfSome result (λ w. length w.rest.now < length text.now) }
@@ -33,8 +33,8 @@ pub fn first_word(text: &[u8]) -> Option<Word<'_>>
     })
 }
 
-#[tactic(auto, using(crate::proofs::WordLemmas::skip, crate::proofs::WordLemmas::no_words))]
 /// Returns the text without the white space that it begins with.
+#[tactic(auto, using(crate::proofs::WordLemmas::skip, crate::proofs::WordLemmas::no_words))]
 fn skip_spaces(text: &[u8]) -> &[u8]
     ensures words { words result.now ≡ words text.now }
     ensures shorter { length result.now ≤ length text.now }
@@ -49,8 +49,8 @@ fn skip_spaces(text: &[u8]) -> &[u8]
     &[]
 }
 
-#[tactic(auto, using(crate::proofs::WordLemmas::word_goes_on, crate::proofs::WordLemmas::word_ends, crate::proofs::WordLemmas::last_byte))]
 /// Returns the length of the word that the bytes begin with.
+#[tactic(auto, using(crate::proofs::WordLemmas::word_goes_on, crate::proofs::WordLemmas::word_ends, crate::proofs::WordLemmas::last_byte))]
 fn len_of_word(bytes: &[u8]) -> usize
     requires { 0 < length bytes.now }
     ensures len { result ≡ word_len bytes.now }

@@ -42,8 +42,8 @@ pub(crate) fn count_at(counts: &mut [u64], index: usize, condition: bool)
     }
 }
 
-#[tactic(auto, using(crate::proofs::CountLemmas::is_all_added))]
 /// Adds each count of `other` to the count at its index.
+#[tactic(auto, using(crate::proofs::CountLemmas::is_all_added))]
 pub(crate) fn add_all(counts: &mut [u64], other: &[u64])
     requires { length counts.old ≡ length other.now }
     ensures sums { counts.new ≡ all_added counts.old other.now }

@@ -9,9 +9,9 @@ use crate::counts::count_at;
 use ip_base::IpNumber;
 use ip_dissect::HeaderVisitor;
 
-#[tactic(auto, using(crate::proofs::HeaderLemmas::none_counted))]
 /// Counts no header: the counts are their sums with no counts.
 #[inline(always)]
+#[tactic(auto, using(crate::proofs::HeaderLemmas::none_counted))]
 pub(crate) fn count_none(counts: &[u64])
     requires { length counts.now ≡ 256 }
     ensures { AreCounts counts.now }

@@ -1,6 +1,7 @@
 //! Callers of `ip_dissect`.
-ghost use Rattle.std.specs.Prelude.{◌≡◌, ℕ, List, length, is_some, IfSome};
-ghost use Rattle.ip_dissect.specs.Dissection.{HasParts, dissected};
+ghost use Rattle.std.specs.Prelude.{◌≡◌, ℕ, List, length, is_some, not, IfSome};
+ghost use Rattle.ip_spec.specs.Chain.{is_empty};
+ghost use Rattle.ip_dissect.specs.Dissection.{HasParts, dissected, version_of};
 ghost use Rattle.ip_dissect.specs.Outline.{is_plain};
 ghost use Rattle.ip_dissect.specs.declared.end.End.TheVariants.{Payload};
 
@@ -53,4 +54,12 @@ pub fn plain_payload(bytes: &[u8]) -> Option<(IpNumber, usize)>
         Visited::Plain(payload) => Some(payload),
         Visited::Slow(()) => None,
     }
+}
+
+/// Returns whether an IPv4 packet has an authentication header.
+pub fn is_authenticated(packet: &Dissection<'_>) -> bool
+    ensures { version_of packet.now ≡ 4 → (s : List ℕ) → HasParts (dissected s) packet.now
+        → result ≡ not (is_empty (dissected s).headers) }
+{
+    packet.ipv4_authentication().is_some()
 }

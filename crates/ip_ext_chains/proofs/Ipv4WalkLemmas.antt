@@ -1,5 +1,5 @@
 -- The encoding of IPv4 extension headers, and the value that it parses to.
-use Rattle.ip_spec.proofs.Common.{◌≡◌, ℕ, ◌<◌, List, ◌++◌, length, drop, refl, sym, ap, ◌∙◌, subst, arith, inl, inr, rules, [], Option, Some, None, Ok, ◌↔◌, slice_range, AllByRecursion, option_map_or, ne_eqb, eqb_tells, append-nil, append_cancel_left, length-append, All-set, All-take, All-drop, IsPrefix, auth, AuthFields, auth_fields, cleared_header, AreBytes, AppendsOne, IsAuthEncoding, IsCleared, cleared_chain, ExtHeader, bytes_of, AtMostOneOf, IsEndUnder, IsParsed, auth_header, IsEncoded, slice_set}
+use Rattle.ip_spec.proofs.Common.{◌≡◌, ℕ, ◌<◌, List, ◌++◌, length, drop, refl, sym, ap, ◌∙◌, subst, arith, inl, inr, rules, [], Option, Some, None, Ok, ◌↔◌, slice_range, AllByRecursion, option_map_or, ne_eqb, eqb_tells, append-nil, append_cancel_left, length-append, All-set, All-take, All-drop, IsPrefix, IsAuthHeader, next_header, auth, AuthFields, auth_fields, cleared_header, AreBytes, AppendsOne, IsAuthEncoding, IsCleared, cleared_chain, ExtHeader, bytes_of, AtMostOneOf, IsEndUnder, IsParsed, auth_header, IsEncoded, slice_set}
 use Rattle.std.specs.declared.result.Result.{Result}
 use Rattle.ip_base.specs.declared.ip_number_impl.IpNumber.{IpNumber}
 use Rattle.ip_base.specs.declared.len_source.LenSource.TheVariants.{Slice}
@@ -16,7 +16,7 @@ use Rattle.ip_ext_slices.specs.Ipv4Longest.{longest_ipv4_chain}
 use Rattle.ip_ext_chains.specs.Ipv4Parse.{ipv4_value, IsIpv4Answer}
 use Rattle.ip_ext_slices.specs.Ipv4Fault.{ipv4_faults}
 use Rattle.ip_ext_chains.specs.Ipv4Walk.{ipv4_walk, IsIpv4Encoding}
-use Rattle.ip_ext_slices.proofs.Ipv4Lemmas.{ipv4_longest, chain_of, by_one}
+use Rattle.ip_ext_slices.proofs.Ipv4Lemmas.{ipv4_longest, one_longest, chain_of, by_one}
 
 -- a value determines its encoding
 encoding_is : (f : ℕ) (v : Option AuthFields) (b : List ℕ) → IsIpv4Encoding f v b → b ≡ option_map_or auth_written v []
@@ -116,3 +116,7 @@ leads_parsed f (Some w) m encoded walk = elim (eqb_tells f 51) [
 
 pub walk_parsed : (f : ℕ) (v : Option AuthFields) (m : IpNumber) (x : Result IpNumber ExtsWalkError) → ((w : AuthFields) → v ≡ Some w → CanBe w) → x ≡ ipv4_walk v f → (x ≡ Ok m) ↔ ((s : List ℕ) × IsParsedAs v f m.0 s)
 walk_parsed f v m x encoded is = search (rules, leads_parsed, parsed_leads)
+
+-- the result of a parse where the number is 51 and an authentication header starts the bytes
+pub answer_of_one : (n : ℕ) (s b : List ℕ) (m : ℕ) (r : List ℕ) → n ≡ 51 → IsAuthHeader b → IsPrefix b s → m ≡ next_header b → r ≡ drop (length b) s → IsIpv4Answer (λ c. c) n s (chain_of b) m r None
+answer_of_one n s b m r e header prefix number rest = search (rules, one_longest, append-nil)

@@ -9,9 +9,8 @@ ghost use Rattle.ip_ext_chains.specs.Ipv4Parse.{IsIpv4Answer, ipv4_value};
 
 use crate::Ipv4Extensions;
 use crate::err::ip_auth::HeaderSliceError;
-use ip_base::IpNumber;
+use ip_base::{IpNumber, ip_number};
 use ip_ext_headers::IpAuthHeaderSlice;
-use ip_ext_slices::authentication_header_at;
 
 /// The extension headers of an IPv4 packet, borrowed from the caller's bytes: an authentication header (RFC 4302,
 /// section 2), or none. Two are equal if their headers' bytes are.
@@ -30,7 +29,7 @@ impl<'a> Ipv4ExtensionsSlice<'a> {
     /// The bytes after a header aren't parsed, even if its next header is 51 again. Of truncated bytes, as in a
     /// capture, it returns the header if it lies wholly within them.
     #[inline(always)]
-    #[tactic(auto, using(ip_ext_slices::proofs::Ipv4Lemmas::whole_header))]
+    #[tactic(auto, using(ip_ext_slices::proofs::Ipv4Lemmas::whole_header, ip_ext_slices::proofs::Ipv4Lemmas::none_longest))]
     pub fn from_slice_lax(
         start_ip_number: IpNumber,
         start_slice: &'a [u8],
@@ -48,9 +47,11 @@ impl<'a> Ipv4ExtensionsSlice<'a> {
             ≡ headers_within j (headers_in result.0) }
     {
         let none = Ipv4ExtensionsSlice { auth: None };
-        match authentication_header_at(start_ip_number, start_slice) {
-            Ok(None) => (none, start_ip_number, start_slice, None),
-            Ok(Some(header)) => {
+        if start_ip_number != ip_number::AUTH {
+            return (none, start_ip_number, start_slice, None);
+        }
+        match IpAuthHeaderSlice::from_slice(start_slice) {
+            Ok(header) => {
                 let rest = &start_slice[header.slice().len()..];
                 let found = Ipv4ExtensionsSlice { auth: Some(header) };
                 (found, header.next_header(), rest, None)
@@ -70,12 +71,12 @@ impl<'a> Ipv4ExtensionsSlice<'a> {
         ensures fault { IfErr result (λ e.
             ipv4_chain_fault start_ip_number.0 start_slice.now ≡ Some e) }
     {
-        match authentication_header_at(start_ip_number, start_slice) {
-            Ok(None) => {
-                let none = Ipv4ExtensionsSlice { auth: None };
-                Ok((none, start_ip_number, start_slice))
-            }
-            Ok(Some(header)) => {
+        if start_ip_number != ip_number::AUTH {
+            let none = Ipv4ExtensionsSlice { auth: None };
+            return Ok((none, start_ip_number, start_slice));
+        }
+        match IpAuthHeaderSlice::from_slice(start_slice) {
+            Ok(header) => {
                 let rest = &start_slice[header.slice().len()..];
                 let found = Ipv4ExtensionsSlice { auth: Some(header) };
                 Ok((found, header.next_header(), rest))

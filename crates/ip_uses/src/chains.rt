@@ -1,21 +1,18 @@
 //! Callers of chains.
-ghost use Rattle.std.specs.Prelude.{◌≡◌, ◌==◌, ◌↔◌, List, length, take, true, false, Some, IsTrue, IfOk, IfErr, IfSome};
+ghost use Rattle.std.specs.Prelude.{◌≡◌, ◌==◌, ◌↔◌, List, length, take, true, false, IsTrue, IfOk, IfSome, IfNone};
 ghost use Rattle.std.specs.Option.{option_map};
 ghost use Rattle.std.specs.List.{find};
 ghost use Rattle.ip_spec.specs.Numbers.{FRAGMENT};
-ghost use Rattle.ip_spec.specs.Chain.{ExtHeader, IsNext, bytes_of, has_fragmenting, leads_to};
+ghost use Rattle.ip_spec.specs.Chain.{ExtHeader, IsNext, IsEnd, bytes_of, has_fragmenting, leads_to};
 ghost use Rattle.ip_spec.specs.Parse.{rest_after};
 ghost use Rattle.ip_spec.specs.Demand.{AtMost, IsLongestUnder};
 ghost use Rattle.ip_ext_slices.specs.Longest.{longest_chain};
-ghost use Rattle.ip_ext_slices.specs.ChainFault.{slice_fault};
 ghost use Rattle.ip_ext_slices.specs.Ipv6ExtensionSlice.{header_of};
 ghost use Rattle.ip_ext_slices.specs.Ipv6ExtensionsSlice.{bytes};
 
-use ip_base::err::Layer;
 use ip_base::{IpNumber, ip_number};
-use ip_ext_chains::err::ipv6_exts::HeaderSliceError;
 use ip_ext_chains::{Ipv6ExtensionSlice, Ipv6ExtensionsCursor, Ipv6ExtensionsSlice};
-use ip_ext_slices::{fault, header_len_at, is_extension};
+use ip_ext_slices::header_len_at;
 use std::alloc::{AllocError, Global};
 
 /// Returns how many extension headers are at the start of the bytes.
@@ -129,21 +126,12 @@ pub fn count_in_one_pass(start: IpNumber, packet: &[u8]) -> usize
 }
 
 /// Returns the bytes of the header of this number at the start of a packet's extension headers, which no header
-/// precedes, or the error there; `None` if the number is no extension header's.
-pub fn first_header(
-    number: IpNumber,
-    packet: &[u8],
-) -> Option<Result<&[u8], (HeaderSliceError, Layer)>>
-    ensures header { IfSome result (λ r. IfOk r (λ h. IsNext true number.0 packet.now
-        record { number = number.0; bytes = h.now })) }
-    ensures fault { IfSome result (λ r. IfErr r (λ e.
-        slice_fault 0 true number.0 packet.now ≡ Some e)) }
+/// precedes; `None` if the chain ends there.
+pub fn first_header(number: IpNumber, packet: &[u8]) -> Option<&[u8]>
+    ensures header { IfSome result (λ h. IsNext true number.0 packet.now
+        record { number = number.0; bytes = h.now }) }
+    ensures end { IfNone result (IsEnd true number.0 packet.now) }
 {
-    if !is_extension(number) {
-        return None;
-    }
-    match header_len_at(true, number, packet) {
-        Some(len) => Some(Ok(&packet[..len])),
-        None => Some(Err(fault(true, number, packet, 0))),
-    }
+    let len = header_len_at(true, number, packet)?;
+    Some(&packet[..len])
 }

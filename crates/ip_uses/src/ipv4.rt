@@ -1,5 +1,5 @@
 //! Callers of IPv4 extension headers.
-ghost use Rattle.std.specs.Prelude.{◌≡◌, ◌++◌, ℕ, List, [], None, length, IfOk, IfSome, OnErr, OnNone, OnSome, IsTrue};
+ghost use Rattle.std.specs.Prelude.{◌≡◌, ◌++◌, ℕ, List, [], None, length, IfOk, IfSome, IfNone, OnErr, IsTrue};
 ghost use Rattle.std.specs.Option.{option_map};
 ghost use Rattle.ip_spec.specs.Fields.{AuthFields};
 ghost use Rattle.ip_spec.specs.Numbers.{AUTHENTICATION};
@@ -53,8 +53,8 @@ pub fn forms_agree(start: IpNumber, packet: &[u8]) -> bool
 pub fn authentication_len(number: IpNumber, after_base: &[u8]) -> Option<usize>
     ensures len { IfSome result (λ n. n
         ≡ length (bytes_of (longest_ipv4_chain number.0 after_base.now))) }
-    ensures whole { OnSome result (ipv4_chain_fault number.0 after_base.now ≡ None) }
-    ensures none { OnNone result (longest_ipv4_chain number.0 after_base.now ≡ []) }
+    ensures whole { IfSome result (λ _. ipv4_chain_fault number.0 after_base.now ≡ None) }
+    ensures none { IfNone result (longest_ipv4_chain number.0 after_base.now ≡ []) }
 {
     match authentication_header_at(number, after_base) {
         Ok(Some(header)) => Some(header.slice().len()),

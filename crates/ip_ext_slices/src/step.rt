@@ -111,7 +111,7 @@ fn cause(first: bool, number: IpNumber, bytes: &[u8]) -> Result<(usize, Layer), 
 
 /// Returns the error at an extension header's number where the chain ends, with `bytes` left, `offset` bytes after its
 /// start, and the layer that the error is in. `first` says that no header precedes it. Each kind of error is built where
-/// it is returned. Call it where code is cold already: it is inlined, so that the error isn't moved through memory.
+/// it is returned. Inlined, so that a caller that is kept out of line itself doesn't move the error through memory.
 #[inline(always)]
 pub fn fault(
     first: bool,
@@ -143,7 +143,7 @@ pub fn fault(
     (HeaderSliceError::Len(error), layer)
 }
 
-/// As `fault`, out of line, since most chains end without an error.
+/// Returns what `fault` returns. Kept out of line, since most chains end without an error.
 #[cold]
 #[inline(never)]
 pub(crate) fn cold_fault(

@@ -118,7 +118,7 @@ impl DissectionParts {
         self.put_fragment(outline.fragment);
         self.version = u16::from(outline.version);
         self.payload_number = u16::from(outline.next_header.0);
-        // Apart, so that an error's fields are read where they were stored, and aren't moved first.
+        // In two branches, so that an error's fields are read where they were stored, and aren't moved first.
         if outline.has_error {
             let end = packet.end();
             self.fault.put(FaultFields::of_end(&end));

@@ -27,8 +27,8 @@ pub fn decode(text: &[u8], bytes: &mut [u8]) -> bool
     hex::decode_to_slice(&text[2 * at..], &mut bytes[at..]).is_ok()
 }
 
-/// Stores the bytes of the block that starts at byte `at`. Returns whether all its digits are digits. Those before it
-/// stay decoded.
+/// Stores the bytes of the block that starts at byte `at`. Returns whether all its digits are digits. The bytes before
+/// it are kept.
 #[inline(always)]
 fn decode_block(text: &[u8], at: usize, bytes: &mut [u8]) -> bool
     requires twice { length text.now ≡ 2 * length bytes.old }

@@ -110,8 +110,9 @@ fn cause(first: bool, number: IpNumber, bytes: &[u8]) -> Result<(usize, Layer), 
 }
 
 /// Returns the error at an extension header's number where the chain ends, with `bytes` left, `offset` bytes after its
-/// start, and the layer that the error is in. `first` says that no header precedes it. Each kind of error is built where
-/// it is returned. Inlined, so that a caller that is kept out of line itself doesn't move the error through memory.
+/// start, and the layer that the error is in. `first` says that no header precedes it. Each kind of error is built
+/// where it is returned. Inlined, so that a caller that is kept out of line itself doesn't move the error through
+/// memory.
 #[inline(always)]
 pub fn fault(
     first: bool,

@@ -7,7 +7,7 @@ import re
 
 ROOT = os.path.dirname(os.path.dirname(os.path.abspath(__file__)))
 CRATES = sorted(os.listdir(f"{ROOT}/crates"))
-IMPL = re.compile(r"impl(?:<.*?>)? (?:(?P<trait>\S.*?) for )?(?P<self>(?P<type>\w+|&\[u8\])(?:<.*>)?) (?:where .*)?\{")
+IMPL = re.compile(r"impl(?:<.*?>)? (?:(?P<trait>\S.*?) for )?(?P<self>(?P<type>\w+|&\[u8\]|\([^()]*\))(?:<.*>)?) (?:where .*)?\{")
 TRAIT = re.compile(r"pub trait (?P<name>\w+)(?:<[^>]*>)?(?:: [\w +]+)? \{")
 ITEM = re.compile(r"    type Item = (?P<type>.*);")
 FN = re.compile(r"(?P<at> *)(?P<pub>pub )?(?:const )?fn (?P<name>\w+)(?P<rest>.*)")

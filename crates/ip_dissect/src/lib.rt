@@ -29,6 +29,6 @@ pub use fragment::{Fragment, FragmentKind};
 pub use outline::Outline;
 pub use packet::Packet;
 pub use start::PacketStart;
-pub use visitor::{HeaderVisitor, NoVisitor, PacketVisitor, Visited};
-pub use walk_visitor::{Both, WalkVisitor};
+pub use visitor::{HeaderVisitor, PacketVisitor, Visited};
+pub use walk_visitor::WalkVisitor;
 pub use walks::{dissect, outline_packet};

@@ -26,11 +26,8 @@ pub trait HeaderVisitor {
     ghost none: { (v : Self) (k : ℕ) → visited v k [] v };
 }
 
-/// A visitor that does nothing.
-#[derive(Clone, Copy, Debug)]
-pub struct NoVisitor;
-
-impl HeaderVisitor for NoVisitor {
+/// No visitor: nothing is done with a header.
+impl HeaderVisitor for () {
     ghost visited = { λ old k c new. old ≡ new };
 
     ghost none = { λ v k. refl };

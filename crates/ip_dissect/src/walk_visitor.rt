@@ -59,38 +59,30 @@ impl<'a, W: WalkVisitor> PacketVisitor<'a> for Walking<'_, W> {
 }
 
 /// Two visitors in one walk: each visits every extension header and then the packet.
-#[derive(Debug, Drop)]
-pub struct Both<'f, 's, A, B> {
-    /// Visits first.
-    pub first: &'f mut A,
-    /// Visits second.
-    pub second: &'s mut B,
-}
-
-impl<A: HeaderVisitor, B: HeaderVisitor> HeaderVisitor for Both<'_, '_, A, B> {
-    ghost visited = { λ old k c new. (new.first.ghost_name ≡ old.first.ghost_name)
-        × (new.second.ghost_name ≡ old.second.ghost_name)
-        × A.visited old.first.now k c new.first.now
-        × B.visited old.second.now k c new.second.now };
+impl<A: HeaderVisitor, B: HeaderVisitor> HeaderVisitor for (&mut A, &mut B) {
+    ghost visited = { λ old k c new. (new.0.ghost_name ≡ old.0.ghost_name)
+        × (new.1.ghost_name ≡ old.1.ghost_name)
+        × A.visited old.0.now k c new.0.now
+        × B.visited old.1.now k c new.1.now };
 
     ghost none = { Prim.search rules };
 
     #[inline(always)]
     fn visit(&mut self, number: IpNumber, header: &[u8], index: usize, offset: usize) {
-        self.first.visit(number, header, index, offset);
-        self.second.visit(number, header, index, offset);
+        self.0.visit(number, header, index, offset);
+        self.1.visit(number, header, index, offset);
     }
 }
 
-impl<A: WalkVisitor, B: WalkVisitor> WalkVisitor for Both<'_, '_, A, B> {
-    ghost walked = { λ old s new. (new.first.ghost_name ≡ old.first.ghost_name)
-        × (new.second.ghost_name ≡ old.second.ghost_name)
-        × A.walked old.first.now s new.first.now
-        × B.walked old.second.now s new.second.now };
+impl<A: WalkVisitor, B: WalkVisitor> WalkVisitor for (&mut A, &mut B) {
+    ghost walked = { λ old s new. (new.0.ghost_name ≡ old.0.ghost_name)
+        × (new.1.ghost_name ≡ old.1.ghost_name)
+        × A.walked old.0.now s new.0.now
+        × B.walked old.1.now s new.1.now };
 
     #[inline(always)]
     fn end(&mut self, packet: &Packet<'_>) {
-        self.first.end(packet);
-        self.second.end(packet);
+        self.0.end(packet);
+        self.1.end(packet);
     }
 }

@@ -4,7 +4,7 @@ ghost use Rattle.ip_dissect.specs.End.{has_error};
 ghost use Rattle.ip_dissect.specs.Dissection.{HasParts, dissected, base_of};
 ghost use Rattle.ip_dissect.specs.Outline.{outline_of};
 
-use crate::{Dissection, HeaderVisitor, NoVisitor, Outline, Packet, PacketStart};
+use crate::{Dissection, HeaderVisitor, Outline, Packet, PacketStart};
 
 impl<'a> Packet<'a> {
     /// Walks the packet at the start of `bytes`, which may be any bytes: parses the base header, passes each extension
@@ -28,7 +28,7 @@ pub fn dissect(bytes: &[u8]) -> Dissection<'_>
     ensures joined { base_of result ++ result.extensions.now ++ result.payload.now
         ++ result.padding.now ≡ bytes.now }
 {
-    Packet::walk(bytes, &mut NoVisitor).dissection()
+    Packet::walk(bytes, &mut ()).dissection()
 }
 
 /// Outlines the packet at the start of `bytes`, which may be any bytes. Returns `None` exactly if its headers end with
@@ -41,7 +41,7 @@ pub fn outline_packet(bytes: &[u8]) -> Option<Outline>
     ensures within { IfSome result (λ o. o.base_len + o.extensions_len + o.payload_len
         + o.padding_len ≡ length bytes.now) }
 {
-    let packet = Packet::walk(bytes, &mut NoVisitor);
+    let packet = Packet::walk(bytes, &mut ());
     if packet.outline.has_error {
         return None;
     }

@@ -10,7 +10,7 @@ use crate::headers::count_none;
 use crate::lengths::count_length;
 use ip_codes::{end_code_of, kind_code_of};
 use ip_dissect::FragmentKind::{Atomic, First, Last, Middle};
-use ip_dissect::{Both, End, Fragment, FragmentKind, Outline, Packet, WalkVisitor};
+use ip_dissect::{End, Fragment, FragmentKind, Outline, Packet, WalkVisitor};
 
 /// The codes of ends.
 mod at {
@@ -72,13 +72,7 @@ impl Statistics {
         ensures visited { W.walked visitor.old bytes.now visitor.new }
     {
         count_none(&self.headers);
-        Packet::walk_through(
-            bytes,
-            &mut Both {
-                first: self,
-                second: visitor,
-            },
-        );
+        Packet::walk_through(bytes, &mut (self, visitor));
     }
 
     /// Adds all counts of a packet with this outline and end but those of its extension headers by number.

@@ -15,7 +15,7 @@ use crate::{Comparison, Expected, Network};
 
 /// What is wrong in a text.
 #[derive(Clone, Copy)]
-pub struct Unexpected {
+pub(crate) struct Unexpected {
     /// How many bytes there are from the word that isn't expected to the end of the text; 0 if a word is missing.
     pub left: usize,
     /// What is expected there.
@@ -24,7 +24,7 @@ pub struct Unexpected {
 
 impl Word<'_> {
     /// Returns the error that something else is expected in place of this word.
-    pub fn unexpected(&self, expected: Expected) -> Unexpected
+    pub(crate) fn unexpected(&self, expected: Expected) -> Unexpected
         ensures { result ≡ record { left = self.now.left; expected = expected } }
     {
         Unexpected {
@@ -47,7 +47,7 @@ fn argument(text: &[u8], expected: Expected) -> Result<Word<'_>, Unexpected>
 }
 
 /// Reads an IP version.
-pub fn read_version(text: &[u8]) -> Result<(u8, &[u8]), Unexpected>
+pub(crate) fn read_version(text: &[u8]) -> Result<(u8, &[u8]), Unexpected>
     ensures ok { IfOk result (λ r. ReadsArgument (Finds version_of) text.now r.0 r.1.now) }
     ensures err { IfErr result (λ e. RefusesArgument (Finds version_of) text.now e.left
         × (e.expected ≡ expects.Version)) }
@@ -60,7 +60,7 @@ pub fn read_version(text: &[u8]) -> Result<(u8, &[u8]), Unexpected>
 }
 
 /// Reads the name or number of an extension header.
-pub fn read_header(text: &[u8]) -> Result<(u8, &[u8]), Unexpected>
+pub(crate) fn read_header(text: &[u8]) -> Result<(u8, &[u8]), Unexpected>
     ensures ok { IfOk result (λ r. ReadsArgument (Finds header_of) text.now r.0 r.1.now) }
     ensures err { IfErr result (λ e. RefusesArgument (Finds header_of) text.now e.left
         × (e.expected ≡ expects.Header)) }
@@ -73,7 +73,7 @@ pub fn read_header(text: &[u8]) -> Result<(u8, &[u8]), Unexpected>
 }
 
 /// Reads the name or number of a protocol.
-pub fn read_protocol(text: &[u8]) -> Result<(u8, &[u8]), Unexpected>
+pub(crate) fn read_protocol(text: &[u8]) -> Result<(u8, &[u8]), Unexpected>
     ensures ok { IfOk result (λ r. ReadsArgument (Finds protocol_of) text.now r.0 r.1.now) }
     ensures err { IfErr result (λ e. RefusesArgument (Finds protocol_of) text.now e.left
         × (e.expected ≡ expects.Protocol)) }
@@ -86,7 +86,11 @@ pub fn read_protocol(text: &[u8]) -> Result<(u8, &[u8]), Unexpected>
 }
 
 /// Reads a number of at most `most`.
-pub fn read_number(text: &[u8], most: u64, expected: Expected) -> Result<(u64, &[u8]), Unexpected>
+pub(crate) fn read_number(
+    text: &[u8],
+    most: u64,
+    expected: Expected,
+) -> Result<(u64, &[u8]), Unexpected>
     ensures ok { IfOk result (λ r. ReadsArgument (Finds (number_up_to most)) text.now r.0 r.1.now) }
     ensures err { IfErr result (λ e. RefusesArgument (Finds (number_up_to most)) text.now e.left
         × (e.expected ≡ expected)) }
@@ -99,7 +103,7 @@ pub fn read_number(text: &[u8], most: u64, expected: Expected) -> Result<(u64, &
 }
 
 /// Reads a comparison.
-pub fn read_comparison(text: &[u8]) -> Result<(Comparison, &[u8]), Unexpected>
+pub(crate) fn read_comparison(text: &[u8]) -> Result<(Comparison, &[u8]), Unexpected>
     ensures ok { IfOk result (λ r. ReadsArgument (Finds comparison_of) text.now r.0 r.1.now) }
     ensures err { IfErr result (λ e. RefusesArgument (Finds comparison_of) text.now e.left
         × (e.expected ≡ expects.Comparison)) }
@@ -112,7 +116,7 @@ pub fn read_comparison(text: &[u8]) -> Result<(Comparison, &[u8]), Unexpected>
 }
 
 /// Reads a network.
-pub fn read_network(text: &[u8]) -> Result<(Network, &[u8]), Unexpected>
+pub(crate) fn read_network(text: &[u8]) -> Result<(Network, &[u8]), Unexpected>
     ensures ok { IfOk result (λ r. ReadsArgument IsNetworkText text.now r.0 r.1.now) }
     ensures err { IfErr result (λ e. RefusesArgument IsNetworkText text.now e.left
         × (e.expected ≡ expects.Network)) }

@@ -21,7 +21,7 @@ const MAX_TERMS: usize = 64;
 
 /// The text or an open group: what waits for the next operand there.
 #[derive(Clone, Copy, Default)]
-pub struct Level {
+pub(crate) struct Level {
     /// How many words `not` precede it.
     pub nots: u64,
     /// Whether an `or` does, after its left operand.
@@ -32,7 +32,7 @@ pub struct Level {
 
 /// A filter while its text is read.
 #[derive(Drop)]
-pub struct Builder {
+pub(crate) struct Builder {
     /// The steps so far.
     pub filter: Filter,
     /// How many terms there are.
@@ -47,7 +47,7 @@ pub struct Builder {
 
 impl Builder {
     /// Returns the start of a filter.
-    pub fn new() -> Builder
+    pub(crate) fn new() -> Builder
         ensures { Holds (before [] nothing) result }
     {
         Builder {
@@ -66,7 +66,7 @@ impl Builder {
     }
 
     /// Reads on from the word, and returns the text after what was read.
-    pub fn read<'a>(&mut self, word: Word<'a>) -> Result<&'a [u8], Unexpected>
+    pub(crate) fn read<'a>(&mut self, word: Word<'a>) -> Result<&'a [u8], Unexpected>
         ensures ok { IfOk result (λ rest. (text : List ℕ) (s : State) → IsFirstWord text word.entry
             → Holds s self.old → Fits s → ReadsOn s text rest.now self.new) }
         ensures err { IfErr result (λ e. (text : List ℕ) (s : State) → IsFirstWord text word.entry
@@ -183,7 +183,7 @@ impl Builder {
 impl Builder {
     /// Returns the filter at the end of its text, or what is missing there.
     #[tactic(auto, using(crate::proofs::OperatorLemmas::finished, crate::proofs::OperatorLemmas::operand_missing, crate::proofs::OperatorLemmas::close_missing))]
-    pub fn finish(mut self) -> Result<Filter, Expected>
+    pub(crate) fn finish(mut self) -> Result<Filter, Expected>
         ensures ok { IfOk result (λ x. (s : State) → Holds s self → Fits s → IsFinished s x) }
         ensures err { IfErr result (λ e. (s : State) → Holds s self
             → IsDue s [] [] e × (IsWhole s → ⊥)) }

@@ -8,7 +8,7 @@ use crate::numbers::parse_number;
 use std::net::{Ipv4Addr, Ipv6Addr};
 
 /// Returns the network that the word writes: an address, and a slash and a number of bits or nothing.
-pub fn parse_network(word: &[u8]) -> Option<Network>
+pub(crate) fn parse_network(word: &[u8]) -> Option<Network>
     ensures some { IfSome result (IsNetworkText word.now) }
     ensures none { IfNone result ((n : TheNetwork) → IsNetworkText word.now n → ⊥) }
 {

@@ -25,7 +25,7 @@ fn parse_digits(digits: &[u8], radix: u32) -> Option<u64>
 }
 
 /// Returns the number that the word writes, if it is at most `most`.
-pub fn parse_number(word: &[u8], most: u64) -> Option<u64>
+pub(crate) fn parse_number(word: &[u8], most: u64) -> Option<u64>
     ensures { result ≡ number_up_to most word.now }
 {
     let number = match word {
@@ -37,7 +37,7 @@ pub fn parse_number(word: &[u8], most: u64) -> Option<u64>
 }
 
 /// Returns the IP version that the word writes.
-pub fn parse_version(word: &[u8]) -> Option<u8>
+pub(crate) fn parse_version(word: &[u8]) -> Option<u8>
     ensures { result ≡ version_of word.now }
 {
     if word == b"4".as_slice() {
@@ -50,7 +50,7 @@ pub fn parse_version(word: &[u8]) -> Option<u8>
 }
 
 /// Returns the number of the extension header that the word names.
-pub fn parse_header(word: &[u8]) -> Option<u8>
+pub(crate) fn parse_header(word: &[u8]) -> Option<u8>
     ensures { result ≡ header_of word.now }
 {
     if word == b"hopopt".as_slice() {
@@ -75,7 +75,7 @@ pub fn parse_header(word: &[u8]) -> Option<u8>
 }
 
 /// Returns the number of the protocol or extension header that the word names.
-pub fn parse_protocol(word: &[u8]) -> Option<u8>
+pub(crate) fn parse_protocol(word: &[u8]) -> Option<u8>
     ensures { result ≡ protocol_of word.now }
 {
     if word == b"icmp".as_slice() {
@@ -100,7 +100,7 @@ pub fn parse_protocol(word: &[u8]) -> Option<u8>
 }
 
 /// Returns the comparison that the word writes.
-pub fn parse_comparison(word: &[u8]) -> Option<Comparison>
+pub(crate) fn parse_comparison(word: &[u8]) -> Option<Comparison>
     ensures { result ≡ comparison_of word.now }
 {
     match word {
@@ -115,7 +115,7 @@ pub fn parse_comparison(word: &[u8]) -> Option<Comparison>
 }
 
 /// Returns the kind of fault that the word names.
-pub fn parse_fault_kind(word: &[u8]) -> Option<FaultKind>
+pub(crate) fn parse_fault_kind(word: &[u8]) -> Option<FaultKind>
     ensures { result ≡ fault_kind_of word.now }
 {
     if word == b"too-short".as_slice() {

@@ -16,11 +16,11 @@ use crate::{Comparison, Expected, Term};
 const MAX_NUMBER: u64 = 4_294_967_295;
 
 /// What was read of a text: a term and the text after it.
-pub type ReadTerm<'a> = Result<(Term, &'a [u8]), Unexpected>;
+pub(crate) type ReadTerm<'a> = Result<(Term, &'a [u8]), Unexpected>;
 
 /// Reads the term with the keyword from the text after it, and returns the term and what follows it; `None` if no
 /// term has the keyword.
-pub fn read_term<'a>(word: &[u8], text: &'a [u8]) -> Option<ReadTerm<'a>>
+pub(crate) fn read_term<'a>(word: &[u8], text: &'a [u8]) -> Option<ReadTerm<'a>>
     ensures ok { IfSome result (λ read. IfOk read (λ r. ReadsTerm word.now text.now r.0 r.1.now)) }
     ensures err { IfSome result (λ read. IfErr read (λ e. RefusesTerm word.now text.now e.left
         e.expected)) }

@@ -5,7 +5,7 @@ ghost use Rattle.ip_filter.specs.Words.{words, word_len, is_space, is_sign, is_d
 
 /// A word of a text.
 #[derive(Clone, Copy)]
-pub struct Word<'a> {
+pub(crate) struct Word<'a> {
     /// Its bytes.
     pub bytes: &'a [u8],
     /// How many bytes there are from its start to the end of the text.
@@ -16,7 +16,7 @@ pub struct Word<'a> {
 
 /// Returns the first word of a text.
 #[tactic(auto, using(crate::proofs::WordLemmas::first_of, crate::proofs::WordLemmas::no_words))]
-pub fn first_word(text: &[u8]) -> Option<Word<'_>>
+pub(crate) fn first_word(text: &[u8]) -> Option<Word<'_>>
     ensures some { IfSome result (IsFirstWord text.now) }
     ensures shorter { IfSome result (λ w. length w.rest.now < length text.now) }
     ensures none { IfNone result (words text.now ≡ []) }

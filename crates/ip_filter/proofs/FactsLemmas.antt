@@ -19,7 +19,6 @@ use Rattle.ip_dissect.proofs.Ipv4Lemmas.{ipv4_prefix}
 use Rattle.ip_dissect.proofs.DissectedLemmas.{begins4, begins6, begins_none}
 use Rattle.ip_dissect.proofs.LaterLemmas.{chain_to_later-longest}
 use Rattle.ip_filter.specs.Facts.{first_number}
-use Rattle.ip_filter.specs.NumberSet.{has_number}
 
 -- They are a chain from the number after the base header.
 pub packet_chain : (s : List ℕ) (o : Option BaseHeader) → IsBaseOf s o → IsChain (first_number o) (dissected s).headers
@@ -38,14 +37,14 @@ small_number n b (fragment is x) = omega (arith, is)
 small_number n b (auth is x) = omega (arith, is)
 
 -- So none has a larger one.
-pub none_larger : (n : ℕ) → 64 ≤ n → (c : List ExtHeader) → AllByRecursion (λ h. IsHeader h.number h.bytes) c → false ≡ has_number n c
+pub none_larger : (n : ℕ) → 64 ≤ n → (c : List ExtHeader) → AllByRecursion (λ h. IsHeader h.number h.bytes) c → false ≡ list_any (λ h. h.number == n) c
 none_larger n large [] all = refl
 none_larger n large (h ∷ c) all =
     let other : (h.number == n) ≡ false = grind (arith, common_steps, small_number h.number h.bytes all.0) in
     grind (arith, common_steps, none_larger n large c all.1)
 
 -- One more header.
-number_more : (n : ℕ) (c : List ExtHeader) (h : ExtHeader) → has_number n (c ++ h ∷ []) ≡ (has_number n c || (h.number == n))
+number_more : (n : ℕ) (c : List ExtHeader) (h : ExtHeader) → list_any (λ x. x.number == n) (c ++ h ∷ []) ≡ (list_any (λ x. x.number == n) c || (h.number == n))
 number_more n c h = grind (arith, common_steps)
 
 -- the bit of a number below 64
@@ -58,14 +57,14 @@ bit_same m k = rw (bit_at_or m (2 ^ k) k, bit_at-pow_same k) (grind (arith, comm
 bit_other : (m k n : ℕ) → (n ≡ k → ⊥) → (bit_at (bit_or m (2 ^ k)) n == 1) ≡ (bit_at m n == 1)
 bit_other m k n other = rw (bit_at_or m (2 ^ k) n, bit_at-pow_other k n other) (grind (arith, common_steps))
 
-pub set_more : (m k : ℕ) (b : List ℕ) (c : List ExtHeader) → k < 64 → ((n : ℕ) → n < 64 → (bit_at m n == 1) ≡ has_number n c)
-    → (n : ℕ) → n < 64 → (bit_at (bit_or m (1 * 2 ^ k % 2 ^ 64)) n == 1) ≡ has_number n (c ++ record { number = k; bytes = b } ∷ [])
+pub set_more : (m k : ℕ) (b : List ℕ) (c : List ExtHeader) → k < 64 → ((n : ℕ) → n < 64 → (bit_at m n == 1) ≡ list_any (λ h. h.number == n) c)
+    → (n : ℕ) → n < 64 → (bit_at (bit_or m (1 * 2 ^ k % 2 ^ 64)) n == 1) ≡ list_any (λ h. h.number == n) (c ++ record { number = k; bytes = b } ∷ [])
 set_more m k b c small are n less = rw (one_bit k 64 small) (elim (cases_eq n k) [
   | inl same ↦ rw same (bit_same m k ∙ grind (arith, common_steps, number_more k c (record { number = k; bytes = b })))
   | inr other ↦ bit_other m k n other ∙ are n less ∙ grind (arith, common_steps, number_more n c (record { number = k; bytes = b }))
 ])
 
 -- Without a header of the number, none has it and passes another test.
-pub none_passes : (n : ℕ) (q : ExtHeader → Bool) (c : List ExtHeader) → false ≡ has_number n c → false ≡ list_any (λ h. (h.number == n) && q h) c
+pub none_passes : (n : ℕ) (q : ExtHeader → Bool) (c : List ExtHeader) → false ≡ list_any (λ h. h.number == n) c → false ≡ list_any (λ h. (h.number == n) && q h) c
 none_passes n q [] none = refl
 none_passes n q (h ∷ c) none = grind (arith, common_steps, none_passes n q c)

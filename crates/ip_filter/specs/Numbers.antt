@@ -16,12 +16,11 @@ use Rattle.ip_filter.specs.declared.term.FaultKind.{FaultKind}
 use Rattle.ip_filter.specs.declared.term.FaultKind.TheVariants as kind
 use Rattle.ip_filter.specs.Words.{Word}
 
--- one digit or more of the radix, and nothing else
-abbrev pub is_numeral : ℕ → List ℕ → Bool
-is_numeral radix ds = nat_lt 0 (length ds) && list_all (λ c. is_digit c radix) ds
-
+-- the value of one digit or more of the radix, and nothing else
 abbrev pub numeral : ℕ → List ℕ → Option ℕ
-numeral radix ds = if is_numeral radix ds then Some (digits_value radix ds) else None
+numeral radix ds =
+    if nat_lt 0 (length ds) && list_all (λ c. is_digit c radix) ds then Some (digits_value radix ds)
+    else None
 
 -- a zero that other digits follow, which some programs take for octal
 abbrev pub has_leading_zero : List ℕ → Bool

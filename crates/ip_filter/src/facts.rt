@@ -8,7 +8,7 @@ ghost use Rattle.ip_ext_slices.specs.Longest.{longest_chain};
 ghost use Rattle.ip_ext_slices.specs.Ipv6ExtensionSlice.{header_of};
 ghost use Rattle.ip_dissect.specs.Dissection.{dissected};
 ghost use Rattle.ip_dissect.specs.Outline.{is_plain};
-ghost use Rattle.ip_filter.specs.NumberSet.{AreNumbersIn, has_number};
+ghost use Rattle.ip_filter.specs.NumberSet.{AreNumbersIn};
 ghost use Rattle.ip_filter.specs.Facts.{first_number};
 ghost use Rattle.ip_filter.specs.Truth.{is_first_kind, is_later_kind, fault_kind, fault_in, is_truncated};
 ghost use Rattle.ip_filter.specs.Truth.{has_source, has_destination, is_version};
@@ -45,7 +45,8 @@ impl<'a> Facts<'a> {
     /// Returns whether the packet has an extension header of this number.
     #[inline(always)]
     pub(crate) fn has_number(&self, number: u8) -> bool
-        ensures { result ≡ has_number number (dissected self.now.packet.bytes.now).headers }
+        ensures { result
+            ≡ list_any (λ h. h.number == number) (dissected self.now.packet.bytes.now).headers }
     {
         self.numbers.has(number)
     }

@@ -1,6 +1,6 @@
 //! The numbers of a packet's extension headers.
-ghost use Rattle.std.specs.Prelude.{◌≡◌, List, []};
-ghost use Rattle.std.specs.List.{AllByRecursion};
+ghost use Rattle.std.specs.Prelude.{◌≡◌, ◌==◌, List, []};
+ghost use Rattle.std.specs.List.{AllByRecursion, list_any};
 ghost use Rattle.ip_spec.specs.Chain.{ExtHeader};
 ghost use Rattle.ip_spec.specs.Header.{IsHeader};
 
@@ -18,7 +18,7 @@ pub(crate) struct NumberSet {
 }
 
 impl NumberSet {
-    ghost use Rattle.ip_filter.specs.NumberSet.{AreNumbersIn, has_number};
+    ghost use Rattle.ip_filter.specs.NumberSet.{AreNumbersIn};
 
     /// Returns the set without a number.
     #[inline(always)]
@@ -30,10 +30,9 @@ impl NumberSet {
 
     /// Returns whether an extension header has the number.
     #[inline(always)]
-    #[tactic(auto, using(crate::proofs::FactsLemmas::none_larger))]
     pub(crate) fn has(&self, number: u8) -> bool
         ensures { (c : List ExtHeader) → AllByRecursion (λ h. IsHeader h.number h.bytes) c
-            → AreNumbersIn c self.now → result ≡ has_number number c }
+            → AreNumbersIn c self.now → result ≡ list_any (λ h. h.number == number) c }
     {
         number < NUMBERS && (self.bits >> number) & 1 == 1
     }

@@ -2,7 +2,6 @@
 use Rattle.std.specs.Prelude.{ℕ, Option, Some, None}
 use Rattle.ip_base.specs.declared.err.len_error.LenError.{LenError}
 use Rattle.ip_base.specs.declared.err.layer.Layer.TheVariants.{IpAuthHeader}
-use Rattle.ip_base.specs.declared.err.ipv6.header_error.HeaderError.{HeaderError as Ipv6HeaderError}
 use Rattle.ip_base.specs.declared.err.ipv6.header_error.HeaderError.TheVariants as ipv6_header
 use Rattle.ip_base.specs.declared.err.ip_auth.header_error.HeaderError.{HeaderError as AuthError}
 use Rattle.ip_base.specs.declared.err.ip_auth.header_error.HeaderError.TheVariants.{ZeroPayloadLen}
@@ -94,10 +93,7 @@ abbrev pub packet_fault_fields : SliceError → FaultFields
 packet_fault_fields (ip.Len e) = len_fields 0 e
 packet_fault_fields (ip.IpHeaders e) = headers_error_fields e
 
-abbrev pub ipv6_header_error_fields : Ipv6HeaderError → FaultFields
-ipv6_header_error_fields (ipv6_header.UnexpectedVersion version) = content_fields 0 UNSUPPORTED_IP_VERSION version
-
 abbrev pub ipv6_fault_fields : Ipv6SliceError → FaultFields
 ipv6_fault_fields (ipv6.Len e) = len_fields 0 e
-ipv6_fault_fields (ipv6.Header e) = ipv6_header_error_fields e
+ipv6_fault_fields (ipv6.Header (ipv6_header.UnexpectedVersion version)) = content_fields 0 UNSUPPORTED_IP_VERSION version
 ipv6_fault_fields (ipv6.Exts e) = exts_error_fields 0 e

@@ -67,12 +67,12 @@ static void close_file(struct capture *capture)
 }
 
 /* Sets the error of a link layer that isn't supported, and returns false. */
-static bool refuse_link_layer(struct capture *capture)
+static bool refuse_link_layer(struct capture *capture, int number)
 {
-    const char *name = pcap_datalink_val_to_name(capture->link_layer);
-    const char *words = pcap_datalink_val_to_description(capture->link_layer);
+    const char *name = pcap_datalink_val_to_name(number);
+    const char *words = pcap_datalink_val_to_description(number);
     if (name && words) return fail(capture, "link layer %s (%s) isn't supported", name, words);
-    return fail(capture, "link layer %d isn't supported", capture->link_layer);
+    return fail(capture, "link layer %d isn't supported", number);
 }
 
 static bool open_handle(struct capture *capture)
@@ -84,8 +84,9 @@ static bool open_handle(struct capture *capture)
     unsigned precision = has_nanoseconds(magic) ? PCAP_TSTAMP_PRECISION_NANO : PCAP_TSTAMP_PRECISION_MICRO;
     capture->handle = pcap_fopen_offline_with_tstamp_precision(capture->file, precision, error);
     if (!capture->handle) return fail(capture, "%s", error);
-    capture->link_layer = pcap_datalink(capture->handle);
-    return is_known_link_layer(capture->link_layer) || refuse_link_layer(capture);
+    int number = pcap_datalink(capture->handle);
+    capture->link_layer = find_link_layer(number);
+    return capture->link_layer || refuse_link_layer(capture, number);
 }
 
 bool open_capture(struct capture *capture, const char *path)

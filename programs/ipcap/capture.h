@@ -18,7 +18,7 @@ struct capture {
     pcap_t *handle;
     const char *name; /* for messages */
     FILE *file;
-    int link_layer;
+    const struct link_layer *link_layer;
     bool is_live;    /* the input is not a regular file, so packets may arrive as they are captured */
     uint64_t number; /* number of packets read so far */
     void (*follow)(struct capture *capture); /* called after each packet is read, unless it is null */

@@ -1,50 +1,151 @@
+/*
+ * Skips the headers of a frame one after another. Each function for a header returns what follows it, and names the
+ * document that defines the header. Those of libpcap are described at www.tcpdump.org/linktypes.html.
+ */
 #include "link_layer.h"
 
 #include <pcap/pcap.h>
+#include <string.h>
 
-enum { ETHERTYPE_IPV4 = 0x0800, ETHERTYPE_IPV6 = 0x86dd };
+/* A header, or the end of the headers. */
+enum layer {
+    LAYER_OTHER, /* not IP, or truncated before the field that says so */
+    LAYER_IP,
+    LAYER_IP_BY_VERSION, /* IP if the first four bits are an IP version */
+    LAYER_ETHERNET,
+    LAYER_VLAN_TAG,
+    LAYER_LLC,
+    LAYER_SNAP,
+    LAYER_TOKEN_RING,
+    LAYER_FDDI,
+    LAYER_COOKED,
+    LAYER_COOKED2,
+    LAYER_FAMILY,
+    LAYER_IPNET,
+    LAYER_IPOIB,
+    LAYER_NFLOG,
+    LAYER_NFLOG_ATTRIBUTE,
+    LAYER_MPLS,
+    LAYER_PPPOE,
+    LAYER_PPP,
+    LAYER_SERIAL,
+    LAYER_CISCO_HDLC,
+    LAYER_FRAME_RELAY,
+    LAYER_MULTILINK_FRAME_RELAY,
+    LAYER_JUNIPER_ETHERNET,
+    LAYER_JUNIPER_ATM1,
+    LAYER_JUNIPER_COOKIE,
+};
 
-/* The EtherTypes of IEEE 802.1Q and 802.1ad tags, and the one in use before 802.1ad. */
-enum { ETHERTYPE_VLAN = 0x8100, ETHERTYPE_QINQ = 0x88a8, ETHERTYPE_OLD_QINQ = 0x9100 };
+struct link_layer {
+    int number;
+    size_t before; /* number of bytes before the first header */
+    enum layer first;
+};
 
-/* A VLAN tag: two bytes of tag control information, then the EtherType of what follows. */
-enum { VLAN_TAG_LEN = 4, VLAN_TYPE_AT = 2 };
+/* Headers of libpcap's own before the first one of a frame. */
+enum { DIRECTION_LEN = 1, PPPD_LEN = 2, SLIP_LEN = 16 };
 
-/* A link layer whose header has an EtherType. */
-struct typed_layer {
-    int link_layer;
+static const struct link_layer link_layers[] = {
+    {DLT_EN10MB, 0, LAYER_ETHERNET},
+    {DLT_IEEE802, 0, LAYER_TOKEN_RING},
+    {DLT_FDDI, 0, LAYER_FDDI},
+    {DLT_ATM_RFC1483, 0, LAYER_LLC},
+    {DLT_RAW, 0, LAYER_IP},
+    {DLT_IPV4, 0, LAYER_IP},
+    {DLT_IPV6, 0, LAYER_IP},
+    {DLT_SLIP, SLIP_LEN, LAYER_IP},
+    {DLT_NULL, 0, LAYER_FAMILY},
+    {DLT_LOOP, 0, LAYER_FAMILY},
+    {DLT_LINUX_SLL, 0, LAYER_COOKED},
+    {DLT_LINUX_SLL2, 0, LAYER_COOKED2},
+    {DLT_NFLOG, 0, LAYER_NFLOG},
+    {DLT_IPNET, 0, LAYER_IPNET},
+    {DLT_IPOIB, 0, LAYER_IPOIB},
+    {DLT_PPP, 0, LAYER_PPP},
+    {DLT_PPP_WITH_DIR, DIRECTION_LEN, LAYER_PPP},
+    {DLT_PPP_PPPD, PPPD_LEN, LAYER_PPP},
+    {DLT_PPP_SERIAL, 0, LAYER_SERIAL},
+    {DLT_PPP_ETHER, 0, LAYER_PPPOE},
+    {DLT_C_HDLC, 0, LAYER_CISCO_HDLC},
+    {DLT_C_HDLC_WITH_DIR, DIRECTION_LEN, LAYER_CISCO_HDLC},
+    {DLT_FRELAY, 0, LAYER_FRAME_RELAY},
+    {DLT_FRELAY_WITH_DIR, DIRECTION_LEN, LAYER_FRAME_RELAY},
+    {DLT_MFR, 0, LAYER_MULTILINK_FRAME_RELAY},
+    {DLT_JUNIPER_ETHER, 0, LAYER_JUNIPER_ETHERNET},
+    {DLT_JUNIPER_ATM1, 0, LAYER_JUNIPER_ATM1},
+};
+
+/* The number in a header of what follows it. */
+struct carried {
+    unsigned number;
+    enum layer layer;
+};
+
+/*
+ * EtherTypes: IP; tags of IEEE 802.1Q and 802.1ad, and the one in use before 802.1ad; MPLS (RFC 5332); PPPoE sessions;
+ * and the number below all EtherTypes by which Linux marks LLC frames in cooked captures.
+ */
+static const struct carried ethertypes[] = {
+    {0x0800, LAYER_IP},       {0x86dd, LAYER_IP},       {0x8100, LAYER_VLAN_TAG},
+    {0x88a8, LAYER_VLAN_TAG}, {0x9100, LAYER_VLAN_TAG}, {0x8847, LAYER_MPLS},
+    {0x8848, LAYER_MPLS},     {0x8864, LAYER_PPPOE},    {0x0004, LAYER_LLC}};
+
+/* PPP's protocol numbers: IP (RFC 1332, RFC 5072) and MPLS (RFC 3032). */
+static const struct carried ppp_protocols[] = {
+    {0x0021, LAYER_IP}, {0x0057, LAYER_IP}, {0x0281, LAYER_MPLS}, {0x0283, LAYER_MPLS}};
+
+/* Network layer protocol identifiers (RFC 2427): IPv4, IPv6, SNAP, and PPP (RFC 1973). */
+static const struct carried nlpids[] = {
+    {0xcc, LAYER_IP}, {0x8e, LAYER_IP}, {0x80, LAYER_SNAP}, {0xcf, LAYER_PPP}};
+
+/* AF_INET and AF_INET6 of Linux and of Solaris. */
+static const struct carried linux_families[] = {{2, LAYER_IP}, {10, LAYER_IP}};
+static const struct carried solaris_families[] = {{2, LAYER_IP}, {26, LAYER_IP}};
+
+/* AF_INET is 2 everywhere; AF_INET6 is 10 on Linux, 24 on NetBSD and OpenBSD, 28 on FreeBSD, 30 on Darwin. */
+static const struct carried families[] = {
+    {2, LAYER_IP}, {10, LAYER_IP}, {24, LAYER_IP}, {28, LAYER_IP}, {30, LAYER_IP}};
+
+/* A header of fixed length with an EtherType. */
+struct typed_header {
+    size_t len;
     size_t type_at; /* offset of the EtherType in the header */
-    size_t len;     /* length of the header in bytes */
 };
 
-static const struct typed_layer typed_layers[] = {
-    {DLT_EN10MB, 12, 14},
-    {DLT_LINUX_SLL, 14, 16},
-    {DLT_LINUX_SLL2, 0, 20},
+static const struct typed_header ethernet = {14, 12};  /* IEEE 802.3 */
+static const struct typed_header vlan_tag = {4, 2};    /* IEEE 802.1Q, after the tag's own EtherType */
+static const struct typed_header snap = {5, 3};        /* RFC 1042 */
+static const struct typed_header cooked = {16, 14};    /* libpcap's LINKTYPE_LINUX_SLL */
+static const struct typed_header cooked2 = {20, 0};    /* libpcap's LINKTYPE_LINUX_SLL2 */
+static const struct typed_header ipoib = {44, 40};     /* RFC 4391, after a global routing header of 40 bytes */
+static const struct typed_header cisco_hdlc = {4, 2};  /* RFC 1547, section 4.3.1 */
+static const struct typed_header cisco_frame = {2, 0}; /* after an address of Frame Relay */
+
+/* What is left of a frame. */
+struct rest {
+    const uint8_t *bytes;
+    size_t len;
 };
 
-enum { TYPED_LAYERS = sizeof typed_layers / sizeof typed_layers[0] };
-
-static const struct typed_layer *typed_layer_of(int link_layer)
+/* Skips `count` bytes, unless there are fewer. */
+static bool skip(struct rest *rest, size_t count)
 {
-    for (size_t i = 0; i < TYPED_LAYERS; i++)
-        if (typed_layers[i].link_layer == link_layer) return &typed_layers[i];
-    return NULL;
+    if (rest->len < count) return false;
+    rest->bytes += count;
+    rest->len -= count;
+    return true;
 }
 
-static bool is_raw_ip(int link_layer)
+static bool begins_with(const struct rest *rest, const uint8_t *bytes, size_t len)
 {
-    return link_layer == DLT_RAW || link_layer == DLT_IPV4 || link_layer == DLT_IPV6;
+    return rest->len >= len && memcmp(rest->bytes, bytes, len) == 0;
 }
 
-static bool is_loopback(int link_layer)
+/* Skips these bytes, unless there are others. */
+static bool skip_bytes(struct rest *rest, const uint8_t *bytes, size_t len)
 {
-    return link_layer == DLT_NULL || link_layer == DLT_LOOP;
-}
-
-bool is_known_link_layer(int link_layer)
-{
-    return typed_layer_of(link_layer) || is_raw_ip(link_layer) || is_loopback(link_layer);
+    return begins_with(rest, bytes, len) && skip(rest, len);
 }
 
 static unsigned number_at(const uint8_t *bytes)
@@ -52,49 +153,272 @@ static unsigned number_at(const uint8_t *bytes)
     return (unsigned)bytes[0] << 8 | bytes[1];
 }
 
-static bool is_tag(unsigned type)
+static enum layer layer_in(const struct carried *table, size_t len, unsigned number)
 {
-    return type == ETHERTYPE_VLAN || type == ETHERTYPE_QINQ || type == ETHERTYPE_OLD_QINQ;
+    for (size_t i = 0; i < len; i++)
+        if (table[i].number == number) return table[i].layer;
+    return LAYER_OTHER;
 }
 
-/* Finds the IP packet of a frame with an EtherType. Skips any number of VLAN tags. */
-static bool find_after_type(const struct typed_layer *layer, const uint8_t *frame, size_t len, size_t *offset)
+#define LAYER_IN(table, number) layer_in(table, sizeof(table) / sizeof *(table), number)
+
+static enum layer skip_typed(struct rest *rest, const struct typed_header *header)
 {
-    if (len < layer->len) return false;
-    unsigned type = number_at(frame + layer->type_at);
-    size_t at = layer->len;
-    while (is_tag(type) && len - at >= VLAN_TAG_LEN) {
-        type = number_at(frame + at + VLAN_TYPE_AT);
-        at += VLAN_TAG_LEN;
-    }
-    *offset = at;
-    return type == ETHERTYPE_IPV4 || type == ETHERTYPE_IPV6;
+    const uint8_t *bytes = rest->bytes;
+    return skip(rest, header->len) ? LAYER_IN(ethertypes, number_at(bytes + header->type_at)) : LAYER_OTHER;
 }
 
-/* AF_INET is 2 everywhere; AF_INET6 is 10 on Linux, 24 on NetBSD and OpenBSD, 28 on FreeBSD, 30 on Darwin. */
-static bool is_ip_family(uint32_t family)
+/* Skips an Ethernet header or a VLAN tag, in which a small number is the length of an LLC frame (IEEE 802.3). */
+static enum layer skip_typed_or_length(struct rest *rest, const struct typed_header *header)
 {
-    return family == 2 || family == 10 || family == 24 || family == 28 || family == 30;
+    enum { MAX_LENGTH = 1500 };
+    const uint8_t *bytes = rest->bytes;
+    if (!skip(rest, header->len)) return LAYER_OTHER;
+    unsigned number = number_at(bytes + header->type_at);
+    return number <= MAX_LENGTH ? LAYER_LLC : LAYER_IN(ethertypes, number);
+}
+
+/* IEEE 802.2, with the service access points and the control byte of SNAP (RFC 1042). */
+static enum layer skip_llc(struct rest *rest)
+{
+    static const uint8_t snap_follows[] = {0xaa, 0xaa, 0x03};
+    return skip_bytes(rest, snap_follows, sizeof snap_follows) ? LAYER_SNAP : LAYER_OTHER;
+}
+
+/* RFC 1042: an EtherType follows an organization code of 0. */
+static enum layer skip_snap(struct rest *rest)
+{
+    static const uint8_t organization[3];
+    return begins_with(rest, organization, sizeof organization) ? skip_typed(rest, &snap) : LAYER_OTHER;
+}
+
+/* IEEE 802.5. The first bit of the source address says that a route follows, which begins with its length. */
+static enum layer skip_token_ring(struct rest *rest)
+{
+    enum { LEN = 14, CONTROL_AT = 1, CONTROL_MASK = 0xc0, CONTROL_LLC = 0x40 };
+    enum { SOURCE_AT = 8, IS_ROUTED = 0x80, ROUTE_LEN = 0x1f };
+    const uint8_t *header = rest->bytes;
+    if (!skip(rest, LEN) || (header[CONTROL_AT] & CONTROL_MASK) != CONTROL_LLC) return LAYER_OTHER;
+    if (!(header[SOURCE_AT] & IS_ROUTED)) return LAYER_LLC;
+    return rest->len > 0 && skip(rest, rest->bytes[0] & ROUTE_LEN) ? LAYER_LLC : LAYER_OTHER;
+}
+
+/* ISO 9314-2 */
+static enum layer skip_fddi(struct rest *rest)
+{
+    enum { LEN = 13, CONTROL_MASK = 0xf0, CONTROL_LLC = 0x50 };
+    const uint8_t *header = rest->bytes;
+    return skip(rest, LEN) && (header[0] & CONTROL_MASK) == CONTROL_LLC ? LAYER_LLC : LAYER_OTHER;
 }
 
 /*
- * Finds the IP packet of a BSD loopback frame. The address family is in the byte order of the capturing machine, which
- * isn't known, so both orders are tried. No value is an IP address family in both.
+ * BSD loopback. The address family is in the byte order of the capturing machine, which isn't known, so both orders are
+ * tried. No value is an IP address family in both.
  */
-static bool find_after_family(const uint8_t *frame, size_t len, size_t *offset)
+static enum layer skip_family(struct rest *rest)
 {
-    if (len < 4) return false;
-    uint32_t big = (uint32_t)number_at(frame) << 16 | number_at(frame + 2);
-    uint32_t little = (uint32_t)frame[3] << 24 | (uint32_t)frame[2] << 16 | (uint32_t)frame[1] << 8 | frame[0];
-    *offset = 4;
-    return is_ip_family(big) || is_ip_family(little);
+    enum { LEN = 4 };
+    const uint8_t *bytes = rest->bytes;
+    if (!skip(rest, LEN)) return LAYER_OTHER;
+    uint32_t big = (uint32_t)number_at(bytes) << 16 | number_at(bytes + 2);
+    uint32_t little = (uint32_t)bytes[3] << 24 | (uint32_t)bytes[2] << 16 | (uint32_t)bytes[1] << 8 | bytes[0];
+    enum layer layer = LAYER_IN(families, big);
+    return layer == LAYER_OTHER ? LAYER_IN(families, little) : layer;
 }
 
-bool find_ip(int link_layer, const uint8_t *frame, size_t len, size_t *offset)
+/* libpcap's LINKTYPE_IPNET */
+static enum layer skip_ipnet(struct rest *rest)
 {
-    const struct typed_layer *layer = typed_layer_of(link_layer);
-    if (layer) return find_after_type(layer, frame, len, offset);
-    if (is_loopback(link_layer)) return find_after_family(frame, len, offset);
-    *offset = 0;
-    return is_raw_ip(link_layer);
+    enum { LEN = 24, FAMILY_AT = 1 };
+    const uint8_t *header = rest->bytes;
+    return skip(rest, LEN) ? LAYER_IN(solaris_families, header[FAMILY_AT]) : LAYER_OTHER;
+}
+
+/* libpcap's LINKTYPE_NFLOG, of which there is only version 0. */
+static enum layer skip_nflog(struct rest *rest)
+{
+    enum { LEN = 4, FAMILY_AT = 0, VERSION_AT = 1 };
+    const uint8_t *header = rest->bytes;
+    if (!skip(rest, LEN) || header[VERSION_AT] != 0) return LAYER_OTHER;
+    return LAYER_IN(linux_families, header[FAMILY_AT]) == LAYER_IP ? LAYER_NFLOG_ATTRIBUTE : LAYER_OTHER;
+}
+
+/* An attribute: length and type in this machine's byte order, to which libpcap converts them, a value, and padding. */
+static enum layer skip_nflog_attribute(struct rest *rest)
+{
+    enum { PAYLOAD_TYPE = 9, ALIGNMENT = 4 };
+    struct {
+        uint16_t len, type;
+    } attribute;
+    if (rest->len < sizeof attribute) return LAYER_OTHER;
+    memcpy(&attribute, rest->bytes, sizeof attribute);
+    if (attribute.len < sizeof attribute) return LAYER_OTHER;
+    if (attribute.type == PAYLOAD_TYPE) return skip(rest, sizeof attribute) ? LAYER_IP : LAYER_OTHER;
+    size_t padding = -(size_t)attribute.len % ALIGNMENT;
+    return skip(rest, attribute.len + padding) ? LAYER_NFLOG_ATTRIBUTE : LAYER_OTHER;
+}
+
+/* RFC 3032: an entry of the label stack, the last of which is marked. */
+static enum layer skip_mpls(struct rest *rest)
+{
+    enum { LEN = 4, BOTTOM_AT = 2, IS_BOTTOM = 1 };
+    const uint8_t *entry = rest->bytes;
+    if (!skip(rest, LEN)) return LAYER_OTHER;
+    return entry[BOTTOM_AT] & IS_BOTTOM ? LAYER_IP_BY_VERSION : LAYER_MPLS;
+}
+
+static enum layer ip_by_version(const struct rest *rest)
+{
+    unsigned version = rest->len > 0 ? rest->bytes[0] >> 4 : 0;
+    return version == 4 || version == 6 ? LAYER_IP : LAYER_OTHER;
+}
+
+/* RFC 2516: version 1, type 1, and the code of session data. */
+static enum layer skip_pppoe(struct rest *rest)
+{
+    enum { LEN = 6 };
+    static const uint8_t session[] = {0x11, 0x00};
+    return begins_with(rest, session, sizeof session) && skip(rest, LEN) ? LAYER_PPP : LAYER_OTHER;
+}
+
+/* RFC 1661: a protocol number, of one byte if that is odd, possibly after the address and control bytes of RFC 1662. */
+static enum layer skip_ppp(struct rest *rest)
+{
+    static const uint8_t address_and_control[] = {0xff, 0x03};
+    skip_bytes(rest, address_and_control, sizeof address_and_control);
+    const uint8_t *protocol = rest->bytes;
+    if (!skip(rest, 1)) return LAYER_OTHER;
+    if (protocol[0] & 1) return LAYER_IN(ppp_protocols, protocol[0]);
+    return skip(rest, 1) ? LAYER_IN(ppp_protocols, number_at(protocol)) : LAYER_OTHER;
+}
+
+/* PPP, or Cisco HDLC by one of its two addresses. */
+static enum layer serial_layer(const struct rest *rest)
+{
+    enum { UNICAST = 0x0f, BROADCAST = 0x8f };
+    bool is_cisco = rest->len > 0 && (rest->bytes[0] == UNICAST || rest->bytes[0] == BROADCAST);
+    return is_cisco ? LAYER_CISCO_HDLC : LAYER_PPP;
+}
+
+/* Skips an address of Frame Relay: two to four bytes, of which the last is odd (RFC 2427, section 3). */
+static bool skip_address(struct rest *rest)
+{
+    enum { MIN_LEN = 2, MAX_LEN = 4 };
+    size_t len = 0;
+    do
+        if (len == MAX_LEN || len == rest->len) return false;
+    while (!(rest->bytes[len++] & 1));
+    return len >= MIN_LEN && skip(rest, len);
+}
+
+/* Whether an address is DLCI 0, which carries signalling. */
+static bool is_signalling(const uint8_t *address)
+{
+    enum { HIGH_BITS = 0xfc, LOW_BITS = 0xf0 };
+    return !(address[0] & HIGH_BITS) && !(address[1] & LOW_BITS);
+}
+
+/* RFC 2427: an address, a control byte, padding and a protocol identifier; with Cisco, an address and an EtherType. */
+static enum layer skip_frame_relay(struct rest *rest)
+{
+    static const uint8_t control[] = {0x03}, padding[] = {0x00};
+    const uint8_t *address = rest->bytes;
+    if (!skip_address(rest)) return LAYER_OTHER;
+    if (!skip_bytes(rest, control, sizeof control))
+        return is_signalling(address) ? LAYER_OTHER : skip_typed(rest, &cisco_frame);
+    skip_bytes(rest, padding, sizeof padding);
+    const uint8_t *nlpid = rest->bytes;
+    return skip(rest, 1) ? LAYER_IN(nlpids, *nlpid) : LAYER_OTHER;
+}
+
+/* FRF.16.1: a fragment, of which the first, or only, one has the headers of Frame Relay. */
+static enum layer skip_multilink_frame_relay(struct rest *rest)
+{
+    enum { LEN = 2, IS_FIRST = 0x80, IS_CONTROL = 0x20 };
+    const uint8_t *header = rest->bytes;
+    if (!skip(rest, LEN)) return LAYER_OTHER;
+    return (header[0] & (IS_FIRST | IS_CONTROL)) == IS_FIRST ? LAYER_FRAME_RELAY : LAYER_OTHER;
+}
+
+/* Skips a length of two bytes, and as many bytes as it says. */
+static bool skip_counted(struct rest *rest)
+{
+    const uint8_t *length = rest->bytes;
+    return skip(rest, 2) && skip(rest, number_at(length));
+}
+
+/*
+ * Juniper's header, as tcpdump and Wireshark read it: flags, extensions if a flag says so, and then `next`, or four
+ * bytes and a packet if a flag says that its link layer was removed.
+ */
+static enum layer skip_juniper(struct rest *rest, enum layer next)
+{
+    enum { LEN = 4, FLAGS_AT = 3, HAS_EXTENSIONS = 0x80, IS_REMOVED = 0x02, REMOVED_LEN = 4 };
+    static const uint8_t magic[] = {'M', 'G', 'C'};
+    const uint8_t *header = rest->bytes;
+    if (!begins_with(rest, magic, sizeof magic) || !skip(rest, LEN)) return LAYER_OTHER;
+    if ((header[FLAGS_AT] & HAS_EXTENSIONS) && !skip_counted(rest)) return LAYER_OTHER;
+    if (!(header[FLAGS_AT] & IS_REMOVED)) return next;
+    return skip(rest, REMOVED_LEN) ? LAYER_IP_BY_VERSION : LAYER_OTHER;
+}
+
+/* A cookie of the first ATM card. Except for management cells, LLC or IP follows (RFC 2684). */
+static enum layer skip_juniper_cookie(struct rest *rest)
+{
+    enum { LEN = 4, MANAGEMENT = 0x80 };
+    const uint8_t *cookie = rest->bytes;
+    if (!skip(rest, LEN) || cookie[0] == MANAGEMENT) return LAYER_OTHER;
+    enum layer layer = skip_llc(rest);
+    return layer == LAYER_OTHER ? LAYER_IP_BY_VERSION : layer;
+}
+
+/* Skips a header. Returns what follows it. */
+static enum layer skip_layer(struct rest *rest, enum layer layer)
+{
+    switch (layer) {
+        case LAYER_OTHER:
+        case LAYER_IP: break;
+        case LAYER_IP_BY_VERSION: return ip_by_version(rest);
+        case LAYER_ETHERNET: return skip_typed_or_length(rest, &ethernet);
+        case LAYER_VLAN_TAG: return skip_typed_or_length(rest, &vlan_tag);
+        case LAYER_LLC: return skip_llc(rest);
+        case LAYER_SNAP: return skip_snap(rest);
+        case LAYER_TOKEN_RING: return skip_token_ring(rest);
+        case LAYER_FDDI: return skip_fddi(rest);
+        case LAYER_COOKED: return skip_typed(rest, &cooked);
+        case LAYER_COOKED2: return skip_typed(rest, &cooked2);
+        case LAYER_FAMILY: return skip_family(rest);
+        case LAYER_IPNET: return skip_ipnet(rest);
+        case LAYER_IPOIB: return skip_typed(rest, &ipoib);
+        case LAYER_NFLOG: return skip_nflog(rest);
+        case LAYER_NFLOG_ATTRIBUTE: return skip_nflog_attribute(rest);
+        case LAYER_MPLS: return skip_mpls(rest);
+        case LAYER_PPPOE: return skip_pppoe(rest);
+        case LAYER_PPP: return skip_ppp(rest);
+        case LAYER_SERIAL: return serial_layer(rest);
+        case LAYER_CISCO_HDLC: return skip_typed(rest, &cisco_hdlc);
+        case LAYER_FRAME_RELAY: return skip_frame_relay(rest);
+        case LAYER_MULTILINK_FRAME_RELAY: return skip_multilink_frame_relay(rest);
+        case LAYER_JUNIPER_ETHERNET: return skip_juniper(rest, LAYER_ETHERNET);
+        case LAYER_JUNIPER_ATM1: return skip_juniper(rest, LAYER_JUNIPER_COOKIE);
+        case LAYER_JUNIPER_COOKIE: return skip_juniper_cookie(rest);
+    }
+    return layer;
+}
+
+const struct link_layer *find_link_layer(int number)
+{
+    for (size_t i = 0; i < sizeof link_layers / sizeof *link_layers; i++)
+        if (link_layers[i].number == number) return &link_layers[i];
+    return NULL;
+}
+
+bool find_ip(const struct link_layer *link_layer, const uint8_t *frame, size_t len, size_t *offset)
+{
+    struct rest rest = {frame, len};
+    enum layer layer = skip(&rest, link_layer->before) ? link_layer->first : LAYER_OTHER;
+    /* ends: each header has a byte, but for LAYER_SERIAL, to which none leads */
+    while (layer != LAYER_IP && layer != LAYER_OTHER) layer = skip_layer(&rest, layer);
+    *offset = len - rest.len;
+    return layer == LAYER_IP;
 }

@@ -6,13 +6,15 @@
 #include <stddef.h>
 #include <stdint.h>
 
-/* Whether `find_ip` supports the link layer, which is one of libpcap's DLT_ values. */
-bool is_known_link_layer(int link_layer);
+struct link_layer;
+
+/* Returns the link layer with this number, one of libpcap's DLT_ values, or null if it isn't supported. */
+const struct link_layer *find_link_layer(int number);
 
 /*
  * Finds the IP packet in the `len` bytes of a frame: stores where it begins in `offset` and returns true. Returns false
  * if the frame doesn't carry IP, or is truncated before the field that says what it carries.
  */
-bool find_ip(int link_layer, const uint8_t *frame, size_t len, size_t *offset);
+bool find_ip(const struct link_layer *link_layer, const uint8_t *frame, size_t len, size_t *offset);
 
 #endif

@@ -5,12 +5,14 @@ import sys
 import harness
 import test_filter
 import test_library
+import test_link_layers
 import test_show
 import test_stat
 import test_sum
 import test_use
 
-GROUPS = [("link layers", test_stat.link_layers), ("short frames", test_stat.short_frames),
+GROUPS = [("link layers", test_link_layers.link_layers), ("short frames", test_link_layers.short_frames),
+          ("truncated frames", test_link_layers.truncated_frames), ("hostile frames", test_link_layers.hostile_frames),
           ("faults", test_stat.faults), ("incomplete packets", test_stat.incomplete_packets),
           ("bounds of packets", test_stat.bounds_of_packets), ("fragments", test_stat.fragments),
           ("snap lengths", test_stat.snap_lengths), ("faults in truncated packets", test_stat.faults_in_truncated_packets),

@@ -44,6 +44,11 @@ class Harness:
             output.write(content)
         return path
 
+    def commands(self, name):
+        """Returns the commands that run another program of the tests: normally, with sanitizers, and under valgrind."""
+        plain, sanitized = [os.path.join(os.path.dirname(it[0]), name) for it in (self.plain, self.sanitized)]
+        return [[plain], [sanitized], self.checked[:-1] + [plain]]
+
     def answer(self, command, arguments, content, output):
         """Runs one build. Returns status, standard output, standard error, and what it wrote to the path `{}`."""
         own = self.path(".own")

@@ -1,38 +1,31 @@
 """Tests of libwolfaren-pcap, by a program that prints what its call returns."""
 
-import os
 import subprocess
 
 from captures import *
 from test_stat import random_frames
 
 
-def counters(harness):
-    """Returns the commands that call the library: normally, with sanitizers, and under valgrind."""
-    plain, sanitized = [os.path.join(os.path.dirname(it[0]), "count") for it in (harness.plain, harness.sanitized)]
-    return [[plain], [sanitized], harness.checked[:-1] + [plain]]
-
-
 def as_ipcap(harness):
     """The call returns what `ipcap stat --json` prints, and the error without the name of the file."""
     whole = capture(random_frames(100, 6))
     for content, is_capture in [(whole, True), (whole[:-1], True), (whole[:30], True), (b"no capture", False),
-                                (capture([b""], 9), False)]:
+                                (capture([b""], 105), False)]:
         path = harness.file(content)
         status, found, errors, _ = harness.run("stat", "--json", path)
-        for command in counters(harness):
+        for command in harness.commands("count"):
             answer = harness.answer(command, [path], b"", None)
             wanted = found if is_capture else b""
             reason = errors.replace("ipcap: %s: " % path, "").rstrip("\n")
             harness.equal(answer[:3], (status, wanted, reason), command)
-    harness.equal(harness.answer(counters(harness)[0], ["/nonexistent"], b"", None)[:3],
+    harness.equal(harness.answer(harness.commands("count")[0], ["/nonexistent"], b"", None)[:3],
                   (1, b"", "No such file or directory"), "no file")
 
 
 def refused_memory(harness):
     """Each failed allocation is an error, unless the call gets by without that memory."""
     path = harness.file(capture([ethernet(ipv6_chain([60] * 40)), ethernet(ipv4(17, UDP))]))
-    command = counters(harness)[0] + [path]
+    command = harness.commands("count")[0] + [path]
     wanted, failures = subprocess.run(command, stdout=subprocess.PIPE).stdout, 0
     for number in range(1, 60):
         environment = dict(harness.environment, LD_PRELOAD=harness.refusing, REFUSED_ALLOCATION=str(number))

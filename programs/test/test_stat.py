@@ -12,42 +12,6 @@ from harness import statistics
 SHORT_NAMES = {0: "hop-by-hop", 43: "routing", 44: "fragment", 51: "authentication", 60: "destination-options"}
 
 
-def link_layers(harness):
-    """Three frames of each link layer: an IPv6 packet, an IPv4 packet, and one that isn't IP."""
-    six, four = ipv6_chain([0, 43]), ipv4(51, authentication(6) + TCP)
-    cases = [("Ethernet", ETHERNET, ethernet(six), ethernet(four), ethernet(bytes(46), (), 0x0806))]
-    for tags in [(0x8100,), (0x88A8, 0x8100), (0x9100, 0x8100), (0x8100,) * 5]:
-        cases.append((tags, ETHERNET, ethernet(six, tags), ethernet(four, tags), ethernet(bytes(46), tags, 0x0806)))
-    for link_layer, make in [(SLL, cooked), (SLL2, cooked2)]:
-        cases.append((make, link_layer, make(six, 0x86DD), make(four, 0x0800), make(bytes(28), 0x0806)))
-        tag = struct.pack(">HH", 7, 0x86DD)
-        cases.append((make, link_layer, make(tag + six, 0x8100), make(four, 0x0800), make(bytes(28), 0x0806)))
-    for order in "<>":
-        family = lambda number, packet: struct.pack(order + "I", number) + packet
-        for number in [10, 24, 28, 30]:
-            cases.append((number, NULL, family(number, six), family(2, four), family(7, bytes(20))))
-    family = lambda number, packet: struct.pack(">I", number) + packet
-    cases.append(("OpenBSD", LOOP, family(24, six), family(2, four), family(7, bytes(20))))
-    for name, link_layer, *frames in cases:
-        harness.equal(harness.stat(harness.file(capture(frames, link_layer))), (statistics(
-            other_frames=1, packets=2, ipv4=1, ipv6=1, at_payload=2, payload_bytes=len(UDP) + len(TCP),
-            chains={"IPv4 51 -> 6": 1, "IPv6 0,43 -> 17": 1}, chain_headers={"1": 1, "2": 1}, chain_bytes={"24": 1, "16": 1},
-            headers={"0": 1, "43": 1, "51": 1}, payload_numbers={"6": 1, "17": 1}), ""), "link layer", name)
-    for link_layer, packet, version in [(RAW, six, 6), (RAW, four, 4), (IPV6, six, 6), (IPV4, four, 4)]:
-        found, _ = harness.stat(content=capture([packet], link_layer))
-        harness.equal((found["packets"], found["ipv%d" % version]), (1, 1), "link layer", link_layer)
-
-
-def short_frames(harness):
-    """Frames that end within the link-layer header, or directly after it."""
-    for link_layer, frame, before in [(ETHERNET, ethernet(b""), 14), (ETHERNET, ethernet(b"", (0x8100, 0x8100)), 22),
-                                      (SLL, cooked(b"", 0x86DD), 16), (SLL2, cooked2(b"", 0x86DD), 20),
-                                      (NULL, struct.pack("<I", 30), 4)]:
-        found, _ = harness.stat(content=capture([frame[:n] for n in range(before + 1)], link_layer))
-        harness.equal(found, statistics(other_frames=before, packets=1, without_header=1, at_truncated_header=1,
-                                        truncated_headers={"IP-header": 1}), "link layer", link_layer)
-
-
 def faulty_packets():
     """Yields packets with their error, the text of their chain, and its length in bytes."""
     for number in [0, 43, 60]:
@@ -200,7 +164,10 @@ def truncated_files(harness):
 
 def what_cant_be_read(harness):
     for link_layer, words in [(105, "link layer IEEE802_11 (802.11) isn't supported"),
-                              (9, "link layer PPP (PPP) isn't supported"),
+                              (119, "link layer PRISM_HEADER (802.11 plus Prism header) isn't supported"),
+                              (127, "link layer IEEE802_11_RADIO (802.11 plus radiotap header) isn't supported"),
+                              (163, "link layer IEEE802_11_RADIO_AVS (802.11 plus AVS radio information header) "
+                                    "isn't supported"),
                               (60000, "link layer 60000 isn't supported")]:
         path = harness.file(capture([bytes(60)], link_layer))
         for command in ["stat", "show"]:

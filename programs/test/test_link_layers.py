@@ -1,0 +1,174 @@
+"""Tests of link layers. All headers were written by hand from the standards."""
+
+import random
+import struct
+import sys
+
+from captures import *
+from harness import statistics
+
+MAC = "020000000001 020000000002"
+SNAP = "aaaa03 000000"
+RING = "1047 020000000001"
+ROUTE = "d2a0" + "0012" * 8
+COOKED = "0000 0001 0006 020000000001 0000"
+COOKED2 = "0000 00000001 0001 00 06 0200000000010000"
+IPNET = "0000 00000054 00000002 00000000 ffffffff 00000000"
+GLOBAL_ROUTE = "00" * 40
+SLIP = "00 45 0000000000000000000000000000"
+PPPOE = "8864 1100 0001 0040"
+JUNIPER = "4d4743 80 0010 030101 06010e 01028c00 04044c010000"
+LABEL, LAST_LABEL = "0001 0040", "0001 0140"
+
+# Link layers: their number, the headers before an IPv6 and before an IPv4 packet, and a frame without IP.
+LINKS = {
+    "802.3": (1, f"{MAC} 05dc {SNAP} 86dd", f"{MAC} 0000 {SNAP} 0800", f"{MAC} 05dd {SNAP} 0800"),
+    "802.3, no SNAP": (1, f"{MAC} 0040 {SNAP} 86dd", f"{MAC} 0040 {SNAP} 0800", f"{MAC} 0026 424203 0000"),
+    "802.3, organization": (1, f"{MAC} 0040 {SNAP} 86dd", f"{MAC} 0040 {SNAP} 0800", f"{MAC} 0040 aaaa03 00000c 0800"),
+    "VLAN, 802.3": (1, f"{MAC} 8100 0001 05dc {SNAP} 86dd", f"{MAC} 8100 0001 0040 {SNAP} 0800", f"{MAC} 8100 0001 0026 424203"),
+    "Token Ring": (6, f"{RING} 020000000002 {SNAP} 86dd", f"{RING} 020000000002 {SNAP} 0800", f"1000 {MAC} {SNAP} 0800"),
+    "Token Ring, routed": (6, f"{RING} 820000000002 {ROUTE} {SNAP} 86dd", f"{RING} 820000000002 0220 {SNAP} 0800",
+                           f"{RING} 820000000002 06a0 {SNAP} 0800"),
+    "FDDI": (10, f"50 {MAC} {SNAP} 86dd", f"57 {MAC} {SNAP} 0800", f"41 {MAC} {SNAP} 0800"),
+    "ATM": (11, f"{SNAP} 86dd", f"{SNAP} 0800", "fefe03 81 0000"),
+    "cooked": (113, f"{COOKED} 86dd", f"{COOKED} 0800", f"{COOKED} 0806" + "00" * 28),
+    "cooked, VLAN": (113, f"{COOKED} 8100 0007 86dd", f"{COOKED} 0800", f"{COOKED} 8100 0007 0806"),
+    "cooked, LLC": (113, f"{COOKED} 0004 {SNAP} 86dd", f"{COOKED} 0004 {SNAP} 0800", f"{COOKED} 0004 424203"),
+    "cooked 2": (276, f"86dd {COOKED2}", f"0800 {COOKED2}", f"0806 {COOKED2}" + "00" * 28),
+    "cooked 2, VLAN": (276, f"8100 {COOKED2} 0007 86dd", f"0800 {COOKED2}", f"8100 {COOKED2} 0007 0806"),
+    "IPoIB": (242, f"{GLOBAL_ROUTE} 86dd 0000", f"{GLOBAL_ROUTE} 0800 0000", f"{GLOBAL_ROUTE} 0806 0000"),
+    "Solaris": (226, f"01 1a {IPNET}", f"01 02 {IPNET}", f"01 07 {IPNET}"),
+    "SLIP": (8, SLIP, SLIP, "00 45 0000"),
+    "PPP": (9, "0057", "0021", "c021 0101 0004"),
+    "PPP, framed": (9, "ff03 0057", "ff03 0021", "ff03 8057 0101 0004"),
+    "PPP, compressed": (9, "57", "21", "2f 45"),
+    "PPP, framed and compressed": (9, "ff03 57", "ff03 21", "ff03 fd"),
+    "PPP with direction": (204, "00 ff03 0057", "01 0021", "00 ff03 c021"),
+    "PPP of pppd": (166, "0003 0057", "0103 0021", "0003 c021"),
+    "PPP, serial": (50, "ff03 0057", "ff03 0021", "ff03 c021 0101 0004"),
+    "Cisco HDLC, serial": (50, "0f00 86dd", "8f00 0800", "8f00 8035 00000002"),
+    "PPPoE": (51, "1100 0001 0040 0057", "1100 0001 0040 0021", "1109 0000 0040 0021"),
+    "PPPoE, version 2": (51, "1100 0001 0040 0057", "1100 0001 0040 0021", "2100 0001 0040 0021"),
+    "Ethernet, PPPoE": (1, f"{MAC} {PPPOE} 0057", f"{MAC} {PPPOE} 0021", f"{MAC} 8863 1109 0000 0004 01010000"),
+    "VLAN, PPPoE": (1, f"{MAC} 88a8 0001 8100 0002 {PPPOE} 0057", f"{MAC} 8100 0002 {PPPOE} 0021", f"{MAC} {PPPOE} c021"),
+    "Cisco HDLC": (104, "0f00 86dd", "0f00 0800", "8f00 8035 00000002"),
+    "Cisco HDLC with direction": (205, "00 0f00 86dd", "01 0f00 0800", "01 8f00 8035"),
+    "Frame Relay": (107, "1841 03 8e", "1841 03 cc", "0001 03 08 00 75"),
+    "Frame Relay, long addresses": (107, "184041 03 00 8e", "18404041 03 cc", "1840404041 03 cc"),
+    "Frame Relay, short address": (107, "1841 03 8e", "1841 03 cc", "19 03 cc"),
+    "Frame Relay, SNAP": (107, "1841 03 00 80 000000 86dd", "1841 03 80 000000 0800", "1841 03 00 80 0080c2 0007"),
+    "Frame Relay, PPP": (107, "1841 03 cf 0057", "1841 03 cf 0021", "1841 03 cf c021"),
+    "Frame Relay, Cisco": (107, "0401 86dd", "00f1 0800", "0001 0800 75"),
+    "Frame Relay with direction": (206, "00 1841 03 8e", "01 1841 03 cc", "01 1841 03 81"),
+    "multilink Frame Relay": (182, "c105 1841 03 8e", "8106 1841 0800", "e100 1841 03 cc"),
+    "multilink Frame Relay, later": (182, "c105 1841 03 8e", "8106 1841 0800", "4107 1841 03 cc"),
+    "Juniper Ethernet": (178, f"4d4743 01 {MAC} 86dd", f"{JUNIPER} {MAC} 0800", f"{JUNIPER} {MAC} 0806"),
+    "Juniper ATM1": (137, f"4d4743 01 00000000 {SNAP} 86dd", f"{JUNIPER} 00000000 {SNAP} 0800",
+                     f"4d4743 01 80000000 {SNAP} 0800"),
+}
+
+# The packets after these are IP if their first four bits are 4 or 6.
+LINKS_BY_VERSION = {
+    "MPLS": (1, f"{MAC} 8847 {LAST_LABEL}", f"{MAC} 8848 {LABEL * 3} {LAST_LABEL}", f"{MAC} 8847 {LAST_LABEL} 00000000"),
+    "MPLS without bottom": (1, f"{MAC} 8847 {LAST_LABEL}", f"{MAC} 8847 {LAST_LABEL}", f"{MAC} 8847 {LABEL * 300} 0001"),
+    "VLAN, PPPoE, MPLS": (1, f"{MAC} 88a8 0001 8100 0002 {PPPOE} 0281 {LABEL} {LAST_LABEL}",
+                          f"{MAC} 8100 0002 {PPPOE} 0283 {LAST_LABEL}", f"{MAC} 8100 0002 {PPPOE} 8281 0101 0004"),
+    "PPP, MPLS": (9, f"ff03 0281 {LABEL} {LAST_LABEL}", f"ff03 0283 {LAST_LABEL}", f"ff03 0281 {LAST_LABEL} 8100"),
+    "Cisco HDLC, MPLS": (104, f"0f00 8847 {LAST_LABEL}", f"0f00 8848 {LABEL} {LAST_LABEL}", f"0f00 8847 {LAST_LABEL} 00"),
+    "Juniper Ethernet, removed": (178, "4d4743 02 00000000", JUNIPER.replace("80", "82", 1) + "02000000",
+                                  "4d4743 02 00000000 81"),
+    "Juniper ATM1 without LLC": (137, "4d4743 01 00000000", f"{JUNIPER} 00000000", "4d474f 01 00000000 45"),
+}
+
+
+def nflog(family, order, version=0, payload_len=600):
+    """Returns the headers of a netfilter log: an attribute of 6 bytes, which is padded, and then that of a payload."""
+    attributes = struct.pack(order + "HHHxxHH", 6, 10, ord("x"), payload_len, 9)
+    return bytes([family, version, 0, 1]) + attributes
+
+
+def fixed_links():
+    """Yields name, number, headers before an IPv6 and before an IPv4 packet, and a frame without IP."""
+    for name, (number, *parts) in LINKS.items():
+        yield (name, number, *map(bytes.fromhex, parts))
+    arp = bytes(46)
+    for tags in [(), (0x8100,), (0x88A8, 0x8100), (0x9100, 0x8100), (0x8100,) * 5]:
+        yield "Ethernet", ETHERNET, *(ethernet(b"", tags, ethertype) for ethertype in (0x86DD, 0x0800)), ethernet(arp, tags, 0x0806)
+    for order in "<>":
+        for number in [10, 24, 28, 30]:
+            yield "BSD loopback", NULL, *(struct.pack(order + "I", family) for family in (number, 2, 7))
+    yield "OpenBSD loopback", LOOP, *(struct.pack(">I", family) for family in (24, 2, 7))
+    order = "<" if sys.byteorder == "little" else ">"
+    for other in [nflog(7, order), nflog(2, order, 1), nflog(2, order, 0, 3)]:
+        yield "netfilter log", NFLOG, nflog(10, order), nflog(2, order), other
+
+
+def links_by_version():
+    """Yields the same for headers that don't say whether IP follows."""
+    for name, (number, *parts) in LINKS_BY_VERSION.items():
+        yield (name, number, *map(bytes.fromhex, parts))
+
+
+def link_layers(harness):
+    """Three frames of each link layer: an IPv6 packet, an IPv4 packet, and one that isn't IP."""
+    six, four = ipv6_chain([0, 43]), ipv4(51, authentication(6) + TCP)
+    wanted = statistics(
+        other_frames=1, packets=2, ipv4=1, ipv6=1, at_payload=2, payload_bytes=len(UDP) + len(TCP),
+        chains={"IPv4 51 -> 6": 1, "IPv6 0,43 -> 17": 1}, chain_headers={"1": 1, "2": 1}, chain_bytes={"24": 1, "16": 1},
+        headers={"0": 1, "43": 1, "51": 1}, payload_numbers={"6": 1, "17": 1})
+    for name, number, before_six, before_four, other in [*fixed_links(), *links_by_version()]:
+        content = capture([before_six + six, before_four + four, other], number)
+        harness.equal(harness.stat(content=content), (wanted, ""), "link layer", name)
+    for order in "<>":
+        frames = [nflog(10, order) + six, nflog(2, order) + four, nflog(7, order)]
+        harness.equal(harness.stat(content=capture(frames, NFLOG, order=order)), (wanted, ""), "byte order", order)
+    for link_layer, packet, version in [(RAW, six, 6), (RAW, four, 4), (IPV6, six, 6), (IPV4, four, 4)]:
+        found, _ = harness.stat(content=capture([packet], link_layer))
+        harness.equal((found["packets"], found["ipv%d" % version]), (1, 1), "link layer", link_layer)
+
+
+def short_frames(harness):
+    """Frames that end within the link-layer header, or directly after it."""
+    for link_layer, frame, before in [(ETHERNET, ethernet(b""), 14), (ETHERNET, ethernet(b"", (0x8100, 0x8100)), 22),
+                                      (SLL, cooked(b"", 0x86DD), 16), (SLL2, cooked2(b"", 0x86DD), 20),
+                                      (NULL, struct.pack("<I", 30), 4)]:
+        found, _ = harness.stat(content=capture([frame[:n] for n in range(before + 1)], link_layer))
+        harness.equal(found, statistics(other_frames=before, packets=1, without_header=1, at_truncated_header=1,
+                                        truncated_headers={"IP-header": 1}), "link layer", link_layer)
+
+
+def places_of_ip(harness, frames):
+    """Returns where IP is found in each of the frames, truncated to 0, 1 and so on bytes, or -1. Each is in memory that
+    ends after it."""
+    content = "".join("%d:%s.\n" % (number, frame.hex()) for number, frame in frames).encode()
+    answers = [harness.answer(command, [], content, None) for command in harness.commands("find")]
+    for answer in answers:
+        harness.equal(answer, (0, answers[0][1], "", None), "places of IP")
+    return [list(map(int, line.split())) for line in answers[0][1].splitlines()]
+
+
+def truncated_frames(harness):
+    """No byte after a truncated frame is read, and IP is found where all headers before it are there."""
+    frames, wanted, names = [], [], []
+    for links, further in [(fixed_links(), 0), (links_by_version(), 1)]:
+        for name, number, before_six, before_four, other in links:
+            for before, first in [(before_six, b"\x60"), (before_four, b"\x45")]:
+                frames.append((number, before + first * 2))
+                wanted.append([-1] * (len(before) + further) + [len(before)] * (3 - further))
+            frames.append((number, other))
+            wanted.append([-1] * (len(other) + 1))
+            names += [name] * 3
+    for found, expected, name in zip(places_of_ip(harness, frames), wanted, names):
+        harness.equal(found, expected, "truncated frames of", name)
+
+
+def hostile_frames(harness):
+    """No byte after a frame is read, whatever its bytes are."""
+    draw, frames = random.Random(7), []
+    for _, number, *parts in [*fixed_links(), *links_by_version()]:
+        for headers in parts:
+            for place in range(min(len(headers), 40)):
+                for value in [0, 255, headers[place] ^ 1, draw.randrange(256)]:
+                    frames.append((number, headers[:place] + bytes([value]) + headers[place + 1:][:40] + b"\x45"))
+        frames += [(number, draw.randbytes(draw.randrange(40))) for _ in range(40)]
+    harness.equal(len(places_of_ip(harness, frames)), len(frames), "hostile frames")

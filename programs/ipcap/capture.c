@@ -5,8 +5,6 @@
 #include <string.h>
 #include <sys/stat.h>
 
-#include "link_layer.h"
-
 enum { MAGIC_LEN = 4 };
 
 /* Sets the text of the error, formatted as by printf, and returns false. */
@@ -113,7 +111,7 @@ bool read_packet(struct capture *capture, struct packet *packet)
     if (capture->follow) capture->follow(capture);
     packet->header = *header;
     packet->is_short = header->caplen < header->len;
-    packet->is_ip = find_ip(capture->link_layer, packet->frame, header->caplen, &packet->ip_offset);
+    packet->is_ip = find_ip(capture->link_layer, packet->frame, header->caplen, &packet->ip_offset, &packet->protocol);
     return true;
 }
 

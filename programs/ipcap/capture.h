@@ -8,6 +8,8 @@
 #include <stdint.h>
 #include <stdio.h>
 
+#include "link_layer.h"
+
 /* A buffer size that is large enough for the text of every error and its terminating null byte. */
 enum { CAPTURE_ERROR_ROOM = PCAP_ERRBUF_SIZE + 64 };
 
@@ -31,8 +33,9 @@ struct packet {
     struct pcap_pkthdr header;
     const uint8_t *frame;
     bool is_ip;
-    bool is_short;    /* truncated by the snap length */
-    size_t ip_offset; /* where the IP packet begins in the frame */
+    bool is_short;            /* truncated by the snap length */
+    size_t ip_offset;         /* where the IP packet begins in the frame */
+    struct protocol protocol; /* the last number that says what the frame carries */
 };
 
 /* Whether a path stands for standard input or output: it is null or `-`. */

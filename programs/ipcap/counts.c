@@ -5,6 +5,7 @@
 #include "chain_key.h"
 #include "fields.h"
 #include "parts.h"
+#include "protocol_key.h"
 
 void init_counts(struct counts *counts)
 {
@@ -22,6 +23,15 @@ static bool count_chain(struct table *chains, const struct parts *parts)
     return true;
 }
 
+/* Adds the protocol of a frame without an IP packet to the table of protocols. Returns false if memory runs out. */
+static bool count_protocol(struct table *protocols, const struct protocol *protocol)
+{
+    struct key key;
+    if (protocol_key(protocol, &key)) return add_to_table(protocols, &key, 1);
+    protocols->other = add_counts(protocols->other, 1);
+    return true;
+}
+
 static bool count_packet(struct counts *counts, struct parts *parts, const struct packet *packet)
 {
     const uint8_t *bytes = packet->frame + packet->ip_offset;
@@ -29,7 +39,7 @@ static bool count_packet(struct counts *counts, struct parts *parts, const struc
     if (packet->is_short) wolfaren_count_truncated_frame(&counts->statistics);
     if (!packet->is_ip) {
         wolfaren_count_other_frame(&counts->statistics);
-        return true;
+        return count_protocol(&counts->protocols, &packet->protocol);
     }
     return parse_packet(parts, bytes, len, &counts->statistics) && count_chain(&counts->chains, parts);
 }
@@ -44,14 +54,19 @@ bool count_capture(struct counts *counts, struct capture *capture)
     return is_counted;
 }
 
+static bool merge_tables(struct table *total, const struct table *more)
+{
+    total->other = add_counts(total->other, more->other);
+    for (size_t i = 0; i < more->count; i++)
+        if (!add_to_table(total, &more->entries[i].key, more->entries[i].count)) return false;
+    return true;
+}
+
 bool merge_counts(struct counts *total, const struct counts *more)
 {
     /* false only if one of them isn't from init_counts */
     if (!wolfaren_merge_statistics(&total->statistics, &more->statistics)) return false;
-    total->chains.other = add_counts(total->chains.other, more->chains.other);
-    for (size_t i = 0; i < more->chains.count; i++)
-        if (!add_to_table(&total->chains, &more->chains.entries[i].key, more->chains.entries[i].count)) return false;
-    return true;
+    return merge_tables(&total->chains, &more->chains) && merge_tables(&total->protocols, &more->protocols);
 }
 
 static uint64_t sum(const uint64_t *counts, size_t len)
@@ -87,10 +102,11 @@ bool do_add_up(const struct counts *counts)
         && SUM(of->payload_numbers) == of->at_payload && SUM(of->later_fragment_numbers) == of->at_later_fragment
         && SUM(of->truncated_headers) == of->at_truncated_header && SUM(of->faults) == of->at_fault
         && sum_table(&counts->chains) == ip && has_chains(&counts->chains, 4, of->ipv4)
-        && has_chains(&counts->chains, 6, of->ipv6);
+        && has_chains(&counts->chains, 6, of->ipv6) && sum_table(&counts->protocols) == of->other_frames;
 }
 
 void free_counts(struct counts *counts)
 {
     free_table(&counts->chains);
+    free_table(&counts->protocols);
 }

@@ -76,36 +76,52 @@ static const struct link_layer link_layers[] = {
     {DLT_JUNIPER_ATM1, 0, LAYER_JUNIPER_ATM1},
 };
 
-/* The number in a header of what follows it. */
+/* The layer that a number stands for. */
 struct carried {
-    unsigned number;
+    uint32_t number;
     enum layer layer;
 };
 
+enum { MAX_CARRIED = 9 };
+
+/* The numbers of a kind. All others, and unused elements, stand for LAYER_OTHER. */
+struct numbers {
+    enum protocol_kind kind;
+    struct carried carried[MAX_CARRIED];
+};
+
 /*
- * EtherTypes: IP; tags of IEEE 802.1Q and 802.1ad, and the one in use before 802.1ad; MPLS (RFC 5332); PPPoE sessions;
- * and the number below all EtherTypes by which Linux marks LLC frames in cooked captures.
+ * IP; tags of IEEE 802.1Q and 802.1ad, and the one in use before 802.1ad; MPLS (RFC 5332); PPPoE sessions; and the
+ * number below all EtherTypes by which Linux marks LLC frames in cooked captures.
  */
-static const struct carried ethertypes[] = {
-    {0x0800, LAYER_IP},       {0x86dd, LAYER_IP},       {0x8100, LAYER_VLAN_TAG},
-    {0x88a8, LAYER_VLAN_TAG}, {0x9100, LAYER_VLAN_TAG}, {0x8847, LAYER_MPLS},
-    {0x8848, LAYER_MPLS},     {0x8864, LAYER_PPPOE},    {0x0004, LAYER_LLC}};
+static const struct numbers ethertypes = {
+    PROTOCOL_ETHERTYPE,
+    {{0x0800, LAYER_IP},
+     {0x86dd, LAYER_IP},
+     {0x8100, LAYER_VLAN_TAG},
+     {0x88a8, LAYER_VLAN_TAG},
+     {0x9100, LAYER_VLAN_TAG},
+     {0x8847, LAYER_MPLS},
+     {0x8848, LAYER_MPLS},
+     {0x8864, LAYER_PPPOE},
+     {0x0004, LAYER_LLC}}};
 
-/* PPP's protocol numbers: IP (RFC 1332, RFC 5072) and MPLS (RFC 3032). */
-static const struct carried ppp_protocols[] = {
-    {0x0021, LAYER_IP}, {0x0057, LAYER_IP}, {0x0281, LAYER_MPLS}, {0x0283, LAYER_MPLS}};
+/* IP (RFC 1332, RFC 5072) and MPLS (RFC 3032). */
+static const struct numbers ppp_protocols = {
+    PROTOCOL_PPP, {{0x0021, LAYER_IP}, {0x0057, LAYER_IP}, {0x0281, LAYER_MPLS}, {0x0283, LAYER_MPLS}}};
 
-/* Network layer protocol identifiers (RFC 2427): IPv4, IPv6, SNAP, and PPP (RFC 1973). */
-static const struct carried nlpids[] = {
-    {0xcc, LAYER_IP}, {0x8e, LAYER_IP}, {0x80, LAYER_SNAP}, {0xcf, LAYER_PPP}};
+/* Network layer protocol identifiers: IPv4, IPv6 and SNAP (RFC 2427), and PPP (RFC 1973). */
+static const struct numbers nlpids = {
+    PROTOCOL_NLPID, {{0xcc, LAYER_IP}, {0x8e, LAYER_IP}, {0x80, LAYER_SNAP}, {0xcf, LAYER_PPP}}};
 
-/* AF_INET and AF_INET6 of Linux and of Solaris. */
-static const struct carried linux_families[] = {{2, LAYER_IP}, {10, LAYER_IP}};
-static const struct carried solaris_families[] = {{2, LAYER_IP}, {26, LAYER_IP}};
+/* AF_INET and AF_INET6 of Linux, for netfilter logs, and of Solaris. */
+static const struct numbers linux_families = {
+    PROTOCOL_FAMILY, {{2, LAYER_NFLOG_ATTRIBUTE}, {10, LAYER_NFLOG_ATTRIBUTE}}};
+static const struct numbers solaris_families = {PROTOCOL_FAMILY, {{2, LAYER_IP}, {26, LAYER_IP}}};
 
 /* AF_INET is 2 everywhere; AF_INET6 is 10 on Linux, 24 on NetBSD and OpenBSD, 28 on FreeBSD, 30 on Darwin. */
-static const struct carried families[] = {
-    {2, LAYER_IP}, {10, LAYER_IP}, {24, LAYER_IP}, {28, LAYER_IP}, {30, LAYER_IP}};
+static const struct numbers families = {
+    PROTOCOL_FAMILY, {{2, LAYER_IP}, {10, LAYER_IP}, {24, LAYER_IP}, {28, LAYER_IP}, {30, LAYER_IP}}};
 
 /* A header of fixed length with an EtherType. */
 struct typed_header {
@@ -122,10 +138,11 @@ static const struct typed_header ipoib = {44, 40};     /* RFC 4391, after a glob
 static const struct typed_header cisco_hdlc = {4, 2};  /* RFC 1547, section 4.3.1 */
 static const struct typed_header cisco_frame = {2, 0}; /* after an address of Frame Relay */
 
-/* What is left of a frame. */
+/* What is left of a frame, and the last number that says what it is. */
 struct rest {
     const uint8_t *bytes;
     size_t len;
+    struct protocol protocol;
 };
 
 /* Skips `count` bytes, unless there are fewer. */
@@ -153,19 +170,19 @@ static unsigned number_at(const uint8_t *bytes)
     return (unsigned)bytes[0] << 8 | bytes[1];
 }
 
-static enum layer layer_in(const struct carried *table, size_t len, unsigned number)
+/* Returns what is left of the frame by a number in a header. */
+static enum layer layer_of(struct rest *rest, const struct numbers *numbers, uint32_t number)
 {
-    for (size_t i = 0; i < len; i++)
-        if (table[i].number == number) return table[i].layer;
+    rest->protocol = (struct protocol){numbers->kind, number};
+    for (size_t i = 0; i < MAX_CARRIED; i++)
+        if (numbers->carried[i].number == number) return numbers->carried[i].layer;
     return LAYER_OTHER;
 }
-
-#define LAYER_IN(table, number) layer_in(table, sizeof(table) / sizeof *(table), number)
 
 static enum layer skip_typed(struct rest *rest, const struct typed_header *header)
 {
     const uint8_t *bytes = rest->bytes;
-    return skip(rest, header->len) ? LAYER_IN(ethertypes, number_at(bytes + header->type_at)) : LAYER_OTHER;
+    return skip(rest, header->len) ? layer_of(rest, &ethertypes, number_at(bytes + header->type_at)) : LAYER_OTHER;
 }
 
 /* Skips an Ethernet header or a VLAN tag, in which a small number is the length of an LLC frame (IEEE 802.3). */
@@ -175,13 +192,14 @@ static enum layer skip_typed_or_length(struct rest *rest, const struct typed_hea
     const uint8_t *bytes = rest->bytes;
     if (!skip(rest, header->len)) return LAYER_OTHER;
     unsigned number = number_at(bytes + header->type_at);
-    return number <= MAX_LENGTH ? LAYER_LLC : LAYER_IN(ethertypes, number);
+    return number <= MAX_LENGTH ? LAYER_LLC : layer_of(rest, &ethertypes, number);
 }
 
 /* IEEE 802.2, with the service access points and the control byte of SNAP (RFC 1042). */
 static enum layer skip_llc(struct rest *rest)
 {
     static const uint8_t snap_follows[] = {0xaa, 0xaa, 0x03};
+    if (rest->len > 0) rest->protocol = (struct protocol){PROTOCOL_LLC, rest->bytes[0]};
     return skip_bytes(rest, snap_follows, sizeof snap_follows) ? LAYER_SNAP : LAYER_OTHER;
 }
 
@@ -212,8 +230,8 @@ static enum layer skip_fddi(struct rest *rest)
 }
 
 /*
- * BSD loopback. The address family is in the byte order of the capturing machine, which isn't known, so both orders are
- * tried. No value is an IP address family in both.
+ * BSD loopback. The address family is in the byte order of the capturing machine, which isn't known. In the other order
+ * it would be larger.
  */
 static enum layer skip_family(struct rest *rest)
 {
@@ -222,8 +240,7 @@ static enum layer skip_family(struct rest *rest)
     if (!skip(rest, LEN)) return LAYER_OTHER;
     uint32_t big = (uint32_t)number_at(bytes) << 16 | number_at(bytes + 2);
     uint32_t little = (uint32_t)bytes[3] << 24 | (uint32_t)bytes[2] << 16 | (uint32_t)bytes[1] << 8 | bytes[0];
-    enum layer layer = LAYER_IN(families, big);
-    return layer == LAYER_OTHER ? LAYER_IN(families, little) : layer;
+    return layer_of(rest, &families, big < little ? big : little);
 }
 
 /* libpcap's LINKTYPE_IPNET */
@@ -231,7 +248,7 @@ static enum layer skip_ipnet(struct rest *rest)
 {
     enum { LEN = 24, FAMILY_AT = 1 };
     const uint8_t *header = rest->bytes;
-    return skip(rest, LEN) ? LAYER_IN(solaris_families, header[FAMILY_AT]) : LAYER_OTHER;
+    return skip(rest, LEN) ? layer_of(rest, &solaris_families, header[FAMILY_AT]) : LAYER_OTHER;
 }
 
 /* libpcap's LINKTYPE_NFLOG, of which there is only version 0. */
@@ -240,7 +257,7 @@ static enum layer skip_nflog(struct rest *rest)
     enum { LEN = 4, FAMILY_AT = 0, VERSION_AT = 1 };
     const uint8_t *header = rest->bytes;
     if (!skip(rest, LEN) || header[VERSION_AT] != 0) return LAYER_OTHER;
-    return LAYER_IN(linux_families, header[FAMILY_AT]) == LAYER_IP ? LAYER_NFLOG_ATTRIBUTE : LAYER_OTHER;
+    return layer_of(rest, &linux_families, header[FAMILY_AT]);
 }
 
 /* An attribute: length and type in this machine's byte order, to which libpcap converts them, a value, and padding. */
@@ -288,8 +305,8 @@ static enum layer skip_ppp(struct rest *rest)
     skip_bytes(rest, address_and_control, sizeof address_and_control);
     const uint8_t *protocol = rest->bytes;
     if (!skip(rest, 1)) return LAYER_OTHER;
-    if (protocol[0] & 1) return LAYER_IN(ppp_protocols, protocol[0]);
-    return skip(rest, 1) ? LAYER_IN(ppp_protocols, number_at(protocol)) : LAYER_OTHER;
+    if (protocol[0] & 1) return layer_of(rest, &ppp_protocols, protocol[0]);
+    return skip(rest, 1) ? layer_of(rest, &ppp_protocols, number_at(protocol)) : LAYER_OTHER;
 }
 
 /* PPP, or Cisco HDLC by one of its two addresses. */
@@ -328,7 +345,7 @@ static enum layer skip_frame_relay(struct rest *rest)
         return is_signalling(address) ? LAYER_OTHER : skip_typed(rest, &cisco_frame);
     skip_bytes(rest, padding, sizeof padding);
     const uint8_t *nlpid = rest->bytes;
-    return skip(rest, 1) ? LAYER_IN(nlpids, *nlpid) : LAYER_OTHER;
+    return skip(rest, 1) ? layer_of(rest, &nlpids, *nlpid) : LAYER_OTHER;
 }
 
 /* FRF.16.1: a fragment, of which the first, or only, one has the headers of Frame Relay. */
@@ -413,12 +430,14 @@ const struct link_layer *find_link_layer(int number)
     return NULL;
 }
 
-bool find_ip(const struct link_layer *link_layer, const uint8_t *frame, size_t len, size_t *offset)
+bool find_ip(const struct link_layer *link_layer, const uint8_t *frame, size_t len, size_t *offset,
+             struct protocol *protocol)
 {
-    struct rest rest = {frame, len};
+    struct rest rest = {.bytes = frame, .len = len};
     enum layer layer = skip(&rest, link_layer->before) ? link_layer->first : LAYER_OTHER;
     /* ends: each header has a byte, but for LAYER_SERIAL, to which none leads */
     while (layer != LAYER_IP && layer != LAYER_OTHER) layer = skip_layer(&rest, layer);
     *offset = len - rest.len;
+    *protocol = rest.protocol;
     return layer == LAYER_IP;
 }

@@ -8,13 +8,30 @@
 
 struct link_layer;
 
+/* The numbers by which headers say what follows them. */
+enum protocol_kind {
+    PROTOCOL_UNKNOWN, /* no number */
+    PROTOCOL_ETHERTYPE,
+    PROTOCOL_LLC, /* a destination service access point */
+    PROTOCOL_PPP,
+    PROTOCOL_NLPID,
+    PROTOCOL_FAMILY /* an address family of the capturing system */
+};
+
+struct protocol {
+    enum protocol_kind kind;
+    uint32_t number;
+};
+
 /* Returns the link layer with this number, one of libpcap's DLT_ values, or null if it isn't supported. */
 const struct link_layer *find_link_layer(int number);
 
 /*
  * Finds the IP packet in the `len` bytes of a frame: stores where it begins in `offset` and returns true. Returns false
- * if the frame doesn't carry IP, or is truncated before the field that says what it carries.
+ * if the frame doesn't carry IP, or is truncated before the field that says what it carries. Stores in `protocol` the
+ * last number that says what the frame carries.
  */
-bool find_ip(const struct link_layer *link_layer, const uint8_t *frame, size_t len, size_t *offset);
+bool find_ip(const struct link_layer *link_layer, const uint8_t *frame, size_t len, size_t *offset,
+             struct protocol *protocol);
 
 #endif

@@ -6,6 +6,10 @@
 #include "chain_key.h"
 #include "fields.h"
 #include "names.h"
+#include "protocol_key.h"
+
+/* How many protocols other than IP the human-readable table has. */
+enum { MOST_PROTOCOLS = 5 };
 
 struct output {
     FILE *file;
@@ -40,16 +44,23 @@ static void end_table(struct output *output)
     output->separator = ",";
 }
 
-static void write_chains(struct output *output, struct table *chains)
+/* Writes the `most` most frequent entries of a table, whose keys `write_key` formats, and then the sum of all others. */
+static void write_entries(struct output *output, struct table *table, size_t most,
+                          void (*write_key)(const struct key *key, char text[CHAIN_TEXT_ROOM]))
 {
     char text[CHAIN_TEXT_ROOM];
-    order_table(chains);
-    begin_table(output, "chains", "chains");
-    for (size_t i = 0; i < chains->count; i++) {
-        write_chain(&chains->entries[i].key, text);
-        write_count(output, text, chains->entries[i].count);
+    uint64_t other = table->other;
+    order_table(table);
+    for (size_t i = 0; i < table->count; i++) {
+        const struct entry *entry = &table->entries[i];
+        if (i < most) {
+            write_key(&entry->key, text);
+            write_count(output, text, entry->count);
+        } else {
+            other = add_counts(other, entry->count);
+        }
     }
-    if (chains->other > 0) write_count(output, "other", chains->other);
+    if (other > 0) write_count(output, "other", other);
     end_table(output);
 }
 
@@ -97,7 +108,10 @@ void print_counts(struct counts *counts, FILE *file, bool json)
         fprintf(file, "packets\n");
     for (size_t i = 0; i < SCALARS; i++)
         write_count(&output, json ? scalars[i].name : scalars[i].words, *scalar_in(&counts->statistics, &scalars[i]));
-    write_chains(&output, &counts->chains);
+    begin_table(&output, "protocols of frames without an IP packet", "other_protocols");
+    write_entries(&output, &counts->protocols, json ? TABLE_KEYS : MOST_PROTOCOLS, write_protocol);
+    begin_table(&output, "chains", "chains");
+    write_entries(&output, &counts->chains, TABLE_KEYS, write_chain);
     for (size_t i = 0; i < ARRAYS; i++) write_array(&output, &arrays[i], array_in(&counts->statistics, &arrays[i]));
     if (json) fprintf(file, "}\n");
 }

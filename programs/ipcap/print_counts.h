@@ -8,8 +8,8 @@
 #include "counts.h"
 
 /*
- * Writes one line with a JSON object, or human-readable tables. Sorts the table of chains for that, after which nothing
- * may be added to the statistics.
+ * Writes one line with a JSON object, or human-readable tables. Sorts the tables of chains and protocols for that;
+ * afterwards nothing may be added to the statistics.
  */
 void print_counts(struct counts *counts, FILE *file, bool json);
 

@@ -6,6 +6,7 @@
 #include "chain_key.h"
 #include "fields.h"
 #include "names.h"
+#include "protocol_key.h"
 #include "report.h"
 
 /* A buffer size that is large enough for any text, such as the name of a member, and its terminating null byte. */
@@ -154,12 +155,24 @@ static bool read_entry(struct reading *reading, struct table *table, const struc
     return false;
 }
 
-static bool read_chain_member(struct reading *reading, const char *name)
+/* Reads a member of a table, whose names `read_key` parses. `refusal` is the error for any other name. */
+static bool read_table_member(struct reading *reading, const char *name, struct table *table,
+                              bool (*read_key)(const char *text, struct key *key), const char *refusal)
 {
     struct key key;
-    if (strcmp(name, "other") == 0) return read_into(reading, &reading->counts->chains.other);
-    if (!read_chain(name, &key)) return refuse(reading->input, "the name is not a chain");
-    return read_entry(reading, &reading->counts->chains, &key);
+    if (strcmp(name, "other") == 0) return read_into(reading, &table->other);
+    if (!read_key(name, &key)) return refuse(reading->input, refusal);
+    return read_entry(reading, table, &key);
+}
+
+static bool read_chain_member(struct reading *reading, const char *name)
+{
+    return read_table_member(reading, name, &reading->counts->chains, read_chain, "the name is not a chain");
+}
+
+static bool read_protocol_member(struct reading *reading, const char *name)
+{
+    return read_table_member(reading, name, &reading->counts->protocols, read_protocol, "the name is not a protocol");
 }
 
 static bool read_element(struct reading *reading, const char *name)
@@ -210,8 +223,15 @@ static bool skip_member(struct reading *reading)
     return reading->input->next == '"' ? read_text(reading->input, text) : skip_count(reading, NULL);
 }
 
-/* The members of the outer object: the version, the single counts, the table of chains, and the arrays. */
-enum { VERSION_AT, SCALARS_AT, CHAINS_AT = SCALARS_AT + SCALARS, ARRAYS_AT, MEMBERS = ARRAYS_AT + ARRAYS };
+/* The members of the outer object: the version, the single counts, the tables, and the arrays. */
+enum {
+    VERSION_AT,
+    SCALARS_AT,
+    CHAINS_AT = SCALARS_AT + SCALARS,
+    PROTOCOLS_AT,
+    ARRAYS_AT,
+    MEMBERS = ARRAYS_AT + ARRAYS
+};
 
 _Static_assert(MEMBERS <= 32, "each member has a bit in `done`");
 
@@ -219,6 +239,7 @@ static const char *member_name(unsigned member)
 {
     if (member == VERSION_AT) return "version";
     if (member == CHAINS_AT) return "chains";
+    if (member == PROTOCOLS_AT) return "other_protocols";
     return member < CHAINS_AT ? scalars[member - SCALARS_AT].name : arrays[member - ARRAYS_AT].name;
 }
 
@@ -227,7 +248,8 @@ static bool read_value(struct reading *reading, unsigned member)
     struct wolfaren_statistics *statistics = &reading->counts->statistics;
     if (member == VERSION_AT) return read_version(reading);
     if (member == CHAINS_AT) return read_object(reading, read_chain_member);
-    if (member > CHAINS_AT) return read_array(reading, &arrays[member - ARRAYS_AT]);
+    if (member == PROTOCOLS_AT) return read_object(reading, read_protocol_member);
+    if (member >= ARRAYS_AT) return read_array(reading, &arrays[member - ARRAYS_AT]);
     return read_count(reading->input, scalar_in(statistics, &scalars[member - SCALARS_AT]));
 }
 
@@ -242,10 +264,19 @@ static bool read_outer_member(struct reading *reading, const char *name)
     return skip_member(reading);
 }
 
+/* Version 1.0 has no table of protocols. All frames without an IP packet are then of other protocols. */
+static void add_protocols(struct reading *reading)
+{
+    if (reading->minor > 0 || reading->done & 1U << PROTOCOLS_AT) return;
+    reading->counts->protocols.other = reading->counts->statistics.other_frames;
+    reading->done |= 1U << PROTOCOLS_AT;
+}
+
 bool read_json(struct json_input *input, struct counts *counts)
 {
     struct reading reading = {.input = input, .counts = counts};
     if (!read_object(&reading, read_outer_member)) return false;
+    add_protocols(&reading);
     for (unsigned member = 0; member < MEMBERS; member++) {
         char words[64];
         if (reading.done & 1U << member) continue;

@@ -13,6 +13,7 @@ import test_use
 
 GROUPS = [("link layers", test_link_layers.link_layers), ("short frames", test_link_layers.short_frames),
           ("truncated frames", test_link_layers.truncated_frames), ("hostile frames", test_link_layers.hostile_frames),
+          ("protocols of other frames", test_link_layers.other_protocols),
           ("faults", test_stat.faults), ("incomplete packets", test_stat.incomplete_packets),
           ("bounds of packets", test_stat.bounds_of_packets), ("fragments", test_stat.fragments),
           ("snap lengths", test_stat.snap_lengths), ("faults in truncated packets", test_stat.faults_in_truncated_packets),

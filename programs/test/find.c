@@ -14,10 +14,11 @@ enum { MAX_FRAME = 4096 };
 static int place_of_ip(const struct link_layer *layer, const uint8_t *bytes, size_t len)
 {
     size_t offset;
+    struct protocol protocol;
     uint8_t *frame = malloc(len);
     if (!frame && len > 0) abort();
     if (len > 0) memcpy(frame, bytes, len);
-    bool is_found = find_ip(layer, frame, len, &offset);
+    bool is_found = find_ip(layer, frame, len, &offset, &protocol);
     free(frame);
     if (offset > len) abort();
     return is_found ? (int)offset : -1;

@@ -353,6 +353,8 @@ def tables(harness):
            0  last fragments
            0  packets with missing bytes
           44  payload bytes
+protocols of frames without an IP packet
+           1  EtherType 0x0806
 chains
            2  IPv6 0,43 -> 17
            1  IPv4 -> 6

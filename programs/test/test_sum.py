@@ -31,7 +31,7 @@ def sums(harness):
     one = json.loads(whole)
     wanted = {name: {k: v * 3 for k, v in part.items()} if isinstance(part, dict) else part * 3
               for name, part in one.items() if name != "version"}
-    harness.equal(total, {"version": "1.0", **wanted}, "three times the whole")
+    harness.equal(total, {"version": "1.1", **wanted}, "three times the whole")
 
 
 def refuse(harness, content, words, name):
@@ -51,7 +51,7 @@ def malformed(harness):
     text = good()
     cases = [(b"", "no statistics"), (b" \n ", "no statistics"), (b"x", "expected '{', found 'x'"), (b"[]", "'['"),
              (b"null", "'n'"), (b"{}", "has no \"version\""), (b"\xff", "byte 0xff"),
-             (b"{\"version\":\"1.0\",\"other_frames\":0}", "has no \"truncated_frames\""),
+             (b"{\"version\":\"1.1\",\"other_frames\":0}", "has no \"truncated_frames\""),
              (text + b"x", "'x'"), (text + b",", "','"), (text[:-1] + b",}", "expected a text in quotes, found '}'"),
              (text.replace(b":1", b":-1", 1), "'-'"), (text.replace(b":1", b":01", 1), "'1'"),
              (text.replace(b":1", b":1.5", 1), "'.'"),
@@ -87,10 +87,14 @@ def malformed(harness):
               ({"without_header": 1}, "don't add up"), ({"truncated_frames": 2}, "don't add up"),
               ({"first_fragments": 2}, "don't add up"), ({"incomplete": 2}, "don't add up"), ({"at_fault": 1}, "don't add up"),
               ({"packets": 2**64 - 1, "without_header": 2**64 - 1}, "don't add up"),
+              ({"other_frames": 1}, "don't add up"), ({"other_protocols": {"other": 1}}, "don't add up"),
               ({"version": "2.0"}, "another major number"), ({"version": "0.1"}, "another major number"),
               ({"version": "1"}, "not two numbers"), ({"version": "1.0.0"}, "not two numbers"),
               ({"version": "1.256"}, "not two numbers"), ({"version": 1}, "expected a text in quotes, found '1'"),
               ({"chains": {"IPv6 0 -> 17": 1, "other": 2**64 - 1}}, "don't add up")]
+    for name in ["x", "EtherType", "EtherType 806", "EtherType 0x806", "EtherType 0x00806", "EtherType 0x10000", "LLC 0xAA",
+                 "LLC 0x100", "PPP 0x-021", "family 07", "family -1", "family 4294967296", "IP 0x0800", "NLPID 0x 8"]:
+        tables.append(({"other_frames": 1, "other_protocols": {name: 1}}, "not a protocol"))
     cases += [(good(**parts), words) for parts, words in tables]
     twice = text.replace(b"{\"IPv6 0 -> 17\":1}", b"{\"IPv6 0 -> 17\":1,\"IPv6 0 -> 17\":1}")
     cases += [(twice, "duplicate name in a table"),
@@ -110,9 +114,13 @@ def versions(harness):
     harness.equal(wanted[0], 0, "our version")
     harness.equal(harness.run("sum", "--json", content=later), wanted, "a later version")
     counts = json.loads(later)
-    last = json.dumps({**{name: value for name, value in counts.items() if name != "version"}, "version": "1.1"}).encode()
+    last = json.dumps({**{name: value for name, value in counts.items() if name != "version"}, "version": "1.2"}).encode()
     harness.equal(harness.run("sum", "--json", content=last), wanted, "the version comes last")
     harness.equal(json.loads(harness.run("sum", "--json", content=text + later)[1])["packets"], 2, "both versions")
+    first = json.loads(good(version="1.0", other_frames=3))
+    del first["other_protocols"]
+    found = harness.run("sum", "--json", content=json.dumps(first).encode() + good(other_frames=1, other_protocols={"PPP 0xc021": 1}))
+    harness.equal(json.loads(found[1])["other_protocols"], {"PPP 0xc021": 1, "other": 3}, "version 1.0")
 
 
 def largest_counts(harness):

@@ -98,11 +98,13 @@ class Json(unittest.TestCase):
 
     def test_versions(self):
         text = counted(PACKETS).to_json()
-        added = text.replace('"1.0"', '"1.7"')[:-1] + ',"new":{"a":1},"text":"b"}'
+        added = text.replace('"1.1"', '"1.7"')[:-1] + ',"new":{"a":1},"text":"b"}'
         self.assertEqual(Statistics.from_json(added), counted(PACKETS))
         for version in ["2.0", "0.9", "1", "x", ""]:
             with self.assertRaisesRegex(ValueError, "version"):
-                Statistics.from_json(text.replace("1.0", version))
+                Statistics.from_json(text.replace("1.1", version))
+        first = text.replace('"1.1"', '"1.0"').replace('"other_protocols":{},', "").replace('"other_frames":0', '"other_frames":2')
+        self.assertEqual(Statistics.from_json(first).other_protocols, {"other": 2})
 
     def test_refused(self):
         text = counted(PACKETS).to_json()
@@ -133,10 +135,28 @@ class Captures(unittest.TestCase):
         found = statistics_of(self.path)
         self.assertEqual((found.packets, found.other_frames, found.truncated_frames), (4, 1, 1))
         added = counted([*(it[:76] for it in PACKETS[:1]), *PACKETS[1:4]])
-        added.add_other_frame()
+        added.add_other_frame("EtherType 0x0806")
         added.add_truncated_frame()
         self.assertEqual(found, added)
         self.assertEqual(found.to_json() + "\n", ipcap("stat", "--json", self.path))
+
+    def test_other_protocols(self):
+        names = ["EtherType 0x88cc"] * 2 + ["PPP 0xc021", "other", "EtherType 0x0806", "NLPID 0x08", "LLC 0x42", "family 30",
+                                            "family 7"]
+        found = Statistics()
+        for name in names:
+            found.add_other_frame(name)
+        found.add_other_frame()
+        self.assertEqual(list((found + found).other_protocols.items()), [
+            ("EtherType 0x88cc", 4), ("EtherType 0x0806", 2), ("LLC 0x42", 2), ("PPP 0xc021", 2), ("NLPID 0x08", 2),
+            ("family 7", 2), ("family 30", 2), ("other", 4)])
+        self.assertEqual(Statistics.from_json(found.to_json()), found)
+        self.assertEqual(ipcap("sum", "--json", text=found.to_json()), found.to_json() + "\n")
+        for name in ["", "IP 0x", "EtherType 0x806", "EtherType 0x10000", "LLC 0xAA", "family 07", "family 4294967296", "PPP"]:
+            with self.assertRaisesRegex(ValueError, "is not a protocol"):
+                found.add_other_frame(name)
+            with self.assertRaises(ValueError):
+                Statistics.from_json(found.to_json().replace("PPP 0xc021", name))
 
     def test_damaged(self):
         path = write(self.folder.name, "damaged.pcap", self.content[:-1])

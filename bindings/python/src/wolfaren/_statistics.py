@@ -14,12 +14,12 @@ from ._library import Buffer, captures, ffi, lib
 MOST = 2**64 - 1
 """The largest count. Counts stop there."""
 
-# What the table of chains has room for, as in ipcap: names, and headers of a chain. Other chains are counted as `other`.
-_CHAINS = 4096
+# What tables have room for, as in ipcap: names, and headers of a chain. What doesn't fit is counted as `other`.
+_NAMES = 4096
 _CHAIN_HEADERS = 64
 
 # The version of the JSON: major and minor number.
-_FORMAT = (1, 0)
+_FORMAT = (1, 1)
 
 _KINDS = {FaultKind.TOO_SHORT: "too-short", FaultKind.HOP_BY_HOP_NOT_AT_START: "not-at-start",
           FaultKind.ZERO_PAYLOAD_LEN: "zero-length", FaultKind.UNSUPPORTED_IP_VERSION: "unsupported-version",
@@ -67,11 +67,23 @@ def _chain_order(chain: tuple[str, int]) -> tuple[Any, ...]:
     return name == "other", -count, numbers[:1], len(numbers), numbers[-1:], name.split(" -> ")[-1].split(), numbers
 
 
+# The numbers by which frames say what they carry, in the order of ipcap's table, and how many digits these have.
+_PROTOCOLS = {"EtherType": 4, "LLC": 2, "PPP": 4, "NLPID": 2}
+
+
+def _protocol_order(protocol: tuple[str, int]) -> tuple[Any, ...]:
+    """Returns what protocols are sorted by: `other` last, then by descending count, and then as ipcap does."""
+    name, count = protocol
+    kind, _, number = name.partition(" ")
+    kinds = [*_PROTOCOLS, "family"]
+    return (name == "other", -count) + ((kinds.index(kind), int(number, 0)) if number else ())
+
+
 class Statistics:
     """Counts of packets, which are equal to those of `ipcap stat`, and whose sum is that of all packets.
 
     The counts are those of `struct wolfaren_statistics`, which the library counts and merges; its calls are proved. The
-    table `chains` is not. Each count stops at `MOST`. A new object has counted no packets.
+    tables `chains` and `other_protocols` are not. Each count stops at `MOST`. A new object has counted no packets.
     """
 
     other_frames: int
@@ -113,12 +125,13 @@ class Statistics:
     faults: Mapping[str, int]
     """Faults by kind and header, such as `too-short routing`."""
 
-    __slots__ = ("_counts", "_chains")
+    __slots__ = ("_counts", "_chains", "_protocols")
     __hash__ = None  # type: ignore[assignment]
 
     def __init__(self) -> None:
         self._counts = ffi.new("struct wolfaren_statistics *")
         self._chains: dict[str, int] = {}
+        self._protocols: dict[str, int] = {}
         lib.wolfaren_init_statistics(self._counts)
 
     def __getattr__(self, name: str) -> Any:
@@ -138,26 +151,33 @@ class Statistics:
         has no room for. This table isn't proved."""
         return dict(sorted(self._chains.items(), key=_chain_order))
 
+    @property
+    def other_protocols(self) -> Mapping[str, int]:
+        """Frames without an IP packet by what they carry, such as `EtherType 0x0806`, the most frequent first. `other`
+        has those that carry no such number, and those that the table has no room for. This table isn't proved."""
+        return dict(sorted(self._protocols.items(), key=_protocol_order))
+
     def add(self, packet: Buffer) -> None:
         """Counts the packet at the start of the bytes, which may be any bytes."""
         view = ffi.from_buffer("uint8_t[]", packet)
         lib.wolfaren_count_packet(self._counts, view, len(view))
         chain = _chain_of(dissect(packet))
         if chain:
-            self._add_chain(chain, 1)
+            _add_to(self._chains, chain, 1)
 
-    def add_other_frame(self) -> None:
-        """Counts a frame without an IP packet."""
+    def add_other_frame(self, protocol: str = "other") -> None:
+        """Counts a frame without an IP packet, by what it carries, such as `EtherType 0x0806`.
+
+        Raises `ValueError` if `other_protocols` has no such names.
+        """
+        if not _is_protocol(protocol):
+            raise ValueError(f'"{protocol}" is not a protocol')
         lib.wolfaren_count_other_frame(self._counts)
+        _add_to(self._protocols, protocol, 1)
 
     def add_truncated_frame(self) -> None:
         """Counts a frame that the snap length truncated, in addition to its packet."""
         lib.wolfaren_count_truncated_frame(self._counts)
-
-    def _add_chain(self, name: str, count: int) -> None:
-        if name not in self._chains and len(self._chains) - ("other" in self._chains) >= _CHAINS:
-            name = "other"
-        self._chains[name] = min(self._chains.get(name, 0) + count, MOST)
 
     def __iadd__(self, other: Statistics) -> Statistics:
         if not isinstance(other, Statistics):
@@ -167,7 +187,9 @@ class Statistics:
         if not lib.wolfaren_merge_statistics(self._counts, other._counts):
             raise ValueError("the statistics have different versions")
         for name, count in other._chains.items():
-            self._add_chain(name, count)
+            _add_to(self._chains, name, count)
+        for name, count in other._protocols.items():
+            _add_to(self._protocols, name, count)
         return self
 
     def __add__(self, other: Statistics) -> Statistics:
@@ -181,7 +203,8 @@ class Statistics:
     def __eq__(self, other: object) -> bool:
         if not isinstance(other, Statistics):
             return NotImplemented
-        return ffi.buffer(self._counts)[:] == ffi.buffer(other._counts)[:] and self._chains == other._chains
+        return (ffi.buffer(self._counts)[:] == ffi.buffer(other._counts)[:] and self._chains == other._chains
+                and self._protocols == other._protocols)
 
     def __repr__(self) -> str:
         return f"<Statistics of {self.packets} packets>"
@@ -192,6 +215,7 @@ class Statistics:
     def to_json(self) -> str:
         """Returns the line that `ipcap stat --json` prints, without the line feed. `ipcap sum` reads it."""
         members: dict[str, Any] = {"version": "%d.%d" % _FORMAT, **{name: getattr(self, name) for name in _SCALARS}}
+        members["other_protocols"] = self.other_protocols
         members["chains"] = self.chains
         for name, keys in _ARRAYS.items():
             counts = self._array(name)
@@ -213,10 +237,17 @@ class Statistics:
         read = cls()
         for name in _SCALARS:
             setattr(read._counts, name, _count(members.pop(name, None), name))
-        for name, count in _table(members.pop("chains", None), "chains", 1 + _CHAINS).items():
+        for name, count in _table(members.pop("chains", None), "chains", 1 + _NAMES).items():
             if not _CHAIN.fullmatch(name):
                 raise ValueError(f'"{name}" is not a chain')
             read._chains[name] = count
+        protocols = members.pop("other_protocols", None)
+        if protocols is None and minor == 0:  # the first version had no such table
+            protocols = {"other": read.other_frames} if read.other_frames else {}
+        for name, count in _table(protocols, "other_protocols", 1 + _NAMES).items():
+            if not _is_protocol(name):
+                raise ValueError(f'"{name}" is not a protocol')
+            read._protocols[name] = count
         for name, keys in _ARRAYS.items():
             read._read_array(name, {str(key): i for i, key in keys.items()}, members.pop(name, None))
         if members and minor <= _FORMAT[1]:
@@ -240,7 +271,7 @@ class Statistics:
                 (self.at_later_fragment, self.later_fragment_numbers.values()),
                 (self.at_truncated_header, self.truncated_headers.values()), (self.at_fault, self.faults.values()),
                 (chains, self.chain_headers.values()), (chains, self.chain_bytes.values()),
-                (chains, self._chains.values())]
+                (chains, self._chains.values()), (self.other_frames, self._protocols.values())]
         if any(total != min(sum(parts), MOST) for total, parts in sums):
             raise ValueError("the counts don't add up")
 
@@ -266,6 +297,23 @@ class Statistics:
 
 _NUMBER = r"(?:25[0-5]|2[0-4]\d|1\d\d|[1-9]?\d)"
 _CHAIN = re.compile(rf"other|IPv[46] (?:{_NUMBER}(?:,{_NUMBER}){{0,63}} )?-> {_NUMBER}(?: fault| truncated)?", re.ASCII)
+
+
+def _is_protocol(name: str) -> bool:
+    """Whether ipcap writes a protocol by this name."""
+    if name == "other":
+        return True
+    kind, _, number = name.partition(" ")
+    if kind == "family":
+        return re.fullmatch(r"0|[1-9][0-9]*", number) is not None and int(number) < 2**32
+    return kind in _PROTOCOLS and re.fullmatch("0x[0-9a-f]{%d}" % _PROTOCOLS[kind], number) is not None
+
+
+def _add_to(table: dict[str, int], name: str, count: int) -> None:
+    """Adds to a count of a table, or to `other` if the table has no room for the name."""
+    if name not in table and len(table) - ("other" in table) >= _NAMES:
+        name = "other"
+    table[name] = min(table.get(name, 0) + count, MOST)
 
 
 def _minor_version(version: Any) -> int:

@@ -1,7 +1,11 @@
 """Tests of `dissect`. Expected values were worked out by hand from the bytes, or come from scapy."""
 
+import copy
+import pickle
 import re
 import unittest
+from ipaddress import ip_address
+from random import Random
 
 from support import LATER_FRAGMENT, ROOT, TCP, UDP, authentication, fragment, ipv4, ipv6, ipv6_chain, options, routing
 
@@ -19,6 +23,8 @@ class Dissections(unittest.TestCase):
         self.assertEqual([it.bytes for it in found.headers][1], routing(44, 1))
         self.assertEqual(found.fragment, Fragment(FragmentKind.FIRST, 99, 0))
         self.assertEqual((found.payload_number, found.payload, found.padding), (17, UDP, b"pad"))
+        self.assertEqual((found.payload_offset, found.hop_limit), (104, 64))
+        self.assertEqual((found.src, found.dst), (ip_address("2001:db8::1"), ip_address("2001:db8::2")))
         self.assertEqual((found.missing, found.end, found.fault), (0, End.PAYLOAD, None))
 
     def test_scapy(self):
@@ -32,6 +38,41 @@ class Dissections(unittest.TestCase):
         self.assertEqual([(it.number, len(it.bytes)) for it in found.headers], [(0, 16), (51, 24), (44, 8), (60, 8)])
         self.assertEqual(found.payload, bytes(made)[-len(bytes(after)):])
         self.assertEqual(found.fragment, Fragment(FragmentKind.FIRST, 5, 0))
+
+    def test_fields_of_headers(self):
+        packet = ipv6(43, bytes([44, 2, 4, 7]) + bytes(20) + fragment(51, 0, 1, 99)
+                      + bytes([17, 4, 0, 0]) + b"\xfe\xdc\xba\x98" + bytes(16) + UDP)
+        names = "name", "offset", "len", "routing_type", "segments_left", "fragment_offset", "more_fragments", \
+            "identification", "spi"
+        self.assertEqual([tuple(getattr(it, name) for name in names) for it in dissect(packet).headers],
+                         [("IPv6-Route", 40, 24, 4, 7, None, None, None, None),
+                          ("IPv6-Frag", 64, 8, None, None, 0, True, 99, None),
+                          ("AH", 72, 24, None, None, None, None, None, 0xfedcba98)])
+        (header,) = dissect(ipv6(44, fragment(17, 8191, 0, 1) + UDP)).headers
+        self.assertEqual((header.fragment_offset, header.more_fragments), (65528, False))
+
+    def test_fields_as_scapy(self):
+        from scapy.layers.inet import IP
+        from scapy.layers.inet6 import IPv6, IPv6ExtHdrFragment, IPv6ExtHdrRouting
+        from scapy.layers.ipsec import AH
+        random = Random(1)
+        for _ in range(200):
+            src, dst = (ip_address(random.randbytes(16)) for _ in range(2))
+            kind, left, hops = random.randbytes(3)
+            spi, identification = (random.getrandbits(32) for _ in range(2))
+            offset, more = random.getrandbits(13), random.getrandbits(1)
+            made = (IPv6(src=str(src), dst=str(dst), hlim=hops) / AH(nh=43, payloadlen=4, spi=spi, icv=bytes(12))
+                    / IPv6ExtHdrRouting(type=kind, segleft=left)
+                    / IPv6ExtHdrFragment(offset=offset, m=more, id=identification))
+            found = dissect(bytes(made))
+            ah, route, part = found.headers
+            self.assertEqual((found.src, found.dst, found.hop_limit), (src, dst, hops))
+            self.assertEqual((ah.spi, route.routing_type, route.segments_left), (spi, kind, left))
+            self.assertEqual((part.fragment_offset, part.more_fragments, part.identification),
+                             (8 * offset, bool(more), identification))
+            src, dst = (ip_address(random.randbytes(4)) for _ in range(2))
+            found = dissect(bytes(IP(src=str(src), dst=str(dst), ttl=hops)))
+            self.assertEqual((found.src, found.dst, found.hop_limit), (src, dst, hops))
 
     def test_ipv4(self):
         found = dissect(ipv4(51, authentication(6) + TCP, words=7, option_bytes=b"\1" * 8))
@@ -73,6 +114,7 @@ class Dissections(unittest.TestCase):
         found = dissect(b"")
         self.assertEqual((found.version, found.headers, found.base_header, found.payload, found.padding), (0, (), b"", b"", b""))
         self.assertEqual(found.end, End.TRUNCATED_HEADER)
+        self.assertEqual((found.src, found.dst, found.hop_limit, found.payload_offset), (None, None, None, 0))
         self.assertEqual(dissect(b"\x70abc").padding, b"\x70abc")
 
     def test_many_headers(self):
@@ -86,6 +128,39 @@ class Dissections(unittest.TestCase):
         self.assertEqual(found.payload[:4], b"\xff" * 4)
         self.assertTrue(found.payload.readonly)
         self.assertEqual(dissect(memoryview(b"xx" + bytes(packet))[2:]).headers, found.headers)
+
+    def test_copies(self):
+        packet = ipv6_chain([0, 43, 44])
+        for found in [dissect(packet), dissect(bytearray(packet)), dissect(ipv6(0, options(60) + b"\x11")), dissect(b"")]:
+            for copied in [pickle.loads(pickle.dumps(found)), copy.copy(found), copy.deepcopy(found)]:
+                self.assertEqual(copied, found)
+                self.assertEqual(hash(copied), hash(found))
+                self.assertEqual(repr(copied), repr(found))
+                self.assertEqual([type(it.bytes) for it in copied.headers], [memoryview] * len(found.headers))
+        changed = bytearray(packet)
+        found = dissect(changed)
+        copied = copy.copy(found)
+        changed[-1] ^= 1
+        self.assertNotEqual(copied, found)
+        self.assertEqual(copied, dissect(packet))
+
+    def test_equality(self):
+        packet = ipv6_chain([43])
+        one, other = dissect(packet), dissect(bytearray(packet))
+        self.assertEqual({one, other}, {one})
+        self.assertEqual({*one.headers, *other.headers}, {*one.headers})
+        for i in range(len(packet)):
+            changed = bytearray(packet)
+            changed[i] ^= 1
+            self.assertNotEqual(dissect(changed), one, i)
+        self.assertNotEqual(one, one.headers[0])
+
+    def test_repr(self):
+        found = dissect(ipv6_chain([44]) + b"pad")
+        self.assertEqual(repr(found.headers[0]), "ExtensionHeader(number=44, next_header=17, offset=40, bytes=<8 bytes>)")
+        for part in ["version=6, base_header=<40 bytes>", f"headers=({found.headers[0]!r},)", "payload=<12 bytes>",
+                     "padding=<3 bytes>"]:
+            self.assertIn(part, repr(found))
 
     def test_frozen(self):
         with self.assertRaises(AttributeError):

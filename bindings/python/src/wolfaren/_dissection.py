@@ -1,13 +1,27 @@
 """Dissects packets."""
 
+from __future__ import annotations
+
 import dataclasses
 import enum
+import ipaddress
+from collections.abc import Callable
 from typing import Any
 
 from ._library import Buffer, ffi, lib, name_of
 
+Address = ipaddress.IPv4Address | ipaddress.IPv6Address
+
 # How many extension headers the first call has room for. A packet with more takes a second call.
 _ROOM = 16
+
+# Where the fields that the library doesn't read are: in the header of each IP version (RFC 791, section 3.1, and RFC 8200,
+# section 3), and in a routing header (RFC 8200, section 4.4).
+_HOP_LIMIT = {4: 8, 6: 7}
+_SRC = {4: slice(12, 16), 6: slice(8, 24)}
+_DST = {4: slice(16, 20), 6: slice(24, 40)}
+_ROUTING_TYPE = 2
+_SEGMENTS_LEFT = 3
 
 
 class End(enum.IntEnum):
@@ -99,9 +113,38 @@ class Fault:
         return self.text
 
 
-@dataclasses.dataclass(frozen=True, slots=True)
-class ExtensionHeader:
-    """An extension header of a packet."""
+class _Parts:
+    """A record with slices of a packet, whose bytes it is compared, hashed and pickled by. A copy has bytes of its own."""
+
+    __slots__: tuple[str, ...] = ()
+
+    def _values(self) -> tuple[Any, ...]:
+        values = (getattr(self, name) for name in self.__slots__)
+        return tuple(bytes(it) if isinstance(it, memoryview) else it for it in values)
+
+    def __eq__(self, other: object) -> bool:
+        if not isinstance(other, type(self)):
+            return NotImplemented
+        return self._values() == other._values()
+
+    def __hash__(self) -> int:
+        return hash(self._values())
+
+    def __reduce__(self) -> tuple[Callable[..., _Parts], tuple[Any, ...]]:
+        return _of_values, (type(self), *self._values())
+
+    def __repr__(self) -> str:
+        values = (f"<{len(it)} bytes>" if isinstance(it, bytes) else repr(it) for it in self._values())
+        return f"{type(self).__name__}({', '.join(map('='.join, zip(self.__slots__, values)))})"
+
+
+def _of_values(kind: Callable[..., _Parts], *values: Any) -> _Parts:
+    return kind(*(memoryview(it) if isinstance(it, bytes) else it for it in values))
+
+
+@dataclasses.dataclass(frozen=True, slots=True, eq=False, repr=False)
+class ExtensionHeader(_Parts):
+    """An extension header of a packet. Fields that headers with its number don't have are `None`."""
 
     number: int
     """The header's own protocol number."""
@@ -110,6 +153,57 @@ class ExtensionHeader:
     offset: int
     """Where the header begins, in bytes from the start of the packet."""
     bytes: memoryview
+
+    @property
+    def name(self) -> str:
+        """The keyword that IANA has assigned to the header's number, such as `IPv6-Frag`."""
+        return protocol_name(self.number)
+
+    @property
+    def len(self) -> int:
+        """The length of the header in bytes."""
+        return len(self.bytes)
+
+    @property
+    def spi(self) -> int | None:
+        """The security parameters index of an authentication header."""
+        return self._field(lib.WOLFAREN_AUTHENTICATION, "authentication", "spi")
+
+    @property
+    def identification(self) -> int | None:
+        """The identification of a fragment header, which all fragments of a packet share."""
+        return self._field(lib.WOLFAREN_FRAGMENT, "fragment", "identification")
+
+    @property
+    def fragment_offset(self) -> int | None:
+        """Where a fragment header says that the fragment lies in the payload, in bytes."""
+        units = self._field(lib.WOLFAREN_FRAGMENT, "fragment", "fragment_offset")
+        return None if units is None else 8 * units
+
+    @property
+    def more_fragments(self) -> bool | None:
+        """Whether a fragment header says that more fragments follow."""
+        flag = self._field(lib.WOLFAREN_FRAGMENT, "fragment", "more_fragments")
+        return None if flag is None else bool(flag)
+
+    @property
+    def routing_type(self) -> int | None:
+        """The routing type of a routing header."""
+        return self.bytes[_ROUTING_TYPE] if self.number == lib.WOLFAREN_ROUTING else None
+
+    @property
+    def segments_left(self) -> int | None:
+        """How many nodes of a routing header are still to be visited."""
+        return self.bytes[_SEGMENTS_LEFT] if self.number == lib.WOLFAREN_ROUTING else None
+
+    def _field(self, number: int, kind: str, name: str) -> int | None:
+        """Returns a field that the library reads from headers with a number, or `None` for another header."""
+        fields = ffi.new(f"struct wolfaren_{kind} *")
+        read = getattr(lib, f"wolfaren_{kind}_fields")
+        if self.number != number or not read(ffi.from_buffer("uint8_t[]", self.bytes), self.len, fields):
+            return None
+        value: int = getattr(fields, name)
+        return value
 
 
 @dataclasses.dataclass(frozen=True, slots=True)
@@ -123,9 +217,10 @@ class Fragment:
     """Where the fragment lies in the payload, in bytes."""
 
 
-@dataclasses.dataclass(frozen=True, slots=True)
-class Dissection:
-    """The parts of a packet, one after another, as far as they are present. The slices refer to the packet's bytes."""
+@dataclasses.dataclass(frozen=True, slots=True, eq=False, repr=False)
+class Dissection(_Parts):
+    """The parts of a packet, one after another, as far as they are present. The slices refer to the packet's bytes, and
+    those of a copy to bytes of its own. Dissections with equal parts are equal."""
 
     version: int
     """4 or 6, or 0 if there is no IP header."""
@@ -135,6 +230,8 @@ class Dissection:
     fragment: Fragment
     payload_number: int
     """The protocol number of what follows the headers."""
+    payload_offset: int
+    """Where the payload begins, in bytes from the start of the packet."""
     payload: memoryview
     stated_len: int
     """The length of the packet in bytes as the IP header states it, or 0 if it states none."""
@@ -145,6 +242,24 @@ class Dissection:
     end: End
     fault: Fault | None
     """The error if `end` is `End.TRUNCATED_HEADER` or `End.FAULT`, otherwise `None`."""
+
+    @property
+    def src(self) -> Address | None:
+        """The source address, or `None` if there is no IP header."""
+        return self._address(_SRC)
+
+    @property
+    def dst(self) -> Address | None:
+        """The destination address, or `None` if there is no IP header."""
+        return self._address(_DST)
+
+    @property
+    def hop_limit(self) -> int | None:
+        """The hop limit of IPv6 or the time to live of IPv4, or `None` if there is no IP header."""
+        return self.base_header[_HOP_LIMIT[self.version]] if self.version else None
+
+    def _address(self, places: dict[int, slice]) -> Address | None:
+        return ipaddress.ip_address(bytes(self.base_header[places[self.version]])) if self.version else None
 
 
 def _fault_of(fault: Any) -> Fault | None:
@@ -180,6 +295,7 @@ def dissect(packet: Buffer) -> Dissection:
                       for it in headers[0:parts.headers]),
         fragment=Fragment(FragmentKind(parts.fragment), parts.identification, parts.fragment_offset),
         payload_number=parts.payload_number,
+        payload_offset=at,
         payload=view[at:end],
         stated_len=parts.stated_len,
         missing=parts.missing,

@@ -13,6 +13,9 @@
  *  - Every other pointer must be valid and non-null. Output must not overlap input.
  *  - Any bytes, numbers and field values are valid input. Every call returns, within time linear in the bytes.
  *  - The library has no state and allocates no memory, so any thread may make any call at any time.
+ *  - A call only reads what its `const` pointers refer to, such as bytes and filters: threads may share that while none
+ *    of them writes it. A call writes what its other pointers refer to, and takes no lock: no other thread may read or
+ *    write that during the call.
  *
  * The library needs memcpy, memmove and memset, and nothing else. It is compiled for x86-64-v2 (SSE4.2) and the System
  * V calling convention. It uses SSE registers, the red zone below the stack pointer, and less than 1 KB of stack, except
@@ -263,6 +266,10 @@ void wolfaren_dissect(const uint8_t *bytes, size_t len, struct wolfaren_header *
 /*
  * Statistics of packets. Each count stops at UINT64_MAX. Packets may be counted apart, by threads or machines and in any
  * order: wolfaren_merge_statistics then returns the statistics of all of them. Any contents are valid input.
+ *
+ * These calls write statistics, so threads that share them need a lock: wolfaren_init_statistics, wolfaren_count_packet,
+ * wolfaren_count_dissection, wolfaren_count_other_frame, wolfaren_count_truncated_frame, and wolfaren_merge_statistics
+ * for `into`. The last only reads `from`. Threads that count in statistics of their own, merged at the end, need no lock.
  *
  * Each packet is counted once in `packets`, once in the three counts by version, and once in the four counts by why its
  * headers end. A packet that starts with an IP header has a chain, possibly of no headers, and is counted once in

@@ -38,6 +38,15 @@ class Declarations(unittest.TestCase):
         for _, name, size, _ in structs:
             self.assertEqual(ffi.sizeof(f"struct {name.rstrip(':')}"), int(size), name)
 
+    def test_writing_calls(self):
+        """The C header names each call that writes statistics: each that takes them by a pointer not to `const`."""
+        with open(f"{ROOT}/include/wolfaren.h", encoding="utf-8") as it:
+            header = it.read()
+        comment = re.search(r"These calls write statistics.*?\.", header, re.S)[0]
+        calls = re.findall(r"^\w+ (wolfaren_\w+)\((.*?)\)", header, re.M | re.S)
+        writing = {name for name, types in calls if re.search(r"(?<!const )struct wolfaren_statistics \*", types)}
+        self.assertEqual({*re.findall(r"wolfaren_\w+", comment)}, writing)
+
     def test_named_counts(self):
         named = [it for it in typing.get_type_hints(Statistics)]
         self.assertEqual(named, [name for name, _ in ffi.typeof("struct wolfaren_statistics").fields[2:]])

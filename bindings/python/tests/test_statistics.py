@@ -3,6 +3,7 @@
 import json
 import os
 import pickle
+import signal
 import sys
 import tempfile
 import threading
@@ -21,6 +22,16 @@ def counted(packets):
     for packet in packets:
         statistics.add(packet)
     return statistics
+
+
+def run_together(*calls):
+    """Runs each call in a thread of its own, and returns whether all of them ended within a minute."""
+    threads = [threading.Thread(target=it, daemon=True) for it in calls]
+    for thread in threads:
+        thread.start()
+    for thread in threads:
+        thread.join(60)
+    return not any(it.is_alive() for it in threads)
 
 
 class Counts(unittest.TestCase):
@@ -58,6 +69,12 @@ class Counts(unittest.TestCase):
         self.assertEqual(sum([other] * 3, Statistics()), counted(PACKETS[2:] * 3))
         with self.assertRaises(TypeError):
             one + 1
+
+    def test_clear(self):
+        found = counted(PACKETS)
+        found.clear()
+        self.assertEqual(found, Statistics())
+        self.assertEqual(found.chains, {})
 
     def test_largest_counts(self):
         most = json.loads(counted([ipv4(6, TCP)]).to_json().replace(":1,", f":{MOST},").replace(":1}", f":{MOST}}}"))
@@ -181,12 +198,89 @@ class Captures(unittest.TestCase):
 
     def test_threads(self):
         results = []
-        threads = [threading.Thread(target=lambda: results.append(statistics_of(self.path))) for _ in range(8)]
-        for thread in threads:
-            thread.start()
-        for thread in threads:
-            thread.join()
+        self.assertTrue(run_together(*[lambda: results.append(statistics_of(self.path))] * 8))
         self.assertEqual(results, [statistics_of(self.path)] * 8)
+
+
+class Threads(unittest.TestCase):
+    """Threads share an object, and take turns as often as Python lets them."""
+
+    def setUp(self):
+        self.addCleanup(sys.setswitchinterval, sys.getswitchinterval())
+        sys.setswitchinterval(1e-6)
+        self.shared = Statistics()
+
+    def test_other_frames(self):
+        def count():
+            for _ in range(200_000):
+                self.shared.add_other_frame()
+        self.assertTrue(run_together(*[count] * 4))
+        self.assertEqual(self.shared.other_frames, 800_000)
+
+    def test_adding_and_reading(self):
+        """Each copy that is read meanwhile has counts that add up: otherwise it can't be made."""
+        def count():
+            for _ in range(2000):
+                for packet in PACKETS:
+                    self.shared.add(packet)
+                self.shared.add_truncated_frame()
+
+        def read():
+            while self.shared.packets < 4 * 2000 * len(PACKETS):
+                copies.append(pickle.loads(pickle.dumps(self.shared)).packets)
+                copies.append(pickle.loads(pickle.dumps(self.shared + Statistics())).packets)
+        copies = []
+        self.assertTrue(run_together(*[count] * 4, read))
+        self.assertEqual(copies, sorted(copies))
+        self.assertEqual(self.shared.truncated_frames, 8000)
+        self.assertEqual(sum(self.shared.chains.values()), 8000 * (len(PACKETS) - 1))
+
+    def test_clearing(self):
+        def count():
+            for packet in PACKETS * 4000:
+                self.shared.add(packet)
+
+        def clear():
+            for _ in range(2000):
+                self.shared.clear()
+                copies.append(pickle.loads(pickle.dumps(self.shared)))
+        copies = []
+        self.assertTrue(run_together(count, count, clear))
+        self.assertEqual(len(copies), 2000)
+
+    def test_signals(self):
+        """A handler reads what its thread was counting when the signal came, and doesn't wait for it."""
+        self.addCleanup(signal.signal, signal.SIGALRM, signal.getsignal(signal.SIGALRM))
+        read = []
+        signal.signal(signal.SIGALRM, lambda *_: read.append(self.shared.packets))
+        signal.setitimer(signal.ITIMER_REAL, 1e-3, 1e-3)
+        self.addCleanup(signal.setitimer, signal.ITIMER_REAL, 0)
+        added = 0
+        while len(read) < 20:
+            self.shared.add(PACKETS[0])
+            added += 1
+        self.assertEqual(self.shared.packets, added)
+
+    def test_merging(self):
+        part = counted(PACKETS)
+
+        def merge():
+            for _ in range(1000):
+                self.shared.__iadd__(part)
+        self.assertTrue(run_together(*[merge] * 4))
+        self.assertEqual(self.shared.packets, 4000 * len(PACKETS))
+        self.assertEqual(self.shared.chains["IPv4 -> 6"], 4000)
+
+    def test_merging_each_other(self):
+        one, other = counted(PACKETS), counted(PACKETS)
+
+        def merge(into, part):
+            for _ in range(3000):
+                into += part
+        self.assertTrue(run_together(lambda: merge(one, other), lambda: merge(other, one), lambda: merge(one, one)))
+        for statistics in [one, other]:
+            self.assertEqual(pickle.loads(pickle.dumps(statistics)), statistics)
+            self.assertEqual(statistics.packets, MOST)
 
 
 class Plots(unittest.TestCase):

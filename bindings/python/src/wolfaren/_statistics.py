@@ -5,10 +5,11 @@ from __future__ import annotations
 import json
 import os
 import re
+import threading
 from collections.abc import Callable, Mapping
 from typing import Any
 
-from ._dissection import Dissection, End, FaultKind, Layer, dissect
+from ._dissection import End, FaultKind, Layer
 from ._library import Buffer, captures, ffi, lib
 
 MOST = 2**64 - 1
@@ -50,13 +51,11 @@ _ARRAYS = {name: _elements(name, ffi.sizeof(field.type) // 8) for name, field in
            if field.type.kind == "array"}
 
 
-def _chain_of(parts: Dissection) -> str | None:
-    """Returns the name of a packet's chain, as ipcap writes it, or `None` if there is no IP header."""
-    if parts.version == 0:
-        return None
-    if len(parts.headers) > _CHAIN_HEADERS:
+def _chain_of(parts: Any, headers: Any) -> str:
+    """Returns the name of a packet's chain, as ipcap writes it. `headers` has room for `_CHAIN_HEADERS`."""
+    if parts.headers > _CHAIN_HEADERS:
         return "other"
-    numbers = ",".join(str(it.number) for it in parts.headers)
+    numbers = ",".join(str(it.number) for it in headers[0:parts.headers])
     return f"IPv{parts.version} {numbers}{' ' if numbers else ''}-> {parts.payload_number}{_ENDS.get(parts.end, '')}"
 
 
@@ -83,7 +82,8 @@ class Statistics:
     """Counts of packets, which are equal to those of `ipcap stat`, and whose sum is that of all packets.
 
     The counts are those of `struct wolfaren_statistics`, which the library counts and merges; its calls are proved. The
-    tables `chains` and `other_protocols` are not. Each count stops at `MOST`. A new object has counted no packets.
+    tables `chains` and `other_protocols` are not. Each count stops at `MOST`. A new object has counted no packets. Threads
+    may share an object: each call on it is atomic.
     """
 
     other_frames: int
@@ -125,45 +125,60 @@ class Statistics:
     faults: Mapping[str, int]
     """Faults by kind and header, such as `too-short routing`."""
 
-    __slots__ = ("_counts", "_chains", "_protocols")
+    __slots__ = ("_counts", "_chains", "_protocols", "_lock")
     __hash__ = None  # type: ignore[assignment]
 
     def __init__(self) -> None:
         self._counts = ffi.new("struct wolfaren_statistics *")
         self._chains: dict[str, int] = {}
         self._protocols: dict[str, int] = {}
+        self._lock = threading.RLock()  # a signal's handler may read what its thread counts
         lib.wolfaren_init_statistics(self._counts)
-
-    def __getattr__(self, name: str) -> Any:
-        if name in _ARRAYS:
-            counts = self._array(name)
-            return {key: counts[i] for i, key in _ARRAYS[name].items() if counts[i]}
-        if name in _SCALARS:
-            return getattr(self._counts, name)
-        raise AttributeError(name)
 
     def _array(self, name: str) -> Any:
         return ffi.cast("uint64_t *", ffi.addressof(self._counts, name))
+
+    def __getattr__(self, name: str) -> Any:
+        if name not in _ARRAYS and name not in _SCALARS:
+            raise AttributeError(name)
+        with self._lock:
+            if name in _SCALARS:
+                return getattr(self._counts, name)
+            counts = self._array(name)
+            return {key: counts[i] for i, key in _ARRAYS[name].items() if counts[i]}
+
+    def _copy(self) -> Statistics:
+        copied = Statistics()
+        with self._lock:
+            ffi.memmove(copied._counts, self._counts, ffi.sizeof(_TYPE))
+            copied._chains.update(self._chains)
+            copied._protocols.update(self._protocols)
+        return copied
 
     @property
     def chains(self) -> Mapping[str, int]:
         """Packets by their chain, such as `IPv6 0,43 -> 17`, the most frequent first. `other` has those that the table
         has no room for. This table isn't proved."""
-        return dict(sorted(self._chains.items(), key=_chain_order))
+        with self._lock:
+            chains = list(self._chains.items())
+        return dict(sorted(chains, key=_chain_order))
 
     @property
     def other_protocols(self) -> Mapping[str, int]:
         """Frames without an IP packet by what they carry, such as `EtherType 0x0806`, the most frequent first. `other`
         has those that carry no such number, and those that the table has no room for. This table isn't proved."""
-        return dict(sorted(self._protocols.items(), key=_protocol_order))
+        with self._lock:
+            protocols = list(self._protocols.items())
+        return dict(sorted(protocols, key=_protocol_order))
 
     def add(self, packet: Buffer) -> None:
         """Counts the packet at the start of the bytes, which may be any bytes."""
         view = ffi.from_buffer("uint8_t[]", packet)
-        lib.wolfaren_count_packet(self._counts, view, len(view))
-        chain = _chain_of(dissect(packet))
-        if chain:
-            _add_to(self._chains, chain, 1)
+        headers, parts = ffi.new("struct wolfaren_header[]", _CHAIN_HEADERS), ffi.new("struct wolfaren_dissection *")
+        with self._lock:
+            lib.wolfaren_count_dissection(self._counts, view, len(view), headers, _CHAIN_HEADERS, parts)
+            if parts.version:
+                _add_to(self._chains, _chain_of(parts, headers), 1)
 
     def add_other_frame(self, protocol: str = "other") -> None:
         """Counts a frame without an IP packet, by what it carries, such as `EtherType 0x0806`.
@@ -172,39 +187,48 @@ class Statistics:
         """
         if not _is_protocol(protocol):
             raise ValueError(f'"{protocol}" is not a protocol')
-        lib.wolfaren_count_other_frame(self._counts)
-        _add_to(self._protocols, protocol, 1)
+        with self._lock:
+            lib.wolfaren_count_other_frame(self._counts)
+            _add_to(self._protocols, protocol, 1)
 
     def add_truncated_frame(self) -> None:
         """Counts a frame that the snap length truncated, in addition to its packet."""
-        lib.wolfaren_count_truncated_frame(self._counts)
+        with self._lock:
+            lib.wolfaren_count_truncated_frame(self._counts)
+
+    def clear(self) -> None:
+        """Sets all counts to 0."""
+        with self._lock:
+            lib.wolfaren_init_statistics(self._counts)
+            self._chains.clear()
+            self._protocols.clear()
 
     def __iadd__(self, other: Statistics) -> Statistics:
         if not isinstance(other, Statistics):
             return NotImplemented
-        if other is self:  # the library's call takes two objects
-            other = Statistics() + self
-        if not lib.wolfaren_merge_statistics(self._counts, other._counts):
-            raise ValueError("the statistics have different versions")
-        for name, count in other._chains.items():
-            _add_to(self._chains, name, count)
-        for name, count in other._protocols.items():
-            _add_to(self._protocols, name, count)
+        added = other._copy()  # so that no call waits for a lock while it holds another
+        with self._lock:
+            if not lib.wolfaren_merge_statistics(self._counts, added._counts):
+                raise ValueError("the statistics have different versions")
+            for name, count in added._chains.items():
+                _add_to(self._chains, name, count)
+            for name, count in added._protocols.items():
+                _add_to(self._protocols, name, count)
         return self
 
     def __add__(self, other: Statistics) -> Statistics:
         if not isinstance(other, Statistics):
             return NotImplemented
-        total = Statistics()
-        total += self
+        total = self._copy()
         total += other
         return total
 
     def __eq__(self, other: object) -> bool:
         if not isinstance(other, Statistics):
             return NotImplemented
-        return (ffi.buffer(self._counts)[:] == ffi.buffer(other._counts)[:] and self._chains == other._chains
-                and self._protocols == other._protocols)
+        one, two = self._copy(), other._copy()
+        return (ffi.buffer(one._counts)[:] == ffi.buffer(two._counts)[:] and one._chains == two._chains
+                and one._protocols == two._protocols)
 
     def __repr__(self) -> str:
         return f"<Statistics of {self.packets} packets>"
@@ -214,11 +238,12 @@ class Statistics:
 
     def to_json(self) -> str:
         """Returns the line that `ipcap stat --json` prints, without the line feed. `ipcap sum` reads it."""
-        members: dict[str, Any] = {"version": "%d.%d" % _FORMAT, **{name: getattr(self, name) for name in _SCALARS}}
-        members["other_protocols"] = self.other_protocols
-        members["chains"] = self.chains
+        copied = self._copy()
+        members: dict[str, Any] = {"version": "%d.%d" % _FORMAT, **{name: getattr(copied, name) for name in _SCALARS}}
+        members["other_protocols"] = copied.other_protocols
+        members["chains"] = copied.chains
         for name, keys in _ARRAYS.items():
-            counts = self._array(name)
+            counts = copied._array(name)
             order = sorted((i for i in keys if counts[i]), key=lambda i: (-counts[i], i))
             members[name] = {str(keys[i]): counts[i] for i in order}
         return json.dumps(members, separators=(",", ":"))

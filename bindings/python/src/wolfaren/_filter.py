@@ -6,6 +6,8 @@ from collections.abc import Callable
 
 from ._library import Buffer, ffi, lib
 
+_STEP_FIELDS = [name for name, _ in ffi.typeof("struct wolfaren_filter_step").fields]
+
 
 class FilterError(ValueError):
     """A text that isn't a filter."""
@@ -25,20 +27,37 @@ class FilterError(ValueError):
 class Filter:
     """A condition on packets, such as `header 44 and not fault`.
 
-    Its terms, which can be joined by `not`, `and`, `or` and parentheses, are those of `ipcap filter` and of
-    `wolfaren_parse_filter` in `wolfaren.h`. Raises `FilterError`, a `ValueError`, if the text isn't a filter.
+    Its text, which may be `bytes`, consists of the terms below, joined by `not`, `and` and `or`, or `!`, `&&` and `||`,
+    and of parentheses. `not` binds most tightly, then `and`. White space separates words. There may be up to 64 terms
+    and 16 levels of parentheses.
+
+        version 4|6                          the IP version
+        header N                             an extension header: 0 to 255, hopopt, route, frag, ah or dstopts
+        leads-to N                           the protocol after the headers: as above, or icmp, tcp, udp, esp, icmp6, no-next
+        fragment, first-fragment, later-fragment
+        truncated, incomplete
+        fault, fault KIND                    KIND is too-short, not-at-start, zero-length, unsupported-version or
+                                             header-length
+        headers OP N, chain-bytes OP N, payload OP N       OP is =, !=, <, <=, > or >=
+        spi N, id N
+        src NET, dst NET, net NET            NET is an IPv4 or IPv6 address, alone or with a slash and a number of bits
+
+    Numbers are decimal, or hexadecimal after 0x. Raises `FilterError`, a `ValueError`, for any other text.
+
+    Filters are equal if their texts differ only in how terms, operators and numbers are spelled, as `header frag` and
+    `header 0x2c`, in white space and in needless parentheses.
     """
 
     __slots__ = ("text", "_filter")
 
-    def __init__(self, text: str) -> None:
-        self.text = text
+    def __init__(self, text: str | bytes) -> None:
+        self.text = text.decode("utf-8", "surrogateescape") if isinstance(text, bytes) else text
         self._filter = ffi.new("struct wolfaren_filter *")
-        encoded = text.encode("utf-8", "surrogateescape")
+        encoded = self.text.encode("utf-8", "surrogateescape")
         error = ffi.new("struct wolfaren_filter_error *")
         if not lib.wolfaren_parse_filter(encoded, len(encoded), self._filter, error):
             offset = len(encoded[:error.offset].decode("utf-8", "replace"))
-            raise FilterError(text, offset, _expected_text(error.expected))
+            raise FilterError(self.text, offset, _expected_text(error.expected))
 
     def matches(self, packet: Buffer) -> bool:
         """Returns whether the packet at the start of the bytes, which may be any bytes, meets the condition."""
@@ -48,6 +67,21 @@ class Filter:
     def matches_other_frame(self) -> bool:
         """Returns whether a frame without an IP packet meets the condition, as it meets `not fault`."""
         return bool(lib.wolfaren_filter_matches_other(self._filter))
+
+    def _steps(self) -> tuple[tuple[int, ...], ...]:
+        steps = self._filter.steps[0:self._filter.count]
+        return tuple(tuple(getattr(step, name) for name in _STEP_FIELDS) for step in steps)
+
+    def __eq__(self, other: object) -> bool:
+        if not isinstance(other, Filter):
+            return NotImplemented
+        return self._steps() == other._steps()
+
+    def __hash__(self) -> int:
+        return hash(self._steps())
+
+    def __str__(self) -> str:
+        return self.text
 
     def __repr__(self) -> str:
         return f"Filter({self.text!r})"

@@ -7,13 +7,13 @@ import shutil
 import subprocess
 import sys
 import tempfile
-import typing
 import unittest
 
 from support import BUILD, PACKETS, ROOT, capture, ethernet, write
 
 from wolfaren import Statistics
 from wolfaren._library import ffi, lib
+from wolfaren._statistics import _Field
 
 DISSECT = "import wolfaren; print(wolfaren.dissect(bytes.fromhex('%s')).payload_number)" % ("60" + "00" * 5 + "11" + "00" * 33)
 COUNT = "import wolfaren; wolfaren.statistics_of('/nonexistent')"
@@ -48,7 +48,7 @@ class Declarations(unittest.TestCase):
         self.assertEqual({*re.findall(r"wolfaren_\w+", comment)}, writing)
 
     def test_named_counts(self):
-        named = [it for it in typing.get_type_hints(Statistics)]
+        named = [name for name, it in vars(Statistics).items() if isinstance(it, _Field)]
         self.assertEqual(named, [name for name, _ in ffi.typeof("struct wolfaren_statistics").fields[2:]])
 
 
@@ -58,6 +58,22 @@ class Types(unittest.TestCase):
         with tempfile.TemporaryDirectory() as folder:
             said = run(["mypy", "--config-file", f"{package}/pyproject.toml", "--cache-dir", folder, f"{package}/src/wolfaren"])
         self.assertEqual(said[0], 0, said[1])
+
+    def test_users_types(self):
+        """A program that uses the package is checked: each count has its type, and there are no others."""
+        wanted = {"counts.packets": "builtins.int", "counts.headers": "typing.Mapping[builtins.int, builtins.int]",
+                  "counts.faults": "typing.Mapping[builtins.str, builtins.int]",
+                  "sum([counts])": "Union[wolfaren._statistics.Statistics, Literal[0]]",
+                  "parts.src": "Union[ipaddress.IPv4Address, ipaddress.IPv6Address, None]",
+                  "parts.headers[0].more_fragments": "Union[builtins.bool, None]"}
+        lines = ["import wolfaren", "counts, parts = wolfaren.Statistics(), wolfaren.dissect(b'')", "counts.packet"]
+        with tempfile.TemporaryDirectory() as folder:
+            program = write(folder, "program.py", "\n".join(lines + [f"reveal_type({it})" for it in wanted]).encode())
+            status, said = run(["mypy", "--strict", "--ignore-missing-imports", "--cache-dir", f"{folder}/cache", program],
+                               MYPYPATH=f"{ROOT}/bindings/python/src")
+        self.assertEqual(status, 1)
+        self.assertEqual(re.findall(r'Revealed type is "(.*)"', said), [*wanted.values()], said)
+        self.assertEqual(re.findall(r"error: (.*?);", said), ['"Statistics" has no attribute "packet"'], said)
 
 
 class Libraries(unittest.TestCase):

@@ -3,6 +3,8 @@
 import json
 import os
 import pickle
+import pydoc
+import rlcompleter
 import signal
 import sys
 import tempfile
@@ -66,9 +68,13 @@ class Counts(unittest.TestCase):
         self.assertNotEqual(one, other)
         one += one
         self.assertEqual(one, counted(PACKETS[:2] * 2))
-        self.assertEqual(sum([other] * 3, Statistics()), counted(PACKETS[2:] * 3))
-        with self.assertRaises(TypeError):
-            one + 1
+        self.assertEqual(sum([other] * 3), counted(PACKETS[2:] * 3))
+        self.assertEqual(other, counted(PACKETS[2:]))
+        for wrong in [1, "0"]:
+            with self.assertRaises(TypeError):
+                one + wrong
+            with self.assertRaises(TypeError):
+                wrong + one
 
     def test_clear(self):
         found = counted(PACKETS)
@@ -200,6 +206,49 @@ class Captures(unittest.TestCase):
         results = []
         self.assertTrue(run_together(*[lambda: results.append(statistics_of(self.path))] * 8))
         self.assertEqual(results, [statistics_of(self.path)] * 8)
+
+
+class Fields(unittest.TestCase):
+    def test_visible(self):
+        found = counted(PACKETS)
+        self.assertLessEqual({"packets", "faults", "chains"}, {*dir(found)})
+        completer = rlcompleter.Completer({"found": found})
+        self.assertEqual(completer.attr_matches("found.pay"), ["found.payload_bytes", "found.payload_numbers"])
+        shown = pydoc.plain(pydoc.render_doc(Statistics))
+        self.assertRegex(shown, r"packets\n \| +IP packets, or what the link layer says are IP packets\.")
+        with self.assertRaises(AttributeError):
+            found.packets = 1
+
+    def test_dict(self):
+        found = counted(PACKETS).to_dict()
+        self.assertEqual((found["packets"], found["headers"]), (5, {44: 2, 0: 1, 43: 1, 51: 1, 60: 1}))
+        self.assertEqual(list(found["headers"]), [44, 0, 43, 51, 60])
+        printed = json.loads(counted(PACKETS).to_json())
+        self.assertEqual(json.loads(json.dumps(found)), {name: printed[name] for name in printed if name != "version"})
+
+    def test_html(self):
+        found = counted(PACKETS * 2 + [ipv6_chain([60], final) for final in range(100, 120)])._repr_html_()
+        for row in ["<tr><th>packets</th><td></td><td>30</td></tr>", "<tr><th>headers</th><td>60</td><td>22</td></tr>",
+                    "<tr><th>chains</th><td>IPv6 0,43,44,51,60 -&gt; 17</td><td>2</td></tr>"]:
+            self.assertIn(row, found)
+        self.assertEqual(found.count("<th>payload_numbers</th>"), 10)
+
+    def test_series(self):
+        try:
+            import pandas
+        except ImportError:
+            self.skipTest("no pandas")
+        found = counted(PACKETS).to_series()
+        self.assertEqual((found["packets", ""], found["headers", 44], found["chains", "IPv4 -> 6"]), (5, 2, 1))
+        self.assertEqual(found["headers"].to_dict(), {44: 2, 0: 1, 43: 1, 51: 1, 60: 1})
+        pandas.testing.assert_series_equal(found + found, counted(PACKETS * 2).to_series().loc[found.index])
+        largest = Statistics.from_json(counted([ipv4(6, TCP)]).to_json().replace('"payload_bytes":20', f'"payload_bytes":{MOST}'))
+        self.assertEqual(largest.to_series()["payload_bytes", ""], MOST)
+
+    def test_without_pandas(self):
+        with mock.patch.dict(sys.modules, {"pandas": None}):
+            with self.assertRaisesRegex(ImportError, "python3-pandas"):
+                Statistics().to_series()
 
 
 class Threads(unittest.TestCase):

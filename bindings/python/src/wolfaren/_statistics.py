@@ -2,12 +2,14 @@
 
 from __future__ import annotations
 
+import html
+import importlib
 import json
 import os
 import re
 import threading
-from collections.abc import Callable, Mapping
-from typing import Any
+from collections.abc import Callable, Iterator, Mapping
+from typing import TYPE_CHECKING, Any, Generic, TypeVar
 
 from ._dissection import End, FaultKind, Layer
 from ._library import Buffer, captures, ffi, lib
@@ -78,52 +80,54 @@ def _protocol_order(protocol: tuple[str, int]) -> tuple[Any, ...]:
     return (name == "other", -count) + ((kinds.index(kind), int(number, 0)) if number else ())
 
 
+_Value = TypeVar("_Value")
+
+
+class _Field(property, Generic[_Value]):
+    """A count of `struct wolfaren_statistics`, or a table of counts by key."""
+
+    def __init__(self, doc: str) -> None:
+        super().__init__(lambda statistics: statistics._read(self._name))
+        self.__doc__ = doc
+
+    def __set_name__(self, owner: type, name: str) -> None:
+        self._name = name
+
+    if TYPE_CHECKING:
+        def __get__(self, statistics: Any, owner: type | None = None) -> _Value: ...
+
+
 class Statistics:
     """Counts of packets, which are equal to those of `ipcap stat`, and whose sum is that of all packets.
 
     The counts are those of `struct wolfaren_statistics`, which the library counts and merges; its calls are proved. The
-    tables `chains` and `other_protocols` are not. Each count stops at `MOST`. A new object has counted no packets. Threads
-    may share an object: each call on it is atomic.
+    tables `chains` and `other_protocols` are not. Each count stops at `MOST`. A new object has counted no packets. In
+    tables, the most frequent come first, and no count is 0. Threads may share an object: each call on it is atomic.
     """
 
-    other_frames: int
-    """Frames without an IP packet."""
-    truncated_frames: int
-    """Frames truncated by the snap length."""
-    packets: int
-    """IP packets, or what the link layer says are IP packets."""
-    without_header: int
-    """Packets that don't start with a complete IP header of version 4 or 6."""
-    ipv4: int
-    ipv6: int
-    at_payload: int
-    """Packets whose headers end at the payload; the next three: those with another `End`."""
-    at_later_fragment: int
-    at_truncated_header: int
-    at_fault: int
-    atomic_fragments: int
-    """Packets with a fragment header that are whole (RFC 6946)."""
-    first_fragments: int
-    middle_fragments: int
-    last_fragments: int
-    incomplete: int
-    """Packets of which stated bytes are missing."""
-    payload_bytes: int
-    """Payload bytes that were present, except after a fault or truncated header."""
-    chain_headers: Mapping[int, int]
-    """Chains by their number of headers; 16 means 16 or more. In this and the other mappings, no count is 0."""
-    chain_bytes: Mapping[int, int]
-    """Chains by their length in bytes; a key is the least length that it counts."""
-    headers: Mapping[int, int]
-    """Extension headers by protocol number."""
-    payload_numbers: Mapping[int, int]
-    """Packets whose headers end at the payload, by its protocol number."""
-    later_fragment_numbers: Mapping[int, int]
-    """Later fragments, by the protocol number of the payload."""
-    truncated_headers: Mapping[str, int]
-    """Truncated headers by their name, such as `routing`."""
-    faults: Mapping[str, int]
-    """Faults by kind and header, such as `too-short routing`."""
+    other_frames = _Field[int]("Frames without an IP packet.")
+    truncated_frames = _Field[int]("Frames truncated by the snap length.")
+    packets = _Field[int]("IP packets, or what the link layer says are IP packets.")
+    without_header = _Field[int]("Packets that don't start with a complete IP header of version 4 or 6.")
+    ipv4 = _Field[int]("Packets with an IPv4 header.")
+    ipv6 = _Field[int]("Packets with an IPv6 header.")
+    at_payload = _Field[int]("Packets whose headers end at `End.PAYLOAD`.")
+    at_later_fragment = _Field[int]("Packets whose headers end at `End.LATER_FRAGMENT`.")
+    at_truncated_header = _Field[int]("Packets whose headers end at `End.TRUNCATED_HEADER`.")
+    at_fault = _Field[int]("Packets whose headers end at `End.FAULT`.")
+    atomic_fragments = _Field[int]("Packets with a fragment header that are whole (RFC 6946).")
+    first_fragments = _Field[int]("First fragments.")
+    middle_fragments = _Field[int]("Middle fragments.")
+    last_fragments = _Field[int]("Last fragments.")
+    incomplete = _Field[int]("Packets of which stated bytes are missing.")
+    payload_bytes = _Field[int]("Payload bytes that were present, except after a fault or truncated header.")
+    chain_headers = _Field[Mapping[int, int]]("Chains by their number of headers; 16 means 16 or more.")
+    chain_bytes = _Field[Mapping[int, int]]("Chains by their length in bytes; a key is the least length that it counts.")
+    headers = _Field[Mapping[int, int]]("Extension headers by protocol number.")
+    payload_numbers = _Field[Mapping[int, int]]("Packets whose headers end at the payload, by its protocol number.")
+    later_fragment_numbers = _Field[Mapping[int, int]]("Later fragments, by the protocol number of the payload.")
+    truncated_headers = _Field[Mapping[str, int]]("Truncated headers by their name, such as `routing`.")
+    faults = _Field[Mapping[str, int]]("Faults by kind and header, such as `too-short routing`.")
 
     __slots__ = ("_counts", "_chains", "_protocols", "_lock")
     __hash__ = None  # type: ignore[assignment]
@@ -138,14 +142,14 @@ class Statistics:
     def _array(self, name: str) -> Any:
         return ffi.cast("uint64_t *", ffi.addressof(self._counts, name))
 
-    def __getattr__(self, name: str) -> Any:
-        if name not in _ARRAYS and name not in _SCALARS:
-            raise AttributeError(name)
+    def _read(self, name: str) -> Any:
         with self._lock:
-            if name in _SCALARS:
+            if name not in _ARRAYS:
                 return getattr(self._counts, name)
             counts = self._array(name)
-            return {key: counts[i] for i, key in _ARRAYS[name].items() if counts[i]}
+            table: dict[Any, int] = {key: counts[i] for i, key in _ARRAYS[name].items() if counts[i]}
+        order = sorted(table.items(), key=lambda it: -it[1])
+        return dict(order)
 
     def _copy(self) -> Statistics:
         copied = Statistics()
@@ -157,16 +161,16 @@ class Statistics:
 
     @property
     def chains(self) -> Mapping[str, int]:
-        """Packets by their chain, such as `IPv6 0,43 -> 17`, the most frequent first. `other` has those that the table
-        has no room for. This table isn't proved."""
+        """Packets by their chain, such as `IPv6 0,43 -> 17`. `other` has those that the table has no room for. This table
+        isn't proved."""
         with self._lock:
             chains = list(self._chains.items())
         return dict(sorted(chains, key=_chain_order))
 
     @property
     def other_protocols(self) -> Mapping[str, int]:
-        """Frames without an IP packet by what they carry, such as `EtherType 0x0806`, the most frequent first. `other`
-        has those that carry no such number, and those that the table has no room for. This table isn't proved."""
+        """Frames without an IP packet by what they carry, such as `EtherType 0x0806`. `other` has those that carry no such
+        number, and those that the table has no room for. This table isn't proved."""
         with self._lock:
             protocols = list(self._protocols.items())
         return dict(sorted(protocols, key=_protocol_order))
@@ -223,6 +227,12 @@ class Statistics:
         total += other
         return total
 
+    def __radd__(self, other: int) -> Statistics:
+        """Adds the 0 from which `sum` starts."""
+        if other != 0:
+            return NotImplemented
+        return self._copy()
+
     def __eq__(self, other: object) -> bool:
         if not isinstance(other, Statistics):
             return NotImplemented
@@ -236,17 +246,37 @@ class Statistics:
     def __reduce__(self) -> tuple[Callable[[str], Statistics], tuple[str]]:
         return Statistics.from_json, (self.to_json(),)
 
+    def to_dict(self) -> dict[str, Any]:
+        """Returns all counts and tables by their names, as they were at one moment."""
+        copied = self._copy()
+        return {name: getattr(copied, name) for name in [*_SCALARS, "other_protocols", "chains", *_ARRAYS]}
+
     def to_json(self) -> str:
         """Returns the line that `ipcap stat --json` prints, without the line feed. `ipcap sum` reads it."""
-        copied = self._copy()
-        members: dict[str, Any] = {"version": "%d.%d" % _FORMAT, **{name: getattr(copied, name) for name in _SCALARS}}
-        members["other_protocols"] = copied.other_protocols
-        members["chains"] = copied.chains
-        for name, keys in _ARRAYS.items():
-            counts = copied._array(name)
-            order = sorted((i for i in keys if counts[i]), key=lambda i: (-counts[i], i))
-            members[name] = {str(keys[i]): counts[i] for i in order}
-        return json.dumps(members, separators=(",", ":"))
+        return json.dumps({"version": "%d.%d" % _FORMAT, **self.to_dict()}, separators=(",", ":"))
+
+    def to_series(self) -> Any:
+        """Returns all counts as a pandas `Series`, by the name of the count or table and the key in the table, which is
+        empty for a single count.
+
+        Raises `ImportError` if pandas isn't installed.
+        """
+        pandas = _import("pandas", "to_series")
+        rows = list(self._rows(None))
+        index = pandas.MultiIndex.from_tuples([row[:2] for row in rows], names=["name", "key"])
+        return pandas.Series([row[2] for row in rows], index, dtype="uint64")
+
+    def _rows(self, most: int | None) -> Iterator[tuple[str, Any, int]]:
+        """Yields each count with its name and key: of a table, the first `most`."""
+        for name, value in self.to_dict().items():
+            table = value if isinstance(value, dict) else {"": value}
+            yield from ((name, key, count) for key, count in [*table.items()][:most])
+
+    def _repr_html_(self) -> str:
+        """Returns the counts as an HTML table for a notebook, with the ten most frequent of each table."""
+        rows = (f"<tr><th>{name}</th><td>{html.escape(str(key))}</td><td>{count}</td></tr>"
+                for name, key, count in self._rows(10))
+        return f"<table>{''.join(rows)}</table>"
 
     @classmethod
     def from_json(cls, text: str) -> Statistics:
@@ -306,18 +336,24 @@ class Statistics:
 
         Raises `ImportError` if matplotlib isn't installed.
         """
-        try:
-            from matplotlib.figure import Figure
-        except ImportError:
-            raise ImportError("Statistics.plot needs matplotlib (Debian: python3-matplotlib)") from None
-        tables: dict[str, Mapping[Any, int]] = {"chains": self.chains, "payloads": self.payload_numbers, "faults": self.faults}
-        figure = Figure(figsize=(10, 8), layout="constrained")
+        read = self._copy()
+        tables: dict[str, Mapping[Any, int]] = {"chains": read.chains, "payloads": read.payload_numbers, "faults": read.faults}
+        figure = _import("matplotlib.figure", "plot").Figure(figsize=(10, 8), layout="constrained")
         for axes, (title, table) in zip(figure.subplots(len(tables), 1), tables.items()):
             bars = sorted(table.items(), key=lambda it: -it[1])[:most][::-1]
             axes.barh([str(key) for key, _ in bars], [count for _, count in bars])
             axes.set_title(title)
             axes.set_xlabel("packets")
         return figure
+
+
+def _import(module: str, call: str) -> Any:
+    """Returns a module that only one call needs."""
+    try:
+        return importlib.import_module(module)
+    except ImportError:
+        package = module.split(".")[0]
+        raise ImportError(f"Statistics.{call} needs {package} (Debian: python3-{package})") from None
 
 
 _NUMBER = r"(?:25[0-5]|2[0-4]\d|1\d\d|[1-9]?\d)"

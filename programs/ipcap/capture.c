@@ -17,6 +17,13 @@ __attribute__((format(printf, 2, 3))) static bool fail(struct capture *capture, 
     return false;
 }
 
+/* Sets the error to that of the system, which is in `errno`, and returns false. */
+static bool fail_as_system(struct capture *capture)
+{
+    capture->system_error = errno;
+    return fail(capture, "%s", errno ? strerror(errno) : "read error");
+}
+
 /*
  * Reads the first bytes of a file, up to MAGIC_LEN, and pushes them back. The C standard guarantees only one byte of
  * pushback. The C libraries we know take back everything just read from their buffer. With others, ungetc fails.
@@ -53,7 +60,7 @@ static bool open_file(struct capture *capture, const char *path)
     bool is_input = is_standard_stream(path);
     capture->name = is_input ? "standard input" : path;
     capture->file = is_input ? stdin : fopen(path, "rb");
-    if (!capture->file) return fail(capture, "%s", strerror(errno));
+    if (!capture->file) return fail_as_system(capture);
     if (!is_input) setvbuf(capture->file, capture->buffer, _IOFBF, sizeof capture->buffer);
     capture->is_live = fstat(fileno(capture->file), &status) != 0 || !S_ISREG(status.st_mode);
     return true;
@@ -78,7 +85,7 @@ static bool open_handle(struct capture *capture)
     uint8_t magic[MAGIC_LEN];
     char error[PCAP_ERRBUF_SIZE] = "";
     errno = 0;
-    if (!look_at_magic(capture->file, magic)) return fail(capture, "%s", errno ? strerror(errno) : "read error");
+    if (!look_at_magic(capture->file, magic)) return fail_as_system(capture);
     unsigned precision = has_nanoseconds(magic) ? PCAP_TSTAMP_PRECISION_NANO : PCAP_TSTAMP_PRECISION_MICRO;
     capture->handle = pcap_fopen_offline_with_tstamp_precision(capture->file, precision, error);
     if (!capture->handle) return fail(capture, "%s", error);
@@ -104,9 +111,11 @@ bool read_packet(struct capture *capture, struct packet *packet)
     struct pcap_pkthdr *header;
     int answer = pcap_next_ex(capture->handle, &header, &packet->frame);
     if (answer == PCAP_ERROR_BREAK) return false;
-    if (answer != 1)
+    if (answer != 1) {
+        if (ferror(capture->file)) capture->system_error = errno;
         return fail(capture, "can't read packet %llu: %s", (unsigned long long)capture->number + 1,
                     pcap_geterr(capture->handle));
+    }
     capture->number++;
     if (capture->follow) capture->follow(capture);
     packet->header = *header;

@@ -25,6 +25,7 @@ struct capture {
     uint64_t number; /* number of packets read so far */
     void (*follow)(struct capture *capture); /* called after each packet is read, unless it is null */
     char error[CAPTURE_ERROR_ROOM];          /* why opening or reading failed, otherwise empty */
+    int system_error;                        /* the `errno` of that if the system refused it, otherwise 0 */
     char buffer[CAPTURE_BUFFER];             /* of the file, unless that is standard input */
 };
 

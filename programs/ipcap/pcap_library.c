@@ -1,6 +1,7 @@
 /* The library libwolfaren-pcap. */
 #include "wolfaren-pcap.h"
 
+#include <errno.h>
 #include <stdio.h>
 #include <stdlib.h>
 
@@ -27,20 +28,25 @@ static char *json_of(struct counts *counts)
     return NULL;
 }
 
+/* Counts a capture that was opened, and closes it. Returns the statistics as JSON, or null if memory runs out. */
+static char *count_opened(struct capture *capture)
+{
+    struct counts counts;
+    init_counts(&counts);
+    char *json = count_capture(&counts, capture) ? json_of(&counts) : NULL;
+    close_capture(capture);
+    free_counts(&counts);
+    return json;
+}
+
 EXPORTED char *wolfaren_pcap_count(const char *path, char error[WOLFAREN_PCAP_ERROR_ROOM])
 {
     struct capture capture;
-    struct counts counts;
     bool is_open = open_capture(&capture, path);
-    snprintf(error, WOLFAREN_PCAP_ERROR_ROOM, "%s", capture.error);
-    if (!is_open) return NULL;
-    init_counts(&counts);
-    bool is_counted = count_capture(&counts, &capture);
-    snprintf(error, WOLFAREN_PCAP_ERROR_ROOM, "%s", capture.error);
-    close_capture(&capture);
-    char *json = is_counted ? json_of(&counts) : NULL;
-    free_counts(&counts);
-    if (!json) snprintf(error, WOLFAREN_PCAP_ERROR_ROOM, "out of memory");
+    char *json = is_open ? count_opened(&capture) : NULL;
+    bool is_memory_short = is_open && !json;
+    snprintf(error, WOLFAREN_PCAP_ERROR_ROOM, "%s", is_memory_short ? "out of memory" : capture.error);
+    errno = is_memory_short ? 0 : capture.system_error;
     return json;
 }
 

@@ -13,8 +13,8 @@
  *
  * If the file can't be read to its end, returns the counts of the packets up to there, and writes why to `error`, with
  * a terminating null byte; otherwise, `error` is the empty text. Returns null, and writes why, if the file can't be
- * opened or isn't a capture with a supported link layer, or if memory runs out. Any number of threads may call it at
- * the same time.
+ * opened or isn't a capture with a supported link layer, or if memory runs out. Sets `errno` to the system's error if
+ * the system refused to open or to read the file, otherwise to 0. Any number of threads may call it at the same time.
  */
 char *wolfaren_pcap_count(const char *path, char error[WOLFAREN_PCAP_ERROR_ROOM]);
 

@@ -138,7 +138,7 @@ class Wheel(unittest.TestCase):
                 self.assertTrue(os.path.isfile(f"{folder}/target/wolfaren/{name}"), name)
             used = ["env", "-u", "WOLFAREN_LIB_DIR", f"PYTHONPATH={folder}/target", sys.executable, "-c"]
             self.assertEqual(run([*used, DISSECT]), (0, "17\n"))
-            self.assertIn("CaptureError: /nonexistent: No such file", run([*used, COUNT])[1])
+            self.assertIn("CaptureOSError: /nonexistent: No such file", run([*used, COUNT])[1])
 
 
 if __name__ == "__main__":

@@ -1,5 +1,8 @@
 """Tests of `Statistics` and `statistics_of`. Expected values were worked out by hand, or are what ipcap prints."""
 
+import contextlib
+import errno
+import fcntl
 import json
 import os
 import pickle
@@ -8,14 +11,16 @@ import rlcompleter
 import signal
 import sys
 import tempfile
+import termios
 import threading
+import time
 import unittest
 from unittest import mock
 
 from support import (LATER_FRAGMENT, PACKETS, TCP, UDP, authentication, capture, ethernet, fragment, ipcap, ipv4, ipv6,
                      ipv6_chain, options, write)
 
-from wolfaren import MOST, CaptureError, Statistics, statistics_of
+from wolfaren import MOST, CaptureError, CaptureOSError, Statistics, statistics_of
 
 
 def counted(packets):
@@ -196,6 +201,47 @@ class Captures(unittest.TestCase):
             with self.assertRaisesRegex(CaptureError, words) as raised:
                 statistics_of(path)
             self.assertEqual(raised.exception.statistics, Statistics())
+
+    def test_refused_by_system(self):
+        for path, reason in [(f"{self.folder.name}/none", errno.ENOENT), (self.folder.name, errno.EISDIR)]:
+            with self.assertRaises(OSError) as raised:
+                statistics_of(path)
+            for error in [raised.exception, pickle.loads(pickle.dumps(raised.exception))]:
+                self.assertIsInstance(error, CaptureError)
+                self.assertEqual((error.errno, error.strerror, error.filename), (reason, os.strerror(reason), path))
+                self.assertEqual(str(error), f"{path}: {os.strerror(reason)}")
+        for content in [b"no capture", self.content[:-1]]:
+            with self.assertRaises(CaptureError) as raised:
+                statistics_of(write(self.folder.name, "damaged.pcap", content))
+            self.assertNotIsInstance(raised.exception, OSError)
+
+    def test_refused_halfway(self):
+        """While the capture is read from a pipe, a directory takes the place of the pipe, which can't be read."""
+        pipe, errors = f"{self.folder.name}/pipe", []
+
+        def count():
+            try:
+                statistics_of(pipe)
+            except CaptureOSError as error:
+                errors.append(error)
+        os.mkfifo(pipe)
+        thread = threading.Thread(target=count, daemon=True)
+        thread.start()
+        with open(pipe, "wb", buffering=0) as writer:
+            writer.write(self.content)
+            while fcntl.ioctl(writer, termios.FIONREAD, bytes(4)) != bytes(4):  # until the thread has read it
+                time.sleep(0.001)
+            files = [int(it) for it in os.listdir("/proc/self/fd")]
+            (reader,) = [it for it in files if os.path.exists(f"/proc/self/fd/{it}") and it != writer.fileno()
+                         and os.path.samefile(f"/proc/self/fd/{it}", pipe)]
+            folder = os.open(self.folder.name, os.O_RDONLY)
+            os.dup2(folder, reader)
+            os.close(folder)
+            with contextlib.suppress(BrokenPipeError):  # unless the thread waits for bytes of the pipe
+                writer.write(self.content[24:])
+        thread.join(60)
+        (error,) = errors
+        self.assertEqual((error.errno, error.statistics.packets > 0), (errno.EISDIR, True))
 
     def test_names_of_files(self):
         os.chdir(self.folder.name)

@@ -6,9 +6,10 @@ The work is done by `libwolfaren.so.0`, whose calls are formally verified. This 
 from ._dissection import (Dissection, End, ExtensionHeader, Fault, FaultKind, Fragment, FragmentKind, Layer, LenSource,
                           dissect, protocol_name)
 from ._filter import Filter, FilterError
-from ._statistics import MOST, CaptureError, Statistics, statistics_of
+from ._statistics import MOST, CaptureError, CaptureOSError, Statistics, statistics_of
 
 __version__ = "0.1.0"
 
-__all__ = ["MOST", "CaptureError", "Dissection", "End", "ExtensionHeader", "Fault", "FaultKind", "Filter", "FilterError",
-           "Fragment", "FragmentKind", "Layer", "LenSource", "Statistics", "dissect", "protocol_name", "statistics_of"]
+__all__ = ["MOST", "CaptureError", "CaptureOSError", "Dissection", "End", "ExtensionHeader", "Fault", "FaultKind", "Filter",
+           "FilterError", "Fragment", "FragmentKind", "Layer", "LenSource", "Statistics", "dissect", "protocol_name",
+           "statistics_of"]

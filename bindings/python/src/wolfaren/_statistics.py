@@ -403,8 +403,7 @@ def _table(value: Any, name: str, most: int) -> dict[str, int]:
 class CaptureError(Exception):
     """A capture that can't be read to its end. `statistics` has the packets up to there."""
 
-    def __init__(self, path: str, reason: str, statistics: Statistics) -> None:
-        super().__init__(path, reason, statistics)
+    def __init__(self, path: str, reason: str, statistics: Statistics) -> None:  # that of OSError takes other arguments
         self.path = path
         self.reason = reason
         self.statistics = statistics
@@ -413,20 +412,34 @@ class CaptureError(Exception):
         return f"{self.path}: {self.reason}"
 
 
+class CaptureOSError(CaptureError, OSError):
+    """A capture that the system refused to open or to read to its end: `errno` says why."""
+
+    def __init__(self, path: str, reason: str, statistics: Statistics, errno: int) -> None:
+        super().__init__(path, reason, statistics)
+        self.errno, self.strerror, self.filename = errno, os.strerror(errno), path
+
+    def __reduce__(self) -> tuple[type[CaptureOSError], tuple[str, str, Statistics, int]]:
+        return CaptureOSError, (self.path, self.reason, self.statistics, self.errno)
+
+
 def statistics_of(path: str | os.PathLike[str]) -> Statistics:
     """Counts the packets of a capture, which may be in any format that ipcap reads.
 
-    Raises `CaptureError` if the capture can't be read to its end. The file is read by C code with libpcap; Python's
-    other threads run meanwhile.
+    Raises `CaptureError` if the capture can't be read to its end: a `CaptureOSError` if the system refused to open or to
+    read it. The file is read by C code with libpcap; Python's other threads run meanwhile.
     """
     own, library = captures()
     error = own.new("char[]", library.WOLFAREN_PCAP_ERROR_ROOM)
     text = library.wolfaren_pcap_count(os.fsencode(os.path.abspath(path)), error)
+    errno = own.errno
     try:
         statistics = Statistics.from_json(own.string(text).decode("ascii")) if text else Statistics()
     finally:
         library.wolfaren_pcap_free(text)
     reason = own.string(error).decode(errors="replace")
+    if reason and errno:
+        raise CaptureOSError(os.fspath(path), reason, statistics, errno)
     if reason:
         raise CaptureError(os.fspath(path), reason, statistics)
     return statistics

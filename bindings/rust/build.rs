@@ -22,7 +22,7 @@ fn main() {
     }
     let (folder, headers) = match variable("WOLFAREN_LIB_DIR") {
         Some(folder) => {
-            let folder = named_folder(PathBuf::from(folder));
+            let folder = named_folder(Path::new(&folder));
             let headers = vec![folder.join(HEADER), folder.join("../include").join(HEADER)];
             (folder, headers)
         }
@@ -92,15 +92,24 @@ fn check_header(header: &Path) {
     }
 }
 
-/// Returns the directory named by the variable.
-fn named_folder(folder: PathBuf) -> PathBuf {
+/// Returns the directory named by the variable. A relative path is taken from where Cargo runs.
+fn named_folder(named: &Path) -> PathBuf {
+    let folder = cargo_folder().unwrap_or_default().join(named);
     if !has_archive(&folder) {
         give_up(&format!(
-            "WOLFAREN_LIB_DIR is {}, which has no {ARCHIVE}.",
-            folder.display()
+            "WOLFAREN_LIB_DIR is {}, but there is no {}.",
+            named.display(),
+            folder.join(ARCHIVE).display()
         ));
     }
     folder.canonicalize().unwrap_or(folder)
+}
+
+/// Returns the directory in which Cargo runs, the parent of this process. This process runs in that of the package.
+fn cargo_folder() -> Option<PathBuf> {
+    let status = fs::read_to_string("/proc/self/status").ok()?;
+    let parent = status.lines().find_map(|line| line.strip_prefix("PPid:"))?;
+    fs::read_link(format!("/proc/{}/cwd", parent.trim())).ok()
 }
 
 /// Returns the directory that pkg-config reports, and where the header may be.

@@ -2,8 +2,8 @@ use crate::err::ip::SliceError;
 use crate::err::{Layer, LenError};
 use crate::library::{self, Base, DissectedParts, Fault};
 use crate::{
-    ip_number, IpNumber, Ipv4ExtensionsSlice, Ipv4HeaderSlice, Ipv6ExtensionSliceIter,
-    Ipv6ExtensionsSlice, Ipv6HeaderSlice,
+    ip_number, IpNumber, Ipv4ExtensionsSlice, Ipv4HeaderSlice, Ipv6ExtensionSlice,
+    Ipv6ExtensionSliceIter, Ipv6ExtensionsSlice, Ipv6HeaderSlice,
 };
 
 /// The packet at the start of some bytes, as far as it is there, borrowed from them. Use it to filter, count or display
@@ -145,6 +145,17 @@ impl<'a> Dissection<'a> {
     #[inline]
     pub fn headers(&self) -> Ipv6ExtensionSliceIter<'a> {
         Ipv6ExtensionSliceIter::new(self.first_number(), self.extensions)
+    }
+
+    /// Returns an iterator over the extension headers, each with its offset: where it begins, in bytes from the start of
+    /// the packet.
+    pub fn headers_with_offsets(&self) -> impl Iterator<Item = (usize, Ipv6ExtensionSlice<'a>)> {
+        let mut end = self.base.map_or(0, |base| base.slice().len());
+        self.headers().map(move |header| {
+            let offset = end;
+            end += header.slice().len();
+            (offset, header)
+        })
     }
 
     /// Returns the extension headers of an IPv4 packet, or `None` if the packet isn't IPv4.

@@ -1,9 +1,11 @@
 use crate::err::{Expected, FilterError};
+use crate::filter_text::write_steps;
 use crate::library;
 use core::fmt;
 use core::str::FromStr;
 
-/// A filter over packets: terms joined by `not`, `and` and `or`.
+/// A filter over packets: terms joined by `not`, `and` and `or`. Filters are equal if their texts differ only in how
+/// terms, operators and numbers are spelled, in white space and in needless parentheses.
 ///
 /// ```
 /// use wolfaren::Filter;
@@ -77,6 +79,13 @@ impl FromStr for Filter {
 
     fn from_str(text: &str) -> Result<Filter, FilterError> {
         Filter::parse(text)
+    }
+}
+
+/// Formats the filter as a text that is parsed to an equal filter, with numbers for names, and addresses as prefixes.
+impl fmt::Display for Filter {
+    fn fmt(&self, f: &mut fmt::Formatter<'_>) -> fmt::Result {
+        write_steps(self.numbers.used(), 0, f)
     }
 }
 

@@ -376,6 +376,17 @@ mod tests {
         assert!(numbers.iter().copied().eq((0..=147).chain([253, 254])));
     }
 
+    #[test]
+    fn numbers_are_displayed_by_their_keywords() {
+        for (number, text) in [(6, "TCP"), (44, "IPv6-Frag"), (61, "61"), (200, "200")] {
+            assert_eq!(std::format!("{}", crate::IpNumber(number)), text);
+            assert_eq!(
+                std::format!("{:>10}", crate::IpNumber(number)),
+                std::format!("{text:>10}")
+            );
+        }
+    }
+
     /// The file that `getprotobyname` reads has the same numbers, if this system has it.
     #[test]
     fn numbers_are_those_of_the_system() {

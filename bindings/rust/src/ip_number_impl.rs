@@ -1,3 +1,4 @@
+use crate::library;
 use core::fmt;
 
 /// A protocol number, as in the protocol field of IPv4 and the next header fields of IPv6 and its extension headers
@@ -19,6 +20,16 @@ impl fmt::Debug for IpNumber {
             _ => return write!(f, "{}", self.0),
         };
         write!(f, "{} ({name})", self.0)
+    }
+}
+
+/// Formats the number as the keyword that IANA has assigned to it, such as `TCP`, or in decimal if there is none.
+impl fmt::Display for IpNumber {
+    fn fmt(&self, f: &mut fmt::Formatter<'_>) -> fmt::Result {
+        match library::number_name(self.0) {
+            "" => fmt::Display::fmt(&self.0, f),
+            name => f.pad(name),
+        }
     }
 }
 

@@ -108,6 +108,7 @@ mod dissection;
 pub mod err;
 mod faults;
 mod filter;
+mod filter_text;
 mod ip_auth_header_slice;
 mod ip_frag_offset;
 pub mod ip_number;

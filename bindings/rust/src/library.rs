@@ -121,7 +121,6 @@ pub(crate) struct FilterError {
 }
 
 /// `struct wolfaren_name`: a name of a code, with a 0 byte after it.
-#[cfg(all(test, not(miri)))]
 #[repr(C)]
 struct Name {
     text: *const u8,
@@ -246,7 +245,6 @@ unsafe extern "C" {
     #[cfg(all(test, not(miri)))]
     fn wolfaren_fault_text(fault: *const Fault, text: *mut u8, room: usize) -> usize;
 
-    #[cfg(all(test, not(miri)))]
     fn wolfaren_find_number_name(number: u8, name: *mut Name);
 
     #[cfg(all(test, not(miri)))]
@@ -614,7 +612,6 @@ pub(crate) fn fault_text(fault: &Fault) -> std::string::String {
 }
 
 /// Returns the keyword that IANA has assigned to a protocol number, which is empty if there is none.
-#[cfg(all(test, not(miri)))]
 pub(crate) fn number_name(number: u8) -> &'static str {
     let mut name = MaybeUninit::uninit();
     // SAFETY: `name` has room for a name, and the call writes all of its fields. The text is in the library's constant
@@ -624,7 +621,7 @@ pub(crate) fn number_name(number: u8) -> &'static str {
         let name: Name = name.assume_init();
         slice::from_raw_parts(name.text, name.size - 1)
     };
-    core::str::from_utf8(text).expect("the name is ASCII")
+    core::str::from_utf8(text).unwrap_or_default()
 }
 
 #[cfg(all(test, not(miri)))]

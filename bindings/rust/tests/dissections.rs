@@ -72,6 +72,31 @@ fn fault(error: SliceError, header: Option<Layer>) -> End {
     End::Fault { error, header }
 }
 
+/// Returns the number and the offset of each extension header.
+fn places(bytes: &[u8]) -> Vec<(u8, usize)> {
+    Dissection::from_slice(bytes)
+        .headers_with_offsets()
+        .map(|(offset, header)| (header.number().0, offset))
+        .collect()
+}
+
+#[test]
+fn offsets_of_headers() {
+    let chain = [
+        [43, 0, 1, 4, 0, 0, 0, 0], // hop-by-hop options
+        [44, 1, 253, 0, 0, 0, 0, 0],
+        [0; 8], // the rest of the routing header
+        [60, 0, 0, 1, 0, 0, 0, 1],
+        [17, 0, 1, 4, 0, 0, 0, 0],
+    ];
+    let packet = ipv6(40, 0, chain.as_flattened());
+    assert_eq!(places(&packet), [(0, 40), (43, 48), (44, 64), (60, 72)]);
+    let auth = [&[6, 2, 0, 0][..], &[0; 12]].concat();
+    assert_eq!(places(&ipv4(36, 0, 51, &auth)), [(51, 20)]);
+    assert_eq!(places(&ipv4(20, 0, 6, &[])), []);
+    assert_eq!(places(&[]), []);
+}
+
 #[test]
 fn ipv6_payloads_and_fragments() {
     let end = &End::Payload;

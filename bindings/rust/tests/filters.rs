@@ -31,6 +31,11 @@ fn check(packet: &[u8], matching: &[&str], others: &[&str]) {
     }
 }
 
+/// Returns the filter of a text that is one.
+fn parsed(text: &str) -> Filter {
+    Filter::parse(text).unwrap_or_else(|error| panic!("{text}: {error}"))
+}
+
 #[test]
 fn fragments() {
     let middle = ipv6(
@@ -114,6 +119,92 @@ fn precedence() {
         "not not not fault",
     ];
     check(&packet, &matching, &["(version 6 or fault) and fault"]);
+}
+
+#[test]
+fn texts_of_filters() {
+    let rows = [
+        ("version 4", "version 4"),
+        ("header  hopopt", "header 0"),
+        ("leads-to 0xff", "leads-to 255"),
+        (
+            "payload >= 18446744073709551615",
+            "payload >= 18446744073709551615",
+        ),
+        ("spi 4294967295 && ! id 0", "spi 4294967295 and not id 0"),
+        ("net 192.0.2.1", "net 192.0.2.1/32"),
+        ("src 2001:db8::/32", "src 2001:db8::/32"),
+        ("dst ::/0", "dst ::/0"),
+        ("not not (fault)", "not not fault"),
+        (
+            "fault and (truncated and incomplete)",
+            "fault and (truncated and incomplete)",
+        ),
+        (
+            "(fault and truncated) and incomplete",
+            "fault and truncated and incomplete",
+        ),
+        (
+            "(fault and truncated) or incomplete",
+            "fault and truncated or incomplete",
+        ),
+        (
+            "fault and (truncated or incomplete)",
+            "fault and (truncated or incomplete)",
+        ),
+        (
+            "not (fault or truncated) and not (incomplete)",
+            "not (fault or truncated) and not incomplete",
+        ),
+        (
+            "fault or not (not (fault or fault) or fault)",
+            "fault or not (not (fault or fault) or fault)",
+        ),
+    ];
+    for (text, wanted) in rows {
+        assert_eq!(parsed(text).to_string(), wanted);
+    }
+}
+
+/// Each term, in each place of formulas of three terms, is parsed again to an equal filter. No two of these are equal.
+#[test]
+fn texts_are_parsed_again() {
+    let kinds = "too-short not-at-start zero-length unsupported-version header-length";
+    let mut terms: Vec<String> =
+        "fragment first-fragment later-fragment truncated incomplete fault"
+            .split(' ')
+            .map(str::to_owned)
+            .collect();
+    terms.extend(kinds.split(' ').map(|kind| format!("fault {kind}")));
+    for name in ["headers", "chain-bytes", "payload"] {
+        terms.extend(["=", "!=", "<", "<=", ">", ">="].map(|it| format!("{name} {it} 7")));
+    }
+    terms.extend(["version", "header", "leads-to", "spi", "id"].map(|name| format!("{name} 6")));
+    for name in ["src", "dst", "net"] {
+        terms.extend(["192.0.2.0/24", "2001:db8:0:1::5/127"].map(|it| format!("{name} {it}")));
+    }
+    let mut found: Vec<Filter> = Vec::new();
+    for term in &terms {
+        for form in [
+            "T",
+            "not T",
+            "T and id 1 or id 2",
+            "(id 1 or T) and id 2",
+            "id 1 and (id 2 and T)",
+        ] {
+            let filter = parsed(&form.replace('T', term));
+            assert_eq!(parsed(&filter.to_string()), filter);
+            assert!(!found.contains(&filter), "{filter}");
+            found.push(filter);
+        }
+    }
+    let deepest = "(".repeat(16) + "fault" + &" and fault)".repeat(16);
+    let longest = vec!["fault"; 64].join(" or not ");
+    let right = "fault or (".repeat(16) + "fault" + &")".repeat(16);
+    for text in [deepest, longest, right] {
+        let filter = parsed(&text);
+        assert_eq!(parsed(&filter.to_string()), filter);
+    }
 }
 
 #[test]

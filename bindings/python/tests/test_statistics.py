@@ -34,10 +34,11 @@ def counted(packets):
 def run_together(*calls):
     """Runs each call in a thread of its own, and returns whether all of them ended within a minute."""
     threads = [threading.Thread(target=it, daemon=True) for it in calls]
+    end = time.monotonic() + 60
     for thread in threads:
         thread.start()
     for thread in threads:
-        thread.join(60)
+        thread.join(max(0, end - time.monotonic()))
     return not any(it.is_alive() for it in threads)
 
 
@@ -305,12 +306,13 @@ class Threads(unittest.TestCase):
         sys.setswitchinterval(1e-6)
         self.shared = Statistics()
 
-    def test_other_frames(self):
-        def count():
+    def test_frames(self):
+        def count(add):
             for _ in range(200_000):
-                self.shared.add_other_frame()
-        self.assertTrue(run_together(*[count] * 4))
-        self.assertEqual(self.shared.other_frames, 800_000)
+                add()
+        for add in [self.shared.add_other_frame, self.shared.add_truncated_frame]:
+            self.assertTrue(run_together(*[lambda: count(add)] * 4))
+        self.assertEqual((self.shared.other_frames, self.shared.truncated_frames), (800_000, 800_000))
 
     def test_adding_and_reading(self):
         """Each copy that is read meanwhile has counts that add up: otherwise it can't be made."""
@@ -357,14 +359,18 @@ class Threads(unittest.TestCase):
         self.assertEqual(self.shared.packets, added)
 
     def test_merging(self):
-        part = counted(PACKETS)
+        part, copies = counted(ipv6_chain([60], final) for final in range(100, 200)), []
 
         def merge():
-            for _ in range(1000):
+            for _ in range(500):
                 self.shared.__iadd__(part)
-        self.assertTrue(run_together(*[merge] * 4))
-        self.assertEqual(self.shared.packets, 4000 * len(PACKETS))
-        self.assertEqual(self.shared.chains["IPv4 -> 6"], 4000)
+
+        def read():
+            while self.shared.packets < 2000 * part.packets:
+                copies.append(pickle.loads(pickle.dumps(self.shared)).packets % part.packets)
+        self.assertTrue(run_together(*[merge] * 4, read))
+        self.assertEqual({*copies}, {0})
+        self.assertEqual({*self.shared.chains.values()}, {2000})
 
     def test_merging_each_other(self):
         one, other = counted(PACKETS), counted(PACKETS)

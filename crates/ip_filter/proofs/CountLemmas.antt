@@ -3,9 +3,9 @@ use Rattle.std.proofs.Common.{suc, Some, None}
 use Rattle.std.specs.Prelude.{Option}
 use Rattle.std.specs.Option.{option_map_or}
 use Rattle.ip_spec.proofs.Common.{◌≡◌, ℕ, ◌+◌, ◌*◌, ◌≤◌, List, [], ◌∷◌, ◌++◌, length, refl, ap, ◌∙◌, arith, length-append}
-use Rattle.ip_filter.specs.declared.filter.StepKind.{StepKind}
-use Rattle.ip_filter.specs.declared.filter.StepKind.TheVariants as kind
-use Rattle.ip_filter.specs.declared.filter.Step.{Step}
+use Rattle.ip_filter.specs.declared.steps.StepKind.{StepKind}
+use Rattle.ip_filter.specs.declared.steps.StepKind.TheVariants as kind
+use Rattle.ip_filter.specs.declared.steps.Step.{Step}
 use Rattle.ip_filter.specs.Words.{Word}
 use Rattle.ip_filter.specs.Grammar.{Operand, Conjunction, Disjunction, a_term, a_negation, a_group, an_operand, an_and, a_conjunction, an_or, operand_terms, conjunction_terms, terms_in, operand_words, conjunction_words, filter_words}
 use Rattle.ip_filter.specs.Parsing.{Open, after, group_terms, group_steps, or_steps, and_steps, operand_steps, conjunction_steps, filter_steps, state_steps, state_terms}

@@ -48,13 +48,13 @@ number_more : (n : ℕ) (c : List ExtHeader) (h : ExtHeader) → list_any (λ x.
 number_more n c h = grind (arith, common_steps)
 
 -- the bit of a number below 64
-one_bit : (k w : ℕ) → k < w → 1 * 2 ^ k % 2 ^ w ≡ 2 ^ k
+pub one_bit : (k w : ℕ) → k < w → 1 * 2 ^ k % 2 ^ w ≡ 2 ^ k
 one_bit k w less = grind (arith, common_steps, pow_below k w less)
 
-bit_same : (m k : ℕ) → (bit_at (bit_or m (2 ^ k)) k == 1) ≡ true
+pub bit_same : (m k : ℕ) → (bit_at (bit_or m (2 ^ k)) k == 1) ≡ true
 bit_same m k = rw (bit_at_or m (2 ^ k) k, bit_at-pow_same k) (grind (arith, common_steps, bit_at-lt m k))
 
-bit_other : (m k n : ℕ) → (n ≡ k → ⊥) → (bit_at (bit_or m (2 ^ k)) n == 1) ≡ (bit_at m n == 1)
+pub bit_other : (m k n : ℕ) → (n ≡ k → ⊥) → (bit_at (bit_or m (2 ^ k)) n == 1) ≡ (bit_at m n == 1)
 bit_other m k n other = rw (bit_at_or m (2 ^ k) n, bit_at-pow_other k n other) (grind (arith, common_steps))
 
 pub set_more : (m k : ℕ) (b : List ℕ) (c : List ExtHeader) → k < 64 → ((n : ℕ) → n < 64 → (bit_at m n == 1) ≡ list_any (λ h. h.number == n) c)

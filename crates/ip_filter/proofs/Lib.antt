@@ -1,11 +1,9 @@
 mod NetworkLemmas
-mod BitsLemmas
 mod FormulaLemmas
 mod WordLemmas
 mod NumberLemmas
 mod ArgumentLemmas
 mod NetworkTextLemmas
-pub mod StepsLemmas
 mod AfterLemmas
 mod PlaceLemmas
 mod TermLemmas
@@ -18,3 +16,7 @@ mod StateLemmas
 mod ReadFormulaLemmas
 mod ParseLemmas
 mod FactsLemmas
+mod FlagLemmas
+mod MaskLemmas
+mod ProgramLemmas
+mod CompileLemmas

@@ -15,8 +15,8 @@ use Rattle.ip_filter.specs.Reading.{IsPlace, IsFirstWord, ReadsTerm, RefusesTerm
 use Rattle.ip_filter.specs.Parsing.{Open, State, before, nothing, Moves, by_not, by_open, by_term, may_follow, LeadsTo, with_operand, open_terms, group_terms, group_words, open_words, Fits, Holds, HoldsOperand, ReadsOn, RefusesFrom, level_of, levels_of, state_steps, and_joined, negate}
 use Rattle.arrayvec.specs.declared.array_vec.ArrayVec.{ArrayVec}
 use Rattle.ip_filter.specs.declared.builder.Level.{Level}
-use Rattle.ip_filter.specs.declared.filter.Filter.{Filter}
-use Rattle.ip_filter.specs.declared.filter.StepKind.TheVariants as kind
+use Rattle.ip_filter.specs.declared.steps.Steps.{Steps}
+use Rattle.ip_filter.specs.declared.steps.StepKind.TheVariants as kind
 use Rattle.ip_filter.specs.Formula.{steps_of}
 use Rattle.ip_filter.proofs.PartStepsLemmas.{joined_terms}
 use Rattle.ip_filter.proofs.CountLemmas.{group_count, after_count}
@@ -89,7 +89,7 @@ module _ (text : List ℕ) (w : FirstWord) (is : IsFirstWord text w) where
 module _ (b : Builder) (w : FirstWord) where
   pub not_read : (r : ℕ) → is_not w.bytes.now ≡ true → r ≡ min (b.level.nots + 1) 18446744073709551615 → (text : List ℕ) (fs : List Open) (f : Open) → IsFirstWord text w
       → Holds (before fs f) b → Fits (before fs f)
-      → ReadsOn (before fs f) text w.rest.now (record { filter = b.filter; terms = b.terms; outer = b.outer; level = record { nots = r; or_waits = b.level.or_waits; and_waits = b.level.and_waits }; has_operand = b.has_operand })
+      → ReadsOn (before fs f) text w.rest.now (record { steps = b.steps; terms = b.terms; outer = b.outer; level = record { nots = r; or_waits = b.level.or_waits; and_waits = b.level.and_waits }; has_operand = b.has_operand })
   not_read r n sum text fs f is h fits =
       let word = w.bytes.now in
       let more : Open = record f { nots = f.nots ++ word ∷ [] } in
@@ -116,7 +116,7 @@ module _ (b : Builder) (w : FirstWord) where
   pub open_read : (outer : ArrayVec Level 16 (Unit {0})) (level : Level) → bytes_eq w.bytes.now (codes "(") ≡ true → outer.items ≡ b.outer.items ++ b.level ∷ []
       → level ≡ record { nots = 0; or_waits = false; and_waits = false } → length b.outer.items < 16 → (text : List ℕ) (fs : List Open) (f : Open) → IsFirstWord text w
       → Holds (before fs f) b → Fits (before fs f)
-      → ReadsOn (before fs f) text w.rest.now (record { filter = b.filter; terms = b.terms; outer = outer; level = level; has_operand = b.has_operand })
+      → ReadsOn (before fs f) text w.rest.now (record { steps = b.steps; terms = b.terms; outer = outer; level = level; has_operand = b.has_operand })
   open_read outer level o pushed empty room text fs f is h fits =
       let same = same_word w.bytes.now (codes "(") o in
       let few : length fs < 16 = omega (arith, room, ap length h.outer, level_count fs) in
@@ -179,9 +179,9 @@ module _ (b : Builder) (w : FirstWord) where
     }
 
     -- the step of the term is the last one
-    term_holds : (filter : Filter) (count : ℕ) (t : Term) (us : List Word) (fs : List Open) (f : Open) → Holds (before fs f) b → count ≡ b.terms + 1
-        → steps_of filter ≡ steps_of b.filter ++ record { kind = kind.Term t; nots = b.level.nots } ∷ []
-        → HoldsOperand fs f (a_term t us) (record { filter = filter; terms = count; outer = b.outer; level = b.level; has_operand = b.has_operand })
+    term_holds : (filter : Steps) (count : ℕ) (t : Term) (us : List Word) (fs : List Open) (f : Open) → Holds (before fs f) b → count ≡ b.terms + 1
+        → steps_of filter ≡ steps_of b.steps ++ record { kind = kind.Term t; nots = b.level.nots } ∷ []
+        → HoldsOperand fs f (a_term t us) (record { steps = filter; terms = count; outer = b.outer; level = b.level; has_operand = b.has_operand })
     term_holds filter count t us fs f h sum pushed = record {
       steps = pushed ∙ ap (λ s. s ++ record { kind = kind.Term t; nots = b.level.nots } ∷ []) h.steps
           ∙ ap (λ k. state_steps (before fs f) ++ record { kind = kind.Term t; nots = k } ∷ []) (ap (λ l. l.nots) h.level);
@@ -191,16 +191,16 @@ module _ (b : Builder) (w : FirstWord) where
       and_waits = ap (λ l. l.and_waits) h.level;
     }
 
-    pub term_read : (filter : Filter) (count : ℕ) (t : Term) (rest : List ℕ) (new : Builder) → ReadsTerm w.bytes.now w.rest.now t rest → count ≡ min (b.terms + 1) 18446744073709551615
-        → (length (steps_of b.filter) < 127 → steps_of filter ≡ steps_of b.filter ++ record { kind = kind.Term t; nots = b.level.nots } ∷ [])
-        → ((fs : List Open) (f : Open) (u : Operand) → HoldsOperand fs f u (record { filter = filter; terms = count; outer = b.outer; level = b.level; has_operand = b.has_operand })
+    pub term_read : (filter : Steps) (count : ℕ) (t : Term) (rest : List ℕ) (new : Builder) → ReadsTerm w.bytes.now w.rest.now t rest → count ≡ min (b.terms + 1) 18446744073709551615
+        → (length (steps_of b.steps) < 127 → steps_of filter ≡ steps_of b.steps ++ record { kind = kind.Term t; nots = b.level.nots } ∷ [])
+        → ((fs : List Open) (f : Open) (u : Operand) → HoldsOperand fs f u (record { steps = filter; terms = count; outer = b.outer; level = b.level; has_operand = b.has_operand })
         → length (state_steps (with_operand fs f u)) ≤ 127 → Holds (with_operand fs f u) new)
         → (text : List ℕ) (fs : List Open) (f : Open) → IsFirstWord text w → Holds (before fs f) b → Fits (before fs f) → ReadsOn (before fs f) text rest new
     term_read filter count t rest new r sum push done text fs f is h fits =
         let u = a_term t r.args in
         let terms = h.terms in
         let few = fits.terms in
-        let room : length (steps_of b.filter) < 127 = omega (arith, few, terms, ap length h.steps, group_count (f ∷ fs)) in
+        let room : length (steps_of b.steps) < 127 = omega (arith, few, terms, ap length h.steps, group_count (f ∷ fs)) in
         let all = joined_terms f.nots u f.and_left in
         let enough : length (state_steps (with_operand fs f u)) ≤ 127
         = omega (arith, few, terms, all, after_count fs f.or_left (and_joined f.and_left (negate f.nots u))) in

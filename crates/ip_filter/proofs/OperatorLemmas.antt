@@ -10,10 +10,10 @@ use Rattle.ip_filter.specs.declared.parse_error.Expected.{Expected}
 use Rattle.ip_filter.specs.declared.parse_error.Expected.TheVariants as expects
 use Rattle.ip_filter.specs.declared.builder.Builder.{Builder}
 use Rattle.ip_filter.specs.declared.builder.Level.{Level}
-use Rattle.ip_filter.specs.declared.filter.Filter.{Filter}
-use Rattle.ip_filter.specs.declared.filter.Step.{Step}
-use Rattle.ip_filter.specs.declared.filter.StepKind.{StepKind}
-use Rattle.ip_filter.specs.declared.filter.StepKind.TheVariants as kind
+use Rattle.ip_filter.specs.declared.steps.Steps.{Steps}
+use Rattle.ip_filter.specs.declared.steps.Step.{Step}
+use Rattle.ip_filter.specs.declared.steps.StepKind.{StepKind}
+use Rattle.ip_filter.specs.declared.steps.StepKind.TheVariants as kind
 use Rattle.ip_filter.specs.Words.{Word, words}
 use Rattle.ip_filter.specs.Formula.{steps_of}
 use Rattle.ip_filter.specs.Grammar.{Operand, Conjunction, Disjunction, a_group, filter_words, conjunction_words, is_and, is_or}
@@ -72,7 +72,7 @@ joins_nothing w fs o c t vs ws more a full (by_or gs p d v is few) e = omega (ar
 
 -- ---- the steps after an `or` or a group
 
-or_end : (front : List Step) (o : Option (Disjunction × Word)) (c : Conjunction) (old new : Filter) → steps_of old ≡ front ++ or_steps o ++ conjunction_steps 0 c
+or_end : (front : List Step) (o : Option (Disjunction × Word)) (c : Conjunction) (old new : Steps) → steps_of old ≡ front ++ or_steps o ++ conjunction_steps 0 c
     → (is_some o ≡ true → length (steps_of old) < 127 → steps_of new ≡ steps_of old ++ record { kind = kind.Or; nots = 0 } ∷ []) → (is_some o ≡ false → new ≡ old)
     → length (front ++ filter_steps 0 (or_joined o c)) ≤ 127 → steps_of new ≡ front ++ filter_steps 0 (or_joined o c)
 or_end front None c old new e push keep few = ap steps_of (keep refl) ∙ e ∙ ap (λ s. s ++ conjunction_steps 0 c) (append-nil front)
@@ -101,7 +101,7 @@ may_stop (f ∷ fs) o c = inr tt
 module _ (b : Builder) (w : FirstWord) where
   pub and_read : is_and w.bytes.now ≡ true → b.terms < 64 → (text : List ℕ) (fs : List Open) (o : Option (Disjunction × Word)) (c : Conjunction) → IsFirstWord text w
       → Holds (after fs o c) b → Fits (after fs o c)
-      → ReadsOn (after fs o c) text w.rest.now (record { filter = b.filter; terms = b.terms; outer = b.outer; level = record { nots = b.level.nots; or_waits = b.level.or_waits; and_waits = true }; has_operand = false })
+      → ReadsOn (after fs o c) text w.rest.now (record { steps = b.steps; terms = b.terms; outer = b.outer; level = record { nots = b.level.nots; or_waits = b.level.or_waits; and_waits = true }; has_operand = false })
   and_read a few text fs o c is h fits =
       let word = w.bytes.now in
       let terms = h.terms in
@@ -121,19 +121,19 @@ module _ (b : Builder) (w : FirstWord) where
         only = λ t vs ws more m may e next. only_and word fs o c t vs ws more a m e;
       }
 
-  pub or_read : (filter : Filter) → is_or w.bytes.now ≡ true → b.terms < 64
-      → (b.level.or_waits ≡ true → length (steps_of b.filter) < 127 → steps_of filter ≡ steps_of b.filter ++ record { kind = kind.Or; nots = 0 } ∷ [])
-      → (b.level.or_waits ≡ false → filter ≡ b.filter)
+  pub or_read : (filter : Steps) → is_or w.bytes.now ≡ true → b.terms < 64
+      → (b.level.or_waits ≡ true → length (steps_of b.steps) < 127 → steps_of filter ≡ steps_of b.steps ++ record { kind = kind.Or; nots = 0 } ∷ [])
+      → (b.level.or_waits ≡ false → filter ≡ b.steps)
       → (text : List ℕ) (fs : List Open) (o : Option (Disjunction × Word)) (c : Conjunction) → IsFirstWord text w
       → Holds (after fs o c) b → Fits (after fs o c)
-      → ReadsOn (after fs o c) text w.rest.now (record { filter = filter; terms = b.terms; outer = b.outer; level = record { nots = b.level.nots; or_waits = true; and_waits = b.level.and_waits }; has_operand = false })
+      → ReadsOn (after fs o c) text w.rest.now (record { steps = filter; terms = b.terms; outer = b.outer; level = record { nots = b.level.nots; or_waits = true; and_waits = b.level.and_waits }; has_operand = false })
   or_read filter a few push keep text fs o c is h fits =
       let word = w.bytes.now in
       let terms = h.terms in
       let waits : b.level.or_waits ≡ is_some o = ap (λ l. l.or_waits) h.level in
       let all = or_joined_terms o c in
       let bound = fits.terms in
-      let steps = or_end (group_steps fs) o c b.filter filter h.steps (λ e. push (waits ∙ e)) (λ e. keep (waits ∙ e)) (omega (arith, bound, all, or_end_count fs (or_joined o c))) in
+      let steps = or_end (group_steps fs) o c b.steps filter h.steps (λ e. push (waits ∙ e)) (λ e. keep (waits ∙ e)) (omega (arith, bound, all, or_end_count fs (or_joined o c))) in
       record {
         next = before fs (record { or_left = Some (or_joined o c, word); and_left = None; nots = [] });
         us = word ∷ [];
@@ -191,7 +191,7 @@ module _ (b : Builder) (w : FirstWord) where
 
   pub closed : (outer : ArrayVec Level 16 (Unit {0})) (last : Level) (new : Builder) → bytes_eq w.bytes.now (codes ")") ≡ true → b.outer.items ≡ outer.items ++ last ∷ []
       → ((fs : List Open) (f : Open) (o : Option (Disjunction × Word)) (c : Conjunction)
-      → HoldsGroup fs f o c last (record { filter = b.filter; terms = b.terms; outer = outer; level = b.level; has_operand = b.has_operand }) → Fits (after (f ∷ fs) o c)
+      → HoldsGroup fs f o c last (record { steps = b.steps; terms = b.terms; outer = outer; level = b.level; has_operand = b.has_operand }) → Fits (after (f ∷ fs) o c)
       → Holds (with_operand fs f (a_group (or_joined o c))) new)
       → (text : List ℕ) (fs : List Open) (o : Option (Disjunction × Word)) (c : Conjunction) → IsFirstWord text w
       → Holds (after fs o c) b → Fits (after fs o c) → ReadsOn (after fs o c) text w.rest.now new
@@ -233,12 +233,12 @@ few_words fs f (Some p) c =
       length-append (group_words fs) (open_words f),
     )
 
-pub group_closed : (b : Builder) (level : Level) (mid last : Filter) (new : Builder)
-    → (b.level.or_waits ≡ true → length (steps_of b.filter) < 127 → steps_of mid ≡ steps_of b.filter ++ record { kind = kind.Or; nots = 0 } ∷ [])
-    → (b.level.or_waits ≡ false → mid ≡ b.filter)
+pub group_closed : (b : Builder) (level : Level) (mid last : Steps) (new : Builder)
+    → (b.level.or_waits ≡ true → length (steps_of b.steps) < 127 → steps_of mid ≡ steps_of b.steps ++ record { kind = kind.Or; nots = 0 } ∷ [])
+    → (b.level.or_waits ≡ false → mid ≡ b.steps)
     → ((front : List Step) (x : StepKind) (k : ℕ) → steps_of mid ≡ front ++ record { kind = x; nots = k } ∷ [] → k + level.nots < 2 ^ 64
     → steps_of last ≡ front ++ record { kind = x; nots = k + level.nots } ∷ [])
-    → ((fs : List Open) (f : Open) (u : Operand) → HoldsOperand fs f u (record { filter = last; terms = b.terms; outer = b.outer; level = level; has_operand = b.has_operand })
+    → ((fs : List Open) (f : Open) (u : Operand) → HoldsOperand fs f u (record { steps = last; terms = b.terms; outer = b.outer; level = level; has_operand = b.has_operand })
     → length (state_steps (with_operand fs f u)) ≤ 127 → Holds (with_operand fs f u) new)
     → (fs : List Open) (f : Open) (o : Option (Disjunction × Word)) (c : Conjunction) → HoldsGroup fs f o c level b → Fits (after (f ∷ fs) o c)
     → Holds (with_operand fs f (a_group (or_joined o c))) new
@@ -247,7 +247,7 @@ group_closed b level mid last new push keep negate_it done fs f o c h fits =
     let front = group_steps (f ∷ fs) in
     let bound = fits.terms in let short = fits.words in let terms = h.terms in
     let all = or_joined_terms o c in
-    let mids = or_end front o c b.filter mid h.steps (λ e. push (h.or_waits ∙ e)) (λ e. keep (h.or_waits ∙ e)) (omega (arith, bound, all, or_end_count (f ∷ fs) d)) in
+    let mids = or_end front o c b.steps mid h.steps (λ e. push (h.or_waits ∙ e)) (λ e. keep (h.or_waits ∙ e)) (omega (arith, bound, all, or_end_count (f ∷ fs) d)) in
     let l = filter_last d in
     let few = l.few in
     let nots : level.nots ≡ length f.nots = ap (λ x. x.nots) h.around in
@@ -268,9 +268,9 @@ group_closed b level mid last new push keep negate_it done fs f o c h fits =
 
 -- ---- the end of the text
 
-pub finished : (b : Builder) (x : Filter) → b.has_operand ≡ true → length b.outer.items ≡ 0
-    → (b.level.or_waits ≡ true → length (steps_of b.filter) < 127 → steps_of x ≡ steps_of b.filter ++ record { kind = kind.Or; nots = 0 } ∷ [])
-    → (b.level.or_waits ≡ false → x ≡ b.filter) → (s : State) → Holds s b → Fits s → IsFinished s x
+pub finished : (b : Builder) (x : Steps) → b.has_operand ≡ true → length b.outer.items ≡ 0
+    → (b.level.or_waits ≡ true → length (steps_of b.steps) < 127 → steps_of x ≡ steps_of b.steps ++ record { kind = kind.Or; nots = 0 } ∷ [])
+    → (b.level.or_waits ≡ false → x ≡ b.steps) → (s : State) → Holds s b → Fits s → IsFinished s x
 finished b x operand alone push keep (before fs f) h fits = absurd (false≢true (sym h.operand ∙ operand))
 finished b x operand alone push keep (after (f ∷ fs) o c) h fits = absurd (omega (arith, alone, ap length h.outer, level_count (f ∷ fs)))
 finished b x operand alone push keep (after [] o c) h fits =
@@ -281,7 +281,7 @@ finished b x operand alone push keep (after [] o c) h fits =
       or_left = o;
       last = c;
       whole = refl;
-      steps = or_end [] o c b.filter x h.steps (λ e. push (waits ∙ e)) (λ e. keep (waits ∙ e)) (omega (arith, bound, all, or_end_count [] (or_joined o c)));
+      steps = or_end [] o c b.steps x h.steps (λ e. push (waits ∙ e)) (λ e. keep (waits ∙ e)) (omega (arith, bound, all, or_end_count [] (or_joined o c)));
     }
 
 no_word_next : ¬ (IsOperator [])

@@ -5,10 +5,10 @@ use Rattle.std.specs.Option.{option_map_or}
 use Rattle.std.proofs.Math.Seq.{take-suc-set, get_or-append_seam}
 use Rattle.std.proofs.lemmas.List.{length-take-le, get_or-take}
 use Rattle.ip_spec.proofs.Common.{◌≡◌, ℕ, ◌+◌, ◌-◌, ◌<◌, ◌≤◌, min, List, [], ◌∷◌, ◌++◌, length, take, get_or, refl, sym, ap, ◌∙◌, arith, common_steps, true, false, append_assoc, append-nil, length-append, take-take, take-append_seam, take_all, length-set}
-use Rattle.ip_filter.specs.declared.filter.StepKind.{StepKind}
-use Rattle.ip_filter.specs.declared.filter.StepKind.TheVariants as kind
-use Rattle.ip_filter.specs.declared.filter.Step.{Step}
-use Rattle.ip_filter.specs.declared.filter.Filter.{Filter}
+use Rattle.ip_filter.specs.declared.steps.StepKind.{StepKind}
+use Rattle.ip_filter.specs.declared.steps.StepKind.TheVariants as kind
+use Rattle.ip_filter.specs.declared.steps.Step.{Step}
+use Rattle.ip_filter.specs.declared.steps.Steps.{Steps}
 use Rattle.ip_filter.specs.declared.builder.Builder.{Builder}
 use Rattle.ip_filter.specs.Words.{Word}
 use Rattle.ip_filter.specs.Formula.{steps_of}
@@ -74,12 +74,12 @@ pub joined_terms : (ns : List Word) (u : Operand) (a : Option (Conjunction × Wo
 joined_terms ns u None = omega (arith, negate_terms ns u)
 joined_terms ns u (Some p) = ap (λ n. conjunction_terms p.0 + n) (sym (negate_terms ns u))
 
-module _ (fs : List Open) (f : Open) (u : Operand) (b : Builder) (filter : Filter) (h : HoldsOperand fs f u b) where
+module _ (fs : List Open) (f : Open) (u : Operand) (b : Builder) (filter : Steps) (h : HoldsOperand fs f u b) where
   all_terms : b.terms ≡ state_terms (with_operand fs f u)
   all_terms = let e = joined_terms f.nots u f.and_left in let g = h.terms in omega (arith, e, g)
 
-  pub alone : b.level.and_waits ≡ false → filter ≡ b.filter
-      → Holds (with_operand fs f u) (record { filter = filter; terms = b.terms; outer = b.outer; level = record { nots = 0; or_waits = b.level.or_waits; and_waits = false }; has_operand = true })
+  pub alone : b.level.and_waits ≡ false → filter ≡ b.steps
+      → Holds (with_operand fs f u) (record { steps = filter; terms = b.terms; outer = b.outer; level = record { nots = 0; or_waits = b.level.or_waits; and_waits = false }; has_operand = true })
   alone waits same = record {
     steps = ap steps_of same ∙ h.steps ∙ alone_steps (group_steps fs ++ or_steps f.or_left) f.nots u f.and_left (sym h.and_waits ∙ waits);
     terms = all_terms;
@@ -89,12 +89,12 @@ module _ (fs : List Open) (f : Open) (u : Operand) (b : Builder) (filter : Filte
   }
 
   pub joined : b.level.and_waits ≡ true → length (state_steps (with_operand fs f u)) ≤ 127
-      → (length (steps_of b.filter) < 127 → steps_of filter ≡ steps_of b.filter ++ record { kind = kind.And; nots = 0 } ∷ [])
-      → Holds (with_operand fs f u) (record { filter = filter; terms = b.terms; outer = b.outer; level = record { nots = 0; or_waits = b.level.or_waits; and_waits = false }; has_operand = true })
+      → (length (steps_of b.steps) < 127 → steps_of filter ≡ steps_of b.steps ++ record { kind = kind.And; nots = 0 } ∷ [])
+      → Holds (with_operand fs f u) (record { steps = filter; terms = b.terms; outer = b.outer; level = record { nots = 0; or_waits = b.level.or_waits; and_waits = false }; has_operand = true })
   joined waits few push =
       let last : List Step = record { kind = kind.And; nots = 0 } ∷ [] in
       let all = ap (λ s. s ++ last) h.steps ∙ joined_steps (group_steps fs ++ or_steps f.or_left) f.nots u f.and_left (sym h.and_waits ∙ waits) in
-      let room : length (steps_of b.filter) < 127 = omega (arith, few, ap length all, length-append (steps_of b.filter) last) in
+      let room : length (steps_of b.steps) < 127 = omega (arith, few, ap length all, length-append (steps_of b.steps) last) in
       record {
         steps = push room ∙ all;
         terms = all_terms;

@@ -1,10 +1,11 @@
 -- The steps of a filter are its formula in postfix order.
 use Rattle.std.proofs.Common.{zero, suc}
-use Rattle.ip_spec.proofs.Common.{◌≡◌, ℕ, List, [], ◌∷◌, ◌++◌, refl, sym, ap, ◌∙◌, append_assoc, append-nil}
-use Rattle.ip_filter.specs.declared.filter.Step.{Step}
-use Rattle.ip_filter.specs.declared.filter.StepKind.TheVariants as kind
+use Rattle.ip_spec.proofs.Common.{◌≡◌, ℕ, List, [], ◌∷◌, ◌++◌, refl, sym, ap, ◌∙◌, append_assoc, append-nil, arith}
+use Rattle.ip_filter.specs.declared.steps.Step.{Step}
+use Rattle.ip_filter.specs.declared.steps.StepKind.TheVariants as kind
 use Rattle.ip_filter.specs.Formula.{Formula, negation, negated, read_after}
-use Rattle.ip_filter.specs.Grammar.{Operand, Conjunction, Disjunction, a_term, a_negation, a_group, an_operand, an_and, a_conjunction, an_or, operand_formula, conjunction_formula, formula_of}
+use Rattle.ip_filter.specs.Grammar.{Operand, Conjunction, Disjunction, a_term, a_negation, a_group, an_operand, an_and, a_conjunction, an_or, operand_formula, conjunction_formula, formula_of, operand_terms, conjunction_terms, terms_in}
+use Rattle.ip_filter.specs.Compiled.{terms_of}
 use Rattle.ip_filter.specs.Parsing.{operand_steps, conjunction_steps, filter_steps}
 
 negated_in : (k : ℕ) (f : Formula) → negated k (negation f) ≡ negation (negated k f)
@@ -33,3 +34,18 @@ mutual
 
 pub whole_formula : (d : Disjunction) → read_after [] (filter_steps 0 d) ≡ formula_of d ∷ []
 whole_formula d = ap (read_after []) (sym (append-nil (filter_steps 0 d))) ∙ filter_read d 0 [] []
+
+-- The formula has as many terms as the text.
+mutual
+  operand_terms_read : (u : Operand) → terms_of (operand_formula u) ≡ operand_terms u
+  operand_terms_read (a_term t us) = refl
+  operand_terms_read (a_negation w u) = operand_terms_read u
+  operand_terms_read (a_group d) = terms_read d
+
+  conjunction_terms_read : (c : Conjunction) → terms_of (conjunction_formula c) ≡ conjunction_terms c
+  conjunction_terms_read (an_operand u) = operand_terms_read u
+  conjunction_terms_read (an_and c w u) = omega (arith, conjunction_terms_read c, operand_terms_read u)
+
+  pub terms_read : (d : Disjunction) → terms_of (formula_of d) ≡ terms_in d
+  terms_read (a_conjunction c) = conjunction_terms_read c
+  terms_read (an_or d w c) = omega (arith, terms_read d, conjunction_terms_read c)

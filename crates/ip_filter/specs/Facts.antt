@@ -1,4 +1,4 @@
--- What terms ask of a packet.
+-- What tests ask of a packet.
 use Rattle.std.specs.Prelude.{ℕ, Option, None, Some}
 use Rattle.ip_spec.specs.Numbers.{NO_NEXT_HEADER}
 use Rattle.ip_base.specs.Ipv4Header.{protocol}

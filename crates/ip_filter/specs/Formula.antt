@@ -1,14 +1,10 @@
--- Formulas of terms, and the formula that a filter's steps are.
-use Rattle.std.specs.Prelude.{◌≡◌, ℕ, zero, suc, List, [], ◌∷◌, ◌++◌, Bool, false, not, ◌&&◌, ◌||◌, take, Option, Some, None}
-use Rattle.std.specs.Borrow.{Bor}
-use Rattle.ip_dissect.specs.Dissection.{dissected}
-use Rattle.ip_filter.specs.Truth.{holds}
-use Rattle.ip_filter.specs.declared.facts.Facts.{Facts}
+-- Formulas of terms, and the formula that steps in postfix order are.
+use Rattle.std.specs.Prelude.{ℕ, zero, suc, List, [], ◌∷◌, Bool, not, ◌&&◌, ◌||◌, take}
 use Rattle.ip_filter.specs.declared.term.Term.{Term}
-use Rattle.ip_filter.specs.declared.filter.StepKind.{StepKind}
-use Rattle.ip_filter.specs.declared.filter.StepKind.TheVariants as kind
-use Rattle.ip_filter.specs.declared.filter.Step.{Step}
-use Rattle.ip_filter.specs.declared.filter.Filter.{Filter}
+use Rattle.ip_filter.specs.declared.steps.StepKind.{StepKind}
+use Rattle.ip_filter.specs.declared.steps.StepKind.TheVariants as kind
+use Rattle.ip_filter.specs.declared.steps.Step.{Step}
+use Rattle.ip_filter.specs.declared.steps.Steps.{Steps}
 
 pub data Formula : Type 0 where
   single : Term → Formula
@@ -22,11 +18,6 @@ truth (single t) h = h t
 truth (negation f) h = not (truth f h)
 truth (both f g) h = truth f h && truth g h
 truth (either f g) h = truth f h || truth g h
-
--- h says which terms hold of the packet, if there is one: otherwise none
-abbrev pub SaysOf : Option (Bor Facts) → (Term → Bool) → Type 0
-SaysOf None h = (t : Term) → h t ≡ false
-SaysOf (Some x) h = (t : Term) → h t ≡ holds t (dissected x.now.packet.bytes.now)
 
 -- f negated k times
 abbrev pub negated : ℕ → Formula → Formula
@@ -46,16 +37,6 @@ abbrev pub read_after : List Formula → List Step → List Formula
 read_after fs [] = fs
 read_after fs (s ∷ steps) = read_after (after_step s.kind s.nots fs) steps
 
--- the last one holds; none does not
-abbrev pub last_holds : List Formula → (Term → Bool) → Bool
-last_holds [] h = false
-last_holds (f ∷ fs) h = truth f h
-
--- the steps of a filter
-abbrev pub steps_of : Filter → List Step
+-- the steps that are used
+abbrev pub steps_of : Steps → List Step
 steps_of x = take x.count x.steps
-
--- the truths of formulas, in the opposite order
-abbrev pub AreTruths : (Term → Bool) → List Formula → List Bool → Type 0
-AreTruths h [] bits = bits ≡ []
-AreTruths h (f ∷ fs) bits = (rest : List Bool) × (bits ≡ rest ++ truth f h ∷ []) × AreTruths h fs rest

@@ -1,9 +1,12 @@
 pub mod Network
 pub mod Truth
-pub mod NumberSet
 pub mod Facts
+pub mod Flags
+pub mod Tests
+pub mod Program
+pub mod Frames
+pub mod Compiled
 pub mod Formula
-pub mod Bits
 pub mod Words
 pub mod Numbers
 pub mod Grammar

@@ -1,20 +1,22 @@
 -- What a text is parsed as, and where it is refused.
-use Rattle.std.specs.Prelude.{◌≡◌, ◌≤◌, ◌-◌, ◌⊎◌, ℕ, List, [], ◌∷◌, ◌++◌, length, take, drop, codes}
+use Rattle.std.specs.Prelude.{◌≡◌, ◌≤◌, ◌-◌, ◌⊎◌, ℕ, List, [], ◌∷◌, ◌++◌, length, take, drop, codes, Option}
 use Rattle.ip_filter.specs.declared.filter.Filter.{Filter}
 use Rattle.ip_filter.specs.declared.parse_error.Expected.{Expected}
 use Rattle.ip_filter.specs.declared.parse_error.Expected.TheVariants as expects
 use Rattle.ip_filter.specs.Words.{Word, words}
-use Rattle.ip_filter.specs.Formula.{read_after, steps_of}
+use Rattle.ip_filter.specs.Formula.{truth}
+use Rattle.ip_filter.specs.Tests.{frame_meets}
+use Rattle.ip_filter.specs.Program.{tests_of, passes, frame_holds}
 use Rattle.ip_filter.specs.Grammar.{Disjunction, filter_words, formula_of, IsFilter}
 use Rattle.ip_filter.specs.Reading.{IsPlace, WantsArgument, IsOperator}
 
--- The words of the text are a filter, in one way, and x has its formula.
+-- The words of the text are a filter, in one way, and x lets those frames pass of which its formula holds.
 pub record IsParsed (text : List ℕ) (x : Filter) : Type 0 where
   pub written : Disjunction
   pub filter : IsFilter written
   pub words_of : filter_words written ≡ words text
   pub only : (d : Disjunction) → IsFilter d → filter_words d ≡ words text → d ≡ written
-  pub formula : read_after [] (steps_of x) ≡ formula_of written ∷ []
+  pub formula : (frame : Option (List ℕ)) → passes (tests_of x) (frame_meets frame) ≡ truth (formula_of written) (frame_holds frame)
 
 -- the words are a filter
 abbrev pub AreFilter : List Word → Type 0

@@ -1,9 +1,9 @@
 -- How the parser puts a filter together, word by word.
 use Rattle.std.specs.Prelude.{◌≡◌, ◌≤◌, ◌<◌, ◌+◌, ℕ, suc, List, [], ◌∷◌, ◌++◌, length, take, drop, Bool, true, false, Option, Some, None, is_some, ⊤, ◌⊎◌, ◌-◌, ◌^◌, IsTrue, codes}
 use Rattle.std.specs.Option.{option_map_or}
-use Rattle.ip_filter.specs.declared.filter.StepKind.TheVariants as kind
-use Rattle.ip_filter.specs.declared.filter.Step.{Step}
-use Rattle.ip_filter.specs.declared.filter.Filter.{Filter}
+use Rattle.ip_filter.specs.declared.steps.StepKind.TheVariants as kind
+use Rattle.ip_filter.specs.declared.steps.Step.{Step}
+use Rattle.ip_filter.specs.declared.steps.Steps.{Steps}
 use Rattle.ip_filter.specs.declared.builder.Level.{Level}
 use Rattle.ip_filter.specs.declared.builder.Builder.{Builder}
 use Rattle.ip_filter.specs.declared.parse_error.Expected.{Expected}
@@ -184,7 +184,7 @@ has_operand (after fs o c) = true
 
 -- b holds what was read before the operand u, and the steps of u
 pub record HoldsOperand (fs : List Open) (f : Open) (u : Operand) (b : Builder) : Type 0 where
-  pub steps : steps_of b.filter ≡ group_steps fs ++ or_steps f.or_left ++ and_steps f.and_left ++ operand_steps (length f.nots) u
+  pub steps : steps_of b.steps ≡ group_steps fs ++ or_steps f.or_left ++ and_steps f.and_left ++ operand_steps (length f.nots) u
   pub terms : b.terms ≡ group_terms fs + open_terms f + operand_terms u
   pub outer : b.outer.items ≡ levels_of fs
   pub or_waits : b.level.or_waits ≡ is_some f.or_left
@@ -192,7 +192,7 @@ pub record HoldsOperand (fs : List Open) (f : Open) (u : Operand) (b : Builder) 
 
 -- b holds what was read in a group before its end, but for the level around the group
 pub record HoldsGroup (fs : List Open) (f : Open) (o : Option (Disjunction × Word)) (c : Conjunction) (level : Level) (b : Builder) : Type 0 where
-  pub steps : steps_of b.filter ≡ state_steps (after (f ∷ fs) o c)
+  pub steps : steps_of b.steps ≡ state_steps (after (f ∷ fs) o c)
   pub terms : b.terms ≡ state_terms (after (f ∷ fs) o c)
   pub outer : b.outer.items ≡ levels_of fs
   pub around : level ≡ level_of f
@@ -200,7 +200,7 @@ pub record HoldsGroup (fs : List Open) (f : Open) (o : Option (Disjunction × Wo
 
 -- b holds what was read in the state s
 pub record Holds (s : State) (b : Builder) : Type 0 where
-  pub steps : steps_of b.filter ≡ state_steps s
+  pub steps : steps_of b.steps ≡ state_steps s
   pub terms : b.terms ≡ state_terms s
   pub outer : b.outer.items ≡ outer_of s
   pub level : b.level ≡ last_level s
@@ -230,7 +230,7 @@ pub record RefusesFrom (s : State) (text : List ℕ) (left : ℕ) (e : Expected)
   pub expected : IsDue s front (take 1 (words (drop (length text - left) text))) e
 
 -- The state is that of a whole filter, of which x has the steps.
-pub record IsFinished (s : State) (x : Filter) : Type 0 where
+pub record IsFinished (s : State) (x : Steps) : Type 0 where
   pub or_left : Option (Disjunction × Word)
   pub last : Conjunction
   pub whole : s ≡ after [] or_left last

@@ -2,18 +2,19 @@
 ghost use Rattle.std.specs.Prelude.{◌≡◌, ◌<◌, ◌≤◌, ◌+◌, ◌^◌, ℕ, Option, List, [], ◌∷◌, ◌++◌, length, true, false, codes, if◌then◌else◌, IfOk, IfErr};
 ghost use Rattle.arrayvec.specs.ArrayVec.{array_vec_len};
 ghost use Rattle.ip_filter.specs.Formula.{steps_of};
-ghost use Rattle.ip_filter.specs.declared.filter.StepKind.{StepKind as TheStepKind};
-ghost use Rattle.ip_filter.specs.declared.filter.StepKind.TheVariants.{Or};
-ghost use Rattle.ip_filter.specs.declared.filter.Step.{Step as TheStep};
+ghost use Rattle.ip_filter.specs.declared.steps.StepKind.{StepKind as TheStepKind};
+ghost use Rattle.ip_filter.specs.declared.steps.StepKind.TheVariants.{Or};
+ghost use Rattle.ip_filter.specs.declared.steps.Step.{Step as TheStep};
 ghost use Rattle.ip_filter.specs.Grammar.{Operand, Conjunction, Disjunction, a_group, is_not, is_and, is_or};
 ghost use Rattle.ip_filter.specs.Words.{Word as Text};
 ghost use Rattle.ip_filter.specs.Reading.{IsFirstWord};
 ghost use Rattle.ip_filter.specs.Parsing.{Open, State, before, after, nothing, with_operand, or_joined, state_steps, Fits, Holds, HoldsOperand, HoldsGroup, IsFinished, ReadsOn, RefusesFrom, IsDue, IsWhole};
 
+use crate::Expected;
 use crate::arguments::Unexpected;
 use crate::parse_term::read_term;
+use crate::steps::{Step, StepKind, Steps};
 use crate::words::Word;
-use crate::{Expected, Filter, Step, StepKind};
 use arrayvec::ArrayVec;
 
 /// The most terms of a filter.
@@ -34,7 +35,7 @@ pub(crate) struct Level {
 #[derive(Drop)]
 pub(crate) struct Builder {
     /// The steps so far.
-    pub filter: Filter,
+    pub steps: Steps,
     /// How many terms there are.
     pub terms: usize,
     /// The levels around the last one, the innermost last.
@@ -51,7 +52,7 @@ impl Builder {
         ensures { Holds (before [] nothing) result }
     {
         Builder {
-            filter: Filter {
+            steps: Steps {
                 steps: [Step {
                     kind: StepKind::And,
                     nots: 0,
@@ -102,7 +103,7 @@ impl Builder {
         }
         match read_term(word.bytes, word.rest) {
             Some(Ok((term, rest))) => {
-                push(&mut self.filter, StepKind::Term(term), self.level.nots);
+                push(&mut self.steps, StepKind::Term(term), self.level.nots);
                 self.terms = self.terms.saturating_add(1);
                 self.end_operand();
                 Ok(rest)
@@ -133,7 +134,7 @@ impl Builder {
             if self.terms >= MAX_TERMS {
                 return Err(word.unexpected(Expected::FewerTerms));
             }
-            push_or(&mut self.filter, self.level.or_waits);
+            push_or(&mut self.steps, self.level.or_waits);
             self.level.or_waits = true;
             self.has_operand = false;
             return Ok(word.rest);
@@ -159,8 +160,8 @@ impl Builder {
             → HoldsGroup fs f o c outer self.old → Fits (after (f ∷ fs) o c)
             → Holds (with_operand fs f (a_group (or_joined o c))) self.new }
     {
-        push_or(&mut self.filter, self.level.or_waits);
-        negate_last(&mut self.filter, outer.nots);
+        push_or(&mut self.steps, self.level.or_waits);
+        negate_last(&mut self.steps, outer.nots);
         self.level = outer;
         self.end_operand();
     }
@@ -172,7 +173,7 @@ impl Builder {
             → length (state_steps (with_operand fs f u)) ≤ 127 → Holds (with_operand fs f u) self.new }
     {
         if self.level.and_waits {
-            push(&mut self.filter, StepKind::And, 0);
+            push(&mut self.steps, StepKind::And, 0);
         }
         self.level.nots = 0;
         self.level.and_waits = false;
@@ -181,9 +182,9 @@ impl Builder {
 }
 
 impl Builder {
-    /// Returns the filter at the end of its text, or what is missing there.
+    /// Returns the steps at the end of the text, or what is missing there.
     #[tactic(auto, using(crate::proofs::OperatorLemmas::finished, crate::proofs::OperatorLemmas::operand_missing, crate::proofs::OperatorLemmas::close_missing))]
-    pub(crate) fn finish(mut self) -> Result<Filter, Expected>
+    pub(crate) fn finish(mut self) -> Result<Steps, Expected>
         ensures ok { IfOk result (λ x. (s : State) → Holds s self → Fits s → IsFinished s x) }
         ensures err { IfErr result (λ e. (s : State) → Holds s self
             → IsDue s [] [] e × (IsWhole s → ⊥)) }
@@ -194,48 +195,48 @@ impl Builder {
         if !self.outer.is_empty() {
             return Err(Expected::OperatorOrClose);
         }
-        push_or(&mut self.filter, self.level.or_waits);
-        Ok(self.filter)
+        push_or(&mut self.steps, self.level.or_waits);
+        Ok(self.steps)
     }
 }
 
-/// Appends a step to a filter with fewer than 127.
-fn push(filter: &mut Filter, kind: StepKind, nots: u64)
-    ensures { length (steps_of filter.old) < 127
-        → steps_of filter.new ≡ steps_of filter.old ++ record { kind = kind; nots = nots } ∷ [] }
+/// Appends a step to fewer than 127.
+fn push(to: &mut Steps, kind: StepKind, nots: u64)
+    ensures { length (steps_of to.old) < 127
+        → steps_of to.new ≡ steps_of to.old ++ record { kind = kind; nots = nots } ∷ [] }
 {
-    let count = usize::from(filter.count);
-    if count < filter.steps.len() {
-        filter.steps[count] = Step { kind, nots };
-        filter.count += 1;
+    let count = usize::from(to.count);
+    if count < to.steps.len() {
+        to.steps[count] = Step { kind, nots };
+        to.count += 1;
     }
 }
 
-/// Negates the last step of a filter more often.
+/// Negates the last step more often.
 #[tactic(auto, using(crate::proofs::PartStepsLemmas::negated_last))]
-fn negate_last(filter: &mut Filter, nots: u64)
+fn negate_last(to: &mut Steps, nots: u64)
     ensures { (front : List TheStep) (x : TheStepKind) (k : ℕ)
-        → steps_of filter.old ≡ front ++ record { kind = x; nots = k } ∷ [] → k + nots < 2 ^ 64
-        → steps_of filter.new ≡ front ++ record { kind = x; nots = k + nots } ∷ [] }
+        → steps_of to.old ≡ front ++ record { kind = x; nots = k } ∷ [] → k + nots < 2 ^ 64
+        → steps_of to.new ≡ front ++ record { kind = x; nots = k + nots } ∷ [] }
 {
-    let count = usize::from(filter.count).min(filter.steps.len());
+    let count = usize::from(to.count).min(to.steps.len());
     if count > 0 {
-        let last = filter.steps[count - 1];
-        filter.steps[count - 1] = Step {
+        let last = to.steps[count - 1];
+        to.steps[count - 1] = Step {
             kind: last.kind,
             nots: last.nots.saturating_add(nots),
         };
     }
 }
 
-/// Appends an `or` to a filter if it has a left operand.
-fn push_or(filter: &mut Filter, waits: bool)
-    ensures step { waits ≡ true → length (steps_of filter.old) < 127
-        → steps_of filter.new ≡ steps_of filter.old ++ record { kind = Or; nots = 0 } ∷ [] }
-    ensures none { waits ≡ false → filter.new ≡ filter.old }
+/// Appends an `or` if it has a left operand.
+fn push_or(to: &mut Steps, waits: bool)
+    ensures step { waits ≡ true → length (steps_of to.old) < 127
+        → steps_of to.new ≡ steps_of to.old ++ record { kind = Or; nots = 0 } ∷ [] }
+    ensures none { waits ≡ false → to.new ≡ to.old }
 {
     if waits {
-        push(filter, StepKind::Or, 0);
+        push(to, StepKind::Or, 0);
     }
 }
 

@@ -1,32 +1,31 @@
-//! What terms ask of a packet.
-ghost use Rattle.std.specs.Prelude.{◌≡◌, ◌==◌, ◌&&◌, ◌||◌, true, false};
+//! What tests ask of a packet.
+ghost use Rattle.std.specs.Prelude.{◌≡◌, ◌==◌, ◌&&◌, true};
 ghost use Rattle.std.specs.List.{list_any};
-ghost use Rattle.std.specs.Option.{option_map_or};
 ghost use Rattle.ip_spec.specs.Numbers.{AUTHENTICATION};
 ghost use Rattle.ip_spec.specs.Fields.{auth_fields};
 ghost use Rattle.ip_ext_slices.specs.Longest.{longest_chain};
 ghost use Rattle.ip_ext_slices.specs.Ipv6ExtensionSlice.{header_of};
 ghost use Rattle.ip_dissect.specs.Dissection.{dissected};
 ghost use Rattle.ip_dissect.specs.Outline.{is_plain};
-ghost use Rattle.ip_filter.specs.NumberSet.{AreNumbersIn};
+ghost use Rattle.ip_filter.specs.Flags.{AreKnown, any_flag};
 ghost use Rattle.ip_filter.specs.Facts.{first_number};
 ghost use Rattle.ip_filter.specs.Truth.{is_first_kind, is_later_kind, fault_kind, fault_in, is_truncated};
-ghost use Rattle.ip_filter.specs.Truth.{has_source, has_destination, is_version};
+ghost use Rattle.ip_filter.specs.Truth.{has_source, has_destination};
 
-use crate::number_set::NumberSet;
+use crate::flags::{Flags, mask};
 use crate::{FaultKind, Network};
 use ip_base::err::ip::{HeaderError, HeadersError, SliceError};
 use ip_base::err::ipv6_exts;
 use ip_base::{IpNumber, ip_number};
-use ip_dissect::{BaseHeader, End, Fragment, FragmentKind, Packet};
+use ip_dissect::{BaseHeader, End, FragmentKind, Packet};
 use ip_ext_slices::{Ipv6ExtensionSlice, Ipv6ExtensionsCursor};
 
-/// What terms ask of a packet: its parts, and the numbers of its extension headers.
+/// What tests ask of a packet: its parts, and its flags but for errors.
 #[derive(Clone, Copy, Debug)]
 pub(crate) struct Facts<'a> {
     pub(crate) packet: Packet<'a>,
-    pub(crate) numbers: NumberSet,
-    pub ghost numbers_are: { AreNumbersIn (dissected packet.bytes.now).headers numbers },
+    pub(crate) flags: Flags,
+    pub ghost flags_are: { AreKnown (dissected packet.bytes.now) flags },
 }
 
 impl<'a> Facts<'a> {
@@ -38,27 +37,37 @@ impl<'a> Facts<'a> {
     {
         Facts {
             packet,
-            numbers: NumberSet::none(),
+            flags: Flags::none().of(&packet),
         }
     }
 
-    /// Returns whether the packet has an extension header of this number.
+    /// Returns whether the packet has one of the flags that the mask selects. An error is only made if it is asked for.
     #[inline(always)]
-    pub(crate) fn has_number(&self, number: u8) -> bool
-        ensures { result
-            ≡ list_any (λ h. h.number == number) (dissected self.now.packet.bytes.now).headers }
+    pub(crate) fn has_one_of(&self, mask: u64) -> bool
+        ensures { result ≡ any_flag 64 mask (dissected self.now.packet.bytes.now) }
     {
-        self.numbers.has(number)
+        if self.packet.outline.has_error && mask & mask::ERRORS != 0 {
+            return self.has_one_of_errors(mask);
+        }
+        self.flags.has_one_of(mask)
+    }
+
+    /// Returns whether the packet has one of the flags that the mask selects, from its error.
+    #[inline(never)]
+    fn has_one_of_errors(&self, mask: u64) -> bool
+        ensures { result ≡ any_flag 64 mask (dissected self.now.packet.bytes.now) }
+    {
+        self.flags.with_end(&self.packet.end()).has_one_of(mask)
     }
 
     /// Returns whether the packet has an authentication header with the security parameters index. Walks the extension
     /// headers again if there is an authentication header.
     #[inline(always)]
-    pub(crate) fn has_spi(&self, spi: u32) -> bool
+    pub(crate) fn has_spi(&self, spi: u64) -> bool
         ensures { result ≡ list_any (λ h. (h.number == AUTHENTICATION)
             && ((auth_fields h.bytes).spi == spi)) (dissected self.now.packet.bytes.now).headers }
     {
-        self.has_number(ip_number::AUTH.0)
+        self.has_one_of(mask::AUTHENTICATION)
             && has_spi(
                 first_number(self.packet.base),
                 self.packet.extensions(),
@@ -95,36 +104,6 @@ impl<'a> Facts<'a> {
             None => false,
         }
     }
-
-    /// Returns whether the packet has a base header of this version.
-    #[inline(always)]
-    pub(crate) fn has_version(&self, version: u8) -> bool
-        ensures { result ≡ is_version version (dissected self.now.packet.bytes.now) }
-    {
-        match &self.packet.base {
-            Some(base) => base.version() == version,
-            None => false,
-        }
-    }
-
-    /// Returns whether a header is truncated.
-    #[inline(always)]
-    pub(crate) fn is_truncated(&self) -> bool
-        ensures { result ≡ is_truncated (dissected self.now.packet.bytes.now).end }
-    {
-        self.packet.outline.has_error && is_truncated(&self.packet.end())
-    }
-
-    /// Returns the kind of the fault, if a header is faulty.
-    #[inline(always)]
-    pub(crate) fn fault(&self) -> Option<FaultKind>
-        ensures { result ≡ fault_in (dissected self.now.packet.bytes.now).end }
-    {
-        if !self.packet.outline.has_error {
-            return None;
-        }
-        fault_in(&self.packet.end())
-    }
 }
 
 /// Returns the number after the base header, and 59 without one.
@@ -140,7 +119,7 @@ fn first_number(base: Option<BaseHeader<'_>>) -> IpNumber
 }
 
 /// Returns whether an authentication header of the longest chain has the security parameters index.
-fn has_spi(first: IpNumber, bytes: &[u8], spi: u32) -> bool
+fn has_spi(first: IpNumber, bytes: &[u8], spi: u64) -> bool
     ensures { result ≡ list_any (λ h. (h.number == AUTHENTICATION)
         && ((auth_fields h.bytes).spi == spi)) (longest_chain first.0 bytes.now) }
 {
@@ -153,19 +132,19 @@ fn has_spi(first: IpNumber, bytes: &[u8], spi: u32) -> bool
 }
 
 /// Returns whether the header is an authentication header with the security parameters index.
-fn is_with_spi(header: &Ipv6ExtensionSlice<'_>, spi: u32) -> bool
+fn is_with_spi(header: &Ipv6ExtensionSlice<'_>, spi: u64) -> bool
     ensures { result ≡ (((header_of header.now).number == AUTHENTICATION)
         && ((auth_fields (header_of header.now).bytes).spi == spi)) }
 {
     match header {
-        Ipv6ExtensionSlice::Authentication(header) => header.spi() == spi,
+        Ipv6ExtensionSlice::Authentication(header) => u64::from(header.spi()) == spi,
         _ => false,
     }
 }
 
 /// Returns whether the end is a truncated header.
 #[inline(always)]
-fn is_truncated(end: &End) -> bool
+pub(crate) fn is_truncated(end: &End) -> bool
     ensures { result ≡ is_truncated end.now }
 {
     match end {
@@ -176,7 +155,7 @@ fn is_truncated(end: &End) -> bool
 
 /// Returns the kind of the fault at an end, if it is one.
 #[inline(always)]
-fn fault_in(end: &End) -> Option<FaultKind>
+pub(crate) fn fault_in(end: &End) -> Option<FaultKind>
     ensures { result ≡ fault_in end.now }
 {
     match end {
@@ -207,23 +186,9 @@ fn fault_kind(error: &SliceError) -> FaultKind
     }
 }
 
-/// Returns whether the kind of the packet's fragment passes the test. It is a call of its own: inlined, it is done for
-/// each packet before the steps, even if none of them asks for a fragment.
-#[inline(never)]
-pub(crate) fn fragment_is(fragment: Option<Fragment>, first: bool, later: bool) -> bool
-    ensures { result ≡ option_map_or
-        (λ x. (first && is_first_kind x.kind) || (later && is_later_kind x.kind)) fragment false }
-{
-    match fragment {
-        Some(fragment) => (first && is_first_kind(fragment.kind))
-            || (later && is_later_kind(fragment.kind)),
-        None => false,
-    }
-}
-
 /// Returns whether the fragment is the first one.
 #[inline(always)]
-fn is_first_kind(kind: FragmentKind) -> bool
+pub(crate) fn is_first_kind(kind: FragmentKind) -> bool
     ensures { result ≡ is_first_kind kind }
 {
     match kind {
@@ -234,7 +199,7 @@ fn is_first_kind(kind: FragmentKind) -> bool
 
 /// Returns whether the fragment is a middle or the last one.
 #[inline(always)]
-fn is_later_kind(kind: FragmentKind) -> bool
+pub(crate) fn is_later_kind(kind: FragmentKind) -> bool
     ensures { result ≡ is_later_kind kind }
 {
     match kind {

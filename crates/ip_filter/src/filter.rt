@@ -1,66 +1,41 @@
-//! A filter: a formula of terms, as steps in postfix order.
-ghost use Rattle.std.specs.Prelude.{◌≡◌, ◌≤◌, [], length, false};
-ghost use Rattle.ip_dissect.specs.Dissection.{dissected};
-ghost use Rattle.ip_filter.specs.Truth.{holds};
-ghost use Rattle.ip_filter.specs.Formula.{read_after, last_holds, steps_of};
+//! A filter: tests of a packet, each of which leads on to another.
 
-use crate::steps::own_steps_match;
-use crate::{Term, steps_match_other};
-
-/// What a step does.
+/// A test of a packet, in plain numbers. Fields that its kind doesn't use are ignored. No packet meets a test whose kind or
+/// other code is unknown, or whose number is too large.
+#[repr(C)]
 #[derive(Clone, Copy, Debug, PartialEq, Eq)]
-pub enum StepKind {
-    /// Adds the truth of a term.
-    Term(Term),
-    /// Joins the last two values: both are true.
-    And,
-    /// Joins the last two values: at least one is true.
-    Or,
+pub struct Test {
+    /// The flags of which one has to be set, the protocol number, security parameters index or identification, or what a
+    /// count is compared with.
+    pub number: u64,
+    /// The high 64 bits of a network's address, as a number in network byte order; not used for IPv4.
+    pub address_high: u64,
+    /// The other bits of a network's address.
+    pub address_low: u64,
+    /// What is tested: 1 flags, 2 the protocol number that follows the headers, 3 the number of extension headers, 4 their
+    /// bytes, 5 the bytes of payload that are here, 6 the security parameters index of an authentication header, 7 the
+    /// identification of a fragment, 8 the source, 9 the destination, 10 either address.
+    pub kind: u8,
+    /// How a count is compared: 1 equal, 2 not equal, 3 less, 4 at most, 5 greater, 6 at least.
+    pub comparison: u8,
+    /// The version of a network's address, 4 or 6.
+    pub version: u8,
+    /// How many bits of a network's address count.
+    pub prefix_len: u8,
+    /// The index of the test that follows if the packet meets this one.
+    pub if_met: u8,
+    /// The index of the test that follows if not.
+    pub if_not: u8,
 }
 
-/// One step of a filter.
-#[derive(Clone, Copy, Debug, PartialEq, Eq)]
-pub struct Step {
-    /// What it does.
-    pub kind: StepKind,
-    /// How many times its value is then negated.
-    pub nots: u64,
-}
-
-/// A formula over packets in postfix order: each operator follows its operands. Any contents are a filter: an operator
-/// without two operands does nothing, and a filter without terms matches nothing.
+/// A filter is a program of tests. A packet is tested by the first test, and then by each test that it is led to. It passes if it
+/// is led to index 64. A test that leads back, or to any other index without a test, lets it pass no more. Any contents are
+/// a filter; one without tests lets no packet pass.
+#[repr(C)]
 #[derive(Clone, Copy, Debug, PartialEq, Eq)]
 pub struct Filter {
-    /// The steps, of which the first `count` are used.
-    pub steps: [Step; 127],
-    /// How many steps there are.
-    pub count: u8,
-}
-
-impl Filter {
-    /// Returns whether the filter matches the packet at the start of `bytes`, which may be any bytes. Bytes without a
-    /// base header meet no term but `Fault`, `FaultOf` and `Truncated`.
-    #[inline(always)]
-    pub fn matches(&self, bytes: &[u8]) -> bool
-        ensures { result ≡ last_holds (read_after [] (steps_of self.now))
-            (λ t. holds t (dissected bytes.now)) }
-    {
-        own_steps_match(self.used_steps(), bytes)
-    }
-
-    /// Returns whether the filter matches a frame that is not IP: no term holds of it.
-    pub fn matches_other(&self) -> bool
-        ensures { result ≡ last_holds (read_after [] (steps_of self.now)) (λ t. false) }
-    {
-        steps_match_other(self.used_steps())
-    }
-
-    /// Returns the steps that are used, at most 127.
-    #[inline(always)]
-    pub fn used_steps(&self) -> &[Step]
-        ensures steps { result.now ≡ steps_of self.now }
-        ensures len { length result.now ≤ 127 }
-    {
-        &self.steps[..usize::from(self.count).min(127)]
-    }
+    /// How many tests there are, of which at most 64 are used.
+    pub count: usize,
+    /// The tests, of which the first `count` are used.
+    pub tests: [Test; 64],
 }

@@ -31,7 +31,7 @@ impl Filter {
             }
         }
         match builder.finish() {
-            Ok(filter) => Ok(filter),
+            Ok(steps) => Ok(Filter::of(&steps)),
             Err(expected) => Err(ParseError {
                 offset: text.len(),
                 expected,

@@ -7,4 +7,4 @@ pub mod DissectionParts
 pub mod HeaderFields
 pub mod LinkedSpans
 pub mod Written
-pub mod FilterNumbers
+pub mod FilterError

@@ -1,12 +1,9 @@
 //! Filters from their texts.
 ghost use Rattle.std.specs.Prelude.{◌≡◌, IfOk, IfErr, IfSome, IfNone};
-ghost use Rattle.ip_filter.specs.Formula.{steps_of};
 ghost use Rattle.ip_filter.specs.Parsed.{IsParsed, IsFirstError};
-ghost use Rattle.ip_filter.specs.declared.filter.Filter.{Filter as TheFilter};
 ghost use Rattle.ip_filter.specs.declared.parse_error.Expected.{Expected as WasExpected};
-ghost use Rattle.ip_spans.specs.FilterNumbers.{steps_in, expected_code};
+ghost use Rattle.ip_spans.specs.FilterError.{expected_code};
 
-use crate::filter_numbers::FilterNumbers;
 use ip_filter::{Expected, Filter};
 
 /// Where the text of a filter is wrong, and what is expected there.
@@ -16,22 +13,21 @@ pub struct FilterError {
     /// The offset of the first word that can't be there, in bytes from the start of the text. The length of the text if
     /// it ends too early.
     pub offset: usize,
-    /// What is expected there, by the codes of `expected_code` in `specs/FilterNumbers.antt`.
+    /// What is expected there, by the codes of `expected_code` in `specs/FilterError.antt`.
     pub expected: u8,
 }
 
-/// Parses the text of a filter, as `ip_filter::Filter::parse` does, and stores its steps in `filter`. The error says
-/// what was expected where, as that of `parse` does. After an error `filter` is unchanged.
-pub fn parse_filter(text: &[u8], filter: &mut FilterNumbers) -> Result<(), FilterError>
-    ensures ok { IfOk result (λ _. (f : TheFilter) × IsParsed text.now f
-        × (steps_in filter.new ≡ steps_of f)) }
+/// Parses the text of a filter, as `ip_filter::Filter::parse` does, and stores it in `filter`. The error says what was
+/// expected where, as that of `parse` does. After an error `filter` is unchanged.
+pub fn parse_filter(text: &[u8], filter: &mut Filter) -> Result<(), FilterError>
+    ensures ok { IfOk result (λ _. IsParsed text.now filter.new) }
     ensures err { IfErr result (λ e. (x : WasExpected) × (e.expected ≡ expected_code x)
         × IsFirstError text.now e.offset x) }
     ensures same { IfErr result (λ _. filter.new ≡ filter.old) }
 {
     match Filter::parse(text) {
         Ok(parsed) => {
-            filter.put(&parsed);
+            *filter = parsed;
             Ok(())
         }
         Err(error) => Err(FilterError {

@@ -1,146 +1,163 @@
-//! The texts of filters: the steps of each are worked out by hand from the grammar, as is the place of each error.
+//! The texts of filters: the tests of each are worked out by hand from the grammar, as is the place of each error.
 use crate::checks::{assert_same, assert_that};
-use ip_filter::{
-    Comparison, Expected, FaultKind, Filter, Network, ParseError, Step, StepKind, Term,
-};
+use ip_filter::{Expected, Filter, ParseError, Test};
 use std::process::Abort;
 use std::test::Fail;
 
-/// Checks the steps of the filter that the text writes.
-fn check(rt: &impl Abort, text: &str, steps: &[Step]) {
+/// Checks the tests of the filter that the text writes.
+fn check(rt: &impl Abort, text: &str, tests: &[Test]) {
     let parsed = Filter::parse(text.as_bytes());
     assert_that(rt, text, parsed.is_ok());
     if let Ok(filter) = parsed {
-        let count = usize::from(filter.count).min(127);
-        assert_that(rt, text, &filter.steps[..count] == steps);
+        assert_that(rt, text, filter.used_tests() == tests);
     }
 }
 
-fn term(term: Term) -> Step {
-    negated(term, 0)
-}
+/// The index at which a packet has passed, and the one at which it has not.
+const PASSED: u8 = 64;
 
-fn negated(term: Term, nots: u64) -> Step {
-    Step {
-        kind: StepKind::Term(term),
-        nots,
+const REFUSED: u8 = 65;
+
+/// Returns the test of this kind with a number, and where it leads.
+fn number(kind: u8, number: u64, if_met: u8, if_not: u8) -> Test {
+    Test {
+        number,
+        address_high: 0,
+        address_low: 0,
+        kind,
+        comparison: 0,
+        version: 0,
+        prefix_len: 0,
+        if_met,
+        if_not,
     }
 }
 
-fn and(nots: u64) -> Step {
-    Step {
-        kind: StepKind::And,
-        nots,
+/// Returns the test whether one of the flags is set, and where it leads.
+fn flags(flags: u64, if_met: u8, if_not: u8) -> Test {
+    number(1, flags, if_met, if_not)
+}
+
+/// Returns the last test, which compares a count.
+fn count(kind: u8, comparison: u8, number: u64) -> Test {
+    Test {
+        number,
+        address_high: 0,
+        address_low: 0,
+        kind,
+        comparison,
+        version: 0,
+        prefix_len: 0,
+        if_met: PASSED,
+        if_not: REFUSED,
     }
 }
 
-fn or() -> Step {
-    Step {
-        kind: StepKind::Or,
-        nots: 0,
+/// Returns the last test, of addresses in a network.
+fn network(kind: u8, version: u8, address: (u64, u64), prefix_len: u8) -> Test {
+    Test {
+        number: 0,
+        address_high: address.0,
+        address_low: address.1,
+        kind,
+        comparison: 0,
+        version,
+        prefix_len,
+        if_met: PASSED,
+        if_not: REFUSED,
     }
 }
 
-/// Texts of single terms.
-const TERMS: [(&str, Term); 22] = [
-    ("version 4", Term::Version(4)),
-    ("header hopopt", Term::Header(0)),
-    ("header 0x2C", Term::Header(44)),
-    ("leads-to no-next", Term::LeadsTo(59)),
-    ("leads-to ah", Term::LeadsTo(51)),
-    ("leads-to 255", Term::LeadsTo(255)),
-    ("fragment", Term::Fragment),
-    ("first-fragment", Term::FirstFragment),
-    ("later-fragment", Term::LaterFragment),
-    ("truncated", Term::Truncated),
-    ("incomplete", Term::Incomplete),
-    ("fault", Term::Fault),
-    (
-        "fault header-length",
-        Term::FaultOf(FaultKind::Ipv4HeaderLength),
-    ),
-    ("headers<=3", Term::Headers(Comparison::AtMost, 3)),
-    (
-        "chain-bytes != 18446744073709551615",
-        Term::ChainBytes(Comparison::NotEqual, 18_446_744_073_709_551_615),
-    ),
-    ("\tpayload >0\r\n", Term::Payload(Comparison::Greater, 0)),
-    ("spi 0xffffffff", Term::SecurityParameters(4_294_967_295)),
-    ("id 7", Term::Identification(7)),
-    (
-        "src 10.0.0.0/8",
-        Term::Source(Network::Ipv4 {
-            address: 0x0a00_0000,
-            len: 8,
-        }),
-    ),
-    (
-        "dst 192.0.2.1",
-        Term::Destination(Network::Ipv4 {
-            address: 0xc000_0201,
-            len: 32,
-        }),
-    ),
-    (
-        "net 2001:db8::/0",
-        Term::Either(Network::Ipv6 {
-            address: 0x2001_0db8_0000_0000_0000_0000_0000_0000,
-            len: 0,
-        }),
-    ),
-    (
-        "net ::ffff:192.0.2.1",
-        Term::Either(Network::Ipv6 {
-            address: 0xffff_c000_0201,
-            len: 128,
-        }),
-    ),
-];
+/// Returns the last test, of flags.
+fn last(bits: u64) -> Test {
+    flags(bits, PASSED, REFUSED)
+}
 
 #[test]
 fn terms(rt: HostRuntime) -> Result<(), Fail> {
-    for (text, wanted) in &TERMS {
-        check(&rt, text, &[term(*wanted)]);
+    let rows = [
+        ("version 4", last(1 << 4)),
+        ("version 6", last(1 << 6)),
+        ("header hopopt", last(1)),
+        ("header route", last(1 << 43)),
+        ("header 0x2C", last(1 << 44)),
+        ("header 4", last(0)),
+        ("leads-to no-next", number(2, 59, PASSED, REFUSED)),
+        ("leads-to ah", number(2, 51, PASSED, REFUSED)),
+        ("leads-to 255", number(2, 255, PASSED, REFUSED)),
+        ("fragment", last(0x300)),
+        ("first-fragment", last(0x100)),
+        ("later-fragment", last(0x200)),
+        ("truncated", last(0x800)),
+        ("incomplete", last(0x400)),
+        ("fault", last(0x1f000)),
+        ("fault header-length", last(0x10000)),
+        ("headers<=3", count(3, 4, 3)),
+        (
+            "chain-bytes != 18446744073709551615",
+            count(4, 2, 18_446_744_073_709_551_615),
+        ),
+        ("\tpayload >0\r\n", count(5, 5, 0)),
+        ("spi 0xffffffff", number(6, 4_294_967_295, PASSED, REFUSED)),
+        ("id 7", number(7, 7, PASSED, REFUSED)),
+        ("src 10.0.0.0/8", network(8, 4, (0, 0x0a00_0000), 8)),
+        ("dst 192.0.2.1", network(9, 4, (0, 0xc000_0201), 32)),
+        (
+            "net 2001:db8::/0",
+            network(10, 6, (0x2001_0db8_0000_0000, 0), 0),
+        ),
+        (
+            "net ::ffff:192.0.2.1",
+            network(10, 6, (0, 0xffff_c000_0201), 128),
+        ),
+    ];
+    for (text, wanted) in &rows {
+        check(&rt, text, &[*wanted]);
     }
     Ok(())
 }
 
+/// The flags of `fragment`, `fault` and `incomplete`.
+const FRAGMENT: u64 = 0x300;
+
+const FAULT: u64 = 0x1f000;
+
+const INCOMPLETE: u64 = 0x400;
+
 #[test]
 fn formulas(rt: HostRuntime) -> Result<(), Fail> {
-    let (a, b, c) = (Term::Fragment, Term::Fault, Term::Incomplete);
-    check(
-        &rt,
-        "fragment or fault and incomplete",
-        &[term(a), term(b), term(c), and(0), or()],
-    );
-    check(
-        &rt,
-        "fragment and fault or incomplete",
-        &[term(a), term(b), and(0), term(c), or()],
-    );
-    check(
-        &rt,
-        "(fragment or fault)and incomplete",
-        &[term(a), term(b), or(), term(c), and(0)],
-    );
-    check(
-        &rt,
-        "fragment or fault or incomplete",
-        &[term(a), term(b), or(), term(c), or()],
-    );
-    check(
-        &rt,
-        "not fragment and fault",
-        &[negated(a, 1), term(b), and(0)],
-    );
-    check(&rt, "not (fragment and fault)", &[term(a), term(b), and(1)]);
-    check(&rt, "!not!(! fragment)", &[negated(a, 4)]);
-    check(
-        &rt,
-        "!(!fragment&&!fault)||incomplete",
-        &[negated(a, 1), negated(b, 1), and(1), term(c), or()],
-    );
-    check(&rt, "((((((((((((((((fragment))))))))))))))))", &[term(a)]);
+    let rows = [
+        (
+            "fragment or fault and incomplete",
+            [flags(FRAGMENT, PASSED, 1), flags(FAULT, 2, REFUSED)],
+        ),
+        (
+            "fragment and fault or incomplete",
+            [flags(FRAGMENT, 1, 2), flags(FAULT, PASSED, 2)],
+        ),
+        (
+            "(fragment or fault)and incomplete",
+            [flags(FRAGMENT, 2, 1), flags(FAULT, 2, REFUSED)],
+        ),
+        (
+            "fragment or fault or incomplete",
+            [flags(FRAGMENT, PASSED, 1), flags(FAULT, PASSED, 2)],
+        ),
+        (
+            "!(!fragment&&!fault)||incomplete",
+            [flags(FRAGMENT, PASSED, 1), flags(FAULT, PASSED, 2)],
+        ),
+    ];
+    for (text, first) in &rows {
+        check(&rt, text, &[first[0], first[1], last(INCOMPLETE)]);
+    }
+    let not_fragment = flags(FRAGMENT, REFUSED, 1);
+    check(&rt, "not fragment and fault", &[not_fragment, last(FAULT)]);
+    let both = [flags(FRAGMENT, 1, PASSED), flags(FAULT, REFUSED, PASSED)];
+    check(&rt, "not (fragment and fault)", &both);
+    check(&rt, "!not!(! fragment)", &[last(FRAGMENT)]);
+    let deep = "((((((((((((((((fragment))))))))))))))))";
+    check(&rt, deep, &[last(FRAGMENT)]);
     Ok(())
 }
 
@@ -199,7 +216,7 @@ fn sixty_five_terms(rt: HostRuntime) -> Result<(), Fail> {
     let parsed = Filter::parse(text.as_bytes());
     assert_that(&rt, "64 terms", parsed.is_ok());
     if let Ok(filter) = parsed {
-        assert_same(&rt, "64 terms", filter.count, 127);
+        assert_same(&rt, "64 terms", filter.count, 64);
     }
     text.push_str(" or fault")?;
     let error = ParseError {

@@ -1,7 +1,7 @@
 //! Terms and formulas over whole packets: what holds of each packet is worked out by hand.
 use crate::checks::assert_same;
 use crate::samples::{ipv4_bytes, ipv6_bytes};
-use ip_filter::{Comparison, FaultKind, Filter, Network, Step, StepKind, Term};
+use ip_filter::{Comparison, FaultKind, Filter, Network, Term, Test};
 use std::process::Abort;
 use std::test::Fail;
 
@@ -202,68 +202,69 @@ fn faults(rt: HostRuntime) -> Result<(), Fail> {
     Ok(())
 }
 
-/// Returns the filter with these steps, followed by steps that it doesn't use.
-fn filter(used: &[Step]) -> Filter {
-    let unused = Step {
-        kind: StepKind::Or,
-        nots: 1,
-    };
+/// Returns a test that IPv6 packets meet, and where it leads.
+fn ipv6_then(if_met: u8, if_not: u8) -> Test {
+    Test {
+        number: 1 << 6,
+        address_high: 0,
+        address_low: 0,
+        kind: 1,
+        comparison: 0,
+        version: 0,
+        prefix_len: 0,
+        if_met,
+        if_not,
+    }
+}
+
+/// Returns the filter with these tests, followed by tests that it doesn't use, which would let every packet pass.
+fn filter(used: &[Test]) -> Filter {
     let mut filter = Filter {
-        steps: [unused; 127],
         count: 0,
+        tests: [ipv6_then(64, 64); 64],
     };
-    for step in used {
-        if usize::from(filter.count) < 127 {
-            filter.steps[usize::from(filter.count)] = *step;
+    for test in used {
+        if filter.count < 64 {
+            filter.tests[filter.count] = *test;
             filter.count += 1;
         }
     }
     filter
 }
 
-fn step(kind: StepKind, nots: u64) -> Step {
-    Step { kind, nots }
-}
-
 #[test]
-fn formulas(rt: HostRuntime) -> Result<(), Fail> {
+fn programs(rt: HostRuntime) -> Result<(), Fail> {
     let bytes = ipv6_bytes(rt.alloc(), 0, 17, &[1, 2, 3, 4])?;
-    let yes = step(StepKind::Term(Term::Version(6)), 0);
-    let no = step(StepKind::Term(Term::Fragment), 0);
-    let and = step(StepKind::And, 0);
-    let or = step(StepKind::Or, 0);
+    let of_kind = |kind: u8| Test {
+        kind,
+        ..ipv6_then(64, 65)
+    };
     let rows = [
-        ("yes", filter(&[yes]), true, false),
-        ("no", filter(&[no]), false, false),
-        ("not yes", filter(&[step(yes.kind, 1)]), false, true),
-        ("not not yes", filter(&[step(yes.kind, 2)]), true, false),
-        ("yes and no", filter(&[yes, no, and]), false, false),
-        ("yes or no", filter(&[yes, no, or]), true, false),
+        ("met", filter(&[ipv6_then(64, 65)]), true, false),
+        ("negated", filter(&[ipv6_then(65, 64)]), false, true),
+        ("no tests", filter(&[]), false, false),
+        ("past all", filter(&[ipv6_then(255, 64)]), false, true),
         (
-            "not (yes and no)",
-            filter(&[yes, no, step(StepKind::And, 1)]),
-            true,
-            true,
-        ),
-        (
-            "yes or no and no",
-            filter(&[yes, no, no, and, or]),
-            true,
+            "to an unused test",
+            filter(&[ipv6_then(1, 64)]),
             false,
+            true,
         ),
+        ("to itself", filter(&[ipv6_then(0, 64)]), false, true),
         (
-            "(yes or no) and no",
-            filter(&[yes, no, or, no, and]),
+            "back",
+            filter(&[ipv6_then(1, 65), ipv6_then(0, 64)]),
             false,
             false,
         ),
-        ("no steps", filter(&[]), false, false),
         (
-            "an operator without operands",
-            filter(&[or, yes, and]),
+            "past one",
+            filter(&[ipv6_then(2, 1), ipv6_then(65, 64), ipv6_then(64, 65)]),
             true,
-            false,
+            true,
         ),
+        ("kind 0", filter(&[of_kind(0)]), false, false),
+        ("kind 11", filter(&[of_kind(11)]), false, false),
     ];
     for (name, filter, matches, other) in &rows {
         assert_same(&rt, name, filter.matches(bytes.as_slice()), *matches);
@@ -275,10 +276,27 @@ fn formulas(rt: HostRuntime) -> Result<(), Fail> {
 #[test]
 fn count_that_is_too_large(rt: HostRuntime) -> Result<(), Fail> {
     let bytes = ipv6_bytes(rt.alloc(), 0, 17, &[1, 2, 3, 4])?;
-    let filter = Filter {
-        steps: [step(StepKind::Term(Term::Version(6)), 0); 127],
-        count: 255,
+    let mut filter = Filter {
+        count: usize::MAX,
+        tests: [ipv6_then(64, 65); 64],
     };
+    for (index, test) in filter.tests.iter_mut().enumerate() {
+        test.if_met = (index % 64) as u8 + 1;
+    }
     assert!(rt; filter.matches(bytes.as_slice()));
+    Ok(())
+}
+
+#[test]
+fn numbers_that_are_too_large(rt: HostRuntime) -> Result<(), Fail> {
+    let bytes = ipv6_bytes(rt.alloc(), 0, 17, &[1, 2, 3, 4])?;
+    for (kind, number) in [(2, 256 + 17), (6, 1 << 32), (7, 1 << 32)] {
+        let test = Test {
+            kind,
+            number,
+            ..ipv6_then(64, 65)
+        };
+        assert_same(&rt, kind, filter(&[test]).matches(bytes.as_slice()), false);
+    }
     Ok(())
 }

@@ -1,110 +1,23 @@
-//! Formulas of 127 steps, with up to 127 truths at once. A list of truths evaluates each of them a second time.
-use crate::checks::assert_same;
+//! Formulas of up to 64 terms, evaluated by masks: bit `len` of each is the truth for packets with `len` bytes of payload.
+//! No term holds of packets with 63 bytes, nor of a frame that is not IP.
+use crate::checks::{assert_same, assert_that};
 use crate::samples::ipv6_bytes;
-use ip_filter::{Comparison, Filter, Step, StepKind, Term, steps_match};
+use ip_filter::Filter;
 use std::alloc::{AllocError, Global};
 use std::process::Abort;
 use std::test::Fail;
 
-/// Returns the term that holds of packets with this many bytes of payload.
-fn payload_is(len: usize) -> Term {
-    Term::Payload(Comparison::Equal, len as u64)
-}
-
-/// Returns whether one of the terms above holds of packets with `len` bytes of payload.
-fn is_met(term: Term, len: usize) -> bool {
-    match term {
-        Term::Payload(_, wanted) => wanted == len as u64,
-        _ => false,
-    }
-}
-
-/// Joins the last two truths. An operator without two operands changes nothing.
-fn join(truths: &mut Vec<bool>, is_and: bool, nots: u64) -> Result<(), AllocError> {
-    if truths.len() < 2 {
-        return Ok(());
-    }
-    let second = truths.pop() == Some(true);
-    let first = truths.pop() == Some(true);
-    let joined = if is_and {
-        first && second
-    } else {
-        first || second
-    };
-    truths.push(joined != (nots % 2 == 1))?;
-    Ok(())
-}
-
-/// Returns what the filter says of packets with `len` bytes of payload.
-fn plain_answer(alloc: Global, filter: &Filter, len: usize) -> Result<bool, AllocError> {
-    let mut truths = Vec::new(alloc);
-    for step in &filter.steps {
-        match step.kind {
-            StepKind::Term(term) => truths.push(is_met(term, len) != (step.nots % 2 == 1))?,
-            StepKind::And => join(&mut truths, true, step.nots)?,
-            StepKind::Or => join(&mut truths, false, step.nots)?,
-        }
-    }
-    Ok(truths.pop() == Some(true))
-}
-
-/// Checks what the filter says of packets with 0 to 127 bytes of payload, without extension headers and after
-/// destination options, and of a frame that is not IP.
-fn check(rt: &impl Abort, alloc: Global, name: (usize, &str), filter: &Filter) -> Result<(), Fail> {
-    let plain = ipv6_bytes(alloc, 0, 17, &[7; 127])?;
-    let mut options = ipv6_bytes(alloc, 0, 60, &[17, 0, 1, 4, 0, 0, 0, 0])?;
-    options.extend_from_slice(&[7; 127])?;
-    for len in 0..128usize {
-        let wanted = plain_answer(alloc, filter, len)?;
-        let bytes = plain.get(..40 + len).unwrap_or(&[]);
-        assert_same(rt, (name, len), filter.matches(bytes), wanted);
-        assert_same(rt, (name, len), steps_match(&filter.steps, bytes), wanted);
-        let bytes = options.get(..48 + len).unwrap_or(&[]);
-        assert_same(rt, (name, len, "options"), filter.matches(bytes), wanted);
-    }
-    // No term above holds for so long a payload.
-    let none = plain_answer(alloc, filter, 1000)?;
-    assert_same(rt, (name, "not IP"), filter.matches_other(), none);
-    Ok(())
-}
-
-/// Returns the filter of `terms` terms, `payload = 0`, `payload = 1` and so on, and of operators up to 127 steps.
-fn terms_and_then(terms: usize, nots: u64, operator: Step) -> Filter {
-    let mut filter = Filter {
-        steps: [operator; 127],
-        count: 127,
-    };
-    for (i, step) in filter.steps.iter_mut().enumerate() {
-        if i < terms {
-            *step = Step {
-                kind: StepKind::Term(payload_is(i)),
-                nots,
-            };
-        }
-    }
-    filter
-}
-
-/// The last truth is that of the deepest operand that the operators reach: of 64 terms and 63 operators that is the
-/// first term, of 127 terms the last.
-#[test]
-fn up_to_127_truths_at_once(rt: HostRuntime) -> Result<(), Fail> {
-    let or = Step {
-        kind: StepKind::Or,
-        nots: 0,
-    };
-    let and = Step {
-        kind: StepKind::And,
-        nots: 0,
-    };
-    for terms in [1usize, 2, 32, 33, 62, 63, 64, 65, 66, 67, 95, 96, 126, 127] {
-        let filter = terms_and_then(terms, 0, or);
-        check(&rt, rt.alloc(), (terms, "or"), &filter)?;
-        let filter = terms_and_then(terms, 1, and);
-        check(&rt, rt.alloc(), (terms, "and, negated"), &filter)?;
-    }
-    Ok(())
-}
+/// Terms, of which the one at index `len` holds of packets with `len` bytes of payload.
+const TERMS: [&str; 8] = [
+    "payload = 0",
+    "payload = 1",
+    "payload = 2",
+    "payload = 3",
+    "payload = 4",
+    "payload = 5",
+    "payload = 6",
+    "payload = 7",
+];
 
 /// Returns the next of a row of numbers that look random.
 fn next_number(state: &mut u64) -> u64 {
@@ -114,30 +27,168 @@ fn next_number(state: &mut u64) -> u64 {
     *state >> 33
 }
 
-/// Returns a step: one of 8 terms, or an operator. After the first `terms` steps, two of three are operators.
-fn random_step(state: &mut u64, is_term: bool) -> Step {
-    let number = next_number(state);
-    let nots = number / 64 % 3;
-    let kind = match number % 6 {
-        0 | 1 => StepKind::Term(payload_is((number / 8 % 8) as usize)),
-        _ if is_term => StepKind::Term(payload_is((number / 8 % 8) as usize)),
-        2 | 3 => StepKind::And,
-        _ => StepKind::Or,
+/// A disjunction of conjunctions while its operands are read from left to right.
+#[derive(Clone, Copy)]
+struct Truth {
+    /// The conjunctions before the last one.
+    either: u64,
+    /// The last conjunction so far.
+    both: u64,
+}
+
+impl Truth {
+    /// Returns the truth of the first operand.
+    fn of(operand: u64) -> Truth {
+        Truth {
+            either: 0,
+            both: operand,
+        }
+    }
+
+    /// Joins one more operand.
+    fn join(&mut self, is_and: bool, operand: u64) {
+        if is_and {
+            self.both &= operand;
+        } else {
+            self.either |= self.both;
+            self.both = operand;
+        }
+    }
+
+    /// Returns the truth of all operands.
+    fn all(&self) -> u64 {
+        self.either | self.both
+    }
+}
+
+/// Appends a term, which is negated or not.
+fn push_term(text: &mut String, number: u64) -> Result<u64, AllocError> {
+    let index = number % 8;
+    if number / 8 % 2 == 1 {
+        text.push_str("not ")?;
+    }
+    text.push_str(TERMS[index as usize])?;
+    let truth = 1 << index;
+    Ok(if number / 8 % 2 == 1 { !truth } else { truth })
+}
+
+/// Appends an operator, and returns whether it is `and`.
+fn push_operator(text: &mut String, number: u64) -> Result<bool, AllocError> {
+    let is_and = number / 16 % 2 == 1;
+    text.push_str(if is_and { " and " } else { " or " })?;
+    Ok(is_and)
+}
+
+/// Appends a group of `terms` terms, which is negated or not.
+fn push_group(text: &mut String, state: &mut u64, terms: u64) -> Result<u64, AllocError> {
+    let is_negated = next_number(state) % 2 == 1;
+    text.push_str(if is_negated { "!(" } else { "(" })?;
+    let mut truth = Truth::of(push_term(text, next_number(state))?);
+    for _ in 1..terms {
+        let number = next_number(state);
+        let is_and = push_operator(text, number)?;
+        truth.join(is_and, push_term(text, number)?);
+    }
+    text.push_str(")")?;
+    Ok(if is_negated {
+        !truth.all()
+    } else {
+        truth.all()
+    })
+}
+
+/// Checks what the filter says of packets with 0 to 63 bytes of payload, without extension headers and after destination
+/// options, and of a frame that is not IP.
+fn check(rt: &impl Abort, alloc: Global, text: &str, truth: u64) -> Result<(), Fail> {
+    let parsed = Filter::parse(text.as_bytes());
+    assert_that(rt, text, parsed.is_ok());
+    let Ok(filter) = parsed else {
+        return Ok(());
     };
-    Step { kind, nots }
+    let plain = ipv6_bytes(alloc, 0, 17, &[7; 63])?;
+    let mut options = ipv6_bytes(alloc, 0, 60, &[17, 0, 1, 4, 0, 0, 0, 0])?;
+    options.extend_from_slice(&[7; 63])?;
+    for len in 0..64usize {
+        let wanted = (truth >> len) & 1 == 1;
+        let bytes = plain.get(..40 + len).unwrap_or(&[]);
+        assert_same(rt, (text, len), filter.matches(bytes), wanted);
+        let bytes = options.get(..48 + len).unwrap_or(&[]);
+        assert_same(rt, (text, len, "options"), filter.matches(bytes), wanted);
+    }
+    assert_same(
+        rt,
+        (text, "not IP"),
+        filter.matches_other(),
+        truth >> 63 == 1,
+    );
+    Ok(())
+}
+
+/// Appends groups of `terms` terms each.
+fn push_groups(
+    text: &mut String,
+    state: &mut u64,
+    groups: u64,
+    terms: u64,
+) -> Result<u64, AllocError> {
+    let mut truth = Truth::of(push_group(text, state, terms)?);
+    for _ in 1..groups {
+        let is_and = push_operator(text, next_number(state))?;
+        truth.join(is_and, push_group(text, state, terms)?);
+    }
+    Ok(truth.all())
 }
 
 #[test]
 fn random_formulas(rt: HostRuntime) -> Result<(), Fail> {
     let mut state = 1;
-    for terms in [
-        0usize, 5, 20, 40, 55, 60, 62, 63, 64, 65, 66, 70, 75, 80, 85, 90, 95,
-    ] {
-        let mut filter = terms_and_then(0, 0, random_step(&mut state, true));
-        for (i, step) in filter.steps.iter_mut().enumerate() {
-            *step = random_step(&mut state, i < terms);
+    for round in 0..64u64 {
+        let mut text = String::new(rt.alloc());
+        let truth = push_groups(&mut text, &mut state, round / 4 + 1, round % 4 + 1)?;
+        check(&rt, rt.alloc(), text.as_str(), truth)?;
+    }
+    Ok(())
+}
+
+/// Appends a term and a group after it, which is its right operand, and so on: 16 groups.
+fn push_nested(text: &mut String, numbers: &[u64; 16]) -> Result<(), AllocError> {
+    for number in numbers {
+        push_term(text, *number)?;
+        push_operator(text, *number)?;
+        text.push_str("(")?;
+    }
+    push_term(text, 3)?;
+    text.push_str("))))))))))))))))")
+}
+
+/// Returns the truth of such a text.
+fn nested_truth(numbers: &[u64; 16]) -> u64 {
+    let mut truth = 1 << 3;
+    for i in 0..16 {
+        let number = numbers[15 - i];
+        let operand = 1 << (number % 8);
+        let mut outer = Truth::of(if number / 8 % 2 == 1 {
+            !operand
+        } else {
+            operand
+        });
+        outer.join(number / 16 % 2 == 1, truth);
+        truth = outer.all();
+    }
+    truth
+}
+
+#[test]
+fn nested_groups(rt: HostRuntime) -> Result<(), Fail> {
+    let mut state = 7;
+    for _ in 0..50 {
+        let mut numbers = [0; 16];
+        for number in numbers.iter_mut() {
+            *number = next_number(&mut state);
         }
-        check(&rt, rt.alloc(), (terms, "random"), &filter)?;
+        let mut text = String::new(rt.alloc());
+        push_nested(&mut text, &numbers)?;
+        check(&rt, rt.alloc(), text.as_str(), nested_truth(&numbers))?;
     }
     Ok(())
 }

@@ -1,28 +1,25 @@
 //! Filters.
-ghost use Rattle.std.specs.Prelude.{◌≡◌, ◌≤◌, ◌<◌, ◌+◌, [], drop, length, slice_index, false, IsTrue};
+ghost use Rattle.std.specs.Prelude.{◌≡◌, ◌≤◌, ◌<◌, ◌+◌, drop, length, slice_index, false, IsTrue};
 ghost use Rattle.ip_dissect.specs.Dissection.{dissected};
-ghost use Rattle.ip_filter.specs.Truth.{holds};
-ghost use Rattle.ip_filter.specs.Formula.{read_after, last_holds, steps_of};
+ghost use Rattle.ip_filter.specs.Tests.{meets};
+ghost use Rattle.ip_filter.specs.Program.{tests_of, passes};
 ghost use Rattle.ip_filter.specs.Parsed.{IsParsed, IsFirstError};
-ghost use Rattle.ip_filter.specs.declared.filter.Filter.{Filter as TheFilter};
 ghost use Rattle.ip_filter.specs.declared.parse_error.Expected.{Expected as WasExpected};
-ghost use Rattle.ip_spans.specs.FilterNumbers.{steps_in, expected_code};
+ghost use Rattle.ip_spans.specs.FilterError.{expected_code};
 
 use crate::bytes::Bytes;
-use ip_spans::{
-    FilterError, FilterNumbers, expected_text, filter_matches, filter_matches_other, parse_filter,
-};
+use ip_filter::Filter;
+use ip_spans::{FilterError, expected_text, parse_filter};
 
 /// Calls `parse_filter`. Returns whether the text is a filter. If so, stores it in `filter`, and `error` is unchanged;
 /// otherwise stores the error in `error`, and `filter` is unchanged.
 #[unsafe(no_mangle)]
 pub extern "C" fn wolfaren_parse_filter(
     text: &[u8],
-    filter: &mut FilterNumbers,
+    filter: &mut Filter,
     error: &mut FilterError,
 ) -> bool
-    ensures filter { IsTrue result → (f : TheFilter) × IsParsed text.now f
-        × (steps_in filter.new ≡ steps_of f) }
+    ensures filter { IsTrue result → IsParsed text.now filter.new }
     ensures no_error { IsTrue result → error.new ≡ error.old }
     ensures error { result ≡ false → (x : WasExpected) × (error.new.expected ≡ expected_code x)
         × IsFirstError text.now error.new.offset x }
@@ -49,19 +46,18 @@ pub extern "C" fn wolfaren_expected_text(expected: u8, text: &mut [u8]) -> usize
     expected_text(expected, text)
 }
 
-/// Calls `filter_matches`.
+/// Calls `Filter::matches`.
 #[unsafe(no_mangle)]
-pub extern "C" fn wolfaren_filter_matches(filter: &FilterNumbers, bytes: Bytes<'_>) -> bool
-    ensures { result ≡ last_holds (read_after [] (steps_in filter.now))
-        (λ t. holds t (dissected bytes.entry.slice.now)) }
+pub extern "C" fn wolfaren_filter_matches(filter: &Filter, bytes: Bytes<'_>) -> bool
+    ensures { result ≡ passes (tests_of filter.now) (λ x. meets x (dissected bytes.entry.slice.now)) }
 {
-    filter_matches(filter, bytes.slice())
+    filter.matches(bytes.slice())
 }
 
-/// Calls `filter_matches_other`.
+/// Calls `Filter::matches_other`.
 #[unsafe(no_mangle)]
-pub extern "C" fn wolfaren_filter_matches_other(filter: &FilterNumbers) -> bool
-    ensures { result ≡ last_holds (read_after [] (steps_in filter.now)) (λ t. false) }
+pub extern "C" fn wolfaren_filter_matches_other(filter: &Filter) -> bool
+    ensures { result ≡ passes (tests_of filter.now) (λ x. false) }
 {
-    filter_matches_other(filter)
+    filter.matches_other()
 }

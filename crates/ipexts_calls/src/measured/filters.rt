@@ -3,7 +3,7 @@ use crate::digests::chains::with;
 use crate::measured::dissections::Dissected;
 use crate::measured::whole_packets::{Packet, over_each};
 use ip_dissect::{BaseHeader, dissect};
-use ip_filter::{Filter, Step, StepKind, Term};
+use ip_filter::Filter;
 
 /// A packet that is dissected; whether it has a fragment header is read beside the parts that a filter needs.
 pub struct Fragmented;
@@ -22,22 +22,12 @@ impl Packet for Fragmented {
     }
 }
 
-/// Returns the filter `header 44`.
-fn header_44() -> Filter {
-    let step = Step {
-        kind: StepKind::Term(Term::Header(44)),
-        nots: 0,
-    };
-    Filter {
-        steps: [step; 127],
-        count: 1,
-    }
-}
-
 /// Filters packets by `header 44`. The packets follow one another, and end at `ends`.
 #[unsafe(no_mangle)]
 pub extern "C" fn ipexts_filter_packets(packets: &[u8], ends: &[usize]) -> u64 {
-    let filter = header_44();
+    let Ok(filter) = Filter::parse(b"header 44") else {
+        return 0;
+    };
     let mut start = 0;
     let mut sum = 0;
     for end in ends {

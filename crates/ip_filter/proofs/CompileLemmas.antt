@@ -1,0 +1,364 @@
+-- Steps of a formula are compiled one after another.
+use Rattle.std.proofs.Common.{zero, suc, drop-cons, get_or, add-one}
+use Rattle.ip_spec.proofs.Common.{◌≡◌, ℕ, ◌+◌, ◌-◌, ◌<◌, ◌≤◌, ◌%◌, List, [], ◌∷◌, ◌++◌, length, take, drop, map, refl, sym, ap, ◌∙◌, subst, arith, common_steps, eqb_tells, inl, inr, cases_eq, Bool, true, false, not, ◌==◌, ◌&&◌, ◌||◌, if◌then◌else◌, Option, None, Some, length-append, length-take-le, length-drop, length-map, take-append_seam, drop-append_seam, take_at, append_assoc, append-nil, take_all, drop_all, slice_set, slice_index_or, take-append-add, length-take, take-take, min, IsSome, false≢true}
+use Rattle.std.specs.Option.{option_to_list, unwrap_or}
+use Rattle.std.proofs.lemmas.List.{drop_at, same_from_push, drop-take}
+use Rattle.std.proofs.Math.Seq.{get_or-append_seam}
+use Rattle.ip_filter.specs.Formula.{Formula, single, negation, both, either, truth, negated, after_step, read_after}
+use Rattle.ip_filter.specs.Tests.{frame_meets, meets}
+use Rattle.ip_filter.specs.Program.{led_to, passes, frame_holds}
+use Rattle.ip_filter.specs.Compiled.{terms_of, terms_of_all, Decide, AreCompiled, index_moved, redirected, redirected_from}
+use Rattle.ip_filter.specs.declared.filter.Test.{Test}
+use Rattle.ip_filter.specs.declared.term.Term.{Term}
+use Rattle.ip_dissect.specs.Dissection.{dissected}
+use Rattle.ip_filter.specs.Truth.{holds}
+use Rattle.ip_filter.specs.declared.steps.Step.{Step}
+use Rattle.ip_filter.specs.declared.steps.StepKind.{StepKind}
+use Rattle.ip_filter.specs.declared.steps.StepKind.TheVariants as does
+use Rattle.ip_filter.specs.declared.steps.StepKind.TheVariants.{And, Or}
+use Rattle.ip_filter.proofs.FormulaLemmas.{negated_odd, negated_even}
+use Rattle.ip_filter.proofs.ProgramLemmas.{past_all}
+
+-- tests after others
+led_append : (met : Test → Bool) (i n : ℕ) (xs ys : List Test) → led_to met i n (xs ++ ys) ≡ led_to met (i + length xs) (led_to met i n xs) ys
+led_append met i n [] ys = ap (λ j. led_to met j n ys) (omega arith)
+led_append met i n (x ∷ xs) ys =
+    let n2 : ℕ = if i == n then (if met x then x.if_met else x.if_not) else n in
+    let more : suc i + length xs ≡ i + suc (length xs) = omega arith in
+    led_append met (suc i) n2 xs ys ∙ ap (λ j. led_to met j (led_to met (suc i) n2 xs) ys) more
+
+-- where a test leads doesn't matter for whether it is met
+still_met : (frame : Option (List ℕ)) (a b : ℕ) (x : Test) → frame_meets frame (redirected a b x) ≡ frame_meets frame x
+still_met None a b x = refl
+still_met (Some s) a b x = refl
+
+module _ (frame : Option (List ℕ)) (a b : ℕ) where
+  stays : (n : ℕ) → (n ≡ 64 → ⊥) → (n ≡ 65 → ⊥) → index_moved a b n ≡ n
+  stays n not_64 not_65 = grind (arith, common_steps, eqb_tells, not_64, not_65)
+
+  moved_within : (c d : Bool) (m u n : ℕ) → index_moved a b n ≡ n → (if c then (if d then index_moved a b m else index_moved a b u) else n) ≡ index_moved a b (if c then (if d then m else u) else n)
+  moved_within true true m u n e = refl
+  moved_within true false m u n e = refl
+  moved_within false d m u n e = sym e
+
+  one_moved : (i n : ℕ) (x : Test) → i < a → i < b → i < 64
+      → (if i == index_moved a b n then (if frame_meets frame (redirected a b x) then index_moved a b x.if_met else index_moved a b x.if_not) else index_moved a b n)
+      ≡ index_moved a b (if i == n then (if frame_meets frame x then x.if_met else x.if_not) else n)
+  one_moved i n x below_a below_b below = rw (still_met frame a b x) (elim (cases_eq n 64) [
+    | inl is ↦ rw is (grind (arith, common_steps, eqb_tells, below_a, below))
+    | inr not_64 ↦ elim (cases_eq n 65) [
+      | inl is ↦ rw is (grind (arith, common_steps, eqb_tells, below_b, below))
+      | inr not_65 ↦ rw (stays n not_64 not_65) (moved_within (i == n) (frame_meets frame x) x.if_met x.if_not n (stays n not_64 not_65))
+    ]
+  ])
+
+  led_moved : (i n : ℕ) (xs : List Test) → i + length xs ≤ a → i + length xs ≤ b → i + length xs ≤ 64
+      → led_to (frame_meets frame) i (index_moved a b n) (map (redirected a b) xs) ≡ index_moved a b (led_to (frame_meets frame) i n xs)
+  led_moved i n [] below_a below_b below = refl
+  led_moved i n (x ∷ xs) below_a below_b below =
+      ap (λ k. led_to (frame_meets frame) (suc i) k (map (redirected a b) xs)) (one_moved i n x (omega (arith, below_a)) (omega (arith, below_b)) (omega (arith, below)))
+      ∙ led_moved (suc i) (if i == n then (if frame_meets frame x then x.if_met else x.if_not) else n) xs (omega (arith, below_a)) (omega (arith, below_b)) (omega (arith, below))
+
+  -- the tests of a formula, redirected
+  decide_moved : (f : Formula) (i : ℕ) (xs : List Test) → i < 64 → i + length xs ≤ a → i + length xs ≤ b → i + length xs ≤ 64 → Decide frame f i xs
+      → led_to (frame_meets frame) i i (map (redirected a b) xs) ≡ (if truth f (frame_holds frame) then a else b)
+  decide_moved f i xs small below_a below_b below d =
+      let kept : i ≡ index_moved a b i = grind (arith, common_steps, eqb_tells, small) in
+      ap (λ n. led_to (frame_meets frame) i n (map (redirected a b) xs)) kept ∙ led_moved i i xs below_a below_b below ∙ ap (index_moved a b) d ∙ moved_end (truth f (frame_holds frame)) where
+        moved_end : (t : Bool) → index_moved a b (if t then 64 else 65) ≡ (if t then a else b)
+        moved_end true = refl
+        moved_end false = refl
+
+module _ (met : Test → Bool) (j : ℕ) (zs : List Test) (u : Bool) (d : led_to met j j zs ≡ (if u then 64 else 65)) (fits : j + length zs ≤ 64) where
+  both_end : (t : Bool) → led_to met j (if t then j else 65) zs ≡ (if t && u then 64 else 65)
+  both_end true = d
+  both_end false = past_all met j 65 zs (omega (arith, fits))
+
+  either_end : (t : Bool) → led_to met j (if t then 64 else j) zs ≡ (if t || u then 64 else 65)
+  either_end true = past_all met j 64 zs fits
+  either_end false = d
+
+negated_end : (t : Bool) → ◌≡◌ {A = ℕ} (if t then 65 else 64) (if not t then 64 else 65)
+negated_end true = refl
+negated_end false = refl
+
+module _ (frame : Option (List ℕ)) where
+  abbrev met : Test → Bool
+  met = frame_meets frame
+
+  decide_negation : (f : Formula) (i : ℕ) (xs : List Test) → i < 64 → i + length xs ≤ 64 → Decide frame f i xs → Decide frame (negation f) i (map (redirected 65 64) xs)
+  decide_negation f i xs small fits d = decide_moved frame 65 64 f i xs small (omega (arith, fits)) fits fits d ∙ negated_end (truth f (frame_holds frame))
+
+  -- two formulas, of which the tests of the first lead on to those of the second
+  module _ (f g : Formula) (i j : ℕ) (ys zs : List Test) (df : Decide frame f i ys) (dg : Decide frame g j zs) (seam : j ≡ i + length ys) (fits : j + length zs ≤ 64) (small : i < 64) where
+    joined : (a b : ℕ) → led_to met i i (map (redirected a b) ys ++ zs) ≡ led_to met j (led_to met i i (map (redirected a b) ys)) zs
+    joined a b =
+        let at : i + length (map (redirected a b) ys) ≡ j = ap (λ n. i + n) (length-map ys (redirected a b)) ∙ sym seam in
+        led_append met i i (map (redirected a b) ys) zs ∙ ap (λ k. led_to met k (led_to met i i (map (redirected a b) ys)) zs) at
+
+    decide_both : Decide frame (both f g) i (map (redirected j 65) ys ++ zs)
+    decide_both = joined j 65
+        ∙ ap (λ n. led_to met j n zs) (decide_moved frame j 65 f i ys small (omega (arith, seam)) (omega (arith, seam, fits)) (omega (arith, seam, fits)) df)
+        ∙ both_end met j zs (truth g (frame_holds frame)) dg fits (truth f (frame_holds frame))
+
+    decide_either : Decide frame (either f g) i (map (redirected 64 j) ys ++ zs)
+    decide_either = joined 64 j
+        ∙ ap (λ n. led_to met j n zs) (decide_moved frame 64 j f i ys small (omega (arith, seam, fits)) (omega (arith, seam)) (omega (arith, seam, fits)) df)
+        ∙ either_end met j zs (truth g (frame_holds frame)) dg fits (truth f (frame_holds frame))
+
+-- ---- what has been compiled
+
+pub some_terms : (f : Formula) → 1 ≤ terms_of f
+some_terms (single t) = omega arith
+some_terms (negation f) = some_terms f
+some_terms (both f g) = omega (arith, some_terms f)
+some_terms (either f g) = omega (arith, some_terms f)
+
+negated-terms : (k : ℕ) (f : Formula) → terms_of (negated k f) ≡ terms_of f
+negated-terms zero f = refl
+negated-terms (suc k) f = negated-terms k f
+
+pub few_formulas : (fs : List Formula) → length fs ≤ terms_of_all fs
+few_formulas [] = omega arith
+few_formulas (f ∷ fs) = omega (arith, some_terms f, few_formulas fs)
+
+module _ (frame : Option (List ℕ)) where
+  pub compiled_tests : (fs : List Formula) (starts : List ℕ) (xs : List Test) → AreCompiled frame fs starts xs → length xs ≡ terms_of_all fs
+  compiled_tests [] starts xs are = ap length are.1
+  compiled_tests (f ∷ fs) starts xs (rest, i, e, size, d, are) = omega (arith, size, length-take-le i xs (omega (arith, size)), compiled_tests fs rest (take i xs) are)
+
+  pub compiled_starts : (fs : List Formula) (starts : List ℕ) (xs : List Test) → AreCompiled frame fs starts xs → length starts ≡ length fs
+  compiled_starts [] starts xs are = ap length are.0
+  compiled_starts (f ∷ fs) starts xs (rest, i, e, size, d, are) = omega (arith, ap length e, length-append rest (i ∷ []), compiled_starts fs rest (take i xs) are)
+
+  -- one more test
+  pub test_added : (t : Term) (x : Test) (fs : List Formula) (starts more : List ℕ) (xs ys : List Test) → frame_meets frame x ≡ frame_holds frame t → x.if_met ≡ 64 → x.if_not ≡ 65
+      → ys ≡ xs ++ x ∷ [] → more ≡ starts ++ length xs ∷ [] → AreCompiled frame fs starts xs → AreCompiled frame (single t ∷ fs) more ys
+  test_added t x fs starts more xs ys same met not_met tests begin are =
+      let i : ℕ = length xs in
+      let last : drop i ys ≡ x ∷ [] = ap (drop i) tests ∙ drop-append_seam xs (x ∷ []) in
+      let front : take i ys ≡ xs = ap (take i) tests ∙ take-append_seam xs (x ∷ []) in
+      let led : Decide frame (single t) i (x ∷ []) = grind (arith, common_steps, eqb_tells, same, met, not_met) in
+      (starts, i, begin, omega (arith, ap length tests, length-append xs (x ∷ [])), subst (Decide frame (single t) i) (sym last) led, subst (AreCompiled frame fs starts) (sym front) are)
+
+  -- a formula with the same truth
+  pub same_truth : (f g : Formula) (fs : List Formula) (starts : List ℕ) (xs : List Test) → terms_of g ≡ terms_of f → truth g (frame_holds frame) ≡ truth f (frame_holds frame)
+      → AreCompiled frame (f ∷ fs) starts xs → AreCompiled frame (g ∷ fs) starts xs
+  same_truth f g fs starts xs terms same (rest, i, e, size, d, are) = (rest, i, e, omega (arith, size, terms), d ∙ ap (λ t. if t then 64 else 65) (sym same), are)
+
+  pub negation_compiled : (f : Formula) (fs : List Formula) (starts : List ℕ) (xs ys : List Test) → terms_of_all (f ∷ fs) ≤ 64
+      → ((rest : List ℕ) (i : ℕ) → starts ≡ rest ++ i ∷ [] → i ≤ length xs → ys ≡ redirected_from i 65 64 xs) → AreCompiled frame (f ∷ fs) starts xs → AreCompiled frame (negation f ∷ fs) starts ys
+  negation_compiled f fs starts xs ys few to (rest, i, e, size, d, are) =
+      let all : length xs ≤ 64 = omega (arith, few, compiled_tests (f ∷ fs) starts xs (rest, i, e, size, d, are)) in
+      let is : ys ≡ redirected_from i 65 64 xs = to rest i e (omega (arith, size)) in
+      let at : length (take i xs) ≡ i = length-take-le i xs (omega (arith, size)) in
+      let front : take i ys ≡ take i xs = ap (take i) is ∙ take_at (take i xs) (map (redirected 65 64) (drop i xs)) i at in
+      let back : drop i ys ≡ map (redirected 65 64) (drop i xs) = ap (drop i) is ∙ drop_at (take i xs) (map (redirected 65 64) (drop i xs)) i at in
+      let len : length ys ≡ length xs = omega (arith, size, at, ap length is, length-append (take i xs) (map (redirected 65 64) (drop i xs)), length-map (drop i xs) (redirected 65 64), length-drop i xs) in (
+        rest,
+        i,
+        e,
+        omega (arith, size, len),
+        subst (Decide frame (negation f) i) (sym back) (decide_negation frame f i (drop i xs) (omega (arith, size, all, some_terms f)) (omega (arith, size, all, length-drop i xs)) d),
+        subst (AreCompiled frame fs rest) (sym front) are,
+      )
+
+  -- the last start is popped
+  top_popped : (g : Formula) (fs : List Formula) (starts mid : List ℕ) (j : ℕ) (xs : List Test) → starts ≡ mid ++ j ∷ [] → AreCompiled frame (g ∷ fs) starts xs
+      → (j + terms_of g ≡ length xs) × Decide frame g j (drop j xs) × AreCompiled frame fs mid (take j xs)
+  top_popped g fs starts mid j xs popped (rest, i, e, size, d, are) =
+      let s : (rest ≡ mid) × (i ≡ j) = same_from_push rest mid i j (sym e ∙ popped) in
+      let at : (j + terms_of g ≡ length xs) × Decide frame g j (drop j xs) × AreCompiled frame fs rest (take j xs) =
+      subst (λ k. (k + terms_of g ≡ length xs) × Decide frame g k (drop k xs) × AreCompiled frame fs rest (take k xs)) s.1 (size, d, are) in
+      (at.0, at.1, subst (λ r. AreCompiled frame fs r (take j xs)) s.0 at.2)
+
+  -- the last two formulas are joined
+  module _ (f g : Formula) (fs : List Formula) (starts mid : List ℕ) (j : ℕ) (xs ys : List Test) (a b : ℕ) (few : terms_of_all (g ∷ f ∷ fs) ≤ 64) (popped : starts ≡ mid ++ j ∷ [])
+      (to : (rest : List ℕ) (i : ℕ) → mid ≡ rest ++ i ∷ [] → i ≤ j → j ≤ length xs → ys ≡ redirected_from i a b (take j xs) ++ drop j xs) where
+    two_compiled : (h : Formula) → terms_of h ≡ terms_of f + terms_of g
+        → ((i : ℕ) (front : List Test) → Decide frame f i front → Decide frame g j (drop j xs) → j ≡ i + length front → j + length (drop j xs) ≤ 64 → i < 64 → Decide frame h i (map (redirected a b) front ++ drop j xs))
+        → AreCompiled frame (g ∷ f ∷ fs) starts xs → AreCompiled frame (h ∷ fs) mid ys
+    two_compiled h terms decide w = second (top_popped g (f ∷ fs) starts mid j xs popped w) where
+      all : length xs ≤ 64
+      all = omega (arith, few, compiled_tests (g ∷ f ∷ fs) starts xs w)
+
+      second : (j + terms_of g ≡ length xs) × Decide frame g j (drop j xs) × AreCompiled frame (f ∷ fs) mid (take j xs) → AreCompiled frame (h ∷ fs) mid ys
+      second (size_g, dg, (rest, i, e, size_f, df, are)) =
+          let head : length (take j xs) ≡ j = length-take-le j xs (omega (arith, size_g)) in
+          let fs_tests : List Test = take i (take j xs) in
+          let f_tests : List Test = drop i (take j xs) in
+          let at : length fs_tests ≡ i = length-take-le i (take j xs) (omega (arith, size_f)) in
+          let is : ys ≡ fs_tests ++ (map (redirected a b) f_tests ++ drop j xs) = to rest i e (omega (arith, size_f, head)) (omega (arith, size_g)) ∙ append_assoc fs_tests (map (redirected a b) f_tests) (drop j xs) in
+          let front : take i ys ≡ fs_tests = ap (take i) is ∙ take_at fs_tests (map (redirected a b) f_tests ++ drop j xs) i at in
+          let back : drop i ys ≡ map (redirected a b) f_tests ++ drop j xs = ap (drop i) is ∙ drop_at fs_tests (map (redirected a b) f_tests ++ drop j xs) i at in
+          let f_len : j ≡ i + length f_tests = omega (arith, head, size_f, length-drop i (take j xs)) in
+          let len : length ys ≡ length xs = omega (arith, at, f_len, size_g, ap length is, length-append fs_tests (map (redirected a b) f_tests ++ drop j xs), length-append (map (redirected a b) f_tests) (drop j xs), length-map f_tests (redirected a b), length-drop j xs) in (
+            rest,
+            i,
+            e,
+            omega (arith, terms, size_g, size_f, head, len),
+            subst (Decide frame h i) (sym back) (decide i f_tests df dg f_len (omega (arith, all, size_g, length-drop j xs)) (omega (arith, all, size_g, size_f, head, some_terms g))),
+            subst (AreCompiled frame fs rest) (sym front) are,
+          )
+
+-- ---- tests that are redirected one by one
+
+-- those from index k on and before index i
+abbrev pub redirected_up_to : ℕ → ℕ → ℕ → ℕ → List Test → List Test
+redirected_up_to k a b i xs = take k xs ++ map (redirected a b) (drop k (take i xs)) ++ drop i xs
+
+module _ (a b : ℕ) where
+  pub none_redirected : (k : ℕ) (xs : List Test) → redirected_up_to k a b k xs ≡ xs
+  none_redirected zero xs = refl
+  none_redirected (suc k) [] = refl
+  none_redirected (suc k) (x ∷ xs) = ap (λ ys. x ∷ ys) (none_redirected k xs)
+
+  pub one_redirected : (k i : ℕ) (xs : List Test) (d : Test) → k ≤ i → i < length xs
+      → slice_set (redirected_up_to k a b i xs) i (redirected a b (slice_index_or (redirected_up_to k a b i xs) i d)) ≡ redirected_up_to k a b (suc i) xs
+  one_redirected k i [] d later within = absurd (omega (arith, within))
+  one_redirected zero zero (x ∷ xs) d later within = refl
+  one_redirected zero (suc i) (x ∷ xs) d later within = ap (λ ys. redirected a b x ∷ ys) (one_redirected zero i xs d (omega arith) (omega (arith, within)))
+  one_redirected (suc k) zero (x ∷ xs) d later within = absurd (omega (arith, later))
+  one_redirected (suc k) (suc i) (x ∷ xs) d later within = ap (λ ys. x ∷ ys) (one_redirected k i xs d (omega (arith, later)) (omega (arith, within)))
+
+  pub all_redirected : (k i : ℕ) (xs : List Test) → length xs ≤ i → redirected_up_to k a b i xs ≡ redirected_from k a b xs
+  all_redirected k i xs out = rw (take_all i xs out, drop_all i xs out) (append-nil (take k xs ++ map (redirected a b) (drop k xs)))
+
+-- ---- a front of the tests that is redirected
+
+-- the last of some items
+pub last_item : (rest : List ℕ) (i k d : ℕ) (items : List ℕ) → items ≡ rest ++ i ∷ [] → k ≡ length items - 1 → slice_index_or items k d ≡ i
+last_item rest i k d items is at =
+    let len : k ≡ length rest = omega (arith, at, ap length is, length-append rest (i ∷ [])) in
+    rw (is, len) (get_or-append_seam rest i [] d)
+
+-- A front of all tests is replaced by as many: so is that of the first n.
+pub front_replaced : (n e : ℕ) (all front : List Test) → e ≤ length (take n all) → length front ≡ e → take n (front ++ drop e all) ≡ front ++ drop e (take n all)
+front_replaced n e all front within len =
+    let less : e ≤ n = omega (arith, within, length-take n all) in
+    let sum : e + (n - e) ≡ n = omega (arith, less) in
+    let from_front : length front + (n - e) ≡ n = omega (arith, len, less) in
+    ap (λ k. take k (front ++ drop e all)) (sym from_front) ∙ take-append-add front (drop e all) (n - e)
+    ∙ ap (λ ys. front ++ ys) (sym (drop-take e (n - e) all) ∙ ap (λ k. drop e (take k all)) sum)
+
+pub front_redirected : (n e m i a b : ℕ) (all new : List Test) → length all ≡ 64 → m ≡ min e 64 → e ≤ length (take n all) → i ≤ e → (i ≤ length (take m all) → new ≡ redirected_from i a b (take m all))
+    → take n (new ++ drop m all) ≡ redirected_from i a b (take e (take n all)) ++ drop e (take n all)
+front_redirected n e m i a b all new size least within before to =
+    let fits : e ≤ 64 = omega (arith, within, size, length-take n all) in
+    let same : m ≡ e = omega (arith, least, fits) in
+    let len : length (take e all) ≡ e = length-take-le e all (omega (arith, fits, size)) in
+    let is : new ≡ redirected_from i a b (take e all) = subst (λ k. i ≤ length (take k all) → new ≡ redirected_from i a b (take k all)) same to (omega (arith, before, len)) in
+    let len_new : length new ≡ e = omega (arith, len, before, ap length is, length-append (take i (take e all)) (map (redirected a b) (drop i (take e all))), length-map (drop i (take e all)) (redirected a b), length-drop i (take e all), length-take-le i (take e all) (omega (arith, before, len))) in
+    let front : take e (take n all) ≡ take e all = take-take e n all (omega (arith, within, length-take n all)) in
+    ap (λ k. take n (new ++ drop k all)) same ∙ front_replaced n e all new within len_new ∙ ap (λ ys. ys ++ drop e (take n all)) (is ∙ ap (redirected_from i a b) (sym front))
+
+-- how many tests are used
+pub used_len : (n m : ℕ) (all : List Test) → length all ≡ 64 → m ≡ min n 64 → length (take n all) ≡ m
+used_len n m all size least = omega (arith, size, least, length-take n all)
+
+-- all tests are a front
+pub whole_redirected : (i a b e : ℕ) (xs : List Test) → length xs ≡ e → redirected_from i a b (take e xs) ++ drop e xs ≡ redirected_from i a b xs
+whole_redirected i a b e xs is = rw (take_all e xs (omega (arith, is)), drop_all e xs (omega (arith, is))) (append-nil (redirected_from i a b xs))
+
+-- ---- the steps
+
+module _ (frame : Option (List ℕ)) (k : ℕ) where
+  pub negated_even_times : (f : Formula) (fs : List Formula) (starts : List ℕ) (xs : List Test) → (k % 2 ≡ 1 → ⊥) → AreCompiled frame (f ∷ fs) starts xs → AreCompiled frame (negated k f ∷ fs) starts xs
+  negated_even_times f fs starts xs even are = same_truth frame f (negated k f) fs starts xs (negated-terms k f) (sym (negated_even k f (frame_holds frame) (truth f (frame_holds frame)) refl (omega (arith, even)))) are
+
+  pub negated_odd_times : (f : Formula) (fs : List Formula) (starts more : List ℕ) (xs ys : List Test) → k % 2 ≡ 1 → terms_of_all (f ∷ fs) ≤ 64 → more ≡ starts
+      → ((rest : List ℕ) (i : ℕ) → starts ≡ rest ++ i ∷ [] → i ≤ length xs → ys ≡ redirected_from i 65 64 xs) → AreCompiled frame (f ∷ fs) starts xs → AreCompiled frame (negated k f ∷ fs) more ys
+  negated_odd_times f fs starts more xs ys odd few same to are =
+      let once = negation_compiled frame f fs starts xs ys few to are in
+      subst (λ st. AreCompiled frame (negated k f ∷ fs) st ys) (sym same)
+      (same_truth frame (negation f) (negated k f) fs starts ys (negated-terms k f) (sym (negated_odd k f (frame_holds frame) (truth f (frame_holds frame)) refl odd)) once)
+
+  -- too few formulas to join
+  pub none_joined : (is_and : Bool) (fs : List Formula) (starts : List ℕ) (xs : List Test) → length starts < 2 → AreCompiled frame fs starts xs → AreCompiled frame (after_step (if is_and then And else Or) k fs) starts xs
+  none_joined is_and (g ∷ f ∷ fs) starts xs few are = absurd (omega (arith, few, compiled_starts frame (g ∷ f ∷ fs) starts xs are))
+  none_joined true [] starts xs few are = are
+  none_joined false [] starts xs few are = are
+  none_joined true (f ∷ []) starts xs few are = are
+  none_joined false (f ∷ []) starts xs few are = are
+
+  -- the last two formulas are joined, and the result is negated
+  pub two_joined : (is_and : Bool) (fs : List Formula) (starts mid last : List ℕ) (j : ℕ) (xs ys zs : List Test) → 2 ≤ length starts → starts ≡ mid ++ j ∷ []
+      → terms_of_all (after_step (if is_and then And else Or) k fs) ≤ 64
+      → ((rest : List ℕ) (i : ℕ) → mid ≡ rest ++ i ∷ [] → i ≤ j → j ≤ length xs → ys ≡ redirected_from i (if is_and then j else 64) (if is_and then 65 else j) (take j xs) ++ drop j xs)
+      → ((h : Formula) (gs : List Formula) → terms_of h + terms_of_all gs ≤ 64 → AreCompiled frame (h ∷ gs) mid ys → AreCompiled frame (negated k h ∷ gs) last zs)
+      → AreCompiled frame fs starts xs → AreCompiled frame (after_step (if is_and then And else Or) k fs) last zs
+  two_joined is_and [] starts mid last j xs ys zs two popped few to negate are = absurd (omega (arith, two, compiled_starts frame [] starts xs are))
+  two_joined is_and (f ∷ []) starts mid last j xs ys zs two popped few to negate are = absurd (omega (arith, two, compiled_starts frame (f ∷ []) starts xs are))
+  two_joined true (g ∷ f ∷ fs) starts mid last j xs ys zs two popped few to negate are =
+      let all : terms_of f + terms_of g + terms_of_all fs ≤ 64 = omega (arith, few, negated-terms k (both f g)) in
+      negate (both f g) fs all (two_compiled frame f g fs starts mid j xs ys j 65 (omega (arith, all)) popped to (both f g) refl (λ i front df dg seam fits small. decide_both frame f g i j front (drop j xs) df dg seam fits small) are)
+  two_joined false (g ∷ f ∷ fs) starts mid last j xs ys zs two popped few to negate are =
+      let all : terms_of f + terms_of g + terms_of_all fs ≤ 64 = omega (arith, few, negated-terms k (either f g)) in
+      negate (either f g) fs all (two_compiled frame f g fs starts mid j xs ys 64 j (omega (arith, all)) popped to (either f g) refl (λ i front df dg seam fits small. decide_either frame f g i j front (drop j xs) df dg seam fits small) are)
+
+-- the last item was popped
+pub popped_last : (old new : List ℕ) (o : Option ℕ) → old ≡ new ++ option_to_list o → IsSome o → old ≡ new ++ unwrap_or o 0 ∷ []
+popped_last old new None e some = absurd (false≢true some)
+popped_last old new (Some j) e some = e
+
+same_for_frames : (x : Test) (t : Term) → ((s : List ℕ) → meets x (dissected s) ≡ holds t (dissected s)) → (frame : Option (List ℕ)) → frame_meets frame x ≡ frame_holds frame t
+same_for_frames x t same None = refl
+same_for_frames x t same (Some s) = same s
+
+module _ (frame : Option (List ℕ)) (k : ℕ) (t : Term) (x : Test) (fs : List Formula) (starts more last : List ℕ) (xs ys zs : List Test) where
+  -- a term's test is added, and negated
+  pub term_compiled : ((s : List ℕ) → meets x (dissected s) ≡ holds t (dissected s)) → x.if_met ≡ 64 → x.if_not ≡ 65
+      → (length xs < 64 → length starts < 64 → ys ≡ xs ++ x ∷ []) → (length xs < 64 → length starts < 64 → more ≡ starts ++ length xs ∷ [])
+      → ((h : Formula) (gs : List Formula) → terms_of h + terms_of_all gs ≤ 64 → AreCompiled frame (h ∷ gs) more ys → AreCompiled frame (negated k h ∷ gs) last zs)
+      → terms_of_all (negated k (single t) ∷ fs) ≤ 64 → AreCompiled frame fs starts xs → AreCompiled frame (negated k (single t) ∷ fs) last zs
+  term_compiled same met not_met tests begin negate few are =
+      let room : length xs < 64 = omega (arith, few, negated-terms k (single t), compiled_tests frame fs starts xs are) in
+      let place : length starts < 64 = omega (arith, few, negated-terms k (single t), compiled_starts frame fs starts xs are, few_formulas fs) in
+      negate (single t) fs (omega (arith, few, negated-terms k (single t)))
+      (test_added frame t x fs starts more xs ys (same_for_frames x t same frame) met not_met (tests room place) (begin room place) are)
+
+-- a step makes no formula smaller
+no_fewer_terms : (kind : StepKind) (k : ℕ) (fs : List Formula) → terms_of_all fs ≤ terms_of_all (after_step kind k fs)
+no_fewer_terms (does.Term t) k fs = omega arith
+no_fewer_terms does.And k (g ∷ f ∷ fs) = omega (arith, negated-terms k (both f g))
+no_fewer_terms does.Or k (g ∷ f ∷ fs) = omega (arith, negated-terms k (either f g))
+no_fewer_terms does.And k [] = omega arith
+no_fewer_terms does.Or k [] = omega arith
+no_fewer_terms does.And k (f ∷ []) = omega arith
+no_fewer_terms does.Or k (f ∷ []) = omega arith
+
+-- The steps before index i were compiled.
+pub record Compiling (steps : List Step) (i : ℕ) (starts : List ℕ) (xs : List Test) : Type 0 where
+  pub formulas : List Formula
+  pub left : read_after formulas (drop i steps) ≡ read_after [] steps
+  pub made : (frame : Option (List ℕ)) → terms_of_all formulas ≤ 64 → AreCompiled frame formulas starts xs
+
+pub begin : (steps : List Step) (starts : List ℕ) (xs : List Test) → starts ≡ [] → xs ≡ [] → Compiling steps 0 starts xs
+begin steps starts xs no_starts no_tests = record { formulas = []; left = refl; made = λ frame few. (no_starts, no_tests) }
+
+pub advance : (steps : List Step) (i : ℕ) (d : Step) (starts more : List ℕ) (xs ys : List Test) → i < length steps
+    → ((frame : Option (List ℕ)) (fs : List Formula) → terms_of_all (after_step (get_or steps i d).kind (get_or steps i d).nots fs) ≤ 64 → AreCompiled frame fs starts xs
+    → AreCompiled frame (after_step (get_or steps i d).kind (get_or steps i d).nots fs) more ys)
+    → Compiling steps i starts xs → Compiling steps (i + 1) more ys
+advance steps i d starts more xs ys within reads w =
+    let s : Step = get_or steps i d in
+    record {
+      formulas = after_step s.kind s.nots w.formulas;
+      left = rw add-one (ap (read_after w.formulas) (sym (drop-cons steps i d within)) ∙ w.left);
+      made = λ frame few. reads frame w.formulas few (w.made frame (omega (arith, few, no_fewer_terms s.kind s.nots w.formulas)));
+    }
+
+compiled_alone : (frame : Option (List ℕ)) (f : Formula) (starts : List ℕ) (xs : List Test) → AreCompiled frame (f ∷ []) starts xs → passes xs (frame_meets frame) ≡ truth f (frame_holds frame)
+compiled_alone frame f starts xs (rest, i, e, size, d, (no_rest, no_tests)) =
+    let first : i ≡ 0 = omega (arith, size, ap length no_tests, length-take-le i xs (omega (arith, size))) in
+    let led : Decide frame f 0 xs = subst (λ k. Decide frame f k (drop k xs)) first d in
+    ap (λ n. n == 64) led ∙ passed (truth f (frame_holds frame)) where
+      passed : (t : Bool) → ((if t then 64 else 65) == 64) ≡ t
+      passed true = refl
+      passed false = refl
+
+pub finished : (steps : List Step) (i : ℕ) (starts : List ℕ) (xs : List Test) (f : Formula) (frame : Option (List ℕ)) → length steps ≤ i → read_after [] steps ≡ f ∷ [] → terms_of f ≤ 64
+    → Compiling steps i starts xs → passes xs (frame_meets frame) ≡ truth f (frame_holds frame)
+finished steps i starts xs f frame out is few w =
+    let all : w.formulas ≡ f ∷ [] = sym (ap (read_after w.formulas) (drop_all i steps out)) ∙ w.left ∙ is in
+    compiled_alone frame f starts xs (subst (λ fs. AreCompiled frame fs starts xs) all (w.made frame (subst (λ fs. terms_of_all fs ≤ 64) (sym all) (omega (arith, few)))))

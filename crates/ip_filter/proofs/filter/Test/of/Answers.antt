@@ -1,0 +1,23 @@
+use Rattle.ip_spec.proofs.Common.{sym, ap, ◌∙◌}
+use Rattle.ip_dissect.specs.Dissection.{dissected}
+use Rattle.ip_filter.specs.Truth.{holds}
+use Rattle.ip_filter.proofs.MaskLemmas.{by_flags, fragment_mask, first_mask, later_mask, truncated_mask, incomplete_mask, faults_mask}
+use Rattle.ip_filter.proofs.filter.Test.of.Goals as goal
+
+pub returns-in-Fragment-clause-meets : goal.returns-in-Fragment-clause-meets
+returns-in-Fragment-clause-meets c = λ s. by_flags c.of_flags-in-Fragment.result _ (dissected s) c.of_flags-in-Fragment.ensures.kind c.of_flags-in-Fragment.ensures.number ∙ fragment_mask s ∙ ap (λ t. holds t (dissected s)) (sym c.in-Fragment.is)
+
+pub returns-in-FirstFragment-clause-meets : goal.returns-in-FirstFragment-clause-meets
+returns-in-FirstFragment-clause-meets c = λ s. by_flags c.of_flags-in-FirstFragment.result _ (dissected s) c.of_flags-in-FirstFragment.ensures.kind c.of_flags-in-FirstFragment.ensures.number ∙ first_mask s ∙ ap (λ t. holds t (dissected s)) (sym c.in-FirstFragment.is)
+
+pub returns-in-LaterFragment-clause-meets : goal.returns-in-LaterFragment-clause-meets
+returns-in-LaterFragment-clause-meets c = λ s. by_flags c.of_flags-in-LaterFragment.result _ (dissected s) c.of_flags-in-LaterFragment.ensures.kind c.of_flags-in-LaterFragment.ensures.number ∙ later_mask s ∙ ap (λ t. holds t (dissected s)) (sym c.in-LaterFragment.is)
+
+pub returns-in-Truncated-clause-meets : goal.returns-in-Truncated-clause-meets
+returns-in-Truncated-clause-meets c = λ s. by_flags c.of_flags-in-Truncated.result _ (dissected s) c.of_flags-in-Truncated.ensures.kind c.of_flags-in-Truncated.ensures.number ∙ truncated_mask s ∙ ap (λ t. holds t (dissected s)) (sym c.in-Truncated.is)
+
+pub returns-in-Incomplete-clause-meets : goal.returns-in-Incomplete-clause-meets
+returns-in-Incomplete-clause-meets c = λ s. by_flags c.of_flags-in-Incomplete.result _ (dissected s) c.of_flags-in-Incomplete.ensures.kind c.of_flags-in-Incomplete.ensures.number ∙ incomplete_mask s ∙ ap (λ t. holds t (dissected s)) (sym c.in-Incomplete.is)
+
+pub returns-in-Fault-clause-meets : goal.returns-in-Fault-clause-meets
+returns-in-Fault-clause-meets c = λ s. by_flags c.of_flags-in-Fault.result _ (dissected s) c.of_flags-in-Fault.ensures.kind c.of_flags-in-Fault.ensures.number ∙ faults_mask s ∙ ap (λ t. holds t (dissected s)) (sym c.in-Fault.is)

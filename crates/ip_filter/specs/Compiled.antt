@@ -1,0 +1,39 @@
+-- What a formula's steps are compiled to.
+use Rattle.std.specs.Prelude.{◌≡◌, ◌+◌, ℕ, List, [], ◌∷◌, ◌++◌, length, take, drop, map, ◌==◌, if◌then◌else◌, Option}
+use Rattle.ip_filter.specs.Formula.{Formula, single, negation, both, either, truth}
+use Rattle.ip_filter.specs.Tests.{frame_meets}
+use Rattle.ip_filter.specs.Program.{led_to, frame_holds}
+use Rattle.ip_filter.specs.declared.filter.Test.{Test}
+
+-- how many terms a formula has
+abbrev pub terms_of : Formula → ℕ
+terms_of (single t) = 1
+terms_of (negation f) = terms_of f
+terms_of (both f g) = terms_of f + terms_of g
+terms_of (either f g) = terms_of f + terms_of g
+
+abbrev pub terms_of_all : List Formula → ℕ
+terms_of_all [] = 0
+terms_of_all (f ∷ fs) = terms_of f + terms_of_all fs
+
+-- The tests xs, of which the first has the index i, lead the frame to index 64 if the formula holds of it, otherwise to 65.
+abbrev pub Decide : Option (List ℕ) → Formula → ℕ → List Test → Type 0
+Decide frame f i xs = led_to (frame_meets frame) i i xs ≡ (if truth f (frame_holds frame) then 64 else 65)
+
+-- The tests xs are those of the formulas, the last formula first: each formula's start at an index of `starts`.
+abbrev pub AreCompiled : Option (List ℕ) → List Formula → List ℕ → List Test → Type 0
+AreCompiled frame [] starts xs = (starts ≡ []) × (xs ≡ [])
+AreCompiled frame (f ∷ fs) starts xs =
+    (rest : List ℕ) × (i : ℕ) × (starts ≡ rest ++ i ∷ []) × (i + terms_of f ≡ length xs) × Decide frame f i (drop i xs)
+    × AreCompiled frame fs rest (take i xs)
+
+-- Of the tests that led to 64 or 65, those lead to a or b.
+abbrev pub index_moved : ℕ → ℕ → ℕ → ℕ
+index_moved a b n = if n == 64 then a else if n == 65 then b else n
+
+abbrev pub redirected : ℕ → ℕ → Test → Test
+redirected a b x = record x { if_met = index_moved a b x.if_met; if_not = index_moved a b x.if_not }
+
+-- The tests from index i on are redirected.
+abbrev pub redirected_from : ℕ → ℕ → ℕ → List Test → List Test
+redirected_from i a b xs = take i xs ++ map (redirected a b) (drop i xs)

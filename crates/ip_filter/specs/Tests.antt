@@ -1,0 +1,61 @@
+-- Tests of a packet, in plain numbers.
+use Rattle.std.specs.Prelude.{ℕ, ◌+◌, ◌*◌, ◌^◌, ◌==◌, ◌&&◌, ◌||◌, nat_lt, if◌then◌else◌, length, Bool, false, List, Option, Some, None}
+use Rattle.std.specs.List.{list_any}
+use Rattle.std.specs.Option.{option_map, option_map_or}
+use Rattle.ip_spec.specs.Numbers.{AUTHENTICATION}
+use Rattle.ip_spec.specs.Fields.{auth_fields}
+use Rattle.ip_spec.specs.Chain.{bytes_of}
+use Rattle.ip_dissect.specs.Dissection.{DissectedParts, dissected}
+use Rattle.ip_filter.specs.Truth.{compares, has_base, has_source, has_destination}
+use Rattle.ip_filter.specs.Flags.{any_flag}
+use Rattle.ip_filter.specs.declared.network.Network.{Network}
+use Rattle.ip_filter.specs.declared.network.Network.TheVariants.{Ipv4, Ipv6}
+use Rattle.ip_filter.specs.declared.term.Comparison.{Comparison}
+use Rattle.ip_filter.specs.declared.term.Comparison.TheVariants.{Equal, NotEqual, Less, AtMost, Greater, AtLeast}
+use Rattle.ip_filter.specs.declared.filter.Test.{Test}
+
+-- n, if it is below m
+abbrev pub fitting : ℕ → ℕ → Option ℕ
+fitting m n = if nat_lt n m then Some n else None
+
+-- the comparison with a code
+abbrev pub comparison_in : ℕ → Option Comparison
+comparison_in c =
+    if c == 1 then Some Equal
+    else if c == 2 then Some NotEqual
+    else if c == 3 then Some Less
+    else if c == 4 then Some AtMost
+    else if c == 5 then Some Greater
+    else if c == 6 then Some AtLeast
+    else None
+
+-- The network of a test. The low half of its address has all of an IPv4 address.
+abbrev pub network_in : Test → Option Network
+network_in x =
+    if x.version == 4 then option_map (λ a. Ipv4 a x.prefix_len) (fitting (2 ^ 32) x.address_low)
+    else if x.version == 6 then Some (Ipv6 (x.address_high * 2 ^ 64 + x.address_low) x.prefix_len)
+    else None
+
+-- a count compares as the test asks
+abbrev pub compared : Test → ℕ → Bool
+compared x n = option_map_or (λ c. compares c n x.number) (comparison_in x.comparison) false
+
+-- The packet with the parts p meets the test. It meets none with another kind.
+abbrev pub meets : Test → DissectedParts → Bool
+meets x p =
+    if x.kind == 1 then any_flag 64 x.number p
+    else if x.kind == 2 then has_base p && (p.number == x.number)
+    else if x.kind == 3 then has_base p && compared x (length p.headers)
+    else if x.kind == 4 then has_base p && compared x (length (bytes_of p.headers))
+    else if x.kind == 5 then has_base p && compared x (length p.payload)
+    else if x.kind == 6 then list_any (λ h. (h.number == AUTHENTICATION) && ((auth_fields h.bytes).spi == x.number)) p.headers
+    else if x.kind == 7 then option_map_or (λ y. y.identification == x.number) p.fragment false
+    else if x.kind == 8 then option_map_or (λ n. has_source n p) (network_in x) false
+    else if x.kind == 9 then option_map_or (λ n. has_destination n p) (network_in x) false
+    else if x.kind == 10 then option_map_or (λ n. has_source n p || has_destination n p) (network_in x) false
+    else false
+
+-- a frame meets the test: the packet at the start of its bytes does, and a frame that is not IP meets none
+abbrev pub frame_meets : Option (List ℕ) → Test → Bool
+frame_meets None x = false
+frame_meets (Some s) x = meets x (dissected s)

@@ -1,0 +1,175 @@
+//! Tests that terms stand for.
+ghost use Rattle.std.specs.Prelude.{◌≡◌, ◌==◌, ℕ, List, Some, false};
+ghost use Rattle.ip_dissect.specs.Dissection.{dissected};
+ghost use Rattle.std.specs.List.{list_any};
+ghost use Rattle.std.specs.Option.{option_map_or};
+ghost use Rattle.ip_filter.specs.Truth.{holds, is_version, fault_in, kind_index};
+ghost use Rattle.ip_filter.specs.Flags.{any_flag};
+ghost use Rattle.ip_filter.specs.Tests.{meets, comparison_in, network_in};
+
+use crate::flags::{mask, place};
+use crate::holds::kind_index;
+use crate::meets::kind;
+use crate::run::PASSED;
+use crate::{Comparison, FaultKind, Network, Term, Test};
+use ip_base::{IpNumber, ip_number};
+
+/// The index after all tests at which a packet has not passed.
+pub(crate) const REFUSED: usize = PASSED + 1;
+
+impl Test {
+    /// Returns a test that those packets meet of which the term holds. It is the last one.
+    pub(crate) fn of(term: Term) -> Test
+        ensures meets { (s : List ℕ) → meets result (dissected s) ≡ holds term (dissected s) }
+        ensures if_met { result.if_met ≡ 64 }
+        ensures if_not { result.if_not ≡ 65 }
+    {
+        match term {
+            Term::Version(version) => Test::of_flags(version_mask(version)),
+            Term::Header(number) => Test::of_flags(header_mask(number)),
+            Term::Fragment => Test::of_flags(mask::FIRST_FRAGMENT | mask::LATER_FRAGMENT),
+            Term::FirstFragment => Test::of_flags(mask::FIRST_FRAGMENT),
+            Term::LaterFragment => Test::of_flags(mask::LATER_FRAGMENT),
+            Term::Truncated => Test::of_flags(mask::TRUNCATED),
+            Term::Incomplete => Test::of_flags(mask::INCOMPLETE),
+            Term::Fault => Test::of_flags(mask::FAULTS),
+            Term::FaultOf(kind) => Test::of_flags(fault_mask(kind)),
+            Term::LeadsTo(number) => Test::of_number(kind::LEADS_TO, u64::from(number)),
+            Term::Headers(comparison, number) => {
+                Test::of_count(kind::HEADERS, comparison, number)
+            }
+            Term::ChainBytes(comparison, number) => {
+                Test::of_count(kind::CHAIN_BYTES, comparison, number)
+            }
+            Term::Payload(comparison, number) => {
+                Test::of_count(kind::PAYLOAD, comparison, number)
+            }
+            Term::SecurityParameters(spi) => {
+                Test::of_number(kind::SECURITY_PARAMETERS, u64::from(spi))
+            }
+            Term::Identification(identification) => {
+                Test::of_number(kind::IDENTIFICATION, u64::from(identification))
+            }
+            Term::Source(network) => Test::of_network(kind::SOURCE, network),
+            Term::Destination(network) => Test::of_network(kind::DESTINATION, network),
+            Term::Either(network) => Test::of_network(kind::EITHER, network),
+        }
+    }
+
+    /// Returns a test of this kind with a number.
+    fn of_number(kind: u8, number: u64) -> Test
+        ensures kind { result.kind ≡ kind }
+        ensures number { result.number ≡ number }
+        ensures if_met { result.if_met ≡ 64 }
+        ensures if_not { result.if_not ≡ 65 }
+    {
+        Test {
+            number,
+            address_high: 0,
+            address_low: 0,
+            kind,
+            comparison: 0,
+            version: 0,
+            prefix_len: 0,
+            if_met: PASSED as u8,
+            if_not: REFUSED as u8,
+        }
+    }
+
+    /// Returns a test of flags, of which one has to be set.
+    fn of_flags(flags: u64) -> Test
+        ensures kind { result.kind ≡ 1 }
+        ensures number { result.number ≡ flags }
+        ensures if_met { result.if_met ≡ 64 }
+        ensures if_not { result.if_not ≡ 65 }
+    {
+        Test::of_number(kind::FLAGS, flags)
+    }
+
+    /// Returns a test of this kind that compares a count.
+    fn of_count(kind: u8, comparison: Comparison, number: u64) -> Test
+        ensures kind { result.kind ≡ kind }
+        ensures comparison { comparison_in result.comparison ≡ Some comparison }
+        ensures number { result.number ≡ number }
+        ensures if_met { result.if_met ≡ 64 }
+        ensures if_not { result.if_not ≡ 65 }
+    {
+        Test {
+            comparison: comparison_code(comparison),
+            ..Test::of_number(kind, number)
+        }
+    }
+
+    /// Returns a test of this kind with a network.
+    fn of_network(kind: u8, network: Network) -> Test
+        ensures kind { result.kind ≡ kind }
+        ensures network { network_in result ≡ Some network }
+        ensures if_met { result.if_met ≡ 64 }
+        ensures if_not { result.if_not ≡ 65 }
+    {
+        let test = Test::of_number(kind, 0);
+        match network {
+            Network::Ipv4 { address, len } => Test {
+                address_low: u64::from(address),
+                version: 4,
+                prefix_len: len,
+                ..test
+            },
+            Network::Ipv6 { address, len } => Test {
+                address_high: (address >> 64) as u64,
+                address_low: (address % (1 << 64)) as u64,
+                version: 6,
+                prefix_len: len,
+                ..test
+            },
+        }
+    }
+}
+
+/// Returns the flag of a version.
+fn version_mask(version: u8) -> u64
+    ensures { (s : List ℕ) → any_flag 64 result (dissected s) ≡ is_version version (dissected s) }
+{
+    match version {
+        4 => mask::IPV4,
+        6 => mask::IPV6,
+        _ => 0,
+    }
+}
+
+/// Returns the flag of an extension header's number.
+fn header_mask(number: u8) -> u64
+    ensures { (s : List ℕ) → any_flag 64 result (dissected s)
+        ≡ list_any (λ h. h.number == number) (dissected s).headers }
+{
+    match IpNumber(number) {
+        ip_number::IPV6_HOP_BY_HOP
+        | ip_number::IPV6_ROUTE
+        | ip_number::IPV6_FRAG
+        | ip_number::AUTH
+        | ip_number::IPV6_DEST_OPTIONS => 1 << number,
+        _ => 0,
+    }
+}
+
+/// Returns the flag of a kind of fault.
+fn fault_mask(kind: FaultKind) -> u64
+    ensures { (s : List ℕ) → any_flag 64 result (dissected s)
+        ≡ option_map_or (λ k. kind_index k == kind_index kind) (fault_in (dissected s).end) false }
+{
+    1 << (place::FAULT + kind_index(kind))
+}
+
+/// Returns the code of a comparison.
+fn comparison_code(comparison: Comparison) -> u8
+    ensures { comparison_in result ≡ Some comparison }
+{
+    match comparison {
+        Comparison::Equal => 1,
+        Comparison::NotEqual => 2,
+        Comparison::Less => 3,
+        Comparison::AtMost => 4,
+        Comparison::Greater => 5,
+        Comparison::AtLeast => 6,
+    }
+}

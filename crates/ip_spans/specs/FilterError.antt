@@ -1,0 +1,19 @@
+-- What the text of a filter needs, by codes for C callers.
+use Rattle.std.specs.Prelude.{ℕ}
+use Rattle.ip_filter.specs.declared.parse_error.Expected.{Expected}
+use Rattle.ip_filter.specs.declared.parse_error.Expected.TheVariants as expected
+
+-- what is expected in a text
+abbrev pub expected_code : Expected → ℕ
+expected_code expected.Operand = 1
+expected_code expected.OperatorOrEnd = 2
+expected_code expected.OperatorOrClose = 3
+expected_code expected.Version = 4
+expected_code expected.Header = 5
+expected_code expected.Protocol = 6
+expected_code expected.Comparison = 7
+expected_code expected.Count = 8
+expected_code expected.Number = 9
+expected_code expected.Network = 10
+expected_code expected.FewerTerms = 11
+expected_code expected.LessNesting = 12

@@ -38,7 +38,7 @@
 #define WOLFAREN_VERSION (10000 * WOLFAREN_VERSION_MAJOR + 100 * WOLFAREN_VERSION_MINOR + WOLFAREN_VERSION_PATCH)
 
 /* A checksum of the structs, codes and calls in this header, made by scripts/abi of the repository. */
-#define WOLFAREN_ABI 0xbaf3e33au
+#define WOLFAREN_ABI 0x0bb066eau
 
 #if !(defined(__x86_64__) && !defined(__ILP32__)) && !defined(_M_X64) && !defined(__aarch64__) && !defined(_M_ARM64)
 #error "libwolfaren needs a 64-bit machine: x86-64 or ARM64"
@@ -489,31 +489,40 @@ bool wolfaren_write_headers(const uint8_t *bytes, size_t len, const struct wolfa
  */
 size_t wolfaren_fault_text(const struct wolfaren_fault *fault, char *text, size_t room) WOLFAREN_NONNULL(1);
 
-/* The greatest number of steps that a filter uses: 64 terms, and an operator between each two. */
-#define WOLFAREN_FILTER_STEPS 127
+/* The greatest number of tests that a filter uses, and the index that means that the packet passes. */
+#define WOLFAREN_FILTER_TESTS 64
+#define WOLFAREN_FILTER_PASSED 64
 
-/* What a step of a filter does: adds the truth of a term, or joins the last two values. */
-enum wolfaren_step_kind {
-    WOLFAREN_STEP_VERSION = 1,         /* the packet has an IP header of version `number` */
-    WOLFAREN_STEP_HEADER = 2,          /* an extension header has the protocol number `number` */
-    WOLFAREN_STEP_LEADS_TO = 3,        /* the protocol number `number` follows the headers */
-    WOLFAREN_STEP_FRAGMENT = 4,        /* the packet is a fragment, but not an atomic one */
-    WOLFAREN_STEP_FIRST_FRAGMENT = 5,  /* the packet is a first fragment */
-    WOLFAREN_STEP_LATER_FRAGMENT = 6,  /* the packet is a middle or last fragment */
-    WOLFAREN_STEP_TRUNCATED = 7,       /* a header is truncated */
-    WOLFAREN_STEP_INCOMPLETE = 8,      /* bytes of the stated length are missing */
-    WOLFAREN_STEP_FAULT = 9,           /* a header is faulty */
-    WOLFAREN_STEP_FAULT_OF_KIND = 10,  /* a header is faulty, with an error of kind `number`: WOLFAREN_TOO_SHORT .. */
-    WOLFAREN_STEP_HEADERS = 11,        /* the number of extension headers compares so with `number` */
-    WOLFAREN_STEP_CHAIN_BYTES = 12,    /* the length of the extension headers in bytes compares so with `number` */
-    WOLFAREN_STEP_PAYLOAD = 13,        /* the number of payload bytes that are present compares so with `number` */
-    WOLFAREN_STEP_SPI = 14,            /* an authentication header has the security parameters index `number` */
-    WOLFAREN_STEP_IDENTIFICATION = 15, /* the fragment's identification is `number` */
-    WOLFAREN_STEP_SOURCE = 16,         /* the source address is in the network */
-    WOLFAREN_STEP_DESTINATION = 17,    /* the destination address is in the network */
-    WOLFAREN_STEP_EITHER = 18,         /* the source or the destination address is in the network */
-    WOLFAREN_STEP_AND = 19,            /* both values are true */
-    WOLFAREN_STEP_OR = 20              /* at least one value is true */
+/* What a test asks of a packet. */
+enum wolfaren_test {
+    WOLFAREN_TEST_FLAGS = 1,               /* at least one of the flags in `number` is set */
+    WOLFAREN_TEST_LEADS_TO = 2,            /* the protocol number `number` follows the headers */
+    WOLFAREN_TEST_HEADERS = 3,             /* the number of extension headers compares so with `number` */
+    WOLFAREN_TEST_CHAIN_BYTES = 4,         /* the length of the extension headers in bytes compares so with `number` */
+    WOLFAREN_TEST_PAYLOAD = 5,             /* the number of payload bytes that are present compares so with `number` */
+    WOLFAREN_TEST_SECURITY_PARAMETERS = 6, /* an authentication header has the security parameters index `number` */
+    WOLFAREN_TEST_IDENTIFICATION = 7,      /* the fragment's identification is `number` */
+    WOLFAREN_TEST_SOURCE = 8,              /* the source address is in the network */
+    WOLFAREN_TEST_DESTINATION = 9,         /* the destination address is in the network */
+    WOLFAREN_TEST_EITHER = 10              /* the source or the destination address is in the network */
+};
+
+/*
+ * The flags of a packet. A flag is a bit of the `number` of a test: 1 << WOLFAREN_FLAG_IPV4. Bits 0, 43, 44, 51 and 60
+ * are set if an extension header has this protocol number.
+ */
+enum wolfaren_flag {
+    WOLFAREN_FLAG_IPV4 = 4,                    /* the packet has an IPv4 header */
+    WOLFAREN_FLAG_IPV6 = 6,                    /* the packet has an IPv6 header */
+    WOLFAREN_FLAG_FIRST_FRAGMENT = 8,          /* the packet is a first fragment */
+    WOLFAREN_FLAG_LATER_FRAGMENT = 9,          /* the packet is a middle or last fragment */
+    WOLFAREN_FLAG_INCOMPLETE = 10,             /* bytes of the stated length are missing */
+    WOLFAREN_FLAG_TRUNCATED = 11,              /* a header is truncated */
+    WOLFAREN_FLAG_TOO_SHORT = 12,              /* a header is faulty, with an error of kind WOLFAREN_TOO_SHORT */
+    WOLFAREN_FLAG_HOP_BY_HOP_NOT_AT_START = 13,
+    WOLFAREN_FLAG_ZERO_PAYLOAD_LEN = 14,
+    WOLFAREN_FLAG_UNSUPPORTED_IP_VERSION = 15,
+    WOLFAREN_FLAG_IPV4_HEADER_LENGTH = 16
 };
 
 /* How a count compares with a number. */
@@ -526,27 +535,32 @@ enum wolfaren_comparison {
     WOLFAREN_AT_LEAST = 6
 };
 
-/* A step of a filter. Fields that its kind doesn't use are ignored. */
-struct wolfaren_filter_step {
-    uint64_t nots;         /* how many times the value is then negated */
-    uint64_t number;       /* the number of a term, or what a count is compared with */
+/* A test of a filter. Fields that its kind doesn't use are ignored. */
+struct wolfaren_filter_test {
+    uint64_t number;       /* flags, the number of a term, or what a count is compared with */
     uint64_t address_high; /* bytes 0 to 7 of an IPv6 network's address, as a big-endian number */
     uint64_t address_low;  /* bytes 8 to 15 of it, or the address of an IPv4 network */
-    uint8_t kind;          /* WOLFAREN_STEP_VERSION .. */
+    uint8_t kind;          /* WOLFAREN_TEST_FLAGS .. */
     uint8_t comparison;    /* WOLFAREN_EQUAL .. */
     uint8_t version;       /* IP version of a network's address: 4 or 6 */
     uint8_t prefix_len;    /* how many bits of a network's address count */
+    uint8_t if_met;        /* index of the next test if the packet meets this one */
+    uint8_t if_not;        /* index of the next test if it doesn't */
 };
 
 /*
- * A filter in postfix order: each operator follows its operands. wolfaren_parse_filter makes one from a text. It is plain
- * data, which a program may copy, store and modify. Any contents are valid: steps after the first `count` or after the
- * first WOLFAREN_FILTER_STEPS don't count, an operator without two operands does nothing, and no packet meets a term
- * with an unknown code or with a number that is too large for it. A filter without terms matches nothing.
+ * A filter is a program. A packet starts at the test with index 0, and each test leads it to another one. It passes, and
+ * so the filter matches it, if it is led to WOLFAREN_FILTER_PASSED. It doesn't pass if it is led to any other index
+ * without a test, or to an index that isn't greater than that of the test. wolfaren_parse_filter makes a program from a
+ * text: each term becomes one test, in the order of the text, and `and`, `or` and `not` determine where tests lead.
+ *
+ * A filter is plain data, which a program may copy, store and modify. Any contents are valid: a count above
+ * WOLFAREN_FILTER_TESTS means WOLFAREN_FILTER_TESTS, and no packet meets a test with an unknown code or with a number
+ * that is too large for it. A filter without tests matches nothing.
  */
 struct wolfaren_filter {
-    size_t count;                                             /* number of steps */
-    struct wolfaren_filter_step steps[WOLFAREN_FILTER_STEPS]; /* the steps, of which the first `count` are used */
+    size_t count;                                             /* number of tests */
+    struct wolfaren_filter_test tests[WOLFAREN_FILTER_TESTS]; /* the tests, of which the first `count` are used */
 };
 
 /* What the text of a filter needs; wolfaren_expected_text says it in words. */
@@ -687,8 +701,8 @@ WOLFAREN_LAYOUT(wolfaren_packet, 40, len_source, 38);
 WOLFAREN_LAYOUT(wolfaren_payload, 32, len_source, 30);
 WOLFAREN_LAYOUT(wolfaren_fragment, 8, next_header, 7);
 WOLFAREN_LAYOUT(wolfaren_authentication, 24, next_header, 16);
-WOLFAREN_LAYOUT(wolfaren_filter_step, 40, prefix_len, 35);
-WOLFAREN_LAYOUT(wolfaren_filter, 5088, steps, 8);
+WOLFAREN_LAYOUT(wolfaren_filter_test, 32, if_not, 29);
+WOLFAREN_LAYOUT(wolfaren_filter, 2056, tests, 8);
 WOLFAREN_LAYOUT(wolfaren_filter_error, 16, expected, 8);
 WOLFAREN_LAYOUT(wolfaren_name, 16, size, 8);
 #undef WOLFAREN_LAYOUT

@@ -1,4 +1,4 @@
-/* Tests filters: texts that match and that are refused, filters with any contents, null, and the texts of errors. */
+/* Tests filters: texts that match and that are refused, programs of tests, any contents, null, and the texts of errors. */
 #include "wolfaren.h"
 
 #include <stdio.h>
@@ -87,6 +87,28 @@ static uint8_t next_byte(void)
     return (uint8_t)(state >> 24);
 }
 
+/* Returns whether the packet meets the test. */
+static bool meets(const struct wolfaren_filter_test *test)
+{
+    struct wolfaren_filter filter = {.count = 1, .tests[0] = *test};
+    filter.tests[0].if_met = WOLFAREN_FILTER_PASSED;
+    filter.tests[0].if_not = 255;
+    return wolfaren_filter_matches(&filter, IPV4, sizeof IPV4);
+}
+
+/* Returns whether the packet passes: it is led from test to test, but never back. */
+static bool passes(const struct wolfaren_filter *filter)
+{
+    size_t count = filter->count < WOLFAREN_FILTER_TESTS ? filter->count : WOLFAREN_FILTER_TESTS, index = 0;
+    while (index < count) {
+        const struct wolfaren_filter_test *test = &filter->tests[index];
+        size_t next = meets(test) ? test->if_met : test->if_not;
+        if (next <= index) return false;
+        index = next;
+    }
+    return index == WOLFAREN_FILTER_PASSED;
+}
+
 /* Any contents are a filter, and what follows the packet doesn't matter. */
 static void any_contents(void)
 {
@@ -96,22 +118,90 @@ static void any_contents(void)
     memset(longer + sizeof IPV4, 44, 9);
     for (int round = 0; round < 20000; round++) {
         for (size_t i = 0; i < sizeof filter; i++) ((uint8_t *)&filter)[i] = next_byte();
-        for (size_t i = 0; i < WOLFAREN_FILTER_STEPS; i++) filter.steps[i].kind %= 24;
-        if (round % 2) filter.count %= 140;
+        for (size_t i = 0; i < WOLFAREN_FILTER_TESTS; i++) {
+            struct wolfaren_filter_test *test = &filter.tests[i];
+            test->kind %= 12;
+            if (round % 3 == 0) continue;
+            test->if_met = (uint8_t)(i + test->if_met % 16);
+            test->if_not = (uint8_t)(i + test->if_not % 16);
+        }
+        if (round % 2) filter.count %= 70;
         bool matches = wolfaren_filter_matches(&filter, IPV4, sizeof IPV4);
+        check(matches == passes(&filter), "where tests lead");
         check(matches == wolfaren_filter_matches(&filter, longer, sizeof longer), "bytes after the packet");
         (void)!wolfaren_filter_matches_other(&filter);
         (void)!wolfaren_filter_matches(&filter, NULL, 0);
     }
-    memset(&filter, 0, sizeof filter);
-    check(!wolfaren_filter_matches(&filter, IPV4, sizeof IPV4), "a filter without terms matches nothing");
-    filter.count = 1;
-    filter.steps[0].nots = 1;
-    check(wolfaren_filter_matches(&filter, IPV4, sizeof IPV4), "no packet meets an unknown term");
-    filter.steps[0] = (struct wolfaren_filter_step){.kind = WOLFAREN_STEP_HEADER, .number = 256 + 51};
-    check(!wolfaren_filter_matches(&filter, IPV4, sizeof IPV4), "no header has a number above 255");
-    filter.steps[0].number = 51;
-    check(wolfaren_filter_matches(&filter, IPV4, sizeof IPV4), "a step that a program wrote");
+}
+
+/* A test that the packet meets, and one that it doesn't meet. */
+#define MET .kind = WOLFAREN_TEST_FLAGS, .number = 1 << WOLFAREN_FLAG_IPV4
+#define UNMET .kind = WOLFAREN_TEST_FLAGS, .number = 1 << WOLFAREN_FLAG_IPV6
+
+/* Programs that no text has. */
+static void programs(void)
+{
+    static const struct {
+        const char *what;
+        bool passes;
+        struct wolfaren_filter filter;
+    } rows[] = {
+        {"no tests", false, {0, {{MET, .if_met = 64, .if_not = 64}}}},
+        {"index 64 passes", true, {1, {{MET, .if_met = 64, .if_not = 65}}}},
+        {"index 65 doesn't pass", false, {1, {{MET, .if_met = 65, .if_not = 64}}}},
+        {"a test that isn't met", true, {1, {{UNMET, .if_met = 65, .if_not = 64}}}},
+        {"a jump over a test", true, {3, {{MET, .if_met = 2}, {MET}, {UNMET, .if_not = 64}}}},
+        {"a jump to the test itself", false, {2, {{MET, .if_met = 1}, {MET, .if_met = 1, .if_not = 64}}}},
+        {"a jump back", false, {3, {{MET, .if_met = 2}, {MET, .if_met = 64}, {MET, .if_met = 1, .if_not = 64}}}},
+        {"a jump past the end", false, {2, {{MET, .if_met = 2}, {MET, .if_met = 64}, {MET, .if_met = 64}}}},
+        {"a jump to index 255", false, {1, {{MET, .if_met = 255, .if_not = 64}}}},
+        {"the unknown kind 0", true, {1, {{.if_met = 65, .if_not = 64}}}},
+        {"the unknown kind 11", true, {1, {{.kind = 11, .if_met = 65, .if_not = 64}}}},
+        {"an unknown comparison", true, {1, {{.kind = WOLFAREN_TEST_PAYLOAD, .comparison = 7, .if_not = 64}}}},
+        {"an unknown version", true, {1, {{.kind = WOLFAREN_TEST_EITHER, .version = 5, .if_not = 64}}}},
+        {"one of two flags", true,
+         {1, {{.kind = WOLFAREN_TEST_FLAGS, .number = 1ull << 51 | 1ull << 60, .if_met = 64}}}},
+        {"no flags", true, {1, {{.kind = WOLFAREN_TEST_FLAGS, .if_not = 64}}}},
+        {"a protocol", true, {1, {{.kind = WOLFAREN_TEST_LEADS_TO, .number = 6, .if_met = 64}}}},
+        {"a protocol number above 255", true, {1, {{.kind = WOLFAREN_TEST_LEADS_TO, .number = 262, .if_not = 64}}}},
+        {"a security parameters index above 32 bits", true,
+         {1, {{.kind = WOLFAREN_TEST_SECURITY_PARAMETERS, .number = 258 + (1ull << 32), .if_not = 64}}}},
+        {"an IPv4 address above 32 bits", true,
+         {1, {{.kind = WOLFAREN_TEST_SOURCE, .version = 4, .address_low = 1ull << 32, .if_not = 64}}}},
+    };
+    for (size_t i = 0; i < sizeof rows / sizeof *rows; i++)
+        check(wolfaren_filter_matches(&rows[i].filter, IPV4, sizeof IPV4) == rows[i].passes, rows[i].what);
+}
+
+/* A program as long as can be, which leads from each test to the next one. */
+static void longest(void)
+{
+    struct wolfaren_filter filter = {0};
+    for (size_t i = 0; i < WOLFAREN_FILTER_TESTS; i++)
+        filter.tests[i] = (struct wolfaren_filter_test){MET, .if_met = (uint8_t)(i + 1)};
+    static const size_t counts[] = {63, 64, 65, SIZE_MAX};
+    for (size_t i = 0; i < sizeof counts / sizeof *counts; i++) {
+        filter.count = counts[i];
+        check(wolfaren_filter_matches(&filter, IPV4, sizeof IPV4) == (counts[i] >= 64), "only 64 tests count");
+    }
+}
+
+/* Each term of a text is one test, in the order of the text. */
+static void parsed_program(void)
+{
+    struct wolfaren_filter filter;
+    struct wolfaren_filter_error error;
+    check(parse("not (fragment and payload > 5) or dst 192.0.2.0/24", &filter, &error), "a text");
+    const struct wolfaren_filter_test *tests = filter.tests;
+    check(filter.count == 3, "three terms are three tests");
+    check(tests[0].kind == WOLFAREN_TEST_FLAGS && tests[0].number == 3 << WOLFAREN_FLAG_FIRST_FRAGMENT, "fragment");
+    check(tests[0].if_met == 1 && tests[0].if_not == WOLFAREN_FILTER_PASSED, "where fragment leads");
+    check(tests[1].kind == WOLFAREN_TEST_PAYLOAD && tests[1].comparison == WOLFAREN_GREATER && tests[1].number == 5,
+          "payload");
+    check(tests[1].if_met == 2 && tests[1].if_not == WOLFAREN_FILTER_PASSED, "where payload leads");
+    check(tests[2].kind == WOLFAREN_TEST_DESTINATION && tests[2].version == 4 && tests[2].prefix_len == 24
+              && tests[2].address_low == 0xc0000200, "dst");
+    check(tests[2].if_met == WOLFAREN_FILTER_PASSED && tests[2].if_not > WOLFAREN_FILTER_PASSED, "where dst leads");
 }
 
 int main(void)
@@ -119,5 +209,8 @@ int main(void)
     texts();
     refused();
     any_contents();
+    programs();
+    longest();
+    parsed_program();
     return 0;
 }

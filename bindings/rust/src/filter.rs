@@ -1,11 +1,13 @@
 use crate::err::{Expected, FilterError};
-use crate::filter_text::write_steps;
 use crate::library;
+#[cfg(feature = "alloc")]
+use alloc::boxed::Box;
 use core::fmt;
 use core::str::FromStr;
 
-/// A filter over packets: terms joined by `not`, `and` and `or`. Filters are equal if their texts differ only in how
-/// terms, operators and numbers are spelled, in white space and in needless parentheses.
+/// A filter over packets: terms joined by `not`, `and` and `or`. Filters are equal if their texts compile to the same
+/// program, as `not (fault or truncated)` and `not fault and not truncated` do. `Display` writes the text that was
+/// parsed, and needs the feature `alloc`.
 ///
 /// ```
 /// use wolfaren::Filter;
@@ -18,9 +20,11 @@ use core::str::FromStr;
 /// assert!(!filter.matches_other());
 /// # Ok::<(), wolfaren::err::FilterError>(())
 /// ```
-#[derive(Clone, PartialEq, Eq)]
+#[derive(Clone)]
 pub struct Filter {
-    numbers: library::Filter,
+    program: library::Filter,
+    #[cfg(feature = "alloc")]
+    text: Box<str>,
 }
 
 impl Filter {
@@ -51,7 +55,11 @@ impl Filter {
     /// Reports what is expected at the first word that can't be there.
     pub fn parse(text: &str) -> Result<Filter, FilterError> {
         match library::parse_filter(text.as_bytes()) {
-            Ok(numbers) => Ok(Filter { numbers }),
+            Ok(program) => Ok(Filter {
+                program,
+                #[cfg(feature = "alloc")]
+                text: text.into(),
+            }),
             Err(error) => Err(FilterError {
                 offset: error.offset,
                 expected: Expected::of_code(error.expected),
@@ -64,13 +72,13 @@ impl Filter {
     #[inline]
     #[must_use]
     pub fn matches(&self, slice: &[u8]) -> bool {
-        library::filter_matches(&self.numbers, slice)
+        library::filter_matches(&self.program, slice)
     }
 
     /// Returns whether the filter matches a frame that isn't IP, such as an ARP request: no term holds of it.
     #[must_use]
     pub fn matches_other(&self) -> bool {
-        library::filter_matches_other(&self.numbers)
+        library::filter_matches_other(&self.program)
     }
 }
 
@@ -82,15 +90,23 @@ impl FromStr for Filter {
     }
 }
 
-/// Formats the filter as a text that is parsed to an equal filter, with numbers for names, and addresses as prefixes.
+impl PartialEq for Filter {
+    fn eq(&self, other: &Filter) -> bool {
+        self.program.used() == other.program.used()
+    }
+}
+
+impl Eq for Filter {}
+
+#[cfg(feature = "alloc")]
 impl fmt::Display for Filter {
     fn fmt(&self, f: &mut fmt::Formatter<'_>) -> fmt::Result {
-        write_steps(self.numbers.used(), 0, f)
+        f.pad(&self.text)
     }
 }
 
 impl fmt::Debug for Filter {
     fn fmt(&self, f: &mut fmt::Formatter<'_>) -> fmt::Result {
-        f.debug_list().entries(self.numbers.used()).finish()
+        f.debug_list().entries(self.program.used()).finish()
     }
 }

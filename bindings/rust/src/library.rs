@@ -84,17 +84,16 @@ pub(crate) struct Cursor {
     pub number: u8,
 }
 
-/// `WOLFAREN_FILTER_STEPS`: the greatest number of steps that a filter uses.
-const FILTER_STEPS: usize = 127;
+/// `WOLFAREN_FILTER_TESTS`: the greatest number of tests that a filter uses.
+const FILTER_TESTS: usize = 64;
 
 /// `WOLFAREN_TEXT_ROOM`: room for any text and its 0 byte.
 pub(crate) const TEXT_ROOM: usize = 256;
 
-/// `struct wolfaren_filter_step`: a step of a filter.
+/// `struct wolfaren_filter_test`: a test of a filter.
 #[repr(C)]
 #[derive(Clone, Copy, Debug, PartialEq, Eq)]
-pub(crate) struct FilterStep {
-    pub nots: u64,
+pub(crate) struct FilterTest {
     pub number: u64,
     pub address_high: u64,
     pub address_low: u64,
@@ -102,14 +101,16 @@ pub(crate) struct FilterStep {
     pub comparison: u8,
     pub version: u8,
     pub prefix_len: u8,
+    pub if_met: u8,
+    pub if_not: u8,
 }
 
 /// `struct wolfaren_filter`: a filter. Any numbers are one.
 #[repr(C)]
-#[derive(Clone, Copy, PartialEq, Eq)]
+#[derive(Clone, Copy)]
 pub(crate) struct Filter {
     pub count: usize,
-    pub steps: [FilterStep; FILTER_STEPS],
+    pub tests: [FilterTest; FILTER_TESTS],
 }
 
 /// `struct wolfaren_filter_error`: where the text of a filter is wrong, and what is expected there.
@@ -136,8 +137,8 @@ const _: () = {
     assert!(size_of::<Payload>() == 32);
     assert!(size_of::<Dissection>() == 104);
     assert!(size_of::<Cursor>() == 16);
-    assert!(size_of::<FilterStep>() == 40);
-    assert!(size_of::<Filter>() == 5088);
+    assert!(size_of::<FilterTest>() == 32);
+    assert!(size_of::<Filter>() == 2056);
     assert!(size_of::<FilterError>() == 16);
     assert!(size_of::<Statistics>() == 8152);
 };
@@ -324,16 +325,15 @@ pub(crate) fn fault_at(cursor: &Cursor, bytes: &[u8]) -> Fault {
 }
 
 impl Filter {
-    /// Returns the steps that are used.
-    pub(crate) fn used(&self) -> &[FilterStep] {
-        &self.steps[..self.count.min(FILTER_STEPS)]
+    /// Returns the tests that are used.
+    pub(crate) fn used(&self) -> &[FilterTest] {
+        &self.tests[..self.count.min(FILTER_TESTS)]
     }
 }
 
 /// Parses the text of a filter.
 pub(crate) fn parse_filter(text: &[u8]) -> Result<Filter, FilterError> {
-    let step = FilterStep {
-        nots: 0,
+    let unused = FilterTest {
         number: 0,
         address_high: 0,
         address_low: 0,
@@ -341,10 +341,12 @@ pub(crate) fn parse_filter(text: &[u8]) -> Result<Filter, FilterError> {
         comparison: 0,
         version: 0,
         prefix_len: 0,
+        if_met: 0,
+        if_not: 0,
     };
     let mut filter = Filter {
         count: 0,
-        steps: [step; FILTER_STEPS],
+        tests: [unused; FILTER_TESTS],
     };
     let mut error = MaybeUninit::uninit();
     // SAFETY: the text is a slice, which the call only reads. The filter is borrowed exclusively; any numbers are one.

@@ -6,7 +6,7 @@ from collections.abc import Callable
 
 from ._library import Buffer, ffi, lib
 
-_STEP_FIELDS = [name for name, _ in ffi.typeof("struct wolfaren_filter_step").fields]
+_TEST_FIELDS = [name for name, _ in ffi.typeof("struct wolfaren_filter_test").fields]
 
 
 class FilterError(ValueError):
@@ -44,8 +44,8 @@ class Filter:
 
     Numbers are decimal, or hexadecimal after 0x. Raises `FilterError`, a `ValueError`, for any other text.
 
-    Filters are equal if their texts differ only in how terms, operators and numbers are spelled, as `header frag` and
-    `header 0x2c`, in white space and in needless parentheses.
+    Filters are equal if their texts compile to the same program, as `not (fault or truncated)` and
+    `not fault and not truncated` do.
     """
 
     __slots__ = ("text", "_filter")
@@ -68,17 +68,17 @@ class Filter:
         """Returns whether a frame without an IP packet meets the condition, as it meets `not fault`."""
         return bool(lib.wolfaren_filter_matches_other(self._filter))
 
-    def _steps(self) -> tuple[tuple[int, ...], ...]:
-        steps = self._filter.steps[0:self._filter.count]
-        return tuple(tuple(getattr(step, name) for name in _STEP_FIELDS) for step in steps)
+    def _program(self) -> tuple[tuple[int, ...], ...]:
+        tests = self._filter.tests[0:self._filter.count]
+        return tuple(tuple(getattr(test, name) for name in _TEST_FIELDS) for test in tests)
 
     def __eq__(self, other: object) -> bool:
         if not isinstance(other, Filter):
             return NotImplemented
-        return self._steps() == other._steps()
+        return self._program() == other._program()
 
     def __hash__(self) -> int:
-        return hash(self._steps())
+        return hash(self._program())
 
     def __str__(self) -> str:
         return self.text

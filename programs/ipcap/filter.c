@@ -10,15 +10,18 @@
 #include "commands.h"
 #include "input.h"
 #include "options.h"
+#include "program.h"
 #include "report.h"
 #include "wolfaren.h"
 
 static const char usage[] =
     "usage: ipcap filter [-w FILE] COND [FILE]\n"
+    "       ipcap filter --show COND\n"
     "Writes the packets of FILE, or standard input, that meet a condition.\n"
     "  COND       terms such as `fragment`, `header 44` or `payload > 1000`, combined with `not`, `and`, `or` and\n"
     "             parentheses; the manual page has all of them\n"
     "  -w FILE    write to this file instead of standard output\n"
+    "  --show     print the tests that the condition is compiled to, and read no packets\n"
     "  --help     print this help\n"
     "  --version  print the version\n";
 
@@ -27,6 +30,7 @@ struct request {
     struct wolfaren_filter condition;
     const char *input;
     const char *output;
+    bool is_shown; /* whether the condition is printed, and no capture is read */
 };
 
 /* The capture that is written. */
@@ -107,6 +111,13 @@ static bool filter_capture(const struct request *request)
         && filter_packets(request, &output, &input.capture);
     if (output.dumper) pcap_dump_close(output.dumper);
     return close_input(&input) && is_done;
+}
+
+static bool show_condition(const struct request *request)
+{
+    errno = 0;
+    print_program(&request->condition);
+    return finish_output();
 }
 
 /* The arguments, joined with spaces. */
@@ -205,6 +216,8 @@ static int read_operands(struct request *request, int count, char *const *argume
     if (taken == 0) return refuse_usage(usage, NULL);
     if (count - taken > 1) return refuse_usage(usage, "filter reads only one file");
     request->input = taken < count ? arguments[taken] : NULL;
+    if (request->is_shown)
+        return request->input || request->output ? refuse_usage(usage, "--show takes only a condition") : -1;
     if (is_standard_stream(request->output) && isatty(STDOUT_FILENO))
         return refuse_usage(usage, "refusing to write a capture to a terminal: use -w or a pipe");
     return -1;
@@ -212,13 +225,17 @@ static int read_operands(struct request *request, int count, char *const *argume
 
 int run_filter(int count, char **arguments)
 {
-    static const struct option options[] = {
-        {"help", no_argument, NULL, OPTION_HELP}, {"version", no_argument, NULL, OPTION_VERSION}, {NULL, 0, NULL, 0}};
+    static const struct option options[] = {{"show", no_argument, NULL, OPTION_SHOW},
+                                            {"help", no_argument, NULL, OPTION_HELP},
+                                            {"version", no_argument, NULL, OPTION_VERSION},
+                                            {NULL, 0, NULL, 0}};
     struct request request = {0};
     int option;
     while ((option = getopt_long(count, arguments, "hw:", options, NULL)) != -1) {
         if (option == 'w')
             request.output = optarg;
+        else if (option == OPTION_SHOW)
+            request.is_shown = true;
         else if (option == OPTION_HELP || option == 'h')
             return print_help(usage);
         else if (option == OPTION_VERSION)
@@ -228,5 +245,6 @@ int run_filter(int count, char **arguments)
     }
     int status = read_operands(&request, count - optind, arguments + optind);
     if (status >= 0) return status;
-    return filter_capture(&request) ? STATUS_DONE : STATUS_FAILED;
+    bool is_done = request.is_shown ? show_condition(&request) : filter_capture(&request);
+    return is_done ? STATUS_DONE : STATUS_FAILED;
 }

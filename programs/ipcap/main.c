@@ -9,6 +9,7 @@ static const char usage[] =
     "usage: ipcap stat [--json] [FILE..]\n"
     "       ipcap sum [--json]\n"
     "       ipcap filter [-w FILE] COND [FILE]\n"
+    "       ipcap filter --show COND\n"
     "       ipcap show [--color=WHEN] [FILE]\n"
     "       ipcap --help | --version\n"
     "Counts, filters and draws chains of IP extension headers in captures.\n"

@@ -5,7 +5,7 @@
 #include <stdbool.h>
 
 /* Values that getopt_long returns for options without a short form. */
-enum { OPTION_HELP = 256, OPTION_VERSION, OPTION_JSON, OPTION_COLOR };
+enum { OPTION_HELP = 256, OPTION_VERSION, OPTION_JSON, OPTION_COLOR, OPTION_SHOW };
 
 /* Writes the version to standard output and returns the exit status. */
 int print_version(void);

@@ -25,6 +25,7 @@ GROUPS = [("link layers", test_link_layers.link_layers), ("short frames", test_l
           ("sums of parts", test_sum.sums), ("malformed JSON", test_sum.malformed), ("damaged JSON", test_sum.damaged),
           ("versions of JSON", test_sum.versions), ("largest counts", test_sum.largest_counts),
           ("bounds of tables", test_sum.bounds), ("conditions", test_filter.conditions),
+          ("programs of conditions", test_filter.programs),
           ("forms of what is written", test_filter.forms_of_files), ("between programs", test_filter.between_programs),
           ("conditions and outputs that are refused", test_filter.what_is_refused), ("drawings", test_show.drawings),
           ("places of faults", test_show.places_of_faults), ("long packets", test_show.long_packets),

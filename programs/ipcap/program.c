@@ -1,0 +1,118 @@
+#include "program.h"
+
+#include <arpa/inet.h>
+#include <stdio.h>
+
+#define FLAG(number) (UINT64_C(1) << (number))
+
+enum { TERM_WIDTH = 32, INDEX_ROOM = 24 };
+
+/* The terms for flags. A term for several flags precedes those for each of them. */
+static const struct {
+    uint64_t flags;
+    const char *term;
+} flag_terms[] = {
+    {FLAG(WOLFAREN_FLAG_IPV4), "version 4"},
+    {FLAG(WOLFAREN_FLAG_IPV6), "version 6"},
+    {FLAG(WOLFAREN_HOP_BY_HOP), "header 0"},
+    {FLAG(WOLFAREN_ROUTING), "header 43"},
+    {FLAG(WOLFAREN_FRAGMENT), "header 44"},
+    {FLAG(WOLFAREN_AUTHENTICATION), "header 51"},
+    {FLAG(WOLFAREN_DESTINATION_OPTIONS), "header 60"},
+    {FLAG(WOLFAREN_FLAG_FIRST_FRAGMENT) | FLAG(WOLFAREN_FLAG_LATER_FRAGMENT), "fragment"},
+    {FLAG(WOLFAREN_FLAG_FIRST_FRAGMENT), "first-fragment"},
+    {FLAG(WOLFAREN_FLAG_LATER_FRAGMENT), "later-fragment"},
+    {FLAG(WOLFAREN_FLAG_TRUNCATED), "truncated"},
+    {FLAG(WOLFAREN_FLAG_INCOMPLETE), "incomplete"},
+    {FLAG(WOLFAREN_FLAG_TOO_SHORT) | FLAG(WOLFAREN_FLAG_HOP_BY_HOP_NOT_AT_START) | FLAG(WOLFAREN_FLAG_ZERO_PAYLOAD_LEN)
+         | FLAG(WOLFAREN_FLAG_UNSUPPORTED_IP_VERSION) | FLAG(WOLFAREN_FLAG_IPV4_HEADER_LENGTH), "fault"},
+    {FLAG(WOLFAREN_FLAG_TOO_SHORT), "fault too-short"},
+    {FLAG(WOLFAREN_FLAG_HOP_BY_HOP_NOT_AT_START), "fault not-at-start"},
+    {FLAG(WOLFAREN_FLAG_ZERO_PAYLOAD_LEN), "fault zero-length"},
+    {FLAG(WOLFAREN_FLAG_UNSUPPORTED_IP_VERSION), "fault unsupported-version"},
+    {FLAG(WOLFAREN_FLAG_IPV4_HEADER_LENGTH), "fault header-length"},
+};
+
+static const char *const comparisons[] = {
+    [WOLFAREN_EQUAL] = "=",    [WOLFAREN_NOT_EQUAL] = "!=", [WOLFAREN_LESS] = "<",
+    [WOLFAREN_AT_MOST] = "<=", [WOLFAREN_GREATER] = ">",    [WOLFAREN_AT_LEAST] = ">=",
+};
+
+/* Prints the terms of which one has to hold, and returns the length. */
+static int print_flags(const char *word, const struct wolfaren_filter_test *test)
+{
+    uint64_t left = test->number;
+    int len = 0;
+    (void)word;
+    for (size_t i = 0; i < sizeof flag_terms / sizeof *flag_terms; i++) {
+        uint64_t flags = flag_terms[i].flags;
+        if ((left & flags) != flags) continue;
+        len += printf("%s%s", len ? " or " : "", flag_terms[i].term);
+        left &= ~flags;
+    }
+    return len ? len : printf("never");
+}
+
+static int print_number(const char *word, const struct wolfaren_filter_test *test)
+{
+    return printf("%s %llu", word, (unsigned long long)test->number);
+}
+
+static int print_count(const char *word, const struct wolfaren_filter_test *test)
+{
+    return printf("%s %s %llu", word, comparisons[test->comparison], (unsigned long long)test->number);
+}
+
+static int print_network(const char *word, const struct wolfaren_filter_test *test)
+{
+    uint8_t address[16];
+    char text[INET6_ADDRSTRLEN];
+    for (int i = 0; i < 8; i++) {
+        address[i] = (uint8_t)(test->address_high >> (56 - 8 * i));
+        address[8 + i] = (uint8_t)(test->address_low >> (56 - 8 * i));
+    }
+    if (test->version == 4)
+        inet_ntop(AF_INET, address + 12, text, sizeof text);
+    else
+        inet_ntop(AF_INET6, address, text, sizeof text);
+    return printf("%s %s/%d", word, text, test->prefix_len);
+}
+
+/* How each kind of test is printed: by a function, which returns the length, with the word for the kind. */
+static const struct {
+    int (*print)(const char *word, const struct wolfaren_filter_test *test);
+    const char *word;
+} kinds[] = {
+    [WOLFAREN_TEST_FLAGS] = {print_flags, ""},
+    [WOLFAREN_TEST_LEADS_TO] = {print_number, "leads-to"},
+    [WOLFAREN_TEST_HEADERS] = {print_count, "headers"},
+    [WOLFAREN_TEST_CHAIN_BYTES] = {print_count, "chain-bytes"},
+    [WOLFAREN_TEST_PAYLOAD] = {print_count, "payload"},
+    [WOLFAREN_TEST_SECURITY_PARAMETERS] = {print_number, "spi"},
+    [WOLFAREN_TEST_IDENTIFICATION] = {print_number, "id"},
+    [WOLFAREN_TEST_SOURCE] = {print_network, "src"},
+    [WOLFAREN_TEST_DESTINATION] = {print_network, "dst"},
+    [WOLFAREN_TEST_EITHER] = {print_network, "net"},
+};
+
+/* Writes the index of a test, or what another index means. */
+static void write_index(size_t index, size_t count, char text[INDEX_ROOM])
+{
+    if (index < count)
+        snprintf(text, INDEX_ROOM, "%zu", index);
+    else
+        snprintf(text, INDEX_ROOM, "%s", index == WOLFAREN_FILTER_PASSED ? "pass" : "refuse");
+}
+
+void print_program(const struct wolfaren_filter *filter)
+{
+    char if_met[INDEX_ROOM], if_not[INDEX_ROOM];
+    for (size_t i = 0; i < filter->count; i++) {
+        const struct wolfaren_filter_test *test = &filter->tests[i];
+        printf("(%03zu) ", i);
+        int len = kinds[test->kind].print(kinds[test->kind].word, test);
+        write_index(test->if_met, filter->count, if_met);
+        write_index(test->if_not, filter->count, if_not);
+        printf("%*s jt %-6s jf %s\n", len < TERM_WIDTH ? TERM_WIDTH - len : 0, "", if_met, if_not);
+    }
+}

@@ -3,8 +3,7 @@ use crate::sums::Digest;
 
 #[repr(C)]
 #[derive(Clone, Copy)]
-struct Step {
-    nots: u64,
+struct Test {
     number: u64,
     address_high: u64,
     address_low: u64,
@@ -12,27 +11,30 @@ struct Step {
     comparison: u8,
     version: u8,
     prefix_len: u8,
+    if_met: u8,
+    if_not: u8,
 }
 
 #[repr(C)]
 struct Filter {
     count: usize,
-    steps: [Step; 127],
+    tests: [Test; 64],
 }
 
-/// The filter `header 44`: its only step is of kind `WOLFAREN_STEP_HEADER`.
+/// The filter `header 44`: its only test is of kind `WOLFAREN_TEST_FLAGS`.
 static HEADER_44: Filter = Filter {
     count: 1,
-    steps: [Step {
-        nots: 0,
-        number: 44,
+    tests: [Test {
+        number: 1 << 44,
         address_high: 0,
         address_low: 0,
-        kind: 2,
+        kind: 1,
         comparison: 0,
         version: 0,
         prefix_len: 0,
-    }; 127],
+        if_met: 64,
+        if_not: 65,
+    }; 64],
 };
 
 unsafe extern "C" {

@@ -37,7 +37,7 @@
 /* The version as one number, for #if: 10000 * major + 100 * minor + patch. */
 #define WOLFAREN_VERSION (10000 * WOLFAREN_VERSION_MAJOR + 100 * WOLFAREN_VERSION_MINOR + WOLFAREN_VERSION_PATCH)
 
-/* A checksum of the structs, codes and calls in this header, made by scripts/abi of the repository. */
+/* A checksum of the structs, numbers and calls in this header, made by scripts/abi of the repository. */
 #define WOLFAREN_ABI 0x0bb066eau
 
 #if !(defined(__x86_64__) && !defined(__ILP32__)) && !defined(_M_X64) && !defined(__aarch64__) && !defined(_M_ARM64)
@@ -489,7 +489,7 @@ bool wolfaren_write_headers(const uint8_t *bytes, size_t len, const struct wolfa
  */
 size_t wolfaren_fault_text(const struct wolfaren_fault *fault, char *text, size_t room) WOLFAREN_NONNULL(1);
 
-/* The greatest number of tests that a filter uses, and the index that means that the packet passes. */
+/* The greatest number of tests that a filter uses, and the index to which a packet that passes is led. */
 #define WOLFAREN_FILTER_TESTS 64
 #define WOLFAREN_FILTER_PASSED 64
 
@@ -508,8 +508,8 @@ enum wolfaren_test {
 };
 
 /*
- * The flags of a packet. A flag is a bit of the `number` of a test: 1 << WOLFAREN_FLAG_IPV4. Bits 0, 43, 44, 51 and 60
- * are set if an extension header has this protocol number.
+ * The flags of a packet, as bits of a test's `number`: WOLFAREN_FLAG_IPV4 is the bit 1 << 4. Bits 0, 43, 44, 51 and 60
+ * are the flags of extension headers with these protocol numbers.
  */
 enum wolfaren_flag {
     WOLFAREN_FLAG_IPV4 = 4,                    /* the packet has an IPv4 header */
@@ -538,7 +538,7 @@ enum wolfaren_comparison {
 /* A test of a filter. Fields that its kind doesn't use are ignored. */
 struct wolfaren_filter_test {
     uint64_t number;       /* flags, the number of a term, or what a count is compared with */
-    uint64_t address_high; /* bytes 0 to 7 of an IPv6 network's address, as a big-endian number */
+    uint64_t address_high; /* bytes 0 to 7 of an IPv6 network's address, as a big-endian number; ignored for IPv4 */
     uint64_t address_low;  /* bytes 8 to 15 of it, or the address of an IPv4 network */
     uint8_t kind;          /* WOLFAREN_TEST_FLAGS .. */
     uint8_t comparison;    /* WOLFAREN_EQUAL .. */
@@ -549,10 +549,10 @@ struct wolfaren_filter_test {
 };
 
 /*
- * A filter is a program. A packet starts at the test with index 0, and each test leads it to another one. It passes, and
- * so the filter matches it, if it is led to WOLFAREN_FILTER_PASSED. It doesn't pass if it is led to any other index
- * without a test, or to an index that isn't greater than that of the test. wolfaren_parse_filter makes a program from a
- * text: each term becomes one test, in the order of the text, and `and`, `or` and `not` determine where tests lead.
+ * A filter is a program. A packet starts at the test with index 0, and each test leads it to another one. The filter
+ * matches a packet that is led to WOLFAREN_FILTER_PASSED. It doesn't match one that is led to any other index without a
+ * test, or from a test to an index that isn't greater. wolfaren_parse_filter makes a program from a text: each term
+ * becomes one test, in the order of the text, and `and`, `or` and `not` determine where tests lead.
  *
  * A filter is plain data, which a program may copy, store and modify. Any contents are valid: a count above
  * WOLFAREN_FILTER_TESTS means WOLFAREN_FILTER_TESTS, and no packet meets a test with an unknown code or with a number

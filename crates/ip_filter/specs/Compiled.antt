@@ -16,11 +16,11 @@ abbrev pub terms_of_all : List Formula → ℕ
 terms_of_all [] = 0
 terms_of_all (f ∷ fs) = terms_of f + terms_of_all fs
 
--- The tests xs, of which the first has the index i, lead the frame to index 64 if the formula holds of it, otherwise to 65.
+-- The tests `xs`, of which the first has the index i, lead the frame to index 64 if the formula holds of it, otherwise to 65.
 abbrev pub Decide : Option (List ℕ) → Formula → ℕ → List Test → Type 0
 Decide frame f i xs = led_to (frame_meets frame) i i xs ≡ (if truth f (frame_holds frame) then 64 else 65)
 
--- The tests xs are those of the formulas, the last formula first: each formula's start at an index of `starts`.
+-- The tests `xs` are those of the formulas, the last formula first: each formula's start at an index of `starts`.
 abbrev pub AreCompiled : Option (List ℕ) → List Formula → List ℕ → List Test → Type 0
 AreCompiled frame [] starts xs = (starts ≡ []) × (xs ≡ [])
 AreCompiled frame (f ∷ fs) starts xs =

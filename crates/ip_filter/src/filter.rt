@@ -2,6 +2,10 @@
 
 /// A test of a packet, in plain numbers. Fields that its kind doesn't use are ignored. No packet meets a test whose kind or
 /// other code is unknown, or whose number is too large.
+///
+/// Flags are bits: that of the number of an extension header, 0, 43, 44, 51 or 60, says that there is one; 4 and 6 are the
+/// versions, 8 a first and 9 a later fragment, 10 missing bytes, 11 a truncated header, and 12 to 16 a faulty one, in the
+/// order of `FaultKind`.
 #[repr(C)]
 #[derive(Clone, Copy, Debug, PartialEq, Eq)]
 pub struct Test {

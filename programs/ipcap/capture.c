@@ -124,6 +124,13 @@ bool read_packet(struct capture *capture, struct packet *packet)
     return true;
 }
 
+struct timespec time_of(const struct capture *capture, const struct packet *packet)
+{
+    bool is_nano = pcap_get_tstamp_precision(capture->handle) == PCAP_TSTAMP_PRECISION_NANO;
+    const struct timeval *time = &packet->header.ts;
+    return (struct timespec){time->tv_sec, is_nano ? time->tv_usec : time->tv_usec * 1000};
+}
+
 bool is_read_whole(const struct capture *capture)
 {
     return *capture->error == '\0';

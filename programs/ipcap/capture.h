@@ -7,6 +7,7 @@
 #include <stddef.h>
 #include <stdint.h>
 #include <stdio.h>
+#include <time.h>
 
 #include "link_layer.h"
 
@@ -47,6 +48,9 @@ bool open_capture(struct capture *capture, const char *path);
 
 /* Reads the next packet and returns true. At the end, and on failure, which sets `error`, returns false. */
 bool read_packet(struct capture *capture, struct packet *packet);
+
+/* Returns the time of a packet that was read. */
+struct timespec time_of(const struct capture *capture, const struct packet *packet);
 
 /* Whether the capture was read to its end. */
 bool is_read_whole(const struct capture *capture);

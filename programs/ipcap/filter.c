@@ -1,13 +1,15 @@
 /* The subcommand `filter`. */
 #include <errno.h>
 #include <getopt.h>
+#include <stddef.h>
 #include <stdio.h>
-#include <stdlib.h>
 #include <string.h>
 #include <sys/stat.h>
 #include <unistd.h>
 
+#include "arguments.h"
 #include "commands.h"
+#include "condition.h"
 #include "input.h"
 #include "options.h"
 #include "program.h"
@@ -15,102 +17,179 @@
 #include "wolfaren.h"
 
 static const char usage[] =
-    "usage: ipcap filter [-w FILE] COND [FILE]\n"
+    "usage: ipcap filter [-c N] [-w OUTPUT] COND [FILE..]\n"
+    "       ipcap filter [-c N] [-w OUTPUT] -r FILE COND\n"
     "       ipcap filter --show COND\n"
-    "Writes the packets of FILE, or standard input, that meet a condition.\n"
-    "  COND       terms such as `fragment`, `header 44` or `payload > 1000`, combined with `not`, `and`, `or` and\n"
-    "             parentheses; the manual page has all of them\n"
-    "  -w FILE    write to this file instead of standard output\n"
-    "  --show     print the tests that the condition is compiled to, and read no packets\n"
-    "  --help     print this help\n"
-    "  --version  print the version\n";
+    "Writes the packets of each FILE, or standard input, that meet a condition.\n"
+    "  COND        terms such as `fragment`, `header 44` or `payload > 1000`, combined with `not`, `and`, `or` and\n"
+    "              parentheses; the manual page has all of them\n"
+    "  -c N        stop after N packets that meet the condition\n"
+    "  -n          accepted as for tcpdump, and ignored\n"
+    "  -r FILE     read this file, as tcpdump does: all operands are then the condition\n"
+    "  -w OUTPUT   write to this file instead of standard output\n"
+    "  --show      print the tests that the condition is compiled to, and read no packets\n"
+    "  --help      print this help\n"
+    "  --version   print the version\n";
 
 /* The parsed arguments. */
 struct request {
     struct wolfaren_filter condition;
-    const char *input;
+    const char *input;        /* the file of `-r`, or null */
+    const char *const *files; /* the paths to read */
+    int file_count;
     const char *output;
-    bool is_shown; /* whether the condition is printed, and no capture is read */
+    uint64_t most;   /* how many packets are written at most */
+    bool is_numeric; /* ignored */
+    bool is_shown;   /* whether the condition is printed, and no capture is read */
 };
 
-/* The capture that is written. */
+static const struct option_row options[] = {
+    {"c", read_count_argument, offsetof(struct request, most), "a number above 0"},
+    {"n", set_flag, offsetof(struct request, is_numeric), NULL},
+    {"r", read_text_argument, offsetof(struct request, input), "a path"},
+    {"w", read_text_argument, offsetof(struct request, output), "a path"},
+    {"show", set_flag, offsetof(struct request, is_shown), NULL},
+};
+
+/* The snap length of an output for several files: libpcap's greatest one for the link layers that are supported. */
+enum { MOST_SNAP_LEN = 262144 };
+
+/* The capture that is written. Its link layer is that of the first file. */
 struct output {
     const char *name;
     pcap_dumper_t *dumper;
+    const char *first; /* name of the first file */
+    int link_layer;
+    uint64_t written;  /* number of packets */
+    bool has_failed;   /* nothing more can be written */
 };
 
-/* Whether a path names the input file, which opening for writing would truncate. */
-static bool is_input(const struct capture *capture, const char *path)
+static bool refuse_output(struct output *output, const char *words)
 {
-    struct stat input, output;
-    return fstat(fileno(capture->file), &input) == 0 && stat(path, &output) == 0 && S_ISREG(output.st_mode)
-        && input.st_dev == output.st_dev && input.st_ino == output.st_ino;
-}
-
-static bool refuse_output(const struct output *output, const char *words)
-{
+    output->has_failed = true;
     complain("%s: %s", output->name, words);
     return false;
 }
 
+/* Whether the output is one of the files to read, which opening it for writing would truncate. */
+static bool is_input(const struct request *request)
+{
+    struct stat input, output;
+    if (stat(request->output, &output) != 0 || !S_ISREG(output.st_mode)) return false;
+    for (int i = 0; i < request->file_count; i++) {
+        const char *path = request->files[i];
+        if ((is_standard_stream(path) ? fstat(STDIN_FILENO, &input) : stat(path, &input)) != 0) continue;
+        if (input.st_dev == output.st_dev && input.st_ino == output.st_ino) return true;
+    }
+    return false;
+}
+
 /* Flushes the output. On failure, reports why; for that, `errno` must have been 0 before the data was written. */
-static bool flush_output(const struct output *output)
+static bool flush_output(struct output *output)
 {
     if (pcap_dump_flush(output->dumper) == 0 && !ferror(pcap_dump_file(output->dumper))) return true;
     return refuse_output(output, errno ? strerror(errno) : "write failed");
 }
 
-/* Opens the output, with the link layer, snap length and timestamp precision of the input. */
-static bool open_output(struct output *output, const struct capture *capture, const char *path)
+/* Writes the head of the output, in the form of `handle`, to the file, which is closed if that fails. */
+static bool begin_output(struct output *output, pcap_t *handle, FILE *file)
 {
-    bool is_standard = is_standard_stream(path);
-    output->name = is_standard ? "standard output" : path;
-    if (!is_standard && is_input(capture, path)) return refuse_output(output, "input and output are the same file");
-    FILE *file = is_standard ? stdout : fopen(path, "wb");
-    if (!file) return refuse_output(output, strerror(errno));
     errno = 0;
-    output->dumper = pcap_dump_fopen(capture->handle, file);
-    if (output->dumper) return !capture->is_live || flush_output(output);
-    if (!is_standard) fclose(file);
-    return refuse_output(output, pcap_geterr(capture->handle));
+    output->dumper = pcap_dump_fopen(handle, file);
+    if (output->dumper) return true;
+    if (file != stdout) fclose(file);
+    return refuse_output(output, pcap_geterr(handle));
+}
+
+/* Begins an output for several files, which keeps all bytes and timestamps of any of them. */
+static bool begin_joint_output(struct output *output, FILE *file)
+{
+    pcap_t *handle = pcap_open_dead_with_tstamp_precision(output->link_layer, MOST_SNAP_LEN, PCAP_TSTAMP_PRECISION_NANO);
+    if (!handle) {
+        if (file != stdout) fclose(file);
+        return refuse_output(output, "out of memory");
+    }
+    bool is_begun = begin_output(output, handle, file);
+    pcap_close(handle);
+    return is_begun;
+}
+
+/* Opens the output. For a single file, it has the snap length and timestamp precision of that. */
+static bool open_output(struct output *output, const struct request *request, const struct capture *capture)
+{
+    bool is_standard = is_standard_stream(request->output);
+    output->name = is_standard ? "standard output" : request->output;
+    output->first = capture->name;
+    output->link_layer = pcap_datalink(capture->handle);
+    if (!is_standard && is_input(request)) return refuse_output(output, "input and output are the same file");
+    FILE *file = is_standard ? stdout : fopen(request->output, "wb");
+    if (!file) return refuse_output(output, strerror(errno));
+    bool is_begun = request->file_count == 1 ? begin_output(output, capture->handle, file)
+                                             : begin_joint_output(output, file);
+    return is_begun && (!capture->is_live || flush_output(output));
+}
+
+/* Whether a capture has the link layer of the output. If not, reports it. */
+static bool has_link_layer(const struct output *output, const struct capture *capture)
+{
+    int link_layer = pcap_datalink(capture->handle);
+    if (link_layer == output->link_layer) return true;
+    const char *name = pcap_datalink_val_to_name(link_layer), *first = pcap_datalink_val_to_name(output->link_layer);
+    complain("%s: link layer %s, but that of %s is %s", capture->name, name ? name : "unknown", output->first,
+             first ? first : "unknown");
+    return false;
 }
 
 /* Writes a packet. Flushes it immediately if the input is live. */
-static bool write_packet(const struct output *output, const struct capture *capture, const struct packet *packet)
+static bool write_packet(struct output *output, const struct request *request, const struct capture *capture,
+                         const struct packet *packet)
 {
+    struct pcap_pkthdr header = packet->header;
+    if (request->file_count > 1) header.ts.tv_usec = time_of(capture, packet).tv_nsec;
     errno = 0;
-    pcap_dump((u_char *)output->dumper, &packet->header, packet->frame);
+    pcap_dump((u_char *)output->dumper, &header, packet->frame);
+    output->written++;
     if (capture->is_live || ferror(pcap_dump_file(output->dumper))) return flush_output(output);
     return true;
 }
 
-static bool does_match(const struct wolfaren_filter *condition, const struct packet *packet)
+static bool does_match(const struct request *request, const struct packet *packet)
 {
-    if (!packet->is_ip) return wolfaren_filter_matches_other(condition);
-    return wolfaren_filter_matches(condition, packet->frame + packet->ip_offset,
+    if (!packet->is_ip) return wolfaren_filter_matches_other(&request->condition);
+    return wolfaren_filter_matches(&request->condition, packet->frame + packet->ip_offset,
                                    packet->header.caplen - packet->ip_offset);
 }
 
-static bool filter_packets(const struct request *request, const struct output *output, struct capture *capture)
+static bool filter_packets(const struct request *request, struct output *output, struct capture *capture)
 {
     struct packet packet;
     bool is_written = true;
-    while (is_written && read_packet(capture, &packet))
-        if (does_match(&request->condition, &packet)) is_written = write_packet(output, capture, &packet);
+    while (is_written && output->written < request->most && read_packet(capture, &packet))
+        if (does_match(request, &packet)) is_written = write_packet(output, request, capture, &packet);
     errno = 0;
     return is_written && flush_output(output);
 }
 
-static bool filter_capture(const struct request *request)
+/* Filters a file. If it is the first that could be opened, opens the output. */
+static bool filter_file(const struct request *request, struct output *output, const char *path)
 {
     struct input input;
-    struct output output = {0};
-    if (!open_input(&input, request->input)) return false;
+    if (!open_input(&input, path)) return false;
     if (!is_standard_stream(request->output)) allow_progress(&input);
-    bool is_done = open_output(&output, &input.capture, request->output)
-        && filter_packets(request, &output, &input.capture);
-    if (output.dumper) pcap_dump_close(output.dumper);
+    bool is_open = output->dumper ? has_link_layer(output, &input.capture)
+                                  : open_output(output, request, &input.capture);
+    bool is_done = is_open && filter_packets(request, output, &input.capture);
     return close_input(&input) && is_done;
+}
+
+static bool filter_files(const struct request *request)
+{
+    struct output output = {0};
+    bool is_done = true;
+    for (int i = 0; i < request->file_count && output.written < request->most && !output.has_failed; i++)
+        if (!filter_file(request, &output, request->files[i])) is_done = false;
+    if (output.dumper) pcap_dump_close(output.dumper);
+    return is_done;
 }
 
 static bool show_condition(const struct request *request)
@@ -120,131 +199,44 @@ static bool show_condition(const struct request *request)
     return finish_output();
 }
 
-/* The arguments, joined with spaces. */
-struct text {
-    char *bytes;
-    size_t *ends; /* where each argument ends */
-    int count;
-};
-
-static void free_text(struct text *text)
+/* Whether the first word after the condition is a file. If there is none, reports that. */
+static bool is_file(const char *path)
 {
-    free(text->bytes);
-    free(text->ends);
+    if (is_standard_stream(path) || access(path, F_OK) == 0 || errno != ENOENT) return true;
+    complain("%s: %s; if it belongs to the condition, an `and` may be missing before it", path, strerror(ENOENT));
+    return false;
 }
 
-/* Joins the arguments. If memory runs out, reports it and returns false. */
-static bool join(struct text *text, int count, char *const *arguments)
+/* Determines the files to read: that of `-r`, the operands after the condition, or standard input. */
+static void choose_files(struct request *request, int count, char *const *operands)
 {
-    size_t len = 0;
-    for (int i = 0; i < count; i++) len += strlen(arguments[i]) + 1;
-    *text = (struct text){malloc(len), malloc((size_t)count * sizeof *text->ends), count};
-    if (!text->bytes || !text->ends) {
-        complain_of_memory();
-        free_text(text);
-        return false;
-    }
-    char *end = text->bytes;
-    for (int i = 0; i < count; i++) {
-        size_t size = strlen(arguments[i]);
-        memcpy(end, arguments[i], size);
-        end += size;
-        text->ends[i] = (size_t)(end - text->bytes);
-        *end++ = ' ';
-    }
-    return true;
+    request->files = count > 0 ? (const char *const *)operands : (const char *const *)&request->input;
+    request->file_count = count > 0 ? count : 1;
 }
 
-/* Whether two signs are one word. */
-static bool is_pair(char first, char second)
+/* Parses the condition and the file names after it. Returns -1, or the exit status on an error. */
+static int read_operands(struct request *request, int count, char *const *operands)
 {
-    if (second == '=') return first == '!' || first == '<' || first == '>';
-    return first == second && (first == '&' || first == '|');
-}
-
-/* Returns the length of the word at the start of the `len` bytes: of signs, or of the bytes up to a sign or a space. */
-static size_t word_len(const char *word, size_t len)
-{
-    static const char signs[] = "!&()<=>|", breaks[] = " \t\n\r!&()<=>|";
-    size_t size = 1;
-    if (strchr(signs, word[0])) return len > 1 && is_pair(word[0], word[1]) ? 2 : 1;
-    while (size < len && !strchr(breaks, word[size])) size++;
-    return size;
-}
-
-/* Reports what the condition needs where. */
-static void complain_of_condition(const struct text *text, const struct wolfaren_filter_error *error)
-{
-    char expected[WOLFAREN_TEXT_ROOM];
-    wolfaren_expected_text(error->expected, expected, sizeof expected);
-    size_t left = text->ends[text->count - 1] - error->offset;
-    if (left == 0) {
-        complain("condition: expected %s, found the end", expected);
-        return;
-    }
-    const char *word = text->bytes + error->offset;
-    size_t size = word_len(word, left);
-    complain("condition: expected %s, found '%.*s' in column %zu", expected, size > 40 ? 40 : (int)size, word,
-             error->offset + 1);
-}
-
-/*
- * Parses as many arguments as are a condition, and stores their number. On a syntax error, stores where the text of all
- * arguments is wrong, and 0.
- */
-static int take_condition(struct wolfaren_filter *condition, const struct text *text, struct wolfaren_filter_error *error)
-{
-    struct wolfaren_filter_error later;
-    int taken = text->count;
-    if (wolfaren_parse_filter(text->bytes, text->ends[taken - 1], condition, error)) return taken;
-    while (--taken > 0)
-        if (wolfaren_parse_filter(text->bytes, text->ends[taken - 1], condition, &later)) break;
-    /* The other arguments are file names only if the first of them can't go on with the condition. */
-    return taken > 0 && error->offset == text->ends[taken - 1] + 1 ? taken : 0;
-}
-
-/* Parses the condition and the file name after it. Returns -1, or the exit status on an error. */
-static int read_operands(struct request *request, int count, char *const *arguments)
-{
-    struct text text;
-    struct wolfaren_filter_error error;
+    int taken;
     if (count == 0) return refuse_usage(usage, "filter needs a condition");
-    if (!join(&text, count, arguments)) return STATUS_FAILED;
-    int taken = take_condition(&request->condition, &text, &error);
-    if (taken == 0) complain_of_condition(&text, &error);
-    free_text(&text);
-    if (taken == 0) return refuse_usage(usage, NULL);
-    if (count - taken > 1) return refuse_usage(usage, "filter reads only one file");
-    request->input = taken < count ? arguments[taken] : NULL;
+    int status = read_condition(&request->condition, count, operands, request->input != NULL, &taken);
+    if (status >= 0) return status;
     if (request->is_shown)
-        return request->input || request->output ? refuse_usage(usage, "--show takes only a condition") : -1;
+        return request->input || request->output || taken < count
+            ? refuse_usage(usage, "--show takes only a condition") : -1;
+    if (taken < count && !is_file(operands[taken])) return STATUS_FAILED;
     if (is_standard_stream(request->output) && isatty(STDOUT_FILENO))
         return refuse_usage(usage, "refusing to write a capture to a terminal: use -w or a pipe");
+    choose_files(request, count - taken, operands + taken);
     return -1;
 }
 
 int run_filter(int count, char **arguments)
 {
-    static const struct option options[] = {{"show", no_argument, NULL, OPTION_SHOW},
-                                            {"help", no_argument, NULL, OPTION_HELP},
-                                            {"version", no_argument, NULL, OPTION_VERSION},
-                                            {NULL, 0, NULL, 0}};
-    struct request request = {0};
-    int option;
-    while ((option = getopt_long(count, arguments, "hw:", options, NULL)) != -1) {
-        if (option == 'w')
-            request.output = optarg;
-        else if (option == OPTION_SHOW)
-            request.is_shown = true;
-        else if (option == OPTION_HELP || option == 'h')
-            return print_help(usage);
-        else if (option == OPTION_VERSION)
-            return print_version();
-        else
-            return refuse_usage(usage, NULL);
-    }
-    int status = read_operands(&request, count - optind, arguments + optind);
+    struct request request = {.most = UINT64_MAX};
+    int status = read_options(count, arguments, usage, options, sizeof options / sizeof *options, &request);
+    if (status < 0) status = read_operands(&request, count - optind, arguments + optind);
     if (status >= 0) return status;
-    bool is_done = request.is_shown ? show_condition(&request) : filter_capture(&request);
+    bool is_done = request.is_shown ? show_condition(&request) : filter_files(&request);
     return is_done ? STATUS_DONE : STATUS_FAILED;
 }

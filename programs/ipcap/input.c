@@ -51,7 +51,9 @@ static void show_progress(struct capture *capture)
     if (clock_gettime(CLOCK_MONOTONIC, &now) != 0 || now.tv_sec == input->shown.tv_sec) return;
     input->shown = now;
     input->is_progress_shown = true;
-    fprintf(stderr, "\r\033[K%s: %llu packets", capture->name, (unsigned long long)capture->number);
+    fputs("\r\033[K", stderr);
+    write_escaped(stderr, capture->name);
+    fprintf(stderr, ": %llu packets", (unsigned long long)capture->number);
     off_t at = ftello(capture->file);
     if (input->len > 0 && at >= 0 && at <= input->len)
         fprintf(stderr, ", %d %%", (int)((double)at * 100 / (double)input->len));

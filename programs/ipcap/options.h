@@ -3,24 +3,34 @@
 #define IPCAP_OPTIONS_H
 
 #include <stdbool.h>
+#include <stddef.h>
 
-/* Values that getopt_long returns for options without a short form. */
-enum { OPTION_HELP = 256, OPTION_VERSION, OPTION_JSON, OPTION_COLOR, OPTION_SHOW };
+/* An option of a subcommand. */
+struct option_row {
+    const char *name;                                /* a long name, or a single letter */
+    bool (*read)(const char *argument, void *place); /* one of the calls in arguments.h */
+    size_t place;       /* offset of the value in the struct that the options fill in */
+    const char *wanted; /* what the argument must be, for messages, or null if the option has no argument */
+};
 
-/* Writes the version to standard output and returns the exit status. */
-int print_version(void);
+/* The maximum number of options of a subcommand. */
+enum { MOST_OPTIONS = 16 };
 
 /* Writes the usage text to standard output and returns the exit status. */
 int print_help(const char *usage);
+
+/* Writes the version to standard output and returns the exit status. */
+int print_version(void);
 
 /* Writes the message, if it isn't null, and the usage text to standard error, and returns STATUS_USAGE. */
 int refuse_usage(const char *usage, const char *message);
 
 /*
- * Parses the arguments of a subcommand whose options are `--help`, `--version` and `--json`. Returns -1 if the
- * subcommand should run: `json` is then whether `--json` was given, and `optind` the index of the first operand.
- * Otherwise returns the exit status.
+ * Parses the options of a subcommand: those in the `row_count` rows, whose values are stored in `values`, and `--help`
+ * and `--version`. Returns -1 if the subcommand should run: `optind` is then the index of the first operand. Otherwise
+ * returns the exit status.
  */
-int read_json_option(int count, char **arguments, const char *usage, bool *json);
+int read_options(int count, char **arguments, const char *usage, const struct option_row *rows, size_t row_count,
+                 void *values);
 
 #endif

@@ -1,6 +1,7 @@
 /* The subcommand `show`. */
 #include <errno.h>
 #include <getopt.h>
+#include <stddef.h>
 #include <stdio.h>
 #include <stdlib.h>
 #include <string.h>
@@ -28,8 +29,9 @@ static bool is_color_terminal(void)
     return isatty(STDOUT_FILENO) && terminal && strcmp(terminal, "dumb") != 0;
 }
 
-static bool read_color(const char *when, bool *in_color)
+static bool read_color(const char *when, void *place)
 {
+    bool *in_color = place;
     if (strcmp(when, "always") == 0)
         *in_color = true;
     else if (strcmp(when, "never") == 0)
@@ -97,20 +99,20 @@ static bool show_capture(const char *path, bool in_color)
     return is_shown && finish_output() && is_read;
 }
 
+/* The values of the options. */
+struct request {
+    bool in_color;
+};
+
+static const struct option_row options[] = {
+    {"color", read_color, offsetof(struct request, in_color), "always, never or auto"},
+};
+
 int run_show(int count, char **arguments)
 {
-    static const struct option options[] = {{"color", required_argument, NULL, OPTION_COLOR},
-                                            {"help", no_argument, NULL, OPTION_HELP},
-                                            {"version", no_argument, NULL, OPTION_VERSION},
-                                            {NULL, 0, NULL, 0}};
-    bool in_color = is_color_terminal();
-    int option;
-    while ((option = getopt_long(count, arguments, "h", options, NULL)) != -1) {
-        if (option == OPTION_HELP || option == 'h') return print_help(usage);
-        if (option == OPTION_VERSION) return print_version();
-        if (option != OPTION_COLOR) return refuse_usage(usage, NULL);
-        if (!read_color(optarg, &in_color)) return refuse_usage(usage, "--color must be always, never or auto");
-    }
+    struct request request = {.in_color = is_color_terminal()};
+    int status = read_options(count, arguments, usage, options, sizeof options / sizeof *options, &request);
+    if (status >= 0) return status;
     if (count - optind > 1) return refuse_usage(usage, "show reads only one file");
-    return show_capture(optind < count ? arguments[optind] : NULL, in_color) ? STATUS_DONE : STATUS_FAILED;
+    return show_capture(optind < count ? arguments[optind] : NULL, request.in_color) ? STATUS_DONE : STATUS_FAILED;
 }

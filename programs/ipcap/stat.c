@@ -1,9 +1,11 @@
 /* The subcommands `stat` and `sum`. */
 #include <errno.h>
 #include <getopt.h>
+#include <stddef.h>
 #include <stdio.h>
 #include <string.h>
 
+#include "arguments.h"
 #include "commands.h"
 #include "counts.h"
 #include "input.h"
@@ -25,6 +27,19 @@ static const char sum_usage[] =
     "  --json     print a JSON object instead of tables\n"
     "  --help     print this help\n"
     "  --version  print the version\n";
+
+/* The values of the options. */
+struct request {
+    bool json;
+};
+
+static const struct option_row options[] = {{"json", set_flag, offsetof(struct request, json), NULL}};
+
+static int read_request(struct request *request, int count, char **arguments, const char *usage)
+{
+    *request = (struct request){0};
+    return read_options(count, arguments, usage, options, sizeof options / sizeof *options, request);
+}
 
 /* Counts the packets of a capture. If it can't be read to its end, the packets before that point are counted. */
 static bool count_input(struct counts *counts, const char *path)
@@ -49,14 +64,15 @@ static int finish_counts(struct counts *counts, bool json, bool is_done)
 int run_stat(int count, char **arguments)
 {
     struct counts counts;
-    bool json, is_done = true;
-    int status = read_json_option(count, arguments, stat_usage, &json);
+    struct request request;
+    bool is_done = true;
+    int status = read_request(&request, count, arguments, stat_usage);
     if (status >= 0) return status;
     init_counts(&counts);
     if (optind == count) is_done = count_input(&counts, NULL);
     for (int i = optind; i < count; i++)
         if (!count_input(&counts, arguments[i])) is_done = false;
-    return finish_counts(&counts, json, is_done);
+    return finish_counts(&counts, request.json, is_done);
 }
 
 /* Reads the next object and adds it to the total. */
@@ -91,12 +107,12 @@ static bool add_objects(struct counts *total)
 int run_sum(int count, char **arguments)
 {
     struct counts total;
-    bool json;
-    int status = read_json_option(count, arguments, sum_usage, &json);
+    struct request request;
+    int status = read_request(&request, count, arguments, sum_usage);
     if (status >= 0) return status;
     init_counts(&total);
     if (optind != count) return refuse_usage(sum_usage, "sum reads standard input and takes no file name");
-    if (add_objects(&total)) return finish_counts(&total, json, true);
+    if (add_objects(&total)) return finish_counts(&total, request.json, true);
     free_counts(&total);
     return STATUS_FAILED;
 }

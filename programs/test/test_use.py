@@ -34,6 +34,15 @@ def wrong_usage(harness):
         harness.check("usage: ipcap " in errors, arguments, errors)
 
 
+def names_of_files(harness):
+    """Control characters in the names of files are escaped."""
+    for name, shown in [("a\033[31m\nb\177.pcap", "a\\x1b[31m\\x0ab\\x7f.pcap"), ("é.pcap", "é.pcap")]:
+        wanted = (1, b"", "ipcap: %s: No such file or directory\n" % shown, None)
+        harness.equal(harness.run("show", name), wanted, name)
+        status, _, errors, _ = harness.run("stat", name)
+        harness.equal((status, errors), (1, wanted[2]), name)
+
+
 def full_outputs(harness):
     content = capture([ethernet(ipv6_chain([0, 43]))] * 500)
     path = harness.file(content)

@@ -1,0 +1,16 @@
+/* Reads conditions from the command line. */
+#ifndef IPCAP_CONDITION_H
+#define IPCAP_CONDITION_H
+
+#include <stdbool.h>
+
+#include "wolfaren.h"
+
+/*
+ * Parses the condition in the `count` arguments, which are joined with spaces: in all of them if `is_whole` is set,
+ * otherwise in as many of the first ones as are a condition. `count` must be above 0. Returns -1 and stores the number
+ * of these arguments in `taken`, or reports an error and returns the exit status.
+ */
+int read_condition(struct wolfaren_filter *condition, int count, char *const *arguments, bool is_whole, int *taken);
+
+#endif

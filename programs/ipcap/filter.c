@@ -14,22 +14,25 @@
 #include "options.h"
 #include "program.h"
 #include "report.h"
+#include "terms.h"
 #include "wolfaren.h"
 
 static const char usage[] =
     "usage: ipcap filter [-c N] [-w OUTPUT] COND [FILE..]\n"
     "       ipcap filter [-c N] [-w OUTPUT] -r FILE COND\n"
     "       ipcap filter --show COND\n"
+    "       ipcap filter --help-terms\n"
     "Writes the packets of each FILE, or standard input, that meet a condition.\n"
-    "  COND        terms such as `fragment`, `header 44` or `payload > 1000`, combined with `not`, `and`, `or` and\n"
-    "              parentheses; the manual page has all of them\n"
-    "  -c N        stop after N packets that meet the condition\n"
-    "  -n          accepted as for tcpdump, and ignored\n"
-    "  -r FILE     read this file, as tcpdump does: all operands are then the condition\n"
-    "  -w OUTPUT   write to this file instead of standard output\n"
-    "  --show      print the tests that the condition is compiled to, and read no packets\n"
-    "  --help      print this help\n"
-    "  --version   print the version\n";
+    "  COND          terms such as `fragment`, `header 44` or `payload > 1000`, combined with `not`, `and`, `or` and\n"
+    "                parentheses\n"
+    "  -c N          stop after N packets that meet the condition\n"
+    "  -n            accepted as for tcpdump, and ignored\n"
+    "  -r FILE       read this file, as tcpdump does: all operands are then the condition\n"
+    "  -w OUTPUT     write to this file instead of standard output\n"
+    "  --show        print the tests that the condition is compiled to, and read no packets\n"
+    "  --help-terms  print all terms, each with an example\n"
+    "  --help        print this help\n"
+    "  --version     print the version\n";
 
 /* The parsed arguments. */
 struct request {
@@ -41,6 +44,7 @@ struct request {
     uint64_t most;   /* how many packets are written at most */
     bool is_numeric; /* ignored */
     bool is_shown;   /* whether the condition is printed, and no capture is read */
+    bool has_help;   /* whether the terms are printed, and nothing else is done */
 };
 
 static const struct option_row options[] = {
@@ -49,6 +53,7 @@ static const struct option_row options[] = {
     {"r", read_text_argument, offsetof(struct request, input), "a path"},
     {"w", read_text_argument, offsetof(struct request, output), "a path"},
     {"show", set_flag, offsetof(struct request, is_shown), NULL},
+    {"help-terms", set_flag, offsetof(struct request, has_help), NULL},
 };
 
 /* The snap length of an output for several files: libpcap's greatest one for the link layers that are supported. */
@@ -199,6 +204,13 @@ static bool show_condition(const struct request *request)
     return finish_output();
 }
 
+static bool list_terms(void)
+{
+    errno = 0;
+    print_terms();
+    return finish_output();
+}
+
 /* Whether the first word after the condition is a file. If there is none, reports that. */
 static bool is_file(const char *path)
 {
@@ -235,6 +247,7 @@ int run_filter(int count, char **arguments)
 {
     struct request request = {.most = UINT64_MAX};
     int status = read_options(count, arguments, usage, options, sizeof options / sizeof *options, &request);
+    if (status < 0 && request.has_help) return list_terms() ? STATUS_DONE : STATUS_FAILED;
     if (status < 0) status = read_operands(&request, count - optind, arguments + optind);
     if (status >= 0) return status;
     bool is_done = request.is_shown ? show_condition(&request) : filter_files(&request);

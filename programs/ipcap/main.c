@@ -11,6 +11,7 @@ static const char usage[] =
     "       ipcap filter [-c N] [-w OUTPUT] COND [FILE..]\n"
     "       ipcap filter [-c N] [-w OUTPUT] -r FILE COND\n"
     "       ipcap filter --show COND\n"
+    "       ipcap filter --help-terms\n"
     "       ipcap show [--color=WHEN] [FILE]\n"
     "       ipcap --help | --version\n"
     "Counts, filters and draws chains of IP extension headers in captures.\n"

@@ -25,7 +25,7 @@ GROUPS = [("link layers", test_link_layers.link_layers), ("short frames", test_l
           ("sums of parts", test_sum.sums), ("malformed JSON", test_sum.malformed), ("damaged JSON", test_sum.damaged),
           ("versions of JSON", test_sum.versions), ("largest counts", test_sum.largest_counts),
           ("bounds of tables", test_sum.bounds), ("conditions", test_filter.conditions),
-          ("programs of conditions", test_filter.programs),
+          ("programs of conditions", test_filter.programs), ("lists of terms", test_filter.help_terms),
           ("forms of what is written", test_filter.forms_of_files), ("between programs", test_filter.between_programs),
           ("several files", test_filter.several_files), ("numbers of packets to write", test_filter.counts),
           ("options of tcpdump", test_filter.as_tcpdump), ("wrong conditions", test_filter.wrong_conditions),

@@ -53,6 +53,7 @@ def full_outputs(harness):
                                  (["show", path], b""), (["show"], content), (["filter", "header 0", path], b""),
                                  (["filter", "header 0"], content),
                                  (["filter", "fault", path], b""), (["filter", "--show", "fault"], b""),
+                                 (["filter", "--help-terms"], b""),
                                  (["--help"], b""), (["--version"], b"")]:
             answer = harness.run(*arguments, content=given, output=full)
             harness.equal((answer[0], answer[2]), (1, "ipcap: standard output: No space left on device\n"), arguments)

@@ -1,5 +1,8 @@
 #include "arguments.h"
 
+#include <string.h>
+#include <time.h>
+
 bool set_flag(const char *argument, void *place)
 {
     (void)argument;
@@ -30,4 +33,105 @@ bool read_count_argument(const char *argument, void *place)
 {
     uint64_t *count = place;
     return take_number(&argument, count) && *argument == '\0' && *count > 0;
+}
+
+bool read_range_argument(const char *argument, void *place)
+{
+    struct number_range *range = place;
+    if (!take_number(&argument, &range->first)) return false;
+    range->last = range->first;
+    if (*argument == '-') {
+        argument++;
+        if (!take_number(&argument, &range->last)) return false;
+    }
+    return *argument == '\0' && range->first > 0 && range->first <= range->last;
+}
+
+/* A number of two or four digits, and the characters of which one follows it, or none. */
+struct digits {
+    int count;
+    int least;
+    int most;
+    const char *after;
+};
+
+static const struct digits time_fields[] = {{4, 0, 9999, "-"}, {2, 1, 12, "-"}, {2, 1, 31, "Tt "},
+                                            {2, 0, 23, ":"},   {2, 0, 59, ":"}, {2, 0, 60, ""}};
+static const struct digits offset_fields[] = {{2, 0, 23, ":"}, {2, 0, 59, ""}};
+
+enum { TIME_FIELDS = sizeof time_fields / sizeof *time_fields };
+
+/* Reads digits and the character after them, and advances `text` past these. */
+static bool take_digits(const char **text, const struct digits *digits, int *value)
+{
+    *value = 0;
+    for (int i = 0; i < digits->count; i++, ++*text) {
+        if (**text < '0' || **text > '9') return false;
+        *value = *value * 10 + (**text - '0');
+    }
+    if (*value < digits->least || *value > digits->most) return false;
+    if (*digits->after == '\0') return true;
+    return **text != '\0' && strchr(digits->after, *(*text)++);
+}
+
+/* Reads a point and up to 9 digits, if there is a point, and advances `text` past these. */
+static bool take_fraction(const char **text, long *nanoseconds)
+{
+    long unit = 100000000;
+    *nanoseconds = 0;
+    if (**text != '.') return true;
+    const char *first = ++*text;
+    for (; **text >= '0' && **text <= '9' && unit > 0; ++*text) {
+        *nanoseconds += (**text - '0') * unit;
+        unit /= 10;
+    }
+    return *text > first;
+}
+
+/* Reads an offset from UTC in seconds: `Z`, hours and minutes after a sign, or nothing. */
+static bool take_offset(const char **text, int *seconds)
+{
+    int hours, minutes;
+    char sign = **text;
+    *seconds = 0;
+    if (sign == '\0') return true;
+    ++*text;
+    if (sign == 'Z' || sign == 'z') return true;
+    if (sign != '+' && sign != '-') return false;
+    if (!take_digits(text, &offset_fields[0], &hours) || !take_digits(text, &offset_fields[1], &minutes)) return false;
+    *seconds = (hours * 60 + minutes) * (sign == '-' ? -60 : 60);
+    return true;
+}
+
+/* Converts year, month, day, hours, minutes and seconds to seconds since the epoch. Returns false if there is no such day. */
+static bool read_calendar(const int fields[TIME_FIELDS], time_t *seconds)
+{
+    struct tm date = {.tm_year = fields[0] - 1900, .tm_mon = fields[1] - 1, .tm_mday = fields[2]};
+    *seconds = timegm(&date) + (fields[3] * 60 + fields[4]) * 60 + fields[5];
+    return date.tm_mday == fields[2];
+}
+
+static bool take_date(const char **text, struct timespec *time)
+{
+    int fields[TIME_FIELDS], offset;
+    for (size_t i = 0; i < TIME_FIELDS; i++)
+        if (!take_digits(text, &time_fields[i], &fields[i])) return false;
+    if (!take_fraction(text, &time->tv_nsec) || !take_offset(text, &offset)) return false;
+    if (!read_calendar(fields, &time->tv_sec)) return false;
+    time->tv_sec -= offset;
+    return true;
+}
+
+static bool take_seconds(const char **text, struct timespec *time)
+{
+    uint64_t seconds;
+    if (!take_number(text, &seconds) || seconds > INT64_MAX) return false;
+    time->tv_sec = (time_t)seconds;
+    return take_fraction(text, &time->tv_nsec);
+}
+
+bool read_time_argument(const char *argument, void *place)
+{
+    bool is_read = strchr(argument, '-') ? take_date(&argument, place) : take_seconds(&argument, place);
+    return is_read && *argument == '\0';
 }

@@ -8,13 +8,28 @@
 #include <stdbool.h>
 #include <stdint.h>
 
-/* Sets a bool. For options without an argument. */
+/* Numbers from `first` up to `last`, including both. */
+struct number_range {
+    uint64_t first;
+    uint64_t last;
+};
+
+/* Sets a `bool`. For options without an argument. */
 bool set_flag(const char *argument, void *place);
 
-/* Stores the argument itself: a const char *. */
+/* Stores the argument itself: a `const char *`. */
 bool read_text_argument(const char *argument, void *place);
 
-/* Reads a decimal number above 0: a uint64_t. */
+/* Reads a decimal number above 0: a `uint64_t`. */
 bool read_count_argument(const char *argument, void *place);
+
+/* Reads a number above 0, or two with a hyphen between them, such as `5-10`: a `struct number_range`. */
+bool read_range_argument(const char *argument, void *place);
+
+/*
+ * Reads a time: a `struct timespec`. It is a date and a time of day as in RFC 3339, in UTC if no offset is given, or a number
+ * of seconds since the epoch. Both may have a fraction of up to 9 digits.
+ */
+bool read_time_argument(const char *argument, void *place);
 
 #endif

@@ -128,7 +128,9 @@ struct timespec time_of(const struct capture *capture, const struct packet *pack
 {
     bool is_nano = pcap_get_tstamp_precision(capture->handle) == PCAP_TSTAMP_PRECISION_NANO;
     const struct timeval *time = &packet->header.ts;
-    return (struct timespec){time->tv_sec, is_nano ? time->tv_usec : time->tv_usec * 1000};
+    /* the format has unsigned seconds, which libpcap reads as signed numbers of 32 bits */
+    time_t seconds = time->tv_sec < 0 ? (time_t)(uint32_t)time->tv_sec : time->tv_sec;
+    return (struct timespec){seconds, is_nano ? time->tv_usec : time->tv_usec * 1000};
 }
 
 bool is_read_whole(const struct capture *capture)

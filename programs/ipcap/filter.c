@@ -18,8 +18,8 @@
 #include "wolfaren.h"
 
 static const char usage[] =
-    "usage: ipcap filter [-c N] [-w OUTPUT] COND [FILE..]\n"
-    "       ipcap filter [-c N] [-w OUTPUT] -r FILE COND\n"
+    "usage: ipcap filter [OPTION..] COND [FILE..]\n"
+    "       ipcap filter [OPTION..] -r FILE COND\n"
     "       ipcap filter --show COND\n"
     "       ipcap filter --help-terms\n"
     "Writes the packets of each FILE, or standard input, that meet a condition.\n"
@@ -29,6 +29,9 @@ static const char usage[] =
     "  -n            accepted as for tcpdump, and ignored\n"
     "  -r FILE       read this file, as tcpdump does: all operands are then the condition\n"
     "  -w OUTPUT     write to this file instead of standard output\n"
+    "  --since TIME  only packets from this time on, such as 2026-11-28T08:00:00Z or 1795852800 (seconds since 1970)\n"
+    "  --until TIME  only packets before this time\n"
+    "  --packets A-B only the packets with these numbers in their capture, or with the number A if `-B` is left out\n"
     "  --show        print the tests that the condition is compiled to, and read no packets\n"
     "  --help-terms  print all terms, each with an example\n"
     "  --help        print this help\n"
@@ -42,16 +45,23 @@ struct request {
     int file_count;
     const char *output;
     uint64_t most;   /* how many packets are written at most */
+    struct timespec since, until;
+    struct number_range packets;
     bool is_numeric; /* ignored */
     bool is_shown;   /* whether the condition is printed, and no capture is read */
     bool has_help;   /* whether the terms are printed, and nothing else is done */
 };
+
+static const char time_words[] = "a time such as 2026-11-28T08:00:00Z, or a number of seconds since the epoch";
 
 static const struct option_row options[] = {
     {"c", read_count_argument, offsetof(struct request, most), "a number above 0"},
     {"n", set_flag, offsetof(struct request, is_numeric), NULL},
     {"r", read_text_argument, offsetof(struct request, input), "a path"},
     {"w", read_text_argument, offsetof(struct request, output), "a path"},
+    {"since", read_time_argument, offsetof(struct request, since), time_words},
+    {"until", read_time_argument, offsetof(struct request, until), time_words},
+    {"packets", read_range_argument, offsetof(struct request, packets), "a number above 0, or two such as 5-10"},
     {"show", set_flag, offsetof(struct request, is_shown), NULL},
     {"help-terms", set_flag, offsetof(struct request, has_help), NULL},
 };
@@ -165,12 +175,31 @@ static bool does_match(const struct request *request, const struct packet *packe
                                    packet->header.caplen - packet->ip_offset);
 }
 
+static bool is_before(const struct timespec *time, const struct timespec *other)
+{
+    return time->tv_sec < other->tv_sec || (time->tv_sec == other->tv_sec && time->tv_nsec < other->tv_nsec);
+}
+
+/* Whether a packet meets the condition, and has one of the numbers and times that are asked for. */
+static bool is_chosen(const struct request *request, const struct capture *capture, const struct packet *packet)
+{
+    struct timespec time = time_of(capture, packet);
+    return capture->number >= request->packets.first && !is_before(&time, &request->since)
+        && is_before(&time, &request->until) && does_match(request, packet);
+}
+
+/* Whether packets that aren't read yet may be written. */
+static bool wants_more(const struct request *request, const struct output *output, const struct capture *capture)
+{
+    return output->written < request->most && capture->number < request->packets.last;
+}
+
 static bool filter_packets(const struct request *request, struct output *output, struct capture *capture)
 {
     struct packet packet;
     bool is_written = true;
-    while (is_written && output->written < request->most && read_packet(capture, &packet))
-        if (does_match(request, &packet)) is_written = write_packet(output, request, capture, &packet);
+    while (is_written && wants_more(request, output, capture) && read_packet(capture, &packet))
+        if (is_chosen(request, capture, &packet)) is_written = write_packet(output, request, capture, &packet);
     errno = 0;
     return is_written && flush_output(output);
 }
@@ -245,7 +274,8 @@ static int read_operands(struct request *request, int count, char *const *operan
 
 int run_filter(int count, char **arguments)
 {
-    struct request request = {.most = UINT64_MAX};
+    struct request request = {.most = UINT64_MAX, .packets = {1, UINT64_MAX}, .since = {.tv_sec = INT64_MIN},
+                              .until = {.tv_sec = INT64_MAX}};
     int status = read_options(count, arguments, usage, options, sizeof options / sizeof *options, &request);
     if (status < 0 && request.has_help) return list_terms() ? STATUS_DONE : STATUS_FAILED;
     if (status < 0) status = read_operands(&request, count - optind, arguments + optind);

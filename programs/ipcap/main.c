@@ -8,8 +8,8 @@
 static const char usage[] =
     "usage: ipcap stat [--json] [FILE..]\n"
     "       ipcap sum [--json]\n"
-    "       ipcap filter [-c N] [-w OUTPUT] COND [FILE..]\n"
-    "       ipcap filter [-c N] [-w OUTPUT] -r FILE COND\n"
+    "       ipcap filter [OPTION..] COND [FILE..]\n"
+    "       ipcap filter [OPTION..] -r FILE COND\n"
     "       ipcap filter --show COND\n"
     "       ipcap filter --help-terms\n"
     "       ipcap show [--color=WHEN] [FILE]\n"

@@ -28,6 +28,7 @@ GROUPS = [("link layers", test_link_layers.link_layers), ("short frames", test_l
           ("programs of conditions", test_filter.programs), ("lists of terms", test_filter.help_terms),
           ("forms of what is written", test_filter.forms_of_files), ("between programs", test_filter.between_programs),
           ("several files", test_filter.several_files), ("numbers of packets to write", test_filter.counts),
+          ("ranges of time", test_filter.times), ("ranges of packets", test_filter.numbers_of_packets),
           ("options of tcpdump", test_filter.as_tcpdump), ("wrong conditions", test_filter.wrong_conditions),
           ("conditions and outputs that are refused", test_filter.what_is_refused), ("drawings", test_show.drawings),
           ("places of faults", test_show.places_of_faults), ("long packets", test_show.long_packets),

@@ -27,8 +27,8 @@ bool read_count_argument(const char *argument, void *place);
 bool read_range_argument(const char *argument, void *place);
 
 /*
- * Reads a time: a `struct timespec`. It is a date and a time of day as in RFC 3339, in UTC if no offset is given, or a number
- * of seconds since the epoch. Both may have a fraction of up to 9 digits.
+ * Reads a time: a `struct timespec`. It is a date and a time of day as in RFC 3339, in UTC if no offset is given, or a
+ * number of seconds since the epoch. Both may have a fraction of up to 9 digits.
  */
 bool read_time_argument(const char *argument, void *place);
 

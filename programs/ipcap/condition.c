@@ -5,6 +5,7 @@
 #include <string.h>
 
 #include "report.h"
+#include "text.h"
 
 /* The arguments, joined with spaces. */
 struct text {
@@ -24,7 +25,7 @@ static bool join(struct text *text, int count, char *const *arguments)
 {
     size_t len = 0;
     for (int i = 0; i < count; i++) len += strlen(arguments[i]) + 1;
-    *text = (struct text){calloc(len, 1), calloc((size_t)count, sizeof *text->ends), count};
+    *text = (struct text){calloc(len, 1), calloc((unsigned)count, sizeof *text->ends), count};
     if (!text->bytes || !text->ends) {
         complain_of_memory();
         free_text(text);

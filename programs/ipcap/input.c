@@ -6,6 +6,7 @@
 #include <unistd.h>
 
 #include "report.h"
+#include "text.h"
 
 /* How many packets are read between two checks whether to update the progress line. */
 enum { PROGRESS_PACKETS = 1024 };

@@ -6,8 +6,8 @@
 #include "options.h"
 
 static const char usage[] =
-    "usage: ipcap stat [--json] [FILE..]\n"
-    "       ipcap sum [--json]\n"
+    "usage: ipcap stat [--json] [--per-file] [--top N] [FILE..]\n"
+    "       ipcap sum [--json] [--top N]\n"
     "       ipcap filter [OPTION..] COND [FILE..]\n"
     "       ipcap filter [OPTION..] -r FILE COND\n"
     "       ipcap filter --show COND\n"

@@ -21,7 +21,7 @@ static char *json_of(struct counts *counts)
     size_t len;
     FILE *file = open_memstream(&json, &len);
     if (!file) return NULL;
-    print_counts(counts, file, true);
+    print_counts(counts, file, &(struct form){.json = true});
     bool is_written = !ferror(file);
     if (fclose(file) == 0 && is_written) return json;
     free(json);

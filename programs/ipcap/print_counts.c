@@ -7,13 +7,15 @@
 #include "fields.h"
 #include "names.h"
 #include "protocol_key.h"
+#include "text.h"
 
-/* How many protocols other than IP the human-readable table has. */
+/* How many protocols other than IP the human-readable table has by default. */
 enum { MOST_PROTOCOLS = 5 };
 
 struct output {
     FILE *file;
     bool json;
+    uint64_t most; /* rows of each table */
     const char *separator; /* of members of a JSON object */
 };
 
@@ -44,8 +46,8 @@ static void end_table(struct output *output)
     output->separator = ",";
 }
 
-/* Writes the `most` most frequent entries of a table, whose keys `write_key` formats, and then the sum of all others. */
-static void write_entries(struct output *output, struct table *table, size_t most,
+/* Writes the most frequent entries of a table, whose keys `write_key` formats, and then the sum of all others. */
+static void write_entries(struct output *output, struct table *table, uint64_t most,
                           void (*write_key)(const struct key *key, char text[CHAIN_TEXT_ROOM]))
 {
     char text[CHAIN_TEXT_ROOM];
@@ -86,32 +88,54 @@ static void write_item(struct output *output, const struct array *array, const s
     write_count(output, text, item->count);
 }
 
-/* Writes the elements of an array that aren't 0, by descending count. */
-static void write_array(struct output *output, const struct array *array, const uint64_t *counts)
+/* Writes the items from `first` on as one. */
+static void write_other_items(struct output *output, const struct item *items, size_t first, size_t count)
 {
-    struct item items[ARRAY_ELEMENTS];
+    uint64_t other = 0;
+    for (size_t i = first; i < count; i++) other = add_counts(other, items[i].count);
+    if (other > 0) write_count(output, "other", other);
+}
+
+static size_t list_items(const struct array *array, const uint64_t *counts, struct item items[ARRAY_ELEMENTS])
+{
     size_t count = 0;
     for (size_t i = 0; i < array->len; i++)
         if (counts[i] > 0) items[count++] = (struct item){counts[i], i};
     qsort(items, count, sizeof *items, compare_items);
+    return count;
+}
+
+/* Writes the elements of an array that aren't 0, by descending count, and the sum of those for which there is no row. */
+static void write_array(struct output *output, const struct array *array, const uint64_t *counts)
+{
+    struct item items[ARRAY_ELEMENTS];
+    size_t count = list_items(array, counts, items);
     begin_table(output, array->words, array->name);
-    for (size_t i = 0; i < count; i++) write_item(output, array, &items[i]);
+    for (size_t i = 0; i < count && i < output->most; i++) write_item(output, array, &items[i]);
+    if (count > output->most) write_other_items(output, items, (size_t)output->most, count);
     end_table(output);
 }
 
-void print_counts(struct counts *counts, FILE *file, bool json)
+/* Writes what comes before the counts. */
+static void begin_counts(FILE *file, const struct form *form)
 {
-    struct output output = {file, json, ","};
-    if (json)
-        fprintf(file, "{\"version\":\"%d.%d\"", FORMAT_MAJOR, FORMAT_MINOR);
-    else
-        fprintf(file, "packets\n");
+    if (form->json) fprintf(file, "{\"version\":\"%d.%d\"", FORMAT_MAJOR, FORMAT_MINOR);
+    if (form->file) fputs(form->json ? ",\"file\":" : "file ", file);
+    if (form->file) (form->json ? write_json_text : write_escaped)(file, form->file);
+    if (!form->json) fprintf(file, "%spackets\n", form->file ? "\n" : "");
+}
+
+void print_counts(struct counts *counts, FILE *file, const struct form *form)
+{
+    bool json = form->json, has_top = form->top > 0 && !json;
+    struct output output = {file, json, has_top ? form->top : UINT64_MAX, ","};
+    begin_counts(file, form);
     for (size_t i = 0; i < SCALARS; i++)
         write_count(&output, json ? scalars[i].name : scalars[i].words, *scalar_in(&counts->statistics, &scalars[i]));
     begin_table(&output, "protocols of frames without an IP packet", "other_protocols");
-    write_entries(&output, &counts->protocols, json ? TABLE_KEYS : MOST_PROTOCOLS, write_protocol);
+    write_entries(&output, &counts->protocols, json || has_top ? output.most : MOST_PROTOCOLS, write_protocol);
     begin_table(&output, "chains", "chains");
-    write_entries(&output, &counts->chains, TABLE_KEYS, write_chain);
+    write_entries(&output, &counts->chains, output.most, write_chain);
     for (size_t i = 0; i < ARRAYS; i++) write_array(&output, &arrays[i], array_in(&counts->statistics, &arrays[i]));
     if (json) fprintf(file, "}\n");
 }

@@ -84,6 +84,19 @@ static bool read_text(struct json_input *input, char text[NAME_ROOM])
     return true;
 }
 
+/* Skips a text of any length, with any characters that JSON allows. */
+static bool skip_text(struct json_input *input)
+{
+    if (!take(input, '"', "a text in quotes")) return false;
+    while (input->next != '"') {
+        if (input->next == '\\') advance(input);
+        if (input->next < ' ') return refuse_next(input, "a printable character");
+        advance(input);
+    }
+    advance(input);
+    return true;
+}
+
 static bool read_count(struct json_input *input, uint64_t *count)
 {
     skip_space(input);
@@ -223,9 +236,10 @@ static bool skip_member(struct reading *reading)
     return reading->input->next == '"' ? read_text(reading->input, text) : skip_count(reading, NULL);
 }
 
-/* The members of the outer object: the version, the single counts, the tables, and the arrays. */
+/* The members of the outer object: the version, the name of the file, the single counts, the tables, and the arrays. */
 enum {
     VERSION_AT,
+    FILE_AT,
     SCALARS_AT,
     CHAINS_AT = SCALARS_AT + SCALARS,
     PROTOCOLS_AT,
@@ -238,6 +252,7 @@ _Static_assert(MEMBERS <= 32, "each member has a bit in `done`");
 static const char *member_name(unsigned member)
 {
     if (member == VERSION_AT) return "version";
+    if (member == FILE_AT) return "file";
     if (member == CHAINS_AT) return "chains";
     if (member == PROTOCOLS_AT) return "other_protocols";
     return member < CHAINS_AT ? scalars[member - SCALARS_AT].name : arrays[member - ARRAYS_AT].name;
@@ -247,6 +262,7 @@ static bool read_value(struct reading *reading, unsigned member)
 {
     struct wolfaren_statistics *statistics = &reading->counts->statistics;
     if (member == VERSION_AT) return read_version(reading);
+    if (member == FILE_AT) return skip_text(reading->input);
     if (member == CHAINS_AT) return read_object(reading, read_chain_member);
     if (member == PROTOCOLS_AT) return read_object(reading, read_protocol_member);
     if (member >= ARRAYS_AT) return read_array(reading, &arrays[member - ARRAYS_AT]);
@@ -264,9 +280,13 @@ static bool read_outer_member(struct reading *reading, const char *name)
     return skip_member(reading);
 }
 
-/* Version 1.0 has no table of protocols. All frames without an IP packet are then of other protocols. */
-static void add_protocols(struct reading *reading)
+/*
+ * Adds members that may be left out. Version 1.0 has no table of protocols: all frames without an IP packet are then of
+ * other protocols. Only statistics of a single file have its name.
+ */
+static void add_members(struct reading *reading)
 {
+    reading->done |= 1U << FILE_AT;
     if (reading->minor > 0 || reading->done & 1U << PROTOCOLS_AT) return;
     reading->counts->protocols.other = reading->counts->statistics.other_frames;
     reading->done |= 1U << PROTOCOLS_AT;
@@ -276,7 +296,7 @@ bool read_json(struct json_input *input, struct counts *counts)
 {
     struct reading reading = {.input = input, .counts = counts};
     if (!read_object(&reading, read_outer_member)) return false;
-    add_protocols(&reading);
+    add_members(&reading);
     for (unsigned member = 0; member < MEMBERS; member++) {
         char words[64];
         if (reading.done & 1U << member) continue;

@@ -2,24 +2,13 @@
 
 #include <errno.h>
 #include <stdarg.h>
+#include <stdio.h>
 #include <string.h>
+
+#include "text.h"
 
 /* A message is cut after this length, which is more than that of any path. */
 enum { MESSAGE_ROOM = 8192 };
-
-bool is_control(char byte)
-{
-    return (unsigned char)byte < ' ' || byte == 0x7f;
-}
-
-void write_escaped(FILE *file, const char *text)
-{
-    for (; *text; text++)
-        if (is_control(*text))
-            fprintf(file, "\\x%02x", (unsigned)*text);
-        else
-            fputc(*text, file);
-}
 
 void complain(const char *format, ...)
 {

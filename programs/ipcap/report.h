@@ -3,15 +3,8 @@
 #define IPCAP_REPORT_H
 
 #include <stdbool.h>
-#include <stdio.h>
 
 enum { STATUS_DONE = 0, STATUS_FAILED = 1, STATUS_USAGE = 2 };
-
-/* Whether a byte is an ASCII control character, which may change the terminal. */
-bool is_control(char byte);
-
-/* Writes a text with its control characters escaped, such as `\x1b`. */
-void write_escaped(FILE *file, const char *text);
 
 /*
  * Writes `ipcap: `, the message, formatted as by printf, and a newline to standard error. Control characters in the

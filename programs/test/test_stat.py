@@ -1,6 +1,8 @@
 """Tests of `ipcap stat`. Expected values were worked out by hand from the bytes, except where tshark is named."""
 
 import collections
+import json
+import os
 import random
 import re
 import xml.etree.ElementTree as ElementTree
@@ -174,10 +176,50 @@ def what_cant_be_read(harness):
             harness.equal(harness.run(command, path)[0::2], (1, "ipcap: %s: %s\n" % (path, words)), command)
         harness.equal(harness.run("filter", "fault", path), (1, b"", "ipcap: %s: %s\n" % (path, words), None),
                       "filter")
-    harness.equal(harness.stat("/nonexistent", status=1)[1], "ipcap: /nonexistent: No such file or directory\n",
-                  "no file")
-    harness.equal(harness.stat(harness.folder, status=1)[1], "ipcap: %s: Is a directory\n" % harness.folder,
-                  "a directory")
+    for arguments in [[], ["--json"], ["--per-file"], ["--per-file", "--json"]]:
+        words = "ipcap: /nonexistent: No such file or directory\nipcap: %s: Is a directory\n" % harness.folder
+        found = harness.run("stat", *arguments, "/nonexistent", harness.folder)
+        harness.equal(found, (1, b"", words, None), arguments)
+
+
+def names():
+    """Yields names of files, as they are printed in tables and in JSON."""
+    yield b"a.pcap", b"a.pcap", "a.pcap"
+    yield b"\033[31m\n\177", b"\\x1b[31m\\x0a\\x7f", "\\u001b[31m\\u000a\\u007f"
+    yield b'"\\', b'"\\', "\\u0022\\u005c"
+    for text in ["\u00e9", "\u07ff", "\u0800", "\ud7ff", "\ue000", "\uffff"]:
+        yield text.encode(), text.encode(), "\\u%04x" % ord(text)
+    yield "\U0001f600".encode(), "\U0001f600".encode(), "\\ud83d\\ude00"
+    yield "\U0010ffff".encode(), "\U0010ffff".encode(), "\\udbff\\udfff"
+    for wrong in [b"\x80", b"\xff", b"\xc3", b"\xc0\x80", b"\xc1\xbf", b"\xe0\x9f\xbf", b"\xed\xa0\x80", b"\xf0\x8f\xbf\xbf",
+                  b"\xf4\x90\x80\x80", b"\xf8\x88\x80\x80\x80", b"\xe2\x82"]:
+        yield wrong, wrong, "".join("\\udc%02x" % byte for byte in wrong)
+
+
+def files_apart(harness):
+    """--per-file prints the counts of each file, with its name."""
+    one, other = capture([ethernet(ipv4(6, TCP))]), capture([ethernet(ipv6_chain([0]))] * 2)
+    folder = os.path.join(harness.folder, "names")
+    os.mkdir(folder)
+    paths, in_tables, in_json = [], [], []
+    for name, *shown in names():
+        paths.append(os.path.join(folder, os.fsdecode(name)))
+        with open(paths[-1], "wb") as file:
+            file.write(other)
+        in_tables.append(b"file %s/%s\n" % (folder.encode(), shown[0]))
+        in_json.append(b'{"version":"1.2","file":"%s/%s",' % (folder.encode(), shown[1].encode()))
+    first, second = [harness.run("stat", content=it)[1] for it in (one, other)]
+    wanted = b"file -\n" + first + b"".join(head + second for head in in_tables)
+    harness.equal(harness.run("stat", "--per-file", "-", *paths, content=one), (0, wanted, "", None), "tables")
+    first, second = [harness.run("stat", "--json", content=it)[1].partition(b",")[2] for it in (one, other)]
+    wanted = b'{"version":"1.2","file":"-",' + first + b"".join(head + second for head in in_json)
+    harness.equal(harness.run("stat", "--per-file", "--json", "-", *paths, content=one), (0, wanted, "", None), "JSON")
+    harness.equal([json.loads(line)["file"] for line in wanted.splitlines()], ["-"] + paths, "the names in JSON")
+    total = harness.run("stat", "--json", "-", *paths, content=one)
+    harness.equal(harness.run("sum", "--json", content=wanted), total, "the sum")
+    found = harness.run("stat", "--per-file", "/nonexistent", "-", content=one)
+    wanted = (1, b"file -\n" + harness.run("stat", content=one)[1], "ipcap: /nonexistent: No such file or directory\n", None)
+    harness.equal(found, wanted, "a file that can't be opened")
 
 
 def forms_of_files(harness):
@@ -377,6 +419,35 @@ faults
            1  too-short destination-options
 """
     harness.equal(harness.run("stat", path), (0, wanted.encode(), "", None), "tables")
+
+
+def first_rows(harness):
+    """--top limits the rows of each table. The others are summed up, also those of the table of protocols."""
+    frames = [ethernet(bytes(46), (), 0x0800 + 2 + i) for i in range(7) for _ in range(7 - i)]
+    frames += [ethernet(ipv4(6, TCP))] * 3 + [ethernet(ipv6_chain([0, 43]))] * 2 + [ethernet(ipv6(44, b""))]
+    path = harness.file(capture(frames))
+    rows = {"protocols": ["7  EtherType 0x0802", "6  EtherType 0x0803", "15  other"],
+            "chains": ["3  IPv4 -> 6", "2  IPv6 0,43 -> 17", "1  other"], "headers of a chain": ["4  0", "2  2"],
+            "least bytes": ["4  0", "2  16"], "extension headers": ["2  0 hop-by-hop", "2  43 routing"],
+            "payloads": ["3  6 TCP", "2  17 UDP"], "payloads of later": [], "truncated headers": ["1  fragment"],
+            "faults": []}
+    def tables(*arguments):
+        found = {}
+        for line in harness.run("stat", *arguments, path)[1].decode().splitlines():
+            if line.startswith(" "):
+                list(found.values())[-1].append(line.strip())
+            else:
+                found[line] = []
+        return list(found.values())[1:]
+    harness.equal(tables("--top", "2"), list(rows.values()), "--top 2")
+    wanted = [["7  EtherType 0x0802", "21  other"], ["3  IPv4 -> 6", "3  other"], ["4  0", "2  other"], ["4  0", "2  other"],
+              ["2  0 hop-by-hop", "2  other"], ["3  6 TCP", "2  other"], [], ["1  fragment"], []]
+    harness.equal(tables("--top=1"), wanted, "--top 1")
+    harness.equal(len(tables("--top", "7")[0]), 7, "all protocols")
+    harness.equal(len(tables()[0]), 6, "five protocols and the others")
+    harness.equal(harness.run("stat", "--top", "1", "--json", path), harness.run("stat", "--json", path), "JSON has all")
+    counted = harness.run("stat", "--json", path)[1]
+    harness.equal(harness.run("sum", "--top", "2", content=counted), harness.run("stat", "--top", "2", path), "sum --top")
 
 
 def tables_of_numbers(harness):

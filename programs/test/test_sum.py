@@ -31,7 +31,7 @@ def sums(harness):
     one = json.loads(whole)
     wanted = {name: {k: v * 3 for k, v in part.items()} if isinstance(part, dict) else part * 3
               for name, part in one.items() if name != "version"}
-    harness.equal(total, {"version": "1.1", **wanted}, "three times the whole")
+    harness.equal(total, {"version": "1.2", **wanted}, "three times the whole")
 
 
 def refuse(harness, content, words, name):
@@ -114,13 +114,26 @@ def versions(harness):
     harness.equal(wanted[0], 0, "our version")
     harness.equal(harness.run("sum", "--json", content=later), wanted, "a later version")
     counts = json.loads(later)
-    last = json.dumps({**{name: value for name, value in counts.items() if name != "version"}, "version": "1.2"}).encode()
+    last = json.dumps({**{name: value for name, value in counts.items() if name != "version"}, "version": "1.7"}).encode()
     harness.equal(harness.run("sum", "--json", content=last), wanted, "the version comes last")
     harness.equal(json.loads(harness.run("sum", "--json", content=text + later)[1])["packets"], 2, "both versions")
     first = json.loads(good(version="1.0", other_frames=3))
     del first["other_protocols"]
     found = harness.run("sum", "--json", content=json.dumps(first).encode() + good(other_frames=1, other_protocols={"PPP 0xc021": 1}))
     harness.equal(json.loads(found[1])["other_protocols"], {"PPP 0xc021": 1, "other": 3}, "version 1.0")
+    harness.equal(harness.run("sum", "--json", content=good(version="1.1")), wanted, "version 1.1")
+
+
+def names_in_json(harness):
+    """The name of the file is left out of the sum, however long it is and whatever is in it."""
+    wanted = harness.run("sum", "--json", content=good())
+    for name in ["", "a.pcap", 'a\\b"c\x1b', "\u00e9\U0001f600\udcff", "x" * 5000]:
+        for is_ascii in [True, False]:
+            text = json.dumps({**json.loads(good()), "file": name}, ensure_ascii=is_ascii).encode(errors="surrogateescape")
+            harness.equal(harness.run("sum", "--json", content=text), wanted, name, is_ascii)
+    for text, words in [("1", "expected a text in quotes, found '1'"), ('"', "found byte 0x0a"), ('"\\', "found byte 0x0a"),
+                        ('"a\\"', "found byte 0x0a"), ('"a","file":"b"', "duplicate name in the object")]:
+        refuse(harness, good()[:-1] + b',"file":' + text.encode() + b"\n}", words, text)
 
 
 def largest_counts(harness):

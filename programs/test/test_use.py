@@ -28,7 +28,8 @@ def helps(harness):
 def wrong_usage(harness):
     for arguments in [[], ["frob"], ["--frob"], ["x" * 500], ["stat", "--frob"], ["sum", "file"], ["sum", "--frob"],
                       ["show", "a", "b"],
-                      ["show", "--color"], ["show", "--color=red"], ["show", "-w", "x"], ["stat", "--json=1"]]:
+                      ["show", "--color"], ["show", "--color=red"], ["show", "-w", "x"], ["stat", "--json=1"],
+                      ["stat", "--top", "0"], ["stat", "--top"], ["sum", "--top", "x"], ["sum", "--per-file"]]:
         status, found, errors, _ = harness.run(*arguments)
         harness.equal((status, found), (2, b""), arguments)
         harness.check("usage: ipcap " in errors, arguments, errors)
@@ -39,8 +40,7 @@ def names_of_files(harness):
     for name, shown in [("a\033[31m\nb\177.pcap", "a\\x1b[31m\\x0ab\\x7f.pcap"), ("é.pcap", "é.pcap")]:
         wanted = (1, b"", "ipcap: %s: No such file or directory\n" % shown, None)
         harness.equal(harness.run("show", name), wanted, name)
-        status, _, errors, _ = harness.run("stat", name)
-        harness.equal((status, errors), (1, wanted[2]), name)
+        harness.equal(harness.run("stat", name), wanted, name)
 
 
 def full_outputs(harness):

@@ -127,19 +127,23 @@ class Json(unittest.TestCase):
 
     def test_versions(self):
         text = counted(PACKETS).to_json()
-        added = text.replace('"1.1"', '"1.7"')[:-1] + ',"new":{"a":1},"text":"b"}'
+        added = text.replace('"1.2"', '"1.7"')[:-1] + ',"new":{"a":1},"text":"b"}'
         self.assertEqual(Statistics.from_json(added), counted(PACKETS))
+        named = text.replace('"1.2"', '"1.2","file":"\\u00e9\\udcff"')
+        self.assertEqual(Statistics.from_json(named), counted(PACKETS))
         for version in ["2.0", "0.9", "1", "x", ""]:
             with self.assertRaisesRegex(ValueError, "version"):
-                Statistics.from_json(text.replace("1.1", version))
-        first = text.replace('"1.1"', '"1.0"').replace('"other_protocols":{},', "").replace('"other_frames":0', '"other_frames":2')
+                Statistics.from_json(text.replace("1.2", version))
+        first = text.replace('"1.2"', '"1.0"').replace('"other_protocols":{},', "").replace('"other_frames":0', '"other_frames":2')
         self.assertEqual(Statistics.from_json(first).other_protocols, {"other": 2})
 
     def test_refused(self):
         text = counted(PACKETS).to_json()
         for old, new, words in [('"packets"', '"packet"', '"packets" is not a count'), ('"ipv4":1', '"ipv4":2', "add up"),
                                 ('"ipv4":1', '"ipv4":-1', "not a count"), ('"ipv4":1', '"ipv4":1.0', "not a count"),
-                                ('"ipv4":1', '"ipv4":true', "not a count"), ('"ipv4":1', f'"ipv4":{MOST + 1}', "not a count"),
+                                ('"ipv4":1', '"ipv4":true', "not a count"),
+                                ('"ipv4":1', '"ipv4":1,"file":1', '"file" is not a text'),
+                                ('"ipv4":1', f'"ipv4":{MOST + 1}', "not a count"),
                                 ('"IPv4 -> 6"', '"IPv5 -> 6"', "not a chain"),
                                 ('"IPv4 -> 6"', '"IPv4 256 -> 6"', "not a chain"), ('"IPv4 -> 6"', '"IPv4 -> 06"', "not a chain"),
                                 ('"IPv4 -> 6":1', '"IPv4 -> 6":0', 'a count in "chains" is 0'), ('{"0":2', '{"x":2', 'not in "chain_headers"'),

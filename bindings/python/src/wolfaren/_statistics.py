@@ -22,7 +22,7 @@ _NAMES = 4096
 _CHAIN_HEADERS = 64
 
 # The version of the JSON: major and minor number.
-_FORMAT = (1, 1)
+_FORMAT = (1, 2)
 
 _KINDS = {FaultKind.TOO_SHORT: "too-short", FaultKind.HOP_BY_HOP_NOT_AT_START: "not-at-start",
           FaultKind.ZERO_PAYLOAD_LEN: "zero-length", FaultKind.UNSUPPORTED_IP_VERSION: "unsupported-version",
@@ -282,13 +282,16 @@ class Statistics:
     def from_json(cls, text: str) -> Statistics:
         """Reads what `to_json`, `ipcap stat --json` or `ipcap sum --json` has written.
 
-        Raises `ValueError` if the text is something else, or of a version with another major number. Of a version with
-        the same major and a larger minor number, members that aren't known are left out.
+        The name of a file in it is left out. Raises `ValueError` if the text is something else, or of a version with
+        another major number. Of a version with the same major and a larger minor number, members that aren't known are
+        left out.
         """
         members = json.loads(text)
         if not isinstance(members, dict):
             raise ValueError("the text is not a JSON object")
         minor = _minor_version(members.pop("version", None))
+        if not isinstance(members.pop("file", ""), str):
+            raise ValueError('"file" is not a text')
         read = cls()
         for name in _SCALARS:
             setattr(read._counts, name, _count(members.pop(name, None), name))

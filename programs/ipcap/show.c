@@ -7,17 +7,21 @@
 #include <string.h>
 #include <unistd.h>
 
-#include "chain_key.h"
+#include "arguments.h"
 #include "commands.h"
 #include "drawing.h"
 #include "input.h"
 #include "options.h"
 #include "report.h"
+#include "title.h"
 
 static const char usage[] =
-    "usage: ipcap show [--color=WHEN] [FILE]\n"
+    "usage: ipcap show [-c N] [--color=WHEN | --one-line | --json] [FILE]\n"
     "Draws each IP packet of FILE, or standard input, with its chain of extension headers.\n"
+    "  -c N          stop after N packets\n"
     "  --color=WHEN  use colours `always`, `never`, or `auto`: only on a terminal (default)\n"
+    "  --one-line    print only the first line of each packet\n"
+    "  --json        print each packet as a line with a JSON object\n"
     "  --help        print this help\n"
     "  --version     print the version\n";
 
@@ -43,29 +47,6 @@ static bool read_color(const char *when, void *place)
     return true;
 }
 
-/* Writes the line above a packet. */
-static void print_title(const struct capture *capture, const struct packet *packet, const struct parts *parts)
-{
-    printf("packet %llu: ", (unsigned long long)capture->number);
-    if (packet->is_short) printf("%u of ", packet->header.caplen);
-    printf("%u bytes", packet->header.len > packet->header.caplen ? packet->header.len : packet->header.caplen);
-    if (!packet->is_ip) {
-        puts(", not IP");
-        return;
-    }
-    struct key key;
-    char text[CHAIN_TEXT_ROOM];
-    printf(", IP at %zu: ", packet->ip_offset);
-    if (parts->packet.version == 0) {
-        puts("unread base header");
-    } else if (chain_key(parts, &key)) {
-        write_chain(&key, text);
-        puts(text);
-    } else {
-        printf("IPv%d %zu headers -> %d\n", parts->packet.version, parts->packet.headers, parts->packet.payload_number);
-    }
-}
-
 /* Dissects the IP packet of a captured packet. If memory runs out, reports it and returns false. */
 static bool parse_captured(struct parts *parts, const struct packet *packet)
 {
@@ -75,44 +56,63 @@ static bool parse_captured(struct parts *parts, const struct packet *packet)
     return false;
 }
 
-static bool show_packet(const struct capture *capture, const struct packet *packet, struct parts *parts, bool in_color)
+/* The values of the options. */
+struct request {
+    bool in_color;
+    bool is_one_line;
+    bool json;
+    uint64_t most; /* how many packets are shown at most */
+};
+
+/* Writes a packet in the form that the options ask for. */
+static void write_packet(const struct request *request, const struct capture *capture, const struct packet *packet,
+                         const struct parts *parts)
+{
+    if (request->json) {
+        print_object(capture, packet, parts);
+        return;
+    }
+    if (capture->number > 1 && !request->is_one_line) putchar('\n');
+    print_title(capture, packet, parts);
+    if (packet->is_ip && !request->is_one_line) draw_packet(parts, request->in_color);
+}
+
+static bool show_packet(const struct request *request, const struct capture *capture, const struct packet *packet,
+                        struct parts *parts)
 {
     if (packet->is_ip && !parse_captured(parts, packet)) return false;
     errno = 0;
-    if (capture->number > 1) putchar('\n');
-    print_title(capture, packet, parts);
-    if (packet->is_ip) draw_packet(parts, in_color);
+    write_packet(request, capture, packet, parts);
     return capture->is_live ? finish_output() : !ferror(stdout) || finish_output();
 }
 
-static bool show_capture(const char *path, bool in_color)
+static bool show_capture(const struct request *request, const char *path)
 {
     struct input input;
     struct packet packet;
     struct parts parts = {0};
     bool is_shown = true;
     if (!open_input(&input, path)) return false;
-    while (is_shown && read_packet(&input.capture, &packet))
-        is_shown = show_packet(&input.capture, &packet, &parts, in_color);
+    while (is_shown && input.capture.number < request->most && read_packet(&input.capture, &packet))
+        is_shown = show_packet(request, &input.capture, &packet, &parts);
     free_parts(&parts);
     bool is_read = close_input(&input);
     return is_shown && finish_output() && is_read;
 }
 
-/* The values of the options. */
-struct request {
-    bool in_color;
-};
-
 static const struct option_row options[] = {
+    {"c", read_count_argument, offsetof(struct request, most), "a number above 0"},
     {"color", read_color, offsetof(struct request, in_color), "always, never or auto"},
+    {"one-line", set_flag, offsetof(struct request, is_one_line), NULL},
+    {"json", set_flag, offsetof(struct request, json), NULL},
 };
 
 int run_show(int count, char **arguments)
 {
-    struct request request = {.in_color = is_color_terminal()};
+    struct request request = {.in_color = is_color_terminal(), .most = UINT64_MAX};
     int status = read_options(count, arguments, usage, options, sizeof options / sizeof *options, &request);
     if (status >= 0) return status;
     if (count - optind > 1) return refuse_usage(usage, "show reads only one file");
-    return show_capture(optind < count ? arguments[optind] : NULL, request.in_color) ? STATUS_DONE : STATUS_FAILED;
+    if (request.json && request.is_one_line) return refuse_usage(usage, "--json and --one-line exclude each other");
+    return show_capture(&request, optind < count ? arguments[optind] : NULL) ? STATUS_DONE : STATUS_FAILED;
 }

@@ -1,8 +1,10 @@
 """Tests of `ipcap show`."""
 
+import json
+
 from captures import *
 
-DRAWN = """packet 1: 90 bytes, IP at 14: IPv6 0,43,44 -> 17
+DRAWN = """packet 1: 1970-01-01T00:16:40.000005Z, 2001:db8::1 > 2001:db8::2, 90 bytes, IP at 14: IPv6 0,43,44 -> 17
 0000  60 00 00 00 00 24 00 40 20 01 0d b8 00 00 00 00
       [-------------------- IPv6 --------------------
 0010  00 00 00 00 00 00 00 01 20 01 0d b8 00 00 00 00
@@ -14,15 +16,15 @@ DRAWN = """packet 1: 90 bytes, IP at 14: IPv6 0,43,44 -> 17
 0040  03 e8 07 d0 00 0c 00 00 64 61 74 61
       [-------------- UDP --------------]
 
-packet 2: 60 bytes, not IP
+packet 2: 1970-01-01T00:16:41.000006Z, 60 bytes, not IP
 
-packet 3: 46 bytes, IP at 18: IPv4 -> 17
+packet 3: 1970-01-01T00:16:42.000007Z, 192.0.2.1 > 192.0.2.2, 46 bytes, IP at 18: IPv4 -> 17
 0000  45 00 00 1c 00 01 00 00 40 11 f6 cc c0 00 02 01
       [-------------------- IPv4 --------------------
 0010  c0 00 02 02 03 e8 07 d0 00 0c 00 00
       ----------] [-------- UDP --------]
 
-packet 4: 62 of 78 bytes, IP at 14: IPv6 60 -> 44 truncated
+packet 4: 1970-01-01T00:16:40.000005Z, 2001:db8::1 > 2001:db8::2, 62 of 78 bytes, IP at 14: IPv6 60 -> 44 truncated
 0000  60 00 00 00 00 18 3c 40 20 01 0d b8 00 00 00 00
       [-------------------- IPv6 --------------------
 0010  00 00 00 00 00 00 00 01 20 01 0d b8 00 00 00 00
@@ -33,7 +35,7 @@ packet 4: 62 of 78 bytes, IP at 14: IPv6 60 -> 44 truncated
       ^ truncated: not enough bytes for Ipv6FragHeader at offset 48: 8 needed, 0 there by Slice
       16 bytes missing
 
-packet 5: 70 bytes, IP at 14: IPv6 44 -> 60
+packet 5: 1970-01-01T00:16:40.000005Z, 2001:db8::1 > 2001:db8::2, 70 bytes, IP at 14: IPv6 44 -> 60
 0000  60 00 00 00 00 10 2c 40 20 01 0d b8 00 00 00 00
       [-------------------- IPv6 --------------------
 0010  00 00 00 00 00 00 00 01 20 01 0d b8 00 00 00 00
@@ -45,16 +47,73 @@ packet 5: 70 bytes, IP at 14: IPv6 44 -> 60
 """
 
 
-def drawings(harness):
-    """Drawings that were made by hand."""
+def drawn_capture():
     frames = [ethernet(ipv6_chain([0, 43, 44])), ethernet(bytes(46), (), 0x0806),
               ethernet(ipv4(17, UDP[:8]), (0x8100,))]
     content = capture(frames) + record(ethernet(ipv6(60, options(44) + fragment(17) + bytes(8))), 62)
-    content += record(ethernet(LATER_FRAGMENT))
+    return content + record(ethernet(LATER_FRAGMENT))
+
+
+def drawings(harness):
+    """Drawings that were made by hand."""
+    content = drawn_capture()
     status, found, errors, _ = harness.run("show", content=content)
     for line, wanted in zip(found.decode().split("\n"), DRAWN.split("\n")):
         harness.equal(line, wanted, "a line")
     harness.equal((status, len(found), errors), (0, len(DRAWN), ""), "the whole")
+
+
+def lines(harness):
+    """--one-line prints the first lines, and -c stops after so many packets."""
+    content = drawn_capture()
+    titles = [line + "\n" for line in DRAWN.split("\n") if line.startswith("packet ")]
+    harness.equal(harness.run("show", "--one-line", content=content), (0, "".join(titles).encode(), "", None), "--one-line")
+    found = harness.run("show", "--one-line", "-c", "2", content=content[:-1])
+    harness.equal(found, (0, "".join(titles[:2]).encode(), "", None), "-c 2")
+    found = harness.run("show", "-c1", harness.file(content))
+    harness.equal(found, (0, DRAWN[:DRAWN.index("\npacket 2")].encode(), "", None), "-c 1")
+    for seconds, magic, wanted in [(0, MICROSECONDS, "1970-01-01T00:00:00.000005Z"),
+                                   (951825600, NANOSECONDS, "2000-02-29T12:00:00.000000005Z"),
+                                   (2**32 - 1, NANOSECONDS, "2106-02-07T06:28:15.000000005Z")]:
+        content = file_header(magic=magic) + record(ethernet(b"\x50" + bytes(5)), None, seconds)
+        wanted = "packet 1: %s, 20 bytes, IP at 14: unread base header\n" % wanted
+        harness.equal(harness.run("show", "--one-line", content=content), (0, wanted.encode(), "", None), seconds)
+
+
+def objects(harness):
+    """--json prints an object per packet, with the names and codes of wolfaren.h."""
+    status, found, errors, _ = harness.run("show", "--json", content=drawn_capture() + record(ethernet(b"\x50" + bytes(5))))
+    harness.equal((status, errors), (0, ""), "--json")
+    none = dict.fromkeys(["required_len", "len", "offset", "kind", "header", "layer", "len_source", "value"], 0)
+    six = {"src": "2001:db8::1", "dst": "2001:db8::2", "version": 6, "base_len": 40}
+    def packet(number, time, frame_len, captured_len, **fields):
+        return {"packet": number, "time": "1970-01-01T00:16:%sZ" % time, "frame_len": frame_len, "captured_len": captured_len,
+                **fields}
+    def dissected(**fields):
+        names = ["missing", "padding", "fragment", "identification", "fragment_offset", "end"]
+        return {**dict.fromkeys(names, 0), "headers": [], "fault": none, **fields}
+    def headers(*rows):
+        return [dict(zip(["offset", "len", "number", "next_header"], row)) for row in rows]
+    wanted = [
+        packet(1, "40.000005", 90, 90, ip_offset=14, **six, **dissected(
+            stated_len=76, headers=headers((40, 8, 0, 43), (48, 8, 43, 44), (56, 8, 44, 17)), payload_number=17,
+            payload_offset=64, payload_len=12, fragment=1, identification=7)),
+        packet(2, "41.000006", 60, 60),
+        packet(3, "42.000007", 46, 46, ip_offset=18, src="192.0.2.1", dst="192.0.2.2", version=4, base_len=20,
+               **dissected(stated_len=28, payload_number=17, payload_offset=20, payload_len=8)),
+        packet(4, "40.000005", 78, 62, ip_offset=14, **six, **dissected(
+            stated_len=64, headers=headers((40, 8, 60, 44)), payload_number=44, payload_offset=48, payload_len=0, missing=16,
+            end=2, fault={**none, "required_len": 8, "offset": 48, "kind": 1, "header": 11, "layer": 11, "len_source": 1})),
+        packet(5, "40.000005", 70, 70, ip_offset=14, **six, **dissected(
+            stated_len=56, headers=headers((40, 8, 44, 60)), payload_number=60, payload_offset=48, payload_len=8, fragment=3,
+            identification=7, fragment_offset=1480, end=1)),
+        packet(6, "40.000005", 20, 20, ip_offset=14, version=0, base_len=0, **dissected(
+            stated_len=0, payload_number=59, payload_offset=0, payload_len=0, padding=6, end=3,
+            fault={**none, "kind": 4, "value": 5})),
+    ]
+    harness.equal([json.loads(line) for line in found.splitlines()], wanted, "objects")
+    found = harness.run("show", "--json", "-c", "1", content=capture([ethernet(ipv6_chain([60] * 100))]))[1]
+    harness.equal(len(json.loads(found)["headers"]), 100, "all headers")
 
 
 def carets(found):

@@ -28,7 +28,8 @@ def helps(harness):
 def wrong_usage(harness):
     for arguments in [[], ["frob"], ["--frob"], ["x" * 500], ["stat", "--frob"], ["sum", "file"], ["sum", "--frob"],
                       ["show", "a", "b"],
-                      ["show", "--color"], ["show", "--color=red"], ["show", "-w", "x"], ["stat", "--json=1"],
+                      ["show", "--color"], ["show", "--color=red"], ["show", "-w", "x"], ["show", "-c", "0"],
+                      ["show", "--json", "--one-line"], ["stat", "--json=1"],
                       ["stat", "--top", "0"], ["stat", "--top"], ["sum", "--top", "x"], ["sum", "--per-file"]]:
         status, found, errors, _ = harness.run(*arguments)
         harness.equal((status, found), (2, b""), arguments)
@@ -50,7 +51,7 @@ def full_outputs(harness):
     with open("/dev/full", "wb") as full:
         for arguments, given in [(["stat", path], b""), (["stat", "--json", path], b""), (["sum"], good),
                                  (["sum", "--json"], good),
-                                 (["show", path], b""), (["show"], content), (["filter", "header 0", path], b""),
+                                 (["show", path], b""), (["show"], content), (["show", "--json"], content), (["filter", "header 0", path], b""),
                                  (["filter", "header 0"], content),
                                  (["filter", "fault", path], b""), (["filter", "--show", "fault"], b""),
                                  (["filter", "--help-terms"], b""),

@@ -1,0 +1,130 @@
+#include "title.h"
+
+#include <arpa/inet.h>
+#include <inttypes.h>
+#include <stdio.h>
+#include <string.h>
+#include <time.h>
+
+#include "chain_key.h"
+
+enum { TIME_ROOM = 64 };
+
+/* Formats the time of a packet as in RFC 3339, with as many digits as the capture has. */
+static void write_time(const struct capture *capture, const struct packet *packet, char text[TIME_ROOM])
+{
+    struct timespec time = time_of(capture, packet);
+    bool is_nano = pcap_get_tstamp_precision(capture->handle) == PCAP_TSTAMP_PRECISION_NANO;
+    struct tm date;
+    if (!gmtime_r(&time.tv_sec, &date)) date = (struct tm){.tm_mday = 1, .tm_year = 70};
+    size_t len = strftime(text, TIME_ROOM, "%Y-%m-%dT%H:%M:%S", &date);
+    long fraction = is_nano ? time.tv_nsec : time.tv_nsec / 1000;
+    snprintf(text + len, TIME_ROOM - len, ".%0*ldZ", is_nano ? 9 : 6, fraction);
+}
+
+/* Where the source address is in the headers of both versions; the destination address follows it. */
+static const struct {
+    int family;
+    size_t offset;
+    size_t len;
+} addresses[] = {[4] = {AF_INET, 12, 4}, [6] = {AF_INET6, 8, 16}};
+
+/* Formats the source or the destination address of a packet with an IP header. */
+static void write_address(const struct parts *parts, bool is_destination, char text[INET6_ADDRSTRLEN])
+{
+    uint16_t version = parts->packet.version;
+    size_t offset = addresses[version].offset + (is_destination ? addresses[version].len : 0);
+    if (!inet_ntop(addresses[version].family, parts->bytes + offset, text, INET6_ADDRSTRLEN)) *text = '\0';
+}
+
+static uint32_t frame_len(const struct packet *packet)
+{
+    return packet->header.len > packet->header.caplen ? packet->header.len : packet->header.caplen;
+}
+
+/* Writes the addresses of a packet with an IP header, in the given format. */
+__attribute__((format(printf, 2, 0))) static void print_addresses(const struct parts *parts, const char *format)
+{
+    char source[INET6_ADDRSTRLEN], destination[INET6_ADDRSTRLEN];
+    if (parts->packet.version == 0) return;
+    write_address(parts, false, source);
+    write_address(parts, true, destination);
+    printf(format, source, destination);
+}
+
+static void print_chain(const struct parts *parts)
+{
+    struct key key;
+    char text[CHAIN_TEXT_ROOM];
+    if (parts->packet.version == 0) {
+        puts("unread base header");
+    } else if (chain_key(parts, &key)) {
+        write_chain(&key, text);
+        puts(text);
+    } else {
+        printf("IPv%d %zu headers -> %d\n", parts->packet.version, parts->packet.headers, parts->packet.payload_number);
+    }
+}
+
+void print_title(const struct capture *capture, const struct packet *packet, const struct parts *parts)
+{
+    char time[TIME_ROOM];
+    write_time(capture, packet, time);
+    printf("packet %" PRIu64 ": %s", capture->number, time);
+    if (packet->is_ip) print_addresses(parts, ", %s > %s");
+    fputs(", ", stdout);
+    if (packet->is_short) printf("%u of ", packet->header.caplen);
+    printf("%u bytes", frame_len(packet));
+    if (!packet->is_ip) {
+        puts(", not IP");
+        return;
+    }
+    printf(", IP at %zu: ", packet->ip_offset);
+    print_chain(parts);
+}
+
+static void print_fault(const struct wolfaren_fault *fault)
+{
+    printf(",\"fault\":{\"required_len\":%zu,\"len\":%zu,\"offset\":%zu,\"kind\":%d,\"header\":%d,\"layer\":%d,"
+           "\"len_source\":%d,\"value\":%" PRIu32 "}",
+           fault->required_len, fault->len, fault->offset, fault->kind, fault->header, fault->layer, fault->len_source,
+           fault->value);
+}
+
+static void print_headers(const struct parts *parts)
+{
+    fputs(",\"headers\":[", stdout);
+    for (size_t i = 0; i < parts->packet.headers; i++) {
+        const struct wolfaren_header *header = &parts->headers[i];
+        printf("%s{\"offset\":%zu,\"len\":%zu,\"number\":%d,\"next_header\":%d}", i > 0 ? "," : "", header->offset,
+               header->len, header->number, header->next_header);
+    }
+    putchar(']');
+}
+
+/* Writes the members for the fields of a dissection. */
+static void print_dissection(const struct parts *parts)
+{
+    const struct wolfaren_dissection *of = &parts->packet;
+    printf(",\"version\":%d,\"base_len\":%zu,\"stated_len\":%zu", of->version, of->base_len, of->stated_len);
+    print_headers(parts);
+    printf(",\"payload_number\":%d,\"payload_offset\":%zu,\"payload_len\":%zu,\"missing\":%zu,\"padding\":%zu",
+           of->payload_number, of->payload_offset, of->payload_len, of->missing, of->padding);
+    printf(",\"fragment\":%d,\"identification\":%" PRIu32 ",\"fragment_offset\":%" PRIu32 ",\"end\":%d", of->fragment,
+           of->identification, of->fragment_offset, of->end);
+    print_fault(&of->fault);
+}
+
+void print_object(const struct capture *capture, const struct packet *packet, const struct parts *parts)
+{
+    char time[TIME_ROOM];
+    write_time(capture, packet, time);
+    printf("{\"packet\":%" PRIu64 ",\"time\":\"%s\",\"frame_len\":%u,\"captured_len\":%u", capture->number, time,
+           frame_len(packet), packet->header.caplen);
+    if (packet->is_ip) {
+        printf(",\"ip_offset\":%zu", packet->ip_offset);
+        print_addresses(parts, ",\"src\":\"%s\",\"dst\":\"%s\"");
+        print_dissection(parts);
+    }
+    puts("}");
+}

@@ -24,6 +24,7 @@ struct range {
 struct drawing {
     const struct parts *parts;
     bool in_color;
+    int offset_width; /* digits of the offset at the start of a row */
     size_t index;   /* of the range at the current position */
     bool is_named;  /* whether the name of that range has been written */
 };
@@ -83,7 +84,7 @@ static bool range_of(struct drawing *drawing, size_t at, struct range *range)
 static void write_bytes(struct drawing drawing, size_t row, size_t end)
 {
     struct range range;
-    printf("%04zx", row);
+    printf("%0*zx", drawing.offset_width, row);
     const char *color = plain_color;
     for (size_t at = row; at < end; at++) {
         const char *next = range_of(&drawing, at, &range) ? range.color : plain_color;
@@ -125,6 +126,12 @@ static void write_mark(struct drawing *drawing, const struct range *range, size_
     set_color(drawing, plain_color);
 }
 
+/* Writes spaces up to the cell of a row with this index. */
+static void indent(const struct drawing *drawing, size_t cell)
+{
+    printf("%*s", drawing->offset_width + 2 + (int)cell * CELL, "");
+}
+
 /* Writes the marks below a row. */
 static void write_marks(struct drawing *drawing, size_t row, size_t end)
 {
@@ -132,7 +139,7 @@ static void write_marks(struct drawing *drawing, size_t row, size_t end)
     size_t at = row, column = 0;
     while (at < end && range_of(drawing, at, &range)) {
         size_t mark_end = range.end < end ? range.end : end;
-        if (column == 0) fputs("      ", stdout);
+        if (column == 0) indent(drawing, 0);
         if (column > 0) putchar(' ');
         write_mark(drawing, &range, at, mark_end);
         column += (mark_end - at) * CELL;
@@ -149,7 +156,7 @@ static void write_fault(const struct drawing *drawing, size_t row)
     size_t at = fault_offset(parts);
     if (end_of_chain(parts) == CHAIN_WHOLE || at < row || at - row >= ROW_BYTES) return;
     size_t len = wolfaren_fault_text(&parts->packet.fault, text, sizeof text);
-    printf("%*s", 6 + (int)((at - row) * CELL), "");
+    indent(drawing, at - row);
     set_color(drawing, fault_color);
     printf("^ %s%s", has_fault(parts) ? "" : "truncated: ", len > 0 && len < sizeof text ? text : "fault");
     set_color(drawing, plain_color);
@@ -164,11 +171,19 @@ static size_t shown_length(const struct parts *parts)
     return end < parts->len ? end : parts->len;
 }
 
+/* Returns how many digits all offsets up to the last one need: at least 4. */
+static int offset_width(size_t last)
+{
+    int width = 4;
+    while (width < 16 && last >> 4 * width > 0) width++;
+    return width;
+}
+
 void draw_packet(const struct parts *parts, bool in_color)
 {
-    struct drawing drawing = {.parts = parts, .in_color = in_color};
     size_t shown = shown_length(parts);
     size_t last = end_of_chain(parts) == CHAIN_WHOLE ? 0 : fault_offset(parts);
+    struct drawing drawing = {parts, in_color, offset_width(shown > last ? shown - 1 : last), 0, false};
     for (size_t row = 0; row < shown || row <= last; row += ROW_BYTES) {
         size_t left = shown > row ? shown - row : 0;
         size_t end = row + (left < ROW_BYTES ? left : ROW_BYTES);
@@ -176,6 +191,7 @@ void draw_packet(const struct parts *parts, bool in_color)
         write_marks(&drawing, row, end);
         write_fault(&drawing, row);
     }
-    if (shown < parts->len) printf("      and %zu bytes more\n", parts->len - shown);
-    if (parts->packet.missing > 0) printf("      %zu bytes missing\n", parts->packet.missing);
+    int width = drawing.offset_width + 2;
+    if (shown < parts->len) printf("%*sand %zu bytes more\n", width, "", parts->len - shown);
+    if (parts->packet.missing > 0) printf("%*s%zu bytes missing\n", width, "", parts->packet.missing);
 }

@@ -116,6 +116,20 @@ def objects(harness):
     harness.equal(len(json.loads(found)["headers"]), 100, "all headers")
 
 
+def large_offsets(harness):
+    """Where offsets have five digits, they do in each row of that packet, and the marks are below their bytes."""
+    content = capture([ethernet(ipv6_chain([60] * 8190 + [0], 17, b"")), ethernet(ipv6_chain([60], 17, b""))], snap_len=262144)
+    rows = harness.run("show", content=content)[1].decode().split("\n")
+    harness.equal(rows[1], "00000  60 00 00 00 ff f8 3c 40 20 01 0d b8 00 00 00 00", "the first row")
+    harness.equal(rows[2], "       [-------------------- IPv6 --------------------", "its marks")
+    last = rows.index("10010  00 00 01 04 00 00 00 00 11 00 01 04 00 00 00 00")
+    harness.equal(rows[last - 2:last], ["10000  3c 00 01 04 00 00 00 00 3c 00 01 04 00 00 00 00",
+                                        "       [----- dest-opts -----] [----- dest-opts -----]"], "the row before")
+    harness.equal(rows[last + 1], "       [----- dest-opts -----]", "the last marks")
+    harness.check(rows[last + 2].startswith(" " * 31 + "^ "), rows[last + 2])
+    harness.check(rows[last + 5].startswith("0000  60 "), "the next packet", rows[last + 5])
+
+
 def carets(found):
     """Yields each caret of a drawing: the offset of the byte above it, and its text."""
     row = 0

@@ -103,7 +103,7 @@ static bool take_offset(const char **text, int *seconds)
     return true;
 }
 
-/* Converts year, month, day, hours, minutes and seconds to seconds since the epoch. Returns false if the day is invalid. */
+/* Converts year, month, day, hours, minutes and seconds to seconds since the epoch. Returns false for an invalid day. */
 static bool read_calendar(const int fields[TIME_FIELDS], time_t *seconds)
 {
     struct tm date = {.tm_year = fields[0] - 1900, .tm_mon = fields[1] - 1, .tm_mday = fields[2]};

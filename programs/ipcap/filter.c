@@ -119,7 +119,8 @@ static bool begin_output(struct output *output, pcap_t *handle, FILE *file)
 /* Begins an output for several files, which keeps all bytes and timestamps of any of them. */
 static bool begin_joint_output(struct output *output, FILE *file)
 {
-    pcap_t *handle = pcap_open_dead_with_tstamp_precision(output->link_layer, MOST_SNAP_LEN, PCAP_TSTAMP_PRECISION_NANO);
+    pcap_t *handle = pcap_open_dead_with_tstamp_precision(output->link_layer, MOST_SNAP_LEN,
+                                                          PCAP_TSTAMP_PRECISION_NANO);
     if (!handle) {
         if (file != stdout) fclose(file);
         return refuse_output(output, "out of memory");

@@ -96,6 +96,7 @@ static void write_other_items(struct output *output, const struct item *items, s
     if (other > 0) write_count(output, "other", other);
 }
 
+/* Lists the elements of an array that aren't 0, by descending count, and returns their number. */
 static size_t list_items(const struct array *array, const uint64_t *counts, struct item items[ARRAY_ELEMENTS])
 {
     size_t count = 0;
@@ -105,7 +106,7 @@ static size_t list_items(const struct array *array, const uint64_t *counts, stru
     return count;
 }
 
-/* Writes the elements of an array that aren't 0, by descending count, and the sum of those for which there is no row. */
+/* Writes the elements of an array that aren't 0, by descending count, and the sum of those past the last row. */
 static void write_array(struct output *output, const struct array *array, const uint64_t *counts)
 {
     struct item items[ARRAY_ELEMENTS];

@@ -6,10 +6,11 @@ ghost use Rattle.ip_filter.specs.Grammar.{Disjunction, IsFilter, filter_words, f
 ghost use Rattle.ip_filter.specs.Formula.{truth};
 ghost use Rattle.ip_filter.specs.Truth.{holds};
 
-use ip_spans::{FilterNumbers, filter_matches, parse_filter};
+use ip_filter::Filter;
+use ip_spans::parse_filter;
 
 /// Returns whether the packet meets the filter that the text writes, and `None` if the text isn't a filter.
-pub fn meets_text(text: &[u8], filter: &mut FilterNumbers, packet: &[u8]) -> Option<bool>
+pub fn meets_text(text: &[u8], filter: &mut Filter, packet: &[u8]) -> Option<bool>
     ensures some { IfSome result (λ meets. (d : Disjunction) × IsFilter d
         × (filter_words d ≡ words text.now)
         × (meets ≡ truth (formula_of d) (λ t. holds t (dissected packet.now)))) }
@@ -17,7 +18,7 @@ pub fn meets_text(text: &[u8], filter: &mut FilterNumbers, packet: &[u8]) -> Opt
         → filter_words d ≡ words text.now → ⊥) }
 {
     match parse_filter(text, filter) {
-        Ok(()) => Some(filter_matches(filter, packet)),
+        Ok(()) => Some(filter.matches(packet)),
         Err(_) => None,
     }
 }

@@ -1,3 +1,4 @@
+use Rattle.std.proofs.Common.{Some}
 use Rattle.ip_spec.proofs.Common.{◌≡◌, ◌-◌, ◌++◌, length, drop, refl, ap, ◌∙◌, arith}
 use Rattle.ip_filter.specs.Words.{words}
 use Rattle.ip_uses.proofs.filters.meets_text.Goals as goal
@@ -5,10 +6,10 @@ use Rattle.ip_uses.proofs.filters.meets_text.Goals as goal
 pub returns-in-Ok-clause-some : goal.returns-in-Ok-clause-some
 returns-in-Ok-clause-some c =
     let p = c.in-Ok.ensures.ok in (
-      p.1.written,
-      p.1.filter,
-      p.1.words_of,
-      c.filter_matches.ensures ∙ rw (p.2, p.1.formula) refl,
+      p.written,
+      p.filter,
+      p.words_of,
+      c.matches.ensures ∙ p.formula (Some c.args.packet.now),
     )
 
 pub returns-in-Err-clause-none : goal.returns-in-Err-clause-none

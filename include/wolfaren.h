@@ -498,13 +498,24 @@ enum wolfaren_test {
     WOLFAREN_TEST_FLAGS = 1,               /* at least one of the flags in `number` is set */
     WOLFAREN_TEST_LEADS_TO = 2,            /* the protocol number `number` follows the headers */
     WOLFAREN_TEST_HEADERS = 3,             /* the number of extension headers compares so with `number` */
-    WOLFAREN_TEST_CHAIN_BYTES = 4,         /* the length of the extension headers in bytes compares so with `number` */
-    WOLFAREN_TEST_PAYLOAD = 5,             /* the number of payload bytes that are present compares so with `number` */
+    WOLFAREN_TEST_CHAIN_BYTES = 4,         /* the length of the extension headers in bytes does */
+    WOLFAREN_TEST_PAYLOAD = 5,             /* the number of payload bytes that are present does */
     WOLFAREN_TEST_SECURITY_PARAMETERS = 6, /* an authentication header has the security parameters index `number` */
     WOLFAREN_TEST_IDENTIFICATION = 7,      /* the fragment's identification is `number` */
     WOLFAREN_TEST_SOURCE = 8,              /* the source address is in the network */
     WOLFAREN_TEST_DESTINATION = 9,         /* the destination address is in the network */
-    WOLFAREN_TEST_EITHER = 10              /* the source or the destination address is in the network */
+    WOLFAREN_TEST_EITHER = 10,             /* the source or the destination address is in the network */
+    WOLFAREN_TEST_LENGTH = 11,             /* the packet's length by its base header compares so with `number` */
+    WOLFAREN_TEST_HOP_LIMIT = 12,          /* the hop limit, or IPv4's time to live, does */
+    WOLFAREN_TEST_DSCP = 13,               /* the differentiated services code point does */
+    WOLFAREN_TEST_ECN = 14,                /* the bits of explicit congestion notification do, as a number from 0 to 3 */
+    WOLFAREN_TEST_FLOW_LABEL = 15,         /* the flow label of an IPv6 packet does */
+    WOLFAREN_TEST_SOURCE_PORT = 16,        /* the source port is in the range from `number` to `address_low` */
+    WOLFAREN_TEST_DESTINATION_PORT = 17,   /* the destination port is */
+    WOLFAREN_TEST_PORT = 18,               /* the source or the destination port is */
+    WOLFAREN_TEST_NO_TRANSPORT = 19,       /* the payload should start with ports, but is too short for both */
+    WOLFAREN_TEST_ICMP_TYPE = 20,          /* the type of the ICMP or ICMPv6 message is `number` */
+    WOLFAREN_TEST_ICMP_CODE = 21           /* its code is `number` */
 };
 
 /*
@@ -537,9 +548,9 @@ enum wolfaren_comparison {
 
 /* A test of a filter. Fields that its kind doesn't use are ignored. */
 struct wolfaren_filter_test {
-    uint64_t number;       /* flags, the number of a term, or what a count is compared with */
+    uint64_t number;       /* flags, the number of a term, what a quantity is compared with, or the lowest port */
     uint64_t address_high; /* bytes 0 to 7 of an IPv6 network's address, as a big-endian number; ignored for IPv4 */
-    uint64_t address_low;  /* bytes 8 to 15 of it, or the address of an IPv4 network */
+    uint64_t address_low;  /* bytes 8 to 15 of it, the address of an IPv4 network, or the highest port */
     uint8_t kind;          /* WOLFAREN_TEST_FLAGS .. */
     uint8_t comparison;    /* WOLFAREN_EQUAL .. */
     uint8_t version;       /* IP version of a network's address: 4 or 6 */
@@ -576,7 +587,11 @@ enum wolfaren_expected {
     WOLFAREN_EXPECTED_NUMBER = 9,             /* a number of 32 bits */
     WOLFAREN_EXPECTED_NETWORK = 10,           /* an address or a prefix */
     WOLFAREN_EXPECTED_FEWER_TERMS = 11,       /* no more than 64 terms */
-    WOLFAREN_EXPECTED_LESS_NESTING = 12       /* no more than 16 levels of parentheses */
+    WOLFAREN_EXPECTED_LESS_NESTING = 12,      /* no more than 16 levels of parentheses */
+    WOLFAREN_EXPECTED_BYTE = 13,              /* a number of 8 bits */
+    WOLFAREN_EXPECTED_NETWORK_OR_PORT = 14,   /* an address, a prefix or `port` */
+    WOLFAREN_EXPECTED_ADDRESS = 15,           /* an address */
+    WOLFAREN_EXPECTED_PORTS = 16              /* a port or a range of ports */
 };
 
 /* Where the text of a filter is wrong. */

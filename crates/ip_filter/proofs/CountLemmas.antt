@@ -14,7 +14,7 @@ use Rattle.ip_filter.specs.Parsing.{Open, after, group_terms, group_steps, or_st
 
 mutual
   pub operand_count : (u : Operand) (k : ℕ) → suc (length (operand_steps k u)) ≡ 2 * operand_terms u
-  operand_count (a_term t us) k = refl
+  operand_count (a_term w us t) k = refl
   operand_count (a_negation w u) k = operand_count u (suc k)
   operand_count (a_group d) k = filter_count d k
 
@@ -71,7 +71,7 @@ last_joined front x ws = record {
 
 mutual
   operand_last : (u : Operand) → Last (λ k. operand_steps k u) (operand_words u)
-  operand_last (a_term t us) = last_joined [] (kind.Term t) (operand_words (a_term t us))
+  operand_last (a_term w us t) = last_joined [] (kind.Term t) (operand_words (a_term w us t))
   operand_last (a_negation w u) =
       let l = operand_last u in
       let short = l.few in

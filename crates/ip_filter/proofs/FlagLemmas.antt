@@ -1,7 +1,7 @@
 -- The flags of a packet.
 use Rattle.std.proofs.Common.{zero, suc, bit_or, true≢false}
 use mir.Val.{bool_byte}
-use Rattle.ip_spec.proofs.Common.{◌≡◌, ℕ, ◌+◌, ◌<◌, ◌≤◌, ◌*◌, ◌%◌, ◌^◌, inl, inr, refl, sym, ap, ◌∙◌, arith, common_steps, eqb_tells, cases_eq, cases_lt, cases_Bool, bit_and, Bool, true, false, not, ◌==◌, ◌&&◌, ◌||◌, nat_eq, None, list_any, option_map_or, Option, ◌⊎◌, or-false, Some}
+use Rattle.ip_spec.proofs.Common.{◌≡◌, ℕ, ◌+◌, ◌<◌, ◌≤◌, ◌*◌, ◌%◌, ◌^◌, inl, inr, refl, sym, ap, ◌∙◌, arith, common_steps, eqb_tells, cases_eq, cases_lt, cases_Bool, bit_and, Bool, true, false, not, ◌==◌, ◌&&◌, ◌||◌, nat_eq, None, option_map_or, Option, ◌⊎◌, or-false, Some}
 use Rattle.std.specs.Int.{bit_at}
 use Rattle.std.proofs.lemmas.Bool.{or_parts}
 use Rattle.std.proofs.lemmas.Nat.{and_le_l}

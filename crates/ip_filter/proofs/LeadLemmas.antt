@@ -2,13 +2,14 @@
 use Rattle.std.proofs.Common.{Some, None, IsTrue, codes}
 use Rattle.std.specs.Prelude.{Option}
 use Rattle.std.specs.Option.{option_map_or}
-use Rattle.ip_spec.proofs.Common.{◌≡◌, ◌+◌, ◌≤◌, List, [], ◌∷◌, ◌++◌, length, refl, sym, ap, ◌∙◌, subst, arith, Bool, inl, inr, append_assoc, append-nil}
+use Rattle.ip_spec.proofs.Common.{◌≡◌, ◌+◌, ◌≤◌, List, [], ◌∷◌, ◌++◌, length, refl, sym, ap, ◌∙◌, subst, arith, inl, inr, append_assoc, append-nil}
+use Rattle.ip_filter.specs.declared.keyword.Keyword.TheVariants as keyword
 use Rattle.ip_filter.specs.declared.term.Term.{Term}
 use Rattle.ip_filter.specs.declared.term.Term.TheVariants as term
 use Rattle.ip_filter.specs.declared.parse_error.Expected.{Expected}
 use Rattle.ip_filter.specs.declared.parse_error.Expected.TheVariants as expects
 use Rattle.ip_filter.specs.Words.{Word}
-use Rattle.ip_filter.specs.Grammar.{Operand, Conjunction, Disjunction, a_term, a_negation, a_group, an_operand, an_and, a_conjunction, an_or, keyword, operand_words, conjunction_words, filter_words, IsOperand, IsConjunction, IsDisjunction, operand_terms, conjunction_terms, terms_in, operand_depth, conjunction_depth, depth_of, IsFilter, AreArguments, is_and, is_or}
+use Rattle.ip_filter.specs.Grammar.{Operand, Conjunction, Disjunction, a_term, a_negation, a_group, an_operand, an_and, a_conjunction, an_or, operand_words, conjunction_words, filter_words, IsOperand, IsConjunction, IsDisjunction, operand_terms, conjunction_terms, terms_in, operand_depth, conjunction_depth, depth_of, IsFilter, IsTerm, is_and, is_or}
 use Rattle.ip_filter.specs.Reading.{ends_term, LastIs, WantsArgument}
 use Rattle.ip_filter.specs.Parsing.{Open, State, before, after, nothing, HasRoom, Moves, by_not, by_open, by_term, by_and, by_or, by_close, may_follow, LeadsTo, ends, goes_on, with_operand, and_joined, or_joined, negate, open_terms, group_terms, state_words, NeedsOperand, IsWhole, EndsGroup, IsDue}
 use Rattle.ip_filter.specs.Parsed.{AreFilter, BeginFilter, IsExpected}
@@ -37,7 +38,7 @@ module _ (d : Disjunction) where
   mutual
     operand_leads : (u : Operand) (fs : List Open) (f : Open) (ws : List Word) → IsOperand u → length fs + operand_depth u ≤ 16 → group_terms fs + open_terms f + operand_terms u ≤ 64
         → IsTrue (ends_term ws) → LeadsTo (with_operand fs f u) ws d → LeadsTo (before fs f) (operand_words u ++ ws) d
-    operand_leads (a_term t us) fs f ws is deep many e l = step _ _ (keyword t ∷ us) ws (by_term fs f t us is) e l
+    operand_leads (a_term w us t) fs f ws is deep many e l = step _ _ (w ∷ us) ws (by_term fs f w us t is) e l
     operand_leads (a_negation w u) fs f ws is deep many e l =
         let more : Open = record f { nots = f.nots ++ w ∷ [] } in
         step _ _ (w ∷ []) (operand_words u ++ ws) (by_not fs f w is.0) tt
@@ -96,13 +97,14 @@ closes (f ∷ fs) o c =
     (more.0, codes ")" ∷ more.1, goes_on _ _ (codes ")" ∷ []) more.1 _ more.0 refl (by_close fs f o c) more.3 more.2, refl)
 
 -- so it may after a term
-pub term_ends : (fs : List Open) (f : Open) (t : Term) (us : List Word) → AreArguments us t → (d : Disjunction) × (ws : List Word) × LeadsTo (before fs f) (keyword t ∷ (us ++ ws)) d
-term_ends fs f t us args =
-    let more = closes fs f.or_left (and_joined f.and_left (negate f.nots (a_term t us))) in
-    (more.0, more.1, goes_on _ _ (keyword t ∷ us) more.1 _ more.0 refl (by_term fs f t us args) more.3 more.2)
+pub term_ends : (fs : List Open) (f : Open) (w : Word) (us : List Word) (t : Term) → IsTerm w us t → (d : Disjunction) × (ws : List Word) × LeadsTo (before fs f) (w ∷ (us ++ ws)) d
+term_ends fs f w us t is =
+    let more = closes fs f.or_left (and_joined f.and_left (negate f.nots (a_term w us t))) in
+    (more.0, more.1, goes_on _ _ (w ∷ us) more.1 _ more.0 refl (by_term fs f w us t is) more.3 more.2)
 
 pub can_end : (s : State) → (d : Disjunction) × (ws : List Word) × LeadsTo s ws d
-can_end (before fs f) = let more = term_ends fs f term.Fragment [] refl in (more.0, _, more.2)
+can_end (before fs f) =
+    let more = term_ends fs f (codes "fragment") [] term.Fragment (keyword.Alone term.Fragment, refl, (refl, refl)) in (more.0, _, more.2)
 can_end (after fs o c) = let more = closes fs o c in (more.0, more.1, more.2)
 
 -- ---- what is expected
@@ -126,8 +128,8 @@ ends_group : (s : State) → Good s → HasRoom s → EndsGroup s → BeginFilte
 ends_group (after (f ∷ fs) o c) good room is = begin_with (after (f ∷ fs) o c) good room _ _ (by_close fs f o c)
 ends_group s good room is = absurd is
 
-later_last : (us front : List Word) (is : Word → Bool) → LastIs is front → LastIs is (us ++ front)
-later_last us front is last = (us ++ last.0, last.1, ap (λ ws. us ++ ws) last.2 ∙ sym (append_assoc us last.0 (last.1 ∷ [])), last.3)
+later_last : (us front : List Word) (Is : Word → Type 0) → LastIs Is front → LastIs Is (us ++ front)
+later_last us front Is last = (us ++ last.0, last.1, ap (λ ws. us ++ ws) last.2 ∙ sym (append_assoc us last.0 (last.1 ∷ [])), last.3)
 
 nothing_more : (us front : List Word) → front ≡ [] → us ≡ us ++ front
 nothing_more us front e = sym (append-nil us) ∙ ap (λ ws. us ++ ws) (sym e)

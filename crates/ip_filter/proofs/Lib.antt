@@ -2,11 +2,13 @@ mod NetworkLemmas
 mod FormulaLemmas
 mod WordLemmas
 mod NumberLemmas
+mod IndexLemmas
 mod ArgumentLemmas
 mod NetworkTextLemmas
 mod AfterLemmas
 mod PlaceLemmas
 mod TermLemmas
+mod SideLemmas
 mod PartStepsLemmas
 mod CountLemmas
 mod MoveLemmas
@@ -18,5 +20,6 @@ mod ParseLemmas
 mod FactsLemmas
 mod FlagLemmas
 mod MaskLemmas
+mod TestLemmas
 mod ProgramLemmas
 mod CompileLemmas

@@ -1,5 +1,5 @@
 -- What a word leads to.
-use Rattle.std.proofs.Common.{is_some, IsTrue, codes}
+use Rattle.std.proofs.Common.{Some, None, is_some, IsTrue, codes}
 use Rattle.std.specs.Option.{option_map_or}
 use Rattle.std.specs.Str.{bytes_eq}
 use Rattle.ip_spec.proofs.Common.{◌≡◌, ℕ, ◌+◌, ◌-◌, ◌<◌, ◌≤◌, ◌^◌, min, List, [], ◌∷◌, ◌++◌, length, take, drop, refl, sym, ap, ◌∙◌, subst, arith, true, false, false≢true, append_assoc, append-nil, length-append}
@@ -8,9 +8,9 @@ use Rattle.ip_filter.specs.declared.builder.Builder.{Builder}
 use Rattle.ip_filter.specs.declared.parse_error.Expected.{Expected}
 use Rattle.ip_filter.specs.declared.parse_error.Expected.TheVariants as expects
 use Rattle.ip_filter.specs.declared.term.Term.{Term}
-use Rattle.ip_filter.specs.declared.term.Term.TheVariants as term
+use Rattle.ip_filter.specs.declared.keyword.Keyword.{Keyword}
 use Rattle.ip_filter.specs.Words.{Word, words}
-use Rattle.ip_filter.specs.Grammar.{Operand, Disjunction, Conjunction, a_term, keyword, AreArguments, is_not, filter_words, conjunction_words}
+use Rattle.ip_filter.specs.Grammar.{Operand, Disjunction, Conjunction, a_term, keyword_of, AreArguments, IsTerm, is_not, filter_words, conjunction_words}
 use Rattle.ip_filter.specs.Reading.{IsPlace, IsFirstWord, ReadsTerm, RefusesTerm, ends_term}
 use Rattle.ip_filter.specs.Parsing.{Open, State, before, nothing, Moves, by_not, by_open, by_term, may_follow, LeadsTo, with_operand, open_terms, group_terms, group_words, open_words, Fits, Holds, HoldsOperand, ReadsOn, RefusesFrom, level_of, levels_of, state_steps, and_joined, negate}
 use Rattle.arrayvec.specs.declared.array_vec.ArrayVec.{ArrayVec}
@@ -21,17 +21,15 @@ use Rattle.ip_filter.specs.Formula.{steps_of}
 use Rattle.ip_filter.proofs.PartStepsLemmas.{joined_terms}
 use Rattle.ip_filter.proofs.CountLemmas.{group_count, after_count}
 use Rattle.ip_filter.proofs.LeadLemmas.{can_end, term_ends, argument_is_due}
-use Rattle.ip_filter.proofs.WordLemmas.{same_word}
+use Rattle.ip_filter.proofs.WordLemmas.{same_word, either_word}
 use Rattle.ip_filter.proofs.PlaceLemmas.{end_of_end, place_in_end, from_place}
 
 -- no keyword is a word `not` or a parenthesis
-keyword_not : (t : Term) → is_not (keyword t) ≡ false
-keyword_not (term.Version v) = refl
-keyword_not t = refl
+keyword_not : (w : Word) (k : Keyword) → keyword_of w ≡ Some k → is_not w ≡ true → ⊥
+keyword_not w k is n = cc (sym is ∙ either_word (λ x. keyword_of x ≡ None) w (codes "not") (codes "!") n refl refl)
 
-keyword_open : (t : Term) → bytes_eq (keyword t) (codes "(") ≡ false
-keyword_open (term.Version v) = refl
-keyword_open t = refl
+keyword_open : (w : Word) (k : Keyword) → keyword_of w ≡ Some k → bytes_eq w (codes "(") ≡ true → ⊥
+keyword_open w k is o = cc (sym is ∙ ap keyword_of (same_word w (codes "(") o))
 
 module _ (fs : List Open) (f : Open) (w : Word) where
   -- ---- what may precede an operand
@@ -40,23 +38,25 @@ module _ (fs : List Open) (f : Open) (w : Word) where
       → (t ≡ before fs (record f { nots = f.nots ++ w ∷ [] })) × (vs ≡ w ∷ [])
   only_not t vs ws more n (by_not gs g v p) e = (cc e, cc e)
   only_not t vs ws more n (by_open gs g few) e = let same : codes "(" ≡ w = cc e in absurd (cc (ap is_not same))
-  only_not t vs ws more n (by_term gs g u us args) e = let same : keyword u ≡ w = cc e in absurd (cc (keyword_not u, ap is_not same))
+  only_not t vs ws more n (by_term gs g v us u is) e = let same : v ≡ w = cc e in absurd (keyword_not v is.0 is.1 (ap is_not same ∙ n))
 
   only_open : (t : State) (vs ws more : List Word) → bytes_eq w (codes "(") ≡ true → Moves (before fs f) vs t → vs ++ more ≡ w ∷ ws
       → (t ≡ before (f ∷ fs) nothing) × (vs ≡ codes "(" ∷ []) × (length fs < 16)
   only_open t vs ws more o (by_not gs g v p) e = absurd (cc (ap is_not (same_word w (codes "(") o)))
   only_open t vs ws more o (by_open gs g few) e = (refl, refl, few)
-  only_open t vs ws more o (by_term gs g u us args) e = let same : keyword u ≡ w = cc e in absurd (cc (keyword_open u, ap (λ x. bytes_eq x (codes "(")) same))
+  only_open t vs ws more o (by_term gs g v us u is) e = let same : v ≡ w = cc e in absurd (keyword_open v is.0 is.1 (ap (λ x. bytes_eq x (codes "(")) same ∙ o))
 
   -- ---- a term
 
   only_term : (t : State) (vs ws more : List Word) → is_not w ≡ false → bytes_eq w (codes "(") ≡ false → Moves (before fs f) vs t → may_follow t more → vs ++ more ≡ w ∷ ws
-      → (u : Term) × (us : List Word) × (t ≡ with_operand fs f (a_term u us)) × (vs ≡ keyword u ∷ us) × (keyword u ≡ w) × AreArguments us u
+      → (u : Term) × (us : List Word) × (t ≡ with_operand fs f (a_term w us u)) × (vs ≡ w ∷ us) × IsTerm w us u
       × IsTrue (ends_term more) × (us ++ more ≡ ws)
   only_term t vs ws more n o (by_not gs g v p) may e = absurd (cc n)
   only_term t vs ws more n o (by_open gs g few) may e = let same : w ≡ codes "(" = cc e in absurd (cc (ap (λ x. bytes_eq x (codes "(")) same))
-  only_term t vs ws more n o (by_term gs g u us args) may e =
-      let same : keyword u ≡ w = cc e in let rest : us ++ more ≡ ws = cc e in (u, us, refl, refl, same, args, may, rest)
+  only_term t vs ws more n o (by_term gs g v us u is) may e =
+      let same : v ≡ w = cc e in
+      let rest : us ++ more ≡ ws = cc e in
+      (u, us, ap (λ x. with_operand fs f (a_term x us u)) same, ap (λ x. x ∷ us) same, subst (λ x. IsTerm x us u) same is, may, rest)
 
 pub level_count : (fs : List Open) → length (levels_of fs) ≡ length fs
 level_count [] = refl
@@ -151,7 +151,11 @@ module _ (b : Builder) (w : FirstWord) where
   }
 
   module _ (n : is_not w.bytes.now ≡ false) (o : bytes_eq w.bytes.now (codes "(") ≡ false) where
-    pub no_term : ((t : Term) → keyword t ≡ w.bytes.now → ⊥) → (text : List ℕ) (fs : List Open) (f : Open) → IsFirstWord text w → Holds (before fs f) b
+    -- a word is one keyword
+    arguments_of : (k : Keyword) → Some k ≡ keyword_of w.bytes.now → (us : List Word) (u : Term) → IsTerm w.bytes.now us u → AreArguments k us u
+    arguments_of k named us u is = let same : is.0 ≡ k = cc (named ∙ is.1) in subst (λ x. AreArguments x us u) same is.2
+
+    pub no_term : None ≡ keyword_of w.bytes.now → (text : List ℕ) (fs : List Open) (f : Open) → IsFirstWord text w → Holds (before fs f) b
         → RefusesFrom (before fs f) text w.left expects.Operand
     no_term none text fs f is h = record {
       front = [];
@@ -159,30 +163,31 @@ module _ (b : Builder) (w : FirstWord) where
       begins = can_end (before fs f);
       none = λ t vs ws more m may e next.
           let here = at_word text w is ws vs more next e in
-          let found = only_term fs f w.bytes.now t vs here.0 more n o m may here.1 in none found.0 found.4;
+          let found = only_term fs f w.bytes.now t vs here.0 more n o m may here.1 in
+          let is = found.4 in cc (none ∙ is.1);
       expected = (tt, refl, λ e. let same : w.bytes.now ≡ codes "(" = cc (sym (next_word text w is) ∙ e) in false≢true (sym o ∙ ap (λ x. bytes_eq x (codes "(")) same));
     }
 
-    pub bad_term : (left : ℕ) (e : Expected) → RefusesTerm w.bytes.now w.rest.now left e → (text : List ℕ) (fs : List Open) (f : Open) → IsFirstWord text w → Holds (before fs f) b
+    pub bad_term : (k : Keyword) → Some k ≡ keyword_of w.bytes.now → (left : ℕ) (e : Expected) → RefusesTerm k w.rest.now left e → (text : List ℕ) (fs : List Open) (f : Open) → IsFirstWord text w → Holds (before fs f) b
         → RefusesFrom (before fs f) text left e
-    bad_term left e r text fs f is h = record {
+    bad_term k named left e r text fs f is h = record {
       front = w.bytes.now ∷ r.before;
       place = later_place text w is r.before left r.place;
       begins =
           let b = r.begins in
-          let more = term_ends fs f b.0 (r.before ++ b.1) b.3 in
-          (more.0, b.1 ++ more.1, subst (λ ws. LeadsTo (before fs f) ws more.0) (ap (λ k. k ∷ ((r.before ++ b.1) ++ more.1)) b.2 ∙ ap (λ ws. w.bytes.now ∷ ws) (append_assoc r.before b.1 more.1)) more.2);
-      expected = argument_is_due (before fs f) (w.bytes.now ∷ r.before) _ e r.expected;
+          let more = term_ends fs f w.bytes.now (r.before ++ b.1) b.0 (k, sym named, b.2) in
+          (more.0, b.1 ++ more.1, subst (λ ws. LeadsTo (before fs f) ws more.0) (ap (λ ws. w.bytes.now ∷ ws) (append_assoc r.before b.1 more.1)) more.2);
+      expected = argument_is_due (before fs f) (w.bytes.now ∷ r.before) _ e (r.expected w.bytes.now (sym named));
       none = λ t vs ws more m may same next.
           let found = only_term fs f w.bytes.now t vs (r.before ++ ws) more n o m may same in
-          r.none found.0 found.1 ws more found.4 found.5 found.6 found.7 (next ∙ ap (λ s. take 1 (words s)) (sym (from_place text w.rest.now is.end left r.place.within)));
+          r.none found.0 found.1 ws more (arguments_of k named found.1 found.0 found.4) found.5 found.6 (next ∙ ap (λ s. take 1 (words s)) (sym (from_place text w.rest.now is.end left r.place.within)));
     }
 
     -- the step of the term is the last one
-    term_holds : (filter : Steps) (count : ℕ) (t : Term) (us : List Word) (fs : List Open) (f : Open) → Holds (before fs f) b → count ≡ b.terms + 1
+    term_holds : (filter : Steps) (count : ℕ) (us : List Word) (t : Term) (fs : List Open) (f : Open) → Holds (before fs f) b → count ≡ b.terms + 1
         → steps_of filter ≡ steps_of b.steps ++ record { kind = kind.Term t; nots = b.level.nots } ∷ []
-        → HoldsOperand fs f (a_term t us) (record { steps = filter; terms = count; outer = b.outer; level = b.level; has_operand = b.has_operand })
-    term_holds filter count t us fs f h sum pushed = record {
+        → HoldsOperand fs f (a_term w.bytes.now us t) (record { steps = filter; terms = count; outer = b.outer; level = b.level; has_operand = b.has_operand })
+    term_holds filter count us t fs f h sum pushed = record {
       steps = pushed ∙ ap (λ s. s ++ record { kind = kind.Term t; nots = b.level.nots } ∷ []) h.steps
           ∙ ap (λ k. state_steps (before fs f) ++ record { kind = kind.Term t; nots = k } ∷ []) (ap (λ l. l.nots) h.level);
       terms = sum ∙ ap (λ k. k + 1) h.terms;
@@ -191,13 +196,13 @@ module _ (b : Builder) (w : FirstWord) where
       and_waits = ap (λ l. l.and_waits) h.level;
     }
 
-    pub term_read : (filter : Steps) (count : ℕ) (t : Term) (rest : List ℕ) (new : Builder) → ReadsTerm w.bytes.now w.rest.now t rest → count ≡ min (b.terms + 1) 18446744073709551615
+    pub term_read : (k : Keyword) → Some k ≡ keyword_of w.bytes.now → (filter : Steps) (count : ℕ) (t : Term) (rest : List ℕ) (new : Builder) → ReadsTerm k w.rest.now t rest → count ≡ min (b.terms + 1) 18446744073709551615
         → (length (steps_of b.steps) < 127 → steps_of filter ≡ steps_of b.steps ++ record { kind = kind.Term t; nots = b.level.nots } ∷ [])
         → ((fs : List Open) (f : Open) (u : Operand) → HoldsOperand fs f u (record { steps = filter; terms = count; outer = b.outer; level = b.level; has_operand = b.has_operand })
         → length (state_steps (with_operand fs f u)) ≤ 127 → Holds (with_operand fs f u) new)
         → (text : List ℕ) (fs : List Open) (f : Open) → IsFirstWord text w → Holds (before fs f) b → Fits (before fs f) → ReadsOn (before fs f) text rest new
-    term_read filter count t rest new r sum push done text fs f is h fits =
-        let u = a_term t r.args in
+    term_read k named filter count t rest new r sum push done text fs f is h fits =
+        let u = a_term w.bytes.now r.args t in
         let terms = h.terms in
         let few = fits.terms in
         let room : length (steps_of b.steps) < 127 = omega (arith, few, terms, ap length h.steps, group_count (f ∷ fs)) in
@@ -206,15 +211,15 @@ module _ (b : Builder) (w : FirstWord) where
         = omega (arith, few, terms, all, after_count fs f.or_left (and_joined f.and_left (negate f.nots u))) in
         record {
           next = with_operand fs f u;
-          us = keyword t ∷ r.args;
-          moves = by_term fs f t r.args r.arguments;
-          begins = is.begins ∙ ap (λ ws. w.bytes.now ∷ ws) r.begins ∙ ap (λ x. x ∷ (r.args ++ words rest)) (sym r.named);
+          us = w.bytes.now ∷ r.args;
+          moves = by_term fs f w.bytes.now r.args t (k, sym named, r.arguments);
+          begins = is.begins ∙ ap (λ ws. w.bytes.now ∷ ws) r.begins;
           end = end_of_end text w.rest.now is.end rest r.end;
-          holds = done fs f u (term_holds filter count t r.args fs f h (omega (arith, sum, few, terms)) (push room)) enough;
+          holds = done fs f u (term_holds filter count r.args t fs f h (omega (arith, sum, few, terms)) (push room)) enough;
           only = λ s vs ws more m may e next.
-              let found = only_term fs f w.bytes.now s vs (r.args ++ ws) more n o m may (e ∙ ap (λ x. x ∷ (r.args ++ ws)) r.named) in
-              let same = r.only found.0 found.1 ws more found.4 found.5 found.6 found.7 next in (
-                found.2 ∙ ap (λ x. with_operand fs f (a_term x found.1)) same.0 ∙ ap (λ x. with_operand fs f (a_term t x)) same.1,
-                found.3 ∙ ap (λ x. keyword x ∷ found.1) same.0 ∙ ap (λ x. keyword t ∷ x) same.1,
+              let found = only_term fs f w.bytes.now s vs (r.args ++ ws) more n o m may e in
+              let same = r.only found.0 found.1 ws more (arguments_of k named found.1 found.0 found.4) found.5 found.6 next in (
+                found.2 ∙ ap (λ x. with_operand fs f (a_term w.bytes.now found.1 x)) same.0 ∙ ap (λ x. with_operand fs f (a_term w.bytes.now x t)) same.1,
+                found.3 ∙ ap (λ x. w.bytes.now ∷ x) same.1,
               );
         }

@@ -14,7 +14,7 @@ negated_in (suc k) f = ap negation (negated_in k f)
 
 mutual
   operand_read : (u : Operand) (k : ℕ) (fs : List Formula) (rest : List Step) → read_after fs (operand_steps k u ++ rest) ≡ read_after (negated k (operand_formula u) ∷ fs) rest
-  operand_read (a_term t us) k fs rest = refl
+  operand_read (a_term w us t) k fs rest = refl
   operand_read (a_negation w u) k fs rest = operand_read u (suc k) fs rest ∙ ap (λ f. read_after (f ∷ fs) rest) (sym (negated_in k (operand_formula u)))
   operand_read (a_group d) k fs rest = filter_read d k fs rest
 
@@ -38,7 +38,7 @@ whole_formula d = ap (read_after []) (sym (append-nil (filter_steps 0 d))) ∙ f
 -- The formula has as many terms as the text.
 mutual
   operand_terms_read : (u : Operand) → terms_of (operand_formula u) ≡ operand_terms u
-  operand_terms_read (a_term t us) = refl
+  operand_terms_read (a_term w us t) = refl
   operand_terms_read (a_negation w u) = operand_terms_read u
   operand_terms_read (a_group d) = terms_read d
 

@@ -4,7 +4,7 @@ use Rattle.std.specs.Prelude.{Option, ⊤}
 use Rattle.std.specs.Option.{option_map_or}
 use Rattle.ip_spec.proofs.Common.{◌≡◌, ℕ, ◌+◌, ◌≤◌, List, [], ◌∷◌, ◌++◌, length, refl, sym, ap, ◌∙◌, arith, append_assoc, append-nil}
 use Rattle.ip_filter.specs.Words.{Word}
-use Rattle.ip_filter.specs.Grammar.{Operand, Conjunction, Disjunction, a_term, a_group, keyword, operand_words, conjunction_words, filter_words, IsOperand, IsConjunction, IsDisjunction, terms_in, conjunction_terms, operand_depth, conjunction_depth, depth_of, is_not, is_and, is_or, IsFilter}
+use Rattle.ip_filter.specs.Grammar.{Operand, Conjunction, Disjunction, a_term, a_group, operand_words, conjunction_words, filter_words, IsOperand, IsConjunction, IsDisjunction, terms_in, conjunction_terms, operand_depth, conjunction_depth, depth_of, is_not, is_and, is_or, IsFilter}
 use Rattle.ip_filter.specs.Parsing.{Open, State, before, after, Moves, by_not, by_open, by_term, by_and, by_or, by_close, with_operand, and_joined, or_joined, negate, HasRoom, open_words, group_words, state_words}
 use Rattle.ip_filter.proofs.PartStepsLemmas.{joined_terms}
 
@@ -39,7 +39,7 @@ move_words s t us (by_not fs f w is) =
     let regroup : group_words fs ++ (o ++ a ++ (f.nots ++ w ∷ [])) ≡ group_words fs ++ (o ++ a ++ f.nots) ++ w ∷ [] = simp append_assoc in
     regroup
 move_words s t us (by_open fs f few) = append-nil (group_words fs ++ open_words f ++ codes "(" ∷ [])
-move_words s t us (by_term fs f u args is) = with_words fs f (a_term u args)
+move_words s t us (by_term fs f w args u is) = with_words fs f (a_term w args u)
 move_words s t us (by_and fs o c w is few) =
     let l = option_map_or (λ (p : Disjunction × Word). filter_words p.0 ++ p.1 ∷ []) o [] in
     let regroup : group_words fs ++ (l ++ (conjunction_words c ++ w ∷ []) ++ []) ≡ (group_words fs ++ l ++ conjunction_words c) ++ w ∷ [] = simp (append_assoc, append-nil) in
@@ -56,7 +56,7 @@ move_words s t us (by_close fs f o c) =
 pub move_some : (s t : State) (us : List Word) → Moves s us t → (v : Word) × (vs : List Word) × (us ≡ v ∷ vs)
 move_some s t us (by_not fs f w is) = (w, [], refl)
 move_some s t us (by_open fs f few) = (codes "(", [], refl)
-move_some s t us (by_term fs f u args is) = (keyword u, args, refl)
+move_some s t us (by_term fs f w args u is) = (w, args, refl)
 move_some s t us (by_and fs o c w is few) = (w, [], refl)
 move_some s t us (by_or fs o c w is few) = (w, [], refl)
 move_some s t us (by_close fs f o c) = (codes ")", [], refl)
@@ -70,7 +70,7 @@ or_joined_terms (Some p) c = refl
 pub move_room : (s t : State) (us : List Word) → Moves s us t → HasRoom s → HasRoom t
 move_room s t us (by_not fs f w is) few = few
 move_room s t us (by_open fs f deep) few = omega (arith, few)
-move_room s t us (by_term fs f u args is) few = omega (arith, few, joined_terms f.nots (a_term u args) f.and_left)
+move_room s t us (by_term fs f w args u is) few = omega (arith, few, joined_terms f.nots (a_term w args u) f.and_left)
 move_room s t us (by_and fs o c w is more) few = omega (arith, more)
 move_room s t us (by_or fs o c w is more) few = omega (arith, more, or_joined_terms o c)
 move_room s t us (by_close fs f o c) few = omega (arith, few, or_joined_terms o c, joined_terms f.nots (a_group (or_joined o c)) f.and_left)
@@ -124,7 +124,7 @@ good_operand fs f u open_good groups few good = (open_good.0, good_and (length f
 pub move_good : (s t : State) (us : List Word) → Moves s us t → Good s → Good t
 move_good s t us (by_not fs f w is) good = ((good.0.0, good.0.1, good_nots f.nots w good.0.2 is), good.1, good.2)
 move_good s t us (by_open fs f few) good = ((tt, tt, tt), (good.0, good.1), omega (arith, few))
-move_good s t us (by_term fs f u args is) good = let deep = good.2 in good_operand fs f (a_term u args) good.0 good.1 good.2 (is, omega (arith, deep))
+move_good s t us (by_term fs f w args u is) good = let deep = good.2 in good_operand fs f (a_term w args u) good.0 good.1 good.2 (is, omega (arith, deep))
 move_good s t us (by_and fs o c w is few) good = ((good.0, (good.1.0, is, good.1.1), tt), good.2, good.3)
 move_good s t us (by_or fs o c w is few) good = let all = good_or (length fs) o c good.0 good.1 in (((all.0, is, all.1), tt, tt), good.2, good.3)
 move_good s t us (by_close fs f o c) good =

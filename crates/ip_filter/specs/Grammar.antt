@@ -1,34 +1,81 @@
 -- The grammar of filters: which words are a term, and how words are joined to formulas.
-use Rattle.std.specs.Prelude.{◌≡◌, ◌≤◌, ◌+◌, ℕ, suc, List, [], ◌∷◌, ◌++◌, max, Bool, ◌||◌, Option, Some, IsTrue, codes}
+use Rattle.std.specs.Prelude.{◌≡◌, ◌≤◌, ◌+◌, ◌⊎◌, ℕ, suc, List, [], ◌∷◌, ◌++◌, max, Bool, ◌||◌, Option, Some, None, IsTrue, codes, if◌then◌else◌}
+use Rattle.std.specs.Option.{option_map, option_or}
 use Rattle.std.specs.Str.{bytes_eq}
 use Rattle.ip_filter.specs.declared.term.Comparison.{Comparison}
+use Rattle.ip_filter.specs.declared.term.Quantity.{Quantity}
+use Rattle.ip_filter.specs.declared.term.Quantity.TheVariants as quantity
 use Rattle.ip_filter.specs.declared.term.Term.{Term}
 use Rattle.ip_filter.specs.declared.term.Term.TheVariants as term
+use Rattle.ip_filter.specs.declared.keyword.Keyword.{Keyword}
+use Rattle.ip_filter.specs.declared.keyword.Keyword.TheVariants as keyword
+use Rattle.ip_filter.specs.declared.keyword.NumberKeyword.{NumberKeyword}
+use Rattle.ip_filter.specs.declared.keyword.NumberKeyword.TheVariants as number
+use Rattle.ip_filter.specs.declared.keyword.AddressKeyword.{AddressKeyword}
+use Rattle.ip_filter.specs.declared.keyword.AddressKeyword.TheVariants as address
+use Rattle.ip_filter.specs.declared.parse_term.Side.{Side}
+use Rattle.ip_filter.specs.declared.parse_term.Side.TheVariants as side
 use Rattle.ip_filter.specs.Words.{Word}
-use Rattle.ip_filter.specs.Numbers.{version_of, header_of, protocol_of, number_up_to, comparison_of, fault_kind_of, IsNetworkText}
+use Rattle.ip_filter.specs.Numbers.{version_of, header_of, upper_layer_of, protocol_of, number_up_to, ports_of, comparison_of, fault_kind_of, IsNetworkText, IsHostText}
 use Rattle.ip_filter.specs.Formula.{Formula, single, negation, both, either}
 
--- ---- terms
+-- ---- keywords
 
-abbrev pub keyword : Term → Word
-keyword (term.Version v) = codes "version"
-keyword (term.Header n) = codes "header"
-keyword (term.LeadsTo n) = codes "leads-to"
-keyword term.Fragment = codes "fragment"
-keyword term.FirstFragment = codes "first-fragment"
-keyword term.LaterFragment = codes "later-fragment"
-keyword term.Truncated = codes "truncated"
-keyword term.Incomplete = codes "incomplete"
-keyword term.Fault = codes "fault"
-keyword (term.FaultOf kind) = codes "fault"
-keyword (term.Headers c n) = codes "headers"
-keyword (term.ChainBytes c n) = codes "chain-bytes"
-keyword (term.Payload c n) = codes "payload"
-keyword (term.SecurityParameters i) = codes "spi"
-keyword (term.Identification i) = codes "id"
-keyword (term.Source n) = codes "src"
-keyword (term.Destination n) = codes "dst"
-keyword (term.Either n) = codes "net"
+-- the term that a word is by itself
+abbrev pub alone : Word → Option Term
+alone w =
+    if bytes_eq w (codes "ip") then Some (term.Version 4)
+    else if bytes_eq w (codes "ip6") then Some (term.Version 6)
+    else if bytes_eq w (codes "fragment") then Some term.Fragment
+    else if bytes_eq w (codes "first-fragment") then Some term.FirstFragment
+    else if bytes_eq w (codes "later-fragment") then Some term.LaterFragment
+    else if bytes_eq w (codes "truncated") then Some term.Truncated
+    else if bytes_eq w (codes "incomplete") then Some term.Incomplete
+    else if bytes_eq w (codes "no-transport") then Some term.NoTransport
+    else option_map term.LeadsTo (upper_layer_of w)
+
+abbrev pub quantity_named : Word → Option Quantity
+quantity_named w =
+    if bytes_eq w (codes "headers") then Some quantity.Headers
+    else if bytes_eq w (codes "chain-bytes") then Some quantity.ChainBytes
+    else if bytes_eq w (codes "payload") then Some quantity.Payload
+    else if bytes_eq w (codes "length") then Some quantity.Length
+    else if bytes_eq w (codes "hop-limit") || bytes_eq w (codes "ttl") then Some quantity.HopLimit
+    else if bytes_eq w (codes "dscp") then Some quantity.Dscp
+    else if bytes_eq w (codes "ecn") then Some quantity.Ecn
+    else if bytes_eq w (codes "flow") then Some quantity.FlowLabel
+    else None
+
+-- a keyword that a number or a name follows
+abbrev pub number_keyword_of : Word → Option NumberKeyword
+number_keyword_of w =
+    if bytes_eq w (codes "version") then Some number.Version
+    else if bytes_eq w (codes "header") then Some number.Header
+    else if bytes_eq w (codes "leads-to") then Some number.LeadsTo
+    else if bytes_eq w (codes "spi") then Some number.SecurityParameters
+    else if bytes_eq w (codes "id") then Some number.Identification
+    else if bytes_eq w (codes "icmp-type") then Some number.IcmpType
+    else if bytes_eq w (codes "icmp-code") then Some number.IcmpCode
+    else None
+
+-- a keyword that an address, a network or ports follow
+abbrev pub address_keyword_of : Word → Option AddressKeyword
+address_keyword_of w =
+    if bytes_eq w (codes "src") then Some address.Source
+    else if bytes_eq w (codes "dst") then Some address.Destination
+    else if bytes_eq w (codes "net") then Some address.Network
+    else if bytes_eq w (codes "host") then Some address.Host
+    else if bytes_eq w (codes "port") then Some address.Port
+    else None
+
+abbrev pub keyword_of : Word → Option Keyword
+keyword_of w =
+    if bytes_eq w (codes "fault") then Some keyword.Fault
+    else option_or (option_map keyword.Alone (alone w))
+    (option_or (option_map keyword.Compared (quantity_named w))
+    (option_or (option_map keyword.Number (number_keyword_of w)) (option_map keyword.Address (address_keyword_of w))))
+
+-- ---- terms
 
 -- one word, which writes this value
 abbrev pub IsOne : {A : Type 0} → (Word → A → Type 0) → List Word → A → Type 0
@@ -43,26 +90,50 @@ abbrev pub AreCompared : List Word → Comparison × ℕ → Type 0
 AreCompared args c =
     (o : Word) × (w : Word) × (args ≡ o ∷ w ∷ []) × (comparison_of o ≡ Some c.0) × (number_up_to 18446744073709551615 w ≡ Some c.1)
 
--- the words after the keyword of a term
-abbrev pub AreArguments : List Word → Term → Type 0
-AreArguments args (term.Version v) = IsOne (Finds version_of) args v
-AreArguments args (term.Header n) = IsOne (Finds header_of) args n
-AreArguments args (term.LeadsTo n) = IsOne (Finds protocol_of) args n
-AreArguments args term.Fragment = args ≡ []
-AreArguments args term.FirstFragment = args ≡ []
-AreArguments args term.LaterFragment = args ≡ []
-AreArguments args term.Truncated = args ≡ []
-AreArguments args term.Incomplete = args ≡ []
-AreArguments args term.Fault = args ≡ []
-AreArguments args (term.FaultOf kind) = IsOne (Finds fault_kind_of) args kind
-AreArguments args (term.Headers c n) = AreCompared args (c, n)
-AreArguments args (term.ChainBytes c n) = AreCompared args (c, n)
-AreArguments args (term.Payload c n) = AreCompared args (c, n)
-AreArguments args (term.SecurityParameters i) = IsOne (Finds (number_up_to 4294967295)) args i
-AreArguments args (term.Identification i) = IsOne (Finds (number_up_to 4294967295)) args i
-AreArguments args (term.Source n) = IsOne IsNetworkText args n
-AreArguments args (term.Destination n) = IsOne IsNetworkText args n
-AreArguments args (term.Either n) = IsOne IsNetworkText args n
+-- a network, or `port` and ports
+abbrev pub AreSide : List Word → Side → Type 0
+AreSide args (side.Network n) = IsOne IsNetworkText args n
+AreSide args (side.Ports r) = (w : Word) × (args ≡ codes "port" ∷ w ∷ []) × Finds ports_of w r
+
+abbrev pub source : Side → Term
+source (side.Network n) = term.Source n
+source (side.Ports r) = term.SourcePort r
+
+abbrev pub destination : Side → Term
+destination (side.Network n) = term.Destination n
+destination (side.Ports r) = term.DestinationPort r
+
+-- the words write a value, of which t is made
+abbrev pub Make : {A : Type 0} → (List Word → A → Type 0) → (A → Term) → List Word → Term → Type 0
+Make {A} Write make args t = (a : A) × Write args a × (t ≡ make a)
+
+-- the words after a keyword, which write the term t with it
+abbrev pub AreNumberArguments : NumberKeyword → List Word → Term → Type 0
+AreNumberArguments number.Version args t = Make (IsOne (Finds version_of)) term.Version args t
+AreNumberArguments number.Header args t = Make (IsOne (Finds header_of)) term.Header args t
+AreNumberArguments number.LeadsTo args t = Make (IsOne (Finds protocol_of)) term.LeadsTo args t
+AreNumberArguments number.SecurityParameters args t = Make (IsOne (Finds (number_up_to 4294967295))) term.SecurityParameters args t
+AreNumberArguments number.Identification args t = Make (IsOne (Finds (number_up_to 4294967295))) term.Identification args t
+AreNumberArguments number.IcmpType args t = Make (IsOne (Finds (number_up_to 255))) term.IcmpType args t
+AreNumberArguments number.IcmpCode args t = Make (IsOne (Finds (number_up_to 255))) term.IcmpCode args t
+
+abbrev pub AreAddressArguments : AddressKeyword → List Word → Term → Type 0
+AreAddressArguments address.Source args t = Make AreSide source args t
+AreAddressArguments address.Destination args t = Make AreSide destination args t
+AreAddressArguments address.Network args t = Make (IsOne IsNetworkText) term.Either args t
+AreAddressArguments address.Host args t = Make (IsOne IsHostText) term.Either args t
+AreAddressArguments address.Port args t = Make (IsOne (Finds ports_of)) term.Port args t
+
+abbrev pub AreArguments : Keyword → List Word → Term → Type 0
+AreArguments (keyword.Alone u) args t = (args ≡ []) × (t ≡ u)
+AreArguments keyword.Fault args t = ((args ≡ []) × (t ≡ term.Fault)) ⊎ Make (IsOne (Finds fault_kind_of)) term.FaultOf args t
+AreArguments (keyword.Number k) args t = AreNumberArguments k args t
+AreArguments (keyword.Compared q) args t = Make AreCompared (λ c. term.Compared q c.0 c.1) args t
+AreArguments (keyword.Address k) args t = AreAddressArguments k args t
+
+-- the word w is a keyword, and writes the term t with the words after it
+abbrev pub IsTerm : Word → List Word → Term → Type 0
+IsTerm w args t = (k : Keyword) × (keyword_of w ≡ Some k) × AreArguments k args t
 
 -- ---- formulas
 
@@ -78,7 +149,7 @@ is_or w = bytes_eq w (codes "or") || bytes_eq w (codes "||")
 -- A filter is a disjunction of conjunctions of operands, so `not` binds most tightly, then `and`.
 mutual
   pub data Operand : Type 0 where
-    a_term : Term → List Word → Operand
+    a_term : Word → List Word → Term → Operand
     a_negation : Word → Operand → Operand
     a_group : Disjunction → Operand
 
@@ -93,7 +164,7 @@ mutual
 -- its words
 abbrev mutual
   pub operand_words : Operand → List Word
-  operand_words (a_term t args) = keyword t ∷ args
+  operand_words (a_term w args t) = w ∷ args
   operand_words (a_negation w u) = w ∷ operand_words u
   operand_words (a_group d) = codes "(" ∷ (filter_words d ++ (codes ")" ∷ []))
 
@@ -108,7 +179,7 @@ abbrev mutual
 -- each word means what it stands for
 abbrev mutual
   pub IsOperand : Operand → Type 0
-  IsOperand (a_term t args) = AreArguments args t
+  IsOperand (a_term w args t) = IsTerm w args t
   IsOperand (a_negation w u) = IsTrue (is_not w) × IsOperand u
   IsOperand (a_group d) = IsDisjunction d
 
@@ -123,7 +194,7 @@ abbrev mutual
 -- the formula that it writes
 abbrev mutual
   pub operand_formula : Operand → Formula
-  operand_formula (a_term t args) = single t
+  operand_formula (a_term w args t) = single t
   operand_formula (a_negation w u) = negation (operand_formula u)
   operand_formula (a_group d) = formula_of d
 
@@ -138,7 +209,7 @@ abbrev mutual
 -- how many terms it has
 abbrev mutual
   pub operand_terms : Operand → ℕ
-  operand_terms (a_term t args) = 1
+  operand_terms (a_term w args t) = 1
   operand_terms (a_negation w u) = operand_terms u
   operand_terms (a_group d) = terms_in d
 
@@ -153,7 +224,7 @@ abbrev mutual
 -- how deeply its parentheses are nested
 abbrev mutual
   pub operand_depth : Operand → ℕ
-  operand_depth (a_term t args) = 0
+  operand_depth (a_term w args t) = 0
   operand_depth (a_negation w u) = operand_depth u
   operand_depth (a_group d) = suc (depth_of d)
 

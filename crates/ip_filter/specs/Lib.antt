@@ -1,4 +1,5 @@
 pub mod Network
+pub mod Transport
 pub mod Truth
 pub mod Facts
 pub mod Flags

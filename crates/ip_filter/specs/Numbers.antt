@@ -1,6 +1,7 @@
 -- How a filter's text writes numbers, protocols, comparisons, kinds of fault and networks.
-use Rattle.std.specs.Prelude.{◌≡◌, ℕ, List, [], ◌∷◌, length, take, drop, Bool, false, not, ◌==◌, ◌&&◌, nat_le, nat_lt, Option, Some, None, codes, if◌then◌else◌}
+use Rattle.std.specs.Prelude.{◌≡◌, ◌≤◌, ℕ, List, [], ◌∷◌, length, take, drop, Bool, false, not, ◌==◌, ◌&&◌, nat_le, nat_lt, Option, Some, None, codes, if◌then◌else◌}
 use Rattle.std.specs.List.{list_all, prefix_len}
+use Rattle.std.specs.Option.{option_or, option_and_then}
 use Rattle.std.specs.Char.{is_digit}
 use Rattle.std.specs.Str.{bytes_eq}
 use Rattle.std.specs.Str.Parse.{digits_value}
@@ -10,6 +11,7 @@ use Rattle.std.specs.declared.net.ipv4_addr.Ipv4Addr.{Ipv4Addr}
 use Rattle.std.specs.declared.net.ipv6_addr.Ipv6Addr.{Ipv6Addr}
 use Rattle.ip_filter.specs.declared.network.Network.{Network}
 use Rattle.ip_filter.specs.declared.network.Network.TheVariants as network
+use Rattle.ip_filter.specs.declared.term.Ports.{Ports}
 use Rattle.ip_filter.specs.declared.term.Comparison.{Comparison}
 use Rattle.ip_filter.specs.declared.term.Comparison.TheVariants as by
 use Rattle.ip_filter.specs.declared.term.FaultKind.{FaultKind}
@@ -55,16 +57,24 @@ header_of w =
     else if bytes_eq w (codes "dstopts") then Some 60
     else number_up_to 255 w
 
--- what follows the headers, by its name or number
-abbrev pub protocol_of : Word → Option ℕ
-protocol_of w =
+-- an upper-layer protocol, or no next header, by its name
+abbrev pub upper_layer_of : Word → Option ℕ
+upper_layer_of w =
     if bytes_eq w (codes "icmp") then Some 1
     else if bytes_eq w (codes "tcp") then Some 6
     else if bytes_eq w (codes "udp") then Some 17
+    else if bytes_eq w (codes "dccp") then Some 33
+    else if bytes_eq w (codes "gre") then Some 47
     else if bytes_eq w (codes "esp") then Some 50
     else if bytes_eq w (codes "icmp6") then Some 58
     else if bytes_eq w (codes "no-next") then Some 59
-    else header_of w
+    else if bytes_eq w (codes "sctp") then Some 132
+    else if bytes_eq w (codes "udp-lite") then Some 136
+    else None
+
+-- what follows the headers, by its name or number
+abbrev pub protocol_of : Word → Option ℕ
+protocol_of w = option_or (upper_layer_of w) (header_of w)
 
 abbrev pub comparison_of : Word → Option Comparison
 comparison_of w =
@@ -85,9 +95,27 @@ fault_kind_of w =
     else if bytes_eq w (codes "header-length") then Some kind.Ipv4HeaderLength
     else None
 
--- how many bytes stand before the first slash
+-- how many bytes precede the first such byte
+abbrev pub index_of : ℕ → Word → ℕ
+index_of byte w = prefix_len (λ c. not (c == byte)) w
+
 abbrev pub slash_index : Word → ℕ
-slash_index w = prefix_len (λ c. not (c == 47)) w
+slash_index w = index_of 47 w
+
+-- a range of ports, which isn't empty
+abbrev pub ports_from : ℕ → ℕ → Option Ports
+ports_from first last = if nat_le first last then Some (record { first = first; last = last }) else None
+
+-- the last port of a range, after the hyphen and the first; that one without them
+abbrev pub last_port : ℕ → List ℕ → Option ℕ
+last_port first [] = Some first
+last_port first (hyphen ∷ digits) = number_up_to 65535 digits
+
+-- a port, or the first and the last with a hyphen between them
+abbrev pub ports_of : Word → Option Ports
+ports_of w =
+    option_and_then (λ first. option_and_then (ports_from first) (last_port first (drop (index_of 45 w) w)))
+    (number_up_to 65535 (take (index_of 45 w) w))
 
 -- the number of bits after an address: without a slash, all of them
 abbrev pub prefix_bits : ℕ → List ℕ → Option ℕ
@@ -102,3 +130,7 @@ IsNetworkText w (network.Ipv4 address len) =
 IsNetworkText w (network.Ipv6 address len) =
     (a : Ipv6Addr) × IsIpv6Text (take (slash_index w) w) a × (address ≡ ipv6_bits a)
     × (prefix_bits 128 (drop (slash_index w) w) ≡ Some len)
+
+-- an address, and no number of bits
+abbrev pub IsHostText : Word → Network → Type 0
+IsHostText w n = IsNetworkText w n × (length w ≤ slash_index w)

@@ -11,7 +11,7 @@ use Rattle.ip_filter.specs.declared.parse_error.Expected.TheVariants as expects
 use Rattle.ip_filter.specs.declared.term.Term.{Term}
 use Rattle.ip_filter.specs.Words.{Word, words}
 use Rattle.ip_filter.specs.Formula.{steps_of}
-use Rattle.ip_filter.specs.Grammar.{Operand, Conjunction, Disjunction, a_term, a_negation, a_group, an_operand, an_and, a_conjunction, an_or, keyword, AreArguments, is_not, is_and, is_or, conjunction_words, filter_words, operand_terms, conjunction_terms, terms_in}
+use Rattle.ip_filter.specs.Grammar.{Operand, Conjunction, Disjunction, a_term, a_negation, a_group, an_operand, an_and, a_conjunction, an_or, IsTerm, is_not, is_and, is_or, conjunction_words, filter_words, operand_terms, conjunction_terms, terms_in}
 use Rattle.ip_filter.specs.Reading.{ends_term, IsEnd, IsPlace, WantsArgument, IsOperator}
 
 -- ---- the parts that are read
@@ -84,8 +84,8 @@ pub record Fits (s : State) : Type 0 where
 pub data Moves : State → List Word → State → Type 0 where
   by_not : (fs : List Open) (f : Open) (w : Word) → IsTrue (is_not w) → Moves (before fs f) (w ∷ []) (before fs (record f { nots = f.nots ++ w ∷ [] }))
   by_open : (fs : List Open) (f : Open) → length fs < 16 → Moves (before fs f) (codes "(" ∷ []) (before (f ∷ fs) nothing)
-  by_term : (fs : List Open) (f : Open) (t : Term) (us : List Word) → AreArguments us t
-      → Moves (before fs f) (keyword t ∷ us) (with_operand fs f (a_term t us))
+  by_term : (fs : List Open) (f : Open) (w : Word) (us : List Word) (t : Term) → IsTerm w us t
+      → Moves (before fs f) (w ∷ us) (with_operand fs f (a_term w us t))
   by_and : (fs : List Open) (o : Option (Disjunction × Word)) (c : Conjunction) (w : Word) → IsTrue (is_and w) → state_terms (after fs o c) < 64
       → Moves (after fs o c) (w ∷ []) (before fs (record { or_left = o; and_left = Some (c, w); nots = [] }))
   by_or : (fs : List Open) (o : Option (Disjunction × Word)) (c : Conjunction) (w : Word) → IsTrue (is_or w) → state_terms (after fs o c) < 64
@@ -133,7 +133,7 @@ IsDue s front next e = WantsArgument front e
 
 abbrev mutual
   pub operand_steps : ℕ → Operand → List Step
-  operand_steps k (a_term t us) = record { kind = kind.Term t; nots = k } ∷ []
+  operand_steps k (a_term w us t) = record { kind = kind.Term t; nots = k } ∷ []
   operand_steps k (a_negation w u) = operand_steps (suc k) u
   operand_steps k (a_group d) = filter_steps k d
 

@@ -1,53 +1,57 @@
 -- What is read of a text, and where it is refused.
-use Rattle.std.specs.Prelude.{◌≡◌, ◌≤◌, ◌<◌, ◌-◌, ℕ, List, [], ◌∷◌, ◌++◌, length, take, drop, slice_index, Bool, true, false, ◌||◌, Option, Some, None, is_some, if◌then◌else◌, IsTrue, codes}
+use Rattle.std.specs.Prelude.{◌≡◌, ◌≤◌, ◌<◌, ◌-◌, ◌⊎◌, ℕ, List, [], ◌∷◌, ◌++◌, length, take, drop, slice_index, Bool, true, false, ◌||◌, Some, is_some, IsTrue, codes}
 use Rattle.std.specs.Str.{bytes_eq}
 use Rattle.ip_filter.specs.declared.words.Word.{Word as FirstWord}
+use Rattle.ip_filter.specs.declared.term.Quantity.{Quantity}
 use Rattle.ip_filter.specs.declared.term.Term.{Term}
-use Rattle.ip_filter.specs.declared.term.Term.TheVariants as term
+use Rattle.ip_filter.specs.declared.keyword.Keyword.{Keyword}
+use Rattle.ip_filter.specs.declared.keyword.Keyword.TheVariants as keyword
+use Rattle.ip_filter.specs.declared.keyword.NumberKeyword.TheVariants as number
+use Rattle.ip_filter.specs.declared.keyword.AddressKeyword.TheVariants as address
 use Rattle.ip_filter.specs.declared.parse_error.Expected.{Expected}
 use Rattle.ip_filter.specs.declared.parse_error.Expected.TheVariants as expects
 use Rattle.ip_filter.specs.Words.{Word, words, is_space}
 use Rattle.ip_filter.specs.Numbers.{comparison_of}
-use Rattle.ip_filter.specs.Grammar.{keyword, AreArguments, is_and, is_or}
+use Rattle.ip_filter.specs.Grammar.{keyword_of, AreArguments, is_and, is_or}
 
--- ---- keywords by what follows them
+-- ---- what follows a keyword
 
--- the term with the keyword that takes no arguments
-abbrev pub plain_term_of : Word → Option Term
-plain_term_of k =
-    if bytes_eq k (codes "fragment") then Some term.Fragment
-    else if bytes_eq k (codes "first-fragment") then Some term.FirstFragment
-    else if bytes_eq k (codes "later-fragment") then Some term.LaterFragment
-    else if bytes_eq k (codes "truncated") then Some term.Truncated
-    else if bytes_eq k (codes "incomplete") then Some term.Incomplete
-    else None
+abbrev pub IsKeyword : Keyword → Word → Type 0
+IsKeyword k w = keyword_of w ≡ Some k
 
--- a number or a name
-abbrev pub is_number_keyword : Word → Bool
-is_number_keyword k =
-    bytes_eq k (codes "version") || bytes_eq k (codes "header") || bytes_eq k (codes "leads-to") || bytes_eq k (codes "spi") || bytes_eq k (codes "id")
+-- a comparison and a number follow
+abbrev pub IsCountKeyword : Word → Type 0
+IsCountKeyword w = (q : Quantity) × IsKeyword (keyword.Compared q) w
 
--- a comparison and a number
-abbrev pub is_count_keyword : Word → Bool
-is_count_keyword k = bytes_eq k (codes "headers") || bytes_eq k (codes "chain-bytes") || bytes_eq k (codes "payload")
+-- a number of 32 bits follows
+abbrev pub IsNumberKeyword : Word → Type 0
+IsNumberKeyword w = IsKeyword (keyword.Number number.SecurityParameters) w ⊎ IsKeyword (keyword.Number number.Identification) w
 
--- a network
-abbrev pub is_network_keyword : Word → Bool
-is_network_keyword k = bytes_eq k (codes "src") || bytes_eq k (codes "dst") || bytes_eq k (codes "net")
+-- a type or code of ICMP follows
+abbrev pub IsByteKeyword : Word → Type 0
+IsByteKeyword w = IsKeyword (keyword.Number number.IcmpType) w ⊎ IsKeyword (keyword.Number number.IcmpCode) w
+
+-- a network or `port` follows
+abbrev pub IsSideKeyword : Word → Type 0
+IsSideKeyword w = IsKeyword (keyword.Address address.Source) w ⊎ IsKeyword (keyword.Address address.Destination) w
 
 -- the last of the words is one of these
-abbrev pub LastIs : (Word → Bool) → List Word → Type 0
-LastIs is ws = (front : List Word) × (w : Word) × (ws ≡ front ++ w ∷ []) × IsTrue (is w)
+abbrev pub LastIs : (Word → Type 0) → List Word → Type 0
+LastIs Is ws = (front : List Word) × (w : Word) × (ws ≡ front ++ w ∷ []) × Is w
 
 -- the last of the words wants this argument
 abbrev pub WantsArgument : List Word → Expected → Type 0
-WantsArgument ws expects.Version = LastIs (λ w. bytes_eq w (codes "version")) ws
-WantsArgument ws expects.Header = LastIs (λ w. bytes_eq w (codes "header")) ws
-WantsArgument ws expects.Protocol = LastIs (λ w. bytes_eq w (codes "leads-to")) ws
-WantsArgument ws expects.Number = LastIs (λ w. bytes_eq w (codes "spi") || bytes_eq w (codes "id")) ws
-WantsArgument ws expects.Comparison = LastIs is_count_keyword ws
-WantsArgument ws expects.Count = LastIs (λ w. is_some (comparison_of w)) ws
-WantsArgument ws expects.Network = LastIs is_network_keyword ws
+WantsArgument ws expects.Version = LastIs (IsKeyword (keyword.Number number.Version)) ws
+WantsArgument ws expects.Header = LastIs (IsKeyword (keyword.Number number.Header)) ws
+WantsArgument ws expects.Protocol = LastIs (IsKeyword (keyword.Number number.LeadsTo)) ws
+WantsArgument ws expects.Number = LastIs IsNumberKeyword ws
+WantsArgument ws expects.Byte = LastIs IsByteKeyword ws
+WantsArgument ws expects.Comparison = LastIs IsCountKeyword ws
+WantsArgument ws expects.Count = LastIs (λ w. IsTrue (is_some (comparison_of w))) ws
+WantsArgument ws expects.Network = LastIs (IsKeyword (keyword.Address address.Network)) ws
+WantsArgument ws expects.Address = LastIs (IsKeyword (keyword.Address address.Host)) ws
+WantsArgument ws expects.NetworkOrPort = LastIs IsSideKeyword ws
+WantsArgument ws expects.Ports = LastIs (IsKeyword (keyword.Address address.Port)) ws
 WantsArgument ws e = ⊥
 
 -- `and` or `or`
@@ -95,11 +99,11 @@ pub record ReadsArguments {A : Type 0} (Writes : List Word → A → Type 0) (te
 
 -- No words that write something begin like those of the text, up to that at the place `left`, or end there. Some begin
 -- with the words before that place. After such a keyword, e is expected there.
-pub record RefusesArguments {A : Type 0} (Writes : List Word → A → Type 0) (is_keyword : Word → Bool) (text : List ℕ) (left : ℕ) (e : Expected) : Type 0 where
+pub record RefusesArguments {A : Type 0} (Writes : List Word → A → Type 0) (Is : Word → Type 0) (text : List ℕ) (left : ℕ) (e : Expected) : Type 0 where
   pub before : List Word
   pub place : IsPlace text before left
   pub begins : (b : A) × (ws : List Word) × Writes (before ++ ws) b
-  pub expected : (k : Word) → IsTrue (is_keyword k) → WantsArgument (k ∷ before) e
+  pub expected : (w : Word) → Is w → WantsArgument (w ∷ before) e
   pub none : (b : A) (us ws more : List Word) → Writes us b → us ++ more ≡ before ++ ws
       → take 1 ws ≡ take 1 (words (drop (length text - left) text)) → ⊥
 
@@ -110,21 +114,20 @@ ends_term (w ∷ ws) = is_and w || is_or w || bytes_eq w (codes ")")
 
 -- After the keyword k, the text begins with the arguments of the term, and `rest` follows them. No other term has the
 -- keyword and these words, whatever follows the next one.
-pub record ReadsTerm (k : Word) (text : List ℕ) (t : Term) (rest : List ℕ) : Type 0 where
+pub record ReadsTerm (k : Keyword) (text : List ℕ) (t : Term) (rest : List ℕ) : Type 0 where
   pub args : List Word
   pub begins : words text ≡ args ++ words rest
-  pub named : keyword t ≡ k
-  pub arguments : AreArguments args t
+  pub arguments : AreArguments k args t
   pub end : IsEnd text rest
-  pub only : (u : Term) (us ws more : List Word) → keyword u ≡ k → AreArguments us u → IsTrue (ends_term more)
+  pub only : (u : Term) (us ws more : List Word) → AreArguments k us u → IsTrue (ends_term more)
       → us ++ more ≡ args ++ ws → take 1 ws ≡ take 1 (words rest) → (u ≡ t) × (us ≡ args)
 
 -- No term has the keyword k and the first words of the text, up to that at the place `left`, or none there. Some term has
 -- the keyword and begins with the words before that place, after which e is expected.
-pub record RefusesTerm (k : Word) (text : List ℕ) (left : ℕ) (e : Expected) : Type 0 where
+pub record RefusesTerm (k : Keyword) (text : List ℕ) (left : ℕ) (e : Expected) : Type 0 where
   pub before : List Word
   pub place : IsPlace text before left
-  pub begins : (t : Term) × (ws : List Word) × (keyword t ≡ k) × AreArguments (before ++ ws) t
-  pub expected : WantsArgument (k ∷ before) e
-  pub none : (u : Term) (us ws more : List Word) → keyword u ≡ k → AreArguments us u → IsTrue (ends_term more)
+  pub begins : (t : Term) × (ws : List Word) × AreArguments k (before ++ ws) t
+  pub expected : (w : Word) → IsKeyword k w → WantsArgument (w ∷ before) e
+  pub none : (u : Term) (us ws more : List Word) → AreArguments k us u → IsTrue (ends_term more)
       → us ++ more ≡ before ++ ws → take 1 ws ≡ take 1 (words (drop (length text - left) text)) → ⊥

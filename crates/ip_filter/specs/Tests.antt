@@ -1,17 +1,19 @@
 -- Tests of a packet, in plain numbers.
-use Rattle.std.specs.Prelude.{ℕ, ◌+◌, ◌*◌, ◌^◌, ◌==◌, ◌&&◌, ◌||◌, nat_lt, if◌then◌else◌, length, Bool, false, List, Option, Some, None}
+use Rattle.std.specs.Prelude.{ℕ, ◌+◌, ◌*◌, ◌^◌, ◌==◌, ◌&&◌, ◌||◌, nat_lt, nat_le, if◌then◌else◌, Bool, false, List, Option, Some, None}
 use Rattle.std.specs.List.{list_any}
 use Rattle.std.specs.Option.{option_map, option_map_or}
 use Rattle.ip_spec.specs.Numbers.{AUTHENTICATION}
 use Rattle.ip_spec.specs.Fields.{auth_fields}
-use Rattle.ip_spec.specs.Chain.{bytes_of}
 use Rattle.ip_dissect.specs.Dissection.{DissectedParts, dissected}
-use Rattle.ip_filter.specs.Truth.{compares, has_base, has_source, has_destination}
+use Rattle.ip_filter.specs.Transport.{source_port, destination_port, lacks_ports, icmp_byte}
+use Rattle.ip_filter.specs.Truth.{compares, has_base, has_source, has_destination, quantity_of}
 use Rattle.ip_filter.specs.Flags.{any_flag}
 use Rattle.ip_filter.specs.declared.network.Network.{Network}
 use Rattle.ip_filter.specs.declared.network.Network.TheVariants.{Ipv4, Ipv6}
 use Rattle.ip_filter.specs.declared.term.Comparison.{Comparison}
 use Rattle.ip_filter.specs.declared.term.Comparison.TheVariants.{Equal, NotEqual, Less, AtMost, Greater, AtLeast}
+use Rattle.ip_filter.specs.declared.term.Quantity.{Quantity}
+use Rattle.ip_filter.specs.declared.term.Quantity.TheVariants.{Headers, ChainBytes, Payload, Length, HopLimit, Dscp, Ecn, FlowLabel}
 use Rattle.ip_filter.specs.declared.filter.Test.{Test}
 
 -- n, if it is below m
@@ -36,23 +38,39 @@ network_in x =
     else if x.version == 6 then Some (Ipv6 (x.address_high * 2 ^ 64 + x.address_low) x.prefix_len)
     else None
 
--- a count compares as the test asks
-abbrev pub compared : Test → ℕ → Bool
-compared x n = option_map_or (λ c. compares c n x.number) (comparison_in x.comparison) false
+-- the packet has the quantity, and it compares as the test asks
+abbrev pub compared : Test → Quantity → DissectedParts → Bool
+compared x q p =
+    option_map_or (λ c. option_map_or (λ n. compares c n x.number) (quantity_of q p) false) (comparison_in x.comparison) false
+
+-- n is there, and in the range of the test
+abbrev pub is_in_range : Test → Option ℕ → Bool
+is_in_range x n = option_map_or (λ m. nat_le x.number m && nat_le m x.address_low) n false
 
 -- The packet with the parts p meets the test. It meets none with another kind.
 abbrev pub meets : Test → DissectedParts → Bool
 meets x p =
     if x.kind == 1 then any_flag 64 x.number p
     else if x.kind == 2 then has_base p && (p.number == x.number)
-    else if x.kind == 3 then has_base p && compared x (length p.headers)
-    else if x.kind == 4 then has_base p && compared x (length (bytes_of p.headers))
-    else if x.kind == 5 then has_base p && compared x (length p.payload)
+    else if x.kind == 3 then compared x Headers p
+    else if x.kind == 4 then compared x ChainBytes p
+    else if x.kind == 5 then compared x Payload p
     else if x.kind == 6 then list_any (λ h. (h.number == AUTHENTICATION) && ((auth_fields h.bytes).spi == x.number)) p.headers
     else if x.kind == 7 then option_map_or (λ y. y.identification == x.number) p.fragment false
     else if x.kind == 8 then option_map_or (λ n. has_source n p) (network_in x) false
     else if x.kind == 9 then option_map_or (λ n. has_destination n p) (network_in x) false
     else if x.kind == 10 then option_map_or (λ n. has_source n p || has_destination n p) (network_in x) false
+    else if x.kind == 11 then compared x Length p
+    else if x.kind == 12 then compared x HopLimit p
+    else if x.kind == 13 then compared x Dscp p
+    else if x.kind == 14 then compared x Ecn p
+    else if x.kind == 15 then compared x FlowLabel p
+    else if x.kind == 16 then is_in_range x (source_port p)
+    else if x.kind == 17 then is_in_range x (destination_port p)
+    else if x.kind == 18 then is_in_range x (source_port p) || is_in_range x (destination_port p)
+    else if x.kind == 19 then lacks_ports p
+    else if x.kind == 20 then option_map_or (λ n. n == x.number) (icmp_byte 0 p) false
+    else if x.kind == 21 then option_map_or (λ n. n == x.number) (icmp_byte 1 p) false
     else false
 
 -- a frame meets the test: the packet at the start of its bytes does, and a frame that is not IP meets none

@@ -1,5 +1,5 @@
 -- What a term says of a packet.
-use Rattle.std.specs.Prelude.{ℕ, List, length, Bool, true, false, not, ◌==◌, ◌&&◌, ◌||◌, nat_lt, if◌then◌else◌, Option, Some, None, is_some}
+use Rattle.std.specs.Prelude.{ℕ, List, length, Bool, true, false, not, ◌==◌, ◌&&◌, ◌||◌, ◌/◌, ◌%◌, nat_lt, if◌then◌else◌, Option, Some, None, is_some}
 use Rattle.std.specs.Int.{from_be_bytes, w32, w128}
 use Rattle.std.specs.List.{list_any}
 use Rattle.std.specs.Option.{option_map_or}
@@ -18,10 +18,14 @@ use Rattle.ip_dissect.specs.declared.fragment.FragmentKind.{FragmentKind}
 use Rattle.ip_dissect.specs.declared.fragment.FragmentKind.TheVariants.{First, Middle, Last}
 use Rattle.ip_dissect.specs.declared.end.End.{End}
 use Rattle.ip_dissect.specs.declared.end.End.TheVariants as end
+use Rattle.ip_base.specs.BaseHeaderFields.{ipv4_ttl, ipv4_dscp, ipv4_ecn, ipv6_hop_limit, ipv6_traffic_class, ipv6_flow_label}
 use Rattle.ip_filter.specs.Network.{ipv4_lies_in, ipv6_lies_in}
+use Rattle.ip_filter.specs.Transport.{source_port, destination_port, lacks_ports, icmp_byte, are_among}
 use Rattle.ip_filter.specs.declared.network.Network.{Network}
 use Rattle.ip_filter.specs.declared.term.Comparison.{Comparison}
 use Rattle.ip_filter.specs.declared.term.Comparison.TheVariants as by
+use Rattle.ip_filter.specs.declared.term.Quantity.{Quantity}
+use Rattle.ip_filter.specs.declared.term.Quantity.TheVariants as number
 use Rattle.ip_filter.specs.declared.term.FaultKind.{FaultKind}
 use Rattle.ip_filter.specs.declared.term.FaultKind.TheVariants as kind
 use Rattle.ip_filter.specs.declared.term.Term.{Term}
@@ -89,6 +93,25 @@ has_source n p = address_lies_in n ipv4_source_octets ipv6_source_octets p
 abbrev pub has_destination : Network → DissectedParts → Bool
 has_destination n p = address_lies_in n ipv4_destination_octets ipv6_destination_octets p
 
+-- a number of a packet, which it has if it has a base header
+abbrev pub of_packet : ℕ → DissectedParts → Option ℕ
+of_packet n p = if has_base p then Some n else None
+
+-- a field of the base header, which it has in both versions
+abbrev pub base_field : (List ℕ → ℕ) → (List ℕ → ℕ) → DissectedParts → Option ℕ
+base_field ipv4 ipv6 p = if p.version == 4 then Some (ipv4 p.base) else if p.version == 6 then Some (ipv6 p.base) else None
+
+-- The quantity, if the packet has it. The traffic class of IPv6 is divided as byte 1 of IPv4 is (RFC 2474; RFC 3168).
+abbrev pub quantity_of : Quantity → DissectedParts → Option ℕ
+quantity_of number.Headers p = of_packet (length p.headers) p
+quantity_of number.ChainBytes p = of_packet (length (bytes_of p.headers)) p
+quantity_of number.Payload p = of_packet (length p.payload) p
+quantity_of number.Length p = p.stated
+quantity_of number.HopLimit p = base_field ipv4_ttl ipv6_hop_limit p
+quantity_of number.Dscp p = base_field ipv4_dscp (λ b. ipv6_traffic_class b / 4) p
+quantity_of number.Ecn p = base_field ipv4_ecn (λ b. ipv6_traffic_class b % 4) p
+quantity_of number.FlowLabel p = if p.version == 6 then Some (ipv6_flow_label p.base) else None
+
 -- the term holds of the packet with the parts p
 abbrev pub holds : Term → DissectedParts → Bool
 holds (term.Version v) p = is_version v p
@@ -101,11 +124,15 @@ holds term.Truncated p = is_truncated p.end
 holds term.Incomplete p = not (p.missing == 0)
 holds term.Fault p = is_some (fault_in p.end)
 holds (term.FaultOf kind) p = option_map_or (λ k. kind_index k == kind_index kind) (fault_in p.end) false
-holds (term.Headers c n) p = has_base p && compares c (length p.headers) n
-holds (term.ChainBytes c n) p = has_base p && compares c (length (bytes_of p.headers)) n
-holds (term.Payload c n) p = has_base p && compares c (length p.payload) n
+holds (term.Compared q c n) p = option_map_or (λ x. compares c x n) (quantity_of q p) false
 holds (term.SecurityParameters i) p = list_any (λ h. (h.number == AUTHENTICATION) && ((auth_fields h.bytes).spi == i)) p.headers
 holds (term.Identification i) p = option_map_or (λ x. x.identification == i) p.fragment false
 holds (term.Source n) p = has_source n p
 holds (term.Destination n) p = has_destination n p
 holds (term.Either n) p = has_source n p || has_destination n p
+holds (term.SourcePort r) p = option_map_or (are_among r) (source_port p) false
+holds (term.DestinationPort r) p = option_map_or (are_among r) (destination_port p) false
+holds (term.Port r) p = option_map_or (are_among r) (source_port p) false || option_map_or (are_among r) (destination_port p) false
+holds term.NoTransport p = lacks_ports p
+holds (term.IcmpType n) p = option_map_or (λ x. x == n) (icmp_byte 0 p) false
+holds (term.IcmpCode n) p = option_map_or (λ x. x == n) (icmp_byte 1 p) false

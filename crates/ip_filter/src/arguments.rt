@@ -4,14 +4,16 @@
 ghost use Rattle.std.specs.Prelude.{◌≡◌, [], IfOk, IfErr};
 ghost use Rattle.ip_filter.specs.declared.parse_error.Expected.TheVariants as expects;
 ghost use Rattle.ip_filter.specs.Words.{words};
-ghost use Rattle.ip_filter.specs.Numbers.{number_up_to, version_of, header_of, protocol_of, comparison_of, fault_kind_of, IsNetworkText};
+ghost use Rattle.ip_filter.specs.Numbers.{number_up_to, version_of, header_of, protocol_of, comparison_of, ports_of, IsNetworkText, IsHostText};
 ghost use Rattle.ip_filter.specs.Grammar.{Finds};
 ghost use Rattle.ip_filter.specs.Reading.{IsPlace, IsFirstWord, ReadsArgument, RefusesArgument};
 
-use crate::networks::parse_network;
-use crate::numbers::{parse_comparison, parse_header, parse_number, parse_protocol, parse_version};
+use crate::networks::{parse_host, parse_network};
+use crate::numbers::{
+    parse_comparison, parse_header, parse_number, parse_ports, parse_protocol, parse_version,
+};
 use crate::words::{Word, first_word};
-use crate::{Comparison, Expected, Network};
+use crate::{Comparison, Expected, Network, Ports};
 
 /// What is wrong in a text.
 #[derive(Clone, Copy)]
@@ -35,7 +37,7 @@ impl Word<'_> {
 }
 
 /// Returns the first word of a text, or the error that it is missing at the end.
-fn argument(text: &[u8], expected: Expected) -> Result<Word<'_>, Unexpected>
+pub(crate) fn argument(text: &[u8], expected: Expected) -> Result<Word<'_>, Unexpected>
     ensures ok { IfOk result (IsFirstWord text.now) }
     ensures err { IfErr result (λ e. (words text.now ≡ []) × IsPlace text.now [] e.left
         × (e.expected ≡ expected)) }
@@ -125,5 +127,31 @@ pub(crate) fn read_network(text: &[u8]) -> Result<(Network, &[u8]), Unexpected>
     match parse_network(word.bytes) {
         Some(network) => Ok((network, word.rest)),
         None => Err(word.unexpected(Expected::Network)),
+    }
+}
+
+/// Reads an address.
+pub(crate) fn read_host(text: &[u8]) -> Result<(Network, &[u8]), Unexpected>
+    ensures ok { IfOk result (λ r. ReadsArgument IsHostText text.now r.0 r.1.now) }
+    ensures err { IfErr result (λ e. RefusesArgument IsHostText text.now e.left
+        × (e.expected ≡ expects.Address)) }
+{
+    let word = argument(text, Expected::Address)?;
+    match parse_host(word.bytes) {
+        Some(network) => Ok((network, word.rest)),
+        None => Err(word.unexpected(Expected::Address)),
+    }
+}
+
+/// Reads a port or a range of ports.
+pub(crate) fn read_ports(text: &[u8]) -> Result<(Ports, &[u8]), Unexpected>
+    ensures ok { IfOk result (λ r. ReadsArgument (Finds ports_of) text.now r.0 r.1.now) }
+    ensures err { IfErr result (λ e. RefusesArgument (Finds ports_of) text.now e.left
+        × (e.expected ≡ expects.Ports)) }
+{
+    let word = argument(text, Expected::Ports)?;
+    match parse_ports(word.bytes) {
+        Some(ports) => Ok((ports, word.rest)),
+        None => Err(word.unexpected(Expected::Ports)),
     }
 }

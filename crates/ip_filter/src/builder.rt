@@ -12,6 +12,7 @@ ghost use Rattle.ip_filter.specs.Parsing.{Open, State, before, after, nothing, w
 
 use crate::Expected;
 use crate::arguments::Unexpected;
+use crate::keyword::keyword_of;
 use crate::parse_term::read_term;
 use crate::steps::{Step, StepKind, Steps};
 use crate::words::Word;
@@ -101,15 +102,17 @@ impl Builder {
             self.level = Level::default();
             return Ok(word.rest);
         }
-        match read_term(word.bytes, word.rest) {
-            Some(Ok((term, rest))) => {
+        let Some(keyword) = keyword_of(word.bytes) else {
+            return Err(word.unexpected(Expected::Operand));
+        };
+        match read_term(keyword, word.rest) {
+            Ok((term, rest)) => {
                 push(&mut self.steps, StepKind::Term(term), self.level.nots);
                 self.terms = self.terms.saturating_add(1);
                 self.end_operand();
                 Ok(rest)
             }
-            Some(Err(unexpected)) => Err(unexpected),
-            None => Err(word.unexpected(Expected::Operand)),
+            Err(unexpected) => Err(unexpected),
         }
     }
 

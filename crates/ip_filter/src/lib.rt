@@ -1,4 +1,4 @@
-//! Packet filters over the dissection of a packet: its version, extension headers, fragment, error, sizes and addresses.
+//! Packet filters over the dissection of a packet: its base header, extension headers, fragment, error, sizes and ports.
 #![tactic(auto)]
 
 mod arguments;
@@ -8,6 +8,7 @@ mod facts;
 mod filter;
 mod flags;
 mod holds;
+mod keyword;
 mod laws;
 mod meets;
 mod network;
@@ -16,14 +17,16 @@ mod numbers;
 mod parse;
 mod parse_error;
 mod parse_term;
+mod quantity;
 mod run;
 mod steps;
 mod term;
 mod test_of;
+mod transport;
 mod words;
 
 pub use filter::{Filter, Test};
 pub use laws::bytes_after_the_packet_change_nothing;
 pub use network::Network;
 pub use parse_error::{Expected, ParseError};
-pub use term::{Comparison, FaultKind, Term};
+pub use term::{Comparison, FaultKind, Ports, Quantity, Term};

@@ -1,10 +1,12 @@
 //! Which packets meet a test.
-ghost use Rattle.std.specs.Prelude.{◌≡◌};
+ghost use Rattle.std.specs.Prelude.{◌≡◌, ◌==◌, false};
+ghost use Rattle.std.specs.Option.{option_map_or};
 ghost use Rattle.ip_dissect.specs.Dissection.{dissected};
-ghost use Rattle.ip_filter.specs.Tests.{comparison_in, network_in, compared, meets};
+ghost use Rattle.ip_filter.specs.Tests.{comparison_in, network_in, compared, is_in_range, meets};
 
 use crate::facts::Facts;
-use crate::{Comparison, Network, Test};
+use crate::transport::{DESTINATION_PORT, ICMP_CODE, ICMP_TYPE, SOURCE_PORT};
+use crate::{Comparison, Network, Quantity, Test};
 
 /// The kinds of tests.
 pub(crate) mod kind {
@@ -27,6 +29,28 @@ pub(crate) mod kind {
     pub const DESTINATION: u8 = 9;
 
     pub const EITHER: u8 = 10;
+
+    pub const LENGTH: u8 = 11;
+
+    pub const HOP_LIMIT: u8 = 12;
+
+    pub const DSCP: u8 = 13;
+
+    pub const ECN: u8 = 14;
+
+    pub const FLOW_LABEL: u8 = 15;
+
+    pub const SOURCE_PORT: u8 = 16;
+
+    pub const DESTINATION_PORT: u8 = 17;
+
+    pub const PORT: u8 = 18;
+
+    pub const NO_TRANSPORT: u8 = 19;
+
+    pub const ICMP_TYPE: u8 = 20;
+
+    pub const ICMP_CODE: u8 = 21;
 }
 
 impl Test {
@@ -41,11 +65,14 @@ impl Test {
             kind::LEADS_TO => {
                 outline.version != 0 && u64::from(outline.next_header.0) == self.number
             }
-            kind::HEADERS => outline.version != 0 && self.compares(outline.header_count as u64),
-            kind::CHAIN_BYTES => {
-                outline.version != 0 && self.compares(outline.extensions_len as u64)
-            }
-            kind::PAYLOAD => outline.version != 0 && self.compares(outline.payload_len as u64),
+            kind::HEADERS => self.compares(Quantity::Headers, facts),
+            kind::CHAIN_BYTES => self.compares(Quantity::ChainBytes, facts),
+            kind::PAYLOAD => self.compares(Quantity::Payload, facts),
+            kind::LENGTH => self.compares(Quantity::Length, facts),
+            kind::HOP_LIMIT => self.compares(Quantity::HopLimit, facts),
+            kind::DSCP => self.compares(Quantity::Dscp, facts),
+            kind::ECN => self.compares(Quantity::Ecn, facts),
+            kind::FLOW_LABEL => self.compares(Quantity::FlowLabel, facts),
             kind::SECURITY_PARAMETERS => facts.has_spi(self.number),
             kind::IDENTIFICATION => match outline.fragment {
                 Some(fragment) => u64::from(fragment.identification) == self.number,
@@ -63,17 +90,51 @@ impl Test {
                 Some(network) => facts.has_source(network) || facts.has_destination(network),
                 None => false,
             },
+            kind::SOURCE_PORT => self.has_in_range(facts.port_at(SOURCE_PORT)),
+            kind::DESTINATION_PORT => self.has_in_range(facts.port_at(DESTINATION_PORT)),
+            kind::PORT => {
+                self.has_in_range(facts.port_at(SOURCE_PORT))
+                    || self.has_in_range(facts.port_at(DESTINATION_PORT))
+            }
+            kind::NO_TRANSPORT => facts.lacks_ports(),
+            kind::ICMP_TYPE => self.is_number(facts.icmp_byte(ICMP_TYPE)),
+            kind::ICMP_CODE => self.is_number(facts.icmp_byte(ICMP_CODE)),
             _ => false,
         }
     }
 
-    /// Returns whether the count compares as the test asks.
+    /// Returns whether the packet has the quantity, and it compares as the test asks.
     #[inline(always)]
-    fn compares(&self, count: u64) -> bool
-        ensures { result ≡ compared self.now count }
+    fn compares(&self, quantity: Quantity, facts: &Facts<'_>) -> bool
+        ensures { result ≡ compared self.now quantity (dissected facts.now.packet.bytes.now) }
     {
-        match comparison_of(self.comparison) {
-            Some(comparison) => comparison.holds(count, self.number),
+        let Some(comparison) = comparison_of(self.comparison) else {
+            return false;
+        };
+        match facts.quantity(quantity) {
+            Some(number) => comparison.holds(number, self.number),
+            None => false,
+        }
+    }
+
+    /// Returns whether the port is there, and in the range of the test.
+    #[inline(always)]
+    fn has_in_range(&self, port: Option<u16>) -> bool
+        ensures { result ≡ is_in_range self.now port }
+    {
+        match port {
+            Some(port) => self.number <= u64::from(port) && u64::from(port) <= self.address_low,
+            None => false,
+        }
+    }
+
+    /// Returns whether the byte is there, and is the number of the test.
+    #[inline(always)]
+    fn is_number(&self, byte: Option<u8>) -> bool
+        ensures { result ≡ option_map_or (λ n. n == self.now.number) byte false }
+    {
+        match byte {
+            Some(byte) => u64::from(byte) == self.number,
             None => false,
         }
     }

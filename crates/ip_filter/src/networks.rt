@@ -1,10 +1,10 @@
 //! Networks, as a filter's text writes them.
-ghost use Rattle.std.specs.Prelude.{◌≡◌, ◌≤◌, length, IfSome, IfNone};
+ghost use Rattle.std.specs.Prelude.{◌≡◌, IfSome, IfNone};
 ghost use Rattle.ip_filter.specs.declared.network.Network.{Network as TheNetwork};
-ghost use Rattle.ip_filter.specs.Numbers.{slash_index, prefix_bits, IsNetworkText};
+ghost use Rattle.ip_filter.specs.Numbers.{prefix_bits, IsNetworkText, IsHostText};
 
 use crate::Network;
-use crate::numbers::parse_number;
+use crate::numbers::{index_of, parse_number};
 use std::net::{Ipv4Addr, Ipv6Addr};
 
 /// Returns the network that the word writes: an address, and a slash and a number of bits or nothing.
@@ -12,7 +12,7 @@ pub(crate) fn parse_network(word: &[u8]) -> Option<Network>
     ensures some { IfSome result (IsNetworkText word.now) }
     ensures none { IfNone result ((n : TheNetwork) → IsNetworkText word.now n → ⊥) }
 {
-    let slash = slash_index(word);
+    let slash = index_of(word, b'/');
     let (address, after) = (&word[..slash], &word[slash..]);
     if let Ok(address) = Ipv4Addr::parse_ascii(address) {
         return match parse_prefix_len(after, 32) {
@@ -35,18 +35,15 @@ pub(crate) fn parse_network(word: &[u8]) -> Option<Network>
     }
 }
 
-/// Returns the index of the first slash, or the length of the word.
-#[tactic(auto, using(crate::proofs::NetworkTextLemmas::slash_later, crate::proofs::NetworkTextLemmas::slash_here, crate::proofs::NetworkTextLemmas::no_slash))]
-fn slash_index(word: &[u8]) -> usize
-    ensures index { result ≡ slash_index word.now }
-    ensures within { result ≤ length word.now }
+/// Returns the network of the address that the word writes, which has no slash.
+pub(crate) fn parse_host(word: &[u8]) -> Option<Network>
+    ensures some { IfSome result (IsHostText word.now) }
+    ensures none { IfNone result ((n : TheNetwork) → IsHostText word.now n → ⊥) }
 {
-    'bytes: for i in 0..word.len() {
-        if word[i] == b'/' {
-            return i;
-        }
+    if index_of(word, b'/') < word.len() {
+        return None;
     }
-    word.len()
+    parse_network(word)
 }
 
 /// Returns the number of bits that the bytes after an address state: all `bits` if there are none.

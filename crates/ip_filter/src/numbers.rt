@@ -1,8 +1,8 @@
-//! Numbers, names and networks, as a filter's text writes them.
-ghost use Rattle.std.specs.Prelude.{◌≡◌, ◌≤◌, ◌-◌, ◌^◌, true};
-ghost use Rattle.ip_filter.specs.Numbers.{numeral, limited, number_up_to, version_of, header_of, protocol_of, comparison_of, fault_kind_of};
+//! Numbers, names and ports, as a filter's text writes them.
+ghost use Rattle.std.specs.Prelude.{◌≡◌, ◌≤◌, ◌-◌, ◌^◌, length, true};
+ghost use Rattle.ip_filter.specs.Numbers.{numeral, limited, number_up_to, version_of, header_of, upper_layer_of, protocol_of, ports_of, comparison_of, fault_kind_of, index_of};
 
-use crate::{Comparison, FaultKind};
+use crate::{Comparison, FaultKind, Ports};
 
 /// Returns the number that the digits write, or `None` if they aren't digits or it doesn't fit 64 bits.
 #[tactic(auto, using(crate::proofs::NumberLemmas::all_digits, crate::proofs::NumberLemmas::overflow_mul, crate::proofs::NumberLemmas::overflow_add))]
@@ -74,9 +74,9 @@ pub(crate) fn parse_header(word: &[u8]) -> Option<u8>
     }
 }
 
-/// Returns the number of the protocol or extension header that the word names.
-pub(crate) fn parse_protocol(word: &[u8]) -> Option<u8>
-    ensures { result ≡ protocol_of word.now }
+/// Returns the number of the upper-layer protocol that the word names, or that of no next header.
+pub(crate) fn parse_upper_layer(word: &[u8]) -> Option<u8>
+    ensures { result ≡ upper_layer_of word.now }
 {
     if word == b"icmp".as_slice() {
         return Some(1);
@@ -87,6 +87,12 @@ pub(crate) fn parse_protocol(word: &[u8]) -> Option<u8>
     if word == b"udp".as_slice() {
         return Some(17);
     }
+    if word == b"dccp".as_slice() {
+        return Some(33);
+    }
+    if word == b"gre".as_slice() {
+        return Some(47);
+    }
     if word == b"esp".as_slice() {
         return Some(50);
     }
@@ -96,7 +102,64 @@ pub(crate) fn parse_protocol(word: &[u8]) -> Option<u8>
     if word == b"no-next".as_slice() {
         return Some(59);
     }
-    parse_header(word)
+    if word == b"sctp".as_slice() {
+        return Some(132);
+    }
+    if word == b"udp-lite".as_slice() {
+        return Some(136);
+    }
+    None
+}
+
+/// Returns the number of the protocol or extension header that the word names.
+pub(crate) fn parse_protocol(word: &[u8]) -> Option<u8>
+    ensures { result ≡ protocol_of word.now }
+{
+    match parse_upper_layer(word) {
+        Some(number) => Some(number),
+        None => parse_header(word),
+    }
+}
+
+/// Returns the ports that the word writes: one, or a range with a hyphen between the lowest and the highest.
+pub(crate) fn parse_ports(word: &[u8]) -> Option<Ports>
+    ensures { result ≡ ports_of word.now }
+{
+    let hyphen = index_of(word, b'-');
+    let first = parse_port(&word[..hyphen])?;
+    let last = match &word[hyphen..] {
+        [] => first,
+        [_, last @ ..] => parse_port(last)?,
+    };
+    if first <= last {
+        Some(Ports { first, last })
+    } else {
+        None
+    }
+}
+
+/// Returns the port that the word writes.
+fn parse_port(word: &[u8]) -> Option<u16>
+    ensures { result ≡ number_up_to 65535 word.now }
+{
+    match parse_number(word, 65535) {
+        Some(port) => Some(port as u16),
+        None => None,
+    }
+}
+
+/// Returns the index of the first such byte, or the length of the word.
+#[tactic(auto, using(crate::proofs::IndexLemmas::byte_later, crate::proofs::IndexLemmas::byte_here, crate::proofs::IndexLemmas::no_byte))]
+pub(crate) fn index_of(word: &[u8], byte: u8) -> usize
+    ensures index { result ≡ index_of byte word.now }
+    ensures within { result ≤ length word.now }
+{
+    'bytes: for i in 0..word.len() {
+        if word[i] == byte {
+            return i;
+        }
+    }
+    word.len()
 }
 
 /// Returns the comparison that the word writes.

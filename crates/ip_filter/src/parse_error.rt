@@ -34,6 +34,18 @@ pub enum Expected {
     /// A network.
     #[error("an address or a prefix")]
     Network,
+    /// A type or code of ICMP.
+    #[error("a number from 0 to 255")]
+    Byte,
+    /// A network, or the ports of one side.
+    #[error("an address, a prefix or `port`")]
+    NetworkOrPort,
+    /// An address.
+    #[error("an address")]
+    Address,
+    /// Ports.
+    #[error("a port or a range of ports, as 1024-65535")]
+    Ports,
     /// No operator, since there are 64 terms already.
     #[error("no more than 64 terms")]
     FewerTerms,

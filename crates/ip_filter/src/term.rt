@@ -18,6 +18,36 @@ pub enum Comparison {
     AtLeast,
 }
 
+/// A number that a packet has, which terms compare.
+#[derive(Clone, Copy, Debug, PartialEq, Eq)]
+pub enum Quantity {
+    /// How many extension headers there are.
+    Headers,
+    /// The length of the extension headers in bytes.
+    ChainBytes,
+    /// The number of payload bytes that are present.
+    Payload,
+    /// The packet's length in bytes by its base header. A packet that states none, as a jumbogram, has none.
+    Length,
+    /// The hop limit, or the time to live of an IPv4 packet (RFC 8200, section 3; RFC 791, section 3.1).
+    HopLimit,
+    /// The differentiated services code point (RFC 2474, section 3).
+    Dscp,
+    /// The bits of explicit congestion notification (RFC 3168, section 5).
+    Ecn,
+    /// The flow label, of IPv6 packets alone (RFC 8200, section 3).
+    FlowLabel,
+}
+
+/// A range of ports.
+#[derive(Clone, Copy, Debug, PartialEq, Eq)]
+pub struct Ports {
+    /// The lowest.
+    pub first: u16,
+    /// The highest.
+    pub last: u16,
+}
+
 /// What is wrong in a faulty header.
 #[derive(Clone, Copy, Debug, PartialEq, Eq)]
 pub enum FaultKind {
@@ -56,12 +86,8 @@ pub enum Term {
     Fault,
     /// A header is faulty in this way.
     FaultOf(FaultKind),
-    /// The number of extension headers compares so. False without a base header, like the next two.
-    Headers(Comparison, u64),
-    /// The length of the extension headers in bytes compares so.
-    ChainBytes(Comparison, u64),
-    /// The number of payload bytes that are present compares so.
-    Payload(Comparison, u64),
+    /// The packet has this quantity, and it compares so.
+    Compared(Quantity, Comparison, u64),
     /// An authentication header has this security parameters index (RFC 4302, section 2.4).
     SecurityParameters(u32),
     /// The packet has a fragment header, or is a fragment, with this identification.
@@ -72,4 +98,17 @@ pub enum Term {
     Destination(Network),
     /// The source or the destination address lies in the network.
     Either(Network),
+    /// The source port is one of these. The headers end at the payload, which isn't that of a later fragment; it begins with
+    /// a header of TCP, UDP, UDP-Lite, SCTP or DCCP, and the port is there.
+    SourcePort(Ports),
+    /// The destination port is one of these.
+    DestinationPort(Ports),
+    /// The source or the destination port is one of these.
+    Port(Ports),
+    /// The payload should begin with ports, but is too short for both.
+    NoTransport,
+    /// The payload is a message of ICMP or ICMPv6 of this type (RFC 792; RFC 4443, section 2.1).
+    IcmpType(u8),
+    /// The payload is a message of ICMP or ICMPv6 with this code.
+    IcmpCode(u8),
 }

@@ -1,17 +1,18 @@
 //! Tests that terms stand for.
 ghost use Rattle.std.specs.Prelude.{◌≡◌, ◌==◌, ℕ, List, Some, false};
-ghost use Rattle.ip_dissect.specs.Dissection.{dissected};
+ghost use Rattle.ip_dissect.specs.Dissection.{DissectedParts, dissected};
 ghost use Rattle.std.specs.List.{list_any};
 ghost use Rattle.std.specs.Option.{option_map_or};
-ghost use Rattle.ip_filter.specs.Truth.{holds, is_version, fault_in, kind_index};
+ghost use Rattle.ip_filter.specs.Truth.{holds, is_version, fault_in, kind_index, compares, quantity_of};
 ghost use Rattle.ip_filter.specs.Flags.{any_flag};
-ghost use Rattle.ip_filter.specs.Tests.{meets, comparison_in, network_in};
+ghost use Rattle.ip_filter.specs.Tests.{meets, comparison_in, network_in, compared};
+ghost use Rattle.ip_filter.specs.declared.filter.Test.{Test as TheTest};
 
 use crate::flags::{mask, place};
 use crate::holds::kind_index;
 use crate::meets::kind;
 use crate::run::PASSED;
-use crate::{Comparison, FaultKind, Network, Term, Test};
+use crate::{Comparison, FaultKind, Network, Ports, Quantity, Term, Test};
 use ip_base::{IpNumber, ip_number};
 
 /// The index after all tests at which a packet has not passed.
@@ -35,14 +36,8 @@ impl Test {
             Term::Fault => Test::of_flags(mask::FAULTS),
             Term::FaultOf(kind) => Test::of_flags(fault_mask(kind)),
             Term::LeadsTo(number) => Test::of_number(kind::LEADS_TO, u64::from(number)),
-            Term::Headers(comparison, number) => {
-                Test::of_count(kind::HEADERS, comparison, number)
-            }
-            Term::ChainBytes(comparison, number) => {
-                Test::of_count(kind::CHAIN_BYTES, comparison, number)
-            }
-            Term::Payload(comparison, number) => {
-                Test::of_count(kind::PAYLOAD, comparison, number)
+            Term::Compared(quantity, comparison, number) => {
+                Test::of_quantity(quantity, comparison, number)
             }
             Term::SecurityParameters(spi) => {
                 Test::of_number(kind::SECURITY_PARAMETERS, u64::from(spi))
@@ -53,6 +48,12 @@ impl Test {
             Term::Source(network) => Test::of_network(kind::SOURCE, network),
             Term::Destination(network) => Test::of_network(kind::DESTINATION, network),
             Term::Either(network) => Test::of_network(kind::EITHER, network),
+            Term::SourcePort(ports) => Test::of_ports(kind::SOURCE_PORT, ports),
+            Term::DestinationPort(ports) => Test::of_ports(kind::DESTINATION_PORT, ports),
+            Term::Port(ports) => Test::of_ports(kind::PORT, ports),
+            Term::NoTransport => Test::of_number(kind::NO_TRANSPORT, 0),
+            Term::IcmpType(number) => Test::of_number(kind::ICMP_TYPE, u64::from(number)),
+            Term::IcmpCode(number) => Test::of_number(kind::ICMP_CODE, u64::from(number)),
         }
     }
 
@@ -86,17 +87,30 @@ impl Test {
         Test::of_number(kind::FLAGS, flags)
     }
 
-    /// Returns a test of this kind that compares a count.
-    fn of_count(kind: u8, comparison: Comparison, number: u64) -> Test
-        ensures kind { result.kind ≡ kind }
-        ensures comparison { comparison_in result.comparison ≡ Some comparison }
-        ensures number { result.number ≡ number }
+    /// Returns a test that compares a quantity.
+    fn of_quantity(quantity: Quantity, comparison: Comparison, number: u64) -> Test
+        ensures meets { (p : DissectedParts) → meets result p
+            ≡ option_map_or (λ x. compares comparison x number) (quantity_of quantity p) false }
         ensures if_met { result.if_met ≡ 64 }
         ensures if_not { result.if_not ≡ 65 }
     {
         Test {
             comparison: comparison_code(comparison),
-            ..Test::of_number(kind, number)
+            ..Test::of_number(quantity_kind(quantity), number)
+        }
+    }
+
+    /// Returns a test of this kind with a range of ports.
+    fn of_ports(kind: u8, ports: Ports) -> Test
+        ensures kind { result.kind ≡ kind }
+        ensures first { result.number ≡ ports.first }
+        ensures last { result.address_low ≡ ports.last }
+        ensures if_met { result.if_met ≡ 64 }
+        ensures if_not { result.if_not ≡ 65 }
+    {
+        Test {
+            address_low: u64::from(ports.last),
+            ..Test::of_number(kind, u64::from(ports.first))
         }
     }
 
@@ -158,6 +172,22 @@ fn fault_mask(kind: FaultKind) -> u64
         ≡ option_map_or (λ k. kind_index k == kind_index kind) (fault_in (dissected s).end) false }
 {
     1 << (place::FAULT + kind_index(kind))
+}
+
+/// Returns the kind of test that compares a quantity.
+fn quantity_kind(quantity: Quantity) -> u8
+    ensures { (x : TheTest) (p : DissectedParts) → x.kind ≡ result → meets x p ≡ compared x quantity p }
+{
+    match quantity {
+        Quantity::Headers => kind::HEADERS,
+        Quantity::ChainBytes => kind::CHAIN_BYTES,
+        Quantity::Payload => kind::PAYLOAD,
+        Quantity::Length => kind::LENGTH,
+        Quantity::HopLimit => kind::HOP_LIMIT,
+        Quantity::Dscp => kind::DSCP,
+        Quantity::Ecn => kind::ECN,
+        Quantity::FlowLabel => kind::FLOW_LABEL,
+    }
 }
 
 /// Returns the code of a comparison.

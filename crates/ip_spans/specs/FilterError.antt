@@ -17,3 +17,7 @@ expected_code expected.Number = 9
 expected_code expected.Network = 10
 expected_code expected.FewerTerms = 11
 expected_code expected.LessNesting = 12
+expected_code expected.Byte = 13
+expected_code expected.NetworkOrPort = 14
+expected_code expected.Address = 15
+expected_code expected.Ports = 16

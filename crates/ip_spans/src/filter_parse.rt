@@ -54,6 +54,10 @@ fn code_of(expected: Expected) -> u8
         Expected::Network => 10,
         Expected::FewerTerms => 11,
         Expected::LessNesting => 12,
+        Expected::Byte => 13,
+        Expected::NetworkOrPort => 14,
+        Expected::Address => 15,
+        Expected::Ports => 16,
     }
 }
 
@@ -75,6 +79,10 @@ pub(crate) fn expected_of(code: u8) -> Option<Expected>
         10 => Some(Expected::Network),
         11 => Some(Expected::FewerTerms),
         12 => Some(Expected::LessNesting),
+        13 => Some(Expected::Byte),
+        14 => Some(Expected::NetworkOrPort),
+        15 => Some(Expected::Address),
+        16 => Some(Expected::Ports),
         _ => None,
     }
 }

@@ -117,6 +117,43 @@ fn terms(rt: HostRuntime) -> Result<(), Fail> {
     Ok(())
 }
 
+/// Returns the last test, of ports in a range.
+fn ports(kind: u8, first: u64, last: u64) -> Test {
+    Test {
+        address_low: last,
+        ..number(kind, first, PASSED, REFUSED)
+    }
+}
+
+#[test]
+fn terms_of_fields_and_ports(rt: HostRuntime) -> Result<(), Fail> {
+    let rows = [
+        ("ip", last(1 << 4)),
+        ("ip6", last(1 << 6)),
+        ("tcp", number(2, 6, PASSED, REFUSED)),
+        ("udp-lite", number(2, 136, PASSED, REFUSED)),
+        ("leads-to sctp", number(2, 132, PASSED, REFUSED)),
+        ("length >= 1280", count(11, 6, 1280)),
+        ("hop-limit = 255", count(12, 1, 255)),
+        ("ttl<2", count(12, 3, 2)),
+        ("dscp != 0", count(13, 2, 0)),
+        ("ecn = 3", count(14, 1, 3)),
+        ("flow > 0xffff", count(15, 5, 65535)),
+        ("src port 53", ports(16, 53, 53)),
+        ("dst port 1024-65535", ports(17, 1024, 65535)),
+        ("port 0-0x10", ports(18, 0, 16)),
+        ("no-transport", number(19, 0, PASSED, REFUSED)),
+        ("icmp-type 128", number(20, 128, PASSED, REFUSED)),
+        ("icmp-code 0", number(21, 0, PASSED, REFUSED)),
+        ("host 10.0.0.1", network(10, 4, (0, 0x0a00_0001), 32)),
+        ("src ::1", network(8, 6, (0, 1), 128)),
+    ];
+    for (text, wanted) in &rows {
+        check(&rt, text, &[*wanted]);
+    }
+    Ok(())
+}
+
 /// The flags of `fragment`, `fault` and `incomplete`.
 const FRAGMENT: u64 = 0x300;
 
@@ -187,8 +224,18 @@ fn first_errors(rt: HostRuntime) -> Result<(), Fail> {
         ("payload > 18446744073709551616", 10, Expected::Count),
         ("spi 4294967296", 4, Expected::Number),
         ("id 0x", 3, Expected::Number),
-        ("src 10.0.0.0/33", 4, Expected::Network),
-        ("src 10.0.0", 4, Expected::Network),
+        ("src 10.0.0.0/33", 4, Expected::NetworkOrPort),
+        ("dst host", 4, Expected::NetworkOrPort),
+        ("src port", 8, Expected::Ports),
+        ("dst port 65536", 9, Expected::Ports),
+        ("port 2-1", 5, Expected::Ports),
+        ("port 1-", 5, Expected::Ports),
+        ("port 1-2-3", 5, Expected::Ports),
+        ("net port 1", 4, Expected::Network),
+        ("host 10.0.0.0/8", 5, Expected::Address),
+        ("icmp-type 256", 10, Expected::Byte),
+        ("ttl 1", 4, Expected::Comparison),
+        ("tcp port", 4, Expected::OperatorOrEnd),
         ("net 2001:db8::/129", 4, Expected::Network),
         (
             "(((((((((((((((((fragment)))))))))))))))))",

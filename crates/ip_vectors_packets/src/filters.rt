@@ -1,7 +1,7 @@
 //! Terms and formulas over whole packets: what holds of each packet is worked out by hand.
 use crate::checks::assert_same;
 use crate::samples::{ipv4_bytes, ipv6_bytes};
-use ip_filter::{Comparison, FaultKind, Filter, Network, Term, Test};
+use ip_filter::{Comparison, FaultKind, Filter, Network, Quantity, Term, Test};
 use std::process::Abort;
 use std::test::Fail;
 
@@ -41,12 +41,12 @@ fn whole_packet(rt: HostRuntime) -> Result<(), Fail> {
         Term::Version(6),
         Term::Header(0),
         Term::LeadsTo(17),
-        Term::Headers(Comparison::Equal, 1),
-        Term::Headers(Comparison::Less, 2),
-        Term::ChainBytes(Comparison::AtLeast, 8),
-        Term::ChainBytes(Comparison::Greater, 7),
-        Term::Payload(Comparison::AtMost, 8),
-        Term::Payload(Comparison::NotEqual, 7),
+        Term::Compared(Quantity::Headers, Comparison::Equal, 1),
+        Term::Compared(Quantity::Headers, Comparison::Less, 2),
+        Term::Compared(Quantity::ChainBytes, Comparison::AtLeast, 8),
+        Term::Compared(Quantity::ChainBytes, Comparison::Greater, 7),
+        Term::Compared(Quantity::Payload, Comparison::AtMost, 8),
+        Term::Compared(Quantity::Payload, Comparison::NotEqual, 7),
         Term::Source(ipv6(1, 128)),
         Term::Source(ipv6(2, 32)),
         Term::Destination(ipv6(3, 127)),
@@ -64,9 +64,9 @@ fn whole_packet_in_no_term(rt: HostRuntime) -> Result<(), Fail> {
         Term::Version(4),
         Term::Header(60),
         Term::LeadsTo(6),
-        Term::Headers(Comparison::Less, 1),
-        Term::ChainBytes(Comparison::Greater, 8),
-        Term::Payload(Comparison::NotEqual, 8),
+        Term::Compared(Quantity::Headers, Comparison::Less, 1),
+        Term::Compared(Quantity::ChainBytes, Comparison::Greater, 8),
+        Term::Compared(Quantity::Payload, Comparison::NotEqual, 8),
         Term::Source(ipv6(2, 128)),
         Term::Source(ipv6(3, 127)),
         Term::Destination(ipv6(3, 128)),
@@ -95,7 +95,7 @@ fn middle_fragment(rt: HostRuntime) -> Result<(), Fail> {
         Term::Header(44),
         Term::LeadsTo(44),
         Term::Identification(7),
-        Term::Headers(Comparison::AtMost, 1),
+        Term::Compared(Quantity::Headers, Comparison::AtMost, 1),
     ];
     let others = [
         Term::FirstFragment,
@@ -132,7 +132,7 @@ fn first_fragment(rt: HostRuntime) -> Result<(), Fail> {
         Term::Fragment,
         Term::FirstFragment,
         Term::SecurityParameters(0x102),
-        Term::ChainBytes(Comparison::Equal, 12),
+        Term::Compared(Quantity::ChainBytes, Comparison::Equal, 12),
         Term::Source(ipv4(0, 31)),
         Term::Destination(ipv4(3, 31)),
         Term::Either(ipv4(2, 32)),
@@ -155,7 +155,7 @@ fn truncated_header(rt: HostRuntime) -> Result<(), Fail> {
         Term::Truncated,
         Term::Incomplete,
         Term::LeadsTo(43),
-        Term::Headers(Comparison::Equal, 0),
+        Term::Compared(Quantity::Headers, Comparison::Equal, 0),
     ];
     check(
         &rt,
@@ -195,8 +195,8 @@ fn faults(rt: HostRuntime) -> Result<(), Fail> {
         Term::Version(0),
         Term::Version(5),
         Term::LeadsTo(59),
-        Term::Headers(Comparison::Equal, 0),
-        Term::Payload(Comparison::AtLeast, 0),
+        Term::Compared(Quantity::Headers, Comparison::Equal, 0),
+        Term::Compared(Quantity::Payload, Comparison::AtLeast, 0),
     ];
     check(&rt, "version 5", &[0x50], &holding, &others);
     Ok(())
@@ -264,7 +264,7 @@ fn programs(rt: HostRuntime) -> Result<(), Fail> {
             true,
         ),
         ("kind 0", filter(&[of_kind(0)]), false, false),
-        ("kind 11", filter(&[of_kind(11)]), false, false),
+        ("kind 22", filter(&[of_kind(22)]), false, false),
     ];
     for (name, filter, matches, other) in &rows {
         assert_same(&rt, name, filter.matches(bytes.as_slice()), *matches);

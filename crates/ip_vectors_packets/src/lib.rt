@@ -20,6 +20,8 @@ mod plain_outline;
 #[cfg(test)]
 mod plain_packets;
 #[cfg(test)]
+mod ports;
+#[cfg(test)]
 mod samples;
 #[cfg(test)]
 mod spans;

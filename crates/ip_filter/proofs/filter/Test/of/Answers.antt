@@ -1,7 +1,8 @@
-use Rattle.ip_spec.proofs.Common.{sym, ap, ◌∙◌}
+use Rattle.ip_spec.proofs.Common.{rules, sym, ap, ◌∙◌}
 use Rattle.ip_dissect.specs.Dissection.{dissected}
 use Rattle.ip_filter.specs.Truth.{holds}
 use Rattle.ip_filter.proofs.MaskLemmas.{by_flags, fragment_mask, first_mask, later_mask, truncated_mask, incomplete_mask, faults_mask}
+use Rattle.ip_filter.proofs.TestLemmas.{by_icmp_code}
 use Rattle.ip_filter.proofs.filter.Test.of.Goals as goal
 
 pub returns-in-Fragment-clause-meets : goal.returns-in-Fragment-clause-meets
@@ -21,3 +22,6 @@ returns-in-Incomplete-clause-meets c = λ s. by_flags c.of_flags-in-Incomplete.r
 
 pub returns-in-Fault-clause-meets : goal.returns-in-Fault-clause-meets
 returns-in-Fault-clause-meets c = λ s. by_flags c.of_flags-in-Fault.result _ (dissected s) c.of_flags-in-Fault.ensures.kind c.of_flags-in-Fault.ensures.number ∙ faults_mask s ∙ ap (λ t. holds t (dissected s)) (sym c.in-Fault.is)
+
+pub returns-in-IcmpCode-clause-meets : goal.returns-in-IcmpCode-clause-meets
+returns-in-IcmpCode-clause-meets c = λ s. by_icmp_code c.of_number-in-IcmpCode.result c.in-IcmpCode.number (dissected s) c.of_number-in-IcmpCode.ensures.kind (search rules) ∙ ap (λ t. holds t (dissected s)) (sym c.in-IcmpCode.is)

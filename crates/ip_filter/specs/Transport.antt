@@ -1,0 +1,48 @@
+-- What follows the headers: the header of a transport protocol, or an ICMP message.
+use Rattle.std.specs.Prelude.{ℕ, ◌+◌, List, [], length, slice_index, slice_range, Bool, true, false, ◌==◌, ◌&&◌, ◌||◌, nat_lt, nat_le, if◌then◌else◌, Option, Some, None}
+use Rattle.std.specs.Int.{from_be_bytes, w16}
+use Rattle.ip_dissect.specs.Dissection.{DissectedParts}
+use Rattle.ip_dissect.specs.declared.end.End.{End}
+use Rattle.ip_dissect.specs.declared.end.End.TheVariants as end
+use Rattle.ip_filter.specs.declared.term.Ports.{Ports}
+
+-- The headers end at the payload, which isn't that of a later fragment.
+abbrev pub is_at_payload : End → Bool
+is_at_payload end.Payload = true
+is_at_payload e = false
+
+-- the bytes from the transport header on
+abbrev pub transport_of : DissectedParts → List ℕ
+transport_of p = if is_at_payload p.end then p.payload else []
+
+-- The headers of TCP (RFC 9293, section 3.1), UDP (RFC 768), DCCP (RFC 4340, section 5.1), SCTP (RFC 9260, section 3.1) and
+-- UDP-Lite (RFC 3828, section 3.1) begin with the source and the destination port, of 16 bits each.
+abbrev pub has_ports : ℕ → Bool
+has_ports n = (n == 6) || (n == 17) || (n == 33) || (n == 132) || (n == 136)
+
+-- the port at offset i of the transport header, in network byte order, if it is there
+abbrev pub port_at : ℕ → DissectedParts → Option ℕ
+port_at i p =
+    if has_ports p.number && nat_le (i + 2) (length (transport_of p)) then Some (from_be_bytes w16 (slice_range (transport_of p) i (i + 2)))
+    else None
+
+abbrev pub source_port : DissectedParts → Option ℕ
+source_port p = port_at 0 p
+
+abbrev pub destination_port : DissectedParts → Option ℕ
+destination_port p = port_at 2 p
+
+-- the packet should have ports, but not both are there
+abbrev pub lacks_ports : DissectedParts → Bool
+lacks_ports p = has_ports p.number && is_at_payload p.end && nat_lt (length p.payload) 4
+
+abbrev pub are_among : Ports → ℕ → Bool
+are_among r n = nat_le r.first n && nat_le n r.last
+
+-- ICMP (RFC 792) and ICMPv6 (RFC 4443, section 2.1): messages begin with their type and code, of 8 bits each
+abbrev pub is_icmp : ℕ → Bool
+is_icmp n = (n == 1) || (n == 58)
+
+-- byte i of the message, if it is there
+abbrev pub icmp_byte : ℕ → DissectedParts → Option ℕ
+icmp_byte i p = if is_icmp p.number && nat_lt i (length (transport_of p)) then Some (slice_index (transport_of p) i) else None

@@ -1,0 +1,192 @@
+//! Keywords: the words that terms begin with.
+ghost use Rattle.std.specs.Prelude.{◌≡◌};
+ghost use Rattle.ip_filter.specs.Grammar.{alone, quantity_named, number_keyword_of, address_keyword_of, keyword_of};
+
+use crate::numbers::parse_upper_layer;
+use crate::{Quantity, Term};
+
+/// What a keyword is: a term, or the beginning of one.
+#[derive(Clone, Copy)]
+pub(crate) enum Keyword {
+    /// A term by itself.
+    Alone(Term),
+    /// A faulty header, whose kind of fault may follow.
+    Fault,
+    /// A number or a name follows.
+    Number(NumberKeyword),
+    /// A comparison and a number follow.
+    Compared(Quantity),
+    /// An address, a network or ports follow.
+    Address(AddressKeyword),
+}
+
+/// A keyword that a number or a name follows.
+#[derive(Clone, Copy)]
+pub(crate) enum NumberKeyword {
+    /// An IP version.
+    Version,
+    /// An extension header.
+    Header,
+    /// What follows the headers.
+    LeadsTo,
+    /// A security parameters index.
+    SecurityParameters,
+    /// An identification.
+    Identification,
+    /// A type of ICMP.
+    IcmpType,
+    /// A code of ICMP.
+    IcmpCode,
+}
+
+/// A keyword that an address, a network or ports follow.
+#[derive(Clone, Copy)]
+pub(crate) enum AddressKeyword {
+    /// The source: a network, or `port` and ports.
+    Source,
+    /// The destination: a network, or `port` and ports.
+    Destination,
+    /// Either address: a network.
+    Network,
+    /// Either address: one address.
+    Host,
+    /// Either port: ports.
+    Port,
+}
+
+/// Returns what the word is, if it is a keyword.
+pub(crate) fn keyword_of(word: &[u8]) -> Option<Keyword>
+    ensures { result ≡ keyword_of word.now }
+{
+    if word == b"fault".as_slice() {
+        return Some(Keyword::Fault);
+    }
+    if let Some(term) = alone(word) {
+        return Some(Keyword::Alone(term));
+    }
+    if let Some(quantity) = quantity_named(word) {
+        return Some(Keyword::Compared(quantity));
+    }
+    if let Some(keyword) = number_keyword_of(word) {
+        return Some(Keyword::Number(keyword));
+    }
+    match address_keyword_of(word) {
+        Some(keyword) => Some(Keyword::Address(keyword)),
+        None => None,
+    }
+}
+
+/// Returns the term that the word is by itself.
+fn alone(word: &[u8]) -> Option<Term>
+    ensures { result ≡ alone word.now }
+{
+    if word == b"ip".as_slice() {
+        return Some(Term::Version(4));
+    }
+    if word == b"ip6".as_slice() {
+        return Some(Term::Version(6));
+    }
+    if word == b"fragment".as_slice() {
+        return Some(Term::Fragment);
+    }
+    if word == b"first-fragment".as_slice() {
+        return Some(Term::FirstFragment);
+    }
+    if word == b"later-fragment".as_slice() {
+        return Some(Term::LaterFragment);
+    }
+    if word == b"truncated".as_slice() {
+        return Some(Term::Truncated);
+    }
+    if word == b"incomplete".as_slice() {
+        return Some(Term::Incomplete);
+    }
+    if word == b"no-transport".as_slice() {
+        return Some(Term::NoTransport);
+    }
+    match parse_upper_layer(word) {
+        Some(number) => Some(Term::LeadsTo(number)),
+        None => None,
+    }
+}
+
+/// Returns the quantity that the word names.
+fn quantity_named(word: &[u8]) -> Option<Quantity>
+    ensures { result ≡ quantity_named word.now }
+{
+    if word == b"headers".as_slice() {
+        return Some(Quantity::Headers);
+    }
+    if word == b"chain-bytes".as_slice() {
+        return Some(Quantity::ChainBytes);
+    }
+    if word == b"payload".as_slice() {
+        return Some(Quantity::Payload);
+    }
+    if word == b"length".as_slice() {
+        return Some(Quantity::Length);
+    }
+    if word == b"hop-limit".as_slice() || word == b"ttl".as_slice() {
+        return Some(Quantity::HopLimit);
+    }
+    if word == b"dscp".as_slice() {
+        return Some(Quantity::Dscp);
+    }
+    if word == b"ecn".as_slice() {
+        return Some(Quantity::Ecn);
+    }
+    if word == b"flow".as_slice() {
+        return Some(Quantity::FlowLabel);
+    }
+    None
+}
+
+/// Returns the keyword that the word is, if a number or a name follows it.
+fn number_keyword_of(word: &[u8]) -> Option<NumberKeyword>
+    ensures { result ≡ number_keyword_of word.now }
+{
+    if word == b"version".as_slice() {
+        return Some(NumberKeyword::Version);
+    }
+    if word == b"header".as_slice() {
+        return Some(NumberKeyword::Header);
+    }
+    if word == b"leads-to".as_slice() {
+        return Some(NumberKeyword::LeadsTo);
+    }
+    if word == b"spi".as_slice() {
+        return Some(NumberKeyword::SecurityParameters);
+    }
+    if word == b"id".as_slice() {
+        return Some(NumberKeyword::Identification);
+    }
+    if word == b"icmp-type".as_slice() {
+        return Some(NumberKeyword::IcmpType);
+    }
+    if word == b"icmp-code".as_slice() {
+        return Some(NumberKeyword::IcmpCode);
+    }
+    None
+}
+
+/// Returns the keyword that the word is, if an address, a network or ports follow it.
+fn address_keyword_of(word: &[u8]) -> Option<AddressKeyword>
+    ensures { result ≡ address_keyword_of word.now }
+{
+    if word == b"src".as_slice() {
+        return Some(AddressKeyword::Source);
+    }
+    if word == b"dst".as_slice() {
+        return Some(AddressKeyword::Destination);
+    }
+    if word == b"net".as_slice() {
+        return Some(AddressKeyword::Network);
+    }
+    if word == b"host".as_slice() {
+        return Some(AddressKeyword::Host);
+    }
+    if word == b"port".as_slice() {
+        return Some(AddressKeyword::Port);
+    }
+    None
+}

@@ -1,0 +1,118 @@
+//! Ports, and the types of ICMP: what the payload begins with.
+ghost use Rattle.std.specs.Prelude.{◌≡◌, ◌≤◌, ◌+◌};
+ghost use Rattle.ip_dissect.specs.Dissection.{dissected};
+ghost use Rattle.ip_filter.specs.Transport.{is_at_payload, transport_of, has_ports, is_icmp, port_at, icmp_byte, lacks_ports};
+
+use crate::facts::Facts;
+
+/// The numbers of protocols.
+mod protocol {
+    pub const ICMP: u8 = 1;
+
+    pub const TCP: u8 = 6;
+
+    pub const UDP: u8 = 17;
+
+    pub const DCCP: u8 = 33;
+
+    pub const ICMP6: u8 = 58;
+
+    pub const SCTP: u8 = 132;
+
+    pub const UDP_LITE: u8 = 136;
+}
+
+/// The offset of the source port.
+pub(crate) const SOURCE_PORT: usize = 0;
+
+/// The offset of the destination port.
+pub(crate) const DESTINATION_PORT: usize = 2;
+
+/// The offset of the type of an ICMP message.
+pub(crate) const ICMP_TYPE: usize = 0;
+
+/// The offset of the code of an ICMP message.
+pub(crate) const ICMP_CODE: usize = 1;
+
+impl<'a> Facts<'a> {
+    /// Returns the port at an offset from the start of the payload, if the payload begins with ports and this one is there.
+    #[inline(always)]
+    pub(crate) fn port_at(&self, offset: usize) -> Option<u16>
+        requires { offset ≤ 2 }
+        ensures { result ≡ port_at offset (dissected self.now.packet.bytes.now) }
+    {
+        if !has_ports(self.packet.outline.next_header.0) {
+            return None;
+        }
+        let transport = self.transport();
+        if transport.len() < offset + 2 {
+            return None;
+        }
+        Some(u16::from_be_bytes([transport[offset], transport[offset + 1]]))
+    }
+
+    /// Returns whether the payload should begin with ports, but is too short for both.
+    #[inline(always)]
+    pub(crate) fn lacks_ports(&self) -> bool
+        ensures { result ≡ lacks_ports (dissected self.now.packet.bytes.now) }
+    {
+        has_ports(self.packet.outline.next_header.0)
+            && self.is_at_payload()
+            && self.packet.outline.payload_len < 4
+    }
+
+    /// Returns the byte at an offset from the start of an ICMP message, if the payload is one and the byte is there.
+    #[inline(always)]
+    pub(crate) fn icmp_byte(&self, offset: usize) -> Option<u8>
+        ensures { result ≡ icmp_byte offset (dissected self.now.packet.bytes.now) }
+    {
+        if !is_icmp(self.packet.outline.next_header.0) {
+            return None;
+        }
+        let transport = self.transport();
+        if offset < transport.len() {
+            Some(transport[offset])
+        } else {
+            None
+        }
+    }
+
+    /// Returns the payload, if the headers end at it.
+    #[inline(always)]
+    fn transport(&self) -> &'a [u8]
+        ensures { result.now ≡ transport_of (dissected self.now.packet.bytes.now) }
+    {
+        if self.is_at_payload() {
+            self.packet.payload()
+        } else {
+            &[]
+        }
+    }
+
+    /// Returns whether the headers end at the payload, which isn't that of a later fragment.
+    #[inline(always)]
+    fn is_at_payload(&self) -> bool
+        ensures { result ≡ is_at_payload (dissected self.now.packet.bytes.now).end }
+    {
+        !self.packet.outline.has_error && !self.packet.outline.is_later_fragment
+    }
+}
+
+/// Returns whether the headers of a protocol begin with ports.
+#[inline(always)]
+fn has_ports(number: u8) -> bool
+    ensures { result ≡ has_ports number }
+{
+    matches!(
+        number,
+        protocol::TCP | protocol::UDP | protocol::DCCP | protocol::SCTP | protocol::UDP_LITE
+    )
+}
+
+/// Returns whether the protocol is ICMP or ICMPv6.
+#[inline(always)]
+fn is_icmp(number: u8) -> bool
+    ensures { result ≡ is_icmp number }
+{
+    matches!(number, protocol::ICMP | protocol::ICMP6)
+}

@@ -198,6 +198,12 @@ fn formulas(rt: HostRuntime) -> Result<(), Fail> {
     Ok(())
 }
 
+/// Checks where the text is refused, and what is expected there.
+fn check_error(rt: &impl Abort, text: &str, offset: usize, expected: Expected) {
+    let error = ParseError { offset, expected };
+    assert_that(rt, text, Filter::parse(text.as_bytes()) == Err(error));
+}
+
 #[test]
 fn first_errors(rt: HostRuntime) -> Result<(), Fail> {
     let rows = [
@@ -213,6 +219,21 @@ fn first_errors(rt: HostRuntime) -> Result<(), Fail> {
         ("fault too-shrt", 6, Expected::OperatorOrEnd),
         ("(fragment", 9, Expected::OperatorOrClose),
         ("(fragment fault)", 10, Expected::OperatorOrClose),
+        (
+            "(((((((((((((((((fragment)))))))))))))))))",
+            16,
+            Expected::LessNesting,
+        ),
+    ];
+    for (text, offset, expected) in &rows {
+        check_error(&rt, text, *offset, *expected);
+    }
+    Ok(())
+}
+
+#[test]
+fn errors_in_arguments(rt: HostRuntime) -> Result<(), Fail> {
+    let rows = [
         ("version 5", 8, Expected::Version),
         ("header", 6, Expected::Header),
         ("header 256", 7, Expected::Header),
@@ -237,18 +258,9 @@ fn first_errors(rt: HostRuntime) -> Result<(), Fail> {
         ("ttl 1", 4, Expected::Comparison),
         ("tcp port", 4, Expected::OperatorOrEnd),
         ("net 2001:db8::/129", 4, Expected::Network),
-        (
-            "(((((((((((((((((fragment)))))))))))))))))",
-            16,
-            Expected::LessNesting,
-        ),
     ];
     for (text, offset, expected) in &rows {
-        let error = ParseError {
-            offset: *offset,
-            expected: *expected,
-        };
-        assert_that(&rt, text, Filter::parse(text.as_bytes()) == Err(error));
+        check_error(&rt, text, *offset, *expected);
     }
     Ok(())
 }

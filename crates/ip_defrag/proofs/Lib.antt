@@ -1,0 +1,6 @@
+pub mod Common
+pub mod FragmentLemmas
+pub mod MemberLemmas
+pub mod MarkLemmas
+pub mod PayloadLemmas
+pub mod ReceivedLemmas

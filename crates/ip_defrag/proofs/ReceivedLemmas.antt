@@ -1,0 +1,340 @@
+-- What a reassembly has received, its fields, and a fragment.
+use Rattle.ip_defrag.proofs.Common.{◌≡◌, ℕ, ◌+◌, ◌-◌, ◌*◌, ◌/◌, ◌%◌, ◌≤◌, ◌<◌, max, min, Bool, true, false, not, ◌&&◌, ◌||◌, List, ◌∷◌, take, replicate, length, get_or, Option, Some, None, is_some, refl, sym, ap, ◌∙◌, subst, inl, inr, arith, cond, cond-true, cond-false, leb, ltb, eqb, eqb-true, lt-ltb, le-ltb, le-leb, lt-leb, eq-eqb, ne_eqb, cases_eq, cases_lt, cases_Bool, and_parts, and_from, or_right, false_from_ne_true, true_from_ne_false, both_ways, list_any, bytes_eq, Fragment, fragment, end_of, is_in, is_same, overlaps, has_two_ends, is_unaligned, byte_at, first_bytes, first_mark, mark_at, reach_of, is_ended, count_of, IsSound, AreConsistent}
+use Rattle.std.specs.Prelude.{slice_range}
+use Rattle.std.proofs.lemmas.Slice.Eq.{bytes_eq-Decides}
+use Rattle.std.proofs.lemmas.Option.{same_Some, none-some}
+use Rattle.std.proofs.Math.Bool.{or_comm}
+use Rattle.std.proofs.lemmas.Bool.{and_left, and_right, not_from_true}
+use Rattle.std.proofs.lemmas.List.{ext_get_or}
+use Rattle.std.proofs.lemmas.Bool.Decides.{same_from_decides}
+use Rattle.std.proofs.lemmas.List.Edits.{get_or-between, length-between}
+use Rattle.ip_defrag.specs.declared.err.AddError.{AddError}
+use Rattle.ip_defrag.specs.declared.err.AddError.TheVariants.{Unaligned, TooLong, Overlap, TwoEnds, Abandoned}
+use Rattle.ip_defrag.specs.declared.reassembly.Reassembly.{Reassembly}
+use Rattle.ip_defrag.specs.Payload.{payload_of}
+use Rattle.ip_defrag.specs.Refusal.{refusal}
+use Rattle.std.specs.Prelude.{Ok, Err}
+use Rattle.std.proofs.lemmas.List.{get_or-replicate, get_or_past, length-replicate}
+use Rattle.ip_defrag.specs.Refusal.{is_conflict}
+use Rattle.ip_defrag.specs.Received.{Received, nothing, with_fragment, progress_of, reply_by, reply_to, received_by, received_after}
+use Rattle.ip_defrag.specs.Reassembly.{HasReceived, IsNew}
+use Rattle.ip_defrag.proofs.FragmentLemmas.{same_parts, whole_units, in_bounds, is_in_bounds, out_of_bounds, overlaps_at}
+use Rattle.ip_defrag.proofs.MemberLemmas.{any_from_member, member_sound, member_within, member_ended, member_last, ends_elsewhere, two_ends_from, one_end_from, member_one_end}
+use Rattle.ip_defrag.proofs.MarkLemmas.{first_mark_in, later_mark_in, mark_at_in, mark_at_out, none_overlaps, unmarked, IsMarked, has_shape, member_marks, member_mark_ends}
+use Rattle.ip_defrag.proofs.PayloadLemmas.{byte_at_in, byte_at_out, own_byte, member_byte, first_bytes_each, first_bytes_are, first_bytes_there, present_all, present, payload_is, reach_most, payload_without_end, payload_with_hole, count_most}
+
+-- The refusal, case by case.
+pub refused_unaligned : (limit : ℕ) (fs : List Fragment) (f : Fragment) → is_unaligned f ≡ true → refusal limit fs f ≡ Some Unaligned
+unfolding refusal
+refused_unaligned limit fs f h = cond-true (is_unaligned f) _ _ h
+
+pub refused_too_long : (limit : ℕ) (fs : List Fragment) (f : Fragment) → is_unaligned f ≡ false → limit < end_of f → refusal limit fs f ≡ Some TooLong
+unfolding refusal
+refused_too_long limit fs f a l = cond-false (is_unaligned f) _ _ a ∙ cond-true (ltb limit (end_of f)) _ _ (lt-ltb limit (end_of f) l)
+
+pub refused_among : (limit : ℕ) (fs : List Fragment) (f : Fragment) → is_unaligned f ≡ false → end_of f ≤ limit → list_any (is_same f) fs ≡ true → refusal limit fs f ≡ None
+unfolding refusal
+refused_among limit fs f a l s = cond-false (is_unaligned f) _ _ a ∙ (cond-false (ltb limit (end_of f)) _ _ (le-ltb limit (end_of f) l) ∙ cond-true (list_any (is_same f) fs) _ _ s)
+
+pub refused_overlap : (limit : ℕ) (fs : List Fragment) (f : Fragment) → is_unaligned f ≡ false → end_of f ≤ limit → list_any (is_same f) fs ≡ false → list_any (overlaps f) fs ≡ true → refusal limit fs f ≡ Some Overlap
+unfolding refusal
+refused_overlap limit fs f a l s o = cond-false (is_unaligned f) _ _ a ∙ (cond-false (ltb limit (end_of f)) _ _ (le-ltb limit (end_of f) l) ∙ (cond-false (list_any (is_same f) fs) _ _ s ∙ cond-true (list_any (overlaps f) fs) _ _ o))
+
+pub refused_two_ends : (limit : ℕ) (fs : List Fragment) (f : Fragment) → is_unaligned f ≡ false → end_of f ≤ limit → list_any (is_same f) fs ≡ false → list_any (overlaps f) fs ≡ false → list_any (has_two_ends f) fs ≡ true → refusal limit fs f ≡ Some TwoEnds
+unfolding refusal
+refused_two_ends limit fs f a l s o t = cond-false (is_unaligned f) _ _ a ∙ (cond-false (ltb limit (end_of f)) _ _ (le-ltb limit (end_of f) l) ∙ (cond-false (list_any (is_same f) fs) _ _ s ∙ (cond-false (list_any (overlaps f) fs) _ _ o ∙ cond-true (list_any (has_two_ends f) fs) _ _ t)))
+
+pub not_refused : (s : Received) (f : Fragment) → IsNew s f → refusal s.limit s.fragments f ≡ None
+unfolding refusal
+not_refused s f n = elim (cases_Bool (list_any (is_same f) s.fragments)) [
+  | inl same ↦ refused_among s.limit s.fragments f n.sound.aligned n.sound.within same
+  | inr other ↦ cond-false (is_unaligned f) _ _ n.sound.aligned ∙ (cond-false (ltb s.limit (end_of f)) _ _ (le-ltb s.limit (end_of f) n.sound.within) ∙ (cond-false (list_any (is_same f) s.fragments) _ _ other ∙ (cond-false (list_any (overlaps f) s.fragments) _ _ n.apart ∙ cond-false (list_any (has_two_ends f) s.fragments) _ _ n.one_end)))
+]
+
+-- Units are free exactly if the fragment overlaps no other.
+pub free_units : (r : Reassembly) (s : Received) (first next : ℕ) (more : Bool) (bytes : List ℕ) → HasReceived r s → next ≡ (8 * first + length bytes) / 8 + min 1 ((8 * first + length bytes) % 8) → ((i : ℕ) → first ≤ i → i < next → get_or r.marks i 0 ≡ 0) → list_any (overlaps (fragment first more bytes)) s.fragments ≡ false
+free_units r s first next more bytes h n free =
+    none_overlaps s.limit s.fragments (fragment first more bytes) h.consistent (omega arith) (λ i low high. sym (h.marks i) ∙ free i (omega (arith, low)) (omega (arith, high, n)))
+
+pub occupied_units : (r : Reassembly) (s : Received) (first next : ℕ) (more : Bool) (bytes : List ℕ) → HasReceived r s → next ≡ (8 * first + length bytes) / 8 + min 1 ((8 * first + length bytes) % 8) → (((i : ℕ) → first ≤ i → i < next → get_or r.marks i 0 ≡ 0) → ⊥) → list_any (overlaps (fragment first more bytes)) s.fragments ≡ true
+occupied_units r s first next more bytes h n occupied = true_from_ne_false (list_any (overlaps (fragment first more bytes)) s.fragments) (λ none.
+    occupied (λ i low high. h.marks i ∙ unmarked s.fragments (fragment first more bytes) i none (omega (arith, low)) (omega (arith, high, n))))
+
+-- A fragment that doesn't overlap itself has no bytes.
+pub same_overlaps : (fs : List Fragment) (f : Fragment) → list_any (is_same f) fs ≡ true → 0 < length f.bytes → list_any (overlaps f) fs ≡ true
+same_overlaps fs f among positive = any_from_member (overlaps f) fs f among (overlaps_at f f f.offset (omega arith) (omega (arith, positive)) (omega arith) (omega (arith, positive)))
+
+-- A fragment that is there has the units of one fragment.
+pub repeated_units : (r : Reassembly) (s : Received) (first next : ℕ) (more : Bool) (bytes : List ℕ) → HasReceived r s → IsSound s.limit (fragment first more bytes) → 0 < length bytes → next ≡ (8 * first + length bytes) / 8 + min 1 ((8 * first + length bytes) % 8) → ((get_or r.marks first 0 ≡ first_mark more) × ((i : ℕ) → first + 1 ≤ i → i < next → get_or r.marks i 0 ≡ 3) × (get_or r.marks next 0 ≡ 3 → ⊥) → ⊥) → list_any (is_same (fragment first more bytes)) s.fragments ≡ false
+repeated_units r s first next more bytes h sound positive n other = false_from_ne_true (list_any (is_same (fragment first more bytes)) s.fragments) (λ among.
+    let f : Fragment = fragment first more bytes in
+    other (
+      h.marks first ∙ (member_marks s.limit s.fragments f first h.consistent among (omega arith) (omega (arith, positive)) ∙ first_mark_in f first refl),
+      (λ i low high. h.marks i ∙ (member_marks s.limit s.fragments f i h.consistent among (omega (arith, low)) (omega (arith, high, n)) ∙ later_mark_in f i (λ e. omega (arith, e, low)))),
+      (λ e. member_mark_ends s.limit s.fragments f h.consistent among positive
+          (subst (λ (k : ℕ). mark_at s.fragments k ≡ 3) (let at : next ≡ (end_of f + 7) / 8 = omega (arith, n) in at) (sym (h.marks next) ∙ e))),
+    ))
+
+pub repeated_end : (r : Reassembly) (s : Received) (f : Fragment) → HasReceived r s → f.more ≡ false → (end_of f ≡ r.reach → ⊥) → list_any (is_same f) s.fragments ≡ false
+repeated_end r s f h last other = false_from_ne_true (list_any (is_same f) s.fragments) (λ among.
+    other (sym (member_last s.limit s.fragments f h.consistent among last) ∙ sym h.reach))
+
+-- The buffer has the bytes of a fragment that is there.
+pub member_slice : (r : Reassembly) (s : Received) (f : Fragment) → HasReceived r s → list_any (is_same f) s.fragments ≡ true → slice_range r.buffer.now f.offset (end_of f) ≡ f.bytes
+member_slice r s f h among =
+    let sound = member_sound s.limit s.fragments f h.consistent among in
+    let len : length (slice_range r.buffer.now f.offset (end_of f)) ≡ length f.bytes = omega (arith, length-between {X = ℕ} r.buffer.now f.offset (end_of f), sound.within, h.limit) in
+    ext_get_or 0 (slice_range r.buffer.now f.offset (end_of f)) f.bytes len (λ k less.
+    let inside : is_in f (f.offset + k) ≡ true = is_in_bounds f (f.offset + k) (omega arith) (omega (arith, less, len)) in
+    let at : f.offset + k - f.offset ≡ k = omega arith in
+    get_or-between r.buffer.now f.offset (end_of f) k 0 (omega (arith, less, len))
+    ∙ (h.bytes (f.offset + k) (get_or f.bytes (f.offset + k - f.offset) 0) (member_byte s.limit s.fragments f (f.offset + k) h.consistent among inside)
+    ∙ ap (λ (i : ℕ). get_or f.bytes i 0) at))
+
+-- A fragment with the units and the end of one that is there repeats it exactly if the buffer has its bytes.
+pub repeated_bytes : (r : Reassembly) (s : Received) (first next : ℕ) (more : Bool) (bytes : List ℕ) → HasReceived r s → IsSound s.limit (fragment first more bytes) → 0 < length bytes → next ≡ (8 * first + length bytes) / 8 + min 1 ((8 * first + length bytes) % 8) → (get_or r.marks first 0 ≡ first_mark more) × ((i : ℕ) → first + 1 ≤ i → i < next → get_or r.marks i 0 ≡ 3) × (get_or r.marks next 0 ≡ 3 → ⊥) → (more ≡ false → 8 * first + length bytes ≡ r.reach) → bytes_eq (slice_range r.buffer.now (8 * first) (8 * first + length bytes)) bytes ≡ list_any (is_same (fragment first more bytes)) s.fragments
+repeated_bytes r s first next more bytes h sound positive n units ends =
+    let f : Fragment = fragment first more bytes in
+    let marked : IsMarked s.fragments f = record {
+      marks = λ i low high. sym (h.marks i) ∙ elim (cases_eq i first) [
+        | inl e ↦ ap (λ (k : ℕ). get_or r.marks k 0) e ∙ (units.0 ∙ sym (first_mark_in f i (omega (arith, e))))
+        | inr other ↦ units.1 i (omega (arith, other, low)) (omega (arith, high, n)) ∙ sym (later_mark_in f i (λ e. other (omega (arith, e))))
+      ];
+      ends = λ e. units.2 (h.marks next ∙ (ap (mark_at s.fragments) (let at : next ≡ (end_of f + 7) / 8 = omega (arith, n) in at) ∙ e));
+    } in
+    let shape = has_shape s.limit s.fragments f first refl h.consistent positive marked in
+    let g = shape.other in
+    let g_sound = member_sound s.limit s.fragments g h.consistent shape.among in
+    let end : end_of g ≡ end_of f = elim (cases_Bool more) [
+      | inl follow ↦ omega (arith, shape.units, shape.offset, whole_units g g_sound.aligned (shape.more ∙ follow), whole_units f sound.aligned follow)
+      | inr last ↦ sym (member_last s.limit s.fragments g h.consistent shape.among (shape.more ∙ last)) ∙ (sym h.reach ∙ sym (ends last))
+    ] in
+    let stored : slice_range r.buffer.now (8 * first) (8 * first + length bytes) ≡ g.bytes =
+    ap (λ (i : ℕ). slice_range r.buffer.now i (8 * first + length bytes)) (sym shape.offset)
+    ∙ (ap (slice_range r.buffer.now g.offset) (sym end) ∙ member_slice r s g h shape.among) in
+    let decides = bytes_eq-Decides (slice_range r.buffer.now (8 * first) (8 * first + length bytes)) bytes in
+    same_from_decides (bytes_eq (slice_range r.buffer.now (8 * first) (8 * first + length bytes)) bytes) (list_any (is_same f) s.fragments) decides (
+      (λ among. member_slice r s f h among),
+      λ same. subst (λ (k : Fragment). list_any (is_same k) s.fragments ≡ true) (same_parts g.offset f.offset g.more f.more g.bytes bytes shape.offset shape.more (sym stored ∙ same)) shape.among,
+    )
+
+-- The first bytes of the payload, if they are there, are those of the buffer.
+bytes_in_buffer : (r : Reassembly) (s : Received) (n : ℕ) (o : Option (List ℕ)) → HasReceived r s → n ≤ length r.buffer.now → first_bytes s.fragments n ≡ o → is_some o ≡ true → first_bytes s.fragments n ≡ Some (take n r.buffer.now)
+bytes_in_buffer r s n None h l e some = absurd (both_ways false refl some)
+bytes_in_buffer r s n (Some t) h l e some =
+    let each = first_bytes_each s.fragments n t e in
+    first_bytes_are s.fragments r.buffer.now n l (λ i less. each.1 i less ∙ ap Some (sym (h.bytes i (get_or t i 0) (each.1 i less))))
+
+pub whole_in_buffer : (r : Reassembly) (s : Received) → HasReceived r s → r.is_ended ≡ true → r.count ≡ r.reach → (r.reach ≤ length r.buffer.now) × (payload_of s.fragments ≡ Some (take r.reach r.buffer.now))
+whole_in_buffer r s h ended all =
+    let fs_ended : is_ended s.fragments ≡ true = sym h.ended ∙ ended in
+    let fs_all : count_of s.fragments ≡ reach_of s.fragments = sym h.count ∙ (all ∙ h.reach) in
+    let there : present s.fragments (reach_of s.fragments) ≡ reach_of s.fragments = present_all s.limit s.fragments (reach_of s.fragments) h.consistent (omega arith) ∙ fs_all in
+    let within : r.reach ≤ length r.buffer.now = omega (arith, h.reach, h.limit, reach_most s.limit s.fragments h.consistent) in (
+      within,
+      payload_is s.limit s.fragments h.consistent fs_ended
+          ∙ (ap (first_bytes s.fragments) (sym h.reach)
+          ∙ bytes_in_buffer r s r.reach (first_bytes s.fragments r.reach) h within refl
+          (ap (λ (n : ℕ). is_some (first_bytes s.fragments n)) h.reach ∙ first_bytes_there s.fragments (reach_of s.fragments) there)),
+    )
+
+pub not_whole : (r : Reassembly) (s : Received) → HasReceived r s → (r.is_ended ≡ true → r.count ≡ r.reach → ⊥) → payload_of s.fragments ≡ None
+not_whole r s h less = elim (cases_Bool (is_ended s.fragments)) [
+  | inr none ↦ payload_without_end s.fragments none
+  | inl ended ↦ payload_with_hole s.limit s.fragments h.consistent ended (λ all. less (h.ended ∙ ended) (h.count ∙ (all ∙ sym h.reach)))
+]
+
+-- The fields after a fragment was stored.
+pub record IsStored (r q : Reassembly) (first next : ℕ) (more : Bool) (bytes : List ℕ) : Type 0 where
+  pub next_unit : next ≡ (8 * first + length bytes) / 8 + min 1 ((8 * first + length bytes) % 8)
+  pub buffer : (i : ℕ) → get_or q.buffer.now i 0 ≡ cond (leb (8 * first) i && ltb i (8 * first + length bytes)) (get_or bytes (i - 8 * first) 0) (get_or r.buffer.now i 0)
+  pub room : length q.buffer.now ≡ length r.buffer.now
+  pub marks : (i : ℕ) → get_or q.marks i 0 ≡ cond (leb first i && ltb i next) (cond (eqb i first) (first_mark more) 3) (get_or r.marks i 0)
+  pub reach : q.reach ≡ max r.reach (8 * first + length bytes)
+  pub count : r.count + length bytes ≤ 65535 → q.count ≡ r.count + length bytes
+  pub ended : q.is_ended ≡ (r.is_ended || not more)
+  pub abandoned : q.is_abandoned ≡ r.is_abandoned
+  pub abandons : q.abandons ≡ r.abandons
+
+-- A unit's number is in the range of a fragment's units exactly if its first byte is in the fragment.
+units_in : (first next : ℕ) (more : Bool) (bytes : List ℕ) (i : ℕ) → next ≡ (8 * first + length bytes) / 8 + min 1 ((8 * first + length bytes) % 8) → (leb first i && ltb i next) ≡ is_in (fragment first more bytes) (8 * i)
+units_in first next more bytes i n = elim (cases_Bool (is_in (fragment first more bytes) (8 * i))) [
+  | inl inside ↦ let b = in_bounds (fragment first more bytes) (8 * i) inside in
+      and_from (leb first i) (ltb i next) (le-leb first i (omega (arith, b.0))) (lt-ltb i next (omega (arith, b.1, n))) ∙ sym inside
+  | inr outside ↦ elim (out_of_bounds (fragment first more bytes) (8 * i) outside) [
+    | inl low ↦ and_left (leb first i) (ltb i next) (lt-leb first i (omega (arith, low))) ∙ sym outside
+    | inr high ↦ and_right (leb first i) (ltb i next) (le-ltb i next (omega (arith, high, n))) ∙ sym outside
+  ]
+]
+
+stored_marks : (r q : Reassembly) (s : Received) (first next : ℕ) (more : Bool) (bytes : List ℕ) (i : ℕ) → HasReceived r s → IsStored r q first next more bytes → get_or q.marks i 0 ≡ mark_at (fragment first more bytes ∷ s.fragments) i
+stored_marks r q s first next more bytes i h k =
+    let f : Fragment = fragment first more bytes in
+    k.marks i ∙ elim (cases_Bool (is_in f (8 * i))) [
+      | inl inside ↦ cond-true (leb first i && ltb i next) (cond (eqb i first) (first_mark more) 3) (get_or r.marks i 0) (units_in first next more bytes i k.next_unit ∙ inside)
+          ∙ (elim (cases_eq i first) [
+            | inl e ↦ cond-true (eqb i first) (first_mark more) 3 (eq-eqb i first e) ∙ sym (first_mark_in f i (omega (arith, e)))
+            | inr other ↦ cond-false (eqb i first) (first_mark more) 3 (ne_eqb i first other) ∙ sym (later_mark_in f i (λ e. other (omega (arith, e))))
+          ]
+          ∙ sym (mark_at_in f s.fragments i inside))
+      | inr outside ↦ cond-false (leb first i && ltb i next) (cond (eqb i first) (first_mark more) 3) (get_or r.marks i 0) (units_in first next more bytes i k.next_unit ∙ outside)
+          ∙ (h.marks i ∙ sym (mark_at_out f s.fragments i outside))
+    ]
+
+stored_bytes : (r q : Reassembly) (s : Received) (first next : ℕ) (more : Bool) (bytes : List ℕ) (i byte : ℕ) → HasReceived r s → IsStored r q first next more bytes → byte_at (fragment first more bytes ∷ s.fragments) i ≡ Some byte → get_or q.buffer.now i 0 ≡ byte
+stored_bytes r q s first next more bytes i byte h k e =
+    let f : Fragment = fragment first more bytes in
+    k.buffer i ∙ elim (cases_Bool (is_in f i)) [
+      | inl inside ↦ cond-true (is_in f i) (get_or bytes (i - 8 * first) 0) (get_or r.buffer.now i 0) inside
+          ∙ same_Some (get_or bytes (i - 8 * first) 0) byte (sym (own_byte f i inside) ∙ (sym (byte_at_in f s.fragments i inside) ∙ e))
+      | inr outside ↦ cond-false (is_in f i) (get_or bytes (i - 8 * first) 0) (get_or r.buffer.now i 0) outside
+          ∙ h.bytes i byte (sym (byte_at_out f s.fragments i outside) ∙ e)
+    ]
+
+stored : (r q : Reassembly) (s : Received) (first next : ℕ) (more : Bool) (bytes : List ℕ) → HasReceived r s → IsNew s (fragment first more bytes) → IsStored r q first next more bytes → HasReceived q (record s { fragments = fragment first more bytes ∷ s.fragments })
+stored r q s first next more bytes h n k =
+    let f : Fragment = fragment first more bytes in
+    let consistent : AreConsistent s.limit (f ∷ s.fragments) = (n.sound, n.apart, n.one_end, h.consistent) in
+    record {
+      limit = omega (arith, h.limit, k.room);
+      abandons = k.abandons ∙ h.abandons;
+      abandoned = k.abandoned ∙ h.abandoned;
+      consistent = consistent;
+      marks = λ i. stored_marks r q s first next more bytes i h k;
+      bytes = λ i byte. stored_bytes r q s first next more bytes i byte h k;
+      reach = omega (arith, k.reach, h.reach);
+      ended = k.ended ∙ (ap (λ b. b || not more) h.ended ∙ or_comm (is_ended s.fragments) (not more));
+      count = let fits : r.count + length bytes ≤ 65535 = omega (arith, h.count, h.limit, count_most s.limit (f ∷ s.fragments) consistent, reach_most s.limit (f ∷ s.fragments) consistent) in
+          omega (arith, k.count fits, h.count);
+    }
+
+or_left_false : (x y : Bool) → x ≡ false → (x || y) ≡ y
+or_left_false true y e = absurd (both_ways true e refl)
+or_left_false false y e = refl
+
+-- A fragment without bytes that is there already adds nothing.
+stored_again : (q : Reassembly) (s : Received) (f : Fragment) → HasReceived q (record s { fragments = f ∷ s.fragments }) → length f.bytes ≡ 0 → list_any (is_same f) s.fragments ≡ true → HasReceived q s
+stored_again q s f h none among =
+    let nowhere : (i : ℕ) → is_in f i ≡ false = (λ i. false_from_ne_true (is_in f i) (λ e. let b = in_bounds f i e in omega (arith, b.0, b.1, none))) in
+    record {
+      limit = h.limit;
+      abandons = h.abandons;
+      abandoned = h.abandoned;
+      consistent = h.consistent.3;
+      marks = λ i. h.marks i ∙ mark_at_out f s.fragments i (nowhere (8 * i));
+      bytes = λ i byte e. h.bytes i byte (byte_at_out f s.fragments i (nowhere i) ∙ e);
+      reach = omega (arith, h.reach, member_within s.fragments f among);
+      ended = h.ended ∙ elim (cases_Bool f.more) [
+        | inl follow ↦ or_left_false (not f.more) (is_ended s.fragments) (not_from_true f.more follow)
+        | inr last ↦ or_right (not f.more) (is_ended s.fragments) (member_ended s.fragments f among last) ∙ sym (member_ended s.fragments f among last)
+      ];
+      count = omega (arith, h.count, none);
+    }
+
+pub kept : (r q : Reassembly) (s : Received) (first next : ℕ) (more : Bool) (bytes : List ℕ) → HasReceived r s → IsNew s (fragment first more bytes) → IsStored r q first next more bytes → HasReceived q (record s { fragments = with_fragment s.fragments (fragment first more bytes) })
+kept r q s first next more bytes h n k =
+    let f : Fragment = fragment first more bytes in
+    let after : HasReceived q (record s { fragments = f ∷ s.fragments }) = stored r q s first next more bytes h n k in
+    elim (cases_Bool (list_any (is_same f) s.fragments)) [
+      | inr other ↦ subst (λ (fs : List Fragment). HasReceived q (record s { fragments = fs })) (sym (cond-false (list_any (is_same f) s.fragments) s.fragments (f ∷ s.fragments) other)) after
+      | inl same ↦ subst (λ (fs : List Fragment). HasReceived q (record s { fragments = fs })) (sym (cond-true (list_any (is_same f) s.fragments) s.fragments (f ∷ s.fragments) same))
+          (stored_again q s f after (elim (cases_eq (length bytes) 0) [
+            | inl none ↦ none
+            | inr some ↦ absurd (both_ways (list_any (overlaps f) s.fragments) n.apart (same_overlaps s.fragments f same (omega (arith, some))))
+          ]) same)
+    ]
+
+-- The reply to a fragment, and what has been received after it, case by case.
+pub reply_abandoned : (s : Received) (f : Fragment) → s.abandoned ≡ true → (reply_to s f ≡ Err Abandoned) × (received_after s f ≡ s)
+unfolding reply_to received_after
+reply_abandoned s f a = (cond-true s.abandoned _ _ a, cond-true s.abandoned _ _ a)
+
+pub reply_refused : (s : Received) (f : Fragment) (e : AddError) → s.abandoned ≡ false → refusal s.limit s.fragments f ≡ Some e → (reply_to s f ≡ Err e) × (received_after s f ≡ record s { abandoned = s.abandons && is_conflict e })
+unfolding reply_to received_after
+reply_refused s f e a r = (cond-false s.abandoned _ _ a ∙ ap (reply_by s.fragments f) r, cond-false s.abandoned _ _ a ∙ ap (received_by s f) r)
+
+pub reply_accepted : (s : Received) (f : Fragment) → s.abandoned ≡ false → refusal s.limit s.fragments f ≡ None → (reply_to s f ≡ Ok (progress_of (with_fragment s.fragments f))) × (received_after s f ≡ record s { fragments = with_fragment s.fragments f })
+unfolding reply_to received_after
+reply_accepted s f a r = (cond-false s.abandoned _ _ a ∙ ap (reply_by s.fragments f) r, cond-false s.abandoned _ _ a ∙ ap (received_by s f) r)
+
+-- A fragment that is there changes nothing.
+pub with_same : (fs : List Fragment) (f : Fragment) → list_any (is_same f) fs ≡ true → with_fragment fs f ≡ fs
+with_same fs f same = cond-true (list_any (is_same f) fs) fs (f ∷ fs) same
+
+-- Nothing has been received.
+pub received_nothing : (r : Reassembly) (abandons : Bool) → ((i : ℕ) → get_or r.marks i 0 ≡ 0) → r.reach ≡ 0 → r.count ≡ 0 → r.is_ended ≡ false → r.is_abandoned ≡ false → r.abandons ≡ abandons → HasReceived r (nothing (min (length r.buffer.now) 65535) abandons)
+received_nothing r abandons marks reach count ended abandoned same = record {
+  limit = refl;
+  abandons = same;
+  abandoned = abandoned;
+  consistent = tt;
+  marks = marks;
+  bytes = λ i byte e. absurd (none-some byte e);
+  reach = reach;
+  ended = ended;
+  count = count;
+}
+
+pub zeros : (n i : ℕ) → ◌≡◌ {A = ℕ} (get_or (replicate n 0) i 0) 0
+zeros n i = elim (cases_lt i n) [
+  | inl below ↦ get_or-replicate n i 0 0 below
+  | inr past ↦ get_or_past (replicate n 0) i 0 (omega (arith, length-replicate n (let zero : ℕ = 0 in zero), past))
+]
+
+-- The state of the fields says whether the payload is whole.
+pub whole_is : (r : Reassembly) (s : Received) → HasReceived r s → (r.is_ended && eqb r.count r.reach) ≡ is_some (payload_of s.fragments)
+whole_is r s h = elim (cases_Bool (r.is_ended && eqb r.count r.reach)) [
+  | inl whole ↦ let parts = and_parts r.is_ended (eqb r.count r.reach) whole in
+      whole ∙ sym (ap is_some (whole_in_buffer r s h parts.0 (eqb-true r.count r.reach parts.1)).1)
+  | inr less ↦ less ∙ sym (ap is_some (not_whole r s h (λ ended all. both_ways (r.is_ended && eqb r.count r.reach) less (and_from r.is_ended (eqb r.count r.reach) ended (eq-eqb r.count r.reach all)))))
+]
+
+-- No payload is there unless the fields say so.
+pub no_payload : (r : Reassembly) (s : Received) → HasReceived r s → (r.is_ended && eqb r.count r.reach) ≡ false → payload_of s.fragments ≡ None
+no_payload r s h less = not_whole r s h (λ ended all. both_ways (r.is_ended && eqb r.count r.reach) less (and_from r.is_ended (eqb r.count r.reach) ended (eq-eqb r.count r.reach all)))
+
+-- The verdicts of the tests.
+pub tested_overlap : (r : Reassembly) (s : Received) (first next : ℕ) (more : Bool) (bytes : List ℕ) → HasReceived r s → IsSound s.limit (fragment first more bytes) → next ≡ (8 * first + length bytes) / 8 + min 1 ((8 * first + length bytes) % 8) → (((i : ℕ) → first ≤ i → i < next → get_or r.marks i 0 ≡ 0) → ⊥) → (IsSound s.limit (fragment first more bytes) → list_any (is_same (fragment first more bytes)) s.fragments ≡ false) → refusal s.limit s.fragments (fragment first more bytes) ≡ Some Overlap
+tested_overlap r s first next more bytes h sound n occupied other =
+    refused_overlap s.limit s.fragments (fragment first more bytes) sound.aligned sound.within (other sound) (occupied_units r s first next more bytes h n occupied)
+
+-- The test of the ends by the fields.
+ends_by_fields : (r : Reassembly) (s : Received) (f : Fragment) (b : Bool) → HasReceived r s → ((r.is_ended && ltb r.reach (end_of f)) || (not f.more && ltb (end_of f) r.reach)) ≡ b → ends_elsewhere s.fragments f ≡ b
+ends_by_fields r s f b h e =
+    subst (λ (m : ℕ). ((is_ended s.fragments && ltb m (end_of f)) || (not f.more && ltb (end_of f) m)) ≡ b) h.reach
+    (subst (λ (l : Bool). ((l && ltb r.reach (end_of f)) || (not f.more && ltb (end_of f) r.reach)) ≡ b) h.ended e)
+
+pub tested_two_ends : (r : Reassembly) (s : Received) (first next : ℕ) (more : Bool) (bytes : List ℕ) → HasReceived r s → IsSound s.limit (fragment first more bytes) → next ≡ (8 * first + length bytes) / 8 + min 1 ((8 * first + length bytes) % 8) → ((i : ℕ) → first ≤ i → i < next → get_or r.marks i 0 ≡ 0) → ((r.is_ended && ltb r.reach (8 * first + length bytes)) || (not more && ltb (8 * first + length bytes) r.reach)) ≡ true → refusal s.limit s.fragments (fragment first more bytes) ≡ Some TwoEnds
+tested_two_ends r s first next more bytes h sound n free ends =
+    let f : Fragment = fragment first more bytes in
+    let two : list_any (has_two_ends f) s.fragments ≡ true = two_ends_from s.fragments f (ends_by_fields r s f true h ends) in
+    refused_two_ends s.limit s.fragments f sound.aligned sound.within
+    (false_from_ne_true (list_any (is_same f) s.fragments) (λ same. both_ways (list_any (has_two_ends f) s.fragments) (member_one_end s.limit s.fragments f h.consistent same) two))
+    (free_units r s first next more bytes h n free) two
+
+pub tested_new : (r : Reassembly) (s : Received) (first next : ℕ) (more : Bool) (bytes : List ℕ) → HasReceived r s → IsSound s.limit (fragment first more bytes) → next ≡ (8 * first + length bytes) / 8 + min 1 ((8 * first + length bytes) % 8) → ((i : ℕ) → first ≤ i → i < next → get_or r.marks i 0 ≡ 0) → ((r.is_ended && ltb r.reach (8 * first + length bytes)) || (not more && ltb (8 * first + length bytes) r.reach)) ≡ false → IsNew s (fragment first more bytes)
+tested_new r s first next more bytes h sound n free ends =
+    let f : Fragment = fragment first more bytes in
+    record {
+      sound = sound;
+      apart = free_units r s first next more bytes h n free;
+      one_end = one_end_from s.limit s.fragments f h.consistent (ends_by_fields r s f false h ends);
+    }
+
+pub and_is_right : (x y : Bool) → x ≡ true → (x && y) ≡ y
+and_is_right true y e = refl
+and_is_right false y e = absurd (both_ways false refl e)
+
+-- A reassembly that differs only in whether the packet was abandoned.
+pub received_refused : (r : Reassembly) (s : Received) (a b : Bool) → a ≡ b → HasReceived r s → HasReceived (record r { is_abandoned = a }) (record s { abandoned = b })
+received_refused r s a b e h = record {
+  limit = h.limit;
+  abandons = h.abandons;
+  abandoned = e;
+  consistent = h.consistent;
+  marks = h.marks;
+  bytes = h.bytes;
+  reach = h.reach;
+  ended = h.ended;
+  count = h.count;
+}

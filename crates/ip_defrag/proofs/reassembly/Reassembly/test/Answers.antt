@@ -1,0 +1,30 @@
+use Rattle.ip_defrag.proofs.Common.{◌≡◌, true, list_any, is_same, sym, ◌∙◌, arith, both_ways, fragment, IsSound}
+use Rattle.ip_defrag.proofs.ReceivedLemmas.{refused_among, refused_unaligned, refused_too_long, tested_two_ends, tested_new, tested_overlap}
+use Rattle.ip_defrag.proofs.reassembly.Reassembly.test.Goals as goal
+
+pub returns-then-is_unaligned-clause-verdict : goal.returns-then-is_unaligned-clause-verdict
+returns-then-is_unaligned-clause-verdict c = λ s h. refused_unaligned s.limit s.fragments (fragment c.args.first c.args.more c.args.bytes.now) (sym c.is_unaligned.ensures ∙ c.if-is_unaligned.true)
+
+pub returns-then-end-min-clause-verdict : goal.returns-then-end-min-clause-verdict
+returns-then-end-min-clause-verdict c = λ s h. refused_too_long s.limit s.fragments (fragment c.args.first c.args.more c.args.bytes.now) (sym c.is_unaligned.ensures ∙ c.if-is_unaligned.false) (omega (arith, h.limit))
+
+pub returns-then-not-are_marked-clause-verdict : goal.returns-then-not-are_marked-clause-verdict
+returns-then-not-are_marked-clause-verdict c = λ s h.
+    tested_overlap c.args.self.now s c.args.first c.div_ceil.result c.args.more c.args.bytes.now h (record { offset = omega arith; aligned = sym c.is_unaligned.ensures ∙ c.if-is_unaligned.false; within = omega (arith, h.limit) }) c.div_ceil.ensures
+    (λ free. both_ways c.are_marked.result c.if-not-are_marked.true (c.are_marked.ensures.1 free)) (λ sound. sym (c.repeats.ensures s h sound) ∙ c.if-repeats.false)
+
+pub returns-then-ends_elsewhere-clause-verdict : goal.returns-then-ends_elsewhere-clause-verdict
+returns-then-ends_elsewhere-clause-verdict c = λ s h.
+    tested_two_ends c.args.self.now s c.args.first c.div_ceil.result c.args.more c.args.bytes.now h (record { offset = omega arith; aligned = sym c.is_unaligned.ensures ∙ c.if-is_unaligned.false; within = omega (arith, h.limit) }) c.div_ceil.ensures
+    (c.are_marked.ensures.0 c.if-not-are_marked.false) (sym c.ends_elsewhere.ensures ∙ c.if-ends_elsewhere.true)
+
+pub returns-clause-verdict : goal.returns-clause-verdict
+returns-clause-verdict c = λ s h.
+    tested_new c.args.self.now s c.args.first c.div_ceil.result c.args.more c.args.bytes.now h (record { offset = omega arith; aligned = sym c.is_unaligned.ensures ∙ c.if-is_unaligned.false; within = omega (arith, h.limit) }) c.div_ceil.ensures
+    (c.are_marked.ensures.0 c.if-not-are_marked.false) (sym c.ends_elsewhere.ensures ∙ c.if-ends_elsewhere.false)
+
+pub returns-then-repeats-clause-verdict : goal.returns-then-repeats-clause-verdict
+returns-then-repeats-clause-verdict c = λ s h.
+    let sound : IsSound s.limit (fragment c.args.first c.args.more c.args.bytes.now) = record { offset = omega arith; aligned = sym c.is_unaligned.ensures ∙ c.if-is_unaligned.false; within = omega (arith, h.limit) } in
+    let same : list_any (is_same (fragment c.args.first c.args.more c.args.bytes.now)) s.fragments ≡ true = sym (c.repeats.ensures s h sound) ∙ c.if-repeats.true in
+    (refused_among s.limit s.fragments (fragment c.args.first c.args.more c.args.bytes.now) sound.aligned sound.within same, same)

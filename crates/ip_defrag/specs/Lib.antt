@@ -1,0 +1,6 @@
+pub mod Fragment
+pub mod Payload
+pub mod Refusal
+pub mod Received
+pub mod Split
+pub mod Reassembly

@@ -1,0 +1,69 @@
+-- What the fields of a reassembly say.
+use Rattle.std.specs.Prelude.{◌≡◌, ℕ, ◌+◌, ◌*◌, ◌%◌, ◌≤◌, ◌==◌, ◌||◌, not, max, min, length, slice_index, Bool, false, List, [], ◌∷◌, Some, if◌then◌else◌}
+use Rattle.std.specs.List.{list_any}
+use Rattle.ip_defrag.specs.Fragment.{Fragment, end_of, is_in, overlaps, has_two_ends, is_unaligned}
+use Rattle.ip_defrag.specs.Payload.{byte_at}
+use Rattle.ip_defrag.specs.Received.{Received}
+use Rattle.ip_defrag.specs.declared.reassembly.Reassembly.{Reassembly}
+
+-- the largest length of an IP payload
+abbrev pub MAX_PAYLOAD : ℕ
+MAX_PAYLOAD = 65535
+
+-- the mark of the first unit of a fragment
+abbrev pub first_mark : Bool → ℕ
+first_mark more = if more then 1 else 2
+
+-- the mark of a unit of 8 bytes in a fragment
+abbrev pub mark_in : Fragment → ℕ → ℕ
+mark_in f i = if 8 * i == f.offset then first_mark f.more else 3
+
+-- the mark of a unit: 0 if its first byte is in no fragment
+abbrev pub mark_at : List Fragment → ℕ → ℕ
+mark_at [] i = 0
+mark_at (f ∷ fs) i = if is_in f (8 * i) then mark_in f i else mark_at fs i
+
+-- the largest end of a fragment
+abbrev pub reach_of : List Fragment → ℕ
+reach_of [] = 0
+reach_of (f ∷ fs) = max (end_of f) (reach_of fs)
+
+-- A last fragment is there.
+abbrev pub is_ended : List Fragment → Bool
+is_ended [] = false
+is_ended (f ∷ fs) = not f.more || is_ended fs
+
+-- the number of bytes in the fragments
+abbrev pub count_of : List Fragment → ℕ
+count_of [] = 0
+count_of (f ∷ fs) = length f.bytes + count_of fs
+
+-- The fragment isn't refused by itself.
+pub record IsSound (limit : ℕ) (f : Fragment) : Type 0 where
+  pub offset : f.offset % 8 ≡ 0
+  pub aligned : is_unaligned f ≡ false
+  pub within : end_of f ≤ limit
+
+-- Each fragment is sound, and contradicts none before it.
+abbrev pub AreConsistent : ℕ → List Fragment → Type 0
+AreConsistent limit [] = Unit {0}
+AreConsistent limit (f ∷ fs) = IsSound limit f × (list_any (overlaps f) fs ≡ false)
+    × (list_any (has_two_ends f) fs ≡ false) × AreConsistent limit fs
+
+-- The reassembly has received this.
+pub record HasReceived (r : Reassembly) (s : Received) : Type 0 where
+  pub limit : s.limit ≡ min (length r.buffer.now) MAX_PAYLOAD
+  pub abandons : r.abandons ≡ s.abandons
+  pub abandoned : r.is_abandoned ≡ s.abandoned
+  pub consistent : AreConsistent s.limit s.fragments
+  pub marks : (i : ℕ) → slice_index r.marks i ≡ mark_at s.fragments i
+  pub bytes : (i byte : ℕ) → byte_at s.fragments i ≡ Some byte → slice_index r.buffer.now i ≡ byte
+  pub reach : r.reach ≡ reach_of s.fragments
+  pub ended : r.is_ended ≡ is_ended s.fragments
+  pub count : r.count ≡ count_of s.fragments
+
+-- The fragment can be stored: nothing speaks against it.
+pub record IsNew (s : Received) (f : Fragment) : Type 0 where
+  pub sound : IsSound s.limit f
+  pub apart : list_any (overlaps f) s.fragments ≡ false
+  pub one_end : list_any (has_two_ends f) s.fragments ≡ false

@@ -1,0 +1,11 @@
+//! Payloads of IP packets, reassembled from their fragments.
+#![tactic(auto)]
+
+mod err;
+mod marks;
+mod progress;
+mod reassembly;
+
+pub use err::AddError;
+pub use progress::Progress;
+pub use reassembly::Reassembly;

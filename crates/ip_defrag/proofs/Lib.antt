@@ -4,3 +4,5 @@ pub mod MemberLemmas
 pub mod MarkLemmas
 pub mod PayloadLemmas
 pub mod ReceivedLemmas
+pub mod SplitLemmas
+pub mod GivenLemmas

@@ -1,5 +1,5 @@
 -- Fragments of a payload (RFC 791, section 3.2; RFC 8200, section 4.5).
-use Rattle.std.specs.Prelude.{ℕ, ◌+◌, ◌*◌, ◌%◌, ◌==◌, ◌&&◌, ◌||◌, not, nat_lt, nat_le, max, min, length, Bool, List}
+use Rattle.std.specs.Prelude.{ℕ, ◌+◌, ◌-◌, ◌*◌, ◌%◌, ◌==◌, ◌&&◌, ◌||◌, not, nat_lt, nat_le, max, min, length, slice_index, Bool, List}
 use Rattle.std.specs.Bool.{beq}
 use Rattle.std.specs.Str.{bytes_eq}
 
@@ -20,6 +20,10 @@ end_of f = f.offset + length f.bytes
 -- The byte of the payload at this offset is in the fragment.
 abbrev pub is_in : Fragment → ℕ → Bool
 is_in f i = nat_le f.offset i && nat_lt i (end_of f)
+
+-- The fragment has this byte at this offset of the payload.
+abbrev pub has_byte : ℕ → ℕ → Fragment → Bool
+has_byte i byte f = is_in f i && (slice_index f.bytes (i - f.offset) == byte)
 
 -- The fragments are equal.
 abbrev pub is_same : Fragment → Fragment → Bool

@@ -1,5 +1,5 @@
 -- What the fields of a reassembly say.
-use Rattle.std.specs.Prelude.{◌≡◌, ℕ, ◌+◌, ◌*◌, ◌%◌, ◌≤◌, ◌==◌, ◌||◌, not, max, min, length, slice_index, Bool, false, List, [], ◌∷◌, Some, if◌then◌else◌}
+use Rattle.std.specs.Prelude.{◌≡◌, ℕ, ◌+◌, ◌*◌, ◌%◌, ◌≤◌, ◌==◌, not, max, min, length, slice_index, Bool, false, List, [], ◌∷◌, Some, if◌then◌else◌}
 use Rattle.std.specs.List.{list_any}
 use Rattle.ip_defrag.specs.Fragment.{Fragment, end_of, is_in, overlaps, has_two_ends, is_unaligned}
 use Rattle.ip_defrag.specs.Payload.{byte_at}
@@ -30,8 +30,7 @@ reach_of (f ∷ fs) = max (end_of f) (reach_of fs)
 
 -- A last fragment is there.
 abbrev pub is_ended : List Fragment → Bool
-is_ended [] = false
-is_ended (f ∷ fs) = not f.more || is_ended fs
+is_ended fs = list_any (λ f. not f.more) fs
 
 -- the number of bytes in the fragments
 abbrev pub count_of : List Fragment → ℕ

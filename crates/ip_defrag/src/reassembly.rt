@@ -25,31 +25,63 @@ fn is_unaligned(more: bool, len: usize) -> bool
     more && (len == 0 || len % 8 != 0)
 }
 
-/// The payload of one packet, from its fragments.
+/// The payload of one packet, reassembled from its fragments in a buffer of the caller's.
+///
+/// Fragments come in any order, and may be repeated. In a contract, `HasReceived` says what has been received, and
+/// `WasGiven` which fragments were added.
 #[derive(Drop)]
 pub struct Reassembly<'a> {
+    /// The bytes of the payload, at their offsets.
     buffer: &'a mut [u8],
+    /// A mark for each unit of 8 bytes: 0 if it hasn't arrived, 1 if it is the first of a fragment, 2 if it is the first
+    /// of the last fragment, 3 if it is a later one.
     marks: [u8; 8192],
+    /// The largest end of a fragment.
     reach: usize,
+    /// The number of bytes that have arrived.
     count: usize,
+    /// Whether a last fragment has arrived, so that `reach` is the end of the payload.
     is_ended: bool,
+    /// Whether the packet was abandoned.
     is_abandoned: bool,
+    /// Whether a conflict abandons the packet.
     abandons: bool,
 }
 
 impl<'a> Reassembly<'a> {
-    ghost use Rattle.std.specs.Prelude.{◌≡◌, ◌+◌, ◌*◌, ◌≤◌, ◌<◌, ◌==◌, ◌&&◌, ◌||◌, if◌then◌else◌, not, nat_lt, ℕ, min, length, true, false, None, Some, is_some, IfSome, IfOk, MatchResult, MatchOption, MatchBool, slice_index};
+    ghost use Rattle.std.specs.Prelude.{◌≡◌, ◌+◌, ◌-◌, ◌*◌, ◌≤◌, ◌<◌, ◌==◌, ◌&&◌, ◌||◌, if◌then◌else◌, not, nat_lt, ℕ, Bool, List, [], ◌∷◌, min, length, true, false, Ok, None, Some, IfSome, IfOk, MatchResult, MatchBool, slice_index};
     ghost use Rattle.std.specs.List.{list_any};
     ghost use Rattle.std.specs.Option.{option_copied};
-    ghost use Rattle.ip_defrag.specs.Fragment.{fragment, is_same};
+    ghost use Rattle.ip_defrag.specs.Fragment.{Fragment, fragment, is_same, has_byte};
     ghost use Rattle.ip_defrag.specs.Payload.{payload_of};
     ghost use Rattle.ip_defrag.specs.Refusal.{refusal};
     ghost use Rattle.ip_defrag.specs.Received.{Received, nothing, with_fragment, progress_of, reply_to, received_after};
     ghost use Rattle.ip_defrag.specs.Reassembly.{HasReceived, IsNew, IsSound};
+    ghost use Rattle.ip_defrag.specs.Split.{IsSplit, are_among, WasGiven};
 
-    /// Returns one.
+    /// Returns a reassembly that has received nothing. The payload can be as long as the buffer, and at most 65,535
+    /// bytes.
+    ///
+    /// After a conflict, an overlap or two ends, the caller calls `abandon` (RFC 5722; RFC 8200, section 4.5).
     pub fn new(buffer: &'a mut [u8]) -> Reassembly<'a>
-        ensures { HasReceived result (nothing (min (length buffer.old) 65535) false) }
+        ensures { WasGiven result (min (length buffer.old) 65535) false [] }
+    {
+        Reassembly::empty(buffer, false)
+    }
+
+    /// Returns a reassembly that has received nothing, and that abandons the packet by itself after a conflict: an
+    /// overlap or two ends (RFC 5722; RFC 8200, section 4.5). The payload can be as long as the buffer, and at most
+    /// 65,535 bytes.
+    pub fn abandoning(buffer: &'a mut [u8]) -> Reassembly<'a>
+        ensures { WasGiven result (min (length buffer.old) 65535) true [] }
+    {
+        Reassembly::empty(buffer, true)
+    }
+
+    /// Returns a reassembly that has received nothing.
+    #[inline(always)]
+    fn empty(buffer: &'a mut [u8], abandons: bool) -> Reassembly<'a>
+        ensures { HasReceived result (nothing (min (length buffer.old) 65535) abandons) }
     {
         Reassembly {
             buffer,
@@ -58,8 +90,99 @@ impl<'a> Reassembly<'a> {
             count: 0,
             is_ended: false,
             is_abandoned: false,
-            abandons: false,
+            abandons,
         }
+    }
+
+    /// Adds a fragment with the offset and the flag of a fragment header. Returns whether the payload is whole: then
+    /// `payload` returns it. A fragment that was added before is accepted again, and changes nothing.
+    ///
+    /// Returns an error, and doesn't store the fragment, if it is unaligned, too long, overlaps others or contradicts
+    /// the end of the payload, or if the packet was abandoned (RFC 791, section 3.2; RFC 5722; RFC 8200, section 4.5).
+    pub fn add(
+        &mut self,
+        offset: IpFragOffset,
+        more: bool,
+        bytes: &[u8],
+    ) -> Result<Progress, AddError>
+        ensures reply { (s : Received) → HasReceived self.old s
+            → result ≡ reply_to s (fragment offset more bytes.now) }
+        ensures received { (s : Received) → HasReceived self.old s
+            → HasReceived self.new (received_after s (fragment offset more bytes.now)) }
+
+        // Fragments of one payload, in any order and any number of times, make it whole once each was there.
+        ensures pieces { (payload : List ℕ) (pieces given : List Fragment) (limit : ℕ) (abandons : Bool)
+            → WasGiven self.old limit abandons given
+            → IsSplit payload pieces → length payload ≤ limit
+            → are_among (fragment offset more bytes.now ∷ given) pieces ≡ true
+            → result ≡ Ok (if are_among pieces (fragment offset more bytes.now ∷ given)
+            then Progress.Whole else Progress.MoreWanted) }
+    {
+        if self.is_abandoned {
+            return Err(AddError::Abandoned);
+        }
+        let first = usize::from(offset.value());
+        match self.test(first, more, bytes) {
+            Ok(true) => {
+                self.keep(first, more, bytes);
+                Ok(self.progress())
+            }
+            Ok(false) => Ok(self.progress()),
+            Err(error) => {
+                self.is_abandoned = self.abandons && error.is_conflict();
+                Err(error)
+            }
+        }
+    }
+
+    /// Returns the payload if it is whole and wasn't abandoned.
+    pub fn payload(&self) -> Option<&[u8]>
+        ensures received { (s : Received) → HasReceived self.now s
+            → option_copied result ≡ (if s.abandoned then None else payload_of s.fragments) }
+
+        // After fragments of one payload, in any order and any number of times, it is that payload.
+        ensures pieces { (payload : List ℕ) (pieces given : List Fragment) (limit : ℕ) (abandons : Bool)
+            → WasGiven self.now limit abandons given
+            → IsSplit payload pieces → length payload ≤ limit → are_among given pieces ≡ true
+            → option_copied result ≡ (if are_among pieces given then Some payload else None) }
+
+        // After any fragments, each byte is one that a fragment had at its offset.
+        ensures bytes { (given : List Fragment) (limit : ℕ) (abandons : Bool)
+            → WasGiven self.now limit abandons given
+            → IfSome result (λ payload. (i : ℕ) → i < length payload.now
+            → list_any (has_byte i (slice_index payload.now i)) given ≡ true) }
+    {
+        if self.is_abandoned || !self.is_whole() {
+            return None;
+        }
+        self.buffer.get(..self.reach)
+    }
+
+    /// Abandons the packet. Every further fragment is refused, and there is no payload.
+    pub fn abandon(&mut self)
+        ensures { (s : Received) → HasReceived self.old s
+            → HasReceived self.new (record s { abandoned = true }) }
+    {
+        self.is_abandoned = true;
+    }
+
+    /// Returns whether the packet was abandoned.
+    pub fn is_abandoned(&self) -> bool
+        ensures { (s : Received) → HasReceived self.now s → result ≡ s.abandoned }
+    {
+        self.is_abandoned
+    }
+
+    /// Forgets all fragments, so that another packet can be reassembled in the same buffer.
+    pub fn clear(&mut self)
+        ensures { (s : Received) → HasReceived self.old s
+            → WasGiven self.new s.limit s.abandons [] }
+    {
+        self.marks.fill(0);
+        self.reach = 0;
+        self.count = 0;
+        self.is_ended = false;
+        self.is_abandoned = false;
     }
 
     /// Returns whether all bytes up to the end have arrived.
@@ -80,17 +203,6 @@ impl<'a> Reassembly<'a> {
         } else {
             Progress::MoreWanted
         }
-    }
-
-    /// Returns the payload.
-    pub fn payload(&self) -> Option<&[u8]>
-        ensures { (s : Received) → HasReceived self.now s
-            → option_copied result ≡ (if s.abandoned then None else payload_of s.fragments) }
-    {
-        if self.is_abandoned || !self.is_whole() {
-            return None;
-        }
-        self.buffer.get(..self.reach)
     }
 
     /// Returns whether these bytes repeat a fragment that was accepted.
@@ -165,34 +277,5 @@ impl<'a> Reassembly<'a> {
         self.reach = self.reach.max(end);
         self.count = self.count.saturating_add(bytes.len());
         self.is_ended |= !more;
-    }
-
-    /// Adds a fragment.
-    pub fn add(
-        &mut self,
-        offset: IpFragOffset,
-        more: bool,
-        bytes: &[u8],
-    ) -> Result<Progress, AddError>
-        ensures reply { (s : Received) → HasReceived self.old s
-            → result ≡ reply_to s (fragment offset more bytes.now) }
-        ensures received { (s : Received) → HasReceived self.old s
-            → HasReceived self.new (received_after s (fragment offset more bytes.now)) }
-    {
-        if self.is_abandoned {
-            return Err(AddError::Abandoned);
-        }
-        let first = usize::from(offset.value());
-        match self.test(first, more, bytes) {
-            Ok(true) => {
-                self.keep(first, more, bytes);
-                Ok(self.progress())
-            }
-            Ok(false) => Ok(self.progress()),
-            Err(error) => {
-                self.is_abandoned = self.abandons && error.is_conflict();
-                Err(error)
-            }
-        }
     }
 }

@@ -7,6 +7,8 @@ use Rattle.ip_defrag.specs.Reassembly.{HasReceived, IsNew}
 use Rattle.ip_defrag.specs.declared.err.AddError.{AddError}
 use Rattle.ip_defrag.specs.declared.reassembly.Reassembly.{Reassembly}
 use Rattle.ip_defrag.specs.declared.progress.Progress.{Progress}
+use Rattle.ip_defrag.specs.Received.{nothing, received_all}
+use Rattle.ip_defrag.proofs.GivenLemmas.{reply_to_piece}
 use Rattle.ip_defrag.proofs.ReceivedLemmas.{not_refused, reply_abandoned, reply_refused, reply_accepted, with_same, received_refused, and_is_right}
 use Rattle.ip_defrag.proofs.reassembly.Reassembly.add.Goals as goal
 use Rattle.ip_defrag.proofs.reassembly.Reassembly.add.Goals.{then-self-2, else-self-2}
@@ -65,3 +67,23 @@ returns-after-self-2-clause-received c = λ s h.
     subst (λ (n : ℕ). HasReceived q (received_after s (fragment n c.args.more c.args.bytes.now))) at
     (subst (HasReceived q) (sym (reply_refused s f c.in-Err.error (sym h.abandoned ∙ c.if-self.false) (c.in-Err.ensures.verdict s h)).1)
     (received_refused c.args.self.now s c.if-self-2.self (s.abandons && is_conflict c.in-Err.error) abandons h))
+
+pub returns-then-self-clause-pieces : goal.returns-then-self-clause-pieces
+returns-then-self-clause-pieces c = λ payload pieces given limit abandons h split fits all.
+    returns-then-self-clause-reply c (received_all (nothing limit abandons) given) h
+    ∙ reply_to_piece payload pieces limit abandons given (fragment c.args.offset c.args.more c.args.bytes.now) split fits all
+
+pub returns-in-Ok-true-clause-pieces : goal.returns-in-Ok-true-clause-pieces
+returns-in-Ok-true-clause-pieces c = λ payload pieces given limit abandons h split fits all.
+    returns-in-Ok-true-clause-reply c (received_all (nothing limit abandons) given) h
+    ∙ reply_to_piece payload pieces limit abandons given (fragment c.args.offset c.args.more c.args.bytes.now) split fits all
+
+pub returns-in-Ok-false-clause-pieces : goal.returns-in-Ok-false-clause-pieces
+returns-in-Ok-false-clause-pieces c = λ payload pieces given limit abandons h split fits all.
+    returns-in-Ok-false-clause-reply c (received_all (nothing limit abandons) given) h
+    ∙ reply_to_piece payload pieces limit abandons given (fragment c.args.offset c.args.more c.args.bytes.now) split fits all
+
+pub returns-after-self-2-clause-pieces : goal.returns-after-self-2-clause-pieces
+returns-after-self-2-clause-pieces c = λ payload pieces given limit abandons h split fits all.
+    returns-after-self-2-clause-reply c (received_all (nothing limit abandons) given) h
+    ∙ reply_to_piece payload pieces limit abandons given (fragment c.args.offset c.args.more c.args.bytes.now) split fits all

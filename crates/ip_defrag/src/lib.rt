@@ -5,6 +5,8 @@ mod err;
 mod marks;
 mod progress;
 mod reassembly;
+#[cfg(test)]
+mod tests;
 
 pub use err::AddError;
 pub use progress::Progress;

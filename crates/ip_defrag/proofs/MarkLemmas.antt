@@ -1,6 +1,7 @@
 -- The marks of units of 8 bytes.
-use Rattle.ip_defrag.proofs.Common.{◌≡◌, ℕ, ◌+◌, ◌-◌, ◌*◌, ◌/◌, ◌%◌, ◌≤◌, ◌<◌, max, min, Bool, true, false, List, [], ◌∷◌, length, get_or, refl, sym, ap, ◌∙◌, subst, inl, inr, arith, cond-true, cond-false, eqb, eq-eqb, ne_eqb, cases_eq, cases_lt, cases_Bool, or_parts, or_from, or_left, or_right, or_cases, false_from_ne_true, both_ways, list_any, Fragment, end_of, is_in, is_same, overlaps, first_mark, mark_in, mark_at, AreConsistent}
+use Rattle.ip_defrag.proofs.Common.{◌≡◌, ℕ, zero, suc, reach_of, ◌+◌, ◌-◌, ◌*◌, ◌/◌, ◌%◌, ◌≤◌, ◌<◌, max, min, Bool, true, false, List, [], ◌∷◌, length, get_or, refl, sym, ap, ◌∙◌, subst, inl, inr, arith, cond-true, cond-false, eqb, eq-eqb, ne_eqb, cases_eq, cases_lt, cases_Bool, or_parts, or_from, or_left, or_right, or_cases, false_from_ne_true, both_ways, list_any, Fragment, end_of, is_in, is_same, overlaps, first_mark, mark_in, mark_at, AreConsistent}
 use Rattle.std.specs.Prelude.{All, slice_range}
+use Rattle.std.specs.List.{fold}
 use Rattle.std.proofs.lemmas.List.{get_or_default}
 use Rattle.std.proofs.lemmas.List.Edits.{get_or-between, length-between}
 use Rattle.ip_defrag.proofs.FragmentLemmas.{same_is, in_bounds, is_in_bounds, overlaps_at, overlap_bounds, is_same_self}
@@ -225,3 +226,23 @@ marked_all marks first end mark within each k d less =
     let below : first + k < end = omega (arith, less, length-between {X = ℕ} marks first end, within) in
     get_or-between marks first end k d below
     ∙ (get_or_default marks (first + k) d 0 (omega (arith, below, within)) ∙ each (first + k) (omega arith) below)
+
+none_at : (x : ℕ) (xs : List ℕ) → x ≡ 0 → All (λ m. m ≡ 0) xs → All (λ m. m ≡ 0) (x ∷ xs)
+none_at x xs here rest zero d less = here
+none_at x xs here rest (suc k) d less = rest k d (omega (arith, less))
+
+-- The largest of some marks is 0 exactly if each of them is.
+pub largest_none : (xs : List ℕ) (a : ℕ) → fold max a xs ≡ 0 → (a ≡ 0) × All (λ m. m ≡ 0) xs
+largest_none [] a e = (e, λ k d less. absurd (let h : ⊥ = omega (arith, less) in h))
+largest_none (x ∷ xs) a e =
+    let rest = largest_none xs (max a x) e in
+    (omega (arith, rest.0), none_at x xs (omega (arith, rest.0)) rest.1)
+
+pub none_largest : (xs : List ℕ) (a : ℕ) → a ≡ 0 → All (λ m. m ≡ 0) xs → fold max a xs ≡ 0
+none_largest [] a e all = e
+none_largest (x ∷ xs) a e all = none_largest xs (max a x) (let here : x ≡ 0 = all 0 0 (omega arith) in omega (arith, e, here)) (λ k d less. all (suc k) d (omega (arith, less)))
+
+-- Units after the largest end have no marks.
+pub unmarked_after : (fs : List Fragment) (i : ℕ) → reach_of fs ≤ 8 * i → mark_at fs i ≡ 0
+unmarked_after [] i past = refl
+unmarked_after (f ∷ fs) i past = mark_at_out f fs i (false_from_ne_true (is_in f (8 * i)) (λ e. let b = in_bounds f (8 * i) e in omega (arith, b.1, past))) ∙ unmarked_after fs i (omega (arith, past))

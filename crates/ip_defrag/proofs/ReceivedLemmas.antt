@@ -20,7 +20,7 @@ use Rattle.ip_defrag.specs.Received.{Received, nothing, with_fragment, progress_
 use Rattle.ip_defrag.specs.Reassembly.{HasReceived, IsNew}
 use Rattle.ip_defrag.proofs.FragmentLemmas.{same_parts, whole_units, in_bounds, is_in_bounds, out_of_bounds, overlaps_at}
 use Rattle.ip_defrag.proofs.MemberLemmas.{any_from_member, member_sound, member_within, member_ended, member_last, ends_elsewhere, two_ends_from, one_end_from, member_one_end}
-use Rattle.ip_defrag.proofs.MarkLemmas.{first_mark_in, later_mark_in, mark_at_in, mark_at_out, none_overlaps, unmarked, IsMarked, has_shape, member_marks, member_mark_ends}
+use Rattle.ip_defrag.proofs.MarkLemmas.{first_mark_in, later_mark_in, mark_at_in, mark_at_out, none_overlaps, unmarked, IsMarked, has_shape, member_marks, member_mark_ends, unmarked_after}
 use Rattle.ip_defrag.proofs.PayloadLemmas.{byte_at_in, byte_at_out, own_byte, member_byte, first_bytes_each, first_bytes_are, first_bytes_there, present_all, present, payload_is, reach_most, payload_without_end, payload_with_hole, count_most}
 
 -- The refusal, case by case.
@@ -338,3 +338,13 @@ received_refused r s a b e h = record {
   ended = h.ended;
   count = h.count;
 }
+
+-- Nothing has been received after the marks were removed.
+pub received_cleared : (r q : Reassembly) (s : Received) (end : ℕ) → HasReceived r s → end ≡ min (r.reach / 8 + min 1 (r.reach % 8)) 8192 → ((i : ℕ) → get_or q.marks i 0 ≡ cond (ltb i end) 0 (get_or r.marks i 0)) → q.buffer.now ≡ r.buffer.now → q.reach ≡ 0 → q.count ≡ 0 → q.is_ended ≡ false → q.is_abandoned ≡ false → q.abandons ≡ r.abandons → HasReceived q (nothing s.limit s.abandons)
+received_cleared r q s end h used marks buffer reach count ended abandoned abandons =
+    subst (λ (n : ℕ). HasReceived q (nothing n s.abandons)) (ap (λ (b : List ℕ). min (length b) 65535) buffer ∙ sym h.limit)
+    (received_nothing q s.abandons (λ i. marks i ∙ elim (cases_lt i end) [
+      | inl below ↦ cond-true (ltb i end) 0 (get_or r.marks i 0) (lt-ltb i end below)
+      | inr past ↦ cond-false (ltb i end) 0 (get_or r.marks i 0) (le-ltb i end past)
+          ∙ (h.marks i ∙ unmarked_after s.fragments i (omega (arith, past, used, h.reach, h.limit, reach_most s.limit s.fragments h.consistent)))
+    ]) reach count ended abandoned (abandons ∙ h.abandons))

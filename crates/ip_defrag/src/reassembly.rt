@@ -2,7 +2,7 @@
 ghost use Rattle.std.specs.Prelude.{◌≡◌, ◌%◌, ◌==◌, ◌&&◌, ◌||◌, not};
 ghost use Rattle.ip_defrag.specs.Reassembly.{first_mark};
 
-use crate::marks::{are_marked, is_fragment, mark, store};
+use crate::marks::{are_free, is_fragment, mark, store, unmark};
 use crate::{AddError, Progress};
 use ip_base::IpFragOffset;
 
@@ -178,7 +178,8 @@ impl<'a> Reassembly<'a> {
         ensures { (s : Received) → HasReceived self.old s
             → WasGiven self.new s.limit s.abandons [] }
     {
-        self.marks.fill(0);
+        let end = self.reach.div_ceil(8).min(8192);
+        unmark(&mut self.marks, end);
         self.reach = 0;
         self.count = 0;
         self.is_ended = false;
@@ -251,7 +252,7 @@ impl<'a> Reassembly<'a> {
         if end > self.buffer.len().min(MAX_PAYLOAD) {
             return Err(AddError::TooLong);
         }
-        if !are_marked(&self.marks, first, end.div_ceil(8), 0) {
+        if !are_free(&self.marks, first, end.div_ceil(8)) {
             if self.repeats(first, more, bytes) {
                 return Ok(false);
             }

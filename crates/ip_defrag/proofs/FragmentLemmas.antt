@@ -1,10 +1,10 @@
 -- Fragments by themselves, and two of them.
-use Rattle.ip_defrag.proofs.Common.{◌≡◌, ℕ, ◌%◌, ◌≤◌, ◌<◌, ◌==◌, ◌||◌, not, or_parts, both_ways, not-false, eqb-false, is_unaligned, max, min, Bool, true, false, length, ◌⊎◌, ltb-true, ltb-false, lt-ltb, leb-true, leb-false, le-leb, and_parts, and_from, and_cases, refl, ap, inl, inr, eq-eqb, eqb-true, arith, ◌&&◌, eqb, beq, bytes_eq, List, ◌∙◌, Fragment, end_of, is_in, is_same, overlaps}
+use Rattle.ip_defrag.proofs.Common.{subst, list_any, ◌≡◌, ℕ, ◌%◌, ◌≤◌, ◌<◌, ◌==◌, ◌||◌, not, or_parts, both_ways, not-false, eqb-false, is_unaligned, max, min, Bool, true, false, length, ◌⊎◌, ltb-true, ltb-false, lt-ltb, leb-true, leb-false, le-leb, and_parts, and_from, and_cases, refl, ap, inl, inr, eq-eqb, eqb-true, arith, ◌&&◌, eqb, beq, bytes_eq, List, ◌∙◌, Fragment, end_of, is_in, is_same, overlaps}
 use Rattle.std.specs.Cmp.{booleans_Decides}
 use Rattle.std.proofs.lemmas.Slice.Eq.{bytes_eq-Decides}
 
 -- Fragments are equal if their parts are.
-pub same_parts : (a b : ℕ) (m n : Bool) (s t : List ℕ) → a ≡ b → m ≡ n → s ≡ t → (let f : Fragment = record { offset = a; more = m; bytes = s } in f) ≡ record { offset = b; more = n; bytes = t }
+same_parts : (a b : ℕ) (m n : Bool) (s t : List ℕ) → a ≡ b → m ≡ n → s ≡ t → (let f : Fragment = record { offset = a; more = m; bytes = s } in f) ≡ record { offset = b; more = n; bytes = t }
 same_parts a b m n s t p q r = ap (λ (i : ℕ). let f : Fragment = record { offset = i; more = m; bytes = s } in f) p ∙ ap (λ (l : Bool). let f : Fragment = record { offset = b; more = l; bytes = s } in f) q ∙ ap (λ (u : List ℕ). let f : Fragment = record { offset = b; more = n; bytes = u } in f) r
 
 -- Fragments are equal exactly if the test says so.
@@ -21,6 +21,10 @@ pub is_same_self : (f : Fragment) → is_same f f ≡ true
 is_same_self f = and_from (eqb f.offset f.offset && beq f.more f.more) (bytes_eq f.bytes f.bytes)
     (and_from (eqb f.offset f.offset) (beq f.more f.more) (eq-eqb f.offset f.offset refl) ((booleans_Decides f.more f.more).1 refl))
     ((bytes_eq-Decides f.bytes f.bytes).1 refl)
+
+-- A fragment with the parts of one that is there is there, too.
+pub same_among : (fs : List Fragment) (g f : Fragment) → list_any (is_same g) fs ≡ true → g.offset ≡ f.offset → g.more ≡ f.more → g.bytes ≡ f.bytes → list_any (is_same f) fs ≡ true
+same_among fs g f among offsets flags bytes = subst (λ (k : Fragment). list_any (is_same k) fs ≡ true) (same_parts g.offset f.offset g.more f.more g.bytes f.bytes offsets flags bytes) among
 
 -- Offsets in a fragment lie between its offset and its end.
 pub in_bounds : (f : Fragment) (i : ℕ) → is_in f i ≡ true → (f.offset ≤ i) × (i < end_of f)

@@ -1,5 +1,5 @@
 -- What a reassembly has received, its fields, and a fragment.
-use Rattle.ip_defrag.proofs.Common.{◌≡◌, ℕ, ◌+◌, ◌-◌, ◌*◌, ◌/◌, ◌%◌, ◌≤◌, ◌<◌, max, min, Bool, true, false, not, ◌&&◌, ◌||◌, List, ◌∷◌, take, replicate, length, get_or, Option, Some, None, is_some, refl, sym, ap, ◌∙◌, subst, inl, inr, arith, cond, cond-true, cond-false, leb, ltb, eqb, eqb-true, lt-ltb, le-ltb, le-leb, lt-leb, eq-eqb, ne_eqb, cases_eq, cases_lt, cases_Bool, and_parts, and_from, or_right, false_from_ne_true, true_from_ne_false, both_ways, list_any, bytes_eq, Fragment, fragment, end_of, is_in, is_same, overlaps, has_two_ends, is_unaligned, byte_at, first_bytes, first_mark, mark_at, reach_of, is_ended, count_of, IsSound, AreConsistent}
+use Rattle.ip_defrag.proofs.Common.{◌≡◌, ℕ, ◌+◌, ◌-◌, ◌*◌, ◌/◌, ◌%◌, ◌≤◌, ◌<◌, max, min, Bool, true, false, not, ◌&&◌, ◌||◌, List, ◌∷◌, take, replicate, length, get_or, Option, Some, None, is_some, refl, sym, ap, ◌∙◌, subst, inl, inr, arith, cond, cond-true, cond-false, leb, ltb, eqb, eqb-true, lt-ltb, le-ltb, le-leb, lt-leb, eq-eqb, ne_eqb, cases_eq, cases_lt, cases_Bool, and_parts, and_from, or_right, false_from_ne_true, true_from_ne_false, both_ways, list_any, bytes_eq, Fragment, fragment_at, end_of, is_in, is_same, overlaps, has_two_ends, is_unaligned, byte_at, first_bytes, first_mark, mark_at, reach_of, is_ended, count_of, IsSound, AreConsistent}
 use Rattle.std.specs.Prelude.{slice_range}
 use Rattle.std.proofs.lemmas.Slice.Eq.{bytes_eq-Decides}
 use Rattle.std.proofs.lemmas.Option.{same_Some, none-some}
@@ -16,9 +16,9 @@ use Rattle.ip_defrag.specs.Refusal.{refusal}
 use Rattle.std.specs.Prelude.{Ok, Err}
 use Rattle.std.proofs.lemmas.List.{get_or-replicate, get_or_past, length-replicate}
 use Rattle.ip_defrag.specs.Refusal.{is_conflict}
-use Rattle.ip_defrag.specs.Received.{Received, nothing, with_fragment, progress_of, reply_by, reply_to, received_by, received_after}
+use Rattle.ip_defrag.specs.Received.{Received, received_nothing, with_fragment, progress_of, outcome_by, outcome_of, received_by, received_after}
 use Rattle.ip_defrag.specs.Reassembly.{HasReceived, IsNew}
-use Rattle.ip_defrag.proofs.FragmentLemmas.{same_parts, whole_units, in_bounds, is_in_bounds, out_of_bounds, overlaps_at}
+use Rattle.ip_defrag.proofs.FragmentLemmas.{same_among, whole_units, in_bounds, is_in_bounds, out_of_bounds, overlaps_at}
 use Rattle.ip_defrag.proofs.MemberLemmas.{any_from_member, member_sound, member_within, member_ended, member_last, ends_elsewhere, two_ends_from, one_end_from, member_one_end}
 use Rattle.ip_defrag.proofs.MarkLemmas.{first_mark_in, later_mark_in, mark_at_in, mark_at_out, none_overlaps, unmarked, IsMarked, has_shape, member_marks, member_mark_ends, unmarked_after}
 use Rattle.ip_defrag.proofs.PayloadLemmas.{byte_at_in, byte_at_out, own_byte, member_byte, first_bytes_each, first_bytes_are, first_bytes_there, present_all, present, payload_is, reach_most, payload_without_end, payload_with_hole, count_most}
@@ -52,22 +52,22 @@ not_refused s f n = elim (cases_Bool (list_any (is_same f) s.fragments)) [
 ]
 
 -- Units are free exactly if the fragment overlaps no other.
-pub free_units : (r : Reassembly) (s : Received) (first next : ℕ) (more : Bool) (bytes : List ℕ) → HasReceived r s → next ≡ (8 * first + length bytes) / 8 + min 1 ((8 * first + length bytes) % 8) → ((i : ℕ) → first ≤ i → i < next → get_or r.marks i 0 ≡ 0) → list_any (overlaps (fragment first more bytes)) s.fragments ≡ false
+pub free_units : (r : Reassembly) (s : Received) (first next : ℕ) (more : Bool) (bytes : List ℕ) → HasReceived r s → next ≡ (8 * first + length bytes) / 8 + min 1 ((8 * first + length bytes) % 8) → ((i : ℕ) → first ≤ i → i < next → get_or r.marks i 0 ≡ 0) → list_any (overlaps (fragment_at first more bytes)) s.fragments ≡ false
 free_units r s first next more bytes h n free =
-    none_overlaps s.limit s.fragments (fragment first more bytes) h.consistent (omega arith) (λ i low high. sym (h.marks i) ∙ free i (omega (arith, low)) (omega (arith, high, n)))
+    none_overlaps s.limit s.fragments (fragment_at first more bytes) h.consistent (omega arith) (λ i low high. sym (h.marks i) ∙ free i (omega (arith, low)) (omega (arith, high, n)))
 
-pub occupied_units : (r : Reassembly) (s : Received) (first next : ℕ) (more : Bool) (bytes : List ℕ) → HasReceived r s → next ≡ (8 * first + length bytes) / 8 + min 1 ((8 * first + length bytes) % 8) → (((i : ℕ) → first ≤ i → i < next → get_or r.marks i 0 ≡ 0) → ⊥) → list_any (overlaps (fragment first more bytes)) s.fragments ≡ true
-occupied_units r s first next more bytes h n occupied = true_from_ne_false (list_any (overlaps (fragment first more bytes)) s.fragments) (λ none.
-    occupied (λ i low high. h.marks i ∙ unmarked s.fragments (fragment first more bytes) i none (omega (arith, low)) (omega (arith, high, n))))
+pub occupied_units : (r : Reassembly) (s : Received) (first next : ℕ) (more : Bool) (bytes : List ℕ) → HasReceived r s → next ≡ (8 * first + length bytes) / 8 + min 1 ((8 * first + length bytes) % 8) → (((i : ℕ) → first ≤ i → i < next → get_or r.marks i 0 ≡ 0) → ⊥) → list_any (overlaps (fragment_at first more bytes)) s.fragments ≡ true
+occupied_units r s first next more bytes h n occupied = true_from_ne_false (list_any (overlaps (fragment_at first more bytes)) s.fragments) (λ none.
+    occupied (λ i low high. h.marks i ∙ unmarked s.fragments (fragment_at first more bytes) i none (omega (arith, low)) (omega (arith, high, n))))
 
 -- A fragment that doesn't overlap itself has no bytes.
 pub same_overlaps : (fs : List Fragment) (f : Fragment) → list_any (is_same f) fs ≡ true → 0 < length f.bytes → list_any (overlaps f) fs ≡ true
 same_overlaps fs f among positive = any_from_member (overlaps f) fs f among (overlaps_at f f f.offset (omega arith) (omega (arith, positive)) (omega arith) (omega (arith, positive)))
 
 -- A fragment that is there has the units of one fragment.
-pub repeated_units : (r : Reassembly) (s : Received) (first next : ℕ) (more : Bool) (bytes : List ℕ) → HasReceived r s → IsSound s.limit (fragment first more bytes) → 0 < length bytes → next ≡ (8 * first + length bytes) / 8 + min 1 ((8 * first + length bytes) % 8) → ((get_or r.marks first 0 ≡ first_mark more) × ((i : ℕ) → first + 1 ≤ i → i < next → get_or r.marks i 0 ≡ 3) × (get_or r.marks next 0 ≡ 3 → ⊥) → ⊥) → list_any (is_same (fragment first more bytes)) s.fragments ≡ false
-repeated_units r s first next more bytes h sound positive n other = false_from_ne_true (list_any (is_same (fragment first more bytes)) s.fragments) (λ among.
-    let f : Fragment = fragment first more bytes in
+pub repeated_units : (r : Reassembly) (s : Received) (first next : ℕ) (more : Bool) (bytes : List ℕ) → HasReceived r s → IsSound s.limit (fragment_at first more bytes) → 0 < length bytes → next ≡ (8 * first + length bytes) / 8 + min 1 ((8 * first + length bytes) % 8) → ((get_or r.marks first 0 ≡ first_mark more) × ((i : ℕ) → first + 1 ≤ i → i < next → get_or r.marks i 0 ≡ 3) × (get_or r.marks next 0 ≡ 3 → ⊥) → ⊥) → list_any (is_same (fragment_at first more bytes)) s.fragments ≡ false
+repeated_units r s first next more bytes h sound positive n other = false_from_ne_true (list_any (is_same (fragment_at first more bytes)) s.fragments) (λ among.
+    let f : Fragment = fragment_at first more bytes in
     other (
       h.marks first ∙ (member_marks s.limit s.fragments f first h.consistent among (omega arith) (omega (arith, positive)) ∙ first_mark_in f first refl),
       (λ i low high. h.marks i ∙ (member_marks s.limit s.fragments f i h.consistent among (omega (arith, low)) (omega (arith, high, n)) ∙ later_mark_in f i (λ e. omega (arith, e, low)))),
@@ -92,9 +92,9 @@ member_slice r s f h among =
     ∙ ap (λ (i : ℕ). get_or f.bytes i 0) at))
 
 -- A fragment with the units and the end of one that is there repeats it exactly if the buffer has its bytes.
-pub repeated_bytes : (r : Reassembly) (s : Received) (first next : ℕ) (more : Bool) (bytes : List ℕ) → HasReceived r s → IsSound s.limit (fragment first more bytes) → 0 < length bytes → next ≡ (8 * first + length bytes) / 8 + min 1 ((8 * first + length bytes) % 8) → (get_or r.marks first 0 ≡ first_mark more) × ((i : ℕ) → first + 1 ≤ i → i < next → get_or r.marks i 0 ≡ 3) × (get_or r.marks next 0 ≡ 3 → ⊥) → (more ≡ false → 8 * first + length bytes ≡ r.reach) → bytes_eq (slice_range r.buffer.now (8 * first) (8 * first + length bytes)) bytes ≡ list_any (is_same (fragment first more bytes)) s.fragments
+pub repeated_bytes : (r : Reassembly) (s : Received) (first next : ℕ) (more : Bool) (bytes : List ℕ) → HasReceived r s → IsSound s.limit (fragment_at first more bytes) → 0 < length bytes → next ≡ (8 * first + length bytes) / 8 + min 1 ((8 * first + length bytes) % 8) → (get_or r.marks first 0 ≡ first_mark more) × ((i : ℕ) → first + 1 ≤ i → i < next → get_or r.marks i 0 ≡ 3) × (get_or r.marks next 0 ≡ 3 → ⊥) → (more ≡ false → 8 * first + length bytes ≡ r.reach) → bytes_eq (slice_range r.buffer.now (8 * first) (8 * first + length bytes)) bytes ≡ list_any (is_same (fragment_at first more bytes)) s.fragments
 repeated_bytes r s first next more bytes h sound positive n units ends =
-    let f : Fragment = fragment first more bytes in
+    let f : Fragment = fragment_at first more bytes in
     let marked : IsMarked s.fragments f = record {
       marks = λ i low high. sym (h.marks i) ∙ elim (cases_eq i first) [
         | inl e ↦ ap (λ (k : ℕ). get_or r.marks k 0) e ∙ (units.0 ∙ sym (first_mark_in f i (omega (arith, e))))
@@ -115,7 +115,7 @@ repeated_bytes r s first next more bytes h sound positive n units ends =
     let decides = bytes_eq-Decides (slice_range r.buffer.now (8 * first) (8 * first + length bytes)) bytes in
     same_from_decides (bytes_eq (slice_range r.buffer.now (8 * first) (8 * first + length bytes)) bytes) (list_any (is_same f) s.fragments) decides (
       (λ among. member_slice r s f h among),
-      λ same. subst (λ (k : Fragment). list_any (is_same k) s.fragments ≡ true) (same_parts g.offset f.offset g.more f.more g.bytes bytes shape.offset shape.more (sym stored ∙ same)) shape.among,
+      λ same. same_among s.fragments g f shape.among shape.offset shape.more (sym stored ∙ same),
     )
 
 -- The first bytes of the payload, if they are there, are those of the buffer.
@@ -157,19 +157,19 @@ pub record IsStored (r q : Reassembly) (first next : ℕ) (more : Bool) (bytes :
   pub abandons : q.abandons ≡ r.abandons
 
 -- A unit's number is in the range of a fragment's units exactly if its first byte is in the fragment.
-units_in : (first next : ℕ) (more : Bool) (bytes : List ℕ) (i : ℕ) → next ≡ (8 * first + length bytes) / 8 + min 1 ((8 * first + length bytes) % 8) → (leb first i && ltb i next) ≡ is_in (fragment first more bytes) (8 * i)
-units_in first next more bytes i n = elim (cases_Bool (is_in (fragment first more bytes) (8 * i))) [
-  | inl inside ↦ let b = in_bounds (fragment first more bytes) (8 * i) inside in
+units_in : (first next : ℕ) (more : Bool) (bytes : List ℕ) (i : ℕ) → next ≡ (8 * first + length bytes) / 8 + min 1 ((8 * first + length bytes) % 8) → (leb first i && ltb i next) ≡ is_in (fragment_at first more bytes) (8 * i)
+units_in first next more bytes i n = elim (cases_Bool (is_in (fragment_at first more bytes) (8 * i))) [
+  | inl inside ↦ let b = in_bounds (fragment_at first more bytes) (8 * i) inside in
       and_from (leb first i) (ltb i next) (le-leb first i (omega (arith, b.0))) (lt-ltb i next (omega (arith, b.1, n))) ∙ sym inside
-  | inr outside ↦ elim (out_of_bounds (fragment first more bytes) (8 * i) outside) [
+  | inr outside ↦ elim (out_of_bounds (fragment_at first more bytes) (8 * i) outside) [
     | inl low ↦ and_left (leb first i) (ltb i next) (lt-leb first i (omega (arith, low))) ∙ sym outside
     | inr high ↦ and_right (leb first i) (ltb i next) (le-ltb i next (omega (arith, high, n))) ∙ sym outside
   ]
 ]
 
-stored_marks : (r q : Reassembly) (s : Received) (first next : ℕ) (more : Bool) (bytes : List ℕ) (i : ℕ) → HasReceived r s → IsStored r q first next more bytes → get_or q.marks i 0 ≡ mark_at (fragment first more bytes ∷ s.fragments) i
+stored_marks : (r q : Reassembly) (s : Received) (first next : ℕ) (more : Bool) (bytes : List ℕ) (i : ℕ) → HasReceived r s → IsStored r q first next more bytes → get_or q.marks i 0 ≡ mark_at (fragment_at first more bytes ∷ s.fragments) i
 stored_marks r q s first next more bytes i h k =
-    let f : Fragment = fragment first more bytes in
+    let f : Fragment = fragment_at first more bytes in
     k.marks i ∙ elim (cases_Bool (is_in f (8 * i))) [
       | inl inside ↦ cond-true (leb first i && ltb i next) (cond (eqb i first) (first_mark more) 3) (get_or r.marks i 0) (units_in first next more bytes i k.next_unit ∙ inside)
           ∙ (elim (cases_eq i first) [
@@ -181,9 +181,9 @@ stored_marks r q s first next more bytes i h k =
           ∙ (h.marks i ∙ sym (mark_at_out f s.fragments i outside))
     ]
 
-stored_bytes : (r q : Reassembly) (s : Received) (first next : ℕ) (more : Bool) (bytes : List ℕ) (i byte : ℕ) → HasReceived r s → IsStored r q first next more bytes → byte_at (fragment first more bytes ∷ s.fragments) i ≡ Some byte → get_or q.buffer.now i 0 ≡ byte
+stored_bytes : (r q : Reassembly) (s : Received) (first next : ℕ) (more : Bool) (bytes : List ℕ) (i byte : ℕ) → HasReceived r s → IsStored r q first next more bytes → byte_at (fragment_at first more bytes ∷ s.fragments) i ≡ Some byte → get_or q.buffer.now i 0 ≡ byte
 stored_bytes r q s first next more bytes i byte h k e =
-    let f : Fragment = fragment first more bytes in
+    let f : Fragment = fragment_at first more bytes in
     k.buffer i ∙ elim (cases_Bool (is_in f i)) [
       | inl inside ↦ cond-true (is_in f i) (get_or bytes (i - 8 * first) 0) (get_or r.buffer.now i 0) inside
           ∙ same_Some (get_or bytes (i - 8 * first) 0) byte (sym (own_byte f i inside) ∙ (sym (byte_at_in f s.fragments i inside) ∙ e))
@@ -191,9 +191,9 @@ stored_bytes r q s first next more bytes i byte h k e =
           ∙ h.bytes i byte (sym (byte_at_out f s.fragments i outside) ∙ e)
     ]
 
-stored : (r q : Reassembly) (s : Received) (first next : ℕ) (more : Bool) (bytes : List ℕ) → HasReceived r s → IsNew s (fragment first more bytes) → IsStored r q first next more bytes → HasReceived q (record s { fragments = fragment first more bytes ∷ s.fragments })
+stored : (r q : Reassembly) (s : Received) (first next : ℕ) (more : Bool) (bytes : List ℕ) → HasReceived r s → IsNew s (fragment_at first more bytes) → IsStored r q first next more bytes → HasReceived q (record s { fragments = fragment_at first more bytes ∷ s.fragments })
 stored r q s first next more bytes h n k =
-    let f : Fragment = fragment first more bytes in
+    let f : Fragment = fragment_at first more bytes in
     let consistent : AreConsistent s.limit (f ∷ s.fragments) = (n.sound, n.apart, n.one_end, h.consistent) in
     record {
       limit = omega (arith, h.limit, k.room);
@@ -231,9 +231,9 @@ stored_again q s f h none among =
       count = omega (arith, h.count, none);
     }
 
-pub kept : (r q : Reassembly) (s : Received) (first next : ℕ) (more : Bool) (bytes : List ℕ) → HasReceived r s → IsNew s (fragment first more bytes) → IsStored r q first next more bytes → HasReceived q (record s { fragments = with_fragment s.fragments (fragment first more bytes) })
+pub kept : (r q : Reassembly) (s : Received) (first next : ℕ) (more : Bool) (bytes : List ℕ) → HasReceived r s → IsNew s (fragment_at first more bytes) → IsStored r q first next more bytes → HasReceived q (record s { fragments = with_fragment s.fragments (fragment_at first more bytes) })
 kept r q s first next more bytes h n k =
-    let f : Fragment = fragment first more bytes in
+    let f : Fragment = fragment_at first more bytes in
     let after : HasReceived q (record s { fragments = f ∷ s.fragments }) = stored r q s first next more bytes h n k in
     elim (cases_Bool (list_any (is_same f) s.fragments)) [
       | inr other ↦ subst (λ (fs : List Fragment). HasReceived q (record s { fragments = fs })) (sym (cond-false (list_any (is_same f) s.fragments) s.fragments (f ∷ s.fragments) other)) after
@@ -244,26 +244,26 @@ kept r q s first next more bytes h n k =
           ]) same)
     ]
 
--- The reply to a fragment, and what has been received after it, case by case.
-pub reply_abandoned : (s : Received) (f : Fragment) → s.abandoned ≡ true → (reply_to s f ≡ Err Abandoned) × (received_after s f ≡ s)
-unfolding reply_to received_after
-reply_abandoned s f a = (cond-true s.abandoned _ _ a, cond-true s.abandoned _ _ a)
+-- The outcome of a fragment, and what has been received after it, case by case.
+pub outcome_abandoned : (s : Received) (f : Fragment) → s.abandoned ≡ true → (outcome_of s f ≡ Err Abandoned) × (received_after s f ≡ s)
+unfolding outcome_of received_after
+outcome_abandoned s f a = (cond-true s.abandoned _ _ a, cond-true s.abandoned _ _ a)
 
-pub reply_refused : (s : Received) (f : Fragment) (e : AddError) → s.abandoned ≡ false → refusal s.limit s.fragments f ≡ Some e → (reply_to s f ≡ Err e) × (received_after s f ≡ record s { abandoned = s.abandons && is_conflict e })
-unfolding reply_to received_after
-reply_refused s f e a r = (cond-false s.abandoned _ _ a ∙ ap (reply_by s.fragments f) r, cond-false s.abandoned _ _ a ∙ ap (received_by s f) r)
+pub outcome_refused : (s : Received) (f : Fragment) (e : AddError) → s.abandoned ≡ false → refusal s.limit s.fragments f ≡ Some e → (outcome_of s f ≡ Err e) × (received_after s f ≡ record s { abandoned = s.abandons && is_conflict e })
+unfolding outcome_of received_after
+outcome_refused s f e a r = (cond-false s.abandoned _ _ a ∙ ap (outcome_by s.fragments f) r, cond-false s.abandoned _ _ a ∙ ap (received_by s f) r)
 
-pub reply_accepted : (s : Received) (f : Fragment) → s.abandoned ≡ false → refusal s.limit s.fragments f ≡ None → (reply_to s f ≡ Ok (progress_of (with_fragment s.fragments f))) × (received_after s f ≡ record s { fragments = with_fragment s.fragments f })
-unfolding reply_to received_after
-reply_accepted s f a r = (cond-false s.abandoned _ _ a ∙ ap (reply_by s.fragments f) r, cond-false s.abandoned _ _ a ∙ ap (received_by s f) r)
+pub outcome_accepted : (s : Received) (f : Fragment) → s.abandoned ≡ false → refusal s.limit s.fragments f ≡ None → (outcome_of s f ≡ Ok (progress_of (with_fragment s.fragments f))) × (received_after s f ≡ record s { fragments = with_fragment s.fragments f })
+unfolding outcome_of received_after
+outcome_accepted s f a r = (cond-false s.abandoned _ _ a ∙ ap (outcome_by s.fragments f) r, cond-false s.abandoned _ _ a ∙ ap (received_by s f) r)
 
 -- A fragment that is there changes nothing.
 pub with_same : (fs : List Fragment) (f : Fragment) → list_any (is_same f) fs ≡ true → with_fragment fs f ≡ fs
 with_same fs f same = cond-true (list_any (is_same f) fs) fs (f ∷ fs) same
 
 -- Nothing has been received.
-pub received_nothing : (r : Reassembly) (abandons : Bool) → ((i : ℕ) → get_or r.marks i 0 ≡ 0) → r.reach ≡ 0 → r.count ≡ 0 → r.is_ended ≡ false → r.is_abandoned ≡ false → r.abandons ≡ abandons → HasReceived r (nothing (min (length r.buffer.now) 65535) abandons)
-received_nothing r abandons marks reach count ended abandoned same = record {
+pub has_nothing : (r : Reassembly) (abandons : Bool) → ((i : ℕ) → get_or r.marks i 0 ≡ 0) → r.reach ≡ 0 → r.count ≡ 0 → r.is_ended ≡ false → r.is_abandoned ≡ false → r.abandons ≡ abandons → HasReceived r (received_nothing (min (length r.buffer.now) 65535) abandons)
+has_nothing r abandons marks reach count ended abandoned same = record {
   limit = refl;
   abandons = same;
   abandoned = abandoned;
@@ -294,9 +294,9 @@ pub no_payload : (r : Reassembly) (s : Received) → HasReceived r s → (r.is_e
 no_payload r s h less = not_whole r s h (λ ended all. both_ways (r.is_ended && eqb r.count r.reach) less (and_from r.is_ended (eqb r.count r.reach) ended (eq-eqb r.count r.reach all)))
 
 -- The verdicts of the tests.
-pub tested_overlap : (r : Reassembly) (s : Received) (first next : ℕ) (more : Bool) (bytes : List ℕ) → HasReceived r s → IsSound s.limit (fragment first more bytes) → next ≡ (8 * first + length bytes) / 8 + min 1 ((8 * first + length bytes) % 8) → (((i : ℕ) → first ≤ i → i < next → get_or r.marks i 0 ≡ 0) → ⊥) → (IsSound s.limit (fragment first more bytes) → list_any (is_same (fragment first more bytes)) s.fragments ≡ false) → refusal s.limit s.fragments (fragment first more bytes) ≡ Some Overlap
+pub tested_overlap : (r : Reassembly) (s : Received) (first next : ℕ) (more : Bool) (bytes : List ℕ) → HasReceived r s → IsSound s.limit (fragment_at first more bytes) → next ≡ (8 * first + length bytes) / 8 + min 1 ((8 * first + length bytes) % 8) → (((i : ℕ) → first ≤ i → i < next → get_or r.marks i 0 ≡ 0) → ⊥) → (IsSound s.limit (fragment_at first more bytes) → list_any (is_same (fragment_at first more bytes)) s.fragments ≡ false) → refusal s.limit s.fragments (fragment_at first more bytes) ≡ Some Overlap
 tested_overlap r s first next more bytes h sound n occupied other =
-    refused_overlap s.limit s.fragments (fragment first more bytes) sound.aligned sound.within (other sound) (occupied_units r s first next more bytes h n occupied)
+    refused_overlap s.limit s.fragments (fragment_at first more bytes) sound.aligned sound.within (other sound) (occupied_units r s first next more bytes h n occupied)
 
 -- The test of the ends by the fields.
 ends_by_fields : (r : Reassembly) (s : Received) (f : Fragment) (b : Bool) → HasReceived r s → ((r.is_ended && ltb r.reach (end_of f)) || (not f.more && ltb (end_of f) r.reach)) ≡ b → ends_elsewhere s.fragments f ≡ b
@@ -304,17 +304,17 @@ ends_by_fields r s f b h e =
     subst (λ (m : ℕ). ((is_ended s.fragments && ltb m (end_of f)) || (not f.more && ltb (end_of f) m)) ≡ b) h.reach
     (subst (λ (l : Bool). ((l && ltb r.reach (end_of f)) || (not f.more && ltb (end_of f) r.reach)) ≡ b) h.ended e)
 
-pub tested_two_ends : (r : Reassembly) (s : Received) (first next : ℕ) (more : Bool) (bytes : List ℕ) → HasReceived r s → IsSound s.limit (fragment first more bytes) → next ≡ (8 * first + length bytes) / 8 + min 1 ((8 * first + length bytes) % 8) → ((i : ℕ) → first ≤ i → i < next → get_or r.marks i 0 ≡ 0) → ((r.is_ended && ltb r.reach (8 * first + length bytes)) || (not more && ltb (8 * first + length bytes) r.reach)) ≡ true → refusal s.limit s.fragments (fragment first more bytes) ≡ Some TwoEnds
+pub tested_two_ends : (r : Reassembly) (s : Received) (first next : ℕ) (more : Bool) (bytes : List ℕ) → HasReceived r s → IsSound s.limit (fragment_at first more bytes) → next ≡ (8 * first + length bytes) / 8 + min 1 ((8 * first + length bytes) % 8) → ((i : ℕ) → first ≤ i → i < next → get_or r.marks i 0 ≡ 0) → ((r.is_ended && ltb r.reach (8 * first + length bytes)) || (not more && ltb (8 * first + length bytes) r.reach)) ≡ true → refusal s.limit s.fragments (fragment_at first more bytes) ≡ Some TwoEnds
 tested_two_ends r s first next more bytes h sound n free ends =
-    let f : Fragment = fragment first more bytes in
+    let f : Fragment = fragment_at first more bytes in
     let two : list_any (has_two_ends f) s.fragments ≡ true = two_ends_from s.fragments f (ends_by_fields r s f true h ends) in
     refused_two_ends s.limit s.fragments f sound.aligned sound.within
     (false_from_ne_true (list_any (is_same f) s.fragments) (λ same. both_ways (list_any (has_two_ends f) s.fragments) (member_one_end s.limit s.fragments f h.consistent same) two))
     (free_units r s first next more bytes h n free) two
 
-pub tested_new : (r : Reassembly) (s : Received) (first next : ℕ) (more : Bool) (bytes : List ℕ) → HasReceived r s → IsSound s.limit (fragment first more bytes) → next ≡ (8 * first + length bytes) / 8 + min 1 ((8 * first + length bytes) % 8) → ((i : ℕ) → first ≤ i → i < next → get_or r.marks i 0 ≡ 0) → ((r.is_ended && ltb r.reach (8 * first + length bytes)) || (not more && ltb (8 * first + length bytes) r.reach)) ≡ false → IsNew s (fragment first more bytes)
+pub tested_new : (r : Reassembly) (s : Received) (first next : ℕ) (more : Bool) (bytes : List ℕ) → HasReceived r s → IsSound s.limit (fragment_at first more bytes) → next ≡ (8 * first + length bytes) / 8 + min 1 ((8 * first + length bytes) % 8) → ((i : ℕ) → first ≤ i → i < next → get_or r.marks i 0 ≡ 0) → ((r.is_ended && ltb r.reach (8 * first + length bytes)) || (not more && ltb (8 * first + length bytes) r.reach)) ≡ false → IsNew s (fragment_at first more bytes)
 tested_new r s first next more bytes h sound n free ends =
-    let f : Fragment = fragment first more bytes in
+    let f : Fragment = fragment_at first more bytes in
     record {
       sound = sound;
       apart = free_units r s first next more bytes h n free;
@@ -340,10 +340,10 @@ received_refused r s a b e h = record {
 }
 
 -- Nothing has been received after the marks were removed.
-pub received_cleared : (r q : Reassembly) (s : Received) (end : ℕ) → HasReceived r s → end ≡ min (r.reach / 8 + min 1 (r.reach % 8)) 8192 → ((i : ℕ) → get_or q.marks i 0 ≡ cond (ltb i end) 0 (get_or r.marks i 0)) → q.buffer.now ≡ r.buffer.now → q.reach ≡ 0 → q.count ≡ 0 → q.is_ended ≡ false → q.is_abandoned ≡ false → q.abandons ≡ r.abandons → HasReceived q (nothing s.limit s.abandons)
+pub received_cleared : (r q : Reassembly) (s : Received) (end : ℕ) → HasReceived r s → end ≡ min (r.reach / 8 + min 1 (r.reach % 8)) 8192 → ((i : ℕ) → get_or q.marks i 0 ≡ cond (ltb i end) 0 (get_or r.marks i 0)) → q.buffer.now ≡ r.buffer.now → q.reach ≡ 0 → q.count ≡ 0 → q.is_ended ≡ false → q.is_abandoned ≡ false → q.abandons ≡ r.abandons → HasReceived q (received_nothing s.limit s.abandons)
 received_cleared r q s end h used marks buffer reach count ended abandoned abandons =
-    subst (λ (n : ℕ). HasReceived q (nothing n s.abandons)) (ap (λ (b : List ℕ). min (length b) 65535) buffer ∙ sym h.limit)
-    (received_nothing q s.abandons (λ i. marks i ∙ elim (cases_lt i end) [
+    subst (λ (n : ℕ). HasReceived q (received_nothing n s.abandons)) (ap (λ (b : List ℕ). min (length b) 65535) buffer ∙ sym h.limit)
+    (has_nothing q s.abandons (λ i. marks i ∙ elim (cases_lt i end) [
       | inl below ↦ cond-true (ltb i end) 0 (get_or r.marks i 0) (lt-ltb i end below)
       | inr past ↦ cond-false (ltb i end) 0 (get_or r.marks i 0) (le-ltb i end past)
           ∙ (h.marks i ∙ unmarked_after s.fragments i (omega (arith, past, used, h.reach, h.limit, reach_most s.limit s.fragments h.consistent)))

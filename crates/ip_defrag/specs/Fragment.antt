@@ -10,8 +10,8 @@ pub record Fragment : Type 0 where
   pub bytes : List ℕ
 
 -- the fragment with the offset, in units of 8 bytes, and the flag of a fragment header
-abbrev pub fragment : ℕ → Bool → List ℕ → Fragment
-fragment offset more bytes = record { offset = 8 * offset; more = more; bytes = bytes }
+abbrev pub fragment_at : ℕ → Bool → List ℕ → Fragment
+fragment_at offset more bytes = record { offset = 8 * offset; more = more; bytes = bytes }
 
 -- the offset after its bytes
 abbrev pub end_of : Fragment → ℕ

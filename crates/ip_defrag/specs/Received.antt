@@ -18,8 +18,8 @@ pub record Received : Type 0 where
   pub fragments : List Fragment
 
 -- no fragments
-abbrev pub nothing : ℕ → Bool → Received
-nothing limit abandons = record { limit = limit; abandons = abandons; abandoned = false; fragments = [] }
+abbrev pub received_nothing : ℕ → Bool → Received
+received_nothing limit abandons = record { limit = limit; abandons = abandons; abandoned = false; fragments = [] }
 
 -- the fragments with one more, unless it is among them
 abbrev pub with_fragment : List Fragment → Fragment → List Fragment
@@ -29,13 +29,13 @@ with_fragment fs f = if list_any (is_same f) fs then fs else f ∷ fs
 abbrev pub progress_of : List Fragment → Progress
 progress_of fs = if is_some (payload_of fs) then Whole else MoreWanted
 
-abbrev pub reply_by : List Fragment → Fragment → Option AddError → Result Progress AddError
-reply_by fs f None = Ok (progress_of (with_fragment fs f))
-reply_by fs f (Some e) = Err e
+abbrev pub outcome_by : List Fragment → Fragment → Option AddError → Result Progress AddError
+outcome_by fs f None = Ok (progress_of (with_fragment fs f))
+outcome_by fs f (Some e) = Err e
 
 -- what a fragment is answered with
-unfoldable pub reply_to : Received → Fragment → Result Progress AddError
-reply_to s f = if s.abandoned then Err Abandoned else reply_by s.fragments f (refusal s.limit s.fragments f)
+unfoldable pub outcome_of : Received → Fragment → Result Progress AddError
+outcome_of s f = if s.abandoned then Err Abandoned else outcome_by s.fragments f (refusal s.limit s.fragments f)
 
 abbrev pub received_by : Received → Fragment → Option AddError → Received
 received_by s f None = record s { fragments = with_fragment s.fragments f }

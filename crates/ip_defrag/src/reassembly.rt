@@ -52,10 +52,10 @@ impl<'a> Reassembly<'a> {
     ghost use Rattle.std.specs.Prelude.{◌≡◌, ◌+◌, ◌-◌, ◌*◌, ◌≤◌, ◌<◌, ◌==◌, ◌&&◌, ◌||◌, if◌then◌else◌, not, nat_lt, ℕ, Bool, List, [], ◌∷◌, min, length, true, false, Ok, None, Some, IfSome, IfOk, MatchResult, MatchBool, slice_index};
     ghost use Rattle.std.specs.List.{list_any};
     ghost use Rattle.std.specs.Option.{option_copied};
-    ghost use Rattle.ip_defrag.specs.Fragment.{Fragment, fragment, is_same, has_byte};
+    ghost use Rattle.ip_defrag.specs.Fragment.{Fragment, fragment_at, is_same, has_byte};
     ghost use Rattle.ip_defrag.specs.Payload.{payload_of};
     ghost use Rattle.ip_defrag.specs.Refusal.{refusal};
-    ghost use Rattle.ip_defrag.specs.Received.{Received, nothing, with_fragment, progress_of, reply_to, received_after};
+    ghost use Rattle.ip_defrag.specs.Received.{Received, received_nothing, with_fragment, progress_of, outcome_of, received_after};
     ghost use Rattle.ip_defrag.specs.Reassembly.{HasReceived, IsNew, IsSound};
     ghost use Rattle.ip_defrag.specs.Split.{IsSplit, are_among, WasGiven};
 
@@ -81,7 +81,7 @@ impl<'a> Reassembly<'a> {
     /// Returns a reassembly that has received nothing.
     #[inline(always)]
     fn empty(buffer: &'a mut [u8], abandons: bool) -> Reassembly<'a>
-        ensures { HasReceived result (nothing (min (length buffer.old) 65535) abandons) }
+        ensures { HasReceived result (received_nothing (min (length buffer.old) 65535) abandons) }
     {
         Reassembly {
             buffer,
@@ -105,17 +105,20 @@ impl<'a> Reassembly<'a> {
         more: bool,
         bytes: &[u8],
     ) -> Result<Progress, AddError>
-        ensures reply { (s : Received) → HasReceived self.old s
-            → result ≡ reply_to s (fragment offset more bytes.now) }
+        ensures outcome { (s : Received) → HasReceived self.old s
+            → result ≡ outcome_of s (fragment_at offset more bytes.now) }
         ensures received { (s : Received) → HasReceived self.old s
-            → HasReceived self.new (received_after s (fragment offset more bytes.now)) }
+            → HasReceived self.new (received_after s (fragment_at offset more bytes.now)) }
+        ensures given { (limit : ℕ) (abandons : Bool) (given : List Fragment)
+            → WasGiven self.old limit abandons given
+            → WasGiven self.new limit abandons (fragment_at offset more bytes.now ∷ given) }
 
         // Fragments of one payload, in any order and any number of times, make it whole once each was there.
         ensures pieces { (payload : List ℕ) (pieces given : List Fragment) (limit : ℕ) (abandons : Bool)
             → WasGiven self.old limit abandons given
             → IsSplit payload pieces → length payload ≤ limit
-            → are_among (fragment offset more bytes.now ∷ given) pieces ≡ true
-            → result ≡ Ok (if are_among pieces (fragment offset more bytes.now ∷ given)
+            → are_among (fragment_at offset more bytes.now ∷ given) pieces ≡ true
+            → result ≡ Ok (if are_among pieces (fragment_at offset more bytes.now ∷ given)
             then Progress.Whole else Progress.MoreWanted) }
     {
         if self.is_abandoned {
@@ -212,8 +215,8 @@ impl<'a> Reassembly<'a> {
         requires within { 8 * first + length bytes.now ≤ length self.now.buffer.now }
         requires short { 8 * first + length bytes.now ≤ 65535 }
         ensures { (s : Received) → HasReceived self.now s
-            → IsSound s.limit (fragment first more bytes.now)
-            → result ≡ list_any (is_same (fragment first more bytes.now)) s.fragments }
+            → IsSound s.limit (fragment_at first more bytes.now)
+            → result ≡ list_any (is_same (fragment_at first more bytes.now)) s.fragments }
     {
         let end = 8 * first + bytes.len();
         if !is_fragment(&self.marks, first, end.div_ceil(8), first_mark_of(more)) {
@@ -240,10 +243,10 @@ impl<'a> Reassembly<'a> {
             → (8 * first + length bytes.now ≤ length self.now.buffer.now)
             × (8 * first + length bytes.now ≤ 65535)) }
         ensures verdict { (s : Received) → HasReceived self.now s → MatchResult result
-            (λ is_new. MatchBool is_new (IsNew s (fragment first more bytes.now))
-            ((refusal s.limit s.fragments (fragment first more bytes.now) ≡ None)
-            × (list_any (is_same (fragment first more bytes.now)) s.fragments ≡ true)))
-            (λ e. refusal s.limit s.fragments (fragment first more bytes.now) ≡ Some e) }
+            (λ is_new. MatchBool is_new (IsNew s (fragment_at first more bytes.now))
+            ((refusal s.limit s.fragments (fragment_at first more bytes.now) ≡ None)
+            × (list_any (is_same (fragment_at first more bytes.now)) s.fragments ≡ true)))
+            (λ e. refusal s.limit s.fragments (fragment_at first more bytes.now) ≡ Some e) }
     {
         if is_unaligned(more, bytes.len()) {
             return Err(AddError::Unaligned);
@@ -268,9 +271,9 @@ impl<'a> Reassembly<'a> {
     fn keep(&mut self, first: usize, more: bool, bytes: &[u8])
         requires within { 8 * first + length bytes.now ≤ length self.old.buffer.now }
         requires short { 8 * first + length bytes.now ≤ 65535 }
-        ensures { (s : Received) → HasReceived self.old s → IsNew s (fragment first more bytes.now)
+        ensures { (s : Received) → HasReceived self.old s → IsNew s (fragment_at first more bytes.now)
             → HasReceived self.new
-            (record s { fragments = with_fragment s.fragments (fragment first more bytes.now) }) }
+            (record s { fragments = with_fragment s.fragments (fragment_at first more bytes.now) }) }
     {
         let end = 8 * first + bytes.len();
         store(self.buffer, 8 * first, bytes);

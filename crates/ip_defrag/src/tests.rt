@@ -279,7 +279,7 @@ fn fragments_in_every_order(rt: HostRuntime) -> Result<(), Fail> {
     Ok(())
 }
 
-/// Returns the next number below a limit, from a linear congruential generator.
+/// Returns the next number below a limit, from a simple generator.
 fn next_below(state: &mut u32, limit: u32) -> u32 {
     *state = state.wrapping_mul(1_664_525).wrapping_add(1_013_904_223);
     if limit == 0 {

@@ -3,6 +3,7 @@ use Rattle.ip_defrag.proofs.MarkLemmas.{all_marked, marked_all, largest_none, no
 use Rattle.ip_defrag.proofs.marks.are_free.Goals as goal
 
 pub returns : goal.returns
-returns c =
-    (λ none. all_marked c.args.marks.now c.args.first c.args.end 0 c.requires.within (largest_none _ 0 (sym c.largest.ensures ∙ eqb-true c.largest.result 0 none)).1,
-    λ each. eq-eqb c.largest.result 0 (c.largest.ensures ∙ none_largest _ 0 refl (marked_all c.args.marks.now c.args.first c.args.end 0 c.requires.within each)))
+returns c = (
+  λ none. all_marked c.args.marks.now c.args.first c.args.end 0 c.requires.within (largest_none _ 0 (sym c.largest.ensures ∙ eqb-true c.largest.result 0 none)).1,
+  λ each. eq-eqb c.largest.result 0 (c.largest.ensures ∙ none_largest _ 0 refl (marked_all c.args.marks.now c.args.first c.args.end 0 c.requires.within each)),
+)

@@ -3,7 +3,7 @@ use Rattle.std.specs.Borrow.{Bor}
 use Rattle.std.specs.Prelude.{MatchOption, slice_range}
 use Rattle.std.specs.Option.{option_copied}
 use Rattle.ip_defrag.specs.Payload.{payload_of}
-use Rattle.ip_defrag.specs.Received.{nothing, received_all}
+use Rattle.ip_defrag.specs.Received.{received_nothing, received_all}
 use Rattle.ip_defrag.proofs.GivenLemmas.{shown_pieces, shown_bytes}
 use Rattle.ip_defrag.proofs.ReceivedLemmas.{whole_in_buffer, no_payload}
 use Rattle.ip_defrag.proofs.reassembly.Reassembly.payload.Goals as goal
@@ -29,11 +29,11 @@ returns-clause-received c = λ s h.
 
 pub returns-then-self-clause-pieces : goal.returns-then-self-clause-pieces
 returns-then-self-clause-pieces c = λ payload pieces given limit abandons h split fits all.
-    shown_pieces None payload pieces limit abandons given split fits all (returns-then-self-clause-received c (received_all (nothing limit abandons) given) h)
+    shown_pieces None payload pieces limit abandons given split fits all (returns-then-self-clause-received c (received_all (received_nothing limit abandons) given) h)
 
 pub returns-clause-pieces : goal.returns-clause-pieces
 returns-clause-pieces c = λ payload pieces given limit abandons h split fits all.
-    shown_pieces (option_copied c.get.result) payload pieces limit abandons given split fits all (returns-clause-received c (received_all (nothing limit abandons) given) h)
+    shown_pieces (option_copied c.get.result) payload pieces limit abandons given split fits all (returns-clause-received c (received_all (received_nothing limit abandons) given) h)
 
 pub returns-clause-bytes : goal.returns-clause-bytes
-returns-clause-bytes c = λ given limit abandons h. shown_bytes c.get.result limit abandons given (returns-clause-received c (received_all (nothing limit abandons) given) h)
+returns-clause-bytes c = λ given limit abandons h. shown_bytes c.get.result limit abandons given (returns-clause-received c (received_all (received_nothing limit abandons) given) h)

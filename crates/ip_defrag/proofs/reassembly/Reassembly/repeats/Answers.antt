@@ -1,4 +1,4 @@
-use Rattle.ip_defrag.proofs.Common.{sym, ◌∙◌, both_ways, fragment}
+use Rattle.ip_defrag.proofs.Common.{sym, ◌∙◌, both_ways, fragment_at}
 use Rattle.ip_defrag.proofs.ReceivedLemmas.{repeated_units, repeated_end, repeated_bytes}
 use Rattle.ip_defrag.proofs.reassembly.Reassembly.repeats.Goals as goal
 use Rattle.ip_defrag.proofs.reassembly.Reassembly.repeats.Goals.{else-not-more-via-then-not-more+else-end-self, else-not-more-via-else-not-more}
@@ -9,7 +9,7 @@ returns-then-not-is_fragment c = λ s h sound.
     (λ units. both_ways c.is_fragment.result c.if-not-is_fragment.true (c.is_fragment.ensures.1 (units.0 ∙ sym c.first_mark_of.ensures, units.1, units.2))))
 
 pub returns-then-end-self : goal.returns-then-end-self
-returns-then-end-self c = λ s h sound. sym (repeated_end c.args.self.now s (fragment c.args.first c.args.more c.args.bytes.now) h c.if-not-more.true c.if-end-self.true)
+returns-then-end-self c = λ s h sound. sym (repeated_end c.args.self.now s (fragment_at c.args.first c.args.more c.args.bytes.now) h c.if-not-more.true c.if-end-self.true)
 
 pub returns : goal.returns
 returns c = λ s h sound.

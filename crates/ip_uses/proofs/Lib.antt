@@ -1,3 +1,4 @@
 pub mod FirstLemmas
 pub mod WithinLemmas
 pub mod LimitLemmas
+pub mod ReassemblyLemmas

@@ -16,6 +16,7 @@ pub mod packets;
 pub mod places;
 pub mod read_outcomes;
 pub mod readers;
+pub mod reassembly;
 pub mod runs;
 pub mod spans;
 pub mod statistics;

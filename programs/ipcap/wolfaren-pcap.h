@@ -1,24 +1,106 @@
-/* The library libwolfaren-pcap, by which other languages count captures as `ipcap stat` does. */
+/*
+ * The library libwolfaren-pcap, by which other languages read captures with libpcap: they count packets as `ipcap stat`
+ * does, read them one after another, and filter them as `ipcap filter` does.
+ *
+ * For every call: a path is that of a file; `-` has no special meaning. `error` has room for WOLFAREN_PCAP_ERROR_ROOM
+ * bytes. A call that fails writes why, with a terminating null byte; otherwise, `error` is the empty text. Each call
+ * with an `error` sets `errno`: to the system's error if the system refused to open, to read or to write a file,
+ * otherwise to 0. Any number of threads may make calls at the same time, but only one at a time with the same reader.
+ */
 #ifndef WOLFAREN_PCAP_H
 #define WOLFAREN_PCAP_H
 
 #include <stddef.h>
+#include <stdint.h>
+
+#ifdef __cplusplus
+extern "C" {
+#endif
 
 /* A buffer size that is large enough for any text of an error and its terminating null byte. */
 #define WOLFAREN_PCAP_ERROR_ROOM 512
+
+/* A buffer size that is large enough for any packet that libpcap reads with a supported link layer. */
+#define WOLFAREN_PCAP_PACKET_ROOM 262144
 
 /*
  * Counts the packets of the capture in a file. Returns a line of JSON as `ipcap stat --json` prints it, which the
  * caller releases with wolfaren_pcap_free.
  *
- * If the file can't be read to its end, returns the counts of the packets up to there, and writes why to `error`, with
- * a terminating null byte; otherwise, `error` is the empty text. Returns null, and writes why, if the file can't be
- * opened or isn't a capture with a supported link layer, or if memory runs out. Sets `errno` to the system's error if
- * the system refused to open or to read the file, otherwise to 0. Any number of threads may call it at the same time.
+ * If the file can't be read to its end, returns the counts of the packets up to there, and writes why to `error`.
+ * Returns null, and writes why, if the file can't be opened or isn't a capture with a supported link layer, or if
+ * memory runs out.
  */
 char *wolfaren_pcap_count(const char *path, char error[WOLFAREN_PCAP_ERROR_ROOM]);
 
 /* Releases what wolfaren_pcap_count has returned. The pointer may be null. */
 void wolfaren_pcap_free(char *json);
+
+/* A capture that is being read. */
+struct wolfaren_pcap_reader;
+
+/* An IP packet of a capture, and the frame that carries it. */
+struct wolfaren_pcap_packet {
+    uint64_t number;       /* number of the frame in the capture: 1 for the first */
+    int64_t seconds;       /* when the frame was captured: seconds since 1970-01-01, 00:00:00 UTC, .. */
+    int64_t nanoseconds;   /* .. and nanoseconds, from 0 to 999,999,999 unless the capture is damaged */
+    uint32_t captured_len; /* how many bytes of the frame the capture has */
+    uint32_t original_len; /* length of the frame in bytes */
+    size_t ip_offset;      /* where the packet begins in the frame, in bytes */
+    size_t offset;         /* where the packet begins in the buffer, in bytes */
+    size_t len;            /* number of bytes from the packet's first one to the end of the captured frame */
+};
+
+/*
+ * Opens a capture. The caller closes it with wolfaren_pcap_close. Returns null, and writes why to `error`, if the file
+ * can't be opened or isn't a capture with a supported link layer, or if memory runs out.
+ */
+struct wolfaren_pcap_reader *wolfaren_pcap_open(const char *path, char error[WOLFAREN_PCAP_ERROR_ROOM]);
+
+/* Returns libpcap's name of the link layer of a capture, such as "EN10MB" for Ethernet. It is never released. */
+const char *wolfaren_pcap_link_layer(const struct wolfaren_pcap_reader *reader);
+
+/*
+ * Reads the next IP packets of a capture and returns their number: at most `room`, which must be above 0, and only as
+ * many as fit into the buffer of `bytes_room` bytes, which must be WOLFAREN_PCAP_PACKET_ROOM or more. Writes the fields
+ * of each packet to `packets`, and its bytes to the buffer. Frames without an IP packet are left out.
+ *
+ * Returns 0 at the end of the capture, and writes to `error` if it can't be read to its end. Of a file that isn't
+ * regular, such as a pipe, reads one packet in each call, as soon as it arrives.
+ */
+size_t wolfaren_pcap_read(struct wolfaren_pcap_reader *reader, struct wolfaren_pcap_packet *packets, size_t room,
+                          uint8_t *bytes, size_t bytes_room, char error[WOLFAREN_PCAP_ERROR_ROOM]);
+
+/* Closes a capture. The pointer may be null. */
+void wolfaren_pcap_close(struct wolfaren_pcap_reader *reader);
+
+/* What wolfaren_pcap_filter returns: that the capture was filtered, or where that failed. */
+enum {
+    WOLFAREN_PCAP_FILTERED = 0,
+    WOLFAREN_PCAP_CONDITION_FAILED = 1, /* the text isn't a filter */
+    WOLFAREN_PCAP_INPUT_FAILED = 2,
+    WOLFAREN_PCAP_OUTPUT_FAILED = 3
+};
+
+/* Numbers of frames. */
+struct wolfaren_pcap_counts {
+    uint64_t frames;  /* frames that were read */
+    uint64_t written; /* frames among them that meet the condition */
+};
+
+/*
+ * Writes the frames of a capture that meet a condition to an open file, as `ipcap filter -w` does: a capture in the
+ * format of pcap, with the link layer, snap length and precision of the one that is read. The condition is a text for
+ * wolfaren_parse_filter, with `condition_len` bytes. `output` is the file's descriptor, which stays open.
+ *
+ * Returns WOLFAREN_PCAP_FILTERED if the capture was read to its end and all was written. Otherwise writes why not to
+ * `error`, and returns one of the other numbers: the output may then have some of the frames. Always sets `counts`.
+ */
+int wolfaren_pcap_filter(const char *condition, size_t condition_len, const char *input, int output,
+                         struct wolfaren_pcap_counts *counts, char error[WOLFAREN_PCAP_ERROR_ROOM]);
+
+#ifdef __cplusplus
+}
+#endif
 
 #endif

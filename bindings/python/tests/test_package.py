@@ -65,8 +65,11 @@ class Types(unittest.TestCase):
                   "counts.faults": "typing.Mapping[builtins.str, builtins.int]",
                   "sum([counts])": "Union[wolfaren._statistics.Statistics, Literal[0]]",
                   "parts.src": "Union[ipaddress.IPv4Address, ipaddress.IPv6Address, None]",
-                  "parts.headers[0].more_fragments": "Union[builtins.bool, None]"}
-        lines = ["import wolfaren", "counts, parts = wolfaren.Statistics(), wolfaren.dissect(b'')", "counts.packet"]
+                  "parts.headers[0].more_fragments": "Union[builtins.bool, None]",
+                  "packet.time_ns": "builtins.int", "packet.bytes": "builtins.bytes", "packet.time": "datetime.datetime",
+                  "wolfaren.Filter('fault').write('one', 'other').written": "builtins.int"}
+        lines = ["import wolfaren", "counts, parts = wolfaren.Statistics(), wolfaren.dissect(b'')", "counts.packet",
+                 "packet = next(wolfaren.packets(''))"]
         with tempfile.TemporaryDirectory() as folder:
             program = write(folder, "program.py", "\n".join(lines + [f"reveal_type({it})" for it in wanted]).encode())
             status, said = run(["mypy", "--strict", "--ignore-missing-imports", "--cache-dir", f"{folder}/cache", program],
@@ -99,6 +102,19 @@ class Libraries(unittest.TestCase):
             status, said = run([sys.executable, "-c", COUNT], WOLFAREN_LIB_DIR=folder)
         self.assertEqual(status, 1)
         self.assertIn("install libwolfaren-pcap.so.0, or set WOLFAREN_LIB_DIR", said)
+
+
+    def test_other_capture_library(self):
+        """A library that has only some of the calls is refused, with the names of the others."""
+        with tempfile.TemporaryDirectory() as folder:
+            shutil.copy(f"{BUILD}/libwolfaren.so.0", folder)
+            source = "void wolfaren_pcap_count(void) {} void wolfaren_pcap_free(void) {} void wolfaren_pcap_open(void) {}"
+            subprocess.run(["cc", "-shared", "-fPIC", "-x", "c", "-", "-o", f"{folder}/libwolfaren-pcap.so.0"], input=source,
+                           text=True, check=True)
+            status, said = run([sys.executable, "-c", COUNT], WOLFAREN_LIB_DIR=folder)
+        self.assertEqual(status, 1)
+        self.assertIn("ImportError: libwolfaren-pcap.so.0 is of another version than the package: it has no "
+                      "wolfaren_pcap_close, wolfaren_pcap_filter, wolfaren_pcap_link_layer, wolfaren_pcap_read", said)
 
 
 class ReadMe(unittest.TestCase):

@@ -3,6 +3,7 @@
 The work is done by `libwolfaren.so.0`, whose calls are formally verified. This package calls it through cffi.
 """
 
+from ._captures import Packet, Written, packets
 from ._dissection import (Dissection, End, ExtensionHeader, Fault, FaultKind, Fragment, FragmentKind, Layer, LenSource,
                           dissect, protocol_name)
 from ._filter import Filter, FilterError
@@ -11,5 +12,5 @@ from ._statistics import MOST, CaptureError, CaptureOSError, Statistics, statist
 __version__ = "0.1.0"
 
 __all__ = ["MOST", "CaptureError", "CaptureOSError", "Dissection", "End", "ExtensionHeader", "Fault", "FaultKind", "Filter",
-           "FilterError", "Fragment", "FragmentKind", "Layer", "LenSource", "Statistics", "dissect", "protocol_name",
-           "statistics_of"]
+           "FilterError", "Fragment", "FragmentKind", "Layer", "LenSource", "Packet", "Statistics", "Written", "dissect",
+           "packets", "protocol_name", "statistics_of"]

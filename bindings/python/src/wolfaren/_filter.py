@@ -4,6 +4,7 @@ from __future__ import annotations
 
 from collections.abc import Callable
 
+from ._captures import Path, Written, write_matching
 from ._library import Buffer, ffi, lib
 
 _TEST_FIELDS = [name for name, _ in ffi.typeof("struct wolfaren_filter_test").fields]
@@ -67,6 +68,21 @@ class Filter:
     def matches_other_frame(self) -> bool:
         """Returns whether a frame without an IP packet meets the condition, as it meets `not fault`."""
         return bool(lib.wolfaren_filter_matches_other(self._filter))
+
+    def write(self, path_in: Path, path_out: Path) -> Written:
+        """Writes the frames of a capture that meet the condition to another file, and returns how many were read and written.
+
+        The input may be in any format that ipcap reads. The output is what `ipcap filter -w` writes: a capture in the
+        format of pcap. It is written to a new file in its directory, which takes its name once it is complete, so if
+        anything fails there is no output, or the one that there was. An output that exists and isn't a regular file, such
+        as a pipe, is written directly.
+
+        Raises `CaptureError` if the input can't be read to its end: a `CaptureOSError` if the system refused to open or to
+        read it. Raises `OSError` if the output can't be written, and `shutil.SameFileError`, an `OSError`, if input and
+        output are the same file. The files are read and written by C code with libpcap; Python's other threads run
+        meanwhile.
+        """
+        return write_matching(self.text, path_in, path_out)
 
     def _program(self) -> tuple[tuple[int, ...], ...]:
         tests = self._filter.tests[0:self._filter.count]

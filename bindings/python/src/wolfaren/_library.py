@@ -63,7 +63,11 @@ def captures() -> tuple[cffi.FFI, Any]:
     """Returns the library that reads captures, which needs libpcap. It is loaded when it is first needed."""
     own = cffi.FFI()
     own.cdef(_declarations(_text_of("wolfaren-pcap.h")))
-    return own, _open(own, "libwolfaren-pcap.so.0")
+    library = _open(own, "libwolfaren-pcap.so.0")
+    missing = [it for it in dir(library) if not hasattr(library, it)]
+    if missing:
+        raise ImportError(f"libwolfaren-pcap.so.0 is of another version than the package: it has no {', '.join(missing)}")
+    return own, library
 
 
 def name_of(find: Any, code: int) -> str:

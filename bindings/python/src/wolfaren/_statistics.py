@@ -404,7 +404,7 @@ def _table(value: Any, name: str, most: int) -> dict[str, int]:
 
 
 class CaptureError(Exception):
-    """A capture that can't be read to its end. `statistics` has the packets up to there."""
+    """A capture that can't be read to its end. `statistics` has the packets up to there, if they were counted."""
 
     def __init__(self, path: str, reason: str, statistics: Statistics) -> None:  # that of OSError takes other arguments
         self.path = path
@@ -426,6 +426,14 @@ class CaptureOSError(CaptureError, OSError):
         return CaptureOSError, (self.path, self.reason, self.statistics, self.errno)
 
 
+def capture_error(path: str | os.PathLike[str], reason: str, errno: int, statistics: Statistics | None = None) -> CaptureError:
+    """Returns the error of a capture, for the reason that the library of captures has written and the number in `errno`."""
+    counted = Statistics() if statistics is None else statistics
+    if errno:
+        return CaptureOSError(os.fspath(path), reason, counted, errno)
+    return CaptureError(os.fspath(path), reason, counted)
+
+
 def statistics_of(path: str | os.PathLike[str]) -> Statistics:
     """Counts the packets of a capture, which may be in any format that ipcap reads.
 
@@ -441,8 +449,6 @@ def statistics_of(path: str | os.PathLike[str]) -> Statistics:
     finally:
         library.wolfaren_pcap_free(text)
     reason = own.string(error).decode(errors="replace")
-    if reason and errno:
-        raise CaptureOSError(os.fspath(path), reason, statistics, errno)
     if reason:
-        raise CaptureError(os.fspath(path), reason, statistics)
+        raise capture_error(path, reason, errno, statistics)
     return statistics

@@ -1,0 +1,168 @@
+"""Reads the packets of captures, and writes some of them to other captures."""
+
+from __future__ import annotations
+
+import contextlib
+import datetime
+import os
+import secrets
+import shutil
+import stat
+from collections.abc import Generator, Iterator
+from typing import Any, NamedTuple
+
+from ._library import captures
+from ._statistics import capture_error
+
+Path = str | os.PathLike[str]
+
+# How many packets are read at once, and how many bytes they may have together.
+_PACKETS = 1024
+_BYTES = 1 << 20
+
+_EPOCH = datetime.datetime(1970, 1, 1, tzinfo=datetime.timezone.utc)
+
+_Bytes = bytes
+
+
+class Packet(NamedTuple):
+    """An IP packet of a capture, and the frame that carries it. Lengths and offsets are in bytes."""
+
+    number: int
+    """The number of the frame in the capture: 1 for the first."""
+    time_ns: int
+    """When the frame was captured, in nanoseconds since 1970-01-01, 00:00:00 UTC."""
+    link_layer: str
+    """libpcap's name of the capture's link layer, such as `EN10MB` for Ethernet."""
+    original_len: int
+    """The length of the frame."""
+    captured_len: int
+    """How many bytes of the frame the capture has."""
+    ip_offset: int
+    """Where the packet begins in the frame."""
+    bytes: _Bytes
+    """The packet and what follows it in the frame, as far as the capture has them."""
+
+    @property
+    def time(self) -> datetime.datetime:
+        """When the frame was captured, in UTC, rounded down to microseconds.
+
+        Raises `OverflowError` for a time after the year 9999, which only a damaged capture has.
+        """
+        return _EPOCH + datetime.timedelta(microseconds=self.time_ns // 1000)
+
+
+class Reader:
+    """An open capture, from which packets are read together. After `read`, `fields` has the fields of each packet in an
+    array of C structs, and `bytes` the bytes of all."""
+
+    def __init__(self, path: Path) -> None:
+        """Opens a capture. Raises `CaptureError` if that fails."""
+        self._path = path
+        self._own, self._library = captures()
+        self._error = self._own.new("char[]", self._library.WOLFAREN_PCAP_ERROR_ROOM)
+        opened = self._library.wolfaren_pcap_open(os.fsencode(os.path.abspath(path)), self._error)
+        self._check()
+        self._reader = self._own.gc(opened, self._library.wolfaren_pcap_close)
+        self.link_layer = self._own.string(self._library.wolfaren_pcap_link_layer(self._reader)).decode("ascii")
+        self.fields = self._own.new("struct wolfaren_pcap_packet[]", _PACKETS)
+        self.bytes = self._own.new("uint8_t[]", _BYTES)
+
+    def _check(self) -> None:
+        """Raises the error of the last call, if there is one."""
+        errno = self._own.errno
+        reason = self._own.string(self._error).decode(errors="replace")
+        if reason:
+            raise capture_error(self._path, reason, errno)
+
+    def read(self) -> int:
+        """Reads the next packets and returns their number, 0 at the end. Raises `CaptureError` if there is no end."""
+        count: int = self._library.wolfaren_pcap_read(self._reader, self.fields, _PACKETS, self.bytes, _BYTES, self._error)
+        self._check()
+        return count
+
+    def packets(self, count: int) -> Iterator[Packet]:
+        """Yields the first packets that were read."""
+        every = self._own.buffer(self.bytes)
+        for it in self.fields[0:count]:
+            yield Packet(it.number, 10**9 * it.seconds + it.nanoseconds, self.link_layer, it.original_len, it.captured_len,
+                         it.ip_offset, every[it.offset:it.offset + it.len])
+
+    def fields_type(self) -> Any:
+        """Returns the type of a packet's fields."""
+        return self._own.typeof("struct wolfaren_pcap_packet")
+
+    def close(self) -> None:
+        """Closes the capture, from which nothing can be read any more. It may already be closed."""
+        self._own.release(self._reader)
+
+
+def packets(path: Path) -> Generator[Packet, None, None]:
+    """Yields the IP packets of a capture, which may be in any format that ipcap reads, as ipcap finds them in frames.
+
+    Frames without an IP packet are left out. Raises `CaptureError` at once if the capture can't be opened, and after the
+    last packet if it can't be read to its end: a `CaptureOSError` if the system refused to open or to read it. The file is
+    closed at its end, on an error, or when the generator is closed or no longer referred to. It is read by C code with
+    libpcap, many packets at once or, from a pipe, each as it arrives; Python's other threads run meanwhile.
+    """
+    return _packets_of(Reader(path))
+
+
+def _packets_of(reader: Reader) -> Generator[Packet, None, None]:
+    with contextlib.closing(reader):
+        while count := reader.read():
+            yield from reader.packets(count)
+
+
+class Written(NamedTuple):
+    """How many frames of a capture a filter has read, and how many it has written."""
+
+    frames: int
+    written: int
+
+
+def write_matching(condition: str, path_in: Path, path_out: Path) -> Written:
+    """Writes the frames of a capture that meet a condition to another file. See `Filter.write`."""
+    if os.path.exists(path_in) and os.path.exists(path_out) and os.path.samefile(path_in, path_out):
+        raise shutil.SameFileError(f"{os.fspath(path_in)} and {os.fspath(path_out)} are the same file")
+    if os.path.exists(path_out) and not os.path.isfile(path_out):
+        with open(path_out, "wb", buffering=0) as output:
+            return _filter(condition, path_in, path_out, output.fileno())
+    return _write_aside(condition, path_in, path_out)
+
+
+def _write_aside(condition: str, path_in: Path, path_out: Path) -> Written:
+    """Filters a capture into a new file beside the output, which then takes its place. If that fails, removes it."""
+    output = os.path.realpath(path_out)
+    aside = os.path.join(os.path.dirname(output), f".wolfaren-{secrets.token_hex(8)}")
+    with contextlib.ExitStack() as undo:
+        try:
+            descriptor = os.open(aside, os.O_WRONLY | os.O_CREAT | os.O_EXCL | os.O_CLOEXEC, 0o666)
+        except OSError as error:
+            raise OSError(error.errno, error.strerror, os.fspath(path_out)) from None
+        undo.callback(os.unlink, aside)
+        with open(descriptor, "wb", buffering=0):
+            if os.path.exists(output):
+                os.fchmod(descriptor, stat.S_IMODE(os.stat(output).st_mode))
+            written = _filter(condition, path_in, path_out, descriptor)
+            os.fsync(descriptor)
+        os.replace(aside, output)
+        undo.pop_all()
+    return written
+
+
+def _filter(condition: str, path_in: Path, path_out: Path, descriptor: int) -> Written:
+    """Filters a capture into an open file."""
+    own, library = captures()
+    text = condition.encode("utf-8", "surrogateescape")
+    counts = own.new("struct wolfaren_pcap_counts *")
+    error = own.new("char[]", library.WOLFAREN_PCAP_ERROR_ROOM)
+    outcome = library.wolfaren_pcap_filter(text, len(text), os.fsencode(os.path.abspath(path_in)), descriptor, counts, error)
+    errno, reason = own.errno, own.string(error).decode(errors="replace")
+    if outcome == library.WOLFAREN_PCAP_INPUT_FAILED:
+        raise capture_error(path_in, reason, errno)
+    if outcome == library.WOLFAREN_PCAP_OUTPUT_FAILED:
+        raise OSError(errno, reason, os.fspath(path_out))
+    if outcome != library.WOLFAREN_PCAP_FILTERED:
+        raise ValueError(f"{reason}: {condition!r}")
+    return Written(counts.frames, counts.written)

@@ -1,0 +1,345 @@
+"""Tests of `packets` and `Filter.write`. Expected values were worked out by hand, or are what ipcap writes."""
+
+import contextlib
+import datetime
+import errno
+import os
+import pickle
+import random
+import re
+import shutil
+import stat
+import struct
+import subprocess
+import tempfile
+import threading
+import unittest
+from unittest import mock
+
+from support import BUILD, PACKETS, ROOT, TCP, UDP, capture, ethernet, file_header, ipcap, ipv4, ipv6_chain, record, write
+
+from captures import LOOP, NANOSECONDS, RAW, SLL2, cooked2
+
+import wolfaren
+from wolfaren._captures import Reader
+from wolfaren._library import captures
+from wolfaren import CaptureError, CaptureOSError, Filter, Packet, Statistics, Written, packets
+
+ARP = ethernet(bytes(46), (), 0x0806)
+LATE = 2**32 - 1
+
+
+def open_files(path):
+    """Returns how many of this process's files are the one at the path."""
+    found = 0
+    for name in os.listdir("/proc/self/fd"):
+        with contextlib.suppress(OSError):
+            found += os.path.samefile(f"/proc/self/fd/{name}", path)
+    return found
+
+
+class Scratch(unittest.TestCase):
+    def setUp(self):
+        folder = tempfile.TemporaryDirectory()
+        self.addCleanup(folder.cleanup)
+        self.folder = folder.name
+
+    def file(self, content, name="a.pcap"):
+        return write(self.folder, name, content)
+
+
+class Packets(Scratch):
+    def test_fields(self):
+        frame = ethernet(ipv4(6, TCP), [0x8100])
+        path = self.file(file_header() + record(ARP) + record(frame, 50, 1000, 999999) + record(ethernet(b"", (), 0x86DD)))
+        first, second = packets(path)
+        self.assertEqual(first, Packet(2, 1000_999999000, "EN10MB", len(frame), 50, 18, ipv4(6, TCP)[:32]))
+        self.assertEqual(first.time, datetime.datetime(1970, 1, 1, 0, 16, 40, 999999, datetime.timezone.utc))
+        self.assertEqual(second, Packet(3, 1000_000005000, "EN10MB", 14, 14, 14, b""))
+        self.assertEqual(pickle.loads(pickle.dumps(first)), first)
+
+    def test_times(self):
+        for magic, order, fraction, wanted in [(NANOSECONDS, ">", 999999999, LATE * 10**9 + 999999999),
+                                               (NANOSECONDS, "<", 7, LATE * 10**9 + 7)]:
+            head = file_header(RAW, 65535, magic, order)
+            (packet,) = packets(self.file(head + record(ipv4(6, TCP), None, LATE, fraction, order)))
+            self.assertEqual((packet.time_ns, packet.time.year), (wanted, 2106))
+
+    def test_late_time(self):
+        """A block of pcapng whose time, in microseconds, is after the year 9999."""
+        packet = ipv4(6, TCP)
+        blocks = [(0x0A0D0D0A, struct.pack("<IHHq", 0x1A2B3C4D, 1, 0, -1)), (1, struct.pack("<HHI", RAW, 0, 0)),
+                  (6, struct.pack("<IIIII", 0, 2**28, 0, len(packet), len(packet)) + packet)]
+        path = self.file(b"".join(struct.pack("<II", kind, len(body) + 12) + body + struct.pack("<I", len(body) + 12)
+                                  for kind, body in blocks))
+        (found,) = packets(path)
+        self.assertEqual((found.time_ns, found.bytes), (2**60 * 1000, packet))
+        with self.assertRaises(OverflowError):
+            found.time
+
+    def test_link_layers(self):
+        packet = ipv4(17, UDP)
+        for number, name, frame in [(RAW, "RAW", packet), (LOOP, "LOOP", b"\0\0\0\2" + packet),
+                                    (SLL2, "LINUX_SLL2", cooked2(packet, 0x0800))]:
+            (found,) = packets(self.file(capture([frame], number)))
+            self.assertEqual((found.link_layer, found.ip_offset, found.bytes), (name, len(frame) - len(packet), packet))
+
+    def test_many(self):
+        """More packets than are read at once, by number or by bytes, are those that `ipcap stat` counts."""
+        some = random.Random(1)
+        frames = [ethernet(ipv6_chain([60] * some.randrange(3), payload=bytes(some.randrange(40)))) for _ in range(5000)]
+        large = [ethernet(ipv4(17, bytes(some.randrange(60000)))) for _ in range(60)]
+        longest = capture([bytes(262144)], RAW, 262144)
+        for content in [capture(frames + [ARP] * 2000 + frames), capture(large), longest, capture([])]:
+            path, counted = self.file(content), Statistics()
+            found = list(packets(path))
+            for it in found:
+                counted.add(it.bytes)
+            wanted = wolfaren.statistics_of(path)
+            self.assertEqual((counted.packets, counted.chains), (wanted.packets, wanted.chains))
+            self.assertEqual([it.number for it in found], sorted({it.number for it in found}))
+        self.assertEqual([it.bytes for it in packets(self.file(capture(large)))], [it[14:] for it in large])
+
+    def test_truncated(self):
+        content = capture([ethernet(it) for it in PACKETS[:4]])
+        for missing in [1, 40]:
+            path, found = self.file(content[:-missing]), []
+            with self.assertRaisesRegex(CaptureError, "can't read packet 4: ") as raised:
+                for it in packets(path):
+                    found.append(it.number)
+            self.assertEqual((found, raised.exception.path), ([1, 2, 3], path))
+            self.assertNotIsInstance(raised.exception, OSError)
+            self.assertEqual(raised.exception.statistics, Statistics())
+            self.assertEqual(open_files(path), 0)
+
+    def test_unreadable(self):
+        """The capture is opened by the call, before a packet is asked for."""
+        for path, words in [(self.file(b"no capture", "x"), "unknown file format"),
+                            (self.file(capture([b""], 105), "y"), "link layer IEEE802_11 .* isn't supported"),
+                            (f"{self.folder}/none", "No such file"), (self.folder, "Is a directory")]:
+            with self.assertRaisesRegex(CaptureError, words):
+                packets(path)
+        with self.assertRaises(CaptureOSError) as raised:
+            packets(f"{self.folder}/none")
+        self.assertEqual((raised.exception.errno, raised.exception.filename), (errno.ENOENT, f"{self.folder}/none"))
+
+    def test_stopped_early(self):
+        path = self.file(capture([ethernet(it) for it in PACKETS[:4]]))
+        found = packets(path)
+        self.assertEqual((next(found).number, open_files(path)), (1, 1))
+        found.close()
+        self.assertEqual((open_files(path), list(found)), (0, []))
+        for _ in packets(path):
+            break
+        packets(path)
+        self.assertEqual(open_files(path), 0)
+
+    def test_pipe(self):
+        """A packet of a pipe is there before the next one is written."""
+        pipe = f"{self.folder}/pipe"
+        os.mkfifo(pipe)
+        with contextlib.ExitStack() as files:
+            def begin():
+                writer = files.enter_context(open(pipe, "wb", buffering=0))
+                writer.write(file_header() + record(ethernet(PACKETS[0])))
+                writers.append(writer)
+            writers = []
+            threading.Thread(target=begin, daemon=True).start()
+            found = packets(pipe)
+            self.assertEqual(next(found).bytes, PACKETS[0])
+            writers[0].write(record(ethernet(PACKETS[1])))
+            self.assertEqual(next(found).bytes, PACKETS[1])
+            found.close()
+
+    def test_names_of_files(self):
+        self.addCleanup(os.chdir, os.getcwd())
+        os.chdir(self.folder)
+        self.file(capture([ethernet(PACKETS[0])]), "-")
+        self.assertEqual(len(list(packets("-"))), 1)
+
+
+class Calls(Scratch):
+    """What the package doesn't do with the calls of the library."""
+
+    def test_small_buffer(self):
+        """A packet that doesn't fit is kept for the next call."""
+        own, library = captures()
+        path = self.file(capture([ethernet(it) for it in [PACKETS[2], PACKETS[0], PACKETS[2]]]))
+        error, bytes_ = own.new("char[]", library.WOLFAREN_PCAP_ERROR_ROOM), own.new("uint8_t[]", 200)
+        fields = own.new("struct wolfaren_pcap_packet[]", 3)
+        reader = library.wolfaren_pcap_open(os.fsencode(path), error)
+        rooms = [(40, 1, 1), (40, 0, 2), (len(PACKETS[0]), 1, 2), (200, 1, 3), (200, 0, 3)]
+        for room, wanted, number in rooms:
+            self.assertEqual(library.wolfaren_pcap_read(reader, fields, 3, bytes_, room, error), wanted)
+            self.assertEqual(own.string(error), b"" if number != 2 or wanted else b"a packet is larger than the buffer")
+            if wanted:
+                self.assertEqual((fields[0].number, fields[0].len), (number, len(PACKETS[0 if number == 2 else 2])))
+        library.wolfaren_pcap_close(reader)
+        library.wolfaren_pcap_close(own.NULL)
+
+    def test_no_condition(self):
+        own, library = captures()
+        counts, error = own.new("struct wolfaren_pcap_counts *"), own.new("char[]", library.WOLFAREN_PCAP_ERROR_ROOM)
+        self.assertEqual(library.wolfaren_pcap_filter(b"fault or", 8, b"/nonexistent", -1, counts, error),
+                         library.WOLFAREN_PCAP_CONDITION_FAILED)
+        self.assertEqual((own.string(error), own.errno), (b"the condition is not a filter", 0))
+
+    def test_no_output(self):
+        own, library = captures()
+        counts, error = own.new("struct wolfaren_pcap_counts *"), own.new("char[]", library.WOLFAREN_PCAP_ERROR_ROOM)
+        path = os.fsencode(self.file(capture([ethernet(PACKETS[0])])))
+        closed = os.open(os.devnull, os.O_RDONLY)
+        self.addCleanup(os.close, closed)
+        for output, reason in [(-1, errno.EBADF), (closed, errno.EINVAL)]:
+            self.assertEqual(library.wolfaren_pcap_filter(b"version 6", 9, path, output, counts, error),
+                             library.WOLFAREN_PCAP_OUTPUT_FAILED)
+            self.assertEqual((own.string(error), own.errno), (os.strerror(reason).encode(), reason))
+
+
+class Sanitized(Scratch):
+    """The C code, built with sanitizers, does with damaged captures what the package does."""
+
+    def setUp(self):
+        super().setUp()
+        flags = "-O1 -g -fsanitize=address,undefined -fno-sanitize-recover=all"
+        subprocess.run(["make", "-s", "-C", f"{ROOT}/programs", "pcap-shared", f"LIB={BUILD}", f"OUT={self.folder}/out",
+                        f"CFLAGS={flags}", "HARDENING="], check=True)
+        self.program = f"{self.folder}/captures"
+        library = f"{self.folder}/out/libwolfaren-pcap.so.0"
+        subprocess.run(["cc", "-Wall", "-Wextra", "-Werror", *flags.split(), f"-I{ROOT}/programs/ipcap",
+                        f"{ROOT}/tests/c/captures.c", library, f"-Wl,-rpath,{self.folder}/out", "-o", self.program], check=True)
+
+    def wanted(self, path):
+        """Returns what the program prints of a capture, by what the package reads and writes of it."""
+        lines, reason = [], ""
+        try:
+            found = packets(path)
+            lines.append(Reader(path).link_layer)
+            for it in found:
+                total = sum((i + 1) * byte for i, byte in enumerate(it.bytes))
+                lines.append(f"{it.number} {it.time_ns} {it.captured_len} {it.original_len} {it.ip_offset} {len(it.bytes)} "
+                             f"{total}")
+        except CaptureError as error:
+            reason = error.reason
+        try:
+            written = "0 %d %d " % Filter("version 6").write(path, f"{self.folder}/b.pcap")
+        except CaptureError as error:
+            written = f"2 .* {re.escape(error.reason)}"
+        return [*map(re.escape, lines), re.escape(reason), written]
+
+    def test_damaged_captures(self):
+        some = random.Random(3)
+        frames = [ethernet(it) for it in PACKETS[:4]] * 2 + [ethernet(ipv4(17, UDP) + bytes(150000))] * 2 + [ARP]
+        whole = capture(frames, snap_len=262144)
+        contents = [whole, whole[:-1], whole[:40], whole[:20], b""]
+        for _ in range(150):
+            damaged = bytearray(whole[:some.choice([len(whole), 700, 250])])
+            for _ in range(some.randrange(1, 5)):
+                damaged[some.randrange(min(len(damaged), 900))] = some.randrange(256)
+            contents.append(bytes(damaged))
+        paths = [self.file(content, f"{i}.pcap") for i, content in enumerate(contents)]
+        ran = subprocess.run([self.program, f"{self.folder}/c.pcap", *paths], capture_output=True, text=True, check=False)
+        self.assertEqual((ran.returncode, ran.stderr), (0, ""))
+        wanted = [line for path in paths for line in self.wanted(path)]
+        for found, line in zip(ran.stdout.splitlines(), wanted, strict=True):
+            self.assertRegex(found, f"^{line}$")
+
+
+class Writes(Scratch):
+    def setUp(self):
+        super().setUp()
+        frames = [ethernet(it) for it in PACKETS[:4]] + [ARP]
+        self.content = capture(frames * 3, snap_len=90, magic=NANOSECONDS)
+        self.input = self.file(self.content)
+        self.output = f"{self.folder}/b.pcap"
+
+    def left(self):
+        """Returns the files of the directory that the tests haven't made."""
+        return sorted({*os.listdir(self.folder)} - {"a.pcap"})
+
+    def test_as_ipcap(self):
+        for condition in ["version 6", "version 4", "not fault"]:
+            ipcap("filter", "-w", f"{self.folder}/c.pcap", condition, self.input)
+            counts = Filter(condition).write(self.input, self.output)
+            with open(self.output, "rb") as found, open(f"{self.folder}/c.pcap", "rb") as wanted:
+                self.assertEqual(found.read(), wanted.read())
+            self.assertEqual(counts, Written(15, int(counts.written)))
+            self.assertEqual(counts.written, sum(1 for _ in packets(self.output)) + (3 if condition == "not fault" else 0))
+        self.assertEqual(self.left(), ["b.pcap", "c.pcap"])
+
+    def test_counts(self):
+        self.assertEqual(Filter("version 4").write(self.input, self.output), (15, 3))
+        self.assertEqual(Filter(b"version 6").write(self.file(capture([]), "c.pcap"), self.output), (0, 0))
+        self.assertEqual(os.path.getsize(self.output), 24)
+
+    def test_truncated_input(self):
+        path = self.file(self.content[:-1], "damaged.pcap")
+        before = self.file(b"kept", "b.pcap")
+        for output in [before, f"{self.folder}/new.pcap"]:
+            with self.assertRaisesRegex(CaptureError, "can't read packet 15: ") as raised:
+                Filter("version 6").write(path, output)
+            self.assertEqual(raised.exception.path, path)
+        self.assertEqual(self.left(), ["b.pcap", "damaged.pcap"])
+        with open(before, "rb") as it:
+            self.assertEqual(it.read(), b"kept")
+
+    def test_missing_input(self):
+        with self.assertRaises(CaptureOSError) as raised:
+            Filter("version 6").write(f"{self.folder}/none", self.output)
+        self.assertEqual((raised.exception.errno, raised.exception.filename), (errno.ENOENT, f"{self.folder}/none"))
+        with self.assertRaisesRegex(CaptureError, "unknown file format"):
+            Filter("version 6").write(self.file(b"no capture", "x"), self.output)
+        self.assertEqual(self.left(), ["x"])
+
+    def test_same_file(self):
+        os.link(self.input, f"{self.folder}/link")
+        os.symlink(self.input, f"{self.folder}/symbolic")
+        for output in [self.input, f"{self.folder}/link", f"{self.folder}/symbolic"]:
+            with self.assertRaisesRegex(shutil.SameFileError, "are the same file"):
+                Filter("version 6").write(self.input, output)
+        with open(self.input, "rb") as it:
+            self.assertEqual(it.read(), self.content)
+
+    def test_refused_output(self):
+        for output, reason in [(f"{self.folder}/none/b.pcap", errno.ENOENT), (self.folder, errno.EISDIR),
+                               ("/dev/full", errno.ENOSPC)]:
+            with self.assertRaises(OSError) as raised:
+                Filter("version 6").write(self.input, output)
+            self.assertEqual((raised.exception.errno, raised.exception.filename), (reason, output))
+            self.assertNotIsInstance(raised.exception, CaptureError)
+        self.assertEqual(self.left(), [])
+
+    def test_stopped(self):
+        """Whatever stops the writing after the new file is there, that file is removed."""
+        for call in ["os.fsync", "os.replace"]:
+            with mock.patch(call, side_effect=KeyboardInterrupt), self.assertRaises(KeyboardInterrupt):
+                Filter("version 6").write(self.input, self.output)
+            self.assertEqual(self.left(), [])
+
+    def test_replaced_output(self):
+        """The output keeps its permissions, and a symbolic link to it stays. A new file has those of `open`."""
+        Filter("version 6").write(self.input, self.output)
+        with open(f"{self.folder}/opened", "w", encoding="ascii"):
+            pass
+        self.assertEqual(os.stat(self.output).st_mode, os.stat(f"{self.folder}/opened").st_mode)
+        os.chmod(self.output, 0o640)
+        os.symlink("b.pcap", f"{self.folder}/link")
+        self.assertEqual(Filter("version 4").write(self.input, f"{self.folder}/link"), (15, 3))
+        self.assertEqual(stat.S_IMODE(os.stat(self.output).st_mode), 0o640)
+        self.assertEqual((len(list(packets(self.output))), os.readlink(f"{self.folder}/link")), (3, "b.pcap"))
+
+    def test_pipe(self):
+        """An output that isn't a regular file is written, and not replaced."""
+        pipe, found = f"{self.folder}/pipe", []
+        os.mkfifo(pipe)
+        reader = threading.Thread(target=lambda: found.extend(packets(pipe)), daemon=True)
+        reader.start()
+        self.assertEqual(Filter("version 6").write(self.input, pipe), (15, 9))
+        reader.join(60)
+        self.assertEqual(len(found), 9)
+        self.assertTrue(stat.S_ISFIFO(os.stat(pipe).st_mode))
+        self.assertEqual(Filter("version 6").write(self.input, os.devnull), (15, 9))
+
+
+if __name__ == "__main__":
+    unittest.main()

@@ -12,7 +12,8 @@ import unittest
 
 from support import PACKETS, ROOT, capture, ethernet, file_header, ipcap, ipv6_chain, record, write
 
-from wolfaren.distributed import statistics_of_many
+from wolfaren import CaptureError
+from wolfaren.distributed import statistics_of_many, table
 
 WORKERS = 3
 
@@ -61,6 +62,13 @@ class Cluster(unittest.TestCase):
         self.assertRegex(damaged[paths[7]], "can't read packet 5: ")
         self.assertEqual(damaged[paths[40]], "No such file or directory")
 
+    def test_table(self):
+        paths = write_captures(self.folder, 12)
+        found = table(paths, ["chain", "src"]).compute(scheduler=self.client)
+        self.assertEqual(found.chain.value_counts().to_dict(), dict(statistics_of_many(paths, self.client).statistics.chains))
+        with self.assertRaisesRegex(CaptureError, "No such file"):
+            table([*paths, f"{self.folder}/none"], ["number"]).compute(scheduler=self.client)
+
     def test_no_captures(self):
         statistics, damaged = statistics_of_many([], self.client)
         self.assertEqual((statistics.packets, damaged), (0, {}))
@@ -93,15 +101,27 @@ class Document(unittest.TestCase):
         """The commands for GNU parallel and for Dask print what `ipcap stat` does for all captures."""
         with open(f"{ROOT}/docs/many-captures.md", encoding="utf-8") as it:
             blocks = re.findall(r"^```(\w+)\n(.*?)^```$", it.read(), re.M | re.S)
-        run = {"sh": ["bash", "-ec"], "python": [sys.executable, "-c"]}
+        run = {"sh": ["bash", "-e"], "python": [sys.executable]}
         self.assertEqual({language for language, _ in blocks}, set(run))
         with tempfile.TemporaryDirectory() as folder:
             wanted = ipcap("stat", "--json", *write_captures(folder, 12))
             environment = {**os.environ, "DASK_TEMPORARY_DIRECTORY": folder}
             for language, code in blocks:
-                ran = subprocess.run([*run[language], code], cwd=folder, env=environment, capture_output=True, text=True,
+                script = write(folder, f"script-{language}", code.encode())
+                ran = subprocess.run([*run[language], script], cwd=folder, env=environment, capture_output=True, text=True,
                                      check=False)
                 self.assertEqual((ran.returncode, ran.stdout), (0, wanted), f"{code}{ran.stderr}")
+
+    def test_table(self):
+        """The line that asks a table how many sources each chain has."""
+        with open(f"{ROOT}/docs/many-captures.md", encoding="utf-8") as it:
+            (line,) = re.findall(r"`(table\(.*?compute\(\))`", it.read())
+        code = f"import glob\nfrom wolfaren.distributed import table\nprint(({line}).to_dict())"
+        packet = PACKETS[2]
+        with tempfile.TemporaryDirectory() as folder:
+            write(folder, "a.pcap", capture([ethernet(it) for it in [packet, packet, packet[:12] + bytes(4) + packet[16:]]]))
+            ran = subprocess.run([sys.executable, "-c", code], cwd=folder, capture_output=True, text=True, check=False)
+        self.assertEqual((ran.returncode, ran.stdout), (0, "{'IPv4 -> 6': 2}\n"), ran.stderr)
 
 
 if __name__ == "__main__":

@@ -1,6 +1,7 @@
 """Tests of what the package is made of: the declared calls, the libraries that it refuses, and its wheel."""
 
 import glob
+import importlib.util
 import os
 import re
 import shutil
@@ -84,6 +85,20 @@ class Libraries(unittest.TestCase):
         status, said = run([sys.executable, "-c", DISSECT], WOLFAREN_LIB_DIR="/nonexistent")
         self.assertEqual(status, 1)
         self.assertIn("install libwolfaren.so.0, or set WOLFAREN_LIB_DIR", said)
+
+    def test_optional_packages(self):
+        """The import needs none of the packages that only some calls need."""
+        names = ["numpy", "pandas", "dask", "distributed", "matplotlib"]
+        blocked = f"import sys; sys.modules.update(dict.fromkeys({names})); import wolfaren.distributed; "
+        self.assertEqual(run([sys.executable, "-c", blocked + DISSECT]), (0, "17\n"))
+        for call, needs in [("wolfaren.table('')", "wolfaren.table needs pandas (Debian: python3-pandas)"),
+                            ("wolfaren.distributed.table([])", "wolfaren.distributed.table needs pandas (Debian: python3-pandas)")]:
+            status, said = run([sys.executable, "-c", blocked + call])
+            self.assertEqual((status, said.splitlines()[-1]), (1, f"ImportError: {needs}"))
+        blocked = blocked.replace("'numpy', 'pandas', ", "")
+        if importlib.util.find_spec("pandas"):
+            said = run([sys.executable, "-c", blocked + "wolfaren.distributed.table([])"])[1]
+            self.assertIn("ImportError: wolfaren.distributed.table needs dask (Debian: python3-dask)", said)
 
     def test_other_version(self):
         with tempfile.TemporaryDirectory() as folder:

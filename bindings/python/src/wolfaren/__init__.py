@@ -8,9 +8,10 @@ from ._dissection import (Dissection, End, ExtensionHeader, Fault, FaultKind, Fr
                           dissect, protocol_name)
 from ._filter import Filter, FilterError
 from ._statistics import MOST, CaptureError, CaptureOSError, Statistics, statistics_of
+from ._table import table
 
 __version__ = "0.1.0"
 
 __all__ = ["MOST", "CaptureError", "CaptureOSError", "Dissection", "End", "ExtensionHeader", "Fault", "FaultKind", "Filter",
            "FilterError", "Fragment", "FragmentKind", "Layer", "LenSource", "Packet", "Statistics", "Written", "dissect",
-           "packets", "protocol_name", "statistics_of"]
+           "packets", "protocol_name", "statistics_of", "table"]

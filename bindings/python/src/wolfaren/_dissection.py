@@ -17,9 +17,9 @@ _ROOM = 16
 
 # Where the fields that the library doesn't read are: in the header of each IP version (RFC 791, section 3.1, and RFC 8200,
 # section 3), and in a routing header (RFC 8200, section 4.4).
-_HOP_LIMIT = {4: 8, 6: 7}
-_SRC = {4: slice(12, 16), 6: slice(8, 24)}
-_DST = {4: slice(16, 20), 6: slice(24, 40)}
+HOP_LIMIT = {4: 8, 6: 7}
+SRC = {4: slice(12, 16), 6: slice(8, 24)}
+DST = {4: slice(16, 20), 6: slice(24, 40)}
 _ROUTING_TYPE = 2
 _SEGMENTS_LEFT = 3
 
@@ -246,17 +246,17 @@ class Dissection(_Parts):
     @property
     def src(self) -> Address | None:
         """The source address, or `None` if there is no IP header."""
-        return self._address(_SRC)
+        return self._address(SRC)
 
     @property
     def dst(self) -> Address | None:
         """The destination address, or `None` if there is no IP header."""
-        return self._address(_DST)
+        return self._address(DST)
 
     @property
     def hop_limit(self) -> int | None:
         """The hop limit of IPv6 or the time to live of IPv4, or `None` if there is no IP header."""
-        return self.base_header[_HOP_LIMIT[self.version]] if self.version else None
+        return self.base_header[HOP_LIMIT[self.version]] if self.version else None
 
     def _address(self, places: dict[int, slice]) -> Address | None:
         return ipaddress.ip_address(bytes(self.base_header[places[self.version]])) if self.version else None

@@ -3,23 +3,23 @@
 from __future__ import annotations
 
 import html
-import importlib
 import json
 import os
 import re
 import threading
-from collections.abc import Callable, Iterator, Mapping
+from collections.abc import Callable, Iterable, Iterator, Mapping
 from typing import TYPE_CHECKING, Any, Generic, TypeVar
 
 from ._dissection import End, FaultKind, Layer
 from ._library import Buffer, captures, ffi, lib
+from ._optional import import_for
 
 MOST = 2**64 - 1
 """The largest count. Counts stop there."""
 
 # What tables have room for, as in ipcap: names, and headers of a chain. What doesn't fit is counted as `other`.
 _NAMES = 4096
-_CHAIN_HEADERS = 64
+MOST_HEADERS = 64
 
 # The version of the JSON: major and minor number.
 _FORMAT = (1, 2)
@@ -32,7 +32,7 @@ _LAYERS = {Layer.IP_HEADER: "IP-header", Layer.IPV4_HEADER: "IPv4-header", Layer
            Layer.IPV6_PACKET: "IPv6-packet", Layer.IPV6_EXTENSION_HEADER: "IPv6-extension",
            Layer.HOP_BY_HOP_HEADER: "hop-by-hop", Layer.DESTINATION_OPTIONS_HEADER: "destination-options",
            Layer.ROUTING_HEADER: "routing", Layer.FRAGMENT_HEADER: "fragment"}
-_ENDS = {End.FAULT: " fault", End.TRUNCATED_HEADER: " truncated"}
+_ENDS: dict[int, str] = {End.FAULT: " fault", End.TRUNCATED_HEADER: " truncated"}
 
 _TYPE = ffi.typeof("struct wolfaren_statistics")
 _SCALARS = [name for name, field in _TYPE.fields if field.type is ffi.typeof("uint64_t")]
@@ -53,12 +53,17 @@ _ARRAYS = {name: _elements(name, ffi.sizeof(field.type) // 8) for name, field in
            if field.type.kind == "array"}
 
 
+def chain_name(version: int, numbers: Iterable[int], payload_number: int, end: int) -> str:
+    """Returns the name of a chain of at most `MOST_HEADERS` headers with these protocol numbers, as ipcap writes it."""
+    headers = ",".join(map(str, numbers))
+    return f"IPv{version} {headers}{' ' if headers else ''}-> {payload_number}{_ENDS.get(end, '')}"
+
+
 def _chain_of(parts: Any, headers: Any) -> str:
-    """Returns the name of a packet's chain, as ipcap writes it. `headers` has room for `_CHAIN_HEADERS`."""
-    if parts.headers > _CHAIN_HEADERS:
+    """Returns the name of a packet's chain. `headers` has room for `MOST_HEADERS`."""
+    if parts.headers > MOST_HEADERS:
         return "other"
-    numbers = ",".join(str(it.number) for it in headers[0:parts.headers])
-    return f"IPv{parts.version} {numbers}{' ' if numbers else ''}-> {parts.payload_number}{_ENDS.get(parts.end, '')}"
+    return chain_name(parts.version, (it.number for it in headers[0:parts.headers]), parts.payload_number, parts.end)
 
 
 def _chain_order(chain: tuple[str, int]) -> tuple[Any, ...]:
@@ -178,9 +183,9 @@ class Statistics:
     def add(self, packet: Buffer) -> None:
         """Counts the packet at the start of the bytes, which may be any bytes."""
         view = ffi.from_buffer("uint8_t[]", packet)
-        headers, parts = ffi.new("struct wolfaren_header[]", _CHAIN_HEADERS), ffi.new("struct wolfaren_dissection *")
+        headers, parts = ffi.new("struct wolfaren_header[]", MOST_HEADERS), ffi.new("struct wolfaren_dissection *")
         with self._lock:
-            lib.wolfaren_count_dissection(self._counts, view, len(view), headers, _CHAIN_HEADERS, parts)
+            lib.wolfaren_count_dissection(self._counts, view, len(view), headers, MOST_HEADERS, parts)
             if parts.version:
                 _add_to(self._chains, _chain_of(parts, headers), 1)
 
@@ -261,7 +266,7 @@ class Statistics:
 
         Raises `ImportError` if pandas isn't installed.
         """
-        pandas = _import("pandas", "to_series")
+        pandas = import_for("Statistics.to_series", "pandas")
         rows = list(self._rows(None))
         index = pandas.MultiIndex.from_tuples([row[:2] for row in rows], names=["name", "key"])
         return pandas.Series([row[2] for row in rows], index, dtype="uint64")
@@ -341,22 +346,13 @@ class Statistics:
         """
         read = self._copy()
         tables: dict[str, Mapping[Any, int]] = {"chains": read.chains, "payloads": read.payload_numbers, "faults": read.faults}
-        figure = _import("matplotlib.figure", "plot").Figure(figsize=(10, 8), layout="constrained")
+        figure = import_for("Statistics.plot", "matplotlib.figure").Figure(figsize=(10, 8), layout="constrained")
         for axes, (title, table) in zip(figure.subplots(len(tables), 1), tables.items()):
             bars = sorted(table.items(), key=lambda it: -it[1])[:most][::-1]
             axes.barh([str(key) for key, _ in bars], [count for _, count in bars])
             axes.set_title(title)
             axes.set_xlabel("packets")
         return figure
-
-
-def _import(module: str, call: str) -> Any:
-    """Returns a module that only one call needs."""
-    try:
-        return importlib.import_module(module)
-    except ImportError:
-        package = module.split(".")[0]
-        raise ImportError(f"Statistics.{call} needs {package} (Debian: python3-{package})") from None
 
 
 _NUMBER = r"(?:25[0-5]|2[0-4]\d|1\d\d|[1-9]?\d)"

@@ -1,14 +1,18 @@
-"""Counts many captures on the workers of a Dask cluster."""
+"""Counts many captures on the workers of a Dask cluster, and reads them into one table."""
 
 from __future__ import annotations
 
 import os
+import uuid
 from collections.abc import Iterable
 from typing import TYPE_CHECKING, NamedTuple
 
+from . import _table
+from ._optional import import_for
 from ._statistics import CaptureError, Statistics, statistics_of
 
 if TYPE_CHECKING:
+    from dask.dataframe import DataFrame
     from distributed import Client
 
 # How many results one task merges.
@@ -50,3 +54,25 @@ def statistics_of_many(paths: Iterable[str | os.PathLike[str]], client: Client) 
         parts = [client.submit(_merge, parts[i:i + _MERGED], pure=False) for i in range(0, len(parts), _MERGED)]
     counted: Counted = client.gather(parts[0]) if parts else _merge([])
     return counted
+
+
+def table(paths: Iterable[str | os.PathLike[str]], columns: Iterable[str] | None = None) -> DataFrame:
+    """Returns a Dask dataframe of the IP packets of many captures: a partition for each, which is its `wolfaren.table`.
+
+    A capture is read when its partition is computed, on the workers if there is a cluster: each path must then mean the
+    same file to all of them, and this package and pandas must be installed there. In each partition, the index starts at
+    0. Without paths, there is one partition without packets.
+
+    Raises `ValueError` for a column that `wolfaren.table` doesn't have, and `ImportError` if Dask or pandas isn't
+    installed. Computing a partition raises `CaptureError` if its capture can't be read to its end.
+    """
+    import_for("wolfaren.distributed.table", "pandas")
+    dataframe = import_for("wolfaren.distributed.table", "dask.dataframe")
+    empty = _table.empty_table(columns)
+    names = [os.fspath(it) for it in paths]
+    if not names:
+        frame: DataFrame = dataframe.from_pandas(empty, npartitions=1)
+        return frame
+    # the name is new each time, so that no result is kept for a file that has changed
+    frame = dataframe.from_map(_table.table, names, columns=[*empty.columns], meta=empty, token=uuid.uuid4().hex)
+    return frame

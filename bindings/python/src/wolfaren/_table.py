@@ -1,0 +1,226 @@
+"""Reads captures into tables."""
+
+from __future__ import annotations
+
+import contextlib
+import functools
+import ipaddress
+from collections.abc import Callable, Iterable
+from typing import TYPE_CHECKING, Any, NamedTuple
+
+from ._captures import Path, Reader
+from ._dissection import DST, HOP_LIMIT, SRC
+from ._library import ffi, lib
+from ._optional import import_for
+from ._statistics import MOST_HEADERS, chain_name
+
+if TYPE_CHECKING:
+    from pandas import DataFrame
+
+_FORMATS = {"size_t": "u8", "uint64_t": "u8", "int64_t": "i8", "uint32_t": "u4", "uint16_t": "u2", "uint8_t": "u1"}
+
+# Times have 64 bits of nanoseconds, so they end with this second, in the year 2262.
+_END_OF_TIMES = 2**63 // 10**9
+
+# How many texts of addresses and of chains are kept.
+_TEXTS = 1 << 16
+
+
+def _dtype_of(numpy: Any, kind: Any) -> Any:
+    """Returns numpy's type of a C struct."""
+    names, fields = zip(*kind.fields)
+    formats = [_dtype_of(numpy, it.type) if it.type.kind == "struct" else _FORMATS[it.type.cname] for it in fields]
+    return numpy.dtype({"names": names, "formats": formats, "offsets": [it.offset for it in fields],
+                        "itemsize": ffi.sizeof(kind)})
+
+
+class _Batch:
+    """Packets that were read together. The arrays refer to the reader's memory until it reads again."""
+
+    def __init__(self, numpy: Any, reader: Reader, count: int) -> None:
+        self.numpy = numpy
+        self.count = count
+        self.link_layer = reader.link_layer
+        self.bytes = ffi.buffer(reader.bytes)
+        self.fields = self.array(reader.fields, reader.fields_type())
+
+    def array(self, structs: Any, kind: Any) -> Any:
+        """Returns an array of C structs, one for each packet, as a numpy array."""
+        return self.numpy.frombuffer(ffi.buffer(structs), _dtype_of(self.numpy, kind), self.count)
+
+    @functools.cached_property
+    def dissected(self) -> tuple[Any, list[bytes | None]]:
+        """The dissection of each packet, and the numbers of its extension headers, or `None` if it has too many."""
+        parts = ffi.new("struct wolfaren_dissection[]", self.count)
+        headers = ffi.new("struct wolfaren_header[]", MOST_HEADERS)
+        kind = ffi.typeof("struct wolfaren_header")
+        numbers = memoryview(ffi.buffer(headers))[ffi.offsetof(kind, "number")::ffi.sizeof(kind)]
+        first, found = ffi.from_buffer("uint8_t[]", self.bytes), list[bytes | None]()
+        for i, (offset, size) in enumerate(zip(self.fields["offset"].tolist(), self.fields["len"].tolist())):
+            lib.wolfaren_dissect(first + offset, size, headers, MOST_HEADERS, parts + i)
+            count = parts[i].headers
+            found.append(bytes(numbers[:count]) if count <= MOST_HEADERS else None)
+        return self.array(parts, ffi.typeof("struct wolfaren_dissection")), found
+
+    def parts(self, name: str) -> Any:
+        """Returns a field of each dissection."""
+        return self.dissected[0][name]
+
+
+@functools.lru_cache(_TEXTS)
+def _address(address: bytes) -> str:
+    return str(ipaddress.ip_address(address))
+
+
+@functools.lru_cache(_TEXTS)
+def _chain(version: int, numbers: bytes | None, payload_number: int, end: int) -> str | None:
+    if version == 0:
+        return None
+    return "other" if numbers is None else chain_name(version, numbers, payload_number, end)
+
+
+def _times(batch: _Batch) -> Any:
+    seconds, rest = batch.fields["seconds"], batch.fields["nanoseconds"]
+    is_there = (0 <= seconds) & (seconds < _END_OF_TIMES)
+    return batch.numpy.where(is_there, 10**9 * batch.numpy.where(is_there, seconds, 0) + rest, -2**63)
+
+
+def _hop_limits(batch: _Batch) -> Any:
+    versions, every = batch.parts("version"), batch.numpy.frombuffer(batch.bytes, "u1")
+    at = batch.fields["offset"].astype("i8") + batch.numpy.where(versions == 4, HOP_LIMIT[4], HOP_LIMIT[6])
+    return batch.numpy.where(versions == 0, 0, every.take(at, mode="clip"))
+
+
+def _addresses(places: dict[int, slice], batch: _Batch) -> list[str | None]:
+    def text(offset: int, version: int) -> str | None:
+        place = places[version]
+        return _address(batch.bytes[offset + place.start:offset + place.stop])
+    rows = zip(batch.fields["offset"].tolist(), batch.parts("version").tolist())
+    return [text(offset, version) if version else None for offset, version in rows]
+
+
+def _chains(batch: _Batch) -> list[str | None]:
+    return [*map(_chain, batch.parts("version").tolist(), batch.dissected[1], batch.parts("payload_number").tolist(),
+                 batch.parts("end").tolist())]
+
+
+class _Column(NamedTuple):
+    dtype: str
+    values: Callable[[_Batch], Any]
+
+
+def _field(name: str) -> Callable[[_Batch], Any]:
+    return lambda batch: batch.fields[name]
+
+
+def _part(name: str) -> Callable[[_Batch], Any]:
+    return lambda batch: batch.parts(name)
+
+
+def _fault(name: str) -> Callable[[_Batch], Any]:
+    return lambda batch: batch.parts("fault")[name]
+
+
+_COLUMNS = {
+    "number": _Column("uint64", _field("number")),
+    "time": _Column("datetime64[ns]", _times),
+    "link_layer": _Column("object", lambda batch: [batch.link_layer] * batch.count),
+    "original_len": _Column("uint32", _field("original_len")),
+    "captured_len": _Column("uint32", _field("captured_len")),
+    "ip_offset": _Column("uint32", _field("ip_offset")),
+    "version": _Column("uint8", _part("version")),
+    "src": _Column("object", functools.partial(_addresses, SRC)),
+    "dst": _Column("object", functools.partial(_addresses, DST)),
+    "hop_limit": _Column("uint8", _hop_limits),
+    "chain": _Column("object", _chains),
+    "headers": _Column("uint32", _part("headers")),
+    "fragment": _Column("uint8", _part("fragment")),
+    "identification": _Column("uint32", _part("identification")),
+    "fragment_offset": _Column("uint32", _part("fragment_offset")),
+    "payload_number": _Column("uint8", _part("payload_number")),
+    "payload_offset": _Column("uint32", _part("payload_offset")),
+    "payload_len": _Column("uint32", _part("payload_len")),
+    "stated_len": _Column("uint32", _part("stated_len")),
+    "missing": _Column("uint32", _part("missing")),
+    "padding": _Column("uint32", _part("padding")),
+    "end": _Column("uint8", _part("end")),
+    "fault": _Column("uint8", _fault("kind")),
+    "fault_header": _Column("uint8", _fault("header")),
+    "fault_layer": _Column("uint8", _fault("layer")),
+    "fault_offset": _Column("uint32", _fault("offset")),
+}
+
+
+def _chosen(columns: Iterable[str] | None) -> dict[str, _Column]:
+    """Returns the columns with these names, or all."""
+    names = [*_COLUMNS] if columns is None else [*columns]
+    for name in names:
+        if name not in _COLUMNS:
+            raise ValueError(f"no column {name!r}: the columns are {', '.join(_COLUMNS)}")
+    return {name: _COLUMNS[name] for name in names}
+
+
+def _frame(chosen: dict[str, _Column], arrays: dict[str, list[Any]]) -> DataFrame:
+    """Returns a table of columns, each of which is made of the arrays of all batches."""
+    pandas, numpy = (import_for("wolfaren.table", it) for it in ["pandas", "numpy"])
+    joined = {name: numpy.concatenate([numpy.empty(0, column.dtype), *arrays[name]]) for name, column in chosen.items()}
+    if "time" in joined:
+        joined["time"] = pandas.DatetimeIndex(joined["time"], tz="UTC")
+    frame: DataFrame = pandas.DataFrame(joined)
+    return frame
+
+
+def empty_table(columns: Iterable[str] | None) -> DataFrame:
+    """Returns the table of a capture without packets."""
+    chosen = _chosen(columns)
+    return _frame(chosen, {name: [] for name in chosen})
+
+
+def table(path: Path, columns: Iterable[str] | None = None) -> DataFrame:
+    """Reads the IP packets of a capture into a pandas `DataFrame`, with a row for each and these columns, by default all.
+
+    Lengths and offsets are in bytes. The fields of a frame and of its packet:
+
+        number           uint64               the number of the frame in the capture: 1 for the first
+        time             datetime64[ns, UTC]  when the frame was captured; `NaT` if after 2262-04-11
+        link_layer       object               libpcap's name of the capture's link layer, such as `EN10MB`
+        original_len     uint32               the length of the frame
+        captured_len     uint32               how many bytes of the frame the capture has
+        ip_offset        uint32               where the packet begins in the frame
+
+    Those of its dissection, in which numbers that don't apply are 0:
+
+        version          uint8                4 or 6, or 0 if there is no IP header
+        src, dst         object               the addresses as text, or `None` if there is no IP header
+        hop_limit        uint8                the hop limit of IPv6 or the time to live of IPv4
+        chain            object               such as `IPv6 0,43 -> 17`, as in `Statistics.chains`, or `None`
+        headers          uint32               the number of extension headers
+        fragment         uint8                which fragment the packet is: a `FragmentKind`
+        identification   uint32               a number that all fragments of a packet share
+        fragment_offset  uint32               where the fragment lies in the payload
+        payload_number   uint8                the protocol number of what follows the headers
+        payload_offset   uint32               where the payload begins in the packet
+        payload_len      uint32               how many bytes of the payload are present
+        stated_len       uint32               the length of the packet as the IP header states it
+        missing          uint32               how many bytes of the stated length aren't present
+        padding          uint32               how many bytes follow the packet in the frame
+        end              uint8                why the headers end: an `End`
+        fault            uint8                the kind of error: a `FaultKind`
+        fault_header     uint8                the faulty extension header: a `Layer`
+        fault_layer      uint8                the layer that needs more bytes: a `Layer`
+        fault_offset     uint32               where that layer begins in the packet
+
+    Raises `CaptureError` if the capture can't be read to its end: a `CaptureOSError` if the system refused to open or to
+    read it; `packets` yields what comes before. Raises `ValueError` for another column, and `ImportError` if pandas isn't
+    installed.
+    """
+    import_for("wolfaren.table", "pandas")
+    numpy = import_for("wolfaren.table", "numpy")
+    chosen = _chosen(columns)
+    arrays: dict[str, list[Any]] = {name: [] for name in chosen}
+    with contextlib.closing(Reader(path)) as reader:
+        while count := reader.read():
+            batch = _Batch(numpy, reader, count)
+            for name, column in chosen.items():
+                arrays[name].append(numpy.array(column.values(batch), column.dtype))
+    return _frame(chosen, arrays)

@@ -94,7 +94,6 @@ class Dissections(unittest.TestCase):
         fault = dissect(ipv6(0, options(60) + b"\x11")).fault
         self.assertEqual((fault.kind, fault.header, fault.offset, fault.required_len, fault.len, fault.len_source),
                          (FaultKind.TOO_SHORT, Layer.DESTINATION_OPTIONS_HEADER, 48, 8, 1, LenSource.IPV6_PAYLOAD_LENGTH))
-        self.assertIn("8", str(fault))
         self.assertEqual(str(fault), fault.text)
         found = dissect(ipv6_chain([60, 0]))
         self.assertEqual((found.end, found.fault.kind), (End.FAULT, FaultKind.HOP_BY_HOP_NOT_AT_START))
@@ -103,6 +102,28 @@ class Dissections(unittest.TestCase):
         fault = dissect(ipv4(17, UDP, words=4)).fault
         self.assertEqual((fault.kind, fault.value), (FaultKind.IPV4_HEADER_LENGTH, 4))
         self.assertEqual(dissect(ipv4(51, b"\x11\0" + bytes(22))).fault.kind, FaultKind.ZERO_PAYLOAD_LEN)
+
+    def test_fault_texts(self):
+        """Each text names the faulty header and where it begins, as does `offset`."""
+        short, there = "not enough bytes for the", "1 there by the payload length"
+        for packet, offset, text in [
+                (ipv6(0, b"\x11"), 40, f"{short} hop-by-hop options header at offset 40: 8 needed, {there}"),
+                (ipv6(0, options(60) + b"\x11"), 48, f"{short} destination options header at offset 48: 8 needed, {there}"),
+                (ipv6(60, options(43) + b"\x11"), 48, f"{short} routing header at offset 48: 8 needed, {there}"),
+                (ipv6(60, options(44) + b"\x11"), 48, f"{short} fragment header at offset 48: 8 needed, {there}"),
+                (ipv6(60, options(51) + b"\x11"), 48, f"{short} authentication header at offset 48: 12 needed, {there}"),
+                (ipv6_chain([60, 43])[:50], 48, f"{short} routing header at offset 48: 8 needed, 2 there by the bytes that were passed"),
+                (ipv4(51, b"\x11"), 20, f"{short} authentication header at offset 20: 12 needed, 1 there by the total length"),
+                (ipv6_chain([60])[:30], 0, f"{short} IPv6 header at offset 0: 40 needed, 30 there by the bytes that were passed"),
+                (ipv4(17, UDP)[:19], 0, f"{short} IPv4 header at offset 0: 20 needed, 19 there by the bytes that were passed"),
+                (b"", 0, f"{short} IP header at offset 0: 1 needed, 0 there by the bytes that were passed"),
+                (ipv6_chain([60, 43, 0]), 56, "the hop-by-hop options header at offset 56 doesn't follow the IPv6 header directly"),
+                (ipv6(60, options(51) + b"\x11\0" + bytes(22)), 48, "the length field of the authentication header at offset 48 is 0"),
+                (ipv4(51, b"\x11\0" + bytes(22)), 20, "the length field of the authentication header at offset 20 is 0"),
+                (b"\x50" + bytes(60), 0, "the IP version is 5, where 4 or 6 is required"),
+                (ipv4(17, UDP, words=4), 0, "the internet header length of the IPv4 header is 4, where at least 5 is required")]:
+            fault = dissect(packet).fault
+            self.assertEqual((fault.offset, str(fault)), (offset, text))
 
     def test_truncated(self):
         whole = ipv6_chain([0, 43])

@@ -94,8 +94,8 @@ class LenSource(enum.IntEnum):
 
 @dataclasses.dataclass(frozen=True, slots=True)
 class Fault:
-    """An error. `str` formats it as text. Numbers that don't apply to its kind are 0; offsets count in bytes from the
-    start of the packet."""
+    """An error. `str` formats it as text, which names the faulty header and says where it is. Numbers that don't apply to
+    its kind are 0."""
 
     kind: FaultKind
     header: Layer
@@ -103,6 +103,7 @@ class Fault:
     layer: Layer
     """The layer that needs the bytes."""
     offset: int
+    """Where the faulty header or packet begins, in bytes from the start of the packet."""
     required_len: int
     len: int
     len_source: LenSource
@@ -262,13 +263,41 @@ class Dissection(_Parts):
         return ipaddress.ip_address(bytes(self.base_header[places[self.version]])) if self.version else None
 
 
-def _fault_of(fault: Any) -> Fault | None:
+_LAYER_NAMES = {
+    Layer.IP_HEADER: "the IP header", Layer.IPV4_HEADER: "the IPv4 header", Layer.IPV4_PACKET: "the IPv4 packet",
+    Layer.AUTHENTICATION_HEADER: "the authentication header", Layer.IPV6_HEADER: "the IPv6 header",
+    Layer.IPV6_PACKET: "the IPv6 packet", Layer.IPV6_EXTENSION_HEADER: "the extension header",
+    Layer.HOP_BY_HOP_HEADER: "the hop-by-hop options header", Layer.ROUTING_HEADER: "the routing header",
+    Layer.DESTINATION_OPTIONS_HEADER: "the destination options header", Layer.FRAGMENT_HEADER: "the fragment header"}
+
+_LEN_SOURCE_NAMES = {LenSource.SLICE: "the bytes that were passed", LenSource.IPV4_TOTAL_LENGTH: "the total length",
+                     LenSource.IPV6_PAYLOAD_LENGTH: "the payload length"}
+
+
+def _fault_text(fault: Any, offset: int) -> str:
+    """Returns the text of an error, which names the extension header where that of the library names its format."""
+    if fault.kind == lib.WOLFAREN_TOO_SHORT:
+        name = _LAYER_NAMES[Layer(fault.header or fault.layer)]
+        return (f"not enough bytes for {name} at offset {offset}: {fault.required_len} needed, {fault.len} there by "
+                f"{_LEN_SOURCE_NAMES[LenSource(fault.len_source)]}")
+    if fault.kind == lib.WOLFAREN_HOP_BY_HOP_NOT_AT_START:
+        return f"the hop-by-hop options header at offset {offset} doesn't follow the IPv6 header directly"
+    if fault.kind == lib.WOLFAREN_ZERO_PAYLOAD_LEN:
+        return f"the length field of the authentication header at offset {offset} is 0"
+    if fault.kind == lib.WOLFAREN_UNSUPPORTED_IP_VERSION:
+        return f"the IP version is {fault.value}, where 4 or 6 is required"
+    return f"the internet header length of the IPv4 header is {fault.value}, where at least 5 is required"
+
+
+def _fault_of(parts: Any) -> Fault | None:
+    """Returns the error of a dissection. The library has the offset of a header that is too short; other faulty headers
+    begin where the headers before them end."""
+    fault = parts.fault
     if fault.kind == lib.WOLFAREN_NO_FAULT:
         return None
-    text = ffi.new("char[]", lib.WOLFAREN_TEXT_ROOM)
-    size = lib.wolfaren_fault_text(ffi.addressof(fault), text, lib.WOLFAREN_TEXT_ROOM)
-    return Fault(FaultKind(fault.kind), Layer(fault.header), Layer(fault.layer), fault.offset, fault.required_len,
-                 fault.len, LenSource(fault.len_source), fault.value, bytes(ffi.buffer(text, size)).decode("ascii"))
+    offset = parts.payload_offset if fault.header and fault.kind != lib.WOLFAREN_TOO_SHORT else fault.offset
+    return Fault(FaultKind(fault.kind), Layer(fault.header), Layer(fault.layer), offset, fault.required_len, fault.len,
+                 LenSource(fault.len_source), fault.value, _fault_text(fault, offset))
 
 
 def dissect(packet: Buffer) -> Dissection:
@@ -301,7 +330,7 @@ def dissect(packet: Buffer) -> Dissection:
         missing=parts.missing,
         padding=view[len(view) - parts.padding:],
         end=End(parts.end),
-        fault=_fault_of(parts.fault))
+        fault=_fault_of(parts))
 
 
 def protocol_name(number: int) -> str:

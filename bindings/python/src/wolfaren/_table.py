@@ -91,6 +91,13 @@ def _hop_limits(batch: _Batch) -> Any:
     return batch.numpy.where(versions == 0, 0, every.take(at, mode="clip"))
 
 
+def _fault_offsets(batch: _Batch) -> Any:
+    """Returns `Fault.offset` of each packet, or 0."""
+    fault = batch.parts("fault")
+    is_at_end = (fault["header"] != lib.WOLFAREN_NO_LAYER) & (fault["kind"] != lib.WOLFAREN_TOO_SHORT)
+    return batch.numpy.where(is_at_end, batch.parts("payload_offset"), fault["offset"])
+
+
 def _addresses(places: dict[int, slice], batch: _Batch) -> list[str | None]:
     def text(offset: int, version: int) -> str | None:
         place = places[version]
@@ -147,7 +154,7 @@ _COLUMNS = {
     "fault": _Column("uint8", _fault("kind")),
     "fault_header": _Column("uint8", _fault("header")),
     "fault_layer": _Column("uint8", _fault("layer")),
-    "fault_offset": _Column("uint32", _fault("offset")),
+    "fault_offset": _Column("uint32", _fault_offsets),
 }
 
 
@@ -208,7 +215,7 @@ def table(path: Path, columns: Iterable[str] | None = None) -> DataFrame:
         fault            uint8                the kind of error: a `FaultKind`
         fault_header     uint8                the faulty extension header: a `Layer`
         fault_layer      uint8                the layer that needs more bytes: a `Layer`
-        fault_offset     uint32               where that layer begins in the packet
+        fault_offset     uint32               where the faulty header or packet begins in the packet
 
     Raises `CaptureError` if the capture can't be read to its end: a `CaptureOSError` if the system refused to open or to
     read it; `packets` yields what comes before. Raises `ValueError` for another column, and `ImportError` if pandas isn't

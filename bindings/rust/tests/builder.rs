@@ -197,12 +197,18 @@ fn fragment_fields() {
 #[test]
 fn texts_of_refusals() {
     use std::error::Error;
-    let refused = BuildError::from(ExtPayloadLenError::TooSmall(5));
-    let inner = refused.source().map(ToString::to_string);
-    assert_eq!(inner, Some(refused.to_string()));
-    let refused = BuildError::from(IcvLenError::Unaligned(3));
-    let inner = refused.source().map(ToString::to_string);
-    assert_eq!(inner, Some(refused.to_string()));
+    let inner = ExtPayloadLenError::TooSmall(5);
+    assert_eq!(
+        BuildError::from(inner.clone()).to_string(),
+        inner.to_string()
+    );
+    assert!(BuildError::from(inner).source().is_none());
+    let inner = IcvLenError::Unaligned(3);
+    assert_eq!(
+        BuildError::from(inner.clone()).to_string(),
+        inner.to_string()
+    );
+    assert!(BuildError::from(inner).source().is_none());
     let refused = BuildError::HopByHopNotAtStart;
     assert!(refused.source().is_none());
     assert_eq!(

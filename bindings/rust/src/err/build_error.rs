@@ -29,8 +29,8 @@ impl core::error::Error for BuildError {
     fn source(&self) -> Option<&(dyn core::error::Error + 'static)> {
         match self {
             BuildError::HopByHopNotAtStart => None,
-            BuildError::PayloadLen(e) => Some(e),
-            BuildError::IcvLen(e) => Some(e),
+            BuildError::PayloadLen(e) => e.source(),
+            BuildError::IcvLen(e) => e.source(),
         }
     }
 }

@@ -27,7 +27,7 @@ impl core::error::Error for HeaderError {
     fn source(&self) -> Option<&(dyn core::error::Error + 'static)> {
         match self {
             HeaderError::HopByHopNotAtStart => None,
-            HeaderError::IpAuth(e) => Some(e),
+            HeaderError::IpAuth(e) => e.source(),
         }
     }
 }

@@ -1,7 +1,7 @@
 //! Errors of parsing headers, chains and packets.
 //!
-//! Each error implements `Display` and `core::error::Error`. An error that wraps another displays the inner error's
-//! text and has it as its source.
+//! Each error implements `Display` and `core::error::Error`. An error that wraps another has the text and the source of
+//! the inner error, so a report of an error with its sources has each text once. A `match` returns the inner error.
 #[cfg(feature = "alloc")]
 mod build_error;
 mod filter_error;
@@ -21,8 +21,8 @@ pub use layer::Layer;
 pub use len_error::LenError;
 pub use value_too_big_error::ValueTooBigError;
 
-/// Implements `Display` and `Error` for an error whose variants all wrap another error: its text is that of the inner
-/// error, which is also its source.
+/// Implements `Display` and `Error` for an error whose variants all wrap another error: its text and its source are those
+/// of the inner error.
 macro_rules! held {
     ($error:ident { $($variant:ident),+ }) => {
         impl core::fmt::Display for $error {
@@ -36,7 +36,7 @@ macro_rules! held {
         impl core::error::Error for $error {
             fn source(&self) -> Option<&(dyn core::error::Error + 'static)> {
                 match self {
-                    $($error::$variant(e) => Some(e),)+
+                    $($error::$variant(e) => core::error::Error::source(e),)+
                 }
             }
         }

@@ -7,14 +7,15 @@
 #                     with its shared library if Debian's cross-compiler is there)
 # make programs       build the shared libraries and the programs ipexts and ipcap, which needs a C compiler and libpcap
 # make wheel          pack the Python package with the shared libraries, as build/wolfaren-VERSION-py3-none-linux_x86_64.whl
-# make install        install what `make programs` has built: the library, the programs and their manual pages. Needs
-#                     neither rt nor a compiler (PREFIX=/usr/local, also LIBDIR, BINDIR, INCLUDEDIR and MANDIR;
-#                     DESTDIR=.. is prepended to the paths)
+# make install        install what `make programs` has built: the libraries, their headers, the programs and their manual
+#                     pages. Needs neither rt nor a compiler (PREFIX=/usr/local, also LIBDIR, BINDIR, INCLUDEDIR and
+#                     MANDIR; DESTDIR=.. is prepended to the paths)
 # make install-lib    install the library alone: the archive of `make lib`, and the shared library if it is built
 # make uninstall      remove what `make install` installs
-# make dist           pack library, programs, page, Rust and Python package for machines without Rattle, as
+# make dist           pack libraries, programs, page, Rust and Python package for machines without Rattle, as
 #                     build/wolfaren-VERSION-x86_64-linux.tar.gz, and without the programs for ARM64
-# make deb            make Debian packages of library, header and ipcap, in build/ (MAINTAINER='NAME <ADDRESS>')
+# make deb            make Debian packages of libraries, headers, programs and Python package, in build/
+#                     (MAINTAINER='NAME <ADDRESS>')
 # make test-c         test the library, ipcap, and the packages in bindings/rust and bindings/python
 # make page           build the files that page/index.html needs
 # make test-page      test that page in Chromium
@@ -32,7 +33,7 @@
 #
 # The last eight and make test-c take CARGO_FLAGS="..", additional flags for Cargo, such as one that locates the crate
 # on a machine without network access.
-.PHONY: run try test lib lib-x86_64 lib-aarch64 programs wheel install install-lib uninstall dist deb test-c page test-page mutants memory bench bench-border cost diff diff-test diff-fields fuzz fuzz-test
+.PHONY: run try test lib lib-x86_64 lib-aarch64 programs wheel install install-lib install-pcap-lib uninstall dist deb test-c page test-page mutants memory bench bench-border cost diff diff-test diff-fields fuzz fuzz-test
 .SILENT:
 
 RT_IS_THERE = command -v rt >/dev/null || { \
@@ -102,18 +103,9 @@ programs: lib
 	scripts/prove ipexts
 	cp build/ipcap.out/ipcap build/ipcap.out/*.so.0 crates/ipexts/out/ipexts build/
 
-# A copy is built, in which the build leaves its files, and which has the files that the links in the package name. The
-# first python3 on the PATH may not be Debian's.
 wheel: programs
 	$(PYTHON_IS_THERE)
-	rm -rf build/python
-	scripts/copy-python build/python
-	for python in python3 /usr/bin/python3; do \
-		$$python -c 'import setuptools, wheel, pip' 2>/dev/null || continue; \
-		WOLFAREN_LIB_DIR=$(CURDIR)/build exec $$python -m pip wheel --quiet --no-build-isolation --no-deps --no-index -w build build/python; \
-	done; \
-	echo "Python's pip, setuptools or wheel is missing (Debian: python3-pip python3-setuptools python3-wheel)." >&2; exit 1
-	rm -rf build/python
+	scripts/wheel build build
 
 PREFIX = /usr/local
 BINDIR = $(PREFIX)/bin
@@ -124,6 +116,16 @@ DESTDIR =
 INSTALL = install
 BUILD = build
 
+# Writes a file for pkg-config.
+PKG_CONFIG_FILE = sed -e 's|@PREFIX@|$(PREFIX)|; s|@INCLUDEDIR@|$(INCLUDEDIR)|; s|@LIBDIR@|$(LIBDIR)|; s|@VERSION@|$(VERSION)|' \
+	include/$(1).pc.in > $(DESTDIR)$(LIBDIR)/pkgconfig/$(1).pc && chmod 644 $(DESTDIR)$(LIBDIR)/pkgconfig/$(1).pc
+
+# Updates the loader's cache, unless the files are only staged in DESTDIR, and says so if the loader doesn't find them.
+UPDATE_LOADER = [ -n "$(DESTDIR)" ] || { PATH="$$PATH:/usr/sbin:/sbin"; ldconfig 2>/dev/null; \
+	ldconfig -p | grep -q ' $(abspath $(LIBDIR))/libwolfaren.so.0$$'; } || { \
+	echo "The loader doesn't find libwolfaren.so.0 in $(abspath $(LIBDIR)) yet. Run 'ldconfig' as root if /etc/ld.so.conf has that"; \
+	echo "directory; otherwise set LD_LIBRARY_PATH to it."; }
+
 install-lib:
 	[ -f $(BUILD)/libwolfaren.a ] || { echo "There is nothing to install: run 'make lib' first." >&2; exit 1; }
 	$(INSTALL) -d $(DESTDIR)$(INCLUDEDIR) $(DESTDIR)$(LIBDIR)/pkgconfig
@@ -132,25 +134,31 @@ install-lib:
 	if [ -f $(BUILD)/libwolfaren.so.0 ]; then \
 		$(INSTALL) -m 644 $(BUILD)/libwolfaren.so.0 $(DESTDIR)$(LIBDIR)/ && \
 		ln -sf libwolfaren.so.0 $(DESTDIR)$(LIBDIR)/libwolfaren.so; fi
-	sed -e 's|@PREFIX@|$(PREFIX)|; s|@INCLUDEDIR@|$(INCLUDEDIR)|; s|@LIBDIR@|$(LIBDIR)|; s|@VERSION@|$(VERSION)|' \
-		include/wolfaren.pc.in > $(DESTDIR)$(LIBDIR)/pkgconfig/wolfaren.pc
-	chmod 644 $(DESTDIR)$(LIBDIR)/pkgconfig/wolfaren.pc
+	$(call PKG_CONFIG_FILE,wolfaren)
+	[ ! -f $(BUILD)/libwolfaren.so.0 ] || $(UPDATE_LOADER)
 
-install: install-lib
-	[ -f build/ipcap ] && [ -f build/ipexts ] && [ -f build/libwolfaren-pcap.so.0 ] || { echo "The programs are missing: run 'make programs' first." >&2; exit 1; }
-	$(INSTALL) -d $(DESTDIR)$(BINDIR) $(DESTDIR)$(MANDIR)/man1
+install-pcap-lib: install-lib
+	[ -f build/libwolfaren-pcap.so.0 ] || { echo "libwolfaren-pcap is missing: run 'make programs' first." >&2; exit 1; }
+	$(INSTALL) -m 644 programs/ipcap/wolfaren-pcap.h $(DESTDIR)$(INCLUDEDIR)/
 	$(INSTALL) -m 644 build/libwolfaren-pcap.so.0 $(DESTDIR)$(LIBDIR)/
+	ln -sf libwolfaren-pcap.so.0 $(DESTDIR)$(LIBDIR)/libwolfaren-pcap.so
+	$(call PKG_CONFIG_FILE,wolfaren-pcap)
+
+install: install-pcap-lib
+	[ -f build/ipcap ] && [ -f build/ipexts ] || { echo "The programs are missing: run 'make programs' first." >&2; exit 1; }
+	$(INSTALL) -d $(DESTDIR)$(BINDIR) $(DESTDIR)$(MANDIR)/man1
 	$(INSTALL) -m 755 build/ipcap build/ipexts $(DESTDIR)$(BINDIR)/
 	$(INSTALL) -m 644 programs/ipcap/ipcap.1 programs/ipexts.1 $(DESTDIR)$(MANDIR)/man1/
 
 uninstall:
 	rm -f $(DESTDIR)$(INCLUDEDIR)/wolfaren.h $(DESTDIR)$(LIBDIR)/pkgconfig/wolfaren.pc
 	rm -f $(DESTDIR)$(LIBDIR)/libwolfaren.a $(DESTDIR)$(LIBDIR)/libwolfaren.so.0 $(DESTDIR)$(LIBDIR)/libwolfaren.so
-	rm -f $(DESTDIR)$(LIBDIR)/libwolfaren-pcap.so.0
+	rm -f $(DESTDIR)$(INCLUDEDIR)/wolfaren-pcap.h $(DESTDIR)$(LIBDIR)/pkgconfig/wolfaren-pcap.pc
+	rm -f $(DESTDIR)$(LIBDIR)/libwolfaren-pcap.so.0 $(DESTDIR)$(LIBDIR)/libwolfaren-pcap.so
 	rm -f $(DESTDIR)$(BINDIR)/ipcap $(DESTDIR)$(BINDIR)/ipexts
 	rm -f $(DESTDIR)$(MANDIR)/man1/ipcap.1 $(DESTDIR)$(MANDIR)/man1/ipexts.1
 
-dist: programs page
+dist: programs page wheel
 	scripts/dist
 	! command -v $(ARM64_CC) >/dev/null || { $(MAKE) lib TARGET=aarch64 && scripts/dist aarch64; }
 

@@ -5,6 +5,8 @@
  * RFC 8200, section 4, and authentication (51) of RFC 4302, section 2. An IPv4 packet has at most one extension header,
  * an authentication header.
  *
+ * The header needs C99 or C++11, or a later standard.
+ *
  * For every call:
  *  - Bytes to parse are passed as a pointer and a length. They are read and never written. The pointer may be null if
  *    the length is 0. Nothing is read past the length, and no pointer is kept.

@@ -1,6 +1,7 @@
 /*
  * The library libwolfaren-pcap, by which other languages read captures with libpcap: they count packets as `ipcap stat`
- * does, read them one after another, and filter them as `ipcap filter` does.
+ * does, read them one after another, and filter them as `ipcap filter` does. The header needs C99 or C++11, or a later
+ * standard.
  *
  * For every call: a path is that of a file; `-` has no special meaning. `error` has room for WOLFAREN_PCAP_ERROR_ROOM
  * bytes. A call that fails writes why, with a terminating null byte; otherwise, `error` is the empty text. Each call

@@ -9,9 +9,11 @@ import subprocess
 import sys
 import tempfile
 import unittest
+import zipfile
 
 from support import BUILD, PACKETS, ROOT, capture, ethernet, write
 
+import wolfaren
 from wolfaren import Statistics
 from wolfaren._library import ffi, lib
 from wolfaren._statistics import _Field
@@ -155,21 +157,29 @@ class Wheel(unittest.TestCase):
         self.assertIn("wolfaren.h, wolfaren-pcap.h missing: run `make wheel`", said)
 
     def test_wheel(self):
-        """A wheel with the libraries is built from a copy of the sources, and used where nothing else is found."""
+        """A wheel with the libraries is packed, its path is printed, and it is used where nothing else is found."""
         with tempfile.TemporaryDirectory() as folder:
-            subprocess.run([f"{ROOT}/scripts/copy-python", f"{folder}/source"], check=True)
             pip = [sys.executable, "-m", "pip", "--disable-pip-version-check"]
-            status, said = run([*pip, "wheel", "--no-build-isolation", "--no-deps", "--no-index", "-w", folder,
-                                f"{folder}/source"], WOLFAREN_LIB_DIR=os.path.abspath(BUILD))
-            self.assertEqual(status, 0, said)
-            (wheel,) = glob.glob(f"{folder}/wolfaren-*-py3-none-linux_x86_64.whl")
+            wheel = f"{folder}/wolfaren-{wolfaren.__version__}-py3-none-linux_x86_64.whl"
+            self.assertEqual(run([f"{ROOT}/scripts/wheel", folder, BUILD]), (0, f"{wheel}\n"))
+            self.assertEqual(os.listdir(folder), [os.path.basename(wheel)])
             status, said = run([*pip, "install", "--no-deps", "--no-index", "--target", f"{folder}/target", wheel])
             self.assertEqual(status, 0, said)
+            with open(glob.glob(f"{folder}/target/wolfaren-*.dist-info/METADATA")[0], encoding="utf-8") as it:
+                self.assertNotIn("](..", it.read())
             for name in ["py.typed", "wolfaren.h", "libwolfaren.so.0", "libwolfaren-pcap.so.0"]:
                 self.assertTrue(os.path.isfile(f"{folder}/target/wolfaren/{name}"), name)
             used = ["env", "-u", "WOLFAREN_LIB_DIR", f"PYTHONPATH={folder}/target", sys.executable, "-c"]
             self.assertEqual(run([*used, DISSECT]), (0, "17\n"))
             self.assertIn("CaptureOSError: /nonexistent: No such file", run([*used, COUNT])[1])
+
+    def test_plain_wheel(self):
+        """A wheel without the libraries is for any machine."""
+        with tempfile.TemporaryDirectory() as folder:
+            wheel = f"{folder}/wolfaren-{wolfaren.__version__}-py3-none-any.whl"
+            self.assertEqual(run([f"{ROOT}/scripts/wheel", folder]), (0, f"{wheel}\n"))
+            self.assertNotIn(".so", "".join(zipfile.ZipFile(wheel).namelist()))
+            self.assertEqual(run([f"{ROOT}/scripts/wheel", folder, folder])[0], 1)
 
 
 if __name__ == "__main__":

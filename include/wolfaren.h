@@ -5,6 +5,16 @@
  * RFC 8200, section 4, and authentication (51) of RFC 4302, section 2. An IPv4 packet has at most one extension header,
  * an authentication header.
  *
+ * Which call to choose:
+ *  - For packets as they were captured, which may be truncated or fragments: wolfaren_dissect.
+ *  - For a condition on such packets: wolfaren_parse_filter once, and then wolfaren_filter_matches.
+ *  - For statistics of such packets: wolfaren_count_packet, or wolfaren_count_dissection to dissect them too, and
+ *    wolfaren_merge_statistics.
+ *  - For packets that must be whole, where an error is a reason to drop them: wolfaren_find_payload, or
+ *    wolfaren_parse_packet for the extension headers too. Neither stops at a later fragment, as wolfaren_dissect does.
+ *  - For extension headers without an IP header: wolfaren_parse_chain, or wolfaren_next_header for one after another.
+ *  - For new chains, or headers in another order: wolfaren_link_headers and wolfaren_write_headers.
+ *
  * The header needs C99 or C++11, or a later standard.
  *
  * For every call:

@@ -7,6 +7,7 @@ import os
 import pickle
 import random
 import re
+import resource
 import shutil
 import stat
 import struct
@@ -196,18 +197,44 @@ class Calls(Scratch):
             self.assertEqual((own.string(error), own.errno), (os.strerror(reason).encode(), reason))
 
 
-class Sanitized(Scratch):
-    """The C code, built with sanitizers, does with damaged captures what the package does."""
+class Program(Scratch):
+    """A C program that makes the library's calls, tests/c/captures.c."""
 
-    def setUp(self):
-        super().setUp()
-        flags = "-O1 -g -fsanitize=address,undefined -fno-sanitize-recover=all"
-        subprocess.run(["make", "-s", "-C", f"{ROOT}/programs", "pcap-shared", f"LIB={BUILD}", f"OUT={self.folder}/out",
-                        f"CFLAGS={flags}", "HARDENING="], check=True)
-        self.program = f"{self.folder}/captures"
-        library = f"{self.folder}/out/libwolfaren-pcap.so.0"
-        subprocess.run(["cc", "-Wall", "-Wextra", "-Werror", *flags.split(), f"-I{ROOT}/programs/ipcap",
-                        f"{ROOT}/tests/c/captures.c", library, f"-Wl,-rpath,{self.folder}/out", "-o", self.program], check=True)
+    def build(self, library, *flags):
+        """Builds the program with libwolfaren-pcap in a directory, and returns its path."""
+        program = f"{self.folder}/captures"
+        subprocess.run(["cc", "-std=c99", "-D_POSIX_C_SOURCE=200809L", "-Wall", "-Wextra", "-Werror", *flags,
+                        f"-I{ROOT}/programs/ipcap", f"{ROOT}/tests/c/captures.c", f"{library}/libwolfaren-pcap.so.0",
+                        f"-Wl,-rpath,{os.path.abspath(library)}", "-o", program], check=True)
+        return program
+
+    def test_refused_memory(self):
+        """Each failed allocation is an error, unless the call gets by without that memory."""
+        program, refusing = self.build(BUILD), f"{self.folder}/refuse.so"
+        subprocess.run(["cc", "-O1", "-shared", "-fPIC", "-o", refusing, f"{ROOT}/scripts/refuse-memory.c", "-ldl"], check=True)
+        words = [program, f"{self.folder}/c.pcap", self.file(capture([ethernet(it) for it in PACKETS[:4]]))]
+        wanted = subprocess.run(words, capture_output=True, check=True).stdout
+        failed = 0
+        for number in range(1, 40):
+            environment = {**os.environ, "LD_PRELOAD": refusing, "REFUSED_ALLOCATION": str(number)}
+            ran = subprocess.run(words, env=environment, capture_output=True, check=False)
+            self.assertIn(ran.returncode, [0, 2], number)  # 2: the program's own buffer
+            if ran.stdout != wanted and ran.returncode == 0:
+                self.assertRegex(ran.stdout, b"memory|malloc|read error|write failed", number)
+            failed += ran.stdout != wanted
+        self.assertGreater(failed, 4)
+
+    def test_damaged_captures(self):
+        """The C code, built with sanitizers, does with damaged captures what the package does."""
+        flags = ["-O1", "-g", "-fsanitize=address,undefined", "-fno-sanitize-recover=all"]
+        subprocess.run(["make", "-s", "-C", f"{ROOT}/programs", "pcap-shared", f"LIB={os.path.abspath(BUILD)}",
+                        f"OUT={self.folder}/out", f"CFLAGS={' '.join(flags)}", "HARDENING="], check=True)
+        program, paths = self.build(f"{self.folder}/out", *flags), self.damaged()
+        ran = subprocess.run([program, f"{self.folder}/c.pcap", *paths], capture_output=True, text=True, check=False)
+        self.assertEqual((ran.returncode, ran.stderr), (0, ""))
+        wanted = [line for path in paths for line in self.wanted(path)]
+        for found, line in zip(ran.stdout.splitlines(), wanted, strict=True):
+            self.assertRegex(found, f"^{line}$")
 
     def wanted(self, path):
         """Returns what the program prints of a capture, by what the package reads and writes of it."""
@@ -227,7 +254,8 @@ class Sanitized(Scratch):
             written = f"2 .* {re.escape(error.reason)}"
         return [*map(re.escape, lines), re.escape(reason), written]
 
-    def test_damaged_captures(self):
+    def damaged(self):
+        """Writes captures that are damaged in different ways, and returns their paths."""
         some = random.Random(3)
         frames = [ethernet(it) for it in PACKETS[:4]] * 2 + [ethernet(ipv4(17, UDP) + bytes(150000))] * 2 + [ARP]
         whole = capture(frames, snap_len=262144)
@@ -237,12 +265,7 @@ class Sanitized(Scratch):
             for _ in range(some.randrange(1, 5)):
                 damaged[some.randrange(min(len(damaged), 900))] = some.randrange(256)
             contents.append(bytes(damaged))
-        paths = [self.file(content, f"{i}.pcap") for i, content in enumerate(contents)]
-        ran = subprocess.run([self.program, f"{self.folder}/c.pcap", *paths], capture_output=True, text=True, check=False)
-        self.assertEqual((ran.returncode, ran.stderr), (0, ""))
-        wanted = [line for path in paths for line in self.wanted(path)]
-        for found, line in zip(ran.stdout.splitlines(), wanted, strict=True):
-            self.assertRegex(found, f"^{line}$")
+        return [self.file(content, f"{i}.pcap") for i, content in enumerate(contents)]
 
 
 class Writes(Scratch):
@@ -301,13 +324,27 @@ class Writes(Scratch):
             self.assertEqual(it.read(), self.content)
 
     def test_refused_output(self):
-        for output, reason in [(f"{self.folder}/none/b.pcap", errno.ENOENT), (self.folder, errno.EISDIR),
-                               ("/dev/full", errno.ENOSPC)]:
+        for output, reason in [(f"{self.folder}/none/b.pcap", errno.ENOENT), (self.folder, errno.EISDIR)]:
             with self.assertRaises(OSError) as raised:
                 Filter("version 6").write(self.input, output)
             self.assertEqual((raised.exception.errno, raised.exception.filename), (reason, output))
             self.assertNotIsInstance(raised.exception, CaptureError)
         self.assertEqual(self.left(), [])
+
+    def test_output_too_large(self):
+        """The system refuses the last bytes of the output, or those that fill its buffer."""
+        large = self.file(capture([ethernet(PACKETS[0])] * 2000), "large.pcap")
+        limits = resource.getrlimit(resource.RLIMIT_FSIZE)
+        for path, most in [(self.input, 100), (large, 100000)]:
+            resource.setrlimit(resource.RLIMIT_FSIZE, (most, limits[1]))
+            try:
+                with self.assertRaises(OSError) as raised:
+                    Filter("version 6").write(path, self.output)
+            finally:
+                resource.setrlimit(resource.RLIMIT_FSIZE, limits)
+            self.assertEqual((raised.exception.errno, raised.exception.filename), (errno.EFBIG, self.output))
+            self.assertNotIsInstance(raised.exception, CaptureError)
+            self.assertEqual(self.left(), ["large.pcap"])
 
     def test_stopped(self):
         """Whatever stops the writing after the new file is there, that file is removed."""
@@ -338,7 +375,6 @@ class Writes(Scratch):
         reader.join(60)
         self.assertEqual(len(found), 9)
         self.assertTrue(stat.S_ISFIFO(os.stat(pipe).st_mode))
-        self.assertEqual(Filter("version 6").write(self.input, os.devnull), (15, 9))
 
 
 if __name__ == "__main__":

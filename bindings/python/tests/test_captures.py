@@ -365,6 +365,20 @@ class Writes(Scratch):
         self.assertEqual(stat.S_IMODE(os.stat(self.output).st_mode), 0o640)
         self.assertEqual((len(list(packets(self.output))), os.readlink(f"{self.folder}/link")), (3, "b.pcap"))
 
+    def test_read_only_output(self):
+        """A file that may not be written isn't replaced either."""
+        before, user = self.file(b"kept", "b.pcap"), os.geteuid()
+        os.chmod(before, 0o444)
+        os.chmod(self.folder, 0o777)
+        if user == 0:
+            os.seteuid(65534)
+        try:
+            with self.assertRaises(PermissionError) as raised:
+                Filter("version 6").write(self.input, before)
+        finally:
+            os.seteuid(user)
+        self.assertEqual((raised.exception.filename, self.left(), os.path.getsize(before)), (before, ["b.pcap"], 4))
+
     def test_pipe(self):
         """An output that isn't a regular file is written, and not replaced."""
         pipe, found = f"{self.folder}/pipe", []

@@ -131,19 +131,32 @@ def write_matching(condition: str, path_in: Path, path_out: Path) -> Written:
     return _write_aside(condition, path_in, path_out)
 
 
+def _mode_of(path: str) -> int | None:
+    """Returns the permissions of a file, which this process must be allowed to write, or `None` if there is no file."""
+    try:
+        descriptor = os.open(path, os.O_WRONLY | os.O_CLOEXEC)
+    except FileNotFoundError:
+        return None
+    try:
+        return stat.S_IMODE(os.fstat(descriptor).st_mode)
+    finally:
+        os.close(descriptor)
+
+
 def _write_aside(condition: str, path_in: Path, path_out: Path) -> Written:
     """Filters a capture into a new file beside the output, which then takes its place. If that fails, removes it."""
     output = os.path.realpath(path_out)
     aside = os.path.join(os.path.dirname(output), f".wolfaren-{secrets.token_hex(8)}")
     with contextlib.ExitStack() as undo:
         try:
+            mode = _mode_of(output)
             descriptor = os.open(aside, os.O_WRONLY | os.O_CREAT | os.O_EXCL | os.O_CLOEXEC, 0o666)
         except OSError as error:
             raise OSError(error.errno, error.strerror, os.fspath(path_out)) from None
         undo.callback(os.unlink, aside)
         with open(descriptor, "wb", buffering=0):
-            if os.path.exists(output):
-                os.fchmod(descriptor, stat.S_IMODE(os.stat(output).st_mode))
+            if mode is not None:
+                os.fchmod(descriptor, mode)
             written = _filter(condition, path_in, path_out, descriptor)
             os.fsync(descriptor)
         os.replace(aside, output)

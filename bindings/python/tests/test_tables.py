@@ -77,7 +77,7 @@ class Tables(Scratch):
         self.assertEqual((found.fragment[3], found.fragment_offset[3]), (FragmentKind.MIDDLE, 1480))
         fault = found.loc[1, ["fault", "fault_header", "fault_layer", "fault_offset"]].tolist()
         self.assertEqual(fault, [FaultKind.TOO_SHORT, Layer.DESTINATION_OPTIONS_HEADER, Layer.IPV6_EXTENSION_HEADER, 40])
-        self.assertEqual(found.payload_len.tolist(), [len(UDP), 0, len(TCP), 8, 0])
+        self.assertEqual(found.payload_len.tolist(), [len(UDP), 1, len(TCP), 8, 0])
 
     def test_as_dissected(self):
         """Each row of some thousand packets, many of them damaged, is what `packets` and `dissect` return."""
@@ -140,7 +140,7 @@ class DaskTables(Scratch):
         self.assertEqual(found.npartitions, 3)
         for partition, path in zip(found.partitions, paths):
             pandas.testing.assert_frame_equal(partition.compute(), table(path))
-        self.assertEqual(found.payload_len.sum().compute(), 2 * (len(UDP) + len(TCP)) + 8)
+        self.assertEqual(found.payload_len.sum().compute(), 2 * (len(UDP) + 1 + len(TCP)) + 8)
         self.assertEqual(found.groupby("chain").size().compute()["IPv4 -> 6"], 2)
 
     def test_columns(self):

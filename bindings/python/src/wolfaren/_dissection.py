@@ -263,6 +263,9 @@ class Dissection(_Parts):
         return ipaddress.ip_address(bytes(self.base_header[places[self.version]])) if self.version else None
 
 
+# The errors of an extension header that is long enough: it begins where the headers before it end.
+FAULTS_AT_END = [lib.WOLFAREN_HOP_BY_HOP_NOT_AT_START, lib.WOLFAREN_ZERO_PAYLOAD_LEN]
+
 _LAYER_NAMES = {
     Layer.IP_HEADER: "the IP header", Layer.IPV4_HEADER: "the IPv4 header", Layer.IPV4_PACKET: "the IPv4 packet",
     Layer.AUTHENTICATION_HEADER: "the authentication header", Layer.IPV6_HEADER: "the IPv6 header",
@@ -290,12 +293,11 @@ def _fault_text(fault: Any, offset: int) -> str:
 
 
 def _fault_of(parts: Any) -> Fault | None:
-    """Returns the error of a dissection. The library has the offset of a header that is too short; other faulty headers
-    begin where the headers before them end."""
+    """Returns the error of a dissection. The library has the offset of a layer that is too short."""
     fault = parts.fault
     if fault.kind == lib.WOLFAREN_NO_FAULT:
         return None
-    offset = parts.payload_offset if fault.header and fault.kind != lib.WOLFAREN_TOO_SHORT else fault.offset
+    offset = parts.payload_offset if fault.kind in FAULTS_AT_END else fault.offset
     return Fault(FaultKind(fault.kind), Layer(fault.header), Layer(fault.layer), offset, fault.required_len, fault.len,
                  LenSource(fault.len_source), fault.value, _fault_text(fault, offset))
 

@@ -9,7 +9,7 @@ from collections.abc import Callable, Iterable
 from typing import TYPE_CHECKING, Any, NamedTuple
 
 from ._captures import Path, Reader
-from ._dissection import DST, HOP_LIMIT, SRC
+from ._dissection import DST, FAULTS_AT_END, HOP_LIMIT, SRC
 from ._library import ffi, lib
 from ._optional import import_for
 from ._statistics import MOST_HEADERS, chain_name
@@ -94,8 +94,7 @@ def _hop_limits(batch: _Batch) -> Any:
 def _fault_offsets(batch: _Batch) -> Any:
     """Returns `Fault.offset` of each packet, or 0."""
     fault = batch.parts("fault")
-    is_at_end = (fault["header"] != lib.WOLFAREN_NO_LAYER) & (fault["kind"] != lib.WOLFAREN_TOO_SHORT)
-    return batch.numpy.where(is_at_end, batch.parts("payload_offset"), fault["offset"])
+    return batch.numpy.where(batch.numpy.isin(fault["kind"], FAULTS_AT_END), batch.parts("payload_offset"), fault["offset"])
 
 
 def _addresses(places: dict[int, slice], batch: _Batch) -> list[str | None]:
@@ -207,7 +206,7 @@ def table(path: Path, columns: Iterable[str] | None = None) -> DataFrame:
         fragment_offset  uint32               where the fragment lies in the payload
         payload_number   uint8                the protocol number of what follows the headers
         payload_offset   uint32               where the payload begins in the packet
-        payload_len      uint32               how many bytes of the payload are present
+        payload_len      uint32               how many bytes of the payload, or from a faulty header on, are present
         stated_len       uint32               the length of the packet as the IP header states it
         missing          uint32               how many bytes of the stated length aren't present
         padding          uint32               how many bytes follow the packet in the frame

@@ -104,14 +104,16 @@ class Packets(Scratch):
     def test_truncated(self):
         content = capture([ethernet(it) for it in PACKETS[:4]])
         for missing in [1, 40]:
-            path, found = self.file(content[:-missing]), []
-            with self.assertRaisesRegex(CaptureError, "can't read packet 4: ") as raised:
+            path, found, error = self.file(content[:-missing]), [], None
+            try:
                 for it in packets(path):
                     found.append(it.number)
-            self.assertEqual((found, raised.exception.path), ([1, 2, 3], path))
-            self.assertNotIsInstance(raised.exception, OSError)
-            self.assertEqual(raised.exception.statistics, Statistics())
-            self.assertEqual(open_files(path), 0)
+            except CaptureError as raised:
+                error = raised
+                self.assertEqual(open_files(path), 0)  # although the traceback refers to what the generator had
+            self.assertRegex(error.reason, "can't read packet 4: ")
+            self.assertEqual((found, error.path, error.statistics), ([1, 2, 3], path, Statistics()))
+            self.assertNotIsInstance(error, OSError)
 
     def test_unreadable(self):
         """The capture is opened by the call, before a packet is asked for."""

@@ -5,7 +5,8 @@
 #                     page, and 20,000 comparisons with etherparse
 # make lib            build the static C library and its header in build/ (TARGET=aarch64: for ARM64, in build/aarch64/,
 #                     with its shared library if Debian's cross-compiler is there)
-# make programs       build the shared libraries and the programs ipexts and ipcap, which needs a C compiler and libpcap
+# make programs       build the shared libraries and the programs ipexts and ipcap, which needs a C compiler and libpcap;
+#                     with zlib, libzstd or liblzma, ipcap also reads compressed captures
 # make wheel          pack the Python package with the shared libraries, as build/wolfaren-VERSION-py3-none-linux_x86_64.whl
 # make install        install what `make programs` has built: the libraries, their headers, the programs and their manual
 #                     pages. Needs neither rt nor a compiler (PREFIX=/usr/local, also LIBDIR, BINDIR, INCLUDEDIR and

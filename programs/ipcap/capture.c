@@ -1,9 +1,7 @@
 #include "capture.h"
 
-#include <errno.h>
 #include <stdarg.h>
 #include <string.h>
-#include <sys/stat.h>
 
 enum { MAGIC_LEN = 4 };
 
@@ -17,11 +15,11 @@ __attribute__((format(printf, 2, 3))) static bool fail(struct capture *capture, 
     return false;
 }
 
-/* Sets the error to that of the system, which is in `errno`, and returns false. */
-static bool fail_as_system(struct capture *capture)
+/* Sets the error to that of the source, and returns false. */
+static bool fail_as_source(struct capture *capture)
 {
-    capture->system_error = errno;
-    return fail(capture, "%s", errno ? strerror(errno) : "read error");
+    capture->system_error = capture->source.system_error;
+    return fail(capture, "%s", *capture->source.error ? capture->source.error : "read error");
 }
 
 /*
@@ -49,26 +47,14 @@ static bool has_nanoseconds(const uint8_t magic[MAGIC_LEN])
     return false;
 }
 
-bool is_standard_stream(const char *path)
-{
-    return !path || strcmp(path, "-") == 0;
-}
-
 static bool open_file(struct capture *capture, const char *path)
 {
-    struct stat status;
-    bool is_input = is_standard_stream(path);
-    capture->name = is_input ? "standard input" : path;
-    capture->file = is_input ? stdin : fopen(path, "rb");
-    if (!capture->file) return fail_as_system(capture);
-    if (!is_input) setvbuf(capture->file, capture->buffer, _IOFBF, sizeof capture->buffer);
-    capture->is_live = fstat(fileno(capture->file), &status) != 0 || !S_ISREG(status.st_mode);
+    capture->name = is_standard_stream(path) ? "standard input" : path;
+    capture->file = open_source(&capture->source, path);
+    if (!capture->file) return fail_as_source(capture);
+    setvbuf(capture->file, capture->buffer, _IOFBF, sizeof capture->buffer);
+    capture->is_live = is_live(&capture->source);
     return true;
-}
-
-static void close_file(struct capture *capture)
-{
-    if (capture->file != stdin) fclose(capture->file);
 }
 
 /* Sets the error of a link layer that isn't supported, and returns false. */
@@ -84,10 +70,10 @@ static bool open_handle(struct capture *capture)
 {
     uint8_t magic[MAGIC_LEN];
     char error[PCAP_ERRBUF_SIZE] = "";
-    errno = 0;
-    if (!look_at_magic(capture->file, magic)) return fail_as_system(capture);
+    if (!look_at_magic(capture->file, magic)) return fail_as_source(capture);
     unsigned precision = has_nanoseconds(magic) ? PCAP_TSTAMP_PRECISION_NANO : PCAP_TSTAMP_PRECISION_MICRO;
     capture->handle = pcap_fopen_offline_with_tstamp_precision(capture->file, precision, error);
+    if (!capture->handle && *capture->source.error) return fail_as_source(capture);
     if (!capture->handle) return fail(capture, "%s", error);
     int number = pcap_datalink(capture->handle);
     capture->link_layer = find_link_layer(number);
@@ -102,7 +88,7 @@ bool open_capture(struct capture *capture, const char *path)
     if (capture->handle)
         close_capture(capture);
     else
-        close_file(capture);
+        fclose(capture->file);
     return false;
 }
 
@@ -112,9 +98,9 @@ bool read_packet(struct capture *capture, struct packet *packet)
     int answer = pcap_next_ex(capture->handle, &header, &packet->frame);
     if (answer == PCAP_ERROR_BREAK) return false;
     if (answer != 1) {
-        if (ferror(capture->file)) capture->system_error = errno;
+        capture->system_error = capture->source.system_error;
         return fail(capture, "can't read packet %llu: %s", (unsigned long long)capture->number + 1,
-                    pcap_geterr(capture->handle));
+                    *capture->source.error ? capture->source.error : pcap_geterr(capture->handle));
     }
     capture->number++;
     if (capture->follow) capture->follow(capture);
@@ -140,7 +126,5 @@ bool is_read_whole(const struct capture *capture)
 
 void close_capture(struct capture *capture)
 {
-    bool is_input = capture->file == stdin;
     pcap_close(capture->handle);
-    if (is_input) clearerr(stdin);
 }

@@ -10,6 +10,7 @@
 #include <time.h>
 
 #include "link_layer.h"
+#include "source.h"
 
 /* A buffer size that is large enough for the text of every error and its terminating null byte. */
 enum { CAPTURE_ERROR_ROOM = PCAP_ERRBUF_SIZE + 64 };
@@ -20,14 +21,15 @@ enum { CAPTURE_BUFFER = 1 << 17 };
 struct capture {
     pcap_t *handle;
     const char *name; /* for messages */
-    FILE *file;
+    FILE *file;       /* the bytes of the source */
     const struct link_layer *link_layer;
     bool is_live;    /* the input is not a regular file, so packets may arrive as they are captured */
     uint64_t number; /* number of packets read so far */
     void (*follow)(struct capture *capture); /* called after each packet is read, unless it is null */
     char error[CAPTURE_ERROR_ROOM];          /* why opening or reading failed, otherwise empty */
     int system_error;                        /* the `errno` of that if the system refused it, otherwise 0 */
-    char buffer[CAPTURE_BUFFER];             /* of the file, unless that is standard input */
+    char buffer[CAPTURE_BUFFER];             /* of `file` */
+    struct source source;
 };
 
 /* A packet of a capture. `frame` is valid until the next packet is read. */
@@ -39,9 +41,6 @@ struct packet {
     size_t ip_offset;         /* where the IP packet begins in the frame */
     struct protocol protocol; /* the last number that says what the frame carries */
 };
-
-/* Whether a path stands for standard input or output: it is null or `-`. */
-bool is_standard_stream(const char *path);
 
 /* Opens a file or standard input. On failure, sets `error` and returns false. */
 bool open_capture(struct capture *capture, const char *path);

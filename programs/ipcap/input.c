@@ -55,9 +55,9 @@ static void show_progress(struct capture *capture)
     fputs("\r\033[K", stderr);
     write_escaped(stderr, capture->name);
     fprintf(stderr, ": %llu packets", (unsigned long long)capture->number);
-    off_t at = ftello(capture->file);
-    if (input->len > 0 && at >= 0 && at <= input->len)
-        fprintf(stderr, ", %d %%", (int)((double)at * 100 / (double)input->len));
+    double at = (double)capture->source.position;
+    if (input->len > 0 && at <= (double)input->len)
+        fprintf(stderr, ", %d %%", (int)(at * 100 / (double)input->len));
     fflush(stderr);
 }
 

@@ -5,14 +5,24 @@
 #include <pcap/pcap.h>
 #include <stdio.h>
 
+#include "compression.h"
 #include "report.h"
 #include "wolfaren.h"
+
+/* Prints the versions of the libraries that decompress. */
+static void print_compressions(void)
+{
+    static const struct compression *const all[] = {&gzip, &zstd, &xz};
+    for (size_t i = 0; i < sizeof all / sizeof *all; i++)
+        if (all[i]->version) printf("%s %s, for %s\n", all[i]->library, all[i]->version(), all[i]->name);
+}
 
 int print_version(void)
 {
     errno = 0;
     printf("ipcap %d.%d.%d\n%s\n", WOLFAREN_VERSION_MAJOR, WOLFAREN_VERSION_MINOR, WOLFAREN_VERSION_PATCH,
            pcap_lib_version());
+    print_compressions();
     return finish_output() ? STATUS_DONE : STATUS_FAILED;
 }
 

@@ -25,8 +25,8 @@ extern "C" {
 #define WOLFAREN_PCAP_PACKET_ROOM 262144
 
 /*
- * Counts the packets of the capture in a file. Returns a line of JSON as `ipcap stat --json` prints it, which the
- * caller releases with wolfaren_pcap_free.
+ * Counts the packets of the capture in a file, which may be compressed with gzip, zstd or xz. Returns a line of JSON as
+ * `ipcap stat --json` prints it, which the caller releases with wolfaren_pcap_free.
  *
  * If the file can't be read to its end, returns the counts of the packets up to there, and writes why to `error`.
  * Returns null, and writes why, if the file can't be opened or isn't a capture with a supported link layer, or if

@@ -3,6 +3,7 @@
 import sys
 
 import harness
+import test_compression
 import test_filter
 import test_library
 import test_link_layers
@@ -42,7 +43,11 @@ GROUPS = [("link layers", test_link_layers.link_layers), ("short frames", test_l
           ("full outputs", test_use.full_outputs), ("terminals", test_use.terminals),
           ("interrupts", test_use.interrupts), ("bounded memory", test_use.bounded_memory),
           ("refused memory", test_use.refused_memory),
-          ("damaged captures", test_use.damaged_captures), ("the library of captures", test_library.as_ipcap),
+          ("damaged captures", test_use.damaged_captures), ("compressed captures", test_compression.compressed),
+          ("truncated compressed data", test_compression.truncated), ("damaged compressed data", test_compression.damaged),
+          ("memory refused to decoders", test_compression.refused_memory),
+          ("compressed data between programs", test_compression.between_programs),
+          ("libraries that are missing", test_compression.without_libraries), ("the library of captures", test_library.as_ipcap),
           ("memory refused to the library", test_library.refused_memory)]
 
 if __name__ == "__main__":

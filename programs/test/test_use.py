@@ -165,6 +165,22 @@ def bounded_memory(harness):
         harness.check(few[0] == many[0] == 0 and many[1] < few[1] + 500, command, few, many)
 
 
+def refuse_each(harness, arguments, given=b""):
+    """Refuses each of the first hundred allocations of a command in turn."""
+    wanted = harness.run(*arguments, content=given)[1]
+    failures = 0
+    for number in range(1, 101):
+        environment = dict(harness.environment, LD_PRELOAD=harness.refusing, REFUSED_ALLOCATION=str(number))
+        found = subprocess.run(harness.plain + arguments, input=given, stdout=subprocess.PIPE,
+                               stderr=subprocess.PIPE, env=environment)
+        if found.returncode == 0:
+            harness.equal(found.stdout, wanted, "allocation", number, "of", arguments)
+        else:
+            harness.check(found.returncode == 1 and found.stderr.startswith(b"ipcap: "), arguments, number, found)
+            failures += 1
+    harness.check(failures > 1, arguments, "failed on", failures)
+
+
 def refused_memory(harness):
     """Each failed allocation ends the program with a message, unless it gets by without that memory."""
     content = capture([ethernet(ipv6_chain([60] * 40)), ethernet(ipv4(17, UDP))])
@@ -173,19 +189,7 @@ def refused_memory(harness):
     harness.settle()
     for arguments, given in [(["stat", path], b""), (["filter", "header 60", path], b""), (["show", path], b""),
                              (["sum"], counts)]:
-        wanted = harness.run(*arguments, content=given)[1]
-        failures, number = 0, 0
-        while number < 100:
-            number += 1
-            environment = dict(harness.environment, LD_PRELOAD=harness.refusing, REFUSED_ALLOCATION=str(number))
-            found = subprocess.run(harness.plain + arguments, input=given, stdout=subprocess.PIPE,
-                                   stderr=subprocess.PIPE, env=environment)
-            if found.returncode == 0:
-                harness.equal(found.stdout, wanted, "allocation", number, "of", arguments)
-            else:
-                harness.check(found.returncode == 1 and found.stderr.startswith(b"ipcap: "), arguments, number, found)
-                failures += 1
-        harness.check(failures > 1, arguments, "failed on", failures)
+        refuse_each(harness, arguments, given)
 
 
 def damaged_captures(harness):

@@ -1,0 +1,44 @@
+/* The bytes of a capture: of a file or standard input, decompressed if they are compressed. */
+#ifndef IPCAP_SOURCE_H
+#define IPCAP_SOURCE_H
+
+#include <stdbool.h>
+#include <stddef.h>
+#include <stdint.h>
+#include <stdio.h>
+
+#include "compression.h"
+
+/* How many bytes of a file are kept until they are consumed. */
+enum { SOURCE_ROOM = 1 << 16 };
+
+/* A buffer size that is large enough for the text of every error. */
+enum { SOURCE_ERROR_ROOM = 128 };
+
+struct source {
+    int descriptor;
+    bool is_ended;       /* nothing more comes from the file */
+    bool is_complete;    /* the last compressed stream is complete */
+    uint64_t position;   /* number of bytes read from the file */
+    size_t start, end;   /* where the bytes that were read and not yet consumed are in `bytes` */
+    const struct compression *compression; /* null if the bytes aren't compressed */
+    void *decoder;
+    char error[SOURCE_ERROR_ROOM]; /* why opening or reading failed, otherwise empty */
+    int system_error;              /* the `errno` of that if the system refused it, otherwise 0 */
+    uint8_t bytes[SOURCE_ROOM];
+};
+
+/* Whether a path stands for standard input or output: it is null or `-`. */
+bool is_standard_stream(const char *path);
+
+/*
+ * Opens a file or standard input. Returns a stream of its bytes, decompressed if the first ones are those of a known
+ * format. Closing the stream also closes the file. Reading from it returns what has arrived, without waiting for more. On
+ * failure, sets `error` and returns null. If reading from the stream fails later, `error` says why.
+ */
+FILE *open_source(struct source *source, const char *path);
+
+/* Whether the file isn't a regular one, so that its bytes may arrive as they are captured. */
+bool is_live(const struct source *source);
+
+#endif

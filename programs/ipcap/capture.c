@@ -1,6 +1,7 @@
 #include "capture.h"
 
 #include <stdarg.h>
+#include <stdlib.h>
 #include <string.h>
 
 enum { MAGIC_LEN = 4 };
@@ -37,11 +38,10 @@ static bool look_at_magic(FILE *file, uint8_t magic[MAGIC_LEN])
     return true;
 }
 
-/* Whether timestamps may be in nanoseconds: classic files with that magic, in either byte order, and pcapng files. */
-static bool has_nanoseconds(const uint8_t magic[MAGIC_LEN])
+/* Whether timestamps are in nanoseconds: files with that magic, in either byte order. */
+static bool is_nanosecond_magic(const uint8_t magic[MAGIC_LEN])
 {
-    static const uint8_t magics[][MAGIC_LEN] = {
-        {0xa1, 0xb2, 0x3c, 0x4d}, {0x4d, 0x3c, 0xb2, 0xa1}, {0x0a, 0x0d, 0x0d, 0x0a}};
+    static const uint8_t magics[][MAGIC_LEN] = {{0xa1, 0xb2, 0x3c, 0x4d}, {0x4d, 0x3c, 0xb2, 0xa1}};
     for (size_t i = 0; i < sizeof magics / sizeof magics[0]; i++)
         if (memcmp(magics[i], magic, MAGIC_LEN) == 0) return true;
     return false;
@@ -57,66 +57,199 @@ static bool open_file(struct capture *capture, const char *path)
     return true;
 }
 
-/* Sets the error of a link layer that isn't supported, and returns false. */
-static bool refuse_link_layer(struct capture *capture, int number)
+/* Writes that a link layer isn't supported to a text. Returns the length that it needs. */
+static size_t write_refusal(int link_type, char *text, size_t room)
 {
-    const char *name = pcap_datalink_val_to_name(number);
-    const char *words = pcap_datalink_val_to_description(number);
-    if (name && words) return fail(capture, "link layer %s (%s) isn't supported", name, words);
-    return fail(capture, "link layer %d isn't supported", number);
+    const char *name = pcap_datalink_val_to_name(link_type);
+    const char *words = pcap_datalink_val_to_description(link_type);
+    int len = name && words ? snprintf(text, room, "link layer %s (%s) isn't supported", name, words)
+                            : snprintf(text, room, "link layer %d isn't supported", link_type);
+    return (size_t)len;
 }
 
-static bool open_handle(struct capture *capture)
+/* Opens a classic file with libpcap. */
+static bool open_handle(struct capture *capture, const uint8_t magic[MAGIC_LEN])
 {
-    uint8_t magic[MAGIC_LEN];
     char error[PCAP_ERRBUF_SIZE] = "";
-    if (!look_at_magic(capture->file, magic)) return fail_as_source(capture);
-    unsigned precision = has_nanoseconds(magic) ? PCAP_TSTAMP_PRECISION_NANO : PCAP_TSTAMP_PRECISION_MICRO;
+    unsigned precision = is_nanosecond_magic(magic) ? PCAP_TSTAMP_PRECISION_NANO : PCAP_TSTAMP_PRECISION_MICRO;
     capture->handle = pcap_fopen_offline_with_tstamp_precision(capture->file, precision, error);
     if (!capture->handle && *capture->source.error) return fail_as_source(capture);
     if (!capture->handle) return fail(capture, "%s", error);
-    int number = pcap_datalink(capture->handle);
-    capture->link_layer = find_link_layer(number);
-    return capture->link_layer || refuse_link_layer(capture, number);
+    capture->link_type = pcap_datalink(capture->handle);
+    capture->link_layer = find_link_layer(capture->link_type);
+    if (!capture->link_layer) write_refusal(capture->link_type, capture->error, sizeof capture->error);
+    return capture->link_layer;
+}
+
+/* Adds the last interface to the names of those left out, unless its link layer is among them. */
+static void name_left_out(struct capture *capture)
+{
+    struct capture_blocks *blocks = &capture->blocks;
+    size_t number = blocks->file.interface_count - 1, len = strlen(blocks->left_out_names);
+    int link_type = blocks->file.interfaces[number].link_type;
+    char *text = blocks->left_out_names + len;
+    size_t room = sizeof blocks->left_out_names - len;
+    for (size_t i = 0; i < blocks->left_out_count; i++)
+        if (blocks->left_out[i] == link_type) return;
+    if (blocks->left_out_count == MOST_LEFT_OUT) return;
+    blocks->left_out[blocks->left_out_count++] = link_type;
+    size_t before = (size_t)snprintf(text, room, "%sinterface %zu: ", len > 0 ? "; " : "", number);
+    if (before >= room || before + write_refusal(link_type, text + before, room - before) >= room) *text = '\0';
+}
+
+/* Looks at the interface that the last block describes. */
+static void take_interface(struct capture *capture)
+{
+    const struct interface *interface = &capture->blocks.file.interfaces[capture->blocks.file.interface_count - 1];
+    if (!interface->link_layer) name_left_out(capture);
+    else if (!capture->blocks.has_interface) capture->link_type = interface->link_type;
+    if (interface->link_layer) capture->blocks.has_interface = true;
+}
+
+/* Adds the last block to the head. Returns false if memory runs out. */
+static bool add_to_head(struct capture *capture)
+{
+    struct capture_blocks *blocks = &capture->blocks;
+    uint8_t *head = realloc(blocks->head, blocks->head_len + blocks->file.len);
+    if (!head) return fail(capture, "out of memory");
+    memcpy(head + blocks->head_len, blocks->file.block, blocks->file.len);
+    blocks->head = head;
+    blocks->head_len += blocks->file.len;
+    return true;
+}
+
+/* Takes the last block, which is no packet. Returns false if nothing more may be read. */
+static bool take_other_block(struct capture *capture)
+{
+    const struct pcapng *file = &capture->blocks.file;
+    if (file->kind == BLOCK_INTERFACE) take_interface(capture);
+    if (file->kind == BLOCK_PRIVATE) return true;
+    if (!capture->blocks.has_begun) return add_to_head(capture);
+    return !capture->copy || capture->copy(capture, file->block, file->len);
+}
+
+/* Reads blocks up to the first packet, so that the interfaces are known. */
+static bool open_blocks(struct capture *capture)
+{
+    enum { MOST_HEAD = 1 << 24 };
+    struct capture_blocks *blocks = &capture->blocks;
+    begin_pcapng(&blocks->file, capture->file);
+    while (!blocks->is_ahead && blocks->head_len < MOST_HEAD && read_block(&blocks->file)) {
+        blocks->is_ahead = blocks->file.kind == BLOCK_PACKET;
+        if (!blocks->is_ahead && !take_other_block(capture)) return false;
+    }
+    blocks->has_begun = true;
+    if (*capture->source.error) return fail_as_source(capture);
+    if (*blocks->file.error) return fail(capture, "%s", blocks->file.error);
+    if (!blocks->has_interface && blocks->left_out_count > 0) return fail(capture, "%s", blocks->left_out_names);
+    if (blocks->has_interface || blocks->head_len < MOST_HEAD) return true;
+    return fail(capture, "no interface is described in the first %d bytes", MOST_HEAD);
+}
+
+static void close_file(struct capture *capture)
+{
+    free(capture->blocks.head);
+    end_pcapng(&capture->blocks.file);
+    if (capture->handle)
+        pcap_close(capture->handle);
+    else
+        fclose(capture->file);
+}
+
+static bool open_opened(struct capture *capture)
+{
+    uint8_t magic[MAGIC_LEN];
+    if (!look_at_magic(capture->file, magic)) return fail_as_source(capture);
+    return is_pcapng_magic(magic) ? open_blocks(capture) : open_handle(capture, magic);
 }
 
 bool open_capture(struct capture *capture, const char *path)
 {
     *capture = (struct capture){0};
     if (!open_file(capture, path)) return false;
-    if (open_handle(capture)) return true;
-    if (capture->handle)
-        close_capture(capture);
-    else
-        fclose(capture->file);
+    if (open_opened(capture)) return true;
+    close_file(capture);
     return false;
 }
 
-bool read_packet(struct capture *capture, struct packet *packet)
+/* Sets the error that a packet can't be read, for a reason that the source may know better, and returns false. */
+static bool fail_on_packet(struct capture *capture, const char *reason)
+{
+    capture->system_error = capture->source.system_error;
+    return fail(capture, "can't read packet %llu: %s", (unsigned long long)capture->number + 1,
+                *capture->source.error ? capture->source.error : reason);
+}
+
+/* Reads the next packet of a classic file. */
+static bool read_from_handle(struct capture *capture, struct packet *packet)
 {
     struct pcap_pkthdr *header;
     int answer = pcap_next_ex(capture->handle, &header, &packet->frame);
     if (answer == PCAP_ERROR_BREAK) return false;
-    if (answer != 1) {
-        capture->system_error = capture->source.system_error;
-        return fail(capture, "can't read packet %llu: %s", (unsigned long long)capture->number + 1,
-                    *capture->source.error ? capture->source.error : pcap_geterr(capture->handle));
+    if (answer != 1) return fail_on_packet(capture, pcap_geterr(capture->handle));
+    packet->header = *header;
+    packet->link_type = capture->link_type;
+    packet->block = NULL;
+    packet->is_left_out = false;
+    packet->has_time = true;
+    return true;
+}
+
+/* Reads up to the next block with a packet. */
+static bool find_packet_block(struct capture *capture)
+{
+    struct capture_blocks *blocks = &capture->blocks;
+    bool is_found = blocks->is_ahead;
+    blocks->is_ahead = false;
+    while (!is_found && read_block(&blocks->file)) {
+        is_found = blocks->file.kind == BLOCK_PACKET;
+        if (!is_found && !take_other_block(capture)) return false;
     }
+    return is_found;
+}
+
+/* Reads the next packet of a pcapng file. */
+static bool read_from_blocks(struct capture *capture, struct packet *packet)
+{
+    struct pcapng *file = &capture->blocks.file;
+    struct block_packet found;
+    if (!find_packet_block(capture) || !read_block_packet(file, &found))
+        return *file->error ? fail_on_packet(capture, file->error) : false;
+    packet->header = (struct pcap_pkthdr){.caplen = found.captured_len, .len = found.len};
+    packet->header.ts = (struct timeval){found.time.tv_sec, found.time.tv_nsec};
+    packet->frame = found.frame;
+    packet->link_type = found.interface->link_type;
+    packet->block = file->block;
+    packet->block_len = file->len;
+    packet->is_left_out = !found.interface->link_layer;
+    packet->has_time = found.has_time;
+    capture->link_layer = found.interface->link_layer;
+    return true;
+}
+
+bool read_packet(struct capture *capture, struct packet *packet)
+{
+    if (!(capture->handle ? read_from_handle(capture, packet) : read_from_blocks(capture, packet))) return false;
     capture->number++;
     if (capture->follow) capture->follow(capture);
-    packet->header = *header;
-    packet->is_short = header->caplen < header->len;
-    packet->is_ip = find_ip(capture->link_layer, packet->frame, header->caplen, &packet->ip_offset, &packet->protocol);
+    packet->is_short = packet->header.caplen < packet->header.len;
+    packet->is_ip = !packet->is_left_out && find_ip(capture->link_layer, packet->frame, packet->header.caplen,
+                                                    &packet->ip_offset, &packet->protocol);
     return true;
+}
+
+bool has_nanoseconds(const struct capture *capture)
+{
+    return !capture->handle || pcap_get_tstamp_precision(capture->handle) == PCAP_TSTAMP_PRECISION_NANO;
 }
 
 struct timespec time_of(const struct capture *capture, const struct packet *packet)
 {
-    bool is_nano = pcap_get_tstamp_precision(capture->handle) == PCAP_TSTAMP_PRECISION_NANO;
     const struct timeval *time = &packet->header.ts;
+    if (!capture->handle) return (struct timespec){time->tv_sec, time->tv_usec};
     /* the format has unsigned seconds, which libpcap reads as signed numbers of 32 bits */
     time_t seconds = time->tv_sec < 0 ? (time_t)(uint32_t)time->tv_sec : time->tv_sec;
-    return (struct timespec){seconds, is_nano ? time->tv_usec : time->tv_usec * 1000};
+    return (struct timespec){seconds, has_nanoseconds(capture) ? time->tv_usec : time->tv_usec * 1000};
 }
 
 bool is_read_whole(const struct capture *capture)
@@ -126,5 +259,8 @@ bool is_read_whole(const struct capture *capture)
 
 void close_capture(struct capture *capture)
 {
-    pcap_close(capture->handle);
+    const char *names = capture->blocks.left_out_names;
+    size_t len = strlen(capture->error);
+    if (*names) snprintf(capture->error + len, sizeof capture->error - len, "%s%s", len > 0 ? "; " : "", names);
+    close_file(capture);
 }

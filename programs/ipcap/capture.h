@@ -10,6 +10,7 @@
 #include <time.h>
 
 #include "link_layer.h"
+#include "pcapng.h"
 #include "source.h"
 
 /* A buffer size that is large enough for the text of every error and its terminating null byte. */
@@ -18,14 +19,38 @@ enum { CAPTURE_ERROR_ROOM = PCAP_ERRBUF_SIZE + 64 };
 /* How many bytes are read from a file at once. */
 enum { CAPTURE_BUFFER = 1 << 17 };
 
+/* How many link layers that aren't supported are named. */
+enum { MOST_LEFT_OUT = 8 };
+
+/* What only captures in a pcapng file have. */
+struct capture_blocks {
+    struct pcapng file;
+    bool is_ahead;      /* the last block is a packet that wasn't read yet */
+    bool has_begun;     /* the first packet was found, or there are too many blocks before it */
+    bool has_interface; /* there is one with a supported link layer */
+    uint8_t *head;      /* the blocks before the first packet, except those that must not be copied */
+    size_t head_len;
+    int left_out[MOST_LEFT_OUT]; /* the link layers that aren't supported, one of libpcap's DLT_ values each */
+    size_t left_out_count;
+    char left_out_names[CAPTURE_ERROR_ROOM];
+};
+
 struct capture {
-    pcap_t *handle;
+    pcap_t *handle;   /* null for a pcapng file */
     const char *name; /* for messages */
     FILE *file;       /* the bytes of the source */
+    struct capture_blocks blocks;
+    int link_type;    /* one of libpcap's DLT_ values: of a pcapng file, that of the first interface that is supported */
     const struct link_layer *link_layer;
     bool is_live;    /* the input is not a regular file, so packets may arrive as they are captured */
     uint64_t number; /* number of packets read so far */
     void (*follow)(struct capture *capture); /* called after each packet is read, unless it is null */
+    /*
+     * Called with each block of a pcapng file that follows those in `head` and is no packet, unless it is null. If it
+     * returns false, nothing more is read.
+     */
+    bool (*copy)(struct capture *capture, const uint8_t *block, size_t len);
+    void *copier; /* for `copy` */
     char error[CAPTURE_ERROR_ROOM];          /* why opening or reading failed, otherwise empty */
     int system_error;                        /* the `errno` of that if the system refused it, otherwise 0 */
     char buffer[CAPTURE_BUFFER];             /* of `file` */
@@ -36,6 +61,11 @@ struct capture {
 struct packet {
     struct pcap_pkthdr header;
     const uint8_t *frame;
+    int link_type;        /* one of libpcap's DLT_ values */
+    const uint8_t *block; /* of a pcapng file, the block with the packet, otherwise null */
+    size_t block_len;
+    bool is_left_out;     /* its link layer isn't supported */
+    bool has_time;
     bool is_ip;
     bool is_short;            /* truncated by the snap length */
     size_t ip_offset;         /* where the IP packet begins in the frame */
@@ -48,13 +78,16 @@ bool open_capture(struct capture *capture, const char *path);
 /* Reads the next packet and returns true. At the end, and on failure, which sets `error`, returns false. */
 bool read_packet(struct capture *capture, struct packet *packet);
 
-/* Returns the time of a packet that was read. */
+/* Whether the timestamps of a capture may be in nanoseconds. If not, they are in microseconds. */
+bool has_nanoseconds(const struct capture *capture);
+
+/* Returns the time of a packet that was read, if it has one. */
 struct timespec time_of(const struct capture *capture, const struct packet *packet);
 
 /* Whether the capture was read to its end. */
 bool is_read_whole(const struct capture *capture);
 
-/* Closes a capture that was opened. */
+/* Closes a capture that was opened. If packets were left out because of their link layer, `error` then names it. */
 void close_capture(struct capture *capture);
 
 #endif

@@ -34,6 +34,7 @@ static bool count_protocol(struct table *protocols, const struct protocol *proto
 
 static bool count_packet(struct counts *counts, struct parts *parts, const struct packet *packet)
 {
+    if (packet->is_left_out) return true;
     const uint8_t *bytes = packet->frame + packet->ip_offset;
     size_t len = packet->header.caplen - packet->ip_offset;
     if (packet->is_short) wolfaren_count_truncated_frame(&counts->statistics);

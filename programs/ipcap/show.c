@@ -64,25 +64,26 @@ struct request {
     uint64_t most; /* how many packets are shown at most */
 };
 
-/* Writes a packet in the form that the options ask for. */
+/* Writes a packet in the form that the options ask for. `shown` is the number of packets that were written before. */
 static void write_packet(const struct request *request, const struct capture *capture, const struct packet *packet,
-                         const struct parts *parts)
+                         const struct parts *parts, uint64_t shown)
 {
     if (request->json) {
         print_object(capture, packet, parts);
         return;
     }
-    if (capture->number > 1 && !request->is_one_line) putchar('\n');
+    if (shown > 0 && !request->is_one_line) putchar('\n');
     print_title(capture, packet, parts);
     if (packet->is_ip && !request->is_one_line) draw_packet(parts, request->in_color);
 }
 
 static bool show_packet(const struct request *request, const struct capture *capture, const struct packet *packet,
-                        struct parts *parts)
+                        struct parts *parts, uint64_t *shown)
 {
+    if (packet->is_left_out) return true;
     if (packet->is_ip && !parse_captured(parts, packet)) return false;
     errno = 0;
-    write_packet(request, capture, packet, parts);
+    write_packet(request, capture, packet, parts, (*shown)++);
     return capture->is_live ? finish_output() : !ferror(stdout) || finish_output();
 }
 
@@ -92,9 +93,10 @@ static bool show_capture(const struct request *request, const char *path)
     struct packet packet;
     struct parts parts = {0};
     bool is_shown = true;
+    uint64_t shown = 0;
     if (!open_input(&input, path)) return false;
-    while (is_shown && input.capture.number < request->most && read_packet(&input.capture, &packet))
-        is_shown = show_packet(request, &input.capture, &packet, &parts);
+    while (is_shown && shown < request->most && read_packet(&input.capture, &packet))
+        is_shown = show_packet(request, &input.capture, &packet, &parts, &shown);
     free_parts(&parts);
     bool is_read = close_input(&input);
     return is_shown && finish_output() && is_read;

@@ -10,16 +10,30 @@
 
 enum { TIME_ROOM = 64 };
 
-/* Formats the time of a packet as in RFC 3339, with as many digits as the capture has. */
+/* Whether RFC 3339 has a form for a time, which then is stored as a date. Its years have four digits. */
+static bool has_date(const struct timespec *time, struct tm *date)
+{
+    enum { EPOCH = 1900, FIRST_YEAR = 1000, LAST_YEAR = 9999 };
+    if (!gmtime_r(&time->tv_sec, date)) return false;
+    return date->tm_year >= FIRST_YEAR - EPOCH && date->tm_year <= LAST_YEAR - EPOCH;
+}
+
+/*
+ * Formats the time of a packet as in RFC 3339, with as many digits as the capture has. A time that has no such form is
+ * formatted as the number of seconds since the epoch.
+ */
 static void write_time(const struct capture *capture, const struct packet *packet, char text[TIME_ROOM])
 {
     struct timespec time = time_of(capture, packet);
-    bool is_nano = pcap_get_tstamp_precision(capture->handle) == PCAP_TSTAMP_PRECISION_NANO;
     struct tm date;
-    if (!gmtime_r(&time.tv_sec, &date)) date = (struct tm){.tm_mday = 1, .tm_year = 70};
-    size_t len = strftime(text, TIME_ROOM, "%Y-%m-%dT%H:%M:%S", &date);
-    long fraction = is_nano ? time.tv_nsec : time.tv_nsec / 1000;
-    snprintf(text + len, TIME_ROOM - len, ".%0*ldZ", is_nano ? 9 : 6, fraction);
+    int digits = has_nanoseconds(capture) ? 9 : 6;
+    long fraction = digits == 9 ? time.tv_nsec : time.tv_nsec / 1000;
+    if (has_date(&time, &date)) {
+        size_t len = strftime(text, TIME_ROOM, "%Y-%m-%dT%H:%M:%S", &date);
+        snprintf(text + len, TIME_ROOM - len, ".%0*ldZ", digits, fraction);
+    } else {
+        snprintf(text, TIME_ROOM, "%lld.%0*ld", (long long)time.tv_sec, digits, fraction);
+    }
 }
 
 /* Where the source address is in the headers of both versions; the destination address follows it. */
@@ -68,8 +82,8 @@ static void print_chain(const struct parts *parts)
 
 void print_title(const struct capture *capture, const struct packet *packet, const struct parts *parts)
 {
-    char time[TIME_ROOM];
-    write_time(capture, packet, time);
+    char time[TIME_ROOM] = "no time";
+    if (packet->has_time) write_time(capture, packet, time);
     printf("packet %" PRIu64 ": %s", capture->number, time);
     if (packet->is_ip) print_addresses(parts, ", %s > %s");
     fputs(", ", stdout);
@@ -118,9 +132,12 @@ static void print_dissection(const struct parts *parts)
 void print_object(const struct capture *capture, const struct packet *packet, const struct parts *parts)
 {
     char time[TIME_ROOM];
-    write_time(capture, packet, time);
-    printf("{\"packet\":%" PRIu64 ",\"time\":\"%s\",\"frame_len\":%u,\"captured_len\":%u", capture->number, time,
-           frame_len(packet), packet->header.caplen);
+    printf("{\"packet\":%" PRIu64, capture->number);
+    if (packet->has_time) {
+        write_time(capture, packet, time);
+        printf(",\"time\":\"%s\"", time);
+    }
+    printf(",\"frame_len\":%u,\"captured_len\":%u", frame_len(packet), packet->header.caplen);
     if (packet->is_ip) {
         printf(",\"ip_offset\":%zu", packet->ip_offset);
         print_addresses(parts, ",\"src\":\"%s\",\"dst\":\"%s\"");

@@ -7,6 +7,7 @@ import test_compression
 import test_filter
 import test_library
 import test_link_layers
+import test_pcapng
 import test_show
 import test_stat
 import test_sum
@@ -47,7 +48,13 @@ GROUPS = [("link layers", test_link_layers.link_layers), ("short frames", test_l
           ("truncated compressed data", test_compression.truncated), ("damaged compressed data", test_compression.damaged),
           ("memory refused to decoders", test_compression.refused_memory),
           ("compressed data between programs", test_compression.between_programs),
-          ("libraries that are missing", test_compression.without_libraries), ("the library of captures", test_library.as_ipcap),
+          ("libraries that are missing", test_compression.without_libraries),
+          ("pcapng files with several interfaces", test_pcapng.interfaces), ("times in pcapng files", test_pcapng.times),
+          ("lengths in pcapng files", test_pcapng.lengths), ("interfaces left out", test_pcapng.left_out),
+          ("copies of pcapng blocks", test_pcapng.copies), ("pcapng among several files", test_pcapng.among_files),
+          ("hostile pcapng files", test_pcapng.hostile), ("truncated pcapng files", test_pcapng.truncated),
+          ("damaged pcapng files", test_pcapng.damaged), ("pcapng between programs", test_pcapng.between_programs),
+          ("memory refused to pcapng files", test_pcapng.refused_memory), ("the library of captures", test_library.as_ipcap),
           ("memory refused to the library", test_library.refused_memory)]
 
 if __name__ == "__main__":

@@ -83,12 +83,13 @@ def truncated(harness):
             status, found, errors, _ = harness.run("show", "--one-line", path)
             lines = found.count(b"\n")
             place = "can't read packet %d: " % (lines + 1) if lines else ""
-            harness.check(errors in ["ipcap: %s: %s%s data is truncated\n" % (path, it, name) for it in (place, "can't read packet 1: ")],
-                          name, kept, errors)
+            wanted = ["ipcap: %s: %s%s data is truncated\n" % (path, it, name) for it in (place, "can't read packet 1: ")]
+            harness.check(errors in wanted, name, kept, errors)
             harness.equal(status, 1, name, kept)
         harness.check(lines == 120 or name == "zstd", name, "without the last byte", lines)
         status, found, errors, _ = harness.run("show", "--one-line", content=compress(plain) + content[:len(content) // 2])
-        harness.check(status == 1 and found.count(b"\n") >= 120 and errors.endswith(" %s data is truncated\n" % name), errors)
+        is_named = errors.endswith(" %s data is truncated\n" % name)
+        harness.check(status == 1 and found.count(b"\n") >= 120 and is_named, errors)
 
 
 def with_wrong_checksum(name, content):

@@ -40,7 +40,7 @@ struct capture {
     const char *name; /* for messages */
     FILE *file;       /* the bytes of the source */
     struct capture_blocks blocks;
-    int link_type;    /* one of libpcap's DLT_ values: of a pcapng file, that of the first interface that is supported */
+    int link_type;    /* one of libpcap's DLT_ values: of a pcapng file, that of the first supported interface */
     const struct link_layer *link_layer;
     bool is_live;    /* the input is not a regular file, so packets may arrive as they are captured */
     uint64_t number; /* number of packets read so far */

@@ -36,23 +36,58 @@ static void look_at_file(struct input *input, const char *path)
     if (S_ISFIFO(status.st_mode)) outlive_interrupt();
 }
 
+/* What moves the cursor to the start of the line and erases the line. */
+static const char erase[] = "\r\033[K";
+
 /* Erases the progress line, if there is one. */
 static void clear_progress(struct input *input)
 {
-    if (input->is_progress_shown) fputs("\r\033[K", stderr);
+    if (input->is_progress_shown) fputs(erase, stderr);
     input->is_progress_shown = false;
+}
+
+/* Whether a second has begun since progress was last shown. If so, stores the time. */
+static bool is_due(struct timespec *shown)
+{
+    struct timespec now;
+    if (clock_gettime(CLOCK_MONOTONIC, &now) != 0 || now.tv_sec == shown->tv_sec) return false;
+    *shown = now;
+    return true;
+}
+
+/* Whether progress may be shown while standard output is used: on one terminal, the two would mix. */
+static bool shows_progress(void)
+{
+    return isatty(STDERR_FILENO) && !isatty(STDOUT_FILENO);
+}
+
+void begin_files_progress(struct files_progress *progress)
+{
+    *progress = (struct files_progress){.is_allowed = shows_progress()};
+    is_due(&progress->shown);
+}
+
+void show_files_progress(struct files_progress *progress, size_t done, size_t count)
+{
+    if (!progress->is_allowed || !is_due(&progress->shown)) return;
+    progress->is_shown = true;
+    fprintf(stderr, "%s%zu of %zu files", erase, done, count);
+    fflush(stderr);
+}
+
+void clear_files_progress(struct files_progress *progress)
+{
+    if (progress->is_shown) fputs(erase, stderr);
+    progress->is_shown = false;
 }
 
 /* Updates the progress line, once per second. */
 static void show_progress(struct capture *capture)
 {
     struct input *input = (struct input *)capture;
-    struct timespec now;
-    if (capture->number % PROGRESS_PACKETS != 0) return;
-    if (clock_gettime(CLOCK_MONOTONIC, &now) != 0 || now.tv_sec == input->shown.tv_sec) return;
-    input->shown = now;
+    if (capture->number % PROGRESS_PACKETS != 0 || !is_due(&input->shown)) return;
     input->is_progress_shown = true;
-    fputs("\r\033[K", stderr);
+    fputs(erase, stderr);
     write_escaped(stderr, capture->name);
     fprintf(stderr, ": %llu packets", (unsigned long long)capture->number);
     double at = (double)capture->source.position;
@@ -74,19 +109,28 @@ static bool report_error(const struct capture *capture)
     return false;
 }
 
-bool open_input(struct input *input, const char *path)
+bool begin_input(struct input *input, const char *path)
 {
     *input = (struct input){0};
     look_at_file(input, path);
-    if (!open_capture(&input->capture, path)) return report_error(&input->capture);
-    /* on one terminal, progress and output would mix */
-    if (!isatty(STDOUT_FILENO)) allow_progress(input);
+    if (!open_capture(&input->capture, path)) return false;
+    if (shows_progress()) allow_progress(input);
     return true;
+}
+
+void end_input(struct input *input)
+{
+    clear_progress(input);
+    close_capture(&input->capture);
+}
+
+bool open_input(struct input *input, const char *path)
+{
+    return begin_input(input, path) || report_error(&input->capture);
 }
 
 bool close_input(struct input *input)
 {
-    clear_progress(input);
-    close_capture(&input->capture);
+    end_input(input);
     return report_error(&input->capture);
 }

@@ -15,6 +15,28 @@ struct input {
     struct timespec shown;  /* when the progress line was last updated */
 };
 
+/* The progress of reading several files. */
+struct files_progress {
+    bool is_allowed; /* it may be shown */
+    bool is_shown;   /* there is a progress line on the terminal */
+    struct timespec shown;
+};
+
+/* Begins to measure the progress of files, of which none was read yet. */
+void begin_files_progress(struct files_progress *progress);
+
+/* Shows how many of the files were read, once per second. */
+void show_files_progress(struct files_progress *progress, size_t done, size_t count);
+
+/* Erases the progress line, if there is one. */
+void clear_files_progress(struct files_progress *progress);
+
+/* Opens a file or standard input. On failure, sets the error of the capture and returns false. Reports nothing. */
+bool begin_input(struct input *input, const char *path);
+
+/* Closes an input. Reports nothing. */
+void end_input(struct input *input);
+
 /* Opens a file or standard input. On failure, reports why and returns false. */
 bool open_input(struct input *input, const char *path);
 

@@ -169,7 +169,8 @@ static bool read_resolution(struct pcapng *pcapng, uint8_t resolution, struct in
 }
 
 /* Reads an option of an interface, whose value is at an offset in the block. */
-static bool read_interface_option(struct pcapng *pcapng, unsigned code, size_t at, size_t len, struct interface *interface)
+static bool read_interface_option(struct pcapng *pcapng, unsigned code, size_t at, size_t len,
+                                  struct interface *interface)
 {
     enum { RESOLUTION = 9, OFFSET = 14, OFFSET_LEN = 8 };
     if (code == RESOLUTION && len == 1) return read_resolution(pcapng, pcapng->block[at], interface);
@@ -187,7 +188,8 @@ static bool read_interface_options(struct pcapng *pcapng, struct interface *inte
         at += HEAD_LEN;
         if (code == 0) return true;
         if (padded > end - at)
-            return fail(pcapng, "interface description", "has an option of %zu bytes, but only %zu are left", len, end - at);
+            return fail(pcapng, "interface description", "has an option of %zu bytes, but only %zu are left", len,
+                        end - at);
         if (!read_interface_option(pcapng, code, at, len, interface)) return false;
         at += padded;
     }

@@ -63,8 +63,8 @@ bool is_pcapng_magic(const uint8_t bytes[4]);
 void begin_pcapng(struct pcapng *pcapng, FILE *file);
 
 /*
- * Reads the next block, and the descriptions of section and interfaces. The length of a section that it states is
- * replaced by `unknown`, since copies of it may have fewer blocks. Returns false at the end of the file, and on failure,
+ * Reads the next block, and what it says of the section or an interface. The length of a section is replaced by -1, which
+ * stands for an unknown one, since copies may have fewer blocks. Returns false at the end of the file, and on failure,
  * which sets `error`.
  */
 bool read_block(struct pcapng *pcapng);

@@ -33,8 +33,8 @@ bool is_standard_stream(const char *path);
 
 /*
  * Opens a file or standard input. Returns a stream of its bytes, decompressed if the first ones are those of a known
- * format. Closing the stream also closes the file. Reading from it returns what has arrived, without waiting for more. On
- * failure, sets `error` and returns null. If reading from the stream fails later, `error` says why.
+ * format. Closing the stream also closes the file. The stream has each byte as soon as it has arrived. On failure, sets
+ * `error` and returns null. If reading from the stream fails later, `error` says why.
  */
 FILE *open_source(struct source *source, const char *path);
 

@@ -4,9 +4,11 @@
 #include <stddef.h>
 #include <stdint.h>
 #include <stdio.h>
+#include <unistd.h>
 
 #include "arguments.h"
 #include "commands.h"
+#include "count_files.h"
 #include "counts.h"
 #include "input.h"
 #include "options.h"
@@ -15,8 +17,9 @@
 #include "report.h"
 
 static const char stat_usage[] =
-    "usage: ipcap stat [--json] [--per-file] [--top N] [FILE..]\n"
+    "usage: ipcap stat [-j N] [--json] [--per-file] [--top N] [FILE..]\n"
     "Counts the packets of each FILE, or standard input, by their IP extension headers.\n"
+    "  -j N        count at most N files side by side; without it, as many as there are processors\n"
     "  --json      print a JSON object of counts, which `ipcap sum` reads, instead of tables\n"
     "  --per-file  print the counts of each file, with its name, instead of their sum\n"
     "  --top N     print at most N rows of each table, and the sum of the others; JSON has all rows\n"
@@ -36,30 +39,18 @@ struct request {
     bool json;
     bool is_per_file;
     uint64_t top;
+    uint64_t jobs; /* 0 if not given */
 };
 
 static const struct option_row options[] = {
     {"json", set_flag, offsetof(struct request, json), NULL},
     {"top", read_count_argument, offsetof(struct request, top), "a number above 0"},
-    {"per-file", set_flag, offsetof(struct request, is_per_file), NULL}, /* not of `sum` */
+    /* not of `sum` */
+    {"per-file", set_flag, offsetof(struct request, is_per_file), NULL},
+    {"j", read_count_argument, offsetof(struct request, jobs), "a number above 0"},
 };
 
-enum { STAT_OPTIONS = sizeof options / sizeof *options, SUM_OPTIONS = STAT_OPTIONS - 1 };
-
-/*
- * Counts the packets of a capture, and sets `is_any` if it can be opened. If it can't be read to its end, the packets
- * before that point are counted.
- */
-static bool count_input(struct counts *counts, const char *path, bool *is_any)
-{
-    struct input input;
-    if (!open_input(&input, path)) return false;
-    *is_any = true;
-    bool is_counted = count_capture(counts, &input.capture);
-    bool is_read = close_input(&input);
-    if (!is_counted) complain_of_memory();
-    return is_read && is_counted;
-}
+enum { STAT_OPTIONS = sizeof options / sizeof *options, SUM_OPTIONS = STAT_OPTIONS - 2 };
 
 /* Writes statistics, with the name of their file unless it is null. Returns false if writing fails. */
 static bool write_counts(const struct request *request, struct counts *counts, const char *file)
@@ -70,25 +61,61 @@ static bool write_counts(const struct request *request, struct counts *counts, c
     return finish_output();
 }
 
-/* Counts files together, and writes the statistics unless no file can be opened. */
-static bool count_files(const struct request *request, const char *const *paths, int count, const char *name)
+/* What the files have given so far. */
+struct summary {
+    const struct request *request;
+    struct counts total; /* unless files are printed one by one */
+    bool is_any;         /* a file could be opened */
+    bool is_done;        /* nothing failed */
+};
+
+/* Reports what failed while a file was read. Returns false if anything did. */
+static bool report_file(const struct counted_file *file)
 {
-    struct counts counts;
-    bool is_any = false, is_done = true;
-    init_counts(&counts);
-    for (int i = 0; i < count; i++)
-        if (!count_input(&counts, paths[i], &is_any)) is_done = false;
-    if (is_any && !write_counts(request, &counts, name)) is_done = false;
-    free_counts(&counts);
-    return is_done;
+    if (*file->error) complain("%s: %s", file->name, file->error);
+    if (file->is_memory_short) complain_of_memory();
+    return !*file->error && !file->is_memory_short;
 }
 
-static bool count_each_file(const struct request *request, const char *const *paths, int count)
+static bool add_file(struct counted_file *file, void *place)
 {
-    bool is_done = true;
-    for (int i = 0; i < count && !ferror(stdout); i++)
-        if (!count_files(request, &paths[i], 1, paths[i])) is_done = false;
-    return is_done;
+    struct summary *summary = place;
+    if (!report_file(file)) summary->is_done = false;
+    if (file->is_open) summary->is_any = true;
+    if (merge_counts(&summary->total, &file->counts)) return true;
+    complain_of_memory();
+    return summary->is_done = false;
+}
+
+static bool write_file(struct counted_file *file, void *place)
+{
+    struct summary *summary = place;
+    if (!report_file(file)) summary->is_done = false;
+    if (!file->is_open || write_counts(summary->request, &file->counts, file->path)) return true;
+    return summary->is_done = false;
+}
+
+/* Returns how many files are counted side by side. Standard input is read in turn if it is given several times. */
+static size_t choose_jobs(const struct request *request, const char *const *paths, size_t count)
+{
+    size_t standard = 0;
+    long processors = sysconf(_SC_NPROCESSORS_ONLN);
+    for (size_t i = 0; i < count; i++)
+        if (is_standard_stream(paths[i])) standard++;
+    if (standard > 1) return 1;
+    return request->jobs > 0 ? request->jobs : processors > 0 ? (size_t)processors : 1;
+}
+
+/* Counts the files, and writes their statistics unless no file can be opened. */
+static bool run_request(const struct request *request, const char *const *paths, size_t count)
+{
+    struct summary summary = {.request = request, .is_done = true};
+    init_counts(&summary.total);
+    size_t jobs = choose_jobs(request, paths, count);
+    count_files(paths, count, jobs, request->is_per_file ? write_file : add_file, &summary);
+    bool is_written = request->is_per_file || !summary.is_any || write_counts(request, &summary.total, NULL);
+    free_counts(&summary.total);
+    return summary.is_done && is_written;
 }
 
 int run_stat(int count, char **arguments)
@@ -99,10 +126,7 @@ int run_stat(int count, char **arguments)
     if (status >= 0) return status;
     bool is_standard = optind == count;
     const char *const *paths = is_standard ? standard_input : (const char *const *)(arguments + optind);
-    int path_count = is_standard ? 1 : count - optind;
-    bool is_done = request.is_per_file ? count_each_file(&request, paths, path_count)
-                                       : count_files(&request, paths, path_count, NULL);
-    return is_done ? STATUS_DONE : STATUS_FAILED;
+    return run_request(&request, paths, is_standard ? 1 : (size_t)(count - optind)) ? STATUS_DONE : STATUS_FAILED;
 }
 
 /* Reads the next object and adds it to the total. */

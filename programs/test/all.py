@@ -21,6 +21,7 @@ GROUPS = [("link layers", test_link_layers.link_layers), ("short frames", test_l
           ("snap lengths", test_stat.snap_lengths), ("faults in truncated packets", test_stat.faults_in_truncated_packets),
           ("truncated files", test_stat.truncated_files), ("what can't be read", test_stat.what_cant_be_read),
           ("files apart", test_stat.files_apart), ("first rows", test_stat.first_rows),
+          ("files side by side", test_stat.side_by_side),
           ("forms of files", test_stat.forms_of_files), ("chains as tshark finds them", test_stat.tshark_agrees),
           ("odd packets as tshark finds them", test_stat.tshark_agrees_on_odd_packets),
           ("chains as scapy makes them", test_stat.scapy_agrees), ("tables", test_stat.tables),

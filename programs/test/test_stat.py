@@ -222,6 +222,31 @@ def files_apart(harness):
     harness.equal(found, wanted, "a file that can't be opened")
 
 
+def side_by_side(harness):
+    """Whatever -j is, output, messages and status are those of counting the files in turn."""
+    draw = random.Random(3)
+    contents = [capture(random_frames(draw.randrange(1, 200), seed)) for seed in range(9)]
+    whole = [harness.file(content) for content in contents]
+    broken = [harness.file(contents[0][:-1]), "/nonexistent", harness.folder, harness.file(b"no capture"),
+              harness.file(capture([bytes(60)], 105))]
+    many = [harness.file(capture([ipv6_chain([43] * count, number, b"") for number in range(140, 250)
+                                  for count in range(start, start + 30)], RAW)) for start in [0, 20, 30]]
+    for paths in [whole[:1], whole[:2], whole, broken, whole[:3] + broken + whole[3:], whole[:2] + ["-"] + whole[2:4],
+                  ["-", whole[0], "-"], whole * 4, many]:
+        for arguments in [[], ["--json"], ["--per-file"], ["--per-file", "--json"]]:
+            wanted = harness.answer(harness.plain, ["stat", "-j1", *arguments, *paths], contents[4], None)
+            for jobs in [["-j", "2"], ["-j", "5"], []]:
+                found = harness.answer(harness.plain, ["stat", *arguments, *jobs, *paths], contents[4], None)
+                harness.equal(found, wanted, jobs, arguments, paths)
+            if len(paths) in (2, 14):
+                harness.equal(harness.run("stat", "-j", "3", *arguments, *paths, content=contents[4]), wanted, arguments, paths)
+    found = [harness.stat(path)[0]["packets"] for path in whole]
+    harness.equal(harness.stat("-j", "18446744073709551615", *whole)[0]["packets"], sum(found), "the sum")
+    with open("/dev/full", "wb") as full:
+        found = harness.run("stat", "-j", "2", "--per-file", *whole, output=full)
+        harness.equal(found[0::2], (1, "ipcap: standard output: No space left on device\n"), "a full disk")
+
+
 def forms_of_files(harness):
     frames = [ethernet(ipv6_chain([0, 44])), ethernet(ipv4(17, UDP))]
     first, _ = harness.stat(content=capture(frames))

@@ -29,7 +29,8 @@ def wrong_usage(harness):
     for arguments in [[], ["frob"], ["--frob"], ["x" * 500], ["stat", "--frob"], ["sum", "file"], ["sum", "--frob"],
                       ["show", "a", "b"],
                       ["show", "--color"], ["show", "--color=red"], ["show", "-w", "x"], ["show", "-c", "0"],
-                      ["show", "--json", "--one-line"], ["stat", "--json=1"],
+                      ["show", "--json", "--one-line"], ["stat", "--json=1"], ["stat", "-j", "0"], ["stat", "-j"],
+                      ["stat", "-j", "x"], ["sum", "-j", "2"],
                       ["stat", "--top", "0"], ["stat", "--top"], ["sum", "--top", "x"], ["sum", "--per-file"]]:
         status, found, errors, _ = harness.run(*arguments)
         harness.equal((status, found), (2, b""), arguments)
@@ -119,6 +120,8 @@ def terminals(harness):
                                     file_header(), frames)
         is_shown = re.search(rb"standard input: \d+ packets", shown)
         harness.check(status == 0 and is_shown and shown.endswith(b"\r\033[K"), shown)
+        status, shown = in_terminal(command + ["stat", "-j2", path, "-"], environment, True, file_header(), frames)
+        harness.check(status == 0 and re.search(rb"[01] of 2 files", shown) and shown.endswith(b"\r\033[K"), shown)
         status, shown = in_terminal(command + ["stat", path], environment, True)
         harness.equal((status, shown), (0, b""), "no progress line for a short file")
 

@@ -1,0 +1,164 @@
+#include "count_files.h"
+
+#include <pthread.h>
+#include <stdlib.h>
+#include <string.h>
+#include <time.h>
+
+#include "input.h"
+
+/* Each thread may be ahead of the file that is handed over by this many files. */
+enum { FILES_AHEAD = 2 };
+
+/* A place for a file that is counted ahead. */
+struct slot {
+    struct counted_file file; /* written by one thread until `is_done` is set */
+    bool is_done;
+};
+
+/* What the threads share. The lock protects all that changes, and `changed` reports each change. */
+struct pool {
+    pthread_mutex_t lock;
+    pthread_cond_t changed;
+    const char *const *paths;
+    size_t count;
+    size_t next;  /* the first file that no thread has begun */
+    size_t taken; /* number of files that were handed over */
+    bool is_stopped;
+    struct slot *slots; /* a ring, for the files from `taken` on */
+    size_t room;
+};
+
+/* Counts a file. Only one that is alone shows its progress. */
+static void count_file(struct counted_file *file, const char *path, bool is_alone)
+{
+    struct input input;
+    *file = (struct counted_file){.path = path};
+    init_counts(&file->counts);
+    file->is_open = begin_input(&input, path);
+    if (!is_alone) input.capture.follow = NULL;
+    if (file->is_open) {
+        file->is_memory_short = !count_capture(&file->counts, &input.capture);
+        end_input(&input);
+    }
+    file->name = input.capture.name;
+    memcpy(file->error, input.capture.error, sizeof file->error);
+}
+
+/* Counts files one after another. */
+static void count_in_turn(const char *const *paths, size_t count, take_counted_file *take, void *taker)
+{
+    bool is_wanted = true;
+    for (size_t i = 0; i < count && is_wanted; i++) {
+        struct counted_file file;
+        count_file(&file, paths[i], true);
+        is_wanted = take(&file, taker);
+        free_counts(&file.counts);
+    }
+}
+
+/* Waits until a file may be begun, and returns its number, or `count` if there is none. The lock is held. */
+static size_t begin_next(struct pool *pool)
+{
+    while (!pool->is_stopped && pool->next < pool->count && pool->next - pool->taken == pool->room)
+        pthread_cond_wait(&pool->changed, &pool->lock);
+    return pool->is_stopped || pool->next == pool->count ? pool->count : pool->next++;
+}
+
+/* Counts files until none is left. */
+static void *work(void *place)
+{
+    struct pool *pool = place;
+    pthread_mutex_lock(&pool->lock);
+    for (size_t i; (i = begin_next(pool)) < pool->count;) {
+        struct slot *slot = &pool->slots[i % pool->room];
+        pthread_mutex_unlock(&pool->lock);
+        count_file(&slot->file, pool->paths[i], false);
+        pthread_mutex_lock(&pool->lock);
+        slot->is_done = true;
+        pthread_cond_broadcast(&pool->changed);
+    }
+    pthread_mutex_unlock(&pool->lock);
+    return NULL;
+}
+
+/* Waits for a second, or for a change. */
+static void wait_for_change(struct pool *pool)
+{
+    struct timespec until;
+    clock_gettime(CLOCK_REALTIME, &until);
+    until.tv_sec++;
+    pthread_cond_timedwait(&pool->changed, &pool->lock, &until);
+}
+
+/* Waits until a file has been counted, and shows the progress in the meantime. */
+static struct slot *wait_for(struct pool *pool, size_t number, struct files_progress *progress)
+{
+    struct slot *slot = &pool->slots[number % pool->room];
+    pthread_mutex_lock(&pool->lock);
+    while (!slot->is_done) {
+        wait_for_change(pool);
+        show_files_progress(progress, number, pool->count);
+    }
+    pthread_mutex_unlock(&pool->lock);
+    return slot;
+}
+
+/* Makes room for one more file, or lets no file be begun any more. */
+static void release(struct pool *pool, struct slot *slot, bool is_wanted)
+{
+    free_counts(&slot->file.counts);
+    pthread_mutex_lock(&pool->lock);
+    slot->is_done = false;
+    pool->taken++;
+    pool->is_stopped = !is_wanted;
+    pthread_cond_broadcast(&pool->changed);
+    pthread_mutex_unlock(&pool->lock);
+}
+
+/* Hands over the files in their order. */
+static void hand_over(struct pool *pool, take_counted_file *take, void *taker)
+{
+    bool is_wanted = true;
+    struct files_progress progress;
+    begin_files_progress(&progress);
+    for (size_t i = 0; i < pool->count && is_wanted; i++) {
+        struct slot *slot = wait_for(pool, i, &progress);
+        clear_files_progress(&progress);
+        is_wanted = take(&slot->file, taker);
+        release(pool, slot, is_wanted);
+    }
+}
+
+/* Counts files by as many of these threads as can be started. Returns false if none can. */
+static bool count_by_threads(struct pool *pool, pthread_t *threads, size_t jobs, take_counted_file *take, void *taker)
+{
+    size_t started = 0;
+    while (started < jobs && pthread_create(&threads[started], NULL, work, pool) == 0) started++;
+    if (started == 0) return false;
+    hand_over(pool, take, taker);
+    for (size_t i = 0; i < started; i++) pthread_join(threads[i], NULL);
+    /* files that were counted ahead when `take` stopped */
+    for (size_t i = 0; i < pool->room; i++)
+        if (pool->slots[i].is_done) free_counts(&pool->slots[i].file.counts);
+    return true;
+}
+
+static bool count_in_parallel(const char *const *paths, size_t count, size_t jobs, take_counted_file *take, void *taker)
+{
+    struct pool pool = {.lock = PTHREAD_MUTEX_INITIALIZER, .changed = PTHREAD_COND_INITIALIZER, .paths = paths,
+                        .count = count, .room = FILES_AHEAD * jobs};
+    pthread_t *threads = calloc(jobs, sizeof *threads);
+    pool.slots = calloc(pool.room, sizeof *pool.slots);
+    bool is_counted = threads && pool.slots && count_by_threads(&pool, threads, jobs, take, taker);
+    free(pool.slots);
+    free(threads);
+    return is_counted;
+}
+
+void count_files(const char *const *paths, size_t count, size_t jobs, take_counted_file *take, void *taker)
+{
+    if (jobs > count) jobs = count;
+    if (jobs > 1 && count_in_parallel(paths, count, jobs, take, taker)) return;
+    count_in_turn(paths, count, take, taker);
+}

@@ -8,9 +8,9 @@
 # make programs       build the shared libraries and the programs ipexts and ipcap, which needs a C compiler and libpcap;
 #                     with zlib, libzstd or liblzma, ipcap also reads compressed captures
 # make wheel          pack the Python package with the shared libraries, as build/wolfaren-VERSION-py3-none-linux_x86_64.whl
-# make install        install what `make programs` has built: the libraries, their headers, the programs and their manual
-#                     pages. Needs neither rt nor a compiler (PREFIX=/usr/local, also LIBDIR, BINDIR, INCLUDEDIR and
-#                     MANDIR; DESTDIR=.. is prepended to the paths)
+# make install        install what `make programs` has built: the libraries, their headers, the programs, their manual
+#                     pages, and the completions for bash and zsh. Needs neither rt nor a compiler (PREFIX=/usr/local, also
+#                     LIBDIR, BINDIR, INCLUDEDIR, MANDIR, BASHDIR and ZSHDIR; DESTDIR=.. is prepended to the paths)
 # make install-lib    install the library alone: the archive of `make lib`, and the shared library if it is built
 # make uninstall      remove what `make install` installs
 # make dist           pack libraries, programs, page, Rust and Python package for machines without Rattle, as
@@ -113,6 +113,9 @@ BINDIR = $(PREFIX)/bin
 LIBDIR = $(PREFIX)/lib
 INCLUDEDIR = $(PREFIX)/include
 MANDIR = $(PREFIX)/share/man
+BASHDIR = $(PREFIX)/share/bash-completion/completions
+# Debian's packages have a directory of their own for zsh
+ZSHDIR = $(PREFIX)/share/zsh/$(if $(filter /usr,$(PREFIX)),vendor-completions,site-functions)
 DESTDIR =
 INSTALL = install
 BUILD = build
@@ -147,9 +150,11 @@ install-pcap-lib: install-lib
 
 install: install-pcap-lib
 	[ -f build/ipcap ] && [ -f build/ipexts ] || { echo "The programs are missing: run 'make programs' first." >&2; exit 1; }
-	$(INSTALL) -d $(DESTDIR)$(BINDIR) $(DESTDIR)$(MANDIR)/man1
+	$(INSTALL) -d $(DESTDIR)$(BINDIR) $(DESTDIR)$(MANDIR)/man1 $(DESTDIR)$(BASHDIR) $(DESTDIR)$(ZSHDIR)
 	$(INSTALL) -m 755 build/ipcap build/ipexts $(DESTDIR)$(BINDIR)/
 	$(INSTALL) -m 644 programs/ipcap/ipcap.1 programs/ipexts.1 $(DESTDIR)$(MANDIR)/man1/
+	$(INSTALL) -m 644 programs/ipcap/completion/ipcap.bash $(DESTDIR)$(BASHDIR)/ipcap
+	$(INSTALL) -m 644 programs/ipcap/completion/_ipcap $(DESTDIR)$(ZSHDIR)/
 
 uninstall:
 	rm -f $(DESTDIR)$(INCLUDEDIR)/wolfaren.h $(DESTDIR)$(LIBDIR)/pkgconfig/wolfaren.pc
@@ -158,6 +163,7 @@ uninstall:
 	rm -f $(DESTDIR)$(LIBDIR)/libwolfaren-pcap.so.0 $(DESTDIR)$(LIBDIR)/libwolfaren-pcap.so
 	rm -f $(DESTDIR)$(BINDIR)/ipcap $(DESTDIR)$(BINDIR)/ipexts
 	rm -f $(DESTDIR)$(MANDIR)/man1/ipcap.1 $(DESTDIR)$(MANDIR)/man1/ipexts.1
+	rm -f $(DESTDIR)$(BASHDIR)/ipcap $(DESTDIR)$(ZSHDIR)/_ipcap
 
 dist: programs page wheel
 	scripts/dist

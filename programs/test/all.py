@@ -3,6 +3,7 @@
 import sys
 
 import harness
+import test_completion
 import test_compression
 import test_filter
 import test_library
@@ -40,7 +41,7 @@ GROUPS = [("link layers", test_link_layers.link_layers), ("short frames", test_l
           ("packets in lines", test_show.lines), ("packets in JSON", test_show.objects),
           ("large offsets", test_show.large_offsets),
           ("places of faults", test_show.places_of_faults), ("long packets", test_show.long_packets),
-          ("colours", test_show.colors), ("help and version", test_use.helps), ("wrong usage", test_use.wrong_usage),
+          ("colours", test_show.colors), ("help and version", test_use.helps), ("completions", test_completion.completions), ("wrong usage", test_use.wrong_usage),
           ("names of files", test_use.names_of_files),
           ("full outputs", test_use.full_outputs), ("terminals", test_use.terminals),
           ("interrupts", test_use.interrupts), ("bounded memory", test_use.bounded_memory),

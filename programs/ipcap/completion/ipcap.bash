@@ -1,0 +1,53 @@
+# Completes the commands, options and terms of ipcap(1) in bash.
+
+# Prints the first word of each term of conditions, as the program lists them.
+_ipcap_terms() {
+    local word rest
+    "$1" filter --help-terms 2>/dev/null | while read -r word rest; do
+        [ -n "$word" ] || break
+        [ "$word" = term ] || echo "$word"
+    done
+}
+
+# Completes a word with those of a list.
+_ipcap_words() {
+    local IFS=$' \t\n'
+    COMPREPLY=($(compgen -W "$1" -- "$2"))
+}
+
+# Completes the argument of the option before the word. Returns 1 if that option has none.
+_ipcap_argument() {
+    case $1 in
+        -r | -w) ;;
+        -c | -j | --packets | --since | --top | --until) compopt +o default 2>/dev/null ;;
+        --color | =) _ipcap_words 'always never auto' "${2#=}" ;;
+        *) return 1 ;;
+    esac
+}
+
+_ipcap() {
+    local word=${COMP_WORDS[COMP_CWORD]} options
+    COMPREPLY=()
+    if [ "$COMP_CWORD" -eq 1 ]; then
+        _ipcap_words 'stat sum filter show --help --version' "$word"
+        return
+    fi
+    case ${COMP_WORDS[1]} in
+        stat) options='-j --json --per-file --top' ;;
+        sum) options='--json --top' ;;
+        filter) options='-c -n -r -w --since --until --packets --show --help-terms' ;;
+        show) options='-c --color= --one-line --json' ;;
+        *) return ;;
+    esac
+    _ipcap_argument "${COMP_WORDS[COMP_CWORD-1]}" "$word" && return
+    case $word in
+        -*) _ipcap_words "$options --help --version" "$word" ;;
+        *) [ "${COMP_WORDS[1]}" != filter ] || _ipcap_words "and or not $(_ipcap_terms "${COMP_WORDS[0]}")" "$word" ;;
+    esac
+    # an equals sign is followed by the value
+    [ "${COMPREPLY[0]:-}" != --color= ] || compopt -o nospace 2>/dev/null
+    return 0
+}
+
+# Where nothing else fits, names of files are completed.
+complete -o default -F _ipcap ipcap

@@ -1,5 +1,6 @@
 #include "capture.h"
 
+#include <errno.h>
 #include <stdarg.h>
 #include <stdlib.h>
 #include <string.h>
@@ -16,11 +17,19 @@ __attribute__((format(printf, 2, 3))) static bool fail(struct capture *capture, 
     return false;
 }
 
+/* Returns the error of the system that ended reading, or 0 if there is none. `errno` may still be that error. */
+static int read_error(const struct capture *capture)
+{
+    if (!capture->source.is_plain) return capture->source.system_error;
+    return ferror(capture->file) ? errno : 0;
+}
+
 /* Sets the error to that of the source, and returns false. */
 static bool fail_as_source(struct capture *capture)
 {
-    capture->system_error = capture->source.system_error;
-    return fail(capture, "%s", *capture->source.error ? capture->source.error : "read error");
+    capture->system_error = capture->file ? read_error(capture) : capture->source.system_error;
+    if (*capture->source.error) return fail(capture, "%s", capture->source.error);
+    return fail(capture, "%s", capture->system_error ? strerror(capture->system_error) : "read error");
 }
 
 /*
@@ -139,7 +148,7 @@ static bool open_blocks(struct capture *capture)
         if (!blocks->is_ahead && !take_other_block(capture)) return false;
     }
     blocks->has_begun = true;
-    if (*capture->source.error) return fail_as_source(capture);
+    if (*capture->source.error || ferror(capture->file)) return fail_as_source(capture);
     if (*blocks->file.error) return fail(capture, "%s", blocks->file.error);
     if (!blocks->has_interface && blocks->left_out_count > 0) return fail(capture, "%s", blocks->left_out_names);
     if (blocks->has_interface || blocks->head_len < MOST_HEAD) return true;
@@ -175,7 +184,7 @@ bool open_capture(struct capture *capture, const char *path)
 /* Sets the error that a packet can't be read, for a reason that the source may know better, and returns false. */
 static bool fail_on_packet(struct capture *capture, const char *reason)
 {
-    capture->system_error = capture->source.system_error;
+    capture->system_error = read_error(capture);
     return fail(capture, "can't read packet %llu: %s", (unsigned long long)capture->number + 1,
                 *capture->source.error ? capture->source.error : reason);
 }

@@ -1,5 +1,7 @@
 #include "pcapng.h"
 
+#include <endian.h>
+#include <errno.h>
 #include <pcap/pcap.h>
 #include <stdarg.h>
 #include <stdlib.h>
@@ -72,23 +74,26 @@ void begin_pcapng(struct pcapng *pcapng, FILE *file)
     *pcapng = (struct pcapng){.file = file};
 }
 
-/* Returns the number in `count` bytes of the block. */
-static uint64_t number_at(const struct pcapng *pcapng, size_t at, size_t count)
+/* Returns the number in 2, 4 or 8 bytes of the block. */
+static uint16_t half_word_at(const struct pcapng *pcapng, size_t at)
 {
-    uint64_t number = 0;
-    for (size_t i = 0; i < count; i++)
-        number = number << 8 | pcapng->block[at + (pcapng->is_big_endian ? i : count - 1 - i)];
-    return number;
+    uint16_t number;
+    memcpy(&number, pcapng->block + at, sizeof number);
+    return pcapng->is_big_endian ? be16toh(number) : le16toh(number);
 }
 
 static uint32_t word_at(const struct pcapng *pcapng, size_t at)
 {
-    return (uint32_t)number_at(pcapng, at, 4);
+    uint32_t number;
+    memcpy(&number, pcapng->block + at, sizeof number);
+    return pcapng->is_big_endian ? be32toh(number) : le32toh(number);
 }
 
-static uint16_t half_word_at(const struct pcapng *pcapng, size_t at)
+static uint64_t double_word_at(const struct pcapng *pcapng, size_t at)
 {
-    return (uint16_t)number_at(pcapng, at, 2);
+    uint64_t number;
+    memcpy(&number, pcapng->block + at, sizeof number);
+    return pcapng->is_big_endian ? be64toh(number) : le64toh(number);
 }
 
 static bool make_room(struct pcapng *pcapng, size_t room)
@@ -106,7 +111,8 @@ static bool read_bytes(struct pcapng *pcapng, size_t from, size_t to)
 {
     size_t count = fread(pcapng->block + from, 1, to - from, pcapng->file);
     if (from + count == to) return true;
-    return from + count == 0 && !ferror(pcapng->file) ? false : fail(pcapng, "block", "is truncated");
+    if (ferror(pcapng->file)) return fail(pcapng, "block", "can't be read: %s", strerror(errno));
+    return from + count == 0 ? false : fail(pcapng, "block", "is truncated");
 }
 
 /* Determines the byte order of a section from its first bytes. */
@@ -172,9 +178,9 @@ static bool read_resolution(struct pcapng *pcapng, uint8_t resolution, struct in
 static bool read_interface_option(struct pcapng *pcapng, unsigned code, size_t at, size_t len,
                                   struct interface *interface)
 {
-    enum { RESOLUTION = 9, OFFSET = 14, OFFSET_LEN = 8 };
+    enum { RESOLUTION = 9, OFFSET = 14 };
     if (code == RESOLUTION && len == 1) return read_resolution(pcapng, pcapng->block[at], interface);
-    if (code == OFFSET && len == OFFSET_LEN) interface->offset = (int64_t)number_at(pcapng, at, OFFSET_LEN);
+    if (code == OFFSET && len == sizeof interface->offset) interface->offset = (int64_t)double_word_at(pcapng, at);
     return true;
 }
 
@@ -255,15 +261,22 @@ static bool find_interface(struct pcapng *pcapng, uint32_t number, struct block_
     return true;
 }
 
-/* Converts a timestamp. The seconds stop at a number that no file has. */
-static struct timespec convert_time(const struct interface *interface, uint64_t units)
+/* Converts a part of a second to nanoseconds. */
+static long convert_fraction(uint64_t units, uint64_t units_per_second)
 {
     enum { NANOSECONDS = 1000000000 };
     __extension__ typedef unsigned __int128 wide;
+    if (units_per_second <= NANOSECONDS) return (long)(units * NANOSECONDS / units_per_second);
+    return (long)((wide)units * NANOSECONDS / units_per_second);
+}
+
+/* Converts a timestamp. The seconds stop at a number that no file has. */
+static struct timespec convert_time(const struct interface *interface, uint64_t units)
+{
     uint64_t whole = units / interface->units_per_second, rest = units % interface->units_per_second;
     int64_t seconds = whole < INT64_MAX ? (int64_t)whole : INT64_MAX;
     if (__builtin_add_overflow(seconds, interface->offset, &seconds) || seconds == INT64_MAX) seconds = INT64_MAX - 1;
-    return (struct timespec){seconds, (long)((wide)rest * NANOSECONDS / interface->units_per_second)};
+    return (struct timespec){seconds, convert_fraction(rest, interface->units_per_second)};
 }
 
 /* Simple packets are of the first interface, and have no timestamp. The snap length says how long they are. */

@@ -130,6 +130,12 @@ static int close_source(void *cookie)
     return source->descriptor == STDIN_FILENO ? 0 : close(source->descriptor);
 }
 
+bool is_live(const struct source *source)
+{
+    struct stat status;
+    return fstat(source->descriptor, &status) != 0 || !S_ISREG(status.st_mode);
+}
+
 /* Determines whether the file is compressed, and makes the decoder. Returns false on failure. */
 static bool begin(struct source *source)
 {
@@ -147,23 +153,45 @@ static bool begin(struct source *source)
     return source->decoder;
 }
 
-FILE *open_source(struct source *source, const char *path)
+/* Whether the first bytes of a file that isn't compressed can be read again. If so, that comes next. */
+static bool rewind_file(struct source *source)
+{
+    if (source->compression || is_live(source)) return false;
+    if (lseek(source->descriptor, -(off_t)source->end, SEEK_CUR) < 0) return false;
+    source->start = source->end = 0;
+    return true;
+}
+
+/* Opens a stream that reads the file itself, which takes less time, or if it can't, one that calls `read_source`. */
+static FILE *open_stream(struct source *source)
 {
     static const cookie_io_functions_t functions = {.read = read_source, .close = close_source};
+    source->is_plain = rewind_file(source);
+    if (!source->is_plain) return fopencookie(source, "r", functions);
+    bool is_input = source->descriptor == STDIN_FILENO;
+    int descriptor = is_input ? dup(STDIN_FILENO) : source->descriptor;
+    FILE *stream = fdopen(descriptor, "rb");
+    if (!stream && is_input && descriptor >= 0) close(descriptor);
+    return stream;
+}
+
+FILE *open_source(struct source *source, const char *path)
+{
     *source = (struct source){.descriptor = STDIN_FILENO};
     if (!is_standard_stream(path)) source->descriptor = open(path, O_RDONLY | O_CLOEXEC);
     if (source->descriptor < 0) {
         fail_as_system(source);
         return NULL;
     }
-    FILE *stream = begin(source) ? fopencookie(source, "r", functions) : NULL;
+    FILE *stream = begin(source) ? open_stream(source) : NULL;
     if (!stream && !*source->error) fail(source, "out of memory");
     if (!stream) close_source(source);
     return stream;
 }
 
-bool is_live(const struct source *source)
+uint64_t source_position(const struct source *source, FILE *stream)
 {
-    struct stat status;
-    return fstat(source->descriptor, &status) != 0 || !S_ISREG(status.st_mode);
+    if (!source->is_plain) return source->position;
+    off_t position = ftello(stream);
+    return position < 0 ? 0 : (uint64_t)position;
 }

@@ -17,6 +17,7 @@ enum { SOURCE_ERROR_ROOM = 128 };
 
 struct source {
     int descriptor;
+    bool is_plain;       /* the stream reads the file itself, and what follows has no meaning except for the errors */
     bool is_ended;       /* nothing more comes from the file */
     bool is_complete;    /* the last compressed stream is complete */
     uint64_t position;   /* number of bytes read from the file */
@@ -37,6 +38,9 @@ bool is_standard_stream(const char *path);
  * `error` and returns null. If reading from the stream fails later, `error` says why.
  */
 FILE *open_source(struct source *source, const char *path);
+
+/* Returns how many bytes of the file were read for the stream. */
+uint64_t source_position(const struct source *source, FILE *stream);
 
 /* Whether the file isn't a regular one, so that its bytes may arrive as they are captured. */
 bool is_live(const struct source *source);

@@ -27,9 +27,9 @@ enum step {
 
 struct compression {
     const char *name;
-    const char *library;         /* the library that decompresses it */
+    const char *library;          /* the library that decompresses it */
     const char *(*version)(void); /* returns the version of the library; null if the program is built without it */
-    void *(*begin)(void);        /* returns a decoder, or null if memory runs out */
+    void *(*begin)(void);         /* returns a decoder, or null if memory runs out */
     enum step (*decode)(void *decoder, struct chunk *chunk);
     void (*end)(void *decoder);
 };

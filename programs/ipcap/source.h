@@ -17,11 +17,11 @@ enum { SOURCE_ERROR_ROOM = 128 };
 
 struct source {
     int descriptor;
-    bool is_plain;       /* the stream reads the file itself, and what follows has no meaning except for the errors */
-    bool is_ended;       /* nothing more comes from the file */
-    bool is_complete;    /* the last compressed stream is complete */
-    uint64_t position;   /* number of bytes read from the file */
-    size_t start, end;   /* where the bytes that were read and not yet consumed are in `bytes` */
+    bool is_plain;     /* the stream reads the file itself, and what follows has no meaning except for the errors */
+    bool is_ended;     /* nothing more comes from the file */
+    bool is_complete;  /* the last compressed stream is complete */
+    uint64_t position; /* number of bytes read from the file */
+    size_t start, end; /* where the bytes that were read and not yet consumed are in `bytes` */
     const struct compression *compression; /* null if the bytes aren't compressed */
     void *decoder;
     char error[SOURCE_ERROR_ROOM]; /* why opening or reading failed, otherwise empty */

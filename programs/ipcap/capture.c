@@ -115,14 +115,25 @@ static void take_interface(struct capture *capture)
     if (interface->link_layer) capture->blocks.has_interface = true;
 }
 
+/* Makes room for the last block in the head. Returns false if memory runs out. */
+static bool make_head_room(struct capture *capture)
+{
+    struct capture_blocks *blocks = &capture->blocks;
+    size_t len = blocks->head_len + blocks->file.len;
+    if (len <= blocks->head_room) return true;
+    uint8_t *head = realloc(blocks->head, 2 * len);
+    if (!head) return fail(capture, "out of memory");
+    blocks->head = head;
+    blocks->head_room = 2 * len;
+    return true;
+}
+
 /* Adds the last block to the head. Returns false if memory runs out. */
 static bool add_to_head(struct capture *capture)
 {
     struct capture_blocks *blocks = &capture->blocks;
-    uint8_t *head = realloc(blocks->head, blocks->head_len + blocks->file.len);
-    if (!head) return fail(capture, "out of memory");
-    memcpy(head + blocks->head_len, blocks->file.block, blocks->file.len);
-    blocks->head = head;
+    if (!make_head_room(capture)) return false;
+    memcpy(blocks->head + blocks->head_len, blocks->file.block, blocks->file.len);
     blocks->head_len += blocks->file.len;
     return true;
 }

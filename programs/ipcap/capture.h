@@ -30,6 +30,7 @@ struct capture_blocks {
     bool has_interface; /* there is one with a supported link layer */
     uint8_t *head;      /* the blocks before the first packet, except those that must not be copied */
     size_t head_len;
+    size_t head_room;   /* allocated for the head */
     int left_out[MOST_LEFT_OUT]; /* the link layers that aren't supported, one of libpcap's DLT_ values each */
     size_t left_out_count;
     char left_out_names[CAPTURE_ERROR_ROOM];

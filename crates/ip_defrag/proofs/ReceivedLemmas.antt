@@ -20,7 +20,7 @@ use Rattle.ip_defrag.specs.Received.{Received, received_nothing, with_fragment, 
 use Rattle.ip_defrag.specs.Reassembly.{HasReceived, IsNew}
 use Rattle.ip_defrag.proofs.FragmentLemmas.{same_among, whole_units, in_bounds, is_in_bounds, out_of_bounds, overlaps_at}
 use Rattle.ip_defrag.proofs.MemberLemmas.{any_from_member, member_sound, member_within, member_ended, member_last, ends_elsewhere, two_ends_from, one_end_from, member_one_end}
-use Rattle.ip_defrag.proofs.MarkLemmas.{first_mark_in, later_mark_in, mark_at_in, mark_at_out, none_overlaps, unmarked, IsMarked, has_shape, member_marks, member_mark_ends, unmarked_after}
+use Rattle.ip_defrag.proofs.MarkLemmas.{HasShape, first_mark_in, later_mark_in, mark_at_in, mark_at_out, none_overlaps, unmarked, IsMarked, has_shape, member_marks, member_mark_ends, unmarked_after}
 use Rattle.ip_defrag.proofs.PayloadLemmas.{byte_at_in, byte_at_out, own_byte, member_byte, first_bytes_each, first_bytes_are, first_bytes_there, present_all, present, payload_is, reach_most, payload_without_end, payload_with_hole, count_most}
 
 -- The refusal, case by case.
@@ -91,32 +91,40 @@ member_slice r s f h among =
     ∙ (h.bytes (f.offset + k) (get_or f.bytes (f.offset + k - f.offset) 0) (member_byte s.limit s.fragments f (f.offset + k) h.consistent among inside)
     ∙ ap (λ (i : ℕ). get_or f.bytes i 0) at))
 
--- A fragment with the units and the end of one that is there repeats it exactly if the buffer has its bytes.
-pub repeated_bytes : (r : Reassembly) (s : Received) (first next : ℕ) (more : Bool) (bytes : List ℕ) → HasReceived r s → IsSound s.limit (fragment_at first more bytes) → 0 < length bytes → next ≡ (8 * first + length bytes) / 8 + min 1 ((8 * first + length bytes) % 8) → (get_or r.marks first 0 ≡ first_mark more) × ((i : ℕ) → first + 1 ≤ i → i < next → get_or r.marks i 0 ≡ 3) × (get_or r.marks next 0 ≡ 3 → ⊥) → (more ≡ false → 8 * first + length bytes ≡ r.reach) → bytes_eq (slice_range r.buffer.now (8 * first) (8 * first + length bytes)) bytes ≡ list_any (is_same (fragment_at first more bytes)) s.fragments
-repeated_bytes r s first next more bytes h sound positive n units ends =
+-- The marks of a fragment's units are those of one that is there.
+units_marked : (r : Reassembly) (s : Received) (first next : ℕ) (more : Bool) (bytes : List ℕ) → HasReceived r s → next ≡ (8 * first + length bytes) / 8 + min 1 ((8 * first + length bytes) % 8) → (get_or r.marks first 0 ≡ first_mark more) × ((i : ℕ) → first + 1 ≤ i → i < next → get_or r.marks i 0 ≡ 3) × (get_or r.marks next 0 ≡ 3 → ⊥) → IsMarked s.fragments (fragment_at first more bytes)
+units_marked r s first next more bytes h n units =
     let f : Fragment = fragment_at first more bytes in
-    let marked : IsMarked s.fragments f = record {
+    record {
       marks = λ i low high. sym (h.marks i) ∙ elim (cases_eq i first) [
         | inl e ↦ ap (λ (k : ℕ). get_or r.marks k 0) e ∙ (units.0 ∙ sym (first_mark_in f i (omega (arith, e))))
         | inr other ↦ units.1 i (omega (arith, other, low)) (omega (arith, high, n)) ∙ sym (later_mark_in f i (λ e. other (omega (arith, e))))
       ];
       ends = λ e. units.2 (h.marks next ∙ (ap (mark_at s.fragments) (let at : next ≡ (end_of f + 7) / 8 = omega (arith, n) in at) ∙ e));
-    } in
-    let shape = has_shape s.limit s.fragments f first refl h.consistent positive marked in
-    let g = shape.other in
-    let g_sound = member_sound s.limit s.fragments g h.consistent shape.among in
-    let end : end_of g ≡ end_of f = elim (cases_Bool more) [
-      | inl follow ↦ omega (arith, shape.units, shape.offset, whole_units g g_sound.aligned (shape.more ∙ follow), whole_units f sound.aligned follow)
-      | inr last ↦ sym (member_last s.limit s.fragments g h.consistent shape.among (shape.more ∙ last)) ∙ (sym h.reach ∙ sym (ends last))
-    ] in
-    let stored : slice_range r.buffer.now (8 * first) (8 * first + length bytes) ≡ g.bytes =
-    ap (λ (i : ℕ). slice_range r.buffer.now i (8 * first + length bytes)) (sym shape.offset)
-    ∙ (ap (slice_range r.buffer.now g.offset) (sym end) ∙ member_slice r s g h shape.among) in
-    let decides = bytes_eq-Decides (slice_range r.buffer.now (8 * first) (8 * first + length bytes)) bytes in
-    same_from_decides (bytes_eq (slice_range r.buffer.now (8 * first) (8 * first + length bytes)) bytes) (list_any (is_same f) s.fragments) decides (
-      (λ among. member_slice r s f h among),
-      λ same. same_among s.fragments g f shape.among shape.offset shape.more (sym stored ∙ same),
-    )
+    }
+
+-- A fragment of the shape of f that ends where f should has the end of f.
+same_end : (r : Reassembly) (s : Received) (f g : Fragment) → HasReceived r s → is_unaligned f ≡ false → list_any (is_same g) s.fragments ≡ true → g.offset ≡ f.offset → g.more ≡ f.more → (end_of g + 7) / 8 ≡ (end_of f + 7) / 8 → (f.more ≡ false → end_of f ≡ r.reach) → end_of g ≡ end_of f
+same_end r s f g h aligned among offset flag units ends = elim (cases_Bool f.more) [
+  | inl follow ↦ omega (arith, units, offset, whole_units g (member_sound s.limit s.fragments g h.consistent among).aligned (flag ∙ follow), whole_units f aligned follow)
+  | inr last ↦ sym (member_last s.limit s.fragments g h.consistent among (flag ∙ last)) ∙ (sym h.reach ∙ sym (ends last))
+]
+
+-- A fragment with the offset, the flag and the end of one that is there repeats it exactly if the buffer has its bytes.
+same_bytes : (r : Reassembly) (s : Received) (f g : Fragment) → HasReceived r s → list_any (is_same g) s.fragments ≡ true → g.offset ≡ f.offset → g.more ≡ f.more → end_of g ≡ end_of f → bytes_eq (slice_range r.buffer.now f.offset (end_of f)) f.bytes ≡ list_any (is_same f) s.fragments
+same_bytes r s f g h among offset flag end =
+    let stored : slice_range r.buffer.now f.offset (end_of f) ≡ g.bytes =
+    ap (λ (i : ℕ). slice_range r.buffer.now i (end_of f)) (sym offset) ∙ (ap (slice_range r.buffer.now g.offset) (sym end) ∙ member_slice r s g h among) in
+    same_from_decides (bytes_eq (slice_range r.buffer.now f.offset (end_of f)) f.bytes) (list_any (is_same f) s.fragments)
+    (bytes_eq-Decides (slice_range r.buffer.now f.offset (end_of f)) f.bytes)
+    ((λ there. member_slice r s f h there), λ same. same_among s.fragments g f among offset flag (sym stored ∙ same))
+
+pub repeated_bytes : (r : Reassembly) (s : Received) (first next : ℕ) (more : Bool) (bytes : List ℕ) → HasReceived r s → IsSound s.limit (fragment_at first more bytes) → 0 < length bytes → next ≡ (8 * first + length bytes) / 8 + min 1 ((8 * first + length bytes) % 8) → (get_or r.marks first 0 ≡ first_mark more) × ((i : ℕ) → first + 1 ≤ i → i < next → get_or r.marks i 0 ≡ 3) × (get_or r.marks next 0 ≡ 3 → ⊥) → (more ≡ false → 8 * first + length bytes ≡ r.reach) → bytes_eq (slice_range r.buffer.now (8 * first) (8 * first + length bytes)) bytes ≡ list_any (is_same (fragment_at first more bytes)) s.fragments
+repeated_bytes r s first next more bytes h sound positive n units ends =
+    with_shape (has_shape s.limit s.fragments (fragment_at first more bytes) first refl h.consistent positive (units_marked r s first next more bytes h n units)) where
+      with_shape : HasShape s.fragments (fragment_at first more bytes) → bytes_eq (slice_range r.buffer.now (8 * first) (8 * first + length bytes)) bytes ≡ list_any (is_same (fragment_at first more bytes)) s.fragments
+      with_shape shape = same_bytes r s (fragment_at first more bytes) shape.other h shape.among shape.offset shape.more
+          (same_end r s (fragment_at first more bytes) shape.other h sound.aligned shape.among shape.offset shape.more shape.units ends)
 
 -- The first bytes of the payload, if they are there, are those of the buffer.
 bytes_in_buffer : (r : Reassembly) (s : Received) (n : ℕ) (o : Option (List ℕ)) → HasReceived r s → n ≤ length r.buffer.now → first_bytes s.fragments n ≡ o → is_some o ≡ true → first_bytes s.fragments n ≡ Some (take n r.buffer.now)

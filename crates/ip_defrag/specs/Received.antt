@@ -17,7 +17,7 @@ pub record Received : Type 0 where
   pub abandoned : Bool
   pub fragments : List Fragment
 
--- no fragments
+-- no fragments, of a packet that wasn't abandoned
 abbrev pub received_nothing : ℕ → Bool → Received
 received_nothing limit abandons = record { limit = limit; abandons = abandons; abandoned = false; fragments = [] }
 
@@ -25,18 +25,20 @@ received_nothing limit abandons = record { limit = limit; abandons = abandons; a
 abbrev pub with_fragment : List Fragment → Fragment → List Fragment
 with_fragment fs f = if list_any (is_same f) fs then fs else f ∷ fs
 
--- whether fragments have a whole payload
+-- whether the payload of these fragments is whole
 abbrev pub progress_of : List Fragment → Progress
 progress_of fs = if is_some (payload_of fs) then Whole else MoreWanted
 
+-- what `add` returns for a fragment with this error, if any
 abbrev pub outcome_by : List Fragment → Fragment → Option AddError → Result Progress AddError
 outcome_by fs f None = Ok (progress_of (with_fragment fs f))
 outcome_by fs f (Some e) = Err e
 
--- what a fragment is answered with
+-- what `add` returns for a fragment
 unfoldable pub outcome_of : Received → Fragment → Result Progress AddError
 outcome_of s f = if s.abandoned then Err Abandoned else outcome_by s.fragments f (refusal s.limit s.fragments f)
 
+-- what has been received after a fragment with this error, if any
 abbrev pub received_by : Received → Fragment → Option AddError → Received
 received_by s f None = record s { fragments = with_fragment s.fragments f }
 received_by s f (Some e) = record s { abandoned = s.abandons && is_conflict e }

@@ -17,7 +17,7 @@ pub enum AddError {
     /// A byte of the fragment has already arrived, in another fragment (RFC 5722; RFC 8200, section 4.5).
     #[error("the fragment overlaps another one")]
     Overlap,
-    /// The fragment is a last one, and another one ends after it, or the other way round.
+    /// The fragment ends after a last fragment, or is a last one that ends before another one (RFC 8200, section 4.5).
     #[error("the fragments have two ends")]
     TwoEnds,
     /// The packet was abandoned.

@@ -1,10 +1,10 @@
-//! What a fragment leads to.
+//! What `add` returns for a fragment that was accepted.
 
 /// Whether a payload is whole.
 #[derive(Clone, Copy, Debug, PartialEq, Eq, Hash)]
 pub enum Progress {
-    /// Some bytes are missing.
+    /// Bytes or the last fragment are missing.
     MoreWanted,
-    /// All bytes are there.
+    /// All bytes have arrived: `payload` returns them.
     Whole,
 }

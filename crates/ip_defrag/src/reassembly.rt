@@ -94,11 +94,11 @@ impl<'a> Reassembly<'a> {
         }
     }
 
-    /// Adds a fragment with the offset and the flag of a fragment header. Returns whether the payload is whole: then
-    /// `payload` returns it. A fragment that was added before is accepted again, and changes nothing.
+    /// Adds a fragment with the offset, in units of 8 bytes, and the flag of its header. Returns whether the payload is
+    /// whole; then `payload` returns it. An exact repetition of a fragment is accepted, and changes nothing.
     ///
-    /// Returns an error, and doesn't store the fragment, if it is unaligned, too long, overlaps others or contradicts
-    /// the end of the payload, or if the packet was abandoned (RFC 791, section 3.2; RFC 5722; RFC 8200, section 4.5).
+    /// Returns an error and doesn't store the fragment if it is unaligned or too long, overlaps others or contradicts the
+    /// end of the payload, or if the packet was abandoned (RFC 791, section 3.2; RFC 5722; RFC 8200, section 4.5).
     pub fn add(
         &mut self,
         offset: IpFragOffset,
@@ -113,7 +113,7 @@ impl<'a> Reassembly<'a> {
             → WasGiven self.old limit abandons given
             → WasGiven self.new limit abandons (fragment_at offset more bytes.now ∷ given) }
 
-        // Fragments of one payload, in any order and any number of times, make it whole once each was there.
+        // The fragments of one payload, in any order and repeated, make it whole once each of them was added.
         ensures pieces { (payload : List ℕ) (pieces given : List Fragment) (limit : ℕ) (abandons : Bool)
             → WasGiven self.old limit abandons given
             → IsSplit payload pieces → length payload ≤ limit
@@ -143,7 +143,7 @@ impl<'a> Reassembly<'a> {
         ensures received { (s : Received) → HasReceived self.now s
             → option_copied result ≡ (if s.abandoned then None else payload_of s.fragments) }
 
-        // After fragments of one payload, in any order and any number of times, it is that payload.
+        // After the fragments of one payload, in any order and repeated, it is that payload.
         ensures pieces { (payload : List ℕ) (pieces given : List Fragment) (limit : ℕ) (abandons : Bool)
             → WasGiven self.now limit abandons given
             → IsSplit payload pieces → length payload ≤ limit → are_among given pieces ≡ true
@@ -161,7 +161,8 @@ impl<'a> Reassembly<'a> {
         self.buffer.get(..self.reach)
     }
 
-    /// Abandons the packet. Every further fragment is refused, and there is no payload.
+    /// Abandons the packet, as after a conflict (RFC 5722). `add` refuses every further fragment, and `payload` returns
+    /// `None`, until `clear` is called.
     pub fn abandon(&mut self)
         ensures { (s : Received) → HasReceived self.old s
             → HasReceived self.new (record s { abandoned = true }) }
@@ -176,7 +177,7 @@ impl<'a> Reassembly<'a> {
         self.is_abandoned
     }
 
-    /// Forgets all fragments, so that another packet can be reassembled in the same buffer.
+    /// Forgets all fragments, so that another packet can be reassembled in the same buffer. It isn't abandoned.
     pub fn clear(&mut self)
         ensures { (s : Received) → HasReceived self.old s
             → WasGiven self.new s.limit s.abandons [] }

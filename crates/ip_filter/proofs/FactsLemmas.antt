@@ -1,6 +1,6 @@
 -- The extension headers of a packet, and their numbers.
-use Rattle.ip_spec.proofs.Common.{◌≡◌, ℕ, List, [], ◌∷◌, ◌++◌, refl, ◌∙◌, rules, arith, common_steps, bytes_of, ExtHeader, IsChain, IsHeader, AllByRecursion, Option, None, Some, Bool, true, false, ◌==◌, ◌||◌, ◌&&◌}
-use Rattle.std.proofs.Common.{inl, inr, ◌<◌, ◌≤◌, ◌*◌, ◌%◌, ◌^◌, bit_or}
+use Rattle.ip_spec.proofs.Common.{◌≡◌, ℕ, List, [], ◌∷◌, ◌++◌, refl, ◌∙◌, rules, arith, common_steps, bytes_of, ExtHeader, IsChain, IsHeader, Option, None, Some, Bool, true, false, ◌==◌, ◌||◌, ◌&&◌}
+use Rattle.std.proofs.Common.{inl, inr, ◌<◌, ◌*◌, ◌%◌, ◌^◌, bit_or}
 use Rattle.std.specs.Int.{bit_at}
 use Rattle.std.proofs.lemmas.Nat.{pow_below}
 use Rattle.std.proofs.lemmas.Nat.Bits.{bit_at_or, bit_at-lt, bit_at-pow_same, bit_at-pow_other}
@@ -35,13 +35,6 @@ pub small_number : (n : ℕ) (b : List ℕ) → IsHeader n b → n < 64
 small_number n b (raw is x) = search rules
 small_number n b (fragment is x) = omega (arith, is)
 small_number n b (auth is x) = omega (arith, is)
-
--- So none has a larger one.
-pub none_larger : (n : ℕ) → 64 ≤ n → (c : List ExtHeader) → AllByRecursion (λ h. IsHeader h.number h.bytes) c → false ≡ list_any (λ h. h.number == n) c
-none_larger n large [] all = refl
-none_larger n large (h ∷ c) all =
-    let other : (h.number == n) ≡ false = grind (arith, common_steps, small_number h.number h.bytes all.0) in
-    grind (arith, common_steps, none_larger n large c all.1)
 
 -- One more header.
 number_more : (n : ℕ) (c : List ExtHeader) (h : ExtHeader) → list_any (λ x. x.number == n) (c ++ h ∷ []) ≡ (list_any (λ x. x.number == n) c || (h.number == n))

@@ -1,7 +1,7 @@
 # make run            answer the lines of standard input with the proved program ipexts
 # make try            answer sample lines within seconds, with run-time checks instead of proofs
-# make test           compare the documented contracts, errors and figures with the code and the recorded run, run the
-#                     merge gate, check the spelling, and test the program, the library, ipcap, the package and the
+# make test           compare the documented contracts, errors, terms and figures with the code and the recorded run, run
+#                     the merge gate, check the spelling, and test the program, the library, ipcap, the package and the
 #                     page, and 20,000 comparisons with etherparse
 # make lib            build the static C library and its header in build/ (TARGET=aarch64: for ARM64, in build/aarch64/,
 #                     with its shared library if Debian's cross-compiler is there)
@@ -65,6 +65,7 @@ test:
 	$(PYTHON_IS_THERE)
 	scripts/check-calling
 	scripts/check-errors
+	scripts/check-terms
 	bench/quote --check
 	scripts/gate
 

@@ -617,16 +617,28 @@ struct wolfaren_filter_error {
  * by `not`, `and` and `or`, or `!`, `&&` and `||`, and of parentheses. `not` binds most tightly, then `and`. White space
  * separates words. There may be up to 64 terms and 16 levels of parentheses.
  *
- *   version 4|6                          the IP version
+ *   version 4|6, ip, ip6                 the IP version: `ip` is version 4, `ip6` is version 6
  *   header N                             an extension header: 0 to 255, hopopt, route, frag, ah or dstopts
- *   leads-to N                           the protocol after the headers: as above, or icmp, tcp, udp, esp, icmp6, no-next
+ *   leads-to N                           the protocol after the headers: as above, or a name from the next line
+ *   icmp, tcp, udp, dccp, gre, esp, icmp6, no-next, sctp, udp-lite       `leads-to` with this name
  *   fragment, first-fragment, later-fragment
  *   truncated, incomplete
  *   fault, fault KIND                    KIND is too-short, not-at-start, zero-length, unsupported-version or
  *                                        header-length
  *   headers OP N, chain-bytes OP N, payload OP N       OP is =, !=, <, <=, > or >=
+ *   length OP N                          the length that the IP header states; false if it states none
+ *   hop-limit OP N, ttl OP N             the hop limit, or IPv4's time to live
+ *   dscp OP N, ecn OP N                  the differentiated services code point; explicit congestion notification
+ *   flow OP N                            the flow label; false of IPv4 packets
  *   spi N, id N
  *   src NET, dst NET, net NET            NET is an IPv4 or IPv6 address, alone or with a slash and a number of bits
+ *   host A                               A is an IPv4 or IPv6 address
+ *   src port P, dst port P, port P       P is a port or a range such as 1024-65535
+ *   no-transport                         the payload should start with ports, but is too short for both
+ *   icmp-type N, icmp-code N             the type and the code of an ICMP or ICMPv6 message
+ *
+ * TCP, UDP, UDP-Lite, SCTP and DCCP have ports. Ports, types and codes are read from the payload, so extension headers may
+ * precede them. A later fragment has none, nor has a packet with an error or a truncated header.
  *
  * Numbers are decimal, or hexadecimal after 0x. On success, returns true and fills in `filter`; `error` is left unchanged.
  * On error, returns false and stores in `error` what is expected where; `filter` is left unchanged.

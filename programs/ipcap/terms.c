@@ -12,35 +12,56 @@ static const struct {
     {"first-fragment", "the payload is a first fragment", "first-fragment"},
     {"later-fragment", "the payload is a middle or last fragment", "later-fragment"},
     {"header HEADER", "the chain has this header", "header 44"},
-    {"leads-to PROTOCOL", "this number follows the chain", "leads-to udp"},
+    {"leads-to PROTOCOL", "this number follows the chain", "leads-to 135"},
+    {"NAME", "the protocol of this name follows the chain", "udp"},
     {"headers OP N", "the number of headers in the chain", "headers > 2"},
     {"chain-bytes OP N", "the length of the chain in bytes", "chain-bytes >= 256"},
     {"payload OP N", "the number of payload bytes captured", "payload < 8"},
+    {"length OP N", "the stated length of the packet in bytes", "length > 1280"},
+    {"hop-limit OP N", "the hop limit, or the time to live of IPv4", "hop-limit = 255"},
+    {"ttl OP N", "as hop-limit", "ttl < 2"},
+    {"dscp OP N", "the differentiated services code point", "dscp = 46"},
+    {"ecn OP N", "the explicit congestion notification", "ecn = 3"},
+    {"flow OP N", "the flow label of an IPv6 packet", "flow != 0"},
     {"fault", "the packet has an error", "fault"},
     {"fault KIND", "the packet has an error of this kind", "fault too-short"},
     {"truncated", "a header is truncated", "truncated"},
     {"incomplete", "bytes of the stated length are missing", "incomplete"},
     {"version N", "the IP version, 4 or 6", "version 6"},
+    {"ip", "as version 4", "ip"},
+    {"ip6", "as version 6", "ip6"},
     {"spi N", "the security parameters index", "spi 0x1000"},
     {"id N", "the identification of the fragment", "id 7"},
     {"src NETWORK", "the source address is in the network", "src 2001:db8::/32"},
     {"dst NETWORK", "the destination address is in the network", "dst 192.0.2.1"},
     {"net NETWORK", "either address is in the network", "net 10.0.0.0/8"},
+    {"host ADDRESS", "either address is this one", "host 2001:db8::1"},
+    {"src port PORTS", "the source port is one of these", "src port 1024-65535"},
+    {"dst port PORTS", "the destination port is one of these", "dst port 443"},
+    {"port PORTS", "either port is one of these", "port 53"},
+    {"no-transport", "the payload is too short for its ports", "no-transport"},
+    {"icmp-type N", "the type of the ICMP or ICMPv6 message", "icmp-type 128"},
+    {"icmp-code N", "the code of the ICMP or ICMPv6 message", "icmp-code 0"},
 };
 
 static const char arguments[] =
     "HEADER    hopopt (0), route (43), frag (44), ah (51), dstopts (60), or a number from 0 to 255\n"
-    "PROTOCOL  icmp (1), tcp (6), udp (17), esp (50), icmp6 (58), no-next (59), or as for HEADER\n"
+    "PROTOCOL  a NAME, or as for HEADER\n"
+    "NAME      icmp (1), tcp (6), udp (17), dccp (33), gre (47), esp (50), icmp6 (58), no-next (59), sctp (132),\n"
+    "          udp-lite (136)\n"
     "OP        = != < <= > >=\n"
     "KIND      too-short, not-at-start, zero-length, unsupported-version, header-length\n"
     "N         a decimal number, or a hexadecimal one after 0x\n"
     "NETWORK   an IPv4 or IPv6 address, alone or with a slash and a number of bits\n"
+    "ADDRESS   an IPv4 or IPv6 address\n"
+    "PORTS     a number from 0 to 65535, or a range such as 1024-65535\n"
+    "TCP, UDP, UDP-Lite, SCTP and DCCP have ports. A later fragment has none.\n"
     "Terms are combined with `not`, `and` and `or`, or `!`, `&&` and `||`, and parentheses.\n";
 
 void print_terms(void)
 {
-    printf("%-17s  %-42s  %s\n", "term", "meaning", "example");
+    printf("%-17s  %-43s  %s\n", "term", "meaning", "example");
     for (size_t i = 0; i < sizeof terms / sizeof *terms; i++)
-        printf("%-17s  %-42s  %s\n", terms[i].term, terms[i].meaning, terms[i].example);
+        printf("%-17s  %-43s  %s\n", terms[i].term, terms[i].meaning, terms[i].example);
     printf("\n%s", arguments);
 }

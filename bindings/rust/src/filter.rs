@@ -35,17 +35,30 @@ impl Filter {
     /// | Term | Holds if |
     /// |---|---|
     /// | `version 4`, `version 6` | there is an IP header of this version |
+    /// | `ip`, `ip6` | as `version 4` and `version 6` |
     /// | `header N` | there is an extension header `hopopt`, `route`, `frag`, `ah` or `dstopts`, or with this number |
-    /// | `leads-to N` | this number follows the headers: as above, or `icmp`, `tcp`, `udp`, `esp`, `icmp6`, `no-next` |
+    /// | `leads-to N` | this number follows the headers: as above, or a name from the next row |
+    /// | `icmp`, `tcp`, `udp`, `dccp`, `gre`, `esp`, `icmp6`, `no-next`, `sctp`, `udp-lite` | as `leads-to` with this name |
     /// | `fragment`, `first-fragment`, `later-fragment` | the packet is such a fragment, and not an atomic one |
     /// | `truncated` | a header is truncated |
     /// | `incomplete` | bytes of the stated length are missing |
     /// | `fault` | a header is faulty |
     /// | `fault KIND` | it is faulty like this: `too-short`, `not-at-start`, `zero-length`, `unsupported-version` or `header-length` |
     /// | `headers OP N`, `chain-bytes OP N`, `payload OP N` | the number of extension headers, their length in bytes or the number of payload bytes compares so; `OP` is `=`, `!=`, `<`, `<=`, `>` or `>=` |
+    /// | `length OP N` | the length that the IP header states compares so; false if it states none |
+    /// | `hop-limit OP N`, `ttl OP N` | the hop limit, or IPv4's time to live, compares so |
+    /// | `dscp OP N`, `ecn OP N` | the differentiated services code point, or the explicit congestion notification, compares so |
+    /// | `flow OP N` | the flow label compares so; false of IPv4 packets |
     /// | `spi N` | an authentication header has this security parameters index |
     /// | `id N` | the fragment has this identification |
     /// | `src NET`, `dst NET`, `net NET` | the source, the destination or one of them is in this network: an address, or a prefix such as `2001:db8::/32` |
+    /// | `host A` | the source or the destination is this address |
+    /// | `src port P`, `dst port P`, `port P` | the source port, the destination port or one of them is in this range: a port, or a range such as `1024-65535` |
+    /// | `no-transport` | the payload should start with ports, but is too short for both |
+    /// | `icmp-type N`, `icmp-code N` | the payload is an ICMP or ICMPv6 message of this type, or with this code |
+    ///
+    /// TCP, UDP, UDP-Lite, SCTP and DCCP have ports. Ports, types and codes are read from the payload, so extension
+    /// headers may precede them. A later fragment has none, nor has a packet with an error or a truncated header.
     ///
     /// `!`, `&&` and `||` are `not`, `and` and `or`. `not` binds most tightly, then `and`; parentheses group. There may
     /// be up to 64 terms and 16 levels of parentheses.

@@ -38,6 +38,14 @@ pub enum Expected {
     FewerTerms,
     /// No more than 16 levels of parentheses.
     LessNesting,
+    /// A number of 8 bits.
+    Byte,
+    /// An address, a prefix or `port`.
+    NetworkOrPort,
+    /// An address.
+    Address,
+    /// A port or a range of ports.
+    Ports,
 }
 
 impl Expected {
@@ -55,6 +63,10 @@ impl Expected {
             10 => Expected::Network,
             11 => Expected::FewerTerms,
             12 => Expected::LessNesting,
+            13 => Expected::Byte,
+            14 => Expected::NetworkOrPort,
+            15 => Expected::Address,
+            16 => Expected::Ports,
             _ => Expected::Operand,
         }
     }

@@ -5,6 +5,8 @@
 
 #define FLAG(number) (UINT64_C(1) << (number))
 
+#define COUNT(array) (sizeof(array) / sizeof *(array))
+
 enum { TERM_WIDTH = 32, INDEX_ROOM = 24 };
 
 /* The terms for flags. A term for several flags precedes those for each of them. */
@@ -38,19 +40,31 @@ static const char *const comparisons[] = {
     [WOLFAREN_AT_MOST] = "<=", [WOLFAREN_GREATER] = ">",    [WOLFAREN_AT_LEAST] = ">=",
 };
 
+/* Prints the word for a test that no packet meets, and returns the length. */
+static int print_never(void)
+{
+    return printf("never");
+}
+
 /* Prints the terms of which one has to hold, and returns the length. */
 static int print_flags(const char *word, const struct wolfaren_filter_test *test)
 {
     uint64_t left = test->number;
     int len = 0;
     (void)word;
-    for (size_t i = 0; i < sizeof flag_terms / sizeof *flag_terms; i++) {
+    for (size_t i = 0; i < COUNT(flag_terms); i++) {
         uint64_t flags = flag_terms[i].flags;
         if ((left & flags) != flags) continue;
         len += printf("%s%s", len ? " or " : "", flag_terms[i].term);
         left &= ~flags;
     }
-    return len ? len : printf("never");
+    return len ? len : print_never();
+}
+
+static int print_word(const char *word, const struct wolfaren_filter_test *test)
+{
+    (void)test;
+    return printf("%s", word);
 }
 
 static int print_number(const char *word, const struct wolfaren_filter_test *test)
@@ -60,7 +74,16 @@ static int print_number(const char *word, const struct wolfaren_filter_test *tes
 
 static int print_count(const char *word, const struct wolfaren_filter_test *test)
 {
-    return printf("%s %s %llu", word, comparisons[test->comparison], (unsigned long long)test->number);
+    const char *comparison = test->comparison < COUNT(comparisons) ? comparisons[test->comparison] : NULL;
+    return comparison ? printf("%s %s %llu", word, comparison, (unsigned long long)test->number) : print_never();
+}
+
+/* Prints a port, or a range of ports. */
+static int print_ports(const char *word, const struct wolfaren_filter_test *test)
+{
+    int len = print_number(word, test);
+    if (test->address_low == test->number) return len;
+    return len + printf("-%llu", (unsigned long long)test->address_low);
 }
 
 static int print_network(const char *word, const struct wolfaren_filter_test *test)
@@ -93,7 +116,25 @@ static const struct {
     [WOLFAREN_TEST_SOURCE] = {print_network, "src"},
     [WOLFAREN_TEST_DESTINATION] = {print_network, "dst"},
     [WOLFAREN_TEST_EITHER] = {print_network, "net"},
+    [WOLFAREN_TEST_LENGTH] = {print_count, "length"},
+    [WOLFAREN_TEST_HOP_LIMIT] = {print_count, "hop-limit"},
+    [WOLFAREN_TEST_DSCP] = {print_count, "dscp"},
+    [WOLFAREN_TEST_ECN] = {print_count, "ecn"},
+    [WOLFAREN_TEST_FLOW_LABEL] = {print_count, "flow"},
+    [WOLFAREN_TEST_SOURCE_PORT] = {print_ports, "src port"},
+    [WOLFAREN_TEST_DESTINATION_PORT] = {print_ports, "dst port"},
+    [WOLFAREN_TEST_PORT] = {print_ports, "port"},
+    [WOLFAREN_TEST_NO_TRANSPORT] = {print_word, "no-transport"},
+    [WOLFAREN_TEST_ICMP_TYPE] = {print_number, "icmp-type"},
+    [WOLFAREN_TEST_ICMP_CODE] = {print_number, "icmp-code"},
 };
+
+/* Prints a test, and returns the length. No packet meets a test of an unknown kind. */
+static int print_test(const struct wolfaren_filter_test *test)
+{
+    if (test->kind >= COUNT(kinds) || !kinds[test->kind].print) return print_never();
+    return kinds[test->kind].print(kinds[test->kind].word, test);
+}
 
 /* Writes the index of a test, or what another index means. */
 static void write_index(size_t index, size_t count, char text[INDEX_ROOM])
@@ -110,7 +151,7 @@ void print_program(const struct wolfaren_filter *filter)
     for (size_t i = 0; i < filter->count; i++) {
         const struct wolfaren_filter_test *test = &filter->tests[i];
         printf("(%03zu) ", i);
-        int len = kinds[test->kind].print(kinds[test->kind].word, test);
+        int len = print_test(test);
         write_index(test->if_met, filter->count, if_met);
         write_index(test->if_not, filter->count, if_not);
         printf("%*s jt %-6s jf %s\n", len < TERM_WIDTH ? TERM_WIDTH - len : 0, "", if_met, if_not);

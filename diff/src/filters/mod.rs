@@ -35,14 +35,38 @@ pub enum Term {
     Truncated,
     Incomplete,
     Fault(Option<FaultKind>),
-    Headers(Comparison),
-    ChainBytes(Comparison),
-    Payload(Comparison),
+    Compared(Quantity, Comparison),
     Spi(u64),
     Id(u64),
     Source(Network),
     Destination(Network),
     Either(Network),
+    SourcePort(Ports),
+    DestinationPort(Ports),
+    Port(Ports),
+    NoTransport,
+    IcmpType(u64),
+    IcmpCode(u64),
+}
+
+/// A number of a packet, which terms compare.
+#[derive(Clone, Copy, Debug)]
+pub enum Quantity {
+    Headers,
+    ChainBytes,
+    Payload,
+    Length,
+    HopLimit,
+    Dscp,
+    Ecn,
+    FlowLabel,
+}
+
+/// The ports from the first to the last.
+#[derive(Debug)]
+pub struct Ports {
+    pub first: u64,
+    pub last: u64,
 }
 
 #[derive(Clone, Copy, Debug, PartialEq, Eq)]
@@ -81,6 +105,10 @@ pub enum Expected {
     Count,
     Number,
     Network,
+    Byte,
+    NetworkOrPort,
+    Address,
+    Ports,
     FewerTerms,
     LessNesting,
 }
@@ -185,6 +213,22 @@ mod tests {
         )));
         assert!(is_found(|text, packet| ours(
             &replaced(text, "first-", ""),
+            packet
+        )));
+        assert!(is_found(|text, packet| ours(
+            &replaced(text, "src port", "dst port"),
+            packet
+        )));
+        assert!(is_found(|text, packet| ours(
+            &replaced(text, "no-transport", "later-fragment"),
+            packet
+        )));
+        assert!(is_found(|text, packet| ours(
+            &replaced(text, "icmp-type", "icmp-code"),
+            packet
+        )));
+        assert!(is_found(|text, packet| ours(
+            &replaced(text, "dscp", "ecn"),
             packet
         )));
         assert!(is_found(|text, packet| match ours(text, packet) {

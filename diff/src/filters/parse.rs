@@ -1,5 +1,5 @@
 //! The plain parser: recursive descent over words.
-use super::{Comparison, Expected, FaultKind, Formula, Network, Term};
+use super::{Comparison, Expected, FaultKind, Formula, Network, Ports, Quantity, Term};
 use std::net::IpAddr;
 
 /// The offset of the word that isn't expected, and what is.
@@ -175,14 +175,9 @@ impl Parser {
         self.at += 1;
         let number = |word: &str| number(word, u32::MAX.into());
         Ok(match word.as_str() {
-            "version" => Term::Version(self.take(
-                |word| {
-                    ["4", "6"]
-                        .contains(&word)
-                        .then(|| word.parse().unwrap_or(0))
-                },
-                Expected::Version,
-            )?),
+            "version" => Term::Version(self.take(version, Expected::Version)?),
+            "ip" => Term::Version(4),
+            "ip6" => Term::Version(6),
             "header" => Term::Header(self.take(header, Expected::Header)?),
             "leads-to" => Term::LeadsTo(self.take(protocol, Expected::Protocol)?),
             "fragment" => Term::Fragment,
@@ -191,18 +186,49 @@ impl Parser {
             "truncated" => Term::Truncated,
             "incomplete" => Term::Incomplete,
             "fault" => Term::Fault(self.take(fault_kind, Expected::Operand).ok()),
-            "headers" => Term::Headers(self.comparison()?),
-            "chain-bytes" => Term::ChainBytes(self.comparison()?),
-            "payload" => Term::Payload(self.comparison()?),
             "spi" => Term::Spi(self.take(number, Expected::Number)?),
             "id" => Term::Id(self.take(number, Expected::Number)?),
-            "src" => Term::Source(self.take(network, Expected::Network)?),
-            "dst" => Term::Destination(self.take(network, Expected::Network)?),
+            "src" | "dst" => self.side(word == "src")?,
             "net" => Term::Either(self.take(network, Expected::Network)?),
-            _ => {
+            "host" => Term::Either(self.take(host, Expected::Address)?),
+            "port" => Term::Port(self.take(ports, Expected::Ports)?),
+            "no-transport" => Term::NoTransport,
+            "icmp-type" => Term::IcmpType(self.take(byte, Expected::Byte)?),
+            "icmp-code" => Term::IcmpCode(self.take(byte, Expected::Byte)?),
+            word => return self.named_term(word),
+        })
+    }
+
+    /// Takes the rest of a term that begins with the name of a protocol or of a number of packets.
+    fn named_term(&mut self, word: &str) -> Result<Term, Refusal> {
+        if let Some(number) = upper_layer(word) {
+            return Ok(Term::LeadsTo(number));
+        }
+        match quantity(word) {
+            Some(quantity) => Ok(Term::Compared(quantity, self.comparison()?)),
+            None => {
                 self.at -= 1;
-                return self.refuse(Expected::Operand);
+                self.refuse(Expected::Operand)
             }
+        }
+    }
+
+    /// Takes the network or the ports after `src` or `dst`.
+    fn side(&mut self, is_source: bool) -> Result<Term, Refusal> {
+        if self.is_at(&["port"]) {
+            self.at += 1;
+            let ports = self.take(ports, Expected::Ports)?;
+            return Ok(if is_source {
+                Term::SourcePort(ports)
+            } else {
+                Term::DestinationPort(ports)
+            });
+        }
+        let network = self.take(network, Expected::NetworkOrPort)?;
+        Ok(if is_source {
+            Term::Source(network)
+        } else {
+            Term::Destination(network)
         })
     }
 
@@ -237,6 +263,42 @@ fn number(word: &str, most: u64) -> Option<u64> {
     u64::try_from(value).ok().filter(|&value| value <= most)
 }
 
+fn byte(word: &str) -> Option<u64> {
+    number(word, 255)
+}
+
+fn version(word: &str) -> Option<u64> {
+    match word {
+        "4" => Some(4),
+        "6" => Some(6),
+        _ => None,
+    }
+}
+
+fn quantity(word: &str) -> Option<Quantity> {
+    match word {
+        "headers" => Some(Quantity::Headers),
+        "chain-bytes" => Some(Quantity::ChainBytes),
+        "payload" => Some(Quantity::Payload),
+        "length" => Some(Quantity::Length),
+        "hop-limit" | "ttl" => Some(Quantity::HopLimit),
+        "dscp" => Some(Quantity::Dscp),
+        "ecn" => Some(Quantity::Ecn),
+        "flow" => Some(Quantity::FlowLabel),
+        _ => None,
+    }
+}
+
+/// Returns the ports that the word writes: one port, or the first and the last of a range.
+fn ports(word: &str) -> Option<Ports> {
+    let (first, last) = word.split_once('-').unwrap_or((word, word));
+    let ports = Ports {
+        first: number(first, 65535)?,
+        last: number(last, 65535)?,
+    };
+    (ports.first <= ports.last).then_some(ports)
+}
+
 fn header(word: &str) -> Option<u64> {
     match word {
         "hopopt" => Some(0),
@@ -249,14 +311,22 @@ fn header(word: &str) -> Option<u64> {
 }
 
 fn protocol(word: &str) -> Option<u64> {
+    upper_layer(word).or_else(|| header(word))
+}
+
+fn upper_layer(word: &str) -> Option<u64> {
     match word {
         "icmp" => Some(1),
         "tcp" => Some(6),
         "udp" => Some(17),
+        "dccp" => Some(33),
+        "gre" => Some(47),
         "esp" => Some(50),
         "icmp6" => Some(58),
         "no-next" => Some(59),
-        _ => header(word),
+        "sctp" => Some(132),
+        "udp-lite" => Some(136),
+        _ => None,
     }
 }
 
@@ -269,6 +339,13 @@ fn fault_kind(word: &str) -> Option<FaultKind> {
         "header-length" => Some(FaultKind::HeaderLength),
         _ => None,
     }
+}
+
+fn host(word: &str) -> Option<Network> {
+    if word.contains('/') {
+        return None;
+    }
+    network(word)
 }
 
 fn network(word: &str) -> Option<Network> {

@@ -20,6 +20,11 @@ pub fn text(packet: &[u8], random: &mut Random) -> Vec<u8> {
     text
 }
 
+/// The names of protocols.
+const NAMES: [&str; 10] = [
+    "icmp", "tcp", "udp", "dccp", "gre", "esp", "icmp6", "no-next", "sctp", "udp-lite",
+];
+
 fn word(words: &mut Vec<String>, text: impl Into<String>) {
     words.push(text.into());
 }
@@ -89,8 +94,11 @@ fn term(packet: &[u8], random: &mut Random, words: &mut Vec<String>) {
         "truncated",
         "incomplete",
         "fault",
+        "no-transport",
+        "ip",
+        "ip6",
     ];
-    match random.below(14) {
+    match random.below(20) {
         0..4 => word(words, one_of(&plain, random)),
         4 => {
             word(words, "fault");
@@ -117,18 +125,7 @@ fn term(packet: &[u8], random: &mut Random, words: &mut Vec<String>) {
         }
         7 => {
             word(words, "leads-to");
-            let names = [
-                "icmp", "tcp", "udp", "esp", "icmp6", "no-next", "frag", "ah", "route", "dstopts",
-            ];
-            let number = random.below(300).to_string();
-            word(
-                words,
-                if random.percent(70) {
-                    one_of(&names, random)
-                } else {
-                    number
-                },
-            );
+            word(words, protocol(random));
         }
         8 => {
             word(words, one_of(&["spi", "id"], random));
@@ -138,14 +135,115 @@ fn term(packet: &[u8], random: &mut Random, words: &mut Vec<String>) {
             word(words, one_of(&["src", "dst", "net"], random));
             word(words, network(packet, random));
         }
-        _ => {
-            word(
-                words,
-                one_of(&["headers", "chain-bytes", "payload"], random),
-            );
-            word(words, one_of(&["=", "!=", "<", "<=", ">", ">="], random));
+        11..14 => {
+            let names = ["headers", "chain-bytes", "payload"];
+            word(words, one_of(&names, random));
+            word(words, comparison(random));
             word(words, count(random));
         }
+        14 => word(words, one_of(&NAMES, random)),
+        15 => base_field(packet, random, words),
+        16..18 => {
+            let side = one_of(&["src", "dst", ""], random);
+            if !side.is_empty() {
+                word(words, side);
+            }
+            word(words, "port");
+            word(words, ports(packet, random));
+        }
+        18 => {
+            word(words, one_of(&["icmp-type", "icmp-code"], random));
+            word(words, byte(packet, random));
+        }
+        _ => {
+            word(words, "host");
+            let network = network(packet, random);
+            let address = network.split('/').next().unwrap_or_default().to_owned();
+            word(words, if random.percent(90) { address } else { network });
+        }
+    }
+}
+
+fn comparison(random: &mut Random) -> String {
+    one_of(&["=", "!=", "<", "<=", ">", ">="], random)
+}
+
+/// Makes the name or number of a protocol or extension header.
+fn protocol(random: &mut Random) -> String {
+    match random.below(10) {
+        0..2 => one_of(&["frag", "ah", "route", "dstopts"], random),
+        2..7 => one_of(&NAMES, random),
+        _ => random.below(300).to_string(),
+    }
+}
+
+/// Appends a comparison of a field of the base header, with a value that the packet may have.
+fn base_field(packet: &[u8], random: &mut Random, words: &mut Vec<String>) {
+    let at = |index: usize| packet.get(index).map_or(0, |byte| u64::from(*byte));
+    let class = match packet.first() {
+        Some(first) if first >> 4 == 4 => at(1),
+        _ => at(0) << 4 & 0xff | at(1) >> 4,
+    };
+    let fields = [
+        ("length", packet.len() as u64),
+        ("length", at(2) << 8 | at(3)),
+        ("hop-limit", at(7)),
+        ("ttl", at(8)),
+        ("dscp", class >> 2),
+        ("ecn", class & 3),
+        ("flow", (at(1) << 16 | at(2) << 8 | at(3)) & 0xf_ffff),
+    ];
+    let (name, value) = fields[random.below(fields.len())];
+    word(words, name);
+    word(words, comparison(random));
+    word(
+        words,
+        if random.percent(60) {
+            value.to_string()
+        } else {
+            count(random)
+        },
+    );
+}
+
+/// Returns the place of the payload of a packet without extension headers, or another even place after its base header.
+fn place(packet: &[u8], random: &mut Random) -> usize {
+    let len = match packet.first() {
+        Some(first) if first >> 4 == 4 => 4 * usize::from(first & 15),
+        _ => 40,
+    };
+    if random.percent(50) {
+        len
+    } else {
+        len + 2 * random.below(24)
+    }
+}
+
+/// Makes a byte of the packet near its payload, or any number of about 8 bits.
+fn byte(packet: &[u8], random: &mut Random) -> String {
+    let at = place(packet, random) + random.below(2);
+    match packet.get(at) {
+        Some(byte) if random.percent(80) => byte.to_string(),
+        _ => random.below(260).to_string(),
+    }
+}
+
+/// Makes ports: two bytes of the packet near its payload, or a range that may be empty or too large.
+fn ports(packet: &[u8], random: &mut Random) -> String {
+    let at = place(packet, random) + 2 * random.below(2);
+    let port = match packet.get(at..at + 2) {
+        Some(bytes) => u16::from_be_bytes([bytes[0], bytes[1]]),
+        None => random.next() as u16,
+    };
+    let other = random.next() as u16;
+    match random.below(10) {
+        0..4 => port.to_string(),
+        4 => format!("0-{port}"),
+        5 => format!("{port}-65535"),
+        6 => format!("{}-0x{:x}", port.min(other), port.max(other)),
+        7 => "0-65535".to_owned(),
+        8 => format!("{port}-{other}"),
+        _ => one_of(&["65536", "1-", "-1", "1-2-3", "0-65536", "0x"], random),
     }
 }
 
@@ -242,6 +340,9 @@ fn spoil_words(words: &mut Vec<String>, random: &mut Random) {
                 "too-short",
                 "headers",
                 "fragments",
+                "port",
+                "host",
+                "tcp",
                 "&",
                 "|||",
             ];

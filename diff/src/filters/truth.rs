@@ -1,9 +1,16 @@
 //! The plain evaluation over the parts of a packet.
-use super::{Comparison, FaultKind, Formula, Network, Term};
+use super::{Comparison, FaultKind, Formula, Network, Ports, Quantity, Term};
 use crate::dissections::{Dissected, End};
 use etherparse::err::{ip, ipv6_exts};
 
 const AUTH: u8 = 51;
+
+/// The protocols whose headers begin with the source and the destination port, of 2 bytes each: TCP, UDP, DCCP, SCTP and
+/// UDP-Lite.
+const WITH_PORTS: [u8; 5] = [6, 17, 33, 132, 136];
+
+/// ICMP and ICMPv6, whose messages begin with their type and code, of 1 byte each.
+const ICMP: [u8; 2] = [1, 58];
 
 /// Returns whether the formula holds of a packet, or of a frame that is not IP.
 pub fn holds(formula: &Formula, packet: Option<&Dissected<'_>>) -> bool {
@@ -37,12 +44,9 @@ fn is_met(term: &Term, packet: &Dissected<'_>) -> bool {
             End::Fault(error, _) => kind.is_none_or(|kind| kind == kind_of(error)),
             _ => false,
         },
-        Term::Headers(comparison) => has_base && compares(packet.headers.len(), comparison),
-        Term::ChainBytes(comparison) => {
-            let len = packet.headers.iter().map(|(_, bytes)| bytes.len()).sum();
-            has_base && compares(len, comparison)
+        Term::Compared(quantity, comparison) => {
+            value(*quantity, packet).is_some_and(|value| compares(value, comparison))
         }
-        Term::Payload(comparison) => has_base && compares(packet.payload.len(), comparison),
         Term::Spi(index) => packet.headers.iter().any(|(number, bytes)| {
             *number == AUTH
                 && u64::from(u32::from_be_bytes([bytes[4], bytes[5], bytes[6], bytes[7]])) == *index
@@ -55,7 +59,76 @@ fn is_met(term: &Term, packet: &Dissected<'_>) -> bool {
         Term::Either(network) => {
             lies_in(source(packet), network) || lies_in(destination(packet), network)
         }
+        Term::SourcePort(ports) => is_among(port(packet, 0), ports),
+        Term::DestinationPort(ports) => is_among(port(packet, 2), ports),
+        Term::Port(ports) => is_among(port(packet, 0), ports) || is_among(port(packet, 2), ports),
+        Term::NoTransport => upper_layer(packet, &WITH_PORTS).is_some_and(|bytes| bytes.len() < 4),
+        Term::IcmpType(number) => icmp_byte(packet, 0) == Some(*number),
+        Term::IcmpCode(number) => icmp_byte(packet, 1) == Some(*number),
     }
+}
+
+/// Returns a number of the packet, if it has this one.
+fn value(quantity: Quantity, packet: &Dissected<'_>) -> Option<usize> {
+    let of_version = |ipv4: usize, ipv6: usize| match packet.version {
+        4 => Some(usize::from(packet.base[ipv4])),
+        6 => Some(usize::from(packet.base[ipv6])),
+        _ => None,
+    };
+    match quantity {
+        Quantity::Length => packet.stated,
+        Quantity::HopLimit => of_version(8, 7),
+        Quantity::Dscp => traffic_class(packet).map(|class| class >> 2),
+        Quantity::Ecn => traffic_class(packet).map(|class| class & 3),
+        Quantity::FlowLabel if packet.version == 6 => Some(flow_label(packet.base)),
+        Quantity::FlowLabel => None,
+        _ if packet.version == 0 => None,
+        Quantity::Headers => Some(packet.headers.len()),
+        Quantity::ChainBytes => Some(packet.headers.iter().map(|(_, bytes)| bytes.len()).sum()),
+        Quantity::Payload => Some(packet.payload.len()),
+    }
+}
+
+/// Returns the traffic class: byte 1 of an IPv4 header, and the 8 bits after the version of an IPv6 header.
+fn traffic_class(packet: &Dissected<'_>) -> Option<usize> {
+    let class = match packet.version {
+        4 => packet.base[1],
+        6 => packet.base[0] << 4 | packet.base[1] >> 4,
+        _ => return None,
+    };
+    Some(class.into())
+}
+
+/// Returns the last 20 bits of the first 4 bytes of an IPv6 header.
+fn flow_label(base: &[u8]) -> usize {
+    base[1..4]
+        .iter()
+        .fold(0, |label, byte| label << 8 | usize::from(*byte))
+        & 0xf_ffff
+}
+
+/// Returns the payload if it begins with the header of one of the protocols.
+fn upper_layer<'a>(packet: &Dissected<'a>, protocols: &[u8]) -> Option<&'a [u8]> {
+    (packet.end == End::Payload && protocols.contains(&packet.number)).then_some(packet.payload)
+}
+
+/// Returns the port at an offset in the payload, if the packet has it.
+fn port(packet: &Dissected<'_>, offset: usize) -> Option<u64> {
+    match upper_layer(packet, &WITH_PORTS)?.get(offset..offset + 2)? {
+        [high, low] => Some(u64::from(*high) << 8 | u64::from(*low)),
+        _ => None,
+    }
+}
+
+fn is_among(port: Option<u64>, ports: &Ports) -> bool {
+    port.is_some_and(|port| ports.first <= port && port <= ports.last)
+}
+
+/// Returns the byte at an offset in an ICMP or ICMPv6 message, if the packet has it.
+fn icmp_byte(packet: &Dissected<'_>, offset: usize) -> Option<u64> {
+    upper_layer(packet, &ICMP)?
+        .get(offset)
+        .map(|byte| u64::from(*byte))
 }
 
 fn kind_of(error: &ip::SliceError) -> FaultKind {

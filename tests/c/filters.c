@@ -50,6 +50,11 @@ static void texts(void)
     check_matches("version 4 or version 6 and truncated", true, false);
     check_matches("(version 4 or version 6) and truncated", false, false);
     check_matches("!!fault", false, false);
+    check_matches("ip and tcp and not ip6 and host 192.0.2.1", true, false);
+    check_matches("length = 34 and ttl = 64 and hop-limit < 65 and dscp = 0 and ecn < 1", true, false);
+    check_matches("flow >= 0", false, false);
+    check_matches("src port 2313 and port 0-0x909 and no-transport", true, false);
+    check_matches("dst port 0-65535 or port 2314-65535 or icmp-type 9 or icmp-code 9", false, false);
 }
 
 static void check_refused(const char *text, size_t offset, uint8_t expected, const char *words)
@@ -74,10 +79,15 @@ static void refused(void)
     check_refused("fault fault", 6, WOLFAREN_EXPECTED_OPERATOR_OR_END, "`and`, `or` or the end");
     check_refused("(fault", 6, WOLFAREN_EXPECTED_OPERATOR_OR_CLOSE, "`and`, `or` or `)`");
     check_refused("payload > x", 10, WOLFAREN_EXPECTED_COUNT, "a number from 0 to 18446744073709551615");
+    check_refused("icmp-type 256", 10, WOLFAREN_EXPECTED_BYTE, "a number from 0 to 255");
+    check_refused("src x", 4, WOLFAREN_EXPECTED_NETWORK_OR_PORT, "an address, a prefix or `port`");
+    check_refused("net x", 4, WOLFAREN_EXPECTED_NETWORK, "an address or a prefix");
+    check_refused("host ::1/64", 5, WOLFAREN_EXPECTED_ADDRESS, "an address");
+    check_refused("dst port 2-1", 9, WOLFAREN_EXPECTED_PORTS, "a port or a range of ports, as 1024-65535");
     struct wolfaren_filter filter;
     struct wolfaren_filter_error error;
     check(!wolfaren_parse_filter(NULL, 0, &filter, &error) && error.offset == 0, "no text");
-    check(wolfaren_expected_text(0, NULL, 0) == 0 && wolfaren_expected_text(13, NULL, 0) == 0, "an unknown code");
+    check(wolfaren_expected_text(0, NULL, 0) == 0 && wolfaren_expected_text(17, NULL, 0) == 0, "an unknown code");
 }
 
 static uint8_t next_byte(void)
@@ -120,7 +130,7 @@ static void any_contents(void)
         for (size_t i = 0; i < sizeof filter; i++) ((uint8_t *)&filter)[i] = next_byte();
         for (size_t i = 0; i < WOLFAREN_FILTER_TESTS; i++) {
             struct wolfaren_filter_test *test = &filter.tests[i];
-            test->kind %= 12;
+            test->kind %= WOLFAREN_TEST_ICMP_CODE + 2;
             if (round % 3 == 0) continue;
             test->if_met = (uint8_t)(i + test->if_met % 16);
             test->if_not = (uint8_t)(i + test->if_not % 16);
@@ -156,7 +166,7 @@ static void programs(void)
         {"a jump past the end", false, {2, {{MET, .if_met = 2}, {MET, .if_met = 64}, {MET, .if_met = 64}}}},
         {"a jump to index 255", false, {1, {{MET, .if_met = 255, .if_not = 64}}}},
         {"the unknown kind 0", true, {1, {{.if_met = 65, .if_not = 64}}}},
-        {"the unknown kind 11", true, {1, {{.kind = 11, .if_met = 65, .if_not = 64}}}},
+        {"the unknown kind 22", true, {1, {{.kind = 22, .if_met = 65, .if_not = 64}}}},
         {"an unknown comparison", true, {1, {{.kind = WOLFAREN_TEST_PAYLOAD, .comparison = 7, .if_not = 64}}}},
         {"an unknown version", true, {1, {{.kind = WOLFAREN_TEST_EITHER, .version = 5, .if_not = 64}}}},
         {"one of two flags", true,
@@ -168,6 +178,27 @@ static void programs(void)
          {1, {{.kind = WOLFAREN_TEST_SECURITY_PARAMETERS, .number = 258 + (1ull << 32), .if_not = 64}}}},
         {"an IPv4 address above 32 bits", true,
          {1, {{.kind = WOLFAREN_TEST_SOURCE, .version = 4, .address_low = 1ull << 32, .if_not = 64}}}},
+        {"the stated length", true,
+         {1, {{.kind = WOLFAREN_TEST_LENGTH, .comparison = WOLFAREN_EQUAL, .number = 34, .if_met = 64}}}},
+        {"a time to live", true,
+         {1, {{.kind = WOLFAREN_TEST_HOP_LIMIT, .comparison = WOLFAREN_LESS, .number = 65, .if_met = 64}}}},
+        {"a code point", true,
+         {1, {{.kind = WOLFAREN_TEST_DSCP, .comparison = WOLFAREN_NOT_EQUAL, .if_not = 64}}}},
+        {"no congestion", true, {1, {{.kind = WOLFAREN_TEST_ECN, .comparison = WOLFAREN_AT_MOST, .if_met = 64}}}},
+        {"no flow label", true,
+         {1, {{.kind = WOLFAREN_TEST_FLOW_LABEL, .comparison = WOLFAREN_AT_LEAST, .if_not = 64}}}},
+        {"the source port", true,
+         {1, {{.kind = WOLFAREN_TEST_SOURCE_PORT, .number = 2313, .address_low = 2313, .if_met = 64}}}},
+        {"lower ports", true, {1, {{.kind = WOLFAREN_TEST_SOURCE_PORT, .address_low = 2312, .if_not = 64}}}},
+        {"an empty range of ports", true,
+         {1, {{.kind = WOLFAREN_TEST_PORT, .number = 2314, .address_low = 2313, .if_not = 64}}}},
+        {"ports above 65535", true,
+         {1, {{.kind = WOLFAREN_TEST_PORT, .number = 2313, .address_low = UINT64_MAX, .if_met = 64}}}},
+        {"no destination port", true,
+         {1, {{.kind = WOLFAREN_TEST_DESTINATION_PORT, .address_low = 65535, .if_not = 64}}}},
+        {"too few bytes for both ports", true, {1, {{.kind = WOLFAREN_TEST_NO_TRANSPORT, .if_met = 64}}}},
+        {"no type of ICMP", true, {1, {{.kind = WOLFAREN_TEST_ICMP_TYPE, .number = 9, .if_not = 64}}}},
+        {"no code of ICMP", true, {1, {{.kind = WOLFAREN_TEST_ICMP_CODE, .number = 9, .if_not = 64}}}},
     };
     for (size_t i = 0; i < sizeof rows / sizeof *rows; i++)
         check(wolfaren_filter_matches(&rows[i].filter, IPV4, sizeof IPV4) == rows[i].passes, rows[i].what);
@@ -204,6 +235,81 @@ static void parsed_program(void)
     check(tests[2].if_met == WOLFAREN_FILTER_PASSED && tests[2].if_not > WOLFAREN_FILTER_PASSED, "where dst leads");
 }
 
+/* Returns the only test of a text. */
+static struct wolfaren_filter_test parsed_test(const char *text)
+{
+    struct wolfaren_filter filter;
+    struct wolfaren_filter_error error;
+    check(parse(text, &filter, &error) && filter.count == 1, text);
+    return filter.tests[0];
+}
+
+/* The kind, the number and the other end of the range of each term. */
+static void parsed_tests(void)
+{
+    static const struct {
+        const char *text;
+        uint8_t kind;
+        uint64_t number, address_low;
+    } rows[] = {
+        {"ip", WOLFAREN_TEST_FLAGS, 1 << WOLFAREN_FLAG_IPV4, 0},
+        {"ip6", WOLFAREN_TEST_FLAGS, 1 << WOLFAREN_FLAG_IPV6, 0},
+        {"dccp", WOLFAREN_TEST_LEADS_TO, 33, 0},
+        {"leads-to udp-lite", WOLFAREN_TEST_LEADS_TO, 136, 0},
+        {"length > 1280", WOLFAREN_TEST_LENGTH, 1280, 0},
+        {"hop-limit = 255", WOLFAREN_TEST_HOP_LIMIT, 255, 0},
+        {"ttl = 255", WOLFAREN_TEST_HOP_LIMIT, 255, 0},
+        {"dscp != 46", WOLFAREN_TEST_DSCP, 46, 0},
+        {"ecn = 3", WOLFAREN_TEST_ECN, 3, 0},
+        {"flow <= 0xfffff", WOLFAREN_TEST_FLOW_LABEL, 0xfffff, 0},
+        {"src port 53", WOLFAREN_TEST_SOURCE_PORT, 53, 53},
+        {"dst port 1024-65535", WOLFAREN_TEST_DESTINATION_PORT, 1024, 65535},
+        {"port 0-1", WOLFAREN_TEST_PORT, 0, 1},
+        {"no-transport", WOLFAREN_TEST_NO_TRANSPORT, 0, 0},
+        {"icmp-type 128", WOLFAREN_TEST_ICMP_TYPE, 128, 0},
+        {"icmp-code 255", WOLFAREN_TEST_ICMP_CODE, 255, 0},
+        {"host 192.0.2.1", WOLFAREN_TEST_EITHER, 0, 0xc0000201},
+    };
+    for (size_t i = 0; i < sizeof rows / sizeof *rows; i++) {
+        struct wolfaren_filter_test test = parsed_test(rows[i].text);
+        check(test.kind == rows[i].kind && test.number == rows[i].number, rows[i].text);
+        check(test.address_low == rows[i].address_low, rows[i].text);
+    }
+}
+
+/* An IPv6 header with differentiated services code point 46, congestion bits 1, flow label 0xcdef1 and hop limit 9. */
+#define IPV6(len, next_header) 0x6b, 0x9c, 0xde, 0xf1, 0, len, next_header, 9, 0, 0, 0, 0, 0, 0, 0, 0, 0, 0, 0, 0, 0, 0, \
+    0, 0, 0, 0, 0, 0, 0, 0, 0, 0, 0, 0, 0, 0, 0, 0, 0, 0
+
+/* From port 443 to port 50000: a first fragment, with destination options. */
+static const uint8_t SEGMENT[] = {IPV6(20, 60), 44, 0, 1, 4, 0, 0, 0, 0, 6, 0, 0, 1, 0, 0, 0, 7, 1, 0xbb, 0xc3, 0x50};
+
+/* An echo request of code 7, with an authentication header. */
+static const uint8_t ECHO[] = {IPV6(14, 51), 58, 1, 0, 0, 0, 0, 1, 2, 0, 0, 0, 3, 128, 7};
+
+/* Ports and ICMP messages after extension headers. */
+static void upper_layers(void)
+{
+    static const struct {
+        const char *text;
+        bool is_of_segment, is_of_echo;
+    } rows[] = {
+        {"src port 443 and dst port 50000 and first-fragment", true, false},
+        {"port 443 or icmp-type 128", true, true},
+        {"port 1-442 or port 444-49999 or port 50001-65535 or no-transport", false, false},
+        {"icmp-type 128 and icmp-code 7 and icmp6", false, true},
+        {"dscp = 46 and ecn = 1 and flow = 0xcdef1 and hop-limit = 9", true, true},
+        {"length = 60 or length = 54", true, true},
+    };
+    for (size_t i = 0; i < sizeof rows / sizeof *rows; i++) {
+        struct wolfaren_filter filter;
+        struct wolfaren_filter_error error;
+        check(parse(rows[i].text, &filter, &error), rows[i].text);
+        check(wolfaren_filter_matches(&filter, SEGMENT, sizeof SEGMENT) == rows[i].is_of_segment, rows[i].text);
+        check(wolfaren_filter_matches(&filter, ECHO, sizeof ECHO) == rows[i].is_of_echo, rows[i].text);
+    }
+}
+
 int main(void)
 {
     texts();
@@ -212,5 +318,7 @@ int main(void)
     programs();
     longest();
     parsed_program();
+    parsed_tests();
+    upper_layers();
     return 0;
 }

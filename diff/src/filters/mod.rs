@@ -3,6 +3,7 @@
 mod parse;
 mod texts;
 mod truth;
+mod upper_layers;
 
 use crate::changes::Changes;
 use crate::compare::{Counts, Outcome};
@@ -146,15 +147,23 @@ pub fn plain(text: &[u8], packet: &[u8]) -> Answer {
     }
 }
 
+/// Makes a packet with an upper layer, or takes one of those that wait.
+fn next_packet(waiting: &mut Vec<Vec<u8>>, random: &mut Random) -> Vec<u8> {
+    if random.percent(40) {
+        return upper_layers::packet(random);
+    }
+    if waiting.is_empty() {
+        *waiting = packets::asked(random, LONGEST);
+    }
+    waiting.pop().unwrap_or_default()
+}
+
 /// Compares `count` texts of filters on random packets. `ours` returns our results.
 pub fn all_filters(ours: impl Fn(&[u8], &[u8]) -> Answer, seed: u64, count: usize) -> Outcome {
     let mut random = Random::new(seed);
     let mut waiting: Vec<Vec<u8>> = Vec::new();
     for index in 0..count {
-        if waiting.is_empty() {
-            waiting = packets::asked(&mut random, LONGEST);
-        }
-        let packet = waiting.pop().unwrap_or_default();
+        let packet = next_packet(&mut waiting, &mut random);
         let text = texts::text(&packet, &mut random);
         let (ours, plain) = (ours(&text, &packet), plain(&text, &packet));
         if ours != plain {
@@ -192,6 +201,30 @@ mod tests {
             }
         }
         assert!(counts.iter().all(|&count| count > 200), "{counts:?}");
+    }
+
+    /// Each of these terms must hold of some packets, and not of others.
+    #[test]
+    fn upper_layers_vary() {
+        let texts = [
+            "port 0-32767",
+            "src port 0-32767",
+            "dst port 0-32767 and header frag",
+            "no-transport",
+            "no-transport and header ah",
+            "no-transport and src port 0-65535",
+            "icmp-type 0 or icmp-type 1 or icmp-type 2 or icmp-type 3",
+            "icmp-code 0 or icmp-code 1 or icmp-code 2 or icmp-code 3",
+            "udp-lite and later-fragment",
+        ];
+        let mut random = Random::new(4);
+        for text in texts {
+            let count = (0..4000)
+                .map(|_| upper_layers::packet(&mut random))
+                .filter(|packet| plain(text.as_bytes(), packet) == Answer::Matches(true, false))
+                .count();
+            assert!((5..3000).contains(&count), "{text}: {count}");
+        }
     }
 
     fn is_found(planted: impl Fn(&[u8], &[u8]) -> Answer) -> bool {

@@ -206,7 +206,7 @@ fn base_field(packet: &[u8], random: &mut Random, words: &mut Vec<String>) {
     );
 }
 
-/// Returns the place of the payload of a packet without extension headers, or another even place after its base header.
+/// Returns the offset of the payload of a packet without extension headers, or a later offset that a payload may have.
 fn place(packet: &[u8], random: &mut Random) -> usize {
     let len = match packet.first() {
         Some(first) if first >> 4 == 4 => 4 * usize::from(first & 15),
@@ -215,7 +215,7 @@ fn place(packet: &[u8], random: &mut Random) -> usize {
     if random.percent(50) {
         len
     } else {
-        len + 2 * random.below(24)
+        len + 4 * random.below(10)
     }
 }
 

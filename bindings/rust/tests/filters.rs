@@ -88,6 +88,76 @@ fn authentication() {
     );
 }
 
+/// Ports 443 and 50000.
+const PORTS: [u8; 8] = [0x01, 0xbb, 0xc3, 0x50, 0, 8, 0, 0];
+
+#[test]
+fn ports_after_extension_headers() {
+    let matching = [
+        "src port 443 and dst port 50000",
+        "port 443",
+        "port 50000-50001",
+    ];
+    let others = ["src port 50000", "port 444-0xc34f", "no-transport"];
+    let options = [&[17, 0, 1, 4, 0, 0, 0, 0][..], &PORTS].concat();
+    check(&ipv6(16, 60, &options), &matching, &others);
+    let first = [&[6, 0, 0, 1, 0, 0, 0, 7][..], &PORTS].concat();
+    check(&ipv6(16, 44, &first), &matching, &others);
+    let auth = [&[132, 1, 0, 80, 0, 0, 1, 2, 0, 0, 0, 3][..], &PORTS].concat();
+    check(&ipv4(51, &auth), &matching, &others);
+    let later = [&[17, 0, 0, 8, 0, 0, 0, 7][..], &PORTS].concat();
+    let others = ["port 0-65535", "no-transport"];
+    check(&ipv6(16, 44, &later), &["udp and later-fragment"], &others);
+    check(&ipv6(8, 47, &PORTS), &["gre"], &others);
+    let short = [&[6, 0, 0, 1, 0, 0, 0, 7][..], &PORTS[..3]].concat();
+    check(
+        &ipv6(11, 44, &short),
+        &["no-transport and src port 443"],
+        &["dst port 0-65535"],
+    );
+}
+
+#[test]
+fn messages_of_icmp() {
+    let message = [60, 0, 1, 4, 0, 0, 0, 0, 3, 4];
+    let options = [&[58][..], &message[1..]].concat();
+    check(
+        &ipv6(10, 60, &options),
+        &["icmp6 and icmp-type 3 and icmp-code 4"],
+        &["icmp-type 58", "icmp-code 3", "icmp"],
+    );
+    check(
+        &ipv4(1, &message[8..9]),
+        &["icmp and icmp-type 3"],
+        &["icmp-code 4"],
+    );
+}
+
+#[test]
+fn fields_of_base_headers() {
+    let mut packet = ipv6(8, 59, &PORTS);
+    packet[..4].copy_from_slice(&[0x6b, 0x9c, 0xde, 0xf1]);
+    let matching = [
+        "ip6 and no-next and length = 48",
+        "hop-limit = 64 and ttl = 64",
+        "dscp = 46 and ecn = 1 and flow = 0xcdef1",
+        "host 2001:db8::2",
+    ];
+    check(
+        &packet,
+        &matching,
+        &["ip", "length > 48", "host 2001:db8::3"],
+    );
+    let mut packet = ipv4(59, &PORTS);
+    packet[1] = 0xba;
+    let matching = [
+        "ip and length = 28 and ttl = 64",
+        "dscp = 46 and ecn = 2",
+        "host 192.0.2.2",
+    ];
+    check(&packet, &matching, &["ip6", "flow >= 0", "hop-limit != 64"]);
+}
+
 #[test]
 fn errors_in_packets() {
     let truncated = ipv6(24, 43, &[17, 2, 0, 0, 0, 0, 0, 0]);
@@ -133,7 +203,10 @@ fn filters_display_their_texts() {
 /// The texts in a row have terms with the same tests, which lead to the same tests.
 #[test]
 fn equal_filters() {
-    let rows: [&[&str]; 6] = [
+    let rows: [&[&str]; 9] = [
+        &["udp or ip6", "leads-to 17 or version 6"],
+        &["ttl < 2", "hop-limit < 2"],
+        &["host ::1 and port 53", "net ::1/128 and port 53-0x35"],
         &["header frag", " (header  0x2c)", "not not header 44"],
         &["src 192.0.2.1", "src 192.0.2.1/32"],
         &["not (fault or truncated)", "!fault && !truncated"],
@@ -181,7 +254,13 @@ fn different_filters() {
             .map(str::to_owned)
             .collect();
     terms.extend(kinds.split(' ').map(|kind| format!("fault {kind}")));
-    for name in ["headers", "chain-bytes", "payload"] {
+    terms.push("no-transport".to_owned());
+    for name in ["src port", "dst port", "port", "icmp-type", "icmp-code"] {
+        terms.push(format!("{name} 6"));
+    }
+    terms.push("port 6-7".to_owned());
+    let quantities = "headers chain-bytes payload length hop-limit dscp ecn flow".split(' ');
+    for name in quantities {
         terms.extend(["=", "!=", "<", "<=", ">", ">="].map(|it| format!("{name} {it} 7")));
     }
     terms.extend(["version", "header", "leads-to", "spi", "id"].map(|name| format!("{name} 6")));
@@ -261,11 +340,25 @@ fn refused_texts() {
             "a number from 0 to 4294967295",
         ),
         (
-            "src 1.2.3.4/33",
+            "net 1.2.3.4/33",
             4,
             Expected::Network,
             "an address or a prefix",
         ),
+        (
+            "src 1.2.3.4/33",
+            4,
+            Expected::NetworkOrPort,
+            "an address, a prefix or `port`",
+        ),
+        ("host ::/0", 5, Expected::Address, "an address"),
+        (
+            "dst port 65536",
+            9,
+            Expected::Ports,
+            "a port or a range of ports, as 1024-65535",
+        ),
+        ("icmp-code x", 10, Expected::Byte, "a number from 0 to 255"),
     ];
     for (text, offset, expected, words) in rows {
         assert_eq!(

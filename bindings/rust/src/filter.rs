@@ -55,7 +55,7 @@ impl Filter {
     /// | `host A` | the source or the destination is this address |
     /// | `src port P`, `dst port P`, `port P` | the source port, the destination port or one of them is in this range: a port, or a range such as `1024-65535` |
     /// | `no-transport` | the payload should start with ports, but is too short for both |
-    /// | `icmp-type N`, `icmp-code N` | the payload is an ICMP or ICMPv6 message of this type, or with this code |
+    /// | `icmp-type N`, `icmp-code N` | the payload is an ICMP message, of either version, of this type or with this code |
     ///
     /// TCP, UDP, UDP-Lite, SCTP and DCCP have ports. Ports, types and codes are read from the payload, so extension
     /// headers may precede them. A later fragment has none, nor has a packet with an error or a truncated header.

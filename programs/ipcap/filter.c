@@ -12,6 +12,7 @@
 #include "condition.h"
 #include "input.h"
 #include "options.h"
+#include "output.h"
 #include "program.h"
 #include "report.h"
 #include "terms.h"
@@ -66,29 +67,30 @@ static const struct option_row options[] = {
     {"help-terms", set_flag, offsetof(struct request, has_help), NULL},
 };
 
-/* The snap length of an output for several files: libpcap's greatest one for the link layers that are supported. */
-enum { MOST_SNAP_LEN = 262144 };
-
 /*
  * The capture that is written. For a single pcapng file, it consists of blocks of that. Otherwise it is a classic file,
  * whose link layer is that of the first file.
  */
-struct output {
+struct target {
+    struct output output;
     const char *name;
-    FILE *file;            /* null until the output is begun */
-    pcap_dumper_t *dumper; /* writes to `file`, or null for a pcapng file */
-    const char *first;     /* name of the first file */
-    int link_type;         /* one of libpcap's DLT_ values */
-    uint64_t written;      /* number of packets */
-    bool has_failed;       /* nothing more can be written */
-    bool has_left_out;     /* packets of the last file don't fit into the output */
+    const char *first; /* name of the first file */
+    int link_type;     /* one of libpcap's DLT_ values */
+    bool has_failed;   /* nothing more can be written, and why was reported */
+    bool has_left_out; /* packets of the last file don't fit into the output */
 };
 
-static bool refuse_output(struct output *output, const char *words)
+static bool refuse_output(struct target *target, const char *words)
 {
-    output->has_failed = true;
-    complain("%s: %s", output->name, words);
+    target->has_failed = true;
+    complain("%s: %s", target->name, words);
     return false;
+}
+
+/* Whether writing hasn't failed. If it has, reports why. */
+static bool is_written(struct target *target)
+{
+    return has_output_failed(&target->output) ? refuse_output(target, target->output.error) : true;
 }
 
 /* Whether the output is one of the files to read, which opening it for writing would truncate. */
@@ -104,134 +106,53 @@ static bool is_input(const struct request *request)
     return false;
 }
 
-/* Flushes the output. On failure, reports why; for that, `errno` must have been 0 before the data was written. */
-static bool flush_output(struct output *output)
-{
-    if (fflush(output->file) == 0 && !ferror(output->file)) return true;
-    return refuse_output(output, errno ? strerror(errno) : "write failed");
-}
-
-/* Writes the head of the output, in the form of `handle`, to the file, which is closed if that fails. */
-static bool begin_output(struct output *output, pcap_t *handle, FILE *file)
-{
-    errno = 0;
-    output->dumper = pcap_dump_fopen(handle, file);
-    output->file = output->dumper ? file : NULL;
-    if (output->dumper) return true;
-    if (file != stdout) fclose(file);
-    return refuse_output(output, pcap_geterr(handle));
-}
-
-/* Begins an output for several files, which keeps all bytes and timestamps of any of them. */
-static bool begin_joint_output(struct output *output, FILE *file)
-{
-    pcap_t *handle = pcap_open_dead_with_tstamp_precision(output->link_type, MOST_SNAP_LEN,
-                                                          PCAP_TSTAMP_PRECISION_NANO);
-    if (!handle) {
-        if (file != stdout) fclose(file);
-        return refuse_output(output, "out of memory");
-    }
-    bool is_begun = begin_output(output, handle, file);
-    pcap_close(handle);
-    return is_begun;
-}
-
-/* Writes bytes of a pcapng file. Flushes them immediately if the input is live. */
-static bool write_bytes(struct output *output, const struct capture *capture, const uint8_t *bytes, size_t len)
-{
-    errno = 0;
-    bool is_written = fwrite(bytes, 1, len, output->file) == len;
-    return is_written && !capture->is_live ? true : flush_output(output);
-}
-
-/* Writes a block that is no packet, as it is. */
-static bool copy_block(struct capture *capture, const uint8_t *block, size_t len)
-{
-    return write_bytes(capture->copier, capture, block, len);
-}
-
-/* Begins an output with the blocks of a pcapng file. */
-static bool begin_block_output(struct output *output, struct capture *capture, FILE *file)
-{
-    output->file = file;
-    capture->copy = copy_block;
-    capture->copier = output;
-    return write_bytes(output, capture, capture->blocks.head, capture->blocks.head_len);
-}
-
-/* Begins an output in the format of the input, or in that for several files. */
-static bool begin_any_output(struct output *output, const struct request *request, struct capture *capture, FILE *file)
-{
-    if (request->file_count > 1) return begin_joint_output(output, file);
-    return capture->handle ? begin_output(output, capture->handle, file) : begin_block_output(output, capture, file);
-}
-
 /* Opens the output. For a single file, it has the format, the snap length and the timestamp precision of that. */
-static bool open_output(struct output *output, const struct request *request, struct capture *capture)
+static bool open_output(struct target *target, const struct request *request, struct capture *capture)
 {
     bool is_standard = is_standard_stream(request->output);
-    output->name = is_standard ? "standard output" : request->output;
-    output->first = capture->name;
-    output->link_type = capture->link_type;
-    if (!is_standard && is_input(request)) return refuse_output(output, "input and output are the same file");
+    target->name = is_standard ? "standard output" : request->output;
+    target->first = capture->name;
+    target->link_type = capture->link_type;
+    if (!is_standard && is_input(request)) return refuse_output(target, "input and output are the same file");
     FILE *file = is_standard ? stdout : fopen(request->output, "wb");
-    if (!file) return refuse_output(output, strerror(errno));
-    return begin_any_output(output, request, capture, file) && (!capture->is_live || flush_output(output));
+    if (!file) return refuse_output(target, strerror(errno));
+    if (request->file_count == 1)
+        begin_output(&target->output, capture, file);
+    else if (begin_joint_output(&target->output, target->link_type, file) && capture->is_live)
+        flush_output(&target->output);
+    return is_written(target);
 }
 
 /* Whether a classic file has the link layer of the output. If not, reports it. Packets of a pcapng file may differ. */
-static bool has_link_type(const struct output *output, const struct capture *capture)
+static bool has_link_type(const struct target *target, const struct capture *capture)
 {
-    if (!capture->handle || capture->link_type == output->link_type) return true;
+    if (!capture->handle || capture->link_type == target->link_type) return true;
     const char *name = pcap_datalink_val_to_name(capture->link_type);
-    const char *first = pcap_datalink_val_to_name(output->link_type);
-    complain("%s: link layer %s, but that of %s is %s", capture->name, name ? name : "unknown", output->first,
+    const char *first = pcap_datalink_val_to_name(target->link_type);
+    complain("%s: link layer %s, but that of %s is %s", capture->name, name ? name : "unknown", target->first,
              first ? first : "unknown");
     return false;
 }
 
 /* Returns why a packet of a pcapng file can't be in a classic file with the link layer of the output, or null. */
-static const char *misfit(const struct output *output, const struct capture *capture, const struct packet *packet)
+static const char *misfit(const struct target *target, const struct capture *capture, const struct packet *packet)
 {
     time_t seconds = time_of(capture, packet).tv_sec;
-    if (packet->link_type != output->link_type) return "its link layer isn't that of the output";
+    if (packet->link_type != target->link_type) return "its link layer isn't that of the output";
     if (seconds < 0 || seconds > (time_t)UINT32_MAX) return "the classic pcap format has no such time";
     if (packet->header.caplen > MOST_SNAP_LEN) return "the classic pcap format has no such length";
     return NULL;
 }
 
 /* Whether a packet can be written. The first one of a file that can't is reported. */
-static bool does_fit(struct output *output, const struct capture *capture, const struct packet *packet)
+static bool does_fit(struct target *target, const struct capture *capture, const struct packet *packet)
 {
-    const char *reason = packet->block && output->dumper ? misfit(output, capture, packet) : NULL;
-    if (reason && !output->has_left_out)
+    const char *reason = packet->block && target->output.dumper ? misfit(target, capture, packet) : NULL;
+    if (reason && !target->has_left_out)
         complain("%s: packet %llu and others like it are left out: %s", capture->name,
                  (unsigned long long)capture->number, reason);
-    output->has_left_out |= reason != NULL;
+    target->has_left_out |= reason != NULL;
     return !reason;
-}
-
-/* Writes a packet. Flushes it immediately if the input is live. */
-static void write_packet(struct output *output, const struct request *request, const struct capture *capture,
-                         const struct packet *packet)
-{
-    struct pcap_pkthdr header = packet->header;
-    output->written++;
-    if (!output->dumper) {
-        write_bytes(output, capture, packet->block, packet->block_len);
-        return;
-    }
-    if (request->file_count > 1) header.ts.tv_usec = time_of(capture, packet).tv_nsec;
-    errno = 0;
-    pcap_dump((u_char *)output->dumper, &header, packet->frame);
-    if (capture->is_live || ferror(output->file)) flush_output(output);
-}
-
-static bool does_match(const struct request *request, const struct packet *packet)
-{
-    if (!packet->is_ip) return wolfaren_filter_matches_other(&request->condition);
-    return wolfaren_filter_matches(&request->condition, packet->frame + packet->ip_offset,
-                                   packet->header.caplen - packet->ip_offset);
 }
 
 static bool is_before(const struct timespec *time, const struct timespec *other)
@@ -250,25 +171,27 @@ static bool is_timely(const struct request *request, const struct capture *captu
 /* Whether a packet meets the condition, and has one of the numbers and times that are asked for. */
 static bool is_chosen(const struct request *request, const struct capture *capture, const struct packet *packet)
 {
-    return !packet->is_left_out && capture->number >= request->packets.first && is_timely(request, capture, packet)
-        && does_match(request, packet);
+    return capture->number >= request->packets.first && is_timely(request, capture, packet)
+        && does_match(&request->condition, packet);
 }
 
 /* Whether packets that aren't read yet may be written. */
 static bool wants_more(const struct request *request, const struct output *output, const struct capture *capture)
 {
-    return output->written < request->most && capture->number < request->packets.last;
+    return !has_output_failed(output) && output->written < request->most && capture->number < request->packets.last;
 }
 
-static bool filter_packets(const struct request *request, struct output *output, struct capture *capture)
+static bool filter_packets(const struct request *request, struct target *target, struct capture *capture)
 {
+    struct output *output = &target->output;
     struct packet packet;
-    output->has_left_out = false;
-    while (!output->has_failed && wants_more(request, output, capture) && read_packet(capture, &packet))
-        if (is_chosen(request, capture, &packet) && does_fit(output, capture, &packet))
-            write_packet(output, request, capture, &packet);
+    target->has_left_out = false;
+    while (wants_more(request, output, capture) && read_packet(capture, &packet))
+        if (is_chosen(request, capture, &packet) && does_fit(target, capture, &packet))
+            write_packet(output, capture, &packet);
     errno = 0;
-    return !output->has_failed && flush_output(output) && !output->has_left_out;
+    flush_output(output);
+    return is_written(target) && !target->has_left_out;
 }
 
 /* Whether a capture has no link layer, since it is a pcapng file without interfaces, and therefore without packets. */
@@ -278,27 +201,25 @@ static bool has_no_link_type(const struct capture *capture)
 }
 
 /* Filters a file. If it is the first that could be opened, opens the output. */
-static bool filter_file(const struct request *request, struct output *output, const char *path)
+static bool filter_file(const struct request *request, struct target *target, const char *path)
 {
     struct input input;
+    struct capture *capture = &input.capture;
     if (!open_input(&input, path)) return false;
     if (!is_standard_stream(request->output)) allow_progress(&input);
-    if (request->file_count > 1 && has_no_link_type(&input.capture)) return close_input(&input);
-    bool is_open = output->file ? has_link_type(output, &input.capture) : open_output(output, request, &input.capture);
-    bool is_done = is_open && filter_packets(request, output, &input.capture);
+    if (request->file_count > 1 && has_no_link_type(capture)) return close_input(&input);
+    bool is_open = target->output.file ? has_link_type(target, capture) : open_output(target, request, capture);
+    bool is_done = is_open && filter_packets(request, target, capture);
     return close_input(&input) && is_done;
 }
 
 static bool filter_files(const struct request *request)
 {
-    struct output output = {0};
+    struct target target = {0};
     bool is_done = true;
-    for (int i = 0; i < request->file_count && output.written < request->most && !output.has_failed; i++)
-        if (!filter_file(request, &output, request->files[i])) is_done = false;
-    if (output.dumper)
-        pcap_dump_close(output.dumper);
-    else if (output.file && output.file != stdout)
-        fclose(output.file);
+    for (int i = 0; i < request->file_count && target.output.written < request->most && !target.has_failed; i++)
+        if (!filter_file(request, &target, request->files[i])) is_done = false;
+    end_output(&target.output);
     return is_done;
 }
 

@@ -1,0 +1,107 @@
+#include "output.h"
+
+#include <errno.h>
+#include <string.h>
+
+/* Sets the error to that of the system, which is in `errno`, or if that is 0 to `words`, and returns false. */
+static bool fail(struct output *output, const char *words)
+{
+    output->system_error = errno;
+    snprintf(output->error, sizeof output->error, "%s", errno ? strerror(errno) : words);
+    return false;
+}
+
+bool has_output_failed(const struct output *output)
+{
+    return *output->error != '\0';
+}
+
+/* Flushing says why writing failed if `errno` was 0 before the data was written. */
+bool flush_output(struct output *output)
+{
+    if (has_output_failed(output)) return false;
+    return fflush(output->file) == 0 && !ferror(output->file) ? true : fail(output, "write failed");
+}
+
+/* Writes the head of a classic file in the form of `handle`. If that fails, libpcap has closed the file. */
+static bool begin_classic(struct output *output, pcap_t *handle, FILE *file)
+{
+    errno = 0;
+    output->dumper = pcap_dump_fopen(handle, file);
+    output->file = output->dumper ? file : NULL;
+    return output->dumper ? true : fail(output, pcap_geterr(handle));
+}
+
+bool begin_joint_output(struct output *output, int link_type, FILE *file)
+{
+    pcap_t *handle = pcap_open_dead_with_tstamp_precision(link_type, MOST_SNAP_LEN, PCAP_TSTAMP_PRECISION_NANO);
+    if (!handle) {
+        if (file != stdout) fclose(file);
+        errno = 0;
+        return fail(output, "out of memory");
+    }
+    output->is_joint = true;
+    bool is_begun = begin_classic(output, handle, file);
+    pcap_close(handle);
+    return is_begun;
+}
+
+/* Writes bytes of a pcapng file. Flushes them immediately if the input is live. */
+static bool write_bytes(struct output *output, const struct capture *capture, const uint8_t *bytes, size_t len)
+{
+    errno = 0;
+    bool is_written = fwrite(bytes, 1, len, output->file) == len;
+    return is_written && !capture->is_live ? true : flush_output(output);
+}
+
+/* Writes a block that is no packet, as it is. */
+static bool copy_block(struct capture *capture, const uint8_t *block, size_t len)
+{
+    return write_bytes(capture->copier, capture, block, len);
+}
+
+/* Begins an output with the blocks of a pcapng file. */
+static bool begin_blocks(struct output *output, struct capture *capture, FILE *file)
+{
+    output->file = file;
+    capture->copy = copy_block;
+    capture->copier = output;
+    return write_bytes(output, capture, capture->blocks.head, capture->blocks.head_len);
+}
+
+bool begin_output(struct output *output, struct capture *capture, FILE *file)
+{
+    pcap_t *handle = capture->handle;
+    bool is_begun = handle ? begin_classic(output, handle, file) : begin_blocks(output, capture, file);
+    return is_begun && (!capture->is_live || flush_output(output));
+}
+
+void write_packet(struct output *output, const struct capture *capture, const struct packet *packet)
+{
+    struct pcap_pkthdr header = packet->header;
+    output->written++;
+    if (!output->dumper) {
+        write_bytes(output, capture, packet->block, packet->block_len);
+        return;
+    }
+    if (output->is_joint) header.ts.tv_usec = time_of(capture, packet).tv_nsec;
+    errno = 0;
+    pcap_dump((u_char *)output->dumper, &header, packet->frame);
+    if (capture->is_live || ferror(output->file)) flush_output(output);
+}
+
+void end_output(struct output *output)
+{
+    if (output->dumper)
+        pcap_dump_close(output->dumper);
+    else if (output->file && output->file != stdout)
+        fclose(output->file);
+}
+
+bool does_match(const struct wolfaren_filter *condition, const struct packet *packet)
+{
+    if (packet->is_left_out) return false;
+    if (!packet->is_ip) return wolfaren_filter_matches_other(condition);
+    return wolfaren_filter_matches(condition, packet->frame + packet->ip_offset,
+                                   packet->header.caplen - packet->ip_offset);
+}

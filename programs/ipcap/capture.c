@@ -277,10 +277,21 @@ bool is_read_whole(const struct capture *capture)
     return *capture->error == '\0';
 }
 
-void close_capture(struct capture *capture)
+bool is_any_left_out(const struct capture *capture)
 {
-    const char *names = capture->blocks.left_out_names;
+    return *capture->blocks.left_out_names != '\0';
+}
+
+void report_left_out(struct capture *capture)
+{
+    char *names = capture->blocks.left_out_names;
     size_t len = strlen(capture->error);
     if (*names) snprintf(capture->error + len, sizeof capture->error - len, "%s%s", len > 0 ? "; " : "", names);
+    *names = '\0';
+}
+
+void close_capture(struct capture *capture)
+{
+    report_left_out(capture);
     close_file(capture);
 }

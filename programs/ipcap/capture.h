@@ -88,6 +88,12 @@ struct timespec time_of(const struct capture *capture, const struct packet *pack
 /* Whether the capture was read to its end. */
 bool is_read_whole(const struct capture *capture);
 
+/* Whether a capture has an interface whose link layer isn't supported, so that its packets are left out. */
+bool is_any_left_out(const struct capture *capture);
+
+/* Adds to `error` the link layers because of which packets are left out. Call it once no more packets are read. */
+void report_left_out(struct capture *capture);
+
 /* Closes a capture that was opened. If packets were left out because of their link layer, `error` then names it. */
 void close_capture(struct capture *capture);
 

@@ -1,14 +1,18 @@
 /* The calls of the library libwolfaren-pcap that read packets, and that filter captures. */
 #include <errno.h>
 #include <pcap/pcap.h>
+#include <stdbool.h>
 #include <stdio.h>
 #include <stdlib.h>
 #include <string.h>
 #include <unistd.h>
 
 #include "capture.h"
+#include "output.h"
 #include "wolfaren-pcap.h"
 #include "wolfaren.h"
+
+_Static_assert((int)MOST_BLOCK <= WOLFAREN_PCAP_PACKET_ROOM, "every packet fits");
 
 /* The symbols that the library exports. */
 #define EXPORTED __attribute__((visibility("default")))
@@ -46,9 +50,9 @@ EXPORTED struct wolfaren_pcap_reader *wolfaren_pcap_open(const char *path, char 
     return NULL;
 }
 
-EXPORTED const char *wolfaren_pcap_link_layer(const struct wolfaren_pcap_reader *reader)
+EXPORTED const char *wolfaren_pcap_link_layer_name(int32_t link_type)
 {
-    const char *name = pcap_datalink_val_to_name(pcap_datalink(reader->capture.handle));
+    const char *name = pcap_datalink_val_to_name(link_type);
     return name ? name : "";
 }
 
@@ -61,6 +65,7 @@ static bool next_ip(struct wolfaren_pcap_reader *reader)
         reader->has_ended = !read_packet(&reader->capture, &reader->packet);
         is_there = !reader->has_ended && reader->packet.is_ip;
     }
+    if (reader->has_ended) report_left_out(&reader->capture);
     return is_there;
 }
 
@@ -71,8 +76,10 @@ static struct wolfaren_pcap_packet fields_of(const struct wolfaren_pcap_reader *
     struct timespec time = time_of(&reader->capture, packet);
     return (struct wolfaren_pcap_packet){
         .number = reader->capture.number,
-        .seconds = time.tv_sec,
-        .nanoseconds = time.tv_nsec,
+        .seconds = packet->has_time ? time.tv_sec : 0,
+        .nanoseconds = packet->has_time ? time.tv_nsec : 0,
+        .has_time = packet->has_time,
+        .link_type = packet->link_type,
         .captured_len = packet->header.caplen,
         .original_len = packet->header.len,
         .ip_offset = packet->ip_offset,
@@ -112,35 +119,10 @@ EXPORTED void wolfaren_pcap_close(struct wolfaren_pcap_reader *reader)
     free(reader);
 }
 
-static bool does_match(const struct wolfaren_filter *condition, const struct packet *packet)
+/* Returns a stream that writes to a copy of a descriptor, or null, in which case `errno` says why. */
+static FILE *open_copy(int descriptor, char buffer[OUTPUT_BUFFER])
 {
-    if (!packet->is_ip) return wolfaren_filter_matches_other(condition);
-    return wolfaren_filter_matches(condition, packet->frame + packet->ip_offset,
-                                   packet->header.caplen - packet->ip_offset);
-}
-
-/* Writes the frames that meet the condition. Returns whether they could be written; if not, `errno` says why. */
-static bool write_frames(const struct wolfaren_filter *condition, struct capture *capture, pcap_dumper_t *dumper,
-                         struct wolfaren_pcap_counts *counts)
-{
-    FILE *file = pcap_dump_file(dumper);
-    struct packet packet;
-    while (!ferror(file) && read_packet(capture, &packet)) {
-        counts->frames++;
-        if (!does_match(condition, &packet)) continue;
-        counts->written++;
-        errno = 0;
-        pcap_dump((u_char *)dumper, &packet.header, packet.frame);
-    }
-    if (ferror(file)) return false;
-    errno = 0;
-    return pcap_dump_flush(dumper) == 0;
-}
-
-/* Begins the output in a copy of its descriptor, with a buffer. On failure returns null, and `errno` says why. */
-static pcap_dumper_t *begin_output(pcap_t *handle, int output, char buffer[OUTPUT_BUFFER])
-{
-    int copy = dup(output);
+    int copy = dup(descriptor);
     if (copy < 0) return NULL;
     FILE *file = fdopen(copy, "wb");
     if (!file) {
@@ -150,25 +132,50 @@ static pcap_dumper_t *begin_output(pcap_t *handle, int output, char buffer[OUTPU
         return NULL;
     }
     setvbuf(file, buffer, _IOFBF, OUTPUT_BUFFER);
-    return pcap_dump_fopen(handle, file); /* which closes the file if it can't write to it */
+    return file;
 }
 
-/* Filters an open capture, and returns where that failed, with its error. */
-static int filter_opened(const struct wolfaren_filter *condition, struct capture *capture, int output,
-                         struct wolfaren_pcap_counts *counts, char error[WOLFAREN_PCAP_ERROR_ROOM])
+/* Writes the frames that meet the condition. If they can't be written, sets the error of the output. */
+static void write_frames(const struct wolfaren_filter *condition, struct capture *capture, struct output *output)
 {
-    char buffer[OUTPUT_BUFFER];
+    struct packet packet;
+    while (!has_output_failed(output) && read_packet(capture, &packet))
+        if (does_match(condition, &packet)) write_packet(output, capture, &packet);
     errno = 0;
-    pcap_dumper_t *dumper = begin_output(capture->handle, output, buffer);
-    bool is_written = dumper && write_frames(condition, capture, dumper, counts);
-    int system_error = errno;
-    if (dumper) pcap_dump_close(dumper);
-    if (!is_written) {
-        write_error(error, system_error ? strerror(system_error) : "write failed", system_error);
+    flush_output(output);
+}
+
+/* Returns whether all of a capture was written, or where that failed, with the error. */
+static int outcome_of(struct capture *capture, const struct output *output, char error[WOLFAREN_PCAP_ERROR_ROOM])
+{
+    bool is_whole = is_read_whole(capture), is_left_out = is_any_left_out(capture);
+    report_left_out(capture);
+    if (has_output_failed(output)) {
+        write_error(error, output->error, output->system_error);
         return WOLFAREN_PCAP_OUTPUT_FAILED;
     }
     write_error(error, capture->error, capture->system_error);
-    return is_read_whole(capture) ? WOLFAREN_PCAP_FILTERED : WOLFAREN_PCAP_INPUT_FAILED;
+    if (!is_whole) return WOLFAREN_PCAP_INPUT_FAILED;
+    return is_left_out ? WOLFAREN_PCAP_LEFT_OUT : WOLFAREN_PCAP_FILTERED;
+}
+
+/* Filters an open capture, and returns where that failed, with its error. */
+static int filter_opened(const struct wolfaren_filter *condition, struct capture *capture, int descriptor,
+                         struct wolfaren_pcap_counts *counts, char error[WOLFAREN_PCAP_ERROR_ROOM])
+{
+    char buffer[OUTPUT_BUFFER];
+    struct output output = {0};
+    errno = 0;
+    FILE *file = open_copy(descriptor, buffer);
+    if (!file) {
+        int system_error = errno;
+        write_error(error, system_error ? strerror(system_error) : "out of memory", system_error);
+        return WOLFAREN_PCAP_OUTPUT_FAILED;
+    }
+    if (begin_output(&output, capture, file)) write_frames(condition, capture, &output);
+    end_output(&output);
+    *counts = (struct wolfaren_pcap_counts){capture->number, output.written};
+    return outcome_of(capture, &output, error);
 }
 
 EXPORTED int wolfaren_pcap_filter(const char *condition, size_t condition_len, const char *input, int output,

@@ -39,8 +39,8 @@ enum {
     LEAST_PACKET = 32
 };
 
-/* The largest block, as in libpcap, and the most interfaces of a section. */
-enum { MOST_BLOCK = 16 << 20, MOST_INTERFACES = 1 << 16 };
+/* The most interfaces of a section. */
+enum { MOST_INTERFACES = 1 << 16 };
 
 static const uint32_t byte_order_magic = 0x1a2b3c4d;
 

@@ -16,6 +16,9 @@
 /* A buffer size that is large enough for the text of every error. */
 enum { PCAPNG_ERROR_ROOM = 160 };
 
+/* The length of the largest block that is read, as in libpcap. */
+enum { MOST_BLOCK = 16 << 20 };
+
 /* An interface of a section. */
 struct interface {
     int link_type;                       /* one of libpcap's DLT_ values */

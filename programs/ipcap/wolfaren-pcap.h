@@ -11,6 +11,7 @@
 #ifndef WOLFAREN_PCAP_H
 #define WOLFAREN_PCAP_H
 
+#include <stdbool.h>
 #include <stddef.h>
 #include <stdint.h>
 
@@ -21,8 +22,8 @@ extern "C" {
 /* A buffer size that is large enough for any text of an error and its terminating null byte. */
 #define WOLFAREN_PCAP_ERROR_ROOM 512
 
-/* A buffer size that is large enough for any packet that libpcap reads with a supported link layer. */
-#define WOLFAREN_PCAP_PACKET_ROOM 262144
+/* A buffer size that is large enough for any packet: the size of the largest block of a pcapng file that is read. */
+#define WOLFAREN_PCAP_PACKET_ROOM 16777216
 
 /*
  * Counts the packets of the capture in a file, which may be compressed with gzip, zstd or xz. Returns a line of JSON as
@@ -45,6 +46,8 @@ struct wolfaren_pcap_packet {
     uint64_t number;       /* number of the frame in the capture: 1 for the first */
     int64_t seconds;       /* when the frame was captured: seconds since 1970-01-01, 00:00:00 UTC, .. */
     int64_t nanoseconds;   /* .. and nanoseconds, from 0 to 999,999,999 unless the capture is damaged */
+    int32_t link_type;     /* link layer of the frame: one of libpcap's DLT_ values */
+    bool has_time;         /* false for a packet of a pcapng file that has no time, which is then 0 */
     uint32_t captured_len; /* how many bytes of the frame the capture has */
     uint32_t original_len; /* length of the frame in bytes */
     size_t ip_offset;      /* where the packet begins in the frame, in bytes */
@@ -58,16 +61,20 @@ struct wolfaren_pcap_packet {
  */
 struct wolfaren_pcap_reader *wolfaren_pcap_open(const char *path, char error[WOLFAREN_PCAP_ERROR_ROOM]);
 
-/* Returns libpcap's name of the link layer of a capture, such as "EN10MB" for Ethernet. It is never released. */
-const char *wolfaren_pcap_link_layer(const struct wolfaren_pcap_reader *reader);
+/*
+ * Returns libpcap's name of a link layer, such as "EN10MB" for Ethernet, or the empty text if libpcap has no name for
+ * the number. The text is never released.
+ */
+const char *wolfaren_pcap_link_layer_name(int32_t link_type);
 
 /*
  * Reads the next IP packets of a capture and returns their number: at most `room`, which must be above 0, and only as
  * many as fit into the buffer of `bytes_room` bytes, which must be WOLFAREN_PCAP_PACKET_ROOM or more. Writes the fields
  * of each packet to `packets`, and its bytes to the buffer. Frames without an IP packet are left out.
  *
- * Returns 0 at the end of the capture, and writes to `error` if it can't be read to its end. Of a file that isn't
- * regular, such as a pipe, reads one packet in each call, as soon as it arrives.
+ * Returns 0 at the end of the capture, and writes to `error` if it can't be read to its end, or which interfaces of a
+ * pcapng file have a link layer that isn't supported: their packets are left out. Of a file that isn't regular, such as
+ * a pipe, reads one packet in each call, as soon as it arrives.
  */
 size_t wolfaren_pcap_read(struct wolfaren_pcap_reader *reader, struct wolfaren_pcap_packet *packets, size_t room,
                           uint8_t *bytes, size_t bytes_room, char error[WOLFAREN_PCAP_ERROR_ROOM]);
@@ -80,7 +87,8 @@ enum {
     WOLFAREN_PCAP_FILTERED = 0,
     WOLFAREN_PCAP_CONDITION_FAILED = 1, /* the text isn't a filter */
     WOLFAREN_PCAP_INPUT_FAILED = 2,
-    WOLFAREN_PCAP_OUTPUT_FAILED = 3
+    WOLFAREN_PCAP_OUTPUT_FAILED = 3,
+    WOLFAREN_PCAP_LEFT_OUT = 4 /* filtered, without the packets of interfaces with a link layer that isn't supported */
 };
 
 /* Numbers of frames. */
@@ -90,12 +98,14 @@ struct wolfaren_pcap_counts {
 };
 
 /*
- * Writes the frames of a capture that meet a condition to an open file, as `ipcap filter -w` does: a capture in the
- * format of pcap, with the link layer, snap length and precision of the one that is read. The condition is a text for
- * wolfaren_parse_filter, with `condition_len` bytes. `output` is the file's descriptor, which stays open.
+ * Writes the frames of a capture that meet a condition to an open file, as `ipcap filter -w` does. For a pcapng file,
+ * the output is a pcapng file with the interfaces and other blocks of the one that is read. For a pcap file, it is a
+ * pcap file with the link layer, snap length and precision of the one that is read. It isn't compressed. The condition
+ * is a text for wolfaren_parse_filter, with `condition_len` bytes. `output` is the file's descriptor, which stays open.
  *
  * Returns WOLFAREN_PCAP_FILTERED if the capture was read to its end and all was written. Otherwise writes why not to
- * `error`, and returns one of the other numbers: the output may then have some of the frames. Always sets `counts`.
+ * `error`, and returns one of the other numbers. The output then lacks the packets of the interfaces that `error` names
+ * (WOLFAREN_PCAP_LEFT_OUT), or may have some of the frames. Always sets `counts`.
  */
 int wolfaren_pcap_filter(const char *condition, size_t condition_len, const char *input, int output,
                          struct wolfaren_pcap_counts *counts, char error[WOLFAREN_PCAP_ERROR_ROOM]);

@@ -17,9 +17,11 @@ static void print_packet(const struct wolfaren_pcap_packet *packet, const uint8_
 {
     unsigned long sum = 0;
     for (size_t i = 0; i < packet->len; i++) sum += (i + 1) * bytes[packet->offset + i];
-    printf("%llu %lld %lu %lu %zu %zu %lu\n", (unsigned long long)packet->number,
-           (long long)(1000000000 * packet->seconds + packet->nanoseconds), (unsigned long)packet->captured_len,
-           (unsigned long)packet->original_len, packet->ip_offset, packet->len, sum);
+    printf("%llu ", (unsigned long long)packet->number);
+    if (packet->has_time)
+        printf("%llu ", 1000000000ull * (unsigned long long)packet->seconds + (unsigned long long)packet->nanoseconds);
+    printf("%s %lu %lu %zu %zu %lu\n", wolfaren_pcap_link_layer_name(packet->link_type),
+           (unsigned long)packet->captured_len, (unsigned long)packet->original_len, packet->ip_offset, packet->len, sum);
 }
 
 static void read_packets(const char *path, uint8_t *bytes)
@@ -28,7 +30,6 @@ static void read_packets(const char *path, uint8_t *bytes)
     struct wolfaren_pcap_packet packets[PACKETS];
     struct wolfaren_pcap_reader *reader = wolfaren_pcap_open(path, error);
     size_t count = 0;
-    if (reader) printf("%s\n", wolfaren_pcap_link_layer(reader));
     do {
         if (reader) count = wolfaren_pcap_read(reader, packets, PACKETS, bytes, WOLFAREN_PCAP_PACKET_ROOM, error);
         for (size_t i = 0; i < count; i++) print_packet(&packets[i], bytes);

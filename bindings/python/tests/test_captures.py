@@ -3,6 +3,7 @@
 import contextlib
 import datetime
 import errno
+import gzip
 import os
 import pickle
 import random
@@ -10,7 +11,6 @@ import re
 import resource
 import shutil
 import stat
-import struct
 import subprocess
 import tempfile
 import threading
@@ -19,10 +19,10 @@ from unittest import mock
 
 from support import BUILD, PACKETS, ROOT, TCP, UDP, capture, ethernet, file_header, ipcap, ipv4, ipv6_chain, record, write
 
+import blocks
 from captures import LOOP, NANOSECONDS, RAW, SLL2, cooked2
 
 import wolfaren
-from wolfaren._captures import Reader
 from wolfaren._library import captures
 from wolfaren import CaptureError, CaptureOSError, Filter, Packet, Statistics, Written, packets
 
@@ -67,13 +67,9 @@ class Packets(Scratch):
             self.assertEqual((packet.time_ns, packet.time.year), (wanted, 2106))
 
     def test_late_time(self):
-        """A block of pcapng whose time, in microseconds, is after the year 9999."""
+        """A packet of a pcapng file whose time, in microseconds, is after the year 9999."""
         packet = ipv4(6, TCP)
-        blocks = [(0x0A0D0D0A, struct.pack("<IHHq", 0x1A2B3C4D, 1, 0, -1)), (1, struct.pack("<HHI", RAW, 0, 0)),
-                  (6, struct.pack("<IIIII", 0, 2**28, 0, len(packet), len(packet)) + packet)]
-        path = self.file(b"".join(struct.pack("<II", kind, len(body) + 12) + body + struct.pack("<I", len(body) + 12)
-                                  for kind, body in blocks))
-        (found,) = packets(path)
+        (found,) = packets(self.file(blocks.section() + blocks.interface(RAW) + blocks.packet(packet, 0, 2**60)))
         self.assertEqual((found.time_ns, found.bytes), (2**60 * 1000, packet))
         with self.assertRaises(OverflowError):
             found.time
@@ -84,6 +80,52 @@ class Packets(Scratch):
                                     (SLL2, "LINUX_SLL2", cooked2(packet, 0x0800))]:
             (found,) = packets(self.file(capture([frame], number)))
             self.assertEqual((found.link_layer, found.ip_offset, found.bytes), (name, len(frame) - len(packet), packet))
+
+    def test_interfaces(self):
+        """Each packet of a pcapng file has the link layer, and the resolution of times, of its interface."""
+        packet, frame = ipv4(17, UDP), ethernet(ipv4(6, TCP))
+        content = (blocks.section() + blocks.interface() + blocks.interface(RAW, options=blocks.option(9, b"\x09"))
+                   + blocks.packet(frame) + blocks.packet(packet, 1, 1795852800_000000007) + blocks.simple(frame)
+                   + blocks.packet(ARP) + blocks.section(">") + blocks.interface(SLL2, order=">")
+                   + blocks.obsolete(cooked2(packet, 0x0800), order=">"))
+        for path in [self.file(content, "a.pcapng"), self.file(gzip.compress(content), "a.pcapng.gz")]:
+            found = [*packets(path)]
+            self.assertEqual([(it.number, it.time_ns, it.link_layer, it.ip_offset, it.bytes) for it in found],
+                             [(1, 1000_000005000, "EN10MB", 14, frame[14:]), (2, 1795852800_000000007, "RAW", 0, packet),
+                              (3, None, "EN10MB", 14, frame[14:]), (5, 1000_000005000, "LINUX_SLL2", 20, packet)])
+            self.assertEqual([it.time is None for it in found], [False, False, True, False])
+        self.assertEqual(pickle.loads(pickle.dumps(found)), found)
+
+    def test_left_out(self):
+        """Packets of an interface whose link layer isn't supported are left out, and it is named after the last packet."""
+        content = (blocks.section() + blocks.interface(105) + blocks.interface(RAW) + blocks.packet(bytes(60))
+                   + blocks.packet(PACKETS[0], 1) + blocks.packet(bytes(60)))
+        named = "interface 0: link layer IEEE802_11 .* isn't supported$"
+        for missing, reason in [(0, f"^{named}"), (1, f"^can't read packet 3: .* is truncated; {named}")]:
+            path = self.file(content[:len(content) - missing])
+            found = packets(path)
+            self.assertEqual((next(found).number, open_files(path)), (2, 1))
+            with self.assertRaises(CaptureError) as raised:
+                next(found)
+            self.assertEqual((raised.exception.path, open_files(path)), (path, 0))
+            self.assertRegex(raised.exception.reason, reason)
+            self.assertNotIsInstance(raised.exception, OSError)
+        self.assertEqual(next(packets(path)).bytes, PACKETS[0])
+        self.assertEqual([*packets(self.file(blocks.section()))], [])
+
+    def test_compressed(self):
+        content = capture([ethernet(it) for it in PACKETS[:4]])
+        wanted = [*packets(self.file(content))]
+        path = self.file(gzip.compress(content), "a.pcap.gz")
+        self.assertEqual([*packets(path)], wanted)
+        with self.assertRaisesRegex(CaptureError, "gzip data is truncated"):
+            [*packets(self.file(gzip.compress(content)[:-9]))]
+
+    def test_large(self):
+        """The longest packet that a block of a pcapng file has room for, between others."""
+        large, small = bytes(2**24 - 32), ipv4(17, UDP)
+        content = blocks.section() + blocks.interface(RAW) + b"".join(map(blocks.packet, [small, large, small, large]))
+        self.assertEqual([it.bytes for it in packets(self.file(content))], [small, large, small, large])
 
     def test_many(self):
         """More packets than are read at once, by number or by bytes, are those that `ipcap stat` counts."""
@@ -214,17 +256,20 @@ class Program(Scratch):
         """Each failed allocation is an error, unless the call gets by without that memory."""
         program, refusing = self.build(BUILD), f"{self.folder}/refuse.so"
         subprocess.run(["cc", "-O1", "-shared", "-fPIC", "-o", refusing, f"{ROOT}/scripts/refuse-memory.c", "-ldl"], check=True)
-        words = [program, f"{self.folder}/c.pcap", self.file(capture([ethernet(it) for it in PACKETS[:4]]))]
-        wanted = subprocess.run(words, capture_output=True, check=True).stdout
-        failed = 0
-        for number in range(1, 40):
-            environment = {**os.environ, "LD_PRELOAD": refusing, "REFUSED_ALLOCATION": str(number)}
-            ran = subprocess.run(words, env=environment, capture_output=True, check=False)
-            self.assertIn(ran.returncode, [0, 2], number)  # 2: the program's own buffer
-            if ran.stdout != wanted and ran.returncode == 0:
-                self.assertRegex(ran.stdout, b"memory|malloc|read error|write failed", number)
-            failed += ran.stdout != wanted
-        self.assertGreater(failed, 4)
+        frames = [ethernet(it) for it in PACKETS[:4]]
+        content = blocks.section() + blocks.interface() + b"".join(map(blocks.packet, frames))
+        for content in [capture(frames), content, gzip.compress(content)]:
+            words = [program, f"{self.folder}/c.pcap", self.file(content)]
+            wanted = subprocess.run(words, capture_output=True, check=True).stdout
+            failed = 0
+            for number in range(1, 40):
+                environment = {**os.environ, "LD_PRELOAD": refusing, "REFUSED_ALLOCATION": str(number)}
+                ran = subprocess.run(words, env=environment, capture_output=True, check=False)
+                self.assertIn(ran.returncode, [0, 2], number)  # 2: the program's own buffer
+                if ran.stdout != wanted and ran.returncode == 0:
+                    self.assertRegex(ran.stdout, b"memory|malloc|read error|write failed", number)
+                failed += ran.stdout != wanted
+            self.assertGreater(failed, 4)
 
     def test_damaged_captures(self):
         """The C code, built with sanitizers, does with damaged captures what the package does."""
@@ -242,28 +287,37 @@ class Program(Scratch):
         """Returns what the program prints of a capture, by what the package reads and writes of it."""
         lines, reason = [], ""
         try:
-            found = packets(path)
-            lines.append(Reader(path).link_layer)
-            for it in found:
+            for it in packets(path):
+                time = "" if it.time_ns is None else f"{it.time_ns % 2**64} "
                 total = sum((i + 1) * byte for i, byte in enumerate(it.bytes))
-                lines.append(f"{it.number} {it.time_ns} {it.captured_len} {it.original_len} {it.ip_offset} {len(it.bytes)} "
-                             f"{total}")
+                lines.append(f"{it.number} {time}{it.link_layer} {it.captured_len} {it.original_len} {it.ip_offset} "
+                             f"{len(it.bytes)} {total}")
         except CaptureError as error:
             reason = error.reason
         try:
             written = "0 %d %d " % Filter("version 6").write(path, f"{self.folder}/b.pcap")
         except CaptureError as error:
-            written = f"2 .* {re.escape(error.reason)}"
+            written = f"[24] .* {re.escape(error.reason)}"
         return [*map(re.escape, lines), re.escape(reason), written]
+
+    def whole(self):
+        """Returns the contents of a pcap file, of pcapng files, one with an interface that isn't supported, and of one
+        that is compressed."""
+        frames = [ethernet(it) for it in PACKETS[:4]] * 2 + [ethernet(ipv4(17, UDP) + bytes(150000))] * 2 + [ARP]
+        several = (blocks.section() + blocks.interface(snap_len=262144) + blocks.interface(RAW)
+                   + b"".join(map(blocks.packet, frames)) + blocks.simple(frames[0]) + blocks.block(5, bytes(12))
+                   + b"".join(blocks.packet(it, 1) for it in PACKETS))
+        left_out = several + blocks.interface(105) + blocks.packet(ARP, 2) + blocks.packet(PACKETS[0], 1)
+        return [capture(frames, snap_len=262144), several, left_out, gzip.compress(several)]
 
     def damaged(self):
         """Writes captures that are damaged in different ways, and returns their paths."""
         some = random.Random(3)
-        frames = [ethernet(it) for it in PACKETS[:4]] * 2 + [ethernet(ipv4(17, UDP) + bytes(150000))] * 2 + [ARP]
-        whole = capture(frames, snap_len=262144)
-        contents = [whole, whole[:-1], whole[:40], whole[:20], b""]
-        for _ in range(150):
-            damaged = bytearray(whole[:some.choice([len(whole), 700, 250])])
+        whole = self.whole()
+        contents = [*whole, *(it[:-1] for it in whole), *(it[:some.randrange(90)] for it in whole), whole[0][:40], b""]
+        for number in range(300):
+            content = whole[number % len(whole)]
+            damaged = bytearray(content[:some.choice([len(content), 700, 250])])
             for _ in range(some.randrange(1, 5)):
                 damaged[some.randrange(min(len(damaged), 900))] = some.randrange(256)
             contents.append(bytes(damaged))
@@ -291,6 +345,47 @@ class Writes(Scratch):
             self.assertEqual(counts, Written(15, int(counts.written)))
             self.assertEqual(counts.written, sum(1 for _ in packets(self.output)) + (3 if condition == "not fault" else 0))
         self.assertEqual(self.left(), ["b.pcap", "c.pcap"])
+
+    def test_pcapng(self):
+        """Interfaces, comments and other blocks are kept as ipcap keeps them, in an output that isn't compressed."""
+        head = (blocks.section(options=blocks.option(1, b"a comment")) + blocks.interface(options=blocks.option(2, b"eth0"))
+                + blocks.interface(RAW))
+        some = [blocks.packet(ethernet(PACKETS[0]), 0, 7), blocks.packet(PACKETS[2], 1, 8), blocks.block(5, bytes(12)),
+                blocks.simple(ethernet(PACKETS[0])), blocks.packet(ARP)]
+        content = head + b"".join(some)
+        for path in [self.file(content, "c.pcapng"), self.file(gzip.compress(content), "c.pcapng.gz")]:
+            for condition, written, wanted in [("version 6", 2, head + some[0] + some[2] + some[3]),
+                                               ("not fault", 4, content), ("version 4", 1, head + some[1] + some[2])]:
+                ipcap("filter", "-w", f"{self.folder}/c", condition, path)
+                self.assertEqual(Filter(condition).write(path, self.output), (4, written))
+                with open(self.output, "rb") as found, open(f"{self.folder}/c", "rb") as other:
+                    self.assertEqual((found.read(), other.read()), (wanted, wanted))
+        self.assertEqual([it.time_ns for it in packets(self.output)], [8000])
+
+    def test_compressed(self):
+        path = self.file(gzip.compress(self.content), "a.pcap.gz")
+        self.assertEqual(Filter("not fault").write(path, self.output), (15, 12))
+        uncompressed = f"{self.folder}/c.pcap"
+        self.assertEqual(Filter("not fault").write(self.input, uncompressed), (15, 12))
+        with open(self.output, "rb") as found, open(uncompressed, "rb") as wanted:
+            self.assertEqual(found.read(), wanted.read())
+
+    def test_left_out(self):
+        """The output has all but the packets of an interface that isn't supported, as that of ipcap; the error names it."""
+        packet = [blocks.packet(PACKETS[0]), blocks.packet(bytes(60), 1), blocks.packet(PACKETS[0])]
+        head = blocks.section() + blocks.interface(RAW) + blocks.interface(105)
+        path = self.file(head + b"".join(packet), "c.pcapng")
+        before = self.file(b"kept", "b.pcap")
+        with self.assertRaisesRegex(CaptureError, ": interface 1: link layer IEEE802_11 .* isn't supported$") as raised:
+            Filter("version 6").write(path, before)
+        self.assertEqual(raised.exception.path, path)
+        ipcap("filter", "-w", f"{self.folder}/c", "version 6", path, status=1)
+        with open(before, "rb") as found, open(f"{self.folder}/c", "rb") as wanted:
+            self.assertEqual((found.read(), wanted.read()), (head + packet[0] + packet[2],) * 2)
+        with self.assertRaisesRegex(CaptureError, "is truncated; interface 1: link layer"):
+            Filter("not fault").write(self.file((head + packet[0] + packet[1])[:-1], "d.pcapng"), before)
+        self.assertEqual(os.path.getsize(before), len(head + packet[0] + packet[2]))
+        self.assertEqual(self.left(), ["b.pcap", "c", "c.pcapng", "d.pcapng"])
 
     def test_counts(self):
         self.assertEqual(Filter("version 4").write(self.input, self.output), (15, 3))
@@ -337,7 +432,9 @@ class Writes(Scratch):
         """The system refuses the last bytes of the output, or those that fill its buffer."""
         large = self.file(capture([ethernet(PACKETS[0])] * 2000), "large.pcap")
         limits = resource.getrlimit(resource.RLIMIT_FSIZE)
-        for path, most in [(self.input, 100), (large, 100000)]:
+        content = blocks.section() + blocks.interface() + blocks.packet(ethernet(PACKETS[0])) * 2000
+        other = self.file(content, "large.pcapng")
+        for path, most in [(self.input, 100), (large, 100000), (other, 100), (other, 100000)]:
             resource.setrlimit(resource.RLIMIT_FSIZE, (most, limits[1]))
             try:
                 with self.assertRaises(OSError) as raised:
@@ -346,7 +443,7 @@ class Writes(Scratch):
                 resource.setrlimit(resource.RLIMIT_FSIZE, limits)
             self.assertEqual((raised.exception.errno, raised.exception.filename), (errno.EFBIG, self.output))
             self.assertNotIsInstance(raised.exception, CaptureError)
-            self.assertEqual(self.left(), ["large.pcap"])
+            self.assertEqual(self.left(), ["large.pcap", "large.pcapng"])
 
     def test_stopped(self):
         """Whatever stops the writing after the new file is there, that file is removed."""

@@ -69,7 +69,8 @@ class Types(unittest.TestCase):
                   "sum([counts])": "Union[wolfaren._statistics.Statistics, Literal[0]]",
                   "parts.src": "Union[ipaddress.IPv4Address, ipaddress.IPv6Address, None]",
                   "parts.headers[0].more_fragments": "Union[builtins.bool, None]",
-                  "packet.time_ns": "builtins.int", "packet.bytes": "builtins.bytes", "packet.time": "datetime.datetime",
+                  "packet.time_ns": "Union[builtins.int, None]", "packet.bytes": "builtins.bytes",
+                  "packet.time": "Union[datetime.datetime, None]",
                   "wolfaren.Filter('fault').write('one', 'other').written": "builtins.int"}
         lines = ["import wolfaren", "counts, parts = wolfaren.Statistics(), wolfaren.dissect(b'')", "counts.packet",
                  "packet = next(wolfaren.packets(''))"]
@@ -131,7 +132,7 @@ class Libraries(unittest.TestCase):
             status, said = run([sys.executable, "-c", COUNT], WOLFAREN_LIB_DIR=folder)
         self.assertEqual(status, 1)
         self.assertIn("ImportError: libwolfaren-pcap.so.0 is of another version than the package: it has no "
-                      "wolfaren_pcap_close, wolfaren_pcap_filter, wolfaren_pcap_link_layer, wolfaren_pcap_read", said)
+                      "wolfaren_pcap_close, wolfaren_pcap_filter, wolfaren_pcap_link_layer_name, wolfaren_pcap_read", said)
 
 
 class ReadMe(unittest.TestCase):

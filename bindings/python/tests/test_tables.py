@@ -1,10 +1,10 @@
 """Tests of `wolfaren.table` and `wolfaren.distributed.table`, which need pandas and Dask."""
 
+import gzip
 import inspect
 import os
 import random
 import re
-import struct
 import tempfile
 import unittest
 
@@ -14,6 +14,7 @@ import pandas
 from support import (LATER_FRAGMENT, PACKETS, TCP, UDP, authentication, capture, ethernet, file_header, fragment, ipv4, ipv6,
                      ipv6_chain, record, write)
 
+import blocks
 from captures import NANOSECONDS, RAW
 
 import wolfaren
@@ -110,16 +111,25 @@ class Tables(Scratch):
         with self.assertRaisesRegex(ValueError, "no column 'sport': the columns are number, time, "):
             table(path, ["src", "sport"])
 
-    def test_late_times(self):
-        """Times that pandas doesn't have are missing."""
-        packet, blocks = ipv4(6, TCP), [(0x0A0D0D0A, struct.pack("<IHHq", 0x1A2B3C4D, 1, 0, -1)), (1, struct.pack("<HHI", RAW, 0, 0))]
+    def test_missing_times(self):
+        """Times that pandas doesn't have are missing, and that of a packet without one."""
+        packet, content = ipv4(6, TCP), blocks.section() + blocks.interface(RAW)
         for seconds in [9223372035, 9223372036, 2**40]:
-            time = 10**6 * seconds + 999999
-            blocks.append((6, struct.pack("<IIIII", 0, time >> 32, time & 0xFFFFFFFF, len(packet), len(packet)) + packet))
-        content = b"".join(struct.pack("<II", kind, len(body) + 12) + body + struct.pack("<I", len(body) + 12) for kind, body in blocks)
-        times = table(self.file(content)).time
-        self.assertEqual(times.isna().tolist(), [False, True, True])
+            content += blocks.packet(packet, 0, 10**6 * seconds + 999999)
+        times = table(self.file(content + blocks.simple(packet))).time
+        self.assertEqual(times.isna().tolist(), [False, True, True, True])
         self.assertEqual(times[0].value, 9223372035_999999000)
+
+    def test_interfaces(self):
+        """Each packet of a pcapng file has the link layer of its interface, also if the file is compressed."""
+        content = (blocks.section() + blocks.interface() + blocks.interface(RAW) + blocks.packet(PACKETS[0], 1)
+                   + blocks.packet(ethernet(PACKETS[0])) + blocks.packet(PACKETS[2], 1))
+        for path in [self.file(content), self.file(gzip.compress(content))]:
+            found = table(path)
+            self.assertEqual(found.link_layer.tolist(), ["RAW", "EN10MB", "RAW"])
+            self.assertEqual((found.ip_offset.tolist(), found.version.tolist()), ([0, 14, 0], [6, 6, 4]))
+        with self.assertRaisesRegex(CaptureError, ": interface 2: link layer IEEE802_11 .* isn't supported"):
+            table(self.file(content + blocks.interface(105)))
 
     def test_errors(self):
         whole = capture([ethernet(it) for it in PACKETS])

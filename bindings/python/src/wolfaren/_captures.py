@@ -4,6 +4,7 @@ from __future__ import annotations
 
 import contextlib
 import datetime
+import functools
 import os
 import secrets
 import shutil
@@ -12,13 +13,12 @@ from collections.abc import Generator, Iterator
 from typing import Any, NamedTuple
 
 from ._library import captures
-from ._statistics import capture_error
+from ._statistics import CaptureError, capture_error
 
 Path = str | os.PathLike[str]
 
-# How many packets are read at once, and how many bytes they may have together.
+# How many packets are read at once.
 _PACKETS = 1024
-_BYTES = 1 << 20
 
 _EPOCH = datetime.datetime(1970, 1, 1, tzinfo=datetime.timezone.utc)
 
@@ -30,10 +30,12 @@ class Packet(NamedTuple):
 
     number: int
     """The number of the frame in the capture: 1 for the first."""
-    time_ns: int
-    """When the frame was captured, in nanoseconds since 1970-01-01, 00:00:00 UTC."""
+    time_ns: int | None
+    """When the frame was captured, in nanoseconds since 1970-01-01, 00:00:00 UTC. `None` for a packet of a pcapng file that
+    has no time."""
     link_layer: str
-    """libpcap's name of the capture's link layer, such as `EN10MB` for Ethernet."""
+    """libpcap's name of the frame's link layer, such as `EN10MB` for Ethernet. It may differ from packet to packet, since
+    pcapng files may have several interfaces."""
     original_len: int
     """The length of the frame."""
     captured_len: int
@@ -44,12 +46,20 @@ class Packet(NamedTuple):
     """The packet and what follows it in the frame, as far as the capture has them."""
 
     @property
-    def time(self) -> datetime.datetime:
-        """When the frame was captured, in UTC, rounded down to microseconds.
+    def time(self) -> datetime.datetime | None:
+        """When the frame was captured, in UTC, rounded down to microseconds, or `None` as in `time_ns`.
 
         Raises `OverflowError` for a time after the year 9999, which only a damaged capture has.
         """
-        return _EPOCH + datetime.timedelta(microseconds=self.time_ns // 1000)
+        return None if self.time_ns is None else _EPOCH + datetime.timedelta(microseconds=self.time_ns // 1000)
+
+
+@functools.cache
+def link_layer_name(link_type: int) -> str:
+    """Returns libpcap's name of a link layer."""
+    own, library = captures()
+    name: str = own.string(library.wolfaren_pcap_link_layer_name(link_type)).decode("ascii")
+    return name
 
 
 class Reader:
@@ -64,9 +74,10 @@ class Reader:
         opened = self._library.wolfaren_pcap_open(os.fsencode(os.path.abspath(path)), self._error)
         self._check()
         self._reader = self._own.gc(opened, self._library.wolfaren_pcap_close)
-        self.link_layer = self._own.string(self._library.wolfaren_pcap_link_layer(self._reader)).decode("ascii")
         self.fields = self._own.new("struct wolfaren_pcap_packet[]", _PACKETS)
-        self.bytes = self._own.new("uint8_t[]", _BYTES)
+        # without clearing, so that only as much memory is used as the packets need
+        allocate = self._own.new_allocator(should_clear_after_alloc=False)
+        self.bytes = allocate("uint8_t[]", self._library.WOLFAREN_PCAP_PACKET_ROOM)
 
     def _check(self) -> None:
         """Raises the error of the last call, if there is one."""
@@ -76,8 +87,10 @@ class Reader:
             raise capture_error(self._path, reason, errno)
 
     def read(self) -> int:
-        """Reads the next packets and returns their number, 0 at the end. Raises `CaptureError` if there is no end."""
-        count: int = self._library.wolfaren_pcap_read(self._reader, self.fields, _PACKETS, self.bytes, _BYTES, self._error)
+        """Reads the next packets and returns their number, 0 at the end. Raises `CaptureError` if there is no end, or if
+        packets were left out."""
+        count: int = self._library.wolfaren_pcap_read(self._reader, self.fields, _PACKETS, self.bytes, len(self.bytes),
+                                                      self._error)
         self._check()
         return count
 
@@ -85,8 +98,9 @@ class Reader:
         """Yields the first packets that were read."""
         every = self._own.buffer(self.bytes)
         for it in self.fields[0:count]:
-            yield Packet(it.number, 10**9 * it.seconds + it.nanoseconds, self.link_layer, it.original_len, it.captured_len,
-                         it.ip_offset, every[it.offset:it.offset + it.len])
+            time = 10**9 * it.seconds + it.nanoseconds if it.has_time else None
+            yield Packet(it.number, time, link_layer_name(it.link_type), it.original_len, it.captured_len, it.ip_offset,
+                         every[it.offset:it.offset + it.len])
 
     def fields_type(self) -> Any:
         """Returns the type of a packet's fields."""
@@ -101,9 +115,12 @@ def packets(path: Path) -> Generator[Packet, None, None]:
     """Yields the IP packets of a capture, which may be in any format that ipcap reads, as ipcap finds them in frames.
 
     Frames without an IP packet are left out. Raises `CaptureError` at once if the capture can't be opened, and after the
-    last packet if it can't be read to its end: a `CaptureOSError` if the system refused to open or to read it. The file is
-    closed at its end, on an error, or when the generator is closed or no longer referred to. It is read by C code with
-    libpcap, many packets at once or, from a pipe, each as it arrives; Python's other threads run meanwhile.
+    last packet if it can't be read to its end: a `CaptureOSError` if the system refused to open or to read it. If
+    interfaces of a pcapng file have a link layer that isn't supported, leaves out their packets, and after the last packet
+    raises a `CaptureError` that names these interfaces.
+
+    The file is closed at its end, on an error, or when the generator is closed or no longer referred to. It is read by C
+    code, many packets at once or, from a pipe, each as it arrives; Python's other threads run meanwhile.
     """
     return _packets_of(Reader(path))
 
@@ -121,14 +138,25 @@ class Written(NamedTuple):
     written: int
 
 
+class _Filtered(NamedTuple):
+    """What a filter has done with a capture, and the error that names the interfaces whose packets it left out."""
+
+    written: Written
+    left_out: CaptureError | None
+
+
 def write_matching(condition: str, path_in: Path, path_out: Path) -> Written:
     """Writes the frames of a capture that meet a condition to another file. See `Filter.write`."""
     if os.path.exists(path_in) and os.path.exists(path_out) and os.path.samefile(path_in, path_out):
         raise shutil.SameFileError(f"{os.fspath(path_in)} and {os.fspath(path_out)} are the same file")
     if os.path.exists(path_out) and not os.path.isfile(path_out):
         with open(path_out, "wb", buffering=0) as output:
-            return _filter(condition, path_in, path_out, output.fileno())
-    return _write_aside(condition, path_in, path_out)
+            filtered = _filter(condition, path_in, path_out, output.fileno())
+    else:
+        filtered = _write_aside(condition, path_in, path_out)
+    if filtered.left_out:
+        raise filtered.left_out
+    return filtered.written
 
 
 def _mode_of(path: str) -> int | None:
@@ -143,7 +171,7 @@ def _mode_of(path: str) -> int | None:
         os.close(descriptor)
 
 
-def _write_aside(condition: str, path_in: Path, path_out: Path) -> Written:
+def _write_aside(condition: str, path_in: Path, path_out: Path) -> _Filtered:
     """Filters a capture into a new file beside the output, which then takes its place. If that fails, removes it."""
     output = os.path.realpath(path_out)
     aside = os.path.join(os.path.dirname(output), f".wolfaren-{secrets.token_hex(8)}")
@@ -157,14 +185,14 @@ def _write_aside(condition: str, path_in: Path, path_out: Path) -> Written:
         with open(descriptor, "wb", buffering=0):
             if mode is not None:
                 os.fchmod(descriptor, mode)
-            written = _filter(condition, path_in, path_out, descriptor)
+            filtered = _filter(condition, path_in, path_out, descriptor)
             os.fsync(descriptor)
         os.replace(aside, output)
         undo.pop_all()
-    return written
+    return filtered
 
 
-def _filter(condition: str, path_in: Path, path_out: Path, descriptor: int) -> Written:
+def _filter(condition: str, path_in: Path, path_out: Path, descriptor: int) -> _Filtered:
     """Filters a capture into an open file."""
     own, library = captures()
     text = condition.encode("utf-8", "surrogateescape")
@@ -176,6 +204,7 @@ def _filter(condition: str, path_in: Path, path_out: Path, descriptor: int) -> W
         raise capture_error(path_in, reason, errno)
     if outcome == library.WOLFAREN_PCAP_OUTPUT_FAILED:
         raise OSError(errno, reason, os.fspath(path_out))
-    if outcome != library.WOLFAREN_PCAP_FILTERED:
+    if outcome == library.WOLFAREN_PCAP_CONDITION_FAILED:
         raise ValueError(f"{reason}: {condition!r}")
-    return Written(counts.frames, counts.written)
+    left_out = capture_error(path_in, reason, errno) if outcome == library.WOLFAREN_PCAP_LEFT_OUT else None
+    return _Filtered(Written(counts.frames, counts.written), left_out)

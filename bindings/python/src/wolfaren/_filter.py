@@ -84,15 +84,16 @@ class Filter:
     def write(self, path_in: Path, path_out: Path) -> Written:
         """Writes the frames of a capture that meet the condition to another file, and returns how many were read and written.
 
-        The input may be in any format that ipcap reads. The output is what `ipcap filter -w` writes: a capture in the
-        format of pcap. It is written to a new file in its directory, which takes its name once it is complete, so if
-        anything fails there is no output, or the one that there was. An output that exists and isn't a regular file, such
-        as a pipe, is written directly.
+        The input may be in any format that ipcap reads. The output is what `ipcap filter -w` writes: for a pcapng file a
+        pcapng file, which keeps interfaces and comments, for a pcap file a pcap file, and never compressed. It is written
+        to a new file in its directory, which takes its name once it is complete, so if anything fails there is no output,
+        or the one that there was. An output that exists and isn't a regular file, such as a pipe, is written directly.
 
         Raises `CaptureError` if the input can't be read to its end: a `CaptureOSError` if the system refused to open or to
-        read it. Raises `OSError` if the output can't be written, and `shutil.SameFileError`, an `OSError`, if input and
-        output are the same file. The files are read and written by C code with libpcap; Python's other threads run
-        meanwhile.
+        read it. If interfaces of a pcapng file have a link layer that isn't supported, writes the output without their
+        packets, and then raises a `CaptureError` that names these interfaces. Raises `OSError` if the output can't be
+        written, and `shutil.SameFileError`, an `OSError`, if input and output are the same file. The files are read and
+        written by C code; Python's other threads run meanwhile.
         """
         return write_matching(self.text, path_in, path_out)
 

@@ -8,7 +8,7 @@ import ipaddress
 from collections.abc import Callable, Iterable
 from typing import TYPE_CHECKING, Any, NamedTuple
 
-from ._captures import Path, Reader
+from ._captures import Path, Reader, link_layer_name
 from ._dissection import DST, FAULTS_AT_END, HOP_LIMIT, SRC
 from ._library import ffi, lib
 from ._optional import import_for
@@ -17,7 +17,8 @@ from ._statistics import MOST_HEADERS, chain_name
 if TYPE_CHECKING:
     from pandas import DataFrame
 
-_FORMATS = {"size_t": "u8", "uint64_t": "u8", "int64_t": "i8", "uint32_t": "u4", "uint16_t": "u2", "uint8_t": "u1"}
+_FORMATS = {"size_t": "u8", "uint64_t": "u8", "int64_t": "i8", "uint32_t": "u4", "int32_t": "i4", "uint16_t": "u2",
+            "uint8_t": "u1", "_Bool": "?"}
 
 # Times have 64 bits of nanoseconds, so they end with this second, in the year 2262.
 _END_OF_TIMES = 2**63 // 10**9
@@ -40,7 +41,6 @@ class _Batch:
     def __init__(self, numpy: Any, reader: Reader, count: int) -> None:
         self.numpy = numpy
         self.count = count
-        self.link_layer = reader.link_layer
         self.bytes = ffi.buffer(reader.bytes)
         self.fields = self.array(reader.fields, reader.fields_type())
 
@@ -81,8 +81,12 @@ def _chain(version: int, numbers: bytes | None, payload_number: int, end: int) -
 
 def _times(batch: _Batch) -> Any:
     seconds, rest = batch.fields["seconds"], batch.fields["nanoseconds"]
-    is_there = (0 <= seconds) & (seconds < _END_OF_TIMES)
+    is_there = batch.fields["has_time"] & (0 <= seconds) & (seconds < _END_OF_TIMES)
     return batch.numpy.where(is_there, 10**9 * batch.numpy.where(is_there, seconds, 0) + rest, -2**63)
+
+
+def _link_layers(batch: _Batch) -> list[str]:
+    return [*map(link_layer_name, batch.fields["link_type"].tolist())]
 
 
 def _hop_limits(batch: _Batch) -> Any:
@@ -130,7 +134,7 @@ def _fault(name: str) -> Callable[[_Batch], Any]:
 _COLUMNS = {
     "number": _Column("uint64", _field("number")),
     "time": _Column("datetime64[ns]", _times),
-    "link_layer": _Column("object", lambda batch: [batch.link_layer] * batch.count),
+    "link_layer": _Column("object", _link_layers),
     "original_len": _Column("uint32", _field("original_len")),
     "captured_len": _Column("uint32", _field("captured_len")),
     "ip_offset": _Column("uint32", _field("ip_offset")),
@@ -188,8 +192,8 @@ def table(path: Path, columns: Iterable[str] | None = None) -> DataFrame:
     Lengths and offsets are in bytes. The fields of a frame and of its packet:
 
         number           uint64               the number of the frame in the capture: 1 for the first
-        time             datetime64[ns, UTC]  when the frame was captured; `NaT` if after 2262-04-11
-        link_layer       object               libpcap's name of the capture's link layer, such as `EN10MB`
+        time             datetime64[ns, UTC]  when the frame was captured; `NaT` if unknown or after 2262-04-11
+        link_layer       object               libpcap's name of the frame's link layer, such as `EN10MB`
         original_len     uint32               the length of the frame
         captured_len     uint32               how many bytes of the frame the capture has
         ip_offset        uint32               where the packet begins in the frame
@@ -217,7 +221,8 @@ def table(path: Path, columns: Iterable[str] | None = None) -> DataFrame:
         fault_offset     uint32               where the faulty header or packet begins in the packet
 
     Raises `CaptureError` if the capture can't be read to its end: a `CaptureOSError` if the system refused to open or to
-    read it; `packets` yields what comes before. Raises `ValueError` for another column, and `ImportError` if pandas isn't
+    read it. Raises `CaptureError` too if interfaces of a pcapng file have a link layer that isn't supported. `packets`
+    yields the other packets of these captures. Raises `ValueError` for another column, and `ImportError` if pandas isn't
     installed.
     """
     import_for("wolfaren.table", "pandas")

@@ -64,7 +64,7 @@ def table(paths: Iterable[str | os.PathLike[str]], columns: Iterable[str] | None
     0. Without paths, there is one partition without packets.
 
     Raises `ValueError` for a column that `wolfaren.table` doesn't have, and `ImportError` if Dask or pandas isn't
-    installed. Computing a partition raises `CaptureError` if its capture can't be read to its end.
+    installed. Computing a partition raises the `CaptureError` that `wolfaren.table` raises for its capture.
     """
     import_for("wolfaren.distributed.table", "pandas")
     dataframe = import_for("wolfaren.distributed.table", "dask.dataframe")

@@ -186,10 +186,13 @@ fn icmp_messages(rt: HostRuntime) -> Result<(), Fail> {
 #[test]
 fn fields_of_base_headers(rt: HostRuntime) -> Result<(), Fail> {
     let alloc = rt.alloc();
-    let mut ipv6 = ipv6_bytes(alloc, 8, 59, ports(8))?;
-    for (index, byte) in [0x6b, 0x9c, 0xde, 0xf1].iter().enumerate() {
-        ipv6[index] = *byte;
-    }
+    let mut ipv6 = [0; 48];
+    ipv6[0] = 0x6b;
+    ipv6[1] = 0x9c;
+    ipv6[2] = 0xde;
+    ipv6[3] = 0xf1;
+    ipv6[5] = 8;
+    ipv6[6] = 59;
     ipv6[7] = 64;
     let holding = [
         "dscp = 46 and ecn = 1",
@@ -198,13 +201,16 @@ fn fields_of_base_headers(rt: HostRuntime) -> Result<(), Fail> {
         "length = 48 and ip6",
     ];
     let others = ["ttl != 64", "length < 48", "dscp > 46"];
-    check(&rt, "IPv6", ipv6.as_slice(), &holding, &others);
-    let mut ipv4 = ipv4_bytes(alloc, 0x45, 28, [0, 0], 59, ports(8))?;
+    check(&rt, "IPv6", &ipv6, &holding, &others);
+    let mut ipv4 = [0; 28];
+    ipv4[0] = 0x45;
     ipv4[1] = 0xba;
+    ipv4[3] = 28;
     ipv4[8] = 1;
+    ipv4[9] = 59;
     let holding = ["dscp = 46 and ecn = 2", "ttl = 1", "length = 28 and ip"];
     let others = ["flow >= 0", "hop-limit > 1"];
-    check(&rt, "IPv4", ipv4.as_slice(), &holding, &others);
+    check(&rt, "IPv4", &ipv4, &holding, &others);
     let jumbo = ipv6_bytes(alloc, 0, 59, ports(8))?;
     check(
         &rt,
